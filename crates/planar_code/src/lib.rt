@@ -1,0 +1,21 @@
+//! Planar code: a stream of embedded graphs, cut into records.
+//!
+//! A stream is the 15 bytes `>>planar_code<<` and then records, one directly after another. A record
+//! is one byte n from 1 to 255 and n neighbour lists, each of at most 254 bytes other than 0 with one
+//! byte 0 after it. (The format is that of plantri by Brinkmann and McKay; the bound on a list is
+//! this crate's: no simple graph on 255 vertices has a longer one.)
+#![tactic(auto)]
+
+pub mod laws;
+mod record;
+
+pub use record::Record;
+
+/// What every stream begins with.
+pub const HEADER: [u8; 15] = *b">>planar_code<<";
+
+/// How many entries a neighbour list of a record has at most.
+pub const MAX_LIST: usize = 254;
+
+/// How many records a stream has at most.
+pub const MAX_RECORDS: usize = 1_000_000;
