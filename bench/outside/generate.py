@@ -1,0 +1,141 @@
+#!/usr/bin/env python3
+"""Writes planar_code files of random graphs for the benchmarks, by a fixed seed.
+
+    generate.py KIND VERTICES COUNT SEED > FILE
+
+KIND is `cubic` (duals of random triangulations), `medial` (medial graphs of random triangulations, so
+4-regular), `grid` (connected parts of a square grid) or `tree` (random trees of degree at most 4).
+VERTICES is met as nearly as the kind allows: an even number for cubic, a multiple of 3 for medial.
+"""
+import random
+import sys
+
+
+def triangulation(corners, rng):
+    """Rotations (clockwise neighbours by vertex, from 0) of a random triangulation of the sphere."""
+    # Each face (a, b, c) is walked with itself on one side: in each corner b, a follows c in b's rotation.
+    rotation = {0: [1, 2], 1: [2, 0], 2: [0, 1]}
+    faces = [(0, 1, 2), (0, 2, 1)]
+
+    def put_between(v, before, new):
+        """Puts `new` into v's rotation right behind `before`."""
+        at = rotation[v].index(before)
+        rotation[v].insert(at + 1, new)
+
+    for new in range(3, corners):
+        at = rng.randrange(len(faces))
+        a, b, c = faces[at]
+        for v, before in ((a, c), (b, a), (c, b)):
+            put_between(v, before, new)
+        rotation[new] = [a, c, b]
+        faces[at] = (a, b, new)
+        faces += [(b, c, new), (c, a, new)]
+    return rotation
+
+
+def number_darts(rotation):
+    """Darts as pairs, with reverse by pair and the cyclically next entry."""
+    after = {}
+    for v, around in rotation.items():
+        for at, w in enumerate(around):
+            after[(v, w)] = (v, around[(at + 1) % len(around)])
+    return after
+
+
+def face_of(rotation):
+    """The face of each dart, faces numbered from 0, and each face's darts in the order of its walk."""
+    after = number_darts(rotation)
+    face, walks = {}, []
+    for dart in after:
+        if dart in face:
+            continue
+        walk, at = [], dart
+        while at not in face:
+            face[at] = len(walks)
+            walk.append(at)
+            at = after[(at[1], at[0])]
+        walks.append(walk)
+    return face, walks
+
+
+def dual(rotation):
+    face, walks = face_of(rotation)
+    return {f: [face[(b, a)] for a, b in reversed(walk)] for f, walk in enumerate(walks)}
+
+
+def medial(rotation):
+    after = number_darts(rotation)
+    before = {d: e for e, d in after.items()}
+    number = {}
+    for a, b in after:
+        if a < b:
+            number[(a, b)] = number[(b, a)] = len(number) // 2
+    result = {}
+    for a, b in after:
+        if a < b:
+            # Round the edge: the neighbours in clockwise order at both ends.
+            result[number[(a, b)]] = [
+                number[before[(a, b)]], number[after[(a, b)]],
+                number[before[(b, a)]], number[after[(b, a)]],
+            ]
+    return result
+
+
+def grid(vertices, rng):
+    cells, edge = {(0, 0)}, [(0, 0)]
+    while len(cells) < vertices:
+        x, y = rng.choice(edge)
+        dx, dy = rng.choice(((0, 1), (1, 0), (0, -1), (-1, 0)))
+        if (x + dx, y + dy) not in cells:
+            cells.add((x + dx, y + dy))
+            edge.append((x + dx, y + dy))
+    number = {cell: at for at, cell in enumerate(sorted(cells))}
+    clockwise = ((0, 1), (1, 0), (0, -1), (-1, 0))
+    return {number[(x, y)]: [number[(x + dx, y + dy)] for dx, dy in clockwise if (x + dx, y + dy) in cells]
+            for x, y in cells}
+
+
+def tree(vertices, rng):
+    rotation = {0: []}
+    for new in range(1, vertices):
+        while True:
+            at = rng.randrange(new)
+            if len(rotation[at]) < 4:
+                break
+        rotation[at].insert(rng.randint(0, len(rotation[at])), new)
+        rotation[new] = [at]
+    return rotation
+
+
+def relabelled(rotation, rng):
+    names = list(rotation)
+    rng.shuffle(names)
+    place = {v: at for at, v in enumerate(names)}
+    return [[place[w] + 1 for w in rotation[v]] for v in names]
+
+
+def main():
+    kind, vertices, count, seed = sys.argv[1], int(sys.argv[2]), int(sys.argv[3]), int(sys.argv[4])
+    rng = random.Random(seed)
+    out = sys.stdout.buffer
+    out.write(b">>planar_code<<")
+    made = 0
+    while made < count:
+        if kind == "cubic":
+            rotation = dual(triangulation(vertices // 2 + 2, rng))
+        elif kind == "medial":
+            rotation = medial(triangulation(vertices // 3 + 2, rng))
+        elif kind == "grid":
+            rotation = grid(vertices, rng)
+        else:
+            rotation = tree(vertices, rng)
+        lists = relabelled(rotation, rng)
+        if any(len(set(around)) < len(around) or at + 1 in around for at, around in enumerate(lists)):
+            continue
+        out.write(bytes([len(lists)]))
+        for around in lists:
+            out.write(bytes(around) + b"\0")
+        made += 1
+
+
+main()

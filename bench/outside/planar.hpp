@@ -1,0 +1,114 @@
+// Planar code, the rules for graphs, and faces: an outside reading, written apart from the product.
+// The benchmarks compare with it; it shares no code with the crates.
+#pragma once
+#include <array>
+#include <cstdint>
+#include <cstdio>
+#include <fstream>
+#include <iterator>
+#include <string>
+#include <vector>
+
+struct Graph {
+  int vertices = 0;
+  std::vector<std::vector<int>> lists;   // by vertex, from 1
+  std::vector<int> tail, head, reverse, after, next, face;
+  std::vector<int> degree;               // by face
+  int outer = 0;
+  int darts() const { return static_cast<int>(head.size()); }
+};
+
+// Reads a whole file; an empty string where it cannot be read.
+inline std::string bytes_of(const char *name) {
+  std::ifstream in(name, std::ios::binary);
+  return std::string(std::istreambuf_iterator<char>(in), {});
+}
+
+// One record from `at`; false where none is whole there.
+inline bool next_record(const std::string &text, size_t &at, Graph &graph) {
+  if (at >= text.size()) return false;
+  const int n = static_cast<unsigned char>(text[at]);
+  if (n == 0) return false;
+  graph.vertices = n;
+  graph.lists.assign(n + 1, {});
+  size_t place = at + 1;
+  for (int v = 1; v <= n; ++v) {
+    for (;; ++place) {
+      if (place >= text.size()) return false;
+      const int entry = static_cast<unsigned char>(text[place]);
+      if (entry == 0) break;
+      graph.lists[v].push_back(entry);
+      if (graph.lists[v].size() > 254) return false;
+    }
+    ++place;
+  }
+  at = place;
+  return true;
+}
+
+// The first broken rule, or nullptr; fills in darts and faces on the way.
+inline const char *broken_rule(Graph &graph) {
+  const int n = graph.vertices;
+  static std::array<std::array<int, 256>, 256> place;
+  for (int u = 1; u <= n; ++u)
+    for (int v : graph.lists[u])
+      if (v > n) return "range";
+  for (int u = 1; u <= n; ++u)
+    for (int v : graph.lists[u])
+      if (v == u) return "loop";
+  for (int u = 1; u <= n; ++u) place[u].fill(-1);
+  graph.tail.clear();
+  graph.head.clear();
+  for (int u = 1; u <= n; ++u)
+    for (int v : graph.lists[u]) {
+      if (place[u][v] >= 0) return "multi";
+      place[u][v] = graph.darts();
+      graph.tail.push_back(u);
+      graph.head.push_back(v);
+    }
+  const int darts = graph.darts();
+  for (int d = 0; d < darts; ++d)
+    if (place[graph.head[d]][graph.tail[d]] < 0) return "asymmetric";
+  if (darts == 0) return "edgeless";
+  for (int u = 1; u <= n; ++u)
+    if (graph.lists[u].size() > 4) return "degree";
+  std::vector<int> seen(n + 1, 0), todo{1};
+  seen[1] = 1;
+  int reached = 0;
+  while (!todo.empty()) {
+    const int u = todo.back();
+    todo.pop_back();
+    ++reached;
+    for (int v : graph.lists[u])
+      if (!seen[v]) seen[v] = 1, todo.push_back(v);
+  }
+  if (reached != n) return "disconnected";
+  graph.reverse.resize(darts);
+  graph.after.resize(darts);
+  graph.next.resize(darts);
+  int first = 0;
+  for (int u = 1; u <= n; ++u) {
+    const int degree = static_cast<int>(graph.lists[u].size());
+    for (int i = 0; i < degree; ++i) graph.after[first + i] = first + (i + 1) % degree;
+    first += degree;
+  }
+  for (int d = 0; d < darts; ++d) graph.reverse[d] = place[graph.head[d]][graph.tail[d]];
+  for (int d = 0; d < darts; ++d) graph.next[d] = graph.after[graph.reverse[d]];
+  graph.face.assign(darts, -1);
+  graph.degree.clear();
+  for (int d = 0; d < darts; ++d) {
+    if (graph.face[d] >= 0) continue;
+    int size = 0;
+    for (int e = d; graph.face[e] < 0; e = graph.next[e]) {
+      graph.face[e] = static_cast<int>(graph.degree.size());
+      ++size;
+    }
+    graph.degree.push_back(size);
+  }
+  const int faces = static_cast<int>(graph.degree.size());
+  if (2 * n - darts + 2 * faces != 4) return "genus";
+  graph.outer = 0;
+  for (int f = 1; f < faces; ++f)
+    if (graph.degree[f] > graph.degree[graph.outer]) graph.outer = f;
+  return nullptr;
+}

@@ -1,0 +1,65 @@
+// For each graph of a planar_code file: rules, faces, and the fewest bends, by LEMON's network simplex.
+// Prints the lines of the report up to the bends; `planes` as second argument stops behind the faces,
+// and `quiet` prints totals alone.
+#include "planar.hpp"
+#include <chrono>
+#include <cstring>
+#include <lemon/list_graph.h>
+#include <lemon/network_simplex.h>
+#include <lemon/smart_graph.h>
+
+static long fewest_bends(const Graph &graph) {
+  using Net = lemon::SmartDigraph;
+  const int n = graph.vertices, darts = graph.darts(), faces = static_cast<int>(graph.degree.size());
+  Net net;
+  net.reserveNode(n + faces);
+  net.reserveArc(2 * darts);
+  for (int v = 0; v < n + faces; ++v) net.addNode();
+  Net::ArcMap<int> upper(net), cost(net);
+  Net::NodeMap<int> supply(net);
+  for (int d = 0; d < darts; ++d) {
+    const auto corner = net.addArc(net.nodeFromId(graph.head[d] - 1), net.nodeFromId(n + graph.face[d]));
+    upper[corner] = 3;
+    cost[corner] = 0;
+    const auto crossing =
+        net.addArc(net.nodeFromId(n + graph.face[d]), net.nodeFromId(n + graph.face[graph.reverse[d]]));
+    upper[crossing] = 1 << 20;
+    cost[crossing] = 1;
+  }
+  for (int v = 1; v <= n; ++v) supply[net.nodeFromId(v - 1)] = 4 - static_cast<int>(graph.lists[v].size());
+  for (int f = 0; f < faces; ++f)
+    supply[net.nodeFromId(n + f)] = f == graph.outer ? -(graph.degree[f] + 4) : 4 - graph.degree[f];
+  lemon::NetworkSimplex<Net> simplex(net);
+  simplex.upperMap(upper).costMap(cost).supplyMap(supply);
+  if (simplex.run() != lemon::NetworkSimplex<Net>::OPTIMAL) return -1;
+  return simplex.totalCost();
+}
+
+int main(int count, char **words) {
+  if (count < 2) return 2;
+  const bool planes = count > 2 && std::strcmp(words[2], "planes") == 0;
+  const bool quiet = count > 3 && std::strcmp(words[3], "quiet") == 0;
+  const std::string text = bytes_of(words[1]);
+  const auto begin = std::chrono::steady_clock::now();
+  size_t at = 15;
+  Graph graph;
+  long number = 0, accepted = 0, all_faces = 0, all_bends = 0;
+  while (next_record(text, at, graph)) {
+    ++number;
+    const char *rule = broken_rule(graph);
+    if (rule) {
+      if (!quiet) std::printf("graph %ld refused %s\n", number, rule);
+      continue;
+    }
+    ++accepted;
+    all_faces += static_cast<long>(graph.degree.size());
+    const long bends = planes ? 0 : fewest_bends(graph);
+    all_bends += bends;
+    if (!quiet)
+      std::printf("graph %ld ok n=%d m=%d f=%zu bends=%ld\n", number, graph.vertices, graph.darts() / 2,
+                  graph.degree.size(), bends);
+  }
+  const double seconds = std::chrono::duration<double>(std::chrono::steady_clock::now() - begin).count();
+  std::printf("graphs %ld accepted %ld faces %ld bends %ld\n", number, accepted, all_faces, all_bends);
+  std::fprintf(stderr, "%.6f seconds\n", seconds);
+}
