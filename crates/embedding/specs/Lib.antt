@@ -1,0 +1,5 @@
+pub mod Lists
+pub mod Darts
+pub mod Faces
+pub mod Rules
+pub mod Words

@@ -1,0 +1,44 @@
+//! The rules that a record's graph may break.
+
+ghost use Rattle.std.specs.Prelude.{◌≡◌};
+
+/// A rule for graphs. They are tried in this order, and a record is refused with the first one broken.
+#[derive(Debug, Clone, Copy, PartialEq, Eq)]
+pub enum Rule {
+    /// Some entry is greater than the number of vertices.
+    Range,
+    /// Some vertex stands in its own list.
+    Loop,
+    /// Some list names a neighbour twice.
+    Multi,
+    /// Some vertex stands in a list, and the list's vertex does not stand in its own.
+    Asymmetric,
+    /// All lists are empty.
+    Edgeless,
+    /// Some list has more than four entries.
+    Degree,
+    /// Not every vertex is reached from the first one.
+    Disconnected,
+    /// Vertices less edges plus faces are not two.
+    Genus,
+}
+
+impl Rule {
+    ghost use Rattle.embedding.specs.Words.{word_of};
+
+    /// The word that reports have for the rule.
+    pub fn word(self) -> &'static str
+        ensures { result.now ≡ word_of self }
+    {
+        match self {
+            Rule::Range => "range",
+            Rule::Loop => "loop",
+            Rule::Multi => "multi",
+            Rule::Asymmetric => "asymmetric",
+            Rule::Edgeless => "edgeless",
+            Rule::Degree => "degree",
+            Rule::Disconnected => "disconnected",
+            Rule::Genus => "genus",
+        }
+    }
+}
