@@ -1,0 +1,2 @@
+pub mod LinkEnds
+pub mod LinkRule

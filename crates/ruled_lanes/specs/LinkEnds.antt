@@ -1,0 +1,31 @@
+-- What the ends of a link know.
+use Rattle.std.specs.Prelude.{◌≡◌, List, ◌++◌}
+use Rattle.crossbeam_channel.specs.Claims.{view}
+use Rattle.crossbeam_channel.specs.Ends.{sends_on, receives_on}
+use Rattle.ruled_lanes.specs.declared.link_ends.Giver.{Giver}
+use Rattle.ruled_lanes.specs.declared.link_ends.Taker.{Taker}
+
+module _ {T : Type 0} where
+  -- all that was given by this end, first to last
+  abbrev pub given : Giver T → List T
+  given g = (view g.pass).given
+
+  -- all that was taken by this end, first to last
+  abbrev pub taken : Taker T → List T
+  taken t = (view t.pass).taken
+
+  -- the two ends of one link
+  abbrev pub AreEnds : Giver T → Taker T → Type 0
+  AreEnds g t = receives_on t.receiver ≡ sends_on g.sender
+
+  -- afterwards it gives to the link that it gave to before
+  abbrev pub GivesToSame : Giver T → Giver T → Type 0
+  GivesToSame before after = sends_on after.sender ≡ sends_on before.sender
+
+  -- afterwards it takes from the link that it took from before
+  abbrev pub TakesFromSame : Taker T → Taker T → Type 0
+  TakesFromSame before after = receives_on after.receiver ≡ receives_on before.receiver
+
+  -- what was taken, followed by what the link held, is what was given
+  abbrev pub Settles : List T → List T → Type 0
+  Settles taken given = (held : List T) × (taken ++ held ≡ given)

@@ -1,0 +1,18 @@
+-- What was given to a link is what was taken and then what it holds. One pass at most may give, and it has the list of what was given. The same for takes.
+use Rattle.std.specs.Prelude.{◌≡◌, ℕ, Bool, true, List, ◌++◌}
+use mathlib.Core.Option.{some}
+use lib.ListN.{get_elem?}
+use Rattle.ruled_lanes.specs.declared.link_rule.Log.{Log}
+
+module _ {T : Type 0} where
+  abbrev pub log : Bool → Bool → List T → List T → Log T
+  log gives takes given taken = record { gives = gives; takes = takes; given = given; taken = taken }
+
+  -- what the pass of this number knows, where the pass `giver` may give and the pass `taker` may take
+  abbrev pub Knows : ℕ → ℕ → List T → List T → ℕ → Log T → Type 0
+  Knows giver taker given taken pass v =
+      (v.gives ≡ true → (pass ≡ giver) × (v.given ≡ given)) × (v.takes ≡ true → (pass ≡ taker) × (v.taken ≡ taken))
+
+  abbrev pub Balanced : List T → List (Log T) → Type 0
+  Balanced items views = (giver : ℕ) × (taker : ℕ) × (given : List T) × (taken : List T) × (taken ++ items ≡ given)
+      × ((pass : ℕ) (v : Log T) → get_elem? views pass ≡ some v → Knows giver taker given taken pass v)

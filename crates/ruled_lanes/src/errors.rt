@@ -1,0 +1,19 @@
+//! Why a call on a channel was refused.
+use std::fmt;
+use thiserror::Error;
+
+/// The other end is gone. A refused give hands its item back in it, a refused take the empty value.
+#[derive(Drop, Error)]
+#[error("the other end of the channel is gone")]
+pub struct Closed<T>(pub T);
+
+impl<T> fmt::Debug for Closed<T> {
+    fn fmt<W: fmt::Write>(&self, f: &mut fmt::Formatter<W>) -> fmt::Result {
+        write!(f, "Closed(..)")
+    }
+}
+
+/// There is no memory for a channel.
+#[derive(Clone, Copy, Debug, PartialEq, Eq, Error)]
+#[error("out of memory")]
+pub struct Memory;

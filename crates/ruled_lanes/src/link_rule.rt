@@ -1,0 +1,75 @@
+//! The rule of a link, over what it holds and what its two passes know.
+ghost use Rattle.std.specs.Prelude.{◌≡◌, [], ◌∷◌, ◌++◌, ⊤};
+ghost use Rattle.ruled_lanes.specs.LinkRule.{log};
+
+use crossbeam_channel::protocol::{Join, Lesson, Outcome, Protocol, Split};
+use std::collections::LinkedList;
+
+// What a pass may do (give, take), what it has given and what it has taken. No value of it is made.
+pub struct Log<T> {
+    pub gives: bool,
+    pub takes: bool,
+    pub given: LinkedList<T>,
+    pub taken: LinkedList<T>,
+}
+
+pub struct Linked;
+
+impl<T> Protocol<T, Log<T>> for Linked {
+    ghost use Rattle.std.specs.Prelude.{true, []};
+    ghost use Rattle.ruled_lanes.specs.LinkRule.{log, Balanced};
+
+    ghost holds = { Balanced };
+
+    ghost first = { log true true [] [] };
+}
+
+// The two roles of a link, each in a pass of its own.
+pub struct Roles;
+
+impl<T> Split<Log<T>> for Roles {
+    ghost use Rattle.std.specs.Prelude.{true, false, []};
+    ghost use Rattle.ruled_lanes.specs.LinkRule.{log};
+
+    ghost left = { λ v. log true false v.given [] };
+
+    ghost right = { λ v. log false true [] v.taken };
+}
+
+impl<T> Join<Log<T>> for Roles {
+    ghost use Rattle.std.specs.Prelude.{true, false, []};
+    ghost use Rattle.ruled_lanes.specs.LinkRule.{log};
+
+    ghost both = { λ v w. log true true v.given w.taken };
+
+    ghost spent = { log false false [] [] };
+}
+
+// The step of a give: the item joins what was given.
+pub struct Gives;
+
+impl<T> Outcome<T, Log<T>> for Gives {
+    ghost then = { λ v x w. w ≡ log v.gives v.takes (v.given ++ x ∷ []) v.taken };
+}
+
+impl<T> Lesson<T, Log<T>> for Gives {
+    ghost fact = { λ v items. ⊤ };
+}
+
+// The step of a take: the item joins what was taken.
+pub struct Takes;
+
+impl<T> Outcome<T, Log<T>> for Takes {
+    ghost then = { λ v x w. w ≡ log v.gives v.takes v.given (v.taken ++ x ∷ []) };
+}
+
+impl<T> Lesson<T, Log<T>> for Takes {
+    ghost fact = { λ v items. ⊤ };
+}
+
+// Who has both roles learns that what was taken, followed by what the link holds, is what was given.
+pub struct Total;
+
+impl<T> Lesson<T, Log<T>> for Total {
+    ghost fact = { λ v items. v.taken ++ items ≡ v.given };
+}

@@ -1,0 +1,27 @@
+//! Making a link.
+ghost use Rattle.std.specs.Prelude.{◌≡◌, ◌≤◌, [], IfOk};
+ghost use Rattle.ruled_lanes.specs.LinkEnds.{given, taken, AreEnds};
+
+use crate::errors::Memory;
+use crate::link_ends::{Giver, Taker};
+use crate::link_rule::{Linked, Log, Roles};
+use crossbeam_channel::bounded_with;
+use std::alloc::Global;
+
+/// The two ends of a new link that holds at most `capacity` items, of which nothing was given or taken. `Memory`
+/// where there is no room for them.
+pub fn link<T: Send + Drop>(alloc: Global, capacity: u32) -> Result<(Giver<T>, Taker<T>), Memory>
+    requires capacity { (1 ≤ capacity) × (capacity ≤ 64) }
+    ensures ends { IfOk result (λ r. AreEnds r.0 r.1) }
+    ensures unused { IfOk result (λ r. (given r.0 ≡ []) × (taken r.1 ≡ [])) }
+{
+    let (sender, receiver, mut pass) = match bounded_with::<T, Log<T>, Linked, Global>(
+        alloc,
+        capacity as usize,
+    ) {
+        Ok(made) => made,
+        Err(_) => return Err(Memory),
+    };
+    let takes = sender.another::<Roles>(&mut pass);
+    Ok((Giver::of(sender, pass), Taker::of(receiver, takes)))
+}
