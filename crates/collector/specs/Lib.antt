@@ -1,0 +1,2 @@
+pub mod Tap
+pub mod Sink
