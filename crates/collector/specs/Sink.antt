@@ -1,15 +1,15 @@
 -- What a writing call leaves in a sink.
-use Rattle.std.specs.Prelude.{◌≡◌, ℕ, Bool, true, false, List, Option, Result, Ok, Err, IsPrefix}
+use Rattle.std.specs.Prelude.{◌≡◌, ℕ, Bool, true, false, List, ◌++◌, Option, Result, Ok, Err}
 use Rattle.std.specs.Io.KnownBytes.{Appends}
-use Rattle.collector.specs.declared.WriteFault.{WriteFault}
-use Rattle.collector.specs.declared.WriteFault.TheVariants.{Write, Memory}
+use Rattle.collector.specs.declared.faults.WriteFault.{WriteFault}
+use Rattle.collector.specs.declared.faults.WriteFault.TheVariants.{Write, Memory}
 
 -- a beginning of the text was added
 abbrev pub AppendsFront : Option (List ℕ) → Option (List ℕ) → List ℕ → Type 0
-AppendsFront old new text = (front : List ℕ) × IsPrefix front text × Appends old new front
+AppendsFront old new text = (front : List ℕ) × (rest : List ℕ) × (text ≡ front ++ rest) × Appends old new front
 
 -- Ok: the whole text was added, and the sink has not failed. `Write`: a beginning of it, and the sink has failed.
--- There is no want of memory.
+-- Memory is not asked for.
 abbrev pub Writes : {A : Type 0} → Option (List ℕ) → Option (List ℕ) → Bool → List ℕ → Result A WriteFault → Type 0
 Writes old new failed text (Ok _) = (failed ≡ false) × Appends old new text
 Writes old new failed text (Err Write) = (failed ≡ true) × AppendsFront old new text
