@@ -1,0 +1,4 @@
+pub mod Tracing
+pub mod Numbering
+pub mod Degrees
+pub mod Sets

@@ -1,0 +1,38 @@
+-- The numbering of faces by a walk: what "next" must be, how large a face is, which one is outer.
+use Rattle.std.specs.Prelude.{◌≡◌, ℕ, ◌<◌, ◌≤◌, ◌==◌, Bool, true, if◌then◌else◌}
+use Prim.Native.Nat.{suc, zero}
+use Rattle.sums.specs.Sums.{sum_below}
+
+-- among n darts "next" leads from each to another, and to none from two
+pub record IsOneToOne (n : ℕ) (next : ℕ → ℕ) : Type 0 where
+  pub inside : (d : ℕ) → d < n → next d < n
+  pub one : (d e : ℕ) → d < n → e < n → next d ≡ next e → d ≡ e
+
+-- how many of n darts have the face k: its degree
+abbrev pub degree_in : ℕ → (ℕ → ℕ) → ℕ → ℕ
+degree_in n face k = sum_below n (λ d. if face d == k then 1 else 0)
+
+-- the outer face o among f faces of n darts: it has the most darts, and among equals it holds the least dart
+pub record IsOuter (n : ℕ) (face : ℕ → ℕ) (f o : ℕ) : Type 0 where
+  pub named : o < f
+  pub most : (k : ℕ) → k < f → degree_in n face k ≤ degree_in n face o
+  -- each dart of a face that is as large has a dart of the outer face at its place or before it
+  pub first : (k d : ℕ) → degree_in n face k ≡ degree_in n face o → d < n → face d ≡ k
+      → (e : ℕ) × (e ≤ d) × (face e ≡ o)
+
+-- the dart that "next" leads to in k steps
+abbrev pub steps : (ℕ → ℕ) → ℕ → ℕ → ℕ
+steps next zero d = d
+steps next (suc k) d = next (steps next k d)
+
+-- the set s of darts holds with each dart its next
+abbrev pub IsShut : ℕ → (ℕ → ℕ) → (ℕ → Bool) → Type 0
+IsShut n next s = (d : ℕ) → d < n → s d ≡ true → s (next d) ≡ true
+
+-- the set s is a face: it holds some dart and is closed under "next", and each such set within it is all of it
+pub record IsFace (n : ℕ) (next : ℕ → ℕ) (s : ℕ → Bool) : Type 0 where
+  pub some : (d : ℕ) × (d < n) × (s d ≡ true)
+  pub closed : IsShut n next s
+  pub least : (t : ℕ → Bool) → IsShut n next t → ((d : ℕ) × (d < n) × (t d ≡ true))
+      → ((d : ℕ) → d < n → t d ≡ true → s d ≡ true)
+      → (d : ℕ) → d < n → s d ≡ true → t d ≡ true

@@ -1,0 +1,81 @@
+-- What is seen of a plane: the neighbour lists of its graph, the face of each dart, the outer face.
+use Rattle.std.specs.Prelude.{◌≡◌, ℕ, ◌+◌, ◌*◌, ◌<◌, ◌≤◌, ◌≢◌, List, length, slice_index}
+use Rattle.embedding.specs.Darts.{dart_count, head_of, tail_of, reverse_of, after_of, next_of}
+use Rattle.embedding.specs.Faces.{HasFaces}
+use Rattle.embedding.specs.Rules.{KeepsBefore}
+use Rattle.faces.specs.Faces.{IsOneToOne, IsOuter, degree_in}
+
+pub record Map : Type 0 where
+  pub lists : List (List ℕ)
+  -- the face of each dart
+  pub face : List ℕ
+  -- how many faces there are
+  pub faces : ℕ
+  pub outer : ℕ
+
+abbrev pub vertices : Map → ℕ
+vertices p = length p.lists
+
+abbrev pub darts : Map → ℕ
+darts p = dart_count p.lists
+
+-- the vertex that dart d comes from
+abbrev pub tail : Map → ℕ → ℕ
+tail p d = tail_of p.lists d
+
+-- the vertex that dart d goes to
+abbrev pub head : Map → ℕ → ℕ
+head p d = head_of p.lists d
+
+-- the dart along the same edge the other way
+abbrev pub mate : Map → ℕ → ℕ
+mate p d = reverse_of p.lists d
+
+-- the next dart clockwise from the same vertex
+abbrev pub after : Map → ℕ → ℕ
+after p d = after_of p.lists d
+
+-- the next dart of the face on the left
+abbrev pub next : Map → ℕ → ℕ
+next p d = next_of p.lists d
+
+-- the face on the left of dart d
+abbrev pub face_at : Map → ℕ → ℕ
+face_at p d = slice_index p.face d
+
+-- how many darts face k has
+abbrev pub degree : Map → ℕ → ℕ
+degree p k = degree_in (darts p) (face_at p) k
+
+-- a plane: no rule is broken, the faces are those of its darts, and the outer face is one of them
+pub record IsPlane (p : Map) : Type 0 where
+  pub order : vertices p ≤ 255
+  pub rules : KeepsBefore p.lists 9
+  pub size : length p.face ≡ darts p
+  pub faces : HasFaces (darts p) (next p) (face_at p) p.faces
+  pub euler : 2 * (vertices p + p.faces) ≡ darts p + 4
+  pub outer : p.outer < p.faces
+
+-- the outer face has the most darts, and among equals it holds the least dart
+abbrev pub IsWidest : Map → Type 0
+IsWidest p = IsOuter (darts p) (face_at p) p.faces p.outer
+
+-- what each dart of a plane has: its ends, its mate, its next, its face, all within the plane
+pub record HasEnds (p : Map) : Type 0 where
+  pub some_darts : 0 < darts p
+  pub few_darts : darts p ≤ 1020
+  pub few_faces : p.faces ≤ 257
+  pub tail_from : (d : ℕ) → d < darts p → 1 ≤ tail p d
+  pub tail_to : (d : ℕ) → d < darts p → tail p d ≤ vertices p
+  pub head_from : (d : ℕ) → d < darts p → 1 ≤ head p d
+  pub head_to : (d : ℕ) → d < darts p → head p d ≤ vertices p
+  pub mate_inside : (d : ℕ) → d < darts p → mate p d < darts p
+  pub mate_back : (d : ℕ) → d < darts p → mate p (mate p d) ≡ d
+  pub mate_apart : (d : ℕ) → d < darts p → mate p d ≢ d
+  pub mate_tail : (d : ℕ) → d < darts p → tail p (mate p d) ≡ head p d
+  pub mate_head : (d : ℕ) → d < darts p → head p (mate p d) ≡ tail p d
+  pub after_inside : (d : ℕ) → d < darts p → after p d < darts p
+  pub after_tail : (d : ℕ) → d < darts p → tail p (after p d) ≡ tail p d
+  pub next_one : IsOneToOne (darts p) (next p)
+  pub next_tail : (d : ℕ) → d < darts p → tail p (next p d) ≡ head p d
+  pub face_named : (d : ℕ) → d < darts p → face_at p d < p.faces
