@@ -2,6 +2,7 @@
 #![tactic(auto)]
 
 mod faults;
+mod gather;
 mod input;
 
 mod output;
