@@ -1,0 +1,3 @@
+pub mod Net
+pub mod Flow
+pub mod Fault

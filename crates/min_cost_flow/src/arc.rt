@@ -1,0 +1,17 @@
+/// How much an arc may carry.
+#[derive(Clone, Copy, Debug, PartialEq, Eq)]
+pub enum Cap {
+    /// At most so many units.
+    AtMost(u32),
+    /// Any number of units.
+    Any,
+}
+
+/// An arc from one node to another, by their numbers. Each unit that it carries costs `cost`.
+#[derive(Clone, Copy, Debug, PartialEq, Eq)]
+pub struct Arc {
+    pub from: u32,
+    pub to: u32,
+    pub cap: Cap,
+    pub cost: u32,
+}

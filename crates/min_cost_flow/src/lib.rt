@@ -1,0 +1,14 @@
+//! Least-cost flow in small networks: each node supplies or wants units, each arc carries units up
+//! to its capacity at a cost of 0 or 1 each, and the solver sends all of them at least cost.
+//!
+//! The method keeps, from the first unit on, potentials under which no residual arc costs less than
+//! 0. (Ahuja, Magnanti, Orlin: Network Flows, 1993, section 9.7, successive shortest paths.)
+#![tactic(auto)]
+
+mod arc;
+mod network;
+mod solved;
+
+pub use arc::{Arc, Cap};
+pub use network::{NetFault, Network};
+pub use solved::Solved;

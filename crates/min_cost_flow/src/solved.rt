@@ -1,0 +1,42 @@
+ghost use Rattle.std.specs.Prelude.{◌≡◌, ◌<◌, length, slice_index};
+ghost use Rattle.min_cost_flow.specs.Flow.{Answer, at_nodes};
+
+use std::marker::Model;
+
+/// A flow of least cost, and potentials that show it.
+#[derive(Debug, Drop)]
+pub struct Solved {
+    flow: Vec<u32>,
+    potential: Vec<i32>,
+}
+
+impl Model for Solved {
+    ghost Value = { Answer };
+
+    ghost view = { λ s. record { flow = s.flow.items; potential = s.potential.items } };
+}
+
+impl Solved {
+    /// The solution with these amounts by arc and these potentials by node.
+    pub(crate) fn new(flow: Vec<u32>, potential: Vec<i32>) -> Solved
+        ensures { result ≡ record { flow = flow.items; potential = potential.items } }
+    {
+        Solved { flow, potential }
+    }
+
+    /// How many units the arc of a number carries.
+    pub fn flow(&self, arc: u32) -> u32
+        requires { arc < length self.now.flow }
+        ensures { result ≡ slice_index self.now.flow arc }
+    {
+        self.flow[arc as usize]
+    }
+
+    /// The potential of a node.
+    pub fn potential(&self, node: u32) -> i32
+        requires { node < length self.now.potential }
+        ensures { result ≡ at_nodes self.now.potential node }
+    {
+        self.potential[node as usize]
+    }
+}
