@@ -3,7 +3,7 @@ use std::fmt;
 use thiserror::Error;
 
 /// The other end is gone. A refused give hands its item back in it, a refused take the empty value.
-#[derive(Drop, Error)]
+#[derive(Clone, PartialEq, Eq, Drop, Error)]
 #[error("the other end of the channel is gone")]
 pub struct Closed<T>(pub T);
 

@@ -10,3 +10,6 @@ mod new_link;
 pub use errors::{Closed, Memory};
 pub use link_ends::{Giver, Taker};
 pub use new_link::link;
+
+#[cfg(test)]
+mod tests;

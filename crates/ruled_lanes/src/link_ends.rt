@@ -57,7 +57,7 @@ impl<T: Drop> Giver<T> {
 }
 
 impl<T: Drop> Taker<T> {
-    ghost use Rattle.std.specs.Prelude.{◌∷◌, ◌++◌, IfOk, OnErr};
+    ghost use Rattle.std.specs.Prelude.{◌∷◌, ◌++◌, IfOk, IfSome, IfNone, OnErr};
     ghost use Rattle.ruled_lanes.specs.LinkEnds.{given, taken, AreEnds, TakesFromSame, Settles};
 
     // The end of a channel that receives, with the pass that may.
@@ -69,6 +69,18 @@ impl<T: Drop> Taker<T> {
         Taker { receiver, pass }
     }
 
+    // The item at the front of the channel, or none where the giver is gone.
+    fn receive<R: Wait>(&mut self, rt: &R) -> Option<T>
+        ensures link { TakesFromSame self.old self.new }
+        ensures some { IfSome result (λ item. taken self.new ≡ taken self.old ++ item ∷ []) }
+        ensures none { IfNone result (taken self.new ≡ taken self.old) }
+    {
+        match self.receiver.recv_as::<Takes, R>(rt, &mut self.pass) {
+            Ok(item) => Some(item),
+            Err(_) => None,
+        }
+    }
+
     /// The item at the front of the link, taken in one step. It waits while the link is empty. After `Closed` what
     /// was taken stays as it was. No clause says when `Closed` comes: it does where the giver is gone and all that
     /// it gave was taken. It takes no memory.
@@ -77,9 +89,9 @@ impl<T: Drop> Taker<T> {
         ensures ok { IfOk result (λ item. taken self.new ≡ taken self.old ++ item ∷ []) }
         ensures refused { OnErr result (taken self.new ≡ taken self.old) }
     {
-        match self.receiver.recv_as::<Takes, R>(rt, &mut self.pass) {
-            Ok(item) => Ok(item),
-            Err(_) => Err(Closed(())),
+        match self.receive(rt) {
+            Some(item) => Ok(item),
+            None => Err(Closed(())),
         }
     }
 

@@ -1,0 +1,89 @@
+ghost use Rattle.std.specs.Prelude.{◌≤◌};
+
+use super::*;
+use std::alloc::Global;
+use std::process::Abort;
+use std::sync::Wait;
+use std::test::*;
+use std::thread;
+use std::thread::Threads;
+
+#[test]
+fn the_giver_is_gone(rt: HostRuntime) -> Result<(), Fail> {
+    let (mut giver, mut taker) = link(rt.alloc(), 4)?;
+    for item in 1..4u32 {
+        assert_eq!(rt; giver.give(&rt, item), Ok(()));
+    }
+    drop(giver);
+    for item in 1..4u32 {
+        assert_eq!(rt; taker.take(&rt), Ok(item));
+    }
+    assert_eq!(rt; taker.take(&rt), Err(Closed(())));
+    Ok(())
+}
+
+#[test]
+fn the_taker_is_gone(rt: HostRuntime) -> Result<(), Fail> {
+    let (mut giver, taker) = link(rt.alloc(), 4)?;
+    drop(taker);
+    assert_eq!(rt; giver.give(&rt, 7u32), Err(Closed(7)));
+    Ok(())
+}
+
+#[test]
+fn settled_with_one_held(rt: HostRuntime) -> Result<(), Fail> {
+    let (mut giver, mut taker) = link(rt.alloc(), 2)?;
+    assert_eq!(rt; giver.give(&rt, 5u32), Ok(()));
+    assert_eq!(rt; giver.give(&rt, 6), Ok(()));
+    assert_eq!(rt; taker.take(&rt), Ok(5));
+    taker.settle(&rt, giver);
+    Ok(())
+}
+
+// Gives the numbers below `count`, until one is refused.
+fn give_below(rt: &impl Wait, mut giver: Giver<u32>, count: u32) {
+    for item in 0..count {
+        if giver.give(rt, item).is_err() {
+            break;
+        }
+    }
+}
+
+// A thousand numbers go from one thread to another.
+fn pass_through<R: Threads + Wait + Abort + Copy + Send + 'static>(
+    rt: R,
+    alloc: Global,
+    capacity: u32,
+) -> Result<(), Fail>
+    requires capacity { (1 ≤ capacity) × (capacity ≤ 64) }
+{
+    let (giver, mut taker) = link(alloc, capacity)?;
+    let child = thread::spawn(&rt, move || give_below(&rt, giver, 1000))?;
+    for item in 0..1000u32 {
+        assert_eq!(rt; taker.take(&rt), Ok(item), "capacity {capacity}");
+    }
+    assert_eq!(rt; taker.take(&rt), Err(Closed(())), "capacity {capacity}");
+    child.join(&rt);
+    Ok(())
+}
+
+#[test]
+fn a_thousand_in_order(rt: HostRuntime) -> Result<(), Fail> {
+    pass_through(rt, rt.alloc(), 1)?;
+    pass_through(rt, rt.alloc(), 2)?;
+    pass_through(rt, rt.alloc(), 64)
+}
+
+#[test]
+fn messages(rt: HostRuntime) -> Result<(), Fail> {
+    let closed = format!(in rt.alloc(); "{} {:?}", Closed(3), Closed(3))?;
+    assert_eq!(rt;
+        closed.as_str(),
+        "the other end of the channel is gone Closed(..)"
+    );
+    assert_eq!(rt;
+        format!(in rt.alloc(); "{Memory}")?.as_str(),
+        "out of memory"
+    );
+    Ok(())
+}
