@@ -1,1 +1,5 @@
 mod Triangle
+pub mod Entries
+pub mod FirstBelow
+pub mod Rotation
+pub mod KeptFacts

@@ -1,6 +1,6 @@
 -- The darts of neighbour lists: each entry v in the list of u is the dart from u, its tail, to v, its head.
 -- Darts are numbered from 0 in the order in which their entries stand.
-use Rattle.std.specs.Prelude.{ℕ, ◌+◌, ◌==◌, ◌&&◌, Bool, List, [], ◌∷◌, ◌++◌, length, slice_index, replicate, if◌then◌else◌}
+use Rattle.std.specs.Prelude.{◌≡◌, ◌<◌, ℕ, ◌+◌, ◌==◌, ◌&&◌, Bool, List, [], ◌∷◌, ◌++◌, length, slice_index, replicate, if◌then◌else◌}
 use Prim.Native.Nat.{suc, zero}
 
 -- the heads of all darts: the lists, one after another
@@ -44,3 +44,13 @@ after_of g d =
 -- the next dart of the face on the left
 abbrev pub next_of : List (List ℕ) → ℕ → ℕ
 next_of g d = after_of g (reverse_of g d)
+
+-- f maps the numbers below n to such numbers, and each back from where it went
+pub record IsInvolution (n : ℕ) (f : ℕ → ℕ) : Type 0 where
+  pub inside : (d : ℕ) → d < n → f d < n
+  pub back : (d : ℕ) → d < n → f (f d) ≡ d
+
+-- f maps the numbers below n to such numbers, and no two to one
+pub record IsOneToOne (n : ℕ) (f : ℕ → ℕ) : Type 0 where
+  pub inside : (d : ℕ) → d < n → f d < n
+  pub one : (d e : ℕ) → d < n → e < n → f d ≡ f e → d ≡ e

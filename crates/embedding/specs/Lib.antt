@@ -3,3 +3,4 @@ pub mod Darts
 pub mod Faces
 pub mod Rules
 pub mod Words
+pub mod Tables

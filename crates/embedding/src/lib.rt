@@ -4,6 +4,8 @@
 //! numbered from 0 in the order in which their entries stand.
 #![tactic(auto)]
 
+mod graphs;
 mod rules;
 
+pub use graphs::Graph;
 pub use rules::Rule;

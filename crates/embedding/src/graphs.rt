@@ -1,0 +1,124 @@
+//! A graph that keeps rules 1 to 7, with its darts.
+
+ghost use Rattle.std.specs.Prelude.{◌≡◌, ℕ, ◌*◌, ◌<◌, ◌≤◌, length};
+ghost use Rattle.embedding.specs.Lists.{list_of};
+ghost use Rattle.embedding.specs.Darts.{dart_count, head_of, tail_of, reverse_of, after_of, next_of, IsInvolution, IsOneToOne};
+ghost use Rattle.embedding.specs.Rules.{KeepsBefore};
+
+use smallvec::SmallVec;
+use std::marker::Model;
+
+/// A connected graph without loops or double edges, of maximum degree 4, given by the clockwise list of
+/// neighbours of each vertex. In contracts it is these lists.
+///
+/// Each entry v in the list of u is the dart from u, its tail, to v, its head. Vertices are numbered
+/// from 1, and darts from 0 in the order in which their entries stand. No reader takes memory, and each
+/// takes constant time.
+#[derive(Debug, Drop)]
+pub struct Graph {
+    lists: Vec<SmallVec<u8, 4>>,
+    tails: Vec<u8>,
+    heads: Vec<u8>,
+    reverses: Vec<u16>,
+    afters: Vec<u16>,
+}
+
+impl Model for Graph {
+    ghost use Rattle.std.specs.Prelude.{ℕ, List};
+    ghost use Rattle.embedding.specs.Tables.{entries_of, IsKept};
+
+    ghost Value = { List (List ℕ) };
+
+    ghost view = { λ g. entries_of g.lists.items };
+
+    ghost invariant = { λ g.
+        IsKept (entries_of g.lists.items) g.tails.items g.heads.items g.reverses.items
+        g.afters.items };
+}
+
+impl Graph {
+    /// How many vertices there are, 1 to 255.
+    pub fn vertices(&self) -> u8
+        ensures count { result ≡ length self.now }
+        ensures some { 0 < result }
+        ensures rules { KeepsBefore self.now 8 }
+    {
+        self.lists.len() as u8
+    }
+
+    /// How many edges there are, 1 to 510: half as many as darts.
+    pub fn edges(&self) -> u16
+        ensures count { 2 * result ≡ dart_count self.now }
+        ensures some { 0 < result }
+        ensures few { result ≤ 510 }
+    {
+        (self.heads.len() / 2) as u16
+    }
+
+    /// How many darts there are, 2 to 1,020.
+    pub fn darts(&self) -> u16
+        ensures count { result ≡ dart_count self.now }
+        ensures some { 0 < result }
+        ensures few { result ≤ 1020 }
+        ensures rules { KeepsBefore self.now 8 }
+
+        // What holds of all darts at once; for one dart the readers below say it.
+        ensures paired { IsInvolution (dart_count self.now) (reverse_of self.now) }
+        ensures rotated { IsOneToOne (dart_count self.now) (after_of self.now) }
+        ensures walked { IsOneToOne (dart_count self.now) (next_of self.now) }
+    {
+        self.heads.len() as u16
+    }
+
+    /// The neighbours of a vertex, clockwise: at most four.
+    pub fn neighbours(&self, vertex: u8) -> &[u8]
+        requires some { 0 < vertex }
+        requires within { vertex ≤ length self.now }
+        ensures value { result.now ≡ list_of self.now vertex }
+        ensures few { length result.now ≤ 4 }
+    {
+        self.lists[usize::from(vertex) - 1].as_slice()
+    }
+
+    /// The vertex that a dart comes from, 1 to n.
+    pub fn tail(&self, dart: u16) -> u8
+        requires { dart < dart_count self.now }
+        ensures value { result ≡ tail_of self.now dart }
+        ensures some { 0 < result }
+        ensures within { result ≤ length self.now }
+    {
+        self.tails[usize::from(dart)]
+    }
+
+    /// The vertex that a dart goes to, 1 to n.
+    pub fn head(&self, dart: u16) -> u8
+        requires { dart < dart_count self.now }
+        ensures value { result ≡ head_of self.now dart }
+        ensures some { 0 < result }
+        ensures within { result ≤ length self.now }
+    {
+        self.heads[usize::from(dart)]
+    }
+
+    /// The dart along the same edge the other way.
+    pub fn reverse(&self, dart: u16) -> u16
+        requires { dart < dart_count self.now }
+        ensures value { result ≡ reverse_of self.now dart }
+        ensures inside { result < dart_count self.now }
+        ensures back { reverse_of self.now result ≡ dart }
+        ensures tail { tail_of self.now result ≡ head_of self.now dart }
+        ensures head { head_of self.now result ≡ tail_of self.now dart }
+    {
+        self.reverses[usize::from(dart)]
+    }
+
+    /// The next dart clockwise round the vertex that a dart comes from.
+    pub fn after(&self, dart: u16) -> u16
+        requires { dart < dart_count self.now }
+        ensures value { result ≡ after_of self.now dart }
+        ensures inside { result < dart_count self.now }
+        ensures tail { tail_of self.now result ≡ tail_of self.now dart }
+    {
+        self.afters[usize::from(dart)]
+    }
+}
