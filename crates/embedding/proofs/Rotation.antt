@@ -121,10 +121,14 @@ reverse_is g rules d in-d =
     }
 
 pub reverse_involution : (g : List (List ℕ)) → KeepsBefore g 8 → IsInvolution (dart_count g) (reverse_of g)
-reverse_involution g rules d in-d =
-    let there = reverse_is g rules d in-d in
-    let back = reverse_is g rules (reverse_of g d) there.inside in
-    (there.inside, one_dart g rules _ d back.inside in-d (back.tail ∙ there.head) (back.head ∙ there.tail))
+reverse_involution g rules =
+    record {
+      inside = λ d in-d. (reverse_is g rules d in-d).inside;
+      back = λ d in-d.
+        let there = reverse_is g rules d in-d in
+        let back = reverse_is g rules (reverse_of g d) there.inside in
+        one_dart g rules _ d back.inside in-d (back.tail ∙ there.head) (back.head ∙ there.tail);
+    }
 
 -- no dart is its own reverse
 pub reverse_apart : (g : List (List ℕ)) → KeepsBefore g 8 → (d : ℕ) → d < dart_count g → reverse_of g d ≡ d → ⊥
@@ -204,7 +208,7 @@ after_tail g d in-d =
     (dart_below g _ k j t, tail_at g _ k j t ∙ sym (tail_at g d k i s))
 
 pub after_one : (g : List (List ℕ)) → IsOneToOne (dart_count g) (after_of g)
-after_one g = (λ d in-d. (after_tail g d in-d).0, apart g)
+after_one g = record { inside = λ d in-d. (after_tail g d in-d).0; one = apart g }
   where
     places : (n i j i' j' : ℕ) → i < n → i' < n → (((i + 1 < n) × (j ≡ i + 1)) ⊎ ((i + 1 ≡ n) × (j ≡ 0))) → (((i' + 1 < n) × (j' ≡ i' + 1)) ⊎ ((i' + 1 ≡ n) × (j' ≡ 0))) → j ≡ j' → i ≡ i'
     places n i j i' j' a b (inl (c, e)) (inl (c', e')) same = omega arith
@@ -227,14 +231,17 @@ after_one g = (λ d in-d. (after_tail g d in-d).0, apart g)
 
 pub next_one : (g : List (List ℕ)) → KeepsBefore g 8 → IsOneToOne (dart_count g) (next_of g)
 next_one g rules =
-    (λ d in-d. (after_tail g _ (reverse_involution g rules d in-d).0).0, λ d e in-d in-e same. apart g rules d e in-d in-e same)
+    record {
+      inside = λ d in-d. (after_tail g _ ((reverse_involution g rules).inside d in-d)).0;
+      one = apart g rules;
+    }
   where
     apart : (g : List (List ℕ)) → KeepsBefore g 8 → (d e : ℕ) → d < dart_count g → e < dart_count g → next_of g d ≡ next_of g e → d ≡ e
     apart g rules d e in-d in-e same =
-        let back-d = reverse_involution g rules d in-d in
-        let back-e = reverse_involution g rules e in-e in
-        let mates : reverse_of g d ≡ reverse_of g e = (after_one g).1 _ _ back-d.0 back-e.0 same in
-        sym back-d.1 ∙ ap (reverse_of g) mates ∙ back-e.1
+        let turned = reverse_involution g rules in
+        let mates : reverse_of g d ≡ reverse_of g e =
+          (after_one g).one _ _ (turned.inside d in-d) (turned.inside e in-e) same in
+        sym (turned.back d in-d) ∙ ap (reverse_of g) mates ∙ turned.back e in-e
 
 -- ---- how many darts
 
@@ -245,7 +252,7 @@ darts_even g rules =
     let lesser : ℕ → ℕ = λ d. cond (ltb d (reverse_of g d)) 1 0 in
     let m = sum_below n lesser in
     let turned : sum_below n (λ d. lesser (reverse_of g d)) ≡ m =
-    sum_below-turned n (reverse_of g) lesser (λ d b. (reverse_involution g rules d b).0) (λ d b. (reverse_involution g rules d b).1) in
+    sum_below-turned n (reverse_of g) lesser (reverse_involution g rules).inside (reverse_involution g rules).back in
     let ones : sum_below n (λ d. lesser d + lesser (reverse_of g d)) ≡ sum_below n (λ _. 1) =
     sum_below-same n (λ d. lesser d + lesser (reverse_of g d)) (λ _. 1) (λ d b. each g rules d b) in
     (m, omega (arith, turned, ones, sum_below-add n lesser (λ d. lesser (reverse_of g d)), sum_below-constant n 1))
@@ -259,7 +266,7 @@ darts_even g rules =
 
     each : (g : List (List ℕ)) → KeepsBefore g 8 → (d : ℕ) → d < dart_count g → cond (ltb d (reverse_of g d)) 1 0 + cond (ltb (reverse_of g d) (reverse_of g (reverse_of g d))) 1 0 ≡ 1
     each g rules d in-d =
-        one_of d (reverse_of g d) (reverse_of g (reverse_of g d)) (λ e. reverse_apart g rules d in-d (sym e)) (reverse_involution g rules d in-d).1
+        one_of d (reverse_of g d) (reverse_of g (reverse_of g d)) (λ e. reverse_apart g rules d in-d (sym e)) ((reverse_involution g rules).back d in-d)
 
 short_lists : (c : ℕ) (g : List (List ℕ)) → ((k : ℕ) → k < length g → length (get_or g k []) ≤ c) → length (heads g) ≤ c * length g
 short_lists c [] each = omega arith

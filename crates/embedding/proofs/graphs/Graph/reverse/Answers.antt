@@ -18,7 +18,7 @@ returns-clause-back c =
     let at : c.index.result.now ≡ reverse_of c.args.self.now c.args.dart =
     table_read _ _ _ kept.reverses_are c.args.dart c.from.result _ c.requires c.from.ensures c.index.ensures in
     let is = reverse_is c.args.self.now kept.rules c.args.dart c.requires in
-    rw at (reverse_involution c.args.self.now kept.rules c.args.dart c.requires).1
+    rw at ((reverse_involution c.args.self.now kept.rules).back c.args.dart c.requires)
 
 pub returns-clause-tail : goal.returns-clause-tail
 returns-clause-tail c =
