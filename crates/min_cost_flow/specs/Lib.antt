@@ -1,3 +1,4 @@
 pub mod Net
 pub mod Flow
 pub mod Fault
+pub mod Excess

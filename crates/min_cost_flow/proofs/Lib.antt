@@ -1,0 +1,2 @@
+pub mod Duality
+pub mod Cut

@@ -1,0 +1,23 @@
+-- Amounts on the way to a flow: what each node still has to send out, or still wants.
+use Rattle.std.specs.Prelude.{ℕ, ◌<◌, ◌==◌, ◌≡◌, ℤ, pos, ◌+ℤ◌, Bool, true, if◌then◌else◌}
+use Rattle.min_cost_flow.specs.Net.{Net, node_count, arc_count, arc_at, supply_at}
+use Rattle.min_cost_flow.specs.Flow.{balance, IsWithin, IsResidual, start_of, end_of}
+
+abbrev pub KeepsCaps : Net → (ℕ → ℕ) → Type 0
+KeepsCaps net x = (i : ℕ) → i < arc_count net → IsWithin (arc_at net i).cap (x i)
+
+-- x leaves each node v the excess e v: above 0 it is left over there, below 0 it is wanting
+pub record Leaves (net : Net) (x : ℕ → ℕ) (e : ℕ → ℤ) : Type 0 where
+  pub at_node : (v : ℕ) → v < node_count net → balance net x v +ℤ e v ≡ supply_at net v
+
+-- the same, once k units more than have arrived there are sent out of v
+pub record Carries (net : Net) (x : ℕ → ℕ) (e : ℕ → ℤ) (v k : ℕ) : Type 0 where
+  pub at_node : (w : ℕ) → w < node_count net → balance net x w +ℤ e w ≡ supply_at net w +ℤ pos (if v == w then k else 0)
+
+-- no residual arc leads out of the set
+pub record IsClosedOut (net : Net) (x : ℕ → ℕ) (s : ℕ → Bool) : Type 0 where
+  pub stays : (i : ℕ) (back : Bool) → i < arc_count net → IsResidual net x i back → s (start_of net i back) ≡ true → s (end_of net i back) ≡ true
+
+-- no residual arc leads into the set
+pub record IsClosedIn (net : Net) (x : ℕ → ℕ) (s : ℕ → Bool) : Type 0 where
+  pub stays : (i : ℕ) (back : Bool) → i < arc_count net → IsResidual net x i back → s (end_of net i back) ≡ true → s (start_of net i back) ≡ true
