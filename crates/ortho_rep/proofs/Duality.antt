@@ -1,0 +1,258 @@
+-- Weak duality: a representation whose prices prove it has the fewest bends.
+use Rattle.std.proofs.Common.{◌≡◌, ◌≤◌, ◌<◌, ℕ, ◌+◌, ◌*◌, ◌-◌, Bool, true, false, cond, eqb, List, length, refl, sym, ap, ◌∙◌, inl, inr, subst, arith}
+use Rattle.std.specs.Prelude.{ℤ, pos, ◌+ℤ◌, ◌-ℤ◌}
+use Rattle.std.proofs.lemmas.Bool.{cases_order, cases_eq, eq-eqb, ne_eqb, cond-false}
+use Rattle.std.proofs.lemmas.Int.{ints}
+use Rattle.std.proofs.Math.Nat.{mul-le-mul_left}
+use borrow.Author.Differences.{up, down}
+use Rattle.sums.specs.Sums.{sum_below}
+use Rattle.sums.proofs.Sums.{sum_below-same, sum_below-add, sum_below-le, sum_below-times, sum_below-one, exchanged, total_below-parts}
+use Rattle.ortho_rep.specs.declared.turn.Turn.{Turn}
+use Rattle.faces.specs.Map.{Map, HasEnds, darts, vertices, head, mate, face_at}
+use Rattle.ortho_rep.specs.Turns.{lefts, rights}
+use Rattle.ortho_rep.specs.Representation.{Rep, Least, turning_of, turning_around}
+use Rattle.ortho_rep.specs.Prices.{IsPriced, Prove}
+use Rattle.ortho_rep.proofs.TurnLemmas.{lefts-add-rights, lefts-mirrored}
+
+-- the sum of x, each number weighed by w
+abbrev weighed : ℕ → (ℕ → ℕ) → (ℕ → ℕ) → ℕ
+weighed m w x = sum_below m (λ i. w i * x i)
+
+-- the part of x that is at place k
+abbrev part_at : ℕ → (ℕ → ℕ) → (ℕ → ℕ) → ℕ → ℕ
+part_at m at x k = sum_below m (λ i. cond (eqb (at i) k) (x i) 0)
+
+-- what is equal at each place is equal under each weight of the places
+same_weighed : (m n : ℕ) (at x y w : ℕ → ℕ) → ((i : ℕ) → i < m → at i < n) → ((k : ℕ) → k < n → part_at m at x k ≡ part_at m at y k) → weighed m (λ i. w (at i)) x ≡ weighed m (λ i. w (at i)) y
+same_weighed m n at x y w inside same =
+    let of_x : sum_below n (λ k. w k * part_at m at x k) ≡ weighed m (λ i. w (at i)) x = exchanged m n at x w inside in
+    let of_y : sum_below n (λ k. w k * part_at m at y k) ≡ weighed m (λ i. w (at i)) y = exchanged m n at y w inside in
+    let both : sum_below n (λ k. w k * part_at m at x k) ≡ sum_below n (λ k. w k * part_at m at y k) =
+    sum_below-same n (λ k. w k * part_at m at x k) (λ k. w k * part_at m at y k) (λ k b. ap (λ (z : ℕ). w k * z) (same k b)) in
+    omega arith
+
+-- in pairs: to weigh by the partner's weight is to weigh the partner
+paired : (m : ℕ) (pair w x : ℕ → ℕ) → ((i : ℕ) → i < m → pair i < m) → ((i : ℕ) → i < m → pair (pair i) ≡ i) → weighed m (λ i. w (pair i)) x ≡ weighed m w (λ i. x (pair i))
+paired m pair w x inside twice =
+    let all : sum_below m (λ k. w k * part_at m pair x k) ≡ weighed m (λ i. w (pair i)) x = exchanged m m pair x w inside in
+    let here : (k : ℕ) → k < m → part_at m pair x k ≡ x (pair k) = λ k b.
+    sum_below-same m (λ i. cond (eqb (pair i) k) (x i) 0) (λ i. cond (eqb (pair k) i) (x i) 0)
+    (λ i c. ap (λ (t : Bool). cond t (x i) 0) (same_test i k c b))
+    ∙ sum_below-one m (pair k) x (inside k b) in
+    let each : sum_below m (λ k. w k * part_at m pair x k) ≡ weighed m w (λ i. x (pair i)) =
+    sum_below-same m (λ k. w k * part_at m pair x k) (λ k. w k * x (pair k)) (λ k b. ap (λ (z : ℕ). w k * z) (here k b)) in
+    omega arith
+  where
+    same_test : (i k : ℕ) → i < m → k < m → eqb (pair i) k ≡ eqb (pair k) i
+    same_test i k c b =
+        elim (cases_eq (pair i) k) [
+          | inl e ↦ eq-eqb (pair i) k e ∙ sym (eq-eqb (pair k) i (sym (ap pair e) ∙ twice i c))
+          | inr ne ↦ ne_eqb (pair i) k ne ∙ sym (ne_eqb (pair k) i (λ q. ne (sym (ap pair q) ∙ twice k b)))
+        ]
+
+arranged_more : (x k a b : ℕ) → b ≤ a → x * a + (x + k) * b ≤ (x + k) * a + x * b
+arranged_more x k a b h = omega (arith, mul-le-mul_left k h)
+
+-- to take what one has more of where it costs less is no dearer
+arranged : (x y a b : ℕ) → (x < y → b ≤ a) → (y < x → a ≤ b) → x * a + y * b ≤ y * a + x * b
+arranged x y a b more less =
+    elim (cases_order x y) [
+      | inl e ↦ omega (arith, ap (λ (z : ℕ). z * a) e, ap (λ (z : ℕ). z * b) e)
+      | inr (inl h) ↦ let P : ℕ → Type 0 = λ z. x * a + z * b ≤ z * a + x * b in
+          let whole : x + (y - x) ≡ y = omega arith in
+          subst P whole (arranged_more x (y - x) a b (more h))
+      | inr (inr h) ↦ let P : ℕ → Type 0 = λ z. z * a + y * b ≤ y * a + z * b in
+          let whole : y + (x - y) ≡ x = omega arith in
+          subst P whole (omega (arith, arranged_more y (x - y) b a (less h)))
+    ]
+
+-- a sum of sums
+sum-four : (m : ℕ) (f g h k : ℕ → ℕ) → sum_below m (λ i. f i + g i + h i + k i) ≡ sum_below m f + sum_below m g + sum_below m h + sum_below m k
+sum-four m f g h k =
+    omega (arith, sum_below-add m (λ i. f i + g i + h i) k, sum_below-add m (λ i. f i + g i) h, sum_below-add m f g)
+
+-- the left turns and the right turns of each dart
+abbrev lefts_of : (ℕ → List Turn) → ℕ → ℕ
+lefts_of s d = lefts (s d)
+
+abbrev rights_of : (ℕ → List Turn) → ℕ → ℕ
+rights_of s d = rights (s d)
+
+-- a dart's right turns are its reverse's left turns
+rights_are : (p : Map) (a : ℕ → ℕ) (s : ℕ → List Turn) → Rep p a s → (d : ℕ) → d < darts p → rights_of s d ≡ lefts_of s (mate p d)
+rights_are p a s rep d b = sym (ap lefts (rep.strings d b) ∙ lefts-mirrored (s d))
+
+-- each face's turning, as two sums of natural numbers
+gains : Map → (ℕ → ℕ) → (ℕ → List Turn) → ℕ → ℕ
+gains p a s f = part_at (darts p) (face_at p) (λ d. 2 + lefts (s d)) f
+
+losses : Map → (ℕ → ℕ) → (ℕ → List Turn) → ℕ → ℕ
+losses p a s f = part_at (darts p) (face_at p) (λ d. a d + rights (s d)) f
+
+turning-split : (p : Map) (a : ℕ → ℕ) (s : ℕ → List Turn) (f : ℕ) → turning_around p a s f ≡ pos (gains p a s f) -ℤ pos (losses p a s f)
+unfolding gains losses
+turning-split p a s f =
+    total_below-parts (darts p) (λ d. cond (eqb (face_at p d) f) (turning_of (a d) (s d)) (pos 0)) (λ d. cond (eqb (face_at p d) f) (2 + lefts (s d)) 0) (λ d. cond (eqb (face_at p d) f) (a d + rights (s d)) 0) (λ d b. split_one (eqb (face_at p d) f) (a d) (lefts (s d)) (rights (s d)))
+  where
+    split_one : (c : Bool) (angle left right : ℕ) → cond c (pos 2 -ℤ pos angle +ℤ pos left -ℤ pos right) (pos 0) ≡ pos (cond c (2 + left) 0) -ℤ pos (cond c (angle + right) 0)
+    split_one true angle left right = omega (arith, ints)
+    split_one false angle left right = omega (arith, ints)
+
+-- at each vertex two representations have the same angles in all
+same_around : (p : Map) (a b : ℕ → ℕ) (s t : ℕ → List Turn) → HasEnds p → Rep p a s → Rep p b t → (k : ℕ) → k < vertices p + 1 → part_at (darts p) (head p) a k ≡ part_at (darts p) (head p) b k
+same_around p a b s t ends one two k below =
+    elim (cases_eq k 0) [
+      | inl e ↦ sum_below-same (darts p) (λ d. cond (eqb (head p d) k) (a d) 0) (λ d. cond (eqb (head p d) k) (b d) 0)
+          (λ d c. let off : eqb (head p d) k ≡ false = ne_eqb (head p d) k (λ q. omega (arith, ends.head_from d c)) in
+          cond-false (eqb (head p d) k) (a d) 0 off ∙ sym (cond-false (eqb (head p d) k) (b d) 0 off))
+      | inr ne ↦ one.around k (omega arith) (omega arith) ∙ sym (two.around k (omega arith) (omega arith))
+    ]
+
+-- what one dart gains with the one and loses with the other
+abbrev crossed : (ℕ → ℕ) → (ℕ → List Turn) → (ℕ → List Turn) → ℕ → ℕ
+crossed b s t d = 2 + lefts (s d) + (b d + rights (t d))
+
+-- round each face two representations turn alike
+same_turning : (p : Map) (a b : ℕ → ℕ) (s t : ℕ → List Turn) → Rep p a s → Rep p b t → (f : ℕ) → f < p.faces → part_at (darts p) (face_at p) (crossed b s t) f ≡ part_at (darts p) (face_at p) (crossed a t s) f
+unfolding gains losses
+same_turning p a b s t one two f below =
+    let alike : pos (gains p a s f) -ℤ pos (losses p a s f) ≡ pos (gains p b t f) -ℤ pos (losses p b t f) =
+    sym (turning-split p a s f) ∙ one.faces f below ∙ sym (two.faces f below) ∙ turning-split p b t f in
+    let mixed : gains p a s f + losses p b t f ≡ gains p b t f + losses p a s f = omega (arith, ints) in
+    joined p b s t f ∙ mixed ∙ sym (joined p a t s f)
+  where
+    cond_add : (c : Bool) (x y : ℕ) → cond c (x + y) 0 ≡ cond c x 0 + cond c y 0
+    cond_add true x y = refl
+    cond_add false x y = refl
+
+    joined : (p : Map) (b : ℕ → ℕ) (s t : ℕ → List Turn) (f : ℕ) → part_at (darts p) (face_at p) (crossed b s t) f ≡ part_at (darts p) (face_at p) (λ d. 2 + lefts (s d)) f + part_at (darts p) (face_at p) (λ d. b d + rights (t d)) f
+    joined p b s t f =
+        sum_below-same (darts p) (λ d. cond (eqb (face_at p d) f) (crossed b s t d) 0) (λ d. cond (eqb (face_at p d) f) (2 + lefts (s d)) 0 + cond (eqb (face_at p d) f) (b d + rights (t d)) 0)
+        (λ d c. cond_add (eqb (face_at p d) f) (2 + lefts (s d)) (b d + rights (t d)))
+        ∙ sum_below-add (darts p) (λ d. cond (eqb (face_at p d) f) (2 + lefts (s d)) 0) (λ d. cond (eqb (face_at p d) f) (b d + rights (t d)) 0)
+
+-- under each weight of the vertices two representations have the same angles in all
+angles_weigh : (p : Map) (a b : ℕ → ℕ) (s t : ℕ → List Turn) → HasEnds p → Rep p a s → Rep p b t → (w : ℕ → ℕ) → weighed (darts p) (λ d. w (head p d)) a ≡ weighed (darts p) (λ d. w (head p d)) b
+angles_weigh p a b s t ends one two w =
+    same_weighed (darts p) (vertices p + 1) (head p) a b w (λ d c. omega (arith, ends.head_to d c)) (same_around p a b s t ends one two)
+
+-- a face's weight on what `crossed` counts, with right turns as left turns on the other side
+crossed_weigh : (p : Map) (b : ℕ → ℕ) (s t : ℕ → List Turn) → HasEnds p → Rep p b t → (w : ℕ → ℕ) →
+    weighed (darts p) (λ d. w (face_at p d)) (crossed b s t)
+    ≡ sum_below (darts p) (λ d. w (face_at p d) * 2) + weighed (darts p) (λ d. w (face_at p d)) (lefts_of s) + weighed (darts p) (λ d. w (face_at p d)) b + weighed (darts p) (λ d. w (face_at p (mate p d))) (lefts_of t)
+crossed_weigh p b s t ends rep w =
+    let apart : weighed (darts p) (λ d. w (face_at p d)) (crossed b s t) ≡ sum_below (darts p) (λ d. w (face_at p d) * 2 + w (face_at p d) * lefts (s d) + w (face_at p d) * b d + w (face_at p d) * rights (t d)) =
+    sum_below-same (darts p) (λ d. w (face_at p d) * crossed b s t d) (λ d. w (face_at p d) * 2 + w (face_at p d) * lefts (s d) + w (face_at p d) * b d + w (face_at p d) * rights (t d)) (λ d c. omega arith) in
+    let split = sum-four (darts p) (λ d. w (face_at p d) * 2) (λ d. w (face_at p d) * lefts (s d)) (λ d. w (face_at p d) * b d) (λ d. w (face_at p d) * rights (t d)) in
+    let over : sum_below (darts p) (λ d. w (face_at p d) * rights (t d)) ≡ weighed (darts p) (λ d. w (face_at p d)) (λ d. lefts_of t (mate p d)) =
+    sum_below-same (darts p) (λ d. w (face_at p d) * rights (t d)) (λ d. w (face_at p d) * lefts_of t (mate p d)) (λ d c. ap (λ (z : ℕ). w (face_at p d) * z) (rights_are p b t rep d c)) in
+    let back : weighed (darts p) (λ d. w (face_at p (mate p d))) (lefts_of t) ≡ weighed (darts p) (λ d. w (face_at p d)) (λ d. lefts_of t (mate p d)) =
+    paired (darts p) (mate p) (λ d. w (face_at p d)) (lefts_of t) ends.mate_inside ends.mate_back in
+    omega (arith, apart, split, over, back)
+
+-- under each weight of the faces, what flows into them by corners and by crossings is the same
+faces_weigh : (p : Map) (a b : ℕ → ℕ) (s t : ℕ → List Turn) → HasEnds p → Rep p a s → Rep p b t → (w : ℕ → ℕ) →
+    weighed (darts p) (λ d. w (face_at p d)) (lefts_of s) + weighed (darts p) (λ d. w (face_at p d)) b + weighed (darts p) (λ d. w (face_at p (mate p d))) (lefts_of t)
+    ≡ weighed (darts p) (λ d. w (face_at p d)) (lefts_of t) + weighed (darts p) (λ d. w (face_at p d)) a + weighed (darts p) (λ d. w (face_at p (mate p d))) (lefts_of s)
+faces_weigh p a b s t ends one two w =
+    let same = same_weighed (darts p) p.faces (face_at p) (crossed b s t) (crossed a t s) w ends.face_named (same_turning p a b s t one two) in
+    omega (arith, same, crossed_weigh p b s t ends two w, crossed_weigh p a t s ends one w)
+
+-- the strings' lengths are twice the left turns
+pub lengths-twice : (p : Map) (a : ℕ → ℕ) (s : ℕ → List Turn) → HasEnds p → Rep p a s → sum_below (darts p) (λ d. length (s d)) ≡ 2 * sum_below (darts p) (lefts_of s)
+lengths-twice p a s ends rep =
+    let all : sum_below (darts p) (λ d. length (s d)) ≡ sum_below (darts p) (λ d. lefts_of s d + 1 * lefts_of s (mate p d)) =
+    sum_below-same (darts p) (λ d. length (s d)) (λ d. lefts_of s d + 1 * lefts_of s (mate p d)) (λ d b. omega (arith, lefts-add-rights (s d), rights_are p a s rep d b)) in
+    let parts = sum_below-add (darts p) (lefts_of s) (λ d. 1 * lefts_of s (mate p d)) in
+    let back : weighed (darts p) (λ d. 1) (lefts_of s) ≡ weighed (darts p) (λ d. 1) (λ d. lefts_of s (mate p d)) =
+    paired (darts p) (mate p) (λ d. 1) (lefts_of s) ends.mate_inside ends.mate_back in
+    let ones = sum_below-times (darts p) 1 (lefts_of s) in
+    omega (arith, all, parts, back, ones)
+
+-- a face's price on its own darts, and across
+abbrev own : Map → (ℕ → ℤ) → (ℤ → ℕ) → ℕ → ℕ
+own p q side d = side (q (face_at p d))
+
+abbrev across : Map → (ℕ → ℤ) → (ℤ → ℕ) → ℕ → ℕ
+across p q side d = side (q (face_at p (mate p d)))
+
+abbrev at_head : Map → (ℕ → ℤ) → (ℤ → ℕ) → ℕ → ℕ
+at_head p v side d = side (v (head p d))
+
+-- one corner: by the prices another angle is no cheaper
+corner : (p : Map) (a b : ℕ → ℕ) (s : ℕ → List Turn) (v q : ℕ → ℤ) (d : ℕ) → IsPriced (a d) (s d) (v (head p d)) (q (face_at p d)) (q (face_at p (mate p d))) → (1 ≤ a d) × (a d ≤ 4) → (1 ≤ b d) × (b d ≤ 4) →
+    at_head p v up d * a d + own p q down d * a d + at_head p v down d * b d + own p q up d * b d
+    ≤ at_head p v up d * b d + own p q down d * b d + at_head p v down d * a d + own p q up d * a d
+corner p a b s v q d priced of_a of_b =
+    omega (
+      arith,
+      arranged (a d) (b d) (at_head p v up d + own p q down d) (at_head p v down d + own p q up d)
+          (λ more. omega (arith, ints, priced.wider (omega arith)))
+          (λ less. omega (arith, ints, priced.narrower (omega arith))),
+    )
+
+-- one crossing: by the prices other left turns are no cheaper
+crossing : (p : Map) (a : ℕ → ℕ) (s t : ℕ → List Turn) (v q : ℕ → ℤ) (d : ℕ) → IsPriced (a d) (s d) (v (head p d)) (q (face_at p d)) (q (face_at p (mate p d))) →
+    lefts_of s d + (own p q up d * lefts_of s d + across p q down d * lefts_of s d) + own p q down d * lefts_of t d + across p q up d * lefts_of t d
+    ≤ lefts_of t d + (own p q up d * lefts_of t d + across p q down d * lefts_of t d) + own p q down d * lefts_of s d + across p q up d * lefts_of s d
+crossing p a s t v q d priced =
+    omega (
+      arith,
+      arranged (lefts_of s d) (lefts_of t d) (1 + own p q up d + across p q down d) (own p q down d + across p q up d)
+          (λ more. omega (arith, ints, priced.crossed))
+          (λ less. omega (arith, ints, priced.tight (omega arith))),
+    )
+
+-- the same of all corners
+corners : (p : Map) (a b : ℕ → ℕ) (s t : ℕ → List Turn) (v q : ℕ → ℤ) → Prove p a s v q → Rep p a s → Rep p b t →
+    weighed (darts p) (at_head p v up) a + weighed (darts p) (own p q down) a + weighed (darts p) (at_head p v down) b + weighed (darts p) (own p q up) b
+    ≤ weighed (darts p) (at_head p v up) b + weighed (darts p) (own p q down) b + weighed (darts p) (at_head p v down) a + weighed (darts p) (own p q up) a
+corners p a b s t v q prove one two =
+    let each = sum_below-le (darts p)
+    (λ d. at_head p v up d * a d + own p q down d * a d + at_head p v down d * b d + own p q up d * b d)
+    (λ d. at_head p v up d * b d + own p q down d * b d + at_head p v down d * a d + own p q up d * a d)
+    (λ d c. corner p a b s v q d (prove d c) (one.angles d c) (two.angles d c)) in
+    let left = sum-four (darts p) (λ d. at_head p v up d * a d) (λ d. own p q down d * a d) (λ d. at_head p v down d * b d) (λ d. own p q up d * b d) in
+    let right = sum-four (darts p) (λ d. at_head p v up d * b d) (λ d. own p q down d * b d) (λ d. at_head p v down d * a d) (λ d. own p q up d * a d) in
+    omega (arith, each, left, right)
+
+-- the same of all crossings
+crossings : (p : Map) (a : ℕ → ℕ) (s t : ℕ → List Turn) (v q : ℕ → ℤ) → Prove p a s v q →
+    sum_below (darts p) (lefts_of s) + weighed (darts p) (own p q up) (lefts_of s) + weighed (darts p) (across p q down) (lefts_of s) + weighed (darts p) (own p q down) (lefts_of t) + weighed (darts p) (across p q up) (lefts_of t)
+    ≤ sum_below (darts p) (lefts_of t) + weighed (darts p) (own p q up) (lefts_of t) + weighed (darts p) (across p q down) (lefts_of t) + weighed (darts p) (own p q down) (lefts_of s) + weighed (darts p) (across p q up) (lefts_of s)
+crossings p a s t v q prove =
+    let each = sum_below-le (darts p)
+    (λ d. lefts_of s d + (own p q up d * lefts_of s d + across p q down d * lefts_of s d) + own p q down d * lefts_of t d + across p q up d * lefts_of t d)
+    (λ d. lefts_of t d + (own p q up d * lefts_of t d + across p q down d * lefts_of t d) + own p q down d * lefts_of s d + across p q up d * lefts_of s d)
+    (λ d c. crossing p a s t v q d (prove d c)) in
+    omega (arith, each, sum-crossing p q s t, sum-crossing p q t s)
+  where
+    sum-crossing : (p : Map) (q : ℕ → ℤ) (s t : ℕ → List Turn) →
+        sum_below (darts p) (λ d. lefts_of s d + (own p q up d * lefts_of s d + across p q down d * lefts_of s d) + own p q down d * lefts_of t d + across p q up d * lefts_of t d)
+        ≡ sum_below (darts p) (lefts_of s) + weighed (darts p) (own p q up) (lefts_of s) + weighed (darts p) (across p q down) (lefts_of s) + weighed (darts p) (own p q down) (lefts_of t) + weighed (darts p) (across p q up) (lefts_of t)
+    sum-crossing p q s t =
+        omega (
+          arith,
+          sum-four (darts p) (lefts_of s) (λ d. own p q up d * lefts_of s d + across p q down d * lefts_of s d) (λ d. own p q down d * lefts_of t d) (λ d. across p q up d * lefts_of t d),
+          sum_below-add (darts p) (λ d. own p q up d * lefts_of s d) (λ d. across p q down d * lefts_of s d),
+        )
+
+-- no representation has fewer left turns than one that prices prove
+fewest_lefts : (p : Map) (a b : ℕ → ℕ) (s t : ℕ → List Turn) (v q : ℕ → ℤ) → HasEnds p → Prove p a s v q → Rep p a s → Rep p b t → sum_below (darts p) (lefts_of s) ≤ sum_below (darts p) (lefts_of t)
+fewest_lefts p a b s t v q ends prove one two =
+    omega (
+      arith,
+      corners p a b s t v q prove one two,
+      crossings p a s t v q prove,
+      angles_weigh p a b s t ends one two (λ k. up (v k)),
+      angles_weigh p a b s t ends one two (λ k. down (v k)),
+      faces_weigh p a b s t ends one two (λ k. up (q k)),
+      faces_weigh p a b s t ends one two (λ k. down (q k)),
+    )
+
+-- a representation whose prices prove it is least
+pub least_by_prices : (p : Map) (a : ℕ → ℕ) (s : ℕ → List Turn) (v q : ℕ → ℤ) → HasEnds p → Rep p a s → Prove p a s v q → Least p a s
+least_by_prices p a s v q ends rep prove = record {
+  rep = rep;
+  least = λ b t other. omega (arith, fewest_lefts p a b s t v q ends prove rep other, lengths-twice p a s ends rep, lengths-twice p b t ends other);
+}

@@ -1,0 +1,4 @@
+mod Vectors
+pub mod TurnLemmas
+pub mod Duality
+pub mod Pieces

@@ -1,0 +1,37 @@
+-- How many turns of each kind a string has.
+use Rattle.std.proofs.Common.{◌≡◌, ℕ, ◌+◌, cond, List, [], ◌∷◌, length, map, reverse, not, ◌∙◌, refl, arith}
+use Rattle.std.proofs.lemmas.List.Sums.{sum_by-cons}
+use Rattle.std.proofs.lemmas.List.Sorted.{sum_by-IsPermutation, IsPermutation-reverse}
+use Rattle.ortho_rep.specs.declared.turn.Turn.{Turn}
+use Rattle.ortho_rep.specs.declared.turn.Turn.TheVariants.{Left, Right}
+use Rattle.ortho_rep.specs.Turns.{opposite, is_left, mirrored, lefts, rights}
+
+-- what a turn adds to each count
+abbrev one_if_left : Turn → ℕ
+one_if_left t = cond (is_left t) 1 0
+
+abbrev one_if_right : Turn → ℕ
+one_if_right t = cond (not (is_left t)) 1 0
+
+pub lefts-cons : (t : Turn) (ts : List Turn) → lefts (t ∷ ts) ≡ cond (is_left t) 1 0 + lefts ts
+lefts-cons t ts = sum_by-cons one_if_left t ts
+
+pub rights-cons : (t : Turn) (ts : List Turn) → rights (t ∷ ts) ≡ cond (not (is_left t)) 1 0 + rights ts
+rights-cons t ts = sum_by-cons one_if_right t ts
+
+-- each turn is a left or a right
+pub lefts-add-rights : (ts : List Turn) → lefts ts + rights ts ≡ length ts
+lefts-add-rights [] = refl
+lefts-add-rights (Left ∷ ts) = omega (arith, lefts-cons Left ts, rights-cons Left ts, lefts-add-rights ts)
+lefts-add-rights (Right ∷ ts) = omega (arith, lefts-cons Right ts, rights-cons Right ts, lefts-add-rights ts)
+
+-- with each turn exchanged, lefts are rights
+lefts-map-opposite : (ts : List Turn) → lefts (map opposite ts) ≡ rights ts
+lefts-map-opposite [] = refl
+lefts-map-opposite (Left ∷ ts) = omega (arith, lefts-cons Right (map opposite ts), rights-cons Left ts, lefts-map-opposite ts)
+lefts-map-opposite (Right ∷ ts) = omega (arith, lefts-cons Left (map opposite ts), rights-cons Right ts, lefts-map-opposite ts)
+
+-- the reverse dart turns left where the dart turns right
+pub lefts-mirrored : (ts : List Turn) → lefts (mirrored ts) ≡ rights ts
+lefts-mirrored ts =
+    lefts-map-opposite (reverse ts) ∙ sum_by-IsPermutation one_if_right ts (reverse ts) (IsPermutation-reverse ts)

@@ -1,0 +1,6 @@
+pub mod Turns
+pub mod Storage
+pub mod Stores
+pub mod Shapes
+pub mod Representation
+pub mod Prices

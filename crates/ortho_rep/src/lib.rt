@@ -1,0 +1,11 @@
+//! Orthogonal representations of a plane: shapes, prices that prove a shape least, and their tests.
+#![tactic(auto)]
+
+mod prices;
+mod shape;
+mod strings;
+mod turn;
+
+pub use prices::Prices;
+pub use shape::Shape;
+pub use turn::Turn;

@@ -1,0 +1,65 @@
+//! Prices of vertices and faces.
+
+ghost use Rattle.std.specs.Prelude.{◌≡◌, ◌<◌, ◌≤◌, length};
+ghost use Rattle.ortho_rep.specs.Prices.{vertex_price, face_price};
+
+use std::marker::Model;
+
+/// A whole number for each vertex and each face of a plane. In contracts it is the two lists.
+///
+/// Where they fit a representation, they prove it least: `certify` is the test. No reader takes memory,
+/// and each takes constant time.
+#[derive(Debug, Drop)]
+pub struct Prices {
+    vertices: Vec<i32>,
+    faces: Vec<i32>,
+}
+
+impl Model for Prices {
+    ghost use Rattle.ortho_rep.specs.Prices.{Tariff};
+
+    ghost Value = { Tariff };
+
+    ghost view = { λ a. record { vertices = a.vertices.items; faces = a.faces.items } };
+}
+
+impl Prices {
+    /// These prices: that of vertex v at place v - 1 of the first list, that of face f at place f of the
+    /// second. It takes no memory.
+    pub fn new(vertices: Vec<i32>, faces: Vec<i32>) -> Prices
+        ensures { result ≡ record { vertices = vertices.items; faces = faces.items } }
+    {
+        Prices { vertices, faces }
+    }
+
+    /// How many vertices have a price.
+    pub fn vertex_count(&self) -> usize
+        ensures { result ≡ length self.now.vertices }
+    {
+        self.vertices.len()
+    }
+
+    /// How many faces have a price.
+    pub fn face_count(&self) -> usize
+        ensures { result ≡ length self.now.faces }
+    {
+        self.faces.len()
+    }
+
+    /// The price of a vertex, numbered from 1.
+    pub fn vertex(&self, vertex: u8) -> i32
+        requires some { 0 < vertex }
+        requires within { vertex ≤ length self.now.vertices }
+        ensures { result ≡ vertex_price self.now vertex }
+    {
+        self.vertices[usize::from(vertex) - 1]
+    }
+
+    /// The price of a face, numbered from 0.
+    pub fn face(&self, face: u16) -> i32
+        requires { face < length self.now.faces }
+        ensures { result ≡ face_price self.now face }
+    {
+        self.faces[usize::from(face)]
+    }
+}

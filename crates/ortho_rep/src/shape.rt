@@ -1,0 +1,88 @@
+//! Shapes: an angle and a string of turns for each dart.
+
+ghost use Rattle.std.specs.Prelude.{◌≡◌, ◌<◌, ◌≤◌, length, All, vec_len};
+ghost use Rattle.ortho_rep.specs.Storage.{lists_in};
+ghost use Rattle.ortho_rep.specs.Shapes.{angle_at, turns_at};
+ghost use Rattle.ortho_rep.specs.Representation.{bends_of};
+
+use crate::strings::Strings;
+use crate::turn::Turn;
+use std::marker::Model;
+
+/// An angle and a string of turns for each dart of a plane, which need not be an orthogonal
+/// representation. In contracts it is the list of the angles and the list of the strings.
+///
+/// The angle of a dart lies at its head, between it and the next dart of its face, and is counted in
+/// right angles. Its string holds its quarter turns in walking order. No reader takes memory.
+#[derive(Debug, Drop)]
+pub struct Shape {
+    angles: Vec<u8>,
+    strings: Strings,
+}
+
+impl Model for Shape {
+    ghost use Rattle.ortho_rep.specs.Shapes.{Figure};
+
+    ghost Value = { Figure };
+
+    ghost view = { λ a. record { angles = a.angles.items; strings = a.strings } };
+}
+
+impl Shape {
+    /// The shape with these angles and strings, each at the place of its dart's number. It takes no
+    /// memory.
+    pub fn new(angles: Vec<u8>, strings: Vec<Vec<Turn>>) -> Shape
+        requires few { vec_len strings ≤ 1020 }
+        requires short { All (λ string. length string ≤ 1000000) (lists_in strings.items) }
+        ensures { result ≡ record { angles = angles.items; strings = lists_in strings.items } }
+    {
+        Shape {
+            angles,
+            strings: Strings::from_lists(strings),
+        }
+    }
+
+    /// How many angles there are.
+    pub fn angle_count(&self) -> usize
+        ensures { result ≡ length self.now.angles }
+    {
+        self.angles.len()
+    }
+
+    /// How many strings there are, at most 1,020.
+    pub fn string_count(&self) -> usize
+        ensures count { result ≡ length self.now.strings }
+        ensures few { result ≤ 1020 }
+    {
+        self.strings.len()
+    }
+
+    /// The angle of a dart, in right angles.
+    pub fn angle(&self, dart: u16) -> u8
+        requires { dart < length self.now.angles }
+        ensures { result ≡ angle_at self.now dart }
+    {
+        self.angles[usize::from(dart)]
+    }
+
+    /// The turns of a dart, at most 1,000,000, in walking order.
+    pub fn turns(&self, dart: u16) -> &[Turn]
+        requires { dart < length self.now.strings }
+        ensures value { result.now ≡ turns_at self.now dart }
+        ensures short { length result.now ≤ 1000000 }
+    {
+        self.strings.get(usize::from(dart))
+    }
+
+    /// The number of bends: half the sum of the lengths of all strings, rounded down. It takes a step
+    /// for each string.
+    pub fn bends(&self) -> u32
+        ensures { result ≡ bends_of (length self.now.strings) (turns_at self.now) }
+    {
+        let mut turns = 0;
+        for dart in 0..self.strings.len() {
+            turns += self.strings.get(dart).len() as u32;
+        }
+        turns / 2
+    }
+}
