@@ -1,4 +1,7 @@
 pub mod Tracing
-pub mod Numbering
+pub mod Unique
 pub mod Degrees
 pub mod Sets
+pub mod Ends
+pub mod Joined
+pub mod Outer

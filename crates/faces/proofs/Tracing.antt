@@ -1,19 +1,14 @@
 -- The walk that numbers the faces, dart by dart: what holds between two faces and what holds on the way.
-use Rattle.std.proofs.Common.{◌≡◌, ◌≢◌, ℕ, ◌+◌, ◌<◌, ◌≤◌, Bool, true, ◌⊎◌, inl, inr, refl, sym, ap, ◌∙◌, subst, arith}
-use Rattle.std.proofs.lemmas.Bool.{cases_eq, cases_lt}
+use Rattle.std.proofs.Common.{◌≡◌, ◌≢◌, ℕ, ◌+◌, ◌<◌, Bool, true, cond, eqb, List, length, set, ◌⊎◌, inl, inr, refl, sym, ap, ◌∙◌, subst, arith}
+use Rattle.std.proofs.lemmas.Bool.{cases_eq, cases_lt, eq-eqb, ne_eqb}
+use Rattle.std.proofs.lemmas.List.{get_or-set_other}
+use Rattle.std.proofs.lemmas.Grind.{get_or-set_at}
 use Rattle.embedding.specs.Faces.{HasFaces}
-use Rattle.faces.specs.Faces.{IsOneToOne, IsShut}
-
--- the darts below d and all of their faces are numbered, with the numbers below c; 65535 stands for no number
-pub record IsTraced (n : ℕ) (next face : ℕ → ℕ) (c d : ℕ) : Type 0 where
-  pub few : c ≤ d
-  pub passed : (x : ℕ) → x < d → face x < c
-  pub marked : (x : ℕ) → x < n → (face x < c) ⊎ (face x ≡ 65535)
-  pub used : (k : ℕ) → k < c → (e : ℕ) × (e < d) × (face e ≡ k)
-  pub closed : (x : ℕ) → x < n → face x < c → face (next x) ≡ face x
-  pub behind : (x : ℕ) → x < n → face x < c → (y : ℕ) × (y < n) × (face y ≡ face x) × (next y ≡ x)
-  pub least : (s : ℕ → Bool) → IsShut n next s → (x y : ℕ) → x < n → y < n → face x ≡ face y → face x < c → s x ≡ true → s y ≡ true
-  pub ordered : (x k : ℕ) → x < n → face x < c → k < face x → (e : ℕ) × (e < x) × (face e ≡ k)
+use Rattle.embedding.specs.Darts.{IsOneToOne}
+use Rattle.faces.specs.Faces.{IsShut}
+use Rattle.sums.specs.Sums.{sum_below}
+use Rattle.sums.proofs.Sums.{sum_below-lt}
+use Rattle.faces.specs.Walk.{IsTraced, at}
 
 -- the walk of face c, which begins at d, is at t: the darts from d to the one before t have the number c
 pub record IsWalk (n : ℕ) (next old face : ℕ → ℕ) (c d t : ℕ) : Type 0 where
@@ -279,6 +274,27 @@ walk_ends n next old face new c d t inj w p round = record {
       | inr a ↦ let u = w.traced.used k (omega (arith, a.1)) in
           (u.0, elim (cases_lt x d) [ inl b ↦ let q = w.traced.passed x b in absurd (omega (arith, q, a.0)) | inr b ↦ omega (arith, u.1) ], kept u.0 (omega (arith, u.1)) (omega (arith, u.2, a.1)) ∙ u.2)
     ]
+
+-- the walk writes its number into a list
+pub put_list : (xs : List ℕ) (i t c : ℕ) → i ≡ t → t < length xs → IsPut (at xs) (at (set xs i c)) t c
+put_list xs i t c same h = record {
+  put = get_or-set_at xs i t c 0 (sym same) (omega arith);
+  others = λ x ne. get_or-set_other xs i x c 0 (λ e. ne (e ∙ same));
+}
+
+-- how many of n darts are without a number
+abbrev pub bare_count : ℕ → (ℕ → ℕ) → ℕ
+bare_count n face = sum_below n (λ d. cond (eqb (face d) 65535) 1 0)
+
+-- each number given leaves one dart fewer without
+pub fewer_bare : (n : ℕ) (old new : ℕ → ℕ) (t c : ℕ) → IsPut old new t c → t < n → old t ≡ 65535 → c < 65535 → bare_count n new < bare_count n old
+fewer_bare n old new t c p h bare limit =
+    sum_below-lt n t (λ d. cond (eqb (new d) 65535) 1 0) (λ d. cond (eqb (old d) 65535) 1 0) h
+    (λ x hx. elim (cases_eq x t) [
+      | inl e ↦ let k : new x ≡ c = ap new e ∙ p.put in rw (ne_eqb (new x) 65535 (λ q. omega arith)) (omega arith)
+      | inr e ↦ rw (p.others x e) (omega arith)
+    ])
+    (rw (ne_eqb (new t) 65535 (λ q. let k = p.put in omega arith), eq-eqb (old t) 65535 bare) (omega arith))
 
 -- every dart has been passed
 pub all_faces : (n : ℕ) (next face : ℕ → ℕ) (c : ℕ) → IsTraced n next face c n → HasFaces n next face c

@@ -1,12 +1,7 @@
--- The numbering of faces by a walk: what "next" must be, how large a face is, which one is outer.
+-- Faces as sets of darts, how large a face is, and which one is the outer one.
 use Rattle.std.specs.Prelude.{◌≡◌, ℕ, ◌<◌, ◌≤◌, ◌==◌, Bool, true, if◌then◌else◌}
 use Prim.Native.Nat.{suc, zero}
 use Rattle.sums.specs.Sums.{sum_below}
-
--- among n darts "next" leads from each to another, and to none from two
-pub record IsOneToOne (n : ℕ) (next : ℕ → ℕ) : Type 0 where
-  pub inside : (d : ℕ) → d < n → next d < n
-  pub one : (d e : ℕ) → d < n → e < n → next d ≡ next e → d ≡ e
 
 -- how many of n darts have the face k: its degree
 abbrev pub degree_in : ℕ → (ℕ → ℕ) → ℕ → ℕ

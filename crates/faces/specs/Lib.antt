@@ -1,2 +1,4 @@
 pub mod Map
 pub mod Faces
+pub mod Walk
+pub mod Faults

@@ -1,9 +1,9 @@
 -- What is seen of a plane: the neighbour lists of its graph, the face of each dart, the outer face.
 use Rattle.std.specs.Prelude.{◌≡◌, ℕ, ◌+◌, ◌*◌, ◌<◌, ◌≤◌, ◌≢◌, List, length, slice_index}
-use Rattle.embedding.specs.Darts.{dart_count, head_of, tail_of, reverse_of, after_of, next_of}
+use Rattle.embedding.specs.Darts.{dart_count, head_of, tail_of, reverse_of, after_of, next_of, IsOneToOne}
 use Rattle.embedding.specs.Faces.{HasFaces}
 use Rattle.embedding.specs.Rules.{KeepsBefore}
-use Rattle.faces.specs.Faces.{IsOneToOne, IsOuter, degree_in}
+use Rattle.faces.specs.Faces.{IsOuter, degree_in}
 
 pub record Map : Type 0 where
   pub lists : List (List ℕ)
@@ -79,3 +79,8 @@ pub record HasEnds (p : Map) : Type 0 where
   pub next_one : IsOneToOne (darts p) (next p)
   pub next_tail : (d : ℕ) → d < darts p → tail p (next p d) ≡ head p d
   pub face_named : (d : ℕ) → d < darts p → face_at p d < p.faces
+
+-- what a plane keeps of a map: the degrees of its faces
+pub record IsKept (p : Map) (degrees : List ℕ) : Type 0 where
+  pub plane : IsPlane p
+  pub degrees_are : (k : ℕ) → k < p.faces → slice_index degrees k ≡ degree p k

@@ -6,3 +6,7 @@
 #![tactic(auto)]
 
 pub mod laws;
+mod numbering;
+mod plane;
+
+pub use plane::{Plane, TraceFault};

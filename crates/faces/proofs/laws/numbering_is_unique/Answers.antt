@@ -1,4 +1,4 @@
-use Rattle.faces.proofs.Numbering.{one_count, one_numbering}
+use Rattle.faces.proofs.Unique.{one_count, one_numbering}
 use Rattle.faces.proofs.laws.numbering_is_unique.Goals as goal
 
 pub returns : goal.returns

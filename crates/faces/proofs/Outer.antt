@@ -1,0 +1,55 @@
+-- What a tracer shows of the map that it makes.
+use Rattle.std.proofs.Common.{◌≡◌, ℕ, ◌+◌, ◌*◌, ◌<◌, ◌≤◌, List, length, slice_index, inl, inr, ◌∙◌, arith}
+use Rattle.std.proofs.lemmas.Bool.{cases_order}
+use Rattle.embedding.specs.declared.rules.Rule.TheVariants.{Range, Loop, Multi, Asymmetric, Edgeless, Degree, Disconnected, Genus}
+use Rattle.embedding.specs.Darts.{dart_count, next_of}
+use Rattle.embedding.specs.Faces.{HasFaces}
+use Rattle.embedding.specs.Rules.{Breaks, KeepsBefore}
+use Rattle.faces.specs.Faces.{IsOuter, degree_in}
+use Rattle.faces.specs.Map.{Map, IsPlane, vertices, darts, next, face_at}
+use Rattle.faces.proofs.Unique.{one_count}
+
+-- the last rule is kept where vertices and faces are the edges and two more
+keeps_genus : (g : List (List ℕ)) (face : ℕ → ℕ) (f : ℕ) → HasFaces (dart_count g) (next_of g) face f → 2 * (length g + f) ≡ dart_count g + 4 → Breaks g Genus → ⊥
+keeps_genus g face f faces euler (other, count, others, broken) =
+    let same = one_count (dart_count g) (next_of g) face other f count faces others in
+    broken (omega arith)
+
+eight_rules : (g : List (List ℕ)) → KeepsBefore g 8 → (Breaks g Genus → ⊥) → KeepsBefore g 9
+eight_rules g rules genus Range h = rules Range (omega arith)
+eight_rules g rules genus Loop h = rules Loop (omega arith)
+eight_rules g rules genus Multi h = rules Multi (omega arith)
+eight_rules g rules genus Asymmetric h = rules Asymmetric (omega arith)
+eight_rules g rules genus Edgeless h = rules Edgeless (omega arith)
+eight_rules g rules genus Degree h = rules Degree (omega arith)
+eight_rules g rules genus Disconnected h = rules Disconnected (omega arith)
+eight_rules g rules genus Genus h = genus
+
+pub plane_from : (p : Map) → KeepsBefore p.lists 8 → vertices p ≤ 255 → length p.face ≡ darts p → HasFaces (darts p) (next p) (face_at p) p.faces → 2 * (vertices p + p.faces) ≡ darts p + 4 → p.outer < p.faces → IsPlane p
+plane_from p rules order size faces euler outer = record {
+  order = order;
+  rules = eight_rules p.lists rules (keeps_genus p.lists (face_at p) p.faces faces euler);
+  size = size;
+  faces = faces;
+  euler = euler;
+  outer = outer;
+}
+
+-- the first face of the greatest degree is the outer one
+pub outer_from : (n : ℕ) (next face : ℕ → ℕ) (f o : ℕ) (degrees : List ℕ) → HasFaces n next face f
+    → ((k : ℕ) → k < f → slice_index degrees k ≡ degree_in n face k)
+    → o < f
+    → ((k : ℕ) → k < f → slice_index degrees k ≤ slice_index degrees o)
+    → ((k : ℕ) → k < o → slice_index degrees k < slice_index degrees o)
+    → IsOuter n face f o
+outer_from n next face f o degrees faces are named most first = record {
+  named = named;
+  most = λ k h. omega (arith, most k h, are k h, are o named);
+  first = λ k d same h here. elim (cases_order k o) [
+    | inl equal ↦ (d, omega arith, here ∙ equal)
+    | inr (inl less) ↦
+        let in-k : k < f = omega (arith, faces.named d h, here) in
+        absurd (omega (arith, first k less, are k in-k, are o named, same))
+    | inr (inr more) ↦ let (e, before, is) = faces.ordered d o h (omega (arith, here)) in (e, omega arith, is)
+  ];
+}

@@ -1,0 +1,168 @@
+//! Planes: connected graphs with their faces, one of which is the outer one.
+
+ghost use Rattle.std.specs.Prelude.{◌≡◌, ◌<◌, ◌≤◌, ℕ, IfOk, IfErr, length, slice_index, vec_len};
+ghost use Rattle.embedding.specs.Darts.{dart_count, next_of};
+ghost use Rattle.embedding.specs.Faces.{HasFaces};
+ghost use Rattle.faces.specs.Faces.{degree_in};
+ghost use Rattle.faces.specs.Walk.{at};
+
+use crate::numbering::{UNSET, count_degrees, next_dart, number_faces, widest_face};
+use embedding::Graph;
+use std::alloc::{AllocError, Global};
+use std::marker::Model;
+use thiserror::Error;
+
+/// A connected graph of maximum degree 4 that is drawn on the sphere without crossings: its faces, and
+/// which of them is the outer one. In contracts it is a `Map`.
+///
+/// A face is walked by `next`, with the face on the left. Faces are numbered from 0 in the order of
+/// their least darts. No reader takes memory, and each takes constant time.
+#[derive(Debug, Drop)]
+pub struct Plane {
+    graph: Graph,
+    faces: Vec<u16>,
+    degrees: Vec<u16>,
+    outer: u16,
+}
+
+impl Model for Plane {
+    ghost use Rattle.std.specs.Prelude.{vec_len};
+    ghost use Rattle.faces.specs.Map.{Map, IsKept};
+
+    ghost Value = { Map };
+
+    ghost view = { λ p. record {
+      lists = p.graph;
+      face = p.faces.items;
+      faces = vec_len p.degrees;
+      outer = p.outer;
+    } };
+
+    ghost invariant = { λ p. IsKept (record {
+      lists = p.graph;
+      face = p.faces.items;
+      faces = vec_len p.degrees;
+      outer = p.outer;
+    }) p.degrees.items };
+}
+
+/// Why a graph gives no plane. It hands the graph back as it was.
+#[derive(Debug, Drop, Error)]
+pub enum TraceFault {
+    /// Vertices less edges plus faces are not two.
+    #[error("vertices less edges plus faces are not two")]
+    Genus(Graph),
+    /// Memory ran out.
+    #[error("out of memory")]
+    Memory(Graph),
+}
+
+/// The face of each dart, and the degree of each face.
+#[derive(Drop)]
+struct FaceTable {
+    faces: Vec<u16>,
+    degrees: Vec<u16>,
+}
+
+fn face_table(alloc: Global, graph: &Graph) -> Result<FaceTable, AllocError>
+    ensures size { IfOk result (λ t. length t.faces.items ≡ dart_count graph.now) }
+    ensures numbered { IfOk result (λ t.
+        HasFaces (dart_count graph.now) (next_of graph.now) (at t.faces.items)
+        (vec_len t.degrees)) }
+    ensures degrees { IfOk result (λ t. (k : ℕ) → k < vec_len t.degrees
+        → slice_index t.degrees.items k
+        ≡ degree_in (dart_count graph.now) (at t.faces.items) k) }
+    ensures few { IfOk result (λ t. vec_len t.degrees ≤ dart_count graph.now) }
+{
+    let mut faces = vec![in alloc; UNSET; usize::from(graph.darts())]?;
+    let count = number_faces(graph, &mut faces);
+    let degrees = count_degrees(alloc, &faces, count)?;
+    Ok(FaceTable { faces, degrees })
+}
+
+impl Plane {
+    ghost use Rattle.faces.specs.Map.{Map, IsPlane, IsWidest, HasEnds, darts, next, face_at, degree};
+    ghost use Rattle.faces.specs.Faults.{IsTraceFault};
+
+    /// Walks the faces of a graph, and takes the one with the most darts as the outer face, among equals
+    /// the one that holds the least dart.
+    ///
+    /// The graph is handed back by `Genus` exactly where its vertices less its edges plus its faces are
+    /// not two, and by `Memory` where there is no memory for the faces. Each dart is walked over once.
+    pub fn trace(alloc: Global, graph: Graph) -> Result<Plane, TraceFault>
+        ensures graph { IfOk result (λ p. p.lists ≡ graph) }
+        ensures plane { IfOk result IsPlane }
+        ensures outer { IfOk result IsWidest }
+        ensures err { IfErr result (IsTraceFault graph) }
+    {
+        let Ok(table) = face_table(alloc, &graph) else {
+            return Err(TraceFault::Memory(graph));
+        };
+        let FaceTable { faces, degrees } = table;
+        if usize::from(graph.vertices()) + degrees.len() != usize::from(graph.edges()) + 2 {
+            return Err(TraceFault::Genus(graph));
+        }
+        let outer = widest_face(&degrees);
+        Ok(Plane {
+            graph,
+            faces,
+            degrees,
+            outer,
+        })
+    }
+
+    /// The graph whose faces these are.
+    pub fn graph(&self) -> &Graph
+        ensures value { result.now ≡ self.now.lists }
+        ensures plane { IsPlane self.now }
+        ensures ends { HasEnds self.now }
+    {
+        &self.graph
+    }
+
+    /// The dart that follows a dart on its face.
+    pub fn next(&self, dart: u16) -> u16
+        requires { dart < darts self.now }
+        ensures value { result ≡ next self.now dart }
+        ensures inside { result < darts self.now }
+        ensures stays { face_at self.now result ≡ face_at self.now dart }
+    {
+        next_dart(&self.graph, dart)
+    }
+
+    /// The face on the left of a dart.
+    pub fn face_of(&self, dart: u16) -> u16
+        requires { dart < darts self.now }
+        ensures value { result ≡ face_at self.now dart }
+        ensures named { result < self.now.faces }
+    {
+        self.faces[usize::from(dart)]
+    }
+
+    /// How many faces there are, 1 to 257.
+    pub fn face_count(&self) -> u16
+        ensures value { result ≡ self.now.faces }
+        ensures some { 0 < result }
+        ensures few { result ≤ 257 }
+        ensures plane { IsPlane self.now }
+        ensures ends { HasEnds self.now }
+    {
+        self.degrees.len() as u16
+    }
+
+    /// How many darts a face has.
+    pub fn degree(&self, face: u16) -> u16
+        requires { face < self.now.faces }
+        ensures value { result ≡ degree self.now face }
+    {
+        self.degrees[usize::from(face)]
+    }
+
+    /// The outer face.
+    pub fn outer(&self) -> u16
+        ensures value { result ≡ self.now.outer }
+        ensures named { result < self.now.faces }
+    {
+        self.outer
+    }
+}
