@@ -10,6 +10,8 @@ use Rattle.embedding.specs.Rules.{KeepsBefore, IsClosed}
 use Rattle.embedding.proofs.Entries.{Stands, first_dart, stands_at, dart_stands}
 use Rattle.embedding.proofs.Rotation.{reverse_is, reverse_involution, after_place, tail_at, dart_below, list_of-place, tail_within}
 use Rattle.faces.specs.Faces.{IsShut}
+use Rattle.faces.specs.Map.{Map, IsPlane, darts, mate, face_at}
+use Rattle.faces.proofs.Ends.{seven_rules}
 
 -- a set that is closed under "next" and "reverse" is closed under "after"
 shut_after : (g : List (List ℕ)) → KeepsBefore g 8 → (s : ℕ → Bool) → IsShut (dart_count g) (next_of g) s → IsShut (dart_count g) (reverse_of g) s → IsShut (dart_count g) (after_of g) s
@@ -140,3 +142,16 @@ all_joined g rules s next reverse d e hd he here =
           let rest = reaches_tails g rules (λ u. not (firsts g s u)) (closed_rest g rules s shut reverse) (not_from_false (firsts g s 1) none) d hd in
           absurd (both_ways (firsts g s (tail_of g d)) (not-true (firsts g s (tail_of g d)) rest) (tail_held g s shut d hd here))
     ]
+
+-- any two faces of a plane are joined: a set of faces that holds with each dart's face the face across holds
+-- them all, if it holds one
+pub faces_joined : (p : Map) → IsPlane p → (t : ℕ → Bool)
+    → ((d : ℕ) → d < darts p → t (face_at p d) ≡ true → t (face_at p (mate p d)) ≡ true)
+    → (k j : ℕ) → k < p.faces → j < p.faces → t k ≡ true → t j ≡ true
+faces_joined p is t across k j hk hj here =
+    let (d, in-d, face-d) = is.faces.used k hk in
+    let (e, in-e, face-e) = is.faces.used j hj in
+    subst (λ i. t i ≡ true) face-e
+    (all_joined p.lists (seven_rules p.lists is.rules) (λ x. t (face_at p x))
+    (λ x h m. subst (λ i. t i ≡ true) (sym (is.faces.closed x h)) m) across d e in-d in-e
+    (subst (λ i. t i ≡ true) (sym face-d) here))

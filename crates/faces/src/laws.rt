@@ -1,9 +1,12 @@
 //! Laws of the definitions, each as the contract of a function that does nothing.
 
-ghost use Rattle.std.specs.Prelude.{◌≡◌, ◌==◌, ◌<◌, ◌↔◌, ℕ, Bool, true};
+ghost use Rattle.std.specs.Prelude.{◌≡◌, ◌==◌, ◌<◌, ◌↔◌, ℕ, Bool, List, true};
 ghost use Rattle.sums.specs.Sums.{sum_below};
+ghost use Rattle.embedding.specs.Darts.{dart_count, next_of, reverse_of};
 ghost use Rattle.embedding.specs.Faces.{HasFaces};
-ghost use Rattle.faces.specs.Faces.{IsFace, degree_in, steps};
+ghost use Rattle.embedding.specs.Rules.{KeepsBefore};
+ghost use Rattle.faces.specs.Faces.{IsFace, IsShut, steps};
+ghost use Rattle.faces.specs.Map.{HasEnds, IsPlane, Map, darts, degree, face_at, mate};
 
 /// The faces are a partition: the darts of each number are a face, and each face has one of the numbers.
 pub fn faces_are_numbered()
@@ -28,8 +31,28 @@ pub fn faces_are_orbits()
         → (face d ≡ face e) ↔ ((k : ℕ) × (steps next k d ≡ e)) }
 {}
 
-/// The degrees of all faces sum to the number of darts.
+/// The degrees of all faces of a plane sum to the number of darts.
 pub fn degrees_sum()
-    ensures { (n f : ℕ) (next face : ℕ → ℕ) → HasFaces n next face f
-        → sum_below f (λ k. degree_in n face k) ≡ n }
+    ensures { (p : Map) → IsPlane p → sum_below p.faces (degree p) ≡ darts p }
+{}
+
+/// Any two darts of a connected graph are joined: a set of darts that is closed under "next" and under
+/// "reverse" and holds one dart holds them all.
+pub fn darts_are_joined()
+    ensures { (g : List (List ℕ)) → KeepsBefore g 8 → (s : ℕ → Bool)
+        → IsShut (dart_count g) (next_of g) s → IsShut (dart_count g) (reverse_of g) s
+        → (d e : ℕ) → d < dart_count g → e < dart_count g → s d ≡ true → s e ≡ true }
+{}
+
+/// Any two faces of a plane are joined by crossings: a set of faces that holds with the face of each
+/// dart the face across it holds them all, if it holds one.
+pub fn faces_are_joined()
+    ensures { (p : Map) → IsPlane p → (t : ℕ → Bool)
+        → ((d : ℕ) → d < darts p → t (face_at p d) ≡ true → t (face_at p (mate p d)) ≡ true)
+        → (k j : ℕ) → k < p.faces → j < p.faces → t k ≡ true → t j ≡ true }
+{}
+
+/// The darts of a plane have their ends, their mates, their nexts and their faces within it.
+pub fn planes_have_ends()
+    ensures { (p : Map) → IsPlane p → HasEnds p }
 {}
