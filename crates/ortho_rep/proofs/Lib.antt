@@ -2,3 +2,4 @@ mod Vectors
 pub mod TurnLemmas
 pub mod Duality
 pub mod Pieces
+pub mod EdgeNumbers

@@ -4,3 +4,5 @@ pub mod Stores
 pub mod Shapes
 pub mod Representation
 pub mod Prices
+pub mod Points
+pub mod Edges

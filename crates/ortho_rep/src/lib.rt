@@ -1,11 +1,13 @@
 //! Orthogonal representations of a plane: shapes, prices that prove a shape least, and their tests.
 #![tactic(auto)]
 
+mod points;
 mod prices;
 mod shape;
 mod strings;
 mod turn;
 
+pub use points::{Point, Points};
 pub use prices::Prices;
 pub use shape::Shape;
 pub use turn::Turn;

@@ -1,0 +1,83 @@
+//! Points of the plane, and those that draw a graph's vertices and corners.
+
+ghost use Rattle.std.specs.Prelude.{◌≡◌, ◌<◌, ◌≤◌, length};
+ghost use Rattle.ortho_rep.specs.Points.{vertex_point, corners_at, point_lists};
+
+use std::marker::Model;
+
+/// A point with whole coordinates: x grows to the east, y to the north.
+#[derive(Clone, Copy, Debug, PartialEq, Eq)]
+pub struct Point {
+    pub x: u32,
+    pub y: u32,
+}
+
+/// A point for each vertex of a plane, and for each edge its corner points along its lesser dart. In
+/// contracts it is the list of the vertex points and the list of the lists of corners.
+///
+/// Edges are numbered from 0 in the order of their lesser darts. The points need not draw anything:
+/// that is for the check of a drawing to say. No reader takes memory, and each takes constant time.
+#[derive(Debug, Drop)]
+pub struct Points {
+    vertices: Vec<Point>,
+    corners: Vec<Vec<Point>>,
+}
+
+impl Model for Points {
+    ghost use Rattle.ortho_rep.specs.Points.{Plot, point_lists};
+
+    ghost Value = { Plot };
+
+    ghost view = { λ a. record {
+      vertices = a.vertices.items;
+      corners = point_lists a.corners.items;
+    } };
+}
+
+impl Points {
+    /// These points: that of vertex v at place v - 1 of the first list, the corners of edge e at place e
+    /// of the second. It takes no memory.
+    pub fn new(vertices: Vec<Point>, corners: Vec<Vec<Point>>) -> Points
+        ensures { result ≡ record { vertices = vertices.items; corners = point_lists corners.items } }
+    {
+        Points { vertices, corners }
+    }
+
+    /// How many vertices have a point.
+    pub fn vertex_count(&self) -> usize
+        ensures { result ≡ length self.now.vertices }
+    {
+        self.vertices.len()
+    }
+
+    /// How many edges have a list of corners.
+    pub fn edge_count(&self) -> usize
+        ensures { result ≡ length self.now.corners }
+    {
+        self.corners.len()
+    }
+
+    /// The points of all vertices, in order.
+    pub fn vertices(&self) -> &[Point]
+        ensures { result.now ≡ self.now.vertices }
+    {
+        &self.vertices
+    }
+
+    /// The point of a vertex, numbered from 1.
+    pub fn vertex(&self, vertex: u8) -> Point
+        requires some { 0 < vertex }
+        requires within { vertex ≤ length self.now.vertices }
+        ensures { result ≡ vertex_point self.now vertex }
+    {
+        self.vertices[usize::from(vertex) - 1]
+    }
+
+    /// The corners of an edge, along its lesser dart.
+    pub fn corners(&self, edge: u16) -> &[Point]
+        requires { edge < length self.now.corners }
+        ensures { result.now ≡ corners_at self.now edge }
+    {
+        self.corners[usize::from(edge)].as_slice()
+    }
+}
