@@ -1,1 +1,5 @@
 pub mod Stream
+pub mod Split
+pub mod Place
+pub mod Started
+pub mod Scan

@@ -1,5 +1,5 @@
 -- What one record of a planar_code stream is, and which lists its bytes hold.
-use Rattle.std.specs.Prelude.{◌≡◌, ℕ, zero, suc, ◌<◌, ◌≤◌, List, [], ◌∷◌, ◌++◌, length, All}
+use Rattle.std.specs.Prelude.{◌≡◌, ◌≢◌, ℕ, zero, suc, ◌<◌, ◌≤◌, List, [], ◌∷◌, ◌++◌, length, All}
 use Rattle.std.specs.List.{flat_map}
 
 -- an entry of a neighbour list: a byte other than 0
@@ -38,3 +38,13 @@ lists_in (suc x ∷ bytes) = before_first (suc x) (lists_in bytes)
 abbrev pub lists_of : List ℕ → List (List ℕ)
 lists_of [] = []
 lists_of (order ∷ bytes) = lists_in bytes
+
+-- bytes that begin a record and are not yet the whole of it; no bytes at all begin one
+pub record IsUnfinished (bytes : List ℕ) : Type 0 where
+  pub missing : List ℕ
+  pub more : missing ≢ []
+  pub whole : IsRecord (bytes ++ missing)
+
+-- no record stands first in the bytes
+abbrev pub NoRecordFirst : List ℕ → Type 0
+NoRecordFirst bytes = (first rest : List ℕ) → IsRecord first → bytes ≡ first ++ rest → ⊥

@@ -6,9 +6,15 @@
 //! this crate's: no simple graph on 255 vertices has a longer one.)
 #![tactic(auto)]
 
+mod ending;
+mod fault;
 pub mod laws;
+mod open_record;
 mod record;
+mod scan;
 
+pub use ending::Ending;
+pub use fault::FeedFault;
 pub use record::Record;
 
 /// What every stream begins with.

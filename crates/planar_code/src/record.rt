@@ -1,7 +1,8 @@
-ghost use Rattle.std.specs.Prelude.{◌≡◌, ℕ, ◌<◌, List, ◌∷◌, length, slice_index, All};
+ghost use Rattle.std.specs.Prelude.{◌≡◌, ℕ, ◌<◌, List, ◌∷◌, length, slice_index, All, IfOk};
 ghost use Rattle.std.specs.List.{flat_map};
 ghost use Rattle.planar_code.specs.Stream.{IsRecord, IsList, ended, lists_of};
 
+use std::alloc::{AllocError, Global};
 use std::marker::Model;
 
 /// One record of a stream: its bytes, which are one record and nothing more.
@@ -19,6 +20,16 @@ impl Model for Record {
 }
 
 impl Record {
+    /// A copy of bytes that are one record, in a buffer of just their length.
+    pub(crate) fn from_slice(alloc: Global, bytes: &[u8]) -> Result<Record, AllocError>
+        requires { IsRecord bytes.now }
+        ensures { IfOk result (λ r. r ≡ bytes.now) }
+    {
+        Ok(Record {
+            bytes: Vec::from_slice(alloc, bytes)?,
+        })
+    }
+
     /// The record's bytes: n, and then n neighbour lists, each ended by a 0.
     pub fn bytes(&self) -> &[u8]
         ensures value { result.now ≡ self.now }

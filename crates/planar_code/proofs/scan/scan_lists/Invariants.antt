@@ -1,0 +1,11 @@
+use Rattle.std.proofs.Common.{ℕ, ◌<◌, ◌≤◌, List, ◌++◌, take}
+use Rattle.planar_code.specs.Started.{IsStarted}
+use Rattle.planar_code.proofs.scan.scan_lists.Given as goal
+
+-- the bytes up to here leave the record open
+abbrev pub invariant-loop-i : goal.invariant-loop-i
+invariant-loop-i l = record {
+  some : 0 < l.left;
+  short : l.entries ≤ 254;
+  started : (before : List ℕ) → IsStarted (before ++ take l.fn.from l.text) l.fn.left l.fn.entries → IsStarted (before ++ take l.i l.text) l.left l.entries
+}

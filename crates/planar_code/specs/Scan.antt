@@ -1,0 +1,26 @@
+-- What the scan of a record finds.
+use Rattle.std.specs.Prelude.{◌≡◌, ℕ, ◌<◌, ◌≤◌, List, [], ◌++◌, length, take, Option, Some, None, Result, Ok, Err}
+use Rattle.planar_code.specs.declared.scan.Scan.{Scan}
+use Rattle.planar_code.specs.declared.scan.Scan.TheVariants as scan
+use Rattle.planar_code.specs.declared.fault.FeedFault.{FeedFault}
+use Rattle.planar_code.specs.declared.fault.FeedFault.TheVariants as fault
+use Rattle.planar_code.specs.Stream.{IsRecord, IsUnfinished}
+use Rattle.planar_code.specs.Split.{BeginsWithZero}
+use Rattle.planar_code.specs.Started.{IsStarted, IsOversize}
+
+-- what the bytes of a text make of the bytes before it, the beginning of a record
+abbrev pub Scans : List ℕ → List ℕ → Result Scan FeedFault → Type 0
+Scans before text (Ok (scan.Whole end)) = (0 < end) × (end ≤ length text) × IsRecord (before ++ take end text)
+Scans before text (Ok (scan.Open left entries)) = IsStarted (before ++ text) left entries
+Scans before text (Err fault.Large) = BeginsWithZero (before ++ text)
+Scans before text (Err fault.Oversize) = IsOversize (before ++ text)
+Scans before text (Err _) = ⊥
+
+-- what an open record makes of a text: its end, if that comes, or the same record with the text
+abbrev pub TakesFrom : List ℕ → List ℕ → List ℕ → Result (Option (List ℕ × ℕ)) FeedFault → Type 0
+TakesFrom old text new (Ok None) = IsUnfinished new × (new ≡ old ++ text)
+TakesFrom old text new (Ok (Some (bytes, end))) = (new ≡ []) × (0 < end) × (end ≤ length text) × (bytes ≡ old ++ take end text) × IsRecord bytes
+TakesFrom old text new (Err fault.Large) = BeginsWithZero (old ++ text)
+TakesFrom old text new (Err fault.Oversize) = IsOversize (old ++ text)
+TakesFrom old text new (Err fault.Memory) = (end : ℕ) × IsRecord (old ++ take end text)
+TakesFrom old text new (Err _) = ⊥

@@ -1,0 +1,39 @@
+use crate::ending::Ending;
+use thiserror::Error;
+
+/// Why a framer reads no further.
+#[derive(Clone, Copy, Debug, PartialEq, Eq, Hash, Error)]
+pub enum FeedFault {
+    /// A byte differs from the header.
+    #[error("the stream does not begin with the planar code header")]
+    Header,
+    /// A record begins with byte 0.
+    #[error("a record begins with byte 0")]
+    Large,
+    /// A neighbour list has a 255th entry.
+    #[error("a neighbour list has more than 254 entries")]
+    Oversize,
+    /// There was no memory for a record.
+    #[error("out of memory")]
+    Memory,
+    /// A byte stands after the last of 1,000,000 records.
+    #[error("there are more than 1000000 records")]
+    Many,
+}
+
+impl From<FeedFault> for Ending {
+    ghost use Rattle.std.specs.Prelude.{◌≡◌};
+    ghost use Rattle.planar_code.specs.Split.{ending_of};
+
+    ghost from_gives = { λ f e. e ≡ ending_of f };
+
+    fn from(fault: FeedFault) -> Ending {
+        match fault {
+            FeedFault::Header => Ending::Header,
+            FeedFault::Large => Ending::Large,
+            FeedFault::Oversize => Ending::Oversize,
+            FeedFault::Memory => Ending::Memory,
+            FeedFault::Many => Ending::Many,
+        }
+    }
+}

@@ -1,0 +1,42 @@
+ghost use Rattle.std.specs.Prelude.{◌≡◌, ℕ, ◌<◌, ◌≤◌, List, ◌++◌, length, take};
+ghost use Rattle.planar_code.specs.Started.{IsStarted};
+ghost use Rattle.planar_code.specs.Scan.{Scans};
+
+use crate::MAX_LIST;
+use crate::fault::FeedFault;
+
+/// How far the bytes that come next take a record.
+pub enum Scan {
+    /// So many bytes end it.
+    Whole(usize),
+    /// All of them leave it open, with so many lists to come and so many entries in the open list.
+    Open { left: u8, entries: u8 },
+}
+
+/// Reads on, from a place of `text`, in a record that was begun.
+///
+/// `left` lists are not yet ended, the open one among them, which has `entries` entries so far.
+pub fn scan_lists(text: &[u8], from: usize, mut left: u8, mut entries: u8) -> Result<Scan, FeedFault>
+    requires within { from ≤ length text.now }
+    requires some { 0 < left }
+    requires short { entries ≤ 254 }
+    ensures { (before : List ℕ)
+        → IsStarted (before ++ take from text.now) left entries
+        → Scans before text.now result }
+{
+    for i in from..text.len() {
+        if text[i] == 0 {
+            if left == 1 {
+                return Ok(Scan::Whole(i + 1));
+            }
+            left -= 1;
+            entries = 0;
+        } else {
+            if usize::from(entries) == MAX_LIST {
+                return Err(FeedFault::Oversize);
+            }
+            entries += 1;
+        }
+    }
+    Ok(Scan::Open { left, entries })
+}
