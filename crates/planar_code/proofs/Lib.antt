@@ -4,3 +4,6 @@ pub mod Cuts
 pub mod Splits
 pub mod Started
 pub mod Scanning
+pub mod Going
+pub mod Feeding
+pub mod Stepping

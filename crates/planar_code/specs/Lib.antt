@@ -3,3 +3,5 @@ pub mod Split
 pub mod Place
 pub mod Started
 pub mod Scan
+pub mod Framer
+pub mod Step

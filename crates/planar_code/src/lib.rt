@@ -8,6 +8,7 @@
 
 mod ending;
 mod fault;
+mod framer;
 pub mod laws;
 mod open_record;
 mod record;
@@ -15,6 +16,7 @@ mod scan;
 
 pub use ending::Ending;
 pub use fault::FeedFault;
+pub use framer::Framer;
 pub use record::Record;
 
 /// What every stream begins with.
@@ -24,4 +26,4 @@ pub const HEADER: [u8; 15] = *b">>planar_code<<";
 pub const MAX_LIST: usize = 254;
 
 /// How many records a stream has at most.
-pub const MAX_RECORDS: usize = 1_000_000;
+pub const MAX_RECORDS: u32 = 1_000_000;
