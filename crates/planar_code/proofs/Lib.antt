@@ -7,3 +7,4 @@ pub mod Scanning
 pub mod Going
 pub mod Feeding
 pub mod Stepping
+pub mod Reading

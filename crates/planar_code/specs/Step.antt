@@ -10,3 +10,24 @@ abbrev pub Steps : Place → List ℕ → Place → Result (ℕ × Option (List 
 Steps old text new (Ok taken) = (0 < taken.0) × (taken.0 ≤ length text) × IsRunning new × Goes old (take taken.0 text) (option_to_list taken.1) new
 Steps old text new (Err fault.Memory) = LosesRecord old text []
 Steps old text new (Err f) = Goes old text [] (Failed f)
+
+-- several steps have taken the piece up to a text that is left, and have put the added records after
+-- those that the list had before
+pub record HasRead (old : Place) (piece text : List ℕ) (before after : List (List ℕ)) (new : Place) : Type 0 where
+  pub taken : List ℕ
+  pub added : List (List ℕ)
+  pub parts : piece ≡ taken ++ text
+  pub appended : after ≡ before ++ added
+  pub running : IsRunning new
+  pub goes : Goes old taken added new
+
+-- all of the piece was read, or a fault was met; the framer does not keep the fault yet
+abbrev pub ReadsUpTo : Place → List ℕ → List (List ℕ) → Place → Result Unit FeedFault → Type 0
+ReadsUpTo old piece added new (Ok _) = IsRunning new × Goes old piece added new
+ReadsUpTo old piece added new (Err fault.Memory) = LosesRecord old piece added
+ReadsUpTo old piece added new (Err f) = Goes old piece added (Failed f)
+
+pub record Runs (old : Place) (piece : List ℕ) (before after : List (List ℕ)) (new : Place) (result : Result Unit FeedFault) : Type 0 where
+  pub added : List (List ℕ)
+  pub appended : after ≡ before ++ added
+  pub reads : ReadsUpTo old piece added new result

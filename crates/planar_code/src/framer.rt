@@ -1,7 +1,7 @@
 ghost use Rattle.std.specs.Prelude.{◌≡◌, ◌≢◌, ◌⊎◌, ℕ, ◌+◌, ◌<◌, ◌≤◌, List, [], ◌++◌, length, IfOk, OnOk, OnErr, IsSome, MatchResult, option_to_list};
 ghost use Rattle.planar_code.specs.Split.{IsSplit, IsOpen, ending_of};
 ghost use Rattle.planar_code.specs.Place.{Place, Early, After, Failed, StandsAt, IsRunning, Feeds};
-ghost use Rattle.planar_code.specs.Step.{Steps};
+ghost use Rattle.planar_code.specs.Step.{Steps, Runs};
 
 use crate::ending::Ending;
 use crate::fault::FeedFault;
@@ -63,7 +63,7 @@ fn append(out: &mut Vec<Record>, next: Option<Record>) -> Result<(), FeedFault>
 impl Framer {
     /// A framer at the beginning of a stream. It has room for the longest record: 65,026 bytes.
     pub fn new(alloc: Global) -> Result<Framer, AllocError>
-        ensures { IfOk result (λ framer. framer ≡ Early []) }
+        ensures early { IfOk result (λ framer. framer ≡ Early []) }
     {
         Ok(Framer {
             stage: Stage::Header { passed: 0 },
@@ -105,6 +105,52 @@ impl Framer {
                     Err(fault) => Err(fault),
                 }
             }
+        }
+    }
+
+    /// Reads all of `piece`.
+    fn read(&mut self, alloc: Global, piece: &[u8], out: &mut Vec<Record>) -> Result<(), FeedFault>
+        requires { IsRunning self.old }
+        ensures { Runs self.old piece.now out.old.items out.new.items self.new result }
+    {
+        let mut text = piece;
+        while !text.is_empty() {
+            let (taken, next) = self.step(alloc, text)?;
+            append(out, next)?;
+            text = &text[taken..];
+        }
+        Ok(())
+    }
+
+    /// Reads the next piece of the stream, and puts each record that it ends at the end of `out`, in
+    /// order.
+    pub fn feed(&mut self, alloc: Global, piece: &[u8], out: &mut Vec<Record>) -> Result<(), FeedFault>
+        ensures feeds { Feeds self.old piece.now out.old.items out.new.items self.new result }
+    {
+        if let Stage::Failed(fault) = self.stage {
+            return Err(fault);
+        }
+        match self.read(alloc, piece, out) {
+            Ok(()) => Ok(()),
+            Err(fault) => {
+                self.stage = Stage::Failed(fault);
+                Err(fault)
+            }
+        }
+    }
+
+    /// How the stream ends, where no more comes of it.
+    pub fn finish(self) -> Ending
+        ensures split { (stream : List ℕ) (records : List (List ℕ))
+            → StandsAt stream records self
+            → IsSplit stream records result }
+        ensures failed { (fault : FeedFault) → self ≡ Failed fault → result ≡ ending_of fault }
+    {
+        match self.stage {
+            Stage::Header { .. } => Ending::Header,
+            Stage::Records if self.current.is_empty() => Ending::Complete,
+            Stage::Records => Ending::Truncated,
+            Stage::Failed(fault) => Ending::from(fault),
         }
     }
 }

@@ -1,0 +1,97 @@
+-- How a framer's steps make up a piece.
+use Rattle.std.proofs.Common.{◌≡◌, ◌≢◌, ℕ, ◌+◌, ◌<◌, ◌≤◌, List, [], ◌∷◌, ◌++◌, ◌⊎◌, inl, inr, length, take, drop, refl, sym, ap, subst, ◌∙◌, arith, append_assoc, append-nil, Option, Some, None, IsSome, option_to_list, Result, Ok, Err}
+use Rattle.std.proofs.lemmas.List.{take-append-drop}
+use Rattle.std.proofs.lemmas.Bool.{false≢true}
+use Rattle.planar_code.specs.declared.fault.FeedFault.{FeedFault}
+use Rattle.planar_code.specs.declared.fault.FeedFault.TheVariants as fault
+use Rattle.planar_code.specs.Place.{Place, Failed, StandsAt, Goes, IsRunning, LosesRecord, Reads, Feeds}
+use Rattle.planar_code.specs.Step.{Steps, HasRead, ReadsUpTo, Runs}
+use Rattle.planar_code.proofs.Going.{goes_on, goes_nowhere, goes_failed}
+
+-- no step yet
+pub has_read-none : (p : Place) (piece : List ℕ) (before : List (List ℕ)) → IsRunning p → HasRead p piece piece before before p
+has_read-none p piece before running = record {
+  taken = [];
+  added = [];
+  parts = refl;
+  appended = sym (append-nil before);
+  running = running;
+  goes = goes_nowhere p;
+}
+
+module _ (old mid : Place) (piece text : List ℕ) (before after : List (List ℕ)) (h : HasRead old piece text before after mid) where
+  -- the piece, where the next step takes a front of the text
+  parts-more : (front back : List ℕ) → text ≡ front ++ back → piece ≡ (h.taken ++ front) ++ back
+  parts-more front back e = h.parts ∙ ap (λ z. h.taken ++ z) e ∙ sym (append_assoc h.taken front back)
+
+  -- one step more
+  pub has_read-more : (new : Place) (n : ℕ) (next : Option (List ℕ)) (later : List (List ℕ)) → Steps mid text new (Ok (n, next)) → later ≡ after ++ option_to_list next → HasRead old piece (drop n text) before later new
+  has_read-more new n next later s e = record {
+    taken = h.taken ++ take n text;
+    added = h.added ++ option_to_list next;
+    parts = parts-more (take n text) (drop n text) (sym (take-append-drop n text));
+    appended = e ∙ ap (λ z. z ++ option_to_list next) h.appended ∙ append_assoc before h.added (option_to_list next);
+    running = s.2;
+    goes = goes_on old mid new h.taken (take n text) h.added (option_to_list next) h.goes s.3;
+  }
+
+  -- nothing is left
+  pub runs-ok : (u : Unit {0}) → length text ≡ 0 → Runs old piece before after mid (Ok u)
+  runs-ok u none = record {
+    added = h.added;
+    appended = h.appended;
+    reads = (h.running, subst (λ z. Goes old z h.added mid) (sym (h.parts ∙ ap (λ z. h.taken ++ z) (empty text none) ∙ append-nil h.taken)) h.goes);
+  }
+    where
+      empty : (xs : List ℕ) → length xs ≡ 0 → xs ≡ []
+      empty [] e = refl
+      empty (x ∷ xs) e = absurd (omega arith)
+
+  -- a fault of the text is one of the piece
+  goes-fault : (f : FeedFault) → Goes mid text [] (Failed f) → Goes old piece h.added (Failed f)
+  goes-fault f g =
+      subst (λ z. Goes old z h.added (Failed f)) (sym h.parts)
+        (subst (λ z. Goes old (h.taken ++ text) z (Failed f)) (append-nil h.added) (goes_on old mid (Failed f) h.taken text h.added [] h.goes g))
+
+  -- a lost record of a front of the text is one of the piece
+  loses-more : (front back : List ℕ) (lost : List ℕ) (next : Place) → text ≡ front ++ back → Goes mid front (lost ∷ []) next → LosesRecord old piece h.added
+  loses-more front back lost next e g = record {
+    front = h.taken ++ front;
+    back = back;
+    parts = parts-more front back e;
+    lost = lost;
+    next = next;
+    goes = goes_on old mid next h.taken front h.added (lost ∷ []) h.goes g;
+  }
+
+  pub runs-err : (p new : Place) (f : FeedFault) → Steps mid text p (Err f) → Runs old piece before after new (Err f)
+  runs-err p new fault.Header s = record { added = h.added; appended = h.appended; reads = goes-fault fault.Header s }
+  runs-err p new fault.Large s = record { added = h.added; appended = h.appended; reads = goes-fault fault.Large s }
+  runs-err p new fault.Oversize s = record { added = h.added; appended = h.appended; reads = goes-fault fault.Oversize s }
+  runs-err p new fault.Memory s = record { added = h.added; appended = h.appended; reads = loses-more s.front s.back s.lost s.next s.parts s.goes }
+  runs-err p new fault.Many s = record { added = h.added; appended = h.appended; reads = goes-fault fault.Many s }
+
+  -- the list had no room for the next record
+  pub runs-memory : (next new : Place) (n : ℕ) (o : Option (List ℕ)) (later : List (List ℕ)) → Steps mid text next (Ok (n, o)) → IsSome o → later ≡ after → Runs old piece before later new (Err fault.Memory)
+  runs-memory next new n None later s some e = absurd (false≢true some)
+  runs-memory next new n (Some lost) later s some e = record {
+    added = h.added;
+    appended = e ∙ h.appended;
+    reads = loses-more (take n text) (drop n text) lost next (sym (take-append-drop n text)) s.3;
+  }
+
+-- a framer that has failed repeats its fault
+pub feeds-failed : (f : FeedFault) (piece : List ℕ) (before : List (List ℕ)) → Feeds (Failed f) piece before before (Failed f) (Err f)
+feeds-failed fault.Header piece before = record { added = []; appended = sym (append-nil before); reads = (refl, goes_failed fault.Header piece) }
+feeds-failed fault.Large piece before = record { added = []; appended = sym (append-nil before); reads = (refl, goes_failed fault.Large piece) }
+feeds-failed fault.Oversize piece before = record { added = []; appended = sym (append-nil before); reads = (refl, goes_failed fault.Oversize piece) }
+feeds-failed fault.Memory piece before = record { added = []; appended = sym (append-nil before); reads = (refl, inl (refl, refl)) }
+feeds-failed fault.Many piece before = record { added = []; appended = sym (append-nil before); reads = (refl, goes_failed fault.Many piece) }
+
+-- a framer that fails now keeps the fault
+pub feeds-err : (old mid : Place) (piece : List ℕ) (before after : List (List ℕ)) (f : FeedFault) → Runs old piece before after mid (Err f) → Feeds old piece before after (Failed f) (Err f)
+feeds-err old mid piece before after fault.Header r = record { added = r.added; appended = r.appended; reads = (refl, r.reads) }
+feeds-err old mid piece before after fault.Large r = record { added = r.added; appended = r.appended; reads = (refl, r.reads) }
+feeds-err old mid piece before after fault.Oversize r = record { added = r.added; appended = r.appended; reads = (refl, r.reads) }
+feeds-err old mid piece before after fault.Memory r = record { added = r.added; appended = r.appended; reads = (refl, inr r.reads) }
+feeds-err old mid piece before after fault.Many r = record { added = r.added; appended = r.appended; reads = (refl, r.reads) }
