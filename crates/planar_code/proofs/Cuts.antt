@@ -1,5 +1,5 @@
 -- The longest list of whole records is one list, and any other is a front of it.
-use Rattle.std.proofs.Common.{◌≡◌, ◌≢◌, ℕ, ◌+◌, ◌<◌, ◌≤◌, List, [], ◌∷◌, ◌++◌, ◌⊎◌, inl, inr, length, All, refl, sym, ap, ◌∙◌, arith, append_assoc, append-nil, length-append}
+use Rattle.std.proofs.Common.{◌≡◌, ℕ, ◌+◌, ◌≤◌, List, [], ◌∷◌, ◌++◌, ◌⊎◌, inl, inr, length, All, refl, sym, ap, ◌∙◌, arith, append_assoc, append-nil, length-append}
 use Rattle.std.specs.List.{concat}
 use Rattle.std.proofs.lemmas.List.Elements.{All-head, All-tail, All-push}
 use Rattle.std.proofs.lemmas.Bool.{cases_eq}
@@ -24,7 +24,7 @@ front_from i (o ∷ others) [] left rest each_o each_r e few (inr stops) =
     absurd (stops o (concat others ++ left) (All-head IsRecord o others each_o) (sym e ∙ append_assoc o (concat others) left))
 front_from i (o ∷ others) (r ∷ records) left rest each_o each_r e few stuck =
     let parts : o ++ (concat others ++ left) ≡ r ++ (concat records ++ rest)
-            = sym (append_assoc o (concat others) left) ∙ e ∙ append_assoc r (concat records) rest in
+    = sym (append_assoc o (concat others) left) ∙ e ∙ append_assoc r (concat records) rest in
     let same = record_same o r (concat others ++ left) (concat records ++ rest) (All-head IsRecord o others each_o) (All-head IsRecord r records each_r) parts in
     let later = front_from (i + 1) others records left rest (All-tail IsRecord o others each_o) (All-tail IsRecord r records each_r) same.1 (omega arith) (stuck_at stuck) in
     (later.0, cc)
@@ -56,15 +56,15 @@ cut_from body records rest joined each few stuck = record {
 -- the longest records cannot be continued
 pub stuck-cut : (body : List ℕ) (records : List (List ℕ)) (rest : List ℕ) → IsCut body records rest → IsStuck (length records) rest
 stuck-cut body records rest c = elim (cases_eq (length records) 1000000) [
-    inl full ↦ inl full
+  | inl full ↦ inl full
   | inr short ↦ inr (λ first left r e.
       let others = records ++ first ∷ [] in
       let n = length-append records (first ∷ []) in
       let joined : body ≡ concat others ++ left
-              = c.joined ∙ ap (λ z. concat records ++ z) e ∙ sym (append_assoc (concat records) first left) ∙ ap (λ z. z ++ left) (sym (concat-push records first)) in
+      = c.joined ∙ ap (λ z. concat records ++ z) e ∙ sym (append_assoc (concat records) first left) ∙ ap (λ z. z ++ left) (sym (concat-push records first)) in
       let few = c.few in
       absurd (omega (arith, c.longest others left joined (All-push IsRecord records first c.each r) (omega arith))))
-  ]
+]
 
 -- any whole records that begin the body begin the longest
 pub front_of-cut : (body : List ℕ) (records : List (List ℕ)) (rest : List ℕ) → IsCut body records rest → (others : List (List ℕ)) (left : List ℕ) → body ≡ concat others ++ left → All IsRecord others → length others ≤ 1000000 → (more : List (List ℕ)) × (records ≡ others ++ more)
@@ -78,7 +78,7 @@ records_same [] (b ∷ rb) x y each_a each_b n e = absurd (omega arith)
 records_same (a ∷ ra) [] x y each_a each_b n e = absurd (omega arith)
 records_same (a ∷ ra) (b ∷ rb) x y each_a each_b n e =
     let parts : a ++ (concat ra ++ x) ≡ b ++ (concat rb ++ y)
-            = sym (append_assoc a (concat ra) x) ∙ e ∙ append_assoc b (concat rb) y in
+    = sym (append_assoc a (concat ra) x) ∙ e ∙ append_assoc b (concat rb) y in
     let first = record_same a b (concat ra ++ x) (concat rb ++ y) (All-head IsRecord a ra each_a) (All-head IsRecord b rb each_b) parts in
     let others = records_same ra rb x y (All-tail IsRecord a ra each_a) (All-tail IsRecord b rb each_b) (omega arith) first.1 in
     (cc, others.1)

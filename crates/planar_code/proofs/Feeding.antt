@@ -1,15 +1,13 @@
 -- What a framer's place says of its stream: how the stream splits, and whether it is open.
-use Rattle.std.proofs.Common.{◌≡◌, ◌≢◌, ℕ, ◌+◌, ◌<◌, ◌≤◌, List, [], ◌∷◌, ◌++◌, ◌⊎◌, inl, inr, length, refl, sym, ap, subst, ◌∙◌, arith, append_assoc, append-nil, length-append, Result, Ok, Err, MatchResult}
+use Rattle.std.proofs.Common.{◌≡◌, ◌≢◌, ℕ, ◌≤◌, List, [], ◌∷◌, ◌++◌, inl, inr, length, refl, sym, ap, subst, ◌∙◌, arith, append_assoc, append-nil}
 use Rattle.planar_code.specs.declared.TheConstants.{HEADER}
 use Rattle.planar_code.specs.declared.ending.Ending.{Ending}
 use Rattle.planar_code.specs.declared.ending.Ending.TheVariants as ending
 use Rattle.planar_code.specs.declared.fault.FeedFault.{FeedFault}
 use Rattle.planar_code.specs.declared.fault.FeedFault.TheVariants as fault
-use Rattle.planar_code.specs.Stream.{IsUnfinished}
-use Rattle.planar_code.specs.Split.{EndsAs, IsHeaderless, IsSplitAfterHeader, IsSplit, IsOpen, ending_of}
-use Rattle.planar_code.specs.Place.{Place, Early, After, Failed, StandsEarly, StandsAfter, StandsAt, Goes, IsRunning, LosesRecord, Reads, Feeds}
+use Rattle.planar_code.specs.Split.{IsSplit, IsOpen, ending_of}
+use Rattle.planar_code.specs.Place.{Place, Early, After, Failed, StandsAt, IsRunning}
 use Rattle.planar_code.proofs.Records.{nothing_after}
-use Rattle.planar_code.proofs.Cuts.{front_of-cut}
 use Rattle.planar_code.proofs.Splits.{split_same}
 use Rattle.planar_code.proofs.Going.{standing-header}
 

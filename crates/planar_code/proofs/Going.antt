@@ -1,21 +1,18 @@
 -- What a piece of a stream leads to: one lemma for each way that a step ends.
-use Rattle.std.proofs.Common.{◌≡◌, ◌≢◌, ℕ, suc, ◌+◌, ◌<◌, ◌≤◌, List, [], ◌∷◌, ◌++◌, ◌⊎◌, inl, inr, length, All, take, drop, get_or, refl, sym, ap, subst, ◌∙◌, arith, append_assoc, append-nil, length-append, length-drop}
+use Rattle.std.proofs.Common.{◌≡◌, ◌≢◌, ℕ, suc, ◌+◌, ◌<◌, List, [], ◌∷◌, ◌++◌, inl, inr, length, take, drop, get_or, refl, sym, ap, subst, ◌∙◌, arith, append_assoc, append-nil, length-append, length-drop}
 use Rattle.std.specs.List.{concat}
 use Rattle.std.proofs.lemmas.List.{take_more, take-append-drop, append_cancel_left}
 use Rattle.std.proofs.lemmas.List.Elements.{All-push, All-nil, All-cons}
 use Rattle.std.proofs.Math.Seq.{drop-cons}
 use Rattle.planar_code.specs.declared.TheConstants.{HEADER}
-use Rattle.planar_code.specs.declared.ending.Ending.{Ending}
-use Rattle.planar_code.specs.declared.ending.Ending.TheVariants as ending
 use Rattle.planar_code.specs.declared.fault.FeedFault.{FeedFault}
 use Rattle.planar_code.specs.declared.fault.FeedFault.TheVariants as fault
 use Rattle.planar_code.specs.Stream.{IsEntry, IsList, IsRecord, IsUnfinished, NoRecordFirst}
-use Rattle.planar_code.specs.Split.{IsCut, BeginsWithZero, EndsAs, IsHeaderless, IsSplitAfterHeader, IsSplit, ending_of}
+use Rattle.planar_code.specs.Split.{BeginsWithZero, EndsAs, IsSplit, ending_of}
 use Rattle.planar_code.specs.Started.{IsOversize}
-use Rattle.planar_code.specs.Place.{Place, Early, After, Failed, StandsEarly, StandsAfter, StandsAt, Goes}
+use Rattle.planar_code.specs.Place.{Place, Early, After, Failed, StandsAt, Goes}
 use Rattle.planar_code.proofs.Records.{no_record-unfinished}
 use Rattle.planar_code.proofs.Cuts.{IsStuck, concat-push, cut_from}
-use Rattle.planar_code.proofs.Splits.{zero_unfinished}
 
 -- no bytes begin a record
 pub unfinished-none : IsUnfinished []
@@ -35,13 +32,13 @@ unfinished-none = record {
 pub goes_on : (p q r : Place) (a b : List ℕ) (x y : List (List ℕ)) → Goes p a x q → Goes q b y r → Goes p (a ++ b) (x ++ y) r
 goes_on p q r a b x y first second stream records s =
     subst (λ z. StandsAt z (records ++ (x ++ y)) r) (append_assoc stream a b)
-      (subst (λ z. StandsAt ((stream ++ a) ++ b) z r) (append_assoc records x y) (second (stream ++ a) (records ++ x) (first stream records s)))
+    (subst (λ z. StandsAt ((stream ++ a) ++ b) z r) (append_assoc records x y) (second (stream ++ a) (records ++ x) (first stream records s)))
 
 -- no piece at all
 pub goes_nowhere : (p : Place) → Goes p [] [] p
 goes_nowhere p stream records s =
     subst (λ z. StandsAt z (records ++ []) p) (sym (append-nil stream))
-      (subst (λ z. StandsAt stream z p) (sym (append-nil records)) s)
+    (subst (λ z. StandsAt stream z p) (sym (append-nil records)) s)
 
 -- it is enough to add no records
 adds_none : (records : List (List ℕ)) (stream : List ℕ) (p : Place) → StandsAt stream records p → StandsAt stream (records ++ []) p
@@ -113,8 +110,8 @@ zero_on rest text more z = (z.0 ++ more, sym (append_assoc rest text more) ∙ a
 pub fails_large : (count : ℕ) (rest text : List ℕ) → count ≢ 1000000 → BeginsWithZero (rest ++ text) → Goes (After count rest) text [] (Failed fault.Large)
 fails_large count rest text room z =
     fails count rest text fault.Large
-      (λ more. inr (no_record-zero (rest ++ (text ++ more)) (zero_on rest text more z)))
-      (λ more. (zero_on rest text more z, room))
+    (λ more. inr (no_record-zero (rest ++ (text ++ more)) (zero_on rest text more z)))
+    (λ more. (zero_on rest text more z, room))
 
 -- what is oversize has no record first, is no record's beginning, and does not begin with byte 0
 oversize_on : (bytes more : List ℕ) → IsOversize bytes → IsOversize (bytes ++ more)
@@ -132,14 +129,15 @@ no_record-oversize bytes o = subst NoRecordFirst (append-nil bytes) (o.never [])
 pub fails_oversize : (count : ℕ) (rest text : List ℕ) → count ≢ 1000000 → IsOversize (rest ++ text) → Goes (After count rest) text [] (Failed fault.Oversize)
 fails_oversize count rest text room o =
     let on : (more : List ℕ) → IsOversize (rest ++ (text ++ more))
-            = λ more. subst IsOversize (append_assoc rest text more) (oversize_on (rest ++ text) more o) in
+    = λ more. subst IsOversize (append_assoc rest text more) (oversize_on (rest ++ text) more o) in
     fails count rest text fault.Oversize
-      (λ more. inr (no_record-oversize (rest ++ (text ++ more)) (on more)))
-      (λ more. (
-        (λ u. (on more).never u.missing ((rest ++ (text ++ more)) ++ u.missing) [] u.whole (sym (append-nil ((rest ++ (text ++ more)) ++ u.missing)))),
-        (on more).nonzero,
-        (on more).some,
-        room))
+    (λ more. inr (no_record-oversize (rest ++ (text ++ more)) (on more)))
+    (λ more. (
+      (λ u. (on more).never u.missing ((rest ++ (text ++ more)) ++ u.missing) [] u.whole (sym (append-nil ((rest ++ (text ++ more)) ++ u.missing)))),
+      (on more).nonzero,
+      (on more).some,
+      room,
+    ))
 
 -- one byte more of the header
 pub goes_early : (passed x : ℕ) → passed + 1 < 15 → x ≡ get_or HEADER passed 0 → Goes (Early (take passed HEADER)) (x ∷ []) [] (Early (take (passed + 1) HEADER))
@@ -166,20 +164,20 @@ standing-header = record {
 pub goes_headed : (passed x : ℕ) → passed + 1 ≡ 15 → x ≡ get_or HEADER passed 0 → Goes (Early (take passed HEADER)) (x ∷ []) [] (After 0 [])
 goes_headed passed x last same stream records s = adds_none records (stream ++ x ∷ []) (After 0 [])
     (subst (λ z. StandsAt (stream ++ x ∷ []) z (After 0 [])) (sym s.none)
-      (subst (λ z. StandsAt z [] (After 0 []))
-        (sym (ap (λ z. z ++ x ∷ []) s.same ∙ ap (λ y. take passed HEADER ++ y ∷ []) same ∙ sym (take_more HEADER passed 0 (omega arith)) ∙ ap (λ n. take n HEADER) last))
-        standing-header))
+    (subst (λ z. StandsAt z [] (After 0 []))
+    (sym (ap (λ z. z ++ x ∷ []) s.same ∙ ap (λ y. take passed HEADER ++ y ∷ []) same ∙ sym (take_more HEADER passed 0 (omega arith)) ∙ ap (λ n. take n HEADER) last))
+    standing-header))
 
 -- a byte that differs from the header
 pub fails_header : (passed x : ℕ) (text : List ℕ) → passed < 15 → x ≢ get_or HEADER passed 0 → Goes (Early (take passed HEADER)) (x ∷ text) [] (Failed fault.Header)
 fails_header passed x text room other stream records s = adds_none records (stream ++ (x ∷ text)) (Failed fault.Header) (λ more. inl (record {
   header = λ body e.
       let whole : HEADER ≡ take passed HEADER ++ (get_or HEADER passed 0 ∷ drop (suc passed) HEADER)
-              = sym (take-append-drop passed HEADER) ∙ ap (λ z. take passed HEADER ++ z) (drop-cons HEADER passed 0 room) in
+      = sym (take-append-drop passed HEADER) ∙ ap (λ z. take passed HEADER ++ z) (drop-cons HEADER passed 0 room) in
       let left : (stream ++ (x ∷ text)) ++ more ≡ take passed HEADER ++ (x ∷ (text ++ more))
-              = append_assoc stream (x ∷ text) more ∙ ap (λ z. z ++ (x ∷ (text ++ more))) s.same in
+      = append_assoc stream (x ∷ text) more ∙ ap (λ z. z ++ (x ∷ (text ++ more))) s.same in
       let right : HEADER ++ body ≡ take passed HEADER ++ (get_or HEADER passed 0 ∷ (drop (suc passed) HEADER ++ body))
-              = ap (λ z. z ++ body) whole ∙ append_assoc (take passed HEADER) (get_or HEADER passed 0 ∷ drop (suc passed) HEADER) body in
+      = ap (λ z. z ++ body) whole ∙ append_assoc (take passed HEADER) (get_or HEADER passed 0 ∷ drop (suc passed) HEADER) body in
       let tails = append_cancel_left (take passed HEADER) _ _ (sym left ∙ e ∙ right) in
       other (cc);
   none = s.none;

@@ -1,11 +1,11 @@
 -- How a framer's steps make up a piece.
-use Rattle.std.proofs.Common.{◌≡◌, ◌≢◌, ℕ, ◌+◌, ◌<◌, ◌≤◌, List, [], ◌∷◌, ◌++◌, ◌⊎◌, inl, inr, length, take, drop, refl, sym, ap, subst, ◌∙◌, arith, append_assoc, append-nil, Option, Some, None, IsSome, option_to_list, Result, Ok, Err}
+use Rattle.std.proofs.Common.{◌≡◌, ℕ, List, [], ◌∷◌, ◌++◌, inl, inr, length, take, drop, refl, sym, ap, subst, ◌∙◌, arith, append_assoc, append-nil, Option, Some, None, IsSome, option_to_list, Ok, Err}
 use Rattle.std.proofs.lemmas.List.{take-append-drop}
 use Rattle.std.proofs.lemmas.Bool.{false≢true}
 use Rattle.planar_code.specs.declared.fault.FeedFault.{FeedFault}
 use Rattle.planar_code.specs.declared.fault.FeedFault.TheVariants as fault
-use Rattle.planar_code.specs.Place.{Place, Failed, StandsAt, Goes, IsRunning, LosesRecord, Reads, Feeds}
-use Rattle.planar_code.specs.Step.{Steps, HasRead, ReadsUpTo, Runs}
+use Rattle.planar_code.specs.Place.{Place, Failed, Goes, IsRunning, LosesRecord, Feeds}
+use Rattle.planar_code.specs.Step.{Steps, HasRead, Runs}
 use Rattle.planar_code.proofs.Going.{goes_on, goes_nowhere, goes_failed}
 
 -- no step yet
@@ -51,7 +51,7 @@ module _ (old mid : Place) (piece text : List ℕ) (before after : List (List �
   goes-fault : (f : FeedFault) → Goes mid text [] (Failed f) → Goes old piece h.added (Failed f)
   goes-fault f g =
       subst (λ z. Goes old z h.added (Failed f)) (sym h.parts)
-        (subst (λ z. Goes old (h.taken ++ text) z (Failed f)) (append-nil h.added) (goes_on old mid (Failed f) h.taken text h.added [] h.goes g))
+      (subst (λ z. Goes old (h.taken ++ text) z (Failed f)) (append-nil h.added) (goes_on old mid (Failed f) h.taken text h.added [] h.goes g))
 
   -- a lost record of a front of the text is one of the piece
   loses-more : (front back : List ℕ) (lost : List ℕ) (next : Place) → text ≡ front ++ back → Goes mid front (lost ∷ []) next → LosesRecord old piece h.added

@@ -1,5 +1,5 @@
 -- No record begins another.
-use Rattle.std.proofs.Common.{◌≡◌, ℕ, ◌<◌, ◌≤◌, List, [], ◌∷◌, ◌++◌, length, All, refl, sym, ap, ◌∙◌, arith, append_assoc, append-nil}
+use Rattle.std.proofs.Common.{◌≡◌, ℕ, List, [], ◌∷◌, ◌++◌, length, All, refl, sym, ap, ◌∙◌, arith, append_assoc, append-nil}
 use Rattle.std.specs.List.{flat_map}
 use Rattle.std.proofs.lemmas.List.Elements.{All-head, All-tail}
 use Rattle.planar_code.specs.Stream.{IsEntry, IsList, IsRecord, IsUnfinished, NoRecordFirst, ended}
@@ -24,7 +24,7 @@ lists_same [] (b ∷ lb) x y each_a each_b n e = absurd (omega arith)
 lists_same (a ∷ la) [] x y each_a each_b n e = absurd (omega arith)
 lists_same (a ∷ la) (b ∷ lb) x y each_a each_b n e =
     let parts : ended a ++ (flat_map ended la ++ x) ≡ ended b ++ (flat_map ended lb ++ y)
-            = sym (append_assoc (ended a) (flat_map ended la) x) ∙ e ∙ append_assoc (ended b) (flat_map ended lb) y in
+    = sym (append_assoc (ended a) (flat_map ended la) x) ∙ e ∙ append_assoc (ended b) (flat_map ended lb) y in
     let first = ended_same a b _ _ (All-head IsList a la each_a).each (All-head IsList b lb each_b).each parts in
     let others = lists_same la lb x y (All-tail IsList a la each_a) (All-tail IsList b lb each_b) (omega arith) first.1 in
     (cc, others.1)
@@ -33,7 +33,7 @@ lists_same (a ∷ la) (b ∷ lb) x y each_a each_b n e =
 pub record_same : (a b x y : List ℕ) → IsRecord a → IsRecord b → a ++ x ≡ b ++ y → (a ≡ b) × (x ≡ y)
 record_same a b x y ra rb e =
     let spelt : length ra.lists ∷ (flat_map ended ra.lists ++ x) ≡ length rb.lists ∷ (flat_map ended rb.lists ++ y)
-            = sym (ap (λ z. z ++ x) ra.spelt) ∙ e ∙ ap (λ z. z ++ y) rb.spelt in
+    = sym (ap (λ z. z ++ x) ra.spelt) ∙ e ∙ ap (λ z. z ++ y) rb.spelt in
     let count : length ra.lists ≡ length rb.lists = cc in
     let tails : flat_map ended ra.lists ++ x ≡ flat_map ended rb.lists ++ y = cc in
     let same = lists_same ra.lists rb.lists x y ra.each rb.each count tails in
@@ -48,5 +48,5 @@ nothing_after (c ∷ a) b e = absurd (cc)
 pub no_record-unfinished : (rest : List ℕ) → IsUnfinished rest → NoRecordFirst rest
 no_record-unfinished rest u first left r e =
     let whole : (rest ++ u.missing) ++ [] ≡ first ++ (left ++ u.missing)
-            = append-nil (rest ++ u.missing) ∙ ap (λ z. z ++ u.missing) e ∙ append_assoc first left u.missing in
+    = append-nil (rest ++ u.missing) ∙ ap (λ z. z ++ u.missing) e ∙ append_assoc first left u.missing in
     u.more (nothing_after left u.missing (record_same (rest ++ u.missing) first [] (left ++ u.missing) u.whole r whole).1)

@@ -1,5 +1,5 @@
 -- The scan of a record takes one byte of a text.
-use Rattle.std.proofs.Common.{◌≡◌, ℕ, suc, ◌+◌, ◌-◌, ◌^◌, ◌<◌, ◌≤◌, List, [], ◌∷◌, ◌++◌, length, take, drop, get_or, refl, sym, ap, subst, ◌∙◌, arith, append_assoc}
+use Rattle.std.proofs.Common.{◌≡◌, ℕ, suc, ◌+◌, ◌-◌, ◌<◌, List, [], ◌∷◌, ◌++◌, length, take, drop, get_or, refl, sym, ap, subst, ◌∙◌, arith, append_assoc}
 use Rattle.std.proofs.lemmas.List.{take_more, take-append-drop}
 use Rattle.std.proofs.Math.Seq.{drop-cons}
 use Rattle.planar_code.specs.Stream.{IsRecord}
@@ -27,7 +27,7 @@ module _ (before text : List ℕ) (i left entries : ℕ) (inside : i < length te
   pub scan-oversize : 0 < get_or text i 0 → get_or text i 0 < 256 → entries ≡ 254 → IsOversize (before ++ text)
   scan-oversize some fits full =
       let whole : text ≡ take i text ++ (get_or text i 0 ∷ drop (suc i) text)
-              = sym (take-append-drop i text) ∙ ap (λ z. take i text ++ z) (drop-cons text i 0 inside) in
+      = sym (take-append-drop i text) ∙ ap (λ z. take i text ++ z) (drop-cons text i 0 inside) in
       subst IsOversize (append_assoc before (take i text) (get_or text i 0 ∷ drop (suc i) text) ∙ ap (λ z. before ++ z) (sym whole)) (started-oversize (before ++ take i text) left entries (get_or text i 0) (drop (suc i) text) started (some, fits) full)
 
 -- a list of no elements

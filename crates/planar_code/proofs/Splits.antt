@@ -1,10 +1,10 @@
 -- A stream splits in one way.
-use Rattle.std.proofs.Common.{◌≡◌, ◌≢◌, ℕ, List, [], ◌∷◌, ◌++◌, inl, inr, length, refl, sym, ap, subst, ◌∙◌, arith}
+use Rattle.std.proofs.Common.{◌≡◌, ℕ, List, ◌++◌, inl, inr, length, refl, sym, ap, subst, ◌∙◌, arith}
 use Rattle.planar_code.specs.declared.TheConstants.{HEADER}
 use Rattle.planar_code.specs.declared.ending.Ending.{Ending}
 use Rattle.planar_code.specs.declared.ending.Ending.TheVariants as ending
-use Rattle.planar_code.specs.Stream.{IsRecord, IsUnfinished, NoRecordFirst}
-use Rattle.planar_code.specs.Split.{IsCut, BeginsWithZero, EndsAs, IsHeaderless, IsSplitAfterHeader, IsSplit}
+use Rattle.planar_code.specs.Stream.{IsUnfinished}
+use Rattle.planar_code.specs.Split.{IsCut, BeginsWithZero, EndsAs, IsSplit}
 use Rattle.planar_code.proofs.Cuts.{cut_same}
 
 complete_same : (count : ℕ) (rest : List ℕ) → EndsAs count rest ending.Complete → (end : Ending) → EndsAs count rest end → ending.Complete ≡ end

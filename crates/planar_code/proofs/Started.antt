@@ -4,7 +4,7 @@ use Rattle.std.proofs.lemmas.List.{length-replicate}
 use Rattle.std.specs.List.{flat_map}
 use Rattle.std.proofs.lemmas.List.Elements.{All-head, All-tail, All-push, All-append, All-nil, All-replicate}
 use Rattle.std.proofs.lemmas.List.Concat.{flat_map-append}
-use Rattle.planar_code.specs.Stream.{IsEntry, IsList, IsRecord, IsUnfinished, NoRecordFirst, ended}
+use Rattle.planar_code.specs.Stream.{IsEntry, IsList, IsRecord, IsUnfinished, ended}
 use Rattle.planar_code.specs.Split.{BeginsWithZero}
 use Rattle.planar_code.specs.Started.{IsStarted, IsOversize}
 use Rattle.planar_code.proofs.Records.{ended_same}
@@ -151,11 +151,11 @@ started-oversize bytes left entries x more s entry full = record {
       let some = s.some in
       let longer = length-append s.current (x ∷ []) in
       let spelt : (length s.lists + left) ∷ ((flat_map ended s.lists ++ s.current) ++ ((x ∷ more) ++ later)) ≡ length r.lists ∷ (flat_map ended r.lists ++ rest)
-              = sym (ap (λ z. z ++ ((x ∷ more) ++ later)) s.spelt) ∙ sym (append_assoc bytes (x ∷ more) later) ∙ e ∙ ap (λ z. z ++ rest) r.spelt in
+      = sym (ap (λ z. z ++ ((x ∷ more) ++ later)) s.spelt) ∙ sym (append_assoc bytes (x ∷ more) later) ∙ e ∙ ap (λ z. z ++ rest) r.spelt in
       let count : length s.lists + left ≡ length r.lists = cc in
       let tails : (flat_map ended s.lists ++ s.current) ++ (x ∷ (more ++ later)) ≡ flat_map ended r.lists ++ rest = cc in
       let parts : flat_map ended s.lists ++ (run ++ (more ++ later)) ≡ flat_map ended r.lists ++ rest
-              = ap (λ z. flat_map ended s.lists ++ z) (append_assoc s.current (x ∷ []) (more ++ later)) ∙ sym (append_assoc (flat_map ended s.lists) s.current (x ∷ (more ++ later))) ∙ tails in
+      = ap (λ z. flat_map ended s.lists ++ z) (append_assoc s.current (x ∷ []) (more ++ later)) ∙ sym (append_assoc (flat_map ended s.lists) s.current (x ∷ (more ++ later))) ∙ tails in
       lists_too_long s.lists r.lists run (more ++ later) rest s.each r.each (All-push IsEntry s.current x s.current_each entry) (omega arith) (omega arith) parts;
 }
 

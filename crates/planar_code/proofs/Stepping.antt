@@ -1,14 +1,14 @@
 -- What each exit of a framer's step gives.
-use Rattle.std.proofs.Common.{◌≡◌, ◌≢◌, ℕ, suc, ◌+◌, ◌<◌, ◌≤◌, List, [], ◌∷◌, ◌++◌, length, take, drop, get_or, refl, sym, ap, subst, ◌∙◌, arith, Option, Some, None, Result, Ok, Err}
+use Rattle.std.proofs.Common.{◌≡◌, ◌≢◌, ℕ, ◌+◌, ◌<◌, List, [], ◌∷◌, ◌++◌, length, take, drop, get_or, refl, sym, ap, subst, ◌∙◌, arith, Option, Some, None, Result, Ok, Err}
 use Rattle.std.proofs.lemmas.List.{take-append-drop}
 use Rattle.planar_code.specs.declared.TheConstants.{HEADER}
 use Rattle.planar_code.specs.declared.fault.FeedFault.{FeedFault}
 use Rattle.planar_code.specs.declared.fault.FeedFault.TheVariants as fault
 use Rattle.planar_code.specs.declared.framer.Stage.{Stage}
 use Rattle.planar_code.specs.declared.framer.Stage.TheVariants as stage
-use Rattle.planar_code.specs.Stream.{IsRecord, IsUnfinished}
+use Rattle.planar_code.specs.Stream.{IsUnfinished}
 use Rattle.planar_code.specs.Scan.{TakesFrom}
-use Rattle.planar_code.specs.Place.{Place, Early, After, Failed, Goes, IsRunning, LosesRecord}
+use Rattle.planar_code.specs.Place.{Place, Early, After, Goes, IsRunning}
 use Rattle.planar_code.specs.Framer.{place_at, IsBefore}
 use Rattle.planar_code.specs.Step.{Steps}
 use Rattle.planar_code.proofs.Scanning.{take-first}
@@ -27,17 +27,23 @@ some-text text some e = omega (arith, ap length e)
 -- one byte of the header, not the last
 pub step-early : (passed records : ℕ) (rest text : List ℕ) → IsBefore (stage.Header passed) records rest → 0 < length text → (passed + 1 ≡ 15 → ⊥) → get_or text 0 0 ≡ get_or HEADER passed 0 → Steps (place_at (stage.Header passed) records rest) text (place_at (stage.Header (passed + 1)) records rest) (Ok (1, None))
 step-early passed records rest text before some short same =
-    let room = before.0 in
-    (omega arith, omega arith, early-runs (take (passed + 1) HEADER),
-      subst (λ z. Goes (Early (take passed HEADER)) z [] (Early (take (passed + 1) HEADER))) (sym (take-first text some)) (goes_early passed (get_or text 0 0) (omega (arith, short)) same))
+    let room = before.0 in (
+      omega arith,
+      omega arith,
+      early-runs (take (passed + 1) HEADER),
+      subst (λ z. Goes (Early (take passed HEADER)) z [] (Early (take (passed + 1) HEADER))) (sym (take-first text some)) (goes_early passed (get_or text 0 0) (omega (arith, short)) same),
+    )
 
 -- the last byte of the header
 pub step-headed : (passed records : ℕ) (rest text : List ℕ) → IsBefore (stage.Header passed) records rest → 0 < length text → passed + 1 ≡ 15 → get_or text 0 0 ≡ get_or HEADER passed 0 → Steps (place_at (stage.Header passed) records rest) text (place_at stage.Records records rest) (Ok (1, None))
 step-headed passed records rest text before some last same =
-    let place : After 0 [] ≡ After records rest = ap (λ n. After n []) (sym before.1) ∙ ap (λ z. After records z) (sym before.2) in
-    (omega arith, omega arith, after-runs records rest,
+    let place : After 0 [] ≡ After records rest = ap (λ n. After n []) (sym before.1) ∙ ap (λ z. After records z) (sym before.2) in (
+      omega arith,
+      omega arith,
+      after-runs records rest,
       subst (Goes (Early (take passed HEADER)) (take 1 text) []) place
-        (subst (λ z. Goes (Early (take passed HEADER)) z [] (After 0 [])) (sym (take-first text some)) (goes_headed passed (get_or text 0 0) last same)))
+          (subst (λ z. Goes (Early (take passed HEADER)) z [] (After 0 [])) (sym (take-first text some)) (goes_headed passed (get_or text 0 0) last same)),
+    )
 
 -- a byte that is not the header's
 pub step-header : (passed records : ℕ) (rest text : List ℕ) (new : Place) → IsBefore (stage.Header passed) records rest → 0 < length text → (get_or text 0 0 ≡ get_or HEADER passed 0 → ⊥) → Steps (place_at (stage.Header passed) records rest) text new (Err fault.Header)
@@ -50,16 +56,22 @@ step-many records rest text new full some = fails_many records rest text full (s
 
 -- the text ends the open record
 pub step-whole : (records : ℕ) (rest text new bytes : List ℕ) (end : ℕ) → records < 1000000 → TakesFrom rest text new (Ok (Some (bytes, end))) → Steps (After records rest) text (After (records + 1) new) (Ok (end, Some bytes))
-step-whole records rest text new bytes end room t =
-    (t.1, t.2, after-runs (records + 1) new,
-      subst (λ z. Goes (After records rest) (take end text) (bytes ∷ []) (After (records + 1) z)) (sym t.0) (goes_whole records rest (take end text) bytes room t.3 t.4))
+step-whole records rest text new bytes end room t = (
+  t.1,
+  t.2,
+  after-runs (records + 1) new,
+  subst (λ z. Goes (After records rest) (take end text) (bytes ∷ []) (After (records + 1) z)) (sym t.0) (goes_whole records rest (take end text) bytes room t.3 t.4),
+)
 
 -- the text leaves it open
 pub step-more : (records : ℕ) (rest text new : List ℕ) → records < 1000000 → 0 < length text → TakesFrom rest text new (Ok None) → Steps (After records rest) text (After records new) (Ok (length text, None))
-step-more records rest text new room some t =
-    (some, omega arith, after-runs records new,
-      subst (λ z. Goes (After records rest) z [] (After records new)) (sym (take-all text))
-        (subst (λ z. Goes (After records rest) text [] (After records z)) (sym t.1) (goes_more records rest text (λ e. omega arith) (subst IsUnfinished t.1 t.0))))
+step-more records rest text new room some t = (
+  some,
+  omega arith,
+  after-runs records new,
+  subst (λ z. Goes (After records rest) z [] (After records new)) (sym (take-all text))
+      (subst (λ z. Goes (After records rest) text [] (After records z)) (sym t.1) (goes_more records rest text (λ e. omega arith) (subst IsUnfinished t.1 t.0))),
+)
   where
     take-all : (xs : List ℕ) → take (length xs) xs ≡ xs
     take-all [] = refl
@@ -84,9 +96,9 @@ step-fault records rest text taken new fault.Many room t = absurd t
 pub at-records : (s : Stage) (count next_count : ℕ) (rest next_rest text : List ℕ) (old : Place) (result : Result (ℕ × Option (List ℕ)) FeedFault) → s ≡ stage.Records → place_at s count rest ≡ old → Steps (After count rest) text (After next_count next_rest) result → Steps old text (place_at s next_count next_rest) result
 at-records s count next_count rest next_rest text old result e view h =
     subst (λ p. Steps p text (place_at s next_count next_rest) result) view
-      (subst (λ z. Steps (place_at z count rest) text (place_at z next_count next_rest) result) (sym e) h)
+    (subst (λ z. Steps (place_at z count rest) text (place_at z next_count next_rest) result) (sym e) h)
 
 pub at-header : (s : Stage) (passed count : ℕ) (rest text : List ℕ) (old new : Place) (result : Result (ℕ × Option (List ℕ)) FeedFault) → s ≡ stage.Header passed → place_at s count rest ≡ old → Steps (place_at (stage.Header passed) count rest) text new result → Steps old text new result
 at-header s passed count rest text old new result e view h =
     subst (λ p. Steps p text new result) view
-      (subst (λ z. Steps (place_at z count rest) text new result) (sym e) h)
+    (subst (λ z. Steps (place_at z count rest) text new result) (sym e) h)

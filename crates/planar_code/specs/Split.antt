@@ -6,7 +6,7 @@ use Rattle.planar_code.specs.declared.ending.Ending.{Ending}
 use Rattle.planar_code.specs.declared.ending.Ending.TheVariants as ending
 use Rattle.planar_code.specs.declared.fault.FeedFault.{FeedFault}
 use Rattle.planar_code.specs.declared.fault.FeedFault.TheVariants as fault
-use Rattle.planar_code.specs.Stream.{IsRecord, IsUnfinished, NoRecordFirst}
+use Rattle.planar_code.specs.Stream.{IsRecord, IsUnfinished}
 
 -- the bytes after the header are cut into the longest list of whole records, at most 1,000,000 of
 -- them, and a rest

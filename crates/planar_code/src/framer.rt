@@ -124,7 +124,12 @@ impl Framer {
 
     /// Reads the next piece of the stream, and puts each record that it ends at the end of `out`, in
     /// order.
-    pub fn feed(&mut self, alloc: Global, piece: &[u8], out: &mut Vec<Record>) -> Result<(), FeedFault>
+    pub fn feed(
+        &mut self,
+        alloc: Global,
+        piece: &[u8],
+        out: &mut Vec<Record>,
+    ) -> Result<(), FeedFault>
         ensures feeds { Feeds self.old piece.now out.old.items out.new.items self.new result }
     {
         if let Stage::Failed(fault) = self.stage {

@@ -16,7 +16,12 @@ pub enum Scan {
 /// Reads on, from a place of `text`, in a record that was begun.
 ///
 /// `left` lists are not yet ended, the open one among them, which has `entries` entries so far.
-pub fn scan_lists(text: &[u8], from: usize, mut left: u8, mut entries: u8) -> Result<Scan, FeedFault>
+pub fn scan_lists(
+    text: &[u8],
+    from: usize,
+    mut left: u8,
+    mut entries: u8,
+) -> Result<Scan, FeedFault>
     requires within { from ≤ length text.now }
     requires some { 0 < left }
     requires short { entries ≤ 254 }

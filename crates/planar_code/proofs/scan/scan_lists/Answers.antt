@@ -15,12 +15,12 @@ returns-then-from-eq-MAX_LIST c = λ before started.
 
 pub loop-i-preserved : goal.loop-i-preserved
 loop-i-preserved c = elim c.if-text-i-eq0.branch [
-    then-text-i-eq0+else-left-eq1 w ↦ record {
-      some = omega (arith, w.if-left-eq1.false);
-      short = omega arith;
-      started = λ before started.
-          rw (w.left-is, w.entries-is) (scan-end before _ _ _ _ c.loop-i-test.true (c.loop-i.invariant.started before started) w.if-text-i-eq0.true (omega (arith, w.if-left-eq1.false)));
-    }
+  | then-text-i-eq0+else-left-eq1 w ↦ record {
+    some = omega (arith, w.if-left-eq1.false);
+    short = omega arith;
+    started = λ before started.
+        rw (w.left-is, w.entries-is) (scan-end before _ _ _ _ c.loop-i-test.true (c.loop-i.invariant.started before started) w.if-text-i-eq0.true (omega (arith, w.if-left-eq1.false)));
+  }
   | else-text-i-eq0+else-from-eq-MAX_LIST w ↦
       let fits = c.type_inv.text c.loop-i.i in
       let nonzero : 0 < get_or c.args.text.now c.loop-i.i 0 = omega (arith, w.if-text-i-eq0.false) in
@@ -30,4 +30,4 @@ loop-i-preserved c = elim c.if-text-i-eq0.branch [
         started = λ before started.
             rw (w.left-is, w.entries-is) (scan-entry before _ _ _ _ c.loop-i-test.true (c.loop-i.invariant.started before started) nonzero (omega (arith, fits)) (omega (arith, w.if-from-eq-MAX_LIST.false)));
       }
-  ]
+]

@@ -7,5 +7,5 @@ abbrev pub invariant-loop-i : goal.invariant-loop-i
 invariant-loop-i l = record {
   some : 0 < l.left;
   short : l.entries ≤ 254;
-  started : (before : List ℕ) → IsStarted (before ++ take l.fn.from l.text) l.fn.left l.fn.entries → IsStarted (before ++ take l.i l.text) l.left l.entries
+  started : (before : List ℕ) → IsStarted (before ++ take l.fn.from l.text) l.fn.left l.fn.entries → IsStarted (before ++ take l.i l.text) l.left l.entries;
 }

@@ -1,5 +1,5 @@
 -- With no byte of a record so far, the text begins it.
-use Rattle.std.proofs.Common.{◌≡◌, ◌<◌, List, [], ◌∷◌, ◌++◌, length, get_or, sym, ap, subst, ◌∙◌, arith}
+use Rattle.std.proofs.Common.{◌≡◌, ◌<◌, [], ◌++◌, get_or, sym, subst, ◌∙◌, arith}
 use Rattle.std.proofs.lemmas.Bool.{eqb-true}
 use Rattle.planar_code.specs.Split.{BeginsWithZero}
 use Rattle.planar_code.specs.Started.{IsStarted}
@@ -22,4 +22,4 @@ returns c =
     let nonzero : 0 < get_or c.args.text.now 0 0 = omega (arith, c.if-order-eq0.false) in
     let started = started-first (get_or c.args.text.now 0 0) nonzero (omega (arith, c.type_inv.text 0)) in
     subst (λ z. Scans z c.args.text.now c.scan_lists-2.result) none
-      (c.scan_lists-2.ensures [] (subst (λ z. IsStarted z (get_or c.args.text.now 0 0) 0) (sym (take-first c.args.text.now c.requires)) started))
+    (c.scan_lists-2.ensures [] (subst (λ z. IsStarted z (get_or c.args.text.now 0 0) 0) (sym (take-first c.args.text.now c.requires)) started))
