@@ -13,6 +13,9 @@ pub record Map : Type 0 where
   pub faces : ℕ
   pub outer : ℕ
 
+abbrev pub map_of : List (List ℕ) → List ℕ → ℕ → ℕ → Map
+map_of lists face faces outer = record { lists = lists; face = face; faces = faces; outer = outer }
+
 abbrev pub vertices : Map → ℕ
 vertices p = length p.lists
 

@@ -27,23 +27,14 @@ pub struct Plane {
 
 impl Model for Plane {
     ghost use Rattle.std.specs.Prelude.{vec_len};
-    ghost use Rattle.faces.specs.Map.{Map, IsKept};
+    ghost use Rattle.faces.specs.Map.{Map, IsKept, map_of};
 
     ghost Value = { Map };
 
-    ghost view = { λ p. record {
-      lists = p.graph;
-      face = p.faces.items;
-      faces = vec_len p.degrees;
-      outer = p.outer;
-    } };
+    ghost view = { λ p. map_of p.graph p.faces.items (vec_len p.degrees) p.outer };
 
-    ghost invariant = { λ p. IsKept (record {
-      lists = p.graph;
-      face = p.faces.items;
-      faces = vec_len p.degrees;
-      outer = p.outer;
-    }) p.degrees.items };
+    ghost invariant = { λ p.
+        IsKept (map_of p.graph p.faces.items (vec_len p.degrees) p.outer) p.degrees.items };
 }
 
 /// Why a graph gives no plane. It hands the graph back as it was.
