@@ -55,3 +55,39 @@ flushed_stays old new waiting waits failed (Ok x) w e =
     })
 flushed_stays old new waiting waits failed (Err Write) w e = (w.0, λ start text way. sent_front start old new waiting text [] way w.1)
 flushed_stays old new waiting waits failed (Err Memory) w e = w
+
+-- there was no room for a line
+pub room_fails : (old new : Option (List ℕ)) (waited waits : List ℕ) (failed : Bool) (more : List ℕ) (e : WriteFault) (r : Result (Unit {0}) WriteFault)
+    → StaysOnItsWay {A = Unit {0}} old waited new waits failed [] (Err e) → r ≡ Err e → StaysOnItsWay old waited new waits failed more r
+room_fails old new waited waits failed more Write r stays is =
+    subst (StaysOnItsWay {A = Unit {0}} old waited new waits failed more) (sym is)
+    (stays.0, λ start text way. let f = stays.1 start text way in
+      (f.0, f.1 ++ more, ap (λ l. l ++ more) (sym (append-nil text) ∙ f.2) ∙ append_assoc f.0 f.1 more, f.3))
+room_fails old new waited waits failed more Memory r stays is = absurd stays
+
+-- there was room for a line, which was added to what waits
+pub line_waits : (old new : Option (List ℕ)) (waited mid waits : List ℕ) (failed : Bool) (more : List ℕ) (a b : Unit {0})
+    → StaysOnItsWay old waited new mid failed [] (Ok a) → waits ≡ mid ++ more → StaysOnItsWay old waited new waits failed more (Ok b)
+line_waits old new waited mid waits failed more a b stays e = (stays.0, λ start text way. let w = stays.1 start text way in record {
+      sent = w.sent;
+      split = ap (λ l. l ++ more) (sym (append-nil text) ∙ w.split) ∙ append_assoc w.sent mid more ∙ ap (λ l. w.sent ++ l) (sym e);
+      added = w.added
+    })
+
+-- a line was not added whole: what was added is a front of any text that goes on from that line
+pub line_fails : (start old new : Option (List ℕ)) (waited waits : List ℕ) (failed : Bool) (text more rest whole : List ℕ) (e : WriteFault) (r : Result (Unit {0}) WriteFault)
+    → IsOnItsWay start old waited text → StaysOnItsWay {A = Unit {0}} old waited new waits failed more (Err e) → whole ≡ (text ++ more) ++ rest → r ≡ Err e
+    → Writes start new failed whole r
+line_fails start old new waited waits failed text more rest whole Write r way stays split is =
+    subst (Writes {A = Unit {0}} start new failed whole) (sym is)
+    (stays.0, let f = stays.1 start text way in (f.0, f.1 ++ rest, split ∙ ap (λ l. l ++ rest) f.2 ∙ append_assoc f.0 f.1 rest, f.3))
+line_fails start old new waited waits failed text more rest whole Memory r way stays split is = absurd stays
+
+-- what waited was put, and with it the whole text
+pub flushed_whole : (start old new : Option (List ℕ)) (waiting : List ℕ) (failed : Bool) (text : List ℕ) (r : Result (Unit {0}) WriteFault)
+    → IsOnItsWay start old waiting text → Writes old new failed waiting r → Writes start new failed text r
+flushed_whole start old new waiting failed text (Ok x) way w =
+    (w.0, subst (Appends start new) (sym way.split) (added_both start old new way.sent waiting way.added w.1))
+flushed_whole start old new waiting failed text (Err Write) way w =
+    (w.0, let f = sent_front start old new waiting text [] way w.1 in (f.0, f.1, sym (append-nil text) ∙ f.2, f.3))
+flushed_whole start old new waiting failed text (Err Memory) way w = w

@@ -1,2 +1,5 @@
 pub mod Tap
 pub mod Sink
+pub mod Found
+pub mod Marks
+pub mod Text

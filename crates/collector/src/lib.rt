@@ -2,11 +2,14 @@
 #![tactic(auto)]
 
 mod faults;
+mod found;
 mod gather;
 mod input;
-
 mod output;
+mod report;
 
 pub use faults::{BatchFault, WriteFault};
+pub use found::{Frames, Mark};
 pub use input::{Tap, TapFault};
 pub use output::{IoSink, Sink, SinkFault};
+pub use report::write_frames;
