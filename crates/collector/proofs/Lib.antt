@@ -1,2 +1,4 @@
 pub mod Lines
+pub mod Marks
+pub mod Pieces
 pub mod Sinks

@@ -2,4 +2,5 @@ pub mod Tap
 pub mod Sink
 pub mod Found
 pub mod Marks
+pub mod Reading
 pub mod Text

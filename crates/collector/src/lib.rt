@@ -6,10 +6,14 @@ mod found;
 mod gather;
 mod input;
 mod output;
+mod reading;
 mod report;
+mod run;
 
 pub use faults::{BatchFault, WriteFault};
 pub use found::{Frames, Mark};
+pub use gather::put_all;
 pub use input::{Tap, TapFault};
 pub use output::{IoSink, Sink, SinkFault};
 pub use report::write_frames;
+pub use run::run_frames;

@@ -1,0 +1,37 @@
+//! `planarbend`: cuts planar_code files into records.
+#![tactic(auto)]
+
+mod command;
+mod faults;
+mod line;
+mod source;
+mod words;
+
+use collector::IoSink;
+use faults::Fault;
+use std::env;
+use std::io;
+use std::io::ErrorKind;
+use std::process::ExitCode;
+
+fn main(rt: HostRuntime) -> ExitCode {
+    let mut out = IoSink::new(io::writer(&rt));
+    let mut err = IoSink::new(rt.stderr());
+    let status = match arguments(&rt) {
+        Ok(words) => command::command(&rt, words.as_slice(), &mut out, &mut err),
+        Err(fault) => {
+            line::report(fault, &mut err);
+            fault.status()
+        }
+    };
+    ExitCode::from(status)
+}
+
+/// The words after the program's name.
+fn arguments<R: env::Env + AllocGlobal>(rt: &R) -> Result<Vec<String>, Fault> {
+    let all = env::args(rt).map_err(|error| match error.kind() {
+        ErrorKind::InvalidData => Fault::NotText,
+        _ => Fault::Memory,
+    })?;
+    all.skip(1).collect(rt.alloc()).map_err(|_| Fault::Memory)
+}
