@@ -5,9 +5,6 @@ use Rattle.collector.proofs.reading.read_all.Goals as goal
 pub returns-in-Err : goal.returns-in-Err
 returns-in-Err g c = found_nothing _ _ _ c.requires.none
 
-pub finish-requires : goal.finish-requires
-finish-requires g c = ?
-
 pub loop-init : goal.loop-init
 loop-init g c = record {
   room = c.requires.room;
