@@ -1,5 +1,5 @@
 -- The lines of a list of records, in parts.
-use Rattle.std.proofs.Common.{◌≡◌, ℕ, ◌+◌, ◌<◌, ◌≤◌, List, [], ◌∷◌, ◌++◌, length, take, drop, get_or, refl, sym, ◌∙◌, ap, append_assoc, append-nil, arith}
+use Rattle.std.proofs.Common.{◌≡◌, ℕ, ◌+◌, ◌<◌, ◌≤◌, List, [], ◌∷◌, ◌++◌, length, take, drop, get_or, sym, ◌∙◌, ap, append_assoc, append-nil, arith}
 use Rattle.std.proofs.lemmas.List.{take-append-drop, take_more, length-take, take_all}
 use Rattle.collector.specs.declared.found.Mark.{Mark}
 use Rattle.collector.specs.Found.{Found}
@@ -23,9 +23,10 @@ record_lines-next xs i d below =
 
 -- the lines of the first records are a front of all
 pub record_lines-front : (xs : List (List ℕ)) (i : ℕ) → (rest : List ℕ) × (record_lines 1 xs ≡ record_lines 1 (take i xs) ++ rest)
-record_lines-front xs i =
-    (record_lines (1 + length (take i xs)) (drop i xs),
-    ap (record_lines 1) (sym (take-append-drop i xs)) ∙ record_lines-append 1 (take i xs) (drop i xs))
+record_lines-front xs i = (
+  record_lines (1 + length (take i xs)) (drop i xs),
+  ap (record_lines 1) (sym (take-append-drop i xs)) ∙ record_lines-append 1 (take i xs) (drop i xs),
+)
 
 -- the lines of the records before one, its line, and what follows
 pub record_lines-at : (xs : List (List ℕ)) (i : ℕ) (x tail : List ℕ) → i < length xs → x ≡ get_or xs i x

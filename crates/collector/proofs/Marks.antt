@@ -1,11 +1,11 @@
 -- What a framer's place says of the marks of a source.
-use Rattle.std.proofs.Common.{◌≡◌, ◌≢◌, ◌⊎◌, ℕ, ◌≤◌, List, [], ◌∷◌, ◌++◌, inl, inr, length, refl, sym, ap, subst, ◌∙◌, append_assoc, append-nil, arith}
+use Rattle.std.proofs.Common.{◌≡◌, ◌≢◌, ◌⊎◌, ℕ, List, [], ◌∷◌, ◌++◌, inl, inr, length, refl, sym, ap, subst, ◌∙◌, append_assoc, append-nil}
 use Rattle.planar_code.specs.declared.TheConstants.{HEADER}
 use Rattle.planar_code.specs.declared.ending.Ending.{Ending}
 use Rattle.planar_code.specs.declared.ending.Ending.TheVariants as ending
 use Rattle.planar_code.specs.declared.fault.FeedFault.{FeedFault}
 use Rattle.planar_code.specs.declared.fault.FeedFault.TheVariants as fault
-use Rattle.planar_code.specs.Split.{IsSplit, IsSplitAfterHeader, IsHeaderless, IsOpen, EndsAs, ending_of}
+use Rattle.planar_code.specs.Split.{IsSplit, IsHeaderless, IsOpen, EndsAs, ending_of}
 use Rattle.planar_code.specs.Place.{Place, Early, After, Failed, StandsAt, StandsEarly, StandsAfter, IsRunning}
 use Rattle.planar_code.proofs.Records.{nothing_after}
 use Rattle.planar_code.proofs.Cuts.{front_of-cut}
@@ -16,11 +16,11 @@ use Rattle.collector.specs.Marks.{IsBeginningOf}
 early_headerless : (text : List ℕ) (records : List (List ℕ)) (front : List ℕ) → StandsEarly text records front → IsHeaderless text records ending.Header
 early_headerless text records front s = record {
   header = λ body e.
-    let both : (HEADER ++ body) ++ s.missing ≡ HEADER = ap (λ l. l ++ s.missing) (sym e ∙ s.same) ∙ s.whole in
-    let none : body ++ s.missing ≡ [] = body_same (body ++ s.missing) [] (sym (append_assoc HEADER body s.missing) ∙ both ∙ sym (append-nil HEADER)) in
-    s.more (nothing_after body s.missing (sym none));
+      let both : (HEADER ++ body) ++ s.missing ≡ HEADER = ap (λ l. l ++ s.missing) (sym e ∙ s.same) ∙ s.whole in
+      let none : body ++ s.missing ≡ [] = body_same (body ++ s.missing) [] (sym (append_assoc HEADER body s.missing) ∙ both ∙ sym (append-nil HEADER)) in
+      s.more (nothing_after body s.missing (sym none));
   none = s.none;
-  ends = refl
+  ends = refl;
 }
 
 -- after whole records a stream ends complete, or in the next one
@@ -34,7 +34,7 @@ after_ends text records count (x ∷ rest) s =
       rest = x ∷ rest;
       headed = s.headed;
       cut = s.cut;
-      ends = (s.open_record, some, λ full. some (s.full (sym s.counted ∙ full)))
+      ends = (s.open_record, some, λ full. some (s.full (sym s.counted ∙ full)));
     }))
 
 -- the stream so far has the records that it led to

@@ -1,20 +1,19 @@
 -- What one more piece of a source leads to.
-use Rattle.std.proofs.Common.{◌≡◌, ◌≢◌, ◌⊎◌, ℕ, Bool, true, false, List, [], ◌∷◌, ◌++◌, Option, None, Some, Result, Ok, Err, inl, inr, take, refl, sym, ap, subst, ◌∙◌, append_assoc, append-nil}
+use Rattle.std.proofs.Common.{◌≡◌, ◌≢◌, ℕ, Bool, true, false, List, [], ◌∷◌, ◌++◌, Option, None, Some, Ok, Err, inl, inr, refl, sym, ap, subst, ◌∙◌, append_assoc, append-nil}
 use Rattle.std.specs.Io.KnownBytes.{Consumes}
 use Rattle.planar_code.specs.declared.TheConstants.{HEADER}
 use Rattle.planar_code.specs.declared.ending.Ending.{Ending}
 use Rattle.planar_code.specs.declared.ending.Ending.TheVariants as ending
 use Rattle.planar_code.specs.declared.fault.FeedFault.{FeedFault}
 use Rattle.planar_code.specs.declared.fault.FeedFault.TheVariants as fault
-use Rattle.planar_code.specs.Split.{IsSplit, IsOpen, ending_of}
-use Rattle.planar_code.specs.Place.{Place, Early, Failed, StandsAt, Goes, IsRunning, LosesRecord, Reads, Feeds}
+use Rattle.planar_code.specs.Split.{IsSplit, ending_of}
+use Rattle.planar_code.specs.Place.{Place, Early, Failed, StandsAt, Goes, LosesRecord, Feeds}
 use Rattle.planar_code.proofs.Splits.{split_same}
 use Rattle.collector.specs.declared.found.Mark.{Mark}
 use Rattle.collector.specs.declared.found.Mark.TheVariants as mark
-use Rattle.collector.specs.declared.reading.Step.TheVariants as step
 use Rattle.collector.specs.Tap.{IsAtItsEnd, IsAtItsFailure}
-use Rattle.collector.specs.Marks.{IsMarked, IsCutShort, IsBeginningOf}
-use Rattle.collector.specs.Reading.{IsToldOf, IsFoundIn, IsBeingRead, IsReadToItsEnd, LeadsTo}
+use Rattle.collector.specs.Marks.{IsMarked, IsCutShort}
+use Rattle.collector.specs.Reading.{IsToldOf, IsFoundIn, IsBeingRead, IsReadToItsEnd}
 use Rattle.collector.proofs.Marks.{split_stands, open_stands, failed_not_open, beginning_stands}
 
 -- nothing was given
@@ -69,7 +68,7 @@ pub read_to_its_end : (told to_come : Option (List ℕ)) (told_fails fails : Boo
 read_to_its_end told to_come told_fails fails records place r at = record {
   read = r.read;
   gave = told_at_end told to_come told_fails fails r.read r.took r.same at;
-  stands = r.stands
+  stands = r.stands;
 }
 
 -- the source failed
@@ -79,7 +78,7 @@ found_failed told to_come told_fails fails records place r at = record {
   bytes = r.read;
   fails = true;
   gave = told_at_failure told to_come told_fails fails r.read r.took r.same at;
-  marked = ((refl, open_stands r.read records place r.stands r.running), split_stands r.read records place r.stands)
+  marked = ((refl, open_stands r.read records place r.stands r.running), split_stands r.read records place r.stands);
 }
 
 -- the framer took the piece
@@ -91,8 +90,8 @@ read_more told before after told_fails fails now_fails earlier old new place now
   took = consumed_both told before after r.read piece r.took took;
   same = same ∙ r.same;
   stands = subst (λ rs. StandsAt (r.read ++ piece) rs now_place) (append_assoc earlier old f.added ∙ ap (λ rs. earlier ++ rs) (sym f.appended))
-  (f.reads.1 r.read (earlier ++ old) r.stands);
-  running = f.reads.0
+      (f.reads.1 r.read (earlier ++ old) r.stands);
+  running = f.reads.0;
 }
 
 -- a fault of the bytes, however they go on
@@ -109,7 +108,7 @@ found_faulted told before after told_fails fails earlier old new place piece f r
       bytes = (r.read ++ piece) ++ so_far.0;
       fails = so_far.1;
       gave = so_far.2;
-      marked = marked_split _ so_far.1 _ (ending_of f) (λ cut. failed_not_open (r.read ++ piece) so_far.0 (earlier ++ new) f stands cut.1) (stands so_far.0)
+      marked = marked_split _ so_far.1 _ (ending_of f) (λ cut. failed_not_open (r.read ++ piece) so_far.0 (earlier ++ new) f stands cut.1) (stands so_far.0);
     }
 
 -- want of memory for one more record
@@ -127,9 +126,9 @@ found_wanting told before after told_fails fails earlier old new place piece r t
       fails = so_far.1;
       gave = so_far.2;
       marked = λ all end split.
-      let b = beginning_stands (r.read ++ loses.front) (loses.back ++ so_far.0) _ loses.next stands all end (subst (λ t. IsSplit t all end) bytes split) in
-      let regrouped : ((earlier ++ old) ++ (added ++ loses.lost ∷ [])) ++ b.0 ≡ (earlier ++ (old ++ added)) ++ (loses.lost ∷ b.0) = simp append_assoc in
-      (loses.lost ∷ b.0, b.1 ∙ regrouped ∙ ap (λ rs. (earlier ++ rs) ++ (loses.lost ∷ b.0)) (sym appended))
+          let b = beginning_stands (r.read ++ loses.front) (loses.back ++ so_far.0) _ loses.next stands all end (subst (λ t. IsSplit t all end) bytes split) in
+          let regrouped : ((earlier ++ old) ++ (added ++ loses.lost ∷ [])) ++ b.0 ≡ (earlier ++ (old ++ added)) ++ (loses.lost ∷ b.0) = simp append_assoc in
+          (loses.lost ∷ b.0, b.1 ∙ regrouped ∙ ap (λ rs. (earlier ++ rs) ++ (loses.lost ∷ b.0)) (sym appended));
     }
 
 -- the framer read no further
@@ -158,7 +157,7 @@ found_nothing told told_fails records none =
       bytes = so_far.0;
       fails = so_far.1;
       gave = so_far.2;
-      marked = λ all end split. (all, ap (λ rs. rs ++ all) (sym none))
+      marked = λ all end split. (all, ap (λ rs. rs ++ all) (sym none));
     }
 
 -- the framer's ending is the source's
@@ -168,7 +167,7 @@ found_ended told told_fails records place end r finish = record {
   bytes = r.read;
   fails = false;
   gave = r.gave;
-  marked = marked_split r.read false records end (λ cut. let never : false ≡ true = cut.0 in (cc)) (finish r.read records r.stands)
+  marked = marked_split r.read false records end (λ cut. let never : false ≡ true = cut.0 in (cc)) (finish r.read records r.stands);
 }
 
 -- before the first read
@@ -182,7 +181,7 @@ nothing_read told told_fails records place none is =
       took = consumed_none told;
       same = refl;
       stands = subst (StandsAt [] records) (sym is) stands;
-      running = λ f e. let both : Early [] ≡ Failed f = sym is ∙ e in cc
+      running = λ f e. let both : Early [] ≡ Failed f = sym is ∙ e in cc;
     }
 
 -- a source that told its bytes gave these

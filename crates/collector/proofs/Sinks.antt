@@ -1,5 +1,5 @@
 -- Texts that reach a sink in parts.
-use Rattle.std.proofs.Common.{◌≡◌, ℕ, ◌+◌, Bool, true, false, List, [], ◌++◌, Option, None, Some, Result, Ok, Err, take, drop, refl, subst, sym, ◌∙◌, ap, append_assoc, append-nil, OnOk, arith}
+use Rattle.std.proofs.Common.{◌≡◌, ℕ, ◌+◌, Bool, List, [], ◌++◌, Option, None, Some, Result, Ok, Err, take, drop, subst, sym, ◌∙◌, ap, append_assoc, append-nil, OnOk, arith}
 use Rattle.std.proofs.lemmas.List.{drop-take, take-append-drop, take-take}
 use Rattle.std.specs.Io.KnownBytes.{Appends, Keeps}
 use Rattle.collector.specs.declared.faults.WriteFault.{WriteFault}
@@ -47,12 +47,14 @@ sent_front start now after waiting text more w f =
 -- all that waits was put
 pub flushed_stays : {A : Type 0} (old new : Option (List ℕ)) (waiting waits : List ℕ) (failed : Bool) (r : Result A WriteFault)
     → Writes old new failed waiting r → OnOk r (waits ≡ []) → StaysOnItsWay old waiting new waits failed [] r
-flushed_stays old new waiting waits failed (Ok x) w e =
-    (w.0, λ start text way. record {
-      sent = text;
-      split = ap (λ l. text ++ l) (sym e);
-      added = subst (Appends start new) (sym way.split) (added_both start old new way.sent waiting way.added w.1)
-    })
+flushed_stays old new waiting waits failed (Ok x) w e = (
+  w.0,
+  λ start text way. record {
+    sent = text;
+    split = ap (λ l. text ++ l) (sym e);
+    added = subst (Appends start new) (sym way.split) (added_both start old new way.sent waiting way.added w.1);
+  },
+)
 flushed_stays old new waiting waits failed (Err Write) w e = (w.0, λ start text way. sent_front start old new waiting text [] way w.1)
 flushed_stays old new waiting waits failed (Err Memory) w e = w
 
@@ -60,19 +62,24 @@ flushed_stays old new waiting waits failed (Err Memory) w e = w
 pub room_fails : (old new : Option (List ℕ)) (waited waits : List ℕ) (failed : Bool) (more : List ℕ) (e : WriteFault) (r : Result (Unit {0}) WriteFault)
     → StaysOnItsWay {A = Unit {0}} old waited new waits failed [] (Err e) → r ≡ Err e → StaysOnItsWay old waited new waits failed more r
 room_fails old new waited waits failed more Write r stays is =
-    subst (StaysOnItsWay {A = Unit {0}} old waited new waits failed more) (sym is)
-    (stays.0, λ start text way. let f = stays.1 start text way in
-      (f.0, f.1 ++ more, ap (λ l. l ++ more) (sym (append-nil text) ∙ f.2) ∙ append_assoc f.0 f.1 more, f.3))
+    subst (StaysOnItsWay {A = Unit {0}} old waited new waits failed more) (sym is) (
+      stays.0,
+      λ start text way. let f = stays.1 start text way in
+          (f.0, f.1 ++ more, ap (λ l. l ++ more) (sym (append-nil text) ∙ f.2) ∙ append_assoc f.0 f.1 more, f.3),
+    )
 room_fails old new waited waits failed more Memory r stays is = absurd stays
 
 -- there was room for a line, which was added to what waits
 pub line_waits : (old new : Option (List ℕ)) (waited mid waits : List ℕ) (failed : Bool) (more : List ℕ) (a b : Unit {0})
     → StaysOnItsWay old waited new mid failed [] (Ok a) → waits ≡ mid ++ more → StaysOnItsWay old waited new waits failed more (Ok b)
-line_waits old new waited mid waits failed more a b stays e = (stays.0, λ start text way. let w = stays.1 start text way in record {
-      sent = w.sent;
-      split = ap (λ l. l ++ more) (sym (append-nil text) ∙ w.split) ∙ append_assoc w.sent mid more ∙ ap (λ l. w.sent ++ l) (sym e);
-      added = w.added
-    })
+line_waits old new waited mid waits failed more a b stays e = (
+  stays.0,
+  λ start text way. let w = stays.1 start text way in record {
+    sent = w.sent;
+    split = ap (λ l. l ++ more) (sym (append-nil text) ∙ w.split) ∙ append_assoc w.sent mid more ∙ ap (λ l. w.sent ++ l) (sym e);
+    added = w.added;
+  },
+)
 
 -- a line was not added whole: what was added is a front of any text that goes on from that line
 pub line_fails : (start old new : Option (List ℕ)) (waited waits : List ℕ) (failed : Bool) (text more rest whole : List ℕ) (e : WriteFault) (r : Result (Unit {0}) WriteFault)

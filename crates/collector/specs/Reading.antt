@@ -1,7 +1,6 @@
 -- How a source is read, piece by piece.
-use Rattle.std.specs.Prelude.{◌≡◌, ℕ, Bool, false, List, [], ◌++◌, Option, None, Some, ⊤}
+use Rattle.std.specs.Prelude.{◌≡◌, ℕ, Bool, false, List, ◌++◌, Option, None, Some, ⊤}
 use Rattle.std.specs.Io.KnownBytes.{Consumes}
-use Rattle.planar_code.specs.declared.ending.Ending.{Ending}
 use Rattle.planar_code.specs.Split.{ending_of}
 use Rattle.planar_code.specs.Place.{Place, StandsAt, IsRunning}
 use Rattle.collector.specs.declared.found.Mark.{Mark}

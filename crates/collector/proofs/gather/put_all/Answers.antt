@@ -1,4 +1,4 @@
-use Rattle.std.proofs.Common.{arith, ◌≡◌, ◌≤◌, ◌+◌, ◌-◌, length, sym, ◌∙◌, take, drop, length-drop}
+use Rattle.std.proofs.Common.{arith, ◌≤◌, length, sym, ◌∙◌, take, drop, length-drop}
 use Rattle.std.proofs.lemmas.List.{take-append-drop, take_rest}
 use Rattle.collector.proofs.Sinks.{added_next, added_kept}
 use Rattle.collector.proofs.gather.put_all.Goals as goal
@@ -11,10 +11,16 @@ loop-at-preserved g c =
     record {
       in_range = omega (arith, length-drop at text);
       whole = c.in-Ok.ensures.stays ∙ c.loop-at.invariant.whole;
-      added = added_next _ _ _ text at c.in-Ok.count c.loop-at.invariant.added (rw (take_rest text at) at c.in-Ok.ensures.takes)
+      added = added_next _ _ _ text at c.in-Ok.count c.loop-at.invariant.added (rw (take_rest text at) at c.in-Ok.ensures.takes);
     }
 
 pub returns-in-Err : goal.returns-in-Err
-returns-in-Err g c =
-    (c.in-Err.ensures.fails, (take c.loop-at.at c.args.text.now, drop c.loop-at.at c.args.text.now, sym (take-append-drop c.loop-at.at c.args.text.now),
-    added_kept _ _ _ _ c.loop-at.invariant.added c.in-Err.ensures.fault))
+returns-in-Err g c = (
+  c.in-Err.ensures.fails,
+  (
+    take c.loop-at.at c.args.text.now,
+    drop c.loop-at.at c.args.text.now,
+    sym (take-append-drop c.loop-at.at c.args.text.now),
+    added_kept _ _ _ _ c.loop-at.invariant.added c.in-Err.ensures.fault,
+  ),
+)

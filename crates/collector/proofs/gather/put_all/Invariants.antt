@@ -6,7 +6,7 @@ abbrev pub invariant-loop-at : goal.invariant-loop-at
 invariant-loop-at g l = record {
   in_range : l.at ≤ length l.text;
   whole : g.S.Sink.failed l.sink ≡ false;
-  added : Appends (g.S.Sink.taken l.initial.sink) (g.S.Sink.taken l.sink) (take l.at l.text)
+  added : Appends (g.S.Sink.taken l.initial.sink) (g.S.Sink.taken l.sink) (take l.at l.text);
 }
 
 abbrev pub decreases-loop-at : goal.decreases-loop-at

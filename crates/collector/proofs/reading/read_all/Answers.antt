@@ -1,4 +1,4 @@
-use Rattle.std.proofs.Common.{◌≡◌, List, [], arith}
+use Rattle.std.proofs.Common.{[], arith}
 use Rattle.collector.proofs.Pieces.{nothing_read, found_nothing, found_ended}
 use Rattle.collector.proofs.reading.read_all.Goals as goal
 
@@ -8,7 +8,7 @@ returns-in-Err g c = found_nothing _ _ _ c.requires.none
 pub loop-init : goal.loop-init
 loop-init g c = record {
   room = c.requires.room;
-  being_read = nothing_read _ _ _ _ c.requires.none c.in-Ok.ensures
+  being_read = nothing_read _ _ _ _ c.requires.none c.in-Ok.ensures.early;
 }
 
 pub returns-in-Ended : goal.returns-in-Ended
@@ -23,5 +23,5 @@ returns-in-Stopped g c = rw c.from.ensures (c.in-Stopped.ensures _ _ [] c.loop.i
 pub loop-preserved : goal.loop-preserved
 loop-preserved g c = record {
   room = omega (arith, c.loop.invariant.room, c.read_piece.auto.buffer);
-  being_read = c.in-More.ensures _ _ [] c.loop.invariant.being_read
+  being_read = c.in-More.ensures _ _ [] c.loop.invariant.being_read;
 }

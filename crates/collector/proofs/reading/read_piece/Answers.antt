@@ -1,4 +1,3 @@
-use Rattle.std.proofs.Common.{◌≡◌, List, ◌++◌}
 use Rattle.collector.proofs.Pieces.{read_more, found_stopped, found_failed}
 use Rattle.collector.proofs.reading.read_piece.Goals as goal
 

@@ -1,4 +1,4 @@
-use Rattle.std.proofs.Common.{◌≡◌, Result, Err, subst}
+use Rattle.std.proofs.Common.{◌≡◌, Err, subst}
 use Rattle.std.proofs.lemmas.Result.{err_from_is_err_and}
 use Rattle.collector.specs.declared.faults.WriteFault.{WriteFault}
 use Rattle.collector.proofs.Sinks.{room_fails}

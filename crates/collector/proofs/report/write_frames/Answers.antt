@@ -1,4 +1,4 @@
-use Rattle.std.proofs.Common.{◌≡◌, ◌+◌, ◌<◌, ◌≤◌, ℕ, List, [], ◌++◌, Result, Err, length, take, refl, subst, sym, ◌∙◌, ap, append-nil}
+use Rattle.std.proofs.Common.{◌≡◌, ◌+◌, ℕ, List, [], ◌++◌, Err, length, take, refl, subst, sym, ◌∙◌, ap, append-nil}
 use Rattle.std.proofs.lemmas.Result.{err_from_is_err_and}
 use Rattle.collector.specs.declared.faults.WriteFault.{WriteFault}
 use Rattle.collector.specs.Sink.{IsOnItsWay}
@@ -31,7 +31,7 @@ loop-index-preserved g c =
     record {
       whole = c.in_ok-write_record.ensures.0;
       on_its_way = subst (λ (text : List ℕ). IsOnItsWay (g.S.Sink.taken c.args.sink.now) (g.S.Sink.taken c.write_record.new.sink) c.write_record.new.lines text) next
-      (c.in_ok-write_record.ensures.1 _ _ c.loop-index.invariant.on_its_way)
+          (c.in_ok-write_record.ensures.1 _ _ c.loop-index.invariant.on_its_way);
     }
 
 pub returns-in_err-write_end : goal.returns-in_err-write_end

@@ -6,5 +6,5 @@ use Rattle.collector.proofs.report.write_frames.Given as goal
 abbrev pub invariant-loop-index : goal.invariant-loop-index
 invariant-loop-index g l = record {
   whole : g.S.Sink.failed l.sink ≡ false;
-  on_its_way : IsOnItsWay (g.S.Sink.taken l.initial.sink) (g.S.Sink.taken l.sink) l.lines (record_lines 1 (take l.index l.records))
+  on_its_way : IsOnItsWay (g.S.Sink.taken l.initial.sink) (g.S.Sink.taken l.sink) l.lines (record_lines 1 (take l.index l.records));
 }

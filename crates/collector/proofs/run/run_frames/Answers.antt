@@ -1,4 +1,3 @@
-use Rattle.std.proofs.Common.{◌≡◌, ℕ, Bool, List, Option, Some, subst, sym}
 use Rattle.collector.proofs.Pieces.{found_told, found_untold}
 use Rattle.collector.proofs.run.run_frames.Goals as goal
 
