@@ -9,10 +9,9 @@ mod words;
 
 use collector::IoSink;
 use faults::Fault;
-use std::env;
-use std::io;
 use std::io::ErrorKind;
 use std::process::ExitCode;
+use std::{env, io};
 
 fn main(rt: HostRuntime) -> ExitCode {
     let mut out = IoSink::new(io::writer(&rt));
