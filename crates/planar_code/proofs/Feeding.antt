@@ -1,14 +1,17 @@
 -- What a framer's place says of its stream: how the stream splits, and whether it is open.
-use Rattle.std.proofs.Common.{◌≡◌, ◌≢◌, ℕ, ◌≤◌, List, [], ◌∷◌, ◌++◌, inl, inr, length, refl, sym, ap, subst, ◌∙◌, arith, append_assoc, append-nil}
+use Rattle.std.proofs.Common.{◌≡◌, ◌≢◌, ℕ, ◌+◌, ◌≤◌, List, [], ◌∷◌, ◌++◌, inl, inr, length, refl, sym, ap, subst, ◌∙◌, arith, append_assoc, append-nil, length-append, Result, Ok, Err, IsOk, ◌↔◌}
+use Rattle.std.specs.List.{concat}
+use Rattle.std.proofs.lemmas.Bool.{false≢true}
 use Rattle.planar_code.specs.declared.TheConstants.{HEADER}
 use Rattle.planar_code.specs.declared.ending.Ending.{Ending}
 use Rattle.planar_code.specs.declared.ending.Ending.TheVariants as ending
 use Rattle.planar_code.specs.declared.fault.FeedFault.{FeedFault}
 use Rattle.planar_code.specs.declared.fault.FeedFault.TheVariants as fault
 use Rattle.planar_code.specs.Split.{IsSplit, IsOpen, ending_of}
-use Rattle.planar_code.specs.Place.{Place, Early, After, Failed, StandsAt, IsRunning}
+use Rattle.planar_code.specs.Place.{Place, Early, After, Failed, StandsAt, IsRunning, LosesRecord, Reads, Feeds, HasMore, beyond}
 use Rattle.planar_code.proofs.Records.{nothing_after}
-use Rattle.planar_code.proofs.Splits.{split_same}
+use Rattle.planar_code.proofs.Cuts.{front_of-cut}
+use Rattle.planar_code.proofs.Splits.{split_same, body_same}
 use Rattle.planar_code.proofs.Going.{standing-header}
 
 -- a beginning of the header is no whole header
@@ -83,3 +86,82 @@ pub length-standing : (p : Place) (stream : List ℕ) (records : List (List ℕ)
 length-standing (Early front) stream records s = omega (arith, ap length s.none)
 length-standing (After count rest) stream records s = s.cut.few
 length-standing (Failed f) stream records s = length-split stream records (ending_of f) (split-failed stream records f s)
+
+-- the records so far begin those of the stream, however it goes on
+pub standing-front : (p : Place) (stream : List ℕ) (records : List (List ℕ)) → StandsAt stream records p → (more : List ℕ) (all : List (List ℕ)) (end : Ending) → IsSplit (stream ++ more) all end → (later : List (List ℕ)) × (all ≡ records ++ later)
+standing-front (Early front) stream records s more all end split = (all, ap (λ z. z ++ all) (sym s.none))
+standing-front (After count rest) stream records s more all end (inl h) =
+    absurd (h.header (s.body ++ more) (ap (λ z. z ++ more) s.headed ∙ append_assoc HEADER s.body more))
+standing-front (After count rest) stream records s more all end (inr h) =
+    let body : h.body ≡ s.body ++ more
+    = body_same h.body (s.body ++ more) (sym h.headed ∙ ap (λ z. z ++ more) s.headed ∙ append_assoc HEADER s.body more) in
+    front_of-cut h.body all h.rest h.cut records (rest ++ more) (body ∙ ap (λ z. z ++ more) s.cut.joined ∙ append_assoc (concat records) rest more) s.cut.each s.cut.few
+standing-front (Failed f) stream records s more all end split =
+    ([], (split_same (stream ++ more) all records end (ending_of f) split (s more)).0 ∙ sym (append-nil records))
+
+-- what was lost is a record of the stream
+pub more-lost : (old : Place) (piece : List ℕ) (added : List (List ℕ)) → LosesRecord old piece added → (stream : List ℕ) (records : List (List ℕ)) → StandsAt stream records old → HasMore (stream ++ piece) (records ++ added)
+more-lost old piece added h stream records s more all end split =
+    let bytes : (stream ++ piece) ++ more ≡ (stream ++ h.front) ++ (h.back ++ more)
+    = ap (λ z. (stream ++ z) ++ more) h.parts ∙ ap (λ z. z ++ more) (sym (append_assoc stream h.front h.back)) ∙ append_assoc (stream ++ h.front) h.back more in
+    let front = standing-front h.next (stream ++ h.front) (records ++ (added ++ h.lost ∷ [])) (h.goes stream records s) (h.back ++ more) all end (subst (λ z. IsSplit z all end) bytes split) in
+    (h.lost ∷ front.0, (λ e. (cc)), front.1 ∙ ap (λ z. z ++ front.0) (sym (append_assoc records added (h.lost ∷ []))) ∙ append_assoc (records ++ added) (h.lost ∷ []) front.0)
+
+-- the added records
+beyond-append : (before added : List (List ℕ)) → beyond before (before ++ added) ≡ added
+beyond-append [] added = refl
+beyond-append (b ∷ before) added = beyond-append before added
+
+module _ (old new : Place) (piece : List ℕ) (before after : List (List ℕ)) where
+  beyond-added : (result : Result Unit FeedFault) (h : Feeds old piece before after new result) → beyond before after ≡ h.added
+  beyond-added result h = ap (beyond before) h.appended ∙ beyond-append before h.added
+
+  module _ (added : List (List ℕ)) (stream : List ℕ) (records : List (List ℕ)) (s : StandsAt stream records old) where
+    -- a framer that fails now stands at its fault
+    stands-failed : (f : FeedFault) → f ≢ fault.Memory → Reads old piece added new (Err f) → StandsAt (stream ++ piece) (records ++ added) (Failed f)
+    stands-failed fault.Header other r = subst (StandsAt (stream ++ piece) (records ++ added)) r.0 (r.1 stream records s)
+    stands-failed fault.Large other r = subst (StandsAt (stream ++ piece) (records ++ added)) r.0 (r.1 stream records s)
+    stands-failed fault.Oversize other r = subst (StandsAt (stream ++ piece) (records ++ added)) r.0 (r.1 stream records s)
+    stands-failed fault.Memory other r = absurd (other refl)
+    stands-failed fault.Many other r = subst (StandsAt (stream ++ piece) (records ++ added)) r.0 (r.1 stream records s)
+
+  -- a framer answers Ok exactly where the bytes so far are open
+  pub open-feeds : (result : Result Unit FeedFault) → Feeds old piece before after new result → (stream : List ℕ) (records : List (List ℕ)) → StandsAt stream records old → result ≢ Err fault.Memory → IsOk result ↔ IsOpen (stream ++ piece)
+  open-feeds (Ok u) h stream records s other =
+      ((λ ok. open-running new (stream ++ piece) (records ++ h.added) h.reads.0 (h.reads.1 stream records s)), (λ is_open. refl))
+  open-feeds (Err f) h stream records s other =
+      ((λ ok. absurd (false≢true ok)), (λ is_open. absurd (failed-closed f (stream ++ piece) (records ++ h.added) (stands-failed h.added stream records s f (λ e. other (ap Err e)) h.reads) is_open)))
+
+  -- a fault is that of the ending of the bytes so far
+  pub fault-feeds : (result : Result Unit FeedFault) → Feeds old piece before after new result → (stream : List ℕ) (records : List (List ℕ)) (f : FeedFault) → StandsAt stream records old → result ≡ Err f → f ≢ fault.Memory → IsSplit (stream ++ piece) (records ++ beyond before after) (ending_of f)
+  fault-feeds result h stream records f s e other =
+      subst (λ z. IsSplit (stream ++ piece) (records ++ z) (ending_of f)) (sym (beyond-added result h))
+      (split-failed (stream ++ piece) (records ++ h.added) f (stands-failed h.added stream records s f other (subst (Reads old piece h.added new) e h.reads)))
+
+  -- where memory was wanted, it was for a record of the stream
+  pub memory-feeds : (result : Result Unit FeedFault) → Feeds old piece before after new result → (stream : List ℕ) (records : List (List ℕ)) → StandsAt stream records old → result ≡ Err fault.Memory → old ≢ Failed fault.Memory → HasMore (stream ++ piece) (records ++ beyond before after)
+  memory-feeds result h stream records s e fresh =
+      subst (λ z. HasMore (stream ++ piece) (records ++ z)) (sym (beyond-added result h))
+      (lost (subst (Reads old piece h.added new) e h.reads))
+    where
+      lost : Reads old piece h.added new (Err fault.Memory) → HasMore (stream ++ piece) (records ++ h.added)
+      lost (_, inl again) = absurd (fresh again.0)
+      lost (_, inr h') = more-lost old piece h.added h' stream records s
+
+  -- there are at most 1,000,000 records
+  pub few-feeds : (result : Result Unit FeedFault) → Feeds old piece before after new result → (stream : List ℕ) (records : List (List ℕ)) → StandsAt stream records old → length records + length after ≤ 1000000 + length before
+  few-feeds result h stream records s =
+      omega (arith, ap length h.appended, length-append before h.added, length-append records h.added, few result h.reads)
+    where
+      lost-few : LosesRecord old piece h.added → length (records ++ h.added) ≤ 1000000
+      lost-few l =
+          omega (arith, length-standing l.next (stream ++ l.front) (records ++ (h.added ++ l.lost ∷ [])) (l.goes stream records s), length-append records (h.added ++ l.lost ∷ []), length-append h.added (l.lost ∷ []), length-append records h.added)
+
+      few : (r : Result Unit FeedFault) → Reads old piece h.added new r → length (records ++ h.added) ≤ 1000000
+      few (Ok u) r = length-standing new (stream ++ piece) (records ++ h.added) (r.1 stream records s)
+      few (Err fault.Header) r = length-standing new (stream ++ piece) (records ++ h.added) (r.1 stream records s)
+      few (Err fault.Large) r = length-standing new (stream ++ piece) (records ++ h.added) (r.1 stream records s)
+      few (Err fault.Oversize) r = length-standing new (stream ++ piece) (records ++ h.added) (r.1 stream records s)
+      few (Err fault.Memory) (_, inl again) = omega (arith, length-standing old stream records s, ap length again.1, length-append records h.added)
+      few (Err fault.Memory) (_, inr l) = lost-few l
+      few (Err fault.Many) r = length-standing new (stream ++ piece) (records ++ h.added) (r.1 stream records s)

@@ -95,3 +95,7 @@ feeds-err old mid piece before after fault.Large r = record { added = r.added; a
 feeds-err old mid piece before after fault.Oversize r = record { added = r.added; appended = r.appended; reads = (refl, r.reads) }
 feeds-err old mid piece before after fault.Memory r = record { added = r.added; appended = r.appended; reads = (refl, inr r.reads) }
 feeds-err old mid piece before after fault.Many r = record { added = r.added; appended = r.appended; reads = (refl, r.reads) }
+
+-- a framer that read all of the piece
+pub feeds-ok : (old new : Place) (piece : List ℕ) (before after : List (List ℕ)) (u : Unit {0}) → Runs old piece before after new (Ok u) → Feeds old piece before after new (Ok u)
+feeds-ok old new piece before after u r = record { added = r.added; appended = r.appended; reads = r.reads }

@@ -1,6 +1,7 @@
 -- Where a framer stands in its stream, and what it does with the next piece.
-use Rattle.std.specs.Prelude.{◌≡◌, ◌≢◌, ◌⊎◌, ℕ, List, [], ◌∷◌, ◌++◌, length, Result, Ok, Err}
+use Rattle.std.specs.Prelude.{◌≡◌, ◌≢◌, ◌⊎◌, ℕ, List, [], ◌∷◌, ◌++◌, length, drop, Result, Ok, Err}
 use Rattle.planar_code.specs.declared.TheConstants.{HEADER}
+use Rattle.planar_code.specs.declared.ending.Ending.{Ending}
 use Rattle.planar_code.specs.declared.fault.FeedFault.{FeedFault}
 use Rattle.planar_code.specs.declared.fault.FeedFault.TheVariants as fault
 use Rattle.planar_code.specs.Stream.{IsUnfinished}
@@ -69,3 +70,11 @@ pub record Feeds (old : Place) (piece : List ℕ) (before after : List (List ℕ
   pub added : List (List ℕ)
   pub appended : after ≡ before ++ added
   pub reads : Reads old piece added new result
+
+-- the records of `after` beyond those of `before`, which it begins with
+abbrev pub beyond : List (List ℕ) → List (List ℕ) → List (List ℕ)
+beyond before after = drop (length before) after
+
+-- however the stream goes on, these are a beginning of its records, and not all of them
+abbrev pub HasMore : List ℕ → List (List ℕ) → Type 0
+HasMore stream records = (more : List ℕ) (all : List (List ℕ)) (end : Ending) → IsSplit (stream ++ more) all end → (later : List (List ℕ)) × (later ≢ []) × (all ≡ records ++ later)

@@ -1,7 +1,8 @@
-ghost use Rattle.std.specs.Prelude.{◌≡◌, ◌≢◌, ◌⊎◌, ℕ, ◌+◌, ◌<◌, ◌≤◌, List, [], ◌++◌, length, IfOk, OnOk, OnErr, IsSome, MatchResult, option_to_list};
+ghost use Rattle.std.specs.Prelude.{◌≡◌, ◌≢◌, ◌⊎◌, ℕ, ◌+◌, ◌<◌, ◌≤◌, List, [], ◌++◌, length, IfOk, OnOk, OnErr, IsSome, IsOk, Err, ◌↔◌, option_to_list};
 ghost use Rattle.planar_code.specs.Split.{IsSplit, IsOpen, ending_of};
-ghost use Rattle.planar_code.specs.Place.{Place, Early, After, Failed, StandsAt, IsRunning, Feeds};
+ghost use Rattle.planar_code.specs.Place.{Place, Early, After, Failed, StandsAt, IsRunning, Feeds, HasMore, beyond};
 ghost use Rattle.planar_code.specs.Step.{Steps, Runs};
+ghost use Rattle.planar_code.specs.declared.fault.FeedFault.{FeedFault};
 
 use crate::ending::Ending;
 use crate::fault::FeedFault;
@@ -61,9 +62,14 @@ fn append(out: &mut Vec<Record>, next: Option<Record>) -> Result<(), FeedFault>
 }
 
 impl Framer {
-    /// A framer at the beginning of a stream. It has room for the longest record: 65,026 bytes.
+    /// A framer at the beginning of a stream, with room for the longest record: 65,026 bytes.
+    ///
+    /// # Errors
+    ///
+    /// `AllocError` where there is no memory for that.
     pub fn new(alloc: Global) -> Result<Framer, AllocError>
         ensures early { IfOk result (λ framer. framer ≡ Early []) }
+        ensures stands { IfOk result (λ framer. StandsAt [] [] framer) }
     {
         Ok(Framer {
             stage: Stage::Header { passed: 0 },
@@ -124,13 +130,57 @@ impl Framer {
 
     /// Reads the next piece of the stream, and puts each record that it ends at the end of `out`, in
     /// order.
+    ///
+    /// The stream may be cut anywhere, also within the header or a record. The work is linear in its
+    /// bytes: a record that lies whole in a piece is copied once, and one that is cut twice. Only a
+    /// whole record takes memory, for its bytes and for its place in `out`.
+    ///
+    /// # Errors
+    ///
+    /// - `Header` at the first byte that differs from the header;
+    /// - `Large` at byte 0 in a record's place;
+    /// - `Oversize` at the 255th entry of a list;
+    /// - `Many` at the first byte after record 1,000,000;
+    /// - `Memory` where a whole record finds no memory.
+    ///
+    /// The records before the fault stay in `out`. From then on the framer has failed: each later
+    /// feed adds nothing and answers the same fault.
     pub fn feed(
         &mut self,
         alloc: Global,
         piece: &[u8],
         out: &mut Vec<Record>,
     ) -> Result<(), FeedFault>
+        // The records that are added are those that the stream so far has beyond the earlier ones.
         ensures feeds { Feeds self.old piece.now out.old.items out.new.items self.new result }
+
+        // Ok exactly where the bytes so far are open, and else the fault of their ending.
+        ensures ok_where_open { (stream : List ℕ) (records : List (List ℕ))
+            → StandsAt stream records self.old
+            → result ≢ Err FeedFault.Memory
+            → (IsOk result ↔ IsOpen (stream ++ piece.now)) }
+        ensures fault_of_ending { (stream : List ℕ) (records : List (List ℕ)) (fault : FeedFault)
+            → StandsAt stream records self.old
+            → result ≡ Err fault
+            → fault ≢ FeedFault.Memory
+            → IsSplit (stream ++ piece.now) (records ++ beyond out.old.items out.new.items) (ending_of fault) }
+
+        // For want of memory the records so far are a beginning, and a whole one is missing.
+        ensures memory { (stream : List ℕ) (records : List (List ℕ))
+            → StandsAt stream records self.old
+            → result ≡ Err FeedFault.Memory
+            → self.old ≢ Failed FeedFault.Memory
+            → HasMore (stream ++ piece.now) (records ++ beyond out.old.items out.new.items) }
+
+        // A framer that has failed stays as it is, adds nothing and repeats its fault.
+        ensures repeats { (fault : FeedFault)
+            → self.old ≡ Failed fault
+            → (result ≡ Err fault) × (self.new ≡ self.old) × (out.new.items ≡ out.old.items) }
+
+        // No stream gives more than 1,000,000 records.
+        ensures few { (stream : List ℕ) (records : List (List ℕ))
+            → StandsAt stream records self.old
+            → length records + length out.new.items ≤ 1000000 + length out.old.items }
     {
         if let Stage::Failed(fault) = self.stage {
             return Err(fault);
@@ -144,7 +194,9 @@ impl Framer {
         }
     }
 
-    /// How the stream ends, where no more comes of it.
+    /// How the stream ends, where no more comes of it: after a fault as the fault says, before the
+    /// end of the header as `Header`, within a record as `Truncated`, and else as `Complete`. It takes
+    /// no memory.
     pub fn finish(self) -> Ending
         ensures split { (stream : List ℕ) (records : List (List ℕ))
             → StandsAt stream records self
