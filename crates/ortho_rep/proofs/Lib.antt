@@ -3,3 +3,4 @@ pub mod TurnLemmas
 pub mod Duality
 pub mod Pieces
 pub mod EdgeNumbers
+pub mod Mirrors

@@ -2,6 +2,7 @@
 #![tactic(auto)]
 
 mod points;
+mod certificate;
 mod prices;
 mod shape;
 mod strings;

@@ -1,6 +1,44 @@
+//! Quarter turns, and strings of them.
+
+ghost use Rattle.std.specs.Prelude.{◌≡◌, ◌≤◌, ◌↔◌, IsTrue, length};
+ghost use Rattle.ortho_rep.specs.Turns.{opposite, lefts, mirrored};
+
 /// A quarter turn of an edge, met in walking along a dart.
 #[derive(Clone, Copy, Debug, PartialEq, Eq)]
 pub enum Turn {
     Left,
     Right,
+}
+
+/// Whether the second turn is the first one, met in walking the other way.
+fn is_opposite(one: Turn, other: Turn) -> bool
+    ensures { IsTrue result ↔ (other ≡ opposite one) }
+{
+    match (one, other) {
+        (Turn::Left, Turn::Right) | (Turn::Right, Turn::Left) => true,
+        (Turn::Left, Turn::Left) | (Turn::Right, Turn::Right) => false,
+    }
+}
+
+/// How many of these turns are left turns.
+pub(crate) fn count_lefts(turns: &[Turn]) -> usize
+    ensures count { result ≡ lefts turns.now }
+    ensures few { result ≤ length turns.now }
+{
+    turns.iter().filter(|turn| **turn == Turn::Left).count()
+}
+
+/// Whether the second string is the first, read backwards with left and right exchanged.
+pub(crate) fn mirrors(turns: &[Turn], reverse: &[Turn]) -> bool
+    ensures { IsTrue result ↔ (reverse.now ≡ mirrored turns.now) }
+{
+    if turns.len() != reverse.len() {
+        return false;
+    }
+    for (i, turn) in turns.iter().enumerate() {
+        if !is_opposite(*turn, reverse[reverse.len() - 1 - i]) {
+            return false;
+        }
+    }
+    true
 }
