@@ -19,7 +19,7 @@ abbrev weighed : ℕ → (ℕ → ℕ) → (ℕ → ℕ) → ℕ
 weighed m w x = sum_below m (λ i. w i * x i)
 
 -- the part of x that is at place k
-abbrev part_at : ℕ → (ℕ → ℕ) → (ℕ → ℕ) → ℕ → ℕ
+abbrev pub part_at : ℕ → (ℕ → ℕ) → (ℕ → ℕ) → ℕ → ℕ
 part_at m at x k = sum_below m (λ i. cond (eqb (at i) k) (x i) 0)
 
 -- what is equal at each place is equal under each weight of the places
@@ -82,15 +82,14 @@ rights_of s d = rights (s d)
 rights_are : (p : Map) (a : ℕ → ℕ) (s : ℕ → List Turn) → Rep p a s → (d : ℕ) → d < darts p → rights_of s d ≡ lefts_of s (mate p d)
 rights_are p a s rep d b = sym (ap lefts (rep.strings d b) ∙ lefts-mirrored (s d))
 
--- each face's turning, as two sums of natural numbers
-gains : Map → (ℕ → ℕ) → (ℕ → List Turn) → ℕ → ℕ
+-- each face's turning, as two sums of natural numbers: what its darts turn to the left, and to the right
+abbrev pub gains : Map → (ℕ → ℕ) → (ℕ → List Turn) → ℕ → ℕ
 gains p a s f = part_at (darts p) (face_at p) (λ d. 2 + lefts (s d)) f
 
-losses : Map → (ℕ → ℕ) → (ℕ → List Turn) → ℕ → ℕ
+abbrev pub losses : Map → (ℕ → ℕ) → (ℕ → List Turn) → ℕ → ℕ
 losses p a s f = part_at (darts p) (face_at p) (λ d. a d + rights (s d)) f
 
-turning-split : (p : Map) (a : ℕ → ℕ) (s : ℕ → List Turn) (f : ℕ) → turning_around p a s f ≡ pos (gains p a s f) -ℤ pos (losses p a s f)
-unfolding gains losses
+pub turning-split : (p : Map) (a : ℕ → ℕ) (s : ℕ → List Turn) (f : ℕ) → turning_around p a s f ≡ pos (gains p a s f) -ℤ pos (losses p a s f)
 turning-split p a s f =
     total_below-parts (darts p) (λ d. cond (eqb (face_at p d) f) (turning_of (a d) (s d)) (pos 0)) (λ d. cond (eqb (face_at p d) f) (2 + lefts (s d)) 0) (λ d. cond (eqb (face_at p d) f) (a d + rights (s d)) 0) (λ d b. split_one (eqb (face_at p d) f) (a d) (lefts (s d)) (rights (s d)))
   where
@@ -114,7 +113,6 @@ crossed b s t d = 2 + lefts (s d) + (b d + rights (t d))
 
 -- round each face two representations turn alike
 same_turning : (p : Map) (a b : ℕ → ℕ) (s t : ℕ → List Turn) → Rep p a s → Rep p b t → (f : ℕ) → f < p.faces → part_at (darts p) (face_at p) (crossed b s t) f ≡ part_at (darts p) (face_at p) (crossed a t s) f
-unfolding gains losses
 same_turning p a b s t one two f below =
     let alike : pos (gains p a s f) -ℤ pos (losses p a s f) ≡ pos (gains p b t f) -ℤ pos (losses p b t f) =
     sym (turning-split p a s f) ∙ one.faces f below ∙ sym (two.faces f below) ∙ turning-split p b t f in

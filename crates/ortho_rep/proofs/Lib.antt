@@ -4,3 +4,5 @@ pub mod Duality
 pub mod Pieces
 pub mod EdgeNumbers
 pub mod Mirrors
+pub mod Priced
+pub mod Tallied

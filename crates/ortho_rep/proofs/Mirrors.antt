@@ -1,5 +1,5 @@
 -- A string and its mirror image, place by place.
-use Rattle.std.proofs.Common.{◌≡◌, ◌<◌, ℕ, ◌-◌, List, length, get_or, map, reverse, sym, ap, ◌∙◌, arith}
+use Rattle.std.proofs.Common.{◌≡◌, ◌<◌, ℕ, ◌-◌, List, length, get_or, reverse, sym, ap, ◌∙◌, arith}
 use Rattle.std.proofs.lemmas.List.{ext_get_or, get_or-map, get_or-reverse, length-map, length-reverse}
 use Rattle.ortho_rep.specs.declared.turn.Turn.{Turn}
 use Rattle.ortho_rep.specs.declared.turn.Turn.TheVariants.{Left}
@@ -17,9 +17,9 @@ get_or-mirrored ts i b =
 pub mirrored-from : (ts rs : List Turn) → length ts ≡ length rs → ((k : ℕ) → k < length ts → get_or rs (length rs - 1 - k) Left ≡ opposite (get_or ts k Left)) → rs ≡ mirrored ts
 mirrored-from ts rs same each =
     ext_get_or Left rs (mirrored ts) (omega (arith, length-mirrored ts))
-      (λ i b. let back : length rs - 1 - (length rs - 1 - i) ≡ i = omega arith in
-        let from : length ts - 1 - i ≡ length rs - 1 - i = omega arith in
-        sym (ap (λ (z : ℕ). get_or rs z Left) back) ∙ (each (length rs - 1 - i) (omega arith) ∙ (ap (λ (z : ℕ). opposite (get_or ts z Left)) (sym from) ∙ sym (get_or-mirrored ts i (omega arith)))))
+    (λ i b. let back : length rs - 1 - (length rs - 1 - i) ≡ i = omega arith in
+    let from : length ts - 1 - i ≡ length rs - 1 - i = omega arith in
+    sym (ap (λ (z : ℕ). get_or rs z Left) back) ∙ (each (length rs - 1 - i) (omega arith) ∙ (ap (λ (z : ℕ). opposite (get_or ts z Left)) (sym from) ∙ sym (get_or-mirrored ts i (omega arith)))))
 
 -- and the other way
 pub mirrored-at : (ts rs : List Turn) (k : ℕ) → k < length ts → rs ≡ mirrored ts → get_or rs (length rs - 1 - k) Left ≡ opposite (get_or ts k Left)

@@ -27,9 +27,13 @@ pub record IsPriced (angle : ℕ) (turns : List Turn) (vertex face across : ℤ)
   pub crossed : pos 0 ≤ℤ (pos 1 +ℤ face -ℤ across)
   pub tight : 0 < lefts turns → (pos 1 +ℤ face -ℤ across) ≡ pos 0
 
--- vertex prices v and face prices q prove that the representation (a, s) is least
+-- dart d of the representation (a, s) fits the vertex prices v and the face prices q
+abbrev pub IsPricedAt : Map → (ℕ → ℕ) → (ℕ → List Turn) → (ℕ → ℤ) → (ℕ → ℤ) → ℕ → Type 0
+IsPricedAt p a s v q d = IsPriced (a d) (s d) (v (head p d)) (q (face_at p d)) (q (face_at p (mate p d)))
+
+-- these prices prove that the representation (a, s) is least
 abbrev pub Prove : Map → (ℕ → ℕ) → (ℕ → List Turn) → (ℕ → ℤ) → (ℕ → ℤ) → Type 0
-Prove p a s v q = (d : ℕ) → d < darts p → IsPriced (a d) (s d) (v (head p d)) (q (face_at p d)) (q (face_at p (mate p d)))
+Prove p a s v q = (d : ℕ) → d < darts p → IsPricedAt p a s v q d
 
 -- a price for each vertex and each face
 pub record HasPrices (p : Map) (t : Tariff) : Type 0 where

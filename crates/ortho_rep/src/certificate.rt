@@ -1,10 +1,66 @@
 //! Whether prices prove a shape least.
 
 ghost use Rattle.std.specs.Prelude.{◌≡◌, ◌<◌, ◌↔◌, pos, ◌+ℤ◌, ◌-ℤ◌, ◌≤ℤ◌, IsTrue};
+ghost use Rattle.faces.specs.Map.{darts};
 ghost use Rattle.ortho_rep.specs.Turns.{lefts};
-ghost use Rattle.ortho_rep.specs.Prices.{IsPriced};
+ghost use Rattle.ortho_rep.specs.Shapes.{angle_at, turns_at};
+ghost use Rattle.ortho_rep.specs.Representation.{Rep, HasDarts, IsShape, IsLeast};
+ghost use Rattle.ortho_rep.specs.Prices.{IsPriced, IsPricedAt, Prove, HasPrices, IsProof, vertex_price, face_price};
 
+use crate::prices::Prices;
+use crate::representation::has_darts;
+use crate::shape::Shape;
 use crate::turn::{Turn, count_lefts};
+use faces::Plane;
+
+/// Whether the prices prove the shape least: whether all four lists have the plane's lengths, and each
+/// dart's angle and turns fit the prices of its head, of its face and of the face across.
+///
+/// A shape that passes `is_shape` too has the fewest bends (complementary slackness), whoever made it
+/// and its prices. No memory is taken; the cost is a step for each turn and each dart.
+pub fn certify(plane: &Plane, shape: &Shape, prices: &Prices) -> bool
+    ensures exact { IsTrue result ↔ IsProof plane.now shape.now prices.now }
+    ensures least { IsTrue result → IsShape plane.now shape.now → IsLeast plane.now shape.now }
+{
+    has_darts(plane, shape) && has_prices(plane, prices) && are_priced(plane, shape, prices)
+}
+
+/// Whether each vertex and each face has a price.
+fn has_prices(plane: &Plane, prices: &Prices) -> bool
+    ensures { IsTrue result ↔ HasPrices plane.now prices.now }
+{
+    prices.vertex_count() == usize::from(plane.graph().vertices())
+        && prices.face_count() == usize::from(plane.face_count())
+}
+
+/// Whether all darts fit the prices.
+fn are_priced(plane: &Plane, shape: &Shape, prices: &Prices) -> bool
+    requires darts { HasDarts plane.now shape.now }
+    requires prices { HasPrices plane.now prices.now }
+    ensures exact { IsTrue result ↔ Prove plane.now (angle_at shape.now) (turns_at shape.now) (vertex_price prices.now) (face_price prices.now) }
+    ensures least { IsTrue result → Rep plane.now (angle_at shape.now) (turns_at shape.now) → IsLeast plane.now shape.now }
+{
+    for dart in 0..plane.graph().darts() {
+        if !is_priced_at(plane, shape, prices, dart) {
+            return false;
+        }
+    }
+    true
+}
+
+/// Whether a dart fits the prices.
+fn is_priced_at(plane: &Plane, shape: &Shape, prices: &Prices, dart: u16) -> bool
+    requires within { dart < darts plane.now }
+    requires darts { HasDarts plane.now shape.now }
+    requires prices { HasPrices plane.now prices.now }
+    ensures { IsTrue result ↔ IsPricedAt plane.now (angle_at shape.now) (turns_at shape.now) (vertex_price prices.now) (face_price prices.now) dart }
+{
+    let graph = plane.graph();
+    let vertex = prices.vertex(graph.head(dart));
+    let face = prices.face(plane.face_of(dart));
+    let across = prices.face(plane.face_of(graph.reverse(dart)));
+    is_priced(shape.angle(dart), shape.turns(dart), vertex, face, across)
+}
 
 /// Whether one dart's angle and turns fit the prices of its head, of its face and of the face across.
 fn is_priced(angle: u8, turns: &[Turn], vertex: i32, face: i32, across: i32) -> bool

@@ -4,11 +4,14 @@
 mod points;
 mod certificate;
 mod prices;
+mod representation;
 mod shape;
 mod strings;
 mod turn;
 
 pub use points::{Point, Points};
+pub use certificate::certify;
 pub use prices::Prices;
+pub use representation::is_shape;
 pub use shape::Shape;
 pub use turn::Turn;

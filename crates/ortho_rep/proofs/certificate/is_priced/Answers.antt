@@ -10,7 +10,8 @@ returns-then-fits_corner c =
     let across : SFits w32 c.args.across = c.ranges.across in
     let for_corner = simp to_z-of_z at c.fits_corner.ensures in
     let for_crossing = simp to_z-of_z at c.fits_crossing.ensures in
-    let corner = for_corner.0 c.if-fits_corner.true in
-    (λ t. let crossing = for_crossing.0 t in
-      record { wider = corner.0; narrower = corner.1; crossed = crossing.0; tight = crossing.1 }
-    , λ priced. for_crossing.1 (priced.crossed, priced.tight))
+    let corner = for_corner.0 c.if-fits_corner.true in (
+      λ t. let crossing = for_crossing.0 t in
+          record { wider = corner.0; narrower = corner.1; crossed = crossing.0; tight = crossing.1 },
+      λ priced. for_crossing.1 (priced.crossed, priced.tight),
+    )

@@ -1,0 +1,13 @@
+use Rattle.std.proofs.Common.{ℕ, ◌<◌, ◌≤◌, ◌+◌, ◌*◌, length, get_or}
+use Rattle.faces.specs.Map.{face_at}
+use Rattle.ortho_rep.specs.Shapes.{angle_at, turns_at}
+use Rattle.ortho_rep.specs.Turns.{lefts, rights}
+use Rattle.ortho_rep.proofs.Tallied.{IsTally}
+use Rattle.ortho_rep.proofs.representation.add_turns.Given as goal
+
+abbrev pub invariant-loop-dart : goal.invariant-loop-dart
+invariant-loop-dart l =
+    IsTally l.gains l.dart (face_at l.plane) (λ d. 2 + lefts (turns_at l.shape d))
+    × IsTally l.losses l.dart (face_at l.plane) (λ d. angle_at l.shape d + rights (turns_at l.shape d))
+    × ((k : ℕ) → k < length l.gains → get_or l.gains k 0 ≤ 1000255 * l.dart)
+    × ((k : ℕ) → k < length l.losses → get_or l.losses k 0 ≤ 1000255 * l.dart)

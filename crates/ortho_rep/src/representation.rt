@@ -1,0 +1,145 @@
+//! Whether a shape is an orthogonal representation of a plane.
+
+ghost use Rattle.std.specs.Prelude.{◌≡◌, ◌≤◌, ◌<◌, ◌+◌, ◌↔◌, ℕ, IsTrue, length, replicate, slice_index, pos, negsuc, ◌-ℤ◌, if◌then◌else◌};
+ghost use Rattle.faces.specs.Map.{darts, vertices, mate};
+ghost use Rattle.ortho_rep.specs.Shapes.{angle_at, turns_at};
+ghost use Rattle.ortho_rep.specs.Turns.{mirrored};
+ghost use Rattle.ortho_rep.specs.Representation.{HasDarts, IsShape, angles_around, turning_around, whole_turn};
+
+use crate::shape::Shape;
+use crate::turn::{count_lefts, mirrors};
+use faces::Plane;
+
+/// Whether the shape is an orthogonal representation of the plane with its outer face, and has an angle
+/// and a string for each dart and for nothing else.
+///
+/// No memory is taken; the cost is a step for each turn, each dart, each vertex and each face.
+pub fn is_shape(plane: &Plane, shape: &Shape) -> bool
+    ensures { IsTrue result ↔ IsShape plane.now shape.now }
+{
+    has_darts(plane, shape)
+        && has_angles(plane, shape)
+        && has_mirrored_strings(plane, shape)
+        && closes_vertices(plane, shape)
+        && turns_faces(plane, shape)
+}
+
+/// Whether each dart has an angle and a string.
+pub(crate) fn has_darts(plane: &Plane, shape: &Shape) -> bool
+    ensures { IsTrue result ↔ HasDarts plane.now shape.now }
+{
+    let darts = usize::from(plane.graph().darts());
+    shape.angle_count() == darts && shape.string_count() == darts
+}
+
+/// Whether all angles are 1 to 4.
+fn has_angles(plane: &Plane, shape: &Shape) -> bool
+    requires { HasDarts plane.now shape.now }
+    ensures { IsTrue result ↔ ((d : ℕ) → d < darts plane.now
+        → (1 ≤ angle_at shape.now d) × (angle_at shape.now d ≤ 4)) }
+{
+    for dart in 0..plane.graph().darts() {
+        let angle = shape.angle(dart);
+        if angle < 1 || angle > 4 {
+            return false;
+        }
+    }
+    true
+}
+
+/// Whether each dart's reverse has its string read backwards, with left and right exchanged.
+fn has_mirrored_strings(plane: &Plane, shape: &Shape) -> bool
+    requires { HasDarts plane.now shape.now }
+    ensures { IsTrue result ↔ ((d : ℕ) → d < darts plane.now
+        → turns_at shape.now (mate plane.now d) ≡ mirrored (turns_at shape.now d)) }
+{
+    for dart in 0..plane.graph().darts() {
+        let reverse = plane.graph().reverse(dart);
+        if !mirrors(shape.turns(dart), shape.turns(reverse)) {
+            return false;
+        }
+    }
+    true
+}
+
+/// Whether the angles round each vertex sum to 4.
+fn closes_vertices(plane: &Plane, shape: &Shape) -> bool
+    requires { HasDarts plane.now shape.now }
+    ensures { IsTrue result ↔ ((v : ℕ) → 1 ≤ v → v ≤ vertices plane.now
+        → angles_around plane.now (angle_at shape.now) v ≡ 4) }
+{
+    let vertices = plane.graph().vertices();
+    let mut sums = [0; 256];
+    add_angles(plane, shape, &mut sums);
+    for vertex in 0..vertices {
+        if sums[usize::from(vertex) + 1] != 4 {
+            return false;
+        }
+    }
+    true
+}
+
+/// Sums the angles that arrive at each vertex.
+fn add_angles(plane: &Plane, shape: &Shape, sums: &mut [u32])
+    requires darts { HasDarts plane.now shape.now }
+    requires room { vertices plane.now < length sums.old }
+    requires clear { sums.old ≡ replicate (length sums.old) 0 }
+    ensures { (v : ℕ) → v ≤ vertices plane.now
+        → slice_index sums.new v ≡ angles_around plane.now (angle_at shape.now) v }
+{
+    let graph = plane.graph();
+    for dart in 0..graph.darts() {
+        sums[usize::from(graph.head(dart))] += u32::from(shape.angle(dart));
+    }
+}
+
+/// Whether the darts of each inner face turn once to the left, and those of the outer face to the right.
+fn turns_faces(plane: &Plane, shape: &Shape) -> bool
+    requires { HasDarts plane.now shape.now }
+    ensures { IsTrue result ↔ ((f : ℕ) → f < plane.now.faces
+        → turning_around plane.now (angle_at shape.now) (turns_at shape.now) f
+        ≡ whole_turn plane.now f) }
+{
+    let faces = plane.face_count();
+    let mut gains = [0; 257];
+    let mut losses = [0; 257];
+    add_turns(plane, shape, &mut gains, &mut losses);
+    for face in 0..faces {
+        let place = usize::from(face);
+        if !turns_once(gains[place], losses[place], face == plane.outer()) {
+            return false;
+        }
+    }
+    true
+}
+
+/// Whether so many turns to the left, and so many to the right, are one turn round a face.
+fn turns_once(gain: u64, loss: u64, is_outer: bool) -> bool
+    ensures { IsTrue result ↔ ((pos gain -ℤ pos loss) ≡ (if is_outer then negsuc 3 else pos 4)) }
+{
+    if is_outer {
+        loss >= 4 && loss - 4 == gain
+    } else {
+        gain >= 4 && gain - 4 == loss
+    }
+}
+
+/// Sums round each face what its darts turn to the left, and what they turn to the right.
+fn add_turns(plane: &Plane, shape: &Shape, gains: &mut [u64], losses: &mut [u64])
+    requires darts { HasDarts plane.now shape.now }
+    requires gain_room { plane.now.faces ≤ length gains.old }
+    requires loss_room { plane.now.faces ≤ length losses.old }
+    requires clear_gains { gains.old ≡ replicate (length gains.old) 0 }
+    requires clear_losses { losses.old ≡ replicate (length losses.old) 0 }
+    ensures { (f : ℕ) → f < plane.now.faces
+        → turning_around plane.now (angle_at shape.now) (turns_at shape.now) f
+        ≡ (pos (slice_index gains.new f) -ℤ pos (slice_index losses.new f)) }
+{
+    for dart in 0..plane.graph().darts() {
+        let face = usize::from(plane.face_of(dart));
+        let turns = shape.turns(dart);
+        let lefts = count_lefts(turns);
+        gains[face] += 2 + lefts as u64;
+        losses[face] += u64::from(shape.angle(dart)) + (turns.len() - lefts) as u64;
+    }
+}
