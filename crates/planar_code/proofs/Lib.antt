@@ -8,3 +8,4 @@ pub mod Going
 pub mod Feeding
 pub mod Stepping
 pub mod Reading
+pub mod Walking

@@ -1,8 +1,55 @@
 //! Laws of the definitions, each as the contract of a function that does nothing.
-ghost use Rattle.std.specs.Prelude.{◌≡◌, List, ℕ};
+ghost use Rattle.std.specs.Prelude.{◌≡◌, ℕ, ◌<◌, ◌≤◌, List, [], ◌++◌, length, All};
+ghost use Rattle.planar_code.specs.declared.ending.Ending.{Ending};
 ghost use Rattle.planar_code.specs.Stream.{IsRecord, lists_of};
+ghost use Rattle.planar_code.specs.Split.{IsSplit, IsOpen};
+ghost use Rattle.planar_code.specs.Place.{Place, StandsAt, IsRunning};
 
 /// A record's lists are those that its bytes hold.
 pub fn record_lists()
     ensures { (bytes : List ℕ) (r : IsRecord bytes) → lists_of bytes ≡ r.lists }
+{}
+
+/// No record is a front of another.
+pub fn no_front()
+    ensures { (bytes more : List ℕ) → IsRecord bytes → IsRecord (bytes ++ more) → more ≡ [] }
+{}
+
+/// A stream splits in one way at most.
+pub fn one_split()
+    ensures { (stream : List ℕ) (records others : List (List ℕ)) (end other : Ending)
+        → IsSplit stream records end
+        → IsSplit stream others other
+        → (records ≡ others) × (end ≡ other) }
+{}
+
+/// Every stream of bytes splits.
+pub fn some_split()
+    ensures { (stream : List ℕ)
+        → All (λ byte. byte < 256) stream
+        → (records : List (List ℕ)) × (end : Ending) × IsSplit stream records end }
+{}
+
+/// No stream has more than 1,000,000 records.
+pub fn few_records()
+    ensures { (stream : List ℕ) (records : List (List ℕ)) (end : Ending)
+        → IsSplit stream records end
+        → length records ≤ 1000000 }
+{}
+
+/// The records so far begin the records of the stream, however it goes on.
+pub fn records_begin()
+    ensures { (place : Place) (stream : List ℕ) (records : List (List ℕ))
+        → StandsAt stream records place
+        → (more : List ℕ) (all : List (List ℕ)) (end : Ending)
+        → IsSplit (stream ++ more) all end
+        → (later : List (List ℕ)) × (all ≡ records ++ later) }
+{}
+
+/// Where a framer has not failed, its stream is open.
+pub fn running_is_open()
+    ensures { (place : Place) (stream : List ℕ) (records : List (List ℕ))
+        → IsRunning place
+        → StandsAt stream records place
+        → IsOpen stream }
 {}

@@ -1,0 +1,117 @@
+-- Every stream of bytes splits: byte for byte, it leads to some place.
+use Rattle.std.proofs.Common.{◌≢◌, ℕ, ◌+◌, ◌-◌, ◌<◌, ◌≤◌, List, [], ◌∷◌, ◌++◌, inl, inr, All, take, get_or, refl, sym, ap, subst, arith}
+use Rattle.std.proofs.lemmas.Bool.{cases_eq}
+use Rattle.std.proofs.lemmas.List.Elements.{All-head, All-tail}
+use Rattle.planar_code.specs.declared.TheConstants.{HEADER}
+use Rattle.planar_code.specs.declared.ending.Ending.{Ending}
+use Rattle.planar_code.specs.declared.ending.Ending.TheVariants as ending
+use Rattle.planar_code.specs.declared.fault.FeedFault.{FeedFault}
+use Rattle.planar_code.specs.declared.fault.FeedFault.TheVariants as fault
+use Rattle.planar_code.specs.Stream.{IsRecord}
+use Rattle.planar_code.specs.Split.{IsSplit, ending_of, BeginsWithZero}
+use Rattle.planar_code.specs.Started.{IsStarted, IsBegun}
+use Rattle.planar_code.specs.Place.{Place, Early, After, Failed, StandsAt, Goes}
+use Rattle.planar_code.proofs.Started.{started-first, started-entry, started-end, started-whole, started-unfinished, started-oversize}
+use Rattle.planar_code.proofs.Going.{goes_on, goes_nowhere, goes_more, goes_whole, goes_early, goes_headed, goes_failed, fails_many, fails_large, fails_oversize, fails_header}
+use Rattle.planar_code.proofs.Feeding.{split-early, split-complete, split-truncated, split-failed}
+
+-- places of which enough is known to go on
+data Known : Place → Type 0 where
+  early : (passed : ℕ) → passed < 15 → Known (Early (take passed HEADER))
+  after : (count : ℕ) (rest : List ℕ) (left entries : ℕ) → IsBegun rest left entries → count ≤ 1000000 → Known (After count rest)
+  failed : (f : FeedFault) → Known (Failed f)
+
+-- where some bytes lead
+record Leads (p : Place) (bytes : List ℕ) : Type 0 where
+  added : List (List ℕ)
+  place : Place
+  known : Known place
+  goes : Goes p bytes added place
+
+-- the record goes on
+leads-more : (count : ℕ) (rest : List ℕ) (x left entries : ℕ) → count ≢ 1000000 → count ≤ 1000000 → IsStarted (rest ++ x ∷ []) left entries → Leads (After count rest) (x ∷ [])
+leads-more count rest x left entries room few s = record {
+  added = [];
+  place = After count (rest ++ x ∷ []);
+  known = after count (rest ++ x ∷ []) left entries (inr s) few;
+  goes = goes_more count rest (x ∷ []) room (started-unfinished (rest ++ x ∷ []) left entries s);
+}
+
+-- a byte of a record
+leads-after : (count : ℕ) (rest : List ℕ) (left entries x : ℕ) → IsBegun rest left entries → count ≤ 1000000 → count ≢ 1000000 → x < 256 → Leads (After count rest) (x ∷ [])
+leads-after count rest left entries x (inl none) few room byte = elim (cases_eq x 0) [
+  | inl z ↦ record {
+    added = [];
+    place = Failed fault.Large;
+    known = failed fault.Large;
+    goes = fails_large count rest (x ∷ []) room (subst (λ r. BeginsWithZero (r ++ x ∷ [])) (sym none) ([], ap (λ y. y ∷ []) z));
+  }
+  | inr some ↦ leads-more count rest x x 0 room few (subst (λ r. IsStarted (r ++ x ∷ []) x 0) (sym none) (started-first x (omega (arith, some)) byte))
+]
+leads-after count rest left entries x (inr s) few room byte = elim (cases_eq x 0) [
+  | inl z ↦ elim (cases_eq left 1) [
+    | inl last ↦ record {
+      added = (rest ++ x ∷ []) ∷ [];
+      place = After (count + 1) [];
+      known = after (count + 1) [] 0 0 (inl refl) (omega (arith, room));
+      goes = goes_whole count rest (x ∷ []) (rest ++ x ∷ []) (omega (arith, room)) refl (subst (λ y. IsRecord (rest ++ y ∷ [])) (sym z) (started-whole rest left entries s last));
+    }
+    | inr more ↦ let some = s.some in
+        leads-more count rest x (left - 1) 0 room few (subst (λ y. IsStarted (rest ++ y ∷ []) (left - 1) 0) (sym z) (started-end rest left entries s (omega (arith, more))))
+  ]
+  | inr some ↦ elim (cases_eq entries 254) [
+    | inl full ↦ record {
+      added = [];
+      place = Failed fault.Oversize;
+      known = failed fault.Oversize;
+      goes = fails_oversize count rest (x ∷ []) room (started-oversize rest left entries x [] s (omega (arith, some), byte) full);
+    }
+    | inr short ↦ let m = s.short in
+        leads-more count rest x left (entries + 1) room few (started-entry rest left entries x s (omega (arith, some), byte) (omega (arith, short)))
+  ]
+]
+
+-- one byte
+leads-byte : (p : Place) → Known p → (x : ℕ) → x < 256 → Leads p (x ∷ [])
+leads-byte _ (early passed room) x byte = elim (cases_eq x (get_or HEADER passed 0)) [
+  | inl same ↦ elim (cases_eq (passed + 1) 15) [
+    | inl last ↦ record { added = []; place = After 0 []; known = after 0 [] 0 0 (inl refl) (omega arith); goes = goes_headed passed x last same }
+    | inr short ↦ record { added = []; place = Early (take (passed + 1) HEADER); known = early (passed + 1) (omega (arith, short)); goes = goes_early passed x (omega (arith, short)) same }
+  ]
+  | inr other ↦ record { added = []; place = Failed fault.Header; known = failed fault.Header; goes = fails_header passed x [] room other }
+]
+leads-byte _ (after count rest left entries begun few) x byte = elim (cases_eq count 1000000) [
+  | inl full ↦ record { added = []; place = Failed fault.Many; known = failed fault.Many; goes = fails_many count rest (x ∷ []) full (λ e. (cc)) }
+  | inr room ↦ leads-after count rest left entries x begun few room byte
+]
+leads-byte _ (failed f) x byte = record { added = []; place = Failed f; known = failed f; goes = goes_failed f (x ∷ []) }
+
+-- any bytes
+leads : (bytes : List ℕ) → All (λ x. x < 256) bytes → (p : Place) → Known p → Leads p bytes
+leads [] each p k = record { added = []; place = p; known = k; goes = goes_nowhere p }
+leads (x ∷ bytes) each p k =
+    let first = leads-byte p k x (All-head (λ x. x < 256) x bytes each) in
+    let later = leads bytes (All-tail (λ x. x < 256) x bytes each) first.place first.known in
+    record {
+      added = first.added ++ later.added;
+      place = later.place;
+      known = later.known;
+      goes = goes_on p first.place later.place (x ∷ []) bytes first.added later.added first.goes later.goes;
+    }
+
+-- no bytes stand at the beginning
+pub standing-none : StandsAt [] [] (Early [])
+standing-none = record { none = refl; same = refl; missing = HEADER; more = λ e. (cc); whole = refl }
+
+-- a place that a stream has led to splits it
+split-standing : (p : Place) (stream : List ℕ) (records : List (List ℕ)) → StandsAt stream records p → (end : Ending) × IsSplit stream records end
+split-standing (Early front) stream records s = (ending.Header, split-early stream records front s)
+split-standing (After count []) stream records s = (ending.Complete, split-complete stream records count [] refl s)
+split-standing (After count (x ∷ rest)) stream records s = (ending.Truncated, split-truncated stream records count (x ∷ rest) (λ e. (cc)) s)
+split-standing (Failed f) stream records s = (ending_of f, split-failed stream records f s)
+
+pub split-exists : (stream : List ℕ) → All (λ x. x < 256) stream → (records : List (List ℕ)) × (end : Ending) × IsSplit stream records end
+split-exists stream each =
+    let l = leads stream each (Early []) (early 0 (omega arith)) in
+    let s = split-standing l.place stream l.added (l.goes [] [] standing-none) in
+    (l.added, s.0, s.1)
