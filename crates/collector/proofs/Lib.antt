@@ -1,4 +1,5 @@
 pub mod Lines
 pub mod Marks
+pub mod Messages
 pub mod Pieces
 pub mod Sinks

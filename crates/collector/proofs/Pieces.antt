@@ -195,3 +195,9 @@ found_told told told_fails records found f bytes is =
 pub found_untold : (told : Option (List ℕ)) (told_fails : Bool) (records : List (List ℕ)) (found : Mark) → IsFoundIn told told_fails records found
     → (bytes : List ℕ) × ((fails : Bool) × IsMarked bytes fails records found)
 found_untold told told_fails records found f = (f.bytes, (f.fails, f.marked))
+
+-- no new records yet
+pub nothing_new : (told to_come : Option (List ℕ)) (told_fails fails : Bool) (records new : List (List ℕ)) (place : Place) → new ≡ []
+    → IsBeingRead told told_fails to_come fails records place → IsBeingRead told told_fails to_come fails (records ++ new) place
+nothing_new told to_come told_fails fails records new place none r =
+    subst (λ rs. IsBeingRead told told_fails to_come fails rs place) (sym (ap (λ l. records ++ l) none ∙ append-nil records)) r

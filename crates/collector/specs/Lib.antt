@@ -3,4 +3,5 @@ pub mod Sink
 pub mod Found
 pub mod Marks
 pub mod Reading
+pub mod Framed
 pub mod Text

@@ -3,6 +3,7 @@
 
 mod faults;
 mod found;
+mod framed;
 mod gather;
 mod input;
 mod memory;

@@ -1,10 +1,14 @@
 //! How a source is read into records and a mark.
-ghost use Rattle.std.specs.Prelude.{◌≡◌, ◌<◌, ◌≤◌, ℕ, Bool, List, [], ◌++◌, Some, length, vec_len, replicate, IfOk, IfErr};
-ghost use Rattle.collector.specs.Reading.{ReadsOn, IsFoundIn};
+ghost use Rattle.std.specs.Prelude.{◌≡◌, ◌<◌, ◌≤◌, ℕ, Bool, List, [], ◌++◌, Some, length, vec_len, IfOk, IfSome, OnOk};
+ghost use Rattle.ruled_lanes.specs.LinkEnds.{given, GivesToSame};
+ghost use Rattle.collector.specs.Reading.{ReadsOn};
+ghost use Rattle.collector.specs.Framed.{GiveRecords, GivesFound, GivesBack};
 
 use super::found::Mark;
+use super::framed::Framed;
 use super::input::Tap;
 use planar_code::{Ending, FeedFault, Framer, Record};
+use ruled_lanes::{Closed, Giver};
 use std::alloc::{AllocError, Global};
 use std::sync::Wait;
 
@@ -12,6 +16,7 @@ use std::sync::Wait;
 const PIECE: usize = 65536;
 
 /// What one read of a source led to.
+#[derive(Clone, Copy, Debug)]
 pub enum Step {
     /// There may be more bytes.
     More,
@@ -58,29 +63,80 @@ pub fn read_piece<T: Tap>(
     }
 }
 
-/// Reads a source to its end, to its failure, or to the first fault in its bytes.
+/// Reads a source to its end, to its failure, or to the first fault in its bytes, and gives what it
+/// found: its records in order, one end mark and one stop. None where the link's other end was gone.
 pub fn read_all<R: Wait, T: Tap>(
+    rt: &R,
+    alloc: Global,
+    mut source: T,
+    mut buffer: Vec<u8>,
+    mut giver: Giver<Framed>,
+) -> Option<Giver<Framed>>
+    requires room { 0 < vec_len buffer }
+    requires none { given giver ≡ [] }
+    ensures { GivesBack (T.to_come source) (T.fails source) giver result }
+{
+    let mark = match read_records(rt, alloc, &mut source, buffer.as_mut_slice(), &mut giver) {
+        Some(mark) => mark,
+        None => return None,
+    };
+    match giver.give(rt, Framed::End(mark)) {
+        Ok(()) => {}
+        Err(_) => return None,
+    }
+    match giver.give(rt, Framed::Stop) {
+        Ok(()) => Some(giver),
+        Err(_) => None,
+    }
+}
+
+/// Reads a source, gives its records, and answers its mark. None where the link's other end was gone.
+fn read_records<R: Wait, T: Tap>(
     rt: &R,
     alloc: Global,
     source: &mut T,
     buffer: &mut [u8],
-    records: &mut Vec<Record>,
-) -> Mark
+    giver: &mut Giver<Framed>,
+) -> Option<Mark>
     requires room { 0 < length buffer.old }
-    requires none { records.old.items ≡ [] }
-    ensures { IsFoundIn (T.to_come source.old) (T.fails source.old) records.new.items result }
+    requires none { given giver.old ≡ [] }
+    ensures link { GivesToSame giver.old giver.new }
+    ensures found { IfSome result (λ mark.
+        GivesFound (T.to_come source.old) (T.fails source.old) (given giver.new) mark) }
 {
     let mut framer = match Framer::new(alloc) {
         Ok(framer) => framer,
-        Err(_) => return Mark::Ended(Ending::Memory),
+        Err(_) => return Some(Mark::Ended(Ending::Memory)),
     };
     for _ in rt.forever() {
-        match read_piece(source, &mut framer, alloc, buffer, records) {
+        let mut records = Vec::new(alloc);
+        let step = read_piece(source, &mut framer, alloc, buffer, &mut records);
+        match give_records(rt, giver, records) {
+            Ok(()) => {}
+            Err(_) => return None,
+        }
+        match step {
             Step::More => {}
-            Step::Ended => return Mark::Ended(framer.finish()),
-            Step::Failed => return Mark::Io,
-            Step::Stopped(fault) => return Mark::Ended(Ending::from(fault)),
+            Step::Ended => return Some(Mark::Ended(framer.finish())),
+            Step::Failed => return Some(Mark::Io),
+            Step::Stopped(fault) => return Some(Mark::Ended(Ending::from(fault))),
         }
     }
     unreachable!()
+}
+
+/// Gives records in one message, or no message where there are none.
+fn give_records<R: Wait>(
+    rt: &R,
+    giver: &mut Giver<Framed>,
+    records: Vec<Record>,
+) -> Result<(), Closed<Framed>>
+    ensures link { GivesToSame giver.old giver.new }
+    ensures gave { OnOk result ((earlier : List (List ℕ)) → GiveRecords earlier (given giver.old)
+        → GiveRecords (earlier ++ records.items) (given giver.new)) }
+{
+    if records.is_empty() {
+        return Ok(());
+    }
+    giver.give(rt, Framed::Records(records))
 }

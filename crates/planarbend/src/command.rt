@@ -12,13 +12,14 @@ use planar_code::Ending;
 use std::alloc::Global;
 use std::rt::Files;
 use std::sync::Wait;
+use std::thread::Threads;
 
 /// How many messages wait between two threads of a run at most.
 const CAPACITY: u32 = 16;
 
 /// Does what the words after the program's name ask for, and answers the program's exit status.
 /// A report goes to `out`, and the line of a fault to `err`; that this line may fail changes nothing.
-pub fn command<R: Files + AllocGlobal + Wait, S: Sink, E: Sink>(
+pub fn command<R: Files + AllocGlobal + Threads + Wait + Sync, S: Sink, E: Sink>(
     rt: &R,
     words: &[String],
     out: &mut S,
@@ -49,7 +50,7 @@ fn end_by<E: Sink>(fault: Fault, err: &mut E) -> u8
 }
 
 /// The records of one file.
-fn frames<R: Files + AllocGlobal + Wait, S: Sink>(
+fn frames<R: Files + AllocGlobal + Threads + Wait + Sync, S: Sink>(
     rt: &R,
     path: &str,
     out: &mut S,
