@@ -2,3 +2,4 @@ pub mod Net
 pub mod Flow
 pub mod Fault
 pub mod Excess
+pub mod Residual

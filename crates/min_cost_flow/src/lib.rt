@@ -7,6 +7,7 @@
 
 mod arc;
 mod network;
+mod residual;
 mod solved;
 
 pub use arc::{Arc, Cap};

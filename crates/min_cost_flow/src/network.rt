@@ -1,4 +1,4 @@
-ghost use Rattle.std.specs.Prelude.{◌≡◌, ◌<◌, IfOk, IfErr, vec_len};
+ghost use Rattle.std.specs.Prelude.{◌≡◌, ◌<◌, ◌≤◌, IfOk, IfErr, vec_len};
 ghost use Rattle.min_cost_flow.specs.Net.{Net, node_count, arc_count, arc_at, supply_at, IsNetwork};
 
 use crate::arc::Arc;
@@ -93,7 +93,9 @@ impl Network {
     /// The arc of a number.
     pub fn arc(&self, i: u32) -> Arc
         requires { i < arc_count self.now }
-        ensures { result ≡ arc_at self.now i }
+        ensures arc { result ≡ arc_at self.now i }
+        ensures ends { (result.from < node_count self.now) × (result.to < node_count self.now) }
+        ensures cost { result.cost ≤ 1 }
     {
         self.arcs[i as usize]
     }
