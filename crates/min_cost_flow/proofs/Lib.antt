@@ -1,2 +1,3 @@
 pub mod Duality
 pub mod Cut
+pub mod Changes

@@ -3,3 +3,4 @@ pub mod Flow
 pub mod Fault
 pub mod Excess
 pub mod Residual
+pub mod Tree

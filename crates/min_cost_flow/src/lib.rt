@@ -9,6 +9,7 @@ mod arc;
 mod network;
 mod residual;
 mod solved;
+mod tree;
 
 pub use arc::{Arc, Cap};
 pub use network::{NetFault, Network};
