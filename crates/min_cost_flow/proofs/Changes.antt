@@ -42,15 +42,17 @@ moved_backward false false l l' n n' x y k e s h a b c = omega (arith, ints)
 -- k units that have left the end of a residual arc, brought there along it, have left its start
 pub moved_carries : (net : Net) (x y : ℕ → ℕ) (e : ℕ → ℤ) (i k : ℕ) (back : Bool) → i < arc_count net → IsMoved back (x i) k (y i) → SameBut i x y → Carries net x e (end_of net i back) k → Carries net y e (start_of net i back) k
 moved_carries net x y e i k false b moved others c = record {
-    at_node = λ w d.
+  at_node = λ w d.
       moved_forward (eqb (arc_at net i).from w) (eqb (arc_at net i).to w) (leaves net x w) (leaves net y w) (enters net x w) (enters net y w) (x i) (y i) k (e w) (supply_at net w) moved
       (side_changed (arc_count net) i w (λ j. (arc_at net j).from) x y b others)
-      (side_changed (arc_count net) i w (λ j. (arc_at net j).to) x y b others) (c.at_node w d) }
+      (side_changed (arc_count net) i w (λ j. (arc_at net j).to) x y b others) (c.at_node w d);
+}
 moved_carries net x y e i k true b moved others c = record {
-    at_node = λ w d.
+  at_node = λ w d.
       moved_backward (eqb (arc_at net i).from w) (eqb (arc_at net i).to w) (leaves net x w) (leaves net y w) (enters net x w) (enters net y w) (x i) (y i) k (e w) (supply_at net w) moved
       (side_changed (arc_count net) i w (λ j. (arc_at net j).from) x y b others)
-      (side_changed (arc_count net) i w (λ j. (arc_at net j).to) x y b others) (c.at_node w d) }
+      (side_changed (arc_count net) i w (λ j. (arc_at net j).to) x y b others) (c.at_node w d);
+}
 
 taken_here : (b e e' s : ℤ) (k : ℕ) → b +ℤ e ≡ s → e' ≡ e +ℤ pos k → b +ℤ e' ≡ s +ℤ pos k
 taken_here b e e' s k h t = omega (arith, ints)
@@ -61,8 +63,8 @@ plus_none z s h = omega (arith, ints)
 -- k units more are left over at v, once k have been sent out of v that did not arrive
 pub taken_carries : (net : Net) (x : ℕ → ℕ) (e e' : ℕ → ℤ) (v k : ℕ) → Leaves net x e → e' v ≡ e v +ℤ pos k → ((w : ℕ) → w ≢ v → e' w ≡ e w) → Carries net x e' v k
 taken_carries net x e e' v k lv here others = record {
-    at_node = λ w b. elim (cases_eq v w) [
-      inl q ↦
+  at_node = λ w b. elim (cases_eq v w) [
+    | inl q ↦
         let at : balance net x w +ℤ e w ≡ supply_at net w = lv.at_node w b in
         let mine : e' w ≡ e w +ℤ pos k = subst (λ (t : ℕ). e' t ≡ e t +ℤ pos k) q here in
         let one : cond (eqb v w) k 0 ≡ k = cond-true {A = ℕ} (eqb v w) k 0 (eq-eqb v w q) in
@@ -71,7 +73,9 @@ taken_carries net x e e' v k lv here others = record {
         let at : balance net x w +ℤ e w ≡ supply_at net w = lv.at_node w b in
         let same : e' w ≡ e w = others w (λ q. ne (sym q)) in
         let none : cond (eqb v w) k 0 ≡ 0 = cond-false {A = ℕ} (eqb v w) k 0 (ne_eqb v w ne) in
-        rw (none, same) (plus_none (balance net x w +ℤ e w) (supply_at net w) at) ] }
+        rw (none, same) (plus_none (balance net x w +ℤ e w) (supply_at net w) at)
+  ];
+}
 
 given_here : (b e e' s : ℤ) (k : ℕ) → b +ℤ e ≡ s +ℤ pos k → e' ≡ e -ℤ pos k → b +ℤ e' ≡ s
 given_here b e e' s k h t = omega (arith, ints)
@@ -82,8 +86,8 @@ minus_none z s h = omega (arith, ints)
 -- what was sent out of v is taken from what is left over there
 pub carried_leaves : (net : Net) (x : ℕ → ℕ) (e e' : ℕ → ℤ) (v k : ℕ) → Carries net x e v k → e' v ≡ e v -ℤ pos k → ((w : ℕ) → w ≢ v → e' w ≡ e w) → Leaves net x e'
 carried_leaves net x e e' v k c here others = record {
-    at_node = λ w b. elim (cases_eq v w) [
-      inl q ↦
+  at_node = λ w b. elim (cases_eq v w) [
+    | inl q ↦
         let one : cond (eqb v w) k 0 ≡ k = cond-true {A = ℕ} (eqb v w) k 0 (eq-eqb v w q) in
         let at : balance net x w +ℤ e w ≡ supply_at net w +ℤ pos k = rw one at (c.at_node w b) in
         let mine : e' w ≡ e w -ℤ pos k = subst (λ (t : ℕ). e' t ≡ e t -ℤ pos k) q here in
@@ -92,7 +96,9 @@ carried_leaves net x e e' v k c here others = record {
         let none : cond (eqb v w) k 0 ≡ 0 = cond-false {A = ℕ} (eqb v w) k 0 (ne_eqb v w ne) in
         let at : balance net x w +ℤ e w ≡ supply_at net w +ℤ pos 0 = rw none at (c.at_node w b) in
         let same : e' w ≡ e w = others w (λ q. ne (sym q)) in
-        rw same (minus_none (balance net x w +ℤ e w) (supply_at net w) at) ] }
+        rw same (minus_none (balance net x w +ℤ e w) (supply_at net w) at)
+  ];
+}
 
 -- ---- capacities
 
@@ -115,11 +121,12 @@ within_moved net x y z i k room true w fits same le moved = within_under (arc_at
 pub moved_within : (net : Net) (x y z : ℕ → ℕ) (i k room : ℕ) (back : Bool) → KeepsCaps net y → FitsAlong net x i back room → y i ≡ x i → k ≤ room → IsMoved back (y i) k (z i) → SameBut i y z → KeepsCaps net z
 moved_within net x y z i k room back caps fits same le moved others j b =
     elim (cases_eq j i) [
-      inl q ↦
-        let P : ℕ → Type 0 = λ t. IsWithin (arc_at net t).cap (z t) in
-        let C : ℕ → Type 0 = λ t. IsWithin (arc_at net t).cap (y t) in
-        subst P (sym q) (within_moved net x y z i k room back (subst C q (caps j b)) fits same le moved)
-    | inr ne ↦ let P : ℕ → Type 0 = λ t. IsWithin (arc_at net j).cap t in subst P (sym (others j ne)) (caps j b) ]
+      | inl q ↦
+          let P : ℕ → Type 0 = λ t. IsWithin (arc_at net t).cap (z t) in
+          let C : ℕ → Type 0 = λ t. IsWithin (arc_at net t).cap (y t) in
+          subst P (sym q) (within_moved net x y z i k room back (subst C q (caps j b)) fits same le moved)
+      | inr ne ↦ let P : ℕ → Type 0 = λ t. IsWithin (arc_at net j).cap t in subst P (sym (others j ne)) (caps j b)
+    ]
 
 grown_here : (back : Bool) (x y z k : ℕ) → y ≡ x → IsMoved back y k z → z ≤ x + k
 grown_here false x y z k same moved = omega arith
@@ -129,8 +136,9 @@ grown_here true x y z k same moved = omega arith
 pub moved_grown : (x y z : ℕ → ℕ) (i j k : ℕ) (back : Bool) → y i ≡ x i → IsMoved back (y i) k (z i) → SameBut i y z → y j ≤ x j + k → z j ≤ x j + k
 moved_grown x y z i j k back same moved others le =
     elim (cases_eq j i) [
-      inl q ↦ let P : ℕ → Type 0 = λ t. z t ≤ x t + k in subst P (sym q) (grown_here back (x i) (y i) (z i) k same moved)
-    | inr ne ↦ let e : z j ≡ y j = others j ne in omega arith ]
+      | inl q ↦ let P : ℕ → Type 0 = λ t. z t ≤ x t + k in subst P (sym q) (grown_here back (x i) (y i) (z i) k same moved)
+      | inr ne ↦ let e : z j ≡ y j = others j ne in omega arith
+    ]
 
 -- ---- potentials
 
@@ -157,9 +165,11 @@ free_both_ways net p i true false h = unnegated (pos (arc_at net i).cost) (p (ar
 -- an arc of reduced cost 0 may change as it will
 pub potentials_stay : (net : Net) (x y : ℕ → ℕ) (p : ℕ → ℤ) (i : ℕ) (back : Bool) → SameBut i x y → reduced_cost net p i back ≡ pos 0 → HasPotentials net x p → HasPotentials net y p
 potentials_stay net x y p i back others free h = record {
-    residual = λ j other b r. elim (cases_eq j i) [
-      inl q ↦ let P : ℕ → Type 0 = λ t. pos 0 ≤ℤ reduced_cost net p t other in subst P (sym q) (free_both_ways net p i back other free)
-    | inr ne ↦ h.residual j other b (residual_same net x y j other (others j ne) r) ] }
+  residual = λ j other b r. elim (cases_eq j i) [
+    | inl q ↦ let P : ℕ → Type 0 = λ t. pos 0 ≤ℤ reduced_cost net p t other in subst P (sym q) (free_both_ways net p i back other free)
+    | inr ne ↦ h.residual j other b (residual_same net x y j other (others j ne) r)
+  ];
+}
 
 -- ---- the arcs above a node
 
@@ -173,7 +183,7 @@ ends_not_above net tree v i true start below (inr h) = let e : rank_at tree (arc
 above_apart : (net : Net) (tree : List Place) (v : ℕ) (s : Step) (j : ℕ) → StepsDown net tree v s → (rank_at tree v < rank_at tree (arc_at net j).from) ⊎ (rank_at tree v < rank_at tree (arc_at net j).to) → j ≢ s.arc
 above_apart net tree v s j d above q =
     let e : (rank_at tree v < rank_at tree (arc_at net s.arc).from) ⊎ (rank_at tree v < rank_at tree (arc_at net s.arc).to) =
-      subst (λ (t : ℕ). (rank_at tree v < rank_at tree (arc_at net t).from) ⊎ (rank_at tree v < rank_at tree (arc_at net t).to)) q above in
+    subst (λ (t : ℕ). (rank_at tree v < rank_at tree (arc_at net t).from) ⊎ (rank_at tree v < rank_at tree (arc_at net t).to)) q above in
     ends_not_above net tree v s.arc s.back d.start d.below e
 
 lower_bound : (net : Net) (tree : List Place) (v : ℕ) (s : Step) (j : ℕ) → StepsDown net tree v s → (rank_at tree v < rank_at tree (arc_at net j).from) ⊎ (rank_at tree v < rank_at tree (arc_at net j).to) → (rank_at tree (end_of net s.arc s.back) < rank_at tree (arc_at net j).from) ⊎ (rank_at tree (end_of net s.arc s.back) < rank_at tree (arc_at net j).to)
@@ -188,7 +198,6 @@ above_stays net tree v w s x y z j d q others inner above =
 own_ends : (net : Net) (tree : List Place) (v i : ℕ) (back : Bool) → start_of net i back ≡ v → rank_at tree v ≡ rank_at tree (end_of net i back) + 1 → (rank_at tree (end_of net i back) < rank_at tree (arc_at net i).from) ⊎ (rank_at tree (end_of net i back) < rank_at tree (arc_at net i).to)
 own_ends net tree v i false start below = let e : rank_at tree (arc_at net i).from ≡ rank_at tree v = ap (rank_at tree) start in inl (omega arith)
 own_ends net tree v i true start below = let e : rank_at tree (arc_at net i).to ≡ rank_at tree v = ap (rank_at tree) start in inr (omega arith)
-
 
 -- the step's own arc is above its end w
 pub own_above : (net : Net) (tree : List Place) (v w : ℕ) (s : Step) → StepsDown net tree v s → w ≡ end_of net s.arc s.back → (rank_at tree w < rank_at tree (arc_at net s.arc).from) ⊎ (rank_at tree w < rank_at tree (arc_at net s.arc).to)

@@ -76,18 +76,18 @@ no_flow_out net x e s u ends lv closed none inside su eu y fy =
     let f : ℕ → ℕ = λ v. w v * (leaves net x v + enters net y v) in
     let g : ℕ → ℕ = λ v. w v * (leaves net y v + enters net x v) in
     let le : (v : ℕ) → v < n → f v ≤ g v = λ v b.
-      weighed_le (s v) (leaves net x v + enters net y v) (leaves net y v + enters net x v)
-      (λ sv. more_out (leaves net x v) (enters net x v) (leaves net y v) (enters net y v) (e v) (supply_at net v) (lv.at_node v b) (fy.meets v b) (none v b sv)) in
+    weighed_le (s v) (leaves net x v + enters net y v) (leaves net y v + enters net x v)
+    (λ sv. more_out (leaves net x v) (enters net x v) (leaves net y v) (enters net y v) (e v) (supply_at net v) (lv.at_node v b) (fy.meets v b) (none v b sv)) in
     let lt : f u < g u =
-      weighed_lt (s u) (leaves net x u + enters net y u) (leaves net y u + enters net x u) su
-      (most_out (leaves net x u) (enters net x u) (leaves net y u) (enters net y u) (e u) (supply_at net u) (lv.at_node u inside) (fy.meets u inside) eu) in
+    weighed_lt (s u) (leaves net x u + enters net y u) (leaves net y u + enters net x u) su
+    (most_out (leaves net x u) (enters net x u) (leaves net y u) (enters net y u) (e u) (supply_at net u) (lv.at_node u inside) (fy.meets u inside) eu) in
     let less : sum_below n f < sum_below n g = sum_below-lt n u f g inside le lt in
     let by_f : sum_below n f ≡ at_starts net w x + at_ends net w y = sides_are net x y w ends in
     let by_g : sum_below n g ≡ at_starts net w y + at_ends net w x = sides_are net y x w ends in
     let arcs : at_starts net w y + at_ends net w x ≤ at_starts net w x + at_ends net w y =
-      sides_le net x y w (λ i b. border (s (arc_at net i).from) (s (arc_at net i).to) (x i) (y i)
-        (λ sf st. full_most (arc_at net i).cap (x i) (y i) (λ r. both_ways (s (arc_at net i).to) st (closed.stays i false b r sf)) (fy.within i b))
-        (λ st sf. idle (x i) (y i) (λ r. both_ways (s (arc_at net i).from) sf (closed.stays i true b r st)))) in
+    sides_le net x y w (λ i b. border (s (arc_at net i).from) (s (arc_at net i).to) (x i) (y i)
+    (λ sf st. full_most (arc_at net i).cap (x i) (y i) (λ r. both_ways (s (arc_at net i).to) st (closed.stays i false b r sf)) (fy.within i b))
+    (λ st sf. idle (x i) (y i) (λ r. both_ways (s (arc_at net i).from) sf (closed.stays i true b r st)))) in
     omega arith
 
 -- a set that no residual arc enters, with nothing left over and something wanting: there is no flow
@@ -99,16 +99,16 @@ no_flow_into net x e s u ends lv closed none inside su eu y fy =
     let f : ℕ → ℕ = λ v. w v * (leaves net y v + enters net x v) in
     let g : ℕ → ℕ = λ v. w v * (leaves net x v + enters net y v) in
     let le : (v : ℕ) → v < n → f v ≤ g v = λ v b.
-      weighed_le (s v) (leaves net y v + enters net x v) (leaves net x v + enters net y v)
-      (λ sv. more_in (leaves net x v) (enters net x v) (leaves net y v) (enters net y v) (e v) (supply_at net v) (lv.at_node v b) (fy.meets v b) (none v b sv)) in
+    weighed_le (s v) (leaves net y v + enters net x v) (leaves net x v + enters net y v)
+    (λ sv. more_in (leaves net x v) (enters net x v) (leaves net y v) (enters net y v) (e v) (supply_at net v) (lv.at_node v b) (fy.meets v b) (none v b sv)) in
     let lt : f u < g u =
-      weighed_lt (s u) (leaves net y u + enters net x u) (leaves net x u + enters net y u) su
-      (most_in (leaves net x u) (enters net x u) (leaves net y u) (enters net y u) (e u) (supply_at net u) (lv.at_node u inside) (fy.meets u inside) eu) in
+    weighed_lt (s u) (leaves net y u + enters net x u) (leaves net x u + enters net y u) su
+    (most_in (leaves net x u) (enters net x u) (leaves net y u) (enters net y u) (e u) (supply_at net u) (lv.at_node u inside) (fy.meets u inside) eu) in
     let less : sum_below n f < sum_below n g = sum_below-lt n u f g inside le lt in
     let by_f : sum_below n f ≡ at_starts net w y + at_ends net w x = sides_are net y x w ends in
     let by_g : sum_below n g ≡ at_starts net w x + at_ends net w y = sides_are net x y w ends in
     let arcs : at_starts net w x + at_ends net w y ≤ at_starts net w y + at_ends net w x =
-      sides_le net y x w (λ i b. border (s (arc_at net i).from) (s (arc_at net i).to) (y i) (x i)
-        (λ sf st. idle (x i) (y i) (λ r. both_ways (s (arc_at net i).to) st (closed.stays i true b r sf)))
-        (λ st sf. full_most (arc_at net i).cap (x i) (y i) (λ r. both_ways (s (arc_at net i).from) sf (closed.stays i false b r st)) (fy.within i b))) in
+    sides_le net y x w (λ i b. border (s (arc_at net i).from) (s (arc_at net i).to) (y i) (x i)
+    (λ sf st. idle (x i) (y i) (λ r. both_ways (s (arc_at net i).to) st (closed.stays i true b r sf)))
+    (λ st sf. full_most (arc_at net i).cap (x i) (y i) (λ r. both_ways (s (arc_at net i).from) sf (closed.stays i false b r st)) (fy.within i b))) in
     omega arith

@@ -27,9 +27,9 @@ sides_are net x y w ends =
     let out : sum_below n (λ v. w v * leaves net x v) ≡ at_starts net w x = exchanged m n (λ i. (arc_at net i).from) x w (λ i b. (ends i b).0) in
     let into : sum_below n (λ v. w v * enters net y v) ≡ at_ends net w y = exchanged m n (λ i. (arc_at net i).to) y w (λ i b. (ends i b).1) in
     let parted : sum_below n (λ v. w v * (leaves net x v + enters net y v)) ≡ sum_below n (λ v. w v * leaves net x v + w v * enters net y v) =
-      sum_below-same n (λ v. w v * (leaves net x v + enters net y v)) (λ v. w v * leaves net x v + w v * enters net y v) (λ v b. mul-add (w v) (leaves net x v) (enters net y v)) in
+    sum_below-same n (λ v. w v * (leaves net x v + enters net y v)) (λ v. w v * leaves net x v + w v * enters net y v) (λ v b. mul-add (w v) (leaves net x v) (enters net y v)) in
     let both : sum_below n (λ v. w v * leaves net x v + w v * enters net y v) ≡ sum_below n (λ v. w v * leaves net x v) + sum_below n (λ v. w v * enters net y v) =
-      sum_below-add n (λ v. w v * leaves net x v) (λ v. w v * enters net y v) in
+    sum_below-add n (λ v. w v * leaves net x v) (λ v. w v * enters net y v) in
     omega arith
 
 balances : (a b c d : ℕ) → pos a -ℤ pos b ≡ pos c -ℤ pos d → a + d ≡ c + b
@@ -40,11 +40,11 @@ pub same_weight : (net : Net) (x y w : ℕ → ℕ) → HasEnds net → Flow net
 same_weight net x y w ends fx fy =
     let n = node_count net in
     let node : (v : ℕ) → v < n → leaves net x v + enters net y v ≡ leaves net y v + enters net x v = λ v b.
-      let hx : balance net x v ≡ supply_at net v = fx.meets v b in
-      let hy : balance net y v ≡ supply_at net v = fy.meets v b in
-      balances (leaves net x v) (enters net x v) (leaves net y v) (enters net y v) (hx ∙ sym hy) in
+    let hx : balance net x v ≡ supply_at net v = fx.meets v b in
+    let hy : balance net y v ≡ supply_at net v = fy.meets v b in
+    balances (leaves net x v) (enters net x v) (leaves net y v) (enters net y v) (hx ∙ sym hy) in
     let same : sum_below n (λ v. w v * (leaves net x v + enters net y v)) ≡ sum_below n (λ v. w v * (leaves net y v + enters net x v)) =
-      sum_below-same n (λ v. w v * (leaves net x v + enters net y v)) (λ v. w v * (leaves net y v + enters net x v)) (λ v b. ap (λ (t : ℕ). w v * t) (node v b)) in
+    sum_below-same n (λ v. w v * (leaves net x v + enters net y v)) (λ v. w v * (leaves net y v + enters net x v)) (λ v b. ap (λ (t : ℕ). w v * t) (node v b)) in
     sym (sides_are net x y w ends) ∙ same ∙ sides_are net y x w ends
 
 rest : (x y : ℕ) → x < y → (d : ℕ) × (y ≡ x + d)
@@ -60,10 +60,12 @@ exchange_down x y d a b e h = rw e (omega (arith, mul-le-mul_left d h))
 pub arc_part : (x y a b : ℕ) → (x < y → b ≤ a) → (y < x → a ≤ b) → a * x + b * y ≤ a * y + b * x
 arc_part x y a b more less =
     elim (cases_order x y) [
-      inl e ↦ omega (arith, ap (λ (t : ℕ). a * t) e, ap (λ (t : ℕ). b * t) e)
-    | inr o ↦ elim o [
-        inl l ↦ let (d, e) = rest x y l in exchange_up x y d a b e (more l)
-      | inr l ↦ let (d, e) = rest y x l in exchange_down x y d a b e (less l) ] ]
+      | inl e ↦ omega (arith, ap (λ (t : ℕ). a * t) e, ap (λ (t : ℕ). b * t) e)
+      | inr o ↦ elim o [
+        | inl l ↦ let (d, e) = rest x y l in exchange_up x y d a b e (more l)
+        | inr l ↦ let (d, e) = rest y x l in exchange_down x y d a b e (less l)
+      ]
+    ]
 
 -- a larger amount within the capacity shows room for one unit more
 pub room_below : (c : Cap) (x y : ℕ) → IsWithin c y → x < y → HasRoom c x
@@ -94,16 +96,16 @@ least_by_potentials net x p ends fx hp y fy =
     let left : ℕ → ℕ = λ i. cost i * x i + up (s i) * x i + down (t i) * x i + (up (t i) * y i + down (s i) * y i) in
     let right : ℕ → ℕ = λ i. cost i * y i + up (s i) * y i + down (t i) * y i + (up (t i) * x i + down (s i) * x i) in
     let part : (i : ℕ) → i < m → left i ≤ right i = λ i b.
-      one_arc (cost i) (x i) (y i) (up (s i)) (down (s i)) (up (t i)) (down (t i))
-      (λ l. forward_part (cost i) (s i) (t i) (hp.residual i false b (room_below (arc_at net i).cap (x i) (y i) (fy.within i b) l)))
-      (λ l. backward_part (cost i) (s i) (t i) (hp.residual i true b (omega arith))) in
+    one_arc (cost i) (x i) (y i) (up (s i)) (down (s i)) (up (t i)) (down (t i))
+    (λ l. forward_part (cost i) (s i) (t i) (hp.residual i false b (room_below (arc_at net i).cap (x i) (y i) (fy.within i b) l)))
+    (λ l. backward_part (cost i) (s i) (t i) (hp.residual i true b (omega arith))) in
     let whole : sum_below m left ≤ sum_below m right = sum_below-le m left right part in
     let by_left : sum_below m left ≡ cost_of net x + at_starts net (λ v. up (p v)) x + at_ends net (λ v. down (p v)) x + (at_ends net (λ v. up (p v)) y + at_starts net (λ v. down (p v)) y) =
-      five m (λ i. cost i * x i) (λ i. up (s i) * x i) (λ i. down (t i) * x i) (λ i. up (t i) * y i) (λ i. down (s i) * y i) in
+    five m (λ i. cost i * x i) (λ i. up (s i) * x i) (λ i. down (t i) * x i) (λ i. up (t i) * y i) (λ i. down (s i) * y i) in
     let by_right : sum_below m right ≡ cost_of net y + at_starts net (λ v. up (p v)) y + at_ends net (λ v. down (p v)) y + (at_ends net (λ v. up (p v)) x + at_starts net (λ v. down (p v)) x) =
-      five m (λ i. cost i * y i) (λ i. up (s i) * y i) (λ i. down (t i) * y i) (λ i. up (t i) * x i) (λ i. down (s i) * x i) in
+    five m (λ i. cost i * y i) (λ i. up (s i) * y i) (λ i. down (t i) * y i) (λ i. up (t i) * x i) (λ i. down (s i) * x i) in
     let ups : at_starts net (λ v. up (p v)) x + at_ends net (λ v. up (p v)) y ≡ at_starts net (λ v. up (p v)) y + at_ends net (λ v. up (p v)) x =
-      same_weight net x y (λ v. up (p v)) ends fx fy in
+    same_weight net x y (λ v. up (p v)) ends fx fy in
     let downs : at_starts net (λ v. down (p v)) x + at_ends net (λ v. down (p v)) y ≡ at_starts net (λ v. down (p v)) y + at_ends net (λ v. down (p v)) x =
-      same_weight net x y (λ v. down (p v)) ends fx fy in
+    same_weight net x y (λ v. down (p v)) ends fx fy in
     omega arith

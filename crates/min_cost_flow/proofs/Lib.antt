@@ -1,3 +1,5 @@
 pub mod Duality
 pub mod Cut
 pub mod Changes
+pub mod Growing
+pub mod Rounds

@@ -4,3 +4,4 @@ pub mod Fault
 pub mod Excess
 pub mod Residual
 pub mod Tree
+pub mod Round

@@ -8,9 +8,12 @@
 mod arc;
 mod network;
 mod residual;
+mod search;
 mod solved;
+mod solver;
 mod tree;
 
 pub use arc::{Arc, Cap};
 pub use network::{NetFault, Network};
 pub use solved::Solved;
+pub use solver::{SolveFault, solve};

@@ -100,6 +100,14 @@ impl Network {
         self.arcs[i as usize]
     }
 
+    /// The supplies, by node.
+    pub fn supplies(&self) -> &[i32]
+        ensures supplies { result.now ≡ self.now.supplies }
+        ensures kept { IsNetwork self.now }
+    {
+        &self.supplies
+    }
+
     /// The supply of a node.
     pub fn supply(&self, node: u32) -> i32
         requires { node < node_count self.now }

@@ -19,7 +19,14 @@ pub(crate) struct Place {
 
 /// Sends as much of `most` units as fits from a node of the forest down to a root where units are
 /// wanting, and gives the number of units sent. The caller takes them from the node's excess.
-pub(crate) fn route(net: &Network, tree: &[Place], flow: &mut [u32], excess: &mut [i32], node: u32, most: u32) -> u32
+pub(crate) fn route(
+    net: &Network,
+    tree: &[Place],
+    flow: &mut [u32],
+    excess: &mut [i32],
+    node: u32,
+    most: u32,
+) -> u32
     requires nodes { length tree.now ≡ node_count net.now }
     requires arcs { length flow.old ≡ arc_count net.now }
     requires sizes { length excess.old ≡ node_count net.now }

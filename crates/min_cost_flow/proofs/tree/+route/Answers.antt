@@ -31,7 +31,7 @@ push-requires-clause-room t c back =
     let s = c.in-Some.step in
     let d = c.requires.forest.down c.args.node s c.requires.node c.in-Some.is in
     let same : amounts c.route-sent.new.flow s.arc ≡ amounts c.args.flow.now s.arc =
-      c.route-sent.ensures.above s.arc d.arc (own_above net c.args.tree.now c.args.node c.end.result s d c.end.ensures.end) in
+    c.route-sent.ensures.above s.arc d.arc (own_above net c.args.tree.now c.args.node c.end.result s d c.end.ensures.end) in
     fits_back net (amounts c.args.flow.now) (amounts c.route-sent.new.flow) s.arc c.room-room.result c.route-sent.result s.back c.room-room.ensures.fits same c.route-sent.ensures.most back
 
 pub push-requires-clause-fits : goal.push-requires-clause-fits
@@ -39,7 +39,7 @@ push-requires-clause-fits t c =
     let d = c.requires.forest.down c.args.node c.in-Some.step c.requires.node c.in-Some.is in
     let s = c.in-Some.step in
     let same : amounts c.route-sent.new.flow s.arc ≡ amounts c.args.flow.now s.arc =
-      c.route-sent.ensures.above s.arc d.arc (own_above c.args.net.now c.args.tree.now c.args.node c.end.result s d c.end.ensures.end) in
+    c.route-sent.ensures.above s.arc d.arc (own_above c.args.net.now c.args.tree.now c.args.node c.end.result s d c.end.ensures.end) in
     omega (arith, c.requires.fits s.arc d.arc)
 
 pub returns-in-None-clause-carries : goal.returns-in-None-clause-carries
@@ -52,7 +52,7 @@ returns-in-Some-clause-caps t c =
     let s = c.in-Some.step in
     let d = c.requires.forest.down c.args.node s c.requires.node c.in-Some.is in
     let same : amounts c.route-sent.new.flow s.arc ≡ amounts c.args.flow.now s.arc =
-      c.route-sent.ensures.above s.arc d.arc (own_above net c.args.tree.now c.args.node c.end.result s d c.end.ensures.end) in
+    c.route-sent.ensures.above s.arc d.arc (own_above net c.args.tree.now c.args.node c.end.result s d c.end.ensures.end) in
     moved_within net (amounts c.args.flow.now) (amounts c.route-sent.new.flow) (amounts c.push.new.flow) s.arc c.route-sent.result c.room-room.result s.back c.route-sent.ensures.caps c.room-room.ensures.fits same c.route-sent.ensures.most c.push.ensures.moved c.push.ensures.others
 
 pub returns-in-Some-clause-carries : goal.returns-in-Some-clause-carries
@@ -80,7 +80,7 @@ returns-in-Some-clause-grown t c j b =
     let s = c.in-Some.step in
     let d = c.requires.forest.down c.args.node s c.requires.node c.in-Some.is in
     let same : amounts c.route-sent.new.flow s.arc ≡ amounts c.args.flow.now s.arc =
-      c.route-sent.ensures.above s.arc d.arc (own_above net c.args.tree.now c.args.node c.end.result s d c.end.ensures.end) in
+    c.route-sent.ensures.above s.arc d.arc (own_above net c.args.tree.now c.args.node c.end.result s d c.end.ensures.end) in
     moved_grown (amounts c.args.flow.now) (amounts c.route-sent.new.flow) (amounts c.push.new.flow) s.arc j c.route-sent.result s.back same c.push.ensures.moved c.push.ensures.others (c.route-sent.ensures.grown j b)
 
 pub returns-in-Some-clause-priced : goal.returns-in-Some-clause-priced
