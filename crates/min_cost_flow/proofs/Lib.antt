@@ -3,3 +3,4 @@ pub mod Cut
 pub mod Changes
 pub mod Growing
 pub mod Rounds
+pub mod Existence

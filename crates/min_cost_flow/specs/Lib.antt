@@ -5,3 +5,4 @@ pub mod Excess
 pub mod Residual
 pub mod Tree
 pub mod Round
+pub mod Existence

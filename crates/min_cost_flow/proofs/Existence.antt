@@ -1,0 +1,402 @@
+-- A network has a flow where what is left over can reach what is wanting along arcs of no limit.
+use Rattle.std.proofs.Common.{◌≡◌, ◌≢◌, ◌≤◌, ◌<◌, ◌⊎◌, ℕ, zero, suc, ◌+◌, ◌*◌, cond, eqb, Bool, true, false, refl, sym, ◌∙◌, ap, subst, inl, inr, arith}
+use Rattle.std.specs.Prelude.{ℤ, pos, negsuc, ◌+ℤ◌, ◌-ℤ◌, ◌≤ℤ◌, ◌<ℤ◌}
+use Rattle.std.proofs.lemmas.Bool.{cases_eq, cases_Bool, eq-eqb, ne_eqb, cond-true, cond-false, both_ways}
+use Rattle.std.proofs.lemmas.Int.{ints}
+use borrow.Author.Differences.{up, down}
+use Rattle.sums.specs.Sums.{sum_below, total_below}
+use Rattle.sums.proofs.Sums.{sum_below-same, sum_below-changed, sum_below-some, sum_below-member, sum_below-add, exchanged, total_below-parts}
+use Rattle.min_cost_flow.specs.declared.arc.Cap.{Cap}
+use Rattle.min_cost_flow.specs.declared.arc.Cap.TheVariants.{AtMost, Any}
+use Rattle.min_cost_flow.specs.Net.{Net, node_count, arc_count, arc_at, supply_at, HasEnds}
+use Rattle.min_cost_flow.specs.Flow.{leaves, enters, balance, IsWithin, Flow}
+use Rattle.min_cost_flow.specs.Excess.{KeepsCaps, Leaves, Carries}
+use Rattle.min_cost_flow.specs.Existence.{IsClosedAny, IsJoined, IsBalanced}
+use Rattle.min_cost_flow.proofs.Changes.{SameBut, moved_carries, carried_leaves, taken_carries}
+use Rattle.min_cost_flow.proofs.Rounds.{flow_at}
+
+-- a number below m that passes, or none does
+found_below : (m : ℕ) (t : ℕ → Bool) → ((i : ℕ) × (i < m) × (t i ≡ true)) ⊎ ((i : ℕ) → i < m → t i ≡ false)
+found_below zero t = inr (λ i b. absurd (omega arith))
+found_below (suc m) t =
+    elim (found_below m t) [
+      inl f ↦ let (i, b, h) = f in inl (i, omega arith, h)
+    | inr none ↦ elim (cases_Bool (t m)) [
+        inl h ↦ inl (m, omega arith, h)
+      | inr h ↦ inr (λ i b. elim (cases_eq i m) [
+          inl e ↦ subst (λ (k : ℕ). t k ≡ false) (sym e) h
+        | inr ne ↦ none i (omega arith) ]) ] ]
+
+-- ---- one unit to a node that can be reached
+
+-- whatever the amounts, one unit more can be sent from u to v
+record Reaches (net : Net) (u v : ℕ) : Type 0 where
+  sent : (ℕ → ℕ) → ℕ → ℕ
+  caps : (x : ℕ → ℕ) → KeepsCaps net x → KeepsCaps net (sent x)
+  carries : (x : ℕ → ℕ) (e : ℕ → ℤ) → Carries net x e v 1 → Carries net (sent x) e u 1
+
+reaches_itself : (net : Net) (u : ℕ) → Reaches net u u
+reaches_itself net u = record {
+    sent = λ x i. x i;
+    caps = λ x h. h;
+    carries = λ x e h. h }
+
+-- one unit more on arc i
+one_more : ℕ → (ℕ → ℕ) → ℕ → ℕ
+one_more i x j = cond (eqb j i) (x j + 1) (x j)
+
+one_more_here : (i : ℕ) (x : ℕ → ℕ) → one_more i x i ≡ x i + 1
+unfolding one_more
+one_more_here i x = cond-true {A = ℕ} (eqb i i) (x i + 1) (x i) (eq-eqb i i refl)
+
+one_more_same : (i : ℕ) (x : ℕ → ℕ) → SameBut i x (one_more i x)
+unfolding one_more
+one_more_same i x j ne = cond-false {A = ℕ} (eqb j i) (x j + 1) (x j) (ne_eqb j i ne)
+
+any_within : (c : Cap) (k : ℕ) → c ≡ Any → IsWithin c k
+any_within c k e = let P : Cap → Type 0 = λ t. IsWithin t k in subst P (sym e) tt
+
+one_more_within : (net : Net) (i : ℕ) (x : ℕ → ℕ) → (arc_at net i).cap ≡ Any → KeepsCaps net x → KeepsCaps net (one_more i x)
+one_more_within net i x any caps j b =
+    elim (cases_eq j i) [
+      inl e ↦ let P : ℕ → Type 0 = λ t. IsWithin (arc_at net t).cap (one_more i x j) in subst P (sym e) (any_within (arc_at net i).cap (one_more i x j) any)
+    | inr ne ↦ let P : ℕ → Type 0 = λ k. IsWithin (arc_at net j).cap k in subst P (sym (one_more_same i x j ne)) (caps j b) ]
+
+-- past an arc of no limit
+reaches_on : (net : Net) (u i : ℕ) → i < arc_count net → (arc_at net i).cap ≡ Any → Reaches net u (arc_at net i).from → Reaches net u (arc_at net i).to
+reaches_on net u i b any r = record {
+    sent = λ x. r.sent (one_more i x);
+    caps = λ x h. r.caps (one_more i x) (one_more_within net i x any h);
+    carries = λ x e h. r.carries (one_more i x) e (moved_carries net x (one_more i x) e i 1 false b (one_more_here i x) (one_more_same i x) h) }
+
+-- ---- all nodes that can be reached
+
+record IsReached (net : Net) (u : ℕ) (s : ℕ → Bool) : Type 0 where
+  inside : s u ≡ true
+  reaches : (v : ℕ) → s v ≡ true → Reaches net u v
+
+is_any : Cap → Bool
+is_any (AtMost k) = false
+is_any Any = true
+
+any_is : (c : Cap) → is_any c ≡ true → c ≡ Any
+unfolding is_any
+any_is (AtMost k) h = cc
+any_is Any h = refl
+
+is_any_at : (c : Cap) → c ≡ Any → is_any c ≡ true
+unfolding is_any
+is_any_at c e = ap is_any e
+
+-- arc i is of no limit and leads out of s
+leads_out : Net → (ℕ → Bool) → ℕ → Bool
+leads_out net s i = cond (is_any (arc_at net i).cap) (cond (s (arc_at net i).from) (cond (s (arc_at net i).to) false true) false) false
+
+three : (a b c : Bool) → cond a (cond b (cond c false true) false) false ≡ true → (a ≡ true) × (b ≡ true) × (c ≡ false)
+three true true false h = (refl, refl, refl)
+three true true true h = cc
+three true false c h = cc
+three false b c h = cc
+
+three_back : (a b c : Bool) → a ≡ true → b ≡ true → cond a (cond b (cond c false true) false) false ≡ false → c ≡ true
+three_back true true true p q h = refl
+three_back true true false p q h = cc
+three_back true false c p q h = cc
+three_back false b c p q h = cc
+
+out_parts : (net : Net) (s : ℕ → Bool) (i : ℕ) → leads_out net s i ≡ true → ((arc_at net i).cap ≡ Any) × (s (arc_at net i).from ≡ true) × (s (arc_at net i).to ≡ false)
+unfolding leads_out
+out_parts net s i h = let (a, f, t) = three (is_any (arc_at net i).cap) (s (arc_at net i).from) (s (arc_at net i).to) h in (any_is (arc_at net i).cap a, f, t)
+
+none_out : (net : Net) (s : ℕ → Bool) → ((i : ℕ) → i < arc_count net → leads_out net s i ≡ false) → IsClosedAny net s
+unfolding leads_out
+none_out net s none = record {
+    stays = λ i b any f. three_back (is_any (arc_at net i).cap) (s (arc_at net i).from) (s (arc_at net i).to) (is_any_at (arc_at net i).cap any) f (none i b) }
+
+-- s and w
+with_node : (ℕ → Bool) → ℕ → ℕ → Bool
+with_node s w v = cond (eqb v w) true (s v)
+
+with_here : (s : ℕ → Bool) (w : ℕ) → with_node s w w ≡ true
+unfolding with_node
+with_here s w = cond-true {A = Bool} (eqb w w) true (s w) (eq-eqb w w refl)
+
+with_other : (s : ℕ → Bool) (w v : ℕ) → v ≢ w → with_node s w v ≡ s v
+unfolding with_node
+with_other s w v ne = cond-false {A = Bool} (eqb v w) true (s v) (ne_eqb v w ne)
+
+missing : ℕ → (ℕ → Bool) → ℕ
+missing n s = sum_below n (λ v. cond (s v) 0 1)
+
+missing_some : (n : ℕ) (s : ℕ → Bool) (w : ℕ) → w < n → s w ≡ false → 0 < missing n s
+unfolding missing
+missing_some n s w b h =
+    let one : cond {A = ℕ} (s w) 0 1 ≡ 1 = cond-false {A = ℕ} (s w) 0 1 h in
+    omega (arith, sum_below-member n w (λ v. cond {A = ℕ} (s v) 0 1) b)
+
+missing_less : (n : ℕ) (s : ℕ → Bool) (w : ℕ) → w < n → s w ≡ false → missing n (with_node s w) + 1 ≡ missing n s
+unfolding missing
+missing_less n s w b h =
+    let was : cond {A = ℕ} (s w) 0 1 ≡ 1 = cond-false {A = ℕ} (s w) 0 1 h in
+    let is : cond {A = ℕ} (with_node s w w) 0 1 ≡ 0 = cond-true {A = ℕ} (with_node s w w) 0 1 (with_here s w) in
+    let sums : sum_below n (λ v. cond {A = ℕ} (with_node s w v) 0 1) + cond {A = ℕ} (s w) 0 1 ≡ sum_below n (λ v. cond {A = ℕ} (s v) 0 1) + cond {A = ℕ} (with_node s w w) 0 1 =
+      sum_below-changed n w (λ v. cond {A = ℕ} (with_node s w v) 0 1) (λ v. cond {A = ℕ} (s v) 0 1) b
+      (λ v c ne. ap (λ (t : Bool). cond {A = ℕ} t 0 1) (with_other s w v ne)) in
+    omega arith
+
+reached_more : (net : Net) (u i : ℕ) (s : ℕ → Bool) → i < arc_count net → (arc_at net i).cap ≡ Any → s (arc_at net i).from ≡ true → IsReached net u s → IsReached net u (with_node s (arc_at net i).to)
+reached_more net u i s b any f r =
+    let w = (arc_at net i).to in
+    let on : Reaches net u w = reaches_on net u i b any (r.reaches (arc_at net i).from f) in
+    record {
+      inside = elim (cases_eq u w) [
+          inl e ↦ subst (λ (t : ℕ). with_node s w t ≡ true) (sym e) (with_here s w)
+        | inr ne ↦ with_other s w u ne ∙ r.inside ];
+      reaches = λ v h. elim (cases_eq v w) [
+          inl e ↦ subst (λ (t : ℕ). Reaches net u t) (sym e) on
+        | inr ne ↦ r.reaches v (sym (with_other s w v ne) ∙ h) ] }
+
+-- what can be reached grows until no arc of no limit leads out of it
+spread : (net : Net) (u fuel : ℕ) (s : ℕ → Bool) → HasEnds net → missing (node_count net) s ≤ fuel → IsReached net u s → (t : ℕ → Bool) × IsReached net u t × IsClosedAny net t
+spread net u zero s ends few r =
+    elim (found_below (arc_count net) (leads_out net s)) [
+      inl f ↦ let (i, b, h) = f in let (any, from, to) = out_parts net s i h in let some : 0 < missing (node_count net) s = missing_some (node_count net) s (arc_at net i).to (ends i b).1 to in absurd (omega arith)
+    | inr none ↦ (s, r, none_out net s none) ]
+spread net u (suc fuel) s ends few r =
+    elim (found_below (arc_count net) (leads_out net s)) [
+      inl f ↦
+        let (i, b, h) = f in
+        let (any, from, to) = out_parts net s i h in
+        let w = (arc_at net i).to in
+        let less : missing (node_count net) (with_node s w) + 1 ≡ missing (node_count net) s = missing_less (node_count net) s w (ends i b).1 to in
+        spread net u fuel (with_node s w) ends (omega arith) (reached_more net u i s b any from r)
+    | inr none ↦ (s, r, none_out net s none) ]
+
+-- u alone
+alone : ℕ → ℕ → Bool
+alone u v = eqb v u
+
+alone_reached : (net : Net) (u : ℕ) → IsReached net u (alone u)
+unfolding alone
+alone_reached net u = record {
+    inside = eq-eqb u u refl;
+    reaches = λ v h. elim (cases_eq v u) [
+        inl e ↦ subst (λ (t : ℕ). Reaches net u t) (sym e) (reaches_itself net u)
+      | inr ne ↦ absurd (both_ways (eqb v u) (ne_eqb v u ne) h) ] }
+
+reaches_wanting : (net : Net) (e : ℕ → ℤ) (u v : ℕ) → HasEnds net → IsJoined net e → u < node_count net → v < node_count net → pos 0 <ℤ e u → e v <ℤ pos 0 → Reaches net u v
+reaches_wanting net e u v ends joined ub vb over under =
+    let (t, r, closed) = spread net u (missing (node_count net) (alone u)) (alone u) ends (omega arith) (alone_reached net u) in
+    r.reaches v (joined.meets t closed u v ub vb r.inside over under)
+
+-- ---- unit after unit
+
+-- e with one unit more at v
+brought : (ℕ → ℤ) → ℕ → ℕ → ℤ
+brought e v w = cond (eqb w v) (e w +ℤ pos 1) (e w)
+
+brought_here : (e : ℕ → ℤ) (v : ℕ) → brought e v v ≡ e v +ℤ pos 1
+unfolding brought
+brought_here e v = cond-true {A = ℤ} (eqb v v) (e v +ℤ pos 1) (e v) (eq-eqb v v refl)
+
+brought_other : (e : ℕ → ℤ) (v w : ℕ) → w ≢ v → brought e v w ≡ e w
+unfolding brought
+brought_other e v w ne = cond-false {A = ℤ} (eqb w v) (e w +ℤ pos 1) (e w) (ne_eqb w v ne)
+
+-- d with one unit less at u
+given : (ℕ → ℤ) → ℕ → ℕ → ℤ
+given d u w = cond (eqb w u) (d w -ℤ pos 1) (d w)
+
+given_at : (d : ℕ → ℤ) (u : ℕ) → given d u u ≡ d u -ℤ pos 1
+unfolding given
+given_at d u = cond-true {A = ℤ} (eqb u u) (d u -ℤ pos 1) (d u) (eq-eqb u u refl)
+
+given_other : (d : ℕ → ℤ) (u w : ℕ) → w ≢ u → given d u w ≡ d w
+unfolding given
+given_other d u w ne = cond-false {A = ℤ} (eqb w u) (d w -ℤ pos 1) (d w) (ne_eqb w u ne)
+
+up_less : (z y : ℤ) → pos 0 <ℤ z → y ≡ z -ℤ pos 1 → (up y + 1 ≡ up z) × (down y ≡ down z)
+up_less (pos zero) y h e = absurd (omega (arith, ints))
+up_less (pos (suc n)) y h e = let k : y ≡ pos n = omega (arith, ints) in (omega (arith, ap up k), omega (arith, ap down k))
+up_less (negsuc n) y h e = absurd (omega (arith, ints))
+
+down_less : (z y : ℤ) → z <ℤ pos 0 → y ≡ z +ℤ pos 1 → (down y + 1 ≡ down z) × (up y ≡ up z)
+down_less (pos n) y h e = absurd (omega (arith, ints))
+down_less (negsuc zero) y h e = let k : y ≡ pos 0 = omega (arith, ints) in (omega (arith, ap down k), omega (arith, ap up k))
+down_less (negsuc (suc n)) y h e = let k : y ≡ negsuc n = omega (arith, ints) in (omega (arith, ap down k), omega (arith, ap up k))
+
+over_up : (z : ℤ) → 0 < up z → pos 0 <ℤ z
+over_up (pos n) h = omega (arith, ints)
+over_up (negsuc n) h = absurd (omega arith)
+
+under_down : (z : ℤ) → 0 < down z → z <ℤ pos 0
+under_down (pos n) h = absurd (omega arith)
+under_down (negsuc n) h = omega (arith, ints)
+
+apart : (z : ℤ) → pos 0 <ℤ z → z <ℤ pos 0 → ⊥
+apart z a b = omega (arith, ints)
+
+still_over : (z y : ℤ) → y ≡ z -ℤ pos 1 → pos 0 <ℤ y → pos 0 <ℤ z
+still_over z y e h = omega (arith, ints)
+
+-- one unit from u, where something is left over, to v, where something is wanting
+record IsUnit (net : Net) (e d f : ℕ → ℤ) (u v : ℕ) : Type 0 where
+  source : u < node_count net
+  sink : v < node_count net
+  over : pos 0 <ℤ e u
+  under : e v <ℤ pos 0
+  here : d v ≡ e v +ℤ pos 1
+  others : (w : ℕ) → w ≢ v → d w ≡ e w
+  taken : f u ≡ d u -ℤ pos 1
+  rest : (w : ℕ) → w ≢ u → f w ≡ d w
+
+unit_apart : (net : Net) (e d f : ℕ → ℤ) (u v : ℕ) → IsUnit net e d f u v → u ≢ v
+unit_apart net e d f u v k q = apart (e u) k.over (subst (λ (t : ℕ). e t <ℤ pos 0) (sym q) k.under)
+
+sum_ups : (net : Net) (e d f : ℕ → ℤ) (u v : ℕ) → IsUnit net e d f u v → sum_below (node_count net) (λ w. up (f w)) + 1 ≡ sum_below (node_count net) (λ w. up (e w))
+sum_ups net e d f u v k =
+    let n = node_count net in
+    let ne : u ≢ v = unit_apart net e d f u v k in
+    let same : d u ≡ e u = k.others u ne in
+    let fell : f u ≡ e u -ℤ pos 1 = rw (← same) k.taken in
+    let (less, _) = up_less (e u) (f u) k.over fell in
+    let sums : sum_below n (λ w. up (f w)) + up (e u) ≡ sum_below n (λ w. up (e w)) + up (f u) =
+      sum_below-changed n u (λ w. up (f w)) (λ w. up (e w)) k.source
+      (λ w b nu. elim (cases_eq w v) [
+          inl q ↦
+            let (_, keeps) = down_less (e v) (d v) k.under k.here in
+            let at : f v ≡ d v = k.rest v (λ r. ne (sym r)) in
+            subst (λ (t : ℕ). up (f t) ≡ up (e t)) (sym q) (ap up at ∙ keeps)
+        | inr nv ↦ ap up (k.rest w nu ∙ k.others w nv) ]) in
+    omega arith
+
+sum_downs : (net : Net) (e d f : ℕ → ℤ) (u v : ℕ) → IsUnit net e d f u v → sum_below (node_count net) (λ w. down (f w)) + 1 ≡ sum_below (node_count net) (λ w. down (e w))
+sum_downs net e d f u v k =
+    let n = node_count net in
+    let ne : u ≢ v = unit_apart net e d f u v k in
+    let same : d u ≡ e u = k.others u ne in
+    let fell : f u ≡ e u -ℤ pos 1 = rw (← same) k.taken in
+    let at : f v ≡ d v = k.rest v (λ r. ne (sym r)) in
+    let (less, _) = down_less (e v) (d v) k.under k.here in
+    let sums : sum_below n (λ w. down (f w)) + down (e v) ≡ sum_below n (λ w. down (e w)) + down (f v) =
+      sum_below-changed n v (λ w. down (f w)) (λ w. down (e w)) k.sink
+      (λ w b nv. elim (cases_eq w u) [
+          inl q ↦
+            let (_, keeps) = up_less (e u) (f u) k.over fell in
+            subst (λ (t : ℕ). down (f t) ≡ down (e t)) (sym q) keeps
+        | inr nu ↦ ap down (k.rest w nu ∙ k.others w nv) ]) in
+    omega (arith, ap down at)
+
+not_brought : (z y : ℤ) → z <ℤ pos 0 → y ≡ z +ℤ pos 1 → pos 0 <ℤ y → ⊥
+not_brought z y a e h = omega (arith, ints)
+
+unit_over : (net : Net) (e d f : ℕ → ℤ) (u v w : ℕ) → IsUnit net e d f u v → pos 0 <ℤ f w → pos 0 <ℤ e w
+unit_over net e d f u v w k h =
+    elim (cases_eq w u) [
+      inl q ↦ subst (λ (t : ℕ). pos 0 <ℤ e t) (sym q) k.over
+    | inr nu ↦
+        let is_d : pos 0 <ℤ d w = subst (λ (z : ℤ). pos 0 <ℤ z) (k.rest w nu) h in
+        elim (cases_eq w v) [
+          inl q ↦ absurd (not_brought (e v) (d v) k.under k.here (subst (λ (t : ℕ). pos 0 <ℤ d t) q is_d))
+        | inr nv ↦ subst (λ (z : ℤ). pos 0 <ℤ z) (k.others w nv) is_d ] ]
+
+not_given : (z y : ℤ) → pos 0 <ℤ z → y ≡ z -ℤ pos 1 → y <ℤ pos 0 → ⊥
+not_given z y a e h = omega (arith, ints)
+
+unit_under : (net : Net) (e d f : ℕ → ℤ) (u v w : ℕ) → IsUnit net e d f u v → f w <ℤ pos 0 → e w <ℤ pos 0
+unit_under net e d f u v w k h =
+    elim (cases_eq w v) [
+      inl q ↦ subst (λ (t : ℕ). e t <ℤ pos 0) (sym q) k.under
+    | inr nv ↦
+        elim (cases_eq w u) [
+          inl q ↦
+            let ne : u ≢ v = unit_apart net e d f u v k in
+            let same : d u ≡ e u = k.others u ne in
+            let fell : f u ≡ e u -ℤ pos 1 = rw (← same) k.taken in
+            absurd (not_given (e u) (f u) k.over fell (subst (λ (t : ℕ). f t <ℤ pos 0) q h))
+        | inr nu ↦ subst (λ (z : ℤ). z <ℤ pos 0) (k.rest w nu ∙ k.others w nv) h ] ]
+
+flat_up : (z : ℤ) → up z ≡ 0 → z ≤ℤ pos 0
+flat_up (pos n) h = omega (arith, ints)
+flat_up (negsuc n) h = omega (arith, ints)
+
+nothing_over : (n : ℕ) (e : ℕ → ℤ) → sum_below n (λ w. up (e w)) ≡ 0 → (v : ℕ) → v < n → e v ≤ℤ pos 0
+nothing_over n e h v b = flat_up (e v) (omega (arith, sum_below-member n v (λ w. up (e w)) b))
+
+flat_down : (z : ℤ) → down z ≡ 0 → pos 0 ≤ℤ z
+flat_down (pos n) h = omega (arith, ints)
+flat_down (negsuc n) h = absurd (omega arith)
+
+nothing_under : (n : ℕ) (e : ℕ → ℤ) → sum_below n (λ w. down (e w)) ≡ 0 → (v : ℕ) → v < n → pos 0 ≤ℤ e v
+nothing_under n e h v b = flat_down (e v) (omega (arith, sum_below-member n v (λ w. down (e w)) b))
+
+flow_of_units : (net : Net) (k : ℕ) (x : ℕ → ℕ) (e : ℕ → ℤ) → HasEnds net → KeepsCaps net x → Leaves net x e → IsJoined net e → sum_below (node_count net) (λ w. up (e w)) ≡ k → sum_below (node_count net) (λ w. down (e w)) ≡ k → (y : ℕ → ℕ) × Flow net y
+flow_of_units net zero x e ends caps lv joined ups downs =
+    (x, flow_at net x e caps lv (nothing_over (node_count net) e ups) (nothing_under (node_count net) e downs))
+flow_of_units net (suc k) x e ends caps lv joined ups downs =
+    let n = node_count net in
+    let (u, ub, some_up) = sum_below-some n (λ w. up (e w)) (omega arith) in
+    let (v, vb, some_down) = sum_below-some n (λ w. down (e w)) (omega arith) in
+    let over : pos 0 <ℤ e u = over_up (e u) some_up in
+    let under : e v <ℤ pos 0 = under_down (e v) some_down in
+    let r : Reaches net u v = reaches_wanting net e u v ends joined ub vb over under in
+    let d = brought e v in
+    let f = given d u in
+    let unit : IsUnit net e d f u v = record {
+      source = ub; sink = vb; over = over; under = under;
+      here = brought_here e v; others = brought_other e v;
+      taken = given_at d u; rest = given_other d u } in
+    let sent : Carries net (r.sent x) d u 1 = r.carries x d (taken_carries net x e d v 1 lv (brought_here e v) (brought_other e v)) in
+    let now : Leaves net (r.sent x) f = carried_leaves net (r.sent x) d f u 1 sent (given_at d u) (given_other d u) in
+    let still : IsJoined net f = record {
+      meets = λ s closed a b ab bb sa oa wb. joined.meets s closed a b ab bb sa (unit_over net e d f u v a unit oa) (unit_under net e d f u v b unit wb) } in
+    flow_of_units net k (r.sent x) f ends (r.caps x caps) now still
+    (omega (arith, sum_ups net e d f u v unit)) (omega (arith, sum_downs net e d f u v unit))
+
+-- ---- as much is left over as is wanting
+
+node_parts : (l n : ℕ) (e s : ℤ) → (pos l -ℤ pos n) +ℤ e ≡ s → (l + up e) + down s ≡ (n + down e) + up s
+node_parts l n e s h = omega (arith, ints)
+
+four : (n : ℕ) (a b c : ℕ → ℕ) → sum_below n (λ v. a v + b v + c v) ≡ sum_below n a + sum_below n b + sum_below n c
+four zero a b c = refl
+four (suc n) a b c = omega (arith, four n a b c)
+
+parts_of : (z : ℤ) → z ≡ pos (up z) -ℤ pos (down z)
+parts_of z = omega (arith, ints)
+
+none_total : (a b : ℕ) → pos a -ℤ pos b ≡ pos 0 → a ≡ b
+none_total a b h = omega (arith, ints)
+
+-- what leaves all nodes enters all nodes
+all_leave : (net : Net) (x : ℕ → ℕ) → HasEnds net → sum_below (node_count net) (λ v. leaves net x v) ≡ sum_below (node_count net) (λ v. enters net x v)
+all_leave net x ends =
+    let n = node_count net in
+    let m = arc_count net in
+    let out : sum_below n (λ v. 1 * leaves net x v) ≡ sum_below m (λ i. 1 * x i) = exchanged m n (λ i. (arc_at net i).from) x (λ _. 1) (λ i b. (ends i b).0) in
+    let into : sum_below n (λ v. 1 * enters net x v) ≡ sum_below m (λ i. 1 * x i) = exchanged m n (λ i. (arc_at net i).to) x (λ _. 1) (λ i b. (ends i b).1) in
+    let l : sum_below n (λ v. 1 * leaves net x v) ≡ sum_below n (λ v. leaves net x v) = sum_below-same n (λ v. 1 * leaves net x v) (λ v. leaves net x v) (λ v b. omega arith) in
+    let r : sum_below n (λ v. 1 * enters net x v) ≡ sum_below n (λ v. enters net x v) = sum_below-same n (λ v. 1 * enters net x v) (λ v. enters net x v) (λ v b. omega arith) in
+    omega arith
+
+as_much : (net : Net) (x : ℕ → ℕ) (e : ℕ → ℤ) → HasEnds net → IsBalanced net → Leaves net x e → sum_below (node_count net) (λ v. up (e v)) ≡ sum_below (node_count net) (λ v. down (e v))
+as_much net x e ends flat lv =
+    let n = node_count net in
+    let s : ℕ → ℤ = λ v. supply_at net v in
+    let ls : ℕ → ℕ = λ v. leaves net x v in
+    let ns : ℕ → ℕ = λ v. enters net x v in
+    let total : total_below n s ≡ pos (sum_below n (λ v. up (s v))) -ℤ pos (sum_below n (λ v. down (s v))) =
+      total_below-parts n s (λ v. up (s v)) (λ v. down (s v)) (λ v b. parts_of (s v)) in
+    let even : sum_below n (λ v. up (s v)) ≡ sum_below n (λ v. down (s v)) = none_total (sum_below n (λ v. up (s v))) (sum_below n (λ v. down (s v))) (sym total ∙ flat) in
+    let nodes : sum_below n (λ v. ls v + up (e v) + down (s v)) ≡ sum_below n (λ v. ns v + down (e v) + up (s v)) =
+      sum_below-same n (λ v. ls v + up (e v) + down (s v)) (λ v. ns v + down (e v) + up (s v)) (λ v b. node_parts (ls v) (ns v) (e v) (s v) (lv.at_node v b)) in
+    let left : sum_below n (λ v. ls v + up (e v) + down (s v)) ≡ sum_below n ls + sum_below n (λ v. up (e v)) + sum_below n (λ v. down (s v)) = four n ls (λ v. up (e v)) (λ v. down (s v)) in
+    let right : sum_below n (λ v. ns v + down (e v) + up (s v)) ≡ sum_below n ns + sum_below n (λ v. down (e v)) + sum_below n (λ v. up (s v)) = four n ns (λ v. down (e v)) (λ v. up (s v)) in
+    let cross : sum_below n ls ≡ sum_below n ns = all_leave net x ends in
+    omega arith
+
+-- amounts x within the capacities leave the excess e; supplies sum to 0, and no set that no arc of no
+-- limit leaves has something left over and not all that is wanting: then there is a flow
+pub flow_where_joined : (net : Net) (x : ℕ → ℕ) (e : ℕ → ℤ) → HasEnds net → IsBalanced net → KeepsCaps net x → Leaves net x e → IsJoined net e → (y : ℕ → ℕ) × Flow net y
+flow_where_joined net x e ends flat caps lv joined =
+    flow_of_units net (sum_below (node_count net) (λ w. down (e w))) x e ends caps lv joined (as_much net x e ends flat lv) refl
