@@ -165,3 +165,12 @@ module _ (old new : Place) (piece : List ℕ) (before after : List (List ℕ)) w
       few (Err fault.Memory) (_, inl again) = omega (arith, length-standing old stream records s, ap length again.1, length-append records h.added)
       few (Err fault.Memory) (_, inr l) = lost-few l
       few (Err fault.Many) r = length-standing new (stream ++ piece) (records ++ h.added) (r.1 stream records s)
+
+  -- a framer that found memory stands where the stream has led to
+  pub stands-feeds : (result : Result Unit FeedFault) → Feeds old piece before after new result → (stream : List ℕ) → StandsAt stream before old → result ≢ Err fault.Memory → StandsAt (stream ++ piece) after new
+  stands-feeds (Ok u) h stream s other = subst (λ z. StandsAt (stream ++ piece) z new) (sym h.appended) (h.reads.1 stream before s)
+  stands-feeds (Err fault.Header) h stream s other = subst (λ z. StandsAt (stream ++ piece) z new) (sym h.appended) (h.reads.1 stream before s)
+  stands-feeds (Err fault.Large) h stream s other = subst (λ z. StandsAt (stream ++ piece) z new) (sym h.appended) (h.reads.1 stream before s)
+  stands-feeds (Err fault.Oversize) h stream s other = subst (λ z. StandsAt (stream ++ piece) z new) (sym h.appended) (h.reads.1 stream before s)
+  stands-feeds (Err fault.Memory) h stream s other = absurd (other refl)
+  stands-feeds (Err fault.Many) h stream s other = subst (λ z. StandsAt (stream ++ piece) z new) (sym h.appended) (h.reads.1 stream before s)

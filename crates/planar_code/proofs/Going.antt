@@ -95,7 +95,7 @@ fails_many count rest text full some =
     fails count rest text fault.Many (λ more. inl full) (λ more. (some_after rest text more some, full))
 
 -- what begins with byte 0 has no record first
-no_record-zero : (bytes : List ℕ) → BeginsWithZero bytes → NoRecordFirst bytes
+pub no_record-zero : (bytes : List ℕ) → BeginsWithZero bytes → NoRecordFirst bytes
 no_record-zero bytes z first rest r e =
     let start = z.1 in
     let spelt = ap (λ b. b ++ rest) r.spelt in
@@ -122,7 +122,7 @@ oversize_on (x ∷ bytes) more o = record {
   never = λ later. subst NoRecordFirst (sym (append_assoc (x ∷ bytes) more later)) (o.never (more ++ later));
 }
 
-no_record-oversize : (bytes : List ℕ) → IsOversize bytes → NoRecordFirst bytes
+pub no_record-oversize : (bytes : List ℕ) → IsOversize bytes → NoRecordFirst bytes
 no_record-oversize bytes o = subst NoRecordFirst (append-nil bytes) (o.never [])
 
 -- a list that is too long

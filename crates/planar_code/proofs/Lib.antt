@@ -9,3 +9,4 @@ pub mod Feeding
 pub mod Stepping
 pub mod Reading
 pub mod Walking
+pub mod Plains

@@ -5,3 +5,4 @@ pub mod Started
 pub mod Scan
 pub mod Framer
 pub mod Step
+pub mod Plain

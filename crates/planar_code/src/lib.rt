@@ -11,12 +11,16 @@ mod fault;
 mod framer;
 pub mod laws;
 mod open_record;
+mod pieces;
+mod plain;
 mod record;
 mod scan;
 
 pub use ending::Ending;
 pub use fault::FeedFault;
 pub use framer::Framer;
+pub use pieces::frame;
+pub use plain::split;
 pub use record::Record;
 
 /// What every stream begins with.

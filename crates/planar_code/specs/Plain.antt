@@ -1,0 +1,33 @@
+-- What the plain splitter finds.
+use Rattle.std.specs.Prelude.{◌≡◌, ℕ, ◌-◌, ◌<◌, ◌≤◌, List, ◌++◌, length, take, All}
+use Rattle.std.specs.List.{concat}
+use Rattle.planar_code.specs.declared.ending.Ending.{Ending}
+use Rattle.planar_code.specs.declared.plain.End.{End}
+use Rattle.planar_code.specs.declared.plain.End.TheVariants as end
+use Rattle.planar_code.specs.Stream.{IsRecord, IsUnfinished}
+use Rattle.planar_code.specs.Split.{IsCut, EndsAs}
+use Rattle.planar_code.specs.Started.{IsStarted, IsOversize}
+
+-- where the next list ends, after bytes of a record that has that many lists left
+abbrev pub EndsList : List ℕ → ℕ → List ℕ → End → Type 0
+EndsList before left bytes (end.After n) = (0 < n) × (n ≤ length bytes) × (1 < left → IsStarted (before ++ take n bytes) (left - 1) 0) × (left ≡ 1 → IsRecord (before ++ take n bytes))
+EndsList before left bytes end.Cut = IsUnfinished (before ++ bytes)
+EndsList before left bytes end.Long = IsOversize (before ++ bytes)
+
+-- where the record ends that the bytes begin with
+abbrev pub EndsRecord : List ℕ → End → Type 0
+EndsRecord bytes (end.After n) = (0 < n) × (n ≤ length bytes) × IsRecord (take n bytes)
+EndsRecord bytes end.Cut = IsUnfinished bytes
+EndsRecord bytes end.Long = IsOversize bytes
+
+-- the records after the header, and what they end in
+pub record SplitsBody (body : List ℕ) (records : List (List ℕ)) (end : Ending) : Type 0 where
+  pub rest : List ℕ
+  pub cut : IsCut body records rest
+  pub ends : EndsAs (length records) rest end
+
+-- the records so far, and the bytes that are left
+pub record HasSplit (body : List ℕ) (records : List (List ℕ)) (rest : List ℕ) : Type 0 where
+  pub joined : body ≡ concat records ++ rest
+  pub each : All IsRecord records
+  pub few : length records ≤ 1000000

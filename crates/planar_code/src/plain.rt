@@ -1,0 +1,94 @@
+ghost use Rattle.std.specs.Prelude.{◌≡◌, ◌≢◌, ℕ, ◌<◌, List, length, slice_index, IfOk};
+ghost use Rattle.planar_code.specs.Split.{IsSplit};
+ghost use Rattle.planar_code.specs.Started.{IsStarted};
+ghost use Rattle.planar_code.specs.Plain.{EndsList, EndsRecord, SplitsBody};
+
+use crate::ending::Ending;
+use crate::record::Record;
+use crate::{HEADER, MAX_LIST, MAX_RECORDS};
+use std::alloc::{AllocError, Global};
+
+/// Where a list or a record that some bytes begin with ends.
+enum End {
+    /// After so many bytes.
+    After(usize),
+    /// Not yet: it is cut.
+    Cut,
+    /// Nowhere: a list has more than 254 entries.
+    Long,
+}
+
+/// Where the list ends that the bytes begin with.
+fn list_end(bytes: &[u8]) -> End
+    ensures { (before : List ℕ) (left : ℕ) → IsStarted before left 0 → EndsList before left bytes.now result }
+{
+    for (i, byte) in bytes.iter().enumerate() {
+        if *byte == 0 {
+            return End::After(i + 1);
+        }
+        if i == MAX_LIST {
+            return End::Long;
+        }
+    }
+    End::Cut
+}
+
+/// Where the record ends that the bytes begin with.
+fn record_end(bytes: &[u8]) -> End
+    requires some { 0 < length bytes.now }
+    requires nonzero { slice_index bytes.now 0 ≢ 0 }
+    ensures { EndsRecord bytes.now result }
+{
+    let order = bytes[0];
+    let mut at = 1;
+    for done in 0..order {
+        match list_end(&bytes[at..]) {
+            End::After(end) => at += end,
+            End::Cut => return End::Cut,
+            End::Long => return End::Long,
+        }
+    }
+    End::After(at)
+}
+
+/// Splits what follows the header.
+fn split_body(alloc: Global, body: &[u8]) -> Result<(Vec<Record>, Ending), AllocError>
+    ensures { IfOk result (λ s. SplitsBody body.now s.0.items s.1) }
+{
+    let mut records = Vec::new(alloc);
+    let mut rest = body;
+    while !rest.is_empty() {
+        if records.len() == MAX_RECORDS as usize {
+            return Ok((records, Ending::Many));
+        }
+        if rest[0] == 0 {
+            return Ok((records, Ending::Large));
+        }
+        match record_end(rest) {
+            End::After(end) => {
+                records.push(Record::from_slice(alloc, &rest[..end])?)?;
+                rest = &rest[end..];
+            }
+            End::Cut => return Ok((records, Ending::Truncated)),
+            End::Long => return Ok((records, Ending::Oversize)),
+        }
+    }
+    Ok((records, Ending::Complete))
+}
+
+/// The records and the ending of a whole stream.
+///
+/// It reads record by record, as the format is told, and shares no step with the framer: it is the
+/// yardstick that tests hold against it.
+///
+/// # Errors
+///
+/// `AllocError` where there is no memory for the records.
+pub fn split(alloc: Global, stream: &[u8]) -> Result<(Vec<Record>, Ending), AllocError>
+    ensures split { IfOk result (λ s. IsSplit stream.now s.0.items s.1) }
+{
+    match stream.strip_prefix(&HEADER) {
+        Some(body) => split_body(alloc, body),
+        None => Ok((Vec::new(alloc), Ending::Header)),
+    }
+}
