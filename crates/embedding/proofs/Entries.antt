@@ -2,11 +2,7 @@
 use Rattle.std.proofs.Common.{◌≡◌, ℕ, zero, suc, ◌+◌, ◌-◌, ◌<◌, List, [], ◌∷◌, ◌++◌, length, get_or, take, replicate, refl, ap, ◌∙◌, inl, inr, arith}
 use Rattle.std.proofs.lemmas.List.{get_or-replicate, get_or_append_left, get_or-append-add, length-append, length-replicate}
 use Rattle.std.proofs.lemmas.Bool.{cases_lt}
-use Rattle.embedding.specs.Darts.{heads, tails_from}
-
--- the number of the first dart of list k
-abbrev pub first_dart : List (List ℕ) → ℕ → ℕ
-first_dart g k = length (heads (take k g))
+use Rattle.embedding.specs.Darts.{heads, tails_from, first_dart}
 
 -- dart d is place i of list k, where the first list is that of vertex b
 pub record Stands (b : ℕ) (g : List (List ℕ)) (d k i : ℕ) : Type 0 where

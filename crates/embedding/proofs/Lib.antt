@@ -3,3 +3,6 @@ pub mod Entries
 pub mod FirstBelow
 pub mod Rotation
 pub mod KeptFacts
+pub mod Splits
+pub mod Places
+pub mod Reading

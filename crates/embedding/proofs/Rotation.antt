@@ -7,9 +7,9 @@ use Rattle.sums.specs.Sums.{sum_below}
 use Rattle.sums.proofs.Sums.{sum_below-same, sum_below-add, sum_below-constant, sum_below-turned}
 use Rattle.embedding.specs.declared.rules.Rule.TheVariants.{Loop, Multi, Asymmetric, Edgeless, Degree}
 use Rattle.embedding.specs.Lists.{list_of}
-use Rattle.embedding.specs.Darts.{heads, tails_from, dart_count, head_of, tail_of, first_below, reverse_of, after_of, next_of, IsInvolution, IsOneToOne}
+use Rattle.embedding.specs.Darts.{heads, tails_from, dart_count, head_of, tail_of, first_below, first_dart, reverse_of, after_of, next_of, IsInvolution, IsOneToOne}
 use Rattle.embedding.specs.Rules.{Breaks, KeepsBefore}
-use Rattle.embedding.proofs.Entries.{Stands, first_dart, stands_at, dart_stands, stands_below, length-tails_from}
+use Rattle.embedding.proofs.Entries.{Stands, stands_at, dart_stands, stands_below, length-tails_from}
 use Rattle.embedding.proofs.FirstBelow.{first_below-is, first_below-passes}
 
 -- ---- lists

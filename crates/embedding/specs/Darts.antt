@@ -1,6 +1,6 @@
 -- The darts of neighbour lists: each entry v in the list of u is the dart from u, its tail, to v, its head.
 -- Darts are numbered from 0 in the order in which their entries stand.
-use Rattle.std.specs.Prelude.{◌≡◌, ◌<◌, ℕ, ◌+◌, ◌==◌, ◌&&◌, Bool, List, [], ◌∷◌, ◌++◌, length, slice_index, replicate, if◌then◌else◌}
+use Rattle.std.specs.Prelude.{◌≡◌, ◌<◌, ℕ, ◌+◌, ◌==◌, ◌&&◌, Bool, List, [], ◌∷◌, ◌++◌, length, slice_index, replicate, take, if◌then◌else◌}
 use Prim.Native.Nat.{suc, zero}
 
 -- the heads of all darts: the lists, one after another
@@ -16,6 +16,10 @@ tails_from u (l ∷ ls) = replicate (length l) u ++ tails_from (u + 1) ls
 -- how many darts there are
 abbrev pub dart_count : List (List ℕ) → ℕ
 dart_count g = length (heads g)
+
+-- the number of the first dart of the list at place k
+abbrev pub first_dart : List (List ℕ) → ℕ → ℕ
+first_dart g k = length (heads (take k g))
 
 -- the vertex that dart d goes to
 abbrev pub head_of : List (List ℕ) → ℕ → ℕ

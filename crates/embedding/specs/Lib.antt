@@ -4,3 +4,4 @@ pub mod Faces
 pub mod Rules
 pub mod Words
 pub mod Tables
+pub mod Split

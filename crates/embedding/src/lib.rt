@@ -5,6 +5,7 @@
 #![tactic(auto)]
 
 mod graphs;
+mod lists;
 mod rules;
 
 pub use graphs::Graph;

@@ -1,0 +1,88 @@
+-- One pass over the bytes of lists, which finds where each list begins.
+use Rattle.std.proofs.Common.{◌≡◌, ℕ, ◌+◌, ◌*◌, ◌<◌, ◌≤◌, List, [], length, get_or, set, refl, sym, ap, ◌∙◌, subst, inl, inr, arith}
+use Rattle.std.specs.List.{flat_map, All}
+use Rattle.std.proofs.lemmas.List.{get_or-set_same, get_or-set_other, length-set}
+use Rattle.std.proofs.lemmas.Bool.{cases_lt, cases_eq}
+use Rattle.planar_code.specs.Stream.{IsList, ended}
+use Rattle.embedding.specs.Split.{start_of}
+use Rattle.embedding.proofs.Splits.{start_of-more, start_of-all, start_of-within, byte_in, byte_behind}
+
+-- before byte i, `count` lists are whole, and the starts are known up to that of the next one
+pub record IsReading (g : List (List ℕ)) (starts : List ℕ) (i count : ℕ) : Type 0 where
+  pub size : length starts ≡ 256
+  pub few : count ≤ length g
+  pub from : start_of g count ≤ i
+  pub to : count < length g → i < start_of g (count + 1)
+  pub starts_are : (k : ℕ) → k ≤ count → get_or starts k 0 ≡ start_of g k
+
+-- there is a next list before the end
+pub next_list : (g : List (List ℕ)) (starts : List ℕ) (i count : ℕ) → IsReading g starts i count → i < length (flat_map ended g) → count < length g
+next_list g starts i count r below =
+    elim (cases_lt count (length g)) [
+      | inl less ↦ less
+      | inr past ↦ absurd (omega (arith, start_of-all g count past, r.from, below))
+    ]
+
+-- a 0 ends a list
+pub reading_end : (g : List (List ℕ)) (starts : List ℕ) (i count : ℕ) → All IsList g → length g < 256 → IsReading g starts i count → i < length (flat_map ended g) → get_or (flat_map ended g) i 0 ≡ 0 → IsReading g (set starts (count + 1) (i + 1)) (i + 1) (count + 1)
+reading_end g starts i count each few r below zeros =
+    let less = next_list g starts i count r below in
+    let more = start_of-more g count less in
+    let before = r.to less in
+    let from = r.from in
+    let at : i ≡ start_of g count + length (get_or g count []) =
+      elim (cases_lt i (start_of g count + length (get_or g count []))) [
+        | inl within ↦ absurd (omega (arith, byte_in g count i less each from within, zeros))
+        | inr past ↦ omega arith
+      ] in
+    let next : i + 1 ≡ start_of g (count + 1) = omega arith in
+    let inside : count + 1 < length starts = omega (arith, r.size) in
+    record {
+      size = length-set starts (count + 1) (i + 1) ∙ r.size;
+      few = omega arith;
+      from = omega arith;
+      to = λ again. omega (arith, start_of-more g (count + 1) again);
+      starts_are = λ k b. elim (cases_eq k (count + 1)) [
+          | inl last ↦ rw (last, get_or-set_same starts (count + 1) (i + 1) 0 inside) next
+          | inr other ↦ rw (get_or-set_other starts (count + 1) k (i + 1) 0 other) (r.starts_are k (omega arith))
+        ];
+    }
+
+-- another byte does not
+pub reading_entry : (g : List (List ℕ)) (starts : List ℕ) (i count : ℕ) → IsReading g starts i count → i < length (flat_map ended g) → (get_or (flat_map ended g) i 0 ≡ 0 → ⊥) → IsReading g starts (i + 1) count
+reading_entry g starts i count r below entry =
+    let less = next_list g starts i count r below in
+    let more = start_of-more g count less in
+    let before = r.to less in
+    record {
+      size = r.size;
+      few = r.few;
+      from = omega (arith, r.from);
+      to = λ _. elim (cases_eq i (start_of g count + length (get_or g count []))) [
+          | inl behind ↦ absurd (entry (byte_behind g count i less behind))
+          | inr other ↦ omega arith
+        ];
+      starts_are = r.starts_are;
+    }
+
+-- behind the last byte all lists are whole
+pub reading_all : (g : List (List ℕ)) (starts : List ℕ) (i count : ℕ) → IsReading g starts i count → length (flat_map ended g) ≤ i → count ≡ length g
+reading_all g starts i count r past =
+    elim (cases_lt count (length g)) [
+      | inl less ↦ absurd (omega (arith, r.to less, start_of-more g count less, within g count less, past))
+      | inr all ↦ omega (arith, r.few)
+    ]
+  where
+    within : (g : List (List ℕ)) (count : ℕ) → count < length g → start_of g (count + 1) ≤ length (flat_map ended g)
+    within g count less = start_of-within g (count + 1)
+
+-- before the first byte
+pub reading_none : (g : List (List ℕ)) (starts : List ℕ) → length starts ≡ 256 → get_or starts 0 0 ≡ 0 → IsReading g starts 0 0
+reading_none g starts size first =
+    record {
+      size = size;
+      few = omega arith;
+      from = omega arith;
+      to = λ some. omega (arith, start_of-more g 0 some);
+      starts_are = λ k b. let none : k ≡ 0 = omega arith in rw none first;
+    }

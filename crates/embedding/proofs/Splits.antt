@@ -1,0 +1,93 @@
+-- Lists that are written one after another, each ended by a 0.
+use Rattle.std.proofs.Common.{◌≡◌, ℕ, zero, suc, ◌+◌, ◌-◌, ◌*◌, ◌<◌, ◌≤◌, List, [], ◌∷◌, ◌++◌, ◌⊎◌, length, get_or, take, drop, refl, sym, ap, ◌∙◌, subst, inl, inr, arith}
+use Rattle.std.specs.List.{flat_map, slice_range, All}
+use Rattle.std.proofs.lemmas.List.{length-append, append_assoc, get_or-append-add, take_at, drop_at, get_or_append_left, get_or_at, drop-drop}
+use Rattle.std.proofs.lemmas.List.Concat.{get_or-flat_map}
+use Rattle.std.proofs.lemmas.Bool.{cases_lt}
+use Rattle.planar_code.specs.Stream.{IsList, IsEntry, ended, lists_in}
+use Rattle.embedding.specs.Darts.{heads, first_dart}
+use Rattle.embedding.specs.Split.{start_of}
+
+pub length-ended : (l : List ℕ) → length (ended l) ≡ length l + 1
+length-ended l = length-append l (0 ∷ [])
+
+-- where the next list begins
+pub start_of-more : (g : List (List ℕ)) (k : ℕ) → k < length g → start_of g (k + 1) ≡ start_of g k + length (get_or g k []) + 1
+start_of-more [] k below = absurd (omega arith)
+start_of-more (l ∷ ls) zero below =
+    omega (arith, length-append (ended l) [], length-ended l)
+start_of-more (l ∷ ls) (suc k) below =
+    let one : suc k + 1 ≡ suc (k + 1) = omega arith in
+    rw one (omega (arith, length-append (ended l) (flat_map ended (take (k + 1) ls)), length-append (ended l) (flat_map ended (take k ls)), start_of-more ls k (omega arith)))
+
+-- the bytes end behind the last list
+pub start_of-all : (g : List (List ℕ)) (n : ℕ) → length g ≤ n → start_of g n ≡ length (flat_map ended g)
+start_of-all [] zero past = refl
+start_of-all [] (suc n) past = refl
+start_of-all (l ∷ ls) zero past = absurd (omega arith)
+start_of-all (l ∷ ls) (suc n) past =
+    omega (arith, length-append (ended l) (flat_map ended (take n ls)), length-append (ended l) (flat_map ended ls), start_of-all ls n (omega arith))
+
+-- a start lies within the bytes
+pub start_of-within : (g : List (List ℕ)) (k : ℕ) → start_of g k ≤ length (flat_map ended g)
+start_of-within [] zero = omega arith
+start_of-within [] (suc k) = omega arith
+start_of-within (l ∷ ls) zero = omega arith
+start_of-within (l ∷ ls) (suc k) =
+    omega (arith, length-append (ended l) (flat_map ended (take k ls)), length-append (ended l) (flat_map ended ls), start_of-within ls k)
+
+-- a list and its 0 lie within the bytes
+pub list_within : (g : List (List ℕ)) (k : ℕ) → k < length g → start_of g k + length (get_or g k []) + 1 ≤ length (flat_map ended g)
+list_within g k below = omega (arith, start_of-more g k below, start_of-within g (k + 1))
+
+-- a list is the part of the bytes from its start up to its 0
+pub part_is : (g : List (List ℕ)) (k : ℕ) → k < length g → slice_range (flat_map ended g) (start_of g k) (start_of g (k + 1) - 1) ≡ get_or g k []
+part_is g k below =
+    let n : start_of g (k + 1) - 1 - start_of g k ≡ length (get_or g k []) = omega (arith, start_of-more g k below) in
+    ap (λ (m : ℕ). take m (drop (start_of g k) (flat_map ended g))) n ∙ front g k below
+  where
+    front : (g : List (List ℕ)) (k : ℕ) → k < length g → take (length (get_or g k [])) (drop (start_of g k) (flat_map ended g)) ≡ get_or g k []
+    front [] k below = absurd (omega arith)
+    front (l ∷ ls) zero below =
+        rw (append_assoc l (0 ∷ []) (flat_map ended ls)) (take_at l _ (length l) refl)
+    front (l ∷ ls) (suc k) below =
+        let far : start_of (l ∷ ls) (suc k) ≡ length (ended l) + start_of ls k =
+          length-append (ended l) (flat_map ended (take k ls)) in
+        let behind : drop (start_of (l ∷ ls) (suc k)) (ended l ++ flat_map ended ls) ≡ drop (start_of ls k) (flat_map ended ls) =
+          ap (λ (m : ℕ). drop m (ended l ++ flat_map ended ls)) far
+          ∙ sym (drop-drop (start_of ls k) (length (ended l)) (ended l ++ flat_map ended ls))
+          ∙ ap (drop (start_of ls k)) (drop_at (ended l) (flat_map ended ls) (length (ended l)) refl) in
+        ap (take (length (get_or ls k []))) behind ∙ front ls k (omega arith)
+
+-- a byte within a list is an entry, and the one behind it is 0
+pub byte_in : (g : List (List ℕ)) (k i : ℕ) → k < length g → All IsList g → start_of g k ≤ i → i < start_of g k + length (get_or g k []) → 0 < get_or (flat_map ended g) i 0
+byte_in g k i below each from to =
+    let l = get_or g k [] in
+    let j = i - start_of g k in
+    let at : i ≡ start_of g k + j = omega arith in
+    let inside : j < length l = omega arith in
+    let longer : j < length (ended l) = omega (arith, length-ended l) in
+    let is : get_or (flat_map ended g) i 0 ≡ get_or l j 0 =
+      ap (λ (m : ℕ). get_or (flat_map ended g) m 0) at ∙ get_or-flat_map ended g k j [] 0 below longer ∙ get_or_append_left l (0 ∷ []) 0 j inside in
+    let entry : 0 < get_or l j 0 = ((each k [] below).each j 0 inside).0 in
+    rw is entry
+
+pub byte_behind : (g : List (List ℕ)) (k i : ℕ) → k < length g → i ≡ start_of g k + length (get_or g k []) → get_or (flat_map ended g) i 0 ≡ 0
+byte_behind g k i below at =
+    let l = get_or g k [] in
+    let longer : length l < length (ended l) = omega (arith, length-ended l) in
+    ap (λ (m : ℕ). get_or (flat_map ended g) m 0) at ∙ get_or-flat_map ended g k (length l) [] 0 below longer ∙ get_or_at l 0 [] 0 (length l) refl
+
+-- the first dart of a list: the bytes before the list, less a 0 for each list
+pub first_dart-start : (g : List (List ℕ)) (k : ℕ) → k ≤ length g → start_of g k ≡ first_dart g k + k
+first_dart-start [] zero below = refl
+first_dart-start [] (suc k) below = absurd (omega arith)
+first_dart-start (l ∷ ls) zero below = refl
+first_dart-start (l ∷ ls) (suc k) below =
+    omega (arith, length-append (ended l) (flat_map ended (take k ls)), length-append l (heads (take k ls)), length-ended l, first_dart-start ls k (omega arith))
+
+-- the bytes of at most 255 lists are few
+pub spelt_short : (g : List (List ℕ)) → All IsList g → length (flat_map ended g) ≤ 255 * length g
+spelt_short [] each = omega arith
+spelt_short (l ∷ ls) each =
+    omega (arith, length-append (ended l) (flat_map ended ls), length-ended l, (each 0 [] (omega arith)).short, spelt_short ls (λ k d b. each (suc k) d (omega arith)))

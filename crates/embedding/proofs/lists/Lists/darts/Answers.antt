@@ -1,0 +1,19 @@
+use Rattle.std.proofs.Common.{◌≡◌, ℕ, ◌+◌, ◌-◌, ◌<◌, ◌≤◌, List, [], length, get_or, refl, sym, ap, ◌∙◌, subst, arith}
+use Rattle.embedding.specs.Darts.{dart_count, first_dart}
+use Rattle.embedding.proofs.Places.{place_is, bytes_are}
+use Rattle.embedding.proofs.lists.Lists.darts.Goals as goal
+
+pub overflow_sub-result : goal.overflow_sub-result
+overflow_sub-result c =
+    let sizes = bytes_are _ _ _ c.self.invariant c.args.self.now c.self.view_is in
+    omega (arith, sizes.0, c.from.ensures)
+
+pub returns-clause-count : goal.returns-clause-count
+returns-clause-count c =
+    let sizes = bytes_are _ _ _ c.self.invariant c.args.self.now c.self.view_is in
+    omega (arith, sizes.0, c.from.ensures)
+
+pub returns-clause-few : goal.returns-clause-few
+returns-clause-few c =
+    let sizes = bytes_are _ _ _ c.self.invariant c.args.self.now c.self.view_is in
+    omega (arith, sizes.0, sizes.1, c.self.invariant.few, c.from.ensures)

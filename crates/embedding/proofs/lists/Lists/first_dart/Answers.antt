@@ -1,0 +1,16 @@
+use Rattle.std.proofs.Common.{◌≡◌, ℕ, ◌+◌, ◌-◌, ◌<◌, ◌≤◌, List, [], length, get_or, refl, sym, ap, ◌∙◌, subst, arith}
+use Rattle.embedding.specs.Darts.{dart_count, first_dart}
+use Rattle.embedding.proofs.Places.{place_is, bytes_are}
+use Rattle.embedding.proofs.lists.Lists.first_dart.Goals as goal
+
+pub overflow_sub-result : goal.overflow_sub-result
+overflow_sub-result c =
+    let at : c.from.result < length c.args.self.now = omega (arith, c.from.ensures, c.requires) in
+    let here = place_is _ _ _ c.self.invariant c.args.self.now c.self.view_is c.from.result _ _ at refl refl in
+    omega (arith, here.first, c.from.ensures, c.from-2.ensures)
+
+pub returns : goal.returns
+returns c =
+    let at : c.from.result < length c.args.self.now = omega (arith, c.from.ensures, c.requires) in
+    let here = place_is _ _ _ c.self.invariant c.args.self.now c.self.view_is c.from.result _ _ at refl refl in
+    omega (arith, here.first, c.from.ensures, c.from-2.ensures, ap (first_dart c.args.self.now) c.from.ensures)

@@ -1,0 +1,39 @@
+use Rattle.std.proofs.Common.{◌≡◌, ℕ, ◌+◌, ◌*◌, ◌<◌, ◌≤◌, ◌≢◌, List, length, get_or, set, inl, inr, refl, sym, ap, ◌∙◌, subst, arith}
+use Rattle.std.specs.List.{flat_map}
+use Rattle.planar_code.specs.Stream.{ended, lists_in}
+use Rattle.embedding.specs.Split.{start_of}
+use Rattle.embedding.proofs.Splits.{start_of-more, spelt_short}
+use Rattle.embedding.proofs.Reading.{IsReading, next_list, reading_none, reading_end, reading_entry, reading_all}
+use Rattle.embedding.proofs.lists.starts_in.Goals as goal
+use Rattle.embedding.proofs.lists.starts_in.Goals.{then-byte-eq0, else-byte-eq0}
+
+pub overflow_cast-starts : goal.overflow_cast-starts
+overflow_cast-starts c =
+    omega (arith, ap length c.requires.spelt, spelt_short (lists_in c.args.bytes.now) c.requires.each)
+
+pub bounds-starts-count : goal.bounds-starts-count
+bounds-starts-count c =
+    let below : c.loop-i.i < length (flat_map ended (lists_in c.args.bytes.now)) = omega (arith, ap length c.requires.spelt) in
+    omega (arith, c.loop-i.invariant.size, next_list _ _ _ _ c.loop-i.invariant below)
+
+pub loop-i-init : goal.loop-i-init
+loop-i-init c = reading_none (lists_in c.args.bytes.now) _ refl refl
+
+pub loop-i-preserved : goal.loop-i-preserved
+loop-i-preserved c =
+    let g = lists_in c.args.bytes.now in
+    let i = c.loop-i.i in
+    let below : i < length (flat_map ended g) = omega (arith, ap length c.requires.spelt) in
+    let byte : get_or c.args.bytes.now i 0 ≡ get_or (flat_map ended g) i 0 = ap (λ (b : List ℕ). get_or b i 0) c.requires.spelt in
+    elim c.if-byte-eq0.branch [
+      | then-byte-eq0 w ↦
+          rw (w.count-is, w.starts-is) (reading_end g c.loop-i.starts i c.loop-i.count c.requires.each c.requires.few c.loop-i.invariant below (sym byte ∙ w.if-byte-eq0.true))
+      | else-byte-eq0 w ↦
+          rw (w.count-is, w.starts-is) (reading_entry g c.loop-i.starts i c.loop-i.count c.loop-i.invariant below (λ e. w.if-byte-eq0.false (byte ∙ e)))
+    ]
+
+pub returns : goal.returns
+returns c =
+    let past : length (flat_map ended (lists_in c.args.bytes.now)) ≤ c.loop-i.i = omega (arith, ap length c.requires.spelt) in
+    let all = reading_all _ _ _ _ c.loop-i.invariant past in
+    λ k b. c.loop-i.invariant.starts_are k (omega (arith, all))

@@ -1,0 +1,7 @@
+-- `count` lists are behind the loop, and it stands in the next one.
+use Rattle.planar_code.specs.Stream.{lists_in}
+use Rattle.embedding.proofs.Reading.{IsReading}
+use Rattle.embedding.proofs.lists.starts_in.Given as goal
+
+abbrev pub invariant-loop-i : goal.invariant-loop-i
+invariant-loop-i l = IsReading (lists_in l.bytes) l.starts l.i l.count

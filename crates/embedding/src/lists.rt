@@ -1,0 +1,100 @@
+//! The neighbour lists of a record, borrowed from its bytes.
+
+ghost use Rattle.std.specs.Prelude.{◌≡◌, ℕ, ◌<◌, ◌≤◌, ◌∷◌, List, length, All, slice_index, slice_index_or, []};
+ghost use Rattle.std.specs.List.{flat_map};
+ghost use Rattle.planar_code.specs.Stream.{IsList, ended, lists_in, lists_of};
+ghost use Rattle.embedding.specs.Darts.{dart_count, first_dart};
+ghost use Rattle.embedding.specs.Split.{IsSplit, start_of};
+
+use planar_code::Record;
+use std::marker::Model;
+
+/// The lists that a record's bytes hold, and where each of them begins.
+#[derive(Drop)]
+pub(crate) struct Lists<'a> {
+    bytes: &'a [u8],
+    starts: [u16; 256],
+    count: u8,
+}
+
+impl<'a> Model for Lists<'a> {
+    ghost use Rattle.std.specs.Prelude.{ℕ, List};
+    ghost use Rattle.planar_code.specs.Stream.{lists_in};
+    ghost use Rattle.embedding.specs.Split.{IsSplit};
+
+    ghost Value = { List (List ℕ) };
+
+    ghost view = { λ l. lists_in l.bytes.now };
+
+    ghost invariant = { λ l. IsSplit l.bytes.now l.starts l.count };
+}
+
+/// Where each of the lists begins, in one pass over their bytes.
+fn starts_in(bytes: &[u8]) -> [u16; 256]
+    requires spelt { bytes.now ≡ flat_map ended (lists_in bytes.now) }
+    requires each { All IsList (lists_in bytes.now) }
+    requires few { length (lists_in bytes.now) < 256 }
+    ensures { (k : ℕ) → k ≤ length (lists_in bytes.now) → slice_index result k ≡ start_of (lists_in bytes.now) k }
+{
+    let mut starts = [0u16; 256];
+    let mut count = 0;
+    for (i, byte) in bytes.iter().enumerate() {
+        if *byte == 0 {
+            count += 1;
+            starts[count] = (i + 1) as u16;
+        }
+    }
+    starts
+}
+
+impl<'a> Lists<'a> {
+    /// The lists of a record, in one pass over its bytes.
+    pub(crate) fn of(record: &'a Record) -> Lists<'a>
+        ensures { result ≡ lists_of record.now }
+    {
+        let count = record.order();
+        let bytes = &record.bytes()[1..];
+        let starts = starts_in(bytes);
+        Lists {
+            bytes,
+            starts,
+            count,
+        }
+    }
+
+    /// How many lists there are, 1 to 255.
+    pub(crate) fn count(&self) -> u8
+        ensures count { result ≡ length self.now }
+        ensures some { 0 < result }
+    {
+        self.count
+    }
+
+    /// How many entries all lists have together.
+    pub(crate) fn darts(&self) -> usize
+        ensures count { result ≡ dart_count self.now }
+        ensures few { result ≤ 65025 }
+    {
+        self.bytes.len() - usize::from(self.count)
+    }
+
+    /// The list at a place, counted from 0.
+    pub(crate) fn at(&self, place: u8) -> &'a [u8]
+        requires { place < length self.now }
+        ensures value { result.now ≡ slice_index_or self.now place [] }
+        ensures short { length result.now ≤ 254 }
+    {
+        let place = usize::from(place);
+        let from = usize::from(self.starts[place]);
+        let to = usize::from(self.starts[place + 1]);
+        &self.bytes[from..to - 1]
+    }
+
+    /// The number of the first dart of the list at a place.
+    pub(crate) fn first_dart(&self, place: u8) -> u16
+        requires { place < length self.now }
+        ensures value { result ≡ first_dart self.now place }
+    {
+        self.starts[usize::from(place)] - u16::from(place)
+    }
+}
