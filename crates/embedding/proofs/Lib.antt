@@ -6,3 +6,4 @@ pub mod KeptFacts
 pub mod Splits
 pub mod Places
 pub mod Reading
+pub mod PairLemmas

@@ -60,8 +60,8 @@ same_place : (g : List (List ℕ)) → (Breaks g Multi → ⊥) → (k i j : ℕ
 same_place g keeps k i j in-i in-j e =
     elim (cases_order i j) [
       | inl same ↦ same
-      | inr (inl before) ↦ absurd (keeps (suc k, i, j, before, in-j, e))
-      | inr (inr behind) ↦ absurd (keeps (suc k, j, i, behind, in-i, sym e))
+      | inr (inl before) ↦ absurd (keeps (suc k, (i, j, before, in-j, e)))
+      | inr (inr behind) ↦ absurd (keeps (suc k, (j, i, behind, in-i, sym e)))
     ]
 
 -- two darts with the same ends are one

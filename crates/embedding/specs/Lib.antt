@@ -5,3 +5,5 @@ pub mod Rules
 pub mod Words
 pub mod Tables
 pub mod Split
+pub mod Pairs
+pub mod Walks

@@ -10,15 +10,17 @@ use Rattle.embedding.specs.Faces.{HasFaces}
 abbrev pub IsClosed : List (List ℕ) → (ℕ → Bool) → Type 0
 IsClosed g s = (u : ℕ) → s u ≡ true → All (λ v. s v ≡ true) (list_of g u)
 
+-- the list has one entry at two places
+abbrev pub NamesTwice : List ℕ → Type 0
+NamesTwice list = (i j : ℕ) × (i < j) × (j < length list) × (slice_index list i ≡ slice_index list j)
+
 abbrev pub Breaks : List (List ℕ) → Rule → Type 0
 -- some entry is greater than the number of vertices
 Breaks g Range = (u : ℕ) × Any (λ v. length g < v) (list_of g u)
 -- some vertex stands in its own list
 Breaks g Loop = (u : ℕ) × Contains (list_of g u) u
--- some list has one entry at two places
-Breaks g Multi =
-    (u i j : ℕ) × (i < j) × (j < length (list_of g u))
-    × (slice_index (list_of g u) i ≡ slice_index (list_of g u) j)
+-- some list names a neighbour twice
+Breaks g Multi = (u : ℕ) × NamesTwice (list_of g u)
 -- some v stands in the list of u, and u does not stand in the list of v
 Breaks g Asymmetric = (u : ℕ) × Any (λ v. ¬ Contains (list_of g v) u) (list_of g u)
 -- all lists are empty

@@ -4,9 +4,12 @@
 //! numbered from 0 in the order in which their entries stand.
 #![tactic(auto)]
 
+mod breaks;
 mod graphs;
 mod lists;
+mod pairs;
 mod rules;
+mod walks;
 
 pub use graphs::Graph;
 pub use rules::Rule;

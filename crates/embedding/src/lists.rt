@@ -3,6 +3,7 @@
 ghost use Rattle.std.specs.Prelude.{◌≡◌, ℕ, ◌<◌, ◌≤◌, ◌∷◌, List, length, All, slice_index, slice_index_or, []};
 ghost use Rattle.std.specs.List.{flat_map};
 ghost use Rattle.planar_code.specs.Stream.{IsList, ended, lists_in, lists_of};
+ghost use Rattle.embedding.specs.Lists.{list_of};
 ghost use Rattle.embedding.specs.Darts.{dart_count, first_dart};
 ghost use Rattle.embedding.specs.Split.{IsSplit, start_of};
 
@@ -88,6 +89,17 @@ impl<'a> Lists<'a> {
         let from = usize::from(self.starts[place]);
         let to = usize::from(self.starts[place + 1]);
         &self.bytes[from..to - 1]
+    }
+
+    /// The list of a vertex, empty where no vertex has that number.
+    pub(crate) fn of_vertex(&self, vertex: u8) -> &'a [u8]
+        ensures { result.now ≡ list_of self.now vertex }
+    {
+        if vertex == 0 || vertex > self.count() {
+            &[]
+        } else {
+            self.at(vertex - 1)
+        }
     }
 
     /// The number of the first dart of the list at a place.

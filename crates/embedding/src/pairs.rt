@@ -1,0 +1,36 @@
+//! A set of pairs of vertices, one bit each, that takes no memory of the heap.
+
+ghost use Rattle.std.specs.Prelude.{◌≡◌, ℕ, ◌<◌, ◌↔◌, ◌⊎◌, IsTrue, length};
+ghost use Rattle.embedding.specs.Pairs.{HasPair};
+
+/// One bit for each pair of numbers below 256, in 8 KB.
+#[derive(Drop)]
+pub(crate) struct Pairs {
+    words: [u64; 1024],
+}
+
+impl Pairs {
+    /// The empty set.
+    pub(crate) fn new() -> Pairs
+        ensures { (a b : ℕ) → a < 256 → b < 256 → ¬ HasPair result.words a b }
+    {
+        Pairs { words: [0; 1024] }
+    }
+
+    /// Adds a pair.
+    pub(crate) fn insert(&mut self, first: u8, second: u8)
+        ensures same { HasPair self.new.words first second }
+        ensures others { (a b : ℕ) → a < 256 → b < 256 → ¬ ((a ≡ first) × (b ≡ second)) → (HasPair self.new.words a b ↔ HasPair self.old.words a b) }
+    {
+        let word = 4 * usize::from(first) + usize::from(second / 64);
+        self.words[word] |= 1u64 << (second % 64);
+    }
+
+    /// Whether the pair was added.
+    pub(crate) fn contains(&self, first: u8, second: u8) -> bool
+        ensures { IsTrue result ↔ HasPair self.now.words first second }
+    {
+        let word = 4 * usize::from(first) + usize::from(second / 64);
+        (self.words[word] >> (second % 64)) & 1 == 1
+    }
+}
