@@ -7,3 +7,7 @@ pub mod Splits
 pub mod Places
 pub mod Reading
 pub mod PairLemmas
+pub mod EachList
+pub mod Marking
+pub mod Symmetry
+pub mod Walking

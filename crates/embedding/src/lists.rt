@@ -67,6 +67,7 @@ impl<'a> Lists<'a> {
     pub(crate) fn count(&self) -> u8
         ensures count { result ≡ length self.now }
         ensures some { 0 < result }
+        ensures each { All IsList self.now }
     {
         self.count
     }

@@ -1,0 +1,13 @@
+use Rattle.std.proofs.Common.{◌≡◌, ◌↔◌, ◌⊎◌, ℕ, ◌+◌, ◌-◌, ◌<◌, ◌≤◌, List, [], length, get_or, Bool, true, false}
+use Rattle.std.specs.List.{Any, All, Contains}
+use Rattle.embedding.specs.Pairs.{HasPair}
+use Rattle.embedding.proofs.Symmetry.{HasLists}
+use Rattle.embedding.proofs.breaks.breaks_asymmetric.Given as goal
+
+-- the pairs are those of the lists behind the loop
+abbrev pub invariant-loop-place : goal.invariant-loop-place
+invariant-loop-place l = HasLists l.lists l.place l.pairs.words
+
+abbrev pub invariant-loop-vertex : goal.invariant-loop-vertex
+invariant-loop-vertex l =
+    (k : ℕ) → k < l.vertex → Any (λ v. HasPair l.pairs.words v (k + 1) → ⊥) (get_or l.lists k []) → ⊥
