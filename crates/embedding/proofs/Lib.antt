@@ -11,3 +11,4 @@ pub mod EachList
 pub mod Marking
 pub mod Symmetry
 pub mod Walking
+pub mod Building

@@ -4,7 +4,7 @@ use Rattle.std.specs.List.{All, Contains}
 use Rattle.std.proofs.lemmas.List.{get_or-set_same, get_or-set_other, get_or_default, get_or_past, length-set}
 use Rattle.std.proofs.lemmas.Bool.{cases_eq, cases_lt, cases_Bool, true≢false}
 use Rattle.sums.specs.Sums.{sum_below}
-use Rattle.sums.proofs.Sums.{sum_below-none, sum_below-lt, sum_below-changed, sum_below-constant}
+use Rattle.sums.proofs.Sums.{sum_below-none, sum_below-le, sum_below-lt, sum_below-changed, sum_below-constant}
 use Rattle.embedding.specs.Lists.{list_of}
 use Rattle.embedding.specs.declared.rules.Rule.TheVariants.{Disconnected}
 use Rattle.embedding.specs.Rules.{Breaks, IsClosed}
@@ -236,3 +236,8 @@ unreached_breaks g reached u r from to missing =
 pub reached_keeps : (g : List (List ℕ)) (reached : List Bool) → IsReached g reached → ((v : ℕ) → 1 ≤ v → v ≤ length g → get_or reached v false ≡ true) → Breaks g Disconnected → ⊥
 reached_keeps g reached r all (s, holds, closed, (u, from, to, missing)) =
     true≢false (sym (r.least s holds closed u (all u from to)) ∙ missing)
+
+-- the queue is never longer than its places
+pub queue_short : (reached : List Bool) (queue : List ℕ) (found : ℕ) → IsQueue reached queue found → found ≤ 256
+queue_short reached queue found q =
+    omega (arith, q.count, q.marks, sum_below-constant (length reached) 1, sum_below-le (length reached) (mark_of reached) (λ _. 1) (λ i _. mark_small (get_or reached i false)))

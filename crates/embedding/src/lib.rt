@@ -9,6 +9,7 @@ mod graphs;
 mod lists;
 mod pairs;
 mod rules;
+mod tables;
 mod walks;
 
 pub use graphs::Graph;

@@ -107,6 +107,7 @@ impl<'a> Lists<'a> {
     pub(crate) fn first_dart(&self, place: u8) -> u16
         requires { place < length self.now }
         ensures value { result ≡ first_dart self.now place }
+        ensures few { dart_count self.now ≤ 65025 }
     {
         self.starts[usize::from(place)] - u16::from(place)
     }

@@ -72,8 +72,8 @@ pub(crate) fn breaks_disconnected(lists: &Lists<'_>) -> bool
     ensures { IsTrue result ↔ Breaks lists.now Rule.Disconnected }
 {
     let reached = reached_from_first(lists);
-    for vertex in 1..=lists.count() {
-        if !reached[usize::from(vertex)] {
+    for place in 0..lists.count() {
+        if !reached[usize::from(place) + 1] {
             return true;
         }
     }

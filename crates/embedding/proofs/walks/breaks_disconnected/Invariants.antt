@@ -2,5 +2,5 @@ use Rattle.std.proofs.Common.{◌≡◌, ◌↔◌, ◌⊎◌, ℕ, ◌+◌, ◌
 use Rattle.std.specs.List.{Any, All, Contains}
 use Rattle.embedding.proofs.walks.breaks_disconnected.Given as goal
 
-abbrev pub invariant-loop-vertex : goal.invariant-loop-vertex
-invariant-loop-vertex l = (v : ℕ) → 1 ≤ v → v < l.vertex → get_or l.reached v false ≡ true
+abbrev pub invariant-loop-place : goal.invariant-loop-place
+invariant-loop-place l = (k : ℕ) → k < l.place → get_or l.reached (k + 1) false ≡ true

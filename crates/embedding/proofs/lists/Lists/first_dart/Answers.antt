@@ -9,8 +9,13 @@ overflow_sub-result c =
     let here = place_is _ _ _ c.self.invariant c.args.self.now c.self.view_is c.from.result _ _ at refl refl in
     omega (arith, here.first, c.from.ensures, c.from-2.ensures)
 
-pub returns : goal.returns
-returns c =
+pub returns-clause-value : goal.returns-clause-value
+returns-clause-value c =
     let at : c.from.result < length c.args.self.now = omega (arith, c.from.ensures, c.requires) in
     let here = place_is _ _ _ c.self.invariant c.args.self.now c.self.view_is c.from.result _ _ at refl refl in
     omega (arith, here.first, c.from.ensures, c.from-2.ensures, ap (first_dart c.args.self.now) c.from.ensures)
+
+pub returns-clause-few : goal.returns-clause-few
+returns-clause-few c =
+    let sizes = bytes_are _ _ _ c.self.invariant c.args.self.now c.self.view_is in
+    omega (arith, sizes.1, c.self.invariant.few)

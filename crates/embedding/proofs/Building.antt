@@ -1,0 +1,87 @@
+-- Tables that grow list by list and dart by dart.
+use Rattle.std.proofs.Common.{◌≡◌, ℕ, zero, suc, ◌+◌, ◌<◌, ◌≤◌, List, [], ◌∷◌, ◌++◌, length, get_or, take, map, replicate, refl, sym, ap, ◌∙◌, subst, inl, inr, arith}
+use Rattle.std.specs.List.{Contains}
+use Rattle.std.proofs.lemmas.List.{append_assoc, append-nil, length-append, get_or_append_left, get_or_at, get_or_default, take_more, take_all, map-append, replicate-append-replicate}
+use Rattle.std.proofs.lemmas.Bool.{cases_eq}
+use Rattle.smallvec.specs.SmallVec.{SmallVec}
+use Rattle.embedding.specs.Lists.{list_of}
+use Rattle.embedding.specs.Darts.{heads, tails_from, dart_count, first_dart, head_of, tail_of, reverse_of, after_of}
+use Rattle.embedding.specs.Rules.{KeepsBefore}
+use Rattle.embedding.specs.Tables.{entries_of, IsTable}
+use Rattle.embedding.proofs.Entries.{Stands, stands_at, stands_below}
+use Rattle.embedding.proofs.Rotation.{IsOpposite, one_dart, reverse_is, after_place, list_of-place, tail_at}
+
+-- ---- tables
+
+pub table_none : (n : ℕ) (f : ℕ → ℕ) (table : List ℕ) → n ≡ 0 → table ≡ [] → IsTable n f table
+table_none n f table none empty =
+    record {
+      size = ap length empty ∙ sym none;
+      each = λ d b. absurd (omega arith);
+    }
+
+pub table_push : (n : ℕ) (f : ℕ → ℕ) (table : List ℕ) (x m : ℕ) → m ≡ n + 1 → x ≡ f n → IsTable n f table → IsTable m f (table ++ x ∷ [])
+table_push n f table x m next is t =
+    record {
+      size = length-append table (x ∷ []) ∙ omega (arith, t.size);
+      each = λ d b. elim (cases_eq d n) [
+          | inl e ↦ rw (e, get_or_at table x [] 0 n t.size) is
+          | inr other ↦
+              let inside : d < length table = omega (arith, t.size) in
+              rw (get_or_append_left table (x ∷ []) 0 d inside) (t.each d (omega arith))
+        ];
+    }
+
+-- ---- lists, tails and heads
+
+pub first_dart-more : (g : List (List ℕ)) (k : ℕ) → k < length g → first_dart g (k + 1) ≡ first_dart g k + length (get_or g k [])
+first_dart-more [] k below = absurd (omega arith)
+first_dart-more (l ∷ ls) zero below = omega (arith, length-append l [])
+first_dart-more (l ∷ ls) (suc k) below =
+    let one : suc k + 1 ≡ suc (k + 1) = omega arith in
+    rw one (omega (arith, length-append l (heads (take (k + 1) ls)), length-append l (heads (take k ls)), first_dart-more ls k (omega arith)))
+
+pub first_dart-all : (g : List (List ℕ)) (n : ℕ) → length g ≤ n → first_dart g n ≡ dart_count g
+first_dart-all g n past = ap dart_count (take_all n g past)
+
+pub heads-more : (g : List (List ℕ)) (k : ℕ) → k < length g → heads (take (k + 1) g) ≡ heads (take k g) ++ get_or g k []
+heads-more [] k below = absurd (omega arith)
+heads-more (l ∷ ls) zero below = append-nil l
+heads-more (l ∷ ls) (suc k) below =
+    let one : suc k + 1 ≡ suc (k + 1) = omega arith in
+    rw one (ap (λ (x : List ℕ). l ++ x) (heads-more ls k (omega arith)) ∙ sym (append_assoc l (heads (take k ls)) (get_or ls k [])))
+
+pub tails_from-more : (b : ℕ) (g : List (List ℕ)) (k : ℕ) → k < length g → tails_from b (take (k + 1) g) ≡ tails_from b (take k g) ++ replicate (length (get_or g k [])) (b + k)
+tails_from-more b [] k below = absurd (omega arith)
+tails_from-more b (l ∷ ls) zero below =
+    let same : b + 0 ≡ b = omega arith in append-nil (replicate (length l) b) ∙ ap (replicate (length l)) (sym same)
+tails_from-more b (l ∷ ls) (suc k) below =
+    let one : suc k + 1 ≡ suc (k + 1) = omega arith in
+    let same : b + 1 + k ≡ b + suc k = omega arith in
+    rw one (ap (λ (x : List ℕ). replicate (length l) b ++ x) (tails_from-more (b + 1) ls k (omega arith)) ∙ sym (append_assoc (replicate (length l) b) (tails_from (b + 1) (take k ls)) (replicate (length (get_or ls k [])) (b + 1 + k))) ∙ ap (λ (n : ℕ). replicate (length l) b ++ tails_from (b + 1) (take k ls) ++ replicate (length (get_or ls k [])) n) same)
+
+pub replicate-more : (n x : ℕ) → replicate (n + 1) x ≡ replicate n x ++ x ∷ []
+replicate-more n x = sym (replicate-append-replicate n 1 x)
+
+pub entries_of-push : (lists : List (SmallVec ℕ)) (l : SmallVec ℕ) → entries_of (lists ++ l ∷ []) ≡ entries_of lists ++ l.items ∷ []
+entries_of-push lists l = map-append (λ (x : SmallVec ℕ). x.items) lists (l ∷ [])
+
+-- ---- darts
+
+-- the dart from `head` to `tail` is the reverse of the one from `tail` to `head`
+pub opposite_is : (g : List (List ℕ)) → KeepsBefore g 8 → (tail head m i e : ℕ) → head ≡ suc m → m < length g → i < length (get_or g m []) → get_or (get_or g m []) i 0 ≡ tail → e ≡ first_dart g m + i → (d : ℕ) → d < dart_count g → tail_of g d ≡ tail → head_of g d ≡ head → e ≡ reverse_of g d
+opposite_is g rules tail head m i e vertex list inside entry number d below at-tail at-head =
+    let s : Stands 1 g e m i = stands_at 1 g e m i list inside number in
+    let o = reverse_is g rules d below in
+    let in-e : e < dart_count g = omega (arith, stands_below g m i list inside) in
+    one_dart g rules e (reverse_of g d) in-e o.inside (tail_at g e m i s ∙ sym (o.tail ∙ at-head ∙ vertex)) (s.head ∙ entry ∙ sym (o.head ∙ at-tail))
+
+-- the dart after the one at place i of list k
+pub after_is : (g : List (List ℕ)) (k i : ℕ) → k < length g → i < length (get_or g k []) → (i + 1 < length (get_or g k []) → after_of g (first_dart g k + i) ≡ first_dart g k + i + 1) × (length (get_or g k []) ≤ i + 1 → after_of g (first_dart g k + i) ≡ first_dart g k)
+after_is g k i list inside =
+    let s = stands_at 1 g (first_dart g k + i) k i list inside refl in
+    let (j, t, at) = after_place g (first_dart g k + i) k i s in
+    elim at [
+      | inl w ↦ (λ _. omega (arith, t.number, w.1), λ last. absurd (omega (arith, w.0)))
+      | inr w ↦ (λ more. absurd (omega (arith, w.0)), λ _. omega (arith, t.number, w.1))
+    ]

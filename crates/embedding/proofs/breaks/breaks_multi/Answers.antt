@@ -1,0 +1,24 @@
+use Rattle.std.proofs.Common.{◌≡◌, ℕ, zero, suc, ◌+◌, ◌<◌, ◌≤◌, List, [], length, get_or, Bool, true, false, refl, sym, ap, ◌∙◌, subst, below_more, arith}
+use Rattle.std.proofs.lemmas.Bool.{iff_false, false≢true, eq-eqb}
+use Rattle.std.specs.List.{Any, All, Contains}
+use Rattle.embedding.specs.Lists.{list_of}
+use Rattle.embedding.specs.Rules.{NamesTwice}
+use Rattle.embedding.proofs.EachList.{blank_le, yes_is, no_is, found_at, none_below, each_list, list_of-add}
+use Rattle.embedding.proofs.breaks.breaks_multi.Goals as goal
+
+pub loop-place-init : goal.loop-place-init
+loop-place-init c = (λ v _. blank_le 256 v, λ k b. absurd (omega arith))
+
+pub returns-then-names_twice : goal.returns-then-names_twice
+returns-then-names_twice c =
+    let g = c.args.lists.now in
+    yes_is (found_at g (λ _ l. NamesTwice l) c.loop-place.place (subst (λ (l : List ℕ). NamesTwice l) c.at.ensures.value (c.names_twice.ensures.twice.0 c.if-names_twice.true)))
+
+pub loop-place-preserved : goal.loop-place-preserved
+loop-place-preserved c =
+    (c.names_twice.ensures.marked, below_more _ _ c.loop-place.invariant.1 (λ twice. iff_false c.names_twice.ensures.twice c.if-names_twice.false (subst (λ (l : List ℕ). NamesTwice l) (sym c.at.ensures.value) twice)))
+
+pub returns : goal.returns
+returns c =
+    let g = c.args.lists.now in
+    no_is (none_below g (λ _ l. NamesTwice l) c.loop-place.place (omega (arith, c.count-place-end.ensures.count)) (λ u twice. absurd (omega (arith, twice.3))) c.loop-place.invariant.1)

@@ -1,0 +1,51 @@
+use Rattle.std.proofs.Common.{◌≡◌, ℕ, zero, suc, ◌+◌, ◌<◌, ◌≤◌, List, [], length, get_or, replicate, Bool, true, false, refl, sym, ap, ◌∙◌, subst, arith}
+use Rattle.embedding.specs.Walks.{Holds, IsQueue, IsReached}
+use Rattle.embedding.proofs.Walking.{queue_none, queue_short, blank_marks, IsWalking, Marks, MarksAll, walking_starts, walking_more, walking_ends}
+use Rattle.embedding.proofs.walks.reached_from_first.Goals as goal
+
+pub reach-requires : goal.reach-requires
+reach-requires c =
+    queue_none _ _ refl refl (blank_marks 256)
+
+pub loop-done-init : goal.loop-done-init
+loop-done-init c =
+    walking_starts c.args.lists.now (replicate 256 false) (replicate 256 0) c.reach.new.walk.reached c.reach.new.walk.queue c.reach.new.walk.found (blank_marks 256)
+    (record {
+      queue_is = c.reach.ensures.queue;
+      here = c.reach.ensures.reached;
+      others = c.reach.ensures.others;
+      kept = c.reach.ensures.kept;
+      order = c.reach.ensures.order;
+      longer = c.reach.ensures.longer;
+    })
+
+pub bounds-walk-done : goal.bounds-walk-done
+bounds-walk-done c =
+    let short = queue_short _ _ _ c.loop-done.invariant.queue_is in
+    omega (arith, short, c.loop-done-test.true)
+
+pub overflow_add-done : goal.overflow_add-done
+overflow_add-done c =
+    let short = queue_short _ _ _ c.loop-done.invariant.queue_is in
+    omega (arith, short, c.loop-done-test.true)
+
+pub loop-done-smaller : goal.loop-done-smaller
+loop-done-smaller c =
+    let short = queue_short _ _ _ c.loop-done.invariant.queue_is in
+    omega (arith, short, c.loop-done-test.true, c.loop-done.invariant.queue_is.places, c.reach_all.ensures.queue.places)
+
+pub loop-done-preserved : goal.loop-done-preserved
+loop-done-preserved c =
+    walking_more c.of_vertex.result.now c.reach_all.new.walk.reached c.reach_all.new.walk.queue c.reach_all.new.walk.found c.loop-done-test.true c.of_vertex.ensures c.loop-done.invariant
+    (record {
+      queue_is = c.reach_all.ensures.queue;
+      listed = c.reach_all.ensures.reached;
+      others = c.reach_all.ensures.others;
+      kept = c.reach_all.ensures.kept;
+      order = c.reach_all.ensures.order;
+      longer = c.reach_all.ensures.longer;
+    })
+
+pub returns : goal.returns
+returns c =
+    walking_ends c.loop-done-test.false c.loop-done.invariant

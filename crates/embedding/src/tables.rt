@@ -1,0 +1,133 @@
+//! What a graph keeps, made from lists that keep rules 1 to 7.
+
+ghost use Rattle.std.specs.Prelude.{◌≡◌, ℕ, ◌+◌, ◌<◌, ◌++◌, length, slice_index, IfOk, Contains, replicate};
+ghost use Rattle.embedding.specs.Lists.{list_of};
+ghost use Rattle.embedding.specs.Darts.{heads, tails_from, dart_count, first_dart, head_of, tail_of, reverse_of, after_of};
+ghost use Rattle.embedding.specs.Rules.{KeepsBefore};
+ghost use Rattle.embedding.specs.Tables.{entries_of, IsTable};
+
+use crate::lists::Lists;
+use smallvec::SmallVec;
+use std::alloc::{AllocError, Global};
+
+/// The lists, each of up to four entries in its own place.
+pub(crate) fn copied_lists(
+    alloc: Global,
+    lists: &Lists<'_>,
+) -> Result<Vec<SmallVec<u8, 4>>, AllocError>
+    ensures { IfOk result (λ copies. entries_of copies.items ≡ lists.now) }
+{
+    let mut copies = Vec::with_capacity(alloc, usize::from(lists.count()))?;
+    for place in 0..lists.count() {
+        let copy: SmallVec<u8, 4> = SmallVec::from_slice(alloc, lists.at(place))?;
+        copies.push(copy)?;
+    }
+    Ok(copies)
+}
+
+/// Adds the tail of each of so many darts from one vertex.
+fn add_tails(tails: &mut Vec<u8>, vertex: u8, count: usize) -> Result<(), AllocError>
+    ensures { IfOk result (λ _. tails.new.items ≡ tails.old.items ++ replicate count vertex) }
+{
+    for _dart in 0..count {
+        tails.push(vertex)?;
+    }
+    Ok(())
+}
+
+/// The tails of all darts.
+pub(crate) fn tails_in(alloc: Global, lists: &Lists<'_>) -> Result<Vec<u8>, AllocError>
+    ensures { IfOk result (λ tails. tails.items ≡ tails_from 1 lists.now) }
+{
+    let mut tails = Vec::with_capacity(alloc, lists.darts())?;
+    for place in 0..lists.count() {
+        add_tails(&mut tails, place + 1, lists.at(place).len())?;
+    }
+    Ok(tails)
+}
+
+/// The heads of all darts.
+pub(crate) fn heads_in(alloc: Global, lists: &Lists<'_>) -> Result<Vec<u8>, AllocError>
+    ensures { IfOk result (λ ends. ends.items ≡ heads lists.now) }
+{
+    let mut ends = Vec::with_capacity(alloc, lists.darts())?;
+    for place in 0..lists.count() {
+        ends.extend_from_slice(lists.at(place))?;
+    }
+    Ok(ends)
+}
+
+/// Where a vertex stands in a list that holds it.
+fn place_of(list: &[u8], vertex: u8) -> usize
+    requires { Contains list.now vertex }
+    ensures within { result < length list.now }
+    ensures here { slice_index list.now result ≡ vertex }
+{
+    for (i, v) in list.iter().enumerate() {
+        if *v == vertex {
+            return i;
+        }
+    }
+    unreachable!()
+}
+
+/// The dart from `head` to `tail`, where `head` stands in the list of `tail`.
+fn opposite(lists: &Lists<'_>, tail: u8, head: u8) -> u16
+    requires rules { KeepsBefore lists.now 8 }
+    requires listed { Contains (list_of lists.now tail) head }
+    ensures { (d : ℕ) → d < dart_count lists.now → tail_of lists.now d ≡ tail → head_of lists.now d ≡ head → result ≡ reverse_of lists.now d }
+{
+    let place = place_of(lists.of_vertex(head), tail);
+    lists.first_dart(head - 1) + place as u16
+}
+
+/// Adds the reverse of each dart of the list at a place.
+fn add_reverses(reverses: &mut Vec<u16>, lists: &Lists<'_>, place: u8) -> Result<(), AllocError>
+    requires rules { KeepsBefore lists.now 8 }
+    requires within { place < length lists.now }
+    requires so_far { IsTable (first_dart lists.now place) (reverse_of lists.now) reverses.old.items }
+    ensures { IfOk result (λ _. IsTable (first_dart lists.now (place + 1)) (reverse_of lists.now) reverses.new.items) }
+{
+    for head in lists.at(place) {
+        reverses.push(opposite(lists, place + 1, *head))?;
+    }
+    Ok(())
+}
+
+/// The reverses of all darts. Each list has at most four entries, so to search one takes constant time.
+pub(crate) fn reverses_in(alloc: Global, lists: &Lists<'_>) -> Result<Vec<u16>, AllocError>
+    requires { KeepsBefore lists.now 8 }
+    ensures { IfOk result (λ reverses. IsTable (dart_count lists.now) (reverse_of lists.now) reverses.items) }
+{
+    let mut reverses = Vec::with_capacity(alloc, lists.darts())?;
+    for place in 0..lists.count() {
+        add_reverses(&mut reverses, lists, place)?;
+    }
+    Ok(reverses)
+}
+
+/// Adds the dart after each dart of the list at a place.
+fn add_afters(afters: &mut Vec<u16>, lists: &Lists<'_>, place: u8) -> Result<(), AllocError>
+    requires within { place < length lists.now }
+    requires so_far { IsTable (first_dart lists.now place) (after_of lists.now) afters.old.items }
+    ensures { IfOk result (λ _. IsTable (first_dart lists.now (place + 1)) (after_of lists.now) afters.new.items) }
+{
+    let first = lists.first_dart(place);
+    let count = lists.at(place).len() as u16;
+    for i in 0..count {
+        let next = if i + 1 < count { first + i + 1 } else { first };
+        afters.push(next)?;
+    }
+    Ok(())
+}
+
+/// The darts after all darts.
+pub(crate) fn afters_in(alloc: Global, lists: &Lists<'_>) -> Result<Vec<u16>, AllocError>
+    ensures { IfOk result (λ afters. IsTable (dart_count lists.now) (after_of lists.now) afters.items) }
+{
+    let mut afters = Vec::with_capacity(alloc, lists.darts())?;
+    for place in 0..lists.count() {
+        add_afters(&mut afters, lists, place)?;
+    }
+    Ok(afters)
+}
