@@ -305,3 +305,11 @@ darts_some g rules =
         full g (suc k) some none =
             let place = list_of-place g (suc k) 0 some in
             omega (arith, stands_below g k 0 (omega (arith, place.1, place.2)) some)
+
+-- who stands in a list has the list's vertex in its own
+pub listed_back : (g : List (List ℕ)) → KeepsBefore g 8 → (u v : ℕ) → Contains (list_of g u) v → Contains (list_of g v) u
+listed_back g rules u v (i, inside, entry) =
+    elim (contains_or_not (list_of g v) u) [
+      | inl there ↦ there
+      | inr missing ↦ absurd (rules Asymmetric (omega arith) (u, (i, v, inside, entry, missing)))
+    ]

@@ -7,3 +7,4 @@ pub mod Tables
 pub mod Split
 pub mod Pairs
 pub mod Walks
+pub mod Faults

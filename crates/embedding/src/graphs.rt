@@ -1,11 +1,19 @@
 //! A graph that keeps rules 1 to 7, with its darts.
 
-ghost use Rattle.std.specs.Prelude.{◌≡◌, ℕ, ◌*◌, ◌<◌, ◌≤◌, length};
+ghost use Rattle.std.specs.Prelude.{◌≡◌, ℕ, ◌*◌, ◌<◌, ◌≤◌, length, IfOk, IfErr, OnOk};
 ghost use Rattle.embedding.specs.Lists.{list_of};
 ghost use Rattle.embedding.specs.Darts.{dart_count, head_of, tail_of, reverse_of, after_of, next_of, IsInvolution, IsOneToOne};
 ghost use Rattle.embedding.specs.Rules.{KeepsBefore};
+ghost use Rattle.embedding.specs.Faults.{IsReadFault};
+ghost use Rattle.planar_code.specs.Stream.{lists_of};
 
+use crate::breaks::first_broken;
+use crate::faults::ReadFault;
+use crate::lists::Lists;
+use crate::tables::{afters_in, copied_lists, heads_in, reverses_in, tails_in};
+use planar_code::Record;
 use smallvec::SmallVec;
+use std::alloc::{AllocError, Global};
 use std::marker::Model;
 
 /// A connected graph without loops or double edges, of maximum degree 4, given by the clockwise list of
@@ -37,6 +45,40 @@ impl Model for Graph {
 }
 
 impl Graph {
+    /// Reads the graph of a record. It takes time in proportion to the record's bytes, and memory only
+    /// for a graph that keeps rules 1 to 7.
+    ///
+    /// # Errors
+    ///
+    /// `Rule` with the first of rules 1 to 7 that the record's lists break, exactly where they break
+    /// one; `Memory` where the graph found no memory.
+    pub fn read(alloc: Global, record: &Record) -> Result<Graph, ReadFault>
+        ensures lists { IfOk result (λ graph. graph ≡ lists_of record.now) }
+        ensures rules { OnOk result (KeepsBefore (lists_of record.now) 8) }
+        ensures fault { IfErr result (IsReadFault (lists_of record.now)) }
+    {
+        let lists = Lists::of(record);
+        match first_broken(&lists) {
+            Some(rule) => Err(ReadFault::Rule(rule)),
+            None => Graph::of(alloc, &lists).map_err(|_| ReadFault::Memory),
+        }
+    }
+
+    /// The graph of lists that keep rules 1 to 7.
+    fn of(alloc: Global, lists: &Lists<'_>) -> Result<Graph, AllocError>
+        requires rules { KeepsBefore lists.now 8 }
+        requires few { length lists.now < 256 }
+        ensures { IfOk result (λ graph. graph ≡ lists.now) }
+    {
+        Ok(Graph {
+            lists: copied_lists(alloc, lists)?,
+            tails: tails_in(alloc, lists)?,
+            heads: heads_in(alloc, lists)?,
+            reverses: reverses_in(alloc, lists)?,
+            afters: afters_in(alloc, lists)?,
+        })
+    }
+
     /// How many vertices there are, 1 to 255.
     pub fn vertices(&self) -> u8
         ensures count { result ≡ length self.now }

@@ -5,6 +5,7 @@
 #![tactic(auto)]
 
 mod breaks;
+mod faults;
 mod graphs;
 mod lists;
 mod pairs;
@@ -12,5 +13,6 @@ mod rules;
 mod tables;
 mod walks;
 
+pub use faults::ReadFault;
 pub use graphs::Graph;
 pub use rules::Rule;

@@ -51,7 +51,8 @@ fn starts_in(bytes: &[u8]) -> [u16; 256]
 impl<'a> Lists<'a> {
     /// The lists of a record, in one pass over its bytes.
     pub(crate) fn of(record: &'a Record) -> Lists<'a>
-        ensures { result ≡ lists_of record.now }
+        ensures value { result ≡ lists_of record.now }
+        ensures few { length result < 256 }
     {
         let count = record.order();
         let bytes = &record.bytes()[1..];
@@ -85,6 +86,7 @@ impl<'a> Lists<'a> {
         requires { place < length self.now }
         ensures value { result.now ≡ slice_index_or self.now place [] }
         ensures short { length result.now ≤ 254 }
+        ensures few { length self.now < 256 }
     {
         let place = usize::from(place);
         let from = usize::from(self.starts[place]);

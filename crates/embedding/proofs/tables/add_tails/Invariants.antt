@@ -3,5 +3,5 @@ use Rattle.embedding.specs.Darts.{heads, tails_from, dart_count, first_dart, rev
 use Rattle.embedding.specs.Tables.{entries_of, IsTable}
 use Rattle.embedding.proofs.tables.add_tails.Given as goal
 
-abbrev pub invariant-loop-_dart : goal.invariant-loop-_dart
-invariant-loop-_dart l = l.tails.items ≡ l.initial.tails.items ++ replicate l._dart l.vertex
+abbrev pub invariant-loop-dart : goal.invariant-loop-dart
+invariant-loop-dart l = l.tails.items ≡ l.initial.tails.items ++ replicate l._dart l.vertex
