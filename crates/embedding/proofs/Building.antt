@@ -1,15 +1,13 @@
 -- Tables that grow list by list and dart by dart.
-use Rattle.std.proofs.Common.{◌≡◌, ℕ, zero, suc, ◌+◌, ◌<◌, ◌≤◌, List, [], ◌∷◌, ◌++◌, length, get_or, take, map, replicate, refl, sym, ap, ◌∙◌, subst, inl, inr, arith}
-use Rattle.std.specs.List.{Contains}
-use Rattle.std.proofs.lemmas.List.{append_assoc, append-nil, length-append, get_or_append_left, get_or_at, get_or_default, take_more, take_all, map-append, replicate-append-replicate}
+use Rattle.std.proofs.Common.{◌≡◌, ℕ, zero, suc, ◌+◌, ◌<◌, ◌≤◌, List, [], ◌∷◌, ◌++◌, length, get_or, take, replicate, refl, sym, ap, ◌∙◌, inl, inr, arith}
+use Rattle.std.proofs.lemmas.List.{append_assoc, append-nil, length-append, get_or_append_left, get_or_at, take_all, map-append, replicate-append-replicate}
 use Rattle.std.proofs.lemmas.Bool.{cases_eq}
 use Rattle.smallvec.specs.SmallVec.{SmallVec}
-use Rattle.embedding.specs.Lists.{list_of}
 use Rattle.embedding.specs.Darts.{heads, tails_from, dart_count, first_dart, head_of, tail_of, reverse_of, after_of}
 use Rattle.embedding.specs.Rules.{KeepsBefore}
 use Rattle.embedding.specs.Tables.{entries_of, IsTable}
 use Rattle.embedding.proofs.Entries.{Stands, stands_at, stands_below}
-use Rattle.embedding.proofs.Rotation.{IsOpposite, one_dart, reverse_is, after_place, list_of-place, tail_at}
+use Rattle.embedding.proofs.Rotation.{one_dart, reverse_is, after_place, tail_at}
 
 -- ---- tables
 
@@ -25,11 +23,11 @@ table_push n f table x m next is t =
     record {
       size = length-append table (x ∷ []) ∙ omega (arith, t.size);
       each = λ d b. elim (cases_eq d n) [
-          | inl e ↦ rw (e, get_or_at table x [] 0 n t.size) is
-          | inr other ↦
-              let inside : d < length table = omega (arith, t.size) in
-              rw (get_or_append_left table (x ∷ []) 0 d inside) (t.each d (omega arith))
-        ];
+        | inl e ↦ rw (e, get_or_at table x [] 0 n t.size) is
+        | inr other ↦
+            let inside : d < length table = omega (arith, t.size) in
+            rw (get_or_append_left table (x ∷ []) 0 d inside) (t.each d (omega arith))
+      ];
     }
 
 -- ---- lists, tails and heads

@@ -1,5 +1,5 @@
 -- Marks that tell which entries of a list came before.
-use Rattle.std.proofs.Common.{◌≡◌, ◌≢◌, ℕ, ◌+◌, ◌<◌, ◌≤◌, List, [], length, get_or, set, refl, sym, ap, ◌∙◌, subst, inl, inr, arith}
+use Rattle.std.proofs.Common.{◌≡◌, ◌≢◌, ℕ, ◌+◌, ◌<◌, ◌≤◌, List, length, get_or, set, refl, sym, ap, ◌∙◌, inl, inr, arith}
 use Rattle.std.proofs.lemmas.List.{get_or-set_same, get_or-set_other, length-set}
 use Rattle.std.proofs.lemmas.Bool.{cases_eq}
 use Rattle.embedding.specs.Rules.{NamesTwice}
@@ -30,28 +30,28 @@ marking_more list vertex last n v small at new m =
     record {
       size = length-set last v vertex ∙ m.size;
       marked = λ u b. elim (cases_eq u v) [
-          | inl same ↦ rw (same, here) (omega arith)
-          | inr other ↦ rw (get_or-set_other last v u vertex 0 other) (m.marked u b)
-        ];
+        | inl same ↦ rw (same, here) (omega arith)
+        | inr other ↦ rw (get_or-set_other last v u vertex 0 other) (m.marked u b)
+      ];
       seen = λ i b. elim (cases_eq (get_or list i 0) v) [
-          | inl same ↦ rw (same, here) refl
-          | inr other ↦
-              let before : i < n = below i n b (λ e. other (ap (λ (k : ℕ). get_or list k 0) e ∙ sym at)) in
-              rw (get_or-set_other last v (get_or list i 0) vertex 0 other) (m.seen i before)
-        ];
+        | inl same ↦ rw (same, here) refl
+        | inr other ↦
+            let before : i < n = below i n b (λ e. other (ap (λ (k : ℕ). get_or list k 0) e ∙ sym at)) in
+            rw (get_or-set_other last v (get_or list i 0) vertex 0 other) (m.seen i before)
+      ];
       named = λ u b e. elim (cases_eq u v) [
-          | inl same ↦ (n, omega arith, sym at ∙ sym same)
-          | inr other ↦
-              let old = m.named u b (sym (get_or-set_other last v u vertex 0 other) ∙ e) in
-              (old.0, omega (arith, old.1), old.2)
-        ];
+        | inl same ↦ (n, omega arith, sym at ∙ sym same)
+        | inr other ↦
+            let old = m.named u b (sym (get_or-set_other last v u vertex 0 other) ∙ e) in
+            (old.0, omega (arith, old.1), old.2)
+      ];
       apart = λ i j before b same.
-        elim (cases_eq j n) [
-          | inl last_one ↦
-              let i-below : i < n = omega arith in
-              new (ap (λ (k : ℕ). get_or last k 0) (at ∙ sym (same ∙ ap (λ (k : ℕ). get_or list k 0) last_one)) ∙ m.seen i i-below)
-          | inr other ↦ m.apart i j before (omega arith) same
-        ];
+          elim (cases_eq j n) [
+            | inl last_one ↦
+                let i-below : i < n = omega arith in
+                new (ap (λ (k : ℕ). get_or last k 0) (at ∙ sym (same ∙ ap (λ (k : ℕ). get_or list k 0) last_one)) ∙ m.seen i i-below)
+            | inr other ↦ m.apart i j before (omega arith) same
+          ];
     }
   where
     below : (i n : ℕ) → i < n + 1 → (i ≡ n → ⊥) → i < n

@@ -1,5 +1,5 @@
 -- One bit for each pair of vertices.
-use Rattle.std.proofs.Common.{◌≡◌, ◌↔◌, ℕ, ◌+◌, ◌*◌, ◌/◌, ◌%◌, ◌^◌, ◌<◌, Bool, true, eqb, List, get_or, replicate, refl, sym, ap, ◌∙◌, subst, arith, bit_and}
+use Rattle.std.proofs.Common.{◌≡◌, ◌↔◌, ℕ, ◌+◌, ◌*◌, ◌/◌, ◌%◌, ◌^◌, ◌<◌, eqb, List, get_or, replicate, ap, arith, bit_and}
 use Rattle.std.specs.Bool.{IsTrue}
 use Rattle.std.proofs.lemmas.Bool.{eqb-true, eq-eqb}
 use Rattle.std.proofs.lemmas.Nat.{bit_set_by_shift}
@@ -10,7 +10,7 @@ use Rattle.embedding.specs.Pairs.{HasPair}
 pub pair_test : (words : List ℕ) (u v i j : ℕ) → i ≡ u → j ≡ v / 64 → (IsTrue (eqb (bit_and (get_or words (4 * i + j) 0 / 2 ^ (v % 64)) 1) 1)) ↔ HasPair words u v
 pair_test words u v i j at-u at-v =
     let word : get_or words (4 * i + j) 0 ≡ get_or words (4 * u + v / 64) 0 =
-      ap (λ (k : ℕ). get_or words k 0) (omega arith) in
+    ap (λ (k : ℕ). get_or words k 0) (omega arith) in
     let is = bit_set_by_shift (get_or words (4 * u + v / 64) 0) (v % 64) in
     rw word (λ t. is.0 (eqb-true _ _ t), λ h. eq-eqb _ _ (is.1 h))
 

@@ -1,5 +1,5 @@
 -- What a record's split says of the list at one place.
-use Rattle.std.proofs.Common.{◌≡◌, ℕ, ◌+◌, ◌-◌, ◌*◌, ◌<◌, ◌≤◌, List, [], length, get_or, take, drop, refl, sym, ap, ◌∙◌, subst, arith}
+use Rattle.std.proofs.Common.{◌≡◌, ℕ, ◌+◌, ◌-◌, ◌*◌, ◌<◌, ◌≤◌, List, [], length, get_or, take, drop, sym, ap, ◌∙◌, subst, arith}
 use Rattle.std.specs.List.{flat_map}
 use Rattle.planar_code.specs.Stream.{ended, lists_in}
 use Rattle.embedding.specs.Darts.{dart_count, first_dart}
@@ -29,7 +29,7 @@ place_is bytes starts count split g same k from to below reads-from reads-to =
           ends = omega arith;
           within = omega (arith, list_within g k below, ap length split.spelt);
           part =
-            rw (from-is, to-is) (ap (λ (b : List ℕ). take (start_of g (k + 1) - 1 - start_of g k) (drop (start_of g k) b)) split.spelt ∙ part_is g k below);
+              rw (from-is, to-is) (ap (λ (b : List ℕ). take (start_of g (k + 1) - 1 - start_of g k) (drop (start_of g k) b)) split.spelt ∙ part_is g k below);
           short = (split.each k [] below).short;
           first = from-is ∙ first_dart-start g k (omega arith);
         }

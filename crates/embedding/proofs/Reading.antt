@@ -1,5 +1,5 @@
 -- One pass over the bytes of lists, which finds where each list begins.
-use Rattle.std.proofs.Common.{◌≡◌, ℕ, ◌+◌, ◌*◌, ◌<◌, ◌≤◌, List, [], length, get_or, set, refl, sym, ap, ◌∙◌, subst, inl, inr, arith}
+use Rattle.std.proofs.Common.{◌≡◌, ℕ, ◌+◌, ◌<◌, ◌≤◌, List, [], length, get_or, set, ◌∙◌, inl, inr, arith}
 use Rattle.std.specs.List.{flat_map, All}
 use Rattle.std.proofs.lemmas.List.{get_or-set_same, get_or-set_other, length-set}
 use Rattle.std.proofs.lemmas.Bool.{cases_lt, cases_eq}
@@ -31,10 +31,10 @@ reading_end g starts i count each few r below zeros =
     let before = r.to less in
     let from = r.from in
     let at : i ≡ start_of g count + length (get_or g count []) =
-      elim (cases_lt i (start_of g count + length (get_or g count []))) [
-        | inl within ↦ absurd (omega (arith, byte_in g count i less each from within, zeros))
-        | inr past ↦ omega arith
-      ] in
+    elim (cases_lt i (start_of g count + length (get_or g count []))) [
+      | inl within ↦ absurd (omega (arith, byte_in g count i less each from within, zeros))
+      | inr past ↦ omega arith
+    ] in
     let next : i + 1 ≡ start_of g (count + 1) = omega arith in
     let inside : count + 1 < length starts = omega (arith, r.size) in
     record {
@@ -43,9 +43,9 @@ reading_end g starts i count each few r below zeros =
       from = omega arith;
       to = λ again. omega (arith, start_of-more g (count + 1) again);
       starts_are = λ k b. elim (cases_eq k (count + 1)) [
-          | inl last ↦ rw (last, get_or-set_same starts (count + 1) (i + 1) 0 inside) next
-          | inr other ↦ rw (get_or-set_other starts (count + 1) k (i + 1) 0 other) (r.starts_are k (omega arith))
-        ];
+        | inl last ↦ rw (last, get_or-set_same starts (count + 1) (i + 1) 0 inside) next
+        | inr other ↦ rw (get_or-set_other starts (count + 1) k (i + 1) 0 other) (r.starts_are k (omega arith))
+      ];
     }
 
 -- another byte does not
@@ -59,9 +59,9 @@ reading_entry g starts i count r below entry =
       few = r.few;
       from = omega (arith, r.from);
       to = λ _. elim (cases_eq i (start_of g count + length (get_or g count []))) [
-          | inl behind ↦ absurd (entry (byte_behind g count i less behind))
-          | inr other ↦ omega arith
-        ];
+        | inl behind ↦ absurd (entry (byte_behind g count i less behind))
+        | inr other ↦ omega arith
+      ];
       starts_are = r.starts_are;
     }
 

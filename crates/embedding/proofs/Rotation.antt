@@ -125,9 +125,9 @@ reverse_involution g rules =
     record {
       inside = λ d in-d. (reverse_is g rules d in-d).inside;
       back = λ d in-d.
-        let there = reverse_is g rules d in-d in
-        let back = reverse_is g rules (reverse_of g d) there.inside in
-        one_dart g rules _ d back.inside in-d (back.tail ∙ there.head) (back.head ∙ there.tail);
+          let there = reverse_is g rules d in-d in
+          let back = reverse_is g rules (reverse_of g d) there.inside in
+          one_dart g rules _ d back.inside in-d (back.tail ∙ there.head) (back.head ∙ there.tail);
     }
 
 -- no dart is its own reverse
@@ -240,7 +240,7 @@ next_one g rules =
     apart g rules d e in-d in-e same =
         let turned = reverse_involution g rules in
         let mates : reverse_of g d ≡ reverse_of g e =
-          (after_one g).one _ _ (turned.inside d in-d) (turned.inside e in-e) same in
+        (after_one g).one _ _ (turned.inside d in-d) (turned.inside e in-e) same in
         sym (turned.back d in-d) ∙ ap (reverse_of g) mates ∙ turned.back e in-e
 
 -- ---- how many darts

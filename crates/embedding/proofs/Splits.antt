@@ -1,10 +1,9 @@
 -- Lists that are written one after another, each ended by a 0.
-use Rattle.std.proofs.Common.{◌≡◌, ℕ, zero, suc, ◌+◌, ◌-◌, ◌*◌, ◌<◌, ◌≤◌, List, [], ◌∷◌, ◌++◌, ◌⊎◌, length, get_or, take, drop, refl, sym, ap, ◌∙◌, subst, inl, inr, arith}
+use Rattle.std.proofs.Common.{◌≡◌, ℕ, zero, suc, ◌+◌, ◌-◌, ◌*◌, ◌<◌, ◌≤◌, List, [], ◌∷◌, ◌++◌, length, get_or, take, drop, refl, sym, ap, ◌∙◌, arith}
 use Rattle.std.specs.List.{flat_map, slice_range, All}
-use Rattle.std.proofs.lemmas.List.{length-append, append_assoc, get_or-append-add, take_at, drop_at, get_or_append_left, get_or_at, drop-drop}
+use Rattle.std.proofs.lemmas.List.{length-append, append_assoc, take_at, drop_at, get_or_append_left, get_or_at, drop-drop}
 use Rattle.std.proofs.lemmas.List.Concat.{get_or-flat_map}
-use Rattle.std.proofs.lemmas.Bool.{cases_lt}
-use Rattle.planar_code.specs.Stream.{IsList, IsEntry, ended, lists_in}
+use Rattle.planar_code.specs.Stream.{IsList, ended}
 use Rattle.embedding.specs.Darts.{heads, first_dart}
 use Rattle.embedding.specs.Split.{start_of}
 
@@ -52,11 +51,11 @@ part_is g k below =
         rw (append_assoc l (0 ∷ []) (flat_map ended ls)) (take_at l _ (length l) refl)
     front (l ∷ ls) (suc k) below =
         let far : start_of (l ∷ ls) (suc k) ≡ length (ended l) + start_of ls k =
-          length-append (ended l) (flat_map ended (take k ls)) in
+        length-append (ended l) (flat_map ended (take k ls)) in
         let behind : drop (start_of (l ∷ ls) (suc k)) (ended l ++ flat_map ended ls) ≡ drop (start_of ls k) (flat_map ended ls) =
-          ap (λ (m : ℕ). drop m (ended l ++ flat_map ended ls)) far
-          ∙ sym (drop-drop (start_of ls k) (length (ended l)) (ended l ++ flat_map ended ls))
-          ∙ ap (drop (start_of ls k)) (drop_at (ended l) (flat_map ended ls) (length (ended l)) refl) in
+        ap (λ (m : ℕ). drop m (ended l ++ flat_map ended ls)) far
+        ∙ sym (drop-drop (start_of ls k) (length (ended l)) (ended l ++ flat_map ended ls))
+        ∙ ap (drop (start_of ls k)) (drop_at (ended l) (flat_map ended ls) (length (ended l)) refl) in
         ap (take (length (get_or ls k []))) behind ∙ front ls k (omega arith)
 
 -- a byte within a list is an entry, and the one behind it is 0
@@ -68,7 +67,7 @@ byte_in g k i below each from to =
     let inside : j < length l = omega arith in
     let longer : j < length (ended l) = omega (arith, length-ended l) in
     let is : get_or (flat_map ended g) i 0 ≡ get_or l j 0 =
-      ap (λ (m : ℕ). get_or (flat_map ended g) m 0) at ∙ get_or-flat_map ended g k j [] 0 below longer ∙ get_or_append_left l (0 ∷ []) 0 j inside in
+    ap (λ (m : ℕ). get_or (flat_map ended g) m 0) at ∙ get_or-flat_map ended g k j [] 0 below longer ∙ get_or_append_left l (0 ∷ []) 0 j inside in
     let entry : 0 < get_or l j 0 = ((each k [] below).each j 0 inside).0 in
     rw is entry
 

@@ -1,14 +1,14 @@
 -- The pairs of all lists, and whether each stands in both orders.
-use Rattle.std.proofs.Common.{◌≡◌, ◌≢◌, ◌↔◌, ◌⊎◌, ℕ, zero, suc, ◌+◌, ◌<◌, ◌≤◌, List, [], length, get_or, refl, sym, ap, ◌∙◌, subst, inl, inr, arith}
+use Rattle.std.proofs.Common.{◌≡◌, ◌↔◌, ◌⊎◌, ℕ, zero, suc, ◌+◌, ◌<◌, ◌≤◌, List, [], length, get_or, sym, ap, ◌∙◌, subst, inl, inr, arith}
 use Rattle.std.specs.List.{Any, All, Contains}
 use Rattle.std.proofs.lemmas.List.{get_or_default}
-use Rattle.std.proofs.lemmas.Bool.{cases_eq, cases_lt}
-use Rattle.planar_code.specs.Stream.{IsList, IsEntry}
+use Rattle.std.proofs.lemmas.Bool.{cases_eq}
+use Rattle.planar_code.specs.Stream.{IsList}
 use Rattle.embedding.specs.Lists.{list_of}
 use Rattle.embedding.specs.Pairs.{HasPair}
 use Rattle.embedding.specs.declared.rules.Rule.TheVariants.{Asymmetric}
 use Rattle.embedding.specs.Rules.{Breaks}
-use Rattle.embedding.proofs.EachList.{each_list, list_of-add}
+use Rattle.embedding.proofs.EachList.{list_of-add}
 use Rattle.embedding.proofs.Rotation.{list_of-place}
 
 -- the pairs are the old ones and those of the vertex and the first n entries
@@ -29,28 +29,28 @@ pub adds_more : (old : List ℕ) (vertex : ℕ) (list : List ℕ) (n : ℕ) (wor
 adds_more old vertex list n words next v small-u small-v at same others m =
     record {
       from = λ a b small-a small-b h.
-        elim (cases_eq a vertex) [
-          | inl u ↦ elim (cases_eq b v) [
+          elim (cases_eq a vertex) [
+            | inl u ↦ elim (cases_eq b v) [
               | inl e ↦ inr (u, (n, omega arith, sym at ∙ sym e))
               | inr other ↦ earlier a b (m.from a b small-a small-b ((others a b small-a small-b (λ w. other w.1)).0 h))
             ]
-          | inr other ↦ earlier a b (m.from a b small-a small-b ((others a b small-a small-b (λ w. other w.0)).0 h))
-        ];
+            | inr other ↦ earlier a b (m.from a b small-a small-b ((others a b small-a small-b (λ w. other w.0)).0 h))
+          ];
       kept = λ a b small-a small-b h.
-        elim (cases_eq a vertex) [
-          | inl u ↦ elim (cases_eq b v) [
+          elim (cases_eq a vertex) [
+            | inl u ↦ elim (cases_eq b v) [
               | inl e ↦ subst (λ (x : ℕ). HasPair next x b) (sym u) (subst (λ (y : ℕ). HasPair next vertex y) (sym e) same)
               | inr other ↦ (others a b small-a small-b (λ w. other w.1)).1 (m.kept a b small-a small-b h)
             ]
-          | inr other ↦ (others a b small-a small-b (λ w. other w.0)).1 (m.kept a b small-a small-b h)
-        ];
+            | inr other ↦ (others a b small-a small-b (λ w. other w.0)).1 (m.kept a b small-a small-b h)
+          ];
       added = λ b i small-b before e.
-        elim (cases_eq b v) [
-          | inl is ↦ subst (λ (y : ℕ). HasPair next vertex y) (sym is) same
-          | inr other ↦
-              let earlier-i : i < n = below i n before (λ last. other (sym e ∙ ap (λ (k : ℕ). get_or list k 0) last ∙ sym at)) in
-              (others vertex b small-u small-b (λ w. other w.1)).1 (m.added b i small-b earlier-i e)
-        ];
+          elim (cases_eq b v) [
+            | inl is ↦ subst (λ (y : ℕ). HasPair next vertex y) (sym is) same
+            | inr other ↦
+                let earlier-i : i < n = below i n before (λ last. other (sym e ∙ ap (λ (k : ℕ). get_or list k 0) last ∙ sym at)) in
+                (others vertex b small-u small-b (λ w. other w.1)).1 (m.added b i small-b earlier-i e)
+          ];
     }
   where
     below : (i n : ℕ) → i < n + 1 → (i ≡ n → ⊥) → i < n
@@ -112,7 +112,7 @@ lacks_breaks g words k each few below has (i, v, inside, entry, lacks) =
     missing : Contains (list_of g v) (k + 1) → ⊥
     missing there =
         let small : v < 256 =
-          omega (arith, ((each k [] below).each i 0 inside).1, get_or_default (get_or g k []) i 0 v inside, entry) in
+        omega (arith, ((each k [] below).each i 0 inside).1, get_or_default (get_or g k []) i 0 v inside, entry) in
         let place = list_of-place g v there.0 there.1 in
         lacks ((has v (k + 1) small (omega arith)).1 (omega (arith, place.1, place.2), there))
 
@@ -127,5 +127,5 @@ lacks_none g words each few has none (u, (i, v, inside, entry, missing)) =
         let in-k : i < length (get_or g k []) = subst (λ (l : List ℕ). i < length l) same inside in
         let is : get_or (get_or g k []) i v ≡ v = subst (λ (l : List ℕ). get_or l i v ≡ v) same entry in
         let small : v < 256 =
-          omega (arith, ((each k [] below).each i 0 in-k).1, get_or_default (get_or g k []) i 0 v in-k, is) in
+        omega (arith, ((each k [] below).each i 0 in-k).1, get_or_default (get_or g k []) i 0 v in-k, is) in
         none k below (i, v, in-k, is, λ h. missing (subst (λ (n : ℕ). Contains (list_of g v) n) (omega arith) ((has v (k + 1) small (omega arith)).0 h).1))

@@ -1,9 +1,8 @@
 -- The walk that marks what is reached from vertex 1.
-use Rattle.std.proofs.Common.{◌≡◌, ◌≢◌, ◌↔◌, ◌⊎◌, ℕ, zero, suc, ◌+◌, ◌*◌, ◌<◌, ◌≤◌, Bool, true, false, cond, List, [], length, get_or, set, replicate, refl, sym, ap, ◌∙◌, subst, inl, inr, arith}
+use Rattle.std.proofs.Common.{◌≡◌, ◌⊎◌, ℕ, zero, suc, ◌+◌, ◌<◌, ◌≤◌, Bool, true, false, cond, List, length, get_or, set, replicate, refl, sym, ap, ◌∙◌, subst, inl, inr, arith}
 use Rattle.std.specs.List.{All, Contains}
-use Rattle.std.proofs.lemmas.List.{get_or-set_same, get_or-set_other, get_or_default, get_or_past, length-set}
-use Rattle.std.proofs.lemmas.Bool.{cases_eq, cases_lt, cases_Bool, true≢false}
-use Rattle.sums.specs.Sums.{sum_below}
+use Rattle.std.proofs.lemmas.List.{get_or-set_same, get_or-set_other, get_or_default, length-set}
+use Rattle.std.proofs.lemmas.Bool.{cases_eq, true≢false}
 use Rattle.sums.proofs.Sums.{sum_below-none, sum_below-le, sum_below-lt, sum_below-changed, sum_below-constant}
 use Rattle.embedding.specs.Lists.{list_of}
 use Rattle.embedding.specs.declared.rules.Rule.TheVariants.{Disconnected}
@@ -53,22 +52,22 @@ queue_more reached queue found v small new q =
       marks = length-set reached v true ∙ q.marks;
       places = length-set queue found v ∙ q.places;
       count =
-        let long = length-set reached v true in
-        let changed = sum_below-changed (length reached) v (mark_of reached) (mark_of (set reached v true)) inside (λ i _ other. ap (λ (b : Bool). cond b 1 0) (sym (get_or-set_other reached v i true false other))) in
-        let one : mark_of (set reached v true) v ≡ 1 = ap (λ (b : Bool). cond b 1 0) here in
-        let none : mark_of reached v ≡ 0 = ap (λ (b : Bool). cond b 1 0) new in
-        rw long (omega (arith, changed, q.count, one, none));
+          let long = length-set reached v true in
+          let changed = sum_below-changed (length reached) v (mark_of reached) (mark_of (set reached v true)) inside (λ i _ other. ap (λ (b : Bool). cond b 1 0) (sym (get_or-set_other reached v i true false other))) in
+          let one : mark_of (set reached v true) v ≡ 1 = ap (λ (b : Bool). cond b 1 0) here in
+          let none : mark_of reached v ≡ 0 = ap (λ (b : Bool). cond b 1 0) new in
+          rw long (omega (arith, changed, q.count, one, none));
       queued = λ i below. elim (cases_eq i found) [
-          | inl e ↦ rw (e, last) here
-          | inr other ↦
-              rw (get_or-set_other queue found i v 0 other) (still (get_or queue i 0) (q.queued i (omega arith)))
-        ];
+        | inl e ↦ rw (e, last) here
+        | inr other ↦
+            rw (get_or-set_other queue found i v 0 other) (still (get_or queue i 0) (q.queued i (omega arith)))
+      ];
       placed = λ w holds. elim (cases_eq w v) [
-          | inl e ↦ (found, omega arith, last ∙ sym e)
-          | inr other ↦
-              let (i, below, at) = q.placed w (sym (get_or-set_other reached v w true false other) ∙ holds) in
-              (i, omega arith, get_or-set_other queue found i v 0 (λ e. apart i below e) ∙ at)
-        ];
+        | inl e ↦ (found, omega arith, last ∙ sym e)
+        | inr other ↦
+            let (i, below, at) = q.placed w (sym (get_or-set_other reached v w true false other) ∙ holds) in
+            (i, omega arith, get_or-set_other queue found i v 0 (λ e. apart i below e) ∙ at)
+      ];
     }
   where
     apart : (i : ℕ) → i < found → i ≡ found → ⊥
@@ -132,10 +131,10 @@ reaches_more {old} {line} {had} {list} {n} {reached} {queue} {found} v reached' 
     record {
       queue_is = m.queue_is;
       listed = λ i below. elim (cases_eq i n) [
-          | inl e ↦
-              subst (λ (w : ℕ). Holds reached' w) (at ∙ sym (ap (λ (k : ℕ). get_or list k 0) e)) m.here
-          | inr other ↦ m.kept (get_or list i 0) (r.listed i (omega arith))
-        ];
+        | inl e ↦
+            subst (λ (w : ℕ). Holds reached' w) (at ∙ sym (ap (λ (k : ℕ). get_or list k 0) e)) m.here
+        | inr other ↦ m.kept (get_or list i 0) (r.listed i (omega arith))
+      ];
       others = λ w h. from w (m.others w h);
       kept = λ w h. m.kept w (r.kept w h);
       order = λ i below. m.order i (omega (arith, r.longer)) ∙ r.order i below;
@@ -200,20 +199,20 @@ walking_more {g} {reached} {queue} {found} {done} list reached' queue' found' be
       queue_is = m.queue_is;
       first = m.kept 1 w.first;
       least = λ s holds closed v h. elim (m.others v h) [
-          | inl old ↦ w.least s holds closed v old
-          | inr listed ↦
-              let from : s (get_or queue done 0) ≡ true = w.least s holds closed _ (w.queue_is.queued done below) in
-              let all : All (λ v. s v ≡ true) list =
-                subst (λ (l : List ℕ). All (λ v. s v ≡ true) l) (sym same) (closed _ from) in
-              subst (λ (x : ℕ). s x ≡ true) listed.2 (all listed.0 v listed.1)
-        ];
+        | inl old ↦ w.least s holds closed v old
+        | inr listed ↦
+            let from : s (get_or queue done 0) ≡ true = w.least s holds closed _ (w.queue_is.queued done below) in
+            let all : All (λ v. s v ≡ true) list =
+            subst (λ (l : List ℕ). All (λ v. s v ≡ true) l) (sym same) (closed _ from) in
+            subst (λ (x : ℕ). s x ≡ true) listed.2 (all listed.0 v listed.1)
+      ];
       closed = λ i before. elim (cases_eq i done) [
-          | inl e ↦
-              subst (λ (l : List ℕ). All (Holds reached') l) (same ∙ ap (list_of g) (sym (m.order done below)) ∙ ap (λ (k : ℕ). list_of g (get_or queue' k 0)) (sym e)) m.listed
-          | inr other ↦
-              let i-done : i < done = omega arith in
-              subst (λ (u : ℕ). All (Holds reached') (list_of g u)) (sym (m.order i (omega arith))) (λ k d inside. m.kept _ (w.closed i i-done k d inside))
-        ];
+        | inl e ↦
+            subst (λ (l : List ℕ). All (Holds reached') l) (same ∙ ap (list_of g) (sym (m.order done below)) ∙ ap (λ (k : ℕ). list_of g (get_or queue' k 0)) (sym e)) m.listed
+        | inr other ↦
+            let i-done : i < done = omega arith in
+            subst (λ (u : ℕ). All (Holds reached') (list_of g u)) (sym (m.order i (omega arith))) (λ k d inside. m.kept _ (w.closed i i-done k d inside))
+      ];
       behind = omega (arith, m.longer);
     }
 
@@ -223,8 +222,8 @@ walking_ends {g} {reached} {queue} {found} {done} past w =
       marks = w.queue_is.marks;
       first = w.first;
       closed = λ u h.
-        let (i, below, at) = w.queue_is.placed u h in
-        subst (λ (x : ℕ). All (Holds reached) (list_of g x)) at (w.closed i (omega arith));
+          let (i, below, at) = w.queue_is.placed u h in
+          subst (λ (x : ℕ). All (Holds reached) (list_of g x)) at (w.closed i (omega arith));
       least = w.least;
     }
 

@@ -58,9 +58,12 @@ impl Graph {
         ensures fault { IfErr result (IsReadFault (lists_of record.now)) }
     {
         let lists = Lists::of(record);
-        match first_broken(&lists) {
-            Some(rule) => Err(ReadFault::Rule(rule)),
-            None => Graph::of(alloc, &lists).map_err(|_| ReadFault::Memory),
+        if let Some(rule) = first_broken(&lists) {
+            return Err(ReadFault::Rule(rule));
+        }
+        match Graph::of(alloc, &lists) {
+            Ok(graph) => Ok(graph),
+            Err(_) => Err(ReadFault::Memory),
         }
     }
 

@@ -1,22 +1,21 @@
-use Rattle.std.proofs.Common.{◌≡◌, ℕ, zero, suc, ◌+◌, ◌<◌, ◌≤◌, List, [], length, get_or, Bool, true, false, refl, sym, ap, ◌∙◌, subst, below_more, arith}
-use Rattle.std.proofs.lemmas.Bool.{iff_false, false≢true, eq-eqb}
-use Rattle.std.specs.List.{Any, All, Contains}
-use Rattle.embedding.specs.Lists.{list_of}
+use Rattle.std.proofs.Common.{◌≡◌, ℕ, ◌+◌, ◌<◌, List, [], length, get_or, sym, subst, below_more, arith}
+use Rattle.std.proofs.lemmas.Bool.{iff_false}
+use Rattle.std.specs.List.{Any}
 use Rattle.embedding.specs.Pairs.{HasPair}
 use Rattle.embedding.proofs.EachList.{yes_is, no_is}
-use Rattle.embedding.proofs.Symmetry.{HasLists, lists_none, lists_more, lacks_breaks, lacks_none}
+use Rattle.embedding.proofs.Symmetry.{HasLists, lacks_breaks, lacks_none}
 use Rattle.embedding.proofs.breaks.breaks_asymmetric.Goals as goal
 
 pub returns-then-lacks_pair : goal.returns-then-lacks_pair
 returns-then-lacks_pair c =
     let g = c.args.lists.now in
     let size : length g ≡ c.loop-place.place =
-      omega (arith, c.count-place-end.ensures.count, c.loop-place-test.false, c.loop-place.auto.place-end) in
+    omega (arith, c.count-place-end.ensures.count, c.loop-place-test.false, c.loop-place.auto.place-end) in
     let small : length g < 256 = omega (arith, c.count-place-end.ensures.count) in
     let has : HasLists g (length g) c.loop-place.pairs.words =
-      subst (λ (n : ℕ). HasLists g n c.loop-place.pairs.words) (sym size) c.loop-place.invariant in
+    subst (λ (n : ℕ). HasLists g n c.loop-place.pairs.words) (sym size) c.loop-place.invariant in
     let lacks : Any (λ v. HasPair c.loop-place.pairs.words v (c.loop-vertex.vertex + 1) → ⊥) (get_or g c.loop-vertex.vertex []) =
-      subst (λ (l : List ℕ). Any (λ v. HasPair c.loop-place.pairs.words v (c.loop-vertex.vertex + 1) → ⊥) l) c.at-in-loop-vertex.ensures.value (c.lacks_pair.ensures.0 c.if-lacks_pair.true) in
+    subst (λ (l : List ℕ). Any (λ v. HasPair c.loop-place.pairs.words v (c.loop-vertex.vertex + 1) → ⊥) l) c.at-in-loop-vertex.ensures.value (c.lacks_pair.ensures.0 c.if-lacks_pair.true) in
     yes_is (lacks_breaks g c.loop-place.pairs.words c.loop-vertex.vertex c.count-place-end.ensures.each small (omega (arith, c.count-vertex-end.ensures.count)) has lacks)
 
 pub loop-vertex-preserved : goal.loop-vertex-preserved
@@ -29,8 +28,8 @@ pub returns : goal.returns
 returns c =
     let g = c.args.lists.now in
     let size : length g ≡ c.loop-place.place =
-      omega (arith, c.count-place-end.ensures.count, c.loop-place-test.false, c.loop-place.auto.place-end) in
+    omega (arith, c.count-place-end.ensures.count, c.loop-place-test.false, c.loop-place.auto.place-end) in
     let small : length g < 256 = omega (arith, c.count-place-end.ensures.count) in
     let has : HasLists g (length g) c.loop-place.pairs.words =
-      subst (λ (n : ℕ). HasLists g n c.loop-place.pairs.words) (sym size) c.loop-place.invariant in
+    subst (λ (n : ℕ). HasLists g n c.loop-place.pairs.words) (sym size) c.loop-place.invariant in
     no_is (lacks_none g c.loop-place.pairs.words c.count-place-end.ensures.each small has (λ k below. c.loop-vertex.invariant k (omega (arith, c.count-vertex-end.ensures.count, c.loop-vertex-test.false))))

@@ -1,5 +1,5 @@
-use Rattle.std.proofs.Common.{◌≡◌, ◌↔◌, ◌⊎◌, ℕ, ◌+◌, ◌-◌, ◌<◌, ◌≤◌, List, [], length, get_or, Bool, true, false}
-use Rattle.std.specs.List.{Any, All, Contains}
+use Rattle.std.proofs.Common.{ℕ, ◌+◌, ◌<◌, [], get_or}
+use Rattle.std.specs.List.{Any}
 use Rattle.embedding.specs.Pairs.{HasPair}
 use Rattle.embedding.proofs.Symmetry.{HasLists}
 use Rattle.embedding.proofs.breaks.breaks_asymmetric.Given as goal

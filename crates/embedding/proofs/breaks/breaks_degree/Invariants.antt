@@ -1,5 +1,4 @@
-use Rattle.std.proofs.Common.{◌≡◌, ◌↔◌, ◌⊎◌, ℕ, ◌+◌, ◌-◌, ◌<◌, ◌≤◌, List, [], length, get_or, Bool, true, false}
-use Rattle.std.specs.List.{Any, All, Contains}
+use Rattle.std.proofs.Common.{ℕ, ◌<◌, [], length, get_or}
 use Rattle.embedding.proofs.breaks.breaks_degree.Given as goal
 
 abbrev pub invariant-loop-place : goal.invariant-loop-place

@@ -1,5 +1,5 @@
-use Rattle.std.proofs.Common.{◌≡◌, ◌↔◌, ◌⊎◌, ℕ, ◌+◌, ◌-◌, ◌<◌, ◌≤◌, List, [], length, get_or, Bool, true, false}
-use Rattle.std.specs.List.{Any, All, Contains}
+use Rattle.std.proofs.Common.{ℕ, ◌+◌, ◌<◌, [], get_or}
+use Rattle.std.specs.List.{Contains}
 use Rattle.embedding.proofs.breaks.breaks_loop.Given as goal
 
 abbrev pub invariant-loop-place : goal.invariant-loop-place

@@ -1,9 +1,7 @@
-use Rattle.std.proofs.Common.{◌≡◌, ℕ, zero, suc, ◌+◌, ◌<◌, ◌≤◌, List, [], length, get_or, Bool, true, false, refl, sym, ap, ◌∙◌, subst, below_more, arith}
-use Rattle.std.proofs.lemmas.Bool.{iff_false, false≢true, eq-eqb}
-use Rattle.std.specs.List.{Any, All, Contains}
-use Rattle.embedding.specs.Lists.{list_of}
+use Rattle.std.proofs.Common.{ℕ, List, sym, subst, below_more, arith}
+use Rattle.std.proofs.lemmas.Bool.{iff_false}
 use Rattle.embedding.specs.Rules.{NamesTwice}
-use Rattle.embedding.proofs.EachList.{blank_le, yes_is, no_is, found_at, none_below, each_list, list_of-add}
+use Rattle.embedding.proofs.EachList.{blank_le, yes_is, no_is, found_at, none_below}
 use Rattle.embedding.proofs.breaks.breaks_multi.Goals as goal
 
 pub loop-place-init : goal.loop-place-init

@@ -1,5 +1,4 @@
-use Rattle.std.proofs.Common.{◌≡◌, ◌↔◌, ◌⊎◌, ℕ, ◌+◌, ◌-◌, ◌<◌, ◌≤◌, List, [], length, get_or, Bool, true, false}
-use Rattle.std.specs.List.{Any, All, Contains}
+use Rattle.std.proofs.Common.{ℕ, ◌<◌, ◌≤◌, [], get_or}
 use Rattle.embedding.specs.Rules.{NamesTwice}
 use Rattle.embedding.proofs.breaks.breaks_multi.Given as goal
 

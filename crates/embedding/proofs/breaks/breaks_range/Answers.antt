@@ -1,16 +1,14 @@
-use Rattle.std.proofs.Common.{◌≡◌, ℕ, zero, suc, ◌+◌, ◌<◌, ◌≤◌, List, [], length, get_or, Bool, true, false, refl, sym, ap, ◌∙◌, subst, below_more, arith}
-use Rattle.std.proofs.lemmas.Bool.{iff_false, false≢true, eq-eqb}
-use Rattle.std.specs.List.{Any, All, Contains}
-use Rattle.embedding.specs.Lists.{list_of}
-use Rattle.embedding.specs.Rules.{NamesTwice}
-use Rattle.embedding.proofs.EachList.{yes_is, no_is, found_at, none_below, each_list, list_of-add}
+use Rattle.std.proofs.Common.{ℕ, ◌<◌, List, [], length, get_or, sym, subst, below_more, arith}
+use Rattle.std.proofs.lemmas.Bool.{iff_false}
+use Rattle.std.specs.List.{Any}
+use Rattle.embedding.proofs.EachList.{yes_is, no_is, found_at, none_below}
 use Rattle.embedding.proofs.breaks.breaks_range.Goals as goal
 
 pub returns-then-exceeds : goal.returns-then-exceeds
 returns-then-exceeds c =
     let g = c.args.lists.now in
     let counted : Any (λ v. length g < v) c.at.result.now =
-      subst (λ (n : ℕ). Any (λ v. n < v) c.at.result.now) c.count-n.ensures.count (c.exceeds.ensures.0 c.if-exceeds.true) in
+    subst (λ (n : ℕ). Any (λ v. n < v) c.at.result.now) c.count-n.ensures.count (c.exceeds.ensures.0 c.if-exceeds.true) in
     yes_is (found_at g (λ _ l. Any (λ v. length g < v) l) c.loop-place.place (subst (λ (l : List ℕ). Any (λ v. length g < v) l) c.at.ensures.value counted))
 
 pub loop-place-preserved : goal.loop-place-preserved

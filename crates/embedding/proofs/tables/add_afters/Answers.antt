@@ -1,14 +1,8 @@
-use Rattle.std.proofs.Common.{◌≡◌, ℕ, zero, suc, ◌+◌, ◌-◌, ◌<◌, ◌≤◌, List, [], ◌∷◌, ◌++◌, length, get_or, take, replicate, refl, sym, ap, ◌∙◌, subst, arith}
-use Rattle.std.specs.List.{Contains}
-use Rattle.std.proofs.lemmas.List.{take_all, get_or_default, append_assoc}
-use Rattle.embedding.specs.Lists.{list_of}
-use Rattle.embedding.specs.Darts.{heads, tails_from, dart_count, first_dart, head_of, tail_of, reverse_of, after_of}
+use Rattle.std.proofs.Common.{◌≡◌, ℕ, ◌+◌, ◌<◌, ◌≤◌, [], length, get_or, ap, subst, arith}
+use Rattle.embedding.specs.Darts.{first_dart, after_of}
 use Rattle.embedding.specs.Tables.{IsTable}
-use Rattle.embedding.proofs.EachList.{list_of-add}
-use Rattle.embedding.proofs.Entries.{Stands, stands_at, stands_below}
-use Rattle.embedding.proofs.KeptFacts.{list_of-short}
-use Rattle.embedding.proofs.Rotation.{list_of-place, listed_back, tail_at, dart_below}
-use Rattle.embedding.proofs.Building.{table_none, table_push, first_dart-more, first_dart-all, heads-more, tails_from-more, replicate-more, opposite_is, after_is}
+use Rattle.embedding.proofs.Entries.{stands_below}
+use Rattle.embedding.proofs.Building.{table_push, first_dart-more, after_is}
 use Rattle.embedding.proofs.tables.add_afters.Goals as goal
 use Rattle.embedding.proofs.tables.add_afters.Goals.{then-i-count, else-i-count}
 
@@ -34,19 +28,19 @@ loop-i-preserved c =
     let at = after_is g c.args.place c.loop-i.i c.requires.within inside in
     let long = ap length c.at.ensures.value in
     let next : c.if-i-count.next ≡ after_of g (first_dart g c.args.place + c.loop-i.i) =
-      elim c.if-i-count.branch [
-        | then-i-count w ↦
-            let more : c.loop-i.i + 1 < length (get_or g c.args.place []) = omega (arith, w.if-i-count.true, long) in
-            omega (arith, w.next-is, c.first_dart-first.ensures.value, at.0 more)
-        | else-i-count w ↦
-            let last : length (get_or g c.args.place []) ≤ c.loop-i.i + 1 = omega (arith, w.if-i-count.false, long) in
-            omega (arith, w.next-is, c.first_dart-first.ensures.value, at.1 last)
-      ] in
+    elim c.if-i-count.branch [
+      | then-i-count w ↦
+          let more : c.loop-i.i + 1 < length (get_or g c.args.place []) = omega (arith, w.if-i-count.true, long) in
+          omega (arith, w.next-is, c.first_dart-first.ensures.value, at.0 more)
+      | else-i-count w ↦
+          let last : length (get_or g c.args.place []) ≤ c.loop-i.i + 1 = omega (arith, w.if-i-count.false, long) in
+          omega (arith, w.next-is, c.first_dart-first.ensures.value, at.1 last)
+    ] in
     rw c.in_ok-push.ensures.items (table_push _ (after_of g) _ c.if-i-count.next _ (omega arith) next c.loop-i.invariant)
 
 pub returns : goal.returns
 returns c =
     let g = c.args.lists.now in
     let all : first_dart g c.args.place + c.loop-i.i ≡ first_dart g (c.args.place + 1) =
-      omega (arith, first_dart-more g c.args.place c.requires.within, ap length c.at.ensures.value, c.loop-i-test.false, c.loop-i.auto.i-end) in
+    omega (arith, first_dart-more g c.args.place c.requires.within, ap length c.at.ensures.value, c.loop-i-test.false, c.loop-i.auto.i-end) in
     subst (λ (n : ℕ). IsTable n (after_of g) c.loop-i.afters.items) all c.loop-i.invariant

@@ -1,14 +1,8 @@
-use Rattle.std.proofs.Common.{◌≡◌, ℕ, zero, suc, ◌+◌, ◌-◌, ◌<◌, ◌≤◌, List, [], ◌∷◌, ◌++◌, length, get_or, take, replicate, refl, sym, ap, ◌∙◌, subst, arith}
-use Rattle.std.specs.List.{Contains}
-use Rattle.std.proofs.lemmas.List.{take_all, get_or_default, append_assoc}
-use Rattle.embedding.specs.Lists.{list_of}
-use Rattle.embedding.specs.Darts.{heads, tails_from, dart_count, first_dart, head_of, tail_of, reverse_of, after_of}
+use Rattle.std.proofs.Common.{◌≡◌, ℕ, ◌+◌, ◌<◌, List, [], length, get_or, refl, sym, ap, ◌∙◌, subst, arith}
+use Rattle.embedding.specs.Darts.{first_dart, head_of, reverse_of}
 use Rattle.embedding.specs.Tables.{IsTable}
-use Rattle.embedding.proofs.EachList.{list_of-add}
 use Rattle.embedding.proofs.Entries.{Stands, stands_at, stands_below}
-use Rattle.embedding.proofs.KeptFacts.{list_of-short}
-use Rattle.embedding.proofs.Rotation.{list_of-place, listed_back, tail_at, dart_below}
-use Rattle.embedding.proofs.Building.{table_none, table_push, first_dart-more, first_dart-all, heads-more, tails_from-more, replicate-more, opposite_is, after_is}
+use Rattle.embedding.proofs.Building.{table_push, first_dart-more}
 use Rattle.embedding.proofs.tables.add_reverses.Goals as goal
 
 pub overflow_add-place : goal.overflow_add-place
@@ -21,9 +15,9 @@ loop-head-preserved c =
     let i = c.loop-head.head-index in
     let inside : i < length (get_or g c.args.place []) = omega (arith, c.loop-head-test.true, ap length c.at-head-items.ensures.value) in
     let s : Stands 1 g (first_dart g c.args.place + i) c.args.place i =
-      stands_at 1 g (first_dart g c.args.place + i) c.args.place i c.requires.within inside refl in
+    stands_at 1 g (first_dart g c.args.place + i) c.args.place i c.requires.within inside refl in
     let head : head_of g (first_dart g c.args.place + i) ≡ get_or c.at-head-items.result.now i 0 =
-      s.head ∙ ap (λ (l : List ℕ). get_or l i 0) (sym c.at-head-items.ensures.value) in
+    s.head ∙ ap (λ (l : List ℕ). get_or l i 0) (sym c.at-head-items.ensures.value) in
     let is = c.opposite.ensures (first_dart g c.args.place + i) (stands_below g c.args.place i c.requires.within inside) (s.tail ∙ omega arith) head in
     rw c.in_ok-push.ensures.items (table_push _ (reverse_of g) _ c.opposite.result _ (omega arith) is c.loop-head.invariant)
 
@@ -31,5 +25,5 @@ pub returns : goal.returns
 returns c =
     let g = c.args.lists.now in
     let all : first_dart g c.args.place + c.loop-head.head-index ≡ first_dart g (c.args.place + 1) =
-      omega (arith, first_dart-more g c.args.place c.requires.within, ap length c.at-head-items.ensures.value, c.loop-head-test.false, c.loop-head.auto.head-index-end) in
+    omega (arith, first_dart-more g c.args.place c.requires.within, ap length c.at-head-items.ensures.value, c.loop-head-test.false, c.loop-head.auto.head-index-end) in
     subst (λ (n : ℕ). IsTable n (reverse_of g) c.loop-head.reverses.items) all c.loop-head.invariant

@@ -1,14 +1,11 @@
-use Rattle.std.proofs.Common.{◌≡◌, ℕ, zero, suc, ◌+◌, ◌-◌, ◌<◌, ◌≤◌, List, [], ◌∷◌, ◌++◌, length, get_or, take, replicate, refl, sym, ap, ◌∙◌, subst, arith}
+use Rattle.std.proofs.Common.{◌≡◌, ℕ, ◌+◌, ◌<◌, List, [], length, get_or, sym, ap, ◌∙◌, subst, arith}
 use Rattle.std.specs.List.{Contains}
-use Rattle.std.proofs.lemmas.List.{take_all, get_or_default, append_assoc}
 use Rattle.embedding.specs.Lists.{list_of}
-use Rattle.embedding.specs.Darts.{heads, tails_from, dart_count, first_dart, head_of, tail_of, reverse_of, after_of}
-use Rattle.embedding.specs.Tables.{IsTable}
-use Rattle.embedding.proofs.EachList.{list_of-add}
-use Rattle.embedding.proofs.Entries.{Stands, stands_at, stands_below}
+use Rattle.embedding.specs.Darts.{first_dart}
+use Rattle.embedding.proofs.Entries.{stands_below}
 use Rattle.embedding.proofs.KeptFacts.{list_of-short}
-use Rattle.embedding.proofs.Rotation.{list_of-place, listed_back, tail_at, dart_below}
-use Rattle.embedding.proofs.Building.{table_none, table_push, first_dart-more, first_dart-all, heads-more, tails_from-more, replicate-more, opposite_is, after_is}
+use Rattle.embedding.proofs.Rotation.{list_of-place, listed_back}
+use Rattle.embedding.proofs.Building.{opposite_is}
 use Rattle.embedding.proofs.tables.opposite.Goals as goal
 
 pub place_of-place-requires : goal.place_of-place-requires
@@ -41,6 +38,6 @@ returns c =
     let inside : i < length (get_or g m []) = omega (arith, ap length same) in
     let first : c.first_dart.result ≡ first_dart g m = c.first_dart.ensures.value ∙ ap (first_dart g) (omega arith) in
     let entry : get_or (get_or g m []) i 0 ≡ c.args.tail =
-      ap (λ (l : List ℕ). get_or l i 0) (sym (c.of_vertex.ensures ∙ same)) ∙ c.place_of-place.ensures.here in
+    ap (λ (l : List ℕ). get_or l i 0) (sym (c.of_vertex.ensures ∙ same)) ∙ c.place_of-place.ensures.here in
     let number : c.first_dart.result + i ≡ first_dart g m + i = omega arith in
     opposite_is g c.requires.rules c.args.tail c.args.head m i (c.first_dart.result + i) vertex list inside entry number

@@ -1,5 +1,4 @@
-use Rattle.std.proofs.Common.{◌≡◌, ℕ, zero, suc, ◌+◌, ◌-◌, ◌<◌, ◌≤◌, List, [], length, get_or, replicate, Bool, true, false, refl, sym, ap, ◌∙◌, subst, arith}
-use Rattle.embedding.specs.Walks.{Holds, IsQueue, IsReached}
+use Rattle.std.proofs.Common.{◌≡◌, ℕ, ◌+◌, ◌-◌, ◌<◌, get_or, true, false, subst, arith}
 use Rattle.embedding.proofs.EachList.{yes_is, no_is}
 use Rattle.embedding.proofs.Walking.{unreached_breaks, reached_keeps}
 use Rattle.embedding.proofs.walks.breaks_disconnected.Goals as goal
@@ -7,8 +6,8 @@ use Rattle.embedding.proofs.walks.breaks_disconnected.Goals as goal
 pub returns : goal.returns
 returns c =
     no_is (reached_keeps c.args.lists.now _ c.reached_from_first-reached.ensures (λ v from to.
-        let place : v - 1 < c.loop-place.place = omega (arith, c.count-place-end.ensures.count, c.loop-place-test.false) in
-        subst (λ (n : ℕ). get_or c.reached_from_first-reached.result n false ≡ true) (omega arith) (c.loop-place.invariant (v - 1) place)))
+    let place : v - 1 < c.loop-place.place = omega (arith, c.count-place-end.ensures.count, c.loop-place-test.false) in
+    subst (λ (n : ℕ). get_or c.reached_from_first-reached.result n false ≡ true) (omega arith) (c.loop-place.invariant (v - 1) place)))
 
 pub returns-then-not-reached-from : goal.returns-then-not-reached-from
 returns-then-not-reached-from c =

@@ -1,5 +1,4 @@
-use Rattle.std.proofs.Common.{◌≡◌, ◌↔◌, ◌⊎◌, ℕ, ◌+◌, ◌-◌, ◌<◌, ◌≤◌, List, [], length, get_or, Bool, true, false}
-use Rattle.std.specs.List.{Any, All, Contains}
+use Rattle.std.proofs.Common.{◌≡◌, ℕ, ◌+◌, ◌<◌, get_or, true, false}
 use Rattle.embedding.proofs.walks.breaks_disconnected.Given as goal
 
 abbrev pub invariant-loop-place : goal.invariant-loop-place

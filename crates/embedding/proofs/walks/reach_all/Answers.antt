@@ -1,6 +1,5 @@
-use Rattle.std.proofs.Common.{◌≡◌, ℕ, zero, suc, ◌+◌, ◌<◌, ◌≤◌, List, [], length, get_or, replicate, Bool, true, false, refl, sym, ap, ◌∙◌, subst, arith}
-use Rattle.embedding.specs.Walks.{Holds, IsQueue, IsReached}
-use Rattle.embedding.proofs.Walking.{Reaches, Marks, reaches_none, reaches_more, reaches_listed, reaches_others}
+use Rattle.std.proofs.Common.{get_or, refl, arith}
+use Rattle.embedding.proofs.Walking.{reaches_more, reaches_listed, reaches_others}
 use Rattle.embedding.proofs.walks.reach_all.Goals as goal
 
 pub loop-v-preserved : goal.loop-v-preserved

@@ -1,6 +1,5 @@
-use Rattle.std.proofs.Common.{◌≡◌, ℕ, zero, suc, ◌+◌, ◌<◌, ◌≤◌, List, [], length, get_or, replicate, Bool, true, false, refl, sym, ap, ◌∙◌, subst, arith}
-use Rattle.embedding.specs.Walks.{Holds, IsQueue, IsReached}
-use Rattle.embedding.proofs.Walking.{queue_none, queue_short, blank_marks, IsWalking, Marks, MarksAll, walking_starts, walking_more, walking_ends}
+use Rattle.std.proofs.Common.{replicate, false, refl, arith}
+use Rattle.embedding.proofs.Walking.{queue_none, queue_short, blank_marks, walking_starts, walking_more, walking_ends}
 use Rattle.embedding.proofs.walks.reached_from_first.Goals as goal
 
 pub reach-requires : goal.reach-requires

@@ -1,6 +1,5 @@
-use Rattle.std.proofs.Common.{◌≡◌, ℕ, ◌+◌, ◌-◌, ◌<◌, ◌≤◌, List, [], length, get_or, refl, sym, ap, ◌∙◌, subst, arith}
-use Rattle.embedding.specs.Darts.{dart_count, first_dart}
-use Rattle.embedding.proofs.Places.{place_is, bytes_are}
+use Rattle.std.proofs.Common.{ℕ, ◌<◌, [], length, get_or, ap, ◌∙◌, arith}
+use Rattle.embedding.proofs.Places.{place_is}
 use Rattle.embedding.proofs.lists.Lists.at.Goals as goal
 
 pub slice_bounds-result-count : goal.slice_bounds-result-count

@@ -1,6 +1,5 @@
-use Rattle.std.proofs.Common.{◌≡◌, ℕ, ◌+◌, ◌-◌, ◌<◌, ◌≤◌, List, [], length, get_or, refl, sym, ap, ◌∙◌, subst, arith}
-use Rattle.embedding.specs.Darts.{dart_count, first_dart}
-use Rattle.embedding.proofs.Places.{place_is, bytes_are}
+use Rattle.std.proofs.Common.{arith}
+use Rattle.embedding.proofs.Places.{bytes_are}
 use Rattle.embedding.proofs.lists.Lists.darts.Goals as goal
 
 pub overflow_sub-result : goal.overflow_sub-result

@@ -1,5 +1,5 @@
-use Rattle.std.proofs.Common.{◌≡◌, ℕ, ◌+◌, ◌-◌, ◌<◌, ◌≤◌, List, [], length, get_or, refl, sym, ap, ◌∙◌, subst, arith}
-use Rattle.embedding.specs.Darts.{dart_count, first_dart}
+use Rattle.std.proofs.Common.{◌<◌, length, refl, ap, arith}
+use Rattle.embedding.specs.Darts.{first_dart}
 use Rattle.embedding.proofs.Places.{place_is, bytes_are}
 use Rattle.embedding.proofs.lists.Lists.first_dart.Goals as goal
 
