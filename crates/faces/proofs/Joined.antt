@@ -5,9 +5,9 @@ use Rattle.std.proofs.lemmas.Bool.{cases_lt, cases_Bool, both_ways, not-true, no
 use Rattle.std.proofs.lemmas.List.{get_or_default}
 use Rattle.embedding.specs.declared.rules.Rule.TheVariants.{Disconnected}
 use Rattle.embedding.specs.Lists.{list_of}
-use Rattle.embedding.specs.Darts.{dart_count, head_of, tail_of, reverse_of, after_of, next_of}
+use Rattle.embedding.specs.Darts.{dart_count, first_dart, head_of, tail_of, reverse_of, after_of, next_of}
 use Rattle.embedding.specs.Rules.{KeepsBefore, IsClosed}
-use Rattle.embedding.proofs.Entries.{Stands, first_dart, stands_at, dart_stands}
+use Rattle.embedding.proofs.Entries.{Stands, stands_at, dart_stands}
 use Rattle.embedding.proofs.Rotation.{reverse_is, reverse_involution, after_place, tail_at, dart_below, list_of-place, tail_within}
 use Rattle.faces.specs.Faces.{IsShut}
 use Rattle.faces.specs.Map.{Map, IsPlane, darts, mate, face_at}
