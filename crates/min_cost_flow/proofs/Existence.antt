@@ -20,12 +20,15 @@ found_below : (m : ℕ) (t : ℕ → Bool) → ((i : ℕ) × (i < m) × (t i ≡
 found_below zero t = inr (λ i b. absurd (omega arith))
 found_below (suc m) t =
     elim (found_below m t) [
-      inl f ↦ let (i, b, h) = f in inl (i, omega arith, h)
-    | inr none ↦ elim (cases_Bool (t m)) [
-        inl h ↦ inl (m, omega arith, h)
-      | inr h ↦ inr (λ i b. elim (cases_eq i m) [
-          inl e ↦ subst (λ (k : ℕ). t k ≡ false) (sym e) h
-        | inr ne ↦ none i (omega arith) ]) ] ]
+      | inl f ↦ let (i, b, h) = f in inl (i, omega arith, h)
+      | inr none ↦ elim (cases_Bool (t m)) [
+        | inl h ↦ inl (m, omega arith, h)
+        | inr h ↦ inr (λ i b. elim (cases_eq i m) [
+          | inl e ↦ subst (λ (k : ℕ). t k ≡ false) (sym e) h
+          | inr ne ↦ none i (omega arith)
+        ])
+      ]
+    ]
 
 -- ---- one unit to a node that can be reached
 
@@ -37,9 +40,10 @@ record Reaches (net : Net) (u v : ℕ) : Type 0 where
 
 reaches_itself : (net : Net) (u : ℕ) → Reaches net u u
 reaches_itself net u = record {
-    sent = λ x i. x i;
-    caps = λ x h. h;
-    carries = λ x e h. h }
+  sent = λ x i. x i;
+  caps = λ x h. h;
+  carries = λ x e h. h;
+}
 
 -- one unit more on arc i
 one_more : ℕ → (ℕ → ℕ) → ℕ → ℕ
@@ -59,15 +63,17 @@ any_within c k e = let P : Cap → Type 0 = λ t. IsWithin t k in subst P (sym e
 one_more_within : (net : Net) (i : ℕ) (x : ℕ → ℕ) → (arc_at net i).cap ≡ Any → KeepsCaps net x → KeepsCaps net (one_more i x)
 one_more_within net i x any caps j b =
     elim (cases_eq j i) [
-      inl e ↦ let P : ℕ → Type 0 = λ t. IsWithin (arc_at net t).cap (one_more i x j) in subst P (sym e) (any_within (arc_at net i).cap (one_more i x j) any)
-    | inr ne ↦ let P : ℕ → Type 0 = λ k. IsWithin (arc_at net j).cap k in subst P (sym (one_more_same i x j ne)) (caps j b) ]
+      | inl e ↦ let P : ℕ → Type 0 = λ t. IsWithin (arc_at net t).cap (one_more i x j) in subst P (sym e) (any_within (arc_at net i).cap (one_more i x j) any)
+      | inr ne ↦ let P : ℕ → Type 0 = λ k. IsWithin (arc_at net j).cap k in subst P (sym (one_more_same i x j ne)) (caps j b)
+    ]
 
 -- past an arc of no limit
 reaches_on : (net : Net) (u i : ℕ) → i < arc_count net → (arc_at net i).cap ≡ Any → Reaches net u (arc_at net i).from → Reaches net u (arc_at net i).to
 reaches_on net u i b any r = record {
-    sent = λ x. r.sent (one_more i x);
-    caps = λ x h. r.caps (one_more i x) (one_more_within net i x any h);
-    carries = λ x e h. r.carries (one_more i x) e (moved_carries net x (one_more i x) e i 1 false b (one_more_here i x) (one_more_same i x) h) }
+  sent = λ x. r.sent (one_more i x);
+  caps = λ x h. r.caps (one_more i x) (one_more_within net i x any h);
+  carries = λ x e h. r.carries (one_more i x) e (moved_carries net x (one_more i x) e i 1 false b (one_more_here i x) (one_more_same i x) h);
+}
 
 -- ---- all nodes that can be reached
 
@@ -111,7 +117,8 @@ out_parts net s i h = let (a, f, t) = three (is_any (arc_at net i).cap) (s (arc_
 none_out : (net : Net) (s : ℕ → Bool) → ((i : ℕ) → i < arc_count net → leads_out net s i ≡ false) → IsClosedAny net s
 unfolding leads_out
 none_out net s none = record {
-    stays = λ i b any f. three_back (is_any (arc_at net i).cap) (s (arc_at net i).from) (s (arc_at net i).to) (is_any_at (arc_at net i).cap any) f (none i b) }
+  stays = λ i b any f. three_back (is_any (arc_at net i).cap) (s (arc_at net i).from) (s (arc_at net i).to) (is_any_at (arc_at net i).cap any) f (none i b);
+}
 
 -- s and w
 with_node : (ℕ → Bool) → ℕ → ℕ → Bool
@@ -140,8 +147,8 @@ missing_less n s w b h =
     let was : cond {A = ℕ} (s w) 0 1 ≡ 1 = cond-false {A = ℕ} (s w) 0 1 h in
     let is : cond {A = ℕ} (with_node s w w) 0 1 ≡ 0 = cond-true {A = ℕ} (with_node s w w) 0 1 (with_here s w) in
     let sums : sum_below n (λ v. cond {A = ℕ} (with_node s w v) 0 1) + cond {A = ℕ} (s w) 0 1 ≡ sum_below n (λ v. cond {A = ℕ} (s v) 0 1) + cond {A = ℕ} (with_node s w w) 0 1 =
-      sum_below-changed n w (λ v. cond {A = ℕ} (with_node s w v) 0 1) (λ v. cond {A = ℕ} (s v) 0 1) b
-      (λ v c ne. ap (λ (t : Bool). cond {A = ℕ} t 0 1) (with_other s w v ne)) in
+    sum_below-changed n w (λ v. cond {A = ℕ} (with_node s w v) 0 1) (λ v. cond {A = ℕ} (s v) 0 1) b
+    (λ v c ne. ap (λ (t : Bool). cond {A = ℕ} t 0 1) (with_other s w v ne)) in
     omega arith
 
 reached_more : (net : Net) (u i : ℕ) (s : ℕ → Bool) → i < arc_count net → (arc_at net i).cap ≡ Any → s (arc_at net i).from ≡ true → IsReached net u s → IsReached net u (with_node s (arc_at net i).to)
@@ -150,27 +157,32 @@ reached_more net u i s b any f r =
     let on : Reaches net u w = reaches_on net u i b any (r.reaches (arc_at net i).from f) in
     record {
       inside = elim (cases_eq u w) [
-          inl e ↦ subst (λ (t : ℕ). with_node s w t ≡ true) (sym e) (with_here s w)
-        | inr ne ↦ with_other s w u ne ∙ r.inside ];
+        | inl e ↦ subst (λ (t : ℕ). with_node s w t ≡ true) (sym e) (with_here s w)
+        | inr ne ↦ with_other s w u ne ∙ r.inside
+      ];
       reaches = λ v h. elim (cases_eq v w) [
-          inl e ↦ subst (λ (t : ℕ). Reaches net u t) (sym e) on
-        | inr ne ↦ r.reaches v (sym (with_other s w v ne) ∙ h) ] }
+        | inl e ↦ subst (λ (t : ℕ). Reaches net u t) (sym e) on
+        | inr ne ↦ r.reaches v (sym (with_other s w v ne) ∙ h)
+      ];
+    }
 
 -- what can be reached grows until no arc of no limit leads out of it
 spread : (net : Net) (u fuel : ℕ) (s : ℕ → Bool) → HasEnds net → missing (node_count net) s ≤ fuel → IsReached net u s → (t : ℕ → Bool) × IsReached net u t × IsClosedAny net t
 spread net u zero s ends few r =
     elim (found_below (arc_count net) (leads_out net s)) [
-      inl f ↦ let (i, b, h) = f in let (any, from, to) = out_parts net s i h in let some : 0 < missing (node_count net) s = missing_some (node_count net) s (arc_at net i).to (ends i b).1 to in absurd (omega arith)
-    | inr none ↦ (s, r, none_out net s none) ]
+      | inl f ↦ let (i, b, h) = f in let (any, from, to) = out_parts net s i h in let some : 0 < missing (node_count net) s = missing_some (node_count net) s (arc_at net i).to (ends i b).1 to in absurd (omega arith)
+      | inr none ↦ (s, r, none_out net s none)
+    ]
 spread net u (suc fuel) s ends few r =
     elim (found_below (arc_count net) (leads_out net s)) [
-      inl f ↦
-        let (i, b, h) = f in
-        let (any, from, to) = out_parts net s i h in
-        let w = (arc_at net i).to in
-        let less : missing (node_count net) (with_node s w) + 1 ≡ missing (node_count net) s = missing_less (node_count net) s w (ends i b).1 to in
-        spread net u fuel (with_node s w) ends (omega arith) (reached_more net u i s b any from r)
-    | inr none ↦ (s, r, none_out net s none) ]
+      | inl f ↦
+          let (i, b, h) = f in
+          let (any, from, to) = out_parts net s i h in
+          let w = (arc_at net i).to in
+          let less : missing (node_count net) (with_node s w) + 1 ≡ missing (node_count net) s = missing_less (node_count net) s w (ends i b).1 to in
+          spread net u fuel (with_node s w) ends (omega arith) (reached_more net u i s b any from r)
+      | inr none ↦ (s, r, none_out net s none)
+    ]
 
 -- u alone
 alone : ℕ → ℕ → Bool
@@ -179,10 +191,12 @@ alone u v = eqb v u
 alone_reached : (net : Net) (u : ℕ) → IsReached net u (alone u)
 unfolding alone
 alone_reached net u = record {
-    inside = eq-eqb u u refl;
-    reaches = λ v h. elim (cases_eq v u) [
-        inl e ↦ subst (λ (t : ℕ). Reaches net u t) (sym e) (reaches_itself net u)
-      | inr ne ↦ absurd (both_ways (eqb v u) (ne_eqb v u ne) h) ] }
+  inside = eq-eqb u u refl;
+  reaches = λ v h. elim (cases_eq v u) [
+    | inl e ↦ subst (λ (t : ℕ). Reaches net u t) (sym e) (reaches_itself net u)
+    | inr ne ↦ absurd (both_ways (eqb v u) (ne_eqb v u ne) h)
+  ];
+}
 
 reaches_wanting : (net : Net) (e : ℕ → ℤ) (u v : ℕ) → HasEnds net → IsJoined net e → u < node_count net → v < node_count net → pos 0 <ℤ e u → e v <ℤ pos 0 → Reaches net u v
 reaches_wanting net e u v ends joined ub vb over under =
@@ -261,13 +275,14 @@ sum_ups net e d f u v k =
     let fell : f u ≡ e u -ℤ pos 1 = rw (← same) k.taken in
     let (less, _) = up_less (e u) (f u) k.over fell in
     let sums : sum_below n (λ w. up (f w)) + up (e u) ≡ sum_below n (λ w. up (e w)) + up (f u) =
-      sum_below-changed n u (λ w. up (f w)) (λ w. up (e w)) k.source
-      (λ w b nu. elim (cases_eq w v) [
-          inl q ↦
-            let (_, keeps) = down_less (e v) (d v) k.under k.here in
-            let at : f v ≡ d v = k.rest v (λ r. ne (sym r)) in
-            subst (λ (t : ℕ). up (f t) ≡ up (e t)) (sym q) (ap up at ∙ keeps)
-        | inr nv ↦ ap up (k.rest w nu ∙ k.others w nv) ]) in
+    sum_below-changed n u (λ w. up (f w)) (λ w. up (e w)) k.source
+    (λ w b nu. elim (cases_eq w v) [
+      | inl q ↦
+          let (_, keeps) = down_less (e v) (d v) k.under k.here in
+          let at : f v ≡ d v = k.rest v (λ r. ne (sym r)) in
+          subst (λ (t : ℕ). up (f t) ≡ up (e t)) (sym q) (ap up at ∙ keeps)
+      | inr nv ↦ ap up (k.rest w nu ∙ k.others w nv)
+    ]) in
     omega arith
 
 sum_downs : (net : Net) (e d f : ℕ → ℤ) (u v : ℕ) → IsUnit net e d f u v → sum_below (node_count net) (λ w. down (f w)) + 1 ≡ sum_below (node_count net) (λ w. down (e w))
@@ -279,12 +294,13 @@ sum_downs net e d f u v k =
     let at : f v ≡ d v = k.rest v (λ r. ne (sym r)) in
     let (less, _) = down_less (e v) (d v) k.under k.here in
     let sums : sum_below n (λ w. down (f w)) + down (e v) ≡ sum_below n (λ w. down (e w)) + down (f v) =
-      sum_below-changed n v (λ w. down (f w)) (λ w. down (e w)) k.sink
-      (λ w b nv. elim (cases_eq w u) [
-          inl q ↦
-            let (_, keeps) = up_less (e u) (f u) k.over fell in
-            subst (λ (t : ℕ). down (f t) ≡ down (e t)) (sym q) keeps
-        | inr nu ↦ ap down (k.rest w nu ∙ k.others w nv) ]) in
+    sum_below-changed n v (λ w. down (f w)) (λ w. down (e w)) k.sink
+    (λ w b nv. elim (cases_eq w u) [
+      | inl q ↦
+          let (_, keeps) = up_less (e u) (f u) k.over fell in
+          subst (λ (t : ℕ). down (f t) ≡ down (e t)) (sym q) keeps
+      | inr nu ↦ ap down (k.rest w nu ∙ k.others w nv)
+    ]) in
     omega (arith, ap down at)
 
 not_brought : (z y : ℤ) → z <ℤ pos 0 → y ≡ z +ℤ pos 1 → pos 0 <ℤ y → ⊥
@@ -293,12 +309,14 @@ not_brought z y a e h = omega (arith, ints)
 unit_over : (net : Net) (e d f : ℕ → ℤ) (u v w : ℕ) → IsUnit net e d f u v → pos 0 <ℤ f w → pos 0 <ℤ e w
 unit_over net e d f u v w k h =
     elim (cases_eq w u) [
-      inl q ↦ subst (λ (t : ℕ). pos 0 <ℤ e t) (sym q) k.over
-    | inr nu ↦
-        let is_d : pos 0 <ℤ d w = subst (λ (z : ℤ). pos 0 <ℤ z) (k.rest w nu) h in
-        elim (cases_eq w v) [
-          inl q ↦ absurd (not_brought (e v) (d v) k.under k.here (subst (λ (t : ℕ). pos 0 <ℤ d t) q is_d))
-        | inr nv ↦ subst (λ (z : ℤ). pos 0 <ℤ z) (k.others w nv) is_d ] ]
+      | inl q ↦ subst (λ (t : ℕ). pos 0 <ℤ e t) (sym q) k.over
+      | inr nu ↦
+          let is_d : pos 0 <ℤ d w = subst (λ (z : ℤ). pos 0 <ℤ z) (k.rest w nu) h in
+          elim (cases_eq w v) [
+            | inl q ↦ absurd (not_brought (e v) (d v) k.under k.here (subst (λ (t : ℕ). pos 0 <ℤ d t) q is_d))
+            | inr nv ↦ subst (λ (z : ℤ). pos 0 <ℤ z) (k.others w nv) is_d
+          ]
+    ]
 
 not_given : (z y : ℤ) → pos 0 <ℤ z → y ≡ z -ℤ pos 1 → y <ℤ pos 0 → ⊥
 not_given z y a e h = omega (arith, ints)
@@ -306,15 +324,17 @@ not_given z y a e h = omega (arith, ints)
 unit_under : (net : Net) (e d f : ℕ → ℤ) (u v w : ℕ) → IsUnit net e d f u v → f w <ℤ pos 0 → e w <ℤ pos 0
 unit_under net e d f u v w k h =
     elim (cases_eq w v) [
-      inl q ↦ subst (λ (t : ℕ). e t <ℤ pos 0) (sym q) k.under
-    | inr nv ↦
-        elim (cases_eq w u) [
-          inl q ↦
-            let ne : u ≢ v = unit_apart net e d f u v k in
-            let same : d u ≡ e u = k.others u ne in
-            let fell : f u ≡ e u -ℤ pos 1 = rw (← same) k.taken in
-            absurd (not_given (e u) (f u) k.over fell (subst (λ (t : ℕ). f t <ℤ pos 0) q h))
-        | inr nu ↦ subst (λ (z : ℤ). z <ℤ pos 0) (k.rest w nu ∙ k.others w nv) h ] ]
+      | inl q ↦ subst (λ (t : ℕ). e t <ℤ pos 0) (sym q) k.under
+      | inr nv ↦
+          elim (cases_eq w u) [
+            | inl q ↦
+                let ne : u ≢ v = unit_apart net e d f u v k in
+                let same : d u ≡ e u = k.others u ne in
+                let fell : f u ≡ e u -ℤ pos 1 = rw (← same) k.taken in
+                absurd (not_given (e u) (f u) k.over fell (subst (λ (t : ℕ). f t <ℤ pos 0) q h))
+            | inr nu ↦ subst (λ (z : ℤ). z <ℤ pos 0) (k.rest w nu ∙ k.others w nv) h
+          ]
+    ]
 
 flat_up : (z : ℤ) → up z ≡ 0 → z ≤ℤ pos 0
 flat_up (pos n) h = omega (arith, ints)
@@ -343,13 +363,20 @@ flow_of_units net (suc k) x e ends caps lv joined ups downs =
     let d = brought e v in
     let f = given d u in
     let unit : IsUnit net e d f u v = record {
-      source = ub; sink = vb; over = over; under = under;
-      here = brought_here e v; others = brought_other e v;
-      taken = given_at d u; rest = given_other d u } in
+      source = ub;
+      sink = vb;
+      over = over;
+      under = under;
+      here = brought_here e v;
+      others = brought_other e v;
+      taken = given_at d u;
+      rest = given_other d u;
+    } in
     let sent : Carries net (r.sent x) d u 1 = r.carries x d (taken_carries net x e d v 1 lv (brought_here e v) (brought_other e v)) in
     let now : Leaves net (r.sent x) f = carried_leaves net (r.sent x) d f u 1 sent (given_at d u) (given_other d u) in
     let still : IsJoined net f = record {
-      meets = λ s closed a b ab bb sa oa wb. joined.meets s closed a b ab bb sa (unit_over net e d f u v a unit oa) (unit_under net e d f u v b unit wb) } in
+      meets = λ s closed a b ab bb sa oa wb. joined.meets s closed a b ab bb sa (unit_over net e d f u v a unit oa) (unit_under net e d f u v b unit wb);
+    } in
     flow_of_units net k (r.sent x) f ends (r.caps x caps) now still
     (omega (arith, sum_ups net e d f u v unit)) (omega (arith, sum_downs net e d f u v unit))
 
@@ -386,10 +413,10 @@ as_much net x e ends flat lv =
     let ls : ℕ → ℕ = λ v. leaves net x v in
     let ns : ℕ → ℕ = λ v. enters net x v in
     let total : total_below n s ≡ pos (sum_below n (λ v. up (s v))) -ℤ pos (sum_below n (λ v. down (s v))) =
-      total_below-parts n s (λ v. up (s v)) (λ v. down (s v)) (λ v b. parts_of (s v)) in
+    total_below-parts n s (λ v. up (s v)) (λ v. down (s v)) (λ v b. parts_of (s v)) in
     let even : sum_below n (λ v. up (s v)) ≡ sum_below n (λ v. down (s v)) = none_total (sum_below n (λ v. up (s v))) (sum_below n (λ v. down (s v))) (sym total ∙ flat) in
     let nodes : sum_below n (λ v. ls v + up (e v) + down (s v)) ≡ sum_below n (λ v. ns v + down (e v) + up (s v)) =
-      sum_below-same n (λ v. ls v + up (e v) + down (s v)) (λ v. ns v + down (e v) + up (s v)) (λ v b. node_parts (ls v) (ns v) (e v) (s v) (lv.at_node v b)) in
+    sum_below-same n (λ v. ls v + up (e v) + down (s v)) (λ v. ns v + down (e v) + up (s v)) (λ v b. node_parts (ls v) (ns v) (e v) (s v) (lv.at_node v b)) in
     let left : sum_below n (λ v. ls v + up (e v) + down (s v)) ≡ sum_below n ls + sum_below n (λ v. up (e v)) + sum_below n (λ v. down (s v)) = four n ls (λ v. up (e v)) (λ v. down (s v)) in
     let right : sum_below n (λ v. ns v + down (e v) + up (s v)) ≡ sum_below n ns + sum_below n (λ v. down (e v)) + sum_below n (λ v. up (s v)) = four n ns (λ v. down (e v)) (λ v. up (s v)) in
     let cross : sum_below n ls ≡ sum_below n ns = all_leave net x ends in

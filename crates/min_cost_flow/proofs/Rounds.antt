@@ -215,11 +215,12 @@ sent_from net x y e m e' u k most ub src caps carries le all wanting over here o
       here = given;
       left = left;
       wanting = λ v b w.
-        let P : ℤ → Type 0 = λ z. (e v ≤ℤ z) × (z ≤ℤ pos 0) in
-        let ne : v ≢ u = λ q. not_source (e u) src (subst (λ (t : ℕ). e t ≤ℤ pos 0) q w) in
-        subst P (sym (others v ne)) (wanting v b w);
+          let P : ℤ → Type 0 = λ z. (e v ≤ℤ z) × (z ≤ℤ pos 0) in
+          let ne : v ≢ u = λ q. not_source (e u) src (subst (λ (t : ℕ). e t ≤ℤ pos 0) q w) in
+          subst P (sym (others v ne)) (wanting v b w);
       others = λ v b ne s. others v ne ∙ over v b s;
-      grown = grown }
+      grown = grown;
+    }
 
 -- a number above 0, or not
 over_or_not : (z : ℤ) → (pos 0 <ℤ z) ⊎ (z ≤ℤ pos 0)

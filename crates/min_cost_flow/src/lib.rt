@@ -17,3 +17,6 @@ pub use arc::{Arc, Cap};
 pub use network::{NetFault, Network};
 pub use solved::Solved;
 pub use solver::{SolveFault, solve};
+
+#[cfg(test)]
+mod tests;

@@ -1,5 +1,5 @@
-ghost use Rattle.std.specs.Prelude.{◌≡◌, ◌<◌, ◌≤◌, IfOk, IfErr, vec_len};
-ghost use Rattle.min_cost_flow.specs.Net.{Net, node_count, arc_count, arc_at, supply_at, IsNetwork};
+ghost use Rattle.std.specs.Prelude.{◌≡◌, ◌<◌, ◌≤◌, ◌⊎◌, ℕ, pos, negsuc, ◌≤ℤ◌, ◌<ℤ◌, true, false, length, slice_index_or, IfOk, IfErr};
+ghost use Rattle.min_cost_flow.specs.Net.{Net, node_count, arc_count, arc_at, supply_at, no_arc, IsNetwork};
 
 use crate::arc::Arc;
 use std::marker::Model;
@@ -52,24 +52,17 @@ impl Network {
         ensures ok { IfOk result (λ net. (net ≡ record { supplies = supplies.items; arcs = arcs.items }) × IsNetwork net) }
         ensures err { IfErr result (λ fault. IsFirstFault (record { supplies = supplies.items; arcs = arcs.items }) fault) }
     {
-        let nodes = supplies.len();
-        if nodes > MAX_NODES || arcs.len() > MAX_ARCS {
+        if supplies.len() > MAX_NODES || arcs.len() > MAX_ARCS {
             return Err(NetFault::TooLarge);
         }
-        'ends: for arc in &arcs {
-            if arc.from as usize >= nodes || arc.to as usize >= nodes {
-                return Err(NetFault::BadEnd);
-            }
+        if has_bad_end(&arcs, supplies.len()) {
+            return Err(NetFault::BadEnd);
         }
-        'fair: for supply in &supplies {
-            if *supply < -MAX_SUPPLY || *supply > MAX_SUPPLY {
-                return Err(NetFault::BadSupply);
-            }
+        if has_bad_supply(&supplies) {
+            return Err(NetFault::BadSupply);
         }
-        'costs: for arc in &arcs {
-            if arc.cost > 1 {
-                return Err(NetFault::BadCost);
-            }
+        if has_bad_cost(&arcs) {
+            return Err(NetFault::BadCost);
         }
         Ok(Network { supplies, arcs })
     }
@@ -115,4 +108,30 @@ impl Network {
     {
         self.supplies[node as usize]
     }
+}
+
+/// Whether an end of an arc is none of so many nodes.
+fn has_bad_end(arcs: &[Arc], nodes: usize) -> bool
+    ensures some { result ≡ true → (i : ℕ) × (i < length arcs.now) × ((nodes ≤ (slice_index_or arcs.now i no_arc).from) ⊎ (nodes ≤ (slice_index_or arcs.now i no_arc).to)) }
+    ensures none { result ≡ false → (i : ℕ) → i < length arcs.now → ((slice_index_or arcs.now i no_arc).from < nodes) × ((slice_index_or arcs.now i no_arc).to < nodes) }
+{
+    arcs.iter().any(|arc| arc.from as usize >= nodes || arc.to as usize >= nodes)
+}
+
+/// Whether a supply is too large in absolute value.
+fn has_bad_supply(supplies: &[i32]) -> bool
+    ensures some { result ≡ true → (v : ℕ) × (v < length supplies.now) × ((slice_index_or supplies.now v (pos 0) <ℤ negsuc 2047) ⊎ (pos 2048 <ℤ slice_index_or supplies.now v (pos 0))) }
+    ensures none { result ≡ false → (v : ℕ) → v < length supplies.now → (negsuc 2047 ≤ℤ slice_index_or supplies.now v (pos 0)) × (slice_index_or supplies.now v (pos 0) ≤ℤ pos 2048) }
+{
+    supplies
+        .iter()
+        .any(|units| *units < -MAX_SUPPLY || *units > MAX_SUPPLY)
+}
+
+/// Whether an arc costs neither 0 nor 1.
+fn has_bad_cost(arcs: &[Arc]) -> bool
+    ensures some { result ≡ true → (i : ℕ) × (i < length arcs.now) × (1 < (slice_index_or arcs.now i no_arc).cost) }
+    ensures none { result ≡ false → (i : ℕ) → i < length arcs.now → (slice_index_or arcs.now i no_arc).cost ≤ 1 }
+{
+    arcs.iter().any(|arc| arc.cost > 1)
 }

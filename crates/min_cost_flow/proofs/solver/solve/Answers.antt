@@ -11,14 +11,16 @@ use Rattle.min_cost_flow.proofs.solver.solve.Goals as goal
 zero_amounts : (n : ℕ) (xs : List ℕ) → xs ≡ replicate n 0 → (i : ℕ) → amounts xs i ≡ 0
 zero_amounts n xs h i = rw h (
     elim (cases_lt i n) [
-      inl b ↦ get_or-replicate n i 0 0 b
-    | inr o ↦ get_or_past (replicate n 0) i 0 (rw length-replicate o) ])
+      | inl b ↦ get_or-replicate n i 0 0 b
+      | inr o ↦ get_or_past (replicate n 0) i 0 (rw length-replicate o)
+    ])
 
 zero_potentials : (n : ℕ) (ps : List ℤ) → ps ≡ replicate n (pos 0) → (v : ℕ) → at_nodes ps v ≡ pos 0
 zero_potentials n ps h v = rw h (
     elim (cases_lt v n) [
-      inl b ↦ get_or-replicate n v (pos 0) (pos 0) b
-    | inr o ↦ get_or_past (replicate n (pos 0)) v (pos 0) (rw length-replicate o) ])
+      | inl b ↦ get_or-replicate n v (pos 0) (pos 0) b
+      | inr o ↦ get_or_past (replicate n (pos 0)) v (pos 0) (rw length-replicate o)
+    ])
 
 pub run-requires-clause-round : goal.run-requires-clause-round
 run-requires-clause-round c =
@@ -43,4 +45,5 @@ returns-then-run-clause-ok c =
       potential_count = rw potential_is (omega (arith, c.in_ok-potential.ensures.len));
       flow = fl;
       potentials = pr;
-      least = least_by_potentials net x p c.node_count-nodes.ensures.kept.ends fl pr }
+      least = least_by_potentials net x p c.node_count-nodes.ensures.kept.ends fl pr;
+    }
