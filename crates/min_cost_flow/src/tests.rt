@@ -207,7 +207,7 @@ fn random_arc(numbers: &mut Numbers, nodes: u32) -> Arc
 #[test]
 fn random_networks_cost_what_other_solvers_found(rt: HostRuntime) -> Result<(), Fail> {
     let mut numbers = Numbers { state: 20_261_122 };
-    let mut count = 0;
+    let mut count = 0u32;
     for word in LEAST_COSTS.split_whitespace() {
         let network = random_network(rt.alloc(), &mut numbers)??;
         let expected = word.parse::<u64>().ok();
@@ -216,7 +216,7 @@ fn random_networks_cost_what_other_solvers_found(rt: HostRuntime) -> Result<(), 
             expected,
             "network {count}"
         );
-        count += 1;
+        count = count.saturating_add(1);
     }
     assert_eq!(rt; count, 1000);
     Ok(())
