@@ -6,7 +6,8 @@ use planar_code::Record;
 /// A message of a reader. It gives the records in order, one end mark and one stop.
 #[derive(Drop)]
 pub enum Framed {
-    /// Records that follow those of the messages before. The type of each keeps that its bytes are one record.
+    /// Records that follow those of the messages before. The type of each keeps that its bytes are one
+    /// record.
     Records(Vec<Record>),
     /// The mark of the source, all of whose records were given.
     End(Mark),

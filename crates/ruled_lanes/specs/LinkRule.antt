@@ -1,4 +1,5 @@
--- What was given to a link is what was taken and then what it holds. One pass at most may give, and it has the list of what was given. The same for takes.
+-- What was given to a link is what was taken and then what it holds. One pass at most may give, and it
+-- has the list of what was given. The same for takes.
 use Rattle.std.specs.Prelude.{◌≡◌, ℕ, Bool, true, List, ◌++◌}
 use mathlib.Core.Option.{some}
 use lib.ListN.{get_elem?}

@@ -1,5 +1,6 @@
-//! Bounded channels whose loss-freedom their callers know. A link has one giver and one taker, and settling it
-//! tells that what was taken, followed by what the link still held, is what was given, in order.
+//! Bounded channels whose loss-freedom their callers know. A link has one giver and one taker, and
+//! settling it tells that what was taken, followed by what the link still held, is what was given,
+//! in order.
 #![tactic(auto)]
 
 mod errors;

@@ -40,9 +40,9 @@ impl<T: Drop> Giver<T> {
         Giver { sender, pass }
     }
 
-    /// Adds an item at the end of the link, in one step, and waits while the link is full. `Closed` hands the item
-    /// back, and then what was given stays as it was. No clause says when `Closed` comes: it does where the taker
-    /// is gone. It takes no memory.
+    /// Adds an item at the end of the link, in one step, and waits while the link is full. `Closed`
+    /// hands the item back, and then what was given stays as it was. No clause says when `Closed`
+    /// comes: it does where the taker is gone. It takes no memory.
     pub fn give<R: Wait>(&mut self, rt: &R, item: T) -> Result<(), Closed<T>>
         ensures link { GivesToSame self.old self.new }
         ensures ok { OnOk result (given self.new ≡ given self.old ++ item ∷ []) }
@@ -81,9 +81,9 @@ impl<T: Drop> Taker<T> {
         }
     }
 
-    /// The item at the front of the link, taken in one step. It waits while the link is empty. After `Closed` what
-    /// was taken stays as it was. No clause says when `Closed` comes: it does where the giver is gone and all that
-    /// it gave was taken. It takes no memory.
+    /// The item at the front of the link, taken in one step. It waits while the link is empty. After
+    /// `Closed` what was taken stays as it was. No clause says when `Closed` comes: it does where the
+    /// giver is gone and all that it gave was taken. It takes no memory.
     pub fn take<R: Wait>(&mut self, rt: &R) -> Result<T, Closed<()>>
         ensures link { TakesFromSame self.old self.new }
         ensures ok { IfOk result (λ item. taken self.new ≡ taken self.old ++ item ∷ []) }
@@ -95,8 +95,9 @@ impl<T: Drop> Taker<T> {
         }
     }
 
-    /// Takes in both ends of one link: what was taken, followed by what the link held, is what was given. The items
-    /// that it held are dropped. It takes no memory, and though it is handed `rt`, it waits for nothing.
+    /// Takes in both ends of one link: what was taken, followed by what the link held, is what was
+    /// given. The items that it held are dropped. It takes no memory, and though it is handed `rt`,
+    /// it waits for nothing.
     pub fn settle<R: Wait>(self, _rt: &R, giver: Giver<T>)
         requires ends { AreEnds giver self }
         ensures settled { Settles (taken self) (given giver) }

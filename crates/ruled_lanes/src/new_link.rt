@@ -8,8 +8,8 @@ use crate::link_rule::{Linked, Log, Roles};
 use crossbeam_channel::bounded_with;
 use std::alloc::Global;
 
-/// The two ends of a new link that holds at most `capacity` items, of which nothing was given or taken. `Memory`
-/// where there is no room for them.
+/// The two ends of a new link that holds at most `capacity` items, of which nothing was given or
+/// taken. `Memory` where there is no room for them.
 pub fn link<T: Send + Drop>(alloc: Global, capacity: u32) -> Result<(Giver<T>, Taker<T>), Memory>
     requires capacity { (1 ≤ capacity) × (capacity ≤ 64) }
     ensures ends { IfOk result (λ r. AreEnds r.0 r.1) }
