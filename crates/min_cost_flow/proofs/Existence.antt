@@ -14,21 +14,7 @@ use Rattle.min_cost_flow.specs.Excess.{KeepsCaps, Leaves, Carries}
 use Rattle.min_cost_flow.specs.Existence.{IsClosedAny, IsJoined, IsBalanced}
 use Rattle.min_cost_flow.proofs.Changes.{SameBut, moved_carries, carried_leaves, taken_carries}
 use Rattle.min_cost_flow.proofs.Rounds.{flow_at}
-
--- a number below m that passes, or none does
-found_below : (m : ℕ) (t : ℕ → Bool) → ((i : ℕ) × (i < m) × (t i ≡ true)) ⊎ ((i : ℕ) → i < m → t i ≡ false)
-found_below zero t = inr (λ i b. absurd (omega arith))
-found_below (suc m) t =
-    elim (found_below m t) [
-      | inl f ↦ let (i, b, h) = f in inl (i, omega arith, h)
-      | inr none ↦ elim (cases_Bool (t m)) [
-        | inl h ↦ inl (m, omega arith, h)
-        | inr h ↦ inr (λ i b. elim (cases_eq i m) [
-          | inl e ↦ subst (λ (k : ℕ). t k ≡ false) (sym e) h
-          | inr ne ↦ none i (omega arith)
-        ])
-      ]
-    ]
+use Rattle.min_cost_flow.proofs.Spreading.{Steps, IsClosedUnder, IsReached, Passes, spread_from}
 
 -- ---- one unit to a node that can be reached
 
@@ -77,10 +63,6 @@ reaches_on net u i b any r = record {
 
 -- ---- all nodes that can be reached
 
-record IsReached (net : Net) (u : ℕ) (s : ℕ → Bool) : Type 0 where
-  inside : s u ≡ true
-  reaches : (v : ℕ) → s v ≡ true → Reaches net u v
-
 is_any : Cap → Bool
 is_any (AtMost k) = false
 is_any Any = true
@@ -94,114 +76,33 @@ is_any_at : (c : Cap) → c ≡ Any → is_any c ≡ true
 unfolding is_any
 is_any_at c e = ap is_any e
 
--- arc i is of no limit and leads out of s
-leads_out : Net → (ℕ → Bool) → ℕ → Bool
-leads_out net s i = cond (is_any (arc_at net i).cap) (cond (s (arc_at net i).from) (cond (s (arc_at net i).to) false true) false) false
-
-three : (a b c : Bool) → cond a (cond b (cond c false true) false) false ≡ true → (a ≡ true) × (b ≡ true) × (c ≡ false)
-three true true false h = (refl, refl, refl)
-three true true true h = cc
-three true false c h = cc
-three false b c h = cc
-
-three_back : (a b c : Bool) → a ≡ true → b ≡ true → cond a (cond b (cond c false true) false) false ≡ false → c ≡ true
-three_back true true true p q h = refl
-three_back true true false p q h = cc
-three_back true false c p q h = cc
-three_back false b c p q h = cc
-
-out_parts : (net : Net) (s : ℕ → Bool) (i : ℕ) → leads_out net s i ≡ true → ((arc_at net i).cap ≡ Any) × (s (arc_at net i).from ≡ true) × (s (arc_at net i).to ≡ false)
-unfolding leads_out
-out_parts net s i h = let (a, f, t) = three (is_any (arc_at net i).cap) (s (arc_at net i).from) (s (arc_at net i).to) h in (any_is (arc_at net i).cap a, f, t)
-
-none_out : (net : Net) (s : ℕ → Bool) → ((i : ℕ) → i < arc_count net → leads_out net s i ≡ false) → IsClosedAny net s
-unfolding leads_out
-none_out net s none = record {
-  stays = λ i b any f. three_back (is_any (arc_at net i).cap) (s (arc_at net i).from) (s (arc_at net i).to) (is_any_at (arc_at net i).cap any) f (none i b);
+-- the arcs of no limit as steps, each along itself alone
+any_steps : Net → Steps
+any_steps net = record {
+  count = arc_count net;
+  passes = λ i back. cond back false (is_any (arc_at net i).cap);
+  start = λ i back. (arc_at net i).from;
+  finish = λ i back. (arc_at net i).to;
 }
 
--- s and w
-with_node : (ℕ → Bool) → ℕ → ℕ → Bool
-with_node s w v = cond (eqb v w) true (s v)
-
-with_here : (s : ℕ → Bool) (w : ℕ) → with_node s w w ≡ true
-unfolding with_node
-with_here s w = cond-true {A = Bool} (eqb w w) true (s w) (eq-eqb w w refl)
-
-with_other : (s : ℕ → Bool) (w v : ℕ) → v ≢ w → with_node s w v ≡ s v
-unfolding with_node
-with_other s w v ne = cond-false {A = Bool} (eqb v w) true (s v) (ne_eqb v w ne)
-
-missing : ℕ → (ℕ → Bool) → ℕ
-missing n s = sum_below n (λ v. cond (s v) 0 1)
-
-missing_some : (n : ℕ) (s : ℕ → Bool) (w : ℕ) → w < n → s w ≡ false → 0 < missing n s
-unfolding missing
-missing_some n s w b h =
-    let one : cond {A = ℕ} (s w) 0 1 ≡ 1 = cond-false {A = ℕ} (s w) 0 1 h in
-    omega (arith, sum_below-member n w (λ v. cond {A = ℕ} (s v) 0 1) b)
-
-missing_less : (n : ℕ) (s : ℕ → Bool) (w : ℕ) → w < n → s w ≡ false → missing n (with_node s w) + 1 ≡ missing n s
-unfolding missing
-missing_less n s w b h =
-    let was : cond {A = ℕ} (s w) 0 1 ≡ 1 = cond-false {A = ℕ} (s w) 0 1 h in
-    let is : cond {A = ℕ} (with_node s w w) 0 1 ≡ 0 = cond-true {A = ℕ} (with_node s w w) 0 1 (with_here s w) in
-    let sums : sum_below n (λ v. cond {A = ℕ} (with_node s w v) 0 1) + cond {A = ℕ} (s w) 0 1 ≡ sum_below n (λ v. cond {A = ℕ} (s v) 0 1) + cond {A = ℕ} (with_node s w w) 0 1 =
-    sum_below-changed n w (λ v. cond {A = ℕ} (with_node s w v) 0 1) (λ v. cond {A = ℕ} (s v) 0 1) b
-    (λ v c ne. ap (λ (t : Bool). cond {A = ℕ} t 0 1) (with_other s w v ne)) in
-    omega arith
-
-reached_more : (net : Net) (u i : ℕ) (s : ℕ → Bool) → i < arc_count net → (arc_at net i).cap ≡ Any → s (arc_at net i).from ≡ true → IsReached net u s → IsReached net u (with_node s (arc_at net i).to)
-reached_more net u i s b any f r =
-    let w = (arc_at net i).to in
-    let on : Reaches net u w = reaches_on net u i b any (r.reaches (arc_at net i).from f) in
-    record {
-      inside = elim (cases_eq u w) [
-        | inl e ↦ subst (λ (t : ℕ). with_node s w t ≡ true) (sym e) (with_here s w)
-        | inr ne ↦ with_other s w u ne ∙ r.inside
-      ];
-      reaches = λ v h. elim (cases_eq v w) [
-        | inl e ↦ subst (λ (t : ℕ). Reaches net u t) (sym e) on
-        | inr ne ↦ r.reaches v (sym (with_other s w v ne) ∙ h)
-      ];
-    }
-
--- what can be reached grows until no arc of no limit leads out of it
-spread : (net : Net) (u fuel : ℕ) (s : ℕ → Bool) → HasEnds net → missing (node_count net) s ≤ fuel → IsReached net u s → (t : ℕ → Bool) × IsReached net u t × IsClosedAny net t
-spread net u zero s ends few r =
-    elim (found_below (arc_count net) (leads_out net s)) [
-      | inl f ↦ let (i, b, h) = f in let (any, from, to) = out_parts net s i h in let some : 0 < missing (node_count net) s = missing_some (node_count net) s (arc_at net i).to (ends i b).1 to in absurd (omega arith)
-      | inr none ↦ (s, r, none_out net s none)
-    ]
-spread net u (suc fuel) s ends few r =
-    elim (found_below (arc_count net) (leads_out net s)) [
-      | inl f ↦
-          let (i, b, h) = f in
-          let (any, from, to) = out_parts net s i h in
-          let w = (arc_at net i).to in
-          let less : missing (node_count net) (with_node s w) + 1 ≡ missing (node_count net) s = missing_less (node_count net) s w (ends i b).1 to in
-          spread net u fuel (with_node s w) ends (omega arith) (reached_more net u i s b any from r)
-      | inr none ↦ (s, r, none_out net s none)
-    ]
-
--- u alone
-alone : ℕ → ℕ → Bool
-alone u v = eqb v u
-
-alone_reached : (net : Net) (u : ℕ) → IsReached net u (alone u)
-unfolding alone
-alone_reached net u = record {
-  inside = eq-eqb u u refl;
-  reaches = λ v h. elim (cases_eq v u) [
-    | inl e ↦ subst (λ (t : ℕ). Reaches net u t) (sym e) (reaches_itself net u)
-    | inr ne ↦ absurd (both_ways (eqb v u) (ne_eqb v u ne) h)
+any_pass : (net : Net) (u : ℕ) → HasEnds net → Passes (λ v. Reaches net u v) (node_count net) (any_steps net)
+unfolding any_steps
+any_pass net u ends = record {
+  on = λ i back b. elim back as (λ v. cond v false (is_any (arc_at net i).cap) ≡ true → Reaches net u (arc_at net i).from → Reaches net u (arc_at net i).to) [
+    | false ↦ λ h r. reaches_on net u i b (any_is (arc_at net i).cap h) r
+    | true ↦ λ h r. cc
   ];
+  node = λ i back b. (ends i b).1;
 }
+
+any_closed : (net : Net) (s : ℕ → Bool) → IsClosedUnder (any_steps net) s → IsClosedAny net s
+unfolding any_steps
+any_closed net s c = record { stays = λ i b any f. c.stays i false b (is_any_at (arc_at net i).cap any) f }
 
 reaches_wanting : (net : Net) (e : ℕ → ℤ) (u v : ℕ) → HasEnds net → IsJoined net e → u < node_count net → v < node_count net → pos 0 <ℤ e u → e v <ℤ pos 0 → Reaches net u v
 reaches_wanting net e u v ends joined ub vb over under =
-    let (t, r, closed) = spread net u (missing (node_count net) (alone u)) (alone u) ends (omega arith) (alone_reached net u) in
-    r.reaches v (joined.meets t closed u v ub vb r.inside over under)
+    let (t, r, closed) = spread_from (λ w. Reaches net u w) (node_count net) (any_steps net) u (any_pass net u ends) (reaches_itself net u) in
+    r.each v (joined.meets t (any_closed net t closed) u v ub vb r.inside over under)
 
 -- ---- unit after unit
 
@@ -427,3 +328,10 @@ as_much net x e ends flat lv =
 pub flow_where_joined : (net : Net) (x : ℕ → ℕ) (e : ℕ → ℤ) → HasEnds net → IsBalanced net → KeepsCaps net x → Leaves net x e → IsJoined net e → (y : ℕ → ℕ) × Flow net y
 flow_where_joined net x e ends flat caps lv joined =
     flow_of_units net (sum_below (node_count net) (λ w. down (e w))) x e ends caps lv joined (as_much net x e ends flat lv) refl
+
+excess_sum : (b s : ℤ) → b +ℤ (s -ℤ b) ≡ s
+excess_sum b s = omega (arith, ints)
+
+-- any amounts leave the supplies less their balances
+pub excess_leaves : (net : Net) (x : ℕ → ℕ) → Leaves net x (λ v. supply_at net v -ℤ balance net x v)
+excess_leaves net x = record { at_node = λ v b. excess_sum (balance net x v) (supply_at net v) }

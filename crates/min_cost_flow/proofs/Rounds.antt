@@ -223,7 +223,7 @@ sent_from net x y e m e' u k most ub src caps carries le all wanting over here o
     }
 
 -- a number above 0, or not
-over_or_not : (z : ℤ) → (pos 0 <ℤ z) ⊎ (z ≤ℤ pos 0)
+pub over_or_not : (z : ℤ) → (pos 0 <ℤ z) ⊎ (z ≤ℤ pos 0)
 over_or_not (pos zero) = inr (omega (arith, ints))
 over_or_not (pos (suc n)) = inl (omega (arith, ints))
 over_or_not (negsuc n) = inr (omega (arith, ints))

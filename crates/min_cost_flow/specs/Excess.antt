@@ -1,5 +1,5 @@
 -- Amounts on the way to a flow: what each node still has to send out, or still wants.
-use Rattle.std.specs.Prelude.{ℕ, ◌<◌, ◌==◌, ◌≡◌, ℤ, pos, ◌+ℤ◌, Bool, true, if◌then◌else◌}
+use Rattle.std.specs.Prelude.{ℕ, zero, suc, ◌<◌, ◌==◌, ◌≡◌, ℤ, pos, ◌+ℤ◌, ◌<ℤ◌, Bool, true, if◌then◌else◌}
 use Rattle.min_cost_flow.specs.Net.{Net, node_count, arc_count, arc_at, supply_at}
 use Rattle.min_cost_flow.specs.Flow.{balance, IsWithin, IsResidual, start_of, end_of}
 
@@ -21,3 +21,12 @@ pub record IsClosedOut (net : Net) (x : ℕ → ℕ) (s : ℕ → Bool) : Type 0
 -- no residual arc leads into the set
 pub record IsClosedIn (net : Net) (x : ℕ → ℕ) (s : ℕ → Bool) : Type 0 where
   pub stays : (i : ℕ) (back : Bool) → i < arc_count net → IsResidual net x i back → s (end_of net i back) ≡ true → s (start_of net i back) ≡ true
+
+-- a path of k residual arcs from u to v
+abbrev pub IsResidualPath : Net → (ℕ → ℕ) → ℕ → ℕ → ℕ → Type 0
+IsResidualPath net x u v zero = u ≡ v
+IsResidualPath net x u v (suc k) = (i : ℕ) × (back : Bool) × (i < arc_count net) × IsResidual net x i back × (end_of net i back ≡ v) × IsResidualPath net x u (start_of net i back) k
+
+-- no residual path leads from a node where something is left over to one where something is wanting
+pub record IsCutOff (net : Net) (x : ℕ → ℕ) (e : ℕ → ℤ) : Type 0 where
+  pub apart : (u v k : ℕ) → u < node_count net → v < node_count net → pos 0 <ℤ e u → e v <ℤ pos 0 → IsResidualPath net x u v k → ⊥

@@ -6,6 +6,7 @@
 #![tactic(auto)]
 
 mod arc;
+pub mod laws;
 mod network;
 mod residual;
 mod search;
