@@ -1,0 +1,14 @@
+pub mod Splitting
+pub mod Chords
+pub mod Running
+pub mod Rings
+pub mod Counting
+pub mod Listing
+pub mod Waiting
+pub mod Making
+pub mod Scanning
+pub mod Finishing
+pub mod Rotating
+pub mod Stacks
+pub mod Climbing
+pub mod Reading

@@ -1,0 +1,68 @@
+use Rattle.std.proofs.Common.{◌≡◌, ◌<◌, ◌≤◌, ◌+◌, ◌++◌, ℕ, List, length, map, get_or, set, drop, take, All, arith, sym, ap, subst, refl, ◌∙◌}
+use Rattle.cutting.specs.Tables.{web_of, room}
+use Rattle.cutting.specs.Turning.{IsHighest}
+use Rattle.cutting.specs.Faces.{AreWaiting, Below, joined}
+use Rattle.cutting.proofs.Listing.{below_left}
+use Rattle.cutting.proofs.Stacks.{inside_put}
+use Rattle.cutting.proofs.Reading.{IsReading, reading_begins, reading_top, reading_waits, reading_more, reading_done, all_below, all_small, below_turned}
+use Rattle.cutting.proofs.scan.cut_face.Goals as goal
+
+pub highest-turn-requires-clause-inside : goal.highest-turn-requires-clause-inside
+highest-turn-requires-clause-inside c =
+    let t = c.args.table.now in
+    let below : Below t.darts c.args.ring.now = below_left t.darts c.args.ring.now (joined c.requires.waiting.0) c.requires.waiting.1.below in
+    all_below t.darts (length c.as_slice.result.now) c.args.ring.now (omega (arith, c.as_slice.ensures.len)) below
+
+pub highest-turn-requires-clause-small : goal.highest-turn-requires-clause-small
+highest-turn-requires-clause-small c =
+    let t = c.args.table.now in
+    let below : Below t.darts c.args.ring.now = below_left t.darts c.args.ring.now (joined c.requires.waiting.0) c.requires.waiting.1.below in
+    subst (λ (A : List ℕ). All (λ a. get_or A a 0 ≤ 4) c.args.ring.now) (sym c.as_slice.ensures.value)
+    (all_small (web_of t) c.args.ring.now c.requires.sound below)
+
+pub corners-init : goal.corners-init
+corners-init c =
+    let t = c.args.table.now in
+    let face = c.args.ring.now in
+    let m = c.highest-turn.result in
+    let below : Below t.darts face = below_left t.darts face (joined c.requires.waiting.0) c.requires.waiting.1.below in
+    let turned : Below t.darts (drop m face ++ take m face) = below_turned t.darts m face below in
+    reading_begins (web_of t) face (room t) m c.rotate_left.new.self c.requires.sound c.requires.waiting.0 c.requires.waiting.1
+    c.requires.space
+    (subst (λ (A : List ℕ). IsHighest (map (λ (a : ℕ). get_or A a 0) face) m) c.as_slice.ensures.value c.highest-turn.ensures)
+    c.rotate_left.ensures.after
+    (subst (λ (xs : List ℕ). All (λ a. a < room t) xs) (sym c.rotate_left.ensures.after)
+    (all_below t.darts (room t) (drop m face ++ take m face) (omega arith) turned))
+
+pub cut_top-height-requires-clause-top : goal.cut_top-height-requires-clause-top
+cut_top-height-requires-clause-top c =
+    let more : c.corners.read < length c.corners.ring = omega (arith, c.corners.auto.ring, c.corners-test.true) in
+    reading_top _ _ _ (web_of c.corners.table) c.corners.ring c.corners.height c.corners.read (room c.corners.table) more
+    c.corners.invariant
+
+pub cut_top-height-requires-clause-waiting : goal.cut_top-height-requires-clause-waiting
+cut_top-height-requires-clause-waiting c =
+    let more : c.corners.read < length c.corners.ring = omega (arith, c.corners.auto.ring, c.corners-test.true) in (
+      c.requires.waiting.0,
+      reading_waits _ _ _ (web_of c.corners.table) c.corners.ring c.corners.height c.corners.read (room c.corners.table) more
+          c.corners.invariant c.requires.waiting.0 c.requires.waiting.1,
+    )
+
+pub cut_top-height-requires-clause-inside : goal.cut_top-height-requires-clause-inside
+cut_top-height-requires-clause-inside c =
+    let more : c.corners.read < length c.corners.ring = omega (arith, c.corners.auto.ring, c.corners-test.true) in
+    inside_put c.corners.ring c.corners.height (get_or c.corners.ring c.corners.read 0) (room c.corners.table) (room c.corners.table)
+    c.corners.invariant.darts refl (c.corners.invariant.darts c.corners.read 0 more)
+
+pub corners-preserved : goal.corners-preserved
+corners-preserved c =
+    let more : c.corners.read < length c.corners.ring = omega (arith, c.corners.auto.ring, c.corners-test.true) in
+    reading_more _ _ _ (web_of c.corners.table) (web_of c.cut_top-height.new.table) c.corners.ring c.cut_top-height.new.ring
+    c.corners.height c.corners.read (room c.corners.table) (room c.cut_top-height.new.table) c.cut_top-height.result more
+    c.corners.invariant c.cut_top-height.ensures.top c.cut_top-height.ensures.reduced c.cut_top-height.ensures.room
+    c.cut_top-height.ensures.inside
+
+pub returns-clause-waiting : goal.returns-clause-waiting
+returns-clause-waiting c =
+    λ rs wait. reading_done _ _ _ (web_of c.corners.table) c.corners.ring c.corners.height c.corners.read (room c.corners.table)
+    (omega (arith, c.corners-test.false)) c.corners.invariant rs wait

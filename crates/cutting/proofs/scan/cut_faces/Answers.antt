@@ -1,0 +1,51 @@
+use Rattle.std.proofs.Common.{◌≡◌, ◌+◌, ◌-◌, ◌<◌, ◌≤◌, ◌∙◌, ℕ, List, length, get_or, drop, sum, arith, sym, ap, subst, refl}
+use Rattle.std.proofs.lemmas.List.{drop_all}
+use Rattle.std.proofs.lemmas.Slice.{drop-put_mid}
+use borrow.Rule.Slice.PartMut.{put_mid, mid_of}
+use Rattle.cutting.specs.Webs.{same}
+use Rattle.cutting.specs.Tables.{web_of, room}
+use Rattle.cutting.specs.Faces.{AreWaiting, cut_up}
+use Rattle.cutting.proofs.Reading.{grows_on, pieces_apart, sum_apart, length-mid_of, length-put_mid}
+use Rattle.cutting.proofs.scan.cut_faces.Goals as goal
+
+pub faces-init : goal.faces-init
+faces-init c = record {
+  sound = c.requires.sound;
+  grows = same;
+  waiting = c.requires.waiting;
+  space = c.requires.space;
+  same = refl;
+  left = omega (arith, c.requires.all);
+  few = c.requires.few;
+}
+
+pub faces-preserved : goal.faces-preserved
+faces-preserved c =
+    let xs = c.faces.corners in
+    let ns = c.args.counts.now in
+    let start = c.faces.start in
+    let i = c.faces.count-index in
+    let n : ℕ = get_or ns i 0 in
+    let before = c.faces.invariant in
+    let split = sum_apart ns i c.faces-test.true in
+    let apart = pieces_apart (web_of c.faces.table) xs ns start i c.faces-test.true before.waiting in
+    let ys = c.cut_face.new.ring in
+    let k : ℕ = start + n - start in
+    let long : length ys ≡ k = omega (arith, c.cut_face.auto.ring, length-mid_of start k xs (omega (arith, before.left, split))) in
+    let kept : drop (start + n) (put_mid start k xs ys) ≡ drop (start + n) xs =
+    drop-put_mid start k xs ys (start + n) (omega arith) (omega (arith, before.left, split)) long in
+    record {
+      sound = c.cut_face.ensures.sound;
+      grows = grows_on (web_of c.args.table.now) (web_of c.faces.table) (web_of c.cut_face.new.table) before.grows c.cut_face.ensures.grows;
+      waiting = subst (λ (zs : List ℕ). AreWaiting (web_of c.cut_face.new.table) (cut_up zs (drop (i + 1) ns))) (sym kept)
+          (c.cut_face.ensures.waiting (cut_up (drop (start + n) xs) (drop (i + 1) ns)) apart);
+      space = c.cut_face.ensures.space;
+      same = c.cut_face.ensures.room ∙ before.same;
+      left = omega (arith, before.left, split, length-put_mid start k xs ys (omega (arith, before.left, split)) long);
+      few = omega (arith, before.few, length-put_mid start k xs ys (omega (arith, before.left, split)) long);
+    }
+
+pub returns-clause-done : goal.returns-clause-done
+returns-clause-done c =
+    subst (λ (ns : List ℕ). AreWaiting (web_of c.faces.table) (cut_up (drop c.faces.start c.faces.corners) ns))
+    (drop_all c.faces.count-index c.args.counts.now c.faces-test.false) c.faces.invariant.waiting

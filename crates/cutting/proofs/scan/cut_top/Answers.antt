@@ -1,0 +1,100 @@
+use Rattle.std.proofs.Common.{◌≡◌, ◌<◌, ◌≤◌, ◌+◌, ◌-◌, ℕ, List, length, get_or, set, drop, All, arith, sym, ap, subst, ◌∙◌}
+use Rattle.std.proofs.lemmas.List.{get_or_read, drop-set-lt}
+use Rattle.std.proofs.lemmas.List.Elements.{All-set}
+use Rattle.cutting.specs.Webs.{Web, IsCut}
+use Rattle.cutting.specs.Tables.{web_of, room}
+use Rattle.cutting.specs.Scan.{IsTop, IsHookOn, tops, down}
+use Rattle.cutting.proofs.Scanning.{right_room}
+use Rattle.cutting.proofs.Stacks.{hook_three, hook_parts, can_at, straight_at, turning_at, unhooked_at, inside_put}
+use Rattle.cutting.proofs.scan.cut_top.Goals as goal
+
+pub overflow_sub-right : goal.overflow_sub-right
+overflow_sub-right c = hook_three (web_of c.cuts.table) c.cuts.ring c.cuts.height (c.has_hook.ensures.0 c.cuts-test.true)
+
+pub bite-requires-clause-can : goal.bite-requires-clause-can
+bite-requires-clause-can c =
+    can_at _ _ _ (web_of c.cuts.table) c.cuts.ring c.cuts.height c.args.read c.requires.waiting.0 c.cuts.invariant.top c.requires.waiting.1
+    (c.has_hook.ensures.0 c.cuts-test.true)
+
+pub bite-requires-clause-space : goal.bite-requires-clause-space
+bite-requires-clause-space c =
+    let can = can_at _ _ _ (web_of c.cuts.table) c.cuts.ring c.cuts.height c.args.read c.requires.waiting.0 c.cuts.invariant.top
+    c.requires.waiting.1 (c.has_hook.ensures.0 c.cuts-test.true) in
+    omega (
+      arith,
+      right_room (web_of c.cuts.table) (get_or c.cuts.ring (c.cuts.height - 3) 0) (room c.args.table.now) can.d_in can.right
+          c.cuts.invariant.top.space,
+      c.cuts.invariant.same,
+    )
+
+pub overflow_add-chord : goal.overflow_add-chord
+overflow_add-chord c =
+    let can = can_at _ _ _ (web_of c.cuts.table) c.cuts.ring c.cuts.height c.args.read c.requires.waiting.0 c.cuts.invariant.top
+    c.requires.waiting.1 (c.has_hook.ensures.0 c.cuts-test.true) in
+    omega (
+      arith,
+      right_room (web_of c.cuts.table) (get_or c.cuts.ring (c.cuts.height - 3) 0) (room c.args.table.now) can.d_in can.right
+          c.cuts.invariant.top.space,
+      c.cuts.invariant.same,
+    )
+
+pub cuts-preserved : goal.cuts-preserved
+cuts-preserved c =
+    let hook = c.has_hook.ensures.0 c.cuts-test.true in
+    let three = hook_three (web_of c.cuts.table) c.cuts.ring c.cuts.height hook in
+    let can = can_at _ _ _ (web_of c.cuts.table) c.cuts.ring c.cuts.height c.args.read c.requires.waiting.0 c.cuts.invariant.top
+    c.requires.waiting.1 hook in
+    let room_left : c.cuts.table.darts + 4 ≤ room c.cuts.table =
+    omega (
+      arith,
+      right_room (web_of c.cuts.table) (get_or c.cuts.ring (c.cuts.height - 3) 0) (room c.args.table.now) can.d_in can.right
+          c.cuts.invariant.top.space,
+      c.cuts.invariant.same,
+    ) in
+    let inside = c.cuts.invariant.inside (c.cuts.height - 3) 0 (omega (arith, three, c.cuts.invariant.top.low, c.cuts.invariant.top.inside)) in
+    let read = get_or_read c.bite.new.table.angle.items (get_or c.cuts.ring (c.cuts.height - 3) 0) c.index.result.now
+    (omega (arith, inside, c.bite.ensures.room)) c.index.ensures 0 in
+    record {
+      top = turning_at _ _ _ (web_of c.cuts.table) c.cuts.ring c.cuts.height c.args.read c.bite.ensures.cut.0 c.requires.waiting.0
+          (web_of c.bite.new.table) c.cuts.invariant.top c.requires.waiting.1 hook c.bite.ensures.cut.1 (λ h. c.if-index-eq2.false (read ∙ h));
+      rest = drop-set-lt c.args.read c.cuts.ring (c.cuts.height - 2) (c.cuts.table.darts + 2) (omega (arith, c.cuts.invariant.top.low, three))
+          ∙ c.cuts.invariant.rest;
+      same = c.bite.ensures.room ∙ c.cuts.invariant.same;
+      inside = inside_put c.cuts.ring (c.cuts.height - 2) (c.cuts.table.darts + 2) (room c.cuts.table) (room c.bite.new.table)
+          c.cuts.invariant.inside c.bite.ensures.room (omega (arith, room_left));
+    }
+
+pub cuts-preserved-then-index-eq2 : goal.cuts-preserved-then-index-eq2
+cuts-preserved-then-index-eq2 c =
+    let hook = c.has_hook.ensures.0 c.cuts-test.true in
+    let three = hook_three (web_of c.cuts.table) c.cuts.ring c.cuts.height hook in
+    let can = can_at _ _ _ (web_of c.cuts.table) c.cuts.ring c.cuts.height c.args.read c.requires.waiting.0 c.cuts.invariant.top
+    c.requires.waiting.1 hook in
+    let room_left : c.cuts.table.darts + 4 ≤ room c.cuts.table =
+    omega (
+      arith,
+      right_room (web_of c.cuts.table) (get_or c.cuts.ring (c.cuts.height - 3) 0) (room c.args.table.now) can.d_in can.right
+          c.cuts.invariant.top.space,
+      c.cuts.invariant.same,
+    ) in
+    let inside = c.cuts.invariant.inside (c.cuts.height - 3) 0 (omega (arith, three, c.cuts.invariant.top.low, c.cuts.invariant.top.inside)) in
+    let read = get_or_read c.bite.new.table.angle.items (get_or c.cuts.ring (c.cuts.height - 3) 0) c.index.result.now
+    (omega (arith, inside, c.bite.ensures.room)) c.index.ensures 0 in
+    record {
+      top = straight_at _ _ _ (web_of c.cuts.table) c.cuts.ring c.cuts.height c.args.read c.bite.ensures.cut.0 c.requires.waiting.0
+          (web_of c.bite.new.table) c.cuts.invariant.top c.requires.waiting.1 hook c.bite.ensures.cut.1 (sym read ∙ c.if-index-eq2.true);
+      rest = drop-set-lt c.args.read c.cuts.ring (c.cuts.height - 3) (c.cuts.table.darts + 2) (omega (arith, c.cuts.invariant.top.low, three))
+          ∙ c.cuts.invariant.rest;
+      same = c.bite.ensures.room ∙ c.cuts.invariant.same;
+      inside = inside_put c.cuts.ring (c.cuts.height - 3) (c.cuts.table.darts + 2) (room c.cuts.table) (room c.bite.new.table)
+          c.cuts.invariant.inside c.bite.ensures.room (omega (arith, room_left));
+    }
+
+pub overflow_sub-ring-else-index-eq2 : goal.overflow_sub-ring-else-index-eq2
+overflow_sub-ring-else-index-eq2 c =
+    omega (arith, hook_three (web_of c.cuts.table) c.cuts.ring c.cuts.height (c.has_hook.ensures.0 c.cuts-test.true))
+
+pub returns-clause-reduced : goal.returns-clause-reduced
+returns-clause-reduced c =
+    unhooked_at _ _ _ (web_of c.cuts.table) c.cuts.ring c.cuts.height c.args.read c.requires.waiting.0 c.cuts.invariant.top c.requires.waiting.1
+    (λ hook. let t = c.has_hook.ensures.1 hook in let f = c.cuts-test.false in absurd (cc))

@@ -1,0 +1,5 @@
+pub mod Webs
+pub mod Faces
+pub mod Turning
+pub mod Tables
+pub mod Scan

@@ -1,0 +1,52 @@
+-- One face under the scan that cuts it: corners that were read stand on a stack, top first, and the others wait.
+use Rattle.std.specs.Prelude.{◌≡◌, ℕ, zero, suc, ◌+◌, ◌-◌, ◌*◌, ◌%◌, ◌<◌, ◌≤◌, List, [], ◌∷◌, length, map, slice_index, drop}
+use Rattle.cutting.specs.Webs.{Web, IsSound, Grows, excess}
+use Rattle.cutting.specs.Faces.{AreWaiting}
+use Rattle.cutting.specs.Turning.{total, Rising, Hopeful, Reduced}
+
+-- the stack, from its bottom up, and then the rest
+abbrev pub down : List ℕ → List ℕ → List ℕ
+down [] rest = rest
+down (c ∷ st) rest = down st (c ∷ rest)
+
+-- the first of the places, the last first
+abbrev pub tops : List ℕ → ℕ → List ℕ
+tops xs zero = []
+tops xs (suc h) = slice_index xs h ∷ tops xs h
+
+-- the face with the corners `face` of the web w0 is being cut: the web is w by now, the corners on the stack and
+-- the rest are those of the face
+pub record IsScan (w0 : Web) (face : List ℕ) (w : Web) (st rest : List ℕ) : Type 0 where
+  pub sound : IsSound w
+  pub grows : Grows w0 w
+  pub waiting : (rs : List (List ℕ)) → AreWaiting w0 (face ∷ rs) → AreWaiting w (down st rest ∷ rs)
+  pub hopeful : Hopeful (total (map w.angle rest)) (length rest) (map w.angle st)
+  pub rising : Rising (map w.angle rest)
+
+-- the edge of the dart behind c faces the corner at the head of d, which turns right
+pub record CanCut (w : Web) (d c : ℕ) : Type 0 where
+  pub d_in : d < w.darts
+  pub c_in : c < w.darts
+  pub right : 2 < w.angle d
+  pub faces : (w.direction (w.next c) + w.angle d) % 4 ≡ w.direction d
+
+-- what a cut needs of room for darts
+abbrev pub HasRoom : Web → ℕ → Type 0
+HasRoom w room = w.darts + 4 * excess w ≤ room
+
+-- the uppermost corners of the stack are a left on a left on a right
+abbrev pub IsHookOn : Web → List ℕ → Type 0
+IsHookOn w [] = ⊥
+IsHookOn w (c ∷ []) = ⊥
+IsHookOn w (c ∷ c1 ∷ []) = ⊥
+IsHookOn w (c ∷ c1 ∷ d ∷ st) = (w.angle c ≡ 1) × (w.angle c1 ≡ 1) × (2 < w.angle d)
+
+-- the scan of a face whose corners stand in a list of places: those below h are the stack, those from `read` on
+-- the rest; only the uppermost corner may stand on a left on a right
+pub record IsTop (w0 : Web) (room : ℕ) (face : List ℕ) (w : Web) (xs : List ℕ) (h read : ℕ) : Type 0 where
+  pub scan : IsScan w0 face w (tops xs h) (drop read xs)
+  pub low : h ≤ read
+  pub some : 1 ≤ h
+  pub inside : read ≤ length xs
+  pub tail : Reduced 0 (map w.angle (tops xs (h - 1)))
+  pub space : HasRoom w room

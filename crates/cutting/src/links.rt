@@ -1,0 +1,56 @@
+ghost use Rattle.std.specs.Prelude.{◌≡◌, ◌<◌, vec_len, slice_index, slice_set};
+
+/// Puts the dart `new` in front of the dart `old` on its face.
+pub fn put_in_front(next: &mut Vec<u32>, prev: &mut Vec<u32>, new: u32, old: u32)
+    requires new_next { new < vec_len next.old }
+    requires new_prev { new < vec_len prev.old }
+    requires old_prev { old < vec_len prev.old }
+    requires ahead { slice_index prev.old.items old < vec_len next.old }
+    ensures next { let ahead = slice_index prev.old.items old in
+        next.new.items ≡ slice_set (slice_set next.old.items ahead new) new old }
+    ensures prev { let ahead = slice_index prev.old.items old in
+        prev.new.items ≡ slice_set (slice_set prev.old.items new ahead) old new }
+    ensures next_room { vec_len next.new ≡ vec_len next.old }
+    ensures prev_room { vec_len prev.new ≡ vec_len prev.old }
+{
+    let ahead = prev[old as usize];
+    next[ahead as usize] = new;
+    next[new as usize] = old;
+    prev[new as usize] = ahead;
+    prev[old as usize] = new;
+}
+
+/// Lets `b` follow `a` on its face.
+pub fn link(next: &mut Vec<u32>, prev: &mut Vec<u32>, a: u32, b: u32)
+    requires a_in { a < vec_len next.old }
+    requires b_in { b < vec_len prev.old }
+    ensures next { next.new.items ≡ slice_set next.old.items a b }
+    ensures prev { prev.new.items ≡ slice_set prev.old.items b a }
+    ensures next_room { vec_len next.new ≡ vec_len next.old }
+    ensures prev_room { vec_len prev.new ≡ vec_len prev.old }
+{
+    next[a as usize] = b;
+    prev[b as usize] = a;
+}
+
+/// Makes two darts each other's twins.
+pub fn pair(twin: &mut Vec<u32>, a: u32, b: u32)
+    requires a_in { a < vec_len twin.old }
+    requires b_in { b < vec_len twin.old }
+    ensures twin { twin.new.items ≡ slice_set (slice_set twin.old.items a b) b a }
+    ensures room { vec_len twin.new ≡ vec_len twin.old }
+{
+    twin[a as usize] = b;
+    twin[b as usize] = a;
+}
+
+/// Puts the dart `new` in front of the dart `old` on its edge.
+pub fn take_over(before: &mut Vec<u32>, new: u32, old: u32)
+    requires new_in { new < vec_len before.old }
+    requires old_in { old < vec_len before.old }
+    ensures before { before.new.items ≡ slice_set (slice_set before.old.items new (slice_index before.old.items old)) old new }
+    ensures room { vec_len before.new ≡ vec_len before.old }
+{
+    before[new as usize] = before[old as usize];
+    before[old as usize] = new;
+}

@@ -1,0 +1,142 @@
+ghost use Rattle.std.specs.Prelude.{◌≡◌, ◌≢◌, ℕ, ◌+◌, ◌-◌, ◌*◌, ◌^◌, ◌<◌, ◌≤◌, ◌↔◌, List, [], ◌∷◌, length, map, drop, sum, slice_index, true, All};
+ghost use Rattle.cutting.specs.Webs.{IsSound, IsCut, Grows};
+ghost use Rattle.cutting.specs.Tables.{web_of, room};
+ghost use Rattle.cutting.specs.Faces.{AreWaiting, cut_up};
+ghost use Rattle.cutting.specs.Turning.{Reduced, IsHighest};
+ghost use Rattle.cutting.specs.Scan.{CanCut, HasRoom, IsHookOn, IsTop, down, tops};
+
+use crate::table::DartTable;
+
+/// Cuts from the head of `d`, in the way of `d` as if it turned one right angle less, to the edge
+/// behind `c`, which that way meets.
+pub fn bite(table: &mut DartTable, d: u32, c: u32)
+    requires sound { IsSound (web_of table.old) }
+    requires can { CanCut (web_of table.old) d c }
+    requires space { table.old.darts + 4 ≤ room table.old }
+    ensures cut { (way : ℕ) × IsCut (web_of table.old) d ((web_of table.old).next c) way (web_of table.new) }
+    ensures room { room table.new ≡ room table.old }
+{
+    let e = table.next[c as usize];
+    let facing = table.direction[e as usize];
+    let way = (table.direction[d as usize] + 7 - table.angle[d as usize]) % 4;
+    let place = table.darts;
+    table.split(e, facing, 2);
+    table.chord(d, place, way);
+}
+
+/// Whether the uppermost corners of the stack are a left turn on a left turn on a right turn.
+fn has_hook(table: &DartTable, ring: &[u32], height: usize) -> bool
+    requires high { height ≤ length ring.now }
+    requires inside { All (λ a. a < room table.now) ring.now }
+    ensures { (result ≡ true) ↔ IsHookOn (web_of table.now) (tops ring.now height) }
+{
+    if height < 3 {
+        return false;
+    }
+    let top = table.angle[ring[height - 1] as usize];
+    if top != 1 {
+        return false;
+    }
+    let below = table.angle[ring[height - 2] as usize];
+    if below != 1 {
+        return false;
+    }
+    let right = table.angle[ring[height - 3] as usize];
+    right > 2
+}
+
+/// Cuts at the uppermost corners of the stack as long as they are two left turns on a right turn, and
+/// gives back the stack's height then.
+fn cut_top(table: &mut DartTable, ring: &mut [u32], height: usize, read: usize) -> usize
+    requires top { let face = down (tops ring.old height) (drop read ring.old) in
+        IsTop (web_of table.old) (room table.old) face (web_of table.old) ring.old height read }
+    requires waiting { (rs : List (List ℕ)) × AreWaiting (web_of table.old) (down (tops ring.old height) (drop read ring.old) ∷ rs) }
+    requires inside { All (λ a. a < room table.old) ring.old }
+    ensures top { let face = down (tops ring.old height) (drop read ring.old) in
+        IsTop (web_of table.old) (room table.old) face (web_of table.new) ring.new result read }
+    ensures rest { drop read ring.new ≡ drop read ring.old }
+    ensures reduced { Reduced 0 (map (web_of table.new).angle (tops ring.new result)) }
+    ensures room { room table.new ≡ room table.old }
+    ensures inside { All (λ a. a < room table.new) ring.new }
+{
+    let mut height = height;
+    'cuts: while has_hook(table, ring, height) {
+        let right = ring[height - 3];
+        let left = ring[height - 1];
+        let chord = table.darts + 2;
+        bite(table, right, left);
+        if table.angle[right as usize] == 2 {
+            ring[height - 3] = chord;
+            height -= 2;
+        } else {
+            ring[height - 2] = chord;
+            height -= 1;
+        }
+    }
+    height
+}
+
+/// The place in front of which the walk along the corners has turned left most, the first of them.
+fn highest(angle: &[u8], ring: &[u32]) -> usize
+    requires inside { All (λ a. a < length angle.now) ring.now }
+    requires small { All (λ a. slice_index angle.now a ≤ 4) ring.now }
+    requires few { length ring.now < 2 ^ 32 }
+    ensures { IsHighest (map (λ a. slice_index angle.now a) ring.now) result }
+{
+    let mut best: usize = 0;
+    let mut best_sum: u64 = 0;
+    let mut sum: u64 = 0;
+    'corners: for (at, dart) in ring.iter().enumerate() {
+        sum += u64::from(angle[*dart as usize]);
+        let count = at as u64 + 1;
+        if 2 * count + best_sum > 2 * best as u64 + sum {
+            best = at + 1;
+            best_sum = sum;
+        }
+    }
+    best
+}
+
+/// Cuts the face with the corners `ring` into boxes. Linear in its corners.
+pub fn cut_face(table: &mut DartTable, ring: &mut [u32])
+    requires sound { IsSound (web_of table.old) }
+    requires waiting { (rs : List (List ℕ)) × AreWaiting (web_of table.old) (ring.old ∷ rs) }
+    requires space { HasRoom (web_of table.old) (room table.old) }
+    requires few { length ring.old < 2 ^ 32 }
+    ensures sound { IsSound (web_of table.new) }
+    ensures grows { Grows (web_of table.old) (web_of table.new) }
+    ensures waiting { (rs : List (List ℕ)) → AreWaiting (web_of table.old) (ring.old ∷ rs) → AreWaiting (web_of table.new) rs }
+    ensures space { HasRoom (web_of table.new) (room table.new) }
+    ensures room { room table.new ≡ room table.old }
+{
+    let turn = highest(table.angle.as_slice(), ring);
+    ring.rotate_left(turn);
+    let mut height = 0;
+    'corners: for read in 0..ring.len() {
+        ring[height] = ring[read];
+        height = cut_top(table, ring, height + 1, read + 1);
+    }
+}
+
+/// Cuts all faces into boxes, one after another: `corners` holds their corners, those of each face in
+/// walking order, and `counts` how many each face has. What is left in `corners` is of no use.
+/// Linear in the corners.
+pub fn cut_faces(table: &mut DartTable, corners: &mut [u32], counts: &[u32])
+    requires sound { IsSound (web_of table.old) }
+    requires waiting { AreWaiting (web_of table.old) (cut_up corners.old counts.now) }
+    requires space { HasRoom (web_of table.old) (room table.old) }
+    requires all { sum counts.now ≡ length corners.old }
+    requires few { length corners.old < 2 ^ 32 }
+    ensures sound { IsSound (web_of table.new) }
+    ensures grows { Grows (web_of table.old) (web_of table.new) }
+    ensures done { AreWaiting (web_of table.new) [] }
+    ensures space { HasRoom (web_of table.new) (room table.new) }
+    ensures room { room table.new ≡ room table.old }
+{
+    let mut start: usize = 0;
+    'faces: for count in counts {
+        let end = start + *count as usize;
+        cut_face(table, &mut corners[start..end]);
+        start = end;
+    }
+}
