@@ -40,13 +40,14 @@ fn settled_with_one_held(rt: HostRuntime) -> Result<(), Fail> {
     Ok(())
 }
 
-// Gives the numbers below `count`, until one is refused.
-fn give_below(rt: &impl Wait, mut giver: Giver<u32>, count: u32) {
+// Gives the numbers below `count`, until one is refused: that one, or `count`.
+fn give_below(rt: &impl Wait, mut giver: Giver<u32>, count: u32) -> u32 {
     for item in 0..count {
-        if giver.give(rt, item).is_err() {
-            break;
+        if let Err(Closed(refused)) = giver.give(rt, item) {
+            return refused;
         }
     }
+    count
 }
 
 // A thousand numbers go from one thread to another.
@@ -63,7 +64,18 @@ fn pass_through<R: Threads + Wait + Abort + Copy + Send + 'static>(
         assert_eq!(rt; taker.take(&rt), Ok(item), "capacity {capacity}");
     }
     assert_eq!(rt; taker.take(&rt), Err(Closed(())), "capacity {capacity}");
-    child.join(&rt);
+    assert_eq!(rt; child.join(&rt), 1000);
+    Ok(())
+}
+
+#[test]
+fn a_giver_that_waits_is_refused(rt: HostRuntime) -> Result<(), Fail> {
+    let (giver, mut taker) = link(rt.alloc(), 1)?;
+    let child = thread::spawn(&rt, move || give_below(&rt, giver, 1000))?;
+    assert_eq!(rt; taker.take(&rt), Ok(0));
+    drop(taker);
+    let refused = child.join(&rt);
+    assert!(rt; refused == 1 || refused == 2, "{refused}");
     Ok(())
 }
 
