@@ -10,3 +10,6 @@ mod numbering;
 mod plane;
 
 pub use plane::{Plane, TraceFault};
+
+#[cfg(test)]
+mod tests;
