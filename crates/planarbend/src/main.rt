@@ -5,6 +5,8 @@ mod command;
 mod faults;
 mod line;
 mod source;
+#[cfg(test)]
+mod tests;
 mod words;
 
 use collector::IoSink;

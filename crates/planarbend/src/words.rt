@@ -33,6 +33,7 @@ fn describe<'a>(alloc: Global) -> Result<Command<'a>, AllocError> {
         .after_help(FRAMES_HELP)
         .arg(file)?;
     Command::new(alloc, "planarbend")
+        .bin_name("planarbend")?
         .about("Reads embedded planar graphs in planar_code")
         .after_help(HELP)
         .no_binary_name(true)
