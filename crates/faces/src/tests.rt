@@ -117,12 +117,11 @@ fn path_is_walked_there_and_back(rt: HostRuntime) -> Result<(), Fail> {
 
 #[test]
 fn known_planes_have_their_counts(rt: HostRuntime) -> Result<(), Fail> {
-    let alloc = rt.alloc();
-    assert_eq!(rt; counts(&plane_of(alloc, &EDGE)?), (2, 1, 1));
-    assert_eq!(rt; counts(&plane_of(alloc, &K4)?), (4, 6, 4));
-    assert_eq!(rt; counts(&plane_of(alloc, &OCTAHEDRON)?), (6, 12, 8));
-    assert_eq!(rt; counts(&plane_of(alloc, &STAR)?), (5, 4, 1));
-    assert_eq!(rt; counts(&plane_of(alloc, &CUBE)?), (8, 12, 6));
+    let records = [EDGE.as_slice(), &K4, &OCTAHEDRON, &STAR, &CUBE];
+    let known = [(2, 1, 1), (4, 6, 4), (6, 12, 8), (5, 4, 1), (8, 12, 6)];
+    for (record, want) in records.iter().zip(known) {
+        assert_eq!(rt; counts(&plane_of(rt.alloc(), record)?), want);
+    }
     Ok(())
 }
 
