@@ -10,3 +10,4 @@ pub mod Stepping
 pub mod Reading
 pub mod Walking
 pub mod Plains
+pub mod TooLong

@@ -48,3 +48,12 @@ pub record IsUnfinished (bytes : List ℕ) : Type 0 where
 -- no record stands first in the bytes
 abbrev pub NoRecordFirst : List ℕ → Type 0
 NoRecordFirst bytes = (first rest : List ℕ) → IsRecord first → bytes ≡ first ++ rest → ⊥
+
+-- somewhere in the bytes stand 255 entries in a row
+pub record HasLongList (bytes : List ℕ) : Type 0 where
+  pub front : List ℕ
+  pub run : List ℕ
+  pub back : List ℕ
+  pub parts : bytes ≡ front ++ (run ++ back)
+  pub each : All IsEntry run
+  pub long : length run ≡ 255

@@ -1,7 +1,7 @@
 //! Laws of the definitions, each as the contract of a function that does nothing.
 ghost use Rattle.std.specs.Prelude.{◌≡◌, ℕ, ◌<◌, ◌≤◌, List, [], ◌++◌, length, All};
 ghost use Rattle.planar_code.specs.declared.ending.Ending.{Ending};
-ghost use Rattle.planar_code.specs.Stream.{IsRecord, lists_of};
+ghost use Rattle.planar_code.specs.Stream.{IsRecord, HasLongList, lists_of};
 ghost use Rattle.planar_code.specs.Split.{IsSplit, IsOpen};
 ghost use Rattle.planar_code.specs.Place.{Place, StandsAt, IsRunning};
 
@@ -52,4 +52,12 @@ pub fn running_is_open()
         → IsRunning place
         → StandsAt stream records place
         → IsOpen stream }
+{}
+
+/// A stream of bytes that ends oversize has 255 bytes other than 0 in a row.
+pub fn oversize_is_long()
+    ensures { (stream : List ℕ) (records : List (List ℕ))
+        → All (λ byte. byte < 256) stream
+        → IsSplit stream records Ending.Oversize
+        → HasLongList stream }
 {}

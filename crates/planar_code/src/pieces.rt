@@ -1,4 +1,4 @@
-ghost use Rattle.std.specs.Prelude.{◌≢◌, IfOk, OnOk, Err};
+ghost use Rattle.std.specs.Prelude.{◌≡◌, ◌≢◌, IfOk, OnOk, OnErr, Err};
 ghost use Rattle.std.specs.List.{flat_map};
 ghost use Rattle.planar_code.specs.Split.{IsSplit};
 
@@ -10,7 +10,8 @@ use std::alloc::{AllocError, Global};
 
 /// Passes on the want of memory alone: any other fault is in the ending.
 fn check_memory(fed: Result<(), FeedFault>) -> Result<(), AllocError>
-    ensures { OnOk result (fed ≢ Err FeedFault.Memory) }
+    ensures ok { OnOk result (fed ≢ Err FeedFault.Memory) }
+    ensures err { OnErr result (fed ≡ Err FeedFault.Memory) }
 {
     match fed {
         Err(FeedFault::Memory) => Err(AllocError),

@@ -1,0 +1,147 @@
+use super::*;
+use std::alloc::Global;
+use std::process::Abort;
+use std::test::Fail;
+
+/// The header, and then the bytes.
+fn stream(alloc: Global, bytes: &[u8]) -> Result<Vec<u8>, Fail> {
+    let mut stream = HEADER.to_vec(alloc)?;
+    stream.extend_from_slice(bytes)?;
+    Ok(stream)
+}
+
+/// How the bytes after the header are framed in one piece: the number of records and the ending.
+fn framed(alloc: Global, bytes: &[u8]) -> Result<(usize, Ending), Fail> {
+    let piece = stream(alloc, bytes)?;
+    let pieces = vec![in alloc; piece]?;
+    let (records, ending) = frame(alloc, pieces.as_slice())?;
+    Ok((records.len(), ending))
+}
+
+#[test]
+fn tells_the_endings(rt: HostRuntime) -> Result<(), Fail> {
+    let alloc = rt.alloc();
+    assert_eq!(rt; framed(alloc, &[])?, (0, Ending::Complete));
+    assert_eq!(rt; framed(alloc, &[2, 2, 0, 1, 0])?, (1, Ending::Complete));
+    assert_eq!(rt;
+        framed(alloc, &[2, 2, 0, 1, 0, 2, 2, 0, 1])?,
+        (1, Ending::Truncated)
+    );
+    assert_eq!(rt; framed(alloc, &[2, 2, 0, 1, 0, 0, 2])?, (1, Ending::Large));
+    let mut long = vec![in alloc; 1u8; 255]?;
+    long[0] = 255;
+    assert_eq!(rt; framed(alloc, long.as_slice())?, (0, Ending::Truncated));
+    long.push(1)?;
+    assert_eq!(rt; framed(alloc, long.as_slice())?, (0, Ending::Oversize));
+    Ok(())
+}
+
+#[test]
+fn tells_a_missing_header(rt: HostRuntime) -> Result<(), Fail> {
+    let alloc = rt.alloc();
+    let (records, ending) = split(alloc, &[])?;
+    assert_eq!(rt; (records.len(), ending), (0, Ending::Header));
+    let (records, ending) = split(alloc, &HEADER[..14])?;
+    assert_eq!(rt; (records.len(), ending), (0, Ending::Header));
+    let mut framer = Framer::new(alloc)?;
+    let mut out = Vec::new(alloc);
+    assert_eq!(rt; framer.feed(alloc, &HEADER[..14], &mut out), Ok(()));
+    assert_eq!(rt; framer.finish(), Ending::Header);
+    Ok(())
+}
+
+#[test]
+fn frames_a_record_in_three_pieces(rt: HostRuntime) -> Result<(), Fail> {
+    let alloc = rt.alloc();
+    let whole = stream(alloc, &[2, 2, 0, 1, 0])?;
+    assert_eq!(rt; whole.len(), 20);
+    let mut framer = Framer::new(alloc)?;
+    let mut out = Vec::new(alloc);
+    assert_eq!(rt; framer.feed(alloc, &whole[..10], &mut out), Ok(()));
+    assert_eq!(rt; framer.feed(alloc, &whole[10..17], &mut out), Ok(()));
+    assert_eq!(rt; out.len(), 0);
+    assert_eq!(rt; framer.feed(alloc, &whole[17..], &mut out), Ok(()));
+    assert_eq!(rt; out.len(), 1);
+    assert_eq!(rt; out[0].bytes(), [2, 2, 0, 1, 0].as_slice());
+    assert_eq!(rt; out[0].order(), 2);
+    assert_eq!(rt; framer.finish(), Ending::Complete);
+    Ok(())
+}
+
+#[test]
+fn repeats_its_fault(rt: HostRuntime) -> Result<(), Fail> {
+    let alloc = rt.alloc();
+    let mut framer = Framer::new(alloc)?;
+    let mut out = Vec::new(alloc);
+    assert_eq!(rt;
+        framer.feed(alloc, b">>planar_codeX", &mut out),
+        Err(FeedFault::Header)
+    );
+    assert_eq!(rt;
+        framer.feed(alloc, &[1, 0], &mut out),
+        Err(FeedFault::Header)
+    );
+    assert_eq!(rt; framer.finish(), Ending::Header);
+    let piece = stream(alloc, &[2, 2, 0, 1, 0, 0, 2])?;
+    let mut framer = Framer::new(alloc)?;
+    assert_eq!(rt;
+        framer.feed(alloc, piece.as_slice(), &mut out),
+        Err(FeedFault::Large)
+    );
+    assert_eq!(rt; out.len(), 1);
+    assert_eq!(rt; framer.finish(), Ending::Large);
+    Ok(())
+}
+
+#[test]
+fn frames_a_million_records(rt: HostRuntime) -> Result<(), Fail> {
+    let alloc = rt.alloc();
+    let mut framer = Framer::new(alloc)?;
+    let mut out = Vec::new(alloc);
+    assert_eq!(rt; framer.feed(alloc, &HEADER, &mut out), Ok(()));
+    let mut piece = Vec::new(alloc);
+    for _ in 0..50_000 {
+        piece.extend_from_slice(&[1, 0])?;
+    }
+    for _ in 0..20 {
+        assert_eq!(rt; framer.feed(alloc, piece.as_slice(), &mut out), Ok(()));
+    }
+    assert_eq!(rt; out.len(), 1_000_000);
+    assert_eq!(rt; framer.feed(alloc, &[7], &mut out), Err(FeedFault::Many));
+    assert_eq!(rt; out.len(), 1_000_000);
+    assert_eq!(rt; framer.finish(), Ending::Many);
+    Ok(())
+}
+
+/// Feeds the text in two pieces, cut at each place in turn, and compares the records and the ending
+/// with those of the plain splitter.
+fn agrees(rt: &impl Abort, alloc: Global, text: &[u8]) -> Result<(), Fail> {
+    let (records, ending) = split(alloc, text)?;
+    for (cut, _) in text.iter().enumerate() {
+        let mut framer = Framer::new(alloc)?;
+        let mut out = Vec::new(alloc);
+        let _ = framer.feed(alloc, &text[..cut], &mut out);
+        let _ = framer.feed(alloc, &text[cut..], &mut out);
+        assert_eq!(rt; framer.finish(), ending);
+        assert_eq!(rt; out.len(), records.len());
+        for (ours, theirs) in out.iter().zip(&records) {
+            assert_eq!(rt; ours.bytes(), theirs.bytes());
+        }
+    }
+    Ok(())
+}
+
+#[test]
+fn cuts_agree_with_the_plain_splitter(rt: HostRuntime) -> Result<(), Fail> {
+    let alloc = rt.alloc();
+    let two = [2, 2, 0, 1, 0, 3, 2, 3, 0, 3, 1, 0, 1, 2, 0];
+    agrees(&rt, alloc, stream(alloc, &two)?.as_slice())?;
+    agrees(&rt, alloc, stream(alloc, &two[..13])?.as_slice())?;
+    agrees(&rt, alloc, stream(alloc, &[1, 0, 0, 2])?.as_slice())?;
+    agrees(&rt, alloc, b">>planar_code<")?;
+    agrees(&rt, alloc, b">>planar_codeX\x01\x00")?;
+    let mut long = vec![in alloc; 1u8; 300]?;
+    long[0] = 255;
+    agrees(&rt, alloc, stream(alloc, long.as_slice())?.as_slice())?;
+    agrees(&rt, alloc, stream(alloc, &long[..254])?.as_slice())
+}
