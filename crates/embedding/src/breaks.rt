@@ -24,8 +24,8 @@ fn holds(list: &[u8], vertex: u8) -> bool
     list.iter().any(|v| *v == vertex)
 }
 
-/// Whether the list names a neighbour twice. `last` has for each number the last list that named it,
-/// and none names this one's vertex yet.
+/// Whether the list names a neighbour twice. `last` has for each number the last list that named
+/// it, and no list has named one for this vertex yet.
 fn names_twice(list: &[u8], vertex: u8, last: &mut [u8; 256]) -> bool
     requires { (v : ℕ) → v < 256 → slice_index last.old v < vertex }
     ensures twice { IsTrue result ↔ NamesTwice list.now }
@@ -42,7 +42,9 @@ fn names_twice(list: &[u8], vertex: u8, last: &mut [u8; 256]) -> bool
 
 /// Adds the pairs of the vertex and each entry of its list.
 fn add_pairs(pairs: &mut Pairs, vertex: u8, list: &[u8])
-    ensures { (a b : ℕ) → a < 256 → b < 256 → (HasPair pairs.new.words a b ↔ (HasPair pairs.old.words a b ⊎ ((a ≡ vertex) × Contains list.now b))) }
+    ensures { (a b : ℕ) → a < 256 → b < 256
+        → (HasPair pairs.new.words a b
+        ↔ (HasPair pairs.old.words a b ⊎ ((a ≡ vertex) × Contains list.now b))) }
 {
     for v in list {
         pairs.insert(vertex, *v);
@@ -128,10 +130,11 @@ fn breaks_degree(lists: &Lists<'_>) -> bool
     false
 }
 
-/// The first of rules 1 to 7 that the lists break. The tests take time in proportion to the record's
-/// bytes, whatever they are.
+/// The first of rules 1 to 7 that the lists break. The tests take time in proportion to the
+/// record's bytes, whatever they are.
 pub(crate) fn first_broken(lists: &Lists<'_>) -> Option<Rule>
-    ensures { MatchOption result (KeepsBefore lists.now 8) (λ rule. FirstBroken lists.now rule × (rule_number rule < 8)) }
+    ensures { MatchOption result (KeepsBefore lists.now 8)
+        (λ rule. FirstBroken lists.now rule × (rule_number rule < 8)) }
 {
     if breaks_range(lists) {
         Some(Rule::Range)

@@ -16,12 +16,12 @@ use smallvec::SmallVec;
 use std::alloc::{AllocError, Global};
 use std::marker::Model;
 
-/// A connected graph without loops or double edges, of maximum degree 4, given by the clockwise list of
-/// neighbours of each vertex. In contracts it is these lists.
+/// A connected graph without loops or double edges, of maximum degree 4, given by the clockwise
+/// list of neighbours of each vertex. In contracts it is these lists.
 ///
-/// Each entry v in the list of u is the dart from u, its tail, to v, its head. Vertices are numbered
-/// from 1, and darts from 0 in the order in which their entries stand. No reader takes memory, and each
-/// takes constant time.
+/// Each entry v in the list of u is the dart from u, its tail, to v, its head. Vertices are
+/// numbered from 1, and darts from 0 in the order in which their entries stand. No reader takes
+/// memory, and each takes constant time.
 #[derive(Debug, Drop)]
 pub struct Graph {
     lists: Vec<SmallVec<u8, 4>>,
@@ -45,13 +45,13 @@ impl Model for Graph {
 }
 
 impl Graph {
-    /// Reads the graph of a record. It takes time in proportion to the record's bytes, and memory only
-    /// for a graph that keeps rules 1 to 7.
+    /// Reads the graph of a record. It takes time in proportion to the record's bytes, and memory
+    /// only for a graph that keeps rules 1 to 7.
     ///
     /// # Errors
     ///
-    /// `Rule` with the first of rules 1 to 7 that the record's lists break, exactly where they break
-    /// one; `Memory` where the graph found no memory.
+    /// `Rule` with the first of rules 1 to 7 that the record's lists break, exactly where they
+    /// break one; `Memory` where there was no memory for the graph.
     pub fn read(alloc: Global, record: &Record) -> Result<Graph, ReadFault>
         ensures lists { IfOk result (λ graph. graph ≡ lists_of record.now) }
         ensures rules { OnOk result (KeepsBefore (lists_of record.now) 8) }

@@ -16,3 +16,6 @@ mod walks;
 pub use faults::ReadFault;
 pub use graphs::Graph;
 pub use rules::Rule;
+
+#[cfg(test)]
+mod tests;

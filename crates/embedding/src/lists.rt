@@ -35,7 +35,8 @@ fn starts_in(bytes: &[u8]) -> [u16; 256]
     requires spelt { bytes.now ≡ flat_map ended (lists_in bytes.now) }
     requires each { All IsList (lists_in bytes.now) }
     requires few { length (lists_in bytes.now) < 256 }
-    ensures { (k : ℕ) → k ≤ length (lists_in bytes.now) → slice_index result k ≡ start_of (lists_in bytes.now) k }
+    ensures { (k : ℕ) → k ≤ length (lists_in bytes.now)
+        → slice_index result k ≡ start_of (lists_in bytes.now) k }
 {
     let mut starts = [0u16; 256];
     let mut count = 0;

@@ -20,7 +20,8 @@ impl Pairs {
     /// Adds a pair.
     pub(crate) fn insert(&mut self, first: u8, second: u8)
         ensures same { HasPair self.new.words first second }
-        ensures others { (a b : ℕ) → a < 256 → b < 256 → ¬ ((a ≡ first) × (b ≡ second)) → (HasPair self.new.words a b ↔ HasPair self.old.words a b) }
+        ensures others { (a b : ℕ) → a < 256 → b < 256 → ¬ ((a ≡ first) × (b ≡ second))
+            → (HasPair self.new.words a b ↔ HasPair self.old.words a b) }
     {
         let word = 4 * usize::from(first) + usize::from(second / 64);
         self.words[word] |= 1u64 << (second % 64);

@@ -2,7 +2,8 @@
 
 ghost use Rattle.std.specs.Prelude.{◌≡◌};
 
-/// A rule for graphs. They are tried in this order, and a record is refused with the first one broken.
+/// A rule for graphs. They are tried in this order, and a record is refused with the first one
+/// that it breaks.
 #[derive(Debug, Clone, Copy, PartialEq, Eq)]
 pub enum Rule {
     /// Some entry is greater than the number of vertices.

@@ -75,7 +75,9 @@ fn place_of(list: &[u8], vertex: u8) -> usize
 fn opposite(lists: &Lists<'_>, tail: u8, head: u8) -> u16
     requires rules { KeepsBefore lists.now 8 }
     requires listed { Contains (list_of lists.now tail) head }
-    ensures { (d : ℕ) → d < dart_count lists.now → tail_of lists.now d ≡ tail → head_of lists.now d ≡ head → result ≡ reverse_of lists.now d }
+    ensures { (d : ℕ) → d < dart_count lists.now
+        → tail_of lists.now d ≡ tail → head_of lists.now d ≡ head
+        → result ≡ reverse_of lists.now d }
 {
     let place = place_of(lists.of_vertex(head), tail);
     lists.first_dart(head - 1) + place as u16
@@ -86,7 +88,8 @@ fn add_reverses(reverses: &mut Vec<u16>, lists: &Lists<'_>, place: u8) -> Result
     requires rules { KeepsBefore lists.now 8 }
     requires within { place < length lists.now }
     requires so_far { IsTable (first_dart lists.now place) (reverse_of lists.now) reverses.old.items }
-    ensures { IfOk result (λ _. IsTable (first_dart lists.now (place + 1)) (reverse_of lists.now) reverses.new.items) }
+    ensures { IfOk result (λ _.
+        IsTable (first_dart lists.now (place + 1)) (reverse_of lists.now) reverses.new.items) }
 {
     for head in lists.at(place) {
         reverses.push(opposite(lists, place + 1, *head))?;
@@ -94,10 +97,12 @@ fn add_reverses(reverses: &mut Vec<u16>, lists: &Lists<'_>, place: u8) -> Result
     Ok(())
 }
 
-/// The reverses of all darts. Each list has at most four entries, so to search one takes constant time.
+/// The reverses of all darts. Each list has at most four entries, so to search one takes constant
+/// time.
 pub(crate) fn reverses_in(alloc: Global, lists: &Lists<'_>) -> Result<Vec<u16>, AllocError>
     requires { KeepsBefore lists.now 8 }
-    ensures { IfOk result (λ reverses. IsTable (dart_count lists.now) (reverse_of lists.now) reverses.items) }
+    ensures { IfOk result (λ reverses.
+        IsTable (dart_count lists.now) (reverse_of lists.now) reverses.items) }
 {
     let mut reverses = Vec::with_capacity(alloc, lists.darts())?;
     for place in 0..lists.count() {
@@ -110,7 +115,8 @@ pub(crate) fn reverses_in(alloc: Global, lists: &Lists<'_>) -> Result<Vec<u16>, 
 fn add_afters(afters: &mut Vec<u16>, lists: &Lists<'_>, place: u8) -> Result<(), AllocError>
     requires within { place < length lists.now }
     requires so_far { IsTable (first_dart lists.now place) (after_of lists.now) afters.old.items }
-    ensures { IfOk result (λ _. IsTable (first_dart lists.now (place + 1)) (after_of lists.now) afters.new.items) }
+    ensures { IfOk result (λ _.
+        IsTable (first_dart lists.now (place + 1)) (after_of lists.now) afters.new.items) }
 {
     let first = lists.first_dart(place);
     let count = lists.at(place).len() as u16;
@@ -123,7 +129,8 @@ fn add_afters(afters: &mut Vec<u16>, lists: &Lists<'_>, place: u8) -> Result<(),
 
 /// The darts after all darts.
 pub(crate) fn afters_in(alloc: Global, lists: &Lists<'_>) -> Result<Vec<u16>, AllocError>
-    ensures { IfOk result (λ afters. IsTable (dart_count lists.now) (after_of lists.now) afters.items) }
+    ensures { IfOk result (λ afters.
+        IsTable (dart_count lists.now) (after_of lists.now) afters.items) }
 {
     let mut afters = Vec::with_capacity(alloc, lists.darts())?;
     for place in 0..lists.count() {

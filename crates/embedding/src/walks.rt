@@ -21,9 +21,11 @@ fn reach(walk: &mut Walk, vertex: u8)
     requires { IsQueue walk.old.reached walk.old.queue walk.old.found }
     ensures queue { IsQueue walk.new.reached walk.new.queue walk.new.found }
     ensures reached { Holds walk.new.reached vertex }
-    ensures others { (v : ℕ) → Holds walk.new.reached v → Holds walk.old.reached v ⊎ (v ≡ vertex) }
+    ensures others { (v : ℕ) → Holds walk.new.reached v
+        → Holds walk.old.reached v ⊎ (v ≡ vertex) }
     ensures kept { (v : ℕ) → Holds walk.old.reached v → Holds walk.new.reached v }
-    ensures order { (i : ℕ) → i < walk.old.found → slice_index walk.new.queue i ≡ slice_index walk.old.queue i }
+    ensures order { (i : ℕ) → i < walk.old.found
+        → slice_index walk.new.queue i ≡ slice_index walk.old.queue i }
     ensures longer { walk.old.found ≤ walk.new.found }
 {
     if !walk.reached[usize::from(vertex)] {
@@ -38,9 +40,11 @@ fn reach_all(walk: &mut Walk, list: &[u8])
     requires { IsQueue walk.old.reached walk.old.queue walk.old.found }
     ensures queue { IsQueue walk.new.reached walk.new.queue walk.new.found }
     ensures reached { All (Holds walk.new.reached) list.now }
-    ensures others { (v : ℕ) → Holds walk.new.reached v → Holds walk.old.reached v ⊎ Contains list.now v }
+    ensures others { (v : ℕ) → Holds walk.new.reached v
+        → Holds walk.old.reached v ⊎ Contains list.now v }
     ensures kept { (v : ℕ) → Holds walk.old.reached v → Holds walk.new.reached v }
-    ensures order { (i : ℕ) → i < walk.old.found → slice_index walk.new.queue i ≡ slice_index walk.old.queue i }
+    ensures order { (i : ℕ) → i < walk.old.found
+        → slice_index walk.new.queue i ≡ slice_index walk.old.queue i }
     ensures longer { walk.old.found ≤ walk.new.found }
 {
     for v in list {
