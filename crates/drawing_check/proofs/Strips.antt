@@ -1,0 +1,217 @@
+-- The strips of a path list the points between its ends.
+use Rattle.std.proofs.Common.{◌≡◌, ℕ, ◌+◌, ◌-◌, ◌<◌, ◌≤◌, ◌⊎◌, Bool, true, false, List, [], ◌∷◌, ◌++◌, map, length, get_or, refl, sym, ap, ◌∙◌, subst, ⊎_elim, inl, inr, arith, All, AllPairs, ◌↔◌, take, append_assoc, eqb, suc, cond}
+use Rattle.std.specs.List.{flat_map}
+use Rattle.std.proofs.lemmas.Bool.{cases_lt, cases_Bool, eqb-true, eq-eqb, and_parts, and_from, both_ways, cond-true, cond-false}
+use Rattle.std.proofs.lemmas.List.{append-nil, map_more}
+use Rattle.std.proofs.lemmas.List.Concat.{flat_map-append}
+use Rattle.std.proofs.lemmas.List.Elements.{All-append, All-cons, All-tail, All-head, All-nil}
+use Rattle.rectangles.specs.declared.Rectangle.{Rectangle}
+use Rattle.rectangles.specs.Rectangles.{Covers, IsFilled, AreApart}
+use Rattle.ortho_rep.specs.declared.points.Point.{Point}
+use Rattle.drawing_check.specs.Walks.{step_from, steps, walk, inner, HasNoRepeat}
+use Rattle.drawing_check.specs.Paths.{point_of}
+use Rattle.drawing_check.specs.Draws.{IsAxis, IsOnAxes, AreOnAxes}
+use Rattle.drawing_check.specs.Shown.{span_of, same_point, strips, Lists, Shows}
+use Rattle.drawing_check.proofs.Coverings.{point_is, shows_append, no_repeat_from_apart, apart_from_no_repeat}
+use Rattle.drawing_check.specs.declared.route.Route.{Route}
+use Rattle.drawing_check.specs.Routes.{path_of}
+use Rattle.drawing_check.proofs.Segments.{toward_up, toward_down, toward_same, segment_lists}
+
+-- where b lies from a: above, below, right or left
+ways : (a b : Point) → IsAxis a b → (((a.x ≡ b.x) × (a.y < b.y)) ⊎ ((a.x ≡ b.x) × (b.y < a.y))) ⊎ (((a.y ≡ b.y) × (a.x < b.x)) ⊎ ((a.y ≡ b.y) × (b.x < a.x)))
+ways a b axis =
+    ⊎_elim
+    (λ upright. inl (⊎_elim (λ up. inl (upright.0, up)) (λ ge. inr (upright.0, omega (arith, upright.1))) (cases_lt a.y b.y)))
+    (λ level. inr (⊎_elim (λ up. inl (level.1, up)) (λ ge. inr (level.1, omega (arith, level.0))) (cases_lt a.x b.x)))
+    axis
+
+steps_some : (a b : Point) → IsAxis a b → 1 ≤ steps a b
+steps_some a b axis = ⊎_elim (λ h. omega (arith, h.1)) (λ h. omega (arith, h.0)) axis
+
+-- all steps lead to the end
+all_steps : (a b : Point) → IsAxis a b → step_from a b (steps a b) ≡ b
+all_steps a b axis =
+    let s = steps a b in
+    ⊎_elim
+    (λ h. ⊎_elim
+    (λ w. point_is (step_from a b s) b (toward_same a.x b.x s w.0 ∙ w.0) (toward_up a.y b.y s w.1 ∙ omega (arith, w.0, w.1)))
+    (λ w. point_is (step_from a b s) b (toward_same a.x b.x s w.0 ∙ w.0) (toward_down a.y b.y s w.1 ∙ omega (arith, w.0, w.1)))
+    h)
+    (λ h. ⊎_elim
+    (λ w. point_is (step_from a b s) b (toward_up a.x b.x s w.1 ∙ omega (arith, w.0, w.1)) (toward_same a.y b.y s w.0 ∙ w.0))
+    (λ w. point_is (step_from a b s) b (toward_down a.x b.x s w.1 ∙ omega (arith, w.0, w.1)) (toward_same a.y b.y s w.0 ∙ w.0))
+    h)
+    (ways a b axis)
+
+-- all steps but one lead to one step before the end
+step_back : (a b : Point) → IsAxis a b → step_from a b (steps a b - 1) ≡ step_from b a 1
+step_back a b axis =
+    let s = steps a b - 1 in
+    ⊎_elim
+    (λ h. ⊎_elim
+    (λ w. point_is (step_from a b s) (step_from b a 1) (toward_same a.x b.x s w.0 ∙ w.0 ∙ sym (toward_same b.x a.x 1 (sym w.0))) (toward_up a.y b.y s w.1 ∙ (omega (arith, w.0, w.1)) ∙ sym (toward_down b.y a.y 1 w.1)))
+    (λ w. point_is (step_from a b s) (step_from b a 1) (toward_same a.x b.x s w.0 ∙ w.0 ∙ sym (toward_same b.x a.x 1 (sym w.0))) (toward_down a.y b.y s w.1 ∙ (omega (arith, w.0, w.1)) ∙ sym (toward_up b.y a.y 1 w.1)))
+    h)
+    (λ h. ⊎_elim
+    (λ w. point_is (step_from a b s) (step_from b a 1) (toward_up a.x b.x s w.1 ∙ (omega (arith, w.0, w.1)) ∙ sym (toward_down b.x a.x 1 w.1)) (toward_same a.y b.y s w.0 ∙ w.0 ∙ sym (toward_same b.y a.y 1 (sym w.0))))
+    (λ w. point_is (step_from a b s) (step_from b a 1) (toward_down a.x b.x s w.1 ∙ (omega (arith, w.0, w.1)) ∙ sym (toward_up b.x a.x 1 w.1)) (toward_same a.y b.y s w.0 ∙ w.0 ∙ sym (toward_same b.y a.y 1 (sym w.0))))
+    h)
+    (ways a b axis)
+
+pub same_point-true : (p q : Point) → same_point p q ≡ true → p ≡ q
+same_point-true p q h =
+    let parts = and_parts (eqb p.x q.x) (eqb p.y q.y) h in
+    point_is p q (eqb-true p.x q.x parts.0) (eqb-true p.y q.y parts.1)
+
+pub same_point-from : (p q : Point) → p ≡ q → same_point p q ≡ true
+same_point-from p q e =
+    and_from (eqb p.x q.x) (eqb p.y q.y) (eq-eqb p.x q.x (ap (λ (r : Point). r.x) e)) (eq-eqb p.y q.y (ap (λ (r : Point). r.y) e))
+
+-- one step is the whole way where the first step is the end
+one_step : (a b : Point) → IsAxis a b → step_from a b 1 ≡ b → steps a b ≡ 1
+one_step a b axis e =
+    let ex = ap (λ (r : Point). r.x) e in
+    let ey = ap (λ (r : Point). r.y) e in
+    ⊎_elim
+    (λ h. ⊎_elim
+    (λ w. omega (arith, w.0, w.1, ey, toward_up a.y b.y 1 w.1))
+    (λ w. omega (arith, w.0, w.1, ey, toward_down a.y b.y 1 w.1))
+    h)
+    (λ h. ⊎_elim
+    (λ w. omega (arith, w.0, w.1, ex, toward_up a.x b.x 1 w.1))
+    (λ w. omega (arith, w.0, w.1, ex, toward_down a.x b.x 1 w.1))
+    h)
+    (ways a b axis)
+
+more_steps : (a b : Point) → IsAxis a b → same_point (step_from a b 1) b ≡ false → 1 ≤ steps a b - 1
+more_steps a b axis no_end =
+    ⊎_elim
+    (λ few. absurd (both_ways (same_point (step_from a b 1) b) no_end
+    (same_point-from (step_from a b 1) b (let one : steps a b ≡ 1 = let some = steps_some a b axis in omega arith in subst (λ (n : ℕ). step_from a b n ≡ b) one (all_steps a b axis)))))
+    (λ many. omega arith)
+    (cases_lt (steps a b) 2)
+
+-- ---- a path
+
+-- what holds of a path's segments holds of those behind the first
+axes_rest : (a : Point) (path : List Point) → IsOnAxes (a ∷ path) → IsOnAxes path
+axes_rest a path h k lt =
+    let e : suc k + 1 ≡ suc (k + 1) = omega arith in
+    subst (λ (n : ℕ). IsAxis (point_of path k) (point_of (a ∷ path) n)) e (h (suc k) (omega arith))
+
+pub shows_strips : (path : List Point) → IsOnAxes path → Shows (strips path) (inner path)
+shows_strips [] h = refl
+shows_strips (a ∷ []) h = refl
+shows_strips (a ∷ b ∷ []) h = last (h 0 (omega arith)) (cases_Bool (same_point (step_from a b 1) b))
+  where
+    last : IsAxis a b → (same_point (step_from a b 1) b ≡ true) ⊎ (same_point (step_from a b 1) b ≡ false) → Shows (strips (a ∷ b ∷ [])) (inner (a ∷ b ∷ []))
+    last axis (inl end) =
+        let one = one_step a b axis (same_point-true (step_from a b 1) b end) in
+        rw end (rw one refl)
+    last axis (inr more) =
+        rw more (
+          walk a b (steps a b - 1),
+          [],
+          sym (append-nil (walk a b (steps a b - 1))),
+          subst (λ (p : Point). Lists (span_of (step_from a b 1) p) (walk a b (steps a b - 1))) (step_back a b axis) (segment_lists a b (steps a b - 1) axis (more_steps a b axis more) (omega arith)),
+          refl,
+        )
+shows_strips (a ∷ b ∷ c ∷ rest) h =
+    let axis = h 0 (omega arith) in (
+      walk a b (steps a b),
+      inner (b ∷ c ∷ rest),
+      refl,
+      subst (λ (p : Point). Lists (span_of (step_from a b 1) p) (walk a b (steps a b))) (all_steps a b axis) (segment_lists a b (steps a b) axis (steps_some a b axis) (omega arith)),
+      shows_strips (b ∷ c ∷ rest) (axes_rest a (b ∷ c ∷ rest) h),
+    )
+
+pub shows_paths : (ps : List (List Point)) → AreOnAxes ps → Shows (flat_map strips ps) (flat_map inner ps)
+shows_paths [] h = refl
+shows_paths (path ∷ ps) h =
+    shows_append (strips path) (flat_map strips ps) (inner path) (flat_map inner ps) (shows_strips path (All-head IsOnAxes path ps h)) (shows_paths ps (All-tail IsOnAxes path ps h))
+
+-- a vertex is a rectangle of one point
+point_lists : (p : Point) → Lists (span_of p p) (p ∷ [])
+point_lists p = record {
+  once = λ i j d lt within. absurd (omega arith);
+  covered = λ q. (
+    λ h. let zeroth : h.0 ≡ 0 = omega (arith, h.1) in let one : p ≡ q = subst (λ (n : ℕ). get_or (p ∷ []) n q ≡ q) zeroth h.2 in subst (λ (r : Point). Covers (span_of p p) r.x r.y) one (omega arith, omega arith, omega arith, omega arith),
+    λ in_p. (0, omega arith, point_is p q (omega (arith, in_p.0, in_p.1)) (omega (arith, in_p.2, in_p.3))),
+  );
+}
+
+pub shows_points : (ps : List Point) → Shows (map (λ p. span_of p p) ps) ps
+shows_points [] = refl
+shows_points (p ∷ ps) = (p ∷ [], ps, refl, point_lists p, shows_points ps)
+
+-- ---- each is a rectangle
+
+span_filled : (a b : Point) → IsFilled (span_of a b)
+span_filled a b = (omega arith, omega arith)
+
+pub points_filled : (ps : List Point) → All IsFilled (map (λ p. span_of p p) ps)
+points_filled [] = All-nil IsFilled
+points_filled (p ∷ ps) = All-cons IsFilled (span_of p p) (map (λ q. span_of q q) ps) (span_filled p p) (points_filled ps)
+
+strips_filled : (path : List Point) → All IsFilled (strips path)
+strips_filled [] = All-nil IsFilled
+strips_filled (a ∷ []) = All-nil IsFilled
+strips_filled (a ∷ b ∷ []) = last (same_point (step_from a b 1) b)
+  where
+    last : (t : Bool) → All IsFilled (cond t [] (span_of (step_from a b 1) (step_from b a 1) ∷ []))
+    last true = All-nil IsFilled
+    last false = All-cons IsFilled (span_of (step_from a b 1) (step_from b a 1)) [] (span_filled (step_from a b 1) (step_from b a 1)) (All-nil IsFilled)
+strips_filled (a ∷ b ∷ c ∷ rest) =
+    All-cons IsFilled (span_of (step_from a b 1) b) (strips (b ∷ c ∷ rest)) (span_filled (step_from a b 1) b) (strips_filled (b ∷ c ∷ rest))
+
+pub paths_filled : (ps : List (List Point)) → All IsFilled (flat_map strips ps)
+paths_filled [] = All-nil IsFilled
+paths_filled (path ∷ ps) = All-append IsFilled (strips path) (flat_map strips ps) (strips_filled path) (paths_filled ps)
+
+-- ---- one segment more
+
+pub strips-more : (a b e : Point) (l : List Point) → strips (a ∷ b ∷ (l ++ e ∷ [])) ≡ span_of (step_from a b 1) b ∷ strips (b ∷ (l ++ e ∷ []))
+strips-more a b e [] = refl
+strips-more a b e (c ∷ l) = refl
+
+-- the strip of the next segment
+pub add_strip : (old new target : List Rectangle) (value : Rectangle) (from c e : Point) (l rest : List Point) → old ++ strips (from ∷ (l ++ e ∷ [])) ≡ target → l ≡ c ∷ rest → value ≡ span_of (step_from from c 1) c → new ≡ old ++ value ∷ [] → new ++ strips (c ∷ (rest ++ e ∷ [])) ≡ target
+add_strip old new target value from c e l rest done is_l is_value is_new =
+    let behind : List Rectangle = strips (c ∷ (rest ++ e ∷ [])) in
+    ap (λ (n : List Rectangle). n ++ behind) is_new
+    ∙ append_assoc old (value ∷ []) behind
+    ∙ ap (λ (v : Rectangle). old ++ v ∷ behind) is_value
+    ∙ ap (λ (s : List Rectangle). old ++ s) (sym (strips-more from c e rest))
+    ∙ ap (λ (m : List Point). old ++ strips (from ∷ (m ++ e ∷ []))) (sym is_l)
+    ∙ done
+
+-- a last segment of one step has none
+pub no_last_strip : (old target : List Rectangle) (from e : Point) (l : List Point) → old ++ strips (from ∷ (l ++ e ∷ [])) ≡ target → l ≡ [] → same_point (step_from from e 1) e ≡ true → old ≡ target
+no_last_strip old target from e l done is_l end =
+    let none : strips (from ∷ e ∷ []) ≡ [] = cond-true (same_point (step_from from e 1) e) [] (span_of (step_from from e 1) (step_from e from 1) ∷ []) end in
+    sym (append-nil old) ∙ ap (λ (s : List Rectangle). old ++ s) (sym none) ∙ ap (λ (m : List Point). old ++ strips (from ∷ (m ++ e ∷ []))) (sym is_l) ∙ done
+
+-- any other last segment has one without its end
+pub last_strip : (old new target : List Rectangle) (value : Rectangle) (from e : Point) (l : List Point) → old ++ strips (from ∷ (l ++ e ∷ [])) ≡ target → l ≡ [] → same_point (step_from from e 1) e ≡ false → value ≡ span_of (step_from from e 1) (step_from e from 1) → new ≡ old ++ value ∷ [] → new ≡ target
+last_strip old new target value from e l done is_l more is_value is_new =
+    let one : strips (from ∷ e ∷ []) ≡ span_of (step_from from e 1) (step_from e from 1) ∷ [] = cond-false (same_point (step_from from e 1) e) [] (span_of (step_from from e 1) (step_from e from 1) ∷ []) more in
+    is_new ∙ ap (λ (v : Rectangle). old ++ v ∷ []) is_value ∙ ap (λ (s : List Rectangle). old ++ s) (sym one) ∙ ap (λ (m : List Point). old ++ strips (from ∷ (m ++ e ∷ []))) (sym is_l) ∙ done
+
+-- the rectangles of one more path
+paths-more : (base : List Rectangle) (routes : List Route) (i : ℕ) (d : Route) → i < length routes → base ++ flat_map strips (map path_of (take (i + 1) routes)) ≡ (base ++ flat_map strips (map path_of (take i routes))) ++ strips (path_of (get_or routes i d))
+paths-more base routes i d lt =
+    let before : List Rectangle = flat_map strips (map path_of (take i routes)) in
+    ap (λ (ps : List (List Point)). base ++ flat_map strips ps) (map_more path_of routes i d lt)
+    ∙ ap (λ (s : List Rectangle). base ++ s) (flat_map-append strips (map path_of (take i routes)) (path_of (get_or routes i d) ∷ []) ∙ ap (λ (s : List Rectangle). before ++ s) (append-nil (strips (path_of (get_or routes i d)))))
+    ∙ sym (append_assoc base before (strips (path_of (get_or routes i d))))
+
+pub paths_step : (base old new : List Rectangle) (routes : List Route) (i : ℕ) (d : Route) → i < length routes → old ≡ base ++ flat_map strips (map path_of (take i routes)) → new ≡ old ++ strips (path_of (get_or routes i d)) → new ≡ base ++ flat_map strips (map path_of (take (i + 1) routes))
+paths_step base old new routes i d lt done is_new =
+    is_new ∙ ap (λ (rs : List Rectangle). rs ++ strips (path_of (get_or routes i d))) done ∙ sym (paths-more base routes i d lt)
+
+-- the rectangles of all vertices and all paths are apart exactly where no point is met twice
+pub apart_is_no_repeat : (vertices : List Point) (ps : List (List Point)) (rs : List Rectangle) → AreOnAxes ps → rs ≡ map (λ p. span_of p p) vertices ++ flat_map strips ps → AllPairs AreApart rs ↔ HasNoRepeat (vertices ++ flat_map inner ps)
+apart_is_no_repeat vertices ps rs axes is =
+    let shown = shows_append (map (λ p. span_of p p) vertices) (flat_map strips ps) vertices (flat_map inner ps) (shows_points vertices) (shows_paths ps axes) in
+    let all : Shows rs (vertices ++ flat_map inner ps) = subst (λ (l : List Rectangle). Shows l (vertices ++ flat_map inner ps)) (sym is) shown in
+    (no_repeat_from_apart rs (vertices ++ flat_map inner ps) all, apart_from_no_repeat rs (vertices ++ flat_map inner ps) all)

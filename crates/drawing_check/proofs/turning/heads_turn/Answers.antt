@@ -1,0 +1,52 @@
+use Rattle.std.proofs.Common.{◌≡◌, ℕ, ◌<◌, refl, sym, ap, ◌∙◌, below_more, arith}
+use Rattle.std.proofs.lemmas.Bool.{false≢true}
+use denote.Enum.Bare.{differs_true, differs_false}
+use Rattle.directions.specs.contracts.Direction.{the_type}
+use Rattle.directions.specs.Directions.{lefts}
+use Rattle.faces.specs.Map.{darts, mate, next}
+use Rattle.ortho_rep.specs.Shapes.{angle_at}
+use Rattle.drawing_check.specs.Draws.{leaving}
+use Rattle.drawing_check.specs.Routes.{direction_at}
+use Rattle.drawing_check.proofs.turning.heads_turn.Goals as goal
+
+pub loop-dart-preserved : goal.loop-dart-preserved
+loop-dart-preserved c =
+    let p = c.args.plane.now in
+    let dart = c.loop-dart.dart in
+    let directions = c.leaving_directions-directions.result in
+    let count : c.darts-dart-end.result ≡ darts p = rw c.graph-graph.ensures.value at c.darts-dart-end.ensures.count in
+    let inside : dart < darts p = omega (arith, count) in
+    let mate_is : c.reverse.result ≡ mate p dart = rw c.graph-graph.ensures.value at c.reverse.ensures.value in
+    let back : direction_at directions c.from.result ≡ leaving p c.args.points.now (mate p dart) =
+    ap (direction_at directions) (c.from.ensures ∙ mate_is) ∙ c.leaving_directions-directions.ensures.each (mate p dart) (c.graph-graph.ensures.ends.mate_inside dart inside) in
+    let onward : c.lefts.result ≡ lefts (angle_at c.args.shape.now dart) (leaving p c.args.points.now (next p dart)) =
+    c.lefts.ensures
+    ∙ ap (λ (a : ℕ). lefts a (direction_at directions c.from-in-loop-dart.result)) c.angle.ensures
+    ∙ ap (λ (n : ℕ). lefts (angle_at c.args.shape.now dart) (direction_at directions n)) (c.from-in-loop-dart.ensures ∙ c.next.ensures.value)
+    ∙ ap (lefts (angle_at c.args.shape.now dart)) (c.leaving_directions-directions.ensures.each (next p dart) (c.graph-graph.ensures.ends.next_one.inside dart inside)) in
+    let same = differs_false the_type tt (direction_at directions c.from.result) c.lefts.result (sym c.if-ne.ensures) in
+    below_more _ _ c.loop-dart.invariant (sym back ∙ same ∙ onward)
+
+pub returns-then-ne : goal.returns-then-ne
+returns-then-ne c =
+    let p = c.args.plane.now in
+    let dart = c.loop-dart.dart in
+    let directions = c.leaving_directions-directions.result in
+    let count : c.darts-dart-end.result ≡ darts p = rw c.graph-graph.ensures.value at c.darts-dart-end.ensures.count in
+    let inside : dart < darts p = omega (arith, count) in
+    let mate_is : c.reverse.result ≡ mate p dart = rw c.graph-graph.ensures.value at c.reverse.ensures.value in
+    let back : direction_at directions c.from.result ≡ leaving p c.args.points.now (mate p dart) =
+    ap (direction_at directions) (c.from.ensures ∙ mate_is) ∙ c.leaving_directions-directions.ensures.each (mate p dart) (c.graph-graph.ensures.ends.mate_inside dart inside) in
+    let onward : c.lefts.result ≡ lefts (angle_at c.args.shape.now dart) (leaving p c.args.points.now (next p dart)) =
+    c.lefts.ensures
+    ∙ ap (λ (a : ℕ). lefts a (direction_at directions c.from-in-loop-dart.result)) c.angle.ensures
+    ∙ ap (λ (n : ℕ). lefts (angle_at c.args.shape.now dart) (direction_at directions n)) (c.from-in-loop-dart.ensures ∙ c.next.ensures.value)
+    ∙ ap (lefts (angle_at c.args.shape.now dart)) (c.leaving_directions-directions.ensures.each (next p dart) (c.graph-graph.ensures.ends.next_one.inside dart inside)) in (
+      λ e. absurd (false≢true e),
+      λ h. absurd (differs_true the_type (direction_at directions c.from.result) c.lefts.result (sym c.if-ne.ensures) (back ∙ h dart inside ∙ sym onward)),
+    )
+
+pub returns : goal.returns
+returns c =
+    let count : c.darts-dart-end.result ≡ darts c.args.plane.now = rw c.graph-graph.ensures.value at c.darts-dart-end.ensures.count in
+    (λ _ d lt. c.loop-dart.invariant d (omega (arith, count)), λ _. refl)

@@ -1,0 +1,20 @@
+-- Which condition of a drawing is the first to fail.
+use Rattle.std.specs.Prelude.{⊤}
+use Rattle.faces.specs.Map.{Map}
+use Rattle.ortho_rep.specs.Shapes.{Figure}
+use Rattle.ortho_rep.specs.Points.{Plot}
+use Rattle.drawing_check.specs.declared.fault.CheckFault.{CheckFault}
+use Rattle.drawing_check.specs.declared.fault.CheckFault.TheVariants.{OutOfGrid, NotAxis, WrongTurn, Meet, Memory}
+use Rattle.drawing_check.specs.Paths.{paths}
+use Rattle.drawing_check.specs.Draws.{AreInGrid, AreOnAxes, TurnAsSaid, MeetNowhere}
+
+-- the condition that the fault names fails, and those before it hold; want of memory says nothing of the points
+abbrev pub IsFirstFault : Map → Figure → Plot → CheckFault → Type 0
+IsFirstFault p shape points OutOfGrid = ¬ AreInGrid points
+IsFirstFault p shape points NotAxis = AreInGrid points × ¬ AreOnAxes (paths p points)
+IsFirstFault p shape points WrongTurn =
+    AreInGrid points × AreOnAxes (paths p points) × ¬ TurnAsSaid p shape points
+IsFirstFault p shape points Meet =
+    AreInGrid points × AreOnAxes (paths p points) × TurnAsSaid p shape points
+    × ¬ MeetNowhere points (paths p points)
+IsFirstFault p shape points Memory = ⊤

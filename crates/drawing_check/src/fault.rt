@@ -1,0 +1,25 @@
+//! Why points draw no shape.
+
+use thiserror::Error;
+
+/// Which condition of a drawing is the first to fail, in this order.
+#[derive(Clone, Copy, Debug, PartialEq, Eq, Error)]
+pub enum CheckFault {
+    /// Some coordinate is above 65,535.
+    #[error("a point lies out of the grid")]
+    OutOfGrid,
+    /// Two consecutive points of a path are equal, or differ in both coordinates.
+    #[error("a segment is not parallel to an axis")]
+    NotAxis,
+    /// An edge has not as many corners as turns, or a corner or an angle at a vertex is not the
+    /// shape's.
+    #[error("a corner or an angle is not that of the shape")]
+    WrongTurn,
+    /// Two paths meet, or a path meets itself or a vertex that is not its end, or two vertices are at
+    /// one point.
+    #[error("a point is met twice")]
+    Meet,
+    /// Memory ran out, which says nothing of the points.
+    #[error("out of memory")]
+    Memory,
+}

@@ -1,0 +1,17 @@
+//! The check of a drawing: whether points draw a shape of a plane, and if not, which condition fails
+//! first.
+//!
+//! The points are compared as segments and never one by one, so the time does not grow with the size
+//! of the grid.
+#![tactic(auto)]
+
+mod axes;
+mod drawing;
+mod fault;
+mod grid;
+mod meeting;
+mod route;
+mod turning;
+
+pub use drawing::{Drawing, check};
+pub use fault::CheckFault;

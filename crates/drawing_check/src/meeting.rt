@@ -1,0 +1,81 @@
+//! Whether some point is met twice, by vertices and paths.
+
+ghost use Rattle.std.specs.Prelude.{◌≡◌, ◌↔◌, ◌++◌, map, IsTrue, IfOk, OnOk, All};
+ghost use Rattle.drawing_check.specs.Walks.{toward, step_from};
+ghost use Rattle.drawing_check.specs.Draws.{IsOnAxes, MeetNowhere};
+ghost use Rattle.drawing_check.specs.Routes.{path_of};
+ghost use Rattle.drawing_check.specs.Shown.{span_of, strips};
+
+use crate::route::Route;
+use ortho_rep::{Point, Points};
+use rectangles::{Rectangle, all_apart};
+use std::alloc::{AllocError, Global};
+
+/// Whether no point is met twice, by all vertices and between the ends of all paths.
+pub(crate) fn meet_nowhere(
+    alloc: Global,
+    points: &Points,
+    routes: &[Route<'_>],
+) -> Result<bool, AllocError>
+    requires { All (λ route. IsOnAxes (path_of route)) routes.now }
+    ensures { IfOk result (λ apart. IsTrue apart ↔ MeetNowhere points.now (map path_of routes.now)) }
+{
+    let mut rectangles = Vec::with_capacity(alloc, points.vertices().len() + routes.len())?;
+    for point in points.vertices() {
+        rectangles.push(spanned(*point, *point))?;
+    }
+    for route in routes {
+        add_route(&mut rectangles, route)?;
+    }
+    all_apart(alloc, rectangles)
+}
+
+/// Adds what a path covers between its ends: a strip for each segment, with the corner at its end.
+fn add_route(rectangles: &mut Vec<Rectangle>, route: &Route<'_>) -> Result<(), AllocError>
+    ensures { OnOk result (rectangles.new.items ≡ rectangles.old.items ++ strips (path_of route.now)) }
+{
+    let mut from = route.start;
+    for corner in route.corners {
+        rectangles.push(spanned(first_step(from, *corner), *corner))?;
+        from = *corner;
+    }
+    let first = first_step(from, route.end);
+    if first != route.end {
+        rectangles.push(spanned(first, first_step(route.end, from)))?;
+    }
+    Ok(())
+}
+
+/// The least rectangle that covers both points.
+fn spanned(a: Point, b: Point) -> Rectangle
+    ensures { result ≡ span_of a b }
+{
+    Rectangle {
+        left: a.x.min(b.x),
+        right: a.x.max(b.x),
+        bottom: a.y.min(b.y),
+        top: a.y.max(b.y),
+    }
+}
+
+/// The point that is one step from `from` on the way to `to`.
+fn first_step(from: Point, to: Point) -> Point
+    ensures { result ≡ step_from from to 1 }
+{
+    Point {
+        x: one_toward(from.x, to.x),
+        y: one_toward(from.y, to.y),
+    }
+}
+
+fn one_toward(from: u32, to: u32) -> u32
+    ensures { result ≡ toward from to 1 }
+{
+    if from < to {
+        return from + 1;
+    }
+    if to < from {
+        return from - 1;
+    }
+    from
+}
