@@ -15,7 +15,7 @@ use Rattle.ortho_rep.specs.Prices.{IsPriced, Prove}
 use Rattle.ortho_rep.proofs.TurnLemmas.{lefts-add-rights, lefts-mirrored}
 
 -- the sum of x, each number weighed by w
-abbrev weighed : ℕ → (ℕ → ℕ) → (ℕ → ℕ) → ℕ
+abbrev pub weighed : ℕ → (ℕ → ℕ) → (ℕ → ℕ) → ℕ
 weighed m w x = sum_below m (λ i. w i * x i)
 
 -- the part of x that is at place k
@@ -32,7 +32,7 @@ same_weighed m n at x y w inside same =
     omega arith
 
 -- in pairs: to weigh by the partner's weight is to weigh the partner
-paired : (m : ℕ) (pair w x : ℕ → ℕ) → ((i : ℕ) → i < m → pair i < m) → ((i : ℕ) → i < m → pair (pair i) ≡ i) → weighed m (λ i. w (pair i)) x ≡ weighed m w (λ i. x (pair i))
+pub paired : (m : ℕ) (pair w x : ℕ → ℕ) → ((i : ℕ) → i < m → pair i < m) → ((i : ℕ) → i < m → pair (pair i) ≡ i) → weighed m (λ i. w (pair i)) x ≡ weighed m w (λ i. x (pair i))
 paired m pair w x inside twice =
     let all : sum_below m (λ k. w k * part_at m pair x k) ≡ weighed m (λ i. w (pair i)) x = exchanged m m pair x w inside in
     let here : (k : ℕ) → k < m → part_at m pair x k ≡ x (pair k) = λ k b.
@@ -72,14 +72,14 @@ sum-four m f g h k =
     omega (arith, sum_below-add m (λ i. f i + g i + h i) k, sum_below-add m (λ i. f i + g i) h, sum_below-add m f g)
 
 -- the left turns and the right turns of each dart
-abbrev lefts_of : (ℕ → List Turn) → ℕ → ℕ
+abbrev pub lefts_of : (ℕ → List Turn) → ℕ → ℕ
 lefts_of s d = lefts (s d)
 
-abbrev rights_of : (ℕ → List Turn) → ℕ → ℕ
+abbrev pub rights_of : (ℕ → List Turn) → ℕ → ℕ
 rights_of s d = rights (s d)
 
 -- a dart's right turns are its reverse's left turns
-rights_are : (p : Map) (a : ℕ → ℕ) (s : ℕ → List Turn) → Rep p a s → (d : ℕ) → d < darts p → rights_of s d ≡ lefts_of s (mate p d)
+pub rights_are : (p : Map) (a : ℕ → ℕ) (s : ℕ → List Turn) → Rep p a s → (d : ℕ) → d < darts p → rights_of s d ≡ lefts_of s (mate p d)
 rights_are p a s rep d b = sym (ap lefts (rep.strings d b) ∙ lefts-mirrored (s d))
 
 -- each face's turning, as two sums of natural numbers: what its darts turn to the left, and to the right

@@ -6,3 +6,5 @@ pub mod EdgeNumbers
 pub mod Mirrors
 pub mod Priced
 pub mod Tallied
+pub mod FewTurns
+pub mod FromFlow

@@ -1,8 +1,9 @@
 -- A list cut at places, piece by piece.
-use Rattle.std.proofs.Common.{◌≡◌, ◌<◌, ℕ, zero, suc, ◌+◌, List, [], ◌∷◌, length, get_or, refl, ap, add-one, arith}
-use Rattle.std.specs.Prelude.{slice_range}
+use Rattle.std.proofs.Common.{◌≡◌, ◌<◌, ◌≤◌, ℕ, zero, suc, ◌+◌, List, [], ◌∷◌, length, get_or, refl, ap, add-one, arith}
+use Rattle.std.specs.Prelude.{slice_range, All, Vec, vec_len}
+use Rattle.std.specs.declared.alloc.Global.{Global}
 use Rattle.ortho_rep.specs.declared.turn.Turn.{Turn}
-use Rattle.ortho_rep.specs.Storage.{cut, cut_from}
+use Rattle.ortho_rep.specs.Storage.{cut, cut_from, lists_in}
 
 length-cut_from : (start : ℕ) (ends : List ℕ) (turns : List Turn) → length (cut_from start ends turns) ≡ length ends
 length-cut_from start [] turns = refl
@@ -22,3 +23,9 @@ get_or-cut_from (suc d) start (end ∷ ends) turns within = get_or-cut_from d en
 pub get_or-cut : (starts : List ℕ) (turns : List Turn) (d : ℕ) → d + 1 < length starts → get_or (cut starts turns) d [] ≡ slice_range turns (get_or starts d 0) (get_or starts (d + 1) 0)
 get_or-cut [] turns d within = absurd (omega arith)
 get_or-cut (start ∷ ends) turns d within = rw add-one (get_or-cut_from d start ends turns (omega arith))
+
+-- short vectors hold short lists
+pub lists_in-short : (vectors : List (Vec Turn Global)) (m : ℕ) → All (λ (v : Vec Turn Global). vec_len v ≤ m) vectors → All (λ (l : List Turn). length l ≤ m) (lists_in vectors)
+lists_in-short [] m short k d within = absurd (omega arith)
+lists_in-short (v ∷ vectors) m short zero d within = let fits : vec_len v ≤ m = short zero v (omega arith) in omega (arith, v.ok)
+lists_in-short (v ∷ vectors) m short (suc k) d within = lists_in-short vectors m (λ j e b. short (suc j) e (omega arith)) k d (omega arith)

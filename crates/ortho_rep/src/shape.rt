@@ -1,6 +1,6 @@
 //! Shapes: an angle and a string of turns for each dart.
 
-ghost use Rattle.std.specs.Prelude.{◌≡◌, ◌<◌, ◌≤◌, length, All, vec_len};
+ghost use Rattle.std.specs.Prelude.{◌≡◌, ◌<◌, ◌≤◌, ◌↔◌, IsTrue, length, All, vec_len};
 ghost use Rattle.ortho_rep.specs.Storage.{lists_in};
 ghost use Rattle.ortho_rep.specs.Shapes.{angle_at, turns_at};
 ghost use Rattle.ortho_rep.specs.Representation.{bends_of};
@@ -29,11 +29,19 @@ impl Model for Shape {
 }
 
 impl Shape {
+    /// Whether there are at most 1,020 strings of at most 1,000,000 turns, as `new` requires.
+    pub fn are_short(strings: &[Vec<Turn>]) -> bool
+        ensures { IsTrue result ↔ ((length strings.now ≤ 1020)
+            × All (λ string. vec_len string ≤ 1000000) strings.now) }
+    {
+        strings.len() <= 1020 && strings.iter().all(|string| string.len() <= 1_000_000)
+    }
+
     /// The shape with these angles and strings, each at the place of its dart's number. It takes no
     /// memory.
     pub fn new(angles: Vec<u8>, strings: Vec<Vec<Turn>>) -> Shape
         requires few { vec_len strings ≤ 1020 }
-        requires short { All (λ string. length string ≤ 1000000) (lists_in strings.items) }
+        requires short { All (λ string. vec_len string ≤ 1000000) strings.items }
         ensures { result ≡ record { angles = angles.items; strings = lists_in strings.items } }
     {
         Shape {

@@ -1,7 +1,7 @@
 //! The strings of all darts, in one of two forms.
 
 ghost use Rattle.std.specs.Prelude.{◌≡◌, ◌+◌, ◌<◌, ◌≤◌, [], length, slice_index_or, All, vec_len};
-ghost use Rattle.ortho_rep.specs.Storage.{lists_in, cut, IsCut};
+ghost use Rattle.ortho_rep.specs.Storage.{lists_in, cut, IsCut, IsShort};
 
 use crate::turn::Turn;
 use std::marker::Model;
@@ -38,11 +38,22 @@ impl Strings {
     /// These lists, as they are.
     pub(crate) fn from_lists(lists: Vec<Vec<Turn>>) -> Strings
         requires few { vec_len lists ≤ 1020 }
-        requires short { All (λ string. length string ≤ 1000000) (lists_in lists.items) }
+        requires short { All (λ string. vec_len string ≤ 1000000) lists.items }
         ensures { result ≡ lists_in lists.items }
     {
         Strings {
             store: Store::Lists(lists),
+        }
+    }
+
+    /// The pieces between places that follow one another in one list of turns.
+    pub(crate) fn joined(turns: Vec<Turn>, starts: Vec<u32>) -> Strings
+        requires places { IsCut starts.items turns.items }
+        requires short { IsShort (cut starts.items turns.items) }
+        ensures { result ≡ cut starts.items turns.items }
+    {
+        Strings {
+            store: Store::Joined(turns, starts),
         }
     }
 

@@ -1,0 +1,196 @@
+-- A flow in the network of a plane's faces is an orthogonal representation, and its potentials are prices.
+use Rattle.std.proofs.Common.{◌≡◌, ◌≤◌, ◌<◌, ℕ, zero, suc, ◌+◌, ◌*◌, ◌-◌, Bool, true, false, cond, eqb, List, [], ◌∷◌, ◌++◌, length, replicate, map, reverse, add-one, refl, sym, ap, ◌∙◌, subst, inl, inr, arith}
+use Rattle.std.specs.Prelude.{ℤ, pos, negsuc, ◌+ℤ◌, ◌-ℤ◌, ◌≤ℤ◌}
+use Rattle.std.proofs.lemmas.Bool.{cases_eq, eq-eqb, ne_eqb}
+use Rattle.std.proofs.lemmas.Int.{ints}
+use Rattle.std.proofs.lemmas.List.{map-append, reverse-append, replicate-append-replicate}
+use Rattle.sums.specs.Sums.{sum_below, total_below}
+use Rattle.sums.proofs.Sums.{sum_below-same, sum_below-add, sum_below-none, sum_below-split, sum_below-turned}
+use Rattle.faces.specs.Map.{Map, HasEnds, darts, vertices, head, mate, face_at, degree}
+use Rattle.min_cost_flow.specs.declared.arc.Arc.{Arc}
+use Rattle.min_cost_flow.specs.declared.arc.Cap.TheVariants.{AtMost, Any}
+use Rattle.min_cost_flow.specs.Net.{Net, node_count, arc_count, arc_at, supply_at}
+use Rattle.min_cost_flow.specs.Flow.{Flow, HasPotentials, IsWithin, HasRoom, leaves, enters, balance}
+use Rattle.ortho_rep.specs.declared.turn.Turn.{Turn}
+use Rattle.ortho_rep.specs.declared.turn.Turn.TheVariants.{Left, Right}
+use Rattle.ortho_rep.specs.Turns.{opposite, mirrored, lefts, rights}
+use Rattle.ortho_rep.specs.Representation.{Rep, angles_around, turning_around, whole_turn}
+use Rattle.ortho_rep.specs.Prices.{IsPriced, Prove}
+use Rattle.ortho_rep.proofs.TurnLemmas.{lefts-cons, rights-cons}
+use Rattle.ortho_rep.proofs.Duality.{part_at, gains, losses, turning-split}
+
+-- how many darts arrive at a vertex
+abbrev pub arrivals : Map → ℕ → ℕ
+arrivals p v = part_at (darts p) (head p) (λ d. 1) v
+
+-- the network of a plane's faces: nodes v - 1 for vertices and n + f for faces; of each dart a corner arc and a
+-- crossing arc
+pub record IsFaceNet (p : Map) (net : Net) : Type 0 where
+  pub nodes : node_count net ≡ vertices p + p.faces
+  pub arcs : arc_count net ≡ darts p + darts p
+  pub corner : (d : ℕ) → d < darts p → arc_at net d ≡ record { from = head p d - 1; to = vertices p + face_at p d; cap = AtMost 3; cost = 0 }
+  pub crossing : (d : ℕ) → d < darts p → arc_at net (darts p + d) ≡ record { from = vertices p + face_at p d; to = vertices p + face_at p (mate p d); cap = Any; cost = 1 }
+  pub at_vertex : (v : ℕ) → 1 ≤ v → v ≤ vertices p → supply_at net (v - 1) ≡ pos 4 -ℤ pos (arrivals p v)
+  pub at_face : (f : ℕ) → f < p.faces → supply_at net (vertices p + f) ≡ whole_turn p f -ℤ pos (degree p f)
+
+-- so many left turns and then so many right turns
+abbrev pub lefts_then_rights : ℕ → ℕ → List Turn
+lefts_then_rights l r = replicate l Left ++ replicate r Right
+
+pub lefts-of-run : (l r : ℕ) → lefts (lefts_then_rights l r) ≡ l
+lefts-of-run zero zero = refl
+lefts-of-run zero (suc r) = omega (arith, lefts-cons Right (lefts_then_rights zero r), lefts-of-run zero r)
+lefts-of-run (suc l) r = omega (arith, lefts-cons Left (lefts_then_rights l r), lefts-of-run l r)
+
+pub rights-of-run : (l r : ℕ) → rights (lefts_then_rights l r) ≡ r
+rights-of-run zero zero = refl
+rights-of-run zero (suc r) = omega (arith, rights-cons Right (lefts_then_rights zero r), rights-of-run zero r)
+rights-of-run (suc l) r = omega (arith, rights-cons Left (lefts_then_rights l r), rights-of-run l r)
+
+same-exchanged : (n : ℕ) (x : Turn) → map opposite (reverse (replicate n x)) ≡ replicate n (opposite x)
+same-exchanged zero x = refl
+same-exchanged (suc n) x =
+    ap (map opposite) (reverse-append (x ∷ []) (replicate n x))
+    ∙ (map-append opposite (reverse (replicate n x)) (x ∷ [])
+    ∙ (ap (λ (t : List Turn). t ++ opposite x ∷ []) (same-exchanged n x)
+    ∙ (replicate-append-replicate n 1 (opposite x) ∙ ap (λ (k : ℕ). replicate k (opposite x)) (add-one n))))
+
+pub mirrored-run : (l r : ℕ) → mirrored (lefts_then_rights l r) ≡ lefts_then_rights r l
+mirrored-run l r =
+    ap (map opposite) (reverse-append (replicate l Left) (replicate r Right))
+    ∙ (map-append opposite (reverse (replicate r Right)) (reverse (replicate l Left))
+    ∙ (ap (λ (t : List Turn). t ++ map opposite (reverse (replicate l Left))) (same-exchanged r Right)
+    ∙ ap (λ (t : List Turn). replicate r Left ++ t) (same-exchanged l Left)))
+
+-- the angles and the strings of a flow
+abbrev pub angles_of : (ℕ → ℕ) → ℕ → ℕ
+angles_of x d = x d + 1
+
+abbrev pub strings_of : Map → (ℕ → ℕ) → ℕ → List Turn
+strings_of p x d = lefts_then_rights (x (darts p + d)) (x (darts p + mate p d))
+
+-- the part at a place, where places are named in another way
+part-alike : (m : ℕ) (at to y : ℕ → ℕ) (j k : ℕ) → ((d : ℕ) → d < m → eqb (at d) j ≡ eqb (to d) k) → part_at m at y j ≡ part_at m to y k
+part-alike m at to y j k alike =
+    sum_below-same m (λ d. cond (eqb (at d) j) (y d) 0) (λ d. cond (eqb (to d) k) (y d) 0) (λ d b. ap (λ (c : Bool). cond c (y d) 0) (alike d b))
+
+part-none : (m : ℕ) (at y : ℕ → ℕ) (k : ℕ) → ((d : ℕ) → d < m → at d ≡ k → ⊥) → part_at m at y k ≡ 0
+part-none m at y k away =
+    sum_below-none m (λ d. cond (eqb (at d) k) (y d) 0) (λ d b. ap (λ (c : Bool). cond c (y d) 0) (ne_eqb (at d) k (away d b)))
+
+eqb-alike : (a b c d : ℕ) → (a ≡ b → c ≡ d) → (c ≡ d → a ≡ b) → eqb a b ≡ eqb c d
+eqb-alike a b c d to back =
+    elim (cases_eq a b) [
+      inl e ↦ eq-eqb a b e ∙ sym (eq-eqb c d (to e))
+    | inr ne ↦ ne_eqb a b ne ∙ sym (ne_eqb c d (λ e. ne (back e))) ]
+
+part-add : (m : ℕ) (at y z : ℕ → ℕ) (k : ℕ) → part_at m at (λ d. y d + z d) k ≡ part_at m at y k + part_at m at z k
+part-add m at y z k =
+    sum_below-same m (λ d. cond (eqb (at d) k) (y d + z d) 0) (λ d. cond (eqb (at d) k) (y d) 0 + cond (eqb (at d) k) (z d) 0) (λ d b. cond_add (eqb (at d) k) (y d) (z d))
+    ∙ sum_below-add m (λ d. cond (eqb (at d) k) (y d) 0) (λ d. cond (eqb (at d) k) (z d) 0)
+  where
+    cond_add : (c : Bool) (y z : ℕ) → cond c (y + z) 0 ≡ cond c y 0 + cond c z 0
+    cond_add true y z = refl
+    cond_add false y z = refl
+
+part-same : (m : ℕ) (at y z : ℕ → ℕ) (k : ℕ) → ((d : ℕ) → y d ≡ z d) → part_at m at y k ≡ part_at m at z k
+part-same m at y z k same =
+    sum_below-same m (λ d. cond (eqb (at d) k) (y d) 0) (λ d. cond (eqb (at d) k) (z d) 0) (λ d b. ap (λ (w : ℕ). cond (eqb (at d) k) w 0) (same d))
+
+-- what leaves a node, and what enters it, by corners and by crossings
+leaves-parts : (p : Map) (net : Net) (x : ℕ → ℕ) (k : ℕ) → IsFaceNet p net → leaves net x k ≡ part_at (darts p) (λ d. head p d - 1) x k + part_at (darts p) (λ d. vertices p + face_at p d) (λ d. x (darts p + d)) k
+leaves-parts p net x k is =
+    let n = darts p in
+    ap (λ (m : ℕ). sum_below m (λ i. cond (eqb (arc_at net i).from k) (x i) 0)) is.arcs
+    ∙ (sum_below-split n n (λ i. cond (eqb (arc_at net i).from k) (x i) 0)
+    ∙ ap2_add
+        (part-alike n (λ d. (arc_at net d).from) (λ d. head p d - 1) x k k (λ d b. ap (λ (arc : Arc). eqb arc.from k) (is.corner d b)))
+        (part-alike n (λ d. (arc_at net (n + d)).from) (λ d. vertices p + face_at p d) (λ d. x (n + d)) k k (λ d b. ap (λ (arc : Arc). eqb arc.from k) (is.crossing d b))))
+  where
+    ap2_add : {a b c d : ℕ} → a ≡ b → c ≡ d → a + c ≡ b + d
+    ap2_add e h = omega (arith, e, h)
+
+enters-parts : (p : Map) (net : Net) (x : ℕ → ℕ) (k : ℕ) → IsFaceNet p net → enters net x k ≡ part_at (darts p) (λ d. vertices p + face_at p d) x k + part_at (darts p) (λ d. vertices p + face_at p (mate p d)) (λ d. x (darts p + d)) k
+enters-parts p net x k is =
+    let n = darts p in
+    ap (λ (m : ℕ). sum_below m (λ i. cond (eqb (arc_at net i).to k) (x i) 0)) is.arcs
+    ∙ (sum_below-split n n (λ i. cond (eqb (arc_at net i).to k) (x i) 0)
+    ∙ ap2_add
+        (part-alike n (λ d. (arc_at net d).to) (λ d. vertices p + face_at p d) x k k (λ d b. ap (λ (arc : Arc). eqb arc.to k) (is.corner d b)))
+        (part-alike n (λ d. (arc_at net (n + d)).to) (λ d. vertices p + face_at p (mate p d)) (λ d. x (n + d)) k k (λ d b. ap (λ (arc : Arc). eqb arc.to k) (is.crossing d b))))
+  where
+    ap2_add : {a b c d : ℕ} → a ≡ b → c ≡ d → a + c ≡ b + d
+    ap2_add e h = omega (arith, e, h)
+
+-- at a vertex: its corners carry what the angles have beyond 1
+around_vertex : (p : Map) (net : Net) (x : ℕ → ℕ) (v : ℕ) → HasEnds p → IsFaceNet p net → Flow net x → 1 ≤ v → v ≤ vertices p → angles_around p (angles_of x) v ≡ 4
+around_vertex p net x v ends is flow from to =
+    let n = darts p in
+    let k = v - 1 in
+    let corners : part_at n (λ d. head p d - 1) x k ≡ part_at n (head p) x v =
+      part-alike n (λ d. head p d - 1) (head p) x k v (λ d b. eqb-alike (head p d - 1) k (head p d) v (λ e. omega (arith, ends.head_from d b)) (λ e. omega arith)) in
+    let out : part_at n (λ d. vertices p + face_at p d) (λ d. x (n + d)) k ≡ 0 = part-none n (λ d. vertices p + face_at p d) (λ d. x (n + d)) k (λ d b e. omega arith) in
+    let in_corner : part_at n (λ d. vertices p + face_at p d) x k ≡ 0 = part-none n (λ d. vertices p + face_at p d) x k (λ d b e. omega arith) in
+    let in_crossing : part_at n (λ d. vertices p + face_at p (mate p d)) (λ d. x (n + d)) k ≡ 0 = part-none n (λ d. vertices p + face_at p (mate p d)) (λ d. x (n + d)) k (λ d b e. omega arith) in
+    let meets : balance net x k ≡ pos 4 -ℤ pos (arrivals p v) = flow.meets k (omega (arith, is.nodes)) ∙ is.at_vertex v from to in
+    let angles : angles_around p (angles_of x) v ≡ part_at n (head p) x v + arrivals p v = part-add n (head p) x (λ d. 1) v in
+    omega (arith, ints, corners, out, in_corner, in_crossing, meets, angles, leaves-parts p net x k is, enters-parts p net x k is)
+
+-- at a face: its turning is what its corners and crossings carry
+around_face : (p : Map) (net : Net) (x : ℕ → ℕ) (f : ℕ) → HasEnds p → IsFaceNet p net → Flow net x → f < p.faces → turning_around p (angles_of x) (strings_of p x) f ≡ whole_turn p f
+around_face p net x f ends is flow below =
+    let n = darts p in
+    let k = vertices p + f in
+    let face = face_at p in
+    let left : ℕ → ℕ = λ d. x (n + d) in
+    let right : ℕ → ℕ = λ d. x (n + mate p d) in
+    let shifted : (y at : ℕ → ℕ) → part_at n (λ d. vertices p + at d) y k ≡ part_at n at y f =
+      λ y at. part-alike n (λ d. vertices p + at d) at y k f (λ d b. eqb-alike (vertices p + at d) k (at d) f (λ e. omega arith) (λ e. omega arith)) in
+    let out_corner : part_at n (λ d. head p d - 1) x k ≡ 0 = part-none n (λ d. head p d - 1) x k (λ d b e. omega (arith, ends.head_from d b, ends.head_to d b)) in
+    let back : part_at n (λ d. face (mate p d)) left f ≡ part_at n face right f =
+      sum_below-same n (λ d. cond (eqb (face (mate p d)) f) (left d) 0) (λ d. cond (eqb (face (mate p d)) f) (right (mate p d)) 0)
+        (λ d b. ap (λ (e : ℕ). cond (eqb (face (mate p d)) f) (x (n + e)) 0) (sym (ends.mate_back d b)))
+      ∙ sum_below-turned n (mate p) (λ d. cond (eqb (face d) f) (right d) 0) ends.mate_inside ends.mate_back in
+    let meets : balance net x k ≡ whole_turn p f -ℤ pos (degree p f) = flow.meets k (omega (arith, is.nodes)) ∙ is.at_face f below in
+    let gain : gains p (angles_of x) (strings_of p x) f ≡ part_at n face (λ d. 1) f + part_at n face (λ d. 1) f + part_at n face left f =
+      omega (arith,
+        part-same n face (λ d. 2 + lefts (strings_of p x d)) (λ d. 1 + 1 + left d) f (λ d. omega (arith, lefts-of-run (left d) (right d))),
+        part-add n face (λ d. 1) (λ d. 1) f, part-add n face (λ d. 1 + 1) left f) in
+    let loss : losses p (angles_of x) (strings_of p x) f ≡ part_at n face x f + part_at n face (λ d. 1) f + part_at n face right f =
+      omega (arith,
+        part-same n face (λ d. angles_of x d + rights (strings_of p x d)) (λ d. x d + 1 + right d) f (λ d. omega (arith, rights-of-run (left d) (right d))),
+        part-add n face x (λ d. 1) f, part-add n face (λ d. x d + 1) right f) in
+    turning-split p (angles_of x) (strings_of p x) f
+    ∙ omega (arith, ints, shifted left face, shifted x face, shifted left (λ d. face (mate p d)), out_corner, back, meets, gain, loss,
+        leaves-parts p net x k is, enters-parts p net x k is)
+
+-- a flow is a representation
+pub rep_of_flow : (p : Map) (net : Net) (x : ℕ → ℕ) → HasEnds p → IsFaceNet p net → Flow net x → Rep p (angles_of x) (strings_of p x)
+rep_of_flow p net x ends is flow = record {
+    angles = λ d b. (omega arith, angle_within d b);
+    strings = λ d b. ap (λ (e : ℕ). lefts_then_rights (x (darts p + mate p d)) (x (darts p + e))) (ends.mate_back d b) ∙ sym (mirrored-run (x (darts p + d)) (x (darts p + mate p d)));
+    around = λ v from to. around_vertex p net x v ends is flow from to;
+    faces = λ f b. around_face p net x f ends is flow b }
+  where
+    angle_within : (d : ℕ) → d < darts p → x d + 1 ≤ 4
+    angle_within d b =
+      let within : x d ≤ 3 = subst (λ (arc : Arc). IsWithin arc.cap (x d)) (is.corner d b) (flow.within d (omega (arith, is.arcs))) in
+      omega arith
+
+-- the potentials fit an arc that carries an amount
+abbrev fits : Arc → (ℕ → ℤ) → ℕ → Type 0
+fits arc q amount =
+    (HasRoom arc.cap amount → pos 0 ≤ℤ (pos arc.cost +ℤ q arc.from -ℤ q arc.to))
+    × (0 < amount → pos 0 ≤ℤ ((pos 0 -ℤ pos arc.cost) +ℤ q arc.to -ℤ q arc.from))
+
+-- potentials are prices that prove it
+pub prove_of_potentials : (p : Map) (net : Net) (x : ℕ → ℕ) (q : ℕ → ℤ) → HasEnds p → IsFaceNet p net → HasPotentials net x q → Prove p (angles_of x) (strings_of p x) (λ v. q (v - 1)) (λ f. q (vertices p + f))
+prove_of_potentials p net x q ends is fit = λ d b.
+    let at : (i : ℕ) → i < arc_count net → fits (arc_at net i) q (x i) = λ i c. (λ h. fit.residual i false c h, λ h. fit.residual i true c h) in
+    let corner = subst (λ (arc : Arc). fits arc q (x d)) (is.corner d b) (at d (omega (arith, is.arcs))) in
+    let crossing = subst (λ (arc : Arc). fits arc q (x (darts p + d))) (is.crossing d b) (at (darts p + d) (omega (arith, is.arcs))) in
+    record {
+      wider = λ h. omega (arith, ints, corner.0 (omega arith));
+      narrower = λ h. omega (arith, ints, corner.1 (omega arith));
+      crossed = omega (arith, ints, crossing.0 tt);
+      tight = λ h. omega (arith, ints, crossing.0 tt, crossing.1 (omega (arith, lefts-of-run (x (darts p + d)) (x (darts p + mate p d))))) }

@@ -1,0 +1,15 @@
+use Rattle.std.proofs.Common.{length, arith}
+use Rattle.std.proofs.lemmas.List.{length-map}
+use Rattle.ortho_rep.specs.declared.turn.Turn.{Turn}
+use Rattle.std.specs.Prelude.{List, Vec}
+use Rattle.std.specs.declared.alloc.Global.{Global}
+use Rattle.ortho_rep.proofs.Pieces.{lists_in-short}
+use Rattle.ortho_rep.proofs.strings.Strings.from_lists.Goals as goal
+
+abbrev items_of : Vec Turn Global → List Turn
+items_of v = v.items
+
+pub invariant_of-result : goal.invariant_of-result
+invariant_of-result c = record {
+    few = omega (arith, c.requires.few, length-map c.args.lists.items items_of);
+    short = lists_in-short c.args.lists.items 1000000 c.requires.short }
