@@ -28,15 +28,19 @@ fn joined(alloc: Global, parts: &[&[u8]]) -> Result<Vec<u8>, AllocError> {
     Ok(bytes)
 }
 
-/// Reads these parts in pieces of several sizes, and looks at the text of what was found.
-fn check<R: AllocGlobal + Threads + Wait + Sync + Abort>(
+/// Reads these parts in pieces of several sizes, over a link of this capacity, and looks at the text
+/// of what was found.
+fn check_over<R: AllocGlobal + Threads + Wait + Sync + Abort>(
     rt: &R,
+    capacity: u32,
     parts: &[&[u8]],
     report: &str,
-) -> Result<(), Fail> {
+) -> Result<(), Fail>
+    requires capacity { (1 ≤ capacity) × (capacity ≤ 64) }
+{
     for most in [1, 2, 7, 65_536] {
         let source = MemTap::new(joined(rt.alloc(), parts)?, most);
-        let found = run_frames(rt, rt.alloc(), source, 1).map_err(|_| AllocError)?;
+        let found = run_frames(rt, rt.alloc(), source, capacity).map_err(|_| AllocError)?;
         let mut sink = IoSink::new(Vec::new(rt.alloc()));
         assert_eq!(rt; write_frames(&found, &mut sink), Ok(()));
         assert_eq!(rt;
@@ -46,6 +50,17 @@ fn check<R: AllocGlobal + Threads + Wait + Sync + Abort>(
         );
     }
     Ok(())
+}
+
+/// The same over links of several capacities.
+fn check<R: AllocGlobal + Threads + Wait + Sync + Abort>(
+    rt: &R,
+    parts: &[&[u8]],
+    report: &str,
+) -> Result<(), Fail> {
+    check_over(rt, 1, parts, report)?;
+    check_over(rt, 2, parts, report)?;
+    check_over(rt, 64, parts, report)
 }
 
 #[test]
