@@ -31,16 +31,16 @@ pub fn scan_lists(
 {
     for i in from..text.len() {
         if text[i] == 0 {
-            if left == 1 {
-                return Ok(Scan::Whole(i + 1));
-            }
             left -= 1;
             entries = 0;
         } else {
-            if usize::from(entries) == MAX_LIST {
-                return Err(FeedFault::Oversize);
-            }
             entries += 1;
+        }
+        if left == 0 {
+            return Ok(Scan::Whole(i + 1));
+        }
+        if usize::from(entries) > MAX_LIST {
+            return Err(FeedFault::Oversize);
         }
     }
     Ok(Scan::Open { left, entries })
