@@ -8,6 +8,9 @@ pub record Net : Type 0 where
   pub supplies : List ℤ
   pub arcs : List Arc
 
+abbrev pub net_of : List ℤ → List Arc → Net
+net_of supplies arcs = record { supplies = supplies; arcs = arcs }
+
 abbrev pub node_count : Net → ℕ
 node_count net = length net.supplies
 

@@ -1,9 +1,9 @@
 -- Trees of residual arcs that lead down to the nodes where units are wanting.
-use Rattle.std.specs.Prelude.{ℕ, ◌+◌, ◌*◌, ◌<◌, ◌≤◌, ◌==◌, ◌≡◌, ◌≢◌, ℤ, pos, ◌+ℤ◌, ◌-ℤ◌, ◌≤ℤ◌, ◌<ℤ◌, Bool, if◌then◌else◌, List, Option, Some, None, slice_index_or}
+use Rattle.std.specs.Prelude.{ℕ, ◌+◌, ◌*◌, ◌<◌, ◌≤◌, ◌==◌, ◌≡◌, ◌≢◌, ℤ, pos, ◌+ℤ◌, ◌-ℤ◌, ◌≤ℤ◌, ◌<ℤ◌, ◌⊎◌, Bool, if◌then◌else◌, List, Option, Some, None, slice_index_or}
 use Rattle.sums.specs.Sums.{sum_below}
 use Rattle.min_cost_flow.specs.declared.residual.Step.{Step}
 use Rattle.min_cost_flow.specs.declared.tree.Place.{Place}
-use Rattle.min_cost_flow.specs.Net.{Net, node_count, arc_count}
+use Rattle.min_cost_flow.specs.Net.{Net, node_count, arc_count, arc_at}
 use Rattle.min_cost_flow.specs.Flow.{IsResidual, HasPotentials, start_of, end_of, reduced_cost}
 
 -- stands for nodes that are in no tree
@@ -102,3 +102,29 @@ pub record AddsNode (net : Net) (before after : List Place) (u : ℕ) : Type 0 w
   pub placed : 0 < rank_at after u
   pub fewer : outside_count net after + 1 ≡ outside_count net before
   pub others : (v : ℕ) → v ≢ u → rank_at after v ≡ rank_at before v
+
+-- ---- what goes down a tree
+
+-- what is wanting at a node may become less, and nothing is left over there
+abbrev pub MeetsWants : Net → (ℕ → ℤ) → (ℕ → ℤ) → Type 0
+MeetsWants net e after = (v : ℕ) → v < node_count net → e v ≤ℤ pos 0 → (e v ≤ℤ after v) × (after v ≤ℤ pos 0)
+
+-- what is left over at a node stays
+abbrev pub KeepsLeftOver : Net → (ℕ → ℤ) → (ℕ → ℤ) → Type 0
+KeepsLeftOver net e after = (v : ℕ) → v < node_count net → pos 0 <ℤ e v → after v ≡ e v
+
+-- the arcs with an end of higher rank than node v carry what they did
+abbrev pub KeepsAbove : Net → List Place → ℕ → (ℕ → ℕ) → (ℕ → ℕ) → Type 0
+KeepsAbove net tree v x after = (i : ℕ) → i < arc_count net → (rank_at tree v < rank_at tree (arc_at net i).from) ⊎ (rank_at tree v < rank_at tree (arc_at net i).to) → after i ≡ x i
+
+-- no arc carries more than k units more
+abbrev pub GrowsBy : Net → ℕ → (ℕ → ℕ) → (ℕ → ℕ) → Type 0
+GrowsBy net k x after = (i : ℕ) → i < arc_count net → after i ≤ x i + k
+
+-- potentials under which the trees cost nothing still fit
+abbrev pub KeepsPotentials : Net → List Place → (ℕ → ℕ) → (ℕ → ℕ) → Type 0
+KeepsPotentials net tree x after = (p : ℕ → ℤ) → IsTight net p tree → HasPotentials net x p → HasPotentials net after p
+
+-- no arc carries so much that k units more would be too many for its counter
+abbrev pub HasSpace : Net → (ℕ → ℕ) → ℕ → Type 0
+HasSpace net x k = (i : ℕ) → i < arc_count net → x i + k ≤ 2097152

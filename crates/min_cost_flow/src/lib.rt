@@ -6,6 +6,7 @@
 #![tactic(auto)]
 
 mod arc;
+mod fault;
 pub mod laws;
 mod network;
 mod residual;
@@ -15,7 +16,8 @@ mod solver;
 mod tree;
 
 pub use arc::{Arc, Cap};
-pub use network::{NetFault, Network};
+pub use fault::NetFault;
+pub use network::Network;
 pub use solved::Solved;
 pub use solver::{SolveFault, solve};
 

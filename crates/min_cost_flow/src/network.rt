@@ -1,31 +1,15 @@
-ghost use Rattle.std.specs.Prelude.{◌≡◌, ◌<◌, ◌≤◌, ◌⊎◌, ℕ, pos, negsuc, ◌≤ℤ◌, ◌<ℤ◌, true, false, length, slice_index_or, IfOk, IfErr};
-ghost use Rattle.min_cost_flow.specs.Net.{Net, node_count, arc_count, arc_at, supply_at, no_arc, IsNetwork};
+ghost use Rattle.std.specs.Prelude.{◌≡◌, ◌<◌, ◌≤◌, IfOk, IfErr};
+ghost use Rattle.min_cost_flow.specs.Net.{Net, net_of, node_count, arc_count, arc_at, supply_at, IsNetwork};
 
 use crate::arc::Arc;
+use crate::fault::{NetFault, has_bad_cost, has_bad_end, has_bad_supply};
 use std::marker::Model;
-use thiserror::Error;
 
 /// How many nodes a network has at most.
 pub const MAX_NODES: usize = 1024;
 
 /// How many arcs a network has at most.
 pub const MAX_ARCS: usize = 4096;
-
-/// How many units a node supplies or wants at most.
-pub const MAX_SUPPLY: i32 = 2048;
-
-/// Why there is no network of the given supplies and arcs.
-#[derive(Clone, Copy, Debug, PartialEq, Eq, Error)]
-pub enum NetFault {
-    #[error("more than 1024 nodes or 4096 arcs")]
-    TooLarge,
-    #[error("an arc has an end that is no node")]
-    BadEnd,
-    #[error("a supply is above 2048 in absolute value")]
-    BadSupply,
-    #[error("an arc costs neither 0 nor 1")]
-    BadCost,
-}
 
 /// Nodes with supplies, joined by arcs. Nodes and arcs are numbered from 0; a negative supply is a
 /// demand.
@@ -38,9 +22,9 @@ pub struct Network {
 impl Model for Network {
     ghost Value = { Net };
 
-    ghost view = { λ net. record { supplies = net.supplies.items; arcs = net.arcs.items } };
+    ghost view = { λ net. net_of net.supplies.items net.arcs.items };
 
-    ghost invariant = { λ net. IsNetwork (record { supplies = net.supplies.items; arcs = net.arcs.items }) };
+    ghost invariant = { λ net. IsNetwork (net_of net.supplies.items net.arcs.items) };
 }
 
 impl Network {
@@ -49,13 +33,13 @@ impl Network {
     /// The network with one node for each supply, or the first fault in the order of [`NetFault`].
     /// A refusal drops both lists. No memory is taken, and time is linear.
     pub fn new(supplies: Vec<i32>, arcs: Vec<Arc>) -> Result<Network, NetFault>
-        ensures ok { IfOk result (λ net. (net ≡ record { supplies = supplies.items; arcs = arcs.items }) × IsNetwork net) }
-        ensures err { IfErr result (λ fault. IsFirstFault (record { supplies = supplies.items; arcs = arcs.items }) fault) }
+        ensures ok { IfOk result (λ net. (net ≡ net_of supplies.items arcs.items) × IsNetwork net) }
+        ensures err { IfErr result (λ fault. IsFirstFault (net_of supplies.items arcs.items) fault) }
     {
         if supplies.len() > MAX_NODES || arcs.len() > MAX_ARCS {
             return Err(NetFault::TooLarge);
         }
-        if has_bad_end(&arcs, supplies.len()) {
+        if has_bad_end(&supplies, &arcs) {
             return Err(NetFault::BadEnd);
         }
         if has_bad_supply(&supplies) {
@@ -108,30 +92,4 @@ impl Network {
     {
         self.supplies[node as usize]
     }
-}
-
-/// Whether an end of an arc is none of so many nodes.
-fn has_bad_end(arcs: &[Arc], nodes: usize) -> bool
-    ensures some { result ≡ true → (i : ℕ) × (i < length arcs.now) × ((nodes ≤ (slice_index_or arcs.now i no_arc).from) ⊎ (nodes ≤ (slice_index_or arcs.now i no_arc).to)) }
-    ensures none { result ≡ false → (i : ℕ) → i < length arcs.now → ((slice_index_or arcs.now i no_arc).from < nodes) × ((slice_index_or arcs.now i no_arc).to < nodes) }
-{
-    arcs.iter().any(|arc| arc.from as usize >= nodes || arc.to as usize >= nodes)
-}
-
-/// Whether a supply is too large in absolute value.
-fn has_bad_supply(supplies: &[i32]) -> bool
-    ensures some { result ≡ true → (v : ℕ) × (v < length supplies.now) × ((slice_index_or supplies.now v (pos 0) <ℤ negsuc 2047) ⊎ (pos 2048 <ℤ slice_index_or supplies.now v (pos 0))) }
-    ensures none { result ≡ false → (v : ℕ) → v < length supplies.now → (negsuc 2047 ≤ℤ slice_index_or supplies.now v (pos 0)) × (slice_index_or supplies.now v (pos 0) ≤ℤ pos 2048) }
-{
-    supplies
-        .iter()
-        .any(|units| *units < -MAX_SUPPLY || *units > MAX_SUPPLY)
-}
-
-/// Whether an arc costs neither 0 nor 1.
-fn has_bad_cost(arcs: &[Arc]) -> bool
-    ensures some { result ≡ true → (i : ℕ) × (i < length arcs.now) × (1 < (slice_index_or arcs.now i no_arc).cost) }
-    ensures none { result ≡ false → (i : ℕ) → i < length arcs.now → (slice_index_or arcs.now i no_arc).cost ≤ 1 }
-{
-    arcs.iter().any(|arc| arc.cost > 1)
 }

@@ -5,7 +5,7 @@ ghost use Rattle.min_cost_flow.specs.Net.{arc_count, node_count, IsNetwork};
 ghost use Rattle.min_cost_flow.specs.Flow.{amounts, at_nodes, Flow, HasPotentials, HasNoFlow, Solves};
 ghost use Rattle.min_cost_flow.specs.Excess.{KeepsCaps, Leaves};
 ghost use Rattle.min_cost_flow.specs.Round.{left_over, IsRound};
-ghost use Rattle.min_cost_flow.specs.Tree.{rank_at, IsForest, IsTight, IsOpen, IsWanting};
+ghost use Rattle.min_cost_flow.specs.Tree.{rank_at, IsForest, IsTight, IsOpen, IsWanting, HasSpace};
 
 use crate::network::Network;
 use crate::search::search;
@@ -100,8 +100,10 @@ fn send(net: &Network, tree: &[Place], flow: &mut [u32], excess: &mut [i32], nod
     requires caps { KeepsCaps net.now (amounts flow.old) }
     requires leaves { Leaves net.now (amounts flow.old) (at_nodes excess.old) }
     requires fair { (v : ℕ) → v < node_count net.now → at_nodes excess.old v ≤ℤ pos 2048 }
-    requires room { (i : ℕ) → i < arc_count net.now → amounts flow.old i + left_over net.now (at_nodes excess.old) ≤ 2097152 }
-    ensures round { (p : ℕ → ℤ) → IsTight net.now p tree.now → IsRound net.now (amounts flow.old) p (at_nodes excess.old) → IsRound net.now (amounts flow.new) p (at_nodes excess.new) }
+    requires room { HasSpace net.now (amounts flow.old) (left_over net.now (at_nodes excess.old)) }
+    ensures round { (p : ℕ → ℤ) → IsTight net.now p tree.now →
+        IsRound net.now (amounts flow.old) p (at_nodes excess.old) →
+        IsRound net.now (amounts flow.new) p (at_nodes excess.new) }
     ensures less { left_over net.now (at_nodes excess.new) < left_over net.now (at_nodes excess.old) }
 {
     let most = units_at(excess, node);

@@ -1,10 +1,10 @@
 //! Trees of residual arcs that lead down to the nodes where units are wanting, and how units go
 //! down them.
-ghost use Rattle.std.specs.Prelude.{◌≡◌, ◌≢◌, ◌<◌, ◌≤◌, ◌+◌, ◌⊎◌, ℕ, ℤ, List, length, pos, ◌≤ℤ◌, ◌<ℤ◌, ◌+ℤ◌};
-ghost use Rattle.min_cost_flow.specs.Net.{arc_count, node_count, arc_at};
-ghost use Rattle.min_cost_flow.specs.Flow.{amounts, at_nodes, HasPotentials};
+ghost use Rattle.std.specs.Prelude.{◌≡◌, ◌≢◌, ◌<◌, ◌≤◌, ◌+◌, ℕ, length, pos, ◌≤ℤ◌, ◌<ℤ◌, ◌+ℤ◌};
+ghost use Rattle.min_cost_flow.specs.Net.{arc_count, node_count};
+ghost use Rattle.min_cost_flow.specs.Flow.{amounts, at_nodes};
 ghost use Rattle.min_cost_flow.specs.Excess.{KeepsCaps, Leaves, Carries};
-ghost use Rattle.min_cost_flow.specs.Tree.{rank_at, IsForest, IsTight, IsOpen, IsRooted, IsWanting};
+ghost use Rattle.min_cost_flow.specs.Tree.{rank_at, IsForest, IsOpen, IsRooted, IsWanting, HasSpace, MeetsWants, KeepsLeftOver, KeepsAbove, GrowsBy, KeepsPotentials};
 
 use crate::network::Network;
 use crate::residual::Step;
@@ -37,18 +37,19 @@ pub(crate) fn route(
     requires caps { KeepsCaps net.now (amounts flow.old) }
     requires leaves { Leaves net.now (amounts flow.old) (at_nodes excess.old) }
     requires few { most ≤ 2097152 }
-    requires fits { (i : ℕ) → i < arc_count net.now → amounts flow.old i + most ≤ 2097152 }
+    requires fits { HasSpace net.now (amounts flow.old) most }
 
     ensures most { result ≤ most }
     ensures caps { KeepsCaps net.now (amounts flow.new) }
     ensures carries { Carries net.now (amounts flow.new) (at_nodes excess.new) node result }
     ensures rooted { IsRooted net.now (at_nodes excess.new) tree.now }
-    ensures wanting { (v : ℕ) → v < node_count net.now → at_nodes excess.old v ≤ℤ pos 0 → (at_nodes excess.old v ≤ℤ at_nodes excess.new v) × (at_nodes excess.new v ≤ℤ pos 0) }
-    ensures left_over { (v : ℕ) → v < node_count net.now → pos 0 <ℤ at_nodes excess.old v → at_nodes excess.new v ≡ at_nodes excess.old v }
-    ensures above { (i : ℕ) → i < arc_count net.now → (rank_at tree.now node < rank_at tree.now (arc_at net.now i).from) ⊎ (rank_at tree.now node < rank_at tree.now (arc_at net.now i).to) → amounts flow.new i ≡ amounts flow.old i }
-    ensures grown { (i : ℕ) → i < arc_count net.now → amounts flow.new i ≤ amounts flow.old i + result }
-    ensures priced { (p : ℕ → ℤ) → IsTight net.now p tree.now → HasPotentials net.now (amounts flow.old) p → HasPotentials net.now (amounts flow.new) p }
-    ensures progress { 0 < most → IsOpen net.now (amounts flow.old) tree.now → IsWanting net.now (at_nodes excess.old) tree.now → 0 < result }
+    ensures wanting { MeetsWants net.now (at_nodes excess.old) (at_nodes excess.new) }
+    ensures left_over { KeepsLeftOver net.now (at_nodes excess.old) (at_nodes excess.new) }
+    ensures above { KeepsAbove net.now tree.now node (amounts flow.old) (amounts flow.new) }
+    ensures grown { GrowsBy net.now result (amounts flow.old) (amounts flow.new) }
+    ensures priced { KeepsPotentials net.now tree.now (amounts flow.old) (amounts flow.new) }
+    ensures progress { 0 < most → IsOpen net.now (amounts flow.old) tree.now →
+        IsWanting net.now (at_nodes excess.old) tree.now → 0 < result }
 {
     match tree[node as usize].step {
         None => take(excess, node, most),
