@@ -145,3 +145,29 @@ fn cuts_agree_with_the_plain_splitter(rt: HostRuntime) -> Result<(), Fail> {
     agrees(&rt, alloc, stream(alloc, long.as_slice())?.as_slice())?;
     agrees(&rt, alloc, stream(alloc, &long[..254])?.as_slice())
 }
+
+/// A refused growth is answered by its name, and leaves a beginning of the records.
+#[test]
+fn names_a_want_of_memory(rt: HostRuntime) {
+    let alloc = rt.alloc();
+    let Ok(mut framer) = Framer::new(alloc) else {
+        return;
+    };
+    let mut out = Vec::new(alloc);
+    assert_eq!(rt; framer.feed(alloc, &HEADER, &mut out), Ok(()));
+    match framer.feed(alloc, &[1, 0, 2, 0, 0], &mut out) {
+        Ok(()) => {
+            assert_eq!(rt; out.len(), 2);
+            assert_eq!(rt; framer.finish(), Ending::Complete);
+        }
+        Err(fault) => {
+            assert_eq!(rt; fault, FeedFault::Memory);
+            assert!(rt; out.len() < 2);
+            assert_eq!(rt;
+                framer.feed(alloc, &[1, 0], &mut out),
+                Err(FeedFault::Memory)
+            );
+            assert_eq!(rt; framer.finish(), Ending::Memory);
+        }
+    }
+}
