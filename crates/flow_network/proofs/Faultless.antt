@@ -1,0 +1,87 @@
+-- The network of a plane is one: it has no fault.
+use Rattle.std.proofs.Common.{◌≡◌, ◌⊎◌, ℕ, ◌+◌, ◌-◌, ◌<◌, ◌≤◌, ◌==◌, if◌then◌else◌, ◌∙◌, Bool, true, false, List, length, arith, subst, sym, ap, refl, inl, inr}
+use Rattle.std.specs.Prelude.{ℤ, pos, negsuc, ◌-ℤ◌, ◌<ℤ◌}
+use Rattle.std.proofs.lemmas.Bool.{cases_eq, cases_lt}
+use Rattle.std.proofs.lemmas.Int.{ints}
+use Rattle.faces.specs.Map.{Map, IsPlane, HasEnds, darts, vertices, head, mate, face_at, degree}
+use Rattle.faces.proofs.Ends.{plane_ends}
+use Rattle.faces.proofs.Degrees.{degree_few}
+use Rattle.min_cost_flow.specs.declared.arc.Arc.{Arc}
+use Rattle.min_cost_flow.specs.Net.{Net, node_count, arc_count, arc_at, supply_at}
+use Rattle.min_cost_flow.specs.Fault.{IsFirstFault, HasFault}
+use Rattle.min_cost_flow.specs.declared.network.NetFault.{NetFault}
+use Rattle.min_cost_flow.specs.declared.network.NetFault.TheVariants.{TooLarge, BadEnd, BadSupply, BadCost}
+use Rattle.flow_network.specs.FaceNet.{IsFaceNet, arrivals}
+use Rattle.flow_network.proofs.Degrees.{arrivals_most}
+
+-- a fact of each arc of the network
+pub each_arc : (p : Map) (net : Net) → IsFaceNet p net → (P : Arc → Type 0) →
+    ((d : ℕ) → d < darts p → P (arc_at net d)) → ((d : ℕ) → d < darts p → P (arc_at net (darts p + d))) →
+    (i : ℕ) → i < arc_count net → P (arc_at net i)
+each_arc p net is P corner crossing i l =
+    elim (cases_lt i (darts p)) [
+      | inl first ↦ corner i first
+      | inr second ↦
+          let at : darts p + (i - darts p) ≡ i = omega arith in
+          subst (λ (j : ℕ). P (arc_at net j)) at (crossing (i - darts p) (omega (arith, is.arcs)))
+    ]
+
+pub arc_ends : (p : Map) (net : Net) → IsPlane p → IsFaceNet p net → (i : ℕ) → i < arc_count net →
+    ((arc_at net i).from < node_count net) × ((arc_at net i).to < node_count net)
+arc_ends p net plane is =
+    let ends = plane_ends p plane in
+    each_arc p net is (λ a. (a.from < node_count net) × (a.to < node_count net))
+    (λ d l. (
+      omega (arith, ap (λ (a : Arc). a.from) (is.corner d l), is.nodes, ends.head_from d l, ends.head_to d l),
+      omega (arith, ap (λ (a : Arc). a.to) (is.corner d l), is.nodes, ends.face_named d l),
+    ))
+    (λ d l. (
+      omega (arith, ap (λ (a : Arc). a.from) (is.crossing d l), is.nodes, ends.face_named d l),
+      omega (arith, ap (λ (a : Arc). a.to) (is.crossing d l), is.nodes, ends.face_named (mate p d) (ends.mate_inside d l)),
+    ))
+
+pub supply_fair : (p : Map) (net : Net) → IsPlane p → IsFaceNet p net → (k : ℕ) → k < node_count net →
+    (supply_at net k <ℤ negsuc 2047) ⊎ (pos 2048 <ℤ supply_at net k) → ⊥
+supply_fair p net plane is k l unfair =
+    let ends = plane_ends p plane in
+    elim (cases_lt k (vertices p)) [
+      | inl vertex ↦
+          let back : k + 1 - 1 ≡ k = omega arith in
+          at_vertex (supply_at net k) (arrivals p (k + 1))
+          (subst (λ (j : ℕ). supply_at net j ≡ pos 4 -ℤ pos (arrivals p (k + 1))) back (is.at_vertex (k + 1) (omega arith) (omega arith)))
+          (arrivals_most p plane (k + 1)) unfair
+      | inr face ↦
+          let f : ℕ = k - vertices p in
+          let at : vertices p + f ≡ k = omega arith in
+          at_face (f == p.outer) (supply_at net k) (degree p f)
+          (subst (λ (j : ℕ). supply_at net j ≡ (if f == p.outer then negsuc 3 else pos 4) -ℤ pos (degree p f)) at (is.at_face f (omega (arith, is.nodes))))
+          (omega (arith, degree_few (darts p) (face_at p) f, ends.few_darts)) unfair
+    ]
+  where
+    at_vertex : (z : ℤ) (k : ℕ) → z ≡ pos 4 -ℤ pos k → k ≤ 4 → (z <ℤ negsuc 2047) ⊎ (pos 2048 <ℤ z) → ⊥
+    at_vertex z k is few (inl low) = omega (arith, ints)
+    at_vertex z k is few (inr high) = omega (arith, ints)
+
+    at_face : (b : Bool) (z : ℤ) (k : ℕ) → z ≡ (if b then negsuc 3 else pos 4) -ℤ pos k → k ≤ 1020 → (z <ℤ negsuc 2047) ⊎ (pos 2048 <ℤ z) → ⊥
+    at_face true z k is few (inl low) = omega (arith, ints)
+    at_face true z k is few (inr high) = omega (arith, ints)
+    at_face false z k is few (inl low) = omega (arith, ints)
+    at_face false z k is few (inr high) = omega (arith, ints)
+
+pub no_fault : (p : Map) (net : Net) (fault : NetFault) → IsPlane p → IsFaceNet p net → HasFault net fault → ⊥
+no_fault p net TooLarge plane is fault =
+    let ends = plane_ends p plane in
+    elim fault [
+      | inl nodes ↦ omega (arith, nodes, is.nodes, plane.order, ends.few_faces)
+      | inr arcs ↦ omega (arith, arcs, is.arcs, ends.few_darts)
+    ]
+no_fault p net BadEnd plane is fault =
+    let ends = arc_ends p net plane is fault.0 fault.1 in
+    elim fault.2 [ inl from ↦ omega (arith, from, ends.0) | inr to ↦ omega (arith, to, ends.1) ]
+no_fault p net BadSupply plane is fault = supply_fair p net plane is fault.0 fault.1 fault.2
+no_fault p net BadCost plane is fault =
+    let cheap : (arc_at net fault.0).cost ≤ 1 =
+    each_arc p net is (λ a. a.cost ≤ 1)
+    (λ d l. omega (arith, ap (λ (a : Arc). a.cost) (is.corner d l)))
+    (λ d l. omega (arith, ap (λ (a : Arc). a.cost) (is.crossing d l))) fault.0 fault.1 in
+    omega (arith, cheap, fault.2)

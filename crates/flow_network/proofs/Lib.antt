@@ -1,0 +1,4 @@
+pub mod Degrees
+pub mod Flowing
+pub mod Pushing
+pub mod Faultless

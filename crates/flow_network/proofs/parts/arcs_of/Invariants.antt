@@ -1,0 +1,18 @@
+use Rattle.std.proofs.Common.{◌≡◌, ◌+◌, ◌-◌, ◌<◌, ℕ, length, get_or}
+use Rattle.faces.specs.Map.{darts, vertices, head, mate, face_at}
+use Rattle.min_cost_flow.specs.declared.arc.Cap.TheVariants.{AtMost, Any}
+use Rattle.min_cost_flow.specs.Net.{no_arc}
+use Rattle.flow_network.proofs.parts.arcs_of.Given as goal
+
+abbrev pub invariant-corners : goal.invariant-corners
+invariant-corners l = record {
+  size : length l.arcs.items ≡ l.dart;
+  corner : (d : ℕ) → d < l.dart → get_or l.arcs.items d no_arc ≡ record { from = head l.plane d - 1; to = vertices l.plane + face_at l.plane d; cap = AtMost 3; cost = 0 };
+}
+
+abbrev pub invariant-crossings : goal.invariant-crossings
+invariant-crossings l = record {
+  size : length l.arcs.items ≡ darts l.plane + l.dart;
+  corner : (d : ℕ) → d < darts l.plane → get_or l.arcs.items d no_arc ≡ record { from = head l.plane d - 1; to = vertices l.plane + face_at l.plane d; cap = AtMost 3; cost = 0 };
+  crossing : (d : ℕ) → d < l.dart → get_or l.arcs.items (darts l.plane + d) no_arc ≡ record { from = vertices l.plane + face_at l.plane d; to = vertices l.plane + face_at l.plane (mate l.plane d); cap = Any; cost = 1 };
+}

@@ -1,0 +1,90 @@
+ghost use Rattle.std.specs.Prelude.{◌≡◌, ◌+◌, ◌-◌, ◌<◌, ◌≤◌, ℕ, IfOk, vec_len};
+ghost use Rattle.faces.specs.Map.{darts, vertices};
+ghost use Rattle.min_cost_flow.specs.Flow.{Flow};
+
+use crate::parts::{arcs_of, supplies_of};
+use faces::Plane;
+use min_cost_flow::Network;
+use std::alloc::{AllocError, Global};
+use std::marker::Model;
+
+/// The flow network of a plane (Tamassia 1987). Nodes 0 to n - 1 are the vertices, and the faces follow.
+/// Arcs 0 to D - 1 are the corners of the darts, and their crossings follow.
+#[derive(Debug, Drop)]
+pub struct FaceNet {
+    network: Network,
+    vertices: u32,
+    darts: u32,
+}
+
+impl Model for FaceNet {
+    ghost use Rattle.std.specs.Prelude.{◌≤◌};
+    ghost use Rattle.flow_network.specs.FaceNet.{Numbering};
+
+    ghost Value = { Numbering };
+
+    ghost view = { λ n. record { network = n.network; vertices = n.vertices; darts = n.darts } };
+
+    ghost invariant = { λ n. (n.vertices ≤ 255) × (n.darts ≤ 1020) };
+}
+
+impl FaceNet {
+    ghost use Rattle.flow_network.specs.FaceNet.{IsNetOf};
+
+    /// The network of a plane. The only refusal is for want of memory. Linear in the darts.
+    pub fn build(alloc: Global, plane: &Plane) -> Result<FaceNet, AllocError>
+        ensures net { IfOk result (IsNetOf plane.now) }
+        ensures flow { IfOk result (λ n. (y : ℕ → ℕ) × Flow n.network y) }
+    {
+        let supplies = supplies_of(alloc, plane)?;
+        let arcs = arcs_of(alloc, plane)?;
+        let vertices = u32::from(plane.graph().vertices());
+        let darts = u32::from(plane.graph().darts());
+        match Network::new(supplies, arcs) {
+            Ok(network) => Ok(FaceNet {
+                network,
+                vertices,
+                darts,
+            }),
+            Err(_) => unreachable!(),
+        }
+    }
+
+    /// The network itself.
+    pub fn network(&self) -> &Network
+        ensures { result.now ≡ self.now.network }
+    {
+        &self.network
+    }
+
+    /// The arc that carries the angle of a dart, less one.
+    pub fn corner_arc(&self, dart: u16) -> u32
+        ensures { result ≡ dart }
+    {
+        let _ = &self.network;
+        u32::from(dart)
+    }
+
+    /// The arc that carries the left turns of a dart.
+    pub fn crossing_arc(&self, dart: u16) -> u32
+        ensures { result ≡ self.now.darts + dart }
+    {
+        self.darts + u32::from(dart)
+    }
+
+    /// The node of a vertex; vertices count from 1.
+    pub fn vertex_node(&self, vertex: u8) -> u32
+        requires { 1 ≤ vertex }
+        ensures { result ≡ vertex - 1 }
+    {
+        let _ = &self.network;
+        u32::from(vertex) - 1
+    }
+
+    /// The node of a face.
+    pub fn face_node(&self, face: u16) -> u32
+        ensures { result ≡ self.now.vertices + face }
+    {
+        self.vertices + u32::from(face)
+    }
+}

@@ -1,0 +1,74 @@
+ghost use Rattle.std.specs.Prelude.{◌≡◌, ◌+◌, ◌-◌, ◌<◌, ◌≤◌, ◌==◌, if◌then◌else◌, ℕ, pos, negsuc, ◌-ℤ◌, IfOk, length, slice_index, slice_index_or};
+ghost use Rattle.faces.specs.Map.{darts, vertices, head, mate, face_at, degree};
+ghost use Rattle.min_cost_flow.specs.declared.arc.Cap.TheVariants.{AtMost, Any};
+ghost use Rattle.min_cost_flow.specs.Net.{no_arc};
+ghost use Rattle.flow_network.specs.FaceNet.{arrivals};
+
+use faces::Plane;
+use min_cost_flow::{Arc, Cap};
+use std::alloc::{AllocError, Global};
+
+/// How many darts arrive at each vertex.
+fn count_arrivals(plane: &Plane) -> [u16; 256]
+    ensures { (v : ℕ) → v < 256 → slice_index result v ≡ arrivals plane.now v }
+{
+    let graph = plane.graph();
+    let mut counts = [0u16; 256];
+    'darts: for dart in 0..graph.darts() {
+        counts[usize::from(graph.head(dart))] += 1;
+    }
+    counts
+}
+
+/// The supply of each node: those of the vertices, and then those of the faces.
+pub fn supplies_of(alloc: Global, plane: &Plane) -> Result<Vec<i32>, AllocError>
+    ensures nodes { IfOk result (λ s. length s.items ≡ vertices plane.now + plane.now.faces) }
+    ensures at_vertex { IfOk result (λ s. (v : ℕ) → 1 ≤ v → v ≤ vertices plane.now
+        → slice_index_or s.items (v - 1) (pos 0) ≡ pos 4 -ℤ pos (arrivals plane.now v)) }
+    ensures at_face { IfOk result (λ s. (f : ℕ) → f < plane.now.faces
+        → slice_index_or s.items (vertices plane.now + f) (pos 0)
+        ≡ (if f == plane.now.outer then negsuc 3 else pos 4) -ℤ pos (degree plane.now f)) }
+{
+    let counts = count_arrivals(plane);
+    let mut supplies = Vec::new(alloc);
+    'vertices: for place in 0..plane.graph().vertices() {
+        supplies.push(4 - i32::from(counts[usize::from(place) + 1]))?;
+    }
+    'faces: for face in 0..plane.face_count() {
+        let turn = if face == plane.outer() { -4 } else { 4 };
+        supplies.push(turn - i32::from(plane.degree(face)))?;
+    }
+    Ok(supplies)
+}
+
+/// The arcs: the corners of all darts, and then their crossings.
+pub fn arcs_of(alloc: Global, plane: &Plane) -> Result<Vec<Arc>, AllocError>
+    ensures arcs { IfOk result (λ a. length a.items ≡ darts plane.now + darts plane.now) }
+    ensures corner { IfOk result (λ a. (d : ℕ) → d < darts plane.now
+        → slice_index_or a.items d no_arc
+        ≡ record { from = head plane.now d - 1; to = vertices plane.now + face_at plane.now d; cap = AtMost 3; cost = 0 }) }
+    ensures crossing { IfOk result (λ a. (d : ℕ) → d < darts plane.now
+        → slice_index_or a.items (darts plane.now + d) no_arc
+        ≡ record { from = vertices plane.now + face_at plane.now d; to = vertices plane.now + face_at plane.now (mate plane.now d); cap = Any; cost = 1 }) }
+{
+    let graph = plane.graph();
+    let first_face = u32::from(graph.vertices());
+    let mut arcs = Vec::new(alloc);
+    'corners: for dart in 0..graph.darts() {
+        arcs.push(Arc {
+            from: u32::from(graph.head(dart)) - 1,
+            to: first_face + u32::from(plane.face_of(dart)),
+            cap: Cap::AtMost(3),
+            cost: 0,
+        })?;
+    }
+    'crossings: for dart in 0..graph.darts() {
+        arcs.push(Arc {
+            from: first_face + u32::from(plane.face_of(dart)),
+            to: first_face + u32::from(plane.face_of(graph.reverse(dart))),
+            cap: Cap::Any,
+            cost: 1,
+        })?;
+    }
+    Ok(arcs)
+}
