@@ -54,11 +54,14 @@ pub fn run_frames<R: Threads + Wait + Sync, T: Tap + Send>(
 ) -> Result<Frames, BatchFault>
     requires least { 1 ≤ capacity }
     requires most { capacity ≤ 64 }
-    ensures told { IfOk result (λ found. (bytes : List ℕ) → T.to_come source ≡ Some bytes → IsMarked bytes (T.fails source) found.records found.mark) }
+    ensures told { IfOk result (λ found. (bytes : List ℕ) → T.to_come source ≡ Some bytes
+        → IsMarked bytes (T.fails source) found.records found.mark) }
 
     // A source that does not tell its bytes gave some bytes, and then ended or failed.
-    ensures untold { IfOk result (λ found. (bytes : List ℕ) × ((fails : Bool) × IsMarked bytes fails found.records found.mark)) }
-    ensures one_source { IfErr result (λ fault. (fault ≢ BatchFault.TooManyFiles) × (fault ≢ BatchFault.BadLanes)) }
+    ensures untold { IfOk result (λ found. (bytes : List ℕ)
+        × ((fails : Bool) × IsMarked bytes fails found.records found.mark)) }
+    ensures one_source { IfErr result (λ fault.
+        (fault ≢ BatchFault.TooManyFiles) × (fault ≢ BatchFault.BadLanes)) }
 {
     let Ok((giver, taker)) = link(alloc, capacity) else {
         return Err(BatchFault::Memory);
@@ -108,7 +111,8 @@ fn gather<R: Wait>(rt: &R, alloc: Global, mut taker: Taker<Framed>) -> Result<Ha
     requires { taken taker ≡ [] }
     ensures link { IfOk result (λ h. TakesFromSame taker h.taker) }
     ensures all { IfOk result (λ h. GathersAll h.records.items h.mark (taken h.taker)) }
-    ensures one_source { IfErr result (λ fault. (fault ≢ BatchFault.TooManyFiles) × (fault ≢ BatchFault.BadLanes)) }
+    ensures one_source { IfErr result (λ fault.
+        (fault ≢ BatchFault.TooManyFiles) × (fault ≢ BatchFault.BadLanes)) }
 {
     let mut records = Vec::new(alloc);
     let mut mark = None;

@@ -1,7 +1,7 @@
 -- What the ends of a link know.
-use Rattle.std.specs.Prelude.{◌≡◌, List, ◌++◌}
+use Rattle.std.specs.Prelude.{◌≡◌, ℕ, List, ◌++◌}
 use Rattle.crossbeam_channel.specs.Claims.{view}
-use Rattle.crossbeam_channel.specs.Ends.{sends_on, receives_on}
+use Rattle.crossbeam_channel.specs.Ends.{sends_on, receives_on, ruled_capacity}
 use Rattle.ruled_lanes.specs.declared.link_ends.Giver.{Giver}
 use Rattle.ruled_lanes.specs.declared.link_ends.Taker.{Taker}
 
@@ -13,6 +13,10 @@ module _ {T : Type 0} where
   -- all that was taken by this end, first to last
   abbrev pub taken : Taker T → List T
   taken t = (view t.pass).taken
+
+  -- how many items the link holds at most
+  abbrev pub room_of : Giver T → ℕ
+  room_of g = ruled_capacity (sends_on g.sender)
 
   -- the two ends of one link
   abbrev pub AreEnds : Giver T → Taker T → Type 0
