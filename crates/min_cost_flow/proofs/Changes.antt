@@ -1,5 +1,5 @@
 -- What an amount sent along one residual arc changes, and what it keeps.
-use Rattle.std.proofs.Common.{◌≡◌, ◌≢◌, ◌≤◌, ◌<◌, ◌⊎◌, ℕ, ◌+◌, cond, eqb, Bool, true, false, refl, sym, ◌∙◌, ap, subst, inl, inr, arith, List}
+use Rattle.std.proofs.Common.{◌≡◌, ◌≢◌, ◌≤◌, ◌<◌, ◌⊎◌, ℕ, ◌+◌, cond, eqb, Bool, true, false, sym, ◌∙◌, ap, subst, inl, inr, arith, List}
 use Rattle.std.specs.Prelude.{ℤ, pos, ◌+ℤ◌, ◌-ℤ◌, ◌≤ℤ◌}
 use Rattle.std.proofs.lemmas.Bool.{cases_eq, eq-eqb, ne_eqb, cond-true, cond-false}
 use Rattle.std.proofs.lemmas.Int.{ints}
@@ -9,8 +9,8 @@ use Rattle.min_cost_flow.specs.declared.arc.Cap.{Cap}
 use Rattle.min_cost_flow.specs.declared.arc.Cap.TheVariants.{AtMost, Any}
 use Rattle.min_cost_flow.specs.declared.residual.Step.{Step}
 use Rattle.min_cost_flow.specs.declared.tree.Place.{Place}
-use Rattle.min_cost_flow.specs.Net.{Net, node_count, arc_count, arc_at, supply_at}
-use Rattle.min_cost_flow.specs.Flow.{leaves, enters, balance, IsWithin, HasRoom, IsResidual, HasPotentials, start_of, end_of, price_of, reduced_cost}
+use Rattle.min_cost_flow.specs.Net.{Net, arc_count, arc_at, supply_at}
+use Rattle.min_cost_flow.specs.Flow.{leaves, enters, balance, IsWithin, HasRoom, IsResidual, HasPotentials, start_of, end_of, reduced_cost}
 use Rattle.min_cost_flow.specs.Excess.{KeepsCaps, Leaves, Carries}
 use Rattle.min_cost_flow.specs.Residual.{FitsAlong, IsMoved}
 use Rattle.min_cost_flow.specs.Tree.{rank_at, StepsDown}

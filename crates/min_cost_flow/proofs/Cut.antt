@@ -1,15 +1,14 @@
 -- Why a set that no residual arc leaves, or none enters, shows that there is no flow.
-use Rattle.std.proofs.Common.{◌≡◌, ◌≤◌, ◌<◌, ℕ, ◌+◌, ◌*◌, cond, Bool, true, false, refl, sym, ◌∙◌, ap, inl, inr, arith}
+use Rattle.std.proofs.Common.{◌≡◌, ◌≤◌, ◌<◌, ℕ, ◌+◌, ◌*◌, cond, Bool, true, false, refl, arith}
 use Rattle.std.specs.Prelude.{ℤ, pos, ◌+ℤ◌, ◌-ℤ◌, ◌≤ℤ◌, ◌<ℤ◌}
-use Rattle.std.proofs.Math.Nat.{mul-le-mul_left}
-use Rattle.std.proofs.lemmas.Bool.{cases_Bool, cond-true, cond-false, both_ways}
+use Rattle.std.proofs.lemmas.Bool.{both_ways}
 use Rattle.std.proofs.lemmas.Int.{ints}
 use Rattle.sums.specs.Sums.{sum_below}
 use Rattle.sums.proofs.Sums.{sum_below-le, sum_below-lt, sum_below-add}
 use Rattle.min_cost_flow.specs.declared.arc.Cap.{Cap}
 use Rattle.min_cost_flow.specs.declared.arc.Cap.TheVariants.{AtMost, Any}
 use Rattle.min_cost_flow.specs.Net.{Net, node_count, arc_count, arc_at, supply_at, HasEnds}
-use Rattle.min_cost_flow.specs.Flow.{leaves, enters, balance, IsWithin, HasRoom, Flow, HasNoFlow}
+use Rattle.min_cost_flow.specs.Flow.{leaves, enters, IsWithin, HasRoom, HasNoFlow}
 use Rattle.min_cost_flow.specs.Excess.{Leaves, IsClosedOut, IsClosedIn}
 use Rattle.min_cost_flow.proofs.Duality.{at_starts, at_ends, sides_are}
 

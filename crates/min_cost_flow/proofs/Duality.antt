@@ -1,5 +1,5 @@
 -- Weighing a flow by a number for each node, and why potentials show that a flow costs least.
-use Rattle.std.proofs.Common.{◌≡◌, ◌≤◌, ◌<◌, ℕ, ◌+◌, ◌*◌, ◌-◌, cond, eqb, Bool, true, false, sym, ◌∙◌, ap, inl, inr, arith}
+use Rattle.std.proofs.Common.{◌≡◌, ◌≤◌, ◌<◌, ℕ, ◌+◌, ◌*◌, ◌-◌, true, false, sym, ◌∙◌, ap, inl, inr, arith}
 use Rattle.std.specs.Prelude.{ℤ, pos, ◌+ℤ◌, ◌-ℤ◌, ◌≤ℤ◌, zero, suc}
 use Rattle.std.proofs.Math.Nat.{mul-le-mul_left, mul-add}
 use Rattle.std.proofs.lemmas.Bool.{cases_order}
@@ -10,7 +10,7 @@ use Rattle.sums.proofs.Sums.{sum_below-same, sum_below-le, sum_below-add, exchan
 use Rattle.min_cost_flow.specs.declared.arc.Cap.{Cap}
 use Rattle.min_cost_flow.specs.declared.arc.Cap.TheVariants.{AtMost, Any}
 use Rattle.min_cost_flow.specs.Net.{Net, node_count, arc_count, arc_at, supply_at, HasEnds}
-use Rattle.min_cost_flow.specs.Flow.{leaves, enters, balance, cost_of, IsWithin, HasRoom, Flow, IsLeastCost, HasPotentials, reduced_cost}
+use Rattle.min_cost_flow.specs.Flow.{leaves, enters, balance, cost_of, IsWithin, HasRoom, Flow, IsLeastCost, HasPotentials}
 
 -- amounts weighed by the numbers of the arcs' starts, and of their ends
 abbrev pub at_starts : Net → (ℕ → ℕ) → (ℕ → ℕ) → ℕ

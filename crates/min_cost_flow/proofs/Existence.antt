@@ -1,11 +1,11 @@
 -- A network has a flow where what is left over can reach what is wanting along arcs of no limit.
-use Rattle.std.proofs.Common.{◌≡◌, ◌≢◌, ◌≤◌, ◌<◌, ◌⊎◌, ℕ, zero, suc, ◌+◌, ◌*◌, cond, eqb, Bool, true, false, refl, sym, ◌∙◌, ap, subst, inl, inr, arith}
+use Rattle.std.proofs.Common.{◌≡◌, ◌≢◌, ◌<◌, ℕ, zero, suc, ◌+◌, ◌*◌, cond, eqb, Bool, true, false, refl, sym, ◌∙◌, ap, subst, inl, inr, arith}
 use Rattle.std.specs.Prelude.{ℤ, pos, negsuc, ◌+ℤ◌, ◌-ℤ◌, ◌≤ℤ◌, ◌<ℤ◌}
-use Rattle.std.proofs.lemmas.Bool.{cases_eq, cases_Bool, eq-eqb, ne_eqb, cond-true, cond-false, both_ways}
+use Rattle.std.proofs.lemmas.Bool.{cases_eq, eq-eqb, ne_eqb, cond-true, cond-false}
 use Rattle.std.proofs.lemmas.Int.{ints}
 use borrow.Author.Differences.{up, down}
 use Rattle.sums.specs.Sums.{sum_below, total_below}
-use Rattle.sums.proofs.Sums.{sum_below-same, sum_below-changed, sum_below-some, sum_below-member, sum_below-add, exchanged, total_below-parts}
+use Rattle.sums.proofs.Sums.{sum_below-same, sum_below-changed, sum_below-some, sum_below-member, exchanged, total_below-parts}
 use Rattle.min_cost_flow.specs.declared.arc.Cap.{Cap}
 use Rattle.min_cost_flow.specs.declared.arc.Cap.TheVariants.{AtMost, Any}
 use Rattle.min_cost_flow.specs.Net.{Net, node_count, arc_count, arc_at, supply_at, HasEnds}
@@ -14,7 +14,7 @@ use Rattle.min_cost_flow.specs.Excess.{KeepsCaps, Leaves, Carries}
 use Rattle.min_cost_flow.specs.Existence.{IsClosedAny, IsJoined, IsBalanced}
 use Rattle.min_cost_flow.proofs.Changes.{SameBut, moved_carries, carried_leaves, taken_carries}
 use Rattle.min_cost_flow.proofs.Rounds.{flow_at}
-use Rattle.min_cost_flow.proofs.Spreading.{Steps, IsClosedUnder, IsReached, Passes, spread_from}
+use Rattle.min_cost_flow.proofs.Spreading.{Steps, IsClosedUnder, Passes, spread_from}
 
 -- ---- one unit to a node that can be reached
 

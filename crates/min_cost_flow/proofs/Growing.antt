@@ -1,19 +1,18 @@
 -- How trees grow by one node: the potentials outside fall by the least reduced cost of a residual
 -- arc into the trees, and that arc's start goes into them.
-use Rattle.std.proofs.Common.{◌≡◌, ◌≢◌, ◌≤◌, ◌<◌, ◌⊎◌, ℕ, ◌+◌, ◌*◌, cond, eqb, Bool, true, false, refl, sym, ◌∙◌, ap, subst, inl, inr, arith, List, Option, Some, None}
+use Rattle.std.proofs.Common.{◌≡◌, ◌≢◌, ◌≤◌, ◌<◌, ℕ, ◌+◌, ◌*◌, cond, eqb, Bool, true, false, refl, sym, ◌∙◌, ap, subst, inl, inr, arith, List, Some, None}
 use Rattle.std.specs.Prelude.{length, ℤ, pos, negsuc, ◌+ℤ◌, ◌-ℤ◌, ◌≤ℤ◌, ◌<ℤ◌}
 use Rattle.std.proofs.lemmas.Bool.{cases_eq, eq-eqb, ne_eqb, cond-true, cond-false}
 use Rattle.std.proofs.lemmas.Int.{ints}
 use Rattle.std.proofs.lemmas.List.{get_or-set_same, get_or-set_other}
 use Rattle.std.proofs.Math.ListN.{set}
-use Rattle.sums.specs.Sums.{sum_below}
-use Rattle.sums.proofs.Sums.{sum_below-changed, sum_below-member}
+use Rattle.sums.proofs.Sums.{sum_below-changed}
 use Rattle.min_cost_flow.specs.declared.residual.Step.{Step}
 use Rattle.min_cost_flow.specs.declared.tree.Place.{Place}
-use Rattle.min_cost_flow.specs.Net.{Net, node_count, arc_count, arc_at, HasEnds, HasUnitCosts, IsNetwork}
+use Rattle.min_cost_flow.specs.Net.{Net, node_count, arc_count, HasEnds, HasUnitCosts, IsNetwork}
 use Rattle.min_cost_flow.specs.Flow.{IsResidual, HasPotentials, start_of, end_of, price_of, reduced_cost}
 use Rattle.min_cost_flow.specs.Residual.{HasLowPotentials}
-use Rattle.min_cost_flow.specs.Tree.{nowhere, IsServed, place_at, rank_at, step_at, StepsDown, IsForest, IsTight, IsOpen, IsWanting, IsEntering, HasNoEntry, lowered, outside_count, IsBounded, IsGrown, Suits, HasNoSource, AddsNode}
+use Rattle.min_cost_flow.specs.Tree.{nowhere, IsServed, place_at, rank_at, step_at, StepsDown, IsForest, IsTight, IsOpen, IsEntering, lowered, outside_count, IsBounded, IsGrown, Suits, HasNoSource, AddsNode}
 
 -- ---- ends and prices
 

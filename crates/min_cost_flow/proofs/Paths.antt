@@ -1,5 +1,5 @@
 -- Where no residual path leads from what is left over to what is wanting, there is no flow.
-use Rattle.std.proofs.Common.{◌≡◌, ◌≢◌, ◌≤◌, ◌<◌, ◌⊎◌, ℕ, zero, suc, ◌+◌, cond, ltb, Bool, true, false, refl, sym, ◌∙◌, ap, subst, inl, inr, arith}
+use Rattle.std.proofs.Common.{◌≡◌, ◌≢◌, ◌<◌, ℕ, zero, suc, cond, ltb, Bool, true, false, refl, inl, inr, arith}
 use Rattle.std.specs.Prelude.{ℤ, pos, negsuc, ◌≤ℤ◌, ◌<ℤ◌}
 use Rattle.std.proofs.lemmas.Bool.{both_ways, ltb-true, lt-ltb}
 use Rattle.std.proofs.lemmas.Int.{ints}
@@ -12,7 +12,7 @@ use Rattle.min_cost_flow.specs.Excess.{Leaves, IsClosedOut, IsResidualPath, IsCu
 use Rattle.min_cost_flow.proofs.Cut.{no_flow_out}
 use Rattle.min_cost_flow.proofs.Growing.{end_in}
 use Rattle.min_cost_flow.proofs.Rounds.{sign_of, over_or_not, no_flow_wanting}
-use Rattle.min_cost_flow.proofs.Spreading.{Steps, IsClosedUnder, IsReached, Passes, spread_from, found_below}
+use Rattle.min_cost_flow.proofs.Spreading.{Steps, IsClosedUnder, Passes, spread_from, found_below}
 
 -- ---- residual arcs by a test
 

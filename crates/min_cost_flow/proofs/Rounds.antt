@@ -1,19 +1,19 @@
 -- From one search to the next: how trees begin, what a hit leaves, what sending leaves, and the end.
-use Rattle.std.proofs.Common.{◌≡◌, ◌≢◌, ◌≤◌, ◌<◌, ◌⊎◌, ℕ, zero, suc, ◌+◌, ◌*◌, cond, eqb, Bool, true, false, refl, sym, ◌∙◌, ap, subst, inl, inr, arith, List, Option, Some, None, length}
+use Rattle.std.proofs.Common.{◌≡◌, ◌≢◌, ◌≤◌, ◌<◌, ◌⊎◌, ℕ, zero, suc, ◌+◌, ◌*◌, cond, eqb, Bool, true, false, refl, sym, ◌∙◌, ap, subst, inl, inr, arith, List, Some, None}
 use Rattle.std.specs.Prelude.{ℤ, pos, negsuc, ◌+ℤ◌, ◌-ℤ◌, ◌≤ℤ◌, ◌<ℤ◌}
-use Rattle.std.proofs.lemmas.Bool.{cases_eq, cases_Bool, eq-eqb, ne_eqb, eqb-true, cond-true, cond-false}
+use Rattle.std.proofs.lemmas.Bool.{cases_eq, eq-eqb, eqb-true}
 use Rattle.std.proofs.lemmas.Int.{ints}
-use borrow.Author.Differences.{up, down}
+use borrow.Author.Differences.{up}
 use Rattle.sums.specs.Sums.{sum_below}
-use Rattle.sums.proofs.Sums.{sum_below-le, sum_below-lt, sum_below-changed, sum_below-constant, sum_below-none, sum_below-member}
+use Rattle.sums.proofs.Sums.{sum_below-le, sum_below-changed, sum_below-constant, sum_below-none, sum_below-member}
 use Rattle.min_cost_flow.specs.declared.arc.Cap.{Cap}
 use Rattle.min_cost_flow.specs.declared.arc.Cap.TheVariants.{AtMost, Any}
 use Rattle.min_cost_flow.specs.declared.residual.Step.{Step}
 use Rattle.min_cost_flow.specs.declared.tree.Place.{Place}
 use Rattle.min_cost_flow.specs.Net.{Net, node_count, arc_count, arc_at, supply_at, HasEnds, IsNetwork}
-use Rattle.min_cost_flow.specs.Flow.{leaves, enters, balance, IsWithin, HasRoom, Flow, HasNoFlow, IsResidual, HasPotentials, start_of, end_of, reduced_cost}
-use Rattle.min_cost_flow.specs.Excess.{KeepsCaps, Leaves, Carries, IsClosedOut, IsClosedIn}
-use Rattle.min_cost_flow.specs.Tree.{nowhere, place_at, rank_at, step_at, StepsDown, IsForest, IsTight, IsOpen, IsWanting, IsEntering, HasNoEntry, outside_count, IsBounded, IsGrown, Suits, HasNoSource, AddsNode}
+use Rattle.min_cost_flow.specs.Flow.{leaves, enters, balance, IsWithin, Flow, HasNoFlow, IsResidual, HasPotentials, start_of, end_of, reduced_cost}
+use Rattle.min_cost_flow.specs.Excess.{KeepsCaps, Leaves, Carries, IsClosedOut}
+use Rattle.min_cost_flow.specs.Tree.{nowhere, place_at, rank_at, step_at, HasNoEntry, outside_count, IsGrown, Suits, HasNoSource, AddsNode}
 use Rattle.min_cost_flow.specs.Round.{left_over, IsRound}
 use Rattle.min_cost_flow.proofs.Cut.{no_flow_out, no_flow_into}
 use Rattle.min_cost_flow.proofs.Changes.{carried_leaves}

@@ -1,4 +1,4 @@
-use Rattle.std.proofs.Common.{◌≡◌, ◌<◌, ◌+◌, ℕ, Bool, true, false, Option, sym, subst, inl, inr, arith}
+use Rattle.std.proofs.Common.{◌<◌, ◌+◌, ℕ, Bool, true, false, Option, sym, subst, inl, inr, arith}
 use Rattle.std.proofs.lemmas.Bool.{cases_eq}
 use Rattle.std.specs.Prelude.{ℤ}
 use Rattle.min_cost_flow.specs.declared.residual.Step.{Step}

@@ -1,10 +1,9 @@
-use Rattle.std.proofs.Common.{rules, ◌≡◌, ◌<◌, ◌≤◌, ◌+◌, ℕ, ℤ, Some, slice_set, w32, ap, sym, subst, arith}
+use Rattle.std.proofs.Common.{rules, ◌≤◌, ◌+◌, ℕ, Some, slice_set, w32, ap, sym, subst, arith}
 use Rattle.std.proofs.lemmas.Int.{to_z-of_z}
 use mir.Val.{SFits}
-use Rattle.min_cost_flow.specs.Net.{node_count}
-use Rattle.min_cost_flow.specs.Flow.{amounts, at_nodes, reduced_cost, start_of, end_of}
+use Rattle.min_cost_flow.specs.Flow.{amounts, at_nodes}
 use Rattle.min_cost_flow.specs.Tree.{rank_at, AddsNode}
-use Rattle.min_cost_flow.proofs.Growing.{IsLowered, extends_from, bounded_low, by_range, rank_most, grown, grown_suits, adds_node}
+use Rattle.min_cost_flow.proofs.Growing.{extends_from, bounded_low, by_range, rank_most, grown, grown_suits, adds_node}
 use Rattle.min_cost_flow.proofs.search.extend.Goals as goal
 
 pub cheapest_entry-requires-clause-low : goal.cheapest_entry-requires-clause-low

@@ -1,4 +1,4 @@
-use Rattle.std.proofs.Common.{◌≡◌, ◌<◌, ℕ, ℤ, pos, ◌≤ℤ◌, ◌<ℤ◌, None}
+use Rattle.std.proofs.Common.{◌≡◌, ◌<◌, ℕ, pos, ◌≤ℤ◌, ◌<ℤ◌, None}
 use Rattle.min_cost_flow.specs.Flow.{at_nodes}
 use Rattle.min_cost_flow.specs.Tree.{place_at, nowhere}
 use Rattle.min_cost_flow.proofs.search.plant.Given as goal

@@ -1,9 +1,8 @@
-use Rattle.std.proofs.Common.{rules, ◌≡◌, ◌<◌, ℕ, ℤ, pos, ◌≤ℤ◌, ◌<ℤ◌, w32, to_z, of_z, true, false, arith}
+use Rattle.std.proofs.Common.{rules, ◌≡◌, ℤ, pos, ◌≤ℤ◌, ◌<ℤ◌, w32, to_z, of_z, true, false, arith}
 use Rattle.std.proofs.lemmas.Int.{ints, to_z-of_z}
 use lib.Signed.{lt_z}
 use mir.Val.{SFits}
 use Rattle.min_cost_flow.specs.Flow.{amounts, at_nodes}
-use Rattle.min_cost_flow.specs.Tree.{rank_at}
 use Rattle.min_cost_flow.proofs.Rounds.{IsPlanted, planted_grown, planted_suits, planted_none, none_more, hit_round}
 use Rattle.min_cost_flow.proofs.search.search.Goals as goal
 

@@ -1,6 +1,5 @@
-use Rattle.std.proofs.Common.{◌≡◌, ◌<◌, ℕ, ℤ, pos, ◌<ℤ◌, ◌≤ℤ◌, true, false, refl, arith}
+use Rattle.std.proofs.Common.{arith}
 use Rattle.std.proofs.lemmas.Bool.{not-false}
-use Rattle.min_cost_flow.specs.Net.{node_count}
 use Rattle.min_cost_flow.specs.Flow.{amounts, at_nodes}
 use Rattle.min_cost_flow.proofs.Rounds.{no_flow_closed, no_flow_wanting}
 use Rattle.min_cost_flow.proofs.solver.run.Goals as goal

@@ -1,7 +1,6 @@
 use Rattle.std.proofs.lemmas.Int.{ints}
-use Rattle.std.proofs.Common.{◌≡◌, pos, ◌<◌, ◌≤◌, ◌+◌, ℕ, ℤ, arith}
+use Rattle.std.proofs.Common.{◌≡◌, pos, ◌<◌, ◌≤◌, arith}
 use Rattle.min_cost_flow.specs.Flow.{amounts, at_nodes}
-use Rattle.min_cost_flow.specs.Round.{left_over}
 use Rattle.min_cost_flow.proofs.Rounds.{part_most, some_units, sent_from, sent_round, left_falls}
 use Rattle.min_cost_flow.proofs.solver.send.Goals as goal
 

@@ -1,8 +1,7 @@
-use Rattle.std.proofs.Common.{rules, ◌≡◌, ◌<◌, ◌≤◌, ◌+◌, ℕ, ℤ, Bool, Some, refl, sym, ◌∙◌, ap, subst, arith}
-use Rattle.min_cost_flow.specs.Net.{arc_count, node_count, arc_at}
-use Rattle.min_cost_flow.specs.Flow.{amounts, at_nodes, HasPotentials, start_of, end_of}
+use Rattle.std.proofs.Common.{rules, ◌≡◌, ◌<◌, ℕ, ap, subst, arith}
+use Rattle.min_cost_flow.specs.Flow.{amounts, at_nodes, end_of}
 use Rattle.min_cost_flow.specs.Excess.{Carries}
-use Rattle.min_cost_flow.specs.Tree.{rank_at, step_at, StepsDown}
+use Rattle.min_cost_flow.specs.Tree.{rank_at}
 use Rattle.min_cost_flow.proofs.Changes.{moved_carries, taken_carries, moved_within, moved_grown, potentials_stay, above_stays, own_above, fits_back}
 use Rattle.min_cost_flow.proofs.tree.+route.Goals as goal
 
