@@ -9,8 +9,8 @@ use Rattle.faces.proofs.Degrees.{degree_few}
 use Rattle.min_cost_flow.specs.declared.arc.Arc.{Arc}
 use Rattle.min_cost_flow.specs.Net.{Net, node_count, arc_count, arc_at, supply_at}
 use Rattle.min_cost_flow.specs.Fault.{IsFirstFault, HasFault}
-use Rattle.min_cost_flow.specs.declared.network.NetFault.{NetFault}
-use Rattle.min_cost_flow.specs.declared.network.NetFault.TheVariants.{TooLarge, BadEnd, BadSupply, BadCost}
+use Rattle.min_cost_flow.specs.declared.fault.NetFault.{NetFault}
+use Rattle.min_cost_flow.specs.declared.fault.NetFault.TheVariants.{TooLarge, BadEnd, BadSupply, BadCost}
 use Rattle.flow_network.specs.FaceNet.{IsFaceNet, arrivals}
 use Rattle.flow_network.proofs.Degrees.{arrivals_most}
 

@@ -37,11 +37,12 @@ sum-gap : (n a c : ℕ) (f g : ℕ → ℕ) → a < n → ((i : ℕ) → i < n �
 sum-gap zero a c f g b each here = absurd (omega arith)
 sum-gap (suc n) a c f g b each here =
     elim (cases_eq a n) [
-      inl e ↦ let before : sum_below n f ≤ sum_below n g = sum_below-le n f g (λ i h. each i (omega arith)) in
-        omega (arith, ap f e, ap g e)
-    | inr ne ↦ let before : sum_below n f + c ≤ sum_below n g = sum-gap n a c f g (omega arith) (λ i h. each i (omega arith)) here in
-        let last : f n ≤ g n = each n (omega arith) in
-        omega arith ]
+      | inl e ↦ let before : sum_below n f ≤ sum_below n g = sum_below-le n f g (λ i h. each i (omega arith)) in
+          omega (arith, ap f e, ap g e)
+      | inr ne ↦ let before : sum_below n f + c ≤ sum_below n g = sum-gap n a c f g (omega arith) (λ i h. each i (omega arith)) here in
+          let last : f n ≤ g n = each n (omega arith) in
+          omega arith
+    ]
 
 -- the angles at low vertices
 low_angles : (p : Map) (a : ℕ → ℕ) (s : ℕ → List Turn) (w : ℕ → ℕ) → HasEnds p → Rep p a s → ((v : ℕ) → w v ≤ 1) → weighed (darts p) (λ d. w (head p d)) a ≤ 4 * (vertices p + 1)
@@ -49,21 +50,23 @@ low_angles p a s w ends rep few =
     let n = vertices p + 1 in
     let all : sum_below n (λ v. w v * part_at (darts p) (head p) a v) ≡ weighed (darts p) (λ d. w (head p d)) a = exchanged (darts p) n (head p) a w (λ d b. omega (arith, ends.head_to d b)) in
     let each : sum_below n (λ v. w v * part_at (darts p) (head p) a v) ≤ sum_below n (λ v. 4) =
-      sum_below-le n (λ v. w v * part_at (darts p) (head p) a v) (λ v. 4) (λ v b. small (w v) (part_at (darts p) (head p) a v) (few v) (at_most v b)) in
+    sum_below-le n (λ v. w v * part_at (darts p) (head p) a v) (λ v. 4) (λ v b. small (w v) (part_at (darts p) (head p) a v) (few v) (at_most v b)) in
     omega (arith, all, each, sum_below-constant n 4)
   where
     small : (x y : ℕ) → x ≤ 1 → y ≤ 4 → x * y ≤ 4
     small zero y h k = omega arith
     small (suc x) y h k = let none : x ≡ 0 = omega arith in rw none (omega arith)
+
     at_most : (v : ℕ) → v < vertices p + 1 → part_at (darts p) (head p) a v ≤ 4
     at_most v b =
-      elim (cases_eq v 0) [
-        inl e ↦
-          let each : sum_below (darts p) (λ d. cond (eqb (head p d) v) (a d) 0) ≡ sum_below (darts p) (λ d. 0) =
-            sum_below-same (darts p) (λ d. cond (eqb (head p d) v) (a d) 0) (λ d. 0)
+        elim (cases_eq v 0) [
+          | inl e ↦
+              let each : sum_below (darts p) (λ d. cond (eqb (head p d) v) (a d) 0) ≡ sum_below (darts p) (λ d. 0) =
+              sum_below-same (darts p) (λ d. cond (eqb (head p d) v) (a d) 0) (λ d. 0)
               (λ d c. cond-false (eqb (head p d) v) (a d) 0 (ne_eqb (head p d) v (λ q. omega (arith, ends.head_from d c)))) in
-          omega (arith, each, sum_below-constant (darts p) 0)
-      | inr ne ↦ omega (arith, rep.around v (omega arith) (omega arith)) ]
+              omega (arith, each, sum_below-constant (darts p) 0)
+          | inr ne ↦ omega (arith, rep.around v (omega arith) (omega arith))
+        ]
 
 -- what low faces gain, but for 4 each, they lose
 low_faces : (p : Map) (a : ℕ → ℕ) (s : ℕ → List Turn) (w : ℕ → ℕ) → HasEnds p → Rep p a s → ((f : ℕ) → w f ≤ 1) →
@@ -72,52 +75,57 @@ low_faces p a s w ends rep few =
     let gain : sum_below p.faces (λ f. w f * gains p a s f) ≡ weighed (darts p) (λ d. w (face_at p d)) (λ d. 2 + lefts (s d)) = exchanged (darts p) p.faces (face_at p) (λ d. 2 + lefts (s d)) w ends.face_named in
     let loss : sum_below p.faces (λ f. w f * losses p a s f) ≡ weighed (darts p) (λ d. w (face_at p d)) (λ d. a d + rights (s d)) = exchanged (darts p) p.faces (face_at p) (λ d. a d + rights (s d)) w ends.face_named in
     let each : sum_below p.faces (λ f. w f * gains p a s f) ≤ sum_below p.faces (λ f. w f * losses p a s f + 4) =
-      sum_below-le p.faces (λ f. w f * gains p a s f) (λ f. w f * losses p a s f + 4) (λ f b. near (w f) (gains p a s f) (losses p a s f) (few f) (close f b)) in
+    sum_below-le p.faces (λ f. w f * gains p a s f) (λ f. w f * losses p a s f + 4) (λ f b. near (w f) (gains p a s f) (losses p a s f) (few f) (close f b)) in
     omega (arith, gain, loss, each, sum_below-add p.faces (λ f. w f * losses p a s f) (λ f. 4), sum_below-constant p.faces 4)
   where
     near : (x y z : ℕ) → x ≤ 1 → y ≤ z + 4 → x * y ≤ x * z + 4
     near zero y z h k = omega arith
     near (suc x) y z h k = let none : x ≡ 0 = omega arith in rw none (omega arith)
+
     whole_turn-le : (c : Bool) → cond c (negsuc 3) (pos 4) ≤ℤ pos 4
     whole_turn-le true = omega (arith, ints)
     whole_turn-le false = omega (arith, ints)
+
     close : (f : ℕ) → f < p.faces → gains p a s f ≤ losses p a s f + 4
     close f b =
-      let same : pos (gains p a s f) -ℤ pos (losses p a s f) ≡ whole_turn p f = sym (turning-split p a s f) ∙ rep.faces f b in
-      let top : whole_turn p f ≤ℤ pos 4 = whole_turn-le (eqb f p.outer) in
-      omega (arith, ints)
+        let same : pos (gains p a s f) -ℤ pos (losses p a s f) ≡ whole_turn p f = sym (turning-split p a s f) ∙ rep.faces f b in
+        let top : whole_turn p f ≤ℤ pos 4 = whole_turn-le (eqb f p.outer) in
+        omega (arith, ints)
 
 -- a low face has its corners at low vertices, but for a right angle each
 low_corner : (k : ℤ) (angle : ℕ) (turns : List Turn) (vertex face across : ℤ) → IsPriced angle turns vertex face across → low k face * angle ≤ low k vertex * angle + 1
 low_corner k angle turns vertex face across priced =
     by_lt_z k face
-      (λ above. omega (arith, ap (λ (x : ℕ). x * angle) (low-zero k face above)))
-      (λ under. elim (cases_lt 1 angle) [
-        inl wide ↦
+    (λ above. omega (arith, ap (λ (x : ℕ). x * angle) (low-zero k face above)))
+    (λ under. elim (cases_lt 1 angle) [
+      | inl wide ↦
           let below : vertex ≤ℤ k = omega (arith, ints, priced.narrower wide) in
           omega (arith, ap (λ (x : ℕ). x * angle) (low-one k face under), ap (λ (x : ℕ). x * angle) (low-one k vertex below))
-      | inr narrow ↦ omega (arith, ap (λ (x : ℕ). x * angle) (low-one k face under)) ])
+      | inr narrow ↦ omega (arith, ap (λ (x : ℕ). x * angle) (low-one k face under))
+    ])
 
 -- what crosses into a low face comes from one
 low_crossing : (k : ℤ) (angle : ℕ) (turns : List Turn) (vertex face across : ℤ) → IsPriced angle turns vertex face across → low k across * lefts turns ≤ low k face * lefts turns
 low_crossing k angle turns vertex face across priced =
     elim (cases_eq (lefts turns) 0) [
-      inl e ↦ omega (arith, ap (λ (x : ℕ). low k across * x) e)
-    | inr ne ↦ by_lt_z k across
-        (λ above. omega (arith, ap (λ (x : ℕ). x * lefts turns) (low-zero k across above)))
-        (λ under.
+      | inl e ↦ omega (arith, ap (λ (x : ℕ). low k across * x) e)
+      | inr ne ↦ by_lt_z k across
+          (λ above. omega (arith, ap (λ (x : ℕ). x * lefts turns) (low-zero k across above)))
+          (λ under.
           let below : face ≤ℤ k = omega (arith, ints, priced.tight (omega arith)) in
-          omega (arith, ap (λ (x : ℕ). x * lefts turns) (low-one k across under), ap (λ (x : ℕ). x * lefts turns) (low-one k face below))) ]
+          omega (arith, ap (λ (x : ℕ). x * lefts turns) (low-one k across under), ap (λ (x : ℕ). x * lefts turns) (low-one k face below)))
+    ]
 
 -- and what crosses out of a face of price k stays above
 high_crossing : (angle : ℕ) (turns : List Turn) (vertex face across : ℤ) → IsPriced angle turns vertex face across → low face across * lefts turns + lefts turns ≤ low face face * lefts turns
 high_crossing angle turns vertex face across priced =
     elim (cases_eq (lefts turns) 0) [
-      inl e ↦ omega (arith, ap (λ (x : ℕ). low face across * x) e)
-    | inr ne ↦
-        let above : face <ℤ across = omega (arith, ints, priced.tight (omega arith)) in
-        let level : face ≤ℤ face = omega (arith, ints) in
-        omega (arith, ap (λ (x : ℕ). x * lefts turns) (low-zero face across above), ap (λ (x : ℕ). x * lefts turns) (low-one face face level)) ]
+      | inl e ↦ omega (arith, ap (λ (x : ℕ). low face across * x) e)
+      | inr ne ↦
+          let above : face <ℤ across = omega (arith, ints, priced.tight (omega arith)) in
+          let level : face ≤ℤ face = omega (arith, ints) in
+          omega (arith, ap (λ (x : ℕ). x * lefts turns) (low-zero face across above), ap (λ (x : ℕ). x * lefts turns) (low-one face face level))
+    ]
 
 -- a dart of a representation that prices prove has few left turns
 few_lefts : (p : Map) (a : ℕ → ℕ) (s : ℕ → List Turn) (v q : ℕ → ℤ) → HasEnds p → Rep p a s → Prove p a s v q → (d : ℕ) → d < darts p → lefts (s d) ≤ 4 * (vertices p + 1) + darts p + 4 * p.faces
@@ -128,25 +136,41 @@ few_lefts p a s v q ends rep prove e b =
     let over = λ (d : ℕ). low k (q (face_at p (mate p d))) in
     let at_head = λ (d : ℕ). low k (v (head p d)) in
     let corners : sum_below n (λ d. own d * a d) ≤ sum_below n (λ d. at_head d * a d + 1) =
-      sum_below-le n (λ d. own d * a d) (λ d. at_head d * a d + 1) (λ d c. low_corner k (a d) (s d) (v (head p d)) (q (face_at p d)) (q (face_at p (mate p d))) (prove d c)) in
+    sum_below-le n (λ d. own d * a d) (λ d. at_head d * a d + 1) (λ d c. low_corner k (a d) (s d) (v (head p d)) (q (face_at p d)) (q (face_at p (mate p d))) (prove d c)) in
     let crossings : sum_below n (λ d. over d * lefts_of s d) + lefts (s e) ≤ sum_below n (λ d. own d * lefts_of s d) =
-      sum-gap n e (lefts (s e)) (λ d. over d * lefts_of s d) (λ d. own d * lefts_of s d) b
-        (λ d c. low_crossing k (a d) (s d) (v (head p d)) (q (face_at p d)) (q (face_at p (mate p d))) (prove d c))
-        (high_crossing (a e) (s e) (v (head p e)) (q (face_at p e)) (q (face_at p (mate p e))) (prove e b)) in
+    sum-gap n e (lefts (s e)) (λ d. over d * lefts_of s d) (λ d. own d * lefts_of s d) b
+    (λ d c. low_crossing k (a d) (s d) (v (head p d)) (q (face_at p d)) (q (face_at p (mate p d))) (prove d c))
+    (high_crossing (a e) (s e) (v (head p e)) (q (face_at p e)) (q (face_at p (mate p e))) (prove e b)) in
     let back : weighed n over (lefts_of s) ≡ weighed n own (λ d. lefts_of s (mate p d)) = paired n (mate p) own (lefts_of s) ends.mate_inside ends.mate_back in
     let rights_here : sum_below n (λ d. own d * rights (s d)) ≡ weighed n own (λ d. lefts_of s (mate p d)) =
-      sum_below-same n (λ d. own d * rights (s d)) (λ d. own d * lefts_of s (mate p d)) (λ d c. ap (λ (z : ℕ). own d * z) (rights_are p a s rep d c)) in
+    sum_below-same n (λ d. own d * rights (s d)) (λ d. own d * lefts_of s (mate p d)) (λ d c. ap (λ (z : ℕ). own d * z) (rights_are p a s rep d c)) in
     let gain : weighed n own (λ d. 2 + lefts (s d)) ≡ sum_below n (λ d. own d * 2) + sum_below n (λ d. own d * lefts_of s d) =
-      sum_below-same n (λ d. own d * (2 + lefts (s d))) (λ d. own d * 2 + own d * lefts_of s d) (λ d c. omega arith) ∙ sum_below-add n (λ d. own d * 2) (λ d. own d * lefts_of s d) in
+    sum_below-same n (λ d. own d * (2 + lefts (s d))) (λ d. own d * 2 + own d * lefts_of s d) (λ d c. omega arith) ∙ sum_below-add n (λ d. own d * 2) (λ d. own d * lefts_of s d) in
     let loss : weighed n own (λ d. a d + rights (s d)) ≡ sum_below n (λ d. own d * a d) + sum_below n (λ d. own d * rights (s d)) =
-      sum_below-same n (λ d. own d * (a d + rights (s d))) (λ d. own d * a d + own d * rights (s d)) (λ d c. omega arith) ∙ sum_below-add n (λ d. own d * a d) (λ d. own d * rights (s d)) in
-    omega (arith, corners, crossings, back, rights_here, gain, loss,
-      sum_below-add n (λ d. at_head d * a d) (λ d. 1), sum_below-constant n 1,
+    sum_below-same n (λ d. own d * (a d + rights (s d))) (λ d. own d * a d + own d * rights (s d)) (λ d c. omega arith) ∙ sum_below-add n (λ d. own d * a d) (λ d. own d * rights (s d)) in
+    omega (
+      arith,
+      corners,
+      crossings,
+      back,
+      rights_here,
+      gain,
+      loss,
+      sum_below-add n (λ d. at_head d * a d) (λ d. 1),
+      sum_below-constant n 1,
       low_angles p a s (λ u. low k (v u)) ends rep (λ u. low-few k (v u)),
-      low_faces p a s (λ f. low k (q f)) ends rep (λ f. low-few k (q f)))
+      low_faces p a s (λ f. low k (q f)) ends rep (λ f. low-few k (q f)),
+    )
 
 -- so its string is short
 pub few_turns : (p : Map) (a : ℕ → ℕ) (s : ℕ → List Turn) (v q : ℕ → ℤ) → HasEnds p → vertices p ≤ 255 → Rep p a s → Prove p a s v q → (d : ℕ) → d < darts p → length (s d) ≤ 6144
 few_turns p a s v q ends order rep prove d b =
-    omega (arith, lefts-add-rights (s d), rights_are p a s rep d b, ends.few_darts, ends.few_faces,
-      few_lefts p a s v q ends rep prove d b, few_lefts p a s v q ends rep prove (mate p d) (ends.mate_inside d b))
+    omega (
+      arith,
+      lefts-add-rights (s d),
+      rights_are p a s rep d b,
+      ends.few_darts,
+      ends.few_faces,
+      few_lefts p a s v q ends rep prove d b,
+      few_lefts p a s v q ends rep prove (mate p d) (ends.mate_inside d b),
+    )

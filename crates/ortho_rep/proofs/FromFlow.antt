@@ -1,9 +1,9 @@
 -- A flow in the network of a plane's faces is an orthogonal representation, and its potentials are prices.
-use Rattle.std.proofs.Common.{◌≡◌, ◌≤◌, ◌<◌, ℕ, zero, suc, ◌+◌, ◌*◌, ◌-◌, Bool, true, false, cond, eqb, List, [], ◌∷◌, ◌++◌, length, replicate, map, reverse, add-one, refl, sym, ap, ◌∙◌, subst, inl, inr, arith}
-use Rattle.std.specs.Prelude.{ℤ, pos, negsuc, ◌+ℤ◌, ◌-ℤ◌, ◌≤ℤ◌}
+use Rattle.std.proofs.Common.{◌≡◌, ◌≤◌, ◌<◌, ℕ, zero, suc, ◌+◌, ◌*◌, ◌-◌, Bool, true, false, cond, eqb, List, [], ◌∷◌, ◌++◌, length, replicate, length-append, map, reverse, add-one, refl, sym, ap, ◌∙◌, subst, inl, inr, arith}
+use Rattle.std.specs.Prelude.{ℤ, slice_index_or, pos, negsuc, ◌+ℤ◌, ◌-ℤ◌, ◌≤ℤ◌}
 use Rattle.std.proofs.lemmas.Bool.{cases_eq, eq-eqb, ne_eqb}
 use Rattle.std.proofs.lemmas.Int.{ints}
-use Rattle.std.proofs.lemmas.List.{map-append, reverse-append, replicate-append-replicate}
+use Rattle.std.proofs.lemmas.List.{map-append, reverse-append, replicate-append-replicate, length-replicate}
 use Rattle.sums.specs.Sums.{sum_below, total_below}
 use Rattle.sums.proofs.Sums.{sum_below-same, sum_below-add, sum_below-none, sum_below-split, sum_below-turned}
 use Rattle.faces.specs.Map.{Map, HasEnds, darts, vertices, head, mate, face_at, degree}
@@ -13,29 +13,16 @@ use Rattle.min_cost_flow.specs.Net.{Net, node_count, arc_count, arc_at, supply_a
 use Rattle.min_cost_flow.specs.Flow.{Flow, HasPotentials, IsWithin, HasRoom, leaves, enters, balance}
 use Rattle.ortho_rep.specs.declared.turn.Turn.{Turn}
 use Rattle.ortho_rep.specs.declared.turn.Turn.TheVariants.{Left, Right}
+use Rattle.flow_network.specs.FaceNet.{IsFaceNet, arrivals}
 use Rattle.ortho_rep.specs.Turns.{opposite, mirrored, lefts, rights}
-use Rattle.ortho_rep.specs.Representation.{Rep, angles_around, turning_around, whole_turn}
-use Rattle.ortho_rep.specs.Prices.{IsPriced, Prove}
+use Rattle.ortho_rep.specs.Representation.{Rep, IsShape, IsLeast, angles_around, turning_around, whole_turn}
+use Rattle.ortho_rep.specs.OfFlow.{lefts_then_rights, angles_of, strings_of}
+use Rattle.ortho_rep.specs.Prices.{Tariff, IsPriced, Prove, IsProof, vertex_price, face_price}
+use Rattle.ortho_rep.specs.Shapes.{Figure, angle_at, turns_at}
+use Rattle.ortho_rep.proofs.FewTurns.{few_turns}
 use Rattle.ortho_rep.proofs.TurnLemmas.{lefts-cons, rights-cons}
-use Rattle.ortho_rep.proofs.Duality.{part_at, gains, losses, turning-split}
-
--- how many darts arrive at a vertex
-abbrev pub arrivals : Map → ℕ → ℕ
-arrivals p v = part_at (darts p) (head p) (λ d. 1) v
-
--- the network of a plane's faces: nodes v - 1 for vertices and n + f for faces; of each dart a corner arc and a
--- crossing arc
-pub record IsFaceNet (p : Map) (net : Net) : Type 0 where
-  pub nodes : node_count net ≡ vertices p + p.faces
-  pub arcs : arc_count net ≡ darts p + darts p
-  pub corner : (d : ℕ) → d < darts p → arc_at net d ≡ record { from = head p d - 1; to = vertices p + face_at p d; cap = AtMost 3; cost = 0 }
-  pub crossing : (d : ℕ) → d < darts p → arc_at net (darts p + d) ≡ record { from = vertices p + face_at p d; to = vertices p + face_at p (mate p d); cap = Any; cost = 1 }
-  pub at_vertex : (v : ℕ) → 1 ≤ v → v ≤ vertices p → supply_at net (v - 1) ≡ pos 4 -ℤ pos (arrivals p v)
-  pub at_face : (f : ℕ) → f < p.faces → supply_at net (vertices p + f) ≡ whole_turn p f -ℤ pos (degree p f)
-
--- so many left turns and then so many right turns
-abbrev pub lefts_then_rights : ℕ → ℕ → List Turn
-lefts_then_rights l r = replicate l Left ++ replicate r Right
+use Rattle.ortho_rep.proofs.Duality.{part_at, gains, losses, turning-split, least_by_prices}
+use Rattle.ortho_rep.proofs.Alike.{rep-alike, prove-alike}
 
 pub lefts-of-run : (l r : ℕ) → lefts (lefts_then_rights l r) ≡ l
 lefts-of-run zero zero = refl
@@ -62,12 +49,8 @@ mirrored-run l r =
     ∙ (ap (λ (t : List Turn). t ++ map opposite (reverse (replicate l Left))) (same-exchanged r Right)
     ∙ ap (λ (t : List Turn). replicate r Left ++ t) (same-exchanged l Left)))
 
--- the angles and the strings of a flow
-abbrev pub angles_of : (ℕ → ℕ) → ℕ → ℕ
-angles_of x d = x d + 1
-
-abbrev pub strings_of : Map → (ℕ → ℕ) → ℕ → List Turn
-strings_of p x d = lefts_then_rights (x (darts p + d)) (x (darts p + mate p d))
+pub length-run : (l r : ℕ) → length (lefts_then_rights l r) ≡ l + r
+length-run l r = omega (arith, length-append (replicate l Left) (replicate r Right), length-replicate l Left, length-replicate r Right)
 
 -- the part at a place, where places are named in another way
 part-alike : (m : ℕ) (at to y : ℕ → ℕ) (j k : ℕ) → ((d : ℕ) → d < m → eqb (at d) j ≡ eqb (to d) k) → part_at m at y j ≡ part_at m to y k
@@ -81,8 +64,9 @@ part-none m at y k away =
 eqb-alike : (a b c d : ℕ) → (a ≡ b → c ≡ d) → (c ≡ d → a ≡ b) → eqb a b ≡ eqb c d
 eqb-alike a b c d to back =
     elim (cases_eq a b) [
-      inl e ↦ eq-eqb a b e ∙ sym (eq-eqb c d (to e))
-    | inr ne ↦ ne_eqb a b ne ∙ sym (ne_eqb c d (λ e. ne (back e))) ]
+      | inl e ↦ eq-eqb a b e ∙ sym (eq-eqb c d (to e))
+      | inr ne ↦ ne_eqb a b ne ∙ sym (ne_eqb c d (λ e. ne (back e)))
+    ]
 
 part-add : (m : ℕ) (at y z : ℕ → ℕ) (k : ℕ) → part_at m at (λ d. y d + z d) k ≡ part_at m at y k + part_at m at z k
 part-add m at y z k =
@@ -104,8 +88,8 @@ leaves-parts p net x k is =
     ap (λ (m : ℕ). sum_below m (λ i. cond (eqb (arc_at net i).from k) (x i) 0)) is.arcs
     ∙ (sum_below-split n n (λ i. cond (eqb (arc_at net i).from k) (x i) 0)
     ∙ ap2_add
-        (part-alike n (λ d. (arc_at net d).from) (λ d. head p d - 1) x k k (λ d b. ap (λ (arc : Arc). eqb arc.from k) (is.corner d b)))
-        (part-alike n (λ d. (arc_at net (n + d)).from) (λ d. vertices p + face_at p d) (λ d. x (n + d)) k k (λ d b. ap (λ (arc : Arc). eqb arc.from k) (is.crossing d b))))
+    (part-alike n (λ d. (arc_at net d).from) (λ d. head p d - 1) x k k (λ d b. ap (λ (arc : Arc). eqb arc.from k) (is.corner d b)))
+    (part-alike n (λ d. (arc_at net (n + d)).from) (λ d. vertices p + face_at p d) (λ d. x (n + d)) k k (λ d b. ap (λ (arc : Arc). eqb arc.from k) (is.crossing d b))))
   where
     ap2_add : {a b c d : ℕ} → a ≡ b → c ≡ d → a + c ≡ b + d
     ap2_add e h = omega (arith, e, h)
@@ -116,8 +100,8 @@ enters-parts p net x k is =
     ap (λ (m : ℕ). sum_below m (λ i. cond (eqb (arc_at net i).to k) (x i) 0)) is.arcs
     ∙ (sum_below-split n n (λ i. cond (eqb (arc_at net i).to k) (x i) 0)
     ∙ ap2_add
-        (part-alike n (λ d. (arc_at net d).to) (λ d. vertices p + face_at p d) x k k (λ d b. ap (λ (arc : Arc). eqb arc.to k) (is.corner d b)))
-        (part-alike n (λ d. (arc_at net (n + d)).to) (λ d. vertices p + face_at p (mate p d)) (λ d. x (n + d)) k k (λ d b. ap (λ (arc : Arc). eqb arc.to k) (is.crossing d b))))
+    (part-alike n (λ d. (arc_at net d).to) (λ d. vertices p + face_at p d) x k k (λ d b. ap (λ (arc : Arc). eqb arc.to k) (is.corner d b)))
+    (part-alike n (λ d. (arc_at net (n + d)).to) (λ d. vertices p + face_at p (mate p d)) (λ d. x (n + d)) k k (λ d b. ap (λ (arc : Arc). eqb arc.to k) (is.crossing d b))))
   where
     ap2_add : {a b c d : ℕ} → a ≡ b → c ≡ d → a + c ≡ b + d
     ap2_add e h = omega (arith, e, h)
@@ -128,7 +112,7 @@ around_vertex p net x v ends is flow from to =
     let n = darts p in
     let k = v - 1 in
     let corners : part_at n (λ d. head p d - 1) x k ≡ part_at n (head p) x v =
-      part-alike n (λ d. head p d - 1) (head p) x k v (λ d b. eqb-alike (head p d - 1) k (head p d) v (λ e. omega (arith, ends.head_from d b)) (λ e. omega arith)) in
+    part-alike n (λ d. head p d - 1) (head p) x k v (λ d b. eqb-alike (head p d - 1) k (head p d) v (λ e. omega (arith, ends.head_from d b)) (λ e. omega arith)) in
     let out : part_at n (λ d. vertices p + face_at p d) (λ d. x (n + d)) k ≡ 0 = part-none n (λ d. vertices p + face_at p d) (λ d. x (n + d)) k (λ d b e. omega arith) in
     let in_corner : part_at n (λ d. vertices p + face_at p d) x k ≡ 0 = part-none n (λ d. vertices p + face_at p d) x k (λ d b e. omega arith) in
     let in_crossing : part_at n (λ d. vertices p + face_at p (mate p d)) (λ d. x (n + d)) k ≡ 0 = part-none n (λ d. vertices p + face_at p (mate p d)) (λ d. x (n + d)) k (λ d b e. omega arith) in
@@ -145,37 +129,56 @@ around_face p net x f ends is flow below =
     let left : ℕ → ℕ = λ d. x (n + d) in
     let right : ℕ → ℕ = λ d. x (n + mate p d) in
     let shifted : (y at : ℕ → ℕ) → part_at n (λ d. vertices p + at d) y k ≡ part_at n at y f =
-      λ y at. part-alike n (λ d. vertices p + at d) at y k f (λ d b. eqb-alike (vertices p + at d) k (at d) f (λ e. omega arith) (λ e. omega arith)) in
+    λ y at. part-alike n (λ d. vertices p + at d) at y k f (λ d b. eqb-alike (vertices p + at d) k (at d) f (λ e. omega arith) (λ e. omega arith)) in
     let out_corner : part_at n (λ d. head p d - 1) x k ≡ 0 = part-none n (λ d. head p d - 1) x k (λ d b e. omega (arith, ends.head_from d b, ends.head_to d b)) in
     let back : part_at n (λ d. face (mate p d)) left f ≡ part_at n face right f =
-      sum_below-same n (λ d. cond (eqb (face (mate p d)) f) (left d) 0) (λ d. cond (eqb (face (mate p d)) f) (right (mate p d)) 0)
-        (λ d b. ap (λ (e : ℕ). cond (eqb (face (mate p d)) f) (x (n + e)) 0) (sym (ends.mate_back d b)))
-      ∙ sum_below-turned n (mate p) (λ d. cond (eqb (face d) f) (right d) 0) ends.mate_inside ends.mate_back in
+    sum_below-same n (λ d. cond (eqb (face (mate p d)) f) (left d) 0) (λ d. cond (eqb (face (mate p d)) f) (right (mate p d)) 0)
+    (λ d b. ap (λ (e : ℕ). cond (eqb (face (mate p d)) f) (x (n + e)) 0) (sym (ends.mate_back d b)))
+    ∙ sum_below-turned n (mate p) (λ d. cond (eqb (face d) f) (right d) 0) ends.mate_inside ends.mate_back in
     let meets : balance net x k ≡ whole_turn p f -ℤ pos (degree p f) = flow.meets k (omega (arith, is.nodes)) ∙ is.at_face f below in
     let gain : gains p (angles_of x) (strings_of p x) f ≡ part_at n face (λ d. 1) f + part_at n face (λ d. 1) f + part_at n face left f =
-      omega (arith,
-        part-same n face (λ d. 2 + lefts (strings_of p x d)) (λ d. 1 + 1 + left d) f (λ d. omega (arith, lefts-of-run (left d) (right d))),
-        part-add n face (λ d. 1) (λ d. 1) f, part-add n face (λ d. 1 + 1) left f) in
+    omega (
+      arith,
+      part-same n face (λ d. 2 + lefts (strings_of p x d)) (λ d. 1 + 1 + left d) f (λ d. omega (arith, lefts-of-run (left d) (right d))),
+      part-add n face (λ d. 1) (λ d. 1) f,
+      part-add n face (λ d. 1 + 1) left f,
+    ) in
     let loss : losses p (angles_of x) (strings_of p x) f ≡ part_at n face x f + part_at n face (λ d. 1) f + part_at n face right f =
-      omega (arith,
-        part-same n face (λ d. angles_of x d + rights (strings_of p x d)) (λ d. x d + 1 + right d) f (λ d. omega (arith, rights-of-run (left d) (right d))),
-        part-add n face x (λ d. 1) f, part-add n face (λ d. x d + 1) right f) in
+    omega (
+      arith,
+      part-same n face (λ d. angles_of x d + rights (strings_of p x d)) (λ d. x d + 1 + right d) f (λ d. omega (arith, rights-of-run (left d) (right d))),
+      part-add n face x (λ d. 1) f,
+      part-add n face (λ d. x d + 1) right f,
+    ) in
     turning-split p (angles_of x) (strings_of p x) f
-    ∙ omega (arith, ints, shifted left face, shifted x face, shifted left (λ d. face (mate p d)), out_corner, back, meets, gain, loss,
-        leaves-parts p net x k is, enters-parts p net x k is)
+    ∙ omega (
+      arith,
+      ints,
+      shifted left face,
+      shifted x face,
+      shifted left (λ d. face (mate p d)),
+      out_corner,
+      back,
+      meets,
+      gain,
+      loss,
+      leaves-parts p net x k is,
+      enters-parts p net x k is,
+    )
 
 -- a flow is a representation
 pub rep_of_flow : (p : Map) (net : Net) (x : ℕ → ℕ) → HasEnds p → IsFaceNet p net → Flow net x → Rep p (angles_of x) (strings_of p x)
 rep_of_flow p net x ends is flow = record {
-    angles = λ d b. (omega arith, angle_within d b);
-    strings = λ d b. ap (λ (e : ℕ). lefts_then_rights (x (darts p + mate p d)) (x (darts p + e))) (ends.mate_back d b) ∙ sym (mirrored-run (x (darts p + d)) (x (darts p + mate p d)));
-    around = λ v from to. around_vertex p net x v ends is flow from to;
-    faces = λ f b. around_face p net x f ends is flow b }
+  angles = λ d b. (omega arith, angle_within d b);
+  strings = λ d b. ap (λ (e : ℕ). lefts_then_rights (x (darts p + mate p d)) (x (darts p + e))) (ends.mate_back d b) ∙ sym (mirrored-run (x (darts p + d)) (x (darts p + mate p d)));
+  around = λ v from to. around_vertex p net x v ends is flow from to;
+  faces = λ f b. around_face p net x f ends is flow b;
+}
   where
     angle_within : (d : ℕ) → d < darts p → x d + 1 ≤ 4
     angle_within d b =
-      let within : x d ≤ 3 = subst (λ (arc : Arc). IsWithin arc.cap (x d)) (is.corner d b) (flow.within d (omega (arith, is.arcs))) in
-      omega arith
+        let within : x d ≤ 3 = subst (λ (arc : Arc). IsWithin arc.cap (x d)) (is.corner d b) (flow.within d (omega (arith, is.arcs))) in
+        omega arith
 
 -- the potentials fit an arc that carries an amount
 abbrev fits : Arc → (ℕ → ℤ) → ℕ → Type 0
@@ -193,4 +196,48 @@ prove_of_potentials p net x q ends is fit = λ d b.
       wider = λ h. omega (arith, ints, corner.0 (omega arith));
       narrower = λ h. omega (arith, ints, corner.1 (omega arith));
       crossed = omega (arith, ints, crossing.0 tt);
-      tight = λ h. omega (arith, ints, crossing.0 tt, crossing.1 (omega (arith, lefts-of-run (x (darts p + d)) (x (darts p + mate p d))))) }
+      tight = λ h. omega (arith, ints, crossing.0 tt, crossing.1 (omega (arith, lefts-of-run (x (darts p + d)) (x (darts p + mate p d)))));
+    }
+
+-- a corner carries at most three units
+pub corner_few : (p : Map) (net : Net) (x : ℕ → ℕ) (d : ℕ) → IsFaceNet p net → Flow net x → d < darts p → x d ≤ 3
+corner_few p net x d is flow b =
+    subst (λ (arc : Arc). IsWithin arc.cap (x d)) (is.corner d b) (flow.within d (omega (arith, is.arcs)))
+
+-- the strings of a least-cost flow are short
+pub short_of_flow : (p : Map) (net : Net) (x : ℕ → ℕ) (q : ℕ → ℤ) → HasEnds p → vertices p ≤ 255 → IsFaceNet p net → Flow net x → HasPotentials net x q → (d : ℕ) → d < darts p → x (darts p + d) + x (darts p + mate p d) ≤ 6144
+short_of_flow p net x q ends order is flow fit d b =
+    omega (
+      arith,
+      few_turns p (angles_of x) (strings_of p x) (λ v. q (v - 1)) (λ f. q (vertices p + f)) ends order (rep_of_flow p net x ends is flow) (prove_of_potentials p net x q ends is fit) d b,
+      length-run (x (darts p + d)) (x (darts p + mate p d)),
+    )
+
+-- angles, strings and prices of a least-cost flow
+pub record IsOfFlow (p : Map) (x : ℕ → ℕ) (q : ℕ → ℤ) (shape : Figure) (t : Tariff) : Type 0 where
+  pub angle_count : length shape.angles ≡ darts p
+  pub string_count : length shape.strings ≡ darts p
+  pub vertex_count : length t.vertices ≡ vertices p
+  pub face_count : length t.faces ≡ p.faces
+  pub angle : (d : ℕ) → d < darts p → angle_at shape d ≡ angles_of x d
+  pub string : (d : ℕ) → d < darts p → turns_at shape d ≡ strings_of p x d
+  pub vertex : (k : ℕ) → k < vertices p → slice_index_or t.vertices k (pos 0) ≡ q k
+  pub face : (f : ℕ) → f < p.faces → face_price t f ≡ q (vertices p + f)
+
+-- are a least representation, and prices that prove it
+pub shape_of_flow : (p : Map) (net : Net) (x : ℕ → ℕ) (q : ℕ → ℤ) (shape : Figure) (t : Tariff) → HasEnds p → IsFaceNet p net → Flow net x → IsOfFlow p x q shape t → IsShape p shape
+shape_of_flow p net x q shape t ends is flow found = record {
+  lengths = record { angles = found.angle_count; strings = found.string_count };
+  rep = rep-alike p (angles_of x) (angle_at shape) (strings_of p x) (turns_at shape) ends found.angle found.string (rep_of_flow p net x ends is flow);
+}
+
+pub proof_of_flow : (p : Map) (net : Net) (x : ℕ → ℕ) (q : ℕ → ℤ) (shape : Figure) (t : Tariff) → HasEnds p → IsFaceNet p net → HasPotentials net x q → IsOfFlow p x q shape t → IsProof p shape t
+proof_of_flow p net x q shape t ends is fit found = record {
+  lengths = record { angles = found.angle_count; strings = found.string_count };
+  prices = record { vertices = found.vertex_count; faces = found.face_count };
+  prove = prove-alike p (angles_of x) (angle_at shape) (strings_of p x) (turns_at shape) (λ v. q (v - 1)) (vertex_price t) (λ f. q (vertices p + f)) (face_price t) ends found.angle found.string (λ v from to. found.vertex (v - 1) (omega arith)) found.face (prove_of_potentials p net x q ends is fit);
+}
+
+pub least_of_flow : (p : Map) (net : Net) (x : ℕ → ℕ) (q : ℕ → ℤ) (shape : Figure) (t : Tariff) → HasEnds p → IsFaceNet p net → Flow net x → HasPotentials net x q → IsOfFlow p x q shape t → IsLeast p shape
+least_of_flow p net x q shape t ends is flow fit found =
+    least_by_prices p (angle_at shape) (turns_at shape) (vertex_price t) (face_price t) ends (shape_of_flow p net x q shape t ends is flow found).rep (proof_of_flow p net x q shape t ends is fit found).prove

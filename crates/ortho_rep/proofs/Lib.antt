@@ -8,3 +8,5 @@ pub mod Priced
 pub mod Tallied
 pub mod FewTurns
 pub mod FromFlow
+pub mod Joined
+pub mod Alike

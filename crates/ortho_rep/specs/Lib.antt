@@ -3,6 +3,7 @@ pub mod Storage
 pub mod Stores
 pub mod Shapes
 pub mod Representation
+pub mod OfFlow
 pub mod Prices
 pub mod Points
 pub mod Edges

@@ -2,6 +2,7 @@
 #![tactic(auto)]
 
 mod certificate;
+mod least;
 mod points;
 mod prices;
 mod representation;
@@ -10,6 +11,7 @@ mod strings;
 mod turn;
 
 pub use certificate::certify;
+pub use least::least_shape;
 pub use points::{Point, Points};
 pub use prices::Prices;
 pub use representation::is_shape;

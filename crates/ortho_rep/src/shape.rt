@@ -50,6 +50,13 @@ impl Shape {
         }
     }
 
+    /// The shape with these angles and strings.
+    pub(crate) fn of_strings(angles: Vec<u8>, strings: Strings) -> Shape
+        ensures { result ≡ record { angles = angles.items; strings = strings } }
+    {
+        Shape { angles, strings }
+    }
+
     /// How many angles there are.
     pub fn angle_count(&self) -> usize
         ensures { result ≡ length self.now.angles }

@@ -11,5 +11,6 @@ items_of v = v.items
 
 pub invariant_of-result : goal.invariant_of-result
 invariant_of-result c = record {
-    few = omega (arith, c.requires.few, length-map c.args.lists.items items_of);
-    short = lists_in-short c.args.lists.items 1000000 c.requires.short }
+  few = omega (arith, c.requires.few, length-map c.args.lists.items items_of);
+  short = lists_in-short c.args.lists.items 1000000 c.requires.short;
+}

@@ -1,0 +1,199 @@
+//! Least shapes, by a flow of least cost in the network of a plane.
+
+ghost use Rattle.std.specs.Prelude.{◌≡◌, ◌+◌, ◌<◌, ◌≤◌, ◌++◌, [], ℕ, pos, OnOk, IfOk, length, replicate, slice_index, slice_index_or, vec_len, ◌^◌};
+ghost use Rattle.faces.specs.Map.{darts, vertices};
+ghost use Rattle.min_cost_flow.specs.Flow.{Flow, Solves, amounts, at_nodes};
+ghost use Rattle.flow_network.specs.FaceNet.{IsNetOf};
+ghost use Rattle.ortho_rep.specs.OfFlow.{angles_of, strings_of};
+ghost use Rattle.ortho_rep.specs.Representation.{IsShape, IsLeast};
+ghost use Rattle.ortho_rep.specs.Prices.{IsProof};
+
+use crate::prices::Prices;
+use crate::shape::Shape;
+use crate::strings::Strings;
+use crate::turn::Turn;
+use faces::Plane;
+use flow_network::FaceNet;
+use min_cost_flow::{Network, SolveFault, Solved, solve};
+use std::alloc::{AllocError, Global};
+
+/// An orthogonal representation of the plane with the fewest bends, and prices that prove it least.
+///
+/// It is a flow of least cost in the plane's network, and the prices are its potentials (Tamassia
+/// 1987): a corner carries a dart's angle less one, a crossing its left turns. Along each dart the left
+/// turns come first.
+///
+/// # Errors
+///
+/// `AllocError` where there is no memory for the network, its flow or the answer.
+pub fn least_shape(alloc: Global, plane: &Plane) -> Result<(Shape, Prices), AllocError>
+    ensures shape { IfOk result (λ found. IsShape plane.now found.0) }
+    ensures least { IfOk result (λ found. IsLeast plane.now found.0) }
+    ensures proof { IfOk result (λ found. IsProof plane.now found.0 found.1) }
+{
+    let net = FaceNet::build(alloc, plane)?;
+    let solved = least_flow(alloc, net.network())?;
+    let _graph = plane.graph();
+    let angles = angles_in(alloc, plane, &net, &solved)?;
+    let strings = strings_in(alloc, plane, &net, &solved)?;
+    let vertices = vertex_prices(alloc, plane, &net, &solved)?;
+    let faces = face_prices(alloc, plane, &net, &solved)?;
+    Ok((
+        Shape::of_strings(angles, strings),
+        Prices::new(vertices, faces),
+    ))
+}
+
+/// A flow of least cost in a network that has some flow.
+fn least_flow(alloc: Global, network: &Network) -> Result<Solved, AllocError>
+    requires { (x : ℕ → ℕ) × Flow network.now x }
+    ensures { IfOk result (λ solved. Solves network.now solved) }
+{
+    match solve(alloc, network) {
+        Ok(solved) => Ok(solved),
+        Err(SolveFault::Memory) => Err(AllocError),
+        Err(SolveFault::Infeasible) => unreachable!(),
+    }
+}
+
+/// What the corner of a dart carries.
+fn corner_flow(plane: &Plane, net: &FaceNet, solved: &Solved, dart: u16) -> u8
+    requires net { IsNetOf plane.now net.now }
+    requires solves { Solves net.now.network solved.now }
+    requires within { dart < darts plane.now }
+    ensures value { result ≡ amounts solved.now.flow dart }
+    ensures few { result ≤ 3 }
+{
+    let _outer = plane.outer();
+    solved.flow(net.corner_arc(dart)) as u8
+}
+
+/// What the crossing of a dart carries.
+fn crossing_flow(plane: &Plane, net: &FaceNet, solved: &Solved, dart: u16) -> u32
+    requires net { IsNetOf plane.now net.now }
+    requires solves { Solves net.now.network solved.now }
+    requires within { dart < darts plane.now }
+    ensures { result ≡ amounts solved.now.flow (darts plane.now + dart) }
+{
+    let _outer = plane.outer();
+    solved.flow(net.crossing_arc(dart))
+}
+
+/// The angles of a flow.
+fn angles_in(
+    alloc: Global,
+    plane: &Plane,
+    net: &FaceNet,
+    solved: &Solved,
+) -> Result<Vec<u8>, AllocError>
+    requires net { IsNetOf plane.now net.now }
+    requires solves { Solves net.now.network solved.now }
+    ensures count { IfOk result (λ angles. vec_len angles ≡ darts plane.now) }
+    ensures each { IfOk result (λ angles. (d : ℕ) → d < darts plane.now
+        → slice_index angles.items d ≡ angles_of (amounts solved.now.flow) d) }
+{
+    let darts = plane.graph().darts();
+    let mut angles = Vec::with_capacity(alloc, usize::from(darts))?;
+    for dart in 0..darts {
+        angles.push(corner_flow(plane, net, solved, dart) + 1)?;
+    }
+    Ok(angles)
+}
+
+/// The strings of a flow, in one list of turns.
+fn strings_in(
+    alloc: Global,
+    plane: &Plane,
+    net: &FaceNet,
+    solved: &Solved,
+) -> Result<Strings, AllocError>
+    requires net { IsNetOf plane.now net.now }
+    requires solves { Solves net.now.network solved.now }
+    ensures count { IfOk result (λ strings. length strings ≡ darts plane.now) }
+    ensures each { IfOk result (λ strings. (d : ℕ) → d < darts plane.now
+        → slice_index_or strings d [] ≡ strings_of plane.now (amounts solved.now.flow) d) }
+{
+    let graph = plane.graph();
+    let mut turns = Vec::with_capacity(alloc, 2 * count_bends(plane, net, solved))?;
+    let mut starts = Vec::with_capacity(alloc, usize::from(graph.darts()) + 1)?;
+    starts.push(0)?;
+    for dart in 0..graph.darts() {
+        push_turns(
+            &mut turns,
+            Turn::Left,
+            crossing_flow(plane, net, solved, dart),
+        )?;
+        push_turns(
+            &mut turns,
+            Turn::Right,
+            crossing_flow(plane, net, solved, graph.reverse(dart)),
+        )?;
+        starts.push(turns.len() as u32)?;
+    }
+    Ok(Strings::joined(turns, starts))
+}
+
+/// How much all crossings carry.
+fn count_bends(plane: &Plane, net: &FaceNet, solved: &Solved) -> usize
+    requires net { IsNetOf plane.now net.now }
+    requires solves { Solves net.now.network solved.now }
+    ensures few { result < 2 ^ 48 }
+{
+    let mut bends = 0;
+    for dart in 0..plane.graph().darts() {
+        bends += crossing_flow(plane, net, solved, dart) as usize;
+    }
+    bends
+}
+
+/// Puts a turn behind a list so many times.
+fn push_turns(turns: &mut Vec<Turn>, turn: Turn, count: u32) -> Result<(), AllocError>
+    ensures { OnOk result (turns.new.items ≡ turns.old.items ++ replicate count turn) }
+{
+    for _done in 0..count {
+        turns.push(turn)?;
+    }
+    Ok(())
+}
+
+/// The potentials of the vertices.
+fn vertex_prices(
+    alloc: Global,
+    plane: &Plane,
+    net: &FaceNet,
+    solved: &Solved,
+) -> Result<Vec<i32>, AllocError>
+    requires net { IsNetOf plane.now net.now }
+    requires solves { Solves net.now.network solved.now }
+    ensures count { IfOk result (λ prices. vec_len prices ≡ vertices plane.now) }
+    ensures each { IfOk result (λ prices. (k : ℕ) → k < vertices plane.now
+        → slice_index_or prices.items k (pos 0) ≡ at_nodes solved.now.potential k) }
+{
+    let vertices = plane.graph().vertices();
+    let mut prices = Vec::with_capacity(alloc, usize::from(vertices))?;
+    for vertex in 0..vertices {
+        prices.push(solved.potential(net.vertex_node(vertex + 1)))?;
+    }
+    Ok(prices)
+}
+
+/// The potentials of the faces.
+fn face_prices(
+    alloc: Global,
+    plane: &Plane,
+    net: &FaceNet,
+    solved: &Solved,
+) -> Result<Vec<i32>, AllocError>
+    requires net { IsNetOf plane.now net.now }
+    requires solves { Solves net.now.network solved.now }
+    ensures count { IfOk result (λ prices. vec_len prices ≡ plane.now.faces) }
+    ensures each { IfOk result (λ prices. (f : ℕ) → f < plane.now.faces
+        → slice_index_or prices.items f (pos 0) ≡ at_nodes solved.now.potential (vertices plane.now + f)) }
+{
+    let faces = plane.face_count();
+    let mut prices = Vec::with_capacity(alloc, usize::from(faces))?;
+    for face in 0..faces {
+        prices.push(solved.potential(net.face_node(face)))?;
+    }
+    Ok(prices)
+}
