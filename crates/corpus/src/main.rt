@@ -1,52 +1,33 @@
-//! Reads each file that is named in pieces of several sizes, and compares what is found with what
-//! the plain splitter finds in the whole file.
+//! Tries the layers of the library on files of other tools. After the word `pieces` each file that is
+//! named is read in pieces of several sizes, and what is found is compared with what the plain
+//! splitter finds in the whole file. After `planes` each graph of a file is read and its faces are
+//! traced, and a line tells the result; after `shapes` a least shape is found too, and tested.
 #![tactic(auto)]
 
-ghost use Rattle.std.specs.Prelude.{◌<◌};
+mod pieces;
+mod stages;
 
-use anyhow::{Context, Result, ensure};
-use collector::{Frames, Mark, MemTap, run_frames};
-use planar_code::{Ending, Record, split};
-use std::rt::Files;
-use std::sync::Wait;
-use std::thread::Threads;
-use std::{env, fs};
+use anyhow::Result;
+use pieces::compare;
+use stages::{Depth, report};
+use std::env;
 
-/// How many bytes a read gives at most.
-const SIZES: [usize; 4] = [1, 2, 7, 65_536];
+/// What is done with a file.
+#[derive(Clone, Copy)]
+enum Task {
+    Pieces,
+    Report(Depth),
+}
 
 fn main(rt: HostRuntime) -> Result<()> {
-    for name in env::args(&rt)?.skip(1) {
-        compare(&rt, name.as_str())?;
+    let mut task = Task::Pieces;
+    for word in env::args(&rt)?.skip(1) {
+        match (word.as_str(), task) {
+            ("pieces", _) => task = Task::Pieces,
+            ("planes", _) => task = Task::Report(Depth::Planes),
+            (name, Task::Pieces) => compare(&rt, name)?,
+            (name, Task::Report(depth)) => report(&rt, name, depth)?,
+        }
     }
     Ok(())
-}
-
-/// Compares the pieces of one file with the whole.
-fn compare<R: Files + Print + AllocGlobal + Threads + Wait + Sync>(
-    rt: &R,
-    name: &str,
-) -> Result<()> {
-    let bytes = fs::read(rt, name).context(format_args!("{name}"))?;
-    let (records, ending) = split(rt.alloc(), bytes.as_slice())?;
-    for most in SIZES {
-        let source = MemTap::new(bytes.clone()?, most);
-        let found = run_frames(rt, rt.alloc(), source, 16)?;
-        let same = is_same(&found, records.as_slice(), ending);
-        ensure!(same, "{name}: another answer in pieces of {most}");
-    }
-    let count = records.len();
-    println!(rt; "{name}: {count} records and {ending:?}, in pieces of 1, 2, 7 and 65536 bytes")?;
-    Ok(())
-}
-
-/// Whether a run found these records and this ending.
-fn is_same(found: &Frames, records: &[Record], ending: Ending) -> bool {
-    found.mark() == Mark::Ended(ending)
-        && found.records().len() == records.len()
-        && found
-            .records()
-            .iter()
-            .zip(records)
-            .all(|(a, b)| a.bytes() == b.bytes())
 }

@@ -1,0 +1,66 @@
+use anyhow::{Context, Result, bail, ensure};
+use embedding::{Graph, ReadFault};
+use faces::{Plane, TraceFault};
+use planar_code::{Framer, Record};
+use std::alloc::Global;
+use std::fs;
+use std::rt::Files;
+
+/// How far a graph is taken.
+#[derive(Clone, Copy)]
+pub enum Depth {
+    Planes,
+}
+
+/// What became of a graph.
+#[derive(Drop)]
+enum Found {
+    Refused(&'static str),
+    Traced(Plane),
+}
+
+/// Prints a line for each graph of one file, and one for its end.
+pub fn report<R: Files + Print + AllocGlobal>(rt: &R, name: &str, depth: Depth) -> Result<()> {
+    let bytes = fs::read(rt, name).context(format_args!("{name}"))?;
+    let alloc = rt.alloc();
+    let mut framer = Framer::new(alloc)?;
+    let mut records = Vec::new(alloc);
+    let fed = framer.feed(alloc, bytes.as_slice(), &mut records);
+    ensure!(fed.is_ok(), "{name}: not the header and records");
+    println!(rt; "{name}")?;
+    for (place, record) in records.iter().enumerate() {
+        let number = place as u64 + 1;
+        match trace(alloc, record)? {
+            Found::Refused(word) => println!(rt; "graph {number} refused {word}")?,
+            Found::Traced(plane) => line(rt, number, &plane, depth)?,
+        }
+    }
+    let count = records.len();
+    println!(rt; "end complete graphs={count}")?;
+    Ok(())
+}
+
+/// Prints the line of a plane.
+fn line<R: Print + AllocGlobal>(rt: &R, number: u64, plane: &Plane, depth: Depth) -> Result<()> {
+    let n = plane.graph().vertices();
+    let m = plane.graph().edges();
+    let f = plane.face_count();
+    match depth {
+        Depth::Planes => println!(rt; "graph {number} ok n={n} m={m} f={f}")?,
+    }
+    Ok(())
+}
+
+/// The plane of a record, or the rule that it breaks.
+fn trace(alloc: Global, record: &Record) -> Result<Found> {
+    let graph = match Graph::read(alloc, record) {
+        Ok(graph) => graph,
+        Err(ReadFault::Rule(rule)) => return Ok(Found::Refused(rule.word())),
+        Err(ReadFault::Memory) => bail!("out of memory"),
+    };
+    match Plane::trace(alloc, graph) {
+        Ok(plane) => Ok(Found::Traced(plane)),
+        Err(TraceFault::Genus(_)) => Ok(Found::Refused("genus")),
+        Err(TraceFault::Memory(_)) => bail!("out of memory"),
+    }
+}
