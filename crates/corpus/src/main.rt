@@ -25,6 +25,7 @@ fn main(rt: HostRuntime) -> Result<()> {
         match (word.as_str(), task) {
             ("pieces", _) => task = Task::Pieces,
             ("planes", _) => task = Task::Report(Depth::Planes),
+            ("shapes", _) => task = Task::Report(Depth::Shapes),
             (name, Task::Pieces) => compare(&rt, name)?,
             (name, Task::Report(depth)) => report(&rt, name, depth)?,
         }

@@ -1,6 +1,7 @@
 use anyhow::{Context, Result, bail, ensure};
 use embedding::{Graph, ReadFault};
 use faces::{Plane, TraceFault};
+use ortho_rep::{certify, is_shape, least_shape};
 use planar_code::{Framer, Record};
 use std::alloc::Global;
 use std::fs;
@@ -10,6 +11,7 @@ use std::rt::Files;
 #[derive(Clone, Copy)]
 pub enum Depth {
     Planes,
+    Shapes,
 }
 
 /// What became of a graph.
@@ -47,8 +49,20 @@ fn line<R: Print + AllocGlobal>(rt: &R, number: u64, plane: &Plane, depth: Depth
     let f = plane.face_count();
     match depth {
         Depth::Planes => println!(rt; "graph {number} ok n={n} m={m} f={f}")?,
+        Depth::Shapes => {
+            let bends = fewest_bends(rt.alloc(), plane)?;
+            println!(rt; "graph {number} ok n={n} m={m} f={f} bends={bends}")?;
+        }
     }
     Ok(())
+}
+
+/// The bends of a least shape, once both tests have said yes to it.
+fn fewest_bends(alloc: Global, plane: &Plane) -> Result<u32> {
+    let (shape, prices) = least_shape(alloc, plane)?;
+    ensure!(is_shape(plane, &shape), "no orthogonal representation");
+    ensure!(certify(plane, &shape, &prices), "the prices prove nothing");
+    Ok(shape.bends())
 }
 
 /// The plane of a record, or the rule that it breaks.

@@ -1,9 +1,16 @@
 //! Laws of the definitions, each as the contract of a function that does nothing.
-ghost use Rattle.std.specs.Prelude.{◌≡◌, ℕ, ◌<◌, ◌≤◌, List, [], ◌++◌, length, All};
+ghost use Rattle.std.specs.Prelude.{codes, ◌≡◌, ℕ, ◌<◌, ◌≤◌, List, [], ◌++◌, length, All};
 ghost use Rattle.planar_code.specs.declared.ending.Ending.{Ending};
 ghost use Rattle.planar_code.specs.Stream.{IsRecord, HasLongList, lists_of};
 ghost use Rattle.planar_code.specs.Split.{IsSplit, IsOpen};
 ghost use Rattle.planar_code.specs.Place.{Place, StandsAt, IsRunning};
+
+use crate::HEADER;
+
+/// The header is the text `>>planar_code<<`, byte for byte.
+pub fn header_text()
+    ensures { HEADER ≡ codes ">>planar_code<<" }
+{}
 
 /// A record's lists are those that its bytes hold.
 pub fn record_lists()
