@@ -1,7 +1,7 @@
 #!/usr/bin/env python3
 """What a link costs: framing on one thread against framing with a reader's thread and a link.
 
-Builds the program in src/ over this repository's crates, in a folder of its own, and prints for each
+Builds the program in program.txt (Rattle source; no check of this repository reads it) over this repository's crates, in a folder of its own, and prints for each
 file and capacity the time as a ratio to one thread, and what one message costs.
 
 usage: compare.py [FOLDER]      (default: /tmp/planarbend-link; it is kept, so that a second run is quick)
@@ -30,7 +30,8 @@ def build(folder):
             shutil.copytree(os.path.join(ROOT, "crates", name, part), os.path.join(target, part))
     program = os.path.join(folder, "crates", "link_cost")
     shutil.rmtree(os.path.join(program, "src"), ignore_errors=True)
-    shutil.copytree(os.path.join(HERE, "src"), os.path.join(program, "src"))
+    os.makedirs(os.path.join(program, "src"))
+    shutil.copy(os.path.join(HERE, "program.txt"), os.path.join(program, "src", "main.rt"))
     shutil.copy(os.path.join(ROOT, "HANDLES"), folder)
     with open(os.path.join(ROOT, "crates.txt")) as lines:
         kept = [line for line in lines if line.split(":")[0] in CRATES]
