@@ -177,7 +177,7 @@ fn torus_is_refused_with_its_graph(rt: HostRuntime) -> Result<(), Fail> {
 }
 
 // A refused allocation may come before the walk, where it ends the test, or in it, and then the graph
-// that comes back gives the plane. A script refuses each allocation of this test in turn.
+// that comes back gives the plane. (`rt try --test --fail-alloc N` refuses allocation N.)
 #[test]
 fn memory_hands_the_graph_back(rt: HostRuntime) -> Result<(), Fail> {
     let alloc = rt.alloc();

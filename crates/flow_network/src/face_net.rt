@@ -8,8 +8,15 @@ use min_cost_flow::Network;
 use std::alloc::{AllocError, Global};
 use std::marker::Model;
 
-/// The flow network of a plane (Tamassia 1987). Nodes 0 to n - 1 are the vertices, and the faces follow.
-/// Arcs 0 to D - 1 are the corners of the darts, and their crossings follow.
+/// The flow network of a plane (Tamassia 1987). A unit in a corner is a right angle beyond the first, and
+/// a unit across an edge is a bend.
+///
+/// | Thing | Number |
+/// |---|---|
+/// | node of vertex v | v - 1; it supplies 4 less its degree |
+/// | node of face f | n + f; an inner face supplies 4 less its degree, the outer face -4 less its degree |
+/// | corner arc of dart d | d, from its head to its face, at most 3 units, cost 0 |
+/// | crossing arc of dart d | D + d, from its face to the face across, any number of units, cost 1 each |
 #[derive(Debug, Drop)]
 pub struct FaceNet {
     network: Network,
