@@ -1,0 +1,566 @@
+//! Small planes by hand, and a thousand random shapes and prices against a plain reading of the rules.
+
+ghost use Rattle.std.specs.Prelude.{◌<◌};
+
+use embedding::Graph;
+use faces::Plane;
+use ortho_rep::{Prices, Shape, Turn, certify, is_shape, least_shape};
+use planar_code::{Framer, HEADER, Record};
+use std::alloc::Global;
+use std::process::Abort;
+use std::test::Fail;
+
+/// A record, the angles and strings of a shape, and prices.
+#[derive(Clone, Copy)]
+struct Case<'a> {
+    record: &'a [u8],
+    angles: &'a [u8],
+    texts: &'a [&'a str],
+    vertices: &'a [i32],
+    faces: &'a [i32],
+}
+
+const TRIANGLE: [u8; 10] = [3, 2, 3, 0, 3, 1, 0, 1, 2, 0];
+
+const PATH: [u8; 14] = [5, 2, 0, 1, 3, 0, 2, 4, 0, 3, 5, 0, 4, 0];
+
+const EDGE: [u8; 5] = [2, 2, 0, 1, 0];
+
+/// The record of these bytes.
+fn record_of(alloc: Global, bytes: &[u8]) -> Result<Record, Fail> {
+    let mut framer = Framer::new(alloc)?;
+    let mut records = Vec::new(alloc);
+    framer.feed(alloc, &HEADER, &mut records)?;
+    framer.feed(alloc, bytes, &mut records)?;
+    let record = records.pop().ok_or("no record")?;
+    Ok(record)
+}
+
+/// The plane of these bytes.
+fn plane_of(alloc: Global, bytes: &[u8]) -> Result<Plane, Fail> {
+    let record = record_of(alloc, bytes)?;
+    let graph = Graph::read(alloc, &record)?;
+    Ok(Plane::trace(alloc, graph)?)
+}
+
+/// A string of turns, from a text of `L` and `R`.
+fn string_of(alloc: Global, text: &str) -> Result<Vec<Turn>, Fail> {
+    let mut turns = Vec::new(alloc);
+    for letter in text.bytes() {
+        turns.push(if letter == b'L' {
+            Turn::Left
+        } else {
+            Turn::Right
+        })?;
+    }
+    Ok(turns)
+}
+
+/// The strings of these texts.
+fn strings_of(alloc: Global, texts: &[&str]) -> Result<Vec<Vec<Turn>>, Fail> {
+    let mut strings = Vec::new(alloc);
+    for text in texts {
+        strings.push(string_of(alloc, text)?)?;
+    }
+    Ok(strings)
+}
+
+/// The shape of these angles and strings.
+fn shape_of(angles: Vec<u8>, strings: Vec<Vec<Turn>>) -> Result<Shape, Fail> {
+    if Shape::are_short(&strings) {
+        Ok(Shape::new(angles, strings))
+    } else {
+        Err("strings out of range")?
+    }
+}
+
+fn shape_in(alloc: Global, case: &Case<'_>) -> Result<Shape, Fail> {
+    let strings = strings_of(alloc, case.texts)?;
+    shape_of(case.angles.to_vec(alloc)?, strings)
+}
+
+fn prices_in(alloc: Global, case: &Case<'_>) -> Result<Prices, Fail> {
+    let vertices = case.vertices.to_vec(alloc)?;
+    Ok(Prices::new(vertices, case.faces.to_vec(alloc)?))
+}
+
+/// What both tests answer.
+fn answers(plane: &Plane, shape: &Shape, prices: &Prices) -> (bool, bool) {
+    (is_shape(plane, shape), certify(plane, shape, prices))
+}
+
+fn answers_in(alloc: Global, case: &Case<'_>) -> Result<(bool, bool), Fail> {
+    let plane = plane_of(alloc, case.record)?;
+    let shape = shape_in(alloc, case)?;
+    let prices = prices_in(alloc, case)?;
+    Ok(answers(&plane, &shape, &prices))
+}
+
+/// A case of which the tests answer this.
+fn expect(
+    rt: &impl Abort,
+    alloc: Global,
+    case: &Case<'_>,
+    right: bool,
+    proof: bool,
+    bends: u32,
+) -> Result<(), Fail> {
+    assert_eq!(rt; answers_in(alloc, case)?, (right, proof));
+    assert_eq!(rt; shape_in(alloc, case)?.bends(), bends);
+    Ok(())
+}
+
+// The edge from 1 to 3 bends once.
+const ONE_BEND: Case<'static> = Case {
+    record: &TRIANGLE,
+    angles: &[3, 1, 3, 1, 3, 1],
+    texts: &["", "L", "", "", "R", ""],
+    vertices: &[1, 1, 1],
+    faces: &[1, 0],
+};
+
+// Each edge bends once.
+const THREE_BENDS: Case<'static> = Case {
+    record: &TRIANGLE,
+    angles: &[2, 2, 2, 1, 3, 2],
+    texts: &["R", "L", "R", "L", "R", "L"],
+    vertices: &[1, 1, 1],
+    faces: &[1, 0],
+};
+
+// Three corners to the left.
+const ROLLED: Case<'static> = Case {
+    record: &PATH,
+    angles: &[1, 4, 1, 3, 1, 3, 4, 3],
+    texts: &["", "", "", "", "", "", "", ""],
+    vertices: &[0, 0, 0, 0, 0],
+    faces: &[0],
+};
+
+// Four bends on a single edge.
+const STAIR: Case<'static> = Case {
+    record: &EDGE,
+    angles: &[4, 4],
+    texts: &["LLRL", "RLRR"],
+    vertices: &[0, 0],
+    faces: &[0],
+};
+
+#[test]
+fn triangle(rt: HostRuntime) -> Result<(), Fail> {
+    expect(&rt, rt.alloc(), &ONE_BEND, true, true, 1)?;
+    expect(
+        &rt,
+        rt.alloc(),
+        &Case {
+            vertices: &[0, 1, 1],
+            ..ONE_BEND
+        },
+        true,
+        false,
+        1,
+    )?;
+    expect(
+        &rt,
+        rt.alloc(),
+        &Case {
+            faces: &[1],
+            ..ONE_BEND
+        },
+        true,
+        false,
+        1,
+    )?;
+    expect(&rt, rt.alloc(), &THREE_BENDS, true, false, 3)?;
+    expect(
+        &rt,
+        rt.alloc(),
+        &Case {
+            angles: &[3, 2, 3, 1, 3, 1],
+            ..ONE_BEND
+        },
+        false,
+        false,
+        1,
+    )?;
+    expect(
+        &rt,
+        rt.alloc(),
+        &Case {
+            texts: &["", "L", "", "", "R"],
+            ..ONE_BEND
+        },
+        false,
+        false,
+        1,
+    )
+}
+
+#[test]
+fn path_and_edge(rt: HostRuntime) -> Result<(), Fail> {
+    expect(&rt, rt.alloc(), &ROLLED, true, true, 0)?;
+    expect(&rt, rt.alloc(), &STAIR, true, false, 4)?;
+    expect(
+        &rt,
+        rt.alloc(),
+        &Case {
+            texts: &["", ""],
+            ..STAIR
+        },
+        true,
+        true,
+        0,
+    )?;
+    expect(
+        &rt,
+        rt.alloc(),
+        &Case {
+            texts: &["LLRL", "RRLR"],
+            ..STAIR
+        },
+        false,
+        false,
+        4,
+    )?;
+    expect(
+        &rt,
+        rt.alloc(),
+        &Case {
+            texts: &["LLR", ""],
+            ..STAIR
+        },
+        false,
+        false,
+        1,
+    )?;
+    expect(
+        &rt,
+        rt.alloc(),
+        &Case {
+            angles: &[3, 4],
+            texts: &["", ""],
+            ..STAIR
+        },
+        false,
+        true,
+        0,
+    )
+}
+
+#[test]
+fn strings_of_a_million_turns(rt: HostRuntime) -> Result<(), Fail> {
+    let alloc = rt.alloc();
+    let count = 1_000_000;
+    let mut strings = Vec::new(alloc);
+    strings.push(vec![in alloc; Turn::Left; count]?)?;
+    strings.push(vec![in alloc; Turn::Right; count]?)?;
+    let shape = shape_of([4, 4].to_vec(alloc)?, strings)?;
+    let plane = plane_of(alloc, &EDGE)?;
+    assert!(rt; is_shape(&plane, &shape));
+    Ok(())
+}
+
+#[test]
+fn readers_of_shapes(rt: HostRuntime) -> Result<(), Fail> {
+    let shape = shape_in(
+        rt.alloc(),
+        &Case {
+            angles: &[7, 0],
+            texts: &["LR", "", "L"],
+            ..STAIR
+        },
+    )?;
+    assert_eq!(rt; shape.angle_count(), 2);
+    assert_eq!(rt; shape.angle(0), 7);
+    assert_eq!(rt; shape.string_count(), 3);
+    assert_eq!(rt; shape.turns(0).len(), 2);
+    Ok(())
+}
+
+#[test]
+fn readers_of_prices(rt: HostRuntime) -> Result<(), Fail> {
+    let prices = prices_in(
+        rt.alloc(),
+        &Case {
+            vertices: &[-5, i32::MAX],
+            faces: &[i32::MIN],
+            ..STAIR
+        },
+    )?;
+    assert_eq!(rt; prices.vertex_count(), 2);
+    assert_eq!(rt; prices.vertex(2), i32::MAX);
+    assert_eq!(rt; prices.face_count(), 1);
+    assert_eq!(rt; prices.face(0), i32::MIN);
+    Ok(())
+}
+
+/// Numbers that look random, the same at each run.
+#[derive(Drop)]
+struct Random {
+    state: u64,
+}
+
+impl Random {
+    /// A number below a bound that is not 0.
+    fn below(&mut self, bound: u64) -> u64
+        requires { 0 < bound }
+        ensures { result < bound }
+    {
+        self.state = self
+            .state
+            .wrapping_mul(6_364_136_223_846_793_005)
+            .wrapping_add(1_442_695_040_888_963_407);
+        (self.state >> 33) % bound
+    }
+}
+
+/// The rules for representations, read plainly: each sum over all darts, with its sign.
+fn plainly_is_shape(plane: &Plane, shape: &Shape) -> bool {
+    let graph = plane.graph();
+    let darts = usize::from(graph.darts());
+    if shape.angle_count() != darts || shape.string_count() != darts {
+        return false;
+    }
+    for dart in 0..graph.darts() {
+        let angle = shape.angle(dart);
+        if angle == 0
+            || angle > 4
+            || !plainly_mirrored(shape.turns(dart), shape.turns(graph.reverse(dart)))
+        {
+            return false;
+        }
+    }
+    for vertex in 0..graph.vertices() {
+        let mut sum = 0u64;
+        for dart in 0..graph.darts() {
+            if graph.head(dart) - 1 == vertex {
+                sum = sum.wrapping_add(u64::from(shape.angle(dart)));
+            }
+        }
+        if sum != 4 {
+            return false;
+        }
+    }
+    for face in 0..plane.face_count() {
+        let mut sum = 0i64;
+        for dart in 0..graph.darts() {
+            if plane.face_of(dart) == face {
+                sum = sum.wrapping_add(2 - i64::from(shape.angle(dart)));
+                for turn in shape.turns(dart) {
+                    sum = sum.wrapping_add(if *turn == Turn::Left { 1 } else { -1 });
+                }
+            }
+        }
+        if sum != if face == plane.outer() { -4 } else { 4 } {
+            return false;
+        }
+    }
+    true
+}
+
+fn plainly_mirrored(turns: &[Turn], reverse: &[Turn]) -> bool {
+    turns.len() == reverse.len()
+        && turns
+            .iter()
+            .rev()
+            .zip(reverse.iter())
+            .all(|(one, other)| one != other)
+}
+
+/// The rules for prices, read plainly.
+fn plainly_certifies(plane: &Plane, shape: &Shape, prices: &Prices) -> bool {
+    let graph = plane.graph();
+    let darts = usize::from(graph.darts());
+    if shape.angle_count() != darts || shape.string_count() != darts {
+        return false;
+    }
+    if prices.vertex_count() != usize::from(graph.vertices())
+        || prices.face_count() != usize::from(plane.face_count())
+    {
+        return false;
+    }
+    for dart in 0..graph.darts() {
+        let vertex = i64::from(prices.vertex(graph.head(dart)));
+        let face = i64::from(prices.face(plane.face_of(dart)));
+        let across = i64::from(prices.face(plane.face_of(graph.reverse(dart))));
+        let angle = shape.angle(dart);
+        let slack = 1i64.wrapping_add(face).wrapping_sub(across);
+        let bends_left = shape.turns(dart).contains(&Turn::Left);
+        if angle < 4 && vertex < face
+            || angle > 1 && vertex > face
+            || slack < 0
+            || bends_left && slack != 0
+        {
+            return false;
+        }
+    }
+    true
+}
+
+/// Now and then writes a random angle.
+fn spoil_angle(random: &mut Random, angles: &mut [u8]) {
+    let place = random.below(24) as usize;
+    let angle = random.below(6) as u8;
+    if place < angles.len() {
+        angles[place] = angle;
+    }
+}
+
+/// Now and then writes a random price, which may be as large as they come.
+fn spoil_price(random: &mut Random, prices: &mut [i32]) {
+    let place = random.below(12) as usize;
+    let price = match random.below(6) {
+        0 => i32::MIN,
+        1 => i32::MAX,
+        2 => 0,
+        3 => 1,
+        4 => 2,
+        _ => -1,
+    };
+    if place < prices.len() {
+        prices[place] = price;
+    }
+}
+
+/// Now and then puts a random turn behind a string.
+fn spoil_string(random: &mut Random, strings: &mut Vec<Vec<Turn>>) -> Result<(), Fail> {
+    let place = random.below(24) as usize;
+    let turn = if random.below(2) == 0 {
+        Turn::Left
+    } else {
+        Turn::Right
+    };
+    if let Some(string) = strings.get_mut(place) {
+        string.push(turn)?;
+    }
+    Ok(())
+}
+
+/// Now and then drops the last of a list.
+fn spoil_length<T: Drop>(random: &mut Random, list: &mut Vec<T>) {
+    if random.below(20) == 0 {
+        let _last = list.pop();
+    }
+}
+
+/// A shape like that of a case.
+fn random_shape(alloc: Global, random: &mut Random, case: &Case<'_>) -> Result<Shape, Fail> {
+    let mut angles = case.angles.to_vec(alloc)?;
+    spoil_angle(random, &mut angles);
+    spoil_length(random, &mut angles);
+    let mut strings = strings_of(alloc, case.texts)?;
+    spoil_string(random, &mut strings)?;
+    spoil_length(random, &mut strings);
+    shape_of(angles, strings)
+}
+
+/// Prices like those of a case.
+fn random_prices(alloc: Global, random: &mut Random, case: &Case<'_>) -> Result<Prices, Fail> {
+    let mut vertices = case.vertices.to_vec(alloc)?;
+    spoil_price(random, &mut vertices);
+    spoil_length(random, &mut vertices);
+    let mut faces = case.faces.to_vec(alloc)?;
+    spoil_price(random, &mut faces);
+    spoil_length(random, &mut faces);
+    Ok(Prices::new(vertices, faces))
+}
+
+/// How often each test says yes of 250 random shapes and prices like those of a case: always as the
+/// plain reading does.
+fn count_random(
+    rt: &impl Abort,
+    alloc: Global,
+    seed: u64,
+    case: &Case<'_>,
+) -> Result<(u32, u32), Fail> {
+    let plane = plane_of(alloc, case.record)?;
+    let mut random = Random { state: seed };
+    let mut shapes = 0u32;
+    let mut proofs = 0u32;
+    for _ in 0..250 {
+        let shape = random_shape(alloc, &mut random, case)?;
+        let prices = random_prices(alloc, &mut random, case)?;
+        let (right, proof) = answers(&plane, &shape, &prices);
+        assert_eq!(rt; right, plainly_is_shape(&plane, &shape));
+        assert_eq!(rt; proof, plainly_certifies(&plane, &shape, &prices));
+        shapes = shapes.wrapping_add(u32::from(right));
+        proofs = proofs.wrapping_add(u32::from(proof));
+    }
+    Ok((shapes, proofs))
+}
+
+/// Both answers come up.
+fn expect_random(rt: &impl Abort, alloc: Global, seed: u64, case: &Case<'_>) -> Result<(), Fail> {
+    let (shapes, _proofs) = count_random(rt, alloc, seed, case)?;
+    assert!(rt; 50 < shapes && shapes < 240, "{shapes} shapes");
+    Ok(())
+}
+
+#[test]
+fn random_triangles(rt: HostRuntime) -> Result<(), Fail> {
+    expect_random(&rt, rt.alloc(), 1, &ONE_BEND)?;
+    expect_random(&rt, rt.alloc(), 2, &THREE_BENDS)
+}
+
+#[test]
+fn random_paths_and_edges(rt: HostRuntime) -> Result<(), Fail> {
+    expect_random(&rt, rt.alloc(), 3, &ROLLED)?;
+    expect_random(&rt, rt.alloc(), 4, &STAIR)
+}
+
+/// A least shape of these bytes has so many bends, and passes both tests with its prices.
+fn expect_least(rt: &impl Abort, alloc: Global, bytes: &[u8], bends: u32) -> Result<(), Fail> {
+    let plane = plane_of(alloc, bytes)?;
+    let (shape, prices) = least_shape(alloc, &plane)?;
+    assert_eq!(rt; shape.bends(), bends);
+    assert_eq!(rt; answers(&plane, &shape, &prices), (true, true));
+    Ok(())
+}
+
+const K4: [u8; 17] = [4, 3, 4, 2, 0, 1, 4, 3, 0, 2, 4, 1, 0, 3, 2, 1, 0];
+
+const OCTAHEDRON: [u8; 31] = [
+    6, 2, 3, 4, 5, 0, 6, 3, 1, 5, 0, 2, 6, 4, 1, 0, 1, 3, 6, 5, 0, 2, 1, 4, 6, 0, 2, 5, 4, 3, 0,
+];
+
+const STAR: [u8; 14] = [5, 2, 3, 4, 5, 0, 1, 0, 1, 0, 1, 0, 1, 0];
+
+const FOUR_CYCLE: [u8; 13] = [4, 2, 4, 0, 3, 1, 0, 4, 2, 0, 1, 3, 0];
+
+const CUBE: [u8; 33] = [
+    8, 2, 5, 4, 0, 3, 6, 1, 0, 4, 7, 2, 0, 1, 8, 3, 0, 1, 6, 8, 0, 2, 7, 5, 0, 3, 8, 6, 0, 4, 5, 7,
+    0,
+];
+
+#[test]
+fn few_bends(rt: HostRuntime) -> Result<(), Fail> {
+    expect_least(&rt, rt.alloc(), &EDGE, 0)?;
+    expect_least(&rt, rt.alloc(), &TRIANGLE, 1)?;
+    expect_least(&rt, rt.alloc(), &STAR, 0)?;
+    expect_least(&rt, rt.alloc(), &FOUR_CYCLE, 0)
+}
+
+#[test]
+fn more_bends(rt: HostRuntime) -> Result<(), Fail> {
+    expect_least(&rt, rt.alloc(), &K4, 4)?;
+    expect_least(&rt, rt.alloc(), &OCTAHEDRON, 12)?;
+    expect_least(&rt, rt.alloc(), &CUBE, 4)
+}
+
+/// The record of a cycle on 255 vertices.
+fn long_cycle(alloc: Global) -> Result<Vec<u8>, Fail> {
+    let mut bytes = Vec::new(alloc);
+    bytes.push(255)?;
+    for vertex in 0..255u8 {
+        bytes.push(if vertex == 254 { 1 } else { vertex + 2 })?;
+        bytes.push(if vertex == 0 { 255 } else { vertex })?;
+        bytes.push(0)?;
+    }
+    Ok(bytes)
+}
+
+#[test]
+fn long_cycle_without_bends(rt: HostRuntime) -> Result<(), Fail> {
+    let bytes = long_cycle(rt.alloc())?;
+    expect_least(&rt, rt.alloc(), &bytes, 0)
+}
