@@ -1,6 +1,6 @@
 -- Angles, strings and prices matter only at darts, vertices and faces of the plane.
-use Rattle.std.proofs.Common.{◌≡◌, ◌≤◌, ◌<◌, ℕ, ◌+◌, cond, eqb, List, sym, ap, ◌∙◌, arith}
-use Rattle.std.specs.Prelude.{ℤ, pos, IsTrue, ◌↔◌}
+use Rattle.std.proofs.Common.{◌≡◌, ◌≤◌, ◌<◌, ℕ, cond, eqb, List, sym, ap, ◌∙◌, arith}
+use Rattle.std.specs.Prelude.{ℤ, pos}
 use Rattle.sums.proofs.Sums.{sum_below-same, total_below-same}
 use Rattle.faces.specs.Map.{Map, HasEnds, darts, vertices, head, mate, face_at}
 use Rattle.ortho_rep.specs.declared.turn.Turn.{Turn}

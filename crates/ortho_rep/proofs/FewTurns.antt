@@ -1,7 +1,7 @@
 -- A representation that prices prove has short strings: across the faces and vertices whose prices are at most
 -- that of a dart's face nothing comes back, so no more crosses there than they hold.
-use Rattle.std.proofs.Common.{◌≡◌, ◌≤◌, ◌<◌, ℕ, zero, suc, ◌+◌, ◌*◌, ◌-◌, Bool, true, false, cond, eqb, List, length, refl, sym, ap, ◌∙◌, inl, inr, arith}
-use Rattle.std.specs.Prelude.{ℤ, pos, ◌+ℤ◌, ◌-ℤ◌, ◌≤ℤ◌, ◌<ℤ◌, negsuc}
+use Rattle.std.proofs.Common.{◌≡◌, ◌≤◌, ◌<◌, ℕ, zero, suc, ◌+◌, ◌*◌, Bool, true, false, cond, eqb, List, length, sym, ap, ◌∙◌, inl, inr, arith}
+use Rattle.std.specs.Prelude.{ℤ, pos, ◌-ℤ◌, ◌≤ℤ◌, ◌<ℤ◌, negsuc}
 use Rattle.std.proofs.lemmas.Bool.{cases_lt, cases_eq, ne_eqb, cond-true, cond-false}
 use Rattle.std.proofs.lemmas.Int.{ints, by_lt_z}
 use lib.Signed.{lt_z}
@@ -13,7 +13,7 @@ use Rattle.ortho_rep.specs.Turns.{lefts, rights}
 use Rattle.ortho_rep.specs.Representation.{Rep, whole_turn}
 use Rattle.ortho_rep.specs.Prices.{IsPriced, Prove}
 use Rattle.ortho_rep.proofs.TurnLemmas.{lefts-add-rights}
-use Rattle.ortho_rep.proofs.Duality.{weighed, part_at, paired, gains, losses, turning-split, lefts_of, rights_of, rights_are}
+use Rattle.ortho_rep.proofs.Duality.{weighed, part_at, paired, gains, losses, turning-split, lefts_of, rights_are}
 
 -- 1 where the price is at most k
 abbrev low : ℤ → ℤ → ℕ

@@ -1,15 +1,14 @@
 -- A flow in the network of a plane's faces is an orthogonal representation, and its potentials are prices.
-use Rattle.std.proofs.Common.{◌≡◌, ◌≤◌, ◌<◌, ℕ, zero, suc, ◌+◌, ◌*◌, ◌-◌, Bool, true, false, cond, eqb, List, [], ◌∷◌, ◌++◌, length, replicate, length-append, map, reverse, add-one, refl, sym, ap, ◌∙◌, subst, inl, inr, arith}
-use Rattle.std.specs.Prelude.{ℤ, slice_index_or, pos, negsuc, ◌+ℤ◌, ◌-ℤ◌, ◌≤ℤ◌}
+use Rattle.std.proofs.Common.{◌≡◌, ◌≤◌, ◌<◌, ℕ, zero, suc, ◌+◌, ◌-◌, Bool, true, false, cond, eqb, List, [], ◌∷◌, ◌++◌, length, replicate, length-append, map, reverse, add-one, refl, sym, ap, ◌∙◌, subst, inl, inr, arith}
+use Rattle.std.specs.Prelude.{ℤ, slice_index_or, pos, ◌+ℤ◌, ◌-ℤ◌, ◌≤ℤ◌}
 use Rattle.std.proofs.lemmas.Bool.{cases_eq, eq-eqb, ne_eqb}
 use Rattle.std.proofs.lemmas.Int.{ints}
 use Rattle.std.proofs.lemmas.List.{map-append, reverse-append, replicate-append-replicate, length-replicate}
-use Rattle.sums.specs.Sums.{sum_below, total_below}
+use Rattle.sums.specs.Sums.{sum_below}
 use Rattle.sums.proofs.Sums.{sum_below-same, sum_below-add, sum_below-none, sum_below-split, sum_below-turned}
 use Rattle.faces.specs.Map.{Map, HasEnds, darts, vertices, head, mate, face_at, degree}
 use Rattle.min_cost_flow.specs.declared.arc.Arc.{Arc}
-use Rattle.min_cost_flow.specs.declared.arc.Cap.TheVariants.{AtMost, Any}
-use Rattle.min_cost_flow.specs.Net.{Net, node_count, arc_count, arc_at, supply_at}
+use Rattle.min_cost_flow.specs.Net.{Net, arc_count, arc_at}
 use Rattle.min_cost_flow.specs.Flow.{Flow, HasPotentials, IsWithin, HasRoom, leaves, enters, balance}
 use Rattle.ortho_rep.specs.declared.turn.Turn.{Turn}
 use Rattle.ortho_rep.specs.declared.turn.Turn.TheVariants.{Left, Right}
@@ -17,7 +16,7 @@ use Rattle.flow_network.specs.FaceNet.{IsFaceNet, arrivals}
 use Rattle.ortho_rep.specs.Turns.{opposite, mirrored, lefts, rights}
 use Rattle.ortho_rep.specs.Representation.{Rep, IsShape, IsLeast, angles_around, turning_around, whole_turn}
 use Rattle.ortho_rep.specs.OfFlow.{lefts_then_rights, angles_of, strings_of}
-use Rattle.ortho_rep.specs.Prices.{Tariff, IsPriced, Prove, IsProof, vertex_price, face_price}
+use Rattle.ortho_rep.specs.Prices.{Tariff, Prove, IsProof, vertex_price, face_price}
 use Rattle.ortho_rep.specs.Shapes.{Figure, angle_at, turns_at}
 use Rattle.ortho_rep.proofs.FewTurns.{few_turns}
 use Rattle.ortho_rep.proofs.TurnLemmas.{lefts-cons, rights-cons}

@@ -27,20 +27,23 @@ const PATH: [u8; 14] = [5, 2, 0, 1, 3, 0, 2, 4, 0, 3, 5, 0, 4, 0];
 const EDGE: [u8; 5] = [2, 2, 0, 1, 0];
 
 /// The record of these bytes.
-fn record_of(alloc: Global, bytes: &[u8]) -> Result<Record, Fail> {
-    let mut framer = Framer::new(alloc)?;
+fn record_of(alloc: Global, bytes: &[u8]) -> Option<Record> {
+    let mut framer = Framer::new(alloc).ok()?;
     let mut records = Vec::new(alloc);
-    framer.feed(alloc, &HEADER, &mut records)?;
-    framer.feed(alloc, bytes, &mut records)?;
-    let record = records.pop().ok_or("no record")?;
-    Ok(record)
+    framer.feed(alloc, &HEADER, &mut records).ok()?;
+    framer.feed(alloc, bytes, &mut records).ok()?;
+    records.pop()
 }
 
-/// The plane of these bytes.
-fn plane_of(alloc: Global, bytes: &[u8]) -> Result<Plane, Fail> {
+/// The plane of these bytes, if they are a record of one and there is memory.
+fn plane_in(alloc: Global, bytes: &[u8]) -> Option<Plane> {
     let record = record_of(alloc, bytes)?;
-    let graph = Graph::read(alloc, &record)?;
-    Ok(Plane::trace(alloc, graph)?)
+    let graph = Graph::read(alloc, &record).ok()?;
+    Plane::trace(alloc, graph).ok()
+}
+
+fn plane_of(alloc: Global, bytes: &[u8]) -> Result<Plane, Fail> {
+    Ok(plane_in(alloc, bytes).ok_or("no plane")?)
 }
 
 /// A string of turns, from a text of `L` and `R`.
@@ -563,4 +566,16 @@ fn long_cycle(alloc: Global) -> Result<Vec<u8>, Fail> {
 fn long_cycle_without_bends(rt: HostRuntime) -> Result<(), Fail> {
     let bytes = long_cycle(rt.alloc())?;
     expect_least(&rt, rt.alloc(), &bytes, 0)
+}
+
+/// Where an allocation is refused, the answer is want of memory, and the plane stays as it was.
+#[test]
+fn refused_allocations(rt: HostRuntime) {
+    let alloc = rt.alloc();
+    if let Some(plane) = plane_in(alloc, &TRIANGLE) {
+        if let Ok((shape, prices)) = least_shape(alloc, &plane) {
+            assert_eq!(rt; answers(&plane, &shape, &prices), (true, true));
+        }
+        assert_eq!(rt; plane.face_count(), 2);
+    }
 }

@@ -1,5 +1,4 @@
-use Rattle.std.proofs.Common.{◌≡◌, ap, subst, arith}
-use Rattle.faces.specs.Map.{vertices}
+use Rattle.std.proofs.Common.{subst, arith}
 use Rattle.min_cost_flow.specs.Net.{Net}
 use Rattle.min_cost_flow.specs.Flow.{Solves, amounts, at_nodes}
 use Rattle.ortho_rep.proofs.FromFlow.{IsOfFlow, shape_of_flow, least_of_flow, proof_of_flow}

@@ -1,4 +1,4 @@
-use Rattle.std.proofs.Common.{length, arith}
+use Rattle.std.proofs.Common.{arith}
 use Rattle.std.proofs.lemmas.List.{length-map}
 use Rattle.ortho_rep.specs.declared.turn.Turn.{Turn}
 use Rattle.std.specs.Prelude.{List, Vec}
