@@ -1,8 +1,8 @@
 #!/usr/bin/env python3
 """What the check of a drawing costs, and how it grows with the number of segments.
 
-Builds the program in src/ over this repository's crates, in a folder of its own, and prints for each
-number of segments the least time of a check, the time a segment, and the growth of the time against
+Builds the program in program.txt (Rattle source; no check of this repository reads it) over this
+repository's crates, in a folder of its own, and prints for each number of segments the least time of a check, the time a segment, and the growth of the time against
 that of s log s.
 
 usage: compare.py [FOLDER]      (default: /tmp/planarbend-check; it is kept, so that a second run is quick)
@@ -54,7 +54,8 @@ def build(folder):
             shutil.copytree(os.path.join(ROOT, "crates", name, part), os.path.join(target, part))
     program = os.path.join(folder, "crates", "check_cost")
     shutil.rmtree(os.path.join(program, "src"), ignore_errors=True)
-    shutil.copytree(os.path.join(HERE, "src"), os.path.join(program, "src"))
+    os.makedirs(os.path.join(program, "src"))
+    shutil.copy(os.path.join(HERE, "program.txt"), os.path.join(program, "src", "main.rt"))
     shutil.copy(os.path.join(ROOT, "HANDLES"), folder)
     with open(os.path.join(folder, "crates.txt"), "w") as out:
         for name in crates:
