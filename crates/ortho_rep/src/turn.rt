@@ -10,6 +10,9 @@ pub enum Turn {
     Right,
 }
 
+// A turn takes one byte.
+const _: () = prove!(size_of::<Turn>() == 1);
+
 /// Whether the second turn is the first one, met in walking the other way.
 fn is_opposite(one: Turn, other: Turn) -> bool
     ensures { IsTrue result ↔ (other ≡ opposite one) }
