@@ -2,8 +2,8 @@
 """What the check of a drawing costs, and how it grows with the number of segments.
 
 Builds the program in program.txt (Rattle source; no check of this repository reads it) over this
-repository's crates, in a folder of its own, and prints for each number of segments the least time of a check, the time a segment, and the growth of the time against
-that of s log s.
+repository's crates, in a folder of its own, and prints for each number of segments the least time of
+a check, the time a segment, and the growth of the time against that of s log s.
 
 usage: compare.py [FOLDER]      (default: /tmp/planarbend-check; it is kept, so that a second run is quick)
 """
