@@ -1,6 +1,6 @@
 -- Finding the first place in front of which the walk has turned left most.
-use Rattle.std.proofs.Common.{◌≡◌, ℕ, ◌+◌, ◌-◌, ◌*◌, ◌<◌, ◌≤◌, ◌∙◌, ◌⊎◌, List, length, take, get_or, arith, subst, sym, ap, refl, inl, inr}
-use Rattle.std.proofs.lemmas.Bool.{cases_eq, cases_lt}
+use Rattle.std.proofs.Common.{◌≡◌, ℕ, ◌+◌, ◌*◌, ◌<◌, ◌≤◌, ◌⊎◌, List, length, take, get_or, arith, subst, sym, refl, inl, inr}
+use Rattle.std.proofs.lemmas.Bool.{cases_eq}
 use Rattle.cutting.specs.Turning.{total, IsHighest}
 use Rattle.cutting.proofs.Rotating.{total-take_more}
 

@@ -1,6 +1,6 @@
 -- Why a scan that cuts at each right turn followed by two left turns ends with four left turns.
-use Rattle.std.proofs.Common.{◌≡◌, ◌≢◌, ◌⊎◌, ℕ, zero, suc, ◌+◌, ◌-◌, ◌*◌, ◌<◌, ◌≤◌, ◌∙◌, List, [], ◌∷◌, ◌++◌, length, arith, subst, sym, ap, refl, inl, inr}
-use Rattle.std.proofs.lemmas.Bool.{cases_eq, cases_order, cases_lt}
+use Rattle.std.proofs.Common.{◌≡◌, ◌⊎◌, ℕ, ◌+◌, ◌*◌, ◌<◌, ◌≤◌, List, [], ◌∷◌, length, arith, subst, refl, inl, inr}
+use Rattle.std.proofs.lemmas.Bool.{cases_eq, cases_lt}
 use Rattle.cutting.specs.Turning.{total, Rising, Hopeful, Reduced, AreTurns, AreLefts}
 
 -- a corner turns left or right

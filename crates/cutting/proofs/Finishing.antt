@@ -1,14 +1,13 @@
 -- How a scan begins and how it ends.
-use Rattle.std.proofs.Common.{◌≡◌, ◌≢◌, ◌⊎◌, ℕ, zero, suc, ◌+◌, ◌-◌, ◌*◌, ◌%◌, ◌<◌, ◌≤◌, ◌∙◌, List, [], ◌∷◌, ◌++◌, length, length-append, append_assoc, map, take, drop, append-nil, arith, subst, sym, ap, refl, inl, inr}
-use Rattle.std.proofs.lemmas.Bool.{cases_eq, cases_lt}
-use Rattle.cutting.specs.Turning.{total, Rising, Hopeful, Reduced, AreTurns, AreLefts}
+use Rattle.std.proofs.Common.{◌≡◌, ℕ, suc, ◌+◌, ◌*◌, ◌<◌, ◌∙◌, List, [], ◌∷◌, ◌++◌, length, length-append, map, append-nil, arith, subst, sym, ap, refl, inl, inr}
+use Rattle.cutting.specs.Turning.{total, Reduced, AreTurns, AreLefts}
 use Rattle.cutting.specs.Webs.{Web, IsSound}
-use Rattle.cutting.specs.Faces.{IsCorner, RunsIn, Runs, Trail, last_of, Ring, IsFour, In, Distinct, Below, joined, TurnsOnce, AreRings, AreWaiting}
-use Rattle.cutting.specs.Scan.{down, tops, IsScan, HasRoom}
-use Rattle.cutting.proofs.Running.{Runs-inside, Runs-corner}
-use Rattle.cutting.proofs.Rings.{trail_rest, ring_turned, four_turned}
-use Rattle.cutting.proofs.Counting.{all_left, four_lefts, lefts_total}
-use Rattle.cutting.proofs.Listing.{in_left, in_right, in_append, in_below, below_left, below_right, below_append, distinct_left, distinct_right, distinct_turned}
+use Rattle.cutting.specs.Faces.{IsCorner, Trail, last_of, Ring, IsFour, In, joined, AreWaiting}
+use Rattle.cutting.specs.Scan.{down, IsScan}
+use Rattle.cutting.proofs.Running.{Runs-corner}
+use Rattle.cutting.proofs.Rings.{ring_turned, four_turned}
+use Rattle.cutting.proofs.Counting.{all_left, four_lefts}
+use Rattle.cutting.proofs.Listing.{in_left, in_right, in_append, in_below, below_left, below_right, below_append, distinct_turned}
 use Rattle.cutting.proofs.Waiting.{total-append}
 use Rattle.cutting.proofs.Scanning.{down_append}
 

@@ -1,6 +1,6 @@
 -- Lists of darts without repeats.
-use Rattle.std.proofs.Common.{◌≡◌, ◌≢◌, ◌⊎◌, ℕ, ◌+◌, ◌<◌, ◌≤◌, ◌∙◌, List, [], ◌∷◌, ◌++◌, arith, subst, sym, ap, refl, inl, inr}
-use Rattle.cutting.specs.Faces.{In, Distinct, Below, joined}
+use Rattle.std.proofs.Common.{◌≡◌, ◌≢◌, ◌⊎◌, ℕ, ◌<◌, ◌≤◌, List, [], ◌∷◌, ◌++◌, arith, subst, sym, refl, inl, inr}
+use Rattle.cutting.specs.Faces.{In, Distinct, Below}
 
 pub in_left : (a : ℕ) (xs ys : List ℕ) → In a xs → In a (xs ++ ys)
 in_left a [] ys here = absurd here

@@ -1,5 +1,5 @@
 -- What the writes of a split and of a chord make of a table.
-use Rattle.std.proofs.Common.{◌≡◌, ◌≢◌, ◌⊎◌, ℕ, ◌+◌, ◌-◌, ◌%◌, ◌<◌, ◌≤◌, ◌∙◌, List, length, get_or, set, arith, subst, sym, ap, refl, inl, inr, get_or-set_same, get_or-set_other}
+use Rattle.std.proofs.Common.{◌≡◌, ◌≢◌, ℕ, ◌+◌, ◌-◌, ◌%◌, ◌<◌, ◌≤◌, ◌∙◌, List, length, get_or, set, arith, subst, sym, ap, refl, get_or-set_same, get_or-set_other}
 use Rattle.std.proofs.Math.ListN.{length-set}
 use Rattle.cutting.specs.Webs.{Web, IsLinked, IsSplit, IsChord, Fits, no_dart}
 

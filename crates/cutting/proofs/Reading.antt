@@ -1,13 +1,13 @@
 -- The scan reads a face, corner by corner.
-use Rattle.std.proofs.Common.{◌≡◌, ℕ, zero, suc, ◌+◌, ◌-◌, ◌*◌, ◌<◌, ◌≤◌, ◌∙◌, List, [], ◌∷◌, ◌++◌, length, map, take, drop, get_or, set, sum, All, arith, subst, sym, ap, refl, inl, inr}
+use Rattle.std.proofs.Common.{◌≡◌, ℕ, zero, suc, ◌+◌, ◌-◌, ◌<◌, ◌≤◌, ◌∙◌, List, [], ◌∷◌, ◌++◌, length, map, take, drop, get_or, set, sum, All, arith, subst, sym, ap, refl}
 use Rattle.std.proofs.lemmas.List.{drop-set-lt, take-append-drop, drop_more, drop_all, drop-drop, length-take-le, length-drop, length-append}
 use borrow.Rule.Slice.PartMut.{put_mid, mid_of}
 use Rattle.std.proofs.lemmas.List.Elements.{All-cons}
 use Rattle.std.proofs.Math.ListN.{length-set}
-use Rattle.cutting.specs.Turning.{total, Rising, Hopeful, Reduced, IsHighest}
-use Rattle.cutting.specs.Webs.{Web, IsSound, IsCut, Grows, same, further}
+use Rattle.cutting.specs.Turning.{Rising, Reduced, IsHighest}
+use Rattle.cutting.specs.Webs.{Web, IsSound, Grows, same, further}
 use Rattle.std.proofs.lemmas.List.Sums.{sum_by-cons}
-use Rattle.cutting.specs.Faces.{Below, joined, AreWaiting, TurnsOnce, cut_up}
+use Rattle.cutting.specs.Faces.{Below, AreWaiting, cut_up}
 use Rattle.cutting.specs.Scan.{down, tops, IsScan, HasRoom, IsTop}
 use Rattle.cutting.proofs.Listing.{below_append, below_left, below_right}
 use Rattle.cutting.proofs.Scanning.{scan_reads}

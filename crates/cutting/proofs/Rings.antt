@@ -1,9 +1,8 @@
 -- Faces told by their corners, and what one cut makes of them.
-use Rattle.std.proofs.Common.{◌≡◌, ◌≢◌, ◌⊎◌, ℕ, zero, suc, ◌+◌, ◌-◌, ◌%◌, ◌<◌, ◌≤◌, ◌∙◌, List, [], ◌∷◌, ◌++◌, arith, subst, sym, ap, refl, inl, inr}
-use Rattle.std.proofs.lemmas.Bool.{cases_eq, cases_order}
-use Rattle.cutting.specs.Webs.{Web, IsLinked, IsMeeting, IsStraight, IsSplit, IsChord, Fits}
-use Rattle.cutting.specs.Faces.{IsCorner, RunsIn, Runs, Trail, last_of, Ring, IsFour, ReachesCorners}
-use Rattle.cutting.proofs.Running.{IsCutting, split_runs, chord_run, chord_run_there, chord_run_to, chord_run_there_to, chord_run_back, run_direct, run_more, Runs-one, Runs-from_one, Runs-inside, Runs-corner}
+use Rattle.std.proofs.Common.{◌≡◌, ◌≢◌, ℕ, zero, suc, ◌+◌, ◌<◌, ◌∙◌, List, [], ◌∷◌, ◌++◌, arith, subst, sym, ap, refl}
+use Rattle.cutting.specs.Webs.{Web, IsLinked, IsSplit, IsChord}
+use Rattle.cutting.specs.Faces.{IsCorner, RunsIn, Runs, Trail, last_of, Ring, IsFour}
+use Rattle.cutting.proofs.Running.{IsCutting, split_runs, chord_run, chord_run_there, chord_run_to, chord_run_there_to, chord_run_back, run_direct, Runs-one, Runs-from_one, Runs-inside, Runs-corner}
 
 -- each of the darts is below n, and none is d or c
 abbrev pub Clear : ℕ → ℕ → ℕ → List ℕ → Type 0

@@ -1,6 +1,5 @@
 -- From the place on where the walk has turned left most, each right turn is made good for.
-use Rattle.std.proofs.Common.{◌≡◌, ℕ, zero, suc, ◌+◌, ◌-◌, ◌*◌, ◌<◌, ◌≤◌, ◌∙◌, List, [], ◌∷◌, ◌++◌, length, length-append, map, take, drop, get_or, arith, subst, sym, ap, refl, inl, inr, add-one, length-drop, append-nil}
-use Rattle.std.proofs.lemmas.Bool.{cases_lt, cases_eq}
+use Rattle.std.proofs.Common.{◌≡◌, ℕ, ◌+◌, ◌-◌, ◌*◌, ◌<◌, ◌≤◌, ◌∙◌, List, [], ◌∷◌, ◌++◌, length, length-append, take, drop, get_or, arith, subst, sym, ap, add-one, length-drop, append-nil}
 use Rattle.std.proofs.lemmas.List.{take-append-drop, take_more, take-take, drop-drop, length-take-le}
 use Rattle.cutting.specs.Turning.{total, Rising, IsHighest}
 

@@ -1,8 +1,8 @@
 -- Runs from corner to corner, and what a straight split and a chord make of them.
-use Rattle.std.proofs.Common.{◌≡◌, ◌≢◌, ◌⊎◌, ℕ, zero, suc, ◌+◌, ◌-◌, ◌%◌, ◌<◌, ◌≤◌, ◌∙◌, List, [], ◌∷◌, ◌++◌, arith, subst, sym, ap, refl, inl, inr}
+use Rattle.std.proofs.Common.{◌≡◌, ◌≢◌, ◌⊎◌, ℕ, zero, suc, ◌+◌, ◌<◌, ◌∙◌, arith, subst, sym, ap, inl, inr}
 use Rattle.std.proofs.lemmas.Bool.{cases_eq, cases_order}
-use Rattle.cutting.specs.Webs.{Web, IsLinked, IsSplit, IsChord, Fits}
-use Rattle.cutting.specs.Faces.{IsCorner, RunsIn, Runs, Trail, last_of, Ring, IsFour, ReachesCorners}
+use Rattle.cutting.specs.Webs.{Web, IsLinked, IsSplit, IsChord}
+use Rattle.cutting.specs.Faces.{IsCorner, RunsIn, Runs}
 
 -- one more straight place in front
 pub run_more : (w : Web) (a b c : ℕ) → w.next a ≡ b → w.angle b ≡ 2 → Runs w b c → Runs w a c

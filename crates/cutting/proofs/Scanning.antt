@@ -1,19 +1,18 @@
 -- The steps of the scan.
-use Rattle.std.proofs.Common.{◌≡◌, ◌≢◌, ◌⊎◌, ℕ, zero, suc, ◌+◌, ◌-◌, ◌*◌, ◌%◌, ◌<◌, ◌≤◌, ◌∙◌, List, [], ◌∷◌, ◌++◌, length, length-append, append_assoc, map, arith, subst, sym, ap, refl, inl, inr, cond, eqb}
-use Rattle.std.proofs.lemmas.Bool.{cases_eq, cases_lt, eq-eqb, ne_eqb, cond-true, cond-false}
+use Rattle.std.proofs.Common.{◌≡◌, ◌≢◌, ℕ, zero, suc, ◌+◌, ◌-◌, ◌%◌, ◌<◌, ◌≤◌, ◌∙◌, List, [], ◌∷◌, ◌++◌, length, append_assoc, map, arith, subst, sym, ap, refl, inl, inr}
+use Rattle.std.proofs.lemmas.Bool.{cases_eq}
 use Rattle.sums.specs.Sums.{sum_below}
-use Rattle.sums.proofs.Sums.{sum_below-more, sum_below-same, sum_below-changed, sum_below-member}
-use Rattle.cutting.specs.Turning.{total, Rising, Hopeful, Reduced, AreTurns, AreLefts}
-use Rattle.cutting.specs.Webs.{Web, IsLinked, IsMeeting, IsStraight, IsSplit, IsChord, Fits, IsSound, IsCut, Grows, further, excess}
-use Rattle.cutting.specs.Faces.{IsCorner, RunsIn, Runs, Trail, last_of, Ring, IsFour, In, Distinct, Below, joined, TurnsOnce, AreRings, AreWaiting}
-use Rattle.cutting.specs.Scan.{down, tops, IsScan, CanCut, HasRoom}
+use Rattle.sums.proofs.Sums.{sum_below-more, sum_below-changed, sum_below-member}
+use Rattle.cutting.specs.Turning.{total, Rising, Hopeful}
+use Rattle.cutting.specs.Webs.{Web, IsLinked, IsSplit, IsChord, Fits, IsSound, IsCut, further, excess}
+use Rattle.cutting.specs.Faces.{IsCorner, RunsIn, Runs, Trail, last_of, Ring, In, Distinct, Below, joined, AreWaiting}
+use Rattle.cutting.specs.Scan.{down, IsScan, CanCut, HasRoom}
 use Rattle.cutting.proofs.Splitting.{split_linked, split_meeting, split_straight}
 use Rattle.cutting.proofs.Chords.{chord_linked, chord_meeting, chord_straight}
-use Rattle.cutting.proofs.Running.{Runs-inside, Runs-corner}
-use Rattle.cutting.proofs.Rings.{trail_rest, ring_turned}
-use Rattle.cutting.proofs.Counting.{hopeful_reads, hopeful_cut_straight, hopeful_cut_turning, all_left, four_lefts}
-use Rattle.cutting.proofs.Listing.{in_left, in_right, in_append, in_below, below_left, below_right, distinct_left, distinct_right, distinct_apart}
-use Rattle.cutting.proofs.Waiting.{IsBite, kept_waiting, gone_waiting, totals_kept, bite_angle, bite_angle_d, total-append}
+use Rattle.cutting.proofs.Rings.{trail_rest}
+use Rattle.cutting.proofs.Counting.{hopeful_reads, hopeful_cut_straight, hopeful_cut_turning}
+use Rattle.cutting.proofs.Listing.{in_right, in_below, below_left, below_right, distinct_left, distinct_right, distinct_apart}
+use Rattle.cutting.proofs.Waiting.{IsBite, kept_waiting, gone_waiting, bite_angle, bite_angle_d}
 
 -- along a run directions stay
 pub run_direction : (w : Web) → IsSound w → (k a b : ℕ) → a < w.darts → RunsIn w k a b →

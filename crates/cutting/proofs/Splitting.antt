@@ -1,7 +1,7 @@
 -- What a split edge keeps.
-use Rattle.std.proofs.Common.{◌≡◌, ◌≢◌, ◌⊎◌, ℕ, ◌+◌, ◌-◌, ◌%◌, ◌<◌, ◌≤◌, ◌==◌, if◌then◌else◌, ◌∙◌, arith, subst, sym, ap, refl, inl, inr, cond, eqb}
+use Rattle.std.proofs.Common.{◌≡◌, ◌≢◌, ℕ, ◌+◌, ◌%◌, ◌<◌, ◌≤◌, ◌==◌, if◌then◌else◌, ◌∙◌, arith, subst, sym, ap, inl, inr, eqb}
 use Rattle.sums.specs.Sums.{sum_below}
-use Rattle.sums.proofs.Sums.{sum_below-more, sum_below-same, sum_below-none, sum_below-changed}
+use Rattle.sums.proofs.Sums.{sum_below-more, sum_below-same, sum_below-none}
 use Rattle.std.proofs.lemmas.Bool.{cases_eq, eq-eqb, ne_eqb, cond-true, cond-false}
 use Rattle.cutting.specs.Webs.{Web, IsLinked, IsMeeting, IsStraight, IsSplit, around}
 

@@ -1,16 +1,15 @@
 -- The scan over a list of places.
-use Rattle.std.proofs.Common.{◌≡◌, ◌≢◌, ◌⊎◌, ℕ, zero, suc, ◌+◌, ◌-◌, ◌*◌, ◌%◌, ◌<◌, ◌≤◌, ◌∙◌, List, [], ◌∷◌, ◌++◌, length, map, take, drop, get_or, set, arith, subst, sym, ap, refl, inl, inr, All, get_or-set_same, get_or-set_other}
-use Rattle.std.proofs.lemmas.Bool.{cases_eq, cases_lt}
+use Rattle.std.proofs.Common.{◌≡◌, ◌≢◌, ℕ, zero, suc, ◌+◌, ◌-◌, ◌<◌, ◌≤◌, ◌∙◌, List, [], ◌∷◌, length, map, drop, get_or, set, arith, subst, sym, ap, refl, inl, inr, All, get_or-set_same, get_or-set_other}
+use Rattle.std.proofs.lemmas.Bool.{cases_lt}
 use Rattle.std.proofs.lemmas.List.{drop-set-lt}
 use Rattle.std.proofs.lemmas.List.Elements.{All-set}
 use Rattle.std.proofs.Math.ListN.{length-set}
-use Rattle.cutting.specs.Turning.{total, Rising, Hopeful, Reduced, AreTurns, AreLefts}
-use Rattle.cutting.specs.Webs.{Web, IsSound, IsCut, Grows}
-use Rattle.cutting.specs.Faces.{IsCorner, In, Below, joined, AreWaiting}
-use Rattle.cutting.specs.Scan.{down, tops, IsScan, CanCut, HasRoom, IsHookOn, IsTop}
+use Rattle.cutting.specs.Turning.{Reduced, AreTurns}
+use Rattle.cutting.specs.Webs.{Web, IsCut}
+use Rattle.cutting.specs.Faces.{IsCorner, In, joined, AreWaiting}
+use Rattle.cutting.specs.Scan.{down, tops, IsScan, CanCut, IsHookOn, IsTop}
 use Rattle.cutting.proofs.Counting.{reduced_left, reduced_right, left_or_right}
 use Rattle.cutting.proofs.Listing.{in_below, below_left}
-use Rattle.cutting.proofs.Waiting.{IsBite}
 use Rattle.cutting.proofs.Scanning.{scan_can, scan_bites, scan_kept, scan_cut_straight, scan_cut_turning, cut_room, in_down}
 use Rattle.cutting.proofs.Finishing.{turns_of, ring_corners}
 

@@ -1,13 +1,13 @@
 -- What one cut makes of the faces that wait.
-use Rattle.std.proofs.Common.{◌≡◌, ◌≢◌, ◌⊎◌, ℕ, zero, suc, ◌+◌, ◌-◌, ◌*◌, ◌%◌, ◌<◌, ◌≤◌, ◌∙◌, List, [], ◌∷◌, ◌++◌, length, length-append, append_assoc, map, arith, subst, sym, ap, refl, inl, inr}
-use Rattle.std.proofs.lemmas.Bool.{cases_eq, cases_lt}
+use Rattle.std.proofs.Common.{◌≡◌, ◌≢◌, ◌⊎◌, ℕ, ◌+◌, ◌<◌, ◌≤◌, ◌∙◌, List, [], ◌∷◌, ◌++◌, length, length-append, append_assoc, map, arith, subst, sym, ap, refl, inl, inr}
+use Rattle.std.proofs.lemmas.Bool.{cases_eq}
 use Rattle.cutting.specs.Turning.{total}
-use Rattle.cutting.specs.Webs.{Web, IsLinked, IsMeeting, IsStraight, IsSplit, IsChord, Fits, IsSound, IsCut}
-use Rattle.cutting.specs.Faces.{IsCorner, RunsIn, Runs, Trail, last_of, Ring, IsFour, In, Distinct, Below, joined, TurnsOnce, AreRings, AreWaiting}
+use Rattle.cutting.specs.Webs.{Web, IsLinked, IsCut}
+use Rattle.cutting.specs.Faces.{IsCorner, Runs, last_of, Ring, IsFour, In, Distinct, Below, joined, TurnsOnce, AreRings, AreWaiting}
 use Rattle.cutting.proofs.Splitting.{split_linked, by_age}
-use Rattle.cutting.proofs.Running.{IsCutting, split_runs, Runs-inside, Runs-corner}
+use Rattle.cutting.proofs.Running.{split_runs}
 use Rattle.cutting.proofs.Rings.{Clear, IsHook, split_ring, split_four, chord_ring, cut_ring_within, cut_boxes, cut_box, cut_frame}
-use Rattle.cutting.proofs.Listing.{in_left, in_right, in_append, in_below, below_left, below_right, below_more, distinct_left, distinct_right, distinct_apart, gone_in, kept_in, still_in, gone_distinct, kept_distinct, gone_below, kept_below}
+use Rattle.cutting.proofs.Listing.{in_left, in_right, in_below, below_left, below_right, distinct_right, distinct_apart, still_in, gone_distinct, kept_distinct, gone_below, kept_below}
 
 -- d turns right, c1 and c behind it turn left, and the cut goes from d to the dart e right behind c
 pub record IsBite (w : Web) (d c1 c e way : ℕ) (new : Web) : Type 0 where

@@ -1,5 +1,5 @@
 -- Faces of a web, told by their corners: the darts at whose heads the walk round the face turns.
-use Rattle.std.specs.Prelude.{◌≡◌, ◌≢◌, ℕ, ◌+◌, ◌*◌, ◌<◌, ◌≤◌, ◌⊎◌, List, [], ◌∷◌, ◌++◌, length, map, take, drop, zero, suc}
+use Rattle.std.specs.Prelude.{◌≡◌, ◌≢◌, ℕ, ◌+◌, ◌*◌, ◌<◌, ◌⊎◌, List, [], ◌∷◌, ◌++◌, length, map, take, drop, zero, suc}
 use Rattle.cutting.specs.Webs.{Web}
 use Rattle.cutting.specs.Turning.{total}
 

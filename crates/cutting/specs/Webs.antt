@@ -1,6 +1,6 @@
 -- A web: darts and vertices of a drawing whose edges run in four directions, before it is cut into boxes.
 -- Darts and vertices are numbered from 0, directions 0 to 3 by quarter turns to the left from east.
-use Rattle.std.specs.Prelude.{◌≡◌, ◌≢◌, ℕ, ◌+◌, ◌-◌, ◌*◌, ◌%◌, ◌<◌, ◌≤◌, ◌==◌, ◌⊎◌, if◌then◌else◌}
+use Rattle.std.specs.Prelude.{◌≡◌, ◌≢◌, ℕ, ◌+◌, ◌-◌, ◌%◌, ◌<◌, ◌≤◌, ◌==◌, if◌then◌else◌}
 use Rattle.sums.specs.Sums.{sum_below}
 
 pub record Web : Type 0 where

@@ -1,8 +1,15 @@
-//! Cuts the faces of a drawing in four directions into rectangles.
+//! Cuts the faces of a drawing in four directions into rectangles: the core of a dissection.
+//!
+//! A drawing is a table of darts whose edges run along the axes. A face is told by its corners, in
+//! walking order. Read from the place on where the walk has turned left most, a stack of corners
+//! takes them one by one; wherever a right turn stands below two left turns, a chord from the right
+//! turn straight on to the edge behind the second left turn cuts a rectangle off. Four left turns are
+//! left at the end. (The method is that of Tamassia's compaction, 1987, with one pass a face.)
 #![tactic(auto)]
 
 mod links;
 mod scan;
 mod table;
 
+pub use scan::{cut_face, cut_faces};
 pub use table::{DartTable, NO_DART};

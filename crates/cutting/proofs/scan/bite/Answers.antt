@@ -1,6 +1,6 @@
 use Rattle.std.proofs.Common.{◌≡◌, ◌<◌, ◌≤◌, ◌+◌, ◌-◌, ◌%◌, ℕ, List, length, get_or, arith}
 use Rattle.std.proofs.lemmas.List.{get_or_read}
-use Rattle.cutting.specs.Webs.{Web, IsSound}
+use Rattle.cutting.specs.Webs.{IsSound}
 use Rattle.cutting.specs.Scan.{CanCut}
 use Rattle.cutting.specs.Tables.{web_of}
 use Rattle.cutting.proofs.Making.{web_from}

@@ -1,10 +1,10 @@
-use Rattle.std.proofs.Common.{◌≡◌, ◌<◌, ◌≤◌, ◌+◌, ◌++◌, ℕ, List, length, map, get_or, set, drop, take, All, arith, sym, ap, subst, refl, ◌∙◌}
+use Rattle.std.proofs.Common.{◌<◌, ◌≤◌, ◌++◌, ℕ, List, length, map, get_or, drop, take, All, arith, sym, subst, refl}
 use Rattle.cutting.specs.Tables.{web_of, room}
 use Rattle.cutting.specs.Turning.{IsHighest}
-use Rattle.cutting.specs.Faces.{AreWaiting, Below, joined}
+use Rattle.cutting.specs.Faces.{Below, joined}
 use Rattle.cutting.proofs.Listing.{below_left}
 use Rattle.cutting.proofs.Stacks.{inside_put}
-use Rattle.cutting.proofs.Reading.{IsReading, reading_begins, reading_top, reading_waits, reading_more, reading_done, all_below, all_small, below_turned}
+use Rattle.cutting.proofs.Reading.{reading_begins, reading_top, reading_waits, reading_more, reading_done, all_below, all_small, below_turned}
 use Rattle.cutting.proofs.scan.cut_face.Goals as goal
 
 pub highest-turn-requires-clause-inside : goal.highest-turn-requires-clause-inside

@@ -1,9 +1,9 @@
-use Rattle.std.proofs.Common.{◌≡◌, ◌+◌, ◌-◌, ◌<◌, ◌≤◌, ◌∙◌, ℕ, List, length, get_or, drop, sum, arith, sym, ap, subst, refl}
+use Rattle.std.proofs.Common.{◌≡◌, ◌+◌, ◌-◌, ◌∙◌, ℕ, List, length, get_or, drop, arith, sym, subst, refl}
 use Rattle.std.proofs.lemmas.List.{drop_all}
 use Rattle.std.proofs.lemmas.Slice.{drop-put_mid}
-use borrow.Rule.Slice.PartMut.{put_mid, mid_of}
+use borrow.Rule.Slice.PartMut.{put_mid}
 use Rattle.cutting.specs.Webs.{same}
-use Rattle.cutting.specs.Tables.{web_of, room}
+use Rattle.cutting.specs.Tables.{web_of}
 use Rattle.cutting.specs.Faces.{AreWaiting, cut_up}
 use Rattle.cutting.proofs.Reading.{grows_on, pieces_apart, sum_apart, length-mid_of, length-put_mid}
 use Rattle.cutting.proofs.scan.cut_faces.Goals as goal

@@ -1,4 +1,4 @@
-use Rattle.std.proofs.Common.{◌≡◌, ◌+◌, ◌<◌, ◌^◌, List, length, sum, drop, ℕ}
+use Rattle.std.proofs.Common.{◌≡◌, ◌+◌, ◌<◌, ◌^◌, length, sum, drop}
 use Rattle.cutting.specs.Webs.{IsSound, Grows}
 use Rattle.cutting.specs.Faces.{AreWaiting, cut_up}
 use Rattle.cutting.specs.Scan.{HasRoom}

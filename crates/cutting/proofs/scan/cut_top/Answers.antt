@@ -1,11 +1,8 @@
-use Rattle.std.proofs.Common.{◌≡◌, ◌<◌, ◌≤◌, ◌+◌, ◌-◌, ℕ, List, length, get_or, set, drop, All, arith, sym, ap, subst, ◌∙◌}
+use Rattle.std.proofs.Common.{◌≤◌, ◌+◌, ◌-◌, get_or, arith, sym, ◌∙◌}
 use Rattle.std.proofs.lemmas.List.{get_or_read, drop-set-lt}
-use Rattle.std.proofs.lemmas.List.Elements.{All-set}
-use Rattle.cutting.specs.Webs.{Web, IsCut}
 use Rattle.cutting.specs.Tables.{web_of, room}
-use Rattle.cutting.specs.Scan.{IsTop, IsHookOn, tops, down}
 use Rattle.cutting.proofs.Scanning.{right_room}
-use Rattle.cutting.proofs.Stacks.{hook_three, hook_parts, can_at, straight_at, turning_at, unhooked_at, inside_put}
+use Rattle.cutting.proofs.Stacks.{hook_three, can_at, straight_at, turning_at, unhooked_at, inside_put}
 use Rattle.cutting.proofs.scan.cut_top.Goals as goal
 
 pub overflow_sub-right : goal.overflow_sub-right

@@ -1,4 +1,4 @@
-use Rattle.std.proofs.Common.{◌≡◌, ◌<◌, ◌-◌, ℕ, length, get_or, arith, sym, ◌∙◌}
+use Rattle.std.proofs.Common.{◌-◌, get_or, arith, ◌∙◌}
 use Rattle.std.proofs.lemmas.Bool.{lt-ltb, ltb-true}
 use Rattle.std.proofs.lemmas.List.{get_or_read}
 use Rattle.cutting.specs.Tables.{web_of}

@@ -1,6 +1,6 @@
-use Rattle.std.proofs.Common.{◌≡◌, ◌<◌, ◌≤◌, ◌+◌, ℕ, List, length, get_or, map, arith, sym, ap, inl, inr, ◌∙◌}
+use Rattle.std.proofs.Common.{◌≡◌, ℕ, get_or, map, arith, sym, inl, inr, ◌∙◌}
 use Rattle.std.proofs.lemmas.List.{get_or-map, length-map}
-use Rattle.cutting.proofs.Climbing.{IsClimb, climb_either}
+use Rattle.cutting.proofs.Climbing.{climb_either}
 use Rattle.cutting.proofs.scan.highest.Goals as goal
 use Rattle.cutting.proofs.scan.highest.Goals.{then-count-best_sum, else-count-best_sum}
 
