@@ -1,0 +1,2 @@
+//! Directions of the darts of a plane, from the angles and the turns of an orthogonal representation.
+#![tactic(auto)]
