@@ -1,0 +1,7 @@
+pub mod Joining
+pub mod Lengthening
+pub mod Splits
+pub mod Bends
+pub mod Cuts
+pub mod Framing
+pub mod Plain

@@ -1,0 +1,61 @@
+//! Laws of the definitions, each as the contract of a function that does nothing.
+
+ghost use Rattle.std.specs.Prelude.{◌≡◌, ◌≢◌, ◌<◌, ◌≤◌, ◌⊎◌, ◌-◌, ◌++◌, ℕ, List, [], ◌∷◌};
+ghost use Rattle.cutting.specs.Webs.{Web, IsLinked, IsSound, IsSplit, IsCut, Grows, no_dart};
+ghost use Rattle.cutting.specs.Paths.{HasPaths, IsJoined};
+ghost use Rattle.cutting.specs.Frames.{IsEnclosed};
+
+/// Where no dart stands before another, each dart is the path of an edge without turns.
+pub fn darts_are_paths()
+    ensures { (w : Web) (n : ℕ) (mate : ℕ → ℕ) → w.darts ≡ n
+        → ((a : ℕ) → a < n → w.before a ≡ no_dart)
+        → ((a : ℕ) → a < n → w.twin a ≡ mate a)
+        → HasPaths w n mate (λ _. []) }
+{}
+
+/// A split that does not turn keeps the turns of each edge.
+pub fn splits_keep_paths()
+    ensures { (w : Web) (e way : ℕ) (new : Web) (n : ℕ) (mate : ℕ → ℕ) (quarters : ℕ → List ℕ)
+        → IsLinked w → e < w.darts → way < 4 → IsSplit w e way 2 new
+        → HasPaths w n mate quarters → HasPaths new n mate quarters }
+{}
+
+/// A split that turns gives the edge of `e` a last turn, the way back the opposite one as its first, and the
+/// other edges none.
+pub fn bends_turn_paths()
+    ensures { (w : Web) (e way bend : ℕ) (new : Web) (n : ℕ) (mate : ℕ → ℕ) (quarters turned : ℕ → List ℕ)
+        → IsLinked w → e < n → w.darts ≤ no_dart → way < 4 → (bend ≡ 1) ⊎ (bend ≡ 3) → IsSplit w e way bend new
+        → ((d : ℕ) → d < n → mate d < n) → ((d : ℕ) → d < n → mate (mate d) ≡ d) → mate e ≢ e
+        → turned e ≡ quarters e ++ (bend ∷ [])
+        → turned (mate e) ≡ (4 - bend) ∷ quarters (mate e)
+        → ((d : ℕ) → d < n → d ≢ e → d ≢ mate e → turned d ≡ quarters d)
+        → HasPaths w n mate quarters → HasPaths new n mate turned }
+{}
+
+/// Cuts keep the turns of each edge.
+pub fn cuts_keep_paths()
+    ensures { (w new : Web) (n : ℕ) (mate : ℕ → ℕ) (quarters : ℕ → List ℕ) → IsSound w → Grows w new
+        → HasPaths w n mate quarters → HasPaths new n mate quarters }
+{}
+
+/// A rectangle round the web, its join and the cuts after it keep the turns of each edge.
+pub fn rectangles_keep_paths()
+    ensures { (w new : Web) (n : ℕ) (mate : ℕ → ℕ) (quarters : ℕ → List ℕ) → IsSound w → IsEnclosed w new
+        → HasPaths w n mate quarters → HasPaths new n mate quarters }
+{}
+
+/// A split of an edge leaves a joined web joined.
+pub fn splits_stay_joined()
+    ensures { (w : Web) (e way bend : ℕ) (new : Web) → IsLinked w → e < w.darts → IsSplit w e way bend new
+        → IsJoined w → IsJoined new }
+{}
+
+/// Cuts leave a joined web joined.
+pub fn cuts_stay_joined()
+    ensures { (w new : Web) → IsSound w → Grows w new → IsJoined w → IsJoined new }
+{}
+
+/// A joined web in its rectangle is joined.
+pub fn rectangles_are_joined()
+    ensures { (w new : Web) → IsSound w → IsEnclosed w new → IsJoined w → IsJoined new }
+{}
