@@ -50,9 +50,9 @@ in_down_back a (c ∷ st) rest here =
     ]
 
 -- a face with four left corners is done
-pub four_done : (w : Web) (a b c d : ℕ) (rs : List (List ℕ)) → w.angle a ≡ 1 → w.angle b ≡ 1 → w.angle c ≡ 1 → w.angle d ≡ 1 →
-    AreWaiting w ((a ∷ b ∷ c ∷ d ∷ []) ∷ rs) → AreWaiting w rs
-four_done w a b c d rs left_a left_b left_c left_d waiting =
+pub four_done : (w : Web) (a b c d : ℕ) (o : ℕ) (rs : List (List ℕ)) → w.angle a ≡ 1 → w.angle b ≡ 1 → w.angle c ≡ 1 → w.angle d ≡ 1 →
+    AreWaiting w o ((a ∷ b ∷ c ∷ d ∷ []) ∷ rs) → AreWaiting w o rs
+four_done w a b c d o rs left_a left_b left_c left_d waiting =
     let ring = waiting.rings.0.0 in
     let box1 : IsFour w 1 a = record {
       second = b;
@@ -74,6 +74,8 @@ four_done w a b c d rs left_a left_b left_c left_d waiting =
       rings = waiting.rings.1;
       distinct = waiting.distinct.1.1.1.1;
       below = waiting.below.1.1.1.1;
+      inside = waiting.inside;
+      outside = waiting.outside;
       settled = λ k l corner.
           elim (waiting.settled k l corner) [
             | inl listed ↦ elim listed [
@@ -95,9 +97,9 @@ four_done w a b c d rs left_a left_b left_c left_d waiting =
 
 -- with nothing unread and a reduced stack, the face is done
 pub scan_done : (w0 : Web) (face : List ℕ) (w : Web) (st : List ℕ) → IsScan w0 face w st [] → Reduced 0 (map w.angle st) →
-    (rs : List (List ℕ)) → AreWaiting w0 (face ∷ rs) → AreWaiting w rs
-scan_done w0 face w st scan reduced rs wait =
-    let waiting = scan.waiting rs wait in
+    (o : ℕ) (rs : List (List ℕ)) → AreWaiting w0 o (face ∷ rs) → AreWaiting w o rs
+scan_done w0 face w st scan reduced o rs wait =
+    let waiting = scan.waiting o rs wait in
     let each : (a : ℕ) → In a st → (a < w.darts) × IsCorner w a = λ a h.
     let there : In a (down st []) = in_down_back a st [] h in (
       in_below w.darts a (down st []) (below_left w.darts (down st []) (joined rs) waiting.below) there,
@@ -107,21 +109,21 @@ scan_done w0 face w st scan reduced rs wait =
     let once : total (map w.angle st) + 4 ≡ 2 * length (map w.angle st) =
     omega (arith, waiting.rings.0.1, total-down w.angle st [], length-down st [], length-map_angle w.angle st) in
     let four : length (map w.angle st) ≡ 4 = four_lefts (map w.angle st) lefts once in
-    close w st rs lefts (omega (arith, four, length-map_angle w.angle st)) waiting
+    close w st o rs lefts (omega (arith, four, length-map_angle w.angle st)) waiting
   where
-    close : (w : Web) (st : List ℕ) (rs : List (List ℕ)) → AreLefts (map w.angle st) → length st ≡ 4 →
-        AreWaiting w (down st [] ∷ rs) → AreWaiting w rs
-    close w [] rs lefts four waiting = absurd (omega (arith, four))
-    close w (d ∷ []) rs lefts four waiting = absurd (omega (arith, four))
-    close w (d ∷ c ∷ []) rs lefts four waiting = absurd (omega (arith, four))
-    close w (d ∷ c ∷ b ∷ []) rs lefts four waiting = absurd (omega (arith, four))
-    close w (d ∷ c ∷ b ∷ a ∷ []) rs lefts four waiting =
-        four_done w a b c d rs lefts.1.1.1.0 lefts.1.1.0 lefts.1.0 lefts.0 waiting
-    close w (d ∷ c ∷ b ∷ a ∷ e ∷ st) rs lefts four waiting = absurd (omega (arith, four))
+    close : (w : Web) (st : List ℕ) (o : ℕ) (rs : List (List ℕ)) → AreLefts (map w.angle st) → length st ≡ 4 →
+        AreWaiting w o (down st [] ∷ rs) → AreWaiting w o rs
+    close w [] o rs lefts four waiting = absurd (omega (arith, four))
+    close w (d ∷ []) o rs lefts four waiting = absurd (omega (arith, four))
+    close w (d ∷ c ∷ []) o rs lefts four waiting = absurd (omega (arith, four))
+    close w (d ∷ c ∷ b ∷ []) o rs lefts four waiting = absurd (omega (arith, four))
+    close w (d ∷ c ∷ b ∷ a ∷ []) o rs lefts four waiting =
+        four_done w a b c d o rs lefts.1.1.1.0 lefts.1.1.0 lefts.1.0 lefts.0 waiting
+    close w (d ∷ c ∷ b ∷ a ∷ e ∷ st) o rs lefts four waiting = absurd (omega (arith, four))
 
 -- a face can be read from another corner on
-pub turned_waiting : (w : Web) (xs ys : List ℕ) (rs : List (List ℕ)) → AreWaiting w ((xs ++ ys) ∷ rs) → AreWaiting w ((ys ++ xs) ∷ rs)
-turned_waiting w xs ys rs waiting = record {
+pub turned_waiting : (w : Web) (xs ys : List ℕ) (o : ℕ) (rs : List (List ℕ)) → AreWaiting w o ((xs ++ ys) ∷ rs) → AreWaiting w o ((ys ++ xs) ∷ rs)
+turned_waiting w xs ys o rs waiting = record {
   rings = (
     (
       turn w xs ys waiting.rings.0.0,
@@ -134,6 +136,8 @@ turned_waiting w xs ys rs waiting = record {
       (below_append w.darts ys xs (below_right w.darts xs ys (below_left w.darts (xs ++ ys) (joined rs) waiting.below))
       (below_left w.darts xs ys (below_left w.darts (xs ++ ys) (joined rs) waiting.below)))
       (below_right w.darts (xs ++ ys) (joined rs) waiting.below);
+  inside = waiting.inside;
+  outside = waiting.outside;
   settled = λ a l corner.
       elim (waiting.settled a l corner) [
         | inl listed ↦ inl (elim (in_append a (xs ++ ys) (joined rs) listed) [

@@ -12,3 +12,4 @@ pub mod Rotating
 pub mod Stacks
 pub mod Climbing
 pub mod Reading
+pub mod Reaching

@@ -25,7 +25,7 @@ pub scan_on : (w0 w new : Web) (face : List ℕ) (st rest st' rest' : List ℕ) 
 scan_on w0 w new face st rest st' rest' first second = record {
   sound = second.sound;
   grows = grows_on w0 w new first.grows second.grows;
-  waiting = λ rs wait. second.waiting rs (first.waiting rs wait);
+  waiting = λ o rs wait. second.waiting o rs (first.waiting o rs wait);
   hopeful = second.hopeful;
   rising = second.rising;
 }
@@ -35,7 +35,7 @@ pub scan_here : (w0 w : Web) (face : List ℕ) (st rest : List ℕ) → IsScan w
 scan_here w0 w face st rest scan = record {
   sound = scan.sound;
   grows = same;
-  waiting = λ rs wait. wait;
+  waiting = λ o rs wait. wait;
   hopeful = scan.hopeful;
   rising = scan.rising;
 }
@@ -84,11 +84,11 @@ reading_top w0 face room w xs h read now more reading =
     }
 
 pub reading_waits : (w0 : Web) (face : List ℕ) (room : ℕ) (w : Web) (xs : List ℕ) (h read now : ℕ) → read < length xs →
-    IsReading w0 face room w xs h read now → (rs : List (List ℕ)) → AreWaiting w0 (face ∷ rs) →
+    IsReading w0 face room w xs h read now → (o : ℕ) (rs : List (List ℕ)) → AreWaiting w0 o (face ∷ rs) →
     let ys = set xs h (get_or xs read 0) in
-    AreWaiting w (down (tops ys (h + 1)) (drop (read + 1) ys) ∷ rs)
-reading_waits w0 face room w xs h read now more reading rs wait =
-    (reading_put w0 face room w xs h read now more reading).waiting rs wait
+    AreWaiting w o (down (tops ys (h + 1)) (drop (read + 1) ys) ∷ rs)
+reading_waits w0 face room w xs h read now more reading o rs wait =
+    (reading_put w0 face room w xs h read now more reading).waiting o rs wait
 
 -- and the cuts at it are made
 pub reading_more : (w0 : Web) (face : List ℕ) (room : ℕ) (w new : Web) (xs zs : List ℕ) (h read now now' h' : ℕ) → read < length xs →
@@ -111,16 +111,16 @@ reading_more w0 face room w new xs zs h read now now' h' more reading top reduce
     }
 
 -- the beginning, from the place on where the walk has turned left most
-pub reading_begins : (w0 : Web) (face : List ℕ) (room m : ℕ) (xs : List ℕ) → IsSound w0 → (rs : List (List ℕ)) →
-    AreWaiting w0 (face ∷ rs) → HasRoom w0 room → IsHighest (map w0.angle face) m → xs ≡ drop m face ++ take m face →
+pub reading_begins : (w0 : Web) (face : List ℕ) (room m : ℕ) (xs : List ℕ) → IsSound w0 → (o : ℕ) (rs : List (List ℕ)) →
+    AreWaiting w0 o (face ∷ rs) → HasRoom w0 room → IsHighest (map w0.angle face) m → xs ≡ drop m face ++ take m face →
     All (λ a. a < room) xs → IsReading w0 face room w0 xs 0 0 room
-reading_begins w0 face room m xs sound rs wait space highest said darts = record {
+reading_begins w0 face room m xs sound o rs wait space highest said darts = record {
   scan = record {
     sound = sound;
     grows = same;
-    waiting = λ rs wait. subst (λ (zs : List ℕ). AreWaiting w0 (zs ∷ rs)) (sym said)
-        (turned_waiting w0 (take m face) (drop m face) rs
-        (subst (λ (zs : List ℕ). AreWaiting w0 (zs ∷ rs)) (sym (take-append-drop m face)) wait));
+    waiting = λ o rs wait. subst (λ (zs : List ℕ). AreWaiting w0 o (zs ∷ rs)) (sym said)
+        (turned_waiting w0 (take m face) (drop m face) o rs
+        (subst (λ (zs : List ℕ). AreWaiting w0 o (zs ∷ rs)) (sym (take-append-drop m face)) wait));
     hopeful = tt;
     rising = subst (λ (zs : List ℕ). Rising (map w0.angle zs)) (sym said)
         (subst Rising (sym (map_apart w0.angle m face))
@@ -155,10 +155,10 @@ reading_begins w0 face room m xs sound rs wait space highest said darts = record
         ∙ ap (λ (zs : List ℕ). drop m (map f xs) ++ zs) (map_take f m xs)
 
 pub reading_done : (w0 : Web) (face : List ℕ) (room : ℕ) (w : Web) (xs : List ℕ) (h read now : ℕ) → length xs ≤ read →
-    IsReading w0 face room w xs h read now → (rs : List (List ℕ)) → AreWaiting w0 (face ∷ rs) → AreWaiting w rs
-reading_done w0 face room w xs h read now all reading rs wait =
+    IsReading w0 face room w xs h read now → (o : ℕ) (rs : List (List ℕ)) → AreWaiting w0 o (face ∷ rs) → AreWaiting w o rs
+reading_done w0 face room w xs h read now all reading o rs wait =
     scan_done w0 face w (tops xs h) (subst (λ (zs : List ℕ). IsScan w0 face w (tops xs h) zs) (drop_all read xs all) reading.scan)
-    reading.reduced rs wait
+    reading.reduced o rs wait
 
 pub all_below : (n m : ℕ) (xs : List ℕ) → n ≤ m → Below n xs → All (λ a. a < m) xs
 all_below n m [] le below = λ k d l. absurd (omega arith)
@@ -174,15 +174,15 @@ below_turned n m xs below =
     below_append n (drop m xs) (take m xs) (below_right n (take m xs) (drop m xs) apart) (below_left n (take m xs) (drop m xs) apart)
 
 -- the first of the pieces, and the others
-pub pieces_apart : (w : Web) (xs ns : List ℕ) (start i : ℕ) → i < length ns → AreWaiting w (cut_up (drop start xs) (drop i ns)) →
-    AreWaiting w (take (start + get_or ns i 0 - start) (drop start xs) ∷ cut_up (drop (start + get_or ns i 0) xs) (drop (i + 1) ns))
-pieces_apart w xs ns start i more waiting =
+pub pieces_apart : (w : Web) (xs ns : List ℕ) (start i o : ℕ) → i < length ns → AreWaiting w o (cut_up (drop start xs) (drop i ns)) →
+    AreWaiting w o (take (start + get_or ns i 0 - start) (drop start xs) ∷ cut_up (drop (start + get_or ns i 0) xs) (drop (i + 1) ns))
+pieces_apart w xs ns start i o more waiting =
     let n : ℕ = get_or ns i 0 in
-    let first : AreWaiting w (take n (drop start xs) ∷ cut_up (drop n (drop start xs)) (drop (i + 1) ns)) =
-    subst (λ (zs : List ℕ). AreWaiting w (cut_up (drop start xs) zs)) (drop_more ns i 0 more) waiting in
+    let first : AreWaiting w o (take n (drop start xs) ∷ cut_up (drop n (drop start xs)) (drop (i + 1) ns)) =
+    subst (λ (zs : List ℕ). AreWaiting w o (cut_up (drop start xs) zs)) (drop_more ns i 0 more) waiting in
     let count : n ≡ start + n - start = omega arith in
-    subst (λ (k : ℕ). AreWaiting w (take k (drop start xs) ∷ cut_up (drop (start + n) xs) (drop (i + 1) ns))) count
-    (subst (λ (zs : List ℕ). AreWaiting w (take n (drop start xs) ∷ cut_up zs (drop (i + 1) ns))) (drop-drop n start xs) first)
+    subst (λ (k : ℕ). AreWaiting w o (take k (drop start xs) ∷ cut_up (drop (start + n) xs) (drop (i + 1) ns))) count
+    (subst (λ (zs : List ℕ). AreWaiting w o (take n (drop start xs) ∷ cut_up zs (drop (i + 1) ns))) (drop-drop n start xs) first)
 
 pub sum_apart : (ns : List ℕ) (i : ℕ) → i < length ns → sum (drop i ns) ≡ get_or ns i 0 + sum (drop (i + 1) ns)
 sum_apart ns i more = ap sum (drop_more ns i 0 more) ∙ sum_by-cons (λ (n : ℕ). n) (get_or ns i 0) (drop (i + 1) ns)

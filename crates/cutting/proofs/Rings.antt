@@ -1,7 +1,7 @@
 -- Faces told by their corners, and what one cut makes of them.
 use Rattle.std.proofs.Common.{◌≡◌, ◌≢◌, ℕ, zero, suc, ◌+◌, ◌<◌, ◌∙◌, List, [], ◌∷◌, ◌++◌, arith, subst, sym, ap, refl}
 use Rattle.cutting.specs.Webs.{Web, IsLinked, IsSplit, IsChord}
-use Rattle.cutting.specs.Faces.{IsCorner, RunsIn, Runs, Trail, last_of, Ring, IsFour}
+use Rattle.cutting.specs.Faces.{IsCorner, RunsIn, Runs, Trail, last_of, Ring, IsFour, IsOutside}
 use Rattle.cutting.proofs.Running.{IsCutting, split_runs, chord_run, chord_run_there, chord_run_to, chord_run_there_to, chord_run_back, run_direct, Runs-one, Runs-from_one, Runs-inside, Runs-corner}
 
 -- each of the darts is below n, and none is d or c
@@ -68,6 +68,15 @@ split_four w e way angle a new s linked e_in l four =
       angle_third = s.angle_old four.third l3 ∙ four.angle_third;
       angle_fourth = s.angle_old four.fourth l4 ∙ four.angle_fourth;
     }
+
+-- the outside of the frame stays one
+pub split_outside : (w : Web) (o e way a : ℕ) (new : Web) → IsSplit w e way 2 new → IsLinked w → e < w.darts →
+    a < w.darts → IsOutside w o a → IsOutside new o a
+unfolding split_four
+split_outside w o e way a new s linked e_in l outside = record {
+  four = split_four w e way 3 a new s linked e_in l outside.four;
+  holds = outside.holds;
+}
 
 -- d turns right, then c1 and c turn left, one behind the other; f is the straight place right behind c
 pub record IsHook (w : Web) (d c1 c f : ℕ) : Type 0 where
@@ -271,14 +280,24 @@ cut_box w d c1 c f way a new s linked hook l four =
     (box_clear w d c1 c f a linked hook l four) (box_clear w d c1 c f four.second linked hook l2 two)
     (box_clear w d c1 c f four.third linked hook l3 three) (box_clear w d c1 c f four.fourth linked hook l4 last)
 
--- a frame stays one
-pub cut_frame : (w : Web) (d c1 c f way a : ℕ) (new : Web) → IsChord w d f way new → IsLinked w → IsHook w d c1 c f →
-    a < w.darts → IsFour w 3 a → IsFour new 3 a
-cut_frame w d c1 c f way a new s linked hook l four =
+-- the outside of the frame stays one where its corners are not the cut's
+pub chord_outside : (w : Web) (o d c f way a : ℕ) (new : Web) → IsChord w d f way new → IsLinked w → IsCutting w d c f →
+    a < w.darts → (outside : IsOutside w o a) → (a ≢ d) × (a ≢ c) → (outside.four.second ≢ d) × (outside.four.second ≢ c) →
+    (outside.four.third ≢ d) × (outside.four.third ≢ c) → (outside.four.fourth ≢ d) × (outside.four.fourth ≢ c) → IsOutside new o a
+unfolding chord_four
+chord_outside w o d c f way a new s linked here l outside clear1 clear2 clear3 clear4 = record {
+  four = chord_four w d c f way 3 a new s linked here l (λ h. omega (arith, h)) outside.four clear1 clear2 clear3 clear4;
+  holds = outside.holds;
+}
+
+pub cut_outside : (w : Web) (o d c1 c f way a : ℕ) (new : Web) → IsChord w d f way new → IsLinked w → IsHook w d c1 c f →
+    a < w.darts → IsOutside w o a → IsOutside new o a
+cut_outside w o d c1 c f way a new s linked hook l outside =
+    let four = outside.four in
     let two = four_turned w 3 a four in
     let three = four_turned w 3 four.second two in
     let last = four_turned w 3 four.third three in
-    chord_four w d c f way 3 a new s linked hook.cutting l (λ h. omega (arith, h)) four
+    chord_outside w o d c f way a new s linked hook.cutting l outside
     (frame_clear w d c1 c f a hook four) (frame_clear w d c1 c f four.second hook two)
     (frame_clear w d c1 c f four.third hook three) (frame_clear w d c1 c f four.fourth hook last)
 

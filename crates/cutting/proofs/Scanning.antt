@@ -157,11 +157,11 @@ ring_runs w (b ∷ bs) d c1 c rest ring =
     (trail.1.0, trail.1.1.0)
 
 -- the three uppermost corners of the stack, where they are a right below two lefts
-pub scan_bites : (w0 : Web) (face : List ℕ) (w : Web) (d c1 c way : ℕ) (st rest : List ℕ) (rs : List (List ℕ)) (new : Web) →
-    IsScan w0 face w (c ∷ c1 ∷ d ∷ st) rest → AreWaiting w0 (face ∷ rs) → w.angle c1 ≡ 1 → w.angle c ≡ 1 →
+pub scan_bites : (w0 : Web) (face : List ℕ) (w : Web) (d c1 c way : ℕ) (st rest : List ℕ) (o : ℕ) (rs : List (List ℕ)) (new : Web) →
+    IsScan w0 face w (c ∷ c1 ∷ d ∷ st) rest → AreWaiting w0 o (face ∷ rs) → w.angle c1 ≡ 1 → w.angle c ≡ 1 →
     IsCut w d (w.next c) way new → IsBite w d c1 c (w.next c) way new
-scan_bites w0 face w d c1 c way st rest rs new scan wait left_first left cut =
-    let waiting = scan.waiting rs wait in
+scan_bites w0 face w d c1 c way st rest o rs new scan wait left_first left cut =
+    let waiting = scan.waiting o rs wait in
     let same : down st (d ∷ c1 ∷ c ∷ rest) ≡ down st [] ++ (d ∷ c1 ∷ c ∷ rest) = down_append st (d ∷ c1 ∷ c ∷ rest) in
     let runs = ring_runs w (down st []) d c1 c rest (subst (Ring w) same waiting.rings.0.0) in
     let below : Below w.darts (down st [] ++ (d ∷ c1 ∷ c ∷ rest)) =
@@ -184,11 +184,11 @@ scan_bites w0 face w d c1 c way st rest rs new scan wait left_first left cut =
     }
 
 -- the same three corners can be cut
-pub scan_can : (w0 : Web) (face : List ℕ) (w : Web) (d c1 c : ℕ) (st rest : List ℕ) (rs : List (List ℕ)) →
-    IsScan w0 face w (c ∷ c1 ∷ d ∷ st) rest → AreWaiting w0 (face ∷ rs) → w.angle c1 ≡ 1 → w.angle c ≡ 1 → 2 < w.angle d →
+pub scan_can : (w0 : Web) (face : List ℕ) (w : Web) (d c1 c : ℕ) (st rest : List ℕ) (o : ℕ) (rs : List (List ℕ)) →
+    IsScan w0 face w (c ∷ c1 ∷ d ∷ st) rest → AreWaiting w0 o (face ∷ rs) → w.angle c1 ≡ 1 → w.angle c ≡ 1 → 2 < w.angle d →
     CanCut w d c
-scan_can w0 face w d c1 c st rest rs scan wait left_first left right =
-    let waiting = scan.waiting rs wait in
+scan_can w0 face w d c1 c st rest o rs scan wait left_first left right =
+    let waiting = scan.waiting o rs wait in
     let same : down st (d ∷ c1 ∷ c ∷ rest) ≡ down st [] ++ (d ∷ c1 ∷ c ∷ rest) = down_append st (d ∷ c1 ∷ c ∷ rest) in
     let runs = ring_runs w (down st []) d c1 c rest (subst (Ring w) same waiting.rings.0.0) in
     let below : Below w.darts (down st [] ++ (d ∷ c1 ∷ c ∷ rest)) =
@@ -225,11 +225,11 @@ pub record Kept (w new : Web) (d : ℕ) (st rest : List ℕ) : Type 0 where
   pub stack : map new.angle st ≡ map w.angle st
   pub unread : map new.angle rest ≡ map w.angle rest
 
-pub scan_kept : (w0 : Web) (face : List ℕ) (w : Web) (d c1 c way : ℕ) (st rest : List ℕ) (rs : List (List ℕ)) (new : Web) →
-    IsScan w0 face w (c ∷ c1 ∷ d ∷ st) rest → AreWaiting w0 (face ∷ rs) → IsBite w d c1 c (w.next c) way new →
+pub scan_kept : (w0 : Web) (face : List ℕ) (w : Web) (d c1 c way : ℕ) (st rest : List ℕ) (o : ℕ) (rs : List (List ℕ)) (new : Web) →
+    IsScan w0 face w (c ∷ c1 ∷ d ∷ st) rest → AreWaiting w0 o (face ∷ rs) → IsBite w d c1 c (w.next c) way new →
     Kept w new d st rest
-scan_kept w0 face w d c1 c way st rest rs new scan wait bite =
-    let waiting = scan.waiting rs wait in
+scan_kept w0 face w d c1 c way st rest o rs new scan wait bite =
+    let waiting = scan.waiting o rs wait in
     let same : down st (d ∷ c1 ∷ c ∷ rest) ≡ down st [] ++ (d ∷ c1 ∷ c ∷ rest) = down_append st (d ∷ c1 ∷ c ∷ rest) in
     let below : Below w.darts (down st [] ++ (d ∷ c1 ∷ c ∷ rest)) =
     subst (Below w.darts) same (below_left w.darts (down st (d ∷ c1 ∷ c ∷ rest)) (joined rs) waiting.below) in
@@ -248,12 +248,12 @@ scan_kept w0 face w d c1 c way st rest rs new scan wait bite =
 pub total_kept : (w new : Web) (rest : List ℕ) → map new.angle rest ≡ map w.angle rest → total (map new.angle rest) ≡ total (map w.angle rest)
 total_kept w new rest e = ap total e
 
-pub scan_cut_straight : (w0 : Web) (face : List ℕ) (w : Web) (d c1 c way : ℕ) (st rest : List ℕ) (rs : List (List ℕ)) (new : Web) →
-    IsScan w0 face w (c ∷ c1 ∷ d ∷ st) rest → AreWaiting w0 (face ∷ rs) → w.angle c1 ≡ 1 → w.angle c ≡ 1 →
+pub scan_cut_straight : (w0 : Web) (face : List ℕ) (w : Web) (d c1 c way : ℕ) (st rest : List ℕ) (o : ℕ) (rs : List (List ℕ)) (new : Web) →
+    IsScan w0 face w (c ∷ c1 ∷ d ∷ st) rest → AreWaiting w0 o (face ∷ rs) → w.angle c1 ≡ 1 → w.angle c ≡ 1 →
     IsCut w d (w.next c) way new → new.angle d ≡ 2 → IsScan w0 face new ((w.darts + 2) ∷ st) rest
-scan_cut_straight w0 face w d c1 c way st rest rs new scan wait left_first left cut straight =
-    let bite = scan_bites w0 face w d c1 c way st rest rs new scan wait left_first left cut in
-    let kept = scan_kept w0 face w d c1 c way st rest rs new scan wait bite in
+scan_cut_straight w0 face w d c1 c way st rest o rs new scan wait left_first left cut straight =
+    let bite = scan_bites w0 face w d c1 c way st rest o rs new scan wait left_first left cut in
+    let kept = scan_kept w0 face w d c1 c way st rest o rs new scan wait bite in
     let three : w.angle d ≡ 3 = omega (arith, bite_angle_d w d c1 c (w.next c) way new bite, straight) in
     let x_one : new.angle (w.darts + 2) ≡ 1 = ap new.angle (sym cut.split.darts) ∙ cut.chord.angle_there in
     let hopeful : Hopeful (total (map w.angle rest)) (length rest) (1 ∷ 1 ∷ w.angle d ∷ map w.angle st) =
@@ -264,23 +264,23 @@ scan_cut_straight w0 face w d c1 c way st rest rs new scan wait left_first left 
     record {
       sound = cut_sound w d (w.next c) way new scan.sound cut;
       grows = further w new d (w.next c) way scan.grows cut;
-      waiting = λ rs2 wait2.
-          let bite2 = scan_bites w0 face w d c1 c way st rest rs2 new scan wait2 left_first left cut in
-          subst (λ (zs : List ℕ). AreWaiting new (zs ∷ rs2)) (sym (down_append st ((w.darts + 2) ∷ rest)))
-          (gone_waiting w d c1 c (w.next c) way new (down st []) rest rs2 bite2 straight
-          (subst (λ (zs : List ℕ). AreWaiting w (zs ∷ rs2)) (down_append st (d ∷ c1 ∷ c ∷ rest)) (scan.waiting rs2 wait2)));
+      waiting = λ o2 rs2 wait2.
+          let bite2 = scan_bites w0 face w d c1 c way st rest o2 rs2 new scan wait2 left_first left cut in
+          subst (λ (zs : List ℕ). AreWaiting new o2 (zs ∷ rs2)) (sym (down_append st ((w.darts + 2) ∷ rest)))
+          (gone_waiting w d c1 c (w.next c) way new (down st []) rest o2 rs2 bite2 straight
+          (subst (λ (zs : List ℕ). AreWaiting w o2 (zs ∷ rs2)) (down_append st (d ∷ c1 ∷ c ∷ rest)) (scan.waiting o2 rs2 wait2)));
       hopeful = subst (λ (k : ℕ). Hopeful (total (map new.angle rest)) (length rest) (k ∷ map new.angle st)) (sym x_one)
           (subst (λ (zs : List ℕ). Hopeful (total zs) (length rest) (1 ∷ map new.angle st)) (sym kept.unread)
           (subst (λ (zs : List ℕ). Hopeful (total (map w.angle rest)) (length rest) (1 ∷ zs)) (sym kept.stack) after));
       rising = subst Rising (sym kept.unread) scan.rising;
     }
 
-pub scan_cut_turning : (w0 : Web) (face : List ℕ) (w : Web) (d c1 c way : ℕ) (st rest : List ℕ) (rs : List (List ℕ)) (new : Web) →
-    IsScan w0 face w (c ∷ c1 ∷ d ∷ st) rest → AreWaiting w0 (face ∷ rs) → w.angle c1 ≡ 1 → w.angle c ≡ 1 →
+pub scan_cut_turning : (w0 : Web) (face : List ℕ) (w : Web) (d c1 c way : ℕ) (st rest : List ℕ) (o : ℕ) (rs : List (List ℕ)) (new : Web) →
+    IsScan w0 face w (c ∷ c1 ∷ d ∷ st) rest → AreWaiting w0 o (face ∷ rs) → w.angle c1 ≡ 1 → w.angle c ≡ 1 →
     IsCut w d (w.next c) way new → IsCorner new d → IsScan w0 face new ((w.darts + 2) ∷ d ∷ st) rest
-scan_cut_turning w0 face w d c1 c way st rest rs new scan wait left_first left cut corner =
-    let bite = scan_bites w0 face w d c1 c way st rest rs new scan wait left_first left cut in
-    let kept = scan_kept w0 face w d c1 c way st rest rs new scan wait bite in
+scan_cut_turning w0 face w d c1 c way st rest o rs new scan wait left_first left cut corner =
+    let bite = scan_bites w0 face w d c1 c way st rest o rs new scan wait left_first left cut in
+    let kept = scan_kept w0 face w d c1 c way st rest o rs new scan wait bite in
     let less = bite_angle_d w d c1 c (w.next c) way new bite in
     let four : w.angle d ≡ 4 = pick (w.angle d) (new.angle d) less cut.right (scan.sound.meeting.most d cut.d_in) corner in
     let three : new.angle d ≡ 3 = omega (arith, less, four) in
@@ -293,11 +293,11 @@ scan_cut_turning w0 face w d c1 c way st rest rs new scan wait left_first left c
     record {
       sound = cut_sound w d (w.next c) way new scan.sound cut;
       grows = further w new d (w.next c) way scan.grows cut;
-      waiting = λ rs2 wait2.
-          let bite2 = scan_bites w0 face w d c1 c way st rest rs2 new scan wait2 left_first left cut in
-          subst (λ (zs : List ℕ). AreWaiting new (zs ∷ rs2)) (sym (down_append st (d ∷ (w.darts + 2) ∷ rest)))
-          (kept_waiting w d c1 c (w.next c) way new (down st []) rest rs2 bite2 corner
-          (subst (λ (zs : List ℕ). AreWaiting w (zs ∷ rs2)) (down_append st (d ∷ c1 ∷ c ∷ rest)) (scan.waiting rs2 wait2)));
+      waiting = λ o2 rs2 wait2.
+          let bite2 = scan_bites w0 face w d c1 c way st rest o2 rs2 new scan wait2 left_first left cut in
+          subst (λ (zs : List ℕ). AreWaiting new o2 (zs ∷ rs2)) (sym (down_append st (d ∷ (w.darts + 2) ∷ rest)))
+          (kept_waiting w d c1 c (w.next c) way new (down st []) rest o2 rs2 bite2 corner
+          (subst (λ (zs : List ℕ). AreWaiting w o2 (zs ∷ rs2)) (down_append st (d ∷ c1 ∷ c ∷ rest)) (scan.waiting o2 rs2 wait2)));
       hopeful = subst (λ (k : ℕ). Hopeful (total (map new.angle rest)) (length rest) (k ∷ new.angle d ∷ map new.angle st)) (sym x_one)
           (subst (λ (zs : List ℕ). Hopeful (total zs) (length rest) (1 ∷ new.angle d ∷ map new.angle st)) (sym kept.unread)
           (subst (λ (zs : List ℕ). Hopeful (total (map w.angle rest)) (length rest) (1 ∷ new.angle d ∷ zs)) (sym kept.stack) after));

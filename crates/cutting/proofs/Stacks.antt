@@ -55,10 +55,10 @@ hook_at w xs k hook =
     record { left = h.0; left_first = h.1; right = h.2 }
 
 -- the corners on the stack are darts that turn
-pub stack_turns : (w0 : Web) (face : List ℕ) (w : Web) (st rest : List ℕ) (rs : List (List ℕ)) → IsScan w0 face w st rest →
-    AreWaiting w0 (face ∷ rs) → (a : ℕ) → In a st → (a < w.darts) × IsCorner w a
-stack_turns w0 face w st rest rs scan wait a here =
-    let waiting = scan.waiting rs wait in
+pub stack_turns : (w0 : Web) (face : List ℕ) (w : Web) (st rest : List ℕ) (o : ℕ) (rs : List (List ℕ)) → IsScan w0 face w st rest →
+    AreWaiting w0 o (face ∷ rs) → (a : ℕ) → In a st → (a < w.darts) × IsCorner w a
+stack_turns w0 face w st rest o rs scan wait a here =
+    let waiting = scan.waiting o rs wait in
     let there : In a (down st rest) = in_down a st rest here in (
       in_below w.darts a (down st rest) (below_left w.darts (down st rest) (joined rs) waiting.below) there,
       ring_corners w a (down st rest) waiting.rings.0.0 there,
@@ -85,20 +85,20 @@ unhooked w (c ∷ st) turns clear some tail =
         clear (left, omega (arith, first, one), omega (arith, second, right))
 
 -- a cut at the hook that leaves its right turn straight
-pub top_straight : (w0 : Web) (room : ℕ) (face : List ℕ) (w : Web) (xs : List ℕ) (k read way : ℕ) (rs : List (List ℕ)) (new : Web) →
-    IsTop w0 room face w xs (k + 3) read → AreWaiting w0 (face ∷ rs) → HookAt w xs k →
+pub top_straight : (w0 : Web) (room : ℕ) (face : List ℕ) (w : Web) (xs : List ℕ) (k read way : ℕ) (o : ℕ) (rs : List (List ℕ)) (new : Web) →
+    IsTop w0 room face w xs (k + 3) read → AreWaiting w0 o (face ∷ rs) → HookAt w xs k →
     IsCut w (get_or xs k 0) (w.next (get_or xs (k + 2) 0)) way new → new.angle (get_or xs k 0) ≡ 2 →
     IsTop w0 room face new (set xs k (w.darts + 2)) (k + 1) read
-top_straight w0 room face w xs k read way rs new top wait hook cut straight =
+top_straight w0 room face w xs k read way o rs new top wait hook cut straight =
     let d : ℕ = get_or xs k 0 in
     let c1 : ℕ = get_or xs (k + 1) 0 in
     let c : ℕ = get_or xs (k + 2) 0 in
     let scan : IsScan w0 face w (c ∷ c1 ∷ d ∷ tops xs k) (drop read xs) =
     subst (λ (st : List ℕ). IsScan w0 face w st (drop read xs)) (tops_three xs k) top.scan in
     let after : IsScan w0 face new ((w.darts + 2) ∷ tops xs k) (drop read xs) =
-    scan_cut_straight w0 face w d c1 c way (tops xs k) (drop read xs) rs new scan wait hook.left_first hook.left cut straight in
-    let bite = scan_bites w0 face w d c1 c way (tops xs k) (drop read xs) rs new scan wait hook.left_first hook.left cut in
-    let kept = scan_kept w0 face w d c1 c way (tops xs k) (drop read xs) rs new scan wait bite in
+    scan_cut_straight w0 face w d c1 c way (tops xs k) (drop read xs) o rs new scan wait hook.left_first hook.left cut straight in
+    let bite = scan_bites w0 face w d c1 c way (tops xs k) (drop read xs) o rs new scan wait hook.left_first hook.left cut in
+    let kept = scan_kept w0 face w d c1 c way (tops xs k) (drop read xs) o rs new scan wait bite in
     let same_rest : drop read (set xs k (w.darts + 2)) ≡ drop read xs = drop-set-lt read xs k (w.darts + 2) (omega (arith, top.low)) in
     let same_tops : tops (set xs k (w.darts + 2)) (k + 1) ≡ (w.darts + 2) ∷ tops xs k =
     tops_put xs k (w.darts + 2) (omega (arith, top.low, top.inside)) in
@@ -125,11 +125,11 @@ top_straight w0 room face w xs k read way rs new top wait hook cut straight =
         subst (λ (zs : List ℕ). Reduced 0 (map w.angle zs)) e reduced
 
 -- a cut at the hook that leaves its right turn one
-pub top_turning : (w0 : Web) (room : ℕ) (face : List ℕ) (w : Web) (xs : List ℕ) (k read way : ℕ) (rs : List (List ℕ)) (new : Web) →
-    IsTop w0 room face w xs (k + 3) read → AreWaiting w0 (face ∷ rs) → HookAt w xs k →
+pub top_turning : (w0 : Web) (room : ℕ) (face : List ℕ) (w : Web) (xs : List ℕ) (k read way : ℕ) (o : ℕ) (rs : List (List ℕ)) (new : Web) →
+    IsTop w0 room face w xs (k + 3) read → AreWaiting w0 o (face ∷ rs) → HookAt w xs k →
     IsCut w (get_or xs k 0) (w.next (get_or xs (k + 2) 0)) way new → IsCorner new (get_or xs k 0) →
     IsTop w0 room face new (set xs (k + 1) (w.darts + 2)) (k + 2) read
-top_turning w0 room face w xs k read way rs new top wait hook cut corner =
+top_turning w0 room face w xs k read way o rs new top wait hook cut corner =
     let d : ℕ = get_or xs k 0 in
     let c1 : ℕ = get_or xs (k + 1) 0 in
     let c : ℕ = get_or xs (k + 2) 0 in
@@ -138,9 +138,9 @@ top_turning w0 room face w xs k read way rs new top wait hook cut corner =
     let scan : IsScan w0 face w (c ∷ c1 ∷ d ∷ tops xs k) (drop read xs) =
     subst (λ (st : List ℕ). IsScan w0 face w st (drop read xs)) (tops_three xs k) top.scan in
     let after : IsScan w0 face new (x ∷ d ∷ tops xs k) (drop read xs) =
-    scan_cut_turning w0 face w d c1 c way (tops xs k) (drop read xs) rs new scan wait hook.left_first hook.left cut corner in
-    let bite = scan_bites w0 face w d c1 c way (tops xs k) (drop read xs) rs new scan wait hook.left_first hook.left cut in
-    let kept = scan_kept w0 face w d c1 c way (tops xs k) (drop read xs) rs new scan wait bite in
+    scan_cut_turning w0 face w d c1 c way (tops xs k) (drop read xs) o rs new scan wait hook.left_first hook.left cut corner in
+    let bite = scan_bites w0 face w d c1 c way (tops xs k) (drop read xs) o rs new scan wait hook.left_first hook.left cut in
+    let kept = scan_kept w0 face w d c1 c way (tops xs k) (drop read xs) o rs new scan wait bite in
     let same_rest : drop read ys ≡ drop read xs = drop-set-lt read xs (k + 1) x (omega (arith, top.low)) in
     let same_tops : tops ys (k + 2) ≡ x ∷ d ∷ tops xs k =
     let e2 : k + 2 ≡ (k + 1) + 1 = omega arith in
@@ -175,10 +175,10 @@ top_turning w0 room face w xs k read way rs new top wait hook cut corner =
         subst (λ (zs : List ℕ). Reduced 0 (map w.angle zs)) e reduced
 
 -- what the hook lets a cut rest on
-pub top_can : (w0 : Web) (room : ℕ) (face : List ℕ) (w : Web) (xs : List ℕ) (k read : ℕ) (rs : List (List ℕ)) →
-    IsTop w0 room face w xs (k + 3) read → AreWaiting w0 (face ∷ rs) → HookAt w xs k → CanCut w (get_or xs k 0) (get_or xs (k + 2) 0)
-top_can w0 room face w xs k read rs top wait hook =
-    scan_can w0 face w (get_or xs k 0) (get_or xs (k + 1) 0) (get_or xs (k + 2) 0) (tops xs k) (drop read xs) rs
+pub top_can : (w0 : Web) (room : ℕ) (face : List ℕ) (w : Web) (xs : List ℕ) (k read : ℕ) (o : ℕ) (rs : List (List ℕ)) →
+    IsTop w0 room face w xs (k + 3) read → AreWaiting w0 o (face ∷ rs) → HookAt w xs k → CanCut w (get_or xs k 0) (get_or xs (k + 2) 0)
+top_can w0 room face w xs k read o rs top wait hook =
+    scan_can w0 face w (get_or xs k 0) (get_or xs (k + 1) 0) (get_or xs (k + 2) 0) (tops xs k) (drop read xs) o rs
     (subst (λ (st : List ℕ). IsScan w0 face w st (drop read xs)) (tops_three xs k) top.scan) wait hook.left_first hook.left hook.right
 
 pub hook_parts : (w : Web) (xs : List ℕ) (h : ℕ) → IsHookOn w (tops xs h) →
@@ -204,37 +204,37 @@ hook_from w xs h three left left_first right =
     (subst (λ (j : ℕ). w.angle (get_or xs j 0) ≡ 1) e1 left, subst (λ (j : ℕ). w.angle (get_or xs j 0) ≡ 1) e2 left_first, right))
 
 -- the same steps at any height
-pub can_at : (w0 : Web) (room : ℕ) (face : List ℕ) (w : Web) (xs : List ℕ) (h read : ℕ) (rs : List (List ℕ)) →
-    IsTop w0 room face w xs h read → AreWaiting w0 (face ∷ rs) → IsHookOn w (tops xs h) → CanCut w (get_or xs (h - 3) 0) (get_or xs (h - 1) 0)
-can_at w0 room face w xs h read rs top wait hook =
+pub can_at : (w0 : Web) (room : ℕ) (face : List ℕ) (w : Web) (xs : List ℕ) (h read : ℕ) (o : ℕ) (rs : List (List ℕ)) →
+    IsTop w0 room face w xs h read → AreWaiting w0 o (face ∷ rs) → IsHookOn w (tops xs h) → CanCut w (get_or xs (h - 3) 0) (get_or xs (h - 1) 0)
+can_at w0 room face w xs h read o rs top wait hook =
     let three : 3 ≤ h = hook_three w xs h hook in
     let k : ℕ = h - 3 in
     let e : h ≡ k + 3 = omega arith in
     let e1 : k + 2 ≡ h - 1 = omega arith in
     subst (λ (j : ℕ). CanCut w (get_or xs (h - 3) 0) (get_or xs j 0)) e1
-    (top_can w0 room face w xs k read rs (subst (λ (j : ℕ). IsTop w0 room face w xs j read) e top) wait
+    (top_can w0 room face w xs k read o rs (subst (λ (j : ℕ). IsTop w0 room face w xs j read) e top) wait
     (hook_at w xs k (subst (λ (j : ℕ). IsHookOn w (tops xs j)) e hook)))
 
-pub straight_at : (w0 : Web) (room : ℕ) (face : List ℕ) (w : Web) (xs : List ℕ) (h read way : ℕ) (rs : List (List ℕ)) (new : Web) →
-    IsTop w0 room face w xs h read → AreWaiting w0 (face ∷ rs) → IsHookOn w (tops xs h) →
+pub straight_at : (w0 : Web) (room : ℕ) (face : List ℕ) (w : Web) (xs : List ℕ) (h read way : ℕ) (o : ℕ) (rs : List (List ℕ)) (new : Web) →
+    IsTop w0 room face w xs h read → AreWaiting w0 o (face ∷ rs) → IsHookOn w (tops xs h) →
     IsCut w (get_or xs (h - 3) 0) (w.next (get_or xs (h - 1) 0)) way new → new.angle (get_or xs (h - 3) 0) ≡ 2 →
     IsTop w0 room face new (set xs (h - 3) (w.darts + 2)) (h - 2) read
-straight_at w0 room face w xs h read way rs new top wait hook cut straight =
+straight_at w0 room face w xs h read way o rs new top wait hook cut straight =
     let three : 3 ≤ h = hook_three w xs h hook in
     let k : ℕ = h - 3 in
     let e : h ≡ k + 3 = omega arith in
     let e1 : h - 1 ≡ k + 2 = omega arith in
     let e2 : k + 1 ≡ h - 2 = omega arith in
     subst (λ (j : ℕ). IsTop w0 room face new (set xs k (w.darts + 2)) j read) e2
-    (top_straight w0 room face w xs k read way rs new (subst (λ (j : ℕ). IsTop w0 room face w xs j read) e top) wait
+    (top_straight w0 room face w xs k read way o rs new (subst (λ (j : ℕ). IsTop w0 room face w xs j read) e top) wait
     (hook_at w xs k (subst (λ (j : ℕ). IsHookOn w (tops xs j)) e hook))
     (subst (λ (j : ℕ). IsCut w (get_or xs k 0) (w.next (get_or xs j 0)) way new) e1 cut) straight)
 
-pub turning_at : (w0 : Web) (room : ℕ) (face : List ℕ) (w : Web) (xs : List ℕ) (h read way : ℕ) (rs : List (List ℕ)) (new : Web) →
-    IsTop w0 room face w xs h read → AreWaiting w0 (face ∷ rs) → IsHookOn w (tops xs h) →
+pub turning_at : (w0 : Web) (room : ℕ) (face : List ℕ) (w : Web) (xs : List ℕ) (h read way : ℕ) (o : ℕ) (rs : List (List ℕ)) (new : Web) →
+    IsTop w0 room face w xs h read → AreWaiting w0 o (face ∷ rs) → IsHookOn w (tops xs h) →
     IsCut w (get_or xs (h - 3) 0) (w.next (get_or xs (h - 1) 0)) way new → IsCorner new (get_or xs (h - 3) 0) →
     IsTop w0 room face new (set xs (h - 2) (w.darts + 2)) (h - 1) read
-turning_at w0 room face w xs h read way rs new top wait hook cut corner =
+turning_at w0 room face w xs h read way o rs new top wait hook cut corner =
     let three : 3 ≤ h = hook_three w xs h hook in
     let k : ℕ = h - 3 in
     let e : h ≡ k + 3 = omega arith in
@@ -243,20 +243,20 @@ turning_at w0 room face w xs h read way rs new top wait hook cut corner =
     let e3 : k + 1 ≡ h - 2 = omega arith in
     subst (λ (i : ℕ). IsTop w0 room face new (set xs i (w.darts + 2)) (h - 1) read) e3
     (subst (λ (j : ℕ). IsTop w0 room face new (set xs (k + 1) (w.darts + 2)) j read) e2
-    (top_turning w0 room face w xs k read way rs new (subst (λ (j : ℕ). IsTop w0 room face w xs j read) e top) wait
+    (top_turning w0 room face w xs k read way o rs new (subst (λ (j : ℕ). IsTop w0 room face w xs j read) e top) wait
     (hook_at w xs k (subst (λ (j : ℕ). IsHookOn w (tops xs j)) e hook))
     (subst (λ (j : ℕ). IsCut w (get_or xs k 0) (w.next (get_or xs j 0)) way new) e1 cut) corner))
 
 -- with no hook uppermost, the whole stack is reduced
-pub unhooked_at : (w0 : Web) (room : ℕ) (face : List ℕ) (w : Web) (xs : List ℕ) (h read : ℕ) (rs : List (List ℕ)) →
-    IsTop w0 room face w xs h read → AreWaiting w0 (face ∷ rs) → (IsHookOn w (tops xs h) → ⊥) → Reduced 0 (map w.angle (tops xs h))
-unhooked_at w0 room face w xs h read rs top wait clear =
+pub unhooked_at : (w0 : Web) (room : ℕ) (face : List ℕ) (w : Web) (xs : List ℕ) (h read : ℕ) (o : ℕ) (rs : List (List ℕ)) →
+    IsTop w0 room face w xs h read → AreWaiting w0 o (face ∷ rs) → (IsHookOn w (tops xs h) → ⊥) → Reduced 0 (map w.angle (tops xs h))
+unhooked_at w0 room face w xs h read o rs top wait clear =
     let k : ℕ = h - 1 in
     let some : 1 ≤ h = top.some in
     let e : h ≡ k + 1 = omega arith in
     let same : tops xs h ≡ get_or xs k 0 ∷ tops xs k = ap (tops xs) e ∙ tops_more xs k in
     let turns : AreTurns (map w.angle (tops xs h)) = turns_of w (tops xs h) top.scan.sound
-    (stack_turns w0 face w (tops xs h) (drop read xs) rs top.scan wait) in
+    (stack_turns w0 face w (tops xs h) (drop read xs) o rs top.scan wait) in
     subst (λ (st : List ℕ). Reduced 0 (map w.angle st)) (sym same)
     (unhooked w (get_or xs k 0 ∷ tops xs k) (subst (λ (st : List ℕ). AreTurns (map w.angle st)) same turns)
     (λ hook. clear (subst (IsHookOn w) (sym same) hook)) (omega arith)

@@ -3,10 +3,10 @@ use Rattle.std.proofs.Common.{◌≡◌, ◌≢◌, ◌⊎◌, ℕ, ◌+◌, ◌
 use Rattle.std.proofs.lemmas.Bool.{cases_eq}
 use Rattle.cutting.specs.Turning.{total}
 use Rattle.cutting.specs.Webs.{Web, IsLinked, IsCut}
-use Rattle.cutting.specs.Faces.{IsCorner, Runs, last_of, Ring, IsFour, In, Distinct, Below, joined, TurnsOnce, AreRings, AreWaiting}
+use Rattle.cutting.specs.Faces.{IsCorner, Runs, last_of, Ring, IsFour, IsOutside, In, Distinct, Below, joined, TurnsOnce, AreRings, AreWaiting}
 use Rattle.cutting.proofs.Splitting.{split_linked, by_age}
 use Rattle.cutting.proofs.Running.{split_runs}
-use Rattle.cutting.proofs.Rings.{Clear, IsHook, split_ring, split_four, chord_ring, cut_ring_within, cut_boxes, cut_box, cut_frame}
+use Rattle.cutting.proofs.Rings.{Clear, IsHook, split_ring, split_four, chord_ring, cut_ring_within, split_outside, cut_boxes, cut_box, cut_outside}
 use Rattle.cutting.proofs.Listing.{in_left, in_right, in_below, below_left, below_right, distinct_right, distinct_apart, still_in, gone_distinct, kept_distinct, gone_below, kept_below}
 
 -- d turns right, c1 and c behind it turn left, and the cut goes from d to the dart e right behind c
@@ -116,12 +116,12 @@ other_rings w d c1 c e way new bite (r ∷ rs) below out_d out_c rings =
 
 -- each corner after the cut is of a list that has the chord's way there, d if it still turns, and what stays
 -- of the corners before; or it is of a box or of the frame
-pub bite_settles : (w : Web) (d c1 c e way : ℕ) (new : Web) (before tail list : List ℕ) → IsBite w d c1 c e way new →
-    ((a : ℕ) → a < w.darts → IsCorner w a → In a (before ++ (d ∷ c1 ∷ c ∷ tail)) ⊎ (IsFour w 1 a ⊎ IsFour w 3 a)) →
+pub bite_settles : (w : Web) (o d c1 c e way : ℕ) (new : Web) (before tail list : List ℕ) → IsBite w d c1 c e way new →
+    ((a : ℕ) → a < w.darts → IsCorner w a → In a (before ++ (d ∷ c1 ∷ c ∷ tail)) ⊎ (IsFour w 1 a ⊎ IsOutside w o a)) →
     In (w.darts + 2) list → (IsCorner new d → In d list) → ((a : ℕ) → In a before → In a list) →
     ((a : ℕ) → In a tail → In a list) →
-    (a : ℕ) → a < new.darts → IsCorner new a → In a list ⊎ (IsFour new 1 a ⊎ IsFour new 3 a)
-bite_settles w d c1 c e way new before tail list bite settled x_in d_stays before_in tail_in a l corner =
+    (a : ℕ) → a < new.darts → IsCorner new a → In a list ⊎ (IsFour new 1 a ⊎ IsOutside new o a)
+bite_settles w o d c1 c e way new before tail list bite settled x_in d_stays before_in tail_in a l corner =
     let cut = bite.cut in
     let s = cut.split in
     let t = cut.chord in
@@ -132,7 +132,7 @@ bite_settles w d c1 c e way new before tail list bite settled x_in d_stays befor
     let g_straight : new.angle (w.darts + 1) ≡ 2 =
     t.angle_other (w.darts + 1) (omega (arith, s.darts)) (λ h. omega (arith, h, cut.d_in)) (λ h. omega (arith, h))
     ∙ s.angle_second in
-    let old : (a : ℕ) → a < w.darts → IsCorner new a → In a list ⊎ (IsFour new 1 a ⊎ IsFour new 3 a) = λ a l corner.
+    let old : (a : ℕ) → a < w.darts → IsCorner new a → In a list ⊎ (IsFour new 1 a ⊎ IsOutside new o a) = λ a l corner.
     elim (cases_eq a d) [
       | inl is_d ↦ inl (subst (λ (k : ℕ). In k list) (sym is_d) (d_stays (subst (λ (k : ℕ). IsCorner new k) is_d corner)))
       | inr nd ↦ elim (cases_eq a c1) [
@@ -150,22 +150,33 @@ bite_settles w d c1 c e way new before tail list bite settled x_in d_stays befor
                 | inr four ↦ elim four [
                   | inl box ↦ inr (inl (cut_box cut.middle d c1 c w.darts way a new t linked hook l_mid
                       (split_four w e (w.direction e) 1 a cut.middle s bite.linked cut.e_in l box)))
-                  | inr frame ↦ inr (inr (cut_frame cut.middle d c1 c w.darts way a new t linked hook l_mid
-                      (split_four w e (w.direction e) 3 a cut.middle s bite.linked cut.e_in l frame)))
+                  | inr frame ↦ inr (inr (cut_outside cut.middle o d c1 c w.darts way a new t linked hook l_mid
+                      (split_outside w o e (w.direction e) a cut.middle s bite.linked cut.e_in l frame)))
                 ]
               ]
         ]
       ]
     ] in
-    let middle : (a : ℕ) → a < w.darts + 2 → IsCorner new a → In a list ⊎ (IsFour new 1 a ⊎ IsFour new 3 a) =
-    by_age w.darts (λ a. IsCorner new a → In a list ⊎ (IsFour new 1 a ⊎ IsFour new 3 a)) old
+    let middle : (a : ℕ) → a < w.darts + 2 → IsCorner new a → In a list ⊎ (IsFour new 1 a ⊎ IsOutside new o a) =
+    by_age w.darts (λ a. IsCorner new a → In a list ⊎ (IsFour new 1 a ⊎ IsOutside new o a)) old
     (λ _. inr (inl boxes.2)) (λ corner. absurd (corner g_straight)) in
     let two : cut.middle.darts ≡ w.darts + 2 = s.darts in
-    by_age cut.middle.darts (λ a. IsCorner new a → In a list ⊎ (IsFour new 1 a ⊎ IsFour new 3 a))
+    by_age cut.middle.darts (λ a. IsCorner new a → In a list ⊎ (IsFour new 1 a ⊎ IsOutside new o a))
     (λ a l. middle a (omega (arith, two, l)))
     (λ _. inl (subst (λ (k : ℕ). In k list) (sym two) x_in))
     (λ _. inr (inl boxes.3))
     a (omega (arith, t.darts, l)) corner
+
+-- the outside of the frame stays
+pub bite_outside : (w : Web) (o d c1 c e way : ℕ) (new : Web) → IsBite w d c1 c e way new → o < w.darts → IsFour w 3 o → IsFour new 3 o
+bite_outside w o d c1 c e way new bite l four =
+    let cut = bite.cut in
+    let s = cut.split in
+    let outside : IsOutside w o o = record { four = four; holds = inl refl } in
+    let after : IsOutside new o o = cut_outside cut.middle o d c1 c w.darts way o new cut.chord (middle_linked w d c1 c e way new bite)
+    (hook_of w d c1 c e way new bite) (omega (arith, s.darts, l))
+    (split_outside w o e (w.direction e) o cut.middle s bite.linked cut.e_in l outside) in
+    after.four
 
 -- what the lists' being distinct says of d and c
 pub record Parts (n d c : ℕ) (before rest others : List ℕ) : Type 0 where
@@ -281,10 +292,10 @@ bite_ring w d c1 c e way new before rest others bite parts ring once below =
     )
 
 -- the faces that wait, after a cut that leaves d a corner
-pub kept_waiting : (w : Web) (d c1 c e way : ℕ) (new : Web) (before rest : List ℕ) (rs : List (List ℕ)) →
+pub kept_waiting : (w : Web) (d c1 c e way : ℕ) (new : Web) (before rest : List ℕ) (o : ℕ) (rs : List (List ℕ)) →
     IsBite w d c1 c e way new → IsCorner new d →
-    AreWaiting w ((before ++ (d ∷ c1 ∷ c ∷ rest)) ∷ rs) → AreWaiting new ((before ++ (d ∷ (w.darts + 2) ∷ rest)) ∷ rs)
-kept_waiting w d c1 c e way new before rest rs bite corner waiting =
+    AreWaiting w o ((before ++ (d ∷ c1 ∷ c ∷ rest)) ∷ rs) → AreWaiting new o ((before ++ (d ∷ (w.darts + 2) ∷ rest)) ∷ rs)
+kept_waiting w d c1 c e way new before rest o rs bite corner waiting =
     let cut = bite.cut in
     let s = cut.split in
     let t = cut.chord in
@@ -309,9 +320,11 @@ kept_waiting w d c1 c e way new before rest rs bite corner waiting =
       distinct = subst Distinct (sym new_flat) (kept_distinct d c1 c (w.darts + 2) before (rest ++ joined rs) distinct fresh);
       below = subst (Below new.darts) (sym new_flat)
           (kept_below w.darts new.darts d c1 c (w.darts + 2) before (rest ++ joined rs) (omega (arith, t.darts, two)) more below);
-      settled = λ a l turn. subst (λ (zs : List ℕ). In a zs ⊎ (IsFour new 1 a ⊎ IsFour new 3 a)) (sym new_flat)
-          (bite_settles w d c1 c e way new before (rest ++ joined rs) (before ++ (d ∷ (w.darts + 2) ∷ (rest ++ joined rs))) bite
-          (λ a l turn. subst (λ (zs : List ℕ). In a zs ⊎ (IsFour w 1 a ⊎ IsFour w 3 a)) old_flat (waiting.settled a l turn))
+      inside = omega (arith, t.darts, two, waiting.inside);
+      outside = bite_outside w o d c1 c e way new bite waiting.inside waiting.outside;
+      settled = λ a l turn. subst (λ (zs : List ℕ). In a zs ⊎ (IsFour new 1 a ⊎ IsOutside new o a)) (sym new_flat)
+          (bite_settles w o d c1 c e way new before (rest ++ joined rs) (before ++ (d ∷ (w.darts + 2) ∷ (rest ++ joined rs))) bite
+          (λ a l turn. subst (λ (zs : List ℕ). In a zs ⊎ (IsFour w 1 a ⊎ IsOutside w o a)) old_flat (waiting.settled a l turn))
           (in_right (w.darts + 2) before (d ∷ (w.darts + 2) ∷ (rest ++ joined rs)) (inr (inl refl)))
           (λ _. in_right d before (d ∷ (w.darts + 2) ∷ (rest ++ joined rs)) (inl refl))
           (λ a h. in_left a before (d ∷ (w.darts + 2) ∷ (rest ++ joined rs)) h)
@@ -320,10 +333,10 @@ kept_waiting w d c1 c e way new before rest rs bite corner waiting =
     }
 
 -- the faces that wait, after a cut that leaves d straight
-pub gone_waiting : (w : Web) (d c1 c e way : ℕ) (new : Web) (before rest : List ℕ) (rs : List (List ℕ)) →
+pub gone_waiting : (w : Web) (d c1 c e way : ℕ) (new : Web) (before rest : List ℕ) (o : ℕ) (rs : List (List ℕ)) →
     IsBite w d c1 c e way new → new.angle d ≡ 2 →
-    AreWaiting w ((before ++ (d ∷ c1 ∷ c ∷ rest)) ∷ rs) → AreWaiting new ((before ++ ((w.darts + 2) ∷ rest)) ∷ rs)
-gone_waiting w d c1 c e way new before rest rs bite straight waiting =
+    AreWaiting w o ((before ++ (d ∷ c1 ∷ c ∷ rest)) ∷ rs) → AreWaiting new o ((before ++ ((w.darts + 2) ∷ rest)) ∷ rs)
+gone_waiting w d c1 c e way new before rest o rs bite straight waiting =
     let cut = bite.cut in
     let s = cut.split in
     let t = cut.chord in
@@ -348,9 +361,11 @@ gone_waiting w d c1 c e way new before rest rs bite straight waiting =
       distinct = subst Distinct (sym new_flat) (gone_distinct d c1 c (w.darts + 2) before (rest ++ joined rs) distinct fresh);
       below = subst (Below new.darts) (sym new_flat)
           (gone_below w.darts new.darts d c1 c (w.darts + 2) before (rest ++ joined rs) (omega (arith, t.darts, two)) more below);
-      settled = λ a l turn. subst (λ (zs : List ℕ). In a zs ⊎ (IsFour new 1 a ⊎ IsFour new 3 a)) (sym new_flat)
-          (bite_settles w d c1 c e way new before (rest ++ joined rs) (before ++ ((w.darts + 2) ∷ (rest ++ joined rs))) bite
-          (λ a l turn. subst (λ (zs : List ℕ). In a zs ⊎ (IsFour w 1 a ⊎ IsFour w 3 a)) old_flat (waiting.settled a l turn))
+      inside = omega (arith, t.darts, two, waiting.inside);
+      outside = bite_outside w o d c1 c e way new bite waiting.inside waiting.outside;
+      settled = λ a l turn. subst (λ (zs : List ℕ). In a zs ⊎ (IsFour new 1 a ⊎ IsOutside new o a)) (sym new_flat)
+          (bite_settles w o d c1 c e way new before (rest ++ joined rs) (before ++ ((w.darts + 2) ∷ (rest ++ joined rs))) bite
+          (λ a l turn. subst (λ (zs : List ℕ). In a zs ⊎ (IsFour w 1 a ⊎ IsOutside w o a)) old_flat (waiting.settled a l turn))
           (in_right (w.darts + 2) before ((w.darts + 2) ∷ (rest ++ joined rs)) (inl refl))
           (λ turn. absurd (turn straight))
           (λ a h. in_left a before ((w.darts + 2) ∷ (rest ++ joined rs)) h)

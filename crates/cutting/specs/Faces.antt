@@ -32,6 +32,11 @@ abbrev pub Ring : Web → List ℕ → Type 0
 Ring w [] = ⊥
 Ring w (c ∷ cs) = Trail w (last_of c cs) (c ∷ cs)
 
+-- the dart is on the list
+abbrev pub In : ℕ → List ℕ → Type 0
+In a [] = ⊥
+In a (b ∷ bs) = (a ≡ b) ⊎ In a bs
+
 -- a face with four corners, each of the same angle, and c one of them
 pub record IsFour (w : Web) (angle c : ℕ) : Type 0 where
   pub second : ℕ
@@ -46,14 +51,14 @@ pub record IsFour (w : Web) (angle c : ℕ) : Type 0 where
   pub angle_third : w.angle third ≡ angle
   pub angle_fourth : w.angle fourth ≡ angle
 
+-- the corner a is one of four right turns of one face, and so is o
+pub record IsOutside (w : Web) (o a : ℕ) : Type 0 where
+  pub four : IsFour w 3 a
+  pub holds : In o (a ∷ four.second ∷ four.third ∷ four.fourth ∷ [])
+
 -- each dart of the web comes to a corner
 abbrev pub ReachesCorners : Web → Type 0
 ReachesCorners w = (a : ℕ) → a < w.darts → (c : ℕ) × Runs w a c
-
--- the dart is on the list
-abbrev pub In : ℕ → List ℕ → Type 0
-In a [] = ⊥
-In a (b ∷ bs) = (a ≡ b) ⊎ In a bs
 
 -- no dart is on the list twice
 abbrev pub Distinct : List ℕ → Type 0
@@ -79,12 +84,15 @@ abbrev pub AreRings : Web → List (List ℕ) → Type 0
 AreRings w [] = Unit {0}
 AreRings w (r ∷ rs) = (Ring w r × TurnsOnce w r) × AreRings w rs
 
--- the faces that wait to be cut: each corner of the web is of one of them, or of a box, or of the frame
-pub record AreWaiting (w : Web) (faces : List (List ℕ)) : Type 0 where
+-- the faces that wait to be cut: each corner of the web is of one of them, or of a box, or of the outside of the
+-- frame, of which o is a corner
+pub record AreWaiting (w : Web) (o : ℕ) (faces : List (List ℕ)) : Type 0 where
   pub rings : AreRings w faces
   pub distinct : Distinct (joined faces)
   pub below : Below w.darts (joined faces)
-  pub settled : (a : ℕ) → a < w.darts → IsCorner w a → In a (joined faces) ⊎ (IsFour w 1 a ⊎ IsFour w 3 a)
+  pub inside : o < w.darts
+  pub outside : IsFour w 3 o
+  pub settled : (a : ℕ) → a < w.darts → IsCorner w a → In a (joined faces) ⊎ (IsFour w 1 a ⊎ IsOutside w o a)
 
 -- the list cut up into pieces of these lengths
 abbrev pub cut_up : List ℕ → List ℕ → List (List ℕ)

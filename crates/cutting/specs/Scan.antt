@@ -19,7 +19,7 @@ tops xs (suc h) = slice_index xs h ∷ tops xs h
 pub record IsScan (w0 : Web) (face : List ℕ) (w : Web) (st rest : List ℕ) : Type 0 where
   pub sound : IsSound w
   pub grows : Grows w0 w
-  pub waiting : (rs : List (List ℕ)) → AreWaiting w0 (face ∷ rs) → AreWaiting w (down st rest ∷ rs)
+  pub waiting : (o : ℕ) (rs : List (List ℕ)) → AreWaiting w0 o (face ∷ rs) → AreWaiting w o (down st rest ∷ rs)
   pub hopeful : Hopeful (total (map w.angle rest)) (length rest) (map w.angle st)
   pub rising : Rising (map w.angle rest)
 

@@ -7,9 +7,11 @@
 //! left at the end. (The method is that of Tamassia's compaction, 1987, with one pass a face.)
 #![tactic(auto)]
 
+mod laws;
 mod links;
 mod scan;
 mod table;
 
-pub use scan::{cut_face, cut_faces};
+pub use laws::{cuts_reach_corners, cuts_stay_sound, cuts_use_right_turns};
+pub use scan::{cut_across, cut_face, cut_faces};
 pub use table::{DartTable, NO_DART};

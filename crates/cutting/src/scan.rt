@@ -7,9 +7,10 @@ ghost use Rattle.cutting.specs.Scan.{CanCut, HasRoom, IsHookOn, IsTop, down, top
 
 use crate::table::DartTable;
 
-/// Cuts from the head of `d`, in the way of `d` as if it turned one right angle less, to the edge
-/// behind `c`, which that way meets.
-pub fn bite(table: &mut DartTable, d: u32, c: u32)
+/// Cuts across a face: from the head of the dart `d`, which is a right turn, by a new edge to a new
+/// vertex on the edge that follows the dart `c`. The new edge leaves one right angle on its left. The
+/// table needs room for four more darts. Constant time.
+pub fn cut_across(table: &mut DartTable, d: u32, c: u32)
     requires sound { IsSound (web_of table.old) }
     requires can { CanCut (web_of table.old) d c }
     requires space { table.old.darts + 4 ≤ room table.old }
@@ -50,7 +51,7 @@ fn has_hook(table: &DartTable, ring: &[u32], height: usize) -> bool
 fn cut_top(table: &mut DartTable, ring: &mut [u32], height: usize, read: usize) -> usize
     requires top { let face = down (tops ring.old height) (drop read ring.old) in
         IsTop (web_of table.old) (room table.old) face (web_of table.old) ring.old height read }
-    requires waiting { (rs : List (List ℕ)) × AreWaiting (web_of table.old) (down (tops ring.old height) (drop read ring.old) ∷ rs) }
+    requires waiting { (o : ℕ) × (rs : List (List ℕ)) × AreWaiting (web_of table.old) o (down (tops ring.old height) (drop read ring.old) ∷ rs) }
     requires inside { All (λ a. a < room table.old) ring.old }
     ensures top { let face = down (tops ring.old height) (drop read ring.old) in
         IsTop (web_of table.old) (room table.old) face (web_of table.new) ring.new result read }
@@ -64,7 +65,7 @@ fn cut_top(table: &mut DartTable, ring: &mut [u32], height: usize, read: usize) 
         let right = ring[height - 3];
         let left = ring[height - 1];
         let chord = table.darts + 2;
-        bite(table, right, left);
+        cut_across(table, right, left);
         if table.angle[right as usize] == 2 {
             ring[height - 3] = chord;
             height -= 2;
@@ -100,12 +101,12 @@ fn highest(angle: &[u8], ring: &[u32]) -> usize
 /// Cuts the face with the corners `ring` into boxes. Linear in its corners.
 pub fn cut_face(table: &mut DartTable, ring: &mut [u32])
     requires sound { IsSound (web_of table.old) }
-    requires waiting { (rs : List (List ℕ)) × AreWaiting (web_of table.old) (ring.old ∷ rs) }
+    requires waiting { (o : ℕ) × (rs : List (List ℕ)) × AreWaiting (web_of table.old) o (ring.old ∷ rs) }
     requires space { HasRoom (web_of table.old) (room table.old) }
     requires few { length ring.old < 2 ^ 32 }
     ensures sound { IsSound (web_of table.new) }
     ensures grows { Grows (web_of table.old) (web_of table.new) }
-    ensures waiting { (rs : List (List ℕ)) → AreWaiting (web_of table.old) (ring.old ∷ rs) → AreWaiting (web_of table.new) rs }
+    ensures waiting { (o : ℕ) (rs : List (List ℕ)) → AreWaiting (web_of table.old) o (ring.old ∷ rs) → AreWaiting (web_of table.new) o rs }
     ensures space { HasRoom (web_of table.new) (room table.new) }
     ensures room { room table.new ≡ room table.old }
 {
@@ -123,13 +124,13 @@ pub fn cut_face(table: &mut DartTable, ring: &mut [u32])
 /// Linear in the corners.
 pub fn cut_faces(table: &mut DartTable, corners: &mut [u32], counts: &[u32])
     requires sound { IsSound (web_of table.old) }
-    requires waiting { AreWaiting (web_of table.old) (cut_up corners.old counts.now) }
+    requires waiting { (o : ℕ) × AreWaiting (web_of table.old) o (cut_up corners.old counts.now) }
     requires space { HasRoom (web_of table.old) (room table.old) }
     requires all { sum counts.now ≡ length corners.old }
     requires few { length corners.old < 2 ^ 32 }
     ensures sound { IsSound (web_of table.new) }
     ensures grows { Grows (web_of table.old) (web_of table.new) }
-    ensures done { AreWaiting (web_of table.new) [] }
+    ensures done { (o : ℕ) → AreWaiting (web_of table.old) o (cut_up corners.old counts.now) → AreWaiting (web_of table.new) o [] }
     ensures space { HasRoom (web_of table.new) (room table.new) }
     ensures room { room table.new ≡ room table.old }
 {

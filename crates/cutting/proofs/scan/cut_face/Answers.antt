@@ -10,13 +10,13 @@ use Rattle.cutting.proofs.scan.cut_face.Goals as goal
 pub highest-turn-requires-clause-inside : goal.highest-turn-requires-clause-inside
 highest-turn-requires-clause-inside c =
     let t = c.args.table.now in
-    let below : Below t.darts c.args.ring.now = below_left t.darts c.args.ring.now (joined c.requires.waiting.0) c.requires.waiting.1.below in
+    let below : Below t.darts c.args.ring.now = below_left t.darts c.args.ring.now (joined c.requires.waiting.1) c.requires.waiting.2.below in
     all_below t.darts (length c.as_slice.result.now) c.args.ring.now (omega (arith, c.as_slice.ensures.len)) below
 
 pub highest-turn-requires-clause-small : goal.highest-turn-requires-clause-small
 highest-turn-requires-clause-small c =
     let t = c.args.table.now in
-    let below : Below t.darts c.args.ring.now = below_left t.darts c.args.ring.now (joined c.requires.waiting.0) c.requires.waiting.1.below in
+    let below : Below t.darts c.args.ring.now = below_left t.darts c.args.ring.now (joined c.requires.waiting.1) c.requires.waiting.2.below in
     subst (λ (A : List ℕ). All (λ a. get_or A a 0 ≤ 4) c.args.ring.now) (sym c.as_slice.ensures.value)
     (all_small (web_of t) c.args.ring.now c.requires.sound below)
 
@@ -25,9 +25,9 @@ corners-init c =
     let t = c.args.table.now in
     let face = c.args.ring.now in
     let m = c.highest-turn.result in
-    let below : Below t.darts face = below_left t.darts face (joined c.requires.waiting.0) c.requires.waiting.1.below in
+    let below : Below t.darts face = below_left t.darts face (joined c.requires.waiting.1) c.requires.waiting.2.below in
     let turned : Below t.darts (drop m face ++ take m face) = below_turned t.darts m face below in
-    reading_begins (web_of t) face (room t) m c.rotate_left.new.self c.requires.sound c.requires.waiting.0 c.requires.waiting.1
+    reading_begins (web_of t) face (room t) m c.rotate_left.new.self c.requires.sound c.requires.waiting.0 c.requires.waiting.1 c.requires.waiting.2
     c.requires.space
     (subst (λ (A : List ℕ). IsHighest (map (λ (a : ℕ). get_or A a 0) face) m) c.as_slice.ensures.value c.highest-turn.ensures)
     c.rotate_left.ensures.after
@@ -44,8 +44,9 @@ pub cut_top-height-requires-clause-waiting : goal.cut_top-height-requires-clause
 cut_top-height-requires-clause-waiting c =
     let more : c.corners.read < length c.corners.ring = omega (arith, c.corners.auto.ring, c.corners-test.true) in (
       c.requires.waiting.0,
+      c.requires.waiting.1,
       reading_waits _ _ _ (web_of c.corners.table) c.corners.ring c.corners.height c.corners.read (room c.corners.table) more
-          c.corners.invariant c.requires.waiting.0 c.requires.waiting.1,
+          c.corners.invariant c.requires.waiting.0 c.requires.waiting.1 c.requires.waiting.2,
     )
 
 pub cut_top-height-requires-clause-inside : goal.cut_top-height-requires-clause-inside
@@ -64,5 +65,5 @@ corners-preserved c =
 
 pub returns-clause-waiting : goal.returns-clause-waiting
 returns-clause-waiting c =
-    λ rs wait. reading_done _ _ _ (web_of c.corners.table) c.corners.ring c.corners.height c.corners.read (room c.corners.table)
-    (omega (arith, c.corners-test.false)) c.corners.invariant rs wait
+    λ o rs wait. reading_done _ _ _ (web_of c.corners.table) c.corners.ring c.corners.height c.corners.read (room c.corners.table)
+    (omega (arith, c.corners-test.false)) c.corners.invariant o rs wait

@@ -8,15 +8,15 @@ use Rattle.cutting.proofs.scan.cut_top.Goals as goal
 pub overflow_sub-right : goal.overflow_sub-right
 overflow_sub-right c = hook_three (web_of c.cuts.table) c.cuts.ring c.cuts.height (c.has_hook.ensures.0 c.cuts-test.true)
 
-pub bite-requires-clause-can : goal.bite-requires-clause-can
-bite-requires-clause-can c =
-    can_at _ _ _ (web_of c.cuts.table) c.cuts.ring c.cuts.height c.args.read c.requires.waiting.0 c.cuts.invariant.top c.requires.waiting.1
+pub cut_across-requires-clause-can : goal.cut_across-requires-clause-can
+cut_across-requires-clause-can c =
+    can_at _ _ _ (web_of c.cuts.table) c.cuts.ring c.cuts.height c.args.read c.requires.waiting.0 c.requires.waiting.1 c.cuts.invariant.top c.requires.waiting.2
     (c.has_hook.ensures.0 c.cuts-test.true)
 
-pub bite-requires-clause-space : goal.bite-requires-clause-space
-bite-requires-clause-space c =
-    let can = can_at _ _ _ (web_of c.cuts.table) c.cuts.ring c.cuts.height c.args.read c.requires.waiting.0 c.cuts.invariant.top
-    c.requires.waiting.1 (c.has_hook.ensures.0 c.cuts-test.true) in
+pub cut_across-requires-clause-space : goal.cut_across-requires-clause-space
+cut_across-requires-clause-space c =
+    let can = can_at _ _ _ (web_of c.cuts.table) c.cuts.ring c.cuts.height c.args.read c.requires.waiting.0 c.requires.waiting.1 c.cuts.invariant.top
+    c.requires.waiting.2 (c.has_hook.ensures.0 c.cuts-test.true) in
     omega (
       arith,
       right_room (web_of c.cuts.table) (get_or c.cuts.ring (c.cuts.height - 3) 0) (room c.args.table.now) can.d_in can.right
@@ -26,8 +26,8 @@ bite-requires-clause-space c =
 
 pub overflow_add-chord : goal.overflow_add-chord
 overflow_add-chord c =
-    let can = can_at _ _ _ (web_of c.cuts.table) c.cuts.ring c.cuts.height c.args.read c.requires.waiting.0 c.cuts.invariant.top
-    c.requires.waiting.1 (c.has_hook.ensures.0 c.cuts-test.true) in
+    let can = can_at _ _ _ (web_of c.cuts.table) c.cuts.ring c.cuts.height c.args.read c.requires.waiting.0 c.requires.waiting.1 c.cuts.invariant.top
+    c.requires.waiting.2 (c.has_hook.ensures.0 c.cuts-test.true) in
     omega (
       arith,
       right_room (web_of c.cuts.table) (get_or c.cuts.ring (c.cuts.height - 3) 0) (room c.args.table.now) can.d_in can.right
@@ -39,8 +39,8 @@ pub cuts-preserved : goal.cuts-preserved
 cuts-preserved c =
     let hook = c.has_hook.ensures.0 c.cuts-test.true in
     let three = hook_three (web_of c.cuts.table) c.cuts.ring c.cuts.height hook in
-    let can = can_at _ _ _ (web_of c.cuts.table) c.cuts.ring c.cuts.height c.args.read c.requires.waiting.0 c.cuts.invariant.top
-    c.requires.waiting.1 hook in
+    let can = can_at _ _ _ (web_of c.cuts.table) c.cuts.ring c.cuts.height c.args.read c.requires.waiting.0 c.requires.waiting.1 c.cuts.invariant.top
+    c.requires.waiting.2 hook in
     let room_left : c.cuts.table.darts + 4 ≤ room c.cuts.table =
     omega (
       arith,
@@ -49,24 +49,24 @@ cuts-preserved c =
       c.cuts.invariant.same,
     ) in
     let inside = c.cuts.invariant.inside (c.cuts.height - 3) 0 (omega (arith, three, c.cuts.invariant.top.low, c.cuts.invariant.top.inside)) in
-    let read = get_or_read c.bite.new.table.angle.items (get_or c.cuts.ring (c.cuts.height - 3) 0) c.index.result.now
-    (omega (arith, inside, c.bite.ensures.room)) c.index.ensures 0 in
+    let read = get_or_read c.cut_across.new.table.angle.items (get_or c.cuts.ring (c.cuts.height - 3) 0) c.index.result.now
+    (omega (arith, inside, c.cut_across.ensures.room)) c.index.ensures 0 in
     record {
-      top = turning_at _ _ _ (web_of c.cuts.table) c.cuts.ring c.cuts.height c.args.read c.bite.ensures.cut.0 c.requires.waiting.0
-          (web_of c.bite.new.table) c.cuts.invariant.top c.requires.waiting.1 hook c.bite.ensures.cut.1 (λ h. c.if-index-eq2.false (read ∙ h));
+      top = turning_at _ _ _ (web_of c.cuts.table) c.cuts.ring c.cuts.height c.args.read c.cut_across.ensures.cut.0 c.requires.waiting.0 c.requires.waiting.1
+          (web_of c.cut_across.new.table) c.cuts.invariant.top c.requires.waiting.2 hook c.cut_across.ensures.cut.1 (λ h. c.if-index-eq2.false (read ∙ h));
       rest = drop-set-lt c.args.read c.cuts.ring (c.cuts.height - 2) (c.cuts.table.darts + 2) (omega (arith, c.cuts.invariant.top.low, three))
           ∙ c.cuts.invariant.rest;
-      same = c.bite.ensures.room ∙ c.cuts.invariant.same;
-      inside = inside_put c.cuts.ring (c.cuts.height - 2) (c.cuts.table.darts + 2) (room c.cuts.table) (room c.bite.new.table)
-          c.cuts.invariant.inside c.bite.ensures.room (omega (arith, room_left));
+      same = c.cut_across.ensures.room ∙ c.cuts.invariant.same;
+      inside = inside_put c.cuts.ring (c.cuts.height - 2) (c.cuts.table.darts + 2) (room c.cuts.table) (room c.cut_across.new.table)
+          c.cuts.invariant.inside c.cut_across.ensures.room (omega (arith, room_left));
     }
 
 pub cuts-preserved-then-index-eq2 : goal.cuts-preserved-then-index-eq2
 cuts-preserved-then-index-eq2 c =
     let hook = c.has_hook.ensures.0 c.cuts-test.true in
     let three = hook_three (web_of c.cuts.table) c.cuts.ring c.cuts.height hook in
-    let can = can_at _ _ _ (web_of c.cuts.table) c.cuts.ring c.cuts.height c.args.read c.requires.waiting.0 c.cuts.invariant.top
-    c.requires.waiting.1 hook in
+    let can = can_at _ _ _ (web_of c.cuts.table) c.cuts.ring c.cuts.height c.args.read c.requires.waiting.0 c.requires.waiting.1 c.cuts.invariant.top
+    c.requires.waiting.2 hook in
     let room_left : c.cuts.table.darts + 4 ≤ room c.cuts.table =
     omega (
       arith,
@@ -75,16 +75,16 @@ cuts-preserved-then-index-eq2 c =
       c.cuts.invariant.same,
     ) in
     let inside = c.cuts.invariant.inside (c.cuts.height - 3) 0 (omega (arith, three, c.cuts.invariant.top.low, c.cuts.invariant.top.inside)) in
-    let read = get_or_read c.bite.new.table.angle.items (get_or c.cuts.ring (c.cuts.height - 3) 0) c.index.result.now
-    (omega (arith, inside, c.bite.ensures.room)) c.index.ensures 0 in
+    let read = get_or_read c.cut_across.new.table.angle.items (get_or c.cuts.ring (c.cuts.height - 3) 0) c.index.result.now
+    (omega (arith, inside, c.cut_across.ensures.room)) c.index.ensures 0 in
     record {
-      top = straight_at _ _ _ (web_of c.cuts.table) c.cuts.ring c.cuts.height c.args.read c.bite.ensures.cut.0 c.requires.waiting.0
-          (web_of c.bite.new.table) c.cuts.invariant.top c.requires.waiting.1 hook c.bite.ensures.cut.1 (sym read ∙ c.if-index-eq2.true);
+      top = straight_at _ _ _ (web_of c.cuts.table) c.cuts.ring c.cuts.height c.args.read c.cut_across.ensures.cut.0 c.requires.waiting.0 c.requires.waiting.1
+          (web_of c.cut_across.new.table) c.cuts.invariant.top c.requires.waiting.2 hook c.cut_across.ensures.cut.1 (sym read ∙ c.if-index-eq2.true);
       rest = drop-set-lt c.args.read c.cuts.ring (c.cuts.height - 3) (c.cuts.table.darts + 2) (omega (arith, c.cuts.invariant.top.low, three))
           ∙ c.cuts.invariant.rest;
-      same = c.bite.ensures.room ∙ c.cuts.invariant.same;
-      inside = inside_put c.cuts.ring (c.cuts.height - 3) (c.cuts.table.darts + 2) (room c.cuts.table) (room c.bite.new.table)
-          c.cuts.invariant.inside c.bite.ensures.room (omega (arith, room_left));
+      same = c.cut_across.ensures.room ∙ c.cuts.invariant.same;
+      inside = inside_put c.cuts.ring (c.cuts.height - 3) (c.cuts.table.darts + 2) (room c.cuts.table) (room c.cut_across.new.table)
+          c.cuts.invariant.inside c.cut_across.ensures.room (omega (arith, room_left));
     }
 
 pub overflow_sub-ring-else-index-eq2 : goal.overflow_sub-ring-else-index-eq2
@@ -93,5 +93,5 @@ overflow_sub-ring-else-index-eq2 c =
 
 pub returns-clause-reduced : goal.returns-clause-reduced
 returns-clause-reduced c =
-    unhooked_at _ _ _ (web_of c.cuts.table) c.cuts.ring c.cuts.height c.args.read c.requires.waiting.0 c.cuts.invariant.top c.requires.waiting.1
+    unhooked_at _ _ _ (web_of c.cuts.table) c.cuts.ring c.cuts.height c.args.read c.requires.waiting.0 c.requires.waiting.1 c.cuts.invariant.top c.requires.waiting.2
     (λ hook. let t = c.has_hook.ensures.1 hook in let f = c.cuts-test.false in absurd (cc))

@@ -5,7 +5,7 @@ use Rattle.cutting.specs.Scan.{CanCut}
 use Rattle.cutting.specs.Tables.{web_of}
 use Rattle.cutting.proofs.Making.{web_from}
 use Rattle.cutting.proofs.Scanning.{IsRead, read_fits, read_linked, read_cut}
-use Rattle.cutting.proofs.scan.bite.Goals as goal
+use Rattle.cutting.proofs.scan.cut_across.Goals as goal
 
 -- what the four reads gave
 reads : (n v : ℕ) (N P T H D A B : List ℕ) (d c e facing one two : ℕ) → IsSound (web_from n v N P T H D A B) →
