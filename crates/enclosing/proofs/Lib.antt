@@ -1,0 +1,3 @@
+pub mod Orbits
+pub mod Framing
+pub mod Sounding
