@@ -5,3 +5,4 @@ pub mod Bends
 pub mod Cuts
 pub mod Framing
 pub mod Plain
+pub mod Backwards

@@ -1,8 +1,9 @@
 //! Laws of the definitions, each as the contract of a function that does nothing.
 
-ghost use Rattle.std.specs.Prelude.{◌≡◌, ◌≢◌, ◌<◌, ◌≤◌, ◌⊎◌, ◌-◌, ◌++◌, ℕ, List, [], ◌∷◌};
+ghost use Rattle.std.specs.Prelude.{◌≡◌, ◌≢◌, ◌<◌, ◌≤◌, ◌⊎◌, ◌+◌, ◌-◌, ◌%◌, ◌++◌, ℕ, List, [], ◌∷◌, length};
 ghost use Rattle.cutting.specs.Webs.{Web, IsLinked, IsSound, IsSplit, IsCut, Grows, no_dart};
-ghost use Rattle.cutting.specs.Paths.{HasPaths, IsJoined};
+ghost use Rattle.cutting.specs.Faces.{Distinct};
+ghost use Rattle.cutting.specs.Paths.{HasPaths, IsJoined, IsPath, turn_to};
 ghost use Rattle.cutting.specs.Frames.{IsEnclosed};
 
 /// Where no dart stands before another, each dart is the path of an edge without turns.
@@ -58,4 +59,17 @@ pub fn cuts_stay_joined()
 /// A joined web in its rectangle is joined.
 pub fn rectangles_are_joined()
     ensures { (w new : Web) → IsSound w → IsEnclosed w new → IsJoined w → IsJoined new }
+{}
+
+/// There is one path to a dart, no dart is on it twice, and it has no more darts than the web.
+pub fn paths_are_unique()
+    ensures { (w : Web) (end first : ℕ) (rest : List ℕ) → w.darts ≤ no_dart → IsPath w end first rest
+        → (Distinct (first ∷ rest)) × (length rest < w.darts)
+        × ((other : ℕ) (others : List ℕ) → IsPath w end other others → (first ≡ other) × (rest ≡ others)) }
+{}
+
+/// From one dart of a path to the next one the direction changes by the turn between them.
+pub fn paths_turn()
+    ensures { (w : Web) (a b : ℕ) → IsSound w → a < w.darts → b < w.darts
+        → w.direction b ≡ (w.direction a + turn_to w a b) % 4 }
 {}
