@@ -1,0 +1,68 @@
+-- The vertices of a plane are joined by its darts, and so are the faces by those off a tree on the vertices.
+use Rattle.std.proofs.Common.{◌≡◌, ℕ, ◌+◌, ◌-◌, true, not, refl, sym, ap, ◌∙◌, subst, arith}
+use Rattle.std.proofs.lemmas.Bool.{true_from_ne_false}
+use Rattle.embedding.specs.declared.rules.Rule.TheVariants.{Disconnected}
+use Rattle.embedding.specs.Rules.{IsClosed}
+use Rattle.faces.specs.Map.{Map, IsPlane, HasEnds, darts, vertices, head, tail, mate, face_at}
+use Rattle.flow_network.proofs.Degrees.{entry_dart}
+use Rattle.headings.proofs.Trees.{Joins, Connects}
+use Rattle.headings.proofs.Peeling.{IsPaired}
+use Rattle.headings.proofs.Counting.{in_tree}
+
+-- the vertices, numbered from 0, joined by all darts
+abbrev pub vertex_joins : Map → Joins
+vertex_joins p = record {
+  darts = darts p;
+  nodes = vertices p;
+  from = λ d. tail p d - 1;
+  to = λ d. head p d - 1;
+  allowed = λ d. true;
+  root = 0;
+}
+
+-- the faces, joined by the darts that are not of the tree on the vertices
+abbrev pub face_joins : Map → (ℕ → ℕ) → Joins
+face_joins p parent = record {
+  darts = darts p;
+  nodes = p.faces;
+  from = λ d. face_at p (mate p d);
+  to = λ d. face_at p d;
+  allowed = λ d. not (in_tree (vertex_joins p) (mate p) parent d);
+  root = 0;
+}
+
+pub vertices_paired : (p : Map) → HasEnds p → IsPaired (vertex_joins p) (mate p)
+vertices_paired p ends = record {
+  inside = ends.mate_inside;
+  back = ends.mate_back;
+  from = λ d l. ap (λ (v : ℕ). v - 1) (sym (ends.mate_head d l));
+  node = λ d l. omega (arith, ends.head_from d l, ends.head_to d l);
+}
+
+pub faces_paired : (p : Map) (parent : ℕ → ℕ) → HasEnds p → IsPaired (face_joins p parent) (mate p)
+faces_paired p parent ends = record {
+  inside = ends.mate_inside;
+  back = ends.mate_back;
+  from = λ d l. refl;
+  node = ends.face_named;
+}
+
+-- all darts join all vertices
+pub vertices_connect : (p : Map) → IsPlane p → Connects (vertex_joins p)
+vertices_connect p plane s one shut v l =
+    true_from_ne_false (s v) (λ none.
+    plane.rules Disconnected (omega arith) (
+      (λ u. s (u - 1)),
+      one,
+      closed,
+      (v + 1, omega arith, omega arith, ap s back ∙ none),
+    ))
+  where
+    back : v + 1 - 1 ≡ v
+    back = omega arith
+
+    closed : IsClosed p.lists (λ u. s (u - 1))
+    closed u here i other inside =
+        let entry = entry_dart p.lists u i other inside in
+        subst (λ (w : ℕ). s (w - 1) ≡ true) entry.3
+        (shut entry.0 entry.1 refl (subst (λ (w : ℕ). s (w - 1) ≡ true) (sym entry.2) here))
