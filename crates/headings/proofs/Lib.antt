@@ -5,3 +5,5 @@ pub mod Counting
 pub mod Vertices
 pub mod Crossings
 pub mod Corners
+pub mod Potential
+pub mod Existence

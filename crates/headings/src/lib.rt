@@ -1,2 +1,4 @@
 //! Directions of the darts of a plane, from the angles and the turns of an orthogonal representation.
 #![tactic(auto)]
+
+pub mod laws;
