@@ -1,4 +1,4 @@
--- The turns from one dart of a vertex to another, clockwise: what the angles between them leave of a half turn and a half turn.
+-- What the angles at a vertex lack of four right angles each, summed over the darts in their order.
 use Rattle.std.proofs.Common.{◌≡◌, ◌≤◌, ◌<◌, ℕ, suc, ◌+◌, ◌-◌, ◌*◌, ◌%◌, ◌⊎◌, cond, eqb, [], length, get_or, refl, sym, ap, ◌∙◌, subst, inl, inr, arith}
 use Rattle.std.proofs.lemmas.Bool.{eq-eqb, ne_eqb, cond-true, cond-false}
 use Rattle.sums.specs.Sums.{sum_below}
@@ -10,12 +10,12 @@ use Rattle.faces.specs.Map.{Map, HasEnds, darts, vertices, head, tail, mate, aft
 use Rattle.ortho_rep.specs.Representation.{angles_around}
 use Rattle.headings.proofs.Reordered.{run}
 
--- the angle from a dart that leaves a vertex to the one that leaves it next clockwise is that of its mate:
--- so much it lacks of four right angles
+-- the angle between dart x and the next one clockwise from the same vertex is that of its mate; so much it
+-- lacks of four right angles
 abbrev pub lack : Map → (ℕ → ℕ) → ℕ → ℕ
 lack p a x = 4 - a (mate p x)
 
--- what the darts before x lack
+-- what the angles of all darts before x lack
 abbrev pub lacks : Map → (ℕ → ℕ) → ℕ → ℕ
 lacks p a x = sum_below x (lack p a)
 
@@ -54,7 +54,7 @@ angles_along p a ends around k i list place =
         let t : Stands 1 p.lists d k m = subst (λ (x : ℕ). Stands 1 p.lists d x m) same s in
         elim away [ inl before ↦ omega (arith, t.number, before) | inr behind ↦ omega (arith, t.number, t.place, behind) ]))
 
--- what the darts of a list lack is a multiple of four
+-- what the angles of a list's darts lack is a multiple of four
 lacks_along : (p : Map) (a : ℕ → ℕ) → HasEnds p → ((d : ℕ) → d < darts p → (1 ≤ a d) × (a d ≤ 4)) → ((v : ℕ) → 1 ≤ v → v ≤ vertices p → angles_around p a v ≡ 4)
     → (k i : ℕ) → k < vertices p → i < len p k → sum_below (len p k) (λ m. lack p a (first_dart p.lists k + m)) % 4 ≡ 0
 lacks_along p a ends angles around k i list place =
@@ -74,7 +74,7 @@ lacks_along p a ends angles around k i list place =
     close : (t u x y m : ℕ) → t ≡ u → u ≡ m * 4 → t ≡ x + y → y ≡ 4 → x % 4 ≡ 0
     close t u x y m e1 e2 e3 e4 = omega arith
 
--- the next dart clockwise lacks what the dart before it does, and that dart
+-- from a dart to the next one clockwise the sum grows by what the angle between them lacks, up to multiples of four
 pub lacks_after : (p : Map) (a : ℕ → ℕ) → HasEnds p → ((d : ℕ) → d < darts p → (1 ≤ a d) × (a d ≤ 4)) → ((v : ℕ) → 1 ≤ v → v ≤ vertices p → angles_around p a v ≡ 4)
     → (x : ℕ) → x < darts p → lacks p a (after p x) % 4 ≡ (lacks p a x + lack p a x) % 4
 lacks_after p a ends angles around x l =
@@ -98,7 +98,7 @@ lacks_after p a ends angles around x l =
     close : (f r y z : ℕ) → r % 4 ≡ 0 → y ≡ f + r → y ≡ z → f % 4 ≡ z % 4
     close f r y z e1 e2 e3 = omega arith
 
--- along a face: the next dart lacks what the mate does, and what the dart's angle lacks
+-- from the mate of a dart to the next dart of its face it grows by what the dart's angle lacks
 pub lacks_next : (p : Map) (a : ℕ → ℕ) → HasEnds p → ((d : ℕ) → d < darts p → (1 ≤ a d) × (a d ≤ 4)) → ((v : ℕ) → 1 ≤ v → v ≤ vertices p → angles_around p a v ≡ 4)
     → (d : ℕ) → d < darts p → (lacks p a (next p d) + a d) % 4 ≡ lacks p a (mate p d) % 4
 lacks_next p a ends angles around d l =

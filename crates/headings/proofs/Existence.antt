@@ -16,7 +16,7 @@ use Rattle.headings.proofs.Crossings.{faces_connect, arrives_next, arrives_there
 use Rattle.headings.proofs.Corners.{lacks, lacks_next}
 use Rattle.headings.proofs.Potential.{gap, gap_pairs, gap_round}
 
--- what a dart has over, where its ends have the values of `base`
+-- how far a dart is from what its string asks, where its tail and its head have the values of `base`
 abbrev over : Map → (ℕ → ℕ) → (ℕ → List Turn) → (ℕ → ℕ) → ℕ → ℕ
 over p a s base d = (base (tail p d - 1) + gap p a s d + 3 * base (head p d - 1)) % 4
 
@@ -29,7 +29,7 @@ over_pairs p a s base ends rep d l =
     close : (x y x' y' g g' : ℕ) → x' ≡ y → y' ≡ x → (g + g') % 4 ≡ 0 → ((x + g + 3 * y) % 4 + (x' + g' + 3 * y') % 4) % 4 ≡ 0
     close x y x' y' g g' e1 e2 e3 = omega arith
 
--- round a face nothing is over
+-- round a face that sums to a multiple of four
 over_round : (p : Map) (a : ℕ → ℕ) (s : ℕ → List Turn) (base : ℕ → ℕ) → IsPlane p → HasEnds p → Rep p a s → (f : ℕ) → f < p.faces
     → sum_at (darts p) (face_at p) f (over p a s base) % 4 ≡ 0
 over_round p a s base plane ends rep f l =
@@ -56,7 +56,7 @@ over_round p a s base plane ends rep f l =
     close : (t u c e x g y : ℕ) → t % 4 ≡ u % 4 → u ≡ c + e → c ≡ x + g → e ≡ 3 * y → x ≡ y → g % 4 ≡ 0 → t % 4 ≡ 0
     close t u c e x g y e1 e2 e3 e4 e5 e6 = omega arith
 
--- and none along the darts of the tree that gives the values
+-- it is 0 along the darts of the tree that gives the values
 over_up : (p : Map) (a : ℕ → ℕ) (s : ℕ → List Turn) (rank parent base : ℕ → ℕ) → HasEnds p → IsTree (vertex_joins p) (gap p a s) rank parent base
     → (d : ℕ) → d < darts p → IsUp (vertex_joins p) parent d → over p a s base d ≡ 0
 over_up p a s rank parent base ends tree d l up =
@@ -83,7 +83,7 @@ over_tree p a s rank parent base ends rep tree d l on =
     close : (x y : ℕ) → (x % 4 + y) % 4 ≡ 0 → y ≡ 0 → x % 4 ≡ 0
     close x y e h = omega arith
 
--- so nothing is over anywhere: the darts off the tree on the vertices are a tree on the faces
+-- so it is 0 for each dart: the darts off the tree on the vertices are a tree on the faces
 over_none : (p : Map) (a : ℕ → ℕ) (s : ℕ → List Turn) (rank parent base : ℕ → ℕ) → IsPlane p → HasEnds p → Rep p a s → IsTree (vertex_joins p) (gap p a s) rank parent base
     → Tree (face_joins p parent) (λ _. 0) → (d : ℕ) → d < darts p → over p a s base d ≡ 0
 over_none p a s rank parent base plane ends rep first (rank', parent', base', second) =
@@ -106,7 +106,7 @@ over_none p a s rank parent base plane ends rep first (rank', parent', base', se
     small : (x : ℕ) → x % 4 < 4
     small x = omega arith
 
--- the value at the head, and what the mate lacks
+-- the direction of a dart: the value at its head, and the sum of what the angles before its mate lack
 abbrev heading : Map → (ℕ → ℕ) → (ℕ → ℕ) → ℕ → ℕ
 heading p a base d = (base (head p d - 1) + lacks p a (mate p d)) % 4
 
