@@ -1,3 +1,6 @@
 pub mod Orbits
 pub mod Framing
 pub mod Sounding
+pub mod Turns
+pub mod Walking
+pub mod Joining

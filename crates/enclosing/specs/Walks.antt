@@ -1,5 +1,6 @@
 -- Walks round the faces of a web.
-use Rattle.std.specs.Prelude.{◌≡◌, ◌≢◌, ℕ, ◌<◌, ◌≤◌, ◌==◌, List, [], ◌∷◌, if◌then◌else◌, zero, suc}
+use Rattle.std.specs.Prelude.{◌≡◌, ◌≢◌, ◌⊎◌, ℕ, ◌<◌, ◌≤◌, ◌==◌, List, [], ◌∷◌, ◌++◌, Bool, true, false, slice_index_or, if◌then◌else◌, zero, suc}
+use Rattle.cutting.specs.Faces.{In}
 use Rattle.cutting.specs.Webs.{Web}
 
 -- the dart that k steps by "next" lead to
@@ -23,3 +24,16 @@ pub record IsOrbit (w : Web) (a places : ℕ) : Type 0 where
   pub most : places ≤ w.darts
   pub back : steps w places a ≡ a
   pub first : (j : ℕ) → 1 ≤ j → j < places → steps w j a ≢ a
+
+-- the dart is marked
+abbrev pub IsMarked : List Bool → ℕ → Type 0
+IsMarked marks a = slice_index_or marks a false ≡ true
+
+-- the walk from `start` once round its face has marked its darts and listed the corners among them
+pub record IsWalked (w : Web) (start : ℕ) (before after : List Bool) (others listed : List ℕ) : Type 0 where
+  pub places : ℕ
+  pub orbit : IsOrbit w start places
+  pub corners : listed ≡ others ++ turning w (path w start places)
+  pub kept : (a : ℕ) → IsMarked before a → IsMarked after a
+  pub passed : (a : ℕ) → In a (path w start places) → IsMarked after a
+  pub only : (a : ℕ) → IsMarked after a → IsMarked before a ⊎ In a (path w start places)

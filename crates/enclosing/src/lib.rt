@@ -2,5 +2,7 @@
 #![tactic(auto)]
 
 mod rectangle;
+mod walks;
 
 pub use rectangle::frame;
+pub use walks::{find_right, walk};

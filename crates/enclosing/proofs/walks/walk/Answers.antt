@@ -1,0 +1,71 @@
+use Rattle.std.proofs.Common.{arith, refl, inl, inr}
+use Rattle.std.proofs.lemmas.List.{get_or_read}
+use Rattle.cutting.specs.Tables.{web_of}
+use Rattle.enclosing.proofs.Walking.{IsTurn, walk_in, walk_turns, walk_goes, walk_ends, walk_fails}
+use Rattle.enclosing.proofs.walks.walk.Goals as goal
+use Rattle.enclosing.proofs.walks.walk.Goals.{then-index-ne2+in_ok-push, else-index-ne2}
+
+pub index-dart-requires : goal.index-dart-requires
+index-dart-requires c =
+    let inside = walk_in (web_of c.args.table.now) _ _ _ _ _ _ _ c.requires.linked c.requires.inside c.steps.invariant in
+    omega arith
+
+pub index_mut-requires : goal.index_mut-requires
+index_mut-requires c =
+    let t = c.args.table.now in
+    let inside = walk_in (web_of t) _ _ _ _ _ _ _ c.requires.linked c.requires.inside c.steps.invariant in
+    let next = get_or_read t.next.items c.steps.dart c.index-dart.result.now (omega arith) c.index-dart.ensures 0 in
+    let after = c.requires.linked.next_in c.steps.dart inside in
+    omega (arith, next, after, c.steps.invariant.size)
+
+pub index-requires : goal.index-requires
+index-requires c =
+    let t = c.args.table.now in
+    let inside = walk_in (web_of t) _ _ _ _ _ _ _ c.requires.linked c.requires.inside c.steps.invariant in
+    let next = get_or_read t.next.items c.steps.dart c.index-dart.result.now (omega arith) c.index-dart.ensures 0 in
+    let after = c.requires.linked.next_in c.steps.dart inside in
+    omega (arith, next, after)
+
+pub returns-then-dart-start-clause-walked : goal.returns-then-dart-start-clause-walked
+returns-then-dart-start-clause-walked c =
+    let t = c.args.table.now in
+    let w = web_of t in
+    let inside = walk_in w _ _ _ _ _ _ _ c.requires.linked c.requires.inside c.steps.invariant in
+    let next = get_or_read t.next.items c.steps.dart c.index-dart.result.now (omega arith) c.index-dart.ensures 0 in
+    let after = c.requires.linked.next_in c.steps.dart inside in
+    let angle = get_or_read t.angle.items c.index-dart.result.now c.index.result.now (omega (arith, next, after)) c.index.ensures 0 in
+    let turn : IsTurn w c.steps.dart c.index-dart.result.now c.index.result.now c.steps.corners.items c.if-index-ne2.corners.items =
+    record {
+      next_is = next;
+      angle_is = angle;
+      put = elim c.if-index-ne2.branch [
+        | then-index-ne2+in_ok-push w ↦ inl (w.if-index-ne2.true, rw w.corners-is w.in_ok-push.ensures.items)
+        | else-index-ne2 w ↦ inr (w.if-index-ne2.false, rw w.corners-is refl)
+      ];
+    } in
+    let step = walk_turns w _ _ _ _ _ _ _ _ _ _ c.steps.invariant (omega (arith, next, after, c.steps.invariant.size)) turn in
+    walk_ends w _ _ _ _ _ _ _ step c.steps-test.true c.if-dart-start.true
+
+pub steps-preserved : goal.steps-preserved
+steps-preserved c =
+    let t = c.args.table.now in
+    let w = web_of t in
+    let inside = walk_in w _ _ _ _ _ _ _ c.requires.linked c.requires.inside c.steps.invariant in
+    let next = get_or_read t.next.items c.steps.dart c.index-dart.result.now (omega arith) c.index-dart.ensures 0 in
+    let after = c.requires.linked.next_in c.steps.dart inside in
+    let angle = get_or_read t.angle.items c.index-dart.result.now c.index.result.now (omega (arith, next, after)) c.index.ensures 0 in
+    let turn : IsTurn w c.steps.dart c.index-dart.result.now c.index.result.now c.steps.corners.items c.if-index-ne2.corners.items =
+    record {
+      next_is = next;
+      angle_is = angle;
+      put = elim c.if-index-ne2.branch [
+        | then-index-ne2+in_ok-push w ↦ inl (w.if-index-ne2.true, rw w.corners-is w.in_ok-push.ensures.items)
+        | else-index-ne2 w ↦ inr (w.if-index-ne2.false, rw w.corners-is refl)
+      ];
+    } in
+    let step = walk_turns w _ _ _ _ _ _ _ _ _ _ c.steps.invariant (omega (arith, next, after, c.steps.invariant.size)) turn in
+    walk_goes w _ _ _ _ _ _ _ step c.if-dart-start.false
+
+pub returns-clause-walked : goal.returns-clause-walked
+returns-clause-walked c =
+    absurd (walk_fails (web_of c.args.table.now) _ _ _ _ _ _ _ c.requires.linked c.requires.inside (omega arith) c.steps.invariant)

@@ -1,0 +1,56 @@
+ghost use Rattle.std.specs.Prelude.{◌≡◌, ◌<◌, ◌≤◌, ℕ, OnOk, vec_len};
+ghost use Rattle.cutting.specs.Labels.{AreLabels, HasTurns};
+ghost use Rattle.cutting.specs.Tables.{web_of};
+ghost use Rattle.cutting.specs.Webs.{IsLinked};
+ghost use Rattle.enclosing.specs.Walks.{IsWalked};
+
+use cutting::DartTable;
+use std::alloc::AllocError;
+
+/// The first right turn on the walk from `outside` on, round a face whose walk turns to the right.
+/// Linear in the darts of the face.
+pub fn find_right(table: &DartTable, outside: u32) -> u32
+    requires linked { IsLinked (web_of table.now) }
+    requires inside { outside < table.now.darts }
+    requires turns { (label : ℕ → ℕ) × HasTurns (web_of table.now) label (label outside) }
+    ensures inside { result < table.now.darts }
+    ensures right { 2 < (web_of table.now).angle result }
+    ensures same { (label : ℕ → ℕ) → AreLabels (web_of table.now) label → label result ≡ label outside }
+{
+    let mut dart = outside;
+    'steps: for _ in 0..table.darts {
+        if table.angle[dart as usize] > 2 {
+            return dart;
+        }
+        dart = table.next[dart as usize];
+    }
+    dart
+}
+
+/// Walks from the dart `start` once round its face, marks the darts as seen, and adds the corners
+/// among them to the list, `start` last where it is one.
+pub fn walk(
+    table: &DartTable,
+    start: u32,
+    seen: &mut Vec<bool>,
+    corners: &mut Vec<u32>,
+) -> Result<(), AllocError>
+    requires linked { IsLinked (web_of table.now) }
+    requires inside { start < table.now.darts }
+    requires size { table.now.darts ≤ vec_len seen.old }
+    ensures size { vec_len seen.new ≡ vec_len seen.old }
+    ensures walked { OnOk result (IsWalked (web_of table.now) start seen.old.items seen.new.items corners.old.items corners.new.items) }
+{
+    let mut dart = start;
+    'steps: for _ in 0..table.darts {
+        dart = table.next[dart as usize];
+        seen[dart as usize] = true;
+        if table.angle[dart as usize] != 2 {
+            corners.push(dart)?;
+        }
+        if dart == start {
+            return Ok(());
+        }
+    }
+    Ok(())
+}
