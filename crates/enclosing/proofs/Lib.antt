@@ -4,3 +4,5 @@ pub mod Sounding
 pub mod Turns
 pub mod Walking
 pub mod Joining
+pub mod Tracing
+pub mod Merging
