@@ -1,0 +1,76 @@
+-- What callers see of `Boxes`: a drawing in four directions, and which of its parts are those of a plane.
+use Rattle.std.specs.Prelude.{◌≡◌, ℕ, ◌+◌, ◌<◌, ◌≤◌, List, length, slice_index}
+use Rattle.directions.specs.declared.Direction.{Direction}
+use Rattle.directions.specs.declared.Direction.TheVariants.{East, North, West, South}
+use Rattle.cutting.specs.declared.table.DartTable.{DartTable}
+use Rattle.cutting.specs.Webs.{Web, IsSound}
+use Rattle.cutting.specs.Paths.{IsPath, IsJoined}
+
+pub record Parts : Type 0 where
+  -- how many darts and vertices there are
+  pub darts : ℕ
+  pub vertices : ℕ
+  -- what belongs to dart d stands at place d
+  pub next : List ℕ
+  pub prev : List ℕ
+  pub twin : List ℕ
+  pub head : List ℕ
+  pub direction : List ℕ
+  pub angle : List ℕ
+  pub before : List ℕ
+  -- vertex v of the plane is the vertex v - 1 of the web, so many of them there are
+  pub old : ℕ
+  -- the lesser darts of the plane's edges, each of which is a dart of the web too: the last one on its edge
+  pub edges : List ℕ
+
+-- the drawing that the parts are
+abbrev pub web : Parts → Web
+web b = record {
+  darts = b.darts;
+  vertices = b.vertices;
+  next = λ a. slice_index b.next a;
+  prev = λ a. slice_index b.prev a;
+  twin = λ a. slice_index b.twin a;
+  head = λ a. slice_index b.head a;
+  direction = λ a. slice_index b.direction a;
+  angle = λ a. slice_index b.angle a;
+  before = λ a. slice_index b.before a;
+}
+
+-- the boxes that a table holds, for a plane of `old` vertices and these lesser darts
+abbrev pub parts_of : DartTable → ℕ → List ℕ → Parts
+parts_of t old edges = record {
+  darts = t.darts;
+  vertices = t.vertices;
+  next = t.next.items;
+  prev = t.prev.items;
+  twin = t.twin.items;
+  head = t.head.items;
+  direction = t.direction.items;
+  angle = t.angle.items;
+  before = t.before.items;
+  old = old;
+  edges = edges;
+}
+
+-- the number of a direction: quarters to the left from east
+abbrev pub number_of : Direction → ℕ
+number_of East = 0
+number_of North = 1
+number_of West = 2
+number_of South = 3
+
+-- the edge e of the plane is a path of the web
+pub record HasEdge (b : Parts) (e : ℕ) : Type 0 where
+  pub first : ℕ
+  pub rest : List ℕ
+  pub path : IsPath (web b) (slice_index b.edges e) first rest
+
+-- what is kept of all boxes: edges run straight in four directions and meet at vertices; the parts of the plane are there
+pub record AreBoxes (b : Parts) : Type 0 where
+  pub sound : IsSound (web b)
+  pub joined : IsJoined (web b)
+  pub old_in : b.old ≤ b.vertices
+  pub old_few : b.old ≤ 255
+  pub few_edges : length b.edges ≤ 510
+  pub edges : (e : ℕ) → e < length b.edges → HasEdge b e

@@ -1,0 +1,118 @@
+//! A drawing in four directions whose faces are rectangles.
+
+ghost use Rattle.std.specs.Prelude.{◌≡◌, ◌<◌, ◌≤◌, ◌^◌, length, IfSome, IfNone};
+ghost use Rattle.cutting.specs.Webs.{no_dart};
+ghost use Rattle.dissect.specs.Boxes.{AreBoxes, number_of, web};
+
+use cutting::{DartTable, NO_DART};
+use directions::Direction;
+use std::marker::Model;
+
+/// A dissection: the drawing of a plane in four directions, enclosed in a rectangle and cut until each
+/// face is one. Its edges have no bends. In contracts it is a `Parts`: a web of darts, how many vertices
+/// of it are the plane's, and the lesser darts of the plane's edges.
+///
+/// Vertices and darts are numbered from 0. The plane's vertex v is vertex v - 1; a dart of the plane
+/// has its number here too, and is the last of the darts that its edge is made of. No reader takes
+/// memory, and each takes constant time.
+#[derive(Drop)]
+pub struct Boxes {
+    table: DartTable,
+    old: u8,
+    edges: Vec<u16>,
+}
+
+impl Model for Boxes {
+    ghost use Rattle.dissect.specs.Boxes.{Parts, AreBoxes, parts_of};
+
+    ghost Value = { Parts };
+
+    ghost view = { λ b. parts_of b.table b.old b.edges.items };
+
+    ghost invariant = { λ b. AreBoxes (parts_of b.table b.old b.edges.items) };
+}
+
+impl Boxes {
+    /// How many vertices there are.
+    pub fn vertices(&self) -> u32
+        ensures value { result ≡ self.now.vertices }
+        ensures boxes { AreBoxes self.now }
+    {
+        self.table.vertices
+    }
+
+    /// How many darts there are, twice the number of edges.
+    pub fn darts(&self) -> u32
+        ensures value { result ≡ self.now.darts }
+        ensures boxes { AreBoxes self.now }
+    {
+        self.table.darts
+    }
+
+    /// The vertex that a dart goes to.
+    pub fn head(&self, dart: u32) -> u32
+        requires { dart < self.now.darts }
+        ensures value { result ≡ (web self.now).head dart }
+        ensures inside { result < self.now.vertices }
+    {
+        self.table.head[dart as usize]
+    }
+
+    /// The dart along the same edge the other way.
+    pub fn reverse(&self, dart: u32) -> u32
+        requires { dart < self.now.darts }
+        ensures value { result ≡ (web self.now).twin dart }
+        ensures inside { result < self.now.darts }
+    {
+        self.table.twin[dart as usize]
+    }
+
+    /// The next dart of the face on the left.
+    pub fn next(&self, dart: u32) -> u32
+        requires { dart < self.now.darts }
+        ensures value { result ≡ (web self.now).next dart }
+        ensures inside { result < self.now.darts }
+    {
+        self.table.next[dart as usize]
+    }
+
+    /// The direction in which a dart runs.
+    pub fn direction(&self, dart: u32) -> Direction
+        requires { dart < self.now.darts }
+        ensures { number_of result ≡ (web self.now).direction dart }
+    {
+        match self.table.direction[dart as usize] {
+            0 => Direction::East,
+            1 => Direction::North,
+            2 => Direction::West,
+            _ => Direction::South,
+        }
+    }
+
+    /// The dart in front of a dart on the same edge of the plane; none where it is the first one, or
+    /// where it is on no edge of the plane.
+    pub fn before(&self, dart: u32) -> Option<u32>
+        requires { dart < self.now.darts }
+        ensures some { IfSome result (λ front. front ≡ (web self.now).before dart) }
+        ensures none { IfNone result ((web self.now).before dart ≡ no_dart) }
+    {
+        let front = self.table.before[dart as usize];
+        if front == NO_DART { None } else { Some(front) }
+    }
+
+    /// How many vertices the plane has: they are the first ones.
+    pub fn plane_vertices(&self) -> u8
+        ensures value { result ≡ self.now.old }
+        ensures inside { result ≤ self.now.vertices }
+    {
+        self.old
+    }
+
+    /// The lesser darts of the plane's edges, in order.
+    pub fn edges(&self) -> &[u16]
+        ensures value { result.now ≡ self.now.edges }
+        ensures boxes { AreBoxes self.now }
+    {
+        &self.edges
+    }
+}
