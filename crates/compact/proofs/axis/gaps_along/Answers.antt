@@ -1,0 +1,32 @@
+use Rattle.std.proofs.Common.{◌≡◌, ◌≢◌, ◌+◌, ◌∙◌, ◌⊎◌, ◌<◌, ℕ, Vec, Global, Some, None, arith, subst, sym, ap}
+use Rattle.compact.specs.declared.gaps.Gap.{Gap}
+use Rattle.compact.specs.Ordered.{AreAlong, growth}
+use Rattle.dissect.specs.Boxes.{web, number_of}
+use Rattle.compact.proofs.Gapping.{one_pushed, none_more, gap_found, no_gap_found}
+use Rattle.compact.proofs.axis.gaps_along.Goals as goal
+use Rattle.compact.proofs.axis.gaps_along.Goals.{in-Some+in_ok-push, in_default}
+
+pub loop-dart-preserved : goal.loop-dart-preserved
+loop-dart-preserved c =
+    let w = web c.args.boxes.now in
+    let k = growth c.args.axis in
+    let d = c.loop-dart.dart in
+    let boxes = c.darts.ensures.boxes in
+    let d_in : d < c.args.boxes.now.darts = omega (arith, c.loop-dart-test.true, c.darts-dart-end.ensures.value) in
+    let way : number_of c.direction.result ≡ w.direction d = c.direction.ensures in
+    elim c.match-least_gap.branch [
+      | in-Some+in_ok-push b ↦
+          let kind = gap_found (number_of c.direction.result) k b.in-Some.least c.least_gap.result c.least_gap.ensures.forward c.least_gap.ensures.back c.least_gap.ensures.across b.in-Some.is in
+          one_pushed w k d c.loop-dart.gaps.items c.match-least_gap.gaps.items (record { from = b.head-from.result; to = b.head-to.result; least = b.in-Some.least })
+            boxes.sound d_in (b.head-from.ensures.value ∙ ap w.head b.reverse.ensures.value) b.head-to.ensures.value
+            (subst (λ (n : ℕ). ((n ≡ k) × (b.in-Some.least ≡ 1)) ⊎ ((n ≢ k) × (n ≢ k + 2) × (b.in-Some.least ≡ 0))) way kind)
+            (ap (λ (v : Vec Gap Global). v.items) b.gaps-is ∙ b.in_ok-push.ensures.items) c.loop-dart.invariant
+      | in_default b ↦
+          subst (λ (v : Vec Gap Global). AreAlong w k (d + 1) v.items) (sym b.gaps-is)
+          (none_more w k d c.loop-dart.gaps.items (sym way ∙ no_gap_found (number_of c.direction.result) k c.least_gap.result c.least_gap.ensures.forward c.least_gap.ensures.across b.in_default.is) c.loop-dart.invariant)
+    ]
+
+pub returns : goal.returns
+returns c =
+    let all : c.loop-dart.dart ≡ c.args.boxes.now.darts = omega (arith, c.loop-dart-test.false, c.loop-dart.auto.dart-end, c.darts-dart-end.ensures.value) in
+    subst (λ (n : ℕ). AreAlong (web c.args.boxes.now) (growth c.args.axis) n c.loop-dart.gaps.items) all c.loop-dart.invariant

@@ -1,0 +1,15 @@
+use Rattle.std.proofs.Common.{◌≡◌, ℕ, ◌<◌, ◌∙◌, List, length, subst, sym, arith}
+use Rattle.compact.specs.Gaps.{IsLow}
+use Rattle.compact.proofs.gaps.settle.Goals as goal
+
+pub returns-in-Kept-clause-least : goal.returns-in-Kept-clause-least
+returns-in-Kept-clause-least c = λ _ y keeps v v_in. c.in-Kept.ensures.low y keeps v (omega (arith, v_in, c.rounds.invariant.size))
+
+pub rounds-preserved : goal.rounds-preserved
+rounds-preserved c = record {
+  size = c.in-Raised.ensures.length ∙ c.rounds.invariant.size;
+  low = λ y keeps v v_in. c.in-Raised.ensures.low y keeps v (omega (arith, v_in, c.rounds.invariant.size));
+}
+
+pub widen_all-requires-clause-low : goal.widen_all-requires-clause-low
+widen_all-requires-clause-low c = λ y keeps v v_in. c.rounds.invariant.low y keeps v (omega (arith, v_in, c.rounds.invariant.size))

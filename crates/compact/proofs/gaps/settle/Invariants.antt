@@ -1,0 +1,12 @@
+use Rattle.std.proofs.Common.{◌≡◌, ◌<◌, length, slice_index, ℕ}
+use Rattle.compact.specs.Gaps.{IsLow, slack}
+use Rattle.compact.proofs.gaps.settle.Given as goal
+
+abbrev pub invariant-rounds : goal.invariant-rounds
+invariant-rounds l = record {
+  size : length l.numbers ≡ length l.fn.numbers;
+  low : IsLow l.gaps (length l.fn.numbers) (λ v. slice_index l.numbers v);
+}
+
+abbrev pub decreases-rounds : goal.decreases-rounds
+decreases-rounds l = slack l.numbers

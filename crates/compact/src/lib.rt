@@ -1,0 +1,8 @@
+//! Coordinates for a dissection: least whole numbers that keep the order of its darts.
+#![tactic(auto)]
+
+mod axis;
+mod fault;
+mod gaps;
+
+pub use fault::CompactFault;
