@@ -1,2 +1,4 @@
 pub mod Widening
 pub mod Gapping
+pub mod Walking
+pub mod Numbers

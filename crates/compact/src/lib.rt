@@ -2,6 +2,7 @@
 #![tactic(auto)]
 
 mod axis;
+mod corners;
 mod fault;
 mod gaps;
 

@@ -3,7 +3,7 @@ use Rattle.std.specs.Prelude.{◌≡◌, ℕ, ◌+◌, ◌<◌, ◌≤◌, List,
 use Rattle.directions.specs.declared.Direction.{Direction}
 use Rattle.directions.specs.declared.Direction.TheVariants.{East, North, West, South}
 use Rattle.cutting.specs.declared.table.DartTable.{DartTable}
-use Rattle.cutting.specs.Webs.{Web, IsSound}
+use Rattle.cutting.specs.Webs.{Web, IsSound, no_dart}
 use Rattle.cutting.specs.Paths.{IsPath, IsJoined}
 
 pub record Parts : Type 0 where
@@ -70,6 +70,7 @@ pub record HasEdge (b : Parts) (e : ℕ) : Type 0 where
 pub record AreBoxes (b : Parts) : Type 0 where
   pub sound : IsSound (web b)
   pub joined : IsJoined (web b)
+  pub few_darts : b.darts ≤ no_dart
   pub old_in : b.old ≤ b.vertices
   pub old_few : b.old ≤ 255
   pub few_edges : length b.edges ≤ 510

@@ -1,6 +1,6 @@
 //! A drawing in four directions whose faces are rectangles.
 
-ghost use Rattle.std.specs.Prelude.{◌≡◌, ◌<◌, ◌≤◌, ◌^◌, length, IfSome, IfNone};
+ghost use Rattle.std.specs.Prelude.{◌≡◌, ◌≢◌, ◌<◌, ◌≤◌, ◌^◌, length, IfSome, IfNone};
 ghost use Rattle.cutting.specs.Webs.{no_dart};
 ghost use Rattle.dissect.specs.Boxes.{AreBoxes, number_of, web};
 
@@ -79,7 +79,8 @@ impl Boxes {
     /// The direction in which a dart runs.
     pub fn direction(&self, dart: u32) -> Direction
         requires { dart < self.now.darts }
-        ensures { number_of result ≡ (web self.now).direction dart }
+        ensures value { number_of result ≡ (web self.now).direction dart }
+        ensures boxes { AreBoxes self.now }
     {
         match self.table.direction[dart as usize] {
             0 => Direction::East,
@@ -94,7 +95,9 @@ impl Boxes {
     pub fn before(&self, dart: u32) -> Option<u32>
         requires { dart < self.now.darts }
         ensures some { IfSome result (λ front. front ≡ (web self.now).before dart) }
+        ensures real { IfSome result (λ front. front ≢ no_dart) }
         ensures none { IfNone result ((web self.now).before dart ≡ no_dart) }
+        ensures boxes { AreBoxes self.now }
     {
         let front = self.table.before[dart as usize];
         if front == NO_DART { None } else { Some(front) }

@@ -13,7 +13,7 @@ loop-dart-preserved c =
     let d = c.loop-dart.dart in
     let boxes = c.darts.ensures.boxes in
     let d_in : d < c.args.boxes.now.darts = omega (arith, c.loop-dart-test.true, c.darts-dart-end.ensures.value) in
-    let way : number_of c.direction.result ≡ w.direction d = c.direction.ensures in
+    let way : number_of c.direction.result ≡ w.direction d = c.direction.ensures.value in
     elim c.match-least_gap.branch [
       | in-Some+in_ok-push b ↦
           let kind = gap_found (number_of c.direction.result) k b.in-Some.least c.least_gap.result c.least_gap.ensures.forward c.least_gap.ensures.back c.least_gap.ensures.across b.in-Some.is in

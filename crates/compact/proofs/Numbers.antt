@@ -1,0 +1,24 @@
+-- Directions and their numbers.
+use Rattle.std.proofs.Common.{◌≡◌, ℕ, refl, arith}
+use Rattle.directions.specs.declared.Direction.{Direction}
+use Rattle.directions.specs.declared.Direction.TheVariants.{East, North, West, South}
+use Rattle.dissect.specs.Boxes.{number_of}
+
+-- a number belongs to one direction
+pub one_number : (a b : Direction) → number_of a ≡ number_of b → a ≡ b
+one_number East East e = refl
+one_number North North e = refl
+one_number West West e = refl
+one_number South South e = refl
+one_number East North e = absurd (omega (arith, e))
+one_number East West e = absurd (omega (arith, e))
+one_number East South e = absurd (omega (arith, e))
+one_number North East e = absurd (omega (arith, e))
+one_number North West e = absurd (omega (arith, e))
+one_number North South e = absurd (omega (arith, e))
+one_number West East e = absurd (omega (arith, e))
+one_number West North e = absurd (omega (arith, e))
+one_number West South e = absurd (omega (arith, e))
+one_number South East e = absurd (omega (arith, e))
+one_number South North e = absurd (omega (arith, e))
+one_number South West e = absurd (omega (arith, e))

@@ -1,0 +1,22 @@
+use Rattle.std.proofs.Common.{◌≡◌, ◌∙◌, ◌↔◌, Bool, true, false, IsTrue, sym, subst, ap, refl, inl, inr}
+use Rattle.std.proofs.lemmas.Bool.{cases_Bool, false≢true}
+use denote.Enum.Bare.{differs_true, differs_false}
+use Rattle.directions.specs.contracts.Direction.{the_type}
+use Rattle.dissect.specs.Boxes.{web, number_of}
+use Rattle.compact.proofs.Walking.{same_way}
+use Rattle.compact.proofs.Numbers.{one_number}
+use Rattle.compact.proofs.corners.is_turn.Goals as goal
+
+pub returns : goal.returns
+returns c =
+    let same = same_way (web c.args.boxes.now) c.args.front c.args.dart c.direction.ensures.boxes.sound c.requires.front c.requires.dart in (
+      λ differs straight.
+        let one = one_number c.direction.result c.direction-2.result (c.direction.ensures.value ∙ same.0 straight ∙ sym c.direction-2.ensures.value) in
+        differs_true the_type c.direction.result c.direction-2.result (sym c.ne.ensures ∙ differs) one,
+      λ turns. elim (cases_Bool c.ne.result) [
+        | inl so ↦ so
+        | inr not_so ↦
+            let one = differs_false the_type tt c.direction.result c.direction-2.result (sym c.ne.ensures ∙ not_so) in
+            absurd (turns (same.1 (sym c.direction.ensures.value ∙ ap number_of one ∙ c.direction-2.ensures.value)))
+      ],
+    )
