@@ -2,3 +2,4 @@ pub mod Widening
 pub mod Gapping
 pub mod Walking
 pub mod Numbers
+pub mod Placing

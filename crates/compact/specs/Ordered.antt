@@ -1,11 +1,12 @@
 -- Numbers in the order of the darts, and the points that are taken from them.
-use Rattle.std.specs.Prelude.{◌≡◌, ◌≢◌, ℕ, ◌+◌, ◌<◌, ◌≤◌, ◌⊎◌, List, map, length}
+use Rattle.std.specs.Prelude.{◌≡◌, ◌≢◌, ℕ, ◌+◌, ◌<◌, ◌≤◌, ◌⊎◌, List, [], Vec, map, length, slice_index_or}
 use Rattle.std.specs.List.{range_with_len}
-use Rattle.cutting.specs.Webs.{Web}
+use Rattle.cutting.specs.Webs.{Web, IsSound}
 use Rattle.cutting.specs.Paths.{turning_places}
 use Rattle.dissect.specs.Boxes.{Parts, HasEdge, web}
 use Rattle.ortho_rep.specs.declared.points.Point.{Point}
-use Rattle.ortho_rep.specs.Points.{Plot, corners_at}
+use Rattle.std.specs.declared.alloc.Global.{Global}
+use Rattle.ortho_rep.specs.Points.{Plot, corners_at, point_lists}
 use Rattle.compact.specs.declared.axis.Axis.{Axis}
 use Rattle.compact.specs.declared.axis.Axis.TheVariants.{X, Y}
 use Rattle.compact.specs.declared.gaps.Gap.{Gap}
@@ -78,5 +79,10 @@ growth Y = 1
 
 -- what a fault says of one axis
 abbrev pub IsAxisFault : Parts → ℕ → CompactFault → Type 0
-IsAxisFault b k Wide = (x : ℕ → ℕ) → IsAlong (web b) k x → (v : ℕ) × (v < b.vertices) × (65535 < x v)
+IsAxisFault b k Wide = IsSound (web b) × ((x : ℕ → ℕ) → IsAlong (web b) k x → (v : ℕ) × (v < b.vertices) × (65535 < x v))
 IsAxisFault b k Memory = Unit {0}
+
+-- the lists have the corners of the first edges, in order
+abbrev pub AreCorners : Parts → (ℕ → ℕ) → (ℕ → ℕ) → ℕ → List (Vec Point Global) → Type 0
+AreCorners b x y n lists = (e : ℕ) → e < n → (edge : HasEdge b e)
+    → slice_index_or (point_lists lists) e [] ≡ map (point_at x y) (turning_places (web b) edge.first edge.rest)

@@ -1,7 +1,8 @@
 //! The gaps of a dissection along an axis, and the least numbers of its vertices.
 
 ghost use Rattle.std.specs.Prelude.{◌≡◌, ◌≢◌, ◌+◌, length, slice_index, Some, None, IfOk, IfErr};
-ghost use Rattle.compact.specs.Ordered.{IsAlong, AreAlong, IsAxisFault, growth};
+ghost use Rattle.compact.specs.Ordered.{IsAlong, AreAlong, AreWithin, IsAxisFault, growth};
+ghost use Rattle.cutting.specs.Webs.{IsSound};
 ghost use Rattle.dissect.specs.Boxes.{web, number_of};
 
 use crate::fault::CompactFault;
@@ -51,7 +52,9 @@ fn gaps_along(alloc: Global, boxes: &Boxes, axis: Axis) -> Result<Vec<Gap>, Allo
 
 /// The least numbers of the vertices in the order of the darts along an axis.
 pub fn numbers_along(alloc: Global, boxes: &Boxes, axis: Axis) -> Result<Vec<u16>, CompactFault>
+    ensures sound { IfOk result (λ _. IsSound (web boxes.now)) }
     ensures along { IfOk result (λ numbers. IsAlong (web boxes.now) (growth axis) (λ v. slice_index numbers.items v)) }
+    ensures within { IfOk result (λ numbers. AreWithin boxes.now.vertices (λ v. slice_index numbers.items v)) }
     ensures count { IfOk result (λ numbers. length numbers.items ≡ boxes.now.vertices) }
     ensures fault { IfErr result (IsAxisFault boxes.now (growth axis)) }
 {

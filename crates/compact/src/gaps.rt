@@ -70,6 +70,7 @@ pub fn settle(gaps: &[Gap], numbers: &mut [u16]) -> bool
     requires zeros { All (λ n. n ≡ 0) numbers.old }
     ensures keeps { IsTrue result → Keeps gaps.now (λ v. slice_index numbers.new v) }
     ensures least { IsTrue result → IsLow gaps.now (length numbers.old) (λ v. slice_index numbers.new v) }
+    ensures small { (v : ℕ) → v < length numbers.new → slice_index numbers.new v ≤ 65535 }
     ensures wide { IsFalse result → AreWide gaps.now (length numbers.old) }
     ensures length { length numbers.new ≡ length numbers.old }
 {

@@ -5,5 +5,7 @@ mod axis;
 mod corners;
 mod fault;
 mod gaps;
+mod place;
 
 pub use fault::CompactFault;
+pub use place::compact;

@@ -2,16 +2,16 @@ use Rattle.std.proofs.Common.{◌≡◌, ◌∙◌, ℕ, List, length, slice_ind
 use Rattle.std.proofs.lemmas.List.{take_at}
 use Rattle.compact.specs.declared.gaps.Gap.{Gap}
 use Rattle.compact.specs.Gaps.{Keeps}
-use Rattle.compact.specs.Ordered.{IsAlong, growth}
+use Rattle.compact.specs.Ordered.{IsAlong, AreWithin, growth}
 use Rattle.dissect.specs.Boxes.{web}
 use Rattle.compact.proofs.Gapping.{all_along}
 use Rattle.compact.proofs.axis.numbers_along.Goals as goal
 
 pub returns-then-not-settled-clause-fault : goal.returns-then-not-settled-clause-fault
-returns-then-not-settled-clause-fault c = λ x along.
+returns-then-not-settled-clause-fault c = (c.vertices.ensures.boxes.sound, λ x along.
     let keeps = subst (λ (gs : List Gap). Keeps gs x) (sym c.deref.ensures.value) (c.in-Ok.ensures.no_more x along) in
     let (v, v_in, far) = c.if-not-settled.ensures.wide refl x keeps in
-    (v, omega (arith, v_in, c.vertices.ensures.value, c.in-Ok-vec.ensures.len, c.deref_mut.ensures.len), far)
+    (v, omega (arith, v_in, c.vertices.ensures.value, c.in-Ok-vec.ensures.len, c.deref_mut.ensures.len), far))
 
 pub returns-clause-along : goal.returns-clause-along
 returns-clause-along c =
@@ -21,3 +21,10 @@ returns-clause-along c =
     subst (λ (xs : List ℕ). IsAlong (web c.args.boxes.now) (growth c.args.axis) (λ v. slice_index xs v))
     (sym (take_at c.settle-settled.new.numbers _ c.in-Ok-vec.numbers.len size))
     (all_along (web c.args.boxes.now) (growth c.args.axis) c.in-Ok.gaps.items x c.in-Ok.ensures keeps)
+
+pub returns-clause-within : goal.returns-clause-within
+returns-clause-within c =
+    let size : length c.settle-settled.new.numbers ≡ c.in-Ok-vec.numbers.len = omega (arith, c.if-not-settled.ensures.length, c.deref_mut.ensures.len) in
+    subst (λ (xs : List ℕ). AreWithin c.args.boxes.now.vertices (λ v. slice_index xs v))
+    (sym (take_at c.settle-settled.new.numbers _ c.in-Ok-vec.numbers.len size))
+    (λ v v_in. c.if-not-settled.ensures.small v (omega (arith, v_in, c.vertices.ensures.value, c.in-Ok-vec.ensures.len, c.if-not-settled.ensures.length, c.deref_mut.ensures.len)))

@@ -1,0 +1,119 @@
+-- Numbers in order, axis by axis, and the points that are taken from them.
+use Rattle.std.proofs.Common.{◌≡◌, ◌≢◌, ℕ, ◌+◌, ◌-◌, ◌%◌, ◌<◌, ◌≤◌, ◌∙◌, List, [], ◌∷◌, ◌++◌, Vec, Global, length, map, get_or, slice_index, arith, subst, sym, ap, inl, inr}
+use Rattle.std.proofs.lemmas.Bool.{cases_eq}
+use Rattle.std.proofs.lemmas.List.{map_push, length-map, get_or_push, get_or_append_left}
+use Rattle.cutting.specs.Webs.{Web, IsSound}
+use Rattle.cutting.specs.Paths.{turning_places}
+use Rattle.ortho_rep.specs.declared.points.Point.{Point}
+use Rattle.ortho_rep.specs.Points.{point_lists}
+use Rattle.dissect.specs.Boxes.{Parts, HasEdge, web}
+use Rattle.compact.specs.Ordered.{tail, point_at, IsOrdered, IsAlong, AreCorners, IsAxisFault, IsCompactFault, AreLaidOut, AreWithin}
+use Rattle.std.specs.List.{range_with_len}
+use Rattle.compact.specs.declared.fault.CompactFault.{CompactFault}
+use Rattle.compact.specs.declared.fault.CompactFault.TheVariants.{Wide, Memory}
+
+-- a dart and its twin change places of head and tail
+pub turned_round : (w : Web) (a : ℕ) → IsSound w → a < w.darts → tail w (w.twin a) ≡ w.head a
+turned_round w a sound a_in = ap w.head (sound.linked.twin_back a a_in)
+
+-- numbers that keep both axes are in order
+pub in_order : (w : Web) (x y : ℕ → ℕ) → IsSound w → IsAlong w 0 x → IsAlong w 1 y → IsOrdered w x y
+in_order w x y sound along_x along_y = record {
+  east = λ a a_in way.
+    let back : w.direction (w.twin a) ≡ 2 = sound.straight a a_in ∙ ap (λ (d : ℕ). (d + 2) % 4) way in
+    let twin_in = sound.linked.twin_in a a_in in
+    let there : y (tail w a) ≤ y (w.head a) = along_y.across a a_in (λ e. omega (arith, e, way)) (λ e. omega (arith, e, way)) in
+    let home : y (tail w (w.twin a)) ≤ y (w.head (w.twin a)) = along_y.across (w.twin a) twin_in (λ e. omega (arith, e, back)) (λ e. omega (arith, e, back)) in
+    let same : y (tail w (w.twin a)) ≡ y (w.head a) = ap y (turned_round w a sound a_in) in
+    (omega (arith, along_x.forward a a_in way), omega (arith, there, home, same));
+  north = λ a a_in way.
+    let back : w.direction (w.twin a) ≡ 3 = sound.straight a a_in ∙ ap (λ (d : ℕ). (d + 2) % 4) way in
+    let twin_in = sound.linked.twin_in a a_in in
+    let there : x (tail w a) ≤ x (w.head a) = along_x.across a a_in (λ e. omega (arith, e, way)) (λ e. omega (arith, e, way)) in
+    let home : x (tail w (w.twin a)) ≤ x (w.head (w.twin a)) = along_x.across (w.twin a) twin_in (λ e. omega (arith, e, back)) (λ e. omega (arith, e, back)) in
+    let same : x (tail w (w.twin a)) ≡ x (w.head a) = ap x (turned_round w a sound a_in) in
+    (omega (arith, along_y.forward a a_in way), omega (arith, there, home, same));
+}
+
+-- numbers in order keep the axis x
+pub keep_x : (w : Web) (x y : ℕ → ℕ) → IsSound w → IsOrdered w x y → IsAlong w 0 x
+keep_x w x y sound ordered = record {
+  forward = λ a a_in way. omega (arith, (ordered.east a a_in way).0);
+  across = λ a a_in one two. elim (cases_eq (w.direction a) 1) [
+    | inl north ↦ omega (arith, (ordered.north a a_in north).1)
+    | inr other ↦
+        let south : w.direction a ≡ 3 = omega (arith, sound.meeting.quarter a a_in, one, two, other) in
+        let back : w.direction (w.twin a) ≡ 1 = sound.straight a a_in ∙ ap (λ (d : ℕ). (d + 2) % 4) south in
+        let same : x (tail w (w.twin a)) ≡ x (w.head (w.twin a)) = (ordered.north (w.twin a) (sound.linked.twin_in a a_in) back).1 in
+        omega (arith, same, ap x (turned_round w a sound a_in))
+  ];
+}
+
+-- and the axis y
+pub keep_y : (w : Web) (x y : ℕ → ℕ) → IsSound w → IsOrdered w x y → IsAlong w 1 y
+keep_y w x y sound ordered = record {
+  forward = λ a a_in way. omega (arith, (ordered.north a a_in way).0);
+  across = λ a a_in one two. elim (cases_eq (w.direction a) 0) [
+    | inl east ↦ omega (arith, (ordered.east a a_in east).1)
+    | inr other ↦
+        let west : w.direction a ≡ 2 = omega (arith, sound.meeting.quarter a a_in, one, two, other) in
+        let back : w.direction (w.twin a) ≡ 0 = sound.straight a a_in ∙ ap (λ (d : ℕ). (d + 2) % 4) west in
+        let same : y (tail w (w.twin a)) ≡ y (w.head (w.twin a)) = (ordered.east (w.twin a) (sound.linked.twin_in a a_in) back).1 in
+        omega (arith, same, ap y (turned_round w a sound a_in))
+  ];
+}
+
+-- the corners of one more edge
+pub corners_more : (b : Parts) (x y : ℕ → ℕ) (n : ℕ) (lists new : List (Vec Point Global)) (v : Vec Point Global) → length lists ≡ n →
+    new ≡ lists ++ (v ∷ []) → AreCorners b x y n lists →
+    ((edge : HasEdge b n) → v.items ≡ map (point_at x y) (turning_places (web b) edge.first edge.rest)) → AreCorners b x y (n + 1) new
+corners_more b x y n lists new v size pushed corners one e e_in edge =
+    let flat : point_lists new ≡ point_lists lists ++ (v.items ∷ []) = ap point_lists pushed ∙ map_push (λ (u : Vec Point Global). u.items) lists v in
+    let long : length (point_lists lists) ≡ n = length-map lists (λ (u : Vec Point Global). u.items) ∙ size in
+    ap (λ (ls : List (List Point)). get_or ls e []) flat ∙
+    (elim (cases_eq e n) [
+      | inl last ↦
+          get_or_push (point_lists lists) v.items [] e (long ∙ sym last)
+          ∙ subst (λ (k : ℕ). (edge : HasEdge b k) → v.items ≡ map (point_at x y) (turning_places (web b) edge.first edge.rest)) (sym last) one edge
+      | inr before ↦ get_or_append_left (point_lists lists) (v.items ∷ []) [] e (omega (arith, e_in, before, long)) ∙ corners e (omega (arith, e_in, before)) edge
+    ])
+
+-- no corners yet
+pub no_corners : (b : Parts) (x y : ℕ → ℕ) (lists : List (Vec Point Global)) → AreCorners b x y 0 lists
+no_corners b x y lists e e_in edge = absurd (omega (arith, e_in))
+
+-- what a fault of one axis says of both
+pub x_fault : (b : Parts) (fault : CompactFault) → IsAxisFault b 0 fault → IsCompactFault b fault
+x_fault b Wide wide = λ x y ordered.
+    let (v, v_in, far) = wide.1 x (keep_x (web b) x y wide.0 ordered) in
+    (v, v_in, inl far)
+x_fault b Memory fault = tt
+
+pub y_fault : (b : Parts) (fault : CompactFault) → IsAxisFault b 1 fault → IsCompactFault b fault
+y_fault b Wide wide = λ x y ordered.
+    let (v, v_in, far) = wide.1 y (keep_y (web b) x y wide.0 ordered) in
+    (v, v_in, inr far)
+y_fault b Memory fault = tt
+
+-- points that are taken from numbers in order
+pub laid_out : (b : Parts) (x y x1 y1 x2 y2 : List ℕ) (vertices : List Point) (corners : List (Vec Point Global)) →
+    x1 ≡ x → y1 ≡ y → x2 ≡ x → y2 ≡ y → IsSound (web b) → IsAlong (web b) 0 (λ v. slice_index x v) → IsAlong (web b) 1 (λ v. slice_index y v) →
+    AreWithin b.vertices (λ v. slice_index x v) → AreWithin b.vertices (λ v. slice_index y v) →
+    vertices ≡ map (point_at (λ v. slice_index x1 v) (λ v. slice_index y1 v)) (range_with_len 0 b.old) → length corners ≡ length b.edges →
+    AreCorners b (λ v. slice_index x2 v) (λ v. slice_index y2 v) (length b.edges) corners →
+    AreLaidOut b (record { vertices = vertices; corners = point_lists corners })
+laid_out b x y x1 y1 x2 y2 vertices corners sx1 sy1 sx2 sy2 sound along_x along_y within_x within_y at_vertices count at_corners =
+    record {
+      x = λ v. slice_index x v;
+      y = λ v. slice_index y v;
+      ordered = in_order (web b) (λ v. slice_index x v) (λ v. slice_index y v) sound along_x along_y;
+      x_within = within_x;
+      y_within = within_y;
+      taken = record {
+        vertices = at_vertices ∙ ap (λ (xs : List ℕ). map (point_at (λ v. slice_index xs v) (λ v. slice_index y1 v)) (range_with_len 0 b.old)) sx1
+            ∙ ap (λ (ys : List ℕ). map (point_at (λ v. slice_index x v) (λ v. slice_index ys v)) (range_with_len 0 b.old)) sy1;
+        count = length-map corners (λ (u : Vec Point Global). u.items) ∙ count;
+        corners = subst (λ (ys : List ℕ). AreCorners b (λ v. slice_index x v) (λ v. slice_index ys v) (length b.edges) corners) sy2
+            (subst (λ (xs : List ℕ). AreCorners b (λ v. slice_index xs v) (λ v. slice_index y2 v) (length b.edges) corners) sx2 at_corners);
+      };
+    }
