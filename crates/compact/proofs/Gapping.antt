@@ -1,11 +1,11 @@
 -- How the gaps of a dissection are gathered, dart by dart.
-use Rattle.std.proofs.Common.{◌≡◌, ◌≢◌, ℕ, ◌+◌, ◌<◌, ◌≤◌, ◌⊎◌, List, [], ◌∷◌, ◌++◌, length, All, Option, Some, None, arith, subst, sym, refl, ◌∙◌, inl, inr}
+use Rattle.std.proofs.Common.{◌≡◌, ◌≢◌, ℕ, ◌+◌, ◌<◌, ◌≤◌, ◌⊎◌, List, [], ◌∷◌, ◌++◌, Option, Some, None, arith, subst, sym, refl, ◌∙◌, inl, inr}
 use Rattle.std.proofs.lemmas.Bool.{cases_eq}
 use Rattle.std.proofs.lemmas.Option.{none-some, same_Some}
 use Rattle.std.proofs.lemmas.List.Elements.{All-append, All-cons, All-nil, All-pop}
 use Rattle.cutting.specs.Webs.{Web, IsSound}
 use Rattle.compact.specs.declared.gaps.Gap.{Gap}
-use Rattle.compact.specs.Gaps.{Keeps, AreInside}
+use Rattle.compact.specs.Gaps.{Keeps}
 use Rattle.compact.specs.Ordered.{tail, IsAlong, AreAlong}
 
 -- a dart forward or across adds its gap
@@ -117,5 +117,5 @@ pub one_pushed : (w : Web) (k d : ℕ) (gaps items : List Gap) (gap : Gap) → I
 one_pushed w k d gaps items gap sound d_in from to kind pushed along =
     subst (AreAlong w k (d + 1)) (sym pushed)
     (subst (λ (a : ℕ). AreAlong w k (d + 1) (gaps ++ (record { from = a; to = gap.to; least = gap.least } ∷ []))) (sym from)
-      (subst (λ (b : ℕ). AreAlong w k (d + 1) (gaps ++ (record { from = tail w d; to = b; least = gap.least } ∷ []))) (sym to)
-        (one_more w k d gaps gap.least sound d_in kind along)))
+    (subst (λ (b : ℕ). AreAlong w k (d + 1) (gaps ++ (record { from = tail w d; to = b; least = gap.least } ∷ []))) (sym to)
+    (one_more w k d gaps gap.least sound d_in kind along)))

@@ -1,5 +1,5 @@
 -- Directions and their numbers.
-use Rattle.std.proofs.Common.{◌≡◌, ℕ, refl, arith}
+use Rattle.std.proofs.Common.{◌≡◌, refl, arith}
 use Rattle.directions.specs.declared.Direction.{Direction}
 use Rattle.directions.specs.declared.Direction.TheVariants.{East, North, West, South}
 use Rattle.dissect.specs.Boxes.{number_of}

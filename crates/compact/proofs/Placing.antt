@@ -1,5 +1,5 @@
 -- Numbers in order, axis by axis, and the points that are taken from them.
-use Rattle.std.proofs.Common.{◌≡◌, ◌≢◌, ℕ, ◌+◌, ◌-◌, ◌%◌, ◌<◌, ◌≤◌, ◌∙◌, List, [], ◌∷◌, ◌++◌, Vec, Global, length, map, get_or, slice_index, arith, subst, sym, ap, inl, inr}
+use Rattle.std.proofs.Common.{◌≡◌, ℕ, ◌+◌, ◌%◌, ◌<◌, ◌≤◌, ◌∙◌, List, [], ◌∷◌, ◌++◌, Vec, Global, length, map, get_or, slice_index, arith, subst, sym, ap, inl, inr}
 use Rattle.std.proofs.lemmas.Bool.{cases_eq}
 use Rattle.std.proofs.lemmas.List.{map_push, length-map, get_or_push, get_or_append_left}
 use Rattle.cutting.specs.Webs.{Web, IsSound}
@@ -20,19 +20,19 @@ turned_round w a sound a_in = ap w.head (sound.linked.twin_back a a_in)
 pub in_order : (w : Web) (x y : ℕ → ℕ) → IsSound w → IsAlong w 0 x → IsAlong w 1 y → IsOrdered w x y
 in_order w x y sound along_x along_y = record {
   east = λ a a_in way.
-    let back : w.direction (w.twin a) ≡ 2 = sound.straight a a_in ∙ ap (λ (d : ℕ). (d + 2) % 4) way in
-    let twin_in = sound.linked.twin_in a a_in in
-    let there : y (tail w a) ≤ y (w.head a) = along_y.across a a_in (λ e. omega (arith, e, way)) (λ e. omega (arith, e, way)) in
-    let home : y (tail w (w.twin a)) ≤ y (w.head (w.twin a)) = along_y.across (w.twin a) twin_in (λ e. omega (arith, e, back)) (λ e. omega (arith, e, back)) in
-    let same : y (tail w (w.twin a)) ≡ y (w.head a) = ap y (turned_round w a sound a_in) in
-    (omega (arith, along_x.forward a a_in way), omega (arith, there, home, same));
+      let back : w.direction (w.twin a) ≡ 2 = sound.straight a a_in ∙ ap (λ (d : ℕ). (d + 2) % 4) way in
+      let twin_in = sound.linked.twin_in a a_in in
+      let there : y (tail w a) ≤ y (w.head a) = along_y.across a a_in (λ e. omega (arith, e, way)) (λ e. omega (arith, e, way)) in
+      let home : y (tail w (w.twin a)) ≤ y (w.head (w.twin a)) = along_y.across (w.twin a) twin_in (λ e. omega (arith, e, back)) (λ e. omega (arith, e, back)) in
+      let same : y (tail w (w.twin a)) ≡ y (w.head a) = ap y (turned_round w a sound a_in) in
+      (omega (arith, along_x.forward a a_in way), omega (arith, there, home, same));
   north = λ a a_in way.
-    let back : w.direction (w.twin a) ≡ 3 = sound.straight a a_in ∙ ap (λ (d : ℕ). (d + 2) % 4) way in
-    let twin_in = sound.linked.twin_in a a_in in
-    let there : x (tail w a) ≤ x (w.head a) = along_x.across a a_in (λ e. omega (arith, e, way)) (λ e. omega (arith, e, way)) in
-    let home : x (tail w (w.twin a)) ≤ x (w.head (w.twin a)) = along_x.across (w.twin a) twin_in (λ e. omega (arith, e, back)) (λ e. omega (arith, e, back)) in
-    let same : x (tail w (w.twin a)) ≡ x (w.head a) = ap x (turned_round w a sound a_in) in
-    (omega (arith, along_y.forward a a_in way), omega (arith, there, home, same));
+      let back : w.direction (w.twin a) ≡ 3 = sound.straight a a_in ∙ ap (λ (d : ℕ). (d + 2) % 4) way in
+      let twin_in = sound.linked.twin_in a a_in in
+      let there : x (tail w a) ≤ x (w.head a) = along_x.across a a_in (λ e. omega (arith, e, way)) (λ e. omega (arith, e, way)) in
+      let home : x (tail w (w.twin a)) ≤ x (w.head (w.twin a)) = along_x.across (w.twin a) twin_in (λ e. omega (arith, e, back)) (λ e. omega (arith, e, back)) in
+      let same : x (tail w (w.twin a)) ≡ x (w.head a) = ap x (turned_round w a sound a_in) in
+      (omega (arith, along_y.forward a a_in way), omega (arith, there, home, same));
 }
 
 -- numbers in order keep the axis x

@@ -1,9 +1,9 @@
 -- Walking back along an edge, from its last dart to its first.
-use Rattle.std.proofs.Common.{◌≡◌, ◌≢◌, ℕ, zero, suc, ◌+◌, ◌<◌, ◌≤◌, ◌∙◌, ◌==◌, ◌⊎◌, Bool, true, false, List, [], ◌∷◌, ◌++◌, length, reverse, map, eqb, cond, if◌then◌else◌, arith, subst, sym, ap, refl, inl, inr, append_assoc, append-nil, ◌||◌, ◌↔◌, ◌%◌, ◌-◌}
+use Rattle.std.proofs.Common.{◌≡◌, ◌≢◌, ℕ, zero, suc, ◌<◌, ◌≤◌, ◌∙◌, ◌==◌, Bool, true, false, List, [], ◌∷◌, ◌++◌, length, reverse, map, eqb, if◌then◌else◌, arith, subst, sym, ap, refl, inl, inr, append_assoc, append-nil, ◌||◌, ◌↔◌}
 use mathlib.Core.List.{reverse_aux}
 use Rattle.std.specs.List.{list_any, IsDistinct, AllByRecursion}
 use Rattle.std.proofs.lemmas.Grind.{reverse_onto}
-use Rattle.std.proofs.lemmas.Bool.{cases_eq, eqb-true, eqb-false, ne_eqb, eq-eqb, cond-true, cond-false, false≢true}
+use Rattle.std.proofs.lemmas.Bool.{cases_eq, ne_eqb, eq-eqb, cond-true, cond-false, false≢true}
 use Rattle.std.proofs.lemmas.Map.Steps.{length-le_from_distinct_below}
 use Rattle.cutting.specs.Webs.{Web, no_dart, IsSound}
 use Rattle.cutting.specs.Faces.{last_of, Below, In}
@@ -181,7 +181,7 @@ pub walk_ends : (w : Web) (last dart : ℕ) (met : List ℕ) → w.darts ≤ no_
 walk_ends w last dart met few is walk first rest path =
     let none : walk.front ≡ [] = one_back w dart walk.front [] few walk.front_back is in
     let met_all : met ≡ places_back w last walk.all =
-        sym (append-nil met) ∙ ap (λ (fs : List ℕ). met ++ places_back w dart fs) (sym none) ∙ walk.places in
+    sym (append-nil met) ∙ ap (λ (fs : List ℕ). met ++ places_back w dart fs) (sym none) ∙ walk.places in
     let same : walk.all ≡ behind first [] rest = one_back w last walk.all (behind first [] rest) few walk.all_back (path_back w last first rest path) in
     ap reverse (met_all ∙ ap (places_back w last) same)
     ∙ subst (λ (d : ℕ). reverse (places_back w d (behind first [] rest)) ≡ turning_places w first rest) path.ends (path_places w first rest)

@@ -1,8 +1,8 @@
 -- How widening one gap, and then all gaps, keeps the numbers low.
-use Rattle.std.proofs.Common.{◌≡◌, ◌≢◌, ℕ, ◌+◌, ◌-◌, ◌<◌, ◌≤◌, ◌∙◌, List, [], ◌∷◌, length, slice_index, slice_set, get_or, set, take, All, arith, subst, sym, ap, refl, inl, inr, get_or-set_same, get_or-set_other}
+use Rattle.std.proofs.Common.{◌≡◌, ℕ, ◌+◌, ◌-◌, ◌<◌, ◌≤◌, ◌∙◌, List, length, slice_index, get_or, set, take, arith, subst, sym, ap, inl, inr, get_or-set_same, get_or-set_other}
 use Rattle.std.proofs.lemmas.Bool.{cases_eq}
 use Rattle.std.proofs.lemmas.List.{length-set, take_all}
-use Rattle.std.proofs.lemmas.List.Elements.{All-more, All-get_or}
+use Rattle.std.proofs.lemmas.List.Elements.{All-more}
 use Rattle.sums.specs.Sums.{sum_below}
 use Rattle.sums.proofs.Sums.{sum_below-lt}
 use Rattle.compact.specs.declared.gaps.Gap.{Gap}
@@ -47,16 +47,16 @@ slack_falls old new to need to_in made less most =
     let size : length new ≡ length old = ap length made ∙ length-set old to need in
     subst (λ (n : ℕ). sum_below n (λ v. 65535 - at new v) < sum_below (length old) (λ v. 65535 - at old v)) (sym size)
     (sum_below-lt (length old) to (λ v. 65535 - at new v) (λ v. 65535 - at old v) to_in
-      (λ v v_in. elim (cases_eq to v) [
-        | inl same ↦
-            let here : at new v ≡ need = ap (λ xs. at xs v) made ∙ subst (λ (k : ℕ). at (set old to need) k ≡ need) same (get_or-set_same old to need 0 to_in) in
-            let was : at old v ≡ at old to = ap (at old) (sym same) in
-            omega (arith, here, was, less)
-        | inr other ↦
-            let here : at new v ≡ at old v = ap (λ xs. at xs v) made ∙ get_or-set_other old to v need 0 (λ e. other (sym e)) in
-            omega (arith, here)
-      ])
-      (let here : at new to ≡ need = ap (λ xs. at xs to) made ∙ get_or-set_same old to need 0 to_in in omega (arith, here, less, most)))
+    (λ v v_in. elim (cases_eq to v) [
+      | inl same ↦
+          let here : at new v ≡ need = ap (λ xs. at xs v) made ∙ subst (λ (k : ℕ). at (set old to need) k ≡ need) same (get_or-set_same old to need 0 to_in) in
+          let was : at old v ≡ at old to = ap (at old) (sym same) in
+          omega (arith, here, was, less)
+      | inr other ↦
+          let here : at new v ≡ at old v = ap (λ xs. at xs v) made ∙ get_or-set_other old to v need 0 (λ e. other (sym e)) in
+          omega (arith, here)
+    ])
+    (let here : at new to ≡ need = ap (λ xs. at xs to) made ∙ get_or-set_same old to need 0 to_in in omega (arith, here, less, most)))
 
 -- where a number would pass 65,535, all numbers that keep the gaps do
 pub is_wide : (gaps : List Gap) (i : ℕ) (d : Gap) (now : List ℕ) (n : ℕ) → i < length gaps → (get_or gaps i d).to < n → (get_or gaps i d).from < n →
@@ -92,7 +92,7 @@ goes_on gaps i d old now new found Kept i_in inside under widened size =
     still gaps i d old now new Kept i_in stands widened = (
       widened.0 ∙ stands.0,
       subst (λ (xs : List ℕ). Keeps (take (i + 1) gaps) (at xs)) (sym widened.0)
-      (All-more (λ gap. at now gap.from + gap.least ≤ at now gap.to) gaps i d i_in stands.1 widened.1),
+          (All-more (λ gap. at now gap.from + gap.least ≤ at now gap.to) gaps i d i_in stands.1 widened.1),
     )
     still gaps i d old now new Raised i_in stands widened = subst (λ (xs : List ℕ). slack xs < slack old) (sym widened.0) stands
     still gaps i d old now new Wide i_in stands widened = stands

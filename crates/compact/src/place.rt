@@ -14,7 +14,12 @@ use ortho_rep::{Point, Points};
 use std::alloc::{AllocError, Global};
 
 /// The points of the plane's vertices.
-fn vertex_points(alloc: Global, boxes: &Boxes, x: &[u16], y: &[u16]) -> Result<Vec<Point>, AllocError>
+fn vertex_points(
+    alloc: Global,
+    boxes: &Boxes,
+    x: &[u16],
+    y: &[u16],
+) -> Result<Vec<Point>, AllocError>
     requires x_in { length x.now ≡ boxes.now.vertices }
     requires y_in { length y.now ≡ boxes.now.vertices }
     ensures { IfOk result (λ points. points.items
@@ -28,7 +33,12 @@ fn vertex_points(alloc: Global, boxes: &Boxes, x: &[u16], y: &[u16]) -> Result<V
 }
 
 /// The corner points of each edge.
-fn corner_lists(alloc: Global, boxes: &Boxes, x: &[u16], y: &[u16]) -> Result<Vec<Vec<Point>>, AllocError>
+fn corner_lists(
+    alloc: Global,
+    boxes: &Boxes,
+    x: &[u16],
+    y: &[u16],
+) -> Result<Vec<Vec<Point>>, AllocError>
     requires x_in { length x.now ≡ boxes.now.vertices }
     requires y_in { length y.now ≡ boxes.now.vertices }
     ensures count { IfOk result (λ lists. length lists.items ≡ length boxes.now.edges) }

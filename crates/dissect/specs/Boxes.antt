@@ -1,5 +1,5 @@
 -- What callers see of `Boxes`: a drawing in four directions, and which of its parts are those of a plane.
-use Rattle.std.specs.Prelude.{◌≡◌, ℕ, ◌+◌, ◌<◌, ◌≤◌, List, length, slice_index}
+use Rattle.std.specs.Prelude.{ℕ, ◌<◌, ◌≤◌, List, length, slice_index}
 use Rattle.directions.specs.declared.Direction.{Direction}
 use Rattle.directions.specs.declared.Direction.TheVariants.{East, North, West, South}
 use Rattle.cutting.specs.declared.table.DartTable.{DartTable}

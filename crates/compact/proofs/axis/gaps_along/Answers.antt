@@ -1,4 +1,4 @@
-use Rattle.std.proofs.Common.{◌≡◌, ◌≢◌, ◌+◌, ◌∙◌, ◌⊎◌, ◌<◌, ℕ, Vec, Global, Some, None, arith, subst, sym, ap}
+use Rattle.std.proofs.Common.{◌≡◌, ◌≢◌, ◌+◌, ◌∙◌, ◌⊎◌, ◌<◌, ℕ, Vec, Global, arith, subst, sym, ap}
 use Rattle.compact.specs.declared.gaps.Gap.{Gap}
 use Rattle.compact.specs.Ordered.{AreAlong, growth}
 use Rattle.dissect.specs.Boxes.{web, number_of}
@@ -18,9 +18,9 @@ loop-dart-preserved c =
       | in-Some+in_ok-push b ↦
           let kind = gap_found (number_of c.direction.result) k b.in-Some.least c.least_gap.result c.least_gap.ensures.forward c.least_gap.ensures.back c.least_gap.ensures.across b.in-Some.is in
           one_pushed w k d c.loop-dart.gaps.items c.match-least_gap.gaps.items (record { from = b.head-from.result; to = b.head-to.result; least = b.in-Some.least })
-            boxes.sound d_in (b.head-from.ensures.value ∙ ap w.head b.reverse.ensures.value) b.head-to.ensures.value
-            (subst (λ (n : ℕ). ((n ≡ k) × (b.in-Some.least ≡ 1)) ⊎ ((n ≢ k) × (n ≢ k + 2) × (b.in-Some.least ≡ 0))) way kind)
-            (ap (λ (v : Vec Gap Global). v.items) b.gaps-is ∙ b.in_ok-push.ensures.items) c.loop-dart.invariant
+          boxes.sound d_in (b.head-from.ensures.value ∙ ap w.head b.reverse.ensures.value) b.head-to.ensures.value
+          (subst (λ (n : ℕ). ((n ≡ k) × (b.in-Some.least ≡ 1)) ⊎ ((n ≢ k) × (n ≢ k + 2) × (b.in-Some.least ≡ 0))) way kind)
+          (ap (λ (v : Vec Gap Global). v.items) b.gaps-is ∙ b.in_ok-push.ensures.items) c.loop-dart.invariant
       | in_default b ↦
           subst (λ (v : Vec Gap Global). AreAlong w k (d + 1) v.items) (sym b.gaps-is)
           (none_more w k d c.loop-dart.gaps.items (sym way ∙ no_gap_found (number_of c.direction.result) k c.least_gap.result c.least_gap.ensures.forward c.least_gap.ensures.across b.in_default.is) c.loop-dart.invariant)

@@ -1,4 +1,4 @@
-use Rattle.std.proofs.Common.{◌≡◌, ◌∙◌, ℕ, List, length, slice_index, subst, sym, refl, arith}
+use Rattle.std.proofs.Common.{◌≡◌, ℕ, List, length, slice_index, subst, sym, refl, arith}
 use Rattle.std.proofs.lemmas.List.{take_at}
 use Rattle.compact.specs.declared.gaps.Gap.{Gap}
 use Rattle.compact.specs.Gaps.{Keeps}
@@ -8,10 +8,13 @@ use Rattle.compact.proofs.Gapping.{all_along}
 use Rattle.compact.proofs.axis.numbers_along.Goals as goal
 
 pub returns-then-not-settled-clause-fault : goal.returns-then-not-settled-clause-fault
-returns-then-not-settled-clause-fault c = (c.vertices.ensures.boxes.sound, λ x along.
-    let keeps = subst (λ (gs : List Gap). Keeps gs x) (sym c.deref.ensures.value) (c.in-Ok.ensures.no_more x along) in
-    let (v, v_in, far) = c.if-not-settled.ensures.wide refl x keeps in
-    (v, omega (arith, v_in, c.vertices.ensures.value, c.in-Ok-vec.ensures.len, c.deref_mut.ensures.len), far))
+returns-then-not-settled-clause-fault c = (
+  c.vertices.ensures.boxes.sound,
+  λ x along.
+      let keeps = subst (λ (gs : List Gap). Keeps gs x) (sym c.deref.ensures.value) (c.in-Ok.ensures.no_more x along) in
+      let (v, v_in, far) = c.if-not-settled.ensures.wide refl x keeps in
+      (v, omega (arith, v_in, c.vertices.ensures.value, c.in-Ok-vec.ensures.len, c.deref_mut.ensures.len), far),
+)
 
 pub returns-clause-along : goal.returns-clause-along
 returns-clause-along c =

@@ -2,7 +2,7 @@ use Rattle.std.proofs.Common.{◌≡◌, ◌<◌, ◌∙◌, ℕ, List, [], ◌�
 use Rattle.std.proofs.lemmas.Bool.{cases_eq, both_ways}
 use Rattle.std.proofs.lemmas.List.{map_push}
 use Rattle.ortho_rep.specs.declared.points.Point.{Point}
-use Rattle.cutting.specs.Paths.{IsPath, turn_to, turning_places}
+use Rattle.cutting.specs.Paths.{turn_to}
 use Rattle.dissect.specs.Boxes.{web}
 use Rattle.compact.specs.Ordered.{point_at}
 use Rattle.compact.proofs.Walking.{IsWalking, walk_starts, walk_more, walk_ends, path_last_in, met_turn, met_straight, map-reverse}

@@ -1,5 +1,5 @@
-use Rattle.std.proofs.Common.{◌≡◌, ◌∙◌, ◌↔◌, Bool, true, false, IsTrue, sym, subst, ap, refl, inl, inr}
-use Rattle.std.proofs.lemmas.Bool.{cases_Bool, false≢true}
+use Rattle.std.proofs.Common.{◌∙◌, sym, ap, inl, inr}
+use Rattle.std.proofs.lemmas.Bool.{cases_Bool}
 use denote.Enum.Bare.{differs_true, differs_false}
 use Rattle.directions.specs.contracts.Direction.{the_type}
 use Rattle.dissect.specs.Boxes.{web, number_of}
@@ -11,8 +11,8 @@ pub returns : goal.returns
 returns c =
     let same = same_way (web c.args.boxes.now) c.args.front c.args.dart c.direction.ensures.boxes.sound c.requires.front c.requires.dart in (
       λ differs straight.
-        let one = one_number c.direction.result c.direction-2.result (c.direction.ensures.value ∙ same.0 straight ∙ sym c.direction-2.ensures.value) in
-        differs_true the_type c.direction.result c.direction-2.result (sym c.ne.ensures ∙ differs) one,
+          let one = one_number c.direction.result c.direction-2.result (c.direction.ensures.value ∙ same.0 straight ∙ sym c.direction-2.ensures.value) in
+          differs_true the_type c.direction.result c.direction-2.result (sym c.ne.ensures ∙ differs) one,
       λ turns. elim (cases_Bool c.ne.result) [
         | inl so ↦ so
         | inr not_so ↦

@@ -1,5 +1,4 @@
-use Rattle.std.proofs.Common.{◌≡◌, ℕ, ◌<◌, ◌∙◌, List, length, subst, sym, arith}
-use Rattle.compact.specs.Gaps.{IsLow}
+use Rattle.std.proofs.Common.{◌∙◌, arith}
 use Rattle.compact.proofs.gaps.settle.Goals as goal
 
 pub returns-in-Kept-clause-least : goal.returns-in-Kept-clause-least

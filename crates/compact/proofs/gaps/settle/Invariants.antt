@@ -1,4 +1,4 @@
-use Rattle.std.proofs.Common.{◌≡◌, ◌<◌, length, slice_index, ℕ}
+use Rattle.std.proofs.Common.{◌≡◌, length, slice_index}
 use Rattle.compact.specs.Gaps.{IsLow, slack}
 use Rattle.compact.proofs.gaps.settle.Given as goal
 

@@ -1,5 +1,4 @@
-use Rattle.std.proofs.Common.{◌≡◌, ℕ, ◌+◌, List, sym, subst, arith}
-use Rattle.compact.specs.declared.gaps.Gap.{Gap}
+use Rattle.std.proofs.Common.{◌+◌, sym, subst, arith}
 use Rattle.compact.specs.declared.gaps.Look.{Look}
 use Rattle.compact.specs.declared.gaps.Look.TheVariants.{Kept, Raised, Wide}
 use Rattle.compact.proofs.Widening.{IsUnderWay, goes_on, ends_up, no_gap}

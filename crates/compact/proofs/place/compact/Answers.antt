@@ -1,9 +1,6 @@
-use Rattle.std.proofs.Common.{◌≡◌, ◌∙◌, ◌<◌, ℕ, List, Vec, Global, map, length, slice_index, subst, sym, ap, arith}
-use Rattle.std.specs.List.{range_with_len}
-use Rattle.ortho_rep.specs.declared.points.Point.{Point}
-use Rattle.ortho_rep.specs.Points.{Plot, point_lists}
-use Rattle.compact.specs.Ordered.{AreLaidOut, AreCorners, point_at}
-use Rattle.compact.proofs.Placing.{in_order, x_fault, y_fault, laid_out}
+use Rattle.std.proofs.Common.{subst, sym}
+use Rattle.compact.specs.Ordered.{AreLaidOut}
+use Rattle.compact.proofs.Placing.{x_fault, y_fault, laid_out}
 use Rattle.compact.proofs.place.compact.Goals as goal
 
 pub returns-in-Err-clause-fault : goal.returns-in-Err-clause-fault
@@ -16,6 +13,6 @@ pub returns-clause-laid : goal.returns-clause-laid
 returns-clause-laid c =
     subst (AreLaidOut c.args.boxes.now) (sym c.new.ensures)
     (laid_out c.args.boxes.now c.in-Ok.x.items c.in-Ok-numbers_along.y.items c.deref.result.now c.deref-2.result.now c.deref-3.result.now c.deref-4.result.now
-      c.in-Ok-vertex_points.vertices.items c.in-Ok-corner_lists.corners.items c.deref.ensures.value c.deref-2.ensures.value c.deref-3.ensures.value c.deref-4.ensures.value
-      c.in-Ok.ensures.sound c.in-Ok.ensures.along c.in-Ok-numbers_along.ensures.along c.in-Ok.ensures.within c.in-Ok-numbers_along.ensures.within
-      c.in-Ok-vertex_points.ensures c.in-Ok-corner_lists.ensures.count c.in-Ok-corner_lists.ensures.corners)
+    c.in-Ok-vertex_points.vertices.items c.in-Ok-corner_lists.corners.items c.deref.ensures.value c.deref-2.ensures.value c.deref-3.ensures.value c.deref-4.ensures.value
+    c.in-Ok.ensures.sound c.in-Ok.ensures.along c.in-Ok-numbers_along.ensures.along c.in-Ok.ensures.within c.in-Ok-numbers_along.ensures.within
+    c.in-Ok-vertex_points.ensures c.in-Ok-corner_lists.ensures.count c.in-Ok-corner_lists.ensures.corners)

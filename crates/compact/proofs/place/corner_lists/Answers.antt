@@ -1,8 +1,6 @@
-use Rattle.std.proofs.Common.{◌≡◌, ◌∙◌, ◌<◌, ℕ, ◌+◌, ◌++◌, [], ◌∷◌, List, Vec, Global, length, length-append, get_or, slice_index, subst, sym, ap, arith}
-use Rattle.ortho_rep.specs.declared.points.Point.{Point}
+use Rattle.std.proofs.Common.{◌∙◌, ℕ, [], ◌∷◌, List, length, length-append, get_or, slice_index, subst, sym, ap, arith}
 use Rattle.cutting.specs.Paths.{IsPath}
-use Rattle.dissect.specs.Boxes.{HasEdge, web}
-use Rattle.compact.specs.Ordered.{AreCorners}
+use Rattle.dissect.specs.Boxes.{web}
 use Rattle.compact.proofs.Placing.{corners_more}
 use Rattle.compact.proofs.place.corner_lists.Goals as goal
 
@@ -21,7 +19,7 @@ loop-last-preserved c =
       count = ap length c.in_ok-push.ensures.items ∙ length-append c.loop-last.lists.items (c.in_ok-corners_along.field-0 ∷ []) ∙ omega (arith, c.loop-last.invariant.count);
       corners = corners_more c.args.boxes.now x y e c.loop-last.lists.items c.push.new.self.items c.in_ok-corners_along.field-0 c.loop-last.invariant.count c.in_ok-push.ensures.items c.loop-last.invariant.corners
           (λ edge. c.in_ok-corners_along.ensures edge.first edge.rest
-            (subst (λ (es : List ℕ). IsPath (web c.args.boxes.now) (get_or es e 0) edge.first edge.rest) (sym c.edges-last-items.ensures.value) edge.path));
+          (subst (λ (es : List ℕ). IsPath (web c.args.boxes.now) (get_or es e 0) edge.first edge.rest) (sym c.edges-last-items.ensures.value) edge.path));
     }
 
 pub returns-clause-corners : goal.returns-clause-corners

@@ -1,4 +1,4 @@
-use Rattle.std.proofs.Common.{◌≡◌, ℕ, length, slice_index}
+use Rattle.std.proofs.Common.{◌≡◌, length, slice_index}
 use Rattle.compact.specs.Ordered.{AreCorners}
 use Rattle.compact.proofs.place.corner_lists.Given as goal
 

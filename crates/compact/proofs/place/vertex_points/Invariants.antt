@@ -1,4 +1,4 @@
-use Rattle.std.proofs.Common.{◌≡◌, ℕ, map, slice_index}
+use Rattle.std.proofs.Common.{◌≡◌, map, slice_index}
 use Rattle.std.specs.List.{range_with_len}
 use Rattle.compact.specs.Ordered.{point_at}
 use Rattle.compact.proofs.place.vertex_points.Given as goal
