@@ -1,0 +1,10 @@
+pub mod Placing
+pub mod Mirroring
+pub mod Owing
+pub mod Turning
+pub mod Stepping
+pub mod Starting
+pub mod Ending
+pub mod Counting
+pub mod Writing
+pub mod Bending

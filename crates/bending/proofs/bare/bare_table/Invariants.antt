@@ -1,0 +1,21 @@
+use Rattle.std.proofs.Common.{◌≡◌, ◌-◌, ◌<◌, ℕ, slice_index}
+use Rattle.faces.specs.Map.{darts, vertices, head, mate, next}
+use Rattle.ortho_rep.specs.Shapes.{angle_at}
+use Rattle.cutting.specs.Webs.{no_dart}
+use Rattle.cutting.specs.Tables.{room}
+use Rattle.bending.proofs.Writing.{IsFilled, IsTurned}
+use Rattle.bending.proofs.bare.bare_table.Given as goal
+
+abbrev pub invariant-darts : goal.invariant-darts
+invariant-darts l = record {
+  nexts : IsFilled l.table.next.items (next l.plane) l.dart;
+  prevs : IsTurned l.table.prev.items (next l.plane) l.dart;
+  twins : IsFilled l.table.twin.items (mate l.plane) l.dart;
+  heads : IsFilled l.table.head.items (λ d. head l.plane d - 1) l.dart;
+  directions : IsFilled l.table.direction.items (slice_index l.directions) l.dart;
+  angles : IsFilled l.table.angle.items (angle_at l.shape) l.dart;
+  befores : (d : ℕ) → d < room l.table → slice_index l.table.before.items d ≡ no_dart;
+  dart_count : l.table.darts ≡ darts l.plane;
+  vertex_count : l.table.vertices ≡ vertices l.plane;
+  same : room l.table ≡ l.places;
+}

@@ -1,0 +1,33 @@
+use Rattle.std.proofs.Common.{◌≡◌, ◌+◌, ◌%◌, ◌<◌, ◌∙◌, ℕ, List, arith, ap, sym, subst}
+use Rattle.std.proofs.lemmas.List.{get_or_read, drop_all}
+use Rattle.ortho_rep.specs.declared.turn.Turn.{Turn}
+use Rattle.cutting.specs.Tables.{web_of}
+use Rattle.bending.specs.Steps.{IsBent, straight, start_way}
+use Rattle.bending.proofs.Bending.{turn_on}
+use Rattle.bending.proofs.edges.bend_edge.Goals as goal
+
+pub turns-preserved : goal.turns-preserved
+turns-preserved c =
+    let t = c.turns.table in
+    let before = c.turns.invariant in
+    let twin_is = get_or_read t.twin.items c.args.e c.index-twin.result.now (omega (arith, before.inside)) c.index-twin.ensures 0 in
+    let twin_in : c.index-twin.result.now < t.darts = omega (arith, twin_is, before.linked.twin_in c.args.e before.inside) in
+    let direction_is = get_or_read t.direction.items c.index-twin.result.now c.index.result.now (omega (arith, twin_in)) c.index.ensures 0 in
+    let way_is : (c.index.result.now + 2) % 4 ≡ start_way (web_of t) c.args.e =
+    ap (λ (k : ℕ). (k + 2) % 4) (direction_is ∙ ap (web_of t).direction twin_is) in
+    let step = turn_on (web_of t) c.args.e _ c.angle_of.result c.args.turns.now c.turns.turn-index _ (web_of c.split.new.self)
+    before.linked before.meeting before.inside c.turns-test.true way_is c.angle_of.ensures c.split.ensures.split in
+    record {
+      linked = step.linked;
+      meeting = step.meeting;
+      inside = omega (arith, before.inside, c.split.ensures.split.darts);
+      count = omega (arith, before.count, c.split.ensures.split.darts);
+      same = c.split.ensures.room ∙ before.same;
+      steps = λ new rest. before.steps new (step.steps new rest);
+    }
+
+pub returns-clause-bent : goal.returns-clause-bent
+returns-clause-bent c =
+    c.turns.invariant.steps (web_of c.turns.table)
+    (subst (λ (ts : List Turn). IsBent c.args.e (web_of c.turns.table) ts (web_of c.turns.table))
+    (sym (drop_all c.turns.turn-index c.args.turns.now c.turns-test.false)) (straight (web_of c.turns.table)))

@@ -1,0 +1,28 @@
+-- How a web gets its bends: one split a turn, edge by edge.
+use Rattle.std.specs.Prelude.{ℕ, ◌+◌, ◌%◌, ◌<◌, ◌≤◌, List, [], ◌∷◌}
+use Rattle.faces.specs.Map.{Map, darts, mate}
+use Rattle.ortho_rep.specs.declared.turn.Turn.{Turn}
+use Rattle.ortho_rep.specs.declared.turn.Turn.TheVariants.{Left, Right}
+use Rattle.cutting.specs.Webs.{Web, IsSplit}
+
+-- the angle on the left of a walk that makes this turn, in right angles
+abbrev pub angle_of : Turn → ℕ
+angle_of Left = 1
+angle_of Right = 3
+
+-- the direction in which the walk along e sets out: opposite to that in which e's twin arrives
+abbrev pub start_way : Web → ℕ → ℕ
+start_way w e = (w.direction (w.twin e) + 2) % 4
+
+-- the edge of the dart e gets these turns, in walking order
+pub data IsBent (e : ℕ) : Web → List Turn → Web → Type 0 where
+  straight : (w : Web) → IsBent e w [] w
+  turned : (w mid new : Web) (turn : Turn) (turns : List Turn) → IsSplit w e (start_way w e) (angle_of turn) mid
+      → IsBent e mid turns new → IsBent e w (turn ∷ turns) new
+
+-- each edge of the plane p whose lesser dart is k or comes behind k gets the turns of that dart
+pub data AreBent (p : Map) (s : ℕ → List Turn) : ℕ → Web → Web → Type 0 where
+  finished : (k : ℕ) (w : Web) → darts p ≤ k → AreBent p s k w w
+  passed : (k : ℕ) (w new : Web) → mate p k ≤ k → AreBent p s (k + 1) w new → AreBent p s k w new
+  bent : (k : ℕ) (w mid new : Web) → k < darts p → k < mate p k → IsBent k w (s k) mid → AreBent p s (k + 1) mid new
+      → AreBent p s k w new

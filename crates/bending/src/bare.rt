@@ -1,0 +1,112 @@
+//! The table of a plane's darts before the edges have bends.
+
+ghost use Rattle.std.specs.Prelude.{◌≡◌, ◌+◌, ◌-◌, ◌*◌, ◌<◌, ◌≤◌, ℕ, IfOk, length, slice_index, slice_set};
+ghost use Rattle.sums.specs.Sums.{sum_below};
+ghost use Rattle.faces.specs.Map.{darts, vertices, head, mate, next};
+ghost use Rattle.ortho_rep.specs.Shapes.{angle_at, turns_at};
+ghost use Rattle.ortho_rep.specs.Representation.{HasDarts};
+ghost use Rattle.cutting.specs.Tables.{web_of, room};
+ghost use Rattle.bending.specs.Bare.{IsBare, IsBlank};
+
+use cutting::{DartTable, NO_DART};
+use faces::Plane;
+use ortho_rep::Shape;
+use std::alloc::{AllocError, Global};
+
+/// How many darts the table of a shape is to have room for: two for each bend, four for each right
+/// turn that it may have, and 24 for a rectangle round it. A step for each dart.
+pub fn room_for(plane: &Plane, shape: &Shape) -> u32
+    requires { HasDarts plane.now shape.now }
+    ensures { let turns = sum_below (darts plane.now) (λ d. length (turns_at shape.now d)) in
+        result ≡ darts plane.now + 3 * turns + 8 * vertices plane.now + 24 }
+{
+    let graph = plane.graph();
+    let mut turns = 0;
+    'darts: for dart in 0..graph.darts() {
+        turns += shape.turns(dart).len() as u32;
+    }
+    u32::from(graph.darts()) + 3 * turns + 8 * u32::from(graph.vertices()) + 24
+}
+
+/// A table of so many darts and vertices, of which nothing is written yet, with no dart in front of
+/// another.
+fn blank_table(
+    alloc: Global,
+    darts: u32,
+    vertices: u32,
+    places: u32,
+) -> Result<DartTable, AllocError>
+    requires space { darts ≤ places }
+    requires few { vertices ≤ darts }
+    ensures { IfOk result (IsBlank darts vertices places) }
+{
+    let places = places as usize;
+    Ok(DartTable {
+        next: vec![in alloc; 0; places]?,
+        prev: vec![in alloc; 0; places]?,
+        twin: vec![in alloc; 0; places]?,
+        head: vec![in alloc; 0; places]?,
+        before: vec![in alloc; NO_DART; places]?,
+        direction: vec![in alloc; 0; places]?,
+        angle: vec![in alloc; 0; places]?,
+        darts,
+        vertices,
+    })
+}
+
+/// Writes what the table holds of a dart: its next, its reverse, its head, its direction and its angle;
+/// and the dart as the previous one of its next.
+fn write_dart(table: &mut DartTable, plane: &Plane, shape: &Shape, directions: &[u8], dart: u16)
+    requires within { dart < darts plane.now }
+    requires space { darts plane.now ≤ room table.old }
+    requires shape { HasDarts plane.now shape.now }
+    requires directions { length directions.now ≡ darts plane.now }
+    ensures next { table.new.next.items ≡ slice_set table.old.next.items dart (next plane.now dart) }
+    ensures prev { table.new.prev.items ≡ slice_set table.old.prev.items (next plane.now dart) dart }
+    ensures twin { table.new.twin.items ≡ slice_set table.old.twin.items dart (mate plane.now dart) }
+    ensures head { table.new.head.items ≡ slice_set table.old.head.items dart (head plane.now dart - 1) }
+    ensures direction { table.new.direction.items
+        ≡ slice_set table.old.direction.items dart (slice_index directions.now dart) }
+    ensures angle { table.new.angle.items
+        ≡ slice_set table.old.angle.items dart (angle_at shape.now dart) }
+    ensures before { table.new.before.items ≡ table.old.before.items }
+    ensures darts { table.new.darts ≡ table.old.darts }
+    ensures vertices { table.new.vertices ≡ table.old.vertices }
+    ensures room { room table.new ≡ room table.old }
+{
+    let graph = plane.graph();
+    let place = usize::from(dart);
+    let next = plane.next(dart);
+    table.next[place] = u32::from(next);
+    table.prev[usize::from(next)] = u32::from(dart);
+    table.twin[place] = u32::from(graph.reverse(dart));
+    table.head[place] = u32::from(graph.head(dart)) - 1;
+    table.direction[place] = directions[place];
+    table.angle[place] = shape.angle(dart);
+}
+
+/// The table of a plane's darts with these directions and the angles of the shape, and with so much
+/// room. One allocation for each of its arrays; a step for each place of them.
+pub fn bare_table(
+    alloc: Global,
+    plane: &Plane,
+    shape: &Shape,
+    directions: &[u8],
+    places: u32,
+) -> Result<DartTable, AllocError>
+    requires shape { HasDarts plane.now shape.now }
+    requires directions { length directions.now ≡ darts plane.now }
+    requires space { darts plane.now ≤ places }
+    ensures bare { IfOk result (λ t. IsBare plane.now (angle_at shape.now)
+        (slice_index directions.now) (web_of t)) }
+    ensures room { IfOk result (λ t. room t ≡ places) }
+{
+    let graph = plane.graph();
+    let darts = u32::from(graph.darts());
+    let vertices = u32::from(graph.vertices());
+    let mut table = blank_table(alloc, darts, vertices, places)?;
+    'darts: for dart in 0..graph.darts() {
+        write_dart(&mut table, plane, shape, directions, dart);
+    }
+    Ok(table)
+}

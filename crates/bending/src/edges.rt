@@ -1,0 +1,60 @@
+//! The bends of edges.
+
+ghost use Rattle.std.specs.Prelude.{◌≡◌, ◌+◌, ◌*◌, ◌<◌, ◌≤◌, length};
+ghost use Rattle.faces.specs.Map.{darts};
+ghost use Rattle.ortho_rep.specs.Shapes.{turns_at};
+ghost use Rattle.ortho_rep.specs.Representation.{IsShape, bends_of};
+ghost use Rattle.cutting.specs.Webs.{IsLinked, IsMeeting};
+ghost use Rattle.cutting.specs.Tables.{web_of, room};
+ghost use Rattle.bending.specs.Steps.{AreBent, IsBent, angle_of};
+
+use cutting::DartTable;
+use faces::Plane;
+use ortho_rep::{Shape, Turn};
+
+/// The angle on the left of a walk that makes this turn, in right angles.
+fn angle_of(turn: Turn) -> u8
+    ensures { result ≡ angle_of turn }
+{
+    match turn {
+        Turn::Left => 1,
+        Turn::Right => 3,
+    }
+}
+
+/// Splits the edge of the dart `e` at each of these turns, in walking order. Constant time for a turn.
+fn bend_edge(table: &mut DartTable, e: u32, turns: &[Turn])
+    requires linked { IsLinked (web_of table.old) }
+    requires meeting { IsMeeting (web_of table.old) }
+    requires inside { e < table.old.darts }
+    requires space { table.old.darts + 2 * length turns.now ≤ room table.old }
+    ensures bent { IsBent e (web_of table.old) turns.now (web_of table.new) }
+    ensures linked { IsLinked (web_of table.new) }
+    ensures meeting { IsMeeting (web_of table.new) }
+    ensures darts { table.new.darts ≡ table.old.darts + 2 * length turns.now }
+    ensures room { room table.new ≡ room table.old }
+{
+    'turns: for turn in turns {
+        let twin = table.twin[e as usize];
+        let way = (table.direction[twin as usize] + 2) % 4;
+        table.split(e, way, angle_of(*turn));
+    }
+}
+
+/// Gives each edge of the plane the turns of its lesser dart. Linear in the darts and the turns.
+pub fn bend_edges(table: &mut DartTable, plane: &Plane, shape: &Shape)
+    requires linked { IsLinked (web_of table.old) }
+    requires meeting { IsMeeting (web_of table.old) }
+    requires shape { IsShape plane.now shape.now }
+    requires inside { darts plane.now ≤ table.old.darts }
+    requires space { table.old.darts + 2 * bends_of (darts plane.now) (turns_at shape.now) ≤ room table.old }
+    ensures bent { AreBent plane.now (turns_at shape.now) 0 (web_of table.old) (web_of table.new) }
+    ensures room { room table.new ≡ room table.old }
+{
+    let graph = plane.graph();
+    'darts: for dart in 0..graph.darts() {
+        if dart < graph.reverse(dart) {
+            bend_edge(table, u32::from(dart), shape.turns(dart));
+        }
+    }
+}

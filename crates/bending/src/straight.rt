@@ -1,0 +1,52 @@
+//! The whole drawing with straight edges.
+
+ghost use Rattle.std.specs.Prelude.{◌≡◌, ◌+◌, ◌*◌, ◌<◌, ◌≤◌, IfOk, length, slice_index};
+ghost use Rattle.faces.specs.Map.{darts};
+ghost use Rattle.ortho_rep.specs.Shapes.{angle_at, turns_at};
+ghost use Rattle.ortho_rep.specs.Representation.{IsShape};
+ghost use Rattle.headings.specs.Headings.{AreHeadings};
+ghost use Rattle.cutting.specs.Webs.{IsSound, excess};
+ghost use Rattle.cutting.specs.Tables.{web_of, room};
+ghost use Rattle.bending.specs.Bends.{CountsBends, KeepsDarts, KeepsFaces};
+
+use crate::bare::{bare_table, room_for};
+use crate::edges::bend_edges;
+use cutting::DartTable;
+use faces::Plane;
+use ortho_rep::Shape;
+use std::alloc::{AllocError, Global};
+
+/// The drawing of a plane in four directions by an orthogonal representation, with a vertex at each
+/// bend, so that each edge is straight: its darts and vertices, with room for a rectangle round it and
+/// for cuts at all right turns.
+///
+/// The plane's darts keep their numbers, heads, angles and faces; vertex v has the number v - 1. The
+/// directions are counted by quarter turns to the left from east. Linear in the darts and the turns,
+/// with one allocation for each of the table's arrays.
+///
+/// # Errors
+///
+/// `AllocError` where there is no memory for the table.
+pub fn bend(
+    alloc: Global,
+    plane: &Plane,
+    shape: &Shape,
+    directions: &[u8],
+) -> Result<DartTable, AllocError>
+    requires shape { IsShape plane.now shape.now }
+    requires count { length directions.now ≡ darts plane.now }
+    requires headings { AreHeadings plane.now (angle_at shape.now) (turns_at shape.now) (slice_index directions.now) }
+    ensures sound { IfOk result (λ t. IsSound (web_of t)) }
+    ensures darts { IfOk result (λ t. KeepsDarts plane.now (angle_at shape.now) (web_of t)) }
+    ensures directions { IfOk result (λ t. AreHeadings plane.now (angle_at shape.now)
+        (turns_at shape.now) (web_of t).direction) }
+    ensures faces { IfOk result (λ t. KeepsFaces plane.now (web_of t)) }
+    ensures counts { IfOk result (λ t. CountsBends plane.now (turns_at shape.now) (web_of t)) }
+    ensures space { IfOk result (λ t. t.darts + 4 * excess (web_of t) + 24 ≤ room t) }
+{
+    let _graph = plane.graph();
+    let room = room_for(plane, shape);
+    let mut table = bare_table(alloc, plane, shape, directions, room)?;
+    bend_edges(&mut table, plane, shape);
+    Ok(table)
+}
