@@ -61,7 +61,8 @@ impl Gathered {
     /// Leaves room for a line, and puts what waits into the sink where there is none.
     pub fn make_room<S: Sink>(&mut self, sink: &mut S) -> Result<(), WriteFault>
         requires { S.failed sink.old ≡ false }
-        ensures writes { StaysOnItsWay (S.taken sink.old) self.old (S.taken sink.new) self.new (S.failed sink.new) [] result }
+        ensures writes { StaysOnItsWay (S.taken sink.old) self.old (S.taken sink.new) self.new
+            (S.failed sink.new) [] result }
         ensures room { OnOk result (length self.new ≤ 15872) }
     {
         if self.len <= ROOM - LINE {

@@ -22,7 +22,8 @@ pub trait Tap: Drop {
         ensures bound { IfOk result (λ n. n ≤ length buf.new) }
         ensures given { IfOk result (λ n. Consumes (to_come self.old) (to_come self.new) (take n buf.new)) }
 
-        ensures ended { IfOk result (λ n. n ≡ 0 → 0 < length buf.new → IsAtItsEnd (to_come self.old) (fails self.old)) }
+        ensures ended { IfOk result (λ n. n ≡ 0 → 0 < length buf.new
+            → IsAtItsEnd (to_come self.old) (fails self.old)) }
         ensures failed { OnErr result (IsAtItsFailure (to_come self.old) (fails self.old)) }
         ensures stays { OnOk result (fails self.new ≡ fails self.old) };
 }

@@ -32,7 +32,8 @@ fn write_record<S: Sink>(
     framed: &Record,
 ) -> Result<(), WriteFault>
     requires { S.failed sink.old ≡ false }
-    ensures { StaysOnItsWay (S.taken sink.old) lines.old (S.taken sink.new) lines.new (S.failed sink.new) (record_line number framed.now) result }
+    ensures { StaysOnItsWay (S.taken sink.old) lines.old (S.taken sink.new) lines.new
+        (S.failed sink.new) (record_line number framed.now) result }
 {
     lines.make_room(sink)?;
     push_record(lines, number, framed);
@@ -61,7 +62,8 @@ fn write_end<S: Sink>(
     count: u64,
 ) -> Result<(), WriteFault>
     requires { S.failed sink.old ≡ false }
-    ensures { StaysOnItsWay (S.taken sink.old) lines.old (S.taken sink.new) lines.new (S.failed sink.new) (end_line mark count) result }
+    ensures { StaysOnItsWay (S.taken sink.old) lines.old (S.taken sink.new) lines.new
+        (S.failed sink.new) (end_line mark count) result }
 {
     lines.make_room(sink)?;
     push_end(lines, mark, count);

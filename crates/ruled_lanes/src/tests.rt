@@ -86,6 +86,18 @@ fn a_thousand_in_order(rt: HostRuntime) -> Result<(), Fail> {
     pass_through(rt, rt.alloc(), 64)
 }
 
+/// A refused allocation is told, and a second call makes the link.
+#[test]
+fn refused_memory_is_told(rt: HostRuntime) -> Result<(), Fail> {
+    let (mut giver, mut taker) = match link(rt.alloc(), 2) {
+        Ok(ends) => ends,
+        Err(Memory) => link(rt.alloc(), 2)?,
+    };
+    assert_eq!(rt; giver.give(&rt, 5u32), Ok(()));
+    assert_eq!(rt; taker.take(&rt), Ok(5));
+    Ok(())
+}
+
 #[test]
 fn messages(rt: HostRuntime) -> Result<(), Fail> {
     let closed = format!(in rt.alloc(); "{} {:?}", Closed(3), Closed(3))?;
