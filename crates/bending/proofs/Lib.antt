@@ -8,3 +8,4 @@ pub mod Ending
 pub mod Counting
 pub mod Writing
 pub mod Bending
+pub mod Pathing

@@ -1,13 +1,15 @@
 //! The whole drawing with straight edges.
 
-ghost use Rattle.std.specs.Prelude.{◌≡◌, ◌+◌, ◌*◌, ◌<◌, ◌≤◌, IfOk, length, slice_index};
-ghost use Rattle.faces.specs.Map.{darts};
+ghost use Rattle.std.specs.Prelude.{◌≡◌, ◌+◌, ◌*◌, ◌<◌, ◌≤◌, IfOk, length, map, slice_index};
+ghost use Rattle.faces.specs.Map.{darts, mate};
 ghost use Rattle.ortho_rep.specs.Shapes.{angle_at, turns_at};
 ghost use Rattle.ortho_rep.specs.Representation.{IsShape};
 ghost use Rattle.headings.specs.Headings.{AreHeadings};
 ghost use Rattle.cutting.specs.Webs.{IsSound, excess};
 ghost use Rattle.cutting.specs.Tables.{web_of, room};
+ghost use Rattle.cutting.specs.Paths.{HasPaths, IsJoined};
 ghost use Rattle.bending.specs.Bends.{CountsBends, KeepsDarts, KeepsFaces};
+ghost use Rattle.bending.specs.Steps.{angle_of};
 
 use crate::bare::{bare_table, room_for};
 use crate::edges::bend_edges;
@@ -20,8 +22,9 @@ use std::alloc::{AllocError, Global};
 /// bend, so that each edge is straight: its darts and vertices, with room for a rectangle round it and
 /// for cuts at all right turns.
 ///
-/// The plane's darts keep their numbers, heads, angles and faces; vertex v has the number v - 1. The
-/// directions are counted by quarter turns to the left from east. Linear in the darts and the turns,
+/// The plane's darts keep their numbers, heads, angles and faces; vertex v has the number v - 1. Each of
+/// them is the last dart of its edge: `before` leads back along the edge, which turns as its string says.
+/// The directions are counted by quarter turns to the left from east. Linear in the darts and the turns,
 /// with one allocation for each of the table's arrays.
 ///
 /// # Errors
@@ -42,6 +45,9 @@ pub fn bend(
         (turns_at shape.now) (web_of t).direction) }
     ensures faces { IfOk result (λ t. KeepsFaces plane.now (web_of t)) }
     ensures counts { IfOk result (λ t. CountsBends plane.now (turns_at shape.now) (web_of t)) }
+    ensures paths { IfOk result (λ t. HasPaths (web_of t) (darts plane.now) (mate plane.now)
+        (λ d. map angle_of (turns_at shape.now d))) }
+    ensures joined { IfOk result (λ t. IsJoined (web_of t)) }
     ensures space { IfOk result (λ t. t.darts + 4 * excess (web_of t) + 24 ≤ room t) }
 {
     let _graph = plane.graph();
