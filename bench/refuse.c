@@ -1,19 +1,24 @@
-/* Preloaded before a program, refuses its allocation number REFUSE: the first is 1. */
+/* Preloaded before a program, refuses its allocation number REFUSE, the first being 1, and says so in a
+   line on standard error. A run that says nothing met no refusal. */
 #include <errno.h>
 #include <stdatomic.h>
 #include <stddef.h>
 #include <stdlib.h>
+#include <unistd.h>
 
 extern void *__libc_malloc(size_t);
 extern void *__libc_calloc(size_t, size_t);
 extern void *__libc_realloc(void *, size_t);
 extern void *__libc_memalign(size_t, size_t);
 
+static const char SAID[] = "an allocation was refused\n";
+
 static atomic_long calls;
 
 static int is_refused(void) {
     const char *number = getenv("REFUSE");
     if (atomic_fetch_add(&calls, 1) + 1 != (number ? atol(number) : 0)) return 0;
+    if (write(2, SAID, sizeof SAID - 1) < 0) abort();
     errno = ENOMEM;
     return 1;
 }

@@ -1,4 +1,5 @@
 //! What ends the program without a whole report.
+ghost use Rattle.std.specs.Prelude.{◌≡◌};
 
 use collector::{BatchFault, WriteFault};
 use thiserror::Error;
@@ -17,8 +18,13 @@ pub enum Fault {
 }
 
 impl Fault {
-    /// The program's exit status.
-    pub fn status(self) -> u8 {
+    ghost use Rattle.planarbend.specs.Statuses.{IsRefusal};
+
+    /// The program's exit status: 2 where what was asked for is refused, and else 1.
+    pub fn status(self) -> u8
+        ensures refused { IsRefusal self → result ≡ 2 }
+        ensures failed { ¬ IsRefusal self → result ≡ 1 }
+    {
         match self {
             Fault::NotText | Fault::Run(BatchFault::TooManyFiles | BatchFault::BadLanes) => 2,
             Fault::Memory | Fault::Run(_) | Fault::Write(_) => 1,
@@ -27,12 +33,20 @@ impl Fault {
 }
 
 impl From<BatchFault> for Fault {
+    ghost use Rattle.planarbend.specs.declared.faults.Fault.{Fault};
+
+    ghost from_gives = { λ fault e. e ≡ Fault.Run fault };
+
     fn from(fault: BatchFault) -> Fault {
         Fault::Run(fault)
     }
 }
 
 impl From<WriteFault> for Fault {
+    ghost use Rattle.planarbend.specs.declared.faults.Fault.{Fault};
+
+    ghost from_gives = { λ fault e. e ≡ Fault.Write fault };
+
     fn from(fault: WriteFault) -> Fault {
         Fault::Write(fault)
     }

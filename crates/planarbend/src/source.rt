@@ -1,5 +1,5 @@
 //! What `frames` reads.
-ghost use Rattle.std.specs.Prelude.{None, false};
+ghost use Rattle.std.specs.Prelude.{◌≡◌, None, false, IfErr};
 
 use super::faults::Fault;
 use collector::{Tap, TapFault};
@@ -29,7 +29,9 @@ impl<F: Read + Drop> Tap for FileSource<F> {
 
 /// Opens a file. Where the open is refused for memory, the program ends; any other refusal is a
 /// source that fails.
-pub fn open_source<R: Files>(rt: &R, path: &str) -> Result<FileSource<R::File>, Fault> {
+pub fn open_source<R: Files>(rt: &R, path: &str) -> Result<FileSource<R::File>, Fault>
+    ensures { IfErr result (λ fault. fault ≡ Fault.Memory) }
+{
     match fs::open(rt, path) {
         Ok(file) => Ok(FileSource::Open(file)),
         Err(error) if error.kind() == ErrorKind::OutOfMemory => Err(Fault::Memory),

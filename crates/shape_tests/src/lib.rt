@@ -1,5 +1,8 @@
-//! Tests of shapes, prices and their two tests over planes that are read from records.
+//! Tests of shapes, prices and their two tests over planes that are read from records, and of the answers
+//! of the layers below where an allocation is refused.
 #![tactic(auto)]
 
+#[cfg(test)]
+mod refused;
 #[cfg(test)]
 mod tests;
