@@ -6,3 +6,5 @@ pub mod Walking
 pub mod Joining
 pub mod Tracing
 pub mod Merging
+pub mod Enclosing
+pub mod Adding

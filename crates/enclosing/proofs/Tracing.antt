@@ -1,5 +1,5 @@
 -- All faces are walked round, one after another.
-use Rattle.std.proofs.Common.{◌≡◌, ◌≢◌, ◌⊎◌, ℕ, zero, suc, ◌+◌, ◌-◌, ◌*◌, ◌<◌, ◌≤◌, ◌∙◌, List, [], ◌∷◌, ◌++◌, Bool, true, false, length, map, get_or, replicate, length-append, append_assoc, append-nil, arith, subst, sym, ap, refl, inl, inr}
+use Rattle.std.proofs.Common.{◌≡◌, ◌≢◌, ◌⊎◌, ℕ, zero, suc, ◌+◌, ◌-◌, ◌<◌, ◌≤◌, ◌∙◌, List, [], ◌∷◌, ◌++◌, Bool, false, length, map, get_or, replicate, length-append, append_assoc, append-nil, arith, subst, sym, ap, refl, inl, inr}
 use Rattle.std.proofs.lemmas.Bool.{cases_eq, both_ways}
 use Rattle.cutting.specs.Webs.{Web, IsLinked}
 use Rattle.cutting.specs.Faces.{IsCorner, Ring, In, Distinct, Below, joined, TurnsOnce, AreRings}

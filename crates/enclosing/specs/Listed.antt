@@ -1,5 +1,5 @@
 -- The corners of all faces, listed, before the drawing is joined with its rectangle.
-use Rattle.std.specs.Prelude.{◌≡◌, ℕ, ◌+◌, ◌*◌, ◌%◌, ◌<◌, List, [], ◌∷◌, ◌++◌, length, map}
+use Rattle.std.specs.Prelude.{◌≡◌, ◌≢◌, ℕ, ◌+◌, ◌*◌, ◌%◌, ◌<◌, List, [], ◌∷◌, ◌++◌, length, map}
 use Rattle.cutting.specs.Webs.{Web}
 use Rattle.cutting.specs.Faces.{IsCorner, Ring, In, Distinct, Below, joined, AreRings}
 use Rattle.cutting.specs.Turning.{total}
@@ -25,3 +25,15 @@ detour n side =
 pub record AreFlat (corners counts : List ℕ) (faces : List (List ℕ)) : Type 0 where
   pub flat : corners ≡ joined faces
   pub lengths : counts ≡ map (λ (r : List ℕ). length r) faces
+
+-- what the joined face keeps of the outer face's corners, which are `front` and then `right`: all of them, or all
+-- but `right`, where that is straight after the join
+pub record IsKept (w : Web) (right : ℕ) (front kept : List ℕ) : Type 0 where
+  pub straight : w.angle right ≡ 3 → kept ≡ front
+  pub turning : w.angle right ≢ 3 → kept ≡ front ++ (right ∷ [])
+
+-- the faces of the drawing joined with its rectangle
+pub record AreJoined (w : Web) (right side : ℕ) (front : List ℕ) (inner : List (List ℕ)) (corners counts : List ℕ) : Type 0 where
+  pub kept : List ℕ
+  pub is_kept : IsKept w right front kept
+  pub flat : AreFlat corners counts (inner ++ ((kept ++ detour w.darts side) ∷ []))

@@ -1,8 +1,8 @@
-ghost use Rattle.std.specs.Prelude.{◌≡◌, ◌<◌, ◌≤◌, ◌+◌, ◌^◌, ℕ, IfOk, List};
+ghost use Rattle.std.specs.Prelude.{◌≡◌, ◌<◌, ◌≤◌, ◌+◌, ◌^◌, ℕ, IfOk, List, OnOk};
 ghost use Rattle.cutting.specs.Labels.{HasTurns};
-ghost use Rattle.cutting.specs.Tables.{web_of};
+ghost use Rattle.cutting.specs.Tables.{room, web_of};
 ghost use Rattle.cutting.specs.Webs.{IsLinked};
-ghost use Rattle.enclosing.specs.Listed.{AreFlat, AreListed};
+ghost use Rattle.enclosing.specs.Listed.{AreFlat, AreJoined, AreListed};
 
 use crate::walks::walk;
 use cutting::DartTable;
@@ -46,4 +46,40 @@ pub fn list_faces(alloc: Global, table: &DartTable, right: u32) -> Result<Faces,
         counts,
         outer,
     })
+}
+
+/// Adds the face that becomes of the outer face and of the inside of the rectangle when a cut from
+/// `right` to the side `side` joins them: it goes from `right` along the cut, round the inside of the
+/// rectangle and back. `right` is a corner of it where more than one quarter is left to turn.
+pub fn add_joined_face(
+    table: &DartTable,
+    right: u32,
+    side: u32,
+    faces: &mut Faces,
+) -> Result<(), AllocError>
+    requires inside { right < table.now.darts }
+    requires sides { side < 4 }
+    requires space { table.now.darts + 12 ≤ room table.now }
+    requires listed { (inner : List (List ℕ)) × AreListed (web_of table.now) right inner faces.old.outer.items }
+    ensures joined { OnOk result ((inner : List (List ℕ)) → (listed : AreListed (web_of table.now) right inner faces.old.outer.items)
+        → AreFlat faces.old.corners.items faces.old.counts.items inner
+        → AreJoined (web_of table.now) right side listed.front inner faces.new.corners.items faces.new.counts.items) }
+{
+    let n = table.darts;
+    if table.angle[right as usize] == 3 {
+        faces.outer.pop();
+    }
+    let kept = faces.outer.len() as u32;
+    faces.corners.extend_from_slice(faces.outer.as_slice())?;
+    faces.corners.extend_from_slice(&[
+        n + 10,
+        n + side,
+        n + (side + 1) % 4,
+        n + (side + 2) % 4,
+        n + (side + 3) % 4,
+        n + 8,
+        n + 11,
+    ])?;
+    faces.counts.push(kept + 7)?;
+    Ok(())
 }

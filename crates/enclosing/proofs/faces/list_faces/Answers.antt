@@ -1,4 +1,4 @@
-use Rattle.std.proofs.Common.{Bool, false, ◌≡◌, ◌≢◌, ◌⊎◌, ◌<◌, ◌≤◌, ◌++◌, ◌+◌, ◌-◌, ◌∙◌, ℕ, [], ◌∷◌, length, get_or, arith, sym, subst, ap, refl, inl, inr}
+use Rattle.std.proofs.Common.{false, ◌-◌, ◌∙◌, ℕ, [], arith, sym, subst, inl, inr}
 use Rattle.std.proofs.lemmas.List.{get_or_read}
 use Rattle.std.proofs.lemmas.Bool.{both_ways}
 use Rattle.cutting.specs.Tables.{web_of}
@@ -35,7 +35,7 @@ pub darts-preserved : goal.darts-preserved
 darts-preserved c =
     let w0 = web_of c.args.table.now in
     elim c.if-not-index.branch [
-      | then-not-index+then-index-ne2+in_ok-walk-2+in_ok-push w ↦ 
+      | then-not-index+then-index-ne2+in_ok-walk-2+in_ok-push w ↦
           let marks = c.darts.seen.items in
           let d = c.darts.start in
           let read = get_or_read marks d c.index.result.now (omega (arith, c.darts.invariant.size)) c.index.ensures false in
@@ -49,12 +49,12 @@ darts-preserved c =
           c.darts.invariant w.in_ok-walk-2.ensures.walked in
           rw (w.seen-is, w.corners-is, w.counts-is, w.in_ok-push.ensures.items) more
       | else-not-index w ↦ elim w.else-not-index.branch [
-        | else-not-index-via-then-not-index+else-index-ne2 v ↦ 
+        | else-not-index-via-then-not-index+else-index-ne2 v ↦
             let angle = get_or_read c.args.table.now.angle.items c.darts.start v.index-then-not-index.result.now (omega arith)
             v.index-then-not-index.ensures 0 in
             rw (w.seen-is, w.corners-is, w.counts-is)
             (trace_skips w0 c.args.right _ _ _ _ c.darts.start c.darts.invariant (inr (sym angle ∙ v.if-index-ne2.false)))
-        | else-not-index-via-else-not-index v ↦ 
+        | else-not-index-via-else-not-index v ↦
             let read = get_or_read c.darts.seen.items c.darts.start c.index.result.now (omega (arith, c.darts.invariant.size)) c.index.ensures false in
             rw (w.seen-is, w.corners-is, w.counts-is)
             (trace_skips w0 c.args.right _ _ _ _ c.darts.start c.darts.invariant (inl (sym read ∙ v.if-not-index.false)))
