@@ -1,9 +1,10 @@
 -- What callers see of `Boxes`: a drawing in four directions, and which of its parts are those of a plane.
-use Rattle.std.specs.Prelude.{ℕ, ◌<◌, ◌≤◌, List, length, slice_index}
+use Rattle.std.specs.Prelude.{ℕ, ◌<◌, ◌≤◌, ◌⊎◌, List, length, slice_index}
 use Rattle.directions.specs.declared.Direction.{Direction}
 use Rattle.directions.specs.declared.Direction.TheVariants.{East, North, West, South}
 use Rattle.cutting.specs.declared.table.DartTable.{DartTable}
 use Rattle.cutting.specs.Webs.{Web, IsSound, no_dart}
+use Rattle.cutting.specs.Faces.{IsCorner, IsFour, IsOutside, ReachesCorners}
 use Rattle.cutting.specs.Paths.{IsPath, IsJoined}
 
 pub record Parts : Type 0 where
@@ -66,12 +67,21 @@ pub record HasEdge (b : Parts) (e : ℕ) : Type 0 where
   pub rest : List ℕ
   pub path : IsPath (web b) (slice_index b.edges e) first rest
 
+-- each face is a box, with four left turns, but for the outside of the whole, which has four right turns
+pub record IsCutUp (w : Web) : Type 0 where
+  pub reaches : ReachesCorners w
+  -- a dart of the outside
+  pub outside : ℕ
+  pub outside_in : outside < w.darts
+  pub around : IsFour w 3 outside
+  pub corners : (a : ℕ) → a < w.darts → IsCorner w a → IsFour w 1 a ⊎ IsOutside w outside a
+
 -- what is kept of all boxes: edges run straight in four directions and meet at vertices; the parts of the plane are there
 pub record AreBoxes (b : Parts) : Type 0 where
   pub sound : IsSound (web b)
   pub joined : IsJoined (web b)
+  pub faces : IsCutUp (web b)
   pub few_darts : b.darts ≤ no_dart
   pub old_in : b.old ≤ b.vertices
   pub old_few : b.old ≤ 255
-  pub few_edges : length b.edges ≤ 510
   pub edges : (e : ℕ) → e < length b.edges → HasEdge b e

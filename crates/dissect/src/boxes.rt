@@ -2,7 +2,7 @@
 
 ghost use Rattle.std.specs.Prelude.{◌≡◌, ◌≢◌, ◌<◌, ◌≤◌, ◌^◌, length, IfSome, IfNone};
 ghost use Rattle.cutting.specs.Webs.{no_dart};
-ghost use Rattle.dissect.specs.Boxes.{AreBoxes, number_of, web};
+ghost use Rattle.dissect.specs.Boxes.{AreBoxes, number_of, parts_of, web};
 
 use cutting::{DartTable, NO_DART};
 use directions::Direction;
@@ -33,6 +33,14 @@ impl Model for Boxes {
 }
 
 impl Boxes {
+    /// The boxes that a table holds, for a plane of so many vertices and these lesser darts.
+    pub(crate) fn of(table: DartTable, old: u8, edges: Vec<u16>) -> Boxes
+        requires { AreBoxes (parts_of table old edges.items) }
+        ensures { result ≡ parts_of table old edges.items }
+    {
+        Boxes { table, old, edges }
+    }
+
     /// How many vertices there are.
     pub fn vertices(&self) -> u32
         ensures value { result ≡ self.now.vertices }

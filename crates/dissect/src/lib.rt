@@ -2,5 +2,6 @@
 #![tactic(auto)]
 
 mod boxes;
+mod parts;
 
 pub use boxes::Boxes;
