@@ -2,6 +2,8 @@
 #![tactic(auto)]
 
 mod boxes;
+mod dissection;
 mod parts;
 
 pub use boxes::Boxes;
+pub use dissection::dissect;

@@ -7,3 +7,4 @@ pub mod Crossings
 pub mod Corners
 pub mod Potential
 pub mod Existence
+pub mod Searching

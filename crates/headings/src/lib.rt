@@ -2,3 +2,9 @@
 #![tactic(auto)]
 
 pub mod laws;
+mod search;
+
+pub use search::headings;
+
+#[cfg(test)]
+mod tests;

@@ -1,0 +1,100 @@
+//! The search for the directions of all darts, from one dart on.
+
+ghost use Rattle.std.specs.Prelude.{◌≡◌, ◌+◌, ◌%◌, ◌<◌, ◌≤◌, length, vec_len, IfOk, OnOk, slice_index};
+ghost use Rattle.ortho_rep.specs.Turns.{lefts, rights};
+ghost use Rattle.ortho_rep.specs.Shapes.{angle_at, turns_at};
+ghost use Rattle.ortho_rep.specs.Representation.{IsShape};
+ghost use Rattle.faces.specs.Map.{darts};
+ghost use Rattle.headings.specs.Headings.{AreHeadings};
+ghost use Rattle.headings.specs.Search.{IsReached};
+
+use faces::Plane;
+use ortho_rep::{Shape, Turn};
+use std::alloc::{AllocError, Global};
+
+/// Stands for no direction.
+const UNSET: u8 = 4;
+
+/// The directions found so far, by dart, and the darts with a direction from which to go on.
+#[derive(Drop)]
+struct Search {
+    headings: Vec<u8>,
+    waiting: Vec<u16>,
+}
+
+impl Search {
+    /// Gives a dart this direction, and lets it wait, unless it has one.
+    fn reach(&mut self, dart: u16, heading: u8) -> Result<(), AllocError>
+        requires { dart < vec_len self.old.headings }
+        ensures { OnOk result (IsReached self.old.headings.items self.old.waiting.items dart heading
+            self.new.headings.items self.new.waiting.items) }
+    {
+        if self.headings[usize::from(dart)] == UNSET {
+            self.headings[usize::from(dart)] = heading;
+            self.waiting.push(dart)?;
+        }
+        Ok(())
+    }
+}
+
+/// The direction of the dart that arrives next clockwise at the vertex of a dart with this direction
+/// and angle.
+fn clockwise_heading(heading: u8, angle: u8) -> u8
+    requires quarter { heading < 4 }
+    requires right { angle ≤ 4 }
+    ensures quarter { result < 4 }
+    ensures turned { (result + angle) % 4 ≡ heading }
+{
+    (heading + 4 - angle) % 4
+}
+
+/// How many of these turns are left turns.
+fn count_lefts(turns: &[Turn]) -> usize
+    ensures count { result ≡ lefts turns.now }
+    ensures few { result ≤ length turns.now }
+{
+    turns.iter().filter(|turn| **turn == Turn::Left).count()
+}
+
+/// The direction of the reverse of a dart with this direction and these turns.
+fn reverse_heading(heading: u8, turns: &[Turn]) -> u8
+    requires { length turns.now ≤ 1000000 }
+    ensures quarter { result < 4 }
+    ensures turned { (result + 2 + lefts turns.now) % 4 ≡ (heading + rights turns.now) % 4 }
+{
+    let lefts = count_lefts(turns);
+    let rights = turns.len() - lefts;
+    // Walked the other way, a right turn is one turn to the left and a left turn is three.
+    ((usize::from(heading) + 2 + rights + 3 * lefts) % 4) as u8
+}
+
+/// A direction for each dart of an orthogonal representation: place d belongs to dart d.
+///
+/// The direction of a dart is that in which it arrives at its head, in quarter turns to the left from
+/// east: 0 is east, 1 north, 2 west and 3 south. Dart 0 arrives to the east. The cost is a step for
+/// each dart and each turn, and the memory a few bytes for each dart.
+///
+/// # Errors
+///
+/// `AllocError` where there is no memory for the directions or for the darts that wait in the search.
+pub fn headings(alloc: Global, plane: &Plane, shape: &Shape) -> Result<Vec<u8>, AllocError>
+    requires { IsShape plane.now shape.now }
+    ensures count { IfOk result (λ h. length h.items ≡ darts plane.now) }
+    ensures headings { IfOk result (λ h. AreHeadings plane.now (angle_at shape.now)
+        (turns_at shape.now) (slice_index h.items)) }
+{
+    let graph = plane.graph();
+    let mut search = Search {
+        headings: vec![in alloc; UNSET; usize::from(graph.darts())]?,
+        waiting: Vec::new(alloc),
+    };
+    search.reach(0, 0)?;
+    while let Some(dart) = search.waiting.pop() {
+        let heading = search.headings[usize::from(dart)];
+        let clockwise = graph.reverse(plane.next(dart));
+        search.reach(clockwise, clockwise_heading(heading, shape.angle(dart)))?;
+        let reverse = graph.reverse(dart);
+        search.reach(reverse, reverse_heading(heading, shape.turns(dart)))?;
+    }
+    Ok(search.headings)
+}

@@ -1,0 +1,170 @@
+//! Directions worked out by hand, and those of least shapes against the rules read dart by dart.
+
+ghost use Rattle.std.specs.Prelude.{◌<◌, length};
+ghost use Rattle.faces.specs.Map.{darts};
+
+use crate::headings;
+use embedding::Graph;
+use faces::Plane;
+use ortho_rep::{Shape, Turn, is_shape, least_shape};
+use planar_code::{Framer, HEADER};
+use std::alloc::Global;
+use std::process::Abort;
+use std::test::Fail;
+
+const EDGE: [u8; 5] = [2, 2, 0, 1, 0];
+
+const TRIANGLE: [u8; 10] = [3, 2, 3, 0, 3, 1, 0, 1, 2, 0];
+
+const K4: [u8; 17] = [4, 3, 4, 2, 0, 1, 4, 3, 0, 2, 4, 1, 0, 3, 2, 1, 0];
+
+const OCTAHEDRON: [u8; 31] = [
+    6, 2, 3, 4, 5, 0, 6, 3, 1, 5, 0, 2, 6, 4, 1, 0, 1, 3, 6, 5, 0, 2, 1, 4, 6, 0, 2, 5, 4, 3, 0,
+];
+
+const STAR: [u8; 14] = [5, 2, 3, 4, 5, 0, 1, 0, 1, 0, 1, 0, 1, 0];
+
+/// The plane of these bytes, if they are a record of one and there is memory.
+fn plane_in(alloc: Global, bytes: &[u8]) -> Option<Plane> {
+    let mut framer = Framer::new(alloc).ok()?;
+    let mut records = Vec::new(alloc);
+    framer.feed(alloc, &HEADER, &mut records).ok()?;
+    framer.feed(alloc, bytes, &mut records).ok()?;
+    let record = records.pop()?;
+    let graph = Graph::read(alloc, &record).ok()?;
+    Plane::trace(alloc, graph).ok()
+}
+
+/// A string of turns, from a text of `L` and `R`.
+fn string_of(alloc: Global, text: &str) -> Result<Vec<Turn>, Fail> {
+    let mut turns = Vec::new(alloc);
+    for letter in text.bytes() {
+        turns.push(if letter == b'L' {
+            Turn::Left
+        } else {
+            Turn::Right
+        })?;
+    }
+    Ok(turns)
+}
+
+/// The shape of these angles and strings.
+fn shape_of(alloc: Global, angles: &[u8], texts: &[&str]) -> Result<Shape, Fail> {
+    let mut strings = Vec::new(alloc);
+    for text in texts {
+        strings.push(string_of(alloc, text)?)?;
+    }
+    if Shape::are_short(&strings) {
+        Ok(Shape::new(angles.to_vec(alloc)?, strings))
+    } else {
+        Err("strings out of range")?
+    }
+}
+
+/// The directions of a shape that is an orthogonal representation.
+fn headings_of(alloc: Global, plane: &Plane, shape: &Shape) -> Result<Vec<u8>, Fail> {
+    if is_shape(plane, shape) {
+        Ok(headings(alloc, plane, shape)?)
+    } else {
+        Err("no orthogonal representation")?
+    }
+}
+
+/// That the shape of these angles and strings has these directions.
+fn expect(
+    rt: &impl Abort,
+    alloc: Global,
+    record: &[u8],
+    angles: &[u8],
+    texts: &[&str],
+    want: &[u8],
+) -> Result<(), Fail> {
+    let plane = plane_in(alloc, record).ok_or("no plane")?;
+    let shape = shape_of(alloc, angles, texts)?;
+    let found = headings_of(alloc, &plane, &shape)?;
+    assert_eq!(rt; found.as_slice(), want);
+    Ok(())
+}
+
+#[test]
+fn worked_out_by_hand(rt: HostRuntime) -> Result<(), Fail> {
+    let alloc = rt.alloc();
+    expect(&rt, alloc, &EDGE, &[4, 4], &["", ""], &[0, 2])?;
+    expect(&rt, alloc, &EDGE, &[4, 4], &["L", "R"], &[0, 1])?;
+    expect(&rt, alloc, &EDGE, &[4, 4], &["R", "L"], &[0, 3])?;
+    expect(&rt, alloc, &EDGE, &[4, 4], &["LLRL", "RLRR"], &[0, 0])?;
+    // The edge from 1 to 3 bends once.
+    let texts = ["", "L", "", "", "R", ""];
+    let want = [0, 0, 3, 2, 1, 1];
+    expect(&rt, alloc, &TRIANGLE, &[3, 1, 3, 1, 3, 1], &texts, &want)
+}
+
+/// The direction of a dart, or 9 where it has none.
+fn heading_of(found: &[u8], dart: u16) -> u8 {
+    found.get(usize::from(dart)).copied().unwrap_or(9)
+}
+
+/// A direction after a turn, but for whole turns.
+fn turned(direction: u8, turn: Turn) -> u8 {
+    match turn {
+        Turn::Left => direction % 4 + 1,
+        Turn::Right => direction % 4 + 3,
+    }
+}
+
+/// Whether the directions keep the rules at a dart.
+fn keeps_rules(plane: &Plane, shape: &Shape, found: &[u8], dart: u16) -> bool
+    requires dart { dart < darts plane.now }
+    requires angle { dart < length shape.now.angles }
+    requires string { dart < length shape.now.strings }
+{
+    let heading = heading_of(found, dart);
+    let next = plane.next(dart);
+    let clockwise = heading_of(found, plane.graph().reverse(next));
+    let reverse = heading_of(found, plane.graph().reverse(dart));
+    let mut end = reverse % 4 + 2;
+    for turn in shape.turns(dart) {
+        end = turned(end, *turn);
+    }
+    let sum = u16::from(clockwise) + u16::from(shape.angle(dart));
+    heading < 4 && sum % 4 == u16::from(heading) && end % 4 == heading
+}
+
+/// That the directions of a least shape keep the rules at each dart.
+fn expect_rules(rt: &impl Abort, alloc: Global, record: &[u8]) -> Result<(), Fail> {
+    let plane = plane_in(alloc, record).ok_or("no plane")?;
+    let (shape, _) = least_shape(alloc, &plane)?;
+    let found = headings_of(alloc, &plane, &shape)?;
+    let darts = plane.graph().darts();
+    assert_eq!(rt; found.len(), usize::from(darts));
+    assert_eq!(rt; shape.angle_count(), usize::from(darts));
+    assert_eq!(rt; shape.string_count(), usize::from(darts));
+    for dart in 0..darts {
+        assert!(rt; keeps_rules(&plane, &shape, &found, dart), "dart {dart}");
+    }
+    Ok(())
+}
+
+#[test]
+fn least_shapes(rt: HostRuntime) -> Result<(), Fail> {
+    expect_rules(&rt, rt.alloc(), &EDGE)?;
+    expect_rules(&rt, rt.alloc(), &TRIANGLE)?;
+    expect_rules(&rt, rt.alloc(), &K4)?;
+    expect_rules(&rt, rt.alloc(), &OCTAHEDRON)?;
+    expect_rules(&rt, rt.alloc(), &STAR)
+}
+
+/// Where an allocation is refused, the answer is want of memory, and the plane and the shape stay as
+/// they were.
+#[test]
+fn refused_allocations(rt: HostRuntime) {
+    let alloc = rt.alloc();
+    if let Some(plane) = plane_in(alloc, &TRIANGLE)
+        && let Ok((shape, _)) = least_shape(alloc, &plane)
+        && is_shape(&plane, &shape)
+        && headings(alloc, &plane, &shape).is_err()
+        && let Ok(again) = headings(alloc, &plane, &shape)
+    {
+        assert_eq!(rt; again.first(), Some(&0));
+    }
+}
