@@ -369,45 +369,50 @@ fn sketch_of(alloc: Global, vertices: &[Place], corners: &[&[Place]]) -> Result<
 
 /// One of four drawings, or an edge along a random path.
 fn case_of(alloc: Global, number: u32, dice: &mut Dice) -> Result<Case, Fail> {
-    let (record, shape, sketch) = match number {
-        0 => (
-            TRIANGLE.as_slice(),
-            shape_of(alloc, &BENT.0, &BENT.1)?,
-            sketch_of(alloc, &[(3, 3), (3, 6), (6, 6)], &[&[], &[(6, 3)], &[]])?,
+    match number {
+        0 => bent_case(alloc),
+        1 => straight_case(
+            alloc,
+            &PATH,
+            &[1, 4, 1, 3, 1, 3, 4, 3],
+            &[(1, 1), (4, 1), (4, 4), (2, 4), (2, 2)],
         ),
-        1 => (
-            PATH.as_slice(),
-            shape_of(alloc, &[1, 4, 1, 3, 1, 3, 4, 3], &[""; 8])?,
-            sketch_of(
-                alloc,
-                &[(1, 1), (4, 1), (4, 4), (2, 4), (2, 2)],
-                &[&[], &[], &[], &[]],
-            )?,
+        2 => straight_case(
+            alloc,
+            &SQUARE,
+            &[3, 1, 3, 1, 3, 1, 3, 1],
+            &[(2, 2), (2, 7), (7, 7), (7, 2)],
         ),
-        2 => (
-            SQUARE.as_slice(),
-            shape_of(alloc, &[3, 1, 3, 1, 3, 1, 3, 1], &[""; 8])?,
-            sketch_of(
-                alloc,
-                &[(2, 2), (2, 7), (7, 7), (7, 2)],
-                &[&[], &[], &[], &[]],
-            )?,
+        3 => straight_case(
+            alloc,
+            &STAR,
+            &[4, 4, 4, 4, 1, 1, 1, 1],
+            &[(5, 5), (5, 8), (9, 5), (5, 1), (1, 5)],
         ),
-        3 => (
-            STAR.as_slice(),
-            shape_of(alloc, &[4, 4, 4, 4, 1, 1, 1, 1], &[""; 8])?,
-            sketch_of(
-                alloc,
-                &[(5, 5), (5, 8), (9, 5), (5, 1), (1, 5)],
-                &[&[], &[], &[], &[]],
-            )?,
-        ),
-        _ => return edge_case(alloc, dice),
-    };
+        _ => edge_case(alloc, dice),
+    }
+}
+
+/// The triangle with one bend.
+fn bent_case(alloc: Global) -> Result<Case, Fail> {
+    Ok(Case {
+        plane: plane_of(alloc, &TRIANGLE)?,
+        shape: shape_of(alloc, &BENT.0, &BENT.1)?,
+        sketch: sketch_of(alloc, &[(3, 3), (3, 6), (6, 6)], &[&[], &[(6, 3)], &[]])?,
+    })
+}
+
+/// Four edges without bends.
+fn straight_case(
+    alloc: Global,
+    record: &[u8],
+    angles: &[u8],
+    vertices: &[Place],
+) -> Result<Case, Fail> {
     Ok(Case {
         plane: plane_of(alloc, record)?,
-        shape,
-        sketch,
+        shape: shape_of(alloc, angles, &[""; 8])?,
+        sketch: sketch_of(alloc, vertices, &[&[], &[], &[], &[]])?,
     })
 }
 
