@@ -8,3 +8,4 @@ pub mod Tracing
 pub mod Merging
 pub mod Enclosing
 pub mod Adding
+pub mod Edges

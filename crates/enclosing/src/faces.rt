@@ -48,9 +48,9 @@ pub fn list_faces(alloc: Global, table: &DartTable, right: u32) -> Result<Faces,
     })
 }
 
-/// Adds the face that becomes of the outer face and of the inside of the rectangle when a cut from
-/// `right` to the side `side` joins them: it goes from `right` along the cut, round the inside of the
-/// rectangle and back. `right` is a corner of it where more than one quarter is left to turn.
+/// Adds the face that a cut from `right` to the side `side` makes of the outer face and the inside of
+/// the rectangle: behind `right` it goes along the cut, round the inside of the rectangle and back.
+/// `right` stays one of its corners unless the cut leaves it straight.
 pub fn add_joined_face(
     table: &DartTable,
     right: u32,

@@ -8,6 +8,8 @@
 mod faces;
 mod join;
 mod rectangle;
+#[cfg(test)]
+mod tests;
 mod walks;
 
 pub use join::enclose;

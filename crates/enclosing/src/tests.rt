@@ -1,0 +1,77 @@
+//! One straight edge in its rectangle.
+
+ghost use Rattle.std.specs.Prelude.{◌≡◌, ◌+◌, ◌*◌, ◌≤◌, IfOk, slice_index, vec_len};
+ghost use Rattle.cutting.specs.Labels.{HasTurns};
+ghost use Rattle.cutting.specs.Tables.{room, web_of};
+ghost use Rattle.cutting.specs.Webs.{IsSound, excess};
+
+use crate::enclose;
+use cutting::{DartTable, NO_DART};
+use std::alloc::{AllocError, Global};
+use std::process::Abort;
+use std::test::Fail;
+
+const ROOM: usize = 42;
+
+/// The first number, and the other in all places behind it.
+fn numbers(alloc: Global, first: u32, others: u32) -> Result<Vec<u32>, AllocError>
+    ensures size { IfOk result (λ v. vec_len v ≡ 42) }
+    ensures first { IfOk result (λ v. slice_index v.items 0 ≡ first) }
+    ensures second { IfOk result (λ v. slice_index v.items 1 ≡ others) }
+{
+    let mut list = vec![in alloc; others; ROOM]?;
+    list[0] = first;
+    Ok(list)
+}
+
+/// The same of small numbers.
+fn small_numbers(alloc: Global, first: u8, others: u8) -> Result<Vec<u8>, AllocError>
+    ensures size { IfOk result (λ v. vec_len v ≡ 42) }
+    ensures first { IfOk result (λ v. slice_index v.items 0 ≡ first) }
+    ensures second { IfOk result (λ v. slice_index v.items 1 ≡ others) }
+{
+    let mut list = vec![in alloc; others; ROOM]?;
+    list[0] = first;
+    Ok(list)
+}
+
+/// An edge to the east, from the vertex 0 to the vertex 1, and its twin.
+fn edge(alloc: Global) -> Result<DartTable, AllocError>
+    ensures sound { IfOk result (λ t. IsSound (web_of t)) }
+    ensures turns { IfOk result (λ t. HasTurns (web_of t) (λ _. 0) 0) }
+    ensures darts { IfOk result (λ t. t.darts ≡ 2) }
+    ensures space { IfOk result (λ t. t.darts + 4 * excess (web_of t) + 24 ≤ room t) }
+{
+    let next = numbers(alloc, 1, 0)?;
+    let prev = numbers(alloc, 1, 0)?;
+    let twin = numbers(alloc, 1, 0)?;
+    let head = numbers(alloc, 1, 0)?;
+    let before = numbers(alloc, NO_DART, NO_DART)?;
+    let direction = small_numbers(alloc, 0, 2)?;
+    let angle = small_numbers(alloc, 4, 4)?;
+    Ok(DartTable {
+        next,
+        prev,
+        twin,
+        head,
+        before,
+        direction,
+        angle,
+        darts: 2,
+        vertices: 2,
+    })
+}
+
+// Four boxes lie round the edge: below and above it, and beyond each of its ends.
+#[test]
+fn four_boxes_lie_round_an_edge(rt: HostRuntime) -> Result<(), Fail> {
+    let alloc = rt.alloc();
+    let mut table = edge(alloc)?;
+    enclose(alloc, &mut table, 0)?;
+    let angles = &table.angle.as_slice()[..table.darts as usize];
+    assert_eq!(rt; table.vertices, 10);
+    assert_eq!(rt; table.darts, 26);
+    assert_eq!(rt; angles.iter().filter(|a| **a == 1).count(), 16);
+    assert_eq!(rt; angles.iter().filter(|a| **a == 3).count(), 4);
+    Ok(())
+}
