@@ -75,3 +75,17 @@ fn four_boxes_lie_round_an_edge(rt: HostRuntime) -> Result<(), Fail> {
     assert_eq!(rt; angles.iter().filter(|a| **a == 3).count(), 4);
     Ok(())
 }
+
+// Run with each allocation refused in turn too: the edge is left as it was, and a second call encloses it.
+#[test]
+fn refused_memory_leaves_the_edge(rt: HostRuntime) {
+    let alloc = rt.alloc();
+    let Ok(mut table) = edge(alloc) else {
+        return;
+    };
+    if let Err(AllocError) = enclose(alloc, &mut table, 0) {
+        assert_eq!(rt; (table.darts, table.vertices), (2, 2));
+        assert!(rt; enclose(alloc, &mut table, 0).is_ok());
+    }
+    assert_eq!(rt; (table.darts, table.vertices), (26, 10));
+}
