@@ -1,7 +1,8 @@
 //! Tries the layers of the library on files of other tools. After the word `pieces` each file that is
 //! named is read in pieces of several sizes, and what is found is compared with what the plain
 //! splitter finds in the whole file. After `planes` each graph of a file is read and its faces are
-//! traced, and a line tells the result; after `shapes` a least shape is found too, and tested.
+//! traced, and a line tells the result; after `shapes` a least shape is found too, and tested; after
+//! `drawings` it is drawn, and the drawing is checked.
 #![tactic(auto)]
 
 mod pieces;
@@ -26,6 +27,7 @@ fn main(rt: HostRuntime) -> Result<()> {
             ("pieces", _) => task = Task::Pieces,
             ("planes", _) => task = Task::Report(Depth::Planes),
             ("shapes", _) => task = Task::Report(Depth::Shapes),
+            ("drawings", _) => task = Task::Report(Depth::Drawings),
             (name, Task::Pieces) => compare(&rt, name)?,
             (name, Task::Report(depth)) => report(&rt, name, depth)?,
         }
