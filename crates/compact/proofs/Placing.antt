@@ -2,6 +2,7 @@
 use Rattle.std.proofs.Common.{◌≡◌, ℕ, ◌+◌, ◌%◌, ◌<◌, ◌≤◌, ◌∙◌, List, [], ◌∷◌, ◌++◌, Vec, Global, length, map, get_or, slice_index, arith, subst, sym, ap, inl, inr}
 use Rattle.std.proofs.lemmas.Bool.{cases_eq}
 use Rattle.std.proofs.lemmas.List.{map_push, length-map, get_or_push, get_or_append_left}
+use Rattle.std.proofs.lemmas.List.FromFn.{length-range_with_len}
 use Rattle.cutting.specs.Webs.{Web, IsSound}
 use Rattle.cutting.specs.Paths.{turning_places}
 use Rattle.ortho_rep.specs.declared.points.Point.{Point}
@@ -112,6 +113,8 @@ laid_out b x y x1 y1 x2 y2 vertices corners sx1 sy1 sx2 sy2 sound along_x along_
       taken = record {
         vertices = at_vertices ∙ ap (λ (xs : List ℕ). map (point_at (λ v. slice_index xs v) (λ v. slice_index y1 v)) (range_with_len 0 b.old)) sx1
             ∙ ap (λ (ys : List ℕ). map (point_at (λ v. slice_index x v) (λ v. slice_index ys v)) (range_with_len 0 b.old)) sy1;
+        vertex_count = ap length at_vertices
+            ∙ length-map (range_with_len 0 b.old) (point_at (λ v. slice_index x1 v) (λ v. slice_index y1 v)) ∙ length-range_with_len 0 b.old;
         count = length-map corners (λ (u : Vec Point Global). u.items) ∙ count;
         corners = subst (λ (ys : List ℕ). AreCorners b (λ v. slice_index x v) (λ v. slice_index ys v) (length b.edges) corners) sy2
             (subst (λ (xs : List ℕ). AreCorners b (λ v. slice_index xs v) (λ v. slice_index y2 v) (length b.edges) corners) sx2 at_corners);

@@ -35,6 +35,7 @@ point_at x y v = record { x = x v; y = y v }
 -- the points of the plane's vertices, and along each of its edges those of the places where its path turns, in order
 pub record AreTaken (b : Parts) (x y : ℕ → ℕ) (points : Plot) : Type 0 where
   pub vertices : points.vertices ≡ map (point_at x y) (range_with_len 0 b.old)
+  pub vertex_count : length points.vertices ≡ b.old
   pub count : length points.corners ≡ length b.edges
   pub corners : (e : ℕ) → e < length b.edges → (edge : HasEdge b e)
       → corners_at points e ≡ map (point_at x y) (turning_places (web b) edge.first edge.rest)

@@ -1,3 +1,4 @@
+ghost use Rattle.std.specs.Prelude.{IfOk};
 ghost use Rattle.ortho_rep.specs.Representation.{IsShape};
 
 use anyhow::{Context, Result, bail, ensure};
@@ -70,7 +71,9 @@ fn line<R: Print + AllocGlobal>(rt: &R, number: u64, plane: &Plane, depth: Depth
 }
 
 /// A least shape, once both tests have said yes to it.
-fn least(alloc: Global, plane: &Plane) -> Result<Shape> {
+fn least(alloc: Global, plane: &Plane) -> Result<Shape>
+    ensures { IfOk result (IsShape plane.now) }
+{
     let (shape, prices) = least_shape(alloc, plane)?;
     ensure!(is_shape(plane, &shape), "no orthogonal representation");
     ensure!(certify(plane, &shape, &prices), "the prices prove nothing");

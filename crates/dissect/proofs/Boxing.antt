@@ -7,6 +7,7 @@ use Rattle.faces.specs.Map.{Map, IsPlane, darts, vertices, mate, next}
 use Rattle.faces.proofs.Ends.{plane_ends}
 use Rattle.ortho_rep.specs.Shapes.{Figure, angle_at, turns_at}
 use Rattle.ortho_rep.specs.Edges.{is_lesser, lesser_darts}
+use Rattle.ortho_rep.proofs.EdgeNumbers.{edge_total, length-lesser}
 use Rattle.headings.specs.Headings.{AreHeadings}
 use Rattle.cutting.specs.declared.table.DartTable.{DartTable}
 use Rattle.cutting.specs.Webs.{Web, IsSound, excess, no_dart}
@@ -86,6 +87,7 @@ is_boxed p shape w t old edges made all lesser =
       boxes = are_boxes p shape w t old edges made all lesser;
       old = all;
       edges = lesser;
+      halves = omega (arith, ap length lesser, length-lesser p (darts p), edge_total p ends);
       few = omega (arith, made.few, made.counts.vertex_count, made.counts.right_turns);
       heads = λ d d_in. keeps.head d (omega (arith, d_in, made.kept.few)) ∙ made.kept.heads d d_in;
       paths = kept_paths p shape w t made;

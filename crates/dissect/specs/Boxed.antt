@@ -1,5 +1,5 @@
 -- What it is that boxes dissect an orthogonal representation of a plane.
-use Rattle.std.specs.Prelude.{◌≡◌, ℕ, ◌+◌, ◌-◌, ◌*◌, ◌%◌, ◌<◌, ◌≤◌, map}
+use Rattle.std.specs.Prelude.{◌≡◌, ℕ, ◌+◌, ◌-◌, ◌*◌, ◌%◌, ◌<◌, ◌≤◌, map, length}
 use Rattle.faces.specs.Map.{Map, darts, vertices, head, mate, next}
 use Rattle.ortho_rep.specs.Shapes.{Figure, angle_at, turns_at}
 use Rattle.ortho_rep.specs.Edges.{lesser_darts}
@@ -15,6 +15,7 @@ pub record IsBoxed (p : Map) (shape : Figure) (b : Parts) : Type 0 where
   -- the plane's vertices are the first ones, and its edges are told by their lesser darts
   pub old : b.old ≡ vertices p
   pub edges : b.edges ≡ lesser_darts p
+  pub halves : 2 * length b.edges ≡ darts p
   -- there are at most three vertices for one of the plane, two for a bend, and five
   pub few : b.vertices ≤ 3 * vertices p + 2 * bends_of (darts p) (turns_at shape) + 5
   -- each dart of the plane is the last piece of a path that sets out where its reverse arrives, and turns as its string says
