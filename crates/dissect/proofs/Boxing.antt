@@ -1,5 +1,5 @@
 -- A drawing with straight edges, in its rectangle and cut up, dissects the shape that it was made of.
-use Rattle.std.proofs.Common.{◌≡◌, ℕ, ◌+◌, ◌-◌, ◌*◌, ◌%◌, ◌<◌, ◌≤◌, ◌∙◌, ◌⊎◌, List, [], All, map, filter, length, get_or, slice_index, arith, subst, sym, ap, inl, inr}
+use Rattle.std.proofs.Common.{◌≡◌, ℕ, ◌+◌, ◌%◌, ◌<◌, ◌≤◌, ◌∙◌, List, [], All, map, length, get_or, slice_index, arith, subst, sym, ap, inl, inr}
 use Rattle.std.specs.List.{range_with_len}
 use Rattle.std.proofs.lemmas.List.Elements.{All-filter, All-get_or, All-from_get_or}
 use Rattle.std.proofs.lemmas.List.FromFn.{length-range_with_len, get_or-range_with_len}
@@ -18,7 +18,7 @@ use Rattle.cutting.specs.Frames.{IsEnclosed}
 use Rattle.bending.specs.Bends.{CountsBends, KeepsDarts}
 use Rattle.bending.specs.Steps.{angle_of}
 use Rattle.edge_paths.proofs.Framing.{enclosed_paths, enclosed_joined}
-use Rattle.dissect.specs.Boxes.{Parts, AreBoxes, IsCutUp, HasEdge, parts_of, web}
+use Rattle.dissect.specs.Boxes.{AreBoxes, parts_of}
 use Rattle.dissect.specs.Boxed.{IsBoxed}
 use Rattle.dissect.proofs.Keeping.{Keeps, enclosed_keeps}
 
@@ -43,8 +43,8 @@ lesser_inside : (p : Map) → All (λ d. d < darts p) (lesser_darts p)
 lesser_inside p =
     All-filter (is_lesser p) (λ d. d < darts p) (range_with_len 0 (darts p))
     (All-from_get_or (λ d. d < darts p) (range_with_len 0 (darts p)) 0
-      (λ i i_in. let below : i < darts p = omega (arith, i_in, length-range_with_len 0 (darts p)) in
-        omega (arith, get_or-range_with_len 0 (darts p) i 0 below, below)))
+    (λ i i_in. let below : i < darts p = omega (arith, i_in, length-range_with_len 0 (darts p)) in
+    omega (arith, get_or-range_with_len 0 (darts p) i 0 below, below)))
 
 pub kept_paths : (p : Map) (shape : Figure) (w : Web) (t : DartTable) → IsMade p shape w t →
     HasPaths (web_of t) (darts p) (mate p) (λ d. map angle_of (turns_at shape d))
@@ -71,11 +71,11 @@ are_boxes p shape w t old edges made all lesser =
       old_in = omega (arith, all, made.counts.vertex_count, keeps.more_vertices);
       old_few = omega (arith, all, made.plane.order);
       edges = λ e e_in.
-        let at : e < length (lesser_darts p) = omega (arith, e_in, ap length lesser) in
-        let inside : get_or (lesser_darts p) e 0 < darts p = All-get_or (λ d. d < darts p) (lesser_darts p) e 0 at (lesser_inside p) in
-        let here : slice_index edges e < darts p = subst (λ (ds : List ℕ). get_or ds e 0 < darts p) (sym lesser) inside in
-        let path = (kept_paths p shape w t made).paths (slice_index edges e) here in
-        record { first = path.first; rest = path.rest; path = path.path };
+          let at : e < length (lesser_darts p) = omega (arith, e_in, ap length lesser) in
+          let inside : get_or (lesser_darts p) e 0 < darts p = All-get_or (λ d. d < darts p) (lesser_darts p) e 0 at (lesser_inside p) in
+          let here : slice_index edges e < darts p = subst (λ (ds : List ℕ). get_or ds e 0 < darts p) (sym lesser) inside in
+          let path = (kept_paths p shape w t made).paths (slice_index edges e) here in
+          record { first = path.first; rest = path.rest; path = path.path };
     }
 
 pub is_boxed : (p : Map) (shape : Figure) (w : Web) (t : DartTable) (old : ℕ) (edges : List ℕ) → IsMade p shape w t →
@@ -92,9 +92,9 @@ is_boxed p shape w t old edges made all lesser =
       heads = λ d d_in. keeps.head d (omega (arith, d_in, made.kept.few)) ∙ made.kept.heads d d_in;
       paths = kept_paths p shape w t made;
       angles = λ d d_in.
-        let m : ℕ = mate p (next p d) in
-        let m_in : m < darts p = ends.mate_inside (next p d) (ends.next_one.inside d d_in) in
-        let there : (web_of t).direction m ≡ w.direction m = keeps.direction m (omega (arith, m_in, made.kept.few)) in
-        let here : (web_of t).direction d ≡ w.direction d = keeps.direction d (omega (arith, d_in, made.kept.few)) in
-        ap (λ (k : ℕ). (k + angle_at shape d) % 4) there ∙ made.headings.angles d d_in ∙ sym here;
+          let m : ℕ = mate p (next p d) in
+          let m_in : m < darts p = ends.mate_inside (next p d) (ends.next_one.inside d d_in) in
+          let there : (web_of t).direction m ≡ w.direction m = keeps.direction m (omega (arith, m_in, made.kept.few)) in
+          let here : (web_of t).direction d ≡ w.direction d = keeps.direction d (omega (arith, d_in, made.kept.few)) in
+          ap (λ (k : ℕ). (k + angle_at shape d) % 4) there ∙ made.headings.angles d d_in ∙ sym here;
     }

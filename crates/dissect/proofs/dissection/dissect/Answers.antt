@@ -1,4 +1,4 @@
-use Rattle.std.proofs.Common.{◌≡◌, ◌∙◌, List, ℕ, length, ap, sym, subst, arith}
+use Rattle.std.proofs.Common.{◌≡◌, ◌∙◌, length, ap, sym, subst, arith}
 use Rattle.cutting.specs.Tables.{web_of}
 use Rattle.faces.specs.Map.{vertices}
 use Rattle.dissect.specs.Boxed.{IsBoxed}

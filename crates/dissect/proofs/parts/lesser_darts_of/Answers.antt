@@ -1,7 +1,6 @@
-use Rattle.std.proofs.Common.{◌≡◌, ◌∙◌, ◌++◌, [], ◌∷◌, ℕ, List, Vec, Global, true, false, ap, sym, subst, arith}
+use Rattle.std.proofs.Common.{◌≡◌, ◌∙◌, ◌++◌, [], ◌∷◌, ℕ, List, Vec, Global, true, false, ap, sym, arith}
 use Rattle.std.proofs.lemmas.Bool.{lt-ltb, le-ltb}
 use Rattle.faces.specs.Map.{mate}
-use Rattle.embedding.specs.Darts.{reverse_of}
 use Rattle.ortho_rep.specs.Edges.{is_lesser}
 use Rattle.dissect.proofs.Edges.{one_kept, one_passed}
 use Rattle.dissect.proofs.parts.lesser_darts_of.Goals as goal

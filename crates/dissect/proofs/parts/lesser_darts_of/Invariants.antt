@@ -1,4 +1,4 @@
-use Rattle.std.proofs.Common.{◌≡◌, ◌<◌, ℕ, filter}
+use Rattle.std.proofs.Common.{◌≡◌, filter}
 use Rattle.std.specs.List.{range_with_len}
 use Rattle.ortho_rep.specs.Edges.{is_lesser}
 use Rattle.dissect.proofs.parts.lesser_darts_of.Given as goal

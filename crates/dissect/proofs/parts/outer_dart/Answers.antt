@@ -1,4 +1,4 @@
-use Rattle.std.proofs.Common.{◌≡◌, ◌<◌, arith, ap}
+use Rattle.std.proofs.Common.{◌≡◌, arith, ap}
 use Rattle.embedding.specs.Darts.{dart_count}
 use Rattle.faces.specs.Map.{darts}
 use Rattle.dissect.proofs.parts.outer_dart.Goals as goal
