@@ -99,15 +99,19 @@ y_fault b Memory fault = tt
 -- points that are taken from numbers in order
 pub laid_out : (b : Parts) (x y x1 y1 x2 y2 : List ℕ) (vertices : List Point) (corners : List (Vec Point Global)) →
     x1 ≡ x → y1 ≡ y → x2 ≡ x → y2 ≡ y → IsSound (web b) → IsAlong (web b) 0 (λ v. slice_index x v) → IsAlong (web b) 1 (λ v. slice_index y v) →
+    ((z : ℕ → ℕ) → IsAlong (web b) 0 z → (v : ℕ) → v < b.vertices → slice_index x v ≤ z v) →
+    ((z : ℕ → ℕ) → IsAlong (web b) 1 z → (v : ℕ) → v < b.vertices → slice_index y v ≤ z v) →
     AreWithin b.vertices (λ v. slice_index x v) → AreWithin b.vertices (λ v. slice_index y v) →
     vertices ≡ map (point_at (λ v. slice_index x1 v) (λ v. slice_index y1 v)) (range_with_len 0 b.old) → length corners ≡ length b.edges →
     AreCorners b (λ v. slice_index x2 v) (λ v. slice_index y2 v) (length b.edges) corners →
     AreLaidOut b (record { vertices = vertices; corners = point_lists corners })
-laid_out b x y x1 y1 x2 y2 vertices corners sx1 sy1 sx2 sy2 sound along_x along_y within_x within_y at_vertices count at_corners =
+laid_out b x y x1 y1 x2 y2 vertices corners sx1 sy1 sx2 sy2 sound along_x along_y least_x least_y within_x within_y at_vertices count at_corners =
     record {
       x = λ v. slice_index x v;
       y = λ v. slice_index y v;
       ordered = in_order (web b) (λ v. slice_index x v) (λ v. slice_index y v) sound along_x along_y;
+      x_least = λ x1 y1 ordered. least_x x1 (keep_x (web b) x1 y1 sound ordered);
+      y_least = λ x1 y1 ordered. least_y y1 (keep_y (web b) x1 y1 sound ordered);
       x_within = within_x;
       y_within = within_y;
       taken = record {

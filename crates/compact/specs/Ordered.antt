@@ -45,6 +45,9 @@ pub record AreLaidOut (b : Parts) (points : Plot) : Type 0 where
   pub x : ℕ → ℕ
   pub y : ℕ → ℕ
   pub ordered : IsOrdered (web b) x y
+  -- the least there are: the lengths of longest paths
+  pub x_least : (x1 y1 : ℕ → ℕ) → IsOrdered (web b) x1 y1 → (v : ℕ) → v < b.vertices → x v ≤ x1 v
+  pub y_least : (x1 y1 : ℕ → ℕ) → IsOrdered (web b) x1 y1 → (v : ℕ) → v < b.vertices → y v ≤ y1 v
   pub x_within : AreWithin b.vertices x
   pub y_within : AreWithin b.vertices y
   pub taken : AreTaken b x y points

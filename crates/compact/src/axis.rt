@@ -1,6 +1,6 @@
 //! The gaps of a dissection along an axis, and the least numbers of its vertices.
 
-ghost use Rattle.std.specs.Prelude.{◌≡◌, ◌≢◌, ◌+◌, length, slice_index, Some, None, IfOk, IfErr};
+ghost use Rattle.std.specs.Prelude.{◌≡◌, ◌≢◌, ◌+◌, length, slice_index, Some, None, IfOk, IfErr, ℕ, ◌<◌, ◌≤◌};
 ghost use Rattle.compact.specs.Ordered.{IsAlong, AreAlong, AreWithin, IsAxisFault, growth};
 ghost use Rattle.cutting.specs.Webs.{IsSound};
 ghost use Rattle.dissect.specs.Boxes.{web, number_of};
@@ -54,6 +54,8 @@ fn gaps_along(alloc: Global, boxes: &Boxes, axis: Axis) -> Result<Vec<Gap>, Allo
 pub fn numbers_along(alloc: Global, boxes: &Boxes, axis: Axis) -> Result<Vec<u16>, CompactFault>
     ensures sound { IfOk result (λ _. IsSound (web boxes.now)) }
     ensures along { IfOk result (λ numbers. IsAlong (web boxes.now) (growth axis) (λ v. slice_index numbers.items v)) }
+    ensures least { IfOk result (λ numbers. (y : ℕ → ℕ) → IsAlong (web boxes.now) (growth axis) y
+        → (v : ℕ) → v < boxes.now.vertices → slice_index numbers.items v ≤ y v) }
     ensures within { IfOk result (λ numbers. AreWithin boxes.now.vertices (λ v. slice_index numbers.items v)) }
     ensures count { IfOk result (λ numbers. length numbers.items ≡ boxes.now.vertices) }
     ensures fault { IfErr result (IsAxisFault boxes.now (growth axis)) }

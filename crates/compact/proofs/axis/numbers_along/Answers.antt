@@ -1,4 +1,4 @@
-use Rattle.std.proofs.Common.{◌≡◌, ℕ, List, length, slice_index, subst, sym, refl, arith}
+use Rattle.std.proofs.Common.{◌≡◌, ◌≤◌, ℕ, List, length, slice_index, subst, sym, refl, arith}
 use Rattle.std.proofs.lemmas.List.{take_at}
 use Rattle.compact.specs.declared.gaps.Gap.{Gap}
 use Rattle.compact.specs.Gaps.{Keeps}
@@ -31,3 +31,11 @@ returns-clause-within c =
     subst (λ (xs : List ℕ). AreWithin c.args.boxes.now.vertices (λ v. slice_index xs v))
     (sym (take_at c.settle-settled.new.numbers _ c.in-Ok-vec.numbers.len size))
     (λ v v_in. c.if-not-settled.ensures.small v (omega (arith, v_in, c.vertices.ensures.value, c.in-Ok-vec.ensures.len, c.if-not-settled.ensures.length, c.deref_mut.ensures.len)))
+
+pub returns-clause-least : goal.returns-clause-least
+returns-clause-least c = λ y along v v_in.
+    let size : length c.settle-settled.new.numbers ≡ c.in-Ok-vec.numbers.len = omega (arith, c.if-not-settled.ensures.length, c.deref_mut.ensures.len) in
+    let keeps = subst (λ (gs : List Gap). Keeps gs y) (sym c.deref.ensures.value) (c.in-Ok.ensures.no_more y along) in
+    subst (λ (xs : List ℕ). slice_index xs v ≤ y v)
+    (sym (take_at c.settle-settled.new.numbers _ c.in-Ok-vec.numbers.len size))
+    (c.if-not-settled.ensures.least refl y keeps v (omega (arith, v_in, c.vertices.ensures.value, c.in-Ok-vec.ensures.len, c.deref_mut.ensures.len)))

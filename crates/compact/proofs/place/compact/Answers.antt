@@ -14,5 +14,5 @@ returns-clause-laid c =
     subst (AreLaidOut c.args.boxes.now) (sym c.new.ensures)
     (laid_out c.args.boxes.now c.in-Ok.x.items c.in-Ok-numbers_along.y.items c.deref.result.now c.deref-2.result.now c.deref-3.result.now c.deref-4.result.now
     c.in-Ok-vertex_points.vertices.items c.in-Ok-corner_lists.corners.items c.deref.ensures.value c.deref-2.ensures.value c.deref-3.ensures.value c.deref-4.ensures.value
-    c.in-Ok.ensures.sound c.in-Ok.ensures.along c.in-Ok-numbers_along.ensures.along c.in-Ok.ensures.within c.in-Ok-numbers_along.ensures.within
+    c.in-Ok.ensures.sound c.in-Ok.ensures.along c.in-Ok-numbers_along.ensures.along c.in-Ok.ensures.least c.in-Ok-numbers_along.ensures.least c.in-Ok.ensures.within c.in-Ok-numbers_along.ensures.within
     c.in-Ok-vertex_points.ensures c.in-Ok-corner_lists.ensures.count c.in-Ok-corner_lists.ensures.corners)
