@@ -10,3 +10,6 @@ mod edges;
 mod straight;
 
 pub use straight::bend;
+
+#[cfg(test)]
+mod tests;
