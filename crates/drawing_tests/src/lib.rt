@@ -1,0 +1,14 @@
+//! Tests of what comes of a dissection and its coordinates: known graphs drawn with known bends, shapes with
+//! more bends than need be, and refused allocations.
+#![tactic(auto)]
+
+#[cfg(test)]
+mod boxed;
+#[cfg(test)]
+mod families;
+#[cfg(test)]
+mod planes;
+#[cfg(test)]
+mod refused;
+#[cfg(test)]
+mod turned;
