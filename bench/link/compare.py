@@ -16,7 +16,7 @@ sys.path.insert(0, os.path.dirname(HERE))
 sys.dont_write_bytecode = True
 import programs
 
-NEEDED = ["planar_code", "ruled_lanes", "collector"]
+NEEDED = ["planar_code", "ruled_lanes", "streams"]
 HEADER = b">>planar_code<<"
 RUNS = 9
 

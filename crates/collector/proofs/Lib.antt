@@ -1,5 +1,5 @@
-pub mod Lines
-pub mod Marks
-pub mod Messages
-pub mod Pieces
-pub mod Sinks
+pub mod Whole
+pub mod Telling
+pub mod Texts
+pub mod Taking
+pub mod Binding

@@ -1,8 +1,5 @@
-pub mod Tap
-pub mod Sink
-pub mod Found
-pub mod Marks
-pub mod Memory
-pub mod Reading
-pub mod Framed
-pub mod Text
+pub mod Books
+pub mod Results
+pub mod Lanes
+pub mod Report
+pub mod Running

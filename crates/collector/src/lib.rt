@@ -1,24 +1,30 @@
-//! Reads planar_code sources into records and writes what was found.
+//! Whole files: each record is answered, and a run hands out a book for each file.
 #![tactic(auto)]
 
-mod faults;
-mod found;
-mod framed;
-mod gather;
-mod input;
-mod memory;
-mod output;
-mod reading;
+mod bind;
+mod book;
+mod dealing;
+mod entries;
+mod gives;
+mod lane;
+mod links;
+mod plain;
+mod read_stage;
 mod report;
 mod run;
 #[cfg(test)]
+mod run_tests;
+mod running;
+#[cfg(test)]
 mod tests;
 
-pub use faults::{BatchFault, WriteFault};
-pub use found::{Frames, Mark};
-pub use gather::put_all;
-pub use input::{Tap, TapFault};
-pub use memory::MemTap;
-pub use output::{IoSink, Sink, SinkFault};
-pub use report::write_frames;
-pub use run::run_frames;
+pub use answers::{Answer, Cause, Entry, answer};
+pub use book::{Batch, Book};
+pub use lanes::{Gate, MemOpener, OpenFault, OpenGate, Opener, Stage};
+pub use plain::{MAX_FILES, run_plain};
+pub use report::write_report;
+pub use run::{MAX_LANES, run_batch};
+pub use streams::{
+    BatchFault, Frames, IoSink, Mark, MemTap, Sink, SinkFault, Tap, TapFault, WriteFault,
+    run_frames, write_frames,
+};

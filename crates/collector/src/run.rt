@@ -1,152 +1,163 @@
-//! Runs over sources.
-ghost use Rattle.std.specs.Prelude.{◌≡◌, ◌≢◌, ◌≤◌, ℕ, Bool, List, [], Some, IfOk, IfErr, vec_len};
-ghost use Rattle.ruled_lanes.specs.LinkEnds.{given, taken, AreEnds, TakesFromSame};
-ghost use Rattle.collector.specs.declared.found.Mark.{Mark};
-ghost use Rattle.collector.specs.Marks.{IsMarked};
-ghost use Rattle.collector.specs.Reading.{IsFoundIn};
-ghost use Rattle.collector.specs.Framed.{IsTold, GathersAll, GivesBack};
+//! A run over lanes.
+ghost use Rattle.std.specs.Prelude.{◌≡◌, ◌≢◌, ◌≤◌, ◌<◌, ◌⊎◌, ◌↔◌, [], Err, IfOk, length, vec_len};
+ghost use Rattle.ruled_lanes.specs.LinkEnds.{given};
+ghost use Rattle.lanes.specs.Drafts.{AreDrafts};
+ghost use Rattle.lanes.specs.Files.{AreReady};
+ghost use Rattle.collector.specs.Books.{about_of};
+ghost use Rattle.collector.specs.Results.{AreAllBooks};
 
-use super::faults::BatchFault;
-use super::found::{Frames, Mark};
-use super::framed::Framed;
-use super::input::Tap;
-use super::reading::{piece_buffer, read_all};
-use planar_code::Record;
-use ruled_lanes::{Giver, Taker, link};
+use crate::bind::bind;
+use crate::book::Batch;
+use crate::dealing::Deal;
+use crate::lane::{LaneFault, run_lane};
+use crate::plain::MAX_FILES;
+use crate::running::{Promised, Running, finish_lanes};
+use answers::Entry;
+use lanes::{Draft, Gate, Message, Opener, empty_drafts};
+use ruled_lanes::{Giver, link};
 use std::alloc::Global;
 use std::snapshot::Snapshot;
 use std::sync::Wait;
 use std::thread;
-use std::thread::{Promise, Threads};
+use std::thread::Threads;
+use streams::BatchFault;
 
-/// What the thread of a reader promises of the giver that it gives back.
-#[derive(Drop)]
-struct Reads<T: Tap> {
-    source: Snapshot<T>,
-    giver: Snapshot<Giver<Framed>>,
-}
+/// How many lanes a run has at most.
+pub const MAX_LANES: u32 = 4;
 
-impl<T: Tap> Promise<Option<Giver<Framed>>> for Reads<T> {
-    ghost kept_by = { λ p result.
-        GivesBack (T.to_come p.source.value) (T.fails p.source.value) p.giver.value result };
-}
-
-/// What was gathered of a link, with its end.
-#[derive(Drop)]
-struct Harvest {
-    taker: Taker<Framed>,
-    records: Vec<Record>,
-    mark: Option<Mark>,
-}
-
-/// The records of one source and its mark. A thread of its own reads the source, and at most
-/// `capacity` messages of it wait to be gathered. After the first fault in the bytes, the source is
-/// read no more.
+/// Reads the first `files` files of the opener and answers each record, in lanes of four threads each:
+/// one reads the files, one reads graphs and traces faces, one finds shapes, one draws. File k is dealt
+/// to lane k modulo the number of lanes. It hands out a book for each file, whose mark also tells where
+/// a file could not be opened, failed or found no memory. At most `capacity` messages wait between two
+/// stages.
 ///
-/// `Memory` is want of memory outside the framer; in the framer it is the source's own mark.
-/// `LaneLost`: an end of the link was gone before the last message. `Thread`: no thread could be
-/// started.
-pub fn run_frames<R: Threads + Wait + Sync, T: Tap + Send>(
+/// Each stage passes the gate once for each record, before it works on it.
+///
+/// # Errors
+///
+/// `TooManyFiles` exactly where there are more than 64; `BadLanes` exactly where there are no lanes or
+/// more than 4, and no more files than that. `Memory`: there was none for links, buffers or books.
+/// `LaneLost`: an end of a link was gone. `Thread`: a thread could not be started.
+pub fn run_batch<R: Threads + Wait + Sync, O: Opener, G: Gate>(
     rt: &R,
     alloc: Global,
-    source: T,
+    opener: &O,
+    files: u32,
+    lanes: u32,
     capacity: u32,
-) -> Result<Frames, BatchFault>
+    gate: &G,
+) -> Result<Batch, BatchFault>
     requires least { 1 ≤ capacity }
     requires most { capacity ≤ 64 }
-    ensures told { IfOk result (λ found. (bytes : List ℕ) → T.to_come source ≡ Some bytes
-        → IsMarked bytes (T.fails source) found.records found.mark) }
-
-    // A source that does not tell its bytes gave some bytes, and then ended or failed.
-    ensures untold { IfOk result (λ found. (bytes : List ℕ)
-        × ((fails : Bool) × IsMarked bytes fails found.records found.mark)) }
-    ensures one_source { IfErr result (λ fault.
-        (fault ≢ BatchFault.TooManyFiles) × (fault ≢ BatchFault.BadLanes)) }
+    ensures books { IfOk result (AreAllBooks (O.meaning opener.now) files) }
+    ensures too_many { (64 < files) ↔ (result ≡ Err BatchFault.TooManyFiles) }
+    ensures bad_lanes { (((lanes ≡ 0) ⊎ (4 < lanes)) × (files ≤ 64)) ↔ (result ≡ Err BatchFault.BadLanes) }
 {
-    let Ok((giver, taker)) = link(alloc, capacity) else {
-        return Err(BatchFault::Memory);
+    if files > MAX_FILES {
+        return Err(BatchFault::TooManyFiles);
+    }
+    if lanes == 0 || lanes > MAX_LANES {
+        return Err(BatchFault::BadLanes);
+    }
+    let deal = Deal {
+        files,
+        lanes,
+        lane: 0,
     };
-    let Ok(buffer) = piece_buffer(alloc) else {
-        return Err(BatchFault::Memory);
+    match run_lanes(rt, alloc, opener, gate, deal, capacity) {
+        Ok(batch) => Ok(batch),
+        Err(LaneFault::Memory) => Err(BatchFault::Memory),
+        Err(LaneFault::Lost) => Err(BatchFault::LaneLost),
+        Err(LaneFault::Thread) => Err(BatchFault::Thread),
+    }
+}
+
+/// The books of all files, by all lanes.
+fn run_lanes<R: Threads + Wait + Sync, O: Opener, G: Gate>(
+    rt: &R,
+    alloc: Global,
+    opener: &O,
+    gate: &G,
+    deal: Deal,
+    capacity: u32,
+) -> Result<Batch, LaneFault>
+    requires least { 1 ≤ capacity }
+    requires most { capacity ≤ 64 }
+    requires few { deal.files ≤ 64 }
+    ensures { IfOk result (AreAllBooks (O.meaning opener.now) deal.files) }
+{
+    let Ok(drafts) = empty_drafts(alloc, deal.files) else {
+        return Err(LaneFault::Memory);
+    };
+    let drafts = match drafts_of_lanes(rt, alloc, opener, gate, deal, capacity, drafts) {
+        Ok(drafts) => drafts,
+        Err(fault) => return Err(fault),
+    };
+    match bind(alloc, drafts) {
+        Ok(batch) => Ok(batch),
+        Err(_) => Err(LaneFault::Memory),
+    }
+}
+
+/// The drafts of all files, each all of its file: the lanes run in threads of their own, and this
+/// thread gathers what they give. All lanes are started before it takes anything.
+fn drafts_of_lanes<R: Threads + Wait + Sync, O: Opener, G: Gate>(
+    rt: &R,
+    alloc: Global,
+    opener: &O,
+    gate: &G,
+    deal: Deal,
+    capacity: u32,
+    drafts: Vec<Draft<Entry>>,
+) -> Result<Vec<Draft<Entry>>, LaneFault>
+    requires least { 1 ≤ capacity }
+    requires most { capacity ≤ 64 }
+    requires files { vec_len drafts ≡ deal.files }
+    requires empty { AreDrafts about_of 0 [] drafts.items }
+    ensures count { IfOk result (λ drafts. vec_len drafts ≡ deal.files) }
+    ensures ready { IfOk result (λ drafts. AreReady about_of (O.meaning opener.now) 0 drafts.items) }
+{
+    let Ok(mut running) = Vec::with_capacity(alloc, deal.lanes as usize) else {
+        return Err(LaneFault::Memory);
     };
     thread::scope(
         thread::scope_env(),
         rt,
-        move |scope| -> Result<Frames, BatchFault>
-            requires { AreEnds giver taker × (given giver ≡ []) × (taken taker ≡ [])
-                × (vec_len buffer ≡ 65536) }
-            ensures { IfOk result (λ found.
-                IsFoundIn (T.to_come source) (T.fails source) found.records found.mark)
-                × IfErr result (λ fault.
-                (fault ≢ BatchFault.TooManyFiles) × (fault ≢ BatchFault.BadLanes)) }
+        move |scope| -> Result<Vec<Draft<Entry>>, LaneFault>
+            requires { (1 ≤ capacity) × (capacity ≤ 64) × (vec_len running ≡ 0)
+                × (vec_len drafts ≡ deal.files) × AreDrafts about_of 0 [] drafts.items }
+            ensures { IfOk result (λ drafts. (vec_len drafts ≡ deal.files)
+                × AreReady about_of (O.meaning opener.entry.now) 0 drafts.items) }
         {
-            let promise = Reads {
-                source: Snapshot::of(&source),
-                giver: Snapshot::of(&giver),
-            };
-            let reader = match scope.spawn_with(
-                promise,
-                move || -> Option<Giver<Framed>>
-                    requires { (given giver ≡ []) × (vec_len buffer ≡ 65536) }
-                    ensures { GivesBack (T.to_come source) (T.fails source) giver result }
-                { read_all(rt, alloc, source, buffer, giver) },
-            ) {
-                Ok(reader) => reader,
-                Err(_) => return Err(BatchFault::Thread),
-            };
-            let gathered = gather(rt, alloc, taker);
-            let read = reader.join(rt);
-            let harvest = gathered?;
-            match read {
-                Some(giver) => Ok(settle(rt, harvest, giver)),
-                None => Err(BatchFault::LaneLost),
+            for lane in 0..deal.lanes {
+                let mine = Deal {
+                    files: deal.files,
+                    lanes: deal.lanes,
+                    lane,
+                };
+                let Ok((giver, taker)) = link::<Message<Entry>>(alloc, capacity) else {
+                    return Err(LaneFault::Memory);
+                };
+                let promise = Promised {
+                    opener: Snapshot::of(opener),
+                    deal: mine,
+                    giver: Snapshot::of(&giver),
+                };
+                let handle = match scope.spawn_with(
+                    promise,
+                    move || -> Result<Giver<Message<Entry>>, LaneFault>
+                        requires { (1 ≤ capacity) × (capacity ≤ 64) × (given giver ≡ []) }
+                    { run_lane(rt, alloc, opener, gate, mine, capacity, giver) },
+                ) {
+                    Ok(handle) => handle,
+                    Err(_) => return Err(LaneFault::Thread),
+                };
+                match running.push(Running { handle, taker }) {
+                    Ok(()) => {}
+                    Err(_) => return Err(LaneFault::Memory),
+                }
             }
+            finish_lanes(rt, alloc, opener, deal, running, drafts)
         },
     )
-}
-
-/// Takes messages until the stop. Where it fails, it lets its end go, so that the giver does not
-/// wait for it.
-fn gather<R: Wait>(rt: &R, alloc: Global, mut taker: Taker<Framed>) -> Result<Harvest, BatchFault>
-    requires { taken taker ≡ [] }
-    ensures link { IfOk result (λ h. TakesFromSame taker h.taker) }
-    ensures all { IfOk result (λ h. GathersAll h.records.items h.mark (taken h.taker)) }
-    ensures one_source { IfErr result (λ fault.
-        (fault ≢ BatchFault.TooManyFiles) × (fault ≢ BatchFault.BadLanes)) }
-{
-    let mut records = Vec::new(alloc);
-    let mut mark = None;
-    for _ in rt.forever() {
-        match taker.take(rt) {
-            Ok(Framed::Records(mut batch)) => match records.append(&mut batch) {
-                Ok(()) => {}
-                Err(_) => return Err(BatchFault::Memory),
-            },
-            Ok(Framed::End(end)) => mark = Some(end),
-            Ok(Framed::Stop) => break,
-            Err(_) => return Err(BatchFault::LaneLost),
-        }
-    }
-    Ok(Harvest {
-        taker,
-        records,
-        mark,
-    })
-}
-
-/// Takes both ends of the link in. So what was gathered is all that was told, and it has a mark.
-fn settle<R: Wait>(rt: &R, harvest: Harvest, giver: Giver<Framed>) -> Frames
-    requires ends { AreEnds giver harvest.taker }
-    requires all { GathersAll harvest.records.items harvest.mark (taken harvest.taker) }
-    requires told { (records : List (List ℕ)) × (mark : Mark) × IsTold records mark (given giver) }
-    ensures { (records : List (List ℕ)) (mark : Mark) → IsTold records mark (given giver)
-        → (result.records ≡ records) × (result.mark ≡ mark) }
-{
-    let Harvest {
-        taker,
-        records,
-        mark,
-    } = harvest;
-    taker.settle(rt, giver);
-    Frames::new(records, mark.unwrap())
 }

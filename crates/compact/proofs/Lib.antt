@@ -3,3 +3,4 @@ pub mod Gapping
 pub mod Walking
 pub mod Numbers
 pub mod Placing
+pub mod Stepping

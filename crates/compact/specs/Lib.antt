@@ -1,2 +1,3 @@
 pub mod Gaps
 pub mod Ordered
+pub mod Steps

@@ -62,6 +62,10 @@ abbrev pub IsCompactFault : Parts → CompactFault → Type 0
 IsCompactFault b Wide = HasNoPlace b
 IsCompactFault b Memory = Unit {0}
 
+-- a direction runs neither along the axis of growth k nor against it
+abbrev pub IsAcross : ℕ → ℕ → Type 0
+IsAcross k d = (d ≢ k) × (d ≢ k + 2)
+
 -- along one axis, whose direction of growth has the number k: a dart that way has a gap of 1 or more, and the ends of a
 -- dart across have one number
 pub record IsAlong (w : Web) (k : ℕ) (x : ℕ → ℕ) : Type 0 where

@@ -1,12 +1,15 @@
 //! The gaps of a dissection along an axis, and the least numbers of its vertices.
 
-ghost use Rattle.std.specs.Prelude.{◌≡◌, ◌≢◌, ◌+◌, length, slice_index, Some, None, IfOk, IfErr, ℕ, ◌<◌, ◌≤◌};
-ghost use Rattle.compact.specs.Ordered.{IsAlong, AreAlong, AreWithin, IsAxisFault, growth};
+ghost use Rattle.std.specs.Prelude.{◌≡◌, ◌≢◌, ◌+◌, length, slice_index, Some, None, IsTrue, IfOk, IfErr, ℕ, ◌<◌, ◌≤◌};
+ghost use Rattle.compact.specs.Ordered.{IsAlong, AreAlong, AreWithin, IsAcross, IsAxisFault, growth};
+ghost use Rattle.compact.specs.Steps.{AreUnder};
 ghost use Rattle.cutting.specs.Webs.{IsSound};
 ghost use Rattle.dissect.specs.Boxes.{web, number_of};
 
 use crate::fault::CompactFault;
 use crate::gaps::{Gap, settle};
+use crate::rows::{Steps, raise_rows};
+use crate::steps::steps_of;
 use directions::Direction;
 use dissect::Boxes;
 use std::alloc::{AllocError, Global};
@@ -50,6 +53,65 @@ fn gaps_along(alloc: Global, boxes: &Boxes, axis: Axis) -> Result<Vec<Gap>, Allo
     Ok(gaps)
 }
 
+/// Whether numbers are in the order of the darts along an axis. A step for each dart.
+fn are_along(boxes: &Boxes, axis: Axis, numbers: &[u16]) -> bool
+    requires count { length numbers.now ≡ boxes.now.vertices }
+    ensures along { IsTrue result → IsAlong (web boxes.now) (growth axis) (λ v. slice_index numbers.now v) }
+    ensures small { (v : ℕ) → v < length numbers.now → slice_index numbers.now v ≤ 65535 }
+{
+    for dart in 0..boxes.darts() {
+        if let Some(least) = least_gap(axis, boxes.direction(dart)) {
+            let from = numbers[boxes.head(boxes.reverse(dart)) as usize];
+            let to = numbers[boxes.head(dart) as usize];
+            if u32::from(from) + u32::from(least) > u32::from(to) {
+                return false;
+            }
+        }
+    }
+    true
+}
+
+/// Numbers that are nowhere above any in the order of the darts along the direction `ahead`, where `up`
+/// and `down` run across it.
+fn low_along(
+    alloc: Global,
+    boxes: &Boxes,
+    ahead: u8,
+    up: u8,
+    down: u8,
+) -> Result<Vec<u16>, AllocError>
+    requires ahead { ahead < 4 }
+    requires up { (up < 4) × IsAcross ahead up }
+    requires down { (down < 4) × IsAcross ahead down }
+    ensures sound { IfOk result (λ _. IsSound (web boxes.now)) }
+    ensures count { IfOk result (λ numbers. length numbers.items ≡ boxes.now.vertices) }
+    ensures under { IfOk result (λ numbers. (y : ℕ → ℕ) → IsAlong (web boxes.now) ahead y → AreUnder boxes.now.vertices numbers.items y) }
+{
+    let around = steps_of(alloc, boxes)?;
+    let mut numbers = vec![in alloc; 0; boxes.vertices() as usize]?;
+    let steps = Steps {
+        around: &around,
+        ahead,
+        up,
+        down,
+    };
+    raise_rows(alloc, steps, boxes.vertices(), &mut numbers)?;
+    Ok(numbers)
+}
+
+/// Numbers that are nowhere above any in the order of the darts along an axis: the lengths of longest
+/// paths, found row by row. Linear in the darts.
+fn low_numbers(alloc: Global, boxes: &Boxes, axis: Axis) -> Result<Vec<u16>, AllocError>
+    ensures sound { IfOk result (λ _. IsSound (web boxes.now)) }
+    ensures count { IfOk result (λ numbers. length numbers.items ≡ boxes.now.vertices) }
+    ensures under { IfOk result (λ numbers. (y : ℕ → ℕ) → IsAlong (web boxes.now) (growth axis) y → AreUnder boxes.now.vertices numbers.items y) }
+{
+    match axis {
+        Axis::X => low_along(alloc, boxes, 0, 1, 3),
+        Axis::Y => low_along(alloc, boxes, 1, 2, 0),
+    }
+}
+
 /// The least numbers of the vertices in the order of the darts along an axis.
 pub fn numbers_along(alloc: Global, boxes: &Boxes, axis: Axis) -> Result<Vec<u16>, CompactFault>
     ensures sound { IfOk result (λ _. IsSound (web boxes.now)) }
@@ -60,10 +122,13 @@ pub fn numbers_along(alloc: Global, boxes: &Boxes, axis: Axis) -> Result<Vec<u16
     ensures count { IfOk result (λ numbers. length numbers.items ≡ boxes.now.vertices) }
     ensures fault { IfErr result (IsAxisFault boxes.now (growth axis)) }
 {
-    let Ok(gaps) = gaps_along(alloc, boxes, axis) else {
+    let Ok(mut numbers) = low_numbers(alloc, boxes, axis) else {
         return Err(CompactFault::Memory);
     };
-    let Ok(mut numbers) = vec![in alloc; 0; boxes.vertices() as usize] else {
+    if are_along(boxes, axis, &numbers) {
+        return Ok(numbers);
+    }
+    let Ok(gaps) = gaps_along(alloc, boxes, axis) else {
         return Err(CompactFault::Memory);
     };
     let settled = settle(&gaps, &mut numbers);

@@ -30,6 +30,26 @@ fn is_turn(boxes: &Boxes, front: u32, dart: u32) -> bool
     boxes.direction(front) != boxes.direction(dart)
 }
 
+/// How often the edge that ends with a dart turns. A step for each of its darts.
+fn turn_count(boxes: &Boxes, last: u16) -> usize
+    requires { last < boxes.now.darts }
+{
+    let mut count: usize = 0;
+    let mut dart = u32::from(last);
+    for _ in 0..boxes.darts() {
+        match boxes.before(dart) {
+            Some(front) if front < boxes.darts() => {
+                if is_turn(boxes, front, dart) {
+                    count += 1;
+                }
+                dart = front;
+            }
+            _ => return count,
+        }
+    }
+    count
+}
+
 /// The corner points of the edge that ends with a dart, along it. Linear in the darts it is made of.
 pub fn corners_along(
     alloc: Global,
@@ -44,7 +64,7 @@ pub fn corners_along(
     ensures { IfOk result (λ corners. (first : ℕ) (rest : List ℕ) → IsPath (web boxes.now) last first rest
         → corners.items ≡ map (point_at (λ v. slice_index x.now v) (λ v. slice_index y.now v)) (turning_places (web boxes.now) first rest)) }
 {
-    let mut corners = Vec::new(alloc);
+    let mut corners = Vec::with_capacity(alloc, turn_count(boxes, last))?;
     let mut dart = u32::from(last);
     'back: while let Some(front) = boxes.before(dart) {
         if is_turn(boxes, front, dart) {

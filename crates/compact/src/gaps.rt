@@ -60,14 +60,14 @@ fn widen_all(gaps: &[Gap], numbers: &mut [u16]) -> Look
     found
 }
 
-/// Raises numbers from 0 on until each gap is kept, and says whether that could be: they are then the
+/// Raises low numbers until each gap is kept, and says whether that could be: they are then the
 /// least that keep the gaps, the lengths of longest paths. If not, all numbers that keep the gaps pass 65,535.
 ///
 /// It takes a step a gap in each round, and at most as many rounds as a longest path has gaps, and one
-/// more; few where the gaps stand in the order of such paths.
+/// more.
 pub fn settle(gaps: &[Gap], numbers: &mut [u16]) -> bool
     requires inside { AreInside (length numbers.old) gaps.now }
-    requires zeros { All (λ n. n ≡ 0) numbers.old }
+    requires low { IsLow gaps.now (length numbers.old) (λ v. slice_index numbers.old v) }
     ensures keeps { IsTrue result → Keeps gaps.now (λ v. slice_index numbers.new v) }
     ensures least { IsTrue result → IsLow gaps.now (length numbers.old) (λ v. slice_index numbers.new v) }
     ensures small { (v : ℕ) → v < length numbers.new → slice_index numbers.new v ≤ 65535 }

@@ -6,6 +6,8 @@ mod corners;
 mod fault;
 mod gaps;
 mod place;
+mod rows;
+mod steps;
 
 pub use fault::CompactFault;
 pub use place::compact;

@@ -56,8 +56,9 @@ fn corner_lists(
 /// ends and corners.
 ///
 /// The numbers are the lengths of longest paths in the two constraint graphs of the dissection
-/// (Tamassia 1987). They are found by raising the end of each constraint that is not kept, from zeros
-/// on: a step a dart in each round, as many rounds as a longest path has darts at the most.
+/// (Tamassia 1987). They are found row by row, a row being what darts across the axis join: a few steps
+/// for each dart. Where that does not keep all constraints, as in a drawing too wide for the grid, the
+/// end of each constraint that is not kept is raised, in rounds.
 ///
 /// # Errors
 ///

@@ -1,12 +1,12 @@
 ghost use Rattle.std.specs.Prelude.{◌<◌};
 
 use anyhow::{Context, Result, ensure};
-use collector::{Frames, Mark, MemTap, run_frames};
 use planar_code::{Ending, Record, split};
 use std::fs;
 use std::rt::Files;
 use std::sync::Wait;
 use std::thread::Threads;
+use streams::{Frames, Mark, MemTap, run_frames};
 
 /// How many bytes a read gives at most.
 const SIZES: [usize; 4] = [1, 2, 7, 65_536];

@@ -23,23 +23,29 @@ pub enum Depth {
 
 /// What became of a graph.
 #[derive(Drop)]
-enum Found {
+pub enum Found {
     Refused(&'static str),
     Traced(Plane),
 }
 
-/// Prints a line for each graph of one file, and one for its end.
-pub fn report<R: Files + Print + AllocGlobal>(rt: &R, name: &str, depth: Depth) -> Result<()> {
+/// The records of a file.
+pub fn records_of<R: Files + AllocGlobal>(rt: &R, name: &str) -> Result<Vec<Record>> {
     let bytes = fs::read(rt, name).context(format_args!("{name}"))?;
     let alloc = rt.alloc();
     let mut framer = Framer::new(alloc)?;
     let mut records = Vec::new(alloc);
     let fed = framer.feed(alloc, bytes.as_slice(), &mut records);
     ensure!(fed.is_ok(), "{name}: not the header and records");
+    Ok(records)
+}
+
+/// Prints a line for each graph of one file, and one for its end.
+pub fn report<R: Files + Print + AllocGlobal>(rt: &R, name: &str, depth: Depth) -> Result<()> {
+    let records = records_of(rt, name)?;
     println!(rt; "{name}")?;
     for (place, record) in records.iter().enumerate() {
         let number = place as u64 + 1;
-        match trace(alloc, record)? {
+        match trace(rt.alloc(), record)? {
             Found::Refused(word) => println!(rt; "graph {number} refused {word}")?,
             Found::Traced(plane) => line(rt, number, &plane, depth)?,
         }
@@ -71,7 +77,7 @@ fn line<R: Print + AllocGlobal>(rt: &R, number: u64, plane: &Plane, depth: Depth
 }
 
 /// A least shape, once both tests have said yes to it.
-fn least(alloc: Global, plane: &Plane) -> Result<Shape>
+pub fn least(alloc: Global, plane: &Plane) -> Result<Shape>
     ensures { IfOk result (IsShape plane.now) }
 {
     let (shape, prices) = least_shape(alloc, plane)?;
@@ -93,7 +99,7 @@ fn draw(alloc: Global, plane: &Plane, shape: &Shape) -> Result<()>
 }
 
 /// The plane of a record, or the rule that it breaks.
-fn trace(alloc: Global, record: &Record) -> Result<Found> {
+pub fn trace(alloc: Global, record: &Record) -> Result<Found> {
     let graph = match Graph::read(alloc, record) {
         Ok(graph) => graph,
         Err(ReadFault::Rule(rule)) => return Ok(Found::Refused(rule.word())),

@@ -1,11 +1,16 @@
 -- What the program's exit status says.
-use Rattle.std.specs.Prelude.{◌≡◌, ◌≢◌, ◌⊎◌, ◌↔◌, ℕ, Bool, false, List, Option}
+use Rattle.std.specs.Prelude.{◌≡◌, ◌≢◌, ◌⊎◌, ◌↔◌, ℕ, Bool, false, List, Option, All}
 use Rattle.std.specs.Io.KnownBytes.{Appends}
 use Rattle.planar_code.specs.declared.ending.Ending.{Ending}
-use Rattle.collector.specs.declared.faults.BatchFault.{BatchFault}
-use Rattle.collector.specs.declared.found.Mark.{Mark}
-use Rattle.collector.specs.Found.{Found}
-use Rattle.collector.specs.Text.{frames_text}
+use Rattle.streams.specs.declared.faults.BatchFault.{BatchFault}
+use Rattle.streams.specs.declared.found.Mark.{Mark}
+use Rattle.streams.specs.Found.{Found}
+use Rattle.streams.specs.Text.{frames_text}
+use Rattle.lanes.specs.Opening.{Silent}
+use Rattle.answers.specs.declared.found.Answer.{Answer}
+use Rattle.collector.specs.Books.{Pages}
+use Rattle.collector.specs.Results.{AreAllBooks}
+use Rattle.collector.specs.Report.{report_text}
 use Rattle.planarbend.specs.declared.faults.Fault.{Fault}
 
 -- what was asked for is refused
@@ -22,4 +27,19 @@ pub record IsReported (old new : Option (List ℕ)) (failed : Bool) (status : �
   pub text : Appends old new (frames_text found)
   pub whole : failed ≡ false
   pub complete : IsComplete found ↔ (status ≡ 0)
+  pub other : status ≢ 0 → status ≡ 3
+
+-- the file ended complete, and memory sufficed for an answer to each of its records
+pub record IsWholeBook (book : Pages) : Type 0 where
+  pub complete : book.mark ≡ Mark.Ended Ending.Complete
+  pub answered : All (λ entry. entry.answer ≢ Answer.NoMemory) book.entries
+
+-- The whole report of the books of so many files was added to the output, and the status tells whether each book is
+-- whole. Nothing is known of the files beforehand.
+pub record IsLaidOut (files : ℕ) (old new : Option (List ℕ)) (failed : Bool) (status : ℕ) : Type 0 where
+  pub books : List Pages
+  pub of_files : AreAllBooks (λ _. Silent) files books
+  pub text : Appends old new (report_text books)
+  pub written : failed ≡ false
+  pub whole : All IsWholeBook books ↔ (status ≡ 0)
   pub other : status ≢ 0 → status ≡ 3

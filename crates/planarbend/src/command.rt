@@ -1,28 +1,28 @@
 //! What the program does with its words.
-ghost use Rattle.std.specs.Prelude.{◌≡◌, ◌≢◌, ◌≤◌, ◌↔◌, ◌⊎◌, true, false, IfOk, IfErr, OnOk};
-ghost use Rattle.planarbend.specs.Statuses.{IsRefusal, IsReported};
+ghost use Rattle.std.specs.Prelude.{◌≡◌, ◌≤◌, ◌⊎◌, ℕ, true, false, IfOk, IfErr, OnOk};
+ghost use Rattle.planarbend.specs.Statuses.{IsRefusal, IsReported, IsLaidOut};
 
 use super::faults::Fault;
+use super::layout::{CAPACITY, layout};
 use super::line::report;
 use super::source::open_source;
+use super::statuses::status_of;
 use super::words::{Request, parse};
 use clap::Error;
 use clap::error::ErrorKind;
-use collector::{Mark, Sink, put_all, run_frames, write_frames};
-use planar_code::Ending;
+use collector::{Sink, run_frames, write_frames};
 use std::alloc::Global;
 use std::rt::Files;
 use std::sync::Wait;
 use std::thread::Threads;
-
-/// How many messages wait between two threads of a run at most.
-const CAPACITY: u32 = 16;
+use streams::put_all;
 
 /// Does what the words after the program's name ask for, and answers the program's exit status.
 /// A report goes to `out`, and the line of a fault to `err`; that this line may fail changes nothing.
 ///
-/// The status is 0 for help and for the whole report of a file that ends complete, 3 for the whole report
-/// of any other file, 2 for a command line that is refused, and 1 where there is no whole report.
+/// The status is 0 for help and for a whole report in which each file ends complete and no graph
+/// wanted for memory, 3 for any other whole report, 2 for a command line that is refused, and 1 where
+/// there is no whole report.
 pub fn command<R: Files + AllocGlobal + Threads + Wait + Sync, S: Sink, E: Sink>(
     rt: &R,
     words: &[String],
@@ -31,16 +31,24 @@ pub fn command<R: Files + AllocGlobal + Threads + Wait + Sync, S: Sink, E: Sink>
 ) -> u8
 where
     R::File: Send,
+    R::Dir: Send,
     requires out_is_whole { S.failed out.old ≡ false }
     requires err_is_whole { E.failed err.old ≡ false }
     ensures known { result ≤ 3 }
     ensures failed_write { S.failed out.new ≡ true → result ≡ 1 }
 
-    // Status 3 comes with the whole report of a file that does not end complete.
-    ensures reported { result ≡ 3 → IsReported (S.taken out.old) (S.taken out.new) (S.failed out.new) 3 }
+    // Where the command line is refused, nothing is reported.
+    ensures refused { result ≡ 2 → out.new ≡ out.old }
+
+    // Status 3 comes with a whole report: of a file that does not end complete, or of files of which
+    // one does not or lacks an answer for want of memory.
+    ensures reported { result ≡ 3
+        → IsReported (S.taken out.old) (S.taken out.new) (S.failed out.new) 3
+        ⊎ ((files : ℕ) × IsLaidOut files (S.taken out.old) (S.taken out.new) (S.failed out.new) 3) }
 {
     let outcome = match parse(rt.alloc(), words) {
         Ok(Request::Frames { path }) => frames(rt, path, out),
+        Ok(Request::Layout { paths, lanes }) => layout(rt, paths.as_slice(), lanes, out),
         Err(error) if error.use_stderr() => return refuse(rt.alloc(), &error, err),
         Err(error) => show_help(rt.alloc(), &error, out),
     };
@@ -76,17 +84,6 @@ where
     let found = run_frames(rt, rt.alloc(), source, CAPACITY)?;
     write_frames(&found, out)?;
     Ok(status_of(found.mark()))
-}
-
-/// The status of a whole report: 0 where the file ended complete, and else 3.
-fn status_of(mark: Mark) -> u8
-    ensures complete { (result ≡ 0) ↔ (mark ≡ Mark.Ended Ending.Complete) }
-    ensures other { mark ≢ Mark.Ended Ending.Complete → result ≡ 3 }
-{
-    match mark {
-        Mark::Ended(Ending::Complete) => 0,
-        _ => 3,
-    }
 }
 
 /// Writes why the command line is refused, and answers the status: 2, or 1 for want of memory.

@@ -2,9 +2,9 @@
 ghost use Rattle.std.specs.Prelude.{◌≡◌, ◌≤◌, false};
 
 use super::faults::Fault;
-use collector::{Sink, put_all};
 use std::fmt;
 use std::fmt::Write;
+use streams::{Sink, put_all};
 
 /// A short line of text in a fixed buffer; what does not fit is left out.
 #[derive(Drop)]

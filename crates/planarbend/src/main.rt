@@ -1,10 +1,15 @@
-//! `planarbend`: cuts planar_code files into records.
+//! `planarbend`: draws the graphs of planar_code files with the fewest bends.
 #![tactic(auto)]
 
 mod command;
 mod faults;
+mod file_opener;
+mod layout;
+#[cfg(test)]
+mod layout_tests;
 mod line;
 mod source;
+mod statuses;
 #[cfg(test)]
 mod tests;
 mod words;

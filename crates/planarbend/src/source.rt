@@ -1,13 +1,14 @@
-//! What `frames` reads.
-ghost use Rattle.std.specs.Prelude.{◌≡◌, None, false, IfErr};
+//! Files as sources of a run.
+ghost use Rattle.std.specs.Prelude.{◌≡◌, ◌↔◌, None, false, IfErr};
 
 use super::faults::Fault;
-use collector::{Tap, TapFault};
+use collector::{OpenFault, Tap, TapFault};
 use std::fs;
 use std::io::{ErrorKind, Read};
 use std::rt::Files;
 
-/// An open file, or one that could not be opened, whose every read fails.
+/// An open file, or one that could not be opened, whose every read fails. It tells nothing of its
+/// bytes.
 #[derive(Drop)]
 pub enum FileSource<F> {
     Open(F),
@@ -34,7 +35,19 @@ pub fn open_source<R: Files>(rt: &R, path: &str) -> Result<FileSource<R::File>, 
 {
     match fs::open(rt, path) {
         Ok(file) => Ok(FileSource::Open(file)),
-        Err(error) if error.kind() == ErrorKind::OutOfMemory => Err(Fault::Memory),
-        Err(_) => Ok(FileSource::Refused),
+        Err(error) => match open_fault(error.kind()) {
+            OpenFault::Memory => Err(Fault::Memory),
+            OpenFault::Io => Ok(FileSource::Refused),
+        },
+    }
+}
+
+/// Why a file was not opened, by the kind of the error.
+pub fn open_fault(kind: ErrorKind) -> OpenFault
+    ensures memory { (result ≡ OpenFault.Memory) ↔ (kind ≡ ErrorKind.OutOfMemory) }
+{
+    match kind {
+        ErrorKind::OutOfMemory => OpenFault::Memory,
+        _ => OpenFault::Io,
     }
 }

@@ -14,16 +14,20 @@ use std::{fs, io};
 
 /// What a run wrote, and its status.
 #[derive(Drop)]
-struct Ran {
-    status: u8,
-    out: Vec<u8>,
-    err: Vec<u8>,
+pub struct Ran {
+    pub status: u8,
+    pub out: Vec<u8>,
+    pub err: Vec<u8>,
 }
 
 /// Runs the command with these words.
-fn run<R: Files + AllocGlobal + Threads + Wait + Sync>(rt: &R, words: &[&str]) -> Result<Ran, Fail>
+pub fn run<R: Files + AllocGlobal + Threads + Wait + Sync>(
+    rt: &R,
+    words: &[&str],
+) -> Result<Ran, Fail>
 where
     R::File: Send,
+    R::Dir: Send,
 {
     let mut given = Vec::new(rt.alloc());
     for word in words {
@@ -48,6 +52,7 @@ fn check<R: Files + AllocGlobal + Threads + Wait + Sync + Abort>(
 ) -> Result<(), Fail>
 where
     R::File: Send,
+    R::Dir: Send,
 {
     let mut bytes = Vec::new(rt.alloc());
     for part in parts {
@@ -61,11 +66,11 @@ where
     Ok(())
 }
 
-const HEADER: &[u8] = b">>planar_code<<";
+pub const HEADER: &[u8] = b">>planar_code<<";
 
-const EDGE: &[u8] = &[2, 2, 0, 1, 0];
+pub const EDGE: &[u8] = &[2, 2, 0, 1, 0];
 
-const TRIANGLE: &[u8] = &[3, 2, 3, 0, 3, 1, 0, 1, 2, 0];
+pub const TRIANGLE: &[u8] = &[3, 2, 3, 0, 3, 1, 0, 1, 2, 0];
 
 #[test]
 fn reports_records_and_the_ending(rt: HostRuntime) -> Result<(), Fail> {
@@ -133,13 +138,14 @@ fn marks_what_cannot_be_read(rt: HostRuntime) -> Result<(), Fail> {
 }
 
 /// Runs a command line that is refused, and looks for a text in what is said of it.
-fn check_refused<R: Files + AllocGlobal + Threads + Wait + Sync + Abort>(
+pub fn check_refused<R: Files + AllocGlobal + Threads + Wait + Sync + Abort>(
     rt: &R,
     words: &[&str],
     text: &str,
 ) -> Result<(), Fail>
 where
     R::File: Send,
+    R::Dir: Send,
 {
     let ran = run(rt, words)?;
     assert_eq!(rt; ran.status, 2, "{text}");
@@ -158,33 +164,53 @@ fn answers_command_lines(rt: HostRuntime) -> Result<(), Fail> {
         &["frames", "a", "b"],
         "unexpected argument 'b' found\n",
     )?;
-    for words in [
-        ["--help", "frames"],
-        ["frames", "--help"],
-        ["help", "frames"],
-    ] {
-        let ran = run(&rt, &words)?;
-        assert_eq!(rt; ran.status, 0);
-        let example = b"Example:\n  planarbend frames examples/two.pc\n";
-        assert!(rt; holds(ran.out.as_slice(), example));
-        assert_eq!(rt; ran.err.len(), 0);
+    for words in [["frames", "--help"], ["help", "frames"]] {
+        check_help(
+            &rt,
+            &words,
+            "Example:\n  planarbend frames examples/two.pc\n",
+        )?;
+    }
+    for words in [["--help", "frames"], ["--help", "layout"]] {
+        check_help(
+            &rt,
+            &words,
+            "Examples:\n  planarbend layout examples/two.pc\n",
+        )?;
     }
     Ok(())
 }
 
+/// Asks for help, and looks for a text in it.
+pub fn check_help<R: Files + AllocGlobal + Threads + Wait + Sync + Abort>(
+    rt: &R,
+    words: &[&str],
+    text: &str,
+) -> Result<(), Fail>
+where
+    R::File: Send,
+    R::Dir: Send,
+{
+    let ran = run(rt, words)?;
+    assert_eq!(rt; ran.status, 0, "{text}");
+    assert!(rt; holds(ran.out.as_slice(), text.as_bytes()), "{text}");
+    assert_eq!(rt; ran.err.len(), 0, "{text}");
+    Ok(())
+}
+
 /// Whether `part` stands somewhere in `text`.
-fn holds(text: &[u8], part: &[u8]) -> bool {
+pub fn holds(text: &[u8], part: &[u8]) -> bool {
     text.windows(part.len().max(1)).any(|window| window == part)
 }
 
 /// A writer with little room, which fails when it is full.
 #[derive(Drop)]
-struct Narrow {
-    taken: [u8; 64],
+pub struct Narrow {
+    taken: [u8; 128],
     len: usize,
     room: usize,
-    ghost in_range: { room ≤ 64 },
-    ghost within: { len ≤ 64 },
+    ghost in_range: { room ≤ 128 },
+    ghost within: { len ≤ 128 },
 }
 
 impl Write for Narrow {
@@ -205,17 +231,17 @@ impl Write for Narrow {
 }
 
 impl Narrow {
-    fn new(room: usize) -> Narrow
-        requires { room ≤ 64 }
+    pub fn new(room: usize) -> Narrow
+        requires { room ≤ 128 }
     {
         Narrow {
-            taken: [0; 64],
+            taken: [0; 128],
             len: 0,
             room,
         }
     }
 
-    fn text(&self) -> &[u8] {
+    pub fn text(&self) -> &[u8] {
         &self.taken[..self.len]
     }
 }
@@ -274,7 +300,7 @@ const NO_FRAMER: &[u8] = b"end memory records=0\n";
 
 /// Whether the line says that the run itself found no memory. Where a thread is started or an end
 /// is given up for it, the line may name that instead.
-fn names_no_run(line: &[u8]) -> bool {
+pub fn names_no_run(line: &[u8]) -> bool {
     line == b"planarbend: out of memory\n".as_slice()
         || line == b"planarbend: a thread could not be run\n".as_slice()
         || line == b"planarbend: a lane was lost\n".as_slice()

@@ -1,7 +1,7 @@
 use Rattle.std.proofs.Common.{◌≡◌, Err, subst}
 use Rattle.std.proofs.lemmas.Result.{err_from_is_err_and}
-use Rattle.collector.specs.declared.faults.WriteFault.{WriteFault}
-use Rattle.collector.proofs.Sinks.{room_fails}
+use Rattle.streams.specs.declared.faults.WriteFault.{WriteFault}
+use Rattle.streams.proofs.Sinks.{room_fails}
 use Rattle.collector.proofs.report.write_end.Goals as goal
 
 pub returns-in_err-make_room : goal.returns-in_err-make_room

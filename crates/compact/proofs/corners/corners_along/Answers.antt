@@ -8,13 +8,18 @@ use Rattle.compact.specs.Ordered.{point_at}
 use Rattle.compact.proofs.Walking.{IsWalking, walk_starts, walk_more, walk_ends, path_last_in, met_turn, met_straight, map-reverse}
 use Rattle.compact.proofs.corners.corners_along.Goals as goal
 
+pub turn_count-requires : goal.turn_count-requires
+turn_count-requires c =
+    let (first, rest, path) = c.requires.path in
+    path_last_in (web c.args.boxes.now) c.args.last first rest path
+
 pub back-init : goal.back-init
 back-init c =
     let (first, rest, path) = c.requires.path in
     let same : c.from-dart.result ≡ c.args.last = c.from-dart.ensures in
     record {
       inside = subst (λ (d : ℕ). d < c.args.boxes.now.darts) (sym same) (path_last_in (web c.args.boxes.now) c.args.last first rest path);
-      met = ([], subst (λ (d : ℕ). IsWalking (web c.args.boxes.now) c.args.last d []) (sym same) (walk_starts (web c.args.boxes.now) c.args.last first rest path), c.new-corners.ensures.items);
+      met = ([], subst (λ (d : ℕ). IsWalking (web c.args.boxes.now) c.args.last d []) (sym same) (walk_starts (web c.args.boxes.now) c.args.last first rest path), c.in_ok-corners.ensures.items);
     }
 
 pub is_turn-requires-clause-front : goal.is_turn-requires-clause-front

@@ -1,0 +1,4 @@
+pub mod Words
+pub mod Drawn
+pub mod Steps
+pub mod Answers

@@ -1,0 +1,32 @@
+-- What is known of a record between the stages that answer it.
+use Rattle.std.specs.Prelude.{◌≡◌, ℕ, List, Result, Ok, Err, ⊤}
+use Rattle.planar_code.specs.Stream.{lists_of}
+use Rattle.embedding.specs.Rules.{FirstBroken}
+use Rattle.faces.specs.Map.{Map, IsPlane, IsWidest}
+use Rattle.answers.specs.declared.refusal.Refusal.{Refusal}
+use Rattle.answers.specs.declared.refusal.Refusal.TheVariants.{Rule, Memory}
+use Rattle.answers.specs.declared.layout.Layout.{Layout}
+
+-- the plane of a record of these bytes
+pub record IsTraced (bytes : List ℕ) (plane : Map) : Type 0 where
+  -- it has the record's neighbour lists
+  pub lists : plane.lists ≡ lists_of bytes
+  -- no rule is broken, and the faces are those of the lists
+  pub rules : IsPlane plane
+  -- the outer face has the most darts, and among equals it holds the least dart
+  pub widest : IsWidest plane
+
+-- why such a record has no plane: the rule is broken, and none before it; want of memory says nothing
+abbrev pub IsRefused : List ℕ → Refusal → Type 0
+IsRefused bytes (Rule rule) = FirstBroken (lists_of bytes) rule
+IsRefused bytes Memory = ⊤
+
+-- the plane of the record, or why there is none
+abbrev pub IsEmbedded : List ℕ → Result Map Refusal → Type 0
+IsEmbedded bytes (Ok plane) = IsTraced bytes plane
+IsEmbedded bytes (Err refusal) = IsRefused bytes refusal
+
+-- a layout of the record's plane, or why there is none
+abbrev pub IsShaped : List ℕ → Result Layout Refusal → Type 0
+IsShaped bytes (Ok layout) = IsTraced bytes layout.plane
+IsShaped bytes (Err refusal) = IsRefused bytes refusal

@@ -1,0 +1,50 @@
+//! Records with their planes.
+
+ghost use Rattle.answers.specs.Steps.{IsEmbedded};
+
+use crate::refusal::Refusal;
+use crate::shaped::Shaped;
+use crate::stages::shape;
+use faces::Plane;
+use lanes::{Numbered, Stage, Staged};
+use planar_code::Record;
+use std::alloc::Global;
+
+/// A record of a file, and its plane or why there is none.
+#[derive(Drop)]
+pub struct Embedded {
+    /// The file, from 0.
+    pub file: u32,
+    /// The record's place in its file, from 0.
+    pub ordinal: u32,
+    pub rec: Record,
+    pub plane: Result<Plane, Refusal>,
+    pub ghost embedded: { ∥ IsEmbedded rec plane ∥₁ },
+}
+
+impl Numbered for Embedded {
+    ghost about = { λ e. record { file = e.file; ordinal = e.ordinal; bytes = e.rec } };
+
+    fn file(&self) -> u32 {
+        self.file
+    }
+
+    fn ordinal(&self) -> u32 {
+        self.ordinal
+    }
+}
+
+impl Staged for Embedded {
+    type Next = Shaped;
+
+    const STAGE: Stage = Stage::Shape;
+
+    fn next(self, alloc: Global) -> Shaped {
+        Shaped {
+            file: self.file,
+            ordinal: self.ordinal,
+            rec: self.rec,
+            layout: shape(alloc, self.plane),
+        }
+    }
+}

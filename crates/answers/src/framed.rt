@@ -1,0 +1,45 @@
+//! Records that were cut out of a file.
+
+use crate::embedded::Embedded;
+use crate::stages::embed;
+use lanes::{Numbered, Stage, Staged};
+use planar_code::Record;
+use std::alloc::Global;
+
+/// A record of a file, of which nothing more is known.
+#[derive(Drop)]
+pub struct Framed {
+    /// The file, from 0.
+    pub file: u32,
+    /// The record's place in its file, from 0.
+    pub ordinal: u32,
+    pub rec: Record,
+}
+
+impl Numbered for Framed {
+    ghost about = { λ f. record { file = f.file; ordinal = f.ordinal; bytes = f.rec } };
+
+    fn file(&self) -> u32 {
+        self.file
+    }
+
+    fn ordinal(&self) -> u32 {
+        self.ordinal
+    }
+}
+
+impl Staged for Framed {
+    type Next = Embedded;
+
+    const STAGE: Stage = Stage::Embed;
+
+    fn next(self, alloc: Global) -> Embedded {
+        let plane = embed(alloc, &self.rec);
+        Embedded {
+            file: self.file,
+            ordinal: self.ordinal,
+            rec: self.rec,
+            plane,
+        }
+    }
+}

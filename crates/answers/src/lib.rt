@@ -1,0 +1,27 @@
+//! From a record to its entry: its graph is read and its faces are traced, a shape with the fewest
+//! bends is found, and the shape is drawn. Each of these is a stage of a lane, and keeps in the type of
+//! what it gives that it is the record's.
+#![tactic(auto)]
+
+mod cause;
+mod embedded;
+mod entry;
+mod found;
+mod framed;
+mod layout;
+mod refusal;
+mod shaped;
+mod stages;
+
+pub use cause::Cause;
+pub use embedded::Embedded;
+pub use entry::Entry;
+pub use found::Answer;
+pub use framed::Framed;
+pub use layout::Layout;
+pub use refusal::Refusal;
+pub use shaped::Shaped;
+pub use stages::answer;
+
+#[cfg(test)]
+mod tests;

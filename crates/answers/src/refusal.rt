@@ -1,0 +1,10 @@
+//! Why a record is not laid out.
+
+/// Why a record has no plane, or no shape.
+#[derive(Clone, Copy, Debug, PartialEq, Eq)]
+pub enum Refusal {
+    /// It breaks this rule, and none before it.
+    Rule(embedding::Rule),
+    /// Memory ran out, which says nothing of the record.
+    Memory,
+}

@@ -1,0 +1,50 @@
+//! Records with their shapes.
+
+ghost use Rattle.answers.specs.Steps.{IsShaped};
+
+use crate::entry::Entry;
+use crate::layout::Layout;
+use crate::refusal::Refusal;
+use crate::stages::answer_with;
+use lanes::{Numbered, Stage, Staged};
+use planar_code::Record;
+use std::alloc::Global;
+
+/// A record of a file, and a layout of its plane or why there is none.
+#[derive(Drop)]
+pub struct Shaped {
+    /// The file, from 0.
+    pub file: u32,
+    /// The record's place in its file, from 0.
+    pub ordinal: u32,
+    pub rec: Record,
+    pub layout: Result<Layout, Refusal>,
+    pub ghost shaped: { ∥ IsShaped rec layout ∥₁ },
+}
+
+impl Numbered for Shaped {
+    ghost about = { λ s. record { file = s.file; ordinal = s.ordinal; bytes = s.rec } };
+
+    fn file(&self) -> u32 {
+        self.file
+    }
+
+    fn ordinal(&self) -> u32 {
+        self.ordinal
+    }
+}
+
+impl Staged for Shaped {
+    type Next = Entry;
+
+    const STAGE: Stage = Stage::Draw;
+
+    fn next(self, alloc: Global) -> Entry {
+        Entry {
+            file: self.file,
+            ordinal: self.ordinal,
+            rec: self.rec,
+            answer: answer_with(alloc, self.layout),
+        }
+    }
+}

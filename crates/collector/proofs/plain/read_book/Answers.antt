@@ -1,0 +1,17 @@
+use Rattle.std.proofs.Common.{map, subst, sym}
+use Rattle.lanes.specs.declared.message.Message.TheVariants.{Item}
+use Rattle.lanes.specs.Keeping.{KeepsFile}
+use Rattle.collector.specs.Books.{about_of, IsBook}
+use Rattle.collector.proofs.Whole.{whole_kept, all_answered}
+use Rattle.collector.proofs.plain.read_book.Goals as goal
+
+pub returns-clause-book : goal.returns-clause-book
+returns-clause-book g c =
+    let meaning = g.O.Opener.meaning c.args.opener.now c.args.file in
+    let entries = c.read_file.new.keep.entries.items in
+    subst (IsBook meaning c.args.file) (sym c.new-2.ensures) (record {
+      whole = whole_kept meaning c.args.file entries c.in_ok-mark.mark
+          (subst (λ none. KeepsFile meaning c.args.file (map (λ entry. Item (about_of entry)) none) (map (λ entry. Item (about_of entry)) entries) c.in_ok-mark.mark)
+          c.new.ensures.items c.in_ok-mark.ensures.kept);
+      answered = all_answered entries;
+    })

@@ -1,0 +1,67 @@
+//! A run on the caller's thread.
+ghost use Rattle.std.specs.Prelude.{◌≡◌, ◌<◌, ◌≤◌, ◌⊎◌, ◌↔◌, Err, IfOk, IfErr, length, vec_len};
+ghost use Rattle.collector.specs.Books.{IsBook};
+ghost use Rattle.collector.specs.Results.{AreAllBooks};
+
+use crate::book::{Batch, Book};
+use crate::entries::Entries;
+use lanes::{Opener, read_file};
+use std::alloc::{AllocError, Global};
+use streams::{BatchFault, piece_buffer};
+
+/// How many files a run takes at most.
+pub const MAX_FILES: u32 = 64;
+
+/// Reads the first `files` files of the opener and answers each record, on the caller's thread. It
+/// hands out a book for each file, whose mark also tells where a file could not be opened, failed or
+/// found no memory.
+///
+/// # Errors
+///
+/// `TooManyFiles` exactly where there are more than 64; `Memory` where there was none for the buffer
+/// that files are read into or for the books. There is no other.
+pub fn run_plain<O: Opener>(alloc: Global, opener: &O, files: u32) -> Result<Batch, BatchFault>
+    ensures books { IfOk result (AreAllBooks (O.meaning opener.now) files) }
+    ensures too_many { (64 < files) ↔ (result ≡ Err BatchFault.TooManyFiles) }
+    ensures no_other { IfErr result (λ fault.
+        (fault ≡ BatchFault.TooManyFiles) ⊎ (fault ≡ BatchFault.Memory)) }
+{
+    if files > MAX_FILES {
+        return Err(BatchFault::TooManyFiles);
+    }
+    match plain_books(alloc, opener, files) {
+        Ok(batch) => Ok(batch),
+        Err(AllocError) => Err(BatchFault::Memory),
+    }
+}
+
+/// The books of the first files.
+fn plain_books<O: Opener>(alloc: Global, opener: &O, files: u32) -> Result<Batch, AllocError>
+    requires { files ≤ 64 }
+    ensures { IfOk result (AreAllBooks (O.meaning opener.now) files) }
+{
+    let mut buffer = piece_buffer(alloc)?;
+    let mut books = Vec::with_capacity(alloc, files as usize)?;
+    for file in 0..files {
+        books.push(read_book(alloc, opener, file, buffer.as_mut_slice())?)?;
+    }
+    Ok(Batch::new(books))
+}
+
+/// The book of one file.
+fn read_book<O: Opener>(
+    alloc: Global,
+    opener: &O,
+    file: u32,
+    buffer: &mut [u8],
+) -> Result<Book, AllocError>
+    requires { 0 < length buffer.old }
+    ensures book { IfOk result (IsBook (O.meaning opener.now file) file) }
+    ensures buffer { length buffer.new ≡ length buffer.old }
+{
+    let mut entries = Entries {
+        entries: Vec::new(alloc),
+    };
+    let mark = read_file(opener, alloc, file, buffer, &mut entries)?;
+    Ok(Book::new(entries.entries, mark))
+}

@@ -1,0 +1,417 @@
+//! Runs over lanes, with gates that count calls or hold them up, and an opener that counts its sources.
+//! The bytes and the texts come from the descriptions of the format and of the report.
+ghost use Rattle.std.specs.Prelude.{◌<◌, ◌≤◌, false, None};
+ghost use Rattle.lanes.specs.Opening.{Silent};
+
+use super::{
+    Answer, Batch, BatchFault, Book, Gate, IoSink, Mark, MemOpener, MemTap, OpenFault, OpenGate,
+    Opener, Stage, Tap, TapFault, run_batch, run_plain, write_report,
+};
+use planar_code::Ending;
+use std::alloc::{AllocError, Global};
+use std::process::Abort;
+use std::sync::Wait;
+use std::sync::atomic::{AtomicBool, AtomicU32, Ordering};
+use std::test::Fail;
+use std::thread;
+use std::thread::Threads;
+
+const TRIANGLES: &[u8] =
+    b">>planar_code<<\x03\x02\x03\x00\x03\x01\x00\x01\x02\x00\x03\x02\x03\x00\x03\x01\x00\x01\x02\x00";
+
+const CUT: &[u8] = b">>planar_code<<\x02\x02\x00\x01\x00\x02\x02\x00\x01";
+
+const HEADER: &[u8] = b">>planar_code<<";
+
+const EDGELESS: &[u8] = b">>planar_code<<\x01\x00";
+
+const EDGE: &[u8] = b">>planar_code<<\x02\x02\x00\x01\x00";
+
+const LARGE: &[u8] = b">>planar_code<<\x02\x02\x00\x01\x00\x00\x02";
+
+const OF_TRIANGLES: &str = "file 1\ngraph 1 ok n=3 m=3 f=2 bends=1 drawn=yes\n\
+    graph 2 ok n=3 m=3 f=2 bends=1 drawn=yes\nend complete graphs=2\n";
+
+const OF_THREE: &str = "file 1\ngraph 1 ok n=3 m=3 f=2 bends=1 drawn=yes\n\
+    graph 2 ok n=3 m=3 f=2 bends=1 drawn=yes\nend complete graphs=2\n\
+    file 2\ngraph 1 ok n=2 m=1 f=1 bends=0 drawn=yes\nend truncated graphs=1\n\
+    file 3\nend complete graphs=0\n";
+
+const OF_FOUR: &str = "file 1\ngraph 1 ok n=3 m=3 f=2 bends=1 drawn=yes\n\
+    graph 2 ok n=3 m=3 f=2 bends=1 drawn=yes\nend complete graphs=2\n\
+    file 2\ngraph 1 ok n=2 m=1 f=1 bends=0 drawn=yes\nend truncated graphs=1\n\
+    file 3\nend complete graphs=0\n\
+    file 4\ngraph 1 refused edgeless\nend complete graphs=1\n";
+
+const OF_EDGES: &str = "file 1\ngraph 1 ok n=2 m=1 f=1 bends=0 drawn=yes\nend complete graphs=1\n\
+    file 2\ngraph 1 ok n=2 m=1 f=1 bends=0 drawn=yes\nend complete graphs=1\n";
+
+const OF_FAULTS: &str = "file 1\ngraph 1 ok n=3 m=3 f=2 bends=1 drawn=yes\n\
+    graph 2 ok n=3 m=3 f=2 bends=1 drawn=yes\nend complete graphs=2\n\
+    file 2\ngraph 1 ok n=2 m=1 f=1 bends=0 drawn=yes\nend truncated graphs=1\n\
+    file 3\nend header graphs=0\n\
+    file 4\ngraph 1 ok n=2 m=1 f=1 bends=0 drawn=yes\nend large graphs=1\n\
+    file 5\nend io graphs=0\nfile 6\nend io graphs=0\n";
+
+/// These files, read one byte at a time.
+fn opener_of(alloc: Global, files: &[&[u8]]) -> Result<MemOpener, AllocError> {
+    let mut copies = Vec::new(alloc);
+    for bytes in files {
+        copies.push(bytes.to_vec(alloc)?)?;
+    }
+    Ok(MemOpener::new(copies, 1))
+}
+
+/// The report of the batch is this text.
+fn check_report<R: AllocGlobal + Abort>(rt: &R, batch: &Batch, report: &str) {
+    let mut sink = IoSink::new(Vec::new(rt.alloc()));
+    assert_eq!(rt; write_report(batch, &mut sink), Ok(()));
+    assert_eq!(rt;
+        sink.into_writer().as_slice(),
+        report.as_bytes(),
+        "{report}"
+    );
+}
+
+/// Runs the files over lanes with a gate, and looks at the report.
+fn check<R: AllocGlobal + Threads + Wait + Sync + Abort, G: Gate>(
+    rt: &R,
+    files: &[&[u8]],
+    lanes: u32,
+    gate: &G,
+    report: &str,
+) -> Result<(), Fail> {
+    let opener = opener_of(rt.alloc(), files)?;
+    let count = u32::try_from(files.len())?;
+    let batch = run_batch(rt, rt.alloc(), &opener, count, lanes, 1, gate).map_err(|_| AllocError)?;
+    check_report(rt, &batch, report);
+    Ok(())
+}
+
+#[test]
+fn reports_the_same_over_lanes(rt: HostRuntime) -> Result<(), Fail> {
+    let files = [TRIANGLES, CUT, HEADER];
+    for lanes in 1..=4 {
+        check(&rt, &files, lanes, &OpenGate, OF_THREE)?;
+    }
+    let opener = opener_of(rt.alloc(), &files)?;
+    let batch = run_plain(rt.alloc(), &opener, 3).map_err(|_| AllocError)?;
+    check_report(&rt, &batch, OF_THREE);
+    Ok(())
+}
+
+/// Counts the calls of each stage.
+#[derive(Drop)]
+struct Counts {
+    read: AtomicU32,
+    embed: AtomicU32,
+    shape: AtomicU32,
+    draw: AtomicU32,
+}
+
+impl Counts {
+    fn new() -> Counts {
+        Counts {
+            read: AtomicU32::new(0),
+            embed: AtomicU32::new(0),
+            shape: AtomicU32::new(0),
+            draw: AtomicU32::new(0),
+        }
+    }
+
+    fn of(&self, stage: Stage) -> &AtomicU32 {
+        match stage {
+            Stage::Read => &self.read,
+            Stage::Embed => &self.embed,
+            Stage::Shape => &self.shape,
+            Stage::Draw => &self.draw,
+        }
+    }
+}
+
+impl Gate for Counts {
+    fn pass(&self, _lane: u32, stage: Stage, _ordinal: u32) {
+        self.of(stage).fetch_add(1, Ordering::SeqCst);
+    }
+}
+
+/// Each stage passes the gate so often over these files.
+fn check_counts<R: AllocGlobal + Threads + Wait + Sync + Abort>(
+    rt: &R,
+    files: &[&[u8]],
+    report: &str,
+    count: u32,
+) -> Result<(), Fail> {
+    let counts = Counts::new();
+    check(rt, files, 1, &counts, report)?;
+    for stage in [Stage::Read, Stage::Embed, Stage::Shape, Stage::Draw] {
+        let found = counts.of(stage).load(Ordering::SeqCst);
+        assert_eq!(rt; found, count, "{stage:?}");
+    }
+    Ok(())
+}
+
+#[test]
+fn each_stage_passes_the_gate_once_a_record(rt: HostRuntime) -> Result<(), Fail> {
+    check_counts(&rt, &[TRIANGLES, CUT, HEADER], OF_THREE, 3)?;
+    check_counts(&rt, &[TRIANGLES, CUT, HEADER, EDGELESS], OF_FOUR, 4)
+}
+
+/// Why a run over so many files that do not open and so many lanes came to nothing, or none.
+fn fault_of<R: AllocGlobal + Threads + Wait + Sync>(
+    rt: &R,
+    files: u32,
+    lanes: u32,
+) -> Option<BatchFault> {
+    let opener = MemOpener::new(Vec::new(rt.alloc()), 1);
+    run_batch(rt, rt.alloc(), &opener, files, lanes, 1, &OpenGate).err()
+}
+
+#[test]
+fn refuses_bad_numbers(rt: HostRuntime) -> Result<(), Fail> {
+    assert_eq!(rt; fault_of(&rt, 65, 0), Some(BatchFault::TooManyFiles));
+    assert_eq!(rt; fault_of(&rt, 64, 5), Some(BatchFault::BadLanes));
+    assert_eq!(rt; fault_of(&rt, 64, 0), Some(BatchFault::BadLanes));
+    check(&rt, &[], 1, &OpenGate, "")
+}
+
+/// Waits until the flag is set, and notes where a million turns were too few.
+fn wait_for(flag: &AtomicBool, ran_out: &AtomicBool) {
+    for _ in 0..1_000_000 {
+        if flag.load(Ordering::SeqCst) {
+            return;
+        }
+        thread::yield_now();
+    }
+    ran_out.store(true, Ordering::SeqCst);
+}
+
+/// Two calls, of which each is held up until the other is made.
+#[derive(Drop)]
+struct Meeting {
+    first: AtomicBool,
+    second: AtomicBool,
+    ran_out: AtomicBool,
+}
+
+impl Meeting {
+    fn new() -> Meeting {
+        Meeting {
+            first: AtomicBool::new(false),
+            second: AtomicBool::new(false),
+            ran_out: AtomicBool::new(false),
+        }
+    }
+
+    fn come_first(&self) {
+        self.first.store(true, Ordering::SeqCst);
+        wait_for(&self.second, &self.ran_out);
+    }
+
+    fn come_second(&self) {
+        self.second.store(true, Ordering::SeqCst);
+        wait_for(&self.first, &self.ran_out);
+    }
+
+    /// Both calls were made, and neither waited too long.
+    fn took_place(&self) -> bool {
+        let both = self.first.load(Ordering::SeqCst) && self.second.load(Ordering::SeqCst);
+        both && !self.ran_out.load(Ordering::SeqCst)
+    }
+}
+
+/// Holds the second stage at the first record and the first stage at the second one, until both are there.
+#[derive(Drop)]
+struct HoldsStages {
+    meeting: Meeting,
+}
+
+impl Gate for HoldsStages {
+    fn pass(&self, _lane: u32, stage: Stage, ordinal: u32) {
+        match (stage, ordinal) {
+            (Stage::Embed, 0) => self.meeting.come_first(),
+            (Stage::Read, 1) => self.meeting.come_second(),
+            _ => {}
+        }
+    }
+}
+
+/// Two stages of a lane work at once: the first one on the second record while the second one has the
+/// first record.
+#[test]
+fn gate_holds_stages(rt: HostRuntime) -> Result<(), Fail> {
+    let gate = HoldsStages {
+        meeting: Meeting::new(),
+    };
+    check(&rt, &[TRIANGLES], 1, &gate, OF_TRIANGLES)?;
+    assert!(rt; gate.meeting.took_place());
+    Ok(())
+}
+
+/// Holds the first stage of each of two lanes, until both are there.
+#[derive(Drop)]
+struct HoldsTwo {
+    meeting: Meeting,
+}
+
+impl Gate for HoldsTwo {
+    fn pass(&self, lane: u32, stage: Stage, _ordinal: u32) {
+        match (lane, stage) {
+            (0, Stage::Read) => self.meeting.come_first(),
+            (_, Stage::Read) => self.meeting.come_second(),
+            _ => {}
+        }
+    }
+}
+
+/// Two lanes read at once.
+#[test]
+fn gate_holds_two(rt: HostRuntime) -> Result<(), Fail> {
+    let gate = HoldsTwo {
+        meeting: Meeting::new(),
+    };
+    check(&rt, &[EDGE, EDGE], 2, &gate, OF_EDGES)?;
+    assert!(rt; gate.meeting.took_place());
+    Ok(())
+}
+
+/// The numbers of vertices, edges, faces and bends of a drawn record.
+type Sizes = (u32, u32, u32, u32);
+
+/// The answer is these sizes and a drawing, or tells want of memory.
+fn is_allowed(answer: &Answer, sizes: Sizes) -> bool {
+    match answer {
+        Answer::Laid {
+            plane,
+            shape,
+            drawing,
+            prices: _,
+        } => {
+            let graph = plane.graph();
+            let found = (
+                u32::from(graph.vertices()),
+                u32::from(graph.edges()),
+                u32::from(plane.face_count()),
+                shape.bends(),
+            );
+            found == sizes && drawing.is_ok()
+        }
+        Answer::Refused(_) => false,
+        Answer::NoMemory => true,
+    }
+}
+
+/// The book is of these records and has this mark, or tells want of memory after a beginning of them.
+fn check_book(rt: &impl Abort, book: &Book, records: &[Sizes], mark: Mark) {
+    let entries = book.entries();
+    if book.mark() == mark {
+        assert_eq!(rt; entries.len(), records.len());
+    } else {
+        assert_eq!(rt; book.mark(), Mark::Ended(Ending::Memory));
+        assert!(rt; entries.len() <= records.len());
+    }
+    for (entry, sizes) in entries.iter().zip(records) {
+        assert!(rt; is_allowed(&entry.answer, *sizes));
+    }
+}
+
+/// With each allocation refused in turn, an answer, a mark or a fault says so. Where a thread is started
+/// or an end is given up for it, the fault may name that instead.
+#[test]
+fn names_want_of_memory(rt: HostRuntime) {
+    let Ok(opener) = opener_of(rt.alloc(), &[TRIANGLES, CUT, HEADER]) else {
+        return;
+    };
+    match run_batch(&rt, rt.alloc(), &opener, 3, 2, 1, &OpenGate) {
+        Ok(batch) => {
+            assert_eq!(rt; batch.files(), 3);
+            let complete = Mark::Ended(Ending::Complete);
+            let triangle = (3, 3, 2, 1);
+            check_book(&rt, batch.book(0), &[triangle, triangle], complete);
+            let cut = Mark::Ended(Ending::Truncated);
+            check_book(&rt, batch.book(1), &[(2, 1, 1, 0)], cut);
+            check_book(&rt, batch.book(2), &[], complete);
+        }
+        Err(fault) => assert!(rt;
+            fault != BatchFault::TooManyFiles && fault != BatchFault::BadLanes
+        ),
+    }
+}
+
+/// Opens these files, and then one whose reads all fail. It counts the sources that it opened, and those
+/// that were let go.
+#[derive(Drop)]
+struct Counting<'a> {
+    files: MemOpener,
+    opened: &'a AtomicU32,
+    dropped: &'a AtomicU32,
+}
+
+impl<'a> Opener for Counting<'a> {
+    type Source = Counted<'a>;
+
+    ghost meaning = { λ _ _. Silent };
+
+    fn open(&self, alloc: Global, file: u32) -> Result<Counted<'a>, OpenFault> {
+        let source = match self.files.open(alloc, file) {
+            Ok(source) => Some(source),
+            Err(OpenFault::Io) if file < 5 => None,
+            Err(fault) => return Err(fault),
+        };
+        self.opened.fetch_add(1, Ordering::SeqCst);
+        Ok(Counted {
+            source,
+            dropped: self.dropped,
+        })
+    }
+}
+
+/// A source that is counted when it is let go; one without bytes fails at each read.
+struct Counted<'a> {
+    source: Option<MemTap>,
+    dropped: &'a AtomicU32,
+}
+
+impl Drop for Counted<'_> {
+    fn drop(self) {
+        self.dropped.fetch_add(1, Ordering::SeqCst);
+        let Self {
+            source: _,
+            dropped: _,
+        } = self;
+    }
+}
+
+impl Tap for Counted<'_> {
+    ghost to_come = { λ _. None };
+
+    ghost fails = { λ _. false };
+
+    fn read(&mut self, buf: &mut [u8]) -> Result<usize, TapFault> {
+        match &mut self.source {
+            Some(source) => source.read(buf),
+            None => Err(TapFault),
+        }
+    }
+}
+
+/// Every source is let go: of a whole file, a cut one, one with another beginning, one with a fault and
+/// one whose reads fail. The last file does not open.
+#[test]
+fn lets_every_source_go(rt: HostRuntime) -> Result<(), Fail> {
+    for lanes in 1..=4 {
+        let (opened, dropped) = (AtomicU32::new(0), AtomicU32::new(0));
+        let opener = Counting {
+            files: opener_of(rt.alloc(), &[TRIANGLES, CUT, b"planar_code", LARGE])?,
+            opened: &opened,
+            dropped: &dropped,
+        };
+        let batch = run_batch(&rt, rt.alloc(), &opener, 6, lanes, 1, &OpenGate).map_err(
+            |_| AllocError,
+        )?;
+        check_report(&rt, &batch, OF_FAULTS);
+        assert_eq!(rt; opened.load(Ordering::SeqCst), 5);
+        assert_eq!(rt; dropped.load(Ordering::SeqCst), 5);
+    }
+    Ok(())
+}

@@ -1,0 +1,9 @@
+use Rattle.std.proofs.Common.{◌≡◌, length}
+use Rattle.compact.specs.Steps.{step, StayUnderAll}
+use Rattle.compact.proofs.rows.raise_rows.Given as goal
+
+abbrev pub invariant-loop-at : goal.invariant-loop-at
+invariant-loop-at l = record {
+  under : StayUnderAll (length l.fn.numbers) (step l.steps.around.now l.steps.ahead) (step l.steps.around.now l.steps.up) (step l.steps.around.now l.steps.down) l.fn.numbers l.numbers;
+  count : length l.numbers ≡ length l.fn.numbers;
+}

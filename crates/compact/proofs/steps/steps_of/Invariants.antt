@@ -1,0 +1,10 @@
+use Rattle.std.proofs.Common.{◌≡◌, ◌*◌, length}
+use Rattle.dissect.specs.Boxes.{web}
+use Rattle.compact.specs.Steps.{AreSteps}
+use Rattle.compact.proofs.steps.steps_of.Given as goal
+
+abbrev pub invariant-loop-dart : goal.invariant-loop-dart
+invariant-loop-dart l = record {
+  steps : AreSteps (web l.boxes) l.around.items l.boxes.vertices;
+  count : length l.around.items ≡ 4 * l.boxes.vertices;
+}

@@ -1,0 +1,40 @@
+//! Steps from each vertex to the next one in each direction.
+
+ghost use Rattle.std.specs.Prelude.{◌≡◌, ℕ, ◌*◌, ◌<◌, length, IfOk};
+ghost use Rattle.compact.specs.Steps.{AreSteps};
+ghost use Rattle.dissect.specs.Boxes.{web, number_of};
+
+use directions::Direction;
+use dissect::Boxes;
+use std::alloc::{AllocError, Global};
+
+/// Stands where there is no vertex: more than any number of one.
+pub const NO_VERTEX: u32 = u32::MAX;
+
+/// The number of a direction, in quarter turns to the left from east.
+pub fn quarters(direction: Direction) -> u8
+    ensures value { result ≡ number_of direction }
+    ensures few { result < 4 }
+{
+    match direction {
+        Direction::East => 0,
+        Direction::North => 1,
+        Direction::West => 2,
+        Direction::South => 3,
+    }
+}
+
+/// For each vertex four vertices, those that the darts from it come to: to the east, north, west and
+/// south. `NO_VERTEX` stands where there is no such dart. A step for each dart.
+pub fn steps_of(alloc: Global, boxes: &Boxes) -> Result<Vec<u32>, AllocError>
+    ensures steps { IfOk result (λ around. AreSteps (web boxes.now) around.items boxes.now.vertices) }
+    ensures count { IfOk result (λ around. length around.items ≡ 4 * boxes.now.vertices) }
+{
+    let mut around = vec![in alloc; NO_VERTEX; 4 * boxes.vertices() as usize]?;
+    for dart in 0..boxes.darts() {
+        let from = boxes.head(boxes.reverse(dart));
+        let way = quarters(boxes.direction(dart));
+        around[4 * from as usize + usize::from(way)] = boxes.head(dart);
+    }
+    Ok(around)
+}

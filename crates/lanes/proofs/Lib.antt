@@ -1,0 +1,6 @@
+pub mod MemFiles
+pub mod Numbers
+pub mod Keeping
+pub mod Passing
+pub mod Drafting
+pub mod Dealing

@@ -1,0 +1,7 @@
+pub mod Notes
+pub mod Opening
+pub mod Files
+pub mod Keeping
+pub mod MemFiles
+pub mod Stages
+pub mod Drafts

@@ -1,0 +1,53 @@
+-- What is told of the messages of a lane: which record each is about, which file has ended, and the stop.
+use Rattle.std.specs.Prelude.{◌≡◌, ℕ, ◌+◌, ◌==◌, Bool, false, List, [], ◌∷◌, ◌++◌, map, ⊤}
+use Rattle.std.specs.List.{filter}
+use Rattle.streams.specs.declared.found.Mark.{Mark}
+use Rattle.lanes.specs.declared.message.Message.{Message}
+use Rattle.lanes.specs.declared.message.Message.TheVariants.{Item, End, Stop}
+
+-- a record: of which file it is, its place there, and its bytes
+pub record About : Type 0 where
+  pub file : ℕ
+  pub ordinal : ℕ
+  pub bytes : List ℕ
+
+abbrev pub Note : Type 0
+Note = Message About
+
+-- what is told of a message, where `about` tells which record an item is about
+abbrev pub note : {A : Type 0} → (A → About) → Message A → Note
+note about (Item item) = Item (about item)
+note about (End file mark) = End file mark
+note about Stop = Stop
+
+abbrev pub notes : {A : Type 0} → (A → About) → List (Message A) → List Note
+notes about messages = map (note about) messages
+
+-- the records of a file, the first of which has this place there
+abbrev pub numbered : ℕ → ℕ → List (List ℕ) → List About
+numbered file ordinal [] = []
+numbered file ordinal (bytes ∷ records) = record { file = file; ordinal = ordinal; bytes = bytes } ∷ numbered file (ordinal + 1) records
+
+-- the note belongs to this file
+abbrev pub is_of : ℕ → Note → Bool
+is_of file (Item about) = about.file == file
+is_of file (End other mark) = other == file
+is_of file Stop = false
+
+-- the notes of one file, in order
+abbrev pub of_file : ℕ → List Note → List Note
+of_file file ns = filter (is_of file) ns
+
+-- all notes of a file with these records and this mark
+abbrev pub file_notes : ℕ → List (List ℕ) → Mark → List Note
+file_notes file records mark = map Item (numbered file 0 records) ++ End file mark ∷ []
+
+-- there is no stop among the notes
+abbrev pub GoOn : List Note → Type 0
+GoOn [] = ⊤
+GoOn (Stop ∷ ns) = ⊥
+GoOn (_ ∷ ns) = GoOn ns
+
+-- one stop is the last of the notes
+abbrev pub IsStopped : List Note → Type 0
+IsStopped ns = (front : List Note) × (ns ≡ front ++ Stop ∷ []) × GoOn front

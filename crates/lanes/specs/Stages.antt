@@ -1,0 +1,19 @@
+-- What a stage of a lane makes of its messages.
+use Rattle.std.specs.Prelude.{◌≡◌, ℕ, List, Option, IfSome}
+use Rattle.ruled_lanes.specs.declared.link_ends.Giver.{Giver}
+use Rattle.ruled_lanes.specs.declared.link_ends.Taker.{Taker}
+use Rattle.ruled_lanes.specs.LinkEnds.{given, taken, GivesToSame, TakesFromSame}
+use Rattle.lanes.specs.declared.message.Message.{Message}
+use Rattle.lanes.specs.Notes.{About, notes, IsStopped}
+
+module _ {A B : Type 0} where
+  -- one message was given for each that was taken, about the same and in order, up to one stop
+  pub record IsPassedOn (about : A → About) (next_about : B → About) (took : List (Message A)) (gave : List (Message B)) : Type 0 where
+    pub same : notes next_about gave ≡ notes about took
+    pub stopped : IsStopped (notes about took)
+
+  -- the ends that a stage gives back are those of its links, and it passed on all messages
+  pub record PassedAll (about : A → About) (next_about : B → About) (taker : Taker (Message A)) (giver : Giver (Message B)) (took : Taker (Message A)) (gave : Giver (Message B)) : Type 0 where
+    pub from_same : TakesFromSame taker took
+    pub to_same : GivesToSame giver gave
+    pub passed : IsPassedOn about next_about (taken took) (given gave)

@@ -1,0 +1,25 @@
+//! Files in lanes: what stands between a file's bytes and its book. Each stage of a lane takes
+//! messages of the stage before it and gives one for each.
+#![tactic(auto)]
+
+mod drafts;
+mod gate;
+mod keep;
+mod mem_opener;
+mod message;
+mod numbered;
+mod opener;
+mod reading;
+#[cfg(test)]
+mod reading_tests;
+mod stage;
+
+pub use drafts::{Draft, empty_drafts, gather};
+pub use gate::{Gate, OpenGate, Stage};
+pub use keep::Keep;
+pub use mem_opener::MemOpener;
+pub use message::Message;
+pub use numbered::{Numbered, Staged};
+pub use opener::{OpenFault, Opener};
+pub use reading::read_file;
+pub use stage::run_stage;

@@ -1,0 +1,46 @@
+//! Files in memory.
+ghost use Rattle.std.specs.Prelude.{◌≡◌, ◌<◌, ◌≤◌, ℕ, false, vec_len};
+ghost use Rattle.lanes.specs.Opening.{Meaning, Unopened, Opened, Opens};
+ghost use Rattle.lanes.specs.MemFiles.{meaning_in, bytes_at};
+
+use crate::opener::{OpenFault, Opener};
+use std::alloc::Global;
+use streams::MemTap;
+
+/// Files in memory: the list of bytes with a file's number is that file. A read gives at most a chosen
+/// number of bytes, and none fails. A number past the lists does not open.
+#[derive(Drop)]
+pub struct MemOpener {
+    files: Vec<Vec<u8>>,
+    most: usize,
+    ghost moves: { 0 < most },
+}
+
+impl MemOpener {
+    /// Files of these bytes; a read gives at most `most` of them.
+    pub fn new(files: Vec<Vec<u8>>, most: usize) -> MemOpener
+        requires { 0 < most }
+        ensures opens { (k : ℕ) → k < vec_len files
+            → ⟦<MemOpener as Opener>⟧.meaning result k ≡ Opened (bytes_at files.items k) false }
+        ensures others { (k : ℕ) → vec_len files ≤ k
+            → ⟦<MemOpener as Opener>⟧.meaning result k ≡ Unopened }
+    {
+        MemOpener { files, most }
+    }
+}
+
+impl Opener for MemOpener {
+    type Source = MemTap;
+
+    ghost meaning = { λ o k. meaning_in o.files.items k };
+
+    fn open(&self, alloc: Global, file: u32) -> Result<MemTap, OpenFault> {
+        let Some(bytes) = self.files.get(file as usize) else {
+            return Err(OpenFault::Io);
+        };
+        match Vec::from_slice(alloc, bytes) {
+            Ok(copy) => Ok(MemTap::new(copy, self.most)),
+            Err(_) => Err(OpenFault::Memory),
+        }
+    }
+}

@@ -1,0 +1,33 @@
+//! Records on their way through a lane.
+ghost use Rattle.std.specs.Prelude.{◌≡◌};
+ghost use Rattle.lanes.specs.Notes.{About};
+
+use crate::gate::Stage;
+use std::alloc::Global;
+
+/// What is known of one record of a file.
+pub trait Numbered: Drop + Send {
+    /// Which record it is: its file, its place there, and its bytes.
+    ghost about: { Self → About };
+
+    /// The record's file, from 0.
+    fn file(&self) -> u32
+        ensures { result ≡ (about self.now).file };
+
+    /// The record's place in its file, from 0.
+    fn ordinal(&self) -> u32
+        ensures { result ≡ (about self.now).ordinal };
+}
+
+/// What is known of a record before a stage has worked on it.
+pub trait Staged: Numbered {
+    /// What is known of it afterwards.
+    type Next: Numbered;
+
+    /// The stage that does the work.
+    const STAGE: Stage;
+
+    /// Does the work. The record stays the same.
+    fn next(self, alloc: Global) -> Self::Next
+        ensures { Self.Next.about result ≡ Self.about self };
+}

@@ -1,0 +1,30 @@
+//! Where the files of a run come from.
+ghost use Rattle.std.specs.Prelude.{ℕ};
+ghost use Rattle.lanes.specs.Opening.{Meaning, Opens};
+
+use std::alloc::Global;
+use streams::Tap;
+
+/// Why a file was not opened.
+#[derive(Clone, Copy, Debug, PartialEq, Eq)]
+pub enum OpenFault {
+    /// It could not be opened.
+    Io,
+    /// There was no memory to open it.
+    Memory,
+}
+
+/// Opens files by their numbers, from any thread.
+///
+/// For proofs an opener may tell of each file whether it opens, and then which bytes it gives and
+/// whether it fails after the last of them. Real files tell nothing.
+pub trait Opener: Sync {
+    /// An open file.
+    type Source: Tap + Send;
+
+    ghost meaning: { Self → ℕ → Meaning };
+
+    /// Opens a file.
+    fn open(&self, alloc: Global, file: u32) -> Result<Self::Source, OpenFault>
+        ensures { Opens Self.Source.to_come Self.Source.fails (meaning self.now file) result };
+}

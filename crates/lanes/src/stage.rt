@@ -1,0 +1,49 @@
+//! How a stage of a lane runs.
+ghost use Rattle.std.specs.Prelude.{◌≡◌, [], IfSome};
+ghost use Rattle.ruled_lanes.specs.LinkEnds.{given, taken};
+ghost use Rattle.lanes.specs.Stages.{PassedAll};
+
+use crate::gate::Gate;
+use crate::message::Message;
+use crate::numbered::{Numbered, Staged};
+use ruled_lanes::{Giver, Taker};
+use std::alloc::Global;
+use std::sync::Wait;
+
+/// Takes the messages of the stage before, up to the stop, and gives one for each, in order: a record
+/// with the work of this stage done, an end or the stop as it is. Before it works on a record it
+/// passes the gate. It gives both ends back, or none where the other end of a link was gone.
+pub fn run_stage<A: Staged, R: Wait, G: Gate>(
+    rt: &R,
+    alloc: Global,
+    gate: &G,
+    lane: u32,
+    mut taker: Taker<Message<A>>,
+    mut giver: Giver<Message<A::Next>>,
+) -> Option<(Taker<Message<A>>, Giver<Message<A::Next>>)>
+    requires none_taken { taken taker ≡ [] }
+    requires none_given { given giver ≡ [] }
+    ensures { IfSome result (λ ends. PassedAll A.about A.Next.about taker giver ends.0 ends.1) }
+{
+    for _ in rt.forever() {
+        match taker.take(rt) {
+            Ok(Message::Item(item)) => {
+                gate.pass(lane, A::STAGE, item.ordinal());
+                match giver.give(rt, Message::Item(item.next(alloc))) {
+                    Ok(()) => {}
+                    Err(_) => return None,
+                }
+            }
+            Ok(Message::End(file, mark)) => match giver.give(rt, Message::End(file, mark)) {
+                Ok(()) => {}
+                Err(_) => return None,
+            },
+            Ok(Message::Stop) => match giver.give(rt, Message::Stop) {
+                Ok(()) => return Some((taker, giver)),
+                Err(_) => return None,
+            },
+            Err(_) => return None,
+        }
+    }
+    unreachable!()
+}

@@ -1,0 +1,197 @@
+//! Runs of `layout` on files that the tests write. The bytes and the texts come from the description of
+//! the format and of the report.
+
+use super::command::command;
+use super::tests::{EDGE, HEADER, Narrow, TRIANGLE, check_help, check_refused, names_no_run, run};
+use collector::IoSink;
+use std::process::Abort;
+use std::rt::Files;
+use std::sync::Wait;
+use std::test::Fail;
+use std::thread::Threads;
+use std::{fs, io};
+
+/// Writes a file of these parts.
+fn write_parts<R: Files + AllocGlobal>(rt: &R, name: &str, parts: &[&[u8]]) -> io::Result<()> {
+    let mut bytes = Vec::new(rt.alloc());
+    for part in parts {
+        bytes.extend_from_slice(part)?;
+    }
+    fs::write(rt, name, bytes.as_slice())
+}
+
+/// Runs the command with these words, and looks at the report and the status.
+fn check<R: Files + AllocGlobal + Threads + Wait + Sync + Abort>(
+    rt: &R,
+    words: &[&str],
+    report: &str,
+    status: u8,
+) -> Result<(), Fail>
+where
+    R::File: Send,
+    R::Dir: Send,
+{
+    let ran = run(rt, words)?;
+    assert_eq!(rt; ran.out.as_slice(), report.as_bytes(), "{report}");
+    assert_eq!(rt; ran.status, status, "{report}");
+    assert_eq!(rt; ran.err.len(), 0, "{report}");
+    Ok(())
+}
+
+#[test]
+fn reports_each_graph(rt: HostRuntime) -> Result<(), Fail> {
+    write_parts(&rt, "two.pc", &[HEADER, EDGE, TRIANGLE])?;
+    let first = "file 1\n\
+        graph 1 ok n=2 m=1 f=1 bends=0 drawn=yes\n\
+        graph 2 ok n=3 m=3 f=2 bends=1 drawn=yes\n\
+        end complete graphs=2\n";
+    check(&rt, &["layout", "two.pc"], first, 0)?;
+    let twice = "file 1\n\
+        graph 1 ok n=2 m=1 f=1 bends=0 drawn=yes\n\
+        graph 2 ok n=3 m=3 f=2 bends=1 drawn=yes\n\
+        end complete graphs=2\n\
+        file 2\n\
+        graph 1 ok n=2 m=1 f=1 bends=0 drawn=yes\n\
+        graph 2 ok n=3 m=3 f=2 bends=1 drawn=yes\n\
+        end complete graphs=2\n";
+    check(&rt, &["layout", "two.pc", "two.pc"], twice, 0)
+}
+
+/// A graph that is refused does not change the status.
+#[test]
+fn reports_refused_graphs(rt: HostRuntime) -> Result<(), Fail> {
+    write_parts(&rt, "refused.pc", &[HEADER, &[1, 0], EDGE])?;
+    let report = "file 1\n\
+        graph 1 refused edgeless\n\
+        graph 2 ok n=2 m=1 f=1 bends=0 drawn=yes\n\
+        end complete graphs=2\n";
+    check(&rt, &["layout", "refused.pc"], report, 0)?;
+    write_parts(&rt, "none.pc", &[HEADER])?;
+    check(
+        &rt,
+        &["layout", "none.pc"],
+        "file 1\nend complete graphs=0\n",
+        0,
+    )
+}
+
+#[test]
+fn marks_files_that_do_not_end_well(rt: HostRuntime) -> Result<(), Fail> {
+    fs::create_dir(&rt, "folder")?;
+    let unread = "file 1\nend io graphs=0\n";
+    check(&rt, &["layout", "folder"], unread, 3)?;
+    check(&rt, &["layout", "missing.pc"], unread, 3)?;
+    write_parts(&rt, "empty.pc", &[])?;
+    check(
+        &rt,
+        &["layout", "empty.pc"],
+        "file 1\nend header graphs=0\n",
+        3,
+    )?;
+    write_parts(&rt, "cut.pc", &[HEADER, EDGE, &[2, 2, 0, 1]])?;
+    let cut = "file 1\n\
+        graph 1 ok n=2 m=1 f=1 bends=0 drawn=yes\n\
+        end truncated graphs=1\n";
+    check(&rt, &["layout", "cut.pc"], cut, 3)
+}
+
+/// Files that differ are reported in the order of their names, however many lanes there are.
+#[test]
+fn keeps_files_apart(rt: HostRuntime) -> Result<(), Fail> {
+    write_parts(&rt, "triangles.pc", &[HEADER, TRIANGLE, TRIANGLE])?;
+    write_parts(&rt, "cut.pc", &[HEADER, EDGE, &[2, 2, 0, 1]])?;
+    write_parts(&rt, "none.pc", &[HEADER])?;
+    let report = "file 1\n\
+        graph 1 ok n=3 m=3 f=2 bends=1 drawn=yes\n\
+        graph 2 ok n=3 m=3 f=2 bends=1 drawn=yes\n\
+        end complete graphs=2\n\
+        file 2\n\
+        graph 1 ok n=2 m=1 f=1 bends=0 drawn=yes\n\
+        end truncated graphs=1\n\
+        file 3\n\
+        end complete graphs=0\n";
+    for lanes in ["1", "2", "3", "4"] {
+        let words = [
+            "layout",
+            "--lanes",
+            lanes,
+            "triangles.pc",
+            "cut.pc",
+            "none.pc",
+        ];
+        check(&rt, &words, report, 3)?;
+    }
+    Ok(())
+}
+
+#[test]
+fn refuses_other_command_lines(rt: HostRuntime) -> Result<(), Fail> {
+    check_refused(&rt, &["layout"], "were not provided:\n  <FILE>...\n")?;
+    check_refused(&rt, &["layout", "--lanes", "x", "a"], "invalid value 'x'")?;
+    for lanes in ["0", "5"] {
+        check_refused(
+            &rt,
+            &["layout", "--lanes", lanes, "a"],
+            "planarbend: lanes must be 1 to 4\n",
+        )?;
+    }
+    let mut words = ["a"; 66];
+    words[0] = "layout";
+    check_refused(&rt, &words, "planarbend: more than 64 files\n")?;
+    check_help(
+        &rt,
+        &["layout", "--help"],
+        "  geng -c -D4 8 | planarg -p > graphs.pc && planarbend layout graphs.pc\n",
+    )
+}
+
+const REPORT: &[u8] = b"file 1\n\
+    graph 1 ok n=2 m=1 f=1 bends=0 drawn=yes\n\
+    end complete graphs=1\n";
+
+fn words_for<R: Files + AllocGlobal>(rt: &R) -> io::Result<Vec<String>> {
+    write_parts(rt, "case.pc", &[HEADER, EDGE])?;
+    let mut words = Vec::new(rt.alloc());
+    words.push(String::from_str(rt.alloc(), "layout")?)?;
+    words.push(String::from_str(rt.alloc(), "case.pc")?)?;
+    Ok(words)
+}
+
+#[test]
+fn names_a_failed_write(rt: HostRuntime) -> Result<(), Fail> {
+    let words = words_for(&rt)?;
+    for room in [0, 10, REPORT.len() - 1] {
+        let mut out = IoSink::new(Narrow::new(room));
+        let mut err = IoSink::new(Narrow::new(64));
+        assert_eq!(rt; command(&rt, words.as_slice(), &mut out, &mut err), 1);
+        assert_eq!(rt; out.into_writer().text(), &REPORT[..room]);
+        assert_eq!(rt;
+            err.into_writer().text(),
+            b"planarbend: write failed\n".as_slice()
+        );
+    }
+    Ok(())
+}
+
+/// With each allocation refused in turn, the run ends in an answer that names it.
+#[test]
+fn names_want_of_memory(rt: HostRuntime) {
+    let Ok(words) = words_for(&rt) else {
+        return;
+    };
+    let mut out = IoSink::new(Narrow::new(128));
+    let mut err = IoSink::new(Narrow::new(64));
+    let status = command(&rt, words.as_slice(), &mut out, &mut err);
+    let out = out.into_writer();
+    let err = err.into_writer();
+    let whole = out.text() == REPORT && err.text().is_empty() && status == 0;
+    let marked = names_no_answer(out.text()) && err.text().is_empty() && status == 3;
+    let no_run = out.text().is_empty() && names_no_run(err.text()) && status == 1;
+    assert!(rt; whole || marked || no_run, "status {status}");
+}
+
+/// Whether the report says that the file or its graph found no memory.
+fn names_no_answer(report: &[u8]) -> bool {
+    report == b"file 1\nend memory graphs=0\n".as_slice()
+        || report == b"file 1\ngraph 1 memory\nend complete graphs=1\n".as_slice()
+}

@@ -1,0 +1,6 @@
+pub mod Bounds
+pub mod Lines
+pub mod Marks
+pub mod Messages
+pub mod Pieces
+pub mod Sinks

@@ -1,0 +1,205 @@
+-- What one more piece of a source leads to.
+use Rattle.std.proofs.Common.{◌≡◌, ◌≢◌, ℕ, ◌+◌, ◌<◌, Bool, true, false, List, [], ◌∷◌, ◌++◌, Option, None, Some, Ok, Err, inl, inr, length, refl, sym, ap, subst, ◌∙◌, append_assoc, append-nil, length-append, arith}
+use Rattle.std.specs.Io.KnownBytes.{Consumes}
+use Rattle.planar_code.specs.declared.TheConstants.{HEADER}
+use Rattle.planar_code.specs.declared.ending.Ending.{Ending}
+use Rattle.planar_code.specs.declared.ending.Ending.TheVariants as ending
+use Rattle.planar_code.specs.declared.fault.FeedFault.{FeedFault}
+use Rattle.planar_code.specs.declared.fault.FeedFault.TheVariants as fault
+use Rattle.planar_code.specs.Split.{IsSplit, ending_of}
+use Rattle.planar_code.specs.Place.{Place, Early, Failed, StandsAt, Goes, LosesRecord, Feeds}
+use Rattle.planar_code.proofs.Splits.{split_same}
+use Rattle.streams.specs.declared.found.Mark.{Mark}
+use Rattle.streams.specs.declared.found.Mark.TheVariants as mark
+use Rattle.streams.specs.Tap.{IsAtItsEnd, IsAtItsFailure}
+use Rattle.streams.specs.Marks.{IsMarked, IsCutShort}
+use Rattle.streams.specs.Reading.{IsToldOf, IsFoundIn, IsBeingRead, IsReadToItsEnd}
+use Rattle.streams.proofs.Marks.{split_stands, open_stands, failed_not_open, beginning_stands}
+
+-- nothing was given
+consumed_none : (a : Option (List ℕ)) → Consumes a a []
+consumed_none None = tt
+consumed_none (Some x) = refl
+
+-- one piece and then another
+consumed_both : (a b c : Option (List ℕ)) (xs ys : List ℕ) → Consumes a b xs → Consumes b c ys → Consumes a c (xs ++ ys)
+consumed_both None b c xs ys p q = tt
+consumed_both (Some x) None c xs ys p q = absurd p
+consumed_both (Some x) (Some y) None xs ys p q = absurd q
+consumed_both (Some x) (Some y) (Some z) xs ys p q = p ∙ ap (λ l. xs ++ l) q ∙ sym (append_assoc xs ys z)
+
+-- at its end a source has given all that it told
+told_at_end : (told to_come : Option (List ℕ)) (told_fails fails : Bool) (read : List ℕ) → Consumes told to_come read → fails ≡ told_fails
+    → IsAtItsEnd to_come fails → IsToldOf told told_fails read false
+told_at_end None to_come told_fails fails read took same at = tt
+told_at_end (Some xs) None told_fails fails read took same at = absurd took
+told_at_end (Some xs) (Some ys) told_fails fails read took same at =
+    (took ∙ ap (λ l. read ++ l) at.0 ∙ append-nil read, sym same ∙ at.1)
+
+-- the same where it fails
+told_at_failure : (told to_come : Option (List ℕ)) (told_fails fails : Bool) (read : List ℕ) → Consumes told to_come read → fails ≡ told_fails
+    → IsAtItsFailure to_come fails → IsToldOf told told_fails read true
+told_at_failure None to_come told_fails fails read took same at = tt
+told_at_failure (Some xs) None told_fails fails read took same at = absurd took
+told_at_failure (Some xs) (Some ys) told_fails fails read took same at =
+    (took ∙ ap (λ l. read ++ l) at.0 ∙ append-nil read, sym same ∙ at.1)
+
+-- where reading stops, some bytes may be left; where the source told its bytes, they are all of them
+told_so_far : (told to_come : Option (List ℕ)) (told_fails : Bool) (read : List ℕ) → Consumes told to_come read
+    → (left : List ℕ) × (fails : Bool) × IsToldOf told told_fails (read ++ left) fails
+told_so_far None to_come told_fails read took = ([], false, tt)
+told_so_far (Some xs) None told_fails read took = absurd took
+told_so_far (Some xs) (Some ys) told_fails read took = (ys, told_fails, (took, refl))
+
+-- a split, where the source is not cut short, gives the records and the mark
+pub marked_split : (bytes : List ℕ) (fails : Bool) (records : List (List ℕ)) (end : Ending) → (IsCutShort bytes fails → ⊥) → IsSplit bytes records end
+    → IsMarked bytes fails records (mark.Ended end)
+marked_split bytes fails records ending.Complete whole split = (whole, split)
+marked_split bytes fails records ending.Truncated whole split = (whole, split)
+marked_split bytes fails records ending.Header whole split = (whole, split)
+marked_split bytes fails records ending.Large whole split = (whole, split)
+marked_split bytes fails records ending.Oversize whole split = (whole, split)
+marked_split bytes fails records ending.Many whole split = (whole, split)
+marked_split bytes fails records ending.Memory whole split = λ all end other. ([], (split_same bytes all records end _ other split).0 ∙ sym (append-nil records))
+
+-- the source ended
+pub read_to_its_end : (told to_come : Option (List ℕ)) (told_fails fails : Bool) (rounds : ℕ) (records : List (List ℕ)) (place : Place)
+    → IsBeingRead told told_fails rounds to_come fails records place → IsAtItsEnd to_come fails → IsReadToItsEnd told told_fails records place
+read_to_its_end told to_come told_fails fails rounds records place r at = record {
+  read = r.read;
+  gave = told_at_end told to_come told_fails fails r.read r.took r.same at;
+  stands = r.stands;
+}
+
+-- the source failed
+pub found_failed : (told to_come : Option (List ℕ)) (told_fails fails : Bool) (rounds : ℕ) (records : List (List ℕ)) (place : Place)
+    → IsBeingRead told told_fails rounds to_come fails records place → IsAtItsFailure to_come fails → IsFoundIn told told_fails records mark.Io
+found_failed told to_come told_fails fails rounds records place r at = record {
+  bytes = r.read;
+  fails = true;
+  gave = told_at_failure told to_come told_fails fails r.read r.took r.same at;
+  marked = ((refl, open_stands r.read records place r.stands r.running), split_stands r.read records place r.stands);
+}
+
+-- the framer took the piece
+pub read_more : (told before after : Option (List ℕ)) (told_fails fails now_fails : Bool) (rounds : ℕ) (earlier old new : List (List ℕ)) (place now_place : Place) (piece : List ℕ)
+    → 0 < length piece → IsBeingRead told told_fails rounds before fails (earlier ++ old) place → Consumes before after piece → now_fails ≡ fails
+    → Feeds place piece old new now_place (Ok tt) → IsBeingRead told told_fails (rounds + 1) after now_fails (earlier ++ new) now_place
+read_more told before after told_fails fails now_fails rounds earlier old new place now_place piece some r took same f = record {
+  read = r.read ++ piece;
+  took = consumed_both told before after r.read piece r.took took;
+  same = same ∙ r.same;
+  stands = subst (λ rs. StandsAt (r.read ++ piece) rs now_place) (append_assoc earlier old f.added ∙ ap (λ rs. earlier ++ rs) (sym f.appended))
+      (f.reads.1 r.read (earlier ++ old) r.stands);
+  running = f.reads.0;
+  went = let w = r.went in omega (arith, length-append r.read piece);
+}
+
+-- a fault of the bytes, however they go on
+found_faulted : (told before after : Option (List ℕ)) (told_fails fails : Bool) (rounds : ℕ) (earlier old new : List (List ℕ)) (place : Place) (piece : List ℕ) (f : FeedFault)
+    → IsBeingRead told told_fails rounds before fails (earlier ++ old) place → Consumes before after piece
+    → (added : List (List ℕ)) → new ≡ old ++ added → Goes place piece added (Failed f)
+    → IsFoundIn told told_fails (earlier ++ new) (mark.Ended (ending_of f))
+found_faulted told before after told_fails fails rounds earlier old new place piece f r took added appended goes =
+    let records : (earlier ++ old) ++ added ≡ earlier ++ new = append_assoc earlier old added ∙ ap (λ rs. earlier ++ rs) (sym appended) in
+    let stands : StandsAt (r.read ++ piece) (earlier ++ new) (Failed f) =
+    subst (λ rs. StandsAt (r.read ++ piece) rs (Failed f)) records (goes r.read (earlier ++ old) r.stands) in
+    let so_far = told_so_far told after told_fails (r.read ++ piece) (consumed_both told before after r.read piece r.took took) in
+    record {
+      bytes = (r.read ++ piece) ++ so_far.0;
+      fails = so_far.1;
+      gave = so_far.2;
+      marked = marked_split _ so_far.1 _ (ending_of f) (λ cut. failed_not_open (r.read ++ piece) so_far.0 (earlier ++ new) f stands cut.1) (stands so_far.0);
+    }
+
+-- want of memory for one more record
+found_wanting : (told before after : Option (List ℕ)) (told_fails fails : Bool) (rounds : ℕ) (earlier old new : List (List ℕ)) (place : Place) (piece : List ℕ)
+    → IsBeingRead told told_fails rounds before fails (earlier ++ old) place → Consumes before after piece
+    → (added : List (List ℕ)) → new ≡ old ++ added → LosesRecord place piece added
+    → IsFoundIn told told_fails (earlier ++ new) (mark.Ended ending.Memory)
+found_wanting told before after told_fails fails rounds earlier old new place piece r took added appended loses =
+    let so_far = told_so_far told after told_fails (r.read ++ piece) (consumed_both told before after r.read piece r.took took) in
+    let stands = loses.goes r.read (earlier ++ old) r.stands in
+    let bytes : (r.read ++ piece) ++ so_far.0 ≡ (r.read ++ loses.front) ++ (loses.back ++ so_far.0) =
+    ap (λ l. (r.read ++ l) ++ so_far.0) loses.parts ∙ ap (λ l. l ++ so_far.0) (sym (append_assoc r.read loses.front loses.back)) ∙ append_assoc (r.read ++ loses.front) loses.back so_far.0 in
+    record {
+      bytes = (r.read ++ piece) ++ so_far.0;
+      fails = so_far.1;
+      gave = so_far.2;
+      marked = λ all end split.
+          let b = beginning_stands (r.read ++ loses.front) (loses.back ++ so_far.0) _ loses.next stands all end (subst (λ t. IsSplit t all end) bytes split) in
+          let regrouped : ((earlier ++ old) ++ (added ++ loses.lost ∷ [])) ++ b.0 ≡ (earlier ++ (old ++ added)) ++ (loses.lost ∷ b.0) = simp append_assoc in
+          (loses.lost ∷ b.0, b.1 ∙ regrouped ∙ ap (λ rs. (earlier ++ rs) ++ (loses.lost ∷ b.0)) (sym appended));
+    }
+
+-- the framer read no further
+pub found_stopped : (told before after : Option (List ℕ)) (told_fails fails : Bool) (rounds : ℕ) (earlier old new : List (List ℕ)) (place now_place : Place) (piece : List ℕ) (f : FeedFault)
+    → IsBeingRead told told_fails rounds before fails (earlier ++ old) place → Consumes before after piece
+    → Feeds place piece old new now_place (Err f) → IsFoundIn told told_fails (earlier ++ new) (mark.Ended (ending_of f))
+found_stopped told before after told_fails fails rounds earlier old new place now_place piece fault.Memory r took feeds =
+    elim feeds.reads.1 [
+      | inl failed ↦ absurd (r.running fault.Memory failed.0)
+      | inr loses ↦ found_wanting told before after told_fails fails rounds earlier old new place piece r took feeds.added feeds.appended loses
+    ]
+found_stopped told before after told_fails fails rounds earlier old new place now_place piece fault.Header r took feeds =
+    found_faulted told before after told_fails fails rounds earlier old new place piece fault.Header r took feeds.added feeds.appended (subst (Goes place piece feeds.added) feeds.reads.0 feeds.reads.1)
+found_stopped told before after told_fails fails rounds earlier old new place now_place piece fault.Large r took feeds =
+    found_faulted told before after told_fails fails rounds earlier old new place piece fault.Large r took feeds.added feeds.appended (subst (Goes place piece feeds.added) feeds.reads.0 feeds.reads.1)
+found_stopped told before after told_fails fails rounds earlier old new place now_place piece fault.Oversize r took feeds =
+    found_faulted told before after told_fails fails rounds earlier old new place piece fault.Oversize r took feeds.added feeds.appended (subst (Goes place piece feeds.added) feeds.reads.0 feeds.reads.1)
+found_stopped told before after told_fails fails rounds earlier old new place now_place piece fault.Many r took feeds =
+    found_faulted told before after told_fails fails rounds earlier old new place piece fault.Many r took feeds.added feeds.appended (subst (Goes place piece feeds.added) feeds.reads.0 feeds.reads.1)
+
+-- no framer was to be had
+pub found_nothing : (told : Option (List ℕ)) (told_fails : Bool) (records : List (List ℕ)) → records ≡ [] → IsFoundIn told told_fails records (mark.Ended ending.Memory)
+found_nothing told told_fails records none =
+    let so_far = told_so_far told told told_fails [] (consumed_none told) in
+    record {
+      bytes = so_far.0;
+      fails = so_far.1;
+      gave = so_far.2;
+      marked = λ all end split. (all, ap (λ rs. rs ++ all) (sym none));
+    }
+
+-- the framer's ending is the source's
+pub found_ended : (told : Option (List ℕ)) (told_fails : Bool) (records : List (List ℕ)) (place : Place) (end : Ending) → IsReadToItsEnd told told_fails records place
+    → ((stream : List ℕ) (rs : List (List ℕ)) → StandsAt stream rs place → IsSplit stream rs end) → IsFoundIn told told_fails records (mark.Ended end)
+found_ended told told_fails records place end r finish = record {
+  bytes = r.read;
+  fails = false;
+  gave = r.gave;
+  marked = marked_split r.read false records end (λ cut. let never : false ≡ true = cut.0 in (cc)) (finish r.read records r.stands);
+}
+
+-- before the first read
+pub nothing_read : (told : Option (List ℕ)) (told_fails : Bool) (records : List (List ℕ)) (place : Place) → records ≡ [] → place ≡ Early []
+    → IsBeingRead told told_fails 0 told told_fails records place
+nothing_read told told_fails records place none is =
+    let some : HEADER ≢ [] = λ e. cc in
+    let stands : StandsAt [] records (Early []) = record { none = none; same = refl; missing = HEADER; more = some; whole = refl } in
+    record {
+      read = [];
+      took = consumed_none told;
+      same = refl;
+      stands = subst (StandsAt [] records) (sym is) stands;
+      running = λ f e. let both : Early [] ≡ Failed f = sym is ∙ e in cc;
+      went = omega arith;
+    }
+
+-- a source that told its bytes gave these
+pub found_told : (told : Option (List ℕ)) (told_fails : Bool) (records : List (List ℕ)) (found : Mark) → IsFoundIn told told_fails records found
+    → (bytes : List ℕ) → told ≡ Some bytes → IsMarked bytes told_fails records found
+found_told told told_fails records found f bytes is =
+    let gave : IsToldOf (Some bytes) told_fails f.bytes f.fails = subst (λ (t : Option (List ℕ)). IsToldOf t told_fails f.bytes f.fails) is f.gave in
+    subst (λ b. IsMarked b told_fails records found) (sym gave.0) (subst (λ b. IsMarked f.bytes b records found) (sym gave.1) f.marked)
+
+-- any source gave some bytes
+pub found_untold : (told : Option (List ℕ)) (told_fails : Bool) (records : List (List ℕ)) (found : Mark) → IsFoundIn told told_fails records found
+    → (bytes : List ℕ) × ((fails : Bool) × IsMarked bytes fails records found)
+found_untold told told_fails records found f = (f.bytes, (f.fails, f.marked))
+
+-- no new records yet
+pub nothing_new : (told to_come : Option (List ℕ)) (told_fails fails : Bool) (rounds : ℕ) (records new : List (List ℕ)) (place : Place) → new ≡ []
+    → IsBeingRead told told_fails rounds to_come fails records place → IsBeingRead told told_fails rounds to_come fails (records ++ new) place
+nothing_new told to_come told_fails fails rounds records new place none r =
+    subst (λ rs. IsBeingRead told told_fails rounds to_come fails rs place) (sym (ap (λ l. records ++ l) none ∙ append-nil records)) r

@@ -1,0 +1,100 @@
+-- Texts that reach a sink in parts.
+use Rattle.std.proofs.Common.{◌≡◌, ℕ, ◌+◌, Bool, List, [], ◌++◌, Option, None, Some, Result, Ok, Err, take, drop, subst, sym, ◌∙◌, ap, append_assoc, append-nil, OnOk, arith}
+use Rattle.std.proofs.lemmas.List.{drop-take, take-append-drop, take-take}
+use Rattle.std.specs.Io.KnownBytes.{Appends, Keeps}
+use Rattle.streams.specs.declared.faults.WriteFault.{WriteFault}
+use Rattle.streams.specs.declared.faults.WriteFault.TheVariants.{Write, Memory}
+use Rattle.streams.specs.Sink.{Writes, AppendsFront, IsOnItsWay, StaysOnItsWay}
+
+-- nothing added is an addition
+pub added_none : (a : Option (List ℕ)) → Appends a a []
+added_none None = tt
+added_none (Some x) = sym (append-nil x)
+
+-- one addition and then another
+pub added_both : (a b c : Option (List ℕ)) (xs ys : List ℕ) → Appends a b xs → Appends b c ys → Appends a c (xs ++ ys)
+added_both None b c xs ys p q = tt
+added_both (Some x) None c xs ys p q = absurd p
+added_both (Some x) (Some y) None xs ys p q = absurd q
+added_both (Some x) (Some y) (Some z) xs ys p q = q ∙ ap (λ l. l ++ ys) p ∙ append_assoc x xs ys
+
+-- an addition and then a call that adds nothing
+pub added_kept : (a b c : Option (List ℕ)) (xs : List ℕ) → Appends a b xs → Keeps b c → Appends a c xs
+added_kept None b c xs p q = tt
+added_kept (Some x) None c xs p q = absurd p
+added_kept (Some x) (Some y) None xs p q = absurd q
+added_kept (Some x) (Some y) (Some z) xs p q = q ∙ p
+
+-- a longer front of a list, in two parts
+take-add : (n m : ℕ) (xs : List ℕ) → take (n + m) xs ≡ take n xs ++ take m (drop n xs)
+take-add n m xs = sym (take-append-drop n (take (n + m) xs)) ∙ ap (λ l. take n (take (n + m) xs) ++ l) (drop-take n m xs) ∙ ap (λ l. l ++ take m (drop n xs)) (take-take n (n + m) xs (omega arith))
+
+-- the front of a text and the next bytes of it
+pub added_next : (a b c : Option (List ℕ)) (text : List ℕ) (at count : ℕ)
+    → Appends a b (take at text) → Appends b c (take count (drop at text)) → Appends a c (take (at + count) text)
+added_next a b c text at count p q =
+    let joined : take at text ++ take count (drop at text) ≡ take (at + count) text = sym (take-add at count text) in
+    subst (Appends a c) joined (added_both a b c _ _ p q)
+
+-- a front of what waits was added: a front of the whole text was
+pub sent_front : (start now after : Option (List ℕ)) (waiting text more : List ℕ) → IsOnItsWay start now waiting text
+    → AppendsFront now after waiting → AppendsFront start after (text ++ more)
+sent_front start now after waiting text more w f =
+    let spelt : text ++ more ≡ (w.sent ++ f.0) ++ (f.1 ++ more) =
+    ap (λ l. l ++ more) (w.split ∙ ap (λ l. w.sent ++ l) f.2 ∙ sym (append_assoc w.sent f.0 f.1)) ∙ append_assoc (w.sent ++ f.0) f.1 more in
+    (w.sent ++ f.0, f.1 ++ more, spelt, added_both start now after _ _ w.added f.3)
+
+-- all that waits was put
+pub flushed_stays : {A : Type 0} (old new : Option (List ℕ)) (waiting waits : List ℕ) (failed : Bool) (r : Result A WriteFault)
+    → Writes old new failed waiting r → OnOk r (waits ≡ []) → StaysOnItsWay old waiting new waits failed [] r
+flushed_stays old new waiting waits failed (Ok x) w e = (
+  w.0,
+  λ start text way. record {
+    sent = text;
+    split = ap (λ l. text ++ l) (sym e);
+    added = subst (Appends start new) (sym way.split) (added_both start old new way.sent waiting way.added w.1);
+  },
+)
+flushed_stays old new waiting waits failed (Err Write) w e = (w.0, λ start text way. sent_front start old new waiting text [] way w.1)
+flushed_stays old new waiting waits failed (Err Memory) w e = w
+
+-- there was no room for a line
+pub room_fails : (old new : Option (List ℕ)) (waited waits : List ℕ) (failed : Bool) (more : List ℕ) (e : WriteFault) (r : Result (Unit {0}) WriteFault)
+    → StaysOnItsWay {A = Unit {0}} old waited new waits failed [] (Err e) → r ≡ Err e → StaysOnItsWay old waited new waits failed more r
+room_fails old new waited waits failed more Write r stays is =
+    subst (StaysOnItsWay {A = Unit {0}} old waited new waits failed more) (sym is) (
+      stays.0,
+      λ start text way. let f = stays.1 start text way in
+          (f.0, f.1 ++ more, ap (λ l. l ++ more) (sym (append-nil text) ∙ f.2) ∙ append_assoc f.0 f.1 more, f.3),
+    )
+room_fails old new waited waits failed more Memory r stays is = absurd stays
+
+-- there was room for a line, which was added to what waits
+pub line_waits : (old new : Option (List ℕ)) (waited mid waits : List ℕ) (failed : Bool) (more : List ℕ) (a b : Unit {0})
+    → StaysOnItsWay old waited new mid failed [] (Ok a) → waits ≡ mid ++ more → StaysOnItsWay old waited new waits failed more (Ok b)
+line_waits old new waited mid waits failed more a b stays e = (
+  stays.0,
+  λ start text way. let w = stays.1 start text way in record {
+    sent = w.sent;
+    split = ap (λ l. l ++ more) (sym (append-nil text) ∙ w.split) ∙ append_assoc w.sent mid more ∙ ap (λ l. w.sent ++ l) (sym e);
+    added = w.added;
+  },
+)
+
+-- a line was not added whole: what was added is a front of any text that goes on from that line
+pub line_fails : (start old new : Option (List ℕ)) (waited waits : List ℕ) (failed : Bool) (text more rest whole : List ℕ) (e : WriteFault) (r : Result (Unit {0}) WriteFault)
+    → IsOnItsWay start old waited text → StaysOnItsWay {A = Unit {0}} old waited new waits failed more (Err e) → whole ≡ (text ++ more) ++ rest → r ≡ Err e
+    → Writes start new failed whole r
+line_fails start old new waited waits failed text more rest whole Write r way stays split is =
+    subst (Writes {A = Unit {0}} start new failed whole) (sym is)
+    (stays.0, let f = stays.1 start text way in (f.0, f.1 ++ rest, split ∙ ap (λ l. l ++ rest) f.2 ∙ append_assoc f.0 f.1 rest, f.3))
+line_fails start old new waited waits failed text more rest whole Memory r way stays split is = absurd stays
+
+-- what waited was put, and with it the whole text
+pub flushed_whole : (start old new : Option (List ℕ)) (waiting : List ℕ) (failed : Bool) (text : List ℕ) (r : Result (Unit {0}) WriteFault)
+    → IsOnItsWay start old waiting text → Writes old new failed waiting r → Writes start new failed text r
+flushed_whole start old new waiting failed text (Ok x) way w =
+    (w.0, subst (Appends start new) (sym way.split) (added_both start old new way.sent waiting way.added w.1))
+flushed_whole start old new waiting failed text (Err Write) way w =
+    (w.0, let f = sent_front start old new waiting text [] way w.1 in (f.0, f.1, sym (append-nil text) ∙ f.2, f.3))
+flushed_whole start old new waiting failed text (Err Memory) way w = w

@@ -1,0 +1,100 @@
+//! Text that is gathered in a fixed buffer, so that many short lines make few writes.
+ghost use Rattle.std.specs.Prelude.{◌≡◌, ◌+◌, ◌^◌, ◌<◌, ◌≤◌, ℕ, List, [], ◌++◌, Option, false, length, take, decimal, OnOk};
+ghost use Rattle.streams.specs.Sink.{Writes, StaysOnItsWay};
+
+use super::faults::WriteFault;
+use super::output::Sink;
+use itoa::Buffer;
+use std::marker::Model;
+
+/// How many bytes are gathered before they are put into the sink.
+const ROOM: usize = 16384;
+
+/// How many bytes of room `make_room` leaves: more than any line takes.
+const LINE: usize = 512;
+
+/// Text that waits to be put into a sink.
+#[derive(Drop)]
+pub struct Gathered {
+    bytes: [u8; ROOM],
+    len: usize,
+}
+
+impl Model for Gathered {
+    ghost Value = { List ℕ };
+
+    ghost view = { λ g. take g.len g.bytes };
+
+    ghost invariant = { λ g. g.len ≤ 16384 };
+}
+
+impl Gathered {
+    /// No text yet.
+    pub fn new() -> Gathered
+        ensures { result ≡ [] }
+    {
+        Gathered {
+            bytes: [0; ROOM],
+            len: 0,
+        }
+    }
+
+    /// Adds a text, for which there is room.
+    pub fn push(&mut self, text: &[u8])
+        requires { length self.old + length text.now ≤ 16384 }
+        ensures { self.new ≡ self.old ++ text.now }
+    {
+        let end = self.len + text.len();
+        self.bytes[self.len..end].copy_from_slice(text);
+        self.len = end;
+    }
+
+    /// Adds a number in decimal, for which there is room.
+    pub fn push_number(&mut self, number: u64)
+        requires { length self.old + 40 ≤ 16384 }
+        ensures text { self.new ≡ self.old ++ decimal number }
+        ensures short { length self.new ≤ length self.old + 40 }
+    {
+        let mut buffer = Buffer::new();
+        self.push(buffer.format(number).as_bytes());
+    }
+
+    /// Leaves room for a line, and puts what waits into the sink where there is none.
+    pub fn make_room<S: Sink>(&mut self, sink: &mut S) -> Result<(), WriteFault>
+        requires { S.failed sink.old ≡ false }
+        ensures writes { StaysOnItsWay (S.taken sink.old) self.old (S.taken sink.new) self.new
+            (S.failed sink.new) [] result }
+        ensures room { OnOk result (length self.new ≤ 15872) }
+    {
+        if self.len <= ROOM - LINE {
+            return Ok(());
+        }
+        self.flush(sink)
+    }
+
+    /// Puts all that waits into the sink.
+    pub fn flush<S: Sink>(&mut self, sink: &mut S) -> Result<(), WriteFault>
+        requires { S.failed sink.old ≡ false }
+        ensures writes { Writes (S.taken sink.old) (S.taken sink.new) (S.failed sink.new) self.old result }
+        ensures empty { OnOk result (self.new ≡ []) }
+    {
+        put_all(sink, &self.bytes[..self.len])?;
+        self.len = 0;
+        Ok(())
+    }
+}
+
+/// Puts a text whole into the sink: after a short write only the rest is put.
+pub fn put_all<S: Sink>(sink: &mut S, text: &[u8]) -> Result<(), WriteFault>
+    requires { S.failed sink.old ≡ false }
+    ensures { Writes (S.taken sink.old) (S.taken sink.new) (S.failed sink.new) text.now result }
+{
+    let mut at = 0;
+    while at < text.len() {
+        match sink.put(&text[at..]) {
+            Ok(count) => at += count,
+            Err(_) => return Err(WriteFault::Write),
+        }
+    }
+    Ok(())
+}

@@ -1,0 +1,25 @@
+//! Reads planar_code sources into records and writes what was found.
+#![tactic(auto)]
+
+mod faults;
+mod found;
+mod framed;
+mod gather;
+mod input;
+mod memory;
+mod output;
+mod reading;
+mod report;
+mod run;
+#[cfg(test)]
+mod tests;
+
+pub use faults::{BatchFault, WriteFault};
+pub use found::{Frames, Mark};
+pub use gather::{Gathered, put_all};
+pub use input::{Tap, TapFault};
+pub use memory::MemTap;
+pub use output::{IoSink, Sink, SinkFault};
+pub use reading::{Step, piece_buffer, read_piece};
+pub use report::write_frames;
+pub use run::run_frames;

@@ -1,0 +1,100 @@
+//! The text of what was found.
+ghost use Rattle.std.specs.Prelude.{◌≡◌, ◌+◌, ◌<◌, ◌≤◌, ◌^◌, false, length, ◌++◌};
+ghost use Rattle.streams.specs.Sink.{Writes, StaysOnItsWay};
+ghost use Rattle.streams.specs.Text.{frames_text, record_line, end_line, word_of};
+
+use super::faults::WriteFault;
+use super::found::{Frames, Mark};
+use super::gather::Gathered;
+use super::output::Sink;
+use planar_code::{Ending, Record};
+
+/// Writes a line for each record and one for the mark. It takes no memory: lines are gathered in a
+/// fixed buffer.
+pub fn write_frames<S: Sink>(frames: &Frames, sink: &mut S) -> Result<(), WriteFault>
+    requires { S.failed sink.old ≡ false }
+    ensures { Writes (S.taken sink.old) (S.taken sink.new) (S.failed sink.new) (frames_text frames.now) result }
+{
+    let mut lines = Gathered::new();
+    let records = frames.records();
+    for (index, framed) in records.iter().enumerate() {
+        write_record(&mut lines, sink, index as u64 + 1, framed)?;
+    }
+    write_end(&mut lines, sink, frames.mark(), records.len() as u64)?;
+    lines.flush(sink)
+}
+
+/// Writes the line of one record.
+fn write_record<S: Sink>(
+    lines: &mut Gathered,
+    sink: &mut S,
+    number: u64,
+    framed: &Record,
+) -> Result<(), WriteFault>
+    requires { S.failed sink.old ≡ false }
+    ensures { StaysOnItsWay (S.taken sink.old) lines.old (S.taken sink.new) lines.new
+        (S.failed sink.new) (record_line number framed.now) result }
+{
+    lines.make_room(sink)?;
+    push_record(lines, number, framed);
+    Ok(())
+}
+
+/// Adds the line of one record.
+fn push_record(lines: &mut Gathered, number: u64, framed: &Record)
+    requires { length lines.old ≤ 15872 }
+    ensures { lines.new ≡ lines.old ++ record_line number framed.now }
+{
+    lines.push(b"record ");
+    lines.push_number(number);
+    lines.push(b" n=");
+    lines.push_number(u64::from(framed.order()));
+    lines.push(b" bytes=");
+    lines.push_number(framed.bytes().len() as u64);
+    lines.push(b"\n");
+}
+
+/// Writes the line of a mark.
+fn write_end<S: Sink>(
+    lines: &mut Gathered,
+    sink: &mut S,
+    mark: Mark,
+    count: u64,
+) -> Result<(), WriteFault>
+    requires { S.failed sink.old ≡ false }
+    ensures { StaysOnItsWay (S.taken sink.old) lines.old (S.taken sink.new) lines.new
+        (S.failed sink.new) (end_line mark count) result }
+{
+    lines.make_room(sink)?;
+    push_end(lines, mark, count);
+    Ok(())
+}
+
+/// Adds the line of a mark.
+fn push_end(lines: &mut Gathered, mark: Mark, count: u64)
+    requires { length lines.old ≤ 15872 }
+    ensures { lines.new ≡ lines.old ++ end_line mark count }
+{
+    lines.push(b"end ");
+    lines.push(mark_word(mark));
+    lines.push(b" records=");
+    lines.push_number(count);
+    lines.push(b"\n");
+}
+
+/// The word of a mark.
+pub(crate) fn mark_word(mark: Mark) -> &'static [u8]
+    ensures word { result.now ≡ word_of mark }
+    ensures short { length result.now ≤ 9 }
+{
+    match mark {
+        Mark::Ended(Ending::Complete) => b"complete",
+        Mark::Ended(Ending::Truncated) => b"truncated",
+        Mark::Ended(Ending::Header) => b"header",
+        Mark::Ended(Ending::Large) => b"large",
+        Mark::Ended(Ending::Oversize) => b"oversize",
+        Mark::Ended(Ending::Many) => b"many",
+        Mark::Ended(Ending::Memory) => b"memory",
+        Mark::Io => b"io",
+    }
+}

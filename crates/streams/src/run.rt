@@ -1,0 +1,152 @@
+//! Runs over sources.
+ghost use Rattle.std.specs.Prelude.{◌≡◌, ◌≢◌, ◌≤◌, ℕ, Bool, List, [], Some, IfOk, IfErr, vec_len};
+ghost use Rattle.ruled_lanes.specs.LinkEnds.{given, taken, AreEnds, TakesFromSame};
+ghost use Rattle.streams.specs.declared.found.Mark.{Mark};
+ghost use Rattle.streams.specs.Marks.{IsMarked};
+ghost use Rattle.streams.specs.Reading.{IsFoundIn};
+ghost use Rattle.streams.specs.Framed.{IsTold, GathersAll, GivesBack};
+
+use super::faults::BatchFault;
+use super::found::{Frames, Mark};
+use super::framed::Framed;
+use super::input::Tap;
+use super::reading::{piece_buffer, read_all};
+use planar_code::Record;
+use ruled_lanes::{Giver, Taker, link};
+use std::alloc::Global;
+use std::snapshot::Snapshot;
+use std::sync::Wait;
+use std::thread;
+use std::thread::{Promise, Threads};
+
+/// What the thread of a reader promises of the giver that it gives back.
+#[derive(Drop)]
+struct Reads<T: Tap> {
+    source: Snapshot<T>,
+    giver: Snapshot<Giver<Framed>>,
+}
+
+impl<T: Tap> Promise<Option<Giver<Framed>>> for Reads<T> {
+    ghost kept_by = { λ p result.
+        GivesBack (T.to_come p.source.value) (T.fails p.source.value) p.giver.value result };
+}
+
+/// What was gathered of a link, with its end.
+#[derive(Drop)]
+struct Harvest {
+    taker: Taker<Framed>,
+    records: Vec<Record>,
+    mark: Option<Mark>,
+}
+
+/// The records of one source and its mark. A thread of its own reads the source, and at most
+/// `capacity` messages of it wait to be gathered. After the first fault in the bytes, the source is
+/// read no more.
+///
+/// `Memory` is want of memory outside the framer; in the framer it is the source's own mark.
+/// `LaneLost`: an end of the link was gone before the last message. `Thread`: no thread could be
+/// started.
+pub fn run_frames<R: Threads + Wait + Sync, T: Tap + Send>(
+    rt: &R,
+    alloc: Global,
+    source: T,
+    capacity: u32,
+) -> Result<Frames, BatchFault>
+    requires least { 1 ≤ capacity }
+    requires most { capacity ≤ 64 }
+    ensures told { IfOk result (λ found. (bytes : List ℕ) → T.to_come source ≡ Some bytes
+        → IsMarked bytes (T.fails source) found.records found.mark) }
+
+    // A source that does not tell its bytes gave some bytes, and then ended or failed.
+    ensures untold { IfOk result (λ found. (bytes : List ℕ)
+        × ((fails : Bool) × IsMarked bytes fails found.records found.mark)) }
+    ensures one_source { IfErr result (λ fault.
+        (fault ≢ BatchFault.TooManyFiles) × (fault ≢ BatchFault.BadLanes)) }
+{
+    let Ok((giver, taker)) = link(alloc, capacity) else {
+        return Err(BatchFault::Memory);
+    };
+    let Ok(buffer) = piece_buffer(alloc) else {
+        return Err(BatchFault::Memory);
+    };
+    thread::scope(
+        thread::scope_env(),
+        rt,
+        move |scope| -> Result<Frames, BatchFault>
+            requires { AreEnds giver taker × (given giver ≡ []) × (taken taker ≡ [])
+                × (vec_len buffer ≡ 65536) }
+            ensures { IfOk result (λ found.
+                IsFoundIn (T.to_come source) (T.fails source) found.records found.mark)
+                × IfErr result (λ fault.
+                (fault ≢ BatchFault.TooManyFiles) × (fault ≢ BatchFault.BadLanes)) }
+        {
+            let promise = Reads {
+                source: Snapshot::of(&source),
+                giver: Snapshot::of(&giver),
+            };
+            let reader = match scope.spawn_with(
+                promise,
+                move || -> Option<Giver<Framed>>
+                    requires { (given giver ≡ []) × (vec_len buffer ≡ 65536) }
+                    ensures { GivesBack (T.to_come source) (T.fails source) giver result }
+                { read_all(rt, alloc, source, buffer, giver) },
+            ) {
+                Ok(reader) => reader,
+                Err(_) => return Err(BatchFault::Thread),
+            };
+            let gathered = gather(rt, alloc, taker);
+            let read = reader.join(rt);
+            let harvest = gathered?;
+            match read {
+                Some(giver) => Ok(settle(rt, harvest, giver)),
+                None => Err(BatchFault::LaneLost),
+            }
+        },
+    )
+}
+
+/// Takes messages until the stop. Where it fails, it lets its end go, so that the giver does not
+/// wait for it.
+fn gather<R: Wait>(rt: &R, alloc: Global, mut taker: Taker<Framed>) -> Result<Harvest, BatchFault>
+    requires { taken taker ≡ [] }
+    ensures link { IfOk result (λ h. TakesFromSame taker h.taker) }
+    ensures all { IfOk result (λ h. GathersAll h.records.items h.mark (taken h.taker)) }
+    ensures one_source { IfErr result (λ fault.
+        (fault ≢ BatchFault.TooManyFiles) × (fault ≢ BatchFault.BadLanes)) }
+{
+    let mut records = Vec::new(alloc);
+    let mut mark = None;
+    for _ in rt.forever() {
+        match taker.take(rt) {
+            Ok(Framed::Records(mut batch)) => match records.append(&mut batch) {
+                Ok(()) => {}
+                Err(_) => return Err(BatchFault::Memory),
+            },
+            Ok(Framed::End(end)) => mark = Some(end),
+            Ok(Framed::Stop) => break,
+            Err(_) => return Err(BatchFault::LaneLost),
+        }
+    }
+    Ok(Harvest {
+        taker,
+        records,
+        mark,
+    })
+}
+
+/// Takes both ends of the link in. So what was gathered is all that was told, and it has a mark.
+fn settle<R: Wait>(rt: &R, harvest: Harvest, giver: Giver<Framed>) -> Frames
+    requires ends { AreEnds giver harvest.taker }
+    requires all { GathersAll harvest.records.items harvest.mark (taken harvest.taker) }
+    requires told { (records : List (List ℕ)) × (mark : Mark) × IsTold records mark (given giver) }
+    ensures { (records : List (List ℕ)) (mark : Mark) → IsTold records mark (given giver)
+        → (result.records ≡ records) × (result.mark ≡ mark) }
+{
+    let Harvest {
+        taker,
+        records,
+        mark,
+    } = harvest;
+    taker.settle(rt, giver);
+    Frames::new(records, mark.unwrap())
+}
