@@ -77,9 +77,9 @@ fn reports_refused_graphs(rt: HostRuntime) -> Result<(), Fail> {
 
 #[test]
 fn marks_files_that_do_not_end_well(rt: HostRuntime) -> Result<(), Fail> {
-    fs::create_dir(&rt, "folder")?;
+    fs::create_dir_all(&rt, "layout_folder")?;
     let unread = "file 1\nend io graphs=0\n";
-    check(&rt, &["layout", "folder"], unread, 3)?;
+    check(&rt, &["layout", "layout_folder"], unread, 3)?;
     check(&rt, &["layout", "missing.pc"], unread, 3)?;
     write_parts(&rt, "empty.pc", &[])?;
     check(

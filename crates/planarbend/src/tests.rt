@@ -123,8 +123,8 @@ fn stops_after_a_million_records(rt: HostRuntime) -> Result<(), Fail> {
 
 #[test]
 fn marks_what_cannot_be_read(rt: HostRuntime) -> Result<(), Fail> {
-    fs::create_dir(&rt, "folder")?;
-    for name in ["folder", "missing.pc", "folder/missing.pc"] {
+    fs::create_dir_all(&rt, "frames_folder")?;
+    for name in ["frames_folder", "missing.pc", "frames_folder/missing.pc"] {
         let ran = run(&rt, &["frames", name])?;
         assert_eq!(rt;
             ran.out.as_slice(),
