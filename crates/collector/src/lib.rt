@@ -12,17 +12,13 @@ mod plain;
 mod read_stage;
 mod report;
 mod run;
-#[cfg(test)]
-mod run_tests;
 mod running;
-#[cfg(test)]
-mod tests;
 
 pub use answers::{Answer, Cause, Entry, answer};
 pub use book::{Batch, Book};
 pub use lanes::{Gate, MemOpener, OpenFault, OpenGate, Opener, Stage};
 pub use plain::{MAX_FILES, run_plain};
-pub use report::write_report;
+pub use report::{push_cause, write_report};
 pub use run::{MAX_LANES, run_batch};
 pub use streams::{
     BatchFault, Frames, IoSink, Mark, MemTap, Sink, SinkFault, Tap, TapFault, WriteFault,

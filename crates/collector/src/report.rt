@@ -163,8 +163,8 @@ fn push_drawn(lines: &mut Gathered, drawing: &Result<Drawing, Cause>)
     }
 }
 
-/// Adds that there is no drawing, in at most 40 bytes.
-pub(crate) fn push_cause(lines: &mut Gathered, cause: Cause)
+/// Adds the end of the line of a graph that has no drawing, in at most 40 bytes.
+pub fn push_cause(lines: &mut Gathered, cause: Cause)
     requires { length lines.old ≤ 16300 }
     ensures text { lines.new ≡ lines.old ++ cause_text cause }
     ensures short { length lines.new ≤ length lines.old + 40 }

@@ -3,7 +3,7 @@
 ghost use Rattle.std.specs.Prelude.{◌<◌, ◌≤◌, false, None};
 ghost use Rattle.lanes.specs.Opening.{Silent};
 
-use super::{
+use collector::{
     Answer, Batch, BatchFault, Book, Gate, IoSink, Mark, MemOpener, MemTap, OpenFault, OpenGate,
     Opener, Stage, Tap, TapFault, run_batch, run_plain, write_report,
 };

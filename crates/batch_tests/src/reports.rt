@@ -2,10 +2,10 @@
 //! and of the report.
 ghost use Rattle.std.specs.Prelude.{◌≤◌, length};
 
-use super::{
-    Answer, BatchFault, Book, Cause, IoSink, Mark, MemOpener, WriteFault, run_plain, write_report,
+use collector::{
+    Answer, BatchFault, Book, Cause, IoSink, Mark, MemOpener, WriteFault, push_cause, run_plain,
+    write_report,
 };
-use crate::report::push_cause;
 use planar_code::Ending;
 use std::alloc::{AllocError, Global};
 use std::io;

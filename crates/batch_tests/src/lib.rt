@@ -1,0 +1,8 @@
+//! Tests of runs over files and of their reports: files in memory, gates that count calls or hold them up,
+//! openers that count their sources, and refused allocations.
+#![tactic(auto)]
+
+#[cfg(test)]
+mod reports;
+#[cfg(test)]
+mod runs;
