@@ -67,10 +67,10 @@ def build(folder, name, source, needed, words):
     return os.path.join(program, "out", name)
 
 
-def run(words):
+def run(words, stderr=None):
     """One run of a program, which must end with status 0."""
     start = time.perf_counter()
-    child = subprocess.Popen(words, stdout=subprocess.PIPE)
+    child = subprocess.Popen(words, stdout=subprocess.PIPE, stderr=stderr)
     digest = hashlib.sha256()
     for chunk in iter(lambda: child.stdout.read(1 << 20), b""):
         digest.update(chunk)
