@@ -1,17 +1,26 @@
 //! Tries the layers of the library on files of other tools. After the word `pieces` each file that is
 //! named is read in pieces of several sizes, and what is found is compared with what the plain
 //! splitter finds in the whole file. After `planes` each graph of a file is read and its faces are
-//! traced, and a line tells the result; after `shapes` a least shape is found too, and tested; after
-//! `drawings` it is drawn, and the drawing is checked. After `times` and a number, it tells how long
-//! each stage takes on a file, the least of so many runs of each.
+//! traced, and a line tells the result; after `shapes` a least shape is found too, and tested. After
+//! `times` and a number, it tells how long each stage takes on a file, the least of so many runs of
+//! each.
+//!
+//! All words after `batches` are files. The report of each is printed, and compared with that of runs
+//! over lanes, as is the report of all files at once. All words after `plain` are files too: it tells
+//! how long a run over them takes on one thread; after `lanes`, the number of lanes and the room of the
+//! links between threads, how long a run over lanes takes.
 #![tactic(auto)]
 
+mod batches;
 mod pieces;
+mod run_times;
 mod stages;
 mod times;
 
 use anyhow::Result;
+use batches::compare_runs;
 use pieces::compare;
+use run_times::{time_lanes, time_plain};
 use stages::{Depth, report};
 use std::env;
 use times::tell_times;
@@ -26,13 +35,17 @@ enum Task {
 }
 
 fn main(rt: HostRuntime) -> Result<()> {
+    let words = env::args(&rt)?.skip(1).collect::<Vec<String>>(rt.alloc())?;
     let mut task = Task::Pieces;
-    for word in env::args(&rt)?.skip(1) {
+    for (place, word) in words.iter().enumerate() {
+        let rest = &words[place + 1..];
         match (word.as_str(), task) {
+            ("batches", _) => return compare_runs(&rt, rest),
+            ("plain", _) => return time_plain(&rt, rest),
+            ("lanes", _) => return time_lanes(&rt, rest),
             ("pieces", _) => task = Task::Pieces,
             ("planes", _) => task = Task::Report(Depth::Planes),
             ("shapes", _) => task = Task::Report(Depth::Shapes),
-            ("drawings", _) => task = Task::Report(Depth::Drawings),
             ("times", _) => task = Task::Rounds,
             (name, Task::Pieces) => compare(&rt, name)?,
             (name, Task::Report(depth)) => report(&rt, name, depth)?,

@@ -2,9 +2,6 @@ ghost use Rattle.std.specs.Prelude.{IfOk};
 ghost use Rattle.ortho_rep.specs.Representation.{IsShape};
 
 use anyhow::{Context, Result, bail, ensure};
-use compact::compact;
-use dissect::dissect;
-use drawing_check::check;
 use embedding::{Graph, ReadFault};
 use faces::{Plane, TraceFault};
 use ortho_rep::{Shape, certify, is_shape, least_shape};
@@ -18,7 +15,6 @@ use std::rt::Files;
 pub enum Depth {
     Planes,
     Shapes,
-    Drawings,
 }
 
 /// What became of a graph.
@@ -66,12 +62,6 @@ fn line<R: Print + AllocGlobal>(rt: &R, number: u64, plane: &Plane, depth: Depth
             let bends = least(rt.alloc(), plane)?.bends();
             println!(rt; "graph {number} ok n={n} m={m} f={f} bends={bends}")?;
         }
-        Depth::Drawings => {
-            let shape = least(rt.alloc(), plane)?;
-            let bends = shape.bends();
-            draw(rt.alloc(), plane, &shape)?;
-            println!(rt; "graph {number} ok n={n} m={m} f={f} bends={bends} drawn=yes")?;
-        }
     }
     Ok(())
 }
@@ -84,18 +74,6 @@ pub fn least(alloc: Global, plane: &Plane) -> Result<Shape>
     ensure!(is_shape(plane, &shape), "no orthogonal representation");
     ensure!(certify(plane, &shape, &prices), "the prices prove nothing");
     Ok(shape)
-}
-
-/// Draws a shape, and checks the drawing.
-fn draw(alloc: Global, plane: &Plane, shape: &Shape) -> Result<()>
-    requires { IsShape plane.now shape.now }
-{
-    let boxes = dissect(alloc, plane, shape)?;
-    let points = compact(alloc, &boxes)?;
-    match check(alloc, plane, shape, points) {
-        Ok(_) => Ok(()),
-        Err((fault, _)) => bail!("the points do not draw the shape: {fault}"),
-    }
 }
 
 /// The plane of a record, or the rule that it breaks.
