@@ -1,9 +1,9 @@
 -- Books of drafts that are ready.
-use Rattle.std.proofs.Common.{◌≡◌, ℕ, List, ◌∷◌, Option, Some, IsSome, refl, sym, ap, subst, ◌∙◌}
+use Rattle.std.proofs.Common.{◌≡◌, ℕ, Some, IsSome, refl, sym, subst}
 use Rattle.streams.specs.declared.found.Mark.{Mark}
 use Rattle.lanes.specs.declared.drafts.Draft.{Draft}
 use Rattle.lanes.specs.Opening.{Meaning}
-use Rattle.lanes.specs.Files.{IsReady, AreReady}
+use Rattle.lanes.specs.Files.{IsReady}
 use Rattle.answers.specs.declared.entry.Entry.{Entry}
 use Rattle.collector.specs.Books.{Pages, about_of, IsBook}
 use Rattle.collector.proofs.Whole.{all_answered}

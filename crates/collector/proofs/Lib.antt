@@ -1,5 +1,6 @@
 pub mod Whole
 pub mod Telling
 pub mod Texts
+pub mod Lacks
 pub mod Taking
 pub mod Binding

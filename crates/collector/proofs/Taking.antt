@@ -1,10 +1,10 @@
 -- What was taken of several lanes, one after another.
-use Rattle.std.proofs.Common.{◌≡◌, ℕ, zero, suc, ◌+◌, ◌<◌, List, [], ◌∷◌, ◌++◌, map, length, take, drop, get_or, arith, refl, sym, ap, subst, ◌∙◌}
+use Rattle.std.proofs.Common.{◌≡◌, ℕ, zero, suc, ◌+◌, List, [], ◌∷◌, ◌++◌, map, length, take, drop, get_or, arith, refl, sym, ap, subst, ◌∙◌}
 use Rattle.std.proofs.lemmas.List.{map-append, drop-drop, length-map}
 use Rattle.std.proofs.Math.Seq.{take-add}
 use Rattle.ruled_lanes.specs.declared.link_ends.Giver.{Giver}
 use Rattle.ruled_lanes.specs.declared.link_ends.Taker.{Taker}
-use Rattle.ruled_lanes.specs.LinkEnds.{given, taken, AreEnds, TakesFromSame, Settles}
+use Rattle.ruled_lanes.specs.LinkEnds.{given, taken, TakesFromSame, Settles}
 use Rattle.lanes.specs.declared.message.Message.{Message}
 use Rattle.lanes.specs.declared.drafts.Draft.{Draft}
 use Rattle.lanes.specs.Notes.{Note, notes, IsStopped}
@@ -16,7 +16,7 @@ use Rattle.answers.specs.declared.entry.Entry.{Entry}
 use Rattle.collector.specs.declared.dealing.Deal.{Deal}
 use Rattle.collector.specs.Books.{about_of}
 use Rattle.collector.specs.Lanes.{Tells}
-use Rattle.collector.specs.Running.{AreNumbered, IsPromised, IsRunning, IsGathered}
+use Rattle.collector.specs.Running.{AreNumbered, IsRunning, IsGathered}
 
 module _ {X : Type 0} where
   -- the element at a place

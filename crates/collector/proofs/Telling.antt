@@ -1,15 +1,13 @@
 -- A lane tells one file more, and then stops.
-use Rattle.std.proofs.Common.{◌≡◌, ◌≢◌, ℕ, ◌+◌, ◌<◌, ◌≤◌, ◌%◌, cond, List, [], ◌∷◌, ◌++◌, map, inl, inr, refl, sym, ap, subst, ◌∙◌, arith, append-nil, append_assoc}
+use Rattle.std.proofs.Common.{◌≡◌, ◌≢◌, ℕ, ◌+◌, ◌%◌, cond, List, [], ◌∷◌, ◌++◌, map, inl, inr, refl, sym, ap, subst, ◌∙◌, arith, append-nil, append_assoc}
 use Rattle.std.proofs.lemmas.Bool.{cases_eq, eq-eqb, ne_eqb}
 use Rattle.std.proofs.lemmas.List.Elements.{filter-append}
 use Rattle.streams.specs.declared.found.Mark.{Mark}
-use Rattle.lanes.specs.declared.message.Message.{Message}
 use Rattle.lanes.specs.declared.message.Message.TheVariants.{Item, End, Stop}
-use Rattle.lanes.specs.Notes.{About, Note, note, notes, is_of, of_file, file_notes, numbered, GoOn, IsStopped}
+use Rattle.lanes.specs.Notes.{About, Note, is_of, of_file, file_notes, numbered, GoOn, IsStopped}
 use Rattle.lanes.specs.Opening.{Meaning}
 use Rattle.lanes.specs.Keeping.{KeepsFile}
-use Rattle.lanes.specs.Files.{HasFile, HasDealt, TellsDealt}
-use Rattle.lanes.proofs.Passing.{notes-after}
+use Rattle.lanes.specs.Files.{HasFile, HasDealt}
 use Rattle.collector.specs.Lanes.{HasTold}
 
 -- all notes of a file are of it, and none of another

@@ -1,8 +1,8 @@
 -- The entries that were kept of a file are its book.
-use Rattle.std.proofs.Common.{◌≡◌, ℕ, ◌+◌, ◌<◌, List, [], ◌∷◌, ◌++◌, map, length, All, get_or, arith, refl, sym, ap, subst, ◌∙◌}
+use Rattle.std.proofs.Common.{◌≡◌, ℕ, ◌+◌, List, [], ◌∷◌, ◌++◌, map, length, All, get_or, arith, refl, sym, ap, subst, ◌∙◌}
 use Rattle.streams.specs.declared.found.Mark.{Mark}
-use Rattle.lanes.specs.declared.message.Message.TheVariants.{Item, End, Stop}
-use Rattle.lanes.specs.Notes.{About, Note, numbered}
+use Rattle.lanes.specs.declared.message.Message.TheVariants.{Item}
+use Rattle.lanes.specs.Notes.{About, numbered}
 use Rattle.lanes.specs.Opening.{Meaning}
 use Rattle.lanes.specs.Keeping.{KeepsFile}
 use Rattle.lanes.specs.Drafts.{abouts, IsWhole}

@@ -1,5 +1,5 @@
 -- What a run hands out: a book for each file.
-use Rattle.std.specs.Prelude.{◌≡◌, ℕ, ◌+◌, List, [], ◌∷◌, All, ⊤}
+use Rattle.std.specs.Prelude.{ℕ, ◌+◌, List, [], ◌∷◌, All, ⊤}
 use Rattle.streams.specs.declared.found.Mark.{Mark}
 use Rattle.lanes.specs.Notes.{About}
 use Rattle.lanes.specs.Opening.{Meaning}

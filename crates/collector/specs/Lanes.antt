@@ -1,10 +1,10 @@
 -- What the threads of a lane give back.
-use Rattle.std.specs.Prelude.{◌≡◌, ℕ, ◌<◌, ◌≤◌, List, []}
+use Rattle.std.specs.Prelude.{◌≡◌, ℕ, ◌≤◌, List, []}
 use Rattle.ruled_lanes.specs.declared.link_ends.Giver.{Giver}
 use Rattle.ruled_lanes.specs.declared.link_ends.Taker.{Taker}
 use Rattle.ruled_lanes.specs.LinkEnds.{given, taken, AreEnds, GivesToSame}
 use Rattle.lanes.specs.declared.message.Message.{Message}
-use Rattle.lanes.specs.Notes.{About, Note, notes, of_file, GoOn}
+use Rattle.lanes.specs.Notes.{About, Note, of_file, GoOn}
 use Rattle.lanes.specs.Opening.{Meaning}
 use Rattle.lanes.specs.Files.{HasDealt, TellsDealt}
 

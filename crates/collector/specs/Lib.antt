@@ -2,4 +2,6 @@ pub mod Books
 pub mod Results
 pub mod Lanes
 pub mod Report
+pub mod Json
+pub mod Writing
 pub mod Running

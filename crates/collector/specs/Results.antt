@@ -1,6 +1,5 @@
 -- What a run answers.
-use Rattle.std.specs.Prelude.{◌≡◌, ℕ, List, length, Result, Ok, Err, ⊤}
-use Rattle.streams.specs.declared.faults.BatchFault.{BatchFault}
+use Rattle.std.specs.Prelude.{◌≡◌, ℕ, List, length}
 use Rattle.lanes.specs.Opening.{Meaning}
 use Rattle.collector.specs.Books.{Pages, AreBooks}
 

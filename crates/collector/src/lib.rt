@@ -6,6 +6,7 @@ mod book;
 mod dealing;
 mod entries;
 mod gives;
+mod json;
 mod lane;
 mod links;
 mod plain;
@@ -16,6 +17,7 @@ mod running;
 
 pub use answers::{Answer, Cause, Entry, answer};
 pub use book::{Batch, Book};
+pub use json::write_json;
 pub use lanes::{Gate, MemOpener, OpenFault, OpenGate, Opener, Stage};
 pub use plain::{MAX_FILES, run_plain};
 pub use report::{push_cause, write_report};

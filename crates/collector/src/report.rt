@@ -195,25 +195,25 @@ fn push_end(lines: &mut Gathered, mark: Mark, count: u64)
     ensures { lines.new ≡ lines.old ++ end_line mark count }
 {
     lines.push(b"end ");
-    lines.push(mark_word(mark));
+    lines.push(mark_word(mark).as_bytes());
     lines.push(b" graphs=");
     lines.push_number(count);
     lines.push(b"\n");
 }
 
 /// The word of a mark.
-fn mark_word(mark: Mark) -> &'static [u8]
+pub(crate) fn mark_word(mark: Mark) -> &'static str
     ensures word { result.now ≡ word_of mark }
     ensures short { length result.now ≤ 9 }
 {
     match mark {
-        Mark::Ended(Ending::Complete) => b"complete",
-        Mark::Ended(Ending::Truncated) => b"truncated",
-        Mark::Ended(Ending::Header) => b"header",
-        Mark::Ended(Ending::Large) => b"large",
-        Mark::Ended(Ending::Oversize) => b"oversize",
-        Mark::Ended(Ending::Many) => b"many",
-        Mark::Ended(Ending::Memory) => b"memory",
-        Mark::Io => b"io",
+        Mark::Ended(Ending::Complete) => "complete",
+        Mark::Ended(Ending::Truncated) => "truncated",
+        Mark::Ended(Ending::Header) => "header",
+        Mark::Ended(Ending::Large) => "large",
+        Mark::Ended(Ending::Oversize) => "oversize",
+        Mark::Ended(Ending::Many) => "many",
+        Mark::Ended(Ending::Memory) => "memory",
+        Mark::Io => "io",
     }
 }

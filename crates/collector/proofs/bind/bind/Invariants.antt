@@ -1,4 +1,4 @@
-use Rattle.std.proofs.Common.{◌≡◌, ◌+◌, ℕ, drop, length, vec_len}
+use Rattle.std.proofs.Common.{◌≡◌, ◌+◌, ℕ, length, vec_len}
 use Rattle.lanes.specs.Opening.{Meaning}
 use Rattle.lanes.specs.Files.{AreReady}
 use Rattle.collector.specs.Books.{about_of, AreBooks}

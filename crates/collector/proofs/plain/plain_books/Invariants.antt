@@ -1,4 +1,4 @@
-use Rattle.std.proofs.Common.{◌≡◌, ◌<◌, vec_len}
+use Rattle.std.proofs.Common.{◌≡◌, vec_len}
 use Rattle.collector.specs.Books.{AreBooks}
 use Rattle.collector.proofs.plain.plain_books.Given as goal
 

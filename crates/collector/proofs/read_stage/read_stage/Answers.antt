@@ -1,8 +1,6 @@
 use Rattle.std.proofs.Common.{◌≡◌, true, false, refl, ◌∙◌}
 use Rattle.lanes.specs.declared.message.Message.TheVariants.{End}
-use Rattle.lanes.specs.Notes.{notes}
 use Rattle.lanes.proofs.Passing.{notes-after}
-use Rattle.ruled_lanes.specs.LinkEnds.{given}
 use Rattle.collector.specs.Books.{framed_about}
 use Rattle.collector.proofs.Telling.{told_over, told_more}
 use Rattle.collector.proofs.read_stage.read_stage.Goals as goal

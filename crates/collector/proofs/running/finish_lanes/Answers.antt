@@ -1,4 +1,4 @@
-use Rattle.std.proofs.Common.{◌≡◌, length, map, arith, ◌∙◌}
+use Rattle.std.proofs.Common.{◌≡◌, length, map, arith}
 use Rattle.std.proofs.lemmas.List.{length-map}
 use Rattle.ruled_lanes.specs.LinkEnds.{taken}
 use Rattle.lanes.specs.Notes.{notes}

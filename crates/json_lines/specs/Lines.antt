@@ -1,0 +1,126 @@
+-- JSON lines: the value of each answer and of each mark, with its keys in byte order, and its line.
+use Rattle.std.specs.Prelude.{ℕ, ◌/◌, ℤ, List, [], ◌∷◌, ◌++◌, length, map, codes, Result, Ok, Err}
+use Rattle.std.specs.List.{range_with_len}
+use Rattle.serde_json.specs.Data.{Data, null, number, unsigned, string, array, object, Members, no_members, member}
+use Rattle.serde_json.specs.Find.{of_integer}
+use Rattle.serde_json.specs.View.{items_of}
+use Rattle.serde_json.specs.Written.{compact_text}
+use Rattle.embedding.specs.Words as rules
+use Rattle.faces.specs.Map.{Map, vertices, darts}
+use Rattle.ortho_rep.specs.declared.turn.Turn.{Turn}
+use Rattle.ortho_rep.specs.declared.turn.Turn.TheVariants.{Left, Right}
+use Rattle.ortho_rep.specs.declared.points.Point.{Point}
+use Rattle.ortho_rep.specs.Shapes.{Figure, turns_at}
+use Rattle.ortho_rep.specs.Points.{Plot, corners_at}
+use Rattle.ortho_rep.specs.Prices.{Tariff}
+use Rattle.ortho_rep.specs.Representation.{bends_of}
+use Rattle.answers.specs.declared.cause.Cause.{Cause}
+use Rattle.answers.specs.declared.found.Answer.{Answer}
+use Rattle.answers.specs.declared.found.Answer.TheVariants.{Laid, Refused, NoMemory}
+use Rattle.answers.specs.Words as causes
+
+-- ---- numbers, texts, arrays and objects
+
+abbrev pub natural : ℕ → Data
+natural n = number (unsigned n)
+
+-- a whole number, which may be below 0
+abbrev pub whole : ℤ → Data
+whole z = number (of_integer z)
+
+-- the array of what stands for each thing of a list
+abbrev pub array_of : {A : Type 0} → (A → Data) → List A → Data
+array_of value xs = array (items_of (map value xs))
+
+abbrev pub members_of : List (List ℕ × Data) → Members
+members_of [] = no_members
+members_of (m ∷ ms) = member m.0 m.1 (members_of ms)
+
+-- the object of these keys with their values
+abbrev pub object_of : List (List ℕ × Data) → Data
+object_of ms = object (members_of ms)
+
+-- ---- shapes, prices and points
+
+-- L for a left turn, R for a right turn
+abbrev pub letter_of : Turn → ℕ
+letter_of Left = 76
+letter_of Right = 82
+
+-- the turns of a dart in walking order
+abbrev pub turns_data : List Turn → Data
+turns_data turns = string (map letter_of turns)
+
+abbrev pub prices_data : Tariff → Data
+prices_data prices = object_of (
+    (codes "faces", array_of whole prices.faces)
+    ∷ (codes "vertices", array_of whole prices.vertices)
+    ∷ [])
+
+abbrev pub point_data : Point → Data
+point_data point = array_of natural (point.x ∷ point.y ∷ [])
+
+-- the corners of an edge, along its lesser dart
+abbrev pub corners_data : Plot → ℕ → Data
+corners_data points e = array_of point_data (corners_at points e)
+
+-- the points of the edges and vertices of a plane with so many edges, or null where there is no drawing
+abbrev pub points_data : ℕ → Result Plot Cause → Data
+points_data edges (Ok points) = object_of (
+    (codes "corners", array_of (corners_data points) (range_with_len 0 edges))
+    ∷ (codes "vertices", array_of point_data points.vertices)
+    ∷ [])
+points_data edges (Err cause) = null
+
+-- whether there is a drawing, or why there is none
+abbrev pub drawn_data : Result Plot Cause → Data
+drawn_data (Ok points) = string (codes "yes")
+drawn_data (Err cause) = string (causes.word_of cause)
+
+-- ---- answers and marks
+
+-- a graph that breaks no rule; angles and turns are by dart
+abbrev pub laid_data : ℕ → ℕ → Map → Figure → Tariff → Result Plot Cause → Data
+laid_data file graph plane shape prices drawing = object_of (
+    (codes "angles", array_of natural shape.angles)
+    ∷ (codes "bends", natural (bends_of (length shape.strings) (turns_at shape)))
+    ∷ (codes "drawn", drawn_data drawing)
+    ∷ (codes "f", natural plane.faces)
+    ∷ (codes "file", natural file)
+    ∷ (codes "graph", natural graph)
+    ∷ (codes "m", natural (darts plane / 2))
+    ∷ (codes "n", natural (vertices plane))
+    ∷ (codes "points", points_data (darts plane / 2) drawing)
+    ∷ (codes "prices", prices_data prices)
+    ∷ (codes "status", string (codes "ok"))
+    ∷ (codes "turns", array_of turns_data shape.strings)
+    ∷ [])
+
+-- the answer to the graph with this number of the file with this number
+abbrev pub answer_data : ℕ → ℕ → Answer → Data
+answer_data file graph (Laid plane shape prices drawing) = laid_data file graph plane shape prices drawing
+answer_data file graph (Refused rule) = object_of (
+    (codes "file", natural file)
+    ∷ (codes "graph", natural graph)
+    ∷ (codes "rule", string (rules.word_of rule))
+    ∷ (codes "status", string (codes "refused"))
+    ∷ [])
+answer_data file graph NoMemory = object_of (
+    (codes "file", natural file)
+    ∷ (codes "graph", natural graph)
+    ∷ (codes "status", string (codes "memory"))
+    ∷ [])
+
+-- how the file with this number ends: the word of its mark, and how many graphs it has
+abbrev pub end_data : ℕ → List ℕ → ℕ → Data
+end_data file word graphs = object_of (
+    (codes "end", string word)
+    ∷ (codes "file", natural file)
+    ∷ (codes "graphs", natural graphs)
+    ∷ [])
+
+-- ---- lines
+
+-- the text of a value without spaces, and the byte that ends a line
+abbrev pub line_of : Data → List ℕ
+line_of value = compact_text value ++ codes "\n"

@@ -1,0 +1,9 @@
+//! JSON lines: one object for each entry of a file and one for its end, each on a line of its own.
+#![tactic(auto)]
+
+mod arrays;
+mod entries;
+mod lines;
+mod objects;
+
+pub use lines::{end_line, entry_line};

@@ -1,0 +1,58 @@
+//! Lines of JSON.
+ghost use Rattle.std.specs.Prelude.{◌≡◌, IfOk, false};
+ghost use Rattle.serde_json.specs.View.{view};
+ghost use Rattle.serde_json.specs.Written.{has_float};
+ghost use Rattle.json_lines.specs.Lines.{answer_data, end_data, line_of};
+
+use crate::entries::entry_value;
+use answers::Entry;
+use serde_json::{Value, json};
+use std::alloc::{AllocError, Global};
+
+/// The line of an entry, which is the graph of this number in the file of this number.
+///
+/// # Errors
+///
+/// `AllocError` where there is no memory for the line.
+pub fn entry_line(
+    alloc: Global,
+    file: u32,
+    graph: u64,
+    entry: &Entry,
+) -> Result<Vec<u8>, AllocError>
+    ensures { IfOk result (λ line. line.items ≡ line_of (answer_data file graph entry.now.answer)) }
+{
+    line(alloc, &entry_value(alloc, file, graph, entry)?)
+}
+
+/// The line of the end of the file of this number: the word of its mark, and how many graphs it has.
+///
+/// # Errors
+///
+/// `AllocError` where there is no memory for the line.
+pub fn end_line(alloc: Global, file: u32, word: &str, graphs: u64) -> Result<Vec<u8>, AllocError>
+    ensures { IfOk result (λ line. line.items ≡ line_of (end_data file word.now graphs)) }
+{
+    line(alloc, &end_value(alloc, file, word, graphs)?)
+}
+
+/// The object of the end of a file.
+fn end_value(alloc: Global, file: u32, word: &str, graphs: u64) -> Result<Value, AllocError>
+    ensures { IfOk result (λ v. view v ≡ end_data file word.now graphs) }
+{
+    json!(in alloc; {
+        "end": word,
+        "file": file,
+        "graphs": graphs,
+    })
+}
+
+/// The text of a value and the byte that ends a line.
+fn line(alloc: Global, value: &Value) -> Result<Vec<u8>, AllocError>
+    requires { has_float (view value.now) ≡ false }
+    ensures { IfOk result (λ line. line.items ≡ line_of (view value.now)) }
+{
+    let mut text = value.to_vec(alloc)?;
+    text.push(b'\n')?;
+    Ok(text)
+}
