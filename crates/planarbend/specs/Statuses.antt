@@ -1,10 +1,11 @@
 -- What the program's exit status says.
-use Rattle.std.specs.Prelude.{◌≡◌, ◌≢◌, ◌⊎◌, ◌↔◌, ℕ, Bool, false, List, Option, All}
+use Rattle.std.specs.Prelude.{◌≡◌, ◌≢◌, ◌⊎◌, ◌↔◌, ℕ, Bool, false, List, Option, All, vec_len}
 use Rattle.std.specs.Io.KnownBytes.{Appends}
 use Rattle.planar_code.specs.declared.ending.Ending.{Ending}
 use Rattle.streams.specs.declared.faults.BatchFault.{BatchFault}
 use Rattle.streams.specs.declared.found.Mark.{Mark}
 use Rattle.streams.specs.Found.{Found}
+use Rattle.streams.specs.Marks.{IsMarked}
 use Rattle.streams.specs.Text.{frames_text}
 use Rattle.lanes.specs.Opening.{Silent}
 use Rattle.answers.specs.declared.found.Answer.{Answer}
@@ -12,6 +13,8 @@ use Rattle.collector.specs.Books.{Pages}
 use Rattle.collector.specs.Results.{AreAllBooks}
 use Rattle.collector.specs.Report.{report_text}
 use Rattle.planarbend.specs.declared.faults.Fault.{Fault}
+use Rattle.planarbend.specs.declared.words.Request.{Request}
+use Rattle.planarbend.specs.declared.words.Request.TheVariants.{Frames, Layout}
 
 -- what was asked for is refused
 abbrev pub IsRefusal : Fault → Type 0
@@ -21,9 +24,13 @@ IsRefusal fault = (fault ≡ Fault.NotText) ⊎ ((fault ≡ Fault.Run BatchFault
 abbrev pub IsComplete : Found → Type 0
 IsComplete found = found.mark ≡ Mark.Ended Ending.Complete
 
--- the whole report of some file was added to the output, and the status tells how the file ended
+-- The whole report of a file was added to the output, and the status tells how the file ended. Nothing is known of the
+-- file beforehand: the records and the mark are those of some bytes, after which it ends or fails.
 pub record IsReported (old new : Option (List ℕ)) (failed : Bool) (status : ℕ) : Type 0 where
   pub found : Found
+  pub bytes : List ℕ
+  pub fails : Bool
+  pub marked : IsMarked bytes fails found.records found.mark
   pub text : Appends old new (frames_text found)
   pub whole : failed ≡ false
   pub complete : IsComplete found ↔ (status ≡ 0)
@@ -43,3 +50,8 @@ pub record IsLaidOut (files : ℕ) (old new : Option (List ℕ)) (failed : Bool)
   pub written : failed ≡ false
   pub whole : All IsWholeBook books ↔ (status ≡ 0)
   pub other : status ≢ 0 → status ≡ 3
+
+-- the whole report that a request asks for was added to the output, with this status
+abbrev pub IsDone : Request → Option (List ℕ) → Option (List ℕ) → Bool → ℕ → Type 0
+IsDone (Frames path) old new failed status = IsReported old new failed status
+IsDone (Layout paths lanes) old new failed status = IsLaidOut (vec_len paths) old new failed status

@@ -1,6 +1,6 @@
 //! What the program does with its words.
 ghost use Rattle.std.specs.Prelude.{◌≡◌, ◌≤◌, ◌⊎◌, ℕ, true, false, IfOk, IfErr, OnOk};
-ghost use Rattle.planarbend.specs.Statuses.{IsRefusal, IsReported, IsLaidOut};
+ghost use Rattle.planarbend.specs.Statuses.{IsRefusal, IsReported, IsLaidOut, IsDone};
 
 use super::faults::Fault;
 use super::layout::{CAPACITY, layout};
@@ -46,11 +46,38 @@ where
         → IsReported (S.taken out.old) (S.taken out.new) (S.failed out.new) 3
         ⊎ ((files : ℕ) × IsLaidOut files (S.taken out.old) (S.taken out.new) (S.failed out.new) 3) }
 {
-    let outcome = match parse(rt.alloc(), words) {
-        Ok(Request::Frames { path }) => frames(rt, path, out),
-        Ok(Request::Layout { paths, lanes }) => layout(rt, paths.as_slice(), lanes, out),
-        Err(error) if error.use_stderr() => return refuse(rt.alloc(), &error, err),
-        Err(error) => show_help(rt.alloc(), &error, out),
+    match parse(rt.alloc(), words) {
+        Ok(request) => perform(rt, request, out, err),
+        Err(error) if error.use_stderr() => refuse(rt.alloc(), &error, err),
+        Err(error) => match show_help(rt.alloc(), &error, out) {
+            Ok(()) => 0,
+            Err(fault) => end_by(fault, err),
+        },
+    }
+}
+
+/// Does what a request asks for, and answers the exit status. It is 0 or 3 only where the whole report
+/// was written, of all files that the request names, and then as `command` says.
+fn perform<R: Files + AllocGlobal + Threads + Wait + Sync, S: Sink, E: Sink>(
+    rt: &R,
+    request: Request,
+    out: &mut S,
+    err: &mut E,
+) -> u8
+where
+    R::File: Send,
+    R::Dir: Send,
+    requires out_is_whole { S.failed out.old ≡ false }
+    requires err_is_whole { E.failed err.old ≡ false }
+    ensures known { result ≤ 3 }
+    ensures failed_write { S.failed out.new ≡ true → result ≡ 1 }
+    ensures refused { result ≡ 2 → out.new ≡ out.old }
+    ensures done { (result ≡ 0) ⊎ (result ≡ 3)
+        → IsDone request.entry (S.taken out.old) (S.taken out.new) (S.failed out.new) result }
+{
+    let outcome = match request {
+        Request::Frames { path } => frames(rt, path, out),
+        Request::Layout { paths, lanes } => layout(rt, paths.as_slice(), lanes, out),
     };
     match outcome {
         Ok(status) => status,
@@ -104,13 +131,12 @@ fn refuse<E: Sink>(alloc: Global, error: &Error, err: &mut E) -> u8
 }
 
 /// Writes the help that was asked for.
-fn show_help<S: Sink>(alloc: Global, help: &Error, out: &mut S) -> Result<u8, Fault>
+fn show_help<S: Sink>(alloc: Global, help: &Error, out: &mut S) -> Result<(), Fault>
     requires { S.failed out.old ≡ false }
-    ensures status { IfOk result (λ status. status ≡ 0) }
     ensures whole { OnOk result (S.failed out.new ≡ false) }
     ensures failed { IfErr result (λ fault. ¬ IsRefusal fault) }
 {
     let text = help.to_string(alloc).map_err(|_| Fault::Memory)?;
     put_all(out, text.as_bytes())?;
-    Ok(0)
+    Ok(())
 }

@@ -10,8 +10,8 @@ use std::io::Read;
 use std::rt::Files;
 
 /// Real files: a file's number is its place in a list of names, in which a name may stand more than
-/// once. A number past the list does not open. No more is told of a file, as nothing can be known of it
-/// beforehand.
+/// once. A number past the list is not opened. In contracts nothing is told of any file, as nothing can
+/// be known of it beforehand.
 #[derive(Drop)]
 pub struct FileOpener<'r, 'n, R> {
     pub rt: &'r R,
