@@ -1,4 +1,5 @@
 pub mod Whole
+pub mod Headline
 pub mod Telling
 pub mod Texts
 pub mod Lacks

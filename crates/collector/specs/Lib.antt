@@ -4,4 +4,5 @@ pub mod Lanes
 pub mod Report
 pub mod Json
 pub mod Writing
+pub mod Headline
 pub mod Running

@@ -8,6 +8,7 @@ mod entries;
 mod gives;
 mod json;
 mod lane;
+pub mod laws;
 mod links;
 mod plain;
 mod read_stage;

@@ -1,0 +1,46 @@
+-- What a run over files says of one that opens and gives all its bytes, where memory sufficed.
+use Rattle.std.specs.Prelude.{◌≡◌, ◌≢◌, ℕ, ◌+◌, List, [], ◌∷◌, All, ⊤}
+use Rattle.planar_code.specs.declared.ending.Ending.{Ending}
+use Rattle.planar_code.specs.Stream.{lists_of}
+use Rattle.planar_code.specs.Split.{IsSplit}
+use Rattle.streams.specs.declared.found.Mark.{Mark}
+use Rattle.embedding.specs.Rules.{FirstBroken}
+use Rattle.answers.specs.declared.found.Answer.{Answer}
+use Rattle.answers.specs.declared.found.Answer.TheVariants.{Laid, Refused, NoMemory}
+use Rattle.answers.specs.declared.entry.Entry.{Entry}
+use Rattle.answers.specs.Answers.{IsLaid}
+use Rattle.collector.specs.Books.{Pages}
+
+-- The answer names the first rule that a record of these bytes breaks, or gives a plane with the record's lists, an
+-- orthogonal representation of it and its outer face with the fewest bends, and points that draw it, if any are given.
+abbrev pub IsDecided : List ℕ → Answer → Type 0
+IsDecided bytes (Laid plane shape prices drawing) = IsLaid bytes plane shape prices drawing
+IsDecided bytes (Refused rule) = FirstBroken (lists_of bytes) rule
+IsDecided bytes NoMemory = ⊥
+
+-- the entry is about the record of these bytes, at this place of this file, and decides it
+pub record IsEntryFor (file ordinal : ℕ) (bytes : List ℕ) (entry : Entry) : Type 0 where
+  pub file_is : entry.file ≡ file
+  pub ordinal_is : entry.ordinal ≡ ordinal
+  pub bytes_are : entry.rec ≡ bytes
+  pub decided : ∥ IsDecided bytes entry.answer ∥₁
+
+-- the entries are one for each record, each once and in order; the first is at this place of the file
+abbrev pub AreOneForEach : ℕ → ℕ → List (List ℕ) → List Entry → Type 0
+AreOneForEach file ordinal [] [] = ⊤
+AreOneForEach file ordinal (bytes ∷ records) (entry ∷ entries) =
+    IsEntryFor file ordinal bytes entry × AreOneForEach file (ordinal + 1) records entries
+AreOneForEach file ordinal _ _ = ⊥
+
+-- the entries are one for each record of the file's bytes, and the mark is their ending
+pub record IsWholeRun (file : ℕ) (bytes : List ℕ) (book : Pages) : Type 0 where
+  pub records : List (List ℕ)
+  pub end : Ending
+  pub split : IsSplit bytes records end
+  pub entries : AreOneForEach file 0 records book.entries
+  pub mark : book.mark ≡ Mark.Ended end
+
+-- no want of memory stands in the book
+pub record HasMemory (book : Pages) : Type 0 where
+  pub mark : book.mark ≢ Mark.Ended Ending.Memory
+  pub answers : All (λ entry. entry.answer ≢ Answer.NoMemory) book.entries
