@@ -1,6 +1,6 @@
 -- What a drawing shows of a shape, and what the cause in its place shows.
-use Rattle.std.specs.Prelude.{Result, Ok, Err}
-use Rattle.faces.specs.Map.{Map}
+use Rattle.std.specs.Prelude.{◌≡◌, ◌*◌, Result, Ok, Err, length}
+use Rattle.faces.specs.Map.{Map, vertices, darts}
 use Rattle.ortho_rep.specs.Shapes.{Figure}
 use Rattle.ortho_rep.specs.Points.{Plot}
 use Rattle.dissect.specs.Boxes.{Parts}
@@ -35,7 +35,12 @@ pub record IsCause (plane : Map) (shape : Figure) (cause : Cause) : Type 0 where
   pub boxed : IsBoxed plane shape boxes
   pub shown : IsShown plane shape boxes cause
 
--- the points draw the shape; or the cause in their place is shown
+-- there is a point for each vertex, and a list of corners for each edge
+pub record HasPoints (plane : Map) (points : Plot) : Type 0 where
+  pub vertex_count : length points.vertices ≡ vertices plane
+  pub edge_count : 2 * length points.corners ≡ darts plane
+
+-- there are points and corners for the whole plane, and they draw the shape; or the cause in their place is shown
 abbrev pub IsDrawn : Map → Figure → Result Plot Cause → Type 0
-IsDrawn plane shape (Ok points) = Draws plane shape points
+IsDrawn plane shape (Ok points) = HasPoints plane points × Draws plane shape points
 IsDrawn plane shape (Err cause) = IsCause plane shape cause
