@@ -7,10 +7,10 @@ use Rattle.streams.specs.declared.found.Mark.{Mark}
 use Rattle.lanes.specs.declared.message.Message.{Message}
 use Rattle.lanes.specs.declared.message.Message.TheVariants.{Item, End, Stop}
 use Rattle.lanes.specs.declared.drafts.Draft.{Draft}
-use Rattle.lanes.specs.Notes.{About, Note, note, notes, is_of, of_file, file_notes, numbered, GoOn, IsStopped}
+use Rattle.lanes.specs.Notes.{About, Note, note, notes, is_of, of_file, numbered, GoOn, IsStopped}
 use Rattle.lanes.specs.Opening.{Meaning}
 use Rattle.lanes.specs.Stages.{IsPassedOn}
-use Rattle.lanes.specs.Drafts.{abouts, mark_after, IsDraft, AreDrafts, IsWhole}
+use Rattle.lanes.specs.Drafts.{abouts, mark_after, IsDraft, AreDrafts}
 use Rattle.lanes.specs.Files.{HasFile, HasDealt, joined, AreDealt, TellsDealt, IsReady, AreReady}
 
 -- a message's kind as a number

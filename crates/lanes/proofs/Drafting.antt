@@ -1,12 +1,12 @@
 -- Drafts with one note more.
-use Rattle.std.proofs.Common.{◌≡◌, ◌≢◌, ℕ, zero, suc, ◌+◌, ◌<◌, ◌≤◌, cond, true, false, List, [], ◌∷◌, ◌++◌, map, length, Option, None, Some, set, get_or, refl, sym, ap, subst, ◌∙◌, arith, append-nil}
+use Rattle.std.proofs.Common.{◌≡◌, ℕ, zero, suc, ◌+◌, ◌<◌, ◌≤◌, cond, true, false, List, [], ◌∷◌, ◌++◌, map, length, Option, None, Some, set, get_or, refl, sym, ap, subst, ◌∙◌, arith, append-nil}
 use Rattle.std.proofs.lemmas.Bool.{eq-eqb, ne_eqb}
 use Rattle.std.proofs.lemmas.List.{map-append}
 use Rattle.std.proofs.lemmas.List.Elements.{filter-append}
 use Rattle.streams.specs.declared.found.Mark.{Mark}
 use Rattle.lanes.specs.declared.message.Message.TheVariants.{Item, End, Stop}
 use Rattle.lanes.specs.declared.drafts.Draft.{Draft}
-use Rattle.lanes.specs.Notes.{About, Note, is_of, of_file, GoOn, IsStopped}
+use Rattle.lanes.specs.Notes.{About, Note, is_of, of_file}
 use Rattle.lanes.specs.Drafts.{abouts, mark_after, IsDraft, AreDrafts}
 
 -- one more record, one more mark

@@ -4,7 +4,6 @@ use Rattle.streams.specs.declared.found.Mark.{Mark}
 use Rattle.lanes.specs.declared.message.Message.{Message}
 use Rattle.lanes.specs.declared.message.Message.TheVariants.{Item, End, Stop}
 use Rattle.lanes.specs.Notes.{About, Note, note, notes, GoOn, IsStopped}
-use Rattle.lanes.specs.Stages.{IsPassedOn}
 
 -- a message that is no stop goes on
 pub going_item : (ns : List Note) (about : About) → GoOn ns → GoOn (ns ++ Item about ∷ [])

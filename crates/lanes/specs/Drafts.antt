@@ -1,7 +1,7 @@
 -- What has come of the files so far.
 use Rattle.std.specs.Prelude.{◌≡◌, ℕ, ◌+◌, List, [], ◌∷◌, map, Option, None, Some, ⊤}
 use Rattle.streams.specs.declared.found.Mark.{Mark}
-use Rattle.lanes.specs.declared.message.Message.TheVariants.{Item, End, Stop}
+use Rattle.lanes.specs.declared.message.Message.TheVariants.{Item, End}
 use Rattle.lanes.specs.declared.drafts.Draft.{Draft}
 use Rattle.lanes.specs.Notes.{About, Note, of_file, numbered}
 use Rattle.lanes.specs.Opening.{Meaning, IsFoundAt}

@@ -14,7 +14,7 @@ pub record HasFile (meaning : Meaning) (file : ℕ) (ns : List Note) : Type 0 wh
   pub told : of_file file ns ≡ file_notes file records mark
   pub found : IsFoundAt meaning records mark
 
--- of each of the first files that is dealt to the lane they tell all, and of any other nothing
+-- of each of the first files that is dealt to the lane they tell all, and of the files of other lanes nothing
 pub record HasDealt (meaning : ℕ → Meaning) (files lanes lane : ℕ) (ns : List Note) : Type 0 where
   pub own : (file : ℕ) → file < files → file % lanes ≡ lane → HasFile (meaning file) file ns
   pub others : (file : ℕ) → file % lanes ≢ lane → of_file file ns ≡ []

@@ -1,11 +1,11 @@
 //! Files in memory.
-ghost use Rattle.std.specs.Prelude.{◌≡◌, ◌<◌, ◌≤◌, ℕ, false, vec_len};
+ghost use Rattle.std.specs.Prelude.{◌≡◌, ◌<◌, ◌≤◌, ℕ, false, vec_len, IfOk};
 ghost use Rattle.lanes.specs.Opening.{Meaning, Unopened, Opened, Opens};
 ghost use Rattle.lanes.specs.MemFiles.{meaning_in, bytes_at};
 
 use crate::opener::{OpenFault, Opener};
 use std::alloc::Global;
-use streams::MemTap;
+use streams::{MemTap, Tap};
 
 /// Files in memory: the list of bytes with a file's number is that file. A read gives at most a chosen
 /// number of bytes, and none fails. A number past the lists does not open.
@@ -17,6 +17,8 @@ pub struct MemOpener {
 }
 
 impl MemOpener {
+    ghost use Rattle.lanes.specs.MemReads.{most_of};
+
     /// Files of these bytes; a read gives at most `most` of them.
     pub fn new(files: Vec<Vec<u8>>, most: usize) -> MemOpener
         requires { 0 < most }
@@ -24,17 +26,26 @@ impl MemOpener {
             → ⟦<MemOpener as Opener>⟧.meaning result k ≡ Opened (bytes_at files.items k) false }
         ensures others { (k : ℕ) → vec_len files ≤ k
             → ⟦<MemOpener as Opener>⟧.meaning result k ≡ Unopened }
+        ensures chosen { most_of result ≡ most }
     {
         MemOpener { files, most }
     }
 }
 
 impl Opener for MemOpener {
+    ghost use Rattle.streams.specs.Memory as taps;
+    ghost use Rattle.lanes.specs.MemReads.{most_of};
+
     type Source = MemTap;
 
     ghost meaning = { λ o k. meaning_in o.files.items k };
 
-    fn open(&self, alloc: Global, file: u32) -> Result<MemTap, OpenFault> {
+    // What every opener keeps, and that no read gives more bytes than was chosen.
+    fn open(&self, alloc: Global, file: u32) -> Result<MemTap, OpenFault>
+        ensures opens { Opens ⟦<MemTap as Tap>⟧.to_come ⟦<MemTap as Tap>⟧.fails
+            (⟦<MemOpener as Opener>⟧.meaning self.now file) result }
+        ensures most { IfOk result (λ source. taps.most_of source ≡ most_of self.now) }
+    {
         let Some(bytes) = self.files.get(file as usize) else {
             return Err(OpenFault::Io);
         };

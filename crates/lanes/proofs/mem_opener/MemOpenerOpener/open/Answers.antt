@@ -2,14 +2,14 @@ use Rattle.std.proofs.Common.{◌<◌, ◌≤◌, length, get_or, Some, ap, ◌�
 use Rattle.lanes.proofs.MemFiles.{opens_there, opens_past}
 use Rattle.lanes.proofs.mem_opener.MemOpenerOpener.open.Goals as goal
 
-pub returns-in_default : goal.returns-in_default
-returns-in_default c =
+pub returns-in_default-clause-opens : goal.returns-in_default-clause-opens
+returns-in_default-clause-opens c =
     let files = c.args.self.now.files.items in
     let past : length files ≤ c.args.file = omega (arith, ap length c.deref.ensures.value, c.in_default.ensures.lookup.3) in
     opens_past _ _ files c.args.file _ past
 
-pub returns-in-Ok : goal.returns-in-Ok
-returns-in-Ok c =
+pub returns-in-Ok-clause-opens : goal.returns-in-Ok-clause-opens
+returns-in-Ok-clause-opens c =
     let files = c.args.self.now.files.items in
     let bytes = c.in-Some.bytes.now in
     let found = c.in-Some.ensures.lookup in
