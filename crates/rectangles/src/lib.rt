@@ -1,21 +1,18 @@
 //! Rectangles of whole points, and whether any two of a list have a point in common.
 //!
-//! The method is a sweep from left to right (Shamos and Hoey 1976, for axis-parallel rectangles): the
-//! rectangles that the sweep still meets stand in a map by their bottom rows, and while no two have a
-//! point in common these rows are disjoint, so a new one needs to be held only against its neighbour
-//! below its top row.
+//! The method is a sweep from left to right (Shamos and Hoey 1976, for axis-parallel rectangles). Where
+//! the rectangles have few rows, the front of the sweep stands in a table by rows; else the rectangles
+//! that it still meets stand in a map.
 #![tactic(auto)]
 
-ghost use Rattle.std.specs.Prelude.{◌≡◌, ℕ, ◌<◌, ◌≤◌, ◌↔◌, None, Some, IsTrue, IsSome, IfOk, IfNone, IfSome, All, AllPairs};
-ghost use Rattle.std.specs.Bool.{OnTrue, OnFalse};
-ghost use Rattle.std.specs.Ordering.{nat_cmp};
-ghost use Rattle.std.specs.BTreeMap.{get};
+mod front;
+mod stack;
+
+ghost use Rattle.std.specs.Prelude.{◌<◌, ◌↔◌, IsTrue, IfOk, IfSome, All, AllPairs};
 ghost use Rattle.std.specs.List.Sorted.{IsNonDecreasingBy};
 ghost use Rattle.rectangles.specs.Rectangles.{IsFilled, AreApart};
-ghost use Rattle.rectangles.specs.Stack.{IsStack, Clears, IsFree, IsMet};
 
 use std::alloc::{AllocError, Global};
-use std::collections::BTreeMap;
 
 /// The whole points (x, y) with `left <= x <= right` and `bottom <= y <= top`.
 #[derive(Clone, Copy)]
@@ -26,15 +23,22 @@ pub struct Rectangle {
     pub top: u32,
 }
 
+// The most rows of a table, for each rectangle.
+const TABLE_ROWS: usize = 8;
+
+// The most rows of all rectangles together, for each rectangle, where there is a table. The map was seen
+// to be faster from some 350 on.
+const ALL_ROWS: usize = 128;
+
 /// Whether no two of the rectangles have a point in common.
 ///
 /// Takes O(n log n) time for n rectangles, however many points they hold. The only error is want of
-/// memory, for the sort's buffer or for the map.
+/// memory, for the table or for the map.
 pub fn all_apart(alloc: Global, mut rectangles: Vec<Rectangle>) -> Result<bool, AllocError>
     requires { All IsFilled rectangles.items }
     ensures { IfOk result (λ apart. IsTrue apart ↔ AllPairs AreApart rectangles.items) }
 {
-    rectangles.sort_by_key(|r| r.left)?;
+    rectangles.sort_unstable_by_key(|r| r.left);
     sweep(alloc, &rectangles)
 }
 
@@ -44,45 +48,28 @@ fn sweep(alloc: Global, rectangles: &[Rectangle]) -> Result<bool, AllocError>
     requires ordered { IsNonDecreasingBy (λ r. r.left) rectangles.now }
     ensures { IfOk result (λ apart. IsTrue apart ↔ AllPairs AreApart rectangles.now) }
 {
-    let mut active = BTreeMap::new(alloc);
+    match table_height(rectangles) {
+        Some(height) => front::sweep(alloc, rectangles, height),
+        None => stack::sweep(alloc, rectangles),
+    }
+}
+
+// The number of rows of a table that has each row of the rectangles; none where the table or all
+// rectangles together would have too many.
+fn table_height(rectangles: &[Rectangle]) -> Option<usize>
+    requires { All IsFilled rectangles.now }
+    ensures { IfSome result (λ height. All (λ r. r.top < height) rectangles.now) }
+{
+    let mut spare = rectangles.len().saturating_mul(ALL_ROWS);
+    let mut height = 0;
     for rectangle in rectangles {
-        if !make_room(&mut active, *rectangle) {
-            return Ok(false);
-        }
-        active.insert(rectangle.bottom, *rectangle)?;
+        spare = spare.checked_sub((rectangle.top - rectangle.bottom) as usize + 1)?;
+        height = height.max(rectangle.top as usize + 1);
     }
-    Ok(true)
-}
-
-// Takes out what lies in the way of a new rectangle and ends left of it; false where something that
-// still reaches its left column lies there.
-fn make_room(active: &mut BTreeMap<u32, Rectangle>, new: Rectangle) -> bool
-    requires { IsStack (get nat_cmp active.old) }
-    ensures clears { Clears (get nat_cmp active.old) (get nat_cmp active.new) new }
-    ensures free { OnTrue result (IsFree (get nat_cmp active.new) new) }
-    ensures met { OnFalse result (IsMet (get nat_cmp active.old) new) }
-{
-    while let Some((bottom, found)) = highest_up_to(active, new.top) {
-        if found.top < new.bottom {
-            return true;
-        }
-        if new.left <= found.right {
-            return false;
-        }
-        active.remove(&bottom);
+    if rectangles.len().saturating_mul(TABLE_ROWS) < height {
+        return None;
     }
-    true
-}
-
-// The entry of the greatest key that is at most `row`.
-fn highest_up_to(active: &BTreeMap<u32, Rectangle>, row: u32) -> Option<(u32, Rectangle)>
-    ensures none { IfNone result ((k : ℕ) → k ≤ row → get nat_cmp active.now k ≡ None) }
-    ensures below { IfSome result (λ e. e.0 ≤ row) }
-    ensures held { IfSome result (λ e. get nat_cmp active.now e.0 ≡ Some e.1) }
-    ensures highest { IfSome result (λ e. (k : ℕ) → k ≤ row → IsSome (get nat_cmp active.now k) → k ≤ e.0) }
-{
-    let (bottom, found) = active.range(..=row).next_back()?;
-    Some((*bottom, *found))
+    Some(height)
 }
 
 #[cfg(test)]
@@ -98,27 +85,34 @@ mod tests {
             .all(|r| r.left <= r.right && r.bottom <= r.top)
     }
 
-    // A rectangle from its left and right columns and its bottom and top rows.
-    fn rectangle(sides: [u32; 4]) -> Rectangle {
+    // A rectangle from its left and right columns and its bottom and top rows, moved up as far as it can be
+    // or by so many rows.
+    fn rectangle(sides: [u32; 4], up: u32) -> Rectangle {
         let [left, right, bottom, top] = sides;
         Rectangle {
             left,
             right,
-            bottom,
-            top,
+            bottom: bottom.saturating_add(up),
+            top: top.saturating_add(up),
         }
     }
 
-    fn answer(rt: &impl Abort, alloc: Global, sides: [[u32; 4]; 3]) -> Result<bool, AllocError> {
+    fn answer(
+        rt: &impl Abort,
+        alloc: Global,
+        sides: [[u32; 4]; 3],
+        up: u32,
+    ) -> Result<bool, AllocError> {
         let mut list = Vec::new(alloc);
         for one in sides {
-            list.push(rectangle(one))?;
+            list.push(rectangle(one, up))?;
         }
         assert!(rt; are_filled(&list));
         all_apart(alloc, list)
     }
 
-    // Run with each allocation refused in turn too: then one answer is not given, and the others are right.
+    // Rectangles in few rows, which go into a table, and the same a thousand rows up, which go into a map. Run
+    // with each allocation refused in turn too: then one answer is not given, and the others are right.
     #[test]
     fn tells_what_is_apart(rt: HostRuntime) {
         let far = u32::MAX;
@@ -137,9 +131,11 @@ mod tests {
         ];
         let mut lacking = 0u8;
         for (sides, apart) in cases {
-            match answer(&rt, rt.alloc(), sides) {
-                Ok(found) => assert_eq!(rt; found, apart, "at {sides:?}"),
-                Err(AllocError) => lacking = lacking.saturating_add(1),
+            for up in [0, 1000] {
+                match answer(&rt, rt.alloc(), sides, up) {
+                    Ok(found) => assert_eq!(rt; found, apart, "at {sides:?}, {up} up"),
+                    Err(AllocError) => lacking = lacking.saturating_add(1),
+                }
             }
         }
         assert!(rt; lacking <= 1);

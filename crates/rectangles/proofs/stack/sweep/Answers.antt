@@ -3,7 +3,7 @@ use Rattle.std.specs.Ordering.{nat_cmp}
 use Rattle.std.specs.BTreeMap.{get}
 use Rattle.std.proofs.lemmas.Bool.{false≢true}
 use Rattle.rectangles.proofs.Holdings.{none_there, is_update, IsSwept-more, met_not_apart, AllPairs-swept}
-use Rattle.rectangles.proofs.sweep.Goals as goal
+use Rattle.rectangles.proofs.stack.sweep.Goals as goal
 
 pub returns-then-not-make_room : goal.returns-then-not-make_room
 returns-then-not-make_room c =

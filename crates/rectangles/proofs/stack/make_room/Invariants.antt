@@ -1,7 +1,7 @@
 use Rattle.std.specs.Ordering.{nat_cmp}
 use Rattle.std.specs.BTreeMap.{get, btree_map_len}
 use Rattle.rectangles.specs.Stack.{IsStack, Clears}
-use Rattle.rectangles.proofs.make_room.Given as goal
+use Rattle.rectangles.proofs.stack.make_room.Given as goal
 
 abbrev pub invariant-loop-bottom : goal.invariant-loop-bottom
 invariant-loop-bottom l =

@@ -1,6 +1,6 @@
 use Rattle.std.proofs.Common.{None}
 use Rattle.rectangles.proofs.Holdings.{is_update, IsStack-taken, Clears-taken}
-use Rattle.rectangles.proofs.make_room.Goals as goal
+use Rattle.rectangles.proofs.stack.make_room.Goals as goal
 
 pub loop-bottom-preserved : goal.loop-bottom-preserved
 loop-bottom-preserved c =
