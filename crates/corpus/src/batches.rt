@@ -1,10 +1,10 @@
 //! Runs over whole files, on one thread and over lanes: their reports must be the same.
 
+use crate::readback::test_lines;
 use anyhow::{Context, Result, ensure};
 use collector::{
-    Answer, Batch, IoSink, MAX_LANES, MemOpener, OpenGate, run_batch, run_plain, write_report,
+    Batch, IoSink, MAX_LANES, MemOpener, OpenGate, run_batch, run_plain, write_report,
 };
-use ortho_rep::{certify, is_shape};
 use std::alloc::Global;
 use std::io::Write;
 use std::rt::Files;
@@ -38,7 +38,7 @@ pub fn compare_runs<R: Files + Print + AllocGlobal + Threads + Wait + Sync>(
     Ok(())
 }
 
-/// The report of these files, which must be the same over lanes.
+/// The report of these files, which must be the same over lanes. What their JSON lines say is tested.
 fn report_of_runs<R: Files + AllocGlobal + Threads + Wait + Sync>(
     rt: &R,
     names: &[String],
@@ -47,7 +47,7 @@ fn report_of_runs<R: Files + AllocGlobal + Threads + Wait + Sync>(
     let opener = read_files(rt, names)?;
     let count = u32::try_from(names.len())?;
     let batch = run_plain(alloc, &opener, count)?;
-    test_shapes(&batch)?;
+    test_lines(alloc, &batch)?;
     let report = report_of(alloc, &batch)?;
     for lanes in 1..=MAX_LANES {
         for capacity in CAPACITIES {
@@ -69,25 +69,6 @@ pub fn read_files<R: Files + AllocGlobal>(rt: &R, names: &[String]) -> Result<Me
         files.push(fs::read(rt, name.as_str()).context(format_args!("{name}"))?)?;
     }
     Ok(MemOpener::new(files, MOST))
-}
-
-/// Tests each shape of a batch, and that its prices prove it least.
-fn test_shapes(batch: &Batch) -> Result<()> {
-    for file in 0..batch.files() {
-        for entry in batch.book(file).entries() {
-            if let Answer::Laid {
-                plane,
-                shape,
-                prices,
-                drawing: _,
-            } = &entry.answer
-            {
-                ensure!(is_shape(plane, shape), "no orthogonal representation");
-                ensure!(certify(plane, shape, prices), "the prices prove nothing");
-            }
-        }
-    }
-    Ok(())
 }
 
 /// The text of a report.
