@@ -5,5 +5,7 @@ mod arrays;
 mod entries;
 mod lines;
 mod objects;
+#[cfg(test)]
+mod tests;
 
 pub use lines::{end_line, entry_line};

@@ -11,10 +11,11 @@ use Rattle.lanes.specs.Opening.{Silent}
 use Rattle.answers.specs.declared.found.Answer.{Answer}
 use Rattle.collector.specs.Books.{Pages}
 use Rattle.collector.specs.Results.{AreAllBooks}
-use Rattle.collector.specs.Report.{report_text}
+use Rattle.planarbend.specs.declared.form.Form.{Form}
 use Rattle.planarbend.specs.declared.faults.Fault.{Fault}
 use Rattle.planarbend.specs.declared.words.Request.{Request}
 use Rattle.planarbend.specs.declared.words.Request.TheVariants.{Frames, Layout}
+use Rattle.planarbend.specs.Forms.{text_in}
 
 -- what was asked for is refused
 abbrev pub IsRefusal : Fault → Type 0
@@ -41,12 +42,12 @@ pub record IsWholeBook (book : Pages) : Type 0 where
   pub complete : book.mark ≡ Mark.Ended Ending.Complete
   pub answered : All (λ entry. entry.answer ≢ Answer.NoMemory) book.entries
 
--- The whole report of the books of so many files was added to the output, and the status tells whether each book is
--- whole. Nothing is known of the files beforehand.
-pub record IsLaidOut (files : ℕ) (old new : Option (List ℕ)) (failed : Bool) (status : ℕ) : Type 0 where
+-- The whole text of the books of so many files, in this form, was added to the output, and the status tells whether each
+-- book is whole. Nothing is known of the files beforehand.
+pub record IsLaidOut (form : Form) (files : ℕ) (old new : Option (List ℕ)) (failed : Bool) (status : ℕ) : Type 0 where
   pub books : List Pages
   pub of_files : AreAllBooks (λ _. Silent) files books
-  pub text : Appends old new (report_text books)
+  pub text : Appends old new (text_in form books)
   pub written : failed ≡ false
   pub whole : All IsWholeBook books ↔ (status ≡ 0)
   pub other : status ≢ 0 → status ≡ 3
@@ -54,4 +55,4 @@ pub record IsLaidOut (files : ℕ) (old new : Option (List ℕ)) (failed : Bool)
 -- the whole report that a request asks for was added to the output, with this status
 abbrev pub IsDone : Request → Option (List ℕ) → Option (List ℕ) → Bool → ℕ → Type 0
 IsDone (Frames path) old new failed status = IsReported old new failed status
-IsDone (Layout paths lanes) old new failed status = IsLaidOut (vec_len paths) old new failed status
+IsDone (Layout paths lanes form) old new failed status = IsLaidOut form (vec_len paths) old new failed status

@@ -1,6 +1,7 @@
 //! What the program does with its words.
 ghost use Rattle.std.specs.Prelude.{◌≡◌, ◌≤◌, ◌⊎◌, ℕ, true, false, IfOk, IfErr, OnOk};
 ghost use Rattle.planarbend.specs.Statuses.{IsRefusal, IsReported, IsLaidOut, IsDone};
+ghost use Rattle.planarbend.specs.declared.form.Form.{Form};
 
 use super::faults::Fault;
 use super::layout::{CAPACITY, layout};
@@ -44,7 +45,7 @@ where
     // one does not or lacks an answer for want of memory.
     ensures reported { result ≡ 3
         → IsReported (S.taken out.old) (S.taken out.new) (S.failed out.new) 3
-        ⊎ ((files : ℕ) × IsLaidOut files (S.taken out.old) (S.taken out.new) (S.failed out.new) 3) }
+        ⊎ ((form : Form) × (files : ℕ) × IsLaidOut form files (S.taken out.old) (S.taken out.new) (S.failed out.new) 3) }
 {
     match parse(rt.alloc(), words) {
         Ok(request) => perform(rt, request, out, err),
@@ -77,7 +78,7 @@ where
 {
     let outcome = match request {
         Request::Frames { path } => frames(rt, path, out),
-        Request::Layout { paths, lanes } => layout(rt, paths.as_slice(), lanes, out),
+        Request::Layout { paths, lanes, form } => layout(rt, paths.as_slice(), lanes, form, out),
     };
     match outcome {
         Ok(status) => status,

@@ -4,8 +4,9 @@ ghost use Rattle.planarbend.specs.Statuses.{IsRefusal, IsLaidOut};
 
 use super::faults::Fault;
 use super::file_opener::FileOpener;
+use super::form::Form;
 use super::statuses::status_of_batch;
-use collector::{BatchFault, OpenGate, Sink, run_batch, write_report};
+use collector::{BatchFault, OpenGate, Sink, run_batch};
 use std::rt::Files;
 use std::sync::Wait;
 use std::thread::Threads;
@@ -13,8 +14,8 @@ use std::thread::Threads;
 /// How many messages wait between two threads of a run at most.
 pub const CAPACITY: u32 = 16;
 
-/// Reports answers to the records of these files, worked out in so many lanes, and gives back the
-/// status of the report.
+/// Writes answers to the records of these files in this form, worked out in so many lanes, and gives back
+/// the status of the report.
 ///
 /// # Errors
 ///
@@ -25,13 +26,14 @@ pub fn layout<R: Files + AllocGlobal + Threads + Wait + Sync, S: Sink>(
     rt: &R,
     paths: &[&str],
     lanes: u32,
+    form: Form,
     out: &mut S,
 ) -> Result<u8, Fault>
 where
     R::File: Send,
     R::Dir: Send,
     requires { S.failed out.old ≡ false }
-    ensures reported { IfOk result (IsLaidOut (length paths.now) (S.taken out.old) (S.taken out.new) (S.failed out.new)) }
+    ensures reported { IfOk result (IsLaidOut form (length paths.now) (S.taken out.old) (S.taken out.new) (S.failed out.new)) }
     ensures too_many { (64 < length paths.now) ↔ (result ≡ Err (Fault.Run BatchFault.TooManyFiles)) }
     ensures bad_lanes { (((lanes ≡ 0) ⊎ (4 < lanes)) × (length paths.now ≤ 64))
         ↔ (result ≡ Err (Fault.Run BatchFault.BadLanes)) }
@@ -40,6 +42,6 @@ where
     let opener = FileOpener { rt, names: paths };
     let files = u32::try_from(paths.len()).unwrap_or(u32::MAX);
     let batch = run_batch(rt, rt.alloc(), &opener, files, lanes, CAPACITY, &OpenGate)?;
-    write_report(&batch, out)?;
+    form.write(rt.alloc(), &batch, out)?;
     Ok(status_of_batch(&batch))
 }

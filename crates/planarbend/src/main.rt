@@ -4,6 +4,7 @@
 mod command;
 mod faults;
 mod file_opener;
+mod form;
 mod layout;
 #[cfg(test)]
 mod layout_tests;

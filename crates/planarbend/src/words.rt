@@ -1,5 +1,6 @@
 //! The command line.
 
+use super::form::Form;
 use clap::{Arg, ArgAction, ArgMatches, Command, Error, value_parser};
 use std::alloc::{AllocError, Global};
 
@@ -8,8 +9,12 @@ use std::alloc::{AllocError, Global};
 pub enum Request<'a> {
     /// The records of one file.
     Frames { path: &'a str },
-    /// Answers to the records of files, worked out in so many lanes.
-    Layout { paths: Vec<&'a str>, lanes: u32 },
+    /// Answers to the records of files, worked out in so many lanes and written in a form.
+    Layout {
+        paths: Vec<&'a str>,
+        lanes: u32,
+        form: Form,
+    },
 }
 
 /// Reads the words after the program's name.
@@ -27,6 +32,7 @@ fn layout_request<'a>(alloc: Global, matches: &ArgMatches<'a>) -> Result<Request
     Ok(Request::Layout {
         paths: Vec::from_slice(alloc, matches.get_strs("FILE").unwrap_or(&[]))?,
         lanes: matches.get_one("lanes").unwrap_or(1),
+        form: if matches.get_flag("json") { Form::Json } else { Form::Report },
     })
 }
 
@@ -54,6 +60,10 @@ fn describe_layout<'a>(alloc: Global) -> Result<Command<'a>, AllocError> {
         .help("How many files are worked on at once, 1 to 4")
         .value_parser(value_parser!(u32))
         .default_value("1");
+    let json = Arg::new(alloc, "json")
+        .long("json")
+        .help("Prints JSON lines in place of the report: also shapes, prices and points")
+        .action(ArgAction::SetTrue);
     let files = Arg::new(alloc, "FILE")
         .help("Planar_code files, at most 64: the 15 bytes >>planar_code<< and then records")
         .required(true)
@@ -65,6 +75,7 @@ fn describe_layout<'a>(alloc: Global) -> Result<Command<'a>, AllocError> {
         )
         .after_help(LAYOUT_HELP)
         .arg(lanes)?
+        .arg(json)?
         .arg(files)
 }
 
