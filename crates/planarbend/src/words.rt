@@ -8,7 +8,9 @@ use std::alloc::{AllocError, Global};
 #[derive(Drop)]
 pub enum Request<'a> {
     /// The records of one file.
-    Frames { path: &'a str },
+    Frames {
+        path: &'a str,
+    },
     /// Answers to the records of files, worked out in so many lanes and written in a form.
     Layout {
         paths: Vec<&'a str>,
@@ -32,7 +34,11 @@ fn layout_request<'a>(alloc: Global, matches: &ArgMatches<'a>) -> Result<Request
     Ok(Request::Layout {
         paths: Vec::from_slice(alloc, matches.get_strs("FILE").unwrap_or(&[]))?,
         lanes: matches.get_one("lanes").unwrap_or(1),
-        form: if matches.get_flag("json") { Form::Json } else { Form::Report },
+        form: if matches.get_flag("json") {
+            Form::Json
+        } else {
+            Form::Report
+        },
     })
 }
 
@@ -103,6 +109,7 @@ prints
   end complete graphs=2
 and from a generator
   geng -c -D4 8 | planarg -p > graphs.pc && planarbend layout graphs.pc
+With --json there is a line for each graph and each file's end, and each is a JSON object.
 The status is 0 where each file ends complete and no graph wanted for memory, and else 3.";
 
 const FRAMES_HELP: &str = "Example:
