@@ -124,10 +124,47 @@ fn keeps_files_apart(rt: HostRuntime) -> Result<(), Fail> {
     Ok(())
 }
 
+/// Runs the command on JSON lines that name no drawing, and looks at them.
+#[test]
+fn shows_json_lines(rt: HostRuntime) -> Result<(), Fail> {
+    write_parts(&rt, "json_empty.pc", &[])?;
+    let header = "{\"end\":\"header\",\"file\":1,\"graphs\":0}\n";
+    check(&rt, &["layout", "--json", "json_empty.pc"], header, 3)?;
+    write_parts(&rt, "json_edgeless.pc", &[HEADER, &[1, 0]])?;
+    let edgeless = "{\"file\":1,\"graph\":1,\"rule\":\"edgeless\",\"status\":\"refused\"}\n\
+        {\"end\":\"complete\",\"file\":1,\"graphs\":1}\n";
+    check(&rt, &["layout", "--json", "json_edgeless.pc"], edgeless, 0)?;
+    let torus = [4, 3, 4, 2, 0, 1, 4, 3, 0, 2, 4, 1, 0, 1, 2, 3, 0];
+    write_parts(&rt, "json_torus.pc", &[HEADER, &torus])?;
+    let genus = "{\"file\":1,\"graph\":1,\"rule\":\"genus\",\"status\":\"refused\"}\n\
+        {\"end\":\"complete\",\"file\":1,\"graphs\":1}\n";
+    check(&rt, &["layout", "json_torus.pc", "--json"], genus, 0)
+}
+
+/// The line of a single edge, but for its points and prices.
+#[test]
+fn shows_an_edge_as_json(rt: HostRuntime) -> Result<(), Fail> {
+    write_parts(&rt, "json_edge.pc", &[HEADER, EDGE])?;
+    let ran = run(&rt, &["layout", "--json", "--lanes", "2", "json_edge.pc"])?;
+    assert_eq!(rt; (ran.status, ran.err.len()), (0, 0));
+    let text = ran.out.as_slice();
+    let begins =
+        b"{\"angles\":[4,4],\"bends\":0,\"drawn\":\"yes\",\"f\":1,\"file\":1,\"graph\":1,\"m\":1,\"n\":2,\"points\":{";
+    let ends =
+        b"\"status\":\"ok\",\"turns\":[\"\",\"\"]}\n{\"end\":\"complete\",\"file\":1,\"graphs\":1}\n";
+    assert!(rt; text.starts_with(begins) && text.ends_with(ends));
+    Ok(())
+}
+
 #[test]
 fn refuses_other_command_lines(rt: HostRuntime) -> Result<(), Fail> {
     check_refused(&rt, &["layout"], "were not provided:\n  <FILE>...\n")?;
     check_refused(&rt, &["layout", "--lanes", "x", "a"], "invalid value 'x'")?;
+    check_refused(
+        &rt,
+        &["frames", "--json", "a"],
+        "unexpected argument '--json' found",
+    )?;
     for lanes in ["0", "5"] {
         check_refused(
             &rt,
