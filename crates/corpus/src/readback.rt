@@ -42,7 +42,10 @@ fn test_line(alloc: Global, plane: &Plane, line: &[u8]) -> Result<()> {
     let points = points_of(alloc, member(&value, "points")?)?;
     let whole = points.vertex_count() == usize::from(plane.graph().vertices())
         && 2 * points.edge_count() == usize::from(plane.graph().darts());
-    ensure!(whole, "not a point for each vertex and corners for each edge");
+    ensure!(
+        whole,
+        "not a point for each vertex and corners for each edge"
+    );
     ensure!(check(alloc, plane, &shape, points).is_ok(), "no drawing");
     Ok(())
 }
@@ -81,10 +84,7 @@ fn points_of(alloc: Global, value: &Value) -> Result<Points> {
     for edge in list(member(value, "corners")?)? {
         corners.push(point_list(alloc, edge)?)?;
     }
-    Ok(Points::new(
-        point_list(alloc, member(value, "vertices")?)?,
-        corners,
-    ))
+    Ok(Points::new(point_list(alloc, member(value, "vertices")?)?, corners))
 }
 
 /// A list of points, each of two numbers.
