@@ -232,3 +232,39 @@ fn names_no_answer(report: &[u8]) -> bool {
     report == b"file 1\nend memory graphs=0\n".as_slice()
         || report == b"file 1\ngraph 1 memory\nend complete graphs=1\n".as_slice()
 }
+
+const JSON_LINES: &[u8] = b"{\"file\":1,\"graph\":1,\"rule\":\"edgeless\",\"status\":\"refused\"}\n\
+    {\"end\":\"complete\",\"file\":1,\"graphs\":1}\n";
+
+/// The same of JSON lines, which take memory of their own.
+#[test]
+fn json_names_want_of_memory(rt: HostRuntime) {
+    let Ok(words) = json_words_for(&rt) else {
+        return;
+    };
+    let mut out = IoSink::new(Narrow::new(128));
+    let mut err = IoSink::new(Narrow::new(64));
+    let status = command(&rt, words.as_slice(), &mut out, &mut err);
+    let out = out.into_writer();
+    let err = err.into_writer();
+    let whole = out.text() == JSON_LINES && err.text().is_empty() && status == 0;
+    let marked = names_no_json_answer(out.text()) && err.text().is_empty() && status == 3;
+    let no_run = JSON_LINES.starts_with(out.text()) && names_no_run(err.text()) && status == 1;
+    assert!(rt; whole || marked || no_run, "status {status}");
+}
+
+fn json_words_for<R: Files + AllocGlobal>(rt: &R) -> io::Result<Vec<String>> {
+    write_parts(rt, "json_case.pc", &[HEADER, &[1, 0]])?;
+    let mut words = Vec::new(rt.alloc());
+    for word in ["layout", "--json", "json_case.pc"] {
+        words.push(String::from_str(rt.alloc(), word)?)?;
+    }
+    Ok(words)
+}
+
+/// Whether the lines say that the file or its graph found no memory.
+fn names_no_json_answer(lines: &[u8]) -> bool {
+    lines == b"{\"end\":\"memory\",\"file\":1,\"graphs\":0}\n".as_slice()
+        || lines
+            == b"{\"file\":1,\"graph\":1,\"status\":\"memory\"}\n{\"end\":\"complete\",\"file\":1,\"graphs\":1}\n".as_slice()
+}
