@@ -6,9 +6,10 @@
 //! each.
 //!
 //! All words after `batches` are files. The report of each is printed, and compared with that of runs
-//! over lanes, as is the report of all files at once; the JSON lines of each are read back and tested. All words after `plain` are files too: it tells
-//! how long a run over them takes on one thread; after `lanes`, the number of lanes and the room of the
-//! links between threads, how long a run over lanes takes.
+//! over lanes, as is the report of all files at once; the JSON lines of each are read back and tested.
+//! All words after `plain` are files too: it tells how long a run over them takes on one thread; after
+//! `lanes`, the number of lanes and the room of the links between threads, how long a run over lanes
+//! takes.
 #![tactic(auto)]
 
 mod batches;
