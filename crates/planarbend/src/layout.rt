@@ -12,7 +12,7 @@ use std::sync::Wait;
 use std::thread::Threads;
 
 /// How many messages wait between two threads of a run at most.
-pub const CAPACITY: u32 = 16;
+pub const CAPACITY: u32 = 64;
 
 /// Writes answers to the records of these files in this form, worked out in so many lanes, and gives back
 /// the status of the report.
