@@ -131,8 +131,8 @@ fn writes_a_beginning_before_a_fault(rt: HostRuntime) -> Result<(), Fail> {
     Ok(())
 }
 
-/// With each allocation refused in turn, a beginning of the text is written and the want is named; a second
-/// call writes the whole text.
+/// With each allocation refused in turn, one of two calls writes a beginning of the text and names the want,
+/// and the other writes the whole text; or both do, where none of theirs was refused.
 #[test]
 fn names_want_of_memory(rt: HostRuntime) {
     let Ok(batch) = batch_of(rt.alloc(), &THREE_FILES) else {
@@ -143,12 +143,11 @@ fn names_want_of_memory(rt: HostRuntime) {
     let found = write_json(rt.alloc(), &batch, &mut first);
     let again = write_json(rt.alloc(), &batch, &mut second);
     let (first, second) = (first.into_writer(), second.into_writer());
-    match found {
-        Ok(()) => assert!(rt; again == Ok(()) && first.text() == second.text()),
-        Err(fault) => {
-            assert_eq!(rt; fault, WriteFault::Memory);
-            assert_eq!(rt; again, Ok(()));
-            assert!(rt; second.text().starts_with(first.text()));
-        }
-    }
+    let fine = match (found, again) {
+        (Ok(()), Ok(())) => first.text() == second.text(),
+        (Err(WriteFault::Memory), Ok(())) => second.text().starts_with(first.text()),
+        (Ok(()), Err(WriteFault::Memory)) => first.text().starts_with(second.text()),
+        _ => false,
+    };
+    assert!(rt; fine);
 }
