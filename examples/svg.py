@@ -4,7 +4,7 @@
   ./planarbend layout --json FILE | python3 examples/svg.py FILE 2 > picture.svg
 
 reads JSON lines from standard input and takes from them the points of graph 2 (counted from 1) of the
-first file. Which vertices an edge joins is read from FILE itself.
+first file. Which vertices an edge joins is read from FILE itself, which must be that first file.
 """
 import json
 import sys
@@ -36,11 +36,12 @@ def edges_of(lists):
 
 def line_of(lines, number):
     """What the lines say of graph `number` of the first file."""
-    for text in lines:
+    found = None
+    for text in lines:  # all of them, so that the program that writes them meets no closed pipe
         line = json.loads(text)
         if line["file"] == 1 and line.get("graph") == number:
-            return line
-    sys.exit(f"no graph {number}")
+            found = line
+    return found or sys.exit(f"no graph {number}")
 
 
 def picture(edges, points):
@@ -66,11 +67,17 @@ def picture(edges, points):
 
 
 def main():
+    if len(sys.argv) != 3:
+        sys.exit("usage: svg.py FILE GRAPH < LINES")
     path, number = sys.argv[1], int(sys.argv[2])
     line = line_of(sys.stdin, number)
     if line["status"] != "ok" or line["points"] is None:
         sys.exit(f"graph {number} is not drawn: " + line.get("rule", line.get("drawn", line["status"])))
-    print("\n".join(picture(edges_of(neighbour_lists(path, number)), line["points"])))
+    lists = neighbour_lists(path, number)
+    edges = edges_of(lists)
+    if (len(lists), len(edges)) != (line["n"], line["m"]):
+        sys.exit(f"graph {number} of {path} is not the graph of the lines")
+    print("\n".join(picture(edges, line["points"])))
 
 
 if __name__ == "__main__":
