@@ -319,10 +319,21 @@ fn check_book(rt: &impl Abort, book: &Book, records: &[Sizes], mark: Mark) {
 /// or an end is given up for it, the fault may name that instead.
 #[test]
 fn names_want_of_memory(rt: HostRuntime) {
-    let Ok(opener) = opener_of(rt.alloc(), &[TRIANGLES, CUT, HEADER]) else {
+    let Ok(files) = opener_of(rt.alloc(), &[TRIANGLES, CUT, HEADER]) else {
         return;
     };
-    match run_batch(&rt, rt.alloc(), &opener, 3, 2, 1, &OpenGate) {
+    let (opened, dropped) = (AtomicU32::new(0), AtomicU32::new(0));
+    let opener = Counting {
+        files,
+        opened: &opened,
+        dropped: &dropped,
+    };
+    let found = run_batch(&rt, rt.alloc(), &opener, 3, 2, 1, &OpenGate);
+    assert_eq!(rt;
+        opened.load(Ordering::SeqCst),
+        dropped.load(Ordering::SeqCst)
+    );
+    match found {
         Ok(batch) => {
             assert_eq!(rt; batch.files(), 3);
             let complete = Mark::Ended(Ending::Complete);
