@@ -9,7 +9,8 @@ use answers::Entry;
 use serde_json::{Value, json};
 use std::alloc::{AllocError, Global};
 
-/// The line of an entry, which is the graph of this number in the file of this number.
+/// The line of an entry, which is the graph of this number in the file of this number, with the byte 0A
+/// at its end. It takes a few allocations for each dart and each point.
 ///
 /// # Errors
 ///
@@ -25,7 +26,8 @@ pub fn entry_line(
     line(alloc, &entry_value(alloc, file, graph, entry)?)
 }
 
-/// The line of the end of the file of this number: the word of its mark, and how many graphs it has.
+/// The line of the end of the file of this number: the word of its mark, and how many graphs it has,
+/// with the byte 0A at its end. It takes a few allocations.
 ///
 /// # Errors
 ///
