@@ -75,6 +75,90 @@ fn reports_refused_graphs(rt: HostRuntime) -> Result<(), Fail> {
     )
 }
 
+/// Runs `layout` on a file of this body behind the header, and looks at the lines behind the first.
+fn check_body<R: Files + AllocGlobal + Threads + Wait + Sync + Abort>(
+    rt: &R,
+    body: &[u8],
+    lines: &str,
+    status: u8,
+) -> Result<(), Fail>
+where
+    R::File: Send,
+    R::Dir: Send,
+{
+    write_parts(rt, "body.pc", &[HEADER, body])?;
+    let report = format!(in rt.alloc(); "file 1\n{lines}\n")?;
+    check(rt, &["layout", "body.pc"], report.as_str(), status)
+}
+
+/// One graph that is laid out, refused or cut off, in a file of its own.
+#[test]
+fn reports_single_graphs(rt: HostRuntime) -> Result<(), Fail> {
+    let laid: [(&[u8], &str); 4] = [
+        (TRIANGLE, "n=3 m=3 f=2 bends=1"),
+        (
+            &[4, 3, 4, 2, 0, 1, 4, 3, 0, 2, 4, 1, 0, 3, 2, 1, 0],
+            "n=4 m=6 f=4 bends=4",
+        ),
+        (
+            &[
+                6, 2, 3, 4, 5, 0, 6, 3, 1, 5, 0, 2, 6, 4, 1, 0, 1, 3, 6, 5, 0, 2, 1, 4, 6, 0, 2, 5,
+                4, 3, 0,
+            ],
+            "n=6 m=12 f=8 bends=12",
+        ),
+        (
+            &[5, 2, 3, 4, 5, 0, 1, 0, 1, 0, 1, 0, 1, 0],
+            "n=5 m=4 f=1 bends=0",
+        ),
+    ];
+    for (body, sizes) in laid {
+        let lines = format!(in rt.alloc(); "graph 1 ok {sizes} drawn=yes\nend complete graphs=1")?;
+        check_body(&rt, body, lines.as_str(), 0)?;
+    }
+    let refused: [(&[u8], &str); 9] = [
+        (&[1, 0], "edgeless"),
+        (&[2, 0, 0], "edgeless"),
+        (
+            &[4, 3, 4, 2, 0, 1, 4, 3, 0, 2, 4, 1, 0, 1, 2, 3, 0],
+            "genus",
+        ),
+        (
+            &[6, 2, 3, 4, 5, 6, 0, 1, 0, 1, 0, 1, 0, 1, 0, 1, 0],
+            "degree",
+        ),
+        (&[2, 3, 0, 1, 0], "range"),
+        (&[2, 2, 0, 0], "asymmetric"),
+        (&[2, 1, 0, 0], "loop"),
+        (&[2, 2, 2, 0, 1, 1, 0], "multi"),
+        (&[4, 2, 0, 1, 0, 4, 0, 3, 0], "disconnected"),
+    ];
+    for (body, rule) in refused {
+        let lines = format!(in rt.alloc(); "graph 1 refused {rule}\nend complete graphs=1")?;
+        check_body(&rt, body, lines.as_str(), 0)?;
+    }
+    let edge = "graph 1 ok n=2 m=1 f=1 bends=0 drawn=yes\nend large graphs=1";
+    check_body(&rt, &[2, 2, 0, 1, 0, 0], edge, 3)?;
+    let mut long = [1; 256];
+    long[0] = 255;
+    check_body(&rt, &long[..255], "end truncated graphs=0", 3)?;
+    check_body(&rt, &long, "end oversize graphs=0", 3)
+}
+
+/// The longest cycle that a record can hold.
+#[test]
+fn reports_a_cycle_of_most_vertices(rt: HostRuntime) -> Result<(), Fail> {
+    let mut body = Vec::new(rt.alloc());
+    body.push(255)?;
+    for v in 1..=255u8 {
+        let next = if v == 255 { 1 } else { v + 1 };
+        let last = if v == 1 { 255 } else { v - 1 };
+        body.extend_from_slice(&[next, last, 0])?;
+    }
+    let lines = "graph 1 ok n=255 m=255 f=2 bends=0 drawn=yes\nend complete graphs=1";
+    check_body(&rt, body.as_slice(), lines, 0)
+}
+
 #[test]
 fn marks_files_that_do_not_end_well(rt: HostRuntime) -> Result<(), Fail> {
     fs::create_dir_all(&rt, "layout_folder")?;
