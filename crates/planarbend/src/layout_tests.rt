@@ -91,9 +91,9 @@ where
     check(rt, &["layout", "body.pc"], report.as_str(), status)
 }
 
-/// One graph that is laid out, refused or cut off, in a file of its own.
+/// Known graphs, each in a file of its own, with their fewest bends.
 #[test]
-fn reports_single_graphs(rt: HostRuntime) -> Result<(), Fail> {
+fn lays_out_known_graphs(rt: HostRuntime) -> Result<(), Fail> {
     let laid: [(&[u8], &str); 4] = [
         (TRIANGLE, "n=3 m=3 f=2 bends=1"),
         (
@@ -116,6 +116,12 @@ fn reports_single_graphs(rt: HostRuntime) -> Result<(), Fail> {
         let lines = format!(in rt.alloc(); "graph 1 ok {sizes} drawn=yes\nend complete graphs=1")?;
         check_body(&rt, body, lines.as_str(), 0)?;
     }
+    Ok(())
+}
+
+/// Graphs that break a rule, each in a file of its own.
+#[test]
+fn names_each_broken_rule(rt: HostRuntime) -> Result<(), Fail> {
     let refused: [(&[u8], &str); 9] = [
         (&[1, 0], "edgeless"),
         (&[2, 0, 0], "edgeless"),
@@ -137,6 +143,12 @@ fn reports_single_graphs(rt: HostRuntime) -> Result<(), Fail> {
         let lines = format!(in rt.alloc(); "graph 1 refused {rule}\nend complete graphs=1")?;
         check_body(&rt, body, lines.as_str(), 0)?;
     }
+    Ok(())
+}
+
+/// Files that go on behind their records as no file may.
+#[test]
+fn marks_faults_behind_records(rt: HostRuntime) -> Result<(), Fail> {
     let edge = "graph 1 ok n=2 m=1 f=1 bends=0 drawn=yes\nend large graphs=1";
     check_body(&rt, &[2, 2, 0, 1, 0, 0], edge, 3)?;
     let mut long = [1; 256];
