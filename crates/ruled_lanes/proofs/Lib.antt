@@ -1,1 +1,4 @@
+pub mod Fans
 pub mod Links
+pub mod Settling
+pub mod Views

@@ -1,28 +1,12 @@
 -- Each step keeps the rule of a link.
-use Rattle.std.proofs.Common.{◌≡◌, ◌≢◌, ℕ, zero, suc, true, false, true≢false, List, [], ◌∷◌, ◌++◌, length, set, sym, refl, ap, ◌∙◌, subst, ⊎_elim, append_assoc}
+use Rattle.std.proofs.Common.{◌≡◌, ◌≢◌, ℕ, true, false, true≢false, List, [], ◌∷◌, ◌++◌, length, set, sym, refl, ap, ◌∙◌, ⊎_elim, append_assoc}
 use mathlib.Core.Option.{some, some-ne-none}
 use lib.ListN.{get_elem?}
 use Rattle.crossbeam_channel.specs.Fifo.{Pushes, Pops, Forks, Merges, Learns}
 use Rattle.atomic_table.proofs.Lists.{at_set, at_snoc}
 use Rattle.ruled_lanes.specs.declared.link_rule.Log.{Log}
 use Rattle.ruled_lanes.specs.LinkRule.{log, Knows, Balanced}
-
-module _ {V : Type 0} where
-  -- where a list gets one more, only the last place is new
-  pub at_end : (l : List V) (a b : V) (j : ℕ) → get_elem? l j ≢ some b → get_elem? (l ++ a ∷ []) j ≡ some b → j ≡ length l
-  at_end [] a b zero n e = refl
-  at_end [] a b (suc j) n e = absurd (some-ne-none b (sym e))
-  at_end (x ∷ xs) a b zero n e = absurd (n e)
-  at_end (x ∷ xs) a b (suc j) n e = ap suc (at_end xs a b j n e)
-
-  -- a fact of each pass by its number
-  abbrev pub Each : (ℕ → V → Type 0) → List V → Type 0
-  Each F views = (pass : ℕ) (v : V) → get_elem? views pass ≡ some v → F pass v
-
-  -- it stays where one view changes, if it holds of the new one, and of the others still
-  pub each_set : (F : ℕ → V → Type 0) (views : List V) (pass : ℕ) (w : V) → F pass w → ((j : ℕ) (u : V) → j ≢ pass → get_elem? views j ≡ some u → F j u) → Each F (set views pass w)
-  each_set F views pass w mine others j u e = ⊎_elim (λ (x : (j ≡ pass) × (w ≡ u)). subst (λ (y : ℕ × V). F y.0 y.1) (λ i. (sym x.0 i, x.1 i)) mine)
-      (λ (x : (j ≢ pass) × (get_elem? views j ≡ some u)). others j u x.0 x.1) (at_set views pass j w u e)
+use Rattle.ruled_lanes.proofs.Views.{at_end, Each, each_set}
 
 module _ {T : Type 0} where
   pub begins : Balanced {T = T} [] (log true true [] [] ∷ [])

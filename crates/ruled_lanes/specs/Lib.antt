@@ -1,2 +1,4 @@
+pub mod FanEnds
+pub mod FanRule
 pub mod LinkEnds
 pub mod LinkRule

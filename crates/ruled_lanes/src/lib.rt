@@ -1,16 +1,21 @@
 //! Bounded channels whose loss-freedom their callers know. A link has one giver and one taker, and
 //! settling it tells that what was taken, followed by what the link still held, is what was given,
-//! in order.
+//! in order. A fan has a giver for each lane and one gatherer, and settling it tells the same of each
+//! lane by itself.
 #![tactic(auto)]
 
 mod errors;
+mod fan_ends;
+mod fan_rule;
+mod limits;
 mod link_ends;
 mod link_rule;
+mod new_fan;
 mod new_link;
 
 pub use errors::{Closed, Memory};
+pub use fan_ends::{Gatherer, LaneGiver};
+pub use limits::{LANES, MAX_CAPACITY};
 pub use link_ends::{Giver, Taker};
+pub use new_fan::fan_in;
 pub use new_link::link;
-
-#[cfg(test)]
-mod tests;

@@ -3,6 +3,7 @@ ghost use Rattle.std.specs.Prelude.{◌≡◌, ◌≤◌, [], IfOk};
 ghost use Rattle.ruled_lanes.specs.LinkEnds.{given, taken, room_of, AreEnds};
 
 use crate::errors::Memory;
+use crate::limits::MAX_CAPACITY;
 use crate::link_ends::{Giver, Taker};
 use crate::link_rule::{Linked, Log, Roles};
 use crossbeam_channel::bounded_with;
@@ -11,7 +12,7 @@ use std::alloc::Global;
 /// The two ends of a new link that holds at most `capacity` items, of which nothing was given or
 /// taken. `Memory` where there is no room for them.
 pub fn link<T: Send + Drop>(alloc: Global, capacity: u32) -> Result<(Giver<T>, Taker<T>), Memory>
-    requires capacity { (1 ≤ capacity) × (capacity ≤ 64) }
+    requires capacity { (1 ≤ capacity) × (capacity ≤ MAX_CAPACITY) }
     ensures room { IfOk result (λ r. room_of r.0 ≡ capacity) }
     ensures ends { IfOk result (λ r. AreEnds r.0 r.1) }
     ensures unused { IfOk result (λ r. (given r.0 ≡ []) × (taken r.1 ≡ [])) }

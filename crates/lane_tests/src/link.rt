@@ -1,6 +1,6 @@
 ghost use Rattle.std.specs.Prelude.{◌≤◌};
 
-use super::*;
+use ruled_lanes::{Closed, Giver, Memory, link};
 use std::alloc::Global;
 use std::process::Abort;
 use std::sync::Wait;

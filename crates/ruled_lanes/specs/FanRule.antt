@@ -1,0 +1,56 @@
+-- What was given at each lane of a fan is what was taken of that lane and then what the fan holds of it.
+-- One pass at most has a lane, and it has the list of what was given there. One pass at most may take.
+use Rattle.std.specs.Prelude.{◌≡◌, ◌==◌, ℕ, ◌<◌, ◌≤◌, Bool, true, false, List, [], ◌∷◌, ◌++◌, map, filter, All}
+use mathlib.Core.Option.{some}
+use lib.ListN.{get_elem?}
+use Rattle.ruled_lanes.specs.declared.fan_rule.Reach.{Reach}
+
+module _ {T : Type 0} where
+  abbrev pub reach : Bool → ℕ → List (ℕ × T) → List (ℕ × List T) → Reach T
+  reach takes made taken lanes = record { takes = takes; made = made; taken = taken; lanes = lanes }
+
+  -- the pass that takes, which has made so many lanes
+  abbrev pub gatherer : ℕ → List (ℕ × T) → Reach T
+  gatherer made taken = reach true made taken []
+
+  -- the pass that gives at this lane
+  abbrev pub giver : ℕ → List T → Reach T
+  giver lane given = reach false 0 [] ((lane, given) ∷ [])
+
+  abbrev pub nobody : Reach T
+  nobody = reach false 0 [] []
+
+  abbrev pub first_given : List (ℕ × List T) → List T
+  first_given [] = []
+  first_given (l ∷ ls) = l.1
+
+  -- what was given by a pass that has one lane
+  abbrev pub given_in : Reach T → List T
+  given_in v = first_given v.lanes
+
+  -- the items of one lane, in order
+  abbrev pub of_lane : ℕ → List (ℕ × T) → List T
+  of_lane lane items = map (λ (x : ℕ × T). x.1) (filter (λ (x : ℕ × T). x.0 == lane) items)
+
+  -- a lane that a pass has: this pass has its seat, it was made, and what was given there is known
+  abbrev pub KnowsLane : (ℕ → ℕ) → ℕ → List (ℕ × T) → ℕ → ℕ × List T → Type 0
+  KnowsLane seat made all pass l = (pass ≡ seat l.0) × (l.0 < made) × (of_lane l.0 all ≡ l.1)
+
+  -- what the pass of this number knows, where the pass `taker` may take
+  abbrev pub KnowsFan : (ℕ → ℕ) → ℕ → ℕ → List (ℕ × T) → List (ℕ × T) → ℕ → Reach T → Type 0
+  KnowsFan seat made taker taken all pass v =
+      All (KnowsLane seat made all pass) v.lanes × (v.takes ≡ true → (pass ≡ taker) × (v.taken ≡ taken) × (v.made ≡ made))
+
+pub record IsFanned {T : Type 0} (items : List (ℕ × T)) (views : List (Reach T)) : Type 0 where
+  -- the pass that has each lane, and the one that may take
+  pub seat : ℕ → ℕ
+  pub taker : ℕ
+  -- how many lanes were made
+  pub made : ℕ
+  pub taken : List (ℕ × T)
+  -- all that was ever given, in the order of the gives
+  pub all : List (ℕ × T)
+  pub parted : taken ++ items ≡ all
+  -- lanes that were not made gave nothing
+  pub others : (lane : ℕ) → made ≤ lane → of_lane lane all ≡ []
+  pub known : (pass : ℕ) (v : Reach T) → get_elem? views pass ≡ some v → KnowsFan seat made taker taken all pass v

@@ -1,0 +1,154 @@
+//! The ends of a fan.
+ghost use Rattle.std.specs.Prelude.{◌≡◌, ◌<◌};
+ghost use Rattle.crossbeam_channel.specs.Claims.{view, IsSeatAt};
+ghost use Rattle.crossbeam_channel.specs.Ends.{sends_on, receives_on};
+ghost use Rattle.ruled_lanes.specs.declared.limits.TheConstants.{LANES};
+ghost use Rattle.ruled_lanes.specs.FanRule.{gatherer, giver, given_in};
+
+use crate::errors::Closed;
+use crate::fan_rule::{EachLane, Fanned, Gives, NewLane, Reach, Takes};
+use crossbeam_channel::{Pass, RuledReceiver, RuledSender};
+use std::sync::Wait;
+
+/// The end of a fan that gives at one lane, whose number travels with each item. It cannot be copied,
+/// so it knows all that was ever given at its lane.
+#[derive(Drop)]
+pub struct LaneGiver<T: Drop> {
+    sender: RuledSender<(u32, T), Reach<T>, Fanned>,
+    pass: Pass<(u32, T), Reach<T>>,
+    lane: u32,
+    ghost seated: { IsSeatAt (sends_on sender) pass },
+    ghost role: { view pass ≡ giver lane (given_in (view pass)) },
+    ghost known: { lane < LANES },
+}
+
+/// The end of a fan that takes the items of all lanes. It cannot be copied, so it knows all that was
+/// ever taken there.
+#[derive(Drop)]
+pub struct Gatherer<T: Drop> {
+    receiver: RuledReceiver<(u32, T), Reach<T>, Fanned>,
+    pass: Pass<(u32, T), Reach<T>>,
+    ghost seated: { IsSeatAt (receives_on receiver) pass },
+    ghost role: { view pass ≡ gatherer LANES (view pass).taken },
+}
+
+impl<T: Drop> LaneGiver<T> {
+    ghost use Rattle.std.specs.Prelude.{◌∷◌, ◌++◌, [], OnOk, OnErr, IfErr};
+    ghost use Rattle.ruled_lanes.specs.FanEnds.{lane_of, given_at, GivesToSameLane};
+
+    // The end of a channel that sends, with the pass of one lane.
+    pub(crate) fn of(
+        sender: RuledSender<(u32, T), Reach<T>, Fanned>,
+        pass: Pass<(u32, T), Reach<T>>,
+        lane: u32,
+    ) -> LaneGiver<T>
+        requires seated { IsSeatAt (sends_on sender) pass }
+        requires role { view pass ≡ giver lane (given_in (view pass)) }
+        requires known { lane < LANES }
+        ensures { (result.sender ≡ sender) × (result.pass ≡ pass) × (result.lane ≡ lane) }
+    {
+        LaneGiver { sender, pass, lane }
+    }
+
+    /// The number of its lane, which is below `LANES`.
+    pub fn lane(&self) -> u32
+        ensures lane { result ≡ lane_of self.now }
+        ensures known { result < LANES }
+    {
+        self.lane
+    }
+
+    /// Adds an item of its lane at the end of the fan, in one step, and waits while the fan is full.
+    /// `Closed` hands the item back, and then what was given stays as it was. No clause says when
+    /// `Closed` comes: it does where the gatherer is gone. It takes no memory.
+    pub fn give<R: Wait>(&mut self, rt: &R, item: T) -> Result<(), Closed<T>>
+        ensures lane { GivesToSameLane self.old self.new }
+        ensures ok { OnOk result (given_at self.new ≡ given_at self.old ++ item ∷ []) }
+        ensures refused { OnErr result (given_at self.new ≡ given_at self.old) }
+        ensures item { IfErr result (λ e. e.0 ≡ item) }
+    {
+        match self
+            .sender
+            .send_as::<Gives, R>(rt, &mut self.pass, (self.lane, item))
+        {
+            Ok(()) => Ok(()),
+            Err(refused) => Err(Closed(refused.into_inner().1)),
+        }
+    }
+}
+
+impl<T: Drop> Gatherer<T> {
+    ghost use Rattle.std.specs.Prelude.{◌≤◌, ◌∷◌, ◌++◌, [], IfOk, IfSome, IfNone, OnErr, vec_len};
+    ghost use Rattle.ruled_lanes.specs.FanEnds.{gathered, AreGiversOf, TakesFromSameFan, SettlesFan};
+
+    // The end of a channel that receives, with the pass that may.
+    pub(crate) fn of(
+        receiver: RuledReceiver<(u32, T), Reach<T>, Fanned>,
+        pass: Pass<(u32, T), Reach<T>>,
+    ) -> Gatherer<T>
+        requires seated { IsSeatAt (receives_on receiver) pass }
+        requires role { view pass ≡ gatherer LANES (view pass).taken }
+        ensures { (result.receiver ≡ receiver) × (result.pass ≡ pass) }
+    {
+        Gatherer { receiver, pass }
+    }
+
+    // The item at the front of the channel, or none where all givers are gone.
+    fn receive<R: Wait>(&mut self, rt: &R) -> Option<(u32, T)>
+        ensures fan { TakesFromSameFan self.old self.new }
+        ensures lane { IfSome result (λ item. item.0 < LANES) }
+        ensures some { IfSome result (λ item. gathered self.new ≡ gathered self.old ++ item ∷ []) }
+        ensures none { IfNone result (gathered self.new ≡ gathered self.old) }
+    {
+        match self.receiver.recv_as::<Takes, R>(rt, &mut self.pass) {
+            Ok(item) => Some(item),
+            Err(_) => None,
+        }
+    }
+
+    /// The item at the front of the fan, with the number of its lane, taken in one step. It waits while
+    /// the fan is empty. After `Closed` what was taken stays as it was. No clause says when `Closed`
+    /// comes: it does where all givers are gone and all that they gave was taken. It takes no memory.
+    pub fn take<R: Wait>(&mut self, rt: &R) -> Result<(u32, T), Closed<()>>
+        ensures fan { TakesFromSameFan self.old self.new }
+        ensures lane { IfOk result (λ item. item.0 < LANES) }
+        ensures ok { IfOk result (λ item. gathered self.new ≡ gathered self.old ++ item ∷ []) }
+        ensures refused { OnErr result (gathered self.new ≡ gathered self.old) }
+    {
+        match self.receive(rt) {
+            Some(item) => Ok(item),
+            None => Err(Closed(())),
+        }
+    }
+
+    /// Takes in the gatherer and givers of one fan: of each of their lanes, what was taken, followed by
+    /// what the fan held, is what was given. No other number than those of the fan's lanes stood on an
+    /// item. The items that the fan held are dropped. It takes no memory, and though it is handed
+    /// `rt`, it waits for nothing.
+    pub fn settle<R: Wait>(self, _rt: &R, mut givers: Vec<LaneGiver<T>>)
+        requires some { 1 ≤ vec_len givers }
+        requires fan { AreGiversOf self givers.items }
+        ensures settled { SettlesFan (gathered self) givers.items }
+    {
+        let Gatherer {
+            receiver: _receiver,
+            mut pass,
+        } = self;
+        let Some(
+            LaneGiver {
+                sender,
+                pass: last,
+                ..
+            },
+        ) = givers.pop()
+        else {
+            unreachable!()
+        };
+        sender.absorb::<NewLane>(&mut pass, last);
+        while let Some(giver) = givers.pop() {
+            let LaneGiver { pass: other, .. } = giver;
+            sender.absorb::<NewLane>(&mut pass, other);
+        }
+        sender.learn_as::<EachLane>(&mut pass);
+    }
+}

@@ -1,0 +1,78 @@
+//! The rule of a fan, over what it holds and what its passes know.
+ghost use Rattle.std.specs.Prelude.{◌≡◌, ◌≤◌, ◌<◌, ℕ, All, [], ◌∷◌, ◌++◌, ⊤};
+ghost use Rattle.ruled_lanes.specs.FanRule.{reach, giver, given_in, of_lane};
+
+use crossbeam_channel::protocol::{Join, Lesson, Outcome, Protocol, Split};
+use std::collections::LinkedList;
+
+// Whether a pass may take, what it has taken and how many lanes it has made, and the lanes at which it
+// may give, each with what it has given there. No value of it is made.
+pub struct Reach<T> {
+    pub takes: bool,
+    pub made: u32,
+    pub taken: LinkedList<(u32, T)>,
+    pub lanes: LinkedList<(u32, LinkedList<T>)>,
+}
+
+pub struct Fanned;
+
+impl<T> Protocol<(u32, T), Reach<T>> for Fanned {
+    ghost use Rattle.std.specs.Prelude.{[]};
+    ghost use Rattle.ruled_lanes.specs.FanRule.{gatherer, IsFanned};
+
+    ghost holds = { IsFanned };
+
+    ghost first = { gatherer 0 [] };
+}
+
+// The pass that takes makes the next lane, whose pass gives there alone.
+pub struct NewLane;
+
+impl<T> Split<Reach<T>> for NewLane {
+    ghost use Rattle.std.specs.Prelude.{◌+◌, []};
+    ghost use Rattle.ruled_lanes.specs.FanRule.{reach, giver};
+
+    ghost left = { λ v. reach v.takes (v.made + 1) v.taken v.lanes };
+
+    ghost right = { λ v. giver v.made [] };
+}
+
+impl<T> Join<Reach<T>> for NewLane {
+    ghost use Rattle.std.specs.Prelude.{◌++◌};
+    ghost use Rattle.ruled_lanes.specs.FanRule.{reach, nobody};
+
+    ghost both = { λ v w. reach v.takes v.made v.taken (w.lanes ++ v.lanes) };
+
+    ghost spent = { nobody };
+}
+
+// The step of a give: the item joins what was given at the lane whose number it bears.
+pub struct Gives;
+
+impl<T> Outcome<(u32, T), Reach<T>> for Gives {
+    ghost then = { λ v x w. w ≡ giver x.0 (given_in v ++ x.1 ∷ []) };
+}
+
+impl<T> Lesson<(u32, T), Reach<T>> for Gives {
+    ghost fact = { λ v items. ⊤ };
+}
+
+// The step of a take: the item, of one of the lanes that were made, joins what was taken.
+pub struct Takes;
+
+impl<T> Outcome<(u32, T), Reach<T>> for Takes {
+    ghost then = { λ v x w. (x.0 < v.made) × (w ≡ reach v.takes v.made (v.taken ++ x ∷ []) v.lanes) };
+}
+
+impl<T> Lesson<(u32, T), Reach<T>> for Takes {
+    ghost fact = { λ v items. ⊤ };
+}
+
+// Who takes learns of each lane that it has what was taken and what the fan holds, and that no other
+// lane than those that were made has anything.
+pub struct EachLane;
+
+impl<T> Lesson<(u32, T), Reach<T>> for EachLane {
+    ghost fact = { λ v items. All (λ l. of_lane l.0 (v.taken ++ items) ≡ l.1) v.lanes
+        × ((lane : ℕ) → v.made ≤ lane → of_lane lane (v.taken ++ items) ≡ []) };
+}

@@ -1,0 +1,44 @@
+//! Making a fan.
+ghost use Rattle.std.specs.Prelude.{◌≡◌, ◌≤◌, [], All, IfOk, vec_len};
+ghost use Rattle.ruled_lanes.specs.FanEnds.{given_at, gathered, room_of_fan, AreGiversOf, StandInOrder};
+
+use crate::errors::Memory;
+use crate::fan_ends::{Gatherer, LaneGiver};
+use crate::fan_rule::{Fanned, NewLane, Reach};
+use crate::limits::{LANES, MAX_CAPACITY};
+use crossbeam_channel::bounded_with;
+use std::alloc::Global;
+
+/// The ends of a new fan that holds at most `capacity` items: a giver for each of its `LANES` lanes, in
+/// the order of their numbers, and the one gatherer. Nothing was given or taken. `Memory` where there
+/// is no room for them.
+pub fn fan_in<T: Send + Drop>(
+    alloc: Global,
+    capacity: u32,
+) -> Result<(Vec<LaneGiver<T>>, Gatherer<T>), Memory>
+    requires capacity { (1 ≤ capacity) × (capacity ≤ MAX_CAPACITY) }
+    ensures room { IfOk result (λ r. room_of_fan r.1 ≡ capacity) }
+    ensures ends { IfOk result (λ r. AreGiversOf r.1 r.0.items) }
+    ensures lanes { IfOk result (λ r. (vec_len r.0 ≡ LANES) × StandInOrder r.0.items) }
+    ensures unused { IfOk result (λ r. All (λ g. given_at g ≡ []) r.0.items × (gathered r.1 ≡ [])) }
+{
+    let (sender, receiver, mut pass) = match bounded_with::<(u32, T), Reach<T>, Fanned, Global>(
+        alloc,
+        capacity as usize,
+    ) {
+        Ok(made) => made,
+        Err(_) => return Err(Memory),
+    };
+    let mut givers = match Vec::with_capacity(alloc, LANES as usize) {
+        Ok(givers) => givers,
+        Err(_) => return Err(Memory),
+    };
+    for lane in 0..LANES {
+        let Ok(own) = sender.try_clone() else {
+            return Err(Memory);
+        };
+        let gives = sender.another::<NewLane>(&mut pass);
+        givers.push_reserved(LaneGiver::of(own, gives, lane));
+    }
+    Ok((givers, Gatherer::of(receiver, pass)))
+}
