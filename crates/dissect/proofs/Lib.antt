@@ -1,3 +1,4 @@
 pub mod Keeping
+pub mod Rectangles
 pub mod Edges
 pub mod Boxing
