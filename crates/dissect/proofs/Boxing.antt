@@ -1,6 +1,7 @@
 -- A drawing with straight edges, in its rectangle and cut up, dissects the shape that it was made of.
-use Rattle.std.proofs.Common.{◌≡◌, ℕ, ◌+◌, ◌-◌, ◌%◌, ◌<◌, ◌≤◌, ◌∙◌, List, [], All, map, length, get_or, slice_index, arith, subst, sym, ap, inl, inr}
+use Rattle.std.proofs.Common.{◌≡◌, ℕ, ◌+◌, ◌-◌, ◌%◌, ◌<◌, ◌≤◌, ◌∙◌, List, [], ◌∷◌, All, Vec, Global, map, length, get_or, slice_index, slice_index_or, arith, subst, sym, ap, inl, inr}
 use Rattle.std.specs.List.{range_with_len}
+use Rattle.std.proofs.lemmas.List.{length-map}
 use Rattle.std.proofs.lemmas.List.Elements.{All-filter, All-get_or, All-from_get_or}
 use Rattle.std.proofs.lemmas.List.FromFn.{length-range_with_len, get_or-range_with_len}
 use Rattle.embedding.proofs.Rotation.{one_dart}
@@ -14,7 +15,7 @@ use Rattle.cutting.specs.declared.table.DartTable.{DartTable}
 use Rattle.cutting.specs.Webs.{Web, IsSound, excess, no_dart}
 use Rattle.cutting.specs.Tables.{web_of}
 use Rattle.cutting.specs.Faces.{AreWaiting, ReachesCorners}
-use Rattle.cutting.specs.Paths.{HasPaths, IsJoined}
+use Rattle.cutting.specs.Paths.{HasPaths, IsJoined, IsPath}
 use Rattle.cutting.specs.Frames.{IsEnclosed}
 use Rattle.bending.specs.Bends.{CountsBends, KeepsDarts, KeepsFaces}
 use Rattle.bending.specs.Steps.{angle_of}
@@ -22,7 +23,7 @@ use Rattle.edge_paths.specs.Rows.{AreRows}
 use Rattle.edge_paths.proofs.Framing.{enclosed_paths, enclosed_joined}
 use Rattle.edge_paths.proofs.Rows.{HasRows, enclosed_rows}
 use Rattle.edge_paths.proofs.Apart.{AreEdges, paths_back, paths_once, paths_apart}
-use Rattle.dissect.specs.Boxes.{AreBoxes, parts_of}
+use Rattle.dissect.specs.Boxes.{AreBoxes, HasEdge, items_of, parts_of}
 use Rattle.dissect.specs.Boxed.{IsBoxed, IsEnclosedDrawing, ArePathsApart}
 use Rattle.dissect.proofs.Keeping.{Keeps, enclosed_keeps}
 use Rattle.dissect.proofs.Rectangles.{rectangle, join}
@@ -103,9 +104,9 @@ paths_lie_apart p shape w outside t made =
       apart = paths_apart (vertices p) (web_of t) (darts p) (mate p) q are;
     }
 
-pub drawing_stands : (p : Map) (shape : Figure) (w : Web) (outside : ℕ) (t : DartTable) (old : ℕ) (edges : List ℕ) →
-    IsMade p shape w outside t → IsEnclosedDrawing p shape (parts_of t old edges)
-drawing_stands p shape w outside t old edges made =
+pub drawing_stands : (p : Map) (shape : Figure) (w : Web) (outside : ℕ) (t : DartTable) (old : ℕ) (edges : List ℕ)
+    (paths : List (Vec ℕ Global)) → IsMade p shape w outside t → IsEnclosedDrawing p shape (parts_of t old edges paths)
+drawing_stands p shape w outside t old edges paths made =
     let keeps : Keeps w (web_of t) = enclosed_keeps w outside (web_of t) made.enclosed in
     let e = made.enclosed in
     record {
@@ -128,12 +129,29 @@ drawing_stands p shape w outside t old edges made =
       join = join w outside (web_of t) made.sound.linked made.sound.meeting.quarter e;
     }
 
-pub are_boxes : (p : Map) (shape : Figure) (w : Web) (outside : ℕ) (t : DartTable) (old : ℕ) (edges : List ℕ) →
-    IsMade p shape w outside t →
-    old ≡ vertices p → edges ≡ lesser_darts p → AreBoxes (parts_of t old edges)
-are_boxes p shape w outside t old edges made all lesser =
+-- each edge has its path
+pub edge_path : (p : Map) (shape : Figure) (w : Web) (outside : ℕ) (t : DartTable) (edges : List ℕ) → IsMade p shape w outside t →
+    edges ≡ lesser_darts p → (e : ℕ) → e < length edges →
+    (first : ℕ) × (rest : List ℕ) × IsPath (web_of t) (slice_index edges e) first rest
+edge_path p shape w outside t edges made lesser e e_in =
+    let at : e < length (lesser_darts p) = omega (arith, e_in, ap length lesser) in
+    let inside : get_or (lesser_darts p) e 0 < darts p = All-get_or (λ d. d < darts p) (lesser_darts p) e 0 at (lesser_inside p) in
+    let here : slice_index edges e < darts p = subst (λ (ds : List ℕ). get_or ds e 0 < darts p) (sym lesser) inside in
+    let path = (kept_paths p shape w outside t made).paths (slice_index edges e) here in
+    (path.first, path.rest, path.path)
+
+pub are_boxes : (p : Map) (shape : Figure) (w : Web) (outside : ℕ) (t : DartTable) (old : ℕ) (edges : List ℕ)
+    (paths : List (Vec ℕ Global)) → IsMade p shape w outside t → old ≡ vertices p → edges ≡ lesser_darts p →
+    length paths ≡ length edges →
+    ((e : ℕ) → e < length edges → (first : ℕ) (rest : List ℕ) → IsPath (web_of t) (slice_index edges e) first rest →
+    slice_index_or (items_of paths) e [] ≡ first ∷ rest) → AreBoxes (parts_of t old edges paths)
+are_boxes p shape w outside t old edges paths made all lesser count listed =
     let keeps : Keeps w (web_of t) = enclosed_keeps w outside (web_of t) made.enclosed in
     let done = made.done 0 (omega arith) in
+    let ends = plane_ends p made.plane in
+    let edge : (e : ℕ) → e < length edges → HasEdge (parts_of t old edges paths) e = λ e e_in.
+    let path = edge_path p shape w outside t edges made lesser e e_in in
+    record { first = path.0; rest = path.1; path = path.2 } in
     record {
       sound = made.cut_sound;
       joined = enclosed_joined w outside (web_of t) made.sound.linked made.joined made.enclosed;
@@ -150,22 +168,25 @@ are_boxes p shape w outside t old edges made all lesser =
       few_darts = made.small;
       old_in = omega (arith, all, made.counts.vertex_count, keeps.more_vertices);
       old_few = omega (arith, all, made.plane.order);
-      edges = λ e e_in.
-          let at : e < length (lesser_darts p) = omega (arith, e_in, ap length lesser) in
-          let inside : get_or (lesser_darts p) e 0 < darts p = All-get_or (λ d. d < darts p) (lesser_darts p) e 0 at (lesser_inside p) in
-          let here : slice_index edges e < darts p = subst (λ (ds : List ℕ). get_or ds e 0 < darts p) (sym lesser) inside in
-          let path = (kept_paths p shape w outside t made).paths (slice_index edges e) here in
-          record { first = path.first; rest = path.rest; path = path.path };
+      few_edges = omega (arith, ap length lesser, length-lesser p (darts p), edge_total p ends, ends.few_darts);
+      edges = edge;
+      path_count = length-map paths (λ (v : Vec ℕ Global). v.items) ∙ count;
+      paths = λ e e_in. record {
+        edge = edge e e_in;
+        listed = listed e e_in (edge e e_in).first (edge e e_in).rest (edge e e_in).path;
+      };
     }
 
-pub is_boxed : (p : Map) (shape : Figure) (w : Web) (outside : ℕ) (t : DartTable) (old : ℕ) (edges : List ℕ) →
-    IsMade p shape w outside t →
-    old ≡ vertices p → edges ≡ lesser_darts p → IsBoxed p shape (parts_of t old edges)
-is_boxed p shape w outside t old edges made all lesser =
+pub is_boxed : (p : Map) (shape : Figure) (w : Web) (outside : ℕ) (t : DartTable) (old : ℕ) (edges : List ℕ)
+    (paths : List (Vec ℕ Global)) → IsMade p shape w outside t → old ≡ vertices p → edges ≡ lesser_darts p →
+    length paths ≡ length edges →
+    ((e : ℕ) → e < length edges → (first : ℕ) (rest : List ℕ) → IsPath (web_of t) (slice_index edges e) first rest →
+    slice_index_or (items_of paths) e [] ≡ first ∷ rest) → IsBoxed p shape (parts_of t old edges paths)
+is_boxed p shape w outside t old edges paths made all lesser count listed =
     let keeps : Keeps w (web_of t) = enclosed_keeps w outside (web_of t) made.enclosed in
     let ends = plane_ends p made.plane in
     record {
-      boxes = are_boxes p shape w outside t old edges made all lesser;
+      boxes = are_boxes p shape w outside t old edges paths made all lesser count listed;
       old = all;
       edges = lesser;
       halves = omega (arith, ap length lesser, length-lesser p (darts p), edge_total p ends);
@@ -173,7 +194,7 @@ is_boxed p shape w outside t old edges made all lesser =
       heads = λ d d_in. keeps.head d (omega (arith, d_in, made.kept.few)) ∙ made.kept.heads d d_in;
       paths = kept_paths p shape w outside t made;
       apart = paths_lie_apart p shape w outside t made;
-      enclosed = drawing_stands p shape w outside t old edges made;
+      enclosed = drawing_stands p shape w outside t old edges paths made;
       angles = λ d d_in.
           let m : ℕ = mate p (next p d) in
           let m_in : m < darts p = ends.mate_inside (next p d) (ends.next_one.inside d d_in) in

@@ -1,3 +1,5 @@
+pub mod Walking
+pub mod Lists
 pub mod Keeping
 pub mod Rectangles
 pub mod Edges
