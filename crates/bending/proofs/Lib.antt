@@ -9,3 +9,4 @@ pub mod Counting
 pub mod Writing
 pub mod Bending
 pub mod Pathing
+pub mod Rowing

@@ -1,13 +1,14 @@
 //! The whole drawing with straight edges.
 
 ghost use Rattle.std.specs.Prelude.{◌≡◌, ◌+◌, ◌*◌, ◌<◌, ◌≤◌, IfOk, length, map, slice_index};
-ghost use Rattle.faces.specs.Map.{darts, mate};
+ghost use Rattle.faces.specs.Map.{darts, mate, vertices};
 ghost use Rattle.ortho_rep.specs.Shapes.{angle_at, turns_at};
 ghost use Rattle.ortho_rep.specs.Representation.{IsShape};
 ghost use Rattle.headings.specs.Headings.{AreHeadings};
 ghost use Rattle.cutting.specs.Webs.{IsSound, excess};
 ghost use Rattle.cutting.specs.Tables.{web_of, room};
 ghost use Rattle.cutting.specs.Paths.{HasPaths, IsJoined};
+ghost use Rattle.edge_paths.specs.Rows.{AreRows};
 ghost use Rattle.bending.specs.Bends.{CountsBends, KeepsDarts, KeepsFaces};
 ghost use Rattle.bending.specs.Steps.{angle_of};
 
@@ -47,6 +48,7 @@ pub fn bend(
     ensures counts { IfOk result (λ t. CountsBends plane.now (turns_at shape.now) (web_of t)) }
     ensures paths { IfOk result (λ t. HasPaths (web_of t) (darts plane.now) (mate plane.now)
         (λ d. map angle_of (turns_at shape.now d))) }
+    ensures rows { IfOk result (λ t. AreRows (vertices plane.now) (web_of t)) }
     ensures joined { IfOk result (λ t. IsJoined (web_of t)) }
     ensures space { IfOk result (λ t. t.darts + 4 * excess (web_of t) + 24 ≤ room t) }
 {

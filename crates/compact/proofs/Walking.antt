@@ -1,38 +1,17 @@
 -- Walking back along an edge, from its last dart to its first.
-use Rattle.std.proofs.Common.{◌≡◌, ◌≢◌, ℕ, zero, suc, ◌<◌, ◌≤◌, ◌∙◌, ◌==◌, Bool, true, false, List, [], ◌∷◌, ◌++◌, length, reverse, map, eqb, if◌then◌else◌, arith, subst, sym, ap, refl, inl, inr, append_assoc, append-nil, ◌||◌, ◌↔◌}
+use Rattle.std.proofs.Common.{◌≡◌, ◌≢◌, ℕ, ◌<◌, ◌≤◌, ◌∙◌, ◌==◌, true, false, List, [], ◌∷◌, ◌++◌, length, reverse, map, eqb, if◌then◌else◌, arith, subst, sym, ap, refl, inl, inr, append_assoc, append-nil, ◌↔◌}
 use mathlib.Core.List.{reverse_aux}
-use Rattle.std.specs.List.{list_any, IsDistinct, AllByRecursion}
 use Rattle.std.proofs.lemmas.Grind.{reverse_onto}
-use Rattle.std.proofs.lemmas.Bool.{cases_eq, ne_eqb, eq-eqb, cond-true, cond-false, false≢true}
-use Rattle.std.proofs.lemmas.Map.Steps.{length-le_from_distinct_below}
+use Rattle.std.proofs.lemmas.Bool.{cases_eq, ne_eqb, eq-eqb, cond-true, cond-false}
 use Rattle.cutting.specs.Webs.{Web, no_dart, IsSound}
-use Rattle.cutting.specs.Faces.{last_of, Below, In}
-use Rattle.cutting.specs.Paths.{Follows, IsPath, turn_to, turning_places}
-
--- the darts in front of d on its edge, the nearest first
-abbrev pub Back : Web → ℕ → List ℕ → Type 0
-Back w d [] = w.before d ≡ no_dart
-Back w d (f ∷ fs) = (w.before d ≡ f) × (f < w.darts) × Back w f fs
+use Rattle.cutting.specs.Faces.{last_of}
+use Rattle.cutting.specs.Paths.{IsPath, turn_to, turning_places}
+use Rattle.dissect.proofs.Walking.{Back, behind, back_short, depth, depth_is, one_back, path_back}
 
 -- the places where the walk turns in front of d, the nearest first
 abbrev pub places_back : Web → ℕ → List ℕ → List ℕ
 places_back w d [] = []
 places_back w d (f ∷ fs) = if turn_to w f d == 0 then places_back w f fs else w.head f ∷ places_back w f fs
-
--- what stands in front of the last of a, bs when fs stands in front of a
-abbrev pub behind : ℕ → List ℕ → List ℕ → List ℕ
-behind a fs [] = fs
-behind a fs (b ∷ bs) = behind b (a ∷ fs) bs
-
-pub back_of : (w : Web) (a : ℕ) (fs bs : List ℕ) → a < w.darts → Below w.darts bs → Follows w a bs → Back w a fs → Back w (last_of a bs) (behind a fs bs)
-back_of w a fs [] a_in below follows back = back
-back_of w a fs (b ∷ bs) a_in below follows back = back_of w b (a ∷ fs) bs below.0 below.1 follows.2 (follows.0, a_in, back)
-
--- a path, seen from its end
-pub path_back : (w : Web) (end first : ℕ) (rest : List ℕ) → IsPath w end first rest → Back w end (behind first [] rest)
-path_back w end first rest path =
-    subst (λ (d : ℕ). Back w d (behind first [] rest)) path.ends
-    (back_of w first [] rest path.first_in path.rest_in path.follows path.start)
 
 pub places_of : (w : Web) (a : ℕ) (fs bs : List ℕ) → reverse (places_back w (last_of a bs) (behind a fs bs)) ≡ reverse (places_back w a fs) ++ turning_places w a bs
 places_of w a fs [] = sym (append-nil (reverse (places_back w a fs)))
@@ -56,66 +35,6 @@ places_of w a fs (b ∷ bs) =
 -- the turning places of a path are those met in walking back, in reverse
 pub path_places : (w : Web) (first : ℕ) (rest : List ℕ) → reverse (places_back w (last_of first rest) (behind first [] rest)) ≡ turning_places w first rest
 path_places w first rest = places_of w first [] rest
-
--- there is one way back
-pub one_back : (w : Web) (d : ℕ) (fs gs : List ℕ) → w.darts ≤ no_dart → Back w d fs → Back w d gs → fs ≡ gs
-one_back w d [] [] few back other = refl
-one_back w d [] (g ∷ gs) few back other = absurd (omega (arith, back, other.0, other.1, few))
-one_back w d (f ∷ fs) [] few back other = absurd (omega (arith, back.0, back.1, other, few))
-one_back w d (f ∷ fs) (g ∷ gs) few back other =
-    let same : g ≡ f = sym other.0 ∙ back.0 in
-    let rest : fs ≡ gs = one_back w f fs gs few back.2 (subst (λ (k : ℕ). Back w k gs) same other.2) in
-    ap (λ (xs : List ℕ). f ∷ xs) rest ∙ ap (λ (k : ℕ). k ∷ gs) (sym same)
-
--- a dart in front of d has fewer in front of it
-pub fewer_back : (w : Web) (d a : ℕ) (fs : List ℕ) → Back w d fs → In a fs → (gs : List ℕ) × Back w a gs × (length gs < length fs)
-fewer_back w d a [] back here = absurd here
-fewer_back w d a (f ∷ fs) back (inl same) = (fs, subst (λ (k : ℕ). Back w k fs) (sym same) back.2, omega (arith))
-fewer_back w d a (f ∷ fs) back (inr there) =
-    let (gs, more, less) = fewer_back w f a fs back.2 there in
-    (gs, more, omega (arith, less))
-
-pub not_in_front : (w : Web) (d : ℕ) (fs : List ℕ) → w.darts ≤ no_dart → Back w d fs → In d fs → ⊥
-not_in_front w d fs few back here =
-    let (gs, more, less) = fewer_back w d d fs back here in
-    let same : length fs ≡ length gs = ap length (one_back w d fs gs few back more) in
-    omega (arith, same, less)
-
--- how many darts stand in front of d, as far as `fuel` of them
-abbrev pub depth : Web → ℕ → ℕ → ℕ
-depth w zero d = 0
-depth w (suc fuel) d = if w.before d == no_dart then 0 else suc (depth w fuel (w.before d))
-
-pub depth_is : (w : Web) (fuel d : ℕ) (fs : List ℕ) → w.darts ≤ no_dart → length fs ≤ fuel → Back w d fs → depth w fuel d ≡ length fs
-depth_is w zero d [] few enough back = refl
-depth_is w zero d (f ∷ fs) few enough back = absurd (omega (arith, enough))
-depth_is w (suc fuel) d [] few enough back = cond-true (eqb (w.before d) no_dart) 0 (suc (depth w fuel (w.before d))) (eq-eqb (w.before d) no_dart back)
-depth_is w (suc fuel) d (f ∷ fs) few enough back =
-    let real : w.before d ≢ no_dart = λ e. omega (arith, e, back.0, back.1, few) in
-    cond-false (eqb (w.before d) no_dart) 0 (suc (depth w fuel (w.before d))) (ne_eqb (w.before d) no_dart real)
-    ∙ ap (λ (k : ℕ). suc (depth w fuel k)) back.0
-    ∙ ap suc (depth_is w fuel f fs few (omega (arith, enough)) back.2)
-
--- no more darts stand in front of one than there are
-pub all_apart : (xs : List ℕ) (a : ℕ) → (In a xs → ⊥) → AllByRecursion (λ y. eqb a y ≡ false) xs
-all_apart [] a away = tt
-all_apart (x ∷ xs) a away = (ne_eqb a x (λ e. away (inl e)), all_apart xs a (λ here. away (inr here)))
-
-pub back_distinct : (w : Web) (d : ℕ) (fs : List ℕ) → w.darts ≤ no_dart → Back w d fs → IsDistinct eqb fs
-unfolding IsDistinct
-back_distinct w d [] few back = tt
-back_distinct w d (f ∷ fs) few back = (all_apart fs f (not_in_front w f fs few back.2), back_distinct w f fs few back.2)
-
-pub back_below : (w : Web) (d : ℕ) (fs : List ℕ) → Back w d fs → (q : ℕ) → list_any (eqb q) fs ≡ true → q < w.darts
-back_below w d [] back q here = absurd (false≢true here)
-back_below w d (f ∷ fs) back q here =
-    elim (cases_eq q f) [
-      | inl same ↦ subst (λ (k : ℕ). k < w.darts) (sym same) back.1
-      | inr other ↦ back_below w f fs back.2 q (subst (λ (b : Bool). b || list_any (eqb q) fs ≡ true) (ne_eqb q f other) here)
-    ]
-
-pub back_short : (w : Web) (d : ℕ) (fs : List ℕ) → w.darts ≤ no_dart → Back w d fs → length fs ≤ w.darts
-back_short w d fs few back = length-le_from_distinct_below fs w.darts (back_distinct w d fs few back) (back_below w d fs back)
 
 -- where a walk back stands: the darts in front of it, and the places that it has met
 pub record IsWalking (w : Web) (last dart : ℕ) (met : List ℕ) : Type 0 where
@@ -203,13 +122,6 @@ met_straight w front dart met straight =
 pub met_turn : (w : Web) (front dart : ℕ) (met : List ℕ) → turn_to w front dart ≢ 0 → met_more w front dart met ≡ met ++ (w.head front ∷ [])
 met_turn w front dart met turns =
     cond-false (eqb (turn_to w front dart) 0) met (met ++ (w.head front ∷ [])) (ne_eqb (turn_to w front dart) 0 turns)
-
-last_in : (n a : ℕ) (bs : List ℕ) → a < n → Below n bs → last_of a bs < n
-last_in n a [] a_in below = a_in
-last_in n a (b ∷ bs) a_in below = last_in n b bs below.0 below.1
-
-pub path_last_in : (w : Web) (end first : ℕ) (rest : List ℕ) → IsPath w end first rest → end < w.darts
-path_last_in w end first rest path = subst (λ (d : ℕ). d < w.darts) path.ends (last_in w.darts first rest path.first_in path.rest_in)
 
 map_onto : {X : Type 0} (h : ℕ → X) (xs ys : List ℕ) → map h (reverse_aux xs ys) ≡ reverse_aux (map h xs) (map h ys)
 map_onto h [] ys = refl

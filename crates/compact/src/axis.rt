@@ -1,15 +1,14 @@
 //! The gaps of a dissection along an axis, and the least numbers of its vertices.
 
-ghost use Rattle.std.specs.Prelude.{◌≡◌, ◌≢◌, ◌+◌, length, slice_index, Some, None, IsTrue, IfOk, IfErr, ℕ, ◌<◌, ◌≤◌};
+ghost use Rattle.std.specs.Prelude.{◌≡◌, ◌≢◌, ◌+◌, ◌*◌, length, slice_index, Some, None, IsTrue, IfOk, IfErr, ℕ, ◌<◌, ◌≤◌};
 ghost use Rattle.compact.specs.Ordered.{IsAlong, AreAlong, AreWithin, IsAcross, IsAxisFault, growth};
-ghost use Rattle.compact.specs.Steps.{AreUnder};
+ghost use Rattle.compact.specs.Steps.{AreSteps, AreUnder};
 ghost use Rattle.cutting.specs.Webs.{IsSound};
 ghost use Rattle.dissect.specs.Boxes.{web, number_of};
 
 use crate::fault::CompactFault;
 use crate::gaps::{Gap, settle};
 use crate::rows::{Steps, raise_rows};
-use crate::steps::steps_of;
 use directions::Direction;
 use dissect::Boxes;
 use std::alloc::{AllocError, Global};
@@ -72,14 +71,17 @@ fn are_along(boxes: &Boxes, axis: Axis, numbers: &[u16]) -> bool
 }
 
 /// Numbers that are nowhere above any in the order of the darts along the direction `ahead`, where `up`
-/// and `down` run across it.
+/// and `down` run across it. `around` has the steps from each vertex.
 fn low_along(
     alloc: Global,
     boxes: &Boxes,
+    around: &[u32],
     ahead: u8,
     up: u8,
     down: u8,
 ) -> Result<Vec<u16>, AllocError>
+    requires steps { AreSteps (web boxes.now) around.now boxes.now.vertices }
+    requires around { length around.now ≡ 4 * boxes.now.vertices }
     requires ahead { ahead < 4 }
     requires up { (up < 4) × IsAcross ahead up }
     requires down { (down < 4) × IsAcross ahead down }
@@ -87,10 +89,9 @@ fn low_along(
     ensures count { IfOk result (λ numbers. length numbers.items ≡ boxes.now.vertices) }
     ensures under { IfOk result (λ numbers. (y : ℕ → ℕ) → IsAlong (web boxes.now) ahead y → AreUnder boxes.now.vertices numbers.items y) }
 {
-    let around = steps_of(alloc, boxes)?;
     let mut numbers = vec![in alloc; 0; boxes.vertices() as usize]?;
     let steps = Steps {
-        around: &around,
+        around,
         ahead,
         up,
         down,
@@ -101,19 +102,34 @@ fn low_along(
 
 /// Numbers that are nowhere above any in the order of the darts along an axis: the lengths of longest
 /// paths, found row by row. Linear in the darts.
-fn low_numbers(alloc: Global, boxes: &Boxes, axis: Axis) -> Result<Vec<u16>, AllocError>
+fn low_numbers(
+    alloc: Global,
+    boxes: &Boxes,
+    around: &[u32],
+    axis: Axis,
+) -> Result<Vec<u16>, AllocError>
+    requires steps { AreSteps (web boxes.now) around.now boxes.now.vertices }
+    requires around { length around.now ≡ 4 * boxes.now.vertices }
     ensures sound { IfOk result (λ _. IsSound (web boxes.now)) }
     ensures count { IfOk result (λ numbers. length numbers.items ≡ boxes.now.vertices) }
     ensures under { IfOk result (λ numbers. (y : ℕ → ℕ) → IsAlong (web boxes.now) (growth axis) y → AreUnder boxes.now.vertices numbers.items y) }
 {
     match axis {
-        Axis::X => low_along(alloc, boxes, 0, 1, 3),
-        Axis::Y => low_along(alloc, boxes, 1, 2, 0),
+        Axis::X => low_along(alloc, boxes, around, 0, 1, 3),
+        Axis::Y => low_along(alloc, boxes, around, 1, 2, 0),
     }
 }
 
-/// The least numbers of the vertices in the order of the darts along an axis.
-pub fn numbers_along(alloc: Global, boxes: &Boxes, axis: Axis) -> Result<Vec<u16>, CompactFault>
+/// The least numbers of the vertices in the order of the darts along an axis. `around` has the steps
+/// from each vertex.
+pub fn numbers_along(
+    alloc: Global,
+    boxes: &Boxes,
+    around: &[u32],
+    axis: Axis,
+) -> Result<Vec<u16>, CompactFault>
+    requires steps { AreSteps (web boxes.now) around.now boxes.now.vertices }
+    requires around { length around.now ≡ 4 * boxes.now.vertices }
     ensures sound { IfOk result (λ _. IsSound (web boxes.now)) }
     ensures along { IfOk result (λ numbers. IsAlong (web boxes.now) (growth axis) (λ v. slice_index numbers.items v)) }
     ensures least { IfOk result (λ numbers. (y : ℕ → ℕ) → IsAlong (web boxes.now) (growth axis) y
@@ -122,7 +138,7 @@ pub fn numbers_along(alloc: Global, boxes: &Boxes, axis: Axis) -> Result<Vec<u16
     ensures count { IfOk result (λ numbers. length numbers.items ≡ boxes.now.vertices) }
     ensures fault { IfErr result (IsAxisFault boxes.now (growth axis)) }
 {
-    let Ok(mut numbers) = low_numbers(alloc, boxes, axis) else {
+    let Ok(mut numbers) = low_numbers(alloc, boxes, around, axis) else {
         return Err(CompactFault::Memory);
     };
     if are_along(boxes, axis, &numbers) {

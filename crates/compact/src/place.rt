@@ -9,6 +9,7 @@ ghost use Rattle.compact.specs.Ordered.{AreLaidOut, AreCorners, IsCompactFault, 
 use crate::axis::{Axis, numbers_along};
 use crate::corners::{corners_along, point_of};
 use crate::fault::CompactFault;
+use crate::steps::steps_of;
 use dissect::Boxes;
 use ortho_rep::{Point, Points};
 use std::alloc::{AllocError, Global};
@@ -25,8 +26,8 @@ fn vertex_points(
     ensures { IfOk result (λ points. points.items
         ≡ map (point_at (λ v. slice_index x.now v) (λ v. slice_index y.now v)) (range_with_len 0 boxes.now.old)) }
 {
-    let mut points = Vec::with_capacity(alloc, usize::from(boxes.plane_vertices()))?;
-    for vertex in 0..u32::from(boxes.plane_vertices()) {
+    let mut points = Vec::with_capacity(alloc, usize::from(boxes.old_vertices()))?;
+    for vertex in 0..u32::from(boxes.old_vertices()) {
         points.push(point_of(x, y, vertex))?;
     }
     Ok(points)
@@ -44,9 +45,9 @@ fn corner_lists(
     ensures count { IfOk result (λ lists. length lists.items ≡ length boxes.now.edges) }
     ensures corners { IfOk result (λ lists. AreCorners boxes.now (λ v. slice_index x.now v) (λ v. slice_index y.now v) (length boxes.now.edges) lists.items) }
 {
-    let mut lists = Vec::with_capacity(alloc, boxes.edges().len())?;
-    for last in boxes.edges() {
-        lists.push(corners_along(alloc, boxes, x, y, *last)?)?;
+    let mut lists = Vec::with_capacity(alloc, usize::from(boxes.edges()))?;
+    for edge in 0..boxes.edges() {
+        lists.push(corners_along(alloc, boxes, x, y, boxes.lesser_dart(edge))?)?;
     }
     Ok(lists)
 }
@@ -68,11 +69,14 @@ pub fn compact(alloc: Global, boxes: &Boxes) -> Result<Points, CompactFault>
     ensures laid { IfOk result (AreLaidOut boxes.now) }
     ensures fault { IfErr result (IsCompactFault boxes.now) }
 {
-    let x = match numbers_along(alloc, boxes, Axis::X) {
+    let Ok(around) = steps_of(alloc, boxes) else {
+        return Err(CompactFault::Memory);
+    };
+    let x = match numbers_along(alloc, boxes, &around, Axis::X) {
         Ok(x) => x,
         Err(fault) => return Err(fault),
     };
-    let y = match numbers_along(alloc, boxes, Axis::Y) {
+    let y = match numbers_along(alloc, boxes, &around, Axis::Y) {
         Ok(y) => y,
         Err(fault) => return Err(fault),
     };

@@ -1,6 +1,7 @@
 -- A rectangle round a web, and its join.
 use Rattle.std.specs.Prelude.{◌≡◌, ℕ, ◌+◌, ◌%◌, ◌<◌}
 use Rattle.cutting.specs.Webs.{Web, no_dart, IsCut, Grows}
+use Rattle.cutting.specs.Labels.{AreLabels}
 
 -- A rectangle beside the web: the darts w.darts + 0 .. 3 go round its inside to the east, north, west and south,
 -- and w.darts + 4 .. 7 are their twins round its outside. The vertex w.vertices + k is where dart k arrives.
@@ -29,9 +30,9 @@ pub record IsFramed (w new : Web) : Type 0 where
   pub before_inner : (k : ℕ) → k < 4 → new.before (w.darts + k) ≡ no_dart
   pub before_outer : (k : ℕ) → k < 4 → new.before (w.darts + 4 + k) ≡ no_dart
 
--- a web in its rectangle, with which it is joined by a cut from a right turn of its own to a side of the
--- rectangle, and then cut up further
-pub record IsEnclosed (w new : Web) : Type 0 where
+-- a web in its rectangle, with which it is joined by a cut from a right turn of its own, on the face of the dart
+-- `outside`, to a side of the rectangle, and then cut up further
+pub record IsEnclosed (w : Web) (outside : ℕ) (new : Web) : Type 0 where
   pub framed : Web
   pub frame : IsFramed w framed
   pub joined : Web
@@ -39,6 +40,7 @@ pub record IsEnclosed (w new : Web) : Type 0 where
   pub side : ℕ
   pub way : ℕ
   pub right_in : right < w.darts
+  pub same_face : (label : ℕ → ℕ) → AreLabels w label → label right ≡ label outside
   pub side_in : side < 4
   pub join : IsCut framed right (w.darts + side) way joined
   pub grows : Grows joined new

@@ -1,10 +1,12 @@
 -- A drawing with straight edges, in its rectangle and cut up, dissects the shape that it was made of.
-use Rattle.std.proofs.Common.{◌≡◌, ℕ, ◌+◌, ◌%◌, ◌<◌, ◌≤◌, ◌∙◌, List, [], All, map, length, get_or, slice_index, arith, subst, sym, ap, inl, inr}
+use Rattle.std.proofs.Common.{◌≡◌, ℕ, ◌+◌, ◌-◌, ◌%◌, ◌<◌, ◌≤◌, ◌∙◌, List, [], ◌∷◌, All, Vec, Global, map, length, get_or, slice_index, slice_index_or, arith, subst, sym, ap, inl, inr}
 use Rattle.std.specs.List.{range_with_len}
+use Rattle.std.proofs.lemmas.List.{length-map}
 use Rattle.std.proofs.lemmas.List.Elements.{All-filter, All-get_or, All-from_get_or}
 use Rattle.std.proofs.lemmas.List.FromFn.{length-range_with_len, get_or-range_with_len}
-use Rattle.faces.specs.Map.{Map, IsPlane, darts, vertices, mate, next}
-use Rattle.faces.proofs.Ends.{plane_ends}
+use Rattle.embedding.proofs.Rotation.{one_dart}
+use Rattle.faces.specs.Map.{Map, IsPlane, darts, vertices, head, mate, next, face_at}
+use Rattle.faces.proofs.Ends.{plane_ends, seven_rules}
 use Rattle.ortho_rep.specs.Shapes.{Figure, angle_at, turns_at}
 use Rattle.ortho_rep.specs.Edges.{is_lesser, lesser_darts}
 use Rattle.ortho_rep.proofs.EdgeNumbers.{edge_total, length-lesser}
@@ -13,27 +15,35 @@ use Rattle.cutting.specs.declared.table.DartTable.{DartTable}
 use Rattle.cutting.specs.Webs.{Web, IsSound, excess, no_dart}
 use Rattle.cutting.specs.Tables.{web_of}
 use Rattle.cutting.specs.Faces.{AreWaiting, ReachesCorners}
-use Rattle.cutting.specs.Paths.{HasPaths, IsJoined}
+use Rattle.cutting.specs.Paths.{HasPaths, IsJoined, IsPath}
 use Rattle.cutting.specs.Frames.{IsEnclosed}
-use Rattle.bending.specs.Bends.{CountsBends, KeepsDarts}
+use Rattle.bending.specs.Bends.{CountsBends, KeepsDarts, KeepsFaces}
 use Rattle.bending.specs.Steps.{angle_of}
+use Rattle.edge_paths.specs.Rows.{AreRows}
 use Rattle.edge_paths.proofs.Framing.{enclosed_paths, enclosed_joined}
-use Rattle.dissect.specs.Boxes.{AreBoxes, parts_of}
-use Rattle.dissect.specs.Boxed.{IsBoxed}
+use Rattle.edge_paths.proofs.Rows.{HasRows, enclosed_rows}
+use Rattle.edge_paths.proofs.Apart.{AreEdges, paths_back, paths_once, paths_apart}
+use Rattle.dissect.specs.Boxes.{AreBoxes, HasEdge, items_of, parts_of}
+use Rattle.dissect.specs.Boxed.{IsBoxed, IsEnclosedDrawing, ArePathsApart}
 use Rattle.dissect.proofs.Keeping.{Keeps, enclosed_keeps}
+use Rattle.dissect.proofs.Rectangles.{rectangle, join}
 
 -- what is known of the drawing w and of the table t that was made of it
-pub record IsMade (p : Map) (shape : Figure) (w : Web) (t : DartTable) : Type 0 where
+pub record IsMade (p : Map) (shape : Figure) (w : Web) (outside : ℕ) (t : DartTable) : Type 0 where
   pub plane : IsPlane p
   pub sound : IsSound w
   pub kept : KeepsDarts p (angle_at shape) w
+  pub faces : KeepsFaces p w
   pub headings : AreHeadings p (angle_at shape) (turns_at shape) w.direction
   pub counts : CountsBends p (turns_at shape) w
   pub paths : HasPaths w (darts p) (mate p) (λ d. map angle_of (turns_at shape d))
+  pub rows : AreRows (vertices p) w
   pub joined : IsJoined w
-  pub enclosed : IsEnclosed w (web_of t)
+  pub outside_in : outside < darts p
+  pub outer : face_at p outside ≡ p.outer
+  pub enclosed : IsEnclosed w outside (web_of t)
   pub cut_sound : IsSound (web_of t)
-  pub done : AreWaiting (web_of t) (w.darts + 4) []
+  pub done : (k : ℕ) → k < 4 → AreWaiting (web_of t) (w.darts + 4 + k) []
   pub reaches : ReachesCorners (web_of t)
   pub few : t.vertices ≤ w.vertices + excess w + 4
   pub small : t.darts ≤ no_dart
@@ -46,23 +56,111 @@ lesser_inside p =
     (λ i i_in. let below : i < darts p = omega (arith, i_in, length-range_with_len 0 (darts p)) in
     omega (arith, get_or-range_with_len 0 (darts p) i 0 below, below)))
 
-pub kept_paths : (p : Map) (shape : Figure) (w : Web) (t : DartTable) → IsMade p shape w t →
+pub kept_paths : (p : Map) (shape : Figure) (w : Web) (outside : ℕ) (t : DartTable) → IsMade p shape w outside t →
     HasPaths (web_of t) (darts p) (mate p) (λ d. map angle_of (turns_at shape d))
-kept_paths p shape w t made = enclosed_paths w (web_of t) (darts p) (mate p) (λ d. map angle_of (turns_at shape d)) made.sound.linked made.sound.meeting.quarter made.enclosed made.paths
+kept_paths p shape w outside t made =
+    enclosed_paths w outside (web_of t) (darts p) (mate p) (λ d. map angle_of (turns_at shape d)) made.sound.linked
+    made.sound.meeting.quarter made.enclosed made.paths
 
-pub are_boxes : (p : Map) (shape : Figure) (w : Web) (t : DartTable) (old : ℕ) (edges : List ℕ) → IsMade p shape w t →
-    old ≡ vertices p → edges ≡ lesser_darts p → AreBoxes (parts_of t old edges)
-are_boxes p shape w t old edges made all lesser =
-    let keeps : Keeps w (web_of t) = enclosed_keeps w (web_of t) made.enclosed in
+-- the web is that of the plane's edges
+pub are_edges : (p : Map) (shape : Figure) (w : Web) (outside : ℕ) (t : DartTable) → IsMade p shape w outside t →
+    AreEdges (vertices p) (web_of t) (darts p) (mate p) (λ d. map angle_of (turns_at shape d))
+are_edges p shape w outside t made =
+    let keeps : Keeps w (web_of t) = enclosed_keeps w outside (web_of t) made.enclosed in
+    let ends = plane_ends p made.plane in
+    let head_is : (d : ℕ) → d < darts p → (web_of t).head d ≡ head p d - 1 = λ d l.
+    keeps.head d (omega (arith, l, made.kept.few)) ∙ made.kept.heads d l in
+    let rows : HasRows (vertices p) w = record {
+      linked = made.sound.linked;
+      heads = made.sound.meeting.head_in;
+      few = omega (arith, made.counts.vertex_count);
+      rows = made.rows;
+    } in
+    record {
+      rows = enclosed_rows (vertices p) w outside (web_of t) rows made.enclosed;
+      narrow = made.small;
+      paths = kept_paths p shape w outside t made;
+      mate_in = ends.mate_inside;
+      mate_apart = ends.mate_apart;
+      ends = λ d l. omega (arith, head_is d l, ends.head_from d l, ends.head_to d l);
+      no_loop = λ d l same.
+          let m : ℕ = mate p d in
+          let m_in : m < darts p = ends.mate_inside d l in
+          let heads : head p m ≡ head p d =
+          omega (arith, same, head_is d l, head_is m m_in, ends.head_from d l, ends.head_from m m_in) in
+          ends.mate_apart d l
+          (one_dart p.lists (seven_rules p.lists made.plane.rules) m d m_in l
+          (ends.mate_tail d l ∙ sym heads ∙ ends.mate_head d l) heads);
+    }
+
+pub paths_lie_apart : (p : Map) (shape : Figure) (w : Web) (outside : ℕ) (t : DartTable) → IsMade p shape w outside t →
+    ArePathsApart p (web_of t)
+paths_lie_apart p shape w outside t made =
+    let q : ℕ → List ℕ = λ d. map angle_of (turns_at shape d) in
+    let are = are_edges p shape w outside t made in
+    record {
+      back = paths_back (vertices p) (web_of t) (darts p) (mate p) q are;
+      once = paths_once (vertices p) (web_of t) (darts p) (mate p) q are;
+      apart = paths_apart (vertices p) (web_of t) (darts p) (mate p) q are;
+    }
+
+pub drawing_stands : (p : Map) (shape : Figure) (w : Web) (outside : ℕ) (t : DartTable) (old : ℕ) (edges : List ℕ)
+    (paths : List (Vec ℕ Global)) → IsMade p shape w outside t → IsEnclosedDrawing p shape (parts_of t old edges paths)
+drawing_stands p shape w outside t old edges paths made =
+    let keeps : Keeps w (web_of t) = enclosed_keeps w outside (web_of t) made.enclosed in
+    let e = made.enclosed in
+    record {
+      drawing = w;
+      drawn = record {
+        sound = made.sound;
+        kept = made.kept;
+        directions = made.headings;
+        faces = made.faces;
+        counts = made.counts;
+        paths = made.paths;
+      };
+      heads = keeps.head;
+      directions = keeps.direction;
+      rectangle = rectangle w outside (web_of t) made.sound.linked made.sound.meeting.quarter e made.done;
+      right = e.right;
+      right_in = e.right_in;
+      turns_right = omega (arith, e.join.right, e.frame.angle_old e.right e.right_in);
+      outer = e.same_face made.faces.label made.faces.turns.labels ∙ made.faces.faces outside made.outside_in ∙ made.outer;
+      join = join w outside (web_of t) made.sound.linked made.sound.meeting.quarter e;
+    }
+
+-- each edge has its path
+pub edge_path : (p : Map) (shape : Figure) (w : Web) (outside : ℕ) (t : DartTable) (edges : List ℕ) → IsMade p shape w outside t →
+    edges ≡ lesser_darts p → (e : ℕ) → e < length edges →
+    (first : ℕ) × (rest : List ℕ) × IsPath (web_of t) (slice_index edges e) first rest
+edge_path p shape w outside t edges made lesser e e_in =
+    let at : e < length (lesser_darts p) = omega (arith, e_in, ap length lesser) in
+    let inside : get_or (lesser_darts p) e 0 < darts p = All-get_or (λ d. d < darts p) (lesser_darts p) e 0 at (lesser_inside p) in
+    let here : slice_index edges e < darts p = subst (λ (ds : List ℕ). get_or ds e 0 < darts p) (sym lesser) inside in
+    let path = (kept_paths p shape w outside t made).paths (slice_index edges e) here in
+    (path.first, path.rest, path.path)
+
+pub are_boxes : (p : Map) (shape : Figure) (w : Web) (outside : ℕ) (t : DartTable) (old : ℕ) (edges : List ℕ)
+    (paths : List (Vec ℕ Global)) → IsMade p shape w outside t → old ≡ vertices p → edges ≡ lesser_darts p →
+    length paths ≡ length edges →
+    ((e : ℕ) → e < length edges → (first : ℕ) (rest : List ℕ) → IsPath (web_of t) (slice_index edges e) first rest →
+    slice_index_or (items_of paths) e [] ≡ first ∷ rest) → AreBoxes (parts_of t old edges paths)
+are_boxes p shape w outside t old edges paths made all lesser count listed =
+    let keeps : Keeps w (web_of t) = enclosed_keeps w outside (web_of t) made.enclosed in
+    let done = made.done 0 (omega arith) in
+    let ends = plane_ends p made.plane in
+    let edge : (e : ℕ) → e < length edges → HasEdge (parts_of t old edges paths) e = λ e e_in.
+    let path = edge_path p shape w outside t edges made lesser e e_in in
+    record { first = path.0; rest = path.1; path = path.2 } in
     record {
       sound = made.cut_sound;
-      joined = enclosed_joined w (web_of t) made.sound.linked made.joined made.enclosed;
+      joined = enclosed_joined w outside (web_of t) made.sound.linked made.joined made.enclosed;
       faces = record {
         reaches = made.reaches;
-        outside = w.darts + 4;
-        outside_in = made.done.inside;
-        around = made.done.outside;
-        corners = λ a a_in corner. elim (made.done.settled a a_in corner) [
+        outside = w.darts + 4 + 0;
+        outside_in = done.inside;
+        around = done.outside;
+        corners = λ a a_in corner. elim (done.settled a a_in corner) [
           | inl waiting ↦ absurd waiting
           | inr cut ↦ cut
         ];
@@ -70,27 +168,33 @@ are_boxes p shape w t old edges made all lesser =
       few_darts = made.small;
       old_in = omega (arith, all, made.counts.vertex_count, keeps.more_vertices);
       old_few = omega (arith, all, made.plane.order);
-      edges = λ e e_in.
-          let at : e < length (lesser_darts p) = omega (arith, e_in, ap length lesser) in
-          let inside : get_or (lesser_darts p) e 0 < darts p = All-get_or (λ d. d < darts p) (lesser_darts p) e 0 at (lesser_inside p) in
-          let here : slice_index edges e < darts p = subst (λ (ds : List ℕ). get_or ds e 0 < darts p) (sym lesser) inside in
-          let path = (kept_paths p shape w t made).paths (slice_index edges e) here in
-          record { first = path.first; rest = path.rest; path = path.path };
+      few_edges = omega (arith, ap length lesser, length-lesser p (darts p), edge_total p ends, ends.few_darts);
+      edges = edge;
+      path_count = length-map paths (λ (v : Vec ℕ Global). v.items) ∙ count;
+      paths = λ e e_in. record {
+        edge = edge e e_in;
+        listed = listed e e_in (edge e e_in).first (edge e e_in).rest (edge e e_in).path;
+      };
     }
 
-pub is_boxed : (p : Map) (shape : Figure) (w : Web) (t : DartTable) (old : ℕ) (edges : List ℕ) → IsMade p shape w t →
-    old ≡ vertices p → edges ≡ lesser_darts p → IsBoxed p shape (parts_of t old edges)
-is_boxed p shape w t old edges made all lesser =
-    let keeps : Keeps w (web_of t) = enclosed_keeps w (web_of t) made.enclosed in
+pub is_boxed : (p : Map) (shape : Figure) (w : Web) (outside : ℕ) (t : DartTable) (old : ℕ) (edges : List ℕ)
+    (paths : List (Vec ℕ Global)) → IsMade p shape w outside t → old ≡ vertices p → edges ≡ lesser_darts p →
+    length paths ≡ length edges →
+    ((e : ℕ) → e < length edges → (first : ℕ) (rest : List ℕ) → IsPath (web_of t) (slice_index edges e) first rest →
+    slice_index_or (items_of paths) e [] ≡ first ∷ rest) → IsBoxed p shape (parts_of t old edges paths)
+is_boxed p shape w outside t old edges paths made all lesser count listed =
+    let keeps : Keeps w (web_of t) = enclosed_keeps w outside (web_of t) made.enclosed in
     let ends = plane_ends p made.plane in
     record {
-      boxes = are_boxes p shape w t old edges made all lesser;
+      boxes = are_boxes p shape w outside t old edges paths made all lesser count listed;
       old = all;
       edges = lesser;
       halves = omega (arith, ap length lesser, length-lesser p (darts p), edge_total p ends);
       few = omega (arith, made.few, made.counts.vertex_count, made.counts.right_turns);
       heads = λ d d_in. keeps.head d (omega (arith, d_in, made.kept.few)) ∙ made.kept.heads d d_in;
-      paths = kept_paths p shape w t made;
+      paths = kept_paths p shape w outside t made;
+      apart = paths_lie_apart p shape w outside t made;
+      enclosed = drawing_stands p shape w outside t old edges paths made;
       angles = λ d d_in.
           let m : ℕ = mate p (next p d) in
           let m_in : m < darts p = ends.mate_inside (next p d) (ends.next_one.inside d d_in) in

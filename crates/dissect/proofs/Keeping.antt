@@ -43,8 +43,8 @@ frame_keeps w new frame = record {
   direction = frame.direction_old;
 }
 
-pub enclosed_keeps : (w new : Web) → IsEnclosed w new → Keeps w new
-enclosed_keeps w new e =
+pub enclosed_keeps : (w : Web) (outside : ℕ) (new : Web) → IsEnclosed w outside new → Keeps w new
+enclosed_keeps w outside new e =
     keeps_on w e.joined new
     (keeps_on w e.framed e.joined (frame_keeps w e.framed e.frame) (cut_keeps e.framed e.right (w.darts + e.side) e.way e.joined e.join))
     (grows_keeps e.joined new e.grows)

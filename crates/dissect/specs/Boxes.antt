@@ -1,5 +1,6 @@
 -- What callers see of `Boxes`: a drawing in four directions, and which of its parts are those of a plane.
-use Rattle.std.specs.Prelude.{ℕ, ◌<◌, ◌≤◌, ◌⊎◌, List, length, slice_index}
+use Rattle.std.specs.Prelude.{◌≡◌, ℕ, ◌<◌, ◌≤◌, ◌⊎◌, List, [], ◌∷◌, Vec, map, length, slice_index, slice_index_or}
+use Rattle.std.specs.declared.alloc.Global.{Global}
 use Rattle.directions.specs.declared.Direction.{Direction}
 use Rattle.directions.specs.declared.Direction.TheVariants.{East, North, West, South}
 use Rattle.cutting.specs.declared.table.DartTable.{DartTable}
@@ -23,6 +24,8 @@ pub record Parts : Type 0 where
   pub old : ℕ
   -- the lesser darts of the plane's edges, each of which is a dart of the web too: the last one on its edge
   pub edges : List ℕ
+  -- the darts that each of these edges is made of, in walking order
+  pub paths : List (List ℕ)
 
 -- the drawing that the parts are
 abbrev pub web : Parts → Web
@@ -38,9 +41,13 @@ web b = record {
   before = λ a. slice_index b.before a;
 }
 
--- the boxes that a table holds, for a plane of `old` vertices and these lesser darts
-abbrev pub parts_of : DartTable → ℕ → List ℕ → Parts
-parts_of t old edges = record {
+-- the items of lists
+abbrev pub items_of : List (Vec ℕ Global) → List (List ℕ)
+items_of lists = map (λ v. v.items) lists
+
+-- the boxes that a table holds, for a plane of `old` vertices, these lesser darts, and their paths
+abbrev pub parts_of : DartTable → ℕ → List ℕ → List (Vec ℕ Global) → Parts
+parts_of t old edges paths = record {
   darts = t.darts;
   vertices = t.vertices;
   next = t.next.items;
@@ -52,6 +59,7 @@ parts_of t old edges = record {
   before = t.before.items;
   old = old;
   edges = edges;
+  paths = items_of paths;
 }
 
 -- the number of a direction: quarters to the left from east
@@ -66,6 +74,11 @@ pub record HasEdge (b : Parts) (e : ℕ) : Type 0 where
   pub first : ℕ
   pub rest : List ℕ
   pub path : IsPath (web b) (slice_index b.edges e) first rest
+
+-- these are the darts of the path that the edge e of the plane is, in walking order
+pub record IsEdgePath (b : Parts) (e : ℕ) (darts : List ℕ) : Type 0 where
+  pub edge : HasEdge b e
+  pub listed : darts ≡ edge.first ∷ edge.rest
 
 -- each face is a box, with four left turns, but for the outside of the whole, which has four right turns
 pub record IsCutUp (w : Web) : Type 0 where
@@ -84,4 +97,7 @@ pub record AreBoxes (b : Parts) : Type 0 where
   pub few_darts : b.darts ≤ no_dart
   pub old_in : b.old ≤ b.vertices
   pub old_few : b.old ≤ 255
+  pub few_edges : length b.edges ≤ 510
   pub edges : (e : ℕ) → e < length b.edges → HasEdge b e
+  pub path_count : length b.paths ≡ length b.edges
+  pub paths : (e : ℕ) → e < length b.edges → IsEdgePath b e (slice_index_or b.paths e [])

@@ -1,8 +1,8 @@
 //! A drawing in four directions whose faces are rectangles.
 
-ghost use Rattle.std.specs.Prelude.{◌≡◌, ◌≢◌, ◌<◌, ◌≤◌, ◌^◌, length, IfSome, IfNone};
+ghost use Rattle.std.specs.Prelude.{◌≡◌, ◌≢◌, ◌-◌, ◌<◌, ◌≤◌, ◌^◌, length, slice_index, IfSome, IfNone};
 ghost use Rattle.cutting.specs.Webs.{no_dart};
-ghost use Rattle.dissect.specs.Boxes.{AreBoxes, number_of, parts_of, web};
+ghost use Rattle.dissect.specs.Boxes.{AreBoxes, IsEdgePath, number_of, parts_of, web};
 
 use cutting::{DartTable, NO_DART};
 use directions::Direction;
@@ -13,13 +13,15 @@ use std::marker::Model;
 /// of it are the plane's, and the lesser darts of the plane's edges.
 ///
 /// Vertices and darts are numbered from 0. The plane's vertex v is vertex v - 1; a dart of the plane
-/// has its number here too, and is the last of the darts that its edge is made of. No reader takes
-/// memory, and each takes constant time.
+/// has its number here too, and is the last of the darts that its edge is made of. Edges of the plane
+/// are numbered by their lesser darts, in ascending order. No reader takes memory, and each takes
+/// constant time.
 #[derive(Drop)]
 pub struct Boxes {
     table: DartTable,
     old: u8,
     edges: Vec<u16>,
+    paths: Vec<Vec<u32>>,
 }
 
 impl Model for Boxes {
@@ -27,18 +29,23 @@ impl Model for Boxes {
 
     ghost Value = { Parts };
 
-    ghost view = { λ b. parts_of b.table b.old b.edges.items };
+    ghost view = { λ b. parts_of b.table b.old b.edges.items b.paths.items };
 
-    ghost invariant = { λ b. AreBoxes (parts_of b.table b.old b.edges.items) };
+    ghost invariant = { λ b. AreBoxes (parts_of b.table b.old b.edges.items b.paths.items) };
 }
 
 impl Boxes {
-    /// The boxes that a table holds, for a plane of so many vertices and these lesser darts.
-    pub(crate) fn of(table: DartTable, old: u8, edges: Vec<u16>) -> Boxes
-        requires { AreBoxes (parts_of table old edges.items) }
-        ensures { result ≡ parts_of table old edges.items }
+    /// The boxes that a table holds, for a plane of so many vertices, these lesser darts and their paths.
+    pub(crate) fn of(table: DartTable, old: u8, edges: Vec<u16>, paths: Vec<Vec<u32>>) -> Boxes
+        requires { AreBoxes (parts_of table old edges.items paths.items) }
+        ensures { result ≡ parts_of table old edges.items paths.items }
     {
-        Boxes { table, old, edges }
+        Boxes {
+            table,
+            old,
+            edges,
+            paths,
+        }
     }
 
     /// How many vertices there are.
@@ -55,6 +62,15 @@ impl Boxes {
         ensures boxes { AreBoxes self.now }
     {
         self.table.darts
+    }
+
+    /// The vertex that a dart comes from.
+    pub fn tail(&self, dart: u32) -> u32
+        requires { dart < self.now.darts }
+        ensures value { result ≡ (web self.now).head ((web self.now).twin dart) }
+        ensures inside { result < self.now.vertices }
+    {
+        self.table.head[self.table.twin[dart as usize] as usize]
     }
 
     /// The vertex that a dart goes to.
@@ -111,19 +127,48 @@ impl Boxes {
         if front == NO_DART { None } else { Some(front) }
     }
 
-    /// How many vertices the plane has: they are the first ones.
-    pub fn plane_vertices(&self) -> u8
+    /// How many vertices the plane has.
+    pub fn old_vertices(&self) -> u8
         ensures value { result ≡ self.now.old }
         ensures inside { result ≤ self.now.vertices }
     {
         self.old
     }
 
-    /// The lesser darts of the plane's edges, in order.
-    pub fn edges(&self) -> &[u16]
-        ensures value { result.now ≡ self.now.edges }
+    /// The vertex that a vertex of the plane is, whose vertices are numbered from 1.
+    pub fn old(&self, vertex: u8) -> u32
+        requires from { 1 ≤ vertex }
+        requires to { vertex ≤ self.now.old }
+        ensures value { result ≡ vertex - 1 }
+        ensures inside { result < self.now.vertices }
+    {
+        // That the boxes hold the plane's vertices is known once a field is read.
+        let _ = &self.table;
+        u32::from(vertex) - 1
+    }
+
+    /// How many edges the plane has.
+    pub fn edges(&self) -> u16
+        ensures value { result ≡ length self.now.edges }
         ensures boxes { AreBoxes self.now }
     {
-        &self.edges
+        self.edges.len() as u16
+    }
+
+    /// The lesser dart of an edge of the plane.
+    pub fn lesser_dart(&self, edge: u16) -> u16
+        requires { edge < length self.now.edges }
+        ensures value { result ≡ slice_index self.now.edges edge }
+        ensures boxes { AreBoxes self.now }
+    {
+        self.edges[usize::from(edge)]
+    }
+
+    /// The darts that an edge of the plane is made of, in order along its lesser dart.
+    pub fn path(&self, edge: u16) -> &[u32]
+        requires { edge < length self.now.edges }
+        ensures path { IsEdgePath self.now edge result.now }
+    {
+        &self.paths[usize::from(edge)]
     }
 }

@@ -5,7 +5,7 @@ ghost use Rattle.ortho_rep.specs.Representation.{IsShape};
 ghost use Rattle.dissect.specs.Boxed.{IsBoxed};
 
 use crate::boxes::Boxes;
-use crate::parts::{lesser_darts_of, outer_dart};
+use crate::parts::{lesser_darts_of, outer_dart, paths_of};
 use bending::bend;
 use enclosing::enclose;
 use faces::Plane;
@@ -32,5 +32,6 @@ pub fn dissect(alloc: Global, plane: &Plane, shape: &Shape) -> Result<Boxes, All
     let mut table = bend(alloc, plane, shape, &directions)?;
     enclose(alloc, &mut table, u32::from(outer_dart(plane)))?;
     let old = plane.graph().vertices();
-    Ok(Boxes::of(table, old, edges))
+    let paths = paths_of(alloc, &table, &edges)?;
+    Ok(Boxes::of(table, old, edges, paths))
 }

@@ -89,9 +89,10 @@ pub frame_paths : (w new : Web) (n : ℕ) (mate : ℕ → ℕ) (quarters : ℕ �
 frame_paths w new n mate quarters linked framed = beside_paths w new n mate quarters (framed_beside w new linked framed)
 
 -- and so do the join and the cuts after it
-pub enclosed_paths : (w new : Web) (n : ℕ) (mate : ℕ → ℕ) (quarters : ℕ → List ℕ) → IsLinked w → AreQuarters w → IsEnclosed w new →
+pub enclosed_paths : (w : Web) (outside : ℕ) (new : Web) (n : ℕ) (mate : ℕ → ℕ) (quarters : ℕ → List ℕ) → IsLinked w → AreQuarters w →
+    IsEnclosed w outside new →
     HasPaths w n mate quarters → HasPaths new n mate quarters
-enclosed_paths w new n mate quarters linked four e has =
+enclosed_paths w outside new n mate quarters linked four e has =
     let linked_framed = framed_linked w e.framed linked e.frame in
     let four_framed : AreQuarters e.framed = framed_quarters w e.framed four e.frame in
     let linked_joined = cut_linked e.framed e.right (w.darts + e.side) e.way e.joined linked_framed e.join in
@@ -202,8 +203,8 @@ join_joined w framed right side way new linked joined f right_in side_in cut s n
     ]) b l_b
 
 -- a joined web stays joined in its rectangle
-pub enclosed_joined : (w new : Web) → IsLinked w → IsJoined w → IsEnclosed w new → IsJoined new
-enclosed_joined w new linked joined e =
+pub enclosed_joined : (w : Web) (outside : ℕ) (new : Web) → IsLinked w → IsJoined w → IsEnclosed w outside new → IsJoined new
+enclosed_joined w outside new linked joined e =
     let linked_framed = framed_linked w e.framed linked e.frame in
     let linked_joined = cut_linked e.framed e.right (w.darts + e.side) e.way e.joined linked_framed e.join in
     extended_joined e.joined new (grows_extended e.joined new linked_joined e.grows)

@@ -2,7 +2,7 @@
 use Rattle.std.proofs.Common.{◌≡◌, ◌≢◌, ℕ, ◌+◌, ◌-◌, ◌%◌, ◌<◌, ◌≤◌, ◌==◌, if◌then◌else◌, ◌∙◌, List, [], ◌∷◌, ◌++◌, subst, sym, ap, refl, inl, inr, eqb}
 use Rattle.std.proofs.lemmas.Bool.{cases_eq, eq-eqb, ne_eqb, cond-true, cond-false}
 use Rattle.cutting.specs.Webs.{Web}
-use Rattle.cutting.specs.Faces.{last_of, Below}
+use Rattle.cutting.specs.Faces.{last_of, Below, In}
 use Rattle.cutting.specs.Paths.{Follows, IsPath, HasPath, turn_to, bends}
 
 -- a turn in front of others, where it is one
@@ -55,9 +55,15 @@ pub record IsLonger (w new : Web) (a : ℕ) (rest turns : List ℕ) : Type 0 whe
   pub follows : Follows new a list
   pub last : last_of a list ≡ last_of a rest
   pub turning : bends new a list ≡ turns
+  pub holds : (b : ℕ) → In b rest → In b list
+
+-- what the longer list holds, behind the same dart
+pub holds_behind : (c b : ℕ) (bs list : List ℕ) → ((x : ℕ) → In x bs → In x list) → In c (b ∷ bs) → In c (b ∷ list)
+holds_behind c b bs list holds (inl at) = inl at
+holds_behind c b bs list holds (inr there) = inr (holds c there)
 
 pub longer_end : (w new : Web) (a : ℕ) → IsLonger w new a [] []
-longer_end w new a = record { list = []; inside = tt; follows = tt; last = refl; turning = refl }
+longer_end w new a = record { list = []; inside = tt; follows = tt; last = refl; turning = refl; holds = λ _ none. none }
 
 pub longer_kept : (w new : Web) (a b : ℕ) (bs turns : List ℕ) → KeepsHeads w new → a < w.darts → Follows w a (b ∷ bs) →
     IsKept w new b → IsLonger w new b bs turns → IsLonger w new a (b ∷ bs) (turn_then (turn_to w a b) turns)
@@ -70,6 +76,7 @@ longer_kept w new a b bs turns keeps a_in follows kept longer =
       last = longer.last;
       turning = ap (λ (k : ℕ). turn_then k (bends new b longer.list)) same_turn
           ∙ ap (λ (ts : List ℕ). turn_then (turn_to w a b) ts) longer.turning;
+      holds = λ c here. holds_behind c b bs longer.list longer.holds here;
     }
   where
     same : {d1 d2 e1 e2 : ℕ} → d1 ≡ d2 → e1 ≡ e2 → (e1 + 6 - d1) % 4 ≡ (e2 + 6 - d2) % 4
@@ -92,13 +99,14 @@ longer_doubled w new a b front turn bs turns keeps a_in follows doubled longer =
       turning = ap (λ (k : ℕ). turn_then k (turn_then (turn_to new front b) (bends new b longer.list))) same_turn
           ∙ ap (λ (k : ℕ). turn_then (turn_to w a b) (turn_then k (bends new b longer.list))) doubled.turns
           ∙ ap (λ (ts : List ℕ). turn_then (turn_to w a b) (turn_then turn ts)) longer.turning;
+      holds = λ c here. inr (holds_behind c b bs longer.list longer.holds here);
     }
   where
     same : {d1 d2 e1 e2 : ℕ} → d1 ≡ d2 → e1 ≡ e2 → (e1 + 6 - d1) % 4 ≡ (e2 + 6 - d2) % 4
     same p q = cc
 
 -- a whole path, by its first dart
-pub path_kept : (w new : Web) (end mate first : ℕ) (rest turns : List ℕ) → IsPath w end first rest → w.twin first ≡ mate →
+abbrev pub path_kept : (w new : Web) (end mate first : ℕ) (rest turns : List ℕ) → IsPath w end first rest → w.twin first ≡ mate →
     IsKept w new first → IsLonger w new first rest turns → HasPath new end mate turns
 path_kept w new end mate first rest turns path back kept longer = record {
   first = first;
@@ -114,7 +122,7 @@ path_kept w new end mate first rest turns path back kept longer = record {
   turns = longer.turning;
 }
 
-pub path_doubled : (w new : Web) (end mate first front turn : ℕ) (rest turns : List ℕ) → IsPath w end first rest →
+abbrev pub path_doubled : (w new : Web) (end mate first front turn : ℕ) (rest turns : List ℕ) → IsPath w end first rest →
     w.twin first ≡ mate → IsDoubled w new first front turn → IsLonger w new first rest turns →
     HasPath new end mate (turn_then turn turns)
 path_doubled w new end mate first front turn rest turns path back doubled longer = record {

@@ -6,3 +6,6 @@ pub mod Cuts
 pub mod Framing
 pub mod Plain
 pub mod Backwards
+pub mod Rows
+pub mod Apart
+pub mod Sides

@@ -41,7 +41,8 @@ pub fn cuts_keep_paths()
 
 /// A rectangle round the web, its join and the cuts after it keep the turns of each edge.
 pub fn rectangles_keep_paths()
-    ensures { (w new : Web) (n : ℕ) (mate : ℕ → ℕ) (quarters : ℕ → List ℕ) → IsSound w → IsEnclosed w new
+    ensures { (w : Web) (outside : ℕ) (new : Web) (n : ℕ) (mate : ℕ → ℕ) (quarters : ℕ → List ℕ) → IsSound w
+        → IsEnclosed w outside new
         → HasPaths w n mate quarters → HasPaths new n mate quarters }
 {}
 
@@ -58,7 +59,7 @@ pub fn cuts_stay_joined()
 
 /// A joined web in its rectangle is joined.
 pub fn rectangles_are_joined()
-    ensures { (w new : Web) → IsSound w → IsEnclosed w new → IsJoined w → IsJoined new }
+    ensures { (w : Web) (outside : ℕ) (new : Web) → IsSound w → IsEnclosed w outside new → IsJoined w → IsJoined new }
 {}
 
 /// There is one path to a dart, no dart is on it twice, and it has no more darts than the web.

@@ -6,7 +6,7 @@ use Rattle.sums.specs.Sums.{sum_below}
 use Rattle.sums.proofs.Sums.{sum_below-le}
 use Rattle.cutting.specs.Webs.{Web, IsLinked, IsSound, IsCut, Grows, excess}
 use Rattle.cutting.specs.Frames.{IsFramed, IsEnclosed}
-use Rattle.cutting.specs.Labels.{HasTurns}
+use Rattle.cutting.specs.Labels.{AreLabels, HasTurns}
 use Rattle.cutting.specs.Scan.{CanCut, HasRoom}
 use Rattle.cutting.specs.Turning.{total}
 use Rattle.cutting.specs.Faces.{Runs, IsFour, In, Distinct, Below, joined, AreWaiting, ReachesCorners, cut_up}
@@ -180,13 +180,15 @@ join_room w framed right side way room new j space =
 
 pub join_ready : (w framed : Web) (right side way : ℕ) (new : Web) → IsSound w → IsJoining w framed right side way new →
     (inner : List (List ℕ)) (outer corners counts : List ℕ) → (listed : AreListed w right inner outer) →
-    AreJoined w right side listed.front inner corners counts → AreReady new (w.darts + 4) corners counts
-join_ready w framed right side way new sound j inner outer corners counts listed made =
-    flat_ready new (w.darts + 4) corners counts (inner ++ ((made.kept ++ detour w.darts side) ∷ [])) made.flat
-    (join_waits w framed right side way new j inner outer made.kept listed (sound.meeting.most right j.right_in) made.is_kept)
+    AreJoined w right side listed.front inner corners counts → (k : ℕ) → k < 4 → AreReady new (w.darts + 4 + k) corners counts
+join_ready w framed right side way new sound j inner outer corners counts listed made k k_in =
+    flat_ready new (w.darts + 4 + k) corners counts (inner ++ ((made.kept ++ detour w.darts side) ∷ [])) made.flat
+    (join_waits w framed right side way new j k k_in inner outer made.kept listed (sound.meeting.most right j.right_in) made.is_kept)
 
-pub enclosed_by : (w framed : Web) (right side way : ℕ) (new last : Web) → IsJoining w framed right side way new → Grows new last → IsEnclosed w last
-enclosed_by w framed right side way new last j grows = record {
+pub enclosed_by : (w : Web) (outside : ℕ) (framed : Web) (right side way : ℕ) (new last : Web) →
+    ((label : ℕ → ℕ) → AreLabels w label → label right ≡ label outside) → IsJoining w framed right side way new → Grows new last →
+    IsEnclosed w outside last
+enclosed_by w outside framed right side way new last same_face j grows = record {
   framed = framed;
   frame = j.frame;
   joined = new;
@@ -194,6 +196,7 @@ enclosed_by w framed right side way new last j grows = record {
   side = side;
   way = way;
   right_in = j.right_in;
+  same_face = same_face;
   side_in = j.side_in;
   join = j.join;
   grows = grows;

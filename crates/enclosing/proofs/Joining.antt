@@ -1,5 +1,6 @@
 -- The drawing joined with its rectangle: what becomes of the faces.
 use Rattle.std.proofs.Common.{◌≡◌, ◌≢◌, ℕ, zero, suc, ◌+◌, ◌%◌, ◌<◌, ◌∙◌, List, [], ◌∷◌, map, arith, subst, sym, ap, refl, inl, inr}
+use Rattle.std.proofs.lemmas.Bool.{cases_eq}
 use Rattle.cutting.specs.Webs.{Web, IsLinked, IsCut}
 use Rattle.cutting.specs.Frames.{IsFramed}
 use Rattle.cutting.specs.Turning.{total}
@@ -142,9 +143,24 @@ outside_run w framed right side way new j k m l e =
     (inside_run w framed right side way new j (4 + k) (4 + m) (omega arith) (omega (arith, e)) (ap framed.next a ∙ j.frame.next_outer k l ∙ c)
     (λ h. omega (arith, h, m_angle)) (λ h. omega (arith, h, k_angle)) (λ h. omega (arith, h))))
 
-pub outside_four : (w framed : Web) (right side way : ℕ) (new : Web) → IsJoining w framed right side way new → (k : ℕ) → k < 4 →
-    IsOutside new (w.darts + 4) (w.darts + 4 + k)
-outside_four w framed right side way new j k l = record {
+round_holds : (n o k : ℕ) → o < 4 → k < 4 →
+    In (n + 4 + o) ((n + 4 + k) ∷ (n + 4 + (k + 3) % 4) ∷ (n + 4 + (k + 2) % 4) ∷ (n + 4 + (k + 1) % 4) ∷ [])
+round_holds n o k o_in l =
+    elim (cases_eq o k) [
+      | inl e ↦ inl (omega (arith, e))
+      | inr n0 ↦ elim (cases_eq o ((k + 3) % 4)) [
+        | inl e ↦ inr (inl (omega (arith, e)))
+        | inr n1 ↦ elim (cases_eq o ((k + 2) % 4)) [
+          | inl e ↦ inr (inr (inl (omega (arith, e))))
+          | inr n2 ↦ inr (inr (inr (inl (omega (arith, n0, n1, n2, o_in, l)))))
+        ]
+      ]
+    ]
+
+-- each of its corners with each other
+pub outside_four : (w framed : Web) (right side way : ℕ) (new : Web) → IsJoining w framed right side way new → (o : ℕ) → o < 4 →
+    (k : ℕ) → k < 4 → IsOutside new (w.darts + 4 + o) (w.darts + 4 + k)
+outside_four w framed right side way new j o o_in k l = record {
   four = record {
     second = w.darts + 4 + (k + 3) % 4;
     third = w.darts + 4 + (k + 2) % 4;
@@ -158,8 +174,7 @@ outside_four w framed right side way new j k l = record {
     angle_third = outer_angle w framed right side way new j ((k + 2) % 4) (omega arith);
     angle_fourth = outer_angle w framed right side way new j ((k + 1) % 4) (omega arith);
   };
-  holds = by_four (λ k. In (w.darts + 4) ((w.darts + 4 + k) ∷ (w.darts + 4 + (k + 3) % 4) ∷ (w.darts + 4 + (k + 2) % 4) ∷ (w.darts + 4 + (k + 1) % 4) ∷ []))
-      (inl (omega arith)) (inr (inl (omega arith))) (inr (inr (inl (omega arith)))) (inr (inr (inr (inl (omega arith))))) k l;
+  holds = round_holds w.darts o k o_in l;
 }
 
 -- a face that the cut does not touch

@@ -241,15 +241,15 @@ below_all n [] all = tt
 below_all n (x ∷ xs) all = (all x (inl refl), below_all n xs (λ a h. all a (inr h)))
 
 -- after the join, each corner is of a face that waits, or on the outside of the rectangle
-pub join_settles : (w framed : Web) (right side way : ℕ) (new : Web) → IsJoining w framed right side way new →
+pub join_settles : (w framed : Web) (right side way : ℕ) (new : Web) → IsJoining w framed right side way new → (o : ℕ) → o < 4 →
     (inner : List (List ℕ)) (outer front kept : List ℕ) → outer ≡ front ++ (right ∷ []) →
     ((a : ℕ) → a < w.darts → IsCorner w a → In a (joined inner ++ outer)) → IsKept w right front kept →
     (a : ℕ) → a < w.darts + 12 → IsCorner new a →
-    In a (joined inner ++ (kept ++ detour w.darts side)) ⊎ (IsFour new 1 a ⊎ IsOutside new (w.darts + 4) a)
-join_settles w framed right side way new j inner outer front kept ends all is a l corner =
+    In a (joined inner ++ (kept ++ detour w.darts side)) ⊎ (IsFour new 1 a ⊎ IsOutside new (w.darts + 4 + o) a)
+join_settles w framed right side way new j o o_in inner outer front kept ends all is a l corner =
     let n : ℕ = w.darts in
     let Settled : ℕ → Type 0 = λ a. IsCorner new a →
-    In a (joined inner ++ (kept ++ detour n side)) ⊎ (IsFour new 1 a ⊎ IsOutside new (n + 4) a) in
+    In a (joined inner ++ (kept ++ detour n side)) ⊎ (IsFour new 1 a ⊎ IsOutside new (n + 4 + o) a) in
     let in_kept : (a : ℕ) → In a kept → In a (joined inner ++ (kept ++ detour n side)) =
     λ a h. in_right a (joined inner) (kept ++ detour n side) (in_left a kept (detour n side) h) in
     let in_detour : (a : ℕ) → In a (detour n side) → In a (joined inner ++ (kept ++ detour n side)) =
@@ -272,7 +272,7 @@ join_settles w framed right side way new j inner outer front kept ends all is a 
     let framed_part : (a : ℕ) → a < n + 8 → Settled a =
     by_side n Settled old
     (λ k l corner. inl (in_detour (n + k) (detour_inner n side k j.side_in l)))
-    (λ k l corner. inr (inr (outside_four w framed right side way new j k l))) in
+    (λ k l corner. inr (inr (outside_four w framed right side way new j o o_in k l))) in
     elim (cases_lt a (n + 8)) [
       | inl less ↦ framed_part a less corner
       | inr more ↦ elim (cases_eq a (n + 8)) [
@@ -298,10 +298,11 @@ front_ring w framed right side way new j (b ∷ bs) kept ring below out most bac
     joined_ring w framed right side way new j b bs (outer_round w framed right side way new j b bs ring below out) kept straight turning
 
 -- all faces wait to be cut
-pub join_waits : (w framed : Web) (right side way : ℕ) (new : Web) → IsJoining w framed right side way new → (inner : List (List ℕ))
+pub join_waits : (w framed : Web) (right side way : ℕ) (new : Web) → IsJoining w framed right side way new → (o : ℕ) → o < 4 →
+    (inner : List (List ℕ))
     (outer kept : List ℕ) → (listed : AreListed w right inner outer) → w.angle right ≤ 4 → IsKept w right listed.front kept →
-    AreWaiting new (w.darts + 4) (inner ++ ((kept ++ detour w.darts side) ∷ []))
-join_waits w framed right side way new j inner outer kept listed most is =
+    AreWaiting new (w.darts + 4 + o) (inner ++ ((kept ++ detour w.darts side) ∷ []))
+join_waits w framed right side way new j o o_in inner outer kept listed most is =
     let n : ℕ = w.darts in
     let front : List ℕ = listed.front in
     let big : List ℕ = kept ++ detour n side in
@@ -324,7 +325,6 @@ join_waits w framed right side way new j inner outer kept listed most is =
     let back : total (map w.angle (front ++ (right ∷ []))) ≡ 2 * length (front ++ (right ∷ [])) + 4 =
     subst (λ (xs : List ℕ). total (map w.angle xs) ≡ 2 * length xs + 4) listed.ends listed.turns_back in
     let inner_below : Below n (joined inner) = below_left n (joined inner) (front ++ (right ∷ [])) all_below in
-    let zero_place : n + 4 + 0 ≡ n + 4 = omega arith in
     record {
       rings = rings_more new inner big
           (other_rings w framed right side way new j inner inner_below out_inner listed.rings)
@@ -343,8 +343,8 @@ join_waits w framed right side way new j inner outer kept listed most is =
           (below_append new.darts kept (detour n side) (below_more n new.darts kept (omega (arith, count)) kept_below)
           (below_more (n + 12) new.darts (detour n side) (omega (arith, count)) (detour_below n side j.side_in))));
       inside = omega (arith, count);
-      outside = subst (λ (z : ℕ). IsFour new 3 z) zero_place (outside_four w framed right side way new j 0 (omega arith)).four;
+      outside = (outside_four w framed right side way new j o o_in o o_in).four;
       settled = λ a l corner.
-          subst (λ (xs : List ℕ). In a xs ⊎ (IsFour new 1 a ⊎ IsOutside new (n + 4) a)) (sym (joined_more inner big))
-          (join_settles w framed right side way new j inner outer front kept listed.ends listed.all is a (omega (arith, count, l)) corner);
+          subst (λ (xs : List ℕ). In a xs ⊎ (IsFour new 1 a ⊎ IsOutside new (n + 4 + o) a)) (sym (joined_more inner big))
+          (join_settles w framed right side way new j o o_in inner outer front kept listed.ends listed.all is a (omega (arith, count, l)) corner);
     }

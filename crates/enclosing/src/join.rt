@@ -35,8 +35,8 @@ pub fn enclose(alloc: Global, table: &mut DartTable, outside: u32) -> Result<(),
     requires inside { outside < table.old.darts }
     requires space { table.old.darts + 4 * excess (web_of table.old) + 24 ≤ room table.old }
     ensures sound { OnOk result (IsSound (web_of table.new)) }
-    ensures enclosed { OnOk result (IsEnclosed (web_of table.old) (web_of table.new)) }
-    ensures done { OnOk result (AreWaiting (web_of table.new) (table.old.darts + 4) []) }
+    ensures enclosed { OnOk result (IsEnclosed (web_of table.old) outside (web_of table.new)) }
+    ensures done { OnOk result ((k : ℕ) → k < 4 → AreWaiting (web_of table.new) (table.old.darts + 4 + k) []) }
     ensures reaches { OnOk result (ReachesCorners (web_of table.new)) }
     ensures few { OnOk result (table.new.vertices ≤ table.old.vertices + excess (web_of table.old) + 4) }
     ensures unchanged { OnErr result (web_of table.new ≡ web_of table.old) }

@@ -80,13 +80,14 @@ fn reverse_heading(heading: u8, turns: &[Turn]) -> u8
 pub fn headings(alloc: Global, plane: &Plane, shape: &Shape) -> Result<Vec<u8>, AllocError>
     requires { IsShape plane.now shape.now }
     ensures count { IfOk result (λ h. length h.items ≡ darts plane.now) }
+    ensures first { IfOk result (λ h. slice_index h.items 0 ≡ 0) }
     ensures headings { IfOk result (λ h. AreHeadings plane.now (angle_at shape.now)
         (turns_at shape.now) (slice_index h.items)) }
 {
     let graph = plane.graph();
     let mut search = Search {
         headings: vec![in alloc; UNSET; usize::from(graph.darts())]?,
-        waiting: Vec::new(alloc),
+        waiting: Vec::with_capacity(alloc, usize::from(graph.darts()))?,
     };
     search.reach(0, 0)?;
     while let Some(dart) = search.waiting.pop() {

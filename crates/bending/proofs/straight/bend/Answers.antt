@@ -5,6 +5,7 @@ use Rattle.bending.proofs.Counting.{bends_twice}
 use Rattle.bending.proofs.Starting.{linked, meeting}
 use Rattle.bending.proofs.Ending.{all_bends}
 use Rattle.bending.proofs.Pathing.{bends_have_paths, bends_are_joined}
+use Rattle.bending.proofs.Rowing.{bends_have_rows}
 use Rattle.bending.proofs.straight.bend.Goals as goal
 
 pub bend_edges-requires-clause-linked : goal.bend_edges-requires-clause-linked
@@ -50,6 +51,11 @@ returns c =
       paths = bends_have_paths p a (slice_index c.args.directions.now) s (web_of c.in_ok-table.table)
           (web_of c.bend_edges.new.table) c.graph-graph.ensures.plane c.requires.shape.rep.strings c.in_ok-table.ensures.bare plain
           (omega arith) c.bend_edges.ensures.bent;
+      rows = bends_have_rows p a (slice_index c.args.directions.now) s (web_of c.in_ok-table.table)
+          (web_of c.bend_edges.new.table) c.in_ok-table.ensures.bare plain
+          (meeting p a s (slice_index c.args.directions.now) (web_of c.in_ok-table.table) c.graph-graph.ensures.plane
+          c.graph-graph.ensures.ends c.requires.shape.rep c.requires.headings c.in_ok-table.ensures.bare)
+          c.bend_edges.ensures.bent;
       joined = bends_are_joined p a (slice_index c.args.directions.now) s (web_of c.in_ok-table.table)
           (web_of c.bend_edges.new.table) c.graph-graph.ensures.plane c.in_ok-table.ensures.bare plain c.bend_edges.ensures.bent;
       space = omega (

@@ -1,7 +1,7 @@
 use Rattle.std.proofs.Common.{◌∙◌, ◌≡◌, ℕ, List, length, arith, subst, sym}
 use Rattle.std.proofs.lemmas.List.{take_at}
 use Rattle.dissect.specs.Boxes.{web}
-use Rattle.compact.specs.Steps.{step, AreSteps, AreUnder}
+use Rattle.compact.specs.Steps.{step, AreUnder}
 use Rattle.compact.proofs.Stepping.{all_at, grow_ahead, grow_across, zeros_under}
 use Rattle.compact.proofs.axis.low_along.Goals as goal
 
@@ -9,8 +9,8 @@ pub returns-clause-under : goal.returns-clause-under
 returns-clause-under c = λ y along.
     let w = web c.args.boxes.now in
     let n = c.args.boxes.now.vertices in
-    let around = c.deref.result.now in
-    let are = subst (λ (l : List ℕ). AreSteps w l n) (sym c.deref.ensures.value) c.in_ok-around.ensures.steps in
+    let around = c.args.around.now in
+    let are = c.requires.steps in
     let size : length c.deref_mut.result.now ≡ n = omega (arith, c.deref_mut.ensures.len, c.in_ok-numbers.ensures.len, c.vertices.ensures.value) in
     let blank = c.deref_mut.ensures.value ∙ c.in_ok-numbers.ensures.items_if_clones_equal (λ y h. h) in
     subst (λ (xs : List ℕ). AreUnder n xs y)

@@ -5,7 +5,8 @@ use Rattle.ortho_rep.specs.declared.points.Point.{Point}
 use Rattle.cutting.specs.Paths.{turn_to}
 use Rattle.dissect.specs.Boxes.{web}
 use Rattle.compact.specs.Ordered.{point_at}
-use Rattle.compact.proofs.Walking.{IsWalking, walk_starts, walk_more, walk_ends, path_last_in, met_turn, met_straight, map-reverse}
+use Rattle.compact.proofs.Walking.{IsWalking, walk_starts, walk_more, walk_ends, met_turn, met_straight, map-reverse}
+use Rattle.dissect.proofs.Walking.{path_last_in}
 use Rattle.compact.proofs.corners.corners_along.Goals as goal
 
 pub turn_count-requires : goal.turn_count-requires

@@ -1,7 +1,8 @@
 use Rattle.std.proofs.Common.{◌≡◌, ◌<◌, ℕ, List, map, slice_index}
 use Rattle.dissect.specs.Boxes.{web}
 use Rattle.compact.specs.Ordered.{point_at}
-use Rattle.compact.proofs.Walking.{IsWalking, depth}
+use Rattle.dissect.proofs.Walking.{depth}
+use Rattle.compact.proofs.Walking.{IsWalking}
 use Rattle.compact.proofs.corners.corners_along.Given as goal
 
 abbrev pub invariant-back : goal.invariant-back

@@ -6,22 +6,22 @@ use Rattle.compact.proofs.place.corner_lists.Goals as goal
 
 pub corners_along-requires-clause-path : goal.corners_along-requires-clause-path
 corners_along-requires-clause-path c =
-    let e = c.loop-last.last-index in
-    let edge = c.edges-last-items.ensures.boxes.edges e (omega (arith, c.loop-last-test.true, ap length c.edges-last-items.ensures.value)) in
-    (edge.first, edge.rest, subst (λ (es : List ℕ). IsPath (web c.args.boxes.now) (get_or es e 0) edge.first edge.rest) (sym c.edges-last-items.ensures.value) edge.path)
+    let e = c.loop-edge.edge in
+    let edge = c.lesser_dart.ensures.boxes.edges e (omega (arith, c.loop-edge-test.true, c.edges-edge-end.ensures.value)) in
+    (edge.first, edge.rest, subst (λ (d : ℕ). IsPath (web c.args.boxes.now) d edge.first edge.rest) (sym c.lesser_dart.ensures.value) edge.path)
 
-pub loop-last-preserved : goal.loop-last-preserved
-loop-last-preserved c =
-    let e = c.loop-last.last-index in
+pub loop-edge-preserved : goal.loop-edge-preserved
+loop-edge-preserved c =
+    let e = c.loop-edge.edge in
     let x : ℕ → ℕ = λ v. slice_index c.args.x.now v in
     let y : ℕ → ℕ = λ v. slice_index c.args.y.now v in
     record {
-      count = ap length c.in_ok-push.ensures.items ∙ length-append c.loop-last.lists.items (c.in_ok-corners_along.field-0 ∷ []) ∙ omega (arith, c.loop-last.invariant.count);
-      corners = corners_more c.args.boxes.now x y e c.loop-last.lists.items c.push.new.self.items c.in_ok-corners_along.field-0 c.loop-last.invariant.count c.in_ok-push.ensures.items c.loop-last.invariant.corners
+      count = ap length c.in_ok-push.ensures.items ∙ length-append c.loop-edge.lists.items (c.in_ok-corners_along.field-0 ∷ []) ∙ omega (arith, c.loop-edge.invariant.count);
+      corners = corners_more c.args.boxes.now x y e c.loop-edge.lists.items c.push.new.self.items c.in_ok-corners_along.field-0 c.loop-edge.invariant.count c.in_ok-push.ensures.items c.loop-edge.invariant.corners
           (λ edge. c.in_ok-corners_along.ensures edge.first edge.rest
-          (subst (λ (es : List ℕ). IsPath (web c.args.boxes.now) (get_or es e 0) edge.first edge.rest) (sym c.edges-last-items.ensures.value) edge.path));
+          (subst (λ (d : ℕ). IsPath (web c.args.boxes.now) d edge.first edge.rest) (sym c.lesser_dart.ensures.value) edge.path));
     }
 
 pub returns-clause-corners : goal.returns-clause-corners
 returns-clause-corners c = λ e e_in edge.
-    c.loop-last.invariant.corners e (omega (arith, e_in, c.loop-last-test.false, ap length c.edges-last-items.ensures.value)) edge
+    c.loop-edge.invariant.corners e (omega (arith, e_in, c.loop-edge-test.false, c.edges-edge-end.ensures.value)) edge

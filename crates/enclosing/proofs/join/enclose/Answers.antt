@@ -1,5 +1,6 @@
-use Rattle.std.proofs.Common.{◌≡◌, ◌+◌, ℕ, List, arith, sym, subst}
+use Rattle.std.proofs.Common.{◌≡◌, ◌+◌, ℕ, List, [], arith, sym, subst}
 use Rattle.cutting.specs.Tables.{web_of, room}
+use Rattle.cutting.specs.Faces.{AreWaiting}
 use Rattle.enclosing.proofs.Sounding.{frame_sound}
 use Rattle.enclosing.proofs.Enclosing.{AreReady, facing_can, joining_of, join_sound, join_room, join_ready, enclosed_by, enclosed_reaches, enclosed_few}
 use Rattle.enclosing.proofs.join.enclose.Goals as goal
@@ -39,8 +40,8 @@ cut_faces-requires-clause-waiting c =
     let made = c.in_ok-add_joined_face.ensures.joined listed.0 listed.2 listed.1 in
     let flat = join_ready (web_of c.args.table.now) (web_of c.frame.new.table) c.find_right-right.result c.facing_side-side.result
     c.cut_across.ensures.cut.0 (web_of c.cut_across.new.table) c.requires.sound j listed.0 c.in_ok-faces.faces.outer.items
-    c.add_joined_face.new.faces.corners.items c.add_joined_face.new.faces.counts.items listed.2 made in
-    let o : ℕ = c.args.table.now.darts + 4 in
+    c.add_joined_face.new.faces.corners.items c.add_joined_face.new.faces.counts.items listed.2 made 0 (omega arith) in
+    let o : ℕ = c.args.table.now.darts + 4 + 0 in
     let ready : AreReady (web_of c.cut_across.new.table) o c.as_mut_slice.result.now c.as_slice.result.now =
     subst (λ (xs : List ℕ). AreReady (web_of c.cut_across.new.table) o xs c.as_slice.result.now) (sym c.as_mut_slice.ensures.value)
     (subst (λ (ns : List ℕ). AreReady (web_of c.cut_across.new.table) o c.add_joined_face.new.faces.corners.items ns)
@@ -56,8 +57,8 @@ cut_faces-requires-clause-all c =
     let made = c.in_ok-add_joined_face.ensures.joined listed.0 listed.2 listed.1 in
     let flat = join_ready (web_of c.args.table.now) (web_of c.frame.new.table) c.find_right-right.result c.facing_side-side.result
     c.cut_across.ensures.cut.0 (web_of c.cut_across.new.table) c.requires.sound j listed.0 c.in_ok-faces.faces.outer.items
-    c.add_joined_face.new.faces.corners.items c.add_joined_face.new.faces.counts.items listed.2 made in
-    let o : ℕ = c.args.table.now.darts + 4 in
+    c.add_joined_face.new.faces.corners.items c.add_joined_face.new.faces.counts.items listed.2 made 0 (omega arith) in
+    let o : ℕ = c.args.table.now.darts + 4 + 0 in
     let ready : AreReady (web_of c.cut_across.new.table) o c.as_mut_slice.result.now c.as_slice.result.now =
     subst (λ (xs : List ℕ). AreReady (web_of c.cut_across.new.table) o xs c.as_slice.result.now) (sym c.as_mut_slice.ensures.value)
     (subst (λ (ns : List ℕ). AreReady (web_of c.cut_across.new.table) o c.add_joined_face.new.faces.corners.items ns)
@@ -73,8 +74,8 @@ cut_faces-requires-clause-few c =
     let made = c.in_ok-add_joined_face.ensures.joined listed.0 listed.2 listed.1 in
     let flat = join_ready (web_of c.args.table.now) (web_of c.frame.new.table) c.find_right-right.result c.facing_side-side.result
     c.cut_across.ensures.cut.0 (web_of c.cut_across.new.table) c.requires.sound j listed.0 c.in_ok-faces.faces.outer.items
-    c.add_joined_face.new.faces.corners.items c.add_joined_face.new.faces.counts.items listed.2 made in
-    let o : ℕ = c.args.table.now.darts + 4 in
+    c.add_joined_face.new.faces.corners.items c.add_joined_face.new.faces.counts.items listed.2 made 0 (omega arith) in
+    let o : ℕ = c.args.table.now.darts + 4 + 0 in
     let ready : AreReady (web_of c.cut_across.new.table) o c.as_mut_slice.result.now c.as_slice.result.now =
     subst (λ (xs : List ℕ). AreReady (web_of c.cut_across.new.table) o xs c.as_slice.result.now) (sym c.as_mut_slice.ensures.value)
     (subst (λ (ns : List ℕ). AreReady (web_of c.cut_across.new.table) o c.add_joined_face.new.faces.corners.items ns)
@@ -86,11 +87,11 @@ returns-clause-enclosed c =
     let j = joining_of (web_of c.args.table.now) (web_of c.frame.new.table) c.find_right-right.result c.facing_side-side.result
     c.cut_across.ensures.cut.0 (web_of c.cut_across.new.table) c.requires.sound c.frame.ensures.framed c.find_right-right.ensures.inside
     c.facing_side-side.ensures.side c.cut_across.ensures.cut.1 in
-    enclosed_by (web_of c.args.table.now) (web_of c.frame.new.table) c.find_right-right.result c.facing_side-side.result
-    c.cut_across.ensures.cut.0 (web_of c.cut_across.new.table) (web_of c.cut_faces.new.table) j c.cut_faces.ensures.grows
+    enclosed_by (web_of c.args.table.now) c.args.outside (web_of c.frame.new.table) c.find_right-right.result c.facing_side-side.result
+    c.cut_across.ensures.cut.0 (web_of c.cut_across.new.table) (web_of c.cut_faces.new.table) c.find_right-right.ensures.same j c.cut_faces.ensures.grows
 
 pub returns-clause-done : goal.returns-clause-done
-returns-clause-done c =
+returns-clause-done c k k_in =
     let j = joining_of (web_of c.args.table.now) (web_of c.frame.new.table) c.find_right-right.result c.facing_side-side.result
     c.cut_across.ensures.cut.0 (web_of c.cut_across.new.table) c.requires.sound c.frame.ensures.framed c.find_right-right.ensures.inside
     c.facing_side-side.ensures.side c.cut_across.ensures.cut.1 in
@@ -98,8 +99,8 @@ returns-clause-done c =
     let made = c.in_ok-add_joined_face.ensures.joined listed.0 listed.2 listed.1 in
     let flat = join_ready (web_of c.args.table.now) (web_of c.frame.new.table) c.find_right-right.result c.facing_side-side.result
     c.cut_across.ensures.cut.0 (web_of c.cut_across.new.table) c.requires.sound j listed.0 c.in_ok-faces.faces.outer.items
-    c.add_joined_face.new.faces.corners.items c.add_joined_face.new.faces.counts.items listed.2 made in
-    let o : ℕ = c.args.table.now.darts + 4 in
+    c.add_joined_face.new.faces.corners.items c.add_joined_face.new.faces.counts.items listed.2 made k k_in in
+    let o : ℕ = c.args.table.now.darts + 4 + k in
     let ready : AreReady (web_of c.cut_across.new.table) o c.as_mut_slice.result.now c.as_slice.result.now =
     subst (λ (xs : List ℕ). AreReady (web_of c.cut_across.new.table) o xs c.as_slice.result.now) (sym c.as_mut_slice.ensures.value)
     (subst (λ (ns : List ℕ). AreReady (web_of c.cut_across.new.table) o c.add_joined_face.new.faces.corners.items ns)
@@ -124,12 +125,13 @@ returns-clause-few c =
     let made = c.in_ok-add_joined_face.ensures.joined listed.0 listed.2 listed.1 in
     let flat = join_ready (web_of c.args.table.now) (web_of c.frame.new.table) c.find_right-right.result c.facing_side-side.result
     c.cut_across.ensures.cut.0 (web_of c.cut_across.new.table) c.requires.sound j listed.0 c.in_ok-faces.faces.outer.items
-    c.add_joined_face.new.faces.corners.items c.add_joined_face.new.faces.counts.items listed.2 made in
-    let o : ℕ = c.args.table.now.darts + 4 in
+    c.add_joined_face.new.faces.corners.items c.add_joined_face.new.faces.counts.items listed.2 made 0 (omega arith) in
+    let o : ℕ = c.args.table.now.darts + 4 + 0 in
     let ready : AreReady (web_of c.cut_across.new.table) o c.as_mut_slice.result.now c.as_slice.result.now =
     subst (λ (xs : List ℕ). AreReady (web_of c.cut_across.new.table) o xs c.as_slice.result.now) (sym c.as_mut_slice.ensures.value)
     (subst (λ (ns : List ℕ). AreReady (web_of c.cut_across.new.table) o c.add_joined_face.new.faces.corners.items ns)
     (sym c.as_slice.ensures.value) flat) in
     enclosed_few (web_of c.args.table.now) (web_of c.frame.new.table) c.find_right-right.result c.facing_side-side.result
     c.cut_across.ensures.cut.0 (web_of c.cut_across.new.table) (web_of c.cut_faces.new.table) c.requires.sound j
-    c.cut_faces.ensures.grows (c.cut_faces.ensures.done o ready.waiting)
+    c.cut_faces.ensures.grows
+    (subst (λ (z : ℕ). AreWaiting (web_of c.cut_faces.new.table) z []) (omega arith) (c.cut_faces.ensures.done o ready.waiting))

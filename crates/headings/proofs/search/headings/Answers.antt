@@ -2,6 +2,7 @@ use Rattle.std.proofs.Common.{◌≡◌, ℕ, ◌+◌, ◌-◌, ◌%◌, ◌<◌
 use Rattle.std.proofs.lemmas.List.{get_or-replicate, length-replicate, nil_from_length}
 use Rattle.embedding.specs.Darts.{dart_count, reverse_of}
 use Rattle.faces.specs.Map.{darts, mate, next}
+use Rattle.faces.proofs.Ends.{plane_ends}
 use Rattle.ortho_rep.specs.Shapes.{angle_at, turns_at}
 use Rattle.ortho_rep.specs.Turns.{lefts, rights}
 use Rattle.headings.specs.Headings.{AreHeadings}
@@ -18,7 +19,7 @@ loop-dart-init c =
     let blank : c.in_ok-vec.field-0.items ≡ replicate n 4 = c.in_ok-vec.ensures.items_if_clones_equal (λ y e. e) ∙ ap (λ (k : ℕ). replicate k 4) count in
     let size : length c.in_ok-vec.field-0.items ≡ n = ap (length {A = ℕ}) blank ∙ length-replicate n 4 in
     let none : (d : ℕ) → d < n → get_or c.in_ok-vec.field-0.items d 0 ≡ 4 = λ d b. ap (λ (l : List ℕ). get_or l d 0) blank ∙ get_or-replicate n d 4 0 b in
-    let step = subst (λ (l : List ℕ). IsReached c.in_ok-vec.field-0.items l 0 0 c.reach.new.self.headings.items c.reach.new.self.waiting.items) c.new.ensures.items c.in_ok-reach.ensures in
+    let step = subst (λ (l : List ℕ). IsReached c.in_ok-vec.field-0.items l 0 0 c.reach.new.self.headings.items c.reach.new.self.waiting.items) c.in_ok-with_capacity.ensures.items c.in_ok-reach.ensures in
     let first = λ (h : ℕ → ℕ) (are : AreHeadings p (angle_at c.args.shape.now) (turns_at c.args.shape.now) h).
     search_first p (angle_at c.args.shape.now) (turns_at c.args.shape.now) h c.in_ok-vec.field-0.items c.reach.new.self.headings.items c.reach.new.self.waiting.items c.graph-graph.ensures.plane are size none step in
     ((first some.0 some.1).0, λ h are. (first h are).1)
@@ -109,6 +110,12 @@ pub returns-clause-count : goal.returns-clause-count
 returns-clause-count c =
     let (h, are) = shape_headings c.args.plane.now c.args.shape.now c.graph-graph.ensures.plane c.requires in
     (c.loop-dart.invariant.1 h are).size
+
+pub returns-clause-first : goal.returns-clause-first
+returns-clause-first c =
+    let (h, are) = shape_headings c.args.plane.now c.args.shape.now c.graph-graph.ensures.plane c.requires in
+    let some = (plane_ends c.args.plane.now c.graph-graph.ensures.plane).some_darts in
+    omega (arith, (c.loop-dart.invariant.1 h are).sound 0 some c.loop-dart.invariant.0, are.quarter 0 some)
 
 pub returns-clause-headings : goal.returns-clause-headings
 returns-clause-headings c =

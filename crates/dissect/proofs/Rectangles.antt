@@ -1,0 +1,225 @@
+-- A drawing in its rectangle: the sides and the join stay straight rows of darts, whatever is cut.
+use Rattle.std.proofs.Common.{◌≡◌, ℕ, ◌+◌, ◌-◌, ◌%◌, ◌<◌, ◌≤◌, ◌⊎◌, ◌∙◌, List, [], ◌∷◌, arith, subst, sym, ap, refl, inl, inr}
+use Rattle.cutting.specs.Webs.{Web, IsLinked, IsSplit, IsCut, Grows}
+use Rattle.cutting.specs.Faces.{In, AreWaiting, IsFour, IsOutside}
+use Rattle.cutting.specs.Paths.{HasPath}
+use Rattle.cutting.specs.Frames.{IsFramed, IsEnclosed}
+use Rattle.cutting.proofs.Splitting.{split_linked}
+use Rattle.edge_paths.proofs.Lengthening.{path_doubled, longer_end}
+use Rattle.edge_paths.proofs.Splits.{split_doubled}
+use Rattle.edge_paths.proofs.Joining.{cut_linked}
+use Rattle.edge_paths.proofs.Cuts.{AreQuarters, cut_quarters, chord_beside}
+use Rattle.edge_paths.proofs.Framing.{framed_linked, framed_quarters}
+use Rattle.edge_paths.proofs.Sides.{HasRow, beside_row, cut_row, grows_row}
+use Rattle.dissect.specs.Rectangle.{IsStraightRow, IsPlaceOn, HasRectangle, IsJoinedAt}
+use Rattle.dissect.proofs.Keeping.{Keeps, cut_keeps, frame_keeps, grows_keeps, keeps_on}
+
+module _ (w : Web) (outside : ℕ) (new : Web) (linked : IsLinked w) (four : AreQuarters w) (e : IsEnclosed w outside new) where
+  abbrev n : ℕ
+  n = w.darts
+
+  abbrev side_dart : ℕ
+  side_dart = w.darts + e.side
+
+  linked_framed : IsLinked e.framed
+  linked_framed = framed_linked w e.framed linked e.frame
+
+  four_framed : AreQuarters e.framed
+  four_framed = framed_quarters w e.framed four e.frame
+
+  linked_joined : IsLinked e.joined
+  linked_joined = cut_linked e.framed e.right side_dart e.way e.joined linked_framed e.join
+
+  four_joined : AreQuarters e.joined
+  four_joined = cut_quarters e.framed e.right side_dart e.way e.joined four_framed e.join
+
+  -- a row of the framed web is one of the last
+  framed_row : (end mate held : ℕ) → HasRow e.framed end mate held [] → HasRow new end mate held []
+  framed_row end mate held row =
+      grows_row e.joined new end mate held [] linked_joined four_joined e.grows
+      (cut_row e.framed e.right side_dart e.way e.joined end mate held [] linked_framed (four_framed side_dart e.join.e_in) e.join row)
+
+  -- and so is a row of the joined web
+  joined_row : (end mate held : ℕ) → HasRow e.joined end mate held [] → HasRow new end mate held []
+  joined_row end mate held row = grows_row e.joined new end mate held [] linked_joined four_joined e.grows row
+
+  keeps_joined : Keeps e.joined new
+  keeps_joined = grows_keeps e.joined new e.grows
+
+  keeps_framed : Keeps e.framed new
+  keeps_framed = keeps_on e.framed e.joined new (cut_keeps e.framed e.right side_dart e.way e.joined e.join) keeps_joined
+
+  count_framed : e.framed.darts ≡ n + 8
+  count_framed = e.frame.darts
+
+  count_middle : e.join.middle.darts ≡ n + 10
+  count_middle = omega (arith, e.join.split.darts, e.frame.darts)
+
+  inner_row : (k : ℕ) → k < 4 → HasPath new (n + k) (n + 4 + k) []
+  inner_row k l =
+      (framed_row (n + k) (n + 4 + k) (n + k) (record {
+        path = record {
+          first = n + k;
+          rest = [];
+          path = record {
+            first_in = omega (arith, e.frame.darts);
+            rest_in = tt;
+            start = e.frame.before_inner k l;
+            follows = tt;
+            ends = refl;
+          };
+          back = e.frame.twin_inner k l;
+          turns = refl;
+        };
+        holds = inl refl;
+      })).path
+
+  outer_row : (k : ℕ) → k < 4 → HasPath new (n + 4 + k) (n + k) []
+  outer_row k l =
+      (framed_row (n + 4 + k) (n + k) (n + 4 + k) (record {
+        path = record {
+          first = n + 4 + k;
+          rest = [];
+          path = record {
+            first_in = omega (arith, e.frame.darts);
+            rest_in = tt;
+            start = e.frame.before_outer k l;
+            follows = tt;
+            ends = refl;
+          };
+          back = e.frame.twin_outer k l;
+          turns = refl;
+        };
+        holds = inl refl;
+      })).path
+
+  -- the rectangle stands round the drawing
+  pub rectangle : ((k : ℕ) → k < 4 → AreWaiting new (n + 4 + k) []) → HasRectangle w new
+  rectangle done = record {
+    sides = λ k l. record { there = inner_row k l; again = outer_row k l };
+    directions = λ k l. keeps_framed.direction (n + k) (omega (arith, e.frame.darts)) ∙ e.frame.direction_inner k l;
+    inside = λ k l. keeps_framed.head (n + k) (omega (arith, e.frame.darts)) ∙ e.frame.head_inner k l;
+    corners = λ k l. keeps_framed.head (n + 4 + k) (omega (arith, e.frame.darts)) ∙ e.frame.head_outer k l;
+    outside = λ k l.
+        let at = done k l in
+        let first : AreWaiting new (n + 4) [] =
+        subst (λ (z : ℕ). AreWaiting new z []) (omega arith) (done 0 (omega arith)) in
+        elim (first.settled (n + 4 + k) at.inside (λ straight. omega (arith, straight, at.outside.angle_first))) [
+          | inl none ↦ absurd none
+          | inr settled ↦ elim settled [
+            | inl four ↦ absurd (omega (arith, four.angle_first, at.outside.angle_first))
+            | inr out ↦ out
+          ]
+        ];
+  }
+
+  -- the join, before anything else is cut
+  join_row : HasPath e.joined (n + 10) (n + 11) []
+  join_row =
+      let first : e.join.middle.darts ≡ n + 10 = count_middle in
+      let second : e.join.middle.darts + 1 ≡ n + 11 = omega (arith, count_middle) in
+      record {
+        first = n + 10;
+        rest = [];
+        path = record {
+          first_in = omega (arith, e.join.chord.darts, count_middle);
+          rest_in = tt;
+          start = ap e.joined.before (sym first) ∙ e.join.chord.before_there;
+          follows = tt;
+          ends = refl;
+        };
+        back = ap e.joined.twin (sym first) ∙ e.join.chord.twin_there ∙ second;
+        turns = refl;
+      }
+
+  join_row_back : HasPath e.joined (n + 11) (n + 10) []
+  join_row_back =
+      let first : e.join.middle.darts ≡ n + 10 = count_middle in
+      let second : e.join.middle.darts + 1 ≡ n + 11 = omega (arith, count_middle) in
+      record {
+        first = n + 11;
+        rest = [];
+        path = record {
+          first_in = omega (arith, e.join.chord.darts, count_middle);
+          rest_in = tt;
+          start = ap e.joined.before (sym second) ∙ e.join.chord.before_back;
+          follows = tt;
+          ends = refl;
+        };
+        back = ap e.joined.twin (sym second) ∙ e.join.chord.twin_back ∙ first;
+        turns = refl;
+      }
+
+  -- the side that was cut goes through the end of the join
+  side_row : HasRow new side_dart (n + 4 + e.side) e.framed.darts []
+  side_row =
+      joined_row side_dart (n + 4 + e.side) e.framed.darts
+      (beside_row e.join.middle e.joined side_dart (n + 4 + e.side) e.framed.darts []
+      (chord_beside e.join.middle e.right e.framed.darts e.way e.joined
+      (split_linked e.framed side_dart (e.framed.direction side_dart) 2 e.join.middle linked_framed e.join.e_in e.join.split) e.join.chord)
+      (record {
+        path = path_doubled e.framed e.join.middle side_dart (n + 4 + e.side) side_dart e.framed.darts 0 [] []
+            (record {
+              first_in = e.join.e_in;
+              rest_in = tt;
+              start = e.frame.before_inner e.side e.side_in;
+              follows = tt;
+              ends = refl;
+            })
+            (e.frame.twin_inner e.side e.side_in)
+            (split_doubled e.framed side_dart (e.framed.direction side_dart) 2 0 e.join.middle linked_framed e.join.e_in
+            (four_framed side_dart e.join.e_in) (omega arith) refl e.join.split)
+            (longer_end e.framed e.join.middle side_dart);
+        holds = inl refl;
+      }))
+
+  -- the drawing is joined with the rectangle at the head of the right turn
+  pub join : IsJoinedAt w e.right new
+  unfolding join_row join_row_back
+  join =
+      let first : e.join.middle.darts ≡ n + 10 = count_middle in
+      let second : e.join.middle.darts + 1 ≡ n + 11 = omega (arith, count_middle) in
+      let there_in : n + 10 < e.joined.darts = omega (arith, e.join.chord.darts, count_middle) in
+      let back_in : n + 11 < e.joined.darts = omega (arith, e.join.chord.darts, count_middle) in
+      let place_in : n + 8 < e.joined.darts = omega (arith, e.join.chord.darts, count_middle) in
+      let right_framed : e.right < e.framed.darts = omega (arith, e.right_in, e.frame.darts) in
+      let way : new.direction (n + 10) ≡ e.way =
+      keeps_joined.direction (n + 10) there_in ∙ ap e.joined.direction (sym first) ∙ e.join.chord.direction_there in
+      let right_way : new.direction e.right ≡ w.direction e.right =
+      keeps_framed.direction e.right right_framed ∙ e.frame.direction_old e.right e.right_in in
+      let middle_way : e.join.middle.direction e.right ≡ w.direction e.right =
+      e.join.split.direction_old e.right right_framed ∙ e.frame.direction_old e.right e.right_in in
+      let middle_angle : e.join.middle.angle e.right ≡ w.angle e.right =
+      e.join.split.angle_old e.right right_framed ∙ e.frame.angle_old e.right e.right_in in
+      let right_head : new.head e.right ≡ e.join.middle.head e.right =
+      keeps_framed.head e.right right_framed ∙ sym (e.join.split.head_old e.right right_framed) in
+      record {
+        row = record {
+          there = (joined_row (n + 10) (n + 11) (n + 10) (record { path = join_row; holds = inl refl })).path;
+          again = (joined_row (n + 11) (n + 10) (n + 11) (record { path = join_row_back; holds = inl refl })).path;
+        };
+        from = keeps_joined.head (n + 11) back_in ∙ ap e.joined.head (sym second) ∙ e.join.chord.head_back ∙ sym right_head;
+        leaves = omega (arith, way, right_way, middle_way, middle_angle, e.join.fits.from_d);
+        side = e.side;
+        side_in = e.side_in;
+        meets = omega (
+          arith,
+          way,
+          e.side_in,
+          e.join.fits.to_f,
+          e.join.split.angle_first,
+          e.join.split.direction_first,
+          e.frame.direction_inner e.side e.side_in,
+        );
+        to = keeps_joined.head (n + 10) there_in ∙ ap e.joined.head (sym first) ∙ e.join.chord.head_there
+            ∙ ap e.join.middle.head count_framed
+            ∙ sym (e.join.chord.head_old (n + 8) (omega (arith, count_middle)))
+            ∙ sym (keeps_joined.head (n + 8) place_in);
+        on_side = record {
+          first = side_row.path.first;
+          rest = side_row.path.rest;
+          path = side_row.path.path;
+          passes = subst (λ (z : ℕ). In z (side_row.path.first ∷ side_row.path.rest)) count_framed side_row.holds;
+          before_end = λ same. omega (arith, same, e.side_in);
+        };
+      }
