@@ -1,7 +1,9 @@
-//! Tests of links and fans, on one thread and between threads.
+//! Tests of links, fans and tickets, on one thread and between threads.
 #![tactic(auto)]
 
 #[cfg(test)]
 mod fan;
 #[cfg(test)]
 mod link;
+#[cfg(test)]
+mod tickets;

@@ -10,7 +10,7 @@ use lib.ListN.{get_elem?}
 use Rattle.crossbeam_channel.specs.Fifo.{Pushes, Pops, Forks, Merges, Learns}
 use Rattle.atomic_table.proofs.Lists.{at_set}
 use Rattle.ruled_lanes.specs.declared.fan_rule.Reach.{Reach}
-use Rattle.ruled_lanes.specs.FanRule.{reach, gatherer, giver, nobody, given_in, of_lane, KnowsLane, KnowsFan, IsFanned}
+use Rattle.ruled_lanes.specs.FanRule.{reach, gatherer, giver, nobody, given_in, of_lane, KnowsLane, KnowsFan, Accounts, IsFanned}
 use Rattle.ruled_lanes.proofs.Views.{Each, each_set, each_more}
 
 off : false ≡ true → ⊥
@@ -174,8 +174,7 @@ module _ {T : Type 0} where
         known = each_set (KnowsFan seat h.made h.taker h.taken h.all) vs other nobody (All-nil (KnowsLane seat h.made h.all other), λ p. absurd (off p)) (λ j y apart e. now j y e apart);
       }
 
-  pub totals : (pass : ℕ) (v : Reach T) → v.takes ≡ true
-      → Learns IsFanned pass v (λ items. All (λ l. of_lane l.0 (v.taken ++ items) ≡ l.1) v.lanes × ((lane : ℕ) → v.made ≤ lane → of_lane lane (v.taken ++ items) ≡ []))
+  pub totals : (pass : ℕ) (v : Reach T) → v.takes ≡ true → Learns IsFanned pass v (Accounts v)
   totals pass v may items views h at =
       let mine = h.known pass v at in
       let role = mine.1 may in

@@ -1,11 +1,11 @@
 -- A gatherer that takes in its givers, one after the other, from the last to the first.
-use Rattle.std.proofs.Common.{◌≡◌, ◌≤◌, ℕ, true, List, [], ◌∷◌, ◌++◌, map, length, All, refl, sym, ap, ◌∙◌, subst, append_assoc, append-nil}
+use Rattle.std.proofs.Common.{◌≡◌, ℕ, true, List, [], ◌∷◌, ◌++◌, map, length, All, refl, sym, ap, ◌∙◌, subst, append_assoc, append-nil}
 use Rattle.std.proofs.lemmas.List.Elements.{All-nil, All-cons, All-head, All-tail, All-weaker, All-same}
 use Rattle.crossbeam_channel.specs.Claims.{view}
 use Rattle.ruled_lanes.specs.declared.limits.TheConstants.{LANES}
 use Rattle.ruled_lanes.specs.declared.fan_ends.LaneGiver.{LaneGiver}
 use Rattle.ruled_lanes.specs.declared.fan_rule.Reach.{Reach}
-use Rattle.ruled_lanes.specs.FanRule.{reach, of_lane}
+use Rattle.ruled_lanes.specs.FanRule.{reach, of_lane, Accounts}
 use Rattle.ruled_lanes.specs.FanEnds.{lane_of, given_at, SettlesFan}
 use Rattle.ruled_lanes.proofs.Fans.{of_lane-append}
 
@@ -44,10 +44,9 @@ module _ {T : Type 0} where
 
   -- what the gatherer then learns settles the fan
   pub all_joined : (taken items : List (ℕ × T)) (all rest : List (LaneGiver T)) (v : Reach T) → length rest ≡ 0 → HasJoined taken all rest v
-      → All (λ l. of_lane l.0 (v.taken ++ items) ≡ l.1) v.lanes × ((lane : ℕ) → v.made ≤ lane → of_lane lane (v.taken ++ items) ≡ []) → SettlesFan taken all
+      → Accounts v items → SettlesFan taken all
   all_joined taken items all rest v none h fact =
-      let Learnt : Reach T → Type 0 = λ u. All (λ (l : ℕ × List T). of_lane l.0 (u.taken ++ items) ≡ l.1) u.lanes × ((lane : ℕ) → u.made ≤ lane → of_lane lane (u.taken ++ items) ≡ []) in
-      let learnt : Learnt (reach true LANES taken (map lane_given h.0)) = subst Learnt h.2 fact in
+      let learnt : Accounts (reach true LANES taken (map lane_given h.0)) items = subst (λ u. Accounts u items) h.2 fact in
       let Whole : LaneGiver T → Type 0 = λ g. of_lane (lane_of g) (taken ++ items) ≡ given_at g in
       let Settled : LaneGiver T → Type 0 = λ g. of_lane (lane_of g) taken ++ of_lane (lane_of g) items ≡ given_at g in
       let whole : All Whole h.0 = all_of_map (λ (l : ℕ × List T). of_lane l.0 (taken ++ items) ≡ l.1) lane_given h.0 learnt.0 in (

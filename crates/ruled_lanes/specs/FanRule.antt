@@ -41,6 +41,11 @@ module _ {T : Type 0} where
   KnowsFan seat made taker taken all pass v =
       All (KnowsLane seat made all pass) v.lanes × (v.takes ≡ true → (pass ≡ taker) × (v.taken ≡ taken) × (v.made ≡ made))
 
+  -- each lane of a pass gave what was taken of it and then what the fan holds of it, and a lane that was
+  -- not made has nothing
+  abbrev pub Accounts : Reach T → List (ℕ × T) → Type 0
+  Accounts v held = All (λ l. of_lane l.0 (v.taken ++ held) ≡ l.1) v.lanes × ((lane : ℕ) → v.made ≤ lane → of_lane lane (v.taken ++ held) ≡ [])
+
 pub record IsFanned {T : Type 0} (items : List (ℕ × T)) (views : List (Reach T)) : Type 0 where
   -- the pass that has each lane, and the one that may take
   pub seat : ℕ → ℕ

@@ -2,3 +2,5 @@ pub mod FanEnds
 pub mod FanRule
 pub mod LinkEnds
 pub mod LinkRule
+pub mod TicketRule
+pub mod TicketSeats

@@ -78,7 +78,8 @@ impl<T: Drop> LaneGiver<T> {
 }
 
 impl<T: Drop> Gatherer<T> {
-    ghost use Rattle.std.specs.Prelude.{◌≤◌, ◌∷◌, ◌++◌, [], IfOk, IfSome, IfNone, OnErr, vec_len};
+    ghost use Rattle.std.specs.Prelude.{◌≤◌, ◌∷◌, ◌++◌, [], ℕ, List, true, IfOk, IfSome, IfNone, OnErr, vec_len};
+    ghost use Rattle.ruled_lanes.specs.FanRule.{Accounts};
     ghost use Rattle.ruled_lanes.specs.FanEnds.{gathered, AreGiversOf, TakesFromSameFan, SettlesFan};
 
     // The end of a channel that receives, with the pass that may.
@@ -121,6 +122,16 @@ impl<T: Drop> Gatherer<T> {
         }
     }
 
+    // What the rule tells the pass that takes, of what the fan then holds.
+    #[tactic(auto, using(crate::proofs::Fans::totals))]
+    fn learn(sender: &RuledSender<(u32, T), Reach<T>, Fanned>, pass: &mut Pass<(u32, T), Reach<T>>)
+        requires seated { IsSeatAt (sends_on sender.now) pass.old }
+        requires takes { (view pass.old).takes ≡ true }
+        ensures learnt { (held : List (ℕ × T)) × Accounts (view pass.old) held }
+    {
+        sender.learn_as::<EachLane>(pass);
+    }
+
     /// Takes in the gatherer and givers of one fan: of each of their lanes, what was taken, followed by
     /// what the fan held, is what was given. No other number than those of the fan's lanes stood on an
     /// item. The items that the fan held are dropped. It takes no memory, and though it is handed
@@ -149,6 +160,6 @@ impl<T: Drop> Gatherer<T> {
             let LaneGiver { pass: other, .. } = giver;
             sender.absorb::<NewLane>(&mut pass, other);
         }
-        sender.learn_as::<EachLane>(&mut pass);
+        Gatherer::learn(&sender, &mut pass);
     }
 }

@@ -1,6 +1,6 @@
 //! The rule of a fan, over what it holds and what its passes know.
-ghost use Rattle.std.specs.Prelude.{◌≡◌, ◌≤◌, ◌<◌, ℕ, All, [], ◌∷◌, ◌++◌, ⊤};
-ghost use Rattle.ruled_lanes.specs.FanRule.{reach, giver, given_in, of_lane};
+ghost use Rattle.std.specs.Prelude.{◌≡◌, ◌<◌, [], ◌∷◌, ◌++◌, ⊤};
+ghost use Rattle.ruled_lanes.specs.FanRule.{reach, giver, given_in, Accounts};
 
 use crossbeam_channel::protocol::{Join, Lesson, Outcome, Protocol, Split};
 use std::collections::LinkedList;
@@ -73,6 +73,5 @@ impl<T> Lesson<(u32, T), Reach<T>> for Takes {
 pub struct EachLane;
 
 impl<T> Lesson<(u32, T), Reach<T>> for EachLane {
-    ghost fact = { λ v items. All (λ l. of_lane l.0 (v.taken ++ items) ≡ l.1) v.lanes
-        × ((lane : ℕ) → v.made ≤ lane → of_lane lane (v.taken ++ items) ≡ []) };
+    ghost fact = { λ v items. Accounts v items };
 }

@@ -4,6 +4,7 @@
 //! lane by itself.
 #![tactic(auto)]
 
+mod dealing;
 mod errors;
 mod fan_ends;
 mod fan_rule;
@@ -12,10 +13,12 @@ mod link_ends;
 mod link_rule;
 mod new_fan;
 mod new_link;
+mod ticket_rule;
 
+pub use dealing::{Seat, Tickets};
 pub use errors::{Closed, Memory};
 pub use fan_ends::{Gatherer, LaneGiver};
-pub use limits::{LANES, MAX_CAPACITY};
+pub use limits::{LANES, MAX_CAPACITY, MAX_TICKETS};
 pub use link_ends::{Giver, Taker};
 pub use new_fan::fan_in;
 pub use new_link::link;

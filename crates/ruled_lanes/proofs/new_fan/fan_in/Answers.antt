@@ -40,6 +40,6 @@ loop-lane-preserved g c =
       seated = search rules;
       role = left ∙ ap (λ v. reach v.takes (v.made + 1) v.taken v.lanes) was.role;
       fan = subst (All Same) (sym items) (All-push Same c.loop-lane.givers.items c.of.result was.fan (ap sends_on c.of.ensures.0 ∙ c.in-Ok-try_clone.ensures));
-      order = subst StandInOrder (sym items) (stand_more c.loop-lane.givers.items c.of.result (c.of.ensures.2 ∙ sym was.many) was.order);
+      order = subst StandInOrder (sym items) (stand_more c.loop-lane.givers.items c.of.result (omega (arith, c.of.ensures)) was.order);
       unused = subst (All Unused) (sym items) (All-push Unused c.loop-lane.givers.items c.of.result was.unused (ap (λ p. given_in (view p)) c.of.ensures.1 ∙ ap given_in right));
     }

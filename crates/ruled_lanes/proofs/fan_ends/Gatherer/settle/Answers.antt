@@ -1,8 +1,8 @@
-use Rattle.std.proofs.Common.{◌≡◌, Some, sym, ap, ◌∙◌, subst, rules, arith}
+use Rattle.std.proofs.Common.{◌≡◌, Some, sym, ◌∙◌, subst, rules, arith}
 use Rattle.std.proofs.lemmas.List.Elements.{All-pop, All-weaker}
 use Rattle.crossbeam_channel.specs.Claims.{view, IsSeatAt}
 use Rattle.crossbeam_channel.specs.Ends.{sends_on, receives_on}
-use Rattle.ruled_lanes.proofs.Fans.{merges, totals}
+use Rattle.ruled_lanes.proofs.Fans.{merges}
 use Rattle.ruled_lanes.proofs.Settling.{none_joined, one_joined, all_joined}
 use Rattle.ruled_lanes.proofs.fan_ends.Gatherer.settle.Goals as goal
 
@@ -39,10 +39,7 @@ loop-giver-preserved g c =
       joined = one_joined _ _ c.loop-giver.givers.items _ giver (view c.loop-giver.pass) _ c.in-Some-pop.ensures.items c.absorb-in-Some-pop.ensures.rule c.loop-giver.invariant.joined;
     }
 
-pub learn_as-requires-clause-rule : goal.learn_as-requires-clause-rule
-learn_as-requires-clause-rule g c = totals _ _ (ap (λ v. v.takes) c.loop-giver.invariant.joined.2)
-
 pub returns : goal.returns
 returns g c =
-    let learnt = c.learn_as.ensures.rule in
+    let learnt = c.learn.ensures.learnt in
     record { settled = all_joined _ learnt.0 _ c.loop-giver.givers.items _ (omega (arith, c.in_default-pop.ensures.cases)) c.loop-giver.invariant.joined learnt.1 }

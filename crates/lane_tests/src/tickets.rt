@@ -1,0 +1,143 @@
+ghost use Rattle.std.specs.Prelude.{◌≡◌};
+ghost use Rattle.ruled_lanes.specs.TicketSeats.{IsSeatOf};
+
+use ruled_lanes::{MAX_TICKETS, Memory, Seat, Tickets};
+use std::alloc::Global;
+use std::test::*;
+use std::thread::{Threads, join};
+
+#[test]
+fn two_seats_on_one_thread(rt: HostRuntime) -> Result<(), Fail> {
+    let (tickets, mut seats) = Tickets::new(rt.alloc(), 3, 2)?;
+    assert_eq!(rt; tickets.draw(&mut seats[0]), Some(0));
+    assert_eq!(rt; tickets.draw(&mut seats[1]), Some(1));
+    assert_eq!(rt; tickets.draw(&mut seats[0]), Some(2));
+    assert_eq!(rt; tickets.draw(&mut seats[0]), None);
+    assert_eq!(rt; tickets.draw(&mut seats[0]), None);
+    assert_eq!(rt; tickets.draw(&mut seats[1]), None);
+    assert_eq!(rt; tickets.close(seats), 5);
+    Ok(())
+}
+
+#[test]
+fn nothing_to_draw(rt: HostRuntime) -> Result<(), Fail> {
+    let (tickets, mut seats) = Tickets::new(rt.alloc(), 0, 1)?;
+    assert_eq!(rt; tickets.draw(&mut seats[0]), None);
+    assert_eq!(rt; tickets.draw(&mut seats[0]), None);
+    assert_eq!(rt; tickets.close(seats), 1);
+    Ok(())
+}
+
+/// A refused allocation is told, and a second call makes the tickets.
+#[test]
+fn refused_memory_is_told(rt: HostRuntime) -> Result<(), Fail> {
+    let (tickets, mut seats) = match Tickets::new(rt.alloc(), 1, 4) {
+        Ok(made) => made,
+        Err(Memory) => Tickets::new(rt.alloc(), 1, 4)?,
+    };
+    assert_eq!(rt; tickets.draw(&mut seats[3]), Some(0));
+    Ok(())
+}
+
+// Draws until there is nothing left, or no memory: the numbers drawn.
+fn draw_all(alloc: Global, tickets: &Tickets, mut seat: Seat) -> (Seat, Vec<u32>)
+    requires { IsSeatOf tickets.now seat }
+    ensures { IsSeatOf tickets.now result.0 }
+{
+    let mut numbers = Vec::new(alloc);
+    for _ in 0..MAX_TICKETS + 1 {
+        let Some(number) = tickets.draw(&mut seat) else {
+            break;
+        };
+        if numbers.push(number).is_err() {
+            break;
+        }
+    }
+    (seat, numbers)
+}
+
+type Drawn = (Seat, Vec<u32>);
+
+// The same at two seats, each in a thread of its own.
+fn draw_in_two<R: Threads>(
+    rt: &R,
+    alloc: Global,
+    tickets: &Tickets,
+    seats: (Seat, Seat),
+) -> (Drawn, Drawn)
+    requires { IsSeatOf tickets.now seats.0 × IsSeatOf tickets.now seats.1 }
+    ensures { IsSeatOf tickets.now result.0.0 × IsSeatOf tickets.now result.1.0 }
+{
+    let (one, two) = seats;
+    join(
+        rt,
+        || -> Drawn
+            requires { IsSeatOf tickets.now one }
+            ensures { IsSeatOf tickets.entry.now result.0 }
+        { draw_all(alloc, tickets, one) },
+        || -> Drawn
+            requires { IsSeatOf tickets.now two }
+            ensures { IsSeatOf tickets.entry.now result.0 }
+        { draw_all(alloc, tickets, two) },
+    )
+}
+
+// The same at four seats.
+fn draw_in_four<R: Threads + Sync>(
+    rt: &R,
+    alloc: Global,
+    tickets: &Tickets,
+    first: (Seat, Seat),
+    second: (Seat, Seat),
+) -> ((Drawn, Drawn), (Drawn, Drawn))
+    requires first { IsSeatOf tickets.now first.0 × IsSeatOf tickets.now first.1 }
+    requires second { IsSeatOf tickets.now second.0 × IsSeatOf tickets.now second.1 }
+    ensures first { IsSeatOf tickets.now result.0.0.0 × IsSeatOf tickets.now result.0.1.0 }
+    ensures second { IsSeatOf tickets.now result.1.0.0 × IsSeatOf tickets.now result.1.1.0 }
+{
+    join(
+        rt,
+        || -> (Drawn, Drawn)
+            requires { IsSeatOf tickets.now first.0 × IsSeatOf tickets.now first.1 }
+            ensures { IsSeatOf tickets.entry.now result.0.0 × IsSeatOf tickets.entry.now result.1.0 }
+        { draw_in_two(rt, alloc, tickets, first) },
+        || -> (Drawn, Drawn)
+            requires { IsSeatOf tickets.now second.0 × IsSeatOf tickets.now second.1 }
+            ensures { IsSeatOf tickets.entry.now result.0.0 × IsSeatOf tickets.entry.now result.1.0 }
+        { draw_in_two(rt, alloc, tickets, second) },
+    )
+}
+
+// How often each number below 256 stands in these lists.
+fn tally(lists: &[Vec<u32>]) -> [u8; 256] {
+    let mut times = [0u8; 256];
+    for numbers in lists {
+        for number in numbers {
+            if let Some(count) = times.get_mut(*number as usize) {
+                *count = count.saturating_add(1);
+            }
+        }
+    }
+    times
+}
+
+#[test]
+fn four_threads_draw_each_number_once(rt: HostRuntime) -> Result<(), Fail> {
+    let alloc = rt.alloc();
+    let (tickets, mut seats) = Tickets::new(alloc, 256, 4)?;
+    let (Some(four), Some(three)) = (seats.pop(), seats.pop()) else {
+        unreachable!()
+    };
+    let (Some(two), Some(one)) = (seats.pop(), seats.pop()) else {
+        unreachable!()
+    };
+    let ((one, two), (three, four)) = draw_in_four(&rt, alloc, &tickets, (one, two), (three, four));
+    let drawn = vec![in alloc; one.1, two.1, three.1, four.1]?;
+    assert!(rt; tally(drawn.as_slice()).iter().all(|count| *count == 1));
+    seats.push(one.0)?;
+    seats.push(two.0)?;
+    seats.push(three.0)?;
+    seats.push(four.0)?;
+    assert_eq!(rt; tickets.close(seats), 260);
+    Ok(())
+}

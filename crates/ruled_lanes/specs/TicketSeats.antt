@@ -1,0 +1,43 @@
+-- What tickets and their seats know.
+use Rattle.std.specs.Prelude.{◌≡◌, ℕ, Bool, false, List, [], length, count_by}
+use Rattle.std.specs.List.{flat_map}
+use Rattle.atomic_table.specs.Seated.{TableId}
+use Rattle.ruled_lanes.specs.declared.dealing.Tickets.{Tickets}
+use Rattle.ruled_lanes.specs.declared.dealing.Seat.{Seat}
+use Rattle.ruled_lanes.specs.declared.ticket_rule.Draws.{Draws}
+
+-- the numbers below it are dealt
+abbrev pub limit_of : Tickets → ℕ
+limit_of t = t.limit
+
+-- how many seats it has
+abbrev pub lanes_of : Tickets → ℕ
+lanes_of t = t.table.shared.key.1
+
+-- the numbers that it drew, first to last
+abbrev pub drawn : Seat → List ℕ
+drawn s = s.pass.me.0.drawn
+
+-- it was answered none, and takes no further step
+abbrev pub has_ended : Seat → Bool
+has_ended s = s.has_ended
+
+-- the numbers that all of them drew
+abbrev pub all_drawn : List Seat → List ℕ
+all_drawn seats = flat_map drawn seats
+
+-- it has drawn nothing and has not ended
+abbrev pub IsUnused : Seat → Type 0
+IsUnused s = (drawn s ≡ []) × (has_ended s ≡ false)
+
+-- it is a seat at this table, with this limit
+abbrev pub SitsAt : TableId → ℕ → Seat → Type 0
+SitsAt table limit s = (s.pass.table_id ≡ table) × (s.pass.me.0.limit ≡ limit)
+
+-- it is a seat of these tickets
+abbrev pub IsSeatOf : Tickets → Seat → Type 0
+IsSeatOf t s = SitsAt t.table.shared.table_id t.limit s
+
+-- a view that stands for all these seats
+abbrev pub IsPool : List Seat → Draws → Type 0
+IsPool seats v = (v.parts ≡ length seats) × (v.ends ≡ count_by has_ended seats) × (v.drawn ≡ all_drawn seats)

@@ -1,0 +1,158 @@
+//! Tickets and their seats.
+ghost use Rattle.std.specs.Prelude.{◌≡◌, ◌≤◌, [], cond};
+ghost use Rattle.ruled_lanes.specs.declared.limits.TheConstants.{LANES, MAX_TICKETS};
+
+use crate::errors::Memory;
+use crate::limits::{LANES, MAX_TICKETS};
+use crate::ticket_rule::{Dealt, Draw, Draws, Parts};
+use atomic_table::{Seat as Pass, Table};
+use std::alloc::Global;
+
+type Word = Table<(), Draws, (u64, u64), Dealt, Global>;
+
+/// Deals the numbers below a limit to seats, each number once, by one shared word.
+#[derive(Drop)]
+pub struct Tickets {
+    table: Word,
+    limit: u64,
+    ghost key: { table.shared.key.0 ≡ limit },
+    ghost size: { (table.shared.table_id.words ≡ 1) × (table.shared.table_id.slots ≡ 0) },
+    ghost within: { (limit ≤ MAX_TICKETS) × (1 ≤ table.shared.key.1) × (table.shared.key.1 ≤ LANES) },
+}
+
+/// Draws from its tickets. It cannot be copied, so it knows all that was ever drawn there.
+#[derive(Drop)]
+pub struct Seat {
+    pass: Pass<(), Draws>,
+    has_ended: bool,
+    ghost idle: { pass.me.1 ≡ [] },
+    ghost part: { pass.me.0.parts ≡ 1 },
+    ghost ends: { pass.me.0.ends ≡ cond has_ended 1 0 },
+}
+
+impl Seat {
+    ghost use Rattle.std.specs.Prelude.{false};
+
+    // A seat that has drawn nothing.
+    fn of(pass: Pass<(), Draws>) -> Seat
+        requires idle { pass.me.1 ≡ [] }
+        requires unused { (pass.me.0.parts ≡ 1) × (pass.me.0.ends ≡ 0) }
+        ensures { (result.pass ≡ pass) × (result.has_ended ≡ false) }
+    {
+        Seat {
+            pass,
+            has_ended: false,
+        }
+    }
+}
+
+impl Tickets {
+    ghost use Rattle.std.specs.Prelude.{◌∷◌, ◌++◌, ◌+◌, ◌<◌, All, true, false, min, length, count_by, vec_len, Option, None, IfOk, IfSome, IfNone};
+    ghost use Rattle.ruled_lanes.specs.TicketRule.{draws, HasOnceBelow};
+    ghost use Rattle.ruled_lanes.specs.TicketSeats.{limit_of, lanes_of, drawn, has_ended, all_drawn, SitsAt, IsSeatOf, IsUnused, IsPool};
+
+    // The seats off a pass that stands for all of them.
+    fn cut(
+        alloc: Global,
+        table: &Word,
+        mut pass: Pass<(), Draws>,
+        lanes: u32,
+    ) -> Result<Vec<Seat>, Memory>
+        requires words { 0 < table.now.shared.table_id.words }
+        requires lanes { 1 ≤ lanes }
+        requires pass { (pass.table_id ≡ table.now.shared.table_id) × (pass.me ≡ (draws table.now.shared.key.0 lanes 0 [], [])) }
+        ensures lanes { IfOk result (λ seats. vec_len seats ≡ lanes) }
+        ensures seats { IfOk result (λ seats. All (SitsAt table.now.shared.table_id table.now.shared.key.0) seats.items) }
+        ensures unused { IfOk result (λ seats. All IsUnused seats.items) }
+    {
+        let mut seats = match Vec::with_capacity(alloc, lanes as usize) {
+            Ok(seats) => seats,
+            Err(_) => return Err(Memory),
+        };
+        for _lane in 1..lanes {
+            seats.push_reserved(Seat::of(table.shared.split_seat::<Parts>(&mut pass)));
+        }
+        seats.push_reserved(Seat::of(pass));
+        Ok(seats)
+    }
+
+    // One pass that stands for all these seats.
+    fn pool(table: &Word, mut seats: Vec<Seat>) -> Pass<(), Draws>
+        requires words { 0 < table.now.shared.table_id.words }
+        requires some { 1 ≤ vec_len seats }
+        requires seats { All (SitsAt table.now.shared.table_id table.now.shared.key.0) seats.items }
+        ensures pass { (result.table_id ≡ table.now.shared.table_id) × (result.me.1 ≡ []) }
+        ensures pooled { IsPool seats.items result.me.0 }
+    {
+        let Some(Seat { mut pass, .. }) = seats.pop() else {
+            unreachable!()
+        };
+        while let Some(seat) = seats.pop() {
+            let Seat { pass: other, .. } = seat;
+            table.shared.join_seat::<Parts>(&mut pass, other);
+        }
+        pass
+    }
+
+    /// Tickets with the numbers below `limit`, and a seat for each of so many lanes, which has drawn
+    /// nothing and has not ended. `Memory` where there is no room for them.
+    pub fn new(alloc: Global, limit: u32, lanes: u32) -> Result<(Tickets, Vec<Seat>), Memory>
+        requires limit { limit ≤ MAX_TICKETS }
+        requires lanes { (1 ≤ lanes) × (lanes ≤ LANES) }
+        ensures limits { IfOk result (λ r. (limit_of r.0 ≡ limit) × (lanes_of r.0 ≡ lanes)) }
+        ensures seats { IfOk result (λ r. (vec_len r.1 ≡ lanes) × All (IsSeatOf r.0) r.1.items) }
+        ensures unused { IfOk result (λ r. All IsUnused r.1.items) }
+    {
+        let key = (limit as u64, lanes as u64);
+        let (table, pass) = match Word::of_words(alloc, &[0], &key) {
+            Ok(made) => made,
+            Err(_) => return Err(Memory),
+        };
+        let seats = Tickets::cut(alloc, &table, pass, lanes)?;
+        let tickets = Tickets {
+            table,
+            limit: limit as u64,
+        };
+        Ok((tickets, seats))
+    }
+
+    /// The next number that no seat has drawn, in one step on the shared word, or none where all below
+    /// the limit are drawn. A seat that was answered none once has ended, and takes no further step. It
+    /// takes no memory and waits for nothing.
+    pub fn draw(&self, seat: &mut Seat) -> Option<u32>
+        requires seat { IsSeatOf self.now seat.old }
+        ensures seat { IsSeatOf self.now seat.new }
+        ensures below { IfSome result (λ k. k < limit_of self.now) }
+        ensures some { IfSome result (λ k. drawn seat.new ≡ drawn seat.old ++ k ∷ []) }
+        ensures goes_on { IfSome result (λ k. (has_ended seat.old ≡ false) × (has_ended seat.new ≡ false)) }
+        ensures none { IfNone result ((drawn seat.new ≡ drawn seat.old) × (has_ended seat.new ≡ true)) }
+        ensures rests { has_ended seat.old ≡ true → (result ≡ None) × (seat.new ≡ seat.old) }
+    {
+        if seat.has_ended {
+            return None;
+        }
+        let found = self.table.shared.fetch_add::<Draw>(&mut seat.pass, 0, 1);
+        if found < self.limit {
+            return Some(found as u32);
+        }
+        seat.has_ended = true;
+        None
+    }
+
+    /// The word at the end, which is how many numbers were drawn and how many seats have ended. The
+    /// numbers drawn are those below it and the limit, each once. It takes no memory and waits for
+    /// nothing.
+    pub fn close(self, seats: Vec<Seat>) -> u32
+        requires seats { (vec_len seats ≡ lanes_of self) × All (IsSeatOf self) seats.items }
+        ensures each_once { HasOnceBelow (min result (limit_of self)) (all_drawn seats.items) }
+        ensures word { result ≡ length (all_drawn seats.items) + count_by has_ended seats.items }
+        ensures ended { 0 < count_by has_ended seats.items → limit_of self ≤ result }
+    {
+        let Tickets { table, .. } = self;
+        let pass = Tickets::pool(&table, seats);
+        let closed = table.close_with(pass);
+        let word = closed.word(0) as u32;
+        closed.free();
+        word
+    }
+}

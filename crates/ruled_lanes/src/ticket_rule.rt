@@ -1,0 +1,56 @@
+//! The rule of tickets, over their one word and what the seats know.
+use atomic_table::{Join, Play, Split, TableRule};
+use std::collections::LinkedList;
+
+// The limit, how many seats a pass stands for, how many of them have ended, and the numbers that they
+// drew. No value of it is made.
+pub struct Draws {
+    pub limit: u64,
+    pub parts: u64,
+    pub ends: u64,
+    pub drawn: LinkedList<u32>,
+}
+
+pub struct Dealt;
+
+// The key is the limit and the number of seats.
+impl TableRule<(), Draws, (u64, u64)> for Dealt {
+    ghost use Rattle.std.specs.Prelude.{[]};
+    ghost use Rattle.ruled_lanes.specs.TicketRule.{draws, IsDealt};
+
+    ghost holds = { λ key s. IsDealt key s.words s.views };
+
+    ghost first = { λ key. draws key.0 key.1 0 [] };
+}
+
+// A seat is cut off a pass that stands for several, of which none has drawn yet.
+pub struct Parts;
+
+impl Split<Draws> for Parts {
+    ghost use Rattle.std.specs.Prelude.{◌-◌, []};
+    ghost use Rattle.ruled_lanes.specs.TicketRule.{draws};
+
+    ghost left = { λ v. draws v.limit (v.parts - 1) v.ends v.drawn };
+
+    ghost right = { λ v. draws v.limit 1 0 [] };
+}
+
+// A pass stands for another's seats too.
+impl Join<Draws> for Parts {
+    ghost use Rattle.std.specs.Prelude.{◌+◌, ◌++◌, []};
+    ghost use Rattle.ruled_lanes.specs.TicketRule.{draws};
+
+    ghost both = { λ v w. draws v.limit (v.parts + w.parts) (v.ends + w.ends) (w.drawn ++ v.drawn) };
+
+    ghost spent = { draws 0 0 0 [] };
+}
+
+// The step of a draw: the number found is drawn if it is below the limit, and else the seat has ended.
+pub struct Draw;
+
+impl Play<(), Draws> for Draw {
+    ghost use Rattle.std.specs.Prelude.{◌≡◌};
+    ghost use Rattle.ruled_lanes.specs.TicketRule.{DrawsNext};
+
+    ghost then = { λ s v n w. DrawsNext v.0 n w.0 × (w.1 ≡ v.1) };
+}
