@@ -3,25 +3,17 @@
 //! what it gives that it is the record's.
 #![tactic(auto)]
 
-mod cause;
 mod embedded;
-mod entry;
-mod found;
 mod framed;
 mod layout;
 mod refusal;
 mod shaped;
 mod stages;
 
-pub use cause::Cause;
 pub use embedded::Embedded;
-pub use entry::Entry;
-pub use found::Answer;
+pub use entries::{Answer, Cause, Entry};
 pub use framed::Framed;
 pub use layout::Layout;
 pub use refusal::Refusal;
 pub use shaped::Shaped;
 pub use stages::answer;
-
-#[cfg(test)]
-mod tests;

@@ -2,10 +2,10 @@
 
 ghost use Rattle.answers.specs.Steps.{IsShaped};
 
-use crate::entry::Entry;
 use crate::layout::Layout;
 use crate::refusal::Refusal;
 use crate::stages::answer_with;
+use entries::Entry;
 use lanes::{Numbered, Stage, Staged};
 use planar_code::Record;
 use std::alloc::Global;

@@ -3,18 +3,16 @@
 ghost use Rattle.std.specs.Prelude.{◌≡◌, ℕ, List, IfOk};
 ghost use Rattle.ortho_rep.specs.Representation.{IsShape};
 ghost use Rattle.answers.specs.Steps.{IsEmbedded, IsShaped};
-ghost use Rattle.answers.specs.Drawn.{IsDrawn};
-ghost use Rattle.answers.specs.Answers.{Answers};
+ghost use Rattle.entries.specs.Drawn.{IsDrawn};
+ghost use Rattle.entries.specs.Answers.{Answers};
 
-use crate::cause::Cause;
-use crate::entry::Entry;
-use crate::found::Answer;
 use crate::layout::{Layout, lay};
 use crate::refusal::Refusal;
 use compact::{CompactFault, compact};
 use dissect::dissect;
 use drawing_check::{CheckFault, Drawing, check};
 use embedding::{Graph, ReadFault, Rule};
+use entries::{Answer, Cause, Entry};
 use faces::{Plane, TraceFault};
 use ortho_rep::Shape;
 use planar_code::Record;

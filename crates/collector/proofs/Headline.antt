@@ -10,12 +10,13 @@ use Rattle.streams.specs.declared.found.Mark.TheVariants.{Ended, Io}
 use Rattle.streams.specs.Marks.{IsMarked}
 use Rattle.lanes.specs.Notes.{numbered}
 use Rattle.lanes.specs.Opening.{Meaning, Opened}
-use Rattle.answers.specs.declared.found.Answer.{Answer}
-use Rattle.answers.specs.declared.found.Answer.TheVariants.{Laid, Refused, NoMemory}
-use Rattle.answers.specs.declared.entry.Entry.{Entry}
-use Rattle.answers.specs.Answers.{Answers}
-use Rattle.collector.specs.Books.{Pages, about_of, IsBook, AreBooks}
-use Rattle.collector.specs.Results.{AreAllBooks}
+use Rattle.entries.specs.declared.found.Answer.{Answer}
+use Rattle.entries.specs.declared.found.Answer.TheVariants.{Laid, Refused, NoMemory}
+use Rattle.entries.specs.declared.entry.Entry.{Entry}
+use Rattle.entries.specs.Answers.{Answers}
+use Rattle.entries.specs.Abouts.{about_of}
+use Rattle.books.specs.Books.{Pages, IsBook, AreBooks}
+use Rattle.books.specs.Results.{AreAllBooks}
 use Rattle.collector.specs.Headline.{IsDecided, IsEntryFor, AreOneForEach, IsWholeRun, HasMemory}
 
 decided : (bytes : List ℕ) (answer : Answer) → answer ≢ NoMemory → Answers bytes answer → IsDecided bytes answer

@@ -1,7 +1,1 @@
-pub mod Whole
 pub mod Headline
-pub mod Telling
-pub mod Texts
-pub mod Lacks
-pub mod Taking
-pub mod Binding

@@ -5,11 +5,11 @@ use Rattle.planar_code.specs.Stream.{lists_of}
 use Rattle.planar_code.specs.Split.{IsSplit}
 use Rattle.streams.specs.declared.found.Mark.{Mark}
 use Rattle.embedding.specs.Rules.{FirstBroken}
-use Rattle.answers.specs.declared.found.Answer.{Answer}
-use Rattle.answers.specs.declared.found.Answer.TheVariants.{Laid, Refused, NoMemory}
-use Rattle.answers.specs.declared.entry.Entry.{Entry}
-use Rattle.answers.specs.Answers.{IsLaid}
-use Rattle.collector.specs.Books.{Pages}
+use Rattle.entries.specs.declared.found.Answer.{Answer}
+use Rattle.entries.specs.declared.found.Answer.TheVariants.{Laid, Refused, NoMemory}
+use Rattle.entries.specs.declared.entry.Entry.{Entry}
+use Rattle.entries.specs.Answers.{IsLaid}
+use Rattle.books.specs.Books.{Pages}
 
 -- The answer names the first rule that a record of these bytes breaks, or gives a plane with the record's lists, an
 -- orthogonal representation of it and its outer face with the fewest bends, and points that draw it, if any are given.

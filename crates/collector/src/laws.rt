@@ -1,8 +1,8 @@
 //! The promise of a run in short, as the contract of a function that does nothing.
 ghost use Rattle.std.specs.Prelude.{◌≡◌, ℕ, ◌<◌, List, false, slice_index_or};
 ghost use Rattle.lanes.specs.Opening.{Meaning, Opened};
-ghost use Rattle.collector.specs.Books.{Pages};
-ghost use Rattle.collector.specs.Results.{AreAllBooks};
+ghost use Rattle.books.specs.Books.{Pages};
+ghost use Rattle.books.specs.Results.{AreAllBooks};
 ghost use Rattle.collector.specs.Headline.{IsWholeRun, HasMemory};
 
 /// Where `run_plain` or `run_batch` hands out books, the book of each file that opens and gives all

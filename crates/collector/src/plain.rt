@@ -1,10 +1,10 @@
 //! A run on the caller's thread.
 ghost use Rattle.std.specs.Prelude.{◌≡◌, ◌<◌, ◌≤◌, ◌⊎◌, ◌↔◌, Err, IfOk, IfErr, length, vec_len};
-ghost use Rattle.collector.specs.Books.{IsBook};
-ghost use Rattle.collector.specs.Results.{AreAllBooks};
+ghost use Rattle.books.specs.Books.{IsBook};
+ghost use Rattle.books.specs.Results.{AreAllBooks};
 
-use crate::book::{Batch, Book};
-use crate::entries::Entries;
+use crate::kept::Entries;
+use books::{Batch, Book};
 use lanes::{Opener, read_file};
 use std::alloc::{AllocError, Global};
 use streams::{BatchFault, piece_buffer};

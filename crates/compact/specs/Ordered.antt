@@ -1,61 +1,18 @@
--- Numbers in the order of the darts, and the points that are taken from them.
-use Rattle.std.specs.Prelude.{◌≡◌, ◌≢◌, ℕ, ◌+◌, ◌<◌, ◌≤◌, ◌⊎◌, List, [], Vec, map, length, slice_index_or}
-use Rattle.std.specs.List.{range_with_len}
+-- Numbers in the order of the darts, along each axis, and what the faults say.
+use Rattle.std.specs.Prelude.{◌≡◌, ◌≢◌, ℕ, ◌+◌, ◌<◌, ◌≤◌, List, [], Vec, map, slice_index_or}
+use Rattle.std.specs.declared.alloc.Global.{Global}
 use Rattle.cutting.specs.Webs.{Web, IsSound}
 use Rattle.cutting.specs.Paths.{turning_places}
-use Rattle.dissect.specs.Boxes.{Parts, HasEdge, web}
 use Rattle.ortho_rep.specs.declared.points.Point.{Point}
-use Rattle.std.specs.declared.alloc.Global.{Global}
-use Rattle.ortho_rep.specs.Points.{Plot, corners_at, point_lists}
+use Rattle.ortho_rep.specs.Points.{point_lists}
+use Rattle.dissect.specs.Boxes.{Parts, HasEdge, web}
+pub use Rattle.dissect.specs.Ordered.{tail, IsOrdered, AreWithin, point_at, AreTaken, AreLaidOut, HasNoPlace}
 use Rattle.compact.specs.declared.axis.Axis.{Axis}
 use Rattle.compact.specs.declared.axis.Axis.TheVariants.{X, Y}
 use Rattle.compact.specs.declared.gaps.Gap.{Gap}
 use Rattle.compact.specs.Gaps.{Keeps, AreInside}
 use Rattle.compact.specs.declared.fault.CompactFault.{CompactFault}
 use Rattle.compact.specs.declared.fault.CompactFault.TheVariants.{Wide, Memory}
-
--- the vertex that a dart comes from
-abbrev pub tail : Web → ℕ → ℕ
-tail w a = w.head (w.twin a)
-
--- along a dart to the east x grows and y stays, along a dart to the north y grows and x stays; so the other way
--- round to the west and south
-pub record IsOrdered (w : Web) (x y : ℕ → ℕ) : Type 0 where
-  pub east : (a : ℕ) → a < w.darts → w.direction a ≡ 0 → (x (tail w a) < x (w.head a)) × (y (tail w a) ≡ y (w.head a))
-  pub north : (a : ℕ) → a < w.darts → w.direction a ≡ 1 → (y (tail w a) < y (w.head a)) × (x (tail w a) ≡ x (w.head a))
-
--- the numbers of the first n vertices are within the grid
-abbrev pub AreWithin : ℕ → (ℕ → ℕ) → Type 0
-AreWithin n x = (v : ℕ) → v < n → x v ≤ 65535
-
--- the point of a vertex
-abbrev pub point_at : (ℕ → ℕ) → (ℕ → ℕ) → ℕ → Point
-point_at x y v = record { x = x v; y = y v }
-
--- the points of the plane's vertices, and along each of its edges those of the places where its path turns, in order
-pub record AreTaken (b : Parts) (x y : ℕ → ℕ) (points : Plot) : Type 0 where
-  pub vertices : points.vertices ≡ map (point_at x y) (range_with_len 0 b.old)
-  pub vertex_count : length points.vertices ≡ b.old
-  pub count : length points.corners ≡ length b.edges
-  pub corners : (e : ℕ) → e < length b.edges → (edge : HasEdge b e)
-      → corners_at points e ≡ map (point_at x y) (turning_places (web b) edge.first edge.rest)
-
--- the points are taken from some numbers in order, within the grid
-pub record AreLaidOut (b : Parts) (points : Plot) : Type 0 where
-  pub x : ℕ → ℕ
-  pub y : ℕ → ℕ
-  pub ordered : IsOrdered (web b) x y
-  -- the least there are: the lengths of longest paths
-  pub x_least : (x1 y1 : ℕ → ℕ) → IsOrdered (web b) x1 y1 → (v : ℕ) → v < b.vertices → x v ≤ x1 v
-  pub y_least : (x1 y1 : ℕ → ℕ) → IsOrdered (web b) x1 y1 → (v : ℕ) → v < b.vertices → y v ≤ y1 v
-  pub x_within : AreWithin b.vertices x
-  pub y_within : AreWithin b.vertices y
-  pub taken : AreTaken b x y points
-
--- no numbers in order are all within the grid
-abbrev pub HasNoPlace : Parts → Type 0
-HasNoPlace b = (x y : ℕ → ℕ) → IsOrdered (web b) x y
-    → (v : ℕ) × (v < b.vertices) × ((65535 < x v) ⊎ (65535 < y v))
 
 -- what a fault says
 abbrev pub IsCompactFault : Parts → CompactFault → Type 0

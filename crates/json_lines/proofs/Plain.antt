@@ -7,9 +7,9 @@ use Rattle.serde_json.specs.Written.{has_float, items_have_float}
 use Rattle.ortho_rep.specs.declared.points.Point.{Point}
 use Rattle.ortho_rep.specs.Points.{Plot, corners_at}
 use Rattle.ortho_rep.specs.Prices.{Tariff}
-use Rattle.answers.specs.declared.cause.Cause.{Cause}
-use Rattle.answers.specs.declared.found.Answer.{Answer}
-use Rattle.answers.specs.declared.found.Answer.TheVariants.{Laid, Refused, NoMemory}
+use Rattle.entries.specs.declared.cause.Cause.{Cause}
+use Rattle.entries.specs.declared.found.Answer.{Answer}
+use Rattle.entries.specs.declared.found.Answer.TheVariants.{Laid, Refused, NoMemory}
 use Rattle.json_lines.specs.Lines.{natural, whole, array_of, turns_data, point_data, corners_data, prices_data, points_data, drawn_data, answer_data}
 
 plain_items : {A : Type 0} (value : A → Data) → ((x : A) → has_float (value x) ≡ false) → (xs : List A) → items_have_float (items_of (map value xs)) ≡ false

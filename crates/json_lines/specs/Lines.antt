@@ -14,10 +14,10 @@ use Rattle.ortho_rep.specs.Shapes.{Figure, turns_at}
 use Rattle.ortho_rep.specs.Points.{Plot, corners_at}
 use Rattle.ortho_rep.specs.Prices.{Tariff}
 use Rattle.ortho_rep.specs.Representation.{bends_of}
-use Rattle.answers.specs.declared.cause.Cause.{Cause}
-use Rattle.answers.specs.declared.found.Answer.{Answer}
-use Rattle.answers.specs.declared.found.Answer.TheVariants.{Laid, Refused, NoMemory}
-use Rattle.answers.specs.Words as causes
+use Rattle.entries.specs.declared.cause.Cause.{Cause}
+use Rattle.entries.specs.declared.found.Answer.{Answer}
+use Rattle.entries.specs.declared.found.Answer.TheVariants.{Laid, Refused, NoMemory}
+use Rattle.entries.specs.Words as causes
 
 -- ---- numbers, texts, arrays and objects
 

@@ -2,7 +2,7 @@
 #![tactic(auto)]
 
 mod arrays;
-mod entries;
+mod entry;
 mod lines;
 mod objects;
 #[cfg(test)]

@@ -4,8 +4,8 @@ ghost use Rattle.serde_json.specs.View.{view};
 ghost use Rattle.serde_json.specs.Written.{has_float};
 ghost use Rattle.json_lines.specs.Lines.{answer_data, end_data, line_of};
 
-use crate::entries::entry_value;
-use answers::Entry;
+use crate::entry::entry_value;
+use entries::Entry;
 use serde_json::{Value, json};
 use std::alloc::{AllocError, Global};
 

@@ -12,8 +12,8 @@ ghost use Rattle.json_lines.specs.Lines.{natural, array_of, turns_data, prices_d
 use crate::arrays::{
     angles_value, corners_value, face_prices_value, points_value, turns_value, vertex_prices_value,
 };
-use answers::Cause;
 use drawing_check::Drawing;
+use entries::Cause;
 use faces::Plane;
 use ortho_rep::{Prices, Shape};
 use serde_json::{Map, Value, json, put};

@@ -3,9 +3,9 @@
 
 use crate::end_line;
 use crate::objects::{drawn_word, laid_value};
-use answers::Cause;
 use drawing_check::{Drawing, check};
 use embedding::Graph;
+use entries::Cause;
 use faces::Plane;
 use ortho_rep::{Point, Points, Prices, Shape, Turn, certify, is_shape};
 use planar_code::{Framer, HEADER, Record};

@@ -10,8 +10,6 @@ mod message;
 mod numbered;
 mod opener;
 mod reading;
-#[cfg(test)]
-mod reading_tests;
 mod stage;
 
 pub use drafts::{Draft, empty_drafts, gather};

@@ -1,33 +1,20 @@
 //! `planarbend`: draws the graphs of planar_code files with the fewest bends.
 #![tactic(auto)]
 
-mod command;
-mod faults;
-mod file_opener;
-mod form;
-mod layout;
-#[cfg(test)]
-mod layout_tests;
-mod line;
-mod source;
-mod statuses;
-#[cfg(test)]
-mod tests;
-mod words;
-
-use collector::IoSink;
-use faults::Fault;
+use commands::command;
+use program_io::{Fault, report};
 use std::io::ErrorKind;
 use std::process::ExitCode;
 use std::{env, io};
+use streams::IoSink;
 
 fn main(rt: HostRuntime) -> ExitCode {
     let mut out = IoSink::new(io::writer(&rt));
     let mut err = IoSink::new(rt.stderr());
     let status = match arguments(&rt) {
-        Ok(words) => command::command(&rt, words.as_slice(), &mut out, &mut err),
+        Ok(words) => command(&rt, words.as_slice(), &mut out, &mut err),
         Err(fault) => {
-            line::report(fault, &mut err);
+            report(fault, &mut err);
             fault.status()
         }
     };

@@ -11,8 +11,6 @@ mod output;
 mod reading;
 mod report;
 mod run;
-#[cfg(test)]
-mod tests;
 
 pub use faults::{BatchFault, WriteFault};
 pub use found::{Frames, Mark};

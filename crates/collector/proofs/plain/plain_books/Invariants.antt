@@ -1,5 +1,5 @@
 use Rattle.std.proofs.Common.{◌≡◌, vec_len}
-use Rattle.collector.specs.Books.{AreBooks}
+use Rattle.books.specs.Books.{AreBooks}
 use Rattle.collector.proofs.plain.plain_books.Given as goal
 
 abbrev pub invariant-loop-file : goal.invariant-loop-file

@@ -1,8 +1,9 @@
 use Rattle.std.proofs.Common.{map, subst, sym}
 use Rattle.lanes.specs.declared.message.Message.TheVariants.{Item}
 use Rattle.lanes.specs.Keeping.{KeepsFile}
-use Rattle.collector.specs.Books.{about_of, IsBook}
-use Rattle.collector.proofs.Whole.{whole_kept, all_answered}
+use Rattle.entries.specs.Abouts.{about_of}
+use Rattle.books.specs.Books.{IsBook}
+use Rattle.books.proofs.Whole.{whole_kept, all_answered}
 use Rattle.collector.proofs.plain.read_book.Goals as goal
 
 pub returns-clause-book : goal.returns-clause-book

@@ -1,0 +1,35 @@
+//! Books from drafts that are ready.
+ghost use Rattle.std.specs.Prelude.{◌≡◌, ◌≤◌, ℕ, IfOk, IsSome, Some, length, vec_len};
+ghost use Rattle.streams.specs.declared.found.Mark.{Mark};
+ghost use Rattle.lanes.specs.Opening.{Meaning};
+ghost use Rattle.lanes.specs.Files.{AreReady};
+ghost use Rattle.entries.specs.Abouts.{about_of};
+ghost use Rattle.books.specs.Books.{AreBooks};
+
+use crate::book::{Batch, Book};
+use entries::Entry;
+use lanes::Draft;
+use std::alloc::{AllocError, Global};
+
+/// The books of drafts that are each all of their file.
+pub fn bind(alloc: Global, drafts: Vec<Draft<Entry>>) -> Result<Batch, AllocError>
+    requires few { vec_len drafts ≤ 64 }
+    requires ready { (meaning : ℕ → Meaning) × AreReady about_of meaning 0 drafts.items }
+    ensures count { IfOk result (λ books. length books ≡ vec_len drafts) }
+    ensures books { IfOk result (λ books. (meaning : ℕ → Meaning)
+        → AreReady about_of meaning 0 drafts.items → AreBooks meaning 0 books) }
+{
+    let mut books = Vec::with_capacity(alloc, drafts.len())?;
+    for draft in drafts {
+        books.push(bound(draft))?;
+    }
+    Ok(Batch::new(books))
+}
+
+/// The book of a draft with a mark.
+fn bound(draft: Draft<Entry>) -> Book
+    requires { IsSome draft.mark }
+    ensures { (mark : Mark) → draft.mark ≡ Some mark → result ≡ record { entries = draft.entries.items; mark = mark } }
+{
+    Book::new(draft.entries, draft.mark.unwrap())
+}

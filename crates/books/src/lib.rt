@@ -1,0 +1,8 @@
+//! What a run over files hands out: a book for each file, with its entries in order and its one mark.
+#![tactic(auto)]
+
+mod binding;
+mod book;
+
+pub use binding::bind;
+pub use book::{Batch, Book};

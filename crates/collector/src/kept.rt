@@ -1,0 +1,38 @@
+//! Entries of a file that is read and answered on one thread.
+ghost use Rattle.std.specs.Prelude.{⊤, map};
+ghost use Rattle.lanes.specs.declared.message.Message.TheVariants.{Item};
+ghost use Rattle.entries.specs.Abouts.{about_of};
+
+use answers::{Entry, answer};
+use lanes::Keep;
+use planar_code::Record;
+use std::alloc::{AllocError, Global};
+
+/// The entries of the records that were kept, in order.
+#[derive(Drop)]
+pub struct Entries {
+    pub entries: Vec<Entry>,
+}
+
+impl Keep for Entries {
+    type Lost = AllocError;
+
+    ghost kept = { λ e. map (λ entry. Item (about_of entry)) e.entries.items };
+
+    ghost keeps = { λ _ _. ⊤ };
+
+    fn keep(
+        &mut self,
+        alloc: Global,
+        file: u32,
+        ordinal: u32,
+        rec: Record,
+    ) -> Result<(), AllocError> {
+        self.entries.push(answer(alloc, file, ordinal, rec))?;
+        Ok(())
+    }
+
+    ghost keeps_itself = { λ _. tt };
+
+    ghost keeps_on = { λ _ _ _ _ _. tt };
+}

@@ -1,0 +1,25 @@
+//! What a run's lanes do.
+ghost use Rattle.std.specs.Prelude.{◌≡◌};
+
+use answers::{Embedded, Framed, Shaped};
+use entries::Entry;
+use lane_runs::Line;
+use planar_code::Record;
+
+/// Lanes that answer records: what is known of a record between their stages.
+#[derive(Clone, Copy, Debug)]
+pub struct Answering;
+
+impl Line for Answering {
+    type Framed = Framed;
+
+    type Embedded = Embedded;
+
+    type Shaped = Shaped;
+
+    type Entry = Entry;
+
+    fn framed(file: u32, ordinal: u32, rec: Record) -> Framed {
+        Framed { file, ordinal, rec }
+    }
+}

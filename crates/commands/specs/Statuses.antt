@@ -1,0 +1,47 @@
+-- What the program's exit status says.
+use Rattle.std.specs.Prelude.{◌≡◌, ◌≢◌, ◌↔◌, ℕ, Bool, false, List, Option, All, vec_len}
+use Rattle.std.specs.Io.KnownBytes.{Appends}
+use Rattle.planar_code.specs.declared.ending.Ending.{Ending}
+use Rattle.streams.specs.declared.found.Mark.{Mark}
+use Rattle.streams.specs.Found.{Found}
+use Rattle.streams.specs.Marks.{IsMarked}
+use Rattle.streams.specs.Text.{frames_text}
+use Rattle.lanes.specs.Opening.{Silent}
+use Rattle.books.specs.Books.{Pages}
+use Rattle.books.specs.Results.{AreAllBooks}
+use Rattle.reports.specs.declared.form.Form.{Form}
+use Rattle.reports.specs.Forms.{text_in}
+use Rattle.reports.specs.Wholes.{IsWholeBook}
+use Rattle.commands.specs.declared.words.Request.{Request}
+use Rattle.commands.specs.declared.words.Request.TheVariants.{Frames, Layout}
+
+-- the file ended complete
+abbrev pub IsComplete : Found → Type 0
+IsComplete found = found.mark ≡ Mark.Ended Ending.Complete
+
+-- The whole report of a file was added to the output, and the status tells how the file ended. Nothing is known of the
+-- file beforehand: the records and the mark are those of some bytes, after which it ends or fails.
+pub record IsReported (old new : Option (List ℕ)) (failed : Bool) (status : ℕ) : Type 0 where
+  pub found : Found
+  pub bytes : List ℕ
+  pub fails : Bool
+  pub marked : IsMarked bytes fails found.records found.mark
+  pub text : Appends old new (frames_text found)
+  pub whole : failed ≡ false
+  pub complete : IsComplete found ↔ (status ≡ 0)
+  pub other : status ≢ 0 → status ≡ 3
+
+-- The whole text of the books of so many files, in this form, was added to the output, and the status tells whether each
+-- book is whole. Nothing is known of the files beforehand.
+pub record IsLaidOut (form : Form) (files : ℕ) (old new : Option (List ℕ)) (failed : Bool) (status : ℕ) : Type 0 where
+  pub books : List Pages
+  pub of_files : AreAllBooks (λ _. Silent) files books
+  pub text : Appends old new (text_in form books)
+  pub written : failed ≡ false
+  pub whole : All IsWholeBook books ↔ (status ≡ 0)
+  pub other : status ≢ 0 → status ≡ 3
+
+-- the whole report that a request asks for was added to the output, with this status
+abbrev pub IsDone : Request → Option (List ℕ) → Option (List ℕ) → Bool → ℕ → Type 0
+IsDone (Frames path) old new failed status = IsReported old new failed status
+IsDone (Layout paths lanes form) old new failed status = IsLaidOut form (vec_len paths) old new failed status

@@ -1,0 +1,141 @@
+//! What the program does with its words.
+ghost use Rattle.std.specs.Prelude.{◌≡◌, ◌≤◌, ◌⊎◌, ℕ, true, false, IfOk, IfErr, OnOk};
+ghost use Rattle.reports.specs.declared.form.Form.{Form};
+ghost use Rattle.program_io.specs.Refusals.{IsRefusal};
+ghost use Rattle.commands.specs.Statuses.{IsReported, IsLaidOut, IsDone};
+
+use crate::layout::{CAPACITY, layout};
+use crate::words::{Request, parse};
+use clap::Error;
+use clap::error::ErrorKind;
+use program_io::{Fault, open_source, report};
+use reports::status_of;
+use std::alloc::Global;
+use std::rt::Files;
+use std::sync::Wait;
+use std::thread::Threads;
+use streams::{Sink, put_all, run_frames, write_frames};
+
+/// Does what the words after the program's name ask for, and answers the program's exit status.
+/// A report goes to `out`, and the line of a fault to `err`; that this line may fail changes nothing.
+///
+/// The status is 0 for help and for a whole report in which each file ends complete and no graph
+/// wanted for memory, 3 for any other whole report, 2 for a command line that is refused, and 1 where
+/// there is no whole report.
+pub fn command<R: Files + AllocGlobal + Threads + Wait + Sync, S: Sink, E: Sink>(
+    rt: &R,
+    words: &[String],
+    out: &mut S,
+    err: &mut E,
+) -> u8
+where
+    R::File: Send,
+    R::Dir: Send,
+    requires out_is_whole { S.failed out.old ≡ false }
+    requires err_is_whole { E.failed err.old ≡ false }
+    ensures known { result ≤ 3 }
+    ensures failed_write { S.failed out.new ≡ true → result ≡ 1 }
+
+    // Where the command line is refused, nothing is reported.
+    ensures refused { result ≡ 2 → out.new ≡ out.old }
+
+    // Status 3 comes with a whole report: of a file that does not end complete, or of files of which
+    // one does not or lacks an answer for want of memory.
+    ensures reported { result ≡ 3
+        → IsReported (S.taken out.old) (S.taken out.new) (S.failed out.new) 3
+        ⊎ ((form : Form) × (files : ℕ) × IsLaidOut form files (S.taken out.old) (S.taken out.new) (S.failed out.new) 3) }
+{
+    match parse(rt.alloc(), words) {
+        Ok(request) => perform(rt, request, out, err),
+        Err(error) if error.use_stderr() => refuse(rt.alloc(), &error, err),
+        Err(error) => match show_help(rt.alloc(), &error, out) {
+            Ok(()) => 0,
+            Err(fault) => end_by(fault, err),
+        },
+    }
+}
+
+/// Does what a request asks for, and answers the exit status. It is 0 or 3 only where the whole report
+/// was written, of all files that the request names, and then as `command` says.
+fn perform<R: Files + AllocGlobal + Threads + Wait + Sync, S: Sink, E: Sink>(
+    rt: &R,
+    request: Request,
+    out: &mut S,
+    err: &mut E,
+) -> u8
+where
+    R::File: Send,
+    R::Dir: Send,
+    requires out_is_whole { S.failed out.old ≡ false }
+    requires err_is_whole { E.failed err.old ≡ false }
+    ensures known { result ≤ 3 }
+    ensures failed_write { S.failed out.new ≡ true → result ≡ 1 }
+    ensures refused { result ≡ 2 → out.new ≡ out.old }
+    ensures done { (result ≡ 0) ⊎ (result ≡ 3)
+        → IsDone request.entry (S.taken out.old) (S.taken out.new) (S.failed out.new) result }
+{
+    let outcome = match request {
+        Request::Frames { path } => frames(rt, path, out),
+        Request::Layout { paths, lanes, form } => layout(rt, paths.as_slice(), lanes, form, out),
+    };
+    match outcome {
+        Ok(status) => status,
+        Err(fault) => end_by(fault, err),
+    }
+}
+
+/// Writes the line of a fault, and answers its status.
+fn end_by<E: Sink>(fault: Fault, err: &mut E) -> u8
+    requires { E.failed err.old ≡ false }
+    ensures refused { IsRefusal fault → result ≡ 2 }
+    ensures failed { ¬ IsRefusal fault → result ≡ 1 }
+{
+    report(fault, err);
+    fault.status()
+}
+
+/// The records of one file.
+fn frames<R: Files + AllocGlobal + Threads + Wait + Sync, S: Sink>(
+    rt: &R,
+    path: &str,
+    out: &mut S,
+) -> Result<u8, Fault>
+where
+    R::File: Send,
+    requires { S.failed out.old ≡ false }
+    ensures reported { IfOk result (IsReported (S.taken out.old) (S.taken out.new) (S.failed out.new)) }
+    ensures failed { IfErr result (λ fault. ¬ IsRefusal fault) }
+{
+    let source = open_source(rt, path)?;
+    let found = run_frames(rt, rt.alloc(), source, CAPACITY)?;
+    write_frames(&found, out)?;
+    Ok(status_of(found.mark()))
+}
+
+/// Writes why the command line is refused, and answers the status: 2, or 1 for want of memory.
+fn refuse<E: Sink>(alloc: Global, error: &Error, err: &mut E) -> u8
+    requires { E.failed err.old ≡ false }
+    ensures { (result ≡ 1) ⊎ (result ≡ 2) }
+{
+    if error.kind() == ErrorKind::OutOfMemory {
+        return end_by(Fault::Memory, err);
+    }
+    match error.to_string(alloc) {
+        Ok(text) => {
+            let _ = put_all(err, text.as_bytes());
+            2
+        }
+        Err(_) => end_by(Fault::Memory, err),
+    }
+}
+
+/// Writes the help that was asked for.
+fn show_help<S: Sink>(alloc: Global, help: &Error, out: &mut S) -> Result<(), Fault>
+    requires { S.failed out.old ≡ false }
+    ensures whole { OnOk result (S.failed out.new ≡ false) }
+    ensures failed { IfErr result (λ fault. ¬ IsRefusal fault) }
+{
+    let text = help.to_string(alloc).map_err(|_| Fault::Memory)?;
+    put_all(out, text.as_bytes())?;
+    Ok(())
+}

@@ -1,0 +1,121 @@
+//! The command line.
+
+use clap::{Arg, ArgAction, ArgMatches, Command, Error, value_parser};
+use reports::Form;
+use std::alloc::{AllocError, Global};
+
+/// What the command line asks for.
+#[derive(Drop)]
+pub enum Request<'a> {
+    /// The records of one file.
+    Frames {
+        path: &'a str,
+    },
+    /// Answers to the records of files, worked out in so many lanes and written in a form.
+    Layout {
+        paths: Vec<&'a str>,
+        lanes: u32,
+        form: Form,
+    },
+}
+
+/// Reads the words after the program's name.
+pub fn parse<'a>(alloc: Global, words: &'a [String]) -> Result<Request<'a>, Error> {
+    let matches = describe(alloc)?.try_get_matches_from(words)?;
+    match matches.subcommand_matches("layout") {
+        Some(layout) => Ok(layout_request(alloc, layout)?),
+        None => Ok(Request::Frames {
+            path: path_of(&matches).unwrap_or(""),
+        }),
+    }
+}
+
+fn layout_request<'a>(alloc: Global, matches: &ArgMatches<'a>) -> Result<Request<'a>, AllocError> {
+    Ok(Request::Layout {
+        paths: Vec::from_slice(alloc, matches.get_strs("FILE").unwrap_or(&[]))?,
+        lanes: matches.get_one("lanes").unwrap_or(1),
+        form: if matches.get_flag("json") {
+            Form::Json
+        } else {
+            Form::Report
+        },
+    })
+}
+
+fn path_of<'a>(matches: &ArgMatches<'a>) -> Option<&'a str> {
+    matches.subcommand_matches("frames")?.get_str("FILE")
+}
+
+/// What the program takes, with the texts of its help.
+fn describe<'a>(alloc: Global) -> Result<Command<'a>, AllocError> {
+    Command::new(alloc, "planarbend")
+        .bin_name("planarbend")?
+        .about("Draws embedded planar graphs in planar_code with the fewest bends")
+        .after_help(HELP)
+        .no_binary_name(true)
+        .subcommand_required(true)
+        .arg_required_else_help(true)
+        .subcommand(describe_layout(alloc)?)?
+        .subcommand(describe_frames(alloc)?)
+}
+
+fn describe_layout<'a>(alloc: Global) -> Result<Command<'a>, AllocError> {
+    let lanes = Arg::new(alloc, "lanes")
+        .long("lanes")
+        .value_name("N")
+        .help("How many files are worked on at once, 1 to 4")
+        .value_parser(value_parser!(u32))
+        .default_value("1");
+    let json = Arg::new(alloc, "json")
+        .long("json")
+        .help("Prints JSON lines in place of the report: also shapes, prices and points")
+        .action(ArgAction::SetTrue);
+    let files = Arg::new(alloc, "FILE")
+        .help("Planar_code files, at most 64: the 15 bytes >>planar_code<< and then records")
+        .required(true)
+        .num_args(1..)
+        .action(ArgAction::Append);
+    Command::new(alloc, "layout")
+        .about(
+            "Prints for each graph of planar_code files its fewest bends and whether it is drawn",
+        )
+        .after_help(LAYOUT_HELP)
+        .arg(lanes)?
+        .arg(json)?
+        .arg(files)
+}
+
+fn describe_frames<'a>(alloc: Global) -> Result<Command<'a>, AllocError> {
+    let file = Arg::new(alloc, "FILE")
+        .help("A planar_code file: the 15 bytes >>planar_code<< and then records")
+        .required(true)
+        .action(ArgAction::Set);
+    Command::new(alloc, "frames")
+        .about("Prints a line for each record of a planar_code file, and how the file ends")
+        .after_help(FRAMES_HELP)
+        .arg(file)
+}
+
+const HELP: &str = "Examples:
+  planarbend layout examples/two.pc
+  planarbend frames examples/two.pc";
+
+const LAYOUT_HELP: &str = "Examples:
+  planarbend layout examples/two.pc
+prints
+  file 1
+  graph 1 ok n=2 m=1 f=1 bends=0 drawn=yes
+  graph 2 ok n=3 m=3 f=2 bends=1 drawn=yes
+  end complete graphs=2
+and from a generator
+  geng -c -D4 8 | planarg -p > graphs.pc && planarbend layout graphs.pc
+With --json there is a line for each graph and each file's end, and each is a JSON object.
+The status is 0 where each file ends complete and no graph wanted for memory, and else 3.";
+
+const FRAMES_HELP: &str = "Example:
+  planarbend frames examples/two.pc
+prints
+  record 1 n=2 bytes=5
+  record 2 n=3 bytes=10
+  end complete records=2
+The status is 0 where the file ends complete, and else 3.";

@@ -1,0 +1,4 @@
+pub mod Words
+pub mod Drawn
+pub mod Answers
+pub mod Abouts

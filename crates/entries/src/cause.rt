@@ -1,0 +1,35 @@
+//! Why a shape was not drawn.
+
+ghost use Rattle.std.specs.Prelude.{◌≡◌};
+
+/// Why a shape of a record's plane has no drawing.
+#[derive(Clone, Copy, Debug, PartialEq, Eq)]
+pub enum Cause {
+    /// Its boxes have no coordinates that are all at most 65,535.
+    Wide,
+    /// Some coordinate is above 65,535.
+    OutOfGrid,
+    /// A segment of an edge is not parallel to an axis.
+    NotAxis,
+    /// A corner or an angle is not that of the shape.
+    WrongTurn,
+    /// A point is met twice.
+    Meet,
+}
+
+impl Cause {
+    ghost use Rattle.entries.specs.Words.{word_of};
+
+    /// The word that reports have for the cause.
+    pub fn word(self) -> &'static str
+        ensures { result.now ≡ word_of self }
+    {
+        match self {
+            Cause::Wide => "wide",
+            Cause::OutOfGrid => "outofgrid",
+            Cause::NotAxis => "notaxis",
+            Cause::WrongTurn => "wrongturn",
+            Cause::Meet => "meet",
+        }
+    }
+}

@@ -1,0 +1,31 @@
+//! Records with their answers.
+
+ghost use Rattle.entries.specs.Answers.{Answers};
+
+use crate::found::Answer;
+use lanes::Numbered;
+use planar_code::Record;
+
+/// A record of a file, and what is answered to it.
+#[derive(Drop)]
+pub struct Entry {
+    /// The file, from 0.
+    pub file: u32,
+    /// The record's place in its file, from 0.
+    pub ordinal: u32,
+    pub rec: Record,
+    pub answer: Answer,
+    pub ghost answers: { ∥ Answers rec answer ∥₁ },
+}
+
+impl Numbered for Entry {
+    ghost about = { λ e. record { file = e.file; ordinal = e.ordinal; bytes = e.rec } };
+
+    fn file(&self) -> u32 {
+        self.file
+    }
+
+    fn ordinal(&self) -> u32 {
+        self.ordinal
+    }
+}

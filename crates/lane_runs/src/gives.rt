@@ -1,0 +1,45 @@
+//! The records of a lane as its first stage gives them.
+ghost use Rattle.std.proofs.Common.{refl, ◌∙◌};
+ghost use Rattle.ruled_lanes.specs.LinkEnds.{given, GivesToSame};
+ghost use Rattle.lanes.specs.Notes.{notes};
+
+use crate::line::Line;
+use lanes::{Gate, Keep, Message, Stage};
+use planar_code::Record;
+use ruled_lanes::Giver;
+use std::alloc::Global;
+use std::sync::Wait;
+
+/// The other end of a link was gone.
+#[derive(Clone, Copy, Debug)]
+pub struct Gone;
+
+/// Passes the gate and gives a message for each record.
+#[derive(Drop)]
+pub struct Gives<'r, 'g, R, G, L: Line> {
+    pub rt: &'r R,
+    pub gate: &'g G,
+    pub lane: u32,
+    pub giver: Giver<Message<L::Framed>>,
+}
+
+impl<R: Wait, G: Gate, L: Line> Keep for Gives<'_, '_, R, G, L> {
+    type Lost = Gone;
+
+    ghost kept = { λ g. notes L.Framed.about (given g.giver) };
+
+    ghost keeps = { λ a b. GivesToSame a.giver b.giver };
+
+    fn keep(&mut self, _alloc: Global, file: u32, ordinal: u32, rec: Record) -> Result<(), Gone> {
+        self.gate.pass(self.lane, Stage::Read, ordinal);
+        let item = Message::Item(L::framed(file, ordinal, rec));
+        match self.giver.give(self.rt, item) {
+            Ok(()) => Ok(()),
+            Err(_) => Err(Gone),
+        }
+    }
+
+    ghost keeps_itself = { λ x. refl };
+
+    ghost keeps_on = { λ x y z p q. q ∙ p };
+}

@@ -1,0 +1,53 @@
+//! What ends the program without a whole report.
+ghost use Rattle.std.specs.Prelude.{◌≡◌};
+
+use streams::{BatchFault, WriteFault};
+use thiserror::Error;
+
+/// Why there is no whole report. The text of each is the line that the program prints.
+#[derive(Clone, Copy, Debug, PartialEq, Eq, Error)]
+pub enum Fault {
+    #[error("out of memory")]
+    Memory,
+    #[error("arguments are not text")]
+    NotText,
+    #[error(transparent)]
+    Run(BatchFault),
+    #[error(transparent)]
+    Write(WriteFault),
+}
+
+impl Fault {
+    ghost use Rattle.program_io.specs.Refusals.{IsRefusal};
+
+    /// The program's exit status: 2 where what was asked for is refused, and else 1.
+    pub fn status(self) -> u8
+        ensures refused { IsRefusal self → result ≡ 2 }
+        ensures failed { ¬ IsRefusal self → result ≡ 1 }
+    {
+        match self {
+            Fault::NotText | Fault::Run(BatchFault::TooManyFiles | BatchFault::BadLanes) => 2,
+            Fault::Memory | Fault::Run(_) | Fault::Write(_) => 1,
+        }
+    }
+}
+
+impl From<BatchFault> for Fault {
+    ghost use Rattle.program_io.specs.declared.faults.Fault.{Fault};
+
+    ghost from_gives = { λ fault e. e ≡ Fault.Run fault };
+
+    fn from(fault: BatchFault) -> Fault {
+        Fault::Run(fault)
+    }
+}
+
+impl From<WriteFault> for Fault {
+    ghost use Rattle.program_io.specs.declared.faults.Fault.{Fault};
+
+    ghost from_gives = { λ fault e. e ≡ Fault.Write fault };
+
+    fn from(fault: WriteFault) -> Fault {
+        Fault::Write(fault)
+    }
+}

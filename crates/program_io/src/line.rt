@@ -1,0 +1,40 @@
+//! The line that names a fault. It is made without memory.
+ghost use Rattle.std.specs.Prelude.{◌≡◌, ◌≤◌, false};
+
+use crate::faults::Fault;
+use std::fmt;
+use std::fmt::Write;
+use streams::{Sink, put_all};
+
+/// A short line of text in a fixed buffer; what does not fit is left out.
+#[derive(Drop)]
+struct Line {
+    bytes: [u8; 128],
+    len: usize,
+    ghost in_range: { len ≤ 128 },
+}
+
+impl fmt::Write for Line {
+    fn write_str(&mut self, text: &str) -> fmt::Result {
+        for byte in text.as_bytes() {
+            if self.len == 128 {
+                return Err(fmt::Error);
+            }
+            self.bytes[self.len] = *byte;
+            self.len += 1;
+        }
+        Ok(())
+    }
+}
+
+/// Writes `planarbend: ` and the fault's message. That this may fail changes nothing.
+pub fn report<E: Sink>(fault: Fault, err: &mut E)
+    requires { E.failed err.old ≡ false }
+{
+    let mut line = Line {
+        bytes: [0; 128],
+        len: 0,
+    };
+    let _ = writeln!(line, "planarbend: {fault}");
+    let _ = put_all(err, &line.bytes[..line.len]);
+}

@@ -1,0 +1,366 @@
+//! Runs of `layout` on files that the tests write. The bytes and the texts come from the description of
+//! the format and of the report.
+
+use super::frames::{EDGE, HEADER, Narrow, TRIANGLE, check_help, check_refused, names_no_run, run};
+use commands::command;
+use std::process::Abort;
+use std::rt::Files;
+use std::sync::Wait;
+use std::test::Fail;
+use std::thread::Threads;
+use std::{fs, io};
+use streams::IoSink;
+
+/// Writes a file of these parts.
+fn write_parts<R: Files + AllocGlobal>(rt: &R, name: &str, parts: &[&[u8]]) -> io::Result<()> {
+    let mut bytes = Vec::new(rt.alloc());
+    for part in parts {
+        bytes.extend_from_slice(part)?;
+    }
+    fs::write(rt, name, bytes.as_slice())
+}
+
+/// Runs the command with these words, and looks at the report and the status.
+fn check<R: Files + AllocGlobal + Threads + Wait + Sync + Abort>(
+    rt: &R,
+    words: &[&str],
+    report: &str,
+    status: u8,
+) -> Result<(), Fail>
+where
+    R::File: Send,
+    R::Dir: Send,
+{
+    let ran = run(rt, words)?;
+    assert_eq!(rt; ran.out.as_slice(), report.as_bytes(), "{report}");
+    assert_eq!(rt; ran.status, status, "{report}");
+    assert_eq!(rt; ran.err.len(), 0, "{report}");
+    Ok(())
+}
+
+#[test]
+fn reports_each_graph(rt: HostRuntime) -> Result<(), Fail> {
+    write_parts(&rt, "two.pc", &[HEADER, EDGE, TRIANGLE])?;
+    let first = "file 1\n\
+        graph 1 ok n=2 m=1 f=1 bends=0 drawn=yes\n\
+        graph 2 ok n=3 m=3 f=2 bends=1 drawn=yes\n\
+        end complete graphs=2\n";
+    check(&rt, &["layout", "two.pc"], first, 0)?;
+    let twice = "file 1\n\
+        graph 1 ok n=2 m=1 f=1 bends=0 drawn=yes\n\
+        graph 2 ok n=3 m=3 f=2 bends=1 drawn=yes\n\
+        end complete graphs=2\n\
+        file 2\n\
+        graph 1 ok n=2 m=1 f=1 bends=0 drawn=yes\n\
+        graph 2 ok n=3 m=3 f=2 bends=1 drawn=yes\n\
+        end complete graphs=2\n";
+    check(&rt, &["layout", "two.pc", "two.pc"], twice, 0)
+}
+
+/// A graph that is refused does not change the status.
+#[test]
+fn reports_refused_graphs(rt: HostRuntime) -> Result<(), Fail> {
+    write_parts(&rt, "refused.pc", &[HEADER, &[1, 0], EDGE])?;
+    let report = "file 1\n\
+        graph 1 refused edgeless\n\
+        graph 2 ok n=2 m=1 f=1 bends=0 drawn=yes\n\
+        end complete graphs=2\n";
+    check(&rt, &["layout", "refused.pc"], report, 0)?;
+    write_parts(&rt, "none.pc", &[HEADER])?;
+    check(
+        &rt,
+        &["layout", "none.pc"],
+        "file 1\nend complete graphs=0\n",
+        0,
+    )
+}
+
+/// Runs `layout` on a file of this body behind the header, and looks at the lines behind the first.
+fn check_body<R: Files + AllocGlobal + Threads + Wait + Sync + Abort>(
+    rt: &R,
+    body: &[u8],
+    lines: &str,
+    status: u8,
+) -> Result<(), Fail>
+where
+    R::File: Send,
+    R::Dir: Send,
+{
+    write_parts(rt, "body.pc", &[HEADER, body])?;
+    let report = format!(in rt.alloc(); "file 1\n{lines}\n")?;
+    check(rt, &["layout", "body.pc"], report.as_str(), status)
+}
+
+/// Known graphs, each in a file of its own, with their fewest bends.
+#[test]
+fn lays_out_known_graphs(rt: HostRuntime) -> Result<(), Fail> {
+    let laid: [(&[u8], &str); 4] = [
+        (TRIANGLE, "n=3 m=3 f=2 bends=1"),
+        (
+            &[4, 3, 4, 2, 0, 1, 4, 3, 0, 2, 4, 1, 0, 3, 2, 1, 0],
+            "n=4 m=6 f=4 bends=4",
+        ),
+        (
+            &[
+                6, 2, 3, 4, 5, 0, 6, 3, 1, 5, 0, 2, 6, 4, 1, 0, 1, 3, 6, 5, 0, 2, 1, 4, 6, 0, 2, 5,
+                4, 3, 0,
+            ],
+            "n=6 m=12 f=8 bends=12",
+        ),
+        (
+            &[5, 2, 3, 4, 5, 0, 1, 0, 1, 0, 1, 0, 1, 0],
+            "n=5 m=4 f=1 bends=0",
+        ),
+    ];
+    for (body, sizes) in laid {
+        let lines = format!(in rt.alloc(); "graph 1 ok {sizes} drawn=yes\nend complete graphs=1")?;
+        check_body(&rt, body, lines.as_str(), 0)?;
+    }
+    Ok(())
+}
+
+/// Graphs that break a rule, each in a file of its own.
+#[test]
+fn names_each_broken_rule(rt: HostRuntime) -> Result<(), Fail> {
+    let refused: [(&[u8], &str); 9] = [
+        (&[1, 0], "edgeless"),
+        (&[2, 0, 0], "edgeless"),
+        (
+            &[4, 3, 4, 2, 0, 1, 4, 3, 0, 2, 4, 1, 0, 1, 2, 3, 0],
+            "genus",
+        ),
+        (
+            &[6, 2, 3, 4, 5, 6, 0, 1, 0, 1, 0, 1, 0, 1, 0, 1, 0],
+            "degree",
+        ),
+        (&[2, 3, 0, 1, 0], "range"),
+        (&[2, 2, 0, 0], "asymmetric"),
+        (&[2, 1, 0, 0], "loop"),
+        (&[2, 2, 2, 0, 1, 1, 0], "multi"),
+        (&[4, 2, 0, 1, 0, 4, 0, 3, 0], "disconnected"),
+    ];
+    for (body, rule) in refused {
+        let lines = format!(in rt.alloc(); "graph 1 refused {rule}\nend complete graphs=1")?;
+        check_body(&rt, body, lines.as_str(), 0)?;
+    }
+    Ok(())
+}
+
+/// Files that go on behind their records as no file may.
+#[test]
+fn marks_faults_behind_records(rt: HostRuntime) -> Result<(), Fail> {
+    let edge = "graph 1 ok n=2 m=1 f=1 bends=0 drawn=yes\nend large graphs=1";
+    check_body(&rt, &[2, 2, 0, 1, 0, 0], edge, 3)?;
+    let mut long = [1; 256];
+    long[0] = 255;
+    check_body(&rt, &long[..255], "end truncated graphs=0", 3)?;
+    check_body(&rt, &long, "end oversize graphs=0", 3)
+}
+
+/// The longest cycle that a record can hold.
+#[test]
+fn reports_a_cycle_of_most_vertices(rt: HostRuntime) -> Result<(), Fail> {
+    let mut body = Vec::new(rt.alloc());
+    body.push(255)?;
+    for v in 1..=255u8 {
+        let next = if v == 255 { 1 } else { v + 1 };
+        let last = if v == 1 { 255 } else { v - 1 };
+        body.extend_from_slice(&[next, last, 0])?;
+    }
+    let lines = "graph 1 ok n=255 m=255 f=2 bends=0 drawn=yes\nend complete graphs=1";
+    check_body(&rt, body.as_slice(), lines, 0)
+}
+
+#[test]
+fn marks_files_that_do_not_end_well(rt: HostRuntime) -> Result<(), Fail> {
+    fs::create_dir_all(&rt, "layout_folder")?;
+    let unread = "file 1\nend io graphs=0\n";
+    check(&rt, &["layout", "layout_folder"], unread, 3)?;
+    check(&rt, &["layout", "missing.pc"], unread, 3)?;
+    write_parts(&rt, "empty.pc", &[])?;
+    check(
+        &rt,
+        &["layout", "empty.pc"],
+        "file 1\nend header graphs=0\n",
+        3,
+    )?;
+    write_parts(&rt, "cut.pc", &[HEADER, EDGE, &[2, 2, 0, 1]])?;
+    let cut = "file 1\n\
+        graph 1 ok n=2 m=1 f=1 bends=0 drawn=yes\n\
+        end truncated graphs=1\n";
+    check(&rt, &["layout", "cut.pc"], cut, 3)
+}
+
+/// Files that differ are reported in the order of their names, however many lanes there are.
+#[test]
+fn keeps_files_apart(rt: HostRuntime) -> Result<(), Fail> {
+    write_parts(&rt, "triangles.pc", &[HEADER, TRIANGLE, TRIANGLE])?;
+    write_parts(&rt, "cut.pc", &[HEADER, EDGE, &[2, 2, 0, 1]])?;
+    write_parts(&rt, "none.pc", &[HEADER])?;
+    let report = "file 1\n\
+        graph 1 ok n=3 m=3 f=2 bends=1 drawn=yes\n\
+        graph 2 ok n=3 m=3 f=2 bends=1 drawn=yes\n\
+        end complete graphs=2\n\
+        file 2\n\
+        graph 1 ok n=2 m=1 f=1 bends=0 drawn=yes\n\
+        end truncated graphs=1\n\
+        file 3\n\
+        end complete graphs=0\n";
+    for lanes in ["1", "2", "3", "4"] {
+        let words = [
+            "layout",
+            "--lanes",
+            lanes,
+            "triangles.pc",
+            "cut.pc",
+            "none.pc",
+        ];
+        check(&rt, &words, report, 3)?;
+    }
+    Ok(())
+}
+
+/// Runs the command on JSON lines that name no drawing, and looks at them.
+#[test]
+fn shows_json_lines(rt: HostRuntime) -> Result<(), Fail> {
+    write_parts(&rt, "json_empty.pc", &[])?;
+    let header = "{\"end\":\"header\",\"file\":1,\"graphs\":0}\n";
+    check(&rt, &["layout", "--json", "json_empty.pc"], header, 3)?;
+    write_parts(&rt, "json_edgeless.pc", &[HEADER, &[1, 0]])?;
+    let edgeless = "{\"file\":1,\"graph\":1,\"rule\":\"edgeless\",\"status\":\"refused\"}\n\
+        {\"end\":\"complete\",\"file\":1,\"graphs\":1}\n";
+    check(&rt, &["layout", "--json", "json_edgeless.pc"], edgeless, 0)?;
+    let torus = [4, 3, 4, 2, 0, 1, 4, 3, 0, 2, 4, 1, 0, 1, 2, 3, 0];
+    write_parts(&rt, "json_torus.pc", &[HEADER, &torus])?;
+    let genus = "{\"file\":1,\"graph\":1,\"rule\":\"genus\",\"status\":\"refused\"}\n\
+        {\"end\":\"complete\",\"file\":1,\"graphs\":1}\n";
+    check(&rt, &["layout", "json_torus.pc", "--json"], genus, 0)
+}
+
+/// The line of a single edge, but for its points and prices.
+#[test]
+fn shows_an_edge_as_json(rt: HostRuntime) -> Result<(), Fail> {
+    write_parts(&rt, "json_edge.pc", &[HEADER, EDGE])?;
+    let ran = run(&rt, &["layout", "--json", "--lanes", "2", "json_edge.pc"])?;
+    assert_eq!(rt; (ran.status, ran.err.len()), (0, 0));
+    let text = ran.out.as_slice();
+    let begins =
+        b"{\"angles\":[4,4],\"bends\":0,\"drawn\":\"yes\",\"f\":1,\"file\":1,\"graph\":1,\"m\":1,\"n\":2,\"points\":{";
+    let ends =
+        b"\"status\":\"ok\",\"turns\":[\"\",\"\"]}\n{\"end\":\"complete\",\"file\":1,\"graphs\":1}\n";
+    assert!(rt; text.starts_with(begins) && text.ends_with(ends));
+    Ok(())
+}
+
+#[test]
+fn refuses_other_command_lines(rt: HostRuntime) -> Result<(), Fail> {
+    check_refused(&rt, &["layout"], "were not provided:\n  <FILE>...\n")?;
+    check_refused(&rt, &["layout", "--lanes", "x", "a"], "invalid value 'x'")?;
+    check_refused(
+        &rt,
+        &["frames", "--json", "a"],
+        "unexpected argument '--json' found",
+    )?;
+    for lanes in ["0", "5"] {
+        check_refused(
+            &rt,
+            &["layout", "--lanes", lanes, "a"],
+            "planarbend: lanes must be 1 to 4\n",
+        )?;
+    }
+    let mut words = ["a"; 66];
+    words[0] = "layout";
+    check_refused(&rt, &words, "planarbend: more than 64 files\n")?;
+    check_help(
+        &rt,
+        &["layout", "--help"],
+        "  geng -c -D4 8 | planarg -p > graphs.pc && planarbend layout graphs.pc\n",
+    )
+}
+
+const REPORT: &[u8] = b"file 1\n\
+    graph 1 ok n=2 m=1 f=1 bends=0 drawn=yes\n\
+    end complete graphs=1\n";
+
+fn words_for<R: Files + AllocGlobal>(rt: &R) -> io::Result<Vec<String>> {
+    write_parts(rt, "case.pc", &[HEADER, EDGE])?;
+    let mut words = Vec::new(rt.alloc());
+    words.push(String::from_str(rt.alloc(), "layout")?)?;
+    words.push(String::from_str(rt.alloc(), "case.pc")?)?;
+    Ok(words)
+}
+
+#[test]
+fn names_a_failed_write(rt: HostRuntime) -> Result<(), Fail> {
+    let words = words_for(&rt)?;
+    for room in [0, 10, REPORT.len() - 1] {
+        let mut out = IoSink::new(Narrow::new(room));
+        let mut err = IoSink::new(Narrow::new(64));
+        assert_eq!(rt; command(&rt, words.as_slice(), &mut out, &mut err), 1);
+        assert_eq!(rt; out.into_writer().text(), &REPORT[..room]);
+        assert_eq!(rt;
+            err.into_writer().text(),
+            b"planarbend: write failed\n".as_slice()
+        );
+    }
+    Ok(())
+}
+
+/// With each allocation refused in turn, the run ends in an answer that names it.
+#[test]
+fn names_want_of_memory(rt: HostRuntime) {
+    let Ok(words) = words_for(&rt) else {
+        return;
+    };
+    let mut out = IoSink::new(Narrow::new(128));
+    let mut err = IoSink::new(Narrow::new(64));
+    let status = command(&rt, words.as_slice(), &mut out, &mut err);
+    let out = out.into_writer();
+    let err = err.into_writer();
+    let whole = out.text() == REPORT && err.text().is_empty() && status == 0;
+    let marked = names_no_answer(out.text()) && err.text().is_empty() && status == 3;
+    let no_run = out.text().is_empty() && names_no_run(err.text()) && status == 1;
+    assert!(rt; whole || marked || no_run, "status {status}");
+}
+
+/// Whether the report says that the file or its graph found no memory.
+fn names_no_answer(report: &[u8]) -> bool {
+    report == b"file 1\nend memory graphs=0\n".as_slice()
+        || report == b"file 1\ngraph 1 memory\nend complete graphs=1\n".as_slice()
+}
+
+const JSON_LINES: &[u8] = b"{\"file\":1,\"graph\":1,\"rule\":\"edgeless\",\"status\":\"refused\"}\n\
+    {\"end\":\"complete\",\"file\":1,\"graphs\":1}\n";
+
+/// The same of JSON lines, which take memory of their own.
+#[test]
+fn json_names_want_of_memory(rt: HostRuntime) {
+    let Ok(words) = json_words_for(&rt) else {
+        return;
+    };
+    let mut out = IoSink::new(Narrow::new(128));
+    let mut err = IoSink::new(Narrow::new(64));
+    let status = command(&rt, words.as_slice(), &mut out, &mut err);
+    let out = out.into_writer();
+    let err = err.into_writer();
+    let whole = out.text() == JSON_LINES && err.text().is_empty() && status == 0;
+    let marked = names_no_json_answer(out.text()) && err.text().is_empty() && status == 3;
+    let no_run = JSON_LINES.starts_with(out.text()) && names_no_run(err.text()) && status == 1;
+    assert!(rt; whole || marked || no_run, "status {status}");
+}
+
+fn json_words_for<R: Files + AllocGlobal>(rt: &R) -> io::Result<Vec<String>> {
+    write_parts(rt, "json_case.pc", &[HEADER, &[1, 0]])?;
+    let mut words = Vec::new(rt.alloc());
+    for word in ["layout", "--json", "json_case.pc"] {
+        words.push(String::from_str(rt.alloc(), word)?)?;
+    }
+    Ok(words)
+}
+
+/// Whether the lines say that the file or its graph found no memory.
+fn names_no_json_answer(lines: &[u8]) -> bool {
+    lines == b"{\"end\":\"memory\",\"file\":1,\"graphs\":0}\n".as_slice()
+        || lines
+            == b"{\"file\":1,\"graph\":1,\"status\":\"memory\"}\n{\"end\":\"complete\",\"file\":1,\"graphs\":1}\n".as_slice()
+}

@@ -1,0 +1,8 @@
+//! Tests of whole commands on files that they write, of what they print and of their exit status, and of
+//! refused allocations.
+#![tactic(auto)]
+
+#[cfg(test)]
+mod frames;
+#[cfg(test)]
+mod layouts;

@@ -1,0 +1,5 @@
+pub mod Report
+pub mod Json
+pub mod Writing
+pub mod Forms
+pub mod Wholes

@@ -1,0 +1,38 @@
+//! The forms in which a batch is written.
+ghost use Rattle.std.specs.Prelude.{◌≡◌, false};
+ghost use Rattle.reports.specs.Writing.{WritesOrLacks};
+
+use crate::json::write_json;
+use crate::report::write_report;
+use books::Batch;
+use std::alloc::Global;
+use streams::{Sink, WriteFault};
+
+/// A form in which answers are written.
+#[derive(Clone, Copy, Debug, PartialEq, Eq)]
+pub enum Form {
+    /// The report: a line for each file, graph and mark.
+    Report,
+    /// A JSON object for each graph and mark, each on a line of its own.
+    Json,
+}
+
+impl Form {
+    ghost use Rattle.reports.specs.Forms.{text_in};
+
+    /// Writes a batch in this form. Only JSON takes memory.
+    ///
+    /// # Errors
+    ///
+    /// `Write` exactly where the sink has then failed, and `Memory` where there was none for a line. The
+    /// sink has then taken a beginning of the text.
+    pub fn write<S: Sink>(self, alloc: Global, batch: &Batch, out: &mut S) -> Result<(), WriteFault>
+        requires { S.failed out.old ≡ false }
+        ensures { WritesOrLacks (S.taken out.old) (S.taken out.new) (S.failed out.new) (text_in self batch.now) result }
+    {
+        match self {
+            Form::Report => write_report(batch, out),
+            Form::Json => write_json(alloc, batch, out),
+        }
+    }
+}

@@ -1,0 +1,12 @@
+//! The text of a batch of books, as a report or as JSON lines, and the exit status that goes with it.
+#![tactic(auto)]
+
+mod form;
+mod json;
+mod report;
+mod statuses;
+
+pub use form::Form;
+pub use json::write_json;
+pub use report::{push_cause, write_report};
+pub use statuses::{status_of, status_of_batch};

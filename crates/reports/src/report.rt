@@ -1,0 +1,219 @@
+//! The text of a report.
+ghost use Rattle.std.specs.Prelude.{◌≡◌, ◌+◌, ◌<◌, ◌≤◌, ◌++◌, false, length};
+ghost use Rattle.streams.specs.Sink.{Writes, StaysOnItsWay};
+ghost use Rattle.streams.specs.Text.{word_of};
+ghost use Rattle.reports.specs.Report.{report_text, book_text, file_line, end_line, entry_line, answer_text, sizes_text, drawn_text, cause_text, numbered_texts};
+
+use books::{Batch, Book};
+use drawing_check::Drawing;
+use entries::{Answer, Cause, Entry};
+use faces::Plane;
+use ortho_rep::Shape;
+use planar_code::Ending;
+use streams::{Gathered, Mark, Sink, WriteFault};
+
+/// Writes for each file a line with its number, a line for each entry and a line for its mark. It takes
+/// no memory: lines are gathered in a fixed buffer.
+///
+/// # Errors
+///
+/// `Write` where the sink failed; it has then taken a beginning of the report. There is no other.
+pub fn write_report<S: Sink>(batch: &Batch, sink: &mut S) -> Result<(), WriteFault>
+    requires { S.failed sink.old ≡ false }
+    ensures { Writes (S.taken sink.old) (S.taken sink.new) (S.failed sink.new) (report_text batch.now) result }
+{
+    let mut lines = Gathered::new();
+    for file in 0..batch.files() {
+        write_book(&mut lines, sink, file + 1, batch.book(file))?;
+    }
+    lines.flush(sink)
+}
+
+/// Writes the lines of one file.
+fn write_book<S: Sink>(
+    lines: &mut Gathered,
+    sink: &mut S,
+    number: u32,
+    book: &Book,
+) -> Result<(), WriteFault>
+    requires { S.failed sink.old ≡ false }
+    ensures { StaysOnItsWay (S.taken sink.old) lines.old (S.taken sink.new) lines.new
+        (S.failed sink.new) (book_text number book.now) result }
+{
+    let entries = book.entries();
+    write_file(lines, sink, number)?;
+    write_entries(lines, sink, entries)?;
+    write_end(lines, sink, book.mark(), entries.len() as u64)
+}
+
+/// Writes the first line of a file.
+fn write_file<S: Sink>(lines: &mut Gathered, sink: &mut S, number: u32) -> Result<(), WriteFault>
+    requires { S.failed sink.old ≡ false }
+    ensures { StaysOnItsWay (S.taken sink.old) lines.old (S.taken sink.new) lines.new
+        (S.failed sink.new) (file_line number) result }
+{
+    lines.make_room(sink)?;
+    push_file(lines, number);
+    Ok(())
+}
+
+/// Adds the first line of a file.
+fn push_file(lines: &mut Gathered, number: u32)
+    requires { length lines.old ≤ 15872 }
+    ensures { lines.new ≡ lines.old ++ file_line number }
+{
+    lines.push(b"file ");
+    lines.push_number(u64::from(number));
+    lines.push(b"\n");
+}
+
+/// Writes a line for each entry.
+fn write_entries<S: Sink>(
+    lines: &mut Gathered,
+    sink: &mut S,
+    entries: &[Entry],
+) -> Result<(), WriteFault>
+    requires { S.failed sink.old ≡ false }
+    ensures { StaysOnItsWay (S.taken sink.old) lines.old (S.taken sink.new) lines.new
+        (S.failed sink.new) (numbered_texts entry_line 1 entries.now) result }
+{
+    for (index, entry) in entries.iter().enumerate() {
+        write_entry(lines, sink, index as u64 + 1, entry)?;
+    }
+    Ok(())
+}
+
+/// Writes the line of one entry.
+fn write_entry<S: Sink>(
+    lines: &mut Gathered,
+    sink: &mut S,
+    number: u64,
+    entry: &Entry,
+) -> Result<(), WriteFault>
+    requires { S.failed sink.old ≡ false }
+    ensures { StaysOnItsWay (S.taken sink.old) lines.old (S.taken sink.new) lines.new
+        (S.failed sink.new) (entry_line number entry.now) result }
+{
+    lines.make_room(sink)?;
+    push_entry(lines, number, entry);
+    Ok(())
+}
+
+/// Adds the line of one entry.
+fn push_entry(lines: &mut Gathered, number: u64, entry: &Entry)
+    requires { length lines.old ≤ 15872 }
+    ensures { lines.new ≡ lines.old ++ entry_line number entry.now }
+{
+    lines.push(b"graph ");
+    lines.push_number(number);
+    push_answer(lines, &entry.answer);
+    lines.push(b"\n");
+}
+
+/// Adds what an answer is, in at most 300 bytes.
+fn push_answer(lines: &mut Gathered, answer: &Answer)
+    requires { length lines.old ≤ 16000 }
+    ensures text { lines.new ≡ lines.old ++ answer_text answer.now }
+    ensures short { length lines.new ≤ length lines.old + 300 }
+{
+    match answer {
+        Answer::Laid {
+            plane,
+            shape,
+            drawing,
+            prices: _,
+        } => {
+            lines.push(b" ok");
+            push_sizes(lines, plane, shape);
+            push_drawn(lines, drawing);
+        }
+        Answer::Refused(rule) => {
+            lines.push(b" refused ");
+            lines.push(rule.word().as_bytes());
+        }
+        Answer::NoMemory => lines.push(b" memory"),
+    }
+}
+
+/// Adds how many vertices, edges, faces and bends there are, in at most 200 bytes.
+fn push_sizes(lines: &mut Gathered, plane: &Plane, shape: &Shape)
+    requires { length lines.old ≤ 16010 }
+    ensures text { lines.new ≡ lines.old ++ sizes_text plane.now shape.now }
+    ensures short { length lines.new ≤ length lines.old + 200 }
+{
+    lines.push(b" n=");
+    lines.push_number(u64::from(plane.graph().vertices()));
+    lines.push(b" m=");
+    lines.push_number(u64::from(plane.graph().edges()));
+    lines.push(b" f=");
+    lines.push_number(u64::from(plane.face_count()));
+    lines.push(b" bends=");
+    lines.push_number(u64::from(shape.bends()));
+}
+
+/// Adds whether there is a drawing, in at most 40 bytes.
+fn push_drawn(lines: &mut Gathered, drawing: &Result<Drawing, Cause>)
+    requires { length lines.old ≤ 16300 }
+    ensures text { lines.new ≡ lines.old ++ drawn_text drawing.now }
+    ensures short { length lines.new ≤ length lines.old + 40 }
+{
+    match drawing {
+        Ok(_) => lines.push(b" drawn=yes"),
+        Err(cause) => push_cause(lines, *cause),
+    }
+}
+
+/// Adds the end of the line of a graph that has no drawing, in at most 40 bytes.
+pub fn push_cause(lines: &mut Gathered, cause: Cause)
+    requires { length lines.old ≤ 16300 }
+    ensures text { lines.new ≡ lines.old ++ cause_text cause }
+    ensures short { length lines.new ≤ length lines.old + 40 }
+{
+    lines.push(b" drawn=no cause=");
+    lines.push(cause.word().as_bytes());
+}
+
+/// Writes the last line of a file.
+fn write_end<S: Sink>(
+    lines: &mut Gathered,
+    sink: &mut S,
+    mark: Mark,
+    count: u64,
+) -> Result<(), WriteFault>
+    requires { S.failed sink.old ≡ false }
+    ensures { StaysOnItsWay (S.taken sink.old) lines.old (S.taken sink.new) lines.new
+        (S.failed sink.new) (end_line mark count) result }
+{
+    lines.make_room(sink)?;
+    push_end(lines, mark, count);
+    Ok(())
+}
+
+/// Adds the last line of a file.
+fn push_end(lines: &mut Gathered, mark: Mark, count: u64)
+    requires { length lines.old ≤ 15872 }
+    ensures { lines.new ≡ lines.old ++ end_line mark count }
+{
+    lines.push(b"end ");
+    lines.push(mark_word(mark).as_bytes());
+    lines.push(b" graphs=");
+    lines.push_number(count);
+    lines.push(b"\n");
+}
+
+/// The word of a mark.
+pub(crate) fn mark_word(mark: Mark) -> &'static str
+    ensures word { result.now ≡ word_of mark }
+    ensures short { length result.now ≤ 9 }
+{
+    match mark {
+        Mark::Ended(Ending::Complete) => "complete",
+        Mark::Ended(Ending::Truncated) => "truncated",
+        Mark::Ended(Ending::Header) => "header",
+        Mark::Ended(Ending::Large) => "large",
+        Mark::Ended(Ending::Oversize) => "oversize",
+        Mark::Ended(Ending::Many) => "many",
+        Mark::Ended(Ending::Memory) => "memory",
+        Mark::Io => "io",
+    }
+}

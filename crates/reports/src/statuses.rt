@@ -1,0 +1,51 @@
+//! The status of a whole report.
+ghost use Rattle.std.specs.Prelude.{◌≡◌, ◌≢◌, ◌↔◌, All, IsTrue};
+ghost use Rattle.reports.specs.Wholes.{IsWholeBook};
+
+use books::{Batch, Book};
+use entries::{Answer, Entry};
+use planar_code::Ending;
+use streams::Mark;
+
+/// The status of a report of records: 0 where the file ended complete, and else 3.
+pub fn status_of(mark: Mark) -> u8
+    ensures complete { (result ≡ 0) ↔ (mark ≡ Mark.Ended Ending.Complete) }
+    ensures other { mark ≢ Mark.Ended Ending.Complete → result ≡ 3 }
+{
+    if is_complete(mark) { 0 } else { 3 }
+}
+
+/// The status of a report of answers: 0 where each file ended complete and no record lacks an answer
+/// for want of memory, and else 3.
+pub fn status_of_batch(batch: &Batch) -> u8
+    ensures whole { (result ≡ 0) ↔ All IsWholeBook batch.now }
+    ensures other { result ≢ 0 → result ≡ 3 }
+{
+    for file in 0..batch.files() {
+        if !is_whole(batch.book(file)) {
+            return 3;
+        }
+    }
+    0
+}
+
+/// Whether a file ended complete and each of its records has an answer.
+fn is_whole(book: &Book) -> bool
+    ensures { IsTrue result ↔ IsWholeBook book.now }
+{
+    is_complete(book.mark()) && book.entries().iter().all(is_answered)
+}
+
+/// Whether a file ended complete.
+fn is_complete(mark: Mark) -> bool
+    ensures { IsTrue result ↔ (mark ≡ Mark.Ended Ending.Complete) }
+{
+    matches!(mark, Mark::Ended(Ending::Complete))
+}
+
+/// Whether memory sufficed for an answer.
+fn is_answered(entry: &Entry) -> bool
+    ensures { IsTrue result ↔ (entry.now.answer ≢ Answer.NoMemory) }
+{
+    !matches!(entry.answer, Answer::NoMemory)
+}
