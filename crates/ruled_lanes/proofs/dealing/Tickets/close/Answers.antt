@@ -18,7 +18,7 @@ overflow_cast-word c =
     omega (arith, c.args.self.within, c.args.self.key)
 
 pub returns-clause-each_once : goal.returns-clause-each_once
-returns-clause-each_once c = (told c).0
+returns-clause-each_once c = λ x. let once = (told c).0 x in ((λ less. omega (arith, once.0)), λ more. omega (arith, once.1))
 
 pub returns-clause-word : goal.returns-clause-word
 returns-clause-word c = let counted = (told c).1 in omega (arith, counted)
