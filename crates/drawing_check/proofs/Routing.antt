@@ -1,20 +1,17 @@
--- The routes of a plane's edges, against its lesser darts and their paths.
-use Rattle.std.proofs.Common.{◌≡◌, ℕ, ◌+◌, ◌<◌, ◌↔◌, true, false, List, [], ◌∷◌, ◌++◌, map, filter, get_or, refl, sym, ap, ◌∙◌, subst, arith, All}
-use Rattle.std.specs.List.{range_with_len}
+-- The paths of a plane's edges, met by their lesser darts in order.
+use Rattle.std.proofs.Common.{◌≡◌, ℕ, ◌+◌, ◌<◌, ◌↔◌, Bool, true, false, zero, suc, cond, List, [], ◌∷◌, ◌++◌, map, filter, get_or, refl, sym, ap, ◌∙◌, subst, ⊎_elim, arith, All}
+use Rattle.std.specs.List.{range_with_len, Contains}
 use Rattle.std.proofs.lemmas.List.{get_or-map, length-map, map_push, append-nil}
 use Rattle.std.proofs.lemmas.List.FromFn.{get_or-range_with_len, length-range_with_len}
-use Rattle.std.proofs.lemmas.List.Elements.{All-push, All-map, All-filter, All-tail}
-use Rattle.std.proofs.lemmas.Bool.{cond-true, cond-false}
+use Rattle.std.proofs.lemmas.List.Elements.{All-map, All-filter, All-contains, filter_passes, Contains-append_left, Contains-append_right}
+use Rattle.std.proofs.lemmas.Bool.{cases_eq, cond-true, cond-false}
 use Rattle.faces.specs.Map.{Map, darts}
 use Rattle.ortho_rep.proofs.EdgeNumbers.{lesser-more}
 use Rattle.ortho_rep.specs.declared.points.Point.{Point}
 use Rattle.ortho_rep.specs.Points.{Plot}
-use Rattle.ortho_rep.specs.Shapes.{Figure, turns_at}
 use Rattle.ortho_rep.specs.Edges.{is_lesser, lesser_darts}
-use Rattle.drawing_check.specs.declared.route.Route.{Route}
 use Rattle.drawing_check.specs.Paths.{path_along, paths}
-use Rattle.drawing_check.specs.Draws.{IsOnAxes, AreOnAxes, IsTurning}
-use Rattle.drawing_check.specs.Routes.{path_of, AreRoutes}
+use Rattle.drawing_check.specs.Draws.{IsOnAxes, AreOnAxes}
 
 -- what holds of each image holds at each element
 pub all_from_map : {X Y : Type 0} (P : Y → Type 0) (f : X → Y) (xs : List X) → All P (map f xs) → All (λ x. P (f x)) xs
@@ -23,67 +20,53 @@ all_from_map P f xs h = λ k d lt. subst P (get_or-map f xs k d (f d) lt) (h k (
 lesser_inside : (p : Map) → All (λ d. d < darts p) (lesser_darts p)
 lesser_inside p = All-filter (is_lesser p) (λ d. d < darts p) (range_with_len 0 (darts p)) (λ k d lt. let size = length-range_with_len 0 (darts p) in let value = get_or-range_with_len 0 (darts p) k d (omega arith) in omega arith)
 
-pub routes_inside : (p : Map) (points : Plot) (routes : List Route) → AreRoutes p points routes → All (λ route. route.dart < darts p) routes
-routes_inside p points routes are =
-    all_from_map (λ d. d < darts p) (λ (route : Route). route.dart) routes
-    (subst (λ (ds : List ℕ). All (λ d. d < darts p) ds) (sym are.darts) (lesser_inside p))
+-- each lesser dart below n stands in their list
+lesser_in : (q : ℕ → Bool) (n d : ℕ) → d < n → q d ≡ true → Contains (filter q (range_with_len 0 n)) d
+lesser_in q zero d lt here = absurd (omega arith)
+lesser_in q (suc n) d lt here =
+    let one : n + 1 ≡ suc n = omega arith in
+    let more = subst (λ (m : ℕ). filter q (range_with_len 0 m) ≡ filter q (range_with_len 0 n) ++ cond (q n) (n ∷ []) []) one (lesser-more q n) in
+    let last : d ≡ n → Contains (cond (q n) (n ∷ []) []) d =
+    λ e. subst (λ (ds : List ℕ). Contains ds d) (sym (cond-true (q n) (n ∷ []) [] (subst (λ (m : ℕ). q m ≡ true) e here))) (subst (λ (m : ℕ). Contains (m ∷ []) d) e (0, omega arith, refl)) in
+    subst (λ (ds : List ℕ). Contains ds d) (sym more)
+    (⊎_elim
+    (λ e. Contains-append_right (filter q (range_with_len 0 n)) (cond (q n) (n ∷ []) []) d (last e))
+    (λ ne. Contains-append_left (filter q (range_with_len 0 n)) (cond (q n) (n ∷ []) []) d (lesser_in q n d (omega arith) here))
+    (cases_eq d n))
 
-paths_of_darts : (p : Map) (points : Plot) (routes : List Route) → All (λ route. path_of route ≡ path_along p points route.dart) routes → map path_of routes ≡ map (path_along p points) (map (λ (route : Route). route.dart) routes)
-paths_of_darts p points [] h = refl
-paths_of_darts p points (route ∷ routes) h =
-    let first : path_of route ≡ path_along p points route.dart = h 0 route (omega arith) in
-    ap (λ (path : List Point). path ∷ map path_of routes) first
-    ∙ ap (λ (ps : List (List Point)). path_along p points route.dart ∷ ps) (paths_of_darts p points routes (All-tail (λ (r : Route). path_of r ≡ path_along p points r.dart) route routes h))
-
--- the paths of the routes are those of the edges
-pub paths_are : (p : Map) (points : Plot) (routes : List Route) → AreRoutes p points routes → map path_of routes ≡ paths p points
-paths_are p points routes are = paths_of_darts p points routes are.paths ∙ ap (map (path_along p points)) are.darts
-
-pub axes_are : (p : Map) (points : Plot) (routes : List Route) → AreRoutes p points routes → All (λ route. IsOnAxes (path_of route)) routes ↔ AreOnAxes (paths p points)
-axes_are p points routes are = (
-  λ h. subst (λ (ps : List (List Point)). AreOnAxes ps) (paths_are p points routes are) (All-map IsOnAxes path_of routes h),
-  λ h. all_from_map IsOnAxes path_of routes (subst (λ (ps : List (List Point)). AreOnAxes ps) (sym (paths_are p points routes are)) h),
+-- what holds of all in their list holds of each lesser dart, and the other way
+pub each_lesser : (P : ℕ → Type 0) (p : Map) → All P (lesser_darts p) ↔ ((d : ℕ) → d < darts p → is_lesser p d ≡ true → P d)
+each_lesser P p = (
+  λ all d lt here. All-contains P (lesser_darts p) d all (lesser_in (is_lesser p) (darts p) d lt here),
+  λ each k d lt. each (get_or (lesser_darts p) k d) (lesser_inside p k d lt) (filter_passes (is_lesser p) (range_with_len 0 (darts p)) k d lt),
 )
 
-pub turns_are : (p : Map) (shape : Figure) (points : Plot) (routes : List Route) → AreRoutes p points routes → All (λ route. IsTurning (path_of route) (turns_at shape route.dart)) routes ↔ All (λ d. IsTurning (path_along p points d) (turns_at shape d)) (lesser_darts p)
-turns_are p shape points routes are = (
-  λ h. subst (λ (ds : List ℕ). All turning ds) are.darts
-      (All-map turning (λ (route : Route). route.dart) routes (λ k d lt. subst (λ (path : List Point). IsTurning path (turns_at shape (get_or routes k d).dart)) (are.paths k d lt) (h k d lt))),
-  λ h k d lt. subst (λ (path : List Point). IsTurning path (turns_at shape (get_or routes k d).dart)) (sym (are.paths k d lt))
-      (all_from_map turning (λ (route : Route). route.dart) routes (subst (λ (ds : List ℕ). All turning ds) (sym are.darts) h) k d lt),
-)
-  where
-    turning : ℕ → Type 0
-    turning d = IsTurning (path_along p points d) (turns_at shape d)
+-- one dart more
+pub each_more : (P : ℕ → Type 0) (p : Map) (n : ℕ) → ((d : ℕ) → d < n → is_lesser p d ≡ true → P d) → (is_lesser p n ≡ true → P n) → (d : ℕ) → d < n + 1 → is_lesser p d ≡ true → P d
+each_more P p n before last d lt lesser =
+    ⊎_elim
+    (λ e. subst P (sym e) (last (subst (λ (m : ℕ). is_lesser p m ≡ true) e lesser)))
+    (λ ne. before d (omega arith) lesser)
+    (cases_eq d n)
 
--- the routes are those of the lesser darts below n
-pub record IsRouted (p : Map) (points : Plot) (routes : List Route) (n : ℕ) : Type 0 where
-  pub darts : map (λ (route : Route). route.dart) routes ≡ filter (is_lesser p) (range_with_len 0 n)
-  pub paths : All (λ route. path_of route ≡ path_along p points route.dart) routes
+-- all paths are on axes where that of each lesser dart is, and the other way
+pub axes_each : (p : Map) (points : Plot) → AreOnAxes (paths p points) ↔ ((d : ℕ) → d < darts p → is_lesser p d ≡ true → IsOnAxes (path_along p points d))
+axes_each p points =
+    let each = each_lesser (λ d. IsOnAxes (path_along p points d)) p in (
+      λ h. each.0 (all_from_map IsOnAxes (path_along p points) (lesser_darts p) h),
+      λ h. All-map IsOnAxes (path_along p points) (lesser_darts p) (each.1 h),
+    )
 
-pub routed_more : (p : Map) (points : Plot) (old new : List Route) (n : ℕ) (route : Route) → IsRouted p points old n → is_lesser p n ≡ true → route.dart ≡ n → path_of route ≡ path_along p points n → new ≡ old ++ route ∷ [] → IsRouted p points new (n + 1)
-routed_more p points old new n route is lesser is_dart is_path is_new =
-    record {
-      darts =
-          ap (map (λ (r : Route). r.dart)) is_new
-          ∙ map_push (λ (r : Route). r.dart) old route
-          ∙ ap (λ (ds : List ℕ). ds ++ route.dart ∷ []) is.darts
-          ∙ ap (λ (d : ℕ). filter (is_lesser p) (range_with_len 0 n) ++ d ∷ []) is_dart
-          ∙ ap (λ (ds : List ℕ). filter (is_lesser p) (range_with_len 0 n) ++ ds) (sym (cond-true (is_lesser p n) (n ∷ []) [] lesser))
-          ∙ sym (lesser-more (is_lesser p) n);
-      paths = subst (λ (rs : List Route). All follows rs) (sym is_new) (All-push follows old route is.paths (is_path ∙ ap (path_along p points) (sym is_dart)));
-    }
-  where
-    follows : Route → Type 0
-    follows r = path_of r ≡ path_along p points r.dart
+-- the paths of the lesser darts below n
+abbrev pub paths_below : Map → Plot → ℕ → List (List Point)
+paths_below p points n = map (path_along p points) (filter (is_lesser p) (range_with_len 0 n))
 
-pub routed_kept : (p : Map) (points : Plot) (routes : List Route) (n : ℕ) → IsRouted p points routes n → is_lesser p n ≡ false → IsRouted p points routes (n + 1)
-routed_kept p points routes n is greater =
-    record {
-      darts =
-          is.darts
-          ∙ sym (append-nil (filter (is_lesser p) (range_with_len 0 n)))
-          ∙ ap (λ (ds : List ℕ). filter (is_lesser p) (range_with_len 0 n) ++ ds) (sym (cond-false (is_lesser p n) (n ∷ []) [] greater))
-          ∙ sym (lesser-more (is_lesser p) n);
-      paths = is.paths;
-    }
+pub paths_below-more : (p : Map) (points : Plot) (n : ℕ) → is_lesser p n ≡ true → paths_below p points (n + 1) ≡ paths_below p points n ++ path_along p points n ∷ []
+paths_below-more p points n lesser =
+    ap (map (path_along p points)) (lesser-more (is_lesser p) n ∙ ap (λ (ds : List ℕ). filter (is_lesser p) (range_with_len 0 n) ++ ds) (cond-true (is_lesser p n) (n ∷ []) [] lesser))
+    ∙ map_push (path_along p points) (filter (is_lesser p) (range_with_len 0 n)) n
+
+pub paths_below-kept : (p : Map) (points : Plot) (n : ℕ) → is_lesser p n ≡ false → paths_below p points (n + 1) ≡ paths_below p points n
+paths_below-kept p points n greater =
+    ap (map (path_along p points))
+    (lesser-more (is_lesser p) n ∙ ap (λ (ds : List ℕ). filter (is_lesser p) (range_with_len 0 n) ++ ds) (cond-false (is_lesser p n) (n ∷ []) [] greater) ∙ append-nil (filter (is_lesser p) (range_with_len 0 n)))

@@ -1,8 +1,8 @@
 -- The strips of a path list the points between its ends.
-use Rattle.std.proofs.Common.{◌≡◌, ℕ, ◌+◌, ◌-◌, ◌<◌, ◌≤◌, ◌⊎◌, Bool, true, false, List, [], ◌∷◌, ◌++◌, map, length, get_or, refl, sym, ap, ◌∙◌, subst, ⊎_elim, inl, inr, arith, All, AllPairs, ◌↔◌, take, append_assoc, eqb, suc, cond}
+use Rattle.std.proofs.Common.{◌≡◌, ℕ, ◌+◌, ◌-◌, ◌<◌, ◌≤◌, ◌⊎◌, Bool, true, false, List, [], ◌∷◌, ◌++◌, map, get_or, refl, sym, ap, ◌∙◌, subst, ⊎_elim, inl, inr, arith, All, AllPairs, ◌↔◌, append_assoc, eqb, suc, cond}
 use Rattle.std.specs.List.{flat_map}
 use Rattle.std.proofs.lemmas.Bool.{cases_lt, cases_Bool, eqb-true, eq-eqb, and_parts, and_from, both_ways, cond-true, cond-false}
-use Rattle.std.proofs.lemmas.List.{append-nil, map_more}
+use Rattle.std.proofs.lemmas.List.{append-nil}
 use Rattle.std.proofs.lemmas.List.Concat.{flat_map-append}
 use Rattle.std.proofs.lemmas.List.Elements.{All-append, All-cons, All-tail, All-head, All-nil}
 use Rattle.rectangles.specs.declared.Rectangle.{Rectangle}
@@ -13,8 +13,6 @@ use Rattle.drawing_check.specs.Paths.{point_of}
 use Rattle.drawing_check.specs.Draws.{IsAxis, IsOnAxes, AreOnAxes}
 use Rattle.drawing_check.specs.Shown.{span_of, same_point, strips, Lists, Shows}
 use Rattle.drawing_check.proofs.Coverings.{point_is, shows_append, no_repeat_from_apart, apart_from_no_repeat}
-use Rattle.drawing_check.specs.declared.route.Route.{Route}
-use Rattle.drawing_check.specs.Routes.{path_of}
 use Rattle.drawing_check.proofs.Segments.{toward_up, toward_down, toward_same, segment_lists}
 
 -- where b lies from a: above, below, right or left
@@ -198,16 +196,13 @@ last_strip old new target value from e l done is_l more is_value is_new =
     is_new ∙ ap (λ (v : Rectangle). old ++ v ∷ []) is_value ∙ ap (λ (s : List Rectangle). old ++ s) (sym one) ∙ ap (λ (m : List Point). old ++ strips (from ∷ (m ++ e ∷ []))) (sym is_l) ∙ done
 
 -- the rectangles of one more path
-paths-more : (base : List Rectangle) (routes : List Route) (i : ℕ) (d : Route) → i < length routes → base ++ flat_map strips (map path_of (take (i + 1) routes)) ≡ (base ++ flat_map strips (map path_of (take i routes))) ++ strips (path_of (get_or routes i d))
-paths-more base routes i d lt =
-    let before : List Rectangle = flat_map strips (map path_of (take i routes)) in
-    ap (λ (ps : List (List Point)). base ++ flat_map strips ps) (map_more path_of routes i d lt)
-    ∙ ap (λ (s : List Rectangle). base ++ s) (flat_map-append strips (map path_of (take i routes)) (path_of (get_or routes i d) ∷ []) ∙ ap (λ (s : List Rectangle). before ++ s) (append-nil (strips (path_of (get_or routes i d)))))
-    ∙ sym (append_assoc base before (strips (path_of (get_or routes i d))))
-
-pub paths_step : (base old new : List Rectangle) (routes : List Route) (i : ℕ) (d : Route) → i < length routes → old ≡ base ++ flat_map strips (map path_of (take i routes)) → new ≡ old ++ strips (path_of (get_or routes i d)) → new ≡ base ++ flat_map strips (map path_of (take (i + 1) routes))
-paths_step base old new routes i d lt done is_new =
-    is_new ∙ ap (λ (rs : List Rectangle). rs ++ strips (path_of (get_or routes i d))) done ∙ sym (paths-more base routes i d lt)
+pub paths_step : (base old new : List Rectangle) (ps : List (List Point)) (path : List Point) → old ≡ base ++ flat_map strips ps → new ≡ old ++ strips path → new ≡ base ++ flat_map strips (ps ++ path ∷ [])
+paths_step base old new ps path done is_new =
+    is_new
+    ∙ ap (λ (rs : List Rectangle). rs ++ strips path) done
+    ∙ append_assoc base (flat_map strips ps) (strips path)
+    ∙ ap (λ (s : List Rectangle). base ++ s)
+    (ap (λ (s : List Rectangle). flat_map strips ps ++ s) (sym (append-nil (strips path))) ∙ sym (flat_map-append strips ps (path ∷ [])))
 
 -- the rectangles of all vertices and all paths are apart exactly where no point is met twice
 pub apart_is_no_repeat : (vertices : List Point) (ps : List (List Point)) (rs : List Rectangle) → AreOnAxes ps → rs ≡ map (λ p. span_of p p) vertices ++ flat_map strips ps → AllPairs AreApart rs ↔ HasNoRepeat (vertices ++ flat_map inner ps)

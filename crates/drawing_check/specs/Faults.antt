@@ -18,3 +18,9 @@ IsFirstFault p shape points Meet =
     AreInGrid points × AreOnAxes (paths p points) × TurnAsSaid p shape points
     × ¬ MeetNowhere points (paths p points)
 IsFirstFault p shape points Memory = ⊤
+
+-- the points are in the grid, their paths on axes, and they turn as the shape says; whether they meet is left open
+pub record KeepsFirstThree (p : Map) (shape : Figure) (points : Plot) : Type 0 where
+  pub grid : AreInGrid points
+  pub axes : AreOnAxes (paths p points)
+  pub turns : TurnAsSaid p shape points

@@ -1,21 +1,19 @@
 //! The check of a drawing, and what it makes.
 
-ghost use Rattle.std.specs.Prelude.{◌≡◌, ◌*◌, length, IfOk, IfErr, IfNone, IfSome};
+ghost use Rattle.std.specs.Prelude.{◌≡◌, ◌*◌, length, IfOk, IfErr, IfNone, IfSome, Some};
 ghost use Rattle.faces.specs.Map.{darts, vertices};
 ghost use Rattle.ortho_rep.specs.Representation.{HasDarts, IsShape};
-ghost use Rattle.drawing_check.specs.Draws.{AreInGrid, Draws};
-ghost use Rattle.drawing_check.specs.Faults.{IsFirstFault};
-ghost use Rattle.drawing_check.specs.Routes.{AreRoutes};
+ghost use Rattle.drawing_check.specs.Draws.{Draws};
+ghost use Rattle.drawing_check.specs.Faults.{IsFirstFault, KeepsFirstThree};
 
 use crate::axes::are_on_axes;
 use crate::fault::CheckFault;
 use crate::grid::are_in_grid;
 use crate::meeting::meet_nowhere;
-use crate::route::{Route, routes_of};
 use crate::turning::turn_as_said;
 use faces::Plane;
 use ortho_rep::{Points, Shape};
-use std::alloc::{AllocError, Global};
+use std::alloc::Global;
 use std::marker::Model;
 
 /// Points that draw a shape of a plane, as `check` has found. In contracts it is the points.
@@ -47,8 +45,8 @@ impl Drawing {
 /// The conditions are, in order: every coordinate is at most 65,535; consecutive points of an edge's
 /// path differ in exactly one coordinate; each edge has as many corners as turns, each corner turns as
 /// its string says, and at the head of each dart the direction changes as its angle says; no whole
-/// point is met twice, by vertices and between the ends of paths. Want of memory is answered in place
-/// of a later condition or of a drawing, never in place of the first condition.
+/// point is met twice, by vertices and between the ends of paths. The first three are tested before
+/// memory is asked for: want of memory is answered only where they hold.
 ///
 /// The points are compared as rectangles, one for each vertex and each segment, in O(s log s) time for
 /// s of them and 16 bytes of memory each, with some more for a sort and a map.
@@ -65,6 +63,8 @@ pub fn check(
     ensures draws { IfOk result (Draws plane.now shape.now) }
     ensures returned { IfErr result (λ refused. refused.1 ≡ points) }
     ensures fault { IfErr result (λ refused. IsFirstFault plane.now shape.now points refused.0) }
+    ensures memory { IfErr result (λ refused.
+        refused.0 ≡ CheckFault.Memory → KeepsFirstThree plane.now shape.now points) }
 {
     match first_fault(alloc, plane, shape, &points) {
         None => Ok(Drawing { points }),
@@ -79,41 +79,21 @@ fn first_fault(alloc: Global, plane: &Plane, shape: &Shape, points: &Points) -> 
     requires corners { 2 * length points.now.corners ≡ darts plane.now }
     ensures draws { IfNone result (Draws plane.now shape.now points.now) }
     ensures fault { IfSome result (IsFirstFault plane.now shape.now points.now) }
+    ensures memory { result ≡ Some CheckFault.Memory
+        → KeepsFirstThree plane.now shape.now points.now }
 {
     if !are_in_grid(points, plane.graph().edges()) {
         return Some(CheckFault::OutOfGrid);
     }
-    match routes_of(alloc, plane, points) {
-        Ok(routes) => first_route_fault(alloc, plane, shape, points, &routes),
-        Err(AllocError) => Some(CheckFault::Memory),
-    }
-}
-
-/// The first condition that fails after the first one, or want of memory.
-fn first_route_fault(
-    alloc: Global,
-    plane: &Plane,
-    shape: &Shape,
-    points: &Points,
-    routes: &[Route<'_>],
-) -> Option<CheckFault>
-    requires lengths { HasDarts plane.now shape.now }
-    requires vertices { length points.now.vertices ≡ vertices plane.now }
-    requires corners { 2 * length points.now.corners ≡ darts plane.now }
-    requires grid { AreInGrid points.now }
-    requires routes { AreRoutes plane.now points.now routes.now }
-    ensures draws { IfNone result (Draws plane.now shape.now points.now) }
-    ensures fault { IfSome result (IsFirstFault plane.now shape.now points.now) }
-{
-    if !are_on_axes(routes) {
+    if !are_on_axes(plane, points) {
         return Some(CheckFault::NotAxis);
     }
-    if !turn_as_said(plane, shape, points, routes) {
+    if !turn_as_said(plane, shape, points) {
         return Some(CheckFault::WrongTurn);
     }
-    match meet_nowhere(alloc, points, routes) {
+    match meet_nowhere(alloc, plane, points) {
         Ok(true) => None,
         Ok(false) => Some(CheckFault::Meet),
-        Err(AllocError) => Some(CheckFault::Memory),
+        Err(_) => Some(CheckFault::Memory),
     }
 }

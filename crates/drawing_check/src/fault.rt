@@ -19,7 +19,7 @@ pub enum CheckFault {
     /// one point.
     #[error("a point is met twice")]
     Meet,
-    /// Memory ran out, which says nothing of the points.
+    /// Memory ran out: only whether a point is met twice is left open.
     #[error("out of memory")]
     Memory,
 }

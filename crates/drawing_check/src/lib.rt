@@ -11,8 +11,6 @@ mod fault;
 mod grid;
 mod meeting;
 mod route;
-#[cfg(test)]
-mod tests;
 mod turning;
 
 pub use drawing::{Drawing, check};

@@ -1,12 +1,15 @@
 //! Whether some point is met twice, by vertices and paths.
 
-ghost use Rattle.std.specs.Prelude.{◌≡◌, ◌↔◌, ◌++◌, map, IsTrue, IfOk, OnOk, All};
+ghost use Rattle.std.specs.Prelude.{◌≡◌, ◌*◌, ◌↔◌, ◌++◌, length, IsTrue, IfOk, OnOk};
+ghost use Rattle.faces.specs.Map.{darts, vertices};
+ghost use Rattle.drawing_check.specs.Paths.{paths};
 ghost use Rattle.drawing_check.specs.Walks.{toward, step_from};
-ghost use Rattle.drawing_check.specs.Draws.{IsOnAxes, MeetNowhere};
+ghost use Rattle.drawing_check.specs.Draws.{AreOnAxes, MeetNowhere};
 ghost use Rattle.drawing_check.specs.Routes.{path_of};
 ghost use Rattle.drawing_check.specs.Shown.{span_of, strips};
 
-use crate::route::Route;
+use crate::route::{Route, route_of};
+use faces::Plane;
 use ortho_rep::{Point, Points};
 use rectangles::{Rectangle, all_apart};
 use std::alloc::{AllocError, Global};
@@ -14,18 +17,27 @@ use std::alloc::{AllocError, Global};
 /// Whether no point is met twice, by all vertices and between the ends of all paths.
 pub(crate) fn meet_nowhere(
     alloc: Global,
+    plane: &Plane,
     points: &Points,
-    routes: &[Route<'_>],
 ) -> Result<bool, AllocError>
-    requires { All (λ route. IsOnAxes (path_of route)) routes.now }
-    ensures { IfOk result (λ apart. IsTrue apart ↔ MeetNowhere points.now (map path_of routes.now)) }
+    requires vertices { length points.now.vertices ≡ vertices plane.now }
+    requires corners { 2 * length points.now.corners ≡ darts plane.now }
+    requires axes { AreOnAxes (paths plane.now points.now) }
+    ensures { IfOk result (λ apart.
+        IsTrue apart ↔ MeetNowhere points.now (paths plane.now points.now)) }
 {
-    let mut rectangles = Vec::with_capacity(alloc, points.vertices().len() + routes.len())?;
+    let graph = plane.graph();
+    let count = usize::from(graph.vertices()) + usize::from(graph.edges());
+    let mut rectangles = Vec::with_capacity(alloc, count)?;
     for point in points.vertices() {
         rectangles.push(spanned(*point, *point))?;
     }
-    for route in routes {
-        add_route(&mut rectangles, route)?;
+    let mut edge = 0;
+    for dart in 0..graph.darts() {
+        if dart < graph.reverse(dart) {
+            add_route(&mut rectangles, &route_of(plane, points, dart, edge))?;
+            edge += 1;
+        }
     }
     all_apart(alloc, rectangles)
 }

@@ -1,19 +1,17 @@
 //! The path of an edge, seen in place.
 
-ghost use Rattle.std.specs.Prelude.{◌≡◌, ℕ, ◌+◌, ◌*◌, ◌<◌, ◌≤◌, length, IsTrue, IfOk};
+ghost use Rattle.std.specs.Prelude.{◌≡◌, ℕ, ◌+◌, ◌*◌, ◌<◌, ◌≤◌, length, IsTrue};
 ghost use Rattle.faces.specs.Map.{darts, vertices};
 ghost use Rattle.ortho_rep.specs.Edges.{is_lesser, edge_number};
 ghost use Rattle.drawing_check.specs.Paths.{path_along, point_of};
-ghost use Rattle.drawing_check.specs.Routes.{path_of, AreRoutes};
+ghost use Rattle.drawing_check.specs.Routes.{path_of};
 
 use faces::Plane;
 use ortho_rep::{Point, Points};
-use std::alloc::{AllocError, Global};
 
 /// The path of an edge along its lesser dart: from one end by the corners to the other.
 #[derive(Clone, Copy)]
 pub(crate) struct Route<'a> {
-    pub(crate) dart: u16,
     pub(crate) start: Point,
     pub(crate) corners: &'a [Point],
     pub(crate) end: Point,
@@ -42,36 +40,12 @@ pub(crate) fn route_of<'a>(plane: &Plane, points: &'a Points, dart: u16, edge: u
     requires number { edge ≡ edge_number plane.now dart }
     requires vertices { length points.now.vertices ≡ vertices plane.now }
     requires corners { 2 * length points.now.corners ≡ darts plane.now }
-    ensures dart { result.dart ≡ dart }
-    ensures path { path_of result ≡ path_along plane.now points.now dart }
+    ensures { path_of result ≡ path_along plane.now points.now dart }
 {
     let graph = plane.graph();
     Route {
-        dart,
         start: points.vertex(graph.tail(dart)),
         corners: points.corners(edge),
         end: points.vertex(graph.head(dart)),
     }
-}
-
-/// The paths of all edges, in order.
-pub(crate) fn routes_of<'a>(
-    alloc: Global,
-    plane: &Plane,
-    points: &'a Points,
-) -> Result<Vec<Route<'a>>, AllocError>
-    requires vertices { length points.now.vertices ≡ vertices plane.now }
-    requires corners { 2 * length points.now.corners ≡ darts plane.now }
-    ensures { IfOk result (λ routes. AreRoutes plane.now points.now routes.items) }
-{
-    let graph = plane.graph();
-    let mut routes = Vec::with_capacity(alloc, points.edge_count())?;
-    let mut edge = 0;
-    for dart in 0..graph.darts() {
-        if dart < graph.reverse(dart) {
-            routes.push(route_of(plane, points, dart, edge))?;
-            edge += 1;
-        }
-    }
-    Ok(routes)
 }

@@ -5,9 +5,10 @@ ghost use Rattle.directions.specs.Directions.{lefts};
 ghost use Rattle.faces.specs.Map.{darts, vertices, mate, next};
 ghost use Rattle.ortho_rep.specs.Shapes.{angle_at, turns_at};
 ghost use Rattle.ortho_rep.specs.Representation.{HasDarts};
+ghost use Rattle.ortho_rep.specs.Edges.{lesser_darts};
 ghost use Rattle.drawing_check.specs.Paths.{path_along, point_of};
 ghost use Rattle.drawing_check.specs.Draws.{direction_between, turned, IsTurning, leaving, TurnAsSaid};
-ghost use Rattle.drawing_check.specs.Routes.{path_of, AreRoutes, direction_at};
+ghost use Rattle.drawing_check.specs.Routes.{path_of, direction_at};
 
 use crate::route::{Route, route_of};
 use directions::Direction;
@@ -18,29 +19,33 @@ use ortho_rep::{Point, Points, Shape, Turn};
 const MAX_DARTS: usize = 1020;
 
 /// Whether each corner and each angle is that of the shape.
-pub(crate) fn turn_as_said(
-    plane: &Plane,
-    shape: &Shape,
-    points: &Points,
-    routes: &[Route<'_>],
-) -> bool
+pub(crate) fn turn_as_said(plane: &Plane, shape: &Shape, points: &Points) -> bool
     requires lengths { HasDarts plane.now shape.now }
     requires vertices { length points.now.vertices ≡ vertices plane.now }
     requires corners { 2 * length points.now.corners ≡ darts plane.now }
-    requires routes { AreRoutes plane.now points.now routes.now }
     ensures { IsTrue result ↔ TurnAsSaid plane.now shape.now points.now }
 {
-    edges_turn(shape, routes) && heads_turn(plane, shape, points)
+    edges_turn(plane, shape, points) && heads_turn(plane, shape, points)
 }
 
-fn edges_turn(shape: &Shape, routes: &[Route<'_>]) -> bool
-    requires { All (λ route. route.dart < length shape.now.strings) routes.now }
+/// Whether each edge has as many corners as turns, and each corner is its turn.
+fn edges_turn(plane: &Plane, shape: &Shape, points: &Points) -> bool
+    requires lengths { HasDarts plane.now shape.now }
+    requires vertices { length points.now.vertices ≡ vertices plane.now }
+    requires corners { 2 * length points.now.corners ≡ darts plane.now }
     ensures { IsTrue result
-        ↔ All (λ route. IsTurning (path_of route) (turns_at shape.now route.dart)) routes.now }
+        ↔ All (λ d. IsTurning (path_along plane.now points.now d) (turns_at shape.now d))
+        (lesser_darts plane.now) }
 {
-    for route in routes {
-        if !is_turning(route, shape.turns(route.dart)) {
-            return false;
+    let graph = plane.graph();
+    let mut edge = 0;
+    for dart in 0..graph.darts() {
+        if dart < graph.reverse(dart) {
+            let route = route_of(plane, points, dart, edge);
+            if !is_turning(&route, shape.turns(dart)) {
+                return false;
+            }
+            edge += 1;
         }
     }
     true

@@ -45,13 +45,12 @@ impl Model for Graph {
 }
 
 impl Graph {
-    /// Reads the graph of a record. It takes time in proportion to the record's bytes, and memory
-    /// only for a graph that keeps rules 1 to 7.
+    /// Reads the graph of a record. It takes time in proportion to the record's bytes.
     ///
     /// # Errors
     ///
     /// `Rule` with the first of rules 1 to 7 that the record's lists break, exactly where they
-    /// break one; `Memory` where there was no memory for the graph.
+    /// break one; `Memory` where they break none, but there was no memory for the graph.
     pub fn read(alloc: Global, record: &Record) -> Result<Graph, ReadFault>
         ensures lists { IfOk result (λ graph. graph ≡ lists_of record.now) }
         ensures rules { OnOk result (KeepsBefore (lists_of record.now) 8) }

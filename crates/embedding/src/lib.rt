@@ -16,6 +16,3 @@ mod walks;
 pub use faults::ReadFault;
 pub use graphs::Graph;
 pub use rules::Rule;
-
-#[cfg(test)]
-mod tests;

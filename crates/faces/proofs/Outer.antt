@@ -1,13 +1,19 @@
 -- What a tracer shows of the map that it makes.
-use Rattle.std.proofs.Common.{◌≡◌, ℕ, ◌+◌, ◌*◌, ◌<◌, ◌≤◌, List, length, slice_index, inl, inr, ◌∙◌, arith}
+use Rattle.std.proofs.Common.{◌≡◌, ℕ, ◌+◌, ◌*◌, ◌<◌, ◌≤◌, List, length, slice_index, take, replicate, refl, inl, inr, sym, ap, ◌∙◌, subst, arith}
 use Rattle.std.proofs.lemmas.Bool.{cases_order}
+use Rattle.std.proofs.lemmas.List.Elements.{All-take, All-replicate}
 use Rattle.embedding.specs.declared.rules.Rule.TheVariants.{Range, Loop, Multi, Asymmetric, Edgeless, Degree, Disconnected, Genus}
 use Rattle.embedding.specs.Darts.{dart_count, next_of}
 use Rattle.embedding.specs.Faces.{HasFaces}
 use Rattle.embedding.specs.Rules.{Breaks, KeepsBefore}
 use Rattle.faces.specs.Faces.{IsOuter, degree_in}
 use Rattle.faces.specs.Map.{Map, IsPlane, vertices, darts, next, face_at}
+use Rattle.faces.specs.Walk.{at}
 use Rattle.faces.proofs.Unique.{one_count}
+
+-- a part of a list of one value has that value everywhere
+pub part_of_one : (m n d v : ℕ) → d < length (take n (replicate m v)) → slice_index (take n (replicate m v)) d ≡ v
+part_of_one m n d v lt = All-take (λ (x : ℕ). x ≡ v) n (replicate m v) (All-replicate (λ (x : ℕ). x ≡ v) m v refl) d 0 lt
 
 -- the last rule is kept where vertices and faces are the edges and two more
 keeps_genus : (g : List (List ℕ)) (face : ℕ → ℕ) (f : ℕ) → HasFaces (dart_count g) (next_of g) face f → 2 * (length g + f) ≡ dart_count g + 4 → Breaks g Genus → ⊥
@@ -25,10 +31,14 @@ eight_rules g rules genus Degree h = rules Degree (omega arith)
 eight_rules g rules genus Disconnected h = rules Disconnected (omega arith)
 eight_rules g rules genus Genus h = genus
 
+-- no rule is broken where the first seven are kept, and vertices and faces are the edges and two more
+pub all_rules : (g : List (List ℕ)) (face : ℕ → ℕ) (f : ℕ) → KeepsBefore g 8 → HasFaces (dart_count g) (next_of g) face f → 2 * (length g + f) ≡ dart_count g + 4 → KeepsBefore g 9
+all_rules g face f rules faces euler = eight_rules g rules (keeps_genus g face f faces euler)
+
 pub plane_from : (p : Map) → KeepsBefore p.lists 8 → vertices p ≤ 255 → length p.face ≡ darts p → HasFaces (darts p) (next p) (face_at p) p.faces → 2 * (vertices p + p.faces) ≡ darts p + 4 → p.outer < p.faces → IsPlane p
 plane_from p rules order size faces euler outer = record {
   order = order;
-  rules = eight_rules p.lists rules (keeps_genus p.lists (face_at p) p.faces faces euler);
+  rules = all_rules p.lists (face_at p) p.faces rules faces euler;
   size = size;
   faces = faces;
   euler = euler;
@@ -53,3 +63,18 @@ outer_from n next face f o degrees faces are named most first = record {
     | inr (inr more) ↦ let (e, before, is) = faces.ordered d o h (omega (arith, here)) in (e, omega arith, is)
   ];
 }
+
+-- a copy of the numbers has the same faces
+pub kept_faces : (g : List (List ℕ)) (old new : List ℕ) (f h : ℕ) → HasFaces (dart_count g) (next_of g) (at old) f → new ≡ old → h ≡ f → HasFaces (dart_count g) (next_of g) (at new) h
+kept_faces g old new f h faces same count =
+    subst (λ (xs : List ℕ). HasFaces (dart_count g) (next_of g) (at xs) h) (sym same)
+    (subst (λ (m : ℕ). HasFaces (dart_count g) (next_of g) (at old) m) (sym count) faces)
+
+-- and the same degrees
+pub kept_degrees : (g : List (List ℕ)) (old new degrees : List ℕ) (f h : ℕ) → length old ≡ dart_count g → new ≡ old → h ≡ f
+    → ((k : ℕ) → k < f → slice_index degrees k ≡ degree_in (length old) (at old) k)
+    → (k : ℕ) → k < h → slice_index degrees k ≡ degree_in (dart_count g) (at new) k
+kept_degrees g old new degrees f h size same count are k lt =
+    are k (omega arith)
+    ∙ ap (λ (n : ℕ). degree_in n (at old) k) size
+    ∙ ap (λ (xs : List ℕ). degree_in (dart_count g) (at xs) k) (sym same)

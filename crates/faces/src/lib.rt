@@ -10,6 +10,3 @@ mod numbering;
 mod plane;
 
 pub use plane::{Plane, TraceFault};
-
-#[cfg(test)]
-mod tests;

@@ -48,6 +48,7 @@ pub fn number_faces(graph: &Graph, faces: &mut [u16]) -> u16
     requires size { length faces.old ≡ dart_count graph.now }
     requires unset { (d : ℕ) → d < length faces.old → slice_index faces.old d ≡ UNSET }
     ensures numbered { HasFaces (dart_count graph.now) (next_of graph.now) (at faces.new) result }
+    ensures size { length faces.new ≡ dart_count graph.now }
     ensures few { result ≤ dart_count graph.now }
 {
     let darts = graph.darts();

@@ -1,8 +1,7 @@
 //! Planes: connected graphs with their faces, one of which is the outer one.
 
-ghost use Rattle.std.specs.Prelude.{◌≡◌, ◌<◌, ◌≤◌, ℕ, IfOk, IfErr, length, slice_index, vec_len};
-ghost use Rattle.embedding.specs.Darts.{dart_count, next_of};
-ghost use Rattle.embedding.specs.Faces.{HasFaces};
+ghost use Rattle.std.specs.Prelude.{◌≡◌, ◌<◌, ◌≤◌, ℕ, IfOk, IfErr, Err, length, slice_index, vec_len};
+ghost use Rattle.embedding.specs.Rules.{KeepsBefore};
 ghost use Rattle.faces.specs.Faces.{degree_in};
 ghost use Rattle.faces.specs.Walk.{at};
 
@@ -48,6 +47,9 @@ pub enum TraceFault {
     Memory(Graph),
 }
 
+/// The most darts that a graph has.
+const MAX_DARTS: usize = 1020;
+
 /// The face of each dart, and the degree of each face.
 #[derive(Drop)]
 struct FaceTable {
@@ -55,20 +57,19 @@ struct FaceTable {
     degrees: Vec<u16>,
 }
 
-fn face_table(alloc: Global, graph: &Graph) -> Result<FaceTable, AllocError>
-    ensures size { IfOk result (λ t. length t.faces.items ≡ dart_count graph.now) }
-    ensures numbered { IfOk result (λ t.
-        HasFaces (dart_count graph.now) (next_of graph.now) (at t.faces.items)
-        (vec_len t.degrees)) }
-    ensures degrees { IfOk result (λ t. (k : ℕ) → k < vec_len t.degrees
-        → slice_index t.degrees.items k
-        ≡ degree_in (dart_count graph.now) (at t.faces.items) k) }
-    ensures few { IfOk result (λ t. vec_len t.degrees ≤ dart_count graph.now) }
+/// Copies the faces of all darts, of which there are `count`, and adds their degrees.
+fn face_table(alloc: Global, faces: &[u16], count: u16) -> Result<FaceTable, AllocError>
+    requires few { length faces.now ≤ 1020 }
+    requires named { (d : ℕ) → d < length faces.now → slice_index faces.now d < count }
+    ensures faces { IfOk result (λ t. t.faces.items ≡ faces.now) }
+    ensures size { IfOk result (λ t. vec_len t.degrees ≡ count) }
+    ensures degrees { IfOk result (λ t. (k : ℕ) → k < count
+        → slice_index t.degrees.items k ≡ degree_in (length faces.now) (at faces.now) k) }
 {
-    let mut faces = vec![in alloc; UNSET; usize::from(graph.darts())]?;
-    let count = number_faces(graph, &mut faces);
-    let degrees = count_degrees(alloc, &faces, count)?;
-    Ok(FaceTable { faces, degrees })
+    Ok(FaceTable {
+        faces: faces.to_vec(alloc)?,
+        degrees: count_degrees(alloc, faces, count)?,
+    })
 }
 
 impl Plane {
@@ -79,20 +80,25 @@ impl Plane {
     /// the one that holds the least dart.
     ///
     /// The graph is handed back by `Genus` exactly where its vertices less its edges plus its faces are
-    /// not two, and by `Memory` where there is no memory for the faces. Each dart is walked over once.
+    /// not two, and by `Memory` where they are, but there is no memory for the faces. Each dart is walked
+    /// over once, and the faces are counted before memory is asked for.
     pub fn trace(alloc: Global, graph: Graph) -> Result<Plane, TraceFault>
         ensures graph { IfOk result (λ p. p.lists ≡ graph) }
         ensures plane { IfOk result IsPlane }
         ensures outer { IfOk result IsWidest }
         ensures err { IfErr result (IsTraceFault graph) }
+        ensures memory { result ≡ Err (TraceFault.Memory graph) → KeepsBefore graph 9 }
     {
-        let Ok(table) = face_table(alloc, &graph) else {
+        let mut marks = [UNSET; MAX_DARTS];
+        let faces = &mut marks[..usize::from(graph.darts())];
+        let count = number_faces(&graph, faces);
+        if u16::from(graph.vertices()) + count != graph.edges() + 2 {
+            return Err(TraceFault::Genus(graph));
+        }
+        let Ok(table) = face_table(alloc, faces, count) else {
             return Err(TraceFault::Memory(graph));
         };
         let FaceTable { faces, degrees } = table;
-        if usize::from(graph.vertices()) + degrees.len() != usize::from(graph.edges()) + 2 {
-            return Err(TraceFault::Genus(graph));
-        }
         let outer = widest_face(&degrees);
         Ok(Plane {
             graph,

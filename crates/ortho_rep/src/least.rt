@@ -20,8 +20,7 @@ use std::alloc::{AllocError, Global};
 /// An orthogonal representation of the plane with the fewest bends, and prices that prove it least.
 ///
 /// It is a flow of least cost in the plane's network, and the prices are its potentials (Tamassia
-/// 1987): a corner carries a dart's angle less one, a crossing its left turns. Along each dart the left
-/// turns come first.
+/// 1987): a corner carries a dart's angle less one, a crossing its left turns.
 ///
 /// # Errors
 ///
@@ -33,6 +32,7 @@ pub fn least_shape(alloc: Global, plane: &Plane) -> Result<(Shape, Prices), Allo
 {
     let net = FaceNet::build(alloc, plane)?;
     let solved = least_flow(alloc, net.network())?;
+    // Only the proof needs this: `graph` says that the plane is one.
     let _graph = plane.graph();
     let angles = angles_in(alloc, plane, &net, &solved)?;
     let strings = strings_in(alloc, plane, &net, &solved)?;
@@ -64,6 +64,7 @@ fn corner_flow(plane: &Plane, net: &FaceNet, solved: &Solved, dart: u16) -> u8
     ensures value { result ≡ amounts solved.now.flow dart }
     ensures few { result ≤ 3 }
 {
+    // Only the proof needs this: `outer` says that there is a face.
     let _outer = plane.outer();
     solved.flow(net.corner_arc(dart)) as u8
 }
@@ -75,6 +76,7 @@ fn crossing_flow(plane: &Plane, net: &FaceNet, solved: &Solved, dart: u16) -> u3
     requires within { dart < darts plane.now }
     ensures { result ≡ amounts solved.now.flow (darts plane.now + dart) }
 {
+    // Only the proof needs this: `outer` says that there is a face.
     let _outer = plane.outer();
     solved.flow(net.crossing_arc(dart))
 }
@@ -100,7 +102,7 @@ fn angles_in(
     Ok(angles)
 }
 
-/// The strings of a flow, in one list of turns.
+/// The strings of a flow, in one list of turns. Along each dart the left turns come first.
 fn strings_in(
     alloc: Global,
     plane: &Plane,

@@ -132,8 +132,8 @@ impl Framer {
     /// order.
     ///
     /// The stream may be cut anywhere, also within the header or a record. The work is linear in its
-    /// bytes: a record that lies whole in a piece is copied once, and one that is cut twice. Only a
-    /// whole record takes memory, for its bytes and for its place in `out`.
+    /// bytes: a record that lies whole in a piece is copied once, and one that is cut twice. Want of
+    /// memory is answered only where the piece ends a record, for its bytes or its place in `out`.
     ///
     /// # Errors
     ///

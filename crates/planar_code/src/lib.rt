@@ -31,6 +31,3 @@ pub const MAX_LIST: usize = 254;
 
 /// How many records a stream has at most.
 pub const MAX_RECORDS: u32 = 1_000_000;
-
-#[cfg(test)]
-mod tests;

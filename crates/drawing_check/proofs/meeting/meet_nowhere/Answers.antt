@@ -1,18 +1,23 @@
-use Rattle.std.proofs.Common.{◌≡◌, ◌↔◌, ◌++◌, [], ◌∷◌, Bool, true, List, map, take, length, get_or, sym, ap, ◌∙◌, arith, AllPairs}
+use Rattle.std.proofs.Common.{◌≡◌, ◌↔◌, ◌++◌, [], ◌∷◌, Bool, true, false, List, map, length, get_or, sym, ap, ◌∙◌, arith, AllPairs, ℕ, refl}
 use Rattle.std.specs.List.{flat_map}
+use Rattle.std.proofs.lemmas.Bool.{lt-ltb, le-ltb}
 use Rattle.std.proofs.lemmas.List.{map_more, take_all, append-nil}
-use Rattle.std.proofs.lemmas.List.Elements.{All-append, All-map}
+use Rattle.std.proofs.lemmas.List.Elements.{All-append}
 use Rattle.std.proofs.lemmas.Result.{IfOk-weaker}
 use Rattle.rectangles.specs.declared.Rectangle.{Rectangle}
 use Rattle.rectangles.specs.Rectangles.{IsFilled, AreApart}
+use Rattle.faces.specs.Map.{darts, mate}
 use Rattle.ortho_rep.specs.declared.points.Point.{Point}
 use Rattle.ortho_rep.specs.Points.{origin}
-use Rattle.drawing_check.specs.declared.route.Route.{Route}
-use Rattle.drawing_check.specs.Draws.{IsOnAxes}
+use Rattle.ortho_rep.specs.Edges.{is_lesser}
+use Rattle.ortho_rep.proofs.EdgeNumbers.{edge_number-le}
+use Rattle.drawing_check.specs.Paths.{path_along, paths}
 use Rattle.drawing_check.specs.Shown.{span_of, strips}
-use Rattle.drawing_check.specs.Routes.{path_of}
+use Rattle.drawing_check.proofs.Leaving.{number_of_lesser, number_of_greater}
+use Rattle.drawing_check.proofs.Routing.{paths_below, paths_below-more, paths_below-kept}
 use Rattle.drawing_check.proofs.Strips.{paths_step, apart_is_no_repeat, points_filled, paths_filled}
 use Rattle.drawing_check.proofs.meeting.meet_nowhere.Goals as goal
+use Rattle.drawing_check.proofs.meeting.meet_nowhere.Goals.{then-dart-reverse+in_ok-add_route, else-dart-reverse}
 
 pub loop-point-preserved : goal.loop-point-preserved
 loop-point-preserved c =
@@ -25,27 +30,61 @@ loop-point-preserved c =
     ∙ ap (λ (rs : List Rectangle). rs ++ span_of point point ∷ []) c.loop-point.invariant
     ∙ sym (map_more (λ (p : Point). span_of p p) vertices c.loop-point.point-index origin (omega (arith, ap length items)))
 
-pub loop-route-init : goal.loop-route-init
-loop-route-init c =
+pub loop-dart-init : goal.loop-dart-init
+loop-dart-init c =
     let vertices = c.args.points.now.vertices in
-    c.loop-point.invariant
-    ∙ ap (map (λ (p : Point). span_of p p)) (take_all c.loop-point.point-index vertices (omega (arith, ap length c.vertices-point-items.ensures)))
-    ∙ sym (append-nil (map (λ (p : Point). span_of p p) vertices))
+    record {
+      number = refl;
+      shown =
+          c.loop-point.invariant
+          ∙ ap (map (λ (p : Point). span_of p p)) (take_all c.loop-point.point-index vertices (omega (arith, ap length c.vertices-point-items.ensures)))
+          ∙ sym (append-nil (map (λ (p : Point). span_of p p) vertices));
+    }
 
-pub loop-route-preserved : goal.loop-route-preserved
-loop-route-preserved c =
-    paths_step (map (λ (p : Point). span_of p p) c.args.points.now.vertices) c.loop-route.rectangles.items c.add_route.new.rectangles.items c.args.routes.now c.loop-route.route-index _ c.loop-route-test.true c.loop-route.invariant c.in_ok-add_route.ensures
+pub overflow_add-edge : goal.overflow_add-edge
+overflow_add-edge c = omega (arith, edge_number-le c.args.plane.now c.loop-dart.dart, c.loop-dart.invariant.number, c.graph-graph.ensures.ends.few_darts)
+
+pub loop-dart-preserved : goal.loop-dart-preserved
+loop-dart-preserved c =
+    let p = c.args.plane.now in
+    let points = c.args.points.now in
+    let dart = c.loop-dart.dart in
+    let base : List Rectangle = map (λ (q : Point). span_of q q) points.vertices in
+    let mate_is : c.reverse.result ≡ mate p dart = rw c.graph-graph.ensures.value at c.reverse.ensures.value in
+    elim c.if-dart-reverse.branch [
+      | then-dart-reverse+in_ok-add_route w ↦
+          let lesser : is_lesser p dart ≡ true = lt-ltb dart (mate p dart) (omega (arith, mate_is, w.if-dart-reverse.true)) in
+          let added : w.add_route.new.rectangles.items ≡ c.loop-dart.rectangles.items ++ strips (path_along p points dart) =
+          w.in_ok-add_route.ensures ∙ ap (λ (path : List Point). c.loop-dart.rectangles.items ++ strips path) w.route_of.ensures in
+          record {
+            number = omega (arith, w.edge-is, number_of_lesser p dart lesser, c.loop-dart.invariant.number);
+            shown = rw w.rectangles-is
+                (paths_step base c.loop-dart.rectangles.items w.add_route.new.rectangles.items (paths_below p points dart) (path_along p points dart) c.loop-dart.invariant.shown added
+                ∙ ap (λ (ps : List (List Point)). base ++ flat_map strips ps) (sym (paths_below-more p points dart lesser)));
+          }
+      | else-dart-reverse w ↦
+          let greater : is_lesser p dart ≡ false = le-ltb dart (mate p dart) (omega (arith, mate_is, w.if-dart-reverse.false)) in
+          record {
+            number = omega (arith, w.edge-is, number_of_greater p dart greater, c.loop-dart.invariant.number);
+            shown = rw w.rectangles-is (c.loop-dart.invariant.shown ∙ ap (λ (ps : List (List Point)). base ++ flat_map strips ps) (sym (paths_below-kept p points dart greater)));
+          }
+    ]
 
 pub all_apart-requires : goal.all_apart-requires
 all_apart-requires c =
-    let ps : List (List Point) = map path_of (take c.loop-route.route-index c.args.routes.now) in
-    rw c.loop-route.invariant (All-append IsFilled (map (λ (p : Point). span_of p p) c.args.points.now.vertices) (flat_map strips ps) (points_filled c.args.points.now.vertices) (paths_filled ps))
+    let points = c.args.points.now in
+    let ps : List (List Point) = paths_below c.args.plane.now points c.loop-dart.dart in
+    rw c.loop-dart.invariant.shown (All-append IsFilled (map (λ (q : Point). span_of q q) points.vertices) (flat_map strips ps) (points_filled points.vertices) (paths_filled ps))
 
 pub returns : goal.returns
 returns c =
-    let whole : take c.loop-route.route-index c.args.routes.now ≡ c.args.routes.now = take_all c.loop-route.route-index c.args.routes.now (omega arith) in
-    let base : List Rectangle = map (λ (p : Point). span_of p p) c.args.points.now.vertices in
-    let same = apart_is_no_repeat c.args.points.now.vertices (map path_of c.args.routes.now) c.loop-route.rectangles.items (All-map IsOnAxes path_of c.args.routes.now c.requires) (c.loop-route.invariant ∙ ap (λ (rs : List Route). base ++ flat_map strips (map path_of rs)) whole) in
+    let p = c.args.plane.now in
+    let points = c.args.points.now in
+    let base : List Rectangle = map (λ (q : Point). span_of q q) points.vertices in
+    let count : c.darts-dart-end.result ≡ darts p = rw c.graph-graph.ensures.value at c.darts-dart-end.ensures.count in
+    let whole : c.loop-dart.dart ≡ darts p = omega (arith, count) in
+    let shown = c.loop-dart.invariant.shown ∙ ap (λ (n : ℕ). base ++ flat_map strips (paths_below p points n)) whole in
+    let same = apart_is_no_repeat points.vertices (paths p points) c.loop-dart.rectangles.items c.requires.axes shown in
     IfOk-weaker c.all_apart.result _ _
-    (λ (b : Bool) (h : (b ≡ true) ↔ AllPairs AreApart c.loop-route.rectangles.items). (λ t. same.0 (h.0 t), λ apart. h.1 (same.1 apart)))
+    (λ (b : Bool) (h : (b ≡ true) ↔ AllPairs AreApart c.loop-dart.rectangles.items). (λ t. same.0 (h.0 t), λ apart. h.1 (same.1 apart)))
     c.all_apart.ensures

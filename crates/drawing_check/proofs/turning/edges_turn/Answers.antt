@@ -1,20 +1,66 @@
-use Rattle.std.proofs.Common.{ℕ, ◌<◌, refl, sym, subst, ⊎_elim, arith, get_or, length}
-use Rattle.std.proofs.lemmas.Bool.{cases_eq}
-use Rattle.std.proofs.lemmas.List.{get_or_default}
+use Rattle.std.proofs.Common.{◌≡◌, ℕ, List, true, false, refl, sym, subst, arith}
+use Rattle.std.proofs.lemmas.Bool.{lt-ltb, le-ltb, false≢true, both_ways}
+use Rattle.faces.specs.Map.{darts, mate}
+use Rattle.ortho_rep.specs.declared.points.Point.{Point}
+use Rattle.ortho_rep.specs.declared.turn.Turn.{Turn}
+use Rattle.ortho_rep.specs.Edges.{is_lesser}
 use Rattle.ortho_rep.specs.Shapes.{turns_at}
-use Rattle.drawing_check.specs.declared.route.Route.{Route}
+use Rattle.ortho_rep.proofs.EdgeNumbers.{edge_number-le}
+use Rattle.drawing_check.specs.Paths.{path_along}
 use Rattle.drawing_check.specs.Draws.{IsTurning}
 use Rattle.drawing_check.specs.Routes.{path_of}
+use Rattle.drawing_check.proofs.Leaving.{number_of_lesser, number_of_greater}
+use Rattle.drawing_check.proofs.Routing.{each_lesser, each_more}
 use Rattle.drawing_check.proofs.turning.edges_turn.Goals as goal
+use Rattle.drawing_check.proofs.turning.edges_turn.Goals.{then-dart-reverse+else-not-is_turning, else-dart-reverse}
 
-pub loop-route-preserved : goal.loop-route-preserved
-loop-route-preserved c = λ j d lt.
-    let turning : Route → Type 0 = λ route. IsTurning (path_of route) (turns_at c.args.shape.now route.dart) in
-    let within : c.loop-route.route-index < length c.args.routes.now = c.loop-route-test.true in
-    ⊎_elim
-    (λ here.
-    subst (λ (n : ℕ). turning (get_or c.args.routes.now n d)) (sym here)
-    (subst turning (get_or_default c.args.routes.now c.loop-route.route-index _ d within)
-    (rw c.turns.ensures.value at (c.if-not-is_turning.ensures.0 refl))))
-    (λ before. c.loop-route.invariant j d (omega arith))
-    (cases_eq j c.loop-route.route-index)
+pub returns-then-not-is_turning : goal.returns-then-not-is_turning
+returns-then-not-is_turning c =
+    let p = c.args.plane.now in
+    let dart = c.loop-dart.dart in
+    let turning : ℕ → Type 0 = λ d. IsTurning (path_along p c.args.points.now d) (turns_at c.args.shape.now d) in
+    let count : c.darts-dart-end.result ≡ darts p = rw c.graph-graph.ensures.value at c.darts-dart-end.ensures.count in
+    let mate_is : c.reverse.result ≡ mate p dart = rw c.graph-graph.ensures.value at c.reverse.ensures.value in
+    let lesser : is_lesser p dart ≡ true = lt-ltb dart (mate p dart) (omega (arith, mate_is, c.if-dart-reverse.true)) in (
+      λ e. absurd (false≢true e),
+      λ all.
+          let fits : turning dart = (each_lesser turning p).0 all dart (omega (arith, count)) lesser in
+          c.if-not-is_turning.ensures.1
+          (subst (λ (path : List Point). IsTurning path c.turns.result.now) (sym c.route_of-route.ensures)
+          (subst (λ (ts : List Turn). IsTurning (path_along p c.args.points.now dart) ts) (sym c.turns.ensures.value) fits)),
+    )
+
+pub overflow_add-edge : goal.overflow_add-edge
+overflow_add-edge c = omega (arith, edge_number-le c.args.plane.now c.loop-dart.dart, c.loop-dart.invariant.number, c.graph-graph.ensures.ends.few_darts)
+
+pub loop-dart-preserved : goal.loop-dart-preserved
+loop-dart-preserved c =
+    let p = c.args.plane.now in
+    let points = c.args.points.now in
+    let dart = c.loop-dart.dart in
+    let turning : ℕ → Type 0 = λ d. IsTurning (path_along p points d) (turns_at c.args.shape.now d) in
+    let mate_is : c.reverse.result ≡ mate p dart = rw c.graph-graph.ensures.value at c.reverse.ensures.value in
+    elim c.if-dart-reverse.branch [
+      | then-dart-reverse+else-not-is_turning w ↦
+          let lesser : is_lesser p dart ≡ true = lt-ltb dart (mate p dart) (omega (arith, mate_is, w.if-dart-reverse.true)) in
+          let fits : turning dart =
+          subst (λ (path : List Point). IsTurning path (turns_at c.args.shape.now dart)) w.route_of-route.ensures
+          (subst (λ (ts : List Turn). IsTurning (path_of w.route_of-route.result) ts) w.turns.ensures.value (w.if-not-is_turning.ensures.0 refl)) in
+          record {
+            number = omega (arith, w.edge-is, number_of_lesser p dart lesser, c.loop-dart.invariant.number);
+            turning = each_more turning p dart c.loop-dart.invariant.turning (λ _. fits);
+          }
+      | else-dart-reverse w ↦
+          let greater : is_lesser p dart ≡ false = le-ltb dart (mate p dart) (omega (arith, mate_is, w.if-dart-reverse.false)) in
+          record {
+            number = omega (arith, w.edge-is, number_of_greater p dart greater, c.loop-dart.invariant.number);
+            turning = each_more turning p dart c.loop-dart.invariant.turning (λ less. absurd (both_ways (is_lesser p dart) greater less));
+          }
+    ]
+
+pub returns : goal.returns
+returns c =
+    let p = c.args.plane.now in
+    let turning : ℕ → Type 0 = λ d. IsTurning (path_along p c.args.points.now d) (turns_at c.args.shape.now d) in
+    let count : c.darts-dart-end.result ≡ darts p = rw c.graph-graph.ensures.value at c.darts-dart-end.ensures.count in
+    (λ _. (each_lesser turning p).1 (λ d lt less. c.loop-dart.invariant.turning d (omega (arith, count)) less), λ _. refl)

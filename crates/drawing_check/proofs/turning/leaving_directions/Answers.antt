@@ -26,8 +26,8 @@ loop-dart-preserved c =
             leaving =
                 leaving_more p c.args.points.now c.loop-dart.directions c.if-dart-reverse.directions dart w.from.result w.from-then-dart-reverse.result w.direction_from.result w.direction_from-then-dart-reverse.result ends c.loop-dart.invariant.leaving inside
                 w.from.ensures (w.from-then-dart-reverse.ensures ∙ mate_is) w.directions-is
-                (leaves_out p c.args.points.now dart w.route_of-route.result w.point_at.result w.direction_from.result lesser w.route_of-route.ensures.path w.point_at.ensures w.direction_from.ensures)
-                (leaves_back p c.args.points.now dart w.route_of-route.result w.point_at-then-dart-reverse.result w.direction_from-then-dart-reverse.result ends inside lesser w.route_of-route.ensures.path w.point_at-then-dart-reverse.ensures w.direction_from-then-dart-reverse.ensures);
+                (leaves_out p c.args.points.now dart w.route_of-route.result w.point_at.result w.direction_from.result lesser w.route_of-route.ensures w.point_at.ensures w.direction_from.ensures)
+                (leaves_back p c.args.points.now dart w.route_of-route.result w.point_at-then-dart-reverse.result w.direction_from-then-dart-reverse.result ends inside lesser w.route_of-route.ensures w.point_at-then-dart-reverse.ensures w.direction_from-then-dart-reverse.ensures);
           }
       | else-dart-reverse w ↦
           let greater : is_lesser p dart ≡ false = le-ltb dart (mate p dart) (omega (arith, mate_is, w.if-dart-reverse.false)) in

@@ -1,4 +1,6 @@
-use super::*;
+//! Streams whose records and endings are known, wherever they are cut, and the limit of a million records.
+
+use planar_code::{Ending, FeedFault, Framer, HEADER, frame, split};
 use std::alloc::Global;
 use std::process::Abort;
 use std::test::Fail;
@@ -93,9 +95,8 @@ fn repeats_its_fault(rt: HostRuntime) -> Result<(), Fail> {
     Ok(())
 }
 
-#[test]
-fn frames_a_million_records(rt: HostRuntime) -> Result<(), Fail> {
-    let alloc = rt.alloc();
+/// The most records that a stream has, of one vertex each, and how they were fed: all of them were found.
+fn fed_with_a_million(rt: &impl Abort, alloc: Global) -> Result<Framer, Fail> {
     let mut framer = Framer::new(alloc)?;
     let mut out = Vec::new(alloc);
     assert_eq!(rt; framer.feed(alloc, &HEADER, &mut out), Ok(()));
@@ -104,12 +105,68 @@ fn frames_a_million_records(rt: HostRuntime) -> Result<(), Fail> {
         piece.extend_from_slice(&[1, 0])?;
     }
     for _ in 0..20 {
+        out.clear();
         assert_eq!(rt; framer.feed(alloc, piece.as_slice(), &mut out), Ok(()));
+        assert_eq!(rt; out.len(), 50_000);
     }
-    assert_eq!(rt; out.len(), 1_000_000);
-    assert_eq!(rt; framer.feed(alloc, &[7], &mut out), Err(FeedFault::Many));
-    assert_eq!(rt; out.len(), 1_000_000);
+    Ok(framer)
+}
+
+#[test]
+fn a_million_records_are_complete(rt: HostRuntime) -> Result<(), Fail> {
+    let framer = fed_with_a_million(&rt, rt.alloc())?;
+    assert_eq!(rt; framer.finish(), Ending::Complete);
+    Ok(())
+}
+
+/// Behind a million records the bytes give no record more, and the fault stays.
+fn are_too_many(rt: &impl Abort, alloc: Global, bytes: &[u8]) -> Result<(), Fail> {
+    let mut framer = fed_with_a_million(rt, alloc)?;
+    let mut out = Vec::new(alloc);
+    assert_eq!(rt; framer.feed(alloc, &[], &mut out), Ok(()));
+    assert_eq!(rt; framer.feed(alloc, bytes, &mut out), Err(FeedFault::Many));
+    assert_eq!(rt; framer.feed(alloc, &[], &mut out), Err(FeedFault::Many));
+    assert_eq!(rt; out.len(), 0);
     assert_eq!(rt; framer.finish(), Ending::Many);
+    Ok(())
+}
+
+#[test]
+fn a_zero_byte_is_too_many(rt: HostRuntime) -> Result<(), Fail> {
+    are_too_many(&rt, rt.alloc(), &[0])
+}
+
+#[test]
+fn a_begun_record_is_too_many(rt: HostRuntime) -> Result<(), Fail> {
+    are_too_many(&rt, rt.alloc(), &[7])
+}
+
+#[test]
+fn a_whole_record_is_too_many(rt: HostRuntime) -> Result<(), Fail> {
+    are_too_many(&rt, rt.alloc(), &[1, 0])
+}
+
+/// How many records the plain splitter finds among a million and these bytes, and how they end.
+fn split_a_million(alloc: Global, bytes: &[u8]) -> Result<(usize, Ending), Fail> {
+    let mut text = HEADER.to_vec(alloc)?;
+    for _ in 0..1_000_000 {
+        text.extend_from_slice(&[1, 0])?;
+    }
+    text.extend_from_slice(bytes)?;
+    let (records, ending) = split(alloc, text.as_slice())?;
+    Ok((records.len(), ending))
+}
+
+#[test]
+fn the_plain_splitter_counts_to_a_million(rt: HostRuntime) -> Result<(), Fail> {
+    assert_eq!(rt;
+        split_a_million(rt.alloc(), &[])?,
+        (1_000_000, Ending::Complete)
+    );
+    assert_eq!(rt;
+        split_a_million(rt.alloc(), &[1, 0])?,
+        (1_000_000, Ending::Many)
+    );
     Ok(())
 }
 

@@ -1,0 +1,72 @@
+//! Rectangles by hand, and refused allocations.
+
+ghost use Rattle.std.specs.Prelude.{◌↔◌, IsTrue, All};
+ghost use Rattle.rectangles.specs.Rectangles.{IsFilled};
+
+use rectangles::{Rectangle, all_apart};
+use std::alloc::{AllocError, Global};
+use std::process::Abort;
+
+fn are_filled(rectangles: &[Rectangle]) -> bool
+    ensures { IsTrue result ↔ All IsFilled rectangles.now }
+{
+    rectangles
+        .iter()
+        .all(|r| r.left <= r.right && r.bottom <= r.top)
+}
+
+// A rectangle from its left and right columns and its bottom and top rows, moved up as far as it can be
+// or by so many rows.
+fn rectangle(sides: [u32; 4], up: u32) -> Rectangle {
+    let [left, right, bottom, top] = sides;
+    Rectangle {
+        left,
+        right,
+        bottom: bottom.saturating_add(up),
+        top: top.saturating_add(up),
+    }
+}
+
+fn answer(
+    rt: &impl Abort,
+    alloc: Global,
+    sides: [[u32; 4]; 3],
+    up: u32,
+) -> Result<bool, AllocError> {
+    let mut list = Vec::new(alloc);
+    for one in sides {
+        list.push(rectangle(one, up))?;
+    }
+    assert!(rt; are_filled(&list));
+    all_apart(alloc, list)
+}
+
+// Rectangles in few rows, which go into a table, and the same a thousand rows up, which go into a map. Run
+// with each allocation refused in turn too: then one answer is not given, and the others are right.
+#[test]
+fn tells_what_is_apart(rt: HostRuntime) {
+    let far = u32::MAX;
+    let cases = [
+        ([[0, 0, 0, 0], [1, 1, 0, 0], [0, 0, 1, 1]], true),
+        ([[0, 0, 0, 0], [5, 5, 5, 5], [0, 0, 0, 0]], false),
+        ([[0, 4, 2, 2], [2, 2, 0, 4], [9, 9, 9, 9]], false),
+        ([[0, 4, 2, 2], [5, 5, 0, 4], [0, 4, 3, 3]], true),
+        ([[0, 4, 2, 2], [4, 6, 2, 2], [0, 4, 3, 3]], false),
+        ([[0, 9, 0, 9], [4, 4, 4, 4], [20, 20, 0, 9]], false),
+        ([[7, 9, 0, 3], [0, 6, 0, 3], [0, 9, 4, 4]], true),
+        (
+            [[0, far, far, far], [far, far, 0, far], [3, 3, 3, 3]],
+            false,
+        ),
+    ];
+    let mut lacking = 0u8;
+    for (sides, apart) in cases {
+        for up in [0, 1000] {
+            match answer(&rt, rt.alloc(), sides, up) {
+                Ok(found) => assert_eq!(rt; found, apart, "at {sides:?}, {up} up"),
+                Err(AllocError) => lacking = lacking.saturating_add(1),
+            }
+        }
+    }
+    assert!(rt; lacking <= 1);
+}

@@ -1,0 +1,64 @@
+//! Records that are known, and what is made of them.
+
+use embedding::Graph;
+use faces::Plane;
+use planar_code::{Framer, HEADER, Record};
+use std::alloc::Global;
+use std::test::Fail;
+
+pub(crate) const EDGE: [u8; 5] = [2, 2, 0, 1, 0];
+
+pub(crate) const TRIANGLE: [u8; 10] = [3, 2, 3, 0, 3, 1, 0, 1, 2, 0];
+
+// The path 1, 2, 3, 4, 5.
+pub(crate) const PATH: [u8; 14] = [5, 2, 0, 1, 3, 0, 2, 4, 0, 3, 5, 0, 4, 0];
+
+pub(crate) const TETRAHEDRON: [u8; 17] = [4, 3, 4, 2, 0, 1, 4, 3, 0, 2, 4, 1, 0, 3, 2, 1, 0];
+
+// As before, and the last list the other way round: two faces, of 3 and 9 darts.
+pub(crate) const TETRAHEDRON_ON_A_TORUS: [u8; 17] = [
+    4, 3, 4, 2, 0, 1, 4, 3, 0, 2, 4, 1, 0, 1, 2, 3, 0,
+];
+
+pub(crate) const OCTAHEDRON: [u8; 31] = [
+    6, 2, 3, 4, 5, 0, 6, 3, 1, 5, 0, 2, 6, 4, 1, 0, 1, 3, 6, 5, 0, 2, 1, 4, 6, 0, 2, 5, 4, 3, 0,
+];
+
+pub(crate) const STAR: [u8; 14] = [5, 2, 3, 4, 5, 0, 1, 0, 1, 0, 1, 0, 1, 0];
+
+pub(crate) const CUBE: [u8; 33] = [
+    8, 2, 5, 4, 0, 3, 6, 1, 0, 4, 7, 2, 0, 1, 8, 3, 0, 1, 6, 8, 0, 2, 7, 5, 0, 3, 8, 6, 0, 4, 5, 7,
+    0,
+];
+
+/// The record that these bytes are, if there is memory for it.
+pub(crate) fn record_of(alloc: Global, bytes: &[u8]) -> Option<Record> {
+    let mut framer = Framer::new(alloc).ok()?;
+    let mut records = Vec::new(alloc);
+    framer.feed(alloc, &HEADER, &mut records).ok()?;
+    framer.feed(alloc, bytes, &mut records).ok()?;
+    records.pop()
+}
+
+/// The graph of a record.
+pub(crate) fn graph_of(alloc: Global, bytes: &[u8]) -> Result<Graph, Fail> {
+    let record = record_of(alloc, bytes).ok_or("no record")?;
+    Ok(Graph::read(alloc, &record)?)
+}
+
+/// The plane of a record.
+pub(crate) fn plane_of(alloc: Global, bytes: &[u8]) -> Result<Plane, Fail> {
+    Ok(Plane::trace(alloc, graph_of(alloc, bytes)?)?)
+}
+
+/// The record of the cycle on 255 vertices.
+pub(crate) fn longest_cycle(alloc: Global) -> Result<Vec<u8>, Fail> {
+    let mut bytes = Vec::new(alloc);
+    bytes.push(255)?;
+    for v in 1..=255u8 {
+        bytes.push(if v == 255 { 1 } else { v + 1 })?;
+        bytes.push(if v == 1 { 255 } else { v - 1 })?;
+        bytes.push(0)?;
+    }
+    Ok(bytes)
+}
