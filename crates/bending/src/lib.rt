@@ -10,6 +10,3 @@ mod edges;
 mod straight;
 
 pub use straight::bend;
-
-#[cfg(test)]
-mod tests;

@@ -1,9 +1,9 @@
 -- A drawing in its rectangle: the sides and the join stay straight rows of darts, whatever is cut.
-use Rattle.std.proofs.Common.{◌≡◌, ℕ, ◌+◌, ◌-◌, ◌%◌, ◌<◌, ◌≤◌, ◌⊎◌, ◌∙◌, List, [], ◌∷◌, arith, subst, sym, ap, refl, inl, inr}
-use Rattle.cutting.specs.Webs.{Web, IsLinked, IsSplit, IsCut, Grows}
-use Rattle.cutting.specs.Faces.{In, AreWaiting, IsFour, IsOutside}
+use Rattle.std.proofs.Common.{◌≡◌, ℕ, ◌+◌, ◌<◌, ◌∙◌, [], ◌∷◌, arith, subst, sym, ap, refl, inl, inr}
+use Rattle.cutting.specs.Webs.{Web, IsLinked}
+use Rattle.cutting.specs.Faces.{In, AreWaiting}
 use Rattle.cutting.specs.Paths.{HasPath}
-use Rattle.cutting.specs.Frames.{IsFramed, IsEnclosed}
+use Rattle.cutting.specs.Frames.{IsEnclosed}
 use Rattle.cutting.proofs.Splitting.{split_linked}
 use Rattle.edge_paths.proofs.Lengthening.{path_doubled, longer_end}
 use Rattle.edge_paths.proofs.Splits.{split_doubled}
@@ -11,8 +11,8 @@ use Rattle.edge_paths.proofs.Joining.{cut_linked}
 use Rattle.edge_paths.proofs.Cuts.{AreQuarters, cut_quarters, chord_beside}
 use Rattle.edge_paths.proofs.Framing.{framed_linked, framed_quarters}
 use Rattle.edge_paths.proofs.Sides.{HasRow, beside_row, cut_row, grows_row}
-use Rattle.dissect.specs.Rectangle.{IsStraightRow, IsPlaceOn, HasRectangle, IsJoinedAt}
-use Rattle.dissect.proofs.Keeping.{Keeps, cut_keeps, frame_keeps, grows_keeps, keeps_on}
+use Rattle.dissect.specs.Rectangle.{HasRectangle, IsJoinedAt}
+use Rattle.dissect.proofs.Keeping.{Keeps, cut_keeps, grows_keeps, keeps_on}
 
 module _ (w : Web) (outside : ℕ) (new : Web) (linked : IsLinked w) (four : AreQuarters w) (e : IsEnclosed w outside new) where
   abbrev n : ℕ

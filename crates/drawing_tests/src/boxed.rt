@@ -51,10 +51,13 @@ fn boxes_of_an_edge(rt: HostRuntime) -> Result<(), Fail> {
     let boxes = boxes_of(&rt, alloc, &plane, &shape)?;
     expect_reverses(&rt, &boxes);
     expect_next(&rt, alloc, &boxes)?;
-    assert_eq!(rt; (boxes.plane_vertices(), boxes.edges().len()), (2, 1));
+    assert_eq!(rt; boxes.old_vertices(), 2);
+    assert_eq!(rt; boxes.edges(), 1);
     assert!(rt; boxes.darts() > 1);
-    assert_eq!(rt; (boxes.head(0), boxes.head(1)), (1, 0));
-    assert_eq!(rt; (boxes.before(0), boxes.before(1)), (None, None));
+    assert_eq!(rt; (boxes.tail(0), boxes.head(0)), (0, 1));
+    assert_eq!(rt; (boxes.tail(1), boxes.head(1)), (1, 0));
+    assert_eq!(rt; (boxes.old(1), boxes.old(2)), (0, 1));
+    assert_eq!(rt; boxes.path(0), [0].as_slice());
     Ok(())
 }
 
@@ -66,8 +69,10 @@ fn boxes_of_a_triangle(rt: HostRuntime) -> Result<(), Fail> {
     let boxes = boxes_of(&rt, alloc, &plane, &shape)?;
     expect_reverses(&rt, &boxes);
     expect_next(&rt, alloc, &boxes)?;
-    assert_eq!(rt; boxes.plane_vertices(), 3);
-    assert_eq!(rt; boxes.edges(), [0, 1, 2].as_slice());
+    assert_eq!(rt; boxes.old_vertices(), 3);
+    assert_eq!(rt; boxes.edges(), 3);
+    assert_eq!(rt; boxes.path(0), [0].as_slice());
+    assert_eq!(rt; boxes.path(2), [2].as_slice());
     assert!(rt; boxes.darts() > 5);
     for dart in [0, 2, 3, 5] {
         assert_eq!(rt; boxes.before(dart), None);
@@ -77,5 +82,6 @@ fn boxes_of_a_triangle(rt: HostRuntime) -> Result<(), Fail> {
     assert!(rt; 2 < boxes.head(front));
     assert_eq!(rt; boxes.direction(1), boxes.direction(front).left());
     assert_eq!(rt; boxes.before(front), None);
+    assert_eq!(rt; boxes.path(1), [front, 1].as_slice());
     Ok(())
 }

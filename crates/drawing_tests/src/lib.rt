@@ -3,12 +3,22 @@
 #![tactic(auto)]
 
 #[cfg(test)]
+mod bent;
+#[cfg(test)]
 mod boxed;
+#[cfg(test)]
+mod directed;
+#[cfg(test)]
+mod enclosed;
 #[cfg(test)]
 mod families;
 #[cfg(test)]
 mod planes;
 #[cfg(test)]
+mod quarters;
+#[cfg(test)]
 mod refused;
 #[cfg(test)]
 mod turned;
+#[cfg(test)]
+mod wide;

@@ -4,8 +4,8 @@ use Rattle.std.proofs.lemmas.Grind.{reverse_onto}
 use Rattle.std.proofs.lemmas.List.{map_push}
 use Rattle.cutting.specs.Webs.{Web, no_dart}
 use Rattle.cutting.specs.Faces.{last_of, Below, In, Distinct}
-use Rattle.cutting.specs.Paths.{Follows, IsPath, HasPath, HasPaths}
-use Rattle.edge_paths.proofs.Backwards.{AreSame, path_unique, path_distinct}
+use Rattle.cutting.specs.Paths.{Follows, IsPath, HasPaths}
+use Rattle.edge_paths.proofs.Backwards.{path_unique, path_distinct}
 use Rattle.edge_paths.proofs.Rows.{HasRows}
 
 -- the darts behind the twin of the last dart on the way back

@@ -4,7 +4,6 @@ use Rattle.std.proofs.lemmas.Bool.{cases_eq, cases_lt, eq-eqb, ne_eqb, cond-true
 use Rattle.cutting.specs.Webs.{Web, no_dart, IsLinked, IsSplit, IsChord, IsCut, Grows, same, further}
 use Rattle.cutting.specs.Frames.{IsFramed, IsEnclosed}
 use Rattle.cutting.proofs.Splitting.{by_age, by_place, split_linked}
-use Rattle.cutting.proofs.Chords.{chord_linked}
 use Rattle.edge_paths.specs.Rows.{AreRows}
 use Rattle.edge_paths.proofs.Joining.{cut_linked}
 use Rattle.edge_paths.proofs.Cuts.{IsBeside, chord_beside}

@@ -1,16 +1,15 @@
 -- A row of darts by itself, as a side of the rectangle or its join: splits, chords, cuts and a rectangle keep it, its
 -- turns and the darts on it.
-use Rattle.std.proofs.Common.{◌≡◌, ◌≢◌, ℕ, ◌+◌, ◌<◌, List, [], ◌∷◌, arith, subst, sym, refl, inl, inr}
+use Rattle.std.proofs.Common.{ℕ, ◌+◌, ◌<◌, List, ◌∷◌, arith, subst, sym, refl, inl, inr}
 use Rattle.std.proofs.lemmas.Bool.{cases_eq}
-use Rattle.cutting.specs.Webs.{Web, IsLinked, IsSplit, IsChord, IsCut, Grows, same, further}
+use Rattle.cutting.specs.Webs.{Web, IsLinked, IsSplit, IsCut, Grows, same, further}
 use Rattle.cutting.specs.Faces.{In}
 use Rattle.cutting.specs.Paths.{HasPath, bends}
-use Rattle.cutting.specs.Frames.{IsFramed}
 use Rattle.cutting.proofs.Splitting.{split_linked}
 use Rattle.edge_paths.proofs.Lengthening.{IsDoubled, IsKept, IsLonger, holds_behind, longer_turns, path_kept, path_doubled}
 use Rattle.edge_paths.proofs.Splits.{split_kept, split_doubled, split_doubled_back, split_longer}
-use Rattle.edge_paths.proofs.Joining.{cut_linked, grows_linked}
-use Rattle.edge_paths.proofs.Cuts.{IsBeside, beside_longer, chord_beside, AreQuarters, cut_quarters, grows_quarters}
+use Rattle.edge_paths.proofs.Joining.{grows_linked}
+use Rattle.edge_paths.proofs.Cuts.{IsBeside, beside_longer, chord_beside, AreQuarters, grows_quarters}
 
 -- the row that ends with the dart `end` sets out with the twin of `mate`, has these turns, and holds the dart `held`
 pub record HasRow (w : Web) (end mate held : ℕ) (turns : List ℕ) : Type 0 where

@@ -10,7 +10,6 @@ use Rattle.cutting.proofs.Running.{IsCutting, run_more, run_direct, split_runs, 
 use Rattle.cutting.proofs.Rings.{split_ring, chord_runs, chord_ring}
 use Rattle.cutting.proofs.Waiting.{clear_of, ring_last}
 use Rattle.cutting.proofs.Listing.{in_left, in_right, in_below, below_left, below_right}
-use Rattle.enclosing.proofs.Framing.{by_four}
 use Rattle.enclosing.proofs.Sounding.{frame_linked}
 
 -- a rectangle keeps the runs of the drawing

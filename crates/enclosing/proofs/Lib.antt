@@ -8,4 +8,3 @@ pub mod Tracing
 pub mod Merging
 pub mod Enclosing
 pub mod Adding
-pub mod Edges

@@ -19,6 +19,21 @@ pub struct Faces {
     pub outer: Vec<u32>,
 }
 
+/// How many darts are corners of their faces. A step for each dart.
+fn corner_count(table: &DartTable) -> usize
+    ensures few { result ≤ table.now.darts }
+{
+    table.angle[..table.darts as usize]
+        .iter()
+        .filter(|angle| **angle != 2)
+        .count()
+}
+
+/// How many faces a drawing of one piece has, by Euler's formula.
+fn face_count(table: &DartTable) -> usize {
+    (table.darts / 2 + 2).saturating_sub(table.vertices) as usize
+}
+
 /// Lists the corners of all faces. The outer face is that of the right turn `right`, with which its
 /// corners end. Linear in the darts.
 pub fn list_faces(alloc: Global, table: &DartTable, right: u32) -> Result<Faces, AllocError>
@@ -29,11 +44,13 @@ pub fn list_faces(alloc: Global, table: &DartTable, right: u32) -> Result<Faces,
     ensures listed { IfOk result (λ f. (inner : List (List ℕ)) × AreFlat f.corners.items f.counts.items inner
         × AreListed (web_of table.now) right inner f.outer.items) }
 {
+    let corner_count = corner_count(table);
     let mut seen = vec![in alloc; false; table.darts as usize]?;
-    let mut outer = Vec::new(alloc);
+    let mut outer = Vec::with_capacity(alloc, corner_count)?;
     walk(table, right, &mut seen, &mut outer)?;
-    let mut corners = Vec::new(alloc);
-    let mut counts = Vec::new(alloc);
+    // The joined face has the corners of the outer face, and seven more.
+    let mut corners = Vec::with_capacity(alloc, corner_count + 7)?;
+    let mut counts = Vec::with_capacity(alloc, face_count(table))?;
     'darts: for start in 0..table.darts {
         if !seen[start as usize] && table.angle[start as usize] != 2 {
             let before = corners.len();

@@ -8,8 +8,6 @@
 mod faces;
 mod join;
 mod rectangle;
-#[cfg(test)]
-mod tests;
 mod walks;
 
 pub use join::enclose;

@@ -5,6 +5,3 @@ pub mod laws;
 mod search;
 
 pub use search::headings;
-
-#[cfg(test)]
-mod tests;

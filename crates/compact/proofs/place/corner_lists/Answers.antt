@@ -1,4 +1,4 @@
-use Rattle.std.proofs.Common.{◌∙◌, ℕ, [], ◌∷◌, List, length, length-append, get_or, slice_index, subst, sym, ap, arith}
+use Rattle.std.proofs.Common.{◌∙◌, ℕ, [], ◌∷◌, length, length-append, slice_index, subst, sym, ap, arith}
 use Rattle.cutting.specs.Paths.{IsPath}
 use Rattle.dissect.specs.Boxes.{web}
 use Rattle.compact.proofs.Placing.{corners_more}

@@ -1,4 +1,4 @@
-use Rattle.std.proofs.Common.{◌≡◌, ◌≢◌, ◌<◌, ◌≤◌, ◌∙◌, ℕ, List, [], ◌∷◌, ◌++◌, length, reverse, slice_index, arith, subst, sym, ap}
+use Rattle.std.proofs.Common.{◌≡◌, ◌<◌, ◌∙◌, ℕ, List, [], ◌∷◌, ◌++◌, length, slice_index, arith, subst, sym, ap}
 use Rattle.std.proofs.lemmas.List.{get_or_read}
 use Rattle.cutting.specs.Webs.{no_dart}
 use Rattle.cutting.specs.Tables.{web_of}

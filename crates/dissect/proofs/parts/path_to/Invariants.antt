@@ -1,5 +1,4 @@
-use Rattle.std.proofs.Common.{◌<◌, ◌≤◌, ℕ, List, ◌∷◌}
-use Rattle.cutting.specs.Webs.{no_dart}
+use Rattle.std.proofs.Common.{◌<◌, ℕ, List, ◌∷◌}
 use Rattle.cutting.specs.Tables.{web_of}
 use Rattle.cutting.specs.Paths.{IsPath}
 use Rattle.dissect.proofs.Walking.{IsOnWay, depth}

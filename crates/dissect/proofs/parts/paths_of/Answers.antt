@@ -1,7 +1,6 @@
-use Rattle.std.proofs.Common.{◌≡◌, ◌∙◌, ℕ, List, [], ◌∷◌, ◌++◌, Vec, Global, length, length-append, slice_index, ap, arith, subst, sym}
+use Rattle.std.proofs.Common.{◌∙◌, ℕ, [], ◌∷◌, length, length-append, slice_index, ap, arith, subst, sym}
 use Rattle.cutting.specs.Tables.{web_of}
 use Rattle.cutting.specs.Paths.{IsPath}
-use Rattle.dissect.specs.Boxes.{items_of}
 use Rattle.dissect.proofs.Lists.{listed_more}
 use Rattle.dissect.proofs.parts.paths_of.Goals as goal
 

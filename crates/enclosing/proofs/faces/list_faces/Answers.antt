@@ -12,11 +12,11 @@ darts-init c =
     let w = web_of c.args.table.now in
     let walked : IsWalked w c.args.right c.in_ok-seen.seen.items c.walk.new.seen.items [] c.walk.new.corners.items =
     subst (λ xs. IsWalked w c.args.right c.in_ok-seen.seen.items c.walk.new.seen.items xs c.walk.new.corners.items)
-    c.new-outer.ensures.items c.in_ok-walk.ensures.walked in
+    c.in_ok-outer.ensures.items c.in_ok-walk.ensures.walked in
     let blank : (a : ℕ) → IsMarked c.in_ok-seen.seen.items a → ⊥ =
     λ a m. unmarked c.args.table.now.darts a
     (subst (λ marks. IsMarked marks a) (c.in_ok-seen.ensures.items_if_clones_equal (λ y h. h)) m) in
-    rw (c.new-corners.ensures.items, c.new-counts.ensures.items)
+    rw (c.in_ok-corners.ensures.items, c.in_ok-counts.ensures.items)
     (trace_begins w c.args.right c.in_ok-seen.seen.items c.walk.new.seen.items c.walk.new.corners.items blank
     (omega (arith, c.in_ok-seen.ensures.len, c.in_ok-walk.ensures.size, c.walk.new.seen.ok.0)) walked)
 

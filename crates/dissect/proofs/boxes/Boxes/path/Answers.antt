@@ -1,4 +1,4 @@
-use Rattle.std.proofs.Common.{◌≡◌, ◌<◌, ◌∙◌, ℕ, List, [], Vec, Global, length, get_or, ap, arith, subst, sym}
+use Rattle.std.proofs.Common.{◌≡◌, ◌<◌, ◌∙◌, ℕ, [], Vec, Global, length, get_or, ap, arith, subst, sym}
 use Rattle.std.proofs.lemmas.List.{get_or-map, length-map}
 use Rattle.dissect.specs.Boxes.{Parts, IsEdgePath, items_of, parts_of}
 use Rattle.dissect.proofs.boxes.Boxes.path.Goals as goal

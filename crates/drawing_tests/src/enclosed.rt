@@ -5,8 +5,8 @@ ghost use Rattle.cutting.specs.Labels.{HasTurns};
 ghost use Rattle.cutting.specs.Tables.{room, web_of};
 ghost use Rattle.cutting.specs.Webs.{IsSound, excess};
 
-use crate::enclose;
 use cutting::{DartTable, NO_DART};
+use enclosing::enclose;
 use std::alloc::{AllocError, Global};
 use std::process::Abort;
 use std::test::Fail;

@@ -3,37 +3,16 @@
 ghost use Rattle.std.specs.Prelude.{◌<◌, length};
 ghost use Rattle.faces.specs.Map.{darts};
 
-use crate::headings;
-use embedding::Graph;
+use crate::families::{K4, OCTAHEDRON};
+use crate::planes::{EDGE, TRIANGLE, plane_in, plane_of};
 use faces::Plane;
+use headings::headings;
 use ortho_rep::{Shape, Turn, is_shape, least_shape};
-use planar_code::{Framer, HEADER};
 use std::alloc::Global;
 use std::process::Abort;
 use std::test::Fail;
 
-const EDGE: [u8; 5] = [2, 2, 0, 1, 0];
-
-const TRIANGLE: [u8; 10] = [3, 2, 3, 0, 3, 1, 0, 1, 2, 0];
-
-const K4: [u8; 17] = [4, 3, 4, 2, 0, 1, 4, 3, 0, 2, 4, 1, 0, 3, 2, 1, 0];
-
-const OCTAHEDRON: [u8; 31] = [
-    6, 2, 3, 4, 5, 0, 6, 3, 1, 5, 0, 2, 6, 4, 1, 0, 1, 3, 6, 5, 0, 2, 1, 4, 6, 0, 2, 5, 4, 3, 0,
-];
-
 const STAR: [u8; 14] = [5, 2, 3, 4, 5, 0, 1, 0, 1, 0, 1, 0, 1, 0];
-
-/// The plane of these bytes, if they are a record of one and there is memory.
-fn plane_in(alloc: Global, bytes: &[u8]) -> Option<Plane> {
-    let mut framer = Framer::new(alloc).ok()?;
-    let mut records = Vec::new(alloc);
-    framer.feed(alloc, &HEADER, &mut records).ok()?;
-    framer.feed(alloc, bytes, &mut records).ok()?;
-    let record = records.pop()?;
-    let graph = Graph::read(alloc, &record).ok()?;
-    Plane::trace(alloc, graph).ok()
-}
 
 /// A string of turns, from a text of `L` and `R`.
 fn string_of(alloc: Global, text: &str) -> Result<Vec<Turn>, Fail> {
@@ -79,7 +58,7 @@ fn expect(
     texts: &[&str],
     want: &[u8],
 ) -> Result<(), Fail> {
-    let plane = plane_in(alloc, record).ok_or("no plane")?;
+    let plane = plane_of(alloc, record)?;
     let shape = shape_of(alloc, angles, texts)?;
     let found = headings_of(alloc, &plane, &shape)?;
     assert_eq!(rt; found.as_slice(), want);
@@ -132,7 +111,7 @@ fn keeps_rules(plane: &Plane, shape: &Shape, found: &[u8], dart: u16) -> bool
 
 /// That the directions of a least shape keep the rules at each dart.
 fn expect_rules(rt: &impl Abort, alloc: Global, record: &[u8]) -> Result<(), Fail> {
-    let plane = plane_in(alloc, record).ok_or("no plane")?;
+    let plane = plane_of(alloc, record)?;
     let (shape, _) = least_shape(alloc, &plane)?;
     let found = headings_of(alloc, &plane, &shape)?;
     let darts = plane.graph().darts();

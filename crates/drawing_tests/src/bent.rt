@@ -1,34 +1,15 @@
 //! A drawing worked out by hand, and the sizes of those of least shapes.
 
-use crate::bend;
+use crate::families::OCTAHEDRON;
+use crate::planes::{EDGE, TRIANGLE, plane_in, plane_of, spiral_in};
+use bending::bend;
 use cutting::{DartTable, NO_DART};
-use embedding::Graph;
 use faces::Plane;
 use headings::headings;
-use ortho_rep::{Shape, Turn, is_shape, least_shape};
-use planar_code::{Framer, HEADER};
+use ortho_rep::{Shape, is_shape, least_shape};
 use std::alloc::Global;
 use std::process::Abort;
 use std::test::Fail;
-
-const EDGE: [u8; 5] = [2, 2, 0, 1, 0];
-
-const TRIANGLE: [u8; 10] = [3, 2, 3, 0, 3, 1, 0, 1, 2, 0];
-
-const OCTAHEDRON: [u8; 31] = [
-    6, 2, 3, 4, 5, 0, 6, 3, 1, 5, 0, 2, 6, 4, 1, 0, 1, 3, 6, 5, 0, 2, 1, 4, 6, 0, 2, 5, 4, 3, 0,
-];
-
-/// The plane of these bytes, if they are a record of one and there is memory.
-fn plane_in(alloc: Global, bytes: &[u8]) -> Option<Plane> {
-    let mut framer = Framer::new(alloc).ok()?;
-    let mut records = Vec::new(alloc);
-    framer.feed(alloc, &HEADER, &mut records).ok()?;
-    framer.feed(alloc, bytes, &mut records).ok()?;
-    let record = records.pop()?;
-    let graph = Graph::read(alloc, &record).ok()?;
-    Plane::trace(alloc, graph).ok()
-}
 
 /// The drawing of a shape that is an orthogonal representation.
 fn bend_of(alloc: Global, plane: &Plane, shape: &Shape) -> Result<DartTable, Fail> {
@@ -40,28 +21,13 @@ fn bend_of(alloc: Global, plane: &Plane, shape: &Shape) -> Result<DartTable, Fai
     }
 }
 
-/// The single edge with a bend to the left along its first dart.
-fn bent_edge(alloc: Global) -> Result<Shape, Fail> {
-    let mut there = Vec::new(alloc);
-    there.push(Turn::Left)?;
-    let mut back = Vec::new(alloc);
-    back.push(Turn::Right)?;
-    let mut strings = Vec::new(alloc);
-    strings.push(there)?;
-    strings.push(back)?;
-    if Shape::are_short(&strings) {
-        Ok(Shape::new([4, 4].to_vec(alloc)?, strings))
-    } else {
-        Err("strings out of range")?
-    }
-}
-
 // Dart 2 stands in front of dart 0, and dart 3 in front of dart 1.
 #[test]
 fn edge_with_one_bend(rt: HostRuntime) -> Result<(), Fail> {
     let alloc = rt.alloc();
-    let plane = plane_in(alloc, &EDGE).ok_or("no plane")?;
-    let table = bend_of(alloc, &plane, &bent_edge(alloc)?)?;
+    let plane = plane_of(alloc, &EDGE)?;
+    let shape = spiral_in(alloc, 1).ok_or("no shape")?;
+    let table = bend_of(alloc, &plane, &shape)?;
     assert_eq!(rt; (table.darts, table.vertices, table.next.len()), (4, 3, 48));
     assert!(rt; table.next.starts_with(&[3, 2, 0, 1]));
     assert!(rt; table.prev.starts_with(&[2, 3, 1, 0]));
@@ -75,7 +41,7 @@ fn edge_with_one_bend(rt: HostRuntime) -> Result<(), Fail> {
 
 /// How many darts and vertices the drawing of a least shape has.
 fn sizes(alloc: Global, record: &[u8]) -> Result<(u32, u32), Fail> {
-    let plane = plane_in(alloc, record).ok_or("no plane")?;
+    let plane = plane_of(alloc, record)?;
     let (shape, _) = least_shape(alloc, &plane)?;
     let table = bend_of(alloc, &plane, &shape)?;
     Ok((table.darts, table.vertices))
