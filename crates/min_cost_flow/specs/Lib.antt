@@ -3,6 +3,8 @@ pub mod Flow
 pub mod Fault
 pub mod Excess
 pub mod Residual
-pub mod Tree
+pub mod Layout
+pub mod Search
+pub mod Path
 pub mod Round
 pub mod Existence

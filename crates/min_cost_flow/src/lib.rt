@@ -6,6 +6,9 @@
 #![tactic(auto)]
 
 mod arc;
+mod augment;
+mod build;
+mod reach;
 mod fault;
 pub mod laws;
 mod network;
@@ -13,7 +16,6 @@ mod residual;
 mod search;
 mod solved;
 mod solver;
-mod tree;
 
 pub use arc::{Arc, Cap};
 pub use fault::NetFault;

@@ -55,6 +55,7 @@ fn units_take_the_free_way_first(rt: HostRuntime) -> Result<(), Fail> {
     for i in 0..network.arc_count() {
         assert_eq!(rt; solved.flow(i as u32), 1, "arc {i}");
     }
+    println!(rt; "{} {}", solved.searches(), solved.looks())?;
     assert_eq!(rt; least_cost(rt.alloc(), &network)?, Some(1));
     assert_eq!(rt; network.node_count(), 3);
     for v in 0..network.node_count() {

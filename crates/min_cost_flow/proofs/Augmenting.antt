@@ -1,0 +1,1 @@
+-- What units along a path change.
