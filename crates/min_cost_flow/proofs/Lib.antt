@@ -10,3 +10,5 @@ pub mod Reaching
 pub mod Turning
 pub mod Building
 pub mod Augmenting
+pub mod Distinct
+pub mod Signs

@@ -57,6 +57,7 @@ pub record IsEntered (n : ℕ) (first : List ℕ) (arcs : List ResidualArc) (q :
 -- at the level, and those further off
 pub record IsReached (n : ℕ) (first : List ℕ) (arcs : List ResidualArc) (p e : ℕ → ℤ) (s : ℕ) (q : ℕ → ℤ) (enter order place : ℕ → ℕ) (head ordered reached : ℕ) (level : ℤ) : Type 0 where
   pub counts : (head ≤ ordered) × (ordered ≤ reached) × (reached ≤ n)
+  pub begun : 0 < ordered
   pub node : (j : ℕ) → j < reached → order j < n
   pub at : (j : ℕ) → j < reached → place (order j) ≡ j
   pub marked : (j : ℕ) → j < reached → q (order j) <ℤ far

@@ -1,6 +1,5 @@
 //! The nodes that a search reaches, in order of their distance.
-#![tactic(none)]
-ghost use Rattle.std.specs.Prelude.{◌≡◌, ◌≢◌, ◌⊎◌, ◌<◌, ◌≤◌, ◌+◌, ℕ, ℤ, List, length, pos, ◌≤ℤ◌, ◌<ℤ◌, ◌+ℤ◌, ◌-ℤ◌};
+ghost use Rattle.std.specs.Prelude.{◌≡◌, ◌≢◌, ◌⊎◌, ◌<◌, ◌≤◌, ◌+◌, ◌^◌, ℕ, ℤ, List, length, pos, negsuc, ◌≤ℤ◌, ◌<ℤ◌, ◌+ℤ◌, ◌-ℤ◌};
 ghost use Rattle.min_cost_flow.specs.Flow.{at_nodes};
 ghost use Rattle.min_cost_flow.specs.Layout.{numbers, end_at, code_at, StartsAt};
 ghost use Rattle.min_cost_flow.specs.Search.{far, nodes_of, IsGround, HasSizes, Reaches, FindsNearest, Keeps, Offers, IsPut, IsSwapped};
@@ -71,12 +70,12 @@ pub(crate) fn reach(
     ensures served { (step.label -ℤ at_nodes ground.entry.potential.now step.end) <ℤ progress.new.cut →
         at_nodes label.new step.end ≤ℤ step.label }
 {
-    let distance = step.label - ground.potential[step.end];
+    let away = distance(step.label, ground.potential[step.end]);
     if ground.excess[step.end] < 0 {
-        offer(progress, step.number, distance, ground.score[step.end]);
-    } else if distance < progress.cut {
+        offer(progress, step.number, away, ground.score[step.end]);
+    } else if away < progress.cut {
         mark(ground, label, enter, order, place, progress, step);
-        if distance == progress.level {
+        if away == progress.level {
             advance(order, place, progress, step.end);
         }
     }
@@ -126,13 +125,63 @@ fn mark(
     ensures found { progress.new.found ≡ progress.old.found }
 {
     let _ = ground;
-    if label[step.end] >= FAR {
-        order[progress.reached] = step.end as u32;
-        place[step.end] = progress.reached as u32;
-        progress.reached += 1;
+    if label[step.end] < FAR {
+        relabel(label, enter, step);
+    } else {
+        enlist(label, enter, order, place, progress, step);
     }
+}
+
+/// Gives a node that was not reached before a label, and a place behind all others.
+fn enlist(
+    label: &mut [i32],
+    enter: &mut [u32],
+    order: &mut [u32],
+    place: &mut [u32],
+    progress: &mut Progress,
+    step: Step,
+)
+    requires label { step.end < length label.old }
+    requires enter { step.end < length enter.old }
+    requires place { step.end < length place.old }
+    requires order { progress.old.reached < length order.old }
+    requires small { (length order.old ≤ 1024) × (step.end < 1024) × (step.number < 8192) }
+    ensures label { IsPut (at_nodes label.old) (at_nodes label.new) step.end step.label }
+    ensures enter { IsPut (numbers enter.old) (numbers enter.new) step.end step.number }
+    ensures order { IsPut (numbers order.old) (numbers order.new) progress.old.reached step.end }
+    ensures place { IsPut (numbers place.old) (numbers place.new) step.end progress.old.reached }
+    ensures head { progress.new.head ≡ progress.old.head }
+    ensures ordered { progress.new.ordered ≡ progress.old.ordered }
+    ensures reached { progress.new.reached ≡ progress.old.reached + 1 }
+    ensures level { progress.new.level ≡ progress.old.level }
+    ensures cut { progress.new.cut ≡ progress.old.cut }
+    ensures found { progress.new.found ≡ progress.old.found }
+{
+    order[progress.reached] = step.end as u32;
+    place[step.end] = progress.reached as u32;
+    progress.reached += 1;
+    relabel(label, enter, step);
+}
+
+/// Writes the label of a node, and the residual arc by which it was reached.
+fn relabel(label: &mut [i32], enter: &mut [u32], step: Step)
+    requires label { step.end < length label.old }
+    requires enter { step.end < length enter.old }
+    requires small { step.number < 8192 }
+    ensures label { IsPut (at_nodes label.old) (at_nodes label.new) step.end step.label }
+    ensures enter { IsPut (numbers enter.old) (numbers enter.new) step.end step.number }
+{
     label[step.end] = step.label;
     enter[step.end] = step.number as u32;
+}
+
+/// How far a node is from the source by reduced costs.
+pub(crate) fn distance(label: i32, potential: i32) -> i32
+    requires label { (negsuc 1073741823 ≤ℤ label) × (label ≤ℤ pos 1073741823) }
+    requires potential { (negsuc 1073741823 ≤ℤ potential) × (potential ≤ℤ pos 0) }
+    ensures { result ≡ label -ℤ potential }
+{
+    label - potential
 }
 
 /// Puts a node behind those that are ordered, in exchange for the node that is there.

@@ -1,11 +1,10 @@
 //! The search for the nearest node where units are wanting.
-#![tactic(none)]
-ghost use Rattle.std.specs.Prelude.{◌≡◌, ◌≢◌, ◌⊎◌, ◌<◌, ◌≤◌, ◌+◌, ◌^◌, ℕ, ℤ, List, length, pos, ◌≤ℤ◌, ◌<ℤ◌, ◌+ℤ◌, ◌-ℤ◌, true, false};
+ghost use Rattle.std.specs.Prelude.{◌≡◌, ◌≢◌, ◌⊎◌, ◌<◌, ◌≤◌, ◌+◌, ◌^◌, ℕ, ℤ, List, length, pos, negsuc, ◌≤ℤ◌, ◌<ℤ◌, ◌+ℤ◌, ◌-ℤ◌, true, false};
 ghost use Rattle.min_cost_flow.specs.Flow.{at_nodes};
 ghost use Rattle.min_cost_flow.specs.Layout.{numbers, end_at, code_at, StartsAt};
-ghost use Rattle.min_cost_flow.specs.Search.{far, nodes_of, degree, looked, IsGround, HasSizes, Reaches, FindsNearest, Keeps, IsServed, IsLeft};
+ghost use Rattle.min_cost_flow.specs.Search.{far, nodes_of, degree, looked, IsGround, HasSizes, Reaches, FindsNearest, Keeps, IsServed, Serves, IsNear, IsPut, IsLeft};
 
-use crate::reach::{FAR, Ground, Progress, Step, advance, reach};
+use crate::reach::{FAR, Ground, Progress, Step, advance, distance, reach};
 use crate::residual::look;
 
 /// Labels the nodes round a source, in order of their distance by reduced costs, up to the nearest one
@@ -31,10 +30,12 @@ pub(crate) fn search(
     ensures once { looks.new ≤ looks.old + length ground.entry.arcs.now }
 {
     let mut progress = begin(ground, label, order, place);
-    while goes_on(ground, label, enter, order, place, &mut progress) {
+    'nodes: loop {
+        if !goes_on(ground, label, enter, order, place, &mut progress) {
+            return progress;
+        }
         scan(ground, label, enter, order, place, &mut progress, looks);
     }
-    progress
 }
 
 /// Labels the source alone.
@@ -52,9 +53,7 @@ fn begin(
     ensures nearest { FindsNearest ground.entry label.new place.new result }
     ensures head { result.head ≡ 0 }
 {
-    label[ground.source] = ground.potential[ground.source];
-    order[0] = ground.source as u32;
-    place[ground.source] = 0;
+    place_first(label, order, place, ground.source, ground.potential[ground.source]);
     Progress {
         head: 0,
         ordered: 1,
@@ -64,6 +63,27 @@ fn begin(
         wish: 0,
         found: 0,
     }
+}
+
+/// Puts a node first in the order, with a label.
+fn place_first(
+    label: &mut [i32],
+    order: &mut [u32],
+    place: &mut [u32],
+    node: usize,
+    potential: i32,
+)
+    requires label { node < length label.old }
+    requires order { 0 < length order.old }
+    requires place { node < length place.old }
+    requires small { node < 1024 }
+    ensures label { IsPut (at_nodes label.old) (at_nodes label.new) node potential }
+    ensures order { numbers order.new 0 ≡ node }
+    ensures place { numbers place.new node ≡ 0 }
+{
+    label[node] = potential;
+    order[0] = node as u32;
+    place[node] = 0;
 }
 
 /// Whether a node is to be scanned next: one at the level, or else the nearest one further off, to
@@ -120,13 +140,22 @@ fn least_distance(
     ensures least { (j : ℕ) → progress.now.ordered ≤ j → j < progress.now.reached → result ≤ℤ (at_nodes label.now (numbers order.now j) -ℤ at_nodes ground.entry.potential.now (numbers order.now j)) }
     ensures some { result <ℤ progress.now.cut → (j : ℕ) × (progress.now.ordered ≤ j) × (j < progress.now.reached) × (result ≡ at_nodes label.now (numbers order.now j) -ℤ at_nodes ground.entry.potential.now (numbers order.now j)) }
 {
-    let _ = (enter, place);
+    let _ = enter;
+    let _ = place;
     let mut least = progress.cut;
     for j in progress.ordered..progress.reached {
         let node = order[j] as usize;
-        least = least.min(label[node] - ground.potential[node]);
+        least = lesser(least, distance(label[node], ground.potential[node]));
     }
     least
+}
+
+fn lesser(a: i32, b: i32) -> i32
+    ensures first { result ≤ℤ a }
+    ensures second { result ≤ℤ b }
+    ensures either { (result ≡ a) ⊎ (result ≡ b) }
+{
+    if b < a { b } else { a }
 }
 
 /// Moves the level, and puts the nodes at that distance behind those that are ordered.
@@ -155,13 +184,43 @@ fn climb(
     ensures cut { progress.new.cut ≡ progress.old.cut }
     ensures more { progress.new.head < progress.new.ordered }
 {
-    let _ = enter;
     progress.level = level;
     for j in progress.ordered..progress.reached {
-        let node = order[j] as usize;
-        if label[node] - ground.potential[node] == level {
-            advance(order, place, progress, node);
-        }
+        take_up(ground, label, enter, order, place, progress, j);
+    }
+}
+
+/// Puts the node at a place behind those that are ordered, if it is at the level.
+fn take_up(
+    ground: Ground<'_>,
+    label: &[i32],
+    enter: &[u32],
+    order: &mut [u32],
+    place: &mut [u32],
+    progress: &mut Progress,
+    j: usize,
+)
+    requires ground { IsGround ground }
+    requires sizes { HasSizes ground label.now enter.now order.old place.old }
+    requires reached { Reaches ground label.now enter.now order.old place.old progress.old }
+    requires nearest { FindsNearest ground label.now place.old progress.old }
+    requires place { progress.old.ordered ≤ j }
+    requires inside { j < progress.old.reached }
+    ensures reached { Reaches ground.entry label.now enter.now order.new place.new progress.new }
+    ensures nearest { FindsNearest ground.entry label.now place.new progress.new }
+    ensures kept { Keeps ground.entry progress.old.head label.now place.old label.now place.new }
+    ensures head { progress.new.head ≡ progress.old.head }
+    ensures count { progress.new.reached ≡ progress.old.reached }
+    ensures level { progress.new.level ≡ progress.old.level }
+    ensures cut { progress.new.cut ≡ progress.old.cut }
+    ensures few { (progress.old.ordered ≤ progress.new.ordered) × (progress.new.ordered ≤ progress.old.ordered + 1) }
+    ensures behind { (i : ℕ) → j < i → numbers order.new i ≡ numbers order.old i }
+    ensures more { at_nodes label.now (numbers order.old j) -ℤ at_nodes ground.entry.potential.now (numbers order.old j) ≡ progress.old.level → progress.new.ordered ≡ progress.old.ordered + 1 }
+{
+    let _ = enter;
+    let node = order[j] as usize;
+    if distance(label[node], ground.potential[node]) == progress.level {
+        advance(order, place, progress, node);
     }
 }
 
@@ -191,18 +250,60 @@ fn scan(
 {
     let node = order[progress.head] as usize;
     progress.head += 1;
-    let base = label[node];
     for number in ground.first[node] as usize..ground.first[node + 1] as usize {
-        let arc = look(ground.arcs, number, looks);
-        let end = usize::from(arc.end);
-        let offered = base + i32::from(arc.code);
-        if offered < label[end] {
-            let step = Step {
-                number,
-                end,
-                label: offered,
-            };
-            reach(ground, label, enter, order, place, progress, step);
-        }
+        consider(ground, label, enter, order, place, progress, node, number, looks);
     }
+}
+
+/// Looks at one residual arc of the node that is scanned, and takes up what it offers.
+fn consider(
+    ground: Ground<'_>,
+    label: &mut [i32],
+    enter: &mut [u32],
+    order: &mut [u32],
+    place: &mut [u32],
+    progress: &mut Progress,
+    node: usize,
+    number: usize,
+    looks: &mut u64,
+)
+    requires ground { IsGround ground }
+    requires sizes { HasSizes ground label.old enter.old order.old place.old }
+    requires reached { Reaches ground label.old enter.old order.old place.old progress.old }
+    requires nearest { FindsNearest ground label.old place.old progress.old }
+    requires node { node < nodes_of ground }
+    requires labelled { at_nodes label.old node <ℤ far }
+    requires place { numbers place.old node + 1 ≡ progress.old.head }
+    requires near { IsNear (at_nodes ground.potential.now ground.source) (numbers place.old node) (at_nodes label.old node) }
+    requires level { progress.old.level ≤ℤ (at_nodes label.old node -ℤ at_nodes ground.potential.now node) }
+    requires number { StartsAt ground.first.now node number }
+    requires few { looks.old < 2 ^ 62 }
+    ensures reached { Reaches ground.entry label.new enter.new order.new place.new progress.new }
+    ensures nearest { FindsNearest ground.entry label.new place.new progress.new }
+    ensures kept { Keeps ground.entry progress.old.head label.old place.old label.new place.new }
+    ensures head { progress.new.head ≡ progress.old.head }
+    ensures level { progress.new.level ≡ progress.old.level }
+    ensures cut { progress.new.cut ≤ℤ progress.old.cut }
+    ensures serves { Serves ground.entry.arcs.now (at_nodes ground.entry.potential.now) (at_nodes label.new) progress.new.cut node number }
+    ensures tick { looks.new ≡ looks.old + 1 }
+{
+    let arc = look(ground.arcs, number, looks);
+    let end = usize::from(arc.end);
+    let offered = offered_label(label[node], arc.code);
+    if offered < label[end] {
+        let step = Step {
+            number,
+            end,
+            label: offered,
+        };
+        reach(ground, label, enter, order, place, progress, step);
+    }
+}
+
+/// What a residual arc offers to its end.
+fn offered_label(label: i32, code: i16) -> i32
+    requires label { (negsuc 1073741823 ≤ℤ label) × (label ≤ℤ pos 1073741823) }
+    ensures { result ≡ label +ℤ code }
+{
+    label + i32::from(code)
 }
