@@ -12,3 +12,4 @@ pub mod Building
 pub mod Augmenting
 pub mod Distinct
 pub mod Signs
+pub mod Solving

@@ -158,12 +158,12 @@ first_left net e small fair =
     let le : left_over net e ≤ sum_below n (λ _. 2048) = sum_below-le n (λ v. up (e v)) (λ _. 2048) (λ v b. up_most (e v) (fair v b)) in
     omega (arith, sum_below-constant n 2048)
 
-first_priced : (net : Net) (x : ℕ → ℕ) (p : ℕ → ℤ) (i : ℕ) (back : Bool) → ((i : ℕ) → x i ≡ 0) → ((v : ℕ) → p v ≡ pos 0) → IsResidual net x i back → pos 0 ≤ℤ reduced_cost net p i back
+first_priced : (net : Net) (x : ℕ → ℕ) (p : ℕ → ℤ) (i : ℕ) (back : Bool) → x i ≡ 0 → ((v : ℕ) → p v ≡ pos 0) → IsResidual net x i back → pos 0 ≤ℤ reduced_cost net p i back
 first_priced net x p i false none flat r = first_cost (arc_at net i).cost (p (arc_at net i).from) (p (arc_at net i).to) (flat (arc_at net i).from) (flat (arc_at net i).to)
-first_priced net x p i true none flat r = absurd (omega (arith, none i))
+first_priced net x p i true none flat r = absurd (omega arith)
 
 -- no amounts, potentials 0, and all supplies left over or wanting
-pub first_round : (net : Net) (x : ℕ → ℕ) (p e : ℕ → ℤ) → IsNetwork net → ((i : ℕ) → x i ≡ 0) → ((v : ℕ) → p v ≡ pos 0) → ((v : ℕ) → e v ≡ supply_at net v) → IsRound net x p e
+pub first_round : (net : Net) (x : ℕ → ℕ) (p e : ℕ → ℤ) → IsNetwork net → ((i : ℕ) → i < arc_count net → x i ≡ 0) → ((v : ℕ) → p v ≡ pos 0) → ((v : ℕ) → e v ≡ supply_at net v) → IsRound net x p e
 first_round net x p e k none flat full =
     let m = arc_count net in
     let fair : (v : ℕ) → v < node_count net → (negsuc 2047 ≤ℤ e v) × (e v ≤ℤ pos 2048) = λ v b. let P : ℤ → Type 0 = λ z. (negsuc 2047 ≤ℤ z) × (z ≤ℤ pos 2048) in subst P (sym (full v)) (k.supplies v b) in
@@ -171,14 +171,14 @@ first_round net x p e k none flat full =
     record {
       leaves = record {
         at_node = λ v b. at_start (leaves net x v) (enters net x v) (e v) (supply_at net v)
-            (sum_below-none m (λ i. cond (eqb (arc_at net i).from v) (x i) 0) (λ i c. nothing (eqb (arc_at net i).from v) (x i) (none i)))
-            (sum_below-none m (λ i. cond (eqb (arc_at net i).to v) (x i) 0) (λ i c. nothing (eqb (arc_at net i).to v) (x i) (none i)))
+            (sum_below-none m (λ i. cond (eqb (arc_at net i).from v) (x i) 0) (λ i c. nothing (eqb (arc_at net i).from v) (x i) (none i c)))
+            (sum_below-none m (λ i. cond (eqb (arc_at net i).to v) (x i) 0) (λ i c. nothing (eqb (arc_at net i).to v) (x i) (none i c)))
             (full v);
       };
-      caps = λ i b. empty_within (arc_at net i).cap (x i) (none i);
-      priced = record { residual = λ i back b r. first_priced net x p i back none flat r };
+      caps = λ i b. empty_within (arc_at net i).cap (x i) (none i b);
+      priced = record { residual = λ i back b r. first_priced net x p i back (none i b) flat r };
       low = λ v b. first_low (node_count net) (p v) (flat v);
       zero = λ v b w. flat v;
       fair = fair;
-      room = λ i b. omega (arith, none i);
+      room = λ i b. omega (arith, none i b);
     }

@@ -6,7 +6,7 @@ use lib.Signed.{lt_z}
 use mir.Syntax.{w16, w32}
 use mir.Val.{SFits, of_z, to_z}
 
-plain_lt : (a b : ℤ) → lt_z a b ≡ true → a <ℤ b
+pub plain_lt : (a b : ℤ) → lt_z a b ≡ true → a <ℤ b
 plain_lt a b h = grind (arith, ints)
 
 plain_ge : (a b : ℤ) → lt_z a b ≡ false → b ≤ℤ a
@@ -47,3 +47,6 @@ passed_under a z f h = subst (λ (t : ℤ). a ≤ℤ t) (to_z-of_z w32 z f) h
 -- a label, and a price beside it
 pub sum_is : (r a b c : ℤ) → SFits w32 a → SFits w16 b → r ≡ to_z w32 (of_z w32 a) +ℤ to_z w16 (of_z w16 b) → b ≡ c → r ≡ a +ℤ c
 sum_is r a b c f g h e = (rw (to_z-of_z w32 a f, to_z-of_z w16 b g) at h) ∙ ap (λ (t : ℤ). a +ℤ t) e
+
+pub lt_true : (a b : ℤ) → a <ℤ b → lt_z a b ≡ true
+lt_true a b h = grind (arith, ints)

@@ -5,7 +5,7 @@ use Rattle.min_cost_flow.specs.Net.{Net, node_count, arc_count}
 use Rattle.min_cost_flow.specs.Flow.{start_of, end_of}
 use Rattle.min_cost_flow.specs.Layout.{numbers, end_at, StartsAt, place_of, HasOrigin, IsLaidOut, IsFilled}
 
-pub turned_back : Bool → Bool
+unfoldable pub turned_back : Bool → Bool
 turned_back false = true
 turned_back true = false
 

@@ -1,8 +1,8 @@
 -- What holds of amounts, potentials and excess between two searches.
-use Rattle.std.specs.Prelude.{ℕ, ◌+◌, ◌*◌, ◌<◌, ◌≤◌, ◌≡◌, ◌==◌, if◌then◌else◌, ℤ, pos, negsuc, ◌+ℤ◌, ◌≤ℤ◌, ◌<ℤ◌}
+use Rattle.std.specs.Prelude.{ℕ, ◌+◌, ◌*◌, ◌<◌, ◌≤◌, ◌≡◌, ◌≢◌, ◌⊎◌, ◌==◌, if◌then◌else◌, ℤ, pos, negsuc, ◌+ℤ◌, ◌≤ℤ◌, ◌<ℤ◌}
 use borrow.Author.Differences.{up}
 use Rattle.sums.specs.Sums.{sum_below}
-use Rattle.min_cost_flow.specs.Net.{Net, node_count, arc_count}
+use Rattle.min_cost_flow.specs.Net.{Net, node_count, arc_count, supply_at}
 use Rattle.min_cost_flow.specs.Flow.{HasPotentials}
 use Rattle.min_cost_flow.specs.Excess.{KeepsCaps, Leaves}
 
@@ -27,3 +27,22 @@ carrying net x = sum_below (arc_count net) (λ i. if x i == 0 then 0 else 1)
 pub record IsLess (net : Net) (e e' : ℕ → ℤ) : Type 0 where
   pub less : left_over net e' < left_over net e
   pub done : (v : ℕ) → v < node_count net → e v ≤ℤ pos 0 → e' v ≤ℤ pos 0
+
+-- all that is supplied
+abbrev pub supply_sum : Net → ℕ
+supply_sum net = left_over net (λ v. supply_at net v)
+
+-- some node supplies or wants units
+abbrev pub HasSupply : Net → Type 0
+HasSupply net = (v : ℕ) × (v < node_count net) × (supply_at net v ≢ pos 0)
+
+-- the potentials are at most twice the number of nodes in absolute value
+abbrev pub IsWithinReach : Net → (ℕ → ℤ) → Type 0
+IsWithinReach net p = (v : ℕ) → v < node_count net → (pos 0 ≤ℤ (p v +ℤ pos (2 * node_count net))) × (p v ≤ℤ pos (2 * node_count net))
+
+-- how much work has been done by the time that amounts x leave the excess e
+pub record IsWork (net : Net) (x : ℕ → ℕ) (e : ℕ → ℤ) (searches looks : ℕ) : Type 0 where
+  pub few : searches + left_over net e ≤ supply_sum net
+  pub bounded : looks ≤ searches * (2 * arc_count net)
+  pub carried : carrying net x ≤ looks
+  pub begun : (1 ≤ searches) ⊎ ((v : ℕ) → v < node_count net → e v ≡ supply_at net v)
