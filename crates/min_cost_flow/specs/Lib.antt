@@ -4,6 +4,7 @@ pub mod Fault
 pub mod Excess
 pub mod Residual
 pub mod Layout
+pub mod Counting
 pub mod Search
 pub mod Path
 pub mod Round
