@@ -1,20 +1,18 @@
 -- Sending along a path: what one push changes, and what pushes along the path from its end leave.
-use Rattle.std.proofs.Common.{◌≡◌, ◌≢◌, ◌≤◌, ◌<◌, ◌⊎◌, ◌^◌, ℕ, zero, suc, min, ◌+◌, cond, eqb, Bool, true, false, refl, sym, ◌∙◌, ap, subst, inl, inr, arith, List, length}
+use Rattle.std.proofs.Common.{◌≡◌, ◌≢◌, ◌≤◌, ◌<◌, ◌⊎◌, ℕ, zero, suc, min, ◌+◌, cond, eqb, Bool, true, false, refl, sym, ◌∙◌, ap, subst, inl, inr, arith, List, length}
 use Rattle.std.specs.Prelude.{ℤ, pos, negsuc, ◌+ℤ◌, ◌-ℤ◌, ◌≤ℤ◌, ◌<ℤ◌}
 use Rattle.std.proofs.lemmas.Bool.{both_ways, cases_eq, cases_lt, eq-eqb, ne_eqb, cond-true, cond-false}
 use Rattle.std.proofs.lemmas.Int.{ints}
-use Rattle.sums.specs.Sums.{sum_below}
 use Rattle.sums.proofs.Sums.{sum_below-same, sum_below-changed}
 use Rattle.min_cost_flow.specs.declared.arc.Cap.{Cap}
 use Rattle.min_cost_flow.specs.declared.arc.Cap.TheVariants.{AtMost, Any}
 use Rattle.min_cost_flow.specs.declared.residual.ResidualArc.{ResidualArc}
 use Rattle.min_cost_flow.specs.Net.{Net, node_count, arc_count, arc_at, HasUnitCosts, IsNetwork}
 use Rattle.min_cost_flow.specs.Flow.{leaves, enters, IsWithin, HasRoom, IsResidual, HasPotentials, start_of, end_of, price_of, reduced_cost}
-use Rattle.min_cost_flow.specs.Excess.{KeepsCaps, Leaves, Carries}
+use Rattle.min_cost_flow.specs.Excess.{KeepsCaps, Carries}
 use Rattle.min_cost_flow.specs.Residual.{IsMoved}
-use Rattle.min_cost_flow.specs.Layout.{numbers, end_at, code_at, StartsAt, place_of, HasOrigin, IsLaidOut, limit_of, IsFilled, carried}
-use Rattle.min_cost_flow.specs.Search.{IsOpen}
-use Rattle.min_cost_flow.specs.Path.{IsTight, IsAfter, HasPath}
+use Rattle.min_cost_flow.specs.Layout.{numbers, end_at, code_at, StartsAt, place_of, IsLaidOut, limit_of, IsFilled, carried}
+use Rattle.min_cost_flow.specs.Path.{IsTight, HasPath}
 use Rattle.min_cost_flow.specs.Round.{IsLess, carrying}
 use Rattle.min_cost_flow.proofs.Ends.{start_in, end_in, price_most}
 use Rattle.min_cost_flow.proofs.Changes.{SameBut, moved_carries, carried_leaves, potentials_stay}
@@ -212,9 +210,9 @@ pushed_fits net first reverse forward arcs arcs' room room' i j b k amount l f i
       | inl q ↦
           subst (λ (t : ℕ). numbers room' (place_of reverse forward t false) + numbers room' (place_of reverse forward t true) ≡ limit_of (arc_at net t).cap) (sym q)
           (either_order reverse forward room' i (limit_of (arc_at net i).cap) b
-            (moved_fits (numbers room (place_of reverse forward i b)) (numbers room (place_of reverse forward i (opposite b))) (numbers room' (place_of reverse forward i b)) (numbers room' (place_of reverse forward i (opposite b))) amount (limit_of (arc_at net i).cap) (both_fit net reverse forward arcs room i b f inside)
-              (subst (λ (t : ℕ). numbers room' t + amount ≡ numbers room t) (sym e) s.less)
-              (subst (λ (t : ℕ). numbers room' t ≡ numbers room t + amount) back s.more)))
+          (moved_fits (numbers room (place_of reverse forward i b)) (numbers room (place_of reverse forward i (opposite b))) (numbers room' (place_of reverse forward i b)) (numbers room' (place_of reverse forward i (opposite b))) amount (limit_of (arc_at net i).cap) (both_fit net reverse forward arcs room i b f inside)
+          (subst (λ (t : ℕ). numbers room' t + amount ≡ numbers room t) (sym e) s.less)
+          (subst (λ (t : ℕ). numbers room' t ≡ numbers room t + amount) back s.more)))
       | inr ne ↦
           let same : (c : Bool) → numbers room' (place_of reverse forward j c) ≡ numbers room (place_of reverse forward j c) =
           λ c. s.others (place_of reverse forward j c) (λ h. ne (l.alone j i c b inside' inside (h ∙ sym e)).0) (λ h. ne (l.alone j i c (opposite b) inside' inside (h ∙ back)).0) in

@@ -1,5 +1,6 @@
 //! Sending along the path that a search found.
 #![tactic(auto)]
+
 ghost use Rattle.std.specs.Prelude.{◌≡◌, ◌≢◌, ◌<◌, ◌≤◌, ◌==◌, ◌+◌, ◌^◌, ℕ, ℤ, if◌then◌else◌, length, pos, negsuc, ◌≤ℤ◌, ◌<ℤ◌, ◌+ℤ◌, ◌-ℤ◌};
 ghost use Rattle.min_cost_flow.specs.Net.{node_count, arc_count, arc_at, IsNetwork};
 ghost use Rattle.min_cost_flow.specs.Flow.{at_nodes};
@@ -26,6 +27,7 @@ pub(crate) fn send(
     requires network { IsNetwork layout.network.now }
     requires laid_out { IsLaidOut layout.network.now layout.first.now layout.reverse.now layout.forward.now }
     requires filled { IsFilled layout.network.now layout.reverse.now layout.forward.now arcs.old room.old }
+    requires limits { (i : ℕ) → i < arc_count layout.network.now → limit_of (arc_at layout.network.now i).cap < 2 ^ 32 }
     requires enters { length enter.now ≡ node_count layout.network.now }
     requires places { length place.now ≡ node_count layout.network.now }
     requires excesses { length excess.old ≡ node_count layout.network.now }
@@ -33,7 +35,6 @@ pub(crate) fn send(
     requires round { IsRound layout.network.now (carried layout.reverse.now layout.forward.now room.old) (at_nodes potential.now) (at_nodes excess.old) }
     requires source { source < node_count layout.network.now }
     requires left { pos 0 <ℤ at_nodes excess.old source }
-    requires limits { (i : ℕ) → i < arc_count layout.network.now → limit_of (arc_at layout.network.now i).cap < 2 ^ 32 }
     requires wanting { at_nodes excess.old (end_at arcs.old found) <ℤ pos 0 }
     ensures filled { IsFilled layout.entry.network.now layout.entry.reverse.now layout.entry.forward.now arcs.new room.new }
     ensures round { IsRound layout.entry.network.now (carried layout.entry.reverse.now layout.entry.forward.now room.new) (at_nodes potential.now) (at_nodes excess.new) }
@@ -72,7 +73,9 @@ fn most_between(excess: &[i32], source: usize, target: usize) -> u32
     ensures left { pos result ≤ℤ at_nodes excess.now source }
     ensures wanting { (at_nodes excess.now target +ℤ pos result) ≤ℤ pos 0 }
 {
-    excess[source].unsigned_abs().min(excess[target].unsigned_abs())
+    excess[source]
+        .unsigned_abs()
+        .min(excess[target].unsigned_abs())
 }
 
 /// Brings units to a node where at least so many are wanting.
@@ -107,13 +110,7 @@ fn start_of(layout: Layout<'_>, arcs: &[ResidualArc], number: usize) -> usize
 }
 
 /// Sends along a residual arc, and so makes room for as much along its reverse.
-fn push(
-    layout: Layout<'_>,
-    arcs: &mut [ResidualArc],
-    room: &mut [u32],
-    number: usize,
-    amount: u32,
-)
+fn push(layout: Layout<'_>, arcs: &mut [ResidualArc], room: &mut [u32], number: usize, amount: u32)
     requires network { IsNetwork layout.network.now }
     requires laid_out { IsLaidOut layout.network.now layout.first.now layout.reverse.now layout.forward.now }
     requires filled { IsFilled layout.network.now layout.reverse.now layout.forward.now arcs.old room.old }

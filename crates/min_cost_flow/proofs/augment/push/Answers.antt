@@ -1,7 +1,6 @@
-use Rattle.std.proofs.Common.{◌≡◌, ◌≢◌, ◌<◌, ◌≤◌, ◌+◌, ℕ, ℤ, pos, negsuc, ◌≤ℤ◌, ◌-ℤ◌, ◌+ℤ◌, cond, eqb, sym, ◌∙◌, ap, subst, arith}
-use Rattle.min_cost_flow.specs.Net.{node_count, arc_count}
-use Rattle.min_cost_flow.specs.Layout.{numbers, end_at, code_at, StartsAt}
-use Rattle.min_cost_flow.proofs.Augmenting.{IsPushed, IsCoded, number_below, reverse_below, reverse_few, reverse_code, open_code, not_reverse, pushed_filled}
+use Rattle.std.proofs.Common.{◌≢◌, sym, ◌∙◌, arith}
+use Rattle.min_cost_flow.specs.Layout.{numbers}
+use Rattle.min_cost_flow.proofs.Augmenting.{IsPushed, IsCoded, reverse_below, reverse_few, reverse_code, open_code, not_reverse, pushed_filled}
 use Rattle.min_cost_flow.proofs.augment.push.Goals as goal
 
 pub give_room-requires-clause-arc : goal.give_room-requires-clause-arc

@@ -1,4 +1,4 @@
-use Rattle.std.proofs.Common.{◌≡◌, ◌≢◌, ◌<◌, ◌≤◌, ◌+◌, ℕ, min, ℤ, pos, ◌≤ℤ◌, ◌+ℤ◌, sym, ◌∙◌, ap, subst, arith}
+use Rattle.std.proofs.Common.{◌≡◌, ◌≢◌, ◌<◌, ◌≤◌, ◌+◌, ℕ, min, pos, ◌≤ℤ◌, ◌+ℤ◌, sym, ◌∙◌, ap, subst, arith}
 use Rattle.min_cost_flow.specs.Net.{node_count}
 use Rattle.min_cost_flow.specs.Flow.{at_nodes}
 use Rattle.min_cost_flow.specs.Excess.{Carries}
