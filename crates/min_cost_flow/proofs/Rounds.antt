@@ -1,17 +1,19 @@
 -- From one search to the next: how trees begin, what a hit leaves, what sending leaves, and the end.
 use Rattle.std.proofs.Common.{◌≡◌, ◌≢◌, ◌≤◌, ◌<◌, ◌⊎◌, ℕ, zero, suc, ◌+◌, ◌*◌, cond, eqb, Bool, true, false, refl, sym, ◌∙◌, ap, subst, inl, inr, arith, List, Some, None}
 use Rattle.std.specs.Prelude.{ℤ, pos, negsuc, ◌+ℤ◌, ◌-ℤ◌, ◌≤ℤ◌, ◌<ℤ◌}
-use Rattle.std.proofs.lemmas.Bool.{cases_eq, eq-eqb, eqb-true}
+use Rattle.std.proofs.lemmas.Bool.{cases_eq, eq-eqb, eqb-true, cond-true}
 use Rattle.std.proofs.lemmas.Int.{ints}
 use borrow.Author.Differences.{up}
 use Rattle.sums.specs.Sums.{sum_below}
-use Rattle.sums.proofs.Sums.{sum_below-le, sum_below-changed, sum_below-constant, sum_below-none, sum_below-member}
+use Rattle.sums.proofs.Sums.{sum_below-same, sum_below-le, sum_below-changed, sum_below-constant, sum_below-none, sum_below-member}
 use Rattle.min_cost_flow.specs.declared.arc.Cap.{Cap}
 use Rattle.min_cost_flow.specs.declared.arc.Cap.TheVariants.{AtMost, Any}
 use Rattle.min_cost_flow.specs.Net.{Net, node_count, arc_count, arc_at, supply_at, HasEnds, IsNetwork}
-use Rattle.min_cost_flow.specs.Flow.{leaves, enters, balance, IsWithin, Flow, HasNoFlow, IsResidual, HasPotentials, start_of, end_of, reduced_cost}
+use Rattle.min_cost_flow.specs.Flow.{leaves, enters, balance, IsWithin, HasRoom, Flow, HasNoFlow, IsResidual, HasPotentials, start_of, end_of, reduced_cost}
 use Rattle.min_cost_flow.specs.Excess.{KeepsCaps, Leaves, Carries, IsClosedOut}
-use Rattle.min_cost_flow.specs.Round.{left_over, IsRound}
+use Rattle.min_cost_flow.specs.Round.{left_over, supply_sum, carrying, HasSupply, IsWithinReach, IsRound, IsLess, IsWork, IsDone}
+use Rattle.std.proofs.Math.Nat.{add-mul, one-mul}
+use Rattle.std.proofs.lemmas.Nat.{mul-le}
 use Rattle.min_cost_flow.proofs.Cut.{no_flow_into}
 
 -- a whole number is below 0 or not
@@ -182,3 +184,85 @@ first_round net x p e k none flat full =
       fair = fair;
       room = λ i b. omega (arith, none i b);
     }
+
+-- ---- the work done
+
+looked_more : (l l' s m : ℕ) → l ≤ s * m → l' ≤ l + m → l' ≤ (s + 1) * m
+looked_more l l' s m h k = omega (arith, add-mul s 1 m, one-mul m)
+
+pub work_more : (net : Net) (x y : ℕ → ℕ) (e e' : ℕ → ℤ) (s l l' : ℕ) → IsWork net x e s l → IsLess net e e' → carrying net y + l ≤ carrying net x + l' → l' ≤ l + 2 * arc_count net → IsWork net y e' (s + 1) l'
+work_more net x y e e' s l l' w less c k = record {
+  few = omega (arith, w.few, less.less);
+  bounded = looked_more l l' s (2 * arc_count net) w.bounded k;
+  carried = omega (arith, w.carried);
+  begun = inl (omega arith);
+}
+
+none_carry : (x : ℕ) → x ≡ 0 → cond {A = ℕ} (eqb x 0) 0 1 ≡ 0
+none_carry x h = cond-true {A = ℕ} (eqb x 0) 0 1 (eq-eqb x 0 h)
+
+pub first_work : (net : Net) (x : ℕ → ℕ) (e : ℕ → ℤ) → ((i : ℕ) → i < arc_count net → x i ≡ 0) → ((v : ℕ) → e v ≡ supply_at net v) → IsWork net x e 0 0
+first_work net x e none full = record {
+  few = omega (arith, sum_below-same (node_count net) (λ v. up (e v)) (λ v. up (supply_at net v)) (λ v b. ap up (full v)));
+  bounded = omega arith;
+  carried = omega (arith, sum_below-none (arc_count net) (λ i. cond {A = ℕ} (eqb (x i) 0) 0 1) (λ i b. none_carry (x i) (none i b)));
+  begun = inr (λ v b. full v);
+}
+
+bounds_looks : (l s k m : ℕ) → l ≤ s * (2 * m) → s ≤ 2097152 → m ≤ 4096 → l ≤ 17179869184
+bounds_looks l s k m h a b = omega (arith, mul-le s (2 * m) 2097152 8192 a (omega arith))
+
+pub supply_most : (net : Net) → IsNetwork net → supply_sum net ≤ 2097152
+supply_most net k = first_left net (λ v. supply_at net v) k.small.0 (λ v b. (k.supplies v b).1)
+
+pub looks_most : (net : Net) (x : ℕ → ℕ) (e : ℕ → ℤ) (s l : ℕ) → IsNetwork net → IsWork net x e s l → (s ≤ 2097152) × (l ≤ 17179869184)
+looks_most net x e s l k w =
+    let few : s ≤ 2097152 = omega (arith, w.few, supply_most net k) in
+    (few, bounds_looks l s 0 (arc_count net) w.bounded few k.small.1)
+
+no_supply : (e s : ℤ) → e ≡ s → e ≤ℤ pos 0 → pos 0 ≤ℤ e → s ≡ pos 0
+no_supply e s h a b = omega (arith, ints)
+
+wide : (p : ℤ) (n : ℕ) → p ≤ℤ pos 0 → p ≤ℤ pos (2 * n)
+wide p n h = omega (arith, ints)
+
+-- where nothing is left over and nothing wanting, all is done
+pub done_at : (net : Net) (x : ℕ → ℕ) (p e : ℕ → ℤ) (s l : ℕ) → IsRound net x p e → IsWork net x e s l → ((v : ℕ) → v < node_count net → e v ≤ℤ pos 0) → ((v : ℕ) → v < node_count net → pos 0 ≤ℤ e v) → IsDone net x p s l
+done_at net x p e s l r w none full = record {
+  flow = flow_at net x e r.caps r.leaves none full;
+  potentials = r.priced;
+  reach = λ v b. ((r.low v b).0, wide (p v) (node_count net) (r.low v b).1);
+  few = omega (arith, w.few);
+  bounded = w.bounded;
+  carried = w.carried;
+  begun = λ (v, b, ne). elim w.begun [
+    | inl h ↦ h
+    | inr same ↦ absurd (ne (no_supply (e v) (supply_at net v) (same v b) (none v b) (full v b)))
+  ];
+}
+
+-- ---- the same amounts
+
+same_side : (net : Net) (x y : ℕ → ℕ) (at : ℕ → ℕ) (v : ℕ) → ((i : ℕ) → i < arc_count net → y i ≡ x i) → sum_below (arc_count net) (λ i. cond {A = ℕ} (eqb (at i) v) (y i) 0) ≡ sum_below (arc_count net) (λ i. cond {A = ℕ} (eqb (at i) v) (x i) 0)
+same_side net x y at v same = sum_below-same (arc_count net) (λ i. cond {A = ℕ} (eqb (at i) v) (y i) 0) (λ i. cond {A = ℕ} (eqb (at i) v) (x i) 0) (λ i b. ap (λ (t : ℕ). cond {A = ℕ} (eqb (at i) v) t 0) (same i b))
+
+same_balance : (l l' n n' : ℕ) (s : ℤ) → l' ≡ l → n' ≡ n → pos l -ℤ pos n ≡ s → pos l' -ℤ pos n' ≡ s
+same_balance l l' n n' s a b h = omega (arith, ints)
+
+still_residual : (net : Net) (x y : ℕ → ℕ) (i : ℕ) (back : Bool) → y i ≡ x i → IsResidual net y i back → IsResidual net x i back
+still_residual net x y i false e h = subst (λ (t : ℕ). HasRoom (arc_at net i).cap t) e h
+still_residual net x y i true e h = omega arith
+
+pub done_same : (net : Net) (x y : ℕ → ℕ) (p : ℕ → ℤ) (s l : ℕ) → ((i : ℕ) → i < arc_count net → y i ≡ x i) → IsDone net x p s l → IsDone net y p s l
+done_same net x y p s l same d = record {
+  flow = record {
+    within = λ i b. subst (λ (t : ℕ). IsWithin (arc_at net i).cap t) (sym (same i b)) (d.flow.within i b);
+    meets = λ v b. same_balance (leaves net x v) (leaves net y v) (enters net x v) (enters net y v) (supply_at net v) (same_side net x y (λ i. (arc_at net i).from) v same) (same_side net x y (λ i. (arc_at net i).to) v same) (d.flow.meets v b);
+  };
+  potentials = record { residual = λ i back b r. d.potentials.residual i back b (still_residual net x y i back (same i b) r) };
+  reach = d.reach;
+  few = d.few;
+  bounded = d.bounded;
+  carried = omega (arith, d.carried, sum_below-same (arc_count net) (λ i. cond {A = ℕ} (eqb (y i) 0) 0 1) (λ i. cond {A = ℕ} (eqb (x i) 0) 0 1) (λ i b. ap (λ (t : ℕ). cond {A = ℕ} (eqb t 0) 0 1) (same i b)));
+  begun = d.begun;
+}

@@ -14,7 +14,7 @@ use Rattle.min_cost_flow.specs.Flow.{HasRoom, IsResidual, HasPotentials, HasNoFl
 use Rattle.min_cost_flow.specs.Excess.{Leaves, IsClosedOut}
 use Rattle.min_cost_flow.specs.Round.{left_over, IsRound}
 use Rattle.min_cost_flow.specs.Layout.{numbers, end_at, code_at, StartsAt, place_of, limit_of, HasOrigin, IsLaidOut, IsFilled, carried}
-use Rattle.min_cost_flow.specs.Search.{far, IsCode, IsOpen, IsGraph, IsPriced, IsNear, IsEntered, IsReached, IsHit, IsNearest, Serves, IsServed, IsLeft, degree, looked}
+use Rattle.min_cost_flow.specs.Search.{far, IsCode, IsOpen, IsGraph, IsPriced, IsNear, IsEntered, IsReached, IsHit, IsNearest, Serves, IsServed, IsLeft, IsPut, degree, looked}
 use Rattle.min_cost_flow.specs.Path.{IsTight, IsAfter, HasPath}
 use Rattle.min_cost_flow.proofs.Cut.{no_flow_out}
 use Rattle.min_cost_flow.proofs.Ends.{start_in, end_in}
@@ -394,3 +394,39 @@ path_looks net first reverse forward arcs room p e s q enter order place head or
 -- labels and the cut fit
 pub label_bounds : (n h : ℕ) (ps z : ℤ) → n ≤ 1024 → h ≤ n → IsNear ps h z → (pos 0 ≤ℤ (ps +ℤ pos (2 * n))) × (ps ≤ℤ pos 0) → (negsuc 1073741822 ≤ℤ z) × (z ≤ℤ pos 1073741823)
 label_bounds n h ps z small le (a, b) (c, d) = (omega (arith, ints), omega (arith, ints))
+
+-- ---- writing along a list
+
+below_other : (order : ℕ → ℕ) (i j : ℕ) → i < j + 1 → order i ≢ order j → i < j
+below_other order i j b ne = elim (cases_lt i j) [ inl h ↦ h | inr h ↦ absurd (ne (ap order (omega arith))) ]
+
+pub moved_more : (p p₀ p' q : ℕ → ℤ) (order : ℕ → ℕ) (j : ℕ) (cut : ℤ) → IsPut p p' (order j) (q (order j) -ℤ cut) → ((i : ℕ) → i < j → p (order i) ≡ q (order i) -ℤ cut) → ((i : ℕ) → i < j + 1 → p' (order i) ≡ q (order i) -ℤ cut)
+moved_more p p₀ p' q order j cut put done i b =
+    elim (cases_eq (order i) (order j)) [
+      | inl t ↦ subst (λ (v : ℕ). p' v ≡ q v -ℤ cut) (sym t) put.here
+      | inr ne ↦ put.others (order i) ne ∙ done i (below_other order i j b ne)
+    ]
+
+pub cleared_more : (p p' : ℕ → ℤ) (order : ℕ → ℕ) (j : ℕ) → IsPut p p' (order j) far → ((i : ℕ) → i < j → p (order i) ≡ far) → ((i : ℕ) → i < j + 1 → p' (order i) ≡ far)
+cleared_more p p' order j put done i b =
+    elim (cases_eq (order i) (order j)) [
+      | inl t ↦ subst (λ (v : ℕ). p' v ≡ far) (sym t) put.here
+      | inr ne ↦ put.others (order i) ne ∙ done i (below_other order i j b ne)
+    ]
+
+pub cleared_stays : (p p' : ℕ → ℤ) (u v : ℕ) → IsPut p p' u far → p v ≡ far → p' v ≡ far
+cleared_stays p p' u v put h =
+    elim (cases_eq v u) [
+      | inl t ↦ ap p' t ∙ put.here
+      | inr ne ↦ put.others v ne ∙ h
+    ]
+
+both_far : (a : ℤ) → a ≤ℤ far → far ≤ℤ a → a ≡ far
+both_far a h k = omega (arith, ints)
+
+pub all_cleared : (n : ℕ) (first : List ℕ) (arcs : List ResidualArc) (p e : ℕ → ℤ) (s : ℕ) (q q' : ℕ → ℤ) (enter order place : ℕ → ℕ) (head ordered reached : ℕ) (level : ℤ) → IsReached n first arcs p e s q enter order place head ordered reached level → ((j : ℕ) → j < reached → q' (order j) ≡ far) → ((v : ℕ) → q v ≡ far → q' v ≡ far) → (v : ℕ) → v < n → q' v ≡ far
+all_cleared n first arcs p e s q q' enter order place head ordered reached level r cleared others v b =
+    elim (below_or_not (q v) far) [
+      | inl l ↦ let (a, back) = r.listed v b l in subst (λ (t : ℕ). q' t ≡ far) back (cleared (place v) a)
+      | inr f ↦ others v (both_far (q v) (r.most v b) f)
+    ]

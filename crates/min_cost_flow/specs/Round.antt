@@ -3,7 +3,7 @@ use Rattle.std.specs.Prelude.{ℕ, ◌+◌, ◌*◌, ◌<◌, ◌≤◌, ◌≡�
 use borrow.Author.Differences.{up}
 use Rattle.sums.specs.Sums.{sum_below}
 use Rattle.min_cost_flow.specs.Net.{Net, node_count, arc_count, supply_at}
-use Rattle.min_cost_flow.specs.Flow.{HasPotentials}
+use Rattle.min_cost_flow.specs.Flow.{Flow, HasPotentials}
 use Rattle.min_cost_flow.specs.Excess.{KeepsCaps, Leaves}
 
 -- what is left to send
@@ -46,3 +46,13 @@ pub record IsWork (net : Net) (x : ℕ → ℕ) (e : ℕ → ℤ) (searches look
   pub bounded : looks ≤ searches * (2 * arc_count net)
   pub carried : carrying net x ≤ looks
   pub begun : (1 ≤ searches) ⊎ ((v : ℕ) → v < node_count net → e v ≡ supply_at net v)
+
+-- what is so at the end: x is a flow, p shows that it costs least, and the work keeps its bounds
+pub record IsDone (net : Net) (x : ℕ → ℕ) (p : ℕ → ℤ) (searches looks : ℕ) : Type 0 where
+  pub flow : Flow net x
+  pub potentials : HasPotentials net x p
+  pub reach : IsWithinReach net p
+  pub few : searches ≤ supply_sum net
+  pub bounded : looks ≤ searches * (2 * arc_count net)
+  pub carried : carrying net x ≤ looks
+  pub begun : HasSupply net → 1 ≤ searches

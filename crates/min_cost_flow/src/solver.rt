@@ -1,9 +1,9 @@
 //! Searches from one node after another, and a path sent along after each, until nothing is left over.
 ghost use Rattle.std.specs.Prelude.{◌≡◌, ◌≢◌, ◌<◌, ◌≤◌, ◌+◌, ◌*◌, ◌^◌, ℕ, ℤ, List, length, pos, negsuc, ◌≤ℤ◌, ◌<ℤ◌, ◌+ℤ◌, ◌-ℤ◌, IfOk, IfErr, IfSome, IfNone, true, false};
 ghost use Rattle.min_cost_flow.specs.declared.solver.SolveFault.TheVariants.{Memory};
-ghost use Rattle.min_cost_flow.specs.Net.{arc_count, node_count, supply_at, IsNetwork};
+ghost use Rattle.min_cost_flow.specs.Net.{arc_count, arc_at, node_count, supply_at, IsNetwork};
 ghost use Rattle.min_cost_flow.specs.Flow.{amounts, at_nodes, Flow, HasPotentials, HasNoFlow, Solves};
-ghost use Rattle.min_cost_flow.specs.Layout.{numbers, IsLaidOut, IsFilled, carried};
+ghost use Rattle.min_cost_flow.specs.Layout.{numbers, limit_of, IsLaidOut, IsFilled, carried};
 ghost use Rattle.min_cost_flow.specs.Search.{far, IsPut};
 ghost use Rattle.min_cost_flow.specs.Round.{left_over, carrying, supply_sum, IsRound, IsLess, IsWork, HasSupply, IsWithinReach};
 
@@ -67,6 +67,7 @@ fn augment_once(
     requires blank { (v : ℕ) → v < node_count layout.network.now → at_nodes label.old v ≡ far }
     requires source { source < node_count layout.network.now }
     requires left { pos 0 <ℤ at_nodes excess.old source }
+    requires limits { (i : ℕ) → i < arc_count layout.network.now → limit_of (arc_at layout.network.now i).cap < 2 ^ 32 }
     requires few { looks.old < 2 ^ 61 }
     ensures filled { result ≡ true → IsFilled layout.entry.network.now layout.entry.reverse.now layout.entry.forward.now arcs.new room.new }
     ensures round { result ≡ true → IsRound layout.entry.network.now (carried layout.entry.reverse.now layout.entry.forward.now room.new) (at_nodes potential.new) (at_nodes excess.new) }
