@@ -50,3 +50,9 @@ sum_is r a b c f g h e = (rw (to_z-of_z w32 a f, to_z-of_z w16 b g) at h) ∙ ap
 
 pub lt_true : (a b : ℤ) → a <ℤ b → lt_z a b ≡ true
 lt_true a b h = grind (arith, ints)
+
+pub is_more : (z k : ℤ) → SFits w32 z → lt_z k (to_z w32 (of_z w32 z)) ≡ true → k <ℤ z
+is_more z k f h = plain_lt k z (subst (λ (t : ℤ). lt_z k t ≡ true) (to_z-of_z w32 z f) h)
+
+pub is_no_more : (z k : ℤ) → SFits w32 z → lt_z k (to_z w32 (of_z w32 z)) ≡ false → z ≤ℤ k
+is_no_more z k f h = plain_ge k z (subst (λ (t : ℤ). lt_z k t ≡ false) (to_z-of_z w32 z f) h)

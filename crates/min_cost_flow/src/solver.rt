@@ -51,7 +51,6 @@ struct Work {
 /// searches than units are supplied, and looks at each residual arc once at most, so there are no
 /// more looks than twice the number of arcs a search. The potentials are at most twice the number of
 /// nodes in absolute value.
-#[tactic(none)]
 pub fn solve(alloc: Global, network: &Network) -> Result<Solved, SolveFault>
     ensures ok { IfOk result (λ solved. Solves network.now solved) }
     ensures infeasible { IfErr result (λ fault. fault ≡ SolveFault.Infeasible → HasNoFlow network.now) }
@@ -87,7 +86,6 @@ pub fn solve(alloc: Global, network: &Network) -> Result<Solved, SolveFault>
 }
 
 /// Lays out the residual arcs, sends all units, and writes what each arc carries.
-#[tactic(none)]
 fn fill(
     network: &Network,
     first: &mut [u32],
@@ -130,16 +128,17 @@ fn fill(
         reverse,
         forward: flow,
     };
-    let work = run(
-        layout, arcs, room, potential, excess, score, label, enter, order, place,
-    )?;
-    read_flow(reverse, room, flow);
-    Some(work)
+    match run(layout, arcs, room, potential, excess, score, label, enter, order, place) {
+        Some(work) => {
+            read_flow(reverse, room, flow);
+            Some(work)
+        }
+        None => None,
+    }
 }
 
 /// Sends all that is left over at any node, and gives how much work that was; none where it cannot be
 /// done, or where units are wanting still.
-#[tactic(none)]
 fn run(
     layout: Layout<'_>,
     arcs: &mut [ResidualArc],
@@ -227,7 +226,6 @@ fn read_flow(reverse: &[u32], room: &[u32], flow: &mut [u32])
 }
 
 /// Sends all that is left over at a node to where it is wanting; whether that can be done.
-#[tactic(none)]
 fn drain(
     layout: Layout<'_>,
     arcs: &mut [ResidualArc],
