@@ -22,6 +22,3 @@ pub use fault::NetFault;
 pub use network::Network;
 pub use solved::Solved;
 pub use solver::{SolveFault, solve};
-
-#[cfg(test)]
-mod tests;

@@ -2,7 +2,8 @@
 //! other solvers found.
 ghost use Rattle.std.specs.Prelude.{◌<◌};
 
-use super::*;
+use crate::plain;
+use min_cost_flow::{Arc, Cap, NetFault, Network, SolveFault, solve};
 use std::alloc::{AllocError, Global};
 use std::process::Abort;
 use std::test::Fail;
@@ -55,12 +56,13 @@ fn units_take_the_free_way_first(rt: HostRuntime) -> Result<(), Fail> {
     for i in 0..network.arc_count() {
         assert_eq!(rt; solved.flow(i as u32), 1, "arc {i}");
     }
-    println!(rt; "{} {}", solved.searches(), solved.looks())?;
     assert_eq!(rt; least_cost(rt.alloc(), &network)?, Some(1));
     assert_eq!(rt; network.node_count(), 3);
     for v in 0..network.node_count() {
         assert!(rt; solved.potential(v as u32) <= 0, "node {v}");
     }
+    assert_eq!(rt; solved.searches(), 2);
+    assert_eq!(rt; solved.looks(), 6);
     Ok(())
 }
 
@@ -220,6 +222,17 @@ fn random_networks_cost_what_other_solvers_found(rt: HostRuntime) -> Result<(), 
         count = count.saturating_add(1);
     }
     assert_eq!(rt; count, 1000);
+    Ok(())
+}
+
+#[test]
+fn random_networks_cost_what_the_slow_solver_finds(rt: HostRuntime) -> Result<(), Fail> {
+    let mut numbers = Numbers { state: 7_071_067 };
+    for count in 0..1000u32 {
+        let network = random_network(rt.alloc(), &mut numbers)??;
+        let expected = plain::least_cost(rt.alloc(), &network)?;
+        assert_eq!(rt; least_cost(rt.alloc(), &network)?, expected, "network {count}");
+    }
     Ok(())
 }
 
