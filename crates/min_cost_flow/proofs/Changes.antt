@@ -7,13 +7,10 @@ use Rattle.sums.specs.Sums.{sum_below}
 use Rattle.sums.proofs.Sums.{sum_below-changed}
 use Rattle.min_cost_flow.specs.declared.arc.Cap.{Cap}
 use Rattle.min_cost_flow.specs.declared.arc.Cap.TheVariants.{AtMost, Any}
-use Rattle.min_cost_flow.specs.declared.residual.Step.{Step}
-use Rattle.min_cost_flow.specs.declared.tree.Place.{Place}
 use Rattle.min_cost_flow.specs.Net.{Net, arc_count, arc_at, supply_at}
-use Rattle.min_cost_flow.specs.Flow.{leaves, enters, balance, IsWithin, HasRoom, IsResidual, HasPotentials, start_of, end_of, reduced_cost}
-use Rattle.min_cost_flow.specs.Excess.{KeepsCaps, Leaves, Carries}
-use Rattle.min_cost_flow.specs.Residual.{FitsAlong, IsMoved}
-use Rattle.min_cost_flow.specs.Tree.{rank_at, StepsDown}
+use Rattle.min_cost_flow.specs.Flow.{leaves, enters, balance, HasRoom, IsResidual, HasPotentials, start_of, end_of, reduced_cost}
+use Rattle.min_cost_flow.specs.Excess.{Leaves, Carries}
+use Rattle.min_cost_flow.specs.Residual.{IsMoved}
 
 -- y differs from x at most at i
 abbrev pub SameBut : ℕ → (ℕ → ℕ) → (ℕ → ℕ) → Type 0
@@ -100,46 +97,6 @@ carried_leaves net x e e' v k c here others = record {
   ];
 }
 
--- ---- capacities
-
-within_less : (c : Cap) (x k room : ℕ) → k ≤ room → IsWithin c (x + room) → IsWithin c (x + k)
-within_less (AtMost l) x k room h w = omega arith
-within_less Any x k room h w = tt
-
-within_under : (c : Cap) (x y : ℕ) → x ≤ y → IsWithin c y → IsWithin c x
-within_under (AtMost l) x y h w = omega arith
-within_under Any x y h w = tt
-
-within_moved : (net : Net) (x y z : ℕ → ℕ) (i k room : ℕ) (back : Bool) → IsWithin (arc_at net i).cap (y i) → FitsAlong net x i back room → y i ≡ x i → k ≤ room → IsMoved back (y i) k (z i) → IsWithin (arc_at net i).cap (z i)
-within_moved net x y z i k room false w fits same le moved =
-    let c = (arc_at net i).cap in
-    let P : ℕ → Type 0 = λ t. IsWithin c t in
-    subst P (sym moved) (within_less c (y i) k room le (subst (λ (t : ℕ). IsWithin c (t + room)) (sym same) (fits (subst P same w))))
-within_moved net x y z i k room true w fits same le moved = within_under (arc_at net i).cap (z i) (y i) (omega arith) w
-
--- what fits keeps the capacities: `room` was found at x, and k goes at y, which is the same at arc i
-pub moved_within : (net : Net) (x y z : ℕ → ℕ) (i k room : ℕ) (back : Bool) → KeepsCaps net y → FitsAlong net x i back room → y i ≡ x i → k ≤ room → IsMoved back (y i) k (z i) → SameBut i y z → KeepsCaps net z
-moved_within net x y z i k room back caps fits same le moved others j b =
-    elim (cases_eq j i) [
-      | inl q ↦
-          let P : ℕ → Type 0 = λ t. IsWithin (arc_at net t).cap (z t) in
-          let C : ℕ → Type 0 = λ t. IsWithin (arc_at net t).cap (y t) in
-          subst P (sym q) (within_moved net x y z i k room back (subst C q (caps j b)) fits same le moved)
-      | inr ne ↦ let P : ℕ → Type 0 = λ t. IsWithin (arc_at net j).cap t in subst P (sym (others j ne)) (caps j b)
-    ]
-
-grown_here : (back : Bool) (x y z k : ℕ) → y ≡ x → IsMoved back y k z → z ≤ x + k
-grown_here false x y z k same moved = omega arith
-grown_here true x y z k same moved = omega arith
-
--- no arc carries more than k units more
-pub moved_grown : (x y z : ℕ → ℕ) (i j k : ℕ) (back : Bool) → y i ≡ x i → IsMoved back (y i) k (z i) → SameBut i y z → y j ≤ x j + k → z j ≤ x j + k
-moved_grown x y z i j k back same moved others le =
-    elim (cases_eq j i) [
-      | inl q ↦ let P : ℕ → Type 0 = λ t. z t ≤ x t + k in subst P (sym q) (grown_here back (x i) (y i) (z i) k same moved)
-      | inr ne ↦ let e : z j ≡ y j = others j ne in omega arith
-    ]
-
 -- ---- potentials
 
 residual_same : (net : Net) (x y : ℕ → ℕ) (j : ℕ) (back : Bool) → y j ≡ x j → IsResidual net y j back → IsResidual net x j back
@@ -170,41 +127,3 @@ potentials_stay net x y p i back others free h = record {
     | inr ne ↦ h.residual j other b (residual_same net x y j other (others j ne) r)
   ];
 }
-
--- ---- the arcs above a node
-
-ends_not_above : (net : Net) (tree : List Place) (v i : ℕ) (back : Bool) → start_of net i back ≡ v → rank_at tree v ≡ rank_at tree (end_of net i back) + 1 → (rank_at tree v < rank_at tree (arc_at net i).from) ⊎ (rank_at tree v < rank_at tree (arc_at net i).to) → ⊥
-ends_not_above net tree v i false start below (inl h) = let e : rank_at tree (arc_at net i).from ≡ rank_at tree v = ap (rank_at tree) start in omega arith
-ends_not_above net tree v i false start below (inr h) = omega arith
-ends_not_above net tree v i true start below (inl h) = omega arith
-ends_not_above net tree v i true start below (inr h) = let e : rank_at tree (arc_at net i).to ≡ rank_at tree v = ap (rank_at tree) start in omega arith
-
--- an arc with an end above node v is not the arc of the step at v
-above_apart : (net : Net) (tree : List Place) (v : ℕ) (s : Step) (j : ℕ) → StepsDown net tree v s → (rank_at tree v < rank_at tree (arc_at net j).from) ⊎ (rank_at tree v < rank_at tree (arc_at net j).to) → j ≢ s.arc
-above_apart net tree v s j d above q =
-    let e : (rank_at tree v < rank_at tree (arc_at net s.arc).from) ⊎ (rank_at tree v < rank_at tree (arc_at net s.arc).to) =
-    subst (λ (t : ℕ). (rank_at tree v < rank_at tree (arc_at net t).from) ⊎ (rank_at tree v < rank_at tree (arc_at net t).to)) q above in
-    ends_not_above net tree v s.arc s.back d.start d.below e
-
-lower_bound : (net : Net) (tree : List Place) (v : ℕ) (s : Step) (j : ℕ) → StepsDown net tree v s → (rank_at tree v < rank_at tree (arc_at net j).from) ⊎ (rank_at tree v < rank_at tree (arc_at net j).to) → (rank_at tree (end_of net s.arc s.back) < rank_at tree (arc_at net j).from) ⊎ (rank_at tree (end_of net s.arc s.back) < rank_at tree (arc_at net j).to)
-lower_bound net tree v s j d (inl h) = inl (omega (arith, d.below))
-lower_bound net tree v s j d (inr h) = inr (omega (arith, d.below))
-
--- an arc with an end above v stays, where one above the end w of v's step stayed
-pub above_stays : (net : Net) (tree : List Place) (v w : ℕ) (s : Step) (x y z : ℕ → ℕ) (j : ℕ) → StepsDown net tree v s → w ≡ end_of net s.arc s.back → SameBut s.arc y z → ((rank_at tree w < rank_at tree (arc_at net j).from) ⊎ (rank_at tree w < rank_at tree (arc_at net j).to) → y j ≡ x j) → (rank_at tree v < rank_at tree (arc_at net j).from) ⊎ (rank_at tree v < rank_at tree (arc_at net j).to) → z j ≡ x j
-above_stays net tree v w s x y z j d q others inner above =
-    others j (above_apart net tree v s j d above) ∙ inner (subst (λ (t : ℕ). (rank_at tree t < rank_at tree (arc_at net j).from) ⊎ (rank_at tree t < rank_at tree (arc_at net j).to)) (sym q) (lower_bound net tree v s j d above))
-
-own_ends : (net : Net) (tree : List Place) (v i : ℕ) (back : Bool) → start_of net i back ≡ v → rank_at tree v ≡ rank_at tree (end_of net i back) + 1 → (rank_at tree (end_of net i back) < rank_at tree (arc_at net i).from) ⊎ (rank_at tree (end_of net i back) < rank_at tree (arc_at net i).to)
-own_ends net tree v i false start below = let e : rank_at tree (arc_at net i).from ≡ rank_at tree v = ap (rank_at tree) start in inl (omega arith)
-own_ends net tree v i true start below = let e : rank_at tree (arc_at net i).to ≡ rank_at tree v = ap (rank_at tree) start in inr (omega arith)
-
--- the step's own arc is above its end w
-pub own_above : (net : Net) (tree : List Place) (v w : ℕ) (s : Step) → StepsDown net tree v s → w ≡ end_of net s.arc s.back → (rank_at tree w < rank_at tree (arc_at net s.arc).from) ⊎ (rank_at tree w < rank_at tree (arc_at net s.arc).to)
-own_above net tree v w s d q =
-    subst (λ (t : ℕ). (rank_at tree t < rank_at tree (arc_at net s.arc).from) ⊎ (rank_at tree t < rank_at tree (arc_at net s.arc).to)) (sym q) (own_ends net tree v s.arc s.back d.start d.below)
-
--- what fits back along an arc is no more than it carries
-pub fits_back : (net : Net) (x y : ℕ → ℕ) (i room k : ℕ) (back : Bool) → FitsAlong net x i back room → y i ≡ x i → k ≤ room → back ≡ true → k ≤ y i
-fits_back net x y i room k false fits same le b = cc
-fits_back net x y i room k true fits same le b = omega arith

@@ -1,8 +1,15 @@
 pub mod Duality
 pub mod Cut
 pub mod Changes
-pub mod Growing
 pub mod Rounds
 pub mod Spreading
 pub mod Existence
 pub mod Paths
+pub mod Ends
+pub mod Reaching
+pub mod Turning
+pub mod Building
+pub mod Augmenting
+pub mod Distinct
+pub mod Signs
+pub mod Solving

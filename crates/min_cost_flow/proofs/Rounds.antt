@@ -1,162 +1,32 @@
 -- From one search to the next: how trees begin, what a hit leaves, what sending leaves, and the end.
 use Rattle.std.proofs.Common.{◌≡◌, ◌≢◌, ◌≤◌, ◌<◌, ◌⊎◌, ℕ, zero, suc, ◌+◌, ◌*◌, cond, eqb, Bool, true, false, refl, sym, ◌∙◌, ap, subst, inl, inr, arith, List, Some, None}
 use Rattle.std.specs.Prelude.{ℤ, pos, negsuc, ◌+ℤ◌, ◌-ℤ◌, ◌≤ℤ◌, ◌<ℤ◌}
-use Rattle.std.proofs.lemmas.Bool.{cases_eq, eq-eqb, eqb-true}
+use Rattle.std.proofs.lemmas.Bool.{cases_eq, eq-eqb, eqb-true, cond-true}
 use Rattle.std.proofs.lemmas.Int.{ints}
 use borrow.Author.Differences.{up}
 use Rattle.sums.specs.Sums.{sum_below}
-use Rattle.sums.proofs.Sums.{sum_below-le, sum_below-changed, sum_below-constant, sum_below-none, sum_below-member}
+use Rattle.sums.proofs.Sums.{sum_below-same, sum_below-le, sum_below-changed, sum_below-constant, sum_below-none, sum_below-member}
 use Rattle.min_cost_flow.specs.declared.arc.Cap.{Cap}
 use Rattle.min_cost_flow.specs.declared.arc.Cap.TheVariants.{AtMost, Any}
-use Rattle.min_cost_flow.specs.declared.residual.Step.{Step}
-use Rattle.min_cost_flow.specs.declared.tree.Place.{Place}
 use Rattle.min_cost_flow.specs.Net.{Net, node_count, arc_count, arc_at, supply_at, HasEnds, IsNetwork}
-use Rattle.min_cost_flow.specs.Flow.{leaves, enters, balance, IsWithin, Flow, HasNoFlow, IsResidual, HasPotentials, start_of, end_of, reduced_cost}
+use Rattle.min_cost_flow.specs.Flow.{leaves, enters, balance, IsWithin, HasRoom, Flow, HasNoFlow, IsResidual, HasPotentials, start_of, end_of, reduced_cost}
 use Rattle.min_cost_flow.specs.Excess.{KeepsCaps, Leaves, Carries, IsClosedOut}
-use Rattle.min_cost_flow.specs.Tree.{nowhere, place_at, rank_at, step_at, HasNoEntry, outside_count, IsGrown, Suits, HasNoSource, AddsNode}
-use Rattle.min_cost_flow.specs.Round.{left_over, IsRound}
-use Rattle.min_cost_flow.proofs.Cut.{no_flow_out, no_flow_into}
-use Rattle.min_cost_flow.proofs.Changes.{carried_leaves}
+use Rattle.min_cost_flow.specs.Round.{left_over, supply_sum, carrying, HasSupply, IsWithinReach, IsRound, IsLess, IsWork, IsDone}
+use Rattle.std.proofs.Math.Nat.{add-mul, one-mul}
+use Rattle.std.proofs.lemmas.Nat.{mul-le}
+use Rattle.min_cost_flow.proofs.Cut.{no_flow_into}
 
 -- a whole number is below 0 or not
 pub sign_of : (z : ℤ) → (z <ℤ pos 0) ⊎ (pos 0 ≤ℤ z)
 sign_of (pos n) = inr (omega (arith, ints))
 sign_of (negsuc n) = inl (omega (arith, ints))
 
--- ---- how trees begin
-
 nothing : (f : Bool) (x : ℕ) → x ≡ 0 → cond f x 0 ≡ 0
 nothing true x h = h
 nothing false x h = refl
 
--- the nodes that want something are the roots, and nothing else is in a tree
-pub record IsPlanted (net : Net) (e : ℕ → ℤ) (tree : List Place) : Type 0 where
-  pub root : (v : ℕ) → v < node_count net → e v <ℤ pos 0 → place_at tree v ≡ record { rank = 1; step = None }
-  pub others : (v : ℕ) → v < node_count net → pos 0 ≤ℤ e v → place_at tree v ≡ nowhere
-
-no_step : (net : Net) (e : ℕ → ℤ) (tree : List Place) (v : ℕ) (s : Step) → IsPlanted net e tree → v < node_count net → step_at tree v ≡ Some s → ⊥
-no_step net e tree v s pl b h =
-    elim (sign_of (e v)) [
-      | inl w ↦ let n : step_at tree v ≡ None = ap (λ (t : Place). t.step) (pl.root v b w) in cc
-      | inr o ↦ let n : step_at tree v ≡ None = ap (λ (t : Place). t.step) (pl.others v b o) in cc
-    ]
-
-root_rank : (net : Net) (e : ℕ → ℤ) (tree : List Place) (v : ℕ) → IsPlanted net e tree → v < node_count net → e v <ℤ pos 0 → rank_at tree v ≡ 1
-root_rank net e tree v pl b w = ap (λ (t : Place). t.rank) (pl.root v b w)
-
-other_rank : (net : Net) (e : ℕ → ℤ) (tree : List Place) (v : ℕ) → IsPlanted net e tree → v < node_count net → pos 0 ≤ℤ e v → rank_at tree v ≡ 0
-other_rank net e tree v pl b o = ap (λ (t : Place). t.rank) (pl.others v b o)
-
-placed_wants : (net : Net) (e : ℕ → ℤ) (tree : List Place) (v : ℕ) → IsPlanted net e tree → v < node_count net → 0 < rank_at tree v → e v <ℤ pos 0
-placed_wants net e tree v pl b i =
-    elim (sign_of (e v)) [
-      | inl w ↦ w
-      | inr o ↦ let n : rank_at tree v ≡ 0 = other_rank net e tree v pl b o in absurd (omega arith)
-    ]
-
-one_most : (b : Bool) → cond b 1 0 ≤ 1
-one_most true = omega arith
-one_most false = omega arith
-
-outside_most : (net : Net) (tree : List Place) → outside_count net tree ≤ node_count net
-outside_most net tree =
-    let n = node_count net in
-    let le : outside_count net tree ≤ sum_below n (λ _. 1) = sum_below-le n (λ v. cond {A = ℕ} (eqb (rank_at tree v) 0) 1 0) (λ _. 1) (λ v b. one_most (eqb (rank_at tree v) 0)) in
-    omega (arith, sum_below-constant n 1)
-
-root_deep : (p : ℤ) (r : ℕ) → p ≡ pos 0 → pos 0 ≤ℤ (p +ℤ pos r)
-root_deep p r h = omega (arith, ints)
-
-begin_deep : (p : ℤ) (k n : ℕ) → k ≤ n → negsuc 1024 ≤ℤ p → pos (1026 * k) ≤ℤ (p +ℤ pos (1025 + 1026 * n))
-begin_deep p k n h l = omega (arith, ints)
-
-pub planted_grown : (net : Net) (x : ℕ → ℕ) (p e : ℕ → ℤ) (tree : List Place) → IsRound net x p e → IsPlanted net e tree → IsGrown net x p tree
-planted_grown net x p e tree r pl =
-    let few : outside_count net tree ≤ node_count net = outside_most net tree in
-    record {
-      forest = record { down = λ v s b h. absurd (no_step net e tree v s pl b h) };
-      tight = record { tight = λ v s b h. absurd (no_step net e tree v s pl b h) };
-      unblocked = record { residual = λ v s b h. absurd (no_step net e tree v s pl b h) };
-      priced = r.priced;
-      bounded = record {
-        rank = λ v b. elim (sign_of (e v)) [
-          | inl w ↦ omega (arith, root_rank net e tree v pl b w)
-          | inr o ↦ omega (arith, other_rank net e tree v pl b o)
-        ];
-        above = λ v b. (r.low v b).1;
-        inside = λ v b i. root_deep (p v) (rank_at tree v) (r.zero v b (placed_wants net e tree v pl b i));
-        outside = λ v b. begin_deep (p v) (outside_count net tree) (node_count net) few (r.low v b).0;
-      };
-    }
-
-pub planted_suits : (net : Net) (x : ℕ → ℕ) (p e : ℕ → ℤ) (tree : List Place) → IsRound net x p e → IsPlanted net e tree → Suits net e p tree
-planted_suits net x p e tree r pl = record {
-  wanting = record { root = λ v b i _. placed_wants net e tree v pl b i };
-  inside = λ v b w. omega (arith, root_rank net e tree v pl b w);
-  zero = r.zero;
-  least = r.least;
-}
-
-under_zero : (e : ℤ) → e <ℤ pos 0 → e ≤ℤ pos 0
-under_zero e h = omega (arith, ints)
-
-pub planted_none : (net : Net) (e : ℕ → ℤ) (tree : List Place) → IsPlanted net e tree → HasNoSource net e tree
-planted_none net e tree pl v b i = under_zero (e v) (placed_wants net e tree v pl b i)
-
--- ---- one node more, with nothing left over there
-
-pub none_more : (net : Net) (e : ℕ → ℤ) (before after : List Place) (u : ℕ) → AddsNode net before after u → e u ≤ℤ pos 0 → HasNoSource net e before → HasNoSource net e after
-none_more net e before after u add here none v b i =
-    elim (cases_eq v u) [
-      | inl q ↦ subst (λ (t : ℕ). e t ≤ℤ pos 0) (sym q) here
-      | inr ne ↦ let same : rank_at after v ≡ rank_at before v = add.others v ne in none v b (omega arith)
-    ]
-
--- ---- a hit
-
-hit_low : (p q : ℤ) (r n : ℕ) → n ≤ 1024 → r ≤ n + 1 → pos 0 ≤ℤ (q +ℤ pos r) → q ≤ℤ p → negsuc 1024 ≤ℤ p
-hit_low p q r n small h d l = omega (arith, ints)
-
--- a node in the trees with something left over bounds all potentials
-pub hit_round : (net : Net) (x : ℕ → ℕ) (p q e : ℕ → ℤ) (tree : List Place) (u : ℕ) → IsNetwork net → IsRound net x p e → IsGrown net x q tree → Suits net e q tree → u < node_count net → 0 < rank_at tree u → pos 0 <ℤ e u → IsRound net x q e
-hit_round net x p q e tree u k r g su ub i src = record {
-  leaves = r.leaves;
-  caps = r.caps;
-  priced = g.priced;
-  low = λ v b. (hit_low (q v) (q u) (rank_at tree u) (node_count net) k.small.0 (omega (arith, g.bounded.rank u ub)) (g.bounded.inside u ub i) (su.least u v ub b src), g.bounded.above v b);
-  zero = su.zero;
-  least = su.least;
-  fair = r.fair;
-  room = r.room;
-}
-
--- ---- closed trees
-
-closed_outside : (net : Net) (x : ℕ → ℕ) (tree : List Place) → HasNoEntry net x tree → IsClosedOut net x (λ v. eqb (rank_at tree v) 0)
-closed_outside net x tree closed = record {
-  stays = λ i back b r so. elim (cases_eq (rank_at tree (end_of net i back)) 0) [
-    | inl o ↦ eq-eqb (rank_at tree (end_of net i back)) 0 o
-    | inr ne ↦ absurd (closed i back (record { arc = b; residual = r; outside = eqb-true (rank_at tree (start_of net i back)) 0 so; inside = omega arith }))
-  ];
-}
-
 clash : (z : ℤ) → pos 0 <ℤ z → z ≤ℤ pos 0 → ⊥
 clash z a b = omega (arith, ints)
-
--- where the trees are closed, and something is left over outside, there is no flow
-pub no_flow_closed : (net : Net) (x : ℕ → ℕ) (e : ℕ → ℤ) (tree : List Place) (u : ℕ) → HasEnds net → Leaves net x e → HasNoEntry net x tree → HasNoSource net e tree → ((v : ℕ) → v < node_count net → e v <ℤ pos 0 → 0 < rank_at tree v) → u < node_count net → pos 0 <ℤ e u → HasNoFlow net
-no_flow_closed net x e tree u ends lv closed none inside ub src =
-    no_flow_out net x e (λ v. eqb (rank_at tree v) 0) u ends lv (closed_outside net x tree closed)
-    (λ v b s. elim (sign_of (e v)) [
-      | inl w ↦ let r : rank_at tree v ≡ 0 = eqb-true (rank_at tree v) 0 s in let i : 0 < rank_at tree v = inside v b w in absurd (omega arith)
-      | inr o ↦ o
-    ])
-    ub
-    (elim (cases_eq (rank_at tree u) 0) [
-      | inl o ↦ eq-eqb (rank_at tree u) 0 o
-      | inr ne ↦ absurd (clash (e u) src (none u ub (omega arith)))
-    ])
-    src
 
 -- where nothing is left over, and something is wanting, there is no flow
 pub no_flow_wanting : (net : Net) (x : ℕ → ℕ) (e : ℕ → ℤ) (u : ℕ) → HasEnds net → Leaves net x e → ((v : ℕ) → v < node_count net → e v ≤ℤ pos 0) → u < node_count net → e u <ℤ pos 0 → HasNoFlow net
@@ -186,41 +56,6 @@ pub record IsSent (net : Net) (x y : ℕ → ℕ) (e e' : ℕ → ℤ) (u k : �
   pub wanting : (v : ℕ) → v < node_count net → e v ≤ℤ pos 0 → (e v ≤ℤ e' v) × (e' v ≤ℤ pos 0)
   pub others : (v : ℕ) → v < node_count net → v ≢ u → pos 0 <ℤ e v → e' v ≡ e v
   pub grown : (i : ℕ) → i < arc_count net → y i ≤ x i + k
-
-part_up : (k : ℕ) (e : ℤ) → pos k ≡ e → k ≡ up e
-part_up k e h = ap up h
-
--- what is left over at one node is a part of what is left
-pub part_most : (net : Net) (e : ℕ → ℤ) (u k : ℕ) → u < node_count net → pos k ≡ e u → k ≤ left_over net e
-part_most net e u k b h = omega (arith, part_up k (e u) h, sum_below-member (node_count net) u (λ v. up (e v)) b)
-
-pub some_units : (e : ℤ) (k : ℕ) → pos k ≡ e → pos 0 <ℤ e → 0 < k
-some_units e k h s = omega (arith, ints)
-
-given_left : (e m e' : ℤ) (k most : ℕ) → k ≤ most → pos most ≡ e → m ≡ e → e' ≡ m -ℤ pos k → (e' ≡ e -ℤ pos k) × (pos 0 ≤ℤ e')
-given_left e m e' k most l h same g = (omega (arith, ints), omega (arith, ints))
-
-not_source : (e : ℤ) → pos 0 <ℤ e → e ≤ℤ pos 0 → ⊥
-not_source e a b = omega (arith, ints)
-
--- from what the code finds: m is the excess after `route`, e' after the taking
-pub sent_from : (net : Net) (x y : ℕ → ℕ) (e m e' : ℕ → ℤ) (u k most : ℕ) → u < node_count net → pos 0 <ℤ e u → KeepsCaps net y → Carries net y m u k → k ≤ most → pos most ≡ e u → ((v : ℕ) → v < node_count net → e v ≤ℤ pos 0 → (e v ≤ℤ m v) × (m v ≤ℤ pos 0)) → ((v : ℕ) → v < node_count net → pos 0 <ℤ e v → m v ≡ e v) → e' u ≡ m u -ℤ pos k → ((v : ℕ) → v ≢ u → e' v ≡ m v) → ((i : ℕ) → i < arc_count net → y i ≤ x i + k) → IsSent net x y e e' u k
-sent_from net x y e m e' u k most ub src caps carries le all wanting over here others grown =
-    let (given, left) = given_left (e u) (m u) (e' u) k most le all (over u ub src) here in
-    record {
-      node = ub;
-      source = src;
-      caps = caps;
-      leaves = carried_leaves net y m e' u k carries here others;
-      here = given;
-      left = left;
-      wanting = λ v b w.
-          let P : ℤ → Type 0 = λ z. (e v ≤ℤ z) × (z ≤ℤ pos 0) in
-          let ne : v ≢ u = λ q. not_source (e u) src (subst (λ (t : ℕ). e t ≤ℤ pos 0) q w) in
-          subst P (sym (others v ne)) (wanting v b w);
-      others = λ v b ne s. others v ne ∙ over v b s;
-      grown = grown;
-    }
 
 -- a number above 0, or not
 pub over_or_not : (z : ℤ) → (pos 0 <ℤ z) ⊎ (z ≤ℤ pos 0)
@@ -267,13 +102,6 @@ was_wanting net x y e e' u k v s b w =
       | inr o ↦ let (l, h) = s.wanting v b o in still_wanting (e v) (e' v) l w
     ]
 
-was_over : (net : Net) (x y : ℕ → ℕ) (e e' : ℕ → ℤ) (u k v : ℕ) → IsSent net x y e e' u k → v < node_count net → pos 0 <ℤ e' v → pos 0 <ℤ e v
-was_over net x y e e' u k v s b src =
-    elim (over_or_not (e v)) [
-      | inl o ↦ o
-      | inr o ↦ let (l, h) = s.wanting v b o in absurd (clash (e' v) src h)
-    ]
-
 fair_less : (e e' : ℤ) (k : ℕ) → e' ≡ e -ℤ pos k → pos 0 ≤ℤ e' → e ≤ℤ pos 2048 → (negsuc 2047 ≤ℤ e') × (e' ≤ℤ pos 2048)
 fair_less e e' k h z m = (omega (arith, ints), omega (arith, ints))
 
@@ -303,7 +131,6 @@ sent_round net x y p e e' u k s priced r =
       priced = priced;
       low = r.low;
       zero = λ v b w. r.zero v b (was_wanting net x y e e' u k v s b w);
-      least = λ v t vb tb src. r.least v t vb tb (was_over net x y e e' u k v s vb src);
       fair = λ v b. still_fair net x y e e' u k v s b (r.fair v b);
       room = λ i b. omega (arith, s.grown i b, r.room i b);
     }
@@ -320,11 +147,8 @@ empty_within Any x h = tt
 first_cost : (c : ℕ) (s t : ℤ) → s ≡ pos 0 → t ≡ pos 0 → pos 0 ≤ℤ (pos c +ℤ s -ℤ t)
 first_cost c s t a b = omega (arith, ints)
 
-first_low : (p : ℤ) → p ≡ pos 0 → (negsuc 1024 ≤ℤ p) × (p ≤ℤ pos 0)
-first_low p h = (omega (arith, ints), omega (arith, ints))
-
-first_least : (p q : ℤ) → p ≡ pos 0 → q ≡ pos 0 → p ≤ℤ q
-first_least p q a b = omega (arith, ints)
+first_low : (n : ℕ) (p : ℤ) → p ≡ pos 0 → (pos 0 ≤ℤ (p +ℤ pos (2 * n))) × (p ≤ℤ pos 0)
+first_low n p h = (omega (arith, ints), omega (arith, ints))
 
 up_most : (e : ℤ) → e ≤ℤ pos 2048 → up e ≤ 2048
 up_most (pos n) h = omega (arith, ints)
@@ -336,12 +160,12 @@ first_left net e small fair =
     let le : left_over net e ≤ sum_below n (λ _. 2048) = sum_below-le n (λ v. up (e v)) (λ _. 2048) (λ v b. up_most (e v) (fair v b)) in
     omega (arith, sum_below-constant n 2048)
 
-first_priced : (net : Net) (x : ℕ → ℕ) (p : ℕ → ℤ) (i : ℕ) (back : Bool) → ((i : ℕ) → x i ≡ 0) → ((v : ℕ) → p v ≡ pos 0) → IsResidual net x i back → pos 0 ≤ℤ reduced_cost net p i back
+first_priced : (net : Net) (x : ℕ → ℕ) (p : ℕ → ℤ) (i : ℕ) (back : Bool) → x i ≡ 0 → ((v : ℕ) → p v ≡ pos 0) → IsResidual net x i back → pos 0 ≤ℤ reduced_cost net p i back
 first_priced net x p i false none flat r = first_cost (arc_at net i).cost (p (arc_at net i).from) (p (arc_at net i).to) (flat (arc_at net i).from) (flat (arc_at net i).to)
-first_priced net x p i true none flat r = absurd (omega (arith, none i))
+first_priced net x p i true none flat r = absurd (omega arith)
 
 -- no amounts, potentials 0, and all supplies left over or wanting
-pub first_round : (net : Net) (x : ℕ → ℕ) (p e : ℕ → ℤ) → IsNetwork net → ((i : ℕ) → x i ≡ 0) → ((v : ℕ) → p v ≡ pos 0) → ((v : ℕ) → e v ≡ supply_at net v) → IsRound net x p e
+pub first_round : (net : Net) (x : ℕ → ℕ) (p e : ℕ → ℤ) → IsNetwork net → ((i : ℕ) → i < arc_count net → x i ≡ 0) → ((v : ℕ) → p v ≡ pos 0) → ((v : ℕ) → e v ≡ supply_at net v) → IsRound net x p e
 first_round net x p e k none flat full =
     let m = arc_count net in
     let fair : (v : ℕ) → v < node_count net → (negsuc 2047 ≤ℤ e v) × (e v ≤ℤ pos 2048) = λ v b. let P : ℤ → Type 0 = λ z. (negsuc 2047 ≤ℤ z) × (z ≤ℤ pos 2048) in subst P (sym (full v)) (k.supplies v b) in
@@ -349,15 +173,96 @@ first_round net x p e k none flat full =
     record {
       leaves = record {
         at_node = λ v b. at_start (leaves net x v) (enters net x v) (e v) (supply_at net v)
-            (sum_below-none m (λ i. cond (eqb (arc_at net i).from v) (x i) 0) (λ i c. nothing (eqb (arc_at net i).from v) (x i) (none i)))
-            (sum_below-none m (λ i. cond (eqb (arc_at net i).to v) (x i) 0) (λ i c. nothing (eqb (arc_at net i).to v) (x i) (none i)))
+            (sum_below-none m (λ i. cond (eqb (arc_at net i).from v) (x i) 0) (λ i c. nothing (eqb (arc_at net i).from v) (x i) (none i c)))
+            (sum_below-none m (λ i. cond (eqb (arc_at net i).to v) (x i) 0) (λ i c. nothing (eqb (arc_at net i).to v) (x i) (none i c)))
             (full v);
       };
-      caps = λ i b. empty_within (arc_at net i).cap (x i) (none i);
-      priced = record { residual = λ i back b r. first_priced net x p i back none flat r };
-      low = λ v b. first_low (p v) (flat v);
+      caps = λ i b. empty_within (arc_at net i).cap (x i) (none i b);
+      priced = record { residual = λ i back b r. first_priced net x p i back (none i b) flat r };
+      low = λ v b. first_low (node_count net) (p v) (flat v);
       zero = λ v b w. flat v;
-      least = λ v t vb tb src. first_least (p v) (p t) (flat v) (flat t);
       fair = fair;
-      room = λ i b. omega (arith, none i);
+      room = λ i b. omega (arith, none i b);
     }
+
+-- ---- the work done
+
+looked_more : (l l' s m : ℕ) → l ≤ s * m → l' ≤ l + m → l' ≤ (s + 1) * m
+looked_more l l' s m h k = omega (arith, add-mul s 1 m, one-mul m)
+
+pub work_more : (net : Net) (x y : ℕ → ℕ) (e e' : ℕ → ℤ) (s l l' : ℕ) → IsWork net x e s l → IsLess net e e' → carrying net y + l ≤ carrying net x + l' → l' ≤ l + 2 * arc_count net → IsWork net y e' (s + 1) l'
+work_more net x y e e' s l l' w less c k = record {
+  few = omega (arith, w.few, less.less);
+  bounded = looked_more l l' s (2 * arc_count net) w.bounded k;
+  carried = omega (arith, w.carried);
+  begun = inl (omega arith);
+}
+
+none_carry : (x : ℕ) → x ≡ 0 → cond {A = ℕ} (eqb x 0) 0 1 ≡ 0
+none_carry x h = cond-true {A = ℕ} (eqb x 0) 0 1 (eq-eqb x 0 h)
+
+pub first_work : (net : Net) (x : ℕ → ℕ) (e : ℕ → ℤ) → ((i : ℕ) → i < arc_count net → x i ≡ 0) → ((v : ℕ) → e v ≡ supply_at net v) → IsWork net x e 0 0
+first_work net x e none full = record {
+  few = omega (arith, sum_below-same (node_count net) (λ v. up (e v)) (λ v. up (supply_at net v)) (λ v b. ap up (full v)));
+  bounded = omega arith;
+  carried = omega (arith, sum_below-none (arc_count net) (λ i. cond {A = ℕ} (eqb (x i) 0) 0 1) (λ i b. none_carry (x i) (none i b)));
+  begun = inr (λ v b. full v);
+}
+
+bounds_looks : (l s k m : ℕ) → l ≤ s * (2 * m) → s ≤ 2097152 → m ≤ 4096 → l ≤ 17179869184
+bounds_looks l s k m h a b = omega (arith, mul-le s (2 * m) 2097152 8192 a (omega arith))
+
+pub supply_most : (net : Net) → IsNetwork net → supply_sum net ≤ 2097152
+supply_most net k = first_left net (λ v. supply_at net v) k.small.0 (λ v b. (k.supplies v b).1)
+
+pub looks_most : (net : Net) (x : ℕ → ℕ) (e : ℕ → ℤ) (s l : ℕ) → IsNetwork net → IsWork net x e s l → (s ≤ 2097152) × (l ≤ 17179869184)
+looks_most net x e s l k w =
+    let few : s ≤ 2097152 = omega (arith, w.few, supply_most net k) in
+    (few, bounds_looks l s 0 (arc_count net) w.bounded few k.small.1)
+
+no_supply : (e s : ℤ) → e ≡ s → e ≤ℤ pos 0 → pos 0 ≤ℤ e → s ≡ pos 0
+no_supply e s h a b = omega (arith, ints)
+
+wide : (p : ℤ) (n : ℕ) → p ≤ℤ pos 0 → p ≤ℤ pos (2 * n)
+wide p n h = omega (arith, ints)
+
+-- where nothing is left over and nothing wanting, all is done
+pub done_at : (net : Net) (x : ℕ → ℕ) (p e : ℕ → ℤ) (s l : ℕ) → IsRound net x p e → IsWork net x e s l → ((v : ℕ) → v < node_count net → e v ≤ℤ pos 0) → ((v : ℕ) → v < node_count net → pos 0 ≤ℤ e v) → IsDone net x p s l
+done_at net x p e s l r w none full = record {
+  flow = flow_at net x e r.caps r.leaves none full;
+  potentials = r.priced;
+  reach = λ v b. ((r.low v b).0, wide (p v) (node_count net) (r.low v b).1);
+  few = omega (arith, w.few);
+  bounded = w.bounded;
+  carried = w.carried;
+  begun = λ (v, b, ne). elim w.begun [
+    | inl h ↦ h
+    | inr same ↦ absurd (ne (no_supply (e v) (supply_at net v) (same v b) (none v b) (full v b)))
+  ];
+}
+
+-- ---- the same amounts
+
+same_side : (net : Net) (x y : ℕ → ℕ) (at : ℕ → ℕ) (v : ℕ) → ((i : ℕ) → i < arc_count net → y i ≡ x i) → sum_below (arc_count net) (λ i. cond {A = ℕ} (eqb (at i) v) (y i) 0) ≡ sum_below (arc_count net) (λ i. cond {A = ℕ} (eqb (at i) v) (x i) 0)
+same_side net x y at v same = sum_below-same (arc_count net) (λ i. cond {A = ℕ} (eqb (at i) v) (y i) 0) (λ i. cond {A = ℕ} (eqb (at i) v) (x i) 0) (λ i b. ap (λ (t : ℕ). cond {A = ℕ} (eqb (at i) v) t 0) (same i b))
+
+same_balance : (l l' n n' : ℕ) (s : ℤ) → l' ≡ l → n' ≡ n → pos l -ℤ pos n ≡ s → pos l' -ℤ pos n' ≡ s
+same_balance l l' n n' s a b h = omega (arith, ints)
+
+still_residual : (net : Net) (x y : ℕ → ℕ) (i : ℕ) (back : Bool) → y i ≡ x i → IsResidual net y i back → IsResidual net x i back
+still_residual net x y i false e h = subst (λ (t : ℕ). HasRoom (arc_at net i).cap t) e h
+still_residual net x y i true e h = omega arith
+
+pub done_same : (net : Net) (x y : ℕ → ℕ) (p : ℕ → ℤ) (s l : ℕ) → ((i : ℕ) → i < arc_count net → y i ≡ x i) → IsDone net x p s l → IsDone net y p s l
+done_same net x y p s l same d = record {
+  flow = record {
+    within = λ i b. subst (λ (t : ℕ). IsWithin (arc_at net i).cap t) (sym (same i b)) (d.flow.within i b);
+    meets = λ v b. same_balance (leaves net x v) (leaves net y v) (enters net x v) (enters net y v) (supply_at net v) (same_side net x y (λ i. (arc_at net i).from) v same) (same_side net x y (λ i. (arc_at net i).to) v same) (d.flow.meets v b);
+  };
+  potentials = record { residual = λ i back b r. d.potentials.residual i back b (still_residual net x y i back (same i b) r) };
+  reach = d.reach;
+  few = d.few;
+  bounded = d.bounded;
+  carried = omega (arith, d.carried, sum_below-same (arc_count net) (λ i. cond {A = ℕ} (eqb (y i) 0) 0 1) (λ i. cond {A = ℕ} (eqb (x i) 0) 0 1) (λ i b. ap (λ (t : ℕ). cond {A = ℕ} (eqb t 0) 0 1) (same i b)));
+  begun = d.begun;
+}

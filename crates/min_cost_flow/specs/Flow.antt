@@ -75,10 +75,13 @@ pub record HasPotentials (net : Net) (x : ℕ → ℕ) (p : ℕ → ℤ) : Type 
 
 -- ---- solutions
 
--- an amount for each arc, a potential for each node
+-- an amount for each arc, a potential for each node, and how much work it took: the searches for a
+-- path, and the tests of a residual arc in them
 pub record Answer : Type 0 where
   pub flow : List ℕ
   pub potential : List ℤ
+  pub searches : ℕ
+  pub looks : ℕ
 
 abbrev pub amounts : List ℕ → ℕ → ℕ
 amounts xs i = slice_index xs i

@@ -3,6 +3,9 @@ pub mod Flow
 pub mod Fault
 pub mod Excess
 pub mod Residual
-pub mod Tree
+pub mod Layout
+pub mod Counting
+pub mod Search
+pub mod Path
 pub mod Round
 pub mod Existence

@@ -6,6 +6,9 @@
 #![tactic(auto)]
 
 mod arc;
+mod augment;
+mod build;
+mod reach;
 mod fault;
 pub mod laws;
 mod network;
@@ -13,13 +16,9 @@ mod residual;
 mod search;
 mod solved;
 mod solver;
-mod tree;
 
 pub use arc::{Arc, Cap};
 pub use fault::NetFault;
 pub use network::Network;
 pub use solved::Solved;
 pub use solver::{SolveFault, solve};
-
-#[cfg(test)]
-mod tests;

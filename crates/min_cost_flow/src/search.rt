@@ -1,169 +1,309 @@
-//! The search: trees that grow from the nodes where units are wanting, one node at a time by the
-//! residual arc of least reduced cost, up to a node where units are left over.
-ghost use Rattle.std.specs.Prelude.{◌≡◌, ◌≢◌, ◌<◌, ◌≤◌, ◌+◌, ◌*◌, ◌↔◌, ◌==◌, if◌then◌else◌, ℕ, ℤ, Bool, List, None, length, pos, negsuc, ◌≤ℤ◌, ◌<ℤ◌, ◌+ℤ◌, ◌-ℤ◌, IsTrue, IfSome, IfNone};
-ghost use Rattle.min_cost_flow.specs.Net.{arc_count, node_count, IsNetwork};
-ghost use Rattle.min_cost_flow.specs.Flow.{amounts, at_nodes, HasPotentials, reduced_cost};
-ghost use Rattle.min_cost_flow.specs.Residual.{HasLowPotentials};
-ghost use Rattle.min_cost_flow.specs.Round.{IsRound};
-ghost use Rattle.min_cost_flow.specs.Tree.{place_at, rank_at, nowhere, lowered, IsForest, IsTight, IsOpen, IsWanting, IsEntering, HasNoEntry, IsServed, IsGrown, Suits, HasNoSource, AddsNode};
+//! The search for the nearest node where units are wanting.
+ghost use Rattle.std.specs.Prelude.{◌≡◌, ◌≢◌, ◌⊎◌, ◌<◌, ◌≤◌, ◌+◌, ◌^◌, ℕ, ℤ, List, length, pos, negsuc, ◌≤ℤ◌, ◌<ℤ◌, ◌+ℤ◌, ◌-ℤ◌, true, false};
+ghost use Rattle.min_cost_flow.specs.Flow.{at_nodes};
+ghost use Rattle.min_cost_flow.specs.Layout.{numbers, end_at, code_at, StartsAt};
+ghost use Rattle.min_cost_flow.specs.Search.{far, nodes_of, degree, looked, IsGround, HasSizes, Reaches, FindsNearest, Keeps, IsServed, Serves, IsNear, IsPut, IsLeft};
 
-use crate::network::Network;
-use crate::residual::Step;
-use crate::tree::Place;
+use crate::reach::{FAR, Ground, Progress, Step, advance, distance, reach};
+use crate::residual::look;
 
-/// Grows trees until a node where units are left over is in one of them, and gives that node; none
-/// where the trees are closed before. The potentials outside are lowered on the way, so that each
-/// step of the trees costs nothing.
+/// Labels the nodes round a source, in order of their distance by reduced costs, up to the nearest one
+/// where units are wanting. It looks at each residual arc once at most.
 pub(crate) fn search(
-    net: &Network,
-    flow: &[u32],
-    potential: &mut [i32],
-    excess: &[i32],
-    tree: &mut [Place],
-) -> Option<u32>
-    requires network { IsNetwork net.now }
-    requires arcs { length flow.now ≡ arc_count net.now }
-    requires prices { length potential.old ≡ node_count net.now }
-    requires sizes { length excess.now ≡ node_count net.now }
-    requires nodes { length tree.old ≡ node_count net.now }
-    requires round { IsRound net.now (amounts flow.now) (at_nodes potential.old) (at_nodes excess.now) }
-    ensures closed { IfNone result (HasNoEntry net.now (amounts flow.now) tree.new) }
-    ensures no_source { IfNone result (HasNoSource net.now (at_nodes excess.now) tree.new) }
-    ensures inside { (v : ℕ) → v < node_count net.now → at_nodes excess.now v <ℤ pos 0 → 0 < rank_at tree.new v }
-    ensures source { IfSome result (λ v. (v < node_count net.now) × (0 < rank_at tree.new v) × (pos 0 <ℤ at_nodes excess.now v)) }
-    ensures forest { IsForest net.now tree.new }
-    ensures tight { IsTight net.now (at_nodes potential.new) tree.new }
-    ensures unblocked { IsOpen net.now (amounts flow.now) tree.new }
-    ensures wanting { IsWanting net.now (at_nodes excess.now) tree.new }
-    ensures round { IfSome result (λ _. IsRound net.now (amounts flow.now) (at_nodes potential.new) (at_nodes excess.now)) }
+    ground: Ground<'_>,
+    label: &mut [i32],
+    enter: &mut [u32],
+    order: &mut [u32],
+    place: &mut [u32],
+    looks: &mut u64,
+) -> Progress
+    requires ground { IsGround ground }
+    requires sizes { HasSizes ground label.old enter.old order.old place.old }
+    requires blank { (v : ℕ) → v < nodes_of ground → at_nodes label.old v ≡ far }
+    requires source { pos 0 <ℤ at_nodes ground.excess.now ground.source }
+    requires few { looks.old < 2 ^ 61 }
+    ensures reached { Reaches ground.entry label.new enter.new order.new place.new result }
+    ensures nearest { FindsNearest ground.entry label.new place.new result }
+    ensures served { IsServed (nodes_of ground.entry) ground.entry.first.now ground.entry.arcs.now (at_nodes ground.entry.potential.now) (at_nodes label.new) (numbers place.new) result.cut result.head }
+    ensures left { IsLeft (nodes_of ground.entry) (at_nodes ground.entry.potential.now) (at_nodes label.new) (numbers place.new) result.head result.cut }
+    ensures looks { looks.new ≡ looks.old + looked ground.entry.first.now (numbers order.new) result.head }
+    ensures once { looks.new ≤ looks.old + length ground.entry.arcs.now }
 {
-    plant(excess, tree);
-    while let Some(node) = extend(net, flow, potential, tree) {
-        if excess[node as usize] > 0 {
-            return Some(node);
+    let mut progress = begin(ground, label, order, place);
+    'nodes: loop {
+        if !goes_on(ground, label, enter, order, place, &mut progress) {
+            return progress;
         }
-    }
-    None
-}
-
-/// Makes each node where units are wanting a root.
-fn plant(excess: &[i32], tree: &mut [Place])
-    requires { length excess.now ≡ length tree.old }
-    ensures root { (v : ℕ) → v < length tree.new → at_nodes excess.now v <ℤ pos 0 → place_at tree.new v ≡ record { rank = 1; step = None } }
-    ensures others { (v : ℕ) → v < length tree.new → pos 0 ≤ℤ at_nodes excess.now v → place_at tree.new v ≡ nowhere }
-{
-    for v in 0..tree.len() {
-        let rank = if excess[v] < 0 { 1 } else { 0 };
-        tree[v] = Place { rank, step: None };
+        scan(ground, label, enter, order, place, &mut progress, looks);
     }
 }
 
-/// Puts one more node into the trees, by the residual arc into them that costs least, and gives the
-/// node; none where no residual arc leads into them.
-fn extend(net: &Network, flow: &[u32], potential: &mut [i32], tree: &mut [Place]) -> Option<u32>
-    requires network { IsNetwork net.now }
-    requires arcs { length flow.now ≡ arc_count net.now }
-    requires prices { length potential.old ≡ node_count net.now }
-    requires nodes { length tree.old ≡ node_count net.now }
-    requires grown { IsGrown net.now (amounts flow.now) (at_nodes potential.old) tree.old }
-    ensures grown { IsGrown net.now (amounts flow.now) (at_nodes potential.new) tree.new }
-    ensures suits { (e : ℕ → ℤ) → Suits net.now e (at_nodes potential.old) tree.old → HasNoSource net.now e tree.old → Suits net.now e (at_nodes potential.new) tree.new }
-    ensures closed { IfNone result (HasNoEntry net.now (amounts flow.now) tree.new) }
-    ensures stays { IfNone result (tree.new ≡ tree.old) }
-    ensures adds { IfSome result (λ u. AddsNode net.now tree.old tree.new u) }
+/// Labels the source alone.
+fn begin(
+    ground: Ground<'_>,
+    label: &mut [i32],
+    order: &mut [u32],
+    place: &mut [u32],
+) -> Progress
+    requires ground { IsGround ground }
+    requires sizes { HasSizes ground label.old order.old order.old place.old }
+    requires blank { (v : ℕ) → v < nodes_of ground → at_nodes label.old v ≡ far }
+    requires source { pos 0 <ℤ at_nodes ground.excess.now ground.source }
+    ensures reached { (enter : List ℕ) → Reaches ground.entry label.new enter order.new place.new result }
+    ensures nearest { FindsNearest ground.entry label.new place.new result }
+    ensures head { result.head ≡ 0 }
 {
-    let step = cheapest_entry(net, flow, potential, tree)?;
-    let by = step.reduced_cost(net, potential);
-    lower(potential, tree, by);
-    let node = step.start(net);
-    let rank = tree[step.end(net) as usize].rank + 1;
-    tree[node as usize] = Place {
-        rank,
-        step: Some(step),
-    };
-    Some(node)
-}
-
-/// Of the residual arcs that lead from outside the trees into them, one of least reduced cost.
-fn cheapest_entry(net: &Network, flow: &[u32], potential: &[i32], tree: &[Place]) -> Option<Step>
-    requires arcs { length flow.now ≡ arc_count net.now }
-    requires prices { length potential.now ≡ node_count net.now }
-    requires nodes { length tree.now ≡ node_count net.now }
-    requires low { HasLowPotentials net.now (at_nodes potential.now) }
-    ensures enters { IfSome result (λ s. IsEntering net.now (amounts flow.now) tree.now s.arc s.back) }
-    ensures least { (i : ℕ) (back : Bool) → IsServed net.now (amounts flow.now) (at_nodes potential.now) tree.now result i back }
-{
-    let mut best = None;
-    for i in 0..net.arc_count() {
-        let arc = i as u32;
-        let either = consider(net, flow, potential, tree, best, Step { arc, back: false });
-        best = consider(net, flow, potential, tree, either, Step { arc, back: true });
+    place_first(label, order, place, ground.source, ground.potential[ground.source]);
+    Progress {
+        head: 0,
+        ordered: 1,
+        reached: 1,
+        level: 0,
+        cut: FAR,
+        wish: 0,
+        found: 0,
     }
-    best
 }
 
-/// The cheaper of a step into the trees that was found so far and another residual arc, if that
-/// leads into them.
+/// Puts a node first in the order, with a label.
+fn place_first(
+    label: &mut [i32],
+    order: &mut [u32],
+    place: &mut [u32],
+    node: usize,
+    potential: i32,
+)
+    requires label { node < length label.old }
+    requires order { 0 < length order.old }
+    requires place { node < length place.old }
+    requires small { node < 1024 }
+    ensures label { IsPut (at_nodes label.old) (at_nodes label.new) node potential }
+    ensures order { numbers order.new 0 ≡ node }
+    ensures place { numbers place.new node ≡ 0 }
+{
+    label[node] = potential;
+    order[0] = node as u32;
+    place[node] = 0;
+}
+
+/// Whether a node is to be scanned next: one at the level, or else the nearest one further off, to
+/// which the level moves.
+fn goes_on(
+    ground: Ground<'_>,
+    label: &[i32],
+    enter: &[u32],
+    order: &mut [u32],
+    place: &mut [u32],
+    progress: &mut Progress,
+) -> bool
+    requires ground { IsGround ground }
+    requires sizes { HasSizes ground label.now enter.now order.old place.old }
+    requires reached { Reaches ground label.now enter.now order.old place.old progress.old }
+    requires nearest { FindsNearest ground label.now place.old progress.old }
+    ensures reached { Reaches ground.entry label.now enter.now order.new place.new progress.new }
+    ensures nearest { FindsNearest ground.entry label.now place.new progress.new }
+    ensures kept { Keeps ground.entry progress.old.head label.now place.old label.now place.new }
+    ensures head { progress.new.head ≡ progress.old.head }
+    ensures cut { progress.new.cut ≡ progress.old.cut }
+    ensures more { result ≡ true → progress.new.head < progress.new.ordered }
+    ensures left { result ≡ false → IsLeft (nodes_of ground.entry) (at_nodes ground.entry.potential.now) (at_nodes label.now) (numbers place.new) progress.new.head progress.new.cut }
+{
+    if progress.level == progress.cut {
+        return false;
+    }
+    if progress.head < progress.ordered {
+        return true;
+    }
+    let nearest = least_distance(ground, label, enter, order, place, progress);
+    if nearest == progress.cut {
+        return false;
+    }
+    climb(ground, label, enter, order, place, progress, nearest);
+    true
+}
+
+/// The least distance of the nodes behind those that are ordered, or the cut if that is less.
+fn least_distance(
+    ground: Ground<'_>,
+    label: &[i32],
+    enter: &[u32],
+    order: &[u32],
+    place: &[u32],
+    progress: &Progress,
+) -> i32
+    requires ground { IsGround ground }
+    requires sizes { HasSizes ground label.now enter.now order.now place.now }
+    requires reached { Reaches ground label.now enter.now order.now place.now progress.now }
+    requires nearest { FindsNearest ground label.now place.now progress.now }
+    ensures cut { result ≤ℤ progress.now.cut }
+    ensures level { progress.now.level ≤ℤ result }
+    ensures least { (j : ℕ) → progress.now.ordered ≤ j → j < progress.now.reached → result ≤ℤ (at_nodes label.now (numbers order.now j) -ℤ at_nodes ground.entry.potential.now (numbers order.now j)) }
+    ensures some { result <ℤ progress.now.cut → (j : ℕ) × (progress.now.ordered ≤ j) × (j < progress.now.reached) × (result ≡ at_nodes label.now (numbers order.now j) -ℤ at_nodes ground.entry.potential.now (numbers order.now j)) }
+{
+    let _ = enter;
+    let _ = place;
+    let mut least = progress.cut;
+    for j in progress.ordered..progress.reached {
+        let node = order[j] as usize;
+        least = lesser(least, distance(label[node], ground.potential[node]));
+    }
+    least
+}
+
+fn lesser(a: i32, b: i32) -> i32
+    ensures first { result ≤ℤ a }
+    ensures second { result ≤ℤ b }
+    ensures either { (result ≡ a) ⊎ (result ≡ b) }
+{
+    if b < a { b } else { a }
+}
+
+/// Moves the level, and puts the nodes at that distance behind those that are ordered.
+fn climb(
+    ground: Ground<'_>,
+    label: &[i32],
+    enter: &[u32],
+    order: &mut [u32],
+    place: &mut [u32],
+    progress: &mut Progress,
+    level: i32,
+)
+    requires ground { IsGround ground }
+    requires sizes { HasSizes ground label.now enter.now order.old place.old }
+    requires reached { Reaches ground label.now enter.now order.old place.old progress.old }
+    requires nearest { FindsNearest ground label.now place.old progress.old }
+    requires done { progress.old.head ≡ progress.old.ordered }
+    requires rises { progress.old.level ≤ℤ level }
+    requires cut { level ≤ℤ progress.old.cut }
+    requires least { (j : ℕ) → progress.old.ordered ≤ j → j < progress.old.reached → level ≤ℤ (at_nodes label.now (numbers order.old j) -ℤ at_nodes ground.potential.now (numbers order.old j)) }
+    requires some { (j : ℕ) × (progress.old.ordered ≤ j) × (j < progress.old.reached) × (level ≡ at_nodes label.now (numbers order.old j) -ℤ at_nodes ground.potential.now (numbers order.old j)) }
+    ensures reached { Reaches ground.entry label.now enter.now order.new place.new progress.new }
+    ensures nearest { FindsNearest ground.entry label.now place.new progress.new }
+    ensures kept { Keeps ground.entry progress.old.head label.now place.old label.now place.new }
+    ensures head { progress.new.head ≡ progress.old.head }
+    ensures cut { progress.new.cut ≡ progress.old.cut }
+    ensures more { progress.new.head < progress.new.ordered }
+{
+    progress.level = level;
+    for j in progress.ordered..progress.reached {
+        take_up(ground, label, enter, order, place, progress, j);
+    }
+}
+
+/// Puts the node at a place behind those that are ordered, if it is at the level.
+fn take_up(
+    ground: Ground<'_>,
+    label: &[i32],
+    enter: &[u32],
+    order: &mut [u32],
+    place: &mut [u32],
+    progress: &mut Progress,
+    j: usize,
+)
+    requires ground { IsGround ground }
+    requires sizes { HasSizes ground label.now enter.now order.old place.old }
+    requires reached { Reaches ground label.now enter.now order.old place.old progress.old }
+    requires nearest { FindsNearest ground label.now place.old progress.old }
+    requires place { progress.old.ordered ≤ j }
+    requires inside { j < progress.old.reached }
+    ensures reached { Reaches ground.entry label.now enter.now order.new place.new progress.new }
+    ensures nearest { FindsNearest ground.entry label.now place.new progress.new }
+    ensures kept { Keeps ground.entry progress.old.head label.now place.old label.now place.new }
+    ensures head { progress.new.head ≡ progress.old.head }
+    ensures count { progress.new.reached ≡ progress.old.reached }
+    ensures level { progress.new.level ≡ progress.old.level }
+    ensures cut { progress.new.cut ≡ progress.old.cut }
+    ensures few { (progress.old.ordered ≤ progress.new.ordered) × (progress.new.ordered ≤ progress.old.ordered + 1) }
+    ensures behind { (i : ℕ) → j < i → numbers order.new i ≡ numbers order.old i }
+    ensures more { at_nodes label.now (numbers order.old j) -ℤ at_nodes ground.entry.potential.now (numbers order.old j) ≡ progress.old.level → progress.new.ordered ≡ progress.old.ordered + 1 }
+{
+    let _ = enter;
+    let node = order[j] as usize;
+    if distance(label[node], ground.potential[node]) == progress.level {
+        advance(order, place, progress, node);
+    }
+}
+
+/// Looks at each residual arc that starts at the next node of the order.
+fn scan(
+    ground: Ground<'_>,
+    label: &mut [i32],
+    enter: &mut [u32],
+    order: &mut [u32],
+    place: &mut [u32],
+    progress: &mut Progress,
+    looks: &mut u64,
+)
+    requires ground { IsGround ground }
+    requires sizes { HasSizes ground label.old enter.old order.old place.old }
+    requires reached { Reaches ground label.old enter.old order.old place.old progress.old }
+    requires nearest { FindsNearest ground label.old place.old progress.old }
+    requires served { IsServed (nodes_of ground) ground.first.now ground.arcs.now (at_nodes ground.potential.now) (at_nodes label.old) (numbers place.old) progress.old.cut progress.old.head }
+    requires more { progress.old.head < progress.old.ordered }
+    requires few { looks.old < 2 ^ 61 + 2 ^ 60 }
+    ensures reached { Reaches ground.entry label.new enter.new order.new place.new progress.new }
+    ensures nearest { FindsNearest ground.entry label.new place.new progress.new }
+    ensures served { IsServed (nodes_of ground.entry) ground.entry.first.now ground.entry.arcs.now (at_nodes ground.entry.potential.now) (at_nodes label.new) (numbers place.new) progress.new.cut progress.new.head }
+    ensures kept { Keeps ground.entry (progress.old.head + 1) label.old place.old label.new place.new }
+    ensures head { progress.new.head ≡ progress.old.head + 1 }
+    ensures looks { looks.new ≡ looks.old + degree ground.entry.first.now (numbers order.old progress.old.head) }
+{
+    let node = order[progress.head] as usize;
+    progress.head += 1;
+    for number in ground.first[node] as usize..ground.first[node + 1] as usize {
+        consider(ground, label, enter, order, place, progress, node, number, looks);
+    }
+}
+
+/// Looks at one residual arc of the node that is scanned, and takes up what it offers.
 fn consider(
-    net: &Network,
-    flow: &[u32],
-    potential: &[i32],
-    tree: &[Place],
-    best: Option<Step>,
-    step: Step,
-) -> Option<Step>
-    requires arcs { length flow.now ≡ arc_count net.now }
-    requires prices { length potential.now ≡ node_count net.now }
-    requires nodes { length tree.now ≡ node_count net.now }
-    requires low { HasLowPotentials net.now (at_nodes potential.now) }
-    requires arc { step.arc < arc_count net.now }
-    requires enters { IfSome best (λ s. IsEntering net.now (amounts flow.now) tree.now s.arc s.back) }
-    ensures enters { IfSome result (λ s. IsEntering net.now (amounts flow.now) tree.now s.arc s.back) }
-    ensures served { IsServed net.now (amounts flow.now) (at_nodes potential.now) tree.now result step.arc step.back }
-    ensures kept { (i : ℕ) (back : Bool) → IsServed net.now (amounts flow.now) (at_nodes potential.now) tree.now best i back → IsServed net.now (amounts flow.now) (at_nodes potential.now) tree.now result i back }
+    ground: Ground<'_>,
+    label: &mut [i32],
+    enter: &mut [u32],
+    order: &mut [u32],
+    place: &mut [u32],
+    progress: &mut Progress,
+    node: usize,
+    number: usize,
+    looks: &mut u64,
+)
+    requires ground { IsGround ground }
+    requires sizes { HasSizes ground label.old enter.old order.old place.old }
+    requires reached { Reaches ground label.old enter.old order.old place.old progress.old }
+    requires nearest { FindsNearest ground label.old place.old progress.old }
+    requires node { node < nodes_of ground }
+    requires labelled { at_nodes label.old node <ℤ far }
+    requires place { numbers place.old node + 1 ≡ progress.old.head }
+    requires near { IsNear (at_nodes ground.potential.now ground.source) (numbers place.old node) (at_nodes label.old node) }
+    requires level { progress.old.level ≤ℤ (at_nodes label.old node -ℤ at_nodes ground.potential.now node) }
+    requires number { StartsAt ground.first.now node number }
+    requires few { looks.old < 2 ^ 62 }
+    ensures reached { Reaches ground.entry label.new enter.new order.new place.new progress.new }
+    ensures nearest { FindsNearest ground.entry label.new place.new progress.new }
+    ensures kept { Keeps ground.entry progress.old.head label.old place.old label.new place.new }
+    ensures head { progress.new.head ≡ progress.old.head }
+    ensures level { progress.new.level ≡ progress.old.level }
+    ensures cut { progress.new.cut ≤ℤ progress.old.cut }
+    ensures serves { Serves ground.entry.arcs.now (at_nodes ground.entry.potential.now) (at_nodes label.new) progress.new.cut node number }
+    ensures tick { looks.new ≡ looks.old + 1 }
 {
-    if !enters(net, flow, tree, step) {
-        return best;
-    }
-    let Some(other) = best else {
-        return Some(step);
-    };
-    if other.reduced_cost(net, potential) <= step.reduced_cost(net, potential) {
-        best
-    } else {
-        Some(step)
-    }
-}
-
-/// Whether a residual arc leads from outside the trees into them.
-fn enters(net: &Network, flow: &[u32], tree: &[Place], step: Step) -> bool
-    requires arcs { length flow.now ≡ arc_count net.now }
-    requires nodes { length tree.now ≡ node_count net.now }
-    requires arc { step.arc < arc_count net.now }
-    ensures { IsTrue result ↔ IsEntering net.now (amounts flow.now) tree.now step.arc step.back }
-{
-    let start = step.start(net) as usize;
-    let end = step.end(net) as usize;
-    tree[start].rank == 0 && tree[end].rank > 0 && step.is_open(net, flow)
-}
-
-/// Lowers the potentials outside the trees.
-fn lower(potential: &mut [i32], tree: &[Place], by: i32)
-    requires nodes { length tree.now ≡ length potential.old }
-    requires low { (v : ℕ) → v < length potential.old → negsuc 1073741823 ≤ℤ at_nodes potential.old v }
-    requires by { (pos 0 ≤ℤ by) × (by ≤ℤ pos 1026) }
-    ensures { (v : ℕ) → v < length potential.new → at_nodes potential.new v ≡ lowered tree.now (at_nodes potential.old) by v }
-{
-    for v in 0..tree.len() {
-        potential[v] = fallen(potential[v], tree[v].rank, by);
+    let arc = look(ground.arcs, number, looks);
+    let end = usize::from(arc.end);
+    let offered = offered_label(label[node], arc.code);
+    if offered < label[end] {
+        let step = Step {
+            number,
+            end,
+            label: offered,
+        };
+        reach(ground, label, enter, order, place, progress, step);
     }
 }
 
-/// A potential after lowering: less by an amount outside the trees, where the rank is 0.
-fn fallen(potential: i32, rank: u32, by: i32) -> i32
-    requires low { negsuc 1073741823 ≤ℤ potential }
-    requires by { (pos 0 ≤ℤ by) × (by ≤ℤ pos 1026) }
-    ensures { result ≡ (if rank == 0 then potential -ℤ by else potential) }
+/// What a residual arc offers to its end.
+fn offered_label(label: i32, code: i16) -> i32
+    requires label { (negsuc 1073741823 ≤ℤ label) × (label ≤ℤ pos 1073741823) }
+    ensures { result ≡ label +ℤ code }
 {
-    if rank == 0 { potential - by } else { potential }
+    label + i32::from(code)
 }

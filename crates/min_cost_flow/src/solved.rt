@@ -8,20 +8,27 @@ use std::marker::Model;
 pub struct Solved {
     flow: Vec<u32>,
     potential: Vec<i32>,
+    searches: u32,
+    looks: u64,
 }
 
 impl Model for Solved {
     ghost Value = { Answer };
 
-    ghost view = { λ s. record { flow = s.flow.items; potential = s.potential.items } };
+    ghost view = { λ s. record { flow = s.flow.items; potential = s.potential.items; searches = s.searches; looks = s.looks } };
 }
 
 impl Solved {
     /// The solution with these amounts by arc and these potentials by node.
-    pub(crate) fn new(flow: Vec<u32>, potential: Vec<i32>) -> Solved
-        ensures { result ≡ record { flow = flow.items; potential = potential.items } }
+    pub(crate) fn new(flow: Vec<u32>, potential: Vec<i32>, searches: u32, looks: u64) -> Solved
+        ensures { result ≡ record { flow = flow.items; potential = potential.items; searches = searches; looks = looks } }
     {
-        Solved { flow, potential }
+        Solved {
+            flow,
+            potential,
+            searches,
+            looks,
+        }
     }
 
     /// How many units the arc of a number carries.
@@ -38,5 +45,19 @@ impl Solved {
         ensures { result ≡ at_nodes self.now.potential node }
     {
         self.potential[node as usize]
+    }
+
+    /// How many times a path was searched for.
+    pub fn searches(&self) -> u32
+        ensures { result ≡ self.now.searches }
+    {
+        self.searches
+    }
+
+    /// How many times a residual arc was tested, in all searches.
+    pub fn looks(&self) -> u64
+        ensures { result ≡ self.now.looks }
+    {
+        self.looks
     }
 }

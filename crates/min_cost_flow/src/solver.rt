@@ -1,16 +1,19 @@
-//! The plain solver: search, send, and again, until nothing is left over.
-ghost use Rattle.std.specs.Prelude.{◌≡◌, ◌≢◌, ◌<◌, ◌≤◌, ◌+◌, ℕ, ℤ, length, pos, ◌≤ℤ◌, ◌<ℤ◌, ◌-ℤ◌, IfOk, IfErr, true, false};
+//! Searches from one node after another, and a path sent along after each, until nothing is left over.
+ghost use Rattle.std.specs.Prelude.{◌≡◌, ◌≢◌, ◌<◌, ◌≤◌, ◌+◌, ◌*◌, ◌^◌, ℕ, ℤ, List, length, pos, negsuc, ◌≤ℤ◌, ◌<ℤ◌, ◌+ℤ◌, ◌-ℤ◌, IfOk, IfErr, IfSome, IfNone, true, false};
 ghost use Rattle.min_cost_flow.specs.declared.solver.SolveFault.TheVariants.{Memory};
-ghost use Rattle.min_cost_flow.specs.Net.{arc_count, node_count, IsNetwork};
+ghost use Rattle.min_cost_flow.specs.Net.{arc_count, arc_at, node_count, supply_at, IsNetwork};
 ghost use Rattle.min_cost_flow.specs.Flow.{amounts, at_nodes, Flow, HasPotentials, HasNoFlow, Solves};
-ghost use Rattle.min_cost_flow.specs.Excess.{KeepsCaps, Leaves};
-ghost use Rattle.min_cost_flow.specs.Round.{left_over, IsRound};
-ghost use Rattle.min_cost_flow.specs.Tree.{rank_at, IsForest, IsTight, IsOpen, IsWanting, HasSpace};
+ghost use Rattle.min_cost_flow.specs.Layout.{numbers, limit_of, IsLaidOut, IsFilled, carried};
+ghost use Rattle.min_cost_flow.specs.Search.{far, IsPut};
+ghost use Rattle.min_cost_flow.specs.Round.{left_over, carrying, supply_sum, IsRound, IsLess, IsWork, IsDone, HasSupply, IsWithinReach};
 
+use crate::augment::send;
+use crate::build::lay_out;
 use crate::network::Network;
+use crate::reach::{FAR, Ground};
+use crate::residual::{Layout, ResidualArc};
 use crate::search::search;
 use crate::solved::Solved;
-use crate::tree::{Place, route};
 use std::alloc::{AllocError, Global};
 use thiserror::Error;
 
@@ -33,110 +36,156 @@ impl From<AllocError> for SolveFault {
     }
 }
 
+
+/// How much work was done: searches, and looks at residual arcs in them.
+#[derive(Clone, Copy, Debug, PartialEq, Eq)]
+struct Work {
+    searches: u32,
+    looks: u64,
+}
+
 /// A flow of least cost that meets all supplies, with potentials that show it. `Infeasible` comes
 /// exactly where there is no flow, memory aside, and `Memory` where an allocation was refused.
 ///
-/// It takes memory for a number and a potential for each arc and node, all before it begins. Each
-/// round sends at least one unit and looks at each arc once for each node that its search reaches.
+/// All memory is taken before it begins. Each search sends at least one unit, so there are no more
+/// searches than units are supplied, and looks at each residual arc once at most, so there are no
+/// more looks than twice the number of arcs a search. The potentials are at most twice the number of
+/// nodes in absolute value.
 pub fn solve(alloc: Global, network: &Network) -> Result<Solved, SolveFault>
     ensures ok { IfOk result (λ solved. Solves network.now solved) }
     ensures infeasible { IfErr result (λ fault. fault ≡ SolveFault.Infeasible → HasNoFlow network.now) }
+    ensures searches { IfOk result (λ solved. solved.searches ≤ supply_sum network.now) }
+    ensures looks { IfOk result (λ solved. solved.looks ≤ solved.searches * (2 * arc_count network.now)) }
+    ensures begun { IfOk result (λ solved. HasSupply network.now → 1 ≤ solved.searches) }
+    ensures carrying { IfOk result (λ solved. carrying network.now (amounts solved.flow) ≤ solved.looks) }
+    ensures reach { IfOk result (λ solved. IsWithinReach network.now (at_nodes solved.potential)) }
 {
     let nodes = network.node_count();
-    let arcs = network.arc_count();
-    let outside = Place {
-        rank: 0,
-        step: None,
-    };
-    let mut flow = vec![in alloc; 0; arcs]?;
+    let arc_count = network.arc_count();
+    let shut = ResidualArc { end: 0, code: 0 };
+    let mut first = vec![in alloc; 0; nodes + 1]?;
+    let mut reverse = vec![in alloc; 0; 2 * arc_count]?;
+    let mut flow = vec![in alloc; 0; arc_count]?;
+    let mut arcs = vec![in alloc; shut; 2 * arc_count]?;
+    let mut room = vec![in alloc; 0; 2 * arc_count]?;
     let mut potential = vec![in alloc; 0; nodes]?;
-    let mut tree = vec![in alloc; outside; nodes]?;
     let mut excess = Vec::from_slice(alloc, network.supplies())?;
-    if run(network, &mut flow, &mut potential, &mut excess, &mut tree) {
-        Ok(Solved::new(flow, potential))
-    } else {
-        Err(SolveFault::Infeasible)
+    let mut score = vec![in alloc; 0; nodes]?;
+    let mut label = vec![in alloc; FAR; nodes]?;
+    let mut enter = vec![in alloc; 0; nodes]?;
+    let mut order = vec![in alloc; 0; nodes]?;
+    let mut place = vec![in alloc; 0; nodes]?;
+    let done = fill(
+        network, &mut first, &mut reverse, &mut flow, &mut arcs, &mut room, &mut potential, &mut excess,
+        &mut score, &mut label, &mut enter, &mut order, &mut place,
+    );
+    match done {
+        Some(work) => Ok(Solved::new(flow, potential, work.searches, work.looks)),
+        None => Err(SolveFault::Infeasible),
     }
 }
 
-/// Sends all that is left over to where it is wanting, at least cost; whether that can be done.
-fn run(
-    net: &Network,
+/// Lays out the residual arcs, sends all units, and writes what each arc carries.
+fn fill(
+    network: &Network,
+    first: &mut [u32],
+    reverse: &mut [u32],
     flow: &mut [u32],
+    arcs: &mut [ResidualArc],
+    room: &mut [u32],
     potential: &mut [i32],
     excess: &mut [i32],
-    tree: &mut [Place],
-) -> bool
-    requires network { IsNetwork net.now }
-    requires arcs { length flow.old ≡ arc_count net.now }
-    requires prices { length potential.old ≡ node_count net.now }
-    requires sizes { length excess.old ≡ node_count net.now }
-    requires nodes { length tree.old ≡ node_count net.now }
-    requires round { IsRound net.now (amounts flow.old) (at_nodes potential.old) (at_nodes excess.old) }
-    ensures flow { result ≡ true → Flow net.now (amounts flow.new) }
-    ensures priced { result ≡ true → HasPotentials net.now (amounts flow.new) (at_nodes potential.new) }
-    ensures no_flow { result ≡ false → HasNoFlow net.now }
+    score: &mut [i32],
+    label: &mut [i32],
+    enter: &mut [u32],
+    order: &mut [u32],
+    place: &mut [u32],
+) -> Option<Work>
+    requires network { IsNetwork network.now }
+    requires starts { length first.old ≡ node_count network.now + 1 }
+    requires reverses { length reverse.old ≡ arc_count network.now + arc_count network.now }
+    requires flows { length flow.old ≡ arc_count network.now }
+    requires codes { length arcs.old ≡ arc_count network.now + arc_count network.now }
+    requires rooms { length room.old ≡ arc_count network.now + arc_count network.now }
+    requires potentials { length potential.old ≡ node_count network.now }
+    requires excesses { length excess.old ≡ node_count network.now }
+    requires scores { length score.old ≡ node_count network.now }
+    requires labels { length label.old ≡ node_count network.now }
+    requires enters { length enter.old ≡ node_count network.now }
+    requires orders { length order.old ≡ node_count network.now }
+    requires places { length place.old ≡ node_count network.now }
+    requires flat { (v : ℕ) → at_nodes potential.old v ≡ pos 0 }
+    requires full { (v : ℕ) → at_nodes excess.old v ≡ supply_at network.now v }
+    requires blank { (v : ℕ) → v < node_count network.now → at_nodes label.old v ≡ far }
+    ensures done { IfSome result (λ work. IsDone network.now (amounts flow.new) (at_nodes potential.new) work.searches work.looks) }
+    ensures no_flow { IfNone result (HasNoFlow network.now) }
 {
-    while has_source(excess) {
-        let Some(node) = search(net, flow, potential, excess, tree) else {
-            return false;
-        };
-        send(net, tree, flow, excess, node);
+    lay_out(network, first, reverse, flow, arcs, room);
+    rank(network, score);
+    let layout = Layout {
+        network,
+        first,
+        reverse,
+        forward: flow,
+    };
+    match run(layout, arcs, room, potential, excess, score, label, enter, order, place) {
+        Some(work) => {
+            read_flow(reverse, room, flow);
+            Some(work)
+        }
+        None => None,
     }
-    !has_deficit(excess)
 }
 
-/// Sends what it can of what is left over at a node of the forest down to its root.
-fn send(net: &Network, tree: &[Place], flow: &mut [u32], excess: &mut [i32], node: u32)
-    requires arcs { length flow.old ≡ arc_count net.now }
-    requires sizes { length excess.old ≡ node_count net.now }
-    requires nodes { length tree.now ≡ node_count net.now }
-    requires node { node < node_count net.now }
-    requires placed { 0 < rank_at tree.now node }
-    requires source { pos 0 <ℤ at_nodes excess.old node }
-    requires forest { IsForest net.now tree.now }
-    requires unblocked { IsOpen net.now (amounts flow.old) tree.now }
-    requires wanting { IsWanting net.now (at_nodes excess.old) tree.now }
-    requires caps { KeepsCaps net.now (amounts flow.old) }
-    requires leaves { Leaves net.now (amounts flow.old) (at_nodes excess.old) }
-    requires fair { (v : ℕ) → v < node_count net.now → at_nodes excess.old v ≤ℤ pos 2048 }
-    requires room { HasSpace net.now (amounts flow.old) (left_over net.now (at_nodes excess.old)) }
-    ensures round { (p : ℕ → ℤ) → IsTight net.now p tree.now →
-        IsRound net.now (amounts flow.old) p (at_nodes excess.old) →
-        IsRound net.now (amounts flow.new) p (at_nodes excess.new) }
-    ensures less { left_over net.now (at_nodes excess.new) < left_over net.now (at_nodes excess.old) }
+/// Sends all that is left over at any node, and gives how much work that was; none where it cannot be
+/// done, or where units are wanting still.
+fn run(
+    layout: Layout<'_>,
+    arcs: &mut [ResidualArc],
+    room: &mut [u32],
+    potential: &mut [i32],
+    excess: &mut [i32],
+    score: &[i32],
+    label: &mut [i32],
+    enter: &mut [u32],
+    order: &mut [u32],
+    place: &mut [u32],
+) -> Option<Work>
+    requires network { IsNetwork layout.network.now }
+    requires laid_out { IsLaidOut layout.network.now layout.first.now layout.reverse.now layout.forward.now }
+    requires limits { (i : ℕ) → i < arc_count layout.network.now → limit_of (arc_at layout.network.now i).cap < 2 ^ 32 }
+    requires potentials { length potential.old ≡ node_count layout.network.now }
+    requires excesses { length excess.old ≡ node_count layout.network.now }
+    requires scores { length score.now ≡ node_count layout.network.now }
+    requires labels { length label.old ≡ node_count layout.network.now }
+    requires enters { length enter.old ≡ node_count layout.network.now }
+    requires orders { length order.old ≡ node_count layout.network.now }
+    requires places { length place.old ≡ node_count layout.network.now }
+    requires filled { IsFilled layout.network.now layout.reverse.now layout.forward.now arcs.old room.old }
+    requires round { IsRound layout.network.now (carried layout.reverse.now layout.forward.now room.old) (at_nodes potential.old) (at_nodes excess.old) }
+    requires blank { (v : ℕ) → v < node_count layout.network.now → at_nodes label.old v ≡ far }
+    requires none { (i : ℕ) → i < arc_count layout.network.now → carried layout.reverse.now layout.forward.now room.old i ≡ 0 }
+    requires full { (v : ℕ) → at_nodes excess.old v ≡ supply_at layout.network.now v }
+    ensures done { IfSome result (λ work. IsDone layout.entry.network.now (carried layout.entry.reverse.now layout.entry.forward.now room.new) (at_nodes potential.new) work.searches work.looks) }
+    ensures filled { IfSome result (λ _. IsFilled layout.entry.network.now layout.entry.reverse.now layout.entry.forward.now arcs.new room.new) }
+    ensures no_flow { IfNone result (HasNoFlow layout.entry.network.now) }
 {
-    let most = units_at(excess, node);
-    let sent = route(net, tree, flow, excess, node, most);
-    give(excess, node, sent);
-}
-
-/// How many units are left over at a node.
-fn units_at(excess: &[i32], node: u32) -> u32
-    requires node { node < length excess.now }
-    requires source { pos 0 <ℤ at_nodes excess.now node }
-    ensures { pos result ≡ at_nodes excess.now node }
-{
-    excess[node as usize] as u32
-}
-
-/// Gives away units that are left over at a node.
-fn give(excess: &mut [i32], node: u32, amount: u32)
-    requires node { node < length excess.old }
-    requires few { amount ≤ 2097152 }
-    requires there { pos amount ≤ℤ at_nodes excess.old node }
-    ensures here { at_nodes excess.new node ≡ at_nodes excess.old node -ℤ pos amount }
-    ensures others { (v : ℕ) → v ≢ node → at_nodes excess.new v ≡ at_nodes excess.old v }
-{
-    excess[node as usize] -= amount as i32;
-}
-
-/// Whether units are left over at a node.
-fn has_source(excess: &[i32]) -> bool
-    ensures some { result ≡ true → (v : ℕ) × (v < length excess.now) × (pos 0 <ℤ at_nodes excess.now v) }
-    ensures none { result ≡ false → (v : ℕ) → v < length excess.now → at_nodes excess.now v ≤ℤ pos 0 }
-{
-    excess.iter().any(|units| *units > 0)
+    let mut work = Work {
+        searches: 0,
+        looks: 0,
+    };
+    for source in 0..excess.len() {
+        if !drain(
+            layout, arcs, room, potential, excess, score, label, enter, order, place, source,
+            &mut work,
+        ) {
+            return None;
+        }
+    }
+    if has_deficit(excess) {
+        return None;
+    }
+    Some(work)
 }
 
 /// Whether units are wanting at a node.
@@ -145,4 +194,200 @@ fn has_deficit(excess: &[i32]) -> bool
     ensures none { result ≡ false → (v : ℕ) → v < length excess.now → pos 0 ≤ℤ at_nodes excess.now v }
 {
     excess.iter().any(|units| *units < 0)
+}
+
+/// Ranks each node for ties among those that are as near: what it wants, less what can come to it at
+/// no cost from where units are supplied. No result rests on it.
+fn rank(network: &Network, score: &mut [i32])
+    requires network { IsNetwork network.now }
+    requires size { length score.old ≡ node_count network.now }
+{
+    score.copy_from_slice(network.supplies());
+    for i in 0..network.arc_count() {
+        let arc = network.arc(i as u32);
+        if arc.cost == 0 {
+            let end = arc.to as usize;
+            score[end] = score[end].saturating_add(network.supply(arc.from).max(0));
+        }
+    }
+}
+
+/// Writes what each arc carries where the number of the residual arc along it stood.
+fn read_flow(reverse: &[u32], room: &[u32], flow: &mut [u32])
+    requires reverses { (i : ℕ) → i < length flow.old → numbers flow.old i < length reverse.now }
+    requires rooms { (i : ℕ) → i < length flow.old → numbers reverse.now (numbers flow.old i) < length room.now }
+    requires small { length flow.old ≤ 4096 }
+    requires sizes { (length reverse.now ≤ 8192) × (length room.now ≤ 8192) }
+    ensures { (i : ℕ) → i < length flow.new → amounts flow.new i ≡ carried reverse.now flow.old room.now i }
+{
+    for along in flow.iter_mut() {
+        *along = room[reverse[*along as usize] as usize];
+    }
+}
+
+/// Sends all that is left over at a node to where it is wanting; whether that can be done.
+fn drain(
+    layout: Layout<'_>,
+    arcs: &mut [ResidualArc],
+    room: &mut [u32],
+    potential: &mut [i32],
+    excess: &mut [i32],
+    score: &[i32],
+    label: &mut [i32],
+    enter: &mut [u32],
+    order: &mut [u32],
+    place: &mut [u32],
+    source: usize,
+    work: &mut Work,
+) -> bool
+    requires network { IsNetwork layout.network.now }
+    requires laid_out { IsLaidOut layout.network.now layout.first.now layout.reverse.now layout.forward.now }
+    requires limits { (i : ℕ) → i < arc_count layout.network.now → limit_of (arc_at layout.network.now i).cap < 2 ^ 32 }
+    requires potentials { length potential.old ≡ node_count layout.network.now }
+    requires excesses { length excess.old ≡ node_count layout.network.now }
+    requires scores { length score.now ≡ node_count layout.network.now }
+    requires labels { length label.old ≡ node_count layout.network.now }
+    requires enters { length enter.old ≡ node_count layout.network.now }
+    requires orders { length order.old ≡ node_count layout.network.now }
+    requires places { length place.old ≡ node_count layout.network.now }
+    requires filled { IsFilled layout.network.now layout.reverse.now layout.forward.now arcs.old room.old }
+    requires round { IsRound layout.network.now (carried layout.reverse.now layout.forward.now room.old) (at_nodes potential.old) (at_nodes excess.old) }
+    requires blank { (v : ℕ) → v < node_count layout.network.now → at_nodes label.old v ≡ far }
+    requires work { IsWork layout.network.now (carried layout.reverse.now layout.forward.now room.old) (at_nodes excess.old) work.old.searches work.old.looks }
+    requires source { source < node_count layout.network.now }
+    ensures filled { result ≡ true → IsFilled layout.entry.network.now layout.entry.reverse.now layout.entry.forward.now arcs.new room.new }
+    ensures round { result ≡ true → IsRound layout.entry.network.now (carried layout.entry.reverse.now layout.entry.forward.now room.new) (at_nodes potential.new) (at_nodes excess.new) }
+    ensures blank { result ≡ true → (v : ℕ) → v < node_count layout.entry.network.now → at_nodes label.new v ≡ far }
+    ensures work { result ≡ true → IsWork layout.entry.network.now (carried layout.entry.reverse.now layout.entry.forward.now room.new) (at_nodes excess.new) work.new.searches work.new.looks }
+    ensures here { result ≡ true → at_nodes excess.new source ≤ℤ pos 0 }
+    ensures done { result ≡ true → (v : ℕ) → v < node_count layout.entry.network.now → at_nodes excess.old v ≤ℤ pos 0 → at_nodes excess.new v ≤ℤ pos 0 }
+    ensures no_flow { result ≡ false → HasNoFlow layout.entry.network.now }
+{
+    let mut searches = work.searches;
+    let mut looks = work.looks;
+    'units: while excess[source] > 0 {
+        if !augment_once(
+            layout, arcs, room, potential, excess, score, label, enter, order, place, source,
+            &mut looks,
+        ) {
+            return false;
+        }
+        searches += 1;
+    }
+    *work = Work { searches, looks };
+    true
+}
+
+/// Sends along a path of least cost from a node where units are left over to a node where units are
+/// wanting; whether there is one.
+fn augment_once(
+    layout: Layout<'_>,
+    arcs: &mut [ResidualArc],
+    room: &mut [u32],
+    potential: &mut [i32],
+    excess: &mut [i32],
+    score: &[i32],
+    label: &mut [i32],
+    enter: &mut [u32],
+    order: &mut [u32],
+    place: &mut [u32],
+    source: usize,
+    looks: &mut u64,
+) -> bool
+    requires network { IsNetwork layout.network.now }
+    requires laid_out { IsLaidOut layout.network.now layout.first.now layout.reverse.now layout.forward.now }
+    requires filled { IsFilled layout.network.now layout.reverse.now layout.forward.now arcs.old room.old }
+    requires round { IsRound layout.network.now (carried layout.reverse.now layout.forward.now room.old) (at_nodes potential.old) (at_nodes excess.old) }
+    requires potentials { length potential.old ≡ node_count layout.network.now }
+    requires excesses { length excess.old ≡ node_count layout.network.now }
+    requires scores { length score.now ≡ node_count layout.network.now }
+    requires labels { length label.old ≡ node_count layout.network.now }
+    requires enters { length enter.old ≡ node_count layout.network.now }
+    requires orders { length order.old ≡ node_count layout.network.now }
+    requires places { length place.old ≡ node_count layout.network.now }
+    requires blank { (v : ℕ) → v < node_count layout.network.now → at_nodes label.old v ≡ far }
+    requires source { source < node_count layout.network.now }
+    requires left { pos 0 <ℤ at_nodes excess.old source }
+    requires limits { (i : ℕ) → i < arc_count layout.network.now → limit_of (arc_at layout.network.now i).cap < 2 ^ 32 }
+    requires few { looks.old < 2 ^ 61 }
+    ensures filled { result ≡ true → IsFilled layout.entry.network.now layout.entry.reverse.now layout.entry.forward.now arcs.new room.new }
+    ensures round { result ≡ true → IsRound layout.entry.network.now (carried layout.entry.reverse.now layout.entry.forward.now room.new) (at_nodes potential.new) (at_nodes excess.new) }
+    ensures blank { result ≡ true → (v : ℕ) → v < node_count layout.entry.network.now → at_nodes label.new v ≡ far }
+    ensures less { result ≡ true → IsLess layout.entry.network.now (at_nodes excess.old) (at_nodes excess.new) }
+    ensures carrying { result ≡ true → carrying layout.entry.network.now (carried layout.entry.reverse.now layout.entry.forward.now room.new) + looks.old ≤ carrying layout.entry.network.now (carried layout.entry.reverse.now layout.entry.forward.now room.old) + looks.new }
+    ensures looks { looks.new ≤ looks.old + 2 * arc_count layout.entry.network.now }
+    ensures no_flow { result ≡ false → HasNoFlow layout.entry.network.now }
+{
+    let ground = Ground {
+        first: layout.first,
+        arcs,
+        potential,
+        excess,
+        score,
+        source,
+    };
+    let progress = search(ground, label, enter, order, place, looks);
+    if progress.cut == FAR {
+        return false;
+    }
+    move_potentials(order, label, potential, progress.head, progress.cut);
+    clear(order, label, progress.reached);
+    send(layout, arcs, room, enter, place, potential, excess, source, progress.found);
+    true
+}
+
+/// Moves the potentials of the nodes that were scanned by as much as they are nearer than the cut.
+fn move_potentials(
+    order: &[u32],
+    label: &[i32],
+    potential: &mut [i32],
+    scanned: usize,
+    cut: i32,
+)
+    requires order { scanned ≤ length order.now }
+    requires small { length potential.old ≤ 1024 }
+    requires nodes { (j : ℕ) → j < scanned → numbers order.now j < length potential.old }
+    requires sizes { length label.now ≡ length potential.old }
+    requires labels { (j : ℕ) → j < scanned → (negsuc 1073741823 ≤ℤ at_nodes label.now (numbers order.now j)) × (at_nodes label.now (numbers order.now j) ≤ℤ pos 1073741823) }
+    requires cut { (negsuc 1073741822 ≤ℤ cut) × (cut ≤ℤ pos 1073741823) }
+    ensures moved { (j : ℕ) → j < scanned → at_nodes potential.new (numbers order.now j) ≡ at_nodes label.now (numbers order.now j) -ℤ cut }
+    ensures others { (v : ℕ) → ((j : ℕ) → j < scanned → numbers order.now j ≢ v) → at_nodes potential.new v ≡ at_nodes potential.old v }
+{
+    for j in 0..scanned {
+        let node = order[j] as usize;
+        write_potential(potential, node, label[node], cut);
+    }
+}
+
+/// Gives a node its label less the cut for a potential.
+fn write_potential(potential: &mut [i32], node: usize, label: i32, cut: i32)
+    requires node { node < length potential.old }
+    requires small { node < 1024 }
+    requires label { (negsuc 1073741823 ≤ℤ label) × (label ≤ℤ pos 1073741823) }
+    requires cut { (negsuc 1073741822 ≤ℤ cut) × (cut ≤ℤ pos 1073741823) }
+    ensures { IsPut (at_nodes potential.old) (at_nodes potential.new) node (label -ℤ cut) }
+{
+    potential[node] = label - cut;
+}
+
+/// Takes the labels of the nodes that were reached away.
+fn clear(order: &[u32], label: &mut [i32], reached: usize)
+    requires order { reached ≤ length order.now }
+    requires small { length label.old ≤ 1024 }
+    requires nodes { (j : ℕ) → j < reached → numbers order.now j < length label.old }
+    ensures cleared { (j : ℕ) → j < reached → at_nodes label.new (numbers order.now j) ≡ far }
+    ensures others { (v : ℕ) → at_nodes label.old v ≡ far → at_nodes label.new v ≡ far }
+{
+    for j in 0..reached {
+        write_far(label, order[j] as usize);
+    }
+}
+
+/// Takes the label of a node away.
+fn write_far(label: &mut [i32], node: usize)
+    requires node { node < length label.old }
+    requires small { node < 1024 }
+    ensures { IsPut (at_nodes label.old) (at_nodes label.new) node far }
+{
+    label[node] = FAR;
 }

@@ -1,46 +1,96 @@
-use Rattle.std.proofs.Common.{rules, ◌≡◌, ℤ, pos, ◌≤ℤ◌, ◌<ℤ◌, w32, to_z, of_z, true, false, arith}
-use Rattle.std.proofs.lemmas.Int.{ints, to_z-of_z}
-use lib.Signed.{lt_z}
-use mir.Val.{SFits}
-use Rattle.min_cost_flow.specs.Flow.{amounts, at_nodes}
-use Rattle.min_cost_flow.proofs.Rounds.{IsPlanted, planted_grown, planted_suits, planted_none, none_more, hit_round}
+use Rattle.std.proofs.Common.{rules, ◌≡◌, ◌≢◌, ◌<◌, ◌≤◌, ◌⊎◌, ◌+◌, ℕ, arith, refl, inl, inr, ap, subst, sym, ◌∙◌}
+use Rattle.std.proofs.lemmas.Bool.{cases_lt, cases_eq}
+use Rattle.std.proofs.lemmas.Int.{to_z-of_z}
+use Rattle.std.specs.Prelude.{length, pos, ℤ, ◌-ℤ◌, ◌+ℤ◌, ◌≤ℤ◌, ◌<ℤ◌}
+use mir.Syntax.{w32}
+use mir.Val.{SFits, of_z, to_z}
+use Rattle.min_cost_flow.specs.Flow.{at_nodes}
+use Rattle.min_cost_flow.specs.Layout.{numbers, end_at, StartsAt}
+use Rattle.min_cost_flow.specs.Search.{nodes_of, far, degree, looked, IsKept, IsServed, IsReached, Serves}
+use Rattle.min_cost_flow.proofs.Signs.{passed_within, passed_is, difference_is, same_from_bits}
+use Rattle.std.proofs.lemmas.Bool.{not-false, not-true}
+use Rattle.min_cost_flow.proofs.Reaching.{served_kept, same_le, order_kept, looked_most, looked_same, looked_more}
 use Rattle.min_cost_flow.proofs.search.search.Goals as goal
 
-pub loop-node-init : goal.loop-node-init
-loop-node-init c =
-    let net = c.args.net.now in
-    let e = at_nodes c.args.excess.now in
-    let pl : IsPlanted net e c.plant.new.tree = record { root = λ v b w. c.plant.ensures.root v (omega arith) w; others = λ v b o. c.plant.ensures.others v (omega arith) o } in
+pub begin-progress-requires : goal.begin-progress-requires
+begin-progress-requires c = record {
+  ground = c.requires.ground;
+  sizes = (omega (arith, c.requires.sizes), omega (arith, c.requires.sizes), omega (arith, c.requires.sizes), omega (arith, c.requires.sizes));
+  blank = c.requires.blank;
+  source = c.requires.source;
+}
+
+pub nodes-init : goal.nodes-init
+nodes-init c =
+    let e = c.begin-progress.ensures in
     record {
-      grown = planted_grown net (amounts c.args.flow.now) (at_nodes c.args.potential.now) e c.plant.new.tree c.requires.round pl;
-      suits = planted_suits net (amounts c.args.flow.now) (at_nodes c.args.potential.now) e c.plant.new.tree c.requires.round pl;
-      none = planted_none net e c.plant.new.tree pl;
+      reached = e.reached c.args.enter.now;
+      nearest = e.nearest;
+      served = record { served = λ u k b l d st. absurd (omega (arith, e.head)) };
+      looks = rw e.head (omega arith);
     }
 
-not_more : (z : ℤ) → SFits w32 z → lt_z (pos 0) (to_z w32 (of_z w32 z)) ≡ false → z ≤ℤ pos 0
-not_more z f h = let k : lt_z (pos 0) z ≡ false = simp to_z-of_z at h in grind (arith, ints)
+pub goes_on-requires : goal.goes_on-requires
+goes_on-requires c = record {
+  ground = c.requires.ground;
+  sizes = (omega (arith, c.requires.sizes), omega (arith, c.requires.sizes), omega (arith, c.requires.sizes), omega (arith, c.requires.sizes));
+  reached = c.nodes.invariant.reached;
+  nearest = c.nodes.invariant.nearest;
+}
 
-more : (z : ℤ) → SFits w32 z → lt_z (pos 0) (to_z w32 (of_z w32 z)) ≡ true → pos 0 <ℤ z
-more z f h = let k : lt_z (pos 0) z ≡ true = simp to_z-of_z at h in grind (arith, ints)
-
-pub loop-node-preserved : goal.loop-node-preserved
-loop-node-preserved c =
-    let net = c.args.net.now in
-    let e = at_nodes c.args.excess.now in
-    let f : SFits w32 (at_nodes c.args.excess.now c.in-Some.node) = search rules in
-    let here : at_nodes c.args.excess.now c.in-Some.node ≤ℤ pos 0 = not_more (at_nodes c.args.excess.now c.in-Some.node) f c.if-excess-node-gt0.false in
+pub scan-requires : goal.scan-requires
+scan-requires c =
+    let i = c.nodes.invariant in
+    let e = c.goes_on.ensures in
+    let g = c.requires.ground.graph in
+    let most : looked c.args.ground.first.now (numbers c.nodes.order) c.nodes.progress.head ≤ length c.args.ground.arcs.now = looked_most _ _ _ _ _ _ _ _ _ _ _ _ _ _ g i.reached in
+    let few : length c.args.ground.arcs.now ≤ 8192 = g.few in
+    let heads : c.goes_on.new.progress.head ≡ c.nodes.progress.head = e.head in
     record {
-      grown = c.extend.ensures.grown;
-      suits = c.extend.ensures.suits e c.loop-node.invariant.suits c.loop-node.invariant.none;
-      none = none_more net e c.loop-node.tree c.extend.new.tree c.in-Some.node c.in-Some.ensures.adds here c.loop-node.invariant.none;
+      ground = c.requires.ground;
+      sizes = (omega (arith, c.requires.sizes), omega (arith, c.requires.sizes), omega (arith, c.requires.sizes), omega (arith, c.requires.sizes));
+      reached = e.reached;
+      nearest = e.nearest;
+      served = subst (λ (h : ℕ). IsServed (nodes_of c.args.ground) c.args.ground.first.now c.args.ground.arcs.now (at_nodes c.args.ground.potential.now) (at_nodes c.nodes.label) (numbers c.goes_on.new.place) c.goes_on.new.progress.cut h) (sym heads) (served_kept _ _ _ _ _ _ _ _ _ _ _ g i.served e.kept (same_le _ _ e.cut));
+      more = e.more c.if-not-goes_on.false;
+      few = omega (arith, i.looks, c.requires.few);
     }
 
-pub returns-then-excess-node-gt0-clause-round : goal.returns-then-excess-node-gt0-clause-round
-returns-then-excess-node-gt0-clause-round c =
-    let net = c.args.net.now in
-    let e = at_nodes c.args.excess.now in
-    let f : SFits w32 (at_nodes c.args.excess.now c.in-Some.node) = search rules in
-    let over : pos 0 <ℤ at_nodes c.args.excess.now c.in-Some.node = more (at_nodes c.args.excess.now c.in-Some.node) f c.if-excess-node-gt0.true in
-    hit_round net (amounts c.args.flow.now) (at_nodes c.args.potential.now) (at_nodes c.extend.new.potential) e c.extend.new.tree c.in-Some.node c.requires.network c.requires.round c.extend.ensures.grown
-    (c.extend.ensures.suits e c.loop-node.invariant.suits c.loop-node.invariant.none)
-    c.in-Some.ensures.adds.node c.in-Some.ensures.adds.placed over
+pub nodes-smaller : goal.nodes-smaller
+nodes-smaller c = omega (arith, c.goes_on.ensures.head, c.scan.ensures.head, c.scan.ensures.reached.counts)
+
+pub nodes-preserved : goal.nodes-preserved
+nodes-preserved c =
+    let i = c.nodes.invariant in
+    let e = c.goes_on.ensures in
+    let f = c.scan.ensures in
+    let one : (j : ℕ) → j < c.nodes.progress.head → numbers c.goes_on.new.order j ≡ numbers c.nodes.order j = order_kept _ _ _ _ _ _ _ _ _ _ _ _ _ _ _ _ _ _ _ _ _ _ _ i.reached e.reached e.kept (omega (arith, i.reached.counts)) in
+    let more : c.goes_on.new.progress.head < c.goes_on.new.progress.ordered = e.more c.if-not-goes_on.false in
+    let two : (j : ℕ) → j < c.goes_on.new.progress.head + 1 → numbers c.scan.new.order j ≡ numbers c.goes_on.new.order j = order_kept _ _ _ _ _ _ _ _ _ _ _ _ _ _ _ _ _ _ _ _ _ _ _ e.reached f.reached f.kept (omega (arith, e.reached.counts)) in
+    let heads : c.goes_on.new.progress.head ≡ c.nodes.progress.head = e.head in
+    let first : looked c.args.ground.first.now (numbers c.goes_on.new.order) c.goes_on.new.progress.head ≡ looked c.args.ground.first.now (numbers c.nodes.order) c.nodes.progress.head = rw heads (looked_same _ _ _ _ one) in
+    let second = looked_more c.args.ground.first.now (numbers c.goes_on.new.order) (numbers c.scan.new.order) c.goes_on.new.progress.head two in
+    record {
+      reached = f.reached;
+      nearest = f.nearest;
+      served = f.served;
+      looks = rw f.head (omega (arith, i.looks, f.looks));
+    }
+
+pub returns-then-not-goes_on : goal.returns-then-not-goes_on
+returns-then-not-goes_on c =
+    let i = c.nodes.invariant in
+    let e = c.goes_on.ensures in
+    let g = c.requires.ground.graph in
+    let heads : c.goes_on.new.progress.head ≡ c.nodes.progress.head = e.head in
+    let one : (j : ℕ) → j < c.nodes.progress.head → numbers c.goes_on.new.order j ≡ numbers c.nodes.order j = order_kept _ _ _ _ _ _ _ _ _ _ _ _ _ _ _ _ _ _ _ _ _ _ _ i.reached e.reached e.kept (omega (arith, i.reached.counts)) in
+    let first : looked c.args.ground.first.now (numbers c.goes_on.new.order) c.goes_on.new.progress.head ≡ looked c.args.ground.first.now (numbers c.nodes.order) c.nodes.progress.head = rw heads (looked_same _ _ _ _ one) in
+    let most : looked c.args.ground.first.now (numbers c.nodes.order) c.nodes.progress.head ≤ length c.args.ground.arcs.now = looked_most _ _ _ _ _ _ _ _ _ _ _ _ _ _ g i.reached in
+    record {
+      reached = e.reached;
+      nearest = e.nearest;
+      served = subst (λ (h : ℕ). IsServed (nodes_of c.args.ground) c.args.ground.first.now c.args.ground.arcs.now (at_nodes c.args.ground.potential.now) (at_nodes c.nodes.label) (numbers c.goes_on.new.place) c.goes_on.new.progress.cut h) (sym heads) (served_kept _ _ _ _ _ _ _ _ _ _ _ g i.served e.kept (same_le _ _ e.cut));
+      left = e.left c.if-not-goes_on.true;
+      looks = omega (arith, i.looks);
+      once = omega (arith, i.looks);
+    }

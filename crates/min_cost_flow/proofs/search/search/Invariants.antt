@@ -1,13 +1,16 @@
-use Rattle.min_cost_flow.specs.Flow.{amounts, at_nodes}
-use Rattle.min_cost_flow.specs.Tree.{outside_count, IsGrown, Suits, HasNoSource}
+use Rattle.std.proofs.Common.{◌≡◌, ◌≤◌, ◌<◌, ◌+◌, ◌-◌, ℕ}
+use Rattle.min_cost_flow.specs.Flow.{at_nodes}
+use Rattle.min_cost_flow.specs.Layout.{numbers}
+use Rattle.min_cost_flow.specs.Search.{nodes_of, looked, Reaches, FindsNearest, IsServed}
 use Rattle.min_cost_flow.proofs.search.search.Given as goal
 
-abbrev pub invariant-loop-node : goal.invariant-loop-node
-invariant-loop-node l = record {
-  grown : IsGrown l.net (amounts l.flow) (at_nodes l.potential) l.tree;
-  suits : Suits l.net (at_nodes l.excess) (at_nodes l.potential) l.tree;
-  none : HasNoSource l.net (at_nodes l.excess) l.tree;
+abbrev pub invariant-nodes : goal.invariant-nodes
+invariant-nodes l = record {
+  reached : Reaches l.ground l.label l.enter l.order l.place l.progress;
+  nearest : FindsNearest l.ground l.label l.place l.progress;
+  served : IsServed (nodes_of l.ground) l.ground.first.now l.ground.arcs.now (at_nodes l.ground.potential.now) (at_nodes l.label) (numbers l.place) l.progress.cut l.progress.head;
+  looks : l.looks ≡ l.initial.looks + looked l.ground.first.now (numbers l.order) l.progress.head
 }
 
-abbrev pub decreases-loop-node : goal.decreases-loop-node
-decreases-loop-node l = outside_count l.net l.tree
+abbrev pub decreases-nodes : goal.decreases-nodes
+decreases-nodes l = nodes_of l.ground - l.progress.head

@@ -1,17 +1,74 @@
-use Rattle.std.proofs.Common.{arith}
-use Rattle.std.proofs.lemmas.Bool.{not-false}
+use Rattle.std.proofs.Common.{rules, ◌≡◌, ◌≢◌, ◌<◌, ◌≤◌, ◌^◌, ◌+◌, ◌*◌, ℕ, List, true, false, length, arith, refl, sym, ◌∙◌, ap, subst, inl, inr}
+use Rattle.std.specs.Prelude.{ℤ, pos, negsuc, ◌+ℤ◌, ◌-ℤ◌, ◌≤ℤ◌, ◌<ℤ◌}
+use Rattle.std.proofs.lemmas.Bool.{cases_lt, not-true, not-false}
+use mir.Syntax.{w32}
+use mir.Val.{SFits, of_z, to_z}
+use Rattle.min_cost_flow.specs.Net.{node_count, arc_count, arc_at}
 use Rattle.min_cost_flow.specs.Flow.{amounts, at_nodes}
-use Rattle.min_cost_flow.proofs.Rounds.{no_flow_closed, no_flow_wanting}
+use Rattle.min_cost_flow.specs.Layout.{numbers, place_of, limit_of, StartsAt, carried}
+use Rattle.min_cost_flow.specs.Round.{carrying, left_over, IsRound, IsWork, IsDone}
+use Rattle.min_cost_flow.proofs.Rounds.{first_work, done_at, no_flow_wanting}
 use Rattle.min_cost_flow.proofs.solver.run.Goals as goal
 
-pub returns-in_default-clause-no_flow : goal.returns-in_default-clause-no_flow
-returns-in_default-clause-no_flow c h =
-    let (u, b, over) = c.has_source.ensures.some c.loop-flow-test.true in
-    no_flow_closed c.args.net.now (amounts c.loop-flow.flow) (at_nodes c.loop-flow.excess) c.search.new.tree u c.requires.network.ends c.loop-flow.invariant.leaves
-    c.in_default.ensures.closed c.in_default.ensures.no_source c.search.ensures.inside (omega arith) over
+pub loop-source-init : goal.loop-source-init
+loop-source-init c = record {
+  filled = c.requires.filled;
+  round = c.requires.round;
+  blank = c.requires.blank;
+  work = first_work _ _ _ c.requires.none c.requires.full;
+  done = λ v b. absurd (omega arith);
+}
 
-pub returns-clause-no_flow : goal.returns-clause-no_flow
-returns-clause-no_flow c h =
-    let (u, b, under) = c.has_deficit.ensures.some (not-false c.has_deficit.result h) in
-    no_flow_wanting c.args.net.now (amounts c.loop-flow.flow) (at_nodes c.loop-flow.excess) u c.requires.network.ends c.loop-flow.invariant.leaves
-    (λ v d. c.has_source.ensures.none c.loop-flow-test.false v (omega arith)) (omega arith) under
+pub drain-requires : goal.drain-requires
+drain-requires c =
+    let i = c.loop-source.invariant in
+    record {
+      network = c.requires.network;
+      laid_out = c.requires.laid_out;
+      limits = c.requires.limits;
+      potentials = omega (arith, c.requires.potentials);
+      excesses = omega (arith, c.requires.excesses);
+      scores = c.requires.scores;
+      labels = omega (arith, c.requires.labels);
+      enters = omega (arith, c.requires.enters);
+      orders = omega (arith, c.requires.orders);
+      places = omega (arith, c.requires.places);
+      filled = i.filled;
+      round = i.round;
+      blank = i.blank;
+      work = i.work;
+      source = omega (arith, c.requires.excesses);
+    }
+
+pub returns-then-not-drain-clause-no_flow : goal.returns-then-not-drain-clause-no_flow
+returns-then-not-drain-clause-no_flow c = c.drain.ensures.no_flow c.if-not-drain.true
+
+pub loop-source-preserved : goal.loop-source-preserved
+loop-source-preserved c =
+    let i = c.loop-source.invariant in
+    let e = c.drain.ensures in
+    let yes = c.if-not-drain.false in
+    record {
+      filled = e.filled yes;
+      round = e.round yes;
+      blank = e.blank yes;
+      work = e.work yes;
+      done = λ v b. elim (cases_lt v c.loop-source.source) [
+        | inl d ↦ e.done yes v (omega (arith, c.requires.excesses)) (i.done v d)
+        | inr d ↦ let t : v ≡ c.loop-source.source = omega arith in subst (λ (u : ℕ). at_nodes c.drain.new.excess u ≤ℤ pos 0) (sym t) (e.here yes)
+      ];
+    }
+
+pub returns-then-has_deficit-clause-no_flow : goal.returns-then-has_deficit-clause-no_flow
+returns-then-has_deficit-clause-no_flow c =
+    let i = c.loop-source.invariant in
+    let (u, b, under) = c.has_deficit.ensures.some c.if-has_deficit.true in
+    no_flow_wanting c.args.layout.network.now _ (at_nodes c.loop-source.excess) u c.requires.network.ends i.round.leaves (λ v d. i.done v (omega (arith, c.requires.excesses))) (omega (arith, c.requires.excesses)) under
+
+pub returns-clause-done : goal.returns-clause-done
+returns-clause-done c =
+    let i = c.loop-source.invariant in
+    done_at _ _ _ _ _ _ i.round i.work (λ v d. i.done v (omega (arith, c.requires.excesses))) (λ v d. c.has_deficit.ensures.none c.if-has_deficit.false v (omega (arith, c.requires.excesses)))
+
+pub returns-clause-filled : goal.returns-clause-filled
+returns-clause-filled c = c.loop-source.invariant.filled

@@ -1,9 +1,17 @@
-use Rattle.min_cost_flow.specs.Flow.{amounts, at_nodes}
-use Rattle.min_cost_flow.specs.Round.{left_over, IsRound}
+use Rattle.std.proofs.Common.{◌≡◌, ◌≤◌, ◌<◌, ℕ}
+use Rattle.std.specs.Prelude.{ℤ, pos, ◌≤ℤ◌}
+use Rattle.min_cost_flow.specs.Net.{node_count}
+use Rattle.min_cost_flow.specs.Flow.{at_nodes}
+use Rattle.min_cost_flow.specs.Layout.{IsFilled, carried}
+use Rattle.min_cost_flow.specs.Search.{far}
+use Rattle.min_cost_flow.specs.Round.{IsRound, IsWork}
 use Rattle.min_cost_flow.proofs.solver.run.Given as goal
 
-abbrev pub invariant-loop-flow : goal.invariant-loop-flow
-invariant-loop-flow l = IsRound l.net (amounts l.flow) (at_nodes l.potential) (at_nodes l.excess)
-
-abbrev pub decreases-loop-flow : goal.decreases-loop-flow
-decreases-loop-flow l = left_over l.net (at_nodes l.excess)
+abbrev pub invariant-loop-source : goal.invariant-loop-source
+invariant-loop-source l = record {
+  filled : IsFilled l.layout.network.now l.layout.reverse.now l.layout.forward.now l.arcs l.room;
+  round : IsRound l.layout.network.now (carried l.layout.reverse.now l.layout.forward.now l.room) (at_nodes l.potential) (at_nodes l.excess);
+  blank : (v : ℕ) → v < node_count l.layout.network.now → at_nodes l.label v ≡ far;
+  work : IsWork l.layout.network.now (carried l.layout.reverse.now l.layout.forward.now l.room) (at_nodes l.excess) l.work.searches l.work.looks;
+  done : (v : ℕ) → v < l.source → at_nodes l.excess v ≤ℤ pos 0
+}

@@ -1,0 +1,7 @@
+//! Tests of the least-cost flow solver: networks of known cost, and a slow solver of its own beside it.
+#![tactic(auto)]
+
+#[cfg(test)]
+mod plain;
+#[cfg(test)]
+mod tests;

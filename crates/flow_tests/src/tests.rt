@@ -1,0 +1,277 @@
+//! What no clause says: that calls succeed on ample memory, and that the least costs are those that
+//! other solvers found.
+ghost use Rattle.std.specs.Prelude.{◌<◌};
+
+use crate::plain;
+use min_cost_flow::{Arc, Cap, NetFault, Network, SolveFault, solve};
+use std::alloc::{AllocError, Global};
+use std::process::Abort;
+use std::test::Fail;
+
+/// The network of supplies and arcs given as `(from, to, cap, cost)`.
+fn network(
+    alloc: Global,
+    supplies: &[i32],
+    arcs: &[(u32, u32, Cap, u32)],
+) -> Result<Result<Network, NetFault>, AllocError> {
+    let mut list = Vec::new(alloc);
+    for (from, to, cap, cost) in arcs {
+        list.push(Arc {
+            from: *from,
+            to: *to,
+            cap: *cap,
+            cost: *cost,
+        })?;
+    }
+    Ok(Network::new(Vec::from_slice(alloc, supplies)?, list))
+}
+
+/// The answer to a network, as its cost, or none where there is no flow.
+fn least_cost(alloc: Global, network: &Network) -> Result<Option<u64>, SolveFault> {
+    let solved = match solve(alloc, network) {
+        Ok(solved) => solved,
+        Err(SolveFault::Infeasible) => return Ok(None),
+        Err(SolveFault::Memory) => return Err(SolveFault::Memory),
+    };
+    let mut total = 0u64;
+    for i in 0..network.arc_count() {
+        let units = u64::from(solved.flow(i as u32));
+        if network.arc(i as u32).cost == 1 {
+            total = total.saturating_add(units);
+        }
+    }
+    Ok(Some(total))
+}
+
+#[test]
+fn units_take_the_free_way_first(rt: HostRuntime) -> Result<(), Fail> {
+    let arcs = [
+        (0, 2, Cap::Any, 1),
+        (0, 1, Cap::AtMost(1), 0),
+        (1, 2, Cap::Any, 0),
+    ];
+    let network = network(rt.alloc(), &[2, 0, -2], &arcs)??;
+    let solved = solve(rt.alloc(), &network)?;
+    assert_eq!(rt; network.arc_count(), 3);
+    for i in 0..network.arc_count() {
+        assert_eq!(rt; solved.flow(i as u32), 1, "arc {i}");
+    }
+    assert_eq!(rt; least_cost(rt.alloc(), &network)?, Some(1));
+    assert_eq!(rt; network.node_count(), 3);
+    for v in 0..network.node_count() {
+        assert!(rt; solved.potential(v as u32) <= 0, "node {v}");
+    }
+    assert_eq!(rt; solved.searches(), 2);
+    assert_eq!(rt; solved.looks(), 6);
+    Ok(())
+}
+
+/// Sees that a network has the least cost that is expected, or no flow.
+fn expect_cost(
+    rt: &(impl Abort + AllocGlobal),
+    supplies: &[i32],
+    arcs: &[(u32, u32, Cap, u32)],
+    expected: Option<u64>,
+) -> Result<(), Fail> {
+    let network = network(rt.alloc(), supplies, arcs)??;
+    assert_eq!(rt; least_cost(rt.alloc(), &network)?, expected);
+    Ok(())
+}
+
+#[test]
+fn no_flow_is_seen(rt: HostRuntime) -> Result<(), Fail> {
+    expect_cost(&rt, &[1, -1], &[], None)?;
+    expect_cost(&rt, &[1, 0], &[(0, 1, Cap::Any, 0)], None)?;
+    expect_cost(&rt, &[0, -1], &[(0, 1, Cap::Any, 0)], None)?;
+    expect_cost(&rt, &[1, -2], &[(0, 1, Cap::Any, 0)], None)?;
+    expect_cost(&rt, &[1, -1], &[(1, 0, Cap::Any, 0)], None)?;
+    expect_cost(&rt, &[1, -1], &[(0, 1, Cap::AtMost(0), 0)], None)?;
+    expect_cost(&rt, &[1], &[(0, 0, Cap::Any, 1)], None)
+}
+
+#[test]
+fn special_arcs_serve(rt: HostRuntime) -> Result<(), Fail> {
+    let dear = (0, 1, Cap::Any, 1);
+    let itself = (0, 0, Cap::Any, 1);
+    let two = (0, 1, Cap::AtMost(2), 0);
+    let one = (0, 1, Cap::AtMost(1), 0);
+    expect_cost(&rt, &[], &[], Some(0))?;
+    expect_cost(&rt, &[0, 0], &[], Some(0))?;
+    expect_cost(&rt, &[1, -1], &[itself, two], Some(0))?;
+    expect_cost(&rt, &[5, -5], &[two, dear, one], Some(2))?;
+    expect_cost(&rt, &[2048, -2048], &[dear], Some(2048))
+}
+
+/// The fault of supplies and one arc.
+fn fault(
+    alloc: Global,
+    supplies: &[i32],
+    arc: (u32, u32, Cap, u32),
+) -> Result<Option<NetFault>, AllocError> {
+    Ok(network(alloc, supplies, &[arc])?.err())
+}
+
+#[test]
+fn the_first_fault_is_named(rt: HostRuntime) -> Result<(), Fail> {
+    let alloc = rt.alloc();
+    let many = [0; 1025];
+    assert_eq!(rt;
+        fault(alloc, &many, (0, 2000, Cap::Any, 0))?,
+        Some(NetFault::TooLarge)
+    );
+    let far = [2049, -2049];
+    assert_eq!(rt;
+        fault(alloc, &far, (0, 2, Cap::Any, 0))?,
+        Some(NetFault::BadEnd)
+    );
+    assert_eq!(rt;
+        fault(alloc, &far, (0, 1, Cap::Any, 2))?,
+        Some(NetFault::BadSupply)
+    );
+    let near = [2048, -2048];
+    assert_eq!(rt;
+        fault(alloc, &near, (0, 1, Cap::Any, 2))?,
+        Some(NetFault::BadCost)
+    );
+    Ok(())
+}
+
+#[test]
+fn faults_say_what_is_wrong(rt: HostRuntime) -> Result<(), Fail> {
+    let text = format!(in rt.alloc(); "{}, {}", NetFault::BadEnd, SolveFault::Memory)?;
+    assert_eq!(rt;
+        text.as_str(),
+        "an arc has an end that is no node, out of memory"
+    );
+    Ok(())
+}
+
+/// A linear congruential generator (Knuth's MMIX constants), its upper 31 bits.
+#[derive(Drop)]
+struct Numbers {
+    state: u64,
+}
+
+impl Numbers {
+    fn below(&mut self, bound: u32) -> u32
+        requires { 0 < bound }
+        ensures { result < bound }
+    {
+        let next = self.state.wrapping_mul(6_364_136_223_846_793_005);
+        self.state = next.wrapping_add(1_442_695_040_888_963_407);
+        ((self.state >> 33) % u64::from(bound)) as u32
+    }
+}
+
+/// The next of the random networks, made as `bench/networks/least_costs.py` makes it.
+fn random_network(
+    alloc: Global,
+    numbers: &mut Numbers,
+) -> Result<Result<Network, NetFault>, AllocError> {
+    let nodes = 2 + numbers.below(7);
+    let mut supplies = vec![in alloc; 0i32; nodes as usize]?;
+    for _ in 0..1 + numbers.below(5) {
+        let units = 1 + numbers.below(3) as i32;
+        let start = numbers.below(nodes) as usize;
+        supplies[start] = supplies[start].saturating_add(units);
+        let end = numbers.below(nodes) as usize;
+        supplies[end] = supplies[end].saturating_sub(units);
+    }
+    if numbers.below(16) == 0 {
+        supplies[0] = supplies[0].saturating_add(1);
+    }
+    let mut arcs = Vec::new(alloc);
+    for _ in 0..2 * nodes + numbers.below(3 * nodes) {
+        arcs.push(random_arc(numbers, nodes))?;
+    }
+    Ok(Network::new(supplies, arcs))
+}
+
+fn random_arc(numbers: &mut Numbers, nodes: u32) -> Arc
+    requires { 0 < nodes }
+{
+    let from = numbers.below(nodes);
+    let to = numbers.below(nodes);
+    let limit = numbers.below(9);
+    let cap = if limit < 6 {
+        Cap::AtMost(limit)
+    } else {
+        Cap::Any
+    };
+    let cost = numbers.below(4).min(1);
+    Arc {
+        from,
+        to,
+        cap,
+        cost,
+    }
+}
+
+#[test]
+fn random_networks_cost_what_other_solvers_found(rt: HostRuntime) -> Result<(), Fail> {
+    let mut numbers = Numbers { state: 20_261_122 };
+    let mut count = 0u32;
+    for word in LEAST_COSTS.split_whitespace() {
+        let network = random_network(rt.alloc(), &mut numbers)??;
+        let expected = word.parse::<u64>().ok();
+        assert_eq!(rt;
+            least_cost(rt.alloc(), &network)?,
+            expected,
+            "network {count}"
+        );
+        count = count.saturating_add(1);
+    }
+    assert_eq!(rt; count, 1000);
+    Ok(())
+}
+
+#[test]
+fn random_networks_cost_what_the_slow_solver_finds(rt: HostRuntime) -> Result<(), Fail> {
+    let mut numbers = Numbers { state: 7_071_067 };
+    for count in 0..1000u32 {
+        let network = random_network(rt.alloc(), &mut numbers)??;
+        let expected = plain::least_cost(rt.alloc(), &network)?;
+        assert_eq!(rt; least_cost(rt.alloc(), &network)?, expected, "network {count}");
+    }
+    Ok(())
+}
+
+/// Each allocation that is refused answers `Memory` and leaves the network as it was, so that a
+/// second call answers as if none had been. The refusals are made from outside, one a run.
+#[test]
+fn a_refused_allocation_leaves_the_network(rt: HostRuntime) -> Result<(), Fail> {
+    let network = network(rt.alloc(), &[3, -3], &[(0, 1, Cap::Any, 1)])??;
+    let first = least_cost(rt.alloc(), &network);
+    assert!(rt; matches!(first, Ok(Some(3)) | Err(SolveFault::Memory)));
+    if first.is_err() {
+        assert_eq!(rt; least_cost(rt.alloc(), &network)?, Some(3));
+    }
+    assert_eq!(rt; network.supplies(), [3, -3].as_slice());
+    Ok(())
+}
+
+/// What networkx and LEMON found, `-` where there is no flow (`bench/networks/least_costs.py`).
+const LEAST_COSTS: &str = "\
+    - 7 9 7 6 5 10 2 0 - 1 4 4 - - 2 0 - 2 - 2 - 2 - 3 2 2 1 - - - - 0 - - - 2 - 12 - 0 4 0 - 1 \
+    1 - - - - - 2 4 0 14 14 4 - 6 - - - 10 - 0 5 2 - 1 - 5 - 10 2 0 7 - - - 3 - 0 - 4 - 3 3 5 4 \
+    0 - 6 - 2 - - 2 - - - - 0 0 - 4 - 1 2 0 - 0 4 0 0 0 - 8 - 0 - 2 0 - - - 1 - 17 2 8 0 3 0 6 1 \
+    1 - - 3 1 - 2 - - 2 - 2 3 0 - 0 6 4 - 1 5 5 - - 3 - - 0 0 0 4 0 0 0 8 - 0 6 0 3 0 0 1 1 6 - \
+    - 5 - 0 2 8 1 3 - - - - - - 0 - 0 - 0 - 0 8 0 - - 3 1 5 2 - 2 6 3 2 3 - 2 1 - - 4 0 - 0 - 2 \
+    1 3 - 2 - 2 0 - - 9 0 - 4 0 - 2 - 6 8 0 0 - 1 4 - 1 2 - 3 0 - 7 1 0 - - 2 - 1 2 - 0 2 4 0 0 \
+    3 - 5 - - - - 3 0 0 - 6 4 0 - - 1 1 1 3 1 - - - 3 - 0 - - 0 3 0 - 1 0 - 4 1 1 1 5 7 - 0 10 0 \
+    0 - - - 6 - 3 - 5 - - 0 2 4 8 - 0 6 9 - 4 - - 0 3 - - - 7 2 - 2 - 2 4 - - - 0 2 - 4 2 6 - 4 \
+    5 0 - 0 2 0 - - 6 1 - 5 - - - 1 0 - 4 5 0 0 0 - 4 2 2 - 2 2 - - - 2 0 - - 0 - 1 11 4 2 0 0 1 \
+    - - 9 - 10 0 1 3 1 - 3 - 6 - - - - - 0 4 1 4 - 1 1 - 3 0 - 1 - - 2 3 0 0 2 6 - - 3 - - 3 3 3 \
+    - 0 - 2 - 0 0 - 2 1 - - - - 0 - - - - 1 1 - - 1 7 2 0 - 4 3 - 0 1 2 0 - 0 - 2 - 0 1 7 3 - 0 \
+    1 - 0 1 8 - - - - - - 0 4 - 3 2 0 - - 1 1 0 - 2 - - 9 11 - - 7 3 3 - - 3 0 2 5 5 3 0 2 10 7 \
+    1 5 6 3 9 - 0 0 - 2 0 1 - - - - 9 - - 3 6 11 - - 2 4 - 2 3 - 2 0 5 3 - 4 - - - 4 2 1 - - 6 2 \
+    6 0 5 1 0 7 2 - 7 0 - - 0 2 0 7 - 0 - 1 3 - 7 2 5 1 - 0 8 1 - 0 7 1 1 6 0 5 1 0 6 1 - - - - \
+    - - 0 - - - - 6 0 6 - - 5 - 2 8 1 3 1 0 - - 0 - 0 - 3 1 - 0 - - - - - 2 - - 18 - - 12 6 - 3 \
+    - 3 2 - 0 1 - 5 - - - 3 - 0 - - 0 0 8 4 1 0 7 5 6 - 0 1 3 - - 5 4 8 9 - 3 2 5 - - 7 - 8 5 - \
+    - 0 - - 3 - 7 - 3 0 - 3 5 - - - 0 0 - - 5 - 3 3 10 - - - 0 1 1 - - - 0 0 2 - - 2 3 0 8 - 0 4 \
+    1 1 - 0 7 5 0 2 - 1 0 2 0 - 1 4 3 3 5 2 - - 0 0 6 5 5 4 7 2 - - - 1 1 3 2 0 6 3 0 5 0 1 - 0 \
+    0 - - - 6 3 4 - 4 5 3 2 2 - - - 4 2 - 2 2 - 0 0 2 5 - 2 0 8 - - 4 0 - 1 3 1 4 0 - - 0 - 5 2 \
+    1 2 - - - 0 2 2 5 5 0 - 0 - 3 3 0 - 11 7 2 1 - 0 5 2 1 1 0 8 4 - 4 - 2 1 2 2 15 2 1 16 3 6 4 \
+    - 0 2 - 0 3 2 - - 1 - 7 0 - 4 - 2 2 9 - - 1 1 - - 2 4 2 0 0 0 3 - - 0 - 1 0 - - 0 1 - 4 0 - \
+    2 - - 7 - 0 7 0 7 - 4 6 4 1 - 8 - 13 - - 2 12 1 0 0 - - 3 9 0 4 - - 0 0 0 0 - - 9 \
+    ";

@@ -1,0 +1,624 @@
+-- Sending along a path: what one push changes, and what pushes along the path from its end leave.
+use Rattle.std.proofs.Common.{◌≡◌, ◌≢◌, ◌≤◌, ◌<◌, ◌⊎◌, ℕ, zero, suc, min, ◌+◌, cond, eqb, Bool, true, false, refl, sym, ◌∙◌, ap, subst, inl, inr, arith, List, length}
+use Rattle.std.specs.Prelude.{ℤ, pos, negsuc, ◌+ℤ◌, ◌-ℤ◌, ◌≤ℤ◌, ◌<ℤ◌}
+use Rattle.std.proofs.lemmas.Bool.{both_ways, cases_eq, cases_lt, eq-eqb, ne_eqb, cond-true, cond-false}
+use Rattle.std.proofs.lemmas.Int.{ints}
+use Rattle.sums.proofs.Sums.{sum_below-same, sum_below-changed}
+use Rattle.min_cost_flow.specs.declared.arc.Cap.{Cap}
+use Rattle.min_cost_flow.specs.declared.arc.Cap.TheVariants.{AtMost, Any}
+use Rattle.min_cost_flow.specs.declared.residual.ResidualArc.{ResidualArc}
+use Rattle.min_cost_flow.specs.Net.{Net, node_count, arc_count, arc_at, HasUnitCosts, IsNetwork}
+use Rattle.min_cost_flow.specs.Flow.{leaves, enters, IsWithin, HasRoom, IsResidual, HasPotentials, start_of, end_of, price_of, reduced_cost}
+use Rattle.min_cost_flow.specs.Excess.{KeepsCaps, Carries}
+use Rattle.min_cost_flow.specs.Residual.{IsMoved}
+use Rattle.min_cost_flow.specs.Layout.{numbers, end_at, code_at, StartsAt, place_of, IsLaidOut, limit_of, IsFilled, carried}
+use Rattle.min_cost_flow.specs.Path.{IsTight, HasPath}
+use Rattle.min_cost_flow.specs.Round.{IsLess, carrying}
+use Rattle.min_cost_flow.proofs.Ends.{start_in, end_in, price_most}
+use Rattle.min_cost_flow.proofs.Changes.{SameBut, moved_carries, carried_leaves, potentials_stay}
+use Rattle.min_cost_flow.proofs.Rounds.{IsSent, left_falls}
+use Rattle.min_cost_flow.proofs.Turning.{start_is}
+
+-- ---- one push
+
+opposite : Bool → Bool
+opposite false = true
+opposite true = false
+
+opposite_is : (net : Net) (first reverse forward : List ℕ) (i : ℕ) (b : Bool) → IsLaidOut net first reverse forward → i < arc_count net → numbers reverse (place_of reverse forward i b) ≡ place_of reverse forward i (opposite b)
+unfolding opposite
+opposite_is net first reverse forward i false l b = refl
+opposite_is net first reverse forward i true l b = l.turned i b
+
+-- what a push along residual arc k changes
+pub record IsPushed (reverse : List ℕ) (arcs arcs' : List ResidualArc) (room room' : List ℕ) (k amount : ℕ) : Type 0 where
+  pub ends : (j : ℕ) → end_at arcs' j ≡ end_at arcs j
+  pub less : numbers room' k + amount ≡ numbers room k
+  pub more : numbers room' (numbers reverse k) ≡ numbers room (numbers reverse k) + amount
+  pub others : (j : ℕ) → j ≢ k → j ≢ numbers reverse k → numbers room' j ≡ numbers room j
+
+pub number_below : (net : Net) (first reverse forward : List ℕ) (v k : ℕ) → IsLaidOut net first reverse forward → v < node_count net → StartsAt first v k → k < arc_count net + arc_count net
+number_below net first reverse forward v k l b s = omega (arith, s.below, l.inside v b)
+
+pub place_below : (net : Net) (first reverse forward : List ℕ) (i : ℕ) (back : Bool) → IsNetwork net → IsLaidOut net first reverse forward → i < arc_count net → place_of reverse forward i back < arc_count net + arc_count net
+place_below net first reverse forward i back n l b =
+    number_below net first reverse forward (start_of net i back) (place_of reverse forward i back) l (start_in net i back n.ends b) (l.block i back b)
+
+reverse_place : (net : Net) (first reverse forward : List ℕ) (k : ℕ) (i : ℕ) (back : Bool) → IsLaidOut net first reverse forward → i < arc_count net → place_of reverse forward i back ≡ k → numbers reverse k ≡ place_of reverse forward i (opposite back)
+reverse_place net first reverse forward k i back l b e = ap (numbers reverse) (sym e) ∙ opposite_is net first reverse forward i back l b
+
+-- the reverse of one of a node's residual arcs has a number too
+pub reverse_below : (net : Net) (first reverse forward : List ℕ) (v k : ℕ) → IsNetwork net → IsLaidOut net first reverse forward → v < node_count net → StartsAt first v k → numbers reverse k < arc_count net + arc_count net
+reverse_below net first reverse forward v k n l b s =
+    let o = l.cover v k b s in
+    let e : numbers reverse k ≡ place_of reverse forward o.arc (opposite o.back) = reverse_place net first reverse forward k o.arc o.back l o.inside o.place in
+    omega (arith, e, place_below net first reverse forward o.arc (opposite o.back) n l o.inside)
+
+not_turned : (b : Bool) → b ≡ opposite b → ⊥
+unfolding opposite
+not_turned true h = cc
+not_turned false h = cc
+
+which_way : (b c : Bool) → (c ≡ b) ⊎ (c ≡ opposite b)
+unfolding opposite
+which_way true true = inl refl
+which_way true false = inr refl
+which_way false true = inr refl
+which_way false false = inl refl
+
+-- no residual arc is its own reverse
+pub not_reverse : (net : Net) (first reverse forward : List ℕ) (v k : ℕ) → IsLaidOut net first reverse forward → v < node_count net → StartsAt first v k → k ≢ numbers reverse k
+not_reverse net first reverse forward v k l b s h =
+    let o = l.cover v k b s in
+    let e : numbers reverse k ≡ place_of reverse forward o.arc (opposite o.back) = reverse_place net first reverse forward k o.arc o.back l o.inside o.place in
+    not_turned o.back (l.alone o.arc o.arc o.back (opposite o.back) o.inside o.inside (o.place ∙ h ∙ e)).1
+
+price_least : (net : Net) (i : ℕ) (back : Bool) → HasUnitCosts net → i < arc_count net → negsuc 0 ≤ℤ price_of net i back
+price_least net i false costs b = omega (arith, ints)
+price_least net i true costs b = omega (arith, ints, costs i b)
+
+-- the code of price z where r fits
+coded : ℤ → ℕ → ℤ
+coded z r = cond (eqb r 0) (z +ℤ pos 16000) z
+
+coded_none : (z : ℤ) (r : ℕ) → r ≡ 0 → coded z r ≡ z +ℤ pos 16000
+unfolding coded
+coded_none z r h = cond-true {A = ℤ} (eqb r 0) (z +ℤ pos 16000) z (eq-eqb r 0 h)
+
+coded_some : (z : ℤ) (r : ℕ) → 0 < r → coded z r ≡ z
+unfolding coded
+coded_some z r h = cond-false {A = ℤ} (eqb r 0) (z +ℤ pos 16000) z (ne_eqb r 0 (λ e. omega arith))
+
+code_is : (net : Net) (reverse forward : List ℕ) (arcs : List ResidualArc) (room : List ℕ) (i : ℕ) (back : Bool) → IsFilled net reverse forward arcs room → i < arc_count net → code_at arcs (place_of reverse forward i back) ≡ coded (price_of net i back) (numbers room (place_of reverse forward i back))
+unfolding coded
+code_is net reverse forward arcs room i back f b = f.code i back b
+
+least_coded : (z c : ℤ) (r : ℕ) → negsuc 0 ≤ℤ z → c ≡ coded z r → negsuc 0 ≤ℤ c
+least_coded z c r h e =
+    elim (cases_eq r 0) [
+      | inl q ↦ let t : coded z r ≡ z +ℤ pos 16000 = coded_none z r q in omega (arith, ints)
+      | inr ne ↦ let t : coded z r ≡ z = coded_some z r (omega arith) in omega (arith, ints)
+    ]
+
+-- the code of a node's residual arc, and that of its reverse, are not below -1
+pub reverse_code : (net : Net) (first reverse forward : List ℕ) (arcs : List ResidualArc) (room : List ℕ) (v k : ℕ) → IsNetwork net → IsLaidOut net first reverse forward → IsFilled net reverse forward arcs room → v < node_count net → StartsAt first v k → negsuc 0 ≤ℤ code_at arcs (numbers reverse k)
+reverse_code net first reverse forward arcs room v k n l f b s =
+    let o = l.cover v k b s in
+    let back = opposite o.back in
+    let e : numbers reverse k ≡ place_of reverse forward o.arc back = reverse_place net first reverse forward k o.arc o.back l o.inside o.place in
+    least_coded (price_of net o.arc back) (code_at arcs (numbers reverse k)) (numbers room (place_of reverse forward o.arc back)) (price_least net o.arc back n.costs o.inside)
+    (ap (code_at arcs) e ∙ code_is net reverse forward arcs room o.arc back f o.inside)
+
+most_coded : (z c : ℤ) (r : ℕ) → z ≤ℤ pos 1 → 0 < r → c ≡ coded z r → c ≤ℤ pos 1
+most_coded z c r h s e = let t : coded z r ≡ z = coded_some z r s in omega (arith, ints)
+
+-- where something fits the code is a price
+pub open_code : (net : Net) (first reverse forward : List ℕ) (arcs : List ResidualArc) (room : List ℕ) (v k : ℕ) → IsNetwork net → IsLaidOut net first reverse forward → IsFilled net reverse forward arcs room → v < node_count net → StartsAt first v k → 0 < numbers room k → code_at arcs k ≤ℤ pos 1
+open_code net first reverse forward arcs room v k n l f b s some =
+    let o = l.cover v k b s in
+    most_coded (price_of net o.arc o.back) (code_at arcs k) (numbers room k) (price_most net o.arc o.back n.costs o.inside) some
+    (subst (λ (t : ℕ). code_at arcs t ≡ coded (price_of net o.arc o.back) (numbers room t)) o.place (code_is net reverse forward arcs room o.arc o.back f o.inside))
+
+-- what fits along a residual arc and its reverse
+both_fit : (net : Net) (reverse forward : List ℕ) (arcs : List ResidualArc) (room : List ℕ) (i : ℕ) (back : Bool) → IsFilled net reverse forward arcs room → i < arc_count net → numbers room (place_of reverse forward i back) + numbers room (place_of reverse forward i (opposite back)) ≡ limit_of (arc_at net i).cap
+unfolding opposite
+both_fit net reverse forward arcs room i false f b = f.fits i b
+both_fit net reverse forward arcs room i true f b = omega (arith, f.fits i b)
+
+pub reverse_few : (net : Net) (first reverse forward : List ℕ) (arcs : List ResidualArc) (room : List ℕ) (v k amount most : ℕ) → IsLaidOut net first reverse forward → IsFilled net reverse forward arcs room → ((i : ℕ) → i < arc_count net → limit_of (arc_at net i).cap < most) → v < node_count net → StartsAt first v k → amount ≤ numbers room k → numbers room (numbers reverse k) + amount < most
+reverse_few net first reverse forward arcs room v k amount most l f limits b s fits =
+    let o = l.cover v k b s in
+    let e : numbers reverse k ≡ place_of reverse forward o.arc (opposite o.back) = reverse_place net first reverse forward k o.arc o.back l o.inside o.place in
+    let there : numbers room (numbers reverse k) ≡ numbers room (place_of reverse forward o.arc (opposite o.back)) = ap (numbers room) e in
+    let here : numbers room (place_of reverse forward o.arc o.back) ≡ numbers room k = ap (numbers room) o.place in
+    omega (arith, both_fit net reverse forward arcs room o.arc o.back f o.inside, limits o.arc o.inside)
+
+-- ---- what a push keeps
+
+take_code : (z c c' : ℤ) (r r' amount : ℕ) → 0 < amount → r' + amount ≡ r → c ≡ coded z r → c' ≡ coded c r' → c' ≡ coded z r'
+take_code z c c' r r' amount some less was is =
+    let same : c ≡ z = was ∙ coded_some z r (omega arith) in
+    is ∙ ap (λ (t : ℤ). coded t r') same
+
+lowered : ℤ → ℕ → ℤ
+lowered c r = cond (eqb r 0) (c -ℤ pos 16000) c
+
+raised_lowered : (z c c' : ℤ) → c ≡ z +ℤ pos 16000 → c' ≡ c -ℤ pos 16000 → c' ≡ z
+raised_lowered z c c' h k = omega (arith, ints)
+
+give_code : (z c c' : ℤ) (r r' amount : ℕ) → 0 < amount → r' ≡ r + amount → c ≡ coded z r → c' ≡ lowered c r → c' ≡ coded z r'
+unfolding lowered
+give_code z c c' r r' amount some more was is =
+    let now : coded z r' ≡ z = coded_some z r' (omega arith) in
+    elim (cases_eq r 0) [
+      | inl q ↦ raised_lowered z c c' (was ∙ coded_none z r q) (is ∙ cond-true {A = ℤ} (eqb r 0) (c -ℤ pos 16000) c (eq-eqb r 0 q)) ∙ sym now
+      | inr ne ↦ is ∙ cond-false {A = ℤ} (eqb r 0) (c -ℤ pos 16000) c (ne_eqb r 0 ne) ∙ was ∙ coded_some z r (omega arith) ∙ sym now
+    ]
+
+-- what a push along residual arc k does to the codes
+pub record IsCoded (reverse : List ℕ) (arcs arcs' : List ResidualArc) (room room' : List ℕ) (k : ℕ) : Type 0 where
+  pub here : code_at arcs' k ≡ cond (eqb (numbers room' k) 0) (code_at arcs k +ℤ pos 16000) (code_at arcs k)
+  pub there : code_at arcs' (numbers reverse k) ≡ cond (eqb (numbers room (numbers reverse k)) 0) (code_at arcs (numbers reverse k) -ℤ pos 16000) (code_at arcs (numbers reverse k))
+  pub others : (j : ℕ) → j ≢ k → j ≢ numbers reverse k → code_at arcs' j ≡ code_at arcs j
+
+here_coded : (net : Net) (reverse forward : List ℕ) (arcs arcs' : List ResidualArc) (room room' : List ℕ) (i : ℕ) (b : Bool) (k amount : ℕ) → IsFilled net reverse forward arcs room → i < arc_count net → place_of reverse forward i b ≡ k → 0 < amount → IsPushed reverse arcs arcs' room room' k amount → IsCoded reverse arcs arcs' room room' k → code_at arcs' (place_of reverse forward i b) ≡ coded (price_of net i b) (numbers room' (place_of reverse forward i b))
+unfolding coded
+here_coded net reverse forward arcs arcs' room room' i b k amount f inside e some s d =
+    let z = price_of net i b in
+    let was : code_at arcs k ≡ coded z (numbers room k) = subst (λ (t : ℕ). code_at arcs t ≡ coded z (numbers room t)) e (code_is net reverse forward arcs room i b f inside) in
+    subst (λ (t : ℕ). code_at arcs' t ≡ coded z (numbers room' t)) (sym e) (take_code z (code_at arcs k) (code_at arcs' k) (numbers room k) (numbers room' k) amount some s.less was d.here)
+
+there_coded : (net : Net) (reverse forward : List ℕ) (arcs arcs' : List ResidualArc) (room room' : List ℕ) (i : ℕ) (b : Bool) (k amount : ℕ) → IsFilled net reverse forward arcs room → i < arc_count net → place_of reverse forward i b ≡ numbers reverse k → 0 < amount → IsPushed reverse arcs arcs' room room' k amount → IsCoded reverse arcs arcs' room room' k → code_at arcs' (place_of reverse forward i b) ≡ coded (price_of net i b) (numbers room' (place_of reverse forward i b))
+unfolding lowered
+there_coded net reverse forward arcs arcs' room room' i b k amount f inside e some s d =
+    let z = price_of net i b in
+    let r = numbers reverse k in
+    let was : code_at arcs r ≡ coded z (numbers room r) = subst (λ (t : ℕ). code_at arcs t ≡ coded z (numbers room t)) e (code_is net reverse forward arcs room i b f inside) in
+    subst (λ (t : ℕ). code_at arcs' t ≡ coded z (numbers room' t)) (sym e) (give_code z (code_at arcs r) (code_at arcs' r) (numbers room r) (numbers room' r) amount some s.more was d.there)
+
+other_coded : (net : Net) (first reverse forward : List ℕ) (arcs arcs' : List ResidualArc) (room room' : List ℕ) (i j : ℕ) (b c : Bool) (k amount : ℕ) → IsLaidOut net first reverse forward → IsFilled net reverse forward arcs room → i < arc_count net → place_of reverse forward i b ≡ k → IsPushed reverse arcs arcs' room room' k amount → IsCoded reverse arcs arcs' room room' k → j < arc_count net → j ≢ i → code_at arcs' (place_of reverse forward j c) ≡ coded (price_of net j c) (numbers room' (place_of reverse forward j c))
+other_coded net first reverse forward arcs arcs' room room' i j b c k amount l f inside e s d inside' ne =
+    let q = place_of reverse forward j c in
+    let z = price_of net j c in
+    let apart : q ≢ k = λ h. ne (l.alone j i c b inside' inside (h ∙ sym e)).0 in
+    let apart' : q ≢ numbers reverse k = λ h. ne (l.alone j i c (opposite b) inside' inside (h ∙ reverse_place net first reverse forward k i b l inside e)).0 in
+    d.others q apart apart' ∙ code_is net reverse forward arcs room j c f inside' ∙ ap (coded z) (sym (s.others q apart apart'))
+
+pushed_code : (net : Net) (first reverse forward : List ℕ) (arcs arcs' : List ResidualArc) (room room' : List ℕ) (i j : ℕ) (b c : Bool) (k amount : ℕ) → IsLaidOut net first reverse forward → IsFilled net reverse forward arcs room → i < arc_count net → place_of reverse forward i b ≡ k → 0 < amount → IsPushed reverse arcs arcs' room room' k amount → IsCoded reverse arcs arcs' room room' k → j < arc_count net → code_at arcs' (place_of reverse forward j c) ≡ coded (price_of net j c) (numbers room' (place_of reverse forward j c))
+pushed_code net first reverse forward arcs arcs' room room' i j b c k amount l f inside e some s d inside' =
+    elim (cases_eq j i) [
+      | inl q ↦ elim (which_way b c) [
+        | inl w ↦ here_coded net reverse forward arcs arcs' room room' j c k amount f inside' (ap (λ (t : ℕ). place_of reverse forward t c) q ∙ ap (place_of reverse forward i) w ∙ e) some s d
+        | inr w ↦ there_coded net reverse forward arcs arcs' room room' j c k amount f inside' (ap (λ (t : ℕ). place_of reverse forward t c) q ∙ ap (place_of reverse forward i) w ∙ sym (reverse_place net first reverse forward k i b l inside e)) some s d
+      ]
+      | inr ne ↦ other_coded net first reverse forward arcs arcs' room room' i j b c k amount l f inside e s d inside' ne
+    ]
+
+moved_fits : (a b a' b' m k : ℕ) → a + b ≡ k → a' + m ≡ a → b' ≡ b + m → a' + b' ≡ k
+moved_fits a b a' b' m k h x y = omega arith
+
+-- the rooms along and against an arc, in either order
+either_order : (reverse forward room : List ℕ) (i k : ℕ) (b : Bool) → numbers room (place_of reverse forward i b) + numbers room (place_of reverse forward i (opposite b)) ≡ k → numbers room (place_of reverse forward i false) + numbers room (place_of reverse forward i true) ≡ k
+unfolding opposite
+either_order reverse forward room i k false h = h
+either_order reverse forward room i k true h = omega arith
+
+pushed_fits : (net : Net) (first reverse forward : List ℕ) (arcs arcs' : List ResidualArc) (room room' : List ℕ) (i j : ℕ) (b : Bool) (k amount : ℕ) → IsLaidOut net first reverse forward → IsFilled net reverse forward arcs room → i < arc_count net → place_of reverse forward i b ≡ k → IsPushed reverse arcs arcs' room room' k amount → j < arc_count net → numbers room' (place_of reverse forward j false) + numbers room' (place_of reverse forward j true) ≡ limit_of (arc_at net j).cap
+pushed_fits net first reverse forward arcs arcs' room room' i j b k amount l f inside e s inside' =
+    let back = reverse_place net first reverse forward k i b l inside e in
+    elim (cases_eq j i) [
+      | inl q ↦
+          subst (λ (t : ℕ). numbers room' (place_of reverse forward t false) + numbers room' (place_of reverse forward t true) ≡ limit_of (arc_at net t).cap) (sym q)
+          (either_order reverse forward room' i (limit_of (arc_at net i).cap) b
+          (moved_fits (numbers room (place_of reverse forward i b)) (numbers room (place_of reverse forward i (opposite b))) (numbers room' (place_of reverse forward i b)) (numbers room' (place_of reverse forward i (opposite b))) amount (limit_of (arc_at net i).cap) (both_fit net reverse forward arcs room i b f inside)
+          (subst (λ (t : ℕ). numbers room' t + amount ≡ numbers room t) (sym e) s.less)
+          (subst (λ (t : ℕ). numbers room' t ≡ numbers room t + amount) back s.more)))
+      | inr ne ↦
+          let same : (c : Bool) → numbers room' (place_of reverse forward j c) ≡ numbers room (place_of reverse forward j c) =
+          λ c. s.others (place_of reverse forward j c) (λ h. ne (l.alone j i c b inside' inside (h ∙ sym e)).0) (λ h. ne (l.alone j i c (opposite b) inside' inside (h ∙ back)).0) in
+          omega (arith, same false, same true, f.fits j inside')
+    ]
+
+pub pushed_filled : (net : Net) (first reverse forward : List ℕ) (arcs arcs' : List ResidualArc) (room room' : List ℕ) (v k amount : ℕ) → IsLaidOut net first reverse forward → IsFilled net reverse forward arcs room → v < node_count net → StartsAt first v k → 0 < amount → length arcs' ≡ length arcs → length room' ≡ length room → IsPushed reverse arcs arcs' room room' k amount → IsCoded reverse arcs arcs' room room' k → IsFilled net reverse forward arcs' room'
+unfolding coded
+pushed_filled net first reverse forward arcs arcs' room room' v k amount l f b st some sizes sizes' s d =
+    let o = l.cover v k b st in
+    record {
+      arc_size = sizes ∙ f.arc_size;
+      room_size = sizes' ∙ f.room_size;
+      end = λ j c h. s.ends (place_of reverse forward j c) ∙ f.end j c h;
+      code = λ j c h. pushed_code net first reverse forward arcs arcs' room room' o.arc j o.back c k amount l f o.inside o.place some s d h;
+      fits = λ j h. pushed_fits net first reverse forward arcs arcs' room room' o.arc j o.back k amount l f o.inside o.place s h;
+    }
+
+-- ---- what a push does to the amounts that the arcs carry
+
+-- y differs from x at i alone, among the arcs
+abbrev pub SameOthers : Net → ℕ → (ℕ → ℕ) → (ℕ → ℕ) → Type 0
+SameOthers net i x y = (j : ℕ) → j < arc_count net → j ≢ i → y j ≡ x j
+
+carries_same : (net : Net) (x y : ℕ → ℕ) (e : ℕ → ℤ) (v k : ℕ) → ((i : ℕ) → i < arc_count net → y i ≡ x i) → Carries net x e v k → Carries net y e v k
+carries_same net x y e v k same c = record {
+  at_node = λ w b.
+      let m = arc_count net in
+      let l : leaves net y w ≡ leaves net x w = sum_below-same m (λ i. cond (eqb (arc_at net i).from w) (y i) 0) (λ i. cond (eqb (arc_at net i).from w) (x i) 0) (λ i d. ap (λ (t : ℕ). cond (eqb (arc_at net i).from w) t 0) (same i d)) in
+      let n : enters net y w ≡ enters net x w = sum_below-same m (λ i. cond (eqb (arc_at net i).to w) (y i) 0) (λ i. cond (eqb (arc_at net i).to w) (x i) 0) (λ i d. ap (λ (t : ℕ). cond (eqb (arc_at net i).to w) t 0) (same i d)) in
+      rw (l, n) (c.at_node w b);
+}
+
+residual_too : (net : Net) (x y : ℕ → ℕ) (j : ℕ) (back : Bool) → y j ≡ x j → IsResidual net y j back → IsResidual net x j back
+residual_too net x y j false e h = let P : ℕ → Type 0 = λ t. HasRoom (arc_at net j).cap t in subst P e h
+residual_too net x y j true e h = omega arith
+
+-- x with another amount at i
+changed : ℕ → ℕ → (ℕ → ℕ) → ℕ → ℕ
+changed i z x j = cond (eqb j i) z (x j)
+
+changed_here : (i z : ℕ) (x : ℕ → ℕ) → changed i z x i ≡ z
+unfolding changed
+changed_here i z x = cond-true {A = ℕ} (eqb i i) z (x i) (eq-eqb i i refl)
+
+changed_others : (i z : ℕ) (x : ℕ → ℕ) → SameBut i x (changed i z x)
+unfolding changed
+changed_others i z x j ne = cond-false {A = ℕ} (eqb j i) z (x j) (ne_eqb j i ne)
+
+is_changed : (net : Net) (i : ℕ) (x y : ℕ → ℕ) → SameOthers net i x y → (j : ℕ) → j < arc_count net → y j ≡ changed i (y i) x j
+is_changed net i x y others j b =
+    elim (cases_eq j i) [
+      | inl q ↦ ap y q ∙ sym (changed_here i (y i) x) ∙ ap (changed i (y i) x) (sym q)
+      | inr ne ↦ others j b ne ∙ sym (changed_others i (y i) x j ne)
+    ]
+
+pushed_carries : (net : Net) (x y : ℕ → ℕ) (e : ℕ → ℤ) (i k : ℕ) (back : Bool) → i < arc_count net → IsMoved back (x i) k (y i) → SameOthers net i x y → Carries net x e (end_of net i back) k → Carries net y e (start_of net i back) k
+pushed_carries net x y e i k back b moved others c =
+    let z = changed i (y i) x in
+    carries_same net z y e (start_of net i back) k (is_changed net i x y others)
+    (moved_carries net x z e i k back b (subst (λ (t : ℕ). IsMoved back (x i) k t) (sym (changed_here i (y i) x)) moved) (changed_others i (y i) x) c)
+
+pushed_priced : (net : Net) (x y : ℕ → ℕ) (p : ℕ → ℤ) (i : ℕ) (back : Bool) → SameOthers net i x y → reduced_cost net p i back ≡ pos 0 → HasPotentials net x p → HasPotentials net y p
+pushed_priced net x y p i back others free h =
+    let z = changed i (y i) x in
+    let stay : HasPotentials net z p = potentials_stay net x z p i back (changed_others i (y i) x) free h in
+    record { residual = λ j other b r. stay.residual j other b (residual_too net z y j other (is_changed net i x y others j b) r) }
+
+one_most : (b : Bool) → cond b 0 1 ≤ 1
+one_most true = omega arith
+one_most false = omega arith
+
+-- one arc more carries units, at most
+carrying_more : (net : Net) (x y : ℕ → ℕ) (i : ℕ) → i < arc_count net → SameOthers net i x y → carrying net y ≤ carrying net x + 1
+carrying_more net x y i b others =
+    let sums : carrying net y + cond (eqb (x i) 0) 0 1 ≡ carrying net x + cond (eqb (y i) 0) 0 1 =
+    sum_below-changed (arc_count net) i (λ j. cond (eqb (y j) 0) 0 1) (λ j. cond (eqb (x j) 0) 0 1) b (λ j c ne. ap (λ (t : ℕ). cond (eqb t 0) 0 1) (others j c ne)) in
+    omega (arith, one_most (eqb (y i) 0))
+
+moved_most : (back : Bool) (was amount is : ℕ) → IsMoved back was amount is → is ≤ was + amount
+moved_most false was amount is h = omega arith
+moved_most true was amount is h = omega arith
+
+-- ---- the pushes along the path, from its end on
+
+-- pushes have brought an amount from node v to the end of the path, and changed no arc between nodes of
+-- the path that are no further on than v
+pub record IsSending (net : Net) (p e : ℕ → ℤ) (on : ℕ → Bool) (place : ℕ → ℕ) (x y : ℕ → ℕ) (v amount most : ℕ) : Type 0 where
+  pub carries : Carries net y e v amount
+  pub priced : HasPotentials net y p
+  pub kept : (i : ℕ) → i < arc_count net → on (arc_at net i).from ≡ true → on (arc_at net i).to ≡ true → place (arc_at net i).from ≤ place v → place (arc_at net i).to ≤ place v → y i ≡ x i
+  pub grown : (i : ℕ) → i < arc_count net → y i ≤ x i + amount
+  pub few : carrying net y + place v ≤ most
+
+end_beyond : (net : Net) (on : ℕ → Bool) (place : ℕ → ℕ) (i u v : ℕ) (back : Bool) → end_of net i back ≡ v → (on v ≡ true → place u < place v) → on (arc_at net i).from ≡ true → on (arc_at net i).to ≡ true → place (arc_at net i).from ≤ place u → place (arc_at net i).to ≤ place u → ⊥
+end_beyond net on place i u v false e beyond a b c d =
+    let h : place u < place (arc_at net i).to = subst (λ (t : ℕ). on t ≡ true → place u < place t) (sym e) beyond b in
+    omega arith
+end_beyond net on place i u v true e beyond a b c d =
+    let h : place u < place (arc_at net i).from = subst (λ (t : ℕ). on t ≡ true → place u < place t) (sym e) beyond a in
+    omega arith
+
+pub sent_on : (net : Net) (p e : ℕ → ℤ) (on : ℕ → Bool) (place : ℕ → ℕ) (x y z : ℕ → ℕ) (i : ℕ) (back : Bool) (u v amount most : ℕ) → i < arc_count net → IsMoved back (y i) amount (z i) → SameOthers net i y z → reduced_cost net p i back ≡ pos 0 → start_of net i back ≡ u → end_of net i back ≡ v → y i ≡ x i → (on v ≡ true → place u < place v) → ((j : ℕ) → j < arc_count net → on (arc_at net j).from ≡ true → on (arc_at net j).to ≡ true → place (arc_at net j).from ≤ place u → place (arc_at net j).to ≤ place u → y j ≡ x j) → Carries net y e v amount → HasPotentials net y p → ((j : ℕ) → j < arc_count net → y j ≤ x j + amount) → carrying net y + place u + 1 ≤ most → IsSending net p e on place x z u amount most
+sent_on net p e on place x y z i back u v amount most b moved others free start finish own beyond kept carries priced grown few = record {
+  carries = subst (λ (t : ℕ). Carries net z e t amount) start (pushed_carries net y z e i amount back b moved others (subst (λ (t : ℕ). Carries net y e t amount) (sym finish) carries));
+  priced = pushed_priced net y z p i back others free priced;
+  kept = λ j c f t d g. elim (cases_eq j i) [
+    | inl q ↦ absurd (end_beyond net on place i u v back finish beyond (subst (λ (n : ℕ). on (arc_at net n).from ≡ true) q f) (subst (λ (n : ℕ). on (arc_at net n).to ≡ true) q t) (subst (λ (n : ℕ). place (arc_at net n).from ≤ place u) q d) (subst (λ (n : ℕ). place (arc_at net n).to ≤ place u) q g))
+    | inr ne ↦ others j c ne ∙ kept j c f t d g
+  ];
+  grown = λ j c. elim (cases_eq j i) [
+    | inl q ↦ let most_here : z i ≤ y i + amount = moved_most back (y i) amount (z i) moved in subst (λ (n : ℕ). z n ≤ x n + amount) (sym q) (omega arith)
+    | inr ne ↦ let same : z j ≡ y j = others j c ne in omega (arith, grown j c)
+  ];
+  few = omega (arith, carrying_more net y z i b others);
+}
+
+-- ---- one residual arc of the path
+
+-- residual arc k leads from u to v, something fits along it, and it costs nothing
+pub record IsLink (net : Net) (reverse forward room : List ℕ) (p : ℕ → ℤ) (u k v : ℕ) : Type 0 where
+  pub arc : ℕ
+  pub back : Bool
+  pub inside : arc < arc_count net
+  pub place : place_of reverse forward arc back ≡ k
+  pub start : start_of net arc back ≡ u
+  pub end : end_of net arc back ≡ v
+  pub some : 0 < numbers room k
+  pub free : reduced_cost net p arc back ≡ pos 0
+
+some_coded : (z c : ℤ) (r : ℕ) → negsuc 0 ≤ℤ z → c ≡ coded z r → c ≤ℤ pos 1 → 0 < r
+some_coded z c r least e h =
+    elim (cases_eq r 0) [
+      | inl q ↦ let t : coded z r ≡ z +ℤ pos 16000 = coded_none z r q in absurd (omega (arith, ints))
+      | inr ne ↦ omega arith
+    ]
+
+free_cost : (c z a b a' b' : ℤ) → c +ℤ a -ℤ b ≡ pos 0 → c ≡ z → a' ≡ a → b' ≡ b → z +ℤ a' -ℤ b' ≡ pos 0
+free_cost c z a b a' b' h e f g = omega (arith, ints)
+
+pub tight_link : (net : Net) (first reverse forward : List ℕ) (arcs : List ResidualArc) (room : List ℕ) (p : ℕ → ℤ) (u k v : ℕ) → IsNetwork net → IsLaidOut net first reverse forward → IsFilled net reverse forward arcs room → u < node_count net → IsTight first arcs p u k v → IsLink net reverse forward room p u k v
+tight_link net first reverse forward arcs room p u k v n l f b t =
+    let o = l.cover u k b t.leaves in
+    let z = price_of net o.arc o.back in
+    let code : code_at arcs k ≡ coded z (numbers room k) = subst (λ (q : ℕ). code_at arcs q ≡ coded z (numbers room q)) o.place (code_is net reverse forward arcs room o.arc o.back f o.inside) in
+    let some : 0 < numbers room k = some_coded z (code_at arcs k) (numbers room k) (price_least net o.arc o.back n.costs o.inside) code t.unblocked in
+    let finish : end_of net o.arc o.back ≡ v = sym (f.end o.arc o.back o.inside) ∙ ap (end_at arcs) o.place ∙ t.arrives in
+    record {
+      arc = o.arc;
+      back = o.back;
+      inside = o.inside;
+      place = o.place;
+      start = o.start;
+      end = finish;
+      some = some;
+      free = free_cost (code_at arcs k) z (p u) (p v) (p (start_of net o.arc o.back)) (p (end_of net o.arc o.back)) t.free (code ∙ coded_some z (numbers room k) some) (ap p o.start) (ap p finish);
+    }
+
+-- what a push does to the amount of its own arc, and to the others
+moved_by : (net : Net) (first reverse forward : List ℕ) (arcs arcs' : List ResidualArc) (room room' : List ℕ) (i : ℕ) (b : Bool) (k amount : ℕ) → IsLaidOut net first reverse forward → i < arc_count net → place_of reverse forward i b ≡ k → IsPushed reverse arcs arcs' room room' k amount → IsMoved b (carried reverse forward room i) amount (carried reverse forward room' i)
+unfolding opposite
+moved_by net first reverse forward arcs arcs' room room' i false k amount l b e s = subst (λ (t : ℕ). numbers room' t ≡ numbers room t + amount) (reverse_place net first reverse forward k i false l b e) s.more
+moved_by net first reverse forward arcs arcs' room room' i true k amount l b e s = sym (subst (λ (t : ℕ). numbers room' t + amount ≡ numbers room t) (sym e) s.less)
+
+kept_by : (net : Net) (first reverse forward : List ℕ) (arcs arcs' : List ResidualArc) (room room' : List ℕ) (i : ℕ) (b : Bool) (k amount : ℕ) → IsLaidOut net first reverse forward → i < arc_count net → place_of reverse forward i b ≡ k → IsPushed reverse arcs arcs' room room' k amount → SameOthers net i (carried reverse forward room) (carried reverse forward room')
+kept_by net first reverse forward arcs arcs' room room' i b k amount l inside e s j c ne =
+    s.others (place_of reverse forward j true)
+    (λ h. ne (l.alone j i true b c inside (h ∙ sym e)).0)
+    (λ h. ne (l.alone j i true (opposite b) c inside (h ∙ reverse_place net first reverse forward k i b l inside e)).0)
+
+-- where an arc carries what it carried, the same fits along it
+same_room : (net : Net) (reverse forward : List ℕ) (arcs arcs' : List ResidualArc) (room room' : List ℕ) (i : ℕ) (back : Bool) → IsFilled net reverse forward arcs room → IsFilled net reverse forward arcs' room' → i < arc_count net → carried reverse forward room' i ≡ carried reverse forward room i → numbers room' (place_of reverse forward i back) ≡ numbers room (place_of reverse forward i back)
+same_room net reverse forward arcs arcs' room room' i true f f' b h = h
+same_room net reverse forward arcs arcs' room room' i false f f' b h = omega (arith, f.fits i b, f'.fits i b)
+
+both_ends : (net : Net) (on : ℕ → Bool) (place : ℕ → ℕ) (x y : ℕ → ℕ) (i : ℕ) (back : Bool) (u v : ℕ) → start_of net i back ≡ u → end_of net i back ≡ v → on u ≡ true → on v ≡ true → place u < place v → (on (arc_at net i).from ≡ true → on (arc_at net i).to ≡ true → place (arc_at net i).from ≤ place v → place (arc_at net i).to ≤ place v → y i ≡ x i) → y i ≡ x i
+both_ends net on place x y i false u v s e a b less kept =
+    let f : place (arc_at net i).from ≡ place u = ap place s in
+    let t : place (arc_at net i).to ≡ place v = ap place e in
+    kept (ap on s ∙ a) (ap on e ∙ b) (omega arith) (omega arith)
+both_ends net on place x y i true u v s e a b less kept =
+    let t : place (arc_at net i).to ≡ place u = ap place s in
+    let f : place (arc_at net i).from ≡ place v = ap place e in
+    kept (ap on e ∙ b) (ap on s ∙ a) (omega arith) (omega arith)
+
+link_kept : (net : Net) (reverse forward room : List ℕ) (p e : ℕ → ℤ) (on : ℕ → Bool) (place : ℕ → ℕ) (x y : ℕ → ℕ) (u k v amount most : ℕ) → (t : IsLink net reverse forward room p u k v) → on u ≡ true → on v ≡ true → place u < place v → IsSending net p e on place x y v amount most → y t.arc ≡ x t.arc
+link_kept net reverse forward room p e on place x y u k v amount most t a b less s =
+    both_ends net on place x y t.arc t.back u v t.start t.end a b less (s.kept t.arc t.inside)
+
+-- what fitted along the next residual arc still does
+pub still_fits : (net : Net) (reverse forward : List ℕ) (arcs arcs' : List ResidualArc) (room room' : List ℕ) (p e : ℕ → ℤ) (on : ℕ → Bool) (place : ℕ → ℕ) (u k v amount most : ℕ) → IsFilled net reverse forward arcs room → IsFilled net reverse forward arcs' room' → IsLink net reverse forward room p u k v → on u ≡ true → on v ≡ true → place u < place v → IsSending net p e on place (carried reverse forward room) (carried reverse forward room') v amount most → amount ≤ numbers room k → amount ≤ numbers room' k
+still_fits net reverse forward arcs arcs' room room' p e on place u k v amount most f f' t a b less s fits =
+    let own = link_kept net reverse forward room p e on place (carried reverse forward room) (carried reverse forward room') u k v amount most t a b less s in
+    let same : numbers room' k ≡ numbers room k = subst (λ (q : ℕ). numbers room' q ≡ numbers room q) t.place (same_room net reverse forward arcs arcs' room room' t.arc t.back f f' t.inside own) in
+    omega arith
+
+-- a push along the next residual arc
+pub sending_more : (net : Net) (first reverse forward : List ℕ) (room : List ℕ) (arcs' arcs'' : List ResidualArc) (room' room'' : List ℕ) (p e : ℕ → ℤ) (on : ℕ → Bool) (place : ℕ → ℕ) (u k v amount most : ℕ) → IsLaidOut net first reverse forward → IsLink net reverse forward room p u k v → on u ≡ true → on v ≡ true → place u < place v → IsSending net p e on place (carried reverse forward room) (carried reverse forward room') v amount most → IsPushed reverse arcs' arcs'' room' room'' k amount → IsSending net p e on place (carried reverse forward room) (carried reverse forward room'') u amount most
+sending_more net first reverse forward room arcs' arcs'' room' room'' p e on place u k v amount most l t a b less s pushed =
+    sent_on net p e on place (carried reverse forward room) (carried reverse forward room') (carried reverse forward room'') t.arc t.back u v amount most t.inside
+    (moved_by net first reverse forward arcs' arcs'' room' room'' t.arc t.back k amount l t.inside t.place pushed)
+    (kept_by net first reverse forward arcs' arcs'' room' room'' t.arc t.back k amount l t.inside t.place pushed)
+    t.free t.start t.end
+    (link_kept net reverse forward room p e on place (carried reverse forward room) (carried reverse forward room') u k v amount most t a b less s)
+    (λ _. less) (λ j c f g d h. s.kept j c f g (omega arith) (omega arith)) s.carries s.priced s.grown (omega (arith, s.few))
+
+-- the push along the last residual arc
+pub sending_first : (net : Net) (first reverse forward : List ℕ) (arcs arcs' : List ResidualArc) (room room' : List ℕ) (p e : ℕ → ℤ) (on : ℕ → Bool) (place : ℕ → ℕ) (u k v amount : ℕ) → IsLaidOut net first reverse forward → IsLink net reverse forward room p u k v → on v ≡ false → Carries net (carried reverse forward room) e v amount → HasPotentials net (carried reverse forward room) p → IsPushed reverse arcs arcs' room room' k amount → IsSending net p e on place (carried reverse forward room) (carried reverse forward room') u amount (carrying net (carried reverse forward room) + place u + 1)
+sending_first net first reverse forward arcs arcs' room room' p e on place u k v amount l t off carries priced pushed =
+    let x = carried reverse forward room in
+    sent_on net p e on place x x (carried reverse forward room') t.arc t.back u v amount (carrying net x + place u + 1) t.inside
+    (moved_by net first reverse forward arcs arcs' room room' t.arc t.back k amount l t.inside t.place pushed)
+    (kept_by net first reverse forward arcs arcs' room room' t.arc t.back k amount l t.inside t.place pushed)
+    t.free t.start t.end refl
+    (λ h. absurd (both_ways (on v) off h)) (λ j c f g d h. refl) carries priced (λ j c. omega arith) (omega arith)
+
+-- ---- the way back along the path
+
+-- the node k steps on from v
+abbrev pub way : (ℕ → ℕ) → ℕ → ℕ → ℕ
+way next v zero = v
+way next v (suc k) = next (way next v k)
+
+-- node w is on the way from v, and no node before it has place 0
+pub record IsOnWay (next place : ℕ → ℕ) (v w : ℕ) : Type 0 where
+  pub steps : ℕ
+  pub at : w ≡ way next v steps
+  pub high : (i : ℕ) → i < steps → 0 < place (way next v i)
+
+pub way_first : (next place : ℕ → ℕ) (v : ℕ) → IsOnWay next place v v
+way_first next place v = record { steps = 0; at = refl; high = λ i b. absurd (omega arith) }
+
+high_more : (next place : ℕ → ℕ) (v k : ℕ) → ((i : ℕ) → i < k → 0 < place (way next v i)) → 0 < place (way next v k) → (i : ℕ) → i < suc k → 0 < place (way next v i)
+high_more next place v k high here i b =
+    elim (cases_eq i k) [
+      | inl q ↦ subst (λ (t : ℕ). 0 < place (way next v t)) (sym q) here
+      | inr ne ↦ high i (omega arith)
+    ]
+
+pub way_more : (next place : ℕ → ℕ) (v w : ℕ) → IsOnWay next place v w → 0 < place w → IsOnWay next place v (next w)
+way_more next place v w h some = record {
+  steps = suc h.steps;
+  at = ap next h.at;
+  high = high_more next place v h.steps h.high (subst (λ (t : ℕ). 0 < place t) h.at some);
+}
+
+-- an amount fits at each node of the way from v as far as w
+pub record IsNarrowed (next place room : ℕ → ℕ) (v w amount : ℕ) : Type 0 where
+  pub on : IsOnWay next place v w
+  pub fits : (i : ℕ) → i < on.steps → amount ≤ room (way next v i)
+
+pub narrowed_first : (next place room : ℕ → ℕ) (v amount : ℕ) → IsNarrowed next place room v v amount
+unfolding way_first
+narrowed_first next place room v amount = record { on = way_first next place v; fits = λ i b. absurd (omega arith) }
+
+fits_more : (next room : ℕ → ℕ) (v k amount amount' : ℕ) → ((i : ℕ) → i < k → amount ≤ room (way next v i)) → amount' ≤ amount → amount' ≤ room (way next v k) → (i : ℕ) → i < suc k → amount' ≤ room (way next v i)
+fits_more next room v k amount amount' fits less here i b =
+    elim (cases_eq i k) [
+      | inl q ↦ subst (λ (t : ℕ). amount' ≤ room (way next v t)) (sym q) here
+      | inr ne ↦ omega (arith, fits i (omega arith))
+    ]
+
+pub narrowed_more : (next place room : ℕ → ℕ) (v w amount amount' : ℕ) → IsNarrowed next place room v w amount → 0 < place w → amount' ≤ amount → amount' ≤ room w → IsNarrowed next place room v (next w) amount'
+unfolding way_more
+narrowed_more next place room v w amount amount' h some less here = record {
+  on = way_more next place v w h.on some;
+  fits = fits_more next room v h.on.steps amount amount' h.fits less (subst (λ (t : ℕ). amount' ≤ room t) h.on.at here);
+}
+
+-- once the way has come to place 0 the amount fits everywhere on it
+pub narrowed_all : (next place room : ℕ → ℕ) (v w amount : ℕ) → IsNarrowed next place room v w amount → place w ≡ 0 → (u : ℕ) → IsOnWay next place v u → 0 < place u → amount ≤ room u
+narrowed_all next place room v w amount h none u on some =
+    let last : place (way next v h.on.steps) ≡ 0 = subst (λ (t : ℕ). place t ≡ 0) h.on.at none in
+    elim (cases_lt on.steps h.on.steps) [
+      | inl less ↦ subst (λ (t : ℕ). amount ≤ room t) (sym on.at) (h.fits on.steps less)
+      | inr over ↦ elim (cases_eq on.steps h.on.steps) [
+        | inl q ↦
+            let at : u ≡ way next v h.on.steps = on.at ∙ ap (way next v) q in
+            let here : place u ≡ place (way next v h.on.steps) = ap place at in
+            absurd (omega arith)
+        | inr ne ↦ let high : 0 < place (way next v h.on.steps) = on.high h.on.steps (omega arith) in absurd (omega arith)
+      ]
+    ]
+
+-- the start of the residual arc by which a node was entered, and what fits along it
+abbrev pub next_of : List ℕ → List ResidualArc → List ℕ → ℕ → ℕ
+next_of reverse arcs enter w = end_at arcs (numbers reverse (numbers enter w))
+
+abbrev pub room_into : List ℕ → List ℕ → ℕ → ℕ
+room_into room enter w = numbers room (numbers enter w)
+
+-- ---- the end
+
+within_limit : (c : Cap) (a b : ℕ) → a + b ≡ limit_of c → IsWithin c b
+within_limit (AtMost k) a b h = omega arith
+within_limit Any a b h = tt
+
+pub filled_caps : (net : Net) (reverse forward : List ℕ) (arcs : List ResidualArc) (room : List ℕ) → IsFilled net reverse forward arcs room → KeepsCaps net (carried reverse forward room)
+filled_caps net reverse forward arcs room f i b = within_limit (arc_at net i).cap (numbers room (place_of reverse forward i false)) (numbers room (place_of reverse forward i true)) (f.fits i b)
+
+-- where nothing is carried yet, what fits is the limit
+pub limits_fit : (net : Net) (reverse forward : List ℕ) (arcs : List ResidualArc) (room : List ℕ) (most : ℕ) → IsFilled net reverse forward arcs room → ((k : ℕ) → numbers room k < most) → ((i : ℕ) → i < arc_count net → carried reverse forward room i ≡ 0) → (i : ℕ) → i < arc_count net → limit_of (arc_at net i).cap < most
+limits_fit net reverse forward arcs room most f fits none i b = omega (arith, f.fits i b, fits (place_of reverse forward i false), none i b)
+
+apart : (e : ℕ → ℤ) (u v : ℕ) → pos 0 <ℤ e u → e v ≤ℤ pos 0 → v ≢ u
+apart e u v a b h = let same : e v ≡ e u = ap e h in omega (arith, ints)
+
+under : (z w : ℤ) → z <ℤ w → z ≤ℤ w
+under z w h = omega (arith, ints)
+
+same_both : (z w : ℤ) → w ≡ z → z ≤ℤ pos 0 → (z ≤ℤ w) × (w ≤ℤ pos 0)
+same_both z w e h = (omega (arith, ints), omega (arith, ints))
+
+raised_both : (z w : ℤ) (k : ℕ) → w ≡ z +ℤ pos k → (z +ℤ pos k) ≤ℤ pos 0 → (z ≤ℤ w) × (w ≤ℤ pos 0)
+raised_both z w k e h = (omega (arith, ints), omega (arith, ints))
+
+not_want : (z w : ℤ) → z ≡ w → pos 0 <ℤ z → w <ℤ pos 0 → ⊥
+not_want z w e a b = omega (arith, ints)
+
+left_there : (z w : ℤ) (k : ℕ) → w ≡ z -ℤ pos k → pos k ≤ℤ z → pos 0 ≤ℤ w
+left_there z w k e h = omega (arith, ints)
+
+-- an amount went from u to v: from e, by e' where v has it and u still has, to e''
+pub sent_all : (net : Net) (x y : ℕ → ℕ) (e e' e'' : ℕ → ℤ) (u v k : ℕ) → u < node_count net → pos 0 <ℤ e u → e v <ℤ pos 0 → pos k ≤ℤ e u → (e v +ℤ pos k) ≤ℤ pos 0 → KeepsCaps net y → Carries net y e' u k → e' v ≡ e v +ℤ pos k → ((w : ℕ) → w ≢ v → e' w ≡ e w) → e'' u ≡ e' u -ℤ pos k → ((w : ℕ) → w ≢ u → e'' w ≡ e' w) → ((i : ℕ) → i < arc_count net → y i ≤ x i + k) → IsSent net x y e e'' u k
+sent_all net x y e e' e'' u v k node over want left short caps carries there others here others' grown =
+    let ne : v ≢ u = apart e u v over (under (e v) (pos 0) want) in
+    let same : e' u ≡ e u = others u (λ h. ne (sym h)) in
+    let here_all : e'' u ≡ e u -ℤ pos k = here ∙ ap (λ (z : ℤ). z -ℤ pos k) same in
+    record {
+      node = node;
+      source = over;
+      caps = caps;
+      leaves = carried_leaves net y e' e'' u k carries here others';
+      here = here_all;
+      left = left_there (e u) (e'' u) k here_all left;
+      wanting = λ w b h. elim (cases_eq w v) [
+        | inl q ↦ subst (λ (t : ℕ). (e t ≤ℤ e'' t) × (e'' t ≤ℤ pos 0)) (sym q) (raised_both (e v) (e'' v) k (others' v ne ∙ there) short)
+        | inr d ↦ same_both (e w) (e'' w) (others' w (apart e u w over h) ∙ others w d) h
+      ];
+      others = λ w b d o. others' w d ∙ others w (λ h. let at : e w ≡ e v = ap e h in not_want (e w) (e v) at o want);
+      grown = grown;
+    }
+
+pub sent_less : (net : Net) (x y : ℕ → ℕ) (e e' : ℕ → ℤ) (u k : ℕ) → IsSent net x y e e' u k → 0 < k → IsLess net e e'
+sent_less net x y e e' u k s some = record {
+  less = omega (arith, left_falls net x y e e' u k s);
+  done = λ v b h. (s.wanting v b h).1;
+}
+
+-- ---- the residual arcs of the path
+
+-- residual arc k, by which node v of the path was entered, leads there from a node of a lesser place
+pub record IsStep (net : Net) (first reverse forward : List ℕ) (arcs : List ResidualArc) (room : List ℕ) (p : ℕ → ℤ) (on : ℕ → Bool) (place : ℕ → ℕ) (v k : ℕ) : Type 0 where
+  pub node : end_at arcs (numbers reverse k) < node_count net
+  pub member : on (end_at arcs (numbers reverse k)) ≡ true
+  pub before : place (end_at arcs (numbers reverse k)) < place v
+  pub leaves : StartsAt first (end_at arcs (numbers reverse k)) k
+  pub link : IsLink net reverse forward room p (end_at arcs (numbers reverse k)) k v
+
+pub path_step : (net : Net) (first reverse forward : List ℕ) (arcs : List ResidualArc) (room : List ℕ) (p : ℕ → ℤ) (enter place : ℕ → ℕ) (source found : ℕ) → IsNetwork net → IsLaidOut net first reverse forward → IsFilled net reverse forward arcs room → (h : HasPath (node_count net) first arcs p enter place source found) → (v : ℕ) → h.on v ≡ true → 0 < place v → IsStep net first reverse forward arcs room p h.on place v (enter v)
+path_step net first reverse forward arcs room p enter place source found n l f h v on some =
+    let a = h.after v on some in
+    let b : a.start < node_count net = h.node a.start a.member in
+    let s : end_at arcs (numbers reverse (enter v)) ≡ a.start = start_is net first reverse forward arcs room a.start (enter v) l f b a.step.leaves in
+    record {
+      node = subst (λ (t : ℕ). t < node_count net) (sym s) b;
+      member = ap h.on s ∙ a.member;
+      before = subst (λ (t : ℕ). place t < place v) (sym s) a.before;
+      leaves = subst (λ (t : ℕ). StartsAt first t (enter v)) (sym s) a.step.leaves;
+      link = subst (λ (t : ℕ). IsLink net reverse forward room p t (enter v) v) (sym s) (tight_link net first reverse forward arcs room p a.start (enter v) v n l f b a.step);
+    }
+
+-- the last residual arc of the path leads off it
+pub record IsLast (net : Net) (first reverse forward : List ℕ) (arcs : List ResidualArc) (room : List ℕ) (p : ℕ → ℤ) (on : ℕ → Bool) (k : ℕ) : Type 0 where
+  pub node : end_at arcs (numbers reverse k) < node_count net
+  pub member : on (end_at arcs (numbers reverse k)) ≡ true
+  pub leaves : StartsAt first (end_at arcs (numbers reverse k)) k
+  pub link : IsLink net reverse forward room p (end_at arcs (numbers reverse k)) k (end_at arcs k)
+
+pub path_last : (net : Net) (first reverse forward : List ℕ) (arcs : List ResidualArc) (room : List ℕ) (p : ℕ → ℤ) (enter place : ℕ → ℕ) (source found : ℕ) → IsNetwork net → IsLaidOut net first reverse forward → IsFilled net reverse forward arcs room → (h : HasPath (node_count net) first arcs p enter place source found) → IsLast net first reverse forward arcs room p h.on found
+path_last net first reverse forward arcs room p enter place source found n l f h =
+    let b : h.last < node_count net = h.node h.last h.member in
+    let s : end_at arcs (numbers reverse found) ≡ h.last = start_is net first reverse forward arcs room h.last found l f b h.step.leaves in
+    record {
+      node = subst (λ (t : ℕ). t < node_count net) (sym s) b;
+      member = ap h.on s ∙ h.member;
+      leaves = subst (λ (t : ℕ). StartsAt first t found) (sym s) h.step.leaves;
+      link = subst (λ (t : ℕ). IsLink net reverse forward room p t found (end_at arcs found)) (sym s) (tight_link net first reverse forward arcs room p h.last found (end_at arcs found) n l f b h.step);
+    }
+
+pub link_end : (net : Net) (reverse forward room : List ℕ) (p : ℕ → ℤ) (u k v : ℕ) → IsNetwork net → IsLink net reverse forward room p u k v → v < node_count net
+link_end net reverse forward room p u k v n t = subst (λ (q : ℕ). q < node_count net) t.end (end_in net t.arc t.back n.ends t.inside)
+
+-- ---- the least of what fits
+
+pub lesser_some : (a b k : ℕ) → k ≡ min a b → 0 < a → 0 < b → 0 < k
+lesser_some a b k h x y = omega arith
+
+pub lesser_left : (a k : ℕ) (z : ℤ) → k ≤ a → pos a ≤ℤ z → pos k ≤ℤ z
+lesser_left a k z h x = omega (arith, ints)
+
+pub lesser_short : (a k : ℕ) (z : ℤ) → k ≤ a → (z +ℤ pos a) ≤ℤ pos 0 → (z +ℤ pos k) ≤ℤ pos 0
+lesser_short a k z h x = omega (arith, ints)
+
+pub few_left : (z : ℤ) (k : ℕ) → pos k ≤ℤ z → z ≤ℤ pos 2048 → k ≤ 2048
+few_left z k h m = omega (arith, ints)
+
+pub source_apart : (e : ℕ → ℤ) (u v : ℕ) → pos 0 <ℤ e u → e v <ℤ pos 0 → u ≢ v
+source_apart e u v a b h = not_want (e u) (e v) (ap e h) a b

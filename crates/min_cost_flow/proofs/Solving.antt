@@ -1,0 +1,432 @@
+-- From the residual arcs of a flow to a search, and from a search to new potentials and a path.
+use Rattle.std.proofs.Common.{length, zero, suc, ◌-◌, ◌≡◌, ◌≢◌, ◌≤◌, ◌<◌, ◌⊎◌, ◌^◌, ℕ, ◌+◌, ◌*◌, Bool, true, false, ◌&&◌, cond, eqb, ltb, refl, sym, ◌∙◌, ap, subst, inl, inr, arith, List}
+use Rattle.std.specs.Prelude.{ℤ, pos, negsuc, ◌+ℤ◌, ◌-ℤ◌, ◌≤ℤ◌, ◌<ℤ◌}
+use Rattle.std.proofs.lemmas.Bool.{cases_eq, cases_lt, cases_Bool, eq-eqb, ne_eqb, eqb-true, lt-ltb, ltb-true, cond-true, cond-false, and_parts, and_from, false≢true, both_ways}
+use Rattle.std.proofs.lemmas.Int.{ints}
+use lib.Signed.{lt_z}
+use Rattle.sums.specs.Sums.{sum_below}
+use Rattle.sums.proofs.Sums.{sum_below-same, sum_below-le, sum_below-constant, sum_below-more}
+use Rattle.min_cost_flow.specs.declared.arc.Cap.{Cap}
+use Rattle.min_cost_flow.specs.declared.arc.Cap.TheVariants.{AtMost, Any}
+use Rattle.min_cost_flow.specs.declared.residual.ResidualArc.{ResidualArc}
+use Rattle.min_cost_flow.specs.Net.{Net, node_count, arc_count, arc_at, HasEnds, HasUnitCosts, IsNetwork}
+use Rattle.min_cost_flow.specs.Flow.{HasRoom, IsResidual, HasPotentials, HasNoFlow, start_of, end_of, price_of, reduced_cost}
+use Rattle.min_cost_flow.specs.Excess.{Leaves, IsClosedOut}
+use Rattle.min_cost_flow.specs.Round.{left_over, IsRound}
+use Rattle.min_cost_flow.specs.Layout.{numbers, end_at, code_at, StartsAt, place_of, limit_of, HasOrigin, IsLaidOut, IsFilled, carried}
+use Rattle.min_cost_flow.specs.Search.{far, IsCode, IsOpen, IsGraph, IsPriced, IsNear, IsEntered, IsReached, IsHit, IsNearest, Serves, IsServed, IsLeft, IsPut, degree, looked}
+use Rattle.min_cost_flow.specs.Path.{IsTight, IsAfter, HasPath}
+use Rattle.min_cost_flow.proofs.Cut.{no_flow_out}
+use Rattle.min_cost_flow.proofs.Ends.{start_in, end_in}
+use Rattle.min_cost_flow.proofs.Turning.{turned_back, start_is, turned_end}
+use Rattle.min_cost_flow.proofs.Signs.{plain_lt, lt_true}
+use Rattle.min_cost_flow.proofs.Reaching.{below_or_not, not_less, under_level, same_z}
+
+-- ---- codes, rooms and residual arcs
+
+price_low : (net : Net) (i : ℕ) (back : Bool) → HasUnitCosts net → i < arc_count net → (negsuc 0 ≤ℤ price_of net i back) × (price_of net i back ≤ℤ pos 1)
+price_low net i false costs b = (omega (arith, ints), omega (arith, ints, costs i b))
+price_low net i true costs b = (omega (arith, ints, costs i b), omega (arith, ints))
+
+code_when : (r : ℕ) (c z : ℤ) → z ≡ cond (eqb r 0) (c +ℤ pos 16000) c → (negsuc 0 ≤ℤ c) × (c ≤ℤ pos 1) → ((r ≡ 0) × (z ≡ c +ℤ pos 16000)) ⊎ ((0 < r) × (z ≡ c))
+code_when zero c z h b = inl (refl, h)
+code_when (suc r) c z h b = inr (omega arith, h ∙ cond-false {A = ℤ} (eqb (suc r) 0) (c +ℤ pos 16000) c (ne_eqb (suc r) 0 (λ t. absurd (omega arith))))
+
+shut_code : (c z : ℤ) → z ≡ c +ℤ pos 16000 → (negsuc 0 ≤ℤ c) × (c ≤ℤ pos 1) → (pos 15999 ≤ℤ z) × (z ≤ℤ pos 16001)
+shut_code c z h (a, b) = (omega (arith, ints), omega (arith, ints))
+
+not_open : (c z : ℤ) → z ≡ c +ℤ pos 16000 → (negsuc 0 ≤ℤ c) × (c ≤ℤ pos 1) → z ≤ℤ pos 1 → ⊥
+not_open c z h (a, b) o = omega (arith, ints)
+
+-- the code of residual arc (i, back): its price where something fits, and more where nothing does
+pub code_cases : (net : Net) (reverse forward : List ℕ) (arcs : List ResidualArc) (room : List ℕ) (i : ℕ) (back : Bool) → IsNetwork net → IsFilled net reverse forward arcs room → i < arc_count net → ((numbers room (place_of reverse forward i back) ≡ 0) × (code_at arcs (place_of reverse forward i back) ≡ price_of net i back +ℤ pos 16000)) ⊎ ((0 < numbers room (place_of reverse forward i back)) × (code_at arcs (place_of reverse forward i back) ≡ price_of net i back))
+code_cases net reverse forward arcs room i back k f b = code_when (numbers room (place_of reverse forward i back)) (price_of net i back) (code_at arcs (place_of reverse forward i back)) (f.code i back b) (price_low net i back k.costs b)
+
+room_open : (c : Cap) (r x : ℕ) → r + x ≡ limit_of c → x ≤ 2097152 → HasRoom c x → 0 < r
+room_open (AtMost k) r x h l o = omega arith
+room_open Any r x h l o = let big : limit_of Any ≡ 1073741824 = refl in omega arith
+
+open_room : (c : Cap) (r x : ℕ) → r + x ≡ limit_of c → 0 < r → HasRoom c x
+open_room (AtMost k) r x h o = omega arith
+open_room Any r x h o = tt
+
+pub residual_open : (net : Net) (reverse forward : List ℕ) (arcs : List ResidualArc) (room : List ℕ) (i : ℕ) (back : Bool) → IsFilled net reverse forward arcs room → i < arc_count net → carried reverse forward room i ≤ 2097152 → IsResidual net (carried reverse forward room) i back → 0 < numbers room (place_of reverse forward i back)
+residual_open net reverse forward arcs room i false f b l r = room_open (arc_at net i).cap (numbers room (place_of reverse forward i false)) (carried reverse forward room i) (f.fits i b) l r
+residual_open net reverse forward arcs room i true f b l r = r
+
+pub open_residual : (net : Net) (reverse forward : List ℕ) (arcs : List ResidualArc) (room : List ℕ) (i : ℕ) (back : Bool) → IsFilled net reverse forward arcs room → i < arc_count net → 0 < numbers room (place_of reverse forward i back) → IsResidual net (carried reverse forward room) i back
+open_residual net reverse forward arcs room i false f b o = open_room (arc_at net i).cap (numbers room (place_of reverse forward i false)) (carried reverse forward room i) (f.fits i b) o
+open_residual net reverse forward arcs room i true f b o = o
+
+-- a residual arc has its price for a code, which is open
+pub price_open : (net : Net) (reverse forward : List ℕ) (arcs : List ResidualArc) (room : List ℕ) (i : ℕ) (back : Bool) → IsNetwork net → IsFilled net reverse forward arcs room → i < arc_count net → 0 < numbers room (place_of reverse forward i back) → (code_at arcs (place_of reverse forward i back) ≡ price_of net i back) × IsOpen arcs (place_of reverse forward i back)
+price_open net reverse forward arcs room i back k f b o =
+    elim (code_cases net reverse forward arcs room i back k f b) [
+      | inl h ↦ absurd (omega (arith, h.0))
+      | inr h ↦ (h.1, subst (λ (z : ℤ). z ≤ℤ pos 1) (sym h.1) (price_low net i back k.costs b).1)
+    ]
+
+-- and an open one fits
+pub open_price : (net : Net) (reverse forward : List ℕ) (arcs : List ResidualArc) (room : List ℕ) (i : ℕ) (back : Bool) → IsNetwork net → IsFilled net reverse forward arcs room → i < arc_count net → IsOpen arcs (place_of reverse forward i back) → (0 < numbers room (place_of reverse forward i back)) × (code_at arcs (place_of reverse forward i back) ≡ price_of net i back)
+open_price net reverse forward arcs room i back k f b o =
+    elim (code_cases net reverse forward arcs room i back k f b) [
+      | inl h ↦ absurd (not_open (price_of net i back) (code_at arcs (place_of reverse forward i back)) h.1 (price_low net i back k.costs b) o)
+      | inr h ↦ h
+    ]
+
+pub is_graph : (net : Net) (first reverse forward : List ℕ) (arcs : List ResidualArc) (room : List ℕ) → IsNetwork net → IsLaidOut net first reverse forward → IsFilled net reverse forward arcs room → IsGraph (node_count net) first arcs
+is_graph net first reverse forward arcs room k l f =
+    let size : length arcs ≡ arc_count net + arc_count net = f.arc_size in
+    record {
+      nodes = k.small.0;
+      few = omega (arith, k.small);
+      starts = l.starts;
+      rising = l.rising;
+      inside = λ v b. omega (arith, l.inside v b);
+      end = λ v j b st. let o = l.cover v j b st in subst (λ (t : ℕ). end_at arcs t < node_count net) o.place (subst (λ (t : ℕ). t < node_count net) (sym (f.end o.arc o.back o.inside)) (end_in net o.arc o.back k.ends o.inside));
+      code = λ v j b st.
+          let o = l.cover v j b st in
+          subst (λ (t : ℕ). IsCode (code_at arcs t)) o.place (elim (code_cases net reverse forward arcs room o.arc o.back k f o.inside) [
+            | inl h ↦ inr (shut_code (price_of net o.arc o.back) (code_at arcs (place_of reverse forward o.arc o.back)) h.1 (price_low net o.arc o.back k.costs o.inside))
+            | inr h ↦ inl (subst (λ (z : ℤ). (negsuc 0 ≤ℤ z) × (z ≤ℤ pos 1)) (sym h.1) (price_low net o.arc o.back k.costs o.inside))
+          ]);
+    }
+
+-- reduced costs by number, and by arc
+pub reduced_by_number : (net : Net) (first reverse forward : List ℕ) (arcs : List ResidualArc) (room : List ℕ) (p : ℕ → ℤ) → IsNetwork net → IsLaidOut net first reverse forward → IsFilled net reverse forward arcs room → HasPotentials net (carried reverse forward room) p → (v k : ℕ) → v < node_count net → StartsAt first v k → IsOpen arcs k → pos 0 ≤ℤ (code_at arcs k +ℤ p v -ℤ p (end_at arcs k))
+reduced_by_number net first reverse forward arcs room p n l f h v k b st op =
+    let o = l.cover v k b st in
+    let i = o.arc in
+    let back = o.back in
+    let here : IsOpen arcs (place_of reverse forward i back) = subst (λ (t : ℕ). IsOpen arcs t) (sym o.place) op in
+    let (fits, price) = open_price net reverse forward arcs room i back n f o.inside here in
+    let red : pos 0 ≤ℤ reduced_cost net p i back = h.residual i back o.inside (open_residual net reverse forward arcs room i back f o.inside fits) in
+    let two : pos 0 ≤ℤ (code_at arcs (place_of reverse forward i back) +ℤ p (start_of net i back) -ℤ p (end_at arcs (place_of reverse forward i back))) = rw (price, f.end i back o.inside) red in
+    let one : pos 0 ≤ℤ (code_at arcs (place_of reverse forward i back) +ℤ p v -ℤ p (end_at arcs (place_of reverse forward i back))) = subst (λ (t : ℕ). pos 0 ≤ℤ (code_at arcs (place_of reverse forward i back) +ℤ p t -ℤ p (end_at arcs (place_of reverse forward i back)))) o.start two in
+    subst (λ (t : ℕ). pos 0 ≤ℤ (code_at arcs t +ℤ p v -ℤ p (end_at arcs t))) o.place one
+
+pub potentials_by_arc : (net : Net) (first reverse forward : List ℕ) (arcs : List ResidualArc) (room : List ℕ) (p : ℕ → ℤ) → IsNetwork net → IsLaidOut net first reverse forward → IsFilled net reverse forward arcs room → ((i : ℕ) → i < arc_count net → carried reverse forward room i ≤ 2097152) → ((v k : ℕ) → v < node_count net → StartsAt first v k → IsOpen arcs k → pos 0 ≤ℤ (code_at arcs k +ℤ p v -ℤ p (end_at arcs k))) → HasPotentials net (carried reverse forward room) p
+potentials_by_arc net first reverse forward arcs room p n l f few h = record {
+  residual = λ i back b r.
+      let fits : 0 < numbers room (place_of reverse forward i back) = residual_open net reverse forward arcs room i back f b (few i b) r in
+      let (price, op) = price_open net reverse forward arcs room i back n f b fits in
+      let red : pos 0 ≤ℤ (code_at arcs (place_of reverse forward i back) +ℤ p (start_of net i back) -ℤ p (end_at arcs (place_of reverse forward i back))) = h (start_of net i back) (place_of reverse forward i back) (start_in net i back n.ends b) (l.block i back b) op in
+      rw (price, f.end i back b) at red;
+}
+
+pub is_priced : (net : Net) (first reverse forward : List ℕ) (arcs : List ResidualArc) (room : List ℕ) (p e : ℕ → ℤ) → IsNetwork net → IsLaidOut net first reverse forward → IsFilled net reverse forward arcs room → IsRound net (carried reverse forward room) p e → IsPriced (node_count net) first arcs p e
+is_priced net first reverse forward arcs room p e n l f r = record {
+  reduced = reduced_by_number net first reverse forward arcs room p n l f r.priced;
+  low = r.low;
+  zero = r.zero;
+}
+
+-- ---- new potentials
+
+-- the potentials p' after a search that found something: labels less the cut where a node was scanned
+pub record IsMovedTo (n : ℕ) (p p' q : ℕ → ℤ) (place : ℕ → ℕ) (head : ℕ) (cut : ℤ) : Type 0 where
+  pub scanned : (v : ℕ) → v < n → q v <ℤ far → place v < head → p' v ≡ q v -ℤ cut
+  pub unlabelled : (v : ℕ) → v < n → far ≤ℤ q v → p' v ≡ p v
+  pub behind : (v : ℕ) → v < n → q v <ℤ far → head ≤ place v → p' v ≡ p v
+
+pub moved_to : (n : ℕ) (first : List ℕ) (arcs : List ResidualArc) (p p' e : ℕ → ℤ) (s : ℕ) (q : ℕ → ℤ) (enter order place : ℕ → ℕ) (head ordered reached : ℕ) (level cut : ℤ) → IsReached n first arcs p e s q enter order place head ordered reached level → ((j : ℕ) → j < head → p' (order j) ≡ q (order j) -ℤ cut) → ((v : ℕ) → ((j : ℕ) → j < head → order j ≢ v) → p' v ≡ p v) → IsMovedTo n p p' q place head cut
+moved_to n first arcs p p' e s q enter order place head ordered reached level cut r moved others =
+    let le : head ≤ reached = omega (arith, r.counts) in
+    record {
+      scanned = λ v b l h. let back : order (place v) ≡ v = (r.listed v b l).1 in subst (λ (t : ℕ). p' t ≡ q t -ℤ cut) back (moved (place v) h);
+      unlabelled = λ v b l. others v (λ j h t. not_less (q v) far (subst (λ (i : ℕ). q i <ℤ far) t (r.marked j (omega arith))) l);
+      behind = λ v b l h. others v (λ j d t. let at : place v ≡ j = ap place (sym t) ∙ r.at j (omega arith) in absurd (omega arith));
+    }
+
+below_label : (p' p q level cut : ℤ) → p' ≡ q -ℤ cut → (q -ℤ p) ≤ℤ level → level ≤ℤ cut → p' ≤ℤ p
+below_label p' p q level cut h a b = omega (arith, ints)
+
+left_label : (p' p q cut : ℤ) → p' ≡ p → cut ≤ℤ (q -ℤ p) → p' ≤ℤ (q -ℤ cut)
+left_label p' p q cut h a = omega (arith, ints)
+
+same_below : (a b : ℤ) → a ≡ b → a ≤ℤ b
+same_below a b h = omega (arith, ints)
+
+pub potentials_fall : (n : ℕ) (first : List ℕ) (arcs : List ResidualArc) (p p' e : ℕ → ℤ) (s : ℕ) (q : ℕ → ℤ) (enter order place : ℕ → ℕ) (head ordered reached : ℕ) (level cut : ℤ) (k : ℕ) → IsReached n first arcs p e s q enter order place head ordered reached level → IsNearest n first arcs p e s q place head level cut k → IsMovedTo n p p' q place head cut → (v : ℕ) → v < n → p' v ≤ℤ p v
+potentials_fall n first arcs p p' e s q enter order place head ordered reached level cut k r near m v b =
+    elim (below_or_not (q v) far) [
+      | inl l ↦ elim (cases_lt (place v) head) [
+        | inl h ↦ below_label (p' v) (p v) (q v) level cut (m.scanned v b l h) (r.under v b l (omega (arith, r.counts))) near.above
+        | inr h ↦ same_below (p' v) (p v) (m.behind v b l h)
+      ]
+      | inr f ↦ same_below (p' v) (p v) (m.unlabelled v b f)
+    ]
+
+labels_fall : (n : ℕ) (p p' q : ℕ → ℤ) (place : ℕ → ℕ) (head : ℕ) (cut : ℤ) → IsMovedTo n p p' q place head cut → IsLeft n p q place head cut → (v : ℕ) → v < n → q v <ℤ far → p' v ≤ℤ (q v -ℤ cut)
+labels_fall n p p' q place head cut m left v b l =
+    elim (cases_lt (place v) head) [
+      | inl h ↦ same_below (p' v) (q v -ℤ cut) (m.scanned v b l h)
+      | inr h ↦ left_label (p' v) (p v) (q v) cut (m.behind v b l h) (left v b l h)
+    ]
+
+both_lower : (c a b b' : ℤ) → pos 0 ≤ℤ (c +ℤ a -ℤ b) → b' ≤ℤ b → pos 0 ≤ℤ (c +ℤ a -ℤ b')
+both_lower c a b b' h k = omega (arith, ints)
+
+far_end : (c a q b b' cut : ℤ) → a ≡ q -ℤ cut → cut ≤ℤ (q +ℤ c -ℤ b) → b' ≤ℤ b → pos 0 ≤ℤ (c +ℤ a -ℤ b')
+far_end c a q b b' cut h k l = omega (arith, ints)
+
+near_end : (c a q qe b' cut : ℤ) → a ≡ q -ℤ cut → qe ≤ℤ (q +ℤ c) → b' ≤ℤ (qe -ℤ cut) → pos 0 ≤ℤ (c +ℤ a -ℤ b')
+near_end c a q qe b' cut h k l = omega (arith, ints)
+
+label_step : (ps q c qe : ℤ) (n h : ℕ) → n ≤ 1024 → h ≤ n → ps ≤ℤ pos 0 → IsNear ps h q → c ≤ℤ pos 1 → qe ≤ℤ (q +ℤ c) → qe <ℤ far
+label_step ps q c qe n h small le low (a, b) o k = omega (arith, ints)
+
+pub moved_priced : (n : ℕ) (first : List ℕ) (arcs : List ResidualArc) (p p' e : ℕ → ℤ) (s : ℕ) (q : ℕ → ℤ) (enter order place : ℕ → ℕ) (head ordered reached : ℕ) (level cut : ℤ) (f : ℕ) → IsGraph n first arcs → IsPriced n first arcs p e → IsReached n first arcs p e s q enter order place head ordered reached level → IsNearest n first arcs p e s q place head level cut f → IsServed n first arcs p q place cut head → IsLeft n p q place head cut → IsMovedTo n p p' q place head cut → (v k : ℕ) → v < n → StartsAt first v k → IsOpen arcs k → pos 0 ≤ℤ (code_at arcs k +ℤ p' v -ℤ p' (end_at arcs k))
+moved_priced n first arcs p p' e s q enter order place head ordered reached level cut f g pr r near sv left m v k b st op =
+    let eb : end_at arcs k < n = g.end v k b st in
+    let fall : p' (end_at arcs k) ≤ℤ p (end_at arcs k) = potentials_fall n first arcs p p' e s q enter order place head ordered reached level cut f r near m (end_at arcs k) eb in
+    let old : p' v ≡ p v → pos 0 ≤ℤ (code_at arcs k +ℤ p' v -ℤ p' (end_at arcs k)) = λ t. subst (λ (z : ℤ). pos 0 ≤ℤ (code_at arcs k +ℤ z -ℤ p' (end_at arcs k))) (sym t) (both_lower (code_at arcs k) (p v) (p (end_at arcs k)) (p' (end_at arcs k)) (pr.reduced v k b st op) fall) in
+    elim (below_or_not (q v) far) [
+      | inl l ↦ elim (cases_lt (place v) head) [
+        | inl h ↦ elim (below_or_not (q v +ℤ code_at arcs k -ℤ p (end_at arcs k)) cut) [
+          | inl near ↦
+              let less : q (end_at arcs k) ≤ℤ (q v +ℤ code_at arcs k) = sv.served v k b l h st op near in
+              let le : head ≤ n = omega (arith, r.counts) in
+              let mark : q (end_at arcs k) <ℤ far = label_step (p s) (q v) (code_at arcs k) (q (end_at arcs k)) n head g.nodes le (pr.low s r.source.0).1 (r.near v b l) op less in
+              near_end (code_at arcs k) (p' v) (q v) (q (end_at arcs k)) (p' (end_at arcs k)) cut (m.scanned v b l h) less (labels_fall n p p' q place head cut m left (end_at arcs k) eb mark)
+          | inr away ↦ far_end (code_at arcs k) (p' v) (q v) (p (end_at arcs k)) (p' (end_at arcs k)) cut (m.scanned v b l h) away fall
+        ]
+        | inr h ↦ old (m.behind v b l h)
+      ]
+      | inr u ↦ old (m.unlabelled v b u)
+    ]
+
+deep_enough : (ps q cut p' : ℤ) (n h : ℕ) → h ≤ n → IsNear ps h q → IsNear ps h cut → p' ≡ q -ℤ cut → pos 0 ≤ℤ (p' +ℤ pos (2 * n))
+deep_enough ps q cut p' n h le (a, b) (c, d) k = omega (arith, ints)
+
+low_too : (a b : ℤ) → a ≤ℤ b → b ≤ℤ pos 0 → a ≤ℤ pos 0
+low_too a b h k = omega (arith, ints)
+
+pub moved_low : (n : ℕ) (first : List ℕ) (arcs : List ResidualArc) (p p' e : ℕ → ℤ) (s : ℕ) (q : ℕ → ℤ) (enter order place : ℕ → ℕ) (head ordered reached : ℕ) (level cut : ℤ) (f : ℕ) → IsPriced n first arcs p e → IsReached n first arcs p e s q enter order place head ordered reached level → IsNearest n first arcs p e s q place head level cut f → cut <ℤ far → IsMovedTo n p p' q place head cut → (v : ℕ) → v < n → (pos 0 ≤ℤ (p' v +ℤ pos (2 * n))) × (p' v ≤ℤ pos 0)
+moved_low n first arcs p p' e s q enter order place head ordered reached level cut f pr r near hit m v b =
+    let low : p' v ≤ℤ pos 0 = low_too (p' v) (p v) (potentials_fall n first arcs p p' e s q enter order place head ordered reached level cut f r near m v b) (pr.low v b).1 in
+    let le : head ≤ n = omega (arith, r.counts) in
+    let old : p' v ≡ p v → pos 0 ≤ℤ (p' v +ℤ pos (2 * n)) = λ t. subst (λ (z : ℤ). pos 0 ≤ℤ (z +ℤ pos (2 * n))) (sym t) (pr.low v b).0 in
+    (elim (below_or_not (q v) far) [
+      | inl l ↦ elim (cases_lt (place v) head) [
+        | inl h ↦ deep_enough (p s) (q v) cut (p' v) n head le (r.near v b l) (near.hit hit).near (m.scanned v b l h)
+        | inr h ↦ old (m.behind v b l h)
+      ]
+      | inr u ↦ old (m.unlabelled v b u)
+    ], low)
+
+-- a node where units are wanting has no label
+pub wanting_far : (n : ℕ) (first : List ℕ) (arcs : List ResidualArc) (p e : ℕ → ℤ) (s : ℕ) (q : ℕ → ℤ) (enter order place : ℕ → ℕ) (head ordered reached : ℕ) (level : ℤ) (v : ℕ) → IsReached n first arcs p e s q enter order place head ordered reached level → v < n → e v <ℤ pos 0 → far ≤ℤ q v
+wanting_far n first arcs p e s q enter order place head ordered reached level v r b w =
+    elim (below_or_not (q v) far) [
+      | inl l ↦ absurd (not_less (e v) (pos 0) w (r.plain v b l))
+      | inr f ↦ f
+    ]
+
+-- ---- the round after the potentials have moved
+
+pub moved_round : (net : Net) (first reverse forward : List ℕ) (arcs : List ResidualArc) (room : List ℕ) (p p' e : ℕ → ℤ) (s : ℕ) (q : ℕ → ℤ) (enter order place : ℕ → ℕ) (head ordered reached : ℕ) (level cut : ℤ) (f : ℕ) → IsNetwork net → IsLaidOut net first reverse forward → IsFilled net reverse forward arcs room → IsRound net (carried reverse forward room) p e → IsReached (node_count net) first arcs p e s q enter order place head ordered reached level → IsNearest (node_count net) first arcs p e s q place head level cut f → IsServed (node_count net) first arcs p q place cut head → IsLeft (node_count net) p q place head cut → cut <ℤ far → IsMovedTo (node_count net) p p' q place head cut → IsRound net (carried reverse forward room) p' e
+moved_round net first reverse forward arcs room p p' e s q enter order place head ordered reached level cut f k l fl rd r near sv left hit m =
+    let n = node_count net in
+    let g : IsGraph n first arcs = is_graph net first reverse forward arcs room k l fl in
+    let pr : IsPriced n first arcs p e = is_priced net first reverse forward arcs room p e k l fl rd in
+    record {
+      leaves = rd.leaves;
+      caps = rd.caps;
+      priced = potentials_by_arc net first reverse forward arcs room p' k l fl (λ i b. omega (arith, rd.room i b)) (moved_priced n first arcs p p' e s q enter order place head ordered reached level cut f g pr r near sv left m);
+      low = moved_low n first arcs p p' e s q enter order place head ordered reached level cut f pr r near hit m;
+      zero = λ v b w. m.unlabelled v b (wanting_far n first arcs p e s q enter order place head ordered reached level v r b w) ∙ rd.zero v b w;
+      fair = rd.fair;
+      room = rd.room;
+    }
+
+-- ---- the path
+
+tight_step : (c a b qa qb cut : ℤ) → a ≡ qa -ℤ cut → b ≡ qb -ℤ cut → qb ≡ qa +ℤ c → c +ℤ a -ℤ b ≡ pos 0
+tight_step c a b qa qb cut h k l = omega (arith, ints)
+
+tight_end : (c a b qa pb cut : ℤ) → a ≡ qa -ℤ cut → b ≡ pb → cut ≡ qa +ℤ c -ℤ pb → c +ℤ a -ℤ b ≡ pos 0
+tight_end c a b qa pb cut h k l = omega (arith, ints)
+
+abbrev on_path : (ℕ → ℕ) → (ℕ → ℕ) → ℕ → ℕ → Bool
+on_path order place head v = ltb (place v) head && eqb (order (place v)) v
+
+is_on : (order place : ℕ → ℕ) (head v : ℕ) → place v < head → order (place v) ≡ v → on_path order place head v ≡ true
+is_on order place head v h back = and_from (ltb (place v) head) (eqb (order (place v)) v) (lt-ltb (place v) head h) (eq-eqb (order (place v)) v back)
+
+on_is : (order place : ℕ → ℕ) (head v : ℕ) → on_path order place head v ≡ true → (place v < head) × (order (place v) ≡ v)
+on_is order place head v h = let (a, b) = and_parts (ltb (place v) head) (eqb (order (place v)) v) h in (ltb-true (place v) head a, eqb-true (order (place v)) v b)
+
+pub has_path : (n : ℕ) (first : List ℕ) (arcs : List ResidualArc) (p p' e : ℕ → ℤ) (s : ℕ) (q : ℕ → ℤ) (enter order place : ℕ → ℕ) (head ordered reached : ℕ) (level cut : ℤ) (f : ℕ) → IsGraph n first arcs → IsReached n first arcs p e s q enter order place head ordered reached level → IsNearest n first arcs p e s q place head level cut f → cut <ℤ far → IsMovedTo n p p' q place head cut → HasPath n first arcs p' enter place s f
+has_path n first arcs p p' e s q enter order place head ordered reached level cut f g r near hit m =
+    let le : head ≤ reached = omega (arith, r.counts) in
+    let h = near.hit hit in
+    let eb : end_at arcs f < n = g.end h.start f h.node h.leaves in
+    let off : far ≤ℤ q (end_at arcs f) = wanting_far n first arcs p e s q enter order place head ordered reached level (end_at arcs f) r eb h.wanting in
+    let labelled : (v : ℕ) → on_path order place head v ≡ true → (v < n) × (q v <ℤ far) = λ v o. let (a, back) = on_is order place head v o in (subst (λ (t : ℕ). t < n) back (r.node (place v) (omega arith)), subst (λ (t : ℕ). q t <ℤ far) back (r.marked (place v) (omega arith))) in
+    let order_s : order 0 ≡ s = ap order (sym r.source.2) ∙ (r.listed s r.source.0 r.source.1).1 in
+    record {
+      on = on_path order place head;
+      node = λ v o. (labelled v o).0;
+      root = λ v o z. sym (on_is order place head v o).1 ∙ ap order z ∙ order_s;
+      after = λ v o some.
+          let (vb, vl) = labelled v o in
+          let (vh, back) = on_is order place head v o in
+          let x = r.entered v vb vl (λ t. let z : place v ≡ 0 = ap place t ∙ r.source.2 in absurd (omega arith)) in
+          let xh : place x.start < head = x.scanned in
+          record {
+            start = x.start;
+            member = is_on order place head x.start xh (r.listed x.start x.node x.labelled).1;
+            before = x.before;
+            step = record {
+              leaves = x.leaves;
+              unblocked = x.unblocked;
+              arrives = x.arrives;
+              free = tight_step (code_at arcs (enter v)) (p' x.start) (p' v) (q x.start) (q v) cut (m.scanned x.start x.node x.labelled xh) (m.scanned v vb vl vh) x.label;
+            };
+          };
+      last = h.start;
+      member = is_on order place head h.start h.scanned (r.listed h.start h.node h.labelled).1;
+      off = elim (cases_Bool (on_path order place head (end_at arcs f))) [
+        | inl t ↦ absurd (not_less (q (end_at arcs f)) far (labelled (end_at arcs f) t).1 off)
+        | inr t ↦ t
+      ];
+      step = record {
+        leaves = h.leaves;
+        unblocked = h.unblocked;
+        arrives = refl;
+        free = tight_end (code_at arcs f) (p' h.start) (p' (end_at arcs f)) (q h.start) (p (end_at arcs f)) cut (m.scanned h.start h.node h.labelled h.scanned) (m.unlabelled (end_at arcs f) eb off) h.distance;
+      };
+    }
+
+-- ---- nothing found
+
+in_reach : (ps q pv : ℤ) (n h : ℕ) → n ≤ 1024 → h ≤ n → ps ≤ℤ pos 0 → IsNear ps h q → pos 0 ≤ℤ (pv +ℤ pos (2 * n)) → (q -ℤ pv) <ℤ far
+in_reach ps q pv n h small le low (a, b) d = omega (arith, ints)
+
+in_reach_step : (ps q pe c : ℤ) (n h : ℕ) → n ≤ 1024 → h ≤ n → ps ≤ℤ pos 0 → IsNear ps h q → pos 0 ≤ℤ (pe +ℤ pos (2 * n)) → c ≤ℤ pos 1 → (q +ℤ c -ℤ pe) <ℤ far
+in_reach_step ps q pe c n h small le low (a, b) d o = omega (arith, ints)
+
+pub nothing_found : (net : Net) (first reverse forward : List ℕ) (arcs : List ResidualArc) (room : List ℕ) (p e : ℕ → ℤ) (s : ℕ) (q : ℕ → ℤ) (enter order place : ℕ → ℕ) (head ordered reached : ℕ) (level cut : ℤ) → IsNetwork net → IsLaidOut net first reverse forward → IsFilled net reverse forward arcs room → IsRound net (carried reverse forward room) p e → IsReached (node_count net) first arcs p e s q enter order place head ordered reached level → IsServed (node_count net) first arcs p q place cut head → IsLeft (node_count net) p q place head cut → cut ≡ far → pos 0 <ℤ e s → HasNoFlow net
+nothing_found net first reverse forward arcs room p e s q enter order place head ordered reached level cut k l fl rd r sv left none over =
+    let n = node_count net in
+    let le : head ≤ n = omega (arith, r.counts) in
+    let low : p s ≤ℤ pos 0 = (rd.low s r.source.0).1 in
+    let in_set : ℕ → Bool = λ v. lt_z (q v) far in
+    let scanned : (v : ℕ) → v < n → q v <ℤ far → place v < head = λ v b m. elim (cases_lt (place v) head) [
+      | inl h ↦ h
+      | inr h ↦ absurd (not_less (q v -ℤ p v) far (in_reach (p s) (q v) (p v) n head k.small.0 le low (r.near v b m) (rd.low v b).0) (subst (λ (z : ℤ). z ≤ℤ (q v -ℤ p v)) none (left v b m h)))
+    ] in
+    no_flow_out net (carried reverse forward room) e in_set s k.ends rd.leaves
+    (record {
+      stays = λ i back b res so.
+          let u = start_of net i back in
+          let j = place_of reverse forward i back in
+          let ub : u < n = start_in net i back k.ends b in
+          let m : q u <ℤ far = plain_lt (q u) far so in
+          let fits : 0 < numbers room j = residual_open net reverse forward arcs room i back fl b (omega (arith, rd.room i b)) res in
+          let op : IsOpen arcs j = (price_open net reverse forward arcs room i back k fl b fits).1 in
+          let st : StartsAt first u j = l.block i back b in
+          let ends : end_at arcs j ≡ end_of net i back = fl.end i back b in
+          let eb : end_at arcs j < n = subst (λ (t : ℕ). t < n) (sym ends) (end_in net i back k.ends b) in
+          let near : (q u +ℤ code_at arcs j -ℤ p (end_at arcs j)) <ℤ cut = subst (λ (z : ℤ). (q u +ℤ code_at arcs j -ℤ p (end_at arcs j)) <ℤ z) (sym none) (in_reach_step (p s) (q u) (p (end_at arcs j)) (code_at arcs j) n head k.small.0 le low (r.near u ub m) (rd.low (end_at arcs j) eb).0 op) in
+          let less : q (end_at arcs j) ≤ℤ (q u +ℤ code_at arcs j) = sv.served u j ub m (scanned u ub m) st op near in
+          subst (λ (t : ℕ). lt_z (q t) far ≡ true) ends (lt_true (q (end_at arcs j)) far (label_step (p s) (q u) (code_at arcs j) (q (end_at arcs j)) n head k.small.0 le low (r.near u ub m) op less));
+    })
+    (λ v b m. r.plain v b (plain_lt (q v) far m))
+    r.source.0 (lt_true (q s) far r.source.1) over
+
+-- ---- each scanned node has a residual arc
+
+turned_start : (net : Net) (i : ℕ) (back : Bool) → start_of net i (turned_back back) ≡ end_of net i back
+unfolding turned_back
+turned_start net i false = refl
+turned_start net i true = refl
+
+-- the end of a residual arc has one of its own
+has_own : (net : Net) (first reverse forward : List ℕ) (arcs : List ResidualArc) (room : List ℕ) (u k : ℕ) → IsLaidOut net first reverse forward → IsFilled net reverse forward arcs room → u < node_count net → StartsAt first u k → 0 < degree first (end_at arcs k)
+has_own net first reverse forward arcs room u k l f b st =
+    let o = l.cover u k b st in
+    let ends : end_at arcs k ≡ end_of net o.arc o.back = ap (end_at arcs) (sym o.place) ∙ f.end o.arc o.back o.inside in
+    let own : StartsAt first (start_of net o.arc (turned_back o.back)) (place_of reverse forward o.arc (turned_back o.back)) = l.block o.arc (turned_back o.back) o.inside in
+    let here : StartsAt first (end_at arcs k) (place_of reverse forward o.arc (turned_back o.back)) = subst (λ (t : ℕ). StartsAt first t (place_of reverse forward o.arc (turned_back o.back))) (turned_start net o.arc o.back ∙ sym ends) own in
+    omega (arith, here.from, here.below)
+
+own_degree : (first : List ℕ) (v k : ℕ) → StartsAt first v k → 0 < degree first v
+own_degree first v k st = omega (arith, st.from, st.below)
+
+source_degree : (n : ℕ) (first : List ℕ) (arcs : List ResidualArc) (p e : ℕ → ℤ) (s : ℕ) (q : ℕ → ℤ) (enter order place : ℕ → ℕ) (head ordered reached : ℕ) (level : ℤ) (b v : ℕ) → IsReached n first arcs p e s q enter order place head ordered reached level → place v < b → v < n → q v <ℤ far → v ≢ s → 0 < degree first s
+source_degree n first arcs p e s q enter order place head ordered reached level zero v r less vb l ne = absurd (omega arith)
+source_degree n first arcs p e s q enter order place head ordered reached level (suc b) v r less vb l ne =
+    let x = r.entered v vb l ne in
+    let before : place x.start < place v = x.before in
+    elim (cases_eq x.start s) [
+      | inl t ↦ own_degree first s (enter v) (subst (λ (i : ℕ). StartsAt first i (enter v)) t x.leaves)
+      | inr d ↦ source_degree n first arcs p e s q enter order place head ordered reached level b x.start r (omega arith) x.node x.labelled d
+    ]
+
+one_each : (net : Net) (first reverse forward : List ℕ) (arcs : List ResidualArc) (room : List ℕ) (p e : ℕ → ℤ) (s : ℕ) (q : ℕ → ℤ) (enter order place : ℕ → ℕ) (head ordered reached : ℕ) (level cut : ℤ) (f : ℕ) → IsLaidOut net first reverse forward → IsFilled net reverse forward arcs room → IsReached (node_count net) first arcs p e s q enter order place head ordered reached level → IsHit (node_count net) first arcs p e s q place head cut f → (v : ℕ) → v < node_count net → q v <ℤ far → 0 < degree first v
+one_each net first reverse forward arcs room p e s q enter order place head ordered reached level cut f l fl r h v b m =
+    elim (cases_eq v s) [
+      | inl t ↦ subst (λ (i : ℕ). 0 < degree first i) (sym t) (elim (cases_eq h.start s) [
+        | inl d ↦ own_degree first s f (subst (λ (i : ℕ). StartsAt first i f) d h.leaves)
+        | inr d ↦ source_degree (node_count net) first arcs p e s q enter order place head ordered reached level (place h.start + 1) h.start r (omega arith) h.node h.labelled d
+      ])
+      | inr ne ↦
+          let x = r.entered v b m ne in
+          subst (λ (i : ℕ). 0 < degree first i) x.arrives (has_own net first reverse forward arcs room x.start (enter v) l fl x.node x.leaves)
+    ]
+
+-- so a search that finds something looks at no fewer residual arcs than it scans nodes
+pub many_looks : (net : Net) (first reverse forward : List ℕ) (arcs : List ResidualArc) (room : List ℕ) (p e : ℕ → ℤ) (s : ℕ) (q : ℕ → ℤ) (enter order place : ℕ → ℕ) (head ordered reached : ℕ) (level cut : ℤ) (f : ℕ) → IsLaidOut net first reverse forward → IsFilled net reverse forward arcs room → IsReached (node_count net) first arcs p e s q enter order place head ordered reached level → IsHit (node_count net) first arcs p e s q place head cut f → head ≤ looked first order head
+many_looks net first reverse forward arcs room p e s q enter order place head ordered reached level cut f l fl r h =
+    let le : head ≤ reached = omega (arith, r.counts) in
+    let more : sum_below head (λ _. 1) ≤ looked first order head = sum_below-le head (λ _. 1) (λ j. degree first (order j)) (λ j b. one_each net first reverse forward arcs room p e s q enter order place head ordered reached level cut f l fl r h (order j) (r.node j (omega arith)) (r.marked j (omega arith))) in
+    omega (arith, sum_below-constant head 1)
+
+-- the path has no more residual arcs than that
+pub path_looks : (net : Net) (first reverse forward : List ℕ) (arcs : List ResidualArc) (room : List ℕ) (p e : ℕ → ℤ) (s : ℕ) (q : ℕ → ℤ) (enter order place : ℕ → ℕ) (head ordered reached : ℕ) (level cut : ℤ) (f : ℕ) → IsLaidOut net first reverse forward → IsFilled net reverse forward arcs room → IsReached (node_count net) first arcs p e s q enter order place head ordered reached level → IsHit (node_count net) first arcs p e s q place head cut f → place (end_at arcs (numbers reverse f)) + 1 ≤ looked first order head
+path_looks net first reverse forward arcs room p e s q enter order place head ordered reached level cut f l fl r h =
+    let last : place (end_at arcs (numbers reverse f)) ≡ place h.start = ap place (start_is net first reverse forward arcs room h.start f l fl h.node h.leaves) in
+    let scan : place h.start < head = h.scanned in
+    omega (arith, many_looks net first reverse forward arcs room p e s q enter order place head ordered reached level cut f l fl r h)
+
+-- labels and the cut fit
+pub label_bounds : (n h : ℕ) (ps z : ℤ) → n ≤ 1024 → h ≤ n → IsNear ps h z → (pos 0 ≤ℤ (ps +ℤ pos (2 * n))) × (ps ≤ℤ pos 0) → (negsuc 1073741822 ≤ℤ z) × (z ≤ℤ pos 1073741823)
+label_bounds n h ps z small le (a, b) (c, d) = (omega (arith, ints), omega (arith, ints))
+
+-- ---- writing along a list
+
+below_other : (order : ℕ → ℕ) (i j : ℕ) → i < j + 1 → order i ≢ order j → i < j
+below_other order i j b ne = elim (cases_lt i j) [ inl h ↦ h | inr h ↦ absurd (ne (ap order (omega arith))) ]
+
+pub moved_more : (p p₀ p' q : ℕ → ℤ) (order : ℕ → ℕ) (j : ℕ) (cut : ℤ) → IsPut p p' (order j) (q (order j) -ℤ cut) → ((i : ℕ) → i < j → p (order i) ≡ q (order i) -ℤ cut) → ((i : ℕ) → i < j + 1 → p' (order i) ≡ q (order i) -ℤ cut)
+moved_more p p₀ p' q order j cut put done i b =
+    elim (cases_eq (order i) (order j)) [
+      | inl t ↦ subst (λ (v : ℕ). p' v ≡ q v -ℤ cut) (sym t) put.here
+      | inr ne ↦ put.others (order i) ne ∙ done i (below_other order i j b ne)
+    ]
+
+pub cleared_more : (p p' : ℕ → ℤ) (order : ℕ → ℕ) (j : ℕ) → IsPut p p' (order j) far → ((i : ℕ) → i < j → p (order i) ≡ far) → ((i : ℕ) → i < j + 1 → p' (order i) ≡ far)
+cleared_more p p' order j put done i b =
+    elim (cases_eq (order i) (order j)) [
+      | inl t ↦ subst (λ (v : ℕ). p' v ≡ far) (sym t) put.here
+      | inr ne ↦ put.others (order i) ne ∙ done i (below_other order i j b ne)
+    ]
+
+pub cleared_stays : (p p' : ℕ → ℤ) (u v : ℕ) → IsPut p p' u far → p v ≡ far → p' v ≡ far
+cleared_stays p p' u v put h =
+    elim (cases_eq v u) [
+      | inl t ↦ ap p' t ∙ put.here
+      | inr ne ↦ put.others v ne ∙ h
+    ]
+
+both_far : (a : ℤ) → a ≤ℤ far → far ≤ℤ a → a ≡ far
+both_far a h k = omega (arith, ints)
+
+pub all_cleared : (n : ℕ) (first : List ℕ) (arcs : List ResidualArc) (p e : ℕ → ℤ) (s : ℕ) (q q' : ℕ → ℤ) (enter order place : ℕ → ℕ) (head ordered reached : ℕ) (level : ℤ) → IsReached n first arcs p e s q enter order place head ordered reached level → ((j : ℕ) → j < reached → q' (order j) ≡ far) → ((v : ℕ) → q v ≡ far → q' v ≡ far) → (v : ℕ) → v < n → q' v ≡ far
+all_cleared n first arcs p e s q q' enter order place head ordered reached level r cleared others v b =
+    elim (below_or_not (q v) far) [
+      | inl l ↦ let (a, back) = r.listed v b l in subst (λ (t : ℕ). q' t ≡ far) back (cleared (place v) a)
+      | inr f ↦ others v (both_far (q v) (r.most v b) f)
+    ]
