@@ -206,14 +206,16 @@ pub moved_low : (n : ℕ) (first : List ℕ) (arcs : List ResidualArc) (p p' e :
 moved_low n first arcs p p' e s q enter order place head ordered reached level cut f pr r near hit m v b =
     let low : p' v ≤ℤ pos 0 = low_too (p' v) (p v) (potentials_fall n first arcs p p' e s q enter order place head ordered reached level cut f r near m v b) (pr.low v b).1 in
     let le : head ≤ n = omega (arith, r.counts) in
-    let old : p' v ≡ p v → pos 0 ≤ℤ (p' v +ℤ pos (2 * n)) = λ t. subst (λ (z : ℤ). pos 0 ≤ℤ (z +ℤ pos (2 * n))) (sym t) (pr.low v b).0 in
-    (elim (below_or_not (q v) far) [
-      | inl l ↦ elim (cases_lt (place v) head) [
-        | inl h ↦ deep_enough (p s) (q v) cut (p' v) n head le (r.near v b l) (near.hit hit).near (m.scanned v b l h)
-        | inr h ↦ old (m.behind v b l h)
-      ]
-      | inr u ↦ old (m.unlabelled v b u)
-    ], low)
+    let old : p' v ≡ p v → pos 0 ≤ℤ (p' v +ℤ pos (2 * n)) = λ t. subst (λ (z : ℤ). pos 0 ≤ℤ (z +ℤ pos (2 * n))) (sym t) (pr.low v b).0 in (
+      elim (below_or_not (q v) far) [
+        | inl l ↦ elim (cases_lt (place v) head) [
+          | inl h ↦ deep_enough (p s) (q v) cut (p' v) n head le (r.near v b l) (near.hit hit).near (m.scanned v b l h)
+          | inr h ↦ old (m.behind v b l h)
+        ]
+        | inr u ↦ old (m.unlabelled v b u)
+      ],
+      low,
+    )
 
 -- a node where units are wanting has no label
 pub wanting_far : (n : ℕ) (first : List ℕ) (arcs : List ResidualArc) (p e : ℕ → ℤ) (s : ℕ) (q : ℕ → ℤ) (enter order place : ℕ → ℕ) (head ordered reached : ℕ) (level : ℤ) (v : ℕ) → IsReached n first arcs p e s q enter order place head ordered reached level → v < n → e v <ℤ pos 0 → far ≤ℤ q v

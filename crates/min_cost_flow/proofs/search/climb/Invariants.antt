@@ -16,5 +16,5 @@ invariant-loop-j l = record {
   cut : l.progress.cut ≡ l.initial.progress.cut;
   few : l.progress.ordered ≤ l.j;
   behind : (i : ℕ) → l.j ≤ i → numbers l.order i ≡ numbers l.initial.order i;
-  more : (l.progress.head < l.progress.ordered) ⊎ ((i : ℕ) × (l.j ≤ i) × (i < l.progress.reached) × (l.progress.level ≡ at_nodes l.label (numbers l.initial.order i) -ℤ at_nodes l.ground.potential.now (numbers l.initial.order i)))
+  more : (l.progress.head < l.progress.ordered) ⊎ ((i : ℕ) × (l.j ≤ i) × (i < l.progress.reached) × (l.progress.level ≡ at_nodes l.label (numbers l.initial.order i) -ℤ at_nodes l.ground.potential.now (numbers l.initial.order i)));
 }

@@ -9,5 +9,5 @@ invariant-loop-j l = record {
   cut : l.least ≤ℤ l.progress.cut;
   level : l.progress.level ≤ℤ l.least;
   least : (j : ℕ) → l.progress.ordered ≤ j → j < l.j → l.least ≤ℤ (at_nodes l.label (numbers l.order j) -ℤ at_nodes l.ground.potential.now (numbers l.order j));
-  some : l.least <ℤ l.progress.cut → (j : ℕ) × (l.progress.ordered ≤ j) × (j < l.j) × (l.least ≡ at_nodes l.label (numbers l.order j) -ℤ at_nodes l.ground.potential.now (numbers l.order j))
+  some : l.least <ℤ l.progress.cut → (j : ℕ) × (l.progress.ordered ≤ j) × (j < l.j) × (l.least ≡ at_nodes l.label (numbers l.order j) -ℤ at_nodes l.ground.potential.now (numbers l.order j));
 }

@@ -14,5 +14,5 @@ invariant-loop-number l = record {
   level : l.progress.level ≡ l.initial.progress.level;
   cut : l.progress.cut ≤ℤ l.initial.progress.cut;
   looks : l.looks + numbers l.ground.first.now l.node ≡ l.initial.looks + l.number;
-  serves : (k : ℕ) → numbers l.ground.first.now l.node ≤ k → k < l.number → Serves l.ground.arcs.now (at_nodes l.ground.potential.now) (at_nodes l.label) l.progress.cut l.node k
+  serves : (k : ℕ) → numbers l.ground.first.now l.node ≤ k → k < l.number → Serves l.ground.arcs.now (at_nodes l.ground.potential.now) (at_nodes l.label) l.progress.cut l.node k;
 }

@@ -9,7 +9,7 @@ invariant-nodes l = record {
   reached : Reaches l.ground l.label l.enter l.order l.place l.progress;
   nearest : FindsNearest l.ground l.label l.place l.progress;
   served : IsServed (nodes_of l.ground) l.ground.first.now l.ground.arcs.now (at_nodes l.ground.potential.now) (at_nodes l.label) (numbers l.place) l.progress.cut l.progress.head;
-  looks : l.looks ≡ l.initial.looks + looked l.ground.first.now (numbers l.order) l.progress.head
+  looks : l.looks ≡ l.initial.looks + looked l.ground.first.now (numbers l.order) l.progress.head;
 }
 
 abbrev pub decreases-nodes : goal.decreases-nodes
