@@ -5,6 +5,6 @@
 #[cfg(test)]
 mod json;
 #[cfg(test)]
-mod reports;
-#[cfg(test)]
 mod runs;
+#[cfg(test)]
+mod written;
