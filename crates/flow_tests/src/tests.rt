@@ -231,7 +231,11 @@ fn random_networks_cost_what_the_slow_solver_finds(rt: HostRuntime) -> Result<()
     for count in 0..1000u32 {
         let network = random_network(rt.alloc(), &mut numbers)??;
         let expected = plain::least_cost(rt.alloc(), &network)?;
-        assert_eq!(rt; least_cost(rt.alloc(), &network)?, expected, "network {count}");
+        assert_eq!(rt;
+            least_cost(rt.alloc(), &network)?,
+            expected,
+            "network {count}"
+        );
     }
     Ok(())
 }

@@ -1,12 +1,12 @@
 -- What the steps of a search keep: a label, a place, a move of the level.
-use Rattle.std.proofs.Common.{length, zero, suc, ◌-◌, ◌≡◌, ◌≢◌, ◌≤◌, ◌<◌, ◌⊎◌, ℕ, ◌+◌, ◌*◌, Bool, true, false, refl, sym, ◌∙◌, ap, subst, inl, inr, arith, List}
+use Rattle.std.proofs.Common.{length, zero, suc, ◌≡◌, ◌≢◌, ◌≤◌, ◌<◌, ◌⊎◌, ℕ, ◌+◌, ◌*◌, refl, sym, ◌∙◌, ap, subst, inl, inr, arith, List}
 use Rattle.std.specs.Prelude.{ℤ, pos, negsuc, ◌+ℤ◌, ◌-ℤ◌, ◌≤ℤ◌, ◌<ℤ◌}
 use Rattle.std.proofs.lemmas.Bool.{cases_eq, cases_lt}
 use Rattle.std.proofs.lemmas.Int.{ints}
 use Rattle.min_cost_flow.specs.declared.residual.ResidualArc.{ResidualArc}
 use Rattle.min_cost_flow.proofs.Distinct.{AreDistinct, distinct_sum, room_for}
 use Rattle.min_cost_flow.specs.Layout.{numbers, end_at, code_at, StartsAt}
-use Rattle.min_cost_flow.specs.Search.{far, IsOpen, IsGraph, IsPriced, IsNear, IsEntered, IsReached, IsHit, IsNearest, Serves, IsServed, IsLeft, IsKept, IsOffer, IsPut, IsSwapped, degree, looked}
+use Rattle.min_cost_flow.specs.Search.{far, IsGraph, IsPriced, IsNear, IsEntered, IsReached, IsNearest, Serves, IsServed, IsLeft, IsKept, IsOffer, IsPut, IsSwapped, degree, looked}
 use Rattle.sums.specs.Sums.{sum_below}
 use Rattle.sums.proofs.Sums.{sum_below-same, sum_below-more}
 
@@ -115,34 +115,36 @@ relabelled n first arcs p e s q q' enter enter' order place head ordered reached
       | inl h ↦ subst (λ (t : ℕ). q t <ℤ far) (sym h) l
       | inr ne ↦ let e : q' w ≡ q w = put.others w ne in rw (sym e) m
     ] in
-    let now : (w : ℕ) → w < n → q w <ℤ far → q' w <ℤ far = λ w c m. under_far (q' w) (q w) (put_lower q q' v w x put o.less) m in
-    (record {
-      counts = r.counts;
-      begun = r.begun;
-      node = r.node;
-      at = r.at;
-      marked = λ j c. now (order j) (r.node j c) (r.marked j c);
-      listed = λ w c m. r.listed w c (was w c m);
-      most = λ w c. under_most (q' w) (q w) (put_lower q q' v w x put o.less) (r.most w c);
-      under = λ w c m h. let t : (q' w ≡ q w) = put.others w (λ t. let e : place w ≡ place v = ap place t in absurd (omega arith)) in rw t (r.under w c (was w c m) h);
-      here = λ w c m h. elim (cases_eq w v) [
-        | inl t ↦ subst (λ (t : ℕ). level ≤ℤ (q' t -ℤ p t)) (sym t) (rw put.here o.beyond)
-        | inr ne ↦ rw (put.others w ne) (r.here w c (was w c m) h)
-      ];
-      near = λ w c m. elim (cases_eq w v) [
-        | inl t ↦ subst (λ (t : ℕ). IsNear (p s) head (q' t)) (sym t) (subst (λ (z : ℤ). IsNear (p s) head z) (sym put.here) o.near)
-        | inr ne ↦ subst (λ (z : ℤ). IsNear (p s) head z) (sym (put.others w ne)) (r.near w c (was w c m))
-      ];
-      source = (r.source.0, now s r.source.0 r.source.1, r.source.2);
-      plain = λ w c m. elim (cases_eq w v) [
-        | inl t ↦ subst (λ (t : ℕ). pos 0 ≤ℤ e t) (sym t) fair
-        | inr ne ↦ r.plain w c (was w c m)
-      ];
-      entered = λ w c m ne. elim (cases_eq w v) [
-        | inl t ↦ subst (λ (t : ℕ). IsEntered n first arcs q' place head t (enter' t)) (sym t) (subst (λ (i : ℕ). IsEntered n first arcs q' place head v i) (sym entered.here) (offered_entered n first arcs p s q q' place place head level k v x o put.here kept (omega arith)))
-        | inr d ↦ subst (λ (i : ℕ). IsEntered n first arcs q' place head w i) (sym (entered.others w d)) (kept_entered n first arcs q q' place place head w (enter w) (r.entered w c (was w c m) ne) (put.others w d) kept (inr refl))
-      ];
-    }, kept)
+    let now : (w : ℕ) → w < n → q w <ℤ far → q' w <ℤ far = λ w c m. under_far (q' w) (q w) (put_lower q q' v w x put o.less) m in (
+      record {
+        counts = r.counts;
+        begun = r.begun;
+        node = r.node;
+        at = r.at;
+        marked = λ j c. now (order j) (r.node j c) (r.marked j c);
+        listed = λ w c m. r.listed w c (was w c m);
+        most = λ w c. under_most (q' w) (q w) (put_lower q q' v w x put o.less) (r.most w c);
+        under = λ w c m h. let t : (q' w ≡ q w) = put.others w (λ t. let e : place w ≡ place v = ap place t in absurd (omega arith)) in rw t (r.under w c (was w c m) h);
+        here = λ w c m h. elim (cases_eq w v) [
+          | inl t ↦ subst (λ (t : ℕ). level ≤ℤ (q' t -ℤ p t)) (sym t) (rw put.here o.beyond)
+          | inr ne ↦ rw (put.others w ne) (r.here w c (was w c m) h)
+        ];
+        near = λ w c m. elim (cases_eq w v) [
+          | inl t ↦ subst (λ (t : ℕ). IsNear (p s) head (q' t)) (sym t) (subst (λ (z : ℤ). IsNear (p s) head z) (sym put.here) o.near)
+          | inr ne ↦ subst (λ (z : ℤ). IsNear (p s) head z) (sym (put.others w ne)) (r.near w c (was w c m))
+        ];
+        source = (r.source.0, now s r.source.0 r.source.1, r.source.2);
+        plain = λ w c m. elim (cases_eq w v) [
+          | inl t ↦ subst (λ (t : ℕ). pos 0 ≤ℤ e t) (sym t) fair
+          | inr ne ↦ r.plain w c (was w c m)
+        ];
+        entered = λ w c m ne. elim (cases_eq w v) [
+          | inl t ↦ subst (λ (t : ℕ). IsEntered n first arcs q' place head t (enter' t)) (sym t) (subst (λ (i : ℕ). IsEntered n first arcs q' place head v i) (sym entered.here) (offered_entered n first arcs p s q q' place place head level k v x o put.here kept (omega arith)))
+          | inr d ↦ subst (λ (i : ℕ). IsEntered n first arcs q' place head w i) (sym (entered.others w d)) (kept_entered n first arcs q q' place place head w (enter w) (r.entered w c (was w c m) ne) (put.others w d) kept (inr refl))
+        ];
+      },
+      kept,
+    )
 
 -- ---- a label for a node that was not reached before
 
@@ -163,49 +165,51 @@ enlisted n first arcs p e s q q' enter enter' order order' place place' head ord
     let was : (w : ℕ) → w ≢ v → q' w <ℤ far → q w <ℤ far = λ w ne m. rw (sym (put.others w ne)) m in
     let labelled : q' v <ℤ far = subst (λ (z : ℤ). z <ℤ far) (sym put.here) (not_far x (q v) o.less (r.most v b)) in
     let place_other : (j : ℕ) → j < reached → order' j ≡ order j = λ j c. listed.others j (λ t. omega arith) in
-    let order_fresh : (j : ℕ) → j < reached → order j ≢ v = λ j c. fresh (order j) (r.marked j c) in
-    (record {
-      counts = (ho, omega arith, omega arith);
-      begun = r.begun;
-      node = λ j c. elim (cases_eq j reached) [
-        | inl t ↦ subst (λ (i : ℕ). i < n) (sym (ap order' t ∙ listed.here)) b
-        | inr ne ↦ let d : j < reached = omega arith in subst (λ (i : ℕ). i < n) (sym (place_other j d)) (r.node j d)
-      ];
-      at = λ j c. elim (cases_eq j reached) [
-        | inl t ↦ ap place' (ap order' t ∙ listed.here) ∙ here ∙ sym t
-        | inr ne ↦ let d : j < reached = omega arith in ap place' (place_other j d) ∙ placed.others (order j) (order_fresh j d) ∙ r.at j d
-      ];
-      marked = λ j c. elim (cases_eq j reached) [
-        | inl t ↦ subst (λ (i : ℕ). q' i <ℤ far) (sym (ap order' t ∙ listed.here)) labelled
-        | inr ne ↦ let d : j < reached = omega arith in subst (λ (i : ℕ). q' i <ℤ far) (sym (place_other j d)) (rw (put.others (order j) (order_fresh j d)) (r.marked j d))
-      ];
-      listed = λ w c m. elim (cases_eq w v) [
-        | inl t ↦ let g : place' w ≡ reached = ap place' t ∙ here in (omega arith, ap order' g ∙ listed.here ∙ sym t)
-        | inr ne ↦ let (d, f) = r.listed w c (was w ne m) in let g : place' w ≡ place w = placed.others w ne in (omega arith, ap order' g ∙ place_other (place w) d ∙ f)
-      ];
-      most = λ w c. under_most (q' w) (q w) (put_lower q q' v w x put o.less) (r.most w c);
-      under = λ w c m h. elim (cases_eq w v) [
-        | inl t ↦ let g : place' w ≡ reached = ap place' t ∙ here in absurd (omega arith)
-        | inr ne ↦ rw (put.others w ne) (r.under w c (was w ne m) (rw (sym (placed.others w ne)) h))
-      ];
-      here = λ w c m h. elim (cases_eq w v) [
-        | inl t ↦ subst (λ (t : ℕ). level ≤ℤ (q' t -ℤ p t)) (sym t) (rw put.here o.beyond)
-        | inr ne ↦ rw (put.others w ne) (r.here w c (was w ne m) (rw (sym (placed.others w ne)) h))
-      ];
-      near = λ w c m. elim (cases_eq w v) [
-        | inl t ↦ subst (λ (t : ℕ). IsNear (p s) head (q' t)) (sym t) (subst (λ (z : ℤ). IsNear (p s) head z) (sym put.here) o.near)
-        | inr ne ↦ subst (λ (z : ℤ). IsNear (p s) head z) (sym (put.others w ne)) (r.near w c (was w ne m))
-      ];
-      source = (r.source.0, rw (put.others s (fresh s r.source.1)) r.source.1, placed.others s (fresh s r.source.1) ∙ r.source.2);
-      plain = λ w c m. elim (cases_eq w v) [
-        | inl t ↦ subst (λ (t : ℕ). pos 0 ≤ℤ e t) (sym t) fair
-        | inr ne ↦ r.plain w c (was w ne m)
-      ];
-      entered = λ w c m ne. elim (cases_eq w v) [
-        | inl t ↦ subst (λ (t : ℕ). IsEntered n first arcs q' place' head t (enter' t)) (sym t) (subst (λ (i : ℕ). IsEntered n first arcs q' place' head v i) (sym entered.here) (offered_entered n first arcs p s q q' place place' head level k v x o put.here kept (omega arith)))
-        | inr d ↦ subst (λ (i : ℕ). IsEntered n first arcs q' place' head w i) (sym (entered.others w d)) (kept_entered n first arcs q q' place place' head w (enter w) (r.entered w c (was w d m) ne) (put.others w d) kept (inr (placed.others w d)))
-      ];
-    }, kept)
+    let order_fresh : (j : ℕ) → j < reached → order j ≢ v = λ j c. fresh (order j) (r.marked j c) in (
+      record {
+        counts = (ho, omega arith, omega arith);
+        begun = r.begun;
+        node = λ j c. elim (cases_eq j reached) [
+          | inl t ↦ subst (λ (i : ℕ). i < n) (sym (ap order' t ∙ listed.here)) b
+          | inr ne ↦ let d : j < reached = omega arith in subst (λ (i : ℕ). i < n) (sym (place_other j d)) (r.node j d)
+        ];
+        at = λ j c. elim (cases_eq j reached) [
+          | inl t ↦ ap place' (ap order' t ∙ listed.here) ∙ here ∙ sym t
+          | inr ne ↦ let d : j < reached = omega arith in ap place' (place_other j d) ∙ placed.others (order j) (order_fresh j d) ∙ r.at j d
+        ];
+        marked = λ j c. elim (cases_eq j reached) [
+          | inl t ↦ subst (λ (i : ℕ). q' i <ℤ far) (sym (ap order' t ∙ listed.here)) labelled
+          | inr ne ↦ let d : j < reached = omega arith in subst (λ (i : ℕ). q' i <ℤ far) (sym (place_other j d)) (rw (put.others (order j) (order_fresh j d)) (r.marked j d))
+        ];
+        listed = λ w c m. elim (cases_eq w v) [
+          | inl t ↦ let g : place' w ≡ reached = ap place' t ∙ here in (omega arith, ap order' g ∙ listed.here ∙ sym t)
+          | inr ne ↦ let (d, f) = r.listed w c (was w ne m) in let g : place' w ≡ place w = placed.others w ne in (omega arith, ap order' g ∙ place_other (place w) d ∙ f)
+        ];
+        most = λ w c. under_most (q' w) (q w) (put_lower q q' v w x put o.less) (r.most w c);
+        under = λ w c m h. elim (cases_eq w v) [
+          | inl t ↦ let g : place' w ≡ reached = ap place' t ∙ here in absurd (omega arith)
+          | inr ne ↦ rw (put.others w ne) (r.under w c (was w ne m) (rw (sym (placed.others w ne)) h))
+        ];
+        here = λ w c m h. elim (cases_eq w v) [
+          | inl t ↦ subst (λ (t : ℕ). level ≤ℤ (q' t -ℤ p t)) (sym t) (rw put.here o.beyond)
+          | inr ne ↦ rw (put.others w ne) (r.here w c (was w ne m) (rw (sym (placed.others w ne)) h))
+        ];
+        near = λ w c m. elim (cases_eq w v) [
+          | inl t ↦ subst (λ (t : ℕ). IsNear (p s) head (q' t)) (sym t) (subst (λ (z : ℤ). IsNear (p s) head z) (sym put.here) o.near)
+          | inr ne ↦ subst (λ (z : ℤ). IsNear (p s) head z) (sym (put.others w ne)) (r.near w c (was w ne m))
+        ];
+        source = (r.source.0, rw (put.others s (fresh s r.source.1)) r.source.1, placed.others s (fresh s r.source.1) ∙ r.source.2);
+        plain = λ w c m. elim (cases_eq w v) [
+          | inl t ↦ subst (λ (t : ℕ). pos 0 ≤ℤ e t) (sym t) fair
+          | inr ne ↦ r.plain w c (was w ne m)
+        ];
+        entered = λ w c m ne. elim (cases_eq w v) [
+          | inl t ↦ subst (λ (t : ℕ). IsEntered n first arcs q' place' head t (enter' t)) (sym t) (subst (λ (i : ℕ). IsEntered n first arcs q' place' head v i) (sym entered.here) (offered_entered n first arcs p s q q' place place' head level k v x o put.here kept (omega arith)))
+          | inr d ↦ subst (λ (i : ℕ). IsEntered n first arcs q' place' head w i) (sym (entered.others w d)) (kept_entered n first arcs q q' place place' head w (enter w) (r.entered w c (was w d m) ne) (put.others w d) kept (inr (placed.others w d)))
+        ];
+      },
+      kept,
+    )
 
 -- ---- two nodes change places
 
@@ -233,81 +237,86 @@ swapped n first arcs p e s q enter order order' place place' head ordered reache
     let kept : IsKept n head q place q place' = record {
       lower = λ w c. same_z (q w);
       same = λ w c m h. (refl, sw.stay w (λ t. let e : place w ≡ place v = ap place t in absurd (omega arith)) (λ t. let e : place w ≡ place o = ap place t in absurd (omega arith)));
-      old = λ w c m h. (m, elim (cases_eq w v) [
-        | inl t ↦ let e : place' w ≡ ordered = ap place' t ∙ sw.stands in absurd (omega arith)
-        | inr nv ↦ elim (cases_eq w o) [
-          | inl t ↦ let e : place' w ≡ from = ap place' t ∙ other_at (λ u. nv (t ∙ u)) in absurd (omega arith)
-          | inr nw ↦ let e : place' w ≡ place w = sw.stay w nv nw in omega arith
-        ]
-      ]);
+      old = λ w c m h. (
+        m,
+        elim (cases_eq w v) [
+          | inl t ↦ let e : place' w ≡ ordered = ap place' t ∙ sw.stands in absurd (omega arith)
+          | inr nv ↦ elim (cases_eq w o) [
+            | inl t ↦ let e : place' w ≡ from = ap place' t ∙ other_at (λ u. nv (t ∙ u)) in absurd (omega arith)
+            | inr nw ↦ let e : place' w ≡ place w = sw.stay w nv nw in omega arith
+          ]
+        ],
+      );
     } in
     let begun : 0 < ordered = r.begun in
     let s_at : place s ≡ 0 = r.source.2 in
     let s_v : s ≢ v = λ t. let e : place s ≡ place v = ap place t in omega arith in
-    let s_o : s ≢ o = λ t. let e : place s ≡ place o = ap place t in omega arith in
-    (record {
-      counts = (omega arith, omega arith, rn);
-      begun = omega arith;
-      node = λ j c. elim (cases_eq j ordered) [
-        | inl t ↦ subst (λ (i : ℕ). i < n) (sym (ap order' t ∙ sw.moved)) b
-        | inr nt ↦ elim (cases_eq j from) [
-          | inl t ↦ subst (λ (i : ℕ). i < n) (sym (ap order' t ∙ sw.other (λ u. nt (t ∙ u)))) ob
-          | inr nf ↦ subst (λ (i : ℕ). i < n) (sym (sw.rest j nt nf)) (r.node j c)
-        ]
-      ];
-      at = λ j c. elim (cases_eq j ordered) [
-        | inl t ↦ ap place' (ap order' t ∙ sw.moved) ∙ sw.stands ∙ sym t
-        | inr nt ↦ elim (cases_eq j from) [
-          | inl t ↦ let ne : from ≢ ordered = λ u. nt (t ∙ u) in ap place' (ap order' t ∙ sw.other ne) ∙ other_at (apart ne) ∙ sym t
-          | inr nf ↦
-              let back : place (order j) ≡ j = r.at j c in
-              ap place' (sw.rest j nt nf) ∙ sw.stay (order j) (λ t. nf (sym back ∙ ap place t ∙ at)) (λ t. nt (sym back ∙ ap place t ∙ oat)) ∙ back
-        ]
-      ];
-      marked = λ j c. elim (cases_eq j ordered) [
-        | inl t ↦ subst (λ (i : ℕ). q i <ℤ far) (sym (ap order' t ∙ sw.moved)) l
-        | inr nt ↦ elim (cases_eq j from) [
-          | inl t ↦ subst (λ (i : ℕ). q i <ℤ far) (sym (ap order' t ∙ sw.other (λ u. nt (t ∙ u)))) ol
-          | inr nf ↦ subst (λ (i : ℕ). q i <ℤ far) (sym (sw.rest j nt nf)) (r.marked j c)
-        ]
-      ];
-      listed = λ w c m. elim (cases_eq w v) [
-        | inl t ↦ let e : place' w ≡ ordered = ap place' t ∙ sw.stands in (omega arith, ap order' e ∙ sw.moved ∙ sym t)
-        | inr nv ↦ elim (cases_eq w o) [
-          | inl t ↦ let ne : o ≢ v = λ u. nv (t ∙ u) in let e : place' w ≡ from = ap place' t ∙ other_at ne in (omega arith, ap order' e ∙ sw.other (joint ne) ∙ sym t)
-          | inr nw ↦
-              let (stays, nt, nf) = rest w c m nv nw in
-              let (d, back) = r.listed w c m in
-              (omega arith, ap order' stays ∙ sw.rest (place w) nt nf ∙ back)
-        ]
-      ];
-      most = r.most;
-      under = λ w c m h. elim (cases_eq w v) [
-        | inl t ↦ subst (λ (i : ℕ). (q i -ℤ p i) ≤ℤ level) (sym t) near
-        | inr nv ↦ elim (cases_eq w o) [
-          | inl t ↦ let ne : o ≢ v = λ u. nv (t ∙ u) in let e : place' w ≡ from = ap place' t ∙ other_at ne in let d : from ≢ ordered = joint ne in absurd (omega arith)
-          | inr nw ↦ let (stays, nt, nf) = rest w c m nv nw in r.under w c m (omega arith)
-        ]
-      ];
-      here = λ w c m h. elim (cases_eq w v) [
-        | inl t ↦ subst (λ (i : ℕ). level ≤ℤ (q i -ℤ p i)) (sym t) (r.here v b l (omega arith))
-        | inr nv ↦ elim (cases_eq w o) [
-          | inl t ↦ subst (λ (i : ℕ). level ≤ℤ (q i -ℤ p i)) (sym t) (r.here o ob ol (omega arith))
-          | inr nw ↦ let (stays, nt, nf) = rest w c m nv nw in r.here w c m (omega arith)
-        ]
-      ];
-      near = r.near;
-      source = (r.source.0, r.source.1, sw.stay s s_v s_o ∙ s_at);
-      plain = r.plain;
-      entered = λ w c m ne. kept_entered n first arcs q q place place' head w (enter w) (r.entered w c m ne) refl kept (
-        elim (cases_eq w v) [
-          | inl t ↦ let e : place' w ≡ ordered = ap place' t ∙ sw.stands in inl (omega arith)
-          | inr nv ↦ elim (cases_eq w o) [
-            | inl t ↦ let nn : o ≢ v = λ u. nv (t ∙ u) in let e : place' w ≡ from = ap place' t ∙ other_at nn in inl (omega arith)
-            | inr nw ↦ inr (sw.stay w nv nw)
+    let s_o : s ≢ o = λ t. let e : place s ≡ place o = ap place t in omega arith in (
+      record {
+        counts = (omega arith, omega arith, rn);
+        begun = omega arith;
+        node = λ j c. elim (cases_eq j ordered) [
+          | inl t ↦ subst (λ (i : ℕ). i < n) (sym (ap order' t ∙ sw.moved)) b
+          | inr nt ↦ elim (cases_eq j from) [
+            | inl t ↦ subst (λ (i : ℕ). i < n) (sym (ap order' t ∙ sw.other (λ u. nt (t ∙ u)))) ob
+            | inr nf ↦ subst (λ (i : ℕ). i < n) (sym (sw.rest j nt nf)) (r.node j c)
           ]
-        ]);
-    }, kept)
+        ];
+        at = λ j c. elim (cases_eq j ordered) [
+          | inl t ↦ ap place' (ap order' t ∙ sw.moved) ∙ sw.stands ∙ sym t
+          | inr nt ↦ elim (cases_eq j from) [
+            | inl t ↦ let ne : from ≢ ordered = λ u. nt (t ∙ u) in ap place' (ap order' t ∙ sw.other ne) ∙ other_at (apart ne) ∙ sym t
+            | inr nf ↦
+                let back : place (order j) ≡ j = r.at j c in
+                ap place' (sw.rest j nt nf) ∙ sw.stay (order j) (λ t. nf (sym back ∙ ap place t ∙ at)) (λ t. nt (sym back ∙ ap place t ∙ oat)) ∙ back
+          ]
+        ];
+        marked = λ j c. elim (cases_eq j ordered) [
+          | inl t ↦ subst (λ (i : ℕ). q i <ℤ far) (sym (ap order' t ∙ sw.moved)) l
+          | inr nt ↦ elim (cases_eq j from) [
+            | inl t ↦ subst (λ (i : ℕ). q i <ℤ far) (sym (ap order' t ∙ sw.other (λ u. nt (t ∙ u)))) ol
+            | inr nf ↦ subst (λ (i : ℕ). q i <ℤ far) (sym (sw.rest j nt nf)) (r.marked j c)
+          ]
+        ];
+        listed = λ w c m. elim (cases_eq w v) [
+          | inl t ↦ let e : place' w ≡ ordered = ap place' t ∙ sw.stands in (omega arith, ap order' e ∙ sw.moved ∙ sym t)
+          | inr nv ↦ elim (cases_eq w o) [
+            | inl t ↦ let ne : o ≢ v = λ u. nv (t ∙ u) in let e : place' w ≡ from = ap place' t ∙ other_at ne in (omega arith, ap order' e ∙ sw.other (joint ne) ∙ sym t)
+            | inr nw ↦
+                let (stays, nt, nf) = rest w c m nv nw in
+                let (d, back) = r.listed w c m in
+                (omega arith, ap order' stays ∙ sw.rest (place w) nt nf ∙ back)
+          ]
+        ];
+        most = r.most;
+        under = λ w c m h. elim (cases_eq w v) [
+          | inl t ↦ subst (λ (i : ℕ). (q i -ℤ p i) ≤ℤ level) (sym t) near
+          | inr nv ↦ elim (cases_eq w o) [
+            | inl t ↦ let ne : o ≢ v = λ u. nv (t ∙ u) in let e : place' w ≡ from = ap place' t ∙ other_at ne in let d : from ≢ ordered = joint ne in absurd (omega arith)
+            | inr nw ↦ let (stays, nt, nf) = rest w c m nv nw in r.under w c m (omega arith)
+          ]
+        ];
+        here = λ w c m h. elim (cases_eq w v) [
+          | inl t ↦ subst (λ (i : ℕ). level ≤ℤ (q i -ℤ p i)) (sym t) (r.here v b l (omega arith))
+          | inr nv ↦ elim (cases_eq w o) [
+            | inl t ↦ subst (λ (i : ℕ). level ≤ℤ (q i -ℤ p i)) (sym t) (r.here o ob ol (omega arith))
+            | inr nw ↦ let (stays, nt, nf) = rest w c m nv nw in r.here w c m (omega arith)
+          ]
+        ];
+        near = r.near;
+        source = (r.source.0, r.source.1, sw.stay s s_v s_o ∙ s_at);
+        plain = r.plain;
+        entered = λ w c m ne. kept_entered n first arcs q q place place' head w (enter w) (r.entered w c m ne) refl kept (
+            elim (cases_eq w v) [
+              | inl t ↦ let e : place' w ≡ ordered = ap place' t ∙ sw.stands in inl (omega arith)
+              | inr nv ↦ elim (cases_eq w o) [
+                | inl t ↦ let nn : o ≢ v = λ u. nv (t ∙ u) in let e : place' w ≡ from = ap place' t ∙ other_at nn in inl (omega arith)
+                | inr nw ↦ inr (sw.stay w nv nw)
+              ]
+            ]);
+      },
+      kept,
+    )
 
 -- ---- the next node is scanned
 
@@ -699,14 +708,15 @@ strictly a b h ne = elim (below_or_not a b) [ inl l ↦ l | inr g ↦ absurd (ne
 
 pub least_more : (q p : ℕ → ℤ) (order : ℕ → ℕ) (ordered j : ℕ) (cut least a r : ℤ) → a ≡ q (order j) -ℤ p (order j) → r ≤ℤ least → r ≤ℤ a → (r ≡ least) ⊎ (r ≡ a) → ordered ≤ j → ((i : ℕ) → ordered ≤ i → i < j → least ≤ℤ (q (order i) -ℤ p (order i))) → (least <ℤ cut → (i : ℕ) × (ordered ≤ i) × (i < j) × (least ≡ q (order i) -ℤ p (order i))) → ((i : ℕ) → ordered ≤ i → i < j + 1 → r ≤ℤ (q (order i) -ℤ p (order i))) × (r <ℤ cut → (i : ℕ) × (ordered ≤ i) × (i < j + 1) × (r ≡ q (order i) -ℤ p (order i)))
 least_more q p order ordered j cut least a r here first second either le all some = (
-    (λ i b c. elim (cases_lt i j) [
-      | inl d ↦ under_level r least (q (order i) -ℤ p (order i)) first (all i b d)
-      | inr d ↦ let e : i ≡ j = omega arith in subst (λ (t : ℕ). r ≤ℤ (q (order t) -ℤ p (order t))) (sym e) (subst (λ (z : ℤ). r ≤ℤ z) here second)
-    ]),
-    λ h. elim either [
-      | inl e ↦ let (i, b, c, d) = some (subst (λ (z : ℤ). z <ℤ cut) e h) in (i, b, omega arith, e ∙ d)
-      | inr e ↦ (j, le, omega arith, e ∙ here)
-    ])
+  (λ i b c. elim (cases_lt i j) [
+    | inl d ↦ under_level r least (q (order i) -ℤ p (order i)) first (all i b d)
+    | inr d ↦ let e : i ≡ j = omega arith in subst (λ (t : ℕ). r ≤ℤ (q (order t) -ℤ p (order t))) (sym e) (subst (λ (z : ℤ). r ≤ℤ z) here second)
+  ]),
+  λ h. elim either [
+    | inl e ↦ let (i, b, c, d) = some (subst (λ (z : ℤ). z <ℤ cut) e h) in (i, b, omega arith, e ∙ d)
+    | inr e ↦ (j, le, omega arith, e ∙ here)
+  ],
+)
 
 pub at_place : {head ordered j k : ℕ} → head ≤ ordered → ordered ≤ j → k ≡ j → head ≤ k
 at_place a b h = omega arith

@@ -8,10 +8,10 @@
 mod arc;
 mod augment;
 mod build;
-mod reach;
 mod fault;
 pub mod laws;
 mod network;
+mod reach;
 mod residual;
 mod search;
 mod solved;

@@ -39,12 +39,7 @@ pub(crate) fn search(
 }
 
 /// Labels the source alone.
-fn begin(
-    ground: Ground<'_>,
-    label: &mut [i32],
-    order: &mut [u32],
-    place: &mut [u32],
-) -> Progress
+fn begin(ground: Ground<'_>, label: &mut [i32], order: &mut [u32], place: &mut [u32]) -> Progress
     requires ground { IsGround ground }
     requires sizes { HasSizes ground label.old order.old order.old place.old }
     requires blank { (v : ℕ) → v < nodes_of ground → at_nodes label.old v ≡ far }
@@ -53,7 +48,13 @@ fn begin(
     ensures nearest { FindsNearest ground.entry label.new place.new result }
     ensures head { result.head ≡ 0 }
 {
-    place_first(label, order, place, ground.source, ground.potential[ground.source]);
+    place_first(
+        label,
+        order,
+        place,
+        ground.source,
+        ground.potential[ground.source],
+    );
     Progress {
         head: 0,
         ordered: 1,
@@ -66,13 +67,7 @@ fn begin(
 }
 
 /// Puts a node first in the order, with a label.
-fn place_first(
-    label: &mut [i32],
-    order: &mut [u32],
-    place: &mut [u32],
-    node: usize,
-    potential: i32,
-)
+fn place_first(label: &mut [i32], order: &mut [u32], place: &mut [u32], node: usize, potential: i32)
     requires label { node < length label.old }
     requires order { 0 < length order.old }
     requires place { node < length place.old }
@@ -251,7 +246,9 @@ fn scan(
     let node = order[progress.head] as usize;
     progress.head += 1;
     for number in ground.first[node] as usize..ground.first[node + 1] as usize {
-        consider(ground, label, enter, order, place, progress, node, number, looks);
+        consider(
+            ground, label, enter, order, place, progress, node, number, looks,
+        );
     }
 }
 

@@ -36,7 +36,6 @@ impl From<AllocError> for SolveFault {
     }
 }
 
-
 /// How much work was done: searches, and looks at residual arcs in them.
 #[derive(Clone, Copy, Debug, PartialEq, Eq)]
 struct Work {
@@ -76,8 +75,19 @@ pub fn solve(alloc: Global, network: &Network) -> Result<Solved, SolveFault>
     let mut order = vec![in alloc; 0; nodes]?;
     let mut place = vec![in alloc; 0; nodes]?;
     let done = fill(
-        network, &mut first, &mut reverse, &mut flow, &mut arcs, &mut room, &mut potential, &mut excess,
-        &mut score, &mut label, &mut enter, &mut order, &mut place,
+        network,
+        &mut first,
+        &mut reverse,
+        &mut flow,
+        &mut arcs,
+        &mut room,
+        &mut potential,
+        &mut excess,
+        &mut score,
+        &mut label,
+        &mut enter,
+        &mut order,
+        &mut place,
     );
     match done {
         Some(work) => Ok(Solved::new(flow, potential, work.searches, work.looks)),
@@ -128,7 +138,9 @@ fn fill(
         reverse,
         forward: flow,
     };
-    match run(layout, arcs, room, potential, excess, score, label, enter, order, place) {
+    match run(
+        layout, arcs, room, potential, excess, score, label, enter, order, place,
+    ) {
         Some(work) => {
             read_flow(reverse, room, flow);
             Some(work)
@@ -332,18 +344,22 @@ fn augment_once(
     }
     move_potentials(order, label, potential, progress.head, progress.cut);
     clear(order, label, progress.reached);
-    send(layout, arcs, room, enter, place, potential, excess, source, progress.found);
+    send(
+        layout,
+        arcs,
+        room,
+        enter,
+        place,
+        potential,
+        excess,
+        source,
+        progress.found,
+    );
     true
 }
 
 /// Moves the potentials of the nodes that were scanned by as much as they are nearer than the cut.
-fn move_potentials(
-    order: &[u32],
-    label: &[i32],
-    potential: &mut [i32],
-    scanned: usize,
-    cut: i32,
-)
+fn move_potentials(order: &[u32], label: &[i32], potential: &mut [i32], scanned: usize, cut: i32)
     requires order { scanned ≤ length order.now }
     requires small { length potential.old ≤ 1024 }
     requires nodes { (j : ℕ) → j < scanned → numbers order.now j < length potential.old }

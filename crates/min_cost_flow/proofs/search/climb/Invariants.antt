@@ -1,8 +1,8 @@
-use Rattle.std.proofs.Common.{◌≡◌, ◌≤◌, ◌<◌, ◌+◌, ◌⊎◌, ℕ}
-use Rattle.std.specs.Prelude.{ℤ, ◌-ℤ◌, ◌≤ℤ◌, ◌<ℤ◌}
+use Rattle.std.proofs.Common.{◌≡◌, ◌≤◌, ◌<◌, ◌⊎◌, ℕ}
+use Rattle.std.specs.Prelude.{◌-ℤ◌}
 use Rattle.min_cost_flow.specs.Flow.{at_nodes}
 use Rattle.min_cost_flow.specs.Layout.{numbers}
-use Rattle.min_cost_flow.specs.Search.{nodes_of, Reaches, FindsNearest, Keeps}
+use Rattle.min_cost_flow.specs.Search.{Reaches, FindsNearest, Keeps}
 use Rattle.min_cost_flow.proofs.search.climb.Given as goal
 
 abbrev pub invariant-loop-j : goal.invariant-loop-j
@@ -16,5 +16,5 @@ invariant-loop-j l = record {
   cut : l.progress.cut ≡ l.initial.progress.cut;
   few : l.progress.ordered ≤ l.j;
   behind : (i : ℕ) → l.j ≤ i → numbers l.order i ≡ numbers l.initial.order i;
-  more : (l.progress.head < l.progress.ordered) ⊎ ((i : ℕ) × (l.j ≤ i) × (i < l.progress.reached) × (l.progress.level ≡ at_nodes l.label (numbers l.initial.order i) -ℤ at_nodes l.ground.potential.now (numbers l.initial.order i)))
+  more : (l.progress.head < l.progress.ordered) ⊎ ((i : ℕ) × (l.j ≤ i) × (i < l.progress.reached) × (l.progress.level ≡ at_nodes l.label (numbers l.initial.order i) -ℤ at_nodes l.ground.potential.now (numbers l.initial.order i)));
 }

@@ -1,5 +1,5 @@
-use Rattle.std.proofs.Common.{◌≡◌, ◌≤◌, ◌<◌, ◌+◌, ℕ}
-use Rattle.std.specs.Prelude.{ℤ, ◌-ℤ◌, ◌≤ℤ◌, ◌<ℤ◌}
+use Rattle.std.proofs.Common.{◌≡◌, ◌≤◌, ◌<◌, ℕ}
+use Rattle.std.specs.Prelude.{◌-ℤ◌, ◌≤ℤ◌, ◌<ℤ◌}
 use Rattle.min_cost_flow.specs.Flow.{at_nodes}
 use Rattle.min_cost_flow.specs.Layout.{numbers}
 use Rattle.min_cost_flow.proofs.search.least_distance.Given as goal
@@ -9,5 +9,5 @@ invariant-loop-j l = record {
   cut : l.least ≤ℤ l.progress.cut;
   level : l.progress.level ≤ℤ l.least;
   least : (j : ℕ) → l.progress.ordered ≤ j → j < l.j → l.least ≤ℤ (at_nodes l.label (numbers l.order j) -ℤ at_nodes l.ground.potential.now (numbers l.order j));
-  some : l.least <ℤ l.progress.cut → (j : ℕ) × (l.progress.ordered ≤ j) × (j < l.j) × (l.least ≡ at_nodes l.label (numbers l.order j) -ℤ at_nodes l.ground.potential.now (numbers l.order j))
+  some : l.least <ℤ l.progress.cut → (j : ℕ) × (l.progress.ordered ≤ j) × (j < l.j) × (l.least ≡ at_nodes l.label (numbers l.order j) -ℤ at_nodes l.ground.potential.now (numbers l.order j));
 }

@@ -1,8 +1,8 @@
 use Rattle.std.proofs.Common.{◌≡◌, ◌≤◌, ◌<◌, ◌+◌, ℕ}
-use Rattle.std.specs.Prelude.{ℤ, ◌≤ℤ◌, ◌<ℤ◌}
+use Rattle.std.specs.Prelude.{◌≤ℤ◌}
 use Rattle.min_cost_flow.specs.Flow.{at_nodes}
 use Rattle.min_cost_flow.specs.Layout.{numbers}
-use Rattle.min_cost_flow.specs.Search.{nodes_of, Reaches, FindsNearest, Keeps, IsServed, Serves}
+use Rattle.min_cost_flow.specs.Search.{Reaches, FindsNearest, Keeps, Serves}
 use Rattle.min_cost_flow.proofs.search.scan.Given as goal
 
 abbrev pub invariant-loop-number : goal.invariant-loop-number
@@ -14,5 +14,5 @@ invariant-loop-number l = record {
   level : l.progress.level ≡ l.initial.progress.level;
   cut : l.progress.cut ≤ℤ l.initial.progress.cut;
   looks : l.looks + numbers l.ground.first.now l.node ≡ l.initial.looks + l.number;
-  serves : (k : ℕ) → numbers l.ground.first.now l.node ≤ k → k < l.number → Serves l.ground.arcs.now (at_nodes l.ground.potential.now) (at_nodes l.label) l.progress.cut l.node k
+  serves : (k : ℕ) → numbers l.ground.first.now l.node ≤ k → k < l.number → Serves l.ground.arcs.now (at_nodes l.ground.potential.now) (at_nodes l.label) l.progress.cut l.node k;
 }

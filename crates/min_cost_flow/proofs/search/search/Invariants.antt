@@ -1,4 +1,4 @@
-use Rattle.std.proofs.Common.{◌≡◌, ◌≤◌, ◌<◌, ◌+◌, ◌-◌, ℕ}
+use Rattle.std.proofs.Common.{◌≡◌, ◌+◌, ◌-◌}
 use Rattle.min_cost_flow.specs.Flow.{at_nodes}
 use Rattle.min_cost_flow.specs.Layout.{numbers}
 use Rattle.min_cost_flow.specs.Search.{nodes_of, looked, Reaches, FindsNearest, IsServed}
@@ -9,7 +9,7 @@ invariant-nodes l = record {
   reached : Reaches l.ground l.label l.enter l.order l.place l.progress;
   nearest : FindsNearest l.ground l.label l.place l.progress;
   served : IsServed (nodes_of l.ground) l.ground.first.now l.ground.arcs.now (at_nodes l.ground.potential.now) (at_nodes l.label) (numbers l.place) l.progress.cut l.progress.head;
-  looks : l.looks ≡ l.initial.looks + looked l.ground.first.now (numbers l.order) l.progress.head
+  looks : l.looks ≡ l.initial.looks + looked l.ground.first.now (numbers l.order) l.progress.head;
 }
 
 abbrev pub decreases-nodes : goal.decreases-nodes

@@ -1,5 +1,4 @@
-use Rattle.std.proofs.Common.{◌≡◌, ◌≢◌, ◌≤◌, ◌<◌, ℕ}
-use Rattle.std.specs.Prelude.{ℤ, ◌-ℤ◌}
+use Rattle.std.proofs.Common.{◌≡◌, ◌<◌, ℕ}
 use Rattle.min_cost_flow.specs.Flow.{at_nodes}
 use Rattle.min_cost_flow.specs.Layout.{numbers}
 use Rattle.min_cost_flow.specs.Search.{far}
@@ -8,5 +7,5 @@ use Rattle.min_cost_flow.proofs.solver.clear.Given as goal
 abbrev pub invariant-loop-j : goal.invariant-loop-j
 invariant-loop-j l = record {
   cleared : (j : ℕ) → j < l.j → at_nodes l.label (numbers l.order j) ≡ far;
-  others : (v : ℕ) → at_nodes l.initial.label v ≡ far → at_nodes l.label v ≡ far
+  others : (v : ℕ) → at_nodes l.initial.label v ≡ far → at_nodes l.label v ≡ far;
 }

@@ -6,5 +6,5 @@ use Rattle.min_cost_flow.proofs.solver.read_flow.Given as goal
 abbrev pub invariant-loop-along : goal.invariant-loop-along
 invariant-loop-along l = record {
   done : (i : ℕ) → i < l.along-index → amounts l.flow i ≡ carried l.reverse l.initial.flow l.room i;
-  rest : (i : ℕ) → l.along-index ≤ i → numbers l.flow i ≡ numbers l.initial.flow i
+  rest : (i : ℕ) → l.along-index ≤ i → numbers l.flow i ≡ numbers l.initial.flow i;
 }

@@ -1,5 +1,5 @@
-use Rattle.std.proofs.Common.{◌≡◌, ◌≤◌, ◌<◌, ℕ}
-use Rattle.std.specs.Prelude.{ℤ, pos, ◌≤ℤ◌}
+use Rattle.std.proofs.Common.{◌≡◌, ◌<◌, ℕ}
+use Rattle.std.specs.Prelude.{pos, ◌≤ℤ◌}
 use Rattle.min_cost_flow.specs.Net.{node_count}
 use Rattle.min_cost_flow.specs.Flow.{at_nodes}
 use Rattle.min_cost_flow.specs.Layout.{IsFilled, carried}
@@ -13,5 +13,5 @@ invariant-loop-source l = record {
   round : IsRound l.layout.network.now (carried l.layout.reverse.now l.layout.forward.now l.room) (at_nodes l.potential) (at_nodes l.excess);
   blank : (v : ℕ) → v < node_count l.layout.network.now → at_nodes l.label v ≡ far;
   work : IsWork l.layout.network.now (carried l.layout.reverse.now l.layout.forward.now l.room) (at_nodes l.excess) l.work.searches l.work.looks;
-  done : (v : ℕ) → v < l.source → at_nodes l.excess v ≤ℤ pos 0
+  done : (v : ℕ) → v < l.source → at_nodes l.excess v ≤ℤ pos 0;
 }
