@@ -1,12 +1,10 @@
 -- What an amount sent along one residual arc changes, and what it keeps.
-use Rattle.std.proofs.Common.{◌≡◌, ◌≢◌, ◌≤◌, ◌<◌, ◌⊎◌, ℕ, ◌+◌, cond, eqb, Bool, true, false, sym, ◌∙◌, ap, subst, inl, inr, arith, List}
+use Rattle.std.proofs.Common.{◌≡◌, ◌≢◌, ◌<◌, ℕ, ◌+◌, cond, eqb, Bool, true, false, sym, ap, subst, inl, inr, arith}
 use Rattle.std.specs.Prelude.{ℤ, pos, ◌+ℤ◌, ◌-ℤ◌, ◌≤ℤ◌}
 use Rattle.std.proofs.lemmas.Bool.{cases_eq, eq-eqb, ne_eqb, cond-true, cond-false}
 use Rattle.std.proofs.lemmas.Int.{ints}
 use Rattle.sums.specs.Sums.{sum_below}
 use Rattle.sums.proofs.Sums.{sum_below-changed}
-use Rattle.min_cost_flow.specs.declared.arc.Cap.{Cap}
-use Rattle.min_cost_flow.specs.declared.arc.Cap.TheVariants.{AtMost, Any}
 use Rattle.min_cost_flow.specs.Net.{Net, arc_count, arc_at, supply_at}
 use Rattle.min_cost_flow.specs.Flow.{leaves, enters, balance, HasRoom, IsResidual, HasPotentials, start_of, end_of, reduced_cost}
 use Rattle.min_cost_flow.specs.Excess.{Leaves, Carries}

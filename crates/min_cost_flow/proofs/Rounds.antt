@@ -1,17 +1,17 @@
 -- From one search to the next: how trees begin, what a hit leaves, what sending leaves, and the end.
-use Rattle.std.proofs.Common.{◌≡◌, ◌≢◌, ◌≤◌, ◌<◌, ◌⊎◌, ℕ, zero, suc, ◌+◌, ◌*◌, cond, eqb, Bool, true, false, refl, sym, ◌∙◌, ap, subst, inl, inr, arith, List, Some, None}
+use Rattle.std.proofs.Common.{◌≡◌, ◌≢◌, ◌≤◌, ◌<◌, ◌⊎◌, ℕ, zero, suc, ◌+◌, ◌*◌, cond, eqb, Bool, true, false, refl, sym, ap, subst, inl, inr, arith}
 use Rattle.std.specs.Prelude.{ℤ, pos, negsuc, ◌+ℤ◌, ◌-ℤ◌, ◌≤ℤ◌, ◌<ℤ◌}
-use Rattle.std.proofs.lemmas.Bool.{cases_eq, eq-eqb, eqb-true, cond-true}
+use Rattle.std.proofs.lemmas.Bool.{cases_eq, eq-eqb, cond-true}
 use Rattle.std.proofs.lemmas.Int.{ints}
 use borrow.Author.Differences.{up}
 use Rattle.sums.specs.Sums.{sum_below}
-use Rattle.sums.proofs.Sums.{sum_below-same, sum_below-le, sum_below-changed, sum_below-constant, sum_below-none, sum_below-member}
+use Rattle.sums.proofs.Sums.{sum_below-same, sum_below-le, sum_below-changed, sum_below-constant, sum_below-none}
 use Rattle.min_cost_flow.specs.declared.arc.Cap.{Cap}
 use Rattle.min_cost_flow.specs.declared.arc.Cap.TheVariants.{AtMost, Any}
 use Rattle.min_cost_flow.specs.Net.{Net, node_count, arc_count, arc_at, supply_at, HasEnds, IsNetwork}
-use Rattle.min_cost_flow.specs.Flow.{leaves, enters, balance, IsWithin, HasRoom, Flow, HasNoFlow, IsResidual, HasPotentials, start_of, end_of, reduced_cost}
-use Rattle.min_cost_flow.specs.Excess.{KeepsCaps, Leaves, Carries, IsClosedOut}
-use Rattle.min_cost_flow.specs.Round.{left_over, supply_sum, carrying, HasSupply, IsWithinReach, IsRound, IsLess, IsWork, IsDone}
+use Rattle.min_cost_flow.specs.Flow.{leaves, enters, balance, IsWithin, HasRoom, Flow, HasNoFlow, IsResidual, HasPotentials, reduced_cost}
+use Rattle.min_cost_flow.specs.Excess.{KeepsCaps, Leaves}
+use Rattle.min_cost_flow.specs.Round.{left_over, supply_sum, carrying, IsRound, IsLess, IsWork, IsDone}
 use Rattle.std.proofs.Math.Nat.{add-mul, one-mul}
 use Rattle.std.proofs.lemmas.Nat.{mul-le}
 use Rattle.min_cost_flow.proofs.Cut.{no_flow_into}

@@ -1,26 +1,25 @@
 -- From the residual arcs of a flow to a search, and from a search to new potentials and a path.
-use Rattle.std.proofs.Common.{length, zero, suc, ◌-◌, ◌≡◌, ◌≢◌, ◌≤◌, ◌<◌, ◌⊎◌, ◌^◌, ℕ, ◌+◌, ◌*◌, Bool, true, false, ◌&&◌, cond, eqb, ltb, refl, sym, ◌∙◌, ap, subst, inl, inr, arith, List}
+use Rattle.std.proofs.Common.{length, zero, suc, ◌≡◌, ◌≢◌, ◌≤◌, ◌<◌, ◌⊎◌, ℕ, ◌+◌, ◌*◌, Bool, true, false, ◌&&◌, cond, eqb, ltb, refl, sym, ◌∙◌, ap, subst, inl, inr, arith, List}
 use Rattle.std.specs.Prelude.{ℤ, pos, negsuc, ◌+ℤ◌, ◌-ℤ◌, ◌≤ℤ◌, ◌<ℤ◌}
-use Rattle.std.proofs.lemmas.Bool.{cases_eq, cases_lt, cases_Bool, eq-eqb, ne_eqb, eqb-true, lt-ltb, ltb-true, cond-true, cond-false, and_parts, and_from, false≢true, both_ways}
+use Rattle.std.proofs.lemmas.Bool.{cases_eq, cases_lt, cases_Bool, eq-eqb, ne_eqb, eqb-true, lt-ltb, ltb-true, cond-false, and_parts, and_from}
 use Rattle.std.proofs.lemmas.Int.{ints}
 use lib.Signed.{lt_z}
 use Rattle.sums.specs.Sums.{sum_below}
-use Rattle.sums.proofs.Sums.{sum_below-same, sum_below-le, sum_below-constant, sum_below-more}
+use Rattle.sums.proofs.Sums.{sum_below-le, sum_below-constant}
 use Rattle.min_cost_flow.specs.declared.arc.Cap.{Cap}
 use Rattle.min_cost_flow.specs.declared.arc.Cap.TheVariants.{AtMost, Any}
 use Rattle.min_cost_flow.specs.declared.residual.ResidualArc.{ResidualArc}
-use Rattle.min_cost_flow.specs.Net.{Net, node_count, arc_count, arc_at, HasEnds, HasUnitCosts, IsNetwork}
+use Rattle.min_cost_flow.specs.Net.{Net, node_count, arc_count, arc_at, HasUnitCosts, IsNetwork}
 use Rattle.min_cost_flow.specs.Flow.{HasRoom, IsResidual, HasPotentials, HasNoFlow, start_of, end_of, price_of, reduced_cost}
-use Rattle.min_cost_flow.specs.Excess.{Leaves, IsClosedOut}
-use Rattle.min_cost_flow.specs.Round.{left_over, IsRound}
-use Rattle.min_cost_flow.specs.Layout.{numbers, end_at, code_at, StartsAt, place_of, limit_of, HasOrigin, IsLaidOut, IsFilled, carried}
-use Rattle.min_cost_flow.specs.Search.{far, IsCode, IsOpen, IsGraph, IsPriced, IsNear, IsEntered, IsReached, IsHit, IsNearest, Serves, IsServed, IsLeft, IsPut, degree, looked}
-use Rattle.min_cost_flow.specs.Path.{IsTight, IsAfter, HasPath}
+use Rattle.min_cost_flow.specs.Round.{IsRound}
+use Rattle.min_cost_flow.specs.Layout.{numbers, end_at, code_at, StartsAt, place_of, limit_of, IsLaidOut, IsFilled, carried}
+use Rattle.min_cost_flow.specs.Search.{far, IsCode, IsOpen, IsGraph, IsPriced, IsNear, IsReached, IsHit, IsNearest, IsServed, IsLeft, IsPut, degree, looked}
+use Rattle.min_cost_flow.specs.Path.{HasPath}
 use Rattle.min_cost_flow.proofs.Cut.{no_flow_out}
 use Rattle.min_cost_flow.proofs.Ends.{start_in, end_in}
-use Rattle.min_cost_flow.proofs.Turning.{turned_back, start_is, turned_end}
+use Rattle.min_cost_flow.proofs.Turning.{turned_back, start_is}
 use Rattle.min_cost_flow.proofs.Signs.{plain_lt, lt_true}
-use Rattle.min_cost_flow.proofs.Reaching.{below_or_not, not_less, under_level, same_z}
+use Rattle.min_cost_flow.proofs.Reaching.{below_or_not, not_less}
 
 -- ---- codes, rooms and residual arcs
 

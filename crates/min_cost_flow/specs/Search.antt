@@ -1,6 +1,6 @@
 -- The search for the nearest node where units are wanting: labels, the order of nodes by their
 -- distance, and what holds of them.
-use Rattle.std.specs.Prelude.{ℕ, ◌+◌, ◌-◌, ◌*◌, ◌<◌, ◌≤◌, ◌≡◌, ◌≢◌, ℤ, pos, negsuc, ◌+ℤ◌, ◌-ℤ◌, ◌≤ℤ◌, ◌<ℤ◌, ◌⊎◌, Bool, true, false, List, length}
+use Rattle.std.specs.Prelude.{ℕ, ◌+◌, ◌-◌, ◌*◌, ◌<◌, ◌≤◌, ◌≡◌, ◌≢◌, ℤ, pos, negsuc, ◌+ℤ◌, ◌-ℤ◌, ◌≤ℤ◌, ◌<ℤ◌, ◌⊎◌, List, length}
 use Rattle.sums.specs.Sums.{sum_below}
 use Rattle.min_cost_flow.specs.declared.residual.ResidualArc.{ResidualArc}
 use Rattle.min_cost_flow.specs.declared.reach.Ground.{Ground}

@@ -1,5 +1,5 @@
-use Rattle.std.proofs.Common.{rules, ◌≡◌, ◌<◌, ◌≤◌, ℕ, sym, ap, subst, arith}
-use Rattle.std.specs.Prelude.{length, pos, ◌≤ℤ◌, ◌<ℤ◌}
+use Rattle.std.proofs.Common.{rules, ◌≡◌, ◌<◌, ◌≤◌, arith}
+use Rattle.std.specs.Prelude.{◌≤ℤ◌, ◌<ℤ◌}
 use mir.Syntax.{w32}
 use mir.Val.{SFits}
 use Rattle.min_cost_flow.proofs.Signs.{is_less, is_no_less}

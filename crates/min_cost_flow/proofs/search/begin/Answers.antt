@@ -1,6 +1,5 @@
-use Rattle.std.proofs.Common.{rules, ◌≡◌, ◌<◌, ◌≤◌, ℕ, arith, refl}
+use Rattle.std.proofs.Common.{rules, arith}
 use Rattle.std.proofs.lemmas.Int.{to_z-of_z}
-use Rattle.std.specs.Prelude.{pos, ℤ, ◌≤ℤ◌}
 use mir.Syntax.{w32}
 use mir.Val.{SFits}
 use Rattle.min_cost_flow.specs.Flow.{at_nodes}

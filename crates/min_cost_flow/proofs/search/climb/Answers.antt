@@ -1,13 +1,12 @@
-use Rattle.std.proofs.Common.{rules, ◌≡◌, ◌≢◌, ◌<◌, ◌≤◌, ◌⊎◌, ◌+◌, ℕ, arith, refl, inl, inr, ap, subst, sym, ◌∙◌}
-use Rattle.std.proofs.lemmas.Bool.{cases_lt, cases_eq}
+use Rattle.std.proofs.Common.{rules, ◌≡◌, ◌≤◌, ◌+◌, ℕ, arith, refl, inl, inr, ap, subst, sym, ◌∙◌}
+use Rattle.std.proofs.lemmas.Bool.{cases_eq}
 use Rattle.std.proofs.lemmas.Int.{to_z-of_z}
-use Rattle.std.specs.Prelude.{length, pos, ℤ, ◌-ℤ◌, ◌+ℤ◌, ◌≤ℤ◌, ◌<ℤ◌}
+use Rattle.std.specs.Prelude.{◌-ℤ◌}
 use mir.Syntax.{w32}
-use mir.Val.{SFits, of_z, to_z}
+use mir.Val.{SFits}
 use Rattle.min_cost_flow.specs.Flow.{at_nodes}
-use Rattle.min_cost_flow.specs.Layout.{numbers, end_at, StartsAt}
-use Rattle.min_cost_flow.specs.Search.{nodes_of, far, degree, looked, IsKept, IsServed, IsReached, Serves}
-use Rattle.min_cost_flow.proofs.Signs.{passed_within, passed_is, difference_is, same_from_bits}
+use Rattle.min_cost_flow.specs.Layout.{numbers}
+use Rattle.min_cost_flow.specs.Search.{nodes_of, IsKept}
 use Rattle.min_cost_flow.proofs.Reaching.{climbed, kept_same, kept_then, nearest_kept}
 use Rattle.min_cost_flow.proofs.search.climb.Goals as goal
 

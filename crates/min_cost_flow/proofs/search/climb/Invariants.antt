@@ -1,8 +1,8 @@
-use Rattle.std.proofs.Common.{◌≡◌, ◌≤◌, ◌<◌, ◌+◌, ◌⊎◌, ℕ}
-use Rattle.std.specs.Prelude.{ℤ, ◌-ℤ◌, ◌≤ℤ◌, ◌<ℤ◌}
+use Rattle.std.proofs.Common.{◌≡◌, ◌≤◌, ◌<◌, ◌⊎◌, ℕ}
+use Rattle.std.specs.Prelude.{◌-ℤ◌}
 use Rattle.min_cost_flow.specs.Flow.{at_nodes}
 use Rattle.min_cost_flow.specs.Layout.{numbers}
-use Rattle.min_cost_flow.specs.Search.{nodes_of, Reaches, FindsNearest, Keeps}
+use Rattle.min_cost_flow.specs.Search.{Reaches, FindsNearest, Keeps}
 use Rattle.min_cost_flow.proofs.search.climb.Given as goal
 
 abbrev pub invariant-loop-j : goal.invariant-loop-j

@@ -1,14 +1,10 @@
-use Rattle.std.proofs.Common.{rules, ◌≡◌, ◌≢◌, ◌<◌, ◌≤◌, ◌⊎◌, ◌+◌, ℕ, arith, refl, inl, inr, ap, subst, sym, ◌∙◌}
-use Rattle.std.proofs.lemmas.Bool.{cases_lt, cases_eq}
-use Rattle.std.proofs.lemmas.Int.{to_z-of_z}
-use Rattle.std.specs.Prelude.{length, pos, ℤ, ◌-ℤ◌, ◌+ℤ◌, ◌≤ℤ◌, ◌<ℤ◌}
-use mir.Syntax.{w32}
-use mir.Val.{SFits, of_z, to_z}
+use Rattle.std.proofs.Common.{◌≡◌, ◌≤◌, ◌+◌, ℕ, arith, refl, inl, inr, subst, sym, ◌∙◌}
+use Rattle.std.proofs.lemmas.Bool.{cases_lt}
+use Rattle.std.specs.Prelude.{length, ℤ, ◌-ℤ◌, ◌≤ℤ◌}
 use Rattle.min_cost_flow.specs.Flow.{at_nodes}
-use Rattle.min_cost_flow.specs.Layout.{numbers, end_at, StartsAt}
-use Rattle.min_cost_flow.specs.Search.{nodes_of, far, degree, looked, IsKept, IsServed, IsReached, Serves}
-use Rattle.min_cost_flow.proofs.Signs.{passed_within, passed_is, difference_is, same_from_bits}
-use Rattle.min_cost_flow.proofs.Reaching.{IsNext, headed, headed_nearest, kept_same, kept_then, kept_less, same_z, under_level, next_node, next_kept, next_only, serves_kept, served_kept, served_more}
+use Rattle.min_cost_flow.specs.Layout.{numbers, end_at}
+use Rattle.min_cost_flow.specs.Search.{nodes_of, IsKept, IsServed, Serves}
+use Rattle.min_cost_flow.proofs.Reaching.{headed, headed_nearest, kept_same, kept_then, kept_less, same_z, under_level, next_node, next_kept, next_only, serves_kept, served_kept, served_more}
 use Rattle.min_cost_flow.proofs.search.scan.Goals as goal
 
 pub offset_bounds-order-progress : goal.offset_bounds-order-progress

@@ -1,14 +1,8 @@
-use Rattle.std.proofs.Common.{rules, ◌≡◌, ◌≢◌, ◌<◌, ◌≤◌, ◌⊎◌, ◌+◌, ℕ, arith, refl, inl, inr, ap, subst, sym, ◌∙◌}
-use Rattle.std.proofs.lemmas.Bool.{cases_lt, cases_eq}
-use Rattle.std.proofs.lemmas.Int.{to_z-of_z}
-use Rattle.std.specs.Prelude.{length, pos, ℤ, ◌-ℤ◌, ◌+ℤ◌, ◌≤ℤ◌, ◌<ℤ◌}
-use mir.Syntax.{w32}
-use mir.Val.{SFits, of_z, to_z}
+use Rattle.std.proofs.Common.{◌≡◌, ◌<◌, ◌≤◌, ◌+◌, ℕ, arith, subst, sym}
+use Rattle.std.specs.Prelude.{length}
 use Rattle.min_cost_flow.specs.Flow.{at_nodes}
-use Rattle.min_cost_flow.specs.Layout.{numbers, end_at, StartsAt}
-use Rattle.min_cost_flow.specs.Search.{nodes_of, far, degree, looked, IsKept, IsServed, IsReached, Serves}
-use Rattle.min_cost_flow.proofs.Signs.{passed_within, passed_is, difference_is, same_from_bits}
-use Rattle.std.proofs.lemmas.Bool.{not-false, not-true}
+use Rattle.min_cost_flow.specs.Layout.{numbers}
+use Rattle.min_cost_flow.specs.Search.{nodes_of, looked, IsServed}
 use Rattle.min_cost_flow.proofs.Reaching.{served_kept, same_le, order_kept, looked_most, looked_same, looked_more}
 use Rattle.min_cost_flow.proofs.search.search.Goals as goal
 

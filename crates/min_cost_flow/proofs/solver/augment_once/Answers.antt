@@ -1,13 +1,12 @@
-use Rattle.std.proofs.Common.{rules, ◌≡◌, ◌≢◌, ◌<◌, ◌≤◌, ◌+◌, ◌*◌, ℕ, length, arith, refl, sym, ◌∙◌, ap, subst}
-use Rattle.std.specs.Prelude.{ℤ, pos, negsuc, ◌+ℤ◌, ◌-ℤ◌, ◌≤ℤ◌, ◌<ℤ◌}
+use Rattle.std.proofs.Common.{rules, ◌≡◌, ◌<◌, ◌≤◌, ℕ, length, arith, sym, ◌∙◌, ap, subst}
+use Rattle.std.specs.Prelude.{◌<ℤ◌}
 use Rattle.std.proofs.lemmas.Int.{to_z-of_z}
 use mir.Syntax.{w32}
-use mir.Val.{SFits, of_z, to_z}
-use Rattle.min_cost_flow.specs.Net.{node_count, arc_count}
+use mir.Val.{SFits, of_z}
+use Rattle.min_cost_flow.specs.Net.{node_count}
 use Rattle.min_cost_flow.specs.Flow.{at_nodes}
-use Rattle.min_cost_flow.specs.Layout.{numbers, end_at, carried}
-use Rattle.min_cost_flow.specs.Round.{carrying, IsRound}
-use Rattle.min_cost_flow.specs.Search.{far, looked, IsGraph, IsPriced, IsReached, IsNearest, IsServed, IsLeft}
+use Rattle.min_cost_flow.specs.Layout.{numbers}
+use Rattle.min_cost_flow.specs.Search.{far, IsGraph, IsPriced, IsReached, IsNearest, IsServed, IsLeft}
 use Rattle.min_cost_flow.specs.Path.{HasPath}
 use Rattle.min_cost_flow.proofs.Signs.{same_from_bits, passed_within}
 use Rattle.min_cost_flow.proofs.Reaching.{strictly, reached_fits}

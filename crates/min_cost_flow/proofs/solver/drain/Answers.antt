@@ -1,12 +1,7 @@
-use Rattle.std.proofs.Common.{rules, ◌≡◌, ◌≢◌, ◌<◌, ◌≤◌, ◌^◌, ◌+◌, ◌*◌, ℕ, List, true, false, length, arith, refl, sym, ◌∙◌, ap, subst, inl, inr}
-use Rattle.std.specs.Prelude.{ℤ, pos, negsuc, ◌+ℤ◌, ◌-ℤ◌, ◌≤ℤ◌, ◌<ℤ◌}
-use Rattle.std.proofs.lemmas.Bool.{cases_lt, not-true, not-false}
+use Rattle.std.proofs.Common.{rules, arith}
 use mir.Syntax.{w32}
-use mir.Val.{SFits, of_z, to_z}
-use Rattle.min_cost_flow.specs.Net.{node_count, arc_count, arc_at}
-use Rattle.min_cost_flow.specs.Flow.{amounts, at_nodes}
-use Rattle.min_cost_flow.specs.Layout.{numbers, place_of, limit_of, StartsAt, carried}
-use Rattle.min_cost_flow.specs.Round.{carrying, left_over, IsRound, IsWork, IsDone}
+use mir.Val.{SFits}
+use Rattle.min_cost_flow.specs.Flow.{at_nodes}
 use Rattle.min_cost_flow.proofs.Signs.{is_more, is_no_more}
 use Rattle.min_cost_flow.proofs.Rounds.{looks_most, work_more}
 use Rattle.min_cost_flow.proofs.solver.drain.Goals as goal

@@ -1,6 +1,6 @@
-use Rattle.std.proofs.Common.{rules, ◌≡◌, ◌≢◌, ◌<◌, ◌≤◌, ◌+◌, ℕ, arith, sym, ◌∙◌}
+use Rattle.std.proofs.Common.{rules, ℕ, arith, sym, ◌∙◌}
 use Rattle.std.proofs.lemmas.Int.{to_z-of_z}
-use Rattle.std.specs.Prelude.{ℤ, ◌-ℤ◌}
+use Rattle.std.specs.Prelude.{◌-ℤ◌}
 use mir.Syntax.{w32}
 use mir.Val.{SFits, of_z, to_z}
 use Rattle.min_cost_flow.specs.Flow.{at_nodes}

@@ -1,9 +1,8 @@
-use Rattle.std.proofs.Common.{◌≡◌, ◌<◌, ◌≤◌, ◌*◌, ℕ, ℤ, pos, List, sym, ◌∙◌, ap, subst, inl, inr, arith}
+use Rattle.std.proofs.Common.{◌≡◌, ◌<◌, ℕ, ℤ, pos, List, sym, ◌∙◌, ap, subst, inl, inr, arith}
 use Rattle.std.proofs.Math.ListN.{replicate}
 use Rattle.std.proofs.lemmas.Bool.{cases_lt}
 use Rattle.std.proofs.lemmas.List.{get_or-replicate, with_items_is, get_or_past, length-replicate}
-use Rattle.min_cost_flow.specs.Net.{node_count, arc_count}
-use Rattle.min_cost_flow.specs.Flow.{amounts, at_nodes, Answer, Flow, HasPotentials}
+use Rattle.min_cost_flow.specs.Flow.{amounts, at_nodes, Answer}
 use Rattle.min_cost_flow.specs.Round.{IsDone}
 use Rattle.min_cost_flow.specs.Search.{far}
 use Rattle.min_cost_flow.proofs.Duality.{least_by_potentials}
