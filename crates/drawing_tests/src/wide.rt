@@ -1,6 +1,6 @@
-//! The longest spirals: the grid has no room for one of 140,000 turns, and room for one of 131,000.
+//! The longest spirals: the grid has no room for one of 140,000 turns.
 
-use crate::planes::{EDGE, expect_drawing, plane_of, spiral_in};
+use crate::planes::{EDGE, plane_of, spiral_in};
 use compact::{CompactFault, compact};
 use dissect::{Boxes, dissect};
 use ortho_rep::is_shape;
@@ -22,16 +22,5 @@ fn long_spiral_is_too_wide(rt: HostRuntime) -> Result<(), Fail> {
     let boxes = spiral_boxes(&rt, alloc, 140_000)?;
     let fault = compact(alloc, &boxes).err();
     assert_eq!(rt; fault, Some(CompactFault::Wide));
-    Ok(())
-}
-
-#[test]
-fn spiral_within_the_grid_is_drawn(rt: HostRuntime) -> Result<(), Fail> {
-    let alloc = rt.alloc();
-    let plane = plane_of(alloc, &EDGE)?;
-    let shape = spiral_in(alloc, 131_000).ok_or("no shape")?;
-    let boxes = spiral_boxes(&rt, alloc, 131_000)?;
-    let points = compact(alloc, &boxes)?;
-    expect_drawing(&rt, alloc, &plane, &shape, points);
     Ok(())
 }
