@@ -1,0 +1,102 @@
+"""Reads planar_code, one record at a time, and traces the faces of a record: what split.py, svg.py and
+scripts of bench/ and checks/ share. Python's standard library alone."""
+from __future__ import annotations
+
+import collections
+from collections.abc import Iterator
+from typing import BinaryIO
+
+HEADER = b">>planar_code<<"
+MOST_ENTRIES = 254  # of one neighbour list
+PIECE = 1 << 16  # bytes read at a time
+
+Lists = list[list[int]]
+
+
+class Unreadable(Exception):
+    """The bytes are not planar_code to their end; the text says where they stop being so, and why."""
+
+
+def records(source: BinaryIO) -> Iterator[bytes]:
+    """Each whole record of a stream, as its bytes, in order. It holds one record and one piece of the stream.
+
+    Raises `Unreadable` behind the last whole record where the stream does not end there, by the word that
+    the report has for such an end: header, truncated, large or oversize.
+    """
+    if source.read(len(HEADER)) != HEADER:
+        raise Unreadable("header: it does not begin with >>planar_code<<")
+    held, start, offset, number = b"", 0, len(HEADER), 1
+    while True:
+        try:
+            end = end_of_record(held, start)
+        except Unreadable as fault:
+            raise Unreadable(f"{fault}, in record {number}, which begins at byte {offset}") from None
+        if end is not None:
+            yield held[start:end]
+            start, offset, number = end, offset + end - start, number + 1
+            continue
+        piece = source.read(PIECE)
+        held, start = held[start:] + piece, 0
+        if not piece:
+            break
+    if held:
+        raise Unreadable(f"truncated: record {number}, which begins at byte {offset}, is cut off")
+
+
+def end_of_record(held: bytes, start: int) -> int | None:
+    """Where the record that begins at `start` ends, or None where it goes on behind `held`."""
+    if start == len(held):
+        return None
+    if held[start] == 0:
+        raise Unreadable("large: a byte 0 stands where a number of vertices should (two-byte form, or noise)")
+    end = start + 1
+    for _ in range(held[start]):
+        zero = held.find(0, end, end + MOST_ENTRIES + 1)
+        if zero < 0:
+            if len(held) - end > MOST_ENTRIES:
+                raise Unreadable(f"oversize: a list of more than {MOST_ENTRIES} neighbours")
+            return None
+        end = zero + 1
+    return end
+
+
+def lists_of(record: bytes) -> Lists:
+    """The neighbour lists of a record: for each vertex its neighbours, counted from 1, clockwise."""
+    return [list(neighbours) for neighbours in record[1:-1].split(b"\0")]
+
+
+class Plane:
+    """The darts, edges and faces of neighbour lists that break no rule, numbered as docs/JSON.md says."""
+
+    def __init__(self, lists: Lists) -> None:
+        self.vertices = len(lists)
+        self.darts = [(tail, head) for tail, heads in enumerate(lists, 1) for head in heads]
+        number = {dart: place for place, dart in enumerate(self.darts)}
+        self.back = [number[head, tail] for tail, head in self.darts]
+        self.next = []
+        for tail, head in self.darts:
+            around = lists[head - 1]
+            self.next.append(number[head, around[(around.index(tail) + 1) % len(around)]])
+        self.walks = self._walks()
+        self.faces = len(self.walks)
+        self.face = [0] * len(self.darts)
+        for face, walk in enumerate(self.walks):
+            for dart in walk:
+                self.face[dart] = face
+        degrees = collections.Counter(self.face)
+        self.outer = max(range(self.faces), key=lambda face: (degrees[face], -face))
+        self.lesser = [dart for dart, back in enumerate(self.back) if dart < back]
+
+    def _walks(self) -> list[list[int]]:
+        """The darts of each face in walking order, beginning with its least."""
+        walks, met = [], set()
+        for first in range(len(self.darts)):
+            if first in met:
+                continue
+            walk, dart = [first], self.next[first]
+            while dart != first:
+                walk.append(dart)
+                dart = self.next[dart]
+            met.update(walk)
+            walks.append(walk)
+        return walks
