@@ -31,6 +31,7 @@ complete
 """
 STEP = 40  # pixels between neighbouring whole numbers
 CAPTION = 24  # pixels below a picture of a grid
+GAP = 12  # pixels between the columns of a grid
 MOST_ON_PAGE = 2_000
 SHADE = "#c9d7e8"
 
@@ -200,9 +201,9 @@ def grid(shown: list[Picture], columns: int) -> str:
             elements += [f'<g transform="translate({x},{y})">', *one.elements, "</g>"]
             elements.append(f'<text x="{left + width // 2}" y="{top + high + 14}" font-family="sans-serif"'
                             f' font-size="12" text-anchor="middle">{one.caption}</text>')
-            left += width
+            left += width + GAP
         top += high + CAPTION
-    return svg(sum(wide), top, elements)
+    return svg(sum(wide) + GAP * (columns - 1), top, elements)
 
 
 def page(name: str, shown: list[Picture], ending: str) -> str:
