@@ -157,7 +157,7 @@ def draw(plane: Plane, line: dict[str, Any], shaded: bool) -> Picture:
 
 def reason_picture(number: int, reason: str) -> Picture:
     """A place that says why there is no picture."""
-    text = f'<text x="80" y="40" dy=".35em" font-family="sans-serif" font-size="11" text-anchor="middle">{reason}</text>'
+    text = f'<text x="80" y="40" font-family="sans-serif" font-size="11" text-anchor="middle">{reason}</text>'
     return Picture(f"graph {number}", 160, 80, [text])
 
 

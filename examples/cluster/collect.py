@@ -23,11 +23,14 @@ table is written only where all parts are there and whole. So it is refused
   --of FOLDER each FILE.pc of that folder must have a report named FILE;
   where a part is given twice.
 """
-STATUSES = "status: 0; 1 where no table is written, with the reason on standard error; 2 where the command line is refused"
+STATUSES = """\
+status: 0; 1 where no table is written, with the reason on standard error; 2 where the command line is refused
+"""
 SUFFIXES = (".report", ".jsonl")
 PART = re.compile(r"(.*)-part-(\d+)-of-(\d+)")
 FILE = re.compile(r"file (\d+)")
-GRAPH = re.compile(r"graph (\d+) (?:ok n=(\d+) m=(\d+) f=\d+ bends=(\d+) drawn=(?:yes|no cause=(\w+))|refused (\w+)|(memory))")
+GRAPH = re.compile(r"graph (\d+) (?:ok n=(\d+) m=(\d+) f=\d+ bends=(\d+) drawn=(?:yes|no cause=(\w+))"
+                   r"|refused (\w+)|memory)")
 END = re.compile(r"end (\w+) graphs=(\d+)")
 
 
@@ -78,7 +81,7 @@ def entry_of(text: str) -> Graph | FileEnd | None:
     graph = GRAPH.fullmatch(text)
     if graph is None:
         raise ValueError
-    number, vertices, edges, bends, cause, rule, _ = graph.groups()
+    number, vertices, edges, bends, cause, rule = graph.groups()
     size = None if vertices is None else (int(vertices), int(edges))
     return Graph(int(number), size, None if bends is None else int(bends), cause, rule)
 
@@ -180,6 +183,9 @@ def collect(words: Iterable[str], folder: str | None = None) -> Table:
     return table
 
 
+ALL = "**all**"  # in place of a number of edges
+
+
 def rows_of(table: Table) -> Iterator[tuple[str, str, dict[int, int]]]:
     """For each number of vertices a row for each number of edges, and one for all of them."""
     rows: dict[int, dict[int, dict[int, int]]] = collections.defaultdict(lambda: collections.defaultdict(dict))
@@ -190,19 +196,21 @@ def rows_of(table: Table) -> Iterator[tuple[str, str, dict[int, int]]]:
         for edges, by_bends in sorted(by_edges.items()):
             total.update(by_bends)
             yield str(vertices), str(edges), by_bends
-        yield f"**{vertices}**", "**all**", total
+        yield f"**{vertices}**", ALL, total
 
 
-def text_of(table: Table) -> str:
-    """The table, in Markdown."""
+def text_of(table: Table, short: bool = False) -> str:
+    """The table, in Markdown; a short one has the rows for all edges alone."""
     bends = range(max((bends for _, _, bends in table.laid), default=0) + 1)
     lines = ["| Vertices | Edges | " + " | ".join(map(str, bends)) + " | Graphs |",
              "|" + "---:|" * (len(bends) + 3)]
     for vertices, edges, counts in rows_of(table):
+        if short and edges != ALL:
+            continue
         cells = [vertices, edges, *(str(counts.get(number, "")) for number in bends), str(sum(counts.values()))]
         lines.append("| " + " | ".join(cells) + " |")
     lines += ["", f"{table.laid.total()} graphs by vertices, edges and fewest bends"
-              + "".join(f", of which {count} are not drawn ({cause})" for cause, count in sorted(table.not_drawn.items()))
+              + "".join(f", {count} not drawn ({cause})" for cause, count in sorted(table.not_drawn.items()))
               + f"; {table.refused.total()} refused"
               + "".join(f", {count} by {rule}" for rule, count in sorted(table.refused.items())) + "."]
     return "\n".join(lines) + "\n"
@@ -241,14 +249,17 @@ class Frame:
         yield f'<text x="{LEFT - 10}" y="{TOP - 18}" text-anchor="middle">graphs</text>'
 
     def curve(self, vertices: int, row: dict[int, int], rank: int) -> Iterator[str]:
-        """The graphs of so many vertices: a point for each number of bends, joined, and an entry of the legend."""
+        """The graphs of so many vertices, and an entry of the legend: a point for each number of bends that
+        some graph has, joined to that of one bend less where there is one."""
         colour, y = COLOURS[rank % len(COLOURS)], TOP + 20 * rank
         points = [(self.across(bends), self.up(count)) for bends, count in sorted(row.items())]
-        line = " ".join(f"{x},{y}" for x, y in points)
-        yield f'<polyline points="{line}" fill="none" stroke="{colour}" stroke-width="2"/>'
+        steps = "".join(f"{'L' if bends - 1 in row else 'M'}{x},{y}"
+                        for bends, (x, y) in zip(sorted(row), points))
+        yield f'<path d="{steps}" fill="none" stroke="{colour}" stroke-width="2"/>'
         yield from (f'<circle cx="{x}" cy="{y}" r="4" fill="{colour}"/>' for x, y in points)
         x = WIDTH - RIGHT + 20
-        yield f'<path d="M{x},{y}h20" stroke="{colour}" stroke-width="2"/><circle cx="{x + 10}" cy="{y}" r="4" fill="{colour}"/>'
+        yield f'<path d="M{x},{y}h20" stroke="{colour}" stroke-width="2"/>'
+        yield f'<circle cx="{x + 10}" cy="{y}" r="4" fill="{colour}"/>'
         yield f'<text x="{x + 28}" y="{y}" dy=".35em">{vertices} vertices</text>'
 
 
@@ -259,7 +270,8 @@ def plot_of(table: Table) -> str:
         rows[vertices][bends] += count
     most_graphs = max((max(row.values()) for row in rows.values()), default=1)
     frame = Frame(max((max(row) for row in rows.values()), default=0) or 1, math.ceil(math.log10(most_graphs)) or 1)
-    lines = [f'<svg xmlns="http://www.w3.org/2000/svg" width="{WIDTH}" height="{HEIGHT}" viewBox="0 0 {WIDTH} {HEIGHT}">',
+    size = f'width="{WIDTH}" height="{HEIGHT}" viewBox="0 0 {WIDTH} {HEIGHT}"'
+    lines = [f'<svg xmlns="http://www.w3.org/2000/svg" {size}>',
              '<rect width="100%" height="100%" fill="white"/>', '<g font-family="sans-serif" font-size="12">',
              *frame.axes()]
     for rank, (vertices, row) in enumerate(sorted(rows.items())):
@@ -272,6 +284,7 @@ def command_line() -> argparse.Namespace:
                                      formatter_class=argparse.RawDescriptionHelpFormatter)
     parser.add_argument("parts", metavar="PART", nargs="+", help="a report, JSON lines, or a folder of them")
     parser.add_argument("--of", metavar="FOLDER", help="the folder whose .pc files must all have a report")
+    parser.add_argument("--short", action="store_true", help="leave out the rows for each number of edges")
     parser.add_argument("--svg", metavar="PLOT", help="also write a plot of the table to this file")
     return parser.parse_args()
 
@@ -289,7 +302,7 @@ def main() -> int:
     except OSError as error:
         print(f"collect.py: {error.filename}: {error.strerror}", file=sys.stderr)
         return 1
-    print(text_of(table), end="")
+    print(text_of(table, words.short), end="")
     return 0
 
 
