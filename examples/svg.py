@@ -53,14 +53,16 @@ class Picture:
 
 @dataclasses.dataclass
 class Lines:
-    """What the lines say of the first file: the line of each graph asked for, and how the file ends."""
+    """What the lines say of the first file: the line of each graph asked for, and how the file ends, which is
+    empty where no line says it."""
     graphs: dict[int, dict[str, Any]]
-    ending: str | None
+    ending: str
 
 
 def read_lines(lines: Iterable[str], numbers: list[int] | None) -> Lines:
-    """The lines of these graphs of the first file; all of them, where no numbers are given."""
-    found, wanted = Lines({}, None), None if numbers is None else set(numbers)
+    """The lines of these graphs of the first file; where no numbers are given all of them, up to one more than
+    a page has."""
+    found, wanted = Lines({}, ""), None if numbers is None else set(numbers)
     for place, text in enumerate(lines, 1):  # all of them, so that their writer meets no closed pipe
         try:
             line = json.loads(text)
@@ -68,7 +70,7 @@ def read_lines(lines: Iterable[str], numbers: list[int] | None) -> Lines:
                 continue
             if "end" in line:
                 found.ending = line["end"]
-            elif wanted is None or line["graph"] in wanted:
+            elif len(found.graphs) <= MOST_ON_PAGE if wanted is None else line["graph"] in wanted:
                 found.graphs[line["graph"]] = line
         except (ValueError, KeyError, TypeError):
             raise Refused(f"standard input, line {place}: not a line of planarbend layout --json") from None
@@ -253,13 +255,13 @@ def command_line() -> argparse.Namespace:
 
 def look_at_numbers(lines: Lines, numbers: list[int] | None) -> None:
     """Looks that the lines have what was asked for."""
-    if lines.ending is None:
+    if not lines.ending:
         raise Refused("standard input: no line says how the first file ends, so lines are wanting")
     missing = [str(number) for number in numbers or [] if number not in lines.graphs]
     if missing:
         raise Refused(f"the lines have no graph {', '.join(missing[:5])}{', ..' if len(missing) > 5 else ''}")
     if numbers is None and len(lines.graphs) > MOST_ON_PAGE:
-        raise Refused(f"{len(lines.graphs)} graphs are too many for a page, at most {MOST_ON_PAGE}; take --graphs")
+        raise Refused(f"more than {MOST_ON_PAGE} graphs are too many for a page; take --graphs")
 
 
 def main() -> int:

@@ -66,8 +66,8 @@ class Table:
     def add(self, graph: Graph) -> None:
         if graph.rule is not None:
             self.refused[graph.rule] += 1
-        else:
-            self.laid[*graph.size, graph.bends] += 1
+        elif graph.size is not None and graph.bends is not None:
+            self.laid[graph.size[0], graph.size[1], graph.bends] += 1
             if graph.cause is not None:
                 self.not_drawn[graph.cause] += 1
 
@@ -168,8 +168,8 @@ def look_for_missing(paths: list[str], folder: str | None) -> None:
             raise Incomplete(f"{name}: of {modulus} parts these are missing: {', '.join(map(str, missing))}")
     if folder is not None:
         wanted = {name.removesuffix(".pc") for name in os.listdir(folder) if name.endswith(".pc")}
-        if missing := sorted(wanted - set(stems)):
-            raise Incomplete(f"{folder}: these files have no report: {', '.join(missing)}")
+        if without := sorted(wanted - set(stems)):
+            raise Incomplete(f"{folder}: these files have no report: {', '.join(without)}")
 
 
 def collect(words: Iterable[str], folder: str | None = None) -> Table:
