@@ -1,5 +1,7 @@
 //! How much work the solver does on the networks of planes, and least shapes of hundreds of darts.
 
+ghost use Rattle.std.specs.Prelude.{◌≤◌};
+
 use crate::tests::{EDGE, OCTAHEDRON, TRIANGLE, expect_least, long_cycle, plane_of};
 use flow_network::FaceNet;
 use min_cost_flow::{Arc, Cap, Network, solve};
