@@ -1,4 +1,4 @@
-ghost use Rattle.std.specs.Prelude.{◌≡◌, ◌+◌, ◌-◌, ◌<◌, ◌≤◌, ◌==◌, if◌then◌else◌, ℕ, pos, negsuc, ◌-ℤ◌, IfOk, length, slice_index, slice_index_or};
+ghost use Rattle.std.specs.Prelude.{◌≡◌, [], ◌+◌, ◌-◌, ◌<◌, ◌≤◌, ◌==◌, if◌then◌else◌, ℕ, pos, negsuc, ◌-ℤ◌, IfOk, length, slice_index, slice_index_or};
 ghost use Rattle.faces.specs.Map.{darts, vertices, head, mate, face_at, degree};
 ghost use Rattle.min_cost_flow.specs.declared.arc.Cap.TheVariants.{AtMost, Any};
 ghost use Rattle.min_cost_flow.specs.Net.{no_arc};
@@ -20,6 +20,24 @@ fn count_arrivals(plane: &Plane) -> [u16; 256]
     counts
 }
 
+/// An empty list with room for a number for each vertex and face.
+fn room_for_nodes(alloc: Global, plane: &Plane) -> Result<Vec<i32>, AllocError>
+    ensures { IfOk result (λ s. s.items ≡ []) }
+{
+    let vertices = usize::from(plane.graph().vertices());
+    Vec::with_capacity(alloc, vertices + usize::from(plane.face_count()))
+}
+
+/// What a face supplies: its turns in right angles, less its degree.
+fn face_supply(plane: &Plane, face: u16) -> i32
+    requires { face < plane.now.faces }
+    ensures { result
+        ≡ (if face == plane.now.outer then negsuc 3 else pos 4) -ℤ pos (degree plane.now face) }
+{
+    let turn = if face == plane.outer() { -4 } else { 4 };
+    turn - i32::from(plane.degree(face))
+}
+
 /// The supply of each node: those of the vertices, and then those of the faces.
 pub fn supplies_of(alloc: Global, plane: &Plane) -> Result<Vec<i32>, AllocError>
     ensures nodes { IfOk result (λ s. length s.items ≡ vertices plane.now + plane.now.faces) }
@@ -30,13 +48,12 @@ pub fn supplies_of(alloc: Global, plane: &Plane) -> Result<Vec<i32>, AllocError>
         ≡ (if f == plane.now.outer then negsuc 3 else pos 4) -ℤ pos (degree plane.now f)) }
 {
     let counts = count_arrivals(plane);
-    let mut supplies = Vec::new(alloc);
+    let mut supplies = room_for_nodes(alloc, plane)?;
     'vertices: for place in 0..plane.graph().vertices() {
         supplies.push(4 - i32::from(counts[usize::from(place) + 1]))?;
     }
     'faces: for face in 0..plane.face_count() {
-        let turn = if face == plane.outer() { -4 } else { 4 };
-        supplies.push(turn - i32::from(plane.degree(face)))?;
+        supplies.push(face_supply(plane, face))?;
     }
     Ok(supplies)
 }
@@ -53,7 +70,7 @@ pub fn arcs_of(alloc: Global, plane: &Plane) -> Result<Vec<Arc>, AllocError>
 {
     let graph = plane.graph();
     let first_face = u32::from(graph.vertices());
-    let mut arcs = Vec::new(alloc);
+    let mut arcs = Vec::with_capacity(alloc, 2 * graph.darts() as usize)?;
     'corners: for dart in 0..graph.darts() {
         arcs.push(Arc {
             from: u32::from(graph.head(dart)) - 1,

@@ -9,3 +9,4 @@ pub mod Search
 pub mod Path
 pub mod Round
 pub mod Existence
+pub mod Lists

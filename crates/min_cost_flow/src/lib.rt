@@ -9,7 +9,6 @@ mod arc;
 mod augment;
 mod build;
 mod fault;
-pub mod laws;
 mod network;
 mod reach;
 mod residual;

@@ -30,7 +30,7 @@ pub(crate) struct Layout<'a> {
 /// One look at a residual arc: the only place where a search reads one.
 pub(crate) fn look(arcs: &[ResidualArc], number: usize, looks: &mut u64) -> ResidualArc
     requires number { number < length arcs.now }
-    requires few { looks.old < 2 ^ 62 }
+    requires few { looks.old < 2 ^ 63 }
     ensures end { result.end ≡ end_at arcs.now number }
     ensures code { result.code ≡ code_at arcs.now number }
     ensures tick { looks.new ≡ looks.old + 1 }

@@ -48,13 +48,8 @@ fn begin(ground: Ground<'_>, label: &mut [i32], order: &mut [u32], place: &mut [
     ensures nearest { FindsNearest ground.entry label.new place.new result }
     ensures head { result.head ≡ 0 }
 {
-    place_first(
-        label,
-        order,
-        place,
-        ground.source,
-        ground.potential[ground.source],
-    );
+    let potential = ground.potential[ground.source];
+    place_first(label, order, place, ground.source, potential);
     Progress {
         head: 0,
         ordered: 1,

@@ -5,6 +5,7 @@ ghost use Rattle.min_cost_flow.specs.Net.{arc_count, arc_at, node_count, supply_
 ghost use Rattle.min_cost_flow.specs.Flow.{amounts, at_nodes, Flow, HasPotentials, HasNoFlow, Solves};
 ghost use Rattle.min_cost_flow.specs.Layout.{numbers, limit_of, IsLaidOut, IsFilled, carried};
 ghost use Rattle.min_cost_flow.specs.Search.{far, IsPut};
+ghost use Rattle.min_cost_flow.specs.Lists.{HasNodeLists};
 ghost use Rattle.min_cost_flow.specs.Round.{left_over, carrying, supply_sum, IsRound, IsLess, IsWork, IsDone, HasSupply, IsWithinReach};
 
 use crate::augment::send;
@@ -62,32 +63,18 @@ pub fn solve(alloc: Global, network: &Network) -> Result<Solved, SolveFault>
     let nodes = network.node_count();
     let arc_count = network.arc_count();
     let shut = ResidualArc { end: 0, code: 0 };
-    let mut first = vec![in alloc; 0; nodes + 1]?;
-    let mut reverse = vec![in alloc; 0; 2 * arc_count]?;
     let mut flow = vec![in alloc; 0; arc_count]?;
-    let mut arcs = vec![in alloc; shut; 2 * arc_count]?;
-    let mut room = vec![in alloc; 0; 2 * arc_count]?;
     let mut potential = vec![in alloc; 0; nodes]?;
-    let mut excess = Vec::from_slice(alloc, network.supplies())?;
-    let mut score = vec![in alloc; 0; nodes]?;
-    let mut label = vec![in alloc; FAR; nodes]?;
-    let mut enter = vec![in alloc; 0; nodes]?;
-    let mut order = vec![in alloc; 0; nodes]?;
-    let mut place = vec![in alloc; 0; nodes]?;
+    let mut arcs = vec![in alloc; shut; 2 * arc_count]?;
+    let mut counts = vec![in alloc; 0; 4 * arc_count + 4 * nodes + 1]?;
+    let mut units = vec![in alloc; FAR; 3 * nodes]?;
     let done = fill(
         network,
-        &mut first,
-        &mut reverse,
         &mut flow,
-        &mut arcs,
-        &mut room,
         &mut potential,
-        &mut excess,
-        &mut score,
-        &mut label,
-        &mut enter,
-        &mut order,
-        &mut place,
+        &mut arcs,
+        &mut counts,
+        &mut units,
     );
     match done {
         Some(work) => Ok(Solved::new(flow, potential, work.searches, work.looks)),
@@ -95,64 +82,53 @@ pub fn solve(alloc: Global, network: &Network) -> Result<Solved, SolveFault>
     }
 }
 
-/// Lays out the residual arcs, sends all units, and writes what each arc carries.
+/// Lays out the residual arcs in parts of the long lists, sends all units, and reads the flow off.
 fn fill(
     network: &Network,
-    first: &mut [u32],
-    reverse: &mut [u32],
     flow: &mut [u32],
-    arcs: &mut [ResidualArc],
-    room: &mut [u32],
     potential: &mut [i32],
-    excess: &mut [i32],
-    score: &mut [i32],
-    label: &mut [i32],
-    enter: &mut [u32],
-    order: &mut [u32],
-    place: &mut [u32],
+    arcs: &mut [ResidualArc],
+    counts: &mut [u32],
+    units: &mut [i32],
 ) -> Option<Work>
     requires network { IsNetwork network.now }
-    requires starts { length first.old ≡ node_count network.now + 1 }
-    requires reverses { length reverse.old ≡ arc_count network.now + arc_count network.now }
     requires flows { length flow.old ≡ arc_count network.now }
-    requires codes { length arcs.old ≡ arc_count network.now + arc_count network.now }
-    requires rooms { length room.old ≡ arc_count network.now + arc_count network.now }
     requires potentials { length potential.old ≡ node_count network.now }
-    requires excesses { length excess.old ≡ node_count network.now }
-    requires scores { length score.old ≡ node_count network.now }
-    requires labels { length label.old ≡ node_count network.now }
-    requires enters { length enter.old ≡ node_count network.now }
-    requires orders { length order.old ≡ node_count network.now }
-    requires places { length place.old ≡ node_count network.now }
+    requires codes { length arcs.old ≡ arc_count network.now + arc_count network.now }
+    requires counts { length counts.old ≡ 4 * arc_count network.now + 4 * node_count network.now + 1 }
+    requires units { length units.old ≡ 3 * node_count network.now }
     requires flat { (v : ℕ) → at_nodes potential.old v ≡ pos 0 }
-    requires full { (v : ℕ) → at_nodes excess.old v ≡ supply_at network.now v }
-    requires blank { (v : ℕ) → v < node_count network.now → at_nodes label.old v ≡ far }
+    requires blank { (v : ℕ) → v < length units.old → at_nodes units.old v ≡ far }
     ensures done { IfSome result (λ work. IsDone network.now (amounts flow.new) (at_nodes potential.new) work.searches work.looks) }
     ensures no_flow { IfNone result (HasNoFlow network.now) }
 {
+    let nodes = network.node_count();
+    let ends = 2 * network.arc_count();
+    let (first, counts) = counts.split_at_mut(nodes + 1);
+    let (reverse, counts) = counts.split_at_mut(ends);
+    let (room, counts) = counts.split_at_mut(ends);
+    let (enter, counts) = counts.split_at_mut(nodes);
+    let (order, place) = counts.split_at_mut(nodes);
+    let (label, units) = units.split_at_mut(nodes);
+    let (excess, score) = units.split_at_mut(nodes);
+    excess.copy_from_slice(network.supplies());
     lay_out(network, first, reverse, flow, arcs, room);
     rank(network, score);
-    let layout = Layout {
-        network,
-        first,
-        reverse,
-        forward: flow,
-    };
-    match run(
-        layout, arcs, room, potential, excess, score, label, enter, order, place,
-    ) {
-        Some(work) => {
-            read_flow(reverse, room, flow);
-            Some(work)
-        }
-        None => None,
-    }
+    let work = run(
+        network, first, reverse, flow, arcs, room, potential, excess, score, label, enter, order,
+        place,
+    )?;
+    read_flow(reverse, room, flow);
+    Some(work)
 }
 
 /// Sends all that is left over at any node, and gives how much work that was; none where it cannot be
 /// done, or where units are wanting still.
 fn run(
-    layout: Layout<'_>,
+    network: &Network,
+    first: &[u32],
+    reverse: &[u32],
+    forward: &[u32],
     arcs: &mut [ResidualArc],
     room: &mut [u32],
     potential: &mut [i32],
@@ -163,25 +139,25 @@ fn run(
     order: &mut [u32],
     place: &mut [u32],
 ) -> Option<Work>
-    requires network { IsNetwork layout.network.now }
-    requires laid_out { IsLaidOut layout.network.now layout.first.now layout.reverse.now layout.forward.now }
-    requires limits { (i : ℕ) → i < arc_count layout.network.now → limit_of (arc_at layout.network.now i).cap < 2 ^ 32 }
-    requires potentials { length potential.old ≡ node_count layout.network.now }
-    requires excesses { length excess.old ≡ node_count layout.network.now }
-    requires scores { length score.now ≡ node_count layout.network.now }
-    requires labels { length label.old ≡ node_count layout.network.now }
-    requires enters { length enter.old ≡ node_count layout.network.now }
-    requires orders { length order.old ≡ node_count layout.network.now }
-    requires places { length place.old ≡ node_count layout.network.now }
-    requires filled { IsFilled layout.network.now layout.reverse.now layout.forward.now arcs.old room.old }
-    requires round { IsRound layout.network.now (carried layout.reverse.now layout.forward.now room.old) (at_nodes potential.old) (at_nodes excess.old) }
-    requires blank { (v : ℕ) → v < node_count layout.network.now → at_nodes label.old v ≡ far }
-    requires none { (i : ℕ) → i < arc_count layout.network.now → carried layout.reverse.now layout.forward.now room.old i ≡ 0 }
-    requires full { (v : ℕ) → at_nodes excess.old v ≡ supply_at layout.network.now v }
-    ensures done { IfSome result (λ work. IsDone layout.entry.network.now (carried layout.entry.reverse.now layout.entry.forward.now room.new) (at_nodes potential.new) work.searches work.looks) }
-    ensures filled { IfSome result (λ _. IsFilled layout.entry.network.now layout.entry.reverse.now layout.entry.forward.now arcs.new room.new) }
-    ensures no_flow { IfNone result (HasNoFlow layout.entry.network.now) }
+    requires network { IsNetwork network.now }
+    requires laid_out { IsLaidOut network.now first.now reverse.now forward.now }
+    requires limits { (i : ℕ) → i < arc_count network.now → limit_of (arc_at network.now i).cap < 2 ^ 32 }
+    requires sizes { HasNodeLists (node_count network.now) potential.old excess.old score.now label.old enter.old order.old place.old }
+    requires filled { IsFilled network.now reverse.now forward.now arcs.old room.old }
+    requires round { IsRound network.now (carried reverse.now forward.now room.old) (at_nodes potential.old) (at_nodes excess.old) }
+    requires blank { (v : ℕ) → v < node_count network.now → at_nodes label.old v ≡ far }
+    requires none { (i : ℕ) → i < arc_count network.now → carried reverse.now forward.now room.old i ≡ 0 }
+    requires full { (v : ℕ) → at_nodes excess.old v ≡ supply_at network.now v }
+    ensures done { IfSome result (λ work. IsDone network.now (carried reverse.now forward.now room.new) (at_nodes potential.new) work.searches work.looks) }
+    ensures filled { IfSome result (λ _. IsFilled network.now reverse.now forward.now arcs.new room.new) }
+    ensures no_flow { IfNone result (HasNoFlow network.now) }
 {
+    let layout = Layout {
+        network,
+        first,
+        reverse,
+        forward,
+    };
     let mut work = Work {
         searches: 0,
         looks: 0,
@@ -255,13 +231,7 @@ fn drain(
     requires network { IsNetwork layout.network.now }
     requires laid_out { IsLaidOut layout.network.now layout.first.now layout.reverse.now layout.forward.now }
     requires limits { (i : ℕ) → i < arc_count layout.network.now → limit_of (arc_at layout.network.now i).cap < 2 ^ 32 }
-    requires potentials { length potential.old ≡ node_count layout.network.now }
-    requires excesses { length excess.old ≡ node_count layout.network.now }
-    requires scores { length score.now ≡ node_count layout.network.now }
-    requires labels { length label.old ≡ node_count layout.network.now }
-    requires enters { length enter.old ≡ node_count layout.network.now }
-    requires orders { length order.old ≡ node_count layout.network.now }
-    requires places { length place.old ≡ node_count layout.network.now }
+    requires sizes { HasNodeLists (node_count layout.network.now) potential.old excess.old score.now label.old enter.old order.old place.old }
     requires filled { IsFilled layout.network.now layout.reverse.now layout.forward.now arcs.old room.old }
     requires round { IsRound layout.network.now (carried layout.reverse.now layout.forward.now room.old) (at_nodes potential.old) (at_nodes excess.old) }
     requires blank { (v : ℕ) → v < node_count layout.network.now → at_nodes label.old v ≡ far }
@@ -310,13 +280,7 @@ fn augment_once(
     requires laid_out { IsLaidOut layout.network.now layout.first.now layout.reverse.now layout.forward.now }
     requires filled { IsFilled layout.network.now layout.reverse.now layout.forward.now arcs.old room.old }
     requires round { IsRound layout.network.now (carried layout.reverse.now layout.forward.now room.old) (at_nodes potential.old) (at_nodes excess.old) }
-    requires potentials { length potential.old ≡ node_count layout.network.now }
-    requires excesses { length excess.old ≡ node_count layout.network.now }
-    requires scores { length score.now ≡ node_count layout.network.now }
-    requires labels { length label.old ≡ node_count layout.network.now }
-    requires enters { length enter.old ≡ node_count layout.network.now }
-    requires orders { length order.old ≡ node_count layout.network.now }
-    requires places { length place.old ≡ node_count layout.network.now }
+    requires sizes { HasNodeLists (node_count layout.network.now) potential.old excess.old score.now label.old enter.old order.old place.old }
     requires blank { (v : ℕ) → v < node_count layout.network.now → at_nodes label.old v ≡ far }
     requires source { source < node_count layout.network.now }
     requires left { pos 0 <ℤ at_nodes excess.old source }

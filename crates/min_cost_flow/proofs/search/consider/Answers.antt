@@ -66,3 +66,9 @@ returns-else-offered-label-clause-serves c =
     let ends : c.from-end.result ≡ end_at c.args.ground.arcs.now c.args.number = c.from-end.ensures ∙ c.look-arc.ensures.end in
     let sum : c.offered_label-offered.result ≡ at_nodes c.args.label.now c.args.node +ℤ code_at c.args.ground.arcs.now c.args.number = sum_is _ _ _ _ fl fc c.offered_label-offered.ensures c.look-arc.ensures.code in
     served_less c.args.ground.arcs.now (at_nodes c.args.ground.potential.now) (at_nodes c.args.label.now) c.args.progress.now.cut c.args.node c.args.number c.from-end.result c.offered_label-offered.result ends sum (both_no_less _ _ fo fe c.if-offered-label.false)
+
+pub returns-then-offered-label-clause-tick : goal.returns-then-offered-label-clause-tick
+returns-then-offered-label-clause-tick c = c.look-arc.ensures.tick
+
+pub returns-else-offered-label-clause-tick : goal.returns-else-offered-label-clause-tick
+returns-else-offered-label-clause-tick c = c.look-arc.ensures.tick

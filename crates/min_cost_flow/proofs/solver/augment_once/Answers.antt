@@ -16,14 +16,14 @@ use Rattle.min_cost_flow.proofs.solver.augment_once.Goals as goal
 pub search-progress-requires-clause-ground : goal.search-progress-requires-clause-ground
 search-progress-requires-clause-ground c =
     let net = c.args.layout.network.now in
-    let n : length c.args.potential.now ≡ node_count net = c.requires.potentials in
+    let n : length c.args.potential.now ≡ node_count net = c.requires.sizes.potentials in
     let first = c.args.layout.first.now in
     let arcs = c.args.arcs.now in
     let g : IsGraph (node_count net) first arcs = is_graph _ _ _ _ _ _ c.requires.network c.requires.laid_out c.requires.filled in
     let pr : IsPriced (node_count net) first arcs (at_nodes c.args.potential.now) (at_nodes c.args.excess.now) = is_priced _ _ _ _ _ _ _ _ c.requires.network c.requires.laid_out c.requires.filled c.requires.round in
     record {
-      excesses = c.requires.excesses ∙ sym n;
-      scores = c.requires.scores ∙ sym n;
+      excesses = c.requires.sizes.excesses ∙ sym n;
+      scores = c.requires.sizes.scores ∙ sym n;
       graph = subst (λ (t : ℕ). IsGraph t first arcs) (sym n) g;
       priced = subst (λ (t : ℕ). IsPriced t first arcs (at_nodes c.args.potential.now) (at_nodes c.args.excess.now)) (sym n) pr;
       source = omega (arith, c.requires.source);
@@ -31,7 +31,7 @@ search-progress-requires-clause-ground c =
 
 pub returns-then-progress-eq-FAR-clause-no_flow : goal.returns-then-progress-eq-FAR-clause-no_flow
 returns-then-progress-eq-FAR-clause-no_flow c _ =
-    let n = c.requires.potentials in
+    let n = c.requires.sizes.potentials in
     let e = c.search-progress.ensures in
     let t = c.search-progress.result in
     let first = c.args.layout.first.now in
@@ -53,7 +53,7 @@ move_potentials-requires-clause-labels c j b =
     let r = e.reached in
     let less : j < c.search-progress.result.reached = omega (arith, r.counts) in
     let net = c.args.layout.network.now in
-    let n = c.requires.potentials in
+    let n = c.requires.sizes.potentials in
     let first = c.args.layout.first.now in
     let arcs = c.args.arcs.now in
     let g : IsGraph (node_count net) first arcs = is_graph _ _ _ _ _ _ c.requires.network c.requires.laid_out c.requires.filled in
@@ -67,15 +67,15 @@ move_potentials-requires-clause-cut c =
     let fc : SFits w32 t.cut = search rules in
     let hit : t.cut <ℤ far = strictly _ _ e.nearest.most (λ h. c.if-progress-eq-FAR.false (ap (of_z w32) h)) in
     let low = c.requires.round.low c.args.source c.requires.source in
-    let le : t.head ≤ node_count c.args.layout.network.now = omega (arith, e.reached.counts, c.requires.potentials) in
+    let le : t.head ≤ node_count c.args.layout.network.now = omega (arith, e.reached.counts, c.requires.sizes.potentials) in
     passed_within _ _ t.cut fc (label_bounds _ t.head (at_nodes c.args.potential.now c.args.source) t.cut c.requires.network.small.0 le (e.nearest.hit hit).near low)
 
 pub clear-requires-clause-nodes : goal.clear-requires-clause-nodes
-clear-requires-clause-nodes c j b = omega (arith, c.search-progress.ensures.reached.node j b, c.requires.potentials, c.requires.labels)
+clear-requires-clause-nodes c j b = omega (arith, c.search-progress.ensures.reached.node j b, c.requires.sizes.potentials, c.requires.sizes.labels)
 
 pub send-requires-clause-path : goal.send-requires-clause-path
 send-requires-clause-path c =
-    let n = c.requires.potentials in
+    let n = c.requires.sizes.potentials in
     let e = c.search-progress.ensures in
     let t = c.search-progress.result in
     let first = c.args.layout.first.now in
@@ -94,7 +94,7 @@ send-requires-clause-path c =
 
 pub send-requires-clause-round : goal.send-requires-clause-round
 send-requires-clause-round c =
-    let n = c.requires.potentials in
+    let n = c.requires.sizes.potentials in
     let e = c.search-progress.ensures in
     let t = c.search-progress.result in
     let first = c.args.layout.first.now in
@@ -123,11 +123,11 @@ send-requires-clause-wanting c =
 pub returns-clause-blank : goal.returns-clause-blank
 returns-clause-blank c _ v b =
     let e = c.search-progress.ensures in
-    all_cleared _ _ _ _ _ _ _ (at_nodes c.clear.new.label) _ _ _ _ _ _ _ e.reached c.clear.ensures.cleared c.clear.ensures.others v (omega (arith, c.requires.potentials))
+    all_cleared _ _ _ _ _ _ _ (at_nodes c.clear.new.label) _ _ _ _ _ _ _ e.reached c.clear.ensures.cleared c.clear.ensures.others v (omega (arith, c.requires.sizes.potentials))
 
 pub returns-clause-carrying : goal.returns-clause-carrying
 returns-clause-carrying c _ =
-    let n = c.requires.potentials in
+    let n = c.requires.sizes.potentials in
     let e = c.search-progress.ensures in
     let t = c.search-progress.result in
     let first = c.args.layout.first.now in

@@ -19,7 +19,7 @@ pub offset_bounds-excess-source : goal.offset_bounds-excess-source
 offset_bounds-excess-source c = omega (arith, c.requires.source, c.requires.network.small)
 
 pub slice_copy_out-t-18 : goal.slice_copy_out-t-18
-slice_copy_out-t-18 c = omega (arith, c.requires.source, c.requires.excesses)
+slice_copy_out-t-18 c = omega (arith, c.requires.source, c.requires.sizes.excesses)
 
 pub augment_once-requires : goal.augment_once-requires
 augment_once-requires c =
@@ -31,13 +31,7 @@ augment_once-requires c =
       laid_out = c.requires.laid_out;
       filled = i.filled;
       round = i.round;
-      potentials = omega (arith, c.requires.potentials);
-      excesses = omega (arith, c.requires.excesses);
-      scores = c.requires.scores;
-      labels = omega (arith, c.requires.labels);
-      enters = omega (arith, c.requires.enters);
-      orders = omega (arith, c.requires.orders);
-      places = omega (arith, c.requires.places);
+      sizes = record { potentials = omega (arith, c.requires.sizes.potentials); excesses = omega (arith, c.requires.sizes.excesses); scores = c.requires.sizes.scores; labels = omega (arith, c.requires.sizes.labels); enters = omega (arith, c.requires.sizes.enters); orders = omega (arith, c.requires.sizes.orders); places = omega (arith, c.requires.sizes.places) };
       blank = i.blank;
       source = c.requires.source;
       left = is_more _ _ f c.units-test.true;

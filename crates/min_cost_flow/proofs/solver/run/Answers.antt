@@ -21,18 +21,12 @@ drain-requires c =
       network = c.requires.network;
       laid_out = c.requires.laid_out;
       limits = c.requires.limits;
-      potentials = omega (arith, c.requires.potentials);
-      excesses = omega (arith, c.requires.excesses);
-      scores = c.requires.scores;
-      labels = omega (arith, c.requires.labels);
-      enters = omega (arith, c.requires.enters);
-      orders = omega (arith, c.requires.orders);
-      places = omega (arith, c.requires.places);
+      sizes = record { potentials = omega (arith, c.requires.sizes.potentials); excesses = omega (arith, c.requires.sizes.excesses); scores = c.requires.sizes.scores; labels = omega (arith, c.requires.sizes.labels); enters = omega (arith, c.requires.sizes.enters); orders = omega (arith, c.requires.sizes.orders); places = omega (arith, c.requires.sizes.places) };
       filled = i.filled;
       round = i.round;
       blank = i.blank;
       work = i.work;
-      source = omega (arith, c.requires.excesses);
+      source = omega (arith, c.requires.sizes.excesses);
     }
 
 pub returns-then-not-drain-clause-no_flow : goal.returns-then-not-drain-clause-no_flow
@@ -49,7 +43,7 @@ loop-source-preserved c =
       blank = e.blank yes;
       work = e.work yes;
       done = λ v b. elim (cases_lt v c.loop-source.source) [
-        | inl d ↦ e.done yes v (omega (arith, c.requires.excesses)) (i.done v d)
+        | inl d ↦ e.done yes v (omega (arith, c.requires.sizes.excesses)) (i.done v d)
         | inr d ↦ let t : v ≡ c.loop-source.source = omega arith in subst (λ (u : ℕ). at_nodes c.drain.new.excess u ≤ℤ pos 0) (sym t) (e.here yes)
       ];
     }
@@ -58,12 +52,12 @@ pub returns-then-has_deficit-clause-no_flow : goal.returns-then-has_deficit-clau
 returns-then-has_deficit-clause-no_flow c =
     let i = c.loop-source.invariant in
     let (u, b, under) = c.has_deficit.ensures.some c.if-has_deficit.true in
-    no_flow_wanting c.args.layout.network.now _ (at_nodes c.loop-source.excess) u c.requires.network.ends i.round.leaves (λ v d. i.done v (omega (arith, c.requires.excesses))) (omega (arith, c.requires.excesses)) under
+    no_flow_wanting c.args.network.now _ (at_nodes c.loop-source.excess) u c.requires.network.ends i.round.leaves (λ v d. i.done v (omega (arith, c.requires.sizes.excesses))) (omega (arith, c.requires.sizes.excesses)) under
 
 pub returns-clause-done : goal.returns-clause-done
 returns-clause-done c =
     let i = c.loop-source.invariant in
-    done_at _ _ _ _ _ _ i.round i.work (λ v d. i.done v (omega (arith, c.requires.excesses))) (λ v d. c.has_deficit.ensures.none c.if-has_deficit.false v (omega (arith, c.requires.excesses)))
+    done_at _ _ _ _ _ _ i.round i.work (λ v d. i.done v (omega (arith, c.requires.sizes.excesses))) (λ v d. c.has_deficit.ensures.none c.if-has_deficit.false v (omega (arith, c.requires.sizes.excesses)))
 
 pub returns-clause-filled : goal.returns-clause-filled
 returns-clause-filled c = c.loop-source.invariant.filled

@@ -9,9 +9,9 @@ use Rattle.min_cost_flow.proofs.solver.run.Given as goal
 
 abbrev pub invariant-loop-source : goal.invariant-loop-source
 invariant-loop-source l = record {
-  filled : IsFilled l.layout.network.now l.layout.reverse.now l.layout.forward.now l.arcs l.room;
-  round : IsRound l.layout.network.now (carried l.layout.reverse.now l.layout.forward.now l.room) (at_nodes l.potential) (at_nodes l.excess);
-  blank : (v : ℕ) → v < node_count l.layout.network.now → at_nodes l.label v ≡ far;
-  work : IsWork l.layout.network.now (carried l.layout.reverse.now l.layout.forward.now l.room) (at_nodes l.excess) l.work.searches l.work.looks;
+  filled : IsFilled l.network l.reverse l.forward l.arcs l.room;
+  round : IsRound l.network (carried l.reverse l.forward l.room) (at_nodes l.potential) (at_nodes l.excess);
+  blank : (v : ℕ) → v < node_count l.network → at_nodes l.label v ≡ far;
+  work : IsWork l.network (carried l.reverse l.forward l.room) (at_nodes l.excess) l.work.searches l.work.looks;
   done : (v : ℕ) → v < l.source → at_nodes l.excess v ≤ℤ pos 0;
 }

@@ -1,4 +1,4 @@
-use Rattle.std.proofs.Common.{◌≡◌, ◌<◌, ℕ, ℤ, pos, List, sym, ◌∙◌, ap, subst, inl, inr, arith}
+use Rattle.std.proofs.Common.{◌≡◌, ◌*◌, length, ◌<◌, ℕ, ℤ, pos, List, sym, ◌∙◌, ap, subst, inl, inr, arith}
 use Rattle.std.proofs.Math.ListN.{replicate}
 use Rattle.std.proofs.lemmas.Bool.{cases_lt}
 use Rattle.std.proofs.lemmas.List.{get_or-replicate, with_items_is, get_or_past, length-replicate}
@@ -19,16 +19,10 @@ far_labels : (n : ℕ) (ps : List ℤ) → ps ≡ replicate n far → (v : ℕ) 
 far_labels n ps h v b = rw h (get_or-replicate n v far (pos 0) b)
 
 pub fill-done-requires-clause-flat : goal.fill-done-requires-clause-flat
-fill-done-requires-clause-flat c = zero_potentials c.node_count-nodes.result c.deref_mut-6.result.now (c.deref_mut-6.ensures.value ∙ c.in_ok-potential.ensures.items_if_clones_equal (λ y h. h))
-
-pub fill-done-requires-clause-full : goal.fill-done-requires-clause-full
-fill-done-requires-clause-full c v = ap (λ (es : List ℤ). at_nodes es v) (c.deref_mut-7.ensures.value ∙ c.in_ok-excess.ensures.items ∙ c.supplies.ensures.supplies)
+fill-done-requires-clause-flat c = zero_potentials c.node_count-nodes.result c.deref_mut-2.result.now (c.deref_mut-2.ensures.value ∙ c.in_ok-potential.ensures.items_if_clones_equal (λ y h. h))
 
 pub fill-done-requires-clause-blank : goal.fill-done-requires-clause-blank
-fill-done-requires-clause-blank c v b = far_labels c.node_count-nodes.result c.deref_mut-9.result.now (c.deref_mut-9.ensures.value ∙ c.in_ok-label.ensures.items_if_clones_equal (λ y h. h)) v (omega (arith, c.node_count-nodes.ensures.count))
-
-pub overflow_add-nodes : goal.overflow_add-nodes
-overflow_add-nodes c = omega (arith, c.node_count-nodes.ensures.kept.small, c.node_count-nodes.ensures.count)
+fill-done-requires-clause-blank c v b = far_labels (3 * c.node_count-nodes.result) c.deref_mut-5.result.now (c.deref_mut-5.ensures.value ∙ c.in_ok-units.ensures.items_if_clones_equal (λ y h. h)) v (omega (arith, b, ap (length {A = ℤ}) c.deref_mut-5.ensures.value, c.in_ok-units.ensures.len))
 
 pub overflow_mul-arc_count : goal.overflow_mul-arc_count
 overflow_mul-arc_count c = omega (arith, c.node_count-nodes.ensures.kept.small, c.arc_count-arc_count.ensures.count)

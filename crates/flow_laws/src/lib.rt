@@ -1,4 +1,6 @@
 //! Laws of flows, each as the contract of a function that does nothing.
+#![tactic(auto)]
+
 ghost use Rattle.std.specs.Prelude.{◌≡◌, ◌≢◌, ◌<◌, ℕ, ℤ, pos};
 ghost use Rattle.min_cost_flow.specs.Excess.{KeepsCaps, Leaves, IsCutOff};
 ghost use Rattle.min_cost_flow.specs.Existence.{IsBalanced, IsJoined};
