@@ -193,6 +193,7 @@ is_boxed p shape w outside t old edges paths made all lesser count listed =
       heads = λ d d_in. keeps.head d (omega (arith, d_in, made.kept.few)) ∙ made.kept.heads d d_in;
       paths = kept_paths p shape w outside t made;
       apart = paths_lie_apart p shape w outside t made;
+      rows = (are_edges p shape w outside t made).rows.rows;
       enclosed = drawing_stands p shape w outside t old edges paths made;
       angles = λ d d_in.
           let m : ℕ = mate p (next p d) in
