@@ -2,10 +2,14 @@
 ghost use Rattle.std.specs.Prelude.{◌≡◌, ◌≤◌, ◌⊎◌, ℕ, true, false, IfOk, IfErr, OnOk};
 ghost use Rattle.reports.specs.declared.form.Form.{Form};
 ghost use Rattle.program_io.specs.Refusals.{IsRefusal};
+ghost use Rattle.clap.specs.Words.{kind_of};
+ghost use Rattle.clap.specs.declared.error.kind.ErrorKind.{ErrorKind};
+ghost use Rattle.commands.specs.declared.words.Request.{Request};
 ghost use Rattle.commands.specs.Statuses.{IsReported, IsLaidOut, IsDone};
+ghost use Rattle.commands.specs.Words.{AsksHelp, IsNamedIn};
 
 use crate::layout::{CAPACITY, layout};
-use crate::words::{Request, parse};
+use crate::words::{Request, asks_for_help, parse};
 use clap::Error;
 use clap::error::ErrorKind;
 use program_io::{Fault, open_source, report};
@@ -44,10 +48,19 @@ where
     ensures reported { result ≡ 3
         → IsReported (S.taken out.old) (S.taken out.new) (S.failed out.new) 3
         ⊎ ((form : Form) × (files : ℕ) × IsLaidOut form files (S.taken out.old) (S.taken out.new) (S.failed out.new) 3) }
+
+    // Where no word asks for help, status 0 comes with a whole report too; and with 0 and 3 the report
+    // is that of all files of a request, which the words name.
+    ensures done { (result ≡ 0) ⊎ (result ≡ 3)
+        → ((result ≡ 0) × AsksHelp words.now)
+        ⊎ ((request : Request) × IsNamedIn words.now request
+        × IsDone request (S.taken out.old) (S.taken out.new) (S.failed out.new) result) }
 {
     match parse(rt.alloc(), words) {
         Ok(request) => perform(rt, request, out, err),
-        Err(error) if error.use_stderr() => refuse(rt.alloc(), &error, err),
+        Err(error) if error.use_stderr() || !asks_for_help(words) => {
+            refuse(rt.alloc(), &error, err)
+        }
         Err(error) => match show_help(rt.alloc(), &error, out) {
             Ok(()) => 0,
             Err(fault) => end_by(fault, err),
@@ -115,7 +128,8 @@ where
 /// Writes why the command line is refused, and answers the status: 2, or 1 for want of memory.
 fn refuse<E: Sink>(alloc: Global, error: &Error, err: &mut E) -> u8
     requires { E.failed err.old ≡ false }
-    ensures { (result ≡ 1) ⊎ (result ≡ 2) }
+    ensures known { (result ≡ 1) ⊎ (result ≡ 2) }
+    ensures memory { kind_of error.now ≡ ErrorKind.OutOfMemory → result ≡ 1 }
 {
     if error.kind() == ErrorKind::OutOfMemory {
         return end_by(Fault::Memory, err);

@@ -1,5 +1,8 @@
 //! The command line.
+ghost use Rattle.std.specs.Prelude.{◌≡◌, IfOk, IfSome, IsTrue, All};
+ghost use Rattle.commands.specs.Words.{AsksHelp, IsHelpWord, IsWord, IsNamedIn};
 
+use clap::error::ErrorKind;
 use clap::{Arg, ArgAction, ArgMatches, Command, Error, value_parser};
 use reports::Form;
 use std::alloc::{AllocError, Global};
@@ -19,31 +22,102 @@ pub enum Request<'a> {
     },
 }
 
-/// Reads the words after the program's name.
-pub fn parse<'a>(alloc: Global, words: &'a [String]) -> Result<Request<'a>, Error> {
-    let matches = describe(alloc)?.try_get_matches_from(words)?;
-    match matches.subcommand_matches("layout") {
-        Some(layout) => Ok(layout_request(alloc, layout)?),
-        None => Ok(Request::Frames {
-            path: path_of(&matches).unwrap_or(""),
-        }),
+/// Reads the words after the program's name. All that a request names stands among them, and a `layout`
+/// names a file.
+pub fn parse<'a>(alloc: Global, words: &'a [String]) -> Result<Request<'a>, Error>
+    ensures { IfOk result (IsNamedIn words.now) }
+{
+    let mut program = describe(alloc)?;
+    let matches = program.try_get_matches_from_mut(words)?;
+    match request_of(alloc, words, &matches)? {
+        Some(request) => Ok(request),
+        // The file is required, so a line that was taken names one.
+        None => Err(program.error(ErrorKind::MissingRequiredArgument, "no file is named")?),
     }
 }
 
-fn layout_request<'a>(alloc: Global, matches: &ArgMatches<'a>) -> Result<Request<'a>, AllocError> {
-    Ok(Request::Layout {
-        paths: Vec::from_slice(alloc, matches.get_strs("FILE").unwrap_or(&[]))?,
-        lanes: matches.get_one("lanes").unwrap_or(1),
-        form: if matches.get_flag("json") {
+/// Whether a word asks for help.
+pub fn asks_for_help(words: &[String]) -> bool
+    ensures { IsTrue result → AsksHelp words.now }
+{
+    for word in words {
+        if is_help(word.as_str()) {
+            return true;
+        }
+    }
+    false
+}
+
+/// Whether a word is one that shows help in the place of a subcommand or a flag.
+fn is_help(word: &str) -> bool
+    ensures { IsTrue result → IsHelpWord word.now }
+{
+    let bytes = word.as_bytes();
+    word == "help" || word == "--help" || (bytes.len() > 1 && bytes[0] == b'-' && bytes[1] == b'h')
+}
+
+/// What was found in the words asks for; none where it names no file.
+fn request_of<'a>(
+    alloc: Global,
+    words: &'a [String],
+    matches: &ArgMatches<'a>,
+) -> Result<Option<Request<'a>>, AllocError>
+    ensures { IfOk result (λ request. IfSome request (IsNamedIn words.now)) }
+{
+    let Some(layout) = matches.subcommand_matches("layout") else {
+        return Ok(frames_request(words, matches));
+    };
+    let paths = words_named(alloc, words, layout.get_strs("FILE").unwrap_or(&[]))?;
+    if paths.is_empty() {
+        return Ok(None);
+    }
+    Ok(Some(Request::Layout {
+        paths,
+        lanes: layout.get_one("lanes").unwrap_or(1),
+        form: if layout.get_flag("json") {
             Form::Json
         } else {
             Form::Report
         },
-    })
+    }))
 }
 
-fn path_of<'a>(matches: &ArgMatches<'a>) -> Option<&'a str> {
-    matches.subcommand_matches("frames")?.get_str("FILE")
+fn frames_request<'a>(words: &'a [String], matches: &ArgMatches<'a>) -> Option<Request<'a>>
+    ensures { IfSome result (IsNamedIn words.now) }
+{
+    let name = matches.subcommand_matches("frames")?.get_str("FILE")?;
+    let path = word_named(words, name)?;
+    Some(Request::Frames { path })
+}
+
+/// The word that is this name.
+fn word_named<'a>(words: &'a [String], name: &str) -> Option<&'a str>
+    ensures { IfSome result (λ path. IsWord words.now path.now) }
+{
+    for word in words {
+        if word.as_str() == name {
+            return Some(word.as_str());
+        }
+    }
+    None
+}
+
+/// The words that are these names, which stand among them in order.
+fn words_named<'a>(
+    alloc: Global,
+    words: &'a [String],
+    names: &[&str],
+) -> Result<Vec<&'a str>, AllocError>
+    ensures { IfOk result (λ paths. All (λ path. IsWord words.now path.now) paths.items) }
+{
+    let mut paths = Vec::with_capacity(alloc, names.len())?;
+    for word in words {
+        let here = paths.len() < names.len() && word.as_str() == names[paths.len()];
+        if here {
+            paths.push(word.as_str())?;
+        }
+    }
+    Ok(paths)
 }
 
 /// What the program takes, with the texts of its help.

@@ -1,7 +1,6 @@
 -- A drawing with straight edges, in its rectangle and cut up, dissects the shape that it was made of.
-use Rattle.std.proofs.Common.{◌≡◌, ℕ, ◌+◌, ◌-◌, ◌%◌, ◌<◌, ◌≤◌, ◌∙◌, List, [], ◌∷◌, All, Vec, Global, map, length, get_or, slice_index, slice_index_or, arith, subst, sym, ap, inl, inr}
+use Rattle.std.proofs.Common.{◌≡◌, ℕ, ◌+◌, ◌-◌, ◌%◌, ◌<◌, ◌≤◌, ◌∙◌, List, [], ◌∷◌, All, map, length, get_or, slice_index, slice_index_or, arith, subst, sym, ap, inl, inr}
 use Rattle.std.specs.List.{range_with_len}
-use Rattle.std.proofs.lemmas.List.{length-map}
 use Rattle.std.proofs.lemmas.List.Elements.{All-filter, All-get_or, All-from_get_or}
 use Rattle.std.proofs.lemmas.List.FromFn.{length-range_with_len, get_or-range_with_len}
 use Rattle.embedding.proofs.Rotation.{one_dart}
@@ -23,7 +22,7 @@ use Rattle.edge_paths.specs.Rows.{AreRows}
 use Rattle.edge_paths.proofs.Framing.{enclosed_paths, enclosed_joined}
 use Rattle.edge_paths.proofs.Rows.{HasRows, enclosed_rows}
 use Rattle.edge_paths.proofs.Apart.{AreEdges, paths_back, paths_once, paths_apart}
-use Rattle.dissect.specs.Boxes.{AreBoxes, HasEdge, items_of, parts_of}
+use Rattle.dissect.specs.Boxes.{AreBoxes, HasEdge, parts_of}
 use Rattle.dissect.specs.Boxed.{IsBoxed, IsEnclosedDrawing, ArePathsApart}
 use Rattle.dissect.proofs.Keeping.{Keeps, enclosed_keeps}
 use Rattle.dissect.proofs.Rectangles.{rectangle, join}
@@ -105,7 +104,7 @@ paths_lie_apart p shape w outside t made =
     }
 
 pub drawing_stands : (p : Map) (shape : Figure) (w : Web) (outside : ℕ) (t : DartTable) (old : ℕ) (edges : List ℕ)
-    (paths : List (Vec ℕ Global)) → IsMade p shape w outside t → IsEnclosedDrawing p shape (parts_of t old edges paths)
+    (paths : List (List ℕ)) → IsMade p shape w outside t → IsEnclosedDrawing p shape (parts_of t old edges paths)
 drawing_stands p shape w outside t old edges paths made =
     let keeps : Keeps w (web_of t) = enclosed_keeps w outside (web_of t) made.enclosed in
     let e = made.enclosed in
@@ -141,10 +140,10 @@ edge_path p shape w outside t edges made lesser e e_in =
     (path.first, path.rest, path.path)
 
 pub are_boxes : (p : Map) (shape : Figure) (w : Web) (outside : ℕ) (t : DartTable) (old : ℕ) (edges : List ℕ)
-    (paths : List (Vec ℕ Global)) → IsMade p shape w outside t → old ≡ vertices p → edges ≡ lesser_darts p →
+    (paths : List (List ℕ)) → IsMade p shape w outside t → old ≡ vertices p → edges ≡ lesser_darts p →
     length paths ≡ length edges →
     ((e : ℕ) → e < length edges → (first : ℕ) (rest : List ℕ) → IsPath (web_of t) (slice_index edges e) first rest →
-    slice_index_or (items_of paths) e [] ≡ first ∷ rest) → AreBoxes (parts_of t old edges paths)
+    slice_index_or paths e [] ≡ first ∷ rest) → AreBoxes (parts_of t old edges paths)
 are_boxes p shape w outside t old edges paths made all lesser count listed =
     let keeps : Keeps w (web_of t) = enclosed_keeps w outside (web_of t) made.enclosed in
     let done = made.done 0 (omega arith) in
@@ -170,7 +169,7 @@ are_boxes p shape w outside t old edges paths made all lesser count listed =
       old_few = omega (arith, all, made.plane.order);
       few_edges = omega (arith, ap length lesser, length-lesser p (darts p), edge_total p ends, ends.few_darts);
       edges = edge;
-      path_count = length-map paths (λ (v : Vec ℕ Global). v.items) ∙ count;
+      path_count = count;
       paths = λ e e_in. record {
         edge = edge e e_in;
         listed = listed e e_in (edge e e_in).first (edge e e_in).rest (edge e e_in).path;
@@ -178,10 +177,10 @@ are_boxes p shape w outside t old edges paths made all lesser count listed =
     }
 
 pub is_boxed : (p : Map) (shape : Figure) (w : Web) (outside : ℕ) (t : DartTable) (old : ℕ) (edges : List ℕ)
-    (paths : List (Vec ℕ Global)) → IsMade p shape w outside t → old ≡ vertices p → edges ≡ lesser_darts p →
+    (paths : List (List ℕ)) → IsMade p shape w outside t → old ≡ vertices p → edges ≡ lesser_darts p →
     length paths ≡ length edges →
     ((e : ℕ) → e < length edges → (first : ℕ) (rest : List ℕ) → IsPath (web_of t) (slice_index edges e) first rest →
-    slice_index_or (items_of paths) e [] ≡ first ∷ rest) → IsBoxed p shape (parts_of t old edges paths)
+    slice_index_or paths e [] ≡ first ∷ rest) → IsBoxed p shape (parts_of t old edges paths)
 is_boxed p shape w outside t old edges paths made all lesser count listed =
     let keeps : Keeps w (web_of t) = enclosed_keeps w outside (web_of t) made.enclosed in
     let ends = plane_ends p made.plane in
@@ -194,6 +193,7 @@ is_boxed p shape w outside t old edges paths made all lesser count listed =
       heads = λ d d_in. keeps.head d (omega (arith, d_in, made.kept.few)) ∙ made.kept.heads d d_in;
       paths = kept_paths p shape w outside t made;
       apart = paths_lie_apart p shape w outside t made;
+      rows = (are_edges p shape w outside t made).rows.rows;
       enclosed = drawing_stands p shape w outside t old edges paths made;
       angles = λ d d_in.
           let m : ℕ = mate p (next p d) in

@@ -10,6 +10,7 @@ use Rattle.cutting.specs.Faces.{In, Distinct}
 use Rattle.cutting.specs.Paths.{HasPaths, IsPath}
 use Rattle.bending.specs.Bends.{CountsBends, KeepsDarts, KeepsFaces}
 use Rattle.bending.specs.Steps.{angle_of}
+use Rattle.edge_paths.specs.Rows.{AreRows}
 use Rattle.dissect.specs.Boxes.{Parts, AreBoxes, web}
 use Rattle.dissect.specs.Rectangle.{HasRectangle, IsJoinedAt}
 
@@ -64,6 +65,9 @@ pub record IsBoxed (p : Map) (shape : Figure) (b : Parts) : Type 0 where
   pub paths : HasPaths (web b) (darts p) (mate p) (λ d. map angle_of (turns_at shape d))
   -- it comes to no vertex twice, its reverse takes it the other way, and no other dart shares a piece of it
   pub apart : ArePathsApart p (web b)
+  -- paths meet nowhere but at their ends, which are vertices of the plane: between the darts of a path, of a side of the rectangle and
+  -- of the join lie vertices that are on no other, and are none of the plane's
+  pub rows : AreRows (vertices p) (web b)
   -- at its head it makes its angle with the next dart: the reverse of the next dart arrives so many quarters to the right
   pub angles : (d : ℕ) → d < darts p → ((web b).direction (mate p (next p d)) + angle_at shape d) % 4 ≡ (web b).direction d
   -- round the whole stands a rectangle, joined to it at a right turn of the plane's outer face

@@ -1,6 +1,5 @@
 -- What callers see of `Boxes`: a drawing in four directions, and which of its parts are those of a plane.
-use Rattle.std.specs.Prelude.{◌≡◌, ℕ, ◌<◌, ◌≤◌, ◌⊎◌, List, [], ◌∷◌, Vec, map, length, slice_index, slice_index_or}
-use Rattle.std.specs.declared.alloc.Global.{Global}
+use Rattle.std.specs.Prelude.{◌≡◌, ℕ, ◌<◌, ◌≤◌, ◌⊎◌, List, [], ◌∷◌, length, slice_index, slice_index_or}
 use Rattle.directions.specs.declared.Direction.{Direction}
 use Rattle.directions.specs.declared.Direction.TheVariants.{East, North, West, South}
 use Rattle.cutting.specs.declared.table.DartTable.{DartTable}
@@ -41,12 +40,8 @@ web b = record {
   before = λ a. slice_index b.before a;
 }
 
--- the items of lists
-abbrev pub items_of : List (Vec ℕ Global) → List (List ℕ)
-items_of lists = map (λ v. v.items) lists
-
 -- the boxes that a table holds, for a plane of `old` vertices, these lesser darts, and their paths
-abbrev pub parts_of : DartTable → ℕ → List ℕ → List (Vec ℕ Global) → Parts
+abbrev pub parts_of : DartTable → ℕ → List ℕ → List (List ℕ) → Parts
 parts_of t old edges paths = record {
   darts = t.darts;
   vertices = t.vertices;
@@ -59,7 +54,7 @@ parts_of t old edges paths = record {
   before = t.before.items;
   old = old;
   edges = edges;
-  paths = items_of paths;
+  paths = paths;
 }
 
 -- the number of a direction: quarters to the left from east

@@ -4,6 +4,7 @@ ghost use Rattle.std.specs.Prelude.{◌≡◌, ◌≢◌, ◌-◌, ◌<◌, ◌�
 ghost use Rattle.cutting.specs.Webs.{no_dart};
 ghost use Rattle.dissect.specs.Boxes.{AreBoxes, IsEdgePath, number_of, parts_of, web};
 
+use crate::paths::Paths;
 use cutting::{DartTable, NO_DART};
 use directions::Direction;
 use std::marker::Model;
@@ -21,7 +22,7 @@ pub struct Boxes {
     table: DartTable,
     old: u8,
     edges: Vec<u16>,
-    paths: Vec<Vec<u32>>,
+    paths: Paths,
 }
 
 impl Model for Boxes {
@@ -29,16 +30,16 @@ impl Model for Boxes {
 
     ghost Value = { Parts };
 
-    ghost view = { λ b. parts_of b.table b.old b.edges.items b.paths.items };
+    ghost view = { λ b. parts_of b.table b.old b.edges.items b.paths };
 
-    ghost invariant = { λ b. AreBoxes (parts_of b.table b.old b.edges.items b.paths.items) };
+    ghost invariant = { λ b. AreBoxes (parts_of b.table b.old b.edges.items b.paths) };
 }
 
 impl Boxes {
     /// The boxes that a table holds, for a plane of so many vertices, these lesser darts and their paths.
-    pub(crate) fn of(table: DartTable, old: u8, edges: Vec<u16>, paths: Vec<Vec<u32>>) -> Boxes
-        requires { AreBoxes (parts_of table old edges.items paths.items) }
-        ensures { result ≡ parts_of table old edges.items paths.items }
+    pub(crate) fn of(table: DartTable, old: u8, edges: Vec<u16>, paths: Paths) -> Boxes
+        requires { AreBoxes (parts_of table old edges.items paths) }
+        ensures { result ≡ parts_of table old edges.items paths }
     {
         Boxes {
             table,
@@ -169,6 +170,6 @@ impl Boxes {
         requires { edge < length self.now.edges }
         ensures path { IsEdgePath self.now edge result.now }
     {
-        &self.paths[usize::from(edge)]
+        self.paths.get(usize::from(edge))
     }
 }

@@ -4,6 +4,7 @@
 mod boxes;
 mod dissection;
 mod parts;
+mod paths;
 
 pub use boxes::Boxes;
 pub use dissection::dissect;

@@ -1,12 +1,12 @@
 //! What of a plane its boxes keep.
 
-ghost use Rattle.std.specs.Prelude.{◌≡◌, ◌<◌, ◌≤◌, ℕ, List, [], ◌∷◌, IfOk, length, slice_index, slice_index_or};
+ghost use Rattle.std.specs.Prelude.{◌≡◌, ◌<◌, ℕ, List, [], ◌∷◌, ◌++◌, IfOk, OnOk, length, slice_index, slice_index_or};
 ghost use Rattle.cutting.specs.Paths.{IsPath};
 ghost use Rattle.cutting.specs.Tables.{web_of};
-ghost use Rattle.dissect.specs.Boxes.{items_of};
 ghost use Rattle.faces.specs.Map.{darts, face_at};
 ghost use Rattle.ortho_rep.specs.Edges.{lesser_darts};
 
+use crate::paths::Paths;
 use cutting::{DartTable, NO_DART};
 use faces::Plane;
 use std::alloc::{AllocError, Global};
@@ -39,55 +39,40 @@ pub fn outer_dart(plane: &Plane) -> u16
     unreachable!()
 }
 
-/// How many darts stand in front of a dart on its edge, one after another, as far as there are darts.
-fn darts_before(table: &DartTable, last: u32) -> usize
-    ensures { result ≤ table.now.darts }
-{
-    let mut count: usize = 0;
-    let mut dart = last;
-    for _ in 0..table.darts {
-        match table.before.get(dart as usize) {
-            Some(front) if *front != NO_DART => dart = *front,
-            _ => return count,
-        }
-        count += 1;
-    }
-    count
-}
-
-/// The darts of the path that ends with a dart, in walking order. A step for each of them.
-fn path_to(alloc: Global, table: &DartTable, last: u32) -> Result<Vec<u32>, AllocError>
+/// Puts the darts of the path that ends with a dart behind a list, in walking order. A step for each of
+/// them.
+fn push_path(darts: &mut Vec<u32>, table: &DartTable, last: u32) -> Result<(), AllocError>
     requires path { (first : ℕ) × (rest : List ℕ) × IsPath (web_of table.now) last first rest }
-    ensures { IfOk result (λ darts. (first : ℕ) (rest : List ℕ) → IsPath (web_of table.now) last first rest
-        → darts.items ≡ first ∷ rest) }
+    ensures { OnOk result ((first : ℕ) (rest : List ℕ) → IsPath (web_of table.now) last first rest
+        → darts.new.items ≡ darts.old.items ++ (first ∷ rest)) }
 {
-    let mut darts = Vec::with_capacity(alloc, darts_before(table, last) + 1)?;
+    let start = darts.len();
     darts.push(last)?;
     let mut dart = last;
     'back: while table.before[dart as usize] != NO_DART {
         dart = table.before[dart as usize];
         darts.push(dart)?;
     }
-    darts.reverse();
-    Ok(darts)
+    darts[start..].reverse();
+    Ok(())
 }
 
 /// The darts that each of these edges is made of, which are told by their last darts. A step for each
 /// dart of theirs.
-pub fn paths_of(
-    alloc: Global,
-    table: &DartTable,
-    edges: &[u16],
-) -> Result<Vec<Vec<u32>>, AllocError>
+pub fn paths_of(alloc: Global, table: &DartTable, edges: &[u16]) -> Result<Paths, AllocError>
     requires paths { (e : ℕ) → e < length edges.now
         → (first : ℕ) × (rest : List ℕ) × IsPath (web_of table.now) (slice_index edges.now e) first rest }
-    ensures count { IfOk result (λ paths. length paths.items ≡ length edges.now) }
+    ensures count { IfOk result (λ paths. length paths ≡ length edges.now) }
     ensures paths { IfOk result (λ paths. (e : ℕ) → e < length edges.now → (first : ℕ) (rest : List ℕ)
-        → IsPath (web_of table.now) (slice_index edges.now e) first rest → slice_index_or (items_of paths.items) e [] ≡ first ∷ rest) }
+        → IsPath (web_of table.now) (slice_index edges.now e) first rest → slice_index_or paths e [] ≡ first ∷ rest) }
 {
-    let mut paths = Vec::with_capacity(alloc, edges.len())?;
+    // No two paths share a dart, and none has its reverse: half of all darts are room enough.
+    let mut darts = Vec::with_capacity(alloc, table.darts as usize / 2)?;
+    let mut starts = Vec::with_capacity(alloc, edges.len() + 1)?;
+    starts.push(0)?;
     'edges: for last in edges {
-        paths.push(path_to(alloc, table, u32::from(*last))?)?;
+        push_path(&mut darts, table, u32::from(*last))?;
+        starts.push(darts.len())?;
     }
-    Ok(paths)
+    Ok(Paths::joined(darts, starts))
 }

@@ -1,6 +1,7 @@
 //! What ends the program without a whole report.
-ghost use Rattle.std.specs.Prelude.{◌≡◌};
+ghost use Rattle.std.specs.Prelude.{◌≡◌, ◌⊎◌, ◌↔◌};
 
+use std::io::ErrorKind;
 use streams::{BatchFault, WriteFault};
 use thiserror::Error;
 
@@ -49,5 +50,17 @@ impl From<WriteFault> for Fault {
 
     fn from(fault: WriteFault) -> Fault {
         Fault::Write(fault)
+    }
+}
+
+/// Why the words after the program's name could not be had, by the kind of the error: they are no text, or
+/// there is no memory for them.
+pub fn arguments_fault(kind: ErrorKind) -> Fault
+    ensures not_text { (result ≡ Fault.NotText) ↔ (kind ≡ ErrorKind.InvalidData) }
+    ensures other { (result ≡ Fault.NotText) ⊎ (result ≡ Fault.Memory) }
+{
+    match kind {
+        ErrorKind::InvalidData => Fault::NotText,
+        _ => Fault::Memory,
     }
 }

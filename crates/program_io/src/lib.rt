@@ -7,7 +7,7 @@ mod file_opener;
 mod line;
 mod source;
 
-pub use faults::Fault;
+pub use faults::{Fault, arguments_fault};
 pub use file_opener::FileOpener;
 pub use line::report;
 pub use source::{FileSource, open_fault, open_source};

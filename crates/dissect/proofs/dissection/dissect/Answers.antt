@@ -2,7 +2,6 @@ use Rattle.std.proofs.Common.{◌≡◌, ◌<◌, ◌∙◌, ℕ, List, [], ◌�
 use Rattle.cutting.specs.Tables.{web_of}
 use Rattle.faces.specs.Map.{face_at, vertices}
 use Rattle.cutting.specs.Paths.{IsPath}
-use Rattle.dissect.specs.Boxes.{items_of}
 use Rattle.dissect.specs.Boxed.{IsBoxed}
 use Rattle.dissect.proofs.Boxing.{IsMade, are_boxes, edge_path, is_boxed}
 use Rattle.dissect.proofs.dissection.dissect.Goals as goal
@@ -62,12 +61,12 @@ of-requires c =
     } in
     let listed : (e : ℕ) → e < length c.in_ok-edges.edges.items → (first : ℕ) (rest : List ℕ) →
     IsPath (web_of c.enclose.new.table) (slice_index c.in_ok-edges.edges.items e) first rest →
-    slice_index_or (items_of c.in_ok-paths.paths.items) e [] ≡ first ∷ rest = λ e e_in first rest path.
+    slice_index_or c.in_ok-paths.paths e [] ≡ first ∷ rest = λ e e_in first rest path.
     c.in_ok-paths.ensures.paths e (omega (arith, e_in, ap length c.deref-2.ensures.value)) first rest
     (subst (λ (ds : List ℕ). IsPath (web_of c.enclose.new.table) (slice_index ds e) first rest) (sym c.deref-2.ensures.value) path) in
     let all : c.vertices-old.result ≡ vertices c.args.plane.now = c.vertices-old.ensures.count ∙ ap length c.graph.ensures.value in
     are_boxes c.args.plane.now c.args.shape.now (web_of c.in_ok-table.table) c.from.result c.enclose.new.table c.vertices-old.result
-    c.in_ok-edges.edges.items c.in_ok-paths.paths.items made all c.in_ok-edges.ensures
+    c.in_ok-edges.edges.items c.in_ok-paths.paths made all c.in_ok-edges.ensures
     (c.in_ok-paths.ensures.count ∙ ap length c.deref-2.ensures.value) listed
 
 pub returns : goal.returns
@@ -93,11 +92,11 @@ returns c =
     } in
     let listed : (e : ℕ) → e < length c.in_ok-edges.edges.items → (first : ℕ) (rest : List ℕ) →
     IsPath (web_of c.enclose.new.table) (slice_index c.in_ok-edges.edges.items e) first rest →
-    slice_index_or (items_of c.in_ok-paths.paths.items) e [] ≡ first ∷ rest = λ e e_in first rest path.
+    slice_index_or c.in_ok-paths.paths e [] ≡ first ∷ rest = λ e e_in first rest path.
     c.in_ok-paths.ensures.paths e (omega (arith, e_in, ap length c.deref-2.ensures.value)) first rest
     (subst (λ (ds : List ℕ). IsPath (web_of c.enclose.new.table) (slice_index ds e) first rest) (sym c.deref-2.ensures.value) path) in
     let all : c.vertices-old.result ≡ vertices c.args.plane.now = c.vertices-old.ensures.count ∙ ap length c.graph.ensures.value in
     subst (IsBoxed c.args.plane.now c.args.shape.now) (sym c.of.ensures)
     (is_boxed c.args.plane.now c.args.shape.now (web_of c.in_ok-table.table) c.from.result c.enclose.new.table c.vertices-old.result
-    c.in_ok-edges.edges.items c.in_ok-paths.paths.items made all c.in_ok-edges.ensures
+    c.in_ok-edges.edges.items c.in_ok-paths.paths made all c.in_ok-edges.ensures
     (c.in_ok-paths.ensures.count ∙ ap length c.deref-2.ensures.value) listed)

@@ -1,24 +1,51 @@
-use Rattle.std.proofs.Common.{◌∙◌, ℕ, [], ◌∷◌, length, length-append, slice_index, ap, arith, subst, sym}
+use Rattle.std.proofs.Common.{◌≡◌, ◌∙◌, ◌++◌, ℕ, List, [], ◌∷◌, length, slice_index, slice_index_or, ap, arith, subst, sym, refl}
+use Rattle.cutting.specs.Webs.{Web}
 use Rattle.cutting.specs.Tables.{web_of}
 use Rattle.cutting.specs.Paths.{IsPath}
-use Rattle.dissect.proofs.Lists.{listed_more}
+use Rattle.dissect.proofs.Joined.{IsPathOf}
+use Rattle.dissect.proofs.Pieces.{IsJoined, joined-none, joined-pushed, joined-IsCut, joined-cut}
 use Rattle.dissect.proofs.parts.paths_of.Goals as goal
 
-pub path_to-requires : goal.path_to-requires
-path_to-requires c =
+none_yet : (starts items : List ℕ) (w : Web) (es : List ℕ) → starts ≡ 0 ∷ [] → items ≡ [] → IsJoined starts items 0 (IsPathOf w es)
+none_yet starts items w es s i = rw (s, i) (joined-none (IsPathOf w es))
+
+pub edges-init : goal.edges-init
+edges-init c =
+    none_yet c.push.new.self.items c.in_ok-darts.darts.items (web_of c.args.table.now) c.args.edges.now
+    (c.in_ok-push.ensures.items ∙ ap (λ (s : List ℕ). s ++ (0 ∷ [])) c.in_ok-starts.ensures.items) c.in_ok-darts.ensures.items
+
+pub push_path-requires : goal.push_path-requires
+push_path-requires c =
     let e = c.edges.last-index in
     let path = c.requires.paths e c.edges-test.true in
     record { path = (path.0, path.1, subst (λ (d : ℕ). IsPath (web_of c.args.table.now) d path.0 path.1) (sym c.from.ensures) path.2) }
 
 pub edges-preserved : goal.edges-preserved
 edges-preserved c =
+    let w = web_of c.args.table.now in
+    let es = c.args.edges.now in
     let e = c.edges.last-index in
+    let path = c.requires.paths e c.edges-test.true in
+    let pushed : (first : ℕ) (rest : List ℕ) → IsPath w (slice_index es e) first rest →
+    c.push_path.new.darts.items ≡ c.edges.darts.items ++ (first ∷ rest) = λ first rest here.
+    c.in_ok-push_path.ensures first rest (subst (λ (d : ℕ). IsPath w d first rest) (sym c.from.ensures) here) in
+    joined-pushed c.edges.starts.items c.push-in-edges.new.self.items c.edges.darts.items c.push_path.new.darts.items (path.0 ∷ path.1) e
+    c.len.result (IsPathOf w es) c.edges.invariant (pushed path.0 path.1 path.2)
+    (λ piece is. pushed is.first is.rest is.path ∙ ap (λ (p : List ℕ). c.edges.darts.items ++ p) (sym is.is))
+    (omega (arith, c.len.ensures, c.push_path.new.darts.ok)) c.in_ok-push-2.ensures.items
+
+pub joined-requires : goal.joined-requires
+joined-requires c = joined-IsCut _ _ _ _ c.edges.invariant
+
+pub returns : goal.returns
+returns c =
+    let w = web_of c.args.table.now in
+    let es = c.args.edges.now in
+    let pieces = joined-cut c.edges.starts.items c.edges.darts.items c.edges.last-index (IsPathOf w es) c.edges.invariant in
+    let all : c.edges.last-index ≡ length es = omega (arith, c.edges-test.false, c.edges.auto.last-index-end) in
     record {
-      count = ap length c.in_ok-push.ensures.items ∙ length-append c.edges.paths.items (c.in_ok-path_to.field-0 ∷ [])
-          ∙ omega (arith, c.edges.invariant.count);
-      paths = λ k k_in first rest path.
-          listed_more e k c.edges.paths.items c.push.new.self.items c.in_ok-path_to.field-0 (first ∷ rest) c.edges.invariant.count
-          c.in_ok-push.ensures.items k_in (λ less. c.edges.invariant.paths k less first rest path)
-          (λ same. c.in_ok-path_to.ensures first rest
-          (subst (λ (d : ℕ). IsPath (web_of c.args.table.now) d first rest) (ap (slice_index c.args.edges.now) same ∙ sym c.from.ensures) path));
+      count = ap length c.joined.ensures ∙ pieces.0 ∙ all;
+      paths = λ e e_in first rest path.
+          ap (λ (l : List (List ℕ)). slice_index_or l e []) c.joined.ensures
+          ∙ pieces.1 e (omega (arith, e_in, all)) (first ∷ rest) (record { first = first; rest = rest; path = path; is = refl });
     }

@@ -1,0 +1,17 @@
+use Rattle.std.proofs.Common.{◌≡◌, ◌<◌, ◌≤◌, ℕ, List, ◌∷◌, length, take, drop}
+use Rattle.cutting.specs.Tables.{web_of}
+use Rattle.cutting.specs.Paths.{IsPath}
+use Rattle.dissect.proofs.Walking.{IsOnWay, depth}
+use Rattle.dissect.proofs.parts.push_path.Given as goal
+
+abbrev pub invariant-back : goal.invariant-back
+invariant-back l = record {
+  inside : l.dart < l.table.darts;
+  long : l.start ≤ length l.darts.items;
+  before : take l.start l.darts.items ≡ l.fn.darts.items;
+  way : (first : ℕ) (rest : List ℕ) → IsPath (web_of l.table) l.last first rest →
+      IsOnWay (web_of l.table) (first ∷ rest) l.dart (drop l.start l.darts.items);
+}
+
+abbrev pub decreases-back : goal.decreases-back
+decreases-back l = depth (web_of l.table) l.table.darts l.dart
