@@ -6,5 +6,3 @@
 mod refused;
 #[cfg(test)]
 mod tests;
-#[cfg(test)]
-mod work;
