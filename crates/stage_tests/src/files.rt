@@ -8,6 +8,7 @@ use lanes::{Keep, MemOpener, OpenFault, Opener, read_file};
 use planar_code::{Ending, Record};
 use std::alloc::{AllocError, Global};
 use std::process::Abort;
+use std::sync::atomic::{AtomicU32, Ordering};
 use std::test::Fail;
 use streams::{Mark, MemTap, Tap, TapFault, piece_buffer};
 
@@ -104,6 +105,48 @@ impl Tap for Failing {
     }
 }
 
+/// An opener of a source that counts its reads.
+#[derive(Drop)]
+struct Counting {
+    reads: AtomicU32,
+}
+
+impl<'c> Opener for &'c Counting {
+    type Source = Counted<'c>;
+
+    ghost meaning = { λ _ _. Silent };
+
+    fn open(&self, _alloc: Global, _file: u32) -> Result<Counted<'c>, OpenFault> {
+        Ok(Counted {
+            at: 0,
+            reads: &self.reads,
+        })
+    }
+}
+
+/// A source that gives one byte a read, with a fault at byte 21, and counts its reads.
+#[derive(Drop)]
+struct Counted<'c> {
+    at: usize,
+    reads: &'c AtomicU32,
+}
+
+impl Tap for Counted<'_> {
+    ghost to_come = { λ _. None };
+
+    ghost fails = { λ _. false };
+
+    fn read(&mut self, buf: &mut [u8]) -> Result<usize, TapFault> {
+        self.reads.fetch_add(1, Ordering::SeqCst);
+        if self.at >= LARGE.len() || buf.is_empty() {
+            return Ok(0);
+        }
+        buf[0] = LARGE[self.at];
+        self.at += 1;
+        Ok(1)
+    }
+}
+
 fn files(alloc: Global) -> Result<Vec<Vec<u8>>, AllocError> {
     let mut files = Vec::new(alloc);
     for bytes in [EDGES, CUT, LARGE] {
@@ -172,6 +215,17 @@ fn marks_want_of_memory(rt: HostRuntime) -> Result<(), Fail> {
 #[test]
 fn keeps_what_came_before_a_failing_read(rt: HostRuntime) -> Result<(), Fail> {
     check(&rt, &Breaking, 7, Mark::Io, 1)
+}
+
+/// A file is read once for each byte up to the one with the fault, and not again.
+#[test]
+fn reads_once_up_to_a_fault(rt: HostRuntime) -> Result<(), Fail> {
+    let counting = Counting {
+        reads: AtomicU32::new(0),
+    };
+    check(&rt, &&counting, 0, Mark::Ended(Ending::Large), 1)?;
+    assert_eq!(rt; counting.reads.load(Ordering::SeqCst), 21);
+    Ok(())
 }
 
 /// With each allocation refused in turn, the mark or the error says so, and the records are a

@@ -8,6 +8,7 @@ use std::io;
 use std::io::{ErrorKind, Write};
 use std::process::Abort;
 use std::sync::Wait;
+use std::sync::atomic::{AtomicU32, Ordering};
 use std::test::Fail;
 use std::thread::Threads;
 use streams::{
@@ -137,6 +138,46 @@ fn reads_no_more_after_a_fault(rt: HostRuntime) -> Result<(), Fail> {
     let found = run_frames(&rt, rt.alloc(), source, 64).map_err(|_| AllocError)?;
     assert_eq!(rt; found.records().len(), 1);
     assert_eq!(rt; found.mark(), Mark::Ended(Ending::Large));
+    Ok(())
+}
+
+/// A source that gives one byte a read, and counts its reads.
+#[derive(Drop)]
+struct Counted<'c> {
+    bytes: Vec<u8>,
+    at: usize,
+    reads: &'c AtomicU32,
+    ghost in_range: { at ≤ vec_len bytes },
+}
+
+impl Tap for Counted<'_> {
+    ghost to_come = { λ _. None };
+
+    ghost fails = { λ _. false };
+
+    fn read(&mut self, buf: &mut [u8]) -> Result<usize, TapFault> {
+        self.reads.fetch_add(1, Ordering::SeqCst);
+        if self.at == self.bytes.len() || buf.is_empty() {
+            return Ok(0);
+        }
+        buf[0] = self.bytes[self.at];
+        self.at += 1;
+        Ok(1)
+    }
+}
+
+/// A source is read once for each byte up to the one with the fault, and not again.
+#[test]
+fn reads_once_up_to_a_fault(rt: HostRuntime) -> Result<(), Fail> {
+    let reads = AtomicU32::new(0);
+    let source = Counted {
+        bytes: joined(rt.alloc(), &[HEADER, EDGE, &[0, 2, 2, 0, 1, 0]])?,
+        at: 0,
+        reads: &reads,
+    };
+    let found = run_frames(&rt, rt.alloc(), source, 64).map_err(|_| AllocError)?;
+    assert_eq!(rt; found.mark(), Mark::Ended(Ending::Large));
+    assert_eq!(rt; reads.load(Ordering::SeqCst), 21);
     Ok(())
 }
 
