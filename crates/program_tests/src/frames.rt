@@ -3,6 +3,7 @@
 ghost use Rattle.std.specs.Prelude.{◌≤◌};
 
 use commands::command;
+use program_io::{Fault, report};
 use std::io::{ErrorKind, Write};
 use std::process::Abort;
 use std::rt::Files;
@@ -10,7 +11,7 @@ use std::sync::Wait;
 use std::test::Fail;
 use std::thread::Threads;
 use std::{fs, io};
-use streams::IoSink;
+use streams::{BatchFault, IoSink, WriteFault};
 
 /// What a run wrote, and its status.
 #[derive(Drop)]
@@ -275,6 +276,45 @@ fn names_a_failed_write(rt: HostRuntime) -> Result<(), Fail> {
     let mut err = IoSink::new(Narrow::new(0));
     assert_eq!(rt; command(&rt, &words, &mut out, &mut err), 1);
     Ok(())
+}
+
+/// The line and the status of each fault.
+#[test]
+fn tells_each_fault_in_a_line(rt: HostRuntime) {
+    let told = [
+        (Fault::Memory, "out of memory", 1),
+        (Fault::NotText, "arguments are not text", 2),
+        (
+            Fault::Run(BatchFault::TooManyFiles),
+            "more than 64 files",
+            2,
+        ),
+        (Fault::Run(BatchFault::BadLanes), "lanes must be 1 to 4", 2),
+        (Fault::Run(BatchFault::Memory), "out of memory", 1),
+        (Fault::Run(BatchFault::LaneLost), "a lane was lost", 1),
+        (
+            Fault::Run(BatchFault::Thread),
+            "a thread could not be run",
+            1,
+        ),
+        (Fault::Write(WriteFault::Write), "write failed", 1),
+        (Fault::Write(WriteFault::Memory), "out of memory", 1),
+    ];
+    for (fault, text, status) in told {
+        let mut err = IoSink::new(Narrow::new(64));
+        report(fault, &mut err);
+        let err = err.into_writer();
+        let line = err.text();
+        assert!(rt;
+            line.starts_with(b"planarbend: ") && line.ends_with(b"\n"),
+            "{text}"
+        );
+        assert!(rt;
+            line.len() == text.len() + 13 && holds(line, text.as_bytes()),
+            "{text}"
+        );
+        assert_eq!(rt; fault.status(), status, "{text}");
+    }
 }
 
 /// With each allocation refused in turn, the run ends in an answer that names it.

@@ -6,3 +6,5 @@
 mod frames;
 #[cfg(test)]
 mod layouts;
+#[cfg(test)]
+mod side_by_side;

@@ -1,0 +1,119 @@
+//! Runs of `layout` in several lanes, which are to open their files side by side.
+
+use super::frames::{EDGE, HEADER, run};
+use std::alloc::{Allocator, Global};
+use std::fs::{Metadata, OpenOptions};
+use std::rt::Files;
+use std::sync::Wait;
+use std::sync::atomic::{AtomicBool, AtomicU32, Ordering};
+use std::test::Fail;
+use std::thread::Threads;
+use std::{fs, io, thread};
+
+/// A runtime on which the open of a file waits until so many are asked for.
+#[derive(Drop)]
+struct Crowd<'r, R> {
+    rt: &'r R,
+    wanted: u32,
+    asked: AtomicU32,
+    ran_out: AtomicBool,
+}
+
+impl<R> Crowd<'_, R> {
+    /// Waits for the others, and notes where a million turns were too few.
+    fn wait(&self) {
+        self.asked.fetch_add(1, Ordering::SeqCst);
+        for _ in 0..1_000_000 {
+            if self.asked.load(Ordering::SeqCst) >= self.wanted {
+                return;
+            }
+            thread::yield_now();
+        }
+        self.ran_out.store(true, Ordering::SeqCst);
+    }
+}
+
+impl<R: Alloc> Alloc for Crowd<'_, R> {
+    type A = R::A;
+
+    fn alloc(&self) -> R::A {
+        self.rt.alloc()
+    }
+}
+
+impl<R: Wait> Wait for Crowd<'_, R> {}
+
+impl<R: Threads> Threads for Crowd<'_, R> {}
+
+impl<R: Files> Files for Crowd<'_, R> {
+    type File = R::File;
+
+    type Dir = R::Dir;
+
+    fn open_file(&self, how: &OpenOptions, path: &str) -> io::Result<R::File> {
+        self.wait();
+        self.rt.open_file(how, path)
+    }
+
+    fn open_dir(&self, path: &str) -> io::Result<R::Dir> {
+        self.rt.open_dir(path)
+    }
+
+    fn metadata(&self, path: &str) -> io::Result<Metadata> {
+        self.rt.metadata(path)
+    }
+
+    fn symlink_metadata(&self, path: &str) -> io::Result<Metadata> {
+        self.rt.symlink_metadata(path)
+    }
+
+    fn copy(&self, from: &str, to: &str) -> io::Result<u64> {
+        self.rt.copy(from, to)
+    }
+
+    fn rename(&self, from: &str, to: &str) -> io::Result<()> {
+        self.rt.rename(from, to)
+    }
+
+    fn remove_file(&self, path: &str) -> io::Result<()> {
+        self.rt.remove_file(path)
+    }
+
+    fn create_dir(&self, path: &str) -> io::Result<()> {
+        self.rt.create_dir(path)
+    }
+
+    fn remove_dir(&self, path: &str) -> io::Result<()> {
+        self.rt.remove_dir(path)
+    }
+
+    fn remove_dir_all<B: Allocator>(&self, alloc: B, path: &str) -> io::Result<()> {
+        self.rt.remove_dir_all(alloc, path)
+    }
+}
+
+/// As many lanes as `--lanes` says open files at once: with four files, the open of each waits for those
+/// of the others in so many lanes.
+#[test]
+fn works_in_as_many_lanes_as_are_asked_for(rt: HostRuntime) -> Result<(), Fail> {
+    fs::write(
+        &rt,
+        "lane.pc",
+        [HEADER, EDGE].concat(rt.alloc())?.as_slice(),
+    )?;
+    for (lanes, wanted) in [("1", 1), ("2", 2), ("3", 3), ("4", 4)] {
+        let crowd = Crowd {
+            rt: &rt,
+            wanted,
+            asked: AtomicU32::new(0),
+            ran_out: AtomicBool::new(false),
+        };
+        let words = [
+            "layout", "--lanes", lanes, "lane.pc", "lane.pc", "lane.pc", "lane.pc",
+        ];
+        let ran = run(&crowd, &words)?;
+        assert_eq!(rt; ran.status, 0, "{lanes}");
+        assert!(rt; !crowd.ran_out.load(Ordering::SeqCst), "{lanes}");
+    }
+    Ok(())
+}
