@@ -2,8 +2,7 @@
 #![tactic(auto)]
 
 use commands::command;
-use program_io::{Fault, report};
-use std::io::ErrorKind;
+use program_io::{Fault, arguments_fault, report};
 use std::process::ExitCode;
 use std::{env, io};
 use streams::IoSink;
@@ -23,9 +22,6 @@ fn main(rt: HostRuntime) -> ExitCode {
 
 /// The words after the program's name.
 fn arguments<R: env::Env + AllocGlobal>(rt: &R) -> Result<Vec<String>, Fault> {
-    let all = env::args(rt).map_err(|error| match error.kind() {
-        ErrorKind::InvalidData => Fault::NotText,
-        _ => Fault::Memory,
-    })?;
+    let all = env::args(rt).map_err(|error| arguments_fault(error.kind()))?;
     all.skip(1).collect(rt.alloc()).map_err(|_| Fault::Memory)
 }
