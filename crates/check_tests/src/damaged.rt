@@ -1,7 +1,7 @@
 //! A thousand drawings, most of them damaged, against a plain reading of the conditions.
 
 use crate::drawings::{
-    BENT, EDGE, PATH, SQUARE, STAR, TRIANGLE, fault_of, made, plane_of, shape_of,
+    BENT, EDGE, PATH, SQUARE, STAR, TRIANGLE, fault_of, made, plane_of, same, shape_of,
 };
 use crate::places::{Place, Sketch, moved, plain_fault, quarters_left};
 use faces::Plane;
@@ -215,6 +215,6 @@ fn damaged_drawings_have_the_plain_fault(rt: HostRuntime) -> Result<(), Fail> {
     }
     // Each answer came often, and none was want of memory.
     assert!(rt; seen.iter().take(5).all(|times| *times >= 20), "{seen:?}");
-    assert_eq!(rt; seen[5], 0);
+    same(&rt, seen[5], 0);
     Ok(())
 }

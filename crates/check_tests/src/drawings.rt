@@ -6,8 +6,14 @@ use faces::Plane;
 use ortho_rep::{Point, Points, Shape, Turn, is_shape};
 use planar_code::{Framer, HEADER};
 use std::alloc::{AllocError, Global};
+use std::fmt::Debug;
 use std::process::Abort;
 use std::test::Fail;
+
+/// Sees that two values are the same. (An `assert_eq!` in each place would make the tests' proofs several times as long.)
+pub(crate) fn same<T: PartialEq + Debug + Drop>(rt: &impl Abort, got: T, want: T) {
+    assert_eq!(rt; got, want);
+}
 
 pub(crate) const EDGE: [u8; 5] = [2, 2, 0, 1, 0];
 
@@ -132,7 +138,7 @@ fn triangles(rt: HostRuntime) -> Result<(), Fail> {
     ];
     for (vertices, corner, fault) in cases {
         let points = points_of(alloc, &vertices, &[&[], &[corner], &[]])?;
-        assert_eq!(rt; fault_of(&rt, alloc, &plane, &shape, points), fault);
+        same(&rt, fault_of(&rt, alloc, &plane, &shape, points), fault);
     }
     Ok(())
 }
@@ -151,13 +157,14 @@ fn paths(rt: HostRuntime) -> Result<(), Fail> {
     ];
     for vertices in meets {
         let points = points_of(alloc, &vertices, &none)?;
-        assert_eq!(rt;
+        same(
+            &rt,
             fault_of(&rt, alloc, &plane, &shape, points),
-            Some(CheckFault::Meet)
+            Some(CheckFault::Meet),
         );
     }
     let spiral = points_of(alloc, &[(0, 0), (3, 0), (3, 3), (1, 3), (1, 1)], &none)?;
-    assert_eq!(rt; fault_of(&rt, alloc, &plane, &shape, spiral), None);
+    same(&rt, fault_of(&rt, alloc, &plane, &shape, spiral), None);
     Ok(())
 }
 
@@ -195,8 +202,8 @@ fn refused_memory_gives_the_points_back(rt: HostRuntime) {
         return;
     };
     if let Err((fault, points)) = answer(&rt, rt.alloc(), &plane, &shape, points) {
-        assert_eq!(rt; fault, CheckFault::Memory);
-        assert_eq!(rt; fault_of(&rt, rt.alloc(), &plane, &shape, points), None);
+        same(&rt, fault, CheckFault::Memory);
+        same(&rt, fault_of(&rt, rt.alloc(), &plane, &shape, points), None);
     }
 }
 
@@ -222,6 +229,6 @@ fn three_conditions_take_no_memory(rt: HostRuntime) {
             return;
         };
         let found = fault_of(&rt, rt.alloc(), &plane, &shape, points);
-        assert_eq!(rt; found, Some(fault));
+        same(&rt, found, Some(fault));
     }
 }

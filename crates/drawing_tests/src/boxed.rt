@@ -1,6 +1,6 @@
 //! The boxes of the single edge and the triangle, dart by dart.
 
-use crate::planes::{EDGE, TRIANGLE, bent_triangle_in, bound, plane_of, spiral_in};
+use crate::planes::{EDGE, TRIANGLE, bent_triangle_in, bound, plane_of, same, spiral_in};
 use dissect::{Boxes, dissect};
 use faces::Plane;
 use ortho_rep::{Shape, is_shape};
@@ -21,11 +21,12 @@ fn expect_reverses(rt: &impl Abort, boxes: &Boxes) {
     for dart in 0..boxes.darts() {
         let back = boxes.reverse(dart);
         assert!(rt; back != dart);
-        assert_eq!(rt; boxes.reverse(back), dart);
-        assert_eq!(rt; boxes.direction(back), boxes.direction(dart).opposite());
-        assert_eq!(rt;
+        same(rt, boxes.reverse(back), dart);
+        same(rt, boxes.direction(back), boxes.direction(dart).opposite());
+        same(
+            rt,
             boxes.head(boxes.reverse(boxes.next(dart))),
-            boxes.head(dart)
+            boxes.head(dart),
         );
     }
 }
@@ -43,45 +44,56 @@ fn expect_next(rt: &impl Abort, alloc: Global, boxes: &Boxes) -> Result<(), Fail
     Ok(())
 }
 
+/// The darts of a straight edge.
+fn expect_edge(rt: &impl Abort, boxes: &Boxes) {
+    assert_eq!(rt; (boxes.old_vertices(), boxes.edges()), (2, 1));
+    assert!(rt; boxes.darts() > 1);
+    same(rt, [boxes.tail(0), boxes.head(0)], [0, 1]);
+    same(rt, [boxes.tail(1), boxes.head(1)], [1, 0]);
+    same(rt, [boxes.old(1), boxes.old(2)], [0, 1]);
+    same(rt, boxes.path(0), [0].as_slice());
+}
+
+/// The paths of the triangle's edges, of which the one from 1 to 3 turns to the left in front of dart 1.
+fn expect_triangle(rt: &impl Abort, boxes: &Boxes) -> Result<(), Fail> {
+    assert_eq!(rt; (boxes.old_vertices(), boxes.edges()), (3, 3));
+    assert!(rt; boxes.darts() > 5);
+    same(rt, boxes.path(0), [0].as_slice());
+    same(rt, boxes.path(2), [2].as_slice());
+    for dart in [0, 2, 3, 5] {
+        same(rt, boxes.before(dart), None);
+    }
+    let front = boxes.before(1).ok_or("the edge from 1 to 3 has no turn")?;
+    same(rt, boxes.path(1), [front, 1].as_slice());
+    expect_turn(rt, boxes, front);
+    Ok(())
+}
+
+/// A new dart in front of dart 1 leads to a new vertex, from which dart 1 turns to the left.
+fn expect_turn(rt: &impl Abort, boxes: &Boxes, front: u32) {
+    assert!(rt; boxes.darts() > 1 && front < boxes.darts());
+    assert!(rt; 2 < boxes.head(front));
+    same(rt, boxes.direction(1), boxes.direction(front).left());
+    same(rt, boxes.before(front), None);
+}
+
 #[test]
 fn boxes_of_an_edge(rt: HostRuntime) -> Result<(), Fail> {
-    let alloc = rt.alloc();
-    let plane = plane_of(alloc, &EDGE)?;
-    let shape = spiral_in(alloc, 0).ok_or("no shape")?;
-    let boxes = boxes_of(&rt, alloc, &plane, &shape)?;
+    let plane = plane_of(rt.alloc(), &EDGE)?;
+    let shape = spiral_in(rt.alloc(), 0).ok_or("no shape")?;
+    let boxes = boxes_of(&rt, rt.alloc(), &plane, &shape)?;
     expect_reverses(&rt, &boxes);
-    expect_next(&rt, alloc, &boxes)?;
-    assert_eq!(rt; boxes.old_vertices(), 2);
-    assert_eq!(rt; boxes.edges(), 1);
-    assert!(rt; boxes.darts() > 1);
-    assert_eq!(rt; (boxes.tail(0), boxes.head(0)), (0, 1));
-    assert_eq!(rt; (boxes.tail(1), boxes.head(1)), (1, 0));
-    assert_eq!(rt; (boxes.old(1), boxes.old(2)), (0, 1));
-    assert_eq!(rt; boxes.path(0), [0].as_slice());
+    expect_next(&rt, rt.alloc(), &boxes)?;
+    expect_edge(&rt, &boxes);
     Ok(())
 }
 
 #[test]
 fn boxes_of_a_triangle(rt: HostRuntime) -> Result<(), Fail> {
-    let alloc = rt.alloc();
-    let plane = plane_of(alloc, &TRIANGLE)?;
-    let shape = bent_triangle_in(alloc).ok_or("no shape")?;
-    let boxes = boxes_of(&rt, alloc, &plane, &shape)?;
+    let plane = plane_of(rt.alloc(), &TRIANGLE)?;
+    let shape = bent_triangle_in(rt.alloc()).ok_or("no shape")?;
+    let boxes = boxes_of(&rt, rt.alloc(), &plane, &shape)?;
     expect_reverses(&rt, &boxes);
-    expect_next(&rt, alloc, &boxes)?;
-    assert_eq!(rt; boxes.old_vertices(), 3);
-    assert_eq!(rt; boxes.edges(), 3);
-    assert_eq!(rt; boxes.path(0), [0].as_slice());
-    assert_eq!(rt; boxes.path(2), [2].as_slice());
-    assert!(rt; boxes.darts() > 5);
-    for dart in [0, 2, 3, 5] {
-        assert_eq!(rt; boxes.before(dart), None);
-    }
-    let front = boxes.before(1).ok_or("the edge from 1 to 3 has no turn")?;
-    assert!(rt; front < boxes.darts());
-    assert!(rt; 2 < boxes.head(front));
-    assert_eq!(rt; boxes.direction(1), boxes.direction(front).left());
-    assert_eq!(rt; boxes.before(front), None);
-    assert_eq!(rt; boxes.path(1), [front, 1].as_slice());
-    Ok(())
+    expect_next(&rt, rt.alloc(), &boxes)?;
+    expect_triangle(&rt, &boxes)
 }

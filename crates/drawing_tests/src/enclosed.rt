@@ -5,6 +5,7 @@ ghost use Rattle.cutting.specs.Labels.{HasTurns};
 ghost use Rattle.cutting.specs.Tables.{room, web_of};
 ghost use Rattle.cutting.specs.Webs.{IsSound, excess};
 
+use crate::planes::same;
 use cutting::{DartTable, NO_DART};
 use enclosing::enclose;
 use std::alloc::{AllocError, Global};
@@ -69,10 +70,10 @@ fn four_boxes_lie_round_an_edge(rt: HostRuntime) -> Result<(), Fail> {
     let mut table = edge(alloc)?;
     enclose(alloc, &mut table, 0)?;
     let angles = &table.angle.as_slice()[..table.darts as usize];
-    assert_eq!(rt; table.vertices, 10);
-    assert_eq!(rt; table.darts, 26);
-    assert_eq!(rt; angles.iter().filter(|a| **a == 1).count(), 16);
-    assert_eq!(rt; angles.iter().filter(|a| **a == 3).count(), 4);
+    same(&rt, table.vertices, 10);
+    same(&rt, table.darts, 26);
+    same(&rt, angles.iter().filter(|a| **a == 1).count(), 16);
+    same(&rt, angles.iter().filter(|a| **a == 3).count(), 4);
     Ok(())
 }
 
@@ -84,8 +85,8 @@ fn refused_memory_leaves_the_edge(rt: HostRuntime) {
         return;
     };
     if let Err(AllocError) = enclose(alloc, &mut table, 0) {
-        assert_eq!(rt; (table.darts, table.vertices), (2, 2));
+        same(&rt, (table.darts, table.vertices), (2, 2));
         assert!(rt; enclose(alloc, &mut table, 0).is_ok());
     }
-    assert_eq!(rt; (table.darts, table.vertices), (26, 10));
+    same(&rt, (table.darts, table.vertices), (26, 10));
 }

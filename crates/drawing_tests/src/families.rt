@@ -2,7 +2,7 @@
 
 ghost use Rattle.std.specs.Prelude.{◌<◌, ◌≤◌};
 
-use crate::planes::{EDGE, TRIANGLE, draw, plane_of};
+use crate::planes::{EDGE, TRIANGLE, draw, plane_of, same};
 use ortho_rep::least_shape;
 use std::alloc::{AllocError, Global};
 use std::process::Abort;
@@ -127,7 +127,7 @@ pub(crate) fn antiprism(alloc: Global, count: u8) -> Result<Vec<u8>, AllocError>
 fn expect_drawn(rt: &impl Abort, alloc: Global, bytes: &[u8], bends: u32) -> Result<u64, Fail> {
     let plane = plane_of(alloc, bytes)?;
     let (shape, _) = least_shape(alloc, &plane)?;
-    assert_eq!(rt; shape.bends(), bends);
+    same(rt, shape.bends(), bends);
     draw(rt, alloc, &plane, &shape)
 }
 

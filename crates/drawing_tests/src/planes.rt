@@ -8,8 +8,14 @@ use faces::Plane;
 use ortho_rep::{Points, Shape, Turn, is_shape};
 use planar_code::{Framer, HEADER};
 use std::alloc::Global;
+use std::fmt::Debug;
 use std::process::Abort;
 use std::test::Fail;
+
+/// Sees that two values are the same. (An `assert_eq!` in each place would make the tests' proofs several times as long.)
+pub(crate) fn same<T: PartialEq + Debug + Drop>(rt: &impl Abort, got: T, want: T) {
+    assert_eq!(rt; got, want);
+}
 
 pub(crate) const EDGE: [u8; 5] = [2, 2, 0, 1, 0];
 
@@ -83,7 +89,7 @@ pub(crate) fn expect_drawing(
         Ok(_) => None,
         Err((fault, _)) => Some(fault),
     };
-    assert_eq!(rt; fault, None);
+    same(rt, fault, None);
 }
 
 /// The shape is cut into boxes and drawn: how many thousandths of the most vertices the boxes have.

@@ -1,7 +1,7 @@
 //! Quarter turns between the four directions.
 
+use crate::planes::same;
 use directions::Direction;
-use std::process::Abort;
 
 #[test]
 fn turns_by_quarters(rt: HostRuntime) {
@@ -13,9 +13,9 @@ fn turns_by_quarters(rt: HostRuntime) {
     ];
     for k in 0..4 {
         let next = round[(k + 1) % 4];
-        assert_eq!(rt; round[k].left(), next);
-        assert_eq!(rt; next.right(), round[k]);
-        assert_eq!(rt; round[k].opposite(), round[(k + 2) % 4]);
-        assert_eq!(rt; round[k].lefts(7), round[(k + 3) % 4]);
+        same(&rt, round[k].left(), next);
+        same(&rt, next.right(), round[k]);
+        same(&rt, round[k].opposite(), round[(k + 2) % 4]);
+        same(&rt, round[k].lefts(7), round[(k + 3) % 4]);
     }
 }

@@ -2,11 +2,11 @@
 //! of these tests in turn: a second call answers as without the refusal. Where a refusal comes before the
 //! call, the test ends.
 
-use crate::planes::{TRIANGLE, bent_triangle_in, plane_in};
+use crate::planes::{TRIANGLE, bent_triangle_in, plane_in, same};
 use compact::{CompactFault, compact};
 use dissect::{Boxes, dissect};
-use ortho_rep::is_shape;
-use std::alloc::AllocError;
+use ortho_rep::{Points, is_shape};
+use std::alloc::{AllocError, Global};
 use std::process::Abort;
 use std::test::Fail;
 
@@ -15,54 +15,65 @@ fn expect_same(rt: &impl Abort, one: &Boxes, other: &Boxes) {
     assert_eq!(rt; one.vertices(), other.vertices());
     assert_eq!(rt; one.darts(), other.darts());
     for dart in 0..one.darts() {
-        assert_eq!(rt; one.head(dart), other.head(dart));
-        assert_eq!(rt; one.next(dart), other.next(dart));
-        assert_eq!(rt; one.direction(dart), other.direction(dart));
+        same(rt, one.head(dart), other.head(dart));
+        same(rt, one.next(dart), other.next(dart));
+        same(rt, one.direction(dart), other.direction(dart));
     }
+}
+
+/// The boxes of the triangle, by the second call where the first finds no memory; nothing where memory is
+/// wanting before.
+fn boxes_at_last(rt: &impl Abort, alloc: Global) -> Result<Option<Boxes>, Fail> {
+    let Some(plane) = plane_in(alloc, &TRIANGLE) else {
+        return Ok(None);
+    };
+    let Some(shape) = bent_triangle_in(alloc) else {
+        return Ok(None);
+    };
+    assert!(rt; is_shape(&plane, &shape));
+    Ok(Some(match dissect(alloc, &plane, &shape) {
+        Ok(boxes) => boxes,
+        Err(AllocError) => dissect(alloc, &plane, &shape)?,
+    }))
 }
 
 #[test]
 fn dissections(rt: HostRuntime) -> Result<(), Fail> {
-    let alloc = rt.alloc();
-    let (Some(plane), Some(shape)) = (plane_in(alloc, &TRIANGLE), bent_triangle_in(alloc)) else {
-        return Ok(());
-    };
-    assert!(rt; is_shape(&plane, &shape));
-    let boxes = match dissect(alloc, &plane, &shape) {
-        Ok(boxes) => boxes,
-        Err(AllocError) => dissect(alloc, &plane, &shape)?,
-    };
     // No more than one allocation is refused.
-    if let Ok(again) = dissect(alloc, &plane, &shape) {
-        expect_same(&rt, &boxes, &again);
+    let first = boxes_at_last(&rt, rt.alloc())?;
+    let second = boxes_at_last(&rt, rt.alloc())?;
+    if let (Some(boxes), Some(again)) = (&first, &second) {
+        expect_same(&rt, boxes, again);
     }
     Ok(())
 }
 
+/// The points of boxes, by the second call where the first finds no memory.
+fn points_at_last(rt: &impl Abort, alloc: Global, boxes: &Boxes) -> Result<Points, CompactFault> {
+    match compact(alloc, boxes) {
+        Ok(points) => Ok(points),
+        Err(fault) => {
+            same(rt, fault, CompactFault::Memory);
+            compact(alloc, boxes)
+        }
+    }
+}
+
+/// The points of two drawings of the triangle are the same.
+fn expect_same_points(rt: &impl Abort, one: &Points, other: &Points) {
+    assert_eq!(rt; (one.edge_count(), other.edge_count()), (3, 3));
+    same(rt, one.vertices(), other.vertices());
+    for edge in 0..3 {
+        same(rt, one.corners(edge), other.corners(edge));
+    }
+}
+
 #[test]
 fn coordinates(rt: HostRuntime) -> Result<(), Fail> {
-    let alloc = rt.alloc();
-    let (Some(plane), Some(shape)) = (plane_in(alloc, &TRIANGLE), bent_triangle_in(alloc)) else {
-        return Ok(());
-    };
-    assert!(rt; is_shape(&plane, &shape));
-    let Ok(boxes) = dissect(alloc, &plane, &shape) else {
-        return Ok(());
-    };
-    let points = match compact(alloc, &boxes) {
-        Ok(points) => points,
-        Err(fault) => {
-            assert_eq!(rt; fault, CompactFault::Memory);
-            compact(alloc, &boxes)?
-        }
-    };
-    let Ok(again) = compact(alloc, &boxes) else {
-        return Ok(());
-    };
-    assert_eq!(rt; points.vertices(), again.vertices());
-    assert_eq!(rt; (points.edge_count(), again.edge_count()), (3, 3));
-    for edge in 0..3 {
-        assert_eq!(rt; points.corners(edge), again.corners(edge));
+    if let Some(boxes) = boxes_at_last(&rt, rt.alloc())? {
+        let points = points_at_last(&rt, rt.alloc(), &boxes)?;
+        let again = points_at_last(&rt, rt.alloc(), &boxes)?;
+        expect_same_points(&rt, &points, &again);
     }
     Ok(())
 }

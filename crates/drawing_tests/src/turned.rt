@@ -1,7 +1,7 @@
 //! Shapes with more bends than need be are drawn too.
 
 use crate::families::{OCTAHEDRON, antiprism, grid, prism};
-use crate::planes::{EDGE, TRIANGLE, draw, plane_of, shape_of, spiral_in};
+use crate::planes::{EDGE, TRIANGLE, draw, plane_of, same, shape_of, spiral_in};
 use faces::Plane;
 use ortho_rep::{Shape, Turn, least_shape};
 use std::alloc::Global;
@@ -86,6 +86,18 @@ fn add_step(random: &mut Random, plane: &Plane, strings: &mut [Vec<Turn>]) -> Re
     put(back, count - place, pair)
 }
 
+/// The shape with one more random step.
+fn with_a_step(
+    alloc: Global,
+    plane: &Plane,
+    shape: &Shape,
+    random: &mut Random,
+) -> Result<Shape, Fail> {
+    let (angles, mut strings) = parts_of(alloc, plane, shape)?;
+    add_step(random, plane, &mut strings)?;
+    Ok(shape_of(angles, strings).ok_or("strings out of range")?)
+}
+
 /// Least shapes of these bytes, each with one more random step than the one before it, are drawn: the
 /// largest share of the bound that boxes have.
 fn expect_steps(rt: &impl Abort, alloc: Global, bytes: &[u8], seed: u64) -> Result<u64, Fail> {
@@ -95,11 +107,9 @@ fn expect_steps(rt: &impl Abort, alloc: Global, bytes: &[u8], seed: u64) -> Resu
     let mut random = Random { state: seed };
     let mut share = 0;
     for steps in 0..20u32 {
-        assert_eq!(rt; shape.bends(), least.wrapping_add(2 * steps));
+        same(rt, shape.bends(), least.wrapping_add(2 * steps));
         share = share.max(draw(rt, alloc, &plane, &shape)?);
-        let (angles, mut strings) = parts_of(alloc, &plane, &shape)?;
-        add_step(&mut random, &plane, &mut strings)?;
-        shape = shape_of(angles, strings).ok_or("strings out of range")?;
+        shape = with_a_step(alloc, &plane, &shape, &mut random)?;
     }
     Ok(share)
 }

@@ -1,5 +1,6 @@
 //! Streams whose records and endings are known, wherever they are cut, and the limit of a million records.
 
+use crate::known::same;
 use planar_code::{Ending, FeedFault, Framer, HEADER, frame, split};
 use std::alloc::Global;
 use std::process::Abort;
@@ -23,18 +24,23 @@ fn framed(alloc: Global, bytes: &[u8]) -> Result<(usize, Ending), Fail> {
 #[test]
 fn tells_the_endings(rt: HostRuntime) -> Result<(), Fail> {
     let alloc = rt.alloc();
-    assert_eq!(rt; framed(alloc, &[])?, (0, Ending::Complete));
-    assert_eq!(rt; framed(alloc, &[2, 2, 0, 1, 0])?, (1, Ending::Complete));
-    assert_eq!(rt;
+    same(&rt, framed(alloc, &[])?, (0, Ending::Complete));
+    same(&rt, framed(alloc, &[2, 2, 0, 1, 0])?, (1, Ending::Complete));
+    same(
+        &rt,
         framed(alloc, &[2, 2, 0, 1, 0, 2, 2, 0, 1])?,
-        (1, Ending::Truncated)
+        (1, Ending::Truncated),
     );
-    assert_eq!(rt; framed(alloc, &[2, 2, 0, 1, 0, 0, 2])?, (1, Ending::Large));
+    same(
+        &rt,
+        framed(alloc, &[2, 2, 0, 1, 0, 0, 2])?,
+        (1, Ending::Large),
+    );
     let mut long = vec![in alloc; 1u8; 255]?;
     long[0] = 255;
-    assert_eq!(rt; framed(alloc, long.as_slice())?, (0, Ending::Truncated));
+    same(&rt, framed(alloc, long.as_slice())?, (0, Ending::Truncated));
     long.push(1)?;
-    assert_eq!(rt; framed(alloc, long.as_slice())?, (0, Ending::Oversize));
+    same(&rt, framed(alloc, long.as_slice())?, (0, Ending::Oversize));
     Ok(())
 }
 
@@ -42,13 +48,13 @@ fn tells_the_endings(rt: HostRuntime) -> Result<(), Fail> {
 fn tells_a_missing_header(rt: HostRuntime) -> Result<(), Fail> {
     let alloc = rt.alloc();
     let (records, ending) = split(alloc, &[])?;
-    assert_eq!(rt; (records.len(), ending), (0, Ending::Header));
+    same(&rt, (records.len(), ending), (0, Ending::Header));
     let (records, ending) = split(alloc, &HEADER[..14])?;
-    assert_eq!(rt; (records.len(), ending), (0, Ending::Header));
+    same(&rt, (records.len(), ending), (0, Ending::Header));
     let mut framer = Framer::new(alloc)?;
     let mut out = Vec::new(alloc);
-    assert_eq!(rt; framer.feed(alloc, &HEADER[..14], &mut out), Ok(()));
-    assert_eq!(rt; framer.finish(), Ending::Header);
+    same(&rt, framer.feed(alloc, &HEADER[..14], &mut out), Ok(()));
+    same(&rt, framer.finish(), Ending::Header);
     Ok(())
 }
 
@@ -59,14 +65,14 @@ fn frames_a_record_in_three_pieces(rt: HostRuntime) -> Result<(), Fail> {
     assert_eq!(rt; whole.len(), 20);
     let mut framer = Framer::new(alloc)?;
     let mut out = Vec::new(alloc);
-    assert_eq!(rt; framer.feed(alloc, &whole[..10], &mut out), Ok(()));
-    assert_eq!(rt; framer.feed(alloc, &whole[10..17], &mut out), Ok(()));
-    assert_eq!(rt; out.len(), 0);
-    assert_eq!(rt; framer.feed(alloc, &whole[17..], &mut out), Ok(()));
+    same(&rt, framer.feed(alloc, &whole[..10], &mut out), Ok(()));
+    same(&rt, framer.feed(alloc, &whole[10..17], &mut out), Ok(()));
+    same(&rt, out.len(), 0);
+    same(&rt, framer.feed(alloc, &whole[17..], &mut out), Ok(()));
     assert_eq!(rt; out.len(), 1);
-    assert_eq!(rt; out[0].bytes(), [2, 2, 0, 1, 0].as_slice());
-    assert_eq!(rt; out[0].order(), 2);
-    assert_eq!(rt; framer.finish(), Ending::Complete);
+    same(&rt, out[0].bytes(), [2, 2, 0, 1, 0].as_slice());
+    same(&rt, out[0].order(), 2);
+    same(&rt, framer.finish(), Ending::Complete);
     Ok(())
 }
 
@@ -75,23 +81,26 @@ fn repeats_its_fault(rt: HostRuntime) -> Result<(), Fail> {
     let alloc = rt.alloc();
     let mut framer = Framer::new(alloc)?;
     let mut out = Vec::new(alloc);
-    assert_eq!(rt;
+    same(
+        &rt,
         framer.feed(alloc, b">>planar_codeX", &mut out),
-        Err(FeedFault::Header)
+        Err(FeedFault::Header),
     );
-    assert_eq!(rt;
+    same(
+        &rt,
         framer.feed(alloc, &[1, 0], &mut out),
-        Err(FeedFault::Header)
+        Err(FeedFault::Header),
     );
-    assert_eq!(rt; framer.finish(), Ending::Header);
+    same(&rt, framer.finish(), Ending::Header);
     let piece = stream(alloc, &[2, 2, 0, 1, 0, 0, 2])?;
     let mut framer = Framer::new(alloc)?;
-    assert_eq!(rt;
+    same(
+        &rt,
         framer.feed(alloc, piece.as_slice(), &mut out),
-        Err(FeedFault::Large)
+        Err(FeedFault::Large),
     );
-    assert_eq!(rt; out.len(), 1);
-    assert_eq!(rt; framer.finish(), Ending::Large);
+    same(&rt, out.len(), 1);
+    same(&rt, framer.finish(), Ending::Large);
     Ok(())
 }
 
@@ -99,15 +108,15 @@ fn repeats_its_fault(rt: HostRuntime) -> Result<(), Fail> {
 fn fed_with_a_million(rt: &impl Abort, alloc: Global) -> Result<Framer, Fail> {
     let mut framer = Framer::new(alloc)?;
     let mut out = Vec::new(alloc);
-    assert_eq!(rt; framer.feed(alloc, &HEADER, &mut out), Ok(()));
+    same(rt, framer.feed(alloc, &HEADER, &mut out), Ok(()));
     let mut piece = Vec::new(alloc);
     for _ in 0..50_000 {
         piece.extend_from_slice(&[1, 0])?;
     }
     for _ in 0..20 {
         out.clear();
-        assert_eq!(rt; framer.feed(alloc, piece.as_slice(), &mut out), Ok(()));
-        assert_eq!(rt; out.len(), 50_000);
+        same(rt, framer.feed(alloc, piece.as_slice(), &mut out), Ok(()));
+        same(rt, out.len(), 50_000);
     }
     Ok(framer)
 }
@@ -115,7 +124,7 @@ fn fed_with_a_million(rt: &impl Abort, alloc: Global) -> Result<Framer, Fail> {
 #[test]
 fn a_million_records_are_complete(rt: HostRuntime) -> Result<(), Fail> {
     let framer = fed_with_a_million(&rt, rt.alloc())?;
-    assert_eq!(rt; framer.finish(), Ending::Complete);
+    same(&rt, framer.finish(), Ending::Complete);
     Ok(())
 }
 
@@ -123,11 +132,15 @@ fn a_million_records_are_complete(rt: HostRuntime) -> Result<(), Fail> {
 fn are_too_many(rt: &impl Abort, alloc: Global, bytes: &[u8]) -> Result<(), Fail> {
     let mut framer = fed_with_a_million(rt, alloc)?;
     let mut out = Vec::new(alloc);
-    assert_eq!(rt; framer.feed(alloc, &[], &mut out), Ok(()));
-    assert_eq!(rt; framer.feed(alloc, bytes, &mut out), Err(FeedFault::Many));
-    assert_eq!(rt; framer.feed(alloc, &[], &mut out), Err(FeedFault::Many));
-    assert_eq!(rt; out.len(), 0);
-    assert_eq!(rt; framer.finish(), Ending::Many);
+    same(rt, framer.feed(alloc, &[], &mut out), Ok(()));
+    same(
+        rt,
+        framer.feed(alloc, bytes, &mut out),
+        Err(FeedFault::Many),
+    );
+    same(rt, framer.feed(alloc, &[], &mut out), Err(FeedFault::Many));
+    same(rt, out.len(), 0);
+    same(rt, framer.finish(), Ending::Many);
     Ok(())
 }
 
@@ -159,13 +172,15 @@ fn split_a_million(alloc: Global, bytes: &[u8]) -> Result<(usize, Ending), Fail>
 
 #[test]
 fn the_plain_splitter_counts_to_a_million(rt: HostRuntime) -> Result<(), Fail> {
-    assert_eq!(rt;
+    same(
+        &rt,
         split_a_million(rt.alloc(), &[])?,
-        (1_000_000, Ending::Complete)
+        (1_000_000, Ending::Complete),
     );
-    assert_eq!(rt;
+    same(
+        &rt,
         split_a_million(rt.alloc(), &[1, 0])?,
-        (1_000_000, Ending::Many)
+        (1_000_000, Ending::Many),
     );
     Ok(())
 }
@@ -179,10 +194,9 @@ fn agrees(rt: &impl Abort, alloc: Global, text: &[u8]) -> Result<(), Fail> {
         let mut out = Vec::new(alloc);
         let _ = framer.feed(alloc, &text[..cut], &mut out);
         let _ = framer.feed(alloc, &text[cut..], &mut out);
-        assert_eq!(rt; framer.finish(), ending);
-        assert_eq!(rt; out.len(), records.len());
+        same(rt, (framer.finish(), out.len()), (ending, records.len()));
         for (ours, theirs) in out.iter().zip(&records) {
-            assert_eq!(rt; ours.bytes(), theirs.bytes());
+            same(rt, ours.bytes(), theirs.bytes());
         }
     }
     Ok(())
@@ -211,20 +225,21 @@ fn names_a_want_of_memory(rt: HostRuntime) {
         return;
     };
     let mut out = Vec::new(alloc);
-    assert_eq!(rt; framer.feed(alloc, &HEADER, &mut out), Ok(()));
+    same(&rt, framer.feed(alloc, &HEADER, &mut out), Ok(()));
     match framer.feed(alloc, &[1, 0, 2, 0, 0], &mut out) {
         Ok(()) => {
-            assert_eq!(rt; out.len(), 2);
-            assert_eq!(rt; framer.finish(), Ending::Complete);
+            same(&rt, out.len(), 2);
+            same(&rt, framer.finish(), Ending::Complete);
         }
         Err(fault) => {
-            assert_eq!(rt; fault, FeedFault::Memory);
+            same(&rt, fault, FeedFault::Memory);
             assert!(rt; out.len() < 2);
-            assert_eq!(rt;
+            same(
+                &rt,
                 framer.feed(alloc, &[1, 0], &mut out),
-                Err(FeedFault::Memory)
+                Err(FeedFault::Memory),
             );
-            assert_eq!(rt; framer.finish(), Ending::Memory);
+            same(&rt, framer.finish(), Ending::Memory);
         }
     }
 }

@@ -1,66 +1,79 @@
 //! Records whose graphs were found by hand, and refused allocations.
 
 use crate::known::{
-    EDGE, OCTAHEDRON, STAR, TETRAHEDRON, TRIANGLE, graph_of, longest_cycle, record_of,
+    EDGE, OCTAHEDRON, STAR, TETRAHEDRON, TRIANGLE, graph_of, longest_cycle, record_of, same,
 };
 use embedding::{Graph, ReadFault, Rule};
-use std::alloc::Global;
+use std::alloc::{AllocError, Global};
 use std::process::Abort;
 use std::test::Fail;
 
+/// How many vertices, edges and darts a record's graph has.
+fn counts(alloc: Global, bytes: &[u8]) -> Result<(u8, u16, u16), Fail> {
+    let graph = graph_of(alloc, bytes)?;
+    Ok((graph.vertices(), graph.edges(), graph.darts()))
+}
+
 #[test]
 fn graphs_are_read(rt: HostRuntime) -> Result<(), Fail> {
-    let edge = graph_of(rt.alloc(), &EDGE)?;
-    assert_eq!(rt; (edge.vertices(), edge.edges(), edge.darts()), (2, 1, 2));
-    let triangle = graph_of(rt.alloc(), &TRIANGLE)?;
-    assert_eq!(rt;
-        (triangle.vertices(), triangle.edges(), triangle.darts()),
-        (3, 3, 6)
-    );
-    let tetrahedron = graph_of(rt.alloc(), &TETRAHEDRON)?;
-    assert_eq!(rt; (tetrahedron.vertices(), tetrahedron.edges()), (4, 6));
-    let octahedron = graph_of(rt.alloc(), &OCTAHEDRON)?;
-    assert_eq!(rt; (octahedron.vertices(), octahedron.edges()), (6, 12));
-    let star = graph_of(rt.alloc(), &STAR)?;
-    assert_eq!(rt; (star.vertices(), star.edges()), (5, 4));
+    let alloc = rt.alloc();
+    same(&rt, counts(alloc, &EDGE)?, (2, 1, 2));
+    same(&rt, counts(alloc, &TRIANGLE)?, (3, 3, 6));
+    same(&rt, counts(alloc, &TETRAHEDRON)?, (4, 6, 12));
+    same(&rt, counts(alloc, &OCTAHEDRON)?, (6, 12, 24));
+    same(&rt, counts(alloc, &STAR)?, (5, 4, 8));
     Ok(())
 }
 
 #[test]
 fn largest_cycle_is_read(rt: HostRuntime) -> Result<(), Fail> {
-    let cycle = graph_of(rt.alloc(), &longest_cycle(rt.alloc())?)?;
-    assert_eq!(rt;
-        (cycle.vertices(), cycle.edges(), cycle.darts()),
-        (255, 255, 510)
-    );
+    let cycle = longest_cycle(rt.alloc())?;
+    same(&rt, counts(rt.alloc(), &cycle)?, (255, 255, 510));
     Ok(())
+}
+
+/// Each dart's tail, head, reverse, and the dart after its reverse.
+fn darts(alloc: Global, graph: &Graph) -> Result<Vec<(u8, u8, u16, u16)>, AllocError> {
+    let mut darts = Vec::new(alloc);
+    for dart in 0..graph.darts() {
+        let reverse = graph.reverse(dart);
+        darts.push((
+            graph.tail(dart),
+            graph.head(dart),
+            reverse,
+            graph.after(reverse),
+        ))?;
+    }
+    Ok(darts)
 }
 
 #[test]
 fn triangle_has_its_darts(rt: HostRuntime) -> Result<(), Fail> {
     let triangle = graph_of(rt.alloc(), &TRIANGLE)?;
-    assert_eq!(rt; triangle.vertices(), 3);
-    assert_eq!(rt; triangle.darts(), 6);
-    let ends = [(1, 2), (1, 3), (2, 3), (2, 1), (3, 1), (3, 2)];
-    let reverses = [3, 4, 5, 0, 1, 2];
-    let nexts = [2, 5, 4, 1, 0, 3];
-    for dart in 0..6u16 {
-        let place = usize::from(dart);
-        assert_eq!(rt; (triangle.tail(dart), triangle.head(dart)), ends[place]);
-        let reverse = triangle.reverse(dart);
-        assert_eq!(rt; reverse, reverses[place]);
-        assert_eq!(rt; triangle.after(reverse), nexts[place]);
-    }
-    assert_eq!(rt; triangle.neighbours(2), [3, 1].as_slice());
+    let want = [
+        (1, 2, 3, 2),
+        (1, 3, 4, 5),
+        (2, 3, 5, 4),
+        (2, 1, 0, 1),
+        (3, 1, 1, 0),
+        (3, 2, 2, 3),
+    ];
+    same(
+        &rt,
+        darts(rt.alloc(), &triangle)?.as_slice(),
+        want.as_slice(),
+    );
+    assert!(rt; triangle.vertices() == 3);
+    same(&rt, triangle.neighbours(2), [3, 1].as_slice());
     Ok(())
 }
 
 #[test]
 fn faults_have_messages(rt: HostRuntime) -> Result<(), Fail> {
     let rule = format!(in rt.alloc(); "{}", ReadFault::Rule(Rule::Multi))?;
-    assert_eq!(rt; rule.as_str(), "a rule is broken: multi");
+    same(&rt, rule.as_str(), "a rule is broken: multi");
     let memory = format!(in rt.alloc(); "{}", ReadFault::Memory)?;
-    assert_eq!(rt; memory.as_str(), "out of memory");
+    same(&rt, memory.as_str(), "out of memory");
     Ok(())
 }
 
@@ -68,11 +81,11 @@ fn faults_have_messages(rt: HostRuntime) -> Result<(), Fail> {
 fn is_read(rt: &impl Abort, graph: Result<Graph, ReadFault>, edges: u16) -> bool {
     match graph {
         Ok(graph) => {
-            assert_eq!(rt; graph.edges(), edges);
+            same(rt, graph.edges(), edges);
             true
         }
         Err(fault) => {
-            assert_eq!(rt; fault, ReadFault::Memory);
+            same(rt, fault, ReadFault::Memory);
             false
         }
     }
@@ -105,5 +118,5 @@ fn broken_rules_take_no_memory(rt: HostRuntime) {
         return;
     };
     let fault = Graph::read(rt.alloc(), &record).err();
-    assert_eq!(rt; fault, Some(ReadFault::Rule(Rule::Multi)));
+    same(&rt, fault, Some(ReadFault::Rule(Rule::Multi)));
 }

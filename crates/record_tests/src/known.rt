@@ -4,7 +4,14 @@ use embedding::Graph;
 use faces::Plane;
 use planar_code::{Framer, HEADER, Record};
 use std::alloc::Global;
+use std::fmt::Debug;
+use std::process::Abort;
 use std::test::Fail;
+
+/// Sees that two values are the same. (An `assert_eq!` in each place would make the tests' proofs several times as long.)
+pub(crate) fn same<T: PartialEq + Debug + Drop>(rt: &impl Abort, got: T, want: T) {
+    assert_eq!(rt; got, want);
+}
 
 pub(crate) const EDGE: [u8; 5] = [2, 2, 0, 1, 0];
 

@@ -2,7 +2,7 @@
 
 use crate::known::{
     CUBE, EDGE, OCTAHEDRON, PATH, STAR, TETRAHEDRON, TETRAHEDRON_ON_A_TORUS, TRIANGLE, graph_of,
-    longest_cycle, plane_of, record_of,
+    longest_cycle, plane_of, record_of, same,
 };
 use embedding::Graph;
 use faces::{Plane, TraceFault};
@@ -45,17 +45,19 @@ fn degrees(alloc: Global, plane: &Plane) -> Result<Vec<u16>, AllocError> {
 
 /// The darts of the triangle: where they lead, and their faces.
 fn assert_triangle(rt: &impl Abort, alloc: Global, plane: &Plane) -> Result<(), Fail> {
-    assert_eq!(rt; counts(plane), (3, 3, 2));
-    assert_eq!(rt;
+    same(rt, counts(plane), (3, 3, 2));
+    same(
+        rt,
         nexts(alloc, plane)?.as_slice(),
-        [2, 5, 4, 1, 0, 3].as_slice()
+        [2, 5, 4, 1, 0, 3].as_slice(),
     );
-    assert_eq!(rt;
+    same(
+        rt,
         faces(alloc, plane)?.as_slice(),
-        [0, 1, 0, 1, 0, 1].as_slice()
+        [0, 1, 0, 1, 0, 1].as_slice(),
     );
-    assert_eq!(rt; degrees(alloc, plane)?.as_slice(), [3, 3].as_slice());
-    assert_eq!(rt; plane.outer(), 0);
+    same(rt, degrees(alloc, plane)?.as_slice(), [3, 3].as_slice());
+    same(rt, plane.outer(), 0);
     Ok(())
 }
 
@@ -68,12 +70,13 @@ fn triangle_has_its_dart_table(rt: HostRuntime) -> Result<(), Fail> {
 #[test]
 fn path_is_walked_there_and_back(rt: HostRuntime) -> Result<(), Fail> {
     let plane = plane_of(rt.alloc(), &PATH)?;
-    assert_eq!(rt; counts(&plane), (5, 4, 1));
-    assert_eq!(rt;
+    same(&rt, counts(&plane), (5, 4, 1));
+    same(
+        &rt,
         nexts(rt.alloc(), &plane)?.as_slice(),
-        [2, 0, 4, 1, 6, 3, 7, 5].as_slice()
+        [2, 0, 4, 1, 6, 3, 7, 5].as_slice(),
     );
-    assert_eq!(rt; degrees(rt.alloc(), &plane)?.as_slice(), [8].as_slice());
+    same(&rt, degrees(rt.alloc(), &plane)?.as_slice(), [8].as_slice());
     Ok(())
 }
 
@@ -82,7 +85,7 @@ fn known_planes_have_their_counts(rt: HostRuntime) -> Result<(), Fail> {
     let records = [EDGE.as_slice(), &TETRAHEDRON, &OCTAHEDRON, &STAR, &CUBE];
     let known = [(2, 1, 1), (4, 6, 4), (6, 12, 8), (5, 4, 1), (8, 12, 6)];
     for (record, want) in records.iter().zip(known) {
-        assert_eq!(rt; counts(&plane_of(rt.alloc(), record)?), want);
+        same(&rt, counts(&plane_of(rt.alloc(), record)?), want);
     }
     Ok(())
 }
@@ -91,12 +94,13 @@ fn known_planes_have_their_counts(rt: HostRuntime) -> Result<(), Fail> {
 fn cycle_of_255_has_two_faces(rt: HostRuntime) -> Result<(), Fail> {
     let record = longest_cycle(rt.alloc())?;
     let plane = plane_of(rt.alloc(), &record)?;
-    assert_eq!(rt; counts(&plane), (255, 255, 2));
-    assert_eq!(rt;
+    same(&rt, counts(&plane), (255, 255, 2));
+    same(
+        &rt,
         degrees(rt.alloc(), &plane)?.as_slice(),
-        [255, 255].as_slice()
+        [255, 255].as_slice(),
     );
-    assert_eq!(rt; plane.outer(), 0);
+    same(&rt, plane.outer(), 0);
     Ok(())
 }
 
@@ -111,9 +115,10 @@ fn outer_face_of_the_cube_holds_the_first_dart(rt: HostRuntime) -> Result<(), Fa
             ends.push((plane.graph().tail(dart), plane.graph().head(dart)))?;
         }
     }
-    assert_eq!(rt;
+    same(
+        &rt,
         ends.as_slice(),
-        [(1, 2), (2, 3), (3, 4), (4, 1)].as_slice()
+        [(1, 2), (2, 3), (3, 4), (4, 1)].as_slice(),
     );
     Ok(())
 }
@@ -125,8 +130,8 @@ fn torus_is_refused_with_its_graph(rt: HostRuntime) -> Result<(), Fail> {
         Ok(_) => Err(Fail::new("a plane")),
         Err(TraceFault::Memory(_)) => Err(Fail::new("no memory")),
         Err(TraceFault::Genus(graph)) => {
-            assert_eq!(rt; graph.vertices(), 4);
-            assert_eq!(rt; graph.edges(), 6);
+            same(&rt, graph.vertices(), 4);
+            same(&rt, graph.edges(), 6);
             Ok(())
         }
     }
@@ -150,10 +155,10 @@ fn memory_hands_the_graph_back(rt: HostRuntime) -> Result<(), Fail> {
         Err(TraceFault::Memory(graph)) => Plane::trace(alloc, graph)?,
         Err(fault) => return Err(fault.into()),
     };
-    assert_eq!(rt; counts(&plane), (3, 3, 2));
-    assert_eq!(rt; plane.outer(), 0);
+    same(&rt, counts(&plane), (3, 3, 2));
+    same(&rt, plane.outer(), 0);
     for dart in 0..plane.graph().darts() {
-        assert_eq!(rt; plane.face_of(dart), dart % 2);
+        same(&rt, plane.face_of(dart), dart % 2);
     }
     Ok(())
 }
@@ -165,7 +170,7 @@ fn tori_take_no_memory(rt: HostRuntime) {
         return;
     };
     match Plane::trace(rt.alloc(), graph) {
-        Err(TraceFault::Genus(graph)) => assert_eq!(rt; graph.edges(), 6),
+        Err(TraceFault::Genus(graph)) => same(&rt, graph.edges(), 6),
         _ => assert!(rt; false),
     }
 }
