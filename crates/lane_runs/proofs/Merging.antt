@@ -1,14 +1,14 @@
 -- What was taken of all lanes, in whatever order, tells each file that one lane drew.
-use Rattle.std.proofs.Common.{◌≡◌, ◌≢◌, ℕ, zero, suc, ◌+◌, ◌-◌, ◌==◌, ◌<◌, ◌≤◌, Bool, true, false, cond, List, [], ◌∷◌, ◌++◌, map, filter, length, All, Some, slice_get, inl, inr, refl, sym, ap, subst, ◌∙◌, arith}
+use Rattle.std.proofs.Common.{◌≡◌, ◌≢◌, ℕ, zero, suc, ◌+◌, ◌-◌, ◌==◌, ◌<◌, ◌≤◌, Bool, true, false, cond, List, [], ◌∷◌, ◌++◌, map, filter, length, All, inl, inr, refl, sym, ap, subst, ◌∙◌, arith}
 use Rattle.std.proofs.lemmas.Bool.{cases_eq, cases_lt, eq-eqb, ne_eqb}
-use Rattle.std.proofs.lemmas.List.Elements.{All-nil, All-cons, All-head, All-tail, All-append}
+use Rattle.std.proofs.lemmas.List.Elements.{All-nil, All-cons, All-head, All-tail}
 use Rattle.ruled_lanes.specs.declared.limits.TheConstants.{LANES}
 use Rattle.ruled_lanes.specs.declared.fan_ends.LaneGiver.{LaneGiver}
 use Rattle.ruled_lanes.specs.declared.fan_ends.Gatherer.{Gatherer}
 use Rattle.ruled_lanes.specs.declared.dealing.Tickets.{Tickets}
 use Rattle.ruled_lanes.specs.declared.dealing.Seat.{Seat}
 use Rattle.ruled_lanes.specs.FanRule.{of_lane}
-use Rattle.ruled_lanes.specs.FanEnds.{lane_of, given_at, gathered, AreGiversOf, SettlesFan, TakesFromSameFan, GivesToSameLane}
+use Rattle.ruled_lanes.specs.FanEnds.{lane_of, given_at, SettlesFan}
 use Rattle.ruled_lanes.specs.TicketRule.{times}
 use Rattle.ruled_lanes.specs.TicketSeats.{all_drawn}
 use Rattle.lanes.specs.declared.message.Message.{Message}
@@ -17,8 +17,7 @@ use Rattle.lanes.specs.Opening.{Meaning}
 use Rattle.lanes.specs.Files.{HasFile, HasDrawn}
 use Rattle.lanes.specs.Fans.{HasStop, untagged, HaveStopped}
 use Rattle.lanes.proofs.Dealing.{notes-append, stop_last}
-use Rattle.lane_runs.specs.Lanes.{TellsSeat}
-use Rattle.lane_runs.specs.Running.{AreNumbered, GivesAt, IsIdle, IsRunning, HasRun, HaveRun}
+use Rattle.lane_runs.specs.Running.{AreNumbered, IsIdle, HaveRun}
 use Rattle.lane_runs.proofs.Telling.{file_as, nothing_drawn}
 use Rattle.lane_runs.proofs.Seats.{drawn_at, drawn_past, one_drew}
 
@@ -56,10 +55,10 @@ module _ {E : Type 0} (about : E → About) where
         | inr away ↦ (let silent = chosen_none (is_of file n) n (told (of_lane x.0 items)) (ap told (sym (lane_mine x.0 x items refl)) ∙ none x.0 away) in
             ap (λ b. cond b (n ∷ told (untagged items)) (told (untagged items))) silent.0
             ∙ one_lane file one items (λ lane apart.
-                elim (cases_eq x.0 lane) [
-                  | inl same ↦ subst (λ k. told (of_lane k items) ≡ []) same silent.1
-                  | inr other ↦ others lane apart other
-                ])
+            elim (cases_eq x.0 lane) [
+              | inl same ↦ subst (λ k. told (of_lane k items) ≡ []) same silent.1
+              | inr other ↦ others lane apart other
+            ])
             ∙ ap told (sym (lane_other one x items away)))
       ]
 

@@ -1,5 +1,5 @@
 -- Lanes that are started, that run, and that have run.
-use Rattle.std.proofs.Common.{◌≡◌, ℕ, zero, suc, ◌+◌, List, [], ◌∷◌, ◌++◌, length, All, Some, slice_get, refl, sym, ap, subst, ◌∙◌, arith}
+use Rattle.std.proofs.Common.{◌≡◌, ℕ, suc, ◌+◌, List, [], ◌∷◌, ◌++◌, length, All, Some, slice_get, refl, sym, subst, ◌∙◌, arith}
 use Rattle.std.proofs.lemmas.List.Elements.{All-nil, All-cons, All-head, All-tail, All-append}
 use Rattle.crossbeam_channel.specs.Ends.{sends_on, receives_on}
 use Rattle.ruled_lanes.specs.declared.fan_ends.LaneGiver.{LaneGiver}
@@ -7,7 +7,6 @@ use Rattle.ruled_lanes.specs.declared.fan_ends.Gatherer.{Gatherer}
 use Rattle.ruled_lanes.specs.declared.dealing.Tickets.{Tickets}
 use Rattle.ruled_lanes.specs.declared.dealing.Seat.{Seat}
 use Rattle.ruled_lanes.specs.FanEnds.{lane_of, given_at, AreGiversOf, TakesFromSameFan, GivesToSameLane}
-use Rattle.ruled_lanes.specs.TicketSeats.{has_ended}
 use Rattle.lanes.specs.declared.message.Message.{Message}
 use Rattle.lanes.specs.Notes.{About}
 use Rattle.lanes.specs.Opening.{Meaning}

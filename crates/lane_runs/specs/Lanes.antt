@@ -1,5 +1,5 @@
 -- What the threads of a lane give back.
-use Rattle.std.specs.Prelude.{◌≡◌, ℕ, ◌+◌, List, [], ◌∷◌, ⊤, true, Result, IfOk}
+use Rattle.std.specs.Prelude.{◌≡◌, ℕ, List, [], true, Result, IfOk}
 use Rattle.ruled_lanes.specs.declared.link_ends.Giver.{Giver}
 use Rattle.ruled_lanes.specs.declared.link_ends.Taker.{Taker}
 use Rattle.ruled_lanes.specs.declared.fan_ends.LaneGiver.{LaneGiver}

@@ -45,7 +45,7 @@ pub fn run_lane<L: Line, R: Threads + Wait + Sync, O: Opener, G: Gate>(
             requires { (1 ≤ capacity) × (capacity ≤ 64) × IsSeatOf tickets.now seat × IsUnused seat × (given_at giver ≡ []) }
             ensures { GivesToSameLane giver result.giver
                 × IfOk result.seat (λ after. TellsSeat L.Entry.about (O.meaning opener.entry.now) tickets.entry.now after
-                    (given_at result.giver ++ Stop ∷ [])) }
+                (given_at result.giver ++ Stop ∷ [])) }
         {
             let mut giver = giver;
             let seat = run_stages::<_, L, _, _, _>(
@@ -101,7 +101,16 @@ fn run_stages<'s, E, L: Line + 's, R: Threads + Wait + Sync, O: Opener, G: Gate>
     } = links;
     let lane = giver.lane();
     let read = start_read::<_, L, _, _, _>(
-        scope, rt, alloc, opener, gate, lane, tickets, seat, buffer, framed_giver,
+        scope,
+        rt,
+        alloc,
+        opener,
+        gate,
+        lane,
+        tickets,
+        seat,
+        buffer,
+        framed_giver,
     )?;
     let embed = start_stage(scope, rt, alloc, gate, lane, framed_taker, embedded_giver)?;
     let shape = start_stage(scope, rt, alloc, gate, lane, embedded_taker, shaped_giver)?;

@@ -64,7 +64,7 @@ pub fn drafts_of_lanes<L: Line, R: Threads + Wait + Sync, O: Opener, G: Gate>(
             ensures { IfOk result (λ r. (vec_len r.0 ≡ vec_len drafts) × (vec_len r.1 ≡ vec_len seats)
                 × All (λ s. IsSeatOf dealt.entry.now s × (has_ended s ≡ true)) r.1.items
                 × (((file : ℕ) → file < vec_len r.0 → times file (all_drawn r.1.items) ≡ 1)
-                    → AreReady L.Entry.about (O.meaning opener.entry.now) 0 r.0.items)) }
+                → AreReady L.Entry.about (O.meaning opener.entry.now) 0 r.0.items)) }
         {
             run_lanes::<_, L, _, _, _>(
                 scope, rt, alloc, opener, gate, dealt, capacity, seats, givers, gatherer, drafts,

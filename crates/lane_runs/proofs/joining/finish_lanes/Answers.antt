@@ -1,7 +1,5 @@
-use Rattle.std.proofs.Common.{◌≡◌, vec_len, arith, subst}
-use Rattle.lanes.specs.Fans.{HaveStopped}
+use Rattle.std.proofs.Common.{vec_len, arith}
 use Rattle.lanes.proofs.Dealing.{drafts_ready}
-use Rattle.ruled_lanes.specs.FanEnds.{gathered}
 use Rattle.lane_runs.proofs.Ran.{numbered_weaker, running_still, idle_still}
 use Rattle.lane_runs.proofs.joining.finish_lanes.Goals as goal
 

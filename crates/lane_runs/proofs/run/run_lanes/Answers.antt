@@ -1,7 +1,7 @@
-use Rattle.std.proofs.Common.{◌≡◌, ◌+◌, ◌<◌, ◌∷◌, length, vec_len, Some, None, arith, refl, ap, sym, subst}
+use Rattle.std.proofs.Common.{◌≡◌, ◌+◌, length, vec_len, Some, None, arith, refl, ap, sym, subst}
 use Rattle.std.proofs.lemmas.List.Elements.{All-pop}
 use Rattle.ruled_lanes.specs.TicketSeats.{IsSeatOf, IsUnused}
-use Rattle.lane_runs.specs.Running.{AreNumbered, IsIdle, IsRunning}
+use Rattle.lane_runs.specs.Running.{AreNumbered}
 use Rattle.lane_runs.proofs.Ran.{numbered_more, numbered_as, started}
 use Rattle.lane_runs.proofs.run.run_lanes.Goals as goal
 
