@@ -275,6 +275,134 @@ fn gate_holds_two(rt: HostRuntime) -> Result<(), Fail> {
     Ok(())
 }
 
+/// Counts the calls of each of two lanes at the first stage, and holds the first call of one lane until the
+/// other has made so many.
+#[derive(Drop)]
+struct HoldsFan {
+    held: u32,
+    calls: [AtomicU32; 2],
+    ran_out: AtomicBool,
+}
+
+impl HoldsFan {
+    fn of(held: u32) -> HoldsFan {
+        HoldsFan {
+            held,
+            calls: [AtomicU32::new(0), AtomicU32::new(0)],
+            ran_out: AtomicBool::new(false),
+        }
+    }
+}
+
+/// How often a lane has called.
+fn calls_of(calls: &[AtomicU32; 2], lane: u32) -> &AtomicU32 {
+    if lane == 0 { &calls[0] } else { &calls[1] }
+}
+
+/// The other of two lanes.
+fn other_than(lane: u32) -> u32 {
+    if lane == 0 { 1 } else { 0 }
+}
+
+/// Waits until a number of calls is reached, and notes where a million turns were too few.
+fn wait_for_calls(calls: &AtomicU32, least: u32, ran_out: &AtomicBool) {
+    for _ in 0..1_000_000 {
+        if calls.load(Ordering::SeqCst) >= least {
+            return;
+        }
+        thread::yield_now();
+    }
+    ran_out.store(true, Ordering::SeqCst);
+}
+
+impl Gate for HoldsFan {
+    fn pass(&self, lane: u32, stage: Stage, _ordinal: u32) {
+        if stage != Stage::Read {
+            return;
+        }
+        let earlier = calls_of(&self.calls, lane).fetch_add(1, Ordering::SeqCst);
+        if lane == self.held && earlier == 0 {
+            wait_for_calls(calls_of(&self.calls, other_than(self.held)), 12, &self.ran_out);
+        }
+    }
+}
+
+/// A file of so many records of two vertices with one edge.
+fn edges(alloc: Global, count: u32) -> Result<Vec<u8>, AllocError> {
+    let mut bytes = HEADER.to_vec(alloc)?;
+    for _ in 0..count {
+        bytes.extend_from_slice(b"\x02\x02\x00\x01\x00")?;
+    }
+    Ok(bytes)
+}
+
+/// The report of so many files of so many such records.
+fn report_of_edges(alloc: Global, files: u32, count: u32) -> Result<String, AllocError> {
+    let mut report = String::new(alloc);
+    for file in 1..=files {
+        report.push_str(format!(in alloc; "file {file}\n")?.as_str())?;
+        for graph in 1..=count {
+            report.push_str(
+                format!(in alloc; "graph {graph} ok n=2 m=1 f=1 bends=0 drawn=yes\n")?.as_str(),
+            )?;
+        }
+        report.push_str(format!(in alloc; "end complete graphs={count}\n")?.as_str())?;
+    }
+    Ok(report)
+}
+
+/// Of two lanes one gives all records of its file while the other gives none, whichever of them is held.
+#[test]
+fn gate_holds_fan(rt: HostRuntime) -> Result<(), Fail> {
+    let file = edges(rt.alloc(), 12)?;
+    let report = report_of_edges(rt.alloc(), 2, 12)?;
+    for held in 0..2 {
+        let gate = HoldsFan::of(held);
+        check(&rt, &[file.as_slice(), file.as_slice()], 2, &gate, report.as_str())?;
+        assert!(rt; !gate.ran_out.load(Ordering::SeqCst));
+    }
+    Ok(())
+}
+
+/// Holds the first call of the second lane at the first stage until the first lane has called there, and
+/// that of the first lane until the second one has called twelve times.
+#[derive(Drop)]
+struct HoldsDeal {
+    calls: [AtomicU32; 2],
+    ran_out: AtomicBool,
+}
+
+impl Gate for HoldsDeal {
+    fn pass(&self, lane: u32, stage: Stage, _ordinal: u32) {
+        if stage != Stage::Read {
+            return;
+        }
+        let earlier = calls_of(&self.calls, lane).fetch_add(1, Ordering::SeqCst);
+        if earlier > 0 {
+            return;
+        }
+        let least = if lane == 0 { 12 } else { 1 };
+        wait_for_calls(calls_of(&self.calls, other_than(lane)), least, &self.ran_out);
+    }
+}
+
+/// While one lane is held at its first file, the other draws all other files.
+#[test]
+fn gate_holds_deal(rt: HostRuntime) -> Result<(), Fail> {
+    let file = edges(rt.alloc(), 4)?;
+    let report = report_of_edges(rt.alloc(), 4, 4)?;
+    let gate = HoldsDeal {
+        calls: [AtomicU32::new(0), AtomicU32::new(0)],
+        ran_out: AtomicBool::new(false),
+    };
+    let bytes = file.as_slice();
+    check(&rt, &[bytes, bytes, bytes, bytes], 2, &gate, report.as_str())?;
+    assert!(rt; !gate.ran_out.load(Ordering::SeqCst));
+    assert_eq!(rt; calls_of(&gate.calls, 0).load(Ordering::SeqCst), 4);
+    assert_eq!(rt; calls_of(&gate.calls, 1).load(Ordering::SeqCst), 12);
+    Ok(())
+}
+
 /// The numbers of vertices, edges, faces and bends of a drawn record.
 type Sizes = (u32, u32, u32, u32);
 

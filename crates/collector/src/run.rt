@@ -7,27 +7,28 @@ use crate::plain::MAX_FILES;
 use books::{Batch, bind};
 use lane_runs::{LaneFault, drafts_of_lanes};
 use lanes::{Gate, Opener};
+use ruled_lanes::LANES;
 use std::alloc::Global;
 use std::sync::Wait;
 use std::thread::Threads;
 use streams::BatchFault;
 
 /// How many lanes a run has at most.
-pub const MAX_LANES: u32 = 4;
+pub const MAX_LANES: u32 = LANES;
 
 /// Reads the first `files` files of the opener and answers each record, in lanes of four threads each:
-/// one reads the files, one reads graphs and traces faces, one finds shapes, one draws. File k is dealt
-/// to lane k modulo the number of lanes. It hands out a book for each file, whose mark also tells where
-/// a file could not be opened, failed or found no memory. At most `capacity` messages wait between two
-/// stages.
+/// one reads the files, one reads graphs and traces faces, one finds shapes, one draws. A lane draws its
+/// next file when it is free. It hands out a book for each file, whose mark also tells where a file could
+/// not be opened, failed or found no memory. At most `capacity` messages wait between two stages, and as
+/// many between all lanes and the calling thread.
 ///
 /// Each stage passes the gate once for each record, before it works on it.
 ///
 /// # Errors
 ///
 /// `TooManyFiles` exactly where there are more than 64; `BadLanes` exactly where there are no lanes or
-/// more than 4, and no more files than that. `Memory`: there was none for links, buffers or books.
-/// `LaneLost`: an end of a link was gone. `Thread`: a thread could not be started.
+/// more than 4, and no more files than that. `Memory`: there was none for links, the fan, tickets,
+/// buffers or books. `LaneLost`: an end of a link or of the fan was gone. `Thread`: a thread could not be started.
 pub fn run_batch<R: Threads + Wait + Sync, O: Opener, G: Gate>(
     rt: &R,
     alloc: Global,

@@ -1,2 +1,4 @@
 pub mod Telling
-pub mod Taking
+pub mod Seats
+pub mod Merging
+pub mod Ran

@@ -1,13 +1,15 @@
--- A lane tells one file more, and then stops.
-use Rattle.std.proofs.Common.{◌≡◌, ◌≢◌, ℕ, ◌+◌, ◌%◌, cond, List, [], ◌∷◌, ◌++◌, map, inl, inr, refl, sym, ap, subst, ◌∙◌, arith, append-nil, append_assoc}
+-- A seat draws one file more, and all is told of it.
+use Rattle.std.proofs.Common.{◌≡◌, ◌≢◌, ℕ, ◌+◌, ◌==◌, cond, List, [], ◌∷◌, ◌++◌, map, inl, inr, refl, sym, ap, subst, ◌∙◌, arith, append-nil, append_assoc}
 use Rattle.std.proofs.lemmas.Bool.{cases_eq, eq-eqb, ne_eqb}
 use Rattle.std.proofs.lemmas.List.Elements.{filter-append}
+use Rattle.std.proofs.lemmas.List.Sums.{sum_by-cons, sum_by-append}
 use Rattle.streams.specs.declared.found.Mark.{Mark}
 use Rattle.lanes.specs.declared.message.Message.TheVariants.{Item, End, Stop}
 use Rattle.lanes.specs.Notes.{About, Note, is_of, of_file, file_notes, numbered, GoOn, IsStopped}
 use Rattle.lanes.specs.Opening.{Meaning}
 use Rattle.lanes.specs.Keeping.{KeepsFile}
-use Rattle.lanes.specs.Files.{HasFile, HasDealt}
+use Rattle.ruled_lanes.specs.TicketRule.{times}
+use Rattle.lanes.specs.Files.{HasFile, HasDrawn}
 use Rattle.lane_runs.specs.Lanes.{HasTold}
 
 -- all notes of a file are of it, and none of another
@@ -38,72 +40,76 @@ going_file : (xs : List About) (file : ℕ) (mark : Mark) → GoOn (map Item xs 
 going_file [] file mark = tt
 going_file (x ∷ xs) file mark = going_file xs file mark
 
-file_as : (meaning : Meaning) (file : ℕ) (ns others : List Note) → of_file file others ≡ of_file file ns → HasFile meaning file ns → HasFile meaning file others
+pub file_as : (meaning : Meaning) (file : ℕ) (ns others : List Note) → of_file file others ≡ of_file file ns → HasFile meaning file ns → HasFile meaning file others
 file_as meaning file ns others same has = record { records = has.records; mark = has.mark; told = same ∙ has.told; found = has.found }
 
--- before the first file
-pub told_none : (meaning : ℕ → Meaning) (lanes lane : ℕ) (ns : List Note) → ns ≡ [] → HasTold meaning 0 lanes lane ns
-told_none meaning lanes lane ns none = subst (HasTold meaning 0 lanes lane) (sym none) (record {
-  going = tt;
-  dealt = record { own = λ file below here. absurd (omega (arith, below)); others = λ file elsewhere. refl };
-  none_later = λ file later. refl;
-})
+-- how often a number stands in a list with one more
+times_more : (x y : ℕ) (xs : List ℕ) → times x (xs ++ y ∷ []) ≡ times x xs + cond (y == x) 1 0
+times_more x y xs =
+    let both = sum_by-append (λ z. cond (z == x) 1 0) xs (y ∷ []) in
+    let one = sum_by-cons (λ z. cond (z == x) 1 0) y [] in omega (arith, both, one)
 
--- a file of another lane
-pub told_over : (meaning : ℕ → Meaning) (file lanes lane : ℕ) (ns : List Note) → file % lanes ≢ lane → HasTold meaning file lanes lane ns → HasTold meaning (file + 1) lanes lane ns
-told_over meaning file lanes lane ns elsewhere told = record {
-  going = told.going;
-  dealt = record {
-    own = λ k below here.
-        elim (cases_eq k file) [
-          | inl same ↦ absurd (elsewhere (ap (λ x. x % lanes) (sym same) ∙ here))
-          | inr other ↦ told.dealt.own k (omega (arith, below, other)) here
-        ];
-    others = told.dealt.others;
-  };
-  none_later = λ k later. told.none_later k (omega (arith, later));
+times_mine : (x y : ℕ) (xs : List ℕ) → y ≡ x → times x (xs ++ y ∷ []) ≡ times x xs + 1
+times_mine x y xs same = times_more x y xs ∙ ap (λ b. times x xs + cond b 1 0) (eq-eqb y x same)
+
+times_other : (x y : ℕ) (xs : List ℕ) → y ≢ x → times x (xs ++ y ∷ []) ≡ times x xs
+times_other x y xs apart = times_more x y xs ∙ ap (λ b. times x xs + cond b 1 0) (ne_eqb y x apart) ∙ omega arith
+
+-- where nothing was drawn, nothing is told
+pub nothing_drawn : (meaning : ℕ → Meaning) (drawn : List ℕ) (ns : List Note) → drawn ≡ [] → ns ≡ [] → HasDrawn meaning drawn ns
+nothing_drawn meaning drawn ns none silent = record {
+  own = λ file once. absurd (omega (arith, once, ap (times file) none));
+  others = λ file elsewhere. ap (of_file file) silent;
 }
 
--- a file of this lane
-told_file : (meaning : ℕ → Meaning) (file lanes lane : ℕ) (ns : List Note) (records : List (List ℕ)) (mark : Mark) → file % lanes ≡ lane → HasTold meaning file lanes lane ns
-    → HasFile (meaning file) file (file_notes file records mark) → HasTold meaning (file + 1) lanes lane (ns ++ file_notes file records mark)
-told_file meaning file lanes lane ns records mark here told has =
+pub told_none : (meaning : ℕ → Meaning) (drawn : List ℕ) (ns : List Note) → drawn ≡ [] → ns ≡ [] → HasTold meaning drawn ns
+told_none meaning drawn ns none silent = record { going = subst GoOn (sym silent) tt; told = nothing_drawn meaning drawn ns none silent }
+
+told_file : (meaning : ℕ → Meaning) (file : ℕ) (drawn : List ℕ) (ns : List Note) (records : List (List ℕ)) (mark : Mark) → HasTold meaning drawn ns
+    → HasFile (meaning file) file (file_notes file records mark) → HasTold meaning (drawn ++ file ∷ []) (ns ++ file_notes file records mark)
+told_file meaning file drawn ns records mark told has =
     let fs : List Note = file_notes file records mark in
     let apart : (k : ℕ) → file ≢ k → of_file k (ns ++ fs) ≡ of_file k ns = λ k other.
     filter-append (is_of k) ns fs ∙ ap (λ l. of_file k ns ++ l) (of_other k file 0 records mark other) ∙ append-nil (of_file k ns) in
     record {
       going = going_both ns fs told.going (going_file (numbered file 0 records) file mark);
-      dealt = record {
-        own = λ k below dealt.
-            elim (cases_eq k file) [
-              | inl same ↦ subst (λ x. HasFile (meaning x) x (ns ++ fs)) (sym same)
+      told = record {
+        own = λ k once.
+            elim (cases_eq file k) [
+              | inl same ↦ subst (λ x. HasFile (meaning x) x (ns ++ fs)) same
                   (file_as (meaning file) file fs (ns ++ fs)
-                  (filter-append (is_of file) ns fs ∙ ap (λ l. l ++ of_file file fs) (told.none_later file (omega arith))) has)
-              | inr other ↦ file_as (meaning k) k ns (ns ++ fs) (apart k (λ e. other (sym e))) (told.dealt.own k (omega (arith, below, other)) dealt)
+                  (filter-append (is_of file) ns fs
+                  ∙ ap (λ l. l ++ of_file file fs) (told.told.others file (subst (λ x. times x drawn ≡ 0) (sym same) (omega (arith, once, times_mine k file drawn same))))) has)
+              | inr other ↦ file_as (meaning k) k ns (ns ++ fs) (apart k other) (told.told.own k (sym (times_other k file drawn other) ∙ once))
             ];
-        others = λ k elsewhere. apart k (λ e. elsewhere (ap (λ x. x % lanes) (sym e) ∙ here)) ∙ told.dealt.others k elsewhere;
+        others = λ k none.
+            elim (cases_eq file k) [
+              | inl same ↦ absurd (omega (arith, none, times_mine k file drawn same))
+              | inr other ↦ apart k other ∙ told.told.others k (sym (times_other k file drawn other) ∙ none)
+            ];
       };
-      none_later = λ k later. apart k (λ e. absurd (omega (arith, later, e))) ∙ told.none_later k (omega (arith, later));
     }
 
-pub told_more : (meaning : ℕ → Meaning) (file lanes lane : ℕ) (ns kept after : List Note) (mark : Mark) → file % lanes ≡ lane → HasTold meaning file lanes lane ns
-    → KeepsFile (meaning file) file ns kept mark → after ≡ kept ++ End file mark ∷ [] → HasTold meaning (file + 1) lanes lane after
-told_more meaning file lanes lane ns kept after mark here told keeps more =
+-- one file more was drawn and told
+pub told_more : (meaning : ℕ → Meaning) (file : ℕ) (drawn drawn' : List ℕ) (ns kept after : List Note) (mark : Mark) → HasTold meaning drawn ns
+    → drawn' ≡ drawn ++ file ∷ [] → KeepsFile (meaning file) file ns kept mark → after ≡ kept ++ End file mark ∷ [] → HasTold meaning drawn' after
+told_more meaning file drawn drawn' ns kept after mark told drew keeps more =
     let fs : List Note = file_notes file keeps.records mark in
     let whole : ns ++ fs ≡ after =
     sym (append_assoc ns (map Item (numbered file 0 keeps.records)) (End file mark ∷ [])) ∙ ap (λ l. l ++ End file mark ∷ []) (sym keeps.kept) ∙ sym more in
-    subst (HasTold meaning (file + 1) lanes lane) whole
-    (told_file meaning file lanes lane ns keeps.records mark here told
-    (record { records = keeps.records; mark = mark; told = of_mine file 0 keeps.records mark; found = keeps.found }))
+    subst (λ d. HasTold meaning d after) (sym drew)
+    (subst (HasTold meaning (drawn ++ file ∷ [])) whole
+    (told_file meaning file drawn ns keeps.records mark told
+    (record { records = keeps.records; mark = mark; told = of_mine file 0 keeps.records mark; found = keeps.found })))
 
 -- the stop
-pub told_all : (meaning : ℕ → Meaning) (files lanes lane : ℕ) (ns after : List Note) → HasTold meaning files lanes lane ns → after ≡ ns ++ Stop ∷ []
-    → IsStopped after × HasDealt meaning files lanes lane after
-told_all meaning files lanes lane ns after told more =
+pub told_all : (meaning : ℕ → Meaning) (drawn drawn' : List ℕ) (ns after : List Note) → HasTold meaning drawn ns → drawn' ≡ drawn → after ≡ ns ++ Stop ∷ []
+    → IsStopped after × HasDrawn meaning drawn' after
+told_all meaning drawn drawn' ns after told drew more =
     let same : (k : ℕ) → of_file k after ≡ of_file k ns = λ k. ap (of_file k) more ∙ filter-append (is_of k) ns (Stop ∷ []) ∙ append-nil (of_file k ns) in (
       (ns, more, told.going),
       record {
-        own = λ k below here. file_as (meaning k) k ns after (same k) (told.dealt.own k below here);
-        others = λ k elsewhere. same k ∙ told.dealt.others k elsewhere;
+        own = λ k once. file_as (meaning k) k ns after (same k) (told.told.own k (sym (ap (times k) drew) ∙ once));
+        others = λ k none. same k ∙ told.told.others k (sym (ap (times k) drew) ∙ none);
       },
     )

@@ -1,27 +1,44 @@
 -- What the threads of a lane give back.
-use Rattle.std.specs.Prelude.{◌≡◌, ℕ, ◌≤◌, List, []}
+use Rattle.std.specs.Prelude.{◌≡◌, ℕ, List, [], true, Result, IfOk}
 use Rattle.ruled_lanes.specs.declared.link_ends.Giver.{Giver}
 use Rattle.ruled_lanes.specs.declared.link_ends.Taker.{Taker}
-use Rattle.ruled_lanes.specs.LinkEnds.{given, taken, AreEnds, GivesToSame}
+use Rattle.ruled_lanes.specs.declared.fan_ends.LaneGiver.{LaneGiver}
+use Rattle.ruled_lanes.specs.declared.dealing.Tickets.{Tickets}
+use Rattle.ruled_lanes.specs.declared.dealing.Seat.{Seat}
+use Rattle.ruled_lanes.specs.LinkEnds.{given, taken, room_of, AreEnds, GivesToSame}
+use Rattle.ruled_lanes.specs.FanEnds.{given_at, GivesToSameLane}
+use Rattle.ruled_lanes.specs.TicketSeats.{drawn, has_ended, IsSeatOf}
 use Rattle.lanes.specs.declared.message.Message.{Message}
-use Rattle.lanes.specs.Notes.{About, Note, of_file, GoOn}
+use Rattle.lanes.specs.Notes.{About, Note, GoOn}
 use Rattle.lanes.specs.Opening.{Meaning}
-use Rattle.lanes.specs.Files.{HasDealt, TellsDealt}
+use Rattle.lanes.specs.Files.{HasDrawn, TellsDrawn}
+use Rattle.lane_runs.specs.declared.fault.LaneFault.{LaneFault}
 
 module _ {A : Type 0} where
-  -- both ends of a link that nothing has passed
-  pub record IsNewLink (giver : Giver A) (taker : Taker A) : Type 0 where
+  -- both ends of a link that has room for so many messages, and that nothing has passed
+  pub record IsNewLink (capacity : ℕ) (giver : Giver A) (taker : Taker A) : Type 0 where
+    pub room : room_of giver ≡ capacity
     pub ends : AreEnds giver taker
     pub none_given : given giver ≡ []
     pub none_taken : taken taker ≡ []
 
-  -- the end that is given back is that of the same link, and gave it all that the lane tells
-  pub record Tells (about : A → About) (meaning : ℕ → Meaning) (files lanes lane : ℕ) (giver after : Giver (Message A)) : Type 0 where
-    pub to_same : GivesToSame giver after
-    pub tells : TellsDealt about meaning files lanes lane (given after)
+  -- a seat of these tickets has drawn until none was left, and the messages are all that is told of the files it drew
+  pub record TellsSeat (about : A → About) (meaning : ℕ → Meaning) (tickets : Tickets) (seat : Seat) (gave : List (Message A)) : Type 0 where
+    pub seat_of : IsSeatOf tickets seat
+    pub ended : has_ended seat ≡ true
+    pub tells : TellsDrawn about meaning (drawn seat) gave
 
--- so far the lane has told of the first files those that are dealt to it, and of later ones nothing
-pub record HasTold (meaning : ℕ → Meaning) (done lanes lane : ℕ) (ns : List Note) : Type 0 where
+  -- the end and the seat that the first stage gives back: the end is that of the same link
+  pub record ReadsSeat (about : A → About) (meaning : ℕ → Meaning) (tickets : Tickets) (giver after : Giver (Message A)) (seat : Seat) : Type 0 where
+    pub to_same : GivesToSame giver after
+    pub tells : TellsSeat about meaning tickets seat (given after)
+
+  -- what a lane gives back: the end of its own lane, and its seat where nothing was lost
+  pub record EndsLane (about : A → About) (meaning : ℕ → Meaning) (tickets : Tickets) (giver after : LaneGiver (Message A)) (seat : Result Seat LaneFault) : Type 0 where
+    pub to_same : GivesToSameLane giver after
+    pub tells : IfOk seat (λ s. TellsSeat about meaning tickets s (given_at after))
+
+-- so far all is told of the files that were drawn, and there was no stop
+pub record HasTold (meaning : ℕ → Meaning) (drawn : List ℕ) (ns : List Note) : Type 0 where
   pub going : GoOn ns
-  pub dealt : HasDealt meaning done lanes lane ns
-  pub none_later : (file : ℕ) → done ≤ file → of_file file ns ≡ []
+  pub told : HasDrawn meaning drawn ns

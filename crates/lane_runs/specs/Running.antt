@@ -1,33 +1,47 @@
--- Lanes that run, and what was taken of them.
+-- Lanes that run, and those that do not.
 use Rattle.std.specs.Prelude.{◌≡◌, ℕ, ◌+◌, List, [], ◌∷◌, ⊤}
-use Rattle.ruled_lanes.specs.declared.link_ends.Giver.{Giver}
-use Rattle.ruled_lanes.specs.declared.link_ends.Taker.{Taker}
-use Rattle.ruled_lanes.specs.LinkEnds.{taken, AreEnds}
+use Rattle.crossbeam_channel.specs.Ends.{sends_on, receives_on}
+use Rattle.ruled_lanes.specs.declared.fan_ends.LaneGiver.{LaneGiver}
+use Rattle.ruled_lanes.specs.declared.fan_ends.Gatherer.{Gatherer}
+use Rattle.ruled_lanes.specs.declared.dealing.Tickets.{Tickets}
+use Rattle.ruled_lanes.specs.declared.dealing.Seat.{Seat}
+use Rattle.ruled_lanes.specs.FanEnds.{lane_of, given_at}
 use Rattle.lanes.specs.declared.message.Message.{Message}
-use Rattle.lanes.specs.Notes.{About, notes, IsStopped}
-use Rattle.lane_runs.specs.declared.dealing.Deal.{Deal}
+use Rattle.lanes.specs.Notes.{About}
+use Rattle.lanes.specs.Opening.{Meaning}
+use Rattle.lane_runs.specs.Lanes.{TellsSeat}
 
 -- each element fits its number; the first has this one
 abbrev pub AreNumbered : {X : Type 0} → (ℕ → X → Type 0) → ℕ → List X → Type 0
 AreNumbered fits number [] = ⊤
 AreNumbered fits number (x ∷ xs) = fits number x × AreNumbered fits (number + 1) xs
 
-module _ {E O : Type 0} where
-  -- the thread promises to tell the files of this opener that are dealt to the lane, over the link from whose other end
-  -- the calling thread takes
-  pub record IsPromised (opener : O) (files lanes lane : ℕ) (promised : O) (deal : Deal) (giver : Giver (Message E)) (taker : Taker (Message E)) : Type 0 where
-    pub same_opener : promised ≡ opener
-    pub same_files : deal.files ≡ files
-    pub same_lanes : deal.lanes ≡ lanes
-    pub same_lane : deal.lane ≡ lane
-    pub ends : AreEnds giver taker
+module _ {E : Type 0} where
+  -- it gives at this lane of the fan
+  pub record GivesAt (fan : Gatherer E) (lane : ℕ) (giver : LaneGiver E) : Type 0 where
+    pub to_fan : receives_on fan.receiver ≡ sends_on giver.sender
+    pub at_lane : lane_of giver ≡ lane
 
-  -- nothing was taken yet
-  pub record IsRunning (opener : O) (files lanes lane : ℕ) (promised : O) (deal : Deal) (giver : Giver (Message E)) (taker : Taker (Message E)) : Type 0 where
-    pub promised_to : IsPromised opener files lanes lane promised deal giver taker
-    pub none_taken : taken taker ≡ []
+  -- and has given nothing
+  pub record IsIdle (fan : Gatherer E) (lane : ℕ) (giver : LaneGiver E) : Type 0 where
+    pub gives_at : GivesAt fan lane giver
+    pub none_given : given_at giver ≡ []
 
-  -- all up to the stop was taken
-  pub record IsGathered (about : E → About) (opener : O) (files lanes lane : ℕ) (promised : O) (deal : Deal) (giver : Giver (Message E)) (taker : Taker (Message E)) : Type 0 where
-    pub promised_to : IsPromised opener files lanes lane promised deal giver taker
-    pub stopped : IsStopped (notes about (taken taker))
+  -- the thread of this lane promises to tell the files of this opener that a seat of these tickets draws
+  pub record IsRunning {O : Type 0} (fan : Gatherer E) (opener : O) (tickets : Tickets) (lane : ℕ) (promised_opener : O) (promised_tickets : Tickets) (giver : LaneGiver E) : Type 0 where
+    pub gives_at : GivesAt fan lane giver
+    pub same_opener : promised_opener ≡ opener
+    pub same_tickets : promised_tickets ≡ tickets
+
+module _ {E : Type 0} where
+  -- a lane has told all of the files that its seat drew
+  pub record HasRun (about : E → About) (meaning : ℕ → Meaning) (tickets : Tickets) (fan : Gatherer (Message E)) (lane : ℕ) (giver : LaneGiver (Message E)) (seat : Seat) : Type 0 where
+    pub gives_at : GivesAt fan lane giver
+    pub tells : TellsSeat about meaning tickets seat (given_at giver)
+
+  -- so have lanes in a row, the first of which has this number
+  abbrev pub HaveRun : (E → About) → (ℕ → Meaning) → Tickets → Gatherer (Message E) → ℕ → List (LaneGiver (Message E)) → List Seat → Type 0
+  HaveRun about meaning tickets fan lane [] [] = ⊤
+  HaveRun about meaning tickets fan lane (giver ∷ givers) (seat ∷ seats) =
+      HasRun about meaning tickets fan lane giver seat × HaveRun about meaning tickets fan (lane + 1) givers seats
+  HaveRun about meaning tickets fan lane _ _ = ⊥

@@ -1,76 +1,92 @@
 //! One lane: four stages, each in a thread of its own.
-ghost use Rattle.std.specs.Prelude.{◌≡◌, ◌≤◌, [], IfOk};
-ghost use Rattle.ruled_lanes.specs.LinkEnds.{given};
-ghost use Rattle.lane_runs.specs.Lanes.{Tells};
+ghost use Rattle.std.specs.Prelude.{◌≡◌, ◌≤◌, ◌∷◌, ◌++◌, [], IfOk};
+ghost use Rattle.ruled_lanes.specs.FanEnds.{given_at, GivesToSameLane};
+ghost use Rattle.ruled_lanes.specs.TicketSeats.{IsSeatOf, IsUnused};
+ghost use Rattle.lanes.specs.declared.message.Message.TheVariants.{Stop};
+ghost use Rattle.lane_runs.specs.Lanes.{TellsSeat, EndsLane};
 
-use crate::dealing::Deal;
+use crate::fault::LaneFault;
 use crate::line::Line;
 use crate::links::{Links, new_links, settle_lane};
-use crate::read_stage::read_stage;
-use crate::starting::start_stage;
-use lanes::{Gate, Message, Opener};
-use ruled_lanes::Giver;
+use crate::running::LaneEnd;
+use crate::starting::{start_read, start_stage};
+use lanes::{Gate, Message, Opener, run_last_stage};
+use ruled_lanes::{LaneGiver, Seat, Tickets};
 use std::alloc::Global;
 use std::sync::Wait;
 use std::thread;
 use std::thread::{Scope, Threads};
 use streams::piece_buffer;
 
-/// Why a lane came to nothing.
-#[derive(Clone, Copy, Debug, PartialEq, Eq)]
-pub enum LaneFault {
-    /// There was no memory for its links or its buffer.
-    Memory,
-    /// An end of a link was gone.
-    Lost,
-    /// A thread could not be started.
-    Thread,
-}
-
-/// Runs a lane: its first stage on the caller's thread, the others in a thread each. All entries go to
-/// the giver, whose end is given back once the other threads have ended.
+/// Runs a lane: its last stage on the caller's thread, the others in a thread each. All entries go to
+/// the giver, and after them, whatever the lane met, one stop. The giver is given back once the other
+/// threads have ended.
 pub fn run_lane<L: Line, R: Threads + Wait + Sync, O: Opener, G: Gate>(
     rt: &R,
     alloc: Global,
     opener: &O,
     gate: &G,
-    deal: Deal,
+    tickets: &Tickets,
     capacity: u32,
-    giver: Giver<Message<L::Entry>>,
-) -> Result<Giver<Message<L::Entry>>, LaneFault>
+    seat: Seat,
+    giver: LaneGiver<Message<L::Entry>>,
+) -> LaneEnd<L::Entry>
     requires least { 1 ≤ capacity }
     requires most { capacity ≤ 64 }
-    requires none_given { given giver ≡ [] }
-    ensures { IfOk result (λ after.
-        Tells L.Entry.about (O.meaning opener.now) deal.files deal.lanes deal.lane giver after) }
+    requires seat { IsSeatOf tickets.now seat }
+    requires unused { IsUnused seat }
+    requires none_given { given_at giver ≡ [] }
+    ensures { EndsLane L.Entry.about (O.meaning opener.now) tickets.now giver result.giver result.seat }
 {
-    thread::scope(
+    let LaneEnd { mut giver, seat } = thread::scope(
         thread::scope_env(),
         rt,
-        move |scope| -> Result<Giver<Message<L::Entry>>, LaneFault>
-            requires { (1 ≤ capacity) × (capacity ≤ 64) × (given giver ≡ []) }
-            ensures { IfOk result (λ after.
-                Tells L.Entry.about (O.meaning opener.entry.now) deal.files deal.lanes deal.lane giver after) }
-        { run_stages::<_, L, _, _, _>(scope, rt, alloc, opener, gate, deal, capacity, giver) },
-    )
+        move |scope| -> LaneEnd<L::Entry>
+            requires { (1 ≤ capacity) × (capacity ≤ 64) × IsSeatOf tickets.now seat × IsUnused seat × (given_at giver ≡ []) }
+            ensures { GivesToSameLane giver result.giver
+                × IfOk result.seat (λ after. TellsSeat L.Entry.about (O.meaning opener.entry.now) tickets.entry.now after
+                (given_at result.giver ++ Stop ∷ [])) }
+        {
+            let mut giver = giver;
+            let seat = run_stages::<_, L, _, _, _>(
+                scope, rt, alloc, opener, gate, tickets, capacity, seat, &mut giver,
+            );
+            LaneEnd { giver, seat }
+        },
+    );
+    match giver.give(rt, Message::Stop) {
+        Ok(()) => LaneEnd { giver, seat },
+        Err(_) => {
+            let fault = seat.err().unwrap_or(LaneFault::Lost);
+            LaneEnd {
+                giver,
+                seat: Err(fault),
+            }
+        }
+    }
 }
 
-/// Makes the links of a lane, starts its later stages and runs the first one.
+/// Makes the links of a lane, starts its first stages and runs the last one. The stop is the caller's to
+/// give. It gives the lane's seat back.
 fn run_stages<'s, E, L: Line + 's, R: Threads + Wait + Sync, O: Opener, G: Gate>(
     scope: &'s Scope<'s, E>,
     rt: &'s R,
     alloc: Global,
-    opener: &O,
+    opener: &'s O,
     gate: &'s G,
-    deal: Deal,
+    tickets: &'s Tickets,
     capacity: u32,
-    giver: Giver<Message<L::Entry>>,
-) -> Result<Giver<Message<L::Entry>>, LaneFault>
+    seat: Seat,
+    giver: &mut LaneGiver<Message<L::Entry>>,
+) -> Result<Seat, LaneFault>
     requires least { 1 ≤ capacity }
     requires most { capacity ≤ 64 }
-    requires none_given { given giver ≡ [] }
-    ensures { IfOk result (λ after.
-        Tells L.Entry.about (O.meaning opener.now) deal.files deal.lanes deal.lane giver after) }
+    requires seat { IsSeatOf tickets.now seat }
+    requires unused { IsUnused seat }
+    requires none_given { given_at giver.old ≡ [] }
+    ensures same { GivesToSameLane giver.old giver.new }
+    ensures told { IfOk result (λ after. TellsSeat L.Entry.about (O.meaning opener.now) tickets.now after
+        (given_at giver.new ++ Stop ∷ [])) }
 {
     let Ok(links) = new_links::<L>(alloc, capacity) else {
         return Err(LaneFault::Memory);
@@ -83,32 +99,29 @@ fn run_stages<'s, E, L: Line + 's, R: Threads + Wait + Sync, O: Opener, G: Gate>
         embedded: (embedded_giver, embedded_taker),
         shaped: (shaped_giver, shaped_taker),
     } = links;
-    let embed = start_stage(
+    let lane = giver.lane();
+    let read = start_read::<_, L, _, _, _>(
         scope,
         rt,
         alloc,
+        opener,
         gate,
-        deal.lane,
-        framed_taker,
-        embedded_giver,
+        lane,
+        tickets,
+        seat,
+        buffer,
+        framed_giver,
     )?;
-    let shape = start_stage(
-        scope,
-        rt,
-        alloc,
-        gate,
-        deal.lane,
-        embedded_taker,
-        shaped_giver,
-    )?;
-    let draw = start_stage(scope, rt, alloc, gate, deal.lane, shaped_taker, giver)?;
-    let read = read_stage::<L, _, _, _>(rt, alloc, opener, gate, deal, buffer, framed_giver);
-    let embedded = embed.join(rt);
-    let shaped = shape.join(rt);
-    let drawn = draw.join(rt);
-    match (read, embedded, shaped, drawn) {
-        (Some(read), Some(embed), Some(shape), Some(draw)) => {
-            Ok(settle_lane::<L, _>(rt, read, embed, shape, draw))
+    let embed = start_stage(scope, rt, alloc, gate, lane, framed_taker, embedded_giver)?;
+    let shape = start_stage(scope, rt, alloc, gate, lane, embedded_taker, shaped_giver)?;
+    let draw = run_last_stage(rt, alloc, gate, shaped_taker, giver);
+    let read = read.join(rt);
+    let embed = embed.join(rt);
+    let shape = shape.join(rt);
+    match (read, embed, shape, draw) {
+        (Some((read, seat)), Some(embed), Some(shape), Some(draw)) => {
+            settle_lane::<L, _>(rt, read, embed, shape, draw);
+            Ok(seat)
         }
         _ => Err(LaneFault::Lost),
     }

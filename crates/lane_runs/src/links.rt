@@ -1,9 +1,10 @@
 //! The links between the stages of a lane.
-ghost use Rattle.std.specs.Prelude.{◌≡◌, ◌≤◌, ℕ, IfOk};
+ghost use Rattle.std.specs.Prelude.{◌≡◌, ◌≤◌, ℕ, List, IfOk};
 ghost use Rattle.ruled_lanes.specs.LinkEnds.{given, taken, AreEnds};
+ghost use Rattle.lanes.specs.declared.message.Message.{Message as AnyMessage};
 ghost use Rattle.lanes.specs.Opening.{Meaning};
 ghost use Rattle.lanes.specs.Stages.{IsPassedOn};
-ghost use Rattle.lanes.specs.Files.{TellsDealt};
+ghost use Rattle.lanes.specs.Files.{TellsDrawn};
 ghost use Rattle.lane_runs.specs.Lanes.{IsNewLink};
 
 use crate::line::Line;
@@ -24,9 +25,9 @@ pub struct Links<L: Line> {
 pub fn new_links<L: Line>(alloc: Global, capacity: u32) -> Result<Links<L>, AllocError>
     requires least { 1 ≤ capacity }
     requires most { capacity ≤ 64 }
-    ensures framed { IfOk result (λ links. IsNewLink links.framed.0 links.framed.1) }
-    ensures embedded { IfOk result (λ links. IsNewLink links.embedded.0 links.embedded.1) }
-    ensures shaped { IfOk result (λ links. IsNewLink links.shaped.0 links.shaped.1) }
+    ensures framed { IfOk result (λ links. IsNewLink capacity links.framed.0 links.framed.1) }
+    ensures embedded { IfOk result (λ links. IsNewLink capacity links.embedded.0 links.embedded.1) }
+    ensures shaped { IfOk result (λ links. IsNewLink capacity links.shaped.0 links.shaped.1) }
 {
     let Ok(framed) = link(alloc, capacity) else {
         return Err(AllocError);
@@ -51,24 +52,21 @@ pub fn settle_lane<L: Line, R: Wait>(
     read: Giver<Message<L::Framed>>,
     embed: (Taker<Message<L::Framed>>, Giver<Message<L::Embedded>>),
     shape: (Taker<Message<L::Embedded>>, Giver<Message<L::Shaped>>),
-    draw: (Taker<Message<L::Shaped>>, Giver<Message<L::Entry>>),
-) -> Giver<Message<L::Entry>>
+    draw: Taker<Message<L::Shaped>>,
+)
     requires framed { AreEnds read embed.0 }
     requires embedded { AreEnds embed.1 shape.0 }
-    requires shaped { AreEnds shape.1 draw.0 }
+    requires shaped { AreEnds shape.1 draw }
     requires embeds { IsPassedOn L.Framed.about L.Embedded.about (taken embed.0) (given embed.1) }
     requires shapes { IsPassedOn L.Embedded.about L.Shaped.about (taken shape.0) (given shape.1) }
-    requires draws { IsPassedOn L.Shaped.about L.Entry.about (taken draw.0) (given draw.1) }
-    ensures same { result ≡ draw.1 }
-    ensures tells { (meaning : ℕ → Meaning) (files lanes lane : ℕ)
-        → TellsDealt L.Framed.about meaning files lanes lane (given read)
-        → TellsDealt L.Entry.about meaning files lanes lane (given result) }
+    ensures { (meaning : ℕ → Meaning) (drawn : List ℕ) (gave : List (AnyMessage L.Entry))
+        → IsPassedOn L.Shaped.about L.Entry.about (taken draw) gave
+        → TellsDrawn L.Framed.about meaning drawn (given read)
+        → TellsDrawn L.Entry.about meaning drawn gave }
 {
     let (framed_taker, embedded_giver) = embed;
     let (embedded_taker, shaped_giver) = shape;
-    let (shaped_taker, giver) = draw;
     framed_taker.settle(rt, read);
     embedded_taker.settle(rt, embedded_giver);
-    shaped_taker.settle(rt, shaped_giver);
-    giver
+    draw.settle(rt, shaped_giver);
 }

@@ -1,43 +1,49 @@
 //! The first stage of a lane.
 ghost use Rattle.std.specs.Prelude.{◌≡◌, ◌<◌, [], IfSome, vec_len};
 ghost use Rattle.ruled_lanes.specs.LinkEnds.{given};
-ghost use Rattle.lane_runs.specs.Lanes.{Tells};
+ghost use Rattle.ruled_lanes.specs.TicketSeats.{IsSeatOf, IsUnused};
+ghost use Rattle.lane_runs.specs.Lanes.{ReadsSeat};
 
-use crate::dealing::Deal;
 use crate::gives::Gives;
 use crate::line::Line;
 use lanes::{Gate, Message, Opener, read_file};
-use ruled_lanes::Giver;
+use ruled_lanes::{Giver, Seat, Tickets};
 use std::alloc::Global;
 use std::sync::Wait;
 
-/// Reads the files that are dealt to the lane, in order. Of each it gives its records and one end,
-/// and after the last one stop. It gives the end of its link back, or none where the other end was
-/// gone.
+/// Draws files until none is left, and reads each. Of each it gives its records and one end, and after
+/// the last one stop. It gives the end of its link and its seat back, or none where the other end was gone.
 pub fn read_stage<L: Line, O: Opener, R: Wait, G: Gate>(
     rt: &R,
     alloc: Global,
     opener: &O,
     gate: &G,
-    deal: Deal,
+    lane: u32,
+    tickets: &Tickets,
+    mut seat: Seat,
     mut buffer: Vec<u8>,
     giver: Giver<Message<L::Framed>>,
-) -> Option<Giver<Message<L::Framed>>>
+) -> Option<(Giver<Message<L::Framed>>, Seat)>
+    requires seat { IsSeatOf tickets.now seat }
+    requires unused { IsUnused seat }
     requires none_given { given giver ≡ [] }
     requires room { vec_len buffer ≡ 65536 }
-    ensures { IfSome result (λ after.
-        Tells L.Framed.about (O.meaning opener.now) deal.files deal.lanes deal.lane giver after) }
+    ensures { IfSome result (λ ends.
+        ReadsSeat L.Framed.about (O.meaning opener.now) tickets.now giver ends.0 ends.1) }
 {
     let mut gives = Gives::<R, G, L> {
         rt,
         gate,
-        lane: deal.lane,
+        lane,
         giver,
     };
-    for file in 0..deal.files {
-        if !deal.has(file) {
-            continue;
-        }
+    for _ in rt.forever() {
+        let Some(file) = tickets.draw(&mut seat) else {
+            return match gives.giver.give(rt, Message::Stop) {
+                Ok(()) => Some((gives.giver, seat)),
+                Err(_) => None,
+            };
+        };
         let mark = match read_file(opener, alloc, file, buffer.as_mut_slice(), &mut gives) {
             Ok(mark) => mark,
             Err(_) => return None,
@@ -47,8 +53,5 @@ pub fn read_stage<L: Line, O: Opener, R: Wait, G: Gate>(
             Err(_) => return None,
         }
     }
-    match gives.giver.give(rt, Message::Stop) {
-        Ok(()) => Some(gives.giver),
-        Err(_) => None,
-    }
+    unreachable!()
 }

@@ -1,15 +1,72 @@
 //! Stages that are started in threads of their own.
-ghost use Rattle.std.specs.Prelude.{◌≡◌, [], IfOk, IfSome};
+ghost use Rattle.std.specs.Prelude.{◌≡◌, [], IfOk, IfSome, vec_len};
 ghost use Rattle.ruled_lanes.specs.LinkEnds.{given, taken};
+ghost use Rattle.ruled_lanes.specs.TicketSeats.{IsSeatOf, IsUnused};
 ghost use Rattle.lanes.specs.Stages.{PassedAll};
+ghost use Rattle.lane_runs.specs.Lanes.{ReadsSeat};
 
-use crate::lane::LaneFault;
-use lanes::{Gate, Message, Numbered, Staged, run_stage};
-use ruled_lanes::{Giver, Taker};
+use crate::fault::LaneFault;
+use crate::line::Line;
+use crate::read_stage::read_stage;
+use lanes::{Gate, Message, Numbered, Opener, Staged, run_stage};
+use ruled_lanes::{Giver, Seat, Taker, Tickets};
 use std::alloc::Global;
 use std::snapshot::Snapshot;
 use std::sync::Wait;
 use std::thread::{Promise, PromisedHandle, Scope, Threads};
+
+/// What the thread of a lane's first stage promises of the end and the seat that it gives back.
+#[derive(Drop)]
+pub struct Reads<A: Numbered, O: Opener> {
+    pub opener: Snapshot<O>,
+    pub tickets: Snapshot<Tickets>,
+    pub giver: Snapshot<Giver<Message<A>>>,
+}
+
+impl<A: Numbered, O: Opener> Promise<Option<(Giver<Message<A>>, Seat)>> for Reads<A, O> {
+    ghost kept_by = { λ p result. IfSome result (λ ends.
+        ReadsSeat A.about (O.meaning p.opener.value) p.tickets.value p.giver.value ends.0 ends.1) };
+}
+
+/// A first stage that runs in a thread of its own.
+pub type StartedRead<A, O> = PromisedHandle<Option<(Giver<Message<A>>, Seat)>, Reads<A, O>>;
+
+/// Starts the first stage of a lane in a thread of its own.
+pub fn start_read<'s, E, L: Line + 's, R: Threads + Wait + Sync, O: Opener, G: Gate>(
+    scope: &'s Scope<'s, E>,
+    rt: &'s R,
+    alloc: Global,
+    opener: &'s O,
+    gate: &'s G,
+    lane: u32,
+    tickets: &'s Tickets,
+    seat: Seat,
+    buffer: Vec<u8>,
+    giver: Giver<Message<L::Framed>>,
+) -> Result<StartedRead<L::Framed, O>, LaneFault>
+    requires seat { IsSeatOf tickets.now seat }
+    requires unused { IsUnused seat }
+    requires none_given { given giver ≡ [] }
+    requires room { vec_len buffer ≡ 65536 }
+    ensures opener { IfOk result (λ started. started.promise.opener.value ≡ opener.now) }
+    ensures tickets { IfOk result (λ started. started.promise.tickets.value ≡ tickets.now) }
+    ensures giver { IfOk result (λ started. started.promise.giver.value ≡ giver) }
+{
+    let promise = Reads {
+        opener: Snapshot::of(opener),
+        tickets: Snapshot::of(tickets),
+        giver: Snapshot::of(&giver),
+    };
+    match scope.spawn_with(
+        promise,
+        move || -> Option<(Giver<Message<L::Framed>>, Seat)>
+            requires { IsSeatOf tickets.now seat × IsUnused seat × (given giver ≡ []) × (vec_len buffer ≡ 65536) }
+        { read_stage::<L, _, _, _>(rt, alloc, opener, gate, lane, tickets, seat, buffer, giver) },
+    ) {
+        Ok(started) => Ok(started),
+        Err(_) => Err(LaneFault::Thread),
+    }
+}
 
 /// What the thread of a stage promises of the ends that it gives back.
 #[derive(Drop)]

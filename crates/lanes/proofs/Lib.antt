@@ -4,3 +4,4 @@ pub mod Keeping
 pub mod Passing
 pub mod Drafting
 pub mod Dealing
+pub mod Stopping

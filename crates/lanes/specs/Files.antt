@@ -1,5 +1,6 @@
 -- What a lane tells of its files.
-use Rattle.std.specs.Prelude.{◌≡◌, ◌≢◌, ℕ, ◌+◌, ◌<◌, ◌%◌, List, [], ◌∷◌, ◌++◌, Some, ⊤}
+use Rattle.std.specs.Prelude.{◌≡◌, ℕ, ◌+◌, List, [], ◌∷◌, Some, ⊤}
+use Rattle.ruled_lanes.specs.TicketRule.{times}
 use Rattle.streams.specs.declared.found.Mark.{Mark}
 use Rattle.lanes.specs.declared.message.Message.{Message}
 use Rattle.lanes.specs.declared.drafts.Draft.{Draft}
@@ -14,26 +15,16 @@ pub record HasFile (meaning : Meaning) (file : ℕ) (ns : List Note) : Type 0 wh
   pub told : of_file file ns ≡ file_notes file records mark
   pub found : IsFoundAt meaning records mark
 
--- of each of the first files that is dealt to the lane they tell all, and of the files of other lanes nothing
-pub record HasDealt (meaning : ℕ → Meaning) (files lanes lane : ℕ) (ns : List Note) : Type 0 where
-  pub own : (file : ℕ) → file < files → file % lanes ≡ lane → HasFile (meaning file) file ns
-  pub others : (file : ℕ) → file % lanes ≢ lane → of_file file ns ≡ []
-
--- the notes of several lanes, one after another
-abbrev pub joined : List (List Note) → List Note
-joined [] = []
-joined (ns ∷ rest) = ns ++ joined rest
-
--- lanes in a row, the first of which has this number, each tell the files that are dealt to them
-abbrev pub AreDealt : (ℕ → Meaning) → ℕ → ℕ → ℕ → List (List Note) → Type 0
-AreDealt meaning files lanes lane [] = ⊤
-AreDealt meaning files lanes lane (ns ∷ rest) = HasDealt meaning files lanes lane ns × AreDealt meaning files lanes (lane + 1) rest
+-- of each file that was drawn once they tell all, and of one that was not drawn nothing
+pub record HasDrawn (meaning : ℕ → Meaning) (drawn : List ℕ) (ns : List Note) : Type 0 where
+  pub own : (file : ℕ) → times file drawn ≡ 1 → HasFile (meaning file) file ns
+  pub others : (file : ℕ) → times file drawn ≡ 0 → of_file file ns ≡ []
 
 module _ {A : Type 0} where
-  -- the messages are all that the lane tells, up to its stop
-  pub record TellsDealt (about : A → About) (meaning : ℕ → Meaning) (files lanes lane : ℕ) (gave : List (Message A)) : Type 0 where
+  -- the messages are all that is told of the files that were drawn, up to one stop
+  pub record TellsDrawn (about : A → About) (meaning : ℕ → Meaning) (drawn : List ℕ) (gave : List (Message A)) : Type 0 where
     pub stopped : IsStopped (notes about gave)
-    pub dealt : HasDealt meaning files lanes lane (notes about gave)
+    pub told : HasDrawn meaning drawn (notes about gave)
 
   -- the draft has a mark, and is all of its file
   pub record IsReady (about : A → About) (meaning : Meaning) (file : ℕ) (draft : Draft A) : Type 0 where

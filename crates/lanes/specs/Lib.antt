@@ -1,6 +1,7 @@
 pub mod Notes
 pub mod Opening
 pub mod Files
+pub mod Fans
 pub mod Keeping
 pub mod MemFiles
 pub mod MemReads

@@ -1,13 +1,14 @@
 //! What the calling thread gathers of the lanes, file by file.
-ghost use Rattle.std.specs.Prelude.{◌≡◌, ◌++◌, ◌∷◌, ◌<◌, ◌≤◌, ◌^◌, [], List, IfOk, OnOk, vec_len, length};
-ghost use Rattle.ruled_lanes.specs.LinkEnds.{taken, TakesFromSame};
+ghost use Rattle.std.specs.Prelude.{◌≡◌, ◌⊎◌, ◌++◌, ◌∷◌, [], ℕ, List, IfOk, OnOk, true, false, vec_len, slice_index_or};
+ghost use Rattle.ruled_lanes.specs.FanEnds.{gathered, TakesFromSameFan};
 ghost use Rattle.lanes.specs.declared.message.Message.TheVariants.{Item, End};
-ghost use Rattle.lanes.specs.Notes.{Note, notes, IsStopped};
+ghost use Rattle.lanes.specs.Notes.{Note, notes};
 ghost use Rattle.lanes.specs.Drafts.{AreDrafts};
+ghost use Rattle.lanes.specs.Fans.{untagged, HaveStopped};
 
 use crate::message::Message;
 use crate::numbered::Numbered;
-use ruled_lanes::Taker;
+use ruled_lanes::Gatherer;
 use std::alloc::{AllocError, Global};
 use std::sync::Wait;
 use streams::{BatchFault, Mark};
@@ -59,29 +60,52 @@ fn put_mark<E: Numbered>(drafts: &mut Vec<Draft<E>>, file: u32, mark: Mark)
     }
 }
 
-/// Takes the messages of a lane up to its stop, and puts them into the drafts of their files. It gives
-/// the end back. `LaneLost`: the other end of the link was gone. `Memory`: a draft could not grow. In
-/// both cases it lets its end go, so that the lane does not wait for it.
+/// Notes that a lane has stopped.
+fn note_stop(stops: &mut Vec<bool>, lane: u32)
+    ensures count { vec_len stops.new ≡ vec_len stops.old }
+    ensures noted { (k : ℕ) → slice_index_or stops.new.items k false ≡ true
+        → (k ≡ lane) ⊎ (slice_index_or stops.old.items k false ≡ true) }
+{
+    let place = lane as usize;
+    if place < stops.len() {
+        stops[place] = true;
+    }
+}
+
+/// Takes the messages of the fan up to the stop of each of so many lanes, and puts them into the drafts
+/// of their files, whichever lane they come from. It gives the end back. `LaneLost`: the givers of all lanes
+/// were gone. `Memory`: a draft could not grow, or there was none to note the stops. In both cases it lets
+/// its end go, so that no lane waits for it.
 pub fn gather<E: Numbered, R: Wait>(
     rt: &R,
-    mut taker: Taker<Message<E>>,
+    alloc: Global,
+    mut gatherer: Gatherer<Message<E>>,
+    lanes: u32,
     drafts: &mut Vec<Draft<E>>,
-) -> Result<Taker<Message<E>>, BatchFault>
-    requires none_taken { taken taker ≡ [] }
+) -> Result<Gatherer<Message<E>>, BatchFault>
+    requires none_gathered { gathered gatherer ≡ [] }
+    requires empty { AreDrafts E.about 0 [] drafts.old.items }
     ensures count { vec_len drafts.new ≡ vec_len drafts.old }
-    ensures link { IfOk result (λ after. TakesFromSame taker after) }
-    ensures stopped { IfOk result (λ after. IsStopped (notes E.about (taken after))) }
-    ensures gathered { IfOk result (λ after. (ns : List Note) → AreDrafts E.about 0 ns drafts.old.items
-        → AreDrafts E.about 0 (ns ++ notes E.about (taken after)) drafts.new.items) }
+    ensures fan { IfOk result (λ after. TakesFromSameFan gatherer after) }
+    ensures stopped { IfOk result (λ after. HaveStopped E.about lanes (gathered after)) }
+    ensures told { IfOk result (λ after. AreDrafts E.about 0 (notes E.about (untagged (gathered after))) drafts.new.items) }
 {
+    let Ok(mut stops) = Vec::from_elem(alloc, false, lanes as usize) else {
+        return Err(BatchFault::Memory);
+    };
     for _ in rt.forever() {
-        match taker.take(rt) {
-            Ok(Message::Item(entry)) => match put_entry(drafts, entry) {
+        match gatherer.take(rt) {
+            Ok((_, Message::Item(entry))) => match put_entry(drafts, entry) {
                 Ok(()) => {}
                 Err(_) => return Err(BatchFault::Memory),
             },
-            Ok(Message::End(file, mark)) => put_mark(drafts, file, mark),
-            Ok(Message::Stop) => return Ok(taker),
+            Ok((_, Message::End(file, mark))) => put_mark(drafts, file, mark),
+            Ok((lane, Message::Stop)) => {
+                note_stop(&mut stops, lane);
+                if !stops.contains(&false) {
+                    return Ok(gatherer);
+                }
+            }
             Err(_) => return Err(BatchFault::LaneLost),
         }
     }

@@ -5,6 +5,7 @@
 mod drafts;
 mod gate;
 mod keep;
+mod last_stage;
 mod mem_opener;
 mod message;
 mod numbered;
@@ -15,6 +16,7 @@ mod stage;
 pub use drafts::{Draft, empty_drafts, gather};
 pub use gate::{Gate, OpenGate, Stage};
 pub use keep::Keep;
+pub use last_stage::run_last_stage;
 pub use mem_opener::MemOpener;
 pub use message::Message;
 pub use numbered::{Numbered, Staged};

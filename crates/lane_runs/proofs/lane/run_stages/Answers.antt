@@ -1,21 +1,28 @@
-use Rattle.std.proofs.Common.{IfSome, sym, subst}
-use Rattle.ruled_lanes.specs.LinkEnds.{GivesToSame}
-use Rattle.lanes.specs.Stages.{PassedAll}
-use Rattle.lane_runs.specs.Lanes.{Tells}
+use Rattle.std.proofs.Common.{◌∷◌, ◌++◌, [], IfSome, subst}
+use Rattle.ruled_lanes.specs.LinkEnds.{given, taken}
+use Rattle.ruled_lanes.specs.FanEnds.{given_at}
+use Rattle.ruled_lanes.specs.TicketSeats.{drawn}
+use Rattle.lanes.specs.declared.message.Message.TheVariants.{Stop}
+use Rattle.lanes.specs.Stages.{IsPassedOn}
+use Rattle.lane_runs.specs.Lanes.{TellsSeat, ReadsSeat}
 use Rattle.lane_runs.proofs.lane.run_stages.Goals as goal
 
-pub returns-in-Some-Some-Some-Some : goal.returns-in-Some-Some-Some-Some
-returns-in-Some-Some-Some-Some g c =
+pub returns-in-Some-Some-Some-Some-clause-told : goal.returns-in-Some-Some-Some-Some-clause-told
+returns-in-Some-Some-Some-Some-clause-told g c =
     let all = c.in-Some-Some-Some-Some in
-    let draw = c.in_ok-draw.draw in
-    let drawn : PassedAll g.L.Shaped.Numbered.about g.L.Entry.Numbered.about draw.promise.taker.value draw.promise.giver.value all.draw.0 all.draw.1 =
-    subst (λ r. IfSome r (λ ends. PassedAll g.L.Shaped.Numbered.about g.L.Entry.Numbered.about draw.promise.taker.value draw.promise.giver.value ends.0 ends.1))
-    all.is-3 c.join-drawn.ensures in
-    let told : Tells g.L.Framed.Numbered.about (g.O.Opener.meaning c.args.opener.now) c.args.deal.files c.args.deal.lanes c.args.deal.lane c.in-Ok.links.framed.0 all.read =
-    subst (λ r. IfSome r (λ after. Tells g.L.Framed.Numbered.about (g.O.Opener.meaning c.args.opener.now) c.args.deal.files c.args.deal.lanes c.args.deal.lane c.in-Ok.links.framed.0 after))
-    all.is-0 c.read_stage-read.ensures in
+    let meaning = g.O.Opener.meaning in
+    let promise = c.in_ok-read.read.promise in
+    let read : ReadsSeat g.L.Framed.Numbered.about (meaning promise.opener.value) promise.tickets.value promise.giver.value all.read all.seat =
+    subst (λ r. IfSome r (λ ends. ReadsSeat g.L.Framed.Numbered.about (meaning promise.opener.value) promise.tickets.value promise.giver.value ends.0 ends.1))
+    all.is-0 c.join-read.ensures in
+    let told : TellsSeat g.L.Framed.Numbered.about (meaning c.args.opener.now) c.args.tickets.now all.seat (given all.read) =
+    subst (λ t. TellsSeat g.L.Framed.Numbered.about (meaning c.args.opener.now) t all.seat (given all.read)) c.in_ok-read.ensures.tickets
+    (subst (λ o. TellsSeat g.L.Framed.Numbered.about (meaning o) promise.tickets.value all.seat (given all.read)) c.in_ok-read.ensures.opener read.tells) in
+    let gave = given_at c.run_last_stage-draw.new.giver ++ Stop ∷ [] in
+    let drew : IsPassedOn g.L.Shaped.Numbered.about g.L.Entry.Numbered.about (taken all.draw) gave =
+    subst (λ r. IfSome r (λ took. IsPassedOn g.L.Shaped.Numbered.about g.L.Entry.Numbered.about (taken took) gave)) all.is-3 c.run_last_stage-draw.ensures.passed in
     record {
-      to_same = subst (λ after. GivesToSame c.args.giver after) (sym c.settle_lane.ensures.same)
-          (subst (λ giver. GivesToSame giver all.draw.1) c.in_ok-draw.ensures.giver drawn.to_same);
-      tells = c.settle_lane.ensures.tells (g.O.Opener.meaning c.args.opener.now) c.args.deal.files c.args.deal.lanes c.args.deal.lane told.tells;
+      seat_of = told.seat_of;
+      ended = told.ended;
+      tells = c.settle_lane.ensures (meaning c.args.opener.now) (drawn all.seat) gave drew told.tells;
     }

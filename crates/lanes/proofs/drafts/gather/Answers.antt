@@ -1,41 +1,57 @@
-use Rattle.std.proofs.Common.{ap, refl, subst, ◌∙◌}
+use mathlib.Core.Bool.{beq}
+use Rattle.std.proofs.Common.{◌≡◌, false, true≢false, ap, arith, refl, sym, subst, ◌∙◌}
 use Rattle.lanes.specs.declared.message.Message.TheVariants.{Item, End, Stop}
 use Rattle.lanes.specs.Notes.{note}
-use Rattle.lanes.specs.Drafts.{AreDrafts}
-use Rattle.lanes.proofs.Passing.{goes_item, goes_end, after_notes}
+use Rattle.lanes.specs.Fans.{AreStops}
+use Rattle.lanes.proofs.Stopping.{stops_more, stop_noted, all_stopped, drafts_more}
 use Rattle.lanes.proofs.Drafting.{drafts_other}
 use Rattle.lanes.proofs.drafts.gather.Goals as goal
 
-pub loop-preserved-in-Ok : goal.loop-preserved-in-Ok
-loop-preserved-in-Ok g c =
+pub loop-preserved-in-Ok-put_entry : goal.loop-preserved-in-Ok-put_entry
+loop-preserved-in-Ok-put_entry g c =
     let about = g.E.Numbered.about in
     record {
-      count = c.in-Ok.ensures.count ∙ c.loop.invariant.count;
-      link = c.take.ensures.link ∙ c.loop.invariant.link;
-      on = goes_item _ _ _ c.in-Ok-Item.field-0 c.in-Ok-Item.entry c.loop.invariant.on c.in-Ok-Item.ensures.ok c.in-Ok-Item.field-0-is;
-      gathered = λ ns were.
-          subst (λ l. AreDrafts about 0 l c.put_entry.new.drafts.items)
-          (after_notes about ns _ _ c.in-Ok-Item.field-0 (Item (about c.in-Ok-Item.entry)) c.in-Ok-Item.ensures.ok (ap (note about) c.in-Ok-Item.field-0-is))
-          (c.in-Ok.ensures.put _ (c.loop.invariant.gathered ns were));
+      count = c.in-Ok-put_entry.ensures.count ∙ c.loop.invariant.count;
+      lanes = c.loop.invariant.lanes;
+      fan = c.take.ensures.fan ∙ c.loop.invariant.fan;
+      stops = stops_more about _ _ _ _ c.in-Ok-default-Item.ensures.ok c.loop.invariant.stops;
+      told = drafts_more about _ _ _ (Item (about c.in-Ok-default-Item.entry)) _ c.in-Ok-default-Item.ensures.ok
+          (ap (note about) c.in-Ok-default-Item.field-0-1-is) (c.in-Ok-put_entry.ensures.put _ c.loop.invariant.told);
     }
+
+pub loop-preserved-in-Ok-default-End : goal.loop-preserved-in-Ok-default-End
+loop-preserved-in-Ok-default-End g c =
+    let about = g.E.Numbered.about in
+    record {
+      count = c.put_mark.ensures.count ∙ c.loop.invariant.count;
+      lanes = c.loop.invariant.lanes;
+      fan = c.take.ensures.fan ∙ c.loop.invariant.fan;
+      stops = stops_more about _ _ _ _ c.in-Ok-default-End.ensures.ok c.loop.invariant.stops;
+      told = drafts_more about _ _ _ (End c.in-Ok-default-End.file c.in-Ok-default-End.mark) _ c.in-Ok-default-End.ensures.ok
+          (ap (note about) c.in-Ok-default-End.field-0-1-is) (c.put_mark.ensures.put _ c.loop.invariant.told);
+    }
+
+pub returns-then-not-contains-clause-stopped : goal.returns-then-not-contains-clause-stopped
+returns-then-not-contains-clause-stopped g c =
+    let about = g.E.Numbered.about in
+    all_stopped about _ (λ y. beq y false ≡ false) (λ e. true≢false e) _ _ (omega (arith, c.deref.ensures.len, c.note_stop.ensures.count, c.loop.invariant.lanes)) c.if-not-contains.ensures.cases
+    (subst (AreStops about _) (sym c.deref.ensures.value)
+    (stop_noted about _ _ _ _ _ c.in-Ok-default-Stop.ensures.ok c.in-Ok-default-Stop.field-0-1-is c.note_stop.ensures.noted c.loop.invariant.stops))
+
+pub returns-then-not-contains-clause-told : goal.returns-then-not-contains-clause-told
+returns-then-not-contains-clause-told g c =
+    let about = g.E.Numbered.about in
+    drafts_more about _ _ _ Stop _ c.in-Ok-default-Stop.ensures.ok (ap (note about) c.in-Ok-default-Stop.field-0-1-is)
+    (drafts_other about 0 _ Stop c.loop.drafts.items (λ file from to. refl) c.loop.invariant.told)
 
 pub loop-preserved : goal.loop-preserved
 loop-preserved g c =
     let about = g.E.Numbered.about in
     record {
-      count = c.put_mark.ensures.count ∙ c.loop.invariant.count;
-      link = c.take.ensures.link ∙ c.loop.invariant.link;
-      on = goes_end _ _ _ c.in-Ok-End.field-0 c.in-Ok-End.file c.in-Ok-End.mark c.loop.invariant.on c.in-Ok-End.ensures.ok c.in-Ok-End.field-0-is;
-      gathered = λ ns were.
-          subst (λ l. AreDrafts about 0 l c.put_mark.new.drafts.items)
-          (after_notes about ns _ _ c.in-Ok-End.field-0 (End c.in-Ok-End.file c.in-Ok-End.mark) c.in-Ok-End.ensures.ok (ap (note about) c.in-Ok-End.field-0-is))
-          (c.put_mark.ensures.put _ (c.loop.invariant.gathered ns were));
+      count = c.loop.invariant.count;
+      lanes = c.note_stop.ensures.count ∙ c.loop.invariant.lanes;
+      fan = c.take.ensures.fan ∙ c.loop.invariant.fan;
+      stops = stop_noted about _ _ _ _ _ c.in-Ok-default-Stop.ensures.ok c.in-Ok-default-Stop.field-0-1-is c.note_stop.ensures.noted c.loop.invariant.stops;
+      told = drafts_more about _ _ _ Stop _ c.in-Ok-default-Stop.ensures.ok (ap (note about) c.in-Ok-default-Stop.field-0-1-is)
+          (drafts_other about 0 _ Stop c.loop.drafts.items (λ file from to. refl) c.loop.invariant.told);
     }
-
-pub returns-in-Ok-Stop-clause-gathered : goal.returns-in-Ok-Stop-clause-gathered
-returns-in-Ok-Stop-clause-gathered g c =
-    let about = g.E.Numbered.about in
-    λ ns were.
-    subst (λ l. AreDrafts about 0 l c.loop.drafts.items)
-    (after_notes about ns _ _ c.in-Ok-Stop.field-0 Stop c.in-Ok-Stop.ensures.ok (ap (note about) c.in-Ok-Stop.field-0-is))
-    (drafts_other about 0 _ Stop c.loop.drafts.items (λ file from to. refl) (c.loop.invariant.gathered ns were))

@@ -1,0 +1,112 @@
+-- Lanes that are started, that run, and that have run.
+use Rattle.std.proofs.Common.{◌≡◌, ℕ, suc, ◌+◌, List, [], ◌∷◌, ◌++◌, length, All, Some, slice_get, refl, sym, subst, ◌∙◌, arith}
+use Rattle.std.proofs.lemmas.List.Elements.{All-nil, All-cons, All-head, All-tail, All-append}
+use Rattle.crossbeam_channel.specs.Ends.{sends_on, receives_on}
+use Rattle.ruled_lanes.specs.declared.fan_ends.LaneGiver.{LaneGiver}
+use Rattle.ruled_lanes.specs.declared.fan_ends.Gatherer.{Gatherer}
+use Rattle.ruled_lanes.specs.declared.dealing.Tickets.{Tickets}
+use Rattle.ruled_lanes.specs.declared.dealing.Seat.{Seat}
+use Rattle.ruled_lanes.specs.FanEnds.{lane_of, given_at, AreGiversOf, TakesFromSameFan, GivesToSameLane}
+use Rattle.lanes.specs.declared.message.Message.{Message}
+use Rattle.lanes.specs.Notes.{About}
+use Rattle.lanes.specs.Opening.{Meaning}
+use Rattle.lane_runs.specs.Lanes.{TellsSeat}
+use Rattle.lane_runs.specs.Running.{AreNumbered, GivesAt, IsIdle, IsRunning, HasRun, HaveRun}
+
+module _ {X : Type 0} where
+  -- one element more
+  pub numbered_more : (fits : ℕ → X → Type 0) (first : ℕ) (xs : List X) (x : X) → AreNumbered fits first xs → fits (first + length xs) x → AreNumbered fits first (xs ++ x ∷ [])
+  numbered_more fits first [] x are is = (let e : first + 0 ≡ first = omega arith in subst (λ k. fits k x) e is, tt)
+  numbered_more fits first (z ∷ zs) x (was, are) is =
+      (was, numbered_more fits (first + 1) zs x are (let e : first + length (z ∷ zs) ≡ first + 1 + length zs = omega arith in subst (λ k. fits k x) e is))
+
+  pub numbered_weaker : (fits suits : ℕ → X → Type 0) → ((k : ℕ) (x : X) → fits k x → suits k x) → (first : ℕ) (xs : List X) → AreNumbered fits first xs → AreNumbered suits first xs
+  numbered_weaker fits suits weaker first [] are = tt
+  numbered_weaker fits suits weaker first (x ∷ xs) (is, are) = (weaker first x is, numbered_weaker fits suits weaker (first + 1) xs are)
+
+module _ {E : Type 0} where
+  -- the fan after some takes is the same
+  gives_still : (fan after : Gatherer E) (lane : ℕ) (g : LaneGiver E) → TakesFromSameFan fan after → GivesAt fan lane g → GivesAt after lane g
+  gives_still fan after lane g same gives = record { to_fan = same ∙ gives.to_fan; at_lane = gives.at_lane }
+
+  pub idle_still : (fan after : Gatherer E) (first : ℕ) (givers : List (LaneGiver E)) → TakesFromSameFan fan after → AreNumbered (IsIdle fan) first givers → AreNumbered (IsIdle after) first givers
+  idle_still fan after first givers same are =
+      numbered_weaker (IsIdle fan) (IsIdle after) (λ k g is. record { gives_at = gives_still fan after k g same is.gives_at; none_given = is.none_given }) first givers are
+
+  pub running_still : {O : Type 0} (fan after : Gatherer E) (opener : O) (tickets : Tickets) (lane : ℕ) (promised : O) (promised_tickets : Tickets) (g : LaneGiver E)
+      → TakesFromSameFan fan after → IsRunning fan opener tickets lane promised promised_tickets g → IsRunning after opener tickets lane promised promised_tickets g
+  running_still fan after opener tickets lane promised promised_tickets g same is =
+      record { gives_at = gives_still fan after lane g same is.gives_at; same_opener = is.same_opener; same_tickets = is.same_tickets }
+
+  -- the givers of a new fan are idle
+  pub new_idle : (fan : Gatherer E) (first : ℕ) (givers : List (LaneGiver E)) → AreGiversOf fan givers → ((k : ℕ) (g : LaneGiver E) → slice_get givers k ≡ Some g → lane_of g ≡ first + k)
+      → All (λ g. given_at g ≡ []) givers → AreNumbered (IsIdle fan) first givers
+  new_idle fan first [] to order none = tt
+  new_idle fan first (g ∷ givers) to order none =
+      let To : LaneGiver E → Type 0 = λ g. receives_on fan.receiver ≡ sends_on g.sender in
+      let None : LaneGiver E → Type 0 = λ g. given_at g ≡ [] in (
+        record { gives_at = record { to_fan = All-head To g givers to; at_lane = order 0 g refl ∙ omega arith }; none_given = All-head None g givers none },
+        new_idle fan (first + 1) givers (All-tail To g givers to) (λ k h at. order (suc k) h at ∙ omega arith) (All-tail None g givers none),
+      )
+
+  pub idle_givers : (fan : Gatherer E) (first : ℕ) (givers : List (LaneGiver E)) → AreNumbered (IsIdle fan) first givers → AreGiversOf fan givers
+  idle_givers fan first [] are = All-nil (λ (g : LaneGiver E). receives_on fan.receiver ≡ sends_on g.sender)
+  idle_givers fan first (g ∷ givers) (is, are) =
+      All-cons (λ (h : LaneGiver E). receives_on fan.receiver ≡ sends_on h.sender) g givers is.gives_at.to_fan (idle_givers fan (first + 1) givers are)
+
+module _ {E : Type 0} (about : E → About) where
+  pub ran_givers : (meaning : ℕ → Meaning) (tickets : Tickets) (fan : Gatherer (Message E)) (first : ℕ) (givers : List (LaneGiver (Message E))) (seats : List Seat)
+      → HaveRun about meaning tickets fan first givers seats → AreGiversOf fan givers
+  ran_givers meaning tickets fan first [] [] run = All-nil (λ (g : LaneGiver (Message E)). receives_on fan.receiver ≡ sends_on g.sender)
+  ran_givers meaning tickets fan first [] (s ∷ seats) run = absurd run
+  ran_givers meaning tickets fan first (g ∷ givers) [] run = absurd run
+  ran_givers meaning tickets fan first (g ∷ givers) (s ∷ seats) (is, run) =
+      All-cons (λ (h : LaneGiver (Message E)). receives_on fan.receiver ≡ sends_on h.sender) g givers is.gives_at.to_fan (ran_givers meaning tickets fan (first + 1) givers seats run)
+
+  -- all givers, idle or not, are those of the fan
+  pub all_givers : (meaning : ℕ → Meaning) (tickets : Tickets) (fan : Gatherer (Message E)) (running : ℕ) (all idle ran : List (LaneGiver (Message E))) (seats : List Seat) → all ≡ idle ++ ran
+      → AreNumbered (IsIdle fan) running idle → HaveRun about meaning tickets fan 0 ran seats → AreGiversOf fan all
+  all_givers meaning tickets fan running all idle ran seats are still run =
+      subst (AreGiversOf fan) (sym are)
+      (All-append (λ (g : LaneGiver (Message E)). receives_on fan.receiver ≡ sends_on g.sender) idle ran (idle_givers fan running idle still) (ran_givers meaning tickets fan 0 ran seats run))
+
+  -- one lane more has run
+  pub run_more : (meaning : ℕ → Meaning) (tickets : Tickets) (fan : Gatherer (Message E)) (first : ℕ) (givers : List (LaneGiver (Message E))) (seats : List Seat) (g : LaneGiver (Message E)) (s : Seat)
+      → HaveRun about meaning tickets fan first givers seats → HasRun about meaning tickets fan (first + length seats) g s → HaveRun about meaning tickets fan first (givers ++ g ∷ []) (seats ++ s ∷ [])
+  run_more meaning tickets fan first [] [] g s run is = (let e : first + 0 ≡ first = omega arith in subst (λ k. HasRun about meaning tickets fan k g s) e is, tt)
+  run_more meaning tickets fan first [] (z ∷ seats) g s run is = absurd run
+  run_more meaning tickets fan first (h ∷ givers) [] g s run is = absurd run
+  run_more meaning tickets fan first (h ∷ givers) (z ∷ seats) g s (was, run) is =
+      (was, run_more meaning tickets fan (first + 1) givers seats g s run (let e : first + length (z ∷ seats) ≡ first + 1 + length seats = omega arith in subst (λ k. HasRun about meaning tickets fan k g s) e is))
+
+  -- a lane that kept its promise has run
+  pub has_run : {O : Type 0} (meaning_of : O → ℕ → Meaning) (fan : Gatherer (Message E)) (opener : O) (tickets : Tickets) (lane : ℕ) (promised : O) (promised_tickets : Tickets) (giver after : LaneGiver (Message E)) (seat : Seat)
+      → IsRunning fan opener tickets lane promised promised_tickets giver → GivesToSameLane giver after → TellsSeat about (meaning_of promised) promised_tickets seat (given_at after)
+      → HasRun about (meaning_of opener) tickets fan lane after seat
+  has_run meaning_of fan opener tickets lane promised promised_tickets giver after seat is same tells = record {
+    gives_at = record { to_fan = is.gives_at.to_fan ∙ sym same.0; at_lane = same.1 ∙ is.gives_at.at_lane };
+    tells = subst (λ t. TellsSeat about (meaning_of opener) t seat (given_at after)) is.same_tickets
+        (subst (λ o. TellsSeat about (meaning_of o) promised_tickets seat (given_at after)) is.same_opener tells);
+  }
+
+  -- each lane that has run has its seat
+  pub many_ran : (meaning : ℕ → Meaning) (tickets : Tickets) (fan : Gatherer (Message E)) (first : ℕ) (givers : List (LaneGiver (Message E))) (seats : List Seat)
+      → HaveRun about meaning tickets fan first givers seats → length givers ≡ length seats
+  many_ran meaning tickets fan first [] [] run = refl
+  many_ran meaning tickets fan first [] (s ∷ seats) run = absurd run
+  many_ran meaning tickets fan first (g ∷ givers) [] run = absurd run
+  many_ran meaning tickets fan first (g ∷ givers) (s ∷ seats) (is, run) = omega (arith, many_ran meaning tickets fan (first + 1) givers seats run)
+
+module _ {X : Type 0} where
+  pub numbered_as : (fits : ℕ → X → Type 0) (n m : ℕ) (xs ys : List X) → n ≡ m → xs ≡ ys → AreNumbered fits n xs → AreNumbered fits m ys
+  numbered_as fits n m xs ys e same are = subst (AreNumbered fits m) same (subst (λ k. AreNumbered fits k xs) e are)
+
+module _ {E : Type 0} where
+  -- an idle giver that was moved into the thread of its lane
+  pub started : {O : Type 0} (fan : Gatherer E) (opener : O) (tickets : Tickets) (n lane : ℕ) (promised : O) (promised_tickets : Tickets) (g moved : LaneGiver E)
+      → IsIdle fan n g → n ≡ lane → moved ≡ g → promised ≡ opener → promised_tickets ≡ tickets → IsRunning fan opener tickets lane promised promised_tickets moved
+  started fan opener tickets n lane promised promised_tickets g moved idle same move opens deals = record {
+    gives_at = subst (GivesAt fan lane) (sym move) (subst (λ k. GivesAt fan k g) same idle.gives_at);
+    same_opener = opens;
+    same_tickets = deals;
+  }

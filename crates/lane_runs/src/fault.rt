@@ -1,0 +1,12 @@
+//! Why lanes come to nothing.
+
+/// Why a lane, or a run of lanes, came to nothing.
+#[derive(Clone, Copy, Debug, PartialEq, Eq)]
+pub enum LaneFault {
+    /// There was no memory for links, tickets, a buffer or drafts.
+    Memory,
+    /// An end of a link or of the fan was gone.
+    Lost,
+    /// A thread could not be started.
+    Thread,
+}

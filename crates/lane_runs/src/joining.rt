@@ -1,0 +1,97 @@
+//! What the calling thread makes of the lanes that run.
+ghost use Rattle.std.specs.Prelude.{◌≡◌, ◌≤◌, ◌<◌, ◌+◌, ℕ, [], All, IfOk, true, vec_len};
+ghost use Rattle.ruled_lanes.specs.declared.limits.TheConstants.{LANES};
+ghost use Rattle.ruled_lanes.specs.FanEnds.{gathered};
+ghost use Rattle.ruled_lanes.specs.TicketRule.{times};
+ghost use Rattle.ruled_lanes.specs.TicketSeats.{all_drawn, has_ended, IsSeatOf};
+ghost use Rattle.lanes.specs.Notes.{notes};
+ghost use Rattle.lanes.specs.Drafts.{AreDrafts};
+ghost use Rattle.lanes.specs.Files.{HasFile, AreReady};
+ghost use Rattle.lanes.specs.Fans.{untagged, HaveStopped};
+ghost use Rattle.lane_runs.specs.Running.{AreNumbered, IsIdle, IsRunning};
+
+use crate::fault::LaneFault;
+use crate::running::{LaneEnd, Running};
+use lanes::{Draft, Message, Numbered, Opener, gather};
+use ruled_lanes::{Gatherer, LaneGiver, Seat, Tickets};
+use std::alloc::Global;
+use std::sync::Wait;
+use std::thread::Threads;
+use streams::BatchFault;
+
+/// Joins the threads of the lanes and takes in the fan, with the givers of the lanes that do not run. So
+/// what was taken of each lane is all that it told, and a file that one seat drew was told whole. The seats
+/// are given back.
+fn join_lanes<E: Numbered, R: Threads + Wait + Sync, O: Opener>(
+    rt: &R,
+    alloc: Global,
+    opener: &O,
+    tickets: &Tickets,
+    gatherer: Gatherer<Message<E>>,
+    running: Vec<Running<E, O>>,
+    mut givers: Vec<LaneGiver<Message<E>>>,
+) -> Result<Vec<Seat>, LaneFault>
+    requires some { 1 ≤ vec_len running }
+    requires lanes { vec_len running + vec_len givers ≡ LANES }
+    requires running { AreNumbered (λ lane r. IsRunning gatherer opener.now tickets.now lane
+        r.promise.opener.value r.promise.tickets.value r.promise.giver.value) 0 running.items }
+    requires idle { AreNumbered (IsIdle gatherer) (vec_len running) givers.items }
+    requires stopped { HaveStopped E.about (vec_len running) (gathered gatherer) }
+    ensures count { IfOk result (λ seats. vec_len seats ≡ vec_len running) }
+    ensures seats { IfOk result (λ seats. All (λ s. IsSeatOf tickets.now s × (has_ended s ≡ true)) seats.items) }
+    ensures told { IfOk result (λ seats. (file : ℕ) → times file (all_drawn seats.items) ≡ 1
+        → HasFile (O.meaning opener.now file) file (notes E.about (untagged (gathered gatherer)))) }
+{
+    let Ok(mut seats) = Vec::with_capacity(alloc, running.len()) else {
+        return Err(LaneFault::Memory);
+    };
+    for handle in running {
+        let LaneEnd { giver, seat } = handle.join(rt);
+        let seat = seat?;
+        match seats.push(seat) {
+            Ok(()) => {}
+            Err(_) => return Err(LaneFault::Memory),
+        }
+        match givers.push(giver) {
+            Ok(()) => {}
+            Err(_) => return Err(LaneFault::Memory),
+        }
+    }
+    gatherer.settle(rt, givers);
+    Ok(seats)
+}
+
+/// Takes all that the lanes give, up to the stop of each, and joins their threads. If then each file was
+/// drawn once, its draft is all of it. The drafts and the seats are given back.
+pub fn finish_lanes<E: Numbered, R: Threads + Wait + Sync, O: Opener>(
+    rt: &R,
+    alloc: Global,
+    opener: &O,
+    tickets: &Tickets,
+    gatherer: Gatherer<Message<E>>,
+    running: Vec<Running<E, O>>,
+    idle: Vec<LaneGiver<Message<E>>>,
+    mut drafts: Vec<Draft<E>>,
+) -> Result<(Vec<Draft<E>>, Vec<Seat>), LaneFault>
+    requires some { 1 ≤ vec_len running }
+    requires lanes { vec_len running + vec_len idle ≡ LANES }
+    requires running { AreNumbered (λ lane r. IsRunning gatherer opener.now tickets.now lane
+        r.promise.opener.value r.promise.tickets.value r.promise.giver.value) 0 running.items }
+    requires idle { AreNumbered (IsIdle gatherer) (vec_len running) idle.items }
+    requires none_gathered { gathered gatherer ≡ [] }
+    requires empty { AreDrafts E.about 0 [] drafts.items }
+    ensures files { IfOk result (λ r. vec_len r.0 ≡ vec_len drafts) }
+    ensures count { IfOk result (λ r. vec_len r.1 ≡ vec_len running) }
+    ensures seats { IfOk result (λ r. All (λ s. IsSeatOf tickets.now s × (has_ended s ≡ true)) r.1.items) }
+    ensures ready { IfOk result (λ r. ((file : ℕ) → file < vec_len r.0 → times file (all_drawn r.1.items) ≡ 1)
+        → AreReady E.about (O.meaning opener.now) 0 r.0.items) }
+{
+    let lanes = running.len() as u32;
+    let gatherer = match gather(rt, alloc, gatherer, lanes, &mut drafts) {
+        Ok(gatherer) => gatherer,
+        Err(BatchFault::Memory) => return Err(LaneFault::Memory),
+        Err(_) => return Err(LaneFault::Lost),
+    };
+    let seats = join_lanes(rt, alloc, opener, tickets, gatherer, running, idle)?;
+    Ok((drafts, seats))
+}
