@@ -322,7 +322,11 @@ impl Gate for HoldsFan {
         }
         let earlier = calls_of(&self.calls, lane).fetch_add(1, Ordering::SeqCst);
         if lane == self.held && earlier == 0 {
-            wait_for_calls(calls_of(&self.calls, other_than(self.held)), 12, &self.ran_out);
+            wait_for_calls(
+                calls_of(&self.calls, other_than(self.held)),
+                12,
+                &self.ran_out,
+            );
         }
     }
 }
@@ -342,9 +346,9 @@ fn report_of_edges(alloc: Global, files: u32, count: u32) -> Result<String, Allo
     for file in 1..=files {
         report.push_str(format!(in alloc; "file {file}\n")?.as_str())?;
         for graph in 1..=count {
-            report.push_str(
-                format!(in alloc; "graph {graph} ok n=2 m=1 f=1 bends=0 drawn=yes\n")?.as_str(),
-            )?;
+            report.push_str(format!(in alloc;
+                "graph {graph} ok n=2 m=1 f=1 bends=0 drawn=yes\n"
+            )?.as_str())?;
         }
         report.push_str(format!(in alloc; "end complete graphs={count}\n")?.as_str())?;
     }
@@ -358,7 +362,13 @@ fn gate_holds_fan(rt: HostRuntime) -> Result<(), Fail> {
     let report = report_of_edges(rt.alloc(), 2, 12)?;
     for held in 0..2 {
         let gate = HoldsFan::of(held);
-        check(&rt, &[file.as_slice(), file.as_slice()], 2, &gate, report.as_str())?;
+        check(
+            &rt,
+            &[file.as_slice(), file.as_slice()],
+            2,
+            &gate,
+            report.as_str(),
+        )?;
         assert!(rt; !gate.ran_out.load(Ordering::SeqCst));
     }
     Ok(())
@@ -382,7 +392,11 @@ impl Gate for HoldsDeal {
             return;
         }
         let least = if lane == 0 { 12 } else { 1 };
-        wait_for_calls(calls_of(&self.calls, other_than(lane)), least, &self.ran_out);
+        wait_for_calls(
+            calls_of(&self.calls, other_than(lane)),
+            least,
+            &self.ran_out,
+        );
     }
 }
 
@@ -396,7 +410,13 @@ fn gate_holds_deal(rt: HostRuntime) -> Result<(), Fail> {
         ran_out: AtomicBool::new(false),
     };
     let bytes = file.as_slice();
-    check(&rt, &[bytes, bytes, bytes, bytes], 2, &gate, report.as_str())?;
+    check(
+        &rt,
+        &[bytes, bytes, bytes, bytes],
+        2,
+        &gate,
+        report.as_str(),
+    )?;
     assert!(rt; !gate.ran_out.load(Ordering::SeqCst));
     assert_eq!(rt; calls_of(&gate.calls, 0).load(Ordering::SeqCst), 4);
     assert_eq!(rt; calls_of(&gate.calls, 1).load(Ordering::SeqCst), 12);
