@@ -6,3 +6,5 @@
 mod refused;
 #[cfg(test)]
 mod tests;
+#[cfg(test)]
+mod work;

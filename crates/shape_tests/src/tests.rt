@@ -25,7 +25,7 @@ pub(crate) const TRIANGLE: [u8; 10] = [3, 2, 3, 0, 3, 1, 0, 1, 2, 0];
 
 const PATH: [u8; 14] = [5, 2, 0, 1, 3, 0, 2, 4, 0, 3, 5, 0, 4, 0];
 
-const EDGE: [u8; 5] = [2, 2, 0, 1, 0];
+pub(crate) const EDGE: [u8; 5] = [2, 2, 0, 1, 0];
 
 /// The record of these bytes.
 fn record_of(alloc: Global, bytes: &[u8]) -> Option<Record> {
@@ -43,7 +43,7 @@ pub(crate) fn plane_in(alloc: Global, bytes: &[u8]) -> Option<Plane> {
     Plane::trace(alloc, graph).ok()
 }
 
-fn plane_of(alloc: Global, bytes: &[u8]) -> Result<Plane, Fail> {
+pub(crate) fn plane_of(alloc: Global, bytes: &[u8]) -> Result<Plane, Fail> {
     Ok(plane_in(alloc, bytes).ok_or("no plane")?)
 }
 
@@ -489,7 +489,12 @@ fn random_paths_and_edges(rt: HostRuntime) -> Result<(), Fail> {
 }
 
 /// A least shape of these bytes has so many bends, and passes both tests with its prices.
-fn expect_least(rt: &impl Abort, alloc: Global, bytes: &[u8], bends: u32) -> Result<(), Fail> {
+pub(crate) fn expect_least(
+    rt: &impl Abort,
+    alloc: Global,
+    bytes: &[u8],
+    bends: u32,
+) -> Result<(), Fail> {
     let plane = plane_of(alloc, bytes)?;
     let (shape, prices) = least_shape(alloc, &plane)?;
     assert_eq!(rt; shape.bends(), bends);
@@ -499,7 +504,7 @@ fn expect_least(rt: &impl Abort, alloc: Global, bytes: &[u8], bends: u32) -> Res
 
 const K4: [u8; 17] = [4, 3, 4, 2, 0, 1, 4, 3, 0, 2, 4, 1, 0, 3, 2, 1, 0];
 
-const OCTAHEDRON: [u8; 31] = [
+pub(crate) const OCTAHEDRON: [u8; 31] = [
     6, 2, 3, 4, 5, 0, 6, 3, 1, 5, 0, 2, 6, 4, 1, 0, 1, 3, 6, 5, 0, 2, 1, 4, 6, 0, 2, 5, 4, 3, 0,
 ];
 
@@ -528,7 +533,7 @@ fn more_bends(rt: HostRuntime) -> Result<(), Fail> {
 }
 
 /// The record of a cycle on 255 vertices.
-fn long_cycle(alloc: Global) -> Result<Vec<u8>, Fail> {
+pub(crate) fn long_cycle(alloc: Global) -> Result<Vec<u8>, Fail> {
     let mut bytes = Vec::new(alloc);
     bytes.push(255)?;
     for vertex in 0..255u8 {
