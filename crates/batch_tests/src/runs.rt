@@ -463,8 +463,8 @@ fn check_book(rt: &impl Abort, book: &Book, records: &[Sizes], mark: Mark) {
     }
 }
 
-/// With each allocation refused in turn, an answer, a mark or a fault says so. Where a thread is started
-/// or an end is given up for it, the fault may name that instead.
+/// With each allocation refused in turn, an answer, a mark or a fault says so. Where it was to start a
+/// thread, the fault names that instead; a lane's own fault arrives, so none is told as a lost lane.
 #[test]
 fn names_want_of_memory(rt: HostRuntime) {
     let Ok(files) = opener_of(rt.alloc(), &[TRIANGLES, CUT, HEADER]) else {
@@ -491,10 +491,21 @@ fn names_want_of_memory(rt: HostRuntime) {
             check_book(&rt, batch.book(1), &[(2, 1, 1, 0)], cut);
             check_book(&rt, batch.book(2), &[], complete);
         }
-        Err(fault) => assert!(rt;
-            fault != BatchFault::TooManyFiles && fault != BatchFault::BadLanes
-        ),
+        Err(fault) => assert!(rt; fault == BatchFault::Memory || fault == BatchFault::Thread),
     }
+}
+
+/// With the start of each thread refused in turn, of a lane's own and of its stages', the fault says so.
+#[test]
+fn names_a_refused_thread(rt: HostRuntime) -> Result<(), Fail> {
+    let opener = opener_of(rt.alloc(), &[TRIANGLES, CUT, HEADER])?;
+    for lanes in 1..5 {
+        match run_batch(&rt, rt.alloc(), &opener, 3, lanes, 1, &OpenGate) {
+            Ok(batch) => assert_eq!(rt; batch.files(), 3),
+            Err(fault) => assert_eq!(rt; fault, BatchFault::Thread),
+        }
+    }
+    Ok(())
 }
 
 /// Opens these files, and then one whose reads all fail. It counts the sources that it opened, and those
