@@ -2,12 +2,14 @@
 use Rattle.std.specs.Prelude.{◌≡◌, ℕ, List, Result, Ok, Err, ⊤}
 use Rattle.planar_code.specs.Stream.{lists_of}
 use Rattle.embedding.specs.Rules.{FirstBroken}
+use Rattle.choices.specs.declared.Choice.{Choice}
 use Rattle.faces.specs.Map.{Map, IsPlane, IsWidest}
+use Rattle.ortho_rep.specs.Outer.{IsChosen}
 use Rattle.answers.specs.declared.refusal.Refusal.{Refusal}
 use Rattle.answers.specs.declared.refusal.Refusal.TheVariants.{Rule, Memory}
 use Rattle.answers.specs.declared.layout.Layout.{Layout}
 
--- the plane of a record of these bytes
+-- the plane of a record of these bytes, as its faces were traced
 pub record IsTraced (bytes : List ℕ) (plane : Map) : Type 0 where
   -- it has the record's neighbour lists
   pub lists : plane.lists ≡ lists_of bytes
@@ -15,6 +17,12 @@ pub record IsTraced (bytes : List ℕ) (plane : Map) : Type 0 where
   pub rules : IsPlane plane
   -- the outer face has the most darts, and among equals it holds the least dart
   pub widest : IsWidest plane
+
+-- the plane of such a record, once its outer face is chosen
+pub record IsPlaneOf (choice : Choice) (bytes : List ℕ) (plane : Map) : Type 0 where
+  pub lists : plane.lists ≡ lists_of bytes
+  pub rules : IsPlane plane
+  pub chosen : IsChosen choice plane
 
 -- why such a record has no plane: the rule is broken, and none before it; want of memory says nothing
 abbrev pub IsRefused : List ℕ → Refusal → Type 0
@@ -26,7 +34,7 @@ abbrev pub IsEmbedded : List ℕ → Result Map Refusal → Type 0
 IsEmbedded bytes (Ok plane) = IsTraced bytes plane
 IsEmbedded bytes (Err refusal) = IsRefused bytes refusal
 
--- a layout of the record's plane, or why there is none
-abbrev pub IsShaped : List ℕ → Result Layout Refusal → Type 0
-IsShaped bytes (Ok layout) = IsTraced bytes layout.plane
-IsShaped bytes (Err refusal) = IsRefused bytes refusal
+-- a layout of the record's plane with the chosen outer face, or why there is none
+abbrev pub IsShaped : Choice → List ℕ → Result Layout Refusal → Type 0
+IsShaped choice bytes (Ok layout) = IsPlaneOf choice bytes layout.plane
+IsShaped choice bytes (Err refusal) = IsRefused bytes refusal

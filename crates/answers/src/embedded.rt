@@ -5,6 +5,7 @@ ghost use Rattle.answers.specs.Steps.{IsEmbedded};
 use crate::refusal::Refusal;
 use crate::shaped::Shaped;
 use crate::stages::shape;
+use choices::Choice;
 use faces::Plane;
 use lanes::{Numbered, Stage, Staged};
 use planar_code::Record;
@@ -18,12 +19,14 @@ pub struct Embedded {
     /// The record's place in its file, from 0.
     pub ordinal: u32,
     pub rec: Record,
+    /// How the outer face of its plane is chosen.
+    pub choice: Choice,
     pub plane: Result<Plane, Refusal>,
     pub ghost embedded: { ∥ IsEmbedded rec plane ∥₁ },
 }
 
 impl Numbered for Embedded {
-    ghost about = { λ e. record { file = e.file; ordinal = e.ordinal; bytes = e.rec } };
+    ghost about = { λ e. record { file = e.file; ordinal = e.ordinal; bytes = e.rec; choice = e.choice } };
 
     fn file(&self) -> u32 {
         self.file
@@ -44,7 +47,8 @@ impl Staged for Embedded {
             file: self.file,
             ordinal: self.ordinal,
             rec: self.rec,
-            layout: shape(alloc, self.plane),
+            choice: self.choice,
+            layout: shape(alloc, self.plane, self.choice),
         }
     }
 }

@@ -2,6 +2,7 @@
 
 use crate::embedded::Embedded;
 use crate::stages::embed;
+use choices::Choice;
 use lanes::{Numbered, Stage, Staged};
 use planar_code::Record;
 use std::alloc::Global;
@@ -14,10 +15,12 @@ pub struct Framed {
     /// The record's place in its file, from 0.
     pub ordinal: u32,
     pub rec: Record,
+    /// How the outer face of its plane is chosen.
+    pub choice: Choice,
 }
 
 impl Numbered for Framed {
-    ghost about = { λ f. record { file = f.file; ordinal = f.ordinal; bytes = f.rec } };
+    ghost about = { λ f. record { file = f.file; ordinal = f.ordinal; bytes = f.rec; choice = f.choice } };
 
     fn file(&self) -> u32 {
         self.file
@@ -39,6 +42,7 @@ impl Staged for Framed {
             file: self.file,
             ordinal: self.ordinal,
             rec: self.rec,
+            choice: self.choice,
             plane,
         }
     }

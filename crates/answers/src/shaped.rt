@@ -5,6 +5,7 @@ ghost use Rattle.answers.specs.Steps.{IsShaped};
 use crate::layout::Layout;
 use crate::refusal::Refusal;
 use crate::stages::answer_with;
+use choices::Choice;
 use entries::Entry;
 use lanes::{Numbered, Stage, Staged};
 use planar_code::Record;
@@ -18,12 +19,14 @@ pub struct Shaped {
     /// The record's place in its file, from 0.
     pub ordinal: u32,
     pub rec: Record,
+    /// How the outer face of its plane is chosen.
+    pub choice: Choice,
     pub layout: Result<Layout, Refusal>,
-    pub ghost shaped: { ∥ IsShaped rec layout ∥₁ },
+    pub ghost shaped: { ∥ IsShaped choice rec layout ∥₁ },
 }
 
 impl Numbered for Shaped {
-    ghost about = { λ s. record { file = s.file; ordinal = s.ordinal; bytes = s.rec } };
+    ghost about = { λ s. record { file = s.file; ordinal = s.ordinal; bytes = s.rec; choice = s.choice } };
 
     fn file(&self) -> u32 {
         self.file
@@ -44,6 +47,7 @@ impl Staged for Shaped {
             file: self.file,
             ordinal: self.ordinal,
             rec: self.rec,
+            choice: self.choice,
             answer: answer_with(alloc, self.layout),
         }
     }

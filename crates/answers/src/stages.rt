@@ -3,11 +3,13 @@
 ghost use Rattle.std.specs.Prelude.{◌≡◌, ℕ, List, IfOk};
 ghost use Rattle.ortho_rep.specs.Representation.{IsShape};
 ghost use Rattle.answers.specs.Steps.{IsEmbedded, IsShaped};
+ghost use Rattle.choices.specs.declared.Choice.{Choice};
 ghost use Rattle.entries.specs.Drawn.{IsDrawn};
 ghost use Rattle.entries.specs.Answers.{Answers};
 
 use crate::layout::{Layout, lay};
 use crate::refusal::Refusal;
+use choices::Choice;
 use compact::{CompactFault, compact};
 use dissect::dissect;
 use drawing_check::{CheckFault, Drawing, check};
@@ -34,11 +36,15 @@ pub(crate) fn embed(alloc: Global, rec: &Record) -> Result<Plane, Refusal>
     }
 }
 
-/// A layout of a record's plane, or why there is none.
-pub(crate) fn shape(alloc: Global, plane: Result<Plane, Refusal>) -> Result<Layout, Refusal>
-    ensures { (bytes : List ℕ) → IsEmbedded bytes plane → IsShaped bytes result }
+/// A layout of a record's plane with the chosen outer face, or why there is none.
+pub(crate) fn shape(
+    alloc: Global,
+    plane: Result<Plane, Refusal>,
+    choice: Choice,
+) -> Result<Layout, Refusal>
+    ensures { (bytes : List ℕ) → IsEmbedded bytes plane → IsShaped choice bytes result }
 {
-    match lay(alloc, plane?) {
+    match lay(alloc, plane?, choice) {
         Ok(layout) => Ok(layout),
         Err(AllocError) => Err(Refusal::Memory),
     }
@@ -67,7 +73,7 @@ fn draw(alloc: Global, plane: &Plane, shape: &Shape) -> Result<Result<Drawing, C
 
 /// What is answered to a record with this layout, or without one.
 pub(crate) fn answer_with(alloc: Global, layout: Result<Layout, Refusal>) -> Answer
-    ensures { (bytes : List ℕ) → IsShaped bytes layout → Answers bytes result }
+    ensures { (choice : Choice) (bytes : List ℕ) → IsShaped choice bytes layout → Answers choice bytes result }
 {
     let Layout {
         plane,
@@ -89,21 +95,23 @@ pub(crate) fn answer_with(alloc: Global, layout: Result<Layout, Refusal>) -> Ans
     }
 }
 
-/// The entry of a record: one stage after another, on the caller's thread.
+/// The entry of a record under a choice of its outer face: one stage after another, on the caller's thread.
 ///
 /// Where any call on the way finds no memory, the answer is `NoMemory`.
-pub fn answer(alloc: Global, file: u32, ordinal: u32, rec: Record) -> Entry
+pub fn answer(alloc: Global, file: u32, ordinal: u32, rec: Record, choice: Choice) -> Entry
     ensures file { result.file ≡ file }
     ensures ordinal { result.ordinal ≡ ordinal }
     ensures same { result.rec ≡ rec }
-    ensures answered { Answers rec result.answer }
+    ensures chosen { result.choice ≡ choice }
+    ensures answered { Answers choice rec result.answer }
 {
     let plane = embed(alloc, &rec);
-    let layout = shape(alloc, plane);
+    let layout = shape(alloc, plane, choice);
     Entry {
         file,
         ordinal,
         rec,
+        choice,
         answer: answer_with(alloc, layout),
     }
 }

@@ -2,7 +2,7 @@
 //! descriptions of the format and of the lines.
 ghost use Rattle.std.specs.Prelude.{◌≤◌, length};
 
-use collector::{Batch, IoSink, MemOpener, WriteFault, run_plain, write_json};
+use collector::{Batch, Choice, IoSink, MemOpener, WriteFault, run_plain, write_json};
 use std::alloc::{AllocError, Global};
 use std::io;
 use std::io::{ErrorKind, Write};
@@ -30,7 +30,7 @@ fn batch_of(alloc: Global, files: &[&[u8]]) -> Result<Batch, AllocError>
         copies.push(file.to_vec(alloc)?)?;
     }
     let opener = MemOpener::new(copies, 65_536);
-    run_plain(alloc, &opener, files.len() as u32).map_err(|_| AllocError)
+    run_plain(alloc, &opener, files.len() as u32, Choice::First).map_err(|_| AllocError)
 }
 
 fn text_of(alloc: Global, batch: &Batch) -> Result<Vec<u8>, Fail> {

@@ -4,7 +4,7 @@ ghost use Rattle.std.specs.Prelude.{◌<◌, ◌≤◌, false, None};
 ghost use Rattle.lanes.specs.Opening.{Silent};
 
 use collector::{
-    Answer, Batch, BatchFault, Book, Gate, IoSink, Mark, MemOpener, MemTap, OpenFault, OpenGate,
+    Answer, Batch, BatchFault, Book, Choice, Gate, IoSink, Mark, MemOpener, MemTap, OpenFault, OpenGate,
     Opener, Stage, Tap, TapFault, run_batch, run_plain, write_report,
 };
 use planar_code::Ending;
@@ -83,8 +83,8 @@ fn check<R: AllocGlobal + Threads + Wait + Sync + Abort, G: Gate>(
 ) -> Result<(), Fail> {
     let opener = opener_of(rt.alloc(), files)?;
     let count = u32::try_from(files.len())?;
-    let batch = run_batch(rt, rt.alloc(), &opener, count, lanes, 1, gate).map_err(|_| AllocError)?;
-    check_report(rt, &batch, report);
+    let run = run_batch(rt, rt.alloc(), &opener, count, lanes, 1, Choice::First, gate);
+    check_report(rt, &run.map_err(|_| AllocError)?, report);
     Ok(())
 }
 
@@ -95,7 +95,7 @@ fn reports_the_same_over_lanes(rt: HostRuntime) -> Result<(), Fail> {
         check(&rt, &files, lanes, &OpenGate, OF_THREE)?;
     }
     let opener = opener_of(rt.alloc(), &files)?;
-    let batch = run_plain(rt.alloc(), &opener, 3).map_err(|_| AllocError)?;
+    let batch = run_plain(rt.alloc(), &opener, 3, Choice::First).map_err(|_| AllocError)?;
     check_report(&rt, &batch, OF_THREE);
     Ok(())
 }
@@ -164,7 +164,7 @@ fn fault_of<R: AllocGlobal + Threads + Wait + Sync>(
     lanes: u32,
 ) -> Option<BatchFault> {
     let opener = MemOpener::new(Vec::new(rt.alloc()), 1);
-    run_batch(rt, rt.alloc(), &opener, files, lanes, 1, &OpenGate).err()
+    run_batch(rt, rt.alloc(), &opener, files, lanes, 1, Choice::Best, &OpenGate).err()
 }
 
 #[test]
@@ -476,7 +476,7 @@ fn names_want_of_memory(rt: HostRuntime) {
         opened: &opened,
         dropped: &dropped,
     };
-    let found = run_batch(&rt, rt.alloc(), &opener, 3, 2, 1, &OpenGate);
+    let found = run_batch(&rt, rt.alloc(), &opener, 3, 2, 1, Choice::First, &OpenGate);
     assert_eq!(rt;
         opened.load(Ordering::SeqCst),
         dropped.load(Ordering::SeqCst)
@@ -500,7 +500,7 @@ fn names_want_of_memory(rt: HostRuntime) {
 fn names_a_refused_thread(rt: HostRuntime) -> Result<(), Fail> {
     let opener = opener_of(rt.alloc(), &[TRIANGLES, CUT, HEADER])?;
     for lanes in 1..5 {
-        match run_batch(&rt, rt.alloc(), &opener, 3, lanes, 1, &OpenGate) {
+        match run_batch(&rt, rt.alloc(), &opener, 3, lanes, 1, Choice::First, &OpenGate) {
             Ok(batch) => assert_eq!(rt; batch.files(), 3),
             Err(fault) => assert_eq!(rt; fault, BatchFault::Thread),
         }
@@ -576,10 +576,8 @@ fn lets_every_source_go(rt: HostRuntime) -> Result<(), Fail> {
             opened: &opened,
             dropped: &dropped,
         };
-        let batch = run_batch(&rt, rt.alloc(), &opener, 6, lanes, 1, &OpenGate).map_err(
-            |_| AllocError,
-        )?;
-        check_report(&rt, &batch, OF_FAULTS);
+        let run = run_batch(&rt, rt.alloc(), &opener, 6, lanes, 1, Choice::First, &OpenGate);
+        check_report(&rt, &run.map_err(|_| AllocError)?, OF_FAULTS);
         assert_eq!(rt; opened.load(Ordering::SeqCst), 5);
         assert_eq!(rt; dropped.load(Ordering::SeqCst), 5);
     }

@@ -3,7 +3,7 @@
 ghost use Rattle.std.specs.Prelude.{◌≤◌, length};
 
 use collector::{
-    Answer, BatchFault, Book, Cause, IoSink, Mark, MemOpener, WriteFault, push_cause, run_plain,
+    Answer, BatchFault, Book, Cause, Choice, IoSink, Mark, MemOpener, WriteFault, push_cause, run_plain,
     write_report,
 };
 use planar_code::Ending;
@@ -81,7 +81,7 @@ fn check_files<R: AllocGlobal + Abort>(rt: &R, files: &[&[u8]], report: &str) ->
 {
     for most in [1, 65_536] {
         let opener = MemOpener::new(copies(rt.alloc(), files)?, most);
-        let batch = run_plain(rt.alloc(), &opener, files.len() as u32).map_err(|_| AllocError)?;
+        let batch = run_plain(rt.alloc(), &opener, files.len() as u32, Choice::First).map_err(|_| AllocError)?;
         let mut sink = IoSink::new(Vec::new(rt.alloc()));
         assert_eq!(rt; write_report(&batch, &mut sink), Ok(()));
         assert_eq!(rt;
@@ -189,7 +189,7 @@ impl Write for Narrow {
 #[test]
 fn writes_a_beginning_before_a_fault(rt: HostRuntime) -> Result<(), Fail> {
     let opener = MemOpener::new(copies(rt.alloc(), &THREE_FILES)?, 65_536);
-    let batch = run_plain(rt.alloc(), &opener, 3).map_err(|_| AllocError)?;
+    let batch = run_plain(rt.alloc(), &opener, 3, Choice::First).map_err(|_| AllocError)?;
     let mut sink = IoSink::new(Narrow {
         taken: [0; 10],
         len: 0,
@@ -202,11 +202,11 @@ fn writes_a_beginning_before_a_fault(rt: HostRuntime) -> Result<(), Fail> {
 #[test]
 fn opens_at_most_64_files(rt: HostRuntime) -> Result<(), Fail> {
     let opener = MemOpener::new(Vec::new(rt.alloc()), 1);
-    match run_plain(rt.alloc(), &opener, 65) {
+    match run_plain(rt.alloc(), &opener, 65, Choice::Best) {
         Ok(_) => assert!(rt; false),
         Err(fault) => assert_eq!(rt; fault, BatchFault::TooManyFiles),
     }
-    let batch = run_plain(rt.alloc(), &opener, 64).map_err(|_| AllocError)?;
+    let batch = run_plain(rt.alloc(), &opener, 64, Choice::Best).map_err(|_| AllocError)?;
     assert_eq!(rt; batch.files(), 64);
     Ok(())
 }
@@ -214,7 +214,7 @@ fn opens_at_most_64_files(rt: HostRuntime) -> Result<(), Fail> {
 #[test]
 fn marks_a_file_that_does_not_open(rt: HostRuntime) -> Result<(), Fail> {
     let opener = MemOpener::new(copies(rt.alloc(), &[HEADER])?, 1);
-    let batch = run_plain(rt.alloc(), &opener, 2).map_err(|_| AllocError)?;
+    let batch = run_plain(rt.alloc(), &opener, 2, Choice::First).map_err(|_| AllocError)?;
     let mut sink = IoSink::new(Vec::new(rt.alloc()));
     assert_eq!(rt; write_report(&batch, &mut sink), Ok(()));
     let report = b"file 1\nend complete graphs=0\nfile 2\nend io graphs=0\n";
@@ -267,7 +267,7 @@ fn names_want_of_memory(rt: HostRuntime) {
     let Ok(files) = copies(rt.alloc(), &THREE_FILES) else {
         return;
     };
-    let batch = match run_plain(rt.alloc(), &MemOpener::new(files, 4), 3) {
+    let batch = match run_plain(rt.alloc(), &MemOpener::new(files, 4), 3, Choice::First) {
         Ok(batch) => batch,
         Err(fault) => {
             assert_eq!(rt; fault, BatchFault::Memory);

@@ -1,6 +1,7 @@
 -- The entries that were kept of a file are its book.
 use Rattle.std.proofs.Common.{◌≡◌, ℕ, ◌+◌, List, [], ◌∷◌, ◌++◌, map, length, All, get_or, arith, refl, sym, ap, subst, ◌∙◌}
 use Rattle.streams.specs.declared.found.Mark.{Mark}
+use Rattle.choices.specs.declared.Choice.{Choice}
 use Rattle.lanes.specs.declared.message.Message.TheVariants.{Item}
 use Rattle.lanes.specs.Notes.{About, numbered}
 use Rattle.lanes.specs.Opening.{Meaning}
@@ -21,21 +22,21 @@ abouts-entries [] = refl
 abouts-entries (entry ∷ entries) = ap (λ l. about_of entry ∷ l) (abouts-entries entries)
 
 -- each entry keeps that its answer is one for its record
-pub all_answered : (entries : List Entry) → All (λ entry. ∥ Answers entry.rec entry.answer ∥₁) entries
+pub all_answered : (entries : List Entry) → All (λ entry. ∥ Answers entry.choice entry.rec entry.answer ∥₁) entries
 all_answered entries = λ k d below. (get_or entries k d).answers
 
-pub whole_kept : (meaning : Meaning) (file : ℕ) (entries : List Entry) (mark : Mark)
-    → KeepsFile meaning file [] (map (λ entry. Item (about_of entry)) entries) mark → IsWhole about_of meaning file entries mark
-whole_kept meaning file entries mark keeps = record {
+pub whole_kept : (choice : Choice) (meaning : Meaning) (file : ℕ) (entries : List Entry) (mark : Mark)
+    → KeepsFile choice meaning file [] (map (λ entry. Item (about_of entry)) entries) mark → IsWhole about_of choice meaning file entries mark
+whole_kept choice meaning file entries mark keeps = record {
   records = keeps.records;
-  each = sym (abouts-entries entries) ∙ ap abouts keeps.kept ∙ abouts-map (numbered file 0 keeps.records);
+  each = sym (abouts-entries entries) ∙ ap abouts keeps.kept ∙ abouts-map (numbered choice file 0 keeps.records);
   found = keeps.found;
 }
 
 -- one book more
-pub books_more : (meaning : ℕ → Meaning) (first : ℕ) (books : List Pages) (book : Pages) → AreBooks meaning first books
-    → IsBook (meaning (first + length books)) (first + length books) book → AreBooks meaning first (books ++ book ∷ [])
-books_more meaning first [] book are is =
-    (let e : first + 0 ≡ first = omega arith in subst (λ k. IsBook (meaning k) k book) e is, tt)
-books_more meaning first (b ∷ books) book (was, are) is =
-    (was, books_more meaning (first + 1) books book are (let e : first + length (b ∷ books) ≡ first + 1 + length books = omega arith in subst (λ k. IsBook (meaning k) k book) e is))
+pub books_more : (choice : Choice) (meaning : ℕ → Meaning) (first : ℕ) (books : List Pages) (book : Pages) → AreBooks choice meaning first books
+    → IsBook choice (meaning (first + length books)) (first + length books) book → AreBooks choice meaning first (books ++ book ∷ [])
+books_more choice meaning first [] book are is =
+    (let e : first + 0 ≡ first = omega arith in subst (λ k. IsBook choice (meaning k) k book) e is, tt)
+books_more choice meaning first (b ∷ books) book (was, are) is =
+    (was, books_more choice meaning (first + 1) books book are (let e : first + length (b ∷ books) ≡ first + 1 + length books = omega arith in subst (λ k. IsBook choice (meaning k) k book) e is))

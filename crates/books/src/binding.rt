@@ -1,6 +1,7 @@
 //! Books from drafts that are ready.
 ghost use Rattle.std.specs.Prelude.{◌≡◌, ◌≤◌, ℕ, IfOk, IsSome, Some, length, vec_len};
 ghost use Rattle.streams.specs.declared.found.Mark.{Mark};
+ghost use Rattle.choices.specs.declared.Choice.{Choice};
 ghost use Rattle.lanes.specs.Opening.{Meaning};
 ghost use Rattle.lanes.specs.Files.{AreReady};
 ghost use Rattle.entries.specs.Abouts.{about_of};
@@ -14,10 +15,10 @@ use std::alloc::{AllocError, Global};
 /// The books of drafts that are each all of their file.
 pub fn bind(alloc: Global, drafts: Vec<Draft<Entry>>) -> Result<Batch, AllocError>
     requires few { vec_len drafts ≤ 64 }
-    requires ready { (meaning : ℕ → Meaning) × AreReady about_of meaning 0 drafts.items }
+    requires ready { (choice : Choice) × (meaning : ℕ → Meaning) × AreReady about_of choice meaning 0 drafts.items }
     ensures count { IfOk result (λ books. length books ≡ vec_len drafts) }
-    ensures books { IfOk result (λ books. (meaning : ℕ → Meaning)
-        → AreReady about_of meaning 0 drafts.items → AreBooks meaning 0 books) }
+    ensures books { IfOk result (λ books. (choice : Choice) (meaning : ℕ → Meaning)
+        → AreReady about_of choice meaning 0 drafts.items → AreBooks choice meaning 0 books) }
 {
     let mut books = Vec::with_capacity(alloc, drafts.len())?;
     for draft in drafts {

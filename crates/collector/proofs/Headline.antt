@@ -8,6 +8,7 @@ use Rattle.planar_code.specs.Split.{IsSplit}
 use Rattle.streams.specs.declared.found.Mark.{Mark}
 use Rattle.streams.specs.declared.found.Mark.TheVariants.{Ended, Io}
 use Rattle.streams.specs.Marks.{IsMarked}
+use Rattle.choices.specs.declared.Choice.{Choice}
 use Rattle.lanes.specs.Notes.{numbered}
 use Rattle.lanes.specs.Opening.{Meaning, Opened}
 use Rattle.entries.specs.declared.found.Answer.{Answer}
@@ -19,32 +20,34 @@ use Rattle.books.specs.Books.{Pages, IsBook, AreBooks}
 use Rattle.books.specs.Results.{AreAllBooks}
 use Rattle.collector.specs.Headline.{IsDecided, IsEntryFor, AreOneForEach, IsWholeRun, HasMemory}
 
-decided : (bytes : List ℕ) (answer : Answer) → answer ≢ NoMemory → Answers bytes answer → IsDecided bytes answer
-decided bytes (Laid plane shape prices drawing) has is = is
-decided bytes (Refused rule) has is = is
-decided bytes NoMemory has is = has refl
+decided : (choice : Choice) (bytes : List ℕ) (answer : Answer) → answer ≢ NoMemory → Answers choice bytes answer → IsDecided choice bytes answer
+decided choice bytes (Laid plane shape prices drawing) has is = is
+decided choice bytes (Refused rule) has is = is
+decided choice bytes NoMemory has is = has refl
 
-entry_for : (file ordinal : ℕ) (bytes : List ℕ) (entry : Entry)
-    → about_of entry ≡ record { file = file; ordinal = ordinal; bytes = bytes }
-    → ∥ Answers entry.rec entry.answer ∥₁ → entry.answer ≢ NoMemory → IsEntryFor file ordinal bytes entry
-entry_for file ordinal bytes entry e answered has = record {
+entry_for : (choice : Choice) (file ordinal : ℕ) (bytes : List ℕ) (entry : Entry)
+    → about_of entry ≡ record { file = file; ordinal = ordinal; bytes = bytes; choice = choice }
+    → ∥ Answers entry.choice entry.rec entry.answer ∥₁ → entry.answer ≢ NoMemory → IsEntryFor choice file ordinal bytes entry
+entry_for choice file ordinal bytes entry e answered has = record {
   file_is = ap (λ about. about.file) e;
   ordinal_is = ap (λ about. about.ordinal) e;
   bytes_are = ap (λ about. about.bytes) e;
-  decided = ∥∥₁_map answered (λ is. decided bytes entry.answer has (subst (λ b. Answers b entry.answer) (ap (λ about. about.bytes) e) is));
+  choice_is = ap (λ about. about.choice) e;
+  decided = ∥∥₁_map answered (λ is.
+      decided choice bytes entry.answer has (subst (λ about. Answers about.choice about.bytes entry.answer) e is));
 }
 
-entries_for : (file ordinal : ℕ) (records : List (List ℕ)) (entries : List Entry)
-    → map about_of entries ≡ numbered file ordinal records
-    → All (λ entry. ∥ Answers entry.rec entry.answer ∥₁) entries
+entries_for : (choice : Choice) (file ordinal : ℕ) (records : List (List ℕ)) (entries : List Entry)
+    → map about_of entries ≡ numbered choice file ordinal records
+    → All (λ entry. ∥ Answers entry.choice entry.rec entry.answer ∥₁) entries
     → All (λ entry. entry.answer ≢ NoMemory) entries
-    → AreOneForEach file ordinal records entries
-entries_for file ordinal [] [] e answered has = tt
-entries_for file ordinal [] (entry ∷ entries) e answered has = absurd (omega (arith, ap length e))
-entries_for file ordinal (bytes ∷ records) [] e answered has = absurd (omega (arith, ap length e))
-entries_for file ordinal (bytes ∷ records) (entry ∷ entries) e answered has = (
-  entry_for file ordinal bytes entry (ap (λ l. get_or l 0 (about_of entry)) e) (answered 0 entry (omega arith)) (has 0 entry (omega arith)),
-  entries_for file (ordinal + 1) records entries (ap (drop 1) e)
+    → AreOneForEach choice file ordinal records entries
+entries_for choice file ordinal [] [] e answered has = tt
+entries_for choice file ordinal [] (entry ∷ entries) e answered has = absurd (omega (arith, ap length e))
+entries_for choice file ordinal (bytes ∷ records) [] e answered has = absurd (omega (arith, ap length e))
+entries_for choice file ordinal (bytes ∷ records) (entry ∷ entries) e answered has = (
+  entry_for choice file ordinal bytes entry (ap (λ l. get_or l 0 (about_of entry)) e) (answered 0 entry (omega arith)) (has 0 entry (omega arith)),
+  entries_for choice file (ordinal + 1) records entries (ap (drop 1) e)
       (λ k d below. answered (suc k) d (omega (arith, below))) (λ k d below. has (suc k) d (omega (arith, below))),
 )
 
@@ -59,17 +62,17 @@ split_of bytes records (Ended ending.Oversize) is has = (ending.Oversize, is.1, 
 split_of bytes records (Ended ending.Many) is has = (ending.Many, is.1, refl)
 split_of bytes records (Ended ending.Memory) is has = absurd (has refl)
 
-book_at : (meaning : ℕ → Meaning) (first : ℕ) (books : List Pages) (k : ℕ) (other : Pages) → AreBooks meaning first books
-    → k < length books → IsBook (meaning (first + k)) (first + k) (get_or books k other)
-book_at meaning first [] k other are below = absurd (omega (arith, below))
-book_at meaning first (book ∷ books) zero other (is, are) below =
-    (let e : first ≡ first + 0 = omega arith in subst (λ n. IsBook (meaning n) n book) e is)
-book_at meaning first (book ∷ books) (suc k) other (is, are) below =
+book_at : (choice : Choice) (meaning : ℕ → Meaning) (first : ℕ) (books : List Pages) (k : ℕ) (other : Pages) → AreBooks choice meaning first books
+    → k < length books → IsBook choice (meaning (first + k)) (first + k) (get_or books k other)
+book_at choice meaning first [] k other are below = absurd (omega (arith, below))
+book_at choice meaning first (book ∷ books) zero other (is, are) below =
+    (let e : first ≡ first + 0 = omega arith in subst (λ n. IsBook choice (meaning n) n book) e is)
+book_at choice meaning first (book ∷ books) (suc k) other (is, are) below =
     (let e : first + 1 + k ≡ first + suc k = omega arith in
-    subst (λ n. IsBook (meaning n) n (get_or books k other)) e (book_at meaning (first + 1) books k other are (omega (arith, below))))
+    subst (λ n. IsBook choice (meaning n) n (get_or books k other)) e (book_at choice meaning (first + 1) books k other are (omega (arith, below))))
 
-run_of : (bytes : List ℕ) (file : ℕ) (book : Pages) → IsBook (Opened bytes false) file book → HasMemory book → IsWholeRun file bytes book
-run_of bytes file book is has =
+run_of : (choice : Choice) (bytes : List ℕ) (file : ℕ) (book : Pages) → IsBook choice (Opened bytes false) file book → HasMemory book → IsWholeRun choice file bytes book
+run_of choice bytes file book is has =
     let whole = is.whole in
     let found = whole.found in
     let marked : IsMarked bytes false whole.records book.mark =
@@ -80,16 +83,16 @@ run_of bytes file book is has =
       records = whole.records;
       end = split.0;
       split = split.1;
-      entries = entries_for file 0 whole.records book.entries whole.each is.answered has.answers;
+      entries = entries_for choice file 0 whole.records book.entries whole.each is.answered has.answers;
       mark = split.2;
     }
 
-pub whole_runs : (meaning : ℕ → Meaning) (files : ℕ) (books : List Pages) (other : Pages) → AreAllBooks meaning files books
+pub whole_runs : (choice : Choice) (meaning : ℕ → Meaning) (files : ℕ) (books : List Pages) (other : Pages) → AreAllBooks choice meaning files books
     → (file : ℕ) (bytes : List ℕ) → file < files → meaning file ≡ Opened bytes false
-    → HasMemory (get_or books file other) → IsWholeRun file bytes (get_or books file other)
-whole_runs meaning files books other are file bytes below opens has =
+    → HasMemory (get_or books file other) → IsWholeRun choice file bytes (get_or books file other)
+whole_runs choice meaning files books other are file bytes below opens has =
     let book = get_or books file other in
     let e : 0 + file ≡ file = omega arith in
-    let is : IsBook (meaning file) file book =
-    subst (λ n. IsBook (meaning n) n book) e (book_at meaning 0 books file other are.each (omega (arith, below, are.count))) in
-    run_of bytes file book (subst (λ m. IsBook m file book) opens is) has
+    let is : IsBook choice (meaning file) file book =
+    subst (λ n. IsBook choice (meaning n) n book) e (book_at choice meaning 0 books file other are.each (omega (arith, below, are.count))) in
+    run_of choice bytes file book (subst (λ m. IsBook choice m file book) opens is) has

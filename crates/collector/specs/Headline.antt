@@ -5,6 +5,7 @@ use Rattle.planar_code.specs.Stream.{lists_of}
 use Rattle.planar_code.specs.Split.{IsSplit}
 use Rattle.streams.specs.declared.found.Mark.{Mark}
 use Rattle.embedding.specs.Rules.{FirstBroken}
+use Rattle.choices.specs.declared.Choice.{Choice}
 use Rattle.entries.specs.declared.found.Answer.{Answer}
 use Rattle.entries.specs.declared.found.Answer.TheVariants.{Laid, Refused, NoMemory}
 use Rattle.entries.specs.declared.entry.Entry.{Entry}
@@ -12,32 +13,34 @@ use Rattle.entries.specs.Answers.{IsLaid}
 use Rattle.books.specs.Books.{Pages}
 
 -- The answer names the first rule that a record of these bytes breaks, or gives a plane with the record's lists, an
--- orthogonal representation of it and its outer face with the fewest bends, and points that draw it, if any are given.
-abbrev pub IsDecided : List ℕ → Answer → Type 0
-IsDecided bytes (Laid plane shape prices drawing) = IsLaid bytes plane shape prices drawing
-IsDecided bytes (Refused rule) = FirstBroken (lists_of bytes) rule
-IsDecided bytes NoMemory = ⊥
+-- orthogonal representation of it and its chosen outer face with the fewest bends, and points that draw it, if any are
+-- given.
+abbrev pub IsDecided : Choice → List ℕ → Answer → Type 0
+IsDecided choice bytes (Laid plane shape prices drawing) = IsLaid choice bytes plane shape prices drawing
+IsDecided choice bytes (Refused rule) = FirstBroken (lists_of bytes) rule
+IsDecided choice bytes NoMemory = ⊥
 
--- the entry is about the record of these bytes, at this place of this file, and decides it
-pub record IsEntryFor (file ordinal : ℕ) (bytes : List ℕ) (entry : Entry) : Type 0 where
+-- the entry is about the record of these bytes, at this place of this file, and decides it under this choice
+pub record IsEntryFor (choice : Choice) (file ordinal : ℕ) (bytes : List ℕ) (entry : Entry) : Type 0 where
   pub file_is : entry.file ≡ file
   pub ordinal_is : entry.ordinal ≡ ordinal
   pub bytes_are : entry.rec ≡ bytes
-  pub decided : ∥ IsDecided bytes entry.answer ∥₁
+  pub choice_is : entry.choice ≡ choice
+  pub decided : ∥ IsDecided choice bytes entry.answer ∥₁
 
 -- the entries are one for each record, each once and in order; the first is at this place of the file
-abbrev pub AreOneForEach : ℕ → ℕ → List (List ℕ) → List Entry → Type 0
-AreOneForEach file ordinal [] [] = ⊤
-AreOneForEach file ordinal (bytes ∷ records) (entry ∷ entries) =
-    IsEntryFor file ordinal bytes entry × AreOneForEach file (ordinal + 1) records entries
-AreOneForEach file ordinal _ _ = ⊥
+abbrev pub AreOneForEach : Choice → ℕ → ℕ → List (List ℕ) → List Entry → Type 0
+AreOneForEach choice file ordinal [] [] = ⊤
+AreOneForEach choice file ordinal (bytes ∷ records) (entry ∷ entries) =
+    IsEntryFor choice file ordinal bytes entry × AreOneForEach choice file (ordinal + 1) records entries
+AreOneForEach choice file ordinal _ _ = ⊥
 
 -- the entries are one for each record of the file's bytes, and the mark is their ending
-pub record IsWholeRun (file : ℕ) (bytes : List ℕ) (book : Pages) : Type 0 where
+pub record IsWholeRun (choice : Choice) (file : ℕ) (bytes : List ℕ) (book : Pages) : Type 0 where
   pub records : List (List ℕ)
   pub end : Ending
   pub split : IsSplit bytes records end
-  pub entries : AreOneForEach file 0 records book.entries
+  pub entries : AreOneForEach choice file 0 records book.entries
   pub mark : book.mark ≡ Mark.Ended end
 
 -- no want of memory stands in the book

@@ -4,6 +4,7 @@ ghost use Rattle.lanes.specs.declared.message.Message.TheVariants.{Item};
 ghost use Rattle.entries.specs.Abouts.{about_of};
 
 use answers::{Entry, answer};
+use choices::Choice;
 use lanes::Keep;
 use planar_code::Record;
 use std::alloc::{AllocError, Global};
@@ -27,8 +28,9 @@ impl Keep for Entries {
         file: u32,
         ordinal: u32,
         rec: Record,
+        choice: Choice,
     ) -> Result<(), AllocError> {
-        self.entries.push(answer(alloc, file, ordinal, rec))?;
+        self.entries.push(answer(alloc, file, ordinal, rec, choice))?;
         Ok(())
     }
 

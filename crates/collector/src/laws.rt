@@ -1,5 +1,6 @@
 //! The promise of a run in short, as the contract of a function that does nothing.
 ghost use Rattle.std.specs.Prelude.{◌≡◌, ℕ, ◌<◌, List, false, slice_index_or};
+ghost use Rattle.choices.specs.declared.Choice.{Choice};
 ghost use Rattle.lanes.specs.Opening.{Meaning, Opened};
 ghost use Rattle.books.specs.Books.{Pages};
 ghost use Rattle.books.specs.Results.{AreAllBooks};
@@ -9,13 +10,13 @@ ghost use Rattle.collector.specs.Headline.{IsWholeRun, HasMemory};
 /// its bytes, and in which no want of memory stands, has one entry for each record of these bytes,
 /// each once and in order, and their ending as its mark. Each entry names the first rule that its
 /// record breaks, or gives an orthogonal representation with the fewest bends of the record's embedding
-/// and outer face, and coordinates, where given, draw it without crossings.
+/// and chosen outer face, and coordinates, where given, draw it without crossings.
 pub fn whole_run()
-    ensures { (meaning : ℕ → Meaning) (files : ℕ) (books : List Pages) (other : Pages)
-        → AreAllBooks meaning files books
+    ensures { (choice : Choice) (meaning : ℕ → Meaning) (files : ℕ) (books : List Pages) (other : Pages)
+        → AreAllBooks choice meaning files books
         → (file : ℕ) (bytes : List ℕ)
         → file < files
         → meaning file ≡ Opened bytes false
         → HasMemory (slice_index_or books file other)
-        → IsWholeRun file bytes (slice_index_or books file other) }
+        → IsWholeRun choice file bytes (slice_index_or books file other) }
 {}

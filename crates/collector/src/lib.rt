@@ -9,6 +9,7 @@ mod run;
 
 pub use answers::{Answer, Cause, Entry, answer};
 pub use books::{Batch, Book};
+pub use choices::Choice;
 pub use lanes::{Gate, MemOpener, OpenFault, OpenGate, Opener, Stage};
 pub use plain::{MAX_FILES, run_plain};
 pub use reports::{push_cause, write_json, write_report};

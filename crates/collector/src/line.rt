@@ -2,6 +2,7 @@
 ghost use Rattle.std.specs.Prelude.{◌≡◌};
 
 use answers::{Embedded, Framed, Shaped};
+use choices::Choice;
 use entries::Entry;
 use lane_runs::Line;
 use planar_code::Record;
@@ -19,7 +20,12 @@ impl Line for Answering {
 
     type Entry = Entry;
 
-    fn framed(file: u32, ordinal: u32, rec: Record) -> Framed {
-        Framed { file, ordinal, rec }
+    fn framed(file: u32, ordinal: u32, rec: Record, choice: Choice) -> Framed {
+        Framed {
+            file,
+            ordinal,
+            rec,
+            choice,
+        }
     }
 }

@@ -5,6 +5,7 @@ ghost use Rattle.books.specs.Results.{AreAllBooks};
 
 use crate::kept::Entries;
 use books::{Batch, Book};
+use choices::Choice;
 use lanes::{Opener, read_file};
 use std::alloc::{AllocError, Global};
 use streams::{BatchFault, piece_buffer};
@@ -12,16 +13,21 @@ use streams::{BatchFault, piece_buffer};
 /// How many files a run takes at most.
 pub const MAX_FILES: u32 = 64;
 
-/// Reads the first `files` files of the opener and answers each record, on the caller's thread. It
-/// hands out a book for each file, whose mark also tells where a file could not be opened, failed or
+/// Reads the first `files` files of the opener and answers each record under this choice of the outer face,
+/// on the caller's thread. It hands out a book for each file, whose mark also tells where a file could not be opened, failed or
 /// found no memory.
 ///
 /// # Errors
 ///
 /// `TooManyFiles` exactly where there are more than 64; `Memory` where there was none for the buffer
 /// that files are read into or for the books. There is no other.
-pub fn run_plain<O: Opener>(alloc: Global, opener: &O, files: u32) -> Result<Batch, BatchFault>
-    ensures books { IfOk result (AreAllBooks (O.meaning opener.now) files) }
+pub fn run_plain<O: Opener>(
+    alloc: Global,
+    opener: &O,
+    files: u32,
+    choice: Choice,
+) -> Result<Batch, BatchFault>
+    ensures books { IfOk result (AreAllBooks choice (O.meaning opener.now) files) }
     ensures too_many { (64 < files) ↔ (result ≡ Err BatchFault.TooManyFiles) }
     ensures no_other { IfErr result (λ fault.
         (fault ≡ BatchFault.TooManyFiles) ⊎ (fault ≡ BatchFault.Memory)) }
@@ -29,21 +35,26 @@ pub fn run_plain<O: Opener>(alloc: Global, opener: &O, files: u32) -> Result<Bat
     if files > MAX_FILES {
         return Err(BatchFault::TooManyFiles);
     }
-    match plain_books(alloc, opener, files) {
+    match plain_books(alloc, opener, files, choice) {
         Ok(batch) => Ok(batch),
         Err(AllocError) => Err(BatchFault::Memory),
     }
 }
 
 /// The books of the first files.
-fn plain_books<O: Opener>(alloc: Global, opener: &O, files: u32) -> Result<Batch, AllocError>
+fn plain_books<O: Opener>(
+    alloc: Global,
+    opener: &O,
+    files: u32,
+    choice: Choice,
+) -> Result<Batch, AllocError>
     requires { files ≤ 64 }
-    ensures { IfOk result (AreAllBooks (O.meaning opener.now) files) }
+    ensures { IfOk result (AreAllBooks choice (O.meaning opener.now) files) }
 {
     let mut buffer = piece_buffer(alloc)?;
     let mut books = Vec::with_capacity(alloc, files as usize)?;
     for file in 0..files {
-        books.push(read_book(alloc, opener, file, buffer.as_mut_slice())?)?;
+        books.push(read_book(alloc, opener, file, choice, buffer.as_mut_slice())?)?;
     }
     Ok(Batch::new(books))
 }
@@ -53,15 +64,16 @@ fn read_book<O: Opener>(
     alloc: Global,
     opener: &O,
     file: u32,
+    choice: Choice,
     buffer: &mut [u8],
 ) -> Result<Book, AllocError>
     requires { 0 < length buffer.old }
-    ensures book { IfOk result (IsBook (O.meaning opener.now file) file) }
+    ensures book { IfOk result (IsBook choice (O.meaning opener.now file) file) }
     ensures buffer { length buffer.new ≡ length buffer.old }
 {
     let mut entries = Entries {
         entries: Vec::new(alloc),
     };
-    let mark = read_file(opener, alloc, file, buffer, &mut entries)?;
+    let mark = read_file(opener, alloc, file, choice, buffer, &mut entries)?;
     Ok(Book::new(entries.entries, mark))
 }

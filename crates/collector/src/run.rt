@@ -5,6 +5,7 @@ ghost use Rattle.books.specs.Results.{AreAllBooks};
 use crate::line::Answering;
 use crate::plain::MAX_FILES;
 use books::{Batch, bind};
+use choices::Choice;
 use lane_runs::{LaneFault, drafts_of_lanes};
 use lanes::{Gate, Opener};
 use ruled_lanes::LANES;
@@ -16,7 +17,8 @@ use streams::BatchFault;
 /// How many lanes a run has at most.
 pub const MAX_LANES: u32 = LANES;
 
-/// Reads the first `files` files of the opener and answers each record, in lanes of four threads each:
+/// Reads the first `files` files of the opener and answers each record under this choice of the outer face,
+/// in lanes of four threads each:
 /// one reads the files, one reads graphs and traces faces, one finds shapes, one draws. A lane draws its
 /// next file when it is free. It hands out a book for each file, whose mark also tells where a file could
 /// not be opened, failed or found no memory. At most `capacity` messages wait between two stages, and as
@@ -36,11 +38,12 @@ pub fn run_batch<R: Threads + Wait + Sync, O: Opener, G: Gate>(
     files: u32,
     lanes: u32,
     capacity: u32,
+    choice: Choice,
     gate: &G,
 ) -> Result<Batch, BatchFault>
     requires least { 1 ≤ capacity }
     requires most { capacity ≤ 64 }
-    ensures books { IfOk result (AreAllBooks (O.meaning opener.now) files) }
+    ensures books { IfOk result (AreAllBooks choice (O.meaning opener.now) files) }
     ensures too_many { (64 < files) ↔ (result ≡ Err BatchFault.TooManyFiles) }
     ensures bad_lanes { (((lanes ≡ 0) ⊎ (4 < lanes)) × (files ≤ 64)) ↔ (result ≡ Err BatchFault.BadLanes) }
 {
@@ -51,7 +54,7 @@ pub fn run_batch<R: Threads + Wait + Sync, O: Opener, G: Gate>(
         return Err(BatchFault::BadLanes);
     }
     let drafts = match drafts_of_lanes::<Answering, _, _, _>(
-        rt, alloc, opener, gate, files, lanes, capacity,
+        rt, alloc, opener, gate, files, lanes, capacity, choice,
     ) {
         Ok(drafts) => drafts,
         Err(LaneFault::Memory) => return Err(BatchFault::Memory),

@@ -6,6 +6,7 @@ use Rattle.streams.specs.declared.found.Mark.{Mark}
 use Rattle.streams.specs.Found.{Found}
 use Rattle.streams.specs.Marks.{IsMarked}
 use Rattle.streams.specs.Text.{frames_text}
+use Rattle.choices.specs.declared.Choice.{Choice}
 use Rattle.lanes.specs.Opening.{Silent}
 use Rattle.books.specs.Books.{Pages}
 use Rattle.books.specs.Results.{AreAllBooks}
@@ -31,11 +32,11 @@ pub record IsReported (old new : Option (List ℕ)) (failed : Bool) (status : �
   pub complete : IsComplete found ↔ (status ≡ 0)
   pub other : status ≢ 0 → status ≡ 3
 
--- The whole text of the books of so many files, in this form, was added to the output, and the status tells whether each
+-- The whole text of the books of so many files under this choice, in this form, was added to the output, and the status tells whether each
 -- book is whole. Nothing is known of the files beforehand.
-pub record IsLaidOut (form : Form) (files : ℕ) (old new : Option (List ℕ)) (failed : Bool) (status : ℕ) : Type 0 where
+pub record IsLaidOut (choice : Choice) (form : Form) (files : ℕ) (old new : Option (List ℕ)) (failed : Bool) (status : ℕ) : Type 0 where
   pub books : List Pages
-  pub of_files : AreAllBooks (λ _. Silent) files books
+  pub of_files : AreAllBooks choice (λ _. Silent) files books
   pub text : Appends old new (text_in form books)
   pub written : failed ≡ false
   pub whole : All IsWholeBook books ↔ (status ≡ 0)
@@ -44,4 +45,4 @@ pub record IsLaidOut (form : Form) (files : ℕ) (old new : Option (List ℕ)) (
 -- the whole report that a request asks for was added to the output, with this status
 abbrev pub IsDone : Request → Option (List ℕ) → Option (List ℕ) → Bool → ℕ → Type 0
 IsDone (Frames path) old new failed status = IsReported old new failed status
-IsDone (Layout paths lanes form) old new failed status = IsLaidOut form (vec_len paths) old new failed status
+IsDone (Layout paths lanes choice form) old new failed status = IsLaidOut choice form (vec_len paths) old new failed status

@@ -19,4 +19,4 @@ IsWord words text = Any (λ word. string_bytes word ≡ text) words
 -- all files that the request names stand among the words, and it names some
 abbrev pub IsNamedIn : List (String Global) → Request → Type 0
 IsNamedIn words (Frames path) = IsWord words path.now
-IsNamedIn words (Layout paths lanes form) = (0 < vec_len paths) × All (λ path. IsWord words path.now) paths.items
+IsNamedIn words (Layout paths lanes choice form) = (0 < vec_len paths) × All (λ path. IsWord words path.now) paths.items

@@ -3,6 +3,7 @@ ghost use Rattle.std.specs.Prelude.{◌≡◌, ◌<◌, ◌≤◌, ◌⊎◌, �
 ghost use Rattle.program_io.specs.Refusals.{IsRefusal};
 ghost use Rattle.commands.specs.Statuses.{IsLaidOut};
 
+use choices::Choice;
 use collector::run_batch;
 use lanes::OpenGate;
 use program_io::{Fault, FileOpener};
@@ -15,8 +16,8 @@ use streams::{BatchFault, Sink};
 /// How many messages wait between two threads of a run at most.
 pub const CAPACITY: u32 = 64;
 
-/// Writes answers to the records of these files in this form, worked out in so many lanes, and gives back
-/// the status of the report.
+/// Writes answers to the records of these files in this form, under this choice of the outer face and worked
+/// out in so many lanes, and gives back the status of the report.
 ///
 /// # Errors
 ///
@@ -27,6 +28,7 @@ pub fn layout<R: Files + AllocGlobal + Threads + Wait + Sync, S: Sink>(
     rt: &R,
     paths: &[&str],
     lanes: u32,
+    choice: Choice,
     form: Form,
     out: &mut S,
 ) -> Result<u8, Fault>
@@ -34,7 +36,7 @@ where
     R::File: Send,
     R::Dir: Send,
     requires { S.failed out.old ≡ false }
-    ensures reported { IfOk result (IsLaidOut form (length paths.now) (S.taken out.old) (S.taken out.new) (S.failed out.new)) }
+    ensures reported { IfOk result (IsLaidOut choice form (length paths.now) (S.taken out.old) (S.taken out.new) (S.failed out.new)) }
     ensures too_many { (64 < length paths.now) ↔ (result ≡ Err (Fault.Run BatchFault.TooManyFiles)) }
     ensures bad_lanes { (((lanes ≡ 0) ⊎ (4 < lanes)) × (length paths.now ≤ 64))
         ↔ (result ≡ Err (Fault.Run BatchFault.BadLanes)) }
@@ -42,7 +44,16 @@ where
 {
     let opener = FileOpener { rt, names: paths };
     let files = u32::try_from(paths.len()).unwrap_or(u32::MAX);
-    let batch = run_batch(rt, rt.alloc(), &opener, files, lanes, CAPACITY, &OpenGate)?;
+    let batch = run_batch(
+        rt,
+        rt.alloc(),
+        &opener,
+        files,
+        lanes,
+        CAPACITY,
+        choice,
+        &OpenGate,
+    )?;
     form.write(rt.alloc(), &batch, out)?;
     Ok(status_of_batch(&batch))
 }

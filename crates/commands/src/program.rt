@@ -89,7 +89,12 @@ where
 {
     let outcome = match request {
         Request::Frames { path } => frames(rt, path, out),
-        Request::Layout { paths, lanes, form } => layout(rt, paths.as_slice(), lanes, form, out),
+        Request::Layout {
+            paths,
+            lanes,
+            choice,
+            form,
+        } => layout(rt, paths.as_slice(), lanes, choice, form, out),
     };
     match outcome {
         Ok(status) => status,

@@ -2,6 +2,7 @@
 ghost use Rattle.std.specs.Prelude.{◌≡◌, IfOk, IfSome, IsTrue, All};
 ghost use Rattle.commands.specs.Words.{AsksHelp, IsHelpWord, IsWord, IsNamedIn};
 
+use choices::Choice;
 use clap::error::ErrorKind;
 use clap::{Arg, ArgAction, ArgMatches, Command, Error, value_parser};
 use reports::Form;
@@ -14,10 +15,12 @@ pub enum Request<'a> {
     Frames {
         path: &'a str,
     },
-    /// Answers to the records of files, worked out in so many lanes and written in a form.
+    /// Answers to the records of files under a choice of the outer face, worked out in so many lanes and
+    /// written in a form.
     Layout {
         paths: Vec<&'a str>,
         lanes: u32,
+        choice: Choice,
         form: Form,
     },
 }
@@ -74,12 +77,21 @@ fn request_of<'a>(
     Ok(Some(Request::Layout {
         paths,
         lanes: layout.get_one("lanes").unwrap_or(1),
+        choice: choice_of(layout),
         form: if layout.get_flag("json") {
             Form::Json
         } else {
             Form::Report
         },
     }))
+}
+
+/// The choice of the outer face that was found in the words.
+fn choice_of(layout: &ArgMatches) -> Choice {
+    match layout.get_str("outer") {
+        Some("best") => Choice::Best,
+        _ => Choice::First,
+    }
 }
 
 fn frames_request<'a>(words: &'a [String], matches: &ArgMatches<'a>) -> Option<Request<'a>>
@@ -140,6 +152,12 @@ fn describe_layout<'a>(alloc: Global) -> Result<Command<'a>, AllocError> {
         .help("How many files are worked on at once, 1 to 4")
         .value_parser(value_parser!(u32))
         .default_value("1");
+    let outer = Arg::new(alloc, "outer")
+        .long("outer")
+        .value_name("CHOICE")
+        .help("The outer face: that with the most edges round it, or that with which fewest bends are needed")
+        .value_parser(OUTER)
+        .default_value("first");
     let json = Arg::new(alloc, "json")
         .long("json")
         .help("Prints JSON lines in place of the report: also shapes, prices and points")
@@ -155,6 +173,7 @@ fn describe_layout<'a>(alloc: Global) -> Result<Command<'a>, AllocError> {
         )
         .after_help(LAYOUT_HELP)
         .arg(lanes)?
+        .arg(outer)?
         .arg(json)?
         .arg(files)
 }
@@ -169,6 +188,9 @@ fn describe_frames<'a>(alloc: Global) -> Result<Command<'a>, AllocError> {
         .after_help(FRAMES_HELP)
         .arg(file)
 }
+
+/// The words for the choices of the outer face.
+const OUTER: &[&str] = &["first", "best"];
 
 const HELP: &str = "Examples:
   planarbend layout examples/two.pc

@@ -2,7 +2,7 @@
 
 use crate::batches::read_files;
 use anyhow::{Result, bail};
-use collector::{Batch, OpenGate, run_batch, run_plain};
+use collector::{Batch, Choice, OpenGate, run_batch, run_plain};
 use std::rt::{Clock, Files};
 use std::sync::Wait;
 use std::thread::Threads;
@@ -13,7 +13,7 @@ pub fn time_plain<R: Files + Print + AllocGlobal + Clock>(rt: &R, names: &[Strin
     let opener = read_files(rt, names)?;
     let count = u32::try_from(names.len())?;
     let start = Instant::now(rt)?;
-    let batch = run_plain(rt.alloc(), &opener, count)?;
+    let batch = run_plain(rt.alloc(), &opener, count, Choice::First)?;
     tell(rt, &batch, start)
 }
 
@@ -31,7 +31,16 @@ pub fn time_lanes<R: Files + Print + AllocGlobal + Clock + Threads + Wait + Sync
     let opener = read_files(rt, names)?;
     let count = u32::try_from(names.len())?;
     let start = Instant::now(rt)?;
-    let batch = run_batch(rt, rt.alloc(), &opener, count, lanes, capacity, &OpenGate)?;
+    let batch = run_batch(
+        rt,
+        rt.alloc(),
+        &opener,
+        count,
+        lanes,
+        capacity,
+        Choice::First,
+        &OpenGate,
+    )?;
     tell(rt, &batch, start)
 }
 

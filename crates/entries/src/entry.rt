@@ -3,6 +3,7 @@
 ghost use Rattle.entries.specs.Answers.{Answers};
 
 use crate::found::Answer;
+use choices::Choice;
 use lanes::Numbered;
 use planar_code::Record;
 
@@ -14,12 +15,14 @@ pub struct Entry {
     /// The record's place in its file, from 0.
     pub ordinal: u32,
     pub rec: Record,
+    /// How the outer face of its plane is chosen.
+    pub choice: Choice,
     pub answer: Answer,
-    pub ghost answers: { ∥ Answers rec answer ∥₁ },
+    pub ghost answers: { ∥ Answers choice rec answer ∥₁ },
 }
 
 impl Numbered for Entry {
-    ghost about = { λ e. record { file = e.file; ordinal = e.ordinal; bytes = e.rec } };
+    ghost about = { λ e. record { file = e.file; ordinal = e.ordinal; bytes = e.rec; choice = e.choice } };
 
     fn file(&self) -> u32 {
         self.file

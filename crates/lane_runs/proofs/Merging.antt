@@ -2,6 +2,7 @@
 use Rattle.std.proofs.Common.{◌≡◌, ◌≢◌, ℕ, zero, suc, ◌+◌, ◌-◌, ◌==◌, ◌<◌, ◌≤◌, Bool, true, false, cond, List, [], ◌∷◌, ◌++◌, map, filter, length, All, inl, inr, refl, sym, ap, subst, ◌∙◌, arith}
 use Rattle.std.proofs.lemmas.Bool.{cases_eq, cases_lt, eq-eqb, ne_eqb}
 use Rattle.std.proofs.lemmas.List.Elements.{All-nil, All-cons, All-head, All-tail}
+use Rattle.choices.specs.declared.Choice.{Choice}
 use Rattle.ruled_lanes.specs.declared.limits.TheConstants.{LANES}
 use Rattle.ruled_lanes.specs.declared.fan_ends.LaneGiver.{LaneGiver}
 use Rattle.ruled_lanes.specs.declared.fan_ends.Gatherer.{Gatherer}
@@ -63,33 +64,33 @@ module _ {E : Type 0} (about : E → About) where
       ]
 
   -- so a file that was drawn once is told whole
-  file_whole : (meaning : ℕ → Meaning) (items : List (ℕ × Message E)) (seats : List Seat) → ((lane : ℕ) → HasDrawn meaning (drawn_at seats lane) (notes about (of_lane lane items)))
-      → (file : ℕ) → times file (all_drawn seats) ≡ 1 → HasFile (meaning file) file (notes about (untagged items))
-  file_whole meaning items seats has file once =
+  file_whole : (choice : Choice) (meaning : ℕ → Meaning) (items : List (ℕ × Message E)) (seats : List Seat) → ((lane : ℕ) → HasDrawn choice meaning (drawn_at seats lane) (notes about (of_lane lane items)))
+      → (file : ℕ) → times file (all_drawn seats) ≡ 1 → HasFile choice (meaning file) file (notes about (untagged items))
+  file_whole choice meaning items seats has file once =
       let drew = one_drew file seats once in
-      file_as (meaning file) file (notes about (of_lane drew.0 items)) (notes about (untagged items))
+      file_as choice (meaning file) file (notes about (of_lane drew.0 items)) (notes about (untagged items))
       (one_lane file drew.0 items (λ lane apart. (has lane).others file (drew.2 lane apart))) ((has drew.0).own file drew.1)
 
   -- of a giver's lane, what was taken and then what was held is what was given
   abbrev Settled : List (ℕ × Message E) → List (ℕ × Message E) → LaneGiver (Message E) → Type 0
   Settled items held g = of_lane (lane_of g) items ++ of_lane (lane_of g) held ≡ given_at g
 
-  ran_at : (meaning : ℕ → Meaning) (tickets : Tickets) (fan : Gatherer (Message E)) (items held : List (ℕ × Message E)) (first : ℕ) (givers : List (LaneGiver (Message E))) (seats : List Seat)
-      → HaveRun about meaning tickets fan first givers seats → All (Settled items held) givers → (n lane : ℕ) → n < length seats → lane ≡ first + n
-      → HasStop (notes about (of_lane lane items)) → HasDrawn meaning (drawn_at seats n) (notes about (of_lane lane items))
-  ran_at meaning tickets fan items held first [] [] run settled n lane below is stop = absurd (omega (arith, below))
-  ran_at meaning tickets fan items held first [] (s ∷ seats) run settled n lane below is stop = absurd run
-  ran_at meaning tickets fan items held first (g ∷ givers) [] run settled n lane below is stop = absurd run
-  ran_at meaning tickets fan items held first (g ∷ givers) (s ∷ seats) run settled zero lane below is stop =
+  ran_at : (choice : Choice) (meaning : ℕ → Meaning) (tickets : Tickets) (fan : Gatherer (Message E)) (items held : List (ℕ × Message E)) (first : ℕ) (givers : List (LaneGiver (Message E))) (seats : List Seat)
+      → HaveRun about choice meaning tickets fan first givers seats → All (Settled items held) givers → (n lane : ℕ) → n < length seats → lane ≡ first + n
+      → HasStop (notes about (of_lane lane items)) → HasDrawn choice meaning (drawn_at seats n) (notes about (of_lane lane items))
+  ran_at choice meaning tickets fan items held first [] [] run settled n lane below is stop = absurd (omega (arith, below))
+  ran_at choice meaning tickets fan items held first [] (s ∷ seats) run settled n lane below is stop = absurd run
+  ran_at choice meaning tickets fan items held first (g ∷ givers) [] run settled n lane below is stop = absurd run
+  ran_at choice meaning tickets fan items held first (g ∷ givers) (s ∷ seats) run settled zero lane below is stop =
       let here : lane_of g ≡ lane = run.0.gives_at.at_lane ∙ omega (arith, is) in
       let whole : of_lane lane items ++ of_lane lane held ≡ given_at g =
       subst (λ k. of_lane k items ++ of_lane k held ≡ given_at g) here (All-head (Settled items held) g givers settled) in
       let same : notes about (of_lane lane items) ≡ notes about (given_at g) =
       stop_last (notes about (of_lane lane items)) (notes about (of_lane lane held)) (notes about (given_at g))
       (sym (notes-append about (of_lane lane items) (of_lane lane held)) ∙ ap (notes about) whole) stop run.0.tells.tells.stopped in
-      subst (HasDrawn meaning (drawn_at (s ∷ seats) zero)) (sym same) run.0.tells.tells.told
-  ran_at meaning tickets fan items held first (g ∷ givers) (s ∷ seats) run settled (suc n) lane below is stop =
-      ran_at meaning tickets fan items held (first + 1) givers seats run.1 (All-tail (Settled items held) g givers settled) n lane (omega (arith, below)) (omega (arith, is)) stop
+      subst (HasDrawn choice meaning (drawn_at (s ∷ seats) zero)) (sym same) run.0.tells.tells.told
+  ran_at choice meaning tickets fan items held first (g ∷ givers) (s ∷ seats) run settled (suc n) lane below is stop =
+      ran_at choice meaning tickets fan items held (first + 1) givers seats run.1 (All-tail (Settled items held) g givers settled) n lane (omega (arith, below)) (omega (arith, is)) stop
 
   idle_at : (fan : Gatherer (Message E)) (items held : List (ℕ × Message E)) (first : ℕ) (givers : List (LaneGiver (Message E)))
       → AreNumbered (IsIdle fan) first givers → All (Settled items held) givers → (n lane : ℕ) → n < length givers → lane ≡ first + n → of_lane lane items ≡ []
@@ -102,14 +103,14 @@ module _ {E : Type 0} (about : E → About) where
       idle_at fan items held (first + 1) givers idle.1 (All-tail (Settled items held) g givers settled) n lane (omega (arith, below)) (omega (arith, is))
 
   -- each lane has told of what its seat drew
-  each_lane : (meaning : ℕ → Meaning) (tickets : Tickets) (fan : Gatherer (Message E)) (items held : List (ℕ × Message E)) (idle ran : List (LaneGiver (Message E))) (seats : List Seat) (running : ℕ)
-      → length seats ≡ running → running + length idle ≡ LANES → HaveRun about meaning tickets fan 0 ran seats → AreNumbered (IsIdle fan) running idle
+  each_lane : (choice : Choice) (meaning : ℕ → Meaning) (tickets : Tickets) (fan : Gatherer (Message E)) (items held : List (ℕ × Message E)) (idle ran : List (LaneGiver (Message E))) (seats : List Seat) (running : ℕ)
+      → length seats ≡ running → running + length idle ≡ LANES → HaveRun about choice meaning tickets fan 0 ran seats → AreNumbered (IsIdle fan) running idle
       → All (Settled items held) idle → All (Settled items held) ran → ((lane : ℕ) → LANES ≤ lane → of_lane lane items ≡ [])
-      → HaveStopped about running items → (lane : ℕ) → HasDrawn meaning (drawn_at seats lane) (notes about (of_lane lane items))
-  each_lane meaning tickets fan items held idle ran seats running many lanes run still settled-idle settled-ran past stopped lane =
+      → HaveStopped about running items → (lane : ℕ) → HasDrawn choice meaning (drawn_at seats lane) (notes about (of_lane lane items))
+  each_lane choice meaning tickets fan items held idle ran seats running many lanes run still settled-idle settled-ran past stopped lane =
       elim (cases_lt lane running) [
-        | inl below ↦ ran_at meaning tickets fan items held 0 ran seats run settled-ran lane lane (omega (arith, below, many)) (omega arith) (stopped lane below)
-        | inr above ↦ nothing_drawn meaning (drawn_at seats lane) (notes about (of_lane lane items)) (drawn_past seats lane (omega (arith, above, many)))
+        | inl below ↦ ran_at choice meaning tickets fan items held 0 ran seats run settled-ran lane lane (omega (arith, below, many)) (omega arith) (stopped lane below)
+        | inr above ↦ nothing_drawn choice meaning (drawn_at seats lane) (notes about (of_lane lane items)) (drawn_past seats lane (omega (arith, above, many)))
             (ap (notes about) (elim (cases_lt lane LANES) [
               | inl known ↦ idle_at fan items held running idle still settled-idle (lane - running) lane (omega (arith, known, above, lanes)) (omega (arith, above))
               | inr unknown ↦ past lane unknown
@@ -127,13 +128,13 @@ module _ {X : Type 0} (P : X → Type 0) where
 
 module _ {E : Type 0} (about : E → About) where
   -- a fan that was settled tells each file that was drawn once
-  pub settled_whole : (meaning : ℕ → Meaning) (tickets : Tickets) (fan : Gatherer (Message E)) (items : List (ℕ × Message E)) (givers idle ran : List (LaneGiver (Message E))) (seats : List Seat) (running : ℕ)
-      → givers ≡ idle ++ ran → length seats ≡ running → running + length idle ≡ LANES → HaveRun about meaning tickets fan 0 ran seats → AreNumbered (IsIdle fan) running idle
+  pub settled_whole : (choice : Choice) (meaning : ℕ → Meaning) (tickets : Tickets) (fan : Gatherer (Message E)) (items : List (ℕ × Message E)) (givers idle ran : List (LaneGiver (Message E))) (seats : List Seat) (running : ℕ)
+      → givers ≡ idle ++ ran → length seats ≡ running → running + length idle ≡ LANES → HaveRun about choice meaning tickets fan 0 ran seats → AreNumbered (IsIdle fan) running idle
       → SettlesFan items givers → HaveStopped about running items
-      → (file : ℕ) → times file (all_drawn seats) ≡ 1 → HasFile (meaning file) file (notes about (untagged items))
-  settled_whole meaning tickets fan items givers idle ran seats running are many lanes run still settled stopped =
+      → (file : ℕ) → times file (all_drawn seats) ≡ 1 → HasFile choice (meaning file) file (notes about (untagged items))
+  settled_whole choice meaning tickets fan items givers idle ran seats running are many lanes run still settled stopped =
       let held = settled.0 in
       let all : All (Settled about items held) (idle ++ ran) = subst (All (Settled about items held)) are settled.1 in
-      file_whole about meaning items seats
-      (each_lane about meaning tickets fan items held idle ran seats running many lanes run still
+      file_whole about choice meaning items seats
+      (each_lane about choice meaning tickets fan items held idle ran seats running many lanes run still
       (all_front (Settled about items held) idle ran all) (all_back (Settled about items held) idle ran all) (λ lane past. (settled.2 lane past).0) stopped)

@@ -2,6 +2,7 @@
 use Rattle.std.proofs.Common.{◌≡◌, ℕ, suc, ◌+◌, List, [], ◌∷◌, ◌++◌, length, All, Some, slice_get, refl, sym, subst, ◌∙◌, arith}
 use Rattle.std.proofs.lemmas.List.Elements.{All-nil, All-cons, All-head, All-tail, All-append}
 use Rattle.crossbeam_channel.specs.Ends.{sends_on, receives_on}
+use Rattle.choices.specs.declared.Choice.{Choice}
 use Rattle.ruled_lanes.specs.declared.fan_ends.LaneGiver.{LaneGiver}
 use Rattle.ruled_lanes.specs.declared.fan_ends.Gatherer.{Gatherer}
 use Rattle.ruled_lanes.specs.declared.dealing.Tickets.{Tickets}
@@ -33,10 +34,11 @@ module _ {E : Type 0} where
   idle_still fan after first givers same are =
       numbered_weaker (IsIdle fan) (IsIdle after) (λ k g is. record { gives_at = gives_still fan after k g same is.gives_at; none_given = is.none_given }) first givers are
 
-  pub running_still : {O : Type 0} (fan after : Gatherer E) (opener : O) (tickets : Tickets) (lane : ℕ) (promised : O) (promised_tickets : Tickets) (g : LaneGiver E)
-      → TakesFromSameFan fan after → IsRunning fan opener tickets lane promised promised_tickets g → IsRunning after opener tickets lane promised promised_tickets g
-  running_still fan after opener tickets lane promised promised_tickets g same is =
-      record { gives_at = gives_still fan after lane g same is.gives_at; same_opener = is.same_opener; same_tickets = is.same_tickets }
+  pub running_still : {O : Type 0} (fan after : Gatherer E) (choice : Choice) (opener : O) (tickets : Tickets) (lane : ℕ) (promised_choice : Choice) (promised : O) (promised_tickets : Tickets) (g : LaneGiver E)
+      → TakesFromSameFan fan after → IsRunning fan choice opener tickets lane promised_choice promised promised_tickets g
+      → IsRunning after choice opener tickets lane promised_choice promised promised_tickets g
+  running_still fan after choice opener tickets lane promised_choice promised promised_tickets g same is =
+      record { gives_at = gives_still fan after lane g same is.gives_at; same_choice = is.same_choice; same_opener = is.same_opener; same_tickets = is.same_tickets }
 
   -- the givers of a new fan are idle
   pub new_idle : (fan : Gatherer E) (first : ℕ) (givers : List (LaneGiver E)) → AreGiversOf fan givers → ((k : ℕ) (g : LaneGiver E) → slice_get givers k ≡ Some g → lane_of g ≡ first + k)
@@ -55,47 +57,48 @@ module _ {E : Type 0} where
       All-cons (λ (h : LaneGiver E). receives_on fan.receiver ≡ sends_on h.sender) g givers is.gives_at.to_fan (idle_givers fan (first + 1) givers are)
 
 module _ {E : Type 0} (about : E → About) where
-  pub ran_givers : (meaning : ℕ → Meaning) (tickets : Tickets) (fan : Gatherer (Message E)) (first : ℕ) (givers : List (LaneGiver (Message E))) (seats : List Seat)
-      → HaveRun about meaning tickets fan first givers seats → AreGiversOf fan givers
-  ran_givers meaning tickets fan first [] [] run = All-nil (λ (g : LaneGiver (Message E)). receives_on fan.receiver ≡ sends_on g.sender)
-  ran_givers meaning tickets fan first [] (s ∷ seats) run = absurd run
-  ran_givers meaning tickets fan first (g ∷ givers) [] run = absurd run
-  ran_givers meaning tickets fan first (g ∷ givers) (s ∷ seats) (is, run) =
-      All-cons (λ (h : LaneGiver (Message E)). receives_on fan.receiver ≡ sends_on h.sender) g givers is.gives_at.to_fan (ran_givers meaning tickets fan (first + 1) givers seats run)
+  pub ran_givers : (choice : Choice) (meaning : ℕ → Meaning) (tickets : Tickets) (fan : Gatherer (Message E)) (first : ℕ) (givers : List (LaneGiver (Message E))) (seats : List Seat)
+      → HaveRun about choice meaning tickets fan first givers seats → AreGiversOf fan givers
+  ran_givers choice meaning tickets fan first [] [] run = All-nil (λ (g : LaneGiver (Message E)). receives_on fan.receiver ≡ sends_on g.sender)
+  ran_givers choice meaning tickets fan first [] (s ∷ seats) run = absurd run
+  ran_givers choice meaning tickets fan first (g ∷ givers) [] run = absurd run
+  ran_givers choice meaning tickets fan first (g ∷ givers) (s ∷ seats) (is, run) =
+      All-cons (λ (h : LaneGiver (Message E)). receives_on fan.receiver ≡ sends_on h.sender) g givers is.gives_at.to_fan (ran_givers choice meaning tickets fan (first + 1) givers seats run)
 
   -- all givers, idle or not, are those of the fan
-  pub all_givers : (meaning : ℕ → Meaning) (tickets : Tickets) (fan : Gatherer (Message E)) (running : ℕ) (all idle ran : List (LaneGiver (Message E))) (seats : List Seat) → all ≡ idle ++ ran
-      → AreNumbered (IsIdle fan) running idle → HaveRun about meaning tickets fan 0 ran seats → AreGiversOf fan all
-  all_givers meaning tickets fan running all idle ran seats are still run =
+  pub all_givers : (choice : Choice) (meaning : ℕ → Meaning) (tickets : Tickets) (fan : Gatherer (Message E)) (running : ℕ) (all idle ran : List (LaneGiver (Message E))) (seats : List Seat) → all ≡ idle ++ ran
+      → AreNumbered (IsIdle fan) running idle → HaveRun about choice meaning tickets fan 0 ran seats → AreGiversOf fan all
+  all_givers choice meaning tickets fan running all idle ran seats are still run =
       subst (AreGiversOf fan) (sym are)
-      (All-append (λ (g : LaneGiver (Message E)). receives_on fan.receiver ≡ sends_on g.sender) idle ran (idle_givers fan running idle still) (ran_givers meaning tickets fan 0 ran seats run))
+      (All-append (λ (g : LaneGiver (Message E)). receives_on fan.receiver ≡ sends_on g.sender) idle ran (idle_givers fan running idle still) (ran_givers choice meaning tickets fan 0 ran seats run))
 
   -- one lane more has run
-  pub run_more : (meaning : ℕ → Meaning) (tickets : Tickets) (fan : Gatherer (Message E)) (first : ℕ) (givers : List (LaneGiver (Message E))) (seats : List Seat) (g : LaneGiver (Message E)) (s : Seat)
-      → HaveRun about meaning tickets fan first givers seats → HasRun about meaning tickets fan (first + length seats) g s → HaveRun about meaning tickets fan first (givers ++ g ∷ []) (seats ++ s ∷ [])
-  run_more meaning tickets fan first [] [] g s run is = (let e : first + 0 ≡ first = omega arith in subst (λ k. HasRun about meaning tickets fan k g s) e is, tt)
-  run_more meaning tickets fan first [] (z ∷ seats) g s run is = absurd run
-  run_more meaning tickets fan first (h ∷ givers) [] g s run is = absurd run
-  run_more meaning tickets fan first (h ∷ givers) (z ∷ seats) g s (was, run) is =
-      (was, run_more meaning tickets fan (first + 1) givers seats g s run (let e : first + length (z ∷ seats) ≡ first + 1 + length seats = omega arith in subst (λ k. HasRun about meaning tickets fan k g s) e is))
+  pub run_more : (choice : Choice) (meaning : ℕ → Meaning) (tickets : Tickets) (fan : Gatherer (Message E)) (first : ℕ) (givers : List (LaneGiver (Message E))) (seats : List Seat) (g : LaneGiver (Message E)) (s : Seat)
+      → HaveRun about choice meaning tickets fan first givers seats → HasRun about choice meaning tickets fan (first + length seats) g s → HaveRun about choice meaning tickets fan first (givers ++ g ∷ []) (seats ++ s ∷ [])
+  run_more choice meaning tickets fan first [] [] g s run is = (let e : first + 0 ≡ first = omega arith in subst (λ k. HasRun about choice meaning tickets fan k g s) e is, tt)
+  run_more choice meaning tickets fan first [] (z ∷ seats) g s run is = absurd run
+  run_more choice meaning tickets fan first (h ∷ givers) [] g s run is = absurd run
+  run_more choice meaning tickets fan first (h ∷ givers) (z ∷ seats) g s (was, run) is =
+      (was, run_more choice meaning tickets fan (first + 1) givers seats g s run (let e : first + length (z ∷ seats) ≡ first + 1 + length seats = omega arith in subst (λ k. HasRun about choice meaning tickets fan k g s) e is))
 
   -- a lane that kept its promise has run
-  pub has_run : {O : Type 0} (meaning_of : O → ℕ → Meaning) (fan : Gatherer (Message E)) (opener : O) (tickets : Tickets) (lane : ℕ) (promised : O) (promised_tickets : Tickets) (giver after : LaneGiver (Message E)) (seat : Seat)
-      → IsRunning fan opener tickets lane promised promised_tickets giver → GivesToSameLane giver after → TellsSeat about (meaning_of promised) promised_tickets seat (given_at after)
-      → HasRun about (meaning_of opener) tickets fan lane after seat
-  has_run meaning_of fan opener tickets lane promised promised_tickets giver after seat is same tells = record {
+  pub has_run : {O : Type 0} (meaning_of : O → ℕ → Meaning) (fan : Gatherer (Message E)) (choice : Choice) (opener : O) (tickets : Tickets) (lane : ℕ) (promised_choice : Choice) (promised : O) (promised_tickets : Tickets) (giver after : LaneGiver (Message E)) (seat : Seat)
+      → IsRunning fan choice opener tickets lane promised_choice promised promised_tickets giver → GivesToSameLane giver after → TellsSeat about promised_choice (meaning_of promised) promised_tickets seat (given_at after)
+      → HasRun about choice (meaning_of opener) tickets fan lane after seat
+  has_run meaning_of fan choice opener tickets lane promised_choice promised promised_tickets giver after seat is same tells = record {
     gives_at = record { to_fan = is.gives_at.to_fan ∙ sym same.0; at_lane = same.1 ∙ is.gives_at.at_lane };
-    tells = subst (λ t. TellsSeat about (meaning_of opener) t seat (given_at after)) is.same_tickets
-        (subst (λ o. TellsSeat about (meaning_of o) promised_tickets seat (given_at after)) is.same_opener tells);
+    tells = subst (λ t. TellsSeat about choice (meaning_of opener) t seat (given_at after)) is.same_tickets
+        (subst (λ o. TellsSeat about choice (meaning_of o) promised_tickets seat (given_at after)) is.same_opener
+        (subst (λ x. TellsSeat about x (meaning_of promised) promised_tickets seat (given_at after)) is.same_choice tells));
   }
 
   -- each lane that has run has its seat
-  pub many_ran : (meaning : ℕ → Meaning) (tickets : Tickets) (fan : Gatherer (Message E)) (first : ℕ) (givers : List (LaneGiver (Message E))) (seats : List Seat)
-      → HaveRun about meaning tickets fan first givers seats → length givers ≡ length seats
-  many_ran meaning tickets fan first [] [] run = refl
-  many_ran meaning tickets fan first [] (s ∷ seats) run = absurd run
-  many_ran meaning tickets fan first (g ∷ givers) [] run = absurd run
-  many_ran meaning tickets fan first (g ∷ givers) (s ∷ seats) (is, run) = omega (arith, many_ran meaning tickets fan (first + 1) givers seats run)
+  pub many_ran : (choice : Choice) (meaning : ℕ → Meaning) (tickets : Tickets) (fan : Gatherer (Message E)) (first : ℕ) (givers : List (LaneGiver (Message E))) (seats : List Seat)
+      → HaveRun about choice meaning tickets fan first givers seats → length givers ≡ length seats
+  many_ran choice meaning tickets fan first [] [] run = refl
+  many_ran choice meaning tickets fan first [] (s ∷ seats) run = absurd run
+  many_ran choice meaning tickets fan first (g ∷ givers) [] run = absurd run
+  many_ran choice meaning tickets fan first (g ∷ givers) (s ∷ seats) (is, run) = omega (arith, many_ran choice meaning tickets fan (first + 1) givers seats run)
 
 module _ {X : Type 0} where
   pub numbered_as : (fits : ℕ → X → Type 0) (n m : ℕ) (xs ys : List X) → n ≡ m → xs ≡ ys → AreNumbered fits n xs → AreNumbered fits m ys
@@ -103,10 +106,12 @@ module _ {X : Type 0} where
 
 module _ {E : Type 0} where
   -- an idle giver that was moved into the thread of its lane
-  pub started : {O : Type 0} (fan : Gatherer E) (opener : O) (tickets : Tickets) (n lane : ℕ) (promised : O) (promised_tickets : Tickets) (g moved : LaneGiver E)
-      → IsIdle fan n g → n ≡ lane → moved ≡ g → promised ≡ opener → promised_tickets ≡ tickets → IsRunning fan opener tickets lane promised promised_tickets moved
-  started fan opener tickets n lane promised promised_tickets g moved idle same move opens deals = record {
+  pub started : {O : Type 0} (fan : Gatherer E) (choice : Choice) (opener : O) (tickets : Tickets) (n lane : ℕ) (promised_choice : Choice) (promised : O) (promised_tickets : Tickets) (g moved : LaneGiver E)
+      → IsIdle fan n g → n ≡ lane → moved ≡ g → promised_choice ≡ choice → promised ≡ opener → promised_tickets ≡ tickets
+      → IsRunning fan choice opener tickets lane promised_choice promised promised_tickets moved
+  started fan choice opener tickets n lane promised_choice promised promised_tickets g moved idle same move chosen opens deals = record {
     gives_at = subst (GivesAt fan lane) (sym move) (subst (λ k. GivesAt fan k g) same idle.gives_at);
+    same_choice = chosen;
     same_opener = opens;
     same_tickets = deals;
   }

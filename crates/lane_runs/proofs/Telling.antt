@@ -4,6 +4,7 @@ use Rattle.std.proofs.lemmas.Bool.{cases_eq, eq-eqb, ne_eqb}
 use Rattle.std.proofs.lemmas.List.Elements.{filter-append}
 use Rattle.std.proofs.lemmas.List.Sums.{sum_by-cons, sum_by-append}
 use Rattle.streams.specs.declared.found.Mark.{Mark}
+use Rattle.choices.specs.declared.Choice.{Choice}
 use Rattle.lanes.specs.declared.message.Message.TheVariants.{Item, End, Stop}
 use Rattle.lanes.specs.Notes.{About, Note, is_of, of_file, file_notes, numbered, GoOn, IsStopped}
 use Rattle.lanes.specs.Opening.{Meaning}
@@ -13,21 +14,21 @@ use Rattle.lanes.specs.Files.{HasFile, HasDrawn}
 use Rattle.lane_runs.specs.Lanes.{HasTold}
 
 -- all notes of a file are of it, and none of another
-of_mine : (file ordinal : ℕ) (records : List (List ℕ)) (mark : Mark)
-    → of_file file (map Item (numbered file ordinal records) ++ End file mark ∷ []) ≡ map Item (numbered file ordinal records) ++ End file mark ∷ []
-of_mine file ordinal [] mark = ap (λ b. cond b (End file mark ∷ []) []) (eq-eqb file file refl)
-of_mine file ordinal (bytes ∷ records) mark =
-    let first : Note = Item (record { file = file; ordinal = ordinal; bytes = bytes }) in
-    let rest : List Note = map Item (numbered file (ordinal + 1) records) ++ End file mark ∷ [] in
-    ap (λ b. cond b (first ∷ of_file file rest) (of_file file rest)) (eq-eqb file file refl) ∙ ap (λ l. first ∷ l) (of_mine file (ordinal + 1) records mark)
+of_mine : (choice : Choice) (file ordinal : ℕ) (records : List (List ℕ)) (mark : Mark)
+    → of_file file (map Item (numbered choice file ordinal records) ++ End file mark ∷ []) ≡ map Item (numbered choice file ordinal records) ++ End file mark ∷ []
+of_mine choice file ordinal [] mark = ap (λ b. cond b (End file mark ∷ []) []) (eq-eqb file file refl)
+of_mine choice file ordinal (bytes ∷ records) mark =
+    let first : Note = Item (record { file = file; ordinal = ordinal; bytes = bytes; choice = choice }) in
+    let rest : List Note = map Item (numbered choice file (ordinal + 1) records) ++ End file mark ∷ [] in
+    ap (λ b. cond b (first ∷ of_file file rest) (of_file file rest)) (eq-eqb file file refl) ∙ ap (λ l. first ∷ l) (of_mine choice file (ordinal + 1) records mark)
 
-of_other : (other file ordinal : ℕ) (records : List (List ℕ)) (mark : Mark) → file ≢ other
-    → of_file other (map Item (numbered file ordinal records) ++ End file mark ∷ []) ≡ []
-of_other other file ordinal [] mark apart = ap (λ b. cond b (End file mark ∷ []) []) (ne_eqb file other apart)
-of_other other file ordinal (bytes ∷ records) mark apart =
-    let first : Note = Item (record { file = file; ordinal = ordinal; bytes = bytes }) in
-    let rest : List Note = map Item (numbered file (ordinal + 1) records) ++ End file mark ∷ [] in
-    ap (λ b. cond b (first ∷ of_file other rest) (of_file other rest)) (ne_eqb file other apart) ∙ of_other other file (ordinal + 1) records mark apart
+of_other : (choice : Choice) (other file ordinal : ℕ) (records : List (List ℕ)) (mark : Mark) → file ≢ other
+    → of_file other (map Item (numbered choice file ordinal records) ++ End file mark ∷ []) ≡ []
+of_other choice other file ordinal [] mark apart = ap (λ b. cond b (End file mark ∷ []) []) (ne_eqb file other apart)
+of_other choice other file ordinal (bytes ∷ records) mark apart =
+    let first : Note = Item (record { file = file; ordinal = ordinal; bytes = bytes; choice = choice }) in
+    let rest : List Note = map Item (numbered choice file (ordinal + 1) records) ++ End file mark ∷ [] in
+    ap (λ b. cond b (first ∷ of_file other rest) (of_file other rest)) (ne_eqb file other apart) ∙ of_other choice other file (ordinal + 1) records mark apart
 
 -- notes that go on
 going_both : (xs ys : List Note) → GoOn xs → GoOn ys → GoOn (xs ++ ys)
@@ -40,8 +41,8 @@ going_file : (xs : List About) (file : ℕ) (mark : Mark) → GoOn (map Item xs 
 going_file [] file mark = tt
 going_file (x ∷ xs) file mark = going_file xs file mark
 
-pub file_as : (meaning : Meaning) (file : ℕ) (ns others : List Note) → of_file file others ≡ of_file file ns → HasFile meaning file ns → HasFile meaning file others
-file_as meaning file ns others same has = record { records = has.records; mark = has.mark; told = same ∙ has.told; found = has.found }
+pub file_as : (choice : Choice) (meaning : Meaning) (file : ℕ) (ns others : List Note) → of_file file others ≡ of_file file ns → HasFile choice meaning file ns → HasFile choice meaning file others
+file_as choice meaning file ns others same has = record { records = has.records; mark = has.mark; told = same ∙ has.told; found = has.found }
 
 -- how often a number stands in a list with one more
 times_more : (x y : ℕ) (xs : List ℕ) → times x (xs ++ y ∷ []) ≡ times x xs + cond (y == x) 1 0
@@ -56,31 +57,31 @@ times_other : (x y : ℕ) (xs : List ℕ) → y ≢ x → times x (xs ++ y ∷ [
 times_other x y xs apart = times_more x y xs ∙ ap (λ b. times x xs + cond b 1 0) (ne_eqb y x apart) ∙ omega arith
 
 -- where nothing was drawn, nothing is told
-pub nothing_drawn : (meaning : ℕ → Meaning) (drawn : List ℕ) (ns : List Note) → drawn ≡ [] → ns ≡ [] → HasDrawn meaning drawn ns
-nothing_drawn meaning drawn ns none silent = record {
+pub nothing_drawn : (choice : Choice) (meaning : ℕ → Meaning) (drawn : List ℕ) (ns : List Note) → drawn ≡ [] → ns ≡ [] → HasDrawn choice meaning drawn ns
+nothing_drawn choice meaning drawn ns none silent = record {
   own = λ file once. absurd (omega (arith, once, ap (times file) none));
   others = λ file elsewhere. ap (of_file file) silent;
 }
 
-pub told_none : (meaning : ℕ → Meaning) (drawn : List ℕ) (ns : List Note) → drawn ≡ [] → ns ≡ [] → HasTold meaning drawn ns
-told_none meaning drawn ns none silent = record { going = subst GoOn (sym silent) tt; told = nothing_drawn meaning drawn ns none silent }
+pub told_none : (choice : Choice) (meaning : ℕ → Meaning) (drawn : List ℕ) (ns : List Note) → drawn ≡ [] → ns ≡ [] → HasTold choice meaning drawn ns
+told_none choice meaning drawn ns none silent = record { going = subst GoOn (sym silent) tt; told = nothing_drawn choice meaning drawn ns none silent }
 
-told_file : (meaning : ℕ → Meaning) (file : ℕ) (drawn : List ℕ) (ns : List Note) (records : List (List ℕ)) (mark : Mark) → HasTold meaning drawn ns
-    → HasFile (meaning file) file (file_notes file records mark) → HasTold meaning (drawn ++ file ∷ []) (ns ++ file_notes file records mark)
-told_file meaning file drawn ns records mark told has =
-    let fs : List Note = file_notes file records mark in
+told_file : (choice : Choice) (meaning : ℕ → Meaning) (file : ℕ) (drawn : List ℕ) (ns : List Note) (records : List (List ℕ)) (mark : Mark) → HasTold choice meaning drawn ns
+    → HasFile choice (meaning file) file (file_notes choice file records mark) → HasTold choice meaning (drawn ++ file ∷ []) (ns ++ file_notes choice file records mark)
+told_file choice meaning file drawn ns records mark told has =
+    let fs : List Note = file_notes choice file records mark in
     let apart : (k : ℕ) → file ≢ k → of_file k (ns ++ fs) ≡ of_file k ns = λ k other.
-    filter-append (is_of k) ns fs ∙ ap (λ l. of_file k ns ++ l) (of_other k file 0 records mark other) ∙ append-nil (of_file k ns) in
+    filter-append (is_of k) ns fs ∙ ap (λ l. of_file k ns ++ l) (of_other choice k file 0 records mark other) ∙ append-nil (of_file k ns) in
     record {
-      going = going_both ns fs told.going (going_file (numbered file 0 records) file mark);
+      going = going_both ns fs told.going (going_file (numbered choice file 0 records) file mark);
       told = record {
         own = λ k once.
             elim (cases_eq file k) [
-              | inl same ↦ subst (λ x. HasFile (meaning x) x (ns ++ fs)) same
-                  (file_as (meaning file) file fs (ns ++ fs)
+              | inl same ↦ subst (λ x. HasFile choice (meaning x) x (ns ++ fs)) same
+                  (file_as choice (meaning file) file fs (ns ++ fs)
                   (filter-append (is_of file) ns fs
                   ∙ ap (λ l. l ++ of_file file fs) (told.told.others file (subst (λ x. times x drawn ≡ 0) (sym same) (omega (arith, once, times_mine k file drawn same))))) has)
-              | inr other ↦ file_as (meaning k) k ns (ns ++ fs) (apart k other) (told.told.own k (sym (times_other k file drawn other) ∙ once))
+              | inr other ↦ file_as choice (meaning k) k ns (ns ++ fs) (apart k other) (told.told.own k (sym (times_other k file drawn other) ∙ once))
             ];
         others = λ k none.
             elim (cases_eq file k) [
@@ -91,25 +92,25 @@ told_file meaning file drawn ns records mark told has =
     }
 
 -- one file more was drawn and told
-pub told_more : (meaning : ℕ → Meaning) (file : ℕ) (drawn drawn' : List ℕ) (ns kept after : List Note) (mark : Mark) → HasTold meaning drawn ns
-    → drawn' ≡ drawn ++ file ∷ [] → KeepsFile (meaning file) file ns kept mark → after ≡ kept ++ End file mark ∷ [] → HasTold meaning drawn' after
-told_more meaning file drawn drawn' ns kept after mark told drew keeps more =
-    let fs : List Note = file_notes file keeps.records mark in
+pub told_more : (choice : Choice) (meaning : ℕ → Meaning) (file : ℕ) (drawn drawn' : List ℕ) (ns kept after : List Note) (mark : Mark) → HasTold choice meaning drawn ns
+    → drawn' ≡ drawn ++ file ∷ [] → KeepsFile choice (meaning file) file ns kept mark → after ≡ kept ++ End file mark ∷ [] → HasTold choice meaning drawn' after
+told_more choice meaning file drawn drawn' ns kept after mark told drew keeps more =
+    let fs : List Note = file_notes choice file keeps.records mark in
     let whole : ns ++ fs ≡ after =
-    sym (append_assoc ns (map Item (numbered file 0 keeps.records)) (End file mark ∷ [])) ∙ ap (λ l. l ++ End file mark ∷ []) (sym keeps.kept) ∙ sym more in
-    subst (λ d. HasTold meaning d after) (sym drew)
-    (subst (HasTold meaning (drawn ++ file ∷ [])) whole
-    (told_file meaning file drawn ns keeps.records mark told
-    (record { records = keeps.records; mark = mark; told = of_mine file 0 keeps.records mark; found = keeps.found })))
+    sym (append_assoc ns (map Item (numbered choice file 0 keeps.records)) (End file mark ∷ [])) ∙ ap (λ l. l ++ End file mark ∷ []) (sym keeps.kept) ∙ sym more in
+    subst (λ d. HasTold choice meaning d after) (sym drew)
+    (subst (HasTold choice meaning (drawn ++ file ∷ [])) whole
+    (told_file choice meaning file drawn ns keeps.records mark told
+    (record { records = keeps.records; mark = mark; told = of_mine choice file 0 keeps.records mark; found = keeps.found })))
 
 -- the stop
-pub told_all : (meaning : ℕ → Meaning) (drawn drawn' : List ℕ) (ns after : List Note) → HasTold meaning drawn ns → drawn' ≡ drawn → after ≡ ns ++ Stop ∷ []
-    → IsStopped after × HasDrawn meaning drawn' after
-told_all meaning drawn drawn' ns after told drew more =
+pub told_all : (choice : Choice) (meaning : ℕ → Meaning) (drawn drawn' : List ℕ) (ns after : List Note) → HasTold choice meaning drawn ns → drawn' ≡ drawn → after ≡ ns ++ Stop ∷ []
+    → IsStopped after × HasDrawn choice meaning drawn' after
+told_all choice meaning drawn drawn' ns after told drew more =
     let same : (k : ℕ) → of_file k after ≡ of_file k ns = λ k. ap (of_file k) more ∙ filter-append (is_of k) ns (Stop ∷ []) ∙ append-nil (of_file k ns) in (
       (ns, more, told.going),
       record {
-        own = λ k once. file_as (meaning k) k ns after (same k) (told.told.own k (sym (ap (times k) drew) ∙ once));
+        own = λ k once. file_as choice (meaning k) k ns after (same k) (told.told.own k (sym (ap (times k) drew) ∙ once));
         others = λ k none. same k ∙ told.told.others k (sym (ap (times k) drew) ∙ none);
       },
     )

@@ -1,5 +1,6 @@
 -- What the threads of a lane give back.
 use Rattle.std.specs.Prelude.{◌≡◌, ℕ, List, [], true, Result, IfOk}
+use Rattle.choices.specs.declared.Choice.{Choice}
 use Rattle.ruled_lanes.specs.declared.link_ends.Giver.{Giver}
 use Rattle.ruled_lanes.specs.declared.link_ends.Taker.{Taker}
 use Rattle.ruled_lanes.specs.declared.fan_ends.LaneGiver.{LaneGiver}
@@ -22,23 +23,24 @@ module _ {A : Type 0} where
     pub none_given : given giver ≡ []
     pub none_taken : taken taker ≡ []
 
-  -- a seat of these tickets has drawn until none was left, and the messages are all that is told of the files it drew
-  pub record TellsSeat (about : A → About) (meaning : ℕ → Meaning) (tickets : Tickets) (seat : Seat) (gave : List (Message A)) : Type 0 where
+  -- a seat of these tickets has drawn until none was left, and the messages are all that is told of the files it drew,
+  -- under this choice
+  pub record TellsSeat (about : A → About) (choice : Choice) (meaning : ℕ → Meaning) (tickets : Tickets) (seat : Seat) (gave : List (Message A)) : Type 0 where
     pub seat_of : IsSeatOf tickets seat
     pub ended : has_ended seat ≡ true
-    pub tells : TellsDrawn about meaning (drawn seat) gave
+    pub tells : TellsDrawn about choice meaning (drawn seat) gave
 
   -- the end and the seat that the first stage gives back: the end is that of the same link
-  pub record ReadsSeat (about : A → About) (meaning : ℕ → Meaning) (tickets : Tickets) (giver after : Giver (Message A)) (seat : Seat) : Type 0 where
+  pub record ReadsSeat (about : A → About) (choice : Choice) (meaning : ℕ → Meaning) (tickets : Tickets) (giver after : Giver (Message A)) (seat : Seat) : Type 0 where
     pub to_same : GivesToSame giver after
-    pub tells : TellsSeat about meaning tickets seat (given after)
+    pub tells : TellsSeat about choice meaning tickets seat (given after)
 
   -- what a lane gives back: the end of its own lane, and its seat where nothing was lost
-  pub record EndsLane (about : A → About) (meaning : ℕ → Meaning) (tickets : Tickets) (giver after : LaneGiver (Message A)) (seat : Result Seat LaneFault) : Type 0 where
+  pub record EndsLane (about : A → About) (choice : Choice) (meaning : ℕ → Meaning) (tickets : Tickets) (giver after : LaneGiver (Message A)) (seat : Result Seat LaneFault) : Type 0 where
     pub to_same : GivesToSameLane giver after
-    pub tells : IfOk seat (λ s. TellsSeat about meaning tickets s (given_at after))
+    pub tells : IfOk seat (λ s. TellsSeat about choice meaning tickets s (given_at after))
 
 -- so far all is told of the files that were drawn, and there was no stop
-pub record HasTold (meaning : ℕ → Meaning) (drawn : List ℕ) (ns : List Note) : Type 0 where
+pub record HasTold (choice : Choice) (meaning : ℕ → Meaning) (drawn : List ℕ) (ns : List Note) : Type 0 where
   pub going : GoOn ns
-  pub told : HasDrawn meaning drawn ns
+  pub told : HasDrawn choice meaning drawn ns

@@ -1,6 +1,7 @@
 -- Lanes that run, and those that do not.
 use Rattle.std.specs.Prelude.{◌≡◌, ℕ, ◌+◌, List, [], ◌∷◌, ⊤}
 use Rattle.crossbeam_channel.specs.Ends.{sends_on, receives_on}
+use Rattle.choices.specs.declared.Choice.{Choice}
 use Rattle.ruled_lanes.specs.declared.fan_ends.LaneGiver.{LaneGiver}
 use Rattle.ruled_lanes.specs.declared.fan_ends.Gatherer.{Gatherer}
 use Rattle.ruled_lanes.specs.declared.dealing.Tickets.{Tickets}
@@ -27,21 +28,23 @@ module _ {E : Type 0} where
     pub gives_at : GivesAt fan lane giver
     pub none_given : given_at giver ≡ []
 
-  -- the thread of this lane promises to tell the files of this opener that a seat of these tickets draws
-  pub record IsRunning {O : Type 0} (fan : Gatherer E) (opener : O) (tickets : Tickets) (lane : ℕ) (promised_opener : O) (promised_tickets : Tickets) (giver : LaneGiver E) : Type 0 where
+  -- the thread of this lane promises to tell, under this choice, the files of this opener that a seat of these tickets
+  -- draws
+  pub record IsRunning {O : Type 0} (fan : Gatherer E) (choice : Choice) (opener : O) (tickets : Tickets) (lane : ℕ) (promised_choice : Choice) (promised_opener : O) (promised_tickets : Tickets) (giver : LaneGiver E) : Type 0 where
     pub gives_at : GivesAt fan lane giver
+    pub same_choice : promised_choice ≡ choice
     pub same_opener : promised_opener ≡ opener
     pub same_tickets : promised_tickets ≡ tickets
 
 module _ {E : Type 0} where
   -- a lane has told all of the files that its seat drew
-  pub record HasRun (about : E → About) (meaning : ℕ → Meaning) (tickets : Tickets) (fan : Gatherer (Message E)) (lane : ℕ) (giver : LaneGiver (Message E)) (seat : Seat) : Type 0 where
+  pub record HasRun (about : E → About) (choice : Choice) (meaning : ℕ → Meaning) (tickets : Tickets) (fan : Gatherer (Message E)) (lane : ℕ) (giver : LaneGiver (Message E)) (seat : Seat) : Type 0 where
     pub gives_at : GivesAt fan lane giver
-    pub tells : TellsSeat about meaning tickets seat (given_at giver)
+    pub tells : TellsSeat about choice meaning tickets seat (given_at giver)
 
   -- so have lanes in a row, the first of which has this number
-  abbrev pub HaveRun : (E → About) → (ℕ → Meaning) → Tickets → Gatherer (Message E) → ℕ → List (LaneGiver (Message E)) → List Seat → Type 0
-  HaveRun about meaning tickets fan lane [] [] = ⊤
-  HaveRun about meaning tickets fan lane (giver ∷ givers) (seat ∷ seats) =
-      HasRun about meaning tickets fan lane giver seat × HaveRun about meaning tickets fan (lane + 1) givers seats
-  HaveRun about meaning tickets fan lane _ _ = ⊥
+  abbrev pub HaveRun : (E → About) → Choice → (ℕ → Meaning) → Tickets → Gatherer (Message E) → ℕ → List (LaneGiver (Message E)) → List Seat → Type 0
+  HaveRun about choice meaning tickets fan lane [] [] = ⊤
+  HaveRun about choice meaning tickets fan lane (giver ∷ givers) (seat ∷ seats) =
+      HasRun about choice meaning tickets fan lane giver seat × HaveRun about choice meaning tickets fan (lane + 1) givers seats
+  HaveRun about choice meaning tickets fan lane _ _ = ⊥

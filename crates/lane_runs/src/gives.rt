@@ -4,6 +4,7 @@ ghost use Rattle.ruled_lanes.specs.LinkEnds.{given, GivesToSame};
 ghost use Rattle.lanes.specs.Notes.{notes};
 
 use crate::line::Line;
+use choices::Choice;
 use lanes::{Gate, Keep, Message, Stage};
 use planar_code::Record;
 use ruled_lanes::Giver;
@@ -30,9 +31,16 @@ impl<R: Wait, G: Gate, L: Line> Keep for Gives<'_, '_, R, G, L> {
 
     ghost keeps = { λ a b. GivesToSame a.giver b.giver };
 
-    fn keep(&mut self, _alloc: Global, file: u32, ordinal: u32, rec: Record) -> Result<(), Gone> {
+    fn keep(
+        &mut self,
+        _alloc: Global,
+        file: u32,
+        ordinal: u32,
+        rec: Record,
+        choice: Choice,
+    ) -> Result<(), Gone> {
         self.gate.pass(self.lane, Stage::Read, ordinal);
-        let item = Message::Item(L::framed(file, ordinal, rec));
+        let item = Message::Item(L::framed(file, ordinal, rec, choice));
         match self.giver.give(self.rt, item) {
             Ok(()) => Ok(()),
             Err(_) => Err(Gone),

@@ -12,6 +12,7 @@ ghost use Rattle.lane_runs.specs.Running.{AreNumbered, IsIdle, IsRunning};
 
 use crate::fault::LaneFault;
 use crate::running::{LaneEnd, Running};
+use choices::Choice;
 use lanes::{Draft, Message, Numbered, Opener, gather};
 use ruled_lanes::{Gatherer, LaneGiver, Seat, Tickets};
 use std::alloc::Global;
@@ -26,6 +27,7 @@ fn join_lanes<E: Numbered, R: Threads + Wait + Sync, O: Opener>(
     rt: &R,
     alloc: Global,
     opener: &O,
+    choice: Choice,
     tickets: &Tickets,
     gatherer: Gatherer<Message<E>>,
     running: Vec<Running<E, O>>,
@@ -33,14 +35,14 @@ fn join_lanes<E: Numbered, R: Threads + Wait + Sync, O: Opener>(
 ) -> Result<Vec<Seat>, LaneFault>
     requires some { 1 ≤ vec_len running }
     requires lanes { vec_len running + vec_len givers ≡ LANES }
-    requires running { AreNumbered (λ lane r. IsRunning gatherer opener.now tickets.now lane
-        r.promise.opener.value r.promise.tickets.value r.promise.giver.value) 0 running.items }
+    requires running { AreNumbered (λ lane r. IsRunning gatherer choice opener.now tickets.now lane
+        r.promise.choice r.promise.opener.value r.promise.tickets.value r.promise.giver.value) 0 running.items }
     requires idle { AreNumbered (IsIdle gatherer) (vec_len running) givers.items }
     requires stopped { HaveStopped E.about (vec_len running) (gathered gatherer) }
     ensures count { IfOk result (λ seats. vec_len seats ≡ vec_len running) }
     ensures seats { IfOk result (λ seats. All (λ s. IsSeatOf tickets.now s × (has_ended s ≡ true)) seats.items) }
     ensures told { IfOk result (λ seats. (file : ℕ) → times file (all_drawn seats.items) ≡ 1
-        → HasFile (O.meaning opener.now file) file (notes E.about (untagged (gathered gatherer)))) }
+        → HasFile choice (O.meaning opener.now file) file (notes E.about (untagged (gathered gatherer)))) }
 {
     let Ok(mut seats) = Vec::with_capacity(alloc, running.len()) else {
         return Err(LaneFault::Memory);
@@ -67,6 +69,7 @@ pub fn finish_lanes<E: Numbered, R: Threads + Wait + Sync, O: Opener>(
     rt: &R,
     alloc: Global,
     opener: &O,
+    choice: Choice,
     tickets: &Tickets,
     gatherer: Gatherer<Message<E>>,
     running: Vec<Running<E, O>>,
@@ -75,8 +78,8 @@ pub fn finish_lanes<E: Numbered, R: Threads + Wait + Sync, O: Opener>(
 ) -> Result<(Vec<Draft<E>>, Vec<Seat>), LaneFault>
     requires some { 1 ≤ vec_len running }
     requires lanes { vec_len running + vec_len idle ≡ LANES }
-    requires running { AreNumbered (λ lane r. IsRunning gatherer opener.now tickets.now lane
-        r.promise.opener.value r.promise.tickets.value r.promise.giver.value) 0 running.items }
+    requires running { AreNumbered (λ lane r. IsRunning gatherer choice opener.now tickets.now lane
+        r.promise.choice r.promise.opener.value r.promise.tickets.value r.promise.giver.value) 0 running.items }
     requires idle { AreNumbered (IsIdle gatherer) (vec_len running) idle.items }
     requires none_gathered { gathered gatherer ≡ [] }
     requires empty { AreDrafts E.about 0 [] drafts.items }
@@ -84,7 +87,7 @@ pub fn finish_lanes<E: Numbered, R: Threads + Wait + Sync, O: Opener>(
     ensures count { IfOk result (λ r. vec_len r.1 ≡ vec_len running) }
     ensures seats { IfOk result (λ r. All (λ s. IsSeatOf tickets.now s × (has_ended s ≡ true)) r.1.items) }
     ensures ready { IfOk result (λ r. ((file : ℕ) → file < vec_len r.0 → times file (all_drawn r.1.items) ≡ 1)
-        → AreReady E.about (O.meaning opener.now) 0 r.0.items) }
+        → AreReady E.about choice (O.meaning opener.now) 0 r.0.items) }
 {
     let lanes = running.len() as u32;
     let gatherer = match gather(rt, alloc, gatherer, lanes, &mut drafts) {
@@ -92,6 +95,6 @@ pub fn finish_lanes<E: Numbered, R: Threads + Wait + Sync, O: Opener>(
         Err(BatchFault::Memory) => return Err(LaneFault::Memory),
         Err(_) => return Err(LaneFault::Lost),
     };
-    let seats = join_lanes(rt, alloc, opener, tickets, gatherer, running, idle)?;
+    let seats = join_lanes(rt, alloc, opener, choice, tickets, gatherer, running, idle)?;
     Ok((drafts, seats))
 }

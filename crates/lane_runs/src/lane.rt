@@ -10,6 +10,7 @@ use crate::line::Line;
 use crate::links::{Links, new_links, settle_lane};
 use crate::running::LaneEnd;
 use crate::starting::{start_read, start_stage};
+use choices::Choice;
 use lanes::{Gate, Message, Opener, run_last_stage};
 use ruled_lanes::{LaneGiver, Seat, Tickets};
 use std::alloc::Global;
@@ -26,6 +27,7 @@ pub fn run_lane<L: Line, R: Threads + Wait + Sync, O: Opener, G: Gate>(
     alloc: Global,
     opener: &O,
     gate: &G,
+    choice: Choice,
     tickets: &Tickets,
     capacity: u32,
     seat: Seat,
@@ -36,7 +38,7 @@ pub fn run_lane<L: Line, R: Threads + Wait + Sync, O: Opener, G: Gate>(
     requires seat { IsSeatOf tickets.now seat }
     requires unused { IsUnused seat }
     requires none_given { given_at giver ≡ [] }
-    ensures { EndsLane L.Entry.about (O.meaning opener.now) tickets.now giver result.giver result.seat }
+    ensures { EndsLane L.Entry.about choice (O.meaning opener.now) tickets.now giver result.giver result.seat }
 {
     let LaneEnd { mut giver, seat } = thread::scope(
         thread::scope_env(),
@@ -44,12 +46,12 @@ pub fn run_lane<L: Line, R: Threads + Wait + Sync, O: Opener, G: Gate>(
         move |scope| -> LaneEnd<L::Entry>
             requires { (1 ≤ capacity) × (capacity ≤ 64) × IsSeatOf tickets.now seat × IsUnused seat × (given_at giver ≡ []) }
             ensures { GivesToSameLane giver result.giver
-                × IfOk result.seat (λ after. TellsSeat L.Entry.about (O.meaning opener.entry.now) tickets.entry.now after
+                × IfOk result.seat (λ after. TellsSeat L.Entry.about choice (O.meaning opener.entry.now) tickets.entry.now after
                 (given_at result.giver ++ Stop ∷ [])) }
         {
             let mut giver = giver;
             let seat = run_stages::<_, L, _, _, _>(
-                scope, rt, alloc, opener, gate, tickets, capacity, seat, &mut giver,
+                scope, rt, alloc, opener, gate, choice, tickets, capacity, seat, &mut giver,
             );
             LaneEnd { giver, seat }
         },
@@ -74,6 +76,7 @@ fn run_stages<'s, E, L: Line + 's, R: Threads + Wait + Sync, O: Opener, G: Gate>
     alloc: Global,
     opener: &'s O,
     gate: &'s G,
+    choice: Choice,
     tickets: &'s Tickets,
     capacity: u32,
     seat: Seat,
@@ -85,7 +88,7 @@ fn run_stages<'s, E, L: Line + 's, R: Threads + Wait + Sync, O: Opener, G: Gate>
     requires unused { IsUnused seat }
     requires none_given { given_at giver.old ≡ [] }
     ensures same { GivesToSameLane giver.old giver.new }
-    ensures told { IfOk result (λ after. TellsSeat L.Entry.about (O.meaning opener.now) tickets.now after
+    ensures told { IfOk result (λ after. TellsSeat L.Entry.about choice (O.meaning opener.now) tickets.now after
         (given_at giver.new ++ Stop ∷ [])) }
 {
     let Ok(links) = new_links::<L>(alloc, capacity) else {
@@ -106,6 +109,7 @@ fn run_stages<'s, E, L: Line + 's, R: Threads + Wait + Sync, O: Opener, G: Gate>
         alloc,
         opener,
         gate,
+        choice,
         lane,
         tickets,
         seat,

@@ -1,6 +1,7 @@
 //! What travels through a lane.
 ghost use Rattle.std.specs.Prelude.{◌≡◌};
 
+use choices::Choice;
 use lanes::{Numbered, Staged};
 use planar_code::Record;
 
@@ -18,7 +19,7 @@ pub trait Line: Sync {
     /// What the lane gives.
     type Entry: Numbered;
 
-    /// The record that has this place in this file.
-    fn framed(file: u32, ordinal: u32, rec: Record) -> Self::Framed
-        ensures { Self.Framed.about result ≡ record { file = file; ordinal = ordinal; bytes = rec } };
+    /// The record that has this place in this file, with this choice of the outer face.
+    fn framed(file: u32, ordinal: u32, rec: Record, choice: Choice) -> Self::Framed
+        ensures { Self.Framed.about result ≡ record { file = file; ordinal = ordinal; bytes = rec; choice = choice } };
 }

@@ -1,6 +1,7 @@
 //! The links between the stages of a lane.
 ghost use Rattle.std.specs.Prelude.{◌≡◌, ◌≤◌, ℕ, List, IfOk};
 ghost use Rattle.ruled_lanes.specs.LinkEnds.{given, taken, AreEnds};
+ghost use Rattle.choices.specs.declared.Choice.{Choice};
 ghost use Rattle.lanes.specs.declared.message.Message.{Message as AnyMessage};
 ghost use Rattle.lanes.specs.Opening.{Meaning};
 ghost use Rattle.lanes.specs.Stages.{IsPassedOn};
@@ -59,10 +60,10 @@ pub fn settle_lane<L: Line, R: Wait>(
     requires shaped { AreEnds shape.1 draw }
     requires embeds { IsPassedOn L.Framed.about L.Embedded.about (taken embed.0) (given embed.1) }
     requires shapes { IsPassedOn L.Embedded.about L.Shaped.about (taken shape.0) (given shape.1) }
-    ensures { (meaning : ℕ → Meaning) (drawn : List ℕ) (gave : List (AnyMessage L.Entry))
+    ensures { (choice : Choice) (meaning : ℕ → Meaning) (drawn : List ℕ) (gave : List (AnyMessage L.Entry))
         → IsPassedOn L.Shaped.about L.Entry.about (taken draw) gave
-        → TellsDrawn L.Framed.about meaning drawn (given read)
-        → TellsDrawn L.Entry.about meaning drawn gave }
+        → TellsDrawn L.Framed.about choice meaning drawn (given read)
+        → TellsDrawn L.Entry.about choice meaning drawn gave }
 {
     let (framed_taker, embedded_giver) = embed;
     let (embedded_taker, shaped_giver) = shape;

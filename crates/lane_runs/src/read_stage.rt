@@ -6,6 +6,7 @@ ghost use Rattle.lane_runs.specs.Lanes.{ReadsSeat};
 
 use crate::gives::Gives;
 use crate::line::Line;
+use choices::Choice;
 use lanes::{Gate, Message, Opener, read_file};
 use ruled_lanes::{Giver, Seat, Tickets};
 use std::alloc::Global;
@@ -18,6 +19,7 @@ pub fn read_stage<L: Line, O: Opener, R: Wait, G: Gate>(
     alloc: Global,
     opener: &O,
     gate: &G,
+    choice: Choice,
     lane: u32,
     tickets: &Tickets,
     mut seat: Seat,
@@ -29,7 +31,7 @@ pub fn read_stage<L: Line, O: Opener, R: Wait, G: Gate>(
     requires none_given { given giver ≡ [] }
     requires room { vec_len buffer ≡ 65536 }
     ensures { IfSome result (λ ends.
-        ReadsSeat L.Framed.about (O.meaning opener.now) tickets.now giver ends.0 ends.1) }
+        ReadsSeat L.Framed.about choice (O.meaning opener.now) tickets.now giver ends.0 ends.1) }
 {
     let mut gives = Gives::<R, G, L> {
         rt,
@@ -44,7 +46,7 @@ pub fn read_stage<L: Line, O: Opener, R: Wait, G: Gate>(
                 Err(_) => None,
             };
         };
-        let mark = match read_file(opener, alloc, file, buffer.as_mut_slice(), &mut gives) {
+        let mark = match read_file(opener, alloc, file, choice, buffer.as_mut_slice(), &mut gives) {
             Ok(mark) => mark,
             Err(_) => return None,
         };

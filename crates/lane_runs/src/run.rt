@@ -14,6 +14,7 @@ use crate::lane::run_lane;
 use crate::line::Line;
 use crate::new_lanes::new_fan;
 use crate::running::{LaneEnd, Promised, Running};
+use choices::Choice;
 use lanes::{Draft, Gate, Message, Opener, empty_drafts};
 use ruled_lanes::{Gatherer, LaneGiver, Seat, Tickets};
 use std::alloc::Global;
@@ -22,8 +23,9 @@ use std::sync::Wait;
 use std::thread;
 use std::thread::{Scope, Threads};
 
-/// The drafts of the first `files` files of the opener, each all of its file: so many lanes run in threads of
-/// their own and draw the files as they become free, and this thread gathers what they give from one fan.
+/// The drafts of the first `files` files of the opener, each all of its file under this choice of the outer
+/// face: so many lanes run in threads of their own and draw the files as they become free, and this thread
+/// gathers what they give from one fan.
 ///
 /// # Errors
 ///
@@ -37,13 +39,14 @@ pub fn drafts_of_lanes<L: Line, R: Threads + Wait + Sync, O: Opener, G: Gate>(
     files: u32,
     lanes: u32,
     capacity: u32,
+    choice: Choice,
 ) -> Result<Vec<Draft<L::Entry>>, LaneFault>
     requires some { 0 < lanes }
     requires few { (files ≤ MAX_TICKETS) × (lanes ≤ LANES) }
     requires least { 1 ≤ capacity }
     requires most { capacity ≤ 64 }
     ensures count { IfOk result (λ drafts. vec_len drafts ≡ files) }
-    ensures ready { IfOk result (λ drafts. AreReady L.Entry.about (O.meaning opener.now) 0 drafts.items) }
+    ensures ready { IfOk result (λ drafts. AreReady L.Entry.about choice (O.meaning opener.now) 0 drafts.items) }
 {
     let Ok(drafts) = empty_drafts::<L::Entry>(alloc, files) else {
         return Err(LaneFault::Memory);
@@ -64,10 +67,10 @@ pub fn drafts_of_lanes<L: Line, R: Threads + Wait + Sync, O: Opener, G: Gate>(
             ensures { IfOk result (λ r. (vec_len r.0 ≡ vec_len drafts) × (vec_len r.1 ≡ vec_len seats)
                 × All (λ s. IsSeatOf dealt.entry.now s × (has_ended s ≡ true)) r.1.items
                 × (((file : ℕ) → file < vec_len r.0 → times file (all_drawn r.1.items) ≡ 1)
-                → AreReady L.Entry.about (O.meaning opener.entry.now) 0 r.0.items)) }
+                → AreReady L.Entry.about choice (O.meaning opener.entry.now) 0 r.0.items)) }
         {
             run_lanes::<_, L, _, _, _>(
-                scope, rt, alloc, opener, gate, dealt, capacity, seats, givers, gatherer, drafts,
+                scope, rt, alloc, opener, gate, choice, dealt, capacity, seats, givers, gatherer, drafts,
             )
         },
     )?;
@@ -82,6 +85,7 @@ fn run_lanes<'s, E, L: Line + 's, R: Threads + Wait + Sync, O: Opener, G: Gate>(
     alloc: Global,
     opener: &'s O,
     gate: &'s G,
+    choice: Choice,
     tickets: &'s Tickets,
     capacity: u32,
     mut seats: Vec<Seat>,
@@ -102,7 +106,7 @@ fn run_lanes<'s, E, L: Line + 's, R: Threads + Wait + Sync, O: Opener, G: Gate>(
     ensures count { IfOk result (λ r. vec_len r.1 ≡ vec_len seats) }
     ensures seats { IfOk result (λ r. All (λ s. IsSeatOf tickets.now s × (has_ended s ≡ true)) r.1.items) }
     ensures ready { IfOk result (λ r. ((file : ℕ) → file < vec_len r.0 → times file (all_drawn r.1.items) ≡ 1)
-        → AreReady L.Entry.about (O.meaning opener.now) 0 r.0.items) }
+        → AreReady L.Entry.about choice (O.meaning opener.now) 0 r.0.items) }
 {
     let mut running = match Vec::with_capacity(alloc, seats.len()) {
         Ok(running) => running,
@@ -113,7 +117,7 @@ fn run_lanes<'s, E, L: Line + 's, R: Threads + Wait + Sync, O: Opener, G: Gate>(
         match seats.pop() {
             Some(seat) => {
                 let started = start_lane::<_, L, _, _, _>(
-                    scope, rt, alloc, opener, gate, tickets, capacity, seat, giver,
+                    scope, rt, alloc, opener, gate, choice, tickets, capacity, seat, giver,
                 )?;
                 match running.push(started) {
                     Ok(()) => {}
@@ -126,7 +130,7 @@ fn run_lanes<'s, E, L: Line + 's, R: Threads + Wait + Sync, O: Opener, G: Gate>(
             },
         }
     }
-    finish_lanes(rt, alloc, opener, tickets, gatherer, running, idle, drafts)
+    finish_lanes(rt, alloc, opener, choice, tickets, gatherer, running, idle, drafts)
 }
 
 /// Starts a lane in a thread of its own.
@@ -136,6 +140,7 @@ fn start_lane<'s, E, L: Line + 's, R: Threads + Wait + Sync, O: Opener, G: Gate>
     alloc: Global,
     opener: &'s O,
     gate: &'s G,
+    choice: Choice,
     tickets: &'s Tickets,
     capacity: u32,
     seat: Seat,
@@ -146,11 +151,13 @@ fn start_lane<'s, E, L: Line + 's, R: Threads + Wait + Sync, O: Opener, G: Gate>
     requires seat { IsSeatOf tickets.now seat }
     requires unused { IsUnused seat }
     requires none_given { given_at giver ≡ [] }
+    ensures choice { IfOk result (λ r. r.promise.choice ≡ choice) }
     ensures opener { IfOk result (λ r. r.promise.opener.value ≡ opener.now) }
     ensures tickets { IfOk result (λ r. r.promise.tickets.value ≡ tickets.now) }
     ensures giver { IfOk result (λ r. r.promise.giver.value ≡ giver) }
 {
     let promise = Promised {
+        choice,
         opener: Snapshot::of(opener),
         tickets: Snapshot::of(tickets),
         giver: Snapshot::of(&giver),
@@ -159,7 +166,7 @@ fn start_lane<'s, E, L: Line + 's, R: Threads + Wait + Sync, O: Opener, G: Gate>
         promise,
         move || -> LaneEnd<L::Entry>
             requires { (1 ≤ capacity) × (capacity ≤ 64) × IsSeatOf tickets.now seat × IsUnused seat × (given_at giver ≡ []) }
-        { run_lane::<L, _, _, _>(rt, alloc, opener, gate, tickets, capacity, seat, giver) },
+        { run_lane::<L, _, _, _>(rt, alloc, opener, gate, choice, tickets, capacity, seat, giver) },
     ) {
         Ok(handle) => Ok(handle),
         Err(_) => Err(LaneFault::Thread),

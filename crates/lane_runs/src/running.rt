@@ -3,6 +3,7 @@ ghost use Rattle.ruled_lanes.specs.FanEnds.{given_at};
 ghost use Rattle.lane_runs.specs.Lanes.{EndsLane};
 
 use crate::fault::LaneFault;
+use choices::Choice;
 use lanes::{Message, Numbered, Opener};
 use ruled_lanes::{LaneGiver, Seat, Tickets};
 use std::snapshot::Snapshot;
@@ -18,13 +19,14 @@ pub struct LaneEnd<E: Numbered> {
 /// What the thread of a lane promises of the end and the seat that it gives back.
 #[derive(Drop)]
 pub struct Promised<E: Numbered, O: Opener> {
+    pub choice: Choice,
     pub opener: Snapshot<O>,
     pub tickets: Snapshot<Tickets>,
     pub giver: Snapshot<LaneGiver<Message<E>>>,
 }
 
 impl<E: Numbered, O: Opener> Promise<LaneEnd<E>> for Promised<E, O> {
-    ghost kept_by = { λ p end. EndsLane E.about (O.meaning p.opener.value) p.tickets.value p.giver.value end.giver end.seat };
+    ghost kept_by = { λ p end. EndsLane E.about p.choice (O.meaning p.opener.value) p.tickets.value p.giver.value end.giver end.seat };
 }
 
 /// A lane that runs.

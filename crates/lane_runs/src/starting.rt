@@ -8,6 +8,7 @@ ghost use Rattle.lane_runs.specs.Lanes.{ReadsSeat};
 use crate::fault::LaneFault;
 use crate::line::Line;
 use crate::read_stage::read_stage;
+use choices::Choice;
 use lanes::{Gate, Message, Numbered, Opener, Staged, run_stage};
 use ruled_lanes::{Giver, Seat, Taker, Tickets};
 use std::alloc::Global;
@@ -18,6 +19,7 @@ use std::thread::{Promise, PromisedHandle, Scope, Threads};
 /// What the thread of a lane's first stage promises of the end and the seat that it gives back.
 #[derive(Drop)]
 pub struct Reads<A: Numbered, O: Opener> {
+    pub choice: Choice,
     pub opener: Snapshot<O>,
     pub tickets: Snapshot<Tickets>,
     pub giver: Snapshot<Giver<Message<A>>>,
@@ -25,7 +27,7 @@ pub struct Reads<A: Numbered, O: Opener> {
 
 impl<A: Numbered, O: Opener> Promise<Option<(Giver<Message<A>>, Seat)>> for Reads<A, O> {
     ghost kept_by = { λ p result. IfSome result (λ ends.
-        ReadsSeat A.about (O.meaning p.opener.value) p.tickets.value p.giver.value ends.0 ends.1) };
+        ReadsSeat A.about p.choice (O.meaning p.opener.value) p.tickets.value p.giver.value ends.0 ends.1) };
 }
 
 /// A first stage that runs in a thread of its own.
@@ -38,6 +40,7 @@ pub fn start_read<'s, E, L: Line + 's, R: Threads + Wait + Sync, O: Opener, G: G
     alloc: Global,
     opener: &'s O,
     gate: &'s G,
+    choice: Choice,
     lane: u32,
     tickets: &'s Tickets,
     seat: Seat,
@@ -48,11 +51,13 @@ pub fn start_read<'s, E, L: Line + 's, R: Threads + Wait + Sync, O: Opener, G: G
     requires unused { IsUnused seat }
     requires none_given { given giver ≡ [] }
     requires room { vec_len buffer ≡ 65536 }
+    ensures choice { IfOk result (λ started. started.promise.choice ≡ choice) }
     ensures opener { IfOk result (λ started. started.promise.opener.value ≡ opener.now) }
     ensures tickets { IfOk result (λ started. started.promise.tickets.value ≡ tickets.now) }
     ensures giver { IfOk result (λ started. started.promise.giver.value ≡ giver) }
 {
     let promise = Reads {
+        choice,
         opener: Snapshot::of(opener),
         tickets: Snapshot::of(tickets),
         giver: Snapshot::of(&giver),
@@ -61,7 +66,7 @@ pub fn start_read<'s, E, L: Line + 's, R: Threads + Wait + Sync, O: Opener, G: G
         promise,
         move || -> Option<(Giver<Message<L::Framed>>, Seat)>
             requires { IsSeatOf tickets.now seat × IsUnused seat × (given giver ≡ []) × (vec_len buffer ≡ 65536) }
-        { read_stage::<L, _, _, _>(rt, alloc, opener, gate, lane, tickets, seat, buffer, giver) },
+        { read_stage::<L, _, _, _>(rt, alloc, opener, gate, choice, lane, tickets, seat, buffer, giver) },
     ) {
         Ok(started) => Ok(started),
         Err(_) => Err(LaneFault::Thread),

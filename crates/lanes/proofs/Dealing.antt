@@ -2,6 +2,7 @@
 use Rattle.std.proofs.Common.{◌≡◌, ℕ, ◌+◌, ◌<◌, List, [], ◌∷◌, ◌++◌, map, length, Option, None, Some, refl, sym, ap, subst, ◌∙◌, arith, append-nil, append_assoc, length-append}
 use Rattle.ruled_lanes.specs.LinkEnds.{Settles}
 use Rattle.streams.specs.declared.found.Mark.{Mark}
+use Rattle.choices.specs.declared.Choice.{Choice}
 use Rattle.lanes.specs.declared.message.Message.{Message}
 use Rattle.lanes.specs.declared.message.Message.TheVariants.{Item, End, Stop}
 use Rattle.lanes.specs.declared.drafts.Draft.{Draft}
@@ -63,19 +64,19 @@ module _ {A : Type 0} where
       stop_last (notes about taken) (notes about held) (notes about given) (sym (notes-append about taken held) ∙ ap (notes about) settled) (stopped_has (notes about taken) stopped) stopped'
 
   -- what is told stays told
-  pub tells_same : (about : A → About) (meaning : ℕ → Meaning) (drawn : List ℕ) (gave : List (Message A)) (ns : List Note) → notes about gave ≡ ns
-      → IsStopped ns → HasDrawn meaning drawn ns → TellsDrawn about meaning drawn gave
-  tells_same about meaning drawn gave ns same stopped told = record {
+  pub tells_same : (about : A → About) (choice : Choice) (meaning : ℕ → Meaning) (drawn : List ℕ) (gave : List (Message A)) (ns : List Note) → notes about gave ≡ ns
+      → IsStopped ns → HasDrawn choice meaning drawn ns → TellsDrawn about choice meaning drawn gave
+  tells_same about choice meaning drawn gave ns same stopped told = record {
     stopped = subst IsStopped (sym same) stopped;
-    told = subst (HasDrawn meaning drawn) (sym same) told;
+    told = subst (HasDrawn choice meaning drawn) (sym same) told;
   }
 
 module _ {A B : Type 0} where
   -- over a link and a stage behind it
-  pub stage_tells : (about : A → About) (next_about : B → About) (meaning : ℕ → Meaning) (drawn : List ℕ) (given taken : List (Message A)) (gave : List (Message B))
-      → Settles taken given → IsPassedOn about next_about taken gave → TellsDrawn about meaning drawn given → TellsDrawn next_about meaning drawn gave
-  stage_tells about next_about meaning drawn given taken gave settled passed tells =
-      tells_same next_about meaning drawn gave (notes about given)
+  pub stage_tells : (about : A → About) (next_about : B → About) (choice : Choice) (meaning : ℕ → Meaning) (drawn : List ℕ) (given taken : List (Message A)) (gave : List (Message B))
+      → Settles taken given → IsPassedOn about next_about taken gave → TellsDrawn about choice meaning drawn given → TellsDrawn next_about choice meaning drawn gave
+  stage_tells about next_about choice meaning drawn given taken gave settled passed tells =
+      tells_same next_about choice meaning drawn gave (notes about given)
       (passed.same ∙ link_passed about taken given settled passed.stopped tells.stopped) tells.stopped tells.told
 
 -- the records and the mark of a file's notes
@@ -89,21 +90,21 @@ mark-items was (x ∷ xs) file mark = mark-items was xs file mark
 
 module _ {E : Type 0} where
   -- a draft of all that is told of its file is ready
-  draft_ready : (about : E → About) (meaning : Meaning) (file : ℕ) (ns : List Note) (draft : Draft E) → IsDraft about file ns draft → HasFile meaning file ns → IsReady about meaning file draft
-  draft_ready about meaning file ns draft is has = record {
+  draft_ready : (about : E → About) (choice : Choice) (meaning : Meaning) (file : ℕ) (ns : List Note) (draft : Draft E) → IsDraft about file ns draft → HasFile choice meaning file ns → IsReady about choice meaning file draft
+  draft_ready about choice meaning file ns draft is has = record {
     mark = has.mark;
-    marked = is.mark ∙ ap (mark_after None) has.told ∙ mark-items None (numbered file 0 has.records) file has.mark;
+    marked = is.mark ∙ ap (mark_after None) has.told ∙ mark-items None (numbered choice file 0 has.records) file has.mark;
     whole = record {
       records = has.records;
-      each = is.entries ∙ ap abouts has.told ∙ abouts-items (numbered file 0 has.records) file has.mark;
+      each = is.entries ∙ ap abouts has.told ∙ abouts-items (numbered choice file 0 has.records) file has.mark;
       found = has.found;
     };
   }
 
-  pub drafts_ready : (about : E → About) (meaning : ℕ → Meaning) (first : ℕ) (ns : List Note) (drafts : List (Draft E)) → AreDrafts about first ns drafts
-      → ((file : ℕ) → file < first + length drafts → HasFile (meaning file) file ns) → AreReady about meaning first drafts
-  drafts_ready about meaning first ns [] are has = tt
-  drafts_ready about meaning first ns (draft ∷ drafts) (is, are) has = (
-    draft_ready about (meaning first) first ns draft is (has first (omega arith)),
-    drafts_ready about meaning (first + 1) ns drafts are (λ file below. has file (omega (arith, below))),
+  pub drafts_ready : (about : E → About) (choice : Choice) (meaning : ℕ → Meaning) (first : ℕ) (ns : List Note) (drafts : List (Draft E)) → AreDrafts about first ns drafts
+      → ((file : ℕ) → file < first + length drafts → HasFile choice (meaning file) file ns) → AreReady about choice meaning first drafts
+  drafts_ready about choice meaning first ns [] are has = tt
+  drafts_ready about choice meaning first ns (draft ∷ drafts) (is, are) has = (
+    draft_ready about choice (meaning first) first ns draft is (has first (omega arith)),
+    drafts_ready about choice meaning (first + 1) ns drafts are (λ file below. has file (omega (arith, below))),
   )

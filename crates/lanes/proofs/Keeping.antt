@@ -7,6 +7,7 @@ use Rattle.streams.specs.declared.found.Mark.TheVariants.{Ended}
 use Rattle.streams.specs.declared.found.Mark.TheVariants as mark
 use Rattle.streams.specs.Reading.{IsFoundIn}
 use Rattle.streams.proofs.Pieces.{nothing_read, found_failed, found_nothing}
+use Rattle.choices.specs.declared.Choice.{Choice}
 use Rattle.lanes.specs.declared.opener.OpenFault.{OpenFault}
 use Rattle.lanes.specs.declared.opener.OpenFault.TheVariants.{Io}
 use Rattle.lanes.specs.Notes.{Note}
@@ -26,9 +27,9 @@ found_opened to_come fails (Opened bytes failing) source records mark opens f =
     subst (λ b. IsFoundIn (Some bytes) b records mark) opens.1 (subst (λ t. IsFoundIn t (fails source) records mark) opens.0 f)
 
 -- so is what is kept
-pub keeps_opened : {S : Type 0} (to_come : S → Option (List ℕ)) (fails : S → Bool) (meaning : Meaning) (source : S) (file : ℕ) (before after : List Note) (mark : Mark)
-    → Opens to_come fails meaning (Ok source) → KeepsSource (to_come source) (fails source) file before after mark → KeepsFile meaning file before after mark
-keeps_opened to_come fails meaning source file before after mark opens k = record {
+pub keeps_opened : {S : Type 0} (choice : Choice) (to_come : S → Option (List ℕ)) (fails : S → Bool) (meaning : Meaning) (source : S) (file : ℕ) (before after : List Note) (mark : Mark)
+    → Opens to_come fails meaning (Ok source) → KeepsSource choice (to_come source) (fails source) file before after mark → KeepsFile choice meaning file before after mark
+keeps_opened choice to_come fails meaning source file before after mark opens k = record {
   records = k.records;
   kept = k.kept;
   found = found_opened to_come fails meaning source k.records mark opens k.found;
@@ -40,17 +41,17 @@ found_unopened to_come fails Silent opens = found_failed None None false false 0
 found_unopened to_come fails Unopened opens = found_failed (Some []) (Some []) true true 0 [] (Early []) (nothing_read (Some []) true [] (Early []) refl refl) (refl, refl)
 found_unopened to_come fails (Opened bytes failing) opens = absurd opens
 
-pub keeps_unopened : {S : Type 0} (to_come : S → Option (List ℕ)) (fails : S → Bool) (meaning : Meaning) (fault : OpenFault) (file : ℕ) (before : List Note)
-    → Opens to_come fails meaning (Err fault) → fault ≡ Io → KeepsFile meaning file before before mark.Io
-keeps_unopened to_come fails meaning fault file before opens is = record {
+pub keeps_unopened : {S : Type 0} (choice : Choice) (to_come : S → Option (List ℕ)) (fails : S → Bool) (meaning : Meaning) (fault : OpenFault) (file : ℕ) (before : List Note)
+    → Opens to_come fails meaning (Err fault) → fault ≡ Io → KeepsFile choice meaning file before before mark.Io
+keeps_unopened choice to_come fails meaning fault file before opens is = record {
   records = [];
   kept = sym (append-nil before);
   found = found_unopened to_come fails meaning (subst (λ f. Opens to_come fails meaning (Err f)) is opens);
 }
 
 -- a file for which there was no memory
-pub keeps_wanting : (meaning : Meaning) (file : ℕ) (before : List Note) → KeepsFile meaning file before before (Ended ending.Memory)
-keeps_wanting meaning file before = record { records = []; kept = sym (append-nil before); found = found_nothing (told_of meaning) (fails_of meaning) [] refl }
+pub keeps_wanting : (choice : Choice) (meaning : Meaning) (file : ℕ) (before : List Note) → KeepsFile choice meaning file before before (Ended ending.Memory)
+keeps_wanting choice meaning file before = record { records = []; kept = sym (append-nil before); found = found_nothing (told_of meaning) (fails_of meaning) [] refl }
 
-pub keeps_nothing : (told : Option (List ℕ)) (fails : Bool) (file : ℕ) (before : List Note) → KeepsSource told fails file before before (Ended ending.Memory)
-keeps_nothing told fails file before = record { records = []; kept = sym (append-nil before); found = found_nothing told fails [] refl }
+pub keeps_nothing : (choice : Choice) (told : Option (List ℕ)) (fails : Bool) (file : ℕ) (before : List Note) → KeepsSource choice told fails file before before (Ended ending.Memory)
+keeps_nothing choice told fails file before = record { records = []; kept = sym (append-nil before); found = found_nothing told fails [] refl }

@@ -1,6 +1,7 @@
 -- What has come of the files so far.
 use Rattle.std.specs.Prelude.{◌≡◌, ℕ, ◌+◌, List, [], ◌∷◌, map, Option, None, Some, ⊤}
 use Rattle.streams.specs.declared.found.Mark.{Mark}
+use Rattle.choices.specs.declared.Choice.{Choice}
 use Rattle.lanes.specs.declared.message.Message.TheVariants.{Item, End}
 use Rattle.lanes.specs.declared.drafts.Draft.{Draft}
 use Rattle.lanes.specs.Notes.{About, Note, of_file, numbered}
@@ -29,8 +30,8 @@ module _ {E : Type 0} where
   AreDrafts about file ns [] = ⊤
   AreDrafts about file ns (draft ∷ drafts) = IsDraft about file ns draft × AreDrafts about (file + 1) ns drafts
 
-  -- the entries are about the records of the file, in order, and these and the mark are what it means
-  pub record IsWhole (about : E → About) (meaning : Meaning) (file : ℕ) (entries : List E) (mark : Mark) : Type 0 where
+  -- the entries are about the records of the file under this choice, in order, and these and the mark are what it means
+  pub record IsWhole (about : E → About) (choice : Choice) (meaning : Meaning) (file : ℕ) (entries : List E) (mark : Mark) : Type 0 where
     pub records : List (List ℕ)
-    pub each : map about entries ≡ numbered file 0 records
+    pub each : map about entries ≡ numbered choice file 0 records
     pub found : IsFoundAt meaning records mark

@@ -2,37 +2,38 @@
 use Rattle.std.specs.Prelude.{◌≡◌, ℕ, ◌+◌, List, [], ◌∷◌, Some, ⊤}
 use Rattle.ruled_lanes.specs.TicketRule.{times}
 use Rattle.streams.specs.declared.found.Mark.{Mark}
+use Rattle.choices.specs.declared.Choice.{Choice}
 use Rattle.lanes.specs.declared.message.Message.{Message}
 use Rattle.lanes.specs.declared.drafts.Draft.{Draft}
 use Rattle.lanes.specs.Notes.{About, Note, notes, of_file, file_notes, IsStopped}
 use Rattle.lanes.specs.Opening.{Meaning, IsFoundAt}
 use Rattle.lanes.specs.Drafts.{IsWhole}
 
--- of the file they tell its records, in order, and then its one mark
-pub record HasFile (meaning : Meaning) (file : ℕ) (ns : List Note) : Type 0 where
+-- of the file they tell its records, in order and under this choice, and then its one mark
+pub record HasFile (choice : Choice) (meaning : Meaning) (file : ℕ) (ns : List Note) : Type 0 where
   pub records : List (List ℕ)
   pub mark : Mark
-  pub told : of_file file ns ≡ file_notes file records mark
+  pub told : of_file file ns ≡ file_notes choice file records mark
   pub found : IsFoundAt meaning records mark
 
 -- of each file that was drawn once they tell all, and of one that was not drawn nothing
-pub record HasDrawn (meaning : ℕ → Meaning) (drawn : List ℕ) (ns : List Note) : Type 0 where
-  pub own : (file : ℕ) → times file drawn ≡ 1 → HasFile (meaning file) file ns
+pub record HasDrawn (choice : Choice) (meaning : ℕ → Meaning) (drawn : List ℕ) (ns : List Note) : Type 0 where
+  pub own : (file : ℕ) → times file drawn ≡ 1 → HasFile choice (meaning file) file ns
   pub others : (file : ℕ) → times file drawn ≡ 0 → of_file file ns ≡ []
 
 module _ {A : Type 0} where
   -- the messages are all that is told of the files that were drawn, up to one stop
-  pub record TellsDrawn (about : A → About) (meaning : ℕ → Meaning) (drawn : List ℕ) (gave : List (Message A)) : Type 0 where
+  pub record TellsDrawn (about : A → About) (choice : Choice) (meaning : ℕ → Meaning) (drawn : List ℕ) (gave : List (Message A)) : Type 0 where
     pub stopped : IsStopped (notes about gave)
-    pub told : HasDrawn meaning drawn (notes about gave)
+    pub told : HasDrawn choice meaning drawn (notes about gave)
 
   -- the draft has a mark, and is all of its file
-  pub record IsReady (about : A → About) (meaning : Meaning) (file : ℕ) (draft : Draft A) : Type 0 where
+  pub record IsReady (about : A → About) (choice : Choice) (meaning : Meaning) (file : ℕ) (draft : Draft A) : Type 0 where
     pub mark : Mark
     pub marked : draft.mark ≡ Some mark
-    pub whole : IsWhole about meaning file draft.entries.items mark
+    pub whole : IsWhole about choice meaning file draft.entries.items mark
 
   -- so are the drafts of files in a row, the first of which has this number
-  abbrev pub AreReady : (A → About) → (ℕ → Meaning) → ℕ → List (Draft A) → Type 0
-  AreReady about meaning file [] = ⊤
-  AreReady about meaning file (draft ∷ drafts) = IsReady about (meaning file) file draft × AreReady about meaning (file + 1) drafts
+  abbrev pub AreReady : (A → About) → Choice → (ℕ → Meaning) → ℕ → List (Draft A) → Type 0
+  AreReady about choice meaning file [] = ⊤
+  AreReady about choice meaning file (draft ∷ drafts) = IsReady about choice (meaning file) file draft × AreReady about choice meaning (file + 1) drafts

@@ -2,14 +2,16 @@
 use Rattle.std.specs.Prelude.{◌≡◌, ℕ, ◌+◌, ◌==◌, Bool, false, List, [], ◌∷◌, ◌++◌, map, ⊤}
 use Rattle.std.specs.List.{filter}
 use Rattle.streams.specs.declared.found.Mark.{Mark}
+use Rattle.choices.specs.declared.Choice.{Choice}
 use Rattle.lanes.specs.declared.message.Message.{Message}
 use Rattle.lanes.specs.declared.message.Message.TheVariants.{Item, End, Stop}
 
--- a record: of which file it is, its place there, and its bytes
+-- a record: of which file it is, its place there, its bytes, and how the outer face of its plane is chosen
 pub record About : Type 0 where
   pub file : ℕ
   pub ordinal : ℕ
   pub bytes : List ℕ
+  pub choice : Choice
 
 abbrev pub Note : Type 0
 Note = Message About
@@ -23,10 +25,11 @@ note about Stop = Stop
 abbrev pub notes : {A : Type 0} → (A → About) → List (Message A) → List Note
 notes about messages = map (note about) messages
 
--- the records of a file, the first of which has this place there
-abbrev pub numbered : ℕ → ℕ → List (List ℕ) → List About
-numbered file ordinal [] = []
-numbered file ordinal (bytes ∷ records) = record { file = file; ordinal = ordinal; bytes = bytes } ∷ numbered file (ordinal + 1) records
+-- the records of a file under one choice, the first of which has this place there
+abbrev pub numbered : Choice → ℕ → ℕ → List (List ℕ) → List About
+numbered choice file ordinal [] = []
+numbered choice file ordinal (bytes ∷ records) =
+    record { file = file; ordinal = ordinal; bytes = bytes; choice = choice } ∷ numbered choice file (ordinal + 1) records
 
 -- the note belongs to this file
 abbrev pub is_of : ℕ → Note → Bool
@@ -38,9 +41,9 @@ is_of file Stop = false
 abbrev pub of_file : ℕ → List Note → List Note
 of_file file ns = filter (is_of file) ns
 
--- all notes of a file with these records and this mark
-abbrev pub file_notes : ℕ → List (List ℕ) → Mark → List Note
-file_notes file records mark = map Item (numbered file 0 records) ++ End file mark ∷ []
+-- all notes of a file with these records and this mark, under one choice
+abbrev pub file_notes : Choice → ℕ → List (List ℕ) → Mark → List Note
+file_notes choice file records mark = map Item (numbered choice file 0 records) ++ End file mark ∷ []
 
 -- there is no stop among the notes
 abbrev pub GoOn : List Note → Type 0

@@ -3,6 +3,7 @@ ghost use Rattle.std.specs.Prelude.{◌≡◌, List, [], ◌∷◌, ◌++◌, On
 ghost use Rattle.lanes.specs.Notes.{Note};
 ghost use Rattle.lanes.specs.declared.message.Message.TheVariants.{Item};
 
+use choices::Choice;
 use planar_code::Record;
 use std::alloc::Global;
 
@@ -18,16 +19,17 @@ pub trait Keep {
 
     ghost keeps: { Self → Self → Type 0 };
 
-    /// Keeps a record, which has this place in this file.
+    /// Keeps a record, which has this place in this file, with this choice of the outer face.
     fn keep(
         &mut self,
         alloc: Global,
         file: u32,
         ordinal: u32,
         rec: Record,
+        choice: Choice,
     ) -> Result<(), Self::Lost>
         ensures kept { OnOk result (kept self.new ≡ kept self.old
-            ++ Item (record { file = file; ordinal = ordinal; bytes = rec }) ∷ []) }
+            ++ Item (record { file = file; ordinal = ordinal; bytes = rec; choice = choice }) ∷ []) }
         ensures stays { keeps self.old self.new };
 
     // What stays, stays over any calls.

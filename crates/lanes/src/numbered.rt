@@ -7,7 +7,7 @@ use std::alloc::Global;
 
 /// What is known of one record of a file.
 pub trait Numbered: Drop + Send {
-    /// Which record it is: its file, its place there, and its bytes.
+    /// Which record it is: its file, its place there, its bytes, and the choice of its outer face.
     ghost about: { Self → About };
 
     /// The record's file, from 0.
@@ -27,7 +27,7 @@ pub trait Staged: Numbered {
     /// The stage that does the work.
     const STAGE: Stage;
 
-    /// Does the work. The record stays the same.
+    /// Does the work. The record and the choice stay the same.
     fn next(self, alloc: Global) -> Self::Next
         ensures { Self.Next.about result ≡ Self.about self };
 }

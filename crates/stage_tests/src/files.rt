@@ -4,6 +4,7 @@ ghost use Rattle.std.specs.Prelude.{map, false, None, ⊤};
 ghost use Rattle.lanes.specs.Opening.{Silent};
 ghost use Rattle.lanes.specs.declared.message.Message.TheVariants.{Item};
 
+use choices::Choice;
 use lanes::{Keep, MemOpener, OpenFault, Opener, read_file};
 use planar_code::{Ending, Record};
 use std::alloc::{AllocError, Global};
@@ -24,6 +25,7 @@ struct Shelved {
     file: u32,
     ordinal: u32,
     rec: Record,
+    choice: Choice,
 }
 
 /// Keeps all records.
@@ -35,7 +37,7 @@ struct Shelf {
 impl Keep for Shelf {
     type Lost = AllocError;
 
-    ghost kept = { λ s. map (λ r. Item (record { file = r.file; ordinal = r.ordinal; bytes = r.rec })) s.records.items };
+    ghost kept = { λ s. map (λ r. Item (record { file = r.file; ordinal = r.ordinal; bytes = r.rec; choice = r.choice })) s.records.items };
 
     ghost keeps = { λ _ _. ⊤ };
 
@@ -49,8 +51,14 @@ impl Keep for Shelf {
         file: u32,
         ordinal: u32,
         rec: Record,
+        choice: Choice,
     ) -> Result<(), AllocError> {
-        self.records.push(Shelved { file, ordinal, rec })?;
+        self.records.push(Shelved {
+            file,
+            ordinal,
+            rec,
+            choice,
+        })?;
         Ok(())
     }
 }
@@ -168,12 +176,20 @@ fn check<R: AllocGlobal + Abort, O: Opener>(
     let mut shelf = Shelf {
         records: Vec::new(rt.alloc()),
     };
-    let found = read_file(opener, rt.alloc(), file, buffer.as_mut_slice(), &mut shelf)?;
+    let found = read_file(
+        opener,
+        rt.alloc(),
+        file,
+        Choice::Best,
+        buffer.as_mut_slice(),
+        &mut shelf,
+    )?;
     assert_eq!(rt; found, mark, "file {file}");
     assert_eq!(rt; shelf.records.len(), count, "file {file}");
     for (place, shelved) in shelf.records.iter().enumerate() {
         assert_eq!(rt; shelved.file, file);
         assert_eq!(rt; shelved.ordinal as usize, place);
+        assert_eq!(rt; shelved.choice, Choice::Best);
         assert_eq!(rt; shelved.rec.bytes().len(), 5);
     }
     Ok(())
@@ -242,7 +258,7 @@ fn names_want_of_memory(rt: HostRuntime) {
     let mut shelf = Shelf {
         records: Vec::new(rt.alloc()),
     };
-    match read_file(&opener, rt.alloc(), 0, buffer.as_mut_slice(), &mut shelf) {
+    match read_file(&opener, rt.alloc(), 0, Choice::First, buffer.as_mut_slice(), &mut shelf) {
         Ok(Mark::Ended(Ending::Memory)) | Err(AllocError) => {
             assert!(rt; shelf.records.len() < 2);
         }

@@ -1,6 +1,7 @@
 //! Known graphs and refused records, answered as a whole and stage by stage.
 
 use answers::{Answer, Cause, Entry, Framed, answer};
+use choices::Choice;
 use embedding::Rule;
 use lanes::{Numbered, Stage, Staged};
 use planar_code::{Framer, HEADER, Record};
@@ -70,11 +71,12 @@ fn record_in(alloc: Global, bytes: &[u8]) -> Option<Record> {
 }
 
 /// The entry is that of this record, and says so.
-fn expect(rt: &impl Abort, entry: &Entry, about: (u32, u32, &[u8]), said: Said) {
-    let (file, ordinal, bytes) = about;
+fn expect(rt: &impl Abort, entry: &Entry, about: (u32, u32, &[u8], Choice), said: Said) {
+    let (file, ordinal, bytes, choice) = about;
     assert_eq!(rt; (entry.file, entry.ordinal), (file, ordinal));
     assert_eq!(rt; (entry.file(), entry.ordinal()), (file, ordinal));
     assert_eq!(rt; entry.rec.bytes(), bytes);
+    assert_eq!(rt; entry.choice, choice);
     expect_answer(rt, &entry.answer, said);
 }
 
@@ -102,15 +104,44 @@ fn expect_answer(rt: &impl Abort, answer: &Answer, said: Said) {
     }
 }
 
+/// A record that is answered as a whole is said to be so.
+fn answers(rt: &impl Abort, alloc: Global, bytes: &[u8], choice: Choice, said: Said) -> Result<(), Fail> {
+    let rec = record_in(alloc, bytes).ok_or("no record")?;
+    let entry = answer(alloc, 63, 999_999, rec, choice);
+    expect(rt, &entry, (63, 999_999, bytes, choice), said);
+    Ok(())
+}
+
 #[test]
 fn answers_known_records(rt: HostRuntime) -> Result<(), Fail> {
-    let alloc = rt.alloc();
     for (bytes, said) in CASES {
-        let rec = record_in(alloc, bytes).ok_or("no record")?;
-        let entry = answer(alloc, 63, 999_999, rec);
-        expect(&rt, &entry, (63, 999_999, bytes), said);
+        answers(&rt, rt.alloc(), bytes, Choice::First, said)?;
+        answers(&rt, rt.alloc(), bytes, Choice::Best, said)?;
     }
     Ok(())
+}
+
+/// A cube with a ninth vertex that is joined to all corners of one face.
+const CAPPED_CUBE: [u8; 42] = [
+    9, 5, 4, 2, 0, 3, 6, 1, 0, 4, 7, 2, 0, 1, 8, 3, 0, 1, 6, 9, 8, 0, 2, 7, 9, 5, 0, 3, 8, 9, 6, 0, 4,
+    5, 9, 7, 0, 5, 6, 7, 8, 0,
+];
+
+/// The same with a vertex on the edge from 1 to 5, so that the face with fewest bends is not among those
+/// with most darts.
+const LONGER_CUBE: [u8; 45] = [
+    10, 10, 4, 2, 0, 3, 6, 1, 0, 4, 7, 2, 0, 1, 8, 3, 0, 10, 6, 9, 8, 0, 2, 7, 9, 5, 0, 3, 8, 9, 6, 0,
+    4, 5, 9, 7, 0, 5, 6, 7, 8, 0, 1, 5, 0,
+];
+
+/// The outer face with the most darts needs more bends than another.
+#[test]
+fn chooses_the_outer_face(rt: HostRuntime) -> Result<(), Fail> {
+    let alloc = rt.alloc();
+    answers(&rt, alloc, &CAPPED_CUBE, Choice::First, Said::Drawn(9, 16, 9, 10))?;
+    answers(&rt, alloc, &CAPPED_CUBE, Choice::Best, Said::Drawn(9, 16, 9, 8))?;
+    answers(&rt, alloc, &LONGER_CUBE, Choice::First, Said::Drawn(10, 17, 9, 9))?;
+    answers(&rt, alloc, &LONGER_CUBE, Choice::Best, Said::Drawn(10, 17, 9, 8))
 }
 
 /// What a stage makes of a record, which stays the same.
@@ -134,11 +165,12 @@ fn goes_through_the_stages(rt: HostRuntime) -> Result<(), Fail> {
             file: 7,
             ordinal: 2,
             rec: record_in(alloc, bytes).ok_or("no record")?,
+            choice: Choice::Best,
         };
         let embedded = pass(&rt, alloc, framed, (7, 2), Stage::Embed);
         let shaped = pass(&rt, alloc, embedded, (7, 2), Stage::Shape);
         let entry = pass(&rt, alloc, shaped, (7, 2), Stage::Draw);
-        expect(&rt, &entry, (7, 2, bytes), said);
+        expect(&rt, &entry, (7, 2, bytes, Choice::Best), said);
     }
     Ok(())
 }
@@ -162,13 +194,14 @@ fn refused_allocations(rt: HostRuntime) -> Result<(), Fail> {
         return Ok(());
     };
     let right = Said::Drawn(3, 3, 2, 1);
-    let entry = answer(alloc, 1, 2, rec);
+    let about = (1, 2, TRIANGLE.as_slice(), Choice::Best);
+    let entry = answer(alloc, 1, 2, rec, Choice::Best);
     if let Answer::NoMemory = entry.answer {
         assert_eq!(rt; (entry.file, entry.ordinal), (1, 2));
         assert_eq!(rt; entry.rec.bytes(), TRIANGLE.as_slice());
-        expect(&rt, &answer(alloc, 1, 2, same), (1, 2, &TRIANGLE), right);
+        expect(&rt, &answer(alloc, 1, 2, same, Choice::Best), about, right);
     } else {
-        expect(&rt, &entry, (1, 2, &TRIANGLE), right);
+        expect(&rt, &entry, about, right);
     }
     Ok(())
 }

@@ -1,7 +1,7 @@
 use Rattle.answers.proofs.stages.answer.Goals as goal
 
 pub invariant_of-result : goal.invariant_of-result
-invariant_of-result c = record { answers = ∣ c.answer_with.ensures c.args.rec (c.shape-layout.ensures c.args.rec c.embed-plane.ensures) ∣₁ }
+invariant_of-result c = record { answers = ∣ c.answer_with.ensures c.args.choice c.args.rec (c.shape-layout.ensures c.args.rec c.embed-plane.ensures) ∣₁ }
 
 pub returns-clause-answered : goal.returns-clause-answered
-returns-clause-answered c = c.answer_with.ensures c.args.rec (c.shape-layout.ensures c.args.rec c.embed-plane.ensures)
+returns-clause-answered c = c.answer_with.ensures c.args.choice c.args.rec (c.shape-layout.ensures c.args.rec c.embed-plane.ensures)

@@ -9,7 +9,7 @@ use Rattle.books.proofs.binding.bind.Goals as goal
 pub bound-requires : goal.bound-requires
 bound-requires c =
     let some = c.loop-draft.invariant.some in
-    ready_some _ _ c.in-Some.draft (subst (AreReady about_of some.0 (vec_len c.loop-draft.books)) c.in-Some.ensures.steps.0 some.1).0
+    ready_some _ _ _ c.in-Some.draft (subst (AreReady about_of some.0 some.1 (vec_len c.loop-draft.books)) c.in-Some.ensures.steps.0 some.2).0
 
 pub loop-draft-preserved : goal.loop-draft-preserved
 loop-draft-preserved c =
@@ -21,15 +21,16 @@ loop-draft-preserved c =
       count = omega (arith, c.loop-draft.invariant.count, ap length c.in-Some.ensures.steps.0, c.in_ok-push.ensures.len);
       some = (
         some.0,
-        subst (λ k. AreReady about_of some.0 k c.next.new.self.rest.items) next
-            (subst (AreReady about_of some.0 (vec_len c.loop-draft.books)) c.in-Some.ensures.steps.0 some.1).1,
+        some.1,
+        subst (λ k. AreReady about_of some.0 some.1 k c.next.new.self.rest.items) next
+            (subst (AreReady about_of some.0 some.1 (vec_len c.loop-draft.books)) c.in-Some.ensures.steps.0 some.2).1,
       );
-      bound = λ meaning ready.
-          let both = c.loop-draft.invariant.bound meaning ready in
-          let rest = subst (AreReady about_of meaning (vec_len c.loop-draft.books)) c.in-Some.ensures.steps.0 both.1 in (
-            subst (AreBooks meaning 0) (sym c.in_ok-push.ensures.items)
-                (books_more meaning 0 books c.bound.result both.0
-                (subst (λ k. IsBook (meaning k) k c.bound.result) here (book_ready _ _ c.in-Some.draft c.bound.result rest.0 c.bound.ensures))),
-            subst (λ k. AreReady about_of meaning k c.next.new.self.rest.items) next rest.1,
+      bound = λ choice meaning ready.
+          let both = c.loop-draft.invariant.bound choice meaning ready in
+          let rest = subst (AreReady about_of choice meaning (vec_len c.loop-draft.books)) c.in-Some.ensures.steps.0 both.1 in (
+            subst (AreBooks choice meaning 0) (sym c.in_ok-push.ensures.items)
+                (books_more choice meaning 0 books c.bound.result both.0
+                (subst (λ k. IsBook choice (meaning k) k c.bound.result) here (book_ready _ _ _ c.in-Some.draft c.bound.result rest.0 c.bound.ensures))),
+            subst (λ k. AreReady about_of choice meaning k c.next.new.self.rest.items) next rest.1,
           );
     }

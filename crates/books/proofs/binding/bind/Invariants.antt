@@ -1,4 +1,5 @@
 use Rattle.std.proofs.Common.{◌≡◌, ◌+◌, ℕ, length, vec_len}
+use Rattle.choices.specs.declared.Choice.{Choice}
 use Rattle.lanes.specs.Opening.{Meaning}
 use Rattle.lanes.specs.Files.{AreReady}
 use Rattle.entries.specs.Abouts.{about_of}
@@ -8,7 +9,7 @@ use Rattle.books.proofs.binding.bind.Given as goal
 abbrev pub invariant-loop-draft : goal.invariant-loop-draft
 invariant-loop-draft l = record {
   count : vec_len l.books + length l.draft-iterator.rest.items ≡ vec_len l.fn.drafts;
-  some : (meaning : ℕ → Meaning) × AreReady about_of meaning (vec_len l.books) l.draft-iterator.rest.items;
-  bound : (meaning : ℕ → Meaning) → AreReady about_of meaning 0 l.fn.drafts.items
-      → AreBooks meaning 0 l.books.items × AreReady about_of meaning (vec_len l.books) l.draft-iterator.rest.items;
+  some : (choice : Choice) × (meaning : ℕ → Meaning) × AreReady about_of choice meaning (vec_len l.books) l.draft-iterator.rest.items;
+  bound : (choice : Choice) (meaning : ℕ → Meaning) → AreReady about_of choice meaning 0 l.fn.drafts.items
+      → AreBooks choice meaning 0 l.books.items × AreReady about_of choice meaning (vec_len l.books) l.draft-iterator.rest.items;
 }

@@ -11,7 +11,7 @@ loop-file-preserved g c =
     record {
       room = c.loop-file.invariant.room;
       count = omega (arith, c.in_ok-push.ensures.len, c.loop-file.invariant.count);
-      each = subst (AreBooks meaning 0) (sym c.in_ok-push.ensures.items)
-          (books_more meaning 0 books c.in_ok-read_book.field-0 c.loop-file.invariant.each
-          (subst (λ k. IsBook (meaning k) k c.in_ok-read_book.field-0) next c.in_ok-read_book.ensures.book));
+      each = subst (AreBooks c.args.choice meaning 0) (sym c.in_ok-push.ensures.items)
+          (books_more c.args.choice meaning 0 books c.in_ok-read_book.field-0 c.loop-file.invariant.each
+          (subst (λ k. IsBook c.args.choice (meaning k) k c.in_ok-read_book.field-0) next c.in_ok-read_book.ensures.book));
     }

@@ -6,5 +6,5 @@ abbrev pub invariant-loop-file : goal.invariant-loop-file
 invariant-loop-file g l = record {
   room : vec_len l.buffer ≡ 65536;
   count : vec_len l.books ≡ l.file;
-  each : AreBooks (g.O.Opener.meaning l.opener) 0 l.books.items;
+  each : AreBooks l.choice (g.O.Opener.meaning l.opener) 0 l.books.items;
 }

@@ -10,9 +10,9 @@ pub returns-clause-book : goal.returns-clause-book
 returns-clause-book g c =
     let meaning = g.O.Opener.meaning c.args.opener.now c.args.file in
     let entries = c.read_file.new.keep.entries.items in
-    subst (IsBook meaning c.args.file) (sym c.new-2.ensures) (record {
-      whole = whole_kept meaning c.args.file entries c.in_ok-mark.mark
-          (subst (λ none. KeepsFile meaning c.args.file (map (λ entry. Item (about_of entry)) none) (map (λ entry. Item (about_of entry)) entries) c.in_ok-mark.mark)
+    subst (IsBook c.args.choice meaning c.args.file) (sym c.new-2.ensures) (record {
+      whole = whole_kept c.args.choice meaning c.args.file entries c.in_ok-mark.mark
+          (subst (λ none. KeepsFile c.args.choice meaning c.args.file (map (λ entry. Item (about_of entry)) none) (map (λ entry. Item (about_of entry)) entries) c.in_ok-mark.mark)
           c.new.ensures.items c.in_ok-mark.ensures.kept);
       answered = all_answered entries;
     })

@@ -5,7 +5,7 @@ use Rattle.lane_runs.proofs.joining.finish_lanes.Goals as goal
 
 pub join_lanes-requires-clause-running : goal.join_lanes-requires-clause-running
 join_lanes-requires-clause-running g c = λ κs within.
-    numbered_weaker _ _ (λ lane r is. running_still c.args.gatherer c.in-Ok.gatherer _ _ _ _ _ _ c.in-Ok.ensures.fan is) 0 c.args.running.items c.requires.running
+    numbered_weaker _ _ (λ lane r is. running_still c.args.gatherer c.in-Ok.gatherer _ _ _ _ _ _ _ _ c.in-Ok.ensures.fan is) 0 c.args.running.items c.requires.running
 
 pub join_lanes-requires-clause-idle : goal.join_lanes-requires-clause-idle
 join_lanes-requires-clause-idle g c = λ κs within. idle_still c.args.gatherer c.in-Ok.gatherer (vec_len c.args.running) c.args.idle.items c.in-Ok.ensures.fan c.requires.idle
@@ -15,5 +15,5 @@ join_lanes-requires-clause-stopped g c = λ κs within lane below. c.in-Ok.ensur
 
 pub returns-clause-ready : goal.returns-clause-ready
 returns-clause-ready g c = λ once.
-    drafts_ready g.E.Numbered.about (g.O.Opener.meaning c.args.opener.now) 0 _ c.gather.new.drafts.items c.in-Ok.ensures.told
+    drafts_ready g.E.Numbered.about c.args.choice (g.O.Opener.meaning c.args.opener.now) 0 _ c.gather.new.drafts.items c.in-Ok.ensures.told
     (λ file below. c.in_ok-seats.ensures.told file (once file (omega (arith, below))))

@@ -10,5 +10,5 @@ invariant-loop g l = record {
   room : vec_len l.buffer ≡ 65536;
   seat : IsSeatOf l.tickets l.seat;
   to_same : GivesToSame l.fn.giver l.gives.giver;
-  told : HasTold (g.O.Opener.meaning l.opener) (drawn l.seat) (notes g.L.Framed.Numbered.about (given l.gives.giver));
+  told : HasTold l.choice (g.O.Opener.meaning l.opener) (drawn l.seat) (notes g.L.Framed.Numbered.about (given l.gives.giver));
 }

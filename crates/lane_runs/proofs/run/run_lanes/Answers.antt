@@ -18,7 +18,7 @@ loop-giver-preserved-in-Ok-push g c =
       rest = numbered_as _ (0 + length c.loop-giver.running.items + 1) _ _ _ (omega (arith, none, c.in-Ok-push.ensures.len)) refl rest.1;
       running = subst (AreNumbered _ 0) (sym c.in-Ok-push.ensures.items)
           (numbered_more _ 0 c.loop-giver.running.items now inv.running
-          (started _ _ _ _ _ _ _ c.in-Some.giver _ rest.0 refl c.in_ok-started-in-Some-pop.ensures.giver c.in_ok-started-in-Some-pop.ensures.opener c.in_ok-started-in-Some-pop.ensures.tickets));
+          (started _ _ _ _ _ _ _ _ _ c.in-Some.giver _ rest.0 refl c.in_ok-started-in-Some-pop.ensures.giver c.in_ok-started-in-Some-pop.ensures.choice c.in_ok-started-in-Some-pop.ensures.opener c.in_ok-started-in-Some-pop.ensures.tickets));
       still = inv.still;
       sits = (All-pop (IsSeatOf c.args.tickets.now) _ _ (Some c.in-Some-pop.seat) c.in-Some-pop.ensures.items inv.sits).0;
       unused = (All-pop IsUnused _ _ (Some c.in-Some-pop.seat) c.in-Some-pop.ensures.items inv.unused).0;

@@ -10,6 +10,6 @@ invariant-loop-rec g l = record {
   finite : (goal.iterator-loop-rec g).is_finite l.rec-iterator;
   left : drain_items l.initial.rec-iterator ≡ l.yielded ++ drain_items l.rec-iterator;
   next : l.ordinal ≡ l.fn.first + length l.yielded;
-  kept : g.K.Keep.kept l.keep ≡ g.K.Keep.kept l.initial.keep ++ map Item (numbered l.fn.file l.fn.first l.yielded);
+  kept : g.K.Keep.kept l.keep ≡ g.K.Keep.kept l.initial.keep ++ map Item (numbered l.fn.choice l.fn.file l.fn.first l.yielded);
   stays : g.K.Keep.keeps l.initial.keep l.keep;
 }

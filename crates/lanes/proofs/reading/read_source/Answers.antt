@@ -8,7 +8,7 @@ use Rattle.lanes.proofs.Numbers.{kept_so_far}
 use Rattle.lanes.proofs.reading.read_source.Goals as goal
 
 pub returns-in-Err-clause-kept : goal.returns-in-Err-clause-kept
-returns-in-Err-clause-kept g c = keeps_nothing _ _ _ _
+returns-in-Err-clause-kept g c = keeps_nothing _ _ _ _ _
 
 pub loop-init : goal.loop-init
 loop-init g c = record {
@@ -36,7 +36,7 @@ returns-in-Ended-clause-kept g c =
     let ended = c.in-Ended.ensures.reads _ _ c.loop.counter inv.found (nothing_new _ _ _ _ _ _ _ _ inv.none inv.being_read) in
     record {
       records = inv.found ++ c.read_piece-step.new.records.items;
-      kept = kept_so_far _ _ _ _ _ _ _ inv.next inv.kept c.in-Ok-keep_records.ensures.kept;
+      kept = kept_so_far _ _ _ _ _ _ _ _ inv.next inv.kept c.in-Ok-keep_records.ensures.kept;
       found = found_ended _ _ _ _ _ ended c.finish.ensures.split;
     }
 
@@ -49,7 +49,7 @@ returns-in-Failed-clause-kept g c =
     let failed = c.in-Failed.ensures.reads _ _ c.loop.counter inv.found (nothing_new _ _ _ _ _ _ _ _ inv.none inv.being_read) in
     record {
       records = inv.found ++ c.read_piece-step.new.records.items;
-      kept = kept_so_far _ _ _ _ _ _ _ inv.next inv.kept c.in-Ok-keep_records.ensures.kept;
+      kept = kept_so_far _ _ _ _ _ _ _ _ inv.next inv.kept c.in-Ok-keep_records.ensures.kept;
       found = failed;
     }
 
@@ -62,7 +62,7 @@ returns-in-Stopped-clause-kept g c =
     let stopped = c.in-Stopped.ensures.reads _ _ c.loop.counter inv.found (nothing_new _ _ _ _ _ _ _ _ inv.none inv.being_read) in
     record {
       records = inv.found ++ c.read_piece-step.new.records.items;
-      kept = kept_so_far _ _ _ _ _ _ _ inv.next inv.kept c.in-Ok-keep_records.ensures.kept;
+      kept = kept_so_far _ _ _ _ _ _ _ _ inv.next inv.kept c.in-Ok-keep_records.ensures.kept;
       found = found_as _ _ _ _ _ _ refl (ap Ended c.from.ensures) stopped;
     }
 
@@ -78,7 +78,7 @@ loop-preserved g c =
       none = c.in-Ok-keep_records.ensures.empties;
       found = inv.found ++ c.read_piece-step.new.records.items;
       next = omega (arith, inv.next, next, length-append inv.found c.read_piece-step.new.records.items);
-      kept = kept_so_far _ _ _ _ _ _ _ inv.next inv.kept c.in-Ok-keep_records.ensures.kept;
+      kept = kept_so_far _ _ _ _ _ _ _ _ inv.next inv.kept c.in-Ok-keep_records.ensures.kept;
       stays = g.met.K.Keep.keeps_on _ _ _ inv.stays c.in-Ok-keep_records.ensures.stays;
       being_read = c.in-More.ensures.reads _ _ c.loop.counter inv.found (nothing_new _ _ _ _ _ _ _ _ inv.none inv.being_read);
     }
