@@ -4,7 +4,7 @@ use Rattle.planar_code.specs.Stream.{lists_of}
 use Rattle.embedding.specs.Rules.{FirstBroken}
 use Rattle.choices.specs.declared.Choice.{Choice}
 use Rattle.faces.specs.Map.{Map, IsPlane, IsWidest}
-use Rattle.ortho_rep.specs.Outer.{IsChosen}
+use Rattle.ortho_rep.specs.Best.{IsChosen}
 use Rattle.answers.specs.declared.refusal.Refusal.{Refusal}
 use Rattle.answers.specs.declared.refusal.Refusal.TheVariants.{Rule, Memory}
 use Rattle.answers.specs.declared.layout.Layout.{Layout}

@@ -81,9 +81,21 @@ fn check<R: AllocGlobal + Threads + Wait + Sync + Abort, G: Gate>(
     gate: &G,
     report: &str,
 ) -> Result<(), Fail> {
+    check_chosen(rt, files, lanes, Choice::First, gate, report)
+}
+
+/// The same under a choice of the outer face.
+fn check_chosen<R: AllocGlobal + Threads + Wait + Sync + Abort, G: Gate>(
+    rt: &R,
+    files: &[&[u8]],
+    lanes: u32,
+    choice: Choice,
+    gate: &G,
+    report: &str,
+) -> Result<(), Fail> {
     let opener = opener_of(rt.alloc(), files)?;
     let count = u32::try_from(files.len())?;
-    let run = run_batch(rt, rt.alloc(), &opener, count, lanes, 1, Choice::First, gate);
+    let run = run_batch(rt, rt.alloc(), &opener, count, lanes, 1, choice, gate);
     check_report(rt, &run.map_err(|_| AllocError)?, report);
     Ok(())
 }
@@ -98,6 +110,40 @@ fn reports_the_same_over_lanes(rt: HostRuntime) -> Result<(), Fail> {
     let batch = run_plain(rt.alloc(), &opener, 3, Choice::First).map_err(|_| AllocError)?;
     check_report(&rt, &batch, OF_THREE);
     Ok(())
+}
+
+/// Neither a single edge nor a triangle has a better face than the widest.
+#[test]
+fn reports_the_same_under_either_choice(rt: HostRuntime) -> Result<(), Fail> {
+    let files = [TRIANGLES, CUT, HEADER];
+    for lanes in 1..=4 {
+        check_chosen(&rt, &files, lanes, Choice::Best, &OpenGate, OF_THREE)?;
+    }
+    let opener = opener_of(rt.alloc(), &files)?;
+    let batch = run_plain(rt.alloc(), &opener, 3, Choice::Best).map_err(|_| AllocError)?;
+    check_report(&rt, &batch, OF_THREE);
+    Ok(())
+}
+
+/// A cube with a ninth vertex that is joined to all corners of one face: that face's opposite one needs
+/// fewest bends, and the widest face with the least dart needs two more.
+const CAPPED_CUBE: &[u8] = b">>planar_code<<\
+    \x09\x05\x04\x02\0\x03\x06\x01\0\x04\x07\x02\0\x01\x08\x03\0\x01\x06\x09\x08\0\
+    \x02\x07\x09\x05\0\x03\x08\x09\x06\0\x04\x05\x09\x07\0\x05\x06\x07\x08\0";
+
+const CAPPED_BY_FIRST: &str = "file 1\n\
+    graph 1 ok n=9 m=16 f=9 bends=10 drawn=yes\n\
+    end complete graphs=1\n";
+
+const CAPPED_BY_BEST: &str = "file 1\n\
+    graph 1 ok n=9 m=16 f=9 bends=8 drawn=yes\n\
+    end complete graphs=1\n";
+
+#[test]
+fn chooses_the_outer_face(rt: HostRuntime) -> Result<(), Fail> {
+    let files = [CAPPED_CUBE];
+    check_chosen(&rt, &files, 1, Choice::First, &OpenGate, CAPPED_BY_FIRST)?;
+    check_chosen(&rt, &files, 1, Choice::Best, &OpenGate, CAPPED_BY_BEST)
 }
 
 /// Counts the calls of each stage.

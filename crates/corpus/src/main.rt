@@ -5,8 +5,9 @@
 //! `times` and a number, it tells how long each stage takes on a file, the least of so many runs of
 //! each.
 //!
-//! All words after `batches` are files. The report of each is printed, and compared with that of runs
-//! over lanes, as is the report of all files at once; the JSON lines of each are read back and tested.
+//! All words after `batches` are files; those behind the word `best` are laid out with the best outer face.
+//! The report of each is printed, and compared with that of runs over lanes, as is the report of all files at
+//! once; the JSON lines of each are read back and tested.
 //! All words after `plain` are files too: it tells how long a run over them takes on one thread; after
 //! `lanes`, the number of lanes and the room of the links between threads, how long a run over lanes
 //! takes.
@@ -20,7 +21,7 @@ mod stages;
 mod times;
 
 use anyhow::Result;
-use batches::compare_runs;
+use batches::compare_choices;
 use pieces::compare;
 use run_times::{time_lanes, time_plain};
 use stages::{Depth, report};
@@ -42,7 +43,7 @@ fn main(rt: HostRuntime) -> Result<()> {
     for (place, word) in words.iter().enumerate() {
         let rest = &words[place + 1..];
         match (word.as_str(), task) {
-            ("batches", _) => return compare_runs(&rt, rest),
+            ("batches", _) => return compare_choices(&rt, rest),
             ("plain", _) => return time_plain(&rt, rest),
             ("lanes", _) => return time_lanes(&rt, rest),
             ("pieces", _) => task = Task::Pieces,

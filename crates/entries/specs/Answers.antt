@@ -8,7 +8,7 @@ use Rattle.ortho_rep.specs.Shapes.{Figure}
 use Rattle.ortho_rep.specs.Points.{Plot}
 use Rattle.ortho_rep.specs.Prices.{Tariff, IsProof}
 use Rattle.ortho_rep.specs.Representation.{IsShape, IsLeast}
-use Rattle.ortho_rep.specs.Outer.{IsChosen}
+use Rattle.ortho_rep.specs.Best.{IsChosen}
 use Rattle.entries.specs.declared.cause.Cause.{Cause}
 use Rattle.entries.specs.declared.found.Answer.{Answer}
 use Rattle.entries.specs.declared.found.Answer.TheVariants.{Laid, Refused, NoMemory}

@@ -75,7 +75,8 @@ fn reports_refused_graphs(rt: HostRuntime) -> Result<(), Fail> {
     )
 }
 
-/// Runs `layout` on a file of this body behind the header, and looks at the lines behind the first.
+/// Runs `layout` on a file of this body behind the header, and looks at the lines behind the first: they are
+/// the same under either choice of the outer face.
 fn check_body<R: Files + AllocGlobal + Threads + Wait + Sync + Abort>(
     rt: &R,
     body: &[u8],
@@ -88,7 +89,8 @@ where
 {
     write_parts(rt, "body.pc", &[HEADER, body])?;
     let report = format!(in rt.alloc(); "file 1\n{lines}\n")?;
-    check(rt, &["layout", "body.pc"], report.as_str(), status)
+    check(rt, &["layout", "body.pc"], report.as_str(), status)?;
+    check(rt, &["layout", "--outer", "best", "body.pc"], report.as_str(), status)
 }
 
 /// Known graphs, each in a file of its own, with their fewest bends.
@@ -117,6 +119,36 @@ fn lays_out_known_graphs(rt: HostRuntime) -> Result<(), Fail> {
         check_body(&rt, body, lines.as_str(), 0)?;
     }
     Ok(())
+}
+
+/// A cube with a ninth vertex that is joined to all corners of one face.
+const CAPPED_CUBE: &[u8] = &[
+    9, 5, 4, 2, 0, 3, 6, 1, 0, 4, 7, 2, 0, 1, 8, 3, 0, 1, 6, 9, 8, 0, 2, 7, 9, 5, 0, 3, 8, 9, 6, 0, 4,
+    5, 9, 7, 0, 5, 6, 7, 8, 0,
+];
+
+/// The same with a tenth vertex on the edge from 1 to 5.
+const LONGER_CUBE: &[u8] = &[
+    10, 10, 4, 2, 0, 3, 6, 1, 0, 4, 7, 2, 0, 1, 8, 3, 0, 10, 6, 9, 8, 0, 2, 7, 9, 5, 0, 3, 8, 9, 6, 0,
+    4, 5, 9, 7, 0, 5, 6, 7, 8, 0, 1, 5, 0,
+];
+
+/// Graphs that need fewer bends with another outer face than the widest one.
+#[test]
+fn chooses_the_outer_face(rt: HostRuntime) -> Result<(), Fail> {
+    write_parts(&rt, "cubes.pc", &[HEADER, CAPPED_CUBE, LONGER_CUBE])?;
+    let first = "file 1\n\
+        graph 1 ok n=9 m=16 f=9 bends=10 drawn=yes\n\
+        graph 2 ok n=10 m=17 f=9 bends=9 drawn=yes\n\
+        end complete graphs=2\n";
+    check(&rt, &["layout", "cubes.pc"], first, 0)?;
+    check(&rt, &["layout", "--outer", "first", "cubes.pc"], first, 0)?;
+    let best = "file 1\n\
+        graph 1 ok n=9 m=16 f=9 bends=8 drawn=yes\n\
+        graph 2 ok n=10 m=17 f=9 bends=8 drawn=yes\n\
+        end complete graphs=2\n";
+    check(&rt, &["layout", "--outer", "best", "cubes.pc"], best, 0)?;
+    check(&rt, &["layout", "cubes.pc", "--lanes=2", "--outer=best"], best, 0)
 }
 
 /// Graphs that break a rule, each in a file of its own.
@@ -188,7 +220,8 @@ fn marks_files_that_do_not_end_well(rt: HostRuntime) -> Result<(), Fail> {
     let cut = "file 1\n\
         graph 1 ok n=2 m=1 f=1 bends=0 drawn=yes\n\
         end truncated graphs=1\n";
-    check(&rt, &["layout", "cut.pc"], cut, 3)
+    check(&rt, &["layout", "cut.pc"], cut, 3)?;
+    check(&rt, &["layout", "--outer", "best", "cut.pc"], cut, 3)
 }
 
 /// Files that differ are reported in the order of their names, however many lanes there are.
@@ -256,6 +289,12 @@ fn shows_an_edge_as_json(rt: HostRuntime) -> Result<(), Fail> {
 fn refuses_other_command_lines(rt: HostRuntime) -> Result<(), Fail> {
     check_refused(&rt, &["layout"], "were not provided:\n  <FILE>...\n")?;
     check_refused(&rt, &["layout", "--lanes", "x", "a"], "invalid value 'x'")?;
+    check_refused(
+        &rt,
+        &["layout", "--outer", "widest", "a"],
+        "invalid value 'widest' for '--outer <CHOICE>'\n  [possible values: first, best]\n",
+    )?;
+    check_refused(&rt, &["frames", "--outer", "best", "a"], "unexpected argument '--outer' found")?;
     check_refused(
         &rt,
         &["frames", "--json", "a"],

@@ -104,8 +104,14 @@ fn expect_answer(rt: &impl Abort, answer: &Answer, said: Said) {
     }
 }
 
-/// A record that is answered as a whole is said to be so.
-fn answers(rt: &impl Abort, alloc: Global, bytes: &[u8], choice: Choice, said: Said) -> Result<(), Fail> {
+/// The answer to a record under a choice says so.
+fn answers(
+    rt: &impl Abort,
+    alloc: Global,
+    bytes: &[u8],
+    choice: Choice,
+    said: Said,
+) -> Result<(), Fail> {
     let rec = record_in(alloc, bytes).ok_or("no record")?;
     let entry = answer(alloc, 63, 999_999, rec, choice);
     expect(rt, &entry, (63, 999_999, bytes, choice), said);
@@ -134,14 +140,32 @@ const LONGER_CUBE: [u8; 45] = [
     4, 5, 9, 7, 0, 5, 6, 7, 8, 0, 1, 5, 0,
 ];
 
-/// The outer face with the most darts needs more bends than another.
+/// Another face than the widest one needs fewer bends.
 #[test]
 fn chooses_the_outer_face(rt: HostRuntime) -> Result<(), Fail> {
     let alloc = rt.alloc();
     answers(&rt, alloc, &CAPPED_CUBE, Choice::First, Said::Drawn(9, 16, 9, 10))?;
     answers(&rt, alloc, &CAPPED_CUBE, Choice::Best, Said::Drawn(9, 16, 9, 8))?;
     answers(&rt, alloc, &LONGER_CUBE, Choice::First, Said::Drawn(10, 17, 9, 9))?;
-    answers(&rt, alloc, &LONGER_CUBE, Choice::Best, Said::Drawn(10, 17, 9, 8))
+    answers(&rt, alloc, &LONGER_CUBE, Choice::Best, Said::Drawn(10, 17, 9, 8))?;
+    for (bytes, choice, face) in [
+        (CAPPED_CUBE.as_slice(), Choice::First, 0),
+        (CAPPED_CUBE.as_slice(), Choice::Best, 2),
+        (LONGER_CUBE.as_slice(), Choice::First, 0),
+        (LONGER_CUBE.as_slice(), Choice::Best, 2),
+    ] {
+        let rec = record_in(alloc, bytes).ok_or("no record")?;
+        assert_eq!(rt; outer_of(&answer(alloc, 0, 0, rec, choice)), Some(face));
+    }
+    Ok(())
+}
+
+/// The outer face of a plane that was laid out.
+fn outer_of(entry: &Entry) -> Option<u16> {
+    match &entry.answer {
+        Answer::Laid { plane, .. } => Some(plane.outer()),
+        _ => None,
+    }
 }
 
 /// What a stage makes of a record, which stays the same.
