@@ -7,3 +7,4 @@ pub mod OfFlow
 pub mod Prices
 pub mod Points
 pub mod Edges
+pub mod Best
