@@ -8,3 +8,4 @@ pub mod Prices
 pub mod Points
 pub mod Edges
 pub mod Best
+pub mod Tries
