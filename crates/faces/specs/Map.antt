@@ -16,6 +16,10 @@ pub record Map : Type 0 where
 abbrev pub map_of : List (List ℕ) → List ℕ → ℕ → ℕ → Map
 map_of lists face faces outer = record { lists = lists; face = face; faces = faces; outer = outer }
 
+-- the same map with another outer face
+abbrev pub with_outer : Map → ℕ → Map
+with_outer p outer = map_of p.lists p.face p.faces outer
+
 abbrev pub vertices : Map → ℕ
 vertices p = length p.lists
 

@@ -9,4 +9,5 @@ pub mod laws;
 mod numbering;
 mod plane;
 
+pub use choices::Choice;
 pub use plane::{Plane, TraceFault};

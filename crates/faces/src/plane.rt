@@ -73,7 +73,7 @@ fn face_table(alloc: Global, faces: &[u16], count: u16) -> Result<FaceTable, All
 }
 
 impl Plane {
-    ghost use Rattle.faces.specs.Map.{Map, IsPlane, IsWidest, HasEnds, darts, next, face_at, degree};
+    ghost use Rattle.faces.specs.Map.{Map, IsPlane, IsWidest, HasEnds, darts, next, face_at, degree, with_outer};
     ghost use Rattle.faces.specs.Faults.{IsTraceFault};
 
     /// Walks the faces of a graph, and takes the one with the most darts as the outer face, among equals
@@ -161,5 +161,13 @@ impl Plane {
         ensures named { result < self.now.faces }
     {
         self.outer
+    }
+
+    /// Makes a face the outer one, and changes nothing else. It takes no memory.
+    pub fn turn_out(&mut self, face: u16)
+        requires { face < self.old.faces }
+        ensures { self.new ≡ with_outer self.old face }
+    {
+        self.outer = face;
     }
 }

@@ -10,3 +10,4 @@ pub mod FewTurns
 pub mod FromFlow
 pub mod Joined
 pub mod Alike
+pub mod Tries

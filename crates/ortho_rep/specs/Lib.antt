@@ -7,3 +7,5 @@ pub mod OfFlow
 pub mod Prices
 pub mod Points
 pub mod Edges
+pub mod Best
+pub mod Tries

@@ -1,6 +1,7 @@
 //! Orthogonal representations of a plane: shapes, prices that prove a shape least, and their tests.
 #![tactic(auto)]
 
+mod best;
 mod certificate;
 mod least;
 mod points;
@@ -10,6 +11,7 @@ mod shape;
 mod strings;
 mod turn;
 
+pub use best::best_shape;
 pub use certificate::certify;
 pub use least::least_shape;
 pub use points::{Point, Points};
