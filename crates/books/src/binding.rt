@@ -4,6 +4,7 @@ ghost use Rattle.streams.specs.declared.found.Mark.{Mark};
 ghost use Rattle.lanes.specs.Opening.{Meaning};
 ghost use Rattle.lanes.specs.Files.{AreReady};
 ghost use Rattle.entries.specs.Abouts.{about_of};
+ghost use Rattle.books.specs.declared.limits.TheConstants.{MAX_FILES};
 ghost use Rattle.books.specs.Books.{AreBooks};
 
 use crate::book::{Batch, Book};
@@ -13,7 +14,7 @@ use std::alloc::{AllocError, Global};
 
 /// The books of drafts that are each all of their file.
 pub fn bind(alloc: Global, drafts: Vec<Draft<Entry>>) -> Result<Batch, AllocError>
-    requires few { vec_len drafts ≤ 64 }
+    requires few { vec_len drafts ≤ MAX_FILES }
     requires ready { (meaning : ℕ → Meaning) × AreReady about_of meaning 0 drafts.items }
     ensures count { IfOk result (λ books. length books ≡ vec_len drafts) }
     ensures books { IfOk result (λ books. (meaning : ℕ → Meaning)

@@ -1,16 +1,14 @@
 //! A run on the caller's thread.
 ghost use Rattle.std.specs.Prelude.{◌≡◌, ◌<◌, ◌≤◌, ◌⊎◌, ◌↔◌, Err, IfOk, IfErr, length, vec_len};
+ghost use Rattle.books.specs.declared.limits.TheConstants.{MAX_FILES};
 ghost use Rattle.books.specs.Books.{IsBook};
 ghost use Rattle.books.specs.Results.{AreAllBooks};
 
 use crate::kept::Entries;
-use books::{Batch, Book};
+use books::{Batch, Book, MAX_FILES};
 use lanes::{Opener, read_file};
 use std::alloc::{AllocError, Global};
 use streams::{BatchFault, piece_buffer};
-
-/// How many files a run takes at most.
-pub const MAX_FILES: u32 = 64;
 
 /// Reads the first `files` files of the opener and answers each record, on the caller's thread. It
 /// hands out a book for each file, whose mark also tells where a file could not be opened, failed or
@@ -18,11 +16,11 @@ pub const MAX_FILES: u32 = 64;
 ///
 /// # Errors
 ///
-/// `TooManyFiles` exactly where there are more than 64; `Memory` where there was none for the buffer
+/// `TooManyFiles` exactly where there are more than `MAX_FILES`; `Memory` where there was none for the buffer
 /// that files are read into or for the books. There is no other.
 pub fn run_plain<O: Opener>(alloc: Global, opener: &O, files: u32) -> Result<Batch, BatchFault>
     ensures books { IfOk result (AreAllBooks (O.meaning opener.now) files) }
-    ensures too_many { (64 < files) ↔ (result ≡ Err BatchFault.TooManyFiles) }
+    ensures too_many { (MAX_FILES < files) ↔ (result ≡ Err BatchFault.TooManyFiles) }
     ensures no_other { IfErr result (λ fault.
         (fault ≡ BatchFault.TooManyFiles) ⊎ (fault ≡ BatchFault.Memory)) }
 {
@@ -37,7 +35,7 @@ pub fn run_plain<O: Opener>(alloc: Global, opener: &O, files: u32) -> Result<Bat
 
 /// The books of the first files.
 fn plain_books<O: Opener>(alloc: Global, opener: &O, files: u32) -> Result<Batch, AllocError>
-    requires { files ≤ 64 }
+    requires { files ≤ MAX_FILES }
     ensures { IfOk result (AreAllBooks (O.meaning opener.now) files) }
 {
     let mut buffer = piece_buffer(alloc)?;
