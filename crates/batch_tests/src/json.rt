@@ -1,6 +1,7 @@
 //! JSON lines of files in memory. The bytes, the texts and the beginnings and ends of lines come from the
 //! descriptions of the format and of the lines.
 ghost use Rattle.std.specs.Prelude.{◌≤◌, length};
+ghost use Rattle.books.specs.declared.limits.TheConstants.{MAX_FILES};
 
 use collector::{Batch, Choice, IoSink, MemOpener, WriteFault, run_plain, write_json};
 use std::alloc::{AllocError, Global};
@@ -23,7 +24,7 @@ const THREE_FILES: [&[u8]; 3] = [
 ];
 
 fn batch_of(alloc: Global, files: &[&[u8]]) -> Result<Batch, AllocError>
-    requires { length files.now ≤ 64 }
+    requires { length files.now ≤ MAX_FILES }
 {
     let mut copies = Vec::new(alloc);
     for file in files {

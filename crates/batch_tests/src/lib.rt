@@ -5,6 +5,8 @@
 #[cfg(test)]
 mod json;
 #[cfg(test)]
+mod many;
+#[cfg(test)]
 mod runs;
 #[cfg(test)]
 mod written;

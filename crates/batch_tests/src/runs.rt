@@ -4,8 +4,8 @@ ghost use Rattle.std.specs.Prelude.{◌<◌, ◌≤◌, false, None};
 ghost use Rattle.lanes.specs.Opening.{Silent};
 
 use collector::{
-    Answer, Batch, BatchFault, Book, Choice, Gate, IoSink, Mark, MemOpener, MemTap, OpenFault, OpenGate,
-    Opener, Stage, Tap, TapFault, run_batch, run_plain, write_report,
+    Answer, Batch, BatchFault, Book, Choice, Gate, IoSink, MAX_LANES, Mark, MemOpener, MemTap, OpenFault,
+    OpenGate, Opener, Stage, Tap, TapFault, run_batch, run_plain, write_report,
 };
 use planar_code::Ending;
 use std::alloc::{AllocError, Global};
@@ -103,7 +103,7 @@ fn check_chosen<R: AllocGlobal + Threads + Wait + Sync + Abort, G: Gate>(
 #[test]
 fn reports_the_same_over_lanes(rt: HostRuntime) -> Result<(), Fail> {
     let files = [TRIANGLES, CUT, HEADER];
-    for lanes in 1..=4 {
+    for lanes in 1..=MAX_LANES {
         check(&rt, &files, lanes, &OpenGate, OF_THREE)?;
     }
     let opener = opener_of(rt.alloc(), &files)?;
@@ -215,10 +215,11 @@ fn fault_of<R: AllocGlobal + Threads + Wait + Sync>(
 
 #[test]
 fn refuses_bad_numbers(rt: HostRuntime) -> Result<(), Fail> {
-    assert_eq!(rt; fault_of(&rt, 65, 0), Some(BatchFault::TooManyFiles));
-    assert_eq!(rt; fault_of(&rt, 64, 5), Some(BatchFault::BadLanes));
-    assert_eq!(rt; fault_of(&rt, 64, 0), Some(BatchFault::BadLanes));
-    check(&rt, &[], 1, &OpenGate, "")
+    assert_eq!(rt; fault_of(&rt, 257, 0), Some(BatchFault::TooManyFiles));
+    assert_eq!(rt; fault_of(&rt, 256, 9), Some(BatchFault::BadLanes));
+    assert_eq!(rt; fault_of(&rt, 256, 0), Some(BatchFault::BadLanes));
+    check(&rt, &[], 1, &OpenGate, "")?;
+    check(&rt, &[], 8, &OpenGate, "")
 }
 
 /// Waits until the flag is set, and notes where a million turns were too few.
@@ -545,7 +546,7 @@ fn names_want_of_memory(rt: HostRuntime) {
 #[test]
 fn names_a_refused_thread(rt: HostRuntime) -> Result<(), Fail> {
     let opener = opener_of(rt.alloc(), &[TRIANGLES, CUT, HEADER])?;
-    for lanes in 1..5 {
+    for lanes in 1..=MAX_LANES {
         match run_batch(&rt, rt.alloc(), &opener, 3, lanes, 1, Choice::First, &OpenGate) {
             Ok(batch) => assert_eq!(rt; batch.files(), 3),
             Err(fault) => assert_eq!(rt; fault, BatchFault::Thread),
@@ -615,7 +616,7 @@ impl Tap for Counted<'_> {
 /// one whose reads fail. The last file does not open.
 #[test]
 fn lets_every_source_go(rt: HostRuntime) -> Result<(), Fail> {
-    for lanes in 1..=4 {
+    for lanes in 1..=MAX_LANES {
         let (opened, dropped) = (AtomicU32::new(0), AtomicU32::new(0));
         let opener = Counting {
             files: opener_of(rt.alloc(), &[TRIANGLES, CUT, b"planar_code", LARGE])?,

@@ -1,6 +1,7 @@
 //! Reports of files in memory. The bytes, the sizes and the texts come from the description of the format
 //! and of the report.
 ghost use Rattle.std.specs.Prelude.{◌≤◌, length};
+ghost use Rattle.books.specs.declared.limits.TheConstants.{MAX_FILES};
 
 use collector::{
     Answer, BatchFault, Book, Cause, Choice, IoSink, Mark, MemOpener, WriteFault, push_cause, run_plain,
@@ -77,7 +78,7 @@ fn copies(alloc: Global, files: &[&[u8]]) -> Result<Vec<Vec<u8>>, AllocError> {
 
 /// Reads these files, a byte or all at a time, and looks at the report.
 fn check_files<R: AllocGlobal + Abort>(rt: &R, files: &[&[u8]], report: &str) -> Result<(), Fail>
-    requires { length files.now ≤ 64 }
+    requires { length files.now ≤ MAX_FILES }
 {
     for most in [1, 65_536] {
         let opener = MemOpener::new(copies(rt.alloc(), files)?, most);
@@ -200,14 +201,14 @@ fn writes_a_beginning_before_a_fault(rt: HostRuntime) -> Result<(), Fail> {
 }
 
 #[test]
-fn opens_at_most_64_files(rt: HostRuntime) -> Result<(), Fail> {
+fn takes_at_most_256_files(rt: HostRuntime) -> Result<(), Fail> {
     let opener = MemOpener::new(Vec::new(rt.alloc()), 1);
-    match run_plain(rt.alloc(), &opener, 65, Choice::Best) {
+    match run_plain(rt.alloc(), &opener, 257, Choice::Best) {
         Ok(_) => assert!(rt; false),
         Err(fault) => assert_eq!(rt; fault, BatchFault::TooManyFiles),
     }
-    let batch = run_plain(rt.alloc(), &opener, 64, Choice::Best).map_err(|_| AllocError)?;
-    assert_eq!(rt; batch.files(), 64);
+    let batch = run_plain(rt.alloc(), &opener, 256, Choice::Best).map_err(|_| AllocError)?;
+    assert_eq!(rt; batch.files(), 256);
     Ok(())
 }
 

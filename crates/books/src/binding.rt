@@ -5,6 +5,7 @@ ghost use Rattle.choices.specs.declared.Choice.{Choice};
 ghost use Rattle.lanes.specs.Opening.{Meaning};
 ghost use Rattle.lanes.specs.Files.{AreReady};
 ghost use Rattle.entries.specs.Abouts.{about_of};
+ghost use Rattle.books.specs.declared.limits.TheConstants.{MAX_FILES};
 ghost use Rattle.books.specs.Books.{AreBooks};
 
 use crate::book::{Batch, Book};
@@ -14,7 +15,7 @@ use std::alloc::{AllocError, Global};
 
 /// The books of drafts that are each all of their file.
 pub fn bind(alloc: Global, drafts: Vec<Draft<Entry>>) -> Result<Batch, AllocError>
-    requires few { vec_len drafts ≤ 64 }
+    requires few { vec_len drafts ≤ MAX_FILES }
     requires ready { (choice : Choice) × (meaning : ℕ → Meaning) × AreReady about_of choice meaning 0 drafts.items }
     ensures count { IfOk result (λ books. length books ≡ vec_len drafts) }
     ensures books { IfOk result (λ books. (choice : Choice) (meaning : ℕ → Meaning)

@@ -1,5 +1,6 @@
 //! What a run hands out.
 ghost use Rattle.std.specs.Prelude.{◌≡◌, ◌<◌, ◌≤◌, length, slice_index_or, vec_len};
+ghost use Rattle.books.specs.declared.limits.TheConstants.{MAX_FILES};
 ghost use Rattle.books.specs.Books.{Pages};
 
 use entries::Entry;
@@ -45,7 +46,7 @@ impl Book {
     }
 }
 
-/// A book for each file of a run, at most 64. In contracts it is the list of them. No reader takes
+/// A book for each file of a run, at most `MAX_FILES`. In contracts it is the list of them. No reader takes
 /// memory.
 #[derive(Drop)]
 pub struct Batch {
@@ -54,28 +55,29 @@ pub struct Batch {
 
 impl Model for Batch {
     ghost use Rattle.std.specs.Prelude.{◌≤◌, List, length};
+    ghost use Rattle.books.specs.declared.limits.TheConstants.{MAX_FILES};
     ghost use Rattle.books.specs.Books.{Pages};
 
     ghost Value = { List Pages };
 
     ghost view = { λ b. b.books.items };
 
-    ghost invariant = { λ b. length b.books.items ≤ 64 };
+    ghost invariant = { λ b. length b.books.items ≤ MAX_FILES };
 }
 
 impl Batch {
     /// The batch of these books.
     pub fn new(books: Vec<Book>) -> Batch
-        requires { vec_len books ≤ 64 }
+        requires { vec_len books ≤ MAX_FILES }
         ensures { result ≡ books.items }
     {
         Batch { books }
     }
 
-    /// How many files there are, at most 64.
+    /// How many files there are, at most `MAX_FILES`.
     pub fn files(&self) -> u32
         ensures count { result ≡ length self.now }
-        ensures few { result ≤ 64 }
+        ensures few { result ≤ MAX_FILES }
     {
         self.books.len() as u32
     }

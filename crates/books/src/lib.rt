@@ -3,6 +3,8 @@
 
 mod binding;
 mod book;
+mod limits;
 
 pub use binding::bind;
 pub use book::{Batch, Book};
+pub use limits::MAX_FILES;

@@ -8,10 +8,10 @@ mod plain;
 mod run;
 
 pub use answers::{Answer, Cause, Entry, answer};
-pub use books::{Batch, Book};
+pub use books::{Batch, Book, MAX_FILES};
 pub use choices::Choice;
 pub use lanes::{Gate, MemOpener, OpenFault, OpenGate, Opener, Stage};
-pub use plain::{MAX_FILES, run_plain};
+pub use plain::run_plain;
 pub use reports::{push_cause, write_json, write_report};
 pub use run::{MAX_LANES, run_batch};
 pub use streams::{

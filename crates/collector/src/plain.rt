@@ -1,17 +1,15 @@
 //! A run on the caller's thread.
 ghost use Rattle.std.specs.Prelude.{◌≡◌, ◌<◌, ◌≤◌, ◌⊎◌, ◌↔◌, Err, IfOk, IfErr, length, vec_len};
+ghost use Rattle.books.specs.declared.limits.TheConstants.{MAX_FILES};
 ghost use Rattle.books.specs.Books.{IsBook};
 ghost use Rattle.books.specs.Results.{AreAllBooks};
 
 use crate::kept::Entries;
-use books::{Batch, Book};
+use books::{Batch, Book, MAX_FILES};
 use choices::Choice;
 use lanes::{Opener, read_file};
 use std::alloc::{AllocError, Global};
 use streams::{BatchFault, piece_buffer};
-
-/// How many files a run takes at most.
-pub const MAX_FILES: u32 = 64;
 
 /// Reads the first `files` files of the opener and answers each record under this choice of the outer face,
 /// on the caller's thread. It hands out a book for each file, whose mark also tells where a file could not be opened, failed or
@@ -19,7 +17,7 @@ pub const MAX_FILES: u32 = 64;
 ///
 /// # Errors
 ///
-/// `TooManyFiles` exactly where there are more than 64; `Memory` where there was none for the buffer
+/// `TooManyFiles` exactly where there are more than `MAX_FILES`; `Memory` where there was none for the buffer
 /// that files are read into or for the books. There is no other.
 pub fn run_plain<O: Opener>(
     alloc: Global,
@@ -28,7 +26,7 @@ pub fn run_plain<O: Opener>(
     choice: Choice,
 ) -> Result<Batch, BatchFault>
     ensures books { IfOk result (AreAllBooks choice (O.meaning opener.now) files) }
-    ensures too_many { (64 < files) ↔ (result ≡ Err BatchFault.TooManyFiles) }
+    ensures too_many { (MAX_FILES < files) ↔ (result ≡ Err BatchFault.TooManyFiles) }
     ensures no_other { IfErr result (λ fault.
         (fault ≡ BatchFault.TooManyFiles) ⊎ (fault ≡ BatchFault.Memory)) }
 {
@@ -48,7 +46,7 @@ fn plain_books<O: Opener>(
     files: u32,
     choice: Choice,
 ) -> Result<Batch, AllocError>
-    requires { files ≤ 64 }
+    requires { files ≤ MAX_FILES }
     ensures { IfOk result (AreAllBooks choice (O.meaning opener.now) files) }
 {
     let mut buffer = piece_buffer(alloc)?;

@@ -1,10 +1,11 @@
 //! A run over lanes.
 ghost use Rattle.std.specs.Prelude.{◌≡◌, ◌≤◌, ◌<◌, ◌⊎◌, ◌↔◌, Err, IfOk};
+ghost use Rattle.ruled_lanes.specs.declared.limits.TheConstants.{LANES, MAX_CAPACITY};
+ghost use Rattle.books.specs.declared.limits.TheConstants.{MAX_FILES};
 ghost use Rattle.books.specs.Results.{AreAllBooks};
 
 use crate::line::Answering;
-use crate::plain::MAX_FILES;
-use books::{Batch, bind};
+use books::{Batch, MAX_FILES, bind};
 use choices::Choice;
 use lane_runs::{LaneFault, drafts_of_lanes};
 use lanes::{Gate, Opener};
@@ -28,8 +29,8 @@ pub const MAX_LANES: u32 = LANES;
 ///
 /// # Errors
 ///
-/// `TooManyFiles` exactly where there are more than 64; `BadLanes` exactly where there are no lanes or
-/// more than 4, and no more files than that. `Memory`: there was none for links, the fan, tickets,
+/// `TooManyFiles` exactly where there are more than `MAX_FILES`; `BadLanes` exactly where there are no lanes or
+/// more than `MAX_LANES`, and no more files than that. `Memory`: there was none for links, the fan, tickets,
 /// buffers or books. `LaneLost`: an end of a link or of the fan was gone. `Thread`: a thread could not be started.
 pub fn run_batch<R: Threads + Wait + Sync, O: Opener, G: Gate>(
     rt: &R,
@@ -42,10 +43,10 @@ pub fn run_batch<R: Threads + Wait + Sync, O: Opener, G: Gate>(
     gate: &G,
 ) -> Result<Batch, BatchFault>
     requires least { 1 ≤ capacity }
-    requires most { capacity ≤ 64 }
+    requires most { capacity ≤ MAX_CAPACITY }
     ensures books { IfOk result (AreAllBooks choice (O.meaning opener.now) files) }
-    ensures too_many { (64 < files) ↔ (result ≡ Err BatchFault.TooManyFiles) }
-    ensures bad_lanes { (((lanes ≡ 0) ⊎ (4 < lanes)) × (files ≤ 64)) ↔ (result ≡ Err BatchFault.BadLanes) }
+    ensures too_many { (MAX_FILES < files) ↔ (result ≡ Err BatchFault.TooManyFiles) }
+    ensures bad_lanes { (((lanes ≡ 0) ⊎ (LANES < lanes)) × (files ≤ MAX_FILES)) ↔ (result ≡ Err BatchFault.BadLanes) }
 {
     if files > MAX_FILES {
         return Err(BatchFault::TooManyFiles);
@@ -59,6 +60,7 @@ pub fn run_batch<R: Threads + Wait + Sync, O: Opener, G: Gate>(
         Ok(drafts) => drafts,
         Err(LaneFault::Memory) => return Err(BatchFault::Memory),
         Err(LaneFault::Lost) => return Err(BatchFault::LaneLost),
+        Err(LaneFault::Unheard) => return Err(BatchFault::LaneLost),
         Err(LaneFault::Thread) => return Err(BatchFault::Thread),
     };
     match bind(alloc, drafts) {

@@ -149,7 +149,7 @@ fn describe_layout<'a>(alloc: Global) -> Result<Command<'a>, AllocError> {
     let lanes = Arg::new(alloc, "lanes")
         .long("lanes")
         .value_name("N")
-        .help("How many files are worked on at once, 1 to 4")
+        .help("How many files are worked on at once, 1 to 8")
         .value_parser(value_parser!(u32))
         .default_value("1");
     let outer = Arg::new(alloc, "outer")
@@ -163,7 +163,7 @@ fn describe_layout<'a>(alloc: Global) -> Result<Command<'a>, AllocError> {
         .help("Prints JSON lines in place of the report: also shapes, prices and points")
         .action(ArgAction::SetTrue);
     let files = Arg::new(alloc, "FILE")
-        .help("Planar_code files, at most 64: the 15 bytes >>planar_code<< and then records")
+        .help("Planar_code files, at most 256: the 15 bytes >>planar_code<< and then records")
         .required(true)
         .num_args(1..)
         .action(ArgAction::Append);

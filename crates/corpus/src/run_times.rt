@@ -7,6 +7,7 @@ use std::rt::{Clock, Files};
 use std::sync::Wait;
 use std::thread::Threads;
 use std::time::Instant;
+use streams::MAX_CAPACITY;
 
 /// Prints how many graphs these files have, and the nanoseconds of a run over them on this thread.
 pub fn time_plain<R: Files + Print + AllocGlobal + Clock>(rt: &R, names: &[String]) -> Result<()> {
@@ -27,7 +28,7 @@ pub fn time_lanes<R: Files + Print + AllocGlobal + Clock + Threads + Wait + Sync
         bail!("after `lanes` come two numbers and files");
     };
     let lanes = lanes.parse()?;
-    let capacity = capacity.parse::<u32>()?.clamp(1, 64);
+    let capacity = capacity.parse::<u32>()?.clamp(1, MAX_CAPACITY);
     let opener = read_files(rt, names)?;
     let count = u32::try_from(names.len())?;
     let start = Instant::now(rt)?;

@@ -1,5 +1,5 @@
 -- What the threads of a lane give back.
-use Rattle.std.specs.Prelude.{◌≡◌, ℕ, List, [], true, Result, IfOk}
+use Rattle.std.specs.Prelude.{◌≡◌, ◌⊎◌, ℕ, List, [], true, Result, Err, IfOk}
 use Rattle.choices.specs.declared.Choice.{Choice}
 use Rattle.ruled_lanes.specs.declared.link_ends.Giver.{Giver}
 use Rattle.ruled_lanes.specs.declared.link_ends.Taker.{Taker}
@@ -10,10 +10,11 @@ use Rattle.ruled_lanes.specs.LinkEnds.{given, taken, room_of, AreEnds, GivesToSa
 use Rattle.ruled_lanes.specs.FanEnds.{given_at, GivesToSameLane}
 use Rattle.ruled_lanes.specs.TicketSeats.{drawn, has_ended, IsSeatOf}
 use Rattle.lanes.specs.declared.message.Message.{Message}
-use Rattle.lanes.specs.Notes.{About, Note, GoOn}
+use Rattle.lanes.specs.Notes.{About, Note, notes, GoOn, IsStopped}
 use Rattle.lanes.specs.Opening.{Meaning}
 use Rattle.lanes.specs.Files.{HasDrawn, TellsDrawn}
 use Rattle.lane_runs.specs.declared.fault.LaneFault.{LaneFault}
+use Rattle.lane_runs.specs.declared.fault.LaneFault.TheVariants.{Unheard}
 
 module _ {A : Type 0} where
   -- both ends of a link that has room for so many messages, and that nothing has passed
@@ -35,9 +36,11 @@ module _ {A : Type 0} where
     pub to_same : GivesToSame giver after
     pub tells : TellsSeat about choice meaning tickets seat (given after)
 
-  -- what a lane gives back: the end of its own lane, and its seat where nothing was lost
+  -- what a lane gives back: the end of its own lane, where one stop came last, whatever the lane met, unless it was
+  -- refused; and its seat where nothing was lost
   pub record EndsLane (about : A → About) (choice : Choice) (meaning : ℕ → Meaning) (tickets : Tickets) (giver after : LaneGiver (Message A)) (seat : Result Seat LaneFault) : Type 0 where
     pub to_same : GivesToSameLane giver after
+    pub stopped : IsStopped (notes about (given_at after)) ⊎ (seat ≡ Err Unheard)
     pub tells : IfOk seat (λ s. TellsSeat about choice meaning tickets s (given_at after))
 
 -- so far all is told of the files that were drawn, and there was no stop

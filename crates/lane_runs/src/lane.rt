@@ -1,8 +1,10 @@
 //! One lane: four stages, each in a thread of its own.
 ghost use Rattle.std.specs.Prelude.{◌≡◌, ◌≤◌, ◌∷◌, ◌++◌, [], IfOk};
+ghost use Rattle.ruled_lanes.specs.declared.limits.TheConstants.{MAX_CAPACITY};
 ghost use Rattle.ruled_lanes.specs.FanEnds.{given_at, GivesToSameLane};
 ghost use Rattle.ruled_lanes.specs.TicketSeats.{IsSeatOf, IsUnused};
 ghost use Rattle.lanes.specs.declared.message.Message.TheVariants.{Stop};
+ghost use Rattle.lanes.specs.Notes.{notes, GoOn};
 ghost use Rattle.lane_runs.specs.Lanes.{TellsSeat, EndsLane};
 
 use crate::fault::LaneFault;
@@ -20,8 +22,8 @@ use std::thread::{Scope, Threads};
 use streams::piece_buffer;
 
 /// Runs a lane: its last stage on the caller's thread, the others in a thread each. All entries go to
-/// the giver, and after them, whatever the lane met, one stop. The giver is given back once the other
-/// threads have ended.
+/// the giver, and after them, whatever the lane met, one stop; a lane whose stop was refused says so. The
+/// giver is given back once the other threads have ended.
 pub fn run_lane<L: Line, R: Threads + Wait + Sync, O: Opener, G: Gate>(
     rt: &R,
     alloc: Global,
@@ -34,7 +36,7 @@ pub fn run_lane<L: Line, R: Threads + Wait + Sync, O: Opener, G: Gate>(
     giver: LaneGiver<Message<L::Entry>>,
 ) -> LaneEnd<L::Entry>
     requires least { 1 ≤ capacity }
-    requires most { capacity ≤ 64 }
+    requires most { capacity ≤ MAX_CAPACITY }
     requires seat { IsSeatOf tickets.now seat }
     requires unused { IsUnused seat }
     requires none_given { given_at giver ≡ [] }
@@ -44,8 +46,9 @@ pub fn run_lane<L: Line, R: Threads + Wait + Sync, O: Opener, G: Gate>(
         thread::scope_env(),
         rt,
         move |scope| -> LaneEnd<L::Entry>
-            requires { (1 ≤ capacity) × (capacity ≤ 64) × IsSeatOf tickets.now seat × IsUnused seat × (given_at giver ≡ []) }
+            requires { (1 ≤ capacity) × (capacity ≤ MAX_CAPACITY) × IsSeatOf tickets.now seat × IsUnused seat × (given_at giver ≡ []) }
             ensures { GivesToSameLane giver result.giver
+                × GoOn (notes L.Entry.about (given_at result.giver))
                 × IfOk result.seat (λ after. TellsSeat L.Entry.about choice (O.meaning opener.entry.now) tickets.entry.now after
                 (given_at result.giver ++ Stop ∷ [])) }
         {
@@ -58,13 +61,10 @@ pub fn run_lane<L: Line, R: Threads + Wait + Sync, O: Opener, G: Gate>(
     );
     match giver.give(rt, Message::Stop) {
         Ok(()) => LaneEnd { giver, seat },
-        Err(_) => {
-            let fault = seat.err().unwrap_or(LaneFault::Lost);
-            LaneEnd {
-                giver,
-                seat: Err(fault),
-            }
-        }
+        Err(_) => LaneEnd {
+            giver,
+            seat: Err(LaneFault::Unheard),
+        },
     }
 }
 
@@ -83,11 +83,12 @@ fn run_stages<'s, E, L: Line + 's, R: Threads + Wait + Sync, O: Opener, G: Gate>
     giver: &mut LaneGiver<Message<L::Entry>>,
 ) -> Result<Seat, LaneFault>
     requires least { 1 ≤ capacity }
-    requires most { capacity ≤ 64 }
+    requires most { capacity ≤ MAX_CAPACITY }
     requires seat { IsSeatOf tickets.now seat }
     requires unused { IsUnused seat }
     requires none_given { given_at giver.old ≡ [] }
     ensures same { GivesToSameLane giver.old giver.new }
+    ensures goes_on { GoOn (notes L.Entry.about (given_at giver.new)) }
     ensures told { IfOk result (λ after. TellsSeat L.Entry.about choice (O.meaning opener.now) tickets.now after
         (given_at giver.new ++ Stop ∷ [])) }
 {

@@ -1,5 +1,6 @@
 //! The links between the stages of a lane.
 ghost use Rattle.std.specs.Prelude.{◌≡◌, ◌≤◌, ℕ, List, IfOk};
+ghost use Rattle.ruled_lanes.specs.declared.limits.TheConstants.{MAX_CAPACITY};
 ghost use Rattle.ruled_lanes.specs.LinkEnds.{given, taken, AreEnds};
 ghost use Rattle.choices.specs.declared.Choice.{Choice};
 ghost use Rattle.lanes.specs.declared.message.Message.{Message as AnyMessage};
@@ -25,7 +26,7 @@ pub struct Links<L: Line> {
 /// New links, each with room for `capacity` messages.
 pub fn new_links<L: Line>(alloc: Global, capacity: u32) -> Result<Links<L>, AllocError>
     requires least { 1 ≤ capacity }
-    requires most { capacity ≤ 64 }
+    requires most { capacity ≤ MAX_CAPACITY }
     ensures framed { IfOk result (λ links. IsNewLink capacity links.framed.0 links.framed.1) }
     ensures embedded { IfOk result (λ links. IsNewLink capacity links.embedded.0 links.embedded.1) }
     ensures shaped { IfOk result (λ links. IsNewLink capacity links.shaped.0 links.shaped.1) }

@@ -1,6 +1,6 @@
 //! What lanes share: a fan and tickets.
 ghost use Rattle.std.specs.Prelude.{◌≡◌, ◌≤◌, [], All, IfOk, vec_len};
-ghost use Rattle.ruled_lanes.specs.declared.limits.TheConstants.{LANES};
+ghost use Rattle.ruled_lanes.specs.declared.limits.TheConstants.{LANES, MAX_CAPACITY};
 ghost use Rattle.ruled_lanes.specs.FanEnds.{gathered, room_of_fan};
 ghost use Rattle.lane_runs.specs.Running.{AreNumbered, IsIdle};
 
@@ -15,7 +15,7 @@ pub fn new_fan<E: Numbered>(
     capacity: u32,
 ) -> Result<(Vec<LaneGiver<Message<E>>>, Gatherer<Message<E>>), LaneFault>
     requires least { 1 ≤ capacity }
-    requires most { capacity ≤ 64 }
+    requires most { capacity ≤ MAX_CAPACITY }
     ensures room { IfOk result (λ r. room_of_fan r.1 ≡ capacity) }
     ensures count { IfOk result (λ r. vec_len r.0 ≡ LANES) }
     ensures idle { IfOk result (λ r. AreNumbered (IsIdle r.1) 0 r.0.items) }

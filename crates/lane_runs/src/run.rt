@@ -1,6 +1,6 @@
 //! All lanes of a run.
 ghost use Rattle.std.specs.Prelude.{◌≡◌, ◌≤◌, ◌<◌, ℕ, [], All, IfOk, true, vec_len};
-ghost use Rattle.ruled_lanes.specs.declared.limits.TheConstants.{LANES, MAX_TICKETS};
+ghost use Rattle.ruled_lanes.specs.declared.limits.TheConstants.{LANES, MAX_CAPACITY, MAX_TICKETS};
 ghost use Rattle.ruled_lanes.specs.FanEnds.{gathered, given_at};
 ghost use Rattle.ruled_lanes.specs.TicketRule.{times};
 ghost use Rattle.ruled_lanes.specs.TicketSeats.{all_drawn, has_ended, IsSeatOf, IsUnused};
@@ -30,7 +30,7 @@ use std::thread::{Scope, Threads};
 /// # Errors
 ///
 /// `Memory`: there was none for links, the fan, tickets, buffers or drafts. `Lost`: an end of a link or of
-/// the fan was gone. `Thread`: a thread could not be started.
+/// the fan was gone. `Thread`: a thread could not be started. `Unheard`: the stop of a lane was refused.
 pub fn drafts_of_lanes<L: Line, R: Threads + Wait + Sync, O: Opener, G: Gate>(
     rt: &R,
     alloc: Global,
@@ -44,7 +44,7 @@ pub fn drafts_of_lanes<L: Line, R: Threads + Wait + Sync, O: Opener, G: Gate>(
     requires some { 0 < lanes }
     requires few { (files ≤ MAX_TICKETS) × (lanes ≤ LANES) }
     requires least { 1 ≤ capacity }
-    requires most { capacity ≤ 64 }
+    requires most { capacity ≤ MAX_CAPACITY }
     ensures count { IfOk result (λ drafts. vec_len drafts ≡ files) }
     ensures ready { IfOk result (λ drafts. AreReady L.Entry.about choice (O.meaning opener.now) 0 drafts.items) }
 {
@@ -60,7 +60,7 @@ pub fn drafts_of_lanes<L: Line, R: Threads + Wait + Sync, O: Opener, G: Gate>(
         thread::scope_env(),
         rt,
         move |scope| -> Result<(Vec<Draft<L::Entry>>, Vec<Seat>), LaneFault>
-            requires { (1 ≤ capacity) × (capacity ≤ 64) × (1 ≤ vec_len seats) × (vec_len seats ≤ LANES)
+            requires { (1 ≤ capacity) × (capacity ≤ MAX_CAPACITY) × (1 ≤ vec_len seats) × (vec_len seats ≤ LANES)
                 × All (IsSeatOf dealt.now) seats.items × All IsUnused seats.items
                 × (vec_len givers ≡ LANES) × AreNumbered (IsIdle gatherer) 0 givers.items × (gathered gatherer ≡ [])
                 × AreDrafts L.Entry.about 0 [] drafts.items }
@@ -94,7 +94,7 @@ fn run_lanes<'s, E, L: Line + 's, R: Threads + Wait + Sync, O: Opener, G: Gate>(
     drafts: Vec<Draft<L::Entry>>,
 ) -> Result<(Vec<Draft<L::Entry>>, Vec<Seat>), LaneFault>
     requires least { 1 ≤ capacity }
-    requires most { capacity ≤ 64 }
+    requires most { capacity ≤ MAX_CAPACITY }
     requires some { (1 ≤ vec_len seats) × (vec_len seats ≤ LANES) }
     requires seats { All (IsSeatOf tickets.now) seats.items }
     requires unused { All IsUnused seats.items }
@@ -147,7 +147,7 @@ fn start_lane<'s, E, L: Line + 's, R: Threads + Wait + Sync, O: Opener, G: Gate>
     giver: LaneGiver<Message<L::Entry>>,
 ) -> Result<Running<L::Entry, O>, LaneFault>
     requires least { 1 ≤ capacity }
-    requires most { capacity ≤ 64 }
+    requires most { capacity ≤ MAX_CAPACITY }
     requires seat { IsSeatOf tickets.now seat }
     requires unused { IsUnused seat }
     requires none_given { given_at giver ≡ [] }
@@ -165,7 +165,7 @@ fn start_lane<'s, E, L: Line + 's, R: Threads + Wait + Sync, O: Opener, G: Gate>
     match scope.spawn_with(
         promise,
         move || -> LaneEnd<L::Entry>
-            requires { (1 ≤ capacity) × (capacity ≤ 64) × IsSeatOf tickets.now seat × IsUnused seat × (given_at giver ≡ []) }
+            requires { (1 ≤ capacity) × (capacity ≤ MAX_CAPACITY) × IsSeatOf tickets.now seat × IsUnused seat × (given_at giver ≡ []) }
         { run_lane::<L, _, _, _>(rt, alloc, opener, gate, choice, tickets, capacity, seat, giver) },
     ) {
         Ok(handle) => Ok(handle),

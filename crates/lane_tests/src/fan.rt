@@ -1,7 +1,8 @@
 ghost use Rattle.std.specs.Prelude.{◌≡◌, ◌≤◌, vec_len};
+ghost use Rattle.ruled_lanes.specs.declared.limits.TheConstants.{MAX_CAPACITY};
 ghost use Rattle.ruled_lanes.specs.FanEnds.{AreGiversOf};
 
-use ruled_lanes::{Closed, Gatherer, LANES, LaneGiver, Memory, fan_in};
+use ruled_lanes::{Closed, Gatherer, LANES, LaneGiver, MAX_CAPACITY, Memory, fan_in};
 use std::alloc::Global;
 use std::process::Abort;
 use std::sync::Wait;
@@ -72,7 +73,7 @@ fn gather_through<R: Threads + Wait + Abort + Copy + Send + 'static>(
     alloc: Global,
     capacity: u32,
 ) -> Result<(), Fail>
-    requires capacity { (1 ≤ capacity) × (capacity ≤ 64) }
+    requires capacity { (1 ≤ capacity) × (capacity ≤ MAX_CAPACITY) }
 {
     let (givers, mut gatherer) = fan_in(alloc, capacity)?;
     let mut children = Vec::new(alloc);
@@ -101,7 +102,7 @@ fn gather_through<R: Threads + Wait + Abort + Copy + Send + 'static>(
 fn all_lanes_give_at_once(rt: HostRuntime) -> Result<(), Fail> {
     gather_through(rt, rt.alloc(), 1)?;
     gather_through(rt, rt.alloc(), 3)?;
-    gather_through(rt, rt.alloc(), 64)
+    gather_through(rt, rt.alloc(), MAX_CAPACITY)
 }
 
 #[test]

@@ -1,6 +1,7 @@
 ghost use Rattle.std.specs.Prelude.{◌≤◌};
+ghost use Rattle.ruled_lanes.specs.declared.limits.TheConstants.{MAX_CAPACITY};
 
-use ruled_lanes::{Closed, Giver, Memory, link};
+use ruled_lanes::{Closed, Giver, MAX_CAPACITY, Memory, link};
 use std::alloc::Global;
 use std::process::Abort;
 use std::sync::Wait;
@@ -56,7 +57,7 @@ fn pass_through<R: Threads + Wait + Abort + Copy + Send + 'static>(
     alloc: Global,
     capacity: u32,
 ) -> Result<(), Fail>
-    requires capacity { (1 ≤ capacity) × (capacity ≤ 64) }
+    requires capacity { (1 ≤ capacity) × (capacity ≤ MAX_CAPACITY) }
 {
     let (giver, mut taker) = link(alloc, capacity)?;
     let child = thread::spawn(&rt, move || give_below(&rt, giver, 1000))?;
@@ -83,7 +84,7 @@ fn a_giver_that_waits_is_refused(rt: HostRuntime) -> Result<(), Fail> {
 fn a_thousand_in_order(rt: HostRuntime) -> Result<(), Fail> {
     pass_through(rt, rt.alloc(), 1)?;
     pass_through(rt, rt.alloc(), 2)?;
-    pass_through(rt, rt.alloc(), 64)
+    pass_through(rt, rt.alloc(), MAX_CAPACITY)
 }
 
 /// A refused allocation is told, and a second call makes the link.

@@ -1,8 +1,8 @@
-ghost use Rattle.std.specs.Prelude.{◌≡◌};
+ghost use Rattle.std.specs.Prelude.{◌≡◌, ◌≤◌, ◌+◌, All, OnOk, vec_len};
 ghost use Rattle.ruled_lanes.specs.TicketSeats.{IsSeatOf};
 
 use ruled_lanes::{MAX_TICKETS, Memory, Seat, Tickets};
-use std::alloc::Global;
+use std::alloc::{AllocError, Global};
 use std::test::*;
 use std::thread::{Threads, join};
 
@@ -58,6 +58,10 @@ fn draw_all(alloc: Global, tickets: &Tickets, mut seat: Seat) -> (Seat, Vec<u32>
 
 type Drawn = (Seat, Vec<u32>);
 
+type FourSeats = ((Seat, Seat), (Seat, Seat));
+
+type FourDrawn = ((Drawn, Drawn), (Drawn, Drawn));
+
 // The same at two seats, each in a thread of its own.
 fn draw_in_two<R: Threads>(
     rt: &R,
@@ -87,14 +91,14 @@ fn draw_in_four<R: Threads + Sync>(
     rt: &R,
     alloc: Global,
     tickets: &Tickets,
-    first: (Seat, Seat),
-    second: (Seat, Seat),
-) -> ((Drawn, Drawn), (Drawn, Drawn))
-    requires first { IsSeatOf tickets.now first.0 × IsSeatOf tickets.now first.1 }
-    requires second { IsSeatOf tickets.now second.0 × IsSeatOf tickets.now second.1 }
+    seats: FourSeats,
+) -> FourDrawn
+    requires first { IsSeatOf tickets.now seats.0.0 × IsSeatOf tickets.now seats.0.1 }
+    requires second { IsSeatOf tickets.now seats.1.0 × IsSeatOf tickets.now seats.1.1 }
     ensures first { IsSeatOf tickets.now result.0.0.0 × IsSeatOf tickets.now result.0.1.0 }
     ensures second { IsSeatOf tickets.now result.1.0.0 × IsSeatOf tickets.now result.1.1.0 }
 {
+    let (first, second) = seats;
     join(
         rt,
         || -> (Drawn, Drawn)
@@ -106,6 +110,75 @@ fn draw_in_four<R: Threads + Sync>(
             ensures { IsSeatOf tickets.entry.now result.0.0 × IsSeatOf tickets.entry.now result.1.0 }
         { draw_in_two(rt, alloc, tickets, second) },
     )
+}
+
+// The same at eight seats.
+fn draw_in_eight<R: Threads + Sync>(
+    rt: &R,
+    alloc: Global,
+    tickets: &Tickets,
+    one: FourSeats,
+    two: FourSeats,
+) -> (FourDrawn, FourDrawn)
+    requires one { IsSeatOf tickets.now one.0.0 × IsSeatOf tickets.now one.0.1 × IsSeatOf tickets.now one.1.0 × IsSeatOf tickets.now one.1.1 }
+    requires two { IsSeatOf tickets.now two.0.0 × IsSeatOf tickets.now two.0.1 × IsSeatOf tickets.now two.1.0 × IsSeatOf tickets.now two.1.1 }
+    ensures one { IsSeatOf tickets.now result.0.0.0.0 × IsSeatOf tickets.now result.0.0.1.0 × IsSeatOf tickets.now result.0.1.0.0 × IsSeatOf tickets.now result.0.1.1.0 }
+    ensures two { IsSeatOf tickets.now result.1.0.0.0 × IsSeatOf tickets.now result.1.0.1.0 × IsSeatOf tickets.now result.1.1.0.0 × IsSeatOf tickets.now result.1.1.1.0 }
+{
+    join(
+        rt,
+        || -> FourDrawn
+            requires { IsSeatOf tickets.now one.0.0 × IsSeatOf tickets.now one.0.1 × IsSeatOf tickets.now one.1.0 × IsSeatOf tickets.now one.1.1 }
+            ensures { IsSeatOf tickets.entry.now result.0.0.0 × IsSeatOf tickets.entry.now result.0.1.0 × IsSeatOf tickets.entry.now result.1.0.0 × IsSeatOf tickets.entry.now result.1.1.0 }
+        { draw_in_four(rt, alloc, tickets, one) },
+        || -> FourDrawn
+            requires { IsSeatOf tickets.now two.0.0 × IsSeatOf tickets.now two.0.1 × IsSeatOf tickets.now two.1.0 × IsSeatOf tickets.now two.1.1 }
+            ensures { IsSeatOf tickets.entry.now result.0.0.0 × IsSeatOf tickets.entry.now result.0.1.0 × IsSeatOf tickets.entry.now result.1.0.0 × IsSeatOf tickets.entry.now result.1.1.0 }
+        { draw_in_four(rt, alloc, tickets, two) },
+    )
+}
+
+// Four seats off the end.
+fn take_four(tickets: &Tickets, seats: &mut Vec<Seat>) -> FourSeats
+    requires count { 4 ≤ vec_len seats.old }
+    requires seats { All (IsSeatOf tickets.now) seats.old.items }
+    ensures count { vec_len seats.new + 4 ≡ vec_len seats.old }
+    ensures seats { All (IsSeatOf tickets.now) seats.new.items }
+    ensures first { IsSeatOf tickets.now result.0.0 × IsSeatOf tickets.now result.0.1 }
+    ensures second { IsSeatOf tickets.now result.1.0 × IsSeatOf tickets.now result.1.1 }
+{
+    let (Some(four), Some(three)) = (seats.pop(), seats.pop()) else {
+        unreachable!()
+    };
+    let (Some(two), Some(one)) = (seats.pop(), seats.pop()) else {
+        unreachable!()
+    };
+    ((one, two), (three, four))
+}
+
+// Puts four seats back, and the numbers that they drew.
+fn put_four(
+    tickets: &Tickets,
+    seats: &mut Vec<Seat>,
+    numbers: &mut Vec<Vec<u32>>,
+    four: FourDrawn,
+) -> Result<(), AllocError>
+    requires seats { All (IsSeatOf tickets.now) seats.old.items }
+    requires first { IsSeatOf tickets.now four.0.0.0 × IsSeatOf tickets.now four.0.1.0 }
+    requires second { IsSeatOf tickets.now four.1.0.0 × IsSeatOf tickets.now four.1.1.0 }
+    ensures count { OnOk result (vec_len seats.new ≡ vec_len seats.old + 4) }
+    ensures seats { OnOk result (All (IsSeatOf tickets.now) seats.new.items) }
+{
+    let ((one, two), (three, four)) = four;
+    seats.push(one.0)?;
+    seats.push(two.0)?;
+    seats.push(three.0)?;
+    seats.push(four.0)?;
+    numbers.push(one.1)?;
+    numbers.push(two.1)?;
+    numbers.push(three.1)?;
+    numbers.push(four.1)?;
+    Ok(())
 }
 
 // How often each number below 256 stands in these lists.
@@ -125,19 +198,26 @@ fn tally(lists: &[Vec<u32>]) -> [u8; 256] {
 fn four_threads_draw_each_number_once(rt: HostRuntime) -> Result<(), Fail> {
     let alloc = rt.alloc();
     let (tickets, mut seats) = Tickets::new(alloc, 256, 4)?;
-    let (Some(four), Some(three)) = (seats.pop(), seats.pop()) else {
-        unreachable!()
-    };
-    let (Some(two), Some(one)) = (seats.pop(), seats.pop()) else {
-        unreachable!()
-    };
-    let ((one, two), (three, four)) = draw_in_four(&rt, alloc, &tickets, (one, two), (three, four));
-    let drawn = vec![in alloc; one.1, two.1, three.1, four.1]?;
-    assert!(rt; tally(drawn.as_slice()).iter().all(|count| *count == 1));
-    seats.push(one.0)?;
-    seats.push(two.0)?;
-    seats.push(three.0)?;
-    seats.push(four.0)?;
+    let four = take_four(&tickets, &mut seats);
+    let drawn = draw_in_four(&rt, alloc, &tickets, four);
+    let mut numbers = Vec::new(alloc);
+    put_four(&tickets, &mut seats, &mut numbers, drawn)?;
+    assert!(rt; tally(numbers.as_slice()).iter().all(|count| *count == 1));
     assert_eq!(rt; tickets.close(seats), 260);
+    Ok(())
+}
+
+#[test]
+fn eight_threads_draw_each_number_once(rt: HostRuntime) -> Result<(), Fail> {
+    let alloc = rt.alloc();
+    let (tickets, mut seats) = Tickets::new(alloc, 256, 8)?;
+    let two = take_four(&tickets, &mut seats);
+    let one = take_four(&tickets, &mut seats);
+    let (one, two) = draw_in_eight(&rt, alloc, &tickets, one, two);
+    let mut numbers = Vec::new(alloc);
+    put_four(&tickets, &mut seats, &mut numbers, one)?;
+    put_four(&tickets, &mut seats, &mut numbers, two)?;
+    assert!(rt; tally(numbers.as_slice()).iter().all(|count| *count == 1));
+    assert_eq!(rt; tickets.close(seats), 264);
     Ok(())
 }

@@ -1,5 +1,6 @@
 //! What the calling thread gathers of the lanes, file by file.
-ghost use Rattle.std.specs.Prelude.{◌≡◌, ◌⊎◌, ◌++◌, ◌∷◌, [], ℕ, List, IfOk, OnOk, true, false, vec_len, slice_index_or};
+ghost use Rattle.std.specs.Prelude.{◌≡◌, ◌⊎◌, ◌++◌, ◌∷◌, [], ◌≤◌, ℕ, List, IfOk, OnOk, true, false, vec_len, slice_index_or};
+ghost use Rattle.ruled_lanes.specs.declared.limits.TheConstants.{LANES};
 ghost use Rattle.ruled_lanes.specs.FanEnds.{gathered, TakesFromSameFan};
 ghost use Rattle.lanes.specs.declared.message.Message.TheVariants.{Item, End};
 ghost use Rattle.lanes.specs.Notes.{Note, notes};
@@ -72,10 +73,10 @@ fn note_stop(stops: &mut Vec<bool>, lane: u32)
     }
 }
 
-/// Takes the messages of the fan up to the stop of each of so many lanes, and puts them into the drafts
-/// of their files, whichever lane they come from. It gives the end back. `LaneLost`: the givers of all lanes
-/// were gone. `Memory`: a draft could not grow, or there was none to note the stops. In both cases it lets
-/// its end go, so that no lane waits for it.
+/// Takes the messages of the fan up to the stop of each of its first `lanes` lanes, and puts them into the
+/// drafts of their files, whichever lane they come from. What tells of a file that has no draft is dropped.
+/// It gives the end back. `LaneLost`: the givers of all lanes were gone. `Memory`: a draft could not grow, or
+/// there was none to note the stops. In both cases it lets its end go, so that no lane waits for it.
 pub fn gather<E: Numbered, R: Wait>(
     rt: &R,
     alloc: Global,
@@ -83,6 +84,7 @@ pub fn gather<E: Numbered, R: Wait>(
     lanes: u32,
     drafts: &mut Vec<Draft<E>>,
 ) -> Result<Gatherer<Message<E>>, BatchFault>
+    requires lanes { (1 ≤ lanes) × (lanes ≤ LANES) }
     requires none_gathered { gathered gatherer ≡ [] }
     requires empty { AreDrafts E.about 0 [] drafts.old.items }
     ensures count { vec_len drafts.new ≡ vec_len drafts.old }

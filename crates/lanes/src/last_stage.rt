@@ -3,6 +3,7 @@ ghost use Rattle.std.specs.Prelude.{◌≡◌, ◌∷◌, ◌++◌, [], IfSome};
 ghost use Rattle.ruled_lanes.specs.LinkEnds.{taken, TakesFromSame};
 ghost use Rattle.ruled_lanes.specs.FanEnds.{given_at, GivesToSameLane};
 ghost use Rattle.lanes.specs.declared.message.Message.TheVariants.{Stop};
+ghost use Rattle.lanes.specs.Notes.{notes, GoOn};
 ghost use Rattle.lanes.specs.Stages.{IsPassedOn};
 
 use crate::gate::Gate;
@@ -26,6 +27,7 @@ pub fn run_last_stage<A: Staged, R: Wait, G: Gate>(
     requires none_taken { taken taker ≡ [] }
     requires none_given { given_at giver.old ≡ [] }
     ensures same_lane { GivesToSameLane giver.old giver.new }
+    ensures goes_on { GoOn (notes A.Next.about (given_at giver.new)) }
     ensures same_link { IfSome result (λ took. TakesFromSame taker took) }
     ensures passed { IfSome result (λ took. IsPassedOn A.about A.Next.about (taken took) (given_at giver.new ++ Stop ∷ [])) }
 {

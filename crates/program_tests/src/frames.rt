@@ -286,10 +286,10 @@ fn tells_each_fault_in_a_line(rt: HostRuntime) {
         (Fault::NotText, "arguments are not text", 2),
         (
             Fault::Run(BatchFault::TooManyFiles),
-            "more than 64 files",
+            "more than 256 files",
             2,
         ),
-        (Fault::Run(BatchFault::BadLanes), "lanes must be 1 to 4", 2),
+        (Fault::Run(BatchFault::BadLanes), "lanes must be 1 to 8", 2),
         (Fault::Run(BatchFault::Memory), "out of memory", 1),
         (Fault::Run(BatchFault::LaneLost), "a lane was lost", 1),
         (

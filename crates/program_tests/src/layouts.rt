@@ -239,7 +239,7 @@ fn keeps_files_apart(rt: HostRuntime) -> Result<(), Fail> {
         end truncated graphs=1\n\
         file 3\n\
         end complete graphs=0\n";
-    for lanes in ["1", "2", "3", "4"] {
+    for lanes in ["1", "2", "3", "4", "8"] {
         let words = [
             "layout",
             "--lanes",
@@ -300,16 +300,16 @@ fn refuses_other_command_lines(rt: HostRuntime) -> Result<(), Fail> {
         &["frames", "--json", "a"],
         "unexpected argument '--json' found",
     )?;
-    for lanes in ["0", "5"] {
+    for lanes in ["0", "9"] {
         check_refused(
             &rt,
             &["layout", "--lanes", lanes, "a"],
-            "planarbend: lanes must be 1 to 4\n",
+            "planarbend: lanes must be 1 to 8\n",
         )?;
     }
-    let mut words = ["a"; 66];
+    let mut words = ["a"; 258];
     words[0] = "layout";
-    check_refused(&rt, &words, "planarbend: more than 64 files\n")?;
+    check_refused(&rt, &words, "planarbend: more than 256 files\n")?;
     check_help(
         &rt,
         &["layout", "--help"],

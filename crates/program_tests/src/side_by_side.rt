@@ -92,7 +92,7 @@ impl<R: Files> Files for Crowd<'_, R> {
     }
 }
 
-/// As many lanes as `--lanes` says open files at once: with four files, the open of each waits for those
+/// As many lanes as `--lanes` says open files at once: with eight files, the open of each waits for those
 /// of the others in so many lanes.
 #[test]
 fn works_in_as_many_lanes_as_are_asked_for(rt: HostRuntime) -> Result<(), Fail> {
@@ -101,7 +101,7 @@ fn works_in_as_many_lanes_as_are_asked_for(rt: HostRuntime) -> Result<(), Fail> 
         "lane.pc",
         [HEADER, EDGE].concat(rt.alloc())?.as_slice(),
     )?;
-    for (lanes, wanted) in [("1", 1), ("2", 2), ("3", 3), ("4", 4)] {
+    for (lanes, wanted) in [("1", 1), ("2", 2), ("3", 3), ("4", 4), ("8", 8)] {
         let crowd = Crowd {
             rt: &rt,
             wanted,
@@ -109,7 +109,8 @@ fn works_in_as_many_lanes_as_are_asked_for(rt: HostRuntime) -> Result<(), Fail> 
             ran_out: AtomicBool::new(false),
         };
         let words = [
-            "layout", "--lanes", lanes, "lane.pc", "lane.pc", "lane.pc", "lane.pc",
+            "layout", "--lanes", lanes, "lane.pc", "lane.pc", "lane.pc", "lane.pc", "lane.pc",
+            "lane.pc", "lane.pc", "lane.pc",
         ];
         let ran = run(&crowd, &words)?;
         assert_eq!(rt; ran.status, 0, "{lanes}");

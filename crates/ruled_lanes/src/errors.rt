@@ -1,4 +1,4 @@
-//! Why a call on a channel was refused.
+//! Why a call on a link, a fan or tickets was refused.
 use std::fmt;
 use thiserror::Error;
 
@@ -13,7 +13,7 @@ impl<T> fmt::Debug for Closed<T> {
     }
 }
 
-/// There is no memory for a channel.
+/// There is no memory for a link, a fan or tickets.
 #[derive(Clone, Copy, Debug, PartialEq, Eq, Error)]
 #[error("out of memory")]
 pub struct Memory;

@@ -1,7 +1,7 @@
 //! The limits of channels and tickets. The clauses of their calls cite them.
 
 /// How many lanes a fan has.
-pub const LANES: u32 = 4;
+pub const LANES: u32 = 8;
 
 /// How many items a link or a fan holds at most.
 pub const MAX_CAPACITY: u32 = 64;

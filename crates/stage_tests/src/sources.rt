@@ -1,6 +1,7 @@
 //! Runs over sources in memory, sources that fail, and writers that take little. The bytes and the
 //! texts come from the description of the format and of the report.
 ghost use Rattle.std.specs.Prelude.{◌≤◌, false, None, vec_len};
+ghost use Rattle.ruled_lanes.specs.declared.limits.TheConstants.{MAX_CAPACITY};
 
 use planar_code::Ending;
 use std::alloc::{AllocError, Global};
@@ -37,7 +38,7 @@ fn check_over<R: AllocGlobal + Threads + Wait + Sync + Abort>(
     parts: &[&[u8]],
     report: &str,
 ) -> Result<(), Fail>
-    requires capacity { (1 ≤ capacity) × (capacity ≤ 64) }
+    requires capacity { (1 ≤ capacity) × (capacity ≤ MAX_CAPACITY) }
 {
     for most in [1, 2, 7, 65_536] {
         let source = MemTap::new(joined(rt.alloc(), parts)?, most);

@@ -5,9 +5,9 @@ use thiserror::Error;
 /// Why a run hands out nothing. The text of each is the line that the program prints.
 #[derive(Clone, Copy, Debug, PartialEq, Eq, Error)]
 pub enum BatchFault {
-    #[error("more than 64 files")]
+    #[error("more than 256 files")]
     TooManyFiles,
-    #[error("lanes must be 1 to 4")]
+    #[error("lanes must be 1 to 8")]
     BadLanes,
     /// Memory was refused to the run itself; a file that lacks memory ends by its mark instead.
     #[error("out of memory")]

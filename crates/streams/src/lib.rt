@@ -20,4 +20,5 @@ pub use memory::MemTap;
 pub use output::{IoSink, Sink, SinkFault};
 pub use reading::{Step, piece_buffer, read_piece};
 pub use report::write_frames;
+pub use ruled_lanes::MAX_CAPACITY;
 pub use run::run_frames;

@@ -1,5 +1,6 @@
 //! Runs over sources.
 ghost use Rattle.std.specs.Prelude.{◌≡◌, ◌≢◌, ◌≤◌, ℕ, Bool, List, [], Some, IfOk, IfErr, vec_len};
+ghost use Rattle.ruled_lanes.specs.declared.limits.TheConstants.{MAX_CAPACITY};
 ghost use Rattle.ruled_lanes.specs.LinkEnds.{given, taken, AreEnds, TakesFromSame};
 ghost use Rattle.streams.specs.declared.found.Mark.{Mark};
 ghost use Rattle.streams.specs.Marks.{IsMarked};
@@ -53,7 +54,7 @@ pub fn run_frames<R: Threads + Wait + Sync, T: Tap + Send>(
     capacity: u32,
 ) -> Result<Frames, BatchFault>
     requires least { 1 ≤ capacity }
-    requires most { capacity ≤ 64 }
+    requires most { capacity ≤ MAX_CAPACITY }
     ensures told { IfOk result (λ found. (bytes : List ℕ) → T.to_come source ≡ Some bytes
         → IsMarked bytes (T.fails source) found.records found.mark) }
 
