@@ -6,6 +6,7 @@
 mod embedded;
 mod framed;
 mod layout;
+mod laying;
 mod refusal;
 mod shaped;
 mod stages;

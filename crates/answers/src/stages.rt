@@ -7,7 +7,8 @@ ghost use Rattle.choices.specs.declared.Choice.{Choice};
 ghost use Rattle.entries.specs.Drawn.{IsDrawn};
 ghost use Rattle.entries.specs.Answers.{Answers};
 
-use crate::layout::{Layout, lay};
+use crate::laying::lay;
+use crate::layout::Layout;
 use crate::refusal::Refusal;
 use choices::Choice;
 use compact::{CompactFault, compact};
