@@ -1,16 +1,17 @@
--- Weak duality: a representation whose prices prove it has the fewest bends.
+-- Weak duality: a representation whose prices prove it has the fewest bends, and with another outer face at least
+-- as many more are needed as the prices of the two faces differ, eight times.
 use Rattle.std.proofs.Common.{◌≡◌, ◌≤◌, ◌<◌, ℕ, ◌+◌, ◌*◌, ◌-◌, Bool, true, false, cond, eqb, List, length, refl, sym, ap, ◌∙◌, inl, inr, subst, arith}
-use Rattle.std.specs.Prelude.{ℤ, pos, ◌+ℤ◌, ◌-ℤ◌}
+use Rattle.std.specs.Prelude.{ℤ, pos, negsuc, ◌+ℤ◌, ◌-ℤ◌}
 use Rattle.std.proofs.lemmas.Bool.{cases_order, cases_eq, eq-eqb, ne_eqb, cond-false}
 use Rattle.std.proofs.lemmas.Int.{ints}
-use Rattle.std.proofs.Math.Nat.{mul-le-mul_left}
+use Rattle.std.proofs.Math.Nat.{mul-add, mul-le-mul_left}
 use borrow.Author.Differences.{up, down}
 use Rattle.sums.specs.Sums.{sum_below}
 use Rattle.sums.proofs.Sums.{sum_below-same, sum_below-add, sum_below-le, sum_below-times, sum_below-one, exchanged, total_below-parts}
 use Rattle.ortho_rep.specs.declared.turn.Turn.{Turn}
-use Rattle.faces.specs.Map.{Map, HasEnds, darts, vertices, head, mate, face_at}
+use Rattle.faces.specs.Map.{Map, HasEnds, darts, vertices, head, mate, face_at, with_outer}
 use Rattle.ortho_rep.specs.Turns.{lefts, rights}
-use Rattle.ortho_rep.specs.Representation.{Rep, Least, turning_of, turning_around}
+use Rattle.ortho_rep.specs.Representation.{Rep, Least, bends_of, turning_of, turning_around, whole_turn}
 use Rattle.ortho_rep.specs.Prices.{IsPriced, Prove}
 use Rattle.ortho_rep.proofs.TurnLemmas.{lefts-add-rights, lefts-mirrored}
 
@@ -30,6 +31,34 @@ same_weighed m n at x y w inside same =
     let both : sum_below n (λ k. w k * part_at m at x k) ≡ sum_below n (λ k. w k * part_at m at y k) =
     sum_below-same n (λ k. w k * part_at m at x k) (λ k. w k * part_at m at y k) (λ k b. ap (λ (z : ℕ). w k * z) (same k b)) in
     omega arith
+
+-- eight units at face e, as a function of the faces
+abbrev pub eight_at : ℕ → ℕ → ℕ
+eight_at e k = cond (eqb e k) 8 0
+
+-- the same where eight units were moved from place e to place h
+moved_weighed : (m n : ℕ) (at x y w : ℕ → ℕ) (e h : ℕ) → ((i : ℕ) → i < m → at i < n) → ((k : ℕ) → k < n → part_at m at x k + eight_at e k ≡ part_at m at y k + eight_at h k) → weighed m (λ i. w (at i)) x + weighed n w (eight_at e) ≡ weighed m (λ i. w (at i)) y + weighed n w (eight_at h)
+moved_weighed m n at x y w e h inside same =
+    let of_x : sum_below n (λ k. w k * part_at m at x k) ≡ weighed m (λ i. w (at i)) x = exchanged m n at x w inside in
+    let of_y : sum_below n (λ k. w k * part_at m at y k) ≡ weighed m (λ i. w (at i)) y = exchanged m n at y w inside in
+    let both : sum_below n (λ k. w k * (part_at m at x k + eight_at e k)) ≡ sum_below n (λ k. w k * (part_at m at y k + eight_at h k)) =
+    sum_below-same n (λ k. w k * (part_at m at x k + eight_at e k)) (λ k. w k * (part_at m at y k + eight_at h k)) (λ k b. ap (λ (z : ℕ). w k * z) (same k b)) in
+    omega (arith, weighed-add n w (part_at m at x) (eight_at e), weighed-add n w (part_at m at y) (eight_at h))
+  where
+    weighed-add : (n : ℕ) (w f g : ℕ → ℕ) → sum_below n (λ k. w k * (f k + g k)) ≡ sum_below n (λ k. w k * f k) + sum_below n (λ k. w k * g k)
+    weighed-add n w f g =
+        sum_below-same n (λ k. w k * (f k + g k)) (λ k. w k * f k + w k * g k) (λ k b. mul-add (w k) (f k) (g k))
+        ∙ sum_below-add n (λ k. w k * f k) (λ k. w k * g k)
+
+-- the weight of eight units at a place
+weight-eight : (n : ℕ) (w : ℕ → ℕ) (e : ℕ) → e < n → weighed n w (eight_at e) ≡ 8 * w e
+weight-eight n w e inside =
+    sum_below-same n (λ k. w k * eight_at e k) (λ k. cond (eqb e k) (8 * w k) 0) (λ k b. times_eight (eqb e k) (w k))
+    ∙ sum_below-one n e (λ k. 8 * w k) inside
+  where
+    times_eight : (c : Bool) (x : ℕ) → x * cond c 8 0 ≡ cond c (8 * x) 0
+    times_eight true x = omega arith
+    times_eight false x = omega arith
 
 -- in pairs: to weigh by the partner's weight is to weigh the partner
 pub paired : (m : ℕ) (pair w x : ℕ → ℕ) → ((i : ℕ) → i < m → pair i < m) → ((i : ℕ) → i < m → pair (pair i) ≡ i) → weighed m (λ i. w (pair i)) x ≡ weighed m w (λ i. x (pair i))
@@ -98,8 +127,8 @@ turning-split p a s f =
     split_one false angle left right = omega (arith, ints)
 
 -- at each vertex two representations have the same angles in all
-same_around : (p : Map) (a b : ℕ → ℕ) (s t : ℕ → List Turn) → HasEnds p → Rep p a s → Rep p b t → (k : ℕ) → k < vertices p + 1 → part_at (darts p) (head p) a k ≡ part_at (darts p) (head p) b k
-same_around p a b s t ends one two k below =
+same_around : (p : Map) (h : ℕ) (a b : ℕ → ℕ) (s t : ℕ → List Turn) → HasEnds p → Rep p a s → Rep (with_outer p h) b t → (k : ℕ) → k < vertices p + 1 → part_at (darts p) (head p) a k ≡ part_at (darts p) (head p) b k
+same_around p h a b s t ends one two k below =
     elim (cases_eq k 0) [
       | inl e ↦ sum_below-same (darts p) (λ d. cond (eqb (head p d) k) (a d) 0) (λ d. cond (eqb (head p d) k) (b d) 0)
           (λ d c. let off : eqb (head p d) k ≡ false = ne_eqb (head p d) k (λ q. omega (arith, ends.head_from d c)) in
@@ -111,14 +140,24 @@ same_around p a b s t ends one two k below =
 abbrev crossed : (ℕ → ℕ) → (ℕ → List Turn) → (ℕ → List Turn) → ℕ → ℕ
 crossed b s t d = 2 + lefts (s d) + (b d + rights (t d))
 
--- round each face two representations turn alike
-same_turning : (p : Map) (a b : ℕ → ℕ) (s t : ℕ → List Turn) → Rep p a s → Rep p b t → (f : ℕ) → f < p.faces → part_at (darts p) (face_at p) (crossed b s t) f ≡ part_at (darts p) (face_at p) (crossed a t s) f
-same_turning p a b s t one two f below =
-    let alike : pos (gains p a s f) -ℤ pos (losses p a s f) ≡ pos (gains p b t f) -ℤ pos (losses p b t f) =
-    sym (turning-split p a s f) ∙ one.faces f below ∙ sym (two.faces f below) ∙ turning-split p b t f in
-    let mixed : gains p a s f + losses p b t f ≡ gains p b t f + losses p a s f = omega (arith, ints) in
-    joined p b s t f ∙ mixed ∙ sym (joined p a t s f)
+-- round each face two representations turn alike, but for the eight quarter turns that an outer face has less
+same_turning : (p : Map) (h : ℕ) (a b : ℕ → ℕ) (s t : ℕ → List Turn) → Rep p a s → Rep (with_outer p h) b t → (f : ℕ) → f < p.faces → part_at (darts p) (face_at p) (crossed b s t) f + eight_at p.outer f ≡ part_at (darts p) (face_at p) (crossed a t s) f + eight_at h f
+same_turning p h a b s t one two f below =
+    let turns_s : pos (gains p a s f) -ℤ pos (losses p a s f) ≡ whole_turn p f = sym (turning-split p a s f) ∙ one.faces f below in
+    let turns_t : pos (gains p b t f) -ℤ pos (losses p b t f) ≡ whole_turn (with_outer p h) f = sym (turning-split p b t f) ∙ two.faces f below in
+    let mixed = balanced (gains p a s f) (losses p a s f) (gains p b t f) (losses p b t f) (eight_at p.outer f) (eight_at h f) (whole_turn p f) (whole_turn (with_outer p h) f) turns_s turns_t (inner_turn p.outer f) (inner_turn h f) in
+    omega (arith, joined p b s t f, joined p a t s f, mixed)
   where
+    inner_turn : (e f : ℕ) → cond (eqb f e) (negsuc 3) (pos 4) +ℤ pos (eight_at e f) ≡ pos 4
+    inner_turn e f =
+        elim (cases_eq f e) [
+          | inl q ↦ rw (eq-eqb f e q, eq-eqb e f (sym q)) refl
+          | inr ne ↦ rw (ne_eqb f e ne, ne_eqb e f (λ q. ne (sym q))) refl
+        ]
+
+    balanced : (gs ls gt lt me mh : ℕ) (x y : ℤ) → pos gs -ℤ pos ls ≡ x → pos gt -ℤ pos lt ≡ y → x +ℤ pos me ≡ pos 4 → y +ℤ pos mh ≡ pos 4 → gs + lt + me ≡ gt + ls + mh
+    balanced gs ls gt lt me mh x y of_s of_t of_e of_h = omega (arith, ints)
+
     cond_add : (c : Bool) (x y : ℕ) → cond c (x + y) 0 ≡ cond c x 0 + cond c y 0
     cond_add true x y = refl
     cond_add false x y = refl
@@ -130,42 +169,46 @@ same_turning p a b s t one two f below =
         ∙ sum_below-add (darts p) (λ d. cond (eqb (face_at p d) f) (2 + lefts (s d)) 0) (λ d. cond (eqb (face_at p d) f) (b d + rights (t d)) 0)
 
 -- under each weight of the vertices two representations have the same angles in all
-angles_weigh : (p : Map) (a b : ℕ → ℕ) (s t : ℕ → List Turn) → HasEnds p → Rep p a s → Rep p b t → (w : ℕ → ℕ) → weighed (darts p) (λ d. w (head p d)) a ≡ weighed (darts p) (λ d. w (head p d)) b
-angles_weigh p a b s t ends one two w =
-    same_weighed (darts p) (vertices p + 1) (head p) a b w (λ d c. omega (arith, ends.head_to d c)) (same_around p a b s t ends one two)
+angles_weigh : (p : Map) (h : ℕ) (a b : ℕ → ℕ) (s t : ℕ → List Turn) → HasEnds p → Rep p a s → Rep (with_outer p h) b t → (w : ℕ → ℕ) → weighed (darts p) (λ d. w (head p d)) a ≡ weighed (darts p) (λ d. w (head p d)) b
+angles_weigh p h a b s t ends one two w =
+    same_weighed (darts p) (vertices p + 1) (head p) a b w (λ d c. omega (arith, ends.head_to d c)) (same_around p h a b s t ends one two)
 
 -- a face's weight on what `crossed` counts, with right turns as left turns on the other side
-crossed_weigh : (p : Map) (b : ℕ → ℕ) (s t : ℕ → List Turn) → HasEnds p → Rep p b t → (w : ℕ → ℕ) →
+crossed_weigh : (p : Map) (b : ℕ → ℕ) (s t : ℕ → List Turn) → HasEnds p → ((d : ℕ) → d < darts p → rights_of t d ≡ lefts_of t (mate p d)) → (w : ℕ → ℕ) →
     weighed (darts p) (λ d. w (face_at p d)) (crossed b s t)
     ≡ sum_below (darts p) (λ d. w (face_at p d) * 2) + weighed (darts p) (λ d. w (face_at p d)) (lefts_of s) + weighed (darts p) (λ d. w (face_at p d)) b + weighed (darts p) (λ d. w (face_at p (mate p d))) (lefts_of t)
-crossed_weigh p b s t ends rep w =
+crossed_weigh p b s t ends rights_t w =
     let apart : weighed (darts p) (λ d. w (face_at p d)) (crossed b s t) ≡ sum_below (darts p) (λ d. w (face_at p d) * 2 + w (face_at p d) * lefts (s d) + w (face_at p d) * b d + w (face_at p d) * rights (t d)) =
     sum_below-same (darts p) (λ d. w (face_at p d) * crossed b s t d) (λ d. w (face_at p d) * 2 + w (face_at p d) * lefts (s d) + w (face_at p d) * b d + w (face_at p d) * rights (t d)) (λ d c. omega arith) in
     let split = sum-four (darts p) (λ d. w (face_at p d) * 2) (λ d. w (face_at p d) * lefts (s d)) (λ d. w (face_at p d) * b d) (λ d. w (face_at p d) * rights (t d)) in
     let over : sum_below (darts p) (λ d. w (face_at p d) * rights (t d)) ≡ weighed (darts p) (λ d. w (face_at p d)) (λ d. lefts_of t (mate p d)) =
-    sum_below-same (darts p) (λ d. w (face_at p d) * rights (t d)) (λ d. w (face_at p d) * lefts_of t (mate p d)) (λ d c. ap (λ (z : ℕ). w (face_at p d) * z) (rights_are p b t rep d c)) in
+    sum_below-same (darts p) (λ d. w (face_at p d) * rights (t d)) (λ d. w (face_at p d) * lefts_of t (mate p d)) (λ d c. ap (λ (z : ℕ). w (face_at p d) * z) (rights_t d c)) in
     let back : weighed (darts p) (λ d. w (face_at p (mate p d))) (lefts_of t) ≡ weighed (darts p) (λ d. w (face_at p d)) (λ d. lefts_of t (mate p d)) =
     paired (darts p) (mate p) (λ d. w (face_at p d)) (lefts_of t) ends.mate_inside ends.mate_back in
     omega (arith, apart, split, over, back)
 
--- under each weight of the faces, what flows into them by corners and by crossings is the same
-faces_weigh : (p : Map) (a b : ℕ → ℕ) (s t : ℕ → List Turn) → HasEnds p → Rep p a s → Rep p b t → (w : ℕ → ℕ) →
-    weighed (darts p) (λ d. w (face_at p d)) (lefts_of s) + weighed (darts p) (λ d. w (face_at p d)) b + weighed (darts p) (λ d. w (face_at p (mate p d))) (lefts_of t)
-    ≡ weighed (darts p) (λ d. w (face_at p d)) (lefts_of t) + weighed (darts p) (λ d. w (face_at p d)) a + weighed (darts p) (λ d. w (face_at p (mate p d))) (lefts_of s)
-faces_weigh p a b s t ends one two w =
-    let same = same_weighed (darts p) p.faces (face_at p) (crossed b s t) (crossed a t s) w ends.face_named (same_turning p a b s t one two) in
-    omega (arith, same, crossed_weigh p b s t ends two w, crossed_weigh p a t s ends one w)
+-- under each weight of the faces, what flows into them by corners and by crossings is the same, but for the eight
+-- units of the outer faces
+faces_weigh : (p : Map) (h : ℕ) (a b : ℕ → ℕ) (s t : ℕ → List Turn) → HasEnds p → Rep p a s → Rep (with_outer p h) b t → (w : ℕ → ℕ) →
+    weighed (darts p) (λ d. w (face_at p d)) (lefts_of s) + weighed (darts p) (λ d. w (face_at p d)) b + weighed (darts p) (λ d. w (face_at p (mate p d))) (lefts_of t) + weighed p.faces w (eight_at p.outer)
+    ≡ weighed (darts p) (λ d. w (face_at p d)) (lefts_of t) + weighed (darts p) (λ d. w (face_at p d)) a + weighed (darts p) (λ d. w (face_at p (mate p d))) (lefts_of s) + weighed p.faces w (eight_at h)
+faces_weigh p h a b s t ends one two w =
+    let same = moved_weighed (darts p) p.faces (face_at p) (crossed b s t) (crossed a t s) w p.outer h ends.face_named (same_turning p h a b s t one two) in
+    omega (arith, same, crossed_weigh p b s t ends (rights_are (with_outer p h) b t two) w, crossed_weigh p a t s ends (rights_are p a s one) w)
 
 -- the strings' lengths are twice the left turns
-pub lengths-twice : (p : Map) (a : ℕ → ℕ) (s : ℕ → List Turn) → HasEnds p → Rep p a s → sum_below (darts p) (λ d. length (s d)) ≡ 2 * sum_below (darts p) (lefts_of s)
-lengths-twice p a s ends rep =
+lengths-mirrored : (p : Map) (s : ℕ → List Turn) → HasEnds p → ((d : ℕ) → d < darts p → rights_of s d ≡ lefts_of s (mate p d)) → sum_below (darts p) (λ d. length (s d)) ≡ 2 * sum_below (darts p) (lefts_of s)
+lengths-mirrored p s ends rights_s =
     let all : sum_below (darts p) (λ d. length (s d)) ≡ sum_below (darts p) (λ d. lefts_of s d + 1 * lefts_of s (mate p d)) =
-    sum_below-same (darts p) (λ d. length (s d)) (λ d. lefts_of s d + 1 * lefts_of s (mate p d)) (λ d b. omega (arith, lefts-add-rights (s d), rights_are p a s rep d b)) in
+    sum_below-same (darts p) (λ d. length (s d)) (λ d. lefts_of s d + 1 * lefts_of s (mate p d)) (λ d b. omega (arith, lefts-add-rights (s d), rights_s d b)) in
     let parts = sum_below-add (darts p) (lefts_of s) (λ d. 1 * lefts_of s (mate p d)) in
     let back : weighed (darts p) (λ d. 1) (lefts_of s) ≡ weighed (darts p) (λ d. 1) (λ d. lefts_of s (mate p d)) =
     paired (darts p) (mate p) (λ d. 1) (lefts_of s) ends.mate_inside ends.mate_back in
     let ones = sum_below-times (darts p) 1 (lefts_of s) in
     omega (arith, all, parts, back, ones)
+
+pub lengths-twice : (p : Map) (a : ℕ → ℕ) (s : ℕ → List Turn) → HasEnds p → Rep p a s → sum_below (darts p) (λ d. length (s d)) ≡ 2 * sum_below (darts p) (lefts_of s)
+lengths-twice p a s ends rep = lengths-mirrored p s ends (rights_are p a s rep)
 
 -- a face's price on its own darts, and across
 abbrev own : Map → (ℕ → ℤ) → (ℤ → ℕ) → ℕ → ℕ
@@ -202,14 +245,14 @@ crossing p a s t v q d priced =
     )
 
 -- the same of all corners
-corners : (p : Map) (a b : ℕ → ℕ) (s t : ℕ → List Turn) (v q : ℕ → ℤ) → Prove p a s v q → Rep p a s → Rep p b t →
+corners : (p : Map) (a b : ℕ → ℕ) (s t : ℕ → List Turn) (v q : ℕ → ℤ) → Prove p a s v q → Rep p a s → ((d : ℕ) → d < darts p → (1 ≤ b d) × (b d ≤ 4)) →
     weighed (darts p) (at_head p v up) a + weighed (darts p) (own p q down) a + weighed (darts p) (at_head p v down) b + weighed (darts p) (own p q up) b
     ≤ weighed (darts p) (at_head p v up) b + weighed (darts p) (own p q down) b + weighed (darts p) (at_head p v down) a + weighed (darts p) (own p q up) a
-corners p a b s t v q prove one two =
+corners p a b s t v q prove one angles =
     let each = sum_below-le (darts p)
     (λ d. at_head p v up d * a d + own p q down d * a d + at_head p v down d * b d + own p q up d * b d)
     (λ d. at_head p v up d * b d + own p q down d * b d + at_head p v down d * a d + own p q up d * a d)
-    (λ d c. corner p a b s v q d (prove d c) (one.angles d c) (two.angles d c)) in
+    (λ d c. corner p a b s v q d (prove d c) (one.angles d c) (angles d c)) in
     let left = sum-four (darts p) (λ d. at_head p v up d * a d) (λ d. own p q down d * a d) (λ d. at_head p v down d * b d) (λ d. own p q up d * b d) in
     let right = sum-four (darts p) (λ d. at_head p v up d * b d) (λ d. own p q down d * b d) (λ d. at_head p v down d * a d) (λ d. own p q up d * a d) in
     omega (arith, each, left, right)
@@ -235,22 +278,40 @@ crossings p a s t v q prove =
           sum_below-add (darts p) (λ d. own p q up d * lefts_of s d) (λ d. across p q down d * lefts_of s d),
         )
 
--- no representation has fewer left turns than one that prices prove
-fewest_lefts : (p : Map) (a b : ℕ → ℕ) (s t : ℕ → List Turn) (v q : ℕ → ℤ) → HasEnds p → Prove p a s v q → Rep p a s → Rep p b t → sum_below (darts p) (lefts_of s) ≤ sum_below (darts p) (lefts_of t)
-fewest_lefts p a b s t v q ends prove one two =
+-- no representation with the outer face h has fewer left turns than one that prices prove, with as many more as the
+-- prices of the two outer faces tell
+fewest_lefts : (p : Map) (h : ℕ) (a b : ℕ → ℕ) (s t : ℕ → List Turn) (v q : ℕ → ℤ) → HasEnds p → Prove p a s v q → Rep p a s → Rep (with_outer p h) b t →
+    sum_below (darts p) (lefts_of s) + weighed p.faces (λ k. up (q k)) (eight_at h) + weighed p.faces (λ k. down (q k)) (eight_at p.outer)
+    ≤ sum_below (darts p) (lefts_of t) + weighed p.faces (λ k. up (q k)) (eight_at p.outer) + weighed p.faces (λ k. down (q k)) (eight_at h)
+fewest_lefts p h a b s t v q ends prove one two =
     omega (
       arith,
-      corners p a b s t v q prove one two,
+      corners p a b s t v q prove one two.angles,
       crossings p a s t v q prove,
-      angles_weigh p a b s t ends one two (λ k. up (v k)),
-      angles_weigh p a b s t ends one two (λ k. down (v k)),
-      faces_weigh p a b s t ends one two (λ k. up (q k)),
-      faces_weigh p a b s t ends one two (λ k. down (q k)),
+      angles_weigh p h a b s t ends one two (λ k. up (v k)),
+      angles_weigh p h a b s t ends one two (λ k. down (v k)),
+      faces_weigh p h a b s t ends one two (λ k. up (q k)),
+      faces_weigh p h a b s t ends one two (λ k. down (q k)),
     )
 
 -- a representation whose prices prove it is least
 pub least_by_prices : (p : Map) (a : ℕ → ℕ) (s : ℕ → List Turn) (v q : ℕ → ℤ) → HasEnds p → Rep p a s → Prove p a s v q → Least p a s
 least_by_prices p a s v q ends rep prove = record {
   rep = rep;
-  least = λ b t other. omega (arith, fewest_lefts p a b s t v q ends prove rep other, lengths-twice p a s ends rep, lengths-twice p b t ends other);
+  least = λ b t other. omega (arith, fewest_lefts p p.outer a b s t v q ends prove rep other, lengths-twice p a s ends rep, lengths-twice p b t ends other);
 }
+
+-- with the outer face h at least as many more bends are needed as it is dearer than the outer face, eight times
+pub more_by_prices : (p : Map) (h : ℕ) (a b : ℕ → ℕ) (s t : ℕ → List Turn) (v q : ℕ → ℤ) → HasEnds p → p.outer < p.faces → h < p.faces → Rep p a s → Prove p a s v q → Rep (with_outer p h) b t →
+    bends_of (darts p) s + 8 * up (q h) + 8 * down (q p.outer) ≤ bends_of (darts p) t + 8 * up (q p.outer) + 8 * down (q h)
+more_by_prices p h a b s t v q ends outer inside rep prove other =
+    omega (
+      arith,
+      fewest_lefts p h a b s t v q ends prove rep other,
+      weight-eight p.faces (λ k. up (q k)) h inside,
+      weight-eight p.faces (λ k. up (q k)) p.outer outer,
+      weight-eight p.faces (λ k. down (q k)) h inside,
+      weight-eight p.faces (λ k. down (q k)) p.outer outer,
+      lengths-twice p a s ends rep,
+      lengths-mirrored p t ends (rights_are (with_outer p h) b t other),
+    )

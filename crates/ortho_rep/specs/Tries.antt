@@ -1,5 +1,5 @@
 -- What is known of the faces of a plane that were tried as outer faces.
-use Rattle.std.specs.Prelude.{◌≡◌, ℕ, ◌<◌, ◌≤◌}
+use Rattle.std.specs.Prelude.{◌≡◌, ℕ, ◌<◌, ◌≤◌, List, slice_index}
 use Rattle.faces.specs.Map.{Map, darts, with_outer}
 use Rattle.ortho_rep.specs.declared.best.Found.{Found}
 use Rattle.ortho_rep.specs.Shapes.{turns_at}
@@ -20,3 +20,7 @@ pub record IsFound (p : Map) (found : Found) : Type 0 where
 pub record IsNoBetter (p : Map) (bends face f : ℕ) : Type 0 where
   pub fewest : NeedsBends (with_outer p f) bends
   pub first : HasRep (with_outer p f) bends → face ≤ f
+
+-- with each face outside at least as many bends are needed as the list has at its place
+pub record AreBounds (p : Map) (bounds : List ℕ) : Type 0 where
+  pub each : (f : ℕ) → f < p.faces → NeedsBends (with_outer p f) (slice_index bounds f)

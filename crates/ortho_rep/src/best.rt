@@ -1,11 +1,11 @@
 //! Least shapes with the best outer face.
 
-ghost use Rattle.std.specs.Prelude.{◌≡◌, ◌<◌, ℕ, OnOk, IfOk, OnErr};
+ghost use Rattle.std.specs.Prelude.{◌≡◌, ◌<◌, ◌≤◌, ◌⊎◌, ℕ, pos, ◌+ℤ◌, ◌-ℤ◌, ◌*ℤ◌, ◌≤ℤ◌, ◌^◌, IsTrue, IsFalse, OnOk, IfOk, OnErr, length};
 ghost use Rattle.faces.specs.Map.{with_outer};
 ghost use Rattle.ortho_rep.specs.Representation.{IsShape, IsLeast};
 ghost use Rattle.ortho_rep.specs.Prices.{IsProof};
-ghost use Rattle.ortho_rep.specs.Best.{IsBest};
-ghost use Rattle.ortho_rep.specs.Tries.{IsFound, IsNoBetter};
+ghost use Rattle.ortho_rep.specs.Best.{IsBest, NeedsBends};
+ghost use Rattle.ortho_rep.specs.Tries.{IsFound, IsNoBetter, AreBounds};
 
 use crate::least::least_shape;
 use crate::prices::Prices;
@@ -22,10 +22,27 @@ struct Found {
     prices: Prices,
 }
 
+impl Found {
+    /// Whether so many bends with a face are better: fewer, or as few and the face has a lesser number.
+    fn loses_to(&self, bends: u64, face: u16) -> bool
+        ensures yes { IsTrue result → bends ≤ self.now.bends }
+        ensures first { IsTrue result → bends ≡ self.now.bends → face < self.now.face }
+        ensures no { IsFalse result → self.now.bends ≤ bends }
+        ensures last { IsFalse result → bends ≡ self.now.bends → self.now.face ≤ face }
+    {
+        let own = u64::from(self.bends);
+        bends < own || bends == own && face < self.face
+    }
+}
+
+/// The most faces that a plane has.
+const MAX_FACES: usize = 257;
+
 /// Turns the best face out, and gives a least shape with prices that prove it least.
 ///
 /// The best face is the one with which the fewest bends are needed, among equals the one with the least
-/// number. Each face is tried.
+/// number. Each face is tried, but for those of which the prices of an earlier one prove that they are
+/// no better.
 ///
 /// # Errors
 ///
@@ -85,12 +102,65 @@ fn best_found(alloc: Global, plane: &mut Plane) -> Result<Found, AllocError>
         → IsNoBetter plane.old found.bends found.face f) }
 {
     let faces = plane.face_count();
-    let mut best = found_with(alloc, plane, 0)?;
-    for face in 1..faces {
-        let next = found_with(alloc, plane, face)?;
-        if next.bends < best.bends {
-            best = next;
+    let outer = plane.outer();
+    let mut bounds = [0; MAX_FACES];
+    let mut best = found_with(alloc, plane, outer)?;
+    raise_bounds(plane, &best, &mut bounds);
+    for face in 0..faces {
+        if best.loses_to(bounds[usize::from(face)], face) {
+            let next = found_with(alloc, plane, face)?;
+            raise_bounds(plane, &next, &mut bounds);
+            if best.loses_to(u64::from(next.bends), face) {
+                best = next;
+            }
         }
     }
     Ok(best)
+}
+
+/// Raises the bounds of the faces to what the prices of a least shape prove.
+fn raise_bounds(plane: &Plane, found: &Found, bounds: &mut [u64])
+    requires found { IsFound plane.now found.now }
+    requires room { plane.now.faces ≤ length bounds.old }
+    requires bounds { AreBounds plane.now bounds.old }
+    ensures { AreBounds plane.now bounds.new }
+{
+    for face in 0..plane.face_count() {
+        let place = usize::from(face);
+        bounds[place] = bounds[place].max(bound(plane, found, face));
+    }
+}
+
+/// How many bends are needed at least with a face as the outer one, as the prices prove.
+fn bound(plane: &Plane, found: &Found, face: u16) -> u64
+    requires found { IsFound plane.now found.now }
+    requires named { face < plane.now.faces }
+    ensures { NeedsBends (with_outer plane.now face) result }
+{
+    // Only the proof needs this: `graph` says that the plane is one.
+    let _graph = plane.graph();
+    let own = found.prices.face(found.face);
+    let other = found.prices.face(face);
+    dearer(found.bends, own, other)
+}
+
+/// So many bends, and eight more for each unit by which one price is above another.
+fn dearer(bends: u32, own: i32, other: i32) -> u64
+    ensures { (result ≡ 0) ⊎ (pos result ≡ pos bends +ℤ pos 8 *ℤ (other -ℤ own)) }
+{
+    let bends = u64::from(bends);
+    if own <= other {
+        bends + 8 * gap(own, other)
+    } else {
+        bends.saturating_sub(8 * gap(other, own))
+    }
+}
+
+/// By how much one price is above another.
+fn gap(low: i32, high: i32) -> u64
+    requires { low ≤ℤ high }
+    ensures value { pos result ≡ high -ℤ low }
+    ensures few { result < 2 ^ 32 }
+{
+    (i64::from(high) - i64::from(low)) as u64
 }

@@ -1,32 +1,75 @@
-use Rattle.std.proofs.Common.{◌≡◌, ◌<◌, ◌+◌, ℕ, sym, ap, subst, arith}
+use Rattle.std.proofs.Common.{◌≡◌, ◌<◌, ◌+◌, ℕ, slice_index, sym, ap, ◌∙◌, subst, arith}
+use Rattle.faces.specs.Map.{Map, with_outer}
 use Rattle.ortho_rep.specs.declared.best.Found.{Found}
-use Rattle.ortho_rep.specs.Tries.{IsFound, IsNoBetter}
-use Rattle.ortho_rep.proofs.Tries.{turned_again, found_turned, better_taken, best_left}
+use Rattle.ortho_rep.specs.Best.{NeedsBends}
+use Rattle.ortho_rep.specs.Tries.{IsFound, IsNoBetter, AreBounds}
+use Rattle.ortho_rep.proofs.Tries.{turned_again, turned_own, found_turned, bounds_turned, no_bounds, better_taken, best_left, needs_found}
 use Rattle.ortho_rep.proofs.best.best_found.Goals as goal
-use Rattle.ortho_rep.proofs.best.best_found.Goals.{then-next-best, else-next-best}
+use Rattle.ortho_rep.proofs.best.best_found.Goals.{then-loses_to+in_ok-next+then-loses_to-2, then-loses_to+in_ok-next+else-loses_to-2, else-loses_to}
+
+pub raise_bounds-requires-clause-bounds : goal.raise_bounds-requires-clause-bounds
+raise_bounds-requires-clause-bounds c = no_bounds _ 257 (omega (arith, ap (λ (m : Map). m.faces) c.found_with.ensures.turned))
+
+pub loop-face-init : goal.loop-face-init
+loop-face-init c =
+    let plane = c.args.plane.now in
+    let once : c.found_with.new.plane ≡ with_outer plane c.outer-outer.result = c.found_with.ensures.turned in
+    record {
+      turned = turned_own plane c.found_with.new.plane c.outer-outer.result once;
+      found = c.in_ok-best.ensures.found;
+      bounds = bounds_turned plane c.found_with.new.plane c.outer-outer.result _ once c.raise_bounds.ensures;
+      best = λ f b. absurd (omega arith);
+    }
 
 pub loop-face-preserved : goal.loop-face-preserved
 loop-face-preserved c =
     let plane = c.args.plane.now in
     let face = c.loop-face.face in
     let best = c.loop-face.best in
-    let next = c.in_ok-next.next in
-    let found = found_turned plane c.loop-face.plane c.loop-face.plane.outer next c.loop-face.invariant.turned c.in_ok-next.ensures.found in
-    let here : next.face ≡ face = c.in_ok-next.ensures.face in
-    let turned = turned_again plane c.loop-face.plane c.found_with-in-loop-face.new.plane c.loop-face.plane.outer face c.loop-face.invariant.turned c.found_with-in-loop-face.ensures.turned in
-    elim c.if-next-best.branch [
-      | then-next-best w ↦ record {
-        turned = turned;
-        found = subst (IsFound plane) (sym w.best-is) found;
-        passed = omega (arith, here, ap (λ (x : Found). x.face) w.best-is);
-        best = subst (λ (x : Found). (f : ℕ) → f < face + 1 → IsNoBetter plane x.bends x.face f) (sym w.best-is) (better_taken plane best next face found here (omega arith) c.loop-face.invariant.best);
-      }
-      | else-next-best w ↦ record {
-        turned = turned;
-        found = subst (IsFound plane) (sym w.best-is) c.loop-face.invariant.found;
-        passed = omega (arith, here, ap (λ (x : Found). x.face) w.best-is);
-        best = subst (λ (x : Found). (f : ℕ) → f < face + 1 → IsNoBetter plane x.bends x.face f) (sym w.best-is) (best_left plane best next face found here c.loop-face.invariant.passed (omega arith) c.loop-face.invariant.best);
-      }
+    let known = c.loop-face.invariant in
+    elim c.if-loses_to.branch [
+      | then-loses_to+in_ok-next+then-loses_to-2 w ↦
+          let tried = w.found_with-then-loses_to.new.plane in
+          let next = w.in_ok-next.next in
+          let found = found_turned plane c.loop-face.plane c.loop-face.plane.outer next known.turned w.in_ok-next.ensures.found in
+          let once = turned_again plane c.loop-face.plane tried c.loop-face.plane.outer face known.turned w.found_with-then-loses_to.ensures.turned in
+          let test = w.loses_to-then-loses_to.ensures in
+          record {
+            turned = subst (λ (m : Map). m ≡ with_outer plane m.outer) (sym w.plane-is) (turned_own plane tried face once);
+            found = subst (IsFound plane) (sym w.best-is) found;
+            bounds = subst (AreBounds plane) (sym w.bounds-is) (bounds_turned plane tried face _ once w.raise_bounds-then-loses_to.ensures);
+            best = subst (λ (x : Found). (f : ℕ) → f < face + 1 → IsNoBetter plane x.bends x.face f) (sym w.best-is)
+                (better_taken plane best next face found w.in_ok-next.ensures.face
+                (omega (arith, test.yes w.if-loses_to-2.true, w.from-then-loses_to.ensures))
+                (λ e. test.first w.if-loses_to-2.true (w.from-then-loses_to.ensures ∙ e))
+                known.best);
+          }
+      | then-loses_to+in_ok-next+else-loses_to-2 w ↦
+          let tried = w.found_with-then-loses_to.new.plane in
+          let next = w.in_ok-next.next in
+          let found = found_turned plane c.loop-face.plane c.loop-face.plane.outer next known.turned w.in_ok-next.ensures.found in
+          let once = turned_again plane c.loop-face.plane tried c.loop-face.plane.outer face known.turned w.found_with-then-loses_to.ensures.turned in
+          let test = w.loses_to-then-loses_to.ensures in
+          let needs = subst (λ (k : ℕ). NeedsBends (with_outer plane k) next.bends) w.in_ok-next.ensures.face (needs_found plane next found) in
+          record {
+            turned = subst (λ (m : Map). m ≡ with_outer plane m.outer) (sym w.plane-is) (turned_own plane tried face once);
+            found = subst (IsFound plane) (sym w.best-is) known.found;
+            bounds = subst (AreBounds plane) (sym w.bounds-is) (bounds_turned plane tried face _ once w.raise_bounds-then-loses_to.ensures);
+            best = subst (λ (x : Found). (f : ℕ) → f < face + 1 → IsNoBetter plane x.bends x.face f) (sym w.best-is)
+                (best_left plane best next.bends face needs
+                (omega (arith, test.no w.if-loses_to-2.false, w.from-then-loses_to.ensures))
+                (λ e. test.last w.if-loses_to-2.false (w.from-then-loses_to.ensures ∙ e))
+                known.best);
+          }
+      | else-loses_to w ↦
+          let needs = subst (λ (k : ℕ). NeedsBends (with_outer plane face) (slice_index c.loop-face.bounds k)) (sym c.from.ensures) (known.bounds.each face (omega arith)) in
+          record {
+            turned = subst (λ (m : Map). m ≡ with_outer plane m.outer) (sym w.plane-is) known.turned;
+            found = subst (IsFound plane) (sym w.best-is) known.found;
+            bounds = subst (AreBounds plane) (sym w.bounds-is) known.bounds;
+            best = subst (λ (x : Found). (f : ℕ) → f < face + 1 → IsNoBetter plane x.bends x.face f) (sym w.best-is)
+                (best_left plane best _ face needs (c.loses_to.ensures.no w.if-loses_to.false) (c.loses_to.ensures.last w.if-loses_to.false) known.best);
+          }
     ]
 
 pub returns-clause-best : goal.returns-clause-best
