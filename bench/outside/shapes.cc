@@ -1,6 +1,6 @@
 // For each graph of a planar_code file: rules, faces, and the fewest bends, by LEMON's network simplex.
-// Prints the lines of the report up to the bends; `planes` as second argument stops behind the faces,
-// and `quiet` prints totals alone. `times` and a number print one line: the nanoseconds that building and
+// Prints the lines of the report up to the bends; `planes` as second argument stops behind the faces, `best`
+// tries each face as the outer one, and `quiet` prints totals alone. `times` and a number print one line: the nanoseconds that building and
 // solving the networks took, each the least of so many times, all graphs together.
 #include "planar.hpp"
 #include <chrono>
@@ -37,6 +37,16 @@ static long fewest_bends(const Graph &graph) {
   return simplex.totalCost();
 }
 
+// The fewest bends with whichever face as the outer one.
+static long best_bends(Graph graph) {
+  long best = -1;
+  for (graph.outer = 0; graph.outer < static_cast<int>(graph.degree.size()); ++graph.outer) {
+    const long bends = fewest_bends(graph);
+    if (best < 0 || bends < best) best = bends;
+  }
+  return best;
+}
+
 // The nanoseconds of a network, built and solved: the least of so many times.
 static long least_time(const Graph &graph, int rounds) {
   long least = -1;
@@ -68,6 +78,7 @@ int main(int count, char **words) {
   if (count > 3 && std::strcmp(words[2], "times") == 0)
     return print_times(bytes_of(words[1]), std::atoi(words[3]));
   const bool planes = count > 2 && std::strcmp(words[2], "planes") == 0;
+  const bool best = count > 2 && std::strcmp(words[2], "best") == 0;
   const bool quiet = count > 3 && std::strcmp(words[3], "quiet") == 0;
   const std::string text = bytes_of(words[1]);
   const auto begin = std::chrono::steady_clock::now();
@@ -83,7 +94,7 @@ int main(int count, char **words) {
     }
     ++accepted;
     all_faces += static_cast<long>(graph.degree.size());
-    const long bends = planes ? 0 : fewest_bends(graph);
+    const long bends = planes ? 0 : best ? best_bends(graph) : fewest_bends(graph);
     all_bends += bends;
     if (!quiet)
       std::printf("graph %ld ok n=%d m=%d f=%zu bends=%ld\n", number, graph.vertices, graph.darts() / 2,
