@@ -30,11 +30,7 @@ fn report_of(alloc: Global, batch: &Batch) -> Result<Vec<u8>, AllocError> {
 }
 
 /// The report of a run on one thread.
-fn report_of_plain(
-    alloc: Global,
-    opener: &MemOpener,
-    files: u32,
-) -> Result<Vec<u8>, AllocError> {
+fn report_of_plain(alloc: Global, opener: &MemOpener, files: u32) -> Result<Vec<u8>, AllocError> {
     let batch = run_plain(alloc, opener, files).map_err(|_| AllocError)?;
     report_of(alloc, &batch)
 }

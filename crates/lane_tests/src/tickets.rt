@@ -138,6 +138,31 @@ fn draw_in_eight<R: Threads + Sync>(
     )
 }
 
+// A seat off the end.
+fn take_one(tickets: &Tickets, seats: &mut Vec<Seat>) -> Seat
+    requires count { 1 ≤ vec_len seats.old }
+    requires seats { All (IsSeatOf tickets.now) seats.old.items }
+    ensures count { vec_len seats.new + 1 ≡ vec_len seats.old }
+    ensures seats { All (IsSeatOf tickets.now) seats.new.items }
+    ensures taken { IsSeatOf tickets.now result }
+{
+    let Some(seat) = seats.pop() else {
+        unreachable!()
+    };
+    seat
+}
+
+// Puts a seat back.
+fn put_one(tickets: &Tickets, seats: &mut Vec<Seat>, seat: Seat) -> Result<(), AllocError>
+    requires seats { All (IsSeatOf tickets.now) seats.old.items }
+    requires seat { IsSeatOf tickets.now seat }
+    ensures count { OnOk result (vec_len seats.new ≡ vec_len seats.old + 1) }
+    ensures seats { OnOk result (All (IsSeatOf tickets.now) seats.new.items) }
+{
+    seats.push(seat)?;
+    Ok(())
+}
+
 // Four seats off the end.
 fn take_four(tickets: &Tickets, seats: &mut Vec<Seat>) -> FourSeats
     requires count { 4 ≤ vec_len seats.old }
@@ -147,12 +172,10 @@ fn take_four(tickets: &Tickets, seats: &mut Vec<Seat>) -> FourSeats
     ensures first { IsSeatOf tickets.now result.0.0 × IsSeatOf tickets.now result.0.1 }
     ensures second { IsSeatOf tickets.now result.1.0 × IsSeatOf tickets.now result.1.1 }
 {
-    let (Some(four), Some(three)) = (seats.pop(), seats.pop()) else {
-        unreachable!()
-    };
-    let (Some(two), Some(one)) = (seats.pop(), seats.pop()) else {
-        unreachable!()
-    };
+    let four = take_one(tickets, seats);
+    let three = take_one(tickets, seats);
+    let two = take_one(tickets, seats);
+    let one = take_one(tickets, seats);
     ((one, two), (three, four))
 }
 
@@ -170,10 +193,10 @@ fn put_four(
     ensures seats { OnOk result (All (IsSeatOf tickets.now) seats.new.items) }
 {
     let ((one, two), (three, four)) = four;
-    seats.push(one.0)?;
-    seats.push(two.0)?;
-    seats.push(three.0)?;
-    seats.push(four.0)?;
+    put_one(tickets, seats, one.0)?;
+    put_one(tickets, seats, two.0)?;
+    put_one(tickets, seats, three.0)?;
+    put_one(tickets, seats, four.0)?;
     numbers.push(one.1)?;
     numbers.push(two.1)?;
     numbers.push(three.1)?;
