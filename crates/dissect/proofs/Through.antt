@@ -1,5 +1,5 @@
 -- The path of an edge goes through the darts that it was made of, in their order, whatever is cut.
-use Rattle.std.proofs.Common.{◌≡◌, ◌≢◌, ℕ, ◌+◌, ◌<◌, ◌≤◌, ◌⊎◌, ◌∙◌, List, [], ◌∷◌, arith, subst, sym, refl, inl, inr}
+use Rattle.std.proofs.Common.{◌≡◌, ℕ, ◌+◌, ◌<◌, ◌≤◌, ◌⊎◌, ◌∙◌, List, [], ◌∷◌, arith, subst, sym, refl, inl, inr}
 use Rattle.std.proofs.lemmas.Bool.{cases_eq}
 use Rattle.cutting.specs.Webs.{Web, no_dart, IsLinked, IsSplit, IsCut, Grows, same, further}
 use Rattle.cutting.specs.Faces.{last_of, Below}
