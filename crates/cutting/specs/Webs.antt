@@ -17,7 +17,7 @@ pub record Web : Type 0 where
   pub direction : ℕ → ℕ
   -- the angle at its head, between it and the next dart, in right angles
   pub angle : ℕ → ℕ
-  -- the dart in front of it on the same edge of the plane, or `no_dart`
+  -- the dart in front of it on the same edge of the plane, side of a rectangle or chord, or `no_dart`
   pub before : ℕ → ℕ
 
 -- stands where there is no dart

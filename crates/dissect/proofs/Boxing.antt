@@ -26,6 +26,7 @@ use Rattle.dissect.specs.Boxes.{AreBoxes, HasEdge, parts_of}
 use Rattle.dissect.specs.Boxed.{IsBoxed, IsEnclosedDrawing, ArePathsApart}
 use Rattle.dissect.proofs.Keeping.{Keeps, enclosed_keeps}
 use Rattle.dissect.proofs.Rectangles.{rectangle, join}
+use Rattle.dissect.proofs.Through.{through}
 
 -- what is known of the drawing w and of the table t that was made of it
 pub record IsMade (p : Map) (shape : Figure) (w : Web) (outside : ℕ) (t : DartTable) : Type 0 where
@@ -120,6 +121,8 @@ drawing_stands p shape w outside t old edges paths made =
       };
       heads = keeps.head;
       directions = keeps.direction;
+      through = λ d first first' rest rest' _.
+          through w outside (web_of t) made.sound.linked made.sound.meeting.quarter e made.small d first first' rest rest';
       rectangle = rectangle w outside (web_of t) made.sound.linked made.sound.meeting.quarter e made.done;
       right = e.right;
       right_in = e.right_in;

@@ -3,5 +3,6 @@ pub mod Joined
 pub mod Pieces
 pub mod Keeping
 pub mod Rectangles
+pub mod Through
 pub mod Edges
 pub mod Boxing

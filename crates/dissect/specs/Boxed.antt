@@ -1,5 +1,5 @@
 -- What it is that boxes dissect an orthogonal representation of a plane.
-use Rattle.std.specs.Prelude.{◌≡◌, ℕ, ◌+◌, ◌-◌, ◌*◌, ◌%◌, ◌<◌, ◌≤◌, List, ◌∷◌, map, length, reverse}
+use Rattle.std.specs.Prelude.{◌≡◌, ℕ, ◌+◌, ◌-◌, ◌*◌, ◌%◌, ◌<◌, ◌≤◌, ◌⊎◌, List, [], ◌∷◌, map, length, reverse}
 use Rattle.faces.specs.Map.{Map, darts, vertices, head, mate, next}
 use Rattle.ortho_rep.specs.Shapes.{Figure, angle_at, turns_at}
 use Rattle.ortho_rep.specs.Edges.{lesser_darts}
@@ -24,6 +24,12 @@ pub record IsDrawing (p : Map) (shape : Figure) (w : Web) : Type 0 where
   pub counts : CountsBends p (turns_at shape) w
   pub paths : HasPaths w (darts p) (mate p) (λ d. map angle_of (turns_at shape d))
 
+-- the numbers of one list stand on another in the same order, with what else there is between them
+abbrev pub StandOn : List ℕ → List ℕ → Type 0
+StandOn [] others = Unit {0}
+StandOn (a ∷ rest) [] = ⊥
+StandOn (a ∷ rest) (b ∷ others) = ((a ≡ b) × StandOn rest others) ⊎ StandOn (a ∷ rest) others
+
 -- the drawing of the shape stands in the boxes, in a rectangle to which it is joined at a right turn of its outer face
 pub record IsEnclosedDrawing (p : Map) (shape : Figure) (b : Parts) : Type 0 where
   pub drawing : Web
@@ -31,6 +37,9 @@ pub record IsEnclosedDrawing (p : Map) (shape : Figure) (b : Parts) : Type 0 whe
   -- its darts arrive where and as they did
   pub heads : (a : ℕ) → a < drawing.darts → (web b).head a ≡ drawing.head a
   pub directions : (a : ℕ) → a < drawing.darts → (web b).direction a ≡ drawing.direction a
+  -- a dart of the plane has all darts of its path in the drawing on its path in the boxes, in their order
+  pub through : (d first first' : ℕ) (rest rest' : List ℕ) → d < darts p → IsPath drawing d first rest →
+      IsPath (web b) d first' rest' → StandOn (first ∷ rest) (first' ∷ rest')
   pub rectangle : HasRectangle drawing (web b)
   pub right : ℕ
   pub right_in : right < drawing.darts

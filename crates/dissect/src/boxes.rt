@@ -115,8 +115,8 @@ impl Boxes {
         }
     }
 
-    /// The dart in front of a dart on the same edge of the plane; none where it is the first one, or
-    /// where it is on no edge of the plane.
+    /// The dart in front of a dart on the same row, which is an edge of the plane, a side of the rectangle,
+    /// its join or a cut; none where it is the first one.
     pub fn before(&self, dart: u32) -> Option<u32>
         requires { dart < self.now.darts }
         ensures some { IfSome result (λ front. front ≡ (web self.now).before dart) }
