@@ -3,7 +3,7 @@ ghost use Rattle.std.specs.Prelude.{◌≤◌};
 ghost use Rattle.ruled_lanes.specs.declared.limits.TheConstants.{MAX_CAPACITY};
 
 use collector::{
-    Batch, IoSink, MAX_LANES, MemOpener, OpenGate, run_batch, run_plain, write_report,
+    Batch, Choice, IoSink, MAX_LANES, MemOpener, OpenGate, run_batch, run_plain, write_report,
 };
 use std::alloc::{AllocError, Global};
 use std::sync::Wait;
@@ -31,7 +31,7 @@ fn report_of(alloc: Global, batch: &Batch) -> Result<Vec<u8>, AllocError> {
 
 /// The report of a run on one thread.
 fn report_of_plain(alloc: Global, opener: &MemOpener, files: u32) -> Result<Vec<u8>, AllocError> {
-    let batch = run_plain(alloc, opener, files).map_err(|_| AllocError)?;
+    let batch = run_plain(alloc, opener, files, Choice::First).map_err(|_| AllocError)?;
     report_of(alloc, &batch)
 }
 
@@ -46,7 +46,7 @@ fn report_of_lanes<R: AllocGlobal + Threads + Wait + Sync>(
     requires capacity { (1 ≤ capacity) × (capacity ≤ MAX_CAPACITY) }
 {
     let alloc = rt.alloc();
-    let batch = run_batch(rt, alloc, opener, files, lanes, capacity, &OpenGate).map_err(
+    let batch = run_batch(rt, alloc, opener, files, lanes, capacity, Choice::First, &OpenGate).map_err(
         |_| AllocError,
     )?;
     report_of(alloc, &batch)

@@ -60,7 +60,7 @@ pub fn run_batch<R: Threads + Wait + Sync, O: Opener, G: Gate>(
         Ok(drafts) => drafts,
         Err(LaneFault::Memory) => return Err(BatchFault::Memory),
         Err(LaneFault::Lost) => return Err(BatchFault::LaneLost),
-        Err(LaneFault::Unheard) => return Err(BatchFault::LaneLost),
+        Err(LaneFault::StopRefused) => return Err(BatchFault::LaneLost),
         Err(LaneFault::Thread) => return Err(BatchFault::Thread),
     };
     match bind(alloc, drafts) {

@@ -14,7 +14,7 @@ use Rattle.lanes.specs.Notes.{About, Note, notes, GoOn, IsStopped}
 use Rattle.lanes.specs.Opening.{Meaning}
 use Rattle.lanes.specs.Files.{HasDrawn, TellsDrawn}
 use Rattle.lane_runs.specs.declared.fault.LaneFault.{LaneFault}
-use Rattle.lane_runs.specs.declared.fault.LaneFault.TheVariants.{Unheard}
+use Rattle.lane_runs.specs.declared.fault.LaneFault.TheVariants.{StopRefused}
 
 module _ {A : Type 0} where
   -- both ends of a link that has room for so many messages, and that nothing has passed
@@ -36,11 +36,11 @@ module _ {A : Type 0} where
     pub to_same : GivesToSame giver after
     pub tells : TellsSeat about choice meaning tickets seat (given after)
 
-  -- what a lane gives back: the end of its own lane, where one stop came last, whatever the lane met, unless it was
+  -- what a lane gives back: the end of its own lane, where one stop came last, whatever the lane met, or none where it was
   -- refused; and its seat where nothing was lost
   pub record EndsLane (about : A → About) (choice : Choice) (meaning : ℕ → Meaning) (tickets : Tickets) (giver after : LaneGiver (Message A)) (seat : Result Seat LaneFault) : Type 0 where
     pub to_same : GivesToSameLane giver after
-    pub stopped : IsStopped (notes about (given_at after)) ⊎ (seat ≡ Err Unheard)
+    pub stopped : IsStopped (notes about (given_at after)) ⊎ ((seat ≡ Err StopRefused) × GoOn (notes about (given_at after)))
     pub tells : IfOk seat (λ s. TellsSeat about choice meaning tickets s (given_at after))
 
 -- so far all is told of the files that were drawn, and there was no stop

@@ -10,5 +10,5 @@ pub enum LaneFault {
     /// A thread could not be started.
     Thread,
     /// The gatherer was gone, so that the stop of the lane was refused.
-    Unheard,
+    StopRefused,
 }

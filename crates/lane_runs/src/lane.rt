@@ -63,7 +63,7 @@ pub fn run_lane<L: Line, R: Threads + Wait + Sync, O: Opener, G: Gate>(
         Ok(()) => LaneEnd { giver, seat },
         Err(_) => LaneEnd {
             giver,
-            seat: Err(LaneFault::Unheard),
+            seat: Err(LaneFault::StopRefused),
         },
     }
 }

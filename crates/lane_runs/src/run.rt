@@ -30,7 +30,7 @@ use std::thread::{Scope, Threads};
 /// # Errors
 ///
 /// `Memory`: there was none for links, the fan, tickets, buffers or drafts. `Lost`: an end of a link or of
-/// the fan was gone. `Thread`: a thread could not be started. `Unheard`: the stop of a lane was refused.
+/// the fan was gone. `Thread`: a thread could not be started. `StopRefused`: the stop of a lane was refused.
 pub fn drafts_of_lanes<L: Line, R: Threads + Wait + Sync, O: Opener, G: Gate>(
     rt: &R,
     alloc: Global,
