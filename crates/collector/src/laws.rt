@@ -9,8 +9,8 @@ ghost use Rattle.collector.specs.Headline.{IsWholeRun, HasMemory};
 /// Where `run_plain` or `run_batch` hands out books, the book of each file that opens and gives all
 /// its bytes, and in which no want of memory stands, has one entry for each record of these bytes,
 /// each once and in order, and their ending as its mark. Each entry names the first rule that its
-/// record breaks, or gives an orthogonal representation with the fewest bends of the record's embedding
-/// and chosen outer face, and coordinates, where given, draw it without crossings.
+/// record breaks, or gives an orthogonal representation of its embedding and chosen outer face with the
+/// fewest bends, and coordinates, where given, draw it without crossings.
 pub fn whole_run()
     ensures { (choice : Choice) (meaning : ℕ → Meaning) (files : ℕ) (books : List Pages) (other : Pages)
         → AreAllBooks choice meaning files books

@@ -18,6 +18,9 @@ use streams::BatchFault;
 /// How many lanes a run has at most.
 pub const MAX_LANES: u32 = LANES;
 
+const _: () = prove!(MAX_FILES == 256);
+const _: () = prove!(MAX_LANES == 8);
+
 /// Reads the first `files` files of the opener and answers each record under this choice of the outer face,
 /// in lanes of four threads each:
 /// one reads the files, one reads graphs and traces faces, one finds shapes, one draws. A lane draws its

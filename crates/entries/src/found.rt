@@ -11,7 +11,7 @@ use ortho_rep::{Prices, Shape};
 pub enum Answer {
     /// The record breaks no rule.
     Laid {
-        /// Its neighbour lists with their faces.
+        /// Its neighbour lists with their faces and the chosen outer face.
         plane: Plane,
         /// A shape of the plane with the fewest bends.
         shape: Shape,
