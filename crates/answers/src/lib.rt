@@ -5,8 +5,8 @@
 
 mod embedded;
 mod framed;
-mod layout;
 mod laying;
+mod layout;
 mod refusal;
 mod shaped;
 mod stages;

@@ -210,7 +210,17 @@ fn fault_of<R: AllocGlobal + Threads + Wait + Sync>(
     lanes: u32,
 ) -> Option<BatchFault> {
     let opener = MemOpener::new(Vec::new(rt.alloc()), 1);
-    run_batch(rt, rt.alloc(), &opener, files, lanes, 1, Choice::Best, &OpenGate).err()
+    run_batch(
+        rt,
+        rt.alloc(),
+        &opener,
+        files,
+        lanes,
+        1,
+        Choice::Best,
+        &OpenGate,
+    )
+    .err()
 }
 
 #[test]
@@ -547,7 +557,16 @@ fn names_want_of_memory(rt: HostRuntime) {
 fn names_a_refused_thread(rt: HostRuntime) -> Result<(), Fail> {
     let opener = opener_of(rt.alloc(), &[TRIANGLES, CUT, HEADER])?;
     for lanes in 1..=MAX_LANES {
-        match run_batch(&rt, rt.alloc(), &opener, 3, lanes, 1, Choice::First, &OpenGate) {
+        match run_batch(
+            &rt,
+            rt.alloc(),
+            &opener,
+            3,
+            lanes,
+            1,
+            Choice::First,
+            &OpenGate,
+        ) {
             Ok(batch) => assert_eq!(rt; batch.files(), 3),
             Err(fault) => assert_eq!(rt; fault, BatchFault::Thread),
         }
@@ -623,7 +642,16 @@ fn lets_every_source_go(rt: HostRuntime) -> Result<(), Fail> {
             opened: &opened,
             dropped: &dropped,
         };
-        let run = run_batch(&rt, rt.alloc(), &opener, 6, lanes, 1, Choice::First, &OpenGate);
+        let run = run_batch(
+            &rt,
+            rt.alloc(),
+            &opener,
+            6,
+            lanes,
+            1,
+            Choice::First,
+            &OpenGate,
+        );
         check_report(&rt, &run.map_err(|_| AllocError)?, OF_FAULTS);
         assert_eq!(rt; opened.load(Ordering::SeqCst), 5);
         assert_eq!(rt; dropped.load(Ordering::SeqCst), 5);

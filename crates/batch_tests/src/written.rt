@@ -4,8 +4,8 @@ ghost use Rattle.std.specs.Prelude.{◌≤◌, length};
 ghost use Rattle.books.specs.declared.limits.TheConstants.{MAX_FILES};
 
 use collector::{
-    Answer, BatchFault, Book, Cause, Choice, IoSink, Mark, MemOpener, WriteFault, push_cause, run_plain,
-    write_report,
+    Answer, BatchFault, Book, Cause, Choice, IoSink, Mark, MemOpener, WriteFault, push_cause,
+    run_plain, write_report,
 };
 use planar_code::Ending;
 use std::alloc::{AllocError, Global};
@@ -82,7 +82,9 @@ fn check_files<R: AllocGlobal + Abort>(rt: &R, files: &[&[u8]], report: &str) ->
 {
     for most in [1, 65_536] {
         let opener = MemOpener::new(copies(rt.alloc(), files)?, most);
-        let batch = run_plain(rt.alloc(), &opener, files.len() as u32, Choice::First).map_err(|_| AllocError)?;
+        let batch = run_plain(rt.alloc(), &opener, files.len() as u32, Choice::First).map_err(
+            |_| AllocError,
+        )?;
         let mut sink = IoSink::new(Vec::new(rt.alloc()));
         assert_eq!(rt; write_report(&batch, &mut sink), Ok(()));
         assert_eq!(rt;

@@ -30,7 +30,8 @@ impl Keep for Entries {
         rec: Record,
         choice: Choice,
     ) -> Result<(), AllocError> {
-        self.entries.push(answer(alloc, file, ordinal, rec, choice))?;
+        self.entries
+            .push(answer(alloc, file, ordinal, rec, choice))?;
         Ok(())
     }
 

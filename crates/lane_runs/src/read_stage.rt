@@ -46,7 +46,14 @@ pub fn read_stage<L: Line, O: Opener, R: Wait, G: Gate>(
                 Err(_) => None,
             };
         };
-        let mark = match read_file(opener, alloc, file, choice, buffer.as_mut_slice(), &mut gives) {
+        let mark = match read_file(
+            opener,
+            alloc,
+            file,
+            choice,
+            buffer.as_mut_slice(),
+            &mut gives,
+        ) {
             Ok(mark) => mark,
             Err(_) => return None,
         };

@@ -70,7 +70,8 @@ pub fn drafts_of_lanes<L: Line, R: Threads + Wait + Sync, O: Opener, G: Gate>(
                 → AreReady L.Entry.about choice (O.meaning opener.entry.now) 0 r.0.items)) }
         {
             run_lanes::<_, L, _, _, _>(
-                scope, rt, alloc, opener, gate, choice, dealt, capacity, seats, givers, gatherer, drafts,
+                scope, rt, alloc, opener, gate, choice, dealt, capacity, seats, givers, gatherer,
+                drafts,
             )
         },
     )?;
@@ -130,7 +131,9 @@ fn run_lanes<'s, E, L: Line + 's, R: Threads + Wait + Sync, O: Opener, G: Gate>(
             },
         }
     }
-    finish_lanes(rt, alloc, opener, choice, tickets, gatherer, running, idle, drafts)
+    finish_lanes(
+        rt, alloc, opener, choice, tickets, gatherer, running, idle, drafts,
+    )
 }
 
 /// Starts a lane in a thread of its own.
@@ -166,7 +169,11 @@ fn start_lane<'s, E, L: Line + 's, R: Threads + Wait + Sync, O: Opener, G: Gate>
         promise,
         move || -> LaneEnd<L::Entry>
             requires { (1 ≤ capacity) × (capacity ≤ MAX_CAPACITY) × IsSeatOf tickets.now seat × IsUnused seat × (given_at giver ≡ []) }
-        { run_lane::<L, _, _, _>(rt, alloc, opener, gate, choice, tickets, capacity, seat, giver) },
+        {
+            run_lane::<L, _, _, _>(
+                rt, alloc, opener, gate, choice, tickets, capacity, seat, giver,
+            )
+        },
     ) {
         Ok(handle) => Ok(handle),
         Err(_) => Err(LaneFault::Thread),

@@ -66,7 +66,11 @@ pub fn start_read<'s, E, L: Line + 's, R: Threads + Wait + Sync, O: Opener, G: G
         promise,
         move || -> Option<(Giver<Message<L::Framed>>, Seat)>
             requires { IsSeatOf tickets.now seat × IsUnused seat × (given giver ≡ []) × (vec_len buffer ≡ 65536) }
-        { read_stage::<L, _, _, _>(rt, alloc, opener, gate, choice, lane, tickets, seat, buffer, giver) },
+        {
+            read_stage::<L, _, _, _>(
+                rt, alloc, opener, gate, choice, lane, tickets, seat, buffer, giver,
+            )
+        },
     ) {
         Ok(started) => Ok(started),
         Err(_) => Err(LaneFault::Thread),

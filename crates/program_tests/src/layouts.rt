@@ -90,7 +90,12 @@ where
     write_parts(rt, "body.pc", &[HEADER, body])?;
     let report = format!(in rt.alloc(); "file 1\n{lines}\n")?;
     check(rt, &["layout", "body.pc"], report.as_str(), status)?;
-    check(rt, &["layout", "--outer", "best", "body.pc"], report.as_str(), status)
+    check(
+        rt,
+        &["layout", "--outer", "best", "body.pc"],
+        report.as_str(),
+        status,
+    )
 }
 
 /// Known graphs, each in a file of its own, with their fewest bends.
@@ -123,14 +128,14 @@ fn lays_out_known_graphs(rt: HostRuntime) -> Result<(), Fail> {
 
 /// A cube with a ninth vertex that is joined to all corners of one face.
 const CAPPED_CUBE: &[u8] = &[
-    9, 5, 4, 2, 0, 3, 6, 1, 0, 4, 7, 2, 0, 1, 8, 3, 0, 1, 6, 9, 8, 0, 2, 7, 9, 5, 0, 3, 8, 9, 6, 0, 4,
-    5, 9, 7, 0, 5, 6, 7, 8, 0,
+    9, 5, 4, 2, 0, 3, 6, 1, 0, 4, 7, 2, 0, 1, 8, 3, 0, 1, 6, 9, 8, 0, 2, 7, 9, 5, 0, 3, 8, 9, 6, 0,
+    4, 5, 9, 7, 0, 5, 6, 7, 8, 0,
 ];
 
 /// The same with a tenth vertex on the edge from 1 to 5.
 const LONGER_CUBE: &[u8] = &[
-    10, 10, 4, 2, 0, 3, 6, 1, 0, 4, 7, 2, 0, 1, 8, 3, 0, 10, 6, 9, 8, 0, 2, 7, 9, 5, 0, 3, 8, 9, 6, 0,
-    4, 5, 9, 7, 0, 5, 6, 7, 8, 0, 1, 5, 0,
+    10, 10, 4, 2, 0, 3, 6, 1, 0, 4, 7, 2, 0, 1, 8, 3, 0, 10, 6, 9, 8, 0, 2, 7, 9, 5, 0, 3, 8, 9, 6,
+    0, 4, 5, 9, 7, 0, 5, 6, 7, 8, 0, 1, 5, 0,
 ];
 
 /// Graphs that need fewer bends with another outer face than the widest one.
@@ -148,7 +153,12 @@ fn chooses_the_outer_face(rt: HostRuntime) -> Result<(), Fail> {
         graph 2 ok n=10 m=17 f=9 bends=8 drawn=yes\n\
         end complete graphs=2\n";
     check(&rt, &["layout", "--outer", "best", "cubes.pc"], best, 0)?;
-    check(&rt, &["layout", "cubes.pc", "--lanes=2", "--outer=best"], best, 0)
+    check(
+        &rt,
+        &["layout", "cubes.pc", "--lanes=2", "--outer=best"],
+        best,
+        0,
+    )
 }
 
 /// Graphs that break a rule, each in a file of its own.
@@ -294,7 +304,11 @@ fn refuses_other_command_lines(rt: HostRuntime) -> Result<(), Fail> {
         &["layout", "--outer", "widest", "a"],
         "invalid value 'widest' for '--outer <CHOICE>'\n  [possible values: first, best]\n",
     )?;
-    check_refused(&rt, &["frames", "--outer", "best", "a"], "unexpected argument '--outer' found")?;
+    check_refused(
+        &rt,
+        &["frames", "--outer", "best", "a"],
+        "unexpected argument '--outer' found",
+    )?;
     check_refused(
         &rt,
         &["frames", "--json", "a"],

@@ -258,7 +258,14 @@ fn names_want_of_memory(rt: HostRuntime) {
     let mut shelf = Shelf {
         records: Vec::new(rt.alloc()),
     };
-    match read_file(&opener, rt.alloc(), 0, Choice::First, buffer.as_mut_slice(), &mut shelf) {
+    match read_file(
+        &opener,
+        rt.alloc(),
+        0,
+        Choice::First,
+        buffer.as_mut_slice(),
+        &mut shelf,
+    ) {
         Ok(Mark::Ended(Ending::Memory)) | Err(AllocError) => {
             assert!(rt; shelf.records.len() < 2);
         }

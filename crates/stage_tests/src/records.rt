@@ -129,25 +129,49 @@ fn answers_known_records(rt: HostRuntime) -> Result<(), Fail> {
 
 /// A cube with a ninth vertex that is joined to all corners of one face.
 const CAPPED_CUBE: [u8; 42] = [
-    9, 5, 4, 2, 0, 3, 6, 1, 0, 4, 7, 2, 0, 1, 8, 3, 0, 1, 6, 9, 8, 0, 2, 7, 9, 5, 0, 3, 8, 9, 6, 0, 4,
-    5, 9, 7, 0, 5, 6, 7, 8, 0,
+    9, 5, 4, 2, 0, 3, 6, 1, 0, 4, 7, 2, 0, 1, 8, 3, 0, 1, 6, 9, 8, 0, 2, 7, 9, 5, 0, 3, 8, 9, 6, 0,
+    4, 5, 9, 7, 0, 5, 6, 7, 8, 0,
 ];
 
 /// The same with a vertex on the edge from 1 to 5, so that the face with fewest bends is not among those
 /// with most darts.
 const LONGER_CUBE: [u8; 45] = [
-    10, 10, 4, 2, 0, 3, 6, 1, 0, 4, 7, 2, 0, 1, 8, 3, 0, 10, 6, 9, 8, 0, 2, 7, 9, 5, 0, 3, 8, 9, 6, 0,
-    4, 5, 9, 7, 0, 5, 6, 7, 8, 0, 1, 5, 0,
+    10, 10, 4, 2, 0, 3, 6, 1, 0, 4, 7, 2, 0, 1, 8, 3, 0, 10, 6, 9, 8, 0, 2, 7, 9, 5, 0, 3, 8, 9, 6,
+    0, 4, 5, 9, 7, 0, 5, 6, 7, 8, 0, 1, 5, 0,
 ];
 
 /// Another face than the widest one needs fewer bends.
 #[test]
 fn chooses_the_outer_face(rt: HostRuntime) -> Result<(), Fail> {
     let alloc = rt.alloc();
-    answers(&rt, alloc, &CAPPED_CUBE, Choice::First, Said::Drawn(9, 16, 9, 10))?;
-    answers(&rt, alloc, &CAPPED_CUBE, Choice::Best, Said::Drawn(9, 16, 9, 8))?;
-    answers(&rt, alloc, &LONGER_CUBE, Choice::First, Said::Drawn(10, 17, 9, 9))?;
-    answers(&rt, alloc, &LONGER_CUBE, Choice::Best, Said::Drawn(10, 17, 9, 8))?;
+    answers(
+        &rt,
+        alloc,
+        &CAPPED_CUBE,
+        Choice::First,
+        Said::Drawn(9, 16, 9, 10),
+    )?;
+    answers(
+        &rt,
+        alloc,
+        &CAPPED_CUBE,
+        Choice::Best,
+        Said::Drawn(9, 16, 9, 8),
+    )?;
+    answers(
+        &rt,
+        alloc,
+        &LONGER_CUBE,
+        Choice::First,
+        Said::Drawn(10, 17, 9, 9),
+    )?;
+    answers(
+        &rt,
+        alloc,
+        &LONGER_CUBE,
+        Choice::Best,
+        Said::Drawn(10, 17, 9, 8),
+    )?;
     for (bytes, choice, face) in [
         (CAPPED_CUBE.as_slice(), Choice::First, 0),
         (CAPPED_CUBE.as_slice(), Choice::Best, 2),
