@@ -1,5 +1,6 @@
 //! What the program does with its words.
 ghost use Rattle.std.specs.Prelude.{◌≡◌, ◌≤◌, ◌⊎◌, ℕ, true, false, IfOk, IfErr, OnOk};
+ghost use Rattle.choices.specs.declared.Choice.{Choice};
 ghost use Rattle.reports.specs.declared.form.Form.{Form};
 ghost use Rattle.program_io.specs.Refusals.{IsRefusal};
 ghost use Rattle.clap.specs.Words.{kind_of};
@@ -47,7 +48,8 @@ where
     // one does not or lacks an answer for want of memory.
     ensures reported { result ≡ 3
         → IsReported (S.taken out.old) (S.taken out.new) (S.failed out.new) 3
-        ⊎ ((form : Form) × (files : ℕ) × IsLaidOut form files (S.taken out.old) (S.taken out.new) (S.failed out.new) 3) }
+        ⊎ ((choice : Choice) × (form : Form) × (files : ℕ)
+        × IsLaidOut choice form files (S.taken out.old) (S.taken out.new) (S.failed out.new) 3) }
 
     // Where no word asks for help, status 0 comes with a whole report too; and with 0 and 3 the report
     // is that of all files of a request, which the words name.
