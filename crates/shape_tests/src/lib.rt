@@ -3,6 +3,8 @@
 #![tactic(auto)]
 
 #[cfg(test)]
+mod best;
+#[cfg(test)]
 mod refused;
 #[cfg(test)]
 mod tests;

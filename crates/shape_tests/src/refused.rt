@@ -2,10 +2,11 @@
 //! what was lent is then as it was, and a second call answers as without the refusal. Where a refusal comes
 //! before the call, the test ends.
 
+use crate::best::NINTH;
 use crate::tests::{TRIANGLE, plane_in};
 use flow_network::FaceNet;
 use min_cost_flow::{Arc, Cap, Network, SolveFault, solve};
-use ortho_rep::{certify, is_shape, least_shape};
+use ortho_rep::{best_shape, certify, is_shape, least_shape};
 use planar_code::{Ending, frame, split};
 use std::alloc::{AllocError, Global};
 use std::process::Abort;
@@ -104,5 +105,22 @@ fn least_shapes(rt: HostRuntime) -> Result<(), Fail> {
     };
     assert_eq!(rt; shape.bends(), 1);
     assert!(rt; is_shape(&plane, &shape) && certify(&plane, &shape, &prices));
+    Ok(())
+}
+
+#[test]
+fn best_shapes(rt: HostRuntime) -> Result<(), Fail> {
+    let alloc = rt.alloc();
+    let Some(mut plane) = plane_in(alloc, &NINTH) else {
+        return Ok(());
+    };
+    let (shape, _prices) = match best_shape(alloc, &mut plane) {
+        Ok(found) => found,
+        Err(AllocError) => {
+            assert_eq!(rt; plane.outer(), 0);
+            best_shape(alloc, &mut plane)?
+        }
+    };
+    assert_eq!(rt; (shape.bends(), plane.outer()), (8, 2));
     Ok(())
 }
