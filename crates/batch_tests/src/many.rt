@@ -46,9 +46,17 @@ fn report_of_lanes<R: AllocGlobal + Threads + Wait + Sync>(
     requires capacity { (1 ≤ capacity) × (capacity ≤ MAX_CAPACITY) }
 {
     let alloc = rt.alloc();
-    let batch = run_batch(rt, alloc, opener, files, lanes, capacity, Choice::First, &OpenGate).map_err(
-        |_| AllocError,
-    )?;
+    let batch = run_batch(
+        rt,
+        alloc,
+        opener,
+        files,
+        lanes,
+        capacity,
+        Choice::First,
+        &OpenGate,
+    )
+    .map_err(|_| AllocError)?;
     report_of(alloc, &batch)
 }
 

@@ -4,8 +4,8 @@ ghost use Rattle.std.specs.Prelude.{◌<◌, ◌≤◌, false, None};
 ghost use Rattle.lanes.specs.Opening.{Silent};
 
 use collector::{
-    Answer, Batch, BatchFault, Book, Choice, Gate, IoSink, MAX_LANES, Mark, MemOpener, MemTap, OpenFault,
-    OpenGate, Opener, Stage, Tap, TapFault, run_batch, run_plain, write_report,
+    Answer, Batch, BatchFault, Book, Choice, Gate, IoSink, MAX_LANES, Mark, MemOpener, MemTap,
+    OpenFault, OpenGate, Opener, Stage, Tap, TapFault, run_batch, run_plain, write_report,
 };
 use planar_code::Ending;
 use std::alloc::{AllocError, Global};

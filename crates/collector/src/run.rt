@@ -19,6 +19,7 @@ use streams::BatchFault;
 pub const MAX_LANES: u32 = LANES;
 
 const _: () = prove!(MAX_FILES == 256);
+
 const _: () = prove!(MAX_LANES == 8);
 
 /// Reads the first `files` files of the opener and answers each record under this choice of the outer face,

@@ -155,7 +155,9 @@ fn describe_layout<'a>(alloc: Global) -> Result<Command<'a>, AllocError> {
     let outer = Arg::new(alloc, "outer")
         .long("outer")
         .value_name("CHOICE")
-        .help("The outer face: first is the one with the most edges round it, best the one with which the fewest bends are needed")
+        .help(
+            "The outer face: first is the one with the most edges round it, best the one with which the fewest bends are needed",
+        )
         .value_parser(OUTER)
         .default_value("first");
     let json = Arg::new(alloc, "json")
