@@ -10,6 +10,9 @@ import time
 
 ROOT = os.path.dirname(os.path.dirname(os.path.abspath(__file__)))
 
+KINDS = [("cubic", "250", "1"), ("medial", "249", "2"), ("grid", "250", "3"), ("tree", "250", "4")]
+SMALL = os.path.join(ROOT, "crates/corpus/data/planar_d4_n8.pc")
+
 # One run: wall seconds, processor seconds, peak bytes and a digest of the output.
 Run = collections.namedtuple("Run", "seconds processor peak digest")
 
@@ -80,3 +83,24 @@ def run(words, stderr=None):
     if status != 0:
         sys.exit(f"{words} ended with status {status}")
     return Run(seconds, used.ru_utime + used.ru_stime, used.ru_maxrss * 1024, digest.hexdigest())
+
+
+def files(folder, count):
+    """Files of so many random graphs of each kind, and the one of small graphs."""
+    paths = []
+    for kind, vertices, seed in KINDS:
+        paths.append(os.path.join(folder, f"{kind}{vertices}.pc"))
+        words = [sys.executable, os.path.join(ROOT, "bench/outside/generate.py"), kind, vertices, str(count), seed]
+        with open(paths[-1], "wb") as out:
+            subprocess.run(words, check=True, stdout=out)
+    return paths + [shutil.copy(SMALL, folder)]
+
+
+def text_of(words):
+    """What a program prints."""
+    return subprocess.run(words, check=True, stdout=subprocess.PIPE, stderr=subprocess.DEVNULL, text=True).stdout
+
+
+def figures(words):
+    """The figures that a program prints in one line, by name."""
+    return {name: int(figure) for name, _, figure in (word.partition("=") for word in text_of(words).split())}
