@@ -1,5 +1,5 @@
 """Reads planar_code, one record at a time, and traces the faces of a record: what split.py, svg.py and
-scripts of bench/ and checks/ share. Python's standard library alone."""
+scripts of bench/ share. Python's standard library alone."""
 from __future__ import annotations
 
 import collections
