@@ -1,7 +1,7 @@
 // For each graph of a planar_code file: rules, faces, and the fewest bends, by LEMON's network simplex.
 // Prints the lines of the report up to the bends; `planes` as second argument stops behind the faces, `best`
-// tries each face as the outer one, and `quiet` prints totals alone. `times` and a number print one line: the nanoseconds that building and
-// solving the networks took, each the least of so many times, all graphs together.
+// tries each face as the outer one, and `quiet` prints totals alone. `times` and a number print one line: the
+// nanoseconds that building and solving the networks took, each the least of so many times, all graphs together.
 #include "planar.hpp"
 #include <chrono>
 #include <cstdlib>
