@@ -7,7 +7,8 @@ ghost use Rattle.ruled_lanes.specs.FanRule.{gatherer, giver, given_in};
 
 use crate::errors::Closed;
 use crate::fan_rule::{EachLane, Fanned, Gives, NewLane, Reach, Takes};
-use crossbeam_channel::{Pass, RuledReceiver, RuledSender};
+use crate::lingering::{TRIES, linger};
+use crossbeam_channel::{Pass, RuledReceiver, RuledSender, TryRecvError, TrySendError};
 use std::sync::Wait;
 
 /// The end of a fan that gives at one lane, whose number travels with each item. It cannot be copied,
@@ -34,6 +35,7 @@ pub struct Gatherer<T: Drop> {
 
 impl<T: Drop> LaneGiver<T> {
     ghost use Rattle.std.specs.Prelude.{◌∷◌, ◌++◌, [], OnOk, OnErr, IfErr};
+    ghost use Rattle.crossbeam_channel.specs.Err.{try_send_message};
     ghost use Rattle.ruled_lanes.specs.FanEnds.{lane_of, given_at, GivesToSameLane};
 
     // The end of a channel that sends, with the pass of one lane.
@@ -58,10 +60,19 @@ impl<T: Drop> LaneGiver<T> {
         self.lane
     }
 
-    /// Adds an item of its lane at the end of the fan, in one step, and waits while the fan is full.
-    /// `Closed` hands the item back, and then what was given stays as it was. No clause says when
-    /// `Closed` comes: it does where the gatherer is gone. It takes no memory.
-    pub fn give<R: Wait>(&mut self, rt: &R, item: T) -> Result<(), Closed<T>>
+    // Adds an item of its lane where the fan has room for it, else hands it back.
+    fn try_give<R: Wait>(&mut self, rt: &R, item: T) -> Result<(), TrySendError<(u32, T)>>
+        ensures lane { GivesToSameLane self.old self.new }
+        ensures ok { OnOk result (given_at self.new ≡ given_at self.old ++ item ∷ []) }
+        ensures refused { OnErr result (given_at self.new ≡ given_at self.old) }
+        ensures item { IfErr result (λ e. (try_send_message e).1 ≡ item) }
+    {
+        self.sender
+            .try_send_as::<Gives, R>(rt, &mut self.pass, (self.lane, item))
+    }
+
+    // Adds an item of its lane, and sleeps while the fan is full.
+    fn wait_and_give<R: Wait>(&mut self, rt: &R, item: T) -> Result<(), Closed<T>>
         ensures lane { GivesToSameLane self.old self.new }
         ensures ok { OnOk result (given_at self.new ≡ given_at self.old ++ item ∷ []) }
         ensures refused { OnErr result (given_at self.new ≡ given_at self.old) }
@@ -74,6 +85,28 @@ impl<T: Drop> LaneGiver<T> {
             Ok(()) => Ok(()),
             Err(refused) => Err(Closed(refused.into_inner().1)),
         }
+    }
+
+    /// Adds an item of its lane at the end of the fan, in one step, and waits while the fan is full: at
+    /// first it tries again for some microseconds, then its thread sleeps. `Closed` hands the item back,
+    /// and then what was given stays as it was. No clause says when `Closed` comes: it does where the
+    /// gatherer is gone. It takes no memory.
+    pub fn give<R: Wait>(&mut self, rt: &R, item: T) -> Result<(), Closed<T>>
+        ensures lane { GivesToSameLane self.old self.new }
+        ensures ok { OnOk result (given_at self.new ≡ given_at self.old ++ item ∷ []) }
+        ensures refused { OnErr result (given_at self.new ≡ given_at self.old) }
+        ensures item { IfErr result (λ e. e.0 ≡ item) }
+    {
+        let mut held = item;
+        for _ in 0..TRIES {
+            match self.try_give(rt, held) {
+                Ok(()) => return Ok(()),
+                Err(TrySendError::Full((_, back))) => held = back,
+                Err(refused) => return Err(Closed(refused.into_inner().1)),
+            }
+            linger();
+        }
+        self.wait_and_give(rt, held)
     }
 }
 
@@ -94,32 +127,47 @@ impl<T: Drop> Gatherer<T> {
         Gatherer { receiver, pass }
     }
 
-    // The item at the front of the channel, or none where all givers are gone.
-    fn receive<R: Wait>(&mut self, rt: &R) -> Option<(u32, T)>
+    // The item at the front of the channel, where there is one.
+    fn try_receive<R: Wait>(&mut self, rt: &R) -> Result<(u32, T), TryRecvError>
         ensures fan { TakesFromSameFan self.old self.new }
-        ensures lane { IfSome result (λ item. item.0 < LANES) }
-        ensures some { IfSome result (λ item. gathered self.new ≡ gathered self.old ++ item ∷ []) }
-        ensures none { IfNone result (gathered self.new ≡ gathered self.old) }
+        ensures lane { IfOk result (λ item. item.0 < LANES) }
+        ensures ok { IfOk result (λ item. gathered self.new ≡ gathered self.old ++ item ∷ []) }
+        ensures refused { OnErr result (gathered self.new ≡ gathered self.old) }
+    {
+        self.receiver.try_recv_as::<Takes, R>(rt, &mut self.pass)
+    }
+
+    // The item at the front of the channel; it sleeps while there is none.
+    fn wait_and_receive<R: Wait>(&mut self, rt: &R) -> Result<(u32, T), Closed<()>>
+        ensures fan { TakesFromSameFan self.old self.new }
+        ensures lane { IfOk result (λ item. item.0 < LANES) }
+        ensures ok { IfOk result (λ item. gathered self.new ≡ gathered self.old ++ item ∷ []) }
+        ensures refused { OnErr result (gathered self.new ≡ gathered self.old) }
     {
         match self.receiver.recv_as::<Takes, R>(rt, &mut self.pass) {
-            Ok(item) => Some(item),
-            Err(_) => None,
+            Ok(item) => Ok(item),
+            Err(_) => Err(Closed(())),
         }
     }
 
     /// The item at the front of the fan, with the number of its lane, taken in one step. It waits while
-    /// the fan is empty. After `Closed` what was taken stays as it was. No clause says when `Closed`
-    /// comes: it does where all givers are gone and all that they gave was taken. It takes no memory.
+    /// the fan is empty: at first it tries again for some microseconds, then its thread sleeps. After
+    /// `Closed` what was taken stays as it was. No clause says when `Closed` comes: it does where all
+    /// givers are gone and all that they gave was taken. It takes no memory.
     pub fn take<R: Wait>(&mut self, rt: &R) -> Result<(u32, T), Closed<()>>
         ensures fan { TakesFromSameFan self.old self.new }
         ensures lane { IfOk result (λ item. item.0 < LANES) }
         ensures ok { IfOk result (λ item. gathered self.new ≡ gathered self.old ++ item ∷ []) }
         ensures refused { OnErr result (gathered self.new ≡ gathered self.old) }
     {
-        match self.receive(rt) {
-            Some(item) => Ok(item),
-            None => Err(Closed(())),
+        for _ in 0..TRIES {
+            match self.try_receive(rt) {
+                Ok(item) => return Ok(item),
+                Err(TryRecvError::Empty) => linger(),
+                Err(TryRecvError::Disconnected) => return Err(Closed(())),
+            }
         }
+        self.wait_and_receive(rt)
     }
 
     // What the rule tells the pass that takes, of what the fan then holds.

@@ -9,6 +9,7 @@ mod errors;
 mod fan_ends;
 mod fan_rule;
 mod limits;
+mod lingering;
 mod link_ends;
 mod link_rule;
 mod new_fan;

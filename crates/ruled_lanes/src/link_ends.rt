@@ -5,8 +5,9 @@ ghost use Rattle.crossbeam_channel.specs.Ends.{sends_on, receives_on};
 ghost use Rattle.ruled_lanes.specs.LinkRule.{log};
 
 use crate::errors::Closed;
+use crate::lingering::{TRIES, linger};
 use crate::link_rule::{Gives, Linked, Log, Roles, Takes, Total};
-use crossbeam_channel::{Pass, RuledReceiver, RuledSender};
+use crossbeam_channel::{Pass, RuledReceiver, RuledSender, TryRecvError, TrySendError};
 use std::sync::Wait;
 
 /// The end of a link that gives. It cannot be copied, so it knows all that was ever given there.
@@ -29,6 +30,7 @@ pub struct Taker<T: Drop> {
 
 impl<T: Drop> Giver<T> {
     ghost use Rattle.std.specs.Prelude.{◌∷◌, ◌++◌, OnOk, OnErr, IfErr};
+    ghost use Rattle.crossbeam_channel.specs.Err.{try_send_message};
     ghost use Rattle.ruled_lanes.specs.LinkEnds.{given, GivesToSame};
 
     // The end of a channel that sends, with the pass that may.
@@ -40,10 +42,19 @@ impl<T: Drop> Giver<T> {
         Giver { sender, pass }
     }
 
-    /// Adds an item at the end of the link, in one step, and waits while the link is full. `Closed`
-    /// hands the item back, and then what was given stays as it was. No clause says when `Closed`
-    /// comes: it does where the taker is gone. It takes no memory.
-    pub fn give<R: Wait>(&mut self, rt: &R, item: T) -> Result<(), Closed<T>>
+    // Adds an item where the link has room for it, else hands it back.
+    fn try_give<R: Wait>(&mut self, rt: &R, item: T) -> Result<(), TrySendError<T>>
+        ensures link { GivesToSame self.old self.new }
+        ensures ok { OnOk result (given self.new ≡ given self.old ++ item ∷ []) }
+        ensures refused { OnErr result (given self.new ≡ given self.old) }
+        ensures item { IfErr result (λ e. try_send_message e ≡ item) }
+    {
+        self.sender
+            .try_send_as::<Gives, R>(rt, &mut self.pass, item)
+    }
+
+    // Adds an item, and sleeps while the link is full.
+    fn wait_and_give<R: Wait>(&mut self, rt: &R, item: T) -> Result<(), Closed<T>>
         ensures link { GivesToSame self.old self.new }
         ensures ok { OnOk result (given self.new ≡ given self.old ++ item ∷ []) }
         ensures refused { OnErr result (given self.new ≡ given self.old) }
@@ -53,6 +64,28 @@ impl<T: Drop> Giver<T> {
             Ok(()) => Ok(()),
             Err(refused) => Err(Closed(refused.into_inner())),
         }
+    }
+
+    /// Adds an item at the end of the link, in one step, and waits while the link is full: at first it
+    /// tries again for some microseconds, then its thread sleeps. `Closed` hands the item back, and then
+    /// what was given stays as it was. No clause says when `Closed` comes: it does where the taker is
+    /// gone. It takes no memory.
+    pub fn give<R: Wait>(&mut self, rt: &R, item: T) -> Result<(), Closed<T>>
+        ensures link { GivesToSame self.old self.new }
+        ensures ok { OnOk result (given self.new ≡ given self.old ++ item ∷ []) }
+        ensures refused { OnErr result (given self.new ≡ given self.old) }
+        ensures item { IfErr result (λ e. e.0 ≡ item) }
+    {
+        let mut held = item;
+        for _ in 0..TRIES {
+            match self.try_give(rt, held) {
+                Ok(()) => return Ok(()),
+                Err(TrySendError::Full(back)) => held = back,
+                Err(refused) => return Err(Closed(refused.into_inner())),
+            }
+            linger();
+        }
+        self.wait_and_give(rt, held)
     }
 }
 
@@ -69,30 +102,44 @@ impl<T: Drop> Taker<T> {
         Taker { receiver, pass }
     }
 
-    // The item at the front of the channel, or none where the giver is gone.
-    fn receive<R: Wait>(&mut self, rt: &R) -> Option<T>
+    // The item at the front of the channel, where there is one.
+    fn try_receive<R: Wait>(&mut self, rt: &R) -> Result<T, TryRecvError>
         ensures link { TakesFromSame self.old self.new }
-        ensures some { IfSome result (λ item. taken self.new ≡ taken self.old ++ item ∷ []) }
-        ensures none { IfNone result (taken self.new ≡ taken self.old) }
+        ensures ok { IfOk result (λ item. taken self.new ≡ taken self.old ++ item ∷ []) }
+        ensures refused { OnErr result (taken self.new ≡ taken self.old) }
+    {
+        self.receiver.try_recv_as::<Takes, R>(rt, &mut self.pass)
+    }
+
+    // The item at the front of the channel; it sleeps while there is none.
+    fn wait_and_receive<R: Wait>(&mut self, rt: &R) -> Result<T, Closed<()>>
+        ensures link { TakesFromSame self.old self.new }
+        ensures ok { IfOk result (λ item. taken self.new ≡ taken self.old ++ item ∷ []) }
+        ensures refused { OnErr result (taken self.new ≡ taken self.old) }
     {
         match self.receiver.recv_as::<Takes, R>(rt, &mut self.pass) {
-            Ok(item) => Some(item),
-            Err(_) => None,
+            Ok(item) => Ok(item),
+            Err(_) => Err(Closed(())),
         }
     }
 
-    /// The item at the front of the link, taken in one step. It waits while the link is empty. After
-    /// `Closed` what was taken stays as it was. No clause says when `Closed` comes: it does where the
-    /// giver is gone and all that it gave was taken. It takes no memory.
+    /// The item at the front of the link, taken in one step. It waits while the link is empty: at first
+    /// it tries again for some microseconds, then its thread sleeps. After `Closed` what was taken stays
+    /// as it was. No clause says when `Closed` comes: it does where the giver is gone and all that it
+    /// gave was taken. It takes no memory.
     pub fn take<R: Wait>(&mut self, rt: &R) -> Result<T, Closed<()>>
         ensures link { TakesFromSame self.old self.new }
         ensures ok { IfOk result (λ item. taken self.new ≡ taken self.old ++ item ∷ []) }
         ensures refused { OnErr result (taken self.new ≡ taken self.old) }
     {
-        match self.receive(rt) {
-            Some(item) => Ok(item),
-            None => Err(Closed(())),
+        for _ in 0..TRIES {
+            match self.try_receive(rt) {
+                Ok(item) => return Ok(item),
+                Err(TryRecvError::Empty) => linger(),
+                Err(TryRecvError::Disconnected) => return Err(Closed(())),
+            }
         }
+        self.wait_and_receive(rt)
     }
 
     /// Takes in both ends of one link: what was taken, followed by what the link held, is what was
