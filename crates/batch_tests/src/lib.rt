@@ -3,9 +3,13 @@
 #![tactic(auto)]
 
 #[cfg(test)]
+mod held;
+#[cfg(test)]
 mod json;
 #[cfg(test)]
 mod many;
+#[cfg(test)]
+mod reported;
 #[cfg(test)]
 mod runs;
 #[cfg(test)]
