@@ -1,6 +1,8 @@
 //! Reports of runs, as the tests of this crate compare them.
 
-use collector::{Batch, Choice, Gate, IoSink, MemOpener, Opener, run_batch, run_plain, write_report};
+use collector::{
+    Batch, Choice, Gate, IoSink, MemOpener, Opener, run_batch, run_plain, write_report,
+};
 use std::alloc::Global;
 use std::process::Abort;
 use std::sync::Wait;
