@@ -1,12 +1,12 @@
 //! Sources that fail, files that do not open, and writers that take little: what came before stays. The bytes and
 //! the texts come from the descriptions of the format and of the report.
-ghost use Rattle.std.specs.Prelude.{◌≤◌, false, None, length};
+ghost use Rattle.std.specs.Prelude.{◌≤◌, false, None};
 ghost use Rattle.lanes.specs.Opening.{Silent};
 
 use crate::reported::{on_one_thread, over_lanes, same};
 use collector::{
-    Batch, Choice, IoSink, OpenFault, OpenGate, Opener, Tap, TapFault, WriteFault, run_batch,
-    run_plain, write_report,
+    Batch, BatchFault, Choice, IoSink, OpenFault, OpenGate, Opener, Tap, TapFault, WriteFault,
+    run_batch, run_plain, write_report,
 };
 use std::alloc::Global;
 use std::io;
@@ -158,26 +158,28 @@ fn other_files_than_a_refused_one_stay(rt: HostRuntime) -> Result<(), Fail> {
     check(&rt, &Three { fault }, 3, WITHOUT_THE_SECOND[1])
 }
 
-/// A writer that takes at most `most` bytes a write. Once it has `room` bytes, it fails or takes nothing.
+/// A writer that takes at most `most` bytes a write. Once it has `room` bytes, 211 at most, it fails or takes nothing.
 #[derive(Drop)]
 struct Narrow {
-    taken: Vec<u8>,
+    taken: [u8; 211],
+    len: usize,
     room: usize,
     most: usize,
     fails: bool,
+    ghost within: { len ≤ 211 },
 }
 
 impl Write for Narrow {
     fn write(&mut self, buf: &[u8]) -> io::Result<usize> {
-        let left = self.room.saturating_sub(self.taken.len());
+        let left = self.room.min(211).saturating_sub(self.len);
         if left == 0 && self.fails {
             return Err(io::Error::from(ErrorKind::Other));
         }
         let count = buf.len().min(left).min(self.most);
-        match self.taken.extend_from_slice(&buf[..count]) {
-            Ok(()) => Ok(count),
-            Err(_) => Err(io::Error::from(ErrorKind::OutOfMemory)),
-        }
+        let end = self.len + count;
+        self.taken[self.len..end].copy_from_slice(&buf[..count]);
+        self.len = end;
+        Ok(count)
     }
 
     fn flush(&mut self) -> io::Result<()> {
@@ -185,23 +187,22 @@ impl Write for Narrow {
     }
 }
 
-/// Writes the report of a batch to such a writer: how that ended, and what the writer has then.
+/// Writes the report of a batch to such a writer: how that ended, and the writer.
 fn written(
-    alloc: Global,
     batch: &Batch,
     room: usize,
     most: usize,
     fails: bool,
-) -> (Result<(), WriteFault>, Vec<u8>) {
+) -> (Result<(), WriteFault>, Narrow) {
     let mut sink = IoSink::new(Narrow {
-        taken: Vec::new(alloc),
+        taken: [0; 211],
+        len: 0,
         room,
         most,
         fails,
     });
     let ended = write_report(batch, &mut sink);
-    let Narrow { taken, .. } = sink.into_writer();
-    (ended, taken)
+    (ended, sink.into_writer())
 }
 
 const REPORT: &[u8] =
@@ -209,29 +210,28 @@ const REPORT: &[u8] =
     file 2\ngraph 1 ok n=2 m=1 f=1 bends=0 drawn=yes\nend truncated graphs=1\nfile 3\nend complete graphs=0\n";
 
 /// The writer took all of the report, or the first `room` bytes before it failed.
-fn check_writer(
-    rt: &impl Abort,
-    alloc: Global,
-    batch: &Batch,
-    room: usize,
-    most: usize,
-    fails: bool,
-) {
-    let (ended, taken) = written(alloc, batch, room, most, fails);
-    let whole = room >= REPORT.len();
-    assert!(rt; ended.is_ok() == whole);
-    assert!(rt; whole || ended == Err(WriteFault::Write));
-    same(rt, taken.as_slice(), REPORT.get(..room).unwrap_or(REPORT));
+fn check_writer(rt: &impl Abort, batch: &Batch, room: usize, most: usize, fails: bool) {
+    let (ended, writer) = written(batch, room, most, fails);
+    let whole = room >= 211;
+    assert!(rt;
+        ended
+            == if whole {
+                Ok(())
+            } else {
+                Err(WriteFault::Write)
+            }
+    );
+    same(rt, &writer.taken[..writer.len], &REPORT[..room.min(211)]);
 }
 
 /// Writes to writers of every room that fail or take nothing more, some of which take one byte a write; and to
 /// writers with room enough that take every number of bytes a write.
-fn check_writers(rt: &impl Abort, alloc: Global, batch: &Batch) {
-    for room in 0..=REPORT.len() {
-        check_writer(rt, alloc, batch, room, usize::MAX, true);
-        check_writer(rt, alloc, batch, room, usize::MAX, false);
-        check_writer(rt, alloc, batch, room, 1, true);
-        check_writer(rt, alloc, batch, usize::MAX, room + 1, true);
+fn check_writers(rt: &impl Abort, batch: &Batch) {
+    for room in 0..=211 {
+        check_writer(rt, batch, room, usize::MAX, true);
+        check_writer(rt, batch, room, usize::MAX, false);
+        check_writer(rt, batch, room, 1, true);
+        check_writer(rt, batch, 211, room + 1, true);
     }
 }
 
@@ -239,8 +239,24 @@ fn check_writers(rt: &impl Abort, alloc: Global, batch: &Batch) {
 fn a_beginning_is_written_before_a_fault(rt: HostRuntime) -> Result<(), Fail> {
     let opener = Three { fault: None };
     let alloc = rt.alloc();
-    check_writers(&rt, alloc, &run_plain(alloc, &opener, 3, Choice::First)?);
+    check_writers(&rt, &run_plain(alloc, &opener, 3, Choice::First)?);
     let batch = run_batch(&rt, alloc, &opener, 3, 2, 1, Choice::First, &OpenGate)?;
-    check_writers(&rt, alloc, &batch);
+    check_writers(&rt, &batch);
     Ok(())
+}
+
+/// `bench/refuse-allocations` refuses each allocation of this test in turn: a report is written all the same, and
+/// numbers that are refused are named.
+#[test]
+fn reports_take_no_memory(rt: HostRuntime) {
+    let (alloc, opener) = (rt.alloc(), Three { fault: None });
+    let many = run_plain(alloc, &opener, 257, Choice::First);
+    assert!(rt; many.err() == Some(BatchFault::TooManyFiles));
+    let lanes = run_batch(&rt, alloc, &opener, 3, 9, 1, Choice::First, &OpenGate);
+    assert!(rt; lanes.err() == Some(BatchFault::BadLanes));
+    if let Ok(batch) = run_plain(alloc, &opener, 3, Choice::First) {
+        let (ended, writer) = written(&batch, 211, 211, true);
+        assert!(rt; ended == Ok(()));
+        same(&rt, &writer.taken[..7], b"file 1\n");
+    }
 }
