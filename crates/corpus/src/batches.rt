@@ -87,7 +87,7 @@ pub fn read_files<R: Files + AllocGlobal>(rt: &R, names: &[String]) -> Result<Me
 }
 
 /// The text of a report.
-fn report_of(alloc: Global, batch: &Batch) -> Result<Vec<u8>> {
+pub fn report_of(alloc: Global, batch: &Batch) -> Result<Vec<u8>> {
     let mut sink = IoSink::new(Vec::new(alloc));
     write_report(batch, &mut sink)?;
     Ok(sink.into_writer())

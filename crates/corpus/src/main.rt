@@ -11,6 +11,8 @@
 //! All words after `plain` are files too: it tells how long a run over them takes on one thread; after
 //! `lanes`, the number of lanes and the room of the links between threads, how long a run over lanes
 //! takes.
+//! After `stress`, a seed and a number of rounds come files: it runs so often over random files of their graphs, over
+//! lanes whose stages are held up at random, and compares each report with that of a run on one thread.
 #![tactic(auto)]
 
 mod batches;
@@ -18,6 +20,7 @@ mod pieces;
 mod readback;
 mod run_times;
 mod stages;
+mod stress;
 mod times;
 
 use anyhow::Result;
@@ -26,6 +29,7 @@ use pieces::compare;
 use run_times::{time_lanes, time_plain};
 use stages::{Depth, report};
 use std::env;
+use stress::run_random;
 use times::tell_times;
 
 /// What is done with a file.
@@ -46,6 +50,7 @@ fn main(rt: HostRuntime) -> Result<()> {
             ("batches", _) => return compare_choices(&rt, rest),
             ("plain", _) => return time_plain(&rt, rest),
             ("lanes", _) => return time_lanes(&rt, rest),
+            ("stress", _) => return run_random(&rt, rest),
             ("pieces", _) => task = Task::Pieces,
             ("planes", _) => task = Task::Report(Depth::Planes),
             ("shapes", _) => task = Task::Report(Depth::Shapes),

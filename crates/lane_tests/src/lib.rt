@@ -6,4 +6,6 @@ mod fan;
 #[cfg(test)]
 mod link;
 #[cfg(test)]
+mod memory;
+#[cfg(test)]
 mod tickets;

@@ -1,0 +1,213 @@
+//! Runs over random files, with random lanes, capacities and sizes of reads, whose stages are held up at random.
+//! Each report must be that of a run on one thread. All numbers come from the seed: none from the time.
+ghost use Rattle.std.specs.Prelude.{◌<◌, ◌≤◌};
+
+use crate::batches::report_of;
+use crate::stages::records_of;
+use anyhow::{Context, Result, bail, ensure};
+use collector::{Batch, Choice, Gate, MAX_LANES, MemOpener, Stage, run_batch, run_plain};
+use planar_code::{HEADER, Record};
+use std::alloc::Global;
+use std::rt::{Clock, Files};
+use std::sync::Wait;
+use std::sync::atomic::{AtomicU64, Ordering};
+use std::thread;
+use std::thread::Threads;
+use std::time::Duration;
+use streams::MAX_CAPACITY;
+
+/// What is added to the state of a generator at each step, an odd number near 2^64 over the golden ratio.
+const STEP: u64 = 0x9E37_79B9_7F4A_7C15;
+
+/// The generator SplitMix64. Threads may share it.
+#[derive(Drop)]
+struct Numbers {
+    state: AtomicU64,
+}
+
+impl Numbers {
+    fn of(seed: u64) -> Numbers {
+        Numbers {
+            state: AtomicU64::new(seed),
+        }
+    }
+
+    /// The next number.
+    fn next(&self) -> u64 {
+        let state = self
+            .state
+            .fetch_add(STEP, Ordering::SeqCst)
+            .wrapping_add(STEP);
+        let mixed = (state ^ (state >> 30)).wrapping_mul(0xBF58_476D_1CE4_E5B9);
+        let mixed = (mixed ^ (mixed >> 27)).wrapping_mul(0x94D0_49BB_1331_11EB);
+        mixed ^ (mixed >> 31)
+    }
+
+    /// The next number, from 0 to `most`.
+    fn up_to(&self, most: u32) -> u32
+        ensures { result ≤ most }
+    {
+        (self.next() % (u64::from(most) + 1)) as u32
+    }
+
+    /// The next number, from 1 to `most`: small ones come more often.
+    fn small(&self, most: u32) -> u32
+        requires { 1 ≤ most }
+        ensures least { 1 ≤ result }
+        ensures most { result ≤ most }
+    {
+        let bound = self.up_to(most - 1);
+        self.up_to(bound) + 1
+    }
+}
+
+/// A gate that lets most calls pass at once, and holds others up for some turns or a short sleep.
+#[derive(Drop)]
+struct Holding<'r, R> {
+    rt: &'r R,
+    numbers: Numbers,
+}
+
+impl<R: Clock + Sync> Gate for Holding<'_, R> {
+    fn pass(&self, _lane: u32, _stage: Stage, _ordinal: u32) {
+        match self.numbers.up_to(19) {
+            0 => {
+                let time = u64::from(self.numbers.up_to(300));
+                thread::sleep(self.rt, Duration::from_micros(time));
+            }
+            1..=5 => {
+                for _ in 0..self.numbers.up_to(40) {
+                    thread::yield_now();
+                }
+            }
+            _ => {}
+        }
+    }
+}
+
+/// What the rounds ran over.
+#[derive(Clone, Copy)]
+struct Tally {
+    files: u32,
+    graphs: usize,
+    threads: u32,
+}
+
+/// The first two words are a seed and how many rounds there are. The files behind them have the graphs of
+/// which the rounds' files are made.
+pub fn run_random<R: Files + Print + AllocGlobal + Clock + Threads + Wait + Sync>(
+    rt: &R,
+    words: &[String],
+) -> Result<()> {
+    let [seed, rounds, names @ ..] = words else {
+        bail!("after `stress` come a seed, a number of rounds, and files");
+    };
+    let (seed, rounds) = (seed.parse::<u64>()?, rounds.parse::<u64>()?);
+    let mut records = Vec::new(rt.alloc());
+    for name in names {
+        records.append(&mut records_of(rt, name)?)?;
+    }
+    run_rounds(rt, seed, rounds, records.as_slice())
+}
+
+/// Runs the rounds, each with a generator of its own, and prints what they ran over.
+fn run_rounds<R: Print + AllocGlobal + Clock + Threads + Wait + Sync>(
+    rt: &R,
+    seed: u64,
+    rounds: u64,
+    records: &[Record],
+) -> Result<()> {
+    let (mut files, mut graphs, mut threads) = (0u64, 0usize, 0u64);
+    for round in 0..rounds {
+        let seed = seed.wrapping_add(round);
+        let found = run_round(rt, &Numbers::of(seed), records);
+        let found = found.context(format_args!("seed {seed}"))?;
+        files = files.saturating_add(u64::from(found.files));
+        graphs = graphs.saturating_add(found.graphs);
+        threads = threads.saturating_add(u64::from(found.threads));
+    }
+    println!(rt; "rounds={rounds} files={files} graphs={graphs} threads={threads}")?;
+    Ok(())
+}
+
+/// Runs over random files on one thread and over lanes: the reports must be the same.
+fn run_round<R: AllocGlobal + Clock + Threads + Wait + Sync>(
+    rt: &R,
+    numbers: &Numbers,
+    records: &[Record],
+) -> Result<Tally> {
+    let alloc = rt.alloc();
+    let opener = random_files(alloc, numbers, records)?;
+    // Past the last file, one may be refused.
+    let files = numbers.up_to(9);
+    let choice = random_choice(numbers);
+    let plain = run_plain(alloc, &opener, files, choice)?;
+    let graphs = graphs_of(&plain);
+    let report = report_of(alloc, &plain)?;
+    drop(plain);
+    let lanes = numbers.up_to(MAX_LANES - 1) + 1;
+    let capacity = numbers.small(MAX_CAPACITY);
+    let gate = Holding {
+        rt,
+        numbers: Numbers::of(numbers.next()),
+    };
+    let run = run_batch(rt, alloc, &opener, files, lanes, capacity, choice, &gate)?;
+    let same = report_of(alloc, &run)? == report;
+    ensure!(
+        same,
+        "another report over {lanes} lanes with room for {capacity}"
+    );
+    Ok(Tally {
+        files,
+        graphs,
+        threads: 4 * lanes,
+    })
+}
+
+/// How many records a batch has.
+fn graphs_of(batch: &Batch) -> usize {
+    let mut graphs: usize = 0;
+    for file in 0..batch.files() {
+        graphs = graphs.saturating_add(batch.book(file).entries().len());
+    }
+    graphs
+}
+
+/// Mostly the widest outer face.
+fn random_choice(numbers: &Numbers) -> Choice {
+    if numbers.up_to(3) == 0 {
+        Choice::Best
+    } else {
+        Choice::First
+    }
+}
+
+/// Up to eight files in memory, with reads of a random size.
+fn random_files(alloc: Global, numbers: &Numbers, records: &[Record]) -> Result<MemOpener> {
+    let mut files = Vec::new(alloc);
+    for _ in 0..numbers.up_to(8) {
+        files.push(random_file(alloc, numbers, records)?)?;
+    }
+    Ok(MemOpener::new(files, numbers.small(2_000) as usize))
+}
+
+/// The header and some of the records. Of four such files one is cut, or has another byte in one place.
+fn random_file(alloc: Global, numbers: &Numbers, records: &[Record]) -> Result<Vec<u8>> {
+    let mut bytes = HEADER.to_vec(alloc)?;
+    for _ in 0..numbers.up_to(12) {
+        let place = numbers.next() as usize % records.len().max(1);
+        let record = records.get(place).context("no records")?;
+        bytes.extend_from_slice(record.bytes())?;
+    }
+    let place = numbers.next() as usize % bytes.len().max(1);
+    match numbers.up_to(7) {
+        0 => bytes.truncate(place),
+        1 => {
+            if let Some(byte) = bytes.get_mut(place) {
+                *byte = numbers.up_to(12) as u8;
+            }
+        }
+        _ => {}
+    }
+    Ok(bytes)
+}

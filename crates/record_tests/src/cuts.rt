@@ -1,0 +1,150 @@
+//! Files that are cut behind each byte and fed in two pieces, beside a plain reading of the whole.
+
+use crate::known::{EDGE, OCTAHEDRON, STAR, TETRAHEDRON, TETRAHEDRON_ON_A_TORUS, TRIANGLE, same};
+use planar_code::{Ending, Framer, HEADER, Record};
+use std::alloc::Global;
+use std::process::Abort;
+use std::test::Fail;
+
+/// The header, and then the bytes.
+fn stream(alloc: Global, bytes: &[u8]) -> Result<Vec<u8>, Fail> {
+    let mut text = HEADER.to_vec(alloc)?;
+    text.extend_from_slice(bytes)?;
+    Ok(text)
+}
+
+/// Behind which place the record ends that begins here, or else how the text ends.
+fn end_of_record(text: &[u8], start: usize) -> Result<usize, Ending> {
+    let (mut lists, mut entries) = (0u32, 0u32);
+    for (place, byte) in text.iter().enumerate().skip(start) {
+        if place == start {
+            lists = u32::from(*byte);
+        } else if *byte == 0 {
+            lists = lists.saturating_sub(1);
+            entries = 0;
+        } else {
+            entries = entries.saturating_add(1);
+        }
+        match (lists, entries) {
+            (0, _) if place == start => return Err(Ending::Large),
+            (0, _) => return Ok(place.saturating_add(1)),
+            (_, 255) => return Err(Ending::Oversize),
+            _ => {}
+        }
+    }
+    Err(Ending::Truncated)
+}
+
+/// Behind which places the records of a text end, and how the text ends.
+fn read_plainly(alloc: Global, text: &[u8]) -> Result<(Vec<usize>, Ending), Fail> {
+    let mut ends = Vec::new(alloc);
+    let mut start = HEADER.len();
+    if !text.starts_with(&HEADER) {
+        return Ok((ends, Ending::Header));
+    }
+    for _ in text {
+        if start == text.len() {
+            break;
+        }
+        match end_of_record(text, start) {
+            Ok(end) => start = end,
+            Err(ending) => return Ok((ends, ending)),
+        }
+        ends.push(start)?;
+    }
+    Ok((ends, Ending::Complete))
+}
+
+/// The records of a text that is fed in two pieces, and how it ends.
+fn feed_both(alloc: Global, one: &[u8], two: &[u8]) -> Result<(Vec<Record>, Ending), Fail> {
+    let mut framer = Framer::new(alloc)?;
+    let mut records = Vec::new(alloc);
+    let _ = framer.feed(alloc, one, &mut records);
+    let _ = framer.feed(alloc, two, &mut records);
+    Ok((records, framer.finish()))
+}
+
+/// The records are the parts of the text that end in these places.
+fn are_parts(rt: &impl Abort, records: &[Record], text: &[u8], ends: &[usize]) {
+    same(rt, records.len(), ends.len());
+    let mut start = HEADER.len();
+    for (record, end) in records.iter().zip(ends) {
+        same(rt, Some(record.bytes()), text.get(start..*end));
+        start = *end;
+    }
+}
+
+/// Feeds a text in two pieces, divided in each place, and compares with the plain reading.
+fn divide(rt: &impl Abort, alloc: Global, text: &[u8]) -> Result<(), Fail> {
+    let (ends, ending) = read_plainly(alloc, text)?;
+    for place in 0..=text.len() {
+        let (one, two) = text.split_at(place);
+        let (records, found) = feed_both(alloc, one, two)?;
+        same(rt, found, ending);
+        are_parts(rt, records.as_slice(), text, ends.as_slice());
+    }
+    Ok(())
+}
+
+/// Cuts the header and these bytes behind each byte.
+fn cut(rt: &impl Abort, alloc: Global, bytes: &[u8]) -> Result<(), Fail> {
+    let text = stream(alloc, bytes)?;
+    for count in 0..=text.len() {
+        divide(rt, alloc, &text[..count])?;
+    }
+    Ok(())
+}
+
+/// Graphs, records that break a rule, and bytes that end badly.
+const FILES: [&[u8]; 17] = [
+    &EDGE,
+    &[1, 0],
+    &[2, 0, 0],
+    &TRIANGLE,
+    &TETRAHEDRON,
+    &TETRAHEDRON_ON_A_TORUS,
+    &OCTAHEDRON,
+    &STAR,
+    &[6, 2, 3, 4, 5, 6, 0, 1, 0, 1, 0, 1, 0, 1, 0, 1, 0],
+    &[2, 3, 0, 1, 0],
+    &[2, 2, 0, 0],
+    &[2, 1, 0, 0],
+    &[2, 2, 2, 0, 1, 1, 0],
+    &[4, 2, 0, 1, 0, 4, 0, 3, 0],
+    &[2, 2, 0, 1, 0, 2, 2, 0, 1],
+    &[2, 2, 0, 1, 0, 0],
+    &[2, 2, 0, 1, 0, 3, 2, 3, 0, 3, 1, 0, 1, 2, 0],
+];
+
+#[test]
+fn short_files_are_cut_anywhere(rt: HostRuntime) -> Result<(), Fail> {
+    for bytes in FILES {
+        cut(&rt, rt.alloc(), bytes)?;
+    }
+    Ok(())
+}
+
+/// A list of 254 entries that does not end, and one of 255.
+#[test]
+fn long_lists_are_cut_anywhere(rt: HostRuntime) -> Result<(), Fail> {
+    let mut bytes = vec![in rt.alloc(); 1u8; 256]?;
+    bytes[0] = 255;
+    cut(&rt, rt.alloc(), bytes.as_slice())
+}
+
+/// What is found of a triangle, where only so many bytes of its file are left.
+#[test]
+fn tells_where_a_triangle_was_cut(rt: HostRuntime) -> Result<(), Fail> {
+    let text = stream(rt.alloc(), &TRIANGLE)?;
+    for count in 0..=text.len() {
+        let want = match count {
+            0..=14 => (0, Ending::Header),
+            15 => (0, Ending::Complete),
+            16..=24 => (0, Ending::Truncated),
+            _ => (1, Ending::Complete),
+        };
+        let (records, ending) = feed_both(rt.alloc(), &text[..count], &[])?;
+        same(&rt, (records.len(), ending), want);
+    }
+    Ok(())
+}
