@@ -1,39 +1,37 @@
-//! The object of an entry.
+//! The objects of graphs without a shape.
 ghost use Rattle.std.specs.Prelude.{◌≡◌, IfOk};
 ghost use Rattle.serde_json.specs.View.{view};
+ghost use Rattle.entries.specs.declared.found.Answer.TheVariants.{Refused, NoMemory};
 ghost use Rattle.json_lines.specs.Lines.{answer_data};
 
-use crate::objects::laid_value;
-use entries::{Answer, Entry};
+use embedding::Rule;
 use serde_json::{Value, json};
 use std::alloc::{AllocError, Global};
 
-/// The object of an entry, which is the graph of this number in the file of this number.
-pub(crate) fn entry_value(
+/// The object of a graph whose record breaks this rule.
+pub(crate) fn refused_value(
     alloc: Global,
     file: u32,
     graph: u64,
-    entry: &Entry,
+    rule: Rule,
 ) -> Result<Value, AllocError>
-    ensures { IfOk result (λ v. view v ≡ answer_data file graph entry.now.answer) }
+    ensures { IfOk result (λ v. view v ≡ answer_data file graph (Refused rule)) }
 {
-    match &entry.answer {
-        Answer::Laid {
-            plane,
-            shape,
-            prices,
-            drawing,
-        } => laid_value(alloc, file, graph, plane, shape, prices, drawing),
-        Answer::Refused(rule) => json!(in alloc; {
-            "file": file,
-            "graph": graph,
-            "rule": rule.word(),
-            "status": "refused",
-        }),
-        Answer::NoMemory => json!(in alloc; {
-            "file": file,
-            "graph": graph,
-            "status": "memory",
-        }),
-    }
+    json!(in alloc; {
+        "file": file,
+        "graph": graph,
+        "rule": rule.word(),
+        "status": "refused",
+    })
+}
+
+/// The object of a graph for which memory ran out.
+pub(crate) fn memory_value(alloc: Global, file: u32, graph: u64) -> Result<Value, AllocError>
+    ensures { IfOk result (λ v. view v ≡ answer_data file graph NoMemory) }
+{
+    json!(in alloc; {
+        "file": file,
+        "graph": graph,
+        "status": "memory",
+    })
 }

@@ -5,7 +5,5 @@ mod arrays;
 mod entry;
 mod lines;
 mod objects;
-#[cfg(test)]
-mod tests;
 
-pub use lines::{end_line, entry_line};
+pub use lines::{end_line, entry_line, laid_line};

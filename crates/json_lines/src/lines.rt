@@ -2,10 +2,16 @@
 ghost use Rattle.std.specs.Prelude.{◌≡◌, IfOk, false};
 ghost use Rattle.serde_json.specs.View.{view};
 ghost use Rattle.serde_json.specs.Written.{has_float};
-ghost use Rattle.json_lines.specs.Lines.{answer_data, end_data, line_of};
+ghost use Rattle.ortho_rep.specs.Representation.{HasDarts};
+ghost use Rattle.ortho_rep.specs.Prices.{HasPrices};
+ghost use Rattle.json_lines.specs.Lines.{answer_data, end_data, laid_data, line_of};
 
-use crate::entry::entry_value;
-use entries::Entry;
+use crate::entry::{memory_value, refused_value};
+use crate::objects::laid_value;
+use drawing_check::Drawing;
+use entries::{Answer, Cause, Entry};
+use faces::Plane;
+use ortho_rep::{Prices, Shape};
 use serde_json::{Value, json};
 use std::alloc::{AllocError, Global};
 
@@ -23,7 +29,40 @@ pub fn entry_line(
 ) -> Result<Vec<u8>, AllocError>
     ensures { IfOk result (λ line. line.items ≡ line_of (answer_data file graph entry.now.answer)) }
 {
-    line(alloc, &entry_value(alloc, file, graph, entry)?)
+    match &entry.answer {
+        Answer::Laid {
+            plane,
+            shape,
+            prices,
+            drawing,
+        } => laid_line(alloc, file, graph, plane, shape, prices, drawing),
+        Answer::Refused(rule) => line(alloc, &refused_value(alloc, file, graph, *rule)?),
+        Answer::NoMemory => line(alloc, &memory_value(alloc, file, graph)?),
+    }
+}
+
+/// The line of a graph that breaks no rule, of which these are a shape, prices and a drawing or the cause
+/// in its place, with the byte 0A at its end. It takes a few allocations for each dart and each point.
+///
+/// # Errors
+///
+/// `AllocError` where there is no memory for the line.
+pub fn laid_line(
+    alloc: Global,
+    file: u32,
+    graph: u64,
+    plane: &Plane,
+    shape: &Shape,
+    prices: &Prices,
+    drawing: &Result<Drawing, Cause>,
+) -> Result<Vec<u8>, AllocError>
+    requires darts { HasDarts plane.now shape.now }
+    requires prices { HasPrices plane.now prices.now }
+    ensures { IfOk result (λ line.
+        line.items ≡ line_of (laid_data file graph plane.now shape.now prices.now drawing.now)) }
+{
+    let value = laid_value(alloc, file, graph, plane, shape, prices, drawing)?;
+    line(alloc, &value)
 }
 
 /// The line of the end of the file of this number: the word of its mark, and how many graphs it has,

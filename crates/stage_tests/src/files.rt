@@ -4,6 +4,7 @@ ghost use Rattle.std.specs.Prelude.{map, false, None, ⊤};
 ghost use Rattle.lanes.specs.Opening.{Silent};
 ghost use Rattle.lanes.specs.declared.message.Message.TheVariants.{Item};
 
+use crate::known::same;
 use choices::Choice;
 use lanes::{Keep, MemOpener, OpenFault, Opener, read_file};
 use planar_code::{Ending, Record};
@@ -163,6 +164,28 @@ fn files(alloc: Global) -> Result<Vec<Vec<u8>>, AllocError> {
     Ok(files)
 }
 
+/// The records of a file of an opener, and its mark.
+fn shelf_of<O: Opener>(
+    alloc: Global,
+    opener: &O,
+    file: u32,
+    choice: Choice,
+) -> Option<(Shelf, Result<Mark, AllocError>)> {
+    let mut buffer = piece_buffer(alloc).ok()?;
+    let mut shelf = Shelf {
+        records: Vec::new(alloc),
+    };
+    let found = read_file(
+        opener,
+        alloc,
+        file,
+        choice,
+        buffer.as_mut_slice(),
+        &mut shelf,
+    );
+    Some((shelf, found))
+}
+
 /// Reads a file of an opener, and looks at its mark and at how many records of 5 bytes it has,
 /// numbered from 0.
 fn check<R: AllocGlobal + Abort, O: Opener>(
@@ -172,42 +195,56 @@ fn check<R: AllocGlobal + Abort, O: Opener>(
     mark: Mark,
     count: usize,
 ) -> Result<(), Fail> {
-    let mut buffer = piece_buffer(rt.alloc())?;
-    let mut shelf = Shelf {
-        records: Vec::new(rt.alloc()),
-    };
-    let found = read_file(
-        opener,
-        rt.alloc(),
-        file,
-        Choice::Best,
-        buffer.as_mut_slice(),
-        &mut shelf,
-    )?;
-    assert_eq!(rt; found, mark, "file {file}");
-    assert_eq!(rt; shelf.records.len(), count, "file {file}");
+    let (shelf, found) = shelf_of(rt.alloc(), opener, file, Choice::Best).ok_or("no buffer")?;
+    same(rt, (file, found), (file, Ok(mark)));
+    same(rt, (file, shelf.records.len()), (file, count));
     for (place, shelved) in shelf.records.iter().enumerate() {
-        assert_eq!(rt; shelved.file, file);
-        assert_eq!(rt; shelved.ordinal as usize, place);
-        assert_eq!(rt; shelved.choice, Choice::Best);
-        assert_eq!(rt; shelved.rec.bytes().len(), 5);
+        check_shelved(rt, shelved, file, place);
     }
     Ok(())
+}
+
+/// A record of 5 bytes stood at this place of this file.
+fn check_shelved(rt: &impl Abort, shelved: &Shelved, file: u32, place: usize) {
+    same(rt, (shelved.file, shelved.ordinal as usize), (file, place));
+    same(rt, shelved.choice, Choice::Best);
+    same(rt, shelved.rec.bytes().len(), 5);
+}
+
+/// A file of an opener has these bytes, which are read one by one.
+fn check_bytes<R: AllocGlobal + Abort>(
+    rt: &R,
+    opener: &MemOpener,
+    file: u32,
+    bytes: &[u8],
+) -> Result<(), Fail> {
+    let mut source = opener.open(rt.alloc(), file)?;
+    for byte in bytes {
+        check_read(rt, &mut source, Some(*byte));
+    }
+    check_read(rt, &mut source, None);
+    Ok(())
+}
+
+/// A read gives this byte, or none.
+fn check_read(rt: &impl Abort, source: &mut MemTap, byte: Option<u8>) {
+    let mut buffer = [0; 4];
+    match byte {
+        Some(byte) => {
+            same(rt, source.read(&mut buffer), Ok(1));
+            same(rt, buffer[0], byte);
+        }
+        None => same(rt, source.read(&mut buffer), Ok(0)),
+    }
 }
 
 #[test]
 fn opens_each_of_its_files(rt: HostRuntime) -> Result<(), Fail> {
     let opener = MemOpener::new(files(rt.alloc())?, 1);
     for (file, bytes) in [(0, EDGES), (1, CUT), (2, LARGE)] {
-        let mut source = opener.open(rt.alloc(), file).map_err(|_| AllocError)?;
-        let mut buffer = [0; 4];
-        for byte in bytes {
-            assert_eq!(&rt; source.read(&mut buffer), Ok(1));
-            assert_eq!(&rt; buffer[0], *byte);
-        }
-        assert_eq!(&rt; source.read(&mut buffer), Ok(0));
+        check_bytes(&rt, &opener, file, bytes)?;
     }
-    assert!(&rt; matches!(opener.open(rt.alloc(), 3), Err(OpenFault::Io)));
+    same(&rt, opener.open(rt.alloc(), 3).err(), Some(OpenFault::Io));
     Ok(())
 }
 
@@ -240,7 +277,7 @@ fn reads_once_up_to_a_fault(rt: HostRuntime) -> Result<(), Fail> {
         reads: AtomicU32::new(0),
     };
     check(&rt, &&counting, 0, Mark::Ended(Ending::Large), 1)?;
-    assert_eq!(rt; counting.reads.load(Ordering::SeqCst), 21);
+    same(&rt, counting.reads.load(Ordering::SeqCst), 21);
     Ok(())
 }
 
@@ -251,27 +288,13 @@ fn names_want_of_memory(rt: HostRuntime) {
     let Ok(files) = files(rt.alloc()) else {
         return;
     };
-    let Ok(mut buffer) = piece_buffer(rt.alloc()) else {
+    let opener = MemOpener::new(files, 4);
+    let Some((shelf, found)) = shelf_of(rt.alloc(), &opener, 0, Choice::First) else {
         return;
     };
-    let opener = MemOpener::new(files, 4);
-    let mut shelf = Shelf {
-        records: Vec::new(rt.alloc()),
-    };
-    match read_file(
-        &opener,
-        rt.alloc(),
-        0,
-        Choice::First,
-        buffer.as_mut_slice(),
-        &mut shelf,
-    ) {
-        Ok(Mark::Ended(Ending::Memory)) | Err(AllocError) => {
-            assert!(rt; shelf.records.len() < 2);
-        }
-        Ok(mark) => {
-            assert_eq!(rt; mark, Mark::Ended(Ending::Complete));
-            assert_eq!(rt; shelf.records.len(), 2);
-        }
+    let count = shelf.records.len();
+    match found {
+        Ok(Mark::Ended(Ending::Memory)) | Err(AllocError) => assert!(rt; count < 2),
+        Ok(mark) => same(&rt, (mark, count), (Mark::Ended(Ending::Complete), 2)),
     }
 }

@@ -1,9 +1,13 @@
 //! Tests of the steps from a source to an entry: sources that are read and written, files that are opened
-//! and kept, records that are answered, and refused allocations.
+//! and kept, records that are answered, the lines of entries, and refused allocations.
 #![tactic(auto)]
 
 #[cfg(test)]
 mod files;
+#[cfg(test)]
+mod known;
+#[cfg(test)]
+mod lines;
 #[cfg(test)]
 mod records;
 #[cfg(test)]

@@ -1,10 +1,12 @@
 //! Known graphs and refused records, answered as a whole and stage by stage.
 
+use crate::known::{TRIANGLE, record_in, same};
 use answers::{Answer, Cause, Entry, Framed, answer};
 use choices::Choice;
+use drawing_check::Drawing;
 use embedding::Rule;
+use faces::Plane;
 use lanes::{Numbered, Stage, Staged};
-use planar_code::{Framer, HEADER, Record};
 use std::alloc::Global;
 use std::process::Abort;
 use std::test::Fail;
@@ -16,8 +18,6 @@ enum Said {
     Drawn(u8, u16, u16, u32),
     Refused(Rule),
 }
-
-const TRIANGLE: [u8; 10] = [3, 2, 3, 0, 3, 1, 0, 1, 2, 0];
 
 /// Records by hand. The bends of the octahedron are those of seven faces at distances 1, 1, 1, 2, 2, 2 and 3
 /// from the outer one.
@@ -61,23 +61,19 @@ const CASES: [(&[u8], Said); 15] = [
     (&[2, 3, 0, 2, 0], Said::Refused(Rule::Range)),
 ];
 
-/// The record of these bytes, if they are one and there is memory.
-fn record_in(alloc: Global, bytes: &[u8]) -> Option<Record> {
-    let mut framer = Framer::new(alloc).ok()?;
-    let mut records = Vec::new(alloc);
-    framer.feed(alloc, &HEADER, &mut records).ok()?;
-    framer.feed(alloc, bytes, &mut records).ok()?;
-    records.pop()
-}
-
 /// The entry is that of this record, and says so.
 fn expect(rt: &impl Abort, entry: &Entry, about: (u32, u32, &[u8], Choice), said: Said) {
-    let (file, ordinal, bytes, choice) = about;
-    assert_eq!(rt; (entry.file, entry.ordinal), (file, ordinal));
-    assert_eq!(rt; (entry.file(), entry.ordinal()), (file, ordinal));
-    assert_eq!(rt; entry.rec.bytes(), bytes);
-    assert_eq!(rt; entry.choice, choice);
+    expect_place(rt, entry, about);
     expect_answer(rt, &entry.answer, said);
+}
+
+/// The entry is that of this record.
+fn expect_place(rt: &impl Abort, entry: &Entry, about: (u32, u32, &[u8], Choice)) {
+    let (file, ordinal, bytes, choice) = about;
+    same(rt, (entry.file, entry.ordinal), (file, ordinal));
+    same(rt, (entry.file(), entry.ordinal()), (file, ordinal));
+    same(rt, entry.rec.bytes(), bytes);
+    same(rt, entry.choice, choice);
 }
 
 fn expect_answer(rt: &impl Abort, answer: &Answer, said: Said) {
@@ -91,16 +87,29 @@ fn expect_answer(rt: &impl Abort, answer: &Answer, said: Said) {
             },
             Said::Drawn(n, m, f, bends),
         ) => {
-            assert_eq!(rt; (plane.graph().vertices(), plane.graph().edges()), (n, m));
-            assert_eq!(rt; (plane.face_count(), shape.bends()), (f, bends));
-            assert_eq!(rt; prices.face_count(), usize::from(f));
-            match drawing {
-                Ok(drawn) => assert_eq!(rt; drawn.points().vertex_count(), usize::from(n)),
-                Err(cause) => assert_eq!(rt; cause.word(), "drawn"),
-            }
+            same(rt, (sizes(plane), shape.bends()), ((n, m, f), bends));
+            same(rt, prices.face_count(), usize::from(f));
+            same(rt, drawn(drawing), Ok(usize::from(n)));
         }
-        (Answer::Refused(rule), Said::Refused(first)) => assert_eq!(rt; *rule, first),
+        (Answer::Refused(rule), Said::Refused(first)) => same(rt, *rule, first),
         _ => assert!(rt; false),
+    }
+}
+
+/// The numbers of vertices, edges and faces.
+fn sizes(plane: &Plane) -> (u8, u16, u16) {
+    (
+        plane.graph().vertices(),
+        plane.graph().edges(),
+        plane.face_count(),
+    )
+}
+
+/// How many vertices have a point in a drawing, or why there is none.
+fn drawn(drawing: &Result<Drawing, Cause>) -> Result<usize, Cause> {
+    match drawing {
+        Ok(drawn) => Ok(drawn.points().vertex_count()),
+        Err(cause) => Err(*cause),
     }
 }
 
@@ -143,45 +152,25 @@ const LONGER_CUBE: [u8; 45] = [
 /// Another face than the widest one needs fewer bends.
 #[test]
 fn chooses_the_outer_face(rt: HostRuntime) -> Result<(), Fail> {
-    let alloc = rt.alloc();
-    answers(
-        &rt,
-        alloc,
-        &CAPPED_CUBE,
-        Choice::First,
-        Said::Drawn(9, 16, 9, 10),
-    )?;
-    answers(
-        &rt,
-        alloc,
-        &CAPPED_CUBE,
-        Choice::Best,
-        Said::Drawn(9, 16, 9, 8),
-    )?;
-    answers(
-        &rt,
-        alloc,
-        &LONGER_CUBE,
-        Choice::First,
-        Said::Drawn(10, 17, 9, 9),
-    )?;
-    answers(
-        &rt,
-        alloc,
-        &LONGER_CUBE,
-        Choice::Best,
-        Said::Drawn(10, 17, 9, 8),
-    )?;
-    for (bytes, choice, face) in [
-        (CAPPED_CUBE.as_slice(), Choice::First, 0),
-        (CAPPED_CUBE.as_slice(), Choice::Best, 2),
-        (LONGER_CUBE.as_slice(), Choice::First, 0),
-        (LONGER_CUBE.as_slice(), Choice::Best, 2),
-    ] {
-        let rec = record_in(alloc, bytes).ok_or("no record")?;
-        assert_eq!(rt; outer_of(&answer(alloc, 0, 0, rec, choice)), Some(face));
-    }
+    let capped = Said::Drawn(9, 16, 9, 10);
+    let less = Said::Drawn(9, 16, 9, 8);
+    answers(&rt, rt.alloc(), &CAPPED_CUBE, Choice::First, capped)?;
+    answers(&rt, rt.alloc(), &CAPPED_CUBE, Choice::Best, less)?;
+    let longer = Said::Drawn(10, 17, 9, 9);
+    let less = Said::Drawn(10, 17, 9, 8);
+    answers(&rt, rt.alloc(), &LONGER_CUBE, Choice::First, longer)?;
+    answers(&rt, rt.alloc(), &LONGER_CUBE, Choice::Best, less)?;
+    same(&rt, outer(rt.alloc(), &CAPPED_CUBE, Choice::First), Some(0));
+    same(&rt, outer(rt.alloc(), &CAPPED_CUBE, Choice::Best), Some(2));
+    same(&rt, outer(rt.alloc(), &LONGER_CUBE, Choice::First), Some(0));
+    same(&rt, outer(rt.alloc(), &LONGER_CUBE, Choice::Best), Some(2));
     Ok(())
+}
+
+/// The outer face of a record's plane under a choice.
+fn outer(alloc: Global, bytes: &[u8], choice: Choice) -> Option<u16> {
+    let rec = record_in(alloc, bytes)?;
+    outer_of(&answer(alloc, 0, 0, rec, choice))
 }
 
 /// The outer face of a plane that was laid out.
@@ -200,24 +189,28 @@ fn pass<S: Staged>(
     about: (u32, u32),
     stage: Stage,
 ) -> S::Next {
-    assert_eq!(rt; (staged.file(), staged.ordinal()), about);
-    assert_eq!(rt; S::STAGE, stage);
+    same(rt, (staged.file(), staged.ordinal()), about);
+    same(rt, S::STAGE, stage);
     staged.next(alloc)
+}
+
+/// The entry of a record, stage by stage.
+fn staged(rt: &impl Abort, alloc: Global, bytes: &[u8]) -> Option<Entry> {
+    let framed = Framed {
+        file: 7,
+        ordinal: 2,
+        rec: record_in(alloc, bytes)?,
+        choice: Choice::Best,
+    };
+    let embedded = pass(rt, alloc, framed, (7, 2), Stage::Embed);
+    let shaped = pass(rt, alloc, embedded, (7, 2), Stage::Shape);
+    Some(pass(rt, alloc, shaped, (7, 2), Stage::Draw))
 }
 
 #[test]
 fn goes_through_the_stages(rt: HostRuntime) -> Result<(), Fail> {
-    let alloc = rt.alloc();
     for (bytes, said) in CASES {
-        let framed = Framed {
-            file: 7,
-            ordinal: 2,
-            rec: record_in(alloc, bytes).ok_or("no record")?,
-            choice: Choice::Best,
-        };
-        let embedded = pass(&rt, alloc, framed, (7, 2), Stage::Embed);
-        let shaped = pass(&rt, alloc, embedded, (7, 2), Stage::Shape);
-        let entry = pass(&rt, alloc, shaped, (7, 2), Stage::Draw);
+        let entry = staged(&rt, rt.alloc(), bytes).ok_or("no record")?;
         expect(&rt, &entry, (7, 2, bytes, Choice::Best), said);
     }
     Ok(())
@@ -225,31 +218,29 @@ fn goes_through_the_stages(rt: HostRuntime) -> Result<(), Fail> {
 
 #[test]
 fn names_all_causes(rt: HostRuntime) {
-    assert_eq!(rt; Cause::Wide.word(), "wide");
-    assert_eq!(rt; Cause::OutOfGrid.word(), "outofgrid");
-    assert_eq!(rt; Cause::NotAxis.word(), "notaxis");
-    assert_eq!(rt; Cause::WrongTurn.word(), "wrongturn");
-    assert_eq!(rt; Cause::Meet.word(), "meet");
+    same(&rt, Cause::Wide.word(), "wide");
+    same(&rt, Cause::OutOfGrid.word(), "outofgrid");
+    same(&rt, Cause::NotAxis.word(), "notaxis");
+    same(&rt, Cause::WrongTurn.word(), "wrongturn");
+    same(&rt, Cause::Meet.word(), "meet");
 }
 
 /// `bench/refuse-allocations` refuses each allocation of this test in turn: the answer is then the right one
 /// or the want of memory, and a second call answers as without the refusal. Where a refusal comes before
 /// the call, the test ends.
 #[test]
-fn refused_allocations(rt: HostRuntime) -> Result<(), Fail> {
+fn refused_allocations(rt: HostRuntime) {
     let alloc = rt.alloc();
-    let (Some(rec), Some(same)) = (record_in(alloc, &TRIANGLE), record_in(alloc, &TRIANGLE)) else {
-        return Ok(());
+    let (Some(rec), Some(again)) = (record_in(alloc, &TRIANGLE), record_in(alloc, &TRIANGLE)) else {
+        return;
     };
-    let right = Said::Drawn(3, 3, 2, 1);
     let about = (1, 2, TRIANGLE.as_slice(), Choice::Best);
+    let right = Said::Drawn(3, 3, 2, 1);
     let entry = answer(alloc, 1, 2, rec, Choice::Best);
+    expect_place(&rt, &entry, about);
     if let Answer::NoMemory = entry.answer {
-        assert_eq!(rt; (entry.file, entry.ordinal), (1, 2));
-        assert_eq!(rt; entry.rec.bytes(), TRIANGLE.as_slice());
-        expect(&rt, &answer(alloc, 1, 2, same, Choice::Best), about, right);
+        expect(&rt, &answer(alloc, 1, 2, again, Choice::Best), about, right);
     } else {
-        expect(&rt, &entry, about, right);
+        expect_answer(&rt, &entry.answer, right);
     }
-    Ok(())
 }

@@ -1,0 +1,10 @@
+use Rattle.std.proofs.Common.{ap, ◌∙◌}
+use Rattle.serde_json.specs.Written.{has_float}
+use Rattle.entries.specs.declared.found.Answer.TheVariants.{Laid}
+use Rattle.json_lines.proofs.Plain.{plain_answer}
+use Rattle.json_lines.proofs.lines.laid_line.Goals as goal
+
+pub line-requires : goal.line-requires
+line-requires c =
+    let plain = plain_answer c.args.file c.args.graph (Laid c.args.plane.now c.args.shape.now c.args.prices.now c.args.drawing.now) in
+    ap has_float c.in_ok-value.ensures ∙ plain

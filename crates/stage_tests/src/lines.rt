@@ -1,0 +1,154 @@
+//! The triangle's line by hand, with a shape, prices and points that were worked out on paper, and the line
+//! of an end. Prices that prove a shape still do when the same is taken from all of them.
+
+use crate::known::{TRIANGLE, record_in, same};
+use answers::Cause;
+use drawing_check::{Drawing, check};
+use embedding::Graph;
+use faces::Plane;
+use json_lines::{end_line, laid_line};
+use ortho_rep::{Point, Points, Prices, Shape, Turn, certify, is_shape};
+use std::alloc::{AllocError, Global};
+use std::process::Abort;
+use std::test::Fail;
+
+const DRAWN: &[u8] =
+    b"{\"angles\":[3,1,3,1,3,1],\"bends\":1,\"drawn\":\"yes\",\"f\":2,\"file\":3,\"graph\":7,\"m\":3,\"n\":3,\
+    \"points\":{\"corners\":[[],[[1,0]],[]],\"vertices\":[[0,0],[0,1],[1,1]]},\
+    \"prices\":{\"faces\":[-2,-3],\"vertices\":[-2,-2,-2]},\"status\":\"ok\",\"turns\":[\"\",\"L\",\"\",\"\",\"R\",\"\"]}\n";
+
+const TO_THE_CAUSE: &[u8] = b"{\"angles\":[3,1,3,1,3,1],\"bends\":1,\"drawn\":\"";
+
+const FROM_THE_CAUSE: &[u8] = b"\",\"f\":2,\"file\":3,\"graph\":7,\"m\":3,\"n\":3,\
+    \"points\":null,\
+    \"prices\":{\"faces\":[-2,-3],\"vertices\":[-2,-2,-2]},\"status\":\"ok\",\"turns\":[\"\",\"L\",\"\",\"\",\"R\",\"\"]}\n";
+
+/// The triangle has the lists 2 3, 3 1 and 1 2.
+fn triangle(alloc: Global) -> Option<Plane> {
+    let graph = Graph::read(alloc, &record_in(alloc, &TRIANGLE)?).ok()?;
+    Plane::trace(alloc, graph).ok()
+}
+
+/// The turns of a dart: 1 and 4 are the two ways along the edge from 1 to 3, which has the one bend.
+fn turns_of(alloc: Global, dart: u32) -> Result<Vec<Turn>, AllocError> {
+    match dart {
+        1 => [Turn::Left].to_vec(alloc),
+        4 => [Turn::Right].to_vec(alloc),
+        _ => Ok(Vec::new(alloc)),
+    }
+}
+
+fn strings(alloc: Global) -> Result<Vec<Vec<Turn>>, AllocError> {
+    let mut strings = Vec::new(alloc);
+    for dart in 0..6 {
+        strings.push(turns_of(alloc, dart)?)?;
+    }
+    Ok(strings)
+}
+
+fn bent(alloc: Global) -> Option<Shape> {
+    let angles = [3, 1, 3, 1, 3, 1].to_vec(alloc).ok()?;
+    let strings = strings(alloc).ok()?;
+    if Shape::are_short(&strings) {
+        Some(Shape::new(angles, strings))
+    } else {
+        None
+    }
+}
+
+fn prices(alloc: Global) -> Result<Prices, AllocError> {
+    let vertices = [-2, -2, -2].to_vec(alloc)?;
+    Ok(Prices::new(vertices, [-2, -3].to_vec(alloc)?))
+}
+
+fn corners(alloc: Global) -> Result<Vec<Vec<Point>>, AllocError> {
+    let mut corners = Vec::new(alloc);
+    corners.push(Vec::new(alloc))?;
+    corners.push([Point { x: 1, y: 0 }].to_vec(alloc)?)?;
+    corners.push(Vec::new(alloc))?;
+    Ok(corners)
+}
+
+fn points(alloc: Global) -> Result<Points, AllocError> {
+    let vertices = [
+        Point { x: 0, y: 0 },
+        Point { x: 0, y: 1 },
+        Point { x: 1, y: 1 },
+    ];
+    let corners = corners(alloc)?;
+    Ok(Points::new(vertices.to_vec(alloc)?, corners))
+}
+
+/// The drawing of the triangle by these points.
+fn drawing(alloc: Global, plane: &Plane, shape: &Shape) -> Option<Drawing> {
+    let points = points(alloc).ok()?;
+    let counts = usize::from(plane.graph().vertices()) == points.vertex_count()
+        && usize::from(plane.graph().edges()) == points.edge_count();
+    if !counts || !is_shape(plane, shape) {
+        return None;
+    }
+    check(alloc, plane, shape, points).ok()
+}
+
+/// The line of the triangle with this drawing, as graph 7 of file 3.
+fn triangle_line(
+    alloc: Global,
+    plane: &Plane,
+    shape: &Shape,
+    drawing: &Result<Drawing, Cause>,
+) -> Option<Vec<u8>> {
+    let prices = prices(alloc).ok()?;
+    if !is_shape(plane, shape) || !certify(plane, shape, &prices) {
+        return None;
+    }
+    laid_line(alloc, 3, 7, plane, shape, &prices, drawing).ok()
+}
+
+#[test]
+fn shows_a_triangle(rt: HostRuntime) -> Result<(), Fail> {
+    let plane = triangle(rt.alloc()).ok_or("no plane")?;
+    let shape = bent(rt.alloc()).ok_or("no shape")?;
+    let drawing = Ok(drawing(rt.alloc(), &plane, &shape).ok_or("no drawing")?);
+    let line = triangle_line(rt.alloc(), &plane, &shape, &drawing).ok_or("no line")?;
+    same(&rt, line.as_slice(), DRAWN);
+    Ok(())
+}
+
+/// The line of the triangle without a drawing has this word in its place.
+fn check_cause<R: AllocGlobal + Abort>(
+    rt: &R,
+    plane: &Plane,
+    shape: &Shape,
+    cause: Cause,
+    word: &str,
+) -> Result<(), Fail> {
+    let line = triangle_line(rt.alloc(), plane, shape, &Err(cause)).ok_or("no line")?;
+    let text = [TO_THE_CAUSE, word.as_bytes(), FROM_THE_CAUSE].concat(rt.alloc())?;
+    same(rt, line.as_slice(), text.as_slice());
+    Ok(())
+}
+
+#[test]
+fn names_each_cause(rt: HostRuntime) -> Result<(), Fail> {
+    let plane = triangle(rt.alloc()).ok_or("no plane")?;
+    let shape = bent(rt.alloc()).ok_or("no shape")?;
+    let cases = [
+        (Cause::Wide, "wide"),
+        (Cause::OutOfGrid, "outofgrid"),
+        (Cause::NotAxis, "notaxis"),
+        (Cause::WrongTurn, "wrongturn"),
+        (Cause::Meet, "meet"),
+    ];
+    for (cause, word) in cases {
+        check_cause(&rt, &plane, &shape, cause, word)?;
+    }
+    Ok(())
+}
+
+#[test]
+fn shows_an_end(rt: HostRuntime) -> Result<(), Fail> {
+    let text = end_line(rt.alloc(), 64, "truncated", 1_000_000)?;
+    let expected = "{\"end\":\"truncated\",\"file\":64,\"graphs\":1000000}\n";
+    same(&rt, text.as_slice(), expected.as_bytes());
+    Ok(())
+}
