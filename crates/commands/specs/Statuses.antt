@@ -1,10 +1,11 @@
 -- What the program's exit status says.
-use Rattle.std.specs.Prelude.{◌≡◌, ◌≢◌, ◌↔◌, ℕ, Bool, false, List, Option, All, vec_len}
+use Rattle.std.specs.Prelude.{◌≡◌, ◌≢◌, ◌↔◌, ◌⊎◌, ℕ, Bool, true, false, List, Option, All, codes, vec_len}
 use Rattle.std.specs.Io.KnownBytes.{Appends}
 use Rattle.planar_code.specs.declared.ending.Ending.{Ending}
 use Rattle.streams.specs.declared.found.Mark.{Mark}
 use Rattle.streams.specs.Found.{Found}
 use Rattle.streams.specs.Marks.{IsMarked}
+use Rattle.streams.specs.Sink.{AppendsFront}
 use Rattle.streams.specs.Text.{frames_text}
 use Rattle.choices.specs.declared.Choice.{Choice}
 use Rattle.lanes.specs.Opening.{Silent}
@@ -15,6 +16,15 @@ use Rattle.reports.specs.Forms.{text_in}
 use Rattle.reports.specs.Wholes.{IsWholeBook}
 use Rattle.commands.specs.declared.words.Request.{Request}
 use Rattle.commands.specs.declared.words.Request.TheVariants.{Frames, Layout}
+
+-- what '--version' prints
+abbrev pub version_text : List ℕ
+version_text = codes "planarbend 0.2.0\nproved with rattle-kit-13b logic dac8208d650f15bf\n"
+
+-- this text and nothing else was added to the output, with status 0; or the output failed, with a beginning of it and status 1
+abbrev pub IsPrinted : List ℕ → Option (List ℕ) → Option (List ℕ) → Bool → ℕ → Type 0
+IsPrinted text old new failed status =
+    ((status ≡ 0) × (failed ≡ false) × Appends old new text) ⊎ ((status ≡ 1) × (failed ≡ true) × AppendsFront old new text)
 
 -- the file ended complete
 abbrev pub IsComplete : Found → Type 0

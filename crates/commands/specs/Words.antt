@@ -1,22 +1,88 @@
--- What the words of a command line name.
-use Rattle.std.specs.Prelude.{◌≡◌, ◌⊎◌, ◌<◌, ℕ, List, All, Any, String, codes, slice_index, string_bytes, vec_len}
+-- What the words of a command line ask for.
+use Rattle.std.specs.Prelude.{◌≡◌, ◌<◌, ◌↔◌, ◌&&◌, ◌||◌, if◌then◌else◌, ℕ, Bool, true, false, not, nat_eq, List, [], ◌∷◌, map, String, Vec, codes, bytes_eq, slice_index, string_bytes, vec_len}
+use Rattle.std.specs.Borrow.{Bor}
 use Rattle.std.specs.declared.alloc.Global.{Global}
+use Rattle.choices.specs.declared.Choice.{Choice}
+use Rattle.reports.specs.declared.form.Form.{Form}
+use Rattle.commands.specs.declared.reading.Place.{Place}
+use Rattle.commands.specs.declared.reading.Place.TheVariants.{Command, Any, Lanes, Outer, File}
+use Rattle.commands.specs.declared.reading.Wish.{Wish}
+use Rattle.commands.specs.declared.reading.Wish.TheVariants as wish
 use Rattle.commands.specs.declared.words.Request.{Request}
 use Rattle.commands.specs.declared.words.Request.TheVariants.{Frames, Layout}
 
--- a word that asks for help: 'help', '--help', or '-h' with what may follow
-abbrev pub IsHelpWord : List ℕ → Type 0
-IsHelpWord text = (text ≡ codes "help") ⊎ ((text ≡ codes "--help") ⊎ ((slice_index text 0 ≡ 45) × (slice_index text 1 ≡ 104)))
+-- the word begins with these two bytes
+abbrev pub has_front : ℕ → ℕ → List ℕ → Bool
+has_front first second word = nat_eq (slice_index word 0) first && nat_eq (slice_index word 1) second
 
--- one of the words asks for help
-abbrev pub AsksHelp : List (String Global) → Type 0
-AsksHelp words = Any (λ word. IsHelpWord (string_bytes word)) words
+-- an option that shows help: '--help', or '-h' with what may follow
+abbrev pub is_help : List ℕ → Bool
+is_help word = bytes_eq word (codes "--help") || has_front 45 104 word
 
--- the text is one of the words
-abbrev pub IsWord : List (String Global) → List ℕ → Type 0
-IsWord words text = Any (λ word. string_bytes word ≡ text) words
+-- what a word may be behind this one, which stands at such a place
+abbrev pub after : Place → List ℕ → Place
+after Any word =
+    if bytes_eq word (codes "--") then File
+    else if bytes_eq word (codes "--lanes") then Lanes
+    else if bytes_eq word (codes "--outer") then Outer
+    else Any
+after File word = File
+after _ word = Any
 
--- all files that the request names stand among the words, and it names some
-abbrev pub IsNamedIn : List (String Global) → Request → Type 0
-IsNamedIn words (Frames path) = IsWord words path.now
-IsNamedIn words (Layout paths lanes choice form) = (0 < vec_len paths) × All (λ path. IsWord words path.now) paths.items
+-- the word is a file: it begins with no '--' where an option may stand
+abbrev pub is_file : Place → List ℕ → Bool
+is_file Any word = not (has_front 45 45 word)
+is_file File word = true
+is_file _ word = false
+
+-- the word asks for this
+abbrev pub asks : Wish → Place → List ℕ → Bool
+asks wish.Version Command word = bytes_eq word (codes "--version")
+asks wish.Frames Command word = bytes_eq word (codes "frames")
+asks wish.Layout Command word = bytes_eq word (codes "layout")
+asks wish.Json Any word = bytes_eq word (codes "--json")
+asks wish.BestOuter Any word = bytes_eq word (codes "--outer=best")
+asks wish.BestOuter Outer word = bytes_eq word (codes "best")
+asks wish.Help File word = false
+asks wish.Help Command word = bytes_eq word (codes "help") || is_help word
+asks wish.Help _ word = is_help word
+asks _ _ word = false
+
+-- one of these words asks for this, the first of which stands at such a place
+abbrev pub asks_from : Wish → Place → List (String Global) → Bool
+asks_from w place [] = false
+asks_from w place (word ∷ words) =
+    if asks w place (string_bytes word) then true else asks_from w (after place (string_bytes word)) words
+
+-- the files among these words, in their order, the first of which stands at such a place
+abbrev pub files_from : Place → List (String Global) → List (List ℕ)
+files_from place [] = []
+files_from place (word ∷ words) =
+    if is_file place (string_bytes word) then string_bytes word ∷ files_from (after place (string_bytes word)) words
+    else files_from (after place (string_bytes word)) words
+
+-- one of the words of a command line asks for this
+abbrev pub asks_in : Wish → List (String Global) → Bool
+asks_in w words = asks_from w Command words
+
+-- the files that a command line names, in their order: what is neither the command nor an option nor the value of one, and all behind '--'
+abbrev pub files_in : List (String Global) → List (List ℕ)
+files_in words = files_from Command words
+
+-- the words ask for a layout of these files, under this choice and in this form
+pub record AsksLayout (words : List (String Global)) (paths : Vec (Bor (List ℕ)) Global) (choice : Choice) (form : Form) : Type 0 where
+  pub command : asks_in wish.Layout words ≡ true
+  pub files : map (λ path. path.now) paths.items ≡ files_in words
+  pub some : 0 < vec_len paths
+  pub best : (choice ≡ Choice.Best) ↔ (asks_in wish.BestOuter words ≡ true)
+  pub json : (form ≡ Form.Json) ↔ (asks_in wish.Json words ≡ true)
+
+-- the words ask for the records of this file
+pub record AsksFrames (words : List (String Global)) (path : List ℕ) : Type 0 where
+  pub command : asks_in wish.Frames words ≡ true
+  pub file : files_in words ≡ path ∷ []
+
+-- the request is what the words ask for
+abbrev pub IsAskedBy : List (String Global) → Request → Type 0
+IsAskedBy words (Frames path) = AsksFrames words path.now
+IsAskedBy words (Layout paths lanes choice form) = AsksLayout words paths choice form

@@ -3,6 +3,8 @@
 
 mod layout;
 mod program;
+mod reading;
+mod version;
 mod words;
 
 pub use program::command;

@@ -1,16 +1,20 @@
 //! What the program does with its words.
-ghost use Rattle.std.specs.Prelude.{◌≡◌, ◌≤◌, ◌⊎◌, ℕ, true, false, IfOk, IfErr, OnOk};
+ghost use Rattle.std.specs.Prelude.{◌≡◌, ◌≤◌, ◌⊎◌, ℕ, List, true, false, IfOk, IfErr, OnOk};
+ghost use Rattle.std.specs.Io.KnownBytes.{Appends};
 ghost use Rattle.choices.specs.declared.Choice.{Choice};
 ghost use Rattle.reports.specs.declared.form.Form.{Form};
 ghost use Rattle.program_io.specs.Refusals.{IsRefusal};
 ghost use Rattle.clap.specs.Words.{kind_of};
 ghost use Rattle.clap.specs.declared.error.kind.ErrorKind.{ErrorKind};
+ghost use Rattle.commands.specs.declared.reading.Wish.{Wish};
 ghost use Rattle.commands.specs.declared.words.Request.{Request};
-ghost use Rattle.commands.specs.Statuses.{IsReported, IsLaidOut, IsDone};
-ghost use Rattle.commands.specs.Words.{AsksHelp, IsNamedIn};
+ghost use Rattle.commands.specs.Statuses.{IsReported, IsLaidOut, IsDone, IsPrinted, version_text};
+ghost use Rattle.commands.specs.Words.{IsAskedBy, asks_in};
 
 use crate::layout::{CAPACITY, layout};
-use crate::words::{Request, asks_for_help, parse};
+use crate::reading::{Wish, asks};
+use crate::version::VERSION;
+use crate::words::{Request, parse};
 use clap::Error;
 use clap::error::ErrorKind;
 use program_io::{Fault, open_source, report};
@@ -24,9 +28,9 @@ use streams::{Sink, put_all, run_frames, write_frames};
 /// Does what the words after the program's name ask for, and answers the program's exit status.
 /// A report goes to `out`, and the line of a fault to `err`; that this line may fail changes nothing.
 ///
-/// The status is 0 for help and for a whole report in which each file ends complete and no graph
-/// wanted for memory, 3 for any other whole report, 2 for a command line that is refused, and 1 where
-/// there is no whole report.
+/// The status is 0 for the version, for help and for a whole report in which each file ends complete and
+/// no graph wanted for memory, 3 for any other whole report, 2 for a command line that is refused, and 1
+/// where there is no whole report.
 pub fn command<R: Files + AllocGlobal + Threads + Wait + Sync, S: Sink, E: Sink>(
     rt: &R,
     words: &[String],
@@ -51,16 +55,25 @@ where
         ⊎ ((choice : Choice) × (form : Form) × (files : ℕ)
         × IsLaidOut choice form files (S.taken out.old) (S.taken out.new) (S.failed out.new) 3) }
 
-    // Where no word asks for help, status 0 comes with a whole report too; and with 0 and 3 the report
-    // is that of all files of a request, which the words name.
+    // Where the first word is `--version`, the version is printed.
+    ensures version { asks_in Wish.Version words.now ≡ true
+        → IsPrinted version_text (S.taken out.old) (S.taken out.new) (S.failed out.new) result }
+
+    // With status 0 and 3 there is the version, help, or the report of all files that the words name, as
+    // they ask for it.
     ensures done { (result ≡ 0) ⊎ (result ≡ 3)
-        → ((result ≡ 0) × AsksHelp words.now)
-        ⊎ ((request : Request) × IsNamedIn words.now request
+        → ((result ≡ 0) × (asks_in Wish.Version words.now ≡ true))
+        ⊎ ((result ≡ 0) × (asks_in Wish.Help words.now ≡ true)
+        × ((text : List ℕ) × Appends (S.taken out.old) (S.taken out.new) text))
+        ⊎ ((request : Request) × IsAskedBy words.now request
         × IsDone request (S.taken out.old) (S.taken out.new) (S.failed out.new) result) }
 {
+    if asks(Wish::Version, words) {
+        return show_version(out, err);
+    }
     match parse(rt.alloc(), words) {
         Ok(request) => perform(rt, request, out, err),
-        Err(error) if error.use_stderr() || !asks_for_help(words) => {
+        Err(error) if error.use_stderr() || !asks(Wish::Help, words) => {
             refuse(rt.alloc(), &error, err)
         }
         Err(error) => match show_help(rt.alloc(), &error, out) {
@@ -150,10 +163,23 @@ fn refuse<E: Sink>(alloc: Global, error: &Error, err: &mut E) -> u8
     }
 }
 
+/// Writes the version, and answers the status.
+fn show_version<S: Sink, E: Sink>(out: &mut S, err: &mut E) -> u8
+    requires out_is_whole { S.failed out.old ≡ false }
+    requires err_is_whole { E.failed err.old ≡ false }
+    ensures { IsPrinted version_text (S.taken out.old) (S.taken out.new) (S.failed out.new) result }
+{
+    match put_all(out, VERSION.as_bytes()) {
+        Ok(()) => 0,
+        Err(fault) => end_by(Fault::Write(fault), err),
+    }
+}
+
 /// Writes the help that was asked for.
 fn show_help<S: Sink>(alloc: Global, help: &Error, out: &mut S) -> Result<(), Fault>
     requires { S.failed out.old ≡ false }
-    ensures whole { OnOk result (S.failed out.new ≡ false) }
+    ensures whole { OnOk result ((S.failed out.new ≡ false)
+        × ((text : List ℕ) × Appends (S.taken out.old) (S.taken out.new) text)) }
     ensures failed { IfErr result (λ fault. ¬ IsRefusal fault) }
 {
     let text = help.to_string(alloc).map_err(|_| Fault::Memory)?;

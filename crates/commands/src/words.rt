@@ -1,7 +1,11 @@
 //! The command line.
-ghost use Rattle.std.specs.Prelude.{◌≡◌, IfOk, IfSome, IsTrue, All};
-ghost use Rattle.commands.specs.Words.{AsksHelp, IsHelpWord, IsWord, IsNamedIn};
+ghost use Rattle.std.specs.Prelude.{◌≡◌, ◌↔◌, IfOk, IfSome, map, true};
+ghost use Rattle.choices.specs.declared.Choice.{Choice};
+ghost use Rattle.reports.specs.declared.form.Form.{Form};
+ghost use Rattle.commands.specs.declared.reading.Wish.{Wish};
+ghost use Rattle.commands.specs.Words.{IsAskedBy, asks_in, files_in};
 
+use crate::reading::{Wish, asks, files_of};
 use choices::Choice;
 use clap::error::ErrorKind;
 use clap::{Arg, ArgAction, ArgMatches, Command, Error, value_parser};
@@ -25,10 +29,9 @@ pub enum Request<'a> {
     },
 }
 
-/// Reads the words after the program's name. All that a request names stands among them, and a `layout`
-/// names a file.
+/// Reads the words after the program's name, and answers what they ask for. A `layout` has a file at least.
 pub fn parse<'a>(alloc: Global, words: &'a [String]) -> Result<Request<'a>, Error>
-    ensures { IfOk result (IsNamedIn words.now) }
+    ensures { IfOk result (IsAskedBy words.now) }
 {
     let mut program = describe(alloc)?;
     let matches = program.try_get_matches_from_mut(words)?;
@@ -39,101 +42,78 @@ pub fn parse<'a>(alloc: Global, words: &'a [String]) -> Result<Request<'a>, Erro
     }
 }
 
-/// Whether a word asks for help.
-pub fn asks_for_help(words: &[String]) -> bool
-    ensures { IsTrue result → AsksHelp words.now }
-{
-    for word in words {
-        if is_help(word.as_str()) {
-            return true;
-        }
-    }
-    false
-}
-
-/// Whether a word is one that shows help in the place of a subcommand or a flag.
-fn is_help(word: &str) -> bool
-    ensures { IsTrue result → IsHelpWord word.now }
-{
-    let bytes = word.as_bytes();
-    word == "help" || word == "--help" || (bytes.len() > 1 && bytes[0] == b'-' && bytes[1] == b'h')
-}
-
-/// What was found in the words asks for; none where it names no file.
+/// What the words ask for, which clap has taken; none where they name no file. Clap's own reading gives the
+/// number of lanes; the rest is taken from the words, as `command` promises.
 fn request_of<'a>(
     alloc: Global,
     words: &'a [String],
     matches: &ArgMatches<'a>,
 ) -> Result<Option<Request<'a>>, AllocError>
-    ensures { IfOk result (λ request. IfSome request (IsNamedIn words.now)) }
+    ensures { IfOk result (λ request. IfSome request (IsAskedBy words.now)) }
 {
-    let Some(layout) = matches.subcommand_matches("layout") else {
-        return Ok(frames_request(words, matches));
-    };
-    let paths = words_named(alloc, words, layout.get_strs("FILE").unwrap_or(&[]))?;
-    if paths.is_empty() {
+    let files = files_of(alloc, words)?;
+    if asks(Wish::Frames, words) {
+        return Ok(frames_request(words, files.as_slice()));
+    }
+    if files.is_empty() || !asks(Wish::Layout, words) {
         return Ok(None);
     }
     Ok(Some(Request::Layout {
-        paths,
-        lanes: layout.get_one("lanes").unwrap_or(1),
-        choice: choice_of(layout),
-        form: if layout.get_flag("json") {
-            Form::Json
-        } else {
-            Form::Report
-        },
+        paths: files,
+        lanes: lanes_of(matches),
+        choice: choice_of(words),
+        form: form_of(words),
     }))
 }
 
-/// The choice of the outer face that was found in the words.
-fn choice_of(layout: &ArgMatches) -> Choice {
-    match layout.get_str("outer") {
-        Some("best") => Choice::Best,
-        _ => Choice::First,
+/// The file whose records are asked for.
+fn frames_request<'a>(words: &[String], files: &[&'a str]) -> Option<Request<'a>>
+    requires command { asks_in Wish.Frames words.now ≡ true }
+    requires files { map (λ file. file.now) files.now ≡ files_in words.now }
+    ensures { IfSome result (IsAskedBy words.now) }
+{
+    match files {
+        [path] => Some(Request::Frames { path: *path }),
+        _ => None,
     }
 }
 
-fn frames_request<'a>(words: &'a [String], matches: &ArgMatches<'a>) -> Option<Request<'a>>
-    ensures { IfSome result (IsNamedIn words.now) }
-{
-    let name = matches.subcommand_matches("frames")?.get_str("FILE")?;
-    let path = word_named(words, name)?;
-    Some(Request::Frames { path })
+/// The number of lanes that clap found.
+fn lanes_of(matches: &ArgMatches) -> u32 {
+    match matches.subcommand_matches("layout") {
+        Some(layout) => layout.get_one("lanes").unwrap_or(1),
+        None => 1,
+    }
 }
 
-/// The word that is this name.
-fn word_named<'a>(words: &'a [String], name: &str) -> Option<&'a str>
-    ensures { IfSome result (λ path. IsWord words.now path.now) }
+/// The choice of the outer face that the words ask for.
+fn choice_of(words: &[String]) -> Choice
+    ensures { (result ≡ Choice.Best) ↔ (asks_in Wish.BestOuter words.now ≡ true) }
 {
-    for word in words {
-        if word.as_str() == name {
-            return Some(word.as_str());
-        }
+    if asks(Wish::BestOuter, words) {
+        Choice::Best
+    } else {
+        Choice::First
     }
-    None
 }
 
-/// The words that are these names, which stand among them in order.
-fn words_named<'a>(
-    alloc: Global,
-    words: &'a [String],
-    names: &[&str],
-) -> Result<Vec<&'a str>, AllocError>
-    ensures { IfOk result (λ paths. All (λ path. IsWord words.now path.now) paths.items) }
+/// The form that the words ask for.
+fn form_of(words: &[String]) -> Form
+    ensures { (result ≡ Form.Json) ↔ (asks_in Wish.Json words.now ≡ true) }
 {
-    let mut paths = Vec::with_capacity(alloc, names.len())?;
-    for word in words {
-        let here = paths.len() < names.len() && word.as_str() == names[paths.len()];
-        if here {
-            paths.push(word.as_str())?;
-        }
+    if asks(Wish::Json, words) {
+        Form::Json
+    } else {
+        Form::Report
     }
-    Ok(paths)
 }
 
 /// What the program takes, with the texts of its help.
 fn describe<'a>(alloc: Global) -> Result<Command<'a>, AllocError> {
+    let version = Arg::new(alloc, "version")
+        .long("version")
+        .help("Prints the version, and the toolchain that the program is proved with")
+        .action(ArgAction::SetTrue);
     Command::new(alloc, "planarbend")
         .bin_name("planarbend")?
         .about("Draws embedded planar graphs in planar_code with the fewest bends")
@@ -141,6 +121,7 @@ fn describe<'a>(alloc: Global) -> Result<Command<'a>, AllocError> {
         .no_binary_name(true)
         .subcommand_required(true)
         .arg_required_else_help(true)
+        .arg(version)?
         .subcommand(describe_layout(alloc)?)?
         .subcommand(describe_frames(alloc)?)
 }
@@ -156,7 +137,7 @@ fn describe_layout<'a>(alloc: Global) -> Result<Command<'a>, AllocError> {
         .long("outer")
         .value_name("CHOICE")
         .help(
-            "The outer face: first is the one with the most edges round it, best the one with which the fewest bends are needed",
+            "The outer face: first is the one with the longest boundary, best the one with which the fewest bends are needed",
         )
         .value_parser(OUTER)
         .default_value("first");

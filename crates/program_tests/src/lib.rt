@@ -7,4 +7,6 @@ mod frames;
 #[cfg(test)]
 mod layouts;
 #[cfg(test)]
+mod lines;
+#[cfg(test)]
 mod side_by_side;

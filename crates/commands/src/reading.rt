@@ -1,0 +1,122 @@
+//! What the words of a command line ask for, one after another.
+ghost use Rattle.std.specs.Prelude.{◌≡◌, ◌<◌, IfOk, map};
+ghost use Rattle.commands.specs.Words.{after, asks, asks_in, files_in, has_front, is_file, is_help};
+
+use std::alloc::{AllocError, Global};
+
+/// What a word may be, by the words before it.
+#[derive(Clone, Copy)]
+pub enum Place {
+    /// The first word: a command, or `--version`.
+    Command,
+    /// An option, a file, or the `--` behind which all are files.
+    Any,
+    /// The value of `--lanes`.
+    Lanes,
+    /// The value of `--outer`.
+    Outer,
+    /// A file.
+    File,
+}
+
+/// What words can ask for, beside files and a number of lanes.
+#[derive(Clone, Copy)]
+pub enum Wish {
+    Version,
+    Help,
+    Frames,
+    Layout,
+    Json,
+    BestOuter,
+}
+
+impl Place {
+    /// What the next word may be, where this one stands here.
+    fn after(self, word: &str) -> Place
+        ensures { result ≡ after self word.now }
+    {
+        match self {
+            Place::Any if word == "--" => Place::File,
+            Place::Any if word == "--lanes" => Place::Lanes,
+            Place::Any if word == "--outer" => Place::Outer,
+            Place::File => Place::File,
+            _ => Place::Any,
+        }
+    }
+
+    /// Whether a word that stands here is a file.
+    fn is_file(self, word: &str) -> bool
+        ensures { result ≡ is_file self word.now }
+    {
+        match self {
+            Place::Any => !has_front(word, b'-', b'-'),
+            Place::File => true,
+            _ => false,
+        }
+    }
+
+    /// Whether a word that stands here asks for this.
+    fn asks(self, wish: Wish, word: &str) -> bool
+        ensures { result ≡ asks wish self word.now }
+    {
+        match (wish, self) {
+            (Wish::Version, Place::Command) => word == "--version",
+            (Wish::Frames, Place::Command) => word == "frames",
+            (Wish::Layout, Place::Command) => word == "layout",
+            (Wish::Json, Place::Any) => word == "--json",
+            (Wish::BestOuter, Place::Any) => word == "--outer=best",
+            (Wish::BestOuter, Place::Outer) => word == "best",
+            (Wish::Help, Place::File) => false,
+            (Wish::Help, Place::Command) => word == "help" || is_help(word),
+            (Wish::Help, _) => is_help(word),
+            _ => false,
+        }
+    }
+}
+
+/// Whether a word is an option that shows help.
+fn is_help(word: &str) -> bool
+    ensures { result ≡ is_help word.now }
+{
+    word == "--help" || has_front(word, b'-', b'h')
+}
+
+/// Whether a word begins with these two bytes.
+fn has_front(word: &str, first: u8, second: u8) -> bool
+    requires { 0 < second }
+    ensures { result ≡ has_front first second word.now }
+{
+    let bytes = word.as_bytes();
+    bytes.len() > 1 && bytes[0] == first && bytes[1] == second
+}
+
+/// Whether some word asks for this.
+pub fn asks(wish: Wish, words: &[String]) -> bool
+    ensures { result ≡ asks_in wish words.now }
+{
+    let mut place = Place::Command;
+    for word in words {
+        let text = word.as_str();
+        if place.asks(wish, text) {
+            return true;
+        }
+        place = place.after(text);
+    }
+    false
+}
+
+/// The files that the words name, in their order.
+pub fn files_of<'a>(alloc: Global, words: &'a [String]) -> Result<Vec<&'a str>, AllocError>
+    ensures { IfOk result (λ files. map (λ file. file.now) files.items ≡ files_in words.now) }
+{
+    let mut files = Vec::new(alloc);
+    let mut place = Place::Command;
+    for word in words {
+        let text = word.as_str();
+        if place.is_file(text) {
+            files.push(text)?;
+        }
+        place = place.after(text);
+    }
+    Ok(files)
+}
