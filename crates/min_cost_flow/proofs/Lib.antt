@@ -13,3 +13,4 @@ pub mod Augmenting
 pub mod Distinct
 pub mod Signs
 pub mod Solving
+pub mod Moved

@@ -1,9 +1,9 @@
 -- Residual arcs by numbers of their own, those that start at a node side by side.
 use Rattle.std.specs.Prelude.{ℕ, ◌+◌, ◌<◌, ◌≤◌, ◌==◌, ◌≡◌, ◌^◌, ℤ, pos, ◌+ℤ◌, Bool, true, false, if◌then◌else◌, List, length, slice_index, slice_index_or}
-use Rattle.min_cost_flow.specs.declared.arc.Cap.{Cap}
-use Rattle.min_cost_flow.specs.declared.arc.Cap.TheVariants.{AtMost, Any}
+use Rattle.networks.specs.declared.arc.Cap.{Cap}
+use Rattle.networks.specs.declared.arc.Cap.TheVariants.{AtMost, Any}
 use Rattle.min_cost_flow.specs.declared.residual.ResidualArc.{ResidualArc}
-use Rattle.min_cost_flow.specs.Net.{Net, node_count, arc_count, arc_at}
+use Rattle.networks.specs.Net.{Net, node_count, arc_count, arc_at}
 use Rattle.min_cost_flow.specs.Flow.{start_of, end_of, price_of}
 
 abbrev pub numbers : List ℕ → ℕ → ℕ

@@ -1,6 +1,4 @@
-pub mod Net
 pub mod Flow
-pub mod Fault
 pub mod Excess
 pub mod Residual
 pub mod Layout
@@ -10,3 +8,4 @@ pub mod Path
 pub mod Round
 pub mod Existence
 pub mod Lists
+pub mod Stand

@@ -2,7 +2,7 @@
 #![tactic(auto)]
 
 ghost use Rattle.std.specs.Prelude.{◌≡◌, ◌≢◌, ◌<◌, ◌≤◌, ◌==◌, ◌+◌, ◌^◌, ℕ, ℤ, if◌then◌else◌, length, pos, negsuc, ◌≤ℤ◌, ◌<ℤ◌, ◌+ℤ◌, ◌-ℤ◌};
-ghost use Rattle.min_cost_flow.specs.Net.{node_count, arc_count, arc_at, IsNetwork};
+ghost use Rattle.networks.specs.Net.{node_count, arc_count, arc_at, IsNetwork};
 ghost use Rattle.min_cost_flow.specs.Flow.{at_nodes};
 ghost use Rattle.min_cost_flow.specs.Layout.{numbers, end_at, code_at, StartsAt, IsLaidOut, IsFilled, carried, limit_of};
 ghost use Rattle.min_cost_flow.specs.Path.{HasPath};

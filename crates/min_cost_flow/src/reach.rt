@@ -178,7 +178,7 @@ fn relabel(label: &mut [i32], enter: &mut [u32], step: Step)
 /// How far a node is from the source by reduced costs.
 pub(crate) fn distance(label: i32, potential: i32) -> i32
     requires label { (negsuc 1073741823 ≤ℤ label) × (label ≤ℤ pos 1073741823) }
-    requires potential { (negsuc 1073741823 ≤ℤ potential) × (potential ≤ℤ pos 0) }
+    requires potential { (negsuc 1073741823 ≤ℤ potential) × (potential ≤ℤ pos 1073741823) }
     ensures { result ≡ label -ℤ potential }
 {
     label - potential

@@ -2,7 +2,7 @@
 ghost use Rattle.std.specs.Prelude.{◌≡◌, ◌<◌, ◌+◌, ◌^◌, length};
 ghost use Rattle.min_cost_flow.specs.Layout.{end_at, code_at};
 
-use crate::network::Network;
+use networks::Network;
 
 /// What the code of a residual arc is raised by while nothing fits along it.
 pub(crate) const SHUT: i16 = 16_000;

@@ -1,5 +1,5 @@
 use Rattle.std.proofs.Common.{◌≡◌, ◌<◌, ◌≤◌, ◌+◌, ℕ, pos, ◌≤ℤ◌, ◌+ℤ◌, true}
-use Rattle.min_cost_flow.specs.Net.{node_count}
+use Rattle.networks.specs.Net.{node_count}
 use Rattle.min_cost_flow.specs.Flow.{at_nodes}
 use Rattle.min_cost_flow.specs.Layout.{numbers, end_at, IsFilled, carried}
 use Rattle.min_cost_flow.specs.Path.{HasPath}

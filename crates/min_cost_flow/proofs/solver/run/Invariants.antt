@@ -1,6 +1,6 @@
 use Rattle.std.proofs.Common.{◌≡◌, ◌<◌, ℕ}
 use Rattle.std.specs.Prelude.{pos, ◌≤ℤ◌}
-use Rattle.min_cost_flow.specs.Net.{node_count}
+use Rattle.networks.specs.Net.{node_count}
 use Rattle.min_cost_flow.specs.Flow.{at_nodes}
 use Rattle.min_cost_flow.specs.Layout.{IsFilled, carried}
 use Rattle.min_cost_flow.specs.Search.{far}

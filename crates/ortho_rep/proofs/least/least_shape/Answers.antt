@@ -1,5 +1,5 @@
 use Rattle.std.proofs.Common.{subst, arith}
-use Rattle.min_cost_flow.specs.Net.{Net}
+use Rattle.networks.specs.Net.{Net}
 use Rattle.min_cost_flow.specs.Flow.{Solves, amounts, at_nodes}
 use Rattle.ortho_rep.proofs.FromFlow.{IsOfFlow, shape_of_flow, least_of_flow, proof_of_flow}
 use Rattle.ortho_rep.proofs.least.least_shape.Goals as goal

@@ -1,7 +1,7 @@
 -- What a network is: nodes with supplies, arcs with capacities and costs.
-use Rattle.std.specs.Prelude.{ℕ, ◌<◌, ◌≤◌, ℤ, pos, negsuc, ◌≤ℤ◌, List, length, slice_index_or}
-use Rattle.min_cost_flow.specs.declared.arc.Arc.{Arc}
-use Rattle.min_cost_flow.specs.declared.arc.Cap.TheVariants.{AtMost}
+use Rattle.std.specs.Prelude.{ℕ, ◌<◌, ◌≤◌, ℤ, pos, negsuc, ◌+ℤ◌, ◌-ℤ◌, ◌≤ℤ◌, List, length, slice_index_or, slice_set}
+use Rattle.networks.specs.declared.arc.Arc.{Arc}
+use Rattle.networks.specs.declared.arc.Cap.TheVariants.{AtMost}
 
 -- a supply for each node, nodes being numbered from 0, and the arcs, which are numbered too
 pub record Net : Type 0 where
@@ -48,3 +48,17 @@ pub record IsNetwork (net : Net) : Type 0 where
   pub ends : HasEnds net
   pub supplies : HasFairSupplies net
   pub costs : HasUnitCosts net
+
+-- so many units more at one place, and so many less at another
+abbrev pub raised : List ℤ → ℕ → ℕ → List ℤ
+raised units v k = slice_set units v (slice_index_or units v (pos 0) +ℤ pos k)
+
+abbrev pub lowered : List ℤ → ℕ → ℕ → List ℤ
+lowered units v k = slice_set units v (slice_index_or units v (pos 0) -ℤ pos k)
+
+abbrev pub moved : List ℤ → ℕ → ℕ → ℕ → List ℤ
+moved units from to k = lowered (raised units from k) to k
+
+-- node `from` supplies k units more, and node `to` k units less
+abbrev pub shifted : Net → ℕ → ℕ → ℕ → Net
+shifted net from to k = net_of (moved net.supplies from to k) net.arcs

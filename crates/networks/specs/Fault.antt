@@ -1,8 +1,8 @@
 -- What a list of supplies and a list of arcs can be refused for.
 use Rattle.std.specs.Prelude.{ℕ, ◌<◌, ◌≤◌, pos, negsuc, ◌<ℤ◌, ◌⊎◌}
-use Rattle.min_cost_flow.specs.Net.{Net, node_count, arc_count, arc_at, supply_at, IsSmall, HasEnds, HasFairSupplies}
-use Rattle.min_cost_flow.specs.declared.fault.NetFault.{NetFault}
-use Rattle.min_cost_flow.specs.declared.fault.NetFault.TheVariants.{TooLarge, BadEnd, BadSupply, BadCost}
+use Rattle.networks.specs.Net.{Net, node_count, arc_count, arc_at, supply_at, IsSmall, HasEnds, HasFairSupplies}
+use Rattle.networks.specs.declared.fault.NetFault.{NetFault}
+use Rattle.networks.specs.declared.fault.NetFault.TheVariants.{TooLarge, BadEnd, BadSupply, BadCost}
 
 -- the fault is there
 abbrev pub HasFault : Net → NetFault → Type 0

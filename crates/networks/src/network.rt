@@ -1,8 +1,10 @@
 ghost use Rattle.std.specs.Prelude.{◌≡◌, ◌<◌, ◌≤◌, IfOk, IfErr};
-ghost use Rattle.min_cost_flow.specs.Net.{Net, net_of, node_count, arc_count, arc_at, supply_at, IsNetwork};
+ghost use Rattle.networks.specs.Net.{Net, net_of, node_count, arc_count, arc_at, supply_at, shifted, HasFairSupplies, IsNetwork};
 
 use crate::arc::Arc;
 use crate::fault::{NetFault, has_bad_cost, has_bad_end, has_bad_supply};
+use crate::units::move_units;
+use std::alloc::{AllocError, Global};
 use std::marker::Model;
 
 /// How many nodes a network has at most.
@@ -28,7 +30,7 @@ impl Model for Network {
 }
 
 impl Network {
-    ghost use Rattle.min_cost_flow.specs.Fault.{IsFirstFault};
+    ghost use Rattle.networks.specs.Fault.{IsFirstFault};
 
     /// The network with one node for each supply, or the first fault in the order of [`NetFault`].
     /// A refusal drops both lists. No memory is taken, and time is linear.
@@ -91,5 +93,26 @@ impl Network {
         ensures { result ≡ supply_at self.now node }
     {
         self.supplies[node as usize]
+    }
+
+    /// Lets one node supply so many units more, and another one so many less.
+    pub fn shift(&mut self, from: u32, to: u32, amount: u32)
+        requires from { from < node_count self.old }
+        requires to { to < node_count self.old }
+        requires few { amount ≤ 2048 }
+        requires fair { HasFairSupplies (shifted self.old from to amount) }
+        ensures { self.new ≡ shifted self.old from to amount }
+    {
+        move_units(&mut self.supplies, from, to, amount);
+    }
+
+    /// The same network again.
+    pub fn copy(&self, alloc: Global) -> Result<Network, AllocError>
+        ensures { IfOk result (λ net. net ≡ self.now) }
+    {
+        let _ = alloc;
+        let supplies = self.supplies.clone()?;
+        let arcs = self.arcs.clone()?;
+        Ok(Network { supplies, arcs })
     }
 }
