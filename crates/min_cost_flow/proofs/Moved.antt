@@ -79,10 +79,10 @@ wanting_is true k h = refl
 wanting_is false k h = absurd (omega arith)
 
 pub moved_round : (net : Net) (x : ℕ → ℕ) (p p' : ℕ → ℤ) (es : List ℤ) (f t k : ℕ) → IsNetwork net → IsRound net x p (at_nodes es) → length es ≡ node_count net → none_at es (node_count net) → f < node_count net → t < node_count net → k ≤ 2048
-  → ((v : ℕ) → v < node_count net → p' v ≡ p v -ℤ p t)
-  → ((v : ℕ) → v < node_count net → (pos 0 ≤ℤ (p' v +ℤ pos (2 * node_count net))) × (p' v ≤ℤ pos (2 * node_count net)))
-  → ((i : ℕ) → i < arc_count net → x i + k ≤ 2097152)
-  → IsRound (shifted net f t k) x p' (at_nodes (moved es f t k))
+    → ((v : ℕ) → v < node_count net → p' v ≡ p v -ℤ p t)
+    → ((v : ℕ) → v < node_count net → (pos 0 ≤ℤ (p' v +ℤ pos (2 * node_count net))) × (p' v ≤ℤ pos (2 * node_count net)))
+    → ((i : ℕ) → i < arc_count net → x i + k ≤ 2097152)
+    → IsRound (shifted net f t k) x p' (at_nodes (moved es f t k))
 moved_round net x p p' es f t k nw r size none fb tb few base low room =
     let n = node_count net in
     let long : length (moved net.supplies f t k) ≡ n = length-moved net.supplies f t k in

@@ -45,8 +45,8 @@ pub(crate) fn settle(
     lay_out(network, first, reverse, forward, arcs, room);
     rank(network, score);
     let work = run(
-        network, first, reverse, forward, arcs, room, potential, excess, score, label, enter, order,
-        place,
+        network, first, reverse, forward, arcs, room, potential, excess, score, label, enter,
+        order, place,
     );
     match work {
         Some(_) => true,
@@ -104,7 +104,17 @@ pub(crate) fn resume(
             forward,
         };
         resend(
-            layout, arcs, room, potential, excess, score, label, enter, order, place, from as usize,
+            layout,
+            arcs,
+            room,
+            potential,
+            excess,
+            score,
+            label,
+            enter,
+            order,
+            place,
+            from as usize,
         )
     } else {
         settle(

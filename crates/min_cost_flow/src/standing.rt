@@ -64,14 +64,36 @@ impl Standing {
         let mut order = vec![in alloc; 0; nodes]?;
         let mut place = vec![in alloc; 0; nodes]?;
         if !settle(
-            &network, &mut first, &mut reverse, &mut forward, &mut arcs, &mut room, &mut potential,
-            &mut excess, &mut score, &mut label, &mut enter, &mut order, &mut place,
+            &network,
+            &mut first,
+            &mut reverse,
+            &mut forward,
+            &mut arcs,
+            &mut room,
+            &mut potential,
+            &mut excess,
+            &mut score,
+            &mut label,
+            &mut enter,
+            &mut order,
+            &mut place,
         ) {
             return Err(SolveFault::Infeasible);
         }
         Ok(Standing {
-            network, first, reverse, forward, arcs, room, potential, excess, score, label, enter,
-            order, place,
+            network,
+            first,
+            reverse,
+            forward,
+            arcs,
+            room,
+            potential,
+            excess,
+            score,
+            label,
+            enter,
+            order,
+            place,
         })
     }
 

@@ -37,7 +37,7 @@ returns c =
     let cloned : c.in_ok-potential.potential.items ≡ s.potential.items = c.in_ok-potential.ensures.items ∙ c.deref-4.ensures.value in
     let potential_is : answer.potential ≡ s.potential.items = ap (λ (a : Answer). a.potential) c.new.ensures ∙ cloned in
     let carries : (i : ℕ) → i < arc_count net → amounts answer.flow i ≡ carried s.reverse.items s.forward.items s.room.items i = λ i b.
-        rw flow_is (c.read_flow.ensures i (omega (arith, st.laid_out.forwards)) ∙ rw (forward, c.deref-2.ensures.value, c.deref-3.ensures.value) refl) in
+    rw flow_is (c.read_flow.ensures i (omega (arith, st.laid_out.forwards)) ∙ rw (forward, c.deref-2.ensures.value, c.deref-3.ensures.value) refl) in
     subst (λ (n : Net). Solves n answer) c.self.view_is
     (solves_at net (carried s.reverse.items s.forward.items s.room.items) (at_nodes s.potential.items) (at_nodes s.excess.items) answer c.node_count-nodes.ensures.kept st.round st.sent
     (ap (length {A = ℕ}) flow_is ∙ omega (arith, st.laid_out.forwards))
