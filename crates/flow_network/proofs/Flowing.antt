@@ -14,7 +14,7 @@ use Rattle.networks.specs.declared.arc.Arc.{Arc}
 use Rattle.networks.specs.declared.arc.Cap.{Cap}
 use Rattle.networks.specs.declared.arc.Cap.TheVariants.{AtMost, Any}
 use Rattle.networks.specs.Net.{Net, node_count, arc_count, arc_at, supply_at}
-use Rattle.min_cost_flow.specs.Flow.{Flow, IsWithin, leaves, enters, balance}
+use Rattle.networks.specs.Flow.{Flow, IsWithin, leaves, enters, balance}
 use Rattle.min_cost_flow.specs.Excess.{KeepsCaps, Leaves}
 use Rattle.min_cost_flow.specs.Existence.{IsClosedAny, IsJoined, IsBalanced}
 use Rattle.min_cost_flow.proofs.Existence.{flow_where_joined, excess_leaves}

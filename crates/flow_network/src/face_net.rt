@@ -1,7 +1,7 @@
 ghost use Rattle.std.specs.Prelude.{◌≡◌, ◌+◌, ◌-◌, ◌<◌, ◌≤◌, ℕ, IfOk, vec_len};
 ghost use Rattle.faces.specs.Map.{darts, vertices, with_outer};
 ghost use Rattle.networks.specs.Net.{shifted};
-ghost use Rattle.min_cost_flow.specs.Flow.{Flow};
+ghost use Rattle.networks.specs.Flow.{Flow};
 
 use crate::parts::{arcs_of, supplies_of};
 use faces::Plane;

@@ -2,6 +2,8 @@
 #![tactic(auto)]
 
 #[cfg(test)]
+mod moves;
+#[cfg(test)]
 mod plain;
 #[cfg(test)]
 mod tests;

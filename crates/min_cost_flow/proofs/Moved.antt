@@ -8,11 +8,11 @@ use Rattle.sums.specs.Sums.{sum_below}
 use Rattle.sums.proofs.Sums.{sum_below-changed, sum_below-none}
 use Rattle.networks.specs.Net.{Net, node_count, arc_count, arc_at, supply_at, moved, shifted, HasFairSupplies, IsNetwork}
 use Rattle.networks.proofs.Moving.{delta, moved_at, length-moved}
-use Rattle.min_cost_flow.specs.Flow.{Answer, Flow, Solves, amounts, at_nodes, balance, start_of, end_of, price_of, reduced_cost, IsResidual, HasPotentials}
+use Rattle.networks.specs.Flow.{Answer, Flow, Solves, amounts, at_nodes, balance, start_of, end_of, price_of, reduced_cost, IsResidual, HasPotentials}
 use Rattle.min_cost_flow.specs.Excess.{Leaves}
-use Rattle.min_cost_flow.specs.Layout.{numbers, IsLaidOut}
+use Rattle.networks.specs.Layout.{numbers, IsLaidOut}
 use Rattle.min_cost_flow.specs.Round.{left_over, IsRound}
-use Rattle.min_cost_flow.proofs.Ends.{start_in, end_in}
+use Rattle.networks.proofs.Ends.{start_in, end_in}
 use Rattle.min_cost_flow.proofs.Duality.{least_by_potentials}
 use Rattle.min_cost_flow.proofs.Rounds.{flow_at, flow_same, potentials_same}
 

@@ -7,10 +7,10 @@ use borrow.Author.Differences.{up}
 use Rattle.networks.specs.declared.arc.Cap.{Cap}
 use Rattle.networks.specs.declared.arc.Cap.TheVariants.{AtMost, Any}
 use Rattle.networks.specs.Net.{Net, node_count, arc_count, arc_at, HasEnds}
-use Rattle.min_cost_flow.specs.Flow.{HasRoom, IsResidual, start_of, end_of, HasNoFlow}
+use Rattle.networks.specs.Flow.{HasRoom, IsResidual, start_of, end_of, HasNoFlow}
 use Rattle.min_cost_flow.specs.Excess.{Leaves, IsClosedOut, IsResidualPath, IsCutOff}
 use Rattle.min_cost_flow.proofs.Cut.{no_flow_out}
-use Rattle.min_cost_flow.proofs.Ends.{end_in}
+use Rattle.networks.proofs.Ends.{end_in}
 use Rattle.min_cost_flow.proofs.Rounds.{sign_of, over_or_not, no_flow_wanting}
 use Rattle.min_cost_flow.proofs.Spreading.{Steps, IsClosedUnder, Passes, spread_from, found_below}
 

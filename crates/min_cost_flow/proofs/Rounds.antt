@@ -9,7 +9,7 @@ use Rattle.sums.proofs.Sums.{sum_below-same, sum_below-le, sum_below-changed, su
 use Rattle.networks.specs.declared.arc.Cap.{Cap}
 use Rattle.networks.specs.declared.arc.Cap.TheVariants.{AtMost, Any}
 use Rattle.networks.specs.Net.{Net, node_count, arc_count, arc_at, supply_at, HasEnds, IsNetwork}
-use Rattle.min_cost_flow.specs.Flow.{leaves, enters, balance, IsWithin, HasRoom, Flow, HasNoFlow, IsResidual, HasPotentials, reduced_cost}
+use Rattle.networks.specs.Flow.{leaves, enters, balance, IsWithin, HasRoom, Flow, HasNoFlow, IsResidual, HasPotentials, reduced_cost}
 use Rattle.min_cost_flow.specs.Excess.{KeepsCaps, Leaves}
 use Rattle.min_cost_flow.specs.Round.{left_over, supply_sum, carrying, IsRound, IsLess, IsWork, IsDone}
 use Rattle.std.proofs.Math.Nat.{add-mul, one-mul}

@@ -8,15 +8,15 @@ use Rattle.sums.specs.Sums.{sum_below}
 use Rattle.sums.proofs.Sums.{sum_below-le, sum_below-constant}
 use Rattle.networks.specs.declared.arc.Cap.{Cap}
 use Rattle.networks.specs.declared.arc.Cap.TheVariants.{AtMost, Any}
-use Rattle.min_cost_flow.specs.declared.residual.ResidualArc.{ResidualArc}
+use Rattle.networks.specs.declared.residual.ResidualArc.{ResidualArc}
 use Rattle.networks.specs.Net.{Net, node_count, arc_count, arc_at, HasUnitCosts, IsNetwork}
-use Rattle.min_cost_flow.specs.Flow.{HasRoom, IsResidual, HasPotentials, HasNoFlow, start_of, end_of, price_of, reduced_cost}
+use Rattle.networks.specs.Flow.{HasRoom, IsResidual, HasPotentials, HasNoFlow, start_of, end_of, price_of, reduced_cost}
 use Rattle.min_cost_flow.specs.Round.{IsRound}
-use Rattle.min_cost_flow.specs.Layout.{numbers, end_at, code_at, StartsAt, place_of, limit_of, IsLaidOut, IsFilled, carried}
+use Rattle.networks.specs.Layout.{numbers, end_at, code_at, StartsAt, place_of, limit_of, IsLaidOut, IsFilled, carried}
 use Rattle.min_cost_flow.specs.Search.{far, IsCode, IsOpen, IsGraph, IsPriced, IsNear, IsReached, IsHit, IsNearest, IsServed, IsLeft, IsPut, degree, looked}
 use Rattle.min_cost_flow.specs.Path.{HasPath}
 use Rattle.min_cost_flow.proofs.Cut.{no_flow_out}
-use Rattle.min_cost_flow.proofs.Ends.{start_in, end_in}
+use Rattle.networks.proofs.Ends.{start_in, end_in}
 use Rattle.min_cost_flow.proofs.Turning.{turned_back, start_is}
 use Rattle.min_cost_flow.proofs.Signs.{plain_lt, lt_true}
 use Rattle.min_cost_flow.proofs.Reaching.{below_or_not, not_less}

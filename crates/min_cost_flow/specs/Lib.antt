@@ -1,8 +1,5 @@
-pub mod Flow
 pub mod Excess
 pub mod Residual
-pub mod Layout
-pub mod Counting
 pub mod Search
 pub mod Path
 pub mod Round

@@ -3,7 +3,7 @@ use Rattle.std.specs.Prelude.{ℕ, ◌+◌, ◌*◌, ◌<◌, ◌≤◌, ◌≡�
 use borrow.Author.Differences.{up}
 use Rattle.sums.specs.Sums.{sum_below}
 use Rattle.networks.specs.Net.{Net, node_count, arc_count, supply_at}
-use Rattle.min_cost_flow.specs.Flow.{Flow, HasPotentials}
+use Rattle.networks.specs.Flow.{Flow, HasPotentials}
 use Rattle.min_cost_flow.specs.Excess.{KeepsCaps, Leaves}
 
 -- what is left to send

@@ -2,12 +2,12 @@
 -- distance, and what holds of them.
 use Rattle.std.specs.Prelude.{ℕ, ◌+◌, ◌-◌, ◌*◌, ◌<◌, ◌≤◌, ◌≡◌, ◌≢◌, ℤ, pos, negsuc, ◌+ℤ◌, ◌-ℤ◌, ◌≤ℤ◌, ◌<ℤ◌, ◌⊎◌, List, length}
 use Rattle.sums.specs.Sums.{sum_below}
-use Rattle.min_cost_flow.specs.declared.residual.ResidualArc.{ResidualArc}
+use Rattle.networks.specs.declared.residual.ResidualArc.{ResidualArc}
 use Rattle.min_cost_flow.specs.declared.reach.Ground.{Ground}
 use Rattle.min_cost_flow.specs.declared.reach.Progress.{Progress}
 use Rattle.min_cost_flow.specs.declared.reach.Step.{Step}
-use Rattle.min_cost_flow.specs.Flow.{at_nodes}
-use Rattle.min_cost_flow.specs.Layout.{numbers, end_at, code_at, StartsAt}
+use Rattle.networks.specs.Flow.{at_nodes}
+use Rattle.networks.specs.Layout.{numbers, end_at, code_at, StartsAt}
 
 -- the label of a node that was not reached
 abbrev pub far : ℤ

@@ -1,9 +1,9 @@
 -- A flow of least cost that stands while supplies move.
 use Rattle.std.specs.Prelude.{ℕ, ◌+◌, ◌<◌, ◌≡◌, ◌^◌, ℤ, pos, List, length}
 use Rattle.networks.specs.Net.{Net, node_count, arc_count, arc_at}
-use Rattle.min_cost_flow.specs.declared.residual.ResidualArc.{ResidualArc}
-use Rattle.min_cost_flow.specs.Flow.{at_nodes}
-use Rattle.min_cost_flow.specs.Layout.{IsLaidOut, IsFilled, carried, limit_of}
+use Rattle.networks.specs.declared.residual.ResidualArc.{ResidualArc}
+use Rattle.networks.specs.Flow.{at_nodes}
+use Rattle.networks.specs.Layout.{IsLaidOut, IsFilled, carried, limit_of}
 use Rattle.min_cost_flow.specs.Lists.{HasNodeLists}
 use Rattle.min_cost_flow.specs.Search.{far}
 use Rattle.min_cost_flow.specs.Round.{IsRound}

@@ -6,9 +6,7 @@
 #![tactic(auto)]
 
 mod augment;
-mod build;
 mod reach;
-mod residual;
 mod resume;
 mod search;
 mod solved;

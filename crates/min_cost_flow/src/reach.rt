@@ -1,10 +1,10 @@
 //! The nodes that a search reaches, in order of their distance.
 ghost use Rattle.std.specs.Prelude.{◌≡◌, ◌≢◌, ◌⊎◌, ◌<◌, ◌≤◌, ◌+◌, ◌^◌, ℕ, ℤ, List, length, pos, negsuc, ◌≤ℤ◌, ◌<ℤ◌, ◌+ℤ◌, ◌-ℤ◌};
-ghost use Rattle.min_cost_flow.specs.Flow.{at_nodes};
-ghost use Rattle.min_cost_flow.specs.Layout.{numbers, end_at, code_at, StartsAt};
+ghost use Rattle.networks.specs.Flow.{at_nodes};
+ghost use Rattle.networks.specs.Layout.{numbers, end_at, code_at, StartsAt};
 ghost use Rattle.min_cost_flow.specs.Search.{far, nodes_of, IsGround, HasSizes, Reaches, FindsNearest, Keeps, Offers, IsPut, IsSwapped};
 
-use crate::residual::ResidualArc;
+use networks::ResidualArc;
 
 /// The label of a node that was not reached.
 pub(crate) const FAR: i32 = 8_000;

@@ -1,21 +1,16 @@
 //! Solving anew, or going on from the flow that is there after supplies have moved.
 ghost use Rattle.std.specs.Prelude.{◌≡◌, ◌≢◌, ◌<◌, ◌≤◌, ◌+◌, ◌*◌, ◌^◌, ℕ, length, pos, negsuc, ◌≤ℤ◌, ◌<ℤ◌, ◌+ℤ◌, ◌-ℤ◌, true, false};
 ghost use Rattle.networks.specs.Net.{arc_count, arc_at, node_count, IsNetwork, HasFairSupplies, shifted};
-ghost use Rattle.min_cost_flow.specs.Flow.{at_nodes, HasNoFlow};
-ghost use Rattle.min_cost_flow.specs.Layout.{numbers, limit_of, IsLaidOut, IsFilled, carried};
+ghost use Rattle.networks.specs.Flow.{at_nodes, HasNoFlow};
+ghost use Rattle.networks.specs.Layout.{numbers, limit_of, IsLaidOut, IsFilled, carried};
 ghost use Rattle.min_cost_flow.specs.Search.{far};
 ghost use Rattle.min_cost_flow.specs.Lists.{HasNodeLists};
 ghost use Rattle.min_cost_flow.specs.Round.{IsRound};
 ghost use Rattle.min_cost_flow.specs.Stand.{HasArcLists, IsSettled};
 
-use crate::build::lay_out;
 use crate::reach::FAR;
-use crate::residual::{Layout, ResidualArc};
 use crate::solver::{augment_once, has_deficit, rank, run};
-use networks::{Network, move_units};
-
-/// How many units an arc carries at most.
-const MOST: u32 = 1 << 21;
+use networks::{Layout, Network, ResidualArc, lay_out, move_units};
 
 /// Solves from nothing; whether there is a flow.
 pub(crate) fn settle(
@@ -63,9 +58,8 @@ fn write_all(numbers: &mut [i32], number: i32)
     }
 }
 
-/// Moves supply from one node to another, and sends it from where the flow stands; whether there is a
-/// flow still. Where the potentials have drifted too far apart, or an arc carries too much, it solves
-/// from nothing.
+/// Moves supply from one node to another and goes on from the flow that stands; whether there is one still.
+/// Where potentials have drifted too far apart, or an arc carries too much, it solves from nothing.
 pub(crate) fn resume(
     network: &mut Network,
     first: &mut [u32],
@@ -124,7 +118,7 @@ pub(crate) fn resume(
     }
 }
 
-/// Whether each arc can carry so many units more.
+/// Whether each arc can carry so many units more, at most 2,097,152 in all.
 fn carries_little(reverse: &[u32], forward: &[u32], room: &[u32], amount: u32) -> bool
     requires reverses { (i : ℕ) → i < length forward.now → numbers forward.now i < length reverse.now }
     requires rooms { (i : ℕ) → i < length forward.now → numbers reverse.now (numbers forward.now i) < length room.now }
@@ -132,7 +126,7 @@ fn carries_little(reverse: &[u32], forward: &[u32], room: &[u32], amount: u32) -
     requires few { amount ≤ 2048 }
     ensures { result ≡ true → (i : ℕ) → i < length forward.now → carried reverse.now forward.now room.now i + amount ≤ 2097152 }
 {
-    let most = MOST - amount;
+    let most = (1 << 21) - amount;
     for along in forward.iter() {
         if room[reverse[*along as usize] as usize] > most {
             return false;
@@ -141,8 +135,7 @@ fn carries_little(reverse: &[u32], forward: &[u32], room: &[u32], amount: u32) -
     true
 }
 
-/// Takes the potential of a node for 0; whether all potentials are at most twice the number of nodes
-/// in absolute value then.
+/// Takes the potential of a node for 0; whether all are within reach then.
 fn rebase(potential: &mut [i32], node: usize) -> bool
     requires node { node < length potential.old }
     requires small { length potential.old ≤ 1024 }

@@ -2,19 +2,17 @@
 ghost use Rattle.std.specs.Prelude.{◌≡◌, ◌≢◌, ◌<◌, ◌≤◌, ◌+◌, ◌*◌, ◌^◌, ℕ, ℤ, List, length, pos, negsuc, ◌≤ℤ◌, ◌<ℤ◌, ◌+ℤ◌, ◌-ℤ◌, IfOk, IfErr, IfSome, IfNone, true, false};
 ghost use Rattle.min_cost_flow.specs.declared.solver.SolveFault.TheVariants.{Memory};
 ghost use Rattle.networks.specs.Net.{arc_count, arc_at, node_count, supply_at, IsNetwork};
-ghost use Rattle.min_cost_flow.specs.Flow.{amounts, at_nodes, Flow, HasPotentials, HasNoFlow, Solves};
-ghost use Rattle.min_cost_flow.specs.Layout.{numbers, limit_of, IsLaidOut, IsFilled, carried};
+ghost use Rattle.networks.specs.Flow.{amounts, at_nodes, Flow, HasPotentials, HasNoFlow, Solves};
+ghost use Rattle.networks.specs.Layout.{numbers, limit_of, IsLaidOut, IsFilled, carried};
 ghost use Rattle.min_cost_flow.specs.Search.{far, IsPut};
 ghost use Rattle.min_cost_flow.specs.Lists.{HasNodeLists};
 ghost use Rattle.min_cost_flow.specs.Round.{left_over, carrying, supply_sum, IsRound, IsLess, IsWork, IsDone, HasSupply, IsWithinReach};
 
 use crate::augment::send;
-use crate::build::lay_out;
 use crate::reach::{FAR, Ground};
-use crate::residual::{Layout, ResidualArc};
 use crate::search::search;
 use crate::solved::Solved;
-use networks::Network;
+use networks::{Layout, Network, ResidualArc, lay_out};
 use std::alloc::{AllocError, Global};
 use thiserror::Error;
 

@@ -1,20 +1,17 @@
 //! A flow of least cost that stands while supplies move.
 ghost use Rattle.std.specs.Prelude.{◌≡◌, ◌<◌, ◌≤◌, IfOk, IfErr, IfSome, IfNone, ℕ, length};
 ghost use Rattle.networks.specs.Net.{Net, node_count, arc_count, shifted, HasFairSupplies};
-ghost use Rattle.min_cost_flow.specs.Flow.{HasNoFlow, Solves, at_nodes};
+ghost use Rattle.networks.specs.Flow.{HasNoFlow, Solves, at_nodes};
 ghost use Rattle.min_cost_flow.specs.Stand.{IsSettled};
-ghost use Rattle.min_cost_flow.specs.Layout.{carried};
 
-use crate::residual::ResidualArc;
 use crate::resume::{resume, settle};
 use crate::solved::Solved;
 use crate::solver::{SolveFault, read_flow};
-use networks::Network;
+use networks::{Network, ResidualArc};
 use std::alloc::{AllocError, Global};
 use std::marker::Model;
 
-/// A flow of least cost in a network of its own, with all that was needed to find it, so that supplies
-/// can move and the flow follows.
+/// A flow of least cost in a network of its own, which follows as supplies move.
 #[derive(Drop)]
 pub struct Standing {
     network: Network,
@@ -131,11 +128,17 @@ impl Standing {
         Some(standing)
     }
 
+    /// The network, with its supplies as they are now.
+    pub fn network(&self) -> &Network
+        ensures { result.now ≡ self.now }
+    {
+        &self.network
+    }
+
     /// The flow and its potentials, with no work counted.
     pub fn solved(&self, alloc: Global) -> Result<Solved, AllocError>
         ensures { IfOk result (λ solved. Solves self.now solved) }
     {
-        // Only the proof needs this: it says that there is a network.
         let _nodes = self.network.node_count();
         let mut flow = Vec::from_slice(alloc, &self.forward)?;
         read_flow(&self.reverse, &self.room, &mut flow);

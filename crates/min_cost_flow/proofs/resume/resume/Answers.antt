@@ -2,8 +2,8 @@ use Rattle.std.proofs.Common.{◌≡◌, ◌<◌, ◌≤◌, ◌+◌, ◌*◌, �
 use Rattle.std.specs.Prelude.{pos, ◌+ℤ◌, ◌-ℤ◌, ◌≤ℤ◌}
 use Rattle.networks.specs.Net.{Net, node_count, arc_count, shifted, moved}
 use Rattle.networks.proofs.Moving.{length-moved}
-use Rattle.min_cost_flow.specs.Flow.{at_nodes}
-use Rattle.min_cost_flow.specs.Layout.{numbers, carried, IsLaidOut, IsFilled}
+use Rattle.networks.specs.Flow.{at_nodes}
+use Rattle.networks.specs.Layout.{numbers, carried, IsLaidOut, IsFilled}
 use Rattle.min_cost_flow.specs.Round.{IsRound}
 use Rattle.min_cost_flow.specs.Stand.{IsSettled}
 use Rattle.min_cost_flow.proofs.Moved.{moved_round, laid_still, forward_in, reverse_in}

@@ -1,7 +1,7 @@
 use Rattle.std.proofs.Common.{◌≡◌, ℕ, arith, sym, subst, inl, inr}
 use Rattle.std.specs.Prelude.{pos, ◌≤ℤ◌}
 use Rattle.std.proofs.lemmas.Bool.{cases_lt}
-use Rattle.min_cost_flow.specs.Flow.{at_nodes}
+use Rattle.networks.specs.Flow.{at_nodes}
 use Rattle.min_cost_flow.proofs.Rounds.{first_work, done_at, no_flow_wanting, nothing_left}
 use Rattle.min_cost_flow.proofs.solver.run.Goals as goal
 

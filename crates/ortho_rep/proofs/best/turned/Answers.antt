@@ -1,7 +1,7 @@
 use Rattle.std.proofs.Common.{◌≡◌, ◌+◌, ℕ, ap, sym, ◌∙◌, subst, arith}
 use Rattle.faces.specs.Map.{with_outer}
 use Rattle.networks.specs.Net.{Net, shifted, HasFairSupplies}
-use Rattle.min_cost_flow.specs.Flow.{Flow}
+use Rattle.networks.specs.Flow.{Flow}
 use Rattle.flow_network.proofs.Turning.{turned_fair}
 use Rattle.flow_network.proofs.Flowing.{net_flows}
 use Rattle.flow_network.proofs.Faultless.{arc_ends}

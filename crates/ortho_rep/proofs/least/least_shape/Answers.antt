@@ -1,6 +1,6 @@
 use Rattle.std.proofs.Common.{subst}
 use Rattle.networks.specs.Net.{Net}
-use Rattle.min_cost_flow.specs.Flow.{Solves}
+use Rattle.networks.specs.Flow.{Solves}
 use Rattle.ortho_rep.proofs.least.least_shape.Goals as goal
 
 pub shape_in-requires-clause-solves : goal.shape_in-requires-clause-solves

@@ -1,5 +1,5 @@
 use Rattle.std.proofs.Common.{arith}
-use Rattle.min_cost_flow.specs.Flow.{Solves, amounts, at_nodes}
+use Rattle.networks.specs.Flow.{Solves, amounts, at_nodes}
 use Rattle.ortho_rep.proofs.FromFlow.{IsOfFlow, shape_of_flow, least_of_flow, proof_of_flow}
 use Rattle.ortho_rep.proofs.least.shape_in.Goals as goal
 

@@ -1,8 +1,8 @@
 use Rattle.std.proofs.Common.{rules, ◌≡◌, ◌<◌, ℕ, ℤ, List, length, refl, ap, sym, ◌∙◌, subst, arith}
 use Rattle.std.proofs.lemmas.List.{with_items_is}
 use Rattle.networks.specs.Net.{Net, arc_count, node_count}
-use Rattle.min_cost_flow.specs.Flow.{Answer, Solves, amounts, at_nodes}
-use Rattle.min_cost_flow.specs.Layout.{carried}
+use Rattle.networks.specs.Flow.{Answer, Solves, amounts, at_nodes}
+use Rattle.networks.specs.Layout.{carried}
 use Rattle.min_cost_flow.proofs.Moved.{forward_in, reverse_in, solves_at}
 use Rattle.min_cost_flow.proofs.standing.Standing.solved.Goals as goal
 

@@ -2,9 +2,9 @@
 use Rattle.std.specs.Prelude.{ℕ, ◌+◌, ◌<◌, ◌≤◌, ◌==◌, ◌≡◌, ◌^◌, ℤ, pos, ◌+ℤ◌, Bool, true, false, if◌then◌else◌, List, length, slice_index, slice_index_or}
 use Rattle.networks.specs.declared.arc.Cap.{Cap}
 use Rattle.networks.specs.declared.arc.Cap.TheVariants.{AtMost, Any}
-use Rattle.min_cost_flow.specs.declared.residual.ResidualArc.{ResidualArc}
+use Rattle.networks.specs.declared.residual.ResidualArc.{ResidualArc}
 use Rattle.networks.specs.Net.{Net, node_count, arc_count, arc_at}
-use Rattle.min_cost_flow.specs.Flow.{start_of, end_of, price_of}
+use Rattle.networks.specs.Flow.{start_of, end_of, price_of}
 
 abbrev pub numbers : List ℕ → ℕ → ℕ
 numbers xs i = slice_index xs i

@@ -1,23 +1,23 @@
 //! Residual arcs, those that start at a node side by side.
 ghost use Rattle.std.specs.Prelude.{◌≡◌, ◌<◌, ◌+◌, ◌^◌, length};
-ghost use Rattle.min_cost_flow.specs.Layout.{end_at, code_at};
+ghost use Rattle.networks.specs.Layout.{end_at, code_at};
 
-use networks::Network;
+use crate::network::Network;
 
 /// What the code of a residual arc is raised by while nothing fits along it.
-pub(crate) const SHUT: i16 = 16_000;
+pub const SHUT: i16 = 16_000;
 
 /// A residual arc as a search reads it: the node where it ends, and what a unit along it costs, with
 /// `SHUT` more while nothing fits.
 #[derive(Clone, Copy, Debug, PartialEq, Eq)]
-pub(crate) struct ResidualArc {
+pub struct ResidualArc {
     pub end: u16,
     pub code: i16,
 }
 
 /// Where the residual arcs of a network stand.
 #[derive(Clone, Copy)]
-pub(crate) struct Layout<'a> {
+pub struct Layout<'a> {
     pub network: &'a Network,
     /// The residual arcs that start at node v have the numbers from `first[v]` up to `first[v + 1]`.
     pub first: &'a [u32],
@@ -28,7 +28,7 @@ pub(crate) struct Layout<'a> {
 }
 
 /// One look at a residual arc: the only place where a search reads one.
-pub(crate) fn look(arcs: &[ResidualArc], number: usize, looks: &mut u64) -> ResidualArc
+pub fn look(arcs: &[ResidualArc], number: usize, looks: &mut u64) -> ResidualArc
     requires number { number < length arcs.now }
     requires few { looks.old < 2 ^ 63 }
     ensures end { result.end ≡ end_at arcs.now number }
