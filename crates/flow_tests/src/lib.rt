@@ -2,8 +2,6 @@
 #![tactic(auto)]
 
 #[cfg(test)]
-mod moves;
-#[cfg(test)]
 mod plain;
 #[cfg(test)]
 mod tests;

@@ -9,7 +9,7 @@ use std::process::Abort;
 use std::test::Fail;
 
 /// The network of supplies and arcs given as `(from, to, cap, cost)`.
-pub(crate) fn network(
+fn network(
     alloc: Global,
     supplies: &[i32],
     arcs: &[(u32, u32, Cap, u32)],
@@ -148,12 +148,12 @@ fn faults_say_what_is_wrong(rt: HostRuntime) -> Result<(), Fail> {
 
 /// A linear congruential generator (Knuth's MMIX constants), its upper 31 bits.
 #[derive(Drop)]
-pub(crate) struct Numbers {
-    pub state: u64,
+struct Numbers {
+    state: u64,
 }
 
 impl Numbers {
-    pub(crate) fn below(&mut self, bound: u32) -> u32
+    fn below(&mut self, bound: u32) -> u32
         requires { 0 < bound }
         ensures { result < bound }
     {
@@ -164,7 +164,7 @@ impl Numbers {
 }
 
 /// The next of the random networks, made as `bench/networks/least_costs.py` makes it.
-pub(crate) fn random_network(
+fn random_network(
     alloc: Global,
     numbers: &mut Numbers,
 ) -> Result<Result<Network, NetFault>, AllocError> {
