@@ -4,8 +4,8 @@
 ghost use Rattle.std.specs.Prelude.{◌≡◌, ◌≢◌, ◌<◌, ℕ, ℤ, pos};
 ghost use Rattle.min_cost_flow.specs.Excess.{KeepsCaps, Leaves, IsCutOff};
 ghost use Rattle.min_cost_flow.specs.Existence.{IsBalanced, IsJoined};
-ghost use Rattle.min_cost_flow.specs.Flow.{Flow, HasNoFlow, HasPotentials, IsLeastCost};
-ghost use Rattle.min_cost_flow.specs.Net.{HasEnds, Net, node_count};
+ghost use Rattle.networks.specs.Flow.{Flow, HasNoFlow, HasPotentials, IsLeastCost};
+ghost use Rattle.networks.specs.Net.{HasEnds, Net, node_count};
 
 /// A flow whose residual arcs all cost at least 0 under some potentials costs no more than any other
 /// flow.

@@ -6,11 +6,11 @@ use Rattle.std.proofs.lemmas.Int.{ints}
 use Rattle.faces.specs.Map.{Map, IsPlane, HasEnds, darts, vertices, head, mate, face_at, degree}
 use Rattle.faces.proofs.Ends.{plane_ends}
 use Rattle.faces.proofs.Degrees.{degree_few}
-use Rattle.min_cost_flow.specs.declared.arc.Arc.{Arc}
-use Rattle.min_cost_flow.specs.Net.{Net, node_count, arc_count, arc_at, supply_at}
-use Rattle.min_cost_flow.specs.Fault.{IsFirstFault, HasFault}
-use Rattle.min_cost_flow.specs.declared.fault.NetFault.{NetFault}
-use Rattle.min_cost_flow.specs.declared.fault.NetFault.TheVariants.{TooLarge, BadEnd, BadSupply, BadCost}
+use Rattle.networks.specs.declared.arc.Arc.{Arc}
+use Rattle.networks.specs.Net.{Net, node_count, arc_count, arc_at, supply_at}
+use Rattle.networks.specs.Fault.{IsFirstFault, HasFault}
+use Rattle.networks.specs.declared.fault.NetFault.{NetFault}
+use Rattle.networks.specs.declared.fault.NetFault.TheVariants.{TooLarge, BadEnd, BadSupply, BadCost}
 use Rattle.flow_network.specs.FaceNet.{IsFaceNet, arrivals}
 use Rattle.flow_network.proofs.Degrees.{arrivals_most}
 

@@ -10,11 +10,11 @@ use Rattle.faces.specs.Map.{Map, IsPlane, HasEnds, darts, vertices, head, mate, 
 use Rattle.faces.proofs.Ends.{plane_ends}
 use Rattle.faces.proofs.Joined.{faces_joined}
 use Rattle.faces.proofs.Degrees.{degrees_sum}
-use Rattle.min_cost_flow.specs.declared.arc.Arc.{Arc}
-use Rattle.min_cost_flow.specs.declared.arc.Cap.{Cap}
-use Rattle.min_cost_flow.specs.declared.arc.Cap.TheVariants.{AtMost, Any}
-use Rattle.min_cost_flow.specs.Net.{Net, node_count, arc_count, arc_at, supply_at}
-use Rattle.min_cost_flow.specs.Flow.{Flow, IsWithin, leaves, enters, balance}
+use Rattle.networks.specs.declared.arc.Arc.{Arc}
+use Rattle.networks.specs.declared.arc.Cap.{Cap}
+use Rattle.networks.specs.declared.arc.Cap.TheVariants.{AtMost, Any}
+use Rattle.networks.specs.Net.{Net, node_count, arc_count, arc_at, supply_at}
+use Rattle.networks.specs.Flow.{Flow, IsWithin, leaves, enters, balance}
 use Rattle.min_cost_flow.specs.Excess.{KeepsCaps, Leaves}
 use Rattle.min_cost_flow.specs.Existence.{IsClosedAny, IsJoined, IsBalanced}
 use Rattle.min_cost_flow.proofs.Existence.{flow_where_joined, excess_leaves}

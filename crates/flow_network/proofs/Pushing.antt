@@ -4,8 +4,8 @@ use Rattle.std.proofs.lemmas.Bool.{cases_eq, eq-eqb, ne_eqb, cond-true, cond-fal
 use Rattle.std.proofs.lemmas.List.{get_or_append_left, get_or-append_right, length-append}
 use Rattle.sums.specs.Sums.{sum_below}
 use Rattle.sums.proofs.Sums.{sum_below-more, sum_below-le, sum_below-constant}
-use Rattle.min_cost_flow.specs.declared.arc.Arc.{Arc}
-use Rattle.min_cost_flow.specs.declared.arc.Cap.{Cap}
+use Rattle.networks.specs.declared.arc.Arc.{Arc}
+use Rattle.networks.specs.declared.arc.Cap.{Cap}
 
 -- so much longer
 pub push_length : {X : Type 0} (xs ys : List X) (x : X) → ys ≡ xs ++ x ∷ [] → length ys ≡ length xs + 1

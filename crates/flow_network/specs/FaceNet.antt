@@ -4,8 +4,8 @@
 use Rattle.std.specs.Prelude.{◌≡◌, ℕ, ◌+◌, ◌-◌, ◌<◌, ◌≤◌, ◌==◌, if◌then◌else◌, ℤ, pos, negsuc, ◌-ℤ◌}
 use Rattle.sums.specs.Sums.{sum_below}
 use Rattle.faces.specs.Map.{Map, darts, vertices, head, mate, face_at, degree}
-use Rattle.min_cost_flow.specs.declared.arc.Cap.TheVariants.{AtMost, Any}
-use Rattle.min_cost_flow.specs.Net.{Net, node_count, arc_count, arc_at, supply_at}
+use Rattle.networks.specs.declared.arc.Cap.TheVariants.{AtMost, Any}
+use Rattle.networks.specs.Net.{Net, node_count, arc_count, arc_at, supply_at}
 
 -- how many darts arrive at a vertex
 abbrev pub arrivals : Map → ℕ → ℕ

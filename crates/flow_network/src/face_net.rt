@@ -1,6 +1,7 @@
 ghost use Rattle.std.specs.Prelude.{◌≡◌, ◌+◌, ◌-◌, ◌<◌, ◌≤◌, ℕ, IfOk, vec_len};
-ghost use Rattle.faces.specs.Map.{darts, vertices};
-ghost use Rattle.min_cost_flow.specs.Flow.{Flow};
+ghost use Rattle.faces.specs.Map.{darts, vertices, with_outer};
+ghost use Rattle.networks.specs.Net.{shifted};
+ghost use Rattle.networks.specs.Flow.{Flow};
 
 use crate::parts::{arcs_of, supplies_of};
 use faces::Plane;
@@ -62,6 +63,21 @@ impl FaceNet {
         ensures { result.now ≡ self.now.network }
     {
         &self.network
+    }
+
+    /// Turns a face out in place of the plane's outer one.
+    pub fn turn_out(&mut self, plane: &Plane, face: u16)
+        requires net { IsNetOf plane.now self.old }
+        requires face { face < plane.now.faces }
+        ensures net { IsNetOf (with_outer plane.now face) self.new }
+        ensures moved { self.new.network
+            ≡ shifted self.old.network (self.old.vertices + plane.now.outer) (self.old.vertices + face) 8 }
+    {
+        // Only the proof needs this: `graph` says that the plane is one.
+        let _graph = plane.graph();
+        let from = self.face_node(plane.outer());
+        let to = self.face_node(face);
+        self.network.shift(from, to, 8);
     }
 
     /// The arc that carries the angle of a dart, less one.

@@ -1,7 +1,7 @@
 ghost use Rattle.std.specs.Prelude.{◌≡◌, [], ◌+◌, ◌-◌, ◌<◌, ◌≤◌, ◌==◌, if◌then◌else◌, ℕ, pos, negsuc, ◌-ℤ◌, IfOk, length, slice_index, slice_index_or};
 ghost use Rattle.faces.specs.Map.{darts, vertices, head, mate, face_at, degree};
-ghost use Rattle.min_cost_flow.specs.declared.arc.Cap.TheVariants.{AtMost, Any};
-ghost use Rattle.min_cost_flow.specs.Net.{no_arc};
+ghost use Rattle.networks.specs.declared.arc.Cap.TheVariants.{AtMost, Any};
+ghost use Rattle.networks.specs.Net.{no_arc};
 ghost use Rattle.flow_network.specs.FaceNet.{arrivals};
 
 use faces::Plane;

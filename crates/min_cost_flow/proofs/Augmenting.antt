@@ -4,17 +4,17 @@ use Rattle.std.specs.Prelude.{ℤ, pos, negsuc, ◌+ℤ◌, ◌-ℤ◌, ◌≤�
 use Rattle.std.proofs.lemmas.Bool.{both_ways, cases_eq, cases_lt, eq-eqb, ne_eqb, cond-true, cond-false}
 use Rattle.std.proofs.lemmas.Int.{ints}
 use Rattle.sums.proofs.Sums.{sum_below-same, sum_below-changed}
-use Rattle.min_cost_flow.specs.declared.arc.Cap.{Cap}
-use Rattle.min_cost_flow.specs.declared.arc.Cap.TheVariants.{AtMost, Any}
-use Rattle.min_cost_flow.specs.declared.residual.ResidualArc.{ResidualArc}
-use Rattle.min_cost_flow.specs.Net.{Net, node_count, arc_count, arc_at, HasUnitCosts, IsNetwork}
-use Rattle.min_cost_flow.specs.Flow.{leaves, enters, IsWithin, HasRoom, IsResidual, HasPotentials, start_of, end_of, price_of, reduced_cost}
+use Rattle.networks.specs.declared.arc.Cap.{Cap}
+use Rattle.networks.specs.declared.arc.Cap.TheVariants.{AtMost, Any}
+use Rattle.networks.specs.declared.residual.ResidualArc.{ResidualArc}
+use Rattle.networks.specs.Net.{Net, node_count, arc_count, arc_at, HasUnitCosts, IsNetwork}
+use Rattle.networks.specs.Flow.{leaves, enters, IsWithin, HasRoom, IsResidual, HasPotentials, start_of, end_of, price_of, reduced_cost}
 use Rattle.min_cost_flow.specs.Excess.{KeepsCaps, Carries}
 use Rattle.min_cost_flow.specs.Residual.{IsMoved}
-use Rattle.min_cost_flow.specs.Layout.{numbers, end_at, code_at, StartsAt, place_of, IsLaidOut, limit_of, IsFilled, carried}
+use Rattle.networks.specs.Layout.{numbers, end_at, code_at, StartsAt, place_of, IsLaidOut, limit_of, IsFilled, carried}
 use Rattle.min_cost_flow.specs.Path.{IsTight, HasPath}
 use Rattle.min_cost_flow.specs.Round.{IsLess, carrying}
-use Rattle.min_cost_flow.proofs.Ends.{start_in, end_in, price_most}
+use Rattle.networks.proofs.Ends.{start_in, end_in, price_most}
 use Rattle.min_cost_flow.proofs.Changes.{SameBut, moved_carries, carried_leaves, potentials_stay}
 use Rattle.min_cost_flow.proofs.Rounds.{IsSent, left_falls}
 use Rattle.min_cost_flow.proofs.Turning.{start_is}

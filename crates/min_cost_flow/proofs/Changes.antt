@@ -5,8 +5,8 @@ use Rattle.std.proofs.lemmas.Bool.{cases_eq, eq-eqb, ne_eqb, cond-true, cond-fal
 use Rattle.std.proofs.lemmas.Int.{ints}
 use Rattle.sums.specs.Sums.{sum_below}
 use Rattle.sums.proofs.Sums.{sum_below-changed}
-use Rattle.min_cost_flow.specs.Net.{Net, arc_count, arc_at, supply_at}
-use Rattle.min_cost_flow.specs.Flow.{leaves, enters, balance, HasRoom, IsResidual, HasPotentials, start_of, end_of, reduced_cost}
+use Rattle.networks.specs.Net.{Net, arc_count, arc_at, supply_at}
+use Rattle.networks.specs.Flow.{leaves, enters, balance, HasRoom, IsResidual, HasPotentials, start_of, end_of, reduced_cost}
 use Rattle.min_cost_flow.specs.Excess.{Leaves, Carries}
 use Rattle.min_cost_flow.specs.Residual.{IsMoved}
 

@@ -7,10 +7,10 @@ use Rattle.std.proofs.lemmas.Int.{ints}
 use borrow.Author.Differences.{up, down}
 use Rattle.sums.specs.Sums.{sum_below}
 use Rattle.sums.proofs.Sums.{sum_below-same, sum_below-le, sum_below-add, exchanged}
-use Rattle.min_cost_flow.specs.declared.arc.Cap.{Cap}
-use Rattle.min_cost_flow.specs.declared.arc.Cap.TheVariants.{AtMost, Any}
-use Rattle.min_cost_flow.specs.Net.{Net, node_count, arc_count, arc_at, supply_at, HasEnds}
-use Rattle.min_cost_flow.specs.Flow.{leaves, enters, balance, cost_of, IsWithin, HasRoom, Flow, IsLeastCost, HasPotentials}
+use Rattle.networks.specs.declared.arc.Cap.{Cap}
+use Rattle.networks.specs.declared.arc.Cap.TheVariants.{AtMost, Any}
+use Rattle.networks.specs.Net.{Net, node_count, arc_count, arc_at, supply_at, HasEnds}
+use Rattle.networks.specs.Flow.{leaves, enters, balance, cost_of, IsWithin, HasRoom, Flow, IsLeastCost, HasPotentials}
 
 -- amounts weighed by the numbers of the arcs' starts, and of their ends
 abbrev pub at_starts : Net → (ℕ → ℕ) → (ℕ → ℕ) → ℕ

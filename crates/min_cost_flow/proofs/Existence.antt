@@ -6,10 +6,10 @@ use Rattle.std.proofs.lemmas.Int.{ints}
 use borrow.Author.Differences.{up, down}
 use Rattle.sums.specs.Sums.{sum_below, total_below}
 use Rattle.sums.proofs.Sums.{sum_below-same, sum_below-changed, sum_below-some, sum_below-member, exchanged, total_below-parts}
-use Rattle.min_cost_flow.specs.declared.arc.Cap.{Cap}
-use Rattle.min_cost_flow.specs.declared.arc.Cap.TheVariants.{AtMost, Any}
-use Rattle.min_cost_flow.specs.Net.{Net, node_count, arc_count, arc_at, supply_at, HasEnds}
-use Rattle.min_cost_flow.specs.Flow.{leaves, enters, balance, IsWithin, Flow}
+use Rattle.networks.specs.declared.arc.Cap.{Cap}
+use Rattle.networks.specs.declared.arc.Cap.TheVariants.{AtMost, Any}
+use Rattle.networks.specs.Net.{Net, node_count, arc_count, arc_at, supply_at, HasEnds}
+use Rattle.networks.specs.Flow.{leaves, enters, balance, IsWithin, Flow}
 use Rattle.min_cost_flow.specs.Excess.{KeepsCaps, Leaves, Carries}
 use Rattle.min_cost_flow.specs.Existence.{IsClosedAny, IsJoined, IsBalanced}
 use Rattle.min_cost_flow.proofs.Changes.{SameBut, moved_carries, carried_leaves, taken_carries}

@@ -5,11 +5,10 @@ pub mod Rounds
 pub mod Spreading
 pub mod Existence
 pub mod Paths
-pub mod Ends
 pub mod Reaching
 pub mod Turning
-pub mod Building
 pub mod Augmenting
 pub mod Distinct
 pub mod Signs
 pub mod Solving
+pub mod Moved

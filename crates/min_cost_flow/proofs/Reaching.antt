@@ -3,9 +3,9 @@ use Rattle.std.proofs.Common.{length, zero, suc, ◌≡◌, ◌≢◌, ◌≤◌
 use Rattle.std.specs.Prelude.{ℤ, pos, negsuc, ◌+ℤ◌, ◌-ℤ◌, ◌≤ℤ◌, ◌<ℤ◌}
 use Rattle.std.proofs.lemmas.Bool.{cases_eq, cases_lt}
 use Rattle.std.proofs.lemmas.Int.{ints}
-use Rattle.min_cost_flow.specs.declared.residual.ResidualArc.{ResidualArc}
+use Rattle.networks.specs.declared.residual.ResidualArc.{ResidualArc}
 use Rattle.min_cost_flow.proofs.Distinct.{AreDistinct, distinct_sum, room_for}
-use Rattle.min_cost_flow.specs.Layout.{numbers, end_at, code_at, StartsAt}
+use Rattle.networks.specs.Layout.{numbers, end_at, code_at, StartsAt}
 use Rattle.min_cost_flow.specs.Search.{far, IsGraph, IsPriced, IsNear, IsEntered, IsReached, IsNearest, Serves, IsServed, IsLeft, IsKept, IsOffer, IsPut, IsSwapped, degree, looked}
 use Rattle.sums.specs.Sums.{sum_below}
 use Rattle.sums.proofs.Sums.{sum_below-same, sum_below-more}
@@ -513,18 +513,18 @@ order_room n first arcs p e s q enter order place head ordered reached level v r
 
 -- ---- bounds
 
-label_fits : (n head : ℕ) (ps x : ℤ) → n ≤ 1024 → head ≤ n → IsNear ps head x → (pos 0 ≤ℤ (ps +ℤ pos (2 * n))) × (ps ≤ℤ pos 0) → (negsuc 1073741823 ≤ℤ x) × (x ≤ℤ pos 1073741823)
+label_fits : (n head : ℕ) (ps x : ℤ) → n ≤ 1024 → head ≤ n → IsNear ps head x → (pos 0 ≤ℤ (ps +ℤ pos (2 * n))) × (ps ≤ℤ pos (2 * n)) → (negsuc 1073741823 ≤ℤ x) × (x ≤ℤ pos 1073741823)
 label_fits n head ps x small le (a, b) (c, d) = (omega (arith, ints), omega (arith, ints))
 
-potential_fits : (n : ℕ) (pv : ℤ) → n ≤ 1024 → (pos 0 ≤ℤ (pv +ℤ pos (2 * n))) × (pv ≤ℤ pos 0) → (negsuc 1073741823 ≤ℤ pv) × (pv ≤ℤ pos 0)
-potential_fits n pv small (c, d) = (omega (arith, ints), d)
+potential_fits : (n : ℕ) (pv : ℤ) → n ≤ 1024 → (pos 0 ≤ℤ (pv +ℤ pos (2 * n))) × (pv ≤ℤ pos (2 * n)) → (negsuc 1073741823 ≤ℤ pv) × (pv ≤ℤ pos 1073741823)
+potential_fits n pv small (c, d) = (omega (arith, ints), omega (arith, ints))
 
 pub offer_fits : (n : ℕ) (first : List ℕ) (arcs : List ResidualArc) (p e : ℕ → ℤ) (s : ℕ) (q : ℕ → ℤ) (enter order place : ℕ → ℕ) (head ordered reached : ℕ) (level : ℤ) (k v : ℕ) (x : ℤ) → IsGraph n first arcs → IsPriced n first arcs p e → IsReached n first arcs p e s q enter order place head ordered reached level → IsOffer n first arcs p s q place head level k v x → (negsuc 1073741823 ≤ℤ x) × (x ≤ℤ pos 1073741823)
 offer_fits n first arcs p e s q enter order place head ordered reached level k v x g pr r o =
     let le : head ≤ n = omega (arith, r.counts) in
     label_fits n head (p s) x g.nodes le o.near (pr.low s r.source.0)
 
-pub price_fits : (n : ℕ) (first : List ℕ) (arcs : List ResidualArc) (p e : ℕ → ℤ) (v : ℕ) → IsGraph n first arcs → IsPriced n first arcs p e → v < n → (negsuc 1073741823 ≤ℤ p v) × (p v ≤ℤ pos 0)
+pub price_fits : (n : ℕ) (first : List ℕ) (arcs : List ResidualArc) (p e : ℕ → ℤ) (v : ℕ) → IsGraph n first arcs → IsPriced n first arcs p e → v < n → (negsuc 1073741823 ≤ℤ p v) × (p v ≤ℤ pos 1073741823)
 price_fits n first arcs p e v g pr b = potential_fits n (p v) g.nodes (pr.low v b)
 
 pub reached_fits : (n : ℕ) (first : List ℕ) (arcs : List ResidualArc) (p e : ℕ → ℤ) (s : ℕ) (q : ℕ → ℤ) (enter order place : ℕ → ℕ) (head ordered reached : ℕ) (level : ℤ) (v : ℕ) → IsGraph n first arcs → IsPriced n first arcs p e → IsReached n first arcs p e s q enter order place head ordered reached level → v < n → q v <ℤ far → (negsuc 1073741823 ≤ℤ q v) × (q v ≤ℤ pos 1073741823)
@@ -554,7 +554,7 @@ offered_least x pv qv a cut l h k m = absurd (nothing_between x pv a cut h k m)
 
 -- ---- what a residual arc of the node that is scanned offers
 
-shut_far : (x qu qe c ps : ℤ) (n h : ℕ) → n ≤ 1024 → h ≤ n → IsNear ps h qu → (pos 0 ≤ℤ (ps +ℤ pos (2 * n))) × (ps ≤ℤ pos 0) → x ≡ qu +ℤ c → x <ℤ qe → qe ≤ℤ far → pos 15999 ≤ℤ c → ⊥
+shut_far : (x qu qe c ps : ℤ) (n h : ℕ) → n ≤ 1024 → h ≤ n → IsNear ps h qu → (pos 0 ≤ℤ (ps +ℤ pos (2 * n))) × (ps ≤ℤ pos (2 * n)) → x ≡ qu +ℤ c → x <ℤ qe → qe ≤ℤ far → pos 15999 ≤ℤ c → ⊥
 shut_far x qu qe c ps n h small le (a, b) (d, e) s l m g = omega (arith, ints)
 
 near_step : (ps qu c x : ℤ) (h : ℕ) → IsNear ps h qu → negsuc 0 ≤ℤ c → c ≤ℤ pos 1 → x ≡ qu +ℤ c → IsNear ps (h + 1) x
@@ -654,8 +654,8 @@ no_distance a p h = (omega (arith, ints), omega (arith, ints))
 near_self : (a p : ℤ) → a ≡ p → IsNear p 0 a
 near_self a p h = (omega (arith, ints), omega (arith, ints))
 
-low_near : (p : ℤ) → p ≤ℤ pos 0 → p <ℤ far
-low_near p h = omega (arith, ints)
+low_near : (p : ℤ) (n : ℕ) → n ≤ 1024 → p ≤ℤ pos (2 * n) → p <ℤ far
+low_near p n small h = omega (arith, ints)
 
 more_than_none : (e : ℤ) → pos 0 <ℤ e → pos 0 ≤ℤ e
 more_than_none e h = omega (arith, ints)
@@ -663,9 +663,9 @@ more_than_none e h = omega (arith, ints)
 less_far : (a : ℤ) → a <ℤ far → a ≤ℤ far
 less_far a h = omega (arith, ints)
 
-pub source_reached : (n : ℕ) (first : List ℕ) (arcs : List ResidualArc) (p e : ℕ → ℤ) (s : ℕ) (q q' : ℕ → ℤ) (enter order place : ℕ → ℕ) → s < n → p s ≤ℤ pos 0 → pos 0 <ℤ e s → ((v : ℕ) → v < n → q v ≡ far) → IsPut q q' s (p s) → order 0 ≡ s → place s ≡ 0 → IsReached n first arcs p e s q' enter order place 0 1 1 (pos 0)
-source_reached n first arcs p e s q q' enter order place sb low left blank put oat pat =
-    let ls : q' s <ℤ far = subst (λ (z : ℤ). z <ℤ far) (sym put.here) (low_near (p s) low) in
+pub source_reached : (n : ℕ) (first : List ℕ) (arcs : List ResidualArc) (p e : ℕ → ℤ) (s : ℕ) (q q' : ℕ → ℤ) (enter order place : ℕ → ℕ) → n ≤ 1024 → s < n → p s ≤ℤ pos (2 * n) → pos 0 <ℤ e s → ((v : ℕ) → v < n → q v ≡ far) → IsPut q q' s (p s) → order 0 ≡ s → place s ≡ 0 → IsReached n first arcs p e s q' enter order place 0 1 1 (pos 0)
+source_reached n first arcs p e s q q' enter order place small sb low left blank put oat pat =
+    let ls : q' s <ℤ far = subst (λ (z : ℤ). z <ℤ far) (sym put.here) (low_near (p s) n small low) in
     let only : (w : ℕ) → w < n → q' w <ℤ far → w ≡ s = λ w b l. elim (cases_eq w s) [
       | inl t ↦ t
       | inr ne ↦ absurd (not_less (q' w) far l (same_le far (q' w) (sym (put.others w ne ∙ blank w b))))

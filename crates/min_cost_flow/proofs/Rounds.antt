@@ -6,10 +6,10 @@ use Rattle.std.proofs.lemmas.Int.{ints}
 use borrow.Author.Differences.{up}
 use Rattle.sums.specs.Sums.{sum_below}
 use Rattle.sums.proofs.Sums.{sum_below-same, sum_below-le, sum_below-changed, sum_below-constant, sum_below-none}
-use Rattle.min_cost_flow.specs.declared.arc.Cap.{Cap}
-use Rattle.min_cost_flow.specs.declared.arc.Cap.TheVariants.{AtMost, Any}
-use Rattle.min_cost_flow.specs.Net.{Net, node_count, arc_count, arc_at, supply_at, HasEnds, IsNetwork}
-use Rattle.min_cost_flow.specs.Flow.{leaves, enters, balance, IsWithin, HasRoom, Flow, HasNoFlow, IsResidual, HasPotentials, reduced_cost}
+use Rattle.networks.specs.declared.arc.Cap.{Cap}
+use Rattle.networks.specs.declared.arc.Cap.TheVariants.{AtMost, Any}
+use Rattle.networks.specs.Net.{Net, node_count, arc_count, arc_at, supply_at, HasEnds, IsNetwork}
+use Rattle.networks.specs.Flow.{leaves, enters, balance, IsWithin, HasRoom, Flow, HasNoFlow, IsResidual, HasPotentials, reduced_cost}
 use Rattle.min_cost_flow.specs.Excess.{KeepsCaps, Leaves}
 use Rattle.min_cost_flow.specs.Round.{left_over, supply_sum, carrying, IsRound, IsLess, IsWork, IsDone}
 use Rattle.std.proofs.Math.Nat.{add-mul, one-mul}
@@ -147,7 +147,7 @@ empty_within Any x h = tt
 first_cost : (c : ℕ) (s t : ℤ) → s ≡ pos 0 → t ≡ pos 0 → pos 0 ≤ℤ (pos c +ℤ s -ℤ t)
 first_cost c s t a b = omega (arith, ints)
 
-first_low : (n : ℕ) (p : ℤ) → p ≡ pos 0 → (pos 0 ≤ℤ (p +ℤ pos (2 * n))) × (p ≤ℤ pos 0)
+first_low : (n : ℕ) (p : ℤ) → p ≡ pos 0 → (pos 0 ≤ℤ (p +ℤ pos (2 * n))) × (p ≤ℤ pos (2 * n))
 first_low n p h = (omega (arith, ints), omega (arith, ints))
 
 up_most : (e : ℤ) → e ≤ℤ pos 2048 → up e ≤ 2048
@@ -223,15 +223,15 @@ looks_most net x e s l k w =
 no_supply : (e s : ℤ) → e ≡ s → e ≤ℤ pos 0 → pos 0 ≤ℤ e → s ≡ pos 0
 no_supply e s h a b = omega (arith, ints)
 
-wide : (p : ℤ) (n : ℕ) → p ≤ℤ pos 0 → p ≤ℤ pos (2 * n)
-wide p n h = omega (arith, ints)
+pub nothing_left : (e : ℤ) → e ≤ℤ pos 0 → pos 0 ≤ℤ e → e ≡ pos 0
+nothing_left e a b = omega (arith, ints)
 
 -- where nothing is left over and nothing wanting, all is done
 pub done_at : (net : Net) (x : ℕ → ℕ) (p e : ℕ → ℤ) (s l : ℕ) → IsRound net x p e → IsWork net x e s l → ((v : ℕ) → v < node_count net → e v ≤ℤ pos 0) → ((v : ℕ) → v < node_count net → pos 0 ≤ℤ e v) → IsDone net x p s l
 done_at net x p e s l r w none full = record {
   flow = flow_at net x e r.caps r.leaves none full;
   potentials = r.priced;
-  reach = λ v b. ((r.low v b).0, wide (p v) (node_count net) (r.low v b).1);
+  reach = r.low;
   few = omega (arith, w.few);
   bounded = w.bounded;
   carried = w.carried;
@@ -253,13 +253,19 @@ still_residual : (net : Net) (x y : ℕ → ℕ) (i : ℕ) (back : Bool) → y i
 still_residual net x y i false e h = subst (λ (t : ℕ). HasRoom (arc_at net i).cap t) e h
 still_residual net x y i true e h = omega arith
 
+pub flow_same : (net : Net) (x y : ℕ → ℕ) → ((i : ℕ) → i < arc_count net → y i ≡ x i) → Flow net x → Flow net y
+flow_same net x y same f = record {
+  within = λ i b. subst (λ (t : ℕ). IsWithin (arc_at net i).cap t) (sym (same i b)) (f.within i b);
+  meets = λ v b. same_balance (leaves net x v) (leaves net y v) (enters net x v) (enters net y v) (supply_at net v) (same_side net x y (λ i. (arc_at net i).from) v same) (same_side net x y (λ i. (arc_at net i).to) v same) (f.meets v b);
+}
+
+pub potentials_same : (net : Net) (x y : ℕ → ℕ) (p : ℕ → ℤ) → ((i : ℕ) → i < arc_count net → y i ≡ x i) → HasPotentials net x p → HasPotentials net y p
+potentials_same net x y p same h = record { residual = λ i back b r. h.residual i back b (still_residual net x y i back (same i b) r) }
+
 pub done_same : (net : Net) (x y : ℕ → ℕ) (p : ℕ → ℤ) (s l : ℕ) → ((i : ℕ) → i < arc_count net → y i ≡ x i) → IsDone net x p s l → IsDone net y p s l
 done_same net x y p s l same d = record {
-  flow = record {
-    within = λ i b. subst (λ (t : ℕ). IsWithin (arc_at net i).cap t) (sym (same i b)) (d.flow.within i b);
-    meets = λ v b. same_balance (leaves net x v) (leaves net y v) (enters net x v) (enters net y v) (supply_at net v) (same_side net x y (λ i. (arc_at net i).from) v same) (same_side net x y (λ i. (arc_at net i).to) v same) (d.flow.meets v b);
-  };
-  potentials = record { residual = λ i back b r. d.potentials.residual i back b (still_residual net x y i back (same i b) r) };
+  flow = flow_same net x y same d.flow;
+  potentials = potentials_same net x y p same d.potentials;
   reach = d.reach;
   few = d.few;
   bounded = d.bounded;

@@ -6,17 +6,17 @@ use Rattle.std.proofs.lemmas.Int.{ints}
 use lib.Signed.{lt_z}
 use Rattle.sums.specs.Sums.{sum_below}
 use Rattle.sums.proofs.Sums.{sum_below-le, sum_below-constant}
-use Rattle.min_cost_flow.specs.declared.arc.Cap.{Cap}
-use Rattle.min_cost_flow.specs.declared.arc.Cap.TheVariants.{AtMost, Any}
-use Rattle.min_cost_flow.specs.declared.residual.ResidualArc.{ResidualArc}
-use Rattle.min_cost_flow.specs.Net.{Net, node_count, arc_count, arc_at, HasUnitCosts, IsNetwork}
-use Rattle.min_cost_flow.specs.Flow.{HasRoom, IsResidual, HasPotentials, HasNoFlow, start_of, end_of, price_of, reduced_cost}
+use Rattle.networks.specs.declared.arc.Cap.{Cap}
+use Rattle.networks.specs.declared.arc.Cap.TheVariants.{AtMost, Any}
+use Rattle.networks.specs.declared.residual.ResidualArc.{ResidualArc}
+use Rattle.networks.specs.Net.{Net, node_count, arc_count, arc_at, HasUnitCosts, IsNetwork}
+use Rattle.networks.specs.Flow.{HasRoom, IsResidual, HasPotentials, HasNoFlow, start_of, end_of, price_of, reduced_cost}
 use Rattle.min_cost_flow.specs.Round.{IsRound}
-use Rattle.min_cost_flow.specs.Layout.{numbers, end_at, code_at, StartsAt, place_of, limit_of, IsLaidOut, IsFilled, carried}
+use Rattle.networks.specs.Layout.{numbers, end_at, code_at, StartsAt, place_of, limit_of, IsLaidOut, IsFilled, carried}
 use Rattle.min_cost_flow.specs.Search.{far, IsCode, IsOpen, IsGraph, IsPriced, IsNear, IsReached, IsHit, IsNearest, IsServed, IsLeft, IsPut, degree, looked}
 use Rattle.min_cost_flow.specs.Path.{HasPath}
 use Rattle.min_cost_flow.proofs.Cut.{no_flow_out}
-use Rattle.min_cost_flow.proofs.Ends.{start_in, end_in}
+use Rattle.networks.proofs.Ends.{start_in, end_in}
 use Rattle.min_cost_flow.proofs.Turning.{turned_back, start_is}
 use Rattle.min_cost_flow.proofs.Signs.{plain_lt, lt_true}
 use Rattle.min_cost_flow.proofs.Reaching.{below_or_not, not_less}
@@ -172,7 +172,7 @@ far_end c a q b b' cut h k l = omega (arith, ints)
 near_end : (c a q qe b' cut : ℤ) → a ≡ q -ℤ cut → qe ≤ℤ (q +ℤ c) → b' ≤ℤ (qe -ℤ cut) → pos 0 ≤ℤ (c +ℤ a -ℤ b')
 near_end c a q qe b' cut h k l = omega (arith, ints)
 
-label_step : (ps q c qe : ℤ) (n h : ℕ) → n ≤ 1024 → h ≤ n → ps ≤ℤ pos 0 → IsNear ps h q → c ≤ℤ pos 1 → qe ≤ℤ (q +ℤ c) → qe <ℤ far
+label_step : (ps q c qe : ℤ) (n h : ℕ) → n ≤ 1024 → h ≤ n → ps ≤ℤ pos (2 * n) → IsNear ps h q → c ≤ℤ pos 1 → qe ≤ℤ (q +ℤ c) → qe <ℤ far
 label_step ps q c qe n h small le low (a, b) o k = omega (arith, ints)
 
 pub moved_priced : (n : ℕ) (first : List ℕ) (arcs : List ResidualArc) (p p' e : ℕ → ℤ) (s : ℕ) (q : ℕ → ℤ) (enter order place : ℕ → ℕ) (head ordered reached : ℕ) (level cut : ℤ) (f : ℕ) → IsGraph n first arcs → IsPriced n first arcs p e → IsReached n first arcs p e s q enter order place head ordered reached level → IsNearest n first arcs p e s q place head level cut f → IsServed n first arcs p q place cut head → IsLeft n p q place head cut → IsMovedTo n p p' q place head cut → (v k : ℕ) → v < n → StartsAt first v k → IsOpen arcs k → pos 0 ≤ℤ (code_at arcs k +ℤ p' v -ℤ p' (end_at arcs k))
@@ -198,12 +198,12 @@ moved_priced n first arcs p p' e s q enter order place head ordered reached leve
 deep_enough : (ps q cut p' : ℤ) (n h : ℕ) → h ≤ n → IsNear ps h q → IsNear ps h cut → p' ≡ q -ℤ cut → pos 0 ≤ℤ (p' +ℤ pos (2 * n))
 deep_enough ps q cut p' n h le (a, b) (c, d) k = omega (arith, ints)
 
-low_too : (a b : ℤ) → a ≤ℤ b → b ≤ℤ pos 0 → a ≤ℤ pos 0
-low_too a b h k = omega (arith, ints)
+low_too : (a b c : ℤ) → a ≤ℤ b → b ≤ℤ c → a ≤ℤ c
+low_too a b c h k = omega (arith, ints)
 
-pub moved_low : (n : ℕ) (first : List ℕ) (arcs : List ResidualArc) (p p' e : ℕ → ℤ) (s : ℕ) (q : ℕ → ℤ) (enter order place : ℕ → ℕ) (head ordered reached : ℕ) (level cut : ℤ) (f : ℕ) → IsPriced n first arcs p e → IsReached n first arcs p e s q enter order place head ordered reached level → IsNearest n first arcs p e s q place head level cut f → cut <ℤ far → IsMovedTo n p p' q place head cut → (v : ℕ) → v < n → (pos 0 ≤ℤ (p' v +ℤ pos (2 * n))) × (p' v ≤ℤ pos 0)
+pub moved_low : (n : ℕ) (first : List ℕ) (arcs : List ResidualArc) (p p' e : ℕ → ℤ) (s : ℕ) (q : ℕ → ℤ) (enter order place : ℕ → ℕ) (head ordered reached : ℕ) (level cut : ℤ) (f : ℕ) → IsPriced n first arcs p e → IsReached n first arcs p e s q enter order place head ordered reached level → IsNearest n first arcs p e s q place head level cut f → cut <ℤ far → IsMovedTo n p p' q place head cut → (v : ℕ) → v < n → (pos 0 ≤ℤ (p' v +ℤ pos (2 * n))) × (p' v ≤ℤ pos (2 * n))
 moved_low n first arcs p p' e s q enter order place head ordered reached level cut f pr r near hit m v b =
-    let low : p' v ≤ℤ pos 0 = low_too (p' v) (p v) (potentials_fall n first arcs p p' e s q enter order place head ordered reached level cut f r near m v b) (pr.low v b).1 in
+    let low : p' v ≤ℤ pos (2 * n) = low_too (p' v) (p v) (pos (2 * n)) (potentials_fall n first arcs p p' e s q enter order place head ordered reached level cut f r near m v b) (pr.low v b).1 in
     let le : head ≤ n = omega (arith, r.counts) in
     let old : p' v ≡ p v → pos 0 ≤ℤ (p' v +ℤ pos (2 * n)) = λ t. subst (λ (z : ℤ). pos 0 ≤ℤ (z +ℤ pos (2 * n))) (sym t) (pr.low v b).0 in (
       elim (below_or_not (q v) far) [
@@ -302,17 +302,17 @@ has_path n first arcs p p' e s q enter order place head ordered reached level cu
 
 -- ---- nothing found
 
-in_reach : (ps q pv : ℤ) (n h : ℕ) → n ≤ 1024 → h ≤ n → ps ≤ℤ pos 0 → IsNear ps h q → pos 0 ≤ℤ (pv +ℤ pos (2 * n)) → (q -ℤ pv) <ℤ far
+in_reach : (ps q pv : ℤ) (n h : ℕ) → n ≤ 1024 → h ≤ n → ps ≤ℤ pos (2 * n) → IsNear ps h q → pos 0 ≤ℤ (pv +ℤ pos (2 * n)) → (q -ℤ pv) <ℤ far
 in_reach ps q pv n h small le low (a, b) d = omega (arith, ints)
 
-in_reach_step : (ps q pe c : ℤ) (n h : ℕ) → n ≤ 1024 → h ≤ n → ps ≤ℤ pos 0 → IsNear ps h q → pos 0 ≤ℤ (pe +ℤ pos (2 * n)) → c ≤ℤ pos 1 → (q +ℤ c -ℤ pe) <ℤ far
+in_reach_step : (ps q pe c : ℤ) (n h : ℕ) → n ≤ 1024 → h ≤ n → ps ≤ℤ pos (2 * n) → IsNear ps h q → pos 0 ≤ℤ (pe +ℤ pos (2 * n)) → c ≤ℤ pos 1 → (q +ℤ c -ℤ pe) <ℤ far
 in_reach_step ps q pe c n h small le low (a, b) d o = omega (arith, ints)
 
 pub nothing_found : (net : Net) (first reverse forward : List ℕ) (arcs : List ResidualArc) (room : List ℕ) (p e : ℕ → ℤ) (s : ℕ) (q : ℕ → ℤ) (enter order place : ℕ → ℕ) (head ordered reached : ℕ) (level cut : ℤ) → IsNetwork net → IsLaidOut net first reverse forward → IsFilled net reverse forward arcs room → IsRound net (carried reverse forward room) p e → IsReached (node_count net) first arcs p e s q enter order place head ordered reached level → IsServed (node_count net) first arcs p q place cut head → IsLeft (node_count net) p q place head cut → cut ≡ far → pos 0 <ℤ e s → HasNoFlow net
 nothing_found net first reverse forward arcs room p e s q enter order place head ordered reached level cut k l fl rd r sv left none over =
     let n = node_count net in
     let le : head ≤ n = omega (arith, r.counts) in
-    let low : p s ≤ℤ pos 0 = (rd.low s r.source.0).1 in
+    let low : p s ≤ℤ pos (2 * n) = (rd.low s r.source.0).1 in
     let in_set : ℕ → Bool = λ v. lt_z (q v) far in
     let scanned : (v : ℕ) → v < n → q v <ℤ far → place v < head = λ v b m. elim (cases_lt (place v) head) [
       | inl h ↦ h
@@ -393,7 +393,7 @@ path_looks net first reverse forward arcs room p e s q enter order place head or
     omega (arith, many_looks net first reverse forward arcs room p e s q enter order place head ordered reached level cut f l fl r h)
 
 -- labels and the cut fit
-pub label_bounds : (n h : ℕ) (ps z : ℤ) → n ≤ 1024 → h ≤ n → IsNear ps h z → (pos 0 ≤ℤ (ps +ℤ pos (2 * n))) × (ps ≤ℤ pos 0) → (negsuc 1073741822 ≤ℤ z) × (z ≤ℤ pos 1073741823)
+pub label_bounds : (n h : ℕ) (ps z : ℤ) → n ≤ 1024 → h ≤ n → IsNear ps h z → (pos 0 ≤ℤ (ps +ℤ pos (2 * n))) × (ps ≤ℤ pos (2 * n)) → (negsuc 1073741822 ≤ℤ z) × (z ≤ℤ pos 1073741823)
 label_bounds n h ps z small le (a, b) (c, d) = (omega (arith, ints), omega (arith, ints))
 
 -- ---- writing along a list

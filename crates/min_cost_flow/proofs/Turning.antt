@@ -1,9 +1,9 @@
 -- The start of a residual arc is the end of its reverse.
 use Rattle.std.proofs.Common.{◌≡◌, ◌<◌, ℕ, Bool, true, false, refl, sym, ◌∙◌, ap, List}
-use Rattle.min_cost_flow.specs.declared.residual.ResidualArc.{ResidualArc}
-use Rattle.min_cost_flow.specs.Net.{Net, node_count, arc_count}
-use Rattle.min_cost_flow.specs.Flow.{start_of, end_of}
-use Rattle.min_cost_flow.specs.Layout.{numbers, end_at, StartsAt, place_of, IsLaidOut, IsFilled}
+use Rattle.networks.specs.declared.residual.ResidualArc.{ResidualArc}
+use Rattle.networks.specs.Net.{Net, node_count, arc_count}
+use Rattle.networks.specs.Flow.{start_of, end_of}
+use Rattle.networks.specs.Layout.{numbers, end_at, StartsAt, place_of, IsLaidOut, IsFilled}
 
 unfoldable pub turned_back : Bool → Bool
 turned_back false = true

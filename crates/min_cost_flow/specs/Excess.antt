@@ -1,7 +1,7 @@
 -- Amounts on the way to a flow: what each node still has to send out, or still wants.
 use Rattle.std.specs.Prelude.{ℕ, zero, suc, ◌<◌, ◌==◌, ◌≡◌, ℤ, pos, ◌+ℤ◌, ◌<ℤ◌, Bool, true, if◌then◌else◌}
-use Rattle.min_cost_flow.specs.Net.{Net, node_count, arc_count, arc_at, supply_at}
-use Rattle.min_cost_flow.specs.Flow.{balance, IsWithin, IsResidual, start_of, end_of}
+use Rattle.networks.specs.Net.{Net, node_count, arc_count, arc_at, supply_at}
+use Rattle.networks.specs.Flow.{balance, IsWithin, IsResidual, start_of, end_of}
 
 abbrev pub KeepsCaps : Net → (ℕ → ℕ) → Type 0
 KeepsCaps net x = (i : ℕ) → i < arc_count net → IsWithin (arc_at net i).cap (x i)

@@ -2,8 +2,8 @@
 -- carry any number of units.
 use Rattle.std.specs.Prelude.{ℕ, ◌<◌, ◌≡◌, ℤ, pos, ◌<ℤ◌, Bool, true}
 use Rattle.sums.specs.Sums.{total_below}
-use Rattle.min_cost_flow.specs.declared.arc.Cap.TheVariants.{Any}
-use Rattle.min_cost_flow.specs.Net.{Net, node_count, arc_count, arc_at, supply_at}
+use Rattle.networks.specs.declared.arc.Cap.TheVariants.{Any}
+use Rattle.networks.specs.Net.{Net, node_count, arc_count, arc_at, supply_at}
 
 -- no arc of no limit leads out of the set
 pub record IsClosedAny (net : Net) (s : ℕ → Bool) : Type 0 where

@@ -1,12 +1,8 @@
-pub mod Net
-pub mod Flow
-pub mod Fault
 pub mod Excess
 pub mod Residual
-pub mod Layout
-pub mod Counting
 pub mod Search
 pub mod Path
 pub mod Round
 pub mod Existence
 pub mod Lists
+pub mod Stand

@@ -1,8 +1,8 @@
 -- A path of open residual arcs of reduced cost 0, from a node where units are left over to one where
 -- units are wanting.
 use Rattle.std.specs.Prelude.{ℕ, ◌<◌, ◌≡◌, ℤ, pos, ◌+ℤ◌, ◌-ℤ◌, Bool, true, false, List}
-use Rattle.min_cost_flow.specs.declared.residual.ResidualArc.{ResidualArc}
-use Rattle.min_cost_flow.specs.Layout.{end_at, code_at, StartsAt}
+use Rattle.networks.specs.declared.residual.ResidualArc.{ResidualArc}
+use Rattle.networks.specs.Layout.{end_at, code_at, StartsAt}
 use Rattle.min_cost_flow.specs.Search.{IsOpen}
 
 -- residual arc k leads from node u to node v, is open and costs nothing under the potentials

@@ -2,8 +2,8 @@
 use Rattle.std.specs.Prelude.{ℕ, ◌+◌, ◌*◌, ◌<◌, ◌≤◌, ◌≡◌, ◌≢◌, ◌⊎◌, ◌==◌, if◌then◌else◌, ℤ, pos, negsuc, ◌+ℤ◌, ◌≤ℤ◌, ◌<ℤ◌}
 use borrow.Author.Differences.{up}
 use Rattle.sums.specs.Sums.{sum_below}
-use Rattle.min_cost_flow.specs.Net.{Net, node_count, arc_count, supply_at}
-use Rattle.min_cost_flow.specs.Flow.{Flow, HasPotentials}
+use Rattle.networks.specs.Net.{Net, node_count, arc_count, supply_at}
+use Rattle.networks.specs.Flow.{Flow, HasPotentials}
 use Rattle.min_cost_flow.specs.Excess.{KeepsCaps, Leaves}
 
 -- what is left to send
@@ -14,7 +14,7 @@ pub record IsRound (net : Net) (x : ℕ → ℕ) (p e : ℕ → ℤ) : Type 0 wh
   pub leaves : Leaves net x e
   pub caps : KeepsCaps net x
   pub priced : HasPotentials net x p
-  pub low : (v : ℕ) → v < node_count net → (pos 0 ≤ℤ (p v +ℤ pos (2 * node_count net))) × (p v ≤ℤ pos 0)
+  pub low : (v : ℕ) → v < node_count net → (pos 0 ≤ℤ (p v +ℤ pos (2 * node_count net))) × (p v ≤ℤ pos (2 * node_count net))
   pub zero : (v : ℕ) → v < node_count net → e v <ℤ pos 0 → p v ≡ pos 0
   pub fair : (v : ℕ) → v < node_count net → (negsuc 2047 ≤ℤ e v) × (e v ≤ℤ pos 2048)
   pub room : (i : ℕ) → i < arc_count net → x i + left_over net e ≤ 2097152

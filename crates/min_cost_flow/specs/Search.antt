@@ -2,12 +2,12 @@
 -- distance, and what holds of them.
 use Rattle.std.specs.Prelude.{ℕ, ◌+◌, ◌-◌, ◌*◌, ◌<◌, ◌≤◌, ◌≡◌, ◌≢◌, ℤ, pos, negsuc, ◌+ℤ◌, ◌-ℤ◌, ◌≤ℤ◌, ◌<ℤ◌, ◌⊎◌, List, length}
 use Rattle.sums.specs.Sums.{sum_below}
-use Rattle.min_cost_flow.specs.declared.residual.ResidualArc.{ResidualArc}
+use Rattle.networks.specs.declared.residual.ResidualArc.{ResidualArc}
 use Rattle.min_cost_flow.specs.declared.reach.Ground.{Ground}
 use Rattle.min_cost_flow.specs.declared.reach.Progress.{Progress}
 use Rattle.min_cost_flow.specs.declared.reach.Step.{Step}
-use Rattle.min_cost_flow.specs.Flow.{at_nodes}
-use Rattle.min_cost_flow.specs.Layout.{numbers, end_at, code_at, StartsAt}
+use Rattle.networks.specs.Flow.{at_nodes}
+use Rattle.networks.specs.Layout.{numbers, end_at, code_at, StartsAt}
 
 -- the label of a node that was not reached
 abbrev pub far : ℤ
@@ -34,7 +34,7 @@ IsOpen arcs k = code_at arcs k ≤ℤ pos 1
 -- potentials with which a search can begin: no open residual arc costs less than 0 under them
 pub record IsPriced (n : ℕ) (first : List ℕ) (arcs : List ResidualArc) (p e : ℕ → ℤ) : Type 0 where
   pub reduced : (v k : ℕ) → v < n → StartsAt first v k → IsOpen arcs k → pos 0 ≤ℤ (code_at arcs k +ℤ p v -ℤ p (end_at arcs k))
-  pub low : (v : ℕ) → v < n → (pos 0 ≤ℤ (p v +ℤ pos (2 * n))) × (p v ≤ℤ pos 0)
+  pub low : (v : ℕ) → v < n → (pos 0 ≤ℤ (p v +ℤ pos (2 * n))) × (p v ≤ℤ pos (2 * n))
   pub zero : (v : ℕ) → v < n → e v <ℤ pos 0 → p v ≡ pos 0
 
 -- a whole number is at most k away from another

@@ -2,13 +2,13 @@
 #![tactic(auto)]
 
 ghost use Rattle.std.specs.Prelude.{◌≡◌, ◌≢◌, ◌<◌, ◌≤◌, ◌==◌, ◌+◌, ◌^◌, ℕ, ℤ, if◌then◌else◌, length, pos, negsuc, ◌≤ℤ◌, ◌<ℤ◌, ◌+ℤ◌, ◌-ℤ◌};
-ghost use Rattle.min_cost_flow.specs.Net.{node_count, arc_count, arc_at, IsNetwork};
-ghost use Rattle.min_cost_flow.specs.Flow.{at_nodes};
-ghost use Rattle.min_cost_flow.specs.Layout.{numbers, end_at, code_at, StartsAt, IsLaidOut, IsFilled, carried, limit_of};
+ghost use Rattle.networks.specs.Net.{node_count, arc_count, arc_at, IsNetwork};
+ghost use Rattle.networks.specs.Flow.{at_nodes};
+ghost use Rattle.networks.specs.Layout.{numbers, end_at, code_at, StartsAt, IsLaidOut, IsFilled, carried, limit_of};
 ghost use Rattle.min_cost_flow.specs.Path.{HasPath};
 ghost use Rattle.min_cost_flow.specs.Round.{IsRound, IsLess, carrying};
 
-use crate::residual::{Layout, ResidualArc, SHUT};
+use networks::{Layout, ResidualArc, SHUT};
 
 /// Sends along the path that ends with a residual arc as much as fits, is left over at the source and
 /// is wanting at the end: at least one unit. The path costs nothing under the potentials, which no

@@ -5,19 +5,15 @@
 //! 0. (Ahuja, Magnanti, Orlin: Network Flows, 1993, section 9.7, successive shortest paths.)
 #![tactic(auto)]
 
-mod arc;
 mod augment;
-mod build;
-mod fault;
-mod network;
 mod reach;
-mod residual;
+mod resume;
 mod search;
 mod solved;
 mod solver;
+mod standing;
 
-pub use arc::{Arc, Cap};
-pub use fault::NetFault;
-pub use network::Network;
+pub use networks::{Arc, Cap, NetFault, Network};
 pub use solved::Solved;
 pub use solver::{SolveFault, solve};
+pub use standing::Standing;

@@ -1,10 +1,10 @@
 //! The nodes that a search reaches, in order of their distance.
 ghost use Rattle.std.specs.Prelude.{◌≡◌, ◌≢◌, ◌⊎◌, ◌<◌, ◌≤◌, ◌+◌, ◌^◌, ℕ, ℤ, List, length, pos, negsuc, ◌≤ℤ◌, ◌<ℤ◌, ◌+ℤ◌, ◌-ℤ◌};
-ghost use Rattle.min_cost_flow.specs.Flow.{at_nodes};
-ghost use Rattle.min_cost_flow.specs.Layout.{numbers, end_at, code_at, StartsAt};
+ghost use Rattle.networks.specs.Flow.{at_nodes};
+ghost use Rattle.networks.specs.Layout.{numbers, end_at, code_at, StartsAt};
 ghost use Rattle.min_cost_flow.specs.Search.{far, nodes_of, IsGround, HasSizes, Reaches, FindsNearest, Keeps, Offers, IsPut, IsSwapped};
 
-use crate::residual::ResidualArc;
+use networks::ResidualArc;
 
 /// The label of a node that was not reached.
 pub(crate) const FAR: i32 = 8_000;
@@ -178,7 +178,7 @@ fn relabel(label: &mut [i32], enter: &mut [u32], step: Step)
 /// How far a node is from the source by reduced costs.
 pub(crate) fn distance(label: i32, potential: i32) -> i32
     requires label { (negsuc 1073741823 ≤ℤ label) × (label ≤ℤ pos 1073741823) }
-    requires potential { (negsuc 1073741823 ≤ℤ potential) × (potential ≤ℤ pos 0) }
+    requires potential { (negsuc 1073741823 ≤ℤ potential) × (potential ≤ℤ pos 1073741823) }
     ensures { result ≡ label -ℤ potential }
 {
     label - potential

@@ -1,11 +1,11 @@
 //! The search for the nearest node where units are wanting.
 ghost use Rattle.std.specs.Prelude.{◌≡◌, ◌≢◌, ◌⊎◌, ◌<◌, ◌≤◌, ◌+◌, ◌^◌, ℕ, ℤ, List, length, pos, negsuc, ◌≤ℤ◌, ◌<ℤ◌, ◌+ℤ◌, ◌-ℤ◌, true, false};
-ghost use Rattle.min_cost_flow.specs.Flow.{at_nodes};
-ghost use Rattle.min_cost_flow.specs.Layout.{numbers, end_at, code_at, StartsAt};
+ghost use Rattle.networks.specs.Flow.{at_nodes};
+ghost use Rattle.networks.specs.Layout.{numbers, end_at, code_at, StartsAt};
 ghost use Rattle.min_cost_flow.specs.Search.{far, nodes_of, degree, looked, IsGround, HasSizes, Reaches, FindsNearest, Keeps, IsServed, Serves, IsNear, IsPut, IsLeft};
 
 use crate::reach::{FAR, Ground, Progress, Step, advance, distance, reach};
-use crate::residual::look;
+use networks::look;
 
 /// Labels the nodes round a source, in order of their distance by reduced costs, up to the nearest one
 /// where units are wanting. It looks at each residual arc once at most.

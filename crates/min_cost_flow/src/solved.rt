@@ -1,5 +1,5 @@
 ghost use Rattle.std.specs.Prelude.{◌≡◌, ◌<◌, length, slice_index};
-ghost use Rattle.min_cost_flow.specs.Flow.{Answer, at_nodes};
+ghost use Rattle.networks.specs.Flow.{Answer, at_nodes};
 
 use std::marker::Model;
 

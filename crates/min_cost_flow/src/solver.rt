@@ -1,20 +1,18 @@
 //! Searches from one node after another, and a path sent along after each, until nothing is left over.
 ghost use Rattle.std.specs.Prelude.{◌≡◌, ◌≢◌, ◌<◌, ◌≤◌, ◌+◌, ◌*◌, ◌^◌, ℕ, ℤ, List, length, pos, negsuc, ◌≤ℤ◌, ◌<ℤ◌, ◌+ℤ◌, ◌-ℤ◌, IfOk, IfErr, IfSome, IfNone, true, false};
 ghost use Rattle.min_cost_flow.specs.declared.solver.SolveFault.TheVariants.{Memory};
-ghost use Rattle.min_cost_flow.specs.Net.{arc_count, arc_at, node_count, supply_at, IsNetwork};
-ghost use Rattle.min_cost_flow.specs.Flow.{amounts, at_nodes, Flow, HasPotentials, HasNoFlow, Solves};
-ghost use Rattle.min_cost_flow.specs.Layout.{numbers, limit_of, IsLaidOut, IsFilled, carried};
+ghost use Rattle.networks.specs.Net.{arc_count, arc_at, node_count, supply_at, IsNetwork};
+ghost use Rattle.networks.specs.Flow.{amounts, at_nodes, Flow, HasPotentials, HasNoFlow, Solves};
+ghost use Rattle.networks.specs.Layout.{numbers, limit_of, IsLaidOut, IsFilled, carried};
 ghost use Rattle.min_cost_flow.specs.Search.{far, IsPut};
 ghost use Rattle.min_cost_flow.specs.Lists.{HasNodeLists};
 ghost use Rattle.min_cost_flow.specs.Round.{left_over, carrying, supply_sum, IsRound, IsLess, IsWork, IsDone, HasSupply, IsWithinReach};
 
 use crate::augment::send;
-use crate::build::lay_out;
-use crate::network::Network;
 use crate::reach::{FAR, Ground};
-use crate::residual::{Layout, ResidualArc};
 use crate::search::search;
 use crate::solved::Solved;
+use networks::{Layout, Network, ResidualArc, lay_out};
 use std::alloc::{AllocError, Global};
 use thiserror::Error;
 
@@ -39,7 +37,7 @@ impl From<AllocError> for SolveFault {
 
 /// How much work was done: searches, and looks at residual arcs in them.
 #[derive(Clone, Copy, Debug, PartialEq, Eq)]
-struct Work {
+pub(crate) struct Work {
     searches: u32,
     looks: u64,
 }
@@ -124,7 +122,7 @@ fn fill(
 
 /// Sends all that is left over at any node, and gives how much work that was; none where it cannot be
 /// done, or where units are wanting still.
-fn run(
+pub(crate) fn run(
     network: &Network,
     first: &[u32],
     reverse: &[u32],
@@ -150,6 +148,9 @@ fn run(
     requires full { (v : ℕ) → at_nodes excess.old v ≡ supply_at network.now v }
     ensures done { IfSome result (λ work. IsDone network.now (carried reverse.now forward.now room.new) (at_nodes potential.new) work.searches work.looks) }
     ensures filled { IfSome result (λ _. IsFilled network.now reverse.now forward.now arcs.new room.new) }
+    ensures round { IfSome result (λ _. IsRound network.now (carried reverse.now forward.now room.new) (at_nodes potential.new) (at_nodes excess.new)) }
+    ensures blank { IfSome result (λ _. (v : ℕ) → v < node_count network.now → at_nodes label.new v ≡ far) }
+    ensures sent { IfSome result (λ _. (v : ℕ) → v < node_count network.now → at_nodes excess.new v ≡ pos 0) }
     ensures no_flow { IfNone result (HasNoFlow network.now) }
 {
     let layout = Layout {
@@ -177,7 +178,7 @@ fn run(
 }
 
 /// Whether units are wanting at a node.
-fn has_deficit(excess: &[i32]) -> bool
+pub(crate) fn has_deficit(excess: &[i32]) -> bool
     ensures some { result ≡ true → (v : ℕ) × (v < length excess.now) × (at_nodes excess.now v <ℤ pos 0) }
     ensures none { result ≡ false → (v : ℕ) → v < length excess.now → pos 0 ≤ℤ at_nodes excess.now v }
 {
@@ -186,7 +187,7 @@ fn has_deficit(excess: &[i32]) -> bool
 
 /// Ranks each node for ties among those that are as near: what it wants, less what can come to it at
 /// no cost from where units are supplied. No result rests on it.
-fn rank(network: &Network, score: &mut [i32])
+pub(crate) fn rank(network: &Network, score: &mut [i32])
     requires network { IsNetwork network.now }
     requires size { length score.old ≡ node_count network.now }
 {
@@ -201,7 +202,7 @@ fn rank(network: &Network, score: &mut [i32])
 }
 
 /// Writes what each arc carries where the number of the residual arc along it stood.
-fn read_flow(reverse: &[u32], room: &[u32], flow: &mut [u32])
+pub(crate) fn read_flow(reverse: &[u32], room: &[u32], flow: &mut [u32])
     requires reverses { (i : ℕ) → i < length flow.old → numbers flow.old i < length reverse.now }
     requires rooms { (i : ℕ) → i < length flow.old → numbers reverse.now (numbers flow.old i) < length room.now }
     requires small { length flow.old ≤ 4096 }
@@ -262,7 +263,7 @@ fn drain(
 
 /// Sends along a path of least cost from a node where units are left over to a node where units are
 /// wanting; whether there is one.
-fn augment_once(
+pub(crate) fn augment_once(
     layout: Layout<'_>,
     arcs: &mut [ResidualArc],
     room: &mut [u32],

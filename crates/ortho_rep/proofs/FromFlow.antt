@@ -7,9 +7,9 @@ use Rattle.std.proofs.lemmas.List.{map-append, reverse-append, replicate-append-
 use Rattle.sums.specs.Sums.{sum_below}
 use Rattle.sums.proofs.Sums.{sum_below-same, sum_below-add, sum_below-none, sum_below-split, sum_below-turned}
 use Rattle.faces.specs.Map.{Map, HasEnds, darts, vertices, head, mate, face_at, degree}
-use Rattle.min_cost_flow.specs.declared.arc.Arc.{Arc}
-use Rattle.min_cost_flow.specs.Net.{Net, arc_count, arc_at}
-use Rattle.min_cost_flow.specs.Flow.{Flow, HasPotentials, IsWithin, HasRoom, leaves, enters, balance}
+use Rattle.networks.specs.declared.arc.Arc.{Arc}
+use Rattle.networks.specs.Net.{Net, arc_count, arc_at}
+use Rattle.networks.specs.Flow.{Flow, HasPotentials, IsWithin, HasRoom, leaves, enters, balance}
 use Rattle.ortho_rep.specs.declared.turn.Turn.{Turn}
 use Rattle.ortho_rep.specs.declared.turn.Turn.TheVariants.{Left, Right}
 use Rattle.flow_network.specs.FaceNet.{IsFaceNet, arrivals}

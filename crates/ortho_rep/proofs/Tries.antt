@@ -5,7 +5,7 @@ use Rattle.std.proofs.lemmas.List.{get_or-replicate}
 use Rattle.std.specs.Prelude.{ℤ, pos, ◌+ℤ◌, ◌-ℤ◌, ◌*ℤ◌}
 use borrow.Author.Differences.{up, down}
 use Rattle.std.proofs.lemmas.Int.{ints}
-use Rattle.faces.specs.Map.{Map, HasEnds, darts, with_outer}
+use Rattle.faces.specs.Map.{Map, IsPlane, HasEnds, darts, with_outer}
 use Rattle.ortho_rep.specs.declared.best.Found.{Found}
 use Rattle.ortho_rep.specs.Shapes.{angle_at, turns_at}
 use Rattle.ortho_rep.specs.Representation.{bends_of}
@@ -132,4 +132,15 @@ bound_raised p bounds face bound inside are needs = record {
             (λ a s rep. omega (arith, get_or-set_same bounds face most 0 inside, are.each face (omega arith) a s rep, needs a s rep))
         | inr ne ↦ λ a s rep. omega (arith, get_or-set_other bounds face f most 0 ne, are.each f b a s rep)
       ];
+}
+
+-- a plane that was turned is one
+pub plane_turned : (p : Map) (face : ℕ) → face < p.faces → IsPlane p → IsPlane (with_outer p face)
+plane_turned p face inside plane = record {
+  order = plane.order;
+  rules = plane.rules;
+  size = plane.size;
+  faces = plane.faces;
+  euler = plane.euler;
+  outer = inside;
 }

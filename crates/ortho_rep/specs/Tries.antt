@@ -1,11 +1,18 @@
 -- What is known of the faces of a plane that were tried as outer faces.
 use Rattle.std.specs.Prelude.{◌≡◌, ℕ, ◌<◌, ◌≤◌, List, slice_index}
 use Rattle.faces.specs.Map.{Map, darts, with_outer}
+use Rattle.flow_network.specs.FaceNet.{IsNetOf}
 use Rattle.ortho_rep.specs.declared.best.Found.{Found}
+use Rattle.ortho_rep.specs.declared.best.Walk.{Walk}
 use Rattle.ortho_rep.specs.Shapes.{turns_at}
 use Rattle.ortho_rep.specs.Representation.{IsShape, IsLeast, bends_of}
 use Rattle.ortho_rep.specs.Prices.{IsProof}
 use Rattle.ortho_rep.specs.Best.{HasRep, NeedsBends}
+
+-- the walk stands at the outer face of p
+pub record IsWalk (p : Map) (walk : Walk) : Type 0 where
+  pub net : IsNetOf p walk.net
+  pub same : walk.standing ≡ walk.net.network
 
 -- a least shape of p with a face of it as the outer one, its bends, and prices that prove it
 pub record IsFound (p : Map) (found : Found) : Type 0 where

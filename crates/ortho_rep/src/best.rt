@@ -5,12 +5,14 @@ ghost use Rattle.faces.specs.Map.{with_outer};
 ghost use Rattle.ortho_rep.specs.Representation.{IsShape, IsLeast};
 ghost use Rattle.ortho_rep.specs.Prices.{IsProof};
 ghost use Rattle.ortho_rep.specs.Best.{IsBest, NeedsBends};
-ghost use Rattle.ortho_rep.specs.Tries.{IsFound, IsNoBetter, AreBounds};
+ghost use Rattle.ortho_rep.specs.Tries.{IsWalk, IsFound, IsNoBetter, AreBounds};
 
-use crate::least::least_shape;
+use crate::least::shape_in;
 use crate::prices::Prices;
 use crate::shape::Shape;
 use faces::Plane;
+use flow_network::FaceNet;
+use min_cost_flow::{SolveFault, Standing};
 use std::alloc::{AllocError, Global};
 
 /// A least shape with one face as the outer one, its bends, and prices that prove it.
@@ -75,22 +77,70 @@ pub fn best_shape(alloc: Global, plane: &mut Plane) -> Result<(Shape, Prices), A
     }
 }
 
-/// Turns a face out, and finds a least shape.
-fn found_with(alloc: Global, plane: &mut Plane, face: u16) -> Result<Found, AllocError>
-    requires { face < plane.old.faces }
-    ensures turned { plane.new ≡ with_outer plane.old face }
-    ensures face { IfOk result (λ found. found.face ≡ face) }
-    ensures found { IfOk result (IsFound plane.old) }
+/// A flow of least cost in the network of a plane, which goes on from one outer face to another.
+#[derive(Drop)]
+struct Walk {
+    net: FaceNet,
+    standing: Standing,
+}
+
+/// The walk that begins with the plane's outer face.
+fn begin(alloc: Global, plane: &Plane) -> Result<Walk, AllocError>
+    ensures { IfOk result (IsWalk plane.now) }
 {
+    let net = FaceNet::build(alloc, plane)?;
+    match Standing::new(alloc, net.network()) {
+        Ok(standing) => Ok(Walk { net, standing }),
+        Err(SolveFault::Memory) => Err(AllocError),
+        Err(SolveFault::Infeasible) => unreachable!(),
+    }
+}
+
+/// Goes on to another outer face: eight units less are wanting at the old one, and eight more at the
+/// new one. It takes no memory.
+fn turned(walk: Walk, plane: &Plane, face: u16) -> Walk
+    requires walk { IsWalk plane.now walk }
+    requires face { face < plane.now.faces }
+    ensures { IsWalk (with_outer plane.now face) result }
+{
+    // Only the proof needs this: `graph` says that the plane is one.
+    let _graph = plane.graph();
+    let Walk { mut net, standing } = walk;
+    let from = net.face_node(plane.outer());
+    let to = net.face_node(face);
+    net.turn_out(plane, face);
+    match standing.shift(from, to, 8) {
+        Some(standing) => Walk { net, standing },
+        None => unreachable!(),
+    }
+}
+
+/// Turns a face out, and finds a least shape.
+fn found_with(
+    alloc: Global,
+    plane: &mut Plane,
+    walk: Walk,
+    face: u16,
+) -> Result<(Walk, Found), AllocError>
+    requires face { face < plane.old.faces }
+    requires walk { IsWalk plane.old walk }
+    ensures turned { plane.new ≡ with_outer plane.old face }
+    ensures walk { IfOk result (λ tried. IsWalk plane.new tried.0) }
+    ensures face { IfOk result (λ tried. tried.1.face ≡ face) }
+    ensures found { IfOk result (λ tried. IsFound plane.old tried.1) }
+{
+    let walk = turned(walk, plane, face);
     plane.turn_out(face);
-    let (shape, prices) = least_shape(alloc, plane)?;
+    let solved = walk.standing.solved(alloc)?;
+    let (shape, prices) = shape_in(alloc, plane, &walk.net, &solved)?;
     let bends = shape.bends();
-    Ok(Found {
+    let found = Found {
         face,
         bends,
         shape,
         prices,
-    })
+    };
+    Ok((walk, found))
 }
 
 /// The best of the least shapes with each face as the outer one. The outer face is left as it was
@@ -104,11 +154,15 @@ fn best_found(alloc: Global, plane: &mut Plane) -> Result<Found, AllocError>
     let faces = plane.face_count();
     let outer = plane.outer();
     let mut bounds = [0; MAX_FACES];
-    let mut best = found_with(alloc, plane, outer)?;
+    let walk = begin(alloc, plane)?;
+    let (walk, found) = found_with(alloc, plane, walk, outer)?;
+    let mut walk = walk;
+    let mut best = found;
     raise_bounds(plane, &best, &mut bounds);
     for face in 0..faces {
         if best.loses_to(bounds[usize::from(face)], face) {
-            let next = found_with(alloc, plane, face)?;
+            let (moved, next) = found_with(alloc, plane, walk, face)?;
+            walk = moved;
             raise_bounds(plane, &next, &mut bounds);
             if best.loses_to(u64::from(next.bends), face) {
                 best = next;

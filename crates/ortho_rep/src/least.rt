@@ -2,7 +2,7 @@
 
 ghost use Rattle.std.specs.Prelude.{◌≡◌, ◌+◌, ◌<◌, ◌≤◌, ◌++◌, [], ℕ, pos, OnOk, IfOk, length, replicate, slice_index, slice_index_or, vec_len, ◌^◌};
 ghost use Rattle.faces.specs.Map.{darts, vertices};
-ghost use Rattle.min_cost_flow.specs.Flow.{Flow, Solves, amounts, at_nodes};
+ghost use Rattle.networks.specs.Flow.{Flow, Solves, amounts, at_nodes};
 ghost use Rattle.flow_network.specs.FaceNet.{IsNetOf};
 ghost use Rattle.ortho_rep.specs.OfFlow.{angles_of, strings_of};
 ghost use Rattle.ortho_rep.specs.Representation.{IsShape, IsLeast};
@@ -32,12 +32,28 @@ pub fn least_shape(alloc: Global, plane: &Plane) -> Result<(Shape, Prices), Allo
 {
     let net = FaceNet::build(alloc, plane)?;
     let solved = least_flow(alloc, net.network())?;
+    shape_in(alloc, plane, &net, &solved)
+}
+
+/// The representation that a flow of least cost is, and its prices.
+pub(crate) fn shape_in(
+    alloc: Global,
+    plane: &Plane,
+    net: &FaceNet,
+    solved: &Solved,
+) -> Result<(Shape, Prices), AllocError>
+    requires net { IsNetOf plane.now net.now }
+    requires solves { Solves net.now.network solved.now }
+    ensures shape { IfOk result (λ found. IsShape plane.now found.0) }
+    ensures least { IfOk result (λ found. IsLeast plane.now found.0) }
+    ensures proof { IfOk result (λ found. IsProof plane.now found.0 found.1) }
+{
     // Only the proof needs this: `graph` says that the plane is one.
     let _graph = plane.graph();
-    let angles = angles_in(alloc, plane, &net, &solved)?;
-    let strings = strings_in(alloc, plane, &net, &solved)?;
-    let vertices = vertex_prices(alloc, plane, &net, &solved)?;
-    let faces = face_prices(alloc, plane, &net, &solved)?;
+    let angles = angles_in(alloc, plane, net, solved)?;
+    let strings = strings_in(alloc, plane, net, solved)?;
+    let vertices = vertex_prices(alloc, plane, net, solved)?;
+    let faces = face_prices(alloc, plane, net, solved)?;
     Ok((
         Shape::of_strings(angles, strings),
         Prices::new(vertices, faces),

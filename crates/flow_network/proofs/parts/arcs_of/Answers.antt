@@ -1,7 +1,7 @@
 use Rattle.std.proofs.Common.{◌≡◌, ◌<◌, ◌+◌, ◌-◌, ℕ, List, length, get_or, arith, refl, sym, ap, subst, zero-add, ◌∙◌}
-use Rattle.min_cost_flow.specs.declared.arc.Arc.{Arc}
-use Rattle.min_cost_flow.specs.declared.arc.Cap.TheVariants.{AtMost, Any}
-use Rattle.min_cost_flow.specs.Net.{no_arc}
+use Rattle.networks.specs.declared.arc.Arc.{Arc}
+use Rattle.networks.specs.declared.arc.Cap.TheVariants.{AtMost, Any}
+use Rattle.networks.specs.Net.{no_arc}
 use Rattle.embedding.specs.Darts.{head_of, reverse_of, dart_count}
 use Rattle.faces.specs.Map.{darts, vertices, head, mate, face_at}
 use Rattle.flow_network.proofs.Pushing.{push_length, push_keeps, push_more, arc_same}

@@ -1,8 +1,8 @@
 use Rattle.std.proofs.Common.{◌≡◌, ◌≢◌, ◌<◌, ◌≤◌, ◌+◌, ℕ, min, pos, ◌≤ℤ◌, ◌+ℤ◌, sym, ◌∙◌, ap, subst, arith}
-use Rattle.min_cost_flow.specs.Net.{node_count}
-use Rattle.min_cost_flow.specs.Flow.{at_nodes}
+use Rattle.networks.specs.Net.{node_count}
+use Rattle.networks.specs.Flow.{at_nodes}
 use Rattle.min_cost_flow.specs.Excess.{Carries}
-use Rattle.min_cost_flow.specs.Layout.{numbers, end_at, carried}
+use Rattle.networks.specs.Layout.{numbers, end_at, carried}
 use Rattle.min_cost_flow.specs.Round.{carrying}
 use Rattle.min_cost_flow.proofs.Changes.{taken_carries}
 use Rattle.min_cost_flow.proofs.Rounds.{IsSent, sent_round}

@@ -1,7 +1,7 @@
 use Rattle.std.proofs.Common.{◌≡◌, ◌<◌, ◌≤◌, ◌+◌, ℕ, pos, ◌≤ℤ◌, ◌+ℤ◌, true}
-use Rattle.min_cost_flow.specs.Net.{node_count}
-use Rattle.min_cost_flow.specs.Flow.{at_nodes}
-use Rattle.min_cost_flow.specs.Layout.{numbers, end_at, IsFilled, carried}
+use Rattle.networks.specs.Net.{node_count}
+use Rattle.networks.specs.Flow.{at_nodes}
+use Rattle.networks.specs.Layout.{numbers, end_at, IsFilled, carried}
 use Rattle.min_cost_flow.specs.Path.{HasPath}
 use Rattle.min_cost_flow.specs.Round.{carrying}
 use Rattle.min_cost_flow.proofs.Augmenting.{IsOnWay, IsNarrowed, IsSending, next_of, room_into}

@@ -3,8 +3,8 @@ use Rattle.std.specs.Prelude.{◌≤ℤ◌, ◌<ℤ◌}
 use mir.Syntax.{w32}
 use mir.Val.{SFits}
 use Rattle.min_cost_flow.proofs.Signs.{is_less, is_no_less}
-use Rattle.min_cost_flow.specs.Flow.{at_nodes}
-use Rattle.min_cost_flow.specs.Layout.{numbers}
+use Rattle.networks.specs.Flow.{at_nodes}
+use Rattle.networks.specs.Layout.{numbers}
 use Rattle.min_cost_flow.specs.Search.{far, nodes_of}
 use Rattle.min_cost_flow.proofs.Reaching.{relabelled, enlisted, behind, offer_end, offer_number, order_room}
 use Rattle.min_cost_flow.proofs.reach.mark.Goals as goal

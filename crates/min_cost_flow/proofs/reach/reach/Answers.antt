@@ -2,8 +2,8 @@ use Rattle.std.proofs.Common.{rules, ◌≡◌, ◌<◌, ◌≤◌, ◌⊎◌, �
 use Rattle.std.specs.Prelude.{pos, ℤ, ◌-ℤ◌, ◌≤ℤ◌, ◌<ℤ◌}
 use mir.Syntax.{w32}
 use mir.Val.{SFits}
-use Rattle.min_cost_flow.specs.Flow.{at_nodes}
-use Rattle.min_cost_flow.specs.Layout.{numbers}
+use Rattle.networks.specs.Flow.{at_nodes}
+use Rattle.networks.specs.Layout.{numbers}
 use Rattle.min_cost_flow.specs.Search.{far, nodes_of, IsKept}
 use Rattle.min_cost_flow.proofs.Signs.{is_less, is_no_less, both_no_less, fits_within, passed_within, difference_is, same_from_bits, passed_is, passed_under}
 use Rattle.min_cost_flow.proofs.Reaching.{swapped, nearest_offered, nearest_kept, kept_then, offer_end, offer_fits, price_fits, at_level, offer_below, offered_least, kept_same, same_z}

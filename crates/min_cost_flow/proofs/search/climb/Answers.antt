@@ -4,8 +4,8 @@ use Rattle.std.proofs.lemmas.Int.{to_z-of_z}
 use Rattle.std.specs.Prelude.{◌-ℤ◌}
 use mir.Syntax.{w32}
 use mir.Val.{SFits}
-use Rattle.min_cost_flow.specs.Flow.{at_nodes}
-use Rattle.min_cost_flow.specs.Layout.{numbers}
+use Rattle.networks.specs.Flow.{at_nodes}
+use Rattle.networks.specs.Layout.{numbers}
 use Rattle.min_cost_flow.specs.Search.{nodes_of, IsKept}
 use Rattle.min_cost_flow.proofs.Reaching.{climbed, kept_same, kept_then, nearest_kept}
 use Rattle.min_cost_flow.proofs.search.climb.Goals as goal

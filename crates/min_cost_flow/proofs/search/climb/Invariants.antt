@@ -1,7 +1,7 @@
 use Rattle.std.proofs.Common.{◌≡◌, ◌≤◌, ◌<◌, ◌⊎◌, ℕ}
 use Rattle.std.specs.Prelude.{◌-ℤ◌}
-use Rattle.min_cost_flow.specs.Flow.{at_nodes}
-use Rattle.min_cost_flow.specs.Layout.{numbers}
+use Rattle.networks.specs.Flow.{at_nodes}
+use Rattle.networks.specs.Layout.{numbers}
 use Rattle.min_cost_flow.specs.Search.{Reaches, FindsNearest, Keeps}
 use Rattle.min_cost_flow.proofs.search.climb.Given as goal
 

@@ -3,8 +3,8 @@ use Rattle.std.specs.Prelude.{◌+ℤ◌, ◌<ℤ◌}
 use Rattle.std.proofs.lemmas.Int.{to_z-of_z}
 use mir.Syntax.{w16, w32}
 use mir.Val.{SFits}
-use Rattle.min_cost_flow.specs.Flow.{at_nodes}
-use Rattle.min_cost_flow.specs.Layout.{numbers, end_at, code_at}
+use Rattle.networks.specs.Flow.{at_nodes}
+use Rattle.networks.specs.Layout.{numbers, end_at, code_at}
 use Rattle.min_cost_flow.proofs.Signs.{both_less, both_no_less, passed_within, sum_is}
 use Rattle.min_cost_flow.proofs.Reaching.{offer_made, served_less, served_after, reached_fits, kept_same, same_z}
 use Rattle.min_cost_flow.proofs.search.consider.Goals as goal

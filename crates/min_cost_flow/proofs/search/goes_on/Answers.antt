@@ -3,8 +3,8 @@ use Rattle.std.proofs.lemmas.Int.{to_z-of_z}
 use Rattle.std.specs.Prelude.{ℤ, ◌-ℤ◌, ◌≤ℤ◌, ◌<ℤ◌}
 use mir.Syntax.{w32}
 use mir.Val.{SFits, of_z}
-use Rattle.min_cost_flow.specs.Flow.{at_nodes}
-use Rattle.min_cost_flow.specs.Layout.{numbers}
+use Rattle.networks.specs.Flow.{at_nodes}
+use Rattle.networks.specs.Layout.{numbers}
 use Rattle.min_cost_flow.proofs.Signs.{same_from_bits}
 use Rattle.min_cost_flow.proofs.Reaching.{kept_same, left_at_level, left_behind, strictly}
 use Rattle.min_cost_flow.proofs.search.goes_on.Goals as goal

@@ -1,8 +1,8 @@
 use Rattle.std.proofs.Common.{◌≡◌, ◌≤◌, ◌+◌, ℕ, arith, refl, inl, inr, subst, sym, ◌∙◌}
 use Rattle.std.proofs.lemmas.Bool.{cases_lt}
 use Rattle.std.specs.Prelude.{length, ℤ, ◌-ℤ◌, ◌≤ℤ◌}
-use Rattle.min_cost_flow.specs.Flow.{at_nodes}
-use Rattle.min_cost_flow.specs.Layout.{numbers, end_at}
+use Rattle.networks.specs.Flow.{at_nodes}
+use Rattle.networks.specs.Layout.{numbers, end_at}
 use Rattle.min_cost_flow.specs.Search.{nodes_of, IsKept, IsServed, Serves}
 use Rattle.min_cost_flow.proofs.Reaching.{headed, headed_nearest, kept_same, kept_then, kept_less, same_z, under_level, next_node, next_kept, next_only, serves_kept, served_kept, served_more}
 use Rattle.min_cost_flow.proofs.search.scan.Goals as goal

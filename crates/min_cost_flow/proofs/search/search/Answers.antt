@@ -1,7 +1,7 @@
 use Rattle.std.proofs.Common.{◌≡◌, ◌<◌, ◌≤◌, ◌+◌, ℕ, arith, subst, sym}
 use Rattle.std.specs.Prelude.{length}
-use Rattle.min_cost_flow.specs.Flow.{at_nodes}
-use Rattle.min_cost_flow.specs.Layout.{numbers}
+use Rattle.networks.specs.Flow.{at_nodes}
+use Rattle.networks.specs.Layout.{numbers}
 use Rattle.min_cost_flow.specs.Search.{nodes_of, looked, IsServed}
 use Rattle.min_cost_flow.proofs.Reaching.{served_kept, same_le, order_kept, looked_most, looked_same, looked_more}
 use Rattle.min_cost_flow.proofs.search.search.Goals as goal

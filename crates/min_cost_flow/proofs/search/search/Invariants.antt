@@ -1,6 +1,6 @@
 use Rattle.std.proofs.Common.{◌≡◌, ◌+◌, ◌-◌}
-use Rattle.min_cost_flow.specs.Flow.{at_nodes}
-use Rattle.min_cost_flow.specs.Layout.{numbers}
+use Rattle.networks.specs.Flow.{at_nodes}
+use Rattle.networks.specs.Layout.{numbers}
 use Rattle.min_cost_flow.specs.Search.{nodes_of, looked, Reaches, FindsNearest, IsServed}
 use Rattle.min_cost_flow.proofs.search.search.Given as goal
 

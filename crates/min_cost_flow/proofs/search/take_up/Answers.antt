@@ -2,8 +2,8 @@ use Rattle.std.proofs.Common.{rules, ◌≡◌, ◌<◌, ◌≤◌, ℕ, arith, 
 use Rattle.std.specs.Prelude.{◌-ℤ◌, ◌≤ℤ◌, ◌<ℤ◌}
 use mir.Syntax.{w32}
 use mir.Val.{SFits, of_z}
-use Rattle.min_cost_flow.specs.Flow.{at_nodes}
-use Rattle.min_cost_flow.specs.Layout.{numbers}
+use Rattle.networks.specs.Flow.{at_nodes}
+use Rattle.networks.specs.Layout.{numbers}
 use Rattle.min_cost_flow.specs.Search.{nodes_of, far}
 use Rattle.min_cost_flow.proofs.Signs.{passed_within, difference_is, same_from_bits}
 use Rattle.min_cost_flow.proofs.Reaching.{swapped, kept_same, nearest_kept, reached_fits, price_fits, at_level}

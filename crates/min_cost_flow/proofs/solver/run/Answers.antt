@@ -1,8 +1,8 @@
 use Rattle.std.proofs.Common.{◌≡◌, ℕ, arith, sym, subst, inl, inr}
 use Rattle.std.specs.Prelude.{pos, ◌≤ℤ◌}
 use Rattle.std.proofs.lemmas.Bool.{cases_lt}
-use Rattle.min_cost_flow.specs.Flow.{at_nodes}
-use Rattle.min_cost_flow.proofs.Rounds.{first_work, done_at, no_flow_wanting}
+use Rattle.networks.specs.Flow.{at_nodes}
+use Rattle.min_cost_flow.proofs.Rounds.{first_work, done_at, no_flow_wanting, nothing_left}
 use Rattle.min_cost_flow.proofs.solver.run.Goals as goal
 
 pub loop-source-init : goal.loop-source-init
@@ -61,3 +61,12 @@ returns-clause-done c =
 
 pub returns-clause-filled : goal.returns-clause-filled
 returns-clause-filled c = c.loop-source.invariant.filled
+
+pub returns-clause-round : goal.returns-clause-round
+returns-clause-round c = c.loop-source.invariant.round
+
+pub returns-clause-blank : goal.returns-clause-blank
+returns-clause-blank c = c.loop-source.invariant.blank
+
+pub returns-clause-sent : goal.returns-clause-sent
+returns-clause-sent c v d = nothing_left _ (c.loop-source.invariant.done v (omega (arith, c.requires.sizes.excesses))) (c.has_deficit.ensures.none c.if-has_deficit.false v (omega (arith, c.requires.sizes.excesses)))

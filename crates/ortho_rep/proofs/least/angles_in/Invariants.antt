@@ -1,5 +1,5 @@
 use Rattle.std.proofs.Common.{◌≡◌, ℕ, ◌<◌, get_or, vec_len}
-use Rattle.min_cost_flow.specs.Flow.{amounts}
+use Rattle.networks.specs.Flow.{amounts}
 use Rattle.ortho_rep.specs.OfFlow.{angles_of}
 use Rattle.ortho_rep.proofs.least.angles_in.Given as goal
 

@@ -1,7 +1,7 @@
 use Rattle.std.proofs.Common.{◌≡◌, ℕ, ◌<◌, ◌+◌, get_or, vec_len}
 use Rattle.std.specs.Prelude.{pos}
 use Rattle.faces.specs.Map.{vertices}
-use Rattle.min_cost_flow.specs.Flow.{at_nodes}
+use Rattle.networks.specs.Flow.{at_nodes}
 use Rattle.ortho_rep.proofs.least.face_prices.Given as goal
 
 abbrev pub invariant-loop-face : goal.invariant-loop-face

@@ -1,30 +1,7 @@
-use Rattle.std.proofs.Common.{subst, arith}
-use Rattle.min_cost_flow.specs.Net.{Net}
-use Rattle.min_cost_flow.specs.Flow.{Solves, amounts, at_nodes}
-use Rattle.ortho_rep.proofs.FromFlow.{IsOfFlow, shape_of_flow, least_of_flow, proof_of_flow}
+use Rattle.std.proofs.Common.{subst}
+use Rattle.networks.specs.Net.{Net}
+use Rattle.networks.specs.Flow.{Solves}
 use Rattle.ortho_rep.proofs.least.least_shape.Goals as goal
 
-pub returns : goal.returns
-returns c =
-    let plane = c.args.plane.now in
-    let net = c.in_ok-net.net.network in
-    let x = amounts c.in_ok-solved.solved.flow in
-    let q = at_nodes c.in_ok-solved.solved.potential in
-    let is = c.in_ok-net.ensures.net.network in
-    let ends = c.graph-graph.ensures.ends in
-    let solves : Solves net c.in_ok-solved.solved = subst (λ (n : Net). Solves n c.in_ok-solved.solved) c.network.ensures c.in_ok-solved.ensures in
-    let found : IsOfFlow plane x q c.of_strings.result c.new.result = rw (c.of_strings.ensures, c.new.ensures) (record {
-      angle_count = omega (arith, c.in_ok-angles.angles.ok, c.in_ok-angles.ensures.count);
-      string_count = c.in_ok-strings.ensures.count;
-      vertex_count = omega (arith, c.in_ok-vertices.vertices.ok, c.in_ok-vertices.ensures.count);
-      face_count = omega (arith, c.in_ok-faces.faces.ok, c.in_ok-faces.ensures.count);
-      angle = c.in_ok-angles.ensures.each;
-      string = c.in_ok-strings.ensures.each;
-      vertex = c.in_ok-vertices.ensures.each;
-      face = c.in_ok-faces.ensures.each;
-    }) in
-    record {
-      shape = shape_of_flow plane net x q c.of_strings.result c.new.result ends is solves.flow found;
-      least = least_of_flow plane net x q c.of_strings.result c.new.result ends is solves.flow solves.potentials found;
-      proof = proof_of_flow plane net x q c.of_strings.result c.new.result ends is solves.potentials found;
-    }
+pub shape_in-requires-clause-solves : goal.shape_in-requires-clause-solves
+shape_in-requires-clause-solves c = subst (λ (n : Net). Solves n c.in_ok-solved.solved) c.network.ensures c.in_ok-solved.ensures

@@ -2,7 +2,7 @@ use Rattle.std.proofs.Common.{◌≡◌, ℕ, ◌+◌, ◌++◌, List, [], lengt
 use Rattle.std.proofs.lemmas.List.{get_or_default, length-replicate}
 use Rattle.embedding.specs.Darts.{dart_count, reverse_of}
 use Rattle.faces.specs.Map.{darts, mate}
-use Rattle.min_cost_flow.specs.Flow.{amounts, at_nodes}
+use Rattle.networks.specs.Flow.{amounts, at_nodes}
 use Rattle.ortho_rep.specs.declared.turn.Turn.{Turn}
 use Rattle.ortho_rep.specs.declared.turn.Turn.TheVariants.{Left, Right}
 use Rattle.ortho_rep.specs.OfFlow.{strings_of}

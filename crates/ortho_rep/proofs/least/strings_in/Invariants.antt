@@ -1,5 +1,5 @@
 use Rattle.std.proofs.Common.{◌≤◌, ◌*◌, length}
-use Rattle.min_cost_flow.specs.Flow.{amounts}
+use Rattle.networks.specs.Flow.{amounts}
 use Rattle.ortho_rep.specs.OfFlow.{strings_of}
 use Rattle.ortho_rep.proofs.Joined.{IsJoined}
 use Rattle.ortho_rep.proofs.least.strings_in.Given as goal

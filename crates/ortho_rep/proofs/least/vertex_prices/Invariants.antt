@@ -1,6 +1,6 @@
 use Rattle.std.proofs.Common.{◌≡◌, ℕ, ◌<◌, get_or, vec_len}
 use Rattle.std.specs.Prelude.{pos}
-use Rattle.min_cost_flow.specs.Flow.{at_nodes}
+use Rattle.networks.specs.Flow.{at_nodes}
 use Rattle.ortho_rep.proofs.least.vertex_prices.Given as goal
 
 abbrev pub invariant-loop-vertex : goal.invariant-loop-vertex

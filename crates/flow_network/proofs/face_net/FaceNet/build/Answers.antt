@@ -1,6 +1,6 @@
 use Rattle.std.proofs.Common.{◌≡◌, ◌<◌, ℕ, subst, sym}
-use Rattle.min_cost_flow.specs.Net.{Net}
-use Rattle.min_cost_flow.specs.Flow.{Flow}
+use Rattle.networks.specs.Net.{Net}
+use Rattle.networks.specs.Flow.{Flow}
 use Rattle.flow_network.specs.FaceNet.{IsFaceNet}
 use Rattle.flow_network.proofs.Flowing.{net_flows}
 use Rattle.flow_network.proofs.Faultless.{no_fault, arc_ends}

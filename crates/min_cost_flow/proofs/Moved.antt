@@ -1,0 +1,174 @@
+-- After supplies have moved: what holds before the next search.
+use Rattle.std.proofs.Common.{◌≡◌, ◌≢◌, ◌<◌, ◌≤◌, ◌⊎◌, ℕ, ◌+◌, ◌*◌, Bool, List, length, cond, eqb, true, false, refl, sym, subst, inl, inr, arith}
+use Rattle.std.specs.Prelude.{ℤ, pos, negsuc, ◌+ℤ◌, ◌-ℤ◌, ◌≤ℤ◌, ◌<ℤ◌}
+use Rattle.std.proofs.lemmas.Bool.{cases_eq, ne_eqb, eqb-true, cond-false}
+use Rattle.std.proofs.lemmas.Int.{ints}
+use borrow.Author.Differences.{up}
+use Rattle.sums.specs.Sums.{sum_below}
+use Rattle.sums.proofs.Sums.{sum_below-changed, sum_below-none}
+use Rattle.networks.specs.Net.{Net, node_count, arc_count, arc_at, supply_at, moved, shifted, HasFairSupplies, IsNetwork}
+use Rattle.networks.proofs.Moving.{delta, moved_at, length-moved}
+use Rattle.networks.specs.Flow.{Answer, Flow, Solves, amounts, at_nodes, balance, start_of, end_of, price_of, reduced_cost, IsResidual, HasPotentials}
+use Rattle.min_cost_flow.specs.Excess.{Leaves}
+use Rattle.networks.specs.Layout.{numbers, IsLaidOut}
+use Rattle.min_cost_flow.specs.Round.{left_over, IsRound}
+use Rattle.networks.proofs.Ends.{start_in, end_in}
+use Rattle.min_cost_flow.proofs.Duality.{least_by_potentials}
+use Rattle.min_cost_flow.proofs.Rounds.{flow_at, flow_same, potentials_same}
+
+-- ---- at one node
+
+still_leaves : (b e e' s s' d : ℤ) → b +ℤ e ≡ s → e' ≡ e +ℤ d → s' ≡ s +ℤ d → b +ℤ e' ≡ s'
+still_leaves b e e' s s' d h k l = omega (arith, ints)
+
+fair_delta : (e e' : ℤ) (x y : ℕ) → e ≡ pos 0 → e' ≡ e +ℤ (pos x -ℤ pos y) → x ≤ 2048 → y ≤ 2048 → (negsuc 2047 ≤ℤ e') × (e' ≤ℤ pos 2048)
+fair_delta e e' x y z h a b = (omega (arith, ints), omega (arith, ints))
+
+some_less : (e e' : ℤ) (x y : ℕ) → e ≡ pos 0 → e' ≡ e +ℤ (pos x -ℤ pos y) → e' <ℤ pos 0 → 0 < y
+some_less e e' x y z h w = omega (arith, ints)
+
+no_more : (e e' : ℤ) (x y : ℕ) → e ≡ pos 0 → e' ≡ e +ℤ (pos x -ℤ pos y) → x ≡ 0 → e' ≤ℤ pos 0
+no_more e e' x y z h w = omega (arith, ints)
+
+up_few : (e e' : ℤ) (x y k : ℕ) → e ≡ pos 0 → e' ≡ e +ℤ (pos x -ℤ pos y) → x ≤ k → up e' ≤ k
+up_few e (pos n) x y k z h w = omega (arith, ints)
+up_few e (negsuc n) x y k z h w = omega (arith, ints)
+
+up_none : (e e' : ℤ) (x y : ℕ) → e ≡ pos 0 → e' ≡ e +ℤ (pos x -ℤ pos y) → x ≡ 0 → up e' ≡ 0
+up_none e (pos n) x y z h w = omega (arith, ints)
+up_none e (negsuc n) x y z h w = omega (arith, ints)
+
+own_base : (a b : ℤ) → a ≡ b -ℤ b → a ≡ pos 0
+own_base a b h = omega (arith, ints)
+
+same_cost : (c a b a' b' z : ℤ) → a' ≡ a -ℤ z → b' ≡ b -ℤ z → pos 0 ≤ℤ (c +ℤ a -ℤ b) → pos 0 ≤ℤ (c +ℤ a' -ℤ b')
+same_cost c a b a' b' z h k l = omega (arith, ints)
+
+same_price : (c a b a' b' : ℤ) → a' ≡ a → b' ≡ b → pos 0 ≤ℤ (c +ℤ a -ℤ b) → pos 0 ≤ℤ (c +ℤ a' -ℤ b')
+same_price c a b a' b' h k l = omega (arith, ints)
+
+chosen_few : (b : Bool) (k : ℕ) → cond {A = ℕ} b k 0 ≤ k
+chosen_few true k = omega arith
+chosen_few false k = omega arith
+
+-- ---- the whole
+
+abbrev none_at : (es : List ℤ) (n : ℕ) → Type 0
+none_at es n = (v : ℕ) → v < n → at_nodes es v ≡ pos 0
+
+-- only the first of the two nodes has anything left over
+pub others_none : (es : List ℤ) (n f t k v : ℕ) → length es ≡ n → none_at es n → f < n → t < n → v < n → v ≢ f → at_nodes (moved es f t k) v ≤ℤ pos 0
+others_none es n f t k v size none fb tb vb ne =
+    no_more (at_nodes es v) (at_nodes (moved es f t k) v) (cond {A = ℕ} (eqb v f) k 0) (cond {A = ℕ} (eqb v t) k 0)
+    (none v vb)
+    (moved_at es f t k v (omega arith) (omega arith))
+    (cond-false {A = ℕ} (eqb v f) k 0 (ne_eqb v f ne))
+
+left_few : (net : Net) (es : List ℤ) (f t k : ℕ) → length es ≡ node_count net → none_at es (node_count net) → f < node_count net → t < node_count net → left_over net (at_nodes (moved es f t k)) ≤ k
+left_few net es f t k size none fb tb =
+    let n = node_count net in
+    let e' = at_nodes (moved es f t k) in
+    let here : up (e' f) ≤ k = up_few (at_nodes es f) (e' f) (cond {A = ℕ} (eqb f f) k 0) (cond {A = ℕ} (eqb f t) k 0) k (none f fb) (moved_at es f t k f (omega arith) (omega arith)) (chosen_few (eqb f f) k) in
+    let sums : left_over net e' + 0 ≡ sum_below n (λ _. 0) + up (e' f) =
+    sum_below-changed n f (λ v. up (e' v)) (λ _. 0) fb
+    (λ v b ne. up_none (at_nodes es v) (e' v) (cond {A = ℕ} (eqb v f) k 0) (cond {A = ℕ} (eqb v t) k 0) (none v b) (moved_at es f t k v (omega arith) (omega arith)) (cond-false {A = ℕ} (eqb v f) k 0 (ne_eqb v f ne))) in
+    omega (arith, sum_below-none n (λ _. 0) (λ i b. refl))
+
+wanting_is : (b : Bool) (k : ℕ) → 0 < cond {A = ℕ} b k 0 → b ≡ true
+wanting_is true k h = refl
+wanting_is false k h = absurd (omega arith)
+
+pub moved_round : (net : Net) (x : ℕ → ℕ) (p p' : ℕ → ℤ) (es : List ℤ) (f t k : ℕ) → IsNetwork net → IsRound net x p (at_nodes es) → length es ≡ node_count net → none_at es (node_count net) → f < node_count net → t < node_count net → k ≤ 2048
+    → ((v : ℕ) → v < node_count net → p' v ≡ p v -ℤ p t)
+    → ((v : ℕ) → v < node_count net → (pos 0 ≤ℤ (p' v +ℤ pos (2 * node_count net))) × (p' v ≤ℤ pos (2 * node_count net)))
+    → ((i : ℕ) → i < arc_count net → x i + k ≤ 2097152)
+    → IsRound (shifted net f t k) x p' (at_nodes (moved es f t k))
+moved_round net x p p' es f t k nw r size none fb tb few base low room =
+    let n = node_count net in
+    let long : length (moved net.supplies f t k) ≡ n = length-moved net.supplies f t k in
+    let e' = at_nodes (moved es f t k) in
+    let at : (v : ℕ) → e' v ≡ at_nodes es v +ℤ delta f t k v = λ v. moved_at es f t k v (omega arith) (omega arith) in
+    record {
+      leaves = record {
+        at_node = λ v b.
+            let vb : v < n = omega arith in
+            still_leaves (balance net x v) (at_nodes es v) (e' v) (supply_at net v) (supply_at (shifted net f t k) v) (delta f t k v)
+            (r.leaves.at_node v vb) (at v) (moved_at net.supplies f t k v fb tb);
+      };
+      caps = r.caps;
+      priced = record {
+        residual = λ i back b res. same_cost (price_of net i back) (p (start_of net i back)) (p (end_of net i back)) (p' (start_of net i back)) (p' (end_of net i back)) (p t)
+            (base (start_of net i back) (start_in net i back nw.ends b)) (base (end_of net i back) (end_in net i back nw.ends b)) (r.priced.residual i back b res);
+      };
+      low = λ v b. let vb : v < n = omega arith in subst (λ (m : ℕ). (pos 0 ≤ℤ (p' v +ℤ pos (2 * m))) × (p' v ≤ℤ pos (2 * m))) (sym long) (low v vb);
+      zero = λ v b w.
+          let vb : v < n = omega arith in
+          let some : 0 < cond {A = ℕ} (eqb v t) k 0 = some_less (at_nodes es v) (e' v) (cond {A = ℕ} (eqb v f) k 0) (cond {A = ℕ} (eqb v t) k 0) (none v vb) (at v) w in
+          let same : v ≡ t = eqb-true v t (wanting_is (eqb v t) k some) in
+          subst (λ (u : ℕ). p' u ≡ pos 0) (sym same) (own_base (p' t) (p t) (base t tb));
+      fair = λ v b.
+          let vb : v < n = omega arith in
+          fair_delta (at_nodes es v) (e' v) (cond {A = ℕ} (eqb v f) k 0) (cond {A = ℕ} (eqb v t) k 0) (none v vb) (at v)
+          (omega (arith, chosen_few (eqb v f) k)) (omega (arith, chosen_few (eqb v t) k));
+      room = λ i b.
+          let over : left_over (shifted net f t k) e' ≤ k = subst (λ (m : ℕ). sum_below m (λ v. up (e' v)) ≤ k) (sym long) (left_few net es f t k size none fb tb) in
+          omega (arith, room i b);
+    }
+
+-- ---- the residual arcs stay where they are
+
+pub laid_still : (net : Net) (first reverse forward : List ℕ) (f t k : ℕ) → IsLaidOut net first reverse forward → IsLaidOut (shifted net f t k) first reverse forward
+laid_still net first reverse forward f t k l =
+    let long : length (moved net.supplies f t k) ≡ node_count net = length-moved net.supplies f t k in
+    record {
+      starts = omega (arith, l.starts);
+      reverses = l.reverses;
+      forwards = l.forwards;
+      rising = λ v b. l.rising v (omega arith);
+      inside = λ v b. l.inside v (omega arith);
+      block = λ i back b. l.block i back b;
+      cover = λ v j b st. let o = l.cover v j (omega arith) st in record { arc = o.arc; back = o.back; inside = o.inside; place = o.place; start = o.start };
+      alone = λ i j b c ib jb e. l.alone i j b c ib jb e;
+      turned = λ i b. l.turned i b;
+    }
+
+-- nothing is left over where it is so at the one node and at all others
+pub over_none : (es : List ℤ) (n s : ℕ) → ((v : ℕ) → v < n → v ≢ s → at_nodes es v ≤ℤ pos 0) → at_nodes es s ≤ℤ pos 0 → (v : ℕ) → v < n → at_nodes es v ≤ℤ pos 0
+over_none es n s others here v b =
+    elim (cases_eq v s) [
+      | inl e ↦ subst (λ (u : ℕ). at_nodes es u ≤ℤ pos 0) (sym e) here
+      | inr ne ↦ others v b ne
+    ]
+
+-- where the residual arc along each arc stands, and the one back
+pub forward_in : (net : Net) (first reverse forward : List ℕ) (i : ℕ) → IsNetwork net → IsLaidOut net first reverse forward → i < arc_count net → numbers forward i < arc_count net + arc_count net
+forward_in net first reverse forward i n l b = omega (arith, (l.block i false b).below, l.inside (arc_at net i).from (n.ends i b).0)
+
+pub reverse_in : (net : Net) (first reverse forward : List ℕ) (i : ℕ) → IsNetwork net → IsLaidOut net first reverse forward → i < arc_count net → numbers reverse (numbers forward i) < arc_count net + arc_count net
+reverse_in net first reverse forward i n l b = omega (arith, (l.block i true b).below, l.inside (arc_at net i).to (n.ends i b).1)
+
+-- ---- where nothing is left over or wanting, the flow is one of least cost
+
+none_over : (e : ℤ) → e ≡ pos 0 → e ≤ℤ pos 0
+none_over e h = omega (arith, ints)
+
+none_wanting : (e : ℤ) → e ≡ pos 0 → pos 0 ≤ℤ e
+none_wanting e h = omega (arith, ints)
+
+pub sent_flow : (net : Net) (x : ℕ → ℕ) (p e : ℕ → ℤ) → IsRound net x p e → ((v : ℕ) → v < node_count net → e v ≡ pos 0) → Flow net x
+sent_flow net x p e r sent = flow_at net x e r.caps r.leaves (λ v b. none_over (e v) (sent v b)) (λ v b. none_wanting (e v) (sent v b))
+
+pub solves_at : (net : Net) (x : ℕ → ℕ) (p e : ℕ → ℤ) (answer : Answer) → IsNetwork net → IsRound net x p e → ((v : ℕ) → v < node_count net → e v ≡ pos 0) → length answer.flow ≡ arc_count net → length answer.potential ≡ node_count net → ((i : ℕ) → i < arc_count net → amounts answer.flow i ≡ x i) → ((v : ℕ) → at_nodes answer.potential v ≡ p v) → Solves net answer
+solves_at net x p e answer n r sent flows potentials same prices =
+    let flow : Flow net (amounts answer.flow) = flow_same net x (amounts answer.flow) same (sent_flow net x p e r sent) in
+    let own : HasPotentials net (amounts answer.flow) p = potentials_same net x (amounts answer.flow) p same r.priced in
+    let priced : HasPotentials net (amounts answer.flow) (at_nodes answer.potential) = record {
+      residual = λ i back b res. same_price (price_of net i back) (p (start_of net i back)) (p (end_of net i back)) (at_nodes answer.potential (start_of net i back)) (at_nodes answer.potential (end_of net i back)) (prices (start_of net i back)) (prices (end_of net i back)) (own.residual i back b res);
+    } in
+    record {
+      flow_count = flows;
+      potential_count = potentials;
+      flow = flow;
+      potentials = priced;
+      least = least_by_potentials net (amounts answer.flow) (at_nodes answer.potential) n.ends flow priced;
+    }

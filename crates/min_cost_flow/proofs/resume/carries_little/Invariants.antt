@@ -1,0 +1,6 @@
+use Rattle.std.proofs.Common.{◌<◌, ◌≤◌, ◌+◌, ℕ}
+use Rattle.networks.specs.Layout.{carried}
+use Rattle.min_cost_flow.proofs.resume.carries_little.Given as goal
+
+abbrev pub invariant-loop-along : goal.invariant-loop-along
+invariant-loop-along l = (i : ℕ) → i < l.along-index → carried l.reverse l.forward l.room i + l.amount ≤ 2097152

@@ -1,0 +1,67 @@
+-- Residual arcs by numbers of their own, those that start at a node side by side.
+use Rattle.std.specs.Prelude.{ℕ, ◌+◌, ◌<◌, ◌≤◌, ◌==◌, ◌≡◌, ◌^◌, ℤ, pos, ◌+ℤ◌, Bool, true, false, if◌then◌else◌, List, length, slice_index, slice_index_or}
+use Rattle.networks.specs.declared.arc.Cap.{Cap}
+use Rattle.networks.specs.declared.arc.Cap.TheVariants.{AtMost, Any}
+use Rattle.networks.specs.declared.residual.ResidualArc.{ResidualArc}
+use Rattle.networks.specs.Net.{Net, node_count, arc_count, arc_at}
+use Rattle.networks.specs.Flow.{start_of, end_of, price_of}
+
+abbrev pub numbers : List ℕ → ℕ → ℕ
+numbers xs i = slice_index xs i
+
+-- stands for residual arcs past the last
+abbrev pub no_residual_arc : ResidualArc
+no_residual_arc = record { end = 0; code = pos 0 }
+
+abbrev pub end_at : List ResidualArc → ℕ → ℕ
+end_at arcs k = (slice_index_or arcs k no_residual_arc).end
+
+abbrev pub code_at : List ResidualArc → ℕ → ℤ
+code_at arcs k = (slice_index_or arcs k no_residual_arc).code
+
+-- number k is one of the residual arcs that start at node v
+pub record StartsAt (first : List ℕ) (v k : ℕ) : Type 0 where
+  pub from : numbers first v ≤ k
+  pub below : k < numbers first (v + 1)
+
+-- the number of residual arc (i, back)
+abbrev pub place_of : List ℕ → List ℕ → ℕ → Bool → ℕ
+place_of reverse forward i false = numbers forward i
+place_of reverse forward i true = numbers reverse (numbers forward i)
+
+-- number k is that of a residual arc that starts at node v
+pub record HasOrigin (net : Net) (reverse forward : List ℕ) (v k : ℕ) : Type 0 where
+  pub arc : ℕ
+  pub back : Bool
+  pub inside : arc < arc_count net
+  pub place : place_of reverse forward arc back ≡ k
+  pub start : start_of net arc back ≡ v
+
+-- each residual arc has a number of its own, and those that start at a node are side by side
+pub record IsLaidOut (net : Net) (first reverse forward : List ℕ) : Type 0 where
+  pub starts : length first ≡ node_count net + 1
+  pub reverses : length reverse ≡ arc_count net + arc_count net
+  pub forwards : length forward ≡ arc_count net
+  pub rising : (v : ℕ) → v < node_count net → numbers first v ≤ numbers first (v + 1)
+  pub inside : (v : ℕ) → v < node_count net → numbers first (v + 1) ≤ arc_count net + arc_count net
+  pub block : (i : ℕ) (back : Bool) → i < arc_count net → StartsAt first (start_of net i back) (place_of reverse forward i back)
+  pub cover : (v k : ℕ) → v < node_count net → StartsAt first v k → HasOrigin net reverse forward v k
+  pub alone : (i j : ℕ) (b c : Bool) → i < arc_count net → j < arc_count net → place_of reverse forward i b ≡ place_of reverse forward j c → (i ≡ j) × (b ≡ c)
+  pub turned : (i : ℕ) → i < arc_count net → numbers reverse (numbers reverse (numbers forward i)) ≡ numbers forward i
+
+-- how many units a capacity stands for; where there is no limit it never runs out
+abbrev pub limit_of : Cap → ℕ
+limit_of (AtMost k) = k
+limit_of Any = 2 ^ 30
+
+-- what fits along each residual arc, its end, and its price, which is raised while nothing fits
+pub record IsFilled (net : Net) (reverse forward : List ℕ) (arcs : List ResidualArc) (room : List ℕ) : Type 0 where
+  pub arc_size : length arcs ≡ arc_count net + arc_count net
+  pub room_size : length room ≡ arc_count net + arc_count net
+  pub end : (i : ℕ) (back : Bool) → i < arc_count net → end_at arcs (place_of reverse forward i back) ≡ end_of net i back
+  pub code : (i : ℕ) (back : Bool) → i < arc_count net → code_at arcs (place_of reverse forward i back) ≡ (if numbers room (place_of reverse forward i back) == 0 then price_of net i back +ℤ pos 16000 else price_of net i back)
+  pub fits : (i : ℕ) → i < arc_count net → numbers room (place_of reverse forward i false) + numbers room (place_of reverse forward i true) ≡ limit_of (arc_at net i).cap
+
+-- what an arc carries is what fits back along it
+abbrev pub carried : List ℕ → List ℕ → List ℕ → ℕ → ℕ
+carried reverse forward room i = numbers room (place_of reverse forward i true)

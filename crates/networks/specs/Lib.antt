@@ -1,0 +1,5 @@
+pub mod Net
+pub mod Fault
+pub mod Flow
+pub mod Layout
+pub mod Counting

@@ -1,0 +1,64 @@
+-- What a network is: nodes with supplies, arcs with capacities and costs.
+use Rattle.std.specs.Prelude.{ℕ, ◌<◌, ◌≤◌, ℤ, pos, negsuc, ◌+ℤ◌, ◌-ℤ◌, ◌≤ℤ◌, List, length, slice_index_or, slice_set}
+use Rattle.networks.specs.declared.arc.Arc.{Arc}
+use Rattle.networks.specs.declared.arc.Cap.TheVariants.{AtMost}
+
+-- a supply for each node, nodes being numbered from 0, and the arcs, which are numbered too
+pub record Net : Type 0 where
+  pub supplies : List ℤ
+  pub arcs : List Arc
+
+abbrev pub net_of : List ℤ → List Arc → Net
+net_of supplies arcs = record { supplies = supplies; arcs = arcs }
+
+abbrev pub node_count : Net → ℕ
+node_count net = length net.supplies
+
+abbrev pub arc_count : Net → ℕ
+arc_count net = length net.arcs
+
+-- stands for arcs past the last
+abbrev pub no_arc : Arc
+no_arc = record { from = 0; to = 0; cap = AtMost 0; cost = 0 }
+
+abbrev pub arc_at : Net → ℕ → Arc
+arc_at net i = slice_index_or net.arcs i no_arc
+
+abbrev pub supply_at : Net → ℕ → ℤ
+supply_at net v = slice_index_or net.supplies v (pos 0)
+
+abbrev pub IsSmall : Net → Type 0
+IsSmall net = (node_count net ≤ 1024) × (arc_count net ≤ 4096)
+
+-- both ends of each arc are nodes
+abbrev pub HasEnds : Net → Type 0
+HasEnds net = (i : ℕ) → i < arc_count net → ((arc_at net i).from < node_count net) × ((arc_at net i).to < node_count net)
+
+-- no supply exceeds 2,048 in absolute value
+abbrev pub HasFairSupplies : Net → Type 0
+HasFairSupplies net = (v : ℕ) → v < node_count net → (negsuc 2047 ≤ℤ supply_at net v) × (supply_at net v ≤ℤ pos 2048)
+
+-- each arc costs 0 or 1 a unit
+abbrev pub HasUnitCosts : Net → Type 0
+HasUnitCosts net = (i : ℕ) → i < arc_count net → (arc_at net i).cost ≤ 1
+
+-- what holds of each `Network`
+pub record IsNetwork (net : Net) : Type 0 where
+  pub small : IsSmall net
+  pub ends : HasEnds net
+  pub supplies : HasFairSupplies net
+  pub costs : HasUnitCosts net
+
+-- so many units more at one place, and so many less at another
+abbrev pub raised : List ℤ → ℕ → ℕ → List ℤ
+raised units v k = slice_set units v (slice_index_or units v (pos 0) +ℤ pos k)
+
+abbrev pub lowered : List ℤ → ℕ → ℕ → List ℤ
+lowered units v k = slice_set units v (slice_index_or units v (pos 0) -ℤ pos k)
+
+abbrev pub moved : List ℤ → ℕ → ℕ → ℕ → List ℤ
+moved units from to k = lowered (raised units from k) to k
+
+-- node `from` supplies k units more, and node `to` k units less
+abbrev pub shifted : Net → ℕ → ℕ → ℕ → Net
+shifted net from to k = net_of (moved net.supplies from to k) net.arcs

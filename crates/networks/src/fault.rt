@@ -1,0 +1,53 @@
+ghost use Rattle.std.specs.Prelude.{◌≡◌, [], true, false};
+ghost use Rattle.networks.specs.Fault.{HasFault};
+ghost use Rattle.networks.specs.Net.{net_of, HasEnds, HasFairSupplies, HasUnitCosts};
+
+use crate::arc::Arc;
+use thiserror::Error;
+
+/// How many units a node supplies or wants at most.
+pub const MAX_SUPPLY: i32 = 2048;
+
+/// Why there is no network of the given supplies and arcs.
+#[derive(Clone, Copy, Debug, PartialEq, Eq, Error)]
+pub enum NetFault {
+    /// There are more than 1,024 supplies or 4,096 arcs.
+    #[error("more than 1024 nodes or 4096 arcs")]
+    TooLarge,
+    /// An end of an arc is no node.
+    #[error("an arc has an end that is no node")]
+    BadEnd,
+    /// A supply is above 2,048 in absolute value.
+    #[error("a supply is above 2048 in absolute value")]
+    BadSupply,
+    /// An arc costs neither 0 nor 1.
+    #[error("an arc costs neither 0 nor 1")]
+    BadCost,
+}
+
+/// Whether an arc has an end that is no node, one node for each supply.
+pub(crate) fn has_bad_end(supplies: &[i32], arcs: &[Arc]) -> bool
+    ensures some { result ≡ true → HasFault (net_of supplies.now arcs.now) NetFault.BadEnd }
+    ensures none { result ≡ false → HasEnds (net_of supplies.now arcs.now) }
+{
+    let nodes = supplies.len();
+    arcs.iter().any(|arc| arc.from as usize >= nodes || arc.to as usize >= nodes)
+}
+
+/// Whether a supply is too large in absolute value.
+pub(crate) fn has_bad_supply(supplies: &[i32]) -> bool
+    ensures some { result ≡ true → HasFault (net_of supplies.now []) NetFault.BadSupply }
+    ensures none { result ≡ false → HasFairSupplies (net_of supplies.now []) }
+{
+    supplies
+        .iter()
+        .any(|units| *units < -MAX_SUPPLY || *units > MAX_SUPPLY)
+}
+
+/// Whether an arc costs neither 0 nor 1.
+pub(crate) fn has_bad_cost(arcs: &[Arc]) -> bool
+    ensures some { result ≡ true → HasFault (net_of [] arcs.now) NetFault.BadCost }
+    ensures none { result ≡ false → HasUnitCosts (net_of [] arcs.now) }
+{
+    arcs.iter().any(|arc| arc.cost > 1)
+}

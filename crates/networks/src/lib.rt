@@ -1,0 +1,17 @@
+//! Networks: nodes that supply or want units, joined by arcs that carry units up to a capacity at a
+//! cost of 0 or 1 each, and their residual arcs.
+#![tactic(auto)]
+
+mod arc;
+mod build;
+mod fault;
+mod network;
+mod residual;
+mod units;
+
+pub use arc::{Arc, Cap};
+pub use build::lay_out;
+pub use fault::NetFault;
+pub use network::Network;
+pub use residual::{Layout, ResidualArc, SHUT, look};
+pub use units::move_units;

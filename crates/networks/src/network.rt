@@ -1,0 +1,118 @@
+ghost use Rattle.std.specs.Prelude.{◌≡◌, ◌<◌, ◌≤◌, IfOk, IfErr};
+ghost use Rattle.networks.specs.Net.{Net, net_of, node_count, arc_count, arc_at, supply_at, shifted, HasFairSupplies, IsNetwork};
+
+use crate::arc::Arc;
+use crate::fault::{NetFault, has_bad_cost, has_bad_end, has_bad_supply};
+use crate::units::move_units;
+use std::alloc::{AllocError, Global};
+use std::marker::Model;
+
+/// How many nodes a network has at most.
+pub const MAX_NODES: usize = 1024;
+
+/// How many arcs a network has at most.
+pub const MAX_ARCS: usize = 4096;
+
+/// Nodes with supplies, joined by arcs. Nodes and arcs are numbered from 0; a negative supply is a
+/// demand.
+#[derive(Debug, Drop)]
+pub struct Network {
+    supplies: Vec<i32>,
+    arcs: Vec<Arc>,
+}
+
+impl Model for Network {
+    ghost Value = { Net };
+
+    ghost view = { λ net. net_of net.supplies.items net.arcs.items };
+
+    ghost invariant = { λ net. IsNetwork (net_of net.supplies.items net.arcs.items) };
+}
+
+impl Network {
+    ghost use Rattle.networks.specs.Fault.{IsFirstFault};
+
+    /// The network with one node for each supply, or the first fault in the order of [`NetFault`].
+    /// A refusal drops both lists. No memory is taken, and time is linear.
+    pub fn new(supplies: Vec<i32>, arcs: Vec<Arc>) -> Result<Network, NetFault>
+        ensures ok { IfOk result (λ net. (net ≡ net_of supplies.items arcs.items) × IsNetwork net) }
+        ensures err { IfErr result (λ fault. IsFirstFault (net_of supplies.items arcs.items) fault) }
+    {
+        if supplies.len() > MAX_NODES || arcs.len() > MAX_ARCS {
+            return Err(NetFault::TooLarge);
+        }
+        if has_bad_end(&supplies, &arcs) {
+            return Err(NetFault::BadEnd);
+        }
+        if has_bad_supply(&supplies) {
+            return Err(NetFault::BadSupply);
+        }
+        if has_bad_cost(&arcs) {
+            return Err(NetFault::BadCost);
+        }
+        Ok(Network { supplies, arcs })
+    }
+
+    /// How many nodes there are.
+    pub fn node_count(&self) -> usize
+        ensures count { result ≡ node_count self.now }
+        ensures kept { IsNetwork self.now }
+    {
+        self.supplies.len()
+    }
+
+    /// How many arcs there are.
+    pub fn arc_count(&self) -> usize
+        ensures count { result ≡ arc_count self.now }
+        ensures kept { IsNetwork self.now }
+    {
+        self.arcs.len()
+    }
+
+    /// The arc of a number.
+    pub fn arc(&self, i: u32) -> Arc
+        requires { i < arc_count self.now }
+        ensures arc { result ≡ arc_at self.now i }
+        ensures ends { (result.from < node_count self.now) × (result.to < node_count self.now) }
+        ensures cost { result.cost ≤ 1 }
+    {
+        self.arcs[i as usize]
+    }
+
+    /// The supplies, by node.
+    pub fn supplies(&self) -> &[i32]
+        ensures supplies { result.now ≡ self.now.supplies }
+        ensures kept { IsNetwork self.now }
+    {
+        &self.supplies
+    }
+
+    /// The supply of a node.
+    pub fn supply(&self, node: u32) -> i32
+        requires { node < node_count self.now }
+        ensures { result ≡ supply_at self.now node }
+    {
+        self.supplies[node as usize]
+    }
+
+    /// Lets one node supply so many units more, and another one so many less.
+    pub fn shift(&mut self, from: u32, to: u32, amount: u32)
+        requires from { from < node_count self.old }
+        requires to { to < node_count self.old }
+        requires few { amount ≤ 2048 }
+        requires fair { HasFairSupplies (shifted self.old from to amount) }
+        ensures { self.new ≡ shifted self.old from to amount }
+    {
+        move_units(&mut self.supplies, from, to, amount);
+    }
+
+    /// The same network again.
+    pub fn copy(&self, alloc: Global) -> Result<Network, AllocError>
+        ensures { IfOk result (λ net. net ≡ self.now) }
+    {
+        let _ = alloc;
+        let supplies = self.supplies.clone()?;
+        let arcs = self.arcs.clone()?;
+        Ok(Network { supplies, arcs })
+    }
+}

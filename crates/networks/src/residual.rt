@@ -1,0 +1,40 @@
+//! Residual arcs, those that start at a node side by side.
+ghost use Rattle.std.specs.Prelude.{◌≡◌, ◌<◌, ◌+◌, ◌^◌, length};
+ghost use Rattle.networks.specs.Layout.{end_at, code_at};
+
+use crate::network::Network;
+
+/// What the code of a residual arc is raised by while nothing fits along it.
+pub const SHUT: i16 = 16_000;
+
+/// A residual arc as a search reads it: the node where it ends, and what a unit along it costs, with
+/// `SHUT` more while nothing fits.
+#[derive(Clone, Copy, Debug, PartialEq, Eq)]
+pub struct ResidualArc {
+    pub end: u16,
+    pub code: i16,
+}
+
+/// Where the residual arcs of a network stand.
+#[derive(Clone, Copy)]
+pub struct Layout<'a> {
+    pub network: &'a Network,
+    /// The residual arcs that start at node v have the numbers from `first[v]` up to `first[v + 1]`.
+    pub first: &'a [u32],
+    /// For each residual arc the one the other way.
+    pub reverse: &'a [u32],
+    /// For each arc the residual arc along it.
+    pub forward: &'a [u32],
+}
+
+/// One look at a residual arc: the only place where a search reads one.
+pub fn look(arcs: &[ResidualArc], number: usize, looks: &mut u64) -> ResidualArc
+    requires number { number < length arcs.now }
+    requires few { looks.old < 2 ^ 63 }
+    ensures end { result.end ≡ end_at arcs.now number }
+    ensures code { result.code ≡ code_at arcs.now number }
+    ensures tick { looks.new ≡ looks.old + 1 }
+{
+    *looks += 1;
+    arcs[number]
+}

@@ -1,0 +1,36 @@
+//! Units by node, and how some move from one node to another.
+ghost use Rattle.std.specs.Prelude.{◌≡◌, ◌<◌, ◌≤◌, ℕ, pos, negsuc, ◌≤ℤ◌, length, slice_index_or};
+ghost use Rattle.networks.specs.Net.{moved, raised, lowered};
+
+/// Moves units from one node to another: the one is given so many more, and the other so many less.
+pub fn move_units(units: &mut [i32], from: u32, to: u32, amount: u32)
+    requires from { from < length units.old }
+    requires to { to < length units.old }
+    requires few { amount ≤ 2048 }
+    requires low { (v : ℕ) → v < length units.old → negsuc 2047 ≤ℤ slice_index_or units.old v (pos 0) }
+    requires high { (v : ℕ) → v < length units.old → slice_index_or units.old v (pos 0) ≤ℤ pos 2048 }
+    ensures { units.new ≡ moved units.old from to amount }
+{
+    raise(units, from as usize, amount);
+    lower(units, to as usize, amount);
+}
+
+/// Gives a node so many units more.
+fn raise(units: &mut [i32], node: usize, amount: u32)
+    requires node { node < length units.old }
+    requires few { amount ≤ 2048 }
+    requires high { slice_index_or units.old node (pos 0) ≤ℤ pos 2048 }
+    ensures { units.new ≡ raised units.old node amount }
+{
+    units[node] += amount as i32;
+}
+
+/// Gives a node so many units less.
+fn lower(units: &mut [i32], node: usize, amount: u32)
+    requires node { node < length units.old }
+    requires few { amount ≤ 2048 }
+    requires low { negsuc 2047 ≤ℤ slice_index_or units.old node (pos 0) }
+    ensures { units.new ≡ lowered units.old node amount }
+{
+    units[node] -= amount as i32;
+}
