@@ -9,4 +9,6 @@ mod many;
 #[cfg(test)]
 mod runs;
 #[cfg(test)]
+mod shared;
+#[cfg(test)]
 mod written;
