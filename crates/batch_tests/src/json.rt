@@ -1,10 +1,10 @@
 //! JSON lines of files in memory. The bytes, the texts and the beginnings and ends of lines come from the
 //! descriptions of the format and of the lines.
-ghost use Rattle.std.specs.Prelude.{◌≤◌, length};
-ghost use Rattle.books.specs.declared.limits.TheConstants.{MAX_FILES};
+ghost use Rattle.std.specs.Prelude.{◌≤◌};
 
-use collector::{Batch, Choice, IoSink, MemOpener, WriteFault, run_plain, write_json};
-use std::alloc::{AllocError, Global};
+use crate::shared::{plain_batch, same};
+use collector::{Batch, Choice, IoSink, WriteFault, write_json};
+use std::alloc::Global;
 use std::io;
 use std::io::{ErrorKind, Write};
 use std::process::Abort;
@@ -23,47 +23,44 @@ const THREE_FILES: [&[u8]; 3] = [
     b">>planar_code<<",
 ];
 
-fn batch_of(alloc: Global, files: &[&[u8]]) -> Result<Batch, AllocError>
-    requires { length files.now ≤ MAX_FILES }
-{
-    let mut copies = Vec::new(alloc);
-    for file in files {
-        copies.push(file.to_vec(alloc)?)?;
-    }
-    let opener = MemOpener::new(copies, 65_536);
-    run_plain(alloc, &opener, files.len() as u32, Choice::First).map_err(|_| AllocError)
+fn batch_of(alloc: Global, files: &[&[u8]]) -> Option<Batch> {
+    plain_batch(alloc, files, 65_536, Choice::First)
 }
 
-fn text_of(alloc: Global, batch: &Batch) -> Result<Vec<u8>, Fail> {
+fn text_of(alloc: Global, batch: &Batch) -> Result<Vec<u8>, WriteFault> {
     let mut sink = IoSink::new(Vec::new(alloc));
-    write_json(alloc, batch, &mut sink).map_err(|_| AllocError)?;
+    write_json(alloc, batch, &mut sink)?;
     Ok(sink.into_writer())
+}
+
+/// The lines of these files.
+fn lines_of(alloc: Global, files: &[&[u8]]) -> Result<Vec<u8>, Fail> {
+    let batch = batch_of(alloc, files).ok_or("no batch")?;
+    Ok(text_of(alloc, &batch)?)
 }
 
 #[test]
 fn shows_refused_graphs_and_ends(rt: HostRuntime) -> Result<(), Fail> {
-    let batch = batch_of(rt.alloc(), &[b"", REFUSED, b">>planar_code<<"])?;
+    let lines = lines_of(rt.alloc(), &[b"", REFUSED, b">>planar_code<<"])?;
     let text = "{\"end\":\"header\",\"file\":1,\"graphs\":0}\n\
         {\"file\":2,\"graph\":1,\"rule\":\"genus\",\"status\":\"refused\"}\n\
         {\"file\":2,\"graph\":2,\"rule\":\"edgeless\",\"status\":\"refused\"}\n\
         {\"end\":\"complete\",\"file\":2,\"graphs\":2}\n\
         {\"end\":\"complete\",\"file\":3,\"graphs\":0}\n";
-    assert_eq!(rt; text_of(rt.alloc(), &batch)?.as_slice(), text.as_bytes());
-    let none = batch_of(rt.alloc(), &[])?;
-    assert_eq!(rt; text_of(rt.alloc(), &none)?.len(), 0);
+    same(&rt, lines.as_slice(), text.as_bytes());
+    same(&rt, lines_of(rt.alloc(), &[])?.len(), 0);
     Ok(())
 }
 
 #[test]
 fn shows_a_single_edge(rt: HostRuntime) -> Result<(), Fail> {
-    let batch = batch_of(rt.alloc(), &[EDGE])?;
-    let text = text_of(rt.alloc(), &batch)?;
+    let text = lines_of(rt.alloc(), &[EDGE])?;
     let begins =
         b"{\"angles\":[4,4],\"bends\":0,\"drawn\":\"yes\",\"f\":1,\"file\":1,\"graph\":1,\"m\":1,\"n\":2,\"points\":{";
     let ends =
         b"\"status\":\"ok\",\"turns\":[\"\",\"\"]}\n{\"end\":\"complete\",\"file\":1,\"graphs\":1}\n";
-    assert!(rt; text.as_slice().starts_with(begins));
-    assert!(rt; text.as_slice().ends_with(ends));
+    same(&rt, text.as_slice().starts_with(begins), true);
+    same(&rt, text.as_slice().ends_with(ends), true);
     Ok(())
 }
 
@@ -110,45 +107,75 @@ impl Write for Narrow {
     }
 }
 
+/// Writes into so much room, and looks at the answer and at what was written of the text.
+fn check_room<R: AllocGlobal + Abort>(
+    rt: &R,
+    batch: &Batch,
+    text: &[u8],
+    narrow: Narrow,
+    answer: Result<(), WriteFault>,
+) {
+    let room = narrow.room.min(text.len());
+    let mut sink = IoSink::new(narrow);
+    same(rt, write_json(rt.alloc(), batch, &mut sink), answer);
+    let written = sink.into_writer();
+    same(rt, written.text(), &text[..room]);
+}
+
 /// A writer that fails after so many bytes has just these, and one that takes a byte a call has all.
 #[test]
 fn writes_a_beginning_before_a_fault(rt: HostRuntime) -> Result<(), Fail> {
-    let batch = batch_of(rt.alloc(), &THREE_FILES)?;
+    let batch = batch_of(rt.alloc(), &THREE_FILES).ok_or("no batch")?;
     let text = text_of(rt.alloc(), &batch)?;
+    let text = text.as_slice();
     assert!(rt; text.len() <= 2048);
-    for (room, _) in text.iter().enumerate() {
-        let mut sink = IoSink::new(Narrow::new(room, 100));
-        assert_eq!(rt;
-            write_json(rt.alloc(), &batch, &mut sink),
-            Err(WriteFault::Write)
+    for room in 0..text.len() {
+        check_room(
+            &rt,
+            &batch,
+            text,
+            Narrow::new(room, 100),
+            Err(WriteFault::Write),
         );
-        let narrow = sink.into_writer();
-        assert_eq!(rt; narrow.text().len(), room);
-        assert!(rt; text.as_slice().starts_with(narrow.text()));
     }
-    let mut sink = IoSink::new(Narrow::new(2048, 1));
-    assert_eq!(rt; write_json(rt.alloc(), &batch, &mut sink), Ok(()));
-    assert_eq!(rt; sink.into_writer().text(), text.as_slice());
+    check_room(&rt, &batch, text, Narrow::new(2048, 1), Ok(()));
     Ok(())
+}
+
+/// What is written of a batch into a writer with little room, and the answer.
+fn narrow_text(alloc: Global, batch: &Batch) -> (Narrow, Result<(), WriteFault>) {
+    let mut sink = IoSink::new(Narrow::new(2048, 100));
+    let found = write_json(alloc, batch, &mut sink);
+    (sink.into_writer(), found)
 }
 
 /// With each allocation refused in turn, one of two calls writes a beginning of the text and names the want,
 /// and the other writes the whole text; or both do, where none of theirs was refused.
 #[test]
 fn names_want_of_memory(rt: HostRuntime) {
-    let Ok(batch) = batch_of(rt.alloc(), &THREE_FILES) else {
+    let Some(batch) = batch_of(rt.alloc(), &THREE_FILES) else {
         return;
     };
-    let mut first = IoSink::new(Narrow::new(2048, 100));
-    let mut second = IoSink::new(Narrow::new(2048, 100));
-    let found = write_json(rt.alloc(), &batch, &mut first);
-    let again = write_json(rt.alloc(), &batch, &mut second);
-    let (first, second) = (first.into_writer(), second.into_writer());
-    let fine = match (found, again) {
-        (Ok(()), Ok(())) => first.text() == second.text(),
-        (Err(WriteFault::Memory), Ok(())) => second.text().starts_with(first.text()),
-        (Ok(()), Err(WriteFault::Memory)) => first.text().starts_with(second.text()),
+    let (first, found) = narrow_text(rt.alloc(), &batch);
+    let (second, again) = narrow_text(rt.alloc(), &batch);
+    same(
+        &rt,
+        are_allowed(first.text(), found, second.text(), again),
+        true,
+    );
+}
+
+/// Of two texts, each with its answer, one is a beginning of the other, and says so.
+fn are_allowed(
+    first: &[u8],
+    found: Result<(), WriteFault>,
+    second: &[u8],
+    again: Result<(), WriteFault>,
+) -> bool {
+    match (found, again) {
+        (Ok(()), Ok(())) => first == second,
+        (Err(WriteFault::Memory), Ok(())) => second.starts_with(first),
+        (Ok(()), Err(WriteFault::Memory)) => first.starts_with(second),
         _ => false,
-    };
-    assert!(rt; fine);
+    }
 }

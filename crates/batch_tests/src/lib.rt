@@ -15,4 +15,6 @@ mod reported;
 #[cfg(test)]
 mod runs;
 #[cfg(test)]
+mod shared;
+#[cfg(test)]
 mod written;

@@ -3,12 +3,14 @@
 ghost use Rattle.std.specs.Prelude.{◌<◌, ◌≤◌, false, None};
 ghost use Rattle.lanes.specs.Opening.{Silent};
 
+use crate::shared::{check_report, lanes_batch, opener_of, plain_batch, same};
 use collector::{
-    Answer, Batch, BatchFault, Book, Choice, Gate, IoSink, MAX_LANES, Mark, MemOpener, MemTap,
-    OpenFault, OpenGate, Opener, Stage, Tap, TapFault, run_batch, run_plain, write_report,
+    Answer, Batch, BatchFault, Book, Choice, Gate, MAX_LANES, Mark, MemOpener, MemTap, OpenFault,
+    OpenGate, Opener, Stage, Tap, TapFault, run_batch,
 };
 use planar_code::Ending;
 use std::alloc::{AllocError, Global};
+use std::fmt::Write;
 use std::process::Abort;
 use std::sync::Wait;
 use std::sync::atomic::{AtomicBool, AtomicU32, Ordering};
@@ -53,26 +55,6 @@ const OF_FAULTS: &str = "file 1\ngraph 1 ok n=3 m=3 f=2 bends=1 drawn=yes\n\
     file 4\ngraph 1 ok n=2 m=1 f=1 bends=0 drawn=yes\nend large graphs=1\n\
     file 5\nend io graphs=0\nfile 6\nend io graphs=0\n";
 
-/// These files, read one byte at a time.
-fn opener_of(alloc: Global, files: &[&[u8]]) -> Result<MemOpener, AllocError> {
-    let mut copies = Vec::new(alloc);
-    for bytes in files {
-        copies.push(bytes.to_vec(alloc)?)?;
-    }
-    Ok(MemOpener::new(copies, 1))
-}
-
-/// The report of the batch is this text.
-fn check_report<R: AllocGlobal + Abort>(rt: &R, batch: &Batch, report: &str) {
-    let mut sink = IoSink::new(Vec::new(rt.alloc()));
-    assert_eq!(rt; write_report(batch, &mut sink), Ok(()));
-    assert_eq!(rt;
-        sink.into_writer().as_slice(),
-        report.as_bytes(),
-        "{report}"
-    );
-}
-
 /// Runs the files over lanes with a gate, and looks at the report.
 fn check<R: AllocGlobal + Threads + Wait + Sync + Abort, G: Gate>(
     rt: &R,
@@ -93,11 +75,19 @@ fn check_chosen<R: AllocGlobal + Threads + Wait + Sync + Abort, G: Gate>(
     gate: &G,
     report: &str,
 ) -> Result<(), Fail> {
-    let opener = opener_of(rt.alloc(), files)?;
-    let count = u32::try_from(files.len())?;
-    let run = run_batch(rt, rt.alloc(), &opener, count, lanes, 1, choice, gate);
-    check_report(rt, &run.map_err(|_| AllocError)?, report);
-    Ok(())
+    let batch = lanes_batch(rt, files, lanes, choice, gate).ok_or("no batch")?;
+    check_report(rt, &batch, report.as_bytes())
+}
+
+/// Runs the files on one thread, and looks at the report.
+fn check_plain<R: AllocGlobal + Abort>(
+    rt: &R,
+    files: &[&[u8]],
+    choice: Choice,
+    report: &str,
+) -> Result<(), Fail> {
+    let batch = plain_batch(rt.alloc(), files, 1, choice).ok_or("no batch")?;
+    check_report(rt, &batch, report.as_bytes())
 }
 
 #[test]
@@ -106,10 +96,7 @@ fn reports_the_same_over_lanes(rt: HostRuntime) -> Result<(), Fail> {
     for lanes in 1..=MAX_LANES {
         check(&rt, &files, lanes, &OpenGate, OF_THREE)?;
     }
-    let opener = opener_of(rt.alloc(), &files)?;
-    let batch = run_plain(rt.alloc(), &opener, 3, Choice::First).map_err(|_| AllocError)?;
-    check_report(&rt, &batch, OF_THREE);
-    Ok(())
+    check_plain(&rt, &files, Choice::First, OF_THREE)
 }
 
 /// Neither a single edge nor a triangle has a better face than the widest.
@@ -119,10 +106,7 @@ fn reports_the_same_under_either_choice(rt: HostRuntime) -> Result<(), Fail> {
     for lanes in 1..=4 {
         check_chosen(&rt, &files, lanes, Choice::Best, &OpenGate, OF_THREE)?;
     }
-    let opener = opener_of(rt.alloc(), &files)?;
-    let batch = run_plain(rt.alloc(), &opener, 3, Choice::Best).map_err(|_| AllocError)?;
-    check_report(&rt, &batch, OF_THREE);
-    Ok(())
+    check_plain(&rt, &files, Choice::Best, OF_THREE)
 }
 
 /// A cube with a ninth vertex that is joined to all corners of one face: that face's opposite one needs
@@ -173,6 +157,10 @@ impl Counts {
             Stage::Draw => &self.draw,
         }
     }
+
+    fn passed(&self, stage: Stage) -> u32 {
+        self.of(stage).load(Ordering::SeqCst)
+    }
 }
 
 impl Gate for Counts {
@@ -191,8 +179,7 @@ fn check_counts<R: AllocGlobal + Threads + Wait + Sync + Abort>(
     let counts = Counts::new();
     check(rt, files, 1, &counts, report)?;
     for stage in [Stage::Read, Stage::Embed, Stage::Shape, Stage::Draw] {
-        let found = counts.of(stage).load(Ordering::SeqCst);
-        assert_eq!(rt; found, count, "{stage:?}");
+        same(rt, (stage, counts.passed(stage)), (stage, count));
     }
     Ok(())
 }
@@ -225,9 +212,9 @@ fn fault_of<R: AllocGlobal + Threads + Wait + Sync>(
 
 #[test]
 fn refuses_bad_numbers(rt: HostRuntime) -> Result<(), Fail> {
-    assert_eq!(rt; fault_of(&rt, 257, 0), Some(BatchFault::TooManyFiles));
-    assert_eq!(rt; fault_of(&rt, 256, 9), Some(BatchFault::BadLanes));
-    assert_eq!(rt; fault_of(&rt, 256, 0), Some(BatchFault::BadLanes));
+    same(&rt, fault_of(&rt, 257, 0), Some(BatchFault::TooManyFiles));
+    same(&rt, fault_of(&rt, 256, 9), Some(BatchFault::BadLanes));
+    same(&rt, fault_of(&rt, 256, 0), Some(BatchFault::BadLanes));
     check(&rt, &[], 1, &OpenGate, "")?;
     check(&rt, &[], 8, &OpenGate, "")
 }
@@ -301,7 +288,7 @@ fn gate_holds_stages(rt: HostRuntime) -> Result<(), Fail> {
         meeting: Meeting::new(),
     };
     check(&rt, &[TRIANGLES], 1, &gate, OF_TRIANGLES)?;
-    assert!(rt; gate.meeting.took_place());
+    same(&rt, gate.meeting.took_place(), true);
     Ok(())
 }
 
@@ -328,7 +315,7 @@ fn gate_holds_two(rt: HostRuntime) -> Result<(), Fail> {
         meeting: Meeting::new(),
     };
     check(&rt, &[EDGE, EDGE], 2, &gate, OF_EDGES)?;
-    assert!(rt; gate.meeting.took_place());
+    same(&rt, gate.meeting.took_place(), true);
     Ok(())
 }
 
@@ -398,18 +385,35 @@ fn edges(alloc: Global, count: u32) -> Result<Vec<u8>, AllocError> {
 }
 
 /// The report of so many files of so many such records.
-fn report_of_edges(alloc: Global, files: u32, count: u32) -> Result<String, AllocError> {
+fn report_of_edges(alloc: Global, files: u32, count: u32) -> Result<String, Fail> {
     let mut report = String::new(alloc);
     for file in 1..=files {
-        report.push_str(format!(in alloc; "file {file}\n")?.as_str())?;
-        for graph in 1..=count {
-            report.push_str(format!(in alloc;
-                "graph {graph} ok n=2 m=1 f=1 bends=0 drawn=yes\n"
-            )?.as_str())?;
-        }
-        report.push_str(format!(in alloc; "end complete graphs={count}\n")?.as_str())?;
+        tell_edges(&mut report, file, count)?;
     }
     Ok(report)
+}
+
+/// What it says of one file.
+fn tell_edges(report: &mut String, file: u32, count: u32) -> Result<(), Fail> {
+    writeln!(report, "file {file}")?;
+    for graph in 1..=count {
+        writeln!(report, "graph {graph} ok n=2 m=1 f=1 bends=0 drawn=yes")?;
+    }
+    writeln!(report, "end complete graphs={count}")?;
+    Ok(())
+}
+
+/// Runs two files of these bytes with one of two lanes held, and looks at the report.
+fn check_fan<R: AllocGlobal + Threads + Wait + Sync + Abort>(
+    rt: &R,
+    bytes: &[u8],
+    held: u32,
+    report: &str,
+) -> Result<(), Fail> {
+    let gate = HoldsFan::of(held);
+    check(rt, &[bytes, bytes], 2, &gate, report)?;
+    same(rt, gate.ran_out.load(Ordering::SeqCst), false);
+    Ok(())
 }
 
 /// Of two lanes one gives all records of its file while the other gives none, whichever of them is held.
@@ -418,15 +422,7 @@ fn gate_holds_fan(rt: HostRuntime) -> Result<(), Fail> {
     let file = edges(rt.alloc(), 12)?;
     let report = report_of_edges(rt.alloc(), 2, 12)?;
     for held in 0..2 {
-        let gate = HoldsFan::of(held);
-        check(
-            &rt,
-            &[file.as_slice(), file.as_slice()],
-            2,
-            &gate,
-            report.as_str(),
-        )?;
-        assert!(rt; !gate.ran_out.load(Ordering::SeqCst));
+        check_fan(&rt, file.as_slice(), held, report.as_str())?;
     }
     Ok(())
 }
@@ -457,27 +453,30 @@ impl Gate for HoldsDeal {
     }
 }
 
+/// Runs four files of these bytes, of four records each, and looks at the report and at how often each lane
+/// has called.
+fn check_deal<R: AllocGlobal + Threads + Wait + Sync + Abort>(
+    rt: &R,
+    bytes: &[u8],
+    report: &str,
+) -> Result<(), Fail> {
+    let gate = HoldsDeal {
+        calls: [AtomicU32::new(0), AtomicU32::new(0)],
+        ran_out: AtomicBool::new(false),
+    };
+    check(rt, &[bytes, bytes, bytes, bytes], 2, &gate, report)?;
+    same(rt, gate.ran_out.load(Ordering::SeqCst), false);
+    same(rt, calls_of(&gate.calls, 0).load(Ordering::SeqCst), 4);
+    same(rt, calls_of(&gate.calls, 1).load(Ordering::SeqCst), 12);
+    Ok(())
+}
+
 /// While one lane is held at its first file, the other draws all other files.
 #[test]
 fn gate_holds_deal(rt: HostRuntime) -> Result<(), Fail> {
     let file = edges(rt.alloc(), 4)?;
     let report = report_of_edges(rt.alloc(), 4, 4)?;
-    let gate = HoldsDeal {
-        calls: [AtomicU32::new(0), AtomicU32::new(0)],
-        ran_out: AtomicBool::new(false),
-    };
-    let bytes = file.as_slice();
-    check(
-        &rt,
-        &[bytes, bytes, bytes, bytes],
-        2,
-        &gate,
-        report.as_str(),
-    )?;
-    assert!(rt; !gate.ran_out.load(Ordering::SeqCst));
-    assert_eq!(rt; calls_of(&gate.calls, 0).load(Ordering::SeqCst), 4);
-    assert_eq!(rt; calls_of(&gate.calls, 1).load(Ordering::SeqCst), 12);
-    Ok(())
+    check_deal(&rt, file.as_slice(), report.as_str())
 }
 
 /// The numbers of vertices, edges, faces and bends of a drawn record.
@@ -510,9 +509,9 @@ fn is_allowed(answer: &Answer, sizes: Sizes) -> bool {
 fn check_book(rt: &impl Abort, book: &Book, records: &[Sizes], mark: Mark) {
     let entries = book.entries();
     if book.mark() == mark {
-        assert_eq!(rt; entries.len(), records.len());
+        same(rt, entries.len(), records.len());
     } else {
-        assert_eq!(rt; book.mark(), Mark::Ended(Ending::Memory));
+        same(rt, book.mark(), Mark::Ended(Ending::Memory));
         assert!(rt; entries.len() <= records.len());
     }
     for (entry, sizes) in entries.iter().zip(records) {
@@ -520,56 +519,94 @@ fn check_book(rt: &impl Abort, book: &Book, records: &[Sizes], mark: Mark) {
     }
 }
 
-/// With each allocation refused in turn, an answer, a mark or a fault says so. Where it was to start a
-/// thread, the fault names that instead; a lane's own fault arrives, so none is told as a lost lane.
-#[test]
-fn names_want_of_memory(rt: HostRuntime) {
-    let Ok(files) = opener_of(rt.alloc(), &[TRIANGLES, CUT, HEADER]) else {
-        return;
-    };
+/// The books are those of two triangles, of an edge in front of a cut record and of no record, or tell want
+/// of memory.
+fn check_books(rt: &impl Abort, batch: &Batch) {
+    assert!(rt; batch.files() == 3);
+    let complete = Mark::Ended(Ending::Complete);
+    let triangle = (3, 3, 2, 1);
+    check_book(rt, batch.book(0), &[triangle, triangle], complete);
+    let cut = Mark::Ended(Ending::Truncated);
+    check_book(rt, batch.book(1), &[(2, 1, 1, 0)], cut);
+    check_book(rt, batch.book(2), &[], complete);
+}
+
+/// A run over lanes, and how many sources were opened and let go.
+fn counted_run<R: AllocGlobal + Threads + Wait + Sync>(
+    rt: &R,
+    files: MemOpener,
+    count: u32,
+    lanes: u32,
+) -> (Result<Batch, BatchFault>, (u32, u32)) {
     let (opened, dropped) = (AtomicU32::new(0), AtomicU32::new(0));
     let opener = Counting {
         files,
         opened: &opened,
         dropped: &dropped,
     };
-    let found = run_batch(&rt, rt.alloc(), &opener, 3, 2, 1, Choice::First, &OpenGate);
-    assert_eq!(rt;
-        opened.load(Ordering::SeqCst),
-        dropped.load(Ordering::SeqCst)
+    let run = run_batch(
+        rt,
+        rt.alloc(),
+        &opener,
+        count,
+        lanes,
+        1,
+        Choice::First,
+        &OpenGate,
     );
-    match found {
-        Ok(batch) => {
-            assert_eq!(rt; batch.files(), 3);
-            let complete = Mark::Ended(Ending::Complete);
-            let triangle = (3, 3, 2, 1);
-            check_book(&rt, batch.book(0), &[triangle, triangle], complete);
-            let cut = Mark::Ended(Ending::Truncated);
-            check_book(&rt, batch.book(1), &[(2, 1, 1, 0)], cut);
-            check_book(&rt, batch.book(2), &[], complete);
-        }
+    (
+        run,
+        (
+            opened.load(Ordering::SeqCst),
+            dropped.load(Ordering::SeqCst),
+        ),
+    )
+}
+
+/// With each allocation refused in turn, an answer, a mark or a fault says so. Where it was to start a
+/// thread, the fault names that instead; a lane's own fault arrives, so none is told as a lost lane.
+#[test]
+fn names_want_of_memory(rt: HostRuntime) {
+    let Ok(files) = opener_of(rt.alloc(), &[TRIANGLES, CUT, HEADER], 1) else {
+        return;
+    };
+    let (run, (opened, dropped)) = counted_run(&rt, files, 3, 2);
+    same(&rt, opened, dropped);
+    match run {
+        Ok(batch) => check_books(&rt, &batch),
         Err(fault) => assert!(rt; fault == BatchFault::Memory || fault == BatchFault::Thread),
     }
+}
+
+/// How many books a run of three files over lanes has, or why it came to nothing.
+fn books_of_run<R: AllocGlobal + Threads + Wait + Sync>(
+    rt: &R,
+    opener: &MemOpener,
+    lanes: u32,
+) -> Result<u32, BatchFault> {
+    let batch = run_batch(
+        rt,
+        rt.alloc(),
+        opener,
+        3,
+        lanes,
+        1,
+        Choice::First,
+        &OpenGate,
+    )?;
+    Ok(batch.files())
 }
 
 /// With the start of each thread refused in turn, of a lane's own and of its stages', the fault says so.
 #[test]
 fn names_a_refused_thread(rt: HostRuntime) -> Result<(), Fail> {
-    let opener = opener_of(rt.alloc(), &[TRIANGLES, CUT, HEADER])?;
+    let opener = opener_of(rt.alloc(), &[TRIANGLES, CUT, HEADER], 1)?;
     for lanes in 1..=MAX_LANES {
-        match run_batch(
-            &rt,
-            rt.alloc(),
-            &opener,
-            3,
-            lanes,
-            1,
-            Choice::First,
-            &OpenGate,
-        ) {
-            Ok(batch) => assert_eq!(rt; batch.files(), 3),
-            Err(fault) => assert_eq!(rt; fault, BatchFault::Thread),
-        }
+        let found = books_of_run(&rt, &opener, lanes);
+        assert!(rt;
+            matches!(found, Ok(3) | Err(BatchFault::Thread)),
+            "{found:?}"
+        );
     }
     Ok(())
 }
@@ -631,30 +668,23 @@ impl Tap for Counted<'_> {
     }
 }
 
-/// Every source is let go: of a whole file, a cut one, one with another beginning, one with a fault and
-/// one whose reads fail. The last file does not open.
+/// Runs six files over lanes: a whole one, a cut one, one with another beginning, one with a fault, one
+/// whose reads fail and one that does not open. Looks at the report and at how many sources were let go.
+fn check_let_go<R: AllocGlobal + Threads + Wait + Sync + Abort>(
+    rt: &R,
+    lanes: u32,
+) -> Result<(), Fail> {
+    let files = opener_of(rt.alloc(), &[TRIANGLES, CUT, b"planar_code", LARGE], 1)?;
+    let (run, counts) = counted_run(rt, files, 6, lanes);
+    same(rt, counts, (5, 5));
+    check_report(rt, &run?, OF_FAULTS.as_bytes())
+}
+
+/// Every source is let go.
 #[test]
 fn lets_every_source_go(rt: HostRuntime) -> Result<(), Fail> {
     for lanes in 1..=MAX_LANES {
-        let (opened, dropped) = (AtomicU32::new(0), AtomicU32::new(0));
-        let opener = Counting {
-            files: opener_of(rt.alloc(), &[TRIANGLES, CUT, b"planar_code", LARGE])?,
-            opened: &opened,
-            dropped: &dropped,
-        };
-        let run = run_batch(
-            &rt,
-            rt.alloc(),
-            &opener,
-            6,
-            lanes,
-            1,
-            Choice::First,
-            &OpenGate,
-        );
-        check_report(&rt, &run.map_err(|_| AllocError)?, OF_FAULTS);
-        assert_eq!(rt; opened.load(Ordering::SeqCst), 5);
-        assert_eq!(rt; dropped.load(Ordering::SeqCst), 5);
+        check_let_go(&rt, lanes)?;
     }
     Ok(())
 }

@@ -1,11 +1,11 @@
 //! Reports of files in memory. The bytes, the sizes and the texts come from the description of the format
 //! and of the report.
-ghost use Rattle.std.specs.Prelude.{◌≤◌, length};
-ghost use Rattle.books.specs.declared.limits.TheConstants.{MAX_FILES};
+ghost use Rattle.std.specs.Prelude.{◌≤◌};
 
+use crate::shared::{check_report, opener_of, plain_batch, same};
 use collector::{
-    Answer, BatchFault, Book, Cause, Choice, IoSink, Mark, MemOpener, WriteFault, push_cause,
-    run_plain, write_report,
+    Answer, Batch, BatchFault, Book, Cause, Choice, IoSink, Mark, MemOpener, WriteFault,
+    push_cause, run_plain, write_report,
 };
 use planar_code::Ending;
 use std::alloc::{AllocError, Global};
@@ -68,30 +68,11 @@ fn joined(alloc: Global, parts: &[&[u8]]) -> Result<Vec<u8>, AllocError> {
     Ok(bytes)
 }
 
-fn copies(alloc: Global, files: &[&[u8]]) -> Result<Vec<Vec<u8>>, AllocError> {
-    let mut lists = Vec::new(alloc);
-    for file in files {
-        lists.push(file.to_vec(alloc)?)?;
-    }
-    Ok(lists)
-}
-
 /// Reads these files, a byte or all at a time, and looks at the report.
-fn check_files<R: AllocGlobal + Abort>(rt: &R, files: &[&[u8]], report: &str) -> Result<(), Fail>
-    requires { length files.now ≤ MAX_FILES }
-{
+fn check_files<R: AllocGlobal + Abort>(rt: &R, files: &[&[u8]], report: &[u8]) -> Result<(), Fail> {
     for most in [1, 65_536] {
-        let opener = MemOpener::new(copies(rt.alloc(), files)?, most);
-        let batch = run_plain(rt.alloc(), &opener, files.len() as u32, Choice::First).map_err(
-            |_| AllocError,
-        )?;
-        let mut sink = IoSink::new(Vec::new(rt.alloc()));
-        assert_eq!(rt; write_report(&batch, &mut sink), Ok(()));
-        assert_eq!(rt;
-            sink.into_writer().as_slice(),
-            report.as_bytes(),
-            "{report}"
-        );
+        let batch = plain_batch(rt.alloc(), files, most, Choice::First).ok_or("no batch")?;
+        check_report(rt, &batch, report)?;
     }
     Ok(())
 }
@@ -99,15 +80,28 @@ fn check_files<R: AllocGlobal + Abort>(rt: &R, files: &[&[u8]], report: &str) ->
 /// Reads one file, and looks at the lines after its first.
 fn check_file<R: AllocGlobal + Abort>(rt: &R, parts: &[&[u8]], lines: &str) -> Result<(), Fail> {
     let bytes = joined(rt.alloc(), parts)?;
-    let report = format!(in rt.alloc(); "file 1\n{lines}")?;
-    check_files(rt, &[bytes.as_slice()], &report)
+    let report = joined(rt.alloc(), &[b"file 1\n", lines.as_bytes()])?;
+    check_files(rt, &[bytes.as_slice()], report.as_slice())
+}
+
+/// Reads a file of one record, and looks at what the record's line says after the number.
+fn check_record<R: AllocGlobal + Abort>(rt: &R, bytes: &[u8], said: &str) -> Result<(), Fail> {
+    let bytes = joined(rt.alloc(), &[HEADER, bytes])?;
+    let report = joined(
+        rt.alloc(),
+        &[
+            b"file 1\ngraph 1 ",
+            said.as_bytes(),
+            b"\nend complete graphs=1\n",
+        ],
+    )?;
+    check_files(rt, &[bytes.as_slice()], report.as_slice())
 }
 
 #[test]
 fn tells_sizes_and_rules(rt: HostRuntime) -> Result<(), Fail> {
     for (bytes, said) in RECORDS {
-        let lines = format!(in rt.alloc(); "graph 1 {said}\nend complete graphs=1\n")?;
-        check_file(&rt, &[HEADER, bytes], &lines)?;
+        check_record(&rt, bytes, said)?;
     }
     Ok(())
 }
@@ -150,7 +144,7 @@ const THREE_FILES: [&[u8]; 3] = [
 
 #[test]
 fn tells_of_all_files_in_order(rt: HostRuntime) -> Result<(), Fail> {
-    let report = "file 1
+    let report = b"file 1
 graph 1 ok n=3 m=3 f=2 bends=1 drawn=yes
 graph 2 ok n=3 m=3 f=2 bends=1 drawn=yes
 end complete graphs=2
@@ -161,7 +155,7 @@ file 3
 end complete graphs=0
 ";
     check_files(&rt, &THREE_FILES, report)?;
-    check_files(&rt, &[], "")
+    check_files(&rt, &[], b"")
 }
 
 /// A writer that takes ten bytes and then fails.
@@ -189,44 +183,62 @@ impl Write for Narrow {
     }
 }
 
-#[test]
-fn writes_a_beginning_before_a_fault(rt: HostRuntime) -> Result<(), Fail> {
-    let opener = MemOpener::new(copies(rt.alloc(), &THREE_FILES)?, 65_536);
-    let batch = run_plain(rt.alloc(), &opener, 3, Choice::First).map_err(|_| AllocError)?;
+/// What of the report of three files goes into ten bytes, and the answer.
+fn narrow_report(alloc: Global) -> Option<(Narrow, Result<(), WriteFault>)> {
+    let batch = plain_batch(alloc, &THREE_FILES, 65_536, Choice::First)?;
     let mut sink = IoSink::new(Narrow {
         taken: [0; 10],
         len: 0,
     });
-    assert_eq!(rt; write_report(&batch, &mut sink), Err(WriteFault::Write));
-    assert_eq!(rt; &sink.into_writer().taken, b"file 1\ngra");
-    Ok(())
+    let found = write_report(&batch, &mut sink);
+    Some((sink.into_writer(), found))
 }
 
 #[test]
-fn takes_at_most_256_files(rt: HostRuntime) -> Result<(), Fail> {
-    let opener = MemOpener::new(Vec::new(rt.alloc()), 1);
-    match run_plain(rt.alloc(), &opener, 257, Choice::Best) {
-        Ok(_) => assert!(rt; false),
-        Err(fault) => assert_eq!(rt; fault, BatchFault::TooManyFiles),
-    }
-    let batch = run_plain(rt.alloc(), &opener, 256, Choice::Best).map_err(|_| AllocError)?;
-    assert_eq!(rt; batch.files(), 256);
+fn writes_a_beginning_before_a_fault(rt: HostRuntime) -> Result<(), Fail> {
+    let (narrow, found) = narrow_report(rt.alloc()).ok_or("no batch")?;
+    same(&rt, found, Err(WriteFault::Write));
+    same(&rt, &narrow.taken, b"file 1\ngra");
     Ok(())
+}
+
+/// How many books a run of files that do not open has, or why it came to nothing.
+fn books_of_run(alloc: Global, files: u32) -> Result<u32, BatchFault> {
+    let opener = MemOpener::new(Vec::new(alloc), 1);
+    let batch = run_plain(alloc, &opener, files, Choice::Best)?;
+    Ok(batch.files())
+}
+
+#[test]
+fn takes_at_most_256_files(rt: HostRuntime) {
+    same(
+        &rt,
+        books_of_run(rt.alloc(), 257),
+        Err(BatchFault::TooManyFiles),
+    );
+    same(&rt, books_of_run(rt.alloc(), 256), Ok(256));
 }
 
 #[test]
 fn marks_a_file_that_does_not_open(rt: HostRuntime) -> Result<(), Fail> {
-    let opener = MemOpener::new(copies(rt.alloc(), &[HEADER])?, 1);
-    let batch = run_plain(rt.alloc(), &opener, 2, Choice::First).map_err(|_| AllocError)?;
-    let mut sink = IoSink::new(Vec::new(rt.alloc()));
-    assert_eq!(rt; write_report(&batch, &mut sink), Ok(()));
+    let opener = opener_of(rt.alloc(), &[HEADER], 1)?;
+    let batch = run_plain(rt.alloc(), &opener, 2, Choice::First)?;
     let report = b"file 1\nend complete graphs=0\nfile 2\nend io graphs=0\n";
-    assert_eq!(rt; sink.into_writer().as_slice(), report.as_slice());
-    Ok(())
+    check_report(&rt, &batch, report)
+}
+
+/// A cause is written so.
+fn check_cause<R: AllocGlobal + Abort>(rt: &R, cause: Cause, text: &str) {
+    let mut lines = Gathered::new();
+    push_cause(&mut lines, cause);
+    let mut sink = IoSink::new(Vec::new(rt.alloc()));
+    same(rt, lines.flush(&mut sink), Ok(()));
+    let written = sink.into_writer();
+    same(rt, written.as_slice(), text.as_bytes());
 }
 
 #[test]
-fn names_each_cause(rt: HostRuntime) -> Result<(), Fail> {
+fn names_each_cause(rt: HostRuntime) {
     let cases = [
         (Cause::Wide, " drawn=no cause=wide"),
         (Cause::OutOfGrid, " drawn=no cause=outofgrid"),
@@ -235,50 +247,54 @@ fn names_each_cause(rt: HostRuntime) -> Result<(), Fail> {
         (Cause::Meet, " drawn=no cause=meet"),
     ];
     for (cause, text) in cases {
-        let mut lines = Gathered::new();
-        push_cause(&mut lines, cause);
-        let mut sink = IoSink::new(Vec::new(rt.alloc()));
-        assert_eq!(rt; lines.flush(&mut sink), Ok(()));
-        assert_eq!(rt; sink.into_writer().as_slice(), text.as_bytes());
+        check_cause(&rt, cause, text);
     }
-    Ok(())
 }
 
 /// Looks at a book of which each graph has so many bends, and counts where it names want of memory.
 fn count_wants<R: Abort>(rt: &R, book: &Book, count: usize, bends: u32, end: Ending) -> usize {
     let mut wants: usize = 0;
     for entry in book.entries() {
-        match &entry.answer {
-            Answer::Laid { shape, .. } => assert_eq!(rt; shape.bends(), bends),
-            Answer::Refused(_) => assert!(rt; false),
-            Answer::NoMemory => wants = wants.saturating_add(1),
-        }
+        wants = wants.saturating_add(wants_of(rt, &entry.answer, bends));
     }
     if book.mark() == Mark::Ended(Ending::Memory) {
         wants.saturating_add(1)
     } else {
-        assert_eq!(rt; book.mark(), Mark::Ended(end));
-        assert_eq!(rt; book.entries().len(), count);
+        same(rt, book.mark(), Mark::Ended(end));
+        same(rt, book.entries().len(), count);
         wants
     }
+}
+
+/// An answer with so many bends counts nothing, and one that names want of memory counts one.
+fn wants_of<R: Abort>(rt: &R, answer: &Answer, bends: u32) -> usize {
+    let found = match answer {
+        Answer::Laid { shape, .. } => Some(shape.bends()),
+        Answer::Refused(_) => None,
+        Answer::NoMemory => return 1,
+    };
+    same(rt, found, Some(bends));
+    0
+}
+
+/// All is as ever but for one entry or one file that names want of memory.
+fn check_wants(rt: &impl Abort, batch: &Batch) {
+    assert!(rt; batch.files() == 3);
+    let first = count_wants(rt, batch.book(0), 2, 1, Ending::Complete);
+    let second = count_wants(rt, batch.book(1), 1, 0, Ending::Truncated);
+    let third = count_wants(rt, batch.book(2), 0, 0, Ending::Complete);
+    assert!(rt; first.saturating_add(second).saturating_add(third) <= 1);
 }
 
 /// With each allocation refused in turn, all is as ever but for one entry that says so, or one file that
 /// ends early and says so, or there is no batch.
 #[test]
 fn names_want_of_memory(rt: HostRuntime) {
-    let Ok(files) = copies(rt.alloc(), &THREE_FILES) else {
+    let Ok(opener) = opener_of(rt.alloc(), &THREE_FILES, 4) else {
         return;
     };
-    let batch = match run_plain(rt.alloc(), &MemOpener::new(files, 4), 3, Choice::First) {
-        Ok(batch) => batch,
-        Err(fault) => {
-            assert_eq!(rt; fault, BatchFault::Memory);
-            return;
-        }
-    };
-    let first = count_wants(&rt, batch.book(0), 2, 1, Ending::Complete);
-    let second = count_wants(&rt, batch.book(1), 1, 0, Ending::Truncated);
-    let third = count_wants(&rt, batch.book(2), 0, 0, Ending::Complete);
-    assert!(rt; first.saturating_add(second).saturating_add(third) <= 1);
+    match run_plain(rt.alloc(), &opener, 3, Choice::First) {
+        Ok(batch) => check_wants(&rt, &batch),
+        Err(fault) => same(&rt, fault, BatchFault::Memory),
+    }
 }
