@@ -3,15 +3,9 @@
 #![tactic(auto)]
 
 #[cfg(test)]
-mod broken;
-#[cfg(test)]
-mod held;
-#[cfg(test)]
 mod json;
 #[cfg(test)]
 mod many;
-#[cfg(test)]
-mod reported;
 #[cfg(test)]
 mod runs;
 #[cfg(test)]
