@@ -47,7 +47,7 @@ impl Standing {
         let nodes = network.node_count();
         let arc_count = network.arc_count();
         let shut = ResidualArc { end: 0, code: 0 };
-        let network = network.copy(alloc)?;
+        let network = network.copy()?;
         let mut first = vec![in alloc; 0; nodes + 1]?;
         let mut reverse = vec![in alloc; 0; 2 * arc_count]?;
         let mut forward = vec![in alloc; 0; arc_count]?;

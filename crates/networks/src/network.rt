@@ -106,13 +106,12 @@ impl Network {
         move_units(&mut self.supplies, from, to, amount);
     }
 
-    /// The same network again.
-    pub fn copy(&self, alloc: Global) -> Result<Network, AllocError>
+    /// The same network again, its lists in memory of the same kind.
+    pub fn copy(&self) -> Result<Network, AllocError>
         ensures { IfOk result (λ net. net ≡ self.now) }
     {
-        let _ = alloc;
         let supplies = self.supplies.clone()?;
         let arcs = self.arcs.clone()?;
-        Ok(Network { supplies, arcs })
+        Ok(Network { arcs, supplies })
     }
 }
