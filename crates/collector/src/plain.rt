@@ -11,9 +11,9 @@ use lanes::{Opener, read_file};
 use std::alloc::{AllocError, Global};
 use streams::{BatchFault, piece_buffer};
 
-/// Reads the first `files` files of the opener and answers each record under this choice of the outer face,
-/// on the caller's thread. It hands out a book for each file, whose mark also tells where a file could not be opened, failed or
-/// found no memory.
+/// Reads the first `files` files of the opener, answers each record under this choice of the outer face, and
+/// hands out a book for each file, whose mark also tells where a file could not be opened, failed or found no
+/// memory. It does all on the caller's thread.
 ///
 /// # Errors
 ///

@@ -22,12 +22,13 @@ const _: () = prove!(MAX_FILES == 256);
 
 const _: () = prove!(MAX_LANES == 8);
 
-/// Reads the first `files` files of the opener and answers each record under this choice of the outer face,
-/// in lanes of four threads each:
-/// one reads the files, one reads graphs and traces faces, one finds shapes, one draws. A lane draws its
-/// next file when it is free. It hands out a book for each file, whose mark also tells where a file could
-/// not be opened, failed or found no memory. At most `capacity` messages wait between two stages, and as
-/// many between all lanes and the calling thread.
+/// Reads the first `files` files of the opener, answers each record under this choice of the outer face, and
+/// hands out a book for each file, whose mark also tells where a file could not be opened, failed or found no
+/// memory.
+///
+/// Files go over lanes of four threads each: one reads the file, one reads graphs and traces faces, one finds
+/// shapes, one draws. A lane takes the next file when it is free. At most `capacity` messages wait between two
+/// stages, and as many between all lanes and the calling thread.
 ///
 /// Each stage passes the gate once for each record, before it works on it.
 ///

@@ -18,7 +18,7 @@ pub struct DartTable {
     pub twin: Vec<u32>,
     /// The vertex that the dart goes to.
     pub head: Vec<u32>,
-    /// The dart in front of it on the same edge of the plane, or `NO_DART`.
+    /// The dart before it on its edge of the plane, or `NO_DART` where it is the first.
     pub before: Vec<u32>,
     /// The direction in which it arrives.
     pub direction: Vec<u8>,

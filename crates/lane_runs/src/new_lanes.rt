@@ -1,4 +1,4 @@
-//! What lanes share: a fan and tickets.
+//! The fan that all lanes of a run give to.
 ghost use Rattle.std.specs.Prelude.{◌≡◌, ◌≤◌, [], All, IfOk, vec_len};
 ghost use Rattle.ruled_lanes.specs.declared.limits.TheConstants.{LANES, MAX_CAPACITY};
 ghost use Rattle.ruled_lanes.specs.FanEnds.{gathered, room_of_fan};
