@@ -96,6 +96,19 @@ def files(folder, count):
     return paths + [shutil.copy(SMALL, folder)]
 
 
+def enumerated(folder, orders):
+    """Files of all connected planar graphs of degree at most 4 with so many vertices, where nauty (Debian: nauty)
+    is there."""
+    geng, planarg = (shutil.which("nauty-" + name) or shutil.which(name) for name in ("geng", "planarg"))
+    paths = []
+    for order in orders if geng and planarg else []:
+        paths.append(os.path.join(folder, f"planar_d4_n{order}.pc"))
+        with open(paths[-1], "wb") as out, subprocess.Popen([geng, "-q", "-c", "-D4", str(order)],
+                                                            stdout=subprocess.PIPE) as graphs:
+            subprocess.run([planarg, "-q", "-p"], check=True, stdin=graphs.stdout, stdout=out)
+    return paths
+
+
 def text_of(words):
     """What a program prints."""
     return subprocess.run(words, check=True, stdout=subprocess.PIPE, stderr=subprocess.DEVNULL, text=True).stdout
