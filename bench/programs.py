@@ -1,5 +1,6 @@
-"""What the scripts that measure share: building a program over this repository's crates, and one run of
-a program."""
+"""What the scripts of bench/ and checks/ share: their command lines, the programs that they run, building a program
+over this repository's crates, files of graphs, and one run of a program."""
+import argparse
 import collections
 import hashlib
 import os
@@ -9,12 +10,49 @@ import sys
 import time
 
 ROOT = os.path.dirname(os.path.dirname(os.path.abspath(__file__)))
+DATA = os.path.join(ROOT, "crates/corpus/data")
+OUTSIDE = os.path.join(ROOT, "bench/outside")
+PARTS = os.path.join(ROOT, "bench/parts")
 
 KINDS = [("cubic", "250", "1"), ("medial", "249", "2"), ("grid", "250", "3"), ("tree", "250", "4")]
-SMALL = os.path.join(ROOT, "crates/corpus/data/planar_d4_n8.pc")
+SMALL = os.path.join(DATA, "planar_d4_n8.pc")
+
+PIECE = 1 << 20  # bytes of output read at a time, at most
 
 # One run: wall seconds, processor seconds, peak bytes and a digest of the output.
 Run = collections.namedtuple("Run", "seconds processor peak digest")
+
+
+def words_of(text):
+    """What reads a command line, with this text as its help; other words end the script by status 2."""
+    return argparse.ArgumentParser(description=text, formatter_class=argparse.RawDescriptionHelpFormatter)
+
+
+def planarbend():
+    """The built program: PLANARBEND, or the one that ./planarbend builds at its first start."""
+    program = os.path.abspath(os.environ.get("PLANARBEND") or os.path.join(ROOT, "crates/planarbend/out/planarbend"))
+    return built(program, "./planarbend --help")
+
+
+def corpus():
+    """The built program of crates/corpus."""
+    return built(os.path.join(ROOT, "crates/corpus/out/corpus"),
+                 "(cd crates/corpus && rt run -- planes data/planar_d4_n4.pc)")
+
+
+def built(program, command):
+    """This program; ends the script where it is not built."""
+    if not os.access(program, os.X_OK):
+        sys.exit(f"{os.path.basename(sys.argv[0])}: not built: {program}; build it by {command}")
+    return program
+
+
+def outside(folder):
+    """Builds bench/outside/shapes.cc in a folder, and answers its path."""
+    program = os.path.join(folder, "outside")
+    source = os.path.join(OUTSIDE, "shapes.cc")
+    subprocess.run(["g++", "-O2", "-std=c++17", "-o", program, source], check=True)
+    return program
 
 
 def libraries():
@@ -71,29 +109,44 @@ def build(folder, name, source, needed, words):
 
 
 def run(words, stderr=None):
-    """One run of a program, which must end with status 0."""
+    """One run of a program, which must end with status 0. Its peak is what was seen as its output came; where it
+    was too short to be seen it is the system's count, in which a child begins with what this script holds."""
     start = time.perf_counter()
-    child = subprocess.Popen(words, stdout=subprocess.PIPE, stderr=stderr)
-    digest = hashlib.sha256()
-    for chunk in iter(lambda: child.stdout.read(1 << 20), b""):
+    child = subprocess.Popen(words, stdout=subprocess.PIPE, stderr=stderr, bufsize=0)
+    digest, peak = hashlib.sha256(), 0
+    for chunk in iter(lambda: child.stdout.read(PIECE), b""):
         digest.update(chunk)
+        peak = max(peak, peak_of(child.pid))
     child.stdout.close()
     _, status, used = os.wait4(child.pid, 0)
     seconds = time.perf_counter() - start
     if status != 0:
         sys.exit(f"{words} ended with status {status}")
-    return Run(seconds, used.ru_utime + used.ru_stime, used.ru_maxrss * 1024, digest.hexdigest())
+    return Run(seconds, used.ru_utime + used.ru_stime, peak or used.ru_maxrss * 1024, digest.hexdigest())
+
+
+def peak_of(process):
+    """The most memory, in bytes, that a process has had so far; 0 where it has ended."""
+    try:
+        with open(f"/proc/{process}/status", encoding="ascii") as lines:
+            found = [line.split()[1] for line in lines if line.startswith("VmHWM:")]
+    except OSError:
+        return 0
+    return int(found[0]) * 1024 if found else 0
+
+
+def generated(folder, kind, vertices, count, seed):
+    """A file of so many random graphs of a kind."""
+    path = os.path.join(folder, f"{kind}{vertices}_{seed}.pc")
+    words = [sys.executable, os.path.join(OUTSIDE, "generate.py"), kind, str(vertices), str(count), str(seed)]
+    with open(path, "wb") as out:
+        subprocess.run(words, check=True, stdout=out)
+    return path
 
 
 def files(folder, count):
     """Files of so many random graphs of each kind, and the one of small graphs."""
-    paths = []
-    for kind, vertices, seed in KINDS:
-        paths.append(os.path.join(folder, f"{kind}{vertices}.pc"))
-        words = [sys.executable, os.path.join(ROOT, "bench/outside/generate.py"), kind, vertices, str(count), seed]
-        with open(paths[-1], "wb") as out:
-            subprocess.run(words, check=True, stdout=out)
-    return paths + [shutil.copy(SMALL, folder)]
+    return [generated(folder, kind, vertices, count, seed) for kind, vertices, seed in KINDS] + [shutil.copy(SMALL, folder)]
 
 
 def enumerated(folder, orders):
@@ -116,4 +169,5 @@ def text_of(words):
 
 def figures(words):
     """The figures that a program prints in one line, by name."""
-    return {name: int(figure) for name, _, figure in (word.partition("=") for word in text_of(words).split())}
+    pairs = (word.partition("=") for word in text_of(words).split())
+    return {name: int(figure) for name, _, figure in pairs if figure}

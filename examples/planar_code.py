@@ -1,20 +1,27 @@
-"""Reads planar_code, one record at a time, and traces the faces of a record: what split.py, svg.py and
-scripts of bench/ share. Python's standard library alone."""
+"""Reads and writes planar_code, one record at a time, and traces the faces of a record: what split.py, svg.py and
+the scripts of bench/ and checks/ share. Python's standard library alone."""
 from __future__ import annotations
 
 import collections
-from collections.abc import Iterator
+import io
+from collections.abc import Iterable, Iterator
 from typing import BinaryIO
 
 HEADER = b">>planar_code<<"
-MOST_ENTRIES = 254  # of one neighbour list
+MOST_NEIGHBOURS = 254  # of one neighbour list
+MOST_RECORDS = 1_000_000  # of one file, as planarbend reads it
 PIECE = 1 << 16  # bytes read at a time
 
 Lists = list[list[int]]
 
 
 class Unreadable(Exception):
-    """The bytes are not planar_code to their end; the text says where they stop being so, and why."""
+    """The bytes are not planar_code to their end: the word that the report has for such an end, and a text that says
+    where they stop being so, and why."""
+
+    def __init__(self, ending: str, why: str) -> None:
+        super().__init__(f"{ending}: {why}")
+        self.ending, self.why = ending, why
 
 
 def records(source: BinaryIO) -> Iterator[bytes]:
@@ -24,13 +31,14 @@ def records(source: BinaryIO) -> Iterator[bytes]:
     the report has for such an end: header, truncated, large or oversize.
     """
     if source.read(len(HEADER)) != HEADER:
-        raise Unreadable("header: it does not begin with >>planar_code<<")
+        raise Unreadable("header", f"it does not begin with {HEADER.decode()}")
     held, start, offset, number = b"", 0, len(HEADER), 1
     while True:
         try:
             end = end_of_record(held, start)
         except Unreadable as fault:
-            raise Unreadable(f"{fault}, in record {number}, which begins at byte {offset}") from None
+            why = f"{fault.why}, in record {number}, which begins at byte {offset}"
+            raise Unreadable(fault.ending, why) from None
         if end is not None:
             yield held[start:end]
             start, offset, number = end, offset + end - start, number + 1
@@ -40,7 +48,20 @@ def records(source: BinaryIO) -> Iterator[bytes]:
         if not piece:
             break
     if held:
-        raise Unreadable(f"truncated: record {number}, which begins at byte {offset}, is cut off")
+        raise Unreadable("truncated", f"record {number}, which begins at byte {offset}, is cut off")
+
+
+def split(text: bytes) -> tuple[list[bytes], str]:
+    """The records and the ending of the bytes of a whole file, as docs/FORMAT.md has them."""
+    found: list[bytes] = []
+    try:
+        for record in records(io.BytesIO(text)):
+            if len(found) == MOST_RECORDS:
+                return found, "many"
+            found.append(record)
+    except Unreadable as fault:
+        return found, "many" if len(found) == MOST_RECORDS else fault.ending
+    return found, "complete"
 
 
 def end_of_record(held: bytes, start: int) -> int | None:
@@ -48,13 +69,13 @@ def end_of_record(held: bytes, start: int) -> int | None:
     if start == len(held):
         return None
     if held[start] == 0:
-        raise Unreadable("large: a byte 0 stands where a number of vertices should (two-byte form, or noise)")
+        raise Unreadable("large", "a byte 0 stands where a number of vertices should (two-byte form, or noise)")
     end = start + 1
     for _ in range(held[start]):
-        zero = held.find(0, end, end + MOST_ENTRIES + 1)
+        zero = held.find(0, end, end + MOST_NEIGHBOURS + 1)
         if zero < 0:
-            if len(held) - end > MOST_ENTRIES:
-                raise Unreadable(f"oversize: a list of more than {MOST_ENTRIES} neighbours")
+            if len(held) - end > MOST_NEIGHBOURS:
+                raise Unreadable("oversize", f"a list of more than {MOST_NEIGHBOURS} neighbours")
             return None
         end = zero + 1
     return end
@@ -63,6 +84,12 @@ def end_of_record(held: bytes, start: int) -> int | None:
 def lists_of(record: bytes) -> Lists:
     """The neighbour lists of a record: for each vertex its neighbours, counted from 1, clockwise."""
     return [list(neighbours) for neighbours in record[1:-1].split(b"\0")]
+
+
+def record_of(lists: Iterable[Iterable[int]]) -> bytes:
+    """The record of such neighbour lists."""
+    ended = [bytes(neighbours) + b"\0" for neighbours in lists]
+    return bytes([len(ended)]) + b"".join(ended)
 
 
 class Plane:

@@ -16,6 +16,8 @@ FOLDER/NAME-0002.pc and so on, each with at most K records in the file's order. 
 without the header, a record that is cut off, noise) is named on standard error; all whole records before it
 are in the parts, and it is in none.
 
+Needs Python's standard library alone. A million graphs of 8 vertices, 31 MB, take some ten seconds.
+
 A part gets its name once it is whole. It replaces a file of the same name; older parts with higher numbers
 stay, so take an empty folder.
 """

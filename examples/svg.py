@@ -5,7 +5,6 @@ from __future__ import annotations
 import argparse
 import dataclasses
 import html
-import json
 import os
 import sys
 from collections.abc import Iterable, Iterator
@@ -13,6 +12,7 @@ from typing import Any
 
 sys.dont_write_bytecode = True
 from planar_code import Lists, Plane, Unreadable, lists_of, records
+from reports import NoLine, json_line
 
 TEXT = """\
   ./planarbend layout --json FILE | python3 examples/svg.py FILE 2 > picture.svg
@@ -22,7 +22,7 @@ TEXT = """\
 reads JSON lines from standard input and takes from them the points of graphs of the first file, counted from
 1. Which vertices an edge joins is read from FILE itself, which must be that first file. In a grid and on a
 page a graph that is not drawn has its reason in place of a picture. A page loads nothing: it opens without a
-network.
+network. Needs Python's standard library alone, and takes some seconds at most.
 """
 STATUSES = """\
 status: 0; 1 where something asked for cannot be drawn, which is named on standard error, with nothing
@@ -30,8 +30,15 @@ written; 2 where the command line is refused; 3 where a whole page was written o
 complete
 """
 STEP = 40  # pixels between neighbouring whole numbers
+RADIUS = 11  # of a vertex
+LINE = 2  # how wide an edge is
+LABEL = 11  # pixels, the letters in a vertex
 CAPTION = 24  # pixels below a picture of a grid
+CAPTION_LINE = 14  # pixels from a picture down to the foot of its caption
+CAPTION_TEXT = 12  # pixels, the letters of a caption
 GAP = 12  # pixels between the columns of a grid
+REASON = (160, 80)  # pixels, the place of a graph without a picture
+MOST_NUMBER = 1_000_000  # of a graph
 MOST_ON_PAGE = 2_000
 SHADE = "#c9d7e8"
 
@@ -65,15 +72,15 @@ def read_lines(lines: Iterable[str], numbers: list[int] | None) -> Lines:
     found, wanted = Lines({}, ""), None if numbers is None else set(numbers)
     for place, text in enumerate(lines, 1):  # all of them, so that their writer meets no closed pipe
         try:
-            line = json.loads(text)
-            if line["file"] != 1:
-                continue
-            if "end" in line:
-                found.ending = line["end"]
-            elif len(found.graphs) <= MOST_ON_PAGE if wanted is None else line["graph"] in wanted:
-                found.graphs[line["graph"]] = line
-        except (ValueError, KeyError, TypeError):
+            line = json_line(text)
+        except NoLine:
             raise Refused(f"standard input, line {place}: not a line of planarbend layout --json") from None
+        if line["file"] != 1:
+            continue
+        if "end" in line:
+            found.ending = line["end"]
+        elif len(found.graphs) <= MOST_ON_PAGE if wanted is None else line["graph"] in wanted:
+            found.graphs[line["graph"]] = line
     return found
 
 
@@ -145,11 +152,11 @@ def draw(plane: Plane, line: dict[str, Any], shaded: bool) -> Picture:
         elements.append(f'<rect width="{width}" height="{height}" fill="{SHADE}"/>')
         elements += [f'<polygon points="{along(point for dart in walk for point in paths[dart][:-1])}" fill="white"/>'
                      for face, walk in enumerate(plane.walks) if face != outer]
-    elements.append('<g fill="none" stroke="black" stroke-width="2">')
+    elements.append(f'<g fill="none" stroke="black" stroke-width="{LINE}">')
     elements += [f'<polyline points="{along(paths[dart])}"/>' for dart in plane.lesser]
-    elements.append('</g><g fill="white" stroke="black" stroke-width="2">')
-    elements += ['<circle cx="{}" cy="{}" r="11"/>'.format(*place(point)) for point in vertices]
-    elements.append('</g><g font-family="sans-serif" font-size="11" text-anchor="middle">')
+    elements.append(f'</g><g fill="white" stroke="black" stroke-width="{LINE}">')
+    elements += ['<circle cx="{}" cy="{}" r="{}"/>'.format(*place(point), RADIUS) for point in vertices]
+    elements.append(f'</g><g font-family="sans-serif" font-size="{LABEL}" text-anchor="middle">')
     elements += ['<text x="{}" y="{}" dy=".35em">{}</text>'.format(*place(point), number)
                  for number, point in enumerate(vertices, 1)]
     elements.append("</g>")
@@ -159,8 +166,10 @@ def draw(plane: Plane, line: dict[str, Any], shaded: bool) -> Picture:
 
 def reason_picture(number: int, reason: str) -> Picture:
     """A place that says why there is no picture."""
-    text = f'<text x="80" y="40" font-family="sans-serif" font-size="11" text-anchor="middle">{reason}</text>'
-    return Picture(f"graph {number}", 160, 80, [text])
+    width, height = REASON
+    text = (f'<text x="{width // 2}" y="{height // 2}" font-family="sans-serif" font-size="{LABEL}"'
+            f' text-anchor="middle">{reason}</text>')
+    return Picture(f"graph {number}", width, height, [text])
 
 
 def pictures(path: str, lines: Lines, shaded: bool, alone: bool) -> Iterator[Picture]:
@@ -201,8 +210,8 @@ def grid(shown: list[Picture], columns: int) -> str:
         for one, width in zip(row, wide):
             x, y = left + (width - one.width) // 2, top + (high - one.height) // 2
             elements += [f'<g transform="translate({x},{y})">', *one.elements, "</g>"]
-            elements.append(f'<text x="{left + width // 2}" y="{top + high + 14}" font-family="sans-serif"'
-                            f' font-size="12" text-anchor="middle">{one.caption}</text>')
+            elements.append(f'<text x="{left + width // 2}" y="{top + high + CAPTION_LINE}" font-family="sans-serif"'
+                            f' font-size="{CAPTION_TEXT}" text-anchor="middle">{one.caption}</text>')
             left += width + GAP
         top += high + CAPTION
     return svg(sum(wide) + GAP * (columns - 1), top, elements)
@@ -227,8 +236,8 @@ def numbers_of(word: str) -> list[int]:
         if not first.isdecimal() or (dash and not last.isdecimal()):
             raise argparse.ArgumentTypeError(f"{word} is not a list such as 1-12 or 1,3,7-9")
         end = int(last if dash else first)
-        if not 1 <= int(first) <= end <= 1_000_000:
-            raise argparse.ArgumentTypeError(f"{part}: graphs count from 1 to 1,000,000, upwards")
+        if not 1 <= int(first) <= end <= MOST_NUMBER:
+            raise argparse.ArgumentTypeError(f"{part}: graphs count from 1 to {MOST_NUMBER:,}, upwards")
         numbers.update(range(int(first), end + 1))
     return sorted(numbers)
 

@@ -3,15 +3,22 @@
 
 It makes the same thousand small networks as that test, by the same generator from the same seed,
 has networkx's network simplex solve each, and prints the costs in order, `-` where there is no
-flow. It was run once, with networkx 2.8.8 (Debian's python3-networkx):
+flow. Needs networkx (Debian: python3-networkx), and takes some seconds.
 
-    python3 bench/networks/least_costs.py
-
-LEMON 1.3.1's network simplex, run once on the same networks, gave the same thousand answers.
+It was run once, with networkx 2.8.8. LEMON 1.3.1's network simplex, run once on the same networks, gave the same thousand answers.
 """
-import networkx
+import argparse
+import sys
+
+try:
+    import networkx
+except ModuleNotFoundError:
+    networkx = None  # --help is answered all the same
 
 MASK = (1 << 64) - 1
+SEED = 20261122
+NETWORKS = 1000
+WIDTH = 92  # of a line that is printed
 
 
 class Numbers:
@@ -60,14 +67,17 @@ def least_cost(supplies, arcs):
 
 
 def main():
-    numbers = Numbers(20261122)
+    argparse.ArgumentParser(description=__doc__, formatter_class=argparse.RawDescriptionHelpFormatter).parse_args()
+    if networkx is None:
+        sys.exit("least_costs.py: networkx is not there (Debian: python3-networkx)")
+    numbers = Numbers(SEED)
     words = []
-    for _ in range(1000):
+    for _ in range(NETWORKS):
         supplies, arcs = network(numbers)
         words.append(least_cost(supplies, arcs))
     line = ""
     for word in words:
-        if len(line) + 1 + len(word) > 92:
+        if len(line) + 1 + len(word) > WIDTH:
             print(line)
             line = word
         else:
@@ -76,4 +86,5 @@ def main():
         print(line)
 
 
-main()
+if __name__ == "__main__":
+    main()

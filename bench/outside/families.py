@@ -1,16 +1,21 @@
 #!/usr/bin/env python3
-"""Writes a planar_code file of graphs whose fewest bends are known, and the report that `planarbend
-layout` owes for it.
-
-    families.py FILE.pc > FILE.report
+"""Writes a planar_code file of graphs whose fewest bends are known, and prints the report that `planarbend
+layout` owes for it. Needs Python's standard library alone, and takes a second.
 
 Paths of 2 to 40 vertices, cycles of 4 to 40 vertices and of 255, stars of 2 to 4 leaves and grids of 2 to
 6 by 2 to 6 vertices can be drawn without a bend; a triangle needs 1, K4 and each prism over a cycle of 3
 to 12 need 4, the octahedron, which is the antiprism over a triangle, needs 12, and an antiprism over a
 cycle of k = 4 to 12 needs 2k + 4. Rotations are read off straight drawings.
 """
+import argparse
 import math
+import os
 import sys
+
+sys.dont_write_bytecode = True
+sys.path.insert(0, os.path.join(os.path.dirname(os.path.abspath(__file__)), "../../examples"))
+from planar_code import HEADER, record_of
+from reports import End, File, Graph
 
 
 def circle(count, radius, turn):
@@ -73,24 +78,25 @@ def record(places, edges):
     for v, w in edges:
         around[v].append(w)
         around[w].append(v)
-    out = bytearray([len(places)])
     for (x, y), others in zip(places, around):
         others.sort(key=lambda w: -math.atan2(places[w][1] - y, places[w][0] - x))
-        out += bytes(w + 1 for w in others) + b"\0"
-    return bytes(out)
+    return record_of([w + 1 for w in others] for others in around)
 
 
 def main():
+    words = argparse.ArgumentParser(description=__doc__, formatter_class=argparse.RawDescriptionHelpFormatter)
+    words.add_argument("file", metavar="FILE.pc", help="the file that is written")
     graphs = families()
-    with open(sys.argv[1], "wb") as out:
-        out.write(b">>planar_code<<")
+    with open(words.parse_args().file, "wb") as out:
+        out.write(HEADER)
         for (places, edges), _ in graphs:
             out.write(record(places, edges))
-    print("file 1")
+    print(File(1))
     for number, ((places, edges), bends) in enumerate(graphs, 1):
         n, m = len(places), len(edges)
-        print(f"graph {number} ok n={n} m={m} f={m - n + 2} bends={bends} drawn=yes")
-    print(f"end complete graphs={len(graphs)}")
+        print(Graph(number, (n, m, m - n + 2), bends, "yes"))
+    print(End("complete", len(graphs)))
 
 
-main()
+if __name__ == "__main__":
+    main()

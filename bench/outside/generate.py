@@ -1,14 +1,22 @@
 #!/usr/bin/env python3
-"""Writes planar_code files of random graphs for the benchmarks, by a fixed seed.
-
-    generate.py KIND VERTICES COUNT SEED > FILE
+"""Prints a planar_code file of random graphs, by a seed.
 
 KIND is `cubic` (duals of random triangulations), `medial` (medial graphs of random triangulations, so
 4-regular), `grid` (connected parts of a square grid) or `tree` (random trees of degree at most 4).
 VERTICES is met as nearly as the kind allows: an even number for cubic, a multiple of 3 for medial.
+
+Needs Python's standard library alone, and takes a few milliseconds a graph of 250 vertices.
 """
+import argparse
+import os
 import random
 import sys
+
+sys.dont_write_bytecode = True
+sys.path.insert(0, os.path.join(os.path.dirname(os.path.abspath(__file__)), "../../examples"))
+from planar_code import HEADER, record_of
+
+MOST_DEGREE = 4
 
 
 def triangulation(corners, rng):
@@ -100,7 +108,7 @@ def tree(vertices, rng):
     for new in range(1, vertices):
         while True:
             at = rng.randrange(new)
-            if len(rotation[at]) < 4:
+            if len(rotation[at]) < MOST_DEGREE:
                 break
         rotation[at].insert(rng.randint(0, len(rotation[at])), new)
         rotation[new] = [at]
@@ -114,28 +122,32 @@ def relabelled(rotation, rng):
     return [[place[w] + 1 for w in rotation[v]] for v in names]
 
 
+KINDS = {
+    "cubic": lambda vertices, rng: dual(triangulation(vertices // 2 + 2, rng)),
+    "medial": lambda vertices, rng: medial(triangulation(vertices // 3 + 2, rng)),
+    "grid": grid,
+    "tree": tree,
+}
+
+
 def main():
-    kind, vertices, count, seed = sys.argv[1], int(sys.argv[2]), int(sys.argv[3]), int(sys.argv[4])
-    rng = random.Random(seed)
+    words = argparse.ArgumentParser(description=__doc__, formatter_class=argparse.RawDescriptionHelpFormatter)
+    words.add_argument("kind", metavar="KIND", choices=KINDS, help=", ".join(KINDS))
+    for name in ("vertices", "count", "seed"):
+        words.add_argument(name, metavar=name.upper(), type=int)
+    told = words.parse_args()
+    rng = random.Random(told.seed)
     out = sys.stdout.buffer
-    out.write(b">>planar_code<<")
+    out.write(HEADER)
     made = 0
-    while made < count:
-        if kind == "cubic":
-            rotation = dual(triangulation(vertices // 2 + 2, rng))
-        elif kind == "medial":
-            rotation = medial(triangulation(vertices // 3 + 2, rng))
-        elif kind == "grid":
-            rotation = grid(vertices, rng)
-        else:
-            rotation = tree(vertices, rng)
+    while made < told.count:
+        rotation = KINDS[told.kind](told.vertices, rng)
         lists = relabelled(rotation, rng)
         if any(len(set(around)) < len(around) or at + 1 in around for at, around in enumerate(lists)):
             continue
-        out.write(bytes([len(lists)]))
-        for around in lists:
-            out.write(bytes(around) + b"\0")
+        out.write(record_of(lists))
         made += 1
 
 
-main()
+if __name__ == "__main__":
+    main()

@@ -18,6 +18,10 @@
 # (examples/cluster below the folder it was submitted from), since Slurm runs a copy of the script.
 set -uo pipefail
 
+try_again=75 # the status of a part that may do better in another try
+most_tries=3 # more than the first
+patience=60  # seconds until Slurm has ended this try
+
 fail() {
     printf 'array.sbatch: %s\n' "$2" >&2
     exit "$1"
@@ -30,6 +34,7 @@ if [[ ${1:-} == --help || ${1:-} == -h ]]; then
 fi
 json=()
 if [[ ${1:-} == --json ]]; then json=(--json); shift; fi
+if [[ ${1:-} == -* ]]; then fail 2 "$usage"; fi
 task=${SLURM_ARRAY_TASK_ID:-}
 [[ -n $task ]] || fail 2 "it is not a task of an array; $usage"
 part=${CLUSTER_FOLDER:-${SLURM_SUBMIT_DIR:-.}/examples/cluster}/part
@@ -47,8 +52,8 @@ fi
 
 "$part" "${json[@]}" "${words[@]}"
 status=$?
-if ((status == 75 && ${SLURM_RESTART_COUNT:-0} < 3)); then
+if ((status == try_again && ${SLURM_RESTART_COUNT:-0} < most_tries)); then
     printf 'array.sbatch: task %s goes back into the queue\n' "$task" >&2
-    scontrol requeue "${SLURM_ARRAY_JOB_ID}_$task" && sleep 60 # Slurm ends this try
+    scontrol requeue "${SLURM_ARRAY_JOB_ID}_$task" && sleep "$patience"
 fi
 exit "$status"

@@ -6,12 +6,15 @@ from __future__ import annotations
 import argparse
 import collections
 import dataclasses
-import json
 import math
 import os
 import re
 import sys
 from collections.abc import Iterable, Iterator
+
+sys.dont_write_bytecode = True
+sys.path.insert(0, os.path.dirname(os.path.dirname(os.path.abspath(__file__))))
+from reports import End, File, Graph, NoLine, Record, json_line, line_of, of_json
 
 TEXT = """\
 A part is one report of planarbend layout, or its JSON lines (.jsonl); of a folder all parts in it are read. A
@@ -22,38 +25,18 @@ table is written only where all parts are there and whole. So it is refused
   where a part is missing: reports named NAME-part-RES-of-MOD must have all RES from 0 to MOD - 1, and with
   --of FOLDER each FILE.pc of that folder must have a report named FILE;
   where a part is given twice.
+
+Needs Python's standard library alone, and takes some twenty seconds for a million graphs.
 """
 STATUSES = """\
 status: 0; 1 where no table is written, with the reason on standard error; 2 where the command line is refused
 """
 SUFFIXES = (".report", ".jsonl")
 PART = re.compile(r"(.*)-part-(\d+)-of-(\d+)")
-FILE = re.compile(r"file (\d+)")
-GRAPH = re.compile(r"graph (\d+) (?:ok n=(\d+) m=(\d+) f=\d+ bends=(\d+) drawn=(?:yes|no cause=(\w+))"
-                   r"|refused (\w+)|memory)")
-END = re.compile(r"end (\w+) graphs=(\d+)")
 
 
 class Incomplete(Exception):
     """Why there is no table."""
-
-
-@dataclasses.dataclass(frozen=True)
-class Graph:
-    """What a report says of one graph: its size and fewest bends, or the rule that it breaks, or neither
-    where there was no memory for it."""
-    number: int
-    size: tuple[int, int] | None = None  # vertices, edges
-    bends: int | None = None
-    cause: str | None = None  # why it is not drawn
-    rule: str | None = None
-
-
-@dataclasses.dataclass(frozen=True)
-class FileEnd:
-    """How a file of a report ends, and how many graphs it has."""
-    ending: str
-    graphs: int
 
 
 @dataclasses.dataclass
@@ -68,33 +51,20 @@ class Table:
             self.refused[graph.rule] += 1
         elif graph.size is not None and graph.bends is not None:
             self.laid[graph.size[0], graph.size[1], graph.bends] += 1
-            if graph.cause is not None:
-                self.not_drawn[graph.cause] += 1
+            if graph.drawn not in (None, "yes"):
+                self.not_drawn[graph.drawn] += 1
 
 
-def entry_of(text: str) -> Graph | FileEnd | None:
-    """What a line of a report says; None of a line that only names its file."""
-    if FILE.fullmatch(text):
-        return None
-    if end := END.fullmatch(text):
-        return FileEnd(end[1], int(end[2]))
-    graph = GRAPH.fullmatch(text)
-    if graph is None:
-        raise ValueError
-    number, vertices, edges, bends, cause, rule = graph.groups()
-    size = None if vertices is None else (int(vertices), int(edges))
-    return Graph(int(number), size, None if bends is None else int(bends), cause, rule)
-
-
-def json_entry_of(text: str) -> Graph | FileEnd:
-    """What a JSON line says."""
-    line = json.loads(text)
-    if "end" in line:
-        return FileEnd(line["end"], int(line["graphs"]))
-    if line["status"] == "ok":
-        cause = None if line["drawn"] == "yes" else line["drawn"]
-        return Graph(int(line["graph"]), (int(line["n"]), int(line["m"])), int(line["bends"]), cause)
-    return Graph(int(line["graph"]), rule=line["rule"] if line["status"] == "refused" else None)
+def entry_of(text: str) -> File | Graph | End:
+    """What a line says, of a report of `layout` or of JSON lines, with its line end."""
+    if not text.endswith("\n"):
+        raise NoLine("a line that is cut off")
+    if text[0] == "{":
+        return of_json(json_line(text))
+    entry = line_of(text[:-1])
+    if isinstance(entry, Record) or isinstance(entry, End) and entry.of != "graphs":
+        raise NoLine("a line of `frames`")
+    return entry
 
 
 def graphs_of(path: str) -> Iterator[Graph]:
@@ -103,20 +73,18 @@ def graphs_of(path: str) -> Iterator[Graph]:
     with open(path, encoding="utf-8", errors="replace") as lines:
         for place, text in enumerate(lines, 1):
             try:
-                if not text.endswith("\n"):
-                    raise ValueError
-                entry = json_entry_of(text) if text[0] == "{" else entry_of(text[:-1])
-            except (ValueError, KeyError, TypeError):
+                entry = entry_of(text)
+            except NoLine:
                 raise Incomplete(f"{path}, line {place}: not a line of a report, or a cut one") from None
-            if isinstance(entry, FileEnd):
+            if isinstance(entry, End):
                 if entry.ending != "complete":
                     raise Incomplete(f"{path}, line {place}: the file ends {entry.ending}, not complete")
-                if entry.graphs != count:
-                    raise Incomplete(f"{path}, line {place}: {count} graphs stand before it, not {entry.graphs}")
+                if entry.count != count:
+                    raise Incomplete(f"{path}, line {place}: {count} graphs stand before it, not {entry.count}")
                 count, ended = 0, True
                 continue
             ended = False
-            if entry is None:
+            if isinstance(entry, File):
                 if count:
                     raise Incomplete(f"{path}, line {place}: the file before it has no 'end complete'")
                 continue
@@ -219,6 +187,9 @@ def text_of(table: Table, short: bool = False) -> str:
 COLOURS = ["#4477aa", "#ee6677", "#228833", "#ccbb44", "#66ccee", "#aa3377", "#555555", "#ee7733", "#009988"]
 WIDTH, HEIGHT = 760, 460  # of the plot, in pixels
 LEFT, RIGHT, TOP, BOTTOM = 80, 150, 40, 60  # its margins
+ROW, DASH = 20, 20  # pixels from one entry of the legend to the next, and the length of its line
+POINT = 4  # pixels, the radius of a point
+TEXT_SIZE = 12  # pixels
 
 
 @dataclasses.dataclass
@@ -251,16 +222,16 @@ class Frame:
     def curve(self, vertices: int, row: dict[int, int], rank: int) -> Iterator[str]:
         """The graphs of so many vertices, and an entry of the legend: a point for each number of bends that
         some graph has, joined to that of one bend less where there is one."""
-        colour, y = COLOURS[rank % len(COLOURS)], TOP + 20 * rank
+        colour, y = COLOURS[rank % len(COLOURS)], TOP + ROW * rank
         points = [(self.across(bends), self.up(count)) for bends, count in sorted(row.items())]
         steps = "".join(f"{'L' if bends - 1 in row else 'M'}{x},{y}"
                         for bends, (x, y) in zip(sorted(row), points))
         yield f'<path d="{steps}" fill="none" stroke="{colour}" stroke-width="2"/>'
-        yield from (f'<circle cx="{x}" cy="{y}" r="4" fill="{colour}"/>' for x, y in points)
-        x = WIDTH - RIGHT + 20
-        yield f'<path d="M{x},{y}h20" stroke="{colour}" stroke-width="2"/>'
-        yield f'<circle cx="{x + 10}" cy="{y}" r="4" fill="{colour}"/>'
-        yield f'<text x="{x + 28}" y="{y}" dy=".35em">{vertices} vertices</text>'
+        yield from (f'<circle cx="{x}" cy="{y}" r="{POINT}" fill="{colour}"/>' for x, y in points)
+        x = WIDTH - RIGHT + DASH
+        yield f'<path d="M{x},{y}h{DASH}" stroke="{colour}" stroke-width="2"/>'
+        yield f'<circle cx="{x + DASH // 2}" cy="{y}" r="{POINT}" fill="{colour}"/>'
+        yield f'<text x="{x + DASH + 2 * POINT}" y="{y}" dy=".35em">{vertices} vertices</text>'
 
 
 def plot_of(table: Table) -> str:
@@ -272,7 +243,7 @@ def plot_of(table: Table) -> str:
     frame = Frame(max((max(row) for row in rows.values()), default=0) or 1, math.ceil(math.log10(most_graphs)) or 1)
     size = f'width="{WIDTH}" height="{HEIGHT}" viewBox="0 0 {WIDTH} {HEIGHT}"'
     lines = [f'<svg xmlns="http://www.w3.org/2000/svg" {size}>',
-             '<rect width="100%" height="100%" fill="white"/>', '<g font-family="sans-serif" font-size="12">',
+             '<rect width="100%" height="100%" fill="white"/>', f'<g font-family="sans-serif" font-size="{TEXT_SIZE}">',
              *frame.axes()]
     for rank, (vertices, row) in enumerate(sorted(rows.items())):
         lines += frame.curve(vertices, row, rank)

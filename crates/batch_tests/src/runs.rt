@@ -3,7 +3,7 @@
 ghost use Rattle.std.specs.Prelude.{◌<◌, ◌≤◌, false, None};
 ghost use Rattle.lanes.specs.Opening.{Silent};
 
-use crate::shared::{check_report, lanes_batch, opener_of, plain_batch, same};
+use crate::shared::{WAYS, Way, check_report, lanes_report, opener_of, plain_batch, same};
 use collector::{
     Answer, Batch, BatchFault, Book, Choice, Gate, MAX_LANES, Mark, MemOpener, MemTap, OpenFault,
     OpenGate, Opener, Stage, Tap, TapFault, run_batch,
@@ -58,25 +58,28 @@ const OF_FAULTS: &str = "file 1\ngraph 1 ok n=3 m=3 f=2 bends=1 drawn=yes\n\
 /// Runs the files over lanes with a gate, and looks at the report.
 fn check<R: AllocGlobal + Threads + Wait + Sync + Abort, G: Gate>(
     rt: &R,
+    way: Way,
     files: &[&[u8]],
     lanes: u32,
     gate: &G,
     report: &str,
 ) -> Result<(), Fail> {
-    check_chosen(rt, files, lanes, Choice::First, gate, report)
+    check_chosen(rt, way, files, lanes, Choice::First, gate, report)
 }
 
 /// The same under a choice of the outer face.
 fn check_chosen<R: AllocGlobal + Threads + Wait + Sync + Abort, G: Gate>(
     rt: &R,
+    way: Way,
     files: &[&[u8]],
     lanes: u32,
     choice: Choice,
     gate: &G,
     report: &str,
 ) -> Result<(), Fail> {
-    let batch = lanes_batch(rt, files, lanes, choice, gate).ok_or("no batch")?;
-    check_report(rt, &batch, report.as_bytes())
+    let text = lanes_report(rt, way, files, lanes, choice, gate).ok_or("no report")?;
+    same(rt, text.as_slice(), report.as_bytes());
+    Ok(())
 }
 
 /// Runs the files on one thread, and looks at the report.
@@ -94,7 +97,9 @@ fn check_plain<R: AllocGlobal + Abort>(
 fn reports_the_same_over_lanes(rt: HostRuntime) -> Result<(), Fail> {
     let files = [TRIANGLES, CUT, HEADER];
     for lanes in 1..=MAX_LANES {
-        check(&rt, &files, lanes, &OpenGate, OF_THREE)?;
+        for way in WAYS {
+            check(&rt, way, &files, lanes, &OpenGate, OF_THREE)?;
+        }
     }
     check_plain(&rt, &files, Choice::First, OF_THREE)
 }
@@ -104,7 +109,9 @@ fn reports_the_same_over_lanes(rt: HostRuntime) -> Result<(), Fail> {
 fn reports_the_same_under_either_choice(rt: HostRuntime) -> Result<(), Fail> {
     let files = [TRIANGLES, CUT, HEADER];
     for lanes in 1..=4 {
-        check_chosen(&rt, &files, lanes, Choice::Best, &OpenGate, OF_THREE)?;
+        for way in WAYS {
+            check_chosen(&rt, way, &files, lanes, Choice::Best, &OpenGate, OF_THREE)?;
+        }
     }
     check_plain(&rt, &files, Choice::Best, OF_THREE)
 }
@@ -126,8 +133,19 @@ const CAPPED_BY_BEST: &str = "file 1\n\
 #[test]
 fn chooses_the_outer_face(rt: HostRuntime) -> Result<(), Fail> {
     let files = [CAPPED_CUBE];
-    check_chosen(&rt, &files, 1, Choice::First, &OpenGate, CAPPED_BY_FIRST)?;
-    check_chosen(&rt, &files, 1, Choice::Best, &OpenGate, CAPPED_BY_BEST)
+    for way in WAYS {
+        check_chosen(
+            &rt,
+            way,
+            &files,
+            1,
+            Choice::First,
+            &OpenGate,
+            CAPPED_BY_FIRST,
+        )?;
+        check_chosen(&rt, way, &files, 1, Choice::Best, &OpenGate, CAPPED_BY_BEST)?;
+    }
+    Ok(())
 }
 
 /// Counts the calls of each stage.
@@ -176,10 +194,12 @@ fn check_counts<R: AllocGlobal + Threads + Wait + Sync + Abort>(
     report: &str,
     count: u32,
 ) -> Result<(), Fail> {
-    let counts = Counts::new();
-    check(rt, files, 1, &counts, report)?;
-    for stage in [Stage::Read, Stage::Embed, Stage::Shape, Stage::Draw] {
-        same(rt, (stage, counts.passed(stage)), (stage, count));
+    for way in WAYS {
+        let counts = Counts::new();
+        check(rt, way, files, 1, &counts, report)?;
+        for stage in [Stage::Read, Stage::Embed, Stage::Shape, Stage::Draw] {
+            same(rt, (stage, counts.passed(stage)), (stage, count));
+        }
     }
     Ok(())
 }
@@ -215,8 +235,11 @@ fn refuses_bad_numbers(rt: HostRuntime) -> Result<(), Fail> {
     same(&rt, fault_of(&rt, 257, 0), Some(BatchFault::TooManyFiles));
     same(&rt, fault_of(&rt, 256, 9), Some(BatchFault::BadLanes));
     same(&rt, fault_of(&rt, 256, 0), Some(BatchFault::BadLanes));
-    check(&rt, &[], 1, &OpenGate, "")?;
-    check(&rt, &[], 8, &OpenGate, "")
+    for way in WAYS {
+        check(&rt, way, &[], 1, &OpenGate, "")?;
+        check(&rt, way, &[], 8, &OpenGate, "")?;
+    }
+    Ok(())
 }
 
 /// Waits until the flag is set, and notes where a million turns were too few.
@@ -284,11 +307,13 @@ impl Gate for HoldsStages {
 /// first record.
 #[test]
 fn gate_holds_stages(rt: HostRuntime) -> Result<(), Fail> {
-    let gate = HoldsStages {
-        meeting: Meeting::new(),
-    };
-    check(&rt, &[TRIANGLES], 1, &gate, OF_TRIANGLES)?;
-    same(&rt, gate.meeting.took_place(), true);
+    for way in WAYS {
+        let gate = HoldsStages {
+            meeting: Meeting::new(),
+        };
+        check(&rt, way, &[TRIANGLES], 1, &gate, OF_TRIANGLES)?;
+        same(&rt, gate.meeting.took_place(), true);
+    }
     Ok(())
 }
 
@@ -311,11 +336,13 @@ impl Gate for HoldsTwo {
 /// Two lanes read at once.
 #[test]
 fn gate_holds_two(rt: HostRuntime) -> Result<(), Fail> {
-    let gate = HoldsTwo {
-        meeting: Meeting::new(),
-    };
-    check(&rt, &[EDGE, EDGE], 2, &gate, OF_EDGES)?;
-    same(&rt, gate.meeting.took_place(), true);
+    for way in WAYS {
+        let gate = HoldsTwo {
+            meeting: Meeting::new(),
+        };
+        check(&rt, way, &[EDGE, EDGE], 2, &gate, OF_EDGES)?;
+        same(&rt, gate.meeting.took_place(), true);
+    }
     Ok(())
 }
 
@@ -410,9 +437,11 @@ fn check_fan<R: AllocGlobal + Threads + Wait + Sync + Abort>(
     held: u32,
     report: &str,
 ) -> Result<(), Fail> {
-    let gate = HoldsFan::of(held);
-    check(rt, &[bytes, bytes], 2, &gate, report)?;
-    same(rt, gate.ran_out.load(Ordering::SeqCst), false);
+    for way in WAYS {
+        let gate = HoldsFan::of(held);
+        check(rt, way, &[bytes, bytes], 2, &gate, report)?;
+        same(rt, gate.ran_out.load(Ordering::SeqCst), false);
+    }
     Ok(())
 }
 
@@ -457,6 +486,7 @@ impl Gate for HoldsDeal {
 /// has called.
 fn check_deal<R: AllocGlobal + Threads + Wait + Sync + Abort>(
     rt: &R,
+    way: Way,
     bytes: &[u8],
     report: &str,
 ) -> Result<(), Fail> {
@@ -464,7 +494,7 @@ fn check_deal<R: AllocGlobal + Threads + Wait + Sync + Abort>(
         calls: [AtomicU32::new(0), AtomicU32::new(0)],
         ran_out: AtomicBool::new(false),
     };
-    check(rt, &[bytes, bytes, bytes, bytes], 2, &gate, report)?;
+    check(rt, way, &[bytes, bytes, bytes, bytes], 2, &gate, report)?;
     same(rt, gate.ran_out.load(Ordering::SeqCst), false);
     same(rt, calls_of(&gate.calls, 0).load(Ordering::SeqCst), 4);
     same(rt, calls_of(&gate.calls, 1).load(Ordering::SeqCst), 12);
@@ -476,7 +506,10 @@ fn check_deal<R: AllocGlobal + Threads + Wait + Sync + Abort>(
 fn gate_holds_deal(rt: HostRuntime) -> Result<(), Fail> {
     let file = edges(rt.alloc(), 4)?;
     let report = report_of_edges(rt.alloc(), 4, 4)?;
-    check_deal(&rt, file.as_slice(), report.as_str())
+    for way in WAYS {
+        check_deal(&rt, way, file.as_slice(), report.as_str())?;
+    }
+    Ok(())
 }
 
 /// The numbers of vertices, edges, faces and bends of a drawn record.

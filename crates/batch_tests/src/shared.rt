@@ -3,7 +3,8 @@
 ghost use Rattle.std.specs.Prelude.{◌<◌};
 
 use collector::{
-    Batch, Choice, Gate, IoSink, MemOpener, WriteFault, run_batch, run_plain, write_report,
+    Batch, Choice, Form, Gate, IoSink, MemOpener, WriteFault, run_batch, run_plain, write_batch,
+    write_report,
 };
 use std::alloc::{AllocError, Global};
 use std::fmt::Debug;
@@ -67,6 +68,64 @@ pub(crate) fn lanes_batch<R: AllocGlobal + Threads + Wait + Sync, G: Gate>(
     let count = count_of(files)?;
     let opener = opener_of(rt.alloc(), files, 1).ok()?;
     run_batch(rt, rt.alloc(), &opener, count, lanes, 1, choice, gate).ok()
+}
+
+/// How the report of a run over lanes is had.
+#[derive(Clone, Copy)]
+pub(crate) enum Way {
+    /// From its books.
+    Books,
+    /// As it is made.
+    Text,
+}
+
+/// Both ways.
+pub(crate) const WAYS: [Way; 2] = [Way::Books, Way::Text];
+
+/// The report of these files, read one byte at a time over lanes.
+pub(crate) fn lanes_report<R: AllocGlobal + Threads + Wait + Sync, G: Gate>(
+    rt: &R,
+    way: Way,
+    files: &[&[u8]],
+    lanes: u32,
+    choice: Choice,
+    gate: &G,
+) -> Option<Vec<u8>> {
+    match way {
+        Way::Books => {
+            let batch = lanes_batch(rt, files, lanes, choice, gate)?;
+            report_of(rt.alloc(), &batch).ok()
+        }
+        Way::Text => lanes_text(rt, files, lanes, choice, gate),
+    }
+}
+
+/// The text of a run over these files, as it is made.
+fn lanes_text<R: AllocGlobal + Threads + Wait + Sync, G: Gate>(
+    rt: &R,
+    files: &[&[u8]],
+    lanes: u32,
+    choice: Choice,
+    gate: &G,
+) -> Option<Vec<u8>> {
+    let count = count_of(files)?;
+    let opener = opener_of(rt.alloc(), files, 1).ok()?;
+    let mut sink = IoSink::new(Vec::new(rt.alloc()));
+    let form = Form::Report;
+    write_batch(
+        rt,
+        rt.alloc(),
+        &opener,
+        count,
+        lanes,
+        1,
+        choice,
+        form,
+        gate,
+        &mut sink,
+    )
+    .ok()?;
+    Some(sink.into_writer())
 }
 
 /// The report of a batch.

@@ -1,6 +1,7 @@
 -- What the web of a plane keeps of it once its edges have their bends.
 use Rattle.std.specs.Prelude.{◌≡◌, ℕ, ◌+◌, ◌-◌, ◌*◌, ◌<◌, ◌≤◌, List}
 use Rattle.faces.specs.Map.{Map, darts, vertices, head, face_at}
+pub use Rattle.headings.specs.Headings.{AreHeadings}
 use Rattle.ortho_rep.specs.declared.turn.Turn.{Turn}
 use Rattle.ortho_rep.specs.Representation.{bends_of}
 use Rattle.cutting.specs.Webs.{Web, excess}

@@ -9,4 +9,5 @@ mod bare;
 mod edges;
 mod straight;
 
+pub use headings::headings;
 pub use straight::bend;

@@ -4,9 +4,11 @@ use crate::drawings::{
     BENT, EDGE, PATH, SQUARE, STAR, TRIANGLE, fault_of, made, plane_of, same, shape_of,
 };
 use crate::places::{Place, Sketch, moved, plain_fault, quarters_left};
+use drawing_check::CheckFault;
 use faces::Plane;
 use ortho_rep::{Shape, Turn};
-use std::alloc::Global;
+use std::alloc::{AllocError, Global};
+use std::process::Abort;
 use std::test::Fail;
 
 /// Numbers that look random: a linear congruence (Knuth's MMIX).
@@ -93,36 +95,74 @@ fn straight_case(
     })
 }
 
+/// A path of random turns and lengths: where it is, the way it goes on, its corners, and its turns
+/// forwards and backwards.
+#[derive(Drop)]
+struct Walk {
+    at: Place,
+    step: (i8, i8),
+    corners: Vec<Place>,
+    turns: Vec<Turn>,
+    back: Vec<Turn>,
+}
+
+impl Walk {
+    /// Goes so far, and turns there.
+    fn turn(&mut self, length: u32, left: bool) -> Result<(), AllocError> {
+        self.at = gone(self.at, self.step, length);
+        self.step = quarters_left(self.step, if left { 1 } else { 3 });
+        self.corners.push(self.at)?;
+        self.turns.push(turn_to(left))?;
+        self.back.push(turn_to(!left))?;
+        Ok(())
+    }
+}
+
+fn turn_to(left: bool) -> Turn {
+    if left { Turn::Left } else { Turn::Right }
+}
+
+/// A walk of at most six turns.
+fn walk_of(alloc: Global, dice: &mut Dice) -> Result<Walk, AllocError> {
+    let mut walk = Walk {
+        at: (40, 40),
+        step: (1, 0),
+        corners: Vec::new(alloc),
+        turns: Vec::new(alloc),
+        back: Vec::new(alloc),
+    };
+    for _ in 0..dice.roll(7) {
+        let length = dice.roll(4).wrapping_add(1);
+        walk.turn(length, dice.roll(2) == 0)?;
+    }
+    Ok(walk)
+}
+
 /// One edge along a path of random turns and lengths.
 fn edge_case(alloc: Global, dice: &mut Dice) -> Result<Case, Fail> {
-    let mut at = (40, 40);
-    let mut step = (1, 0);
-    let mut places = Vec::new(alloc);
-    let mut turns = Vec::new(alloc);
-    let mut back = Vec::new(alloc);
-    for _ in 0..dice.roll(7) {
-        at = gone(at, step, dice.roll(4).wrapping_add(1));
-        places.push(at)?;
-        let left = dice.roll(2) == 0;
-        step = quarters_left(step, if left { 1 } else { 3 });
-        turns.push(if left { Turn::Left } else { Turn::Right })?;
-        back.push(if left { Turn::Right } else { Turn::Left })?;
-    }
+    let Walk {
+        at,
+        step,
+        corners,
+        turns,
+        back,
+    } = walk_of(alloc, dice)?;
     let end = gone(at, step, dice.roll(4).wrapping_add(1));
+    Ok(Case {
+        plane: plane_of(alloc, &EDGE)?,
+        shape: edge_shape(alloc, turns, back)?,
+        sketch: sketch_of(alloc, &[(40, 40), end], &[corners.as_slice()])?,
+    })
+}
+
+/// The shape of a single edge with these turns, and these backwards, the last one first.
+fn edge_shape(alloc: Global, turns: Vec<Turn>, back: Vec<Turn>) -> Result<Shape, Fail> {
+    let mut back = back;
     back.reverse();
     let mut strings = Vec::new(alloc);
     strings.push(turns)?;
     strings.push(back)?;
-    let mut corners = Vec::new(alloc);
-    corners.push(places)?;
-    Ok(Case {
-        plane: plane_of(alloc, &EDGE)?,
-        shape: made([4, 4].to_vec(alloc)?, strings)?,
-        sketch: Sketch {
-            vertices: [(40, 40), end].to_vec(alloc)?,
-            corners,
-        },
-    })
+    Ok(made([4, 4].to_vec(alloc)?, strings).ok_or("strings out of range")?)
 }
 
 fn gone(at: Place, step: (i8, i8), length: u32) -> Place {
@@ -150,42 +190,52 @@ fn near(sketch: &Sketch, dice: &mut Dice) -> Place {
 }
 
 fn any_vertex(sketch: &Sketch, dice: &mut Dice) -> Place {
-    let place = dice.roll(sketch.vertices.len().min(9) as u32) as usize;
+    let place = roll_place(dice, sketch.vertices.len());
     sketch.vertices.get(place).copied().unwrap_or((0, 0))
+}
+
+/// One of so many places, but of no more than nine.
+fn roll_place(dice: &mut Dice, count: usize) -> usize {
+    dice.roll(count.min(9) as u32) as usize
 }
 
 /// Moves a vertex or a corner, drops or adds a corner, exchanges two vertices, or leaves all as it is.
 fn damage(sketch: &mut Sketch, dice: &mut Dice) -> Result<(), Fail> {
     let place = near(sketch, dice);
-    let one = dice.roll(sketch.vertices.len().min(9) as u32) as usize;
-    let other = dice.roll(sketch.vertices.len().min(9) as u32) as usize;
-    let edge = dice.roll(sketch.corners.len().min(9) as u32) as usize;
-    match dice.roll(8) {
-        0 | 1 => {
-            if one < sketch.vertices.len() {
-                sketch.vertices[one] = place;
-            }
-        }
-        2 => {
-            if one < sketch.vertices.len() && other < sketch.vertices.len() {
-                sketch.vertices.swap(one, other);
-            }
-        }
+    let one = roll_place(dice, sketch.vertices.len());
+    let other = roll_place(dice, sketch.vertices.len());
+    let edge = roll_place(dice, sketch.corners.len());
+    let kind = dice.roll(8);
+    damage_vertices(&mut sketch.vertices, kind, [one, other], place);
+    match sketch.corners.get_mut(edge) {
+        Some(corners) => damage_corners(corners, kind, place),
+        None => Ok(()),
+    }
+}
+
+/// Moves the first of two vertices, or exchanges both.
+fn damage_vertices(vertices: &mut [Place], kind: u32, chosen: [usize; 2], place: Place) {
+    let [one, other] = chosen;
+    if one >= vertices.len() || other >= vertices.len() {
+        return;
+    }
+    match kind {
+        0 | 1 => vertices[one] = place,
+        2 => vertices.swap(one, other),
+        _ => {}
+    }
+}
+
+/// Drops, adds or moves a corner of an edge.
+fn damage_corners(corners: &mut Vec<Place>, kind: u32, place: Place) -> Result<(), Fail> {
+    match kind {
         3 => {
-            if let Some(corners) = sketch.corners.get_mut(edge) {
-                let _dropped = corners.pop();
-            }
+            let _dropped = corners.pop();
         }
-        4 => {
-            if let Some(corners) = sketch.corners.get_mut(edge) {
-                corners.push(place)?;
-            }
-        }
+        4 => corners.push(place)?,
         5 | 6 => {
-            if let Some(corners) = sketch.corners.get_mut(edge) {
-                if let Some(corner) = corners.first_mut() {
-                    *corner = place;
-                }
+            if let Some(corner) = corners.first_mut() {
+                *corner = place;
             }
         }
         _ => {}
@@ -193,24 +243,33 @@ fn damage(sketch: &mut Sketch, dice: &mut Dice) -> Result<(), Fail> {
     Ok(())
 }
 
+/// The fault of a drawing, which the plain reading has too.
+fn plain_fault_of(rt: &impl Abort, alloc: Global, case: &Case) -> Result<Option<CheckFault>, Fail> {
+    let expected = plain_fault(alloc, &case.plane, &case.shape, &case.sketch)?;
+    let points = case.sketch.points(alloc)?;
+    let found = fault_of(rt, alloc, &case.plane, &case.shape, points);
+    same(rt, found, expected);
+    Ok(found)
+}
+
+/// The place of an answer among those that are counted: no fault, and then fault by fault.
+fn place_of(found: Option<CheckFault>) -> usize {
+    match found {
+        None => 0,
+        Some(fault) => 1 + fault as usize,
+    }
+}
+
 #[test]
 fn damaged_drawings_have_the_plain_fault(rt: HostRuntime) -> Result<(), Fail> {
-    let alloc = rt.alloc();
     let mut dice = Dice(2026);
     let mut seen = [0u32; 6];
     for number in 0..1000 {
-        let mut case = case_of(alloc, number % 8, &mut dice)?;
+        let mut case = case_of(rt.alloc(), number % 8, &mut dice)?;
         damage(&mut case.sketch, &mut dice)?;
-        let expected = plain_fault(alloc, &case.plane, &case.shape, &case.sketch)?;
-        let points = case.sketch.points(alloc)?;
-        let found = fault_of(&rt, alloc, &case.plane, &case.shape, points);
-        assert_eq!(rt; found, expected, "in drawing {number}");
-        let kind = match found {
-            None => 0,
-            Some(fault) => 1 + fault as usize,
-        };
-        if kind < 6 {
-            seen[kind] = seen[kind].wrapping_add(1);
+        let found = plain_fault_of(&rt, rt.alloc(), &case)?;
+        if let Some(times) = seen.get_mut(place_of(found)) {
+            *times = times.wrapping_add(1);
         }
     }
     // Each answer came often, and none was want of memory.

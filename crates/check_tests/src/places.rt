@@ -1,10 +1,14 @@
 //! A plain reading of the conditions, place by place.
 
+ghost use Rattle.std.specs.Prelude.{◌≤◌};
+ghost use Rattle.embedding.specs.Darts.{dart_count};
+
 use crate::drawings::list_of;
 use drawing_check::CheckFault;
+use embedding::Graph;
 use faces::Plane;
 use ortho_rep::{Points, Shape, Turn};
-use std::alloc::Global;
+use std::alloc::{AllocError, Global};
 use std::test::Fail;
 
 /// A place in the plane, as the plain reading has it.
@@ -33,18 +37,13 @@ impl Sketch {
             return Err(Fail::from("no such dart"));
         }
         let lesser = dart.min(graph.reverse(dart));
-        let mut edge = 0usize;
-        for d in 0..lesser {
-            if d < graph.reverse(d) {
-                edge = edge.saturating_add(1);
-            }
-        }
-        let mut path = Vec::new(alloc);
-        path.push(self.vertex(graph.tail(lesser))?)?;
-        for place in self.corners.get(edge).ok_or("no such edge")? {
-            path.push(*place)?;
-        }
-        path.push(self.vertex(graph.head(lesser))?)?;
+        let corners = self
+            .corners
+            .get(edges_below(graph, lesser))
+            .ok_or("no such edge")?;
+        let tail = self.vertex(graph.tail(lesser))?;
+        let head = self.vertex(graph.head(lesser))?;
+        let mut path = joined(alloc, tail, corners, head)?;
         if dart != lesser {
             path.reverse();
         }
@@ -55,6 +54,33 @@ impl Sketch {
         let place = usize::from(vertex).checked_sub(1).ok_or("no vertex 0")?;
         Ok(*self.vertices.get(place).ok_or("no such vertex")?)
     }
+}
+
+/// How many edges have a lesser dart below this one.
+fn edges_below(graph: &Graph, dart: u16) -> usize
+    requires { dart ≤ dart_count graph.now }
+{
+    let mut edges = 0usize;
+    for d in 0..dart {
+        if d < graph.reverse(d) {
+            edges = edges.saturating_add(1);
+        }
+    }
+    edges
+}
+
+/// A path from its ends and corners.
+fn joined(
+    alloc: Global,
+    tail: Place,
+    corners: &[Place],
+    head: Place,
+) -> Result<Vec<Place>, AllocError> {
+    let mut path = Vec::new(alloc);
+    path.push(tail)?;
+    path.extend_from_slice(corners)?;
+    path.push(head)?;
+    Ok(path)
 }
 
 /// The unit step from one place toward another.
@@ -141,6 +167,76 @@ fn angle_fits(path: &[Place], angle: u8, next: &[Place]) -> bool {
     }
 }
 
+/// The path along each dart.
+fn paths_of(alloc: Global, plane: &Plane, sketch: &Sketch) -> Result<Vec<Vec<Place>>, Fail> {
+    let mut paths = Vec::new(alloc);
+    for dart in 0..plane.graph().darts() {
+        paths.push(sketch.path(alloc, plane, dart)?)?;
+    }
+    Ok(paths)
+}
+
+fn are_in_grid(paths: &[Vec<Place>]) -> bool {
+    for path in paths {
+        if path.iter().any(|p| p.0 > 65535 || p.1 > 65535) {
+            return false;
+        }
+    }
+    true
+}
+
+/// Whether places of a path that follow one another differ in just one coordinate.
+fn are_along_axes(paths: &[Vec<Place>]) -> bool {
+    for path in paths {
+        for ends in path.windows(2) {
+            if (ends[0].0 == ends[1].0) == (ends[0].1 == ends[1].1) {
+                return false;
+            }
+        }
+    }
+    true
+}
+
+/// Whether the turns of a dart's path and the angle behind it are as the shape says.
+fn dart_fits(shape: &Shape, dart: u16, path: &[Place], next: &[Place]) -> Result<bool, Fail> {
+    if usize::from(dart) >= shape.string_count() || usize::from(dart) >= shape.angle_count() {
+        return Err(Fail::from("no such dart"));
+    }
+    Ok(turns_fit(path, shape.turns(dart)) && angle_fits(path, shape.angle(dart), next))
+}
+
+/// Whether all darts do so.
+fn all_fit(plane: &Plane, shape: &Shape, paths: &[Vec<Place>]) -> Result<bool, Fail> {
+    for dart in 0..plane.graph().darts() {
+        let path = paths.get(usize::from(dart)).ok_or("no path")?;
+        let next = paths.get(usize::from(plane.next(dart))).ok_or("no path")?;
+        if !dart_fits(shape, dart, path, next)? {
+            return Ok(false);
+        }
+    }
+    Ok(true)
+}
+
+/// The places between the ends of the edges.
+fn all_met(alloc: Global, plane: &Plane, paths: &[Vec<Place>]) -> Result<Vec<Place>, Fail> {
+    let mut places = Vec::new(alloc);
+    for dart in 0..plane.graph().darts() {
+        if dart < plane.graph().reverse(dart) {
+            let path = paths.get(usize::from(dart)).ok_or("no path")?;
+            places.extend_from_slice(met(alloc, path)?.as_slice())?;
+        }
+    }
+    Ok(places)
+}
+
+/// Whether one place is met twice, by vertices and between the ends of edges.
+fn meets_twice(met: Vec<Place>, vertices: &[Place]) -> Result<bool, Fail> {
+    let mut places = met;
+    places.extend_from_slice(vertices)?;
+    places.sort()?;
+    Ok(places.windows(2).any(|pair| pair[0] == pair[1]))
+}
+
 /// The first condition that fails, read off the definition place by place.
 pub(crate) fn plain_fault(
     alloc: Global,
@@ -148,40 +244,16 @@ pub(crate) fn plain_fault(
     shape: &Shape,
     sketch: &Sketch,
 ) -> Result<Option<CheckFault>, Fail> {
-    let graph = plane.graph();
-    let mut paths = Vec::new(alloc);
-    for dart in 0..graph.darts() {
-        paths.push(sketch.path(alloc, plane, dart)?)?;
+    let paths = paths_of(alloc, plane, sketch)?;
+    if !are_in_grid(&paths) {
+        return Ok(Some(CheckFault::OutOfGrid));
     }
-    let mut places = Vec::from_slice(alloc, &sketch.vertices)?;
-    for path in &paths {
-        if path.iter().any(|p| p.0 > 65535 || p.1 > 65535) {
-            return Ok(Some(CheckFault::OutOfGrid));
-        }
+    if !are_along_axes(&paths) {
+        return Ok(Some(CheckFault::NotAxis));
     }
-    for path in &paths {
-        for ends in path.windows(2) {
-            if (ends[0].0 == ends[1].0) == (ends[0].1 == ends[1].1) {
-                return Ok(Some(CheckFault::NotAxis));
-            }
-        }
+    if !all_fit(plane, shape, &paths)? {
+        return Ok(Some(CheckFault::WrongTurn));
     }
-    for dart in 0..graph.darts() {
-        let path = paths.get(usize::from(dart)).ok_or("no path")?;
-        let next = paths.get(usize::from(plane.next(dart))).ok_or("no path")?;
-        if usize::from(dart) >= shape.string_count() || usize::from(dart) >= shape.angle_count() {
-            return Err(Fail::from("no such dart"));
-        }
-        if !turns_fit(path, shape.turns(dart)) || !angle_fits(path, shape.angle(dart), next) {
-            return Ok(Some(CheckFault::WrongTurn));
-        }
-        if dart < graph.reverse(dart) {
-            for place in met(alloc, path)? {
-                places.push(place)?;
-            }
-        }
-    }
-    places.sort()?;
-    let repeats = places.windows(2).any(|pair| pair[0] == pair[1]);
-    Ok(repeats.then_some(CheckFault::Meet))
+    let places = all_met(alloc, plane, &paths)?;
+    Ok(meets_twice(places, &sketch.vertices)?.then_some(CheckFault::Meet))
 }

@@ -6,15 +6,17 @@ pub mod laws;
 mod line;
 mod plain;
 mod run;
+mod text;
 
 pub use answers::{Answer, Cause, Entry, answer};
 pub use books::{Batch, Book, MAX_FILES};
 pub use choices::Choice;
 pub use lanes::{Gate, MemOpener, OpenFault, OpenGate, Opener, Stage};
 pub use plain::run_plain;
-pub use reports::{push_cause, write_json, write_report};
 pub use run::{MAX_LANES, run_batch};
 pub use streams::{
     BatchFault, Frames, IoSink, Mark, MemTap, Sink, SinkFault, Tap, TapFault, WriteFault,
     run_frames, write_frames,
 };
+pub use text::{TextFault, write_batch};
+pub use texts::{Form, push_cause, write_json, write_report};

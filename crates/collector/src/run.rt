@@ -7,10 +7,11 @@ ghost use Rattle.books.specs.Results.{AreAllBooks};
 use crate::line::Answering;
 use books::{Batch, MAX_FILES, bind};
 use choices::Choice;
-use lane_runs::{LaneFault, drafts_of_lanes};
-use lanes::{Gate, Opener};
+use entries::Entry;
+use lane_runs::{RunFault, run_lanes};
+use lanes::{Drafts, Gate, Opener};
 use ruled_lanes::LANES;
-use std::alloc::Global;
+use std::alloc::{AllocError, Global};
 use std::sync::Wait;
 use std::thread::Threads;
 use streams::BatchFault;
@@ -59,16 +60,20 @@ pub fn run_batch<R: Threads + Wait + Sync, O: Opener, G: Gate>(
     if lanes == 0 || lanes > MAX_LANES {
         return Err(BatchFault::BadLanes);
     }
-    let drafts = match drafts_of_lanes::<Answering, _, _, _>(
-        rt, alloc, opener, gate, files, lanes, capacity, choice,
-    ) {
-        Ok(drafts) => drafts,
-        Err(LaneFault::Memory) => return Err(BatchFault::Memory),
-        Err(LaneFault::Lost) => return Err(BatchFault::LaneLost),
-        Err(LaneFault::StopRefused) => return Err(BatchFault::LaneLost),
-        Err(LaneFault::Thread) => return Err(BatchFault::Thread),
+    let Ok(drafts) = Drafts::<Entry>::new(alloc, files) else {
+        return Err(BatchFault::Memory);
     };
-    match bind(alloc, drafts) {
+    let (drafts, ran) = run_lanes::<Answering, _, _, _, _>(
+        rt, alloc, opener, gate, files, lanes, capacity, choice, drafts,
+    );
+    match ran {
+        Ok(()) => {}
+        Err(RunFault::Memory) => return Err(BatchFault::Memory),
+        Err(RunFault::Refused(AllocError)) => return Err(BatchFault::Memory),
+        Err(RunFault::Lost) => return Err(BatchFault::LaneLost),
+        Err(RunFault::Thread) => return Err(BatchFault::Thread),
+    }
+    match bind(alloc, drafts.into_ready()) {
         Ok(batch) => Ok(batch),
         Err(_) => Err(BatchFault::Memory),
     }

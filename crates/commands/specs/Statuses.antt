@@ -1,5 +1,5 @@
 -- What the program's exit status says.
-use Rattle.std.specs.Prelude.{◌≡◌, ◌≢◌, ◌↔◌, ◌⊎◌, ℕ, Bool, true, false, List, Option, All, codes, vec_len}
+use Rattle.std.specs.Prelude.{◌≡◌, ◌≢◌, ◌↔◌, ◌⊎◌, ℕ, Bool, true, false, List, Option, Some, All, codes, vec_len}
 use Rattle.std.specs.Io.KnownBytes.{Appends}
 use Rattle.planar_code.specs.declared.ending.Ending.{Ending}
 use Rattle.streams.specs.declared.found.Mark.{Mark}
@@ -8,12 +8,13 @@ use Rattle.streams.specs.Marks.{IsMarked}
 use Rattle.streams.specs.Sink.{AppendsFront}
 use Rattle.streams.specs.Text.{frames_text}
 use Rattle.choices.specs.declared.Choice.{Choice}
-use Rattle.lanes.specs.Opening.{Silent}
+use Rattle.lanes.specs.Opening.{Meaning, Silent, told_of, fails_of}
 use Rattle.books.specs.Books.{Pages}
 use Rattle.books.specs.Results.{AreAllBooks}
 use Rattle.reports.specs.declared.form.Form.{Form}
 use Rattle.reports.specs.Forms.{text_in}
 use Rattle.reports.specs.Wholes.{IsWholeBook}
+use Rattle.program_io.specs.Naming.{meaning_of, meanings}
 use Rattle.commands.specs.declared.words.Request.{Request}
 use Rattle.commands.specs.declared.words.Request.TheVariants.{Frames, Layout}
 
@@ -30,29 +31,38 @@ IsPrinted text old new failed status =
 abbrev pub IsComplete : Found → Type 0
 IsComplete found = found.mark ≡ Mark.Ended Ending.Complete
 
--- The whole report of a file was added to the output, and the status tells how the file ended. Nothing is known of the
--- file beforehand: the records and the mark are those of some bytes, after which it ends or fails.
-pub record IsReported (old new : Option (List ℕ)) (failed : Bool) (status : ℕ) : Type 0 where
+-- The whole report of a file that means this was added to the output, and the status tells how the file ended. The records and the
+-- mark are those of some bytes, after which it ends or fails, and where the file tells its bytes, of these.
+pub record IsReported (meaning : Meaning) (old new : Option (List ℕ)) (failed : Bool) (status : ℕ) : Type 0 where
   pub found : Found
   pub bytes : List ℕ
   pub fails : Bool
   pub marked : IsMarked bytes fails found.records found.mark
+  pub told : (all : List ℕ) → told_of meaning ≡ Some all → IsMarked all (fails_of meaning) found.records found.mark
   pub text : Appends old new (frames_text found)
   pub whole : failed ≡ false
   pub complete : IsComplete found ↔ (status ≡ 0)
   pub other : status ≢ 0 → status ≡ 3
 
--- The whole text of the books of so many files under this choice, in this form, was added to the output, and the status tells whether each
--- book is whole. Nothing is known of the files beforehand.
-pub record IsLaidOut (choice : Choice) (form : Form) (files : ℕ) (old new : Option (List ℕ)) (failed : Bool) (status : ℕ) : Type 0 where
+-- The whole text of the books of so many files, which mean this, under this choice and in this form, was added to the output, and the
+-- status tells whether each book is whole.
+pub record IsLaidOut (choice : Choice) (form : Form) (meaning : ℕ → Meaning) (files : ℕ) (old new : Option (List ℕ)) (failed : Bool) (status : ℕ) : Type 0 where
   pub books : List Pages
-  pub of_files : AreAllBooks choice (λ _. Silent) files books
+  pub of_files : AreAllBooks choice meaning files books
   pub text : Appends old new (text_in form books)
   pub written : failed ≡ false
   pub whole : All IsWholeBook books ↔ (status ≡ 0)
   pub other : status ≢ 0 → status ≡ 3
 
--- the whole report that a request asks for was added to the output, with this status
-abbrev pub IsDone : Request → Option (List ℕ) → Option (List ℕ) → Bool → ℕ → Type 0
-IsDone (Frames path) old new failed status = IsReported old new failed status
-IsDone (Layout paths lanes choice form) old new failed status = IsLaidOut choice form (vec_len paths) old new failed status
+-- A beginning of the text of the books of so many files under this choice, in this form, was added to the output. Nothing is known of the
+-- files beforehand.
+pub record IsBegunToLayOut (choice : Choice) (form : Form) (files : ℕ) (old new : Option (List ℕ)) : Type 0 where
+  pub books : List Pages
+  pub of_files : AreAllBooks choice (λ _. Silent) files books
+  pub text : AppendsFront old new (text_in form books)
+
+-- the whole report that a request asks for, where standard input means `input`, was added to the output, with this status
+abbrev pub IsDone : Meaning → Request → Option (List ℕ) → Option (List ℕ) → Bool → ℕ → Type 0
+IsDone input (Frames path) old new failed status = IsReported (meaning_of input path.now) old new failed status
+IsDone input (Layout paths lanes choice form progress) old new failed status =
+    IsLaidOut choice form (meanings input paths.items) (vec_len paths) old new failed status

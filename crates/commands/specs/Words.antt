@@ -1,9 +1,11 @@
 -- What the words of a command line ask for.
-use Rattle.std.specs.Prelude.{◌≡◌, ◌<◌, ◌↔◌, ◌&&◌, ◌||◌, if◌then◌else◌, ℕ, Bool, true, false, not, nat_eq, List, [], ◌∷◌, map, String, Vec, codes, bytes_eq, slice_index, string_bytes, vec_len}
+use Rattle.std.specs.Prelude.{◌≡◌, ◌<◌, ◌≤◌, ◌↔◌, ◌&&◌, ◌||◌, if◌then◌else◌, ℕ, Bool, true, false, not, nat_eq, List, [], ◌∷◌, map, String, Vec, codes, bytes_eq, slice_index, string_bytes, vec_len}
+use Rattle.std.specs.List.{count_by}
 use Rattle.std.specs.Borrow.{Bor}
 use Rattle.std.specs.declared.alloc.Global.{Global}
 use Rattle.choices.specs.declared.Choice.{Choice}
 use Rattle.reports.specs.declared.form.Form.{Form}
+use Rattle.program_io.specs.Naming.{is_input}
 use Rattle.commands.specs.declared.reading.Place.{Place}
 use Rattle.commands.specs.declared.reading.Place.TheVariants.{Command, Any, Lanes, Outer, File}
 use Rattle.commands.specs.declared.reading.Wish.{Wish}
@@ -69,11 +71,16 @@ asks_in w words = asks_from w Command words
 abbrev pub files_in : List (String Global) → List (List ℕ)
 files_in words = files_from Command words
 
--- the words ask for a layout of these files, under this choice and in this form
+-- how often a command line names standard input
+abbrev pub inputs_in : List (String Global) → ℕ
+inputs_in words = count_by is_input (files_in words)
+
+-- the words ask for a layout of these files, of which one at most is standard input, under this choice and in this form
 pub record AsksLayout (words : List (String Global)) (paths : Vec (Bor (List ℕ)) Global) (choice : Choice) (form : Form) : Type 0 where
   pub command : asks_in wish.Layout words ≡ true
   pub files : map (λ path. path.now) paths.items ≡ files_in words
   pub some : 0 < vec_len paths
+  pub once : inputs_in words ≤ 1
   pub best : (choice ≡ Choice.Best) ↔ (asks_in wish.BestOuter words ≡ true)
   pub json : (form ≡ Form.Json) ↔ (asks_in wish.Json words ≡ true)
 
@@ -85,4 +92,4 @@ pub record AsksFrames (words : List (String Global)) (path : List ℕ) : Type 0 
 -- the request is what the words ask for
 abbrev pub IsAskedBy : List (String Global) → Request → Type 0
 IsAskedBy words (Frames path) = AsksFrames words path.now
-IsAskedBy words (Layout paths lanes choice form) = AsksLayout words paths choice form
+IsAskedBy words (Layout paths lanes choice form progress) = AsksLayout words paths choice form

@@ -1,52 +1,71 @@
 //! What `layout` does.
-ghost use Rattle.std.specs.Prelude.{◌≡◌, ◌<◌, ◌≤◌, ◌⊎◌, ◌↔◌, false, Err, IfOk, IfErr, length};
+ghost use Rattle.std.specs.Prelude.{◌≡◌, ◌<◌, ◌≤◌, ◌⊎◌, ◌↔◌, false, Err, IfOk, IfErr, OnErr, length};
 ghost use Rattle.program_io.specs.Refusals.{IsRefusal};
 ghost use Rattle.ruled_lanes.specs.declared.limits.TheConstants.{LANES};
 ghost use Rattle.books.specs.declared.limits.TheConstants.{MAX_FILES};
-ghost use Rattle.commands.specs.Statuses.{IsLaidOut};
+ghost use Rattle.program_io.specs.Naming.{meanings};
+ghost use Rattle.commands.specs.Statuses.{IsLaidOut, IsBegunToLayOut};
 
 use choices::Choice;
-use collector::run_batch;
-use lanes::OpenGate;
-use program_io::{Fault, FileOpener};
-use reports::{Form, status_of_batch};
+use collector::{TextFault, write_batch};
+use lanes::Opener;
+use program_io::{Console, Fault, FileOpener, Meter};
+use reports::Form;
 use std::rt::Files;
 use std::sync::Wait;
 use std::thread::Threads;
-use streams::{BatchFault, MAX_CAPACITY, Sink};
+use streams::{BatchFault, MAX_CAPACITY, Sink, WriteFault};
 
 /// How many messages wait between two threads of a run at most.
 pub const CAPACITY: u32 = MAX_CAPACITY;
 
 /// Writes answers to the records of these files in this form, under this choice of the outer face and worked
-/// out in so many lanes, and gives back the status of the report.
+/// out in so many lanes, while the files are read, and gives back the status of the report. The file named `-`
+/// is the file 0 of `input`. The meter counts.
 ///
 /// # Errors
 ///
 /// `TooManyFiles` exactly where there are more than `MAX_FILES` files, and `BadLanes` exactly where there are
 /// no more than that and no lanes or more than `MAX_LANES`; nothing is then written. Else what a run or the
-/// writing met.
-pub fn layout<R: Files + AllocGlobal + Threads + Wait + Sync, S: Sink>(
-    rt: &R,
-    paths: &[&str],
+/// writing met; a beginning of the report of some books, one for each file, is then written.
+pub fn layout<
+    'a,
+    R: Files + AllocGlobal + Threads + Wait + Sync,
+    I: Opener,
+    C: Console + Sync,
+    S: Sink,
+>(
+    rt: &'a R,
+    names: &[&str],
+    input: &'a I,
     lanes: u32,
     choice: Choice,
     form: Form,
+    meter: &'a Meter<'_, C>,
     out: &mut S,
 ) -> Result<u8, Fault>
 where
     R::File: Send,
     R::Dir: Send,
     requires { S.failed out.old ≡ false }
-    ensures reported { IfOk result (IsLaidOut choice form (length paths.now) (S.taken out.old) (S.taken out.new) (S.failed out.new)) }
-    ensures too_many { (MAX_FILES < length paths.now) ↔ (result ≡ Err (Fault.Run BatchFault.TooManyFiles)) }
-    ensures bad_lanes { (((lanes ≡ 0) ⊎ (LANES < lanes)) × (length paths.now ≤ MAX_FILES))
+    ensures reported { IfOk result (IsLaidOut choice form (meanings (I.meaning input.now 0) names.now)
+        (length names.now) (S.taken out.old) (S.taken out.new) (S.failed out.new)) }
+    ensures begun { OnErr result (IsBegunToLayOut choice form (length names.now) (S.taken out.old) (S.taken out.new)) }
+    ensures too_many { (MAX_FILES < length names.now) ↔ (result ≡ Err (Fault.Run BatchFault.TooManyFiles)) }
+    ensures bad_lanes { (((lanes ≡ 0) ⊎ (LANES < lanes)) × (length names.now ≤ MAX_FILES))
         ↔ (result ≡ Err (Fault.Run BatchFault.BadLanes)) }
     ensures refused { IfErr result (λ fault. IsRefusal fault → out.new ≡ out.old) }
 {
-    let opener = FileOpener { rt, names: paths };
-    let files = u32::try_from(paths.len()).unwrap_or(u32::MAX);
-    let batch = run_batch(
+    let opener = FileOpener {
+        rt,
+        names,
+        input,
+        begun: meter.begun(),
+    };
+    let Ok(files) = u32::try_from(names.len()) else {
+        return Err(Fault::Run(BatchFault::TooManyFiles));
+    };
+    match write_batch(
         rt,
         rt.alloc(),
         &opener,
@@ -54,8 +73,12 @@ where
         lanes,
         CAPACITY,
         choice,
-        &OpenGate,
-    )?;
-    form.write(rt.alloc(), &batch, out)?;
-    Ok(status_of_batch(&batch))
+        form,
+        meter,
+        out,
+    ) {
+        Ok(status) => Ok(status),
+        Err(TextFault::Run(fault)) => Err(Fault::Run(fault)),
+        Err(TextFault::Write) => Err(Fault::Write(WriteFault::Write)),
+    }
 }

@@ -1,9 +1,11 @@
 //! What the program does with its words.
-ghost use Rattle.std.specs.Prelude.{◌≡◌, ◌≤◌, ◌⊎◌, ℕ, List, true, false, IfOk, IfErr, OnOk};
+ghost use Rattle.std.specs.Prelude.{◌≡◌, ◌≤◌, ◌⊎◌, ℕ, List, length, true, false, IfOk, IfErr, OnOk};
+ghost use Rattle.std.specs.Borrow.{Bor};
 ghost use Rattle.std.specs.Io.KnownBytes.{Appends};
 ghost use Rattle.choices.specs.declared.Choice.{Choice};
 ghost use Rattle.reports.specs.declared.form.Form.{Form};
 ghost use Rattle.program_io.specs.Refusals.{IsRefusal};
+ghost use Rattle.program_io.specs.Naming.{meaning_of, meanings};
 ghost use Rattle.clap.specs.Words.{kind_of};
 ghost use Rattle.clap.specs.declared.error.kind.ErrorKind.{ErrorKind};
 ghost use Rattle.commands.specs.declared.reading.Wish.{Wish};
@@ -17,7 +19,8 @@ use crate::version::VERSION;
 use crate::words::{Request, parse};
 use clap::Error;
 use clap::error::ErrorKind;
-use program_io::{Fault, open_source, report};
+use lanes::Opener;
+use program_io::{Console, Fault, Meter, open_source, report};
 use reports::status_of;
 use std::alloc::Global;
 use std::rt::Files;
@@ -26,17 +29,19 @@ use std::thread::Threads;
 use streams::{Sink, put_all, run_frames, write_frames};
 
 /// Does what the words after the program's name ask for, and answers the program's exit status.
-/// A report goes to `out`, and the line of a fault to `err`; that this line may fail changes nothing.
+/// The file named `-` is standard input, the file 0 of `input`. A report goes to `out`, and the line of a fault
+/// to `err`; that this line may fail changes nothing, nor does what `console` shows of the progress of a run.
 ///
 /// The status is 0 for the version, for help and for a whole report in which each file ends complete and
 /// no graph wanted for memory, 3 for any other whole report, 2 for a command line that is refused, and 1
 /// where there is no whole report.
-pub fn command<R: Files + AllocGlobal + Threads + Wait + Sync, S: Sink, E: Sink>(
-    rt: &R,
-    words: &[String],
-    out: &mut S,
-    err: &mut E,
-) -> u8
+pub fn command<
+    R: Files + AllocGlobal + Threads + Wait + Sync,
+    I: Opener,
+    C: Console + Sync,
+    S: Sink,
+    E: Sink,
+>(rt: &R, words: &[String], input: &I, console: &C, out: &mut S, err: &mut E) -> u8
 where
     R::File: Send,
     R::Dir: Send,
@@ -51,28 +56,30 @@ where
     // Status 3 comes with a whole report: of a file that does not end complete, or of files of which
     // one does not or lacks an answer for want of memory.
     ensures reported { result ≡ 3
-        → IsReported (S.taken out.old) (S.taken out.new) (S.failed out.new) 3
-        ⊎ ((choice : Choice) × (form : Form) × (files : ℕ)
-        × IsLaidOut choice form files (S.taken out.old) (S.taken out.new) (S.failed out.new) 3) }
+        → ((path : List ℕ)
+        × IsReported (meaning_of (I.meaning input.now 0) path) (S.taken out.old) (S.taken out.new) (S.failed out.new) 3)
+        ⊎ ((choice : Choice) × (form : Form) × (names : List (Bor (List ℕ)))
+        × IsLaidOut choice form (meanings (I.meaning input.now 0) names) (length names)
+        (S.taken out.old) (S.taken out.new) (S.failed out.new) 3) }
 
     // Where the first word is `--version`, the version is printed.
     ensures version { asks_in Wish.Version words.now ≡ true
         → IsPrinted version_text (S.taken out.old) (S.taken out.new) (S.failed out.new) result }
 
     // With status 0 and 3 there is the version, help, or the report of all files that the words name, as
-    // they ask for it.
+    // they ask for it. The file named `-` has what standard input tells.
     ensures done { (result ≡ 0) ⊎ (result ≡ 3)
         → ((result ≡ 0) × (asks_in Wish.Version words.now ≡ true))
         ⊎ ((result ≡ 0) × (asks_in Wish.Help words.now ≡ true)
         × ((text : List ℕ) × Appends (S.taken out.old) (S.taken out.new) text))
         ⊎ ((request : Request) × IsAskedBy words.now request
-        × IsDone request (S.taken out.old) (S.taken out.new) (S.failed out.new) result) }
+        × IsDone (I.meaning input.now 0) request (S.taken out.old) (S.taken out.new) (S.failed out.new) result) }
 {
     if asks(Wish::Version, words) {
         return show_version(out, err);
     }
     match parse(rt.alloc(), words) {
-        Ok(request) => perform(rt, request, out, err),
+        Ok(request) => perform(rt, request, input, console, out, err),
         Err(error) if error.use_stderr() || !asks(Wish::Help, words) => {
             refuse(rt.alloc(), &error, err)
         }
@@ -85,12 +92,13 @@ where
 
 /// Does what a request asks for, and answers the exit status. It is 0 or 3 only where the whole report
 /// was written, of all files that the request names, and then as `command` says.
-fn perform<R: Files + AllocGlobal + Threads + Wait + Sync, S: Sink, E: Sink>(
-    rt: &R,
-    request: Request,
-    out: &mut S,
-    err: &mut E,
-) -> u8
+fn perform<
+    R: Files + AllocGlobal + Threads + Wait + Sync,
+    I: Opener,
+    C: Console + Sync,
+    S: Sink,
+    E: Sink,
+>(rt: &R, request: Request, input: &I, console: &C, out: &mut S, err: &mut E) -> u8
 where
     R::File: Send,
     R::Dir: Send,
@@ -100,16 +108,23 @@ where
     ensures failed_write { S.failed out.new ≡ true → result ≡ 1 }
     ensures refused { result ≡ 2 → out.new ≡ out.old }
     ensures done { (result ≡ 0) ⊎ (result ≡ 3)
-        → IsDone request.entry (S.taken out.old) (S.taken out.new) (S.failed out.new) result }
+        → IsDone (I.meaning input.now 0) request.entry (S.taken out.old) (S.taken out.new) (S.failed out.new) result }
 {
     let outcome = match request {
-        Request::Frames { path } => frames(rt, path, out),
+        Request::Frames { path } => frames(rt, path, input, out),
         Request::Layout {
             paths,
             lanes,
             choice,
             form,
-        } => layout(rt, paths.as_slice(), lanes, choice, form, out),
+            progress,
+        } => {
+            let names = paths.as_slice();
+            let meter = Meter::new(console, progress, names.len());
+            let outcome = layout(rt, names, input, lanes, choice, form, &meter, out);
+            meter.finish();
+            outcome
+        }
     };
     match outcome {
         Ok(status) => status,
@@ -128,18 +143,20 @@ fn end_by<E: Sink>(fault: Fault, err: &mut E) -> u8
 }
 
 /// The records of one file.
-fn frames<R: Files + AllocGlobal + Threads + Wait + Sync, S: Sink>(
+fn frames<R: Files + AllocGlobal + Threads + Wait + Sync, I: Opener, S: Sink>(
     rt: &R,
     path: &str,
+    input: &I,
     out: &mut S,
 ) -> Result<u8, Fault>
 where
     R::File: Send,
     requires { S.failed out.old ≡ false }
-    ensures reported { IfOk result (IsReported (S.taken out.old) (S.taken out.new) (S.failed out.new)) }
+    ensures reported { IfOk result (IsReported (meaning_of (I.meaning input.now 0) path.now)
+        (S.taken out.old) (S.taken out.new) (S.failed out.new)) }
     ensures failed { IfErr result (λ fault. ¬ IsRefusal fault) }
 {
-    let source = open_source(rt, path)?;
+    let source = open_source(rt, rt.alloc(), input, path)?;
     let found = run_frames(rt, rt.alloc(), source, CAPACITY)?;
     write_frames(&found, out)?;
     Ok(status_of(found.mark()))

@@ -1,7 +1,10 @@
 //! What the words of a command line ask for, one after another.
 ghost use Rattle.std.specs.Prelude.{◌≡◌, ◌<◌, IfOk, map};
+ghost use Rattle.std.specs.List.{count_by};
+ghost use Rattle.program_io.specs.Naming as naming;
 ghost use Rattle.commands.specs.Words.{after, asks, asks_in, files_in, has_front, is_file, is_help};
 
+use program_io::is_input;
 use std::alloc::{AllocError, Global};
 
 /// What a word may be, by the words before it.
@@ -119,4 +122,17 @@ pub fn files_of<'a>(alloc: Global, words: &'a [String]) -> Result<Vec<&'a str>, 
         place = place.after(text);
     }
     Ok(files)
+}
+
+/// How many of these files are standard input.
+pub fn inputs_among(files: &[&str]) -> usize
+    ensures { result ≡ count_by naming.is_input (map (λ file. file.now) files.now) }
+{
+    let mut count = 0;
+    for file in files {
+        if is_input(file) {
+            count += 1;
+        }
+    }
+    count
 }

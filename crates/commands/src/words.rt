@@ -1,14 +1,15 @@
 //! The command line.
-ghost use Rattle.std.specs.Prelude.{◌≡◌, ◌↔◌, IfOk, IfSome, map, true};
+ghost use Rattle.std.specs.Prelude.{◌≡◌, ◌≤◌, ◌↔◌, IfOk, IfSome, map, true};
 ghost use Rattle.choices.specs.declared.Choice.{Choice};
 ghost use Rattle.reports.specs.declared.form.Form.{Form};
 ghost use Rattle.commands.specs.declared.reading.Wish.{Wish};
-ghost use Rattle.commands.specs.Words.{IsAskedBy, asks_in, files_in};
+ghost use Rattle.commands.specs.Words.{IsAskedBy, asks_in, files_in, inputs_in};
 
-use crate::reading::{Wish, asks, files_of};
+use crate::reading::{Wish, asks, files_of, inputs_among};
 use choices::Choice;
 use clap::error::ErrorKind;
 use clap::{Arg, ArgAction, ArgMatches, Command, Error, value_parser};
+use program_io::Progress;
 use reports::Form;
 use std::alloc::{AllocError, Global};
 
@@ -20,50 +21,58 @@ pub enum Request<'a> {
         path: &'a str,
     },
     /// Answers to the records of files under a choice of the outer face, worked out in so many lanes and
-    /// written in a form.
+    /// written in a form, and where it is told how far the run is.
     Layout {
         paths: Vec<&'a str>,
         lanes: u32,
         choice: Choice,
         form: Form,
+        progress: Progress,
     },
 }
 
-/// Reads the words after the program's name, and answers what they ask for. A `layout` has a file at least.
+/// Reads the words after the program's name, and answers what they ask for. A `layout` has a file at least, and
+/// standard input at most once.
 pub fn parse<'a>(alloc: Global, words: &'a [String]) -> Result<Request<'a>, Error>
     ensures { IfOk result (IsAskedBy words.now) }
 {
     let mut program = describe(alloc)?;
     let matches = program.try_get_matches_from_mut(words)?;
-    match request_of(alloc, words, &matches)? {
+    let files = files_of(alloc, words)?;
+    if inputs_among(files.as_slice()) > 1 {
+        return Err(program.error(ErrorKind::ArgumentConflict, INPUT_TWICE)?);
+    }
+    match request_of(words, files, &matches) {
         Some(request) => Ok(request),
         // The file is required, so a line that was taken names one.
         None => Err(program.error(ErrorKind::MissingRequiredArgument, "no file is named")?),
     }
 }
 
-/// What the words ask for, which clap has taken; none where they name no file. Clap's own reading gives the
-/// number of lanes; the rest is taken from the words, as `command` promises.
+/// What the words ask for, which clap has taken and which name these files; none where they name no file. Clap's
+/// own reading gives the number of lanes and the progress; the rest is taken from the words, as `command` promises.
 fn request_of<'a>(
-    alloc: Global,
-    words: &'a [String],
-    matches: &ArgMatches<'a>,
-) -> Result<Option<Request<'a>>, AllocError>
-    ensures { IfOk result (λ request. IfSome request (IsAskedBy words.now)) }
+    words: &[String],
+    files: Vec<&'a str>,
+    matches: &ArgMatches<'_>,
+) -> Option<Request<'a>>
+    requires files { map (λ file. file.now) files.items ≡ files_in words.now }
+    requires once { inputs_in words.now ≤ 1 }
+    ensures { IfSome result (IsAskedBy words.now) }
 {
-    let files = files_of(alloc, words)?;
     if asks(Wish::Frames, words) {
-        return Ok(frames_request(words, files.as_slice()));
+        return frames_request(words, files.as_slice());
     }
     if files.is_empty() || !asks(Wish::Layout, words) {
-        return Ok(None);
+        return None;
     }
-    Ok(Some(Request::Layout {
+    Some(Request::Layout {
         paths: files,
         lanes: lanes_of(matches),
         choice: choice_of(words),
         form: form_of(words),
-    }))
+        progress: progress_of(matches),
+    })
 }
 
 /// The file whose records are asked for.
@@ -83,6 +92,14 @@ fn lanes_of(matches: &ArgMatches) -> u32 {
     match matches.subcommand_matches("layout") {
         Some(layout) => layout.get_one("lanes").unwrap_or(1),
         None => 1,
+    }
+}
+
+/// Where it is told how far a run is, by what clap found.
+fn progress_of(matches: &ArgMatches) -> Progress {
+    match matches.subcommand_matches("layout") {
+        Some(layout) => Progress::of_count(layout.get_count("progress")),
+        None => Progress::Nowhere,
     }
 }
 
@@ -145,8 +162,16 @@ fn describe_layout<'a>(alloc: Global) -> Result<Command<'a>, AllocError> {
         .long("json")
         .help("Prints JSON lines in place of the report: also shapes, prices and points")
         .action(ArgAction::SetTrue);
+    let progress = Arg::new(alloc, "progress")
+        .long("progress")
+        .help(
+            "Tells on standard error, where that is a terminal, how far the run is; given twice, also where it is none",
+        )
+        .action(ArgAction::Count);
     let files = Arg::new(alloc, "FILE")
-        .help("Planar_code files, at most 256: the 15 bytes >>planar_code<< and then records")
+        .help(
+            "Planar_code files, at most 256: the 15 bytes >>planar_code<< and then records; - is standard input",
+        )
         .required(true)
         .num_args(1..)
         .action(ArgAction::Append);
@@ -158,12 +183,15 @@ fn describe_layout<'a>(alloc: Global) -> Result<Command<'a>, AllocError> {
         .arg(lanes)?
         .arg(outer)?
         .arg(json)?
+        .arg(progress)?
         .arg(files)
 }
 
 fn describe_frames<'a>(alloc: Global) -> Result<Command<'a>, AllocError> {
     let file = Arg::new(alloc, "FILE")
-        .help("A planar_code file: the 15 bytes >>planar_code<< and then records")
+        .help(
+            "A planar_code file: the 15 bytes >>planar_code<< and then records; - is standard input",
+        )
         .required(true)
         .action(ArgAction::Set);
     Command::new(alloc, "frames")
@@ -171,6 +199,9 @@ fn describe_frames<'a>(alloc: Global) -> Result<Command<'a>, AllocError> {
         .after_help(FRAMES_HELP)
         .arg(file)
 }
+
+/// Why standard input is not taken twice.
+const INPUT_TWICE: &str = "standard input, the file '-', can be read only once, and is named twice";
 
 /// The words for the choices of the outer face.
 const OUTER: &[&str] = &["first", "best"];
@@ -187,7 +218,7 @@ prints
   graph 2 ok n=3 m=3 f=2 bends=1 drawn=yes
   end complete graphs=2
 and from a generator
-  geng -c -D4 8 | planarg -p > graphs.pc && planarbend layout graphs.pc
+  geng -c -D4 8 | planarg -p | planarbend layout -
 With --json there is a line for each graph and each file's end, and each is a JSON object.
 The status is 0 where each file ends complete and no graph wanted for memory, and else 3.";
 

@@ -9,5 +9,6 @@ mod place;
 mod rows;
 mod steps;
 
+pub use dissect::dissect;
 pub use fault::CompactFault;
 pub use place::compact;

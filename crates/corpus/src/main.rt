@@ -13,8 +13,11 @@
 //! takes.
 //! After `stress`, a seed and a number of rounds come files: it runs so often over random files of their graphs, over
 //! lanes whose stages are held up at random, and compares each report with that of a run on one thread.
+//! After `again` come files: each graph goes through the calls of each layer, and a call that finds no memory is made
+//! again.
 #![tactic(auto)]
 
+mod again;
 mod batches;
 mod pieces;
 mod readback;
@@ -23,12 +26,16 @@ mod stages;
 mod stress;
 mod times;
 
+use again::ask_again;
 use anyhow::Result;
 use batches::compare_choices;
 use pieces::compare;
 use run_times::{time_lanes, time_plain};
 use stages::{Depth, report};
 use std::env;
+use std::rt::{Clock, Files};
+use std::sync::Wait;
+use std::thread::Threads;
 use stress::run_random;
 use times::tell_times;
 
@@ -45,21 +52,45 @@ fn main(rt: HostRuntime) -> Result<()> {
     let words = env::args(&rt)?.skip(1).collect::<Vec<String>>(rt.alloc())?;
     let mut task = Task::Pieces;
     for (place, word) in words.iter().enumerate() {
-        let rest = &words[place + 1..];
-        match (word.as_str(), task) {
-            ("batches", _) => return compare_choices(&rt, rest),
-            ("plain", _) => return time_plain(&rt, rest),
-            ("lanes", _) => return time_lanes(&rt, rest),
-            ("stress", _) => return run_random(&rt, rest),
-            ("pieces", _) => task = Task::Pieces,
-            ("planes", _) => task = Task::Report(Depth::Planes),
-            ("shapes", _) => task = Task::Report(Depth::Shapes),
-            ("times", _) => task = Task::Rounds,
-            (name, Task::Pieces) => compare(&rt, name)?,
-            (name, Task::Report(depth)) => report(&rt, name, depth)?,
-            (count, Task::Rounds) => task = Task::Times(count.parse()?),
-            (name, Task::Times(rounds)) => tell_times(&rt, name, rounds)?,
+        if let Some(done) = run_all(&rt, word.as_str(), &words[place + 1..]) {
+            return done;
         }
+        task = run_word(&rt, word.as_str(), task)?;
     }
     Ok(())
+}
+
+/// Where a word asks for something with all the words behind it, what that came to.
+fn run_all<R: Files + Print + Eprint + AllocGlobal + Clock + Threads + Wait + Sync>(
+    rt: &R,
+    word: &str,
+    rest: &[String],
+) -> Option<Result<()>> {
+    match word {
+        "batches" => Some(compare_choices(rt, rest)),
+        "plain" => Some(time_plain(rt, rest)),
+        "lanes" => Some(time_lanes(rt, rest)),
+        "stress" => Some(run_random(rt, rest)),
+        "again" => Some(ask_again(rt, rest)),
+        _ => None,
+    }
+}
+
+/// Does what is to be done with a file, or answers what another word says is to be done from now on.
+fn run_word<R: Files + Print + AllocGlobal + Clock + Threads + Wait + Sync>(
+    rt: &R,
+    word: &str,
+    task: Task,
+) -> Result<Task> {
+    match (word, task) {
+        ("pieces", _) => return Ok(Task::Pieces),
+        ("planes", _) => return Ok(Task::Report(Depth::Planes)),
+        ("shapes", _) => return Ok(Task::Report(Depth::Shapes)),
+        ("times", _) => return Ok(Task::Rounds),
+        (name, Task::Pieces) => compare(rt, name)?,
+        (name, Task::Report(depth)) => report(rt, name, depth)?,
+        (count, Task::Rounds) => return Ok(Task::Times(count.parse()?)),
+        (name, Task::Times(rounds)) => tell_times(rt, name, rounds)?,
+    }
+    Ok(task)
 }

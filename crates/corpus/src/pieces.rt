@@ -1,8 +1,8 @@
 ghost use Rattle.std.specs.Prelude.{◌<◌};
 
-use anyhow::{Context, Result, ensure};
+use crate::stages::read_file;
+use anyhow::{Result, ensure};
 use planar_code::{Ending, Record, split};
-use std::fs;
 use std::rt::Files;
 use std::sync::Wait;
 use std::thread::Threads;
@@ -16,15 +16,29 @@ pub fn compare<R: Files + Print + AllocGlobal + Threads + Wait + Sync>(
     rt: &R,
     name: &str,
 ) -> Result<()> {
-    let bytes = fs::read(rt, name).context(format_args!("{name}"))?;
+    let bytes = read_file(rt, name)?;
     let (records, ending) = split(rt.alloc(), bytes.as_slice())?;
     for most in SIZES {
-        let source = MemTap::new(bytes.clone()?, most);
-        let found = run_frames(rt, rt.alloc(), source, 16)?;
+        let found = read_in_pieces(rt, bytes.as_slice(), most)?;
         let same = is_same(&found, records.as_slice(), ending);
         ensure!(same, "{name}: another answer in pieces of {most}");
     }
-    let count = records.len();
+    tell(rt, name, records.len(), ending)
+}
+
+/// What a run finds that reads the bytes in pieces.
+fn read_in_pieces<R: AllocGlobal + Threads + Wait + Sync>(
+    rt: &R,
+    bytes: &[u8],
+    most: usize,
+) -> Result<Frames>
+    requires { 0 < most }
+{
+    let source = MemTap::new(bytes.to_vec(rt.alloc())?, most);
+    Ok(run_frames(rt, rt.alloc(), source, 16)?)
+}
+
+fn tell<R: Print>(rt: &R, name: &str, count: usize, ending: Ending) -> Result<()> {
     println!(rt; "{name}: {count} records and {ending:?}, in pieces of 1, 2, 7 and 65536 bytes")?;
     Ok(())
 }

@@ -1,26 +1,24 @@
 //! JSON lines, read back: what the line of a graph says must be an orthogonal representation of the
 //! record's plane, prices that prove it least, and points that draw it.
+ghost use Rattle.ortho_rep.specs.Representation.{IsShape};
 
+use crate::stages::test_shape;
 use anyhow::{Context, Result, bail, ensure};
-use collector::{Answer, Batch, IoSink, write_json};
+use collector::{Answer, Batch, Entry, IoSink, write_json};
 use drawing_check::check;
 use faces::Plane;
-use ortho_rep::{Point, Points, Prices, Shape, Turn, certify, is_shape};
+use ortho_rep::{Point, Points, Prices, Shape, Turn};
 use serde_json::Value;
 use std::alloc::Global;
 
 /// Writes a batch as JSON lines, and tests the line of each graph that breaks no rule.
 pub fn test_lines(alloc: Global, batch: &Batch) -> Result<()> {
-    let mut sink = IoSink::new(Vec::new(alloc));
-    write_json(alloc, batch, &mut sink)?;
-    let text = sink.into_writer();
+    let text = json_of(alloc, batch)?;
     let mut lines = text.as_slice().split(|byte| *byte == b'\n');
     for file in 0..batch.files() {
         for entry in batch.book(file).entries() {
             let line = lines.next().context("a graph without a line")?;
-            if let Answer::Laid { plane, .. } = &entry.answer {
-                test_line(alloc, plane, line)?;
-            }
+            test_entry(alloc, entry, line)?;
         }
         let _ = lines.next().context("a file without its last line")?;
     }
@@ -28,54 +26,90 @@ pub fn test_lines(alloc: Global, batch: &Batch) -> Result<()> {
     Ok(())
 }
 
-/// Tests what a line says of a plane.
-fn test_line(alloc: Global, plane: &Plane, line: &[u8]) -> Result<()> {
-    let value = Value::from_slice(alloc, line)?;
-    let shape = shape_of(alloc, &value)?;
-    ensure!(is_shape(plane, &shape), "no orthogonal representation");
-    let prices = member(&value, "prices")?;
-    let prices = Prices::new(
-        numbers(alloc, member(prices, "vertices")?)?,
-        numbers(alloc, member(prices, "faces")?)?,
-    );
-    ensure!(certify(plane, &shape, &prices), "the prices prove nothing");
-    let points = points_of(alloc, member(&value, "points")?)?;
+/// The JSON lines of a batch.
+fn json_of(alloc: Global, batch: &Batch) -> Result<Vec<u8>> {
+    let mut sink = IoSink::new(Vec::new(alloc));
+    write_json(alloc, batch, &mut sink)?;
+    Ok(sink.into_writer())
+}
+
+/// Tests what a line says of a graph that breaks no rule.
+fn test_entry(alloc: Global, entry: &Entry, line: &[u8]) -> Result<()> {
+    if let Answer::Laid { plane, .. } = &entry.answer {
+        test_value(alloc, plane, &Value::from_slice(alloc, line)?)?;
+    }
+    Ok(())
+}
+
+/// Tests what a line's value says of a plane.
+fn test_value(alloc: Global, plane: &Plane, value: &Value) -> Result<()> {
+    let shape = shape_of(alloc, value)?;
+    let prices = prices_of(alloc, member(value, "prices")?)?;
+    test_shape(plane, &shape, &prices)?;
+    let points = points_of(alloc, member(value, "points")?)?;
+    test_points(alloc, plane, &shape, points)
+}
+
+/// Tests that points draw a shape.
+fn test_points(alloc: Global, plane: &Plane, shape: &Shape, points: Points) -> Result<()>
+    requires { IsShape plane.now shape.now }
+{
     let whole = points.vertex_count() == usize::from(plane.graph().vertices())
         && 2 * points.edge_count() == usize::from(plane.graph().darts());
     ensure!(
         whole,
         "not a point for each vertex and corners for each edge"
     );
-    ensure!(check(alloc, plane, &shape, points).is_ok(), "no drawing");
+    ensure!(check(alloc, plane, shape, points).is_ok(), "no drawing");
     Ok(())
 }
 
 /// The shape that a line gives.
 fn shape_of(alloc: Global, value: &Value) -> Result<Shape> {
-    let mut angles = Vec::new(alloc);
-    for angle in list(member(value, "angles")?)? {
-        angles.push(u8::try_from(angle.as_u64().context("no angle")?)?)?;
-    }
-    let mut strings = Vec::new(alloc);
-    for turns in list(member(value, "turns")?)? {
-        strings.push(turns_of(alloc, turns.as_str().context("no turns")?)?)?;
-    }
+    let angles = angles_of(alloc, member(value, "angles")?)?;
+    let strings = strings_of(alloc, member(value, "turns")?)?;
     ensure!(Shape::are_short(&strings), "too many turns");
     Ok(Shape::new(angles, strings))
+}
+
+fn angles_of(alloc: Global, value: &Value) -> Result<Vec<u8>> {
+    let mut angles = Vec::new(alloc);
+    for angle in list(value)? {
+        angles.push(u8::try_from(angle.as_u64().context("no angle")?)?)?;
+    }
+    Ok(angles)
+}
+
+fn strings_of(alloc: Global, value: &Value) -> Result<Vec<Vec<Turn>>> {
+    let mut strings = Vec::new(alloc);
+    for turns in list(value)? {
+        strings.push(turns_of(alloc, turns.as_str().context("no turns")?)?)?;
+    }
+    Ok(strings)
+}
+
+/// The prices that a line gives.
+fn prices_of(alloc: Global, value: &Value) -> Result<Prices> {
+    let vertices = numbers(alloc, member(value, "vertices")?)?;
+    let faces = numbers(alloc, member(value, "faces")?)?;
+    Ok(Prices::new(vertices, faces))
 }
 
 /// The turns that a text of L and R gives.
 fn turns_of(alloc: Global, text: &str) -> Result<Vec<Turn>> {
     let mut turns = Vec::new(alloc);
     for letter in text.as_bytes() {
-        ensure!(matches!(letter, b'L' | b'R'), "a letter that is no turn");
-        turns.push(if *letter == b'L' {
-            Turn::Left
-        } else {
-            Turn::Right
-        })?;
+        turns.push(turn_of(*letter).context("a letter that is no turn")?)?;
     }
     Ok(turns)
+}
+
+fn turn_of(letter: u8) -> Option<Turn> {
+    match letter {
+        b'L' => Some(Turn::Left),
+        b'R' => Some(Turn::Right),
+        _ => None,
+    }
 }
 
 /// The points that a line gives.
@@ -91,15 +125,19 @@ fn points_of(alloc: Global, value: &Value) -> Result<Points> {
 fn point_list(alloc: Global, value: &Value) -> Result<Vec<Point>> {
     let mut points = Vec::new(alloc);
     for pair in list(value)? {
-        let [x, y] = list(pair)?.as_slice() else {
-            bail!("a point that is no pair");
-        };
-        points.push(Point {
-            x: coordinate(x)?,
-            y: coordinate(y)?,
-        })?;
+        points.push(point_of(pair)?)?;
     }
     Ok(points)
+}
+
+fn point_of(pair: &Value) -> Result<Point> {
+    let [x, y] = list(pair)?.as_slice() else {
+        bail!("a point that is no pair");
+    };
+    Ok(Point {
+        x: coordinate(x)?,
+        y: coordinate(y)?,
+    })
 }
 
 fn coordinate(value: &Value) -> Result<u32> {

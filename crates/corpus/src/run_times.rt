@@ -1,6 +1,8 @@
 //! How long a run over files takes, on one thread and over lanes.
 
-use crate::batches::read_files;
+ghost use Rattle.std.specs.Prelude.{◌≤◌};
+
+use crate::batches::{graphs_of, read_files};
 use anyhow::{Result, bail};
 use collector::{Batch, Choice, OpenGate, run_batch, run_plain};
 use std::rt::{Clock, Files};
@@ -29,6 +31,19 @@ pub fn time_lanes<R: Files + Print + AllocGlobal + Clock + Threads + Wait + Sync
     };
     let lanes = lanes.parse()?;
     let capacity = capacity.parse::<u32>()?.clamp(1, MAX_CAPACITY);
+    time_over(rt, names, lanes, capacity)
+}
+
+/// The same of so many lanes, and messages between two threads.
+fn time_over<R: Files + Print + AllocGlobal + Clock + Threads + Wait + Sync>(
+    rt: &R,
+    names: &[String],
+    lanes: u32,
+    capacity: u32,
+) -> Result<()>
+    requires least { 1 ≤ capacity }
+    requires most { capacity ≤ 64 }
+{
     let opener = read_files(rt, names)?;
     let count = u32::try_from(names.len())?;
     let start = Instant::now(rt)?;
@@ -47,11 +62,8 @@ pub fn time_lanes<R: Files + Print + AllocGlobal + Clock + Threads + Wait + Sync
 
 /// Prints how many graphs there are, and the time since the start.
 fn tell<R: Print + Clock>(rt: &R, batch: &Batch, start: Instant) -> Result<()> {
-    let taken = Instant::now(rt)?.duration_since(start);
-    let mut graphs: usize = 0;
-    for file in 0..batch.files() {
-        graphs = graphs.saturating_add(batch.book(file).entries().len());
-    }
-    println!(rt; "graphs={graphs} ns={}", taken.as_nanos())?;
+    let taken = Instant::now(rt)?.duration_since(start).as_nanos();
+    let graphs = graphs_of(batch);
+    println!(rt; "graphs={graphs} ns={taken}")?;
     Ok(())
 }

@@ -1,10 +1,10 @@
-ghost use Rattle.std.specs.Prelude.{IfOk};
+ghost use Rattle.std.specs.Prelude.{IfOk, OnOk};
 ghost use Rattle.ortho_rep.specs.Representation.{IsShape};
 
 use anyhow::{Context, Result, bail, ensure};
 use embedding::{Graph, ReadFault};
 use faces::{Plane, TraceFault};
-use ortho_rep::{Shape, certify, is_shape, least_shape};
+use ortho_rep::{Prices, Shape, certify, is_shape, least_shape};
 use planar_code::{Framer, Record};
 use std::alloc::Global;
 use std::fs;
@@ -24,15 +24,26 @@ pub enum Found {
     Traced(Plane),
 }
 
+/// The bytes of a file.
+pub fn read_file<R: Files + AllocGlobal>(rt: &R, name: &str) -> Result<Vec<u8>> {
+    fs::read(rt, name).context(format_args!("{name}"))
+}
+
 /// The records of a file.
 pub fn records_of<R: Files + AllocGlobal>(rt: &R, name: &str) -> Result<Vec<Record>> {
-    let bytes = fs::read(rt, name).context(format_args!("{name}"))?;
-    let alloc = rt.alloc();
+    let bytes = read_file(rt, name)?;
+    let records = split_bytes(rt.alloc(), bytes.as_slice())?;
+    records.context(format_args!("{name}: not the header and records"))
+}
+
+/// The records of bytes that are the header and records.
+fn split_bytes(alloc: Global, bytes: &[u8]) -> Result<Option<Vec<Record>>> {
     let mut framer = Framer::new(alloc)?;
     let mut records = Vec::new(alloc);
-    let fed = framer.feed(alloc, bytes.as_slice(), &mut records);
-    ensure!(fed.is_ok(), "{name}: not the header and records");
-    Ok(records)
+    match framer.feed(alloc, bytes, &mut records) {
+        Ok(()) => Ok(Some(records)),
+        Err(_) => Ok(None),
+    }
 }
 
 /// Prints a line for each graph of one file, and one for its end.
@@ -40,29 +51,46 @@ pub fn report<R: Files + Print + AllocGlobal>(rt: &R, name: &str, depth: Depth) 
     let records = records_of(rt, name)?;
     println!(rt; "{name}")?;
     for (place, record) in records.iter().enumerate() {
-        let number = place as u64 + 1;
-        match trace(rt.alloc(), record)? {
-            Found::Refused(word) => println!(rt; "graph {number} refused {word}")?,
-            Found::Traced(plane) => line(rt, number, &plane, depth)?,
-        }
+        report_record(rt, place as u64 + 1, record, depth)?;
     }
     let count = records.len();
     println!(rt; "end complete graphs={count}")?;
     Ok(())
 }
 
+/// Prints the line of a record.
+fn report_record<R: Print + AllocGlobal>(
+    rt: &R,
+    number: u64,
+    record: &Record,
+    depth: Depth,
+) -> Result<()> {
+    match trace(rt.alloc(), record)? {
+        Found::Refused(word) => println!(rt; "graph {number} refused {word}")?,
+        Found::Traced(plane) => line(rt, number, &plane, depth)?,
+    }
+    Ok(())
+}
+
 /// Prints the line of a plane.
 fn line<R: Print + AllocGlobal>(rt: &R, number: u64, plane: &Plane, depth: Depth) -> Result<()> {
+    print_sizes(rt, number, plane)?;
+    match depth {
+        Depth::Planes => println!(rt; "")?,
+        Depth::Shapes => {
+            let bends = least(rt.alloc(), plane)?.bends();
+            println!(rt; " bends={bends}")?;
+        }
+    }
+    Ok(())
+}
+
+/// Prints the beginning of a plane's line.
+fn print_sizes<R: Print>(rt: &R, number: u64, plane: &Plane) -> Result<()> {
     let n = plane.graph().vertices();
     let m = plane.graph().edges();
     let f = plane.face_count();
-    match depth {
-        Depth::Planes => println!(rt; "graph {number} ok n={n} m={m} f={f}")?,
-        Depth::Shapes => {
-            let bends = least(rt.alloc(), plane)?.bends();
-            println!(rt; "graph {number} ok n={n} m={m} f={f} bends={bends}")?;
-        }
-    }
+    print!(rt; "graph {number} ok n={n} m={m} f={f}")?;
     Ok(())
 }
 
@@ -71,9 +99,17 @@ pub fn least(alloc: Global, plane: &Plane) -> Result<Shape>
     ensures { IfOk result (IsShape plane.now) }
 {
     let (shape, prices) = least_shape(alloc, plane)?;
-    ensure!(is_shape(plane, &shape), "no orthogonal representation");
-    ensure!(certify(plane, &shape, &prices), "the prices prove nothing");
+    test_shape(plane, &shape, &prices)?;
     Ok(shape)
+}
+
+/// Tests that a shape is one of a plane, and that prices prove it least.
+pub fn test_shape(plane: &Plane, shape: &Shape, prices: &Prices) -> Result<()>
+    ensures { OnOk result (IsShape plane.now shape.now) }
+{
+    ensure!(is_shape(plane, shape), "no orthogonal representation");
+    ensure!(certify(plane, shape, prices), "the prices prove nothing");
+    Ok(())
 }
 
 /// The plane of a record, or the rule that it breaks.

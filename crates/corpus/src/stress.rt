@@ -2,10 +2,10 @@
 //! Each report must be that of a run on one thread. All numbers come from the seed: none from the time.
 ghost use Rattle.std.specs.Prelude.{◌<◌, ◌≤◌};
 
-use crate::batches::report_of;
+use crate::batches::{graphs_of, report_of, report_over};
 use crate::stages::records_of;
 use anyhow::{Context, Result, bail, ensure};
-use collector::{Batch, Choice, Gate, MAX_LANES, MemOpener, Stage, run_batch, run_plain};
+use collector::{Choice, Gate, MAX_LANES, MemOpener, Stage, run_plain};
 use planar_code::{HEADER, Record};
 use std::alloc::Global;
 use std::rt::{Clock, Files};
@@ -88,9 +88,20 @@ impl<R: Clock + Sync> Gate for Holding<'_, R> {
 /// What the rounds ran over.
 #[derive(Clone, Copy)]
 struct Tally {
-    files: u32,
+    files: u64,
     graphs: usize,
-    threads: u32,
+    threads: u64,
+}
+
+impl Tally {
+    /// The sum, as far as the numbers go.
+    fn plus(self, other: Tally) -> Tally {
+        Tally {
+            files: self.files.saturating_add(other.files),
+            graphs: self.graphs.saturating_add(other.graphs),
+            threads: self.threads.saturating_add(other.threads),
+        }
+    }
 }
 
 /// The first two words are a seed and how many rounds there are. The files behind them have the graphs of
@@ -102,12 +113,17 @@ pub fn run_random<R: Files + Print + AllocGlobal + Clock + Threads + Wait + Sync
     let [seed, rounds, names @ ..] = words else {
         bail!("after `stress` come a seed, a number of rounds, and files");
     };
-    let (seed, rounds) = (seed.parse::<u64>()?, rounds.parse::<u64>()?);
+    let records = all_records(rt, names)?;
+    run_rounds(rt, seed.parse()?, rounds.parse()?, records.as_slice())
+}
+
+/// The records of all these files.
+fn all_records<R: Files + AllocGlobal>(rt: &R, names: &[String]) -> Result<Vec<Record>> {
     let mut records = Vec::new(rt.alloc());
     for name in names {
         records.append(&mut records_of(rt, name)?)?;
     }
-    run_rounds(rt, seed, rounds, records.as_slice())
+    Ok(records)
 }
 
 /// Runs the rounds, each with a generator of its own, and prints what they ran over.
@@ -117,15 +133,21 @@ fn run_rounds<R: Print + AllocGlobal + Clock + Threads + Wait + Sync>(
     rounds: u64,
     records: &[Record],
 ) -> Result<()> {
-    let (mut files, mut graphs, mut threads) = (0u64, 0usize, 0u64);
+    let mut sum = Tally {
+        files: 0,
+        graphs: 0,
+        threads: 0,
+    };
     for round in 0..rounds {
         let seed = seed.wrapping_add(round);
         let found = run_round(rt, &Numbers::of(seed), records);
-        let found = found.context(format_args!("seed {seed}"))?;
-        files = files.saturating_add(u64::from(found.files));
-        graphs = graphs.saturating_add(found.graphs);
-        threads = threads.saturating_add(u64::from(found.threads));
+        sum = sum.plus(found.context(format_args!("seed {seed}"))?);
     }
+    tell(rt, rounds, sum)
+}
+
+fn tell<R: Print>(rt: &R, rounds: u64, sum: Tally) -> Result<()> {
+    let (files, graphs, threads) = (sum.files, sum.graphs, sum.threads);
     println!(rt; "rounds={rounds} files={files} graphs={graphs} threads={threads}")?;
     Ok(())
 }
@@ -141,36 +163,43 @@ fn run_round<R: AllocGlobal + Clock + Threads + Wait + Sync>(
     // Past the last file, one may be refused.
     let files = numbers.up_to(9);
     let choice = random_choice(numbers);
-    let plain = run_plain(alloc, &opener, files, choice)?;
-    let graphs = graphs_of(&plain);
-    let report = report_of(alloc, &plain)?;
-    drop(plain);
+    let (graphs, report) = plain_run(alloc, &opener, files, choice)?;
     let lanes = numbers.up_to(MAX_LANES - 1) + 1;
+    let found = random_run(rt, numbers, &opener, files, lanes, choice)?;
+    ensure!(found == report, "another report over {lanes} lanes");
+    Ok(Tally {
+        files: u64::from(files),
+        graphs,
+        threads: u64::from(4 * lanes),
+    })
+}
+
+/// How many records a run on one thread finds, and its report.
+fn plain_run(
+    alloc: Global,
+    opener: &MemOpener,
+    files: u32,
+    choice: Choice,
+) -> Result<(usize, Vec<u8>)> {
+    let batch = run_plain(alloc, opener, files, choice)?;
+    Ok((graphs_of(&batch), report_of(alloc, &batch)?))
+}
+
+/// The report of a run over lanes, with random room between them, that are held up at random.
+fn random_run<R: AllocGlobal + Clock + Threads + Wait + Sync>(
+    rt: &R,
+    numbers: &Numbers,
+    opener: &MemOpener,
+    files: u32,
+    lanes: u32,
+    choice: Choice,
+) -> Result<Vec<u8>> {
     let capacity = numbers.small(MAX_CAPACITY);
     let gate = Holding {
         rt,
         numbers: Numbers::of(numbers.next()),
     };
-    let run = run_batch(rt, alloc, &opener, files, lanes, capacity, choice, &gate)?;
-    let same = report_of(alloc, &run)? == report;
-    ensure!(
-        same,
-        "another report over {lanes} lanes with room for {capacity}"
-    );
-    Ok(Tally {
-        files,
-        graphs,
-        threads: 4 * lanes,
-    })
-}
-
-/// How many records a batch has.
-fn graphs_of(batch: &Batch) -> usize {
-    let mut graphs: usize = 0;
-    for file in 0..batch.files() {
-        graphs = graphs.saturating_add(batch.book(file).entries().len());
-    }
-    graphs
+    report_over(rt, opener, files, lanes, capacity, choice, &gate)
 }
 
 /// Mostly the widest outer face.
@@ -199,6 +228,12 @@ fn random_file(alloc: Global, numbers: &Numbers, records: &[Record]) -> Result<V
         let record = records.get(place).context("no records")?;
         bytes.extend_from_slice(record.bytes())?;
     }
+    damage(numbers, &mut bytes);
+    Ok(bytes)
+}
+
+/// Cuts one of eight files, and changes a byte of another.
+fn damage(numbers: &Numbers, bytes: &mut Vec<u8>) {
     let place = numbers.next() as usize % bytes.len().max(1);
     match numbers.up_to(7) {
         0 => bytes.truncate(place),
@@ -209,5 +244,4 @@ fn random_file(alloc: Global, numbers: &Numbers, records: &[Record]) -> Result<V
         }
         _ => {}
     }
-    Ok(bytes)
 }

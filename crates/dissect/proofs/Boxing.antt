@@ -9,14 +9,13 @@ use Rattle.faces.proofs.Ends.{plane_ends, seven_rules}
 use Rattle.ortho_rep.specs.Shapes.{Figure, angle_at, turns_at}
 use Rattle.ortho_rep.specs.Edges.{is_lesser, lesser_darts}
 use Rattle.ortho_rep.proofs.EdgeNumbers.{edge_total, length-lesser}
-use Rattle.headings.specs.Headings.{AreHeadings}
 use Rattle.cutting.specs.declared.table.DartTable.{DartTable}
 use Rattle.cutting.specs.Webs.{Web, IsSound, excess, no_dart}
 use Rattle.cutting.specs.Tables.{web_of}
 use Rattle.cutting.specs.Faces.{AreWaiting, ReachesCorners}
 use Rattle.cutting.specs.Paths.{HasPaths, IsJoined, IsPath}
 use Rattle.cutting.specs.Frames.{IsEnclosed}
-use Rattle.bending.specs.Bends.{CountsBends, KeepsDarts, KeepsFaces}
+use Rattle.bending.specs.Bends.{AreHeadings, CountsBends, KeepsDarts, KeepsFaces}
 use Rattle.bending.specs.Steps.{angle_of}
 use Rattle.edge_paths.specs.Rows.{AreRows}
 use Rattle.edge_paths.proofs.Framing.{enclosed_paths, enclosed_joined}

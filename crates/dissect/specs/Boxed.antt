@@ -4,11 +4,10 @@ use Rattle.faces.specs.Map.{Map, darts, vertices, head, mate, next}
 use Rattle.ortho_rep.specs.Shapes.{Figure, angle_at, turns_at}
 use Rattle.ortho_rep.specs.Edges.{lesser_darts}
 use Rattle.ortho_rep.specs.Representation.{bends_of}
-use Rattle.headings.specs.Headings.{AreHeadings}
 use Rattle.cutting.specs.Webs.{Web, IsSound}
 use Rattle.cutting.specs.Faces.{In, Distinct}
 use Rattle.cutting.specs.Paths.{HasPaths, IsPath}
-use Rattle.bending.specs.Bends.{CountsBends, KeepsDarts, KeepsFaces}
+use Rattle.bending.specs.Bends.{AreHeadings, CountsBends, KeepsDarts, KeepsFaces}
 use Rattle.bending.specs.Steps.{angle_of}
 use Rattle.edge_paths.specs.Rows.{AreRows}
 use Rattle.dissect.specs.Boxes.{Parts, AreBoxes, web}

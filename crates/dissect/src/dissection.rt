@@ -6,10 +6,9 @@ ghost use Rattle.dissect.specs.Boxed.{IsBoxed};
 
 use crate::boxes::Boxes;
 use crate::parts::{lesser_darts_of, outer_dart, paths_of};
-use bending::bend;
+use bending::{bend, headings};
 use enclosing::enclose;
 use faces::Plane;
-use headings::headings;
 use ortho_rep::Shape;
 use std::alloc::{AllocError, Global};
 

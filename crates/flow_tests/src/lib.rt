@@ -4,4 +4,6 @@
 #[cfg(test)]
 mod plain;
 #[cfg(test)]
+mod standing;
+#[cfg(test)]
 mod tests;

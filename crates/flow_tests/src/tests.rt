@@ -1,9 +1,10 @@
 //! What no clause says: that calls succeed on ample memory, and that the least costs are those that
 //! other solvers found.
 ghost use Rattle.std.specs.Prelude.{◌<◌};
+ghost use Rattle.networks.specs.Flow.{Solves};
 
 use crate::plain;
-use min_cost_flow::{Arc, Cap, NetFault, Network, SolveFault, solve};
+use min_cost_flow::{Arc, Cap, NetFault, Network, SolveFault, Solved, solve};
 use std::alloc::{AllocError, Global};
 use std::process::Abort;
 use std::test::Fail;
@@ -33,6 +34,13 @@ fn least_cost(alloc: Global, network: &Network) -> Result<Option<u64>, SolveFaul
         Err(SolveFault::Infeasible) => return Ok(None),
         Err(SolveFault::Memory) => return Err(SolveFault::Memory),
     };
+    Ok(Some(cost_of(network, &solved)))
+}
+
+/// What a solution costs.
+pub(crate) fn cost_of(network: &Network, solved: &Solved) -> u64
+    requires { Solves network.now solved.now }
+{
     let mut total = 0u64;
     for i in 0..network.arc_count() {
         let units = u64::from(solved.flow(i as u32));
@@ -40,7 +48,7 @@ fn least_cost(alloc: Global, network: &Network) -> Result<Option<u64>, SolveFaul
             total = total.saturating_add(units);
         }
     }
-    Ok(Some(total))
+    total
 }
 
 #[test]
@@ -148,12 +156,12 @@ fn faults_say_what_is_wrong(rt: HostRuntime) -> Result<(), Fail> {
 
 /// A linear congruential generator (Knuth's MMIX constants), its upper 31 bits.
 #[derive(Drop)]
-struct Numbers {
-    state: u64,
+pub(crate) struct Numbers {
+    pub state: u64,
 }
 
 impl Numbers {
-    fn below(&mut self, bound: u32) -> u32
+    pub fn below(&mut self, bound: u32) -> u32
         requires { 0 < bound }
         ensures { result < bound }
     {
@@ -164,7 +172,7 @@ impl Numbers {
 }
 
 /// The next of the random networks, made as `bench/networks/least_costs.py` makes it.
-fn random_network(
+pub(crate) fn random_network(
     alloc: Global,
     numbers: &mut Numbers,
 ) -> Result<Result<Network, NetFault>, AllocError> {

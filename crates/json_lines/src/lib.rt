@@ -6,4 +6,4 @@ mod entry;
 mod lines;
 mod objects;
 
-pub use lines::{end_line, entry_line, laid_line};
+pub use lines::{end_line, entry_line, lacking_line, laid_line};

@@ -4,6 +4,7 @@ ghost use Rattle.serde_json.specs.View.{view};
 ghost use Rattle.serde_json.specs.Written.{has_float};
 ghost use Rattle.ortho_rep.specs.Representation.{HasDarts};
 ghost use Rattle.ortho_rep.specs.Prices.{HasPrices};
+ghost use Rattle.entries.specs.declared.found.Answer.TheVariants.{NoMemory};
 ghost use Rattle.json_lines.specs.Lines.{answer_data, end_data, laid_data, line_of};
 
 use crate::entry::{memory_value, refused_value};
@@ -37,8 +38,20 @@ pub fn entry_line(
             drawing,
         } => laid_line(alloc, file, graph, plane, shape, prices, drawing),
         Answer::Refused(rule) => line(alloc, &refused_value(alloc, file, graph, *rule)?),
-        Answer::NoMemory => line(alloc, &memory_value(alloc, file, graph)?),
+        Answer::NoMemory => lacking_line(alloc, file, graph),
     }
+}
+
+/// The line of a graph that has no answer for want of memory, with the byte 0A at its end. It takes a few
+/// allocations.
+///
+/// # Errors
+///
+/// `AllocError` where there is no memory for the line.
+pub fn lacking_line(alloc: Global, file: u32, graph: u64) -> Result<Vec<u8>, AllocError>
+    ensures { IfOk result (λ line. line.items ≡ line_of (answer_data file graph NoMemory)) }
+{
+    line(alloc, &memory_value(alloc, file, graph)?)
 }
 
 /// The line of a graph that breaks no rule, of which these are a shape, prices and a drawing or the cause

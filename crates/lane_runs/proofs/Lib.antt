@@ -1,3 +1,4 @@
+pub mod Ending
 pub mod Telling
 pub mod Seats
 pub mod Merging

@@ -1,5 +1,6 @@
 -- Lanes that run, and those that do not.
-use Rattle.std.specs.Prelude.{◌≡◌, ℕ, ◌+◌, List, [], ◌∷◌, ⊤}
+use Rattle.std.specs.Prelude.{◌≡◌, ℕ, ◌+◌, List, [], ◌∷◌, All, true, Result, Ok, Err, Vec, vec_len, ⊤}
+use Rattle.std.specs.declared.alloc.Global.{Global}
 use Rattle.crossbeam_channel.specs.Ends.{sends_on, receives_on}
 use Rattle.choices.specs.declared.Choice.{Choice}
 use Rattle.ruled_lanes.specs.declared.fan_ends.LaneGiver.{LaneGiver}
@@ -7,10 +8,15 @@ use Rattle.ruled_lanes.specs.declared.fan_ends.Gatherer.{Gatherer}
 use Rattle.ruled_lanes.specs.declared.dealing.Tickets.{Tickets}
 use Rattle.ruled_lanes.specs.declared.dealing.Seat.{Seat}
 use Rattle.ruled_lanes.specs.FanEnds.{lane_of, given_at}
+use Rattle.ruled_lanes.specs.TicketRule.{times}
+use Rattle.ruled_lanes.specs.TicketSeats.{all_drawn, has_ended, IsSeatOf}
 use Rattle.lanes.specs.declared.message.Message.{Message}
-use Rattle.lanes.specs.Notes.{About}
+use Rattle.lanes.specs.Notes.{About, Note}
 use Rattle.lanes.specs.Opening.{Meaning}
+use Rattle.lanes.specs.Files.{HasFile}
 use Rattle.lane_runs.specs.Lanes.{TellsSeat}
+use Rattle.lane_runs.specs.declared.fault.RunFault.{RunFault}
+use Rattle.lane_runs.specs.Faults.{EndsRun}
 
 -- each element fits its number; the first has this one
 abbrev pub AreNumbered : {X : Type 0} → (ℕ → X → Type 0) → ℕ → List X → Type 0
@@ -48,3 +54,13 @@ module _ {E : Type 0} where
   HaveRun about choice meaning tickets fan lane (giver ∷ givers) (seat ∷ seats) =
       HasRun about choice meaning tickets fan lane giver seat × HaveRun about choice meaning tickets fan (lane + 1) givers seats
   HaveRun about choice meaning tickets fan lane _ _ = ⊥
+
+-- What a run leaves of a consumer, and which seats it gives back: so many, all of these tickets, each of which has drawn until
+-- none was left; then the consumer holds notes that tell all of each file that was drawn once.
+abbrev pub HasEnded : {C F : Type 0} → (C → List Note → Type 0) → (C → F → Type 0) → Choice → (ℕ → Meaning) → Tickets → ℕ → C
+    → Result (Vec Seat Global) (RunFault F) → Type 0
+HasEnded holds gave_up choice meaning tickets count consumer (Ok seats) =
+    (vec_len seats ≡ count) × All (λ s. IsSeatOf tickets s × (has_ended s ≡ true)) seats.items
+    × ((ns : List Note) × holds consumer ns
+    × ((file : ℕ) → times file (all_drawn seats.items) ≡ 1 → HasFile choice (meaning file) file ns))
+HasEnded holds gave_up choice meaning tickets count consumer (Err fault) = EndsRun (gave_up consumer) (holds consumer) fault

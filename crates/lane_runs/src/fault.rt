@@ -1,9 +1,10 @@
 //! Why lanes come to nothing.
+ghost use Rattle.lane_runs.specs.Faults.{IsOfLanes};
 
-/// Why a lane, or a run of lanes, came to nothing.
+/// Why a lane came to nothing.
 #[derive(Clone, Copy, Debug, PartialEq, Eq)]
 pub enum LaneFault {
-    /// There was no memory for links, the fan, tickets, a buffer, drafts, or the lists of lanes.
+    /// There was no memory for links, the fan, a buffer, or the lists of lanes.
     Memory,
     /// An end of a link or of the fan was gone.
     Lost,
@@ -11,4 +12,29 @@ pub enum LaneFault {
     Thread,
     /// The gatherer was gone, so that the stop of the lane was refused.
     StopRefused,
+}
+
+/// Why a run of lanes came to nothing.
+#[derive(Drop)]
+pub enum RunFault<F: Drop> {
+    /// There was no memory for links, the fan, tickets, buffers, or the lists of lanes.
+    Memory,
+    /// An end of a link or of the fan was gone.
+    Lost,
+    /// A thread could not be started.
+    Thread,
+    /// The consumer refused a message.
+    Refused(F),
+}
+
+impl<F: Drop> From<LaneFault> for RunFault<F> {
+    fn from(fault: LaneFault) -> RunFault<F>
+        ensures { IsOfLanes result }
+    {
+        match fault {
+            LaneFault::Memory => RunFault::Memory,
+            LaneFault::Lost | LaneFault::StopRefused => RunFault::Lost,
+            LaneFault::Thread => RunFault::Thread,
+        }
+    }
 }

@@ -1,24 +1,23 @@
 //! What the calling thread makes of the lanes that run.
-ghost use Rattle.std.specs.Prelude.{◌≡◌, ◌≤◌, ◌<◌, ◌+◌, ℕ, [], All, IfOk, true, vec_len};
+ghost use Rattle.std.specs.Prelude.{◌≡◌, ◌≤◌, ◌+◌, ℕ, List, [], All, IfOk, IfErr, true, vec_len};
 ghost use Rattle.ruled_lanes.specs.declared.limits.TheConstants.{LANES};
 ghost use Rattle.ruled_lanes.specs.FanEnds.{gathered};
 ghost use Rattle.ruled_lanes.specs.TicketRule.{times};
 ghost use Rattle.ruled_lanes.specs.TicketSeats.{all_drawn, has_ended, IsSeatOf};
-ghost use Rattle.lanes.specs.Notes.{notes};
-ghost use Rattle.lanes.specs.Drafts.{AreDrafts};
-ghost use Rattle.lanes.specs.Files.{HasFile, AreReady};
+ghost use Rattle.lanes.specs.Notes.{Note, notes};
+ghost use Rattle.lanes.specs.Files.{HasFile};
 ghost use Rattle.lanes.specs.Fans.{untagged, HaveStopped};
 ghost use Rattle.lane_runs.specs.Running.{AreNumbered, IsIdle, IsRunning};
+ghost use Rattle.lane_runs.specs.Faults.{EndsRun};
 
-use crate::fault::LaneFault;
+use crate::fault::{LaneFault, RunFault};
 use crate::running::{LaneEnd, Running};
 use choices::Choice;
-use lanes::{Draft, Message, Numbered, Opener, gather};
+use lanes::{Consumer, GatherFault, Message, Numbered, Opener, gather};
 use ruled_lanes::{Gatherer, LaneGiver, Seat, Tickets};
 use std::alloc::Global;
 use std::sync::Wait;
 use std::thread::Threads;
-use streams::BatchFault;
 
 /// Joins the threads of the lanes and takes in the fan, with the givers of the lanes that do not run. So
 /// what was taken of each lane is all that it told, and a file that one seat drew was told whole. The seats
@@ -63,9 +62,9 @@ fn join_lanes<E: Numbered, R: Threads + Wait + Sync, O: Opener>(
     Ok(seats)
 }
 
-/// Takes all that the lanes give, up to the stop of each, and joins their threads. If then each file was
-/// drawn once, its draft is all of it. The drafts and the seats are given back.
-pub fn finish_lanes<E: Numbered, R: Threads + Wait + Sync, O: Opener>(
+/// Hands all that the lanes give, up to the stop of each, to the consumer, and joins their threads. Then the
+/// consumer holds all of each file that one seat drew. The seats are given back.
+pub fn finish_lanes<E: Numbered, C: Consumer<E>, R: Threads + Wait + Sync, O: Opener>(
     rt: &R,
     alloc: Global,
     opener: &O,
@@ -74,27 +73,31 @@ pub fn finish_lanes<E: Numbered, R: Threads + Wait + Sync, O: Opener>(
     gatherer: Gatherer<Message<E>>,
     running: Vec<Running<E, O>>,
     idle: Vec<LaneGiver<Message<E>>>,
-    mut drafts: Vec<Draft<E>>,
-) -> Result<(Vec<Draft<E>>, Vec<Seat>), LaneFault>
+    consumer: &mut C,
+) -> Result<Vec<Seat>, RunFault<C::Refusal>>
     requires some { 1 ≤ vec_len running }
     requires lanes { vec_len running + vec_len idle ≡ LANES }
     requires running { AreNumbered (λ lane r. IsRunning gatherer choice opener.now tickets.now lane
         r.promise.choice r.promise.opener.value r.promise.tickets.value r.promise.giver.value) 0 running.items }
     requires idle { AreNumbered (IsIdle gatherer) (vec_len running) idle.items }
     requires none_gathered { gathered gatherer ≡ [] }
-    requires empty { AreDrafts E.about 0 [] drafts.items }
-    ensures files { IfOk result (λ r. vec_len r.0 ≡ vec_len drafts) }
-    ensures count { IfOk result (λ r. vec_len r.1 ≡ vec_len running) }
-    ensures seats { IfOk result (λ r. All (λ s. IsSeatOf tickets.now s × (has_ended s ≡ true)) r.1.items) }
-    ensures ready { IfOk result (λ r. ((file : ℕ) → file < vec_len r.0 → times file (all_drawn r.1.items) ≡ 1)
-        → AreReady E.about choice (O.meaning opener.now) 0 r.0.items) }
+    requires empty { C.holds consumer.old [] }
+    ensures count { IfOk result (λ seats. vec_len seats ≡ vec_len running) }
+    ensures seats { IfOk result (λ seats. All (λ s. IsSeatOf tickets.now s × (has_ended s ≡ true)) seats.items) }
+    ensures told { IfOk result (λ seats. (ns : List Note) × C.holds consumer.new ns
+        × ((file : ℕ) → times file (all_drawn seats.items) ≡ 1 → HasFile choice (O.meaning opener.now file) file ns)) }
+    ensures ended { IfErr result (EndsRun (C.gave_up consumer.new) (C.holds consumer.new)) }
+    ensures stays { C.stays consumer.old consumer.new }
 {
     let lanes = running.len() as u32;
-    let gatherer = match gather(rt, alloc, gatherer, lanes, &mut drafts) {
+    let gatherer = match gather(rt, alloc, gatherer, lanes, consumer) {
         Ok(gatherer) => gatherer,
-        Err(BatchFault::Memory) => return Err(LaneFault::Memory),
-        Err(_) => return Err(LaneFault::Lost),
+        Err(GatherFault::Memory) => return Err(RunFault::Memory),
+        Err(GatherFault::LaneLost) => return Err(RunFault::Lost),
+        Err(GatherFault::Refused(refusal)) => return Err(RunFault::Refused(refusal)),
     };
-    let seats = join_lanes(rt, alloc, opener, choice, tickets, gatherer, running, idle)?;
-    Ok((drafts, seats))
+    match join_lanes(rt, alloc, opener, choice, tickets, gatherer, running, idle) {
+        Ok(seats) => Ok(seats),
+        Err(fault) => Err(RunFault::from(fault)),
+    }
 }

@@ -1,5 +1,5 @@
 //! Lanes that run: each draws files until none is left and works on their records in four threads, and
-//! the calling thread gathers the drafts of all files from one fan. What the stages do is the line's.
+//! the calling thread hands what they give from one fan to a consumer. What the stages do is the line's.
 #![tactic(auto)]
 
 mod fault;
@@ -14,6 +14,6 @@ mod run;
 mod running;
 mod starting;
 
-pub use fault::LaneFault;
+pub use fault::RunFault;
 pub use line::Line;
-pub use run::drafts_of_lanes;
+pub use run::run_lanes;

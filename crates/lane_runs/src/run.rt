@@ -1,21 +1,21 @@
 //! All lanes of a run.
-ghost use Rattle.std.specs.Prelude.{◌≡◌, ◌≤◌, ◌<◌, ℕ, [], All, IfOk, true, vec_len};
+ghost use Rattle.std.specs.Prelude.{◌≡◌, ◌≤◌, ◌<◌, List, [], All, IfOk, IfErr, vec_len};
 ghost use Rattle.ruled_lanes.specs.declared.limits.TheConstants.{LANES, MAX_CAPACITY, MAX_TICKETS};
 ghost use Rattle.ruled_lanes.specs.FanEnds.{gathered, given_at};
-ghost use Rattle.ruled_lanes.specs.TicketRule.{times};
-ghost use Rattle.ruled_lanes.specs.TicketSeats.{all_drawn, has_ended, IsSeatOf, IsUnused};
-ghost use Rattle.lanes.specs.Drafts.{AreDrafts};
-ghost use Rattle.lanes.specs.Files.{AreReady};
-ghost use Rattle.lane_runs.specs.Running.{AreNumbered, IsIdle};
+ghost use Rattle.ruled_lanes.specs.TicketSeats.{IsSeatOf, IsUnused};
+ghost use Rattle.lanes.specs.Notes.{Note};
+ghost use Rattle.lanes.specs.Files.{AreToldWhole};
+ghost use Rattle.lane_runs.specs.Running.{AreNumbered, IsIdle, HasEnded};
+ghost use Rattle.lane_runs.specs.Faults.{EndsRun};
 
-use crate::fault::LaneFault;
+use crate::fault::{LaneFault, RunFault};
 use crate::joining::finish_lanes;
 use crate::lane::run_lane;
 use crate::line::Line;
 use crate::new_lanes::new_fan;
 use crate::running::{LaneEnd, Promised, Running};
 use choices::Choice;
-use lanes::{Draft, Gate, Message, Opener, empty_drafts};
+use lanes::{Consumer, Gate, Message, Opener};
 use ruled_lanes::{Gatherer, LaneGiver, Seat, Tickets};
 use std::alloc::Global;
 use std::snapshot::Snapshot;
@@ -23,15 +23,15 @@ use std::sync::Wait;
 use std::thread;
 use std::thread::{Scope, Threads};
 
-/// The drafts of the first `files` files of the opener, each all of its file under this choice of the outer
-/// face: so many lanes run in threads of their own and draw the files as they become free, and this thread
-/// gathers what they give from one fan.
+/// Runs so many lanes over the first `files` files of the opener, in threads of their own, which draw the files as
+/// they become free, and hands what they give from one fan to the consumer, on this thread. The consumer is given
+/// back; where the run ends well, it holds all of each file under this choice of the outer face.
 ///
 /// # Errors
 ///
-/// `Memory`: there was none for links, the fan, tickets, buffers or drafts. `Lost`: an end of a link or of
-/// the fan was gone. `Thread`: a thread could not be started. `StopRefused`: the stop of a lane was refused.
-pub fn drafts_of_lanes<L: Line, R: Threads + Wait + Sync, O: Opener, G: Gate>(
+/// `Memory`: there was none for links, the fan, tickets or buffers. `Lost`: an end of a link or of the fan was
+/// gone. `Thread`: a thread could not be started. `Refused`: the consumer refused a message.
+pub fn run_lanes<L: Line, C: Consumer<L::Entry>, R: Threads + Wait + Sync, O: Opener, G: Gate>(
     rt: &R,
     alloc: Global,
     opener: &O,
@@ -40,47 +40,74 @@ pub fn drafts_of_lanes<L: Line, R: Threads + Wait + Sync, O: Opener, G: Gate>(
     lanes: u32,
     capacity: u32,
     choice: Choice,
-) -> Result<Vec<Draft<L::Entry>>, LaneFault>
+    consumer: C,
+) -> (C, Result<(), RunFault<C::Refusal>>)
     requires some { 0 < lanes }
     requires few { (files ≤ MAX_TICKETS) × (lanes ≤ LANES) }
     requires least { 1 ≤ capacity }
     requires most { capacity ≤ MAX_CAPACITY }
-    ensures count { IfOk result (λ drafts. vec_len drafts ≡ files) }
-    ensures ready { IfOk result (λ drafts. AreReady L.Entry.about choice (O.meaning opener.now) 0 drafts.items) }
+    requires empty { C.holds consumer [] }
+    ensures told { IfOk result.1 (λ _. (ns : List Note) × C.holds result.0 ns
+        × AreToldWhole choice (O.meaning opener.now) files ns) }
+    ensures ended { IfErr result.1 (EndsRun (C.gave_up result.0) (C.holds result.0)) }
+    ensures stays { C.stays consumer result.0 }
 {
-    let Ok(drafts) = empty_drafts::<L::Entry>(alloc, files) else {
-        return Err(LaneFault::Memory);
-    };
     let Ok((tickets, seats)) = Tickets::new(alloc, files, lanes) else {
-        return Err(LaneFault::Memory);
+        return (consumer, Err(RunFault::Memory));
     };
-    let (givers, gatherer) = new_fan::<L::Entry>(alloc, capacity)?;
+    let (givers, gatherer) = match new_fan::<L::Entry>(alloc, capacity) {
+        Ok(made) => made,
+        Err(fault) => return (consumer, Err(RunFault::from(fault))),
+    };
     let dealt = &tickets;
-    let (drafts, seats) = thread::scope(
+    let (consumer, ran) = thread::scope(
         thread::scope_env(),
         rt,
-        move |scope| -> Result<(Vec<Draft<L::Entry>>, Vec<Seat>), LaneFault>
+        move |scope| -> (C, Result<Vec<Seat>, RunFault<C::Refusal>>)
             requires { (1 ≤ capacity) × (capacity ≤ MAX_CAPACITY) × (1 ≤ vec_len seats) × (vec_len seats ≤ LANES)
                 × All (IsSeatOf dealt.now) seats.items × All IsUnused seats.items
                 × (vec_len givers ≡ LANES) × AreNumbered (IsIdle gatherer) 0 givers.items × (gathered gatherer ≡ [])
-                × AreDrafts L.Entry.about 0 [] drafts.items }
-            ensures { IfOk result (λ r. (vec_len r.0 ≡ vec_len drafts) × (vec_len r.1 ≡ vec_len seats)
-                × All (λ s. IsSeatOf dealt.entry.now s × (has_ended s ≡ true)) r.1.items
-                × (((file : ℕ) → file < vec_len r.0 → times file (all_drawn r.1.items) ≡ 1)
-                → AreReady L.Entry.about choice (O.meaning opener.entry.now) 0 r.0.items)) }
+                × C.holds consumer [] }
+            ensures { HasEnded C.holds C.gave_up choice (O.meaning opener.entry.now) dealt.entry.now (vec_len seats) result.0 result.1
+                × C.stays consumer result.0 }
         {
-            run_lanes::<_, L, _, _, _>(
-                scope, rt, alloc, opener, gate, choice, dealt, capacity, seats, givers, gatherer,
-                drafts,
-            )
+            let mut consumer = consumer;
+            let ran = start_lanes::<_, L, _, _, _, _>(
+                scope,
+                rt,
+                alloc,
+                opener,
+                gate,
+                choice,
+                dealt,
+                capacity,
+                seats,
+                givers,
+                gatherer,
+                &mut consumer,
+            );
+            (consumer, ran)
         },
-    )?;
-    tickets.close(seats);
-    Ok(drafts)
+    );
+    match ran {
+        Ok(seats) => {
+            tickets.close(seats);
+            (consumer, Ok(()))
+        }
+        Err(fault) => (consumer, Err(fault)),
+    }
 }
 
 /// Starts a lane for each seat and gathers what they give. The givers of the other lanes stay here.
-fn run_lanes<'s, E, L: Line + 's, R: Threads + Wait + Sync, O: Opener, G: Gate>(
+fn start_lanes<
+    's,
+    E,
+    L: Line + 's,
+    C: Consumer<L::Entry>,
+    R: Threads + Wait + Sync,
+    O: Opener,
+    G: Gate,
+>(
     scope: &'s Scope<'s, E>,
     rt: &'s R,
     alloc: Global,
@@ -92,8 +119,8 @@ fn run_lanes<'s, E, L: Line + 's, R: Threads + Wait + Sync, O: Opener, G: Gate>(
     mut seats: Vec<Seat>,
     givers: Vec<LaneGiver<Message<L::Entry>>>,
     gatherer: Gatherer<Message<L::Entry>>,
-    drafts: Vec<Draft<L::Entry>>,
-) -> Result<(Vec<Draft<L::Entry>>, Vec<Seat>), LaneFault>
+    consumer: &mut C,
+) -> Result<Vec<Seat>, RunFault<C::Refusal>>
     requires least { 1 ≤ capacity }
     requires most { capacity ≤ MAX_CAPACITY }
     requires some { (1 ≤ vec_len seats) × (vec_len seats ≤ LANES) }
@@ -102,37 +129,37 @@ fn run_lanes<'s, E, L: Line + 's, R: Threads + Wait + Sync, O: Opener, G: Gate>(
     requires lanes { vec_len givers ≡ LANES }
     requires idle { AreNumbered (IsIdle gatherer) 0 givers.items }
     requires none_gathered { gathered gatherer ≡ [] }
-    requires empty { AreDrafts L.Entry.about 0 [] drafts.items }
-    ensures files { IfOk result (λ r. vec_len r.0 ≡ vec_len drafts) }
-    ensures count { IfOk result (λ r. vec_len r.1 ≡ vec_len seats) }
-    ensures seats { IfOk result (λ r. All (λ s. IsSeatOf tickets.now s × (has_ended s ≡ true)) r.1.items) }
-    ensures ready { IfOk result (λ r. ((file : ℕ) → file < vec_len r.0 → times file (all_drawn r.1.items) ≡ 1)
-        → AreReady L.Entry.about choice (O.meaning opener.now) 0 r.0.items) }
+    requires empty { C.holds consumer.old [] }
+    ensures ended { HasEnded C.holds C.gave_up choice (O.meaning opener.now) tickets.now (vec_len seats) consumer.new result }
+    ensures stays { C.stays consumer.old consumer.new }
 {
     let mut running = match Vec::with_capacity(alloc, seats.len()) {
         Ok(running) => running,
-        Err(_) => return Err(LaneFault::Memory),
+        Err(_) => return Err(RunFault::Memory),
     };
     let mut idle = Vec::new(alloc);
     for giver in givers {
         match seats.pop() {
             Some(seat) => {
-                let started = start_lane::<_, L, _, _, _>(
+                let started = match start_lane::<_, L, _, _, _>(
                     scope, rt, alloc, opener, gate, choice, tickets, capacity, seat, giver,
-                )?;
+                ) {
+                    Ok(started) => started,
+                    Err(fault) => return Err(RunFault::from(fault)),
+                };
                 match running.push(started) {
                     Ok(()) => {}
-                    Err(_) => return Err(LaneFault::Memory),
+                    Err(_) => return Err(RunFault::Memory),
                 }
             }
             None => match idle.push(giver) {
                 Ok(()) => {}
-                Err(_) => return Err(LaneFault::Memory),
+                Err(_) => return Err(RunFault::Memory),
             },
         }
     }
     finish_lanes(
-        rt, alloc, opener, choice, tickets, gatherer, running, idle, drafts,
+        rt, alloc, opener, choice, tickets, gatherer, running, idle, consumer,
     )
 }
 

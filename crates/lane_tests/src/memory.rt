@@ -17,6 +17,7 @@ fn a_link_takes_no_memory(rt: HostRuntime) {
 #[test]
 fn a_fan_takes_no_memory(rt: HostRuntime) {
     if let Ok((mut givers, mut gatherer)) = fan_in(rt.alloc(), 2) {
+        assert!(rt; givers[1].lane() == 1);
         assert!(rt; givers[1].give(&rt, 5u32).is_ok());
         assert!(rt; givers[7].give(&rt, 6).is_ok());
         assert!(rt; gatherer.take(&rt) == Ok((1, 5)));

@@ -10,8 +10,6 @@ use Rattle.ruled_lanes.proofs.Fans.{of_lane-append}
 use Rattle.lanes.specs.declared.message.Message.{Message}
 use Rattle.lanes.specs.declared.message.Message.TheVariants.{Stop}
 use Rattle.lanes.specs.Notes.{About, Note, note, notes}
-use Rattle.lanes.specs.declared.drafts.Draft.{Draft}
-use Rattle.lanes.specs.Drafts.{AreDrafts}
 use Rattle.lanes.specs.Fans.{HasStop, untagged, HaveStopped, AreStops}
 use Rattle.lanes.proofs.Dealing.{notes-append}
 
@@ -73,14 +71,13 @@ module _ {T : Type 0} where
   pub none_noted : (about : T → About) (items : List (ℕ × Message T)) (n : ℕ) → AreStops about items (replicate n false)
   none_noted about items n = λ lane is. absurd (none_true n lane is)
 
-  -- drafts of one message more, whatever its lane
-  pub drafts_more : (about : T → About) (before after : List (ℕ × Message T)) (x : ℕ × Message T) (n : Note) (drafts : List (Draft T))
-      → after ≡ before ++ x ∷ [] → note about x.1 ≡ n → AreDrafts about 0 (notes about (untagged before) ++ n ∷ []) drafts → AreDrafts about 0 (notes about (untagged after)) drafts
-  drafts_more about before after x n drafts more is are =
+  -- the notes of one message more, whatever its lane
+  pub told_more : (about : T → About) (before after : List (ℕ × Message T)) (x : ℕ × Message T) (n : Note)
+      → after ≡ before ++ x ∷ [] → note about x.1 ≡ n → notes about (untagged after) ≡ notes about (untagged before) ++ n ∷ []
+  told_more about before after x n more is =
       let f : ℕ × Message T → Message T = λ y. y.1 in
-      let whole : notes about (untagged after) ≡ notes about (untagged before) ++ note about x.1 ∷ [] =
-      ap (λ l. notes about (untagged l)) more ∙ ap (notes about) (map-append f before (x ∷ [])) ∙ notes-append about (untagged before) (x.1 ∷ []) in
-      subst (λ l. AreDrafts about 0 l drafts) (sym (whole ∙ ap (λ m. notes about (untagged before) ++ m ∷ []) is)) are
+      ap (λ l. notes about (untagged l)) more ∙ ap (notes about) (map-append f before (x ∷ [])) ∙ notes-append about (untagged before) (x.1 ∷ [])
+      ∙ ap (λ m. notes about (untagged before) ++ m ∷ []) is
 
   -- where no lane is left, each has stopped
   pub all_stopped : (about : T → About) (items : List (ℕ × Message T)) (Passes : Bool → Type 0) → (Passes false → ⊥) → (stops : List Bool) (lanes : ℕ) → length stops ≡ lanes

@@ -1,5 +1,5 @@
 -- What a lane tells of its files.
-use Rattle.std.specs.Prelude.{◌≡◌, ℕ, ◌+◌, List, [], ◌∷◌, Some, ⊤}
+use Rattle.std.specs.Prelude.{◌≡◌, ℕ, ◌+◌, ◌<◌, List, [], ◌∷◌, Some, ⊤}
 use Rattle.ruled_lanes.specs.TicketRule.{times}
 use Rattle.streams.specs.declared.found.Mark.{Mark}
 use Rattle.choices.specs.declared.Choice.{Choice}
@@ -15,6 +15,10 @@ pub record HasFile (choice : Choice) (meaning : Meaning) (file : ℕ) (ns : List
   pub mark : Mark
   pub told : of_file file ns ≡ file_notes choice file records mark
   pub found : IsFoundAt meaning records mark
+
+-- so of each file below this number
+abbrev pub AreToldWhole : Choice → (ℕ → Meaning) → ℕ → List Note → Type 0
+AreToldWhole choice meaning files ns = (file : ℕ) → file < files → HasFile choice (meaning file) file ns
 
 -- of each file that was drawn once they tell all, and of one that was not drawn nothing
 pub record HasDrawn (choice : Choice) (meaning : ℕ → Meaning) (drawn : List ℕ) (ns : List Note) : Type 0 where

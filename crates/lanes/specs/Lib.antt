@@ -1,9 +1,12 @@
 pub mod Notes
+pub mod Numbering
 pub mod Opening
 pub mod Files
 pub mod Fans
+pub mod Gathering
 pub mod Keeping
 pub mod MemFiles
 pub mod MemReads
 pub mod Stages
 pub mod Drafts
+pub mod Stops

@@ -2,19 +2,24 @@
 //! messages of the stage before it and gives one for each.
 #![tactic(auto)]
 
+mod consumer;
 mod drafts;
 mod gate;
+mod gathering;
 mod keep;
 mod last_stage;
 mod mem_opener;
 mod message;
 mod numbered;
 mod opener;
+mod placing;
 mod reading;
 mod stage;
 
-pub use drafts::{Draft, empty_drafts, gather};
+pub use consumer::Consumer;
+pub use drafts::{Draft, Drafts};
 pub use gate::{Gate, OpenGate, Stage};
+pub use gathering::{GatherFault, gather};
 pub use keep::Keep;
 pub use last_stage::run_last_stage;
 pub use mem_opener::MemOpener;

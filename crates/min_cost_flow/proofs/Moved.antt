@@ -1,17 +1,17 @@
 -- After supplies have moved: what holds before the next search.
-use Rattle.std.proofs.Common.{◌≡◌, ◌≢◌, ◌<◌, ◌≤◌, ◌⊎◌, ℕ, ◌+◌, ◌*◌, Bool, List, length, cond, eqb, true, false, refl, sym, subst, inl, inr, arith}
+use Rattle.std.proofs.Common.{◌≡◌, ◌≢◌, ◌<◌, ◌≤◌, ℕ, ◌+◌, ◌*◌, Bool, List, length, cond, eqb, true, false, refl, sym, subst, inl, inr, arith}
 use Rattle.std.specs.Prelude.{ℤ, pos, negsuc, ◌+ℤ◌, ◌-ℤ◌, ◌≤ℤ◌, ◌<ℤ◌}
 use Rattle.std.proofs.lemmas.Bool.{cases_eq, ne_eqb, eqb-true, cond-false}
 use Rattle.std.proofs.lemmas.Int.{ints}
 use borrow.Author.Differences.{up}
 use Rattle.sums.specs.Sums.{sum_below}
 use Rattle.sums.proofs.Sums.{sum_below-changed, sum_below-none}
-use Rattle.networks.specs.Net.{Net, node_count, arc_count, arc_at, supply_at, moved, shifted, HasFairSupplies, IsNetwork}
+use Rattle.networks.specs.Net.{Net, node_count, arc_count, arc_at, supply_at, moved, shifted, IsNetwork}
 use Rattle.networks.proofs.Moving.{delta, moved_at, length-moved}
-use Rattle.networks.specs.Flow.{Answer, Flow, Solves, amounts, at_nodes, balance, start_of, end_of, price_of, reduced_cost, IsResidual, HasPotentials}
-use Rattle.min_cost_flow.specs.Excess.{Leaves}
+use Rattle.networks.specs.Flow.{Answer, Flow, Solves, amounts, at_nodes, cost_of, balance, start_of, end_of, price_of, HasPotentials}
 use Rattle.networks.specs.Layout.{numbers, IsLaidOut}
 use Rattle.min_cost_flow.specs.Round.{left_over, IsRound}
+use Rattle.min_cost_flow.specs.Stand.{IsShown}
 use Rattle.networks.proofs.Ends.{start_in, end_in}
 use Rattle.min_cost_flow.proofs.Duality.{least_by_potentials}
 use Rattle.min_cost_flow.proofs.Rounds.{flow_at, flow_same, potentials_same}
@@ -171,4 +171,16 @@ solves_at net x p e answer n r sent flows potentials same prices =
       flow = flow;
       potentials = priced;
       least = least_by_potentials net (amounts answer.flow) (at_nodes answer.potential) n.ends flow priced;
+    }
+
+pub shown_at : (net : Net) (x : ℕ → ℕ) (ps : List ℤ) (e : ℕ → ℤ) (cost : ℕ) → IsNetwork net → IsRound net x (at_nodes ps) e → ((v : ℕ) → v < node_count net → e v ≡ pos 0) → length ps ≡ node_count net → cost ≡ cost_of net x → IsShown net cost ps
+shown_at net x ps e cost n r sent size is =
+    let flow : Flow net x = sent_flow net x (at_nodes ps) e r sent in
+    record {
+      count = size;
+      amounts = x;
+      flow = flow;
+      potentials = r.priced;
+      least = least_by_potentials net x (at_nodes ps) n.ends flow r.priced;
+      costs = sym is;
     }

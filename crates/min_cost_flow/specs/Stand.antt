@@ -2,7 +2,7 @@
 use Rattle.std.specs.Prelude.{ℕ, ◌+◌, ◌<◌, ◌≡◌, ◌^◌, ℤ, pos, List, length}
 use Rattle.networks.specs.Net.{Net, node_count, arc_count, arc_at}
 use Rattle.networks.specs.declared.residual.ResidualArc.{ResidualArc}
-use Rattle.networks.specs.Flow.{at_nodes}
+use Rattle.networks.specs.Flow.{Flow, HasPotentials, IsLeastCost, at_nodes, cost_of}
 use Rattle.networks.specs.Layout.{IsLaidOut, IsFilled, carried, limit_of}
 use Rattle.min_cost_flow.specs.Lists.{HasNodeLists}
 use Rattle.min_cost_flow.specs.Search.{far}
@@ -25,3 +25,12 @@ pub record IsSettled (net : Net) (first reverse forward : List ℕ) (arcs : List
   pub round : IsRound net (carried reverse forward room) (at_nodes potential) (at_nodes excess)
   pub blank : (v : ℕ) → v < node_count net → at_nodes label v ≡ far
   pub sent : (v : ℕ) → v < node_count net → at_nodes excess v ≡ pos 0
+
+-- what a flow costs, and potentials that show that none costs less
+pub record IsShown (net : Net) (cost : ℕ) (potential : List ℤ) : Type 0 where
+  pub count : length potential ≡ node_count net
+  pub amounts : ℕ → ℕ
+  pub flow : Flow net amounts
+  pub potentials : HasPotentials net amounts (at_nodes potential)
+  pub least : IsLeastCost net amounts
+  pub costs : cost_of net amounts ≡ cost

@@ -1,8 +1,10 @@
 //! A flow of least cost that stands while supplies move.
-ghost use Rattle.std.specs.Prelude.{◌≡◌, ◌<◌, ◌≤◌, IfOk, IfErr, IfSome, IfNone, ℕ, length};
-ghost use Rattle.networks.specs.Net.{Net, node_count, arc_count, shifted, HasFairSupplies};
-ghost use Rattle.networks.specs.Flow.{HasNoFlow, Solves, at_nodes};
-ghost use Rattle.min_cost_flow.specs.Stand.{IsSettled};
+ghost use Rattle.std.specs.Prelude.{◌≡◌, ◌<◌, ◌≤◌, ◌^◌, IfOk, IfErr, IfSome, IfNone, ℕ, length};
+ghost use Rattle.networks.specs.Net.{Net, node_count, arc_count, shifted, HasFairSupplies, IsNetwork};
+ghost use Rattle.networks.specs.Flow.{HasNoFlow, Solves, at_nodes, cost_of};
+ghost use Rattle.networks.specs.Layout.{numbers, carried};
+ghost use Rattle.min_cost_flow.specs.Lists.{HasNodeLists};
+ghost use Rattle.min_cost_flow.specs.Stand.{HasArcLists, IsSettled, IsShown};
 
 use crate::resume::{resume, settle};
 use crate::solved::Solved;
@@ -11,10 +13,10 @@ use networks::{Network, ResidualArc};
 use std::alloc::{AllocError, Global};
 use std::marker::Model;
 
-/// A flow of least cost in a network of its own, which follows as supplies move.
+/// What the solver keeps of a network: its residual arcs, what fits along each, and by node the
+/// potentials, what is left over, and what a search writes.
 #[derive(Drop)]
-pub struct Standing {
-    network: Network,
+struct Lists {
     first: Vec<u32>,
     reverse: Vec<u32>,
     forward: Vec<u32>,
@@ -29,12 +31,43 @@ pub struct Standing {
     place: Vec<u32>,
 }
 
+/// Lists of the sizes that a network wants, with nothing in them yet.
+fn blank_lists(alloc: Global, network: &Network) -> Result<Lists, AllocError>
+    ensures arcs { IfOk result (λ s. HasArcLists network.now s.first.items s.reverse.items s.forward.items s.arcs.items s.room.items) }
+    ensures nodes { IfOk result (λ s. HasNodeLists (node_count network.now) s.potential.items s.excess.items s.score.items s.label.items s.enter.items s.order.items s.place.items) }
+{
+    let nodes = network.node_count();
+    let arc_count = network.arc_count();
+    let shut = ResidualArc { end: 0, code: 0 };
+    Ok(Lists {
+        first: vec![in alloc; 0; nodes + 1]?,
+        reverse: vec![in alloc; 0; 2 * arc_count]?,
+        forward: vec![in alloc; 0; arc_count]?,
+        arcs: vec![in alloc; shut; 2 * arc_count]?,
+        room: vec![in alloc; 0; 2 * arc_count]?,
+        potential: vec![in alloc; 0; nodes]?,
+        excess: vec![in alloc; 0; nodes]?,
+        score: vec![in alloc; 0; nodes]?,
+        label: vec![in alloc; 0; nodes]?,
+        enter: vec![in alloc; 0; nodes]?,
+        order: vec![in alloc; 0; nodes]?,
+        place: vec![in alloc; 0; nodes]?,
+    })
+}
+
+/// A flow of least cost in a network of its own, which follows as supplies move.
+#[derive(Drop)]
+pub struct Standing {
+    network: Network,
+    lists: Lists,
+}
+
 impl Model for Standing {
     ghost Value = { Net };
 
     ghost view = { λ s. s.network };
 
-    ghost invariant = { λ s. IsSettled s.network s.first.items s.reverse.items s.forward.items s.arcs.items s.room.items s.potential.items s.excess.items s.score.items s.label.items s.enter.items s.order.items s.place.items };
+    ghost invariant = { λ s. IsSettled s.network s.lists.first.items s.lists.reverse.items s.lists.forward.items s.lists.arcs.items s.lists.room.items s.lists.potential.items s.lists.excess.items s.lists.score.items s.lists.label.items s.lists.enter.items s.lists.order.items s.lists.place.items };
 }
 
 impl Standing {
@@ -44,54 +77,26 @@ impl Standing {
         ensures net { IfOk result (λ s. s ≡ network.now) }
         ensures infeasible { IfErr result (λ fault. fault ≡ SolveFault.Infeasible → HasNoFlow network.now) }
     {
-        let nodes = network.node_count();
-        let arc_count = network.arc_count();
-        let shut = ResidualArc { end: 0, code: 0 };
         let network = network.copy()?;
-        let mut first = vec![in alloc; 0; nodes + 1]?;
-        let mut reverse = vec![in alloc; 0; 2 * arc_count]?;
-        let mut forward = vec![in alloc; 0; arc_count]?;
-        let mut arcs = vec![in alloc; shut; 2 * arc_count]?;
-        let mut room = vec![in alloc; 0; 2 * arc_count]?;
-        let mut potential = vec![in alloc; 0; nodes]?;
-        let mut excess = vec![in alloc; 0; nodes]?;
-        let mut score = vec![in alloc; 0; nodes]?;
-        let mut label = vec![in alloc; 0; nodes]?;
-        let mut enter = vec![in alloc; 0; nodes]?;
-        let mut order = vec![in alloc; 0; nodes]?;
-        let mut place = vec![in alloc; 0; nodes]?;
+        let mut lists = blank_lists(alloc, &network)?;
         if !settle(
             &network,
-            &mut first,
-            &mut reverse,
-            &mut forward,
-            &mut arcs,
-            &mut room,
-            &mut potential,
-            &mut excess,
-            &mut score,
-            &mut label,
-            &mut enter,
-            &mut order,
-            &mut place,
+            &mut lists.first,
+            &mut lists.reverse,
+            &mut lists.forward,
+            &mut lists.arcs,
+            &mut lists.room,
+            &mut lists.potential,
+            &mut lists.excess,
+            &mut lists.score,
+            &mut lists.label,
+            &mut lists.enter,
+            &mut lists.order,
+            &mut lists.place,
         ) {
             return Err(SolveFault::Infeasible);
         }
-        Ok(Standing {
-            network,
-            first,
-            reverse,
-            forward,
-            arcs,
-            room,
-            potential,
-            excess,
-            score,
-            label,
-            enter,
-            order,
-            place,
-        })
+        Ok(Standing { network, lists })
     }
 
     /// Moves supply from one node to another, and the flow follows at least cost; nothing where no
@@ -107,18 +112,18 @@ impl Standing {
         let mut standing = self;
         if !resume(
             &mut standing.network,
-            &mut standing.first,
-            &mut standing.reverse,
-            &mut standing.forward,
-            &mut standing.arcs,
-            &mut standing.room,
-            &mut standing.potential,
-            &mut standing.excess,
-            &mut standing.score,
-            &mut standing.label,
-            &mut standing.enter,
-            &mut standing.order,
-            &mut standing.place,
+            &mut standing.lists.first,
+            &mut standing.lists.reverse,
+            &mut standing.lists.forward,
+            &mut standing.lists.arcs,
+            &mut standing.lists.room,
+            &mut standing.lists.potential,
+            &mut standing.lists.excess,
+            &mut standing.lists.score,
+            &mut standing.lists.label,
+            &mut standing.lists.enter,
+            &mut standing.lists.order,
+            &mut standing.lists.place,
             from,
             to,
             amount,
@@ -140,9 +145,43 @@ impl Standing {
         ensures { IfOk result (λ solved. Solves self.now solved) }
     {
         let _nodes = self.network.node_count();
-        let mut flow = Vec::from_slice(alloc, &self.forward)?;
-        read_flow(&self.reverse, &self.room, &mut flow);
-        let potential = Vec::from_slice(alloc, &self.potential)?;
+        let mut flow = Vec::from_slice(alloc, &self.lists.forward)?;
+        read_flow(&self.lists.reverse, &self.lists.room, &mut flow);
+        let potential = Vec::from_slice(alloc, &self.lists.potential)?;
         Ok(Solved::new(flow, potential, 0, 0))
     }
+
+    /// What the flow costs, and its potentials by node. No memory is taken; linear in the arcs.
+    pub fn least_cost(&self) -> (u64, &[i32])
+        ensures shown { IsShown self.now result.0 result.1.now }
+        ensures few { result.0 < 2 ^ 48 }
+    {
+        // Only the proof needs this: `node_count` says that the network is one.
+        let _nodes = self.network.node_count();
+        let cost = flow_cost(
+            &self.network,
+            &self.lists.reverse,
+            &self.lists.forward,
+            &self.lists.room,
+        );
+        (cost, &self.lists.potential)
+    }
+}
+
+/// How much the arcs of cost 1 carry.
+fn flow_cost(network: &Network, reverse: &[u32], forward: &[u32], room: &[u32]) -> u64
+    requires forwards { length forward.now ≡ arc_count network.now }
+    requires reverses { (i : ℕ) → i < arc_count network.now → numbers forward.now i < length reverse.now }
+    requires rooms { (i : ℕ) → i < arc_count network.now → numbers reverse.now (numbers forward.now i) < length room.now }
+    ensures cost { result ≡ cost_of network.now (carried reverse.now forward.now room.now) }
+    ensures few { result < 2 ^ 48 }
+{
+    let mut cost = 0;
+    for i in 0..network.arc_count() {
+        if network.arc(i as u32).cost == 1 {
+            let along = forward[i] as usize;
+            cost += u64::from(room[reverse[along] as usize]);
+        }
+    }
+    cost
 }

@@ -1,18 +1,25 @@
 -- The best of the faces that were tried.
-use Rattle.std.proofs.Common.{◌≡◌, ◌≤◌, ◌<◌, ◌+◌, ◌*◌, ℕ, max, ◌⊎◌, inl, inr, List, length, slice_index, set, replicate, get_or-set_other, get_or-set_same, sym, ap, ◌∙◌, subst, below_more, arith}
+use Rattle.std.proofs.Common.{◌≡◌, ◌≤◌, ◌<◌, ◌+◌, ◌-◌, ◌*◌, ℕ, max, ◌⊎◌, inl, inr, List, length, slice_index, set, replicate, get_or-set_other, get_or-set_same, sym, ap, ◌∙◌, subst, below_more, arith}
 use Rattle.std.proofs.lemmas.Bool.{cases_eq}
 use Rattle.std.proofs.lemmas.List.{get_or-replicate}
 use Rattle.std.specs.Prelude.{ℤ, pos, ◌+ℤ◌, ◌-ℤ◌, ◌*ℤ◌}
 use borrow.Author.Differences.{up, down}
 use Rattle.std.proofs.lemmas.Int.{ints}
-use Rattle.faces.specs.Map.{Map, IsPlane, HasEnds, darts, with_outer}
-use Rattle.ortho_rep.specs.declared.best.Found.{Found}
-use Rattle.ortho_rep.specs.Shapes.{angle_at, turns_at}
+use Rattle.sums.specs.Sums.{sum_below}
+use Rattle.sums.proofs.Sums.{sum_below-same, sum_below-none, sum_below-split}
+use Rattle.faces.specs.Map.{Map, IsPlane, HasEnds, darts, vertices, mate, with_outer}
+use Rattle.networks.specs.declared.arc.Arc.{Arc}
+use Rattle.networks.specs.Net.{Net, arc_at}
+use Rattle.networks.specs.Flow.{Flow, at_nodes, cost_of}
+use Rattle.min_cost_flow.specs.Stand.{IsShown}
+use Rattle.flow_network.specs.FaceNet.{IsFaceNet}
+use Rattle.ortho_rep.specs.declared.best.Lead.{Lead}
 use Rattle.ortho_rep.specs.Representation.{bends_of}
-use Rattle.ortho_rep.specs.Prices.{vertex_price, face_price}
-use Rattle.ortho_rep.specs.Best.{NeedsBends, IsBest}
-use Rattle.ortho_rep.specs.Tries.{IsFound, IsNoBetter, AreBounds}
-use Rattle.ortho_rep.proofs.Duality.{more_by_prices}
+use Rattle.ortho_rep.specs.OfFlow.{angles_of, strings_of}
+use Rattle.ortho_rep.specs.Best.{HasRep, NeedsBends, IsBest}
+use Rattle.ortho_rep.specs.Tries.{IsLead, IsAhead, IsNoBetter, AreBounds}
+use Rattle.ortho_rep.proofs.Duality.{lefts_of, lengths-twice, least_by_prices, more_by_prices}
+use Rattle.ortho_rep.proofs.FromFlow.{lefts-of-run, rep_of_flow, prove_of_potentials}
 
 -- a face that is no better than one is no better than a better one
 pub no_better_still : (p : Map) (bends face lower other f : ℕ) → lower ≤ bends → (lower ≡ bends → other ≤ face) → IsNoBetter p bends face f → IsNoBetter p lower other f
@@ -30,10 +37,6 @@ no_better p bends face bound f needs more first = record {
   fewest = λ a s rep. omega (arith, needs a s rep, more);
   first = λ (a, s, rep, is). first (omega (arith, needs a s rep, more, is));
 }
-
--- the bends of a least shape are needed
-pub needs_found : (p : Map) (found : Found) → IsFound p found → NeedsBends (with_outer p found.face) found.bends
-needs_found p found is = λ a s rep. omega (arith, is.least.least a s rep, is.bends)
 
 -- a plane that was turned has the same ends
 pub ends_turned : (p : Map) (outer : ℕ) → HasEnds p → HasEnds (with_outer p outer)
@@ -58,10 +61,10 @@ ends_turned p outer ends = record {
 }
 
 -- the plane with the best face outside
-pub best_of : (p : Map) (found : Found) → IsFound p found → ((f : ℕ) → f < p.faces → IsNoBetter p found.bends found.face f) → IsBest (with_outer p found.face)
-best_of p found is all = record {
-  bends = found.bends;
-  some = (angle_at found.shape, turns_at found.shape, is.shape.rep, is.bends);
+pub best_of : (p : Map) (lead : Lead) → IsLead p lead → ((f : ℕ) → f < p.faces → IsNoBetter p lead.bends lead.face f) → IsBest (with_outer p lead.face)
+best_of p lead is all = record {
+  bends = lead.bends;
+  some = is.some;
   fewest = λ f b. (all f b).fewest;
   first = λ f b. (all f b).first;
 }
@@ -74,36 +77,75 @@ turned_again p q r outer face first second = second ∙ ap (λ (m : Map). with_o
 pub turned_own : (p q : Map) (face : ℕ) → q ≡ with_outer p face → q ≡ with_outer p q.outer
 turned_own p q face once = once ∙ sym (ap (λ (m : Map). with_outer p m.outer) once)
 
--- what was found with the plane turned some way is found of the plane, and the other way
-pub found_turned : (p q : Map) (outer : ℕ) (found : Found) → q ≡ with_outer p outer → IsFound q found → IsFound p found
-found_turned p q outer found turned is =
-    let was = subst (λ (m : Map). IsFound m found) turned is in
-    record { named = was.named; shape = was.shape; least = was.least; proof = was.proof; bends = was.bends }
+-- what is known of faces of the plane turned some way is known of the plane, and the other way
+pub lead_turned : (p q : Map) (outer : ℕ) (lead : Lead) → q ≡ with_outer p outer → IsLead q lead → IsLead p lead
+lead_turned p q outer lead turned is =
+    let was = subst (λ (m : Map). IsLead m lead) turned is in
+    record { named = was.named; some = was.some; needs = was.needs }
 
-pub found_turning : (p q : Map) (outer : ℕ) (found : Found) → q ≡ with_outer p outer → IsFound p found → IsFound q found
-found_turning p q outer found turned is =
-    let will : IsFound (with_outer p outer) found = record { named = is.named; shape = is.shape; least = is.least; proof = is.proof; bends = is.bends } in
-    subst (λ (m : Map). IsFound m found) (sym turned) will
+pub lead_turning : (p q : Map) (outer : ℕ) (lead : Lead) → q ≡ with_outer p outer → IsLead p lead → IsLead q lead
+lead_turning p q outer lead turned is =
+    let will : IsLead (with_outer p outer) lead = record { named = is.named; some = is.some; needs = is.needs } in
+    subst (λ (m : Map). IsLead m lead) (sym turned) will
 
--- a better face takes the place of the best one
-pub better_taken : (p : Map) (best next : Found) (face : ℕ) → IsFound p next → next.face ≡ face → next.bends ≤ best.bends → (next.bends ≡ best.bends → face < best.face) → ((f : ℕ) → f < face → IsNoBetter p best.bends best.face f) → (f : ℕ) → f < face + 1 → IsNoBetter p next.bends next.face f
-better_taken p best next face is here less first all =
-    below_more _ _
-    (λ f b. no_better_still p best.bends best.face next.bends next.face f less (λ e. omega (arith, first e)) (all f b))
-    (subst (λ (f : ℕ). IsNoBetter p next.bends next.face f) here (no_better p next.bends next.face next.bends next.face (needs_found p next is) (omega arith) (λ _. omega arith)))
+pub tried_turned : (p q : Map) (outer bends face f : ℕ) → q ≡ with_outer p outer → IsNoBetter q bends face f → IsNoBetter p bends face f
+tried_turned p q outer bends face f turned is =
+    let was = subst (λ (m : Map). IsNoBetter m bends face f) turned is in
+    record { fewest = was.fewest; first = was.first }
 
--- a face with a bound that is no better leaves the best one
-pub best_left : (p : Map) (best : Found) (bound face : ℕ) → NeedsBends (with_outer p face) bound → best.bends ≤ bound → (bound ≡ best.bends → best.face ≤ face) → ((f : ℕ) → f < face → IsNoBetter p best.bends best.face f) → (f : ℕ) → f < face + 1 → IsNoBetter p best.bends best.face f
-best_left p best bound face needs more first all =
-    below_more _ _ all (no_better p best.bends best.face bound face needs more first)
+pub tried_turning : (p q : Map) (outer bends face f : ℕ) → q ≡ with_outer p outer → IsNoBetter p bends face f → IsNoBetter q bends face f
+tried_turning p q outer bends face f turned is =
+    let will : IsNoBetter (with_outer p outer) bends face f = record { fewest = is.fewest; first = is.first } in
+    subst (λ (m : Map). IsNoBetter m bends face f) (sym turned) will
 
--- the prices of a least shape prove a bound for each face
-pub bound_of_prices : (p : Map) (found : Found) (face bound : ℕ) (own other : ℤ) → HasEnds p → face < p.faces → IsFound p found → own ≡ face_price found.prices found.face → other ≡ face_price found.prices face → (bound ≡ 0) ⊎ (pos bound ≡ pos found.bends +ℤ pos 8 *ℤ (other -ℤ own)) → NeedsBends (with_outer p face) bound
-bound_of_prices p found face bound own other ends inside is of_own of_other (inl none) = λ a s rep. omega arith
-bound_of_prices p found face bound own other ends inside is of_own of_other (inr sum) = λ a s rep.
-    let more = more_by_prices (with_outer p found.face) face (angle_at found.shape) a (turns_at found.shape) s (vertex_price found.prices) (face_price found.prices) (ends_turned p found.face ends) is.named inside is.shape.rep is.proof.prove rep in
-    let priced : bends_of (darts p) (turns_at found.shape) + 8 * up other + 8 * down own ≤ bends_of (darts p) s + 8 * up own + 8 * down other = rw (of_own, of_other) more in
-    omega (arith, ints, priced, sum, is.bends)
+-- faces that were tried before, and one that is tried now
+pub tried_next : (p : Map) (lead other : Lead) (face : ℕ) → IsAhead lead other → ((f : ℕ) → f < face → IsNoBetter p other.bends other.face f) → IsNoBetter p lead.bends lead.face face → (f : ℕ) → f < face + 1 → IsNoBetter p lead.bends lead.face f
+tried_next p lead other face ahead all here =
+    below_more _ _ (λ f b. no_better_still p other.bends other.face lead.bends lead.face f ahead.fewer ahead.first (all f b)) here
+
+-- the bends of a flow are what it costs
+pub bends_are_cost : (p : Map) (net : Net) (x : ℕ → ℕ) → HasEnds p → IsFaceNet p net → Flow net x → bends_of (darts p) (strings_of p x) ≡ cost_of net x
+bends_are_cost p net x ends is flow =
+    let n = darts p in
+    let left : ℕ → ℕ = λ d. x (n + d) in
+    let twice = lengths-twice p (angles_of x) (strings_of p x) ends (rep_of_flow p net x ends is flow) in
+    let lefts_are : sum_below n (lefts_of (strings_of p x)) ≡ sum_below n left =
+    sum_below-same n (lefts_of (strings_of p x)) left (λ d b. lefts-of-run (x (n + d)) (x (n + mate p d))) in
+    let split : cost_of net x ≡ sum_below n (λ d. (arc_at net d).cost * x d) + sum_below n (λ d. (arc_at net (n + d)).cost * x (n + d)) =
+    ap (λ (m : ℕ). sum_below m (λ i. (arc_at net i).cost * x i)) is.arcs ∙ sum_below-split n n (λ i. (arc_at net i).cost * x i) in
+    let none : sum_below n (λ d. (arc_at net d).cost * x d) ≡ 0 =
+    sum_below-none n (λ d. (arc_at net d).cost * x d) (λ d b. ap (λ (arc : Arc). arc.cost * x d) (is.corner d b) ∙ nothing (x d)) in
+    let all : sum_below n (λ d. (arc_at net (n + d)).cost * x (n + d)) ≡ sum_below n left =
+    sum_below-same n (λ d. (arc_at net (n + d)).cost * x (n + d)) left (λ d b. ap (λ (arc : Arc). arc.cost * x (n + d)) (is.crossing d b) ∙ once (x (n + d))) in
+    omega (arith, twice, lefts_are, split, none, all)
+  where
+    nothing : (k : ℕ) → 0 * k ≡ 0
+    nothing k = omega arith
+
+    once : (k : ℕ) → 1 * k ≡ k
+    once k = omega arith
+
+-- what a flow of least cost shows of the plane's outer face
+pub rep_of_cost : (p : Map) (net : Net) (bends : ℕ) (ps : List ℤ) → HasEnds p → IsFaceNet p net → IsShown net bends ps → HasRep p bends
+rep_of_cost p net bends ps ends is shown =
+    (angles_of shown.amounts, strings_of p shown.amounts, rep_of_flow p net shown.amounts ends is shown.flow, bends_are_cost p net shown.amounts ends is shown.flow ∙ shown.costs)
+
+pub needs_cost : (p : Map) (net : Net) (bends : ℕ) (ps : List ℤ) → HasEnds p → IsFaceNet p net → IsShown net bends ps → NeedsBends p bends
+needs_cost p net bends ps ends is shown = λ a s rep.
+    let x = shown.amounts in
+    let own = rep_of_flow p net x ends is shown.flow in
+    let least = least_by_prices p (angles_of x) (strings_of p x) (λ v. at_nodes ps (v - 1)) (λ f. at_nodes ps (vertices p + f)) ends own (prove_of_potentials p net x (at_nodes ps) ends is shown.potentials) in
+    omega (arith, least.least a s rep, bends_are_cost p net x ends is shown.flow, shown.costs)
+
+-- and its potentials prove a bound for each face
+pub bound_of_potentials : (p : Map) (net : Net) (bends : ℕ) (ps : List ℤ) (face bound : ℕ) (own other : ℤ) → HasEnds p → p.outer < p.faces → face < p.faces → IsFaceNet p net → IsShown net bends ps → own ≡ at_nodes ps (vertices p + p.outer) → other ≡ at_nodes ps (vertices p + face) → (bound ≡ 0) ⊎ (pos bound ≡ pos bends +ℤ pos 8 *ℤ (other -ℤ own)) → NeedsBends (with_outer p face) bound
+bound_of_potentials p net bends ps face bound own other ends outer inside is shown of_own of_other (inl none) = λ a s rep. omega arith
+bound_of_potentials p net bends ps face bound own other ends outer inside is shown of_own of_other (inr sum) = λ a s rep.
+    let x = shown.amounts in
+    let prove = prove_of_potentials p net x (at_nodes ps) ends is shown.potentials in
+    let more = more_by_prices p face (angles_of x) a (strings_of p x) s (λ v. at_nodes ps (v - 1)) (λ f. at_nodes ps (vertices p + f)) ends outer inside (rep_of_flow p net x ends is shown.flow) prove rep in
+    let priced : bends_of (darts p) (strings_of p x) + 8 * up other + 8 * down own ≤ bends_of (darts p) s + 8 * up own + 8 * down other = rw (of_own, of_other) more in
+    omega (arith, ints, priced, sum, bends_are_cost p net x ends is shown.flow, shown.costs)
 
 -- bounds of the plane turned some way are bounds of the plane, and the other way
 pub bounds_turned : (p q : Map) (outer : ℕ) (bounds : List ℕ) → q ≡ with_outer p outer → AreBounds q bounds → AreBounds p bounds

@@ -1,12 +1,9 @@
 -- What is known of the faces of a plane that were tried as outer faces.
 use Rattle.std.specs.Prelude.{◌≡◌, ℕ, ◌<◌, ◌≤◌, List, slice_index}
-use Rattle.faces.specs.Map.{Map, darts, with_outer}
+use Rattle.faces.specs.Map.{Map, with_outer}
 use Rattle.flow_network.specs.FaceNet.{IsNetOf}
-use Rattle.ortho_rep.specs.declared.best.Found.{Found}
+use Rattle.ortho_rep.specs.declared.best.Lead.{Lead}
 use Rattle.ortho_rep.specs.declared.best.Walk.{Walk}
-use Rattle.ortho_rep.specs.Shapes.{turns_at}
-use Rattle.ortho_rep.specs.Representation.{IsShape, IsLeast, bends_of}
-use Rattle.ortho_rep.specs.Prices.{IsProof}
 use Rattle.ortho_rep.specs.Best.{HasRep, NeedsBends}
 
 -- the walk stands at the outer face of p
@@ -14,13 +11,16 @@ pub record IsWalk (p : Map) (walk : Walk) : Type 0 where
   pub net : IsNetOf p walk.net
   pub same : walk.standing ≡ walk.net.network
 
--- a least shape of p with a face of it as the outer one, its bends, and prices that prove it
-pub record IsFound (p : Map) (found : Found) : Type 0 where
-  pub named : found.face < p.faces
-  pub shape : IsShape (with_outer p found.face) found.shape
-  pub least : IsLeast (with_outer p found.face) found.shape
-  pub proof : IsProof (with_outer p found.face) found.shape found.prices
-  pub bends : bends_of (darts p) (turns_at found.shape) ≡ found.bends
+-- a face, and how many bends are needed with it as the outer one
+pub record IsLead (p : Map) (lead : Lead) : Type 0 where
+  pub named : lead.face < p.faces
+  pub some : HasRep (with_outer p lead.face) lead.bends
+  pub needs : NeedsBends (with_outer p lead.face) lead.bends
+
+-- a lead is another one, or better: fewer bends, or as many and a lesser number
+pub record IsAhead (lead other : Lead) : Type 0 where
+  pub fewer : lead.bends ≤ other.bends
+  pub first : lead.bends ≡ other.bends → lead.face ≤ other.face
 
 -- the face f is no better than one with so many bends: at least as many are needed with it, and where as few
 -- suffice it has no lesser number

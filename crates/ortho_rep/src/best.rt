@@ -1,11 +1,12 @@
 //! Least shapes with the best outer face.
 
-ghost use Rattle.std.specs.Prelude.{◌≡◌, ◌<◌, ◌≤◌, ◌⊎◌, ℕ, pos, ◌+ℤ◌, ◌-ℤ◌, ◌*ℤ◌, ◌≤ℤ◌, ◌^◌, IsTrue, IsFalse, OnOk, IfOk, OnErr, length};
-ghost use Rattle.faces.specs.Map.{with_outer};
+ghost use Rattle.std.specs.Prelude.{◌≡◌, ◌<◌, ◌≤◌, ◌⊎◌, ℕ, pos, ◌+ℤ◌, ◌-ℤ◌, ◌*ℤ◌, ◌≤ℤ◌, ◌^◌, IsTrue, IsFalse, OnOk, IfOk, IfSome, OnErr, length};
+ghost use Rattle.faces.specs.Map.{darts, with_outer};
+ghost use Rattle.min_cost_flow.specs.Stand.{IsShown};
 ghost use Rattle.ortho_rep.specs.Representation.{IsShape, IsLeast};
 ghost use Rattle.ortho_rep.specs.Prices.{IsProof};
-ghost use Rattle.ortho_rep.specs.Best.{IsBest, NeedsBends};
-ghost use Rattle.ortho_rep.specs.Tries.{IsWalk, IsFound, IsNoBetter, AreBounds};
+ghost use Rattle.ortho_rep.specs.Best.{HasRep, NeedsBends, IsBest};
+ghost use Rattle.ortho_rep.specs.Tries.{IsWalk, IsLead, IsAhead, IsNoBetter, AreBounds};
 
 use crate::least::shape_in;
 use crate::prices::Prices;
@@ -15,16 +16,14 @@ use flow_network::FaceNet;
 use min_cost_flow::{SolveFault, Standing};
 use std::alloc::{AllocError, Global};
 
-/// A least shape with one face as the outer one, its bends, and prices that prove it.
-#[derive(Drop)]
-struct Found {
+/// A face, and how many bends are needed with it as the outer one.
+#[derive(Clone, Copy)]
+struct Lead {
     face: u16,
-    bends: u32,
-    shape: Shape,
-    prices: Prices,
+    bends: u64,
 }
 
-impl Found {
+impl Lead {
     /// Whether so many bends with a face are better: fewer, or as few and the face has a lesser number.
     fn loses_to(&self, bends: u64, face: u16) -> bool
         ensures yes { IsTrue result → bends ≤ self.now.bends }
@@ -32,19 +31,21 @@ impl Found {
         ensures no { IsFalse result → self.now.bends ≤ bends }
         ensures last { IsFalse result → bends ≡ self.now.bends → self.now.face ≤ face }
     {
-        let own = u64::from(self.bends);
-        bends < own || bends == own && face < self.face
+        bends < self.bends || bends == self.bends && face < self.face
     }
 }
 
 /// The most faces that a plane has.
 const MAX_FACES: usize = 257;
 
+/// The most darts that a plane has.
+const MAX_DARTS: usize = 1020;
+
 /// Turns the best face out, and gives a least shape with prices that prove it least.
 ///
 /// The best face is the one with which the fewest bends are needed, among equals the one with the least
-/// number. Each face is tried, but for those of which the prices of an earlier one prove that they are
-/// no better.
+/// number. Each face is tried, but for those of which the potentials of an earlier one prove that they
+/// are no better.
 ///
 /// # Errors
 ///
@@ -60,21 +61,28 @@ pub fn best_shape(alloc: Global, plane: &mut Plane) -> Result<(Shape, Prices), A
 {
     let outer = plane.outer();
     match best_found(alloc, plane) {
-        Ok(found) => {
-            let Found {
-                face,
-                bends: _,
-                shape,
-                prices,
-            } = found;
-            plane.turn_out(face);
-            Ok((shape, prices))
-        }
+        Ok(found) => Ok(found),
         Err(AllocError) => {
             plane.turn_out(outer);
             Err(AllocError)
         }
     }
+}
+
+/// The same, but where memory runs out some face is left outside.
+fn best_found(alloc: Global, plane: &mut Plane) -> Result<(Shape, Prices), AllocError>
+    ensures turned { plane.new ≡ with_outer plane.old plane.new.outer }
+    ensures best { OnOk result (IsBest plane.new) }
+    ensures shape { IfOk result (λ found. IsShape plane.new found.0) }
+    ensures least { IfOk result (λ found. IsLeast plane.new found.0) }
+    ensures proof { IfOk result (λ found. IsProof plane.new found.0 found.1) }
+{
+    let walk = begin(alloc, plane)?;
+    let (walk, lead) = best_lead(plane, walk);
+    let walk = turned(walk, plane, lead.face);
+    plane.turn_out(lead.face);
+    let solved = walk.standing.solved(alloc)?;
+    shape_in(alloc, plane, &walk.net, &solved)
 }
 
 /// A flow of least cost in the network of a plane, which goes on from one outer face to another.
@@ -115,94 +123,162 @@ fn turned(walk: Walk, plane: &Plane, face: u16) -> Walk
     }
 }
 
-/// Turns a face out, and finds a least shape.
-fn found_with(
-    alloc: Global,
-    plane: &mut Plane,
-    walk: Walk,
-    face: u16,
-) -> Result<(Walk, Found), AllocError>
-    requires face { face < plane.old.faces }
+/// The best face. The outer face is left as it was turned last.
+fn best_lead(plane: &mut Plane, walk: Walk) -> (Walk, Lead)
     requires walk { IsWalk plane.old walk }
-    ensures turned { plane.new ≡ with_outer plane.old face }
-    ensures walk { IfOk result (λ tried. IsWalk plane.new tried.0) }
-    ensures face { IfOk result (λ tried. tried.1.face ≡ face) }
-    ensures found { IfOk result (λ tried. IsFound plane.old tried.1) }
-{
-    let walk = turned(walk, plane, face);
-    plane.turn_out(face);
-    let solved = walk.standing.solved(alloc)?;
-    let (shape, prices) = shape_in(alloc, plane, &walk.net, &solved)?;
-    let bends = shape.bends();
-    let found = Found {
-        face,
-        bends,
-        shape,
-        prices,
-    };
-    Ok((walk, found))
-}
-
-/// The best of the least shapes with each face as the outer one. The outer face is left as it was
-/// turned last.
-fn best_found(alloc: Global, plane: &mut Plane) -> Result<Found, AllocError>
     ensures turned { plane.new ≡ with_outer plane.old plane.new.outer }
-    ensures found { IfOk result (IsFound plane.old) }
-    ensures best { IfOk result (λ found. (f : ℕ) → f < plane.old.faces
-        → IsNoBetter plane.old found.bends found.face f) }
+    ensures walk { IsWalk plane.new result.0 }
+    ensures named { result.1.face < plane.old.faces }
+    ensures best { IsBest (with_outer plane.old result.1.face) }
 {
     let faces = plane.face_count();
-    let outer = plane.outer();
     let mut bounds = [0; MAX_FACES];
-    let walk = begin(alloc, plane)?;
-    let (walk, found) = found_with(alloc, plane, walk, outer)?;
-    let mut walk = walk;
-    let mut best = found;
-    raise_bounds(plane, &best, &mut bounds);
+    let bends = learn(plane, &walk, &mut bounds);
+    let face = plane.outer();
+    let mut lead = Lead { face, bends };
+    let mut walk = tour(plane, walk, &mut lead, &mut bounds);
     for face in 0..faces {
-        if best.loses_to(bounds[usize::from(face)], face) {
-            let (moved, next) = found_with(alloc, plane, walk, face)?;
-            walk = moved;
-            raise_bounds(plane, &next, &mut bounds);
-            if best.loses_to(u64::from(next.bends), face) {
-                best = next;
-            }
+        walk = visit(plane, walk, &mut lead, &mut bounds, face);
+    }
+    (walk, lead)
+}
+
+/// Tries faces in depth-first order over shared edges, so that each move is short. Which faces it
+/// comes to is not proved: no result rests on it.
+///
+/// It walks round the outer face, and through each edge behind which it has not been yet. A face that
+/// it entered so it walks round too, back through the edge by which it came, and goes on from there.
+fn tour(plane: &mut Plane, walk: Walk, lead: &mut Lead, bounds: &mut [u64]) -> Walk
+    requires walk { IsWalk plane.old walk }
+    requires lead { IsLead plane.old lead.old }
+    requires room { plane.old.faces ≤ length bounds.old }
+    requires bounds { AreBounds plane.old bounds.old }
+    ensures turned { plane.new ≡ with_outer plane.old plane.new.outer }
+    ensures walk { IsWalk plane.new result }
+    ensures lead { IsLead plane.new lead.new }
+    ensures bounds { AreBounds plane.new bounds.new }
+{
+    let darts = plane.graph().darts();
+    let mut seen = [false; MAX_FACES];
+    let mut doors = [false; MAX_DARTS];
+    let outer = plane.outer();
+    seen[usize::from(outer)] = true;
+    let mut dart = dart_on(plane, outer);
+    let mut walk = walk;
+    for _step in 0..darts {
+        let (next, face) = step(plane, dart, &mut seen, &mut doors);
+        dart = next;
+        if let Some(face) = face {
+            walk = visit(plane, walk, lead, bounds, face);
         }
     }
-    Ok(best)
+    walk
 }
 
-/// Raises the bounds of the faces to what the prices of a least shape prove.
-fn raise_bounds(plane: &Plane, found: &Found, bounds: &mut [u64])
-    requires found { IsFound plane.now found.now }
+/// A dart of a face.
+fn dart_on(plane: &Plane, face: u16) -> u16
+    ensures { result < darts plane.now }
+{
+    for dart in 0..plane.graph().darts() {
+        if plane.face_of(dart) == face {
+            return dart;
+        }
+    }
+    0
+}
+
+/// The dart to look at after one, and the face across if it has not been seen yet. Then the edge
+/// becomes a door: both of its darts lead on to what comes after their reverse.
+fn step(plane: &Plane, dart: u16, seen: &mut [bool], doors: &mut [bool]) -> (u16, Option<u16>)
+    requires dart { dart < darts plane.now }
+    requires seen { plane.now.faces ≤ length seen.old }
+    requires doors { darts plane.now ≤ length doors.old }
+    ensures next { result.0 < darts plane.now }
+    ensures face { IfSome result.1 (λ face. face < plane.now.faces) }
+{
+    let across = plane.graph().reverse(dart);
+    let face = plane.face_of(across);
+    let mut found = None;
+    if !seen[usize::from(face)] {
+        seen[usize::from(face)] = true;
+        doors[usize::from(dart)] = true;
+        doors[usize::from(across)] = true;
+        found = Some(face);
+    }
+    let from = if doors[usize::from(dart)] {
+        across
+    } else {
+        dart
+    };
+    (plane.next(from), found)
+}
+
+/// Tries a face, unless its bound proves that it is no better than the best so far.
+fn visit(plane: &mut Plane, walk: Walk, lead: &mut Lead, bounds: &mut [u64], face: u16) -> Walk
+    requires face { face < plane.old.faces }
+    requires walk { IsWalk plane.old walk }
+    requires lead { IsLead plane.old lead.old }
+    requires room { plane.old.faces ≤ length bounds.old }
+    requires bounds { AreBounds plane.old bounds.old }
+    ensures turned { plane.new ≡ with_outer plane.old plane.new.outer }
+    ensures walk { IsWalk plane.new result }
+    ensures lead { IsLead plane.new lead.new }
+    ensures bounds { AreBounds plane.new bounds.new }
+    ensures ahead { IsAhead lead.new lead.old }
+    ensures tried { IsNoBetter plane.new lead.new.bends lead.new.face face }
+{
+    if !lead.loses_to(bounds[usize::from(face)], face) {
+        return walk;
+    }
+    let walk = turned(walk, plane, face);
+    plane.turn_out(face);
+    let bends = learn(plane, &walk, bounds);
+    if lead.loses_to(bends, face) {
+        *lead = Lead { face, bends };
+    }
+    walk
+}
+
+/// How many bends are needed with the plane's outer face. The bounds of all faces rise to what the
+/// potentials prove. It takes no memory.
+fn learn(plane: &Plane, walk: &Walk, bounds: &mut [u64]) -> u64
+    requires walk { IsWalk plane.now walk.now }
     requires room { plane.now.faces ≤ length bounds.old }
     requires bounds { AreBounds plane.now bounds.old }
-    ensures { AreBounds plane.now bounds.new }
+    ensures bounds { AreBounds plane.now bounds.new }
+    ensures some { HasRep plane.now result }
+    ensures needs { NeedsBends plane.now result }
 {
+    // Only the proof needs this: `graph` says that the plane is one.
+    let _graph = plane.graph();
+    let (bends, potentials) = walk.standing.least_cost();
     for face in 0..plane.face_count() {
         let place = usize::from(face);
-        bounds[place] = bounds[place].max(bound(plane, found, face));
+        bounds[place] = bounds[place].max(bound(plane, walk, bends, potentials, face));
     }
+    bends
 }
 
-/// How many bends are needed at least with a face as the outer one, as the prices prove.
-fn bound(plane: &Plane, found: &Found, face: u16) -> u64
-    requires found { IsFound plane.now found.now }
+/// How many bends are needed at least with a face as the outer one, as the potentials prove.
+fn bound(plane: &Plane, walk: &Walk, bends: u64, potentials: &[i32], face: u16) -> u64
+    requires walk { IsWalk plane.now walk.now }
+    requires shown { IsShown walk.now.standing bends potentials.now }
+    requires few { bends < 2 ^ 48 }
     requires named { face < plane.now.faces }
     ensures { NeedsBends (with_outer plane.now face) result }
 {
     // Only the proof needs this: `graph` says that the plane is one.
     let _graph = plane.graph();
-    let own = found.prices.face(found.face);
-    let other = found.prices.face(face);
-    dearer(found.bends, own, other)
+    let own = potentials[walk.net.face_node(plane.outer()) as usize];
+    let other = potentials[walk.net.face_node(face) as usize];
+    dearer(bends, own, other)
 }
 
-/// So many bends, and eight more for each unit by which one price is above another.
-fn dearer(bends: u32, own: i32, other: i32) -> u64
+/// So many bends, and eight more for each unit by which one potential is above another.
+fn dearer(bends: u64, own: i32, other: i32) -> u64
+    requires few { bends < 2 ^ 48 }
     ensures { (result ≡ 0) ⊎ (pos result ≡ pos bends +ℤ pos 8 *ℤ (other -ℤ own)) }
 {
-    let bends = u64::from(bends);
     if own <= other {
         bends + 8 * gap(own, other)
     } else {
@@ -210,7 +286,7 @@ fn dearer(bends: u32, own: i32, other: i32) -> u64
     }
 }
 
-/// By how much one price is above another.
+/// By how much one potential is above another.
 fn gap(low: i32, high: i32) -> u64
     requires { low ≤ℤ high }
     ensures value { pos result ≡ high -ℤ low }

@@ -2,16 +2,21 @@
 #![tactic(auto)]
 
 use commands::command;
-use program_io::{Fault, arguments_fault, report};
+use program_io::{ErrorConsole, Fault, StandardInput, arguments_fault, report};
 use std::process::ExitCode;
 use std::{env, io};
 use streams::IoSink;
 
 fn main(rt: HostRuntime) -> ExitCode {
+    let input = StandardInput::new(rt.stdin());
+    let console = ErrorConsole {
+        clock: &rt,
+        err: rt.stderr(),
+    };
     let mut out = IoSink::new(io::writer(&rt));
     let mut err = IoSink::new(rt.stderr());
     let status = match arguments(&rt) {
-        Ok(words) => command(&rt, words.as_slice(), &mut out, &mut err),
+        Ok(words) => command(&rt, words.as_slice(), &input, &console, &mut out, &mut err),
         Err(fault) => {
             report(fault, &mut err);
             fault.status()

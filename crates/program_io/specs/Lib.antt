@@ -1,1 +1,3 @@
+pub mod Naming
 pub mod Refusals
+pub mod Sources

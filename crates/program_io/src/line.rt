@@ -1,4 +1,4 @@
-//! The line that names a fault. It is made without memory.
+//! Short lines of text. They are made without memory.
 ghost use Rattle.std.specs.Prelude.{◌≡◌, ◌≤◌, false};
 
 use crate::faults::Fault;
@@ -8,10 +8,23 @@ use streams::{Sink, put_all};
 
 /// A short line of text in a fixed buffer; what does not fit is left out.
 #[derive(Drop)]
-struct Line {
+pub(crate) struct Line {
     bytes: [u8; 128],
     len: usize,
     ghost in_range: { len ≤ 128 },
+}
+
+impl Line {
+    pub(crate) fn new() -> Line {
+        Line {
+            bytes: [0; 128],
+            len: 0,
+        }
+    }
+
+    pub(crate) fn text(&self) -> &[u8] {
+        &self.bytes[..self.len]
+    }
 }
 
 impl fmt::Write for Line {
@@ -31,10 +44,7 @@ impl fmt::Write for Line {
 pub fn report<E: Sink>(fault: Fault, err: &mut E)
     requires { E.failed err.old ≡ false }
 {
-    let mut line = Line {
-        bytes: [0; 128],
-        len: 0,
-    };
+    let mut line = Line::new();
     let _ = writeln!(line, "planarbend: {fault}");
-    let _ = put_all(err, &line.bytes[..line.len]);
+    let _ = put_all(err, line.text());
 }

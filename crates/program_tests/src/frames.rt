@@ -1,10 +1,12 @@
-//! Runs of the whole command on files that the tests write. The bytes and the texts come from the
-//! description of the format and of the report.
-ghost use Rattle.std.specs.Prelude.{◌≤◌};
+//! Runs of `frames` on files that the tests write. The bytes and the texts come from the description of the
+//! format and of the report.
 
-use commands::command;
+use crate::shared::{
+    EDGE, HEADER, Narrow, TRIANGLE, check, check_failed_write, check_help, check_refused, copies,
+    holds, names_no_run, run, run_narrow, same, write_parts,
+};
 use program_io::{Fault, report};
-use std::io::{ErrorKind, Write};
+use std::alloc::{AllocError, Global};
 use std::process::Abort;
 use std::rt::Files;
 use std::sync::Wait;
@@ -13,39 +15,8 @@ use std::thread::Threads;
 use std::{fs, io};
 use streams::{BatchFault, IoSink, WriteFault};
 
-/// What a run wrote, and its status.
-#[derive(Drop)]
-pub struct Ran {
-    pub status: u8,
-    pub out: Vec<u8>,
-    pub err: Vec<u8>,
-}
-
-/// Runs the command with these words.
-pub fn run<R: Files + AllocGlobal + Threads + Wait + Sync>(
-    rt: &R,
-    words: &[&str],
-) -> Result<Ran, Fail>
-where
-    R::File: Send,
-    R::Dir: Send,
-{
-    let mut given = Vec::new(rt.alloc());
-    for word in words {
-        given.push(String::from_str(rt.alloc(), word)?)?;
-    }
-    let mut out = IoSink::new(Vec::new(rt.alloc()));
-    let mut err = IoSink::new(Vec::new(rt.alloc()));
-    let status = command(rt, given.as_slice(), &mut out, &mut err);
-    Ok(Ran {
-        status,
-        out: out.into_writer(),
-        err: err.into_writer(),
-    })
-}
-
 /// Runs `frames` on a file of these parts, and looks at the report and the status.
-fn check<R: Files + AllocGlobal + Threads + Wait + Sync + Abort>(
+fn check_parts<R: Files + AllocGlobal + Threads + Wait + Sync + Abort>(
     rt: &R,
     parts: &[&[u8]],
     report: &str,
@@ -55,45 +26,31 @@ where
     R::File: Send,
     R::Dir: Send,
 {
-    let mut bytes = Vec::new(rt.alloc());
-    for part in parts {
-        bytes.extend_from_slice(part)?;
-    }
-    fs::write(rt, "case.pc", bytes.as_slice())?;
-    let ran = run(rt, &["frames", "case.pc"])?;
-    assert_eq!(rt; ran.out.as_slice(), report.as_bytes(), "{report}");
-    assert_eq!(rt; ran.status, status, "{report}");
-    assert_eq!(rt; ran.err.len(), 0, "{report}");
-    Ok(())
+    write_parts(rt, "case.pc", parts)?;
+    check(rt, &["frames", "case.pc"], report, status)
 }
-
-pub const HEADER: &[u8] = b">>planar_code<<";
-
-pub const EDGE: &[u8] = &[2, 2, 0, 1, 0];
-
-pub const TRIANGLE: &[u8] = &[3, 2, 3, 0, 3, 1, 0, 1, 2, 0];
 
 #[test]
 fn reports_records_and_the_ending(rt: HostRuntime) -> Result<(), Fail> {
-    check(&rt, &[], "end header records=0\n", 3)?;
-    check(&rt, &[b">>planar_code<"], "end header records=0\n", 3)?;
-    check(&rt, &[b">>planar_codeX"], "end header records=0\n", 3)?;
-    check(&rt, &[HEADER], "end complete records=0\n", 0)?;
+    check_parts(&rt, &[], "end header records=0\n", 3)?;
+    check_parts(&rt, &[b">>planar_code<"], "end header records=0\n", 3)?;
+    check_parts(&rt, &[b">>planar_codeX"], "end header records=0\n", 3)?;
+    check_parts(&rt, &[HEADER], "end complete records=0\n", 0)?;
     let both = "record 1 n=2 bytes=5\nrecord 2 n=3 bytes=10\nend complete records=2\n";
-    check(&rt, &[HEADER, EDGE, TRIANGLE], both, 0)?;
+    check_parts(&rt, &[HEADER, EDGE, TRIANGLE], both, 0)?;
     let cut = "record 1 n=2 bytes=5\nend truncated records=1\n";
-    check(&rt, &[HEADER, EDGE, &[2, 2, 0, 1]], cut, 3)?;
+    check_parts(&rt, &[HEADER, EDGE, &[2, 2, 0, 1]], cut, 3)?;
     let large = "record 1 n=2 bytes=5\nend large records=1\n";
-    check(&rt, &[HEADER, EDGE, &[0]], large, 3)?;
-    check(&rt, &[HEADER, EDGE, &[0, 2]], large, 3)?;
+    check_parts(&rt, &[HEADER, EDGE, &[0]], large, 3)?;
+    check_parts(&rt, &[HEADER, EDGE, &[0, 2]], large, 3)?;
     let entries = [1u8; 255];
-    check(
+    check_parts(
         &rt,
         &[HEADER, &[255], &entries[..254]],
         "end truncated records=0\n",
         3,
     )?;
-    check(
+    check_parts(
         &rt,
         &[HEADER, &[255], &entries],
         "end oversize records=0\n",
@@ -101,57 +58,49 @@ fn reports_records_and_the_ending(rt: HostRuntime) -> Result<(), Fail> {
     )
 }
 
-#[test]
-fn stops_after_a_million_records(rt: HostRuntime) -> Result<(), Fail> {
-    let mut bytes = HEADER.to_vec(rt.alloc())?;
+/// Runs `frames` on a file of these bytes, and looks at the end of the report and at the status.
+fn check_end<R: Files + AllocGlobal + Threads + Wait + Sync + Abort>(
+    rt: &R,
+    bytes: &[u8],
+    end: &str,
+    status: u8,
+) -> Result<(), Fail>
+where
+    R::File: Send,
+    R::Dir: Send,
+{
+    fs::write(rt, "million.pc", bytes)?;
+    let ran = run(rt, &["frames", "million.pc"])?;
+    same(rt, ran.out.as_slice().ends_with(end.as_bytes()), true);
+    same(rt, ran.status, status);
+    Ok(())
+}
+
+/// The header and a million records of one vertex.
+fn million_records(alloc: Global) -> Result<Vec<u8>, AllocError> {
+    let mut bytes = HEADER.to_vec(alloc)?;
     for _ in 0..1_000_000 {
         bytes.extend_from_slice(&[1, 0])?;
     }
-    fs::write(&rt, "million.pc", bytes.as_slice())?;
-    let ran = run(&rt, &["frames", "million.pc"])?;
-    let last = "\nrecord 1000000 n=1 bytes=2\nend complete records=1000000\n";
-    assert!(rt; ran.out.as_slice().ends_with(last.as_bytes()));
-    assert_eq!(rt; ran.status, 0);
+    Ok(bytes)
+}
 
+#[test]
+fn stops_after_a_million_records(rt: HostRuntime) -> Result<(), Fail> {
+    let mut bytes = million_records(rt.alloc())?;
+    let complete = "\nrecord 1000000 n=1 bytes=2\nend complete records=1000000\n";
+    check_end(&rt, bytes.as_slice(), complete, 0)?;
     bytes.push(1)?;
-    fs::write(&rt, "more.pc", bytes.as_slice())?;
-    let ran = run(&rt, &["frames", "more.pc"])?;
-    let last = "\nrecord 1000000 n=1 bytes=2\nend many records=1000000\n";
-    assert!(rt; ran.out.as_slice().ends_with(last.as_bytes()));
-    assert_eq!(rt; ran.status, 3);
-    Ok(())
+    let many = "\nrecord 1000000 n=1 bytes=2\nend many records=1000000\n";
+    check_end(&rt, bytes.as_slice(), many, 3)
 }
 
 #[test]
 fn marks_what_cannot_be_read(rt: HostRuntime) -> Result<(), Fail> {
     fs::create_dir_all(&rt, "frames_folder")?;
     for name in ["frames_folder", "missing.pc", "frames_folder/missing.pc"] {
-        let ran = run(&rt, &["frames", name])?;
-        assert_eq!(rt;
-            ran.out.as_slice(),
-            b"end io records=0\n".as_slice(),
-            "{name}"
-        );
-        assert_eq!(rt; ran.status, 3, "{name}");
-        assert_eq!(rt; ran.err.len(), 0, "{name}");
+        check(&rt, &["frames", name], "end io records=0\n", 3)?;
     }
-    Ok(())
-}
-
-/// Runs a command line that is refused, and looks for a text in what is said of it.
-pub fn check_refused<R: Files + AllocGlobal + Threads + Wait + Sync + Abort>(
-    rt: &R,
-    words: &[&str],
-    text: &str,
-) -> Result<(), Fail>
-where
-    R::File: Send,
-    R::Dir: Send,
-{
-    let ran = run(rt, words)?;
-    assert_eq!(rt; ran.status, 2, "{text}");
-    assert!(rt; holds(ran.err.as_slice(), text.as_bytes()), "{text}");
-    assert_eq!(rt; ran.out.len(), 0, "{text}");
     Ok(())
 }
 
@@ -182,100 +131,35 @@ fn answers_command_lines(rt: HostRuntime) -> Result<(), Fail> {
     Ok(())
 }
 
-/// Asks for help, and looks for a text in it.
-pub fn check_help<R: Files + AllocGlobal + Threads + Wait + Sync + Abort>(
-    rt: &R,
-    words: &[&str],
-    text: &str,
-) -> Result<(), Fail>
-where
-    R::File: Send,
-    R::Dir: Send,
-{
-    let ran = run(rt, words)?;
-    assert_eq!(rt; ran.status, 0, "{text}");
-    assert!(rt; holds(ran.out.as_slice(), text.as_bytes()), "{text}");
-    assert_eq!(rt; ran.err.len(), 0, "{text}");
-    Ok(())
-}
-
-/// Whether `part` stands somewhere in `text`.
-pub fn holds(text: &[u8], part: &[u8]) -> bool {
-    text.windows(part.len().max(1)).any(|window| window == part)
-}
-
-/// A writer with little room, which fails when it is full.
-#[derive(Drop)]
-pub struct Narrow {
-    taken: [u8; 128],
-    len: usize,
-    room: usize,
-    ghost in_range: { room ≤ 128 },
-    ghost within: { len ≤ 128 },
-}
-
-impl Write for Narrow {
-    fn write(&mut self, buf: &[u8]) -> io::Result<usize> {
-        if self.len >= self.room {
-            return Err(io::Error::from(ErrorKind::Other));
-        }
-        let count = buf.len().min(self.room - self.len);
-        let end = self.len + count;
-        self.taken[self.len..end].copy_from_slice(&buf[..count]);
-        self.len = end;
-        Ok(count)
-    }
-
-    fn flush(&mut self) -> io::Result<()> {
-        Ok(())
-    }
-}
-
-impl Narrow {
-    pub fn new(room: usize) -> Narrow
-        requires { room ≤ 128 }
-    {
-        Narrow {
-            taken: [0; 128],
-            len: 0,
-            room,
-        }
-    }
-
-    pub fn text(&self) -> &[u8] {
-        &self.taken[..self.len]
-    }
-}
-
 #[test]
 fn names_a_failed_write(rt: HostRuntime) -> Result<(), Fail> {
-    fs::write(
-        &rt,
-        "case.pc",
-        [HEADER, EDGE].concat(rt.alloc())?.as_slice(),
-    )?;
-    let words = [
-        String::from_str(rt.alloc(), "frames")?,
-        String::from_str(rt.alloc(), "case.pc")?,
-    ];
+    let words = words_for(&rt)?;
     for room in 0..REPORT.len() {
-        let mut out = IoSink::new(Narrow::new(room));
-        let mut err = IoSink::new(Narrow::new(64));
-        assert_eq!(rt; command(&rt, &words, &mut out, &mut err), 1);
-        assert_eq!(rt; out.into_writer().text(), &REPORT[..room]);
-        assert_eq!(rt;
-            err.into_writer().text(),
-            b"planarbend: write failed\n".as_slice()
-        );
+        check_failed_write(&rt, words.as_slice(), &REPORT[..room]);
     }
-    let mut out = IoSink::new(Narrow::new(64));
-    let mut err = IoSink::new(Narrow::new(0));
-    assert_eq!(rt; command(&rt, &words, &mut out, &mut err), 0);
-    assert_eq!(rt; out.into_writer().text(), REPORT);
-    let mut out = IoSink::new(Narrow::new(0));
-    let mut err = IoSink::new(Narrow::new(0));
-    assert_eq!(rt; command(&rt, &words, &mut out, &mut err), 1);
+    let ran = run_narrow(&rt, words.as_slice(), 64, 0);
+    same(&rt, ran.status, 0);
+    same(&rt, ran.out.text(), REPORT);
+    same(&rt, run_narrow(&rt, words.as_slice(), 0, 0).status, 1);
     Ok(())
+}
+
+/// The line of a fault.
+fn line_of(fault: Fault) -> Narrow {
+    let mut err = IoSink::new(Narrow::new(64));
+    report(fault, &mut err);
+    err.into_writer()
+}
+
+/// A fault is told in a line of this text, and has this status.
+fn check_fault(rt: &impl Abort, fault: Fault, text: &str, status: u8) {
+    let written = line_of(fault);
+    let line = written.text();
+    same(rt, line.starts_with(b"planarbend: "), true);
+    same(rt, line.ends_with(b"\n"), true);
+    same(rt, holds(line, text.as_bytes()), true);
+    same(rt, line.len(), text.len().saturating_add(13));
+    same(rt, fault.status(), status);
 }
 
 /// The line and the status of each fault.
@@ -301,19 +185,7 @@ fn tells_each_fault_in_a_line(rt: HostRuntime) {
         (Fault::Write(WriteFault::Memory), "out of memory", 1),
     ];
     for (fault, text, status) in told {
-        let mut err = IoSink::new(Narrow::new(64));
-        report(fault, &mut err);
-        let err = err.into_writer();
-        let line = err.text();
-        assert!(rt;
-            line.starts_with(b"planarbend: ") && line.ends_with(b"\n"),
-            "{text}"
-        );
-        assert!(rt;
-            line.len() == text.len() + 13 && holds(line, text.as_bytes()),
-            "{text}"
-        );
-        assert_eq!(rt; fault.status(), status, "{text}");
+        check_fault(&rt, fault, text, status);
     }
 }
 
@@ -323,33 +195,29 @@ fn names_want_of_memory(rt: HostRuntime) {
     let Ok(words) = words_for(&rt) else {
         return;
     };
-    let mut out = IoSink::new(Narrow::new(64));
-    let mut err = IoSink::new(Narrow::new(64));
-    let status = command(&rt, words.as_slice(), &mut out, &mut err);
-    let out = out.into_writer();
-    let err = err.into_writer();
-    let whole = out.text() == REPORT && err.len == 0 && status == 0;
-    let no_framer = out.text() == NO_FRAMER && err.len == 0 && status == 3;
-    let no_run = out.len == 0 && names_no_run(err.text()) && status == 1;
-    assert!(rt; whole || no_framer || no_run, "status {status}");
+    let ran = run_narrow(&rt, words.as_slice(), 64, 64);
+    same(
+        &rt,
+        is_allowed(ran.status, ran.out.text(), ran.err.text()),
+        true,
+    );
 }
 
 const REPORT: &[u8] = b"record 1 n=2 bytes=5\nend complete records=1\n";
 
 const NO_FRAMER: &[u8] = b"end memory records=0\n";
 
-/// Whether the line says that the run itself found no memory. Where a thread is started or an end
-/// is given up for it, the line may name that instead.
-pub fn names_no_run(line: &[u8]) -> bool {
-    line == b"planarbend: out of memory\n".as_slice()
-        || line == b"planarbend: a thread could not be run\n".as_slice()
-        || line == b"planarbend: a lane was lost\n".as_slice()
+/// Whether a run gave the whole report, or said what found no memory.
+fn is_allowed(status: u8, out: &[u8], err: &[u8]) -> bool {
+    match status {
+        0 => out == REPORT && err.is_empty(),
+        1 => out.is_empty() && names_no_run(err),
+        3 => out == NO_FRAMER && err.is_empty(),
+        _ => false,
+    }
 }
 
 fn words_for<R: Files + AllocGlobal>(rt: &R) -> io::Result<Vec<String>> {
     fs::write(rt, "case.pc", [HEADER, EDGE].concat(rt.alloc())?.as_slice())?;
-    let mut words = Vec::new(rt.alloc());
-    words.push(String::from_str(rt.alloc(), "frames")?)?;
-    words.push(String::from_str(rt.alloc(), "case.pc")?)?;
-    Ok(words)
+    Ok(copies(rt.alloc(), &["frames", "case.pc"])?)
 }

@@ -1,42 +1,17 @@
 //! Runs of `layout` on files that the tests write. The bytes and the texts come from the description of
 //! the format and of the report.
 
-use super::frames::{EDGE, HEADER, Narrow, TRIANGLE, check_help, check_refused, names_no_run, run};
-use commands::command;
+use crate::shared::{
+    EDGE, HEADER, TRIANGLE, check, check_failed_write, check_help, check_refused, copies,
+    names_no_run, run, run_narrow, same, write_parts,
+};
+use std::alloc::{AllocError, Global};
 use std::process::Abort;
 use std::rt::Files;
 use std::sync::Wait;
 use std::test::Fail;
 use std::thread::Threads;
 use std::{fs, io};
-use streams::IoSink;
-
-/// Writes a file of these parts.
-fn write_parts<R: Files + AllocGlobal>(rt: &R, name: &str, parts: &[&[u8]]) -> io::Result<()> {
-    let mut bytes = Vec::new(rt.alloc());
-    for part in parts {
-        bytes.extend_from_slice(part)?;
-    }
-    fs::write(rt, name, bytes.as_slice())
-}
-
-/// Runs the command with these words, and looks at the report and the status.
-fn check<R: Files + AllocGlobal + Threads + Wait + Sync + Abort>(
-    rt: &R,
-    words: &[&str],
-    report: &str,
-    status: u8,
-) -> Result<(), Fail>
-where
-    R::File: Send,
-    R::Dir: Send,
-{
-    let ran = run(rt, words)?;
-    assert_eq!(rt; ran.out.as_slice(), report.as_bytes(), "{report}");
-    assert_eq!(rt; ran.status, status, "{report}");
-    assert_eq!(rt; ran.err.len(), 0, "{report}");
-    Ok(())
-}
 
 #[test]
 fn reports_each_graph(rt: HostRuntime) -> Result<(), Fail> {
@@ -75,6 +50,15 @@ fn reports_refused_graphs(rt: HostRuntime) -> Result<(), Fail> {
     )
 }
 
+/// These texts, one behind another.
+fn joined(alloc: Global, parts: &[&str]) -> Result<String, AllocError> {
+    let mut text = String::new(alloc);
+    for part in parts {
+        text.push_str(part)?;
+    }
+    Ok(text)
+}
+
 /// Runs `layout` on a file of this body behind the header, and looks at the lines behind the first: they are
 /// the same under either choice of the outer face.
 fn check_body<R: Files + AllocGlobal + Threads + Wait + Sync + Abort>(
@@ -88,7 +72,7 @@ where
     R::Dir: Send,
 {
     write_parts(rt, "body.pc", &[HEADER, body])?;
-    let report = format!(in rt.alloc(); "file 1\n{lines}\n")?;
+    let report = joined(rt.alloc(), &["file 1\n", lines, "\n"])?;
     check(rt, &["layout", "body.pc"], report.as_str(), status)?;
     check(
         rt,
@@ -96,6 +80,24 @@ where
         report.as_str(),
         status,
     )
+}
+
+/// Runs `layout` on a file of one graph, and looks at what the graph's line says behind the number.
+fn check_graph<R: Files + AllocGlobal + Threads + Wait + Sync + Abort>(
+    rt: &R,
+    body: &[u8],
+    said: &[&str],
+) -> Result<(), Fail>
+where
+    R::File: Send,
+    R::Dir: Send,
+{
+    let said = joined(rt.alloc(), said)?;
+    let lines = joined(
+        rt.alloc(),
+        &["graph 1 ", said.as_str(), "\nend complete graphs=1"],
+    )?;
+    check_body(rt, body, lines.as_str(), 0)
 }
 
 /// Known graphs, each in a file of its own, with their fewest bends.
@@ -120,8 +122,7 @@ fn lays_out_known_graphs(rt: HostRuntime) -> Result<(), Fail> {
         ),
     ];
     for (body, sizes) in laid {
-        let lines = format!(in rt.alloc(); "graph 1 ok {sizes} drawn=yes\nend complete graphs=1")?;
-        check_body(&rt, body, lines.as_str(), 0)?;
+        check_graph(&rt, body, &["ok ", sizes, " drawn=yes"])?;
     }
     Ok(())
 }
@@ -182,8 +183,7 @@ fn names_each_broken_rule(rt: HostRuntime) -> Result<(), Fail> {
         (&[4, 2, 0, 1, 0, 4, 0, 3, 0], "disconnected"),
     ];
     for (body, rule) in refused {
-        let lines = format!(in rt.alloc(); "graph 1 refused {rule}\nend complete graphs=1")?;
-        check_body(&rt, body, lines.as_str(), 0)?;
+        check_graph(&rt, body, &["refused ", rule])?;
     }
     Ok(())
 }
@@ -285,14 +285,19 @@ fn shows_json_lines(rt: HostRuntime) -> Result<(), Fail> {
 fn shows_an_edge_as_json(rt: HostRuntime) -> Result<(), Fail> {
     write_parts(&rt, "json_edge.pc", &[HEADER, EDGE])?;
     let ran = run(&rt, &["layout", "--json", "--lanes", "2", "json_edge.pc"])?;
-    assert_eq!(rt; (ran.status, ran.err.len()), (0, 0));
-    let text = ran.out.as_slice();
+    same(&rt, (ran.status, ran.err.len()), (0, 0));
+    expect_edge(&rt, ran.out.as_slice());
+    Ok(())
+}
+
+/// The text begins and ends as that of a single edge.
+fn expect_edge(rt: &impl Abort, text: &[u8]) {
     let begins =
         b"{\"angles\":[4,4],\"bends\":0,\"drawn\":\"yes\",\"f\":1,\"file\":1,\"graph\":1,\"m\":1,\"n\":2,\"points\":{";
     let ends =
         b"\"status\":\"ok\",\"turns\":[\"\",\"\"]}\n{\"end\":\"complete\",\"file\":1,\"graphs\":1}\n";
-    assert!(rt; text.starts_with(begins) && text.ends_with(ends));
-    Ok(())
+    same(rt, text.starts_with(begins), true);
+    same(rt, text.ends_with(ends), true);
 }
 
 #[test]
@@ -327,7 +332,7 @@ fn refuses_other_command_lines(rt: HostRuntime) -> Result<(), Fail> {
     check_help(
         &rt,
         &["layout", "--help"],
-        "  geng -c -D4 8 | planarg -p > graphs.pc && planarbend layout graphs.pc\n",
+        "  geng -c -D4 8 | planarg -p | planarbend layout -\n",
     )
 }
 
@@ -337,24 +342,14 @@ const REPORT: &[u8] = b"file 1\n\
 
 fn words_for<R: Files + AllocGlobal>(rt: &R) -> io::Result<Vec<String>> {
     write_parts(rt, "case.pc", &[HEADER, EDGE])?;
-    let mut words = Vec::new(rt.alloc());
-    words.push(String::from_str(rt.alloc(), "layout")?)?;
-    words.push(String::from_str(rt.alloc(), "case.pc")?)?;
-    Ok(words)
+    Ok(copies(rt.alloc(), &["layout", "case.pc"])?)
 }
 
 #[test]
 fn names_a_failed_write(rt: HostRuntime) -> Result<(), Fail> {
     let words = words_for(&rt)?;
     for room in [0, 10, REPORT.len() - 1] {
-        let mut out = IoSink::new(Narrow::new(room));
-        let mut err = IoSink::new(Narrow::new(64));
-        assert_eq!(rt; command(&rt, words.as_slice(), &mut out, &mut err), 1);
-        assert_eq!(rt; out.into_writer().text(), &REPORT[..room]);
-        assert_eq!(rt;
-            err.into_writer().text(),
-            b"planarbend: write failed\n".as_slice()
-        );
+        check_failed_write(&rt, words.as_slice(), &REPORT[..room]);
     }
     Ok(())
 }
@@ -365,15 +360,22 @@ fn names_want_of_memory(rt: HostRuntime) {
     let Ok(words) = words_for(&rt) else {
         return;
     };
-    let mut out = IoSink::new(Narrow::new(128));
-    let mut err = IoSink::new(Narrow::new(64));
-    let status = command(&rt, words.as_slice(), &mut out, &mut err);
-    let out = out.into_writer();
-    let err = err.into_writer();
-    let whole = out.text() == REPORT && err.text().is_empty() && status == 0;
-    let marked = names_no_answer(out.text()) && err.text().is_empty() && status == 3;
-    let no_run = out.text().is_empty() && names_no_run(err.text()) && status == 1;
-    assert!(rt; whole || marked || no_run, "status {status}");
+    let ran = run_narrow(&rt, words.as_slice(), 128, 64);
+    same(
+        &rt,
+        is_allowed(ran.status, ran.out.text(), ran.err.text()),
+        true,
+    );
+}
+
+/// Whether a run gave the whole report, or said what found no memory.
+fn is_allowed(status: u8, out: &[u8], err: &[u8]) -> bool {
+    match status {
+        0 => out == REPORT && err.is_empty(),
+        1 => out.is_empty() && names_no_run(err),
+        3 => names_no_answer(out) && err.is_empty(),
+        _ => false,
+    }
 }
 
 /// Whether the report says that the file or its graph found no memory.
@@ -391,24 +393,27 @@ fn json_names_want_of_memory(rt: HostRuntime) {
     let Ok(words) = json_words_for(&rt) else {
         return;
     };
-    let mut out = IoSink::new(Narrow::new(128));
-    let mut err = IoSink::new(Narrow::new(64));
-    let status = command(&rt, words.as_slice(), &mut out, &mut err);
-    let out = out.into_writer();
-    let err = err.into_writer();
-    let whole = out.text() == JSON_LINES && err.text().is_empty() && status == 0;
-    let marked = names_no_json_answer(out.text()) && err.text().is_empty() && status == 3;
-    let no_run = JSON_LINES.starts_with(out.text()) && names_no_run(err.text()) && status == 1;
-    assert!(rt; whole || marked || no_run, "status {status}");
+    let ran = run_narrow(&rt, words.as_slice(), 128, 64);
+    same(
+        &rt,
+        is_json_allowed(ran.status, ran.out.text(), ran.err.text()),
+        true,
+    );
+}
+
+/// Whether a run gave all lines, or said what found no memory.
+fn is_json_allowed(status: u8, out: &[u8], err: &[u8]) -> bool {
+    match status {
+        0 => out == JSON_LINES && err.is_empty(),
+        1 => JSON_LINES.starts_with(out) && names_no_run(err),
+        3 => names_no_json_answer(out) && err.is_empty(),
+        _ => false,
+    }
 }
 
 fn json_words_for<R: Files + AllocGlobal>(rt: &R) -> io::Result<Vec<String>> {
     write_parts(rt, "json_case.pc", &[HEADER, &[1, 0]])?;
-    let mut words = Vec::new(rt.alloc());
-    for word in ["layout", "--json", "json_case.pc"] {
-        words.push(String::from_str(rt.alloc(), word)?)?;
-    }
-    Ok(words)
+    Ok(copies(rt.alloc(), &["layout", "--json", "json_case.pc"])?)
 }
 
 /// Whether the lines say that the file or its graph found no memory.

@@ -9,4 +9,10 @@ mod layouts;
 #[cfg(test)]
 mod lines;
 #[cfg(test)]
+mod shared;
+#[cfg(test)]
 mod side_by_side;
+#[cfg(test)]
+mod stream_options;
+#[cfg(test)]
+mod unread;

@@ -1,34 +1,12 @@
 //! What command lines ask for, word by word.
 
-use super::frames::{EDGE, HEADER, Narrow, TRIANGLE, check_refused, holds, run};
-use commands::command;
-use std::fs;
-use std::process::Abort;
-use std::rt::Files;
-use std::sync::Wait;
+use crate::shared::{
+    EDGE, HEADER, TRIANGLE, check, check_failed_write, check_help, check_refused, copies,
+    write_parts,
+};
 use std::test::Fail;
-use std::thread::Threads;
-use streams::IoSink;
 
 const VERSION: &str = "planarbend 0.2.0\nproved with rattle-kit-13b logic dac8208d650f15bf\n";
-
-/// Runs the command with these words, and looks at what it prints and at the status.
-fn check<R: Files + AllocGlobal + Threads + Wait + Sync + Abort>(
-    rt: &R,
-    words: &[&str],
-    printed: &str,
-    status: u8,
-) -> Result<(), Fail>
-where
-    R::File: Send,
-    R::Dir: Send,
-{
-    let ran = run(rt, words)?;
-    assert_eq!(rt; ran.out.as_slice(), printed.as_bytes(), "{printed}");
-    assert_eq!(rt; ran.status, status, "{printed}");
-    assert_eq!(rt; ran.err.len(), 0, "{printed}");
-    Ok(())
-}
 
 #[test]
 fn prints_the_version(rt: HostRuntime) -> Result<(), Fail> {
@@ -39,24 +17,15 @@ fn prints_the_version(rt: HostRuntime) -> Result<(), Fail> {
         &["layout", "--version", "missing.pc"],
         "unexpected argument '--version' found",
     )?;
-    let ran = run(&rt, &["--help"])?;
-    assert!(rt; holds(ran.out.as_slice(), b"--version"));
-    Ok(())
+    check_help(&rt, &["--help"], "--version")
 }
 
 /// An output with too little room takes a beginning of the version.
 #[test]
 fn names_a_failed_write_of_the_version(rt: HostRuntime) -> Result<(), Fail> {
-    let words = [String::from_str(rt.alloc(), "--version")?];
+    let words = copies(rt.alloc(), &["--version"])?;
     for room in [0, 10, VERSION.len() - 1] {
-        let mut out = IoSink::new(Narrow::new(room));
-        let mut err = IoSink::new(Narrow::new(64));
-        assert_eq!(rt; command(&rt, &words, &mut out, &mut err), 1);
-        assert_eq!(rt; out.into_writer().text(), &VERSION.as_bytes()[..room]);
-        assert_eq!(rt;
-            err.into_writer().text(),
-            b"planarbend: write failed\n".as_slice()
-        );
+        check_failed_write(&rt, words.as_slice(), &VERSION.as_bytes()[..room]);
     }
     Ok(())
 }
@@ -64,16 +33,8 @@ fn names_a_failed_write_of_the_version(rt: HostRuntime) -> Result<(), Fail> {
 /// Files keep their order among options, wherever these stand.
 #[test]
 fn takes_options_out_of_the_files(rt: HostRuntime) -> Result<(), Fail> {
-    fs::write(
-        &rt,
-        "edge.pc",
-        [HEADER, EDGE].concat(rt.alloc())?.as_slice(),
-    )?;
-    fs::write(
-        &rt,
-        "best",
-        [HEADER, TRIANGLE].concat(rt.alloc())?.as_slice(),
-    )?;
+    write_parts(&rt, "edge.pc", &[HEADER, EDGE])?;
+    write_parts(&rt, "best", &[HEADER, TRIANGLE])?;
     let report = "file 1\n\
         graph 1 ok n=3 m=3 f=2 bends=1 drawn=yes\n\
         end complete graphs=1\n\

@@ -1,14 +1,15 @@
 //! Runs of `layout` in several lanes, which are to open their files side by side.
 
-use super::frames::{EDGE, HEADER, run};
+use crate::shared::{EDGE, HEADER, run, same, write_parts};
 use std::alloc::{Allocator, Global};
 use std::fs::{Metadata, OpenOptions};
+use std::process::Abort;
 use std::rt::Files;
 use std::sync::Wait;
 use std::sync::atomic::{AtomicBool, AtomicU32, Ordering};
 use std::test::Fail;
 use std::thread::Threads;
-use std::{fs, io, thread};
+use std::{io, thread};
 
 /// A runtime on which the open of a file waits until so many are asked for.
 #[derive(Drop)]
@@ -92,29 +93,39 @@ impl<R: Files> Files for Crowd<'_, R> {
     }
 }
 
+/// Runs `layout` on eight files in so many lanes, where the open of each file waits for those of others.
+fn check_lanes<R: Files + AllocGlobal + Threads + Wait + Sync + Abort>(
+    rt: &R,
+    lanes: &str,
+    wanted: u32,
+) -> Result<(), Fail>
+where
+    R::File: Send,
+    R::Dir: Send,
+{
+    let crowd = Crowd {
+        rt,
+        wanted,
+        asked: AtomicU32::new(0),
+        ran_out: AtomicBool::new(false),
+    };
+    let words = [
+        "layout", "--lanes", lanes, "lane.pc", "lane.pc", "lane.pc", "lane.pc", "lane.pc",
+        "lane.pc", "lane.pc", "lane.pc",
+    ];
+    let ran = run(&crowd, &words)?;
+    same(rt, ran.status, 0);
+    same(rt, crowd.ran_out.load(Ordering::SeqCst), false);
+    Ok(())
+}
+
 /// As many lanes as `--lanes` says open files at once: with eight files, the open of each waits for those
 /// of the others in so many lanes.
 #[test]
 fn works_in_as_many_lanes_as_are_asked_for(rt: HostRuntime) -> Result<(), Fail> {
-    fs::write(
-        &rt,
-        "lane.pc",
-        [HEADER, EDGE].concat(rt.alloc())?.as_slice(),
-    )?;
+    write_parts(&rt, "lane.pc", &[HEADER, EDGE])?;
     for (lanes, wanted) in [("1", 1), ("2", 2), ("3", 3), ("4", 4), ("8", 8)] {
-        let crowd = Crowd {
-            rt: &rt,
-            wanted,
-            asked: AtomicU32::new(0),
-            ran_out: AtomicBool::new(false),
-        };
-        let words = [
-            "layout", "--lanes", lanes, "lane.pc", "lane.pc", "lane.pc", "lane.pc", "lane.pc",
-            "lane.pc", "lane.pc", "lane.pc",
-        ];
-        let ran = run(&crowd, &words)?;
-        assert_eq!(rt; ran.status, 0, "{lanes}");
-        assert!(rt; !crowd.ran_out.load(Ordering::SeqCst), "{lanes}");
+        check_lanes(&rt, lanes, wanted)?;
     }
     Ok(())
 }

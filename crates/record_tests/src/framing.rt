@@ -243,3 +243,18 @@ fn names_a_want_of_memory(rt: HostRuntime) {
         }
     }
 }
+
+/// Pieces that complete no record take no memory, nor does the end of a stream.
+#[test]
+fn begun_records_take_no_memory(rt: HostRuntime) {
+    let alloc = rt.alloc();
+    let Ok(mut framer) = Framer::new(alloc) else {
+        return;
+    };
+    let mut out = Vec::new(alloc);
+    for piece in [&HEADER[..9], &HEADER[9..], &[255], &[1; 254]] {
+        same(&rt, framer.feed(alloc, piece, &mut out), Ok(()));
+    }
+    same(&rt, out.len(), 0);
+    same(&rt, framer.finish(), Ending::Truncated);
+}

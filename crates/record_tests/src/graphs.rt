@@ -120,3 +120,26 @@ fn broken_rules_take_no_memory(rt: HostRuntime) {
     let fault = Graph::read(rt.alloc(), &record).err();
     same(&rt, fault, Some(ReadFault::Rule(Rule::Multi)));
 }
+
+/// The numbers of the triangle, and those of its dart from 1 to 3.
+fn expect_triangle(rt: &impl Abort, graph: &Graph) {
+    same(rt, (graph.vertices(), graph.edges()), (3, 3));
+    assert!(rt; graph.darts() == 6);
+    same(rt, (graph.tail(1), graph.head(1)), (1, 3));
+    same(rt, (graph.reverse(1), graph.after(1)), (4, 0));
+    assert!(rt; graph.vertices() > 1);
+    same(rt, graph.neighbours(2), [3, 1].as_slice());
+}
+
+/// What is read off a record and a graph takes no memory.
+#[test]
+fn readers_take_no_memory(rt: HostRuntime) {
+    let Some(record) = record_of(rt.alloc(), &TRIANGLE) else {
+        return;
+    };
+    same(&rt, record.order(), 3);
+    same(&rt, record.bytes(), TRIANGLE.as_slice());
+    if let Ok(graph) = Graph::read(rt.alloc(), &record) {
+        expect_triangle(&rt, &graph);
+    }
+}

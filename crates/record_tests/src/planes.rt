@@ -160,7 +160,23 @@ fn memory_hands_the_graph_back(rt: HostRuntime) -> Result<(), Fail> {
     for dart in 0..plane.graph().darts() {
         same(&rt, plane.face_of(dart), dart % 2);
     }
+    expect_other_face(&rt, plane);
     Ok(())
+}
+
+/// The faces of the triangle, of which the other one can be turned out. None of it takes memory.
+fn expect_other_face(rt: &impl Abort, mut plane: Plane) {
+    for face in 0..plane.face_count() {
+        same(rt, plane.degree(face), 3);
+    }
+    for (dart, next) in [2, 5, 4, 1, 0, 3].iter().enumerate() {
+        if dart < usize::from(plane.graph().darts()) {
+            same(rt, plane.next(dart as u16), *next);
+        }
+    }
+    assert!(rt; plane.face_count() > 1);
+    plane.turn_out(1);
+    same(rt, plane.outer(), 1);
 }
 
 /// A graph that is no plane is refused as such, whatever memory there is.

@@ -111,7 +111,7 @@ fn write_end<S: Sink>(
 }
 
 /// Adds a line of any length, a piece at a time.
-fn push_line<S: Sink>(lines: &mut Gathered, sink: &mut S, line: &[u8]) -> Result<(), WriteFault>
+pub fn push_line<S: Sink>(lines: &mut Gathered, sink: &mut S, line: &[u8]) -> Result<(), WriteFault>
     requires { S.failed sink.old ≡ false }
     ensures { StaysOnItsWay (S.taken sink.old) lines.old (S.taken sink.new) lines.new
         (S.failed sink.new) line.now result }

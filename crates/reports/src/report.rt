@@ -201,8 +201,8 @@ fn push_end(lines: &mut Gathered, mark: Mark, count: u64)
     lines.push(b"\n");
 }
 
-/// The word of a mark.
-pub(crate) fn mark_word(mark: Mark) -> &'static str
+/// The word that reports have for a mark.
+pub fn mark_word(mark: Mark) -> &'static str
     ensures word { result.now ≡ word_of mark }
     ensures short { length result.now ≤ 9 }
 {

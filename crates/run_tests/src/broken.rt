@@ -18,7 +18,7 @@ use std::thread::Threads;
 
 /// A source that gives one byte a read, and fails once it was read so often.
 #[derive(Drop)]
-struct Failing {
+pub(crate) struct Failing {
     bytes: &'static [u8],
     at: usize,
     reads: usize,
@@ -67,11 +67,11 @@ impl Opener for Breaking {
 
 /// Opens three files, the second one only where there is no fault.
 #[derive(Clone, Copy)]
-struct Three {
-    fault: Option<OpenFault>,
+pub(crate) struct Three {
+    pub(crate) fault: Option<OpenFault>,
 }
 
-const FILES: [&[u8]; 3] = [
+pub(crate) const FILES: [&[u8]; 3] = [
     b">>planar_code<<\x03\x02\x03\x00\x03\x01\x00\x01\x02\x00\x03\x02\x03\x00\x03\x01\x00\x01\x02\x00",
     b">>planar_code<<\x02\x02\x00\x01\x00\x02\x02\x00\x01",
     b">>planar_code<<",
@@ -160,13 +160,26 @@ fn other_files_than_a_refused_one_stay(rt: HostRuntime) -> Result<(), Fail> {
 
 /// A writer that takes at most `most` bytes a write. Once it has `room` bytes, 211 at most, it fails or takes nothing.
 #[derive(Drop)]
-struct Narrow {
-    taken: [u8; 211],
-    len: usize,
+pub(crate) struct Narrow {
+    pub(crate) taken: [u8; 211],
+    pub(crate) len: usize,
     room: usize,
     most: usize,
     fails: bool,
     ghost within: { len ≤ 211 },
+}
+
+impl Narrow {
+    /// A writer that has taken nothing.
+    pub(crate) fn new(room: usize, most: usize, fails: bool) -> Narrow {
+        Narrow {
+            taken: [0; 211],
+            len: 0,
+            room,
+            most,
+            fails,
+        }
+    }
 }
 
 impl Write for Narrow {
@@ -194,18 +207,12 @@ fn written(
     most: usize,
     fails: bool,
 ) -> (Result<(), WriteFault>, Narrow) {
-    let mut sink = IoSink::new(Narrow {
-        taken: [0; 211],
-        len: 0,
-        room,
-        most,
-        fails,
-    });
+    let mut sink = IoSink::new(Narrow::new(room, most, fails));
     let ended = write_report(batch, &mut sink);
     (ended, sink.into_writer())
 }
 
-const REPORT: &[u8] =
+pub(crate) const REPORT: &[u8] =
     b"file 1\ngraph 1 ok n=3 m=3 f=2 bends=1 drawn=yes\ngraph 2 ok n=3 m=3 f=2 bends=1 drawn=yes\nend complete graphs=2\n\
     file 2\ngraph 1 ok n=2 m=1 f=1 bends=0 drawn=yes\nend truncated graphs=1\nfile 3\nend complete graphs=0\n";
 

@@ -1,8 +1,8 @@
 //! A run whose four stages are held at once, and runs over more lanes than there are files. The bytes and the
 //! texts come from the descriptions of the format and of the report.
 
-use crate::reported::{on_one_thread, opener_of, over_lanes, same};
-use collector::{Gate, MAX_LANES, MemOpener, OpenGate, Stage};
+use crate::reported::{on_one_thread, opener_of, over_lanes, same, text_over_lanes};
+use collector::{Form, Gate, MAX_LANES, MemOpener, OpenGate, Stage};
 use std::sync::atomic::{AtomicBool, AtomicU32, Ordering};
 use std::test::Fail;
 use std::thread;
@@ -65,6 +65,21 @@ fn gate_holds_each(rt: HostRuntime) -> Result<(), Fail> {
     let opener = opener_of(rt.alloc(), FOUR_TRIANGLES)?;
     let report = over_lanes(&rt, &opener, 1, 1, &gate)?;
     same(&rt, report.as_slice(), OF_FOUR_TRIANGLES);
+    assert!(rt; gate.took_place());
+    Ok(())
+}
+
+/// So they do where the text leaves as it is made.
+#[test]
+fn gate_holds_each_of_a_text(rt: HostRuntime) -> Result<(), Fail> {
+    let gate = HoldsEach {
+        calls: AtomicU32::new(0),
+        ran_out: AtomicBool::new(false),
+    };
+    let opener = opener_of(rt.alloc(), FOUR_TRIANGLES)?;
+    let (text, ended) = text_over_lanes(&rt, &opener, 1, 1, Form::Report, &gate);
+    assert!(rt; ended == Ok(0));
+    same(&rt, text.as_slice(), OF_FOUR_TRIANGLES);
     assert!(rt; gate.took_place());
     Ok(())
 }

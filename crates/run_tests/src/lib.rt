@@ -2,6 +2,8 @@
 #![tactic(auto)]
 
 #[cfg(test)]
+mod as_made;
+#[cfg(test)]
 mod broken;
 #[cfg(test)]
 mod held;

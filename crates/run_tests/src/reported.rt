@@ -1,7 +1,8 @@
 //! Reports of runs, as the tests of this crate compare them.
 
 use collector::{
-    Batch, Choice, Gate, IoSink, MemOpener, Opener, run_batch, run_plain, write_report,
+    Batch, Choice, Form, Gate, IoSink, MemOpener, Opener, TextFault, run_batch, run_plain,
+    write_batch, write_report,
 };
 use std::alloc::Global;
 use std::process::Abort;
@@ -49,4 +50,30 @@ pub(crate) fn over_lanes<R: AllocGlobal + Threads + Wait + Sync, O: Opener, G: G
     let alloc = rt.alloc();
     let batch = run_batch(rt, alloc, opener, files, lanes, 1, Choice::First, gate)?;
     report_of(alloc, &batch)
+}
+
+/// The text of a run over lanes in this form as it is made, with room for one message between two threads, and how
+/// the run ended.
+pub(crate) fn text_over_lanes<R: AllocGlobal + Threads + Wait + Sync, O: Opener, G: Gate>(
+    rt: &R,
+    opener: &O,
+    files: u32,
+    lanes: u32,
+    form: Form,
+    gate: &G,
+) -> (Vec<u8>, Result<u8, TextFault>) {
+    let mut sink = IoSink::new(Vec::new(rt.alloc()));
+    let ended = write_batch(
+        rt,
+        rt.alloc(),
+        opener,
+        files,
+        lanes,
+        1,
+        Choice::First,
+        form,
+        gate,
+        &mut sink,
+    );
+    (sink.into_writer(), ended)
 }

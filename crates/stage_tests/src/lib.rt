@@ -1,5 +1,6 @@
 //! Tests of the steps from a source to an entry: sources that are read and written, files that are opened
-//! and kept, records that are answered, the lines of entries, and refused allocations.
+//! and kept, records that are answered, the lines of entries, ends that are lost, and refused
+//! allocations.
 #![tactic(auto)]
 
 #[cfg(test)]
@@ -8,6 +9,8 @@ mod files;
 mod known;
 #[cfg(test)]
 mod lines;
+#[cfg(test)]
+mod lost;
 #[cfg(test)]
 mod records;
 #[cfg(test)]

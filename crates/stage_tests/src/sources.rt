@@ -212,21 +212,21 @@ fn reads_once_up_to_a_fault(rt: HostRuntime) {
 /// A writer that takes at most `most` bytes a write, and fails or takes nothing once it is full.
 #[derive(Drop)]
 struct Narrow {
-    taken: [u8; 64],
+    taken: [u8; 80],
     len: usize,
     room: usize,
     most: usize,
     fails: bool,
-    ghost in_range: { room ≤ 64 },
-    ghost within: { len ≤ 64 },
+    ghost in_range: { room ≤ 80 },
+    ghost within: { len ≤ 80 },
 }
 
 impl Narrow {
     fn new(room: usize, most: usize, fails: bool) -> Narrow
-        requires { room ≤ 64 }
+        requires { room ≤ 80 }
     {
         Narrow {
-            taken: [0; 64],
+            taken: [0; 80],
             len: 0,
             room,
             most,
@@ -338,6 +338,14 @@ fn check_records(rt: &impl Abort, found: &Frames) {
             (Mark::Ended(Ending::Complete), 2),
         ),
     }
+    check_lines(rt, found);
+}
+
+/// The report is written, whatever memory there is.
+fn check_lines(rt: &impl Abort, found: &Frames) {
+    let mut sink = IoSink::new(Narrow::new(80, 80, true));
+    same(rt, write_frames(found, &mut sink), Ok(()));
+    same(rt, sink.into_writer().text().ends_with(b"\n"), true);
 }
 
 /// With each allocation refused in turn, a run ends in a mark or a fault that names it. Where a

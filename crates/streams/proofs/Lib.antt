@@ -3,4 +3,5 @@ pub mod Lines
 pub mod Marks
 pub mod Messages
 pub mod Pieces
+pub mod Receiving
 pub mod Sinks

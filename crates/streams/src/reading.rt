@@ -1,17 +1,13 @@
 //! How a source is read into records and a mark.
-ghost use Rattle.std.specs.Prelude.{◌≡◌, ◌+◌, ◌<◌, ◌≤◌, ℕ, Bool, List, [], ◌++◌, Some, length, vec_len, IfOk, IfSome, OnOk};
+ghost use Rattle.std.specs.Prelude.{◌≡◌, ◌+◌, ◌<◌, ◌≤◌, ℕ, List, length, vec_len, IfOk};
 ghost use Rattle.planar_code.specs.Place.{StandsAt};
-ghost use Rattle.ruled_lanes.specs.LinkEnds.{given, GivesToSame};
-ghost use Rattle.streams.specs.Reading.{ReadsOn};
-ghost use Rattle.streams.specs.Framed.{GiveRecords, GivesFound, GivesBack};
+ghost use Rattle.streams.specs.Reading.{ReadsOn, IsFoundIn};
 
 use super::found::Mark;
-use super::framed::Framed;
 use super::input::Tap;
+use super::receiver::Receiver;
 use planar_code::{Ending, FeedFault, Framer, Record};
-use ruled_lanes::{Closed, Giver};
 use std::alloc::{AllocError, Global};
-use std::sync::Wait;
 
 /// How many bytes are asked of a source at once.
 const PIECE: usize = 65536;
@@ -74,80 +70,42 @@ pub fn read_piece<T: Tap>(
     }
 }
 
-/// Reads a source to its end, to its failure, or to the first fault in its bytes, and gives what it
-/// found: its records in order, one end mark and one stop. None where the link's other end was gone.
-pub fn read_all<R: Wait, T: Tap>(
-    rt: &R,
-    alloc: Global,
+/// Reads a source to its end, to its failure or to the first fault in its bytes, and has its records
+/// received, in order. It gives back the mark of the source: `Memory` where there is none for the framer.
+///
+/// # Errors
+///
+/// What the receiver answers where it does not receive records. It has then received those before.
+pub fn read_source<T: Tap, V: Receiver>(
     mut source: T,
-    mut buffer: Vec<u8>,
-    mut giver: Giver<Framed>,
-) -> Option<Giver<Framed>>
-    requires room { 0 < vec_len buffer }
-    requires none { given giver ≡ [] }
-    ensures { GivesBack (T.to_come source) (T.fails source) giver result }
-{
-    let mark = match read_records(rt, alloc, &mut source, buffer.as_mut_slice(), &mut giver) {
-        Some(mark) => mark,
-        None => return None,
-    };
-    match giver.give(rt, Framed::End(mark)) {
-        Ok(()) => {}
-        Err(_) => return None,
-    }
-    match giver.give(rt, Framed::Stop) {
-        Ok(()) => Some(giver),
-        Err(_) => None,
-    }
-}
-
-/// Reads a source, gives its records, and answers its mark. None where the link's other end was gone.
-fn read_records<R: Wait, T: Tap>(
-    rt: &R,
     alloc: Global,
-    source: &mut T,
     buffer: &mut [u8],
-    giver: &mut Giver<Framed>,
-) -> Option<Mark>
+    receiver: &mut V,
+) -> Result<Mark, V::Lost>
     requires room { 0 < length buffer.old }
-    requires none { given giver.old ≡ [] }
-    ensures link { GivesToSame giver.old giver.new }
-    ensures found { IfSome result (λ mark.
-        GivesFound (T.to_come source.old) (T.fails source.old) (given giver.new) mark) }
+    ensures found { IfOk result (λ mark. (records : List (List ℕ))
+        × V.received 0 records receiver.old receiver.new × IsFoundIn (T.to_come source) (T.fails source) records mark) }
+    ensures stays { V.stays receiver.old receiver.new }
 {
     let mut framer = match Framer::new(alloc) {
         Ok(framer) => framer,
-        Err(_) => return Some(Mark::Ended(Ending::Memory)),
+        Err(_) => return Ok(Mark::Ended(Ending::Memory)),
     };
-    for _ in rt.forever() {
-        let mut records = Vec::new(alloc);
-        let step = read_piece(source, &mut framer, alloc, buffer, &mut records);
-        match give_records(rt, giver, records) {
-            Ok(()) => {}
-            Err(_) => return None,
+    let mut records = Vec::new(alloc);
+    let mut ordinal = 0;
+    for _ in 0..u64::MAX {
+        let step = read_piece(&mut source, &mut framer, alloc, buffer, &mut records);
+        let next = ordinal + records.len() as u32;
+        match receiver.receive(alloc, ordinal, &mut records) {
+            Ok(()) => ordinal = next,
+            Err(lost) => return Err(lost),
         }
         match step {
             Step::More => {}
-            Step::Ended => return Some(Mark::Ended(framer.finish())),
-            Step::Failed => return Some(Mark::Io),
-            Step::Stopped(fault) => return Some(Mark::Ended(Ending::from(fault))),
+            Step::Ended => return Ok(Mark::Ended(framer.finish())),
+            Step::Failed => return Ok(Mark::Io),
+            Step::Stopped(fault) => return Ok(Mark::Ended(Ending::from(fault))),
         }
     }
     unreachable!()
-}
-
-/// Gives records in one message, or no message where there are none.
-fn give_records<R: Wait>(
-    rt: &R,
-    giver: &mut Giver<Framed>,
-    records: Vec<Record>,
-) -> Result<(), Closed<Framed>>
-    ensures link { GivesToSame giver.old giver.new }
-    ensures gave { OnOk result ((earlier : List (List ℕ)) → GiveRecords earlier (given giver.old)
-        → GiveRecords (earlier ++ records.items) (given giver.new)) }
-{
-    if records.is_empty() {
-        return Ok(());
-    }
-    giver.give(rt, Framed::Records(records))
 }

@@ -10,8 +10,9 @@ ghost use Rattle.streams.specs.Framed.{IsTold, GathersAll, GivesBack};
 use super::faults::BatchFault;
 use super::found::{Frames, Mark};
 use super::framed::Framed;
+use super::giving::give_all;
 use super::input::Tap;
-use super::reading::{piece_buffer, read_all};
+use super::reading::piece_buffer;
 use planar_code::Record;
 use ruled_lanes::{Giver, Taker, link};
 use std::alloc::Global;
@@ -90,7 +91,7 @@ pub fn run_frames<R: Threads + Wait + Sync, T: Tap + Send>(
                 move || -> Option<Giver<Framed>>
                     requires { (given giver ≡ []) × (vec_len buffer ≡ 65536) }
                     ensures { GivesBack (T.to_come source) (T.fails source) giver result }
-                { read_all(rt, alloc, source, buffer, giver) },
+                { give_all(rt, alloc, source, buffer, giver) },
             ) {
                 Ok(reader) => reader,
                 Err(_) => return Err(BatchFault::Thread),

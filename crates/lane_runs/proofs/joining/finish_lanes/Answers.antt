@@ -1,6 +1,6 @@
 use Rattle.std.proofs.Common.{vec_len, arith}
-use Rattle.lanes.proofs.Dealing.{drafts_ready}
 use Rattle.lane_runs.proofs.Ran.{numbered_weaker, running_still, idle_still}
+use Rattle.lane_runs.proofs.Ending.{ended_so}
 use Rattle.lane_runs.proofs.joining.finish_lanes.Goals as goal
 
 pub join_lanes-requires-clause-running : goal.join_lanes-requires-clause-running
@@ -13,7 +13,5 @@ join_lanes-requires-clause-idle g c = λ κs within. idle_still c.args.gatherer 
 pub join_lanes-requires-clause-stopped : goal.join_lanes-requires-clause-stopped
 join_lanes-requires-clause-stopped g c = λ κs within lane below. c.in-Ok.ensures.stopped lane (omega (arith, below, c.len-lanes.ensures, c.requires.lanes))
 
-pub returns-clause-ready : goal.returns-clause-ready
-returns-clause-ready g c = λ once.
-    drafts_ready g.E.Numbered.about c.args.choice (g.O.Opener.meaning c.args.opener.now) 0 _ c.gather.new.drafts.items c.in-Ok.ensures.told
-    (λ file below. c.in_ok-seats.ensures.told file (once file (omega (arith, below))))
+pub returns-in-Err-clause-ended : goal.returns-in-Err-clause-ended
+returns-in-Err-clause-ended g c = ended_so _ _ _ _ c.from.ensures c.in-Ok.ensures.told

@@ -1,41 +1,18 @@
-use Rattle.std.proofs.Common.{◌≡◌, ◌+◌, length, vec_len, Some, None, arith, refl, ap, sym, subst}
-use Rattle.std.proofs.lemmas.List.Elements.{All-pop}
-use Rattle.ruled_lanes.specs.TicketSeats.{IsSeatOf, IsUnused}
-use Rattle.lane_runs.specs.Running.{AreNumbered}
-use Rattle.lane_runs.proofs.Ran.{numbered_more, numbered_as, started}
+use Rattle.std.proofs.Common.{◌≡◌, true, [], vec_len, subst, arith}
+use Rattle.ruled_lanes.specs.TicketSeats.{limit_of, has_ended, IsSeatOf}
+use Rattle.lane_runs.specs.Running.{HasEnded}
+use Rattle.lane_runs.proofs.Ending.{ended_so}
+use Rattle.lane_runs.proofs.Seats.{drawn_once}
 use Rattle.lane_runs.proofs.run.run_lanes.Goals as goal
 
-pub loop-giver-preserved-in-Ok-push : goal.loop-giver-preserved-in-Ok-push
-loop-giver-preserved-in-Ok-push g c =
-    let inv = c.loop-giver.invariant in
-    let now = c.in_ok-started-in-Some-pop.started in
-    let none : vec_len c.loop-giver.idle ≡ 0 = inv.waits (omega (arith, c.in-Some-pop.ensures.cases)) in
-    let rest = numbered_as _ (vec_len c.loop-giver.running + vec_len c.loop-giver.idle) (0 + length c.loop-giver.running.items) _ _ (omega (arith, none)) c.in-Some.ensures.steps.0 inv.rest in
-    record {
-      lanes = omega (arith, inv.lanes, ap length c.in-Some.ensures.steps.0, c.in-Ok-push.ensures.len);
-      count = omega (arith, inv.count, c.in-Some-pop.ensures.cases, c.in-Ok-push.ensures.len);
-      waits = λ some. none;
-      rest = numbered_as _ (0 + length c.loop-giver.running.items + 1) _ _ _ (omega (arith, none, c.in-Ok-push.ensures.len)) refl rest.1;
-      running = subst (AreNumbered _ 0) (sym c.in-Ok-push.ensures.items)
-          (numbered_more _ 0 c.loop-giver.running.items now inv.running
-          (started _ _ _ _ _ _ _ _ _ c.in-Some.giver _ rest.0 refl c.in_ok-started-in-Some-pop.ensures.giver c.in_ok-started-in-Some-pop.ensures.choice c.in_ok-started-in-Some-pop.ensures.opener c.in_ok-started-in-Some-pop.ensures.tickets));
-      still = inv.still;
-      sits = (All-pop (IsSeatOf c.args.tickets.now) _ _ (Some c.in-Some-pop.seat) c.in-Some-pop.ensures.items inv.sits).0;
-      unused = (All-pop IsUnused _ _ (Some c.in-Some-pop.seat) c.in-Some-pop.ensures.items inv.unused).0;
-    }
+pub returns-in-Err-clause-ended : goal.returns-in-Err-clause-ended
+returns-in-Err-clause-ended g c = ended_so _ _ _ [] c.from.ensures c.requires.empty
 
-pub loop-giver-preserved : goal.loop-giver-preserved
-loop-giver-preserved g c =
-    let inv = c.loop-giver.invariant in
-    let none = c.in-None-pop.ensures.cases in
-    let rest = numbered_as _ (vec_len c.loop-giver.running + vec_len c.loop-giver.idle) (vec_len c.args.seats + length c.loop-giver.idle.items) _ _ (omega (arith, inv.count, none.0)) c.in-Some.ensures.steps.0 inv.rest in
-    record {
-      lanes = omega (arith, inv.lanes, ap length c.in-Some.ensures.steps.0, c.in-Ok-push-2.ensures.len);
-      count = omega (arith, inv.count, none.0, none.1);
-      waits = λ some. absurd (omega (arith, some, none.1));
-      rest = numbered_as _ (vec_len c.args.seats + length c.loop-giver.idle.items + 1) _ _ _ (omega (arith, inv.count, none.0, c.in-Ok-push-2.ensures.len)) refl rest.1;
-      running = inv.running;
-      still = subst (AreNumbered _ (vec_len c.args.seats)) (sym c.in-Ok-push-2.ensures.items) (numbered_more _ (vec_len c.args.seats) c.loop-giver.idle.items c.in-Some.giver inv.still rest.0);
-      sits = (All-pop (IsSeatOf c.args.tickets.now) _ _ None c.in-None-pop.ensures.items inv.sits).0;
-      unused = (All-pop IsUnused _ _ None c.in-None-pop.ensures.items inv.unused).0;
-    }
+pub returns-in-Ok-ran-clause-told : goal.returns-in-Ok-ran-clause-told
+returns-in-Ok-ran-clause-told g c =
+    let tickets = c.in-Ok.tickets in
+    let all = subst (HasEnded g.C.Consumer.holds g.C.Consumer.gave_up c.args.choice (g.O.Opener.meaning c.args.opener.now) tickets (vec_len c.in-Ok.seats) c.scoped-consumer.result.0)
+    c.in-Ok-ran.is c.scoped-consumer.ensures.1.0 in
+    let once = drawn_once (λ s. IsSeatOf tickets s × (has_ended s ≡ true)) c.in-Ok-ran.seats.items c.close.result (limit_of tickets) c.args.files (λ s is. is.1) all.1
+    (omega (arith, all.0, c.in-Ok.ensures.seats.0, c.requires.some)) c.in-Ok.ensures.limits.0 c.close.ensures.each_once c.close.ensures.ended in
+    (all.2.0, all.2.1, λ file below. all.2.2 file (once file below))

@@ -4,7 +4,7 @@ use Rattle.lanes.proofs.reading.read_file.Goals as goal
 
 pub returns-in-Ok-clause-kept : goal.returns-in-Ok-clause-kept
 returns-in-Ok-clause-kept g c =
-    IfOk-weaker c.read_source.result _ _ (λ mark is. keeps_opened _ _ _ _ _ _ _ _ mark c.in-Ok.ensures is) c.read_source.ensures.kept
+    IfOk-weaker c.read_open.result _ _ (λ mark is. keeps_opened _ _ _ _ _ _ _ _ mark c.in-Ok.ensures is) c.read_open.ensures.kept
 
 pub returns-in-Err-Io-clause-kept : goal.returns-in-Err-Io-clause-kept
 returns-in-Err-Io-clause-kept g c = keeps_unopened _ _ _ _ _ _ _ c.in-Err-Io.ensures c.in-Err-Io.field-0-is

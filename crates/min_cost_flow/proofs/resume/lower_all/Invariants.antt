@@ -1,4 +1,4 @@
-use Rattle.std.proofs.Common.{◌≡◌, ◌<◌, ◌≤◌, ℕ, length}
+use Rattle.std.proofs.Common.{◌≡◌, ◌<◌, ◌≤◌, ℕ}
 use Rattle.std.specs.Prelude.{◌-ℤ◌}
 use Rattle.networks.specs.Flow.{at_nodes}
 use Rattle.min_cost_flow.proofs.resume.lower_all.Given as goal

@@ -1,11 +1,9 @@
-use Rattle.std.proofs.Common.{◌≡◌, ◌<◌, ◌≤◌, ◌+◌, ◌*◌, ℕ, ℤ, List, length, ap, sym, ◌∙◌, subst, arith}
-use Rattle.std.specs.Prelude.{pos, ◌+ℤ◌, ◌-ℤ◌, ◌≤ℤ◌}
-use Rattle.networks.specs.Net.{Net, node_count, arc_count, shifted, moved}
+use Rattle.std.proofs.Common.{◌≡◌, ◌*◌, ℕ, length, ap, ◌∙◌, subst, arith}
+use Rattle.std.specs.Prelude.{pos, ◌+ℤ◌, ◌≤ℤ◌}
+use Rattle.networks.specs.Net.{node_count}
 use Rattle.networks.proofs.Moving.{length-moved}
 use Rattle.networks.specs.Flow.{at_nodes}
-use Rattle.networks.specs.Layout.{numbers, carried, IsLaidOut, IsFilled}
-use Rattle.min_cost_flow.specs.Round.{IsRound}
-use Rattle.min_cost_flow.specs.Stand.{IsSettled}
+use Rattle.networks.specs.Layout.{carried}
 use Rattle.min_cost_flow.proofs.Moved.{moved_round, laid_still, forward_in, reverse_in}
 use Rattle.min_cost_flow.proofs.resume.resume.Goals as goal
 

@@ -5,7 +5,7 @@ use Rattle.min_cost_flow.proofs.standing.Standing.shift.Goals as goal
 
 pub invariant_of-standing : goal.invariant_of-standing
 invariant_of-standing c =
-    let s = c.standing.inside in
+    let s = c.standing.inside.lists in
     let n = c.resume.new in
     let first_is : (with_items s.first n.first).items ≡ n.first = with_items_is s.first n.first (omega arith) in
     let reverse_is : (with_items s.reverse n.reverse).items ≡ n.reverse = with_items_is s.reverse n.reverse (omega arith) in

@@ -1,6 +1,6 @@
-use Rattle.std.proofs.Common.{rules, ◌≡◌, ◌<◌, ℕ, ℤ, List, length, refl, ap, sym, ◌∙◌, subst, arith}
+use Rattle.std.proofs.Common.{◌≡◌, ◌<◌, ℕ, ℤ, List, length, refl, ap, ◌∙◌, subst, arith}
 use Rattle.std.proofs.lemmas.List.{with_items_is}
-use Rattle.networks.specs.Net.{Net, arc_count, node_count}
+use Rattle.networks.specs.Net.{Net, arc_count}
 use Rattle.networks.specs.Flow.{Answer, Solves, amounts, at_nodes}
 use Rattle.networks.specs.Layout.{carried}
 use Rattle.min_cost_flow.proofs.Moved.{forward_in, reverse_in, solves_at}
@@ -10,18 +10,18 @@ pub read_flow-requires-clause-reverses : goal.read_flow-requires-clause-reverses
 read_flow-requires-clause-reverses c i b =
     let s = c.self.inside in
     let l = c.self.invariant.laid_out in
-    let same : c.in_ok-flow.flow.items ≡ s.forward.items = c.in_ok-flow.ensures.items ∙ c.deref.ensures.value in
-    let forward : c.deref_mut.result.now ≡ s.forward.items = c.deref_mut.ensures.value ∙ same in
-    let long : length c.deref_mut.result.now ≡ length s.forward.items = ap (length {A = ℕ}) forward in
+    let same : c.in_ok-flow.flow.items ≡ s.lists.forward.items = c.in_ok-flow.ensures.items ∙ c.deref.ensures.value in
+    let forward : c.deref_mut.result.now ≡ s.lists.forward.items = c.deref_mut.ensures.value ∙ same in
+    let long : length c.deref_mut.result.now ≡ length s.lists.forward.items = ap (length {A = ℕ}) forward in
     rw (forward, c.deref-2.ensures.value) (omega (arith, forward_in s.network _ _ _ i c.node_count-nodes.ensures.kept l (omega (arith, l.forwards)), l.reverses))
 
 pub read_flow-requires-clause-rooms : goal.read_flow-requires-clause-rooms
 read_flow-requires-clause-rooms c i b =
     let s = c.self.inside in
     let l = c.self.invariant.laid_out in
-    let same : c.in_ok-flow.flow.items ≡ s.forward.items = c.in_ok-flow.ensures.items ∙ c.deref.ensures.value in
-    let forward : c.deref_mut.result.now ≡ s.forward.items = c.deref_mut.ensures.value ∙ same in
-    let long : length c.deref_mut.result.now ≡ length s.forward.items = ap (length {A = ℕ}) forward in
+    let same : c.in_ok-flow.flow.items ≡ s.lists.forward.items = c.in_ok-flow.ensures.items ∙ c.deref.ensures.value in
+    let forward : c.deref_mut.result.now ≡ s.lists.forward.items = c.deref_mut.ensures.value ∙ same in
+    let long : length c.deref_mut.result.now ≡ length s.lists.forward.items = ap (length {A = ℕ}) forward in
     rw (forward, c.deref-2.ensures.value, c.deref-3.ensures.value) (omega (arith, reverse_in s.network _ _ _ i c.node_count-nodes.ensures.kept l (omega (arith, l.forwards)), c.self.invariant.filled.room_size))
 
 pub returns : goal.returns
@@ -30,16 +30,16 @@ returns c =
     let net = s.network in
     let st = c.self.invariant in
     let answer : Answer = c.new.result in
-    let same : c.in_ok-flow.flow.items ≡ s.forward.items = c.in_ok-flow.ensures.items ∙ c.deref.ensures.value in
-    let forward : c.deref_mut.result.now ≡ s.forward.items = c.deref_mut.ensures.value ∙ same in
-    let long : length c.deref_mut.result.now ≡ length s.forward.items = ap (length {A = ℕ}) forward in
+    let same : c.in_ok-flow.flow.items ≡ s.lists.forward.items = c.in_ok-flow.ensures.items ∙ c.deref.ensures.value in
+    let forward : c.deref_mut.result.now ≡ s.lists.forward.items = c.deref_mut.ensures.value ∙ same in
+    let long : length c.deref_mut.result.now ≡ length s.lists.forward.items = ap (length {A = ℕ}) forward in
     let flow_is : answer.flow ≡ c.read_flow.new.flow = ap (λ (a : Answer). a.flow) c.new.ensures ∙ with_items_is c.in_ok-flow.flow c.read_flow.new.flow (omega arith) in
-    let cloned : c.in_ok-potential.potential.items ≡ s.potential.items = c.in_ok-potential.ensures.items ∙ c.deref-4.ensures.value in
-    let potential_is : answer.potential ≡ s.potential.items = ap (λ (a : Answer). a.potential) c.new.ensures ∙ cloned in
-    let carries : (i : ℕ) → i < arc_count net → amounts answer.flow i ≡ carried s.reverse.items s.forward.items s.room.items i = λ i b.
+    let cloned : c.in_ok-potential.potential.items ≡ s.lists.potential.items = c.in_ok-potential.ensures.items ∙ c.deref-4.ensures.value in
+    let potential_is : answer.potential ≡ s.lists.potential.items = ap (λ (a : Answer). a.potential) c.new.ensures ∙ cloned in
+    let carries : (i : ℕ) → i < arc_count net → amounts answer.flow i ≡ carried s.lists.reverse.items s.lists.forward.items s.lists.room.items i = λ i b.
     rw flow_is (c.read_flow.ensures i (omega (arith, st.laid_out.forwards)) ∙ rw (forward, c.deref-2.ensures.value, c.deref-3.ensures.value) refl) in
     subst (λ (n : Net). Solves n answer) c.self.view_is
-    (solves_at net (carried s.reverse.items s.forward.items s.room.items) (at_nodes s.potential.items) (at_nodes s.excess.items) answer c.node_count-nodes.ensures.kept st.round st.sent
+    (solves_at net (carried s.lists.reverse.items s.lists.forward.items s.lists.room.items) (at_nodes s.lists.potential.items) (at_nodes s.lists.excess.items) answer c.node_count-nodes.ensures.kept st.round st.sent
     (ap (length {A = ℕ}) flow_is ∙ omega (arith, st.laid_out.forwards))
     (ap (length {A = ℤ}) potential_is ∙ st.sizes.potentials)
     carries

@@ -1,0 +1,184 @@
+//! A run whose text leaves as it is made.
+ghost use Rattle.std.specs.Prelude.{◌≡◌, ◌≤◌, ◌<◌, ◌⊎◌, ◌↔◌, List, [], Err, false, true, IfOk, IfErr, OnOk, OnErr};
+ghost use Rattle.ruled_lanes.specs.declared.limits.TheConstants.{LANES, MAX_CAPACITY, MAX_TICKETS};
+ghost use Rattle.books.specs.declared.limits.TheConstants.{MAX_FILES};
+ghost use Rattle.lanes.specs.Notes.{Note};
+ghost use Rattle.lanes.specs.Files.{AreToldWhole};
+ghost use Rattle.lanes.specs.Opening.{Silent};
+ghost use Rattle.lane_runs.specs.Faults.{EndsRun};
+ghost use Rattle.texts.specs.Whole.{IsAllWritten, IsBegun};
+ghost use Rattle.collector.specs.Texts.{IsRefused};
+
+use crate::run::MAX_LANES;
+use books::MAX_FILES;
+use choices::Choice;
+use lane_runs::{Line, RunFault, run_lanes};
+use lanes::{Consumer, Gate, Opener};
+use std::alloc::Global;
+use std::sync::Wait;
+use std::thread::Threads;
+use streams::{BatchFault, Sink, WriteFault};
+use texts::{Form, JsonLines, Lines, Printed, Refusal, ReportLines, Texts};
+
+/// Why a text was not written whole. What was written is then a beginning of one.
+#[derive(Clone, Copy, Debug, PartialEq, Eq)]
+pub enum TextFault {
+    /// The run came to nothing.
+    Run(BatchFault),
+    /// The sink has failed.
+    Write,
+}
+
+/// Reads the first `files` files of the opener, answers each record under this choice of the outer face, and
+/// writes the text of their books in this form, as `Form::write` writes those of `run_batch`, while they are
+/// read. It answers the status of the whole text: 0 where each file ended complete and no record lacks an answer
+/// for want of memory, and else 3.
+///
+/// Files go over lanes as in `run_batch`. They leave in their order: the lines of the first file that has not
+/// ended go to the sink as they come, and those of later files wait. What was laid out for a record is let go
+/// once its line is made.
+///
+/// # Errors
+///
+/// `TooManyFiles` exactly where there are more than `MAX_FILES`; `BadLanes` exactly where there are no lanes or
+/// more than `MAX_LANES`, and no more files than that; nothing is then written. `Write` exactly where the sink
+/// has then failed. `Memory`: there was none for links, the fan, tickets, buffers or lines. `LaneLost`: an end
+/// of a link or of the fan was gone. `Thread`: a thread could not be started. Whatever it is, what was written is
+/// a beginning of the text of some books, one for each file, whose records and mark are those of some bytes.
+pub fn write_batch<R: Threads + Wait + Sync, O: Opener, G: Gate, S: Sink>(
+    rt: &R,
+    alloc: Global,
+    opener: &O,
+    files: u32,
+    lanes: u32,
+    capacity: u32,
+    choice: Choice,
+    form: Form,
+    gate: &G,
+    sink: &mut S,
+) -> Result<u8, TextFault>
+    requires least { 1 ≤ capacity }
+    requires most { capacity ≤ MAX_CAPACITY }
+    requires stands { S.failed sink.old ≡ false }
+    ensures written { IfOk result (IsAllWritten choice (O.meaning opener.now) form files (S.taken sink.old) (S.taken sink.new)) }
+    ensures begun { OnErr result (IsBegun choice (λ _. Silent) form files (S.taken sink.old) (S.taken sink.new)) }
+    ensures status { IfOk result (λ status. (status ≡ 0) ⊎ (status ≡ 3)) }
+    ensures too_many { (MAX_FILES < files) ↔ (result ≡ Err (TextFault.Run BatchFault.TooManyFiles)) }
+    ensures bad_lanes { (((lanes ≡ 0) ⊎ (LANES < lanes)) × (files ≤ MAX_FILES))
+        ↔ (result ≡ Err (TextFault.Run BatchFault.BadLanes)) }
+    ensures refused { IfErr result (λ fault. IsRefused fault → sink.new ≡ sink.old) }
+    ensures failed { (result ≡ Err TextFault.Write) ↔ (S.failed sink.new ≡ true) }
+{
+    if files > MAX_FILES {
+        return Err(TextFault::Run(BatchFault::TooManyFiles));
+    }
+    if lanes == 0 || lanes > MAX_LANES {
+        return Err(TextFault::Run(BatchFault::BadLanes));
+    }
+    let Ok(lines) = Lines::new(alloc, form, choice, files) else {
+        return Err(TextFault::Run(BatchFault::Memory));
+    };
+    let texts = Texts::new(alloc, sink, lines);
+    let mut ran = Ok(());
+    let texts = run_form(
+        rt, alloc, opener, gate, files, lanes, capacity, choice, form, texts, &mut ran,
+    );
+    match ran {
+        Ok(()) => match texts.finish() {
+            Ok(status) => Ok(status),
+            Err(_) => Err(TextFault::Write),
+        },
+        Err(fault) => {
+            let_go(texts);
+            Err(fault_of(fault))
+        }
+    }
+}
+
+/// Lets a text go, whose sink stays as it is.
+fn let_go<S: Sink>(texts: Texts<'_, S, Lines>)
+    ensures { texts.exit.0.now ≡ texts.entry.sink.now }
+{
+    let Texts { .. } = texts;
+}
+
+/// Why a run came to nothing, as its caller is told.
+fn fault_of(fault: RunFault<Refusal>) -> TextFault
+    ensures write { (result ≡ TextFault.Write) ↔ (fault ≡ RunFault.Refused Refusal.Write) }
+    ensures begun { ¬ IsRefused result }
+{
+    match fault {
+        RunFault::Memory | RunFault::Refused(Refusal::Memory) => TextFault::Run(BatchFault::Memory),
+        RunFault::Lost | RunFault::Refused(Refusal::Astray) => TextFault::Run(BatchFault::LaneLost),
+        RunFault::Thread => TextFault::Run(BatchFault::Thread),
+        RunFault::Refused(Refusal::Write) => TextFault::Write,
+    }
+}
+
+/// Runs the lanes that print lines in this form.
+fn run_form<C: Consumer<Printed>, R: Threads + Wait + Sync, O: Opener, G: Gate>(
+    rt: &R,
+    alloc: Global,
+    opener: &O,
+    gate: &G,
+    files: u32,
+    lanes: u32,
+    capacity: u32,
+    choice: Choice,
+    form: Form,
+    consumer: C,
+    ran: &mut Result<(), RunFault<C::Refusal>>,
+) -> C
+    requires some { 0 < lanes }
+    requires few { (files ≤ MAX_TICKETS) × (lanes ≤ LANES) }
+    requires least { 1 ≤ capacity }
+    requires most { capacity ≤ MAX_CAPACITY }
+    requires empty { C.holds consumer [] }
+    ensures told { OnOk ran.new ((ns : List Note) × C.holds result ns × AreToldWhole choice (O.meaning opener.now) files ns) }
+    ensures ended { IfErr ran.new (EndsRun (C.gave_up result) (C.holds result)) }
+    ensures stays { C.stays consumer result }
+{
+    match form {
+        Form::Report => run_into::<ReportLines, _, _, _, _>(
+            rt, alloc, opener, gate, files, lanes, capacity, choice, consumer, ran,
+        ),
+        Form::Json => run_into::<JsonLines, _, _, _, _>(
+            rt, alloc, opener, gate, files, lanes, capacity, choice, consumer, ran,
+        ),
+    }
+}
+
+/// Runs lanes of one kind, and puts what came of them into `ran`.
+fn run_into<
+    L: Line<Entry = Printed>,
+    C: Consumer<Printed>,
+    R: Threads + Wait + Sync,
+    O: Opener,
+    G: Gate,
+>(
+    rt: &R,
+    alloc: Global,
+    opener: &O,
+    gate: &G,
+    files: u32,
+    lanes: u32,
+    capacity: u32,
+    choice: Choice,
+    consumer: C,
+    ran: &mut Result<(), RunFault<C::Refusal>>,
+) -> C
+    requires some { 0 < lanes }
+    requires few { (files ≤ MAX_TICKETS) × (lanes ≤ LANES) }
+    requires least { 1 ≤ capacity }
+    requires most { capacity ≤ MAX_CAPACITY }
+    requires empty { C.holds consumer [] }
+    ensures told { OnOk ran.new ((ns : List Note) × C.holds result ns × AreToldWhole choice (O.meaning opener.now) files ns) }
+    ensures ended { IfErr ran.new (EndsRun (C.gave_up result) (C.holds result)) }
+    ensures stays { C.stays consumer result }
+{
+    let (consumer, end) = run_lanes::<L, _, _, _, _>(
+        rt, alloc, opener, gate, files, lanes, capacity, choice, consumer,
+    );
+    *ran = end;
+    consumer
+}

@@ -1,0 +1,25 @@
+use Rattle.std.proofs.Common.{◌≡◌, ℕ, Bool, List, rules}
+use Rattle.streams.specs.declared.found.Mark.{Mark}
+use Rattle.streams.specs.Marks.{IsMarked}
+use Rattle.commands.proofs.program.frames.Goals as goal
+
+-- what two sources found that fail alike
+marked_alike : (bytes : List ℕ) (fails also : Bool) (records : List (List ℕ)) (mark : Mark) → fails ≡ also → IsMarked bytes fails records mark → IsMarked bytes also records mark
+marked_alike bytes fails also records mark same marked = rw same at marked
+
+pub returns-clause-reported : goal.returns-clause-reported
+returns-clause-reported g c =
+    let untold = c.in_ok-found.ensures.untold in
+    record {
+      found = c.in_ok-found.found;
+      bytes = untold.0;
+      fails = untold.1.0;
+      marked = untold.1.1;
+      told = λ bytes told.
+          let tells = c.in_ok-source.ensures.told bytes told in
+          marked_alike bytes _ _ _ _ tells.1 (c.in_ok-found.ensures.told bytes tells.0);
+      text = search rules;
+      whole = search rules;
+      complete = search rules;
+      other = search rules;
+    }

@@ -1,0 +1,24 @@
+-- Supplies that are not too great stay fair as units move.
+use Rattle.std.proofs.Common.{◌≡◌, ◌<◌, ◌≤◌, ℕ, Bool, true, false, cond, eqb, refl, subst, sym, arith}
+use Rattle.std.specs.Prelude.{ℤ, pos, negsuc, ◌+ℤ◌, ◌-ℤ◌, ◌≤ℤ◌}
+use Rattle.std.proofs.lemmas.Bool.{eqb-true}
+use Rattle.std.proofs.lemmas.Int.{ints}
+use Rattle.networks.specs.Net.{Net, node_count, supply_at, shifted, HasFairSupplies}
+use Rattle.networks.proofs.Moving.{moved_at, length-moved}
+
+abbrev IsFair : ℤ → Type 0
+IsFair e = (negsuc 2047 ≤ℤ e) × (e ≤ℤ pos 2048)
+
+fair_delta : (c d : Bool) (e e' : ℤ) (k : ℕ) → k ≤ 40 → IsFair e → (c ≡ true → e ≤ℤ pos 2000) → (d ≡ true → negsuc 1999 ≤ℤ e) → e' ≡ e +ℤ (pos (cond {A = ℕ} c k 0) -ℤ pos (cond {A = ℕ} d k 0)) → IsFair e'
+fair_delta true true e e' k few fair high low is = (omega (arith, ints, fair), omega (arith, ints, fair))
+fair_delta true false e e' k few fair high low is = (omega (arith, ints, fair), omega (arith, ints, fair, high refl))
+fair_delta false true e e' k few fair high low is = (omega (arith, ints, fair, low refl), omega (arith, ints, fair))
+fair_delta false false e e' k few fair high low is = (omega (arith, ints, fair), omega (arith, ints, fair))
+
+pub still_fair : (net : Net) (f t k : ℕ) → HasFairSupplies net → f < node_count net → t < node_count net → k ≤ 40 → supply_at net f ≤ℤ pos 2000 → negsuc 1999 ≤ℤ supply_at net t → HasFairSupplies (shifted net f t k)
+still_fair net f t k fair fb tb few high low = λ v b.
+    let vb : v < node_count net = omega (arith, length-moved net.supplies f t k) in
+    fair_delta (eqb v f) (eqb v t) (supply_at net v) (supply_at (shifted net f t k) v) k few (fair v vb)
+    (λ h. subst (λ (w : ℕ). supply_at net w ≤ℤ pos 2000) (sym (eqb-true v f h)) high)
+    (λ h. subst (λ (w : ℕ). negsuc 1999 ≤ℤ supply_at net w) (sym (eqb-true v t h)) low)
+    (moved_at net.supplies f t k v fb tb)

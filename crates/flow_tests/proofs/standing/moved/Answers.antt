@@ -1,0 +1,28 @@
+use Rattle.std.proofs.Common.{rules, w32, subst, sym}
+use Rattle.std.proofs.lemmas.Int.{to_z-of_z}
+use mir.Val.{SFits}
+use Rattle.std.specs.Prelude.{ℤ, pos, negsuc, ◌≤ℤ◌}
+use Rattle.networks.specs.Net.{Net, shifted, HasFairSupplies}
+use Rattle.flow_tests.proofs.Moving.{still_fair}
+use Rattle.flow_tests.proofs.standing.moved.Goals as goal
+
+pub shift-requires-clause-fair : goal.shift-requires-clause-fair
+shift-requires-clause-fair c =
+    let one : SFits w32 c.supply-more.result = search rules in
+    let other : SFits w32 c.supply-less.result = search rules in
+    let more = simp to_z-of_z at c.is_within.ensures.more c.if-not-is_within.false in
+    let less = simp to_z-of_z at c.is_within.ensures.less c.if-not-is_within.false in
+    still_fair c.args.twin.now c.args.from c.args.to c.args.amount c.node_count-nodes.ensures.kept.supplies c.requires.from c.requires.to c.requires.few
+    (subst (λ (z : ℤ). z ≤ℤ pos 2000) c.supply-more.ensures more)
+    (subst (λ (z : ℤ). negsuc 1999 ≤ℤ z) c.supply-less.ensures less)
+
+pub shift-requires-2-clause-fair : goal.shift-requires-2-clause-fair
+shift-requires-2-clause-fair c =
+    let one : SFits w32 c.supply-more.result = search rules in
+    let other : SFits w32 c.supply-less.result = search rules in
+    let more = simp to_z-of_z at c.is_within.ensures.more c.if-not-is_within.false in
+    let less = simp to_z-of_z at c.is_within.ensures.less c.if-not-is_within.false in
+    let fair = still_fair c.args.twin.now c.args.from c.args.to c.args.amount c.node_count-nodes.ensures.kept.supplies c.requires.from c.requires.to c.requires.few
+    (subst (λ (z : ℤ). z ≤ℤ pos 2000) c.supply-more.ensures more)
+    (subst (λ (z : ℤ). negsuc 1999 ≤ℤ z) c.supply-less.ensures less) in
+    subst (λ (n : Net). HasFairSupplies (shifted n c.args.from c.args.to c.args.amount)) (sym c.requires.same) fair

@@ -1,0 +1,19 @@
+-- What ends a run beside the consumer.
+use Rattle.std.specs.Prelude.{List, ⊤}
+use Rattle.lanes.specs.Notes.{Note}
+use Rattle.lane_runs.specs.declared.fault.RunFault.{RunFault}
+use Rattle.lane_runs.specs.declared.fault.RunFault.TheVariants.{Memory, Lost, Thread, Refused}
+
+module _ {F : Type 0} where
+  -- the lanes came to nothing, and the consumer refused nothing
+  abbrev pub IsOfLanes : RunFault F → Type 0
+  IsOfLanes (Refused refusal) = ⊥
+  IsOfLanes _ = ⊤
+
+  -- What is known of a consumer where a run came to nothing: it refused a message, and this is known of that; or it holds what
+  -- some notes tell.
+  abbrev pub EndsRun : (F → Type 0) → (List Note → Type 0) → RunFault F → Type 0
+  EndsRun gave_up holds (Refused refusal) = gave_up refusal
+  EndsRun gave_up holds Memory = (ns : List Note) × holds ns
+  EndsRun gave_up holds Lost = (ns : List Note) × holds ns
+  EndsRun gave_up holds Thread = (ns : List Note) × holds ns

@@ -1,0 +1,11 @@
+-- What is known of a consumer where gathering came to nothing.
+use Rattle.std.specs.Prelude.{List}
+use Rattle.lanes.specs.declared.gathering.GatherFault.{GatherFault}
+use Rattle.lanes.specs.declared.gathering.GatherFault.TheVariants.{Memory, LaneLost, Refused}
+use Rattle.lanes.specs.Notes.{Note}
+
+-- It refused a message, and this is known of that; or it holds what some notes tell.
+abbrev pub EndsGathering : {F : Type 0} → (F → Type 0) → (List Note → Type 0) → GatherFault F → Type 0
+EndsGathering gave_up holds (Refused refusal) = gave_up refusal
+EndsGathering gave_up holds Memory = (ns : List Note) × holds ns
+EndsGathering gave_up holds LaneLost = (ns : List Note) × holds ns

@@ -1,0 +1,52 @@
+//! The places of a file's records.
+ghost use Rattle.std.specs.Prelude.{◌≡◌};
+ghost use Rattle.std.proofs.Common.{refl, ◌∙◌};
+ghost use Rattle.lanes.specs.Numbering.{KeepsRecords, keeps_none, keeps_on, AreOfSame, same_itself, same_on};
+
+use crate::keep::Keep;
+use choices::Choice;
+use planar_code::Record;
+use std::alloc::Global;
+use streams::Receiver;
+
+/// Keeps the records of a file as they are read, each with its place.
+#[derive(Drop)]
+pub(crate) struct Places<'k, K> {
+    pub(crate) keep: &'k mut K,
+    pub(crate) file: u32,
+    pub(crate) choice: Choice,
+}
+
+impl<K: Keep> Receiver for Places<'_, K> {
+    type Lost = K::Lost;
+
+    ghost received = { λ first records x y. AreOfSame x.choice x.file y.choice y.file
+        × KeepsRecords x.choice x.file first records (K.kept x.keep.now) (K.kept y.keep.now) };
+
+    ghost stays = { λ x y. (x.keep.ghost_name ≡ y.keep.ghost_name) × K.keeps x.keep.now y.keep.now };
+
+    fn receive(
+        &mut self,
+        alloc: Global,
+        first: u32,
+        records: &mut Vec<Record>,
+    ) -> Result<(), K::Lost> {
+        let mut ordinal = first;
+        for rec in records.drain(..) {
+            match self.keep.keep(alloc, self.file, ordinal, rec, self.choice) {
+                Ok(()) => {}
+                Err(lost) => return Err(lost),
+            }
+            ordinal += 1;
+        }
+        Ok(())
+    }
+
+    ghost received_none = { λ x. (same_itself x.choice x.file, keeps_none x.choice x.file (K.kept x.keep.now)) };
+
+    ghost received_on = { λ records others x y z p q. (same_on _ _ _ _ _ _ p.0 q.0, keeps_on _ _ _ _ _ _ _ _ _ p.0 p.1 q.1) };
+
+    ghost stays_itself = { λ x. (refl, K.keeps_itself _) };
+
+    ghost stays_on = { λ x y z p q. (p.0 ∙ q.0, K.keeps_on _ _ _ p.1 q.1) };
+}

@@ -1,0 +1,27 @@
+use Rattle.std.proofs.Common.{subst, arith}
+use Rattle.networks.specs.Net.{Net}
+use Rattle.networks.specs.Flow.{at_nodes}
+use Rattle.networks.specs.Layout.{carried}
+use Rattle.min_cost_flow.specs.Stand.{IsShown}
+use Rattle.min_cost_flow.proofs.Moved.{forward_in, reverse_in, shown_at}
+use Rattle.min_cost_flow.proofs.standing.Standing.least_cost.Goals as goal
+
+pub flow_cost-cost-requires-clause-reverses : goal.flow_cost-cost-requires-clause-reverses
+flow_cost-cost-requires-clause-reverses c i b =
+    let l = c.self.invariant.laid_out in
+    rw (c.deref.ensures.value, c.deref-2.ensures.value) (omega (arith, forward_in c.self.inside.network _ _ _ i c.node_count-nodes.ensures.kept l b, l.reverses))
+
+pub flow_cost-cost-requires-clause-rooms : goal.flow_cost-cost-requires-clause-rooms
+flow_cost-cost-requires-clause-rooms c i b =
+    let l = c.self.invariant.laid_out in
+    rw (c.deref.ensures.value, c.deref-2.ensures.value, c.deref-3.ensures.value) (omega (arith, reverse_in c.self.inside.network _ _ _ i c.node_count-nodes.ensures.kept l b, c.self.invariant.filled.room_size))
+
+pub returns-clause-shown : goal.returns-clause-shown
+returns-clause-shown c =
+    let s = c.self.inside in
+    let st = c.self.invariant in
+    let lists = s.lists in
+    let cost_is = rw (c.deref.ensures.value, c.deref-2.ensures.value, c.deref-3.ensures.value) at c.flow_cost-cost.ensures.cost in
+    let shown : IsShown s.network c.flow_cost-cost.result lists.potential.items =
+    shown_at s.network (carried lists.reverse.items lists.forward.items lists.room.items) lists.potential.items (at_nodes lists.excess.items) c.flow_cost-cost.result c.node_count-nodes.ensures.kept st.round st.sent st.sizes.potentials cost_is in
+    rw c.deref-4.ensures.value (subst (λ (n : Net). IsShown n c.flow_cost-cost.result lists.potential.items) c.self.view_is shown)

@@ -1,0 +1,34 @@
+use Rattle.std.proofs.Common.{arith}
+use Rattle.ortho_rep.proofs.Tries.{turned_again, lead_turned, tried_turned, tried_turning, tried_next, no_bounds, best_of}
+use Rattle.ortho_rep.proofs.best.best_lead.Goals as goal
+
+pub learn-bends-requires-clause-bounds : goal.learn-bends-requires-clause-bounds
+learn-bends-requires-clause-bounds c = no_bounds _ 257 (omega (arith, c.face_count-faces.ensures.value, c.face_count-faces.ensures.few))
+
+pub loop-face-preserved : goal.loop-face-preserved
+loop-face-preserved c =
+    let plane = c.args.plane.now in
+    let was = c.loop-face.plane in
+    let is = c.visit-walk.new.plane in
+    let other = c.loop-face.lead in
+    let known = c.loop-face.invariant in
+    let tried = c.visit-walk.ensures in
+    record {
+      turned = turned_again plane was is was.outer is.outer known.turned tried.turned;
+      walk = tried.walk;
+      lead = tried.lead;
+      bounds = tried.bounds;
+      best = tried_next is c.visit-walk.new.lead other c.loop-face.face tried.ahead
+          (λ f b. tried_turning was is is.outer other.bends other.face f tried.turned (known.best f b))
+          tried.tried;
+    }
+
+pub returns-clause-best : goal.returns-clause-best
+returns-clause-best c =
+    let plane = c.args.plane.now in
+    let was = c.loop-face.plane in
+    let lead = c.loop-face.lead in
+    let known = c.loop-face.invariant in
+    best_of plane lead
+    (lead_turned plane was was.outer lead known.turned known.lead)
+    (λ f b. tried_turned plane was was.outer lead.bends lead.face f known.turned (known.best f (omega (arith, c.face_count-faces.ensures.value))))

@@ -1,0 +1,15 @@
+use Rattle.std.proofs.Common.{◌≡◌, ◌<◌, ◌≤◌, length}
+use Rattle.faces.specs.Map.{darts, with_outer}
+use Rattle.ortho_rep.specs.Tries.{IsWalk, IsLead, AreBounds}
+use Rattle.ortho_rep.proofs.best.tour.Given as goal
+
+abbrev pub invariant-loop-step : goal.invariant-loop-step
+invariant-loop-step l = record {
+  turned : l.plane ≡ with_outer l.fn.plane l.plane.outer;
+  walk : IsWalk l.plane l.walk;
+  lead : IsLead l.plane l.lead;
+  bounds : AreBounds l.plane l.bounds;
+  dart : l.dart < darts l.plane;
+  faces : l.plane.faces ≤ length l.seen;
+  darts : darts l.plane ≤ length l.doors;
+}

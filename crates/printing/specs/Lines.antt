@@ -1,0 +1,47 @@
+-- The text of a run in each form, a line at a time.
+use Rattle.std.specs.Prelude.{◌≡◌, ◌≢◌, ℕ, ◌+◌, List, [], ◌∷◌, ◌++◌, length, codes, decimal, Option, Vec, IfSome}
+use Rattle.std.specs.declared.alloc.Global.{Global}
+use Rattle.streams.specs.declared.found.Mark.{Mark}
+use Rattle.entries.specs.declared.found.Answer.{Answer}
+use Rattle.entries.specs.declared.entry.Entry.{Entry}
+use Rattle.books.specs.Books.{Pages}
+use Rattle.reports.specs.declared.form.Form.{Form}
+use Rattle.reports.specs.declared.form.Form.TheVariants.{Report, Json}
+use Rattle.reports.specs.Report.{file_line, entry_line, answer_text, end_line}
+use Rattle.reports.specs.Json.{entry_json, end_json}
+
+-- the report's line of the graph with this number, of which this is the answer
+abbrev pub graph_line : ℕ → Answer → List ℕ
+graph_line number answer = codes "graph " ++ decimal number ++ answer_text answer ++ codes "\n"
+
+-- the line of an entry; files and entries are numbered from 1
+abbrev pub line_in : Form → Entry → List ℕ
+line_in Report entry = entry_line (entry.ordinal + 1) entry
+line_in Json entry = entry_json (entry.file + 1) (entry.ordinal + 1) entry
+
+-- what stands before the lines of the file with this number
+abbrev pub head_in : Form → ℕ → List ℕ
+head_in Report number = file_line number
+head_in Json number = []
+
+-- the last line of the file with this number: its mark, and how many entries there are
+abbrev pub end_in : Form → ℕ → Mark → ℕ → List ℕ
+end_in Report number mark count = end_line mark count
+end_in Json number mark count = end_json number mark count
+
+-- a line that is there is the entry's, and the entry has an answer
+abbrev pub IsLineOf : Form → Entry → Option (Vec ℕ Global) → Type 0
+IsLineOf form entry line = IfSome line (λ text. (entry.answer ≢ Answer.NoMemory) × (text.items ≡ line_in form entry))
+
+-- the lines of these entries, one after another
+abbrev pub lines_in : Form → List Entry → List ℕ
+lines_in form [] = []
+lines_in form (entry ∷ entries) = line_in form entry ++ lines_in form entries
+
+-- all lines of the file with this number, of which these are the entries and the mark
+abbrev pub whole_in : Form → ℕ → List Entry → Mark → List ℕ
+whole_in form number entries mark = head_in form number ++ lines_in form entries ++ end_in form number mark (length entries)
+
+-- the same of a book
+abbrev pub book_in : Form → ℕ → Pages → List ℕ
+book_in form number book = whole_in form number book.entries book.mark

@@ -1,0 +1,11 @@
+-- What the bytes of a record are, told by the lists that they hold.
+use Rattle.std.specs.Prelude.{◌≡◌, ℕ, ◌<◌, List, ◌∷◌, length, All}
+use Rattle.std.specs.List.{flat_map}
+use Rattle.planar_code.specs.Stream.{IsList, ended, lists_of}
+
+-- the bytes are one record: how many lists they hold, 1 to 255, and then each list, ended
+pub record IsSpelt (bytes : List ℕ) : Type 0 where
+  pub spelt : bytes ≡ length (lists_of bytes) ∷ flat_map ended (lists_of bytes)
+  pub each : All IsList (lists_of bytes)
+  pub some : 0 < length (lists_of bytes)
+  pub few : length (lists_of bytes) < 256

@@ -1,0 +1,14 @@
+//! The text of a run, a line at a time: lanes whose last stage prints each record's line, so that what
+//! is laid out is dropped where it was made.
+#![tactic(auto)]
+
+mod lane_kinds;
+mod lines;
+mod printed;
+mod report;
+mod worded;
+
+pub use lane_kinds::{JsonLines, ReportLines};
+pub use lines::{end_text, entry_text, head_text, lacking_text};
+pub use printed::{Printed, print};
+pub use worded::Worded;

@@ -1,0 +1,103 @@
+//! The lines of a run in each form. Files and places in a file count from 0 here, and from 1 in the text.
+ghost use Rattle.std.specs.Prelude.{◌≡◌, ◌+◌, IfOk};
+ghost use Rattle.entries.specs.declared.found.Answer.{Answer};
+ghost use Rattle.entries.specs.declared.entry.Entry.{Entry};
+ghost use Rattle.printing.specs.Lines.{line_in, head_in, end_in};
+
+use crate::report;
+use entries::{Answer, Entry};
+use reports::{Form, mark_word};
+use std::alloc::{AllocError, Global};
+use streams::Mark;
+
+/// The line of an entry in this form, with the byte 0A at its end. JSON takes a few allocations for each
+/// dart and each point, the report a few in all.
+///
+/// # Errors
+///
+/// `AllocError` where there is no memory for the line. In JSON also where the number of the entry's file,
+/// counted from 1, does not fit in 32 bits.
+pub fn entry_text(alloc: Global, form: Form, entry: &Entry) -> Result<Vec<u8>, AllocError>
+    ensures { IfOk result (λ text. text.items ≡ line_in form entry.now) }
+{
+    let graph = u64::from(entry.ordinal) + 1;
+    match form {
+        Form::Report => report::graph_line(alloc, graph, &entry.answer),
+        Form::Json => reports::entry_line(alloc, number_of(entry.file)?, graph, entry),
+    }
+}
+
+/// The line in this form of the entry at this place of this file that has no answer for want of memory,
+/// with the byte 0A at its end. It takes a few allocations.
+///
+/// # Errors
+///
+/// `AllocError` where there is no memory for the line. In JSON also where the number of the file, counted
+/// from 1, does not fit in 32 bits.
+pub fn lacking_text(
+    alloc: Global,
+    form: Form,
+    file: u32,
+    ordinal: u32,
+) -> Result<Vec<u8>, AllocError>
+    ensures { IfOk result (λ text. (entry : Entry) → entry.file ≡ file → entry.ordinal ≡ ordinal
+        → entry.answer ≡ Answer.NoMemory → text.items ≡ line_in form entry) }
+{
+    let graph = u64::from(ordinal) + 1;
+    match form {
+        Form::Report => report::graph_line(alloc, graph, &Answer::NoMemory),
+        Form::Json => reports::lacking_line(alloc, number_of(file)?, graph),
+    }
+}
+
+/// What stands in this form before the lines of a file: in the report its first line, and in JSON nothing,
+/// which takes no memory.
+///
+/// # Errors
+///
+/// `AllocError` where there is no memory for the line.
+pub fn head_text(alloc: Global, form: Form, file: u32) -> Result<Vec<u8>, AllocError>
+    ensures { IfOk result (λ text. text.items ≡ head_in form (file + 1)) }
+{
+    match form {
+        Form::Report => report::file_line(alloc, u64::from(file) + 1),
+        Form::Json => Ok(Vec::new(alloc)),
+    }
+}
+
+/// The last line of a file in this form: its mark, and how many entries there are. It takes a few
+/// allocations.
+///
+/// # Errors
+///
+/// `AllocError` where there is no memory for the line. In JSON also where the number of the file, counted
+/// from 1, does not fit in 32 bits.
+pub fn end_text(
+    alloc: Global,
+    form: Form,
+    file: u32,
+    mark: Mark,
+    count: u32,
+) -> Result<Vec<u8>, AllocError>
+    ensures { IfOk result (λ text. text.items ≡ end_in form (file + 1) mark count) }
+{
+    let graphs = u64::from(count);
+    match form {
+        Form::Report => report::end_line(alloc, mark, graphs),
+        Form::Json => reports::end_line(alloc, number_of(file)?, mark_word(mark), graphs),
+    }
+}
+
+/// The number of a file, counted from 1.
+///
+/// # Errors
+///
+/// `AllocError` where it does not fit. No file of a run has such a number.
+fn number_of(file: u32) -> Result<u32, AllocError>
+    ensures { IfOk result (λ number. number ≡ file + 1) }
+{
+    match file.checked_add(1) {
+        Some(number) => Ok(number),
+        None => Err(AllocError),
+    }
+}

@@ -1,0 +1,22 @@
+-- What a source of a run tells of itself.
+use Rattle.std.specs.Prelude.{◌≡◌, ℕ, Bool, true, false, List, [], Option, None, Some}
+use Rattle.lanes.specs.Opening as opening
+use Rattle.program_io.specs.declared.source.FileSource.{FileSource}
+use Rattle.program_io.specs.declared.source.FileSource.TheVariants.{Open, Input, Refused}
+
+-- the bytes that are to come: a file tells nothing, and one that was refused has none
+abbrev pub to_come_of : {F I : Type 0} → (I → Option (List ℕ)) → FileSource F I → Option (List ℕ)
+to_come_of to_come (Open file) = None
+to_come_of to_come (Input input) = to_come input
+to_come_of to_come Refused = Some []
+
+-- it fails after the last of them
+abbrev pub fails_of : {F I : Type 0} → (I → Bool) → FileSource F I → Bool
+fails_of fails (Open file) = false
+fails_of fails (Input input) = fails input
+fails_of fails Refused = true
+
+-- where a file tells its bytes, this source tells the same
+abbrev pub Tells : {F I : Type 0} → (I → Option (List ℕ)) → (I → Bool) → opening.Meaning → FileSource F I → Type 0
+Tells to_come fails meaning source = (bytes : List ℕ) → opening.told_of meaning ≡ Some bytes
+    → (to_come_of to_come source ≡ Some bytes) × (fails_of fails source ≡ opening.fails_of meaning)

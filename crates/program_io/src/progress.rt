@@ -1,0 +1,179 @@
+//! A line that tells how far a run is.
+ghost use Rattle.std.specs.Prelude.{◌≡◌};
+
+use crate::line::Line;
+use lanes::{Gate, Stage};
+use std::fmt::Write;
+use std::io;
+use std::io::IsTerminal;
+use std::rt::Clock;
+use std::sync::atomic::{AtomicU64, Ordering};
+
+/// How many milliseconds lie between two lines at least.
+const PAUSE: u64 = 250;
+
+/// Where it is told how far a run is.
+#[derive(Clone, Copy, Debug, PartialEq, Eq)]
+pub enum Progress {
+    Nowhere,
+    /// On a terminal, in one line that is written over.
+    OnTerminal,
+    /// There, and in lines of their own where there is no terminal.
+    Everywhere,
+}
+
+impl Progress {
+    /// What is asked for by an option that is given so often.
+    pub fn of_count(count: u8) -> Progress {
+        match count {
+            0 => Progress::Nowhere,
+            1 => Progress::OnTerminal,
+            _ => Progress::Everywhere,
+        }
+    }
+}
+
+/// Where lines of progress go, from any thread, with a clock.
+pub trait Console {
+    /// Whether a line there can be written over.
+    fn is_terminal(&self) -> bool;
+
+    /// How many milliseconds have passed since some start, or 0 where the clock cannot be read.
+    fn time(&self) -> u64;
+
+    /// Shows a text. That this may fail changes nothing.
+    fn show(&self, text: &[u8]);
+}
+
+/// Standard error with a clock, as a console.
+#[derive(Clone, Copy)]
+pub struct ErrorConsole<R, E> {
+    pub clock: R,
+    pub err: E,
+}
+
+impl<R: Clock, E: io::Write + IsTerminal + Copy> Console for ErrorConsole<R, E> {
+    fn is_terminal(&self) -> bool {
+        self.err.is_terminal()
+    }
+
+    fn time(&self) -> u64 {
+        match self.clock.monotonic() {
+            Ok(time) => u64::try_from(time.as_millis()).unwrap_or(u64::MAX),
+            Err(_) => 0,
+        }
+    }
+
+    fn show(&self, text: &[u8]) {
+        let mut err = self.err;
+        let _ = err.write_all(text);
+    }
+}
+
+/// How lines stand on a console.
+#[derive(Clone, Copy, Debug, PartialEq, Eq)]
+enum Style {
+    Hidden,
+    WrittenOver,
+    Apart,
+}
+
+impl Style {
+    /// How lines stand on this console.
+    fn of<C: Console>(progress: Progress, console: &C) -> Style {
+        match progress {
+            Progress::Nowhere => Style::Hidden,
+            _ if console.is_terminal() => Style::WrittenOver,
+            Progress::OnTerminal => Style::Hidden,
+            Progress::Everywhere => Style::Apart,
+        }
+    }
+}
+
+/// Counts the graphs of a run at the gate before its last stage, and tells how far the run is: at most four times
+/// a second, and once more at its end.
+#[derive(Drop)]
+pub struct Meter<'c, C> {
+    console: &'c C,
+    style: Style,
+    files: usize,
+    start: u64,
+    begun: AtomicU64,
+    graphs: AtomicU64,
+    told: AtomicU64,
+}
+
+impl<'c, C: Console> Meter<'c, C> {
+    /// A meter of a run over so many files, which begins now.
+    pub fn new(console: &'c C, progress: Progress, files: usize) -> Meter<'c, C> {
+        Meter {
+            console,
+            style: Style::of(progress, console),
+            files,
+            start: console.time(),
+            begun: AtomicU64::new(0),
+            graphs: AtomicU64::new(0),
+            told: AtomicU64::new(0),
+        }
+    }
+
+    /// The count of the files that were begun.
+    pub fn begun(&self) -> &AtomicU64 {
+        &self.begun
+    }
+
+    /// Tells how far the run came, where it began a file, and ends the line.
+    pub fn finish(&self) {
+        if self.style != Style::Hidden && self.begun.load(Ordering::SeqCst) > 0 {
+            self.tell(self.time(), "\n");
+        }
+    }
+
+    /// How many milliseconds the run has taken.
+    fn time(&self) -> u64 {
+        self.console.time().saturating_sub(self.start)
+    }
+
+    /// Tells how far the run is, unless that was told a moment ago, or another thread tells it now.
+    fn tell_in_time(&self) {
+        let told = self.told.load(Ordering::SeqCst);
+        let time = self.time();
+        if time < told.saturating_add(PAUSE) {
+            return;
+        }
+        let turn = self
+            .told
+            .compare_exchange(told, time, Ordering::SeqCst, Ordering::SeqCst);
+        if turn.is_ok() {
+            self.tell(time, if self.style == Style::Apart { "\n" } else { "" });
+        }
+    }
+
+    /// Shows the line of what was counted in so many milliseconds.
+    fn tell(&self, time: u64, end: &str) {
+        let begun = self.begun.load(Ordering::SeqCst);
+        let graphs = self.graphs.load(Ordering::SeqCst);
+        let rate = graphs.saturating_mul(1000) / time.max(1);
+        // The spaces cover what is left of a longer line.
+        let (front, back) = match self.style {
+            Style::WrittenOver => ("\r", "   "),
+            _ => ("", ""),
+        };
+        let mut line = Line::new();
+        let _ = write!(
+            line,
+            "{front}planarbend: {begun} of {} files begun, {graphs} graphs, {rate} a second{back}{end}",
+            self.files
+        );
+        self.console.show(line.text());
+    }
+}
+
+impl<C: Console + Sync> Gate for Meter<'_, C> {
+    fn pass(&self, _lane: u32, stage: Stage, _ordinal: u32) {
+        if stage == Stage::Draw && self.style != Style::Hidden {
+            self.graphs.fetch_add(1, Ordering::SeqCst);
+            self.tell_in_time();
+        }
+    }
+}

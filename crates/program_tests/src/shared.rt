@@ -1,0 +1,277 @@
+//! Runs of the whole command, which the tests share.
+ghost use Rattle.std.specs.Prelude.{◌≤◌};
+
+use commands::command;
+use lanes::MemOpener;
+use program_io::Console;
+use std::alloc::{AllocError, Global};
+use std::fmt::Debug;
+use std::io::{ErrorKind, Write};
+use std::process::Abort;
+use std::rt::Files;
+use std::sync::Wait;
+use std::test::Fail;
+use std::thread::Threads;
+use std::{fs, io};
+use streams::IoSink;
+
+pub const HEADER: &[u8] = b">>planar_code<<";
+
+pub const EDGE: &[u8] = &[2, 2, 0, 1, 0];
+
+pub const TRIANGLE: &[u8] = &[3, 2, 3, 0, 3, 1, 0, 1, 2, 0];
+
+/// Sees that two values are the same. (An `assert_eq!` in each place would make the tests' proofs several times as long.)
+pub fn same<T: PartialEq + Debug + Drop>(rt: &impl Abort, got: T, want: T) {
+    assert_eq!(rt; got, want);
+}
+
+/// What a run wrote into two writers, and its status.
+#[derive(Drop)]
+pub struct Ran<W> {
+    pub status: u8,
+    pub out: W,
+    pub err: W,
+}
+
+/// A console that shows nothing.
+#[derive(Clone, Copy)]
+pub struct NoConsole;
+
+impl Console for NoConsole {
+    fn is_terminal(&self) -> bool {
+        false
+    }
+
+    fn time(&self) -> u64 {
+        0
+    }
+
+    fn show(&self, _text: &[u8]) {}
+}
+
+/// Runs the command with these words, on this standard input, with this console and these writers.
+fn run_into<R: Files + AllocGlobal + Threads + Wait + Sync, C: Console + Sync, W: Write>(
+    rt: &R,
+    words: &[String],
+    input: &MemOpener,
+    console: &C,
+    out: W,
+    err: W,
+) -> Ran<W>
+where
+    R::File: Send,
+    R::Dir: Send,
+{
+    let mut out = IoSink::new(out);
+    let mut err = IoSink::new(err);
+    let status = command(rt, words, input, console, &mut out, &mut err);
+    Ran {
+        status,
+        out: out.into_writer(),
+        err: err.into_writer(),
+    }
+}
+
+/// Copies of these words.
+pub fn copies(alloc: Global, words: &[&str]) -> Result<Vec<String>, AllocError> {
+    let mut list = Vec::new(alloc);
+    for word in words {
+        list.push(String::from_str(alloc, word)?)?;
+    }
+    Ok(list)
+}
+
+/// A standard input that cannot be read.
+fn no_input(alloc: Global) -> MemOpener {
+    MemOpener::new(Vec::new(alloc), 1)
+}
+
+/// Runs the command with these words, on this standard input and with this console.
+pub fn run_on<R: Files + AllocGlobal + Threads + Wait + Sync, C: Console + Sync>(
+    rt: &R,
+    words: &[&str],
+    input: &MemOpener,
+    console: &C,
+) -> Result<Ran<Vec<u8>>, AllocError>
+where
+    R::File: Send,
+    R::Dir: Send,
+{
+    let words = copies(rt.alloc(), words)?;
+    let (out, err) = (Vec::new(rt.alloc()), Vec::new(rt.alloc()));
+    Ok(run_into(rt, words.as_slice(), input, console, out, err))
+}
+
+/// Runs the command with these words.
+pub fn run<R: Files + AllocGlobal + Threads + Wait + Sync>(
+    rt: &R,
+    words: &[&str],
+) -> Result<Ran<Vec<u8>>, AllocError>
+where
+    R::File: Send,
+    R::Dir: Send,
+{
+    run_on(rt, words, &no_input(rt.alloc()), &NoConsole)
+}
+
+/// Runs the command with these words, and writes the report and the line of a fault into so much room.
+pub fn run_narrow<R: Files + AllocGlobal + Threads + Wait + Sync>(
+    rt: &R,
+    words: &[String],
+    out: usize,
+    err: usize,
+) -> Ran<Narrow>
+where
+    R::File: Send,
+    R::Dir: Send,
+{
+    let input = no_input(rt.alloc());
+    run_into(
+        rt,
+        words,
+        &input,
+        &NoConsole,
+        Narrow::new(out),
+        Narrow::new(err),
+    )
+}
+
+/// Runs the command with these words, and looks at the report and the status.
+pub fn check<R: Files + AllocGlobal + Threads + Wait + Sync + Abort>(
+    rt: &R,
+    words: &[&str],
+    report: &str,
+    status: u8,
+) -> Result<(), Fail>
+where
+    R::File: Send,
+    R::Dir: Send,
+{
+    let ran = run(rt, words)?;
+    same(rt, ran.out.as_slice(), report.as_bytes());
+    same(rt, (ran.status, ran.err.len()), (status, 0));
+    Ok(())
+}
+
+/// Runs a command line that is refused, and looks for a text in what is said of it.
+pub fn check_refused<R: Files + AllocGlobal + Threads + Wait + Sync + Abort>(
+    rt: &R,
+    words: &[&str],
+    text: &str,
+) -> Result<(), Fail>
+where
+    R::File: Send,
+    R::Dir: Send,
+{
+    let ran = run(rt, words)?;
+    expect_part(rt, ran.err.as_slice(), text);
+    same(rt, (ran.status, ran.out.len()), (2, 0));
+    Ok(())
+}
+
+/// Asks for help, and looks for a text in it.
+pub fn check_help<R: Files + AllocGlobal + Threads + Wait + Sync + Abort>(
+    rt: &R,
+    words: &[&str],
+    text: &str,
+) -> Result<(), Fail>
+where
+    R::File: Send,
+    R::Dir: Send,
+{
+    let ran = run(rt, words)?;
+    expect_part(rt, ran.out.as_slice(), text);
+    same(rt, (ran.status, ran.err.len()), (0, 0));
+    Ok(())
+}
+
+/// Sees that a part stands somewhere in a text.
+fn expect_part(rt: &impl Abort, text: &[u8], part: &str) {
+    assert!(rt; holds(text, part.as_bytes()), "{part}");
+}
+
+/// Whether `part` stands somewhere in `text`.
+pub fn holds(text: &[u8], part: &[u8]) -> bool {
+    text.windows(part.len().max(1)).any(|window| window == part)
+}
+
+/// With room for this beginning of what is to be written, it is written, and the fault is told.
+pub fn check_failed_write<R: Files + AllocGlobal + Threads + Wait + Sync + Abort>(
+    rt: &R,
+    words: &[String],
+    begins: &[u8],
+)
+where
+    R::File: Send,
+    R::Dir: Send,
+{
+    let ran = run_narrow(rt, words, begins.len(), 64);
+    same(rt, ran.status, 1);
+    same(rt, ran.out.text(), begins);
+    same(rt, ran.err.text(), b"planarbend: write failed\n".as_slice());
+}
+
+/// Whether the line says that the run itself found no memory. Where a thread is started or an end
+/// is given up for it, the line may name that instead.
+pub fn names_no_run(line: &[u8]) -> bool {
+    line == b"planarbend: out of memory\n".as_slice()
+        || line == b"planarbend: a thread could not be run\n".as_slice()
+        || line == b"planarbend: a lane was lost\n".as_slice()
+}
+
+/// These parts, one behind another.
+pub fn joined_bytes(alloc: Global, parts: &[&[u8]]) -> Result<Vec<u8>, AllocError> {
+    let mut bytes = Vec::new(alloc);
+    for part in parts {
+        bytes.extend_from_slice(part)?;
+    }
+    Ok(bytes)
+}
+
+/// Writes a file of these parts.
+pub fn write_parts<R: Files + AllocGlobal>(rt: &R, name: &str, parts: &[&[u8]]) -> io::Result<()> {
+    fs::write(rt, name, joined_bytes(rt.alloc(), parts)?.as_slice())
+}
+
+/// A writer with little room, which fails when it is full.
+#[derive(Drop)]
+pub struct Narrow {
+    taken: [u8; 128],
+    len: usize,
+    room: usize,
+    ghost in_range: { room ≤ 128 },
+    ghost within: { len ≤ 128 },
+}
+
+impl Write for Narrow {
+    fn write(&mut self, buf: &[u8]) -> io::Result<usize> {
+        if self.len >= self.room {
+            return Err(io::Error::from(ErrorKind::Other));
+        }
+        let count = buf.len().min(self.room - self.len);
+        let end = self.len + count;
+        self.taken[self.len..end].copy_from_slice(&buf[..count]);
+        self.len = end;
+        Ok(count)
+    }
+
+    fn flush(&mut self) -> io::Result<()> {
+        Ok(())
+    }
+}
+
+impl Narrow {
+    /// A writer with so much room, but no more than for 128 bytes.
+    pub fn new(room: usize) -> Narrow {
+        Narrow {
+            taken: [0; 128],
+            len: 0,
+            room: room.min(128),
+        }
+    }
+
+    pub fn text(&self) -> &[u8] {
+        &self.taken[..self.len]
+    }
+}

@@ -1,0 +1,87 @@
+//! Stages and a gathering thread whose other ends are gone: each ends, and says so.
+ghost use Rattle.std.specs.Prelude.{◌≡◌, ◌≤◌, [], IfOk};
+ghost use Rattle.ruled_lanes.specs.declared.limits.TheConstants.{LANES};
+ghost use Rattle.ruled_lanes.specs.LinkEnds.{taken};
+
+use crate::known::same;
+use answers::{Embedded, Entry, Framed, Shaped};
+use lanes::{Drafts, GatherFault, Message, OpenGate, gather, run_last_stage, run_stage};
+use ruled_lanes::{LANES, Memory, Taker, fan_in, link};
+use std::alloc::{AllocError, Global};
+use std::sync::Wait;
+use std::test::Fail;
+use streams::Mark;
+
+/// The end of a link whose giver is gone.
+fn left_alone<T: Send + Drop>(alloc: Global) -> Result<Taker<T>, Memory>
+    ensures { IfOk result (λ taker. taken taker ≡ []) }
+{
+    let (_giver, taker) = link(alloc, 1)?;
+    Ok(taker)
+}
+
+/// What gathering answers that should fail.
+#[derive(Clone, Copy, Debug, PartialEq, Eq)]
+enum Ended {
+    Well,
+    NoMemory,
+    Lost,
+}
+
+fn end_of<T: Drop>(answer: Result<T, GatherFault<AllocError>>) -> Ended {
+    match answer {
+        Ok(_) => Ended::Well,
+        Err(GatherFault::LaneLost) => Ended::Lost,
+        Err(_) => Ended::NoMemory,
+    }
+}
+
+#[test]
+fn a_stage_ends_where_the_one_before_is_gone(rt: HostRuntime) -> Result<(), Fail> {
+    let taker = left_alone::<Message<Framed>>(rt.alloc())?;
+    let (giver, mut next) = link::<Message<Embedded>>(rt.alloc(), 1)?;
+    let ends = run_stage(&rt, rt.alloc(), &OpenGate, 0, taker, giver);
+    assert!(rt; ends.is_none());
+    assert!(rt; next.take(&rt).is_err());
+    Ok(())
+}
+
+#[test]
+fn a_stage_ends_where_the_next_one_is_gone(rt: HostRuntime) -> Result<(), Fail> {
+    let (mut before, taker) = link::<Message<Framed>>(rt.alloc(), 2)?;
+    let (giver, _) = link::<Message<Embedded>>(rt.alloc(), 1)?;
+    assert!(rt; before.give(&rt, Message::End(0, Mark::Io)).is_ok());
+    let ends = run_stage(&rt, rt.alloc(), &OpenGate, 0, taker, giver);
+    assert!(rt; ends.is_none());
+    assert!(rt; before.give(&rt, Message::Stop).is_err());
+    Ok(())
+}
+
+/// The last stage loses the one before it; the lane still gives its stop, so that gathering ends.
+#[test]
+fn a_lane_that_lost_gives_its_stop(rt: HostRuntime) -> Result<(), Fail> {
+    let taker = left_alone::<Message<Shaped>>(rt.alloc())?;
+    let (mut givers, gatherer) = fan_in::<Message<Entry>>(rt.alloc(), 4)?;
+    let end = run_last_stage(&rt, rt.alloc(), &OpenGate, taker, &mut givers[0]);
+    assert!(rt; end.is_none());
+    assert!(rt; givers[0].give(&rt, Message::Stop).is_ok());
+    let mut drafts = Drafts::new(rt.alloc(), 1)?;
+    let answer = gather(&rt, rt.alloc(), gatherer, 1, &mut drafts);
+    same(&rt, end_of(answer), Ended::Well);
+    Ok(())
+}
+
+/// Gathers from so many lanes, all of whose givers are gone.
+fn gathered_of_none<R: AllocGlobal + Wait>(rt: &R, lanes: u32) -> Option<Ended>
+    requires { (1 ≤ lanes) × (lanes ≤ LANES) }
+{
+    let mut drafts = Drafts::<Entry>::new(rt.alloc(), 1).ok()?;
+    let (_, gatherer) = fan_in(rt.alloc(), 1).ok()?;
+    Some(end_of(gather(rt, rt.alloc(), gatherer, lanes, &mut drafts)))
+}
+
+#[test]
+fn gathering_ends_where_all_lanes_are_gone(rt: HostRuntime) {
+    same(&rt, gathered_of_none(&rt, 1), Some(Ended::Lost));
+    same(&rt, gathered_of_none(&rt, LANES), Some(Ended::Lost));
+}

@@ -1,0 +1,78 @@
+use Rattle.std.proofs.Common.{rules, ◌+◌, [], ◌++◌, length, refl, ap, length-append, arith}
+use Rattle.streams.specs.declared.found.Mark.TheVariants.{Ended}
+use Rattle.streams.proofs.Bounds.{few_rounds}
+use Rattle.streams.proofs.Messages.{found_as}
+use Rattle.streams.proofs.Pieces.{nothing_read, nothing_new, found_nothing, found_ended}
+use Rattle.streams.proofs.Receiving.{received_from}
+use Rattle.streams.proofs.reading.read_source.Goals as goal
+
+pub returns-in-Err-clause-found : goal.returns-in-Err-clause-found
+returns-in-Err-clause-found g c = ([], g.met.V.Receiver.received_none _, found_nothing _ _ _ refl)
+
+pub loop-init : goal.loop-init
+loop-init g c = record {
+  room = c.requires.room;
+  none = c.new-records.ensures.items;
+  found = [];
+  next = refl;
+  received = g.met.V.Receiver.received_none _;
+  stays = g.met.V.Receiver.stays_itself _;
+  being_read = nothing_read _ _ [] _ refl c.in-Ok.ensures.early;
+}
+
+pub overflow_cast-next : goal.overflow_cast-next
+overflow_cast-next g c =
+    let inv = c.loop.invariant in
+    let few = c.read_piece-step.ensures.few inv.being_read.read inv.found inv.being_read.stands in
+    omega (arith, few, ap length inv.none)
+
+pub overflow_add-next : goal.overflow_add-next
+overflow_add-next g c =
+    let inv = c.loop.invariant in
+    let few = c.read_piece-step.ensures.few inv.being_read.read inv.found inv.being_read.stands in
+    omega (arith, few, ap length inv.none, inv.next)
+
+pub receive-requires : goal.receive-requires
+receive-requires g c =
+    let inv = c.loop.invariant in
+    let few = c.read_piece-step.ensures.few inv.being_read.read inv.found inv.being_read.stands in
+    omega (arith, few, ap length inv.none, inv.next)
+
+pub returns-in-Ended-clause-found : goal.returns-in-Ended-clause-found
+returns-in-Ended-clause-found g c =
+    let inv = c.loop.invariant in
+    let ended = c.in-Ended.ensures.reads _ _ c.loop.counter inv.found (nothing_new _ _ _ _ _ _ _ _ inv.none inv.being_read) in
+    let then = received_from g.V.Receiver.received _ _ _ _ _ inv.next c.in-Ok-receive.ensures.received in
+    (_, g.met.V.Receiver.received_on _ _ _ _ _ inv.received then, found_ended _ _ _ _ _ ended c.finish.ensures.split)
+
+pub returns-in-Failed-clause-found : goal.returns-in-Failed-clause-found
+returns-in-Failed-clause-found g c =
+    let inv = c.loop.invariant in
+    let failed = c.in-Failed.ensures.reads _ _ c.loop.counter inv.found (nothing_new _ _ _ _ _ _ _ _ inv.none inv.being_read) in
+    let then = received_from g.V.Receiver.received _ _ _ _ _ inv.next c.in-Ok-receive.ensures.received in
+    (_, g.met.V.Receiver.received_on _ _ _ _ _ inv.received then, failed)
+
+pub returns-in-Stopped-clause-found : goal.returns-in-Stopped-clause-found
+returns-in-Stopped-clause-found g c =
+    let inv = c.loop.invariant in
+    let stopped = c.in-Stopped.ensures.reads _ _ c.loop.counter inv.found (nothing_new _ _ _ _ _ _ _ _ inv.none inv.being_read) in
+    let then = received_from g.V.Receiver.received _ _ _ _ _ inv.next c.in-Ok-receive.ensures.received in
+    (_, g.met.V.Receiver.received_on _ _ _ _ _ inv.received then, found_as _ _ _ _ _ _ refl (ap Ended c.from.ensures) stopped)
+
+pub loop-preserved : goal.loop-preserved
+loop-preserved g c =
+    let inv = c.loop.invariant in
+    let then = received_from g.V.Receiver.received _ _ _ _ _ inv.next c.in-Ok-receive.ensures.received in
+    record {
+      room = search rules;
+      none = c.in-Ok-receive.ensures.empties;
+      found = inv.found ++ c.read_piece-step.new.records.items;
+      next = omega (arith, inv.next, length-append inv.found c.read_piece-step.new.records.items);
+      received = g.met.V.Receiver.received_on _ _ _ _ _ inv.received then;
+      stays = g.met.V.Receiver.stays_on _ _ _ inv.stays c.in-Ok-receive.ensures.stays;
+      being_read = c.in-More.ensures.reads _ _ c.loop.counter inv.found (nothing_new _ _ _ _ _ _ _ _ inv.none inv.being_read);
+    }
+
+pub unreachable-requires : goal.unreachable-requires
+unreachable-requires g c =
+    let few = few_rounds _ _ _ _ _ _ _ c.loop.invariant.being_read in omega (arith, few, c.loop-test.false)

@@ -1,0 +1,82 @@
+//! What the thread that reads a source does.
+ghost use Rattle.std.specs.Prelude.{◌≡◌, ◌<◌, [], List, ℕ, ◌++◌, vec_len};
+ghost use Rattle.std.proofs.Common.{◌∙◌, refl, sym, subst, append-nil, append_assoc};
+ghost use Rattle.ruled_lanes.specs.LinkEnds.{given, GivesToSame};
+ghost use Rattle.streams.specs.Framed.{GiveRecords, GivesBack};
+
+use super::framed::Framed;
+use super::input::Tap;
+use super::reading::read_source;
+use super::receiver::Receiver;
+use planar_code::Record;
+use ruled_lanes::{Closed, Giver};
+use std::alloc::Global;
+use std::mem;
+use std::sync::Wait;
+
+/// Gives the records of a source, those of a piece in one message.
+#[derive(Drop)]
+struct Gives<'r, R> {
+    rt: &'r R,
+    giver: Giver<Framed>,
+}
+
+impl<R: Wait> Receiver for Gives<'_, R> {
+    type Lost = Closed<Framed>;
+
+    ghost received = { λ first records x y. (earlier : List (List ℕ))
+        → GiveRecords earlier (given x.giver) → GiveRecords (earlier ++ records) (given y.giver) };
+
+    ghost stays = { λ x y. GivesToSame x.giver y.giver };
+
+    fn receive(
+        &mut self,
+        alloc: Global,
+        _first: u32,
+        records: &mut Vec<Record>,
+    ) -> Result<(), Closed<Framed>> {
+        let batch = mem::replace(records, Vec::new(alloc));
+        if batch.is_empty() {
+            return Ok(());
+        }
+        self.giver.give(self.rt, Framed::Records(batch))
+    }
+
+    ghost received_none = { λ x earlier give. subst (λ all. GiveRecords all (given x.giver)) (sym (append-nil earlier)) give };
+
+    ghost received_on = { λ records others x y z first then earlier give.
+        subst (λ all. GiveRecords all (given z.giver)) (append_assoc earlier records others) (then (earlier ++ records) (first earlier give)) };
+
+    ghost stays_itself = { λ x. refl };
+
+    ghost stays_on = { λ x y z p q. q ∙ p };
+}
+
+/// Reads a source to its end, to its failure, or to the first fault in its bytes, and gives what it
+/// found: its records in order, one end mark and one stop. None where the link's other end was gone.
+pub fn give_all<R: Wait, T: Tap>(
+    rt: &R,
+    alloc: Global,
+    source: T,
+    mut buffer: Vec<u8>,
+    giver: Giver<Framed>,
+) -> Option<Giver<Framed>>
+    requires room { 0 < vec_len buffer }
+    requires none { given giver ≡ [] }
+    ensures { GivesBack (T.to_come source) (T.fails source) giver result }
+{
+    let mut gives = Gives { rt, giver };
+    let mark = match read_source(source, alloc, buffer.as_mut_slice(), &mut gives) {
+        Ok(mark) => mark,
+        Err(_) => return None,
+    };
+    let mut giver = gives.giver;
+    match giver.give(rt, Framed::End(mark)) {
+        Ok(()) => {}
+        Err(_) => return None,
+    }
+    match giver.give(rt, Framed::Stop) {
+        Ok(()) => Some(giver),
+        Err(_) => None,
+    }
+}

@@ -1,0 +1,41 @@
+//! What becomes of the records of a source as it is read.
+ghost use Rattle.std.specs.Prelude.{◌≡◌, ◌+◌, ◌≤◌, ℕ, List, [], ◌++◌, length, OnOk};
+
+use planar_code::Record;
+use std::alloc::Global;
+
+/// Receives the records of a source as they are read.
+///
+/// For proofs it has which records, numbered from a first one on, were received from one value to a
+/// later one, and what stays the same of it.
+pub trait Receiver {
+    /// Why records were not received.
+    type Lost: Drop;
+
+    ghost received: { ℕ → List (List ℕ) → Self → Self → Type 0 };
+
+    ghost stays: { Self → Self → Type 0 };
+
+    /// Takes all records out of the list, in order. The first of them has this place in the source.
+    fn receive(
+        &mut self,
+        alloc: Global,
+        first: u32,
+        records: &mut Vec<Record>,
+    ) -> Result<(), Self::Lost>
+        requires few { first + length records.old.items ≤ 1000000 }
+        ensures received { OnOk result (received first records.old.items self.old self.new) }
+        ensures empties { OnOk result (records.new.items ≡ []) }
+        ensures stays { stays self.old self.new };
+
+    // Records are received list by list.
+    ghost received_none: { (x : Self) → received 0 [] x x };
+
+    ghost received_on: { (records others : List (List ℕ)) (x y z : Self)
+        → received 0 records x y → received (length records) others y z → received 0 (records ++ others) x z };
+
+    // What stays, stays over any calls.
+    ghost stays_itself: { (x : Self) → stays x x };
+
+    ghost stays_on: { (x y z : Self) → stays x y → stays y z → stays x z };
+}

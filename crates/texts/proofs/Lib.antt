@@ -1,0 +1,11 @@
+pub mod Notes
+pub mod Wholes
+pub mod Waits
+pub mod Adding
+pub mod Breaking
+pub mod Endings
+pub mod Ordering
+pub mod Moving
+pub mod Finishing
+pub mod Results
+pub mod Held

@@ -1,0 +1,63 @@
+-- What lines hold of the notes of a run.
+use Rattle.std.specs.Prelude.{◌≡◌, ◌↔◌, ℕ, ◌<◌, Bool, true, List, Option, None, length}
+use Rattle.choices.specs.declared.Choice.{Choice}
+use Rattle.lanes.specs.Notes.{Note}
+use Rattle.reports.specs.declared.form.Form.{Form}
+use Rattle.texts.specs.declared.waiting.Waiting.{Waiting}
+use Rattle.texts.specs.declared.lines.Lines.{Lines}
+use Rattle.texts.specs.Came.{Came, IsTold, IsWholeSoFar}
+use Rattle.texts.specs.Orders.{IsInOrder}
+use Rattle.texts.specs.Written.{AreWritten, AreLeft, BreaksOff}
+
+-- What the notes tell of each file is in order, and is written or waits. The front has not ended. And it is known whether all is whole so far.
+pub record Holds (choice : Choice) (form : Form) (start now : Option (List ℕ)) (gathered : List ℕ) (front : ℕ) (waiting : List Waiting) (whole : Bool) (ns : List Note) : Type 0 where
+  pub came : ℕ → Came
+  pub told : (file : ℕ) → file < length waiting → IsTold file ns (came file)
+  pub ordered : (file : ℕ) → file < length waiting → IsInOrder choice file (came file)
+  pub written : AreWritten form start now gathered front waiting came
+  pub unended : front < length waiting → (came front).mark ≡ None
+  pub all_whole : (whole ≡ true) ↔ ((file : ℕ) → file < length waiting → IsWholeSoFar (came file))
+
+-- Of files in order, as many as these, a beginning of their texts was added after `start`.
+pub record LeavesOff (choice : Choice) (form : Form) (files : ℕ) (start now : Option (List ℕ)) : Type 0 where
+  pub came : ℕ → Came
+  pub ordered : (file : ℕ) → file < files → IsInOrder choice file (came file)
+  pub text : BreaksOff form start now files came
+
+-- the form of the text, the choice of outer faces, and how many files the run has
+abbrev pub form_of : Lines → Form
+form_of lines = lines.form
+
+abbrev pub choice_of : Lines → Choice
+choice_of lines = lines.choice
+
+abbrev pub files_of : Lines → ℕ
+files_of lines = length lines.waiting.items
+
+-- what came of the files is written or waits, of a sink that had taken `start` and has now taken `now`
+abbrev pub LinesWrite : Option (List ℕ) → Option (List ℕ) → Lines → (ℕ → Came) → Type 0
+LinesWrite start now lines came = AreWritten lines.form start now lines.gathered lines.front lines.waiting.items came
+
+-- the same before anything of the front was put on its way
+abbrev pub LinesLeave : Option (List ℕ) → Option (List ℕ) → Lines → (ℕ → Came) → Type 0
+LinesLeave start now lines came = AreLeft lines.form start now lines.gathered lines.front lines.waiting.items came
+
+-- what the notes tell is written or waits
+abbrev pub LinesHold : Option (List ℕ) → Option (List ℕ) → Lines → List Note → Type 0
+LinesHold start now lines ns = Holds lines.choice lines.form start now lines.gathered lines.front lines.waiting.items lines.whole ns
+
+-- the text was left off
+abbrev pub LinesLeaveOff : Option (List ℕ) → Option (List ℕ) → Lines → Type 0
+LinesLeaveOff start now lines = LeavesOff lines.choice lines.form (length lines.waiting.items) start now
+
+-- the form, the choice and the number of files are those of before
+pub record AreLinesOf (before after : Lines) : Type 0 where
+  pub form : after.form ≡ before.form
+  pub choice : after.choice ≡ before.choice
+  pub files : length after.waiting.items ≡ length before.waiting.items
+
+-- the first file that has not ended and the report of what is missing are those of before, too
+pub record StandAt (before after : Lines) : Type 0 where
+  pub same : AreLinesOf before after
+  pub front : after.front ≡ before.front
+  pub whole : after.whole ≡ before.whole

@@ -1,0 +1,16 @@
+//! The text of a run, written file by file as the messages of its lanes arrive. Only what comes of a
+//! file before its turn waits.
+#![tactic(auto)]
+
+mod lines;
+mod refusal;
+mod texts;
+mod waiting;
+mod writing;
+
+pub use lines::Lines;
+pub use printing::{JsonLines, Printed, ReportLines};
+pub use refusal::Refusal;
+pub use reports::{Form, push_cause, write_json, write_report};
+pub use texts::Texts;
+pub use waiting::Waiting;

@@ -1,0 +1,96 @@
+//! The text of a run and the sink that it goes to.
+ghost use Rattle.std.specs.Prelude.{◌≡◌, ◌≢◌, ◌↔◌, ℕ, List, [], Err, true, false, IfOk, OnErr, refl};
+ghost use Rattle.std.proofs.Common.{◌∙◌, ap, subst};
+ghost use Rattle.choices.specs.declared.Choice.{Choice};
+ghost use Rattle.lanes.specs.Notes.{Note};
+ghost use Rattle.lanes.specs.Opening.{Meaning};
+ghost use Rattle.texts.specs.Written.{GivesUp};
+ghost use Rattle.texts.specs.Stops.{held_stop};
+ghost use Rattle.texts.specs.Holding.{form_of, files_of, LinesHold, LinesLeaveOff, AreLinesOf};
+ghost use Rattle.texts.specs.Whole.{HaveFiles, IsAllWritten};
+
+use crate::lines::Lines;
+use crate::refusal::Refusal;
+use lanes::Consumer;
+use printing::Printed;
+use std::alloc::Global;
+use std::snapshot::Snapshot;
+use streams::{Mark, Sink, WriteFault};
+
+/// The text of a run that goes to a sink. It takes in the messages of the lanes: a line of the first file that
+/// has not ended goes to the sink through a fixed buffer, and what comes of later files waits in memory.
+#[derive(Drop)]
+pub struct Texts<'s, S, W: Drop> {
+    pub sink: &'s mut S,
+    /// The sink as it was given. Only proofs see it.
+    pub start: Snapshot<S>,
+    pub alloc: Global,
+    /// What is on its way and what waits: `Lines`.
+    pub lines: W,
+}
+
+impl<'s, S: Sink> Texts<'s, S, Lines> {
+    /// The text of these lines, which goes to this sink. Nothing is written yet.
+    pub fn new(alloc: Global, sink: &'s mut S, lines: Lines) -> Texts<'s, S, Lines>
+        ensures same { result.sink.ghost_name ≡ sink.entry.ghost_name }
+        ensures now { result.sink.now ≡ sink.old }
+        ensures start { result.start.value ≡ sink.old }
+        ensures lines { result.lines ≡ lines }
+    {
+        let start = Snapshot::of(&*sink);
+        Texts {
+            sink,
+            start,
+            alloc,
+            lines,
+        }
+    }
+}
+
+impl<S: Sink> Texts<'_, S, Lines> {
+    /// Puts what is left into the sink, and answers the status of the run: 0 where each file ended complete
+    /// and no entry lacks an answer or its line, and else 3.
+    ///
+    /// # Errors
+    ///
+    /// `Write` exactly where the sink has then failed. There is no other.
+    pub fn finish(self) -> Result<u8, WriteFault>
+        requires { S.failed self.sink.now ≡ false }
+        ensures written { IfOk result (λ status. (choice : Choice) (meaning : ℕ → Meaning) (ns : List Note)
+            → LinesHold (S.taken self.entry.start.value) (S.taken self.entry.sink.now) self.entry.lines ns
+            → HaveFiles choice meaning (files_of self.entry.lines) ns
+            → IsAllWritten choice meaning (form_of self.entry.lines) (files_of self.entry.lines)
+            (S.taken self.entry.start.value) (S.taken self.exit.0.now) status) }
+        ensures broken { OnErr result ((ns : List Note) → LinesHold (S.taken self.entry.start.value) (S.taken self.entry.sink.now) self.entry.lines ns
+            → LinesLeaveOff (S.taken self.entry.start.value) (S.taken self.exit.0.now) self.entry.lines) }
+        ensures other { IfOk result (λ status. status ≢ 0 → status ≡ 3) }
+        ensures write { (result ≡ Err WriteFault.Write) ↔ (S.failed self.exit.0.now ≡ true) }
+        ensures memory { result ≢ Err WriteFault.Memory }
+    {
+        self.lines.finish(self.sink)
+    }
+}
+
+impl<S: Sink> Consumer<Printed> for Texts<'_, S, Lines> {
+    type Refusal = Refusal;
+
+    ghost holds = { λ t ns. (S.failed t.sink.now ≡ false) × LinesHold (S.taken t.start.value) (S.taken t.sink.now) t.lines ns };
+
+    ghost stays = { λ a b. (a.sink.ghost_name ≡ b.sink.ghost_name) × (a.start.value ≡ b.start.value) × AreLinesOf a.lines b.lines };
+
+    ghost gave_up = { λ t refusal. GivesUp (S.failed t.sink.now) refusal × LinesLeaveOff (S.taken t.start.value) (S.taken t.sink.now) t.lines };
+
+    fn item(&mut self, item: Printed) -> Result<(), Refusal> {
+        self.lines.line(self.alloc, self.sink, item)
+    }
+
+    fn end(&mut self, file: u32, mark: Mark) -> Result<(), Refusal> {
+        self.lines.end(self.alloc, self.sink, file, mark)
+    }
+
+    ghost holds_on = { λ t ns held. (held.0, held_stop _ _ _ _ _ _ _ _ _ held.1) };
+
+    ghost stays_itself = { λ t. (refl, refl, record { form = refl; choice = refl; files = refl }) };
+
+    ghost stays_on = { λ a b c p q. (p.0 ∙ q.0, p.1 ∙ q.1, record { form = q.2.form ∙ p.2.form; choice = q.2.choice ∙ p.2.choice; files = q.2.files ∙ p.2.files }) };
+}

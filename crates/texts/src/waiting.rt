@@ -1,0 +1,105 @@
+//! What waits of files whose turn has not come.
+ghost use Rattle.std.specs.Prelude.{◌≡◌, ◌<◌, IfOk, IfErr, OnOk, All, length, IsTrue, slice_index_or};
+ghost use Rattle.texts.specs.Orders.{MayEnd};
+ghost use Rattle.texts.specs.Waits.{ChangesAt, IsNothing, IsCountedOne, HasMore, IsMarked, IsTaken};
+
+use crate::refusal::Refusal;
+use planar_code::{Ending, MAX_RECORDS};
+use std::alloc::{AllocError, Global};
+use std::mem;
+use streams::Mark;
+
+/// What waits of a file.
+#[derive(Drop)]
+pub struct Waiting {
+    /// The lines of its entries, as long as its turn has not come.
+    pub lines: Vec<u8>,
+    /// How many entries it has.
+    pub count: u32,
+    /// Its mark, once it has ended.
+    pub mark: Option<Mark>,
+}
+
+/// Nothing waits of so many files.
+pub(crate) fn nothing(alloc: Global, files: u32) -> Result<Vec<Waiting>, AllocError>
+    ensures count { IfOk result (λ waiting. length waiting.items ≡ files) }
+    ensures empty { IfOk result (λ waiting. All IsNothing waiting.items) }
+{
+    let mut waiting = Vec::with_capacity(alloc, files as usize)?;
+    for _ in 0..files {
+        waiting.push(Waiting {
+            lines: Vec::new(alloc),
+            count: 0,
+            mark: None,
+        })?;
+    }
+    Ok(waiting)
+}
+
+/// Counts one more entry of a file. `Astray` where there are too many to count.
+pub(crate) fn count_one(waiting: &mut Vec<Waiting>, file: u32) -> Result<(), Refusal>
+    requires { file < length waiting.old.items }
+    ensures count { length waiting.new.items ≡ length waiting.old.items }
+    ensures counted { OnOk result (ChangesAt file IsCountedOne waiting.old.items waiting.new.items) }
+    ensures astray { IfErr result (λ refusal. refusal ≡ Refusal.Astray) }
+{
+    let here = &mut waiting[file as usize];
+    match here.count.checked_add(1) {
+        Some(count) => {
+            here.count = count;
+            Ok(())
+        }
+        None => Err(Refusal::Astray),
+    }
+}
+
+/// Keeps a line of a file. `Memory` where there is none for it.
+pub(crate) fn keep_line(waiting: &mut Vec<Waiting>, file: u32, line: &[u8]) -> Result<(), Refusal>
+    requires { file < length waiting.old.items }
+    ensures count { length waiting.new.items ≡ length waiting.old.items }
+    ensures kept { OnOk result (ChangesAt file (HasMore line.now) waiting.old.items waiting.new.items) }
+    ensures memory { IfErr result (λ refusal. refusal ≡ Refusal.Memory) }
+{
+    match waiting[file as usize].lines.extend_from_slice(line) {
+        Ok(()) => Ok(()),
+        Err(_) => Err(Refusal::Memory),
+    }
+}
+
+/// Keeps the mark of a file that has none yet and may end so, and says whether it is kept.
+pub(crate) fn keep_mark(waiting: &mut Vec<Waiting>, file: u32, mark: Mark) -> bool
+    requires { file < length waiting.old.items }
+    ensures count { length waiting.new.items ≡ length waiting.old.items }
+    ensures kept { IsTrue result → ChangesAt file (IsMarked mark) waiting.old.items waiting.new.items }
+{
+    let here = &mut waiting[file as usize];
+    if here.mark.is_some() || !may_end(mark, here.count) {
+        return false;
+    }
+    here.mark = Some(mark);
+    true
+}
+
+/// Whether some file of so many records has this mark.
+fn may_end(mark: Mark, count: u32) -> bool
+    ensures { IsTrue result → MayEnd mark count }
+{
+    match mark {
+        Mark::Io | Mark::Ended(Ending::Complete) | Mark::Ended(Ending::Memory) => true,
+        Mark::Ended(Ending::Header) => count == 0,
+        Mark::Ended(Ending::Many) => count == MAX_RECORDS,
+        Mark::Ended(Ending::Truncated)
+        | Mark::Ended(Ending::Large)
+        | Mark::Ended(Ending::Oversize) => count != MAX_RECORDS,
+    }
+}
+
+/// Takes the lines of a file out, so that none of them wait.
+pub(crate) fn take_lines(alloc: Global, waiting: &mut Vec<Waiting>, file: u32) -> Vec<u8>
+    requires { file < length waiting.old.items }
+    ensures count { length waiting.new.items ≡ length waiting.old.items }
+    ensures lines { (other : Waiting) → result.items ≡ (slice_index_or waiting.old.items file other).lines.items }
+    ensures taken { ChangesAt file IsTaken waiting.old.items waiting.new.items }
+{
+    mem::replace(&mut waiting[file as usize].lines, Vec::new(alloc))
+}

@@ -1,0 +1,70 @@
+//! Text on its way to a sink.
+ghost use Rattle.std.specs.Prelude.{◌≡◌, ◌+◌, false, OnOk, OnErr, IfErr};
+ghost use Rattle.printing.specs.Lines.{head_in, end_in};
+ghost use Rattle.texts.specs.Written.{GoesOn, BreaksIn, GivesUp};
+
+use crate::refusal::Refusal;
+use printing::{end_text, head_text};
+use reports::{Form, push_line};
+use std::alloc::Global;
+use streams::{Gathered, Mark, Sink};
+
+/// Puts a text on its way.
+pub(crate) fn put<S: Sink>(
+    gathered: &mut Gathered,
+    sink: &mut S,
+    text: &[u8],
+) -> Result<(), Refusal>
+    requires { S.failed sink.old ≡ false }
+    ensures put { OnOk result (GoesOn (S.taken sink.old) gathered.old (S.taken sink.new) gathered.new text.now) }
+    ensures broken { OnErr result (BreaksIn (S.taken sink.old) gathered.old (S.taken sink.new) text.now) }
+    ensures stands { OnOk result (S.failed sink.new ≡ false) }
+    ensures gave_up { IfErr result (λ refusal. GivesUp (S.failed sink.new) refusal) }
+{
+    match push_line(gathered, sink, text) {
+        Ok(()) => Ok(()),
+        Err(_) => Err(Refusal::Write),
+    }
+}
+
+/// Puts what stands before the lines of a file on its way.
+pub(crate) fn put_head<S: Sink>(
+    alloc: Global,
+    gathered: &mut Gathered,
+    sink: &mut S,
+    form: Form,
+    file: u32,
+) -> Result<(), Refusal>
+    requires { S.failed sink.old ≡ false }
+    ensures put { OnOk result (GoesOn (S.taken sink.old) gathered.old (S.taken sink.new) gathered.new (head_in form (file + 1))) }
+    ensures broken { OnErr result (BreaksIn (S.taken sink.old) gathered.old (S.taken sink.new) (head_in form (file + 1))) }
+    ensures stands { OnOk result (S.failed sink.new ≡ false) }
+    ensures gave_up { IfErr result (λ refusal. GivesUp (S.failed sink.new) refusal) }
+{
+    match head_text(alloc, form, file) {
+        Ok(text) => put(gathered, sink, text.as_slice()),
+        Err(_) => Err(Refusal::Memory),
+    }
+}
+
+/// Puts the last line of a file on its way.
+pub(crate) fn put_end<S: Sink>(
+    alloc: Global,
+    gathered: &mut Gathered,
+    sink: &mut S,
+    form: Form,
+    file: u32,
+    mark: Mark,
+    count: u32,
+) -> Result<(), Refusal>
+    requires { S.failed sink.old ≡ false }
+    ensures put { OnOk result (GoesOn (S.taken sink.old) gathered.old (S.taken sink.new) gathered.new (end_in form (file + 1) mark count)) }
+    ensures broken { OnErr result (BreaksIn (S.taken sink.old) gathered.old (S.taken sink.new) (end_in form (file + 1) mark count)) }
+    ensures stands { OnOk result (S.failed sink.new ≡ false) }
+    ensures gave_up { IfErr result (λ refusal. GivesUp (S.failed sink.new) refusal) }
+{
+    match end_text(alloc, form, file, mark, count) {
+        Ok(text) => put(gathered, sink, text.as_slice()),
+        Err(_) => Err(Refusal::Memory),
+    }
+}

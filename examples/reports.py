@@ -1,0 +1,133 @@
+"""Reads what planarbend prints, a line at a time: reports of `layout` and of `frames`, and JSON lines. What collect.py,
+svg.py and the scripts of bench/ and checks/ share. Python's standard library alone."""
+from __future__ import annotations
+
+import dataclasses
+import json
+import re
+from typing import Any
+
+FILE = re.compile(r"file (\d+)")
+RECORD = re.compile(r"record (\d+) n=(\d+) bytes=(\d+)")
+GRAPH = re.compile(r"graph (\d+) (?:ok n=(\d+) m=(\d+) f=(\d+) bends=(\d+)(?: drawn=(?:(yes)|no cause=(\w+)))?"
+                   r"|refused (\w+)|memory)")
+END = re.compile(r"end (\w+) (graphs|records)=(\d+)")
+
+OK_KEYS = ["angles", "bends", "drawn", "f", "file", "graph", "m", "n", "points", "prices", "status", "turns"]
+REFUSED_KEYS = ["file", "graph", "rule", "status"]
+MEMORY_KEYS = ["file", "graph", "status"]
+END_KEYS = ["end", "file", "graphs"]
+KEYS = {"ok": OK_KEYS, "refused": REFUSED_KEYS, "memory": MEMORY_KEYS, None: END_KEYS}
+
+
+class NoLine(ValueError):
+    """A line that planarbend does not print."""
+
+
+@dataclasses.dataclass(frozen=True)
+class File:
+    """The first line of a file."""
+    number: int
+
+    def __str__(self) -> str:
+        return f"file {self.number}"
+
+
+@dataclasses.dataclass(frozen=True)
+class Record:
+    """The line that `frames` has for a record."""
+    number: int
+    vertices: int
+    size: int
+
+    @property
+    def answer(self) -> str:
+        """What stands behind the number."""
+        return f"n={self.vertices} bytes={self.size}"
+
+    def __str__(self) -> str:
+        return f"record {self.number} {self.answer}"
+
+
+@dataclasses.dataclass(frozen=True)
+class Graph:
+    """What is said of one graph: its size and fewest bends, or the rule that it breaks, or neither where there was
+    no memory for it."""
+    number: int
+    size: tuple[int, int, int] | None = None  # vertices, edges, faces
+    bends: int | None = None
+    drawn: str | None = None  # yes, or the cause why it is not drawn
+    rule: str | None = None
+
+    @property
+    def answer(self) -> str:
+        """What stands behind the number; without a word on the drawing where nothing is known of it."""
+        if self.rule is not None:
+            return f"refused {self.rule}"
+        if self.size is None:
+            return "memory"
+        drawn = {None: "", "yes": " drawn=yes"}.get(self.drawn, f" drawn=no cause={self.drawn}")
+        return "ok n={} m={} f={}".format(*self.size) + f" bends={self.bends}{drawn}"
+
+    def __str__(self) -> str:
+        return f"graph {self.number} {self.answer}"
+
+
+@dataclasses.dataclass(frozen=True)
+class End:
+    """The last line of a file: how it ends, and how many graphs, or records, it has."""
+    ending: str
+    count: int
+    of: str = "graphs"
+
+    def __str__(self) -> str:
+        return f"end {self.ending} {self.of}={self.count}"
+
+
+Line = File | Record | Graph | End
+
+
+def line_of(text: str) -> Line:
+    """What a line of a report says, without its line end. Raises `NoLine` where no report has it."""
+    if match := RECORD.fullmatch(text):
+        return Record(*map(int, match.groups()))
+    if match := FILE.fullmatch(text):
+        return File(int(match[1]))
+    if match := END.fullmatch(text):
+        return End(match[1], int(match[3]), match[2])
+    graph = figures_of(text)
+    if graph.size is not None and graph.drawn is None:
+        raise NoLine(f"a line that says nothing of a drawing: {text[:80]!r}")
+    return graph
+
+
+def figures_of(text: str) -> Graph:
+    """What the line of a graph says, which may end behind the fewest bends, as outside programs print it."""
+    match = GRAPH.fullmatch(text)
+    if match is None:
+        raise NoLine(f"a line that no report has: {text[:80]!r}")
+    number, vertices, edges, faces, bends, yes, cause, rule = match.groups()
+    if vertices is None:
+        return Graph(int(number), rule=rule)
+    return Graph(int(number), (int(vertices), int(edges), int(faces)), int(bends), yes or cause)
+
+
+def json_line(text: str) -> dict[str, Any]:
+    """The object of a JSON line. Raises `NoLine` where it has not the keys of one, in order."""
+    try:
+        line = json.loads(text)
+        status = line.get("status")
+        if list(line) != KEYS.get(status) or not isinstance(line["file"], int):
+            raise ValueError
+    except (ValueError, AttributeError, TypeError):
+        raise NoLine(f"a line that no JSON lines have: {text[:80]!r}") from None
+    return line
+
+
+def of_json(line: dict[str, Any]) -> Graph | End:
+    """What the object of a JSON line says, as the report does."""
+    if "end" in line:
+        return End(line["end"], int(line["graphs"]))
+    if line["status"] == "ok":
+        return Graph(int(line["graph"]), (line["n"], line["m"], line["f"]), line["bends"], line["drawn"])
+    return Graph(int(line["graph"]), rule=line.get("rule"))
