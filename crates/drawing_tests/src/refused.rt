@@ -1,4 +1,4 @@
-//! Dissections and coordinates that may find no memory. `bench/refuse-allocations` refuses each allocation
+//! Dissections and coordinates that may find no memory. `checks/refuse-allocations` refuses each allocation
 //! of these tests in turn: a second call answers as without the refusal. Where a refusal comes before the
 //! call, the test ends.
 

@@ -1,4 +1,4 @@
-//! Calls that take no memory. `bench/refuse-allocations` refuses each allocation of these tests in turn: those are all
+//! Calls that take no memory. `checks/refuse-allocations` refuses each allocation of these tests in turn: those are all
 //! of the calls that make the ends, where a test then ends.
 
 use ruled_lanes::{Tickets, fan_in, link};

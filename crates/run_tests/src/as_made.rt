@@ -156,7 +156,7 @@ fn is_allowed(text: &[u8]) -> bool {
     true
 }
 
-/// `bench/refuse-allocations` refuses each allocation of this test in turn: the run ends in a named answer, with the
+/// `checks/refuse-allocations` refuses each allocation of this test in turn: the run ends in a named answer, with the
 /// report, in which some lines may tell of want of memory, or a beginning of it.
 #[test]
 fn names_want_of_memory(rt: HostRuntime) {

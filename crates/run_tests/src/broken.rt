@@ -252,7 +252,7 @@ fn a_beginning_is_written_before_a_fault(rt: HostRuntime) -> Result<(), Fail> {
     Ok(())
 }
 
-/// `bench/refuse-allocations` refuses each allocation of this test in turn: a report is written all the same, and
+/// `checks/refuse-allocations` refuses each allocation of this test in turn: a report is written all the same, and
 /// numbers that are refused are named.
 #[test]
 fn reports_take_no_memory(rt: HostRuntime) {

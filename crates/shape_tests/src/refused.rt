@@ -1,4 +1,4 @@
-//! Calls that may find no memory. `bench/refuse-allocations` refuses each allocation of these tests in turn:
+//! Calls that may find no memory. `checks/refuse-allocations` refuses each allocation of these tests in turn:
 //! what was lent is then as it was, and a second call answers as without the refusal. Where a refusal comes
 //! before the call, the test ends.
 

@@ -225,7 +225,7 @@ fn names_all_causes(rt: HostRuntime) {
     same(&rt, Cause::Meet.word(), "meet");
 }
 
-/// `bench/refuse-allocations` refuses each allocation of this test in turn: the answer is then the right one
+/// `checks/refuse-allocations` refuses each allocation of this test in turn: the answer is then the right one
 /// or the want of memory, and a second call answers as without the refusal. Where a refusal comes before
 /// the call, the test ends.
 #[test]
