@@ -10,14 +10,34 @@ use std::alloc::{AllocError, Global};
 use std::process::Abort;
 use std::test::Fail;
 
-/// Two dissections are the same.
-fn expect_same(rt: &impl Abort, one: &Boxes, other: &Boxes) {
+/// Two dissections have the same darts.
+fn expect_same_darts(rt: &impl Abort, one: &Boxes, other: &Boxes) {
     assert_eq!(rt; one.vertices(), other.vertices());
     assert_eq!(rt; one.darts(), other.darts());
     for dart in 0..one.darts() {
+        same(rt, one.tail(dart), other.tail(dart));
         same(rt, one.head(dart), other.head(dart));
+        same(rt, one.reverse(dart), other.reverse(dart));
         same(rt, one.next(dart), other.next(dart));
         same(rt, one.direction(dart), other.direction(dart));
+        same(rt, one.before(dart), other.before(dart));
+    }
+}
+
+/// The vertices of the plane are the same in two dissections.
+fn expect_same_old(rt: &impl Abort, one: &Boxes, other: &Boxes) {
+    assert_eq!(rt; one.old_vertices(), other.old_vertices());
+    for before in 0..one.old_vertices() {
+        same(rt, one.old(before + 1), other.old(before + 1));
+    }
+}
+
+/// The edges of the plane are the same in two dissections, and run along the same darts.
+fn expect_same_paths(rt: &impl Abort, one: &Boxes, other: &Boxes) {
+    assert_eq!(rt; one.edges(), other.edges());
+    for edge in 0..one.edges() {
+        same(rt, one.lesser_dart(edge), other.lesser_dart(edge));
+        same(rt, one.path(edge), other.path(edge));
     }
 }
 
@@ -43,7 +63,9 @@ fn dissections(rt: HostRuntime) -> Result<(), Fail> {
     let first = boxes_at_last(&rt, rt.alloc())?;
     let second = boxes_at_last(&rt, rt.alloc())?;
     if let (Some(boxes), Some(again)) = (&first, &second) {
-        expect_same(&rt, boxes, again);
+        expect_same_darts(&rt, boxes, again);
+        expect_same_old(&rt, boxes, again);
+        expect_same_paths(&rt, boxes, again);
     }
     Ok(())
 }
@@ -62,7 +84,10 @@ fn points_at_last(rt: &impl Abort, alloc: Global, boxes: &Boxes) -> Result<Point
 /// The points of two drawings of the triangle are the same.
 fn expect_same_points(rt: &impl Abort, one: &Points, other: &Points) {
     assert_eq!(rt; (one.edge_count(), other.edge_count()), (3, 3));
-    same(rt, one.vertices(), other.vertices());
+    assert_eq!(rt; (one.vertices().len(), other.vertices().len()), (3, 3));
+    for vertex in 1..4 {
+        same(rt, one.vertex(vertex), other.vertex(vertex));
+    }
     for edge in 0..3 {
         same(rt, one.corners(edge), other.corners(edge));
     }
