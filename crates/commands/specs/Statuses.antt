@@ -61,8 +61,23 @@ pub record IsBegunToLayOut (choice : Choice) (form : Form) (files : ℕ) (old ne
   pub of_files : AreAllBooks choice (λ _. Silent) files books
   pub text : AppendsFront old new (text_in form books)
 
+-- A beginning of the report of a file that means this was added to the output. The records and the mark are those of some bytes, as in a whole
+-- report.
+pub record IsBegunToReport (meaning : Meaning) (old new : Option (List ℕ)) : Type 0 where
+  pub found : Found
+  pub bytes : List ℕ
+  pub fails : Bool
+  pub marked : IsMarked bytes fails found.records found.mark
+  pub told : (all : List ℕ) → told_of meaning ≡ Some all → IsMarked all (fails_of meaning) found.records found.mark
+  pub text : AppendsFront old new (frames_text found)
+
 -- the whole report that a request asks for, where standard input means `input`, was added to the output, with this status
 abbrev pub IsDone : Meaning → Request → Option (List ℕ) → Option (List ℕ) → Bool → ℕ → Type 0
 IsDone input (Frames path) old new failed status = IsReported (meaning_of input path.now) old new failed status
 IsDone input (Layout paths lanes choice form progress) old new failed status =
     IsLaidOut choice form (meanings input paths.items) (vec_len paths) old new failed status
+
+-- a beginning of the report that a request asks for, where standard input means `input`, was added to the output
+abbrev pub IsBegunToBeDone : Meaning → Request → Option (List ℕ) → Option (List ℕ) → Type 0
+IsBegunToBeDone input (Frames path) old new = IsBegunToReport (meaning_of input path.now) old new
+IsBegunToBeDone input (Layout paths lanes choice form progress) old new = IsBegunToLayOut choice form (vec_len paths) old new

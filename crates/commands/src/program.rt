@@ -1,5 +1,5 @@
 //! What the program does with its words.
-ghost use Rattle.std.specs.Prelude.{◌≡◌, ◌≤◌, ◌⊎◌, ℕ, List, length, true, false, IfOk, IfErr, OnOk};
+ghost use Rattle.std.specs.Prelude.{◌≡◌, ◌≤◌, ◌⊎◌, ℕ, List, length, true, false, IfOk, IfErr, OnOk, OnErr};
 ghost use Rattle.std.specs.Borrow.{Bor};
 ghost use Rattle.std.specs.Io.KnownBytes.{Appends};
 ghost use Rattle.choices.specs.declared.Choice.{Choice};
@@ -10,7 +10,7 @@ ghost use Rattle.clap.specs.Words.{kind_of};
 ghost use Rattle.clap.specs.declared.error.kind.ErrorKind.{ErrorKind};
 ghost use Rattle.commands.specs.declared.reading.Wish.{Wish};
 ghost use Rattle.commands.specs.declared.words.Request.{Request};
-ghost use Rattle.commands.specs.Statuses.{IsReported, IsLaidOut, IsDone, IsPrinted, version_text};
+ghost use Rattle.commands.specs.Statuses.{IsReported, IsLaidOut, IsDone, IsBegunToReport, IsBegunToBeDone, IsPrinted, version_text};
 ghost use Rattle.commands.specs.Words.{IsAskedBy, asks_in};
 
 use crate::layout::{CAPACITY, layout};
@@ -74,6 +74,13 @@ where
         × ((text : List ℕ) × Appends (S.taken out.old) (S.taken out.new) text))
         ⊎ ((request : Request) × IsAskedBy words.now request
         × IsDone (I.meaning input.now 0) request (S.taken out.old) (S.taken out.new) (S.failed out.new) result) }
+
+    // With status 1, where neither the version nor help is asked for, nothing is written, or a beginning of the
+    // report of what the words ask for.
+    ensures begun { result ≡ 1 → asks_in Wish.Version words.now ≡ false → asks_in Wish.Help words.now ≡ false
+        → (out.new ≡ out.old)
+        ⊎ ((request : Request) × IsAskedBy words.now request
+        × IsBegunToBeDone (I.meaning input.now 0) request (S.taken out.old) (S.taken out.new)) }
 {
     if asks(Wish::Version, words) {
         return show_version(out, err);
@@ -109,6 +116,9 @@ where
     ensures refused { result ≡ 2 → out.new ≡ out.old }
     ensures done { (result ≡ 0) ⊎ (result ≡ 3)
         → IsDone (I.meaning input.now 0) request.entry (S.taken out.old) (S.taken out.new) (S.failed out.new) result }
+    ensures begun { result ≡ 1
+        → (out.new ≡ out.old)
+        ⊎ IsBegunToBeDone (I.meaning input.now 0) request.entry (S.taken out.old) (S.taken out.new) }
 {
     let outcome = match request {
         Request::Frames { path } => frames(rt, path, input, out),
@@ -155,6 +165,8 @@ where
     ensures reported { IfOk result (IsReported (meaning_of (I.meaning input.now 0) path.now)
         (S.taken out.old) (S.taken out.new) (S.failed out.new)) }
     ensures failed { IfErr result (λ fault. ¬ IsRefusal fault) }
+    ensures begun { OnErr result ((out.new ≡ out.old)
+        ⊎ IsBegunToReport (meaning_of (I.meaning input.now 0) path.now) (S.taken out.old) (S.taken out.new)) }
 {
     let source = open_source(rt, rt.alloc(), input, path)?;
     let found = run_frames(rt, rt.alloc(), source, CAPACITY)?;

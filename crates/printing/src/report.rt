@@ -12,6 +12,9 @@ use reports::mark_word;
 use std::alloc::{AllocError, Global};
 use streams::Mark;
 
+/// As many bytes as the line of a graph has room for at first: few have more.
+const ROOM: usize = 64;
+
 /// The first line of the file with this number.
 pub(crate) fn file_line(alloc: Global, number: u64) -> Result<Vec<u8>, AllocError>
     ensures { IfOk result (λ line. line.items ≡ file_line number) }
@@ -26,7 +29,8 @@ pub(crate) fn file_line(alloc: Global, number: u64) -> Result<Vec<u8>, AllocErro
 pub(crate) fn graph_line(alloc: Global, number: u64, answer: &Answer) -> Result<Vec<u8>, AllocError>
     ensures { IfOk result (λ line. line.items ≡ graph_line number answer.now) }
 {
-    let mut line = Vec::from_slice(alloc, b"graph ")?;
+    let mut line = Vec::with_capacity(alloc, ROOM)?;
+    line.extend_from_slice(b"graph ")?;
     push_number(&mut line, number)?;
     push_answer(&mut line, answer)?;
     line.push(b'\n')?;

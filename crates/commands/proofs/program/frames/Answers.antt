@@ -1,6 +1,8 @@
-use Rattle.std.proofs.Common.{◌≡◌, ℕ, Bool, List, rules}
+use Rattle.std.proofs.Common.{◌≡◌, ℕ, Bool, List, rules, inr}
 use Rattle.streams.specs.declared.found.Mark.{Mark}
 use Rattle.streams.specs.Marks.{IsMarked}
+use Rattle.streams.specs.Text.{frames_text}
+use Rattle.commands.proofs.Reported.{front_of, on_err}
 use Rattle.commands.proofs.program.frames.Goals as goal
 
 -- what two sources found that fail alike
@@ -23,3 +25,18 @@ returns-clause-reported g c =
       complete = search rules;
       other = search rules;
     }
+
+pub returns-in_err-write_frames-clause-begun : goal.returns-in_err-write_frames-clause-begun
+returns-in_err-write_frames-clause-begun g c =
+    let untold = c.in_ok-found.ensures.untold in
+    let taken = g.S.Sink.taken in
+    on_err c.from_residual-in_err-write_frames.result (inr (record {
+      found = c.in_ok-found.found;
+      bytes = untold.0;
+      fails = untold.1.0;
+      marked = untold.1.1;
+      told = λ bytes told.
+          let tells = c.in_ok-source.ensures.told bytes told in
+          marked_alike bytes _ _ _ _ tells.1 (c.in_ok-found.ensures.told bytes tells.0);
+      text = front_of (taken c.args.out.now) (taken c.write_frames.new.sink) _ (frames_text c.in_ok-found.found) c.in_err-write_frames.field-0.0 c.in_err-write_frames.ensures;
+    }))
