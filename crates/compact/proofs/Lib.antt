@@ -1,5 +1,5 @@
-pub mod Widening
-pub mod Gapping
+pub mod Relaxing
+pub mod Constraining
 pub mod Walking
 pub mod Numbers
 pub mod Placing

@@ -60,7 +60,7 @@ pub record IsAlongTo (w : Web) (k darts : ℕ) (x : ℕ → ℕ) : Type 0 where
   pub forward : (a : ℕ) → a < darts → w.direction a ≡ k → x (tail w a) + 1 ≤ x (w.head a)
   pub across : (a : ℕ) → a < darts → w.direction a ≢ k → w.direction a ≢ k + 2 → x (tail w a) ≤ x (w.head a)
 
--- a dart whose gap is kept
+-- a dart whose constraint is kept
 pub along_kept : (w : Web) (k d least : ℕ) (x : ℕ → ℕ) →
     ((w.direction d ≡ k) × (least ≡ 1)) ⊎ ((w.direction d ≢ k) × (w.direction d ≢ k + 2) × (least ≡ 0)) →
     x (tail w d) + least ≤ x (w.head d) → IsAlongTo w k d x → IsAlongTo w k (d + 1) x

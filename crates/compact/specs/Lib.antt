@@ -1,3 +1,3 @@
-pub mod Gaps
+pub mod Constraints
 pub mod Ordered
 pub mod Steps

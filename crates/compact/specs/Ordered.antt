@@ -9,8 +9,8 @@ use Rattle.dissect.specs.Boxes.{Parts, HasEdge, web}
 pub use Rattle.dissect.specs.Ordered.{tail, IsOrdered, AreWithin, point_at, AreTaken, AreLaidOut, HasNoPlace}
 use Rattle.compact.specs.declared.axis.Axis.{Axis}
 use Rattle.compact.specs.declared.axis.Axis.TheVariants.{X, Y}
-use Rattle.compact.specs.declared.gaps.Gap.{Gap}
-use Rattle.compact.specs.Gaps.{Keeps, AreInside}
+use Rattle.compact.specs.declared.constraints.Constraint.{Constraint}
+use Rattle.compact.specs.Constraints.{Keeps, AreInside}
 use Rattle.compact.specs.declared.fault.CompactFault.{CompactFault}
 use Rattle.compact.specs.declared.fault.CompactFault.TheVariants.{Wide, Memory}
 
@@ -23,19 +23,19 @@ IsCompactFault b Memory = Unit {0}
 abbrev pub IsAcross : ℕ → ℕ → Type 0
 IsAcross k d = (d ≢ k) × (d ≢ k + 2)
 
--- along one axis, whose direction of growth has the number k: a dart that way has a gap of 1 or more, and the ends of a
+-- along one axis, whose direction of growth has the number k: a dart that way has a constraint of 1 or more, and the ends of a
 -- dart across have one number
 pub record IsAlong (w : Web) (k : ℕ) (x : ℕ → ℕ) : Type 0 where
   pub forward : (a : ℕ) → a < w.darts → w.direction a ≡ k → x (tail w a) + 1 ≤ x (w.head a)
   pub across : (a : ℕ) → a < w.darts → w.direction a ≢ k → w.direction a ≢ k + 2 → x (tail w a) ≤ x (w.head a)
 
--- the gaps say the same of the first darts
-pub record AreAlong (w : Web) (k : ℕ) (darts : ℕ) (gaps : List Gap) : Type 0 where
-  pub inside : AreInside w.vertices gaps
-  pub forward : (x : ℕ → ℕ) → Keeps gaps x → (a : ℕ) → a < darts → w.direction a ≡ k → x (tail w a) + 1 ≤ x (w.head a)
-  pub across : (x : ℕ → ℕ) → Keeps gaps x → (a : ℕ) → a < darts → w.direction a ≢ k → w.direction a ≢ k + 2
+-- the constraints say the same of the first darts
+pub record AreAlong (w : Web) (k : ℕ) (darts : ℕ) (constraints : List Constraint) : Type 0 where
+  pub inside : AreInside w.vertices constraints
+  pub forward : (x : ℕ → ℕ) → Keeps constraints x → (a : ℕ) → a < darts → w.direction a ≡ k → x (tail w a) + 1 ≤ x (w.head a)
+  pub across : (x : ℕ → ℕ) → Keeps constraints x → (a : ℕ) → a < darts → w.direction a ≢ k → w.direction a ≢ k + 2
       → x (tail w a) ≤ x (w.head a)
-  pub no_more : (x : ℕ → ℕ) → IsAlong w k x → Keeps gaps x
+  pub no_more : (x : ℕ → ℕ) → IsAlong w k x → Keeps constraints x
 
 -- the number of the direction in which an axis grows
 abbrev pub growth : Axis → ℕ

@@ -1,4 +1,4 @@
-//! The gaps of a dissection along an axis, and the least numbers of its vertices.
+//! The constraints of a dissection along an axis, and the least numbers of its vertices.
 
 ghost use Rattle.std.specs.Prelude.{◌≡◌, ◌≢◌, ◌+◌, ◌*◌, length, slice_index, Some, None, IsTrue, IfOk, IfErr, ℕ, ◌<◌, ◌≤◌};
 ghost use Rattle.compact.specs.Ordered.{IsAlong, AreAlong, AreWithin, IsAcross, IsAxisFault, growth};
@@ -6,8 +6,8 @@ ghost use Rattle.compact.specs.Steps.{AreSteps, AreUnder};
 ghost use Rattle.cutting.specs.Webs.{IsSound};
 ghost use Rattle.dissect.specs.Boxes.{web, number_of};
 
+use crate::constraints::{Constraint, settle};
 use crate::fault::CompactFault;
-use crate::gaps::{Gap, settle};
 use crate::rows::{Steps, raise_rows};
 use directions::Direction;
 use dissect::Boxes;
@@ -24,7 +24,7 @@ pub enum Axis {
 
 /// By how much the number of its head is to be greater than that of its tail, along a dart of this
 /// direction; none where it may be less.
-fn least_gap(axis: Axis, direction: Direction) -> Option<u8>
+fn least_difference(axis: Axis, direction: Direction) -> Option<u8>
     ensures forward { number_of direction ≡ growth axis → result ≡ Some 1 }
     ensures back { number_of direction ≡ growth axis + 2 → result ≡ None }
     ensures across { number_of direction ≢ growth axis → number_of direction ≢ growth axis + 2 → result ≡ Some 0 }
@@ -37,19 +37,23 @@ fn least_gap(axis: Axis, direction: Direction) -> Option<u8>
     }
 }
 
-/// The gaps along an axis: one for each dart that does not run against it.
-fn gaps_along(alloc: Global, boxes: &Boxes, axis: Axis) -> Result<Vec<Gap>, AllocError>
-    ensures { IfOk result (λ gaps. AreAlong (web boxes.now) (growth axis) boxes.now.darts gaps.items) }
+/// The constraints along an axis: one for each dart that does not run against it.
+fn constraints_along(
+    alloc: Global,
+    boxes: &Boxes,
+    axis: Axis,
+) -> Result<Vec<Constraint>, AllocError>
+    ensures { IfOk result (λ constraints. AreAlong (web boxes.now) (growth axis) boxes.now.darts constraints.items) }
 {
-    let mut gaps = Vec::with_capacity(alloc, boxes.darts() as usize)?;
+    let mut constraints = Vec::with_capacity(alloc, boxes.darts() as usize)?;
     for dart in 0..boxes.darts() {
-        if let Some(least) = least_gap(axis, boxes.direction(dart)) {
+        if let Some(least) = least_difference(axis, boxes.direction(dart)) {
             let from = boxes.head(boxes.reverse(dart));
             let to = boxes.head(dart);
-            gaps.push(Gap { from, to, least })?;
+            constraints.push(Constraint { from, to, least })?;
         }
     }
-    Ok(gaps)
+    Ok(constraints)
 }
 
 /// Whether numbers are in the order of the darts along an axis. A step for each dart.
@@ -59,7 +63,7 @@ fn are_along(boxes: &Boxes, axis: Axis, numbers: &[u16]) -> bool
     ensures small { (v : ℕ) → v < length numbers.now → slice_index numbers.now v ≤ 65535 }
 {
     for dart in 0..boxes.darts() {
-        if let Some(least) = least_gap(axis, boxes.direction(dart)) {
+        if let Some(least) = least_difference(axis, boxes.direction(dart)) {
             let from = numbers[boxes.head(boxes.reverse(dart)) as usize];
             let to = numbers[boxes.head(dart) as usize];
             if u32::from(from) + u32::from(least) > u32::from(to) {
@@ -144,10 +148,10 @@ pub fn numbers_along(
     if are_along(boxes, axis, &numbers) {
         return Ok(numbers);
     }
-    let Ok(gaps) = gaps_along(alloc, boxes, axis) else {
+    let Ok(constraints) = constraints_along(alloc, boxes, axis) else {
         return Err(CompactFault::Memory);
     };
-    let settled = settle(&gaps, &mut numbers);
+    let settled = settle(&constraints, &mut numbers);
     if !settled {
         return Err(CompactFault::Wide);
     }

@@ -2,9 +2,9 @@
 #![tactic(auto)]
 
 mod axis;
+mod constraints;
 mod corners;
 mod fault;
-mod gaps;
 mod place;
 mod rows;
 mod steps;

@@ -27,75 +27,108 @@ impl Steps<'_> {
     }
 }
 
+/// What the search knows of a vertex, and the row that comes at the vertex's place.
+#[derive(Clone, Copy, Debug)]
+struct Place {
+    /// The first vertex of the row of this vertex.
+    row: u32,
+    /// For the first vertex of a row, how many steps to the row are still to come.
+    waits: u32,
+    /// The first vertex of the row that comes at this place, or `NO_VERTEX` where none is known yet.
+    ready: u32,
+}
+
 /// Which rows are to come next. Time alone rests on it: whatever is told, numbers are raised along
 /// steps alone.
 #[derive(Drop)]
 struct Search {
-    /// The first vertex of the row of each vertex.
-    rows: Vec<u32>,
-    /// For the first vertex of each row, how many steps to the row are still to come.
-    waits: Vec<u32>,
-    /// The first vertices of the rows that no step to them is to come to.
-    ready: Vec<u32>,
+    places: Vec<Place>,
+    /// How many rows are ready: no step to them is to come any more.
+    ready: usize,
 }
 
 impl Search {
     /// Where no step has come.
     fn new(alloc: Global, steps: Steps<'_>, vertices: u32) -> Result<Search, AllocError> {
-        let rows = rows_of(alloc, steps, vertices)?;
-        let mut waits = vec![in alloc; 0u32; vertices as usize]?;
+        let unknown = Place {
+            row: NO_VERTEX,
+            waits: 0,
+            ready: NO_VERTEX,
+        };
+        let places = vec![in alloc; unknown; vertices as usize]?;
+        let mut search = Search { places, ready: 0 };
+        search.mark_rows(steps, vertices);
+        search.count_steps(steps, vertices);
+        for vertex in 0..vertices {
+            if let Some(place) = search.places.get(vertex as usize).copied()
+                && place.row == vertex
+                && place.waits == 0
+            {
+                search.make_ready(vertex);
+            }
+        }
+        Ok(search)
+    }
+
+    /// Tells each vertex the first one of its row.
+    fn mark_rows(&mut self, steps: Steps<'_>, vertices: u32) {
+        for first in 0..vertices {
+            if steps.next(first, steps.down) == NO_VERTEX {
+                self.mark_row(steps, first);
+            }
+        }
+    }
+
+    /// Tells the vertices of a row its first one.
+    fn mark_row(&mut self, steps: Steps<'_>, first: u32) {
+        let mut vertex = first;
+        for _ in 0..self.places.len() {
+            let Some(place) = self.places.get_mut(vertex as usize) else {
+                return;
+            };
+            place.row = first;
+            vertex = steps.next(vertex, steps.up);
+        }
+    }
+
+    /// Counts the steps to each row.
+    fn count_steps(&mut self, steps: Steps<'_>, vertices: u32) {
         for vertex in 0..vertices {
             let to = steps.next(vertex, steps.ahead);
-            if let Some(row) = rows.get(to as usize)
-                && let Some(wait) = waits.get_mut(*row as usize)
+            if let Some(place) = self.places.get(to as usize).copied()
+                && let Some(row) = self.places.get_mut(place.row as usize)
             {
-                *wait = wait.saturating_add(1);
+                row.waits = row.waits.saturating_add(1);
             }
         }
-        let mut ready = Vec::with_capacity(alloc, vertices as usize)?;
-        for vertex in 0..vertices {
-            let place = vertex as usize;
-            if rows.get(place) == Some(&vertex) && waits.get(place) == Some(&0) {
-                ready.push(vertex)?;
-            }
+    }
+
+    /// The row with this first vertex comes behind those that are ready.
+    fn make_ready(&mut self, first: u32) {
+        if let Some(place) = self.places.get_mut(self.ready) {
+            place.ready = first;
+            self.ready = self.ready.saturating_add(1);
         }
-        Ok(Search { rows, waits, ready })
     }
 
     /// A step comes to a vertex.
-    fn arrive(&mut self, vertex: u32) -> Result<(), AllocError> {
-        if let Some(row) = self.rows.get(vertex as usize)
-            && let Some(wait) = self.waits.get_mut(*row as usize)
+    fn arrive(&mut self, vertex: u32) {
+        if let Some(place) = self.places.get(vertex as usize).copied()
+            && let Some(row) = self.places.get_mut(place.row as usize)
         {
-            *wait = wait.saturating_sub(1);
-            if *wait == 0 {
-                self.ready.push(*row)?;
+            row.waits = row.waits.saturating_sub(1);
+            if row.waits == 0 {
+                self.make_ready(place.row);
             }
         }
-        Ok(())
     }
-}
 
-/// The first vertex of the row of each vertex.
-fn rows_of(alloc: Global, steps: Steps<'_>, vertices: u32) -> Result<Vec<u32>, AllocError> {
-    let mut rows = vec![in alloc; NO_VERTEX; vertices as usize]?;
-    for first in 0..vertices {
-        if steps.next(first, steps.down) == NO_VERTEX {
-            mark_row(steps, first, &mut rows);
+    /// The first vertex of the row that comes at a place, or `NO_VERTEX`.
+    fn row_at(&self, at: usize) -> u32 {
+        match self.places.get(at) {
+            Some(place) => place.ready,
+            None => NO_VERTEX,
         }
-    }
-    Ok(rows)
-}
-
-/// Marks the vertices of a row by its first one.
-fn mark_row(steps: Steps<'_>, first: u32, rows: &mut [u32]) {
-    let mut vertex = first;
-    for _ in 0..rows.len() {
-        let Some(row) = rows.get_mut(vertex as usize) else {
-            return;
-        };
-        *row = first;
-        vertex = steps.next(vertex, steps.up);
     }
 }
 
@@ -142,12 +175,7 @@ fn climb(around: &[u32], up: u8, first: u32, numbers: &mut [u16]) -> u32
 
 /// Walks back along a row from its last vertex, raises each number to the one before it, and that of
 /// the next vertex along the axis to one more.
-fn descend(
-    steps: Steps<'_>,
-    last: u32,
-    search: &mut Search,
-    numbers: &mut [u16],
-) -> Result<(), AllocError>
+fn descend(steps: Steps<'_>, last: u32, search: &mut Search, numbers: &mut [u16])
     requires ways { (steps.ahead < 4) × (steps.down < 4) }
     requires last { last < length numbers.old }
     requires count { length steps.around.now ≡ 4 * length numbers.old }
@@ -157,14 +185,13 @@ fn descend(
     let mut vertex = last;
     for _ in 0..numbers.len() {
         if let Some(to) = raise(steps.around, steps.ahead, 1, vertex, numbers) {
-            search.arrive(to)?;
+            search.arrive(to);
         }
         match raise(steps.around, steps.down, 0, vertex, numbers) {
             Some(below) => vertex = below,
-            None => return Ok(()),
+            None => return,
         }
     }
-    Ok(())
 }
 
 /// Raises numbers to those of longest paths, row by row: a row comes when the numbers of all rows that
@@ -182,14 +209,12 @@ pub fn raise_rows(
 {
     let mut search = Search::new(alloc, steps, vertices)?;
     for at in 0..numbers.len() {
-        let Some(first) = search.ready.get(at).copied() else {
-            return Ok(());
-        };
+        let first = search.row_at(at);
         if first as usize >= numbers.len() {
             return Ok(());
         }
         let last = climb(steps.around, steps.up, first, numbers);
-        descend(steps, last, &mut search, numbers)?;
+        descend(steps, last, &mut search, numbers);
     }
     Ok(())
 }

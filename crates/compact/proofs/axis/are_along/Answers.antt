@@ -1,7 +1,7 @@
 use Rattle.std.proofs.Common.{◌∙◌, ◌≡◌, ◌≢◌, ◌⊎◌, ◌+◌, ℕ, ap, sym, subst, arith, slice_index}
 use Rattle.dissect.specs.Boxes.{web, number_of}
 use Rattle.compact.specs.Ordered.{growth}
-use Rattle.compact.proofs.Gapping.{gap_found, no_gap_found}
+use Rattle.compact.proofs.Constraining.{constraint_found, no_constraint_found}
 use Rattle.compact.proofs.Stepping.{IsAlongTo, along_kept, along_passed, along_all}
 use Rattle.compact.proofs.axis.are_along.Goals as goal
 use Rattle.compact.proofs.axis.are_along.Goals.{in-Some+else-from, in_default}
@@ -13,9 +13,9 @@ loop-dart-preserved c =
     let d = c.loop-dart.dart in
     let x : ℕ → ℕ = λ v. slice_index c.args.numbers.now v in
     let way : number_of c.direction.result ≡ w.direction d = c.direction.ensures.value in
-    elim c.match-least_gap.branch [
+    elim c.match-least_difference.branch [
       | in-Some+else-from b ↦
-          let kind = gap_found (number_of c.direction.result) k b.in-Some.least c.least_gap.result c.least_gap.ensures.forward c.least_gap.ensures.back c.least_gap.ensures.across b.in-Some.is in
+          let kind = constraint_found (number_of c.direction.result) k b.in-Some.least c.least_difference.result c.least_difference.ensures.forward c.least_difference.ensures.back c.least_difference.ensures.across b.in-Some.is in
           along_kept w k d b.in-Some.least x
           (subst (λ (n : ℕ). ((n ≡ k) × (b.in-Some.least ≡ 1)) ⊎ ((n ≢ k) × (n ≢ k + 2) × (b.in-Some.least ≡ 0))) way kind)
           (omega (
@@ -29,7 +29,7 @@ loop-dart-preserved c =
           ))
           c.loop-dart.invariant
       | in_default b ↦
-          along_passed w k d x (sym way ∙ no_gap_found (number_of c.direction.result) k c.least_gap.result c.least_gap.ensures.forward c.least_gap.ensures.across b.in_default.is) c.loop-dart.invariant
+          along_passed w k d x (sym way ∙ no_constraint_found (number_of c.direction.result) k c.least_difference.result c.least_difference.ensures.forward c.least_difference.ensures.across b.in_default.is) c.loop-dart.invariant
     ]
 
 pub returns-clause-along : goal.returns-clause-along

@@ -3,10 +3,6 @@ use Rattle.compact.specs.Steps.{step}
 use Rattle.compact.proofs.Stepping.{under_at}
 use Rattle.compact.proofs.rows.descend.Goals as goal
 
-pub returns-in_err-arrive-clause-under : goal.returns-in_err-arrive-clause-under
-returns-in_err-arrive-clause-under c = λ y ahead down under.
-    under_at (step c.args.steps.around.now c.args.steps.ahead) _ _ 1 _ _ c.loop.invariant.count c.raise.ensures.under y ahead (c.loop.invariant.under y ahead down under)
-
 pub returns-in-None-clause-under : goal.returns-in-None-clause-under
 returns-in-None-clause-under c = λ y ahead down under.
     under_at (step c.args.steps.around.now c.args.steps.down) _ _ 0 _ _ (c.raise.ensures.count ∙ c.loop.invariant.count) c.in-None.ensures.under y down

@@ -1,5 +1,5 @@
 use Rattle.std.proofs.Common.{◌∙◌, arith}
-use Rattle.compact.proofs.gaps.settle.Goals as goal
+use Rattle.compact.proofs.constraints.settle.Goals as goal
 
 pub returns-in-Kept-clause-least : goal.returns-in-Kept-clause-least
 returns-in-Kept-clause-least c = λ _ y keeps v v_in. c.in-Kept.ensures.low y keeps v (omega (arith, v_in, c.rounds.invariant.size))
@@ -10,5 +10,5 @@ rounds-preserved c = record {
   low = λ y keeps v v_in. c.in-Raised.ensures.low y keeps v (omega (arith, v_in, c.rounds.invariant.size));
 }
 
-pub widen_all-requires-clause-low : goal.widen_all-requires-clause-low
-widen_all-requires-clause-low c = λ y keeps v v_in. c.rounds.invariant.low y keeps v (omega (arith, v_in, c.rounds.invariant.size))
+pub relax_all-requires-clause-low : goal.relax_all-requires-clause-low
+relax_all-requires-clause-low c = λ y keeps v v_in. c.rounds.invariant.low y keeps v (omega (arith, v_in, c.rounds.invariant.size))

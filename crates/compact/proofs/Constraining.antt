@@ -1,20 +1,20 @@
--- How the gaps of a dissection are gathered, dart by dart.
+-- How the constraints of a dissection are gathered, dart by dart.
 use Rattle.std.proofs.Common.{◌≡◌, ◌≢◌, ℕ, ◌+◌, ◌<◌, ◌≤◌, ◌⊎◌, List, [], ◌∷◌, ◌++◌, Option, Some, None, arith, subst, sym, refl, ◌∙◌, inl, inr}
 use Rattle.std.proofs.lemmas.Bool.{cases_eq}
 use Rattle.std.proofs.lemmas.Option.{none-some, same_Some}
 use Rattle.std.proofs.lemmas.List.Elements.{All-append, All-cons, All-nil, All-pop}
 use Rattle.cutting.specs.Webs.{Web, IsSound}
-use Rattle.compact.specs.declared.gaps.Gap.{Gap}
-use Rattle.compact.specs.Gaps.{Keeps}
+use Rattle.compact.specs.declared.constraints.Constraint.{Constraint}
+use Rattle.compact.specs.Constraints.{Keeps}
 use Rattle.compact.specs.Ordered.{tail, IsAlong, AreAlong}
 
--- a dart forward or across adds its gap
-pub one_more : (w : Web) (k d : ℕ) (gaps : List Gap) (least : ℕ) → IsSound w → d < w.darts →
+-- a dart forward or across adds its constraint
+pub one_more : (w : Web) (k d : ℕ) (constraints : List Constraint) (least : ℕ) → IsSound w → d < w.darts →
     ((w.direction d ≡ k) × (least ≡ 1)) ⊎ ((w.direction d ≢ k) × (w.direction d ≢ k + 2) × (least ≡ 0)) →
-    AreAlong w k d gaps → AreAlong w k (d + 1) (gaps ++ (record { from = tail w d; to = w.head d; least = least } ∷ []))
-one_more w k d gaps least sound d_in kind along =
-    let gap : Gap = record { from = tail w d; to = w.head d; least = least } in
-    let inside : (gap.from < w.vertices) × (gap.to < w.vertices) × (least ≤ 1) = (
+    AreAlong w k d constraints → AreAlong w k (d + 1) (constraints ++ (record { from = tail w d; to = w.head d; least = least } ∷ []))
+one_more w k d constraints least sound d_in kind along =
+    let constraint : Constraint = record { from = tail w d; to = w.head d; least = least } in
+    let inside : (constraint.from < w.vertices) × (constraint.to < w.vertices) × (least ≤ 1) = (
       sound.meeting.head_in (w.twin d) (sound.linked.twin_in d d_in),
       sound.meeting.head_in d d_in,
       elim kind [
@@ -22,13 +22,13 @@ one_more w k d gaps least sound d_in kind along =
         | inr across ↦ omega (arith, across.2)
       ],
     ) in
-    let last : (x : ℕ → ℕ) → Keeps (gaps ++ (gap ∷ [])) x → x gap.from + least ≤ x gap.to = λ x keeps.
-    (All-pop (λ g. x g.from + g.least ≤ x g.to) (gaps ++ (gap ∷ [])) gaps (Some gap) refl keeps).1 in
-    let front : (x : ℕ → ℕ) → Keeps (gaps ++ (gap ∷ [])) x → Keeps gaps x = λ x keeps.
-    (All-pop (λ g. x g.from + g.least ≤ x g.to) (gaps ++ (gap ∷ [])) gaps (Some gap) refl keeps).0 in
+    let last : (x : ℕ → ℕ) → Keeps (constraints ++ (constraint ∷ [])) x → x constraint.from + least ≤ x constraint.to = λ x keeps.
+    (All-pop (λ g. x g.from + g.least ≤ x g.to) (constraints ++ (constraint ∷ [])) constraints (Some constraint) refl keeps).1 in
+    let front : (x : ℕ → ℕ) → Keeps (constraints ++ (constraint ∷ [])) x → Keeps constraints x = λ x keeps.
+    (All-pop (λ g. x g.from + g.least ≤ x g.to) (constraints ++ (constraint ∷ [])) constraints (Some constraint) refl keeps).0 in
     record {
-      inside = All-append (λ g. (g.from < w.vertices) × (g.to < w.vertices) × (g.least ≤ 1)) gaps (gap ∷ []) along.inside
-          (All-cons (λ g. (g.from < w.vertices) × (g.to < w.vertices) × (g.least ≤ 1)) gap [] inside (All-nil (λ g. (g.from < w.vertices) × (g.to < w.vertices) × (g.least ≤ 1))));
+      inside = All-append (λ g. (g.from < w.vertices) × (g.to < w.vertices) × (g.least ≤ 1)) constraints (constraint ∷ []) along.inside
+          (All-cons (λ g. (g.from < w.vertices) × (g.to < w.vertices) × (g.least ≤ 1)) constraint [] inside (All-nil (λ g. (g.from < w.vertices) × (g.to < w.vertices) × (g.least ≤ 1))));
       forward = λ x keeps a below way. elim (cases_eq a d) [
         | inl same ↦
             let here : w.direction d ≡ k = subst (λ (b : ℕ). w.direction b ≡ k) same way in
@@ -43,16 +43,16 @@ one_more w k d gaps least sound d_in kind along =
         | inl same ↦ subst (λ (b : ℕ). x (tail w b) ≤ x (w.head b)) (sym same) (omega (arith, last x keeps))
         | inr other ↦ along.across x (front x keeps) a (omega (arith, below, other)) one two
       ];
-      no_more = λ x keeps. All-append (λ g. x g.from + g.least ≤ x g.to) gaps (gap ∷ []) (along.no_more x keeps)
-          (All-cons (λ g. x g.from + g.least ≤ x g.to) gap [] (elim kind [
+      no_more = λ x keeps. All-append (λ g. x g.from + g.least ≤ x g.to) constraints (constraint ∷ []) (along.no_more x keeps)
+          (All-cons (λ g. x g.from + g.least ≤ x g.to) constraint [] (elim kind [
             | inl ahead ↦ omega (arith, keeps.forward d d_in ahead.0, ahead.1)
             | inr across ↦ omega (arith, keeps.across d d_in across.0 across.1, across.2)
           ]) (All-nil (λ g. x g.from + g.least ≤ x g.to)));
     }
 
 -- a dart against the axis adds none
-pub none_more : (w : Web) (k d : ℕ) (gaps : List Gap) → w.direction d ≡ k + 2 → AreAlong w k d gaps → AreAlong w k (d + 1) gaps
-none_more w k d gaps back along = record {
+pub none_more : (w : Web) (k d : ℕ) (constraints : List Constraint) → w.direction d ≡ k + 2 → AreAlong w k d constraints → AreAlong w k (d + 1) constraints
+none_more w k d constraints back along = record {
   inside = along.inside;
   forward = λ x keeps a below way. elim (cases_eq a d) [
     | inl same ↦
@@ -67,14 +67,14 @@ none_more w k d gaps back along = record {
   no_more = along.no_more;
 }
 
--- with all darts the gaps say what the axis asks
-pub all_along : (w : Web) (k : ℕ) (gaps : List Gap) (x : ℕ → ℕ) → AreAlong w k w.darts gaps → Keeps gaps x → IsAlong w k x
-all_along w k gaps x along keeps = record {
+-- with all darts the constraints say what the axis asks
+pub all_along : (w : Web) (k : ℕ) (constraints : List Constraint) (x : ℕ → ℕ) → AreAlong w k w.darts constraints → Keeps constraints x → IsAlong w k x
+all_along w k constraints x along keeps = record {
   forward = along.forward x keeps;
   across = along.across x keeps;
 }
 
--- before the first dart there are no gaps
+-- before the first dart there are no constraints
 pub none_along : (w : Web) (k : ℕ) → AreAlong w k 0 []
 none_along w k = record {
   inside = All-nil (λ g. (g.from < w.vertices) × (g.to < w.vertices) × (g.least ≤ 1));
@@ -83,11 +83,11 @@ none_along w k = record {
   no_more = λ x keeps. All-nil (λ g. x g.from + g.least ≤ x g.to);
 }
 
--- a gap was found: the dart runs forward or across
-pub gap_found : (direction k least : ℕ) (found : Option ℕ) → (direction ≡ k → found ≡ Some 1) → (direction ≡ k + 2 → found ≡ None) →
+-- a constraint was found: the dart runs forward or across
+pub constraint_found : (direction k least : ℕ) (found : Option ℕ) → (direction ≡ k → found ≡ Some 1) → (direction ≡ k + 2 → found ≡ None) →
     (direction ≢ k → direction ≢ k + 2 → found ≡ Some 0) → found ≡ Some least →
     ((direction ≡ k) × (least ≡ 1)) ⊎ ((direction ≢ k) × (direction ≢ k + 2) × (least ≡ 0))
-gap_found direction k least found forward back across is =
+constraint_found direction k least found forward back across is =
     elim (cases_eq direction k) [
       | inl ahead ↦ inl (ahead, same_Some least 1 (sym is ∙ forward ahead))
       | inr not_ahead ↦
@@ -98,9 +98,9 @@ gap_found direction k least found forward back across is =
     ]
 
 -- none was found: it runs against the axis
-pub no_gap_found : (direction k : ℕ) (found : Option ℕ) → (direction ≡ k → found ≡ Some 1) →
+pub no_constraint_found : (direction k : ℕ) (found : Option ℕ) → (direction ≡ k → found ≡ Some 1) →
     (direction ≢ k → direction ≢ k + 2 → found ≡ Some 0) → found ≡ None → direction ≡ k + 2
-no_gap_found direction k found forward across is =
+no_constraint_found direction k found forward across is =
     elim (cases_eq direction k) [
       | inl ahead ↦ absurd (none-some 1 (sym is ∙ forward ahead))
       | inr not_ahead ↦
@@ -110,12 +110,12 @@ no_gap_found direction k found forward across is =
           ]
     ]
 
--- the same, of a gap whose parts are told one by one
-pub one_pushed : (w : Web) (k d : ℕ) (gaps items : List Gap) (gap : Gap) → IsSound w → d < w.darts → gap.from ≡ tail w d → gap.to ≡ w.head d →
-    ((w.direction d ≡ k) × (gap.least ≡ 1)) ⊎ ((w.direction d ≢ k) × (w.direction d ≢ k + 2) × (gap.least ≡ 0)) →
-    items ≡ gaps ++ (gap ∷ []) → AreAlong w k d gaps → AreAlong w k (d + 1) items
-one_pushed w k d gaps items gap sound d_in from to kind pushed along =
+-- the same, of a constraint whose parts are told one by one
+pub one_pushed : (w : Web) (k d : ℕ) (constraints items : List Constraint) (constraint : Constraint) → IsSound w → d < w.darts → constraint.from ≡ tail w d → constraint.to ≡ w.head d →
+    ((w.direction d ≡ k) × (constraint.least ≡ 1)) ⊎ ((w.direction d ≢ k) × (w.direction d ≢ k + 2) × (constraint.least ≡ 0)) →
+    items ≡ constraints ++ (constraint ∷ []) → AreAlong w k d constraints → AreAlong w k (d + 1) items
+one_pushed w k d constraints items constraint sound d_in from to kind pushed along =
     subst (AreAlong w k (d + 1)) (sym pushed)
-    (subst (λ (a : ℕ). AreAlong w k (d + 1) (gaps ++ (record { from = a; to = gap.to; least = gap.least } ∷ []))) (sym from)
-    (subst (λ (b : ℕ). AreAlong w k (d + 1) (gaps ++ (record { from = tail w d; to = b; least = gap.least } ∷ []))) (sym to)
-    (one_more w k d gaps gap.least sound d_in kind along)))
+    (subst (λ (a : ℕ). AreAlong w k (d + 1) (constraints ++ (record { from = a; to = constraint.to; least = constraint.least } ∷ []))) (sym from)
+    (subst (λ (b : ℕ). AreAlong w k (d + 1) (constraints ++ (record { from = tail w d; to = b; least = constraint.least } ∷ []))) (sym to)
+    (one_more w k d constraints constraint.least sound d_in kind along)))

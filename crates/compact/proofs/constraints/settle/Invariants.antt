@@ -1,11 +1,11 @@
 use Rattle.std.proofs.Common.{◌≡◌, length, slice_index}
-use Rattle.compact.specs.Gaps.{IsLow, slack}
-use Rattle.compact.proofs.gaps.settle.Given as goal
+use Rattle.compact.specs.Constraints.{IsLow, slack}
+use Rattle.compact.proofs.constraints.settle.Given as goal
 
 abbrev pub invariant-rounds : goal.invariant-rounds
 invariant-rounds l = record {
   size : length l.numbers ≡ length l.fn.numbers;
-  low : IsLow l.gaps (length l.fn.numbers) (λ v. slice_index l.numbers v);
+  low : IsLow l.constraints (length l.fn.numbers) (λ v. slice_index l.numbers v);
 }
 
 abbrev pub decreases-rounds : goal.decreases-rounds

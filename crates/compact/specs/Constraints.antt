@@ -1,0 +1,40 @@
+-- Constraints on numbers: the lengths of longest paths are the least numbers that keep them.
+use Rattle.std.specs.Prelude.{◌≡◌, ℕ, ◌+◌, ◌-◌, ◌<◌, ◌≤◌, List, All, length, slice_index, slice_set}
+use Rattle.sums.specs.Sums.{sum_below}
+use Rattle.compact.specs.declared.constraints.Constraint.{Constraint}
+use Rattle.compact.specs.declared.constraints.Relaxation.{Relaxation}
+use Rattle.compact.specs.declared.constraints.Relaxation.TheVariants.{Kept, Raised, Wide}
+
+-- the numbers x keep each constraint: what it ends at is greater than what it starts from, by its least width
+abbrev pub Keeps : List Constraint → (ℕ → ℕ) → Type 0
+Keeps constraints x = All (λ constraint. x constraint.from + constraint.least ≤ x constraint.to) constraints
+
+-- the constraints lie between the numbers below n
+abbrev pub AreInside : ℕ → List Constraint → Type 0
+AreInside n constraints = All (λ constraint. (constraint.from < n) × (constraint.to < n) × (constraint.least ≤ 1)) constraints
+
+-- no numbers that keep the constraints are below the numbers x anywhere
+abbrev pub IsLow : List Constraint → ℕ → (ℕ → ℕ) → Type 0
+IsLow constraints n x = (y : ℕ → ℕ) → Keeps constraints y → (v : ℕ) → v < n → x v ≤ y v
+
+-- all numbers that keep the constraints pass 65,535 somewhere
+abbrev pub AreWide : List Constraint → ℕ → Type 0
+AreWide constraints n = (y : ℕ → ℕ) → Keeps constraints y → (v : ℕ) × (v < n) × (65535 < y v)
+
+-- how far all numbers are below 65,535
+abbrev pub slack : List ℕ → ℕ
+slack xs = sum_below (length xs) (λ v. 65535 - slice_index xs v)
+
+-- what the relaxation of one constraint has found and done
+abbrev pub IsRelaxed : Constraint → List ℕ → List ℕ → Relaxation → Type 0
+IsRelaxed constraint old new Kept = (new ≡ old) × (slice_index old constraint.from + constraint.least ≤ slice_index old constraint.to)
+IsRelaxed constraint old new Raised =
+    let need = slice_index old constraint.from + constraint.least in
+    (new ≡ slice_set old constraint.to need) × (slice_index old constraint.to < need) × (need ≤ 65535)
+IsRelaxed constraint old new Wide = (new ≡ old) × (65535 < slice_index old constraint.from + constraint.least)
+
+-- what one relaxation of all constraints has found and done
+abbrev pub AreRelaxed : List Constraint → List ℕ → List ℕ → Relaxation → Type 0
+AreRelaxed constraints old new Kept = (new ≡ old) × Keeps constraints (λ v. slice_index new v)
+AreRelaxed constraints old new Raised = slack new < slack old
+AreRelaxed constraints old new Wide = AreWide constraints (length old)
