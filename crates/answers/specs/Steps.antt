@@ -3,14 +3,14 @@ use Rattle.std.specs.Prelude.{◌≡◌, ℕ, List, Result, Ok, Err, ⊤}
 use Rattle.planar_code.specs.Stream.{lists_of}
 use Rattle.embedding.specs.Rules.{FirstBroken}
 use Rattle.choices.specs.declared.Choice.{Choice}
-use Rattle.faces.specs.Map.{Map, IsPlane, IsWidest}
+use Rattle.faces.specs.Planes.{PlaneModel, IsPlane, IsWidest}
 use Rattle.ortho_rep.specs.Best.{IsChosen}
 use Rattle.answers.specs.declared.refusal.Refusal.{Refusal}
 use Rattle.answers.specs.declared.refusal.Refusal.TheVariants.{Rule, Memory}
 use Rattle.answers.specs.declared.layout.Layout.{Layout}
 
 -- the plane of a record of these bytes, as its faces were traced
-pub record IsTraced (bytes : List ℕ) (plane : Map) : Type 0 where
+pub record IsTraced (bytes : List ℕ) (plane : PlaneModel) : Type 0 where
   -- it has the record's neighbour lists
   pub lists : plane.lists ≡ lists_of bytes
   -- no rule is broken, and the faces are those of the lists
@@ -19,7 +19,7 @@ pub record IsTraced (bytes : List ℕ) (plane : Map) : Type 0 where
   pub widest : IsWidest plane
 
 -- the plane of such a record, once its outer face is chosen
-pub record IsPlaneOf (choice : Choice) (bytes : List ℕ) (plane : Map) : Type 0 where
+pub record IsPlaneOf (choice : Choice) (bytes : List ℕ) (plane : PlaneModel) : Type 0 where
   pub lists : plane.lists ≡ lists_of bytes
   pub rules : IsPlane plane
   pub chosen : IsChosen choice plane
@@ -30,7 +30,7 @@ IsRefused bytes (Rule rule) = FirstBroken (lists_of bytes) rule
 IsRefused bytes Memory = ⊤
 
 -- the plane of the record, or why there is none
-abbrev pub IsEmbedded : List ℕ → Result Map Refusal → Type 0
+abbrev pub IsEmbedded : List ℕ → Result PlaneModel Refusal → Type 0
 IsEmbedded bytes (Ok plane) = IsTraced bytes plane
 IsEmbedded bytes (Err refusal) = IsRefused bytes refusal
 

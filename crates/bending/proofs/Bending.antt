@@ -2,7 +2,7 @@
 use Rattle.std.proofs.Common.{◌≡◌, ℕ, ◌+◌, ◌*◌, ◌<◌, ◌≤◌, List, [], ◌∷◌, length, get_or, drop, ◌∙◌, arith, subst, sym, ap}
 use Rattle.std.proofs.Math.Seq.{drop-cons}
 use Rattle.std.proofs.Math.Numerals.{add-one}
-use Rattle.faces.specs.Map.{Map, darts, mate}
+use Rattle.faces.specs.Planes.{PlaneModel, darts, reverse_dart}
 use Rattle.ortho_rep.specs.declared.turn.Turn.{Turn}
 use Rattle.cutting.specs.Webs.{Web, IsLinked, IsMeeting, IsSplit}
 use Rattle.cutting.proofs.Splitting.{split_linked, split_meeting}
@@ -37,14 +37,14 @@ turn_on w e way bend turns i turn new linked meeting e_in inside way_is bend_is 
     }
 
 -- the edges whose lesser dart is below k have their bends: `start` is the table before the first of them
-pub record AreDone (p : Map) (s : ℕ → List Turn) (start t : DartTable) (k : ℕ) : Type 0 where
+pub record AreDone (p : PlaneModel) (s : ℕ → List Turn) (start t : DartTable) (k : ℕ) : Type 0 where
   pub linked : IsLinked (web_of t)
   pub meeting : IsMeeting (web_of t)
   pub count : t.darts ≡ start.darts + 2 * sum_below k (lesser_length p s)
   pub same : room t ≡ room start
   pub steps : (end : Web) → AreBent p s k (web_of t) end → AreBent p s 0 (web_of start) end
 
-pub edge_done : (p : Map) (s : ℕ → List Turn) (start t new : DartTable) (k : ℕ) → AreDone p s start t k → k < darts p → k < mate p k →
+pub edge_done : (p : PlaneModel) (s : ℕ → List Turn) (start t new : DartTable) (k : ℕ) → AreDone p s start t k → k < darts p → k < reverse_dart p k →
     IsBent k (web_of t) (s k) (web_of new) → IsLinked (web_of new) → IsMeeting (web_of new) →
     new.darts ≡ t.darts + 2 * length (s k) → room new ≡ room t → AreDone p s start new (k + 1)
 edge_done p s start t new k before inside lesser edge linked meeting count same = record {
@@ -55,7 +55,7 @@ edge_done p s start t new k before inside lesser edge linked meeting count same 
   steps = λ end rest. before.steps end (bent k (web_of t) (web_of new) end inside lesser edge rest);
 }
 
-pub edge_left : (p : Map) (s : ℕ → List Turn) (start t : DartTable) (k : ℕ) → AreDone p s start t k → mate p k ≤ k →
+pub edge_left : (p : PlaneModel) (s : ℕ → List Turn) (start t : DartTable) (k : ℕ) → AreDone p s start t k → reverse_dart p k ≤ k →
     AreDone p s start t (k + 1)
 edge_left p s start t k before greater = record {
   linked = before.linked;

@@ -3,7 +3,7 @@ use Rattle.std.proofs.Common.{◌≡◌, ℕ, ◌+◌, ◌*◌, ◌%◌, ◌<◌
 use Rattle.std.proofs.lemmas.Bool.{cases_eq, eq-eqb, ne_eqb, cond-true, cond-false}
 use Rattle.sums.specs.Sums.{sum_below}
 use Rattle.sums.proofs.Sums.{sum_below-same, sum_below-none, sum_below-times}
-use Rattle.faces.specs.Map.{Map, IsPlane, HasEnds, darts, mate, next, face_at}
+use Rattle.faces.specs.Planes.{PlaneModel, IsPlane, HasEnds, darts, reverse_dart, next, face_at}
 use Rattle.ortho_rep.specs.declared.turn.Turn.{Turn}
 use Rattle.ortho_rep.specs.Turns.{lefts, rights}
 use Rattle.ortho_rep.specs.Representation.{Rep, bends_of}
@@ -19,21 +19,21 @@ use Rattle.bending.proofs.Owing.{IsOwing, owing, gained, lost}
 use Rattle.bending.proofs.Stepping.{edges_on}
 use Rattle.bending.proofs.Starting.{owing_begins, behind_begins}
 
-module _ (p : Map) (a h : ℕ → ℕ) (total : ℕ) (w : Web) (label : ℕ → ℕ) (owed : ℕ → List Turn)
+module _ (p : PlaneModel) (a h : ℕ → ℕ) (total : ℕ) (w : Web) (label : ℕ → ℕ) (owed : ℕ → List Turn)
     (owing_w : IsOwing p a h total w label owed) (paid : (x : ℕ) → x < w.darts → owed x ≡ []) where
   pub sound_ends : IsSound w
   sound_ends = record {
     linked = owing_w.linked;
     meeting = owing_w.meeting;
     straight = λ x l.
-        let t_in = owing_w.linked.twin_in x l in
+        let t_in = owing_w.linked.reverse_dart_in x l in
         omega (
           arith,
           owing_w.ways x l,
           ap lefts (paid x l),
           ap rights (paid x l),
           owing_w.meeting.quarter x l,
-          owing_w.meeting.quarter (w.twin x) t_in,
+          owing_w.meeting.quarter (w.reverse_dart x) t_in,
         );
   }
 
@@ -105,14 +105,14 @@ module _ (p : Map) (a h : ℕ → ℕ) (total : ℕ) (w : Web) (label : ℕ → 
   }
 
 -- the web of a plane whose edges have all their bends
-pub record HasBends (p : Map) (a : ℕ → ℕ) (s : ℕ → List Turn) (w : Web) : Type 0 where
+pub record HasBends (p : PlaneModel) (a : ℕ → ℕ) (s : ℕ → List Turn) (w : Web) : Type 0 where
   pub sound : IsSound w
   pub darts : KeepsDarts p a w
   pub directions : AreHeadings p a s w.direction
   pub faces : KeepsFaces p w
   pub counts : CountsBends p s w
 
-pub all_bends : (p : Map) (a : ℕ → ℕ) (s : ℕ → List Turn) (h : ℕ → ℕ) (w new : Web) → IsPlane p → HasEnds p → Rep p a s →
+pub all_bends : (p : PlaneModel) (a : ℕ → ℕ) (s : ℕ → List Turn) (h : ℕ → ℕ) (w new : Web) → IsPlane p → HasEnds p → Rep p a s →
     AreHeadings p a s h → IsBare p a h w → AreBent p s 0 w new → HasBends p a s new
 all_bends p a s h w new plane ends rep headings bare steps =
     let total : ℕ = sum_below (darts p) (λ d. length (s d)) in
@@ -124,10 +124,10 @@ all_bends p a s h w new plane ends rep headings bare steps =
       directions = record {
         quarter = λ d l. omega (arith, owing_new.directions d l, headings.quarter d l);
         angles = λ d l.
-            let there = owing_new.directions (mate p (next p d)) (ends.mate_inside (next p d) (ends.next_one.inside d l)) in
+            let there = owing_new.directions (reverse_dart p (next p d)) (ends.reverse_dart_inside (next p d) (ends.next_one.inside d l)) in
             ap (λ (k : ℕ). (k + a d) % 4) there ∙ headings.angles d l ∙ sym (owing_new.directions d l);
         strings = λ d l.
-            ap (λ (k : ℕ). (k + 2 + lefts (s d)) % 4) (owing_new.directions (mate p d) (ends.mate_inside d l)) ∙ headings.strings d l
+            ap (λ (k : ℕ). (k + 2 + lefts (s d)) % 4) (owing_new.directions (reverse_dart p d) (ends.reverse_dart_inside d l)) ∙ headings.strings d l
             ∙ sym (ap (λ (k : ℕ). (k + rights (s d)) % 4) (owing_new.directions d l));
       };
       faces = record {

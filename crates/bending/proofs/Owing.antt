@@ -2,7 +2,7 @@
 use Rattle.std.proofs.Common.{◌≡◌, ◌≢◌, ℕ, ◌+◌, ◌*◌, ◌%◌, ◌<◌, ◌≤◌, ◌==◌, if◌then◌else◌, cond, eqb, true, List, [], length, ◌∙◌, arith, subst, sym, ap, inl, inr, refl}
 use Rattle.std.proofs.lemmas.Bool.{cases_eq, eq-eqb, ne_eqb, cond-true, cond-false}
 use Rattle.sums.specs.Sums.{sum_below}
-use Rattle.faces.specs.Map.{Map, darts, vertices, head, face_at}
+use Rattle.faces.specs.Planes.{PlaneModel, darts, vertices, head, face_at}
 use Rattle.ortho_rep.specs.declared.turn.Turn.{Turn}
 use Rattle.ortho_rep.specs.Turns.{mirrored, lefts, rights}
 use Rattle.cutting.specs.Webs.{Web, IsLinked, IsMeeting, IsSplit, excess}
@@ -21,18 +21,18 @@ abbrev pub lost : Web → (ℕ → ℕ) → (ℕ → List Turn) → ℕ → ℕ
 lost w label owed f = sum_below w.darts (part label (λ x. w.angle x + rights (owed x)) f)
 
 -- four more to the left round a face, four more to the right round the outer one
-abbrev pub Turns : Map → Web → (ℕ → ℕ) → (ℕ → List Turn) → ℕ → Type 0
+abbrev pub Turns : PlaneModel → Web → (ℕ → ℕ) → (ℕ → List Turn) → ℕ → Type 0
 Turns p w label owed f =
     gained w label owed f + (if f == p.outer then 4 else 0) ≡ lost w label owed f + (if f == p.outer then 0 else 4)
 
 -- the web of the plane p on the way to its bends, `total` in all, each counted at both darts: dart x still owes the turns
 -- `owed x`, and is of the face `label x`
-pub record IsOwing (p : Map) (a h : ℕ → ℕ) (total : ℕ) (w : Web) (label : ℕ → ℕ) (owed : ℕ → List Turn) : Type 0 where
+pub record IsOwing (p : PlaneModel) (a h : ℕ → ℕ) (total : ℕ) (w : Web) (label : ℕ → ℕ) (owed : ℕ → List Turn) : Type 0 where
   pub old : darts p ≤ w.darts
   pub linked : IsLinked w
   pub meeting : IsMeeting w
-  pub mirrors : (x : ℕ) → x < w.darts → owed (w.twin x) ≡ mirrored (owed x)
-  pub ways : (x : ℕ) → x < w.darts → (w.direction (w.twin x) + 2 + lefts (owed x)) % 4 ≡ (w.direction x + rights (owed x)) % 4
+  pub mirrors : (x : ℕ) → x < w.darts → owed (w.reverse_dart x) ≡ mirrored (owed x)
+  pub ways : (x : ℕ) → x < w.darts → (w.direction (w.reverse_dart x) + 2 + lefts (owed x)) % 4 ≡ (w.direction x + rights (owed x)) % 4
   pub labels : AreLabels w label
   pub named : (x : ℕ) → x < w.darts → label x < p.faces
   pub turns : (f : ℕ) → f < p.faces → Turns p w label owed f
@@ -47,25 +47,25 @@ pub record IsOwing (p : Map) (a h : ℕ → ℕ) (total : ℕ) (w : Web) (label 
 -- once the edge of e has its first turn, e and the new dart behind it owe the others, and no one else of its four darts
 pub record IsOwedNext (w : Web) (e : ℕ) (turns : List Turn) (owed next : ℕ → List Turn) : Type 0 where
   pub at_e : next e ≡ turns
-  pub at_twin : next (w.twin e) ≡ []
+  pub at_reverse_dart : next (w.reverse_dart e) ≡ []
   pub at_first : next w.darts ≡ []
   pub at_second : next (w.darts + 1) ≡ mirrored turns
-  pub others : (x : ℕ) → x < w.darts → x ≢ e → x ≢ w.twin e → next x ≡ owed x
+  pub others : (x : ℕ) → x < w.darts → x ≢ e → x ≢ w.reverse_dart e → next x ≡ owed x
 
 -- each new dart is of the face of the dart that it stands in front of
 pub record IsLabelledNext (w : Web) (e : ℕ) (label next : ℕ → ℕ) : Type 0 where
   pub at_first : next w.darts ≡ label e
-  pub at_second : next (w.darts + 1) ≡ label (w.twin e)
+  pub at_second : next (w.darts + 1) ≡ label (w.reverse_dart e)
   pub old : (x : ℕ) → x < w.darts → next x ≡ label x
 
 -- there are such functions
 pub owed_next : (w : Web) (e : ℕ) (turns : List Turn) (owed : ℕ → List Turn) → IsLinked w → e < w.darts →
     (next : ℕ → List Turn) × IsOwedNext w e turns owed next
 owed_next w e turns owed linked e_in =
-    let t : ℕ = w.twin e in
+    let t : ℕ = w.reverse_dart e in
     let n : ℕ = w.darts in
-    let t_in : t < n = linked.twin_in e e_in in
-    let apart : t ≢ e = linked.twin_apart e e_in in
+    let t_in : t < n = linked.reverse_dart_in e e_in in
+    let apart : t ≢ e = linked.reverse_dart_apart e e_in in
     let new : ℕ → List Turn = λ x. cond (eqb x (n + 1)) (mirrored turns) (cond (eqb x n) [] (cond (eqb x t) [] (cond (eqb x e) turns (owed x)))) in
     let skip : (x y : ℕ) (v r : List Turn) → x ≢ y → cond (eqb x y) v r ≡ r = λ x y v r off. cond-false {A = List Turn} (eqb x y) v r (ne_eqb x y off) in
     let take : (x y : ℕ) (v r : List Turn) → x ≡ y → cond (eqb x y) v r ≡ v = λ x y v r at. cond-true {A = List Turn} (eqb x y) v r (eq-eqb x y at) in (
@@ -73,7 +73,7 @@ owed_next w e turns owed linked e_in =
       record {
         at_e = skip e (n + 1) _ _ (λ h. omega (arith, h, e_in)) ∙ skip e n _ _ (λ h. omega (arith, h, e_in))
             ∙ skip e t _ _ (λ h. apart (sym h)) ∙ take e e _ _ refl;
-        at_twin = skip t (n + 1) _ _ (λ h. omega (arith, h, t_in)) ∙ skip t n _ _ (λ h. omega (arith, h, t_in)) ∙ take t t _ _ refl;
+        at_reverse_dart = skip t (n + 1) _ _ (λ h. omega (arith, h, t_in)) ∙ skip t n _ _ (λ h. omega (arith, h, t_in)) ∙ take t t _ _ refl;
         at_first = skip n (n + 1) _ _ (λ h. omega (arith, h)) ∙ take n n _ _ refl;
         at_second = take (n + 1) (n + 1) _ _ refl;
         others = λ x l not_e not_t. skip x (n + 1) _ _ (λ h. omega (arith, h, l)) ∙ skip x n _ _ (λ h. omega (arith, h, l))
@@ -84,7 +84,7 @@ owed_next w e turns owed linked e_in =
 pub labelled_next : (w : Web) (e : ℕ) (label : ℕ → ℕ) → (next : ℕ → ℕ) × IsLabelledNext w e label next
 labelled_next w e label =
     let n : ℕ = w.darts in
-    let new : ℕ → ℕ = λ x. cond (eqb x (n + 1)) (label (w.twin e)) (cond (eqb x n) (label e) (label x)) in
+    let new : ℕ → ℕ = λ x. cond (eqb x (n + 1)) (label (w.reverse_dart e)) (cond (eqb x n) (label e) (label x)) in
     let skip : (x y v r : ℕ) → x ≢ y → cond (eqb x y) v r ≡ r = λ x y v r off. cond-false {A = ℕ} (eqb x y) v r (ne_eqb x y off) in
     let take : (x y v r : ℕ) → x ≡ y → cond (eqb x y) v r ≡ v = λ x y v r at. cond-true {A = ℕ} (eqb x y) v r (eq-eqb x y at) in (
       new,
@@ -100,8 +100,8 @@ pub split_labels : (w : Web) (e way bend : ℕ) (new : Web) (label next : ℕ �
     IsSplit w e way bend new → IsLabelledNext w e label next → AreLabels w label → AreLabels new next
 split_labels w e way bend new label next linked e_in s named labels =
     let n : ℕ = w.darts in
-    let t : ℕ = w.twin e in
-    let t_in : t < n = linked.twin_in e e_in in
+    let t : ℕ = w.reverse_dart e in
+    let t_in : t < n = linked.reverse_dart_in e e_in in
     let c : ℕ = w.prev e in
     let p : ℕ = w.prev t in
     let c_in : c < n = linked.prev_in e e_in in

@@ -3,7 +3,7 @@ use Rattle.std.proofs.Common.{◌≡◌, ◌≢◌, ℕ, ◌+◌, ◌-◌, ◌<�
 use Rattle.std.proofs.lemmas.Bool.{cases_eq, eq-eqb, ne_eqb, cond-true, cond-false}
 use Rattle.std.proofs.lemmas.Grind.{reverse_onto}
 use Rattle.std.proofs.lemmas.List.{map_push, append-nil}
-use Rattle.faces.specs.Map.{Map, IsPlane, HasEnds, darts, mate}
+use Rattle.faces.specs.Planes.{PlaneModel, IsPlane, HasEnds, darts, reverse_dart}
 use Rattle.faces.proofs.Ends.{plane_ends, seven_rules}
 use Rattle.faces.proofs.Joined.{all_joined}
 use Rattle.ortho_rep.specs.declared.turn.Turn.{Turn}
@@ -41,11 +41,11 @@ quarters-mirrored turn turns =
     ∙ ap (λ (k : ℕ). quarters_of (mirrored turns) ++ (k ∷ [])) (opposite_angle turn)
 
 -- the same paths where the quarters are the same
-pub paths_same : (w : Web) (n : ℕ) (mate : ℕ → ℕ) (quarters quarters' : ℕ → List ℕ) → ((d : ℕ) → d < n → quarters d ≡ quarters' d) →
-    HasPaths w n mate quarters → HasPaths w n mate quarters'
-paths_same w n mate quarters quarters' same has = record {
+pub paths_same : (w : Web) (n : ℕ) (reverse_dart : ℕ → ℕ) (quarters quarters' : ℕ → List ℕ) → ((d : ℕ) → d < n → quarters d ≡ quarters' d) →
+    HasPaths w n reverse_dart quarters → HasPaths w n reverse_dart quarters'
+paths_same w n reverse_dart quarters quarters' same has = record {
   few = has.few;
-  paths = λ d l. path_turns w d (mate d) (quarters d) (quarters' d) (same d l) (has.paths d l);
+  paths = λ d l. path_turns w d (reverse_dart d) (quarters d) (quarters' d) (same d l) (has.paths d l);
   ends = has.ends;
 }
 
@@ -87,80 +87,80 @@ with_turns-other quarters e t turns d not_e not_t =
     cond-false {A = List ℕ} (eqb d e) _ _ (ne_eqb d e not_e) ∙ cond-false {A = List ℕ} (eqb d t) _ _ (ne_eqb d t not_t)
 
 -- the paths of all edges once the edge of e got its turns
-pub bent_paths : (e : ℕ) (w : Web) (turns : List Turn) (new : Web) (n : ℕ) (mate : ℕ → ℕ) (quarters quarters' : ℕ → List ℕ) →
-    IsLinked w → e < n → new.darts ≤ no_dart → ((d : ℕ) → d < n → mate d < n) → ((d : ℕ) → d < n → mate (mate d) ≡ d) → mate e ≢ e →
-    quarters' e ≡ quarters e ++ quarters_of turns → quarters' (mate e) ≡ quarters_of (mirrored turns) ++ quarters (mate e) →
-    ((d : ℕ) → d < n → d ≢ e → d ≢ mate e → quarters' d ≡ quarters d) →
-    IsBent e w turns new → HasPaths w n mate quarters → HasPaths new n mate quarters'
-bent_paths e w turns new n mate quarters quarters' linked e_in narrow mate_in mate_back apart at_e at_mate other (straight v) has =
-    paths_same w n mate quarters quarters'
+pub bent_paths : (e : ℕ) (w : Web) (turns : List Turn) (new : Web) (n : ℕ) (reverse_dart : ℕ → ℕ) (quarters quarters' : ℕ → List ℕ) →
+    IsLinked w → e < n → new.darts ≤ no_dart → ((d : ℕ) → d < n → reverse_dart d < n) → ((d : ℕ) → d < n → reverse_dart (reverse_dart d) ≡ d) → reverse_dart e ≢ e →
+    quarters' e ≡ quarters e ++ quarters_of turns → quarters' (reverse_dart e) ≡ quarters_of (mirrored turns) ++ quarters (reverse_dart e) →
+    ((d : ℕ) → d < n → d ≢ e → d ≢ reverse_dart e → quarters' d ≡ quarters d) →
+    IsBent e w turns new → HasPaths w n reverse_dart quarters → HasPaths new n reverse_dart quarters'
+bent_paths e w turns new n reverse_dart quarters quarters' linked e_in narrow reverse_dart_in reverse_dart_back apart at_e at_reverse_dart other (straight v) has =
+    paths_same w n reverse_dart quarters quarters'
     (λ d l. elim (cases_eq d e) [
       | inl is_e ↦ ap quarters is_e ∙ sym (ap quarters' is_e ∙ at_e ∙ append-nil (quarters e))
-      | inr not_e ↦ elim (cases_eq d (mate e)) [
-        | inl is_mate ↦ ap quarters is_mate ∙ sym (ap quarters' is_mate ∙ at_mate)
-        | inr not_mate ↦ sym (other d l not_e not_mate)
+      | inr not_e ↦ elim (cases_eq d (reverse_dart e)) [
+        | inl is_reverse_dart ↦ ap quarters is_reverse_dart ∙ sym (ap quarters' is_reverse_dart ∙ at_reverse_dart)
+        | inr not_reverse_dart ↦ sym (other d l not_e not_reverse_dart)
       ]
     ]) has
-bent_paths e w turns new n mate quarters quarters' linked e_in narrow mate_in mate_back apart at_e at_mate other
+bent_paths e w turns new n reverse_dart quarters quarters' linked e_in narrow reverse_dart_in reverse_dart_back apart at_e at_reverse_dart other
     (turned v mid last turn rest split bends) has =
-    let t : ℕ = mate e in
+    let t : ℕ = reverse_dart e in
     let next : ℕ → List ℕ = with_turns quarters e t (turn ∷ []) in
     let next_e : next e ≡ quarters e ++ (angle_of turn ∷ []) = with_turns-at quarters e t (turn ∷ []) in
     let next_t : next t ≡ (4 - angle_of turn) ∷ quarters t =
     with_turns-back quarters e t (turn ∷ []) apart ∙ ap (λ (k : ℕ). k ∷ quarters t) (opposite_angle turn) in
     let narrow_now : v.darts ≤ no_dart = omega (arith, narrow, bent_more e mid rest last bends, split.darts) in
-    let middle : HasPaths mid n mate next =
-    bend_paths v e (start_way v e) (angle_of turn) mid n mate quarters next linked e_in narrow_now (omega arith) (quarter_angle turn) split
-    mate_in mate_back apart next_e next_t (λ d l not_e not_t. with_turns-other quarters e t (turn ∷ []) d not_e not_t) has in
-    bent_paths e mid rest last n mate next quarters'
+    let middle : HasPaths mid n reverse_dart next =
+    bend_paths v e (start_way v e) (angle_of turn) mid n reverse_dart quarters next linked e_in narrow_now (omega arith) (quarter_angle turn) split
+    reverse_dart_in reverse_dart_back apart next_e next_t (λ d l not_e not_t. with_turns-other quarters e t (turn ∷ []) d not_e not_t) has in
+    bent_paths e mid rest last n reverse_dart next quarters'
     (split_linked v e (start_way v e) (angle_of turn) mid linked (omega (arith, e_in, has.few)) split)
-    e_in narrow mate_in mate_back apart
+    e_in narrow reverse_dart_in reverse_dart_back apart
     (at_e ∙ sym (append_assoc (quarters e) (angle_of turn ∷ []) (quarters_of rest))
     ∙ ap (λ (ts : List ℕ). ts ++ quarters_of rest) (sym next_e))
-    (at_mate ∙ ap (λ (ts : List ℕ). ts ++ quarters t) (quarters-mirrored turn rest)
+    (at_reverse_dart ∙ ap (λ (ts : List ℕ). ts ++ quarters t) (quarters-mirrored turn rest)
     ∙ append_assoc (quarters_of (mirrored rest)) ((4 - angle_of turn) ∷ []) (quarters t)
     ∙ ap (λ (ts : List ℕ). quarters_of (mirrored rest) ++ ts) (sym next_t))
     (λ d l not_e not_t. other d l not_e not_t ∙ sym (with_turns-other quarters e t (turn ∷ []) d not_e not_t))
     bends middle
 
 -- the web on its way: the edges whose lesser dart is below k have their turns
-pub record HasTurned (p : Map) (s : ℕ → List Turn) (k : ℕ) (w : Web) : Type 0 where
+pub record HasTurned (p : PlaneModel) (s : ℕ → List Turn) (k : ℕ) (w : Web) : Type 0 where
   pub quarters : ℕ → List ℕ
-  pub paths : HasPaths w (darts p) (mate p) quarters
-  pub done : (d : ℕ) → d < darts p → (d < k) ⊎ (mate p d < k) → quarters d ≡ quarters_of (s d)
-  pub left : (d : ℕ) → d < darts p → k ≤ d → k ≤ mate p d → quarters d ≡ []
+  pub paths : HasPaths w (darts p) (reverse_dart p) quarters
+  pub done : (d : ℕ) → d < darts p → (d < k) ⊎ (reverse_dart p d < k) → quarters d ≡ quarters_of (s d)
+  pub left : (d : ℕ) → d < darts p → k ≤ d → k ≤ reverse_dart p d → quarters d ≡ []
 
-pub turned_passed : (p : Map) (s : ℕ → List Turn) (k : ℕ) (w : Web) → HasEnds p → mate p k ≤ k →
+pub turned_passed : (p : PlaneModel) (s : ℕ → List Turn) (k : ℕ) (w : Web) → HasEnds p → reverse_dart p k ≤ k →
     HasTurned p s k w → HasTurned p s (k + 1) w
 turned_passed p s k w ends back has = record {
   quarters = has.quarters;
   paths = has.paths;
   done = λ d l either. has.done d l (before d l either);
-  left = λ d l low low_mate. has.left d l (omega (arith, low)) (omega (arith, low_mate));
+  left = λ d l low low_reverse_dart. has.left d l (omega (arith, low)) (omega (arith, low_reverse_dart));
 }
   where
-    before : (d : ℕ) → d < darts p → (d < k + 1) ⊎ (mate p d < k + 1) → (d < k) ⊎ (mate p d < k)
+    before : (d : ℕ) → d < darts p → (d < k + 1) ⊎ (reverse_dart p d < k + 1) → (d < k) ⊎ (reverse_dart p d < k)
     before d l (inl low) =
         elim (cases_eq d k) [
-          | inl at ↦ inr (omega (arith, ap (mate p) at, ends.mate_apart d l, at, back))
+          | inl at ↦ inr (omega (arith, ap (reverse_dart p) at, ends.reverse_dart_apart d l, at, back))
           | inr other ↦ inl (omega arith)
         ]
     before d l (inr low) =
-        elim (cases_eq (mate p d) k) [
-          | inl at ↦ inl (omega (arith, sym (ends.mate_back d l) ∙ ap (mate p) at, ends.mate_apart d l, at, back))
+        elim (cases_eq (reverse_dart p d) k) [
+          | inl at ↦ inl (omega (arith, sym (ends.reverse_dart_back d l) ∙ ap (reverse_dart p) at, ends.reverse_dart_apart d l, at, back))
           | inr other ↦ inr (omega arith)
         ]
 
-pub turned_bent : (p : Map) (s : ℕ → List Turn) (k : ℕ) (w mid : Web) → HasEnds p →
-    ((d : ℕ) → d < darts p → s (mate p d) ≡ mirrored (s d)) → k < darts p → k < mate p k → IsLinked w → mid.darts ≤ no_dart →
+pub turned_bent : (p : PlaneModel) (s : ℕ → List Turn) (k : ℕ) (w mid : Web) → HasEnds p →
+    ((d : ℕ) → d < darts p → s (reverse_dart p d) ≡ mirrored (s d)) → k < darts p → k < reverse_dart p k → IsLinked w → mid.darts ≤ no_dart →
     IsBent k w (s k) mid → HasTurned p s k w → HasTurned p s (k + 1) mid
 turned_bent p s k w mid ends mirrors k_in less linked narrow bends has =
-    let t : ℕ = mate p k in
-    let t_in : t < darts p = ends.mate_inside k k_in in
-    let apart : t ≢ k = ends.mate_apart k k_in in
+    let t : ℕ = reverse_dart p k in
+    let t_in : t < darts p = ends.reverse_dart_inside k k_in in
+    let apart : t ≢ k = ends.reverse_dart_apart k k_in in
     let at_k : has.quarters k ≡ [] = has.left k k_in (omega arith) (omega (arith, less)) in
     let at_t : has.quarters t ≡ [] =
-    has.left t t_in (omega (arith, less)) (omega (arith, ends.mate_back k k_in)) in
+    has.left t t_in (omega (arith, less)) (omega (arith, ends.reverse_dart_back k k_in)) in
     let next : ℕ → List ℕ = with_turns has.quarters k t (s k) in
     let next_k : next k ≡ has.quarters k ++ quarters_of (s k) = with_turns-at has.quarters k t (s k) in
     let next_t : next t ≡ quarters_of (mirrored (s k)) ++ has.quarters t = with_turns-back has.quarters k t (s k) apart in
@@ -172,7 +172,7 @@ turned_bent p s k w mid ends mirrors k_in less linked narrow bends has =
     ∙ ap quarters_of (sym (mirrors k k_in)) in
     record {
       quarters = next;
-      paths = bent_paths k w (s k) mid (darts p) (mate p) has.quarters next linked k_in narrow ends.mate_inside ends.mate_back apart
+      paths = bent_paths k w (s k) mid (darts p) (reverse_dart p) has.quarters next linked k_in narrow ends.reverse_dart_inside ends.reverse_dart_back apart
           next_k next_t (λ d l not_k not_t. next_other d not_k not_t) bends has.paths;
       done = λ d l either. elim (cases_eq d k) [
         | inl is_k ↦ ap next is_k ∙ whole_k ∙ sym (ap (λ (i : ℕ). quarters_of (s i)) is_k)
@@ -181,27 +181,27 @@ turned_bent p s k w mid ends mirrors k_in less linked narrow bends has =
           | inr not_t ↦ next_other d not_k not_t ∙ has.done d l (before d l not_k not_t either)
         ]
       ];
-      left = λ d l low low_mate.
-          next_other d (λ h. omega (arith, h, low)) (λ h. omega (arith, ap (mate p) h, ends.mate_back k k_in, low_mate))
-          ∙ has.left d l (omega (arith, low)) (omega (arith, low_mate));
+      left = λ d l low low_reverse_dart.
+          next_other d (λ h. omega (arith, h, low)) (λ h. omega (arith, ap (reverse_dart p) h, ends.reverse_dart_back k k_in, low_reverse_dart))
+          ∙ has.left d l (omega (arith, low)) (omega (arith, low_reverse_dart));
     }
   where
-    before : (d : ℕ) → d < darts p → d ≢ k → d ≢ mate p k → (d < k + 1) ⊎ (mate p d < k + 1) → (d < k) ⊎ (mate p d < k)
+    before : (d : ℕ) → d < darts p → d ≢ k → d ≢ reverse_dart p k → (d < k + 1) ⊎ (reverse_dart p d < k + 1) → (d < k) ⊎ (reverse_dart p d < k)
     before d l not_k not_t (inl low) = inl (omega arith)
     before d l not_k not_t (inr low) =
-        inr (let other : mate p d ≢ k = λ h. not_t (sym (ends.mate_back d l) ∙ ap (mate p) h) in omega arith)
+        inr (let other : reverse_dart p d ≢ k = λ h. not_t (sym (ends.reverse_dart_back d l) ∙ ap (reverse_dart p) h) in omega arith)
 
-pub all_more : (p : Map) (s : ℕ → List Turn) (k : ℕ) (w new : Web) → AreBent p s k w new → w.darts ≤ new.darts
+pub all_more : (p : PlaneModel) (s : ℕ → List Turn) (k : ℕ) (w new : Web) → AreBent p s k w new → w.darts ≤ new.darts
 all_more p s k w new (finished j v past) = omega arith
 all_more p s k w new (passed j v last back rest) = all_more p s (j + 1) v last rest
 all_more p s k w new (bent j v mid last j_in less bends rest) =
     omega (arith, bent_more j v (s j) mid bends, all_more p s (j + 1) mid last rest)
 
-pub all_paths : (p : Map) (s : ℕ → List Turn) (k : ℕ) (w new : Web) → HasEnds p →
-    ((d : ℕ) → d < darts p → s (mate p d) ≡ mirrored (s d)) → IsLinked w → new.darts ≤ no_dart → AreBent p s k w new →
-    HasTurned p s k w → HasPaths new (darts p) (mate p) (λ d. quarters_of (s d))
+pub all_paths : (p : PlaneModel) (s : ℕ → List Turn) (k : ℕ) (w new : Web) → HasEnds p →
+    ((d : ℕ) → d < darts p → s (reverse_dart p d) ≡ mirrored (s d)) → IsLinked w → new.darts ≤ no_dart → AreBent p s k w new →
+    HasTurned p s k w → HasPaths new (darts p) (reverse_dart p) (λ d. quarters_of (s d))
 all_paths p s k w new ends mirrors linked narrow (finished j v past) has =
-    paths_same v (darts p) (mate p) has.quarters (λ d. quarters_of (s d))
+    paths_same v (darts p) (reverse_dart p) has.quarters (λ d. quarters_of (s d))
     (λ d l. has.done d l (inl (omega (arith, past)))) has.paths
 all_paths p s k w new ends mirrors linked narrow (passed j v last back rest) has =
     all_paths p s (j + 1) v last ends mirrors linked narrow rest (turned_passed p s j v ends back has)
@@ -210,7 +210,7 @@ all_paths p s k w new ends mirrors linked narrow (bent j v mid last j_in less be
     all_paths p s (j + 1) mid last ends mirrors (bent_linked j v (s j) mid linked j_old bends) narrow rest
     (turned_bent p s j v mid ends mirrors j_in less linked (omega (arith, narrow, all_more p s (j + 1) mid last rest)) bends has)
 
-pub all_extended : (p : Map) (s : ℕ → List Turn) (k : ℕ) (w new : Web) → IsLinked w → darts p ≤ w.darts → AreBent p s k w new →
+pub all_extended : (p : PlaneModel) (s : ℕ → List Turn) (k : ℕ) (w new : Web) → IsLinked w → darts p ≤ w.darts → AreBent p s k w new →
     IsExtended w new
 all_extended p s k w new linked few (finished j v past) = extended_same v
 all_extended p s k w new linked few (passed j v last back rest) = all_extended p s (j + 1) v last linked few rest
@@ -221,34 +221,34 @@ all_extended p s k w new linked few (bent j v mid last j_in less bends rest) =
     (omega (arith, few, bent_more j v (s j) mid bends)) rest)
 
 -- before any edge has its turns
-pub turned_bare : (p : Map) (a h : ℕ → ℕ) (s : ℕ → List Turn) (w : Web) → IsBare p a h w → HasTurned p s 0 w
+pub turned_bare : (p : PlaneModel) (a h : ℕ → ℕ) (s : ℕ → List Turn) (w : Web) → IsBare p a h w → HasTurned p s 0 w
 turned_bare p a h s w bare = record {
   quarters = λ _. [];
-  paths = plain_paths w (darts p) (mate p) bare.dart_count bare.befores bare.twins;
+  paths = plain_paths w (darts p) (reverse_dart p) bare.dart_count bare.befores bare.reverse_darts;
   done = λ d l either. none either;
-  left = λ d l low low_mate. refl;
+  left = λ d l low low_reverse_dart. refl;
 }
   where
     none : {A : Type 0} {x y : ℕ} → (x < 0) ⊎ (y < 0) → A
     none (inl h) = absurd (omega (arith, h))
     none (inr h) = absurd (omega (arith, h))
 
-pub bare_joined : (p : Map) (a h : ℕ → ℕ) (w : Web) → IsPlane p → IsBare p a h w → IsJoined w
-bare_joined p a h w plane bare s next twin x y l_x l_y at =
+pub bare_joined : (p : PlaneModel) (a h : ℕ → ℕ) (w : Web) → IsPlane p → IsBare p a h w → IsJoined w
+bare_joined p a h w plane bare s next reverse_dart x y l_x l_y at =
     all_joined p.lists (seven_rules p.lists plane.rules) s
     (λ d l on. subst (λ (k : ℕ). s k ≡ true) (bare.nexts d l) (next d (omega (arith, l, bare.dart_count)) on))
-    (λ d l on. subst (λ (k : ℕ). s k ≡ true) (bare.twins d l) (twin d (omega (arith, l, bare.dart_count)) on))
+    (λ d l on. subst (λ (k : ℕ). s k ≡ true) (bare.reverse_darts d l) (reverse_dart d (omega (arith, l, bare.dart_count)) on))
     x y (omega (arith, l_x, bare.dart_count)) (omega (arith, l_y, bare.dart_count)) at
 
 -- the web of a plane that got all bends: its edges have their paths
-pub bends_have_paths : (p : Map) (a h : ℕ → ℕ) (s : ℕ → List Turn) (w new : Web) → IsPlane p →
-    ((d : ℕ) → d < darts p → s (mate p d) ≡ mirrored (s d)) → IsBare p a h w → IsLinked w → new.darts ≤ no_dart → AreBent p s 0 w new →
-    HasPaths new (darts p) (mate p) (λ d. quarters_of (s d))
+pub bends_have_paths : (p : PlaneModel) (a h : ℕ → ℕ) (s : ℕ → List Turn) (w new : Web) → IsPlane p →
+    ((d : ℕ) → d < darts p → s (reverse_dart p d) ≡ mirrored (s d)) → IsBare p a h w → IsLinked w → new.darts ≤ no_dart → AreBent p s 0 w new →
+    HasPaths new (darts p) (reverse_dart p) (λ d. quarters_of (s d))
 bends_have_paths p a h s w new plane mirrors bare linked narrow all =
     all_paths p s 0 w new (plane_ends p plane) mirrors linked narrow all (turned_bare p a h s w bare)
 
 -- and it is joined
-pub bends_are_joined : (p : Map) (a h : ℕ → ℕ) (s : ℕ → List Turn) (w new : Web) → IsPlane p → IsBare p a h w → IsLinked w →
+pub bends_are_joined : (p : PlaneModel) (a h : ℕ → ℕ) (s : ℕ → List Turn) (w new : Web) → IsPlane p → IsBare p a h w → IsLinked w →
     AreBent p s 0 w new → IsJoined new
 bends_are_joined p a h s w new plane bare linked all =
     extended_joined w new (all_extended p s 0 w new linked (omega (arith, bare.dart_count)) all) (bare_joined p a h w plane bare)

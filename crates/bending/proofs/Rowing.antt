@@ -1,6 +1,6 @@
 -- The darts of the web that got all bends lie in rows.
 use Rattle.std.proofs.Common.{ℕ, ◌+◌, ◌<◌, ◌≤◌, List, arith}
-use Rattle.faces.specs.Map.{Map, darts, vertices}
+use Rattle.faces.specs.Planes.{PlaneModel, darts, vertices}
 use Rattle.ortho_rep.specs.declared.turn.Turn.{Turn}
 use Rattle.cutting.specs.Webs.{Web, IsLinked, IsMeeting}
 use Rattle.edge_paths.specs.Rows.{AreRows}
@@ -14,7 +14,7 @@ bent_rows v e w turns new has e_in (straight u) = has
 bent_rows v e w turns new has e_in (turned u mid last turn rest split bends) =
     bent_rows v e mid rest last (split_rows v u e (start_way u e) (angle_of turn) mid has e_in split) (omega (arith, e_in, split.darts)) bends
 
-all_rows : (v : ℕ) (p : Map) (s : ℕ → List Turn) (k : ℕ) (w new : Web) → HasRows v w → darts p ≤ w.darts → AreBent p s k w new → HasRows v new
+all_rows : (v : ℕ) (p : PlaneModel) (s : ℕ → List Turn) (k : ℕ) (w new : Web) → HasRows v w → darts p ≤ w.darts → AreBent p s k w new → HasRows v new
 all_rows v p s k w new has few (finished j u past) = has
 all_rows v p s k w new has few (passed j u last back rest) = all_rows v p s (j + 1) u last has few rest
 all_rows v p s k w new has few (bent j u mid last j_in less bends rest) =
@@ -22,7 +22,7 @@ all_rows v p s k w new has few (bent j u mid last j_in less bends rest) =
     (omega (arith, few, bent_more j u (s j) mid bends)) rest
 
 -- the web of a plane that got all bends: between the darts of an edge lie vertices that are not the plane's
-pub bends_have_rows : (p : Map) (a h : ℕ → ℕ) (s : ℕ → List Turn) (w new : Web) → IsBare p a h w → IsLinked w → IsMeeting w →
+pub bends_have_rows : (p : PlaneModel) (a h : ℕ → ℕ) (s : ℕ → List Turn) (w new : Web) → IsBare p a h w → IsLinked w → IsMeeting w →
     AreBent p s 0 w new → AreRows (vertices p) new
 bends_have_rows p a h s w new bare linked meeting all =
     (all_rows (vertices p) p s 0 w new

@@ -5,7 +5,7 @@ use Rattle.std.proofs.lemmas.Bool.{cases_eq, eq-eqb, ne_eqb, cond-true, cond-fal
 use Rattle.std.proofs.lemmas.Int.{ints}
 use Rattle.sums.specs.Sums.{sum_below}
 use Rattle.sums.proofs.Sums.{sum_below-same, sum_below-le, sum_below-times, sum_below-constant, exchanged}
-use Rattle.faces.specs.Map.{Map, IsPlane, HasEnds, darts, vertices, head, mate, next, face_at}
+use Rattle.faces.specs.Planes.{PlaneModel, IsPlane, HasEnds, darts, vertices, head, reverse_dart, next, face_at}
 use Rattle.ortho_rep.specs.declared.turn.Turn.{Turn}
 use Rattle.ortho_rep.specs.Turns.{lefts, rights}
 use Rattle.ortho_rep.specs.Representation.{Rep}
@@ -19,7 +19,7 @@ use Rattle.bending.proofs.Placing.{onto}
 use Rattle.bending.proofs.Owing.{IsOwing, owing, gained, lost, Turns}
 use Rattle.bending.proofs.Stepping.{IsBehind}
 
-module _ (p : Map) (a : ℕ → ℕ) (s : ℕ → List Turn) (h : ℕ → ℕ) (w : Web) (plane : IsPlane p) (ends : HasEnds p) (rep : Rep p a s)
+module _ (p : PlaneModel) (a : ℕ → ℕ) (s : ℕ → List Turn) (h : ℕ → ℕ) (w : Web) (plane : IsPlane p) (ends : HasEnds p) (rep : Rep p a s)
     (headings : AreHeadings p a s h) (bare : IsBare p a h w) where
   in_plane : (x : ℕ) → x < w.darts → x < darts p
   in_plane x l = omega (arith, bare.dart_count)
@@ -34,15 +34,15 @@ module _ (p : Map) (a : ℕ → ℕ) (s : ℕ → List Turn) (h : ℕ → ℕ) (
         prev_in = λ x l. let (d, inside, at, back) = behind x l in omega (arith, inside, back, bare.dart_count);
         next_back = λ x l. ap w.prev (bare.nexts x (in_plane x l)) ∙ bare.prevs x (in_plane x l);
         prev_back = λ x l. let (d, inside, at, back) = behind x l in ap w.next back ∙ bare.nexts d inside ∙ at;
-        twin_in = λ x l. omega (arith, bare.twins x (in_plane x l), ends.mate_inside x (in_plane x l), bare.dart_count);
-        twin_back = λ x l. ap w.twin (bare.twins x (in_plane x l)) ∙ bare.twins (mate p x) (ends.mate_inside x (in_plane x l))
-            ∙ ends.mate_back x (in_plane x l);
-        twin_apart = λ x l same. ends.mate_apart x (in_plane x l) (sym (bare.twins x (in_plane x l)) ∙ same);
+        reverse_dart_in = λ x l. omega (arith, bare.reverse_darts x (in_plane x l), ends.reverse_dart_inside x (in_plane x l), bare.dart_count);
+        reverse_dart_back = λ x l. ap w.reverse_dart (bare.reverse_darts x (in_plane x l)) ∙ bare.reverse_darts (reverse_dart p x) (ends.reverse_dart_inside x (in_plane x l))
+            ∙ ends.reverse_dart_back x (in_plane x l);
+        reverse_dart_apart = λ x l same. ends.reverse_dart_apart x (in_plane x l) (sym (bare.reverse_darts x (in_plane x l)) ∙ same);
       }
 
   -- the dart that arrives next clockwise
-  arrives : (x : ℕ) → x < darts p → w.twin (w.next x) ≡ mate p (next p x)
-  arrives x l = ap w.twin (bare.nexts x l) ∙ bare.twins (next p x) (ends.next_one.inside x l)
+  arrives : (x : ℕ) → x < darts p → w.reverse_dart (w.next x) ≡ reverse_dart p (next p x)
+  arrives x l = ap w.reverse_dart (bare.nexts x l) ∙ bare.reverse_darts (next p x) (ends.next_one.inside x l)
 
   whole : (u : ℕ) → u < w.vertices → around w u ≡ 4
   whole u l =
@@ -70,8 +70,8 @@ module _ (p : Map) (a : ℕ → ℕ) (s : ℕ → List Turn) (h : ℕ → ℕ) (
         omega (
           arith,
           ap w.head (arrives x b),
-          bare.heads (mate p (next p x)) (ends.mate_inside (next p x) n_in),
-          ends.mate_head (next p x) n_in,
+          bare.heads (reverse_dart p (next p x)) (ends.reverse_dart_inside (next p x) n_in),
+          ends.reverse_dart_head (next p x) n_in,
           ends.next_tail x b,
           bare.heads x b,
         );
@@ -79,8 +79,8 @@ module _ (p : Map) (a : ℕ → ℕ) (s : ℕ → List Turn) (h : ℕ → ℕ) (
     turns = λ x l.
         let b = in_plane x l in
         let n_in = ends.next_one.inside x b in
-        let there : w.direction (w.twin (w.next x)) ≡ h (mate p (next p x)) =
-        ap w.direction (arrives x b) ∙ bare.directions (mate p (next p x)) (ends.mate_inside (next p x) n_in) in
+        let there : w.direction (w.reverse_dart (w.next x)) ≡ h (reverse_dart p (next p x)) =
+        ap w.direction (arrives x b) ∙ bare.directions (reverse_dart p (next p x)) (ends.reverse_dart_inside (next p x) n_in) in
         omega (arith, there, bare.angles x b, bare.directions x b, headings.angles x b);
     some = λ x l. omega (arith, bare.angles x (in_plane x l), (rep.angles x (in_plane x l)).0);
     most = λ x l. omega (arith, bare.angles x (in_plane x l), (rep.angles x (in_plane x l)).1);
@@ -134,11 +134,11 @@ module _ (p : Map) (a : ℕ → ℕ) (s : ℕ → List Turn) (h : ℕ → ℕ) (
         old = omega (arith, bare.dart_count);
         linked = linked;
         meeting = meeting;
-        mirrors = λ x l. ap s (bare.twins x (in_plane x l)) ∙ rep.strings x (in_plane x l);
+        mirrors = λ x l. ap s (bare.reverse_darts x (in_plane x l)) ∙ rep.strings x (in_plane x l);
         ways = λ x l.
             let b = in_plane x l in
-            let there : w.direction (w.twin x) ≡ h (mate p x) =
-            ap w.direction (bare.twins x b) ∙ bare.directions (mate p x) (ends.mate_inside x b) in
+            let there : w.direction (w.reverse_dart x) ≡ h (reverse_dart p x) =
+            ap w.direction (bare.reverse_darts x b) ∙ bare.directions (reverse_dart p x) (ends.reverse_dart_inside x b) in
             ap (λ (k : ℕ). (k + 2 + lefts (s x)) % 4) there ∙ headings.strings x b
             ∙ sym (ap (λ (k : ℕ). (k + rights (s x)) % 4) (bare.directions x b));
         labels = labels;
@@ -155,6 +155,6 @@ module _ (p : Map) (a : ℕ → ℕ) (s : ℕ → List Turn) (h : ℕ → ℕ) (
 
   pub behind_begins : IsBehind p s 0 w s
   behind_begins = record {
-    waits = λ x l low low_mate. (refl, bare.twins x l);
+    waits = λ x l low low_reverse_dart. (refl, bare.reverse_darts x l);
     done = λ x l. inr (in_plane x l, omega arith, omega arith);
   }

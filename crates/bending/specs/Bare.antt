@@ -1,17 +1,17 @@
 -- The web of a plane whose edges have no bends yet.
 use Rattle.std.specs.Prelude.{◌≡◌, ℕ, ◌+◌, ◌<◌, slice_index}
-use Rattle.faces.specs.Map.{Map, darts, vertices, head, mate, next}
+use Rattle.faces.specs.Planes.{PlaneModel, darts, vertices, head, reverse_dart, next}
 use Rattle.cutting.specs.declared.table.DartTable.{DartTable}
 use Rattle.cutting.specs.Webs.{Web, no_dart}
 use Rattle.cutting.specs.Tables.{room}
 
 -- its darts and vertices are those of the plane p, with the angles a and the directions h; vertex v has the number v - 1
-pub record IsBare (p : Map) (a h : ℕ → ℕ) (w : Web) : Type 0 where
+pub record IsBare (p : PlaneModel) (a h : ℕ → ℕ) (w : Web) : Type 0 where
   pub dart_count : w.darts ≡ darts p
   pub vertex_count : w.vertices ≡ vertices p
   pub nexts : (d : ℕ) → d < darts p → w.next d ≡ next p d
   pub prevs : (d : ℕ) → d < darts p → w.prev (next p d) ≡ d
-  pub twins : (d : ℕ) → d < darts p → w.twin d ≡ mate p d
+  pub reverse_darts : (d : ℕ) → d < darts p → w.reverse_dart d ≡ reverse_dart p d
   pub heads : (d : ℕ) → d < darts p → w.head d + 1 ≡ head p d
   pub directions : (d : ℕ) → d < darts p → w.direction d ≡ h d
   pub angles : (d : ℕ) → d < darts p → w.angle d ≡ a d

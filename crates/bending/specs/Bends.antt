@@ -1,6 +1,6 @@
 -- What the web of a plane keeps of it once its edges have their bends.
 use Rattle.std.specs.Prelude.{◌≡◌, ℕ, ◌+◌, ◌-◌, ◌*◌, ◌<◌, ◌≤◌, List}
-use Rattle.faces.specs.Map.{Map, darts, vertices, head, face_at}
+use Rattle.faces.specs.Planes.{PlaneModel, darts, vertices, head, face_at}
 pub use Rattle.headings.specs.Headings.{AreHeadings}
 use Rattle.ortho_rep.specs.declared.turn.Turn.{Turn}
 use Rattle.ortho_rep.specs.Representation.{bends_of}
@@ -9,19 +9,19 @@ use Rattle.cutting.specs.Labels.{HasTurns}
 
 -- the first darts of the web are those of the plane p: they arrive at its vertices, where vertex v has the number v - 1,
 -- and have the angles a there
-pub record KeepsDarts (p : Map) (a : ℕ → ℕ) (w : Web) : Type 0 where
+pub record KeepsDarts (p : PlaneModel) (a : ℕ → ℕ) (w : Web) : Type 0 where
   pub few : darts p ≤ w.darts
   pub heads : (d : ℕ) → d < darts p → w.head d ≡ head p d - 1
   pub angles : (d : ℕ) → d < darts p → w.angle d ≡ a d
 
 -- the faces of the web turn as faces of a drawing do, and the darts of the plane p are of the faces that p gives them
-pub record KeepsFaces (p : Map) (w : Web) : Type 0 where
+pub record KeepsFaces (p : PlaneModel) (w : Web) : Type 0 where
   pub label : ℕ → ℕ
   pub turns : HasTurns w label p.outer
   pub faces : (d : ℕ) → d < darts p → label d ≡ face_at p d
 
 -- each bend of the strings s is a vertex more, two darts more, and at most a right turn more
-pub record CountsBends (p : Map) (s : ℕ → List Turn) (w : Web) : Type 0 where
+pub record CountsBends (p : PlaneModel) (s : ℕ → List Turn) (w : Web) : Type 0 where
   pub dart_count : w.darts ≡ darts p + 2 * bends_of (darts p) s
   pub vertex_count : w.vertices ≡ vertices p + bends_of (darts p) s
   pub right_turns : excess w ≤ 2 * vertices p + bends_of (darts p) s

@@ -1,6 +1,6 @@
 -- How a web gets its bends: one split a turn, edge by edge.
 use Rattle.std.specs.Prelude.{ℕ, ◌+◌, ◌%◌, ◌<◌, ◌≤◌, List, [], ◌∷◌}
-use Rattle.faces.specs.Map.{Map, darts, mate}
+use Rattle.faces.specs.Planes.{PlaneModel, darts, reverse_dart}
 use Rattle.ortho_rep.specs.declared.turn.Turn.{Turn}
 use Rattle.ortho_rep.specs.declared.turn.Turn.TheVariants.{Left, Right}
 use Rattle.cutting.specs.Webs.{Web, IsSplit}
@@ -10,9 +10,9 @@ abbrev pub angle_of : Turn → ℕ
 angle_of Left = 1
 angle_of Right = 3
 
--- the direction in which the walk along e sets out: opposite to that in which e's twin arrives
+-- the direction in which the walk along e sets out: opposite to that in which e's reverse arrives
 abbrev pub start_way : Web → ℕ → ℕ
-start_way w e = (w.direction (w.twin e) + 2) % 4
+start_way w e = (w.direction (w.reverse_dart e) + 2) % 4
 
 -- the edge of the dart e gets these turns, in walking order
 pub data IsBent (e : ℕ) : Web → List Turn → Web → Type 0 where
@@ -21,8 +21,8 @@ pub data IsBent (e : ℕ) : Web → List Turn → Web → Type 0 where
       → IsBent e mid turns new → IsBent e w (turn ∷ turns) new
 
 -- each edge of the plane p whose lesser dart is k or comes behind k gets the turns of that dart
-pub data AreBent (p : Map) (s : ℕ → List Turn) : ℕ → Web → Web → Type 0 where
+pub data AreBent (p : PlaneModel) (s : ℕ → List Turn) : ℕ → Web → Web → Type 0 where
   finished : (k : ℕ) (w : Web) → darts p ≤ k → AreBent p s k w w
-  passed : (k : ℕ) (w new : Web) → mate p k ≤ k → AreBent p s (k + 1) w new → AreBent p s k w new
-  bent : (k : ℕ) (w mid new : Web) → k < darts p → k < mate p k → IsBent k w (s k) mid → AreBent p s (k + 1) mid new
+  passed : (k : ℕ) (w new : Web) → reverse_dart p k ≤ k → AreBent p s (k + 1) w new → AreBent p s k w new
+  bent : (k : ℕ) (w mid new : Web) → k < darts p → k < reverse_dart p k → IsBent k w (s k) mid → AreBent p s (k + 1) mid new
       → AreBent p s k w new

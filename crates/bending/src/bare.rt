@@ -2,7 +2,7 @@
 
 ghost use Rattle.std.specs.Prelude.{◌≡◌, ◌+◌, ◌-◌, ◌*◌, ◌<◌, ◌≤◌, ℕ, IfOk, length, slice_index, slice_set};
 ghost use Rattle.sums.specs.Sums.{sum_below};
-ghost use Rattle.faces.specs.Map.{darts, vertices, head, mate, next};
+ghost use Rattle.faces.specs.Planes.{darts, vertices, head, reverse_dart, next};
 ghost use Rattle.ortho_rep.specs.Shapes.{angle_at, turns_at};
 ghost use Rattle.ortho_rep.specs.Representation.{HasDarts};
 ghost use Rattle.cutting.specs.Tables.{web_of, room};
@@ -44,7 +44,7 @@ fn blank_table(
     Ok(DartTable {
         next: vec![in alloc; 0; places]?,
         prev: vec![in alloc; 0; places]?,
-        twin: vec![in alloc; 0; places]?,
+        reverse_dart: vec![in alloc; 0; places]?,
         head: vec![in alloc; 0; places]?,
         before: vec![in alloc; NO_DART; places]?,
         direction: vec![in alloc; 0; places]?,
@@ -63,7 +63,7 @@ fn write_dart(table: &mut DartTable, plane: &Plane, shape: &Shape, directions: &
     requires directions { length directions.now ≡ darts plane.now }
     ensures next { table.new.next.items ≡ slice_set table.old.next.items dart (next plane.now dart) }
     ensures prev { table.new.prev.items ≡ slice_set table.old.prev.items (next plane.now dart) dart }
-    ensures twin { table.new.twin.items ≡ slice_set table.old.twin.items dart (mate plane.now dart) }
+    ensures reverse_dart { table.new.reverse_dart.items ≡ slice_set table.old.reverse_dart.items dart (reverse_dart plane.now dart) }
     ensures head { table.new.head.items ≡ slice_set table.old.head.items dart (head plane.now dart - 1) }
     ensures direction { table.new.direction.items
         ≡ slice_set table.old.direction.items dart (slice_index directions.now dart) }
@@ -79,7 +79,7 @@ fn write_dart(table: &mut DartTable, plane: &Plane, shape: &Shape, directions: &
     let next = plane.next(dart);
     table.next[place] = u32::from(next);
     table.prev[usize::from(next)] = u32::from(dart);
-    table.twin[place] = u32::from(graph.reverse(dart));
+    table.reverse_dart[place] = u32::from(graph.reverse(dart));
     table.head[place] = u32::from(graph.head(dart)) - 1;
     table.direction[place] = directions[place];
     table.angle[place] = shape.angle(dart);

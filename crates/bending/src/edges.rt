@@ -1,7 +1,7 @@
 //! The bends of edges.
 
 ghost use Rattle.std.specs.Prelude.{◌≡◌, ◌+◌, ◌*◌, ◌<◌, ◌≤◌, length};
-ghost use Rattle.faces.specs.Map.{darts};
+ghost use Rattle.faces.specs.Planes.{darts};
 ghost use Rattle.ortho_rep.specs.Shapes.{turns_at};
 ghost use Rattle.ortho_rep.specs.Representation.{IsShape, bends_of};
 ghost use Rattle.cutting.specs.Webs.{IsLinked, IsMeeting};
@@ -35,8 +35,8 @@ fn bend_edge(table: &mut DartTable, e: u32, turns: &[Turn])
     ensures room { room table.new ≡ room table.old }
 {
     'turns: for turn in turns {
-        let twin = table.twin[e as usize];
-        let way = (table.direction[twin as usize] + 2) % 4;
+        let reverse_dart = table.reverse_dart[e as usize];
+        let way = (table.direction[reverse_dart as usize] + 2) % 4;
         table.split(e, way, angle_of(*turn));
     }
 }

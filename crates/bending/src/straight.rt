@@ -1,7 +1,7 @@
 //! The whole drawing with straight edges.
 
 ghost use Rattle.std.specs.Prelude.{◌≡◌, ◌+◌, ◌*◌, ◌<◌, ◌≤◌, IfOk, length, map, slice_index};
-ghost use Rattle.faces.specs.Map.{darts, mate, vertices};
+ghost use Rattle.faces.specs.Planes.{darts, reverse_dart, vertices};
 ghost use Rattle.ortho_rep.specs.Shapes.{angle_at, turns_at};
 ghost use Rattle.ortho_rep.specs.Representation.{IsShape};
 ghost use Rattle.headings.specs.Headings.{AreHeadings};
@@ -46,7 +46,7 @@ pub fn bend(
         (turns_at shape.now) (web_of t).direction) }
     ensures faces { IfOk result (λ t. KeepsFaces plane.now (web_of t)) }
     ensures counts { IfOk result (λ t. CountsBends plane.now (turns_at shape.now) (web_of t)) }
-    ensures paths { IfOk result (λ t. HasPaths (web_of t) (darts plane.now) (mate plane.now)
+    ensures paths { IfOk result (λ t. HasPaths (web_of t) (darts plane.now) (reverse_dart plane.now)
         (λ d. map angle_of (turns_at shape.now d))) }
     ensures rows { IfOk result (λ t. AreRows (vertices plane.now) (web_of t)) }
     ensures joined { IfOk result (λ t. IsJoined (web_of t)) }

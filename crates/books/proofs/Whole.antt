@@ -1,6 +1,6 @@
 -- The entries that were kept of a file are its book.
 use Rattle.std.proofs.Common.{◌≡◌, ℕ, ◌+◌, List, [], ◌∷◌, ◌++◌, map, length, All, get_or, arith, refl, sym, ap, subst, ◌∙◌}
-use Rattle.streams.specs.declared.found.Mark.{Mark}
+use Rattle.streams.specs.declared.frames.Mark.{Mark}
 use Rattle.choices.specs.declared.Choice.{Choice}
 use Rattle.lanes.specs.declared.message.Message.TheVariants.{Item}
 use Rattle.lanes.specs.Notes.{About, numbered}
@@ -10,7 +10,7 @@ use Rattle.lanes.specs.Drafts.{abouts, IsWhole}
 use Rattle.entries.specs.declared.entry.Entry.{Entry}
 use Rattle.entries.specs.Answers.{Answers}
 use Rattle.entries.specs.Abouts.{about_of}
-use Rattle.books.specs.Books.{Pages, IsBook, AreBooks}
+use Rattle.books.specs.Books.{BookModel, IsBook, AreBooks}
 
 -- what notes of records are about
 abouts-map : (xs : List About) → abouts (map Item xs) ≡ xs
@@ -34,7 +34,7 @@ whole_kept choice meaning file entries mark keeps = record {
 }
 
 -- one book more
-pub books_more : (choice : Choice) (meaning : ℕ → Meaning) (first : ℕ) (books : List Pages) (book : Pages) → AreBooks choice meaning first books
+pub books_more : (choice : Choice) (meaning : ℕ → Meaning) (first : ℕ) (books : List BookModel) (book : BookModel) → AreBooks choice meaning first books
     → IsBook choice (meaning (first + length books)) (first + length books) book → AreBooks choice meaning first (books ++ book ∷ [])
 books_more choice meaning first [] book are is =
     (let e : first + 0 ≡ first = omega arith in subst (λ k. IsBook choice (meaning k) k book) e is, tt)

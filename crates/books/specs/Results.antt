@@ -2,9 +2,9 @@
 use Rattle.std.specs.Prelude.{◌≡◌, ℕ, List, length}
 use Rattle.choices.specs.declared.Choice.{Choice}
 use Rattle.lanes.specs.Opening.{Meaning}
-use Rattle.books.specs.Books.{Pages, AreBooks}
+use Rattle.books.specs.Books.{BookModel, AreBooks}
 
 -- the books of so many files under a choice, from the first on
-pub record AreAllBooks (choice : Choice) (meaning : ℕ → Meaning) (files : ℕ) (books : List Pages) : Type 0 where
+pub record AreAllBooks (choice : Choice) (meaning : ℕ → Meaning) (files : ℕ) (books : List BookModel) : Type 0 where
   pub count : length books ≡ files
   pub each : AreBooks choice meaning 0 books

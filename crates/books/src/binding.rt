@@ -1,6 +1,6 @@
 //! Books from drafts that are ready.
 ghost use Rattle.std.specs.Prelude.{◌≡◌, ◌≤◌, ℕ, IfOk, IsSome, Some, length, vec_len};
-ghost use Rattle.streams.specs.declared.found.Mark.{Mark};
+ghost use Rattle.streams.specs.declared.frames.Mark.{Mark};
 ghost use Rattle.choices.specs.declared.Choice.{Choice};
 ghost use Rattle.lanes.specs.Opening.{Meaning};
 ghost use Rattle.lanes.specs.Files.{AreReady};

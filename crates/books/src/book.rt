@@ -1,7 +1,7 @@
 //! What a run hands out.
 ghost use Rattle.std.specs.Prelude.{◌≡◌, ◌<◌, ◌≤◌, length, slice_index_or, vec_len};
 ghost use Rattle.books.specs.declared.limits.TheConstants.{MAX_FILES};
-ghost use Rattle.books.specs.Books.{Pages};
+ghost use Rattle.books.specs.Books.{BookModel};
 
 use entries::Entry;
 use std::marker::Model;
@@ -16,9 +16,9 @@ pub struct Book {
 }
 
 impl Model for Book {
-    ghost use Rattle.books.specs.Books.{Pages};
+    ghost use Rattle.books.specs.Books.{BookModel};
 
-    ghost Value = { Pages };
+    ghost Value = { BookModel };
 
     ghost view = { λ b. record { entries = b.entries.items; mark = b.mark } };
 }
@@ -56,9 +56,9 @@ pub struct Batch {
 impl Model for Batch {
     ghost use Rattle.std.specs.Prelude.{◌≤◌, List, length};
     ghost use Rattle.books.specs.declared.limits.TheConstants.{MAX_FILES};
-    ghost use Rattle.books.specs.Books.{Pages};
+    ghost use Rattle.books.specs.Books.{BookModel};
 
-    ghost Value = { List Pages };
+    ghost Value = { List BookModel };
 
     ghost view = { λ b. b.books.items };
 
@@ -85,7 +85,7 @@ impl Batch {
     /// The book of a file.
     pub fn book(&self, file: u32) -> &Book
         requires { file < length self.now }
-        ensures { (other : Pages) → result.now ≡ slice_index_or self.now file other }
+        ensures { (other : BookModel) → result.now ≡ slice_index_or self.now file other }
     {
         &self.books[file as usize]
     }

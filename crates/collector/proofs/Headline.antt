@@ -5,18 +5,18 @@ use Rattle.std.proofs.lemmas.Bool.{false≢true}
 use Rattle.planar_code.specs.declared.ending.Ending.{Ending}
 use Rattle.planar_code.specs.declared.ending.Ending.TheVariants as ending
 use Rattle.planar_code.specs.Split.{IsSplit}
-use Rattle.streams.specs.declared.found.Mark.{Mark}
-use Rattle.streams.specs.declared.found.Mark.TheVariants.{Ended, Io}
+use Rattle.streams.specs.declared.frames.Mark.{Mark}
+use Rattle.streams.specs.declared.frames.Mark.TheVariants.{Ended, Io}
 use Rattle.streams.specs.Marks.{IsMarked}
 use Rattle.choices.specs.declared.Choice.{Choice}
 use Rattle.lanes.specs.Notes.{numbered}
 use Rattle.lanes.specs.Opening.{Meaning, Opened}
-use Rattle.entries.specs.declared.found.Answer.{Answer}
-use Rattle.entries.specs.declared.found.Answer.TheVariants.{Laid, Refused, NoMemory}
+use Rattle.entries.specs.declared.answer.Answer.{Answer}
+use Rattle.entries.specs.declared.answer.Answer.TheVariants.{Laid, Refused, NoMemory}
 use Rattle.entries.specs.declared.entry.Entry.{Entry}
 use Rattle.entries.specs.Answers.{Answers}
 use Rattle.entries.specs.Abouts.{about_of}
-use Rattle.books.specs.Books.{Pages, IsBook, AreBooks}
+use Rattle.books.specs.Books.{BookModel, IsBook, AreBooks}
 use Rattle.books.specs.Results.{AreAllBooks}
 use Rattle.collector.specs.Headline.{IsDecided, IsEntryFor, AreOneForEach, IsWholeRun, HasMemory}
 
@@ -62,7 +62,7 @@ split_of bytes records (Ended ending.Oversize) is has = (ending.Oversize, is.1, 
 split_of bytes records (Ended ending.Many) is has = (ending.Many, is.1, refl)
 split_of bytes records (Ended ending.Memory) is has = absurd (has refl)
 
-book_at : (choice : Choice) (meaning : ℕ → Meaning) (first : ℕ) (books : List Pages) (k : ℕ) (other : Pages) → AreBooks choice meaning first books
+book_at : (choice : Choice) (meaning : ℕ → Meaning) (first : ℕ) (books : List BookModel) (k : ℕ) (other : BookModel) → AreBooks choice meaning first books
     → k < length books → IsBook choice (meaning (first + k)) (first + k) (get_or books k other)
 book_at choice meaning first [] k other are below = absurd (omega (arith, below))
 book_at choice meaning first (book ∷ books) zero other (is, are) below =
@@ -71,7 +71,7 @@ book_at choice meaning first (book ∷ books) (suc k) other (is, are) below =
     (let e : first + 1 + k ≡ first + suc k = omega arith in
     subst (λ n. IsBook choice (meaning n) n (get_or books k other)) e (book_at choice meaning (first + 1) books k other are (omega (arith, below))))
 
-run_of : (choice : Choice) (bytes : List ℕ) (file : ℕ) (book : Pages) → IsBook choice (Opened bytes false) file book → HasMemory book → IsWholeRun choice file bytes book
+run_of : (choice : Choice) (bytes : List ℕ) (file : ℕ) (book : BookModel) → IsBook choice (Opened bytes false) file book → HasMemory book → IsWholeRun choice file bytes book
 run_of choice bytes file book is has =
     let whole = is.whole in
     let found = whole.found in
@@ -87,7 +87,7 @@ run_of choice bytes file book is has =
       mark = split.2;
     }
 
-pub whole_runs : (choice : Choice) (meaning : ℕ → Meaning) (files : ℕ) (books : List Pages) (other : Pages) → AreAllBooks choice meaning files books
+pub whole_runs : (choice : Choice) (meaning : ℕ → Meaning) (files : ℕ) (books : List BookModel) (other : BookModel) → AreAllBooks choice meaning files books
     → (file : ℕ) (bytes : List ℕ) → file < files → meaning file ≡ Opened bytes false
     → HasMemory (get_or books file other) → IsWholeRun choice file bytes (get_or books file other)
 whole_runs choice meaning files books other are file bytes below opens has =

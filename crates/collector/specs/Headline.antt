@@ -3,14 +3,14 @@ use Rattle.std.specs.Prelude.{◌≡◌, ◌≢◌, ℕ, ◌+◌, List, [], ◌�
 use Rattle.planar_code.specs.declared.ending.Ending.{Ending}
 use Rattle.planar_code.specs.Stream.{lists_of}
 use Rattle.planar_code.specs.Split.{IsSplit}
-use Rattle.streams.specs.declared.found.Mark.{Mark}
+use Rattle.streams.specs.declared.frames.Mark.{Mark}
 use Rattle.embedding.specs.Rules.{FirstBroken}
 use Rattle.choices.specs.declared.Choice.{Choice}
-use Rattle.entries.specs.declared.found.Answer.{Answer}
-use Rattle.entries.specs.declared.found.Answer.TheVariants.{Laid, Refused, NoMemory}
+use Rattle.entries.specs.declared.answer.Answer.{Answer}
+use Rattle.entries.specs.declared.answer.Answer.TheVariants.{Laid, Refused, NoMemory}
 use Rattle.entries.specs.declared.entry.Entry.{Entry}
 use Rattle.entries.specs.Answers.{IsLaid}
-use Rattle.books.specs.Books.{Pages}
+use Rattle.books.specs.Books.{BookModel}
 
 -- The answer names the first rule that a record of these bytes breaks, or gives a plane with the record's lists, an
 -- orthogonal representation of it and its chosen outer face with the fewest bends, and points that draw it, if any are
@@ -36,7 +36,7 @@ AreOneForEach choice file ordinal (bytes ∷ records) (entry ∷ entries) =
 AreOneForEach choice file ordinal _ _ = ⊥
 
 -- the entries are one for each record of the file's bytes, and the mark is their ending
-pub record IsWholeRun (choice : Choice) (file : ℕ) (bytes : List ℕ) (book : Pages) : Type 0 where
+pub record IsWholeRun (choice : Choice) (file : ℕ) (bytes : List ℕ) (book : BookModel) : Type 0 where
   pub records : List (List ℕ)
   pub end : Ending
   pub split : IsSplit bytes records end
@@ -44,6 +44,6 @@ pub record IsWholeRun (choice : Choice) (file : ℕ) (bytes : List ℕ) (book : 
   pub mark : book.mark ≡ Mark.Ended end
 
 -- no want of memory stands in the book
-pub record HasMemory (book : Pages) : Type 0 where
+pub record HasMemory (book : BookModel) : Type 0 where
   pub mark : book.mark ≢ Mark.Ended Ending.Memory
   pub answers : All (λ entry. entry.answer ≢ Answer.NoMemory) book.entries

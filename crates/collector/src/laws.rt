@@ -2,7 +2,7 @@
 ghost use Rattle.std.specs.Prelude.{◌≡◌, ℕ, ◌<◌, List, false, slice_index_or};
 ghost use Rattle.choices.specs.declared.Choice.{Choice};
 ghost use Rattle.lanes.specs.Opening.{Meaning, Opened};
-ghost use Rattle.books.specs.Books.{Pages};
+ghost use Rattle.books.specs.Books.{BookModel};
 ghost use Rattle.books.specs.Results.{AreAllBooks};
 ghost use Rattle.collector.specs.Headline.{IsWholeRun, HasMemory};
 
@@ -12,7 +12,7 @@ ghost use Rattle.collector.specs.Headline.{IsWholeRun, HasMemory};
 /// record breaks, or gives an orthogonal representation of its embedding and chosen outer face with the
 /// fewest bends, and coordinates, where given, draw it without crossings.
 pub fn whole_run()
-    ensures { (choice : Choice) (meaning : ℕ → Meaning) (files : ℕ) (books : List Pages) (other : Pages)
+    ensures { (choice : Choice) (meaning : ℕ → Meaning) (files : ℕ) (books : List BookModel) (other : BookModel)
         → AreAllBooks choice meaning files books
         → (file : ℕ) (bytes : List ℕ)
         → file < files

@@ -1,9 +1,9 @@
 //! Whole files: each record is answered, and a run hands out a book for each file.
 #![tactic(auto)]
 
+mod answering;
 mod kept;
 pub mod laws;
-mod line;
 mod plain;
 mod run;
 mod text;

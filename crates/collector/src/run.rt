@@ -4,7 +4,7 @@ ghost use Rattle.ruled_lanes.specs.declared.limits.TheConstants.{LANES, MAX_CAPA
 ghost use Rattle.books.specs.declared.limits.TheConstants.{MAX_FILES};
 ghost use Rattle.books.specs.Results.{AreAllBooks};
 
-use crate::line::Answering;
+use crate::answering::Answering;
 use books::{Batch, MAX_FILES, bind};
 use choices::Choice;
 use entries::Entry;

@@ -2,21 +2,21 @@
 use Rattle.std.specs.Prelude.{◌≡◌, ◌≢◌, ◌↔◌, ◌⊎◌, ℕ, Bool, true, false, List, Option, Some, All, codes, vec_len}
 use Rattle.std.specs.Io.KnownBytes.{Appends}
 use Rattle.planar_code.specs.declared.ending.Ending.{Ending}
-use Rattle.streams.specs.declared.found.Mark.{Mark}
-use Rattle.streams.specs.Found.{Found}
+use Rattle.streams.specs.declared.frames.Mark.{Mark}
+use Rattle.streams.specs.FramesModel.{FramesModel}
 use Rattle.streams.specs.Marks.{IsMarked}
 use Rattle.streams.specs.Sink.{AppendsFront}
 use Rattle.streams.specs.Text.{frames_text}
 use Rattle.choices.specs.declared.Choice.{Choice}
 use Rattle.lanes.specs.Opening.{Meaning, Silent, told_of, fails_of}
-use Rattle.books.specs.Books.{Pages}
+use Rattle.books.specs.Books.{BookModel}
 use Rattle.books.specs.Results.{AreAllBooks}
 use Rattle.reports.specs.declared.form.Form.{Form}
 use Rattle.reports.specs.Forms.{text_in}
 use Rattle.reports.specs.Wholes.{IsWholeBook}
 use Rattle.program_io.specs.Naming.{meaning_of, meanings}
-use Rattle.commands.specs.declared.words.Request.{Request}
-use Rattle.commands.specs.declared.words.Request.TheVariants.{Frames, Layout}
+use Rattle.commands.specs.declared.request.Request.{Request}
+use Rattle.commands.specs.declared.request.Request.TheVariants.{Frames, Layout}
 
 -- what '--version' prints
 abbrev pub version_text : List ℕ
@@ -28,13 +28,13 @@ IsPrinted text old new failed status =
     ((status ≡ 0) × (failed ≡ false) × Appends old new text) ⊎ ((status ≡ 1) × (failed ≡ true) × AppendsFront old new text)
 
 -- the file ended complete
-abbrev pub IsComplete : Found → Type 0
+abbrev pub IsComplete : FramesModel → Type 0
 IsComplete found = found.mark ≡ Mark.Ended Ending.Complete
 
 -- The whole report of a file that means this was added to the output, and the status tells how the file ended. The records and the
 -- mark are those of some bytes, after which it ends or fails, and where the file tells its bytes, of these.
 pub record IsReported (meaning : Meaning) (old new : Option (List ℕ)) (failed : Bool) (status : ℕ) : Type 0 where
-  pub found : Found
+  pub found : FramesModel
   pub bytes : List ℕ
   pub fails : Bool
   pub marked : IsMarked bytes fails found.records found.mark
@@ -47,7 +47,7 @@ pub record IsReported (meaning : Meaning) (old new : Option (List ℕ)) (failed 
 -- The whole text of the books of so many files, which mean this, under this choice and in this form, was added to the output, and the
 -- status tells whether each book is whole.
 pub record IsLaidOut (choice : Choice) (form : Form) (meaning : ℕ → Meaning) (files : ℕ) (old new : Option (List ℕ)) (failed : Bool) (status : ℕ) : Type 0 where
-  pub books : List Pages
+  pub books : List BookModel
   pub of_files : AreAllBooks choice meaning files books
   pub text : Appends old new (text_in form books)
   pub written : failed ≡ false
@@ -57,14 +57,14 @@ pub record IsLaidOut (choice : Choice) (form : Form) (meaning : ℕ → Meaning)
 -- A beginning of the text of the books of so many files under this choice, in this form, was added to the output. Nothing is known of the
 -- files beforehand.
 pub record IsBegunToLayOut (choice : Choice) (form : Form) (files : ℕ) (old new : Option (List ℕ)) : Type 0 where
-  pub books : List Pages
+  pub books : List BookModel
   pub of_files : AreAllBooks choice (λ _. Silent) files books
   pub text : AppendsFront old new (text_in form books)
 
 -- A beginning of the report of a file that means this was added to the output. The records and the mark are those of some bytes, as in a whole
 -- report.
 pub record IsBegunToReport (meaning : Meaning) (old new : Option (List ℕ)) : Type 0 where
-  pub found : Found
+  pub found : FramesModel
   pub bytes : List ℕ
   pub fails : Bool
   pub marked : IsMarked bytes fails found.records found.mark

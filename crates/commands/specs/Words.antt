@@ -10,8 +10,8 @@ use Rattle.commands.specs.declared.reading.Place.{Place}
 use Rattle.commands.specs.declared.reading.Place.TheVariants.{Command, Any, Lanes, Outer, File}
 use Rattle.commands.specs.declared.reading.Wish.{Wish}
 use Rattle.commands.specs.declared.reading.Wish.TheVariants as wish
-use Rattle.commands.specs.declared.words.Request.{Request}
-use Rattle.commands.specs.declared.words.Request.TheVariants.{Frames, Layout}
+use Rattle.commands.specs.declared.request.Request.{Request}
+use Rattle.commands.specs.declared.request.Request.TheVariants.{Frames, Layout}
 
 -- the word begins with these two bytes
 abbrev pub has_front : ℕ → ℕ → List ℕ → Bool

@@ -4,7 +4,7 @@
 mod layout;
 mod program;
 mod reading;
+mod request;
 mod version;
-mod words;
 
 pub use program::command;

@@ -9,14 +9,14 @@ ghost use Rattle.program_io.specs.Naming.{meaning_of, meanings};
 ghost use Rattle.clap.specs.Words.{kind_of};
 ghost use Rattle.clap.specs.declared.error.kind.ErrorKind.{ErrorKind};
 ghost use Rattle.commands.specs.declared.reading.Wish.{Wish};
-ghost use Rattle.commands.specs.declared.words.Request.{Request};
+ghost use Rattle.commands.specs.declared.request.Request.{Request};
 ghost use Rattle.commands.specs.Statuses.{IsReported, IsLaidOut, IsDone, IsBegunToReport, IsBegunToBeDone, IsPrinted, version_text};
 ghost use Rattle.commands.specs.Words.{IsAskedBy, asks_in};
 
 use crate::layout::{CAPACITY, layout};
 use crate::reading::{Wish, asks};
+use crate::request::{Request, parse};
 use crate::version::VERSION;
-use crate::words::{Request, parse};
 use clap::Error;
 use clap::error::ErrorKind;
 use lanes::Opener;

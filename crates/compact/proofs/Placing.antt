@@ -7,32 +7,32 @@ use Rattle.cutting.specs.Webs.{Web, IsSound}
 use Rattle.cutting.specs.Paths.{turning_places}
 use Rattle.ortho_rep.specs.declared.points.Point.{Point}
 use Rattle.ortho_rep.specs.Points.{point_lists}
-use Rattle.dissect.specs.Boxes.{Parts, HasEdge, web}
+use Rattle.dissect.specs.Boxes.{BoxesModel, HasEdge, web}
 use Rattle.compact.specs.Ordered.{tail, point_at, IsOrdered, IsAlong, AreCorners, IsAxisFault, IsCompactFault, AreLaidOut, AreWithin}
 use Rattle.std.specs.List.{range_with_len}
 use Rattle.compact.specs.declared.fault.CompactFault.{CompactFault}
 use Rattle.compact.specs.declared.fault.CompactFault.TheVariants.{Wide, Memory}
 
--- a dart and its twin change places of head and tail
-pub turned_round : (w : Web) (a : ℕ) → IsSound w → a < w.darts → tail w (w.twin a) ≡ w.head a
-turned_round w a sound a_in = ap w.head (sound.linked.twin_back a a_in)
+-- a dart and its reverse change places of head and tail
+pub turned_round : (w : Web) (a : ℕ) → IsSound w → a < w.darts → tail w (w.reverse_dart a) ≡ w.head a
+turned_round w a sound a_in = ap w.head (sound.linked.reverse_dart_back a a_in)
 
 -- numbers that keep both axes are in order
 pub in_order : (w : Web) (x y : ℕ → ℕ) → IsSound w → IsAlong w 0 x → IsAlong w 1 y → IsOrdered w x y
 in_order w x y sound along_x along_y = record {
   east = λ a a_in way.
-      let back : w.direction (w.twin a) ≡ 2 = sound.straight a a_in ∙ ap (λ (d : ℕ). (d + 2) % 4) way in
-      let twin_in = sound.linked.twin_in a a_in in
+      let back : w.direction (w.reverse_dart a) ≡ 2 = sound.straight a a_in ∙ ap (λ (d : ℕ). (d + 2) % 4) way in
+      let reverse_dart_in = sound.linked.reverse_dart_in a a_in in
       let there : y (tail w a) ≤ y (w.head a) = along_y.across a a_in (λ e. omega (arith, e, way)) (λ e. omega (arith, e, way)) in
-      let home : y (tail w (w.twin a)) ≤ y (w.head (w.twin a)) = along_y.across (w.twin a) twin_in (λ e. omega (arith, e, back)) (λ e. omega (arith, e, back)) in
-      let same : y (tail w (w.twin a)) ≡ y (w.head a) = ap y (turned_round w a sound a_in) in
+      let home : y (tail w (w.reverse_dart a)) ≤ y (w.head (w.reverse_dart a)) = along_y.across (w.reverse_dart a) reverse_dart_in (λ e. omega (arith, e, back)) (λ e. omega (arith, e, back)) in
+      let same : y (tail w (w.reverse_dart a)) ≡ y (w.head a) = ap y (turned_round w a sound a_in) in
       (omega (arith, along_x.forward a a_in way), omega (arith, there, home, same));
   north = λ a a_in way.
-      let back : w.direction (w.twin a) ≡ 3 = sound.straight a a_in ∙ ap (λ (d : ℕ). (d + 2) % 4) way in
-      let twin_in = sound.linked.twin_in a a_in in
+      let back : w.direction (w.reverse_dart a) ≡ 3 = sound.straight a a_in ∙ ap (λ (d : ℕ). (d + 2) % 4) way in
+      let reverse_dart_in = sound.linked.reverse_dart_in a a_in in
       let there : x (tail w a) ≤ x (w.head a) = along_x.across a a_in (λ e. omega (arith, e, way)) (λ e. omega (arith, e, way)) in
-      let home : x (tail w (w.twin a)) ≤ x (w.head (w.twin a)) = along_x.across (w.twin a) twin_in (λ e. omega (arith, e, back)) (λ e. omega (arith, e, back)) in
-      let same : x (tail w (w.twin a)) ≡ x (w.head a) = ap x (turned_round w a sound a_in) in
+      let home : x (tail w (w.reverse_dart a)) ≤ x (w.head (w.reverse_dart a)) = along_x.across (w.reverse_dart a) reverse_dart_in (λ e. omega (arith, e, back)) (λ e. omega (arith, e, back)) in
+      let same : x (tail w (w.reverse_dart a)) ≡ x (w.head a) = ap x (turned_round w a sound a_in) in
       (omega (arith, along_y.forward a a_in way), omega (arith, there, home, same));
 }
 
@@ -44,8 +44,8 @@ keep_x w x y sound ordered = record {
     | inl north ↦ omega (arith, (ordered.north a a_in north).1)
     | inr other ↦
         let south : w.direction a ≡ 3 = omega (arith, sound.meeting.quarter a a_in, one, two, other) in
-        let back : w.direction (w.twin a) ≡ 1 = sound.straight a a_in ∙ ap (λ (d : ℕ). (d + 2) % 4) south in
-        let same : x (tail w (w.twin a)) ≡ x (w.head (w.twin a)) = (ordered.north (w.twin a) (sound.linked.twin_in a a_in) back).1 in
+        let back : w.direction (w.reverse_dart a) ≡ 1 = sound.straight a a_in ∙ ap (λ (d : ℕ). (d + 2) % 4) south in
+        let same : x (tail w (w.reverse_dart a)) ≡ x (w.head (w.reverse_dart a)) = (ordered.north (w.reverse_dart a) (sound.linked.reverse_dart_in a a_in) back).1 in
         omega (arith, same, ap x (turned_round w a sound a_in))
   ];
 }
@@ -58,14 +58,14 @@ keep_y w x y sound ordered = record {
     | inl east ↦ omega (arith, (ordered.east a a_in east).1)
     | inr other ↦
         let west : w.direction a ≡ 2 = omega (arith, sound.meeting.quarter a a_in, one, two, other) in
-        let back : w.direction (w.twin a) ≡ 0 = sound.straight a a_in ∙ ap (λ (d : ℕ). (d + 2) % 4) west in
-        let same : y (tail w (w.twin a)) ≡ y (w.head (w.twin a)) = (ordered.east (w.twin a) (sound.linked.twin_in a a_in) back).1 in
+        let back : w.direction (w.reverse_dart a) ≡ 0 = sound.straight a a_in ∙ ap (λ (d : ℕ). (d + 2) % 4) west in
+        let same : y (tail w (w.reverse_dart a)) ≡ y (w.head (w.reverse_dart a)) = (ordered.east (w.reverse_dart a) (sound.linked.reverse_dart_in a a_in) back).1 in
         omega (arith, same, ap y (turned_round w a sound a_in))
   ];
 }
 
 -- the corners of one more edge
-pub corners_more : (b : Parts) (x y : ℕ → ℕ) (n : ℕ) (lists new : List (Vec Point Global)) (v : Vec Point Global) → length lists ≡ n →
+pub corners_more : (b : BoxesModel) (x y : ℕ → ℕ) (n : ℕ) (lists new : List (Vec Point Global)) (v : Vec Point Global) → length lists ≡ n →
     new ≡ lists ++ (v ∷ []) → AreCorners b x y n lists →
     ((edge : HasEdge b n) → v.items ≡ map (point_at x y) (turning_places (web b) edge.first edge.rest)) → AreCorners b x y (n + 1) new
 corners_more b x y n lists new v size pushed corners one e e_in edge =
@@ -80,24 +80,24 @@ corners_more b x y n lists new v size pushed corners one e e_in edge =
     ])
 
 -- no corners yet
-pub no_corners : (b : Parts) (x y : ℕ → ℕ) (lists : List (Vec Point Global)) → AreCorners b x y 0 lists
+pub no_corners : (b : BoxesModel) (x y : ℕ → ℕ) (lists : List (Vec Point Global)) → AreCorners b x y 0 lists
 no_corners b x y lists e e_in edge = absurd (omega (arith, e_in))
 
 -- what a fault of one axis says of both
-pub x_fault : (b : Parts) (fault : CompactFault) → IsAxisFault b 0 fault → IsCompactFault b fault
+pub x_fault : (b : BoxesModel) (fault : CompactFault) → IsAxisFault b 0 fault → IsCompactFault b fault
 x_fault b Wide wide = λ x y ordered.
     let (v, v_in, far) = wide.1 x (keep_x (web b) x y wide.0 ordered) in
     (v, v_in, inl far)
 x_fault b Memory fault = tt
 
-pub y_fault : (b : Parts) (fault : CompactFault) → IsAxisFault b 1 fault → IsCompactFault b fault
+pub y_fault : (b : BoxesModel) (fault : CompactFault) → IsAxisFault b 1 fault → IsCompactFault b fault
 y_fault b Wide wide = λ x y ordered.
     let (v, v_in, far) = wide.1 y (keep_y (web b) x y wide.0 ordered) in
     (v, v_in, inr far)
 y_fault b Memory fault = tt
 
 -- points that are taken from numbers in order
-pub laid_out : (b : Parts) (x y x1 y1 x2 y2 : List ℕ) (vertices : List Point) (corners : List (Vec Point Global)) →
+pub laid_out : (b : BoxesModel) (x y x1 y1 x2 y2 : List ℕ) (vertices : List Point) (corners : List (Vec Point Global)) →
     x1 ≡ x → y1 ≡ y → x2 ≡ x → y2 ≡ y → IsSound (web b) → IsAlong (web b) 0 (λ v. slice_index x v) → IsAlong (web b) 1 (λ v. slice_index y v) →
     ((z : ℕ → ℕ) → IsAlong (web b) 0 z → (v : ℕ) → v < b.vertices → slice_index x v ≤ z v) →
     ((z : ℕ → ℕ) → IsAlong (web b) 1 z → (v : ℕ) → v < b.vertices → slice_index y v ≤ z v) →

@@ -3,6 +3,7 @@ use Rattle.std.proofs.Common.{◌≡◌, ℕ, ◌+◌, ◌-◌, ◌<◌, ◌≤�
 use Rattle.std.proofs.lemmas.Bool.{cases_eq}
 use Rattle.std.proofs.lemmas.List.{length-set, take_all}
 use Rattle.std.proofs.lemmas.List.Elements.{All-more}
+use Rattle.ortho_rep.specs.declared.points.TheConstants.{MAX_COORDINATE}
 use Rattle.sums.specs.Sums.{sum_below}
 use Rattle.sums.proofs.Sums.{sum_below-lt}
 use Rattle.compact.specs.declared.constraints.Constraint.{Constraint}
@@ -42,11 +43,11 @@ low_raised constraints i d old new n size i_in to_in from_in low made y keeps v 
     ]
 
 -- and the slack falls
-pub slack_falls : (old new : List ℕ) (to need : ℕ) → to < length old → new ≡ set old to need → at old to < need → need ≤ 65535 → slack new < slack old
+pub slack_falls : (old new : List ℕ) (to need : ℕ) → to < length old → new ≡ set old to need → at old to < need → need ≤ MAX_COORDINATE → slack new < slack old
 slack_falls old new to need to_in made less most =
     let size : length new ≡ length old = ap length made ∙ length-set old to need in
-    subst (λ (n : ℕ). sum_below n (λ v. 65535 - at new v) < sum_below (length old) (λ v. 65535 - at old v)) (sym size)
-    (sum_below-lt (length old) to (λ v. 65535 - at new v) (λ v. 65535 - at old v) to_in
+    subst (λ (n : ℕ). sum_below n (λ v. MAX_COORDINATE - at new v) < sum_below (length old) (λ v. MAX_COORDINATE - at old v)) (sym size)
+    (sum_below-lt (length old) to (λ v. MAX_COORDINATE - at new v) (λ v. MAX_COORDINATE - at old v) to_in
     (λ v v_in. elim (cases_eq to v) [
       | inl same ↦
           let here : at new v ≡ need = ap (λ xs. at xs v) made ∙ subst (λ (k : ℕ). at (set old to need) k ≡ need) same (get_or-set_same old to need 0 to_in) in
@@ -60,7 +61,7 @@ slack_falls old new to need to_in made less most =
 
 -- where a number would pass 65,535, all numbers that keep the constraints do
 pub is_wide : (constraints : List Constraint) (i : ℕ) (d : Constraint) (now : List ℕ) (n : ℕ) → i < length constraints → (get_or constraints i d).to < n → (get_or constraints i d).from < n →
-    IsLow constraints n (at now) → 65535 < at now (get_or constraints i d).from + (get_or constraints i d).least → AreWide constraints n
+    IsLow constraints n (at now) → MAX_COORDINATE < at now (get_or constraints i d).from + (get_or constraints i d).least → AreWide constraints n
 is_wide constraints i d now n i_in to_in from_in low wide y keeps =
     let constraint = get_or constraints i d in
     let enough : y constraint.from + constraint.least ≤ y constraint.to = keeps i d i_in in

@@ -1,5 +1,6 @@
 -- Constraints on numbers: the lengths of longest paths are the least numbers that keep them.
 use Rattle.std.specs.Prelude.{◌≡◌, ℕ, ◌+◌, ◌-◌, ◌<◌, ◌≤◌, List, All, length, slice_index, slice_set}
+use Rattle.ortho_rep.specs.declared.points.TheConstants.{MAX_COORDINATE}
 use Rattle.sums.specs.Sums.{sum_below}
 use Rattle.compact.specs.declared.constraints.Constraint.{Constraint}
 use Rattle.compact.specs.declared.constraints.Relaxation.{Relaxation}
@@ -19,19 +20,19 @@ IsLow constraints n x = (y : ℕ → ℕ) → Keeps constraints y → (v : ℕ) 
 
 -- all numbers that keep the constraints pass 65,535 somewhere
 abbrev pub AreWide : List Constraint → ℕ → Type 0
-AreWide constraints n = (y : ℕ → ℕ) → Keeps constraints y → (v : ℕ) × (v < n) × (65535 < y v)
+AreWide constraints n = (y : ℕ → ℕ) → Keeps constraints y → (v : ℕ) × (v < n) × (MAX_COORDINATE < y v)
 
 -- how far all numbers are below 65,535
 abbrev pub slack : List ℕ → ℕ
-slack xs = sum_below (length xs) (λ v. 65535 - slice_index xs v)
+slack xs = sum_below (length xs) (λ v. MAX_COORDINATE - slice_index xs v)
 
 -- what the relaxation of one constraint has found and done
 abbrev pub IsRelaxed : Constraint → List ℕ → List ℕ → Relaxation → Type 0
 IsRelaxed constraint old new Kept = (new ≡ old) × (slice_index old constraint.from + constraint.least ≤ slice_index old constraint.to)
 IsRelaxed constraint old new Raised =
     let need = slice_index old constraint.from + constraint.least in
-    (new ≡ slice_set old constraint.to need) × (slice_index old constraint.to < need) × (need ≤ 65535)
-IsRelaxed constraint old new Wide = (new ≡ old) × (65535 < slice_index old constraint.from + constraint.least)
+    (new ≡ slice_set old constraint.to need) × (slice_index old constraint.to < need) × (need ≤ MAX_COORDINATE)
+IsRelaxed constraint old new Wide = (new ≡ old) × (MAX_COORDINATE < slice_index old constraint.from + constraint.least)
 
 -- what one relaxation of all constraints has found and done
 abbrev pub AreRelaxed : List Constraint → List ℕ → List ℕ → Relaxation → Type 0

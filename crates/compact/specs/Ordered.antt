@@ -1,11 +1,12 @@
 -- Numbers in the order of the darts, along each axis, and what the faults say.
 use Rattle.std.specs.Prelude.{◌≡◌, ◌≢◌, ℕ, ◌+◌, ◌<◌, ◌≤◌, List, [], Vec, map, slice_index_or}
 use Rattle.std.specs.declared.alloc.Global.{Global}
+use Rattle.ortho_rep.specs.declared.points.TheConstants.{MAX_COORDINATE}
 use Rattle.cutting.specs.Webs.{Web, IsSound}
 use Rattle.cutting.specs.Paths.{turning_places}
 use Rattle.ortho_rep.specs.declared.points.Point.{Point}
 use Rattle.ortho_rep.specs.Points.{point_lists}
-use Rattle.dissect.specs.Boxes.{Parts, HasEdge, web}
+use Rattle.dissect.specs.Boxes.{BoxesModel, HasEdge, web}
 pub use Rattle.dissect.specs.Ordered.{tail, IsOrdered, AreWithin, point_at, AreTaken, AreLaidOut, HasNoPlace}
 use Rattle.compact.specs.declared.axis.Axis.{Axis}
 use Rattle.compact.specs.declared.axis.Axis.TheVariants.{X, Y}
@@ -15,7 +16,7 @@ use Rattle.compact.specs.declared.fault.CompactFault.{CompactFault}
 use Rattle.compact.specs.declared.fault.CompactFault.TheVariants.{Wide, Memory}
 
 -- what a fault says
-abbrev pub IsCompactFault : Parts → CompactFault → Type 0
+abbrev pub IsCompactFault : BoxesModel → CompactFault → Type 0
 IsCompactFault b Wide = HasNoPlace b
 IsCompactFault b Memory = Unit {0}
 
@@ -43,11 +44,11 @@ growth X = 0
 growth Y = 1
 
 -- what a fault says of one axis
-abbrev pub IsAxisFault : Parts → ℕ → CompactFault → Type 0
-IsAxisFault b k Wide = IsSound (web b) × ((x : ℕ → ℕ) → IsAlong (web b) k x → (v : ℕ) × (v < b.vertices) × (65535 < x v))
+abbrev pub IsAxisFault : BoxesModel → ℕ → CompactFault → Type 0
+IsAxisFault b k Wide = IsSound (web b) × ((x : ℕ → ℕ) → IsAlong (web b) k x → (v : ℕ) × (v < b.vertices) × (MAX_COORDINATE < x v))
 IsAxisFault b k Memory = Unit {0}
 
 -- the lists have the corners of the first edges, in order
-abbrev pub AreCorners : Parts → (ℕ → ℕ) → (ℕ → ℕ) → ℕ → List (Vec Point Global) → Type 0
+abbrev pub AreCorners : BoxesModel → (ℕ → ℕ) → (ℕ → ℕ) → ℕ → List (Vec Point Global) → Type 0
 AreCorners b x y n lists = (e : ℕ) → e < n → (edge : HasEdge b e)
     → slice_index_or (point_lists lists) e [] ≡ map (point_at x y) (turning_places (web b) edge.first edge.rest)

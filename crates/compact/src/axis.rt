@@ -1,6 +1,7 @@
 //! The constraints of a dissection along an axis, and the least numbers of its vertices.
 
 ghost use Rattle.std.specs.Prelude.{◌≡◌, ◌≢◌, ◌+◌, ◌*◌, length, slice_index, Some, None, IsTrue, IfOk, IfErr, ℕ, ◌<◌, ◌≤◌};
+ghost use Rattle.ortho_rep.specs.declared.points.TheConstants.{MAX_COORDINATE};
 ghost use Rattle.compact.specs.Ordered.{IsAlong, AreAlong, AreWithin, IsAcross, IsAxisFault, growth};
 ghost use Rattle.compact.specs.Steps.{AreSteps, AreUnder};
 ghost use Rattle.cutting.specs.Webs.{IsSound};
@@ -60,7 +61,7 @@ fn constraints_along(
 fn are_along(boxes: &Boxes, axis: Axis, numbers: &[u16]) -> bool
     requires count { length numbers.now ≡ boxes.now.vertices }
     ensures along { IsTrue result → IsAlong (web boxes.now) (growth axis) (λ v. slice_index numbers.now v) }
-    ensures small { (v : ℕ) → v < length numbers.now → slice_index numbers.now v ≤ 65535 }
+    ensures small { (v : ℕ) → v < length numbers.now → slice_index numbers.now v ≤ MAX_COORDINATE }
 {
     for dart in 0..boxes.darts() {
         if let Some(least) = least_difference(axis, boxes.direction(dart)) {

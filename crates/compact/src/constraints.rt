@@ -1,7 +1,10 @@
 //! Constraints on numbers, and the least numbers that keep them.
 
 ghost use Rattle.std.specs.Prelude.{◌≡◌, ℕ, ◌+◌, ◌<◌, ◌≤◌, ◌↔◌, IsTrue, IsFalse, length, replicate, slice_index, All};
+ghost use Rattle.ortho_rep.specs.declared.points.TheConstants.{MAX_COORDINATE};
 ghost use Rattle.compact.specs.Constraints.{Keeps, AreInside, IsLow, AreWide, IsRelaxed, AreRelaxed};
+
+use ortho_rep::MAX_COORDINATE;
 
 /// The number of `to` is to be greater than that of `from`, by `least` or more.
 #[derive(Clone, Copy, Debug)]
@@ -31,7 +34,7 @@ fn relax(constraint: Constraint, numbers: &mut [u16]) -> Relaxation
     ensures length { length numbers.new ≡ length numbers.old }
 {
     let need = u32::from(numbers[constraint.from as usize]) + u32::from(constraint.least);
-    if need > 65_535 {
+    if need > MAX_COORDINATE {
         return Relaxation::Wide;
     }
     if u32::from(numbers[constraint.to as usize]) >= need {
@@ -70,7 +73,7 @@ pub fn settle(constraints: &[Constraint], numbers: &mut [u16]) -> bool
     requires low { IsLow constraints.now (length numbers.old) (λ v. slice_index numbers.old v) }
     ensures keeps { IsTrue result → Keeps constraints.now (λ v. slice_index numbers.new v) }
     ensures least { IsTrue result → IsLow constraints.now (length numbers.old) (λ v. slice_index numbers.new v) }
-    ensures small { (v : ℕ) → v < length numbers.new → slice_index numbers.new v ≤ 65535 }
+    ensures small { (v : ℕ) → v < length numbers.new → slice_index numbers.new v ≤ MAX_COORDINATE }
     ensures wide { IsFalse result → AreWide constraints.now (length numbers.old) }
     ensures length { length numbers.new ≡ length numbers.old }
 {

@@ -4,6 +4,7 @@ ghost use Rattle.std.specs.Prelude.{◌≡◌, ◌*◌, ◌<◌, length, IfSome}
 ghost use Rattle.compact.specs.Steps.{step, StayUnder, StayUnderBoth, StayUnderAll};
 
 use crate::steps::NO_VERTEX;
+use ortho_rep::MAX_COORDINATE;
 use std::alloc::{AllocError, Global};
 
 /// The steps from each vertex along an axis and across it, by their directions.
@@ -146,7 +147,7 @@ fn raise(around: &[u32], way: u8, least: u8, from: u32, numbers: &mut [u16]) -> 
     if to as usize >= numbers.len() {
         return None;
     }
-    let need = (u32::from(numbers[from as usize]) + u32::from(least)).min(65_535) as u16;
+    let need = (u32::from(numbers[from as usize]) + u32::from(least)).min(MAX_COORDINATE) as u16;
     if numbers[to as usize] < need {
         numbers[to as usize] = need;
     }

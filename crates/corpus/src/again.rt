@@ -2,7 +2,7 @@
 //! answer is printed, so that runs can be compared.
 
 ghost use Rattle.std.specs.Prelude.{◌≡◌, ◌*◌, length};
-ghost use Rattle.faces.specs.Map.{darts, vertices};
+ghost use Rattle.faces.specs.Planes.{darts, vertices};
 ghost use Rattle.ortho_rep.specs.Representation.{IsShape};
 
 use crate::stages::{read_file, test_shape};

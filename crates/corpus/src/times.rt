@@ -3,7 +3,7 @@
 ghost use Rattle.std.specs.Prelude.{◌≡◌, ◌*◌, IfOk, length};
 ghost use Rattle.compact.specs.Ordered.{AreLaidOut};
 ghost use Rattle.dissect.specs.Boxed.{IsBoxed};
-ghost use Rattle.faces.specs.Map.{darts, vertices};
+ghost use Rattle.faces.specs.Planes.{darts, vertices};
 ghost use Rattle.ortho_rep.specs.Representation.{IsShape};
 
 use crate::stages::{Found, least, records_of, trace};

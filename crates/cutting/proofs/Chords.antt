@@ -40,17 +40,17 @@ chord_linked w d f way new linked fits s =
           ∙ linked.prev_back a l)
           (cc) (cc)
           a (omega (arith, s.darts));
-      twin_in = λ a l. by_age n (λ a. new.twin a < new.darts)
-          (λ a l. omega (arith, s.twin_old a l, linked.twin_in a l, s.darts))
-          (omega (arith, s.twin_there, s.darts)) (omega (arith, s.twin_back, s.darts))
+      reverse_dart_in = λ a l. by_age n (λ a. new.reverse_dart a < new.darts)
+          (λ a l. omega (arith, s.reverse_dart_old a l, linked.reverse_dart_in a l, s.darts))
+          (omega (arith, s.reverse_dart_there, s.darts)) (omega (arith, s.reverse_dart_back, s.darts))
           a (omega (arith, s.darts));
-      twin_back = λ a l. by_age n (λ a. new.twin (new.twin a) ≡ a)
-          (λ a l. ap new.twin (s.twin_old a l) ∙ s.twin_old (w.twin a) (linked.twin_in a l) ∙ linked.twin_back a l)
+      reverse_dart_back = λ a l. by_age n (λ a. new.reverse_dart (new.reverse_dart a) ≡ a)
+          (λ a l. ap new.reverse_dart (s.reverse_dart_old a l) ∙ s.reverse_dart_old (w.reverse_dart a) (linked.reverse_dart_in a l) ∙ linked.reverse_dart_back a l)
           (cc) (cc)
           a (omega (arith, s.darts));
-      twin_apart = λ a l. by_age n (λ a. new.twin a ≢ a)
-          (λ a l h. linked.twin_apart a l (sym (s.twin_old a l) ∙ h))
-          (λ h. omega (arith, s.twin_there, h)) (λ h. omega (arith, s.twin_back, h))
+      reverse_dart_apart = λ a l. by_age n (λ a. new.reverse_dart a ≢ a)
+          (λ a l h. linked.reverse_dart_apart a l (sym (s.reverse_dart_old a l) ∙ h))
+          (λ h. omega (arith, s.reverse_dart_there, h)) (λ h. omega (arith, s.reverse_dart_back, h))
           a (omega (arith, s.darts));
     }
 
@@ -131,61 +131,61 @@ chord_meeting w d f way new linked meeting fits s =
     let n : ℕ = w.darts in
     let d_in : d < w.darts = fits.d_in in
     let f_in : f < w.darts = fits.f_in in
-    let inside : (a : ℕ) → a < w.darts → w.twin (w.next a) < w.darts =
-    λ a l. linked.twin_in (w.next a) (linked.next_in a l) in
-    let arrives_d : new.twin (new.next d) ≡ n + 1 = ap new.twin s.next_d ∙ s.twin_there in
-    let arrives_f : new.twin (new.next f) ≡ n = ap new.twin s.next_f ∙ s.twin_back in
-    let arrives : (a : ℕ) → a < n → a ≢ d → a ≢ f → new.twin (new.next a) ≡ w.twin (w.next a) =
-    λ a l nd nf. ap new.twin (s.next_other a l nd nf) ∙ s.twin_old (w.next a) (linked.next_in a l) in
-    let arrives_there : new.twin (new.next n) ≡ w.twin (w.next f) = ap new.twin s.next_there ∙ s.twin_old (w.next f) (linked.next_in f f_in) in
-    let arrives_back : new.twin (new.next (n + 1)) ≡ w.twin (w.next d) = ap new.twin s.next_back ∙ s.twin_old (w.next d) (linked.next_in d d_in) in
+    let inside : (a : ℕ) → a < w.darts → w.reverse_dart (w.next a) < w.darts =
+    λ a l. linked.reverse_dart_in (w.next a) (linked.next_in a l) in
+    let arrives_d : new.reverse_dart (new.next d) ≡ n + 1 = ap new.reverse_dart s.next_d ∙ s.reverse_dart_there in
+    let arrives_f : new.reverse_dart (new.next f) ≡ n = ap new.reverse_dart s.next_f ∙ s.reverse_dart_back in
+    let arrives : (a : ℕ) → a < n → a ≢ d → a ≢ f → new.reverse_dart (new.next a) ≡ w.reverse_dart (w.next a) =
+    λ a l nd nf. ap new.reverse_dart (s.next_other a l nd nf) ∙ s.reverse_dart_old (w.next a) (linked.next_in a l) in
+    let arrives_there : new.reverse_dart (new.next n) ≡ w.reverse_dart (w.next f) = ap new.reverse_dart s.next_there ∙ s.reverse_dart_old (w.next f) (linked.next_in f f_in) in
+    let arrives_back : new.reverse_dart (new.next (n + 1)) ≡ w.reverse_dart (w.next d) = ap new.reverse_dart s.next_back ∙ s.reverse_dart_old (w.next d) (linked.next_in d d_in) in
     record {
       head_in = λ a l. by_age n (λ a. new.head a < new.vertices)
           (λ a l. omega (arith, s.head_old a l, meeting.head_in a l, s.vertices))
           (omega (arith, s.head_there, meeting.head_in f f_in, s.vertices)) (omega (arith, s.head_back, meeting.head_in d d_in, s.vertices))
           a (omega (arith, s.darts));
-      meets = λ a l. by_place n d f (λ a. new.head (new.twin (new.next a)) ≡ new.head a)
+      meets = λ a l. by_place n d f (λ a. new.head (new.reverse_dart (new.next a)) ≡ new.head a)
           (ap new.head arrives_d ∙ s.head_back ∙ sym (s.head_old d d_in))
           (ap new.head arrives_f ∙ s.head_there ∙ sym (s.head_old f f_in))
-          (λ a l nd nf. ap new.head (arrives a l nd nf) ∙ s.head_old (w.twin (w.next a)) (inside a l) ∙ meeting.meets a l ∙ sym (s.head_old a l))
-          (ap new.head arrives_there ∙ s.head_old (w.twin (w.next f)) (inside f f_in) ∙ meeting.meets f f_in ∙ sym s.head_there)
-          (ap new.head arrives_back ∙ s.head_old (w.twin (w.next d)) (inside d d_in) ∙ meeting.meets d d_in ∙ sym s.head_back)
+          (λ a l nd nf. ap new.head (arrives a l nd nf) ∙ s.head_old (w.reverse_dart (w.next a)) (inside a l) ∙ meeting.meets a l ∙ sym (s.head_old a l))
+          (ap new.head arrives_there ∙ s.head_old (w.reverse_dart (w.next f)) (inside f f_in) ∙ meeting.meets f f_in ∙ sym s.head_there)
+          (ap new.head arrives_back ∙ s.head_old (w.reverse_dart (w.next d)) (inside d d_in) ∙ meeting.meets d d_in ∙ sym s.head_back)
           a (omega (arith, s.darts));
       quarter = λ a l. by_age n (λ a. new.direction a < 4)
           (λ a l. omega (arith, s.direction_old a l, meeting.quarter a l))
           (omega (arith, s.direction_there, fits.way_quarter)) (omega (arith, s.direction_back))
           a (omega (arith, s.darts));
-      turns = λ a l. by_place n d f (λ a. (new.direction (new.twin (new.next a)) + new.angle a) % 4 ≡ new.direction a)
+      turns = λ a l. by_place n d f (λ a. (new.direction (new.reverse_dart (new.next a)) + new.angle a) % 4 ≡ new.direction a)
           (omega (arith, ap new.direction arrives_d ∙ s.direction_back, s.angle_d, s.direction_old d d_in, fits.from_d))
           (omega (arith, ap new.direction arrives_f ∙ s.direction_there, s.angle_f, s.direction_old f f_in, fits.to_f, meeting.quarter f f_in))
           (λ a l nd nf. omega (
             arith,
-            ap new.direction (arrives a l nd nf) ∙ s.direction_old (w.twin (w.next a)) (inside a l),
+            ap new.direction (arrives a l nd nf) ∙ s.direction_old (w.reverse_dart (w.next a)) (inside a l),
             s.angle_other a l nd nf,
             meeting.turns a l,
             s.direction_old a l,
           ))
           (omega (
             arith,
-            ap new.direction arrives_there ∙ s.direction_old (w.twin (w.next f)) (inside f f_in),
+            ap new.direction arrives_there ∙ s.direction_old (w.reverse_dart (w.next f)) (inside f f_in),
             s.angle_there,
             s.direction_there,
             meeting.turns f f_in,
             fits.to_f,
             fits.way_quarter,
             meeting.quarter f f_in,
-            meeting.quarter (w.twin (w.next f)) (inside f f_in),
+            meeting.quarter (w.reverse_dart (w.next f)) (inside f f_in),
           ))
           (omega (
             arith,
-            ap new.direction arrives_back ∙ s.direction_old (w.twin (w.next d)) (inside d d_in),
+            ap new.direction arrives_back ∙ s.direction_old (w.reverse_dart (w.next d)) (inside d d_in),
             s.angle_back,
             s.direction_back,
             meeting.turns d d_in,
             fits.from_d,
             fits.way_quarter,
             meeting.quarter d d_in,
-            meeting.quarter (w.twin (w.next d)) (inside d d_in),
+            meeting.quarter (w.reverse_dart (w.next d)) (inside d d_in),
           ))
           a (omega (arith, s.darts));
       some = λ a l. by_place n d f (λ a. 1 ≤ new.angle a)
@@ -204,13 +204,13 @@ chord_meeting w d f way new linked meeting fits s =
 pub chord_straight : (w : Web) (d f way : ℕ) (new : Web) → IsLinked w → IsStraight w → Fits w d f way →
     IsChord w d f way new → IsStraight new
 chord_straight w d f way new linked straight fits s a l =
-    by_age w.darts (λ a. new.direction (new.twin a) ≡ (new.direction a + 2) % 4)
+    by_age w.darts (λ a. new.direction (new.reverse_dart a) ≡ (new.direction a + 2) % 4)
     (λ a l. omega (
       arith,
-      ap new.direction (s.twin_old a l) ∙ s.direction_old (w.twin a) (linked.twin_in a l),
+      ap new.direction (s.reverse_dart_old a l) ∙ s.direction_old (w.reverse_dart a) (linked.reverse_dart_in a l),
       s.direction_old a l,
       straight a l,
     ))
-    (omega (arith, ap new.direction s.twin_there ∙ s.direction_back, s.direction_there))
-    (omega (arith, ap new.direction s.twin_back ∙ s.direction_there, s.direction_back, fits.way_quarter))
+    (omega (arith, ap new.direction s.reverse_dart_there ∙ s.direction_back, s.direction_there))
+    (omega (arith, ap new.direction s.reverse_dart_back ∙ s.direction_there, s.direction_back, fits.way_quarter))
     a (omega (arith, s.darts))

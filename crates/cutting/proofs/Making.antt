@@ -4,13 +4,13 @@ use Rattle.std.proofs.Math.ListN.{length-set}
 use Rattle.cutting.specs.Webs.{Web, IsLinked, IsSplit, IsChord, Fits, no_dart}
 
 -- the web of plain lists
-abbrev pub web_from : (n v : ℕ) (next prev twin head direction angle before : List ℕ) → Web
-web_from n v next prev twin head direction angle before = record {
+abbrev pub web_from : (n v : ℕ) (next prev reverse_dart head direction angle before : List ℕ) → Web
+web_from n v next prev reverse_dart head direction angle before = record {
   darts = n;
   vertices = v;
   next = λ a. get_or next a 0;
   prev = λ a. get_or prev a 0;
-  twin = λ a. get_or twin a 0;
+  reverse_dart = λ a. get_or reverse_dart a 0;
   head = λ a. get_or head a 0;
   direction = λ a. get_or direction a 0;
   angle = λ a. get_or angle a 0;
@@ -45,8 +45,8 @@ pub split_made : (n v e t way bend : ℕ) (N N1 N2 P P1 P2 T T1 T2 H H2 D D2 A A
 split_made n v e t way bend N N1 N2 P P1 P2 T T1 T2 H H2 D D2 A A2 B B1 B2 linked e_in t_is
     long_N long_P long_T long_H long_D long_A long_B said_N1 said_P1 said_N2 said_P2 said_T1 said_T2 said_B1 said_B2 said_H said_D said_A =
     let c : ℕ = get_or P e 0 in
-    let t_in : t < n = omega (arith, linked.twin_in e e_in, t_is) in
-    let te : t ≢ e = λ h. linked.twin_apart e e_in (sym t_is ∙ h) in
+    let t_in : t < n = omega (arith, linked.reverse_dart_in e e_in, t_is) in
+    let te : t ≢ e = λ h. linked.reverse_dart_apart e e_in (sym t_is ∙ h) in
     let c_in : c < n = linked.prev_in e e_in in
     let p : ℕ = get_or P t 0 in
     let p_in : p < n = linked.prev_in t t_in in
@@ -84,14 +84,14 @@ split_made n v e t way bend N N1 N2 P P1 P2 T T1 T2 H H2 D D2 A A2 B B1 B2 linke
       prev_first = more_P.other n (λ h. omega (arith, h)) (λ h. (not_new t t_in).0 (sym h)) ∙ two_P.first;
       prev_e = more_P.other e (not_new e e_in).1 (λ h. te (sym h)) ∙ two_P.second;
       prev_second = more_P.first ∙ ap (λ (k : ℕ). get_or P k 0) t_is;
-      prev_twin = ap (λ (k : ℕ). get_or P2 k 0) (sym t_is) ∙ more_P.second;
+      prev_reverse_dart = ap (λ (k : ℕ). get_or P2 k 0) (sym t_is) ∙ more_P.second;
       prev_other = λ a l ne nt.
           more_P.other a (not_new a l).1 (λ h. nt (h ∙ t_is)) ∙ two_P.other a (not_new a l).0 ne;
-      twin_e = more_T.other e (λ h. te (sym h)) (not_new e e_in).0 ∙ two_T.first;
-      twin_second = more_T.other (n + 1) (λ h. (not_new t t_in).1 (sym h)) (λ h. omega (arith, h)) ∙ two_T.second;
-      twin_twin = ap (λ (k : ℕ). get_or T2 k 0) (sym t_is) ∙ more_T.first;
-      twin_first = more_T.second ∙ t_is;
-      twin_other = λ a l ne nt. more_T.other a (λ h. nt (h ∙ t_is)) (not_new a l).0 ∙ two_T.other a ne (not_new a l).1;
+      reverse_dart_e = more_T.other e (λ h. te (sym h)) (not_new e e_in).0 ∙ two_T.first;
+      reverse_dart_second = more_T.other (n + 1) (λ h. (not_new t t_in).1 (sym h)) (λ h. omega (arith, h)) ∙ two_T.second;
+      reverse_dart_reverse_dart = ap (λ (k : ℕ). get_or T2 k 0) (sym t_is) ∙ more_T.first;
+      reverse_dart_first = more_T.second ∙ t_is;
+      reverse_dart_other = λ a l ne nt. more_T.other a (λ h. nt (h ∙ t_is)) (not_new a l).0 ∙ two_T.other a ne (not_new a l).1;
       head_old = λ a l. two_H.other a (not_new a l).0 (not_new a l).1;
       head_first = two_H.first;
       head_second = two_H.second;
@@ -103,7 +103,7 @@ split_made n v e t way bend N N1 N2 P P1 P2 T T1 T2 H H2 D D2 A A2 B B1 B2 linke
       angle_second = two_A.second;
       before_e = more_B.other e (not_new e e_in).1 (λ h. te (sym h)) ∙ two_B.second;
       before_first = more_B.other n (λ h. omega (arith, h)) (λ h. (not_new t t_in).0 (sym h)) ∙ two_B.first;
-      before_twin = ap (λ (k : ℕ). get_or B2 k 0) (sym t_is) ∙ more_B.second;
+      before_reverse_dart = ap (λ (k : ℕ). get_or B2 k 0) (sym t_is) ∙ more_B.second;
       before_second = more_B.first ∙ b_same ∙ ap (λ (k : ℕ). get_or B k 0) t_is;
       before_other = λ a l ne nt. more_B.other a (not_new a l).1 (λ h. nt (h ∙ t_is)) ∙ two_B.other a (not_new a l).0 ne;
     }
@@ -159,9 +159,9 @@ chord_made n v d f way N N1 N2 N3 N4 P P1 P2 P3 P4 T T1 H H1 H2 D D2 A A4 B B2 n
       prev_back = more_P.first;
       prev_after_d = ap (λ (k : ℕ). get_or P4 k 0) (sym nd_is) ∙ more_P.second;
       prev_other = λ a l other_f other_d. more_P.other a (not_new a l).1 (λ h. other_d (h ∙ nd_is)) ∙ two_P.other a (not_new a l).0 (λ h. other_f (h ∙ nf_is));
-      twin_there = two_T.first;
-      twin_back = two_T.second;
-      twin_old = λ a l. two_T.other a (not_new a l).0 (not_new a l).1;
+      reverse_dart_there = two_T.first;
+      reverse_dart_back = two_T.second;
+      reverse_dart_old = λ a l. two_T.other a (not_new a l).0 (not_new a l).1;
       head_old = λ a l. two_H.other a (not_new a l).0 (not_new a l).1;
       head_there = two_H.first;
       head_back = two_H.second;

@@ -22,7 +22,7 @@ split_reaches w e way new s linked e_in reaches =
     λ a l. ((reaches a l).0, split_runs w e way a (reaches a l).0 new s linked e_in l (reaches a l).1) in
     λ a l. by_age w.darts (λ a. (c : ℕ) × Runs new a c) old
     (reach_step new w.darts e s.next_first (old e e_in))
-    (reach_step new (w.darts + 1) (w.twin e) s.next_second (old (w.twin e) (linked.twin_in e e_in)))
+    (reach_step new (w.darts + 1) (w.reverse_dart e) s.next_second (old (w.reverse_dart e) (linked.reverse_dart_in e e_in)))
     a (omega (arith, s.darts, l))
 
 -- d and f come to a corner at once

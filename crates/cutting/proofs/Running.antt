@@ -88,12 +88,12 @@ split_step w e way new s linked e_in a l =
         s.next_first ∙ sym (ap w.next at ∙ linked.prev_back e e_in),
       )
       | inr not_c ↦
-          elim (cases_eq a (w.prev (w.twin e))) [
+          elim (cases_eq a (w.prev (w.reverse_dart e))) [
             | inl at ↦ inr (
               w.darts + 1,
               ap new.next at ∙ s.next_back,
               s.angle_second,
-              s.next_second ∙ sym (ap w.next at ∙ linked.prev_back (w.twin e) (linked.twin_in e e_in)),
+              s.next_second ∙ sym (ap w.next at ∙ linked.prev_back (w.reverse_dart e) (linked.reverse_dart_in e e_in)),
             )
             | inr not_p ↦ inl (s.next_other a l not_c not_p)
           ]

@@ -32,16 +32,16 @@ by_place n c p P at_c at_p other first second a l =
 pub split_linked : (w : Web) (e way bend : ℕ) (new : Web) → IsLinked w → e < w.darts →
     IsSplit w e way bend new → IsLinked new
 split_linked w e way bend new linked e_in s =
-    let t : ℕ = w.twin e in
-    let t_in : t < w.darts = linked.twin_in e e_in in
+    let t : ℕ = w.reverse_dart e in
+    let t_in : t < w.darts = linked.reverse_dart_in e e_in in
     let n : ℕ = w.darts in
     let P_next : ℕ → Type 0 = λ a. new.next a < new.darts in
     let P_prev : ℕ → Type 0 = λ a. new.prev a < new.darts in
-    let P_twin : ℕ → Type 0 = λ a. new.twin a < new.darts in
+    let P_reverse_dart : ℕ → Type 0 = λ a. new.reverse_dart a < new.darts in
     let P_next_back : ℕ → Type 0 = λ a. new.prev (new.next a) ≡ a in
     let P_prev_back : ℕ → Type 0 = λ a. new.next (new.prev a) ≡ a in
-    let P_twin_back : ℕ → Type 0 = λ a. new.twin (new.twin a) ≡ a in
-    let P_apart : ℕ → Type 0 = λ a. new.twin a ≢ a in
+    let P_reverse_dart_back : ℕ → Type 0 = λ a. new.reverse_dart (new.reverse_dart a) ≡ a in
+    let P_apart : ℕ → Type 0 = λ a. new.reverse_dart a ≢ a in
     record {
       next_in = λ a l. by_place n (w.prev e) (w.prev t) P_next
           (omega (arith, s.next_before, s.darts)) (omega (arith, s.next_back, s.darts))
@@ -49,7 +49,7 @@ split_linked w e way bend new linked e_in s =
           (omega (arith, s.next_first, s.darts)) (omega (arith, s.next_second, s.darts, t_in))
           a (omega (arith, s.darts));
       prev_in = λ a l. by_place n e t P_prev
-          (omega (arith, s.prev_e, s.darts)) (omega (arith, s.prev_twin, s.darts))
+          (omega (arith, s.prev_e, s.darts)) (omega (arith, s.prev_reverse_dart, s.darts))
           (λ a l nc np. omega (arith, s.prev_other a l nc np, linked.prev_in a l, s.darts))
           (omega (arith, s.prev_first, s.darts, linked.prev_in e e_in))
           (omega (arith, s.prev_second, s.darts, linked.prev_in t t_in))
@@ -72,24 +72,24 @@ split_linked w e way bend new linked e_in s =
           ∙ linked.prev_back a l)
           (cc) (cc)
           a (omega (arith, s.darts));
-      twin_in = λ a l. by_place n e t P_twin
-          (omega (arith, s.twin_e, s.darts)) (omega (arith, s.twin_twin, s.darts))
-          (λ a l nc np. omega (arith, s.twin_other a l nc np, linked.twin_in a l, s.darts))
-          (omega (arith, s.twin_first, s.darts, t_in)) (omega (arith, s.twin_second, s.darts))
+      reverse_dart_in = λ a l. by_place n e t P_reverse_dart
+          (omega (arith, s.reverse_dart_e, s.darts)) (omega (arith, s.reverse_dart_reverse_dart, s.darts))
+          (λ a l nc np. omega (arith, s.reverse_dart_other a l nc np, linked.reverse_dart_in a l, s.darts))
+          (omega (arith, s.reverse_dart_first, s.darts, t_in)) (omega (arith, s.reverse_dart_second, s.darts))
           a (omega (arith, s.darts));
-      twin_back = λ a l. by_place n e t P_twin_back
+      reverse_dart_back = λ a l. by_place n e t P_reverse_dart_back
           (cc) (cc)
           (λ a l nc np.
-          let other_e : w.twin a ≢ e = λ h. np (sym (linked.twin_back a l) ∙ ap w.twin h) in
-          let other_t : w.twin a ≢ t = λ h. nc (sym (linked.twin_back a l) ∙ ap w.twin h ∙ linked.twin_back e e_in) in
-          ap new.twin (s.twin_other a l nc np) ∙ s.twin_other (w.twin a) (linked.twin_in a l) other_e other_t
-          ∙ linked.twin_back a l)
+          let other_e : w.reverse_dart a ≢ e = λ h. np (sym (linked.reverse_dart_back a l) ∙ ap w.reverse_dart h) in
+          let other_t : w.reverse_dart a ≢ t = λ h. nc (sym (linked.reverse_dart_back a l) ∙ ap w.reverse_dart h ∙ linked.reverse_dart_back e e_in) in
+          ap new.reverse_dart (s.reverse_dart_other a l nc np) ∙ s.reverse_dart_other (w.reverse_dart a) (linked.reverse_dart_in a l) other_e other_t
+          ∙ linked.reverse_dart_back a l)
           (cc) (cc)
           a (omega (arith, s.darts));
-      twin_apart = λ a l. by_place n e t P_apart
-          (λ h. omega (arith, s.twin_e, h)) (λ h. omega (arith, s.twin_twin, h, t_in))
-          (λ a l nc np h. linked.twin_apart a l (sym (s.twin_other a l nc np) ∙ h))
-          (λ h. omega (arith, s.twin_first, h, t_in)) (λ h. omega (arith, s.twin_second, h))
+      reverse_dart_apart = λ a l. by_place n e t P_apart
+          (λ h. omega (arith, s.reverse_dart_e, h)) (λ h. omega (arith, s.reverse_dart_reverse_dart, h, t_in))
+          (λ a l nc np h. linked.reverse_dart_apart a l (sym (s.reverse_dart_other a l nc np) ∙ h))
+          (λ h. omega (arith, s.reverse_dart_first, h, t_in)) (λ h. omega (arith, s.reverse_dart_second, h))
           a (omega (arith, s.darts));
     }
 
@@ -118,20 +118,20 @@ around_more w u n e =
 
 -- what arrives next clockwise at an old dart's head is what arrived there before
 pub split_arrives : (w : Web) (e way bend : ℕ) (new : Web) → IsLinked w → e < w.darts → IsSplit w e way bend new →
-    (a : ℕ) → a < w.darts → new.twin (new.next a) ≡ w.twin (w.next a)
+    (a : ℕ) → a < w.darts → new.reverse_dart (new.next a) ≡ w.reverse_dart (w.next a)
 split_arrives w e way bend new linked e_in s a l =
-    let t_in : w.twin e < w.darts = linked.twin_in e e_in in
+    let t_in : w.reverse_dart e < w.darts = linked.reverse_dart_in e e_in in
     elim (cases_eq a (w.prev e)) [
-      | inl at ↦ ap (λ (k : ℕ). new.twin (new.next k)) at ∙ ap new.twin s.next_before ∙ s.twin_first
-          ∙ sym (ap w.twin (ap w.next at ∙ linked.prev_back e e_in))
+      | inl at ↦ ap (λ (k : ℕ). new.reverse_dart (new.next k)) at ∙ ap new.reverse_dart s.next_before ∙ s.reverse_dart_first
+          ∙ sym (ap w.reverse_dart (ap w.next at ∙ linked.prev_back e e_in))
       | inr not_c ↦
-          elim (cases_eq a (w.prev (w.twin e))) [
-            | inl at ↦ ap (λ (k : ℕ). new.twin (new.next k)) at ∙ ap new.twin s.next_back ∙ s.twin_second
-                ∙ sym (ap w.twin (ap w.next at ∙ linked.prev_back (w.twin e) t_in) ∙ linked.twin_back e e_in)
+          elim (cases_eq a (w.prev (w.reverse_dart e))) [
+            | inl at ↦ ap (λ (k : ℕ). new.reverse_dart (new.next k)) at ∙ ap new.reverse_dart s.next_back ∙ s.reverse_dart_second
+                ∙ sym (ap w.reverse_dart (ap w.next at ∙ linked.prev_back (w.reverse_dart e) t_in) ∙ linked.reverse_dart_back e e_in)
             | inr not_p ↦
                 let other_e : w.next a ≢ e = λ h. not_c (sym (linked.next_back a l) ∙ ap w.prev h) in
-                let other_t : w.next a ≢ w.twin e = λ h. not_p (sym (linked.next_back a l) ∙ ap w.prev h) in
-                ap new.twin (s.next_other a l not_c not_p) ∙ s.twin_other (w.next a) (linked.next_in a l) other_e other_t
+                let other_t : w.next a ≢ w.reverse_dart e = λ h. not_p (sym (linked.next_back a l) ∙ ap w.prev h) in
+                ap new.reverse_dart (s.next_other a l not_c not_p) ∙ s.reverse_dart_other (w.next a) (linked.next_in a l) other_e other_t
           ]
     ]
 
@@ -177,19 +177,19 @@ pub split_meeting : (w : Web) (e way bend : ℕ) (new : Web) → IsLinked w → 
     way < 4 → 1 ≤ bend → bend < 4 → IsSplit w e way bend new → IsMeeting new
 split_meeting w e way bend new linked meeting e_in quarter some most s =
     let n : ℕ = w.darts in
-    let t_in : w.twin e < w.darts = linked.twin_in e e_in in
+    let t_in : w.reverse_dart e < w.darts = linked.reverse_dart_in e e_in in
     let arrives = split_arrives w e way bend new linked e_in s in
-    let arrives_first : new.twin (new.next n) ≡ n + 1 = ap new.twin s.next_first ∙ s.twin_e in
-    let arrives_second : new.twin (new.next (n + 1)) ≡ n = ap new.twin s.next_second ∙ s.twin_twin in
-    let inside : (a : ℕ) → a < w.darts → w.twin (w.next a) < w.darts =
-    λ a l. linked.twin_in (w.next a) (linked.next_in a l) in
+    let arrives_first : new.reverse_dart (new.next n) ≡ n + 1 = ap new.reverse_dart s.next_first ∙ s.reverse_dart_e in
+    let arrives_second : new.reverse_dart (new.next (n + 1)) ≡ n = ap new.reverse_dart s.next_second ∙ s.reverse_dart_reverse_dart in
+    let inside : (a : ℕ) → a < w.darts → w.reverse_dart (w.next a) < w.darts =
+    λ a l. linked.reverse_dart_in (w.next a) (linked.next_in a l) in
     record {
       head_in = λ a l. by_age n (λ a. new.head a < new.vertices)
           (λ a l. omega (arith, s.head_old a l, meeting.head_in a l, s.vertices))
           (omega (arith, s.head_first, s.vertices)) (omega (arith, s.head_second, s.vertices))
           a (omega (arith, s.darts));
-      meets = λ a l. by_age n (λ a. new.head (new.twin (new.next a)) ≡ new.head a)
-          (λ a l. ap new.head (arrives a l) ∙ s.head_old (w.twin (w.next a)) (inside a l) ∙ meeting.meets a l ∙ sym (s.head_old a l))
+      meets = λ a l. by_age n (λ a. new.head (new.reverse_dart (new.next a)) ≡ new.head a)
+          (λ a l. ap new.head (arrives a l) ∙ s.head_old (w.reverse_dart (w.next a)) (inside a l) ∙ meeting.meets a l ∙ sym (s.head_old a l))
           (ap new.head arrives_first ∙ s.head_second ∙ sym s.head_first)
           (ap new.head arrives_second ∙ s.head_first ∙ sym s.head_second)
           a (omega (arith, s.darts));
@@ -197,10 +197,10 @@ split_meeting w e way bend new linked meeting e_in quarter some most s =
           (λ a l. omega (arith, s.direction_old a l, meeting.quarter a l))
           (omega (arith, s.direction_first)) (omega (arith, s.direction_second))
           a (omega (arith, s.darts));
-      turns = λ a l. by_age n (λ a. (new.direction (new.twin (new.next a)) + new.angle a) % 4 ≡ new.direction a)
+      turns = λ a l. by_age n (λ a. (new.direction (new.reverse_dart (new.next a)) + new.angle a) % 4 ≡ new.direction a)
           (λ a l. omega (
             arith,
-            ap new.direction (arrives a l) ∙ s.direction_old (w.twin (w.next a)) (inside a l),
+            ap new.direction (arrives a l) ∙ s.direction_old (w.reverse_dart (w.next a)) (inside a l),
             s.angle_old a l,
             meeting.turns a l,
             s.direction_old a l,
@@ -224,17 +224,17 @@ pub split_straight : (w : Web) (e : ℕ) (new : Web) → IsLinked w → IsMeetin
     IsSplit w e (w.direction e) 2 new → IsStraight new
 split_straight w e new linked meeting e_in straight s a l =
     let n : ℕ = w.darts in
-    let t : ℕ = w.twin e in
-    let t_in : t < w.darts = linked.twin_in e e_in in
-    by_place n e t (λ a. new.direction (new.twin a) ≡ (new.direction a + 2) % 4)
-    (omega (arith, ap new.direction s.twin_e ∙ s.direction_second, s.direction_old e e_in, meeting.quarter e e_in))
-    (omega (arith, ap new.direction s.twin_twin ∙ s.direction_first, s.direction_old t t_in, straight e e_in, meeting.quarter e e_in))
+    let t : ℕ = w.reverse_dart e in
+    let t_in : t < w.darts = linked.reverse_dart_in e e_in in
+    by_place n e t (λ a. new.direction (new.reverse_dart a) ≡ (new.direction a + 2) % 4)
+    (omega (arith, ap new.direction s.reverse_dart_e ∙ s.direction_second, s.direction_old e e_in, meeting.quarter e e_in))
+    (omega (arith, ap new.direction s.reverse_dart_reverse_dart ∙ s.direction_first, s.direction_old t t_in, straight e e_in, meeting.quarter e e_in))
     (λ a l nc np. omega (
       arith,
-      ap new.direction (s.twin_other a l nc np) ∙ s.direction_old (w.twin a) (linked.twin_in a l),
+      ap new.direction (s.reverse_dart_other a l nc np) ∙ s.direction_old (w.reverse_dart a) (linked.reverse_dart_in a l),
       s.direction_old a l,
       straight a l,
     ))
-    (omega (arith, ap new.direction s.twin_first ∙ s.direction_old t t_in, s.direction_first, straight e e_in))
-    (omega (arith, ap new.direction s.twin_second ∙ s.direction_old e e_in, s.direction_second, meeting.quarter e e_in))
+    (omega (arith, ap new.direction s.reverse_dart_first ∙ s.direction_old t t_in, s.direction_first, straight e e_in))
+    (omega (arith, ap new.direction s.reverse_dart_second ∙ s.direction_old e e_in, s.direction_second, meeting.quarter e e_in))
     a (omega (arith, s.darts))

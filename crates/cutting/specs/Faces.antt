@@ -38,7 +38,7 @@ In a [] = ⊥
 In a (b ∷ bs) = (a ≡ b) ⊎ In a bs
 
 -- a face with four corners, each of the same angle, and c one of them
-pub record IsFour (w : Web) (angle c : ℕ) : Type 0 where
+pub record IsRectangle (w : Web) (angle c : ℕ) : Type 0 where
   pub second : ℕ
   pub third : ℕ
   pub fourth : ℕ
@@ -53,7 +53,7 @@ pub record IsFour (w : Web) (angle c : ℕ) : Type 0 where
 
 -- the corner a is one of four right turns of one face, and so is o
 pub record IsOutside (w : Web) (o a : ℕ) : Type 0 where
-  pub four : IsFour w 3 a
+  pub four : IsRectangle w 3 a
   pub holds : In o (a ∷ four.second ∷ four.third ∷ four.fourth ∷ [])
 
 -- each dart of the web comes to a corner
@@ -91,8 +91,8 @@ pub record AreWaiting (w : Web) (o : ℕ) (faces : List (List ℕ)) : Type 0 whe
   pub distinct : Distinct (joined faces)
   pub below : Below w.darts (joined faces)
   pub inside : o < w.darts
-  pub outside : IsFour w 3 o
-  pub settled : (a : ℕ) → a < w.darts → IsCorner w a → In a (joined faces) ⊎ (IsFour w 1 a ⊎ IsOutside w o a)
+  pub outside : IsRectangle w 3 o
+  pub settled : (a : ℕ) → a < w.darts → IsCorner w a → In a (joined faces) ⊎ (IsRectangle w 1 a ⊎ IsOutside w o a)
 
 -- the list cut up into pieces of these lengths
 abbrev pub cut_up : List ℕ → List ℕ → List (List ℕ)

@@ -4,13 +4,13 @@ use Rattle.cutting.specs.Webs.{Web, no_dart, IsCut, Grows}
 use Rattle.cutting.specs.Labels.{AreLabels}
 
 -- A rectangle beside the web: the darts w.darts + 0 .. 3 go round its inside to the east, north, west and south,
--- and w.darts + 4 .. 7 are their twins round its outside. The vertex w.vertices + k is where dart k arrives.
+-- and w.darts + 4 .. 7 are their reverses round its outside. The vertex w.vertices + k is where dart k arrives.
 pub record IsFramed (w new : Web) : Type 0 where
   pub darts : new.darts ≡ w.darts + 8
   pub vertices : new.vertices ≡ w.vertices + 4
   pub next_old : (a : ℕ) → a < w.darts → new.next a ≡ w.next a
   pub prev_old : (a : ℕ) → a < w.darts → new.prev a ≡ w.prev a
-  pub twin_old : (a : ℕ) → a < w.darts → new.twin a ≡ w.twin a
+  pub reverse_dart_old : (a : ℕ) → a < w.darts → new.reverse_dart a ≡ w.reverse_dart a
   pub head_old : (a : ℕ) → a < w.darts → new.head a ≡ w.head a
   pub direction_old : (a : ℕ) → a < w.darts → new.direction a ≡ w.direction a
   pub angle_old : (a : ℕ) → a < w.darts → new.angle a ≡ w.angle a
@@ -19,8 +19,8 @@ pub record IsFramed (w new : Web) : Type 0 where
   pub next_outer : (k : ℕ) → k < 4 → new.next (w.darts + 4 + k) ≡ w.darts + 4 + (k + 3) % 4
   pub prev_inner : (k : ℕ) → k < 4 → new.prev (w.darts + k) ≡ w.darts + (k + 3) % 4
   pub prev_outer : (k : ℕ) → k < 4 → new.prev (w.darts + 4 + k) ≡ w.darts + 4 + (k + 1) % 4
-  pub twin_inner : (k : ℕ) → k < 4 → new.twin (w.darts + k) ≡ w.darts + 4 + k
-  pub twin_outer : (k : ℕ) → k < 4 → new.twin (w.darts + 4 + k) ≡ w.darts + k
+  pub reverse_dart_inner : (k : ℕ) → k < 4 → new.reverse_dart (w.darts + k) ≡ w.darts + 4 + k
+  pub reverse_dart_outer : (k : ℕ) → k < 4 → new.reverse_dart (w.darts + 4 + k) ≡ w.darts + k
   pub head_inner : (k : ℕ) → k < 4 → new.head (w.darts + k) ≡ w.vertices + k
   pub head_outer : (k : ℕ) → k < 4 → new.head (w.darts + 4 + k) ≡ w.vertices + (k + 3) % 4
   pub direction_inner : (k : ℕ) → k < 4 → new.direction (w.darts + k) ≡ k

@@ -6,7 +6,7 @@ use Rattle.cutting.specs.Faces.{last_of, Below}
 -- each dart of the list has the one in front of it before it, the first one a, and sets out where that arrives
 abbrev pub Follows : Web → ℕ → List ℕ → Type 0
 Follows w a [] = Unit {0}
-Follows w a (b ∷ bs) = (w.before b ≡ a) × (w.head (w.twin b) ≡ w.head a) × Follows w b bs
+Follows w a (b ∷ bs) = (w.before b ≡ a) × (w.head (w.reverse_dart b) ≡ w.head a) × Follows w b bs
 
 -- first, and behind it the rest, are all darts of the edge that ends with the dart `end`
 pub record IsPath (w : Web) (end first : ℕ) (rest : List ℕ) : Type 0 where
@@ -16,9 +16,9 @@ pub record IsPath (w : Web) (end first : ℕ) (rest : List ℕ) : Type 0 where
   pub follows : Follows w first rest
   pub ends : last_of first rest ≡ end
 
--- the quarters to the left by which the walk turns from the dart a to the dart b: b sets out opposite to its twin
+-- the quarters to the left by which the walk turns from the dart a to the dart b: b sets out opposite to its reverse
 abbrev pub turn_to : Web → ℕ → ℕ → ℕ
-turn_to w a b = (w.direction (w.twin b) + 6 - w.direction a) % 4
+turn_to w a b = (w.direction (w.reverse_dart b) + 6 - w.direction a) % 4
 
 -- the turns along a path, straight places left out: 1 for a quarter to the left, 3 for one to the right
 abbrev pub bends : Web → ℕ → List ℕ → List ℕ
@@ -30,22 +30,23 @@ abbrev pub turning_places : Web → ℕ → List ℕ → List ℕ
 turning_places w a [] = []
 turning_places w a (b ∷ bs) = if turn_to w a b == 0 then turning_places w b bs else w.head a ∷ turning_places w b bs
 
--- the edge that ends with the dart `end` sets out with the twin of the dart `mate`, and turns by these quarters
-pub record HasPath (w : Web) (end mate : ℕ) (quarters : List ℕ) : Type 0 where
+-- the edge that ends with the dart `end`, and the other way with `reverse_dart`, sets out with the reverse of that, and
+-- turns by these quarters
+pub record HasPath (w : Web) (end reverse_dart : ℕ) (quarters : List ℕ) : Type 0 where
   pub first : ℕ
   pub rest : List ℕ
   pub path : IsPath w end first rest
-  pub back : w.twin first ≡ mate
+  pub back : w.reverse_dart first ≡ reverse_dart
   pub turns : bends w first rest ≡ quarters
 
 -- the first n darts of the web end the edges of the plane: each has its path, and none of them stands before another dart
-pub record HasPaths (w : Web) (n : ℕ) (mate : ℕ → ℕ) (quarters : ℕ → List ℕ) : Type 0 where
+pub record HasPaths (w : Web) (n : ℕ) (reverse_dart : ℕ → ℕ) (quarters : ℕ → List ℕ) : Type 0 where
   pub few : n ≤ w.darts
-  pub paths : (d : ℕ) → d < n → HasPath w d (mate d) (quarters d)
+  pub paths : (d : ℕ) → d < n → HasPath w d (reverse_dart d) (quarters d)
   pub ends : (a : ℕ) → a < w.darts → (w.before a ≡ no_dart) ⊎ ((n ≤ w.before a) × (w.before a < w.darts))
 
--- any two darts are joined: a set of darts closed under "next" and "twin" that holds one dart holds them all
+-- any two darts are joined: a set of darts closed under "next" and "reverse" that holds one dart holds them all
 abbrev pub IsJoined : Web → Type 0
 IsJoined w = (s : ℕ → Bool) → ((a : ℕ) → a < w.darts → s a ≡ true → s (w.next a) ≡ true)
-    → ((a : ℕ) → a < w.darts → s a ≡ true → s (w.twin a) ≡ true)
+    → ((a : ℕ) → a < w.darts → s a ≡ true → s (w.reverse_dart a) ≡ true)
     → (a b : ℕ) → a < w.darts → b < w.darts → s a ≡ true → s b ≡ true

@@ -2,6 +2,7 @@
 -- Darts and vertices are numbered from 0, directions 0 to 3 by quarter turns to the left from east.
 use Rattle.std.specs.Prelude.{◌≡◌, ◌≢◌, ℕ, ◌+◌, ◌-◌, ◌%◌, ◌<◌, ◌≤◌, ◌==◌, if◌then◌else◌}
 use Rattle.sums.specs.Sums.{sum_below}
+use Rattle.cutting.specs.declared.table.TheConstants.{NO_DART}
 
 pub record Web : Type 0 where
   -- how many darts and vertices there are
@@ -11,7 +12,7 @@ pub record Web : Type 0 where
   pub next : ℕ → ℕ
   pub prev : ℕ → ℕ
   -- the dart along the same edge the other way
-  pub twin : ℕ → ℕ
+  pub reverse_dart : ℕ → ℕ
   -- the vertex that the dart goes to, and the direction in which it arrives there
   pub head : ℕ → ℕ
   pub direction : ℕ → ℕ
@@ -22,17 +23,17 @@ pub record Web : Type 0 where
 
 -- stands where there is no dart
 abbrev pub no_dart : ℕ
-no_dart = 4294967295
+no_dart = NO_DART
 
--- "next" and "prev" undo each other, and "twin" itself, without leaving the darts
+-- "next" and "prev" undo each other, and "reverse" itself, without leaving the darts
 pub record IsLinked (w : Web) : Type 0 where
   pub next_in : (a : ℕ) → a < w.darts → w.next a < w.darts
   pub prev_in : (a : ℕ) → a < w.darts → w.prev a < w.darts
   pub next_back : (a : ℕ) → a < w.darts → w.prev (w.next a) ≡ a
   pub prev_back : (a : ℕ) → a < w.darts → w.next (w.prev a) ≡ a
-  pub twin_in : (a : ℕ) → a < w.darts → w.twin a < w.darts
-  pub twin_back : (a : ℕ) → a < w.darts → w.twin (w.twin a) ≡ a
-  pub twin_apart : (a : ℕ) → a < w.darts → w.twin a ≢ a
+  pub reverse_dart_in : (a : ℕ) → a < w.darts → w.reverse_dart a < w.darts
+  pub reverse_dart_back : (a : ℕ) → a < w.darts → w.reverse_dart (w.reverse_dart a) ≡ a
+  pub reverse_dart_apart : (a : ℕ) → a < w.darts → w.reverse_dart a ≢ a
 
 -- the sum of the angles at a vertex
 abbrev pub around : Web → ℕ → ℕ
@@ -41,39 +42,39 @@ around w u = sum_below w.darts (λ a. if w.head a == u then w.angle a else 0)
 -- the darts meet at vertices, where angles and directions fit and go once round
 pub record IsMeeting (w : Web) : Type 0 where
   pub head_in : (a : ℕ) → a < w.darts → w.head a < w.vertices
-  pub meets : (a : ℕ) → a < w.darts → w.head (w.twin (w.next a)) ≡ w.head a
+  pub meets : (a : ℕ) → a < w.darts → w.head (w.reverse_dart (w.next a)) ≡ w.head a
   pub quarter : (a : ℕ) → a < w.darts → w.direction a < 4
   -- the dart that arrives next clockwise has turned by the angle
-  pub turns : (a : ℕ) → a < w.darts → (w.direction (w.twin (w.next a)) + w.angle a) % 4 ≡ w.direction a
+  pub turns : (a : ℕ) → a < w.darts → (w.direction (w.reverse_dart (w.next a)) + w.angle a) % 4 ≡ w.direction a
   pub some : (a : ℕ) → a < w.darts → 1 ≤ w.angle a
   pub most : (a : ℕ) → a < w.darts → w.angle a ≤ 4
   pub whole : (u : ℕ) → u < w.vertices → around w u ≡ 4
 
 -- each edge is straight: its two darts arrive in opposite directions
 abbrev pub IsStraight : Web → Type 0
-IsStraight w = (a : ℕ) → a < w.darts → w.direction (w.twin a) ≡ (w.direction a + 2) % 4
+IsStraight w = (a : ℕ) → a < w.darts → w.direction (w.reverse_dart a) ≡ (w.direction a + 2) % 4
 
 -- The edge of the dart e is split by a new vertex, w.vertices. The new dart w.darts leads there in front of
--- e, and w.darts + 1 in front of e's twin; e and its twin keep their heads and angles. The walk along e
+-- e, and w.darts + 1 in front of e's reverse; e and its reverse keep their heads and angles. The walk along e
 -- arrives at the new vertex in the direction `way`, and there the angles are `bend` and 4 - bend.
 pub record IsSplit (w : Web) (e way bend : ℕ) (new : Web) : Type 0 where
   pub darts : new.darts ≡ w.darts + 2
   pub vertices : new.vertices ≡ w.vertices + 1
   pub next_before : new.next (w.prev e) ≡ w.darts
   pub next_first : new.next w.darts ≡ e
-  pub next_back : new.next (w.prev (w.twin e)) ≡ w.darts + 1
-  pub next_second : new.next (w.darts + 1) ≡ w.twin e
-  pub next_other : (a : ℕ) → a < w.darts → a ≢ w.prev e → a ≢ w.prev (w.twin e) → new.next a ≡ w.next a
+  pub next_back : new.next (w.prev (w.reverse_dart e)) ≡ w.darts + 1
+  pub next_second : new.next (w.darts + 1) ≡ w.reverse_dart e
+  pub next_other : (a : ℕ) → a < w.darts → a ≢ w.prev e → a ≢ w.prev (w.reverse_dart e) → new.next a ≡ w.next a
   pub prev_first : new.prev w.darts ≡ w.prev e
   pub prev_e : new.prev e ≡ w.darts
-  pub prev_second : new.prev (w.darts + 1) ≡ w.prev (w.twin e)
-  pub prev_twin : new.prev (w.twin e) ≡ w.darts + 1
-  pub prev_other : (a : ℕ) → a < w.darts → a ≢ e → a ≢ w.twin e → new.prev a ≡ w.prev a
-  pub twin_e : new.twin e ≡ w.darts + 1
-  pub twin_second : new.twin (w.darts + 1) ≡ e
-  pub twin_twin : new.twin (w.twin e) ≡ w.darts
-  pub twin_first : new.twin w.darts ≡ w.twin e
-  pub twin_other : (a : ℕ) → a < w.darts → a ≢ e → a ≢ w.twin e → new.twin a ≡ w.twin a
+  pub prev_second : new.prev (w.darts + 1) ≡ w.prev (w.reverse_dart e)
+  pub prev_reverse_dart : new.prev (w.reverse_dart e) ≡ w.darts + 1
+  pub prev_other : (a : ℕ) → a < w.darts → a ≢ e → a ≢ w.reverse_dart e → new.prev a ≡ w.prev a
+  pub reverse_dart_e : new.reverse_dart e ≡ w.darts + 1
+  pub reverse_dart_second : new.reverse_dart (w.darts + 1) ≡ e
+  pub reverse_dart_reverse_dart : new.reverse_dart (w.reverse_dart e) ≡ w.darts
+  pub reverse_dart_first : new.reverse_dart w.darts ≡ w.reverse_dart e
+  pub reverse_dart_other : (a : ℕ) → a < w.darts → a ≢ e → a ≢ w.reverse_dart e → new.reverse_dart a ≡ w.reverse_dart a
   pub head_old : (a : ℕ) → a < w.darts → new.head a ≡ w.head a
   pub head_first : new.head w.darts ≡ w.vertices
   pub head_second : new.head (w.darts + 1) ≡ w.vertices
@@ -85,9 +86,9 @@ pub record IsSplit (w : Web) (e way bend : ℕ) (new : Web) : Type 0 where
   pub angle_second : new.angle (w.darts + 1) ≡ 4 - bend
   pub before_e : new.before e ≡ w.darts
   pub before_first : new.before w.darts ≡ w.before e
-  pub before_twin : new.before (w.twin e) ≡ w.darts + 1
-  pub before_second : new.before (w.darts + 1) ≡ w.before (w.twin e)
-  pub before_other : (a : ℕ) → a < w.darts → a ≢ e → a ≢ w.twin e → new.before a ≡ w.before a
+  pub before_reverse_dart : new.before (w.reverse_dart e) ≡ w.darts + 1
+  pub before_second : new.before (w.darts + 1) ≡ w.before (w.reverse_dart e)
+  pub before_other : (a : ℕ) → a < w.darts → a ≢ e → a ≢ w.reverse_dart e → new.before a ≡ w.before a
 
 -- A new edge joins the corner at the head of d with the corner at the head of f: the new dart w.darts goes on
 -- from d in the direction `way`, and w.darts + 1 comes back from f. Each corner gives up one right angle,
@@ -105,9 +106,9 @@ pub record IsChord (w : Web) (d f way : ℕ) (new : Web) : Type 0 where
   pub prev_back : new.prev (w.darts + 1) ≡ f
   pub prev_after_d : new.prev (w.next d) ≡ w.darts + 1
   pub prev_other : (a : ℕ) → a < w.darts → a ≢ w.next f → a ≢ w.next d → new.prev a ≡ w.prev a
-  pub twin_there : new.twin w.darts ≡ w.darts + 1
-  pub twin_back : new.twin (w.darts + 1) ≡ w.darts
-  pub twin_old : (a : ℕ) → a < w.darts → new.twin a ≡ w.twin a
+  pub reverse_dart_there : new.reverse_dart w.darts ≡ w.darts + 1
+  pub reverse_dart_back : new.reverse_dart (w.darts + 1) ≡ w.darts
+  pub reverse_dart_old : (a : ℕ) → a < w.darts → new.reverse_dart a ≡ w.reverse_dart a
   pub head_old : (a : ℕ) → a < w.darts → new.head a ≡ w.head a
   pub head_there : new.head w.darts ≡ w.head f
   pub head_back : new.head (w.darts + 1) ≡ w.head d

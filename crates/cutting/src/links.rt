@@ -33,15 +33,15 @@ pub fn link(next: &mut Vec<u32>, prev: &mut Vec<u32>, a: u32, b: u32)
     prev[b as usize] = a;
 }
 
-/// Makes two darts each other's twins.
-pub fn pair(twin: &mut Vec<u32>, a: u32, b: u32)
-    requires a_in { a < vec_len twin.old }
-    requires b_in { b < vec_len twin.old }
-    ensures twin { twin.new.items ≡ slice_set (slice_set twin.old.items a b) b a }
-    ensures room { vec_len twin.new ≡ vec_len twin.old }
+/// Makes two darts each other's reverses.
+pub fn pair(reverse_dart: &mut Vec<u32>, a: u32, b: u32)
+    requires a_in { a < vec_len reverse_dart.old }
+    requires b_in { b < vec_len reverse_dart.old }
+    ensures reverse_dart { reverse_dart.new.items ≡ slice_set (slice_set reverse_dart.old.items a b) b a }
+    ensures room { vec_len reverse_dart.new ≡ vec_len reverse_dart.old }
 {
-    twin[a as usize] = b;
-    twin[b as usize] = a;
+    reverse_dart[a as usize] = b;
+    reverse_dart[b as usize] = a;
 }
 
 /// Puts the dart `new` in front of the dart `old` on its edge.

@@ -15,7 +15,7 @@ pub struct DartTable {
     /// The previous dart of that face.
     pub prev: Vec<u32>,
     /// The dart along the same edge the other way.
-    pub twin: Vec<u32>,
+    pub reverse_dart: Vec<u32>,
     /// The vertex that the dart goes to.
     pub head: Vec<u32>,
     /// The dart before it on its edge of the plane, or `NO_DART` where it is the first.
@@ -27,7 +27,7 @@ pub struct DartTable {
     pub darts: u32,
     pub vertices: u32,
     ghost prev_room: { vec_len prev ≡ vec_len next },
-    ghost twin_room: { vec_len twin ≡ vec_len next },
+    ghost reverse_dart_room: { vec_len reverse_dart ≡ vec_len next },
     ghost head_room: { vec_len head ≡ vec_len next },
     ghost before_room: { vec_len before ≡ vec_len next },
     ghost direction_room: { vec_len direction ≡ vec_len next },
@@ -55,13 +55,13 @@ impl DartTable {
         let first = self.darts;
         let second = first + 1;
         let vertex = self.vertices;
-        let twin = self.twin[e as usize];
+        let reverse_dart = self.reverse_dart[e as usize];
         put_in_front(&mut self.next, &mut self.prev, first, e);
-        put_in_front(&mut self.next, &mut self.prev, second, twin);
-        pair(&mut self.twin, e, second);
-        pair(&mut self.twin, twin, first);
+        put_in_front(&mut self.next, &mut self.prev, second, reverse_dart);
+        pair(&mut self.reverse_dart, e, second);
+        pair(&mut self.reverse_dart, reverse_dart, first);
         take_over(&mut self.before, first, e);
-        take_over(&mut self.before, second, twin);
+        take_over(&mut self.before, second, reverse_dart);
         self.head[first as usize] = vertex;
         self.head[second as usize] = vertex;
         self.direction[first as usize] = way;
@@ -89,7 +89,7 @@ impl DartTable {
         link(&mut self.next, &mut self.prev, there, after_f);
         link(&mut self.next, &mut self.prev, f, back);
         link(&mut self.next, &mut self.prev, back, after_d);
-        pair(&mut self.twin, there, back);
+        pair(&mut self.reverse_dart, there, back);
         self.head[there as usize] = self.head[f as usize];
         self.head[back as usize] = self.head[d as usize];
         self.before[there as usize] = NO_DART;

@@ -4,9 +4,9 @@ use Rattle.std.specs.List.{range_with_len}
 use Rattle.std.proofs.lemmas.List.Elements.{All-filter, All-get_or, All-from_get_or}
 use Rattle.std.proofs.lemmas.List.FromFn.{length-range_with_len, get_or-range_with_len}
 use Rattle.embedding.proofs.Rotation.{one_dart}
-use Rattle.faces.specs.Map.{Map, IsPlane, darts, vertices, head, mate, next, face_at}
+use Rattle.faces.specs.Planes.{PlaneModel, IsPlane, darts, vertices, head, reverse_dart, next, face_at}
 use Rattle.faces.proofs.Ends.{plane_ends, seven_rules}
-use Rattle.ortho_rep.specs.Shapes.{Figure, angle_at, turns_at}
+use Rattle.ortho_rep.specs.Shapes.{ShapeModel, angle_at, turns_at}
 use Rattle.ortho_rep.specs.Edges.{is_lesser, lesser_darts}
 use Rattle.ortho_rep.proofs.EdgeNumbers.{edge_total, length-lesser}
 use Rattle.cutting.specs.declared.table.DartTable.{DartTable}
@@ -28,14 +28,14 @@ use Rattle.dissect.proofs.Rectangles.{rectangle, join}
 use Rattle.dissect.proofs.Through.{through}
 
 -- what is known of the drawing w and of the table t that was made of it
-pub record IsMade (p : Map) (shape : Figure) (w : Web) (outside : ℕ) (t : DartTable) : Type 0 where
+pub record IsMade (p : PlaneModel) (shape : ShapeModel) (w : Web) (outside : ℕ) (t : DartTable) : Type 0 where
   pub plane : IsPlane p
   pub sound : IsSound w
   pub kept : KeepsDarts p (angle_at shape) w
   pub faces : KeepsFaces p w
   pub headings : AreHeadings p (angle_at shape) (turns_at shape) w.direction
   pub counts : CountsBends p (turns_at shape) w
-  pub paths : HasPaths w (darts p) (mate p) (λ d. map angle_of (turns_at shape d))
+  pub paths : HasPaths w (darts p) (reverse_dart p) (λ d. map angle_of (turns_at shape d))
   pub rows : AreRows (vertices p) w
   pub joined : IsJoined w
   pub outside_in : outside < darts p
@@ -48,22 +48,22 @@ pub record IsMade (p : Map) (shape : Figure) (w : Web) (outside : ℕ) (t : Dart
   pub small : t.darts ≤ no_dart
 
 -- the lesser darts are darts
-lesser_inside : (p : Map) → All (λ d. d < darts p) (lesser_darts p)
+lesser_inside : (p : PlaneModel) → All (λ d. d < darts p) (lesser_darts p)
 lesser_inside p =
     All-filter (is_lesser p) (λ d. d < darts p) (range_with_len 0 (darts p))
     (All-from_get_or (λ d. d < darts p) (range_with_len 0 (darts p)) 0
     (λ i i_in. let below : i < darts p = omega (arith, i_in, length-range_with_len 0 (darts p)) in
     omega (arith, get_or-range_with_len 0 (darts p) i 0 below, below)))
 
-pub kept_paths : (p : Map) (shape : Figure) (w : Web) (outside : ℕ) (t : DartTable) → IsMade p shape w outside t →
-    HasPaths (web_of t) (darts p) (mate p) (λ d. map angle_of (turns_at shape d))
+pub kept_paths : (p : PlaneModel) (shape : ShapeModel) (w : Web) (outside : ℕ) (t : DartTable) → IsMade p shape w outside t →
+    HasPaths (web_of t) (darts p) (reverse_dart p) (λ d. map angle_of (turns_at shape d))
 kept_paths p shape w outside t made =
-    enclosed_paths w outside (web_of t) (darts p) (mate p) (λ d. map angle_of (turns_at shape d)) made.sound.linked
+    enclosed_paths w outside (web_of t) (darts p) (reverse_dart p) (λ d. map angle_of (turns_at shape d)) made.sound.linked
     made.sound.meeting.quarter made.enclosed made.paths
 
 -- the web is that of the plane's edges
-pub are_edges : (p : Map) (shape : Figure) (w : Web) (outside : ℕ) (t : DartTable) → IsMade p shape w outside t →
-    AreEdges (vertices p) (web_of t) (darts p) (mate p) (λ d. map angle_of (turns_at shape d))
+pub are_edges : (p : PlaneModel) (shape : ShapeModel) (w : Web) (outside : ℕ) (t : DartTable) → IsMade p shape w outside t →
+    AreEdges (vertices p) (web_of t) (darts p) (reverse_dart p) (λ d. map angle_of (turns_at shape d))
 are_edges p shape w outside t made =
     let keeps : Keeps w (web_of t) = enclosed_keeps w outside (web_of t) made.enclosed in
     let ends = plane_ends p made.plane in
@@ -79,31 +79,31 @@ are_edges p shape w outside t made =
       rows = enclosed_rows (vertices p) w outside (web_of t) rows made.enclosed;
       narrow = made.small;
       paths = kept_paths p shape w outside t made;
-      mate_in = ends.mate_inside;
-      mate_apart = ends.mate_apart;
+      reverse_dart_in = ends.reverse_dart_inside;
+      reverse_dart_apart = ends.reverse_dart_apart;
       ends = λ d l. omega (arith, head_is d l, ends.head_from d l, ends.head_to d l);
       no_loop = λ d l same.
-          let m : ℕ = mate p d in
-          let m_in : m < darts p = ends.mate_inside d l in
+          let m : ℕ = reverse_dart p d in
+          let m_in : m < darts p = ends.reverse_dart_inside d l in
           let heads : head p m ≡ head p d =
           omega (arith, same, head_is d l, head_is m m_in, ends.head_from d l, ends.head_from m m_in) in
-          ends.mate_apart d l
+          ends.reverse_dart_apart d l
           (one_dart p.lists (seven_rules p.lists made.plane.rules) m d m_in l
-          (ends.mate_tail d l ∙ sym heads ∙ ends.mate_head d l) heads);
+          (ends.reverse_dart_tail d l ∙ sym heads ∙ ends.reverse_dart_head d l) heads);
     }
 
-pub paths_lie_apart : (p : Map) (shape : Figure) (w : Web) (outside : ℕ) (t : DartTable) → IsMade p shape w outside t →
+pub paths_lie_apart : (p : PlaneModel) (shape : ShapeModel) (w : Web) (outside : ℕ) (t : DartTable) → IsMade p shape w outside t →
     ArePathsApart p (web_of t)
 paths_lie_apart p shape w outside t made =
     let q : ℕ → List ℕ = λ d. map angle_of (turns_at shape d) in
     let are = are_edges p shape w outside t made in
     record {
-      back = paths_back (vertices p) (web_of t) (darts p) (mate p) q are;
-      once = paths_once (vertices p) (web_of t) (darts p) (mate p) q are;
-      apart = paths_apart (vertices p) (web_of t) (darts p) (mate p) q are;
+      back = paths_back (vertices p) (web_of t) (darts p) (reverse_dart p) q are;
+      once = paths_once (vertices p) (web_of t) (darts p) (reverse_dart p) q are;
+      apart = paths_apart (vertices p) (web_of t) (darts p) (reverse_dart p) q are;
     }
 
-pub drawing_stands : (p : Map) (shape : Figure) (w : Web) (outside : ℕ) (t : DartTable) (old : ℕ) (edges : List ℕ)
+pub drawing_stands : (p : PlaneModel) (shape : ShapeModel) (w : Web) (outside : ℕ) (t : DartTable) (old : ℕ) (edges : List ℕ)
     (paths : List (List ℕ)) → IsMade p shape w outside t → IsEnclosedDrawing p shape (parts_of t old edges paths)
 drawing_stands p shape w outside t old edges paths made =
     let keeps : Keeps w (web_of t) = enclosed_keeps w outside (web_of t) made.enclosed in
@@ -131,7 +131,7 @@ drawing_stands p shape w outside t old edges paths made =
     }
 
 -- each edge has its path
-pub edge_path : (p : Map) (shape : Figure) (w : Web) (outside : ℕ) (t : DartTable) (edges : List ℕ) → IsMade p shape w outside t →
+pub edge_path : (p : PlaneModel) (shape : ShapeModel) (w : Web) (outside : ℕ) (t : DartTable) (edges : List ℕ) → IsMade p shape w outside t →
     edges ≡ lesser_darts p → (e : ℕ) → e < length edges →
     (first : ℕ) × (rest : List ℕ) × IsPath (web_of t) (slice_index edges e) first rest
 edge_path p shape w outside t edges made lesser e e_in =
@@ -141,7 +141,7 @@ edge_path p shape w outside t edges made lesser e e_in =
     let path = (kept_paths p shape w outside t made).paths (slice_index edges e) here in
     (path.first, path.rest, path.path)
 
-pub are_boxes : (p : Map) (shape : Figure) (w : Web) (outside : ℕ) (t : DartTable) (old : ℕ) (edges : List ℕ)
+pub are_boxes : (p : PlaneModel) (shape : ShapeModel) (w : Web) (outside : ℕ) (t : DartTable) (old : ℕ) (edges : List ℕ)
     (paths : List (List ℕ)) → IsMade p shape w outside t → old ≡ vertices p → edges ≡ lesser_darts p →
     length paths ≡ length edges →
     ((e : ℕ) → e < length edges → (first : ℕ) (rest : List ℕ) → IsPath (web_of t) (slice_index edges e) first rest →
@@ -178,7 +178,7 @@ are_boxes p shape w outside t old edges paths made all lesser count listed =
       };
     }
 
-pub is_boxed : (p : Map) (shape : Figure) (w : Web) (outside : ℕ) (t : DartTable) (old : ℕ) (edges : List ℕ)
+pub is_boxed : (p : PlaneModel) (shape : ShapeModel) (w : Web) (outside : ℕ) (t : DartTable) (old : ℕ) (edges : List ℕ)
     (paths : List (List ℕ)) → IsMade p shape w outside t → old ≡ vertices p → edges ≡ lesser_darts p →
     length paths ≡ length edges →
     ((e : ℕ) → e < length edges → (first : ℕ) (rest : List ℕ) → IsPath (web_of t) (slice_index edges e) first rest →
@@ -198,8 +198,8 @@ is_boxed p shape w outside t old edges paths made all lesser count listed =
       rows = (are_edges p shape w outside t made).rows.rows;
       enclosed = drawing_stands p shape w outside t old edges paths made;
       angles = λ d d_in.
-          let m : ℕ = mate p (next p d) in
-          let m_in : m < darts p = ends.mate_inside (next p d) (ends.next_one.inside d d_in) in
+          let m : ℕ = reverse_dart p (next p d) in
+          let m_in : m < darts p = ends.reverse_dart_inside (next p d) (ends.next_one.inside d d_in) in
           let there : (web_of t).direction m ≡ w.direction m = keeps.direction m (omega (arith, m_in, made.kept.few)) in
           let here : (web_of t).direction d ≡ w.direction d = keeps.direction d (omega (arith, d_in, made.kept.few)) in
           ap (λ (k : ℕ). (k + angle_at shape d) % 4) there ∙ made.headings.angles d d_in ∙ sym here;

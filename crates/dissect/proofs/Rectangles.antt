@@ -34,14 +34,14 @@ module _ (w : Web) (outside : ℕ) (new : Web) (linked : IsLinked w) (four : Are
   four_joined = cut_quarters e.framed e.right side_dart e.way e.joined four_framed e.join
 
   -- a row of the framed web is one of the last
-  framed_row : (end mate held : ℕ) → HasRow e.framed end mate held [] → HasRow new end mate held []
-  framed_row end mate held row =
-      grows_row e.joined new end mate held [] linked_joined four_joined e.grows
-      (cut_row e.framed e.right side_dart e.way e.joined end mate held [] linked_framed (four_framed side_dart e.join.e_in) e.join row)
+  framed_row : (end reverse_dart held : ℕ) → HasRow e.framed end reverse_dart held [] → HasRow new end reverse_dart held []
+  framed_row end reverse_dart held row =
+      grows_row e.joined new end reverse_dart held [] linked_joined four_joined e.grows
+      (cut_row e.framed e.right side_dart e.way e.joined end reverse_dart held [] linked_framed (four_framed side_dart e.join.e_in) e.join row)
 
   -- and so is a row of the joined web
-  joined_row : (end mate held : ℕ) → HasRow e.joined end mate held [] → HasRow new end mate held []
-  joined_row end mate held row = grows_row e.joined new end mate held [] linked_joined four_joined e.grows row
+  joined_row : (end reverse_dart held : ℕ) → HasRow e.joined end reverse_dart held [] → HasRow new end reverse_dart held []
+  joined_row end reverse_dart held row = grows_row e.joined new end reverse_dart held [] linked_joined four_joined e.grows row
 
   keeps_joined : Keeps e.joined new
   keeps_joined = grows_keeps e.joined new e.grows
@@ -68,7 +68,7 @@ module _ (w : Web) (outside : ℕ) (new : Web) (linked : IsLinked w) (four : Are
             follows = tt;
             ends = refl;
           };
-          back = e.frame.twin_inner k l;
+          back = e.frame.reverse_dart_inner k l;
           turns = refl;
         };
         holds = inl refl;
@@ -87,7 +87,7 @@ module _ (w : Web) (outside : ℕ) (new : Web) (linked : IsLinked w) (four : Are
             follows = tt;
             ends = refl;
           };
-          back = e.frame.twin_outer k l;
+          back = e.frame.reverse_dart_outer k l;
           turns = refl;
         };
         holds = inl refl;
@@ -128,7 +128,7 @@ module _ (w : Web) (outside : ℕ) (new : Web) (linked : IsLinked w) (four : Are
           follows = tt;
           ends = refl;
         };
-        back = ap e.joined.twin (sym first) ∙ e.join.chord.twin_there ∙ second;
+        back = ap e.joined.reverse_dart (sym first) ∙ e.join.chord.reverse_dart_there ∙ second;
         turns = refl;
       }
 
@@ -146,7 +146,7 @@ module _ (w : Web) (outside : ℕ) (new : Web) (linked : IsLinked w) (four : Are
           follows = tt;
           ends = refl;
         };
-        back = ap e.joined.twin (sym second) ∙ e.join.chord.twin_back ∙ first;
+        back = ap e.joined.reverse_dart (sym second) ∙ e.join.chord.reverse_dart_back ∙ first;
         turns = refl;
       }
 
@@ -166,7 +166,7 @@ module _ (w : Web) (outside : ℕ) (new : Web) (linked : IsLinked w) (four : Are
               follows = tt;
               ends = refl;
             })
-            (e.frame.twin_inner e.side e.side_in)
+            (e.frame.reverse_dart_inner e.side e.side_in)
             (split_doubled e.framed side_dart (e.framed.direction side_dart) 2 0 e.join.middle linked_framed e.join.e_in
             (four_framed side_dart e.join.e_in) (omega arith) refl e.join.split)
             (longer_end e.framed e.join.middle side_dart);

@@ -114,7 +114,7 @@ split_step w e way new linked e_in quarter split = record {
   stays = λ b l. elim (cases_eq b e) [
     | inl at ↦ subst (StaysBehind w new) (sym at)
         (inr (w.darts, split_doubled w e way 2 0 new linked e_in quarter (omega arith) refl split))
-    | inr not_e ↦ elim (cases_eq b (w.twin e)) [
+    | inr not_e ↦ elim (cases_eq b (w.reverse_dart e)) [
       | inl at ↦ subst (StaysBehind w new) (sym at)
           (inr (w.darts + 1, split_doubled_back w e way 2 0 new linked e_in quarter (omega arith) refl split))
       | inr not_t ↦ inl (split_kept w e way 2 new linked split b l not_e not_t)

@@ -1,7 +1,7 @@
 -- What it is that boxes dissect an orthogonal representation of a plane.
 use Rattle.std.specs.Prelude.{◌≡◌, ℕ, ◌+◌, ◌-◌, ◌*◌, ◌%◌, ◌<◌, ◌≤◌, ◌⊎◌, List, [], ◌∷◌, map, length, reverse}
-use Rattle.faces.specs.Map.{Map, darts, vertices, head, mate, next}
-use Rattle.ortho_rep.specs.Shapes.{Figure, angle_at, turns_at}
+use Rattle.faces.specs.Planes.{PlaneModel, darts, vertices, head, reverse_dart, next}
+use Rattle.ortho_rep.specs.Shapes.{ShapeModel, angle_at, turns_at}
 use Rattle.ortho_rep.specs.Edges.{lesser_darts}
 use Rattle.ortho_rep.specs.Representation.{bends_of}
 use Rattle.cutting.specs.Webs.{Web, IsSound}
@@ -10,18 +10,18 @@ use Rattle.cutting.specs.Paths.{HasPaths, IsPath}
 use Rattle.bending.specs.Bends.{AreHeadings, CountsBends, KeepsDarts, KeepsFaces}
 use Rattle.bending.specs.Steps.{angle_of}
 use Rattle.edge_paths.specs.Rows.{AreRows}
-use Rattle.dissect.specs.Boxes.{Parts, AreBoxes, web}
+use Rattle.dissect.specs.Boxes.{BoxesModel, AreBoxes, web}
 use Rattle.dissect.specs.Rectangle.{HasRectangle, IsJoinedAt}
 
 -- the drawing of the shape, with straight edges, before anything is put round it: it has the plane's vertices and darts, a
 -- vertex at each bend, and the plane's faces
-pub record IsDrawing (p : Map) (shape : Figure) (w : Web) : Type 0 where
+pub record IsDrawing (p : PlaneModel) (shape : ShapeModel) (w : Web) : Type 0 where
   pub sound : IsSound w
   pub kept : KeepsDarts p (angle_at shape) w
   pub directions : AreHeadings p (angle_at shape) (turns_at shape) w.direction
   pub faces : KeepsFaces p w
   pub counts : CountsBends p (turns_at shape) w
-  pub paths : HasPaths w (darts p) (mate p) (λ d. map angle_of (turns_at shape d))
+  pub paths : HasPaths w (darts p) (reverse_dart p) (λ d. map angle_of (turns_at shape d))
 
 -- the numbers of one list stand on another in the same order, with what else there is between them
 abbrev pub StandOn : List ℕ → List ℕ → Type 0
@@ -30,7 +30,7 @@ StandOn (a ∷ rest) [] = ⊥
 StandOn (a ∷ rest) (b ∷ others) = ((a ≡ b) × StandOn rest others) ⊎ StandOn (a ∷ rest) others
 
 -- the drawing of the shape stands in the boxes, in a rectangle to which it is joined at a right turn of its outer face
-pub record IsEnclosedDrawing (p : Map) (shape : Figure) (b : Parts) : Type 0 where
+pub record IsEnclosedDrawing (p : PlaneModel) (shape : ShapeModel) (b : BoxesModel) : Type 0 where
   pub drawing : Web
   pub drawn : IsDrawing p shape drawing
   -- its darts arrive where and as they did
@@ -47,19 +47,19 @@ pub record IsEnclosedDrawing (p : Map) (shape : Figure) (b : Parts) : Type 0 whe
   pub join : IsJoinedAt drawing right (web b)
 
 -- the paths of the plane's darts lie apart
-pub record ArePathsApart (p : Map) (w : Web) : Type 0 where
+pub record ArePathsApart (p : PlaneModel) (w : Web) : Type 0 where
   -- the path of a dart's reverse has the reverses of its own darts, last first
-  pub back : (d first first' : ℕ) (rest rest' : List ℕ) → d < darts p → IsPath w d first rest → IsPath w (mate p d) first' rest' →
-      first' ∷ rest' ≡ map w.twin (reverse (first ∷ rest))
+  pub back : (d first first' : ℕ) (rest rest' : List ℕ) → d < darts p → IsPath w d first rest → IsPath w (reverse_dart p d) first' rest' →
+      first' ∷ rest' ≡ map w.reverse_dart (reverse (first ∷ rest))
   -- a path comes to no vertex twice, nor back to where it sets out
   pub once : (d first : ℕ) (rest : List ℕ) → d < darts p → IsPath w d first rest →
-      Distinct (w.head (w.twin first) ∷ map w.head (first ∷ rest))
+      Distinct (w.head (w.reverse_dart first) ∷ map w.head (first ∷ rest))
   -- the paths of two darts of the plane, be they of two edges or of one, share no dart
   pub apart : (d e a first first' : ℕ) (rest rest' : List ℕ) → d < darts p → e < darts p → IsPath w d first rest →
       IsPath w e first' rest' → In a (first ∷ rest) → In a (first' ∷ rest') → d ≡ e
 
 -- the boxes dissect the shape of the plane p
-pub record IsBoxed (p : Map) (shape : Figure) (b : Parts) : Type 0 where
+pub record IsBoxed (p : PlaneModel) (shape : ShapeModel) (b : BoxesModel) : Type 0 where
   -- they run straight in four directions round vertices, are joined, and each face of them is a box but the outside
   pub boxes : AreBoxes b
   -- the plane's vertices are the first ones, and its edges are told by their lesser darts
@@ -70,13 +70,13 @@ pub record IsBoxed (p : Map) (shape : Figure) (b : Parts) : Type 0 where
   pub few : b.vertices ≤ 3 * vertices p + 2 * bends_of (darts p) (turns_at shape) + 5
   -- each dart of the plane is the last piece of a path that sets out where its reverse arrives, and turns as its string says
   pub heads : (d : ℕ) → d < darts p → (web b).head d ≡ head p d - 1
-  pub paths : HasPaths (web b) (darts p) (mate p) (λ d. map angle_of (turns_at shape d))
+  pub paths : HasPaths (web b) (darts p) (reverse_dart p) (λ d. map angle_of (turns_at shape d))
   -- it comes to no vertex twice, its reverse takes it the other way, and no other dart shares a piece of it
   pub apart : ArePathsApart p (web b)
   -- paths meet nowhere but at their ends, which are vertices of the plane: between the darts of a path, of a side of the rectangle and
   -- of the join lie vertices that are on no other, and are none of the plane's
   pub rows : AreRows (vertices p) (web b)
   -- at its head it makes its angle with the next dart: the reverse of the next dart arrives so many quarters to the right
-  pub angles : (d : ℕ) → d < darts p → ((web b).direction (mate p (next p d)) + angle_at shape d) % 4 ≡ (web b).direction d
+  pub angles : (d : ℕ) → d < darts p → ((web b).direction (reverse_dart p (next p d)) + angle_at shape d) % 4 ≡ (web b).direction d
   -- round the whole stands a rectangle, joined to it at a right turn of the plane's outer face
   pub enclosed : IsEnclosedDrawing p shape b

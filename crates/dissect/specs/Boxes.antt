@@ -4,17 +4,17 @@ use Rattle.directions.specs.declared.Direction.{Direction}
 use Rattle.directions.specs.declared.Direction.TheVariants.{East, North, West, South}
 use Rattle.cutting.specs.declared.table.DartTable.{DartTable}
 use Rattle.cutting.specs.Webs.{Web, IsSound, no_dart}
-use Rattle.cutting.specs.Faces.{IsCorner, IsFour, IsOutside, ReachesCorners}
+use Rattle.cutting.specs.Faces.{IsCorner, IsRectangle, IsOutside, ReachesCorners}
 use Rattle.cutting.specs.Paths.{IsPath, IsJoined}
 
-pub record Parts : Type 0 where
+pub record BoxesModel : Type 0 where
   -- how many darts and vertices there are
   pub darts : ℕ
   pub vertices : ℕ
   -- what belongs to dart d stands at place d
   pub next : List ℕ
   pub prev : List ℕ
-  pub twin : List ℕ
+  pub reverse_dart : List ℕ
   pub head : List ℕ
   pub direction : List ℕ
   pub angle : List ℕ
@@ -27,13 +27,13 @@ pub record Parts : Type 0 where
   pub paths : List (List ℕ)
 
 -- the drawing that the parts are
-abbrev pub web : Parts → Web
+abbrev pub web : BoxesModel → Web
 web b = record {
   darts = b.darts;
   vertices = b.vertices;
   next = λ a. slice_index b.next a;
   prev = λ a. slice_index b.prev a;
-  twin = λ a. slice_index b.twin a;
+  reverse_dart = λ a. slice_index b.reverse_dart a;
   head = λ a. slice_index b.head a;
   direction = λ a. slice_index b.direction a;
   angle = λ a. slice_index b.angle a;
@@ -41,13 +41,13 @@ web b = record {
 }
 
 -- the boxes that a table holds, for a plane of `old` vertices, these lesser darts, and their paths
-abbrev pub parts_of : DartTable → ℕ → List ℕ → List (List ℕ) → Parts
+abbrev pub parts_of : DartTable → ℕ → List ℕ → List (List ℕ) → BoxesModel
 parts_of t old edges paths = record {
   darts = t.darts;
   vertices = t.vertices;
   next = t.next.items;
   prev = t.prev.items;
-  twin = t.twin.items;
+  reverse_dart = t.reverse_dart.items;
   head = t.head.items;
   direction = t.direction.items;
   angle = t.angle.items;
@@ -65,13 +65,13 @@ number_of West = 2
 number_of South = 3
 
 -- the edge e of the plane is a path of the web
-pub record HasEdge (b : Parts) (e : ℕ) : Type 0 where
+pub record HasEdge (b : BoxesModel) (e : ℕ) : Type 0 where
   pub first : ℕ
   pub rest : List ℕ
   pub path : IsPath (web b) (slice_index b.edges e) first rest
 
 -- these are the darts of the path that the edge e of the plane is, in walking order
-pub record IsEdgePath (b : Parts) (e : ℕ) (darts : List ℕ) : Type 0 where
+pub record IsEdgePath (b : BoxesModel) (e : ℕ) (darts : List ℕ) : Type 0 where
   pub edge : HasEdge b e
   pub listed : darts ≡ edge.first ∷ edge.rest
 
@@ -81,11 +81,11 @@ pub record IsCutUp (w : Web) : Type 0 where
   -- a dart of the outside
   pub outside : ℕ
   pub outside_in : outside < w.darts
-  pub around : IsFour w 3 outside
-  pub corners : (a : ℕ) → a < w.darts → IsCorner w a → IsFour w 1 a ⊎ IsOutside w outside a
+  pub around : IsRectangle w 3 outside
+  pub corners : (a : ℕ) → a < w.darts → IsCorner w a → IsRectangle w 1 a ⊎ IsOutside w outside a
 
 -- what is kept of all boxes: edges run straight in four directions and meet at vertices; the parts of the plane are there
-pub record AreBoxes (b : Parts) : Type 0 where
+pub record AreBoxes (b : BoxesModel) : Type 0 where
   pub sound : IsSound (web b)
   pub joined : IsJoined (web b)
   pub faces : IsCutUp (web b)

@@ -1,15 +1,16 @@
 -- Numbers in the order of the darts, and the points that are taken from them.
 use Rattle.std.specs.Prelude.{◌≡◌, ℕ, ◌<◌, ◌≤◌, ◌⊎◌, map, length}
 use Rattle.std.specs.List.{range_with_len}
+use Rattle.ortho_rep.specs.declared.points.TheConstants.{MAX_COORDINATE}
 use Rattle.cutting.specs.Webs.{Web}
 use Rattle.cutting.specs.Paths.{turning_places}
 use Rattle.ortho_rep.specs.declared.points.Point.{Point}
-use Rattle.ortho_rep.specs.Points.{Plot, corners_at}
-use Rattle.dissect.specs.Boxes.{Parts, HasEdge, web}
+use Rattle.ortho_rep.specs.Points.{PointsModel, corners_at}
+use Rattle.dissect.specs.Boxes.{BoxesModel, HasEdge, web}
 
 -- the vertex that a dart comes from
 abbrev pub tail : Web → ℕ → ℕ
-tail w a = w.head (w.twin a)
+tail w a = w.head (w.reverse_dart a)
 
 -- along a dart to the east x grows and y stays, along a dart to the north y grows and x stays; so the other way
 -- round to the west and south
@@ -19,14 +20,14 @@ pub record IsOrdered (w : Web) (x y : ℕ → ℕ) : Type 0 where
 
 -- the numbers of the first n vertices are within the grid
 abbrev pub AreWithin : ℕ → (ℕ → ℕ) → Type 0
-AreWithin n x = (v : ℕ) → v < n → x v ≤ 65535
+AreWithin n x = (v : ℕ) → v < n → x v ≤ MAX_COORDINATE
 
 -- the point of a vertex
 abbrev pub point_at : (ℕ → ℕ) → (ℕ → ℕ) → ℕ → Point
 point_at x y v = record { x = x v; y = y v }
 
 -- the points of the plane's vertices, and along each of its edges those of the places where its path turns, in order
-pub record AreTaken (b : Parts) (x y : ℕ → ℕ) (points : Plot) : Type 0 where
+pub record AreTaken (b : BoxesModel) (x y : ℕ → ℕ) (points : PointsModel) : Type 0 where
   pub vertices : points.vertices ≡ map (point_at x y) (range_with_len 0 b.old)
   pub vertex_count : length points.vertices ≡ b.old
   pub count : length points.corners ≡ length b.edges
@@ -34,7 +35,7 @@ pub record AreTaken (b : Parts) (x y : ℕ → ℕ) (points : Plot) : Type 0 whe
       → corners_at points e ≡ map (point_at x y) (turning_places (web b) edge.first edge.rest)
 
 -- the points are taken from some numbers in order, within the grid
-pub record AreLaidOut (b : Parts) (points : Plot) : Type 0 where
+pub record AreLaidOut (b : BoxesModel) (points : PointsModel) : Type 0 where
   pub x : ℕ → ℕ
   pub y : ℕ → ℕ
   pub ordered : IsOrdered (web b) x y
@@ -46,6 +47,6 @@ pub record AreLaidOut (b : Parts) (points : Plot) : Type 0 where
   pub taken : AreTaken b x y points
 
 -- no numbers in order are all within the grid
-abbrev pub HasNoPlace : Parts → Type 0
+abbrev pub HasNoPlace : BoxesModel → Type 0
 HasNoPlace b = (x y : ℕ → ℕ) → IsOrdered (web b) x y
-    → (v : ℕ) × (v < b.vertices) × ((65535 < x v) ⊎ (65535 < y v))
+    → (v : ℕ) × (v < b.vertices) × ((MAX_COORDINATE < x v) ⊎ (MAX_COORDINATE < y v))

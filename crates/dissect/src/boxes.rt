@@ -10,7 +10,7 @@ use directions::Direction;
 use std::marker::Model;
 
 /// A dissection: the drawing of a plane in four directions, enclosed in a rectangle and cut until each
-/// face is one. Its edges have no bends. In contracts it is a `Parts`: a web of darts, how many vertices
+/// face is one. Its edges have no bends. In contracts it is a `BoxesModel`: a web of darts, how many vertices
 /// of it are the plane's, and the lesser darts of the plane's edges.
 ///
 /// Vertices and darts are numbered from 0. The plane's vertex v is vertex v - 1; a dart of the plane
@@ -26,9 +26,9 @@ pub struct Boxes {
 }
 
 impl Model for Boxes {
-    ghost use Rattle.dissect.specs.Boxes.{Parts, AreBoxes, parts_of};
+    ghost use Rattle.dissect.specs.Boxes.{BoxesModel, AreBoxes, parts_of};
 
-    ghost Value = { Parts };
+    ghost Value = { BoxesModel };
 
     ghost view = { λ b. parts_of b.table b.old b.edges.items b.paths };
 
@@ -68,10 +68,10 @@ impl Boxes {
     /// The vertex that a dart comes from.
     pub fn tail(&self, dart: u32) -> u32
         requires { dart < self.now.darts }
-        ensures value { result ≡ (web self.now).head ((web self.now).twin dart) }
+        ensures value { result ≡ (web self.now).head ((web self.now).reverse_dart dart) }
         ensures inside { result < self.now.vertices }
     {
-        self.table.head[self.table.twin[dart as usize] as usize]
+        self.table.head[self.table.reverse_dart[dart as usize] as usize]
     }
 
     /// The vertex that a dart goes to.
@@ -86,10 +86,10 @@ impl Boxes {
     /// The dart along the same edge the other way.
     pub fn reverse(&self, dart: u32) -> u32
         requires { dart < self.now.darts }
-        ensures value { result ≡ (web self.now).twin dart }
+        ensures value { result ≡ (web self.now).reverse_dart dart }
         ensures inside { result < self.now.darts }
     {
-        self.table.twin[dart as usize]
+        self.table.reverse_dart[dart as usize]
     }
 
     /// The next dart of the face on the left.

@@ -3,7 +3,7 @@
 ghost use Rattle.std.specs.Prelude.{◌≡◌, ◌<◌, ℕ, List, [], ◌∷◌, ◌++◌, IfOk, OnOk, length, slice_index, slice_index_or};
 ghost use Rattle.cutting.specs.Paths.{IsPath};
 ghost use Rattle.cutting.specs.Tables.{web_of};
-ghost use Rattle.faces.specs.Map.{darts, face_at};
+ghost use Rattle.faces.specs.Planes.{darts, face_at};
 ghost use Rattle.ortho_rep.specs.Edges.{lesser_darts};
 
 use crate::paths::Paths;

@@ -4,11 +4,12 @@ use Rattle.std.proofs.Math.ListN.{set}
 use Rattle.std.proofs.Math.Seq.{get_or-append_right}
 use Rattle.std.proofs.lemmas.Bool.{both_ways, cases_eq, cases_lt, ltb-true, le-ltb, lt-ltb, cond-true, cond-false}
 use Rattle.std.proofs.lemmas.List.{get_or-set_same, get_or-set_other, length-set, get_or-reverse}
+use Rattle.embedding.specs.declared.graphs.TheConstants.{MAX_DARTS}
 use Rattle.directions.specs.declared.Direction.{Direction}
 use Rattle.directions.specs.declared.Direction.TheVariants.{East}
-use Rattle.faces.specs.Map.{Map, HasEnds, darts, mate}
+use Rattle.faces.specs.Planes.{PlaneModel, HasEnds, darts, reverse_dart}
 use Rattle.ortho_rep.specs.declared.points.Point.{Point}
-use Rattle.ortho_rep.specs.Points.{Plot, origin}
+use Rattle.ortho_rep.specs.Points.{PointsModel, origin}
 use Rattle.ortho_rep.specs.Edges.{is_lesser, edge_number}
 use Rattle.ortho_rep.proofs.EdgeNumbers.{edge_number-more}
 use Rattle.drawing_check.specs.declared.route.Route.{Route}
@@ -30,8 +31,8 @@ both_written old new gives d r v w d_in r_in is is_v is_w k other =
     (cases_eq k d))
     (cases_eq k r)
 
-pub leaving-lesser : (p : Map) (points : Plot) (d : ℕ) → is_lesser p d ≡ true → leaving p points d ≡ direction_of (path_along p points d) 0
-leaving-lesser p points d lesser = ap (λ (path : List Point). direction_of path 0) (cond-true (is_lesser p d) (path_along p points d) (reverse (path_along p points (mate p d))) lesser)
+pub leaving-lesser : (p : PlaneModel) (points : PointsModel) (d : ℕ) → is_lesser p d ≡ true → leaving p points d ≡ direction_of (path_along p points d) 0
+leaving-lesser p points d lesser = ap (λ (path : List Point). direction_of path 0) (cond-true (is_lesser p d) (path_along p points d) (reverse (path_along p points (reverse_dart p d))) lesser)
 
 -- the last two points of a path of n corners
 pub point_of-end : (start end : Point) (corners : List Point) → point_of (start ∷ (corners ++ end ∷ [])) (length corners + 1) ≡ end
@@ -50,17 +51,17 @@ turned_round path n size =
     ap (λ (q : Point). direction_between q (point_of (reverse path) 1)) (get_or-reverse path 0 origin (omega arith) ∙ ap (λ (i : ℕ). point_of path i) last)
     ∙ ap (λ (q : Point). direction_between (point_of path (n + 1)) q) (get_or-reverse path 1 origin (omega arith) ∙ ap (λ (i : ℕ). point_of path i) before)
 
-mate_is_greater : (p : Map) (d : ℕ) → HasEnds p → d < darts p → is_lesser p d ≡ true → is_lesser p (mate p d) ≡ false
-mate_is_greater p d ends inside lesser = turned d (mate p d) (mate p (mate p d)) lesser (ends.mate_back d inside)
+reverse_dart_is_greater : (p : PlaneModel) (d : ℕ) → HasEnds p → d < darts p → is_lesser p d ≡ true → is_lesser p (reverse_dart p d) ≡ false
+reverse_dart_is_greater p d ends inside lesser = turned d (reverse_dart p d) (reverse_dart p (reverse_dart p d)) lesser (ends.reverse_dart_back d inside)
   where
     turned : (a b c : ℕ) → ltb a b ≡ true → c ≡ a → ltb b c ≡ false
     turned a b c less same = le-ltb b c (omega (arith, ltb-true a b less))
 
-pub leaving-mate : (p : Map) (points : Plot) (d : ℕ) (n : ℕ) → HasEnds p → d < darts p → is_lesser p d ≡ true → length (path_along p points d) ≡ n + 2 → leaving p points (mate p d) ≡ direction_between (point_of (path_along p points d) (n + 1)) (point_of (path_along p points d) n)
-leaving-mate p points d n ends inside lesser size =
+pub leaving-reverse_dart : (p : PlaneModel) (points : PointsModel) (d : ℕ) (n : ℕ) → HasEnds p → d < darts p → is_lesser p d ≡ true → length (path_along p points d) ≡ n + 2 → leaving p points (reverse_dart p d) ≡ direction_between (point_of (path_along p points d) (n + 1)) (point_of (path_along p points d) n)
+leaving-reverse_dart p points d n ends inside lesser size =
     let path : List Point = path_along p points d in
-    ap (λ (q : List Point). direction_of q 0) (cond-false (is_lesser p (mate p d)) (path_along p points (mate p d)) (reverse (path_along p points (mate p (mate p d)))) (mate_is_greater p d ends inside lesser))
-    ∙ ap (λ (e : ℕ). direction_of (reverse (path_along p points e)) 0) (ends.mate_back d inside)
+    ap (λ (q : List Point). direction_of q 0) (cond-false (is_lesser p (reverse_dart p d)) (path_along p points (reverse_dart p d)) (reverse (path_along p points (reverse_dart p (reverse_dart p d)))) (reverse_dart_is_greater p d ends inside lesser))
+    ∙ ap (λ (e : ℕ). direction_of (reverse (path_along p points e)) 0) (ends.reverse_dart_back d inside)
     ∙ turned_round path n size
 
 -- ---- a route's ends
@@ -69,11 +70,11 @@ pub first_direction : (route : Route) (path : List Point) (q : Point) (v : Direc
 first_direction route path q v is_path is_q is_v =
     is_v ∙ ap (λ (u : Point). direction_between route.start u) is_q ∙ ap (λ (l : List Point). direction_of l 0) is_path
 
-pub leaves_out : (p : Map) (points : Plot) (d : ℕ) (route : Route) (q : Point) (v : Direction) → is_lesser p d ≡ true → path_of route ≡ path_along p points d → q ≡ point_of (path_of route) 1 → v ≡ direction_between route.start q → v ≡ leaving p points d
+pub leaves_out : (p : PlaneModel) (points : PointsModel) (d : ℕ) (route : Route) (q : Point) (v : Direction) → is_lesser p d ≡ true → path_of route ≡ path_along p points d → q ≡ point_of (path_of route) 1 → v ≡ direction_between route.start q → v ≡ leaving p points d
 leaves_out p points d route q v lesser is_path is_q is_v =
     first_direction route (path_along p points d) q v is_path is_q is_v ∙ sym (leaving-lesser p points d lesser)
 
-pub leaves_back : (p : Map) (points : Plot) (d : ℕ) (route : Route) (q : Point) (v : Direction) → HasEnds p → d < darts p → is_lesser p d ≡ true → path_of route ≡ path_along p points d → q ≡ point_of (path_of route) (length route.corners.now) → v ≡ direction_between route.end q → v ≡ leaving p points (mate p d)
+pub leaves_back : (p : PlaneModel) (points : PointsModel) (d : ℕ) (route : Route) (q : Point) (v : Direction) → HasEnds p → d < darts p → is_lesser p d ≡ true → path_of route ≡ path_along p points d → q ≡ point_of (path_of route) (length route.corners.now) → v ≡ direction_between route.end q → v ≡ leaving p points (reverse_dart p d)
 leaves_back p points d route q v ends inside lesser is_path is_q is_v =
     let n = length route.corners.now in
     let size : length (path_of route) ≡ n + 2 = omega (arith, length-append route.corners.now (route.end ∷ [])) in
@@ -81,27 +82,27 @@ leaves_back p points d route q v ends inside lesser is_path is_q is_v =
     ∙ ap (λ (u : Point). direction_between route.end u) is_q
     ∙ ap (λ (u : Point). direction_between u (point_of (path_of route) n)) (sym (point_of-end route.start route.end route.corners.now))
     ∙ ap (λ (l : List Point). direction_between (point_of l (n + 1)) (point_of l n)) is_path
-    ∙ sym (leaving-mate p points d n ends inside lesser (sym (ap length is_path) ∙ size))
+    ∙ sym (leaving-reverse_dart p points d n ends inside lesser (sym (ap length is_path) ∙ size))
 
 -- ---- one dart more
 
-pub number_of_lesser : (p : Map) (d : ℕ) → is_lesser p d ≡ true → edge_number p (d + 1) ≡ edge_number p d + 1
+pub number_of_lesser : (p : PlaneModel) (d : ℕ) → is_lesser p d ≡ true → edge_number p (d + 1) ≡ edge_number p d + 1
 number_of_lesser p d lesser = edge_number-more p d ∙ ap (λ (n : ℕ). edge_number p d + n) (cond-true (is_lesser p d) 1 0 lesser)
 
-pub number_of_greater : (p : Map) (d : ℕ) → is_lesser p d ≡ false → edge_number p (d + 1) ≡ edge_number p d
+pub number_of_greater : (p : PlaneModel) (d : ℕ) → is_lesser p d ≡ false → edge_number p (d + 1) ≡ edge_number p d
 number_of_greater p d greater = edge_number-more p d ∙ ap (λ (n : ℕ). edge_number p d + n) (cond-false (is_lesser p d) 1 0 greater) ∙ omega arith
 
--- the darts below n that are lesser, and their mates, have their directions
-pub record IsLeaving (p : Map) (points : Plot) (directions : List Direction) (n : ℕ) : Type 0 where
-  pub size : length directions ≡ 1020
+-- the darts below n that are lesser, and their reverses, have their directions
+pub record IsLeaving (p : PlaneModel) (points : PointsModel) (directions : List Direction) (n : ℕ) : Type 0 where
+  pub size : length directions ≡ MAX_DARTS
   pub out : (d : ℕ) → d < n → is_lesser p d ≡ true → direction_at directions d ≡ leaving p points d
-  pub back : (d : ℕ) → d < n → is_lesser p d ≡ true → direction_at directions (mate p d) ≡ leaving p points (mate p d)
+  pub back : (d : ℕ) → d < n → is_lesser p d ≡ true → direction_at directions (reverse_dart p d) ≡ leaving p points (reverse_dart p d)
 
-pub leaving_more : (p : Map) (points : Plot) (old new : List Direction) (n i j : ℕ) (v w : Direction) → HasEnds p → IsLeaving p points old n → n < darts p → i ≡ n → j ≡ mate p n → new ≡ set (set old i v) j w → v ≡ leaving p points n → w ≡ leaving p points (mate p n) → IsLeaving p points new (n + 1)
+pub leaving_more : (p : PlaneModel) (points : PointsModel) (old new : List Direction) (n i j : ℕ) (v w : Direction) → HasEnds p → IsLeaving p points old n → n < darts p → i ≡ n → j ≡ reverse_dart p n → new ≡ set (set old i v) j w → v ≡ leaving p points n → w ≡ leaving p points (reverse_dart p n) → IsLeaving p points new (n + 1)
 leaving_more p points old new n i j v w ends is inside is_i is_j is_new is_v is_w =
     let few = ends.few_darts in
     let size = is.size in
-    let mate_in : mate p n < darts p = ends.mate_inside n inside in
+    let reverse_dart_in : reverse_dart p n < darts p = ends.reverse_dart_inside n inside in
     let i_in : i < length old = omega arith in
     let j_in : j < length old = omega arith in
     let v_is : v ≡ leaving p points i = is_v ∙ ap (leaving p points) (sym is_i) in
@@ -110,12 +111,12 @@ leaving_more p points old new n i j v w ends is inside is_i is_j is_new is_v is_
     record {
       size = ap length is_new ∙ length-set (set old i v) j w ∙ length-set old i v ∙ size;
       out = λ d below lesser. written d (λ not_i not_j. is.out d (omega arith) lesser);
-      back = λ d below lesser. written (mate p d) (λ not_i not_j.
-          ⊎_elim (λ same. absurd (not_j (ap (mate p) same ∙ sym is_j))) (λ ne. is.back d (omega arith) lesser) (cases_eq d n));
+      back = λ d below lesser. written (reverse_dart p d) (λ not_i not_j.
+          ⊎_elim (λ same. absurd (not_j (ap (reverse_dart p) same ∙ sym is_j))) (λ ne. is.back d (omega arith) lesser) (cases_eq d n));
     }
 
 -- a dart that is not lesser adds nothing
-pub leaving_kept : (p : Map) (points : Plot) (directions : List Direction) (n : ℕ) → IsLeaving p points directions n → is_lesser p n ≡ false → IsLeaving p points directions (n + 1)
+pub leaving_kept : (p : PlaneModel) (points : PointsModel) (directions : List Direction) (n : ℕ) → IsLeaving p points directions n → is_lesser p n ≡ false → IsLeaving p points directions (n + 1)
 leaving_kept p points directions n is greater =
     record {
       size = is.size;
@@ -127,15 +128,15 @@ leaving_kept p points directions n is greater =
     earlier d below lesser = ⊎_elim (λ same. absurd (both_ways (is_lesser p n) greater (subst (λ (e : ℕ). is_lesser p e ≡ true) same lesser))) (λ ne. omega arith) (cases_eq d n)
 
 -- in the end each dart has
-pub all_leave : (p : Map) (points : Plot) (directions : List Direction) (n : ℕ) → HasEnds p → IsLeaving p points directions n → darts p ≤ n → (d : ℕ) → d < darts p → direction_at directions d ≡ leaving p points d
+pub all_leave : (p : PlaneModel) (points : PointsModel) (directions : List Direction) (n : ℕ) → HasEnds p → IsLeaving p points directions n → darts p ≤ n → (d : ℕ) → d < darts p → direction_at directions d ≡ leaving p points d
 all_leave p points directions n ends is all d inside =
     ⊎_elim
-    (λ less. is.out d (omega arith) (lt-ltb d (mate p d) less))
+    (λ less. is.out d (omega arith) (lt-ltb d (reverse_dart p d) less))
     (λ ge.
-    let back = ends.mate_back d inside in
-    let lesser : is_lesser p (mate p d) ≡ true = lesser_back d (mate p d) (mate p (mate p d)) ge (λ e. ends.mate_apart d inside e) back in
-    subst (λ (e : ℕ). direction_at directions e ≡ leaving p points e) back (is.back (mate p d) (let inner = ends.mate_inside d inside in omega arith) lesser))
-    (cases_lt d (mate p d))
+    let back = ends.reverse_dart_back d inside in
+    let lesser : is_lesser p (reverse_dart p d) ≡ true = lesser_back d (reverse_dart p d) (reverse_dart p (reverse_dart p d)) ge (λ e. ends.reverse_dart_apart d inside e) back in
+    subst (λ (e : ℕ). direction_at directions e ≡ leaving p points e) back (is.back (reverse_dart p d) (let inner = ends.reverse_dart_inside d inside in omega arith) lesser))
+    (cases_lt d (reverse_dart p d))
   where
     lesser_back : (a b c : ℕ) → b ≤ a → (b ≡ a → ⊥) → c ≡ a → ltb b c ≡ true
     lesser_back a b c ge ne same = lt-ltb b c (omega arith)

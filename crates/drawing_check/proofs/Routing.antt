@@ -5,10 +5,10 @@ use Rattle.std.proofs.lemmas.List.{get_or-map, length-map, map_push, append-nil}
 use Rattle.std.proofs.lemmas.List.FromFn.{get_or-range_with_len, length-range_with_len}
 use Rattle.std.proofs.lemmas.List.Elements.{All-map, All-filter, All-contains, filter_passes, Contains-append_left, Contains-append_right}
 use Rattle.std.proofs.lemmas.Bool.{cases_eq, cond-true, cond-false}
-use Rattle.faces.specs.Map.{Map, darts}
+use Rattle.faces.specs.Planes.{PlaneModel, darts}
 use Rattle.ortho_rep.proofs.EdgeNumbers.{lesser-more}
 use Rattle.ortho_rep.specs.declared.points.Point.{Point}
-use Rattle.ortho_rep.specs.Points.{Plot}
+use Rattle.ortho_rep.specs.Points.{PointsModel}
 use Rattle.ortho_rep.specs.Edges.{is_lesser, lesser_darts}
 use Rattle.drawing_check.specs.Paths.{path_along, paths}
 use Rattle.drawing_check.specs.Draws.{IsOnAxes, AreOnAxes}
@@ -17,7 +17,7 @@ use Rattle.drawing_check.specs.Draws.{IsOnAxes, AreOnAxes}
 pub all_from_map : {X Y : Type 0} (P : Y → Type 0) (f : X → Y) (xs : List X) → All P (map f xs) → All (λ x. P (f x)) xs
 all_from_map P f xs h = λ k d lt. subst P (get_or-map f xs k d (f d) lt) (h k (f d) (omega (arith, length-map xs f)))
 
-lesser_inside : (p : Map) → All (λ d. d < darts p) (lesser_darts p)
+lesser_inside : (p : PlaneModel) → All (λ d. d < darts p) (lesser_darts p)
 lesser_inside p = All-filter (is_lesser p) (λ d. d < darts p) (range_with_len 0 (darts p)) (λ k d lt. let size = length-range_with_len 0 (darts p) in let value = get_or-range_with_len 0 (darts p) k d (omega arith) in omega arith)
 
 -- each lesser dart below n stands in their list
@@ -35,14 +35,14 @@ lesser_in q (suc n) d lt here =
     (cases_eq d n))
 
 -- what holds of all in their list holds of each lesser dart, and the other way
-pub each_lesser : (P : ℕ → Type 0) (p : Map) → All P (lesser_darts p) ↔ ((d : ℕ) → d < darts p → is_lesser p d ≡ true → P d)
+pub each_lesser : (P : ℕ → Type 0) (p : PlaneModel) → All P (lesser_darts p) ↔ ((d : ℕ) → d < darts p → is_lesser p d ≡ true → P d)
 each_lesser P p = (
   λ all d lt here. All-contains P (lesser_darts p) d all (lesser_in (is_lesser p) (darts p) d lt here),
   λ each k d lt. each (get_or (lesser_darts p) k d) (lesser_inside p k d lt) (filter_passes (is_lesser p) (range_with_len 0 (darts p)) k d lt),
 )
 
 -- one dart more
-pub each_more : (P : ℕ → Type 0) (p : Map) (n : ℕ) → ((d : ℕ) → d < n → is_lesser p d ≡ true → P d) → (is_lesser p n ≡ true → P n) → (d : ℕ) → d < n + 1 → is_lesser p d ≡ true → P d
+pub each_more : (P : ℕ → Type 0) (p : PlaneModel) (n : ℕ) → ((d : ℕ) → d < n → is_lesser p d ≡ true → P d) → (is_lesser p n ≡ true → P n) → (d : ℕ) → d < n + 1 → is_lesser p d ≡ true → P d
 each_more P p n before last d lt lesser =
     ⊎_elim
     (λ e. subst P (sym e) (last (subst (λ (m : ℕ). is_lesser p m ≡ true) e lesser)))
@@ -50,7 +50,7 @@ each_more P p n before last d lt lesser =
     (cases_eq d n)
 
 -- all paths are on axes where that of each lesser dart is, and the other way
-pub axes_each : (p : Map) (points : Plot) → AreOnAxes (paths p points) ↔ ((d : ℕ) → d < darts p → is_lesser p d ≡ true → IsOnAxes (path_along p points d))
+pub axes_each : (p : PlaneModel) (points : PointsModel) → AreOnAxes (paths p points) ↔ ((d : ℕ) → d < darts p → is_lesser p d ≡ true → IsOnAxes (path_along p points d))
 axes_each p points =
     let each = each_lesser (λ d. IsOnAxes (path_along p points d)) p in (
       λ h. each.0 (all_from_map IsOnAxes (path_along p points) (lesser_darts p) h),
@@ -58,15 +58,15 @@ axes_each p points =
     )
 
 -- the paths of the lesser darts below n
-abbrev pub paths_below : Map → Plot → ℕ → List (List Point)
+abbrev pub paths_below : PlaneModel → PointsModel → ℕ → List (List Point)
 paths_below p points n = map (path_along p points) (filter (is_lesser p) (range_with_len 0 n))
 
-pub paths_below-more : (p : Map) (points : Plot) (n : ℕ) → is_lesser p n ≡ true → paths_below p points (n + 1) ≡ paths_below p points n ++ path_along p points n ∷ []
+pub paths_below-more : (p : PlaneModel) (points : PointsModel) (n : ℕ) → is_lesser p n ≡ true → paths_below p points (n + 1) ≡ paths_below p points n ++ path_along p points n ∷ []
 paths_below-more p points n lesser =
     ap (map (path_along p points)) (lesser-more (is_lesser p) n ∙ ap (λ (ds : List ℕ). filter (is_lesser p) (range_with_len 0 n) ++ ds) (cond-true (is_lesser p n) (n ∷ []) [] lesser))
     ∙ map_push (path_along p points) (filter (is_lesser p) (range_with_len 0 n)) n
 
-pub paths_below-kept : (p : Map) (points : Plot) (n : ℕ) → is_lesser p n ≡ false → paths_below p points (n + 1) ≡ paths_below p points n
+pub paths_below-kept : (p : PlaneModel) (points : PointsModel) (n : ℕ) → is_lesser p n ≡ false → paths_below p points (n + 1) ≡ paths_below p points n
 paths_below-kept p points n greater =
     ap (map (path_along p points))
     (lesser-more (is_lesser p) n ∙ ap (λ (ds : List ℕ). filter (is_lesser p) (range_with_len 0 n) ++ ds) (cond-false (is_lesser p n) (n ∷ []) [] greater) ∙ append-nil (filter (is_lesser p) (range_with_len 0 n)))

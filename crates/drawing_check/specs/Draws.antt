@@ -1,15 +1,16 @@
 -- What it is that points draw a shape of a plane: four conditions, each on the paths of the edges.
 use Rattle.std.specs.Prelude.{◌≡◌, ◌≢◌, ℕ, ◌+◌, ◌<◌, ◌≤◌, ◌⊎◌, List, ◌++◌, length, nat_lt, slice_index_or, if◌then◌else◌, All}
 use Rattle.std.specs.List.{flat_map}
+use Rattle.ortho_rep.specs.declared.points.TheConstants.{MAX_COORDINATE}
 use Rattle.directions.specs.declared.Direction.{Direction}
 use Rattle.directions.specs.declared.Direction.TheVariants.{East, North, West, South}
 use Rattle.directions.specs.Directions.{left_of, right_of, lefts}
-use Rattle.faces.specs.Map.{Map, darts, mate, next}
+use Rattle.faces.specs.Planes.{PlaneModel, darts, reverse_dart, next}
 use Rattle.ortho_rep.specs.declared.turn.Turn.{Turn}
 use Rattle.ortho_rep.specs.declared.turn.Turn.TheVariants.{Left, Right}
 use Rattle.ortho_rep.specs.declared.points.Point.{Point}
-use Rattle.ortho_rep.specs.Shapes.{Figure, angle_at, turns_at}
-use Rattle.ortho_rep.specs.Points.{Plot}
+use Rattle.ortho_rep.specs.Shapes.{ShapeModel, angle_at, turns_at}
+use Rattle.ortho_rep.specs.Points.{PointsModel}
 use Rattle.ortho_rep.specs.Edges.{lesser_darts}
 use Rattle.drawing_check.specs.Paths.{path_along, paths, dart_path, point_of}
 use Rattle.drawing_check.specs.Walks.{inner, HasNoRepeat}
@@ -17,9 +18,9 @@ use Rattle.drawing_check.specs.Walks.{inner, HasNoRepeat}
 -- ---- 1. every coordinate is 0 to 65,535
 
 abbrev pub IsInGrid : Point → Type 0
-IsInGrid point = (point.x ≤ 65535) × (point.y ≤ 65535)
+IsInGrid point = (point.x ≤ MAX_COORDINATE) × (point.y ≤ MAX_COORDINATE)
 
-pub record AreInGrid (points : Plot) : Type 0 where
+pub record AreInGrid (points : PointsModel) : Type 0 where
   pub ends : All IsInGrid points.vertices
   pub bends : All (All IsInGrid) points.corners
 
@@ -56,24 +57,24 @@ pub record IsTurning (path : List Point) (turns : List Turn) : Type 0 where
       → direction_of path (k + 1) ≡ turned (slice_index_or turns k Left) (direction_of path k)
 
 -- the direction in which dart d leaves its tail
-abbrev pub leaving : Map → Plot → ℕ → Direction
+abbrev pub leaving : PlaneModel → PointsModel → ℕ → Direction
 leaving p points d = direction_of (dart_path p points d) 0
 
 -- The angle of a dart lies at its head on the left, between the next dart of its face and the way back along its
 -- reverse: so many quarters to the left of the next dart is the way back. So the direction turns by 2 less the
 -- angle, in left quarters, from a dart to the next.
-pub record TurnAsSaid (p : Map) (shape : Figure) (points : Plot) : Type 0 where
+pub record TurnAsSaid (p : PlaneModel) (shape : ShapeModel) (points : PointsModel) : Type 0 where
   pub edges : All (λ d. IsTurning (path_along p points d) (turns_at shape d)) (lesser_darts p)
   pub heads : (d : ℕ) → d < darts p
-      → leaving p points (mate p d) ≡ lefts (angle_at shape d) (leaving p points (next p d))
+      → leaving p points (reverse_dart p d) ≡ lefts (angle_at shape d) (leaving p points (next p d))
 
 -- ---- 4. the list of all vertex points and of all points met between the ends of paths has no repeat
 
-abbrev pub MeetNowhere : Plot → List (List Point) → Type 0
+abbrev pub MeetNowhere : PointsModel → List (List Point) → Type 0
 MeetNowhere points ps = HasNoRepeat (points.vertices ++ flat_map inner ps)
 
 -- the points draw the shape
-pub record Draws (p : Map) (shape : Figure) (points : Plot) : Type 0 where
+pub record Draws (p : PlaneModel) (shape : ShapeModel) (points : PointsModel) : Type 0 where
   pub grid : AreInGrid points
   pub axes : AreOnAxes (paths p points)
   pub turns : TurnAsSaid p shape points

@@ -1,7 +1,7 @@
 //! Whether all segments are parallel to an axis.
 
 ghost use Rattle.std.specs.Prelude.{◌≡◌, ◌*◌, ◌↔◌, length, IsTrue};
-ghost use Rattle.faces.specs.Map.{darts, vertices};
+ghost use Rattle.faces.specs.Planes.{darts, vertices};
 ghost use Rattle.drawing_check.specs.Paths.{paths};
 ghost use Rattle.drawing_check.specs.Draws.{IsAxis, IsOnAxes, AreOnAxes};
 ghost use Rattle.drawing_check.specs.Routes.{path_of};

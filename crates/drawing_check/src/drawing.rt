@@ -1,7 +1,7 @@
 //! The check of a drawing, and what it makes.
 
 ghost use Rattle.std.specs.Prelude.{◌≡◌, ◌*◌, length, IfOk, IfErr, IfNone, IfSome, Some};
-ghost use Rattle.faces.specs.Map.{darts, vertices};
+ghost use Rattle.faces.specs.Planes.{darts, vertices};
 ghost use Rattle.ortho_rep.specs.Representation.{HasDarts, IsShape};
 ghost use Rattle.drawing_check.specs.Draws.{Draws};
 ghost use Rattle.drawing_check.specs.Faults.{IsFirstFault, KeepsFirstThree};
@@ -23,9 +23,9 @@ pub struct Drawing {
 }
 
 impl Model for Drawing {
-    ghost use Rattle.ortho_rep.specs.Points.{Plot};
+    ghost use Rattle.ortho_rep.specs.Points.{PointsModel};
 
-    ghost Value = { Plot };
+    ghost Value = { PointsModel };
 
     ghost view = { λ a. a.points };
 }

@@ -3,10 +3,7 @@
 ghost use Rattle.std.specs.Prelude.{◌≡◌, ◌↔◌, length, IsTrue, All};
 ghost use Rattle.drawing_check.specs.Draws.{IsInGrid, AreInGrid};
 
-use ortho_rep::{Point, Points};
-
-/// The greatest coordinate of the grid.
-const GRID_END: u32 = 65_535;
+use ortho_rep::{MAX_COORDINATE, Point, Points};
 
 /// Whether all vertices and all corners of so many edges lie in the grid.
 pub(crate) fn are_in_grid(points: &Points, edges: u16) -> bool
@@ -27,5 +24,7 @@ pub(crate) fn are_in_grid(points: &Points, edges: u16) -> bool
 fn all_in_grid(points: &[Point]) -> bool
     ensures { IsTrue result ↔ All IsInGrid points.now }
 {
-    points.iter().all(|p| p.x <= GRID_END && p.y <= GRID_END)
+    points
+        .iter()
+        .all(|p| p.x <= MAX_COORDINATE && p.y <= MAX_COORDINATE)
 }

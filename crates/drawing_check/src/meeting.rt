@@ -1,7 +1,7 @@
 //! Whether some point is met twice, by vertices and paths.
 
 ghost use Rattle.std.specs.Prelude.{◌≡◌, ◌*◌, ◌↔◌, ◌++◌, length, IsTrue, IfOk, OnOk};
-ghost use Rattle.faces.specs.Map.{darts, vertices};
+ghost use Rattle.faces.specs.Planes.{darts, vertices};
 ghost use Rattle.drawing_check.specs.Paths.{paths};
 ghost use Rattle.drawing_check.specs.Walks.{toward, step_from};
 ghost use Rattle.drawing_check.specs.Draws.{AreOnAxes, MeetNowhere};

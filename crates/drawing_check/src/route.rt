@@ -1,7 +1,7 @@
 //! The path of an edge, seen in place.
 
 ghost use Rattle.std.specs.Prelude.{◌≡◌, ℕ, ◌+◌, ◌*◌, ◌<◌, ◌≤◌, length, IsTrue};
-ghost use Rattle.faces.specs.Map.{darts, vertices};
+ghost use Rattle.faces.specs.Planes.{darts, vertices};
 ghost use Rattle.ortho_rep.specs.Edges.{is_lesser, edge_number};
 ghost use Rattle.drawing_check.specs.Paths.{path_along, point_of};
 ghost use Rattle.drawing_check.specs.Routes.{path_of};

@@ -1,8 +1,9 @@
 //! Whether the turns at corners and the angles at vertices are those of a shape.
 
 ghost use Rattle.std.specs.Prelude.{◌≡◌, ℕ, ◌+◌, ◌*◌, ◌<◌, ◌≤◌, ◌↔◌, length, IsTrue, All};
+ghost use Rattle.embedding.specs.declared.graphs.TheConstants.{MAX_DARTS};
 ghost use Rattle.directions.specs.Directions.{lefts};
-ghost use Rattle.faces.specs.Map.{darts, vertices, mate, next};
+ghost use Rattle.faces.specs.Planes.{darts, vertices, reverse_dart, next};
 ghost use Rattle.ortho_rep.specs.Shapes.{angle_at, turns_at};
 ghost use Rattle.ortho_rep.specs.Representation.{HasDarts};
 ghost use Rattle.ortho_rep.specs.Edges.{lesser_darts};
@@ -12,11 +13,9 @@ ghost use Rattle.drawing_check.specs.Routes.{path_of, direction_at};
 
 use crate::route::{Route, route_of};
 use directions::Direction;
+use embedding::MAX_DARTS;
 use faces::Plane;
 use ortho_rep::{Point, Points, Shape, Turn};
-
-/// The most darts that a plane has.
-const MAX_DARTS: usize = 1020;
 
 /// Whether each corner and each angle is that of the shape.
 pub(crate) fn turn_as_said(plane: &Plane, shape: &Shape, points: &Points) -> bool
@@ -72,7 +71,7 @@ fn is_turning(route: &Route<'_>, turns: &[Turn]) -> bool
 fn leaving_directions(plane: &Plane, points: &Points) -> [Direction; MAX_DARTS]
     requires vertices { length points.now.vertices ≡ vertices plane.now }
     requires corners { 2 * length points.now.corners ≡ darts plane.now }
-    ensures size { length result ≡ 1020 }
+    ensures size { length result ≡ MAX_DARTS }
     ensures each { (d : ℕ) → d < darts plane.now
         → direction_at result d ≡ leaving plane.now points.now d }
 {
@@ -99,7 +98,7 @@ fn heads_turn(plane: &Plane, shape: &Shape, points: &Points) -> bool
     requires corners { 2 * length points.now.corners ≡ darts plane.now }
     ensures { IsTrue result
         ↔ ((d : ℕ) → d < darts plane.now
-        → leaving plane.now points.now (mate plane.now d)
+        → leaving plane.now points.now (reverse_dart plane.now d)
         ≡ lefts (angle_at shape.now d) (leaving plane.now points.now (next plane.now d))) }
 {
     let graph = plane.graph();

@@ -19,8 +19,8 @@ pub record IsEdge (N P T H D A : List ℕ) : Type 0 where
   pub next_1 : get_or N 1 0 ≡ 0
   pub prev_0 : get_or P 0 0 ≡ 1
   pub prev_1 : get_or P 1 0 ≡ 0
-  pub twin_0 : get_or T 0 0 ≡ 1
-  pub twin_1 : get_or T 1 0 ≡ 0
+  pub reverse_dart_0 : get_or T 0 0 ≡ 1
+  pub reverse_dart_1 : get_or T 1 0 ≡ 0
   pub head_0 : get_or H 0 0 ≡ 1
   pub head_1 : get_or H 1 0 ≡ 0
   pub direction_0 : get_or D 0 0 ≡ 0
@@ -31,22 +31,22 @@ pub record IsEdge (N P T H D A : List ℕ) : Type 0 where
 pub edge_sound : (N P T H D A B : List ℕ) → IsEdge N P T H D A → IsSound (web_from 2 2 N P T H D A B)
 edge_sound N P T H D A B e =
     let w : Web = web_from 2 2 N P T H D A B in
-    let clockwise_0 : w.twin (w.next 0) ≡ 0 = ap w.twin e.next_0 ∙ e.twin_1 in
-    let clockwise_1 : w.twin (w.next 1) ≡ 1 = ap w.twin e.next_1 ∙ e.twin_0 in
+    let clockwise_0 : w.reverse_dart (w.next 0) ≡ 0 = ap w.reverse_dart e.next_0 ∙ e.reverse_dart_1 in
+    let clockwise_1 : w.reverse_dart (w.next 1) ≡ 1 = ap w.reverse_dart e.next_1 ∙ e.reverse_dart_0 in
     let linked : IsLinked w = record {
       next_in = by_two (λ a. w.next a < 2) (omega (arith, e.next_0)) (omega (arith, e.next_1));
       prev_in = by_two (λ a. w.prev a < 2) (omega (arith, e.prev_0)) (omega (arith, e.prev_1));
       next_back = by_two (λ a. w.prev (w.next a) ≡ a) (ap w.prev e.next_0 ∙ e.prev_1) (ap w.prev e.next_1 ∙ e.prev_0);
       prev_back = by_two (λ a. w.next (w.prev a) ≡ a) (ap w.next e.prev_0 ∙ e.next_1) (ap w.next e.prev_1 ∙ e.next_0);
-      twin_in = by_two (λ a. w.twin a < 2) (omega (arith, e.twin_0)) (omega (arith, e.twin_1));
-      twin_back = by_two (λ a. w.twin (w.twin a) ≡ a) (ap w.twin e.twin_0 ∙ e.twin_1) (ap w.twin e.twin_1 ∙ e.twin_0);
-      twin_apart = by_two (λ a. w.twin a ≢ a) (λ h. omega (arith, h, e.twin_0)) (λ h. omega (arith, h, e.twin_1));
+      reverse_dart_in = by_two (λ a. w.reverse_dart a < 2) (omega (arith, e.reverse_dart_0)) (omega (arith, e.reverse_dart_1));
+      reverse_dart_back = by_two (λ a. w.reverse_dart (w.reverse_dart a) ≡ a) (ap w.reverse_dart e.reverse_dart_0 ∙ e.reverse_dart_1) (ap w.reverse_dart e.reverse_dart_1 ∙ e.reverse_dart_0);
+      reverse_dart_apart = by_two (λ a. w.reverse_dart a ≢ a) (λ h. omega (arith, h, e.reverse_dart_0)) (λ h. omega (arith, h, e.reverse_dart_1));
     } in
     let meeting : IsMeeting w = record {
       head_in = by_two (λ a. w.head a < 2) (omega (arith, e.head_0)) (omega (arith, e.head_1));
-      meets = by_two (λ a. w.head (w.twin (w.next a)) ≡ w.head a) (ap w.head clockwise_0) (ap w.head clockwise_1);
+      meets = by_two (λ a. w.head (w.reverse_dart (w.next a)) ≡ w.head a) (ap w.head clockwise_0) (ap w.head clockwise_1);
       quarter = by_two (λ a. w.direction a < 4) (omega (arith, e.direction_0)) (omega (arith, e.direction_1));
-      turns = by_two (λ a. (w.direction (w.twin (w.next a)) + w.angle a) % 4 ≡ w.direction a)
+      turns = by_two (λ a. (w.direction (w.reverse_dart (w.next a)) + w.angle a) % 4 ≡ w.direction a)
           (omega (arith, ap w.direction clockwise_0, e.angle_0, e.direction_0))
           (omega (arith, ap w.direction clockwise_1, e.angle_1, e.direction_1));
       some = by_two (λ a. 1 ≤ w.angle a) (omega (arith, e.angle_0)) (omega (arith, e.angle_1));
@@ -56,9 +56,9 @@ edge_sound N P T H D A B e =
     record {
       linked = linked;
       meeting = meeting;
-      straight = by_two (λ a. w.direction (w.twin a) ≡ (w.direction a + 2) % 4)
-          (omega (arith, ap w.direction e.twin_0, e.direction_0, e.direction_1))
-          (omega (arith, ap w.direction e.twin_1, e.direction_0, e.direction_1));
+      straight = by_two (λ a. w.direction (w.reverse_dart a) ≡ (w.direction a + 2) % 4)
+          (omega (arith, ap w.direction e.reverse_dart_0, e.direction_0, e.direction_1))
+          (omega (arith, ap w.direction e.reverse_dart_1, e.direction_0, e.direction_1));
     }
 
 pub edge_turns : (N P T H D A B : List ℕ) → IsEdge N P T H D A → HasTurns (web_from 2 2 N P T H D A B) (λ _. 0) 0

@@ -38,7 +38,7 @@ fn expect_bent_edge(rt: &impl Abort, table: &DartTable) {
     );
     begins(rt, &table.next, &[3, 2, 0, 1]);
     begins(rt, &table.prev, &[2, 3, 1, 0]);
-    begins(rt, &table.twin, &[3, 2, 1, 0]);
+    begins(rt, &table.reverse_dart, &[3, 2, 1, 0]);
     begins(rt, &table.head, &[1, 0, 2, 2]);
     begins(rt, &table.before, &[2, 3, NO_DART, NO_DART]);
     begins(rt, &table.direction, &[0, 1, 3, 2]);

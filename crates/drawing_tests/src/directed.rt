@@ -1,7 +1,7 @@
 //! Directions worked out by hand, and those of least shapes against the rules read dart by dart.
 
 ghost use Rattle.std.specs.Prelude.{◌<◌, length};
-ghost use Rattle.faces.specs.Map.{darts};
+ghost use Rattle.faces.specs.Planes.{darts};
 
 use crate::families::{K4, OCTAHEDRON};
 use crate::planes::{EDGE, TRIANGLE, plane_in, plane_of, same};

@@ -36,7 +36,7 @@ fn small_numbers(alloc: Global, first: u8, others: u8) -> Result<Vec<u8>, AllocE
     Ok(list)
 }
 
-/// An edge to the east, from the vertex 0 to the vertex 1, and its twin.
+/// An edge to the east, from the vertex 0 to the vertex 1, and its reverse.
 fn edge(alloc: Global) -> Result<DartTable, AllocError>
     ensures sound { IfOk result (λ t. IsSound (web_of t)) }
     ensures turns { IfOk result (λ t. HasTurns (web_of t) (λ _. 0) 0) }
@@ -45,7 +45,7 @@ fn edge(alloc: Global) -> Result<DartTable, AllocError>
 {
     let next = numbers(alloc, 1, 0)?;
     let prev = numbers(alloc, 1, 0)?;
-    let twin = numbers(alloc, 1, 0)?;
+    let reverse_dart = numbers(alloc, 1, 0)?;
     let head = numbers(alloc, 1, 0)?;
     let before = numbers(alloc, NO_DART, NO_DART)?;
     let direction = small_numbers(alloc, 0, 2)?;
@@ -53,7 +53,7 @@ fn edge(alloc: Global) -> Result<DartTable, AllocError>
     Ok(DartTable {
         next,
         prev,
-        twin,
+        reverse_dart,
         head,
         before,
         direction,

@@ -8,12 +8,12 @@ use Rattle.cutting.specs.Paths.{Follows, IsPath, HasPaths}
 use Rattle.edge_paths.proofs.Backwards.{path_unique, path_distinct}
 use Rattle.edge_paths.proofs.Rows.{HasRows}
 
--- the darts behind the twin of the last dart on the way back
+-- the darts behind the reverse of the last dart on the way back
 abbrev pub backs : Web → ℕ → List ℕ → List ℕ
 backs w a [] = []
-backs w a (b ∷ bs) = backs w b bs ++ (w.twin a ∷ [])
+backs w a (b ∷ bs) = backs w b bs ++ (w.reverse_dart a ∷ [])
 
-follows_push : (w : Web) (x z : ℕ) (xs : List ℕ) → Follows w x xs → w.before z ≡ last_of x xs → w.head (w.twin z) ≡ w.head (last_of x xs) →
+follows_push : (w : Web) (x z : ℕ) (xs : List ℕ) → Follows w x xs → w.before z ≡ last_of x xs → w.head (w.reverse_dart z) ≡ w.head (last_of x xs) →
     Follows w x (xs ++ (z ∷ []))
 follows_push w x z [] follows before head = (before, head, tt)
 follows_push w x z (y ∷ ys) follows before head = (follows.0, follows.1, follows_push w y z ys follows.2 before head)
@@ -93,16 +93,16 @@ in_reverse y (x ∷ xs) here =
     ])
 
 -- a web whose rows are the edges of a plane of v vertices and n darts, without loops
-pub record AreEdges (v : ℕ) (w : Web) (n : ℕ) (mate : ℕ → ℕ) (quarters : ℕ → List ℕ) : Type 0 where
+pub record AreEdges (v : ℕ) (w : Web) (n : ℕ) (reverse_dart : ℕ → ℕ) (quarters : ℕ → List ℕ) : Type 0 where
   pub rows : HasRows v w
   pub narrow : w.darts ≤ no_dart
-  pub paths : HasPaths w n mate quarters
-  pub mate_in : (d : ℕ) → d < n → mate d < n
-  pub mate_apart : (d : ℕ) → d < n → mate d ≢ d
+  pub paths : HasPaths w n reverse_dart quarters
+  pub reverse_dart_in : (d : ℕ) → d < n → reverse_dart d < n
+  pub reverse_dart_apart : (d : ℕ) → d < n → reverse_dart d ≢ d
   pub ends : (d : ℕ) → d < n → w.head d < v
-  pub no_loop : (d : ℕ) → d < n → w.head (mate d) ≢ w.head d
+  pub no_loop : (d : ℕ) → d < n → w.head (reverse_dart d) ≢ w.head d
 
-module _ (v : ℕ) (w : Web) (n : ℕ) (mate : ℕ → ℕ) (quarters : ℕ → List ℕ) (are : AreEdges v w n mate quarters) where
+module _ (v : ℕ) (w : Web) (n : ℕ) (reverse_dart : ℕ → ℕ) (quarters : ℕ → List ℕ) (are : AreEdges v w n reverse_dart quarters) where
   dart_in : (d : ℕ) → d < n → d < w.darts
   dart_in d l = omega (arith, are.paths.few)
 
@@ -120,10 +120,10 @@ module _ (v : ℕ) (w : Web) (n : ℕ) (mate : ℕ → ℕ) (quarters : ℕ → 
   -- before two darts there never stands the same one
   before_apart : (a b c : ℕ) → a < w.darts → b < w.darts → c < w.darts → w.before b ≡ a → w.before c ≡ a → b ≡ c
   before_apart a b c a_in b_in c_in at_b at_c =
-      let twins : w.twin b ≡ w.twin c =
-      sym (are.rows.rows.back b b_in (some a b at_b a_in)) ∙ ap (λ (k : ℕ). w.before (w.twin k)) (at_b ∙ sym at_c)
+      let reverse_darts : w.reverse_dart b ≡ w.reverse_dart c =
+      sym (are.rows.rows.back b b_in (some a b at_b a_in)) ∙ ap (λ (k : ℕ). w.before (w.reverse_dart k)) (at_b ∙ sym at_c)
       ∙ are.rows.rows.back c c_in (some a c at_c a_in) in
-      sym (are.rows.linked.twin_back b b_in) ∙ ap w.twin twins ∙ are.rows.linked.twin_back c c_in
+      sym (are.rows.linked.reverse_dart_back b b_in) ∙ ap w.reverse_dart reverse_darts ∙ are.rows.linked.reverse_dart_back c c_in
 
   rest_same : (y d e : ℕ) (bs cs : List ℕ) → y < w.darts → d < n → e < n → Follows w y bs → Follows w y cs → Below w.darts bs →
       Below w.darts cs → last_of y bs ≡ d → last_of y cs ≡ e → d ≡ e
@@ -144,75 +144,75 @@ module _ (v : ℕ) (w : Web) (n : ℕ) (mate : ℕ → ℕ) (quarters : ℕ → 
       rest_same y d e one.list two.list (in_below w.darts y (first ∷ rest) (path.first_in, path.rest_in) here) d_in e_in one.follows
       two.follows one.below two.below (one.last ∙ path.ends) (two.last ∙ path'.ends)
 
-  backs_last : (a : ℕ) (rest : List ℕ) → last_of (w.twin (last_of a rest)) (backs w a rest) ≡ w.twin a
+  backs_last : (a : ℕ) (rest : List ℕ) → last_of (w.reverse_dart (last_of a rest)) (backs w a rest) ≡ w.reverse_dart a
   backs_last a [] = refl
-  backs_last a (b ∷ bs) = last_push (w.twin (last_of b bs)) (w.twin a) (backs w b bs)
+  backs_last a (b ∷ bs) = last_push (w.reverse_dart (last_of b bs)) (w.reverse_dart a) (backs w b bs)
 
   backs_follow : (a : ℕ) (rest : List ℕ) → a < w.darts → Below w.darts rest → Follows w a rest →
-      Follows w (w.twin (last_of a rest)) (backs w a rest)
+      Follows w (w.reverse_dart (last_of a rest)) (backs w a rest)
   backs_follow a [] a_in below follows = tt
   backs_follow a (b ∷ bs) a_in below follows =
-      let behind : last_of (w.twin (last_of b bs)) (backs w b bs) ≡ w.twin b = backs_last b bs in
-      follows_push w (w.twin (last_of b bs)) (w.twin a) (backs w b bs) (backs_follow b bs below.0 below.1 follows.2)
-      (ap (λ (k : ℕ). w.before (w.twin k)) (sym follows.0) ∙ are.rows.rows.back b below.0 (some a b follows.0 a_in) ∙ sym behind)
-      (ap w.head (are.rows.linked.twin_back a a_in) ∙ sym follows.1 ∙ ap w.head (sym behind))
+      let behind : last_of (w.reverse_dart (last_of b bs)) (backs w b bs) ≡ w.reverse_dart b = backs_last b bs in
+      follows_push w (w.reverse_dart (last_of b bs)) (w.reverse_dart a) (backs w b bs) (backs_follow b bs below.0 below.1 follows.2)
+      (ap (λ (k : ℕ). w.before (w.reverse_dart k)) (sym follows.0) ∙ are.rows.rows.back b below.0 (some a b follows.0 a_in) ∙ sym behind)
+      (ap w.head (are.rows.linked.reverse_dart_back a a_in) ∙ sym follows.1 ∙ ap w.head (sym behind))
 
   backs_below : (a : ℕ) (rest : List ℕ) → a < w.darts → Below w.darts rest → Below w.darts (backs w a rest)
   backs_below a [] a_in below = tt
   backs_below a (b ∷ bs) a_in below =
-      below_push w.darts (w.twin a) (backs w b bs) (backs_below b bs below.0 below.1) (are.rows.linked.twin_in a a_in)
+      below_push w.darts (w.reverse_dart a) (backs w b bs) (backs_below b bs below.0 below.1) (are.rows.linked.reverse_dart_in a a_in)
 
-  backs_reverse : (a : ℕ) (rest : List ℕ) → w.twin (last_of a rest) ∷ backs w a rest ≡ map w.twin (reverse (a ∷ rest))
+  backs_reverse : (a : ℕ) (rest : List ℕ) → w.reverse_dart (last_of a rest) ∷ backs w a rest ≡ map w.reverse_dart (reverse (a ∷ rest))
   backs_reverse a [] = refl
   backs_reverse a (b ∷ bs) =
-      ap (λ (xs : List ℕ). xs ++ (w.twin a ∷ [])) (backs_reverse b bs)
-      ∙ sym (map_push w.twin (reverse (b ∷ bs)) a)
-      ∙ ap (map w.twin) (sym (reverse_onto (b ∷ bs) a []))
+      ap (λ (xs : List ℕ). xs ++ (w.reverse_dart a ∷ [])) (backs_reverse b bs)
+      ∙ sym (map_push w.reverse_dart (reverse (b ∷ bs)) a)
+      ∙ ap (map w.reverse_dart) (sym (reverse_onto (b ∷ bs) a []))
 
-  path_first : (d first : ℕ) (rest : List ℕ) → d < n → IsPath w d first rest → w.twin first ≡ mate d
+  path_first : (d first : ℕ) (rest : List ℕ) → d < n → IsPath w d first rest → w.reverse_dart first ≡ reverse_dart d
   path_first d first rest d_in path =
       let has = are.paths.paths d d_in in
-      ap w.twin (path_unique w d first has.first rest has.rest are.narrow path has.path).first ∙ has.back
+      ap w.reverse_dart (path_unique w d first has.first rest has.rest are.narrow path has.path).first ∙ has.back
 
   -- the way back along the edge of a dart
-  way_back : (d first : ℕ) (rest : List ℕ) → d < n → IsPath w d first rest → IsPath w (mate d) (w.twin d) (backs w first rest)
+  way_back : (d first : ℕ) (rest : List ℕ) → d < n → IsPath w d first rest → IsPath w (reverse_dart d) (w.reverse_dart d) (backs w first rest)
   way_back d first rest d_in path =
-      let inside : w.twin d < w.darts = are.rows.linked.twin_in d (dart_in d d_in) in
-      let end : w.twin (last_of first rest) ≡ w.twin d = ap w.twin path.ends in
+      let inside : w.reverse_dart d < w.darts = are.rows.linked.reverse_dart_in d (dart_in d d_in) in
+      let end : w.reverse_dart (last_of first rest) ≡ w.reverse_dart d = ap w.reverse_dart path.ends in
       record {
         first_in = inside;
         rest_in = backs_below first rest path.first_in path.rest_in;
-        start = elim (are.rows.rows.inside (w.twin d) inside) [
+        start = elim (are.rows.rows.inside (w.reverse_dart d) inside) [
           | inl none ↦ none
           | inr real ↦ absurd
-              (ends_there (w.twin (w.before (w.twin d))) d (are.rows.linked.twin_in (w.before (w.twin d)) real) d_in
-              (are.rows.rows.back (w.twin d) inside (some (w.before (w.twin d)) (w.twin d) refl real)
-              ∙ are.rows.linked.twin_back d (dart_in d d_in)))
+              (ends_there (w.reverse_dart (w.before (w.reverse_dart d))) d (are.rows.linked.reverse_dart_in (w.before (w.reverse_dart d)) real) d_in
+              (are.rows.rows.back (w.reverse_dart d) inside (some (w.before (w.reverse_dart d)) (w.reverse_dart d) refl real)
+              ∙ are.rows.linked.reverse_dart_back d (dart_in d d_in)))
         ];
         follows = subst (λ (k : ℕ). Follows w k (backs w first rest)) end
             (backs_follow first rest path.first_in path.rest_in path.follows);
         ends = ap (λ (k : ℕ). last_of k (backs w first rest)) (sym end) ∙ backs_last first rest ∙ path_first d first rest d_in path;
       }
 
-  -- the path of a dart's mate has the twins of its path, last first
-  pub paths_back : (d first first' : ℕ) (rest rest' : List ℕ) → d < n → IsPath w d first rest → IsPath w (mate d) first' rest' →
-      first' ∷ rest' ≡ map w.twin (reverse (first ∷ rest))
+  -- the path of a dart's reverse has the reverses of its path, last first
+  pub paths_back : (d first first' : ℕ) (rest rest' : List ℕ) → d < n → IsPath w d first rest → IsPath w (reverse_dart d) first' rest' →
+      first' ∷ rest' ≡ map w.reverse_dart (reverse (first ∷ rest))
   paths_back d first first' rest rest' d_in path path' =
-      let same = path_unique w (mate d) first' (w.twin d) rest' (backs w first rest) are.narrow path' (way_back d first rest d_in path) in
-      ap (λ (k : ℕ). k ∷ rest') same.first ∙ ap (λ (xs : List ℕ). w.twin d ∷ xs) same.rests
-      ∙ ap (λ (k : ℕ). w.twin k ∷ backs w first rest) (sym path.ends) ∙ backs_reverse first rest
+      let same = path_unique w (reverse_dart d) first' (w.reverse_dart d) rest' (backs w first rest) are.narrow path' (way_back d first rest d_in path) in
+      ap (λ (k : ℕ). k ∷ rest') same.first ∙ ap (λ (xs : List ℕ). w.reverse_dart d ∷ xs) same.rests
+      ∙ ap (λ (k : ℕ). w.reverse_dart k ∷ backs w first rest) (sym path.ends) ∙ backs_reverse first rest
 
-  -- no dart and its twin are on one path
-  twin_elsewhere : (d y first : ℕ) (rest : List ℕ) → d < n → IsPath w d first rest → In y (first ∷ rest) → In (w.twin y) (first ∷ rest) → ⊥
-  twin_elsewhere d y first rest d_in path here there =
-      let back : IsPath w (mate d) (w.twin d) (backs w first rest) = way_back d first rest d_in path in
-      let listed : w.twin d ∷ backs w first rest ≡ map w.twin (reverse (first ∷ rest)) =
-      paths_back d first (w.twin d) rest (backs w first rest) d_in path back in
-      let here_back : In (w.twin y) (w.twin d ∷ backs w first rest) =
-      subst (In (w.twin y)) (sym listed)
-      (in_mapped w.twin y (reverse (first ∷ rest)) (in_reverse y (first ∷ rest) here)) in
-      are.mate_apart d d_in
-      (paths_apart (mate d) d (w.twin y) (w.twin d) first (backs w first rest) rest (are.mate_in d d_in) d_in back path here_back there)
+  -- no dart and its reverse are on one path
+  reverse_dart_elsewhere : (d y first : ℕ) (rest : List ℕ) → d < n → IsPath w d first rest → In y (first ∷ rest) → In (w.reverse_dart y) (first ∷ rest) → ⊥
+  reverse_dart_elsewhere d y first rest d_in path here there =
+      let back : IsPath w (reverse_dart d) (w.reverse_dart d) (backs w first rest) = way_back d first rest d_in path in
+      let listed : w.reverse_dart d ∷ backs w first rest ≡ map w.reverse_dart (reverse (first ∷ rest)) =
+      paths_back d first (w.reverse_dart d) rest (backs w first rest) d_in path back in
+      let here_back : In (w.reverse_dart y) (w.reverse_dart d ∷ backs w first rest) =
+      subst (In (w.reverse_dart y)) (sym listed)
+      (in_mapped w.reverse_dart y (reverse (first ∷ rest)) (in_reverse y (first ∷ rest) here)) in
+      are.reverse_dart_apart d d_in
+      (paths_apart (reverse_dart d) d (w.reverse_dart y) (w.reverse_dart d) first (backs w first rest) rest (are.reverse_dart_in d d_in) d_in back path here_back there)
 
   -- the heads of a path from one of its darts on
   heads_distinct : (d start a : ℕ) (all rest : List ℕ) → d < n → IsPath w d start all → a < w.darts → Below w.darts rest →
@@ -232,8 +232,8 @@ module _ (v : ℕ) (w : Web) (n : ℕ) (mate : ℕ → ℕ) (quarters : ℕ → 
                   elim (are.rows.rows.own b c below.0 c_dart some_b (some y c before y_dart)
                   (ap w.head follows.0 ∙ sym at ∙ ap w.head (sym before))) [
                     | inl one ↦ distinct.0 (subst (λ (k : ℕ). In k (b ∷ bs)) (sym before ∙ ap w.before (sym one) ∙ follows.0) inside)
-                    | inr other ↦ twin_elsewhere d y start all d_in path (within y (inr inside))
-                        (subst (λ (k : ℕ). In k (start ∷ all)) (other ∙ ap w.twin before) (within b (inr (inl refl))))
+                    | inr other ↦ reverse_dart_elsewhere d y start all d_in path (within y (inr inside))
+                        (subst (λ (k : ℕ). In k (start ∷ all)) (other ∙ ap w.reverse_dart before) (within b (inr (inl refl))))
                   ]
             ]),
         heads_distinct d start b all bs d_in path below.0 below.1 follows.2 ends distinct.1 (λ y there. within y (inr there)),
@@ -241,12 +241,12 @@ module _ (v : ℕ) (w : Web) (n : ℕ) (mate : ℕ → ℕ) (quarters : ℕ → 
 
   -- a path comes to no vertex twice, and not back to where it sets out
   pub paths_once : (d first : ℕ) (rest : List ℕ) → d < n → IsPath w d first rest →
-      Distinct (w.head (w.twin first) ∷ map w.head (first ∷ rest))
+      Distinct (w.head (w.reverse_dart first) ∷ map w.head (first ∷ rest))
   paths_once d first rest d_in path =
-      let start : w.head (w.twin first) ≡ w.head (mate d) = ap w.head (path_first d first rest d_in path) in
-      let low : w.head (mate d) < v = are.ends (mate d) (are.mate_in d d_in) in (
+      let start : w.head (w.reverse_dart first) ≡ w.head (reverse_dart d) = ap w.head (path_first d first rest d_in path) in
+      let low : w.head (reverse_dart d) < v = are.ends (reverse_dart d) (are.reverse_dart_in d d_in) in (
         (λ again.
-            let (y, inside, at) = in_map w.head (w.head (w.twin first)) (first ∷ rest) again in
+            let (y, inside, at) = in_map w.head (w.head (w.reverse_dart first)) (first ∷ rest) again in
             elim (later w first y rest path.follows inside) [
               | inl last ↦ are.no_loop d d_in (sym start ∙ sym at ∙ ap w.head (last ∙ path.ends))
               | inr (c, c_in, before) ↦

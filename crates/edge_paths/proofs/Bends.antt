@@ -20,7 +20,7 @@ use Rattle.edge_paths.proofs.Lengthening.{
 }
 use Rattle.edge_paths.proofs.Splits.{split_keeps, split_kept, split_doubled, split_doubled_back, split_ends}
 
--- the edge of e turns; e is the last dart of its path, and its twin the first one of the way back
+-- the edge of e turns; e is the last dart of its path, and its reverse the first one of the way back
 pub record IsBent (w : Web) (e way bend : ℕ) (new : Web) : Type 0 where
   pub linked : IsLinked w
   pub e_in : e < w.darts
@@ -28,7 +28,7 @@ pub record IsBent (w : Web) (e way bend : ℕ) (new : Web) : Type 0 where
   pub quarter : way < 4
   pub turn : (bend ≡ 1) ⊎ (bend ≡ 3)
   pub split : IsSplit w e way bend new
-  pub first : w.before (w.twin e) ≡ no_dart
+  pub first : w.before (w.reverse_dart e) ≡ no_dart
   pub last : (b : ℕ) → b < w.darts → w.before b ≢ e
 
 pub bend_doubled : (w : Web) (e way bend : ℕ) (new : Web) → IsBent w e way bend new → IsDoubled w new e w.darts bend
@@ -44,7 +44,7 @@ bend_doubled w e way bend new bent =
     is bend (inr right) = omega (arith, right)
 
 pub bend_doubled_back : (w : Web) (e way bend : ℕ) (new : Web) → IsBent w e way bend new →
-    IsDoubled w new (w.twin e) (w.darts + 1) (4 - bend)
+    IsDoubled w new (w.reverse_dart e) (w.darts + 1) (4 - bend)
 bend_doubled_back w e way bend new bent =
     split_doubled_back w e way bend (4 - bend) new bent.linked bent.e_in bent.quarter (few bend bent.turn) (is bend bent.turn) bent.split
   where
@@ -64,9 +64,9 @@ pub bend_turns_back : (bend : ℕ) (ts : List ℕ) → (bend ≡ 1) ⊎ (bend �
 bend_turns_back bend ts (inl left) = turn_then-some (4 - bend) ts (λ h. omega (arith, left, h))
 bend_turns_back bend ts (inr right) = turn_then-some (4 - bend) ts (λ h. omega (arith, right, h))
 
--- the twin of e has nothing before it
+-- the reverse of e has nothing before it
 pub not_first : (w : Web) (e way bend : ℕ) (new : Web) → IsBent w e way bend new → (a b : ℕ) → a < w.darts → w.before b ≡ a →
-    b ≢ w.twin e
+    b ≢ w.reverse_dart e
 not_first w e way bend new bent a b l before at =
     let none : w.before b ≡ no_dart = ap w.before at ∙ bent.first in
     let narrow = bent.narrow in
@@ -85,7 +85,7 @@ other_longer w e way bend new bent a [] a_in below follows other = longer_end w 
 other_longer w e way bend new bent a (b ∷ bs) a_in below follows other =
     let longer = other_longer w e way bend new bent b bs below.0 below.1 follows.2 other in
     let not_e : b ≢ e = λ at. other (ap (last_of b) (after_last w e way bend new bent b bs at below.1 follows.2) ∙ at) in
-    let not_t : b ≢ w.twin e = not_first w e way bend new bent a b a_in follows.0 in
+    let not_t : b ≢ w.reverse_dart e = not_first w e way bend new bent a b a_in follows.0 in
     longer_kept w new a b bs (bends w b bs) (split_keeps w e way bend new bent.split) a_in follows
     (split_kept w e way bend new bent.linked bent.split b below.0 not_e not_t) longer
 
@@ -110,7 +110,7 @@ last_longer w e way bend new bent a (b ∷ bs) a_in below follows not_e last =
           (longer_doubled w new a b w.darts bend bs [] keeps a_in follows doubled longer)
       | inr other ↦
           let longer = last_longer w e way bend new bent b bs below.0 below.1 follows.2 other last in
-          let not_t : b ≢ w.twin e = not_first w e way bend new bent a b a_in follows.0 in
+          let not_t : b ≢ w.reverse_dart e = not_first w e way bend new bent a b a_in follows.0 in
           longer_turns w new a (b ∷ bs) (turn_then turn (bends w b bs ++ (bend ∷ []))) (bends w a (b ∷ bs) ++ (bend ∷ []))
           (turn_then-append turn (bends w b bs) (bend ∷ []))
           (longer_kept w new a b bs (bends w b bs ++ (bend ∷ [])) keeps a_in follows
@@ -118,9 +118,9 @@ last_longer w e way bend new bent a (b ∷ bs) a_in below follows not_e last =
     ]
 
 -- the path of e
-pub bend_path : (w : Web) (e way bend : ℕ) (new : Web) → IsBent w e way bend new → (mate : ℕ) (turns : List ℕ) → mate ≢ e →
-    HasPath w e mate turns → HasPath new e mate (turns ++ (bend ∷ []))
-bend_path w e way bend new bent mate turns apart old =
+pub bend_path : (w : Web) (e way bend : ℕ) (new : Web) → IsBent w e way bend new → (reverse_dart : ℕ) (turns : List ℕ) → reverse_dart ≢ e →
+    HasPath w e reverse_dart turns → HasPath new e reverse_dart (turns ++ (bend ∷ []))
+bend_path w e way bend new bent reverse_dart turns apart old =
     let f : ℕ = old.first in
     elim (cases_eq f e) [
       | inl at ↦
@@ -131,24 +131,24 @@ bend_path w e way bend new bent mate turns apart old =
           let longer : IsLonger w new f old.rest [] =
           subst (λ (zs : List ℕ). IsLonger w new f zs []) (sym end) (longer_end w new f) in
           let none : [] ≡ turns = ap (bends w f) (sym end) ∙ old.turns in
-          path_turns new e mate (turn_then bend []) (turns ++ (bend ∷ []))
+          path_turns new e reverse_dart (turn_then bend []) (turns ++ (bend ∷ []))
           (bend_turns bend [] bent.turn ∙ ap (λ (ts : List ℕ). ts ++ (bend ∷ [])) none)
-          (path_doubled w new e mate f w.darts bend old.rest [] old.path old.back doubled longer)
+          (path_doubled w new e reverse_dart f w.darts bend old.rest [] old.path old.back doubled longer)
       | inr not_e ↦
-          let not_t : f ≢ w.twin e = λ at. apart (sym old.back ∙ ap w.twin at ∙ bent.linked.twin_back e bent.e_in) in
-          path_kept w new e mate f old.rest (turns ++ (bend ∷ [])) old.path old.back
+          let not_t : f ≢ w.reverse_dart e = λ at. apart (sym old.back ∙ ap w.reverse_dart at ∙ bent.linked.reverse_dart_back e bent.e_in) in
+          path_kept w new e reverse_dart f old.rest (turns ++ (bend ∷ [])) old.path old.back
           (split_kept w e way bend new bent.linked bent.split f old.path.first_in not_e not_t)
           (longer_turns w new f old.rest (bends w f old.rest ++ (bend ∷ [])) (turns ++ (bend ∷ []))
           (ap (λ (ts : List ℕ). ts ++ (bend ∷ [])) old.turns)
           (last_longer w e way bend new bent f old.rest old.path.first_in old.path.rest_in old.path.follows not_e old.path.ends))
     ]
 
--- the path that sets out with its twin
+-- the path that sets out with its reverse
 pub bend_path_back : (w : Web) (e way bend : ℕ) (new : Web) → IsBent w e way bend new → (d : ℕ) (turns : List ℕ) → d ≢ e →
     HasPath w d e turns → HasPath new d e ((4 - bend) ∷ turns)
 bend_path_back w e way bend new bent d turns apart old =
     let f : ℕ = old.first in
-    let at : f ≡ w.twin e = sym (bent.linked.twin_back f old.path.first_in) ∙ ap w.twin old.back in
+    let at : f ≡ w.reverse_dart e = sym (bent.linked.reverse_dart_back f old.path.first_in) ∙ ap w.reverse_dart old.back in
     let doubled : IsDoubled w new f (w.darts + 1) (4 - bend) =
     subst (λ (k : ℕ). IsDoubled w new k (w.darts + 1) (4 - bend)) (sym at) (bend_doubled_back w e way bend new bent) in
     path_turns new d e (turn_then (4 - bend) turns) ((4 - bend) ∷ turns) (bend_turns_back bend turns bent.turn)
@@ -158,31 +158,31 @@ bend_path_back w e way bend new bent d turns apart old =
     (λ h. apart (sym old.path.ends ∙ h)))))
 
 -- the other paths
-pub bend_path_other : (w : Web) (e way bend : ℕ) (new : Web) → IsBent w e way bend new → (d mate : ℕ) (turns : List ℕ) → d ≢ e →
-    mate ≢ e → HasPath w d mate turns → HasPath new d mate turns
-bend_path_other w e way bend new bent d mate turns apart mate_apart old =
+pub bend_path_other : (w : Web) (e way bend : ℕ) (new : Web) → IsBent w e way bend new → (d reverse_dart : ℕ) (turns : List ℕ) → d ≢ e →
+    reverse_dart ≢ e → HasPath w d reverse_dart turns → HasPath new d reverse_dart turns
+bend_path_other w e way bend new bent d reverse_dart turns apart reverse_dart_apart old =
     let f : ℕ = old.first in
     let not_e : f ≢ e = λ at.
     apart (sym old.path.ends ∙ ap (last_of f) (after_last w e way bend new bent f old.rest at old.path.rest_in old.path.follows) ∙ at) in
-    let not_t : f ≢ w.twin e = λ at. mate_apart (sym old.back ∙ ap w.twin at ∙ bent.linked.twin_back e bent.e_in) in
-    path_kept w new d mate f old.rest turns old.path old.back
+    let not_t : f ≢ w.reverse_dart e = λ at. reverse_dart_apart (sym old.back ∙ ap w.reverse_dart at ∙ bent.linked.reverse_dart_back e bent.e_in) in
+    path_kept w new d reverse_dart f old.rest turns old.path old.back
     (split_kept w e way bend new bent.linked bent.split f old.path.first_in not_e not_t)
     (longer_turns w new f old.rest (bends w f old.rest) turns old.turns
     (other_longer w e way bend new bent f old.rest old.path.first_in old.path.rest_in old.path.follows
     (λ h. apart (sym old.path.ends ∙ h))))
 
 -- the paths after a turn in the edge of e
-pub bend_paths : (w : Web) (e way bend : ℕ) (new : Web) (n : ℕ) (mate : ℕ → ℕ) (quarters quarters' : ℕ → List ℕ) →
+pub bend_paths : (w : Web) (e way bend : ℕ) (new : Web) (n : ℕ) (reverse_dart : ℕ → ℕ) (quarters quarters' : ℕ → List ℕ) →
     IsLinked w → e < n → w.darts ≤ no_dart → way < 4 → (bend ≡ 1) ⊎ (bend ≡ 3) → IsSplit w e way bend new →
-    ((d : ℕ) → d < n → mate d < n) → ((d : ℕ) → d < n → mate (mate d) ≡ d) → mate e ≢ e →
-    quarters' e ≡ quarters e ++ (bend ∷ []) → quarters' (mate e) ≡ (4 - bend) ∷ quarters (mate e) →
-    ((d : ℕ) → d < n → d ≢ e → d ≢ mate e → quarters' d ≡ quarters d) →
-    HasPaths w n mate quarters → HasPaths new n mate quarters'
-bend_paths w e way bend new n mate quarters quarters' linked e_in narrow quarter turn split mate_in mate_back apart at_e at_mate at_other has =
+    ((d : ℕ) → d < n → reverse_dart d < n) → ((d : ℕ) → d < n → reverse_dart (reverse_dart d) ≡ d) → reverse_dart e ≢ e →
+    quarters' e ≡ quarters e ++ (bend ∷ []) → quarters' (reverse_dart e) ≡ (4 - bend) ∷ quarters (reverse_dart e) →
+    ((d : ℕ) → d < n → d ≢ e → d ≢ reverse_dart e → quarters' d ≡ quarters d) →
+    HasPaths w n reverse_dart quarters → HasPaths new n reverse_dart quarters'
+bend_paths w e way bend new n reverse_dart quarters quarters' linked e_in narrow quarter turn split reverse_dart_in reverse_dart_back apart at_e at_reverse_dart at_other has =
     let e_old : e < w.darts = omega (arith, e_in, has.few) in
-    let back : HasPath w (mate e) (mate (mate e)) (quarters (mate e)) = has.paths (mate e) (mate_in e e_in) in
-    let start : back.first ≡ w.twin e =
-    sym (linked.twin_back back.first back.path.first_in) ∙ ap w.twin (back.back ∙ mate_back e e_in) in
+    let back : HasPath w (reverse_dart e) (reverse_dart (reverse_dart e)) (quarters (reverse_dart e)) = has.paths (reverse_dart e) (reverse_dart_in e e_in) in
+    let start : back.first ≡ w.reverse_dart e =
+    sym (linked.reverse_dart_back back.first back.path.first_in) ∙ ap w.reverse_dart (back.back ∙ reverse_dart_back e e_in) in
     let bent : IsBent w e way bend new = record {
       linked = linked;
       e_in = e_old;
@@ -196,18 +196,18 @@ bend_paths w e way bend new n mate quarters quarters' linked e_in narrow quarter
     record {
       few = omega (arith, has.few, split.darts);
       paths = λ d l. elim (cases_eq d e) [
-        | inl at ↦ subst (λ (k : ℕ). HasPath new k (mate k) (quarters' k)) (sym at)
-            (path_turns new e (mate e) (quarters e ++ (bend ∷ [])) (quarters' e) (sym at_e)
-            (bend_path w e way bend new bent (mate e) (quarters e) apart (has.paths e e_in)))
-        | inr not_e ↦ elim (cases_eq d (mate e)) [
-          | inl at ↦ subst (λ (k : ℕ). HasPath new k (mate k) (quarters' k)) (sym at)
-              (subst (λ (k : ℕ). HasPath new (mate e) k (quarters' (mate e))) (sym (mate_back e e_in))
-              (path_turns new (mate e) e ((4 - bend) ∷ quarters (mate e)) (quarters' (mate e)) (sym at_mate)
-              (bend_path_back w e way bend new bent (mate e) (quarters (mate e)) apart
-              (subst (λ (k : ℕ). HasPath w (mate e) k (quarters (mate e))) (mate_back e e_in) back))))
-          | inr not_mate ↦ path_turns new d (mate d) (quarters d) (quarters' d) (sym (at_other d l not_e not_mate))
-              (bend_path_other w e way bend new bent d (mate d) (quarters d) not_e
-              (λ h. not_mate (sym (mate_back d l) ∙ ap mate h)) (has.paths d l))
+        | inl at ↦ subst (λ (k : ℕ). HasPath new k (reverse_dart k) (quarters' k)) (sym at)
+            (path_turns new e (reverse_dart e) (quarters e ++ (bend ∷ [])) (quarters' e) (sym at_e)
+            (bend_path w e way bend new bent (reverse_dart e) (quarters e) apart (has.paths e e_in)))
+        | inr not_e ↦ elim (cases_eq d (reverse_dart e)) [
+          | inl at ↦ subst (λ (k : ℕ). HasPath new k (reverse_dart k) (quarters' k)) (sym at)
+              (subst (λ (k : ℕ). HasPath new (reverse_dart e) k (quarters' (reverse_dart e))) (sym (reverse_dart_back e e_in))
+              (path_turns new (reverse_dart e) e ((4 - bend) ∷ quarters (reverse_dart e)) (quarters' (reverse_dart e)) (sym at_reverse_dart)
+              (bend_path_back w e way bend new bent (reverse_dart e) (quarters (reverse_dart e)) apart
+              (subst (λ (k : ℕ). HasPath w (reverse_dart e) k (quarters (reverse_dart e))) (reverse_dart_back e e_in) back))))
+          | inr not_reverse_dart ↦ path_turns new d (reverse_dart d) (quarters d) (quarters' d) (sym (at_other d l not_e not_reverse_dart))
+              (bend_path_other w e way bend new bent d (reverse_dart d) (quarters d) not_e
+              (λ h. not_reverse_dart (sym (reverse_dart_back d l) ∙ ap reverse_dart h)) (has.paths d l))
         ]
       ];
       ends = split_ends w n e way bend new has.few e_old linked split has.ends;

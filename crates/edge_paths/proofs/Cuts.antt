@@ -22,20 +22,20 @@ beside_longer w new beside a (b ∷ bs) a_in below follows =
     longer_kept w new a b bs (bends w b bs) beside.keeps a_in follows (beside.kept b below.0)
     (beside_longer w new beside b bs below.0 below.1 follows.2)
 
-pub beside_paths : (w new : Web) (n : ℕ) (mate : ℕ → ℕ) (quarters : ℕ → List ℕ) → IsBeside w new →
-    HasPaths w n mate quarters → HasPaths new n mate quarters
-beside_paths w new n mate quarters beside has = record {
+pub beside_paths : (w new : Web) (n : ℕ) (reverse_dart : ℕ → ℕ) (quarters : ℕ → List ℕ) → IsBeside w new →
+    HasPaths w n reverse_dart quarters → HasPaths new n reverse_dart quarters
+beside_paths w new n reverse_dart quarters beside has = record {
   few = omega (arith, has.few, beside.keeps.more);
-  paths = λ d l. path d (mate d) (quarters d) (has.paths d l);
+  paths = λ d l. path d (reverse_dart d) (quarters d) (has.paths d l);
   ends = λ a l. elim (cases_lt a w.darts) [
     | inl old ↦ as_before a (beside.kept a old).before (has.ends a old)
     | inr late ↦ inl (beside.fresh a l late)
   ];
 }
   where
-    path : (d mate : ℕ) (turns : List ℕ) → HasPath w d mate turns → HasPath new d mate turns
-    path d mate turns old =
-        path_kept w new d mate old.first old.rest turns old.path old.back (beside.kept old.first old.path.first_in)
+    path : (d reverse_dart : ℕ) (turns : List ℕ) → HasPath w d reverse_dart turns → HasPath new d reverse_dart turns
+    path d reverse_dart turns old =
+        path_kept w new d reverse_dart old.first old.rest turns old.path old.back (beside.kept old.first old.path.first_in)
         (longer_turns w new old.first old.rest (bends w old.first old.rest) turns old.turns
         (beside_longer w new beside old.first old.rest old.path.first_in old.path.rest_in old.path.follows))
 
@@ -50,9 +50,9 @@ chord_beside w d f way new linked chord = record {
   kept = λ b l. record {
     inside = omega (arith, chord.darts);
     before = chord.before_old b l;
-    twin = chord.twin_old b l;
-    head = ap new.head (chord.twin_old b l) ∙ chord.head_old (w.twin b) (linked.twin_in b l);
-    direction = ap new.direction (chord.twin_old b l) ∙ chord.direction_old (w.twin b) (linked.twin_in b l);
+    reverse_dart = chord.reverse_dart_old b l;
+    head = ap new.head (chord.reverse_dart_old b l) ∙ chord.head_old (w.reverse_dart b) (linked.reverse_dart_in b l);
+    direction = ap new.direction (chord.reverse_dart_old b l) ∙ chord.direction_old (w.reverse_dart b) (linked.reverse_dart_in b l);
   };
   fresh = λ a l late. by_age w.darts (λ (a : ℕ). w.darts ≤ a → new.before a ≡ no_dart)
       (λ a l late. absurd (omega (arith, l, late))) (λ _. chord.before_there) (λ _. chord.before_back)
@@ -60,17 +60,17 @@ chord_beside w d f way new linked chord = record {
 }
 
 -- a chord keeps all paths
-pub chord_paths : (w : Web) (d f way : ℕ) (new : Web) (n : ℕ) (mate : ℕ → ℕ) (quarters : ℕ → List ℕ) → IsLinked w →
-    IsChord w d f way new → HasPaths w n mate quarters → HasPaths new n mate quarters
-chord_paths w d f way new n mate quarters linked chord = beside_paths w new n mate quarters (chord_beside w d f way new linked chord)
+pub chord_paths : (w : Web) (d f way : ℕ) (new : Web) (n : ℕ) (reverse_dart : ℕ → ℕ) (quarters : ℕ → List ℕ) → IsLinked w →
+    IsChord w d f way new → HasPaths w n reverse_dart quarters → HasPaths new n reverse_dart quarters
+chord_paths w d f way new n reverse_dart quarters linked chord = beside_paths w new n reverse_dart quarters (chord_beside w d f way new linked chord)
 
 -- and so does a cut
-pub cut_paths : (w : Web) (d e way : ℕ) (new : Web) (n : ℕ) (mate : ℕ → ℕ) (quarters : ℕ → List ℕ) → IsLinked w →
-    w.direction e < 4 → IsCut w d e way new → HasPaths w n mate quarters → HasPaths new n mate quarters
-cut_paths w d e way new n mate quarters linked quarter cut has =
-    chord_paths cut.middle d w.darts way new n mate quarters
+pub cut_paths : (w : Web) (d e way : ℕ) (new : Web) (n : ℕ) (reverse_dart : ℕ → ℕ) (quarters : ℕ → List ℕ) → IsLinked w →
+    w.direction e < 4 → IsCut w d e way new → HasPaths w n reverse_dart quarters → HasPaths new n reverse_dart quarters
+cut_paths w d e way new n reverse_dart quarters linked quarter cut has =
+    chord_paths cut.middle d w.darts way new n reverse_dart quarters
     (split_linked w e (w.direction e) 2 cut.middle linked cut.e_in cut.split) cut.chord
-    (split_paths w e (w.direction e) cut.middle n mate quarters linked cut.e_in quarter cut.split has)
+    (split_paths w e (w.direction e) cut.middle n reverse_dart quarters linked cut.e_in quarter cut.split has)
 
 -- the four directions are numbered below 4
 abbrev pub AreQuarters : Web → Type 0
@@ -95,9 +95,9 @@ grows_quarters w new quarters same = quarters
 grows_quarters w new quarters (further mid last d e way grows cut) =
     cut_quarters mid d e way last (grows_quarters w mid quarters grows) cut
 
-pub grows_paths : (w new : Web) (n : ℕ) (mate : ℕ → ℕ) (quarters : ℕ → List ℕ) → IsLinked w → AreQuarters w → Grows w new →
-    HasPaths w n mate quarters → HasPaths new n mate quarters
-grows_paths w new n mate quarters linked four same has = has
-grows_paths w new n mate quarters linked four (further mid last d e way grows cut) has =
-    cut_paths mid d e way last n mate quarters (grows_linked w mid linked grows) (grows_quarters w mid four grows e cut.e_in) cut
-    (grows_paths w mid n mate quarters linked four grows has)
+pub grows_paths : (w new : Web) (n : ℕ) (reverse_dart : ℕ → ℕ) (quarters : ℕ → List ℕ) → IsLinked w → AreQuarters w → Grows w new →
+    HasPaths w n reverse_dart quarters → HasPaths new n reverse_dart quarters
+grows_paths w new n reverse_dart quarters linked four same has = has
+grows_paths w new n reverse_dart quarters linked four (further mid last d e way grows cut) has =
+    cut_paths mid d e way last n reverse_dart quarters (grows_linked w mid linked grows) (grows_quarters w mid four grows e cut.e_in) cut
+    (grows_paths w mid n reverse_dart quarters linked four grows has)

@@ -5,7 +5,7 @@ use Rattle.cutting.specs.Webs.{Web, no_dart, IsLinked, IsCut}
 use Rattle.cutting.specs.Paths.{HasPaths, IsJoined}
 use Rattle.cutting.specs.Frames.{IsFramed, IsEnclosed}
 use Rattle.cutting.proofs.Splitting.{split_linked}
-use Rattle.edge_paths.proofs.Joining.{IsShut, by_next, by_twin, extended_joined, chord_extended, cut_linked, cut_extended, grows_extended}
+use Rattle.edge_paths.proofs.Joining.{IsShut, by_next, by_reverse_dart, extended_joined, chord_extended, cut_linked, cut_extended, grows_extended}
 use Rattle.edge_paths.proofs.Cuts.{IsBeside, beside_paths, cut_paths, AreQuarters, cut_quarters, grows_paths}
 
 -- a fact at each dart of a framed web: at the old ones, at the four inside the rectangle and at the four outside it
@@ -45,19 +45,19 @@ framed_linked w new linked f =
           (λ k l. ap new.next (f.prev_inner k l) ∙ f.next_inner ((k + 3) % 4) (omega arith) ∙ omega (arith, l))
           (λ k l. ap new.next (f.prev_outer k l) ∙ f.next_outer ((k + 1) % 4) (omega arith) ∙ omega (arith, l))
           a (omega (arith, f.darts));
-      twin_in = λ a l. by_side n (λ (a : ℕ). new.twin a < new.darts)
-          (λ a l. omega (arith, f.twin_old a l, linked.twin_in a l, f.darts))
-          (λ k l. omega (arith, f.twin_inner k l, f.darts)) (λ k l. omega (arith, f.twin_outer k l, f.darts))
+      reverse_dart_in = λ a l. by_side n (λ (a : ℕ). new.reverse_dart a < new.darts)
+          (λ a l. omega (arith, f.reverse_dart_old a l, linked.reverse_dart_in a l, f.darts))
+          (λ k l. omega (arith, f.reverse_dart_inner k l, f.darts)) (λ k l. omega (arith, f.reverse_dart_outer k l, f.darts))
           a (omega (arith, f.darts));
-      twin_back = λ a l. by_side n (λ (a : ℕ). new.twin (new.twin a) ≡ a)
-          (λ a l. ap new.twin (f.twin_old a l) ∙ f.twin_old (w.twin a) (linked.twin_in a l) ∙ linked.twin_back a l)
-          (λ k l. ap new.twin (f.twin_inner k l) ∙ f.twin_outer k l)
-          (λ k l. ap new.twin (f.twin_outer k l) ∙ f.twin_inner k l)
+      reverse_dart_back = λ a l. by_side n (λ (a : ℕ). new.reverse_dart (new.reverse_dart a) ≡ a)
+          (λ a l. ap new.reverse_dart (f.reverse_dart_old a l) ∙ f.reverse_dart_old (w.reverse_dart a) (linked.reverse_dart_in a l) ∙ linked.reverse_dart_back a l)
+          (λ k l. ap new.reverse_dart (f.reverse_dart_inner k l) ∙ f.reverse_dart_outer k l)
+          (λ k l. ap new.reverse_dart (f.reverse_dart_outer k l) ∙ f.reverse_dart_inner k l)
           a (omega (arith, f.darts));
-      twin_apart = λ a l. by_side n (λ (a : ℕ). new.twin a ≢ a)
-          (λ a l h. linked.twin_apart a l (sym (f.twin_old a l) ∙ h))
-          (λ k l h. omega (arith, f.twin_inner k l, h))
-          (λ k l h. omega (arith, f.twin_outer k l, h))
+      reverse_dart_apart = λ a l. by_side n (λ (a : ℕ). new.reverse_dart a ≢ a)
+          (λ a l h. linked.reverse_dart_apart a l (sym (f.reverse_dart_old a l) ∙ h))
+          (λ k l h. omega (arith, f.reverse_dart_inner k l, h))
+          (λ k l h. omega (arith, f.reverse_dart_outer k l, h))
           a (omega (arith, f.darts));
     }
 
@@ -74,9 +74,9 @@ framed_beside w new linked f = record {
   kept = λ b l. record {
     inside = omega (arith, f.darts);
     before = f.before_old b l;
-    twin = f.twin_old b l;
-    head = ap new.head (f.twin_old b l) ∙ f.head_old (w.twin b) (linked.twin_in b l);
-    direction = ap new.direction (f.twin_old b l) ∙ f.direction_old (w.twin b) (linked.twin_in b l);
+    reverse_dart = f.reverse_dart_old b l;
+    head = ap new.head (f.reverse_dart_old b l) ∙ f.head_old (w.reverse_dart b) (linked.reverse_dart_in b l);
+    direction = ap new.direction (f.reverse_dart_old b l) ∙ f.direction_old (w.reverse_dart b) (linked.reverse_dart_in b l);
   };
   fresh = λ a l late. by_side w.darts (λ (a : ℕ). w.darts ≤ a → new.before a ≡ no_dart)
       (λ a l late. absurd (omega (arith, l, late))) (λ k l _. f.before_inner k l) (λ k l _. f.before_outer k l)
@@ -84,29 +84,29 @@ framed_beside w new linked f = record {
 }
 
 -- a rectangle beside the web keeps all paths
-pub frame_paths : (w new : Web) (n : ℕ) (mate : ℕ → ℕ) (quarters : ℕ → List ℕ) → IsLinked w → IsFramed w new →
-    HasPaths w n mate quarters → HasPaths new n mate quarters
-frame_paths w new n mate quarters linked framed = beside_paths w new n mate quarters (framed_beside w new linked framed)
+pub frame_paths : (w new : Web) (n : ℕ) (reverse_dart : ℕ → ℕ) (quarters : ℕ → List ℕ) → IsLinked w → IsFramed w new →
+    HasPaths w n reverse_dart quarters → HasPaths new n reverse_dart quarters
+frame_paths w new n reverse_dart quarters linked framed = beside_paths w new n reverse_dart quarters (framed_beside w new linked framed)
 
 -- and so do the join and the cuts after it
-pub enclosed_paths : (w : Web) (outside : ℕ) (new : Web) (n : ℕ) (mate : ℕ → ℕ) (quarters : ℕ → List ℕ) → IsLinked w → AreQuarters w →
+pub enclosed_paths : (w : Web) (outside : ℕ) (new : Web) (n : ℕ) (reverse_dart : ℕ → ℕ) (quarters : ℕ → List ℕ) → IsLinked w → AreQuarters w →
     IsEnclosed w outside new →
-    HasPaths w n mate quarters → HasPaths new n mate quarters
-enclosed_paths w outside new n mate quarters linked four e has =
+    HasPaths w n reverse_dart quarters → HasPaths new n reverse_dart quarters
+enclosed_paths w outside new n reverse_dart quarters linked four e has =
     let linked_framed = framed_linked w e.framed linked e.frame in
     let four_framed : AreQuarters e.framed = framed_quarters w e.framed four e.frame in
     let linked_joined = cut_linked e.framed e.right (w.darts + e.side) e.way e.joined linked_framed e.join in
     let four_joined : AreQuarters e.joined = cut_quarters e.framed e.right (w.darts + e.side) e.way e.joined four_framed e.join in
-    grows_paths e.joined new n mate quarters linked_joined four_joined e.grows
-    (cut_paths e.framed e.right (w.darts + e.side) e.way e.joined n mate quarters linked_framed
+    grows_paths e.joined new n reverse_dart quarters linked_joined four_joined e.grows
+    (cut_paths e.framed e.right (w.darts + e.side) e.way e.joined n reverse_dart quarters linked_framed
     (four_framed (w.darts + e.side) e.join.e_in) e.join
-    (frame_paths w e.framed n mate quarters linked e.frame has))
+    (frame_paths w e.framed n reverse_dart quarters linked e.frame has))
 
 -- a closed set of the framed web is one of the web
 pub framed_shut : (w new : Web) (s : ℕ → Bool) → IsFramed w new → IsShut new s → IsShut w s
 framed_shut w new s f shut = record {
   next = λ a l h. by_next new s a (w.next a) shut (omega (arith, f.darts)) (f.next_old a l) h;
-  twin = λ a l h. by_twin new s a (w.twin a) shut (omega (arith, f.darts)) (f.twin_old a l) h;
+  reverse_dart = λ a l h. by_reverse_dart new s a (w.reverse_dart a) shut (omega (arith, f.darts)) (f.reverse_dart_old a l) h;
 }
 
 -- round the inside of the rectangle
@@ -128,7 +128,7 @@ ring_whole w new s k f shut l h a a_in late =
     subst (λ (i : ℕ). s (w.darts + i) ≡ true) (there k j l l_j) (ring_turned w new s k (j + 4 - k) f shut l h) in
     by_side w.darts (λ (a : ℕ). w.darts ≤ a → s a ≡ true)
     (λ a l late. absurd (omega (arith, l, late))) (λ j l_j _. inner j l_j)
-    (λ j l_j _. by_twin new s (w.darts + j) (w.darts + 4 + j) shut (omega (arith, f.darts, l_j)) (f.twin_inner j l_j) (inner j l_j))
+    (λ j l_j _. by_reverse_dart new s (w.darts + j) (w.darts + 4 + j) shut (omega (arith, f.darts, l_j)) (f.reverse_dart_inner j l_j) (inner j l_j))
     a (omega (arith, f.darts)) late
   where
     there : (k j : ℕ) → k < 4 → j < 4 → (k + (j + 4 - k)) % 4 ≡ j
@@ -140,7 +140,7 @@ pub ring_some : (w new : Web) (s : ℕ → Bool) (a : ℕ) → IsFramed w new �
 ring_some w new s a f shut a_in late =
     by_side w.darts (λ (a : ℕ). w.darts ≤ a → s a ≡ true → (k : ℕ) × (k < 4) × (s (w.darts + k) ≡ true))
     (λ a l late h. absurd (omega (arith, l, late))) (λ k l _ h. (k, l, h))
-    (λ k l _ h. (k, l, by_twin new s (w.darts + 4 + k) (w.darts + k) shut (omega (arith, f.darts, l)) (f.twin_outer k l) h))
+    (λ k l _ h. (k, l, by_reverse_dart new s (w.darts + 4 + k) (w.darts + k) shut (omega (arith, f.darts, l)) (f.reverse_dart_outer k l) h))
     a (omega (arith, f.darts)) late
 
 -- the join leads from the web to the rectangle
@@ -153,7 +153,7 @@ join_there framed right e way new s cut shut h =
 
 -- and back
 pub join_back : (framed : Web) (right e way : ℕ) (new : Web) (s : ℕ → Bool) → IsLinked framed → IsCut framed right e way new →
-    IsShut new s → right ≢ framed.prev e → right ≢ framed.prev (framed.twin e) → s (framed.prev e) ≡ true →
+    IsShut new s → right ≢ framed.prev e → right ≢ framed.prev (framed.reverse_dart e) → s (framed.prev e) ≡ true →
     s (framed.next right) ≡ true
 join_back framed right e way new s linked cut shut not_c not_p h =
     let linked_middle = split_linked framed e (framed.direction e) 2 cut.middle linked cut.e_in cut.split in
@@ -170,22 +170,22 @@ join_back framed right e way new s linked cut shut not_c not_p h =
 -- a joined web is joined with the rectangle that a cut leads to
 pub join_joined : (w framed : Web) (right side way : ℕ) (new : Web) → IsLinked w → IsJoined w → IsFramed w framed → right < w.darts →
     side < 4 → IsCut framed right (w.darts + side) way new → IsJoined new
-join_joined w framed right side way new linked joined f right_in side_in cut s next twin a b l_a l_b h =
+join_joined w framed right side way new linked joined f right_in side_in cut s next reverse_dart a b l_a l_b h =
     let e : ℕ = w.darts + side in
-    let shut : IsShut new s = record { next = next; twin = twin } in
+    let shut : IsShut new s = record { next = next; reverse_dart = reverse_dart } in
     let linked_framed = framed_linked w framed linked f in
     let extended = cut_extended framed right e way new linked_framed cut in
     let shut_framed : IsShut framed s = extended.shut s shut in
     let shut_old : IsShut w s = framed_shut w framed s f shut_framed in
     let found = extended.some s shut a l_a h in
     let prev_e : framed.prev e ≡ w.darts + (side + 3) % 4 = f.prev_inner side side_in in
-    let prev_t : framed.prev (framed.twin e) ≡ w.darts + 4 + (side + 1) % 4 =
-    ap framed.prev (f.twin_inner side side_in) ∙ f.prev_outer side side_in in
+    let prev_t : framed.prev (framed.reverse_dart e) ≡ w.darts + 4 + (side + 1) % 4 =
+    ap framed.prev (f.reverse_dart_inner side side_in) ∙ f.prev_outer side side_in in
     let from_old : (c : ℕ) → c < w.darts → s c ≡ true → (k : ℕ) → k < framed.darts → s k ≡ true = λ c l_c at k l_k.
     elim (cases_lt k w.darts) [
-      | inl low ↦ joined s shut_old.next shut_old.twin c k l_c low at
+      | inl low ↦ joined s shut_old.next shut_old.reverse_dart c k l_c low at
       | inr high ↦
-          let on : s right ≡ true = joined s shut_old.next shut_old.twin c right l_c right_in at in
+          let on : s right ≡ true = joined s shut_old.next shut_old.reverse_dart c right l_c right_in at in
           ring_whole w framed s side f shut_framed side_in (join_there framed right e way new s cut shut on) k l_k high
     ] in
     let from_ring : (k : ℕ) → k < 4 → s (w.darts + k) ≡ true → s (w.next right) ≡ true = λ k l_k at.

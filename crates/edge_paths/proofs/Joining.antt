@@ -6,16 +6,16 @@ use Rattle.cutting.specs.Paths.{IsJoined}
 use Rattle.cutting.proofs.Splitting.{by_age, split_linked}
 use Rattle.cutting.proofs.Chords.{chord_linked}
 
--- a set of darts closed under "next" and "twin"
+-- a set of darts closed under "next" and "reverse"
 pub record IsShut (w : Web) (s : ℕ → Bool) : Type 0 where
   pub next : (a : ℕ) → a < w.darts → s a ≡ true → s (w.next a) ≡ true
-  pub twin : (a : ℕ) → a < w.darts → s a ≡ true → s (w.twin a) ≡ true
+  pub reverse_dart : (a : ℕ) → a < w.darts → s a ≡ true → s (w.reverse_dart a) ≡ true
 
 pub by_next : (w : Web) (s : ℕ → Bool) (a b : ℕ) → IsShut w s → a < w.darts → w.next a ≡ b → s a ≡ true → s b ≡ true
 by_next w s a b shut l e h = subst (λ (k : ℕ). s k ≡ true) e (shut.next a l h)
 
-pub by_twin : (w : Web) (s : ℕ → Bool) (a b : ℕ) → IsShut w s → a < w.darts → w.twin a ≡ b → s a ≡ true → s b ≡ true
-by_twin w s a b shut l e h = subst (λ (k : ℕ). s k ≡ true) e (shut.twin a l h)
+pub by_reverse_dart : (w : Web) (s : ℕ → Bool) (a b : ℕ) → IsShut w s → a < w.darts → w.reverse_dart a ≡ b → s a ≡ true → s b ≡ true
+by_reverse_dart w s a b shut l e h = subst (λ (k : ℕ). s k ≡ true) e (shut.reverse_dart a l h)
 
 -- a closed set of the new web is one of the old web, and has a dart or all darts of the new web where it has
 -- a dart or all darts of the old one
@@ -42,17 +42,17 @@ extended_on w mid new first second = record {
 
 -- a set that holds a dart of the old web, where it then holds all of them, holds all darts of the new web
 pub extended_joined : (w new : Web) → IsExtended w new → IsJoined w → IsJoined new
-extended_joined w new extended joined s next twin a b l_a l_b h =
-    let shut : IsShut new s = record { next = next; twin = twin } in
+extended_joined w new extended joined s next reverse_dart a b l_a l_b h =
+    let shut : IsShut new s = record { next = next; reverse_dart = reverse_dart } in
     let old : IsShut w s = extended.shut s shut in
     let found = extended.some s shut a l_a h in
-    extended.all s shut (λ c l_c. joined s old.next old.twin found.0 c found.1 l_c found.2) b l_b
+    extended.all s shut (λ c l_c. joined s old.next old.reverse_dart found.0 c found.1 l_c found.2) b l_b
 
 pub split_extended : (w : Web) (e way bend : ℕ) (new : Web) → IsLinked w → e < w.darts → IsSplit w e way bend new → IsExtended w new
 split_extended w e way bend new linked e_in split =
     let n : ℕ = w.darts in
-    let t : ℕ = w.twin e in
-    let t_in : t < w.darts = linked.twin_in e e_in in
+    let t : ℕ = w.reverse_dart e in
+    let t_in : t < w.darts = linked.reverse_dart_in e e_in in
     let old_in : (a : ℕ) → a < w.darts → a < new.darts = λ a l. omega (arith, split.darts) in
     let first_in : n < new.darts = omega (arith, split.darts) in
     let second_in : n + 1 < new.darts = omega (arith, split.darts) in
@@ -69,15 +69,15 @@ split_extended w e way bend new linked e_in split =
             | inr not_p ↦ by_next new s a (w.next a) shut (old_in a l) (split.next_other a l not_c not_p) h
           ]
         ];
-        twin = λ a l h. elim (cases_eq a e) [
+        reverse_dart = λ a l h. elim (cases_eq a e) [
           | inl at ↦
-              let on = by_twin new s a (n + 1) shut (old_in a l) (ap new.twin at ∙ split.twin_e) h in
-              by_next new s (n + 1) (w.twin a) shut second_in (split.next_second ∙ sym (ap w.twin at)) on
+              let on = by_reverse_dart new s a (n + 1) shut (old_in a l) (ap new.reverse_dart at ∙ split.reverse_dart_e) h in
+              by_next new s (n + 1) (w.reverse_dart a) shut second_in (split.next_second ∙ sym (ap w.reverse_dart at)) on
           | inr not_e ↦ elim (cases_eq a t) [
             | inl at ↦
-                let on = by_twin new s a n shut (old_in a l) (ap new.twin at ∙ split.twin_twin) h in
-                by_next new s n (w.twin a) shut first_in (split.next_first ∙ sym (ap w.twin at ∙ linked.twin_back e e_in)) on
-            | inr not_t ↦ by_twin new s a (w.twin a) shut (old_in a l) (split.twin_other a l not_e not_t) h
+                let on = by_reverse_dart new s a n shut (old_in a l) (ap new.reverse_dart at ∙ split.reverse_dart_reverse_dart) h in
+                by_next new s n (w.reverse_dart a) shut first_in (split.next_first ∙ sym (ap w.reverse_dart at ∙ linked.reverse_dart_back e e_in)) on
+            | inr not_t ↦ by_reverse_dart new s a (w.reverse_dart a) shut (old_in a l) (split.reverse_dart_other a l not_e not_t) h
           ]
         ];
       };
@@ -105,17 +105,17 @@ chord_extended w d f way new linked fits chord =
         next = λ a l h. elim (cases_eq a d) [
           | inl at ↦
               let there = by_next new s a n shut (old_in a l) (ap new.next at ∙ chord.next_d) h in
-              let back = by_twin new s n (n + 1) shut there_in chord.twin_there there in
+              let back = by_reverse_dart new s n (n + 1) shut there_in chord.reverse_dart_there there in
               by_next new s (n + 1) (w.next a) shut back_in (chord.next_back ∙ sym (ap w.next at)) back
           | inr not_d ↦ elim (cases_eq a f) [
             | inl at ↦
                 let back = by_next new s a (n + 1) shut (old_in a l) (ap new.next at ∙ chord.next_f) h in
-                let there = by_twin new s (n + 1) n shut back_in chord.twin_back back in
+                let there = by_reverse_dart new s (n + 1) n shut back_in chord.reverse_dart_back back in
                 by_next new s n (w.next a) shut there_in (chord.next_there ∙ sym (ap w.next at)) there
             | inr not_f ↦ by_next new s a (w.next a) shut (old_in a l) (chord.next_other a l not_d not_f) h
           ]
         ];
-        twin = λ a l h. by_twin new s a (w.twin a) shut (old_in a l) (chord.twin_old a l) h;
+        reverse_dart = λ a l h. by_reverse_dart new s a (w.reverse_dart a) shut (old_in a l) (chord.reverse_dart_old a l) h;
       };
       some = λ s shut a l. by_age n (λ (a : ℕ). s a ≡ true → (b : ℕ) × (b < w.darts) × (s b ≡ true))
           (λ a l h. (a, l, h))

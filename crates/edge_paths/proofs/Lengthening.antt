@@ -32,9 +32,9 @@ pub record KeepsHeads (w new : Web) : Type 0 where
 pub record IsKept (w new : Web) (b : ℕ) : Type 0 where
   pub inside : b < new.darts
   pub before : new.before b ≡ w.before b
-  pub twin : new.twin b ≡ w.twin b
-  pub head : new.head (new.twin b) ≡ w.head (w.twin b)
-  pub direction : new.direction (new.twin b) ≡ w.direction (w.twin b)
+  pub reverse_dart : new.reverse_dart b ≡ w.reverse_dart b
+  pub head : new.head (new.reverse_dart b) ≡ w.head (w.reverse_dart b)
+  pub direction : new.direction (new.reverse_dart b) ≡ w.direction (w.reverse_dart b)
 
 -- the new dart `front` stands before the old dart b, and sets out as b did; between them the edge has a turn
 pub record IsDoubled (w new : Web) (b front turn : ℕ) : Type 0 where
@@ -42,10 +42,10 @@ pub record IsDoubled (w new : Web) (b front turn : ℕ) : Type 0 where
   pub front_in : front < new.darts
   pub before : new.before front ≡ w.before b
   pub behind : new.before b ≡ front
-  pub twin : new.twin front ≡ w.twin b
-  pub head : new.head (new.twin front) ≡ w.head (w.twin b)
-  pub direction : new.direction (new.twin front) ≡ w.direction (w.twin b)
-  pub meets : new.head (new.twin b) ≡ new.head front
+  pub reverse_dart : new.reverse_dart front ≡ w.reverse_dart b
+  pub head : new.head (new.reverse_dart front) ≡ w.head (w.reverse_dart b)
+  pub direction : new.direction (new.reverse_dart front) ≡ w.direction (w.reverse_dart b)
+  pub meets : new.head (new.reverse_dart b) ≡ new.head front
   pub turns : turn_to new front b ≡ turn
 
 -- what follows the dart a in the new web in place of the list, with these turns
@@ -106,9 +106,9 @@ longer_doubled w new a b front turn bs turns keeps a_in follows doubled longer =
     same p q = cc
 
 -- a whole path, by its first dart
-abbrev pub path_kept : (w new : Web) (end mate first : ℕ) (rest turns : List ℕ) → IsPath w end first rest → w.twin first ≡ mate →
-    IsKept w new first → IsLonger w new first rest turns → HasPath new end mate turns
-path_kept w new end mate first rest turns path back kept longer = record {
+abbrev pub path_kept : (w new : Web) (end reverse_dart first : ℕ) (rest turns : List ℕ) → IsPath w end first rest → w.reverse_dart first ≡ reverse_dart →
+    IsKept w new first → IsLonger w new first rest turns → HasPath new end reverse_dart turns
+path_kept w new end reverse_dart first rest turns path back kept longer = record {
   first = first;
   rest = longer.list;
   path = record {
@@ -118,14 +118,14 @@ path_kept w new end mate first rest turns path back kept longer = record {
     follows = longer.follows;
     ends = longer.last ∙ path.ends;
   };
-  back = kept.twin ∙ back;
+  back = kept.reverse_dart ∙ back;
   turns = longer.turning;
 }
 
-abbrev pub path_doubled : (w new : Web) (end mate first front turn : ℕ) (rest turns : List ℕ) → IsPath w end first rest →
-    w.twin first ≡ mate → IsDoubled w new first front turn → IsLonger w new first rest turns →
-    HasPath new end mate (turn_then turn turns)
-path_doubled w new end mate first front turn rest turns path back doubled longer = record {
+abbrev pub path_doubled : (w new : Web) (end reverse_dart first front turn : ℕ) (rest turns : List ℕ) → IsPath w end first rest →
+    w.reverse_dart first ≡ reverse_dart → IsDoubled w new first front turn → IsLonger w new first rest turns →
+    HasPath new end reverse_dart (turn_then turn turns)
+path_doubled w new end reverse_dart first front turn rest turns path back doubled longer = record {
   first = front;
   rest = first ∷ longer.list;
   path = record {
@@ -135,7 +135,7 @@ path_doubled w new end mate first front turn rest turns path back doubled longer
     follows = (doubled.behind, doubled.meets, longer.follows);
     ends = longer.last ∙ path.ends;
   };
-  back = doubled.twin ∙ back;
+  back = doubled.reverse_dart ∙ back;
   turns = ap (λ (k : ℕ). turn_then k (bends new first longer.list)) doubled.turns
       ∙ ap (λ (ts : List ℕ). turn_then turn ts) longer.turning;
 }
@@ -145,5 +145,5 @@ pub longer_turns : (w new : Web) (a : ℕ) (rest turns turns' : List ℕ) → tu
     IsLonger w new a rest turns'
 longer_turns w new a rest turns turns' e longer = subst (λ (ts : List ℕ). IsLonger w new a rest ts) e longer
 
-pub path_turns : (w : Web) (end mate : ℕ) (turns turns' : List ℕ) → turns ≡ turns' → HasPath w end mate turns → HasPath w end mate turns'
-path_turns w end mate turns turns' e path = subst (λ (ts : List ℕ). HasPath w end mate ts) e path
+pub path_turns : (w : Web) (end reverse_dart : ℕ) (turns turns' : List ℕ) → turns ≡ turns' → HasPath w end reverse_dart turns → HasPath w end reverse_dart turns'
+path_turns w end reverse_dart turns turns' e path = subst (λ (ts : List ℕ). HasPath w end reverse_dart ts) e path

@@ -5,15 +5,15 @@ use Rattle.cutting.specs.Webs.{Web, no_dart, IsStraight}
 use Rattle.cutting.specs.Paths.{HasPaths, turn_to, bends, turning_places}
 
 -- where no dart stands before another, each dart is a path of its own
-pub plain_paths : (w : Web) (n : ℕ) (mate : ℕ → ℕ) → w.darts ≡ n → ((a : ℕ) → a < n → w.before a ≡ no_dart) →
-    ((a : ℕ) → a < n → w.twin a ≡ mate a) → HasPaths w n mate (λ _. [])
-plain_paths w n mate all none twin = record {
+pub plain_paths : (w : Web) (n : ℕ) (reverse_dart : ℕ → ℕ) → w.darts ≡ n → ((a : ℕ) → a < n → w.before a ≡ no_dart) →
+    ((a : ℕ) → a < n → w.reverse_dart a ≡ reverse_dart a) → HasPaths w n reverse_dart (λ _. [])
+plain_paths w n reverse_dart all none same = record {
   few = omega (arith, all);
   paths = λ d l. record {
     first = d;
     rest = [];
     path = record { first_in = omega (arith, all); rest_in = tt; start = none d l; follows = tt; ends = refl };
-    back = twin d l;
+    back = same d l;
     turns = refl;
   };
   ends = λ a l. inl (none a (omega (arith, all)));
@@ -29,7 +29,7 @@ pub turned_on : (w : Web) (a b : ℕ) → IsStraight w → w.direction a < 4 →
     w.direction b ≡ (w.direction a + turn_to w a b) % 4
 turned_on w a b straight quarter_a quarter_b l =
     let turn : ℕ = turn_to w a b in
-    let is : turn ≡ (w.direction (w.twin b) + 6 - w.direction a) % 4 = refl in
+    let is : turn ≡ (w.direction (w.reverse_dart b) + 6 - w.direction a) % 4 = refl in
     omega (arith, straight b l, quarter_a, quarter_b, is)
 
 -- a path has a place for each of its turns

@@ -18,21 +18,21 @@ pub record HasRows (v : ℕ) (w : Web) : Type 0 where
 
 module _ (v : ℕ) (w : Web) (e way bend : ℕ) (new : Web) (has : HasRows v w) (e_in : e < w.darts) (split : IsSplit w e way bend new) where
   abbrev t : ℕ
-  t = w.twin e
+  t = w.reverse_dart e
 
   t_in : t < w.darts
-  t_in = has.linked.twin_in e e_in
+  t_in = has.linked.reverse_dart_in e e_in
 
-  -- the dart of the split web that stands where the dart a stood: a new one in place of e and of its twin
+  -- the dart of the split web that stands where the dart a stood: a new one in place of e and of its reverse
   abbrev stands : ℕ → ℕ
-  stands a = if a == e then w.darts else (if a == w.twin e then w.darts + 1 else a)
+  stands a = if a == e then w.darts else (if a == w.reverse_dart e then w.darts + 1 else a)
 
   stands_e : stands e ≡ w.darts
   stands_e = cond-true {A = ℕ} (eqb e e) _ _ (eq-eqb e e refl)
 
   stands_t : stands t ≡ w.darts + 1
   stands_t =
-      cond-false {A = ℕ} (eqb t e) _ _ (ne_eqb t e (has.linked.twin_apart e e_in))
+      cond-false {A = ℕ} (eqb t e) _ _ (ne_eqb t e (has.linked.reverse_dart_apart e e_in))
       ∙ cond-true {A = ℕ} (eqb t t) (w.darts + 1) t (eq-eqb t t refl)
 
   stands_other : (a : ℕ) → a ≢ e → a ≢ t → stands a ≡ a
@@ -58,32 +58,32 @@ module _ (v : ℕ) (w : Web) (e way bend : ℕ) (new : Web) (has : HasRows v w) 
         ]
       ]
 
-  -- its twin is the dart that was
-  stands_twin : (a : ℕ) → a < w.darts → new.twin (stands a) ≡ w.twin a
-  stands_twin a l =
+  -- its reverse is the dart that was
+  stands_reverse_dart : (a : ℕ) → a < w.darts → new.reverse_dart (stands a) ≡ w.reverse_dart a
+  stands_reverse_dart a l =
       elim (cases_eq a e) [
-        | inl at ↦ ap (λ (k : ℕ). new.twin (stands k)) at ∙ ap new.twin stands_e ∙ split.twin_first ∙ ap w.twin (sym at)
+        | inl at ↦ ap (λ (k : ℕ). new.reverse_dart (stands k)) at ∙ ap new.reverse_dart stands_e ∙ split.reverse_dart_first ∙ ap w.reverse_dart (sym at)
         | inr not_e ↦ elim (cases_eq a t) [
           | inl at ↦
-              ap (λ (k : ℕ). new.twin (stands k)) at ∙ ap new.twin stands_t ∙ split.twin_second ∙ sym (has.linked.twin_back e e_in)
-              ∙ ap w.twin (sym at)
-          | inr not_t ↦ ap new.twin (stands_other a not_e not_t) ∙ split.twin_other a l not_e not_t
+              ap (λ (k : ℕ). new.reverse_dart (stands k)) at ∙ ap new.reverse_dart stands_t ∙ split.reverse_dart_second ∙ sym (has.linked.reverse_dart_back e e_in)
+              ∙ ap w.reverse_dart (sym at)
+          | inr not_t ↦ ap new.reverse_dart (stands_other a not_e not_t) ∙ split.reverse_dart_other a l not_e not_t
         ]
       ]
 
-  -- and the twin of an old dart stands where its twin stood
-  twin_stands : (a : ℕ) → a < w.darts → new.twin a ≡ stands (w.twin a)
-  twin_stands a l =
+  -- and the reverse of an old dart stands where its reverse stood
+  reverse_dart_stands : (a : ℕ) → a < w.darts → new.reverse_dart a ≡ stands (w.reverse_dart a)
+  reverse_dart_stands a l =
       elim (cases_eq a e) [
-        | inl at ↦ ap new.twin at ∙ split.twin_e ∙ sym stands_t ∙ ap (λ (k : ℕ). stands (w.twin k)) (sym at)
+        | inl at ↦ ap new.reverse_dart at ∙ split.reverse_dart_e ∙ sym stands_t ∙ ap (λ (k : ℕ). stands (w.reverse_dart k)) (sym at)
         | inr not_e ↦ elim (cases_eq a t) [
           | inl at ↦
-              ap new.twin at ∙ split.twin_twin ∙ sym stands_e ∙ ap stands (sym (has.linked.twin_back e e_in))
-              ∙ ap (λ (k : ℕ). stands (w.twin k)) (sym at)
+              ap new.reverse_dart at ∙ split.reverse_dart_reverse_dart ∙ sym stands_e ∙ ap stands (sym (has.linked.reverse_dart_back e e_in))
+              ∙ ap (λ (k : ℕ). stands (w.reverse_dart k)) (sym at)
           | inr not_t ↦
-              split.twin_other a l not_e not_t
-              ∙ sym (stands_other (w.twin a) (λ h. not_t (sym (has.linked.twin_back a l) ∙ ap w.twin h))
-              (λ h. not_e (sym (has.linked.twin_back a l) ∙ ap w.twin h ∙ has.linked.twin_back e e_in)))
+              split.reverse_dart_other a l not_e not_t
+              ∙ sym (stands_other (w.reverse_dart a) (λ h. not_t (sym (has.linked.reverse_dart_back a l) ∙ ap w.reverse_dart h))
+              (λ h. not_e (sym (has.linked.reverse_dart_back a l) ∙ ap w.reverse_dart h ∙ has.linked.reverse_dart_back e e_in)))
         ]
       ]
 
@@ -105,46 +105,46 @@ module _ (v : ℕ) (w : Web) (e way bend : ℕ) (new : Web) (has : HasRows v w) 
   head_e = ap new.head split.before_e ∙ split.head_first
 
   head_t : new.head (new.before t) ≡ w.vertices
-  head_t = ap new.head split.before_twin ∙ split.head_second
+  head_t = ap new.head split.before_reverse_dart ∙ split.head_second
 
   old_head : (a : ℕ) → a < w.darts → new.before (stands a) ≢ no_dart → new.head (new.before (stands a)) < w.vertices
   old_head a l some =
       let inside : w.before a < w.darts = real a l (λ h. some (stands_before a l ∙ h)) in
       omega (arith, stands_head a l some, has.heads (w.before a) inside)
 
-  split_back : (a : ℕ) → a < new.darts → new.before a ≢ no_dart → new.before (new.twin (new.before a)) ≡ new.twin a
+  split_back : (a : ℕ) → a < new.darts → new.before a ≢ no_dart → new.before (new.reverse_dart (new.before a)) ≡ new.reverse_dart a
   split_back =
-      by_stand (λ (a : ℕ). new.before a ≢ no_dart → new.before (new.twin (new.before a)) ≡ new.twin a)
-      (λ some. ap (λ (k : ℕ). new.before (new.twin k)) split.before_e ∙ ap new.before split.twin_first ∙ split.before_twin ∙ sym split.twin_e)
-      (λ some. ap (λ (k : ℕ). new.before (new.twin k)) split.before_twin ∙ ap new.before split.twin_second ∙ split.before_e
-      ∙ sym split.twin_twin)
+      by_stand (λ (a : ℕ). new.before a ≢ no_dart → new.before (new.reverse_dart (new.before a)) ≡ new.reverse_dart a)
+      (λ some. ap (λ (k : ℕ). new.before (new.reverse_dart k)) split.before_e ∙ ap new.before split.reverse_dart_first ∙ split.before_reverse_dart ∙ sym split.reverse_dart_e)
+      (λ some. ap (λ (k : ℕ). new.before (new.reverse_dart k)) split.before_reverse_dart ∙ ap new.before split.reverse_dart_second ∙ split.before_e
+      ∙ sym split.reverse_dart_reverse_dart)
       (λ a l some.
       let before : new.before (stands a) ≡ w.before a = stands_before a l in
       let some_old : w.before a ≢ no_dart = λ h. some (before ∙ h) in
       let inside : w.before a < w.darts = real a l some_old in
-      ap (λ (k : ℕ). new.before (new.twin k)) before ∙ ap new.before (twin_stands (w.before a) inside)
-      ∙ stands_before (w.twin (w.before a)) (has.linked.twin_in (w.before a) inside) ∙ has.rows.back a l some_old
-      ∙ sym (stands_twin a l))
+      ap (λ (k : ℕ). new.before (new.reverse_dart k)) before ∙ ap new.before (reverse_dart_stands (w.before a) inside)
+      ∙ stands_before (w.reverse_dart (w.before a)) (has.linked.reverse_dart_in (w.before a) inside) ∙ has.rows.back a l some_old
+      ∙ sym (stands_reverse_dart a l))
 
   split_own : (a b : ℕ) → a < new.darts → b < new.darts → new.before a ≢ no_dart → new.before b ≢ no_dart →
-      new.head (new.before a) ≡ new.head (new.before b) → (a ≡ b) ⊎ (a ≡ new.twin (new.before b))
+      new.head (new.before a) ≡ new.head (new.before b) → (a ≡ b) ⊎ (a ≡ new.reverse_dart (new.before b))
   split_own a b a_in b_in =
       by_stand (λ (a : ℕ). new.before a ≢ no_dart → new.before b ≢ no_dart → new.head (new.before a) ≡ new.head (new.before b) →
-      (a ≡ b) ⊎ (a ≡ new.twin (new.before b)))
+      (a ≡ b) ⊎ (a ≡ new.reverse_dart (new.before b)))
       (by_stand (λ (b : ℕ). new.before e ≢ no_dart → new.before b ≢ no_dart → new.head (new.before e) ≡ new.head (new.before b) →
-      (e ≡ b) ⊎ (e ≡ new.twin (new.before b)))
+      (e ≡ b) ⊎ (e ≡ new.reverse_dart (new.before b)))
       (λ _ _ _. inl refl)
-      (λ _ _ _. inr (sym (ap new.twin split.before_twin ∙ split.twin_second)))
+      (λ _ _ _. inr (sym (ap new.reverse_dart split.before_reverse_dart ∙ split.reverse_dart_second)))
       (λ b l _ some at. absurd (let less = old_head b l some in omega (arith, less, at, head_e)))
       b b_in)
       (by_stand (λ (b : ℕ). new.before t ≢ no_dart → new.before b ≢ no_dart → new.head (new.before t) ≡ new.head (new.before b) →
-      (t ≡ b) ⊎ (t ≡ new.twin (new.before b)))
-      (λ _ _ _. inr (sym (ap new.twin split.before_e ∙ split.twin_first)))
+      (t ≡ b) ⊎ (t ≡ new.reverse_dart (new.before b)))
+      (λ _ _ _. inr (sym (ap new.reverse_dart split.before_e ∙ split.reverse_dart_first)))
       (λ _ _ _. inl refl)
       (λ b l _ some at. absurd (let less = old_head b l some in omega (arith, less, at, head_t)))
       b b_in)
       (λ a l. by_stand (λ (b : ℕ). new.before (stands a) ≢ no_dart → new.before b ≢ no_dart →
-      new.head (new.before (stands a)) ≡ new.head (new.before b) → (stands a ≡ b) ⊎ (stands a ≡ new.twin (new.before b)))
+      new.head (new.before (stands a)) ≡ new.head (new.before b) → (stands a ≡ b) ⊎ (stands a ≡ new.reverse_dart (new.before b)))
       (λ some _ at. absurd (let less = old_head a l some in omega (arith, less, at, head_e)))
       (λ some _ at. absurd (let less = old_head a l some in omega (arith, less, at, head_t)))
       (λ b l_b some_a some_b at.
@@ -153,7 +153,7 @@ module _ (v : ℕ) (w : Web) (e way bend : ℕ) (new : Web) (has : HasRows v w) 
       let old_b : w.before b ≢ no_dart = λ h. some_b (before_b ∙ h) in
       elim (has.rows.own a b l l_b old_a old_b (sym (stands_head a l some_a) ∙ at ∙ stands_head b l_b some_b)) [
         | inl one ↦ inl (ap stands one)
-        | inr other ↦ inr (ap stands other ∙ sym (ap new.twin before_b ∙ twin_stands (w.before b) (real b l_b old_b)))
+        | inr other ↦ inr (ap stands other ∙ sym (ap new.reverse_dart before_b ∙ reverse_dart_stands (w.before b) (real b l_b old_b)))
       ])
       b b_in)
       a a_in
@@ -169,7 +169,7 @@ module _ (v : ℕ) (w : Web) (e way bend : ℕ) (new : Web) (has : HasRows v w) 
     few = omega (arith, has.few, split.vertices);
     rows = record {
       inside = by_stand (λ (a : ℕ). (new.before a ≡ no_dart) ⊎ (new.before a < new.darts))
-          (inr (omega (arith, split.before_e, split.darts))) (inr (omega (arith, split.before_twin, split.darts)))
+          (inr (omega (arith, split.before_e, split.darts))) (inr (omega (arith, split.before_reverse_dart, split.darts)))
           (λ a l. elim (has.rows.inside a l) [
             | inl none ↦ inl (stands_before a l ∙ none)
             | inr inside ↦ inr (omega (arith, stands_before a l, inside, split.darts))
@@ -197,7 +197,7 @@ beside_rows v w new has beside linked more heads =
       | inr inside ↦ inside
     ] in
     let same : (a : ℕ) → a < w.darts → new.before a ≡ w.before a = λ a l. (beside.kept a l).before in
-    let twin : (a : ℕ) → a < w.darts → new.twin a ≡ w.twin a = λ a l. (beside.kept a l).twin in
+    let reverse_dart : (a : ℕ) → a < w.darts → new.reverse_dart a ≡ w.reverse_dart a = λ a l. (beside.kept a l).reverse_dart in
     let head : (a : ℕ) → a < w.darts → w.before a ≢ no_dart → new.head (new.before a) ≡ w.head (w.before a) = λ a l some.
     ap new.head (same a l) ∙ beside.keeps.head (w.before a) (real a l some) in
     record {
@@ -216,8 +216,8 @@ beside_rows v w new has beside linked more heads =
             let old : a < w.darts = late a l some in
             let some_old : w.before a ≢ no_dart = λ h. some (same a old ∙ h) in
             let inside : w.before a < w.darts = real a old some_old in
-            ap (λ (k : ℕ). new.before (new.twin k)) (same a old) ∙ ap new.before (twin (w.before a) inside)
-            ∙ same (w.twin (w.before a)) (has.linked.twin_in (w.before a) inside) ∙ has.rows.back a old some_old ∙ sym (twin a old);
+            ap (λ (k : ℕ). new.before (new.reverse_dart k)) (same a old) ∙ ap new.before (reverse_dart (w.before a) inside)
+            ∙ same (w.reverse_dart (w.before a)) (has.linked.reverse_dart_in (w.before a) inside) ∙ has.rows.back a old some_old ∙ sym (reverse_dart a old);
         fresh = λ a l some.
             let old : a < w.darts = late a l some in
             let some_old : w.before a ≢ no_dart = λ h. some (same a old ∙ h) in
@@ -229,7 +229,7 @@ beside_rows v w new has beside linked more heads =
             let some_old_b : w.before b ≢ no_dart = λ h. some_b (same b old_b ∙ h) in
             elim (has.rows.own a b old_a old_b some_old_a some_old_b (sym (head a old_a some_old_a) ∙ at ∙ head b old_b some_old_b)) [
               | inl one ↦ inl one
-              | inr other ↦ inr (other ∙ sym (ap new.twin (same b old_b) ∙ twin (w.before b) (real b old_b some_old_b)))
+              | inr other ↦ inr (other ∙ sym (ap new.reverse_dart (same b old_b) ∙ reverse_dart (w.before b) (real b old_b some_old_b)))
             ];
       };
     }

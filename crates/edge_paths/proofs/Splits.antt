@@ -15,13 +15,13 @@ split_keeps w e way bend new split = record {
 }
 
 pub split_kept : (w : Web) (e way bend : ℕ) (new : Web) → IsLinked w → IsSplit w e way bend new →
-    (b : ℕ) → b < w.darts → b ≢ e → b ≢ w.twin e → IsKept w new b
+    (b : ℕ) → b < w.darts → b ≢ e → b ≢ w.reverse_dart e → IsKept w new b
 split_kept w e way bend new linked split b l not_e not_t = record {
   inside = omega (arith, split.darts);
   before = split.before_other b l not_e not_t;
-  twin = split.twin_other b l not_e not_t;
-  head = ap new.head (split.twin_other b l not_e not_t) ∙ split.head_old (w.twin b) (linked.twin_in b l);
-  direction = ap new.direction (split.twin_other b l not_e not_t) ∙ split.direction_old (w.twin b) (linked.twin_in b l);
+  reverse_dart = split.reverse_dart_other b l not_e not_t;
+  head = ap new.head (split.reverse_dart_other b l not_e not_t) ∙ split.head_old (w.reverse_dart b) (linked.reverse_dart_in b l);
+  direction = ap new.direction (split.reverse_dart_other b l not_e not_t) ∙ split.direction_old (w.reverse_dart b) (linked.reverse_dart_in b l);
 }
 
 -- the first new dart stands before e, and the edge turns there by this much
@@ -32,26 +32,26 @@ split_doubled w e way bend turn new linked e_in quarter few turn_is split = reco
   front_in = omega (arith, split.darts);
   before = split.before_first;
   behind = split.before_e;
-  twin = split.twin_first;
-  head = ap new.head split.twin_first ∙ split.head_old (w.twin e) (linked.twin_in e e_in);
-  direction = ap new.direction split.twin_first ∙ split.direction_old (w.twin e) (linked.twin_in e e_in);
-  meets = ap new.head split.twin_e ∙ split.head_second ∙ sym split.head_first;
-  turns = omega (arith, ap new.direction split.twin_e, split.direction_second, split.direction_first);
+  reverse_dart = split.reverse_dart_first;
+  head = ap new.head split.reverse_dart_first ∙ split.head_old (w.reverse_dart e) (linked.reverse_dart_in e e_in);
+  direction = ap new.direction split.reverse_dart_first ∙ split.direction_old (w.reverse_dart e) (linked.reverse_dart_in e e_in);
+  meets = ap new.head split.reverse_dart_e ∙ split.head_second ∙ sym split.head_first;
+  turns = omega (arith, ap new.direction split.reverse_dart_e, split.direction_second, split.direction_first);
 }
 
--- and the second one before its twin
+-- and the second one before its reverse
 pub split_doubled_back : (w : Web) (e way bend turn : ℕ) (new : Web) → IsLinked w → e < w.darts → way < 4 → bend ≤ 4 →
-    turn ≡ (2 + bend) % 4 → IsSplit w e way bend new → IsDoubled w new (w.twin e) (w.darts + 1) turn
+    turn ≡ (2 + bend) % 4 → IsSplit w e way bend new → IsDoubled w new (w.reverse_dart e) (w.darts + 1) turn
 split_doubled_back w e way bend turn new linked e_in quarter few turn_is split = record {
-  inside = omega (arith, split.darts, linked.twin_in e e_in);
+  inside = omega (arith, split.darts, linked.reverse_dart_in e e_in);
   front_in = omega (arith, split.darts);
   before = split.before_second;
-  behind = split.before_twin;
-  twin = split.twin_second ∙ sym (linked.twin_back e e_in);
-  head = ap new.head split.twin_second ∙ split.head_old e e_in ∙ sym (ap w.head (linked.twin_back e e_in));
-  direction = ap new.direction split.twin_second ∙ split.direction_old e e_in ∙ sym (ap w.direction (linked.twin_back e e_in));
-  meets = ap new.head split.twin_twin ∙ split.head_first ∙ sym split.head_second;
-  turns = omega (arith, ap new.direction split.twin_twin, split.direction_second, split.direction_first);
+  behind = split.before_reverse_dart;
+  reverse_dart = split.reverse_dart_second ∙ sym (linked.reverse_dart_back e e_in);
+  head = ap new.head split.reverse_dart_second ∙ split.head_old e e_in ∙ sym (ap w.head (linked.reverse_dart_back e e_in));
+  direction = ap new.direction split.reverse_dart_second ∙ split.direction_old e e_in ∙ sym (ap w.direction (linked.reverse_dart_back e e_in));
+  meets = ap new.head split.reverse_dart_reverse_dart ∙ split.head_first ∙ sym split.head_second;
+  turns = omega (arith, ap new.direction split.reverse_dart_reverse_dart, split.direction_second, split.direction_first);
 }
 
 -- what is before a dart is still nothing, or none of the first n darts
@@ -59,12 +59,12 @@ pub split_ends : (w : Web) (n e way bend : ℕ) (new : Web) → n ≤ w.darts �
     ((a : ℕ) → a < w.darts → (w.before a ≡ no_dart) ⊎ ((n ≤ w.before a) × (w.before a < w.darts))) →
     (a : ℕ) → a < new.darts → (new.before a ≡ no_dart) ⊎ ((n ≤ new.before a) × (new.before a < new.darts))
 split_ends w n e way bend new few e_in linked split ends a l =
-    by_place w.darts e (w.twin e) (λ (a : ℕ). (new.before a ≡ no_dart) ⊎ ((n ≤ new.before a) × (new.before a < new.darts)))
+    by_place w.darts e (w.reverse_dart e) (λ (a : ℕ). (new.before a ≡ no_dart) ⊎ ((n ≤ new.before a) × (new.before a < new.darts)))
     (inr (omega (arith, split.before_e), omega (arith, split.before_e, split.darts)))
-    (inr (omega (arith, split.before_twin), omega (arith, split.before_twin, split.darts)))
+    (inr (omega (arith, split.before_reverse_dart), omega (arith, split.before_reverse_dart, split.darts)))
     (λ a l not_e not_t. as_before a a (split.before_other a l not_e not_t) (ends a l))
     (as_before w.darts e split.before_first (ends e e_in))
-    (as_before (w.darts + 1) (w.twin e) split.before_second (ends (w.twin e) (linked.twin_in e e_in)))
+    (as_before (w.darts + 1) (w.reverse_dart e) split.before_second (ends (w.reverse_dart e) (linked.reverse_dart_in e e_in)))
     a (omega (arith, split.darts))
   where
     as_before : (a b : ℕ) → new.before a ≡ w.before b → (w.before b ≡ no_dart) ⊎ ((n ≤ w.before b) × (w.before b < w.darts)) →
@@ -83,7 +83,7 @@ split_longer w e way new linked e_in quarter split a (b ∷ bs) a_in below follo
       | inl at ↦ longer_doubled w new a b w.darts 0 bs (bends w b bs) keeps a_in follows
           (subst (λ (k : ℕ). IsDoubled w new k w.darts 0) (sym at)
           (split_doubled w e way 2 0 new linked e_in quarter (omega arith) refl split)) longer
-      | inr not_e ↦ elim (cases_eq b (w.twin e)) [
+      | inr not_e ↦ elim (cases_eq b (w.reverse_dart e)) [
         | inl at ↦ longer_doubled w new a b (w.darts + 1) 0 bs (bends w b bs) keeps a_in follows
             (subst (λ (k : ℕ). IsDoubled w new k (w.darts + 1) 0) (sym at)
             (split_doubled_back w e way 2 0 new linked e_in quarter (omega arith) refl split)) longer
@@ -93,28 +93,28 @@ split_longer w e way new linked e_in quarter split a (b ∷ bs) a_in below follo
     ]
 
 -- a split that does not turn keeps all paths
-pub split_paths : (w : Web) (e way : ℕ) (new : Web) (n : ℕ) (mate : ℕ → ℕ) (quarters : ℕ → List ℕ) → IsLinked w → e < w.darts →
-    way < 4 → IsSplit w e way 2 new → HasPaths w n mate quarters → HasPaths new n mate quarters
-split_paths w e way new n mate quarters linked e_in quarter split has = record {
+pub split_paths : (w : Web) (e way : ℕ) (new : Web) (n : ℕ) (reverse_dart : ℕ → ℕ) (quarters : ℕ → List ℕ) → IsLinked w → e < w.darts →
+    way < 4 → IsSplit w e way 2 new → HasPaths w n reverse_dart quarters → HasPaths new n reverse_dart quarters
+split_paths w e way new n reverse_dart quarters linked e_in quarter split has = record {
   few = omega (arith, has.few, split.darts);
-  paths = λ d l. path d (mate d) (quarters d) (has.paths d l);
+  paths = λ d l. path d (reverse_dart d) (quarters d) (has.paths d l);
   ends = split_ends w n e way 2 new has.few e_in linked split has.ends;
 }
   where
-    path : (d mate : ℕ) (turns : List ℕ) → HasPath w d mate turns → HasPath new d mate turns
-    path d mate turns old =
+    path : (d reverse_dart : ℕ) (turns : List ℕ) → HasPath w d reverse_dart turns → HasPath new d reverse_dart turns
+    path d reverse_dart turns old =
         let f : ℕ = old.first in
         let longer = longer_turns w new f old.rest (bends w f old.rest) turns old.turns
         (split_longer w e way new linked e_in quarter split f old.rest old.path.first_in old.path.rest_in old.path.follows) in
         elim (cases_eq f e) [
-          | inl at ↦ path_doubled w new d mate f w.darts 0 old.rest turns old.path old.back
+          | inl at ↦ path_doubled w new d reverse_dart f w.darts 0 old.rest turns old.path old.back
               (subst (λ (k : ℕ). IsDoubled w new k w.darts 0) (sym at)
               (split_doubled w e way 2 0 new linked e_in quarter (omega arith) refl split)) longer
-          | inr not_e ↦ elim (cases_eq f (w.twin e)) [
-            | inl at ↦ path_doubled w new d mate f (w.darts + 1) 0 old.rest turns old.path old.back
+          | inr not_e ↦ elim (cases_eq f (w.reverse_dart e)) [
+            | inl at ↦ path_doubled w new d reverse_dart f (w.darts + 1) 0 old.rest turns old.path old.back
                 (subst (λ (k : ℕ). IsDoubled w new k (w.darts + 1) 0) (sym at)
                 (split_doubled_back w e way 2 0 new linked e_in quarter (omega arith) refl split)) longer
-            | inr not_t ↦ path_kept w new d mate f old.rest turns old.path old.back
+            | inr not_t ↦ path_kept w new d reverse_dart f old.rest turns old.path old.back
                 (split_kept w e way 2 new linked split f old.path.first_in not_e not_t) longer
           ]
         ]

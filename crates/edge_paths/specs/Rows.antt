@@ -6,10 +6,10 @@ use Rattle.cutting.specs.Webs.{Web, no_dart}
 pub record AreRows (v : ℕ) (w : Web) : Type 0 where
   -- what stands before a dart is a dart
   pub inside : (a : ℕ) → a < w.darts → (w.before a ≡ no_dart) ⊎ (w.before a < w.darts)
-  -- behind the twin of a dart comes the twin of the dart before it
-  pub back : (a : ℕ) → a < w.darts → w.before a ≢ no_dart → w.before (w.twin (w.before a)) ≡ w.twin a
+  -- behind the reverse of a dart comes the reverse of the dart before it
+  pub back : (a : ℕ) → a < w.darts → w.before a ≢ no_dart → w.before (w.reverse_dart (w.before a)) ≡ w.reverse_dart a
   -- the vertex between a dart and the one before it is none of the first v
   pub fresh : (a : ℕ) → a < w.darts → w.before a ≢ no_dart → v ≤ w.head (w.before a)
-  -- and lies between no other two darts of a row but their twins
+  -- and lies between no other two darts of a row but their reverses
   pub own : (a b : ℕ) → a < w.darts → b < w.darts → w.before a ≢ no_dart → w.before b ≢ no_dart →
-      w.head (w.before a) ≡ w.head (w.before b) → (a ≡ b) ⊎ (a ≡ w.twin (w.before b))
+      w.head (w.before a) ≡ w.head (w.before b) → (a ≡ b) ⊎ (a ≡ w.reverse_dart (w.before b))

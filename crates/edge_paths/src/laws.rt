@@ -8,42 +8,42 @@ ghost use Rattle.cutting.specs.Frames.{IsEnclosed};
 
 /// Where no dart stands before another, each dart is the path of an edge without turns.
 pub fn darts_are_paths()
-    ensures { (w : Web) (n : ℕ) (mate : ℕ → ℕ) → w.darts ≡ n
+    ensures { (w : Web) (n : ℕ) (reverse_dart : ℕ → ℕ) → w.darts ≡ n
         → ((a : ℕ) → a < n → w.before a ≡ no_dart)
-        → ((a : ℕ) → a < n → w.twin a ≡ mate a)
-        → HasPaths w n mate (λ _. []) }
+        → ((a : ℕ) → a < n → w.reverse_dart a ≡ reverse_dart a)
+        → HasPaths w n reverse_dart (λ _. []) }
 {}
 
 /// A split that does not turn keeps the turns of each edge.
 pub fn splits_keep_paths()
-    ensures { (w : Web) (e way : ℕ) (new : Web) (n : ℕ) (mate : ℕ → ℕ) (quarters : ℕ → List ℕ)
+    ensures { (w : Web) (e way : ℕ) (new : Web) (n : ℕ) (reverse_dart : ℕ → ℕ) (quarters : ℕ → List ℕ)
         → IsLinked w → e < w.darts → way < 4 → IsSplit w e way 2 new
-        → HasPaths w n mate quarters → HasPaths new n mate quarters }
+        → HasPaths w n reverse_dart quarters → HasPaths new n reverse_dart quarters }
 {}
 
 /// A split that turns gives the edge of `e` a last turn, the way back the opposite one as its first, and the
 /// other edges none.
 pub fn bends_turn_paths()
-    ensures { (w : Web) (e way bend : ℕ) (new : Web) (n : ℕ) (mate : ℕ → ℕ) (quarters turned : ℕ → List ℕ)
+    ensures { (w : Web) (e way bend : ℕ) (new : Web) (n : ℕ) (reverse_dart : ℕ → ℕ) (quarters turned : ℕ → List ℕ)
         → IsLinked w → e < n → w.darts ≤ no_dart → way < 4 → (bend ≡ 1) ⊎ (bend ≡ 3) → IsSplit w e way bend new
-        → ((d : ℕ) → d < n → mate d < n) → ((d : ℕ) → d < n → mate (mate d) ≡ d) → mate e ≢ e
+        → ((d : ℕ) → d < n → reverse_dart d < n) → ((d : ℕ) → d < n → reverse_dart (reverse_dart d) ≡ d) → reverse_dart e ≢ e
         → turned e ≡ quarters e ++ (bend ∷ [])
-        → turned (mate e) ≡ (4 - bend) ∷ quarters (mate e)
-        → ((d : ℕ) → d < n → d ≢ e → d ≢ mate e → turned d ≡ quarters d)
-        → HasPaths w n mate quarters → HasPaths new n mate turned }
+        → turned (reverse_dart e) ≡ (4 - bend) ∷ quarters (reverse_dart e)
+        → ((d : ℕ) → d < n → d ≢ e → d ≢ reverse_dart e → turned d ≡ quarters d)
+        → HasPaths w n reverse_dart quarters → HasPaths new n reverse_dart turned }
 {}
 
 /// Cuts keep the turns of each edge.
 pub fn cuts_keep_paths()
-    ensures { (w new : Web) (n : ℕ) (mate : ℕ → ℕ) (quarters : ℕ → List ℕ) → IsSound w → Grows w new
-        → HasPaths w n mate quarters → HasPaths new n mate quarters }
+    ensures { (w new : Web) (n : ℕ) (reverse_dart : ℕ → ℕ) (quarters : ℕ → List ℕ) → IsSound w → Grows w new
+        → HasPaths w n reverse_dart quarters → HasPaths new n reverse_dart quarters }
 {}
 
 /// A rectangle round the web, its join and the cuts after it keep the turns of each edge.
 pub fn rectangles_keep_paths()
-    ensures { (w : Web) (outside : ℕ) (new : Web) (n : ℕ) (mate : ℕ → ℕ) (quarters : ℕ → List ℕ) → IsSound w
+    ensures { (w : Web) (outside : ℕ) (new : Web) (n : ℕ) (reverse_dart : ℕ → ℕ) (quarters : ℕ → List ℕ) → IsSound w
         → IsEnclosed w outside new
-        → HasPaths w n mate quarters → HasPaths new n mate quarters }
+        → HasPaths w n reverse_dart quarters → HasPaths new n reverse_dart quarters }
 {}
 
 /// A split of an edge leaves a joined web joined.

@@ -2,6 +2,7 @@
 use Rattle.std.proofs.Common.{◌≡◌, ℕ, zero, suc, ◌+◌, ◌*◌, ◌<◌, ◌≤◌, List, [], length, get_or, sym, ap, ◌∙◌, subst, inl, inr, arith}
 use Rattle.std.proofs.lemmas.List.{get_or-map, get_or_read, length-map}
 use Rattle.std.proofs.lemmas.Bool.{cases_lt}
+use Rattle.embedding.specs.declared.graphs.TheConstants.{MAX_DARTS}
 use Rattle.smallvec.specs.SmallVec.{SmallVec}
 use Rattle.embedding.specs.declared.rules.Rule.TheVariants.{Degree}
 use Rattle.embedding.specs.Lists.{list_of}
@@ -19,7 +20,7 @@ kept_as lists g {tails} {ends} {reverses} {afters} same kept =
 pub record HasSizes (g : List (List ℕ)) : Type 0 where
   pub vertices : 0 < length g
   pub some : 0 < dart_count g
-  pub few : dart_count g ≤ 1020
+  pub few : dart_count g ≤ MAX_DARTS
   pub edges : ℕ
   pub even : 2 * edges ≡ dart_count g
 

@@ -239,9 +239,9 @@ next_one g rules =
     apart : (g : List (List ℕ)) → KeepsBefore g 8 → (d e : ℕ) → d < dart_count g → e < dart_count g → next_of g d ≡ next_of g e → d ≡ e
     apart g rules d e in-d in-e same =
         let turned = reverse_involution g rules in
-        let mates : reverse_of g d ≡ reverse_of g e =
+        let reverse_darts : reverse_of g d ≡ reverse_of g e =
         (after_one g).one _ _ (turned.inside d in-d) (turned.inside e in-e) same in
-        sym (turned.back d in-d) ∙ ap (reverse_of g) mates ∙ turned.back e in-e
+        sym (turned.back d in-d) ∙ ap (reverse_of g) reverse_darts ∙ turned.back e in-e
 
 -- ---- how many darts
 

@@ -1,6 +1,7 @@
 //! A graph that keeps rules 1 to 7, with its darts.
 
 ghost use Rattle.std.specs.Prelude.{◌≡◌, ℕ, ◌*◌, ◌<◌, ◌≤◌, length, IfOk, IfErr, OnOk};
+ghost use Rattle.embedding.specs.declared.graphs.TheConstants.{MAX_DARTS};
 ghost use Rattle.embedding.specs.Lists.{list_of};
 ghost use Rattle.embedding.specs.Darts.{dart_count, head_of, tail_of, reverse_of, after_of, next_of, IsInvolution, IsOneToOne};
 ghost use Rattle.embedding.specs.Rules.{KeepsBefore};
@@ -15,6 +16,9 @@ use planar_code::Record;
 use smallvec::SmallVec;
 use std::alloc::{AllocError, Global};
 use std::marker::Model;
+
+/// How many darts a graph has at most: four for each of 255 vertices.
+pub const MAX_DARTS: usize = 1020;
 
 /// A connected graph without loops or double edges, of maximum degree 4, given by the clockwise
 /// list of neighbours of each vertex. In contracts it is these lists.
@@ -103,7 +107,7 @@ impl Graph {
     pub fn darts(&self) -> u16
         ensures count { result ≡ dart_count self.now }
         ensures some { 0 < result }
-        ensures few { result ≤ 1020 }
+        ensures few { result ≤ MAX_DARTS }
         ensures rules { KeepsBefore self.now 8 }
 
         // What holds of all darts at once; for one dart the readers below say it.

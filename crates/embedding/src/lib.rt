@@ -14,5 +14,5 @@ mod tables;
 mod walks;
 
 pub use faults::ReadFault;
-pub use graphs::Graph;
+pub use graphs::{Graph, MAX_DARTS};
 pub use rules::Rule;

@@ -9,7 +9,7 @@ use Rattle.cutting.specs.Frames.{IsFramed, IsEnclosed}
 use Rattle.cutting.specs.Labels.{AreLabels, HasTurns}
 use Rattle.cutting.specs.Scan.{CanCut, HasRoom}
 use Rattle.cutting.specs.Turning.{total}
-use Rattle.cutting.specs.Faces.{Runs, IsFour, In, Distinct, Below, joined, AreWaiting, ReachesCorners, cut_up}
+use Rattle.cutting.specs.Faces.{Runs, IsRectangle, In, Distinct, Below, joined, AreWaiting, ReachesCorners, cut_up}
 use Rattle.cutting.proofs.Running.{run_direct, Runs-inside}
 use Rattle.cutting.proofs.Scanning.{run_direction, cut_sound, cut_excess}
 use Rattle.cutting.proofs.Reaching.{cut_reaches, grows_sound, grows_reaches, cut_vertices, grows_vertices}
@@ -61,7 +61,7 @@ flat_ready w o corners counts faces flat waiting =
     (subst (λ (ns : List ℕ). AreReady w o (joined faces) ns) (sym flat.lengths) ready)
 
 -- a face of four rights has four different corners
-four_distinct : (w : Web) (o : ℕ) → IsSound w → o < w.darts → (four : IsFour w 3 o) →
+four_distinct : (w : Web) (o : ℕ) → IsSound w → o < w.darts → (four : IsRectangle w 3 o) →
     Distinct (o ∷ four.second ∷ four.third ∷ four.fourth ∷ []) × Below w.darts (o ∷ four.second ∷ four.third ∷ four.fourth ∷ [])
 four_distinct w o sound l four =
     let l2 : four.second < w.darts = Runs-inside w o four.second sound.linked l four.to_second in
@@ -99,7 +99,7 @@ four_distinct w o sound l four =
     out3 : (a b c d : ℕ) → a ≢ b → a ≢ c → a ≢ d → In a (b ∷ c ∷ d ∷ []) → ⊥
     out3 a b c d nb nc nd here = elim here [ inl e ↦ nb e | inr later ↦ out2 a c d nc nd later ]
 
-pub four_excess : (w : Web) (o : ℕ) → IsSound w → o < w.darts → IsFour w 3 o → 4 ≤ excess w
+pub four_excess : (w : Web) (o : ℕ) → IsSound w → o < w.darts → IsRectangle w 3 o → 4 ≤ excess w
 four_excess w o sound l four =
     let xs : List ℕ = o ∷ four.second ∷ four.third ∷ four.fourth ∷ [] in
     let f : ℕ → ℕ = λ a. w.angle a - 2 in

@@ -3,7 +3,7 @@ use Rattle.std.proofs.Common.{◌≡◌, ◌≢◌, ◌⊎◌, ℕ, ◌+◌, ◌
 use Rattle.std.proofs.lemmas.Bool.{cases_eq, cases_lt}
 use Rattle.cutting.specs.Webs.{Web}
 use Rattle.cutting.specs.Turning.{total}
-use Rattle.cutting.specs.Faces.{IsCorner, Runs, Trail, last_of, Ring, IsFour, IsOutside, In, Distinct, Below, joined, TurnsOnce, AreWaiting}
+use Rattle.cutting.specs.Faces.{IsCorner, Runs, Trail, last_of, Ring, IsRectangle, IsOutside, In, Distinct, Below, joined, TurnsOnce, AreWaiting}
 use Rattle.cutting.proofs.Running.{run_direct, chord_run_to, chord_run_there, chord_run_back, Runs-corner}
 use Rattle.cutting.proofs.Rings.{Clear, trail_front, trail_rest, trail_append, last_of-append, split_ring, chord_trail, clear_last, trail_corner, corner_not_f}
 use Rattle.cutting.proofs.Waiting.{clear_of, total-append}
@@ -245,11 +245,11 @@ pub join_settles : (w framed : Web) (right side way : ℕ) (new : Web) → IsJoi
     (inner : List (List ℕ)) (outer front kept : List ℕ) → outer ≡ front ++ (right ∷ []) →
     ((a : ℕ) → a < w.darts → IsCorner w a → In a (joined inner ++ outer)) → IsKept w right front kept →
     (a : ℕ) → a < w.darts + 12 → IsCorner new a →
-    In a (joined inner ++ (kept ++ detour w.darts side)) ⊎ (IsFour new 1 a ⊎ IsOutside new (w.darts + 4 + o) a)
+    In a (joined inner ++ (kept ++ detour w.darts side)) ⊎ (IsRectangle new 1 a ⊎ IsOutside new (w.darts + 4 + o) a)
 join_settles w framed right side way new j o o_in inner outer front kept ends all is a l corner =
     let n : ℕ = w.darts in
     let Settled : ℕ → Type 0 = λ a. IsCorner new a →
-    In a (joined inner ++ (kept ++ detour n side)) ⊎ (IsFour new 1 a ⊎ IsOutside new (n + 4 + o) a) in
+    In a (joined inner ++ (kept ++ detour n side)) ⊎ (IsRectangle new 1 a ⊎ IsOutside new (n + 4 + o) a) in
     let in_kept : (a : ℕ) → In a kept → In a (joined inner ++ (kept ++ detour n side)) =
     λ a h. in_right a (joined inner) (kept ++ detour n side) (in_left a kept (detour n side) h) in
     let in_detour : (a : ℕ) → In a (detour n side) → In a (joined inner ++ (kept ++ detour n side)) =
@@ -345,6 +345,6 @@ join_waits w framed right side way new j o o_in inner outer kept listed most is 
       inside = omega (arith, count);
       outside = (outside_four w framed right side way new j o o_in o o_in).four;
       settled = λ a l corner.
-          subst (λ (xs : List ℕ). In a xs ⊎ (IsFour new 1 a ⊎ IsOutside new (n + 4 + o) a)) (sym (joined_more inner big))
+          subst (λ (xs : List ℕ). In a xs ⊎ (IsRectangle new 1 a ⊎ IsOutside new (n + 4 + o) a)) (sym (joined_more inner big))
           (join_settles w framed right side way new j o o_in inner outer front kept listed.ends listed.all is a (omega (arith, count, l)) corner);
     }

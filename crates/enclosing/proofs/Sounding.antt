@@ -47,18 +47,18 @@ frame_linked w new s linked =
           ap new.next (s.prev_inner k l) ∙ s.next_inner ((k + 3) % 4) (omega arith) ∙ e)
           (λ k l. let e : n + 4 + ((k + 1) % 4 + 3) % 4 ≡ n + 4 + k = omega arith in
           ap new.next (s.prev_outer k l) ∙ s.next_outer ((k + 1) % 4) (omega arith) ∙ e);
-      twin_in = all (λ a. new.twin a < new.darts)
-          (λ a l. omega (arith, s.darts, s.twin_old a l, linked.twin_in a l))
-          (λ k l. omega (arith, s.darts, s.twin_inner k l))
-          (λ k l. omega (arith, s.darts, s.twin_outer k l));
-      twin_back = all (λ a. new.twin (new.twin a) ≡ a)
-          (λ a l. ap new.twin (s.twin_old a l) ∙ s.twin_old (w.twin a) (linked.twin_in a l) ∙ linked.twin_back a l)
-          (λ k l. ap new.twin (s.twin_inner k l) ∙ s.twin_outer k l)
-          (λ k l. ap new.twin (s.twin_outer k l) ∙ s.twin_inner k l);
-      twin_apart = all (λ a. new.twin a ≢ a)
-          (λ a l h. linked.twin_apart a l (sym (s.twin_old a l) ∙ h))
-          (λ k l h. omega (arith, s.twin_inner k l, h))
-          (λ k l h. omega (arith, s.twin_outer k l, h));
+      reverse_dart_in = all (λ a. new.reverse_dart a < new.darts)
+          (λ a l. omega (arith, s.darts, s.reverse_dart_old a l, linked.reverse_dart_in a l))
+          (λ k l. omega (arith, s.darts, s.reverse_dart_inner k l))
+          (λ k l. omega (arith, s.darts, s.reverse_dart_outer k l));
+      reverse_dart_back = all (λ a. new.reverse_dart (new.reverse_dart a) ≡ a)
+          (λ a l. ap new.reverse_dart (s.reverse_dart_old a l) ∙ s.reverse_dart_old (w.reverse_dart a) (linked.reverse_dart_in a l) ∙ linked.reverse_dart_back a l)
+          (λ k l. ap new.reverse_dart (s.reverse_dart_inner k l) ∙ s.reverse_dart_outer k l)
+          (λ k l. ap new.reverse_dart (s.reverse_dart_outer k l) ∙ s.reverse_dart_inner k l);
+      reverse_dart_apart = all (λ a. new.reverse_dart a ≢ a)
+          (λ a l h. linked.reverse_dart_apart a l (sym (s.reverse_dart_old a l) ∙ h))
+          (λ k l h. omega (arith, s.reverse_dart_inner k l, h))
+          (λ k l h. omega (arith, s.reverse_dart_outer k l, h));
     }
 
 -- the angles at a vertex are those of the old darts and of the rectangle's
@@ -138,19 +138,19 @@ frame_meeting w new s linked m =
     (a : ℕ) → a < new.darts → P a =
     λ P old inner outer a l. by_side n P old inner outer a (omega (arith, s.darts, l)) in
     -- the dart that arrives next clockwise
-    let clockwise_old : (a : ℕ) → a < n → new.twin (new.next a) ≡ w.twin (w.next a) =
-    λ a l. ap new.twin (s.next_old a l) ∙ s.twin_old (w.next a) (linked.next_in a l) in
-    let clockwise_inner : (k : ℕ) → k < 4 → new.twin (new.next (n + k)) ≡ n + 4 + (k + 1) % 4 =
-    λ k l. ap new.twin (s.next_inner k l) ∙ s.twin_inner ((k + 1) % 4) (omega arith) in
-    let clockwise_outer : (k : ℕ) → k < 4 → new.twin (new.next (n + 4 + k)) ≡ n + (k + 3) % 4 =
-    λ k l. ap new.twin (s.next_outer k l) ∙ s.twin_outer ((k + 3) % 4) (omega arith) in
+    let clockwise_old : (a : ℕ) → a < n → new.reverse_dart (new.next a) ≡ w.reverse_dart (w.next a) =
+    λ a l. ap new.reverse_dart (s.next_old a l) ∙ s.reverse_dart_old (w.next a) (linked.next_in a l) in
+    let clockwise_inner : (k : ℕ) → k < 4 → new.reverse_dart (new.next (n + k)) ≡ n + 4 + (k + 1) % 4 =
+    λ k l. ap new.reverse_dart (s.next_inner k l) ∙ s.reverse_dart_inner ((k + 1) % 4) (omega arith) in
+    let clockwise_outer : (k : ℕ) → k < 4 → new.reverse_dart (new.next (n + 4 + k)) ≡ n + (k + 3) % 4 =
+    λ k l. ap new.reverse_dart (s.next_outer k l) ∙ s.reverse_dart_outer ((k + 3) % 4) (omega arith) in
     record {
       head_in = all (λ a. new.head a < new.vertices)
           (λ a l. omega (arith, s.vertices, s.head_old a l, m.head_in a l))
           (λ k l. omega (arith, s.vertices, s.head_inner k l))
           (λ k l. omega (arith, s.vertices, s.head_outer k l));
-      meets = all (λ a. new.head (new.twin (new.next a)) ≡ new.head a)
-          (λ a l. ap new.head (clockwise_old a l) ∙ s.head_old (w.twin (w.next a)) (linked.twin_in (w.next a) (linked.next_in a l))
+      meets = all (λ a. new.head (new.reverse_dart (new.next a)) ≡ new.head a)
+          (λ a l. ap new.head (clockwise_old a l) ∙ s.head_old (w.reverse_dart (w.next a)) (linked.reverse_dart_in (w.next a) (linked.next_in a l))
           ∙ m.meets a l ∙ sym (s.head_old a l))
           (λ k l. omega (arith, ap new.head (clockwise_inner k l), s.head_outer ((k + 1) % 4) (omega arith), s.head_inner k l))
           (λ k l. omega (arith, ap new.head (clockwise_outer k l), s.head_inner ((k + 3) % 4) (omega arith), s.head_outer k l));
@@ -158,11 +158,11 @@ frame_meeting w new s linked m =
           (λ a l. omega (arith, s.direction_old a l, m.quarter a l))
           (λ k l. omega (arith, s.direction_inner k l))
           (λ k l. omega (arith, s.direction_outer k l));
-      turns = all (λ a. (new.direction (new.twin (new.next a)) + new.angle a) % 4 ≡ new.direction a)
+      turns = all (λ a. (new.direction (new.reverse_dart (new.next a)) + new.angle a) % 4 ≡ new.direction a)
           (λ a l. omega (
             arith,
             ap new.direction (clockwise_old a l),
-            s.direction_old (w.twin (w.next a)) (linked.twin_in (w.next a) (linked.next_in a l)),
+            s.direction_old (w.reverse_dart (w.next a)) (linked.reverse_dart_in (w.next a) (linked.next_in a l)),
             s.angle_old a l,
             s.direction_old a l,
             m.turns a l,
@@ -182,16 +182,16 @@ frame_meeting w new s linked m =
 
 pub frame_straight : (w new : Web) → IsFramed w new → IsLinked w → IsStraight w → IsStraight new
 frame_straight w new s linked straight = λ a l.
-    by_side w.darts (λ a. new.direction (new.twin a) ≡ (new.direction a + 2) % 4)
+    by_side w.darts (λ a. new.direction (new.reverse_dart a) ≡ (new.direction a + 2) % 4)
     (λ a l. omega (
       arith,
-      ap new.direction (s.twin_old a l),
-      s.direction_old (w.twin a) (linked.twin_in a l),
+      ap new.direction (s.reverse_dart_old a l),
+      s.direction_old (w.reverse_dart a) (linked.reverse_dart_in a l),
       s.direction_old a l,
       straight a l,
     ))
-    (λ k l. omega (arith, ap new.direction (s.twin_inner k l), s.direction_outer k l, s.direction_inner k l))
-    (λ k l. omega (arith, ap new.direction (s.twin_outer k l), s.direction_outer k l, s.direction_inner k l))
+    (λ k l. omega (arith, ap new.direction (s.reverse_dart_inner k l), s.direction_outer k l, s.direction_inner k l))
+    (λ k l. omega (arith, ap new.direction (s.reverse_dart_outer k l), s.direction_outer k l, s.direction_inner k l))
     a (omega (arith, s.darts, l))
 
 pub frame_sound : (w new : Web) → IsFramed w new → IsSound w → IsSound new

@@ -15,7 +15,7 @@ fn put_at<T: Copy>(list: &mut Vec<T>, start: usize, items: &[T])
 }
 
 /// Adds a rectangle beside the drawing: its inside runs along the four new darts from `darts` on, to
-/// the east, north, west and south, and its outside along their twins, the four after these. The
+/// the east, north, west and south, and its outside along their reverses, the four after these. The
 /// table needs room for eight darts. Constant time.
 pub fn frame(table: &mut DartTable)
     requires space { table.old.darts + 8 ≤ room table.old }
@@ -36,7 +36,7 @@ pub fn frame(table: &mut DartTable)
         &[n + 3, n, n + 1, n + 2, n + 5, n + 6, n + 7, n + 4],
     );
     put_at(
-        &mut table.twin,
+        &mut table.reverse_dart,
         start,
         &[n + 4, n + 5, n + 6, n + 7, n, n + 1, n + 2, n + 3],
     );

@@ -3,20 +3,20 @@ use Rattle.std.specs.Prelude.{◌≡◌, ℕ, List, Result, ⊤}
 use Rattle.planar_code.specs.Stream.{lists_of}
 use Rattle.embedding.specs.Rules.{FirstBroken}
 use Rattle.choices.specs.declared.Choice.{Choice}
-use Rattle.faces.specs.Map.{Map, IsPlane}
-use Rattle.ortho_rep.specs.Shapes.{Figure}
-use Rattle.ortho_rep.specs.Points.{Plot}
-use Rattle.ortho_rep.specs.Prices.{Tariff, IsProof}
+use Rattle.faces.specs.Planes.{PlaneModel, IsPlane}
+use Rattle.ortho_rep.specs.Shapes.{ShapeModel}
+use Rattle.ortho_rep.specs.Points.{PointsModel}
+use Rattle.ortho_rep.specs.Prices.{PricesModel, IsProof}
 use Rattle.ortho_rep.specs.Representation.{IsShape, IsLeast}
 use Rattle.ortho_rep.specs.Best.{IsChosen}
 use Rattle.entries.specs.declared.cause.Cause.{Cause}
-use Rattle.entries.specs.declared.found.Answer.{Answer}
-use Rattle.entries.specs.declared.found.Answer.TheVariants.{Laid, Refused, NoMemory}
+use Rattle.entries.specs.declared.answer.Answer.{Answer}
+use Rattle.entries.specs.declared.answer.Answer.TheVariants.{Laid, Refused, NoMemory}
 use Rattle.entries.specs.Drawn.{IsDrawn}
 
 -- the plane of the record's bytes with the chosen outer face, a shape of it with the fewest bends, prices that prove so, and a drawing of the shape
 -- or the cause in its place
-pub record IsLaid (choice : Choice) (bytes : List ℕ) (plane : Map) (shape : Figure) (prices : Tariff) (drawing : Result Plot Cause) : Type 0 where
+pub record IsLaid (choice : Choice) (bytes : List ℕ) (plane : PlaneModel) (shape : ShapeModel) (prices : PricesModel) (drawing : Result PointsModel Cause) : Type 0 where
   -- the plane has the record's neighbour lists
   pub lists : plane.lists ≡ lists_of bytes
   -- no rule is broken, and the faces are those of the lists

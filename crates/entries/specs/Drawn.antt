@@ -1,9 +1,9 @@
 -- What a drawing shows of a shape, and what the cause in its place shows.
 use Rattle.std.specs.Prelude.{◌≡◌, ◌*◌, Result, Ok, Err, length}
-use Rattle.faces.specs.Map.{Map, vertices, darts}
-use Rattle.ortho_rep.specs.Shapes.{Figure}
-use Rattle.ortho_rep.specs.Points.{Plot}
-use Rattle.dissect.specs.Boxes.{Parts}
+use Rattle.faces.specs.Planes.{PlaneModel, vertices, darts}
+use Rattle.ortho_rep.specs.Shapes.{ShapeModel}
+use Rattle.ortho_rep.specs.Points.{PointsModel}
+use Rattle.dissect.specs.Boxes.{BoxesModel}
 use Rattle.dissect.specs.Boxed.{IsBoxed}
 use Rattle.dissect.specs.Ordered.{AreLaidOut, HasNoPlace}
 use Rattle.drawing_check.specs.declared.fault.CheckFault.{CheckFault}
@@ -15,13 +15,13 @@ use Rattle.entries.specs.declared.cause.Cause.TheVariants.{Wide, OutOfGrid, NotA
 
 -- some points that are taken from numbers in the order of the boxes, within the grid, fail a condition of a drawing, and
 -- that one first
-pub record FailFirst (plane : Map) (shape : Figure) (boxes : Parts) (fault : CheckFault) : Type 0 where
-  pub points : Plot
+pub record FailFirst (plane : PlaneModel) (shape : ShapeModel) (boxes : BoxesModel) (fault : CheckFault) : Type 0 where
+  pub points : PointsModel
   pub laid_out : AreLaidOut boxes points
   pub first : IsFirstFault plane shape points fault
 
 -- the boxes show that this is why the shape is not drawn
-abbrev pub IsShown : Map → Figure → Parts → Cause → Type 0
+abbrev pub IsShown : PlaneModel → ShapeModel → BoxesModel → Cause → Type 0
 -- no numbers in their order are within the grid
 IsShown plane shape boxes Wide = HasNoPlace boxes
 IsShown plane shape boxes OutOfGrid = FailFirst plane shape boxes fault.OutOfGrid
@@ -30,17 +30,17 @@ IsShown plane shape boxes WrongTurn = FailFirst plane shape boxes fault.WrongTur
 IsShown plane shape boxes Meet = FailFirst plane shape boxes fault.Meet
 
 -- some boxes that dissect the shape show the cause
-pub record IsCause (plane : Map) (shape : Figure) (cause : Cause) : Type 0 where
-  pub boxes : Parts
+pub record IsCause (plane : PlaneModel) (shape : ShapeModel) (cause : Cause) : Type 0 where
+  pub boxes : BoxesModel
   pub boxed : IsBoxed plane shape boxes
   pub shown : IsShown plane shape boxes cause
 
 -- there is a point for each vertex, and a list of corners for each edge
-pub record HasPoints (plane : Map) (points : Plot) : Type 0 where
+pub record HasPoints (plane : PlaneModel) (points : PointsModel) : Type 0 where
   pub vertex_count : length points.vertices ≡ vertices plane
   pub edge_count : 2 * length points.corners ≡ darts plane
 
 -- there are points and corners for the whole plane, and they draw the shape; or the cause in their place is shown
-abbrev pub IsDrawn : Map → Figure → Result Plot Cause → Type 0
+abbrev pub IsDrawn : PlaneModel → ShapeModel → Result PointsModel Cause → Type 0
 IsDrawn plane shape (Ok points) = HasPoints plane points × Draws plane shape points
 IsDrawn plane shape (Err cause) = IsCause plane shape cause

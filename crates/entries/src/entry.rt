@@ -2,7 +2,7 @@
 
 ghost use Rattle.entries.specs.Answers.{Answers};
 
-use crate::found::Answer;
+use crate::answer::Answer;
 use choices::Choice;
 use lanes::Numbered;
 use planar_code::Record;

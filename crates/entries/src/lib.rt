@@ -3,10 +3,10 @@
 //! answer is one for its record.
 #![tactic(auto)]
 
+mod answer;
 mod cause;
 mod entry;
-mod found;
 
+pub use answer::Answer;
 pub use cause::Cause;
 pub use entry::Entry;
-pub use found::Answer;

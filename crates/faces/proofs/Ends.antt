@@ -3,13 +3,13 @@ use Rattle.std.proofs.Common.{ℕ, List, ◌∙◌, arith}
 use Rattle.embedding.specs.Darts.{reverse_of}
 use Rattle.embedding.specs.Rules.{KeepsBefore}
 use Rattle.embedding.proofs.Rotation.{reverse_is, reverse_involution, reverse_apart, tail_within, head_within, after_tail, next_one, darts_few, darts_some}
-use Rattle.faces.specs.Map.{Map, IsPlane, HasEnds}
+use Rattle.faces.specs.Planes.{PlaneModel, IsPlane, HasEnds}
 
 -- eight rules kept are seven kept
 pub seven_rules : (g : List (List ℕ)) → KeepsBefore g 9 → KeepsBefore g 8
 seven_rules g rules r h = rules r (omega arith)
 
-pub plane_ends : (p : Map) → IsPlane p → HasEnds p
+pub plane_ends : (p : PlaneModel) → IsPlane p → HasEnds p
 plane_ends p is =
     let g = p.lists in
     let rules : KeepsBefore g 8 = seven_rules g is.rules in
@@ -24,11 +24,11 @@ plane_ends p is =
       tail_to = λ d h. (tail_within g d h).1;
       head_from = λ d h. (head_within g rules d h).0;
       head_to = λ d h. (head_within g rules d h).1;
-      mate_inside = λ d h. (reverse_involution g rules).inside d h;
-      mate_back = λ d h. (reverse_involution g rules).back d h;
-      mate_apart = reverse_apart g rules;
-      mate_tail = λ d h. (reverse_is g rules d h).tail;
-      mate_head = λ d h. (reverse_is g rules d h).head;
+      reverse_dart_inside = λ d h. (reverse_involution g rules).inside d h;
+      reverse_dart_back = λ d h. (reverse_involution g rules).back d h;
+      reverse_dart_apart = reverse_apart g rules;
+      reverse_dart_tail = λ d h. (reverse_is g rules d h).tail;
+      reverse_dart_head = λ d h. (reverse_is g rules d h).head;
       after_inside = λ d h. (after_tail g d h).0;
       after_tail = λ d h. (after_tail g d h).1;
       next_one = next_one g rules;

@@ -10,7 +10,7 @@ use Rattle.embedding.specs.Rules.{KeepsBefore, IsClosed}
 use Rattle.embedding.proofs.Entries.{Stands, stands_at, dart_stands}
 use Rattle.embedding.proofs.Rotation.{reverse_is, reverse_involution, after_place, tail_at, dart_below, list_of-place, tail_within}
 use Rattle.faces.specs.Faces.{IsShut}
-use Rattle.faces.specs.Map.{Map, IsPlane, darts, mate, face_at}
+use Rattle.faces.specs.Planes.{PlaneModel, IsPlane, darts, reverse_dart, face_at}
 use Rattle.faces.proofs.Ends.{seven_rules}
 
 -- a set that is closed under "next" and "reverse" is closed under "after"
@@ -145,8 +145,8 @@ all_joined g rules s next reverse d e hd he here =
 
 -- any two faces of a plane are joined: a set of faces that holds with each dart's face the face across holds
 -- them all, if it holds one
-pub faces_joined : (p : Map) → IsPlane p → (t : ℕ → Bool)
-    → ((d : ℕ) → d < darts p → t (face_at p d) ≡ true → t (face_at p (mate p d)) ≡ true)
+pub faces_joined : (p : PlaneModel) → IsPlane p → (t : ℕ → Bool)
+    → ((d : ℕ) → d < darts p → t (face_at p d) ≡ true → t (face_at p (reverse_dart p d)) ≡ true)
     → (k j : ℕ) → k < p.faces → j < p.faces → t k ≡ true → t j ≡ true
 faces_joined p is t across k j hk hj here =
     let (d, in-d, face-d) = is.faces.used k hk in

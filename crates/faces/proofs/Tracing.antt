@@ -3,6 +3,7 @@ use Rattle.std.proofs.Common.{◌≡◌, ◌≢◌, ℕ, ◌+◌, ◌<◌, Bool,
 use Rattle.std.proofs.lemmas.Bool.{cases_eq, cases_lt, eq-eqb, ne_eqb}
 use Rattle.std.proofs.lemmas.List.{get_or-set_other}
 use Rattle.std.proofs.lemmas.Grind.{get_or-set_at}
+use Rattle.faces.specs.declared.numbering.TheConstants.{UNSET}
 use Rattle.embedding.specs.Faces.{HasFaces}
 use Rattle.embedding.specs.Darts.{IsOneToOne}
 use Rattle.faces.specs.Faces.{IsShut}
@@ -13,12 +14,12 @@ use Rattle.faces.specs.Walk.{IsTraced, at}
 -- the walk of face c, which begins at d, is at t: the darts from d to the one before t have the number c
 pub record IsWalk (n : ℕ) (next old face : ℕ → ℕ) (c d t : ℕ) : Type 0 where
   pub traced : IsTraced n next old c d
-  pub limit : c < 65535
-  pub begins : (d < n) × (old d ≡ 65535)
+  pub limit : c < UNSET
+  pub begins : (d < n) × (old d ≡ UNSET)
   pub inside : t < n
-  pub bare : face t ≡ 65535
+  pub bare : face t ≡ UNSET
   pub kept : (x : ℕ) → x < n → old x < c → face x ≡ old x
-  pub fresh : (x : ℕ) → x < n → old x ≡ 65535 → (face x ≡ c) ⊎ (face x ≡ 65535)
+  pub fresh : (x : ℕ) → x < n → old x ≡ UNSET → (face x ≡ c) ⊎ (face x ≡ UNSET)
   pub front : (x : ℕ) → x < n → face x ≡ c → (face (next x) ≡ c) ⊎ (next x ≡ t)
   pub behind : (x : ℕ) → x < n → face x ≡ c → x ≢ d → (y : ℕ) × (y < n) × (face y ≡ c) × (next y ≡ x)
   pub here : t ≢ d → (y : ℕ) × (y < n) × (face y ≡ c) × (next y ≡ t)
@@ -32,7 +33,7 @@ pub record IsPut (old new : ℕ → ℕ) (t c : ℕ) : Type 0 where
   pub put : new t ≡ c
   pub others : (x : ℕ) → x ≢ t → new x ≡ old x
 
-pub nothing_traced : (n : ℕ) (next face : ℕ → ℕ) → ((x : ℕ) → x < n → face x ≡ 65535) → IsTraced n next face 0 0
+pub nothing_traced : (n : ℕ) (next face : ℕ → ℕ) → ((x : ℕ) → x < n → face x ≡ UNSET) → IsTraced n next face 0 0
 nothing_traced n next face bare = record {
   few = omega arith;
   passed = λ x h. absurd (omega arith);
@@ -45,7 +46,7 @@ nothing_traced n next face bare = record {
 }
 
 -- a dart that has its number already is passed over
-pub pass_over : (n : ℕ) (next face : ℕ → ℕ) (c d : ℕ) → IsTraced n next face c d → d < n → face d ≢ 65535 → IsTraced n next face c (d + 1)
+pub pass_over : (n : ℕ) (next face : ℕ → ℕ) (c d : ℕ) → IsTraced n next face c d → d < n → face d ≢ UNSET → IsTraced n next face c (d + 1)
 pass_over n next face c d t inside named = record {
   few = omega arith;
   passed = λ x h. elim (cases_eq x d) [ inl e ↦ elim (t.marked d inside) [ inl m ↦ subst (λ y. face y < c) (sym e) m | inr m ↦ absurd (named m) ] | inr e ↦ t.passed x (omega arith) ];
@@ -58,7 +59,7 @@ pass_over n next face c d t inside named = record {
 }
 
 -- a dart without a number begins a face
-pub walk_begins : (n : ℕ) (next face : ℕ → ℕ) (c d : ℕ) → IsTraced n next face c d → d < n → n < 65535 → face d ≡ 65535 → IsWalk n next face face c d d
+pub walk_begins : (n : ℕ) (next face : ℕ → ℕ) (c d : ℕ) → IsTraced n next face c d → d < n → n < UNSET → face d ≡ UNSET → IsWalk n next face face c d d
 walk_begins n next face c d t inside few bare = record {
   traced = t;
   limit = omega arith;
@@ -84,10 +85,10 @@ one_number : (x a b : ℕ) → x ≡ a → x ≡ b → a ≢ b → ⊥
 one_number x a b p q ne = ne (sym p ∙ q)
 
 -- the dart after t is still without a number, unless it is the first
-pub walk_meets : (n : ℕ) (next old face : ℕ → ℕ) (c d t : ℕ) → IsOneToOne n next → IsWalk n next old face c d t → next t ≢ d → (next t ≢ t) × (face (next t) ≡ 65535)
+pub walk_meets : (n : ℕ) (next old face : ℕ → ℕ) (c d t : ℕ) → IsOneToOne n next → IsWalk n next old face c d t → next t ≢ d → (next t ≢ t) × (face (next t) ≡ UNSET)
 walk_meets n next old face c d t inj w ne = (apart, bare)
   where
-    limit : c < 65535
+    limit : c < UNSET
     limit = w.limit
 
     -- a dart with a number is not t
@@ -109,7 +110,7 @@ walk_meets n next old face c d t inj w ne = (apart, bare)
     walked : face (next t) ≡ c → ⊥
     walked h = let y = w.behind (next t) inside h ne in other y.0 y.2 y.3 y.1
 
-    bare : face (next t) ≡ 65535
+    bare : face (next t) ≡ UNSET
     bare = elim (w.traced.marked (next t) inside) [
       | inl m ↦ absurd (passed m)
       | inr m ↦ elim (w.fresh (next t) inside m) [ inl a ↦ absurd (walked a) | inr a ↦ a ]
@@ -123,7 +124,7 @@ put_kept n next old face new c d t w p x h m =
       | inr e ↦ p.others x e ∙ w.kept x h m
     ]
 
-put_fresh : (n : ℕ) (next old face new : ℕ → ℕ) (c d t : ℕ) → IsWalk n next old face c d t → IsPut face new t c → (x : ℕ) → x < n → old x ≡ 65535 → (new x ≡ c) ⊎ (new x ≡ 65535)
+put_fresh : (n : ℕ) (next old face new : ℕ → ℕ) (c d t : ℕ) → IsWalk n next old face c d t → IsPut face new t c → (x : ℕ) → x < n → old x ≡ UNSET → (new x ≡ c) ⊎ (new x ≡ UNSET)
 put_fresh n next old face new c d t w p x h m =
     elim (cases_eq x t) [
       | inl e ↦ inl (ap new e ∙ p.put)
@@ -201,7 +202,7 @@ walk_ends n next old face new c d t inj w p round = record {
   ordered = ordered;
 }
   where
-    limit : c < 65535
+    limit : c < UNSET
     limit = w.limit
 
     start : d < n
@@ -214,7 +215,7 @@ walk_ends n next old face new c d t inj w p round = record {
     first = put_first n next old face new c d t w p
 
     -- a number is an older one, or that of this face
-    numbered : (x : ℕ) → x < n → new x < c + 1 → ((old x < c) × (new x ≡ old x)) ⊎ ((old x ≡ 65535) × (new x ≡ c))
+    numbered : (x : ℕ) → x < n → new x < c + 1 → ((old x < c) × (new x ≡ old x)) ⊎ ((old x ≡ UNSET) × (new x ≡ c))
     numbered x h m = elim (w.traced.marked x h) [
       | inl a ↦ inl (a, kept x h a)
       | inr a ↦ elim (put_fresh n next old face new c d t w p x h a) [ inl b ↦ inr (a, b) | inr b ↦ absurd (omega arith) ]
@@ -226,7 +227,7 @@ walk_ends n next old face new c d t inj w p round = record {
       | inr e ↦ let old_one = w.traced.passed x (omega arith) in omega (arith, kept x (omega arith) old_one, old_one)
     ]
 
-    marked : (x : ℕ) → x < n → (new x < c + 1) ⊎ (new x ≡ 65535)
+    marked : (x : ℕ) → x < n → (new x < c + 1) ⊎ (new x ≡ UNSET)
     marked x h = elim (w.traced.marked x h) [
       | inl a ↦ inl (omega (arith, kept x h a))
       | inr a ↦ elim (put_fresh n next old face new c d t w p x h a) [ inl b ↦ inl (omega arith) | inr b ↦ inr b ]
@@ -284,17 +285,17 @@ put_list xs i t c same h = record {
 
 -- how many of n darts are without a number
 abbrev pub bare_count : ℕ → (ℕ → ℕ) → ℕ
-bare_count n face = sum_below n (λ d. cond (eqb (face d) 65535) 1 0)
+bare_count n face = sum_below n (λ d. cond (eqb (face d) UNSET) 1 0)
 
 -- each number given leaves one dart fewer without
-pub fewer_bare : (n : ℕ) (old new : ℕ → ℕ) (t c : ℕ) → IsPut old new t c → t < n → old t ≡ 65535 → c < 65535 → bare_count n new < bare_count n old
+pub fewer_bare : (n : ℕ) (old new : ℕ → ℕ) (t c : ℕ) → IsPut old new t c → t < n → old t ≡ UNSET → c < UNSET → bare_count n new < bare_count n old
 fewer_bare n old new t c p h bare limit =
-    sum_below-lt n t (λ d. cond (eqb (new d) 65535) 1 0) (λ d. cond (eqb (old d) 65535) 1 0) h
+    sum_below-lt n t (λ d. cond (eqb (new d) UNSET) 1 0) (λ d. cond (eqb (old d) UNSET) 1 0) h
     (λ x hx. elim (cases_eq x t) [
-      | inl e ↦ let k : new x ≡ c = ap new e ∙ p.put in rw (ne_eqb (new x) 65535 (λ q. omega arith)) (omega arith)
+      | inl e ↦ let k : new x ≡ c = ap new e ∙ p.put in rw (ne_eqb (new x) UNSET (λ q. omega arith)) (omega arith)
       | inr e ↦ rw (p.others x e) (omega arith)
     ])
-    (rw (ne_eqb (new t) 65535 (λ q. let k = p.put in omega arith), eq-eqb (old t) 65535 bare) (omega arith))
+    (rw (ne_eqb (new t) UNSET (λ q. let k = p.put in omega arith), eq-eqb (old t) UNSET bare) (omega arith))
 
 -- every dart has been passed
 pub all_faces : (n : ℕ) (next face : ℕ → ℕ) (c : ℕ) → IsTraced n next face c n → HasFaces n next face c

@@ -1,4 +1,4 @@
-pub mod Map
+pub mod Planes
 pub mod Faces
 pub mod Walk
 pub mod Faults

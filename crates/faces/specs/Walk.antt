@@ -1,5 +1,6 @@
 -- How far the numbering of the faces has come.
 use Rattle.std.specs.Prelude.{◌≡◌, ℕ, ◌<◌, ◌≤◌, ◌⊎◌, Bool, true, List, slice_index}
+use Rattle.faces.specs.declared.numbering.TheConstants.{UNSET}
 use Rattle.embedding.specs.Darts.{dart_count, next_of}
 use Rattle.faces.specs.Faces.{IsShut}
 
@@ -7,7 +8,7 @@ use Rattle.faces.specs.Faces.{IsShut}
 pub record IsTraced (n : ℕ) (next face : ℕ → ℕ) (c d : ℕ) : Type 0 where
   pub few : c ≤ d
   pub passed : (x : ℕ) → x < d → face x < c
-  pub marked : (x : ℕ) → x < n → (face x < c) ⊎ (face x ≡ 65535)
+  pub marked : (x : ℕ) → x < n → (face x < c) ⊎ (face x ≡ UNSET)
   pub used : (k : ℕ) → k < c → (e : ℕ) × (e < d) × (face e ≡ k)
   pub closed : (x : ℕ) → x < n → face x < c → face (next x) ≡ face x
   pub behind : (x : ℕ) → x < n → face x < c → (y : ℕ) × (y < n) × (face y ≡ face x) × (next y ≡ x)

@@ -6,7 +6,7 @@ ghost use Rattle.embedding.specs.Darts.{dart_count, next_of, reverse_of};
 ghost use Rattle.embedding.specs.Faces.{HasFaces};
 ghost use Rattle.embedding.specs.Rules.{KeepsBefore};
 ghost use Rattle.faces.specs.Faces.{IsFace, IsShut, steps};
-ghost use Rattle.faces.specs.Map.{HasEnds, IsPlane, Map, darts, degree, face_at, mate};
+ghost use Rattle.faces.specs.Planes.{HasEnds, IsPlane, PlaneModel, darts, degree, face_at, reverse_dart};
 
 /// The faces are a partition: the darts of each number are a face, and each face has one of the numbers.
 pub fn faces_are_numbered()
@@ -33,7 +33,7 @@ pub fn faces_are_orbits()
 
 /// The degrees of all faces of a plane sum to the number of darts.
 pub fn degrees_sum()
-    ensures { (p : Map) → IsPlane p → sum_below p.faces (degree p) ≡ darts p }
+    ensures { (p : PlaneModel) → IsPlane p → sum_below p.faces (degree p) ≡ darts p }
 {}
 
 /// Any two darts of a connected graph are joined: a set of darts that is closed under "next" and under
@@ -47,12 +47,12 @@ pub fn darts_are_joined()
 /// Any two faces of a plane are joined by crossings: a set of faces that holds with the face of each
 /// dart the face across it holds them all, if it holds one.
 pub fn faces_are_joined()
-    ensures { (p : Map) → IsPlane p → (t : ℕ → Bool)
-        → ((d : ℕ) → d < darts p → t (face_at p d) ≡ true → t (face_at p (mate p d)) ≡ true)
+    ensures { (p : PlaneModel) → IsPlane p → (t : ℕ → Bool)
+        → ((d : ℕ) → d < darts p → t (face_at p d) ≡ true → t (face_at p (reverse_dart p d)) ≡ true)
         → (k j : ℕ) → k < p.faces → j < p.faces → t k ≡ true → t j ≡ true }
 {}
 
-/// The darts of a plane have their ends, their mates, their nexts and their faces within it.
+/// The darts of a plane have their ends, their reverses, their nexts and their faces within it.
 pub fn planes_have_ends()
-    ensures { (p : Map) → IsPlane p → HasEnds p }
+    ensures { (p : PlaneModel) → IsPlane p → HasEnds p }
 {}

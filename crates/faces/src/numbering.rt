@@ -1,6 +1,7 @@
 //! The faces of a graph's darts, numbered in the order of their least darts, and what is told by them.
 
 ghost use Rattle.std.specs.Prelude.{◌≡◌, ◌+◌, ◌<◌, ◌≤◌, ℕ, IfOk, length, slice_index, vec_len};
+ghost use Rattle.embedding.specs.declared.graphs.TheConstants.{MAX_DARTS};
 ghost use Rattle.embedding.specs.Darts.{IsOneToOne, dart_count, next_of};
 ghost use Rattle.embedding.specs.Faces.{HasFaces};
 ghost use Rattle.faces.specs.Faces.{degree_in};
@@ -25,7 +26,7 @@ pub fn next_dart(graph: &Graph, dart: u16) -> u16
 /// Walks the face of `start` once round, and gives its darts the number `face`.
 fn walk_face(graph: &Graph, faces: &mut [u16], start: u16, face: u16)
     requires size { length faces.old ≡ dart_count graph.now }
-    requires few { dart_count graph.now ≤ 1020 }
+    requires few { dart_count graph.now ≤ MAX_DARTS }
     requires walked { IsOneToOne (dart_count graph.now) (next_of graph.now) }
     requires inside { start < dart_count graph.now }
     requires unset { slice_index faces.old start ≡ UNSET }
@@ -64,7 +65,7 @@ pub fn number_faces(graph: &Graph, faces: &mut [u16]) -> u16
 
 /// How many darts each of `count` faces has.
 pub fn count_degrees(alloc: Global, faces: &[u16], count: u16) -> Result<Vec<u16>, AllocError>
-    requires few { length faces.now ≤ 1020 }
+    requires few { length faces.now ≤ MAX_DARTS }
     requires named { (d : ℕ) → d < length faces.now → slice_index faces.now d < count }
     ensures size { IfOk result (λ v. vec_len v ≡ count) }
     ensures degrees { IfOk result (λ v. (k : ℕ) → k < count
@@ -80,7 +81,7 @@ pub fn count_degrees(alloc: Global, faces: &[u16], count: u16) -> Result<Vec<u16
 /// The face with the most darts, among equals the first.
 pub fn widest_face(degrees: &[u16]) -> u16
     requires some { 0 < length degrees.now }
-    requires few { length degrees.now ≤ 1020 }
+    requires few { length degrees.now ≤ MAX_DARTS }
     ensures named { result < length degrees.now }
     ensures most { (k : ℕ) → k < length degrees.now
         → slice_index degrees.now k ≤ slice_index degrees.now result }

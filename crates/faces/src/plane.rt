@@ -1,18 +1,19 @@
 //! Planes: connected graphs with their faces, one of which is the outer one.
 
 ghost use Rattle.std.specs.Prelude.{◌≡◌, ◌<◌, ◌≤◌, ℕ, IfOk, IfErr, Err, length, slice_index, vec_len};
+ghost use Rattle.embedding.specs.declared.graphs.TheConstants.{MAX_DARTS};
 ghost use Rattle.embedding.specs.Rules.{KeepsBefore};
 ghost use Rattle.faces.specs.Faces.{degree_in};
 ghost use Rattle.faces.specs.Walk.{at};
 
 use crate::numbering::{UNSET, count_degrees, next_dart, number_faces, widest_face};
-use embedding::Graph;
+use embedding::{Graph, MAX_DARTS};
 use std::alloc::{AllocError, Global};
 use std::marker::Model;
 use thiserror::Error;
 
 /// A connected graph of maximum degree 4 that is drawn on the sphere without crossings: its faces, and
-/// which of them is the outer one. In contracts it is a `Map`.
+/// which of them is the outer one. In contracts it is a `PlaneModel`.
 ///
 /// A face is walked by `next`, with the face on the left. Faces are numbered from 0 in the order of
 /// their least darts. No reader takes memory, and each takes constant time.
@@ -26,9 +27,9 @@ pub struct Plane {
 
 impl Model for Plane {
     ghost use Rattle.std.specs.Prelude.{vec_len};
-    ghost use Rattle.faces.specs.Map.{Map, IsKept, map_of};
+    ghost use Rattle.faces.specs.Planes.{PlaneModel, IsKept, map_of};
 
-    ghost Value = { Map };
+    ghost Value = { PlaneModel };
 
     ghost view = { λ p. map_of p.graph p.faces.items (vec_len p.degrees) p.outer };
 
@@ -47,9 +48,6 @@ pub enum TraceFault {
     Memory(Graph),
 }
 
-/// The most darts that a graph has.
-const MAX_DARTS: usize = 1020;
-
 /// The face of each dart, and the degree of each face.
 #[derive(Drop)]
 struct FaceTable {
@@ -59,7 +57,7 @@ struct FaceTable {
 
 /// Copies the faces of all darts, of which there are `count`, and adds their degrees.
 fn face_table(alloc: Global, faces: &[u16], count: u16) -> Result<FaceTable, AllocError>
-    requires few { length faces.now ≤ 1020 }
+    requires few { length faces.now ≤ MAX_DARTS }
     requires named { (d : ℕ) → d < length faces.now → slice_index faces.now d < count }
     ensures faces { IfOk result (λ t. t.faces.items ≡ faces.now) }
     ensures size { IfOk result (λ t. vec_len t.degrees ≡ count) }
@@ -73,7 +71,7 @@ fn face_table(alloc: Global, faces: &[u16], count: u16) -> Result<FaceTable, All
 }
 
 impl Plane {
-    ghost use Rattle.faces.specs.Map.{Map, IsPlane, IsWidest, HasEnds, darts, next, face_at, degree, with_outer};
+    ghost use Rattle.faces.specs.Planes.{PlaneModel, IsPlane, IsWidest, HasEnds, darts, next, face_at, degree, with_outer};
     ghost use Rattle.faces.specs.Faults.{IsTraceFault};
 
     /// Walks the faces of a graph, and takes the one with the most darts as the outer face, among equals

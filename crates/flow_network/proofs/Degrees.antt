@@ -11,7 +11,7 @@ use Rattle.embedding.specs.declared.rules.Rule.TheVariants.{Disconnected}
 use Rattle.embedding.proofs.Entries.{Stands, stands_at, dart_stands}
 use Rattle.embedding.proofs.Rotation.{list_of-place, tail_at, dart_below}
 use Rattle.embedding.proofs.KeptFacts.{list_of-short}
-use Rattle.faces.specs.Map.{Map, IsPlane, HasEnds, darts, vertices, head, tail, mate}
+use Rattle.faces.specs.Planes.{PlaneModel, IsPlane, HasEnds, darts, vertices, head, tail, reverse_dart}
 use Rattle.faces.proofs.Ends.{seven_rules, plane_ends}
 use Rattle.flow_network.specs.FaceNet.{arrivals}
 
@@ -45,7 +45,7 @@ entry_dart g u i other inside =
     )
 
 -- a dart arrives at each vertex
-pub vertex_has_dart : (p : Map) → IsPlane p → (v : ℕ) → 1 ≤ v → v ≤ vertices p → (d : ℕ) × (d < darts p) × (head p d ≡ v)
+pub vertex_has_dart : (p : PlaneModel) → IsPlane p → (v : ℕ) → 1 ≤ v → v ≤ vertices p → (d : ℕ) × (d < darts p) × (head p d ≡ v)
 vertex_has_dart p plane v one most =
     let ends = plane_ends p plane in
     elim (search_below (darts p) (λ d. eqb (head p d) v)) [
@@ -56,11 +56,11 @@ vertex_has_dart p plane v one most =
     ]
   where
     -- a vertex where no dart arrives would be apart from the others
-    lonely : (p : Map) → IsPlane p → HasEnds p → (v : ℕ) → 1 ≤ v → v ≤ vertices p →
+    lonely : (p : PlaneModel) → IsPlane p → HasEnds p → (v : ℕ) → 1 ≤ v → v ≤ vertices p →
         ((d : ℕ) → d < darts p → head p d ≢ v) → ⊥
     lonely p plane ends v one most away =
         let no_tail : (d : ℕ) → d < darts p → tail p d ≢ v = λ d l h.
-        away (mate p d) (ends.mate_inside d l) (ends.mate_head d l ∙ h) in
+        away (reverse_dart p d) (ends.reverse_dart_inside d l) (ends.reverse_dart_head d l ∙ h) in
         elim (cases_eq v 1) [
           | inl is_one ↦
               let s : ℕ → Bool = λ u. eqb u 1 in
@@ -85,15 +85,15 @@ vertex_has_dart p plane v one most =
         ]
 
 -- one, where the dart leaves the vertex
-abbrev leaving : Map → ℕ → ℕ → ℕ
+abbrev leaving : PlaneModel → ℕ → ℕ → ℕ
 leaving p v d = if tail p d == v then 1 else 0
 
 -- so many darts arrive at a vertex as leave it
-pub arrivals-leaving : (p : Map) → HasEnds p → (v : ℕ) → arrivals p v ≡ sum_below (darts p) (λ d. if tail p d == v then 1 else 0)
+pub arrivals-leaving : (p : PlaneModel) → HasEnds p → (v : ℕ) → arrivals p v ≡ sum_below (darts p) (λ d. if tail p d == v then 1 else 0)
 arrivals-leaving p ends v =
-    sym (sum_below-turned (darts p) (mate p) (λ d. if head p d == v then 1 else 0) ends.mate_inside ends.mate_back)
-    ∙ sum_below-same (darts p) (λ d. if head p (mate p d) == v then 1 else 0) (λ d. if tail p d == v then 1 else 0)
-    (λ d l. ap (λ (u : ℕ). if u == v then 1 else 0) (ends.mate_head d l))
+    sym (sum_below-turned (darts p) (reverse_dart p) (λ d. if head p d == v then 1 else 0) ends.reverse_dart_inside ends.reverse_dart_back)
+    ∙ sum_below-same (darts p) (λ d. if head p (reverse_dart p d) == v then 1 else 0) (λ d. if tail p d == v then 1 else 0)
+    (λ d l. ap (λ (u : ℕ). if u == v then 1 else 0) (ends.reverse_dart_head d l))
 
 cases_one : (b : Bool) → (if b then 1 else 0) ≤ 1
 cases_one true = omega arith
@@ -116,7 +116,7 @@ near_few n first f ones near = omega (arith, capped n first f ones near)
         ]
 
 -- at most four darts leave a vertex
-pub arrivals_most : (p : Map) → IsPlane p → (v : ℕ) → arrivals p v ≤ 4
+pub arrivals_most : (p : PlaneModel) → IsPlane p → (v : ℕ) → arrivals p v ≤ 4
 arrivals_most p plane v =
     let ends = plane_ends p plane in
     elim (search_below (darts p) (λ d. eqb (tail p d) v)) [
@@ -134,14 +134,14 @@ arrivals_most p plane v =
     ]
   where
     -- those that leave it stand behind one another
-    few : (p : Map) (v k : ℕ) → suc k ≡ v → length (get_or p.lists k []) ≤ 4 →
+    few : (p : PlaneModel) (v k : ℕ) → suc k ≡ v → length (get_or p.lists k []) ≤ 4 →
         sum_below (darts p) (λ d. if tail p d == v then 1 else 0) ≤ 4
     few p v k vertex short =
         let f : ℕ → ℕ = λ d. if tail p d == v then 1 else 0 in
         let first : ℕ = first_dart p.lists k in
         near_few (darts p) first f (λ d. cases_one (eqb (tail p d) v)) (within p v k vertex short)
       where
-        within : (p : Map) (v k : ℕ) → suc k ≡ v → length (get_or p.lists k []) ≤ 4 →
+        within : (p : PlaneModel) (v k : ℕ) → suc k ≡ v → length (get_or p.lists k []) ≤ 4 →
             (d : ℕ) → d < darts p → ((first_dart p.lists k ≤ d) × (d < first_dart p.lists k + 4)) ⊎ (leaving p v d ≡ 0)
         within p v k vertex short d l =
             elim (cases_eq (tail p d) v) [

@@ -3,7 +3,8 @@ use Rattle.std.proofs.Common.{◌≡◌, ◌⊎◌, ℕ, ◌+◌, ◌-◌, ◌<�
 use Rattle.std.specs.Prelude.{ℤ, pos, negsuc, ◌-ℤ◌, ◌<ℤ◌}
 use Rattle.std.proofs.lemmas.Bool.{cases_eq, cases_lt}
 use Rattle.std.proofs.lemmas.Int.{ints}
-use Rattle.faces.specs.Map.{Map, IsPlane, HasEnds, darts, vertices, head, mate, face_at, degree}
+use Rattle.embedding.specs.declared.graphs.TheConstants.{MAX_DARTS}
+use Rattle.faces.specs.Planes.{PlaneModel, IsPlane, HasEnds, darts, vertices, head, reverse_dart, face_at, degree}
 use Rattle.faces.proofs.Ends.{plane_ends}
 use Rattle.faces.proofs.Degrees.{degree_few}
 use Rattle.networks.specs.declared.arc.Arc.{Arc}
@@ -15,7 +16,7 @@ use Rattle.flow_network.specs.FaceNet.{IsFaceNet, arrivals}
 use Rattle.flow_network.proofs.Degrees.{arrivals_most}
 
 -- a fact of each arc of the network
-pub each_arc : (p : Map) (net : Net) → IsFaceNet p net → (P : Arc → Type 0) →
+pub each_arc : (p : PlaneModel) (net : Net) → IsFaceNet p net → (P : Arc → Type 0) →
     ((d : ℕ) → d < darts p → P (arc_at net d)) → ((d : ℕ) → d < darts p → P (arc_at net (darts p + d))) →
     (i : ℕ) → i < arc_count net → P (arc_at net i)
 each_arc p net is P corner crossing i l =
@@ -26,7 +27,7 @@ each_arc p net is P corner crossing i l =
           subst (λ (j : ℕ). P (arc_at net j)) at (crossing (i - darts p) (omega (arith, is.arcs)))
     ]
 
-pub arc_ends : (p : Map) (net : Net) → IsPlane p → IsFaceNet p net → (i : ℕ) → i < arc_count net →
+pub arc_ends : (p : PlaneModel) (net : Net) → IsPlane p → IsFaceNet p net → (i : ℕ) → i < arc_count net →
     ((arc_at net i).from < node_count net) × ((arc_at net i).to < node_count net)
 arc_ends p net plane is =
     let ends = plane_ends p plane in
@@ -37,10 +38,10 @@ arc_ends p net plane is =
     ))
     (λ d l. (
       omega (arith, ap (λ (a : Arc). a.from) (is.crossing d l), is.nodes, ends.face_named d l),
-      omega (arith, ap (λ (a : Arc). a.to) (is.crossing d l), is.nodes, ends.face_named (mate p d) (ends.mate_inside d l)),
+      omega (arith, ap (λ (a : Arc). a.to) (is.crossing d l), is.nodes, ends.face_named (reverse_dart p d) (ends.reverse_dart_inside d l)),
     ))
 
-pub supply_fair : (p : Map) (net : Net) → IsPlane p → IsFaceNet p net → (k : ℕ) → k < node_count net →
+pub supply_fair : (p : PlaneModel) (net : Net) → IsPlane p → IsFaceNet p net → (k : ℕ) → k < node_count net →
     (supply_at net k <ℤ negsuc 2047) ⊎ (pos 2048 <ℤ supply_at net k) → ⊥
 supply_fair p net plane is k l unfair =
     let ends = plane_ends p plane in
@@ -62,13 +63,13 @@ supply_fair p net plane is k l unfair =
     at_vertex z k is few (inl low) = omega (arith, ints)
     at_vertex z k is few (inr high) = omega (arith, ints)
 
-    at_face : (b : Bool) (z : ℤ) (k : ℕ) → z ≡ (if b then negsuc 3 else pos 4) -ℤ pos k → k ≤ 1020 → (z <ℤ negsuc 2047) ⊎ (pos 2048 <ℤ z) → ⊥
+    at_face : (b : Bool) (z : ℤ) (k : ℕ) → z ≡ (if b then negsuc 3 else pos 4) -ℤ pos k → k ≤ MAX_DARTS → (z <ℤ negsuc 2047) ⊎ (pos 2048 <ℤ z) → ⊥
     at_face true z k is few (inl low) = omega (arith, ints)
     at_face true z k is few (inr high) = omega (arith, ints)
     at_face false z k is few (inl low) = omega (arith, ints)
     at_face false z k is few (inr high) = omega (arith, ints)
 
-pub no_fault : (p : Map) (net : Net) (fault : NetFault) → IsPlane p → IsFaceNet p net → HasFault net fault → ⊥
+pub no_fault : (p : PlaneModel) (net : Net) (fault : NetFault) → IsPlane p → IsFaceNet p net → HasFault net fault → ⊥
 no_fault p net TooLarge plane is fault =
     let ends = plane_ends p plane in
     elim fault [

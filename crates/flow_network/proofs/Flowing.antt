@@ -6,7 +6,7 @@ use Rattle.std.proofs.lemmas.Bool.{cases_eq, cases_lt, cases_Bool, eq-eqb, eqb-t
 use Rattle.std.proofs.lemmas.Int.{ints}
 use Rattle.sums.specs.Sums.{sum_below, total_below}
 use Rattle.sums.proofs.Sums.{sum_below-same, sum_below-none, sum_below-one, sum_below-split, sum_below-add, sum_below-constant, sum_below-member, exchanged-ones, total_below-split, total_below-parts, total_below-same}
-use Rattle.faces.specs.Map.{Map, IsPlane, HasEnds, darts, vertices, head, mate, face_at, degree}
+use Rattle.faces.specs.Planes.{PlaneModel, IsPlane, HasEnds, darts, vertices, head, reverse_dart, face_at, degree}
 use Rattle.faces.proofs.Ends.{plane_ends}
 use Rattle.faces.proofs.Joined.{faces_joined}
 use Rattle.faces.proofs.Degrees.{degrees_sum}
@@ -47,29 +47,29 @@ last_below-passes (suc n) q k l here =
     both b no_b yes_b = cc
 
 -- a dart that arrives at the vertex
-abbrev pub chosen : Map → ℕ → ℕ
+abbrev pub chosen : PlaneModel → ℕ → ℕ
 chosen p v = last_below (darts p) (λ d. head p d == v)
 
-pub chosen_arrives : (p : Map) → IsPlane p → (v : ℕ) → 1 ≤ v → v ≤ vertices p → (chosen p v < darts p) × (head p (chosen p v) ≡ v)
+pub chosen_arrives : (p : PlaneModel) → IsPlane p → (v : ℕ) → 1 ≤ v → v ≤ vertices p → (chosen p v < darts p) × (head p (chosen p v) ≡ v)
 chosen_arrives p plane v one most =
     let (d, below, arrives) = vertex_has_dart p plane v one most in
     let found = last_below-passes (darts p) (λ d. head p d == v) d below (eq-eqb (head p d) v arrives) in
     (found.0, eqb-true (head p (chosen p v)) v found.1)
 
 -- each vertex sends what it supplies into its chosen corner, and nothing crosses
-abbrev pub start : Map → ℕ → ℕ
+abbrev pub start : PlaneModel → ℕ → ℕ
 start p i = if nat_lt i (darts p) then (if chosen p (head p i) == i then 4 - arrivals p (head p i) else 0) else 0
 
-pub start_at : (p : Map) (d : ℕ) → d < darts p → start p d ≡ (if chosen p (head p d) == d then 4 - arrivals p (head p d) else 0)
+pub start_at : (p : PlaneModel) (d : ℕ) → d < darts p → start p d ≡ (if chosen p (head p d) == d then 4 - arrivals p (head p d) else 0)
 start_at p d l = cond-true {A = ℕ} (ltb d (darts p)) (if chosen p (head p d) == d then 4 - arrivals p (head p d) else 0) 0 (lt-ltb d (darts p) l)
 
-pub start_past : (p : Map) (d : ℕ) → start p (darts p + d) ≡ 0
+pub start_past : (p : PlaneModel) (d : ℕ) → start p (darts p + d) ≡ 0
 start_past p d =
     cond-false {A = ℕ} (ltb (darts p + d) (darts p))
     (if chosen p (head p (darts p + d)) == darts p + d then 4 - arrivals p (head p (darts p + d)) else 0) 0 (le-ltb (darts p + d) (darts p) (omega arith))
 
 -- a dart that arrives counts
-pub arrivals_some : (p : Map) (d : ℕ) → d < darts p → 1 ≤ arrivals p (head p d)
+pub arrivals_some : (p : PlaneModel) (d : ℕ) → d < darts p → 1 ≤ arrivals p (head p d)
 arrivals_some p d l =
     omega (
       arith,
@@ -77,7 +77,7 @@ arrivals_some p d l =
       cond-true {A = ℕ} (eqb (head p d) (head p d)) 1 0 (eq-eqb (head p d) (head p d) refl),
     )
 
-pub start_keeps : (p : Map) (net : Net) → IsFaceNet p net → KeepsCaps net (start p)
+pub start_keeps : (p : PlaneModel) (net : Net) → IsFaceNet p net → KeepsCaps net (start p)
 start_keeps p net is i l =
     elim (cases_lt i (darts p)) [
       | inl corner ↦
@@ -90,7 +90,7 @@ start_keeps p net is i l =
           (subst (λ (a : Arc). IsWithin a.cap (start p i)) (sym (is.crossing d d_in)) tt)
     ]
   where
-    small : (p : Map) (d : ℕ) → d < darts p → start p d ≤ 3
+    small : (p : PlaneModel) (d : ℕ) → d < darts p → start p d ≤ 3
     small p d l =
         elim (cases_Bool (eqb (chosen p (head p d)) d)) [
           | inl here ↦ omega (arith, start_at p d l, cond-true {A = ℕ} (eqb (chosen p (head p d)) d) (4 - arrivals p (head p d)) 0 here, arrivals_some p d l)
@@ -98,7 +98,7 @@ start_keeps p net is i l =
         ]
 
 -- what leaves a vertex is its supply
-pub start_leaves : (p : Map) (net : Net) → IsPlane p → IsFaceNet p net → (v : ℕ) → 1 ≤ v → v ≤ vertices p →
+pub start_leaves : (p : PlaneModel) (net : Net) → IsPlane p → IsFaceNet p net → (v : ℕ) → 1 ≤ v → v ≤ vertices p →
     leaves net (start p) (v - 1) ≡ 4 - arrivals p v
 start_leaves p net plane is v one most =
     let n : ℕ = darts p in
@@ -120,7 +120,7 @@ start_leaves p net plane is v one most =
     none true k e = e
     none false k e = refl
 
-    corner : (p : Map) (net : Net) → IsPlane p → IsFaceNet p net → (v : ℕ) → 1 ≤ v → v ≤ vertices p → (d : ℕ) → d < darts p →
+    corner : (p : PlaneModel) (net : Net) → IsPlane p → IsFaceNet p net → (v : ℕ) → 1 ≤ v → v ≤ vertices p → (d : ℕ) → d < darts p →
         cond (eqb (arc_at net d).from (v - 1)) (start p d) 0 ≡ cond (eqb (chosen p v) d) (4 - arrivals p v) 0
     corner p net plane is v one most d l =
         let ends = plane_ends p plane in
@@ -138,7 +138,7 @@ start_leaves p net plane is v one most =
         ]
 
 -- nothing enters a vertex
-pub start_enters : (p : Map) (net : Net) → IsFaceNet p net → (k : ℕ) → k < vertices p → enters net (start p) k ≡ 0
+pub start_enters : (p : PlaneModel) (net : Net) → IsFaceNet p net → (k : ℕ) → k < vertices p → enters net (start p) k ≡ 0
 start_enters p net is k below =
     let n : ℕ = darts p in
     let f : ℕ → ℕ = λ i. if (arc_at net i).to == k then start p i else 0 in
@@ -149,13 +149,13 @@ start_enters p net is k below =
     let other : (arc_at net d).to ≢ k = λ h. omega (arith, to, h, below) in
     cond-false {A = ℕ} (eqb (arc_at net d).to k) (start p d) 0 (ne_eqb (arc_at net d).to k other)) in
     let crossings : sum_below n (λ d. f (n + d)) ≡ 0 = sum_below-none n (λ d. f (n + d)) (λ d l.
-    let to : (arc_at net (n + d)).to ≡ vertices p + face_at p (mate p d) = ap (λ (a : Arc). a.to) (is.crossing d l) in
+    let to : (arc_at net (n + d)).to ≡ vertices p + face_at p (reverse_dart p d) = ap (λ (a : Arc). a.to) (is.crossing d l) in
     let other : (arc_at net (n + d)).to ≢ k = λ h. omega (arith, to, h, below) in
     cond-false {A = ℕ} (eqb (arc_at net (n + d)).to k) (start p (n + d)) 0 (ne_eqb (arc_at net (n + d)).to k other)) in
     omega (arith, whole, corners, crossings)
 
 -- so no vertex has anything over, or wants anything
-pub vertex_even : (p : Map) (net : Net) → IsPlane p → IsFaceNet p net → (k : ℕ) → k < vertices p →
+pub vertex_even : (p : PlaneModel) (net : Net) → IsPlane p → IsFaceNet p net → (k : ℕ) → k < vertices p →
     supply_at net k -ℤ balance net (start p) k ≡ pos 0
 vertex_even p net plane is k below =
     let v : ℕ = k + 1 in
@@ -171,7 +171,7 @@ vertex_even p net plane is k below =
     even s out into many supply left nothing few = omega (arith, ints)
 
 -- what is over at one face can cross to each other face
-pub start_joined : (p : Map) (net : Net) → IsPlane p → IsFaceNet p net → IsJoined net (λ v. supply_at net v -ℤ balance net (start p) v)
+pub start_joined : (p : PlaneModel) (net : Net) → IsPlane p → IsFaceNet p net → IsJoined net (λ v. supply_at net v -ℤ balance net (start p) v)
 start_joined p net plane is = record {
   meets = λ s closed u v u_in v_in here over wants.
       let n : ℕ = vertices p in
@@ -186,7 +186,7 @@ start_joined p net plane is = record {
       (λ d l held.
       let arc = is.crossing d l in
       let from : (arc_at net (darts p + d)).from ≡ n + face_at p d = ap (λ (a : Arc). a.from) arc in
-      let to : (arc_at net (darts p + d)).to ≡ n + face_at p (mate p d) = ap (λ (a : Arc). a.to) arc in
+      let to : (arc_at net (darts p + d)).to ≡ n + face_at p (reverse_dart p d) = ap (λ (a : Arc). a.to) arc in
       subst (λ (j : ℕ). s j ≡ true) to
       (closed.stays (darts p + d) (omega (arith, is.arcs)) (ap (λ (a : Arc). a.cap) arc)
       (subst (λ (j : ℕ). s j ≡ true) (sym from) held)))
@@ -200,13 +200,13 @@ start_joined p net plane is = record {
     wants_zero : (z : ℤ) → z ≡ pos 0 → z <ℤ pos 0 → ⊥
     wants_zero z e less = omega (arith, ints)
 
-    face_node : (p : Map) (net : Net) → IsPlane p → IsFaceNet p net → (w : ℕ) →
+    face_node : (p : PlaneModel) (net : Net) → IsPlane p → IsFaceNet p net → (w : ℕ) →
         (supply_at net w -ℤ balance net (start p) w ≡ pos 0 → ⊥) → vertices p ≤ w
     face_node p net plane is w uneven =
         elim (cases_lt w (vertices p)) [ inl below ↦ absurd (uneven (vertex_even p net plane is w below)) | inr face ↦ face ]
 
 -- as much is supplied as is wanted, by Euler's formula
-pub balanced : (p : Map) (net : Net) → IsPlane p → IsFaceNet p net → IsBalanced net
+pub balanced : (p : PlaneModel) (net : Net) → IsPlane p → IsFaceNet p net → IsBalanced net
 balanced p net plane is =
     let n : ℕ = vertices p in
     let m : ℕ = p.faces in
@@ -247,7 +247,7 @@ balanced p net plane is =
           | inr ne ↦ ne_eqb h (k + 1) ne ∙ sym (ne_eqb (h - 1) k (λ e. ne (omega (arith, e, one))))
         ]
 
-    heads_sum : (p : Map) → HasEnds p → sum_below (vertices p) (λ k. arrivals p (k + 1)) ≡ darts p
+    heads_sum : (p : PlaneModel) → HasEnds p → sum_below (vertices p) (λ k. arrivals p (k + 1)) ≡ darts p
     heads_sum p ends =
         sum_below-same (vertices p) (λ k. arrivals p (k + 1)) (λ k. sum_below (darts p) (λ d. cond (eqb (head p d - 1) k) 1 0))
         (λ k l. sum_below-same (darts p) (λ d. if head p d == k + 1 then 1 else 0) (λ d. cond (eqb (head p d - 1) k) 1 0)
@@ -257,7 +257,7 @@ balanced p net plane is =
     eqb_turned : (a b : ℕ) → eqb a b ≡ eqb b a
     eqb_turned a b = elim (cases_eq a b) [ inl e ↦ eq-eqb a b e ∙ sym (eq-eqb b a (sym e)) | inr ne ↦ ne_eqb a b ne ∙ sym (ne_eqb b a (λ e. ne (sym e))) ]
 
-    outer_sum : (p : Map) → IsPlane p → sum_below p.faces (λ f. if f == p.outer then 4 else 0) ≡ 4
+    outer_sum : (p : PlaneModel) → IsPlane p → sum_below p.faces (λ f. if f == p.outer then 4 else 0) ≡ 4
     outer_sum p plane =
         sum_below-same p.faces (λ f. if f == p.outer then 4 else 0) (λ f. cond (eqb p.outer f) 4 0)
         (λ f l. ap (λ (c : Bool). cond c 4 0) (eqb_turned f p.outer))
@@ -267,14 +267,14 @@ balanced p net plane is =
     four true = refl
     four false = refl
 
-    inner_sum : (p : Map) → IsPlane p → sum_below p.faces (λ f. if f == p.outer then 0 else 4) + 4 ≡ p.faces * 4
+    inner_sum : (p : PlaneModel) → IsPlane p → sum_below p.faces (λ f. if f == p.outer then 0 else 4) + 4 ≡ p.faces * 4
     inner_sum p plane =
         let both : sum_below p.faces (λ f. (if f == p.outer then 0 else 4) + (if f == p.outer then 4 else 0)) ≡ p.faces * 4 =
         sum_below-same p.faces (λ f. (if f == p.outer then 0 else 4) + (if f == p.outer then 4 else 0)) (λ _. 4) (λ f l. four (f == p.outer))
         ∙ sum_below-constant p.faces 4 in
         omega (arith, both, sum_below-add p.faces (λ f. if f == p.outer then 0 else 4) (λ f. if f == p.outer then 4 else 0), outer_sum p plane)
 
-pub net_flows : (p : Map) (net : Net) → IsPlane p → IsFaceNet p net → ((i : ℕ) → i < arc_count net → ((arc_at net i).from < node_count net) × ((arc_at net i).to < node_count net)) → (y : ℕ → ℕ) × Flow net y
+pub net_flows : (p : PlaneModel) (net : Net) → IsPlane p → IsFaceNet p net → ((i : ℕ) → i < arc_count net → ((arc_at net i).from < node_count net) × ((arc_at net i).to < node_count net)) → (y : ℕ → ℕ) × Flow net y
 net_flows p net plane is ends =
     flow_where_joined net (start p) (λ v. supply_at net v -ℤ balance net (start p) v) ends (balanced p net plane is)
     (start_keeps p net is) (excess_leaves net (start p)) (start_joined p net plane is)

@@ -3,7 +3,8 @@ use Rattle.std.proofs.Common.{◌≡◌, ◌≢◌, ◌⊎◌, ℕ, ◌+◌, ◌
 use Rattle.std.specs.Prelude.{ℤ, pos, negsuc, ◌+ℤ◌, ◌-ℤ◌, ◌≤ℤ◌}
 use Rattle.std.proofs.lemmas.Bool.{cases_eq, cases_lt, eq-eqb, ne_eqb}
 use Rattle.std.proofs.lemmas.Int.{ints}
-use Rattle.faces.specs.Map.{Map, IsPlane, darts, vertices, face_at, degree, with_outer}
+use Rattle.embedding.specs.declared.graphs.TheConstants.{MAX_DARTS}
+use Rattle.faces.specs.Planes.{PlaneModel, IsPlane, darts, vertices, face_at, degree, with_outer}
 use Rattle.faces.proofs.Ends.{plane_ends}
 use Rattle.faces.proofs.Degrees.{degree_few}
 use Rattle.networks.specs.Net.{Net, node_count, supply_at, moved, shifted, HasFairSupplies}
@@ -28,7 +29,7 @@ same_test n f g = elim (cases_eq f g) [
   | inr ne ↦ ne_eqb (n + f) (n + g) (λ e. ne (omega arith)) ∙ sym (ne_eqb f g ne)
 ]
 
-pub net_turned : (p : Map) (net : Net) (face : ℕ) → p.outer < p.faces → face < p.faces → IsFaceNet p net → IsFaceNet (with_outer p face) (shifted net (vertices p + p.outer) (vertices p + face) 8)
+pub net_turned : (p : PlaneModel) (net : Net) (face : ℕ) → p.outer < p.faces → face < p.faces → IsFaceNet p net → IsFaceNet (with_outer p face) (shifted net (vertices p + p.outer) (vertices p + face) 8)
 net_turned p net face outer inside is =
     let from : ℕ = vertices p + p.outer in
     let to : ℕ = vertices p + face in
@@ -51,12 +52,12 @@ net_turned p net face outer inside is =
 vertex_fair : (z : ℤ) (k : ℕ) → z ≡ pos 4 -ℤ pos k → k ≤ 4 → (negsuc 2047 ≤ℤ z) × (z ≤ℤ pos 2048)
 vertex_fair z k is few = (omega (arith, ints), omega (arith, ints))
 
-face_fair : (b : Bool) (z : ℤ) (k : ℕ) → z ≡ (if b then negsuc 3 else pos 4) -ℤ pos k → k ≤ 1020 → (negsuc 2047 ≤ℤ z) × (z ≤ℤ pos 2048)
+face_fair : (b : Bool) (z : ℤ) (k : ℕ) → z ≡ (if b then negsuc 3 else pos 4) -ℤ pos k → k ≤ MAX_DARTS → (negsuc 2047 ≤ℤ z) × (z ≤ℤ pos 2048)
 face_fair true z k is few = (omega (arith, ints), omega (arith, ints))
 face_fair false z k is few = (omega (arith, ints), omega (arith, ints))
 
 -- whichever face is the outer one, the supplies are fair
-pub turned_fair : (p : Map) (net : Net) (face : ℕ) → IsPlane p → IsFaceNet (with_outer p face) net → HasFairSupplies net
+pub turned_fair : (p : PlaneModel) (net : Net) (face : ℕ) → IsPlane p → IsFaceNet (with_outer p face) net → HasFairSupplies net
 turned_fair p net face plane is k l =
     let ends = plane_ends p plane in
     elim (cases_lt k (vertices p)) [

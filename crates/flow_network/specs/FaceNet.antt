@@ -3,35 +3,35 @@
 -- over to the other face. (Tamassia 1987, for faces on the left.)
 use Rattle.std.specs.Prelude.{◌≡◌, ℕ, ◌+◌, ◌-◌, ◌<◌, ◌≤◌, ◌==◌, if◌then◌else◌, ℤ, pos, negsuc, ◌-ℤ◌}
 use Rattle.sums.specs.Sums.{sum_below}
-use Rattle.faces.specs.Map.{Map, darts, vertices, head, mate, face_at, degree}
+use Rattle.faces.specs.Planes.{PlaneModel, darts, vertices, head, reverse_dart, face_at, degree}
 use Rattle.networks.specs.declared.arc.Cap.TheVariants.{AtMost, Any}
 use Rattle.networks.specs.Net.{Net, node_count, arc_count, arc_at, supply_at}
 
 -- how many darts arrive at a vertex
-abbrev pub arrivals : Map → ℕ → ℕ
+abbrev pub arrivals : PlaneModel → ℕ → ℕ
 arrivals p v = sum_below (darts p) (λ d. if head p d == v then 1 else 0)
 
 -- nodes v - 1 for vertices and n + f for faces, arcs d for corners and D + d for crossings
-pub record IsFaceNet (p : Map) (net : Net) : Type 0 where
+pub record IsFaceNet (p : PlaneModel) (net : Net) : Type 0 where
   pub nodes : node_count net ≡ vertices p + p.faces
   pub arcs : arc_count net ≡ darts p + darts p
   -- the corner of a dart carries its angle less one
   pub corner : (d : ℕ) → d < darts p → arc_at net d ≡ record { from = head p d - 1; to = vertices p + face_at p d; cap = AtMost 3; cost = 0 }
   -- its crossing carries the left turns along it
-  pub crossing : (d : ℕ) → d < darts p → arc_at net (darts p + d) ≡ record { from = vertices p + face_at p d; to = vertices p + face_at p (mate p d); cap = Any; cost = 1 }
+  pub crossing : (d : ℕ) → d < darts p → arc_at net (darts p + d) ≡ record { from = vertices p + face_at p d; to = vertices p + face_at p (reverse_dart p d); cap = Any; cost = 1 }
   -- four right angles round a vertex, of which each corner has one without any flow
   pub at_vertex : (v : ℕ) → 1 ≤ v → v ≤ vertices p → supply_at net (v - 1) ≡ pos 4 -ℤ pos (arrivals p v)
   -- an inner face turns once to the left, the outer face once to the right
   pub at_face : (f : ℕ) → f < p.faces → supply_at net (vertices p + f) ≡ (if f == p.outer then negsuc 3 else pos 4) -ℤ pos (degree p f)
 
 -- what callers see of a `FaceNet`: the network, and how many vertices and darts the plane has
-pub record Numbering : Type 0 where
+pub record FaceNetModel : Type 0 where
   pub network : Net
   pub vertices : ℕ
   pub darts : ℕ
 
 -- it is the network of this plane
-pub record IsNetOf (p : Map) (n : Numbering) : Type 0 where
+pub record IsNetOf (p : PlaneModel) (n : FaceNetModel) : Type 0 where
   pub vertices : n.vertices ≡ vertices p
   pub darts : n.darts ≡ darts p
   pub network : IsFaceNet p n.network

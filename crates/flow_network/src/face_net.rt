@@ -1,5 +1,6 @@
 ghost use Rattle.std.specs.Prelude.{◌≡◌, ◌+◌, ◌-◌, ◌<◌, ◌≤◌, ℕ, IfOk, vec_len};
-ghost use Rattle.faces.specs.Map.{darts, vertices, with_outer};
+ghost use Rattle.embedding.specs.declared.graphs.TheConstants.{MAX_DARTS};
+ghost use Rattle.faces.specs.Planes.{darts, vertices, with_outer};
 ghost use Rattle.networks.specs.Net.{shifted};
 ghost use Rattle.networks.specs.Flow.{Flow};
 
@@ -27,13 +28,14 @@ pub struct FaceNet {
 
 impl Model for FaceNet {
     ghost use Rattle.std.specs.Prelude.{◌≤◌};
-    ghost use Rattle.flow_network.specs.FaceNet.{Numbering};
+    ghost use Rattle.embedding.specs.declared.graphs.TheConstants.{MAX_DARTS};
+    ghost use Rattle.flow_network.specs.FaceNet.{FaceNetModel};
 
-    ghost Value = { Numbering };
+    ghost Value = { FaceNetModel };
 
     ghost view = { λ n. record { network = n.network; vertices = n.vertices; darts = n.darts } };
 
-    ghost invariant = { λ n. (n.vertices ≤ 255) × (n.darts ≤ 1020) };
+    ghost invariant = { λ n. (n.vertices ≤ 255) × (n.darts ≤ MAX_DARTS) };
 }
 
 impl FaceNet {

@@ -1,5 +1,5 @@
 ghost use Rattle.std.specs.Prelude.{◌≡◌, [], ◌+◌, ◌-◌, ◌<◌, ◌≤◌, ◌==◌, if◌then◌else◌, ℕ, pos, negsuc, ◌-ℤ◌, IfOk, length, slice_index, slice_index_or};
-ghost use Rattle.faces.specs.Map.{darts, vertices, head, mate, face_at, degree};
+ghost use Rattle.faces.specs.Planes.{darts, vertices, head, reverse_dart, face_at, degree};
 ghost use Rattle.networks.specs.declared.arc.Cap.TheVariants.{AtMost, Any};
 ghost use Rattle.networks.specs.Net.{no_arc};
 ghost use Rattle.flow_network.specs.FaceNet.{arrivals};
@@ -66,7 +66,7 @@ pub fn arcs_of(alloc: Global, plane: &Plane) -> Result<Vec<Arc>, AllocError>
         ≡ record { from = head plane.now d - 1; to = vertices plane.now + face_at plane.now d; cap = AtMost 3; cost = 0 }) }
     ensures crossing { IfOk result (λ a. (d : ℕ) → d < darts plane.now
         → slice_index_or a.items (darts plane.now + d) no_arc
-        ≡ record { from = vertices plane.now + face_at plane.now d; to = vertices plane.now + face_at plane.now (mate plane.now d); cap = Any; cost = 1 }) }
+        ≡ record { from = vertices plane.now + face_at plane.now d; to = vertices plane.now + face_at plane.now (reverse_dart plane.now d); cap = Any; cost = 1 }) }
 {
     let graph = plane.graph();
     let first_face = u32::from(graph.vertices());

@@ -3,7 +3,7 @@ use Rattle.std.proofs.Common.{◌≡◌, ◌<◌, ℕ, ◌+◌, ◌*◌, ◌%◌
 use Rattle.std.specs.Prelude.{pos, negsuc, ◌+ℤ◌, ◌-ℤ◌}
 use Rattle.std.proofs.lemmas.Int.{ints}
 use Rattle.sums.proofs.Sums.{total_below-parts}
-use Rattle.faces.specs.Map.{Map, IsPlane, HasEnds, darts, mate, next, face_at}
+use Rattle.faces.specs.Planes.{PlaneModel, IsPlane, HasEnds, darts, reverse_dart, next, face_at}
 use Rattle.ortho_rep.specs.declared.turn.Turn.{Turn}
 use Rattle.ortho_rep.specs.Turns.{lefts, rights, mirrored}
 use Rattle.ortho_rep.specs.Representation.{Rep, turning_of, turning_around}
@@ -17,15 +17,15 @@ rights-mirrored ts =
     omega (arith, lefts-add-rights (mirrored ts), lefts-add-rights ts, length-mirrored ts, lefts-mirrored ts)
 
 -- what the direction at the head of a dart has beyond that at its tail, up to multiples of four
-abbrev pub gap : Map → (ℕ → ℕ) → (ℕ → List Turn) → ℕ → ℕ
-gap p a s d = lacks p a d + 2 + lefts (s d) + 3 * (rights (s d) + lacks p a (mate p d))
+abbrev pub gap : PlaneModel → (ℕ → ℕ) → (ℕ → List Turn) → ℕ → ℕ
+gap p a s d = lacks p a d + 2 + lefts (s d) + 3 * (rights (s d) + lacks p a (reverse_dart p d))
 
--- the mate has as much less
-pub gap_pairs : (p : Map) (a : ℕ → ℕ) (s : ℕ → List Turn) → HasEnds p → Rep p a s → (d : ℕ) → d < darts p → (gap p a s d + gap p a s (mate p d)) % 4 ≡ 0
+-- the reverse has as much less
+pub gap_pairs : (p : PlaneModel) (a : ℕ → ℕ) (s : ℕ → List Turn) → HasEnds p → Rep p a s → (d : ℕ) → d < darts p → (gap p a s d + gap p a s (reverse_dart p d)) % 4 ≡ 0
 gap_pairs p a s ends rep d l =
-    let mirror : s (mate p d) ≡ mirrored (s d) = rep.strings d l in
-    close (lacks p a d) (lacks p a (mate p d)) (lacks p a (mate p (mate p d))) (lefts (s d)) (rights (s d)) (lefts (s (mate p d))) (rights (s (mate p d)))
-    (ap (lacks p a) (ends.mate_back d l)) (ap lefts mirror ∙ lefts-mirrored (s d)) (ap rights mirror ∙ rights-mirrored (s d))
+    let mirror : s (reverse_dart p d) ≡ mirrored (s d) = rep.strings d l in
+    close (lacks p a d) (lacks p a (reverse_dart p d)) (lacks p a (reverse_dart p (reverse_dart p d))) (lefts (s d)) (rights (s d)) (lefts (s (reverse_dart p d))) (rights (s (reverse_dart p d)))
+    (ap (lacks p a) (ends.reverse_dart_back d l)) (ap lefts mirror ∙ lefts-mirrored (s d)) (ap rights mirror ∙ rights-mirrored (s d))
   where
     close : (x y z l r l' r' : ℕ) → z ≡ x → l' ≡ r → r' ≡ l → (x + 2 + l + 3 * (r + y) + (y + 2 + l' + 3 * (r' + z))) % 4 ≡ 0
     close x y z l r l' r' e1 e2 e3 = omega arith
@@ -37,7 +37,7 @@ left_part s d = 2 + lefts (s d)
 abbrev right_part : (ℕ → ℕ) → (ℕ → List Turn) → ℕ → ℕ
 right_part a s d = a d + rights (s d)
 
-turning_parts : (p : Map) (a : ℕ → ℕ) (s : ℕ → List Turn) (f : ℕ)
+turning_parts : (p : PlaneModel) (a : ℕ → ℕ) (s : ℕ → List Turn) (f : ℕ)
     → turning_around p a s f ≡ pos (sum_at (darts p) (face_at p) f (left_part s)) -ℤ pos (sum_at (darts p) (face_at p) f (right_part a s))
 turning_parts p a s f =
     total_below-parts (darts p) (λ d. cond (eqb (face_at p d) f) (turning_of (a d) (s d)) (pos 0))
@@ -49,7 +49,7 @@ turning_parts p a s f =
     parts false x y z = omega (arith, ints)
 
 -- a face turns once round
-turning_whole : (p : Map) (a : ℕ → ℕ) (s : ℕ → List Turn) → Rep p a s → (f : ℕ) → f < p.faces
+turning_whole : (p : PlaneModel) (a : ℕ → ℕ) (s : ℕ → List Turn) → Rep p a s → (f : ℕ) → f < p.faces
     → (sum_at (darts p) (face_at p) f (left_part s) + 3 * sum_at (darts p) (face_at p) f (right_part a s)) % 4 ≡ 0
 turning_whole p a s rep f l =
     whole (eqb f p.outer) (sum_at (darts p) (face_at p) f (left_part s)) (sum_at (darts p) (face_at p) f (right_part a s))
@@ -66,16 +66,16 @@ turning_whole p a s rep f l =
     whole false x y e = inner x y e
 
 -- the same number up to multiples of four, by the corners along the face
-along_face : (p : Map) (a : ℕ → ℕ) (s : ℕ → List Turn) → HasEnds p → Rep p a s → (d : ℕ) → d < darts p
+along_face : (p : PlaneModel) (a : ℕ → ℕ) (s : ℕ → List Turn) → HasEnds p → Rep p a s → (d : ℕ) → d < darts p
     → gap p a s d % 4 ≡ (lacks p a d + 3 * lacks p a (next p d) + (left_part s d + 3 * right_part a s d)) % 4
 along_face p a s ends rep d l =
-    close (lacks p a d) (lacks p a (next p d)) (lacks p a (mate p d)) (a d) (lefts (s d)) (rights (s d)) (lacks_next p a ends rep.angles rep.around d l)
+    close (lacks p a d) (lacks p a (next p d)) (lacks p a (reverse_dart p d)) (a d) (lefts (s d)) (rights (s d)) (lacks_next p a ends rep.angles rep.around d l)
   where
     close : (x y z b m r : ℕ) → (y + b) % 4 ≡ z % 4 → (x + 2 + m + 3 * (r + z)) % 4 ≡ (x + 3 * y + (2 + m + 3 * (b + r))) % 4
     close x y z b m r e = omega arith
 
 -- round a face it sums to a multiple of four
-pub gap_round : (p : Map) (a : ℕ → ℕ) (s : ℕ → List Turn) → IsPlane p → HasEnds p → Rep p a s → (f : ℕ) → f < p.faces
+pub gap_round : (p : PlaneModel) (a : ℕ → ℕ) (s : ℕ → List Turn) → IsPlane p → HasEnds p → Rep p a s → (f : ℕ) → f < p.faces
     → sum_at (darts p) (face_at p) f (gap p a s) % 4 ≡ 0
 gap_round p a s plane ends rep f l =
     let n : ℕ = darts p in

@@ -7,12 +7,12 @@ use Rattle.std.proofs.lemmas.Bool.{cases_eq, eq-eqb, ne_eqb, not-true, not_from_
 use Rattle.sums.specs.Sums.{sum_below}
 use Rattle.sums.proofs.Sums.{sum_below-changed}
 use Rattle.faces.specs.Faces.{IsShut}
-use Rattle.faces.specs.Map.{Map, IsPlane, HasEnds, darts, mate, next}
+use Rattle.faces.specs.Planes.{PlaneModel, IsPlane, HasEnds, darts, reverse_dart, next}
 use Rattle.faces.proofs.Ends.{plane_ends, seven_rules}
 use Rattle.faces.proofs.Joined.{all_joined}
 use Rattle.ortho_rep.specs.declared.turn.Turn.{Turn}
 use Rattle.ortho_rep.specs.Turns.{lefts, rights}
-use Rattle.ortho_rep.specs.Shapes.{Figure, angle_at, turns_at}
+use Rattle.ortho_rep.specs.Shapes.{ShapeModel, angle_at, turns_at}
 use Rattle.ortho_rep.specs.Representation.{IsShape}
 use Rattle.headings.specs.Headings.{AreHeadings}
 use Rattle.headings.proofs.Existence.{directions}
@@ -170,7 +170,7 @@ search_passed {n} {h} {c} {ahead} {back} {headings} {waiting} d first second s =
     }
 
 -- where no dart waits, each has its direction
-pub search_whole : (p : Map) → IsPlane p → {h : ℕ → ℕ} {c : ℕ} {headings : List ℕ} → IsKnown headings 0 → IsSearch (darts p) h c (λ d. mate p (next p d)) (mate p) headings [] nobody → (d : ℕ) → d < darts p → get_or headings d 0 ≡ (h d + c) % 4
+pub search_whole : (p : PlaneModel) → IsPlane p → {h : ℕ → ℕ} {c : ℕ} {headings : List ℕ} → IsKnown headings 0 → IsSearch (darts p) h c (λ d. reverse_dart p (next p d)) (reverse_dart p) headings [] nobody → (d : ℕ) → d < darts p → get_or headings d 0 ≡ (h d + c) % 4
 search_whole p is {h} {c} {headings} first s d b =
     s.sound d b (known d (all_joined p.lists (seven_rules p.lists is.rules) held onward across 0 d ends.some_darts b (holds 0 first)))
   where
@@ -186,7 +186,7 @@ search_whole p is {h} {c} {headings} first s d b =
     known : (d : ℕ) → not (eqb (get_or headings d 0) 4) ≡ true → IsKnown headings d
     known d marked none = true≢false (sym (eq-eqb (get_or headings d 0) 4 none) ∙ not-true (eqb (get_or headings d 0) 4) marked)
 
-    both : (d : ℕ) → d < darts p → IsKnown headings d → IsKnown headings (mate p (next p d)) × IsKnown headings (mate p d)
+    both : (d : ℕ) → d < darts p → IsKnown headings d → IsKnown headings (reverse_dart p (next p d)) × IsKnown headings (reverse_dart p d)
     both d b k = elim (s.gone_on d b k) [
       | inl w ↦ absurd (omega (arith, w.1))
       | inr other ↦ elim other [
@@ -195,23 +195,23 @@ search_whole p is {h} {c} {headings} first s d b =
       ]
     ]
 
-    across : IsShut (darts p) (mate p) (λ d. not (eqb (get_or headings d 0) 4))
-    across d b marked = holds (mate p d) (both d b (known d marked)).1
+    across : IsShut (darts p) (reverse_dart p) (λ d. not (eqb (get_or headings d 0) 4))
+    across d b marked = holds (reverse_dart p d) (both d b (known d marked)).1
 
     onward : IsShut (darts p) (next p) (λ d. not (eqb (get_or headings d 0) 4))
     onward d b marked =
         let inside = ends.next_one.inside d b in
-        let back : mate p (mate p (next p d)) ≡ next p d = ends.mate_back (next p d) inside in
+        let back : reverse_dart p (reverse_dart p (next p d)) ≡ next p d = ends.reverse_dart_back (next p d) inside in
         subst (λ x. not (eqb (get_or headings x 0) 4) ≡ true) back
-        (across (mate p (next p d)) (ends.mate_inside (next p d) inside) (holds (mate p (next p d)) (both d b (known d marked)).0))
+        (across (reverse_dart p (next p d)) (ends.reverse_dart_inside (next p d) inside) (holds (reverse_dart p (next p d)) (both d b (known d marked)).0))
 
 -- directions with c added to each are directions too
-pub turned_headings : (p : Map) (a : ℕ → ℕ) (s : ℕ → List Turn) (h : ℕ → ℕ) (c : ℕ) (g : ℕ → ℕ) → ((d : ℕ) → d < darts p → mate p d < darts p) → ((d : ℕ) → d < darts p → next p d < darts p) → AreHeadings p a s h → ((d : ℕ) → d < darts p → g d ≡ (h d + c) % 4) → AreHeadings p a s g
-turned_headings p a s h c g mates nexts are same =
+pub turned_headings : (p : PlaneModel) (a : ℕ → ℕ) (s : ℕ → List Turn) (h : ℕ → ℕ) (c : ℕ) (g : ℕ → ℕ) → ((d : ℕ) → d < darts p → reverse_dart p d < darts p) → ((d : ℕ) → d < darts p → next p d < darts p) → AreHeadings p a s h → ((d : ℕ) → d < darts p → g d ≡ (h d + c) % 4) → AreHeadings p a s g
+turned_headings p a s h c g reverse_darts nexts are same =
     record {
       quarter = λ d b. omega (arith, same d b);
-      angles = λ d b. omega (arith, same d b, same (mate p (next p d)) (mates (next p d) (nexts d b)), are.angles d b);
-      strings = λ d b. omega (arith, same d b, same (mate p d) (mates d b), are.strings d b);
+      angles = λ d b. omega (arith, same d b, same (reverse_dart p (next p d)) (reverse_darts (next p d) (nexts d b)), are.angles d b);
+      strings = λ d b. omega (arith, same d b, same (reverse_dart p d) (reverse_darts d b), are.strings d b);
     }
 
 -- a dart that is reached leaves the length as it is
@@ -228,19 +228,19 @@ reverse_in_step : (x heading l r hd hm c : ℕ) → x < 4 → (x + 2 + l) % 4 �
 reverse_in_step x heading l r hd hm c small turned is met = omega arith
 
 -- the first dart has the direction 0
-pub search_first : (p : Map) (a : ℕ → ℕ) (s : ℕ → List Turn) (h : ℕ → ℕ) (blank headings waiting : List ℕ) → IsPlane p → AreHeadings p a s h → length blank ≡ darts p → ((d : ℕ) → d < darts p → get_or blank d 0 ≡ 4) → IsReached blank [] 0 0 headings waiting → IsKnown headings 0 × IsSearch (darts p) h (4 - h 0) (λ d. mate p (next p d)) (mate p) headings waiting nobody
+pub search_first : (p : PlaneModel) (a : ℕ → ℕ) (s : ℕ → List Turn) (h : ℕ → ℕ) (blank headings waiting : List ℕ) → IsPlane p → AreHeadings p a s h → length blank ≡ darts p → ((d : ℕ) → d < darts p → get_or blank d 0 ≡ 4) → IsReached blank [] 0 0 headings waiting → IsKnown headings 0 × IsSearch (darts p) h (4 - h 0) (λ d. reverse_dart p (next p d)) (reverse_dart p) headings waiting nobody
 search_first p a s h blank headings waiting is are size none step =
     let some : 0 < darts p = (plane_ends p is).some_darts in
     let small : h 0 < 4 = are.quarter 0 some in
-    let now = reached 0 0 headings waiting some (omega arith) (search_starts (darts p) h (4 - h 0) (λ d. mate p (next p d)) (mate p) blank size none) step in
+    let now = reached 0 0 headings waiting some (omega arith) (search_starts (darts p) h (4 - h 0) (λ d. reverse_dart p (next p d)) (reverse_dart p) blank size none) step in
     (now.here, now.search)
 
 -- what the darts that follow dart d get in one step
-pub record IsStep (p : Map) (a : ℕ → ℕ) (s : ℕ → List Turn) (headings rest : List ℕ) (d : ℕ) (headings' waiting' : List ℕ) : Type 0 where
+pub record IsStep (p : PlaneModel) (a : ℕ → ℕ) (s : ℕ → List Turn) (headings rest : List ℕ) (d : ℕ) (headings' waiting' : List ℕ) : Type 0 where
   pub ahead : ℕ
   pub back : ℕ
-  pub ahead_is : ahead ≡ mate p (next p d)
-  pub back_is : back ≡ mate p d
+  pub ahead_is : ahead ≡ reverse_dart p (next p d)
+  pub back_is : back ≡ reverse_dart p d
   pub first : ℕ
   pub second : ℕ
   pub first_small : first < 4
@@ -253,7 +253,7 @@ pub record IsStep (p : Map) (a : ℕ → ℕ) (s : ℕ → List Turn) (headings 
   pub second_reached : IsReached between queue back second headings' waiting'
 
 -- one step
-pub search_step : (p : Map) (a : ℕ → ℕ) (s : ℕ → List Turn) (h : ℕ → ℕ) → IsPlane p → AreHeadings p a s h → {headings waiting rest headings' waiting' : List ℕ} (d : ℕ) → waiting ≡ rest ++ d ∷ [] → IsStep p a s headings rest d headings' waiting' → IsSearch (darts p) h (4 - h 0) (λ d. mate p (next p d)) (mate p) headings waiting nobody → IsSearch (darts p) h (4 - h 0) (λ d. mate p (next p d)) (mate p) headings' waiting' nobody × ((x : ℕ) → IsKnown headings x → IsKnown headings' x) × (work_of headings' waiting' < work_of headings waiting)
+pub search_step : (p : PlaneModel) (a : ℕ → ℕ) (s : ℕ → List Turn) (h : ℕ → ℕ) → IsPlane p → AreHeadings p a s h → {headings waiting rest headings' waiting' : List ℕ} (d : ℕ) → waiting ≡ rest ++ d ∷ [] → IsStep p a s headings rest d headings' waiting' → IsSearch (darts p) h (4 - h 0) (λ d. reverse_dart p (next p d)) (reverse_dart p) headings waiting nobody → IsSearch (darts p) h (4 - h 0) (λ d. reverse_dart p (next p d)) (reverse_dart p) headings' waiting' nobody × ((x : ℕ) → IsKnown headings x → IsKnown headings' x) × (work_of headings' waiting' < work_of headings waiting)
 search_step p a s h is are {headings} {waiting} {rest} {headings'} {waiting'} d was step search =
     let ends = plane_ends p is in
     let (below, known, taken) = search_taken rest d was search in
@@ -261,21 +261,21 @@ search_step p a s h is are {headings} {waiting} {rest} {headings'} {waiting'} d 
     let next_in : next p d < darts p = ends.next_one.inside d below in
     let onward = subst (λ e. IsReached headings rest e step.first step.between step.queue) step.ahead_is step.first_reached in
     let across = subst (λ e. IsReached step.between step.queue e step.second headings' waiting') step.back_is step.second_reached in
-    let one = reached (mate p (next p d)) step.first step.between step.queue (ends.mate_inside (next p d) next_in)
-    (clockwise_in_step step.first (get_or headings d 0) (a d) (h d) (h (mate p (next p d))) (4 - h 0) step.first_small step.first_turned heading (are.angles d below)) taken onward in
-    let two = reached (mate p d) step.second headings' waiting' (ends.mate_inside d below)
-    (reverse_in_step step.second (get_or headings d 0) (lefts (s d)) (rights (s d)) (h d) (h (mate p d)) (4 - h 0) step.second_small step.second_turned heading (are.strings d below)) one.search across in
+    let one = reached (reverse_dart p (next p d)) step.first step.between step.queue (ends.reverse_dart_inside (next p d) next_in)
+    (clockwise_in_step step.first (get_or headings d 0) (a d) (h d) (h (reverse_dart p (next p d))) (4 - h 0) step.first_small step.first_turned heading (are.angles d below)) taken onward in
+    let two = reached (reverse_dart p d) step.second headings' waiting' (ends.reverse_dart_inside d below)
+    (reverse_in_step step.second (get_or headings d 0) (lefts (s d)) (rights (s d)) (h d) (h (reverse_dart p d)) (4 - h 0) step.second_small step.second_turned heading (are.strings d below)) one.search across in
     let longer : length waiting ≡ length rest + 1 = ap (length {A = ℕ}) was ∙ length-append rest (d ∷ []) in (
-      search_passed d (two.kept (mate p (next p d)) one.here) two.here two.search,
+      search_passed d (two.kept (reverse_dart p (next p d)) one.here) two.here two.search,
       λ x k. two.kept x (one.kept x k),
       omega (arith, one.less, two.less, longer),
     )
 
 -- where no dart waits, the directions found are directions of all darts
-pub search_ends : (p : Map) (a : ℕ → ℕ) (s : ℕ → List Turn) (h : ℕ → ℕ) (headings : List ℕ) → IsPlane p → AreHeadings p a s h → IsKnown headings 0 → IsSearch (darts p) h (4 - h 0) (λ d. mate p (next p d)) (mate p) headings [] nobody → AreHeadings p a s (λ d. get_or headings d 0)
+pub search_ends : (p : PlaneModel) (a : ℕ → ℕ) (s : ℕ → List Turn) (h : ℕ → ℕ) (headings : List ℕ) → IsPlane p → AreHeadings p a s h → IsKnown headings 0 → IsSearch (darts p) h (4 - h 0) (λ d. reverse_dart p (next p d)) (reverse_dart p) headings [] nobody → AreHeadings p a s (λ d. get_or headings d 0)
 search_ends p a s h headings is are first search =
     let ends = plane_ends p is in
-    turned_headings p a s h (4 - h 0) (λ d. get_or headings d 0) ends.mate_inside ends.next_one.inside are (search_whole p is first search)
+    turned_headings p a s h (4 - h 0) (λ d. get_or headings d 0) ends.reverse_dart_inside ends.next_one.inside are (search_whole p is first search)
 
 -- the direction that is read
 pub read_at : (xs : List ℕ) (i j y : ℕ) → y ≡ get_or xs i y → i ≡ j → j < length xs → get_or xs j 0 ≡ y
@@ -283,5 +283,5 @@ read_at xs i j y e same inside =
     get_or_default xs j 0 y inside ∙ (ap (λ (k : ℕ). get_or xs k y) (sym same) ∙ sym e)
 
 -- the directions that a shape has
-pub shape_headings : (p : Map) (shape : Figure) → IsPlane p → IsShape p shape → (h : ℕ → ℕ) × AreHeadings p (angle_at shape) (turns_at shape) h
+pub shape_headings : (p : PlaneModel) (shape : ShapeModel) → IsPlane p → IsShape p shape → (h : ℕ → ℕ) × AreHeadings p (angle_at shape) (turns_at shape) h
 shape_headings p shape is shaped = directions p (angle_at shape) (turns_at shape) is shaped.rep

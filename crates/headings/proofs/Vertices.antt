@@ -3,14 +3,14 @@ use Rattle.std.proofs.Common.{◌≡◌, ℕ, ◌+◌, ◌-◌, true, not, refl,
 use Rattle.std.proofs.lemmas.Bool.{true_from_ne_false}
 use Rattle.embedding.specs.declared.rules.Rule.TheVariants.{Disconnected}
 use Rattle.embedding.specs.Rules.{IsClosed}
-use Rattle.faces.specs.Map.{Map, IsPlane, HasEnds, darts, vertices, head, tail, mate, face_at}
+use Rattle.faces.specs.Planes.{PlaneModel, IsPlane, HasEnds, darts, vertices, head, tail, reverse_dart, face_at}
 use Rattle.flow_network.proofs.Degrees.{entry_dart}
 use Rattle.headings.proofs.Trees.{Joins, Connects}
 use Rattle.headings.proofs.Peeling.{IsPaired}
 use Rattle.headings.proofs.Counting.{in_tree}
 
 -- the vertices, numbered from 0, joined by all darts
-abbrev pub vertex_joins : Map → Joins
+abbrev pub vertex_joins : PlaneModel → Joins
 vertex_joins p = record {
   darts = darts p;
   nodes = vertices p;
@@ -21,34 +21,34 @@ vertex_joins p = record {
 }
 
 -- the faces, joined by the darts that are not of the tree on the vertices
-abbrev pub face_joins : Map → (ℕ → ℕ) → Joins
+abbrev pub face_joins : PlaneModel → (ℕ → ℕ) → Joins
 face_joins p parent = record {
   darts = darts p;
   nodes = p.faces;
-  from = λ d. face_at p (mate p d);
+  from = λ d. face_at p (reverse_dart p d);
   to = λ d. face_at p d;
-  allowed = λ d. not (in_tree (vertex_joins p) (mate p) parent d);
+  allowed = λ d. not (in_tree (vertex_joins p) (reverse_dart p) parent d);
   root = 0;
 }
 
-pub vertices_paired : (p : Map) → HasEnds p → IsPaired (vertex_joins p) (mate p)
+pub vertices_paired : (p : PlaneModel) → HasEnds p → IsPaired (vertex_joins p) (reverse_dart p)
 vertices_paired p ends = record {
-  inside = ends.mate_inside;
-  back = ends.mate_back;
-  from = λ d l. ap (λ (v : ℕ). v - 1) (sym (ends.mate_head d l));
+  inside = ends.reverse_dart_inside;
+  back = ends.reverse_dart_back;
+  from = λ d l. ap (λ (v : ℕ). v - 1) (sym (ends.reverse_dart_head d l));
   node = λ d l. omega (arith, ends.head_from d l, ends.head_to d l);
 }
 
-pub faces_paired : (p : Map) (parent : ℕ → ℕ) → HasEnds p → IsPaired (face_joins p parent) (mate p)
+pub faces_paired : (p : PlaneModel) (parent : ℕ → ℕ) → HasEnds p → IsPaired (face_joins p parent) (reverse_dart p)
 faces_paired p parent ends = record {
-  inside = ends.mate_inside;
-  back = ends.mate_back;
+  inside = ends.reverse_dart_inside;
+  back = ends.reverse_dart_back;
   from = λ d l. refl;
   node = ends.face_named;
 }
 
 -- all darts join all vertices
-pub vertices_connect : (p : Map) → IsPlane p → Connects (vertex_joins p)
+pub vertices_connect : (p : PlaneModel) → IsPlane p → Connects (vertex_joins p)
 vertices_connect p plane s one shut v l =
     true_from_ne_false (s v) (λ none.
     plane.rules Disconnected (omega arith) (

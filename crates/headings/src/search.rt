@@ -1,10 +1,11 @@
 //! The search for the directions of all darts, from one dart on.
 
 ghost use Rattle.std.specs.Prelude.{◌≡◌, ◌+◌, ◌%◌, ◌<◌, ◌≤◌, length, vec_len, IfOk, OnOk, slice_index};
+ghost use Rattle.ortho_rep.specs.declared.strings.TheConstants.{MAX_TURNS};
 ghost use Rattle.ortho_rep.specs.Turns.{lefts, rights};
 ghost use Rattle.ortho_rep.specs.Shapes.{angle_at, turns_at};
 ghost use Rattle.ortho_rep.specs.Representation.{IsShape};
-ghost use Rattle.faces.specs.Map.{darts};
+ghost use Rattle.faces.specs.Planes.{darts};
 ghost use Rattle.headings.specs.Headings.{AreHeadings};
 ghost use Rattle.headings.specs.Search.{IsReached};
 
@@ -58,7 +59,7 @@ fn count_lefts(turns: &[Turn]) -> usize
 
 /// The direction of the reverse of a dart with this direction and these turns.
 fn reverse_heading(heading: u8, turns: &[Turn]) -> u8
-    requires { length turns.now ≤ 1000000 }
+    requires { length turns.now ≤ MAX_TURNS }
     ensures quarter { result < 4 }
     ensures turned { (result + 2 + lefts turns.now) % 4 ≡ (heading + rights turns.now) % 4 }
 {

@@ -6,17 +6,17 @@ use Rattle.serde_json.specs.Find.{of_integer}
 use Rattle.serde_json.specs.View.{items_of}
 use Rattle.serde_json.specs.Written.{compact_text}
 use Rattle.embedding.specs.Words as rules
-use Rattle.faces.specs.Map.{Map, vertices, darts}
+use Rattle.faces.specs.Planes.{PlaneModel, vertices, darts}
 use Rattle.ortho_rep.specs.declared.turn.Turn.{Turn}
 use Rattle.ortho_rep.specs.declared.turn.Turn.TheVariants.{Left, Right}
 use Rattle.ortho_rep.specs.declared.points.Point.{Point}
-use Rattle.ortho_rep.specs.Shapes.{Figure, turns_at}
-use Rattle.ortho_rep.specs.Points.{Plot, corners_at}
-use Rattle.ortho_rep.specs.Prices.{Tariff}
+use Rattle.ortho_rep.specs.Shapes.{ShapeModel, turns_at}
+use Rattle.ortho_rep.specs.Points.{PointsModel, corners_at}
+use Rattle.ortho_rep.specs.Prices.{PricesModel}
 use Rattle.ortho_rep.specs.Representation.{bends_of}
 use Rattle.entries.specs.declared.cause.Cause.{Cause}
-use Rattle.entries.specs.declared.found.Answer.{Answer}
-use Rattle.entries.specs.declared.found.Answer.TheVariants.{Laid, Refused, NoMemory}
+use Rattle.entries.specs.declared.answer.Answer.{Answer}
+use Rattle.entries.specs.declared.answer.Answer.TheVariants.{Laid, Refused, NoMemory}
 use Rattle.entries.specs.Words as causes
 
 -- ---- numbers, texts, arrays and objects
@@ -51,7 +51,7 @@ letter_of Right = 82
 abbrev pub turns_data : List Turn → Data
 turns_data turns = string (map letter_of turns)
 
-abbrev pub prices_data : Tariff → Data
+abbrev pub prices_data : PricesModel → Data
 prices_data prices = object_of (
     (codes "faces", array_of whole prices.faces)
     ∷ (codes "vertices", array_of whole prices.vertices)
@@ -61,11 +61,11 @@ abbrev pub point_data : Point → Data
 point_data point = array_of natural (point.x ∷ point.y ∷ [])
 
 -- the corners of an edge, along its lesser dart
-abbrev pub corners_data : Plot → ℕ → Data
+abbrev pub corners_data : PointsModel → ℕ → Data
 corners_data points e = array_of point_data (corners_at points e)
 
 -- the points of the edges and vertices of a plane with so many edges, or null where there is no drawing
-abbrev pub points_data : ℕ → Result Plot Cause → Data
+abbrev pub points_data : ℕ → Result PointsModel Cause → Data
 points_data edges (Ok points) = object_of (
     (codes "corners", array_of (corners_data points) (range_with_len 0 edges))
     ∷ (codes "vertices", array_of point_data points.vertices)
@@ -73,14 +73,14 @@ points_data edges (Ok points) = object_of (
 points_data edges (Err cause) = null
 
 -- whether there is a drawing, or why there is none
-abbrev pub drawn_data : Result Plot Cause → Data
+abbrev pub drawn_data : Result PointsModel Cause → Data
 drawn_data (Ok points) = string (codes "yes")
 drawn_data (Err cause) = string (causes.word_of cause)
 
 -- ---- answers and marks
 
 -- a graph that breaks no rule; angles and turns are by dart
-abbrev pub laid_data : ℕ → ℕ → Map → Figure → Tariff → Result Plot Cause → Data
+abbrev pub laid_data : ℕ → ℕ → PlaneModel → ShapeModel → PricesModel → Result PointsModel Cause → Data
 laid_data file graph plane shape prices drawing = object_of (
     (codes "angles", array_of natural shape.angles)
     ∷ (codes "bends", natural (bends_of (length shape.strings) (turns_at shape)))

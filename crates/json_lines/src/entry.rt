@@ -1,7 +1,7 @@
 //! The objects of graphs without a shape.
 ghost use Rattle.std.specs.Prelude.{◌≡◌, IfOk};
 ghost use Rattle.serde_json.specs.View.{view};
-ghost use Rattle.entries.specs.declared.found.Answer.TheVariants.{Refused, NoMemory};
+ghost use Rattle.entries.specs.declared.answer.Answer.TheVariants.{Refused, NoMemory};
 ghost use Rattle.json_lines.specs.Lines.{answer_data};
 
 use embedding::Rule;

@@ -2,7 +2,7 @@
 ghost use Rattle.std.specs.Prelude.{◌≡◌, ◌/◌, ◌∷◌, [], IfOk, OnOk, codes, length};
 ghost use Rattle.serde_json.specs.Data.{string};
 ghost use Rattle.serde_json.specs.View.{view, members_view};
-ghost use Rattle.faces.specs.Map.{vertices, darts};
+ghost use Rattle.faces.specs.Planes.{vertices, darts};
 ghost use Rattle.ortho_rep.specs.Shapes.{turns_at};
 ghost use Rattle.ortho_rep.specs.Representation.{HasDarts, bends_of};
 ghost use Rattle.ortho_rep.specs.Prices.{HasPrices};

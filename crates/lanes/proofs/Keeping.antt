@@ -2,9 +2,9 @@
 use Rattle.std.proofs.Common.{◌≡◌, ℕ, Bool, true, false, List, [], Option, None, Some, Ok, Err, refl, sym, subst, append-nil}
 use Rattle.planar_code.specs.declared.ending.Ending.TheVariants as ending
 use Rattle.planar_code.specs.Place.{Early}
-use Rattle.streams.specs.declared.found.Mark.{Mark}
-use Rattle.streams.specs.declared.found.Mark.TheVariants.{Ended}
-use Rattle.streams.specs.declared.found.Mark.TheVariants as mark
+use Rattle.streams.specs.declared.frames.Mark.{Mark}
+use Rattle.streams.specs.declared.frames.Mark.TheVariants.{Ended}
+use Rattle.streams.specs.declared.frames.Mark.TheVariants as mark
 use Rattle.streams.specs.Reading.{IsFoundIn}
 use Rattle.streams.proofs.Pieces.{nothing_read, found_failed, found_nothing}
 use Rattle.choices.specs.declared.Choice.{Choice}

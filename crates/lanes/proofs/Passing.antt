@@ -1,6 +1,6 @@
 -- One more message of a stage.
 use Rattle.std.proofs.Common.{◌≡◌, ℕ, List, [], ◌∷◌, ◌++◌, refl, sym, ap, subst, ◌∙◌, append_assoc}
-use Rattle.streams.specs.declared.found.Mark.{Mark}
+use Rattle.streams.specs.declared.frames.Mark.{Mark}
 use Rattle.lanes.specs.declared.message.Message.{Message}
 use Rattle.lanes.specs.declared.message.Message.TheVariants.{Item, End, Stop}
 use Rattle.lanes.specs.Notes.{About, Note, note, notes, GoOn, IsStopped}

@@ -1,6 +1,6 @@
 -- What has come of the files so far.
 use Rattle.std.specs.Prelude.{◌≡◌, ℕ, ◌+◌, List, [], ◌∷◌, map, Option, None, Some, ⊤}
-use Rattle.streams.specs.declared.found.Mark.{Mark}
+use Rattle.streams.specs.declared.frames.Mark.{Mark}
 use Rattle.choices.specs.declared.Choice.{Choice}
 use Rattle.lanes.specs.declared.message.Message.TheVariants.{Item, End}
 use Rattle.lanes.specs.declared.drafts.Draft.{Draft}

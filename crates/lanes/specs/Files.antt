@@ -1,7 +1,7 @@
 -- What a lane tells of its files.
 use Rattle.std.specs.Prelude.{◌≡◌, ℕ, ◌+◌, ◌<◌, List, [], ◌∷◌, Some, ⊤}
 use Rattle.ruled_lanes.specs.TicketRule.{times}
-use Rattle.streams.specs.declared.found.Mark.{Mark}
+use Rattle.streams.specs.declared.frames.Mark.{Mark}
 use Rattle.choices.specs.declared.Choice.{Choice}
 use Rattle.lanes.specs.declared.message.Message.{Message}
 use Rattle.lanes.specs.declared.drafts.Draft.{Draft}

@@ -1,7 +1,7 @@
 -- What is told of the messages of a lane: which record each is about, which file has ended, and the stop.
 use Rattle.std.specs.Prelude.{◌≡◌, ℕ, ◌+◌, ◌==◌, Bool, false, List, [], ◌∷◌, ◌++◌, map, ⊤}
 use Rattle.std.specs.List.{filter}
-use Rattle.streams.specs.declared.found.Mark.{Mark}
+use Rattle.streams.specs.declared.frames.Mark.{Mark}
 use Rattle.choices.specs.declared.Choice.{Choice}
 use Rattle.lanes.specs.declared.message.Message.{Message}
 use Rattle.lanes.specs.declared.message.Message.TheVariants.{Item, End, Stop}

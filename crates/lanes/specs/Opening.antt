@@ -1,6 +1,6 @@
 -- What is known beforehand of a file that an opener opens.
 use Rattle.std.specs.Prelude.{◌≡◌, ℕ, Bool, true, false, List, [], Option, None, Some, Result, Ok, Err, ⊤}
-use Rattle.streams.specs.declared.found.Mark.{Mark}
+use Rattle.streams.specs.declared.frames.Mark.{Mark}
 use Rattle.streams.specs.Reading.{IsFoundIn}
 use Rattle.lanes.specs.declared.opener.OpenFault.{OpenFault}
 use Rattle.lanes.specs.declared.opener.OpenFault.TheVariants.{Io, Memory}

@@ -3,6 +3,7 @@ use Rattle.std.proofs.Common.{◌≡◌, ◌≢◌, ◌≤◌, ◌<◌, ◌⊎�
 use Rattle.std.specs.Prelude.{ℤ, pos, negsuc, ◌+ℤ◌, ◌-ℤ◌, ◌≤ℤ◌, ◌<ℤ◌}
 use Rattle.std.proofs.lemmas.Bool.{both_ways, cases_eq, cases_lt, eq-eqb, ne_eqb, cond-true, cond-false}
 use Rattle.std.proofs.lemmas.Int.{ints}
+use Rattle.networks.specs.declared.residual.TheConstants.{SHUT}
 use Rattle.sums.proofs.Sums.{sum_below-same, sum_below-changed}
 use Rattle.networks.specs.declared.arc.Cap.{Cap}
 use Rattle.networks.specs.declared.arc.Cap.TheVariants.{AtMost, Any}
@@ -79,15 +80,15 @@ price_least net i true costs b = omega (arith, ints, costs i b)
 
 -- the code of price z where r fits
 coded : ℤ → ℕ → ℤ
-coded z r = cond (eqb r 0) (z +ℤ pos 16000) z
+coded z r = cond (eqb r 0) (z +ℤ SHUT) z
 
-coded_none : (z : ℤ) (r : ℕ) → r ≡ 0 → coded z r ≡ z +ℤ pos 16000
+coded_none : (z : ℤ) (r : ℕ) → r ≡ 0 → coded z r ≡ z +ℤ SHUT
 unfolding coded
-coded_none z r h = cond-true {A = ℤ} (eqb r 0) (z +ℤ pos 16000) z (eq-eqb r 0 h)
+coded_none z r h = cond-true {A = ℤ} (eqb r 0) (z +ℤ SHUT) z (eq-eqb r 0 h)
 
 coded_some : (z : ℤ) (r : ℕ) → 0 < r → coded z r ≡ z
 unfolding coded
-coded_some z r h = cond-false {A = ℤ} (eqb r 0) (z +ℤ pos 16000) z (ne_eqb r 0 (λ e. omega arith))
+coded_some z r h = cond-false {A = ℤ} (eqb r 0) (z +ℤ SHUT) z (ne_eqb r 0 (λ e. omega arith))
 
 code_is : (net : Net) (reverse forward : List ℕ) (arcs : List ResidualArc) (room : List ℕ) (i : ℕ) (back : Bool) → IsFilled net reverse forward arcs room → i < arc_count net → code_at arcs (place_of reverse forward i back) ≡ coded (price_of net i back) (numbers room (place_of reverse forward i back))
 unfolding coded
@@ -96,7 +97,7 @@ code_is net reverse forward arcs room i back f b = f.code i back b
 least_coded : (z c : ℤ) (r : ℕ) → negsuc 0 ≤ℤ z → c ≡ coded z r → negsuc 0 ≤ℤ c
 least_coded z c r h e =
     elim (cases_eq r 0) [
-      | inl q ↦ let t : coded z r ≡ z +ℤ pos 16000 = coded_none z r q in omega (arith, ints)
+      | inl q ↦ let t : coded z r ≡ z +ℤ SHUT = coded_none z r q in omega (arith, ints)
       | inr ne ↦ let t : coded z r ≡ z = coded_some z r (omega arith) in omega (arith, ints)
     ]
 
@@ -141,9 +142,9 @@ take_code z c c' r r' amount some less was is =
     is ∙ ap (λ (t : ℤ). coded t r') same
 
 lowered : ℤ → ℕ → ℤ
-lowered c r = cond (eqb r 0) (c -ℤ pos 16000) c
+lowered c r = cond (eqb r 0) (c -ℤ SHUT) c
 
-raised_lowered : (z c c' : ℤ) → c ≡ z +ℤ pos 16000 → c' ≡ c -ℤ pos 16000 → c' ≡ z
+raised_lowered : (z c c' : ℤ) → c ≡ z +ℤ SHUT → c' ≡ c -ℤ SHUT → c' ≡ z
 raised_lowered z c c' h k = omega (arith, ints)
 
 give_code : (z c c' : ℤ) (r r' amount : ℕ) → 0 < amount → r' ≡ r + amount → c ≡ coded z r → c' ≡ lowered c r → c' ≡ coded z r'
@@ -151,14 +152,14 @@ unfolding lowered
 give_code z c c' r r' amount some more was is =
     let now : coded z r' ≡ z = coded_some z r' (omega arith) in
     elim (cases_eq r 0) [
-      | inl q ↦ raised_lowered z c c' (was ∙ coded_none z r q) (is ∙ cond-true {A = ℤ} (eqb r 0) (c -ℤ pos 16000) c (eq-eqb r 0 q)) ∙ sym now
-      | inr ne ↦ is ∙ cond-false {A = ℤ} (eqb r 0) (c -ℤ pos 16000) c (ne_eqb r 0 ne) ∙ was ∙ coded_some z r (omega arith) ∙ sym now
+      | inl q ↦ raised_lowered z c c' (was ∙ coded_none z r q) (is ∙ cond-true {A = ℤ} (eqb r 0) (c -ℤ SHUT) c (eq-eqb r 0 q)) ∙ sym now
+      | inr ne ↦ is ∙ cond-false {A = ℤ} (eqb r 0) (c -ℤ SHUT) c (ne_eqb r 0 ne) ∙ was ∙ coded_some z r (omega arith) ∙ sym now
     ]
 
 -- what a push along residual arc k does to the codes
 pub record IsCoded (reverse : List ℕ) (arcs arcs' : List ResidualArc) (room room' : List ℕ) (k : ℕ) : Type 0 where
-  pub here : code_at arcs' k ≡ cond (eqb (numbers room' k) 0) (code_at arcs k +ℤ pos 16000) (code_at arcs k)
-  pub there : code_at arcs' (numbers reverse k) ≡ cond (eqb (numbers room (numbers reverse k)) 0) (code_at arcs (numbers reverse k) -ℤ pos 16000) (code_at arcs (numbers reverse k))
+  pub here : code_at arcs' k ≡ cond (eqb (numbers room' k) 0) (code_at arcs k +ℤ SHUT) (code_at arcs k)
+  pub there : code_at arcs' (numbers reverse k) ≡ cond (eqb (numbers room (numbers reverse k)) 0) (code_at arcs (numbers reverse k) -ℤ SHUT) (code_at arcs (numbers reverse k))
   pub others : (j : ℕ) → j ≢ k → j ≢ numbers reverse k → code_at arcs' j ≡ code_at arcs j
 
 here_coded : (net : Net) (reverse forward : List ℕ) (arcs arcs' : List ResidualArc) (room room' : List ℕ) (i : ℕ) (b : Bool) (k amount : ℕ) → IsFilled net reverse forward arcs room → i < arc_count net → place_of reverse forward i b ≡ k → 0 < amount → IsPushed reverse arcs arcs' room room' k amount → IsCoded reverse arcs arcs' room room' k → code_at arcs' (place_of reverse forward i b) ≡ coded (price_of net i b) (numbers room' (place_of reverse forward i b))
@@ -346,7 +347,7 @@ pub record IsLink (net : Net) (reverse forward room : List ℕ) (p : ℕ → ℤ
 some_coded : (z c : ℤ) (r : ℕ) → negsuc 0 ≤ℤ z → c ≡ coded z r → c ≤ℤ pos 1 → 0 < r
 some_coded z c r least e h =
     elim (cases_eq r 0) [
-      | inl q ↦ let t : coded z r ≡ z +ℤ pos 16000 = coded_none z r q in absurd (omega (arith, ints))
+      | inl q ↦ let t : coded z r ≡ z +ℤ SHUT = coded_none z r q in absurd (omega (arith, ints))
       | inr ne ↦ omega arith
     ]
 

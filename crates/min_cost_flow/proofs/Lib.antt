@@ -5,10 +5,8 @@ pub mod Rounds
 pub mod Spreading
 pub mod Existence
 pub mod Paths
-pub mod Reaching
 pub mod Turning
 pub mod Augmenting
-pub mod Distinct
 pub mod Signs
 pub mod Solving
 pub mod Moved

@@ -3,6 +3,7 @@ use Rattle.std.proofs.Common.{◌≡◌, ◌≢◌, ◌≤◌, ◌<◌, ◌⊎�
 use Rattle.std.specs.Prelude.{ℤ, pos, negsuc, ◌+ℤ◌, ◌-ℤ◌, ◌≤ℤ◌, ◌<ℤ◌}
 use Rattle.std.proofs.lemmas.Bool.{cases_eq, eq-eqb, cond-true}
 use Rattle.std.proofs.lemmas.Int.{ints}
+use Rattle.networks.specs.declared.network.TheConstants.{MAX_ARCS, MAX_NODES}
 use borrow.Author.Differences.{up}
 use Rattle.sums.specs.Sums.{sum_below}
 use Rattle.sums.proofs.Sums.{sum_below-same, sum_below-le, sum_below-changed, sum_below-constant, sum_below-none}
@@ -154,7 +155,7 @@ up_most : (e : ℤ) → e ≤ℤ pos 2048 → up e ≤ 2048
 up_most (pos n) h = omega (arith, ints)
 up_most (negsuc n) h = omega (arith, ints)
 
-first_left : (net : Net) (e : ℕ → ℤ) → node_count net ≤ 1024 → ((v : ℕ) → v < node_count net → e v ≤ℤ pos 2048) → left_over net e ≤ 2097152
+first_left : (net : Net) (e : ℕ → ℤ) → node_count net ≤ MAX_NODES → ((v : ℕ) → v < node_count net → e v ≤ℤ pos 2048) → left_over net e ≤ 2097152
 first_left net e small fair =
     let n = node_count net in
     let le : left_over net e ≤ sum_below n (λ _. 2048) = sum_below-le n (λ v. up (e v)) (λ _. 2048) (λ v b. up_most (e v) (fair v b)) in
@@ -209,7 +210,7 @@ first_work net x e none full = record {
   begun = inr (λ v b. full v);
 }
 
-bounds_looks : (l s k m : ℕ) → l ≤ s * (2 * m) → s ≤ 2097152 → m ≤ 4096 → l ≤ 17179869184
+bounds_looks : (l s k m : ℕ) → l ≤ s * (2 * m) → s ≤ 2097152 → m ≤ MAX_ARCS → l ≤ 17179869184
 bounds_looks l s k m h a b = omega (arith, mul-le s (2 * m) 2097152 8192 a (omega arith))
 
 pub supply_most : (net : Net) → IsNetwork net → supply_sum net ≤ 2097152

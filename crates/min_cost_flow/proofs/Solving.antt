@@ -3,6 +3,8 @@ use Rattle.std.proofs.Common.{length, zero, suc, ◌≡◌, ◌≢◌, ◌≤◌
 use Rattle.std.specs.Prelude.{ℤ, pos, negsuc, ◌+ℤ◌, ◌-ℤ◌, ◌≤ℤ◌, ◌<ℤ◌}
 use Rattle.std.proofs.lemmas.Bool.{cases_eq, cases_lt, cases_Bool, eq-eqb, ne_eqb, eqb-true, lt-ltb, ltb-true, cond-false, and_parts, and_from}
 use Rattle.std.proofs.lemmas.Int.{ints}
+use Rattle.networks.specs.declared.network.TheConstants.{MAX_NODES}
+use Rattle.networks.specs.declared.residual.TheConstants.{SHUT}
 use lib.Signed.{lt_z}
 use Rattle.sums.specs.Sums.{sum_below}
 use Rattle.sums.proofs.Sums.{sum_below-le, sum_below-constant}
@@ -13,13 +15,14 @@ use Rattle.networks.specs.Net.{Net, node_count, arc_count, arc_at, HasUnitCosts,
 use Rattle.networks.specs.Flow.{HasRoom, IsResidual, HasPotentials, HasNoFlow, start_of, end_of, price_of, reduced_cost}
 use Rattle.min_cost_flow.specs.Round.{IsRound}
 use Rattle.networks.specs.Layout.{numbers, end_at, code_at, StartsAt, place_of, limit_of, IsLaidOut, IsFilled, carried}
-use Rattle.min_cost_flow.specs.Search.{far, IsCode, IsOpen, IsGraph, IsPriced, IsNear, IsReached, IsHit, IsNearest, IsServed, IsLeft, IsPut, degree, looked}
+use Rattle.shortest_paths.specs.Search.{far, IsCode, IsOpen, IsGraph, IsPriced, IsNear, IsReached, IsHit, IsNearest, IsServed, IsLeft, IsPut, degree, looked}
 use Rattle.min_cost_flow.specs.Path.{HasPath}
 use Rattle.min_cost_flow.proofs.Cut.{no_flow_out}
 use Rattle.networks.proofs.Ends.{start_in, end_in}
 use Rattle.min_cost_flow.proofs.Turning.{turned_back, start_is}
-use Rattle.min_cost_flow.proofs.Signs.{plain_lt, lt_true}
-use Rattle.min_cost_flow.proofs.Reaching.{below_or_not, not_less}
+use Rattle.shortest_paths.proofs.Signs.{plain_lt}
+use Rattle.min_cost_flow.proofs.Signs.{lt_true}
+use Rattle.shortest_paths.proofs.Reaching.{below_or_not, not_less}
 
 -- ---- codes, rooms and residual arcs
 
@@ -27,18 +30,18 @@ price_low : (net : Net) (i : ℕ) (back : Bool) → HasUnitCosts net → i < arc
 price_low net i false costs b = (omega (arith, ints), omega (arith, ints, costs i b))
 price_low net i true costs b = (omega (arith, ints, costs i b), omega (arith, ints))
 
-code_when : (r : ℕ) (c z : ℤ) → z ≡ cond (eqb r 0) (c +ℤ pos 16000) c → (negsuc 0 ≤ℤ c) × (c ≤ℤ pos 1) → ((r ≡ 0) × (z ≡ c +ℤ pos 16000)) ⊎ ((0 < r) × (z ≡ c))
+code_when : (r : ℕ) (c z : ℤ) → z ≡ cond (eqb r 0) (c +ℤ SHUT) c → (negsuc 0 ≤ℤ c) × (c ≤ℤ pos 1) → ((r ≡ 0) × (z ≡ c +ℤ SHUT)) ⊎ ((0 < r) × (z ≡ c))
 code_when zero c z h b = inl (refl, h)
-code_when (suc r) c z h b = inr (omega arith, h ∙ cond-false {A = ℤ} (eqb (suc r) 0) (c +ℤ pos 16000) c (ne_eqb (suc r) 0 (λ t. absurd (omega arith))))
+code_when (suc r) c z h b = inr (omega arith, h ∙ cond-false {A = ℤ} (eqb (suc r) 0) (c +ℤ SHUT) c (ne_eqb (suc r) 0 (λ t. absurd (omega arith))))
 
-shut_code : (c z : ℤ) → z ≡ c +ℤ pos 16000 → (negsuc 0 ≤ℤ c) × (c ≤ℤ pos 1) → (pos 15999 ≤ℤ z) × (z ≤ℤ pos 16001)
+shut_code : (c z : ℤ) → z ≡ c +ℤ SHUT → (negsuc 0 ≤ℤ c) × (c ≤ℤ pos 1) → (pos 15999 ≤ℤ z) × (z ≤ℤ pos 16001)
 shut_code c z h (a, b) = (omega (arith, ints), omega (arith, ints))
 
-not_open : (c z : ℤ) → z ≡ c +ℤ pos 16000 → (negsuc 0 ≤ℤ c) × (c ≤ℤ pos 1) → z ≤ℤ pos 1 → ⊥
+not_open : (c z : ℤ) → z ≡ c +ℤ SHUT → (negsuc 0 ≤ℤ c) × (c ≤ℤ pos 1) → z ≤ℤ pos 1 → ⊥
 not_open c z h (a, b) o = omega (arith, ints)
 
 -- the code of residual arc (i, back): its price where something fits, and more where nothing does
-pub code_cases : (net : Net) (reverse forward : List ℕ) (arcs : List ResidualArc) (room : List ℕ) (i : ℕ) (back : Bool) → IsNetwork net → IsFilled net reverse forward arcs room → i < arc_count net → ((numbers room (place_of reverse forward i back) ≡ 0) × (code_at arcs (place_of reverse forward i back) ≡ price_of net i back +ℤ pos 16000)) ⊎ ((0 < numbers room (place_of reverse forward i back)) × (code_at arcs (place_of reverse forward i back) ≡ price_of net i back))
+pub code_cases : (net : Net) (reverse forward : List ℕ) (arcs : List ResidualArc) (room : List ℕ) (i : ℕ) (back : Bool) → IsNetwork net → IsFilled net reverse forward arcs room → i < arc_count net → ((numbers room (place_of reverse forward i back) ≡ 0) × (code_at arcs (place_of reverse forward i back) ≡ price_of net i back +ℤ SHUT)) ⊎ ((0 < numbers room (place_of reverse forward i back)) × (code_at arcs (place_of reverse forward i back) ≡ price_of net i back))
 code_cases net reverse forward arcs room i back k f b = code_when (numbers room (place_of reverse forward i back)) (price_of net i back) (code_at arcs (place_of reverse forward i back)) (f.code i back b) (price_low net i back k.costs b)
 
 room_open : (c : Cap) (r x : ℕ) → r + x ≡ limit_of c → x ≤ 2097152 → HasRoom c x → 0 < r
@@ -172,7 +175,7 @@ far_end c a q b b' cut h k l = omega (arith, ints)
 near_end : (c a q qe b' cut : ℤ) → a ≡ q -ℤ cut → qe ≤ℤ (q +ℤ c) → b' ≤ℤ (qe -ℤ cut) → pos 0 ≤ℤ (c +ℤ a -ℤ b')
 near_end c a q qe b' cut h k l = omega (arith, ints)
 
-label_step : (ps q c qe : ℤ) (n h : ℕ) → n ≤ 1024 → h ≤ n → ps ≤ℤ pos (2 * n) → IsNear ps h q → c ≤ℤ pos 1 → qe ≤ℤ (q +ℤ c) → qe <ℤ far
+label_step : (ps q c qe : ℤ) (n h : ℕ) → n ≤ MAX_NODES → h ≤ n → ps ≤ℤ pos (2 * n) → IsNear ps h q → c ≤ℤ pos 1 → qe ≤ℤ (q +ℤ c) → qe <ℤ far
 label_step ps q c qe n h small le low (a, b) o k = omega (arith, ints)
 
 pub moved_priced : (n : ℕ) (first : List ℕ) (arcs : List ResidualArc) (p p' e : ℕ → ℤ) (s : ℕ) (q : ℕ → ℤ) (enter order place : ℕ → ℕ) (head ordered reached : ℕ) (level cut : ℤ) (f : ℕ) → IsGraph n first arcs → IsPriced n first arcs p e → IsReached n first arcs p e s q enter order place head ordered reached level → IsNearest n first arcs p e s q place head level cut f → IsServed n first arcs p q place cut head → IsLeft n p q place head cut → IsMovedTo n p p' q place head cut → (v k : ℕ) → v < n → StartsAt first v k → IsOpen arcs k → pos 0 ≤ℤ (code_at arcs k +ℤ p' v -ℤ p' (end_at arcs k))
@@ -302,10 +305,10 @@ has_path n first arcs p p' e s q enter order place head ordered reached level cu
 
 -- ---- nothing found
 
-in_reach : (ps q pv : ℤ) (n h : ℕ) → n ≤ 1024 → h ≤ n → ps ≤ℤ pos (2 * n) → IsNear ps h q → pos 0 ≤ℤ (pv +ℤ pos (2 * n)) → (q -ℤ pv) <ℤ far
+in_reach : (ps q pv : ℤ) (n h : ℕ) → n ≤ MAX_NODES → h ≤ n → ps ≤ℤ pos (2 * n) → IsNear ps h q → pos 0 ≤ℤ (pv +ℤ pos (2 * n)) → (q -ℤ pv) <ℤ far
 in_reach ps q pv n h small le low (a, b) d = omega (arith, ints)
 
-in_reach_step : (ps q pe c : ℤ) (n h : ℕ) → n ≤ 1024 → h ≤ n → ps ≤ℤ pos (2 * n) → IsNear ps h q → pos 0 ≤ℤ (pe +ℤ pos (2 * n)) → c ≤ℤ pos 1 → (q +ℤ c -ℤ pe) <ℤ far
+in_reach_step : (ps q pe c : ℤ) (n h : ℕ) → n ≤ MAX_NODES → h ≤ n → ps ≤ℤ pos (2 * n) → IsNear ps h q → pos 0 ≤ℤ (pe +ℤ pos (2 * n)) → c ≤ℤ pos 1 → (q +ℤ c -ℤ pe) <ℤ far
 in_reach_step ps q pe c n h small le low (a, b) d o = omega (arith, ints)
 
 pub nothing_found : (net : Net) (first reverse forward : List ℕ) (arcs : List ResidualArc) (room : List ℕ) (p e : ℕ → ℤ) (s : ℕ) (q : ℕ → ℤ) (enter order place : ℕ → ℕ) (head ordered reached : ℕ) (level cut : ℤ) → IsNetwork net → IsLaidOut net first reverse forward → IsFilled net reverse forward arcs room → IsRound net (carried reverse forward room) p e → IsReached (node_count net) first arcs p e s q enter order place head ordered reached level → IsServed (node_count net) first arcs p q place cut head → IsLeft (node_count net) p q place head cut → cut ≡ far → pos 0 <ℤ e s → HasNoFlow net
@@ -393,7 +396,7 @@ path_looks net first reverse forward arcs room p e s q enter order place head or
     omega (arith, many_looks net first reverse forward arcs room p e s q enter order place head ordered reached level cut f l fl r h)
 
 -- labels and the cut fit
-pub label_bounds : (n h : ℕ) (ps z : ℤ) → n ≤ 1024 → h ≤ n → IsNear ps h z → (pos 0 ≤ℤ (ps +ℤ pos (2 * n))) × (ps ≤ℤ pos (2 * n)) → (negsuc 1073741822 ≤ℤ z) × (z ≤ℤ pos 1073741823)
+pub label_bounds : (n h : ℕ) (ps z : ℤ) → n ≤ MAX_NODES → h ≤ n → IsNear ps h z → (pos 0 ≤ℤ (ps +ℤ pos (2 * n))) × (ps ≤ℤ pos (2 * n)) → (negsuc 1073741822 ≤ℤ z) × (z ≤ℤ pos 1073741823)
 label_bounds n h ps z small le (a, b) (c, d) = (omega (arith, ints), omega (arith, ints))
 
 -- ---- writing along a list

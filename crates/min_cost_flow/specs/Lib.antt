@@ -1,6 +1,5 @@
 pub mod Excess
 pub mod Residual
-pub mod Search
 pub mod Path
 pub mod Round
 pub mod Existence

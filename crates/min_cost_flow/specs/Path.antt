@@ -3,7 +3,7 @@
 use Rattle.std.specs.Prelude.{ℕ, ◌<◌, ◌≡◌, ℤ, pos, ◌+ℤ◌, ◌-ℤ◌, Bool, true, false, List}
 use Rattle.networks.specs.declared.residual.ResidualArc.{ResidualArc}
 use Rattle.networks.specs.Layout.{end_at, code_at, StartsAt}
-use Rattle.min_cost_flow.specs.Search.{IsOpen}
+use Rattle.shortest_paths.specs.Search.{IsOpen}
 
 -- residual arc k leads from node u to node v, is open and costs nothing under the potentials
 pub record IsTight (first : List ℕ) (arcs : List ResidualArc) (p : ℕ → ℤ) (u k v : ℕ) : Type 0 where

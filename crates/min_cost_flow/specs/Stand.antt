@@ -5,7 +5,7 @@ use Rattle.networks.specs.declared.residual.ResidualArc.{ResidualArc}
 use Rattle.networks.specs.Flow.{Flow, HasPotentials, IsLeastCost, at_nodes, cost_of}
 use Rattle.networks.specs.Layout.{IsLaidOut, IsFilled, carried, limit_of}
 use Rattle.min_cost_flow.specs.Lists.{HasNodeLists}
-use Rattle.min_cost_flow.specs.Search.{far}
+use Rattle.shortest_paths.specs.Search.{far}
 use Rattle.min_cost_flow.specs.Round.{IsRound}
 
 -- the lists of residual arcs have their sizes

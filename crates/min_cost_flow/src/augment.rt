@@ -2,6 +2,7 @@
 #![tactic(auto)]
 
 ghost use Rattle.std.specs.Prelude.{◌≡◌, ◌≢◌, ◌<◌, ◌≤◌, ◌==◌, ◌+◌, ◌^◌, ℕ, ℤ, if◌then◌else◌, length, pos, negsuc, ◌≤ℤ◌, ◌<ℤ◌, ◌+ℤ◌, ◌-ℤ◌};
+ghost use Rattle.networks.specs.declared.residual.TheConstants.{SHUT};
 ghost use Rattle.networks.specs.Net.{node_count, arc_count, arc_at, IsNetwork};
 ghost use Rattle.networks.specs.Flow.{at_nodes};
 ghost use Rattle.networks.specs.Layout.{numbers, end_at, code_at, StartsAt, IsLaidOut, IsFilled, carried, limit_of};
@@ -137,7 +138,7 @@ fn give_room(arcs: &mut [ResidualArc], room: &mut [u32], number: usize, amount: 
     requires code { negsuc 0 ≤ℤ code_at arcs.old number }
     ensures here { numbers room.new number ≡ numbers room.old number + amount }
     ensures others { (k : ℕ) → k ≢ number → numbers room.new k ≡ numbers room.old k }
-    ensures code { code_at arcs.new number ≡ (if numbers room.old number == 0 then code_at arcs.old number -ℤ pos 16000 else code_at arcs.old number) }
+    ensures code { code_at arcs.new number ≡ (if numbers room.old number == 0 then code_at arcs.old number -ℤ SHUT else code_at arcs.old number) }
     ensures codes { (k : ℕ) → k ≢ number → code_at arcs.new k ≡ code_at arcs.old k }
     ensures ends { (k : ℕ) → end_at arcs.new k ≡ end_at arcs.old k }
 {
@@ -155,7 +156,7 @@ fn take_room(arcs: &mut [ResidualArc], room: &mut [u32], number: usize, amount: 
     requires code { code_at arcs.old number ≤ℤ pos 1 }
     ensures here { numbers room.new number + amount ≡ numbers room.old number }
     ensures others { (k : ℕ) → k ≢ number → numbers room.new k ≡ numbers room.old k }
-    ensures code { code_at arcs.new number ≡ (if numbers room.new number == 0 then code_at arcs.old number +ℤ pos 16000 else code_at arcs.old number) }
+    ensures code { code_at arcs.new number ≡ (if numbers room.new number == 0 then code_at arcs.old number +ℤ SHUT else code_at arcs.old number) }
     ensures codes { (k : ℕ) → k ≢ number → code_at arcs.new k ≡ code_at arcs.old k }
     ensures ends { (k : ℕ) → end_at arcs.new k ≡ end_at arcs.old k }
 {

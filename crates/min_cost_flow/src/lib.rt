@@ -6,9 +6,7 @@
 #![tactic(auto)]
 
 mod augment;
-mod reach;
 mod resume;
-mod search;
 mod solved;
 mod solver;
 mod standing;

@@ -1,16 +1,17 @@
 //! Solving anew, or going on from the flow that is there after supplies have moved.
 ghost use Rattle.std.specs.Prelude.{◌≡◌, ◌≢◌, ◌<◌, ◌≤◌, ◌+◌, ◌*◌, ◌^◌, ℕ, length, pos, negsuc, ◌≤ℤ◌, ◌<ℤ◌, ◌+ℤ◌, ◌-ℤ◌, true, false};
+ghost use Rattle.networks.specs.declared.network.TheConstants.{MAX_NODES};
 ghost use Rattle.networks.specs.Net.{arc_count, arc_at, node_count, IsNetwork, HasFairSupplies, shifted};
 ghost use Rattle.networks.specs.Flow.{at_nodes, HasNoFlow};
 ghost use Rattle.networks.specs.Layout.{numbers, limit_of, IsLaidOut, IsFilled, carried};
-ghost use Rattle.min_cost_flow.specs.Search.{far};
+ghost use Rattle.shortest_paths.specs.Search.{far};
 ghost use Rattle.min_cost_flow.specs.Lists.{HasNodeLists};
 ghost use Rattle.min_cost_flow.specs.Round.{IsRound};
 ghost use Rattle.min_cost_flow.specs.Stand.{HasArcLists, IsSettled};
 
-use crate::reach::FAR;
 use crate::solver::{augment_once, has_deficit, rank, run};
 use networks::{Layout, Network, ResidualArc, lay_out, move_units};
+use shortest_paths::FAR;
 
 /// Solves from nothing; whether there is a flow.
 pub(crate) fn settle(
@@ -138,7 +139,7 @@ fn carries_little(reverse: &[u32], forward: &[u32], room: &[u32], amount: u32) -
 /// Takes the potential of a node for 0; whether all are within reach then.
 fn rebase(potential: &mut [i32], node: usize) -> bool
     requires node { node < length potential.old }
-    requires small { length potential.old ≤ 1024 }
+    requires small { length potential.old ≤ MAX_NODES }
     requires low { (v : ℕ) → v < length potential.old → (negsuc 2047 ≤ℤ at_nodes potential.old v) × (at_nodes potential.old v ≤ℤ pos 2048) }
     ensures moved { (v : ℕ) → v < length potential.new → at_nodes potential.new v ≡ at_nodes potential.old v -ℤ at_nodes potential.old node }
     ensures low { result ≡ true → (v : ℕ) → v < length potential.new → (pos 0 ≤ℤ (at_nodes potential.new v +ℤ pos (2 * length potential.old))) × (at_nodes potential.new v ≤ℤ pos (2 * length potential.old)) }
@@ -161,7 +162,7 @@ fn lower_all(potential: &mut [i32], base: i32)
 
 /// Whether all potentials are at most twice the number of nodes in absolute value.
 fn is_within_reach(potential: &[i32]) -> bool
-    requires small { length potential.now ≤ 1024 }
+    requires small { length potential.now ≤ MAX_NODES }
     ensures { result ≡ true → (v : ℕ) → v < length potential.now → (pos 0 ≤ℤ (at_nodes potential.now v +ℤ pos (2 * length potential.now))) × (at_nodes potential.now v ≤ℤ pos (2 * length potential.now)) }
 {
     let reach = 2 * potential.len() as i32;

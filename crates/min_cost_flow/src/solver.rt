@@ -1,18 +1,18 @@
 //! Searches from one node after another, and a path sent along after each, until nothing is left over.
 ghost use Rattle.std.specs.Prelude.{◌≡◌, ◌≢◌, ◌<◌, ◌≤◌, ◌+◌, ◌*◌, ◌^◌, ℕ, ℤ, List, length, pos, negsuc, ◌≤ℤ◌, ◌<ℤ◌, ◌+ℤ◌, ◌-ℤ◌, IfOk, IfErr, IfSome, IfNone, true, false};
+ghost use Rattle.networks.specs.declared.network.TheConstants.{MAX_ARCS, MAX_NODES};
 ghost use Rattle.min_cost_flow.specs.declared.solver.SolveFault.TheVariants.{Memory};
 ghost use Rattle.networks.specs.Net.{arc_count, arc_at, node_count, supply_at, IsNetwork};
 ghost use Rattle.networks.specs.Flow.{amounts, at_nodes, Flow, HasPotentials, HasNoFlow, Solves};
 ghost use Rattle.networks.specs.Layout.{numbers, limit_of, IsLaidOut, IsFilled, carried};
-ghost use Rattle.min_cost_flow.specs.Search.{far, IsPut};
+ghost use Rattle.shortest_paths.specs.Search.{far, IsPut};
 ghost use Rattle.min_cost_flow.specs.Lists.{HasNodeLists};
 ghost use Rattle.min_cost_flow.specs.Round.{left_over, carrying, supply_sum, IsRound, IsLess, IsWork, IsDone, HasSupply, IsWithinReach};
 
 use crate::augment::send;
-use crate::reach::{FAR, Ground};
-use crate::search::search;
 use crate::solved::Solved;
 use networks::{Layout, Network, ResidualArc, lay_out};
+use shortest_paths::{FAR, Ground, search};
 use std::alloc::{AllocError, Global};
 use thiserror::Error;
 
@@ -205,7 +205,7 @@ pub(crate) fn rank(network: &Network, score: &mut [i32])
 pub(crate) fn read_flow(reverse: &[u32], room: &[u32], flow: &mut [u32])
     requires reverses { (i : ℕ) → i < length flow.old → numbers flow.old i < length reverse.now }
     requires rooms { (i : ℕ) → i < length flow.old → numbers reverse.now (numbers flow.old i) < length room.now }
-    requires small { length flow.old ≤ 4096 }
+    requires small { length flow.old ≤ MAX_ARCS }
     requires sizes { (length reverse.now ≤ 8192) × (length room.now ≤ 8192) }
     ensures { (i : ℕ) → i < length flow.new → amounts flow.new i ≡ carried reverse.now flow.old room.now i }
 {
@@ -326,7 +326,7 @@ pub(crate) fn augment_once(
 /// Moves the potentials of the nodes that were scanned by as much as they are nearer than the cut.
 fn move_potentials(order: &[u32], label: &[i32], potential: &mut [i32], scanned: usize, cut: i32)
     requires order { scanned ≤ length order.now }
-    requires small { length potential.old ≤ 1024 }
+    requires small { length potential.old ≤ MAX_NODES }
     requires nodes { (j : ℕ) → j < scanned → numbers order.now j < length potential.old }
     requires sizes { length label.now ≡ length potential.old }
     requires labels { (j : ℕ) → j < scanned → (negsuc 1073741823 ≤ℤ at_nodes label.now (numbers order.now j)) × (at_nodes label.now (numbers order.now j) ≤ℤ pos 1073741823) }
@@ -343,7 +343,7 @@ fn move_potentials(order: &[u32], label: &[i32], potential: &mut [i32], scanned:
 /// Gives a node its label less the cut for a potential.
 fn write_potential(potential: &mut [i32], node: usize, label: i32, cut: i32)
     requires node { node < length potential.old }
-    requires small { node < 1024 }
+    requires small { node < MAX_NODES }
     requires label { (negsuc 1073741823 ≤ℤ label) × (label ≤ℤ pos 1073741823) }
     requires cut { (negsuc 1073741822 ≤ℤ cut) × (cut ≤ℤ pos 1073741823) }
     ensures { IsPut (at_nodes potential.old) (at_nodes potential.new) node (label -ℤ cut) }
@@ -354,7 +354,7 @@ fn write_potential(potential: &mut [i32], node: usize, label: i32, cut: i32)
 /// Takes the labels of the nodes that were reached away.
 fn clear(order: &[u32], label: &mut [i32], reached: usize)
     requires order { reached ≤ length order.now }
-    requires small { length label.old ≤ 1024 }
+    requires small { length label.old ≤ MAX_NODES }
     requires nodes { (j : ℕ) → j < reached → numbers order.now j < length label.old }
     ensures cleared { (j : ℕ) → j < reached → at_nodes label.new (numbers order.now j) ≡ far }
     ensures others { (v : ℕ) → at_nodes label.old v ≡ far → at_nodes label.new v ≡ far }
@@ -367,7 +367,7 @@ fn clear(order: &[u32], label: &mut [i32], reached: usize)
 /// Takes the label of a node away.
 fn write_far(label: &mut [i32], node: usize)
     requires node { node < length label.old }
-    requires small { node < 1024 }
+    requires small { node < MAX_NODES }
     ensures { IsPut (at_nodes label.old) (at_nodes label.new) node far }
 {
     label[node] = FAR;

@@ -4,6 +4,7 @@ use Rattle.std.specs.Prelude.{ℤ, pos, negsuc, ◌+ℤ◌, ◌-ℤ◌, ◌≤�
 use Rattle.std.proofs.lemmas.Bool.{cases_eq, eq-eqb, ne_eqb, cond-true, cond-false}
 use Rattle.std.proofs.lemmas.Int.{ints}
 use Rattle.std.proofs.lemmas.List.{get_or-set_same, get_or-set_other, length-set}
+use Rattle.networks.specs.declared.network.TheConstants.{MAX_NODES}
 use Rattle.networks.specs.Net.{Net, arc_at, raised, lowered, moved, shifted, HasFairSupplies, IsNetwork}
 
 abbrev pub at : List ℤ → ℕ → ℤ
@@ -70,7 +71,7 @@ pub still_network : (net : Net) (f t k : ℕ) → IsNetwork net → HasFairSuppl
 still_network net f t k n fair =
     let same : length (moved net.supplies f t k) ≡ length net.supplies = length-moved net.supplies f t k in
     record {
-      small = (subst (λ (c : ℕ). c ≤ 1024) (sym same) n.small.0, n.small.1);
+      small = (subst (λ (c : ℕ). c ≤ MAX_NODES) (sym same) n.small.0, n.small.1);
       ends = λ i b. (subst (λ (c : ℕ). (arc_at net i).from < c) (sym same) (n.ends i b).0, subst (λ (c : ℕ). (arc_at net i).to < c) (sym same) (n.ends i b).1);
       supplies = fair;
       costs = n.costs;

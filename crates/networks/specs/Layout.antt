@@ -1,5 +1,6 @@
 -- Residual arcs by numbers of their own, those that start at a node side by side.
 use Rattle.std.specs.Prelude.{ℕ, ◌+◌, ◌<◌, ◌≤◌, ◌==◌, ◌≡◌, ◌^◌, ℤ, pos, ◌+ℤ◌, Bool, true, false, if◌then◌else◌, List, length, slice_index, slice_index_or}
+use Rattle.networks.specs.declared.residual.TheConstants.{SHUT}
 use Rattle.networks.specs.declared.arc.Cap.{Cap}
 use Rattle.networks.specs.declared.arc.Cap.TheVariants.{AtMost, Any}
 use Rattle.networks.specs.declared.residual.ResidualArc.{ResidualArc}
@@ -59,7 +60,7 @@ pub record IsFilled (net : Net) (reverse forward : List ℕ) (arcs : List Residu
   pub arc_size : length arcs ≡ arc_count net + arc_count net
   pub room_size : length room ≡ arc_count net + arc_count net
   pub end : (i : ℕ) (back : Bool) → i < arc_count net → end_at arcs (place_of reverse forward i back) ≡ end_of net i back
-  pub code : (i : ℕ) (back : Bool) → i < arc_count net → code_at arcs (place_of reverse forward i back) ≡ (if numbers room (place_of reverse forward i back) == 0 then price_of net i back +ℤ pos 16000 else price_of net i back)
+  pub code : (i : ℕ) (back : Bool) → i < arc_count net → code_at arcs (place_of reverse forward i back) ≡ (if numbers room (place_of reverse forward i back) == 0 then price_of net i back +ℤ SHUT else price_of net i back)
   pub fits : (i : ℕ) → i < arc_count net → numbers room (place_of reverse forward i false) + numbers room (place_of reverse forward i true) ≡ limit_of (arc_at net i).cap
 
 -- what an arc carries is what fits back along it

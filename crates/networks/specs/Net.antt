@@ -1,5 +1,6 @@
 -- What a network is: nodes with supplies, arcs with capacities and costs.
 use Rattle.std.specs.Prelude.{ℕ, ◌<◌, ◌≤◌, ℤ, pos, negsuc, ◌+ℤ◌, ◌-ℤ◌, ◌≤ℤ◌, List, length, slice_index_or, slice_set}
+use Rattle.networks.specs.declared.network.TheConstants.{MAX_ARCS, MAX_NODES}
 use Rattle.networks.specs.declared.arc.Arc.{Arc}
 use Rattle.networks.specs.declared.arc.Cap.TheVariants.{AtMost}
 
@@ -28,7 +29,7 @@ abbrev pub supply_at : Net → ℕ → ℤ
 supply_at net v = slice_index_or net.supplies v (pos 0)
 
 abbrev pub IsSmall : Net → Type 0
-IsSmall net = (node_count net ≤ 1024) × (arc_count net ≤ 4096)
+IsSmall net = (node_count net ≤ MAX_NODES) × (arc_count net ≤ MAX_ARCS)
 
 -- both ends of each arc are nodes
 abbrev pub HasEnds : Net → Type 0

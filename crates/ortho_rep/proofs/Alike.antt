@@ -2,16 +2,16 @@
 use Rattle.std.proofs.Common.{◌≡◌, ◌≤◌, ◌<◌, ℕ, cond, eqb, List, sym, ap, ◌∙◌, arith}
 use Rattle.std.specs.Prelude.{ℤ, pos}
 use Rattle.sums.proofs.Sums.{sum_below-same, total_below-same}
-use Rattle.faces.specs.Map.{Map, HasEnds, darts, vertices, head, mate, face_at}
+use Rattle.faces.specs.Planes.{PlaneModel, HasEnds, darts, vertices, head, reverse_dart, face_at}
 use Rattle.ortho_rep.specs.declared.turn.Turn.{Turn}
 use Rattle.ortho_rep.specs.Turns.{mirrored}
 use Rattle.ortho_rep.specs.Representation.{Rep, turning_of}
 use Rattle.ortho_rep.specs.Prices.{IsPriced, Prove}
 
-pub rep-alike : (p : Map) (a b : ℕ → ℕ) (s t : ℕ → List Turn) → HasEnds p → ((d : ℕ) → d < darts p → b d ≡ a d) → ((d : ℕ) → d < darts p → t d ≡ s d) → Rep p a s → Rep p b t
+pub rep-alike : (p : PlaneModel) (a b : ℕ → ℕ) (s t : ℕ → List Turn) → HasEnds p → ((d : ℕ) → d < darts p → b d ≡ a d) → ((d : ℕ) → d < darts p → t d ≡ s d) → Rep p a s → Rep p b t
 rep-alike p a b s t ends angles strings rep = record {
   angles = λ d c. (omega (arith, angles d c, (rep.angles d c).0), omega (arith, angles d c, (rep.angles d c).1));
-  strings = λ d c. strings (mate p d) (ends.mate_inside d c) ∙ (rep.strings d c ∙ ap mirrored (sym (strings d c)));
+  strings = λ d c. strings (reverse_dart p d) (ends.reverse_dart_inside d c) ∙ (rep.strings d c ∙ ap mirrored (sym (strings d c)));
   around = λ v from to.
       sum_below-same (darts p) (λ d. cond (eqb (head p d) v) (b d) 0) (λ d. cond (eqb (head p d) v) (a d) 0) (λ d c. ap (λ (x : ℕ). cond (eqb (head p d) v) x 0) (angles d c))
       ∙ rep.around v from to;
@@ -24,7 +24,7 @@ rep-alike p a b s t ends angles strings rep = record {
 priced_same : (a b : ℕ) (s t : List Turn) (v v' f f' g g' : ℤ) → b ≡ a → t ≡ s → v' ≡ v → f' ≡ f → g' ≡ g → IsPriced a s v f g → IsPriced b t v' f' g'
 priced_same a b s t v v' f f' g g' ea et ev ef eg h = rw (ea, et, ev, ef, eg) h
 
-pub prove-alike : (p : Map) (a b : ℕ → ℕ) (s t : ℕ → List Turn) (v v' q q' : ℕ → ℤ) → HasEnds p → ((d : ℕ) → d < darts p → b d ≡ a d) → ((d : ℕ) → d < darts p → t d ≡ s d) → ((u : ℕ) → 1 ≤ u → u ≤ vertices p → v' u ≡ v u) → ((f : ℕ) → f < p.faces → q' f ≡ q f) → Prove p a s v q → Prove p b t v' q'
+pub prove-alike : (p : PlaneModel) (a b : ℕ → ℕ) (s t : ℕ → List Turn) (v v' q q' : ℕ → ℤ) → HasEnds p → ((d : ℕ) → d < darts p → b d ≡ a d) → ((d : ℕ) → d < darts p → t d ≡ s d) → ((u : ℕ) → 1 ≤ u → u ≤ vertices p → v' u ≡ v u) → ((f : ℕ) → f < p.faces → q' f ≡ q f) → Prove p a s v q → Prove p b t v' q'
 prove-alike p a b s t v v' q q' ends angles strings vertex face prove = λ d c.
-    priced_same (a d) (b d) (s d) (t d) (v (head p d)) (v' (head p d)) (q (face_at p d)) (q' (face_at p d)) (q (face_at p (mate p d))) (q' (face_at p (mate p d)))
-    (angles d c) (strings d c) (vertex (head p d) (ends.head_from d c) (ends.head_to d c)) (face (face_at p d) (ends.face_named d c)) (face (face_at p (mate p d)) (ends.face_named (mate p d) (ends.mate_inside d c))) (prove d c)
+    priced_same (a d) (b d) (s d) (t d) (v (head p d)) (v' (head p d)) (q (face_at p d)) (q' (face_at p d)) (q (face_at p (reverse_dart p d))) (q' (face_at p (reverse_dart p d)))
+    (angles d c) (strings d c) (vertex (head p d) (ends.head_from d c) (ends.head_to d c)) (face (face_at p d) (ends.face_named d c)) (face (face_at p (reverse_dart p d)) (ends.face_named (reverse_dart p d) (ends.reverse_dart_inside d c))) (prove d c)

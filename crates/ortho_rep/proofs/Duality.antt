@@ -9,7 +9,7 @@ use borrow.Author.Differences.{up, down}
 use Rattle.sums.specs.Sums.{sum_below}
 use Rattle.sums.proofs.Sums.{sum_below-same, sum_below-add, sum_below-le, sum_below-times, sum_below-one, exchanged, total_below-parts}
 use Rattle.ortho_rep.specs.declared.turn.Turn.{Turn}
-use Rattle.faces.specs.Map.{Map, HasEnds, darts, vertices, head, mate, face_at, with_outer}
+use Rattle.faces.specs.Planes.{PlaneModel, HasEnds, darts, vertices, head, reverse_dart, face_at, with_outer}
 use Rattle.ortho_rep.specs.Turns.{lefts, rights}
 use Rattle.ortho_rep.specs.Representation.{Rep, Least, bends_of, turning_of, turning_around, whole_turn}
 use Rattle.ortho_rep.specs.Prices.{IsPriced, Prove}
@@ -108,17 +108,17 @@ abbrev pub rights_of : (ℕ → List Turn) → ℕ → ℕ
 rights_of s d = rights (s d)
 
 -- a dart's right turns are its reverse's left turns
-pub rights_are : (p : Map) (a : ℕ → ℕ) (s : ℕ → List Turn) → Rep p a s → (d : ℕ) → d < darts p → rights_of s d ≡ lefts_of s (mate p d)
+pub rights_are : (p : PlaneModel) (a : ℕ → ℕ) (s : ℕ → List Turn) → Rep p a s → (d : ℕ) → d < darts p → rights_of s d ≡ lefts_of s (reverse_dart p d)
 rights_are p a s rep d b = sym (ap lefts (rep.strings d b) ∙ lefts-mirrored (s d))
 
 -- each face's turning, as two sums of natural numbers: what its darts turn to the left, and to the right
-abbrev pub gains : Map → (ℕ → ℕ) → (ℕ → List Turn) → ℕ → ℕ
+abbrev pub gains : PlaneModel → (ℕ → ℕ) → (ℕ → List Turn) → ℕ → ℕ
 gains p a s f = part_at (darts p) (face_at p) (λ d. 2 + lefts (s d)) f
 
-abbrev pub losses : Map → (ℕ → ℕ) → (ℕ → List Turn) → ℕ → ℕ
+abbrev pub losses : PlaneModel → (ℕ → ℕ) → (ℕ → List Turn) → ℕ → ℕ
 losses p a s f = part_at (darts p) (face_at p) (λ d. a d + rights (s d)) f
 
-pub turning-split : (p : Map) (a : ℕ → ℕ) (s : ℕ → List Turn) (f : ℕ) → turning_around p a s f ≡ pos (gains p a s f) -ℤ pos (losses p a s f)
+pub turning-split : (p : PlaneModel) (a : ℕ → ℕ) (s : ℕ → List Turn) (f : ℕ) → turning_around p a s f ≡ pos (gains p a s f) -ℤ pos (losses p a s f)
 turning-split p a s f =
     total_below-parts (darts p) (λ d. cond (eqb (face_at p d) f) (turning_of (a d) (s d)) (pos 0)) (λ d. cond (eqb (face_at p d) f) (2 + lefts (s d)) 0) (λ d. cond (eqb (face_at p d) f) (a d + rights (s d)) 0) (λ d b. split_one (eqb (face_at p d) f) (a d) (lefts (s d)) (rights (s d)))
   where
@@ -127,7 +127,7 @@ turning-split p a s f =
     split_one false angle left right = omega (arith, ints)
 
 -- at each vertex two representations have the same angles in all
-same_around : (p : Map) (h : ℕ) (a b : ℕ → ℕ) (s t : ℕ → List Turn) → HasEnds p → Rep p a s → Rep (with_outer p h) b t → (k : ℕ) → k < vertices p + 1 → part_at (darts p) (head p) a k ≡ part_at (darts p) (head p) b k
+same_around : (p : PlaneModel) (h : ℕ) (a b : ℕ → ℕ) (s t : ℕ → List Turn) → HasEnds p → Rep p a s → Rep (with_outer p h) b t → (k : ℕ) → k < vertices p + 1 → part_at (darts p) (head p) a k ≡ part_at (darts p) (head p) b k
 same_around p h a b s t ends one two k below =
     elim (cases_eq k 0) [
       | inl e ↦ sum_below-same (darts p) (λ d. cond (eqb (head p d) k) (a d) 0) (λ d. cond (eqb (head p d) k) (b d) 0)
@@ -141,7 +141,7 @@ abbrev crossed : (ℕ → ℕ) → (ℕ → List Turn) → (ℕ → List Turn) �
 crossed b s t d = 2 + lefts (s d) + (b d + rights (t d))
 
 -- round each face two representations turn alike, but for the eight quarter turns that an outer face has less
-same_turning : (p : Map) (h : ℕ) (a b : ℕ → ℕ) (s t : ℕ → List Turn) → Rep p a s → Rep (with_outer p h) b t → (f : ℕ) → f < p.faces → part_at (darts p) (face_at p) (crossed b s t) f + eight_at p.outer f ≡ part_at (darts p) (face_at p) (crossed a t s) f + eight_at h f
+same_turning : (p : PlaneModel) (h : ℕ) (a b : ℕ → ℕ) (s t : ℕ → List Turn) → Rep p a s → Rep (with_outer p h) b t → (f : ℕ) → f < p.faces → part_at (darts p) (face_at p) (crossed b s t) f + eight_at p.outer f ≡ part_at (darts p) (face_at p) (crossed a t s) f + eight_at h f
 same_turning p h a b s t one two f below =
     let turns_s : pos (gains p a s f) -ℤ pos (losses p a s f) ≡ whole_turn p f = sym (turning-split p a s f) ∙ one.faces f below in
     let turns_t : pos (gains p b t f) -ℤ pos (losses p b t f) ≡ whole_turn (with_outer p h) f = sym (turning-split p b t f) ∙ two.faces f below in
@@ -162,66 +162,66 @@ same_turning p h a b s t one two f below =
     cond_add true x y = refl
     cond_add false x y = refl
 
-    joined : (p : Map) (b : ℕ → ℕ) (s t : ℕ → List Turn) (f : ℕ) → part_at (darts p) (face_at p) (crossed b s t) f ≡ part_at (darts p) (face_at p) (λ d. 2 + lefts (s d)) f + part_at (darts p) (face_at p) (λ d. b d + rights (t d)) f
+    joined : (p : PlaneModel) (b : ℕ → ℕ) (s t : ℕ → List Turn) (f : ℕ) → part_at (darts p) (face_at p) (crossed b s t) f ≡ part_at (darts p) (face_at p) (λ d. 2 + lefts (s d)) f + part_at (darts p) (face_at p) (λ d. b d + rights (t d)) f
     joined p b s t f =
         sum_below-same (darts p) (λ d. cond (eqb (face_at p d) f) (crossed b s t d) 0) (λ d. cond (eqb (face_at p d) f) (2 + lefts (s d)) 0 + cond (eqb (face_at p d) f) (b d + rights (t d)) 0)
         (λ d c. cond_add (eqb (face_at p d) f) (2 + lefts (s d)) (b d + rights (t d)))
         ∙ sum_below-add (darts p) (λ d. cond (eqb (face_at p d) f) (2 + lefts (s d)) 0) (λ d. cond (eqb (face_at p d) f) (b d + rights (t d)) 0)
 
 -- under each weight of the vertices two representations have the same angles in all
-angles_weigh : (p : Map) (h : ℕ) (a b : ℕ → ℕ) (s t : ℕ → List Turn) → HasEnds p → Rep p a s → Rep (with_outer p h) b t → (w : ℕ → ℕ) → weighed (darts p) (λ d. w (head p d)) a ≡ weighed (darts p) (λ d. w (head p d)) b
+angles_weigh : (p : PlaneModel) (h : ℕ) (a b : ℕ → ℕ) (s t : ℕ → List Turn) → HasEnds p → Rep p a s → Rep (with_outer p h) b t → (w : ℕ → ℕ) → weighed (darts p) (λ d. w (head p d)) a ≡ weighed (darts p) (λ d. w (head p d)) b
 angles_weigh p h a b s t ends one two w =
     same_weighed (darts p) (vertices p + 1) (head p) a b w (λ d c. omega (arith, ends.head_to d c)) (same_around p h a b s t ends one two)
 
 -- a face's weight on what `crossed` counts, with right turns as left turns on the other side
-crossed_weigh : (p : Map) (b : ℕ → ℕ) (s t : ℕ → List Turn) → HasEnds p → ((d : ℕ) → d < darts p → rights_of t d ≡ lefts_of t (mate p d)) → (w : ℕ → ℕ) →
+crossed_weigh : (p : PlaneModel) (b : ℕ → ℕ) (s t : ℕ → List Turn) → HasEnds p → ((d : ℕ) → d < darts p → rights_of t d ≡ lefts_of t (reverse_dart p d)) → (w : ℕ → ℕ) →
     weighed (darts p) (λ d. w (face_at p d)) (crossed b s t)
-    ≡ sum_below (darts p) (λ d. w (face_at p d) * 2) + weighed (darts p) (λ d. w (face_at p d)) (lefts_of s) + weighed (darts p) (λ d. w (face_at p d)) b + weighed (darts p) (λ d. w (face_at p (mate p d))) (lefts_of t)
+    ≡ sum_below (darts p) (λ d. w (face_at p d) * 2) + weighed (darts p) (λ d. w (face_at p d)) (lefts_of s) + weighed (darts p) (λ d. w (face_at p d)) b + weighed (darts p) (λ d. w (face_at p (reverse_dart p d))) (lefts_of t)
 crossed_weigh p b s t ends rights_t w =
     let apart : weighed (darts p) (λ d. w (face_at p d)) (crossed b s t) ≡ sum_below (darts p) (λ d. w (face_at p d) * 2 + w (face_at p d) * lefts (s d) + w (face_at p d) * b d + w (face_at p d) * rights (t d)) =
     sum_below-same (darts p) (λ d. w (face_at p d) * crossed b s t d) (λ d. w (face_at p d) * 2 + w (face_at p d) * lefts (s d) + w (face_at p d) * b d + w (face_at p d) * rights (t d)) (λ d c. omega arith) in
     let split = sum-four (darts p) (λ d. w (face_at p d) * 2) (λ d. w (face_at p d) * lefts (s d)) (λ d. w (face_at p d) * b d) (λ d. w (face_at p d) * rights (t d)) in
-    let over : sum_below (darts p) (λ d. w (face_at p d) * rights (t d)) ≡ weighed (darts p) (λ d. w (face_at p d)) (λ d. lefts_of t (mate p d)) =
-    sum_below-same (darts p) (λ d. w (face_at p d) * rights (t d)) (λ d. w (face_at p d) * lefts_of t (mate p d)) (λ d c. ap (λ (z : ℕ). w (face_at p d) * z) (rights_t d c)) in
-    let back : weighed (darts p) (λ d. w (face_at p (mate p d))) (lefts_of t) ≡ weighed (darts p) (λ d. w (face_at p d)) (λ d. lefts_of t (mate p d)) =
-    paired (darts p) (mate p) (λ d. w (face_at p d)) (lefts_of t) ends.mate_inside ends.mate_back in
+    let over : sum_below (darts p) (λ d. w (face_at p d) * rights (t d)) ≡ weighed (darts p) (λ d. w (face_at p d)) (λ d. lefts_of t (reverse_dart p d)) =
+    sum_below-same (darts p) (λ d. w (face_at p d) * rights (t d)) (λ d. w (face_at p d) * lefts_of t (reverse_dart p d)) (λ d c. ap (λ (z : ℕ). w (face_at p d) * z) (rights_t d c)) in
+    let back : weighed (darts p) (λ d. w (face_at p (reverse_dart p d))) (lefts_of t) ≡ weighed (darts p) (λ d. w (face_at p d)) (λ d. lefts_of t (reverse_dart p d)) =
+    paired (darts p) (reverse_dart p) (λ d. w (face_at p d)) (lefts_of t) ends.reverse_dart_inside ends.reverse_dart_back in
     omega (arith, apart, split, over, back)
 
 -- under each weight of the faces, what flows into them by corners and by crossings is the same, but for the eight
 -- units of the outer faces
-faces_weigh : (p : Map) (h : ℕ) (a b : ℕ → ℕ) (s t : ℕ → List Turn) → HasEnds p → Rep p a s → Rep (with_outer p h) b t → (w : ℕ → ℕ) →
-    weighed (darts p) (λ d. w (face_at p d)) (lefts_of s) + weighed (darts p) (λ d. w (face_at p d)) b + weighed (darts p) (λ d. w (face_at p (mate p d))) (lefts_of t) + weighed p.faces w (eight_at p.outer)
-    ≡ weighed (darts p) (λ d. w (face_at p d)) (lefts_of t) + weighed (darts p) (λ d. w (face_at p d)) a + weighed (darts p) (λ d. w (face_at p (mate p d))) (lefts_of s) + weighed p.faces w (eight_at h)
+faces_weigh : (p : PlaneModel) (h : ℕ) (a b : ℕ → ℕ) (s t : ℕ → List Turn) → HasEnds p → Rep p a s → Rep (with_outer p h) b t → (w : ℕ → ℕ) →
+    weighed (darts p) (λ d. w (face_at p d)) (lefts_of s) + weighed (darts p) (λ d. w (face_at p d)) b + weighed (darts p) (λ d. w (face_at p (reverse_dart p d))) (lefts_of t) + weighed p.faces w (eight_at p.outer)
+    ≡ weighed (darts p) (λ d. w (face_at p d)) (lefts_of t) + weighed (darts p) (λ d. w (face_at p d)) a + weighed (darts p) (λ d. w (face_at p (reverse_dart p d))) (lefts_of s) + weighed p.faces w (eight_at h)
 faces_weigh p h a b s t ends one two w =
     let same = moved_weighed (darts p) p.faces (face_at p) (crossed b s t) (crossed a t s) w p.outer h ends.face_named (same_turning p h a b s t one two) in
     omega (arith, same, crossed_weigh p b s t ends (rights_are (with_outer p h) b t two) w, crossed_weigh p a t s ends (rights_are p a s one) w)
 
 -- the strings' lengths are twice the left turns
-lengths-mirrored : (p : Map) (s : ℕ → List Turn) → HasEnds p → ((d : ℕ) → d < darts p → rights_of s d ≡ lefts_of s (mate p d)) → sum_below (darts p) (λ d. length (s d)) ≡ 2 * sum_below (darts p) (lefts_of s)
+lengths-mirrored : (p : PlaneModel) (s : ℕ → List Turn) → HasEnds p → ((d : ℕ) → d < darts p → rights_of s d ≡ lefts_of s (reverse_dart p d)) → sum_below (darts p) (λ d. length (s d)) ≡ 2 * sum_below (darts p) (lefts_of s)
 lengths-mirrored p s ends rights_s =
-    let all : sum_below (darts p) (λ d. length (s d)) ≡ sum_below (darts p) (λ d. lefts_of s d + 1 * lefts_of s (mate p d)) =
-    sum_below-same (darts p) (λ d. length (s d)) (λ d. lefts_of s d + 1 * lefts_of s (mate p d)) (λ d b. omega (arith, lefts-add-rights (s d), rights_s d b)) in
-    let parts = sum_below-add (darts p) (lefts_of s) (λ d. 1 * lefts_of s (mate p d)) in
-    let back : weighed (darts p) (λ d. 1) (lefts_of s) ≡ weighed (darts p) (λ d. 1) (λ d. lefts_of s (mate p d)) =
-    paired (darts p) (mate p) (λ d. 1) (lefts_of s) ends.mate_inside ends.mate_back in
+    let all : sum_below (darts p) (λ d. length (s d)) ≡ sum_below (darts p) (λ d. lefts_of s d + 1 * lefts_of s (reverse_dart p d)) =
+    sum_below-same (darts p) (λ d. length (s d)) (λ d. lefts_of s d + 1 * lefts_of s (reverse_dart p d)) (λ d b. omega (arith, lefts-add-rights (s d), rights_s d b)) in
+    let parts = sum_below-add (darts p) (lefts_of s) (λ d. 1 * lefts_of s (reverse_dart p d)) in
+    let back : weighed (darts p) (λ d. 1) (lefts_of s) ≡ weighed (darts p) (λ d. 1) (λ d. lefts_of s (reverse_dart p d)) =
+    paired (darts p) (reverse_dart p) (λ d. 1) (lefts_of s) ends.reverse_dart_inside ends.reverse_dart_back in
     let ones = sum_below-times (darts p) 1 (lefts_of s) in
     omega (arith, all, parts, back, ones)
 
-pub lengths-twice : (p : Map) (a : ℕ → ℕ) (s : ℕ → List Turn) → HasEnds p → Rep p a s → sum_below (darts p) (λ d. length (s d)) ≡ 2 * sum_below (darts p) (lefts_of s)
+pub lengths-twice : (p : PlaneModel) (a : ℕ → ℕ) (s : ℕ → List Turn) → HasEnds p → Rep p a s → sum_below (darts p) (λ d. length (s d)) ≡ 2 * sum_below (darts p) (lefts_of s)
 lengths-twice p a s ends rep = lengths-mirrored p s ends (rights_are p a s rep)
 
 -- a face's price on its own darts, and across
-abbrev own : Map → (ℕ → ℤ) → (ℤ → ℕ) → ℕ → ℕ
+abbrev own : PlaneModel → (ℕ → ℤ) → (ℤ → ℕ) → ℕ → ℕ
 own p q side d = side (q (face_at p d))
 
-abbrev across : Map → (ℕ → ℤ) → (ℤ → ℕ) → ℕ → ℕ
-across p q side d = side (q (face_at p (mate p d)))
+abbrev across : PlaneModel → (ℕ → ℤ) → (ℤ → ℕ) → ℕ → ℕ
+across p q side d = side (q (face_at p (reverse_dart p d)))
 
-abbrev at_head : Map → (ℕ → ℤ) → (ℤ → ℕ) → ℕ → ℕ
+abbrev at_head : PlaneModel → (ℕ → ℤ) → (ℤ → ℕ) → ℕ → ℕ
 at_head p v side d = side (v (head p d))
 
 -- one corner: by the prices another angle is no cheaper
-corner : (p : Map) (a b : ℕ → ℕ) (s : ℕ → List Turn) (v q : ℕ → ℤ) (d : ℕ) → IsPriced (a d) (s d) (v (head p d)) (q (face_at p d)) (q (face_at p (mate p d))) → (1 ≤ a d) × (a d ≤ 4) → (1 ≤ b d) × (b d ≤ 4) →
+corner : (p : PlaneModel) (a b : ℕ → ℕ) (s : ℕ → List Turn) (v q : ℕ → ℤ) (d : ℕ) → IsPriced (a d) (s d) (v (head p d)) (q (face_at p d)) (q (face_at p (reverse_dart p d))) → (1 ≤ a d) × (a d ≤ 4) → (1 ≤ b d) × (b d ≤ 4) →
     at_head p v up d * a d + own p q down d * a d + at_head p v down d * b d + own p q up d * b d
     ≤ at_head p v up d * b d + own p q down d * b d + at_head p v down d * a d + own p q up d * a d
 corner p a b s v q d priced of_a of_b =
@@ -233,7 +233,7 @@ corner p a b s v q d priced of_a of_b =
     )
 
 -- one crossing: by the prices other left turns are no cheaper
-crossing : (p : Map) (a : ℕ → ℕ) (s t : ℕ → List Turn) (v q : ℕ → ℤ) (d : ℕ) → IsPriced (a d) (s d) (v (head p d)) (q (face_at p d)) (q (face_at p (mate p d))) →
+crossing : (p : PlaneModel) (a : ℕ → ℕ) (s t : ℕ → List Turn) (v q : ℕ → ℤ) (d : ℕ) → IsPriced (a d) (s d) (v (head p d)) (q (face_at p d)) (q (face_at p (reverse_dart p d))) →
     lefts_of s d + (own p q up d * lefts_of s d + across p q down d * lefts_of s d) + own p q down d * lefts_of t d + across p q up d * lefts_of t d
     ≤ lefts_of t d + (own p q up d * lefts_of t d + across p q down d * lefts_of t d) + own p q down d * lefts_of s d + across p q up d * lefts_of s d
 crossing p a s t v q d priced =
@@ -245,7 +245,7 @@ crossing p a s t v q d priced =
     )
 
 -- the same of all corners
-corners : (p : Map) (a b : ℕ → ℕ) (s t : ℕ → List Turn) (v q : ℕ → ℤ) → Prove p a s v q → Rep p a s → ((d : ℕ) → d < darts p → (1 ≤ b d) × (b d ≤ 4)) →
+corners : (p : PlaneModel) (a b : ℕ → ℕ) (s t : ℕ → List Turn) (v q : ℕ → ℤ) → Prove p a s v q → Rep p a s → ((d : ℕ) → d < darts p → (1 ≤ b d) × (b d ≤ 4)) →
     weighed (darts p) (at_head p v up) a + weighed (darts p) (own p q down) a + weighed (darts p) (at_head p v down) b + weighed (darts p) (own p q up) b
     ≤ weighed (darts p) (at_head p v up) b + weighed (darts p) (own p q down) b + weighed (darts p) (at_head p v down) a + weighed (darts p) (own p q up) a
 corners p a b s t v q prove one angles =
@@ -258,7 +258,7 @@ corners p a b s t v q prove one angles =
     omega (arith, each, left, right)
 
 -- the same of all crossings
-crossings : (p : Map) (a : ℕ → ℕ) (s t : ℕ → List Turn) (v q : ℕ → ℤ) → Prove p a s v q →
+crossings : (p : PlaneModel) (a : ℕ → ℕ) (s t : ℕ → List Turn) (v q : ℕ → ℤ) → Prove p a s v q →
     sum_below (darts p) (lefts_of s) + weighed (darts p) (own p q up) (lefts_of s) + weighed (darts p) (across p q down) (lefts_of s) + weighed (darts p) (own p q down) (lefts_of t) + weighed (darts p) (across p q up) (lefts_of t)
     ≤ sum_below (darts p) (lefts_of t) + weighed (darts p) (own p q up) (lefts_of t) + weighed (darts p) (across p q down) (lefts_of t) + weighed (darts p) (own p q down) (lefts_of s) + weighed (darts p) (across p q up) (lefts_of s)
 crossings p a s t v q prove =
@@ -268,7 +268,7 @@ crossings p a s t v q prove =
     (λ d c. crossing p a s t v q d (prove d c)) in
     omega (arith, each, sum-crossing p q s t, sum-crossing p q t s)
   where
-    sum-crossing : (p : Map) (q : ℕ → ℤ) (s t : ℕ → List Turn) →
+    sum-crossing : (p : PlaneModel) (q : ℕ → ℤ) (s t : ℕ → List Turn) →
         sum_below (darts p) (λ d. lefts_of s d + (own p q up d * lefts_of s d + across p q down d * lefts_of s d) + own p q down d * lefts_of t d + across p q up d * lefts_of t d)
         ≡ sum_below (darts p) (lefts_of s) + weighed (darts p) (own p q up) (lefts_of s) + weighed (darts p) (across p q down) (lefts_of s) + weighed (darts p) (own p q down) (lefts_of t) + weighed (darts p) (across p q up) (lefts_of t)
     sum-crossing p q s t =
@@ -280,7 +280,7 @@ crossings p a s t v q prove =
 
 -- no representation with the outer face h has fewer left turns than one that prices prove, with as many more as the
 -- prices of the two outer faces tell
-fewest_lefts : (p : Map) (h : ℕ) (a b : ℕ → ℕ) (s t : ℕ → List Turn) (v q : ℕ → ℤ) → HasEnds p → Prove p a s v q → Rep p a s → Rep (with_outer p h) b t →
+fewest_lefts : (p : PlaneModel) (h : ℕ) (a b : ℕ → ℕ) (s t : ℕ → List Turn) (v q : ℕ → ℤ) → HasEnds p → Prove p a s v q → Rep p a s → Rep (with_outer p h) b t →
     sum_below (darts p) (lefts_of s) + weighed p.faces (λ k. up (q k)) (eight_at h) + weighed p.faces (λ k. down (q k)) (eight_at p.outer)
     ≤ sum_below (darts p) (lefts_of t) + weighed p.faces (λ k. up (q k)) (eight_at p.outer) + weighed p.faces (λ k. down (q k)) (eight_at h)
 fewest_lefts p h a b s t v q ends prove one two =
@@ -295,14 +295,14 @@ fewest_lefts p h a b s t v q ends prove one two =
     )
 
 -- a representation whose prices prove it is least
-pub least_by_prices : (p : Map) (a : ℕ → ℕ) (s : ℕ → List Turn) (v q : ℕ → ℤ) → HasEnds p → Rep p a s → Prove p a s v q → Least p a s
+pub least_by_prices : (p : PlaneModel) (a : ℕ → ℕ) (s : ℕ → List Turn) (v q : ℕ → ℤ) → HasEnds p → Rep p a s → Prove p a s v q → Least p a s
 least_by_prices p a s v q ends rep prove = record {
   rep = rep;
   least = λ b t other. omega (arith, fewest_lefts p p.outer a b s t v q ends prove rep other, lengths-twice p a s ends rep, lengths-twice p b t ends other);
 }
 
 -- with the outer face h at least as many more bends are needed as it is dearer than the outer face, eight times
-pub more_by_prices : (p : Map) (h : ℕ) (a b : ℕ → ℕ) (s t : ℕ → List Turn) (v q : ℕ → ℤ) → HasEnds p → p.outer < p.faces → h < p.faces → Rep p a s → Prove p a s v q → Rep (with_outer p h) b t →
+pub more_by_prices : (p : PlaneModel) (h : ℕ) (a b : ℕ → ℕ) (s t : ℕ → List Turn) (v q : ℕ → ℤ) → HasEnds p → p.outer < p.faces → h < p.faces → Rep p a s → Prove p a s v q → Rep (with_outer p h) b t →
     bends_of (darts p) s + 8 * up (q h) + 8 * down (q p.outer) ≤ bends_of (darts p) t + 8 * up (q p.outer) + 8 * down (q h)
 more_by_prices p h a b s t v q ends outer inside rep prove other =
     omega (

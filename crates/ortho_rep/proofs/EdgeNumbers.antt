@@ -6,14 +6,14 @@ use Rattle.std.proofs.lemmas.List.FromFn.{map-range_with_len_more}
 use Rattle.std.proofs.lemmas.List.Elements.{filter-append}
 use Rattle.sums.specs.Sums.{sum_below}
 use Rattle.sums.proofs.Sums.{sum_below-more, sum_below-same, sum_below-constant, sum_below-add, sum_below-split, sum_below-le, sum_below-turned}
-use Rattle.faces.specs.Map.{Map, HasEnds, darts, mate}
+use Rattle.faces.specs.Planes.{PlaneModel, HasEnds, darts, reverse_dart}
 use Rattle.ortho_rep.specs.Edges.{is_lesser, edge_number}
 
 -- 1 for a lesser dart
-abbrev one_if_lesser : Map → ℕ → ℕ
+abbrev one_if_lesser : PlaneModel → ℕ → ℕ
 one_if_lesser p d = cond (is_lesser p d) 1 0
 
--- of a dart and its mate one is lesser
+-- of a dart and its reverse one is lesser
 one_of : (a b c : ℕ) → b ≢ a → c ≡ a → cond (ltb a b) 1 0 + cond (ltb b c) 1 0 ≡ 1
 one_of a b c apart same =
     elim (cases_lt a b) [
@@ -22,28 +22,28 @@ one_of a b c apart same =
     ]
 
 -- the edges are half as many as the darts
-pub edge_total : (p : Map) → HasEnds p → 2 * edge_number p (darts p) ≡ darts p
+pub edge_total : (p : PlaneModel) → HasEnds p → 2 * edge_number p (darts p) ≡ darts p
 edge_total p ends =
     let n = darts p in
-    let turned : sum_below n (λ d. one_if_lesser p (mate p d)) ≡ sum_below n (one_if_lesser p) =
-    sum_below-turned n (mate p) (one_if_lesser p) ends.mate_inside ends.mate_back in
-    let ones : sum_below n (λ d. one_if_lesser p d + one_if_lesser p (mate p d)) ≡ sum_below n (λ _. 1) =
-    sum_below-same n (λ d. one_if_lesser p d + one_if_lesser p (mate p d)) (λ _. 1) (λ d b. one_of d (mate p d) (mate p (mate p d)) (ends.mate_apart d b) (ends.mate_back d b)) in
-    omega (arith, turned, ones, sum_below-add n (one_if_lesser p) (λ d. one_if_lesser p (mate p d)), sum_below-constant n 1)
+    let turned : sum_below n (λ d. one_if_lesser p (reverse_dart p d)) ≡ sum_below n (one_if_lesser p) =
+    sum_below-turned n (reverse_dart p) (one_if_lesser p) ends.reverse_dart_inside ends.reverse_dart_back in
+    let ones : sum_below n (λ d. one_if_lesser p d + one_if_lesser p (reverse_dart p d)) ≡ sum_below n (λ _. 1) =
+    sum_below-same n (λ d. one_if_lesser p d + one_if_lesser p (reverse_dart p d)) (λ _. 1) (λ d b. one_of d (reverse_dart p d) (reverse_dart p (reverse_dart p d)) (ends.reverse_dart_apart d b) (ends.reverse_dart_back d b)) in
+    omega (arith, turned, ones, sum_below-add n (one_if_lesser p) (λ d. one_if_lesser p (reverse_dart p d)), sum_below-constant n 1)
 
 -- a lesser dart comes before the number of edges is reached
-pub edge_number-below : (p : Map) (n d : ℕ) → d < n → is_lesser p d ≡ true → edge_number p d < edge_number p n
+pub edge_number-below : (p : PlaneModel) (n d : ℕ) → d < n → is_lesser p d ≡ true → edge_number p d < edge_number p n
 edge_number-below p n d inside lesser =
     let whole : d + 1 + (n - (d + 1)) ≡ n = omega arith in
     let split = subst (λ (m : ℕ). sum_below m (one_if_lesser p) ≡ sum_below (d + 1) (one_if_lesser p) + sum_below (n - (d + 1)) (λ i. one_if_lesser p (d + 1 + i))) whole (sum_below-split (d + 1) (n - (d + 1)) (one_if_lesser p)) in
     let one : one_if_lesser p d ≡ 1 = rw lesser refl in
     omega (arith, split, sum_below-more d (one_if_lesser p), one)
 
-pub edge_number-more : (p : Map) (d : ℕ) → edge_number p (d + 1) ≡ edge_number p d + cond (is_lesser p d) 1 0
+pub edge_number-more : (p : PlaneModel) (d : ℕ) → edge_number p (d + 1) ≡ edge_number p d + cond (is_lesser p d) 1 0
 edge_number-more p d = sum_below-more d (one_if_lesser p)
 
 -- an edge's number is at most its lesser dart's
-pub edge_number-le : (p : Map) (d : ℕ) → edge_number p d ≤ d
+pub edge_number-le : (p : PlaneModel) (d : ℕ) → edge_number p d ≤ d
 edge_number-le p d =
     omega (arith, sum_below-le d (one_if_lesser p) (λ _. 1) (λ i b. cond_both (is_lesser p i) 1 0 (λ (n : ℕ). n ≤ 1) (λ e. omega arith) (λ e. omega arith)), sum_below-constant d 1)
 
@@ -56,7 +56,7 @@ lesser-more q n =
     range_more m = sym (map-id (range_with_len 0 (m + 1))) ∙ (map-range_with_len_more (λ k. k) 0 m m (omega arith) ∙ ap (λ (l : List ℕ). l ++ m ∷ []) (map-id (range_with_len 0 m)))
 
 -- there are as many lesser darts as edges
-pub length-lesser : (p : Map) (n : ℕ) → length (filter (is_lesser p) (range_with_len 0 n)) ≡ edge_number p n
+pub length-lesser : (p : PlaneModel) (n : ℕ) → length (filter (is_lesser p) (range_with_len 0 n)) ≡ edge_number p n
 length-lesser p zero = refl
 length-lesser p (suc n) =
     let one : n + 1 ≡ suc n = omega arith in

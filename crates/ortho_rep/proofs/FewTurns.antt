@@ -8,7 +8,7 @@ use lib.Signed.{lt_z}
 use Rattle.sums.specs.Sums.{sum_below}
 use Rattle.sums.proofs.Sums.{sum_below-same, sum_below-add, sum_below-le, sum_below-constant, exchanged}
 use Rattle.ortho_rep.specs.declared.turn.Turn.{Turn}
-use Rattle.faces.specs.Map.{Map, HasEnds, darts, vertices, head, mate, face_at}
+use Rattle.faces.specs.Planes.{PlaneModel, HasEnds, darts, vertices, head, reverse_dart, face_at}
 use Rattle.ortho_rep.specs.Turns.{lefts, rights}
 use Rattle.ortho_rep.specs.Representation.{Rep, whole_turn}
 use Rattle.ortho_rep.specs.Prices.{IsPriced, Prove}
@@ -45,7 +45,7 @@ sum-gap (suc n) a c f g b each here =
     ]
 
 -- the angles at low vertices
-low_angles : (p : Map) (a : ℕ → ℕ) (s : ℕ → List Turn) (w : ℕ → ℕ) → HasEnds p → Rep p a s → ((v : ℕ) → w v ≤ 1) → weighed (darts p) (λ d. w (head p d)) a ≤ 4 * (vertices p + 1)
+low_angles : (p : PlaneModel) (a : ℕ → ℕ) (s : ℕ → List Turn) (w : ℕ → ℕ) → HasEnds p → Rep p a s → ((v : ℕ) → w v ≤ 1) → weighed (darts p) (λ d. w (head p d)) a ≤ 4 * (vertices p + 1)
 low_angles p a s w ends rep few =
     let n = vertices p + 1 in
     let all : sum_below n (λ v. w v * part_at (darts p) (head p) a v) ≡ weighed (darts p) (λ d. w (head p d)) a = exchanged (darts p) n (head p) a w (λ d b. omega (arith, ends.head_to d b)) in
@@ -69,7 +69,7 @@ low_angles p a s w ends rep few =
         ]
 
 -- what low faces gain, but for 4 each, they lose
-low_faces : (p : Map) (a : ℕ → ℕ) (s : ℕ → List Turn) (w : ℕ → ℕ) → HasEnds p → Rep p a s → ((f : ℕ) → w f ≤ 1) →
+low_faces : (p : PlaneModel) (a : ℕ → ℕ) (s : ℕ → List Turn) (w : ℕ → ℕ) → HasEnds p → Rep p a s → ((f : ℕ) → w f ≤ 1) →
     weighed (darts p) (λ d. w (face_at p d)) (λ d. 2 + lefts (s d)) ≤ weighed (darts p) (λ d. w (face_at p d)) (λ d. a d + rights (s d)) + 4 * p.faces
 low_faces p a s w ends rep few =
     let gain : sum_below p.faces (λ f. w f * gains p a s f) ≡ weighed (darts p) (λ d. w (face_at p d)) (λ d. 2 + lefts (s d)) = exchanged (darts p) p.faces (face_at p) (λ d. 2 + lefts (s d)) w ends.face_named in
@@ -128,22 +128,22 @@ high_crossing angle turns vertex face across priced =
     ]
 
 -- a dart of a representation that prices prove has few left turns
-few_lefts : (p : Map) (a : ℕ → ℕ) (s : ℕ → List Turn) (v q : ℕ → ℤ) → HasEnds p → Rep p a s → Prove p a s v q → (d : ℕ) → d < darts p → lefts (s d) ≤ 4 * (vertices p + 1) + darts p + 4 * p.faces
+few_lefts : (p : PlaneModel) (a : ℕ → ℕ) (s : ℕ → List Turn) (v q : ℕ → ℤ) → HasEnds p → Rep p a s → Prove p a s v q → (d : ℕ) → d < darts p → lefts (s d) ≤ 4 * (vertices p + 1) + darts p + 4 * p.faces
 few_lefts p a s v q ends rep prove e b =
     let k = q (face_at p e) in
     let n = darts p in
     let own = λ (d : ℕ). low k (q (face_at p d)) in
-    let over = λ (d : ℕ). low k (q (face_at p (mate p d))) in
+    let over = λ (d : ℕ). low k (q (face_at p (reverse_dart p d))) in
     let at_head = λ (d : ℕ). low k (v (head p d)) in
     let corners : sum_below n (λ d. own d * a d) ≤ sum_below n (λ d. at_head d * a d + 1) =
-    sum_below-le n (λ d. own d * a d) (λ d. at_head d * a d + 1) (λ d c. low_corner k (a d) (s d) (v (head p d)) (q (face_at p d)) (q (face_at p (mate p d))) (prove d c)) in
+    sum_below-le n (λ d. own d * a d) (λ d. at_head d * a d + 1) (λ d c. low_corner k (a d) (s d) (v (head p d)) (q (face_at p d)) (q (face_at p (reverse_dart p d))) (prove d c)) in
     let crossings : sum_below n (λ d. over d * lefts_of s d) + lefts (s e) ≤ sum_below n (λ d. own d * lefts_of s d) =
     sum-gap n e (lefts (s e)) (λ d. over d * lefts_of s d) (λ d. own d * lefts_of s d) b
-    (λ d c. low_crossing k (a d) (s d) (v (head p d)) (q (face_at p d)) (q (face_at p (mate p d))) (prove d c))
-    (high_crossing (a e) (s e) (v (head p e)) (q (face_at p e)) (q (face_at p (mate p e))) (prove e b)) in
-    let back : weighed n over (lefts_of s) ≡ weighed n own (λ d. lefts_of s (mate p d)) = paired n (mate p) own (lefts_of s) ends.mate_inside ends.mate_back in
-    let rights_here : sum_below n (λ d. own d * rights (s d)) ≡ weighed n own (λ d. lefts_of s (mate p d)) =
-    sum_below-same n (λ d. own d * rights (s d)) (λ d. own d * lefts_of s (mate p d)) (λ d c. ap (λ (z : ℕ). own d * z) (rights_are p a s rep d c)) in
+    (λ d c. low_crossing k (a d) (s d) (v (head p d)) (q (face_at p d)) (q (face_at p (reverse_dart p d))) (prove d c))
+    (high_crossing (a e) (s e) (v (head p e)) (q (face_at p e)) (q (face_at p (reverse_dart p e))) (prove e b)) in
+    let back : weighed n over (lefts_of s) ≡ weighed n own (λ d. lefts_of s (reverse_dart p d)) = paired n (reverse_dart p) own (lefts_of s) ends.reverse_dart_inside ends.reverse_dart_back in
+    let rights_here : sum_below n (λ d. own d * rights (s d)) ≡ weighed n own (λ d. lefts_of s (reverse_dart p d)) =
+    sum_below-same n (λ d. own d * rights (s d)) (λ d. own d * lefts_of s (reverse_dart p d)) (λ d c. ap (λ (z : ℕ). own d * z) (rights_are p a s rep d c)) in
     let gain : weighed n own (λ d. 2 + lefts (s d)) ≡ sum_below n (λ d. own d * 2) + sum_below n (λ d. own d * lefts_of s d) =
     sum_below-same n (λ d. own d * (2 + lefts (s d))) (λ d. own d * 2 + own d * lefts_of s d) (λ d c. omega arith) ∙ sum_below-add n (λ d. own d * 2) (λ d. own d * lefts_of s d) in
     let loss : weighed n own (λ d. a d + rights (s d)) ≡ sum_below n (λ d. own d * a d) + sum_below n (λ d. own d * rights (s d)) =
@@ -163,7 +163,7 @@ few_lefts p a s v q ends rep prove e b =
     )
 
 -- so its string is short
-pub few_turns : (p : Map) (a : ℕ → ℕ) (s : ℕ → List Turn) (v q : ℕ → ℤ) → HasEnds p → vertices p ≤ 255 → Rep p a s → Prove p a s v q → (d : ℕ) → d < darts p → length (s d) ≤ 6144
+pub few_turns : (p : PlaneModel) (a : ℕ → ℕ) (s : ℕ → List Turn) (v q : ℕ → ℤ) → HasEnds p → vertices p ≤ 255 → Rep p a s → Prove p a s v q → (d : ℕ) → d < darts p → length (s d) ≤ 6144
 few_turns p a s v q ends order rep prove d b =
     omega (
       arith,
@@ -172,5 +172,5 @@ few_turns p a s v q ends order rep prove d b =
       ends.few_darts,
       ends.few_faces,
       few_lefts p a s v q ends rep prove d b,
-      few_lefts p a s v q ends rep prove (mate p d) (ends.mate_inside d b),
+      few_lefts p a s v q ends rep prove (reverse_dart p d) (ends.reverse_dart_inside d b),
     )

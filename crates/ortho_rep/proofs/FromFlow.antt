@@ -6,7 +6,7 @@ use Rattle.std.proofs.lemmas.Int.{ints}
 use Rattle.std.proofs.lemmas.List.{map-append, reverse-append, replicate-append-replicate, length-replicate}
 use Rattle.sums.specs.Sums.{sum_below}
 use Rattle.sums.proofs.Sums.{sum_below-same, sum_below-add, sum_below-none, sum_below-split, sum_below-turned}
-use Rattle.faces.specs.Map.{Map, HasEnds, darts, vertices, head, mate, face_at, degree}
+use Rattle.faces.specs.Planes.{PlaneModel, HasEnds, darts, vertices, head, reverse_dart, face_at, degree}
 use Rattle.networks.specs.declared.arc.Arc.{Arc}
 use Rattle.networks.specs.Net.{Net, arc_count, arc_at}
 use Rattle.networks.specs.Flow.{Flow, HasPotentials, IsWithin, HasRoom, leaves, enters, balance}
@@ -16,8 +16,8 @@ use Rattle.flow_network.specs.FaceNet.{IsFaceNet, arrivals}
 use Rattle.ortho_rep.specs.Turns.{opposite, mirrored, lefts, rights}
 use Rattle.ortho_rep.specs.Representation.{Rep, IsShape, IsLeast, angles_around, turning_around, whole_turn}
 use Rattle.ortho_rep.specs.OfFlow.{lefts_then_rights, angles_of, strings_of}
-use Rattle.ortho_rep.specs.Prices.{Tariff, Prove, IsProof, vertex_price, face_price}
-use Rattle.ortho_rep.specs.Shapes.{Figure, angle_at, turns_at}
+use Rattle.ortho_rep.specs.Prices.{PricesModel, Prove, IsProof, vertex_price, face_price}
+use Rattle.ortho_rep.specs.Shapes.{ShapeModel, angle_at, turns_at}
 use Rattle.ortho_rep.proofs.FewTurns.{few_turns}
 use Rattle.ortho_rep.proofs.TurnLemmas.{lefts-cons, rights-cons}
 use Rattle.ortho_rep.proofs.Duality.{part_at, gains, losses, turning-split, least_by_prices}
@@ -81,7 +81,7 @@ part-same m at y z k same =
     sum_below-same m (λ d. cond (eqb (at d) k) (y d) 0) (λ d. cond (eqb (at d) k) (z d) 0) (λ d b. ap (λ (w : ℕ). cond (eqb (at d) k) w 0) (same d))
 
 -- what leaves a node, and what enters it, by corners and by crossings
-leaves-parts : (p : Map) (net : Net) (x : ℕ → ℕ) (k : ℕ) → IsFaceNet p net → leaves net x k ≡ part_at (darts p) (λ d. head p d - 1) x k + part_at (darts p) (λ d. vertices p + face_at p d) (λ d. x (darts p + d)) k
+leaves-parts : (p : PlaneModel) (net : Net) (x : ℕ → ℕ) (k : ℕ) → IsFaceNet p net → leaves net x k ≡ part_at (darts p) (λ d. head p d - 1) x k + part_at (darts p) (λ d. vertices p + face_at p d) (λ d. x (darts p + d)) k
 leaves-parts p net x k is =
     let n = darts p in
     ap (λ (m : ℕ). sum_below m (λ i. cond (eqb (arc_at net i).from k) (x i) 0)) is.arcs
@@ -93,20 +93,20 @@ leaves-parts p net x k is =
     ap2_add : {a b c d : ℕ} → a ≡ b → c ≡ d → a + c ≡ b + d
     ap2_add e h = omega (arith, e, h)
 
-enters-parts : (p : Map) (net : Net) (x : ℕ → ℕ) (k : ℕ) → IsFaceNet p net → enters net x k ≡ part_at (darts p) (λ d. vertices p + face_at p d) x k + part_at (darts p) (λ d. vertices p + face_at p (mate p d)) (λ d. x (darts p + d)) k
+enters-parts : (p : PlaneModel) (net : Net) (x : ℕ → ℕ) (k : ℕ) → IsFaceNet p net → enters net x k ≡ part_at (darts p) (λ d. vertices p + face_at p d) x k + part_at (darts p) (λ d. vertices p + face_at p (reverse_dart p d)) (λ d. x (darts p + d)) k
 enters-parts p net x k is =
     let n = darts p in
     ap (λ (m : ℕ). sum_below m (λ i. cond (eqb (arc_at net i).to k) (x i) 0)) is.arcs
     ∙ (sum_below-split n n (λ i. cond (eqb (arc_at net i).to k) (x i) 0)
     ∙ ap2_add
     (part-alike n (λ d. (arc_at net d).to) (λ d. vertices p + face_at p d) x k k (λ d b. ap (λ (arc : Arc). eqb arc.to k) (is.corner d b)))
-    (part-alike n (λ d. (arc_at net (n + d)).to) (λ d. vertices p + face_at p (mate p d)) (λ d. x (n + d)) k k (λ d b. ap (λ (arc : Arc). eqb arc.to k) (is.crossing d b))))
+    (part-alike n (λ d. (arc_at net (n + d)).to) (λ d. vertices p + face_at p (reverse_dart p d)) (λ d. x (n + d)) k k (λ d b. ap (λ (arc : Arc). eqb arc.to k) (is.crossing d b))))
   where
     ap2_add : {a b c d : ℕ} → a ≡ b → c ≡ d → a + c ≡ b + d
     ap2_add e h = omega (arith, e, h)
 
 -- at a vertex: its corners carry what the angles have beyond 1
-around_vertex : (p : Map) (net : Net) (x : ℕ → ℕ) (v : ℕ) → HasEnds p → IsFaceNet p net → Flow net x → 1 ≤ v → v ≤ vertices p → angles_around p (angles_of x) v ≡ 4
+around_vertex : (p : PlaneModel) (net : Net) (x : ℕ → ℕ) (v : ℕ) → HasEnds p → IsFaceNet p net → Flow net x → 1 ≤ v → v ≤ vertices p → angles_around p (angles_of x) v ≡ 4
 around_vertex p net x v ends is flow from to =
     let n = darts p in
     let k = v - 1 in
@@ -114,26 +114,26 @@ around_vertex p net x v ends is flow from to =
     part-alike n (λ d. head p d - 1) (head p) x k v (λ d b. eqb-alike (head p d - 1) k (head p d) v (λ e. omega (arith, ends.head_from d b)) (λ e. omega arith)) in
     let out : part_at n (λ d. vertices p + face_at p d) (λ d. x (n + d)) k ≡ 0 = part-none n (λ d. vertices p + face_at p d) (λ d. x (n + d)) k (λ d b e. omega arith) in
     let in_corner : part_at n (λ d. vertices p + face_at p d) x k ≡ 0 = part-none n (λ d. vertices p + face_at p d) x k (λ d b e. omega arith) in
-    let in_crossing : part_at n (λ d. vertices p + face_at p (mate p d)) (λ d. x (n + d)) k ≡ 0 = part-none n (λ d. vertices p + face_at p (mate p d)) (λ d. x (n + d)) k (λ d b e. omega arith) in
+    let in_crossing : part_at n (λ d. vertices p + face_at p (reverse_dart p d)) (λ d. x (n + d)) k ≡ 0 = part-none n (λ d. vertices p + face_at p (reverse_dart p d)) (λ d. x (n + d)) k (λ d b e. omega arith) in
     let meets : balance net x k ≡ pos 4 -ℤ pos (arrivals p v) = flow.meets k (omega (arith, is.nodes)) ∙ is.at_vertex v from to in
     let angles : angles_around p (angles_of x) v ≡ part_at n (head p) x v + arrivals p v = part-add n (head p) x (λ d. 1) v in
     omega (arith, ints, corners, out, in_corner, in_crossing, meets, angles, leaves-parts p net x k is, enters-parts p net x k is)
 
 -- at a face: its turning is what its corners and crossings carry
-around_face : (p : Map) (net : Net) (x : ℕ → ℕ) (f : ℕ) → HasEnds p → IsFaceNet p net → Flow net x → f < p.faces → turning_around p (angles_of x) (strings_of p x) f ≡ whole_turn p f
+around_face : (p : PlaneModel) (net : Net) (x : ℕ → ℕ) (f : ℕ) → HasEnds p → IsFaceNet p net → Flow net x → f < p.faces → turning_around p (angles_of x) (strings_of p x) f ≡ whole_turn p f
 around_face p net x f ends is flow below =
     let n = darts p in
     let k = vertices p + f in
     let face = face_at p in
     let left : ℕ → ℕ = λ d. x (n + d) in
-    let right : ℕ → ℕ = λ d. x (n + mate p d) in
+    let right : ℕ → ℕ = λ d. x (n + reverse_dart p d) in
     let shifted : (y at : ℕ → ℕ) → part_at n (λ d. vertices p + at d) y k ≡ part_at n at y f =
     λ y at. part-alike n (λ d. vertices p + at d) at y k f (λ d b. eqb-alike (vertices p + at d) k (at d) f (λ e. omega arith) (λ e. omega arith)) in
     let out_corner : part_at n (λ d. head p d - 1) x k ≡ 0 = part-none n (λ d. head p d - 1) x k (λ d b e. omega (arith, ends.head_from d b, ends.head_to d b)) in
-    let back : part_at n (λ d. face (mate p d)) left f ≡ part_at n face right f =
-    sum_below-same n (λ d. cond (eqb (face (mate p d)) f) (left d) 0) (λ d. cond (eqb (face (mate p d)) f) (right (mate p d)) 0)
-    (λ d b. ap (λ (e : ℕ). cond (eqb (face (mate p d)) f) (x (n + e)) 0) (sym (ends.mate_back d b)))
-    ∙ sum_below-turned n (mate p) (λ d. cond (eqb (face d) f) (right d) 0) ends.mate_inside ends.mate_back in
+    let back : part_at n (λ d. face (reverse_dart p d)) left f ≡ part_at n face right f =
+    sum_below-same n (λ d. cond (eqb (face (reverse_dart p d)) f) (left d) 0) (λ d. cond (eqb (face (reverse_dart p d)) f) (right (reverse_dart p d)) 0)
+    (λ d b. ap (λ (e : ℕ). cond (eqb (face (reverse_dart p d)) f) (x (n + e)) 0) (sym (ends.reverse_dart_back d b)))
+    ∙ sum_below-turned n (reverse_dart p) (λ d. cond (eqb (face d) f) (right d) 0) ends.reverse_dart_inside ends.reverse_dart_back in
     let meets : balance net x k ≡ whole_turn p f -ℤ pos (degree p f) = flow.meets k (omega (arith, is.nodes)) ∙ is.at_face f below in
     let gain : gains p (angles_of x) (strings_of p x) f ≡ part_at n face (λ d. 1) f + part_at n face (λ d. 1) f + part_at n face left f =
     omega (
@@ -155,7 +155,7 @@ around_face p net x f ends is flow below =
       ints,
       shifted left face,
       shifted x face,
-      shifted left (λ d. face (mate p d)),
+      shifted left (λ d. face (reverse_dart p d)),
       out_corner,
       back,
       meets,
@@ -166,10 +166,10 @@ around_face p net x f ends is flow below =
     )
 
 -- a flow is a representation
-pub rep_of_flow : (p : Map) (net : Net) (x : ℕ → ℕ) → HasEnds p → IsFaceNet p net → Flow net x → Rep p (angles_of x) (strings_of p x)
+pub rep_of_flow : (p : PlaneModel) (net : Net) (x : ℕ → ℕ) → HasEnds p → IsFaceNet p net → Flow net x → Rep p (angles_of x) (strings_of p x)
 rep_of_flow p net x ends is flow = record {
   angles = λ d b. (omega arith, angle_within d b);
-  strings = λ d b. ap (λ (e : ℕ). lefts_then_rights (x (darts p + mate p d)) (x (darts p + e))) (ends.mate_back d b) ∙ sym (mirrored-run (x (darts p + d)) (x (darts p + mate p d)));
+  strings = λ d b. ap (λ (e : ℕ). lefts_then_rights (x (darts p + reverse_dart p d)) (x (darts p + e))) (ends.reverse_dart_back d b) ∙ sym (mirrored-run (x (darts p + d)) (x (darts p + reverse_dart p d)));
   around = λ v from to. around_vertex p net x v ends is flow from to;
   faces = λ f b. around_face p net x f ends is flow b;
 }
@@ -186,7 +186,7 @@ fits arc q amount =
     × (0 < amount → pos 0 ≤ℤ ((pos 0 -ℤ pos arc.cost) +ℤ q arc.to -ℤ q arc.from))
 
 -- potentials are prices that prove it
-pub prove_of_potentials : (p : Map) (net : Net) (x : ℕ → ℕ) (q : ℕ → ℤ) → HasEnds p → IsFaceNet p net → HasPotentials net x q → Prove p (angles_of x) (strings_of p x) (λ v. q (v - 1)) (λ f. q (vertices p + f))
+pub prove_of_potentials : (p : PlaneModel) (net : Net) (x : ℕ → ℕ) (q : ℕ → ℤ) → HasEnds p → IsFaceNet p net → HasPotentials net x q → Prove p (angles_of x) (strings_of p x) (λ v. q (v - 1)) (λ f. q (vertices p + f))
 prove_of_potentials p net x q ends is fit = λ d b.
     let at : (i : ℕ) → i < arc_count net → fits (arc_at net i) q (x i) = λ i c. (λ h. fit.residual i false c h, λ h. fit.residual i true c h) in
     let corner = subst (λ (arc : Arc). fits arc q (x d)) (is.corner d b) (at d (omega (arith, is.arcs))) in
@@ -195,25 +195,25 @@ prove_of_potentials p net x q ends is fit = λ d b.
       wider = λ h. omega (arith, ints, corner.0 (omega arith));
       narrower = λ h. omega (arith, ints, corner.1 (omega arith));
       crossed = omega (arith, ints, crossing.0 tt);
-      tight = λ h. omega (arith, ints, crossing.0 tt, crossing.1 (omega (arith, lefts-of-run (x (darts p + d)) (x (darts p + mate p d)))));
+      tight = λ h. omega (arith, ints, crossing.0 tt, crossing.1 (omega (arith, lefts-of-run (x (darts p + d)) (x (darts p + reverse_dart p d)))));
     }
 
 -- a corner carries at most three units
-pub corner_few : (p : Map) (net : Net) (x : ℕ → ℕ) (d : ℕ) → IsFaceNet p net → Flow net x → d < darts p → x d ≤ 3
+pub corner_few : (p : PlaneModel) (net : Net) (x : ℕ → ℕ) (d : ℕ) → IsFaceNet p net → Flow net x → d < darts p → x d ≤ 3
 corner_few p net x d is flow b =
     subst (λ (arc : Arc). IsWithin arc.cap (x d)) (is.corner d b) (flow.within d (omega (arith, is.arcs)))
 
 -- the strings of a least-cost flow are short
-pub short_of_flow : (p : Map) (net : Net) (x : ℕ → ℕ) (q : ℕ → ℤ) → HasEnds p → vertices p ≤ 255 → IsFaceNet p net → Flow net x → HasPotentials net x q → (d : ℕ) → d < darts p → x (darts p + d) + x (darts p + mate p d) ≤ 6144
+pub short_of_flow : (p : PlaneModel) (net : Net) (x : ℕ → ℕ) (q : ℕ → ℤ) → HasEnds p → vertices p ≤ 255 → IsFaceNet p net → Flow net x → HasPotentials net x q → (d : ℕ) → d < darts p → x (darts p + d) + x (darts p + reverse_dart p d) ≤ 6144
 short_of_flow p net x q ends order is flow fit d b =
     omega (
       arith,
       few_turns p (angles_of x) (strings_of p x) (λ v. q (v - 1)) (λ f. q (vertices p + f)) ends order (rep_of_flow p net x ends is flow) (prove_of_potentials p net x q ends is fit) d b,
-      length-run (x (darts p + d)) (x (darts p + mate p d)),
+      length-run (x (darts p + d)) (x (darts p + reverse_dart p d)),
     )
 
 -- angles, strings and prices of a least-cost flow
-pub record IsOfFlow (p : Map) (x : ℕ → ℕ) (q : ℕ → ℤ) (shape : Figure) (t : Tariff) : Type 0 where
+pub record IsOfFlow (p : PlaneModel) (x : ℕ → ℕ) (q : ℕ → ℤ) (shape : ShapeModel) (t : PricesModel) : Type 0 where
   pub angle_count : length shape.angles ≡ darts p
   pub string_count : length shape.strings ≡ darts p
   pub vertex_count : length t.vertices ≡ vertices p
@@ -224,19 +224,19 @@ pub record IsOfFlow (p : Map) (x : ℕ → ℕ) (q : ℕ → ℤ) (shape : Figur
   pub face : (f : ℕ) → f < p.faces → face_price t f ≡ q (vertices p + f)
 
 -- are a least representation, and prices that prove it
-pub shape_of_flow : (p : Map) (net : Net) (x : ℕ → ℕ) (q : ℕ → ℤ) (shape : Figure) (t : Tariff) → HasEnds p → IsFaceNet p net → Flow net x → IsOfFlow p x q shape t → IsShape p shape
+pub shape_of_flow : (p : PlaneModel) (net : Net) (x : ℕ → ℕ) (q : ℕ → ℤ) (shape : ShapeModel) (t : PricesModel) → HasEnds p → IsFaceNet p net → Flow net x → IsOfFlow p x q shape t → IsShape p shape
 shape_of_flow p net x q shape t ends is flow found = record {
   lengths = record { angles = found.angle_count; strings = found.string_count };
   rep = rep-alike p (angles_of x) (angle_at shape) (strings_of p x) (turns_at shape) ends found.angle found.string (rep_of_flow p net x ends is flow);
 }
 
-pub proof_of_flow : (p : Map) (net : Net) (x : ℕ → ℕ) (q : ℕ → ℤ) (shape : Figure) (t : Tariff) → HasEnds p → IsFaceNet p net → HasPotentials net x q → IsOfFlow p x q shape t → IsProof p shape t
+pub proof_of_flow : (p : PlaneModel) (net : Net) (x : ℕ → ℕ) (q : ℕ → ℤ) (shape : ShapeModel) (t : PricesModel) → HasEnds p → IsFaceNet p net → HasPotentials net x q → IsOfFlow p x q shape t → IsProof p shape t
 proof_of_flow p net x q shape t ends is fit found = record {
   lengths = record { angles = found.angle_count; strings = found.string_count };
   prices = record { vertices = found.vertex_count; faces = found.face_count };
   prove = prove-alike p (angles_of x) (angle_at shape) (strings_of p x) (turns_at shape) (λ v. q (v - 1)) (vertex_price t) (λ f. q (vertices p + f)) (face_price t) ends found.angle found.string (λ v from to. found.vertex (v - 1) (omega arith)) found.face (prove_of_potentials p net x q ends is fit);
 }
 
-pub least_of_flow : (p : Map) (net : Net) (x : ℕ → ℕ) (q : ℕ → ℤ) (shape : Figure) (t : Tariff) → HasEnds p → IsFaceNet p net → Flow net x → HasPotentials net x q → IsOfFlow p x q shape t → IsLeast p shape
+pub least_of_flow : (p : PlaneModel) (net : Net) (x : ℕ → ℕ) (q : ℕ → ℤ) (shape : ShapeModel) (t : PricesModel) → HasEnds p → IsFaceNet p net → Flow net x → HasPotentials net x q → IsOfFlow p x q shape t → IsLeast p shape
 least_of_flow p net x q shape t ends is flow fit found =
     least_by_prices p (angle_at shape) (turns_at shape) (vertex_price t) (face_price t) ends (shape_of_flow p net x q shape t ends is flow found).rep (proof_of_flow p net x q shape t ends is fit found).prove

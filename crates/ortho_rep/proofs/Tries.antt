@@ -7,7 +7,7 @@ use borrow.Author.Differences.{up, down}
 use Rattle.std.proofs.lemmas.Int.{ints}
 use Rattle.sums.specs.Sums.{sum_below}
 use Rattle.sums.proofs.Sums.{sum_below-same, sum_below-none, sum_below-split}
-use Rattle.faces.specs.Map.{Map, IsPlane, HasEnds, darts, vertices, mate, with_outer}
+use Rattle.faces.specs.Planes.{PlaneModel, IsPlane, HasEnds, darts, vertices, reverse_dart, with_outer}
 use Rattle.networks.specs.declared.arc.Arc.{Arc}
 use Rattle.networks.specs.Net.{Net, arc_at}
 use Rattle.networks.specs.Flow.{Flow, at_nodes, cost_of}
@@ -22,7 +22,7 @@ use Rattle.ortho_rep.proofs.Duality.{lefts_of, lengths-twice, least_by_prices, m
 use Rattle.ortho_rep.proofs.FromFlow.{lefts-of-run, rep_of_flow, prove_of_potentials}
 
 -- a face that is no better than one is no better than a better one
-pub no_better_still : (p : Map) (bends face lower other f : ℕ) → lower ≤ bends → (lower ≡ bends → other ≤ face) → IsNoBetter p bends face f → IsNoBetter p lower other f
+pub no_better_still : (p : PlaneModel) (bends face lower other f : ℕ) → lower ≤ bends → (lower ≡ bends → other ≤ face) → IsNoBetter p bends face f → IsNoBetter p lower other f
 no_better_still p bends face lower other f fewer first h = record {
   fewest = λ a s rep. omega (arith, h.fewest a s rep, fewer);
   first = λ (a, s, rep, is).
@@ -32,14 +32,14 @@ no_better_still p bends face lower other f fewer first h = record {
 }
 
 -- a face with which more bends are needed, or as many and its number is no lesser one, is no better
-pub no_better : (p : Map) (bends face bound f : ℕ) → NeedsBends (with_outer p f) bound → bends ≤ bound → (bound ≡ bends → face ≤ f) → IsNoBetter p bends face f
+pub no_better : (p : PlaneModel) (bends face bound f : ℕ) → NeedsBends (with_outer p f) bound → bends ≤ bound → (bound ≡ bends → face ≤ f) → IsNoBetter p bends face f
 no_better p bends face bound f needs more first = record {
   fewest = λ a s rep. omega (arith, needs a s rep, more);
   first = λ (a, s, rep, is). first (omega (arith, needs a s rep, more, is));
 }
 
 -- a plane that was turned has the same ends
-pub ends_turned : (p : Map) (outer : ℕ) → HasEnds p → HasEnds (with_outer p outer)
+pub ends_turned : (p : PlaneModel) (outer : ℕ) → HasEnds p → HasEnds (with_outer p outer)
 ends_turned p outer ends = record {
   some_darts = ends.some_darts;
   few_darts = ends.few_darts;
@@ -48,11 +48,11 @@ ends_turned p outer ends = record {
   tail_to = ends.tail_to;
   head_from = ends.head_from;
   head_to = ends.head_to;
-  mate_inside = ends.mate_inside;
-  mate_back = ends.mate_back;
-  mate_apart = ends.mate_apart;
-  mate_tail = ends.mate_tail;
-  mate_head = ends.mate_head;
+  reverse_dart_inside = ends.reverse_dart_inside;
+  reverse_dart_back = ends.reverse_dart_back;
+  reverse_dart_apart = ends.reverse_dart_apart;
+  reverse_dart_tail = ends.reverse_dart_tail;
+  reverse_dart_head = ends.reverse_dart_head;
   after_inside = ends.after_inside;
   after_tail = ends.after_tail;
   next_one = ends.next_one;
@@ -61,7 +61,7 @@ ends_turned p outer ends = record {
 }
 
 -- the plane with the best face outside
-pub best_of : (p : Map) (lead : Lead) → IsLead p lead → ((f : ℕ) → f < p.faces → IsNoBetter p lead.bends lead.face f) → IsBest (with_outer p lead.face)
+pub best_of : (p : PlaneModel) (lead : Lead) → IsLead p lead → ((f : ℕ) → f < p.faces → IsNoBetter p lead.bends lead.face f) → IsBest (with_outer p lead.face)
 best_of p lead is all = record {
   bends = lead.bends;
   some = is.some;
@@ -70,47 +70,47 @@ best_of p lead is all = record {
 }
 
 -- a plane that was turned twice is the plane, turned once
-pub turned_again : (p q r : Map) (outer face : ℕ) → q ≡ with_outer p outer → r ≡ with_outer q face → r ≡ with_outer p face
-turned_again p q r outer face first second = second ∙ ap (λ (m : Map). with_outer m face) first
+pub turned_again : (p q r : PlaneModel) (outer face : ℕ) → q ≡ with_outer p outer → r ≡ with_outer q face → r ≡ with_outer p face
+turned_again p q r outer face first second = second ∙ ap (λ (m : PlaneModel). with_outer m face) first
 
 -- it is the plane, with the outer face that it has then
-pub turned_own : (p q : Map) (face : ℕ) → q ≡ with_outer p face → q ≡ with_outer p q.outer
-turned_own p q face once = once ∙ sym (ap (λ (m : Map). with_outer p m.outer) once)
+pub turned_own : (p q : PlaneModel) (face : ℕ) → q ≡ with_outer p face → q ≡ with_outer p q.outer
+turned_own p q face once = once ∙ sym (ap (λ (m : PlaneModel). with_outer p m.outer) once)
 
 -- what is known of faces of the plane turned some way is known of the plane, and the other way
-pub lead_turned : (p q : Map) (outer : ℕ) (lead : Lead) → q ≡ with_outer p outer → IsLead q lead → IsLead p lead
+pub lead_turned : (p q : PlaneModel) (outer : ℕ) (lead : Lead) → q ≡ with_outer p outer → IsLead q lead → IsLead p lead
 lead_turned p q outer lead turned is =
-    let was = subst (λ (m : Map). IsLead m lead) turned is in
+    let was = subst (λ (m : PlaneModel). IsLead m lead) turned is in
     record { named = was.named; some = was.some; needs = was.needs }
 
-pub lead_turning : (p q : Map) (outer : ℕ) (lead : Lead) → q ≡ with_outer p outer → IsLead p lead → IsLead q lead
+pub lead_turning : (p q : PlaneModel) (outer : ℕ) (lead : Lead) → q ≡ with_outer p outer → IsLead p lead → IsLead q lead
 lead_turning p q outer lead turned is =
     let will : IsLead (with_outer p outer) lead = record { named = is.named; some = is.some; needs = is.needs } in
-    subst (λ (m : Map). IsLead m lead) (sym turned) will
+    subst (λ (m : PlaneModel). IsLead m lead) (sym turned) will
 
-pub tried_turned : (p q : Map) (outer bends face f : ℕ) → q ≡ with_outer p outer → IsNoBetter q bends face f → IsNoBetter p bends face f
+pub tried_turned : (p q : PlaneModel) (outer bends face f : ℕ) → q ≡ with_outer p outer → IsNoBetter q bends face f → IsNoBetter p bends face f
 tried_turned p q outer bends face f turned is =
-    let was = subst (λ (m : Map). IsNoBetter m bends face f) turned is in
+    let was = subst (λ (m : PlaneModel). IsNoBetter m bends face f) turned is in
     record { fewest = was.fewest; first = was.first }
 
-pub tried_turning : (p q : Map) (outer bends face f : ℕ) → q ≡ with_outer p outer → IsNoBetter p bends face f → IsNoBetter q bends face f
+pub tried_turning : (p q : PlaneModel) (outer bends face f : ℕ) → q ≡ with_outer p outer → IsNoBetter p bends face f → IsNoBetter q bends face f
 tried_turning p q outer bends face f turned is =
     let will : IsNoBetter (with_outer p outer) bends face f = record { fewest = is.fewest; first = is.first } in
-    subst (λ (m : Map). IsNoBetter m bends face f) (sym turned) will
+    subst (λ (m : PlaneModel). IsNoBetter m bends face f) (sym turned) will
 
 -- faces that were tried before, and one that is tried now
-pub tried_next : (p : Map) (lead other : Lead) (face : ℕ) → IsAhead lead other → ((f : ℕ) → f < face → IsNoBetter p other.bends other.face f) → IsNoBetter p lead.bends lead.face face → (f : ℕ) → f < face + 1 → IsNoBetter p lead.bends lead.face f
+pub tried_next : (p : PlaneModel) (lead other : Lead) (face : ℕ) → IsAhead lead other → ((f : ℕ) → f < face → IsNoBetter p other.bends other.face f) → IsNoBetter p lead.bends lead.face face → (f : ℕ) → f < face + 1 → IsNoBetter p lead.bends lead.face f
 tried_next p lead other face ahead all here =
     below_more _ _ (λ f b. no_better_still p other.bends other.face lead.bends lead.face f ahead.fewer ahead.first (all f b)) here
 
 -- the bends of a flow are what it costs
-pub bends_are_cost : (p : Map) (net : Net) (x : ℕ → ℕ) → HasEnds p → IsFaceNet p net → Flow net x → bends_of (darts p) (strings_of p x) ≡ cost_of net x
+pub bends_are_cost : (p : PlaneModel) (net : Net) (x : ℕ → ℕ) → HasEnds p → IsFaceNet p net → Flow net x → bends_of (darts p) (strings_of p x) ≡ cost_of net x
 bends_are_cost p net x ends is flow =
     let n = darts p in
     let left : ℕ → ℕ = λ d. x (n + d) in
     let twice = lengths-twice p (angles_of x) (strings_of p x) ends (rep_of_flow p net x ends is flow) in
     let lefts_are : sum_below n (lefts_of (strings_of p x)) ≡ sum_below n left =
-    sum_below-same n (lefts_of (strings_of p x)) left (λ d b. lefts-of-run (x (n + d)) (x (n + mate p d))) in
+    sum_below-same n (lefts_of (strings_of p x)) left (λ d b. lefts-of-run (x (n + d)) (x (n + reverse_dart p d))) in
     let split : cost_of net x ≡ sum_below n (λ d. (arc_at net d).cost * x d) + sum_below n (λ d. (arc_at net (n + d)).cost * x (n + d)) =
     ap (λ (m : ℕ). sum_below m (λ i. (arc_at net i).cost * x i)) is.arcs ∙ sum_below-split n n (λ i. (arc_at net i).cost * x i) in
     let none : sum_below n (λ d. (arc_at net d).cost * x d) ≡ 0 =
@@ -126,11 +126,11 @@ bends_are_cost p net x ends is flow =
     once k = omega arith
 
 -- what a flow of least cost shows of the plane's outer face
-pub rep_of_cost : (p : Map) (net : Net) (bends : ℕ) (ps : List ℤ) → HasEnds p → IsFaceNet p net → IsShown net bends ps → HasRep p bends
+pub rep_of_cost : (p : PlaneModel) (net : Net) (bends : ℕ) (ps : List ℤ) → HasEnds p → IsFaceNet p net → IsShown net bends ps → HasRep p bends
 rep_of_cost p net bends ps ends is shown =
     (angles_of shown.amounts, strings_of p shown.amounts, rep_of_flow p net shown.amounts ends is shown.flow, bends_are_cost p net shown.amounts ends is shown.flow ∙ shown.costs)
 
-pub needs_cost : (p : Map) (net : Net) (bends : ℕ) (ps : List ℤ) → HasEnds p → IsFaceNet p net → IsShown net bends ps → NeedsBends p bends
+pub needs_cost : (p : PlaneModel) (net : Net) (bends : ℕ) (ps : List ℤ) → HasEnds p → IsFaceNet p net → IsShown net bends ps → NeedsBends p bends
 needs_cost p net bends ps ends is shown = λ a s rep.
     let x = shown.amounts in
     let own = rep_of_flow p net x ends is shown.flow in
@@ -138,7 +138,7 @@ needs_cost p net bends ps ends is shown = λ a s rep.
     omega (arith, least.least a s rep, bends_are_cost p net x ends is shown.flow, shown.costs)
 
 -- and its potentials prove a bound for each face
-pub bound_of_potentials : (p : Map) (net : Net) (bends : ℕ) (ps : List ℤ) (face bound : ℕ) (own other : ℤ) → HasEnds p → p.outer < p.faces → face < p.faces → IsFaceNet p net → IsShown net bends ps → own ≡ at_nodes ps (vertices p + p.outer) → other ≡ at_nodes ps (vertices p + face) → (bound ≡ 0) ⊎ (pos bound ≡ pos bends +ℤ pos 8 *ℤ (other -ℤ own)) → NeedsBends (with_outer p face) bound
+pub bound_of_potentials : (p : PlaneModel) (net : Net) (bends : ℕ) (ps : List ℤ) (face bound : ℕ) (own other : ℤ) → HasEnds p → p.outer < p.faces → face < p.faces → IsFaceNet p net → IsShown net bends ps → own ≡ at_nodes ps (vertices p + p.outer) → other ≡ at_nodes ps (vertices p + face) → (bound ≡ 0) ⊎ (pos bound ≡ pos bends +ℤ pos 8 *ℤ (other -ℤ own)) → NeedsBends (with_outer p face) bound
 bound_of_potentials p net bends ps face bound own other ends outer inside is shown of_own of_other (inl none) = λ a s rep. omega arith
 bound_of_potentials p net bends ps face bound own other ends outer inside is shown of_own of_other (inr sum) = λ a s rep.
     let x = shown.amounts in
@@ -148,24 +148,24 @@ bound_of_potentials p net bends ps face bound own other ends outer inside is sho
     omega (arith, ints, priced, sum, bends_are_cost p net x ends is shown.flow, shown.costs)
 
 -- bounds of the plane turned some way are bounds of the plane, and the other way
-pub bounds_turned : (p q : Map) (outer : ℕ) (bounds : List ℕ) → q ≡ with_outer p outer → AreBounds q bounds → AreBounds p bounds
+pub bounds_turned : (p q : PlaneModel) (outer : ℕ) (bounds : List ℕ) → q ≡ with_outer p outer → AreBounds q bounds → AreBounds p bounds
 bounds_turned p q outer bounds turned are =
-    let was = subst (λ (m : Map). AreBounds m bounds) turned are in
+    let was = subst (λ (m : PlaneModel). AreBounds m bounds) turned are in
     record { each = was.each }
 
-pub bounds_turning : (p q : Map) (outer : ℕ) (bounds : List ℕ) → q ≡ with_outer p outer → AreBounds p bounds → AreBounds q bounds
+pub bounds_turning : (p q : PlaneModel) (outer : ℕ) (bounds : List ℕ) → q ≡ with_outer p outer → AreBounds p bounds → AreBounds q bounds
 bounds_turning p q outer bounds turned are =
     let will : AreBounds (with_outer p outer) bounds = record { each = are.each } in
-    subst (λ (m : Map). AreBounds m bounds) (sym turned) will
+    subst (λ (m : PlaneModel). AreBounds m bounds) (sym turned) will
 
 -- to begin with, no bends are needed
-pub no_bounds : (p : Map) (n : ℕ) → p.faces ≤ n → AreBounds p (replicate n 0)
+pub no_bounds : (p : PlaneModel) (n : ℕ) → p.faces ≤ n → AreBounds p (replicate n 0)
 no_bounds p n few = record {
   each = λ f b a s rep. omega (arith, get_or-replicate {A = ℕ} n f 0 0 (omega arith));
 }
 
 -- one bound is raised
-pub bound_raised : (p : Map) (bounds : List ℕ) (face bound : ℕ) → face < length bounds → AreBounds p bounds → NeedsBends (with_outer p face) bound → AreBounds p (set bounds face (max (slice_index bounds face) bound))
+pub bound_raised : (p : PlaneModel) (bounds : List ℕ) (face bound : ℕ) → face < length bounds → AreBounds p bounds → NeedsBends (with_outer p face) bound → AreBounds p (set bounds face (max (slice_index bounds face) bound))
 bound_raised p bounds face bound inside are needs = record {
   each = λ f b.
       let most = max (slice_index bounds face) bound in
@@ -177,7 +177,7 @@ bound_raised p bounds face bound inside are needs = record {
 }
 
 -- a plane that was turned is one
-pub plane_turned : (p : Map) (face : ℕ) → face < p.faces → IsPlane p → IsPlane (with_outer p face)
+pub plane_turned : (p : PlaneModel) (face : ℕ) → face < p.faces → IsPlane p → IsPlane (with_outer p face)
 plane_turned p face inside plane = record {
   order = plane.order;
   rules = plane.rules;

@@ -2,20 +2,20 @@
 use Rattle.std.specs.Prelude.{◌≡◌, ℕ, ◌<◌, ◌≤◌, List}
 use Rattle.choices.specs.declared.Choice.{Choice}
 use Rattle.choices.specs.declared.Choice.TheVariants.{First, Best}
-use Rattle.faces.specs.Map.{Map, IsWidest, darts, with_outer}
+use Rattle.faces.specs.Planes.{PlaneModel, IsWidest, darts, with_outer}
 use Rattle.ortho_rep.specs.declared.turn.Turn.{Turn}
 use Rattle.ortho_rep.specs.Representation.{Rep, bends_of}
 
 -- some representation of p with its outer face has so many bends
-abbrev pub HasRep : Map → ℕ → Type 0
+abbrev pub HasRep : PlaneModel → ℕ → Type 0
 HasRep p bends = (a : ℕ → ℕ) × (s : ℕ → List Turn) × (Rep p a s) × (bends_of (darts p) s ≡ bends)
 
 -- each representation of p with its outer face has at least so many bends
-abbrev pub NeedsBends : Map → ℕ → Type 0
+abbrev pub NeedsBends : PlaneModel → ℕ → Type 0
 NeedsBends p bends = (a : ℕ → ℕ) (s : ℕ → List Turn) → Rep p a s → bends ≤ bends_of (darts p) s
 
 -- the outer face is the one with which the fewest bends are needed, among equals the one with the least number
-pub record IsBest (p : Map) : Type 0 where
+pub record IsBest (p : PlaneModel) : Type 0 where
   pub bends : ℕ
   pub some : HasRep p bends
   -- with whichever face outside, at least as many are needed
@@ -24,6 +24,6 @@ pub record IsBest (p : Map) : Type 0 where
   pub first : (f : ℕ) → f < p.faces → HasRep (with_outer p f) bends → p.outer ≤ f
 
 -- the outer face is the one of the choice
-abbrev pub IsChosen : Choice → Map → Type 0
+abbrev pub IsChosen : Choice → PlaneModel → Type 0
 IsChosen First p = IsWidest p
 IsChosen Best p = IsBest p

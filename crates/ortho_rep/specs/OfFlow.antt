@@ -1,7 +1,7 @@
 -- The representation that a flow in a plane's network gives: arc d is the corner of dart d, and of D darts arc D + d
 -- is its crossing.
 use Rattle.std.specs.Prelude.{ℕ, ◌+◌, List, ◌++◌, replicate}
-use Rattle.faces.specs.Map.{Map, darts, mate}
+use Rattle.faces.specs.Planes.{PlaneModel, darts, reverse_dart}
 use Rattle.ortho_rep.specs.declared.turn.Turn.{Turn}
 use Rattle.ortho_rep.specs.declared.turn.Turn.TheVariants.{Left, Right}
 
@@ -13,6 +13,6 @@ lefts_then_rights l r = replicate l Left ++ replicate r Right
 abbrev pub angles_of : (ℕ → ℕ) → ℕ → ℕ
 angles_of x d = x d + 1
 
--- a dart turns left as often as its crossing carries a unit, and right as often as that of its mate does
-abbrev pub strings_of : Map → (ℕ → ℕ) → ℕ → List Turn
-strings_of p x d = lefts_then_rights (x (darts p + d)) (x (darts p + mate p d))
+-- a dart turns left as often as its crossing carries a unit, and right as often as that of its reverse does
+abbrev pub strings_of : PlaneModel → (ℕ → ℕ) → ℕ → List Turn
+strings_of p x d = lefts_then_rights (x (darts p + d)) (x (darts p + reverse_dart p d))

@@ -4,7 +4,7 @@ use Rattle.std.specs.declared.alloc.Global.{Global}
 use Rattle.ortho_rep.specs.declared.points.Point.{Point}
 
 -- place v - 1 of the first list belongs to vertex v, place e of the second to edge e
-pub record Plot : Type 0 where
+pub record PointsModel : Type 0 where
   pub vertices : List Point
   pub corners : List (List Point)
 
@@ -12,10 +12,10 @@ pub record Plot : Type 0 where
 abbrev pub origin : Point
 origin = record { x = 0; y = 0 }
 
-abbrev pub vertex_point : Plot → ℕ → Point
+abbrev pub vertex_point : PointsModel → ℕ → Point
 vertex_point points v = slice_index_or points.vertices (v - 1) origin
 
-abbrev pub corners_at : Plot → ℕ → List Point
+abbrev pub corners_at : PointsModel → ℕ → List Point
 corners_at points e = slice_index_or points.corners e []
 
 -- the lists of a list of vectors

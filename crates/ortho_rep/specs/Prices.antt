@@ -1,21 +1,21 @@
 -- Prices of vertices and faces, and when they prove that a representation is least: they are the dual
 -- of its flow, and a flow and potentials without slack are both best (complementary slackness).
 use Rattle.std.specs.Prelude.{◌≡◌, ℕ, ◌-◌, ◌<◌, ℤ, pos, ◌+ℤ◌, ◌-ℤ◌, ◌≤ℤ◌, List, length, slice_index_or}
-use Rattle.faces.specs.Map.{Map, darts, vertices, head, mate, face_at}
+use Rattle.faces.specs.Planes.{PlaneModel, darts, vertices, head, reverse_dart, face_at}
 use Rattle.ortho_rep.specs.declared.turn.Turn.{Turn}
 use Rattle.ortho_rep.specs.Turns.{lefts}
-use Rattle.ortho_rep.specs.Shapes.{Figure, angle_at, turns_at}
+use Rattle.ortho_rep.specs.Shapes.{ShapeModel, angle_at, turns_at}
 use Rattle.ortho_rep.specs.Representation.{HasDarts}
 
 -- what callers see of `Prices`: place v - 1 of the first list belongs to vertex v, place f of the second to face f
-pub record Tariff : Type 0 where
+pub record PricesModel : Type 0 where
   pub vertices : List ℤ
   pub faces : List ℤ
 
-abbrev pub vertex_price : Tariff → ℕ → ℤ
+abbrev pub vertex_price : PricesModel → ℕ → ℤ
 vertex_price t v = slice_index_or t.vertices (v - 1) (pos 0)
 
-abbrev pub face_price : Tariff → ℕ → ℤ
+abbrev pub face_price : PricesModel → ℕ → ℤ
 face_price t f = slice_index_or t.faces f (pos 0)
 
 -- the prices of a dart's head, of its face and of the face across fit its angle and its turns: no unit that the
@@ -28,20 +28,20 @@ pub record IsPriced (angle : ℕ) (turns : List Turn) (vertex face across : ℤ)
   pub tight : 0 < lefts turns → (pos 1 +ℤ face -ℤ across) ≡ pos 0
 
 -- dart d of the representation (a, s) fits the vertex prices v and the face prices q
-abbrev pub IsPricedAt : Map → (ℕ → ℕ) → (ℕ → List Turn) → (ℕ → ℤ) → (ℕ → ℤ) → ℕ → Type 0
-IsPricedAt p a s v q d = IsPriced (a d) (s d) (v (head p d)) (q (face_at p d)) (q (face_at p (mate p d)))
+abbrev pub IsPricedAt : PlaneModel → (ℕ → ℕ) → (ℕ → List Turn) → (ℕ → ℤ) → (ℕ → ℤ) → ℕ → Type 0
+IsPricedAt p a s v q d = IsPriced (a d) (s d) (v (head p d)) (q (face_at p d)) (q (face_at p (reverse_dart p d)))
 
 -- these prices prove that the representation (a, s) is least
-abbrev pub Prove : Map → (ℕ → ℕ) → (ℕ → List Turn) → (ℕ → ℤ) → (ℕ → ℤ) → Type 0
+abbrev pub Prove : PlaneModel → (ℕ → ℕ) → (ℕ → List Turn) → (ℕ → ℤ) → (ℕ → ℤ) → Type 0
 Prove p a s v q = (d : ℕ) → d < darts p → IsPricedAt p a s v q d
 
 -- a price for each vertex and each face
-pub record HasPrices (p : Map) (t : Tariff) : Type 0 where
+pub record HasPrices (p : PlaneModel) (t : PricesModel) : Type 0 where
   pub vertices : length t.vertices ≡ vertices p
   pub faces : length t.faces ≡ p.faces
 
 -- all four lists have the plane's lengths, and the prices prove the shape
-pub record IsProof (p : Map) (shape : Figure) (t : Tariff) : Type 0 where
+pub record IsProof (p : PlaneModel) (shape : ShapeModel) (t : PricesModel) : Type 0 where
   pub lengths : HasDarts p shape
   pub prices : HasPrices p t
   pub prove : Prove p (angle_at shape) (turns_at shape) (vertex_price t) (face_price t)

@@ -2,6 +2,8 @@
 -- each dart's turns start.
 use Rattle.std.specs.Prelude.{ℕ, ◌+◌, ◌<◌, ◌≤◌, List, [], ◌∷◌, map, length, slice_index, slice_range, All, Vec}
 use Rattle.std.specs.declared.alloc.Global.{Global}
+use Rattle.embedding.specs.declared.graphs.TheConstants.{MAX_DARTS}
+use Rattle.ortho_rep.specs.declared.strings.TheConstants.{MAX_TURNS}
 use Rattle.ortho_rep.specs.declared.turn.Turn.{Turn}
 
 -- the lists of a list of vectors
@@ -26,5 +28,5 @@ pub record IsCut (starts : List ℕ) (turns : List Turn) : Type 0 where
 
 -- a string for each of at most 1,020 darts, of at most 1,000,000 turns
 pub record IsShort (strings : List (List Turn)) : Type 0 where
-  pub few : length strings ≤ 1020
-  pub short : All (λ string. length string ≤ 1000000) strings
+  pub few : length strings ≤ MAX_DARTS
+  pub short : All (λ string. length string ≤ MAX_TURNS) strings

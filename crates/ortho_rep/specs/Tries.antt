@@ -1,18 +1,18 @@
 -- What is known of the faces of a plane that were tried as outer faces.
 use Rattle.std.specs.Prelude.{◌≡◌, ℕ, ◌<◌, ◌≤◌, List, slice_index}
-use Rattle.faces.specs.Map.{Map, with_outer}
+use Rattle.faces.specs.Planes.{PlaneModel, with_outer}
 use Rattle.flow_network.specs.FaceNet.{IsNetOf}
 use Rattle.ortho_rep.specs.declared.best.Lead.{Lead}
 use Rattle.ortho_rep.specs.declared.best.Walk.{Walk}
 use Rattle.ortho_rep.specs.Best.{HasRep, NeedsBends}
 
 -- the walk stands at the outer face of p
-pub record IsWalk (p : Map) (walk : Walk) : Type 0 where
+pub record IsWalk (p : PlaneModel) (walk : Walk) : Type 0 where
   pub net : IsNetOf p walk.net
   pub same : walk.standing ≡ walk.net.network
 
 -- a face, and how many bends are needed with it as the outer one
-pub record IsLead (p : Map) (lead : Lead) : Type 0 where
+pub record IsLead (p : PlaneModel) (lead : Lead) : Type 0 where
   pub named : lead.face < p.faces
   pub some : HasRep (with_outer p lead.face) lead.bends
   pub needs : NeedsBends (with_outer p lead.face) lead.bends
@@ -24,10 +24,10 @@ pub record IsAhead (lead other : Lead) : Type 0 where
 
 -- the face f is no better than one with so many bends: at least as many are needed with it, and where as few
 -- suffice it has no lesser number
-pub record IsNoBetter (p : Map) (bends face f : ℕ) : Type 0 where
+pub record IsNoBetter (p : PlaneModel) (bends face f : ℕ) : Type 0 where
   pub fewest : NeedsBends (with_outer p f) bends
   pub first : HasRep (with_outer p f) bends → face ≤ f
 
 -- with each face outside at least as many bends are needed as the list has at its place
-pub record AreBounds (p : Map) (bounds : List ℕ) : Type 0 where
+pub record AreBounds (p : PlaneModel) (bounds : List ℕ) : Type 0 where
   pub each : (f : ℕ) → f < p.faces → NeedsBends (with_outer p f) (slice_index bounds f)

@@ -1,7 +1,7 @@
 //! Least shapes with the best outer face.
 
 ghost use Rattle.std.specs.Prelude.{◌≡◌, ◌<◌, ◌≤◌, ◌⊎◌, ℕ, pos, ◌+ℤ◌, ◌-ℤ◌, ◌*ℤ◌, ◌≤ℤ◌, ◌^◌, IsTrue, IsFalse, OnOk, IfOk, IfSome, OnErr, length};
-ghost use Rattle.faces.specs.Map.{darts, with_outer};
+ghost use Rattle.faces.specs.Planes.{darts, with_outer};
 ghost use Rattle.min_cost_flow.specs.Stand.{IsShown};
 ghost use Rattle.ortho_rep.specs.Representation.{IsShape, IsLeast};
 ghost use Rattle.ortho_rep.specs.Prices.{IsProof};
@@ -11,6 +11,7 @@ ghost use Rattle.ortho_rep.specs.Tries.{IsWalk, IsLead, IsAhead, IsNoBetter, Are
 use crate::least::shape_in;
 use crate::prices::Prices;
 use crate::shape::Shape;
+use embedding::MAX_DARTS;
 use faces::Plane;
 use flow_network::FaceNet;
 use min_cost_flow::{SolveFault, Standing};
@@ -37,9 +38,6 @@ impl Lead {
 
 /// The most faces that a plane has.
 const MAX_FACES: usize = 257;
-
-/// The most darts that a plane has.
-const MAX_DARTS: usize = 1020;
 
 /// Turns the best face out, and gives a least shape with prices that prove it least.
 ///

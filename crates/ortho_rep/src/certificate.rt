@@ -1,7 +1,7 @@
 //! Whether prices prove a shape least.
 
 ghost use Rattle.std.specs.Prelude.{◌≡◌, ◌<◌, ◌↔◌, pos, ◌+ℤ◌, ◌-ℤ◌, ◌≤ℤ◌, IsTrue};
-ghost use Rattle.faces.specs.Map.{darts};
+ghost use Rattle.faces.specs.Planes.{darts};
 ghost use Rattle.ortho_rep.specs.Turns.{lefts};
 ghost use Rattle.ortho_rep.specs.Shapes.{angle_at, turns_at};
 ghost use Rattle.ortho_rep.specs.Representation.{Rep, HasDarts, IsShape, IsLeast};

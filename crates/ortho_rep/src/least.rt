@@ -1,7 +1,7 @@
 //! Least shapes, by a flow of least cost in the network of a plane.
 
 ghost use Rattle.std.specs.Prelude.{◌≡◌, ◌+◌, ◌<◌, ◌≤◌, ◌++◌, [], ℕ, pos, OnOk, IfOk, length, replicate, slice_index, slice_index_or, vec_len, ◌^◌};
-ghost use Rattle.faces.specs.Map.{darts, vertices};
+ghost use Rattle.faces.specs.Planes.{darts, vertices};
 ghost use Rattle.networks.specs.Flow.{Flow, Solves, amounts, at_nodes};
 ghost use Rattle.flow_network.specs.FaceNet.{IsNetOf};
 ghost use Rattle.ortho_rep.specs.OfFlow.{angles_of, strings_of};

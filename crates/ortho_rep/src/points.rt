@@ -5,6 +5,9 @@ ghost use Rattle.ortho_rep.specs.Points.{vertex_point, corners_at, point_lists};
 
 use std::marker::Model;
 
+/// The greatest coordinate of the grid; the least is 0.
+pub const MAX_COORDINATE: u32 = 65_535;
+
 /// A point with whole coordinates: x grows to the east, y to the north.
 #[derive(Clone, Copy, Debug, PartialEq, Eq)]
 pub struct Point {
@@ -24,9 +27,9 @@ pub struct Points {
 }
 
 impl Model for Points {
-    ghost use Rattle.ortho_rep.specs.Points.{Plot, point_lists};
+    ghost use Rattle.ortho_rep.specs.Points.{PointsModel, point_lists};
 
-    ghost Value = { Plot };
+    ghost Value = { PointsModel };
 
     ghost view = { λ a. record {
       vertices = a.vertices.items;

@@ -16,9 +16,9 @@ pub struct Prices {
 }
 
 impl Model for Prices {
-    ghost use Rattle.ortho_rep.specs.Prices.{Tariff};
+    ghost use Rattle.ortho_rep.specs.Prices.{PricesModel};
 
-    ghost Value = { Tariff };
+    ghost Value = { PricesModel };
 
     ghost view = { λ a. record { vertices = a.vertices.items; faces = a.faces.items } };
 }

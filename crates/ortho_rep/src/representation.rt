@@ -1,7 +1,7 @@
 //! Whether a shape is an orthogonal representation of a plane.
 
 ghost use Rattle.std.specs.Prelude.{◌≡◌, ◌≤◌, ◌<◌, ◌+◌, ◌↔◌, ℕ, IsTrue, length, replicate, slice_index, pos, negsuc, ◌-ℤ◌, if◌then◌else◌};
-ghost use Rattle.faces.specs.Map.{darts, vertices, mate};
+ghost use Rattle.faces.specs.Planes.{darts, vertices, reverse_dart};
 ghost use Rattle.ortho_rep.specs.Shapes.{angle_at, turns_at};
 ghost use Rattle.ortho_rep.specs.Turns.{mirrored};
 ghost use Rattle.ortho_rep.specs.Representation.{HasDarts, IsShape, angles_around, turning_around, whole_turn};
@@ -51,7 +51,7 @@ fn has_angles(plane: &Plane, shape: &Shape) -> bool
 fn has_mirrored_strings(plane: &Plane, shape: &Shape) -> bool
     requires { HasDarts plane.now shape.now }
     ensures { IsTrue result ↔ ((d : ℕ) → d < darts plane.now
-        → turns_at shape.now (mate plane.now d) ≡ mirrored (turns_at shape.now d)) }
+        → turns_at shape.now (reverse_dart plane.now d) ≡ mirrored (turns_at shape.now d)) }
 {
     for dart in 0..plane.graph().darts() {
         let reverse = plane.graph().reverse(dart);

@@ -1,12 +1,15 @@
 //! Shapes: an angle and a string of turns for each dart.
 
 ghost use Rattle.std.specs.Prelude.{◌≡◌, ◌<◌, ◌≤◌, ◌↔◌, IsTrue, length, All, vec_len};
+ghost use Rattle.embedding.specs.declared.graphs.TheConstants.{MAX_DARTS};
+ghost use Rattle.ortho_rep.specs.declared.strings.TheConstants.{MAX_TURNS};
 ghost use Rattle.ortho_rep.specs.Storage.{lists_in};
 ghost use Rattle.ortho_rep.specs.Shapes.{angle_at, turns_at};
 ghost use Rattle.ortho_rep.specs.Representation.{bends_of};
 
-use crate::strings::Strings;
+use crate::strings::{MAX_TURNS, Strings};
 use crate::turn::Turn;
+use embedding::MAX_DARTS;
 use std::marker::Model;
 
 /// An angle and a string of turns for each dart of a plane, which need not be an orthogonal
@@ -21,9 +24,9 @@ pub struct Shape {
 }
 
 impl Model for Shape {
-    ghost use Rattle.ortho_rep.specs.Shapes.{Figure};
+    ghost use Rattle.ortho_rep.specs.Shapes.{ShapeModel};
 
-    ghost Value = { Figure };
+    ghost Value = { ShapeModel };
 
     ghost view = { λ a. record { angles = a.angles.items; strings = a.strings } };
 }
@@ -31,17 +34,17 @@ impl Model for Shape {
 impl Shape {
     /// Whether there are at most 1,020 strings of at most 1,000,000 turns, as `new` requires.
     pub fn are_short(strings: &[Vec<Turn>]) -> bool
-        ensures { IsTrue result ↔ ((length strings.now ≤ 1020)
-            × All (λ string. vec_len string ≤ 1000000) strings.now) }
+        ensures { IsTrue result ↔ ((length strings.now ≤ MAX_DARTS)
+            × All (λ string. vec_len string ≤ MAX_TURNS) strings.now) }
     {
-        strings.len() <= 1020 && strings.iter().all(|string| string.len() <= 1_000_000)
+        strings.len() <= MAX_DARTS && strings.iter().all(|string| string.len() <= MAX_TURNS)
     }
 
     /// The shape with these angles and strings, each at the place of its dart's number. It takes no
     /// memory.
     pub fn new(angles: Vec<u8>, strings: Vec<Vec<Turn>>) -> Shape
-        requires few { vec_len strings ≤ 1020 }
-        requires short { All (λ string. vec_len string ≤ 1000000) strings.items }
+        requires few { vec_len strings ≤ MAX_DARTS }
+        requires short { All (λ string. vec_len string ≤ MAX_TURNS) strings.items }
         ensures { result ≡ record { angles = angles.items; strings = lists_in strings.items } }
     {
         Shape {
@@ -67,7 +70,7 @@ impl Shape {
     /// How many strings there are, at most 1,020.
     pub fn string_count(&self) -> usize
         ensures count { result ≡ length self.now.strings }
-        ensures few { result ≤ 1020 }
+        ensures few { result ≤ MAX_DARTS }
     {
         self.strings.len()
     }
@@ -84,7 +87,7 @@ impl Shape {
     pub fn turns(&self, dart: u16) -> &[Turn]
         requires { dart < length self.now.strings }
         ensures value { result.now ≡ turns_at self.now dart }
-        ensures short { length result.now ≤ 1000000 }
+        ensures short { length result.now ≤ MAX_TURNS }
     {
         self.strings.get(usize::from(dart))
     }

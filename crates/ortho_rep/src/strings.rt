@@ -1,10 +1,15 @@
 //! The strings of all darts, in one of two forms.
 
 ghost use Rattle.std.specs.Prelude.{◌≡◌, ◌+◌, ◌<◌, ◌≤◌, [], length, slice_index_or, All, vec_len};
+ghost use Rattle.embedding.specs.declared.graphs.TheConstants.{MAX_DARTS};
+ghost use Rattle.ortho_rep.specs.declared.strings.TheConstants.{MAX_TURNS};
 ghost use Rattle.ortho_rep.specs.Storage.{lists_in, cut, IsCut, IsShort};
 
 use crate::turn::Turn;
 use std::marker::Model;
+
+/// How many turns a string has at most.
+pub const MAX_TURNS: usize = 1_000_000;
 
 /// The string of turns of each dart: at most 1,020 strings of at most 1,000,000 turns. In contracts it
 /// is the list of the strings.
@@ -37,8 +42,8 @@ impl Model for Strings {
 impl Strings {
     /// These lists, as they are.
     pub(crate) fn from_lists(lists: Vec<Vec<Turn>>) -> Strings
-        requires few { vec_len lists ≤ 1020 }
-        requires short { All (λ string. vec_len string ≤ 1000000) lists.items }
+        requires few { vec_len lists ≤ MAX_DARTS }
+        requires short { All (λ string. vec_len string ≤ MAX_TURNS) lists.items }
         ensures { result ≡ lists_in lists.items }
     {
         Strings {
@@ -60,7 +65,7 @@ impl Strings {
     /// How many strings there are.
     pub(crate) fn len(&self) -> usize
         ensures count { result ≡ length self.now }
-        ensures few { result ≤ 1020 }
+        ensures few { result ≤ MAX_DARTS }
     {
         match &self.store {
             Store::Lists(lists) => lists.len(),
@@ -72,7 +77,7 @@ impl Strings {
     pub(crate) fn get(&self, i: usize) -> &[Turn]
         requires { i < length self.now }
         ensures value { result.now ≡ slice_index_or self.now i [] }
-        ensures short { length result.now ≤ 1000000 }
+        ensures short { length result.now ≤ MAX_TURNS }
     {
         match &self.store {
             Store::Lists(lists) => lists[i].as_slice(),

@@ -3,6 +3,7 @@ use Rattle.std.proofs.Common.{◌≡◌, ℕ, ◌+◌, ◌≤◌, List, [], ◌�
 use Rattle.std.specs.List.{concat}
 use Rattle.std.proofs.lemmas.List.Elements.{All-head, All-tail, All-push}
 use Rattle.std.proofs.lemmas.Bool.{cases_eq}
+use Rattle.planar_code.specs.declared.TheConstants.{MAX_RECORDS}
 use Rattle.planar_code.specs.Stream.{IsRecord, NoRecordFirst}
 use Rattle.planar_code.specs.Split.{IsCut}
 use Rattle.planar_code.proofs.Records.{record_same}
@@ -14,10 +15,10 @@ concat-push (r ∷ records) last = ap (λ z. r ++ z) (concat-push records last) 
 
 -- records that cannot be continued: there are as many as may be, or no other stands next
 abbrev pub IsStuck : ℕ → List ℕ → Type 0
-IsStuck count rest = (count ≡ 1000000) ⊎ NoRecordFirst rest
+IsStuck count rest = (count ≡ MAX_RECORDS) ⊎ NoRecordFirst rest
 
 -- other records that begin the same bytes begin those that cannot be continued, i records later
-pub front_from : (i : ℕ) (others records : List (List ℕ)) (left rest : List ℕ) → All IsRecord others → All IsRecord records → concat others ++ left ≡ concat records ++ rest → i + length others ≤ 1000000 → IsStuck (i + length records) rest → (more : List (List ℕ)) × (records ≡ others ++ more)
+pub front_from : (i : ℕ) (others records : List (List ℕ)) (left rest : List ℕ) → All IsRecord others → All IsRecord records → concat others ++ left ≡ concat records ++ rest → i + length others ≤ MAX_RECORDS → IsStuck (i + length records) rest → (more : List (List ℕ)) × (records ≡ others ++ more)
 front_from i [] records left rest each_o each_r e few stuck = (records, refl)
 front_from i (o ∷ others) [] left rest each_o each_r e few (inl full) = absurd (omega arith)
 front_from i (o ∷ others) [] left rest each_o each_r e few (inr stops) =
@@ -33,7 +34,7 @@ front_from i (o ∷ others) (r ∷ records) left rest each_o each_r e few stuck 
     stuck_at (inl full) = inl (omega arith)
     stuck_at (inr stops) = inr stops
 
-pub front_of-stuck : (others records : List (List ℕ)) (left rest : List ℕ) → All IsRecord others → All IsRecord records → concat others ++ left ≡ concat records ++ rest → length others ≤ 1000000 → IsStuck (length records) rest → (more : List (List ℕ)) × (records ≡ others ++ more)
+pub front_of-stuck : (others records : List (List ℕ)) (left rest : List ℕ) → All IsRecord others → All IsRecord records → concat others ++ left ≡ concat records ++ rest → length others ≤ MAX_RECORDS → IsStuck (length records) rest → (more : List (List ℕ)) × (records ≡ others ++ more)
 front_of-stuck others records left rest each_o each_r e few (inl full) =
     front_from 0 others records left rest each_o each_r e (omega arith) (inl (omega arith))
 front_of-stuck others records left rest each_o each_r e few (inr stops) =
@@ -44,7 +45,7 @@ pub length-front : (a b : List (List ℕ)) → ((more : List (List ℕ)) × (b �
 length-front a b f = omega (arith, ap length f.1, length-append a f.0)
 
 -- records that cannot be continued are the longest
-pub cut_from : (body : List ℕ) (records : List (List ℕ)) (rest : List ℕ) → body ≡ concat records ++ rest → All IsRecord records → length records ≤ 1000000 → IsStuck (length records) rest → IsCut body records rest
+pub cut_from : (body : List ℕ) (records : List (List ℕ)) (rest : List ℕ) → body ≡ concat records ++ rest → All IsRecord records → length records ≤ MAX_RECORDS → IsStuck (length records) rest → IsCut body records rest
 cut_from body records rest joined each few stuck = record {
   joined = joined;
   each = each;
@@ -55,7 +56,7 @@ cut_from body records rest joined each few stuck = record {
 
 -- the longest records cannot be continued
 pub stuck-cut : (body : List ℕ) (records : List (List ℕ)) (rest : List ℕ) → IsCut body records rest → IsStuck (length records) rest
-stuck-cut body records rest c = elim (cases_eq (length records) 1000000) [
+stuck-cut body records rest c = elim (cases_eq (length records) MAX_RECORDS) [
   | inl full ↦ inl full
   | inr short ↦ inr (λ first left r e.
       let others = records ++ first ∷ [] in
@@ -67,7 +68,7 @@ stuck-cut body records rest c = elim (cases_eq (length records) 1000000) [
 ]
 
 -- any whole records that begin the body begin the longest
-pub front_of-cut : (body : List ℕ) (records : List (List ℕ)) (rest : List ℕ) → IsCut body records rest → (others : List (List ℕ)) (left : List ℕ) → body ≡ concat others ++ left → All IsRecord others → length others ≤ 1000000 → (more : List (List ℕ)) × (records ≡ others ++ more)
+pub front_of-cut : (body : List ℕ) (records : List (List ℕ)) (rest : List ℕ) → IsCut body records rest → (others : List (List ℕ)) (left : List ℕ) → body ≡ concat others ++ left → All IsRecord others → length others ≤ MAX_RECORDS → (more : List (List ℕ)) × (records ≡ others ++ more)
 front_of-cut body records rest c others left e each few =
     front_of-stuck others records left rest each c.each (sym e ∙ c.joined) few (stuck-cut body records rest c)
 

@@ -2,7 +2,7 @@
 use Rattle.std.proofs.Common.{◌≡◌, ◌≢◌, ℕ, ◌+◌, ◌≤◌, List, [], ◌∷◌, ◌++◌, inl, inr, length, refl, sym, ap, subst, ◌∙◌, arith, append_assoc, append-nil, length-append, Result, Ok, Err, IsOk, ◌↔◌}
 use Rattle.std.specs.List.{concat}
 use Rattle.std.proofs.lemmas.Bool.{false≢true}
-use Rattle.planar_code.specs.declared.TheConstants.{HEADER}
+use Rattle.planar_code.specs.declared.TheConstants.{HEADER, MAX_RECORDS}
 use Rattle.planar_code.specs.declared.ending.Ending.{Ending}
 use Rattle.planar_code.specs.declared.ending.Ending.TheVariants as ending
 use Rattle.planar_code.specs.declared.fault.FeedFault.{FeedFault}
@@ -78,11 +78,11 @@ failed-closed f stream records s (inr (inr h)) =
     truncated≢fault f (split_same stream records h.0 (ending_of f) ending.Truncated (split-failed stream records f s) h.1).1
 
 -- no stream has more than 1,000,000 records
-pub length-split : (stream : List ℕ) (records : List (List ℕ)) (end : Ending) → IsSplit stream records end → length records ≤ 1000000
+pub length-split : (stream : List ℕ) (records : List (List ℕ)) (end : Ending) → IsSplit stream records end → length records ≤ MAX_RECORDS
 length-split stream records end (inl h) = omega (arith, ap length h.none)
 length-split stream records end (inr h) = h.cut.few
 
-pub length-standing : (p : Place) (stream : List ℕ) (records : List (List ℕ)) → StandsAt stream records p → length records ≤ 1000000
+pub length-standing : (p : Place) (stream : List ℕ) (records : List (List ℕ)) → StandsAt stream records p → length records ≤ MAX_RECORDS
 length-standing (Early front) stream records s = omega (arith, ap length s.none)
 length-standing (After count rest) stream records s = s.cut.few
 length-standing (Failed f) stream records s = length-split stream records (ending_of f) (split-failed stream records f s)
@@ -149,15 +149,15 @@ module _ (old new : Place) (piece : List ℕ) (before after : List (List ℕ)) w
       lost (_, inr h') = more-lost old piece h.added h' stream records s
 
   -- there are at most 1,000,000 records
-  pub few-feeds : (result : Result Unit FeedFault) → Feeds old piece before after new result → (stream : List ℕ) (records : List (List ℕ)) → StandsAt stream records old → length records + length after ≤ 1000000 + length before
+  pub few-feeds : (result : Result Unit FeedFault) → Feeds old piece before after new result → (stream : List ℕ) (records : List (List ℕ)) → StandsAt stream records old → length records + length after ≤ MAX_RECORDS + length before
   few-feeds result h stream records s =
       omega (arith, ap length h.appended, length-append before h.added, length-append records h.added, few result h.reads)
     where
-      lost-few : LosesRecord old piece h.added → length (records ++ h.added) ≤ 1000000
+      lost-few : LosesRecord old piece h.added → length (records ++ h.added) ≤ MAX_RECORDS
       lost-few l =
           omega (arith, length-standing l.next (stream ++ l.front) (records ++ (h.added ++ l.lost ∷ [])) (l.goes stream records s), length-append records (h.added ++ l.lost ∷ []), length-append h.added (l.lost ∷ []), length-append records h.added)
 
-      few : (r : Result Unit FeedFault) → Reads old piece h.added new r → length (records ++ h.added) ≤ 1000000
+      few : (r : Result Unit FeedFault) → Reads old piece h.added new r → length (records ++ h.added) ≤ MAX_RECORDS
       few (Ok u) r = length-standing new (stream ++ piece) (records ++ h.added) (r.1 stream records s)
       few (Err fault.Header) r = length-standing new (stream ++ piece) (records ++ h.added) (r.1 stream records s)
       few (Err fault.Large) r = length-standing new (stream ++ piece) (records ++ h.added) (r.1 stream records s)

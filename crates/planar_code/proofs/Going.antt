@@ -4,7 +4,7 @@ use Rattle.std.specs.List.{concat}
 use Rattle.std.proofs.lemmas.List.{take_more, take-append-drop, append_cancel_left}
 use Rattle.std.proofs.lemmas.List.Elements.{All-push, All-nil, All-cons}
 use Rattle.std.proofs.Math.Seq.{drop-cons}
-use Rattle.planar_code.specs.declared.TheConstants.{HEADER}
+use Rattle.planar_code.specs.declared.TheConstants.{HEADER, MAX_RECORDS}
 use Rattle.planar_code.specs.declared.fault.FeedFault.{FeedFault}
 use Rattle.planar_code.specs.declared.fault.FeedFault.TheVariants as fault
 use Rattle.planar_code.specs.Stream.{IsEntry, IsList, IsRecord, IsUnfinished, NoRecordFirst}
@@ -45,7 +45,7 @@ adds_none : (records : List (List ℕ)) (stream : List ℕ) (p : Place) → Stan
 adds_none records stream p s = subst (λ z. StandsAt stream z p) (sym (append-nil records)) s
 
 -- the open record goes on
-pub goes_more : (count : ℕ) (rest text : List ℕ) → count ≢ 1000000 → IsUnfinished (rest ++ text) → Goes (After count rest) text [] (After count (rest ++ text))
+pub goes_more : (count : ℕ) (rest text : List ℕ) → count ≢ MAX_RECORDS → IsUnfinished (rest ++ text) → Goes (After count rest) text [] (After count (rest ++ text))
 goes_more count rest text room unfinished stream records s = adds_none records (stream ++ text) (After count (rest ++ text)) (record {
   body = s.body ++ text;
   headed = ap (λ z. z ++ text) s.headed ∙ append_assoc HEADER s.body text;
@@ -56,7 +56,7 @@ goes_more count rest text room unfinished stream records s = adds_none records (
 })
 
 -- the open record is whole
-pub goes_whole : (count : ℕ) (rest text bytes : List ℕ) → count < 1000000 → bytes ≡ rest ++ text → IsRecord bytes → Goes (After count rest) text (bytes ∷ []) (After (count + 1) [])
+pub goes_whole : (count : ℕ) (rest text bytes : List ℕ) → count < MAX_RECORDS → bytes ≡ rest ++ text → IsRecord bytes → Goes (After count rest) text (bytes ∷ []) (After (count + 1) [])
 goes_whole count rest text bytes room same whole stream records s =
     let n = length-append records (bytes ∷ []) in
     let counted = s.counted in
@@ -90,7 +90,7 @@ some_after [] (x ∷ b) c some e = cc
 some_after (x ∷ a) b c some e = cc
 
 -- a byte after the last of 1,000,000 records
-pub fails_many : (count : ℕ) (rest text : List ℕ) → count ≡ 1000000 → text ≢ [] → Goes (After count rest) text [] (Failed fault.Many)
+pub fails_many : (count : ℕ) (rest text : List ℕ) → count ≡ MAX_RECORDS → text ≢ [] → Goes (After count rest) text [] (Failed fault.Many)
 fails_many count rest text full some =
     fails count rest text fault.Many (λ more. inl full) (λ more. (some_after rest text more some, full))
 
@@ -107,7 +107,7 @@ zero_on : (rest text more : List ℕ) → BeginsWithZero (rest ++ text) → Begi
 zero_on rest text more z = (z.0 ++ more, sym (append_assoc rest text more) ∙ ap (λ b. b ++ more) z.1)
 
 -- byte 0 in a record's place
-pub fails_large : (count : ℕ) (rest text : List ℕ) → count ≢ 1000000 → BeginsWithZero (rest ++ text) → Goes (After count rest) text [] (Failed fault.Large)
+pub fails_large : (count : ℕ) (rest text : List ℕ) → count ≢ MAX_RECORDS → BeginsWithZero (rest ++ text) → Goes (After count rest) text [] (Failed fault.Large)
 fails_large count rest text room z =
     fails count rest text fault.Large
     (λ more. inr (no_record-zero (rest ++ (text ++ more)) (zero_on rest text more z)))
@@ -126,7 +126,7 @@ pub no_record-oversize : (bytes : List ℕ) → IsOversize bytes → NoRecordFir
 no_record-oversize bytes o = subst NoRecordFirst (append-nil bytes) (o.never [])
 
 -- a list that is too long
-pub fails_oversize : (count : ℕ) (rest text : List ℕ) → count ≢ 1000000 → IsOversize (rest ++ text) → Goes (After count rest) text [] (Failed fault.Oversize)
+pub fails_oversize : (count : ℕ) (rest text : List ℕ) → count ≢ MAX_RECORDS → IsOversize (rest ++ text) → Goes (After count rest) text [] (Failed fault.Oversize)
 fails_oversize count rest text room o =
     let on : (more : List ℕ) → IsOversize (rest ++ (text ++ more))
     = λ more. subst IsOversize (append_assoc rest text more) (oversize_on (rest ++ text) more o) in

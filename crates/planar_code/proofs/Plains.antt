@@ -4,6 +4,7 @@ use Rattle.std.specs.List.{concat}
 use Rattle.std.proofs.lemmas.List.{take-append-drop, take_rest, length-drop}
 use Rattle.std.proofs.Math.Seq.{take-add}
 use Rattle.std.proofs.lemmas.List.Elements.{All-push, All-nil}
+use Rattle.planar_code.specs.declared.TheConstants.{MAX_RECORDS}
 use Rattle.planar_code.specs.declared.ending.Ending.{Ending}
 use Rattle.planar_code.specs.declared.ending.Ending.TheVariants as ending
 use Rattle.planar_code.specs.declared.plain.End.TheVariants as end
@@ -28,24 +29,24 @@ module _ (body : List ℕ) (records : List (List ℕ)) (rest : List ℕ) (h : Ha
   pub split-complete : rest ≡ [] → SplitsBody body records ending.Complete
   split-complete none = splits-body body records rest ending.Complete h (inr (no_record-unfinished rest (subst IsUnfinished (sym none) unfinished-none))) none
 
-  pub split-many : 0 < length rest → length records ≡ 1000000 → SplitsBody body records ending.Many
+  pub split-many : 0 < length rest → length records ≡ MAX_RECORDS → SplitsBody body records ending.Many
   split-many some full = splits-body body records rest ending.Many h (inl full) (some-left rest some, full)
 
-  pub split-large : 0 < length rest → length records ≢ 1000000 → get_or rest 0 0 ≡ 0 → SplitsBody body records ending.Large
+  pub split-large : 0 < length rest → length records ≢ MAX_RECORDS → get_or rest 0 0 ≡ 0 → SplitsBody body records ending.Large
   split-large some room z =
       let first = zero_first rest some z in
       splits-body body records rest ending.Large h (inr (no_record-zero rest first)) (first, room)
 
-  pub split-truncated : 0 < length rest → length records ≢ 1000000 → IsUnfinished rest → SplitsBody body records ending.Truncated
+  pub split-truncated : 0 < length rest → length records ≢ MAX_RECORDS → IsUnfinished rest → SplitsBody body records ending.Truncated
   split-truncated some room u = splits-body body records rest ending.Truncated h (inr (no_record-unfinished rest u)) (u, some-left rest some, room)
 
-  pub split-oversize : length records ≢ 1000000 → IsOversize rest → SplitsBody body records ending.Oversize
+  pub split-oversize : length records ≢ MAX_RECORDS → IsOversize rest → SplitsBody body records ending.Oversize
   split-oversize room o =
       splits-body body records rest ending.Oversize h (inr (no_record-oversize rest o))
       ((λ u. o.never u.missing (rest ++ u.missing) [] u.whole (sym (append-nil (rest ++ u.missing)))), o.nonzero, o.some, room)
 
   -- one record more
-  pub has_split-more : (n : ℕ) (later : List (List ℕ)) → length records ≢ 1000000 → IsRecord (take n rest) → later ≡ records ++ take n rest ∷ [] → HasSplit body later (drop n rest)
+  pub has_split-more : (n : ℕ) (later : List (List ℕ)) → length records ≢ MAX_RECORDS → IsRecord (take n rest) → later ≡ records ++ take n rest ∷ [] → HasSplit body later (drop n rest)
   has_split-more n later room r e =
       let few = h.few in
       let counted = length-append records (take n rest ∷ []) in

@@ -1,7 +1,7 @@
 -- What each exit of a framer's step gives.
 use Rattle.std.proofs.Common.{◌≡◌, ◌≢◌, ℕ, ◌+◌, ◌<◌, List, [], ◌∷◌, ◌++◌, length, take, drop, get_or, refl, sym, ap, subst, ◌∙◌, arith, Option, Some, None, Result, Ok, Err}
 use Rattle.std.proofs.lemmas.List.{take-append-drop}
-use Rattle.planar_code.specs.declared.TheConstants.{HEADER}
+use Rattle.planar_code.specs.declared.TheConstants.{HEADER, MAX_RECORDS}
 use Rattle.planar_code.specs.declared.fault.FeedFault.{FeedFault}
 use Rattle.planar_code.specs.declared.fault.FeedFault.TheVariants as fault
 use Rattle.planar_code.specs.declared.framer.Stage.{Stage}
@@ -51,11 +51,11 @@ step-header passed records rest [] new before some other = absurd (omega arith)
 step-header passed records rest (x ∷ text) new before some other = fails_header passed x text before.0 other
 
 -- a byte after the last record
-pub step-many : (records : ℕ) (rest text : List ℕ) (new : Place) → records ≡ 1000000 → 0 < length text → Steps (After records rest) text new (Err fault.Many)
+pub step-many : (records : ℕ) (rest text : List ℕ) (new : Place) → records ≡ MAX_RECORDS → 0 < length text → Steps (After records rest) text new (Err fault.Many)
 step-many records rest text new full some = fails_many records rest text full (some-text text some)
 
 -- the text ends the open record
-pub step-whole : (records : ℕ) (rest text new bytes : List ℕ) (end : ℕ) → records < 1000000 → TakesFrom rest text new (Ok (Some (bytes, end))) → Steps (After records rest) text (After (records + 1) new) (Ok (end, Some bytes))
+pub step-whole : (records : ℕ) (rest text new bytes : List ℕ) (end : ℕ) → records < MAX_RECORDS → TakesFrom rest text new (Ok (Some (bytes, end))) → Steps (After records rest) text (After (records + 1) new) (Ok (end, Some bytes))
 step-whole records rest text new bytes end room t = (
   t.1,
   t.2,
@@ -64,7 +64,7 @@ step-whole records rest text new bytes end room t = (
 )
 
 -- the text leaves it open
-pub step-more : (records : ℕ) (rest text new : List ℕ) → records < 1000000 → 0 < length text → TakesFrom rest text new (Ok None) → Steps (After records rest) text (After records new) (Ok (length text, None))
+pub step-more : (records : ℕ) (rest text new : List ℕ) → records < MAX_RECORDS → 0 < length text → TakesFrom rest text new (Ok None) → Steps (After records rest) text (After records new) (Ok (length text, None))
 step-more records rest text new room some t = (
   some,
   omega arith,
@@ -78,7 +78,7 @@ step-more records rest text new room some t = (
     take-all (x ∷ xs) = ap (λ z. x ∷ z) (take-all xs)
 
 -- the open record has a fault
-pub step-fault : (records : ℕ) (rest text taken : List ℕ) (new : Place) (f : FeedFault) → records < 1000000 → TakesFrom rest text taken (Err f) → Steps (After records rest) text new (Err f)
+pub step-fault : (records : ℕ) (rest text taken : List ℕ) (new : Place) (f : FeedFault) → records < MAX_RECORDS → TakesFrom rest text taken (Err f) → Steps (After records rest) text new (Err f)
 step-fault records rest text taken new fault.Header room t = absurd t
 step-fault records rest text taken new fault.Large room t = fails_large records rest text (λ e. omega arith) t
 step-fault records rest text taken new fault.Oversize room t = fails_oversize records rest text (λ e. omega arith) t

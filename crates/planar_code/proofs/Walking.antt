@@ -2,7 +2,7 @@
 use Rattle.std.proofs.Common.{◌≢◌, ℕ, ◌+◌, ◌-◌, ◌<◌, ◌≤◌, List, [], ◌∷◌, ◌++◌, inl, inr, All, take, get_or, refl, sym, ap, subst, arith}
 use Rattle.std.proofs.lemmas.Bool.{cases_eq}
 use Rattle.std.proofs.lemmas.List.Elements.{All-head, All-tail}
-use Rattle.planar_code.specs.declared.TheConstants.{HEADER}
+use Rattle.planar_code.specs.declared.TheConstants.{HEADER, MAX_RECORDS}
 use Rattle.planar_code.specs.declared.ending.Ending.{Ending}
 use Rattle.planar_code.specs.declared.ending.Ending.TheVariants as ending
 use Rattle.planar_code.specs.declared.fault.FeedFault.{FeedFault}
@@ -18,7 +18,7 @@ use Rattle.planar_code.proofs.Feeding.{split-early, split-complete, split-trunca
 -- places of which enough is known to go on
 data Known : Place → Type 0 where
   early : (passed : ℕ) → passed < 15 → Known (Early (take passed HEADER))
-  after : (count : ℕ) (rest : List ℕ) (left entries : ℕ) → IsBegun rest left entries → count ≤ 1000000 → Known (After count rest)
+  after : (count : ℕ) (rest : List ℕ) (left entries : ℕ) → IsBegun rest left entries → count ≤ MAX_RECORDS → Known (After count rest)
   failed : (f : FeedFault) → Known (Failed f)
 
 -- where some bytes lead
@@ -29,7 +29,7 @@ record Leads (p : Place) (bytes : List ℕ) : Type 0 where
   goes : Goes p bytes added place
 
 -- the record goes on
-leads-more : (count : ℕ) (rest : List ℕ) (x left entries : ℕ) → count ≢ 1000000 → count ≤ 1000000 → IsStarted (rest ++ x ∷ []) left entries → Leads (After count rest) (x ∷ [])
+leads-more : (count : ℕ) (rest : List ℕ) (x left entries : ℕ) → count ≢ MAX_RECORDS → count ≤ MAX_RECORDS → IsStarted (rest ++ x ∷ []) left entries → Leads (After count rest) (x ∷ [])
 leads-more count rest x left entries room few s = record {
   added = [];
   place = After count (rest ++ x ∷ []);
@@ -38,7 +38,7 @@ leads-more count rest x left entries room few s = record {
 }
 
 -- a byte of a record
-leads-after : (count : ℕ) (rest : List ℕ) (left entries x : ℕ) → IsBegun rest left entries → count ≤ 1000000 → count ≢ 1000000 → x < 256 → Leads (After count rest) (x ∷ [])
+leads-after : (count : ℕ) (rest : List ℕ) (left entries x : ℕ) → IsBegun rest left entries → count ≤ MAX_RECORDS → count ≢ MAX_RECORDS → x < 256 → Leads (After count rest) (x ∷ [])
 leads-after count rest left entries x (inl none) few room byte = elim (cases_eq x 0) [
   | inl z ↦ record {
     added = [];
@@ -80,7 +80,7 @@ leads-byte _ (early passed room) x byte = elim (cases_eq x (get_or HEADER passed
   ]
   | inr other ↦ record { added = []; place = Failed fault.Header; known = failed fault.Header; goes = fails_header passed x [] room other }
 ]
-leads-byte _ (after count rest left entries begun few) x byte = elim (cases_eq count 1000000) [
+leads-byte _ (after count rest left entries begun few) x byte = elim (cases_eq count MAX_RECORDS) [
   | inl full ↦ record { added = []; place = Failed fault.Many; known = failed fault.Many; goes = fails_many count rest (x ∷ []) full (λ e. (cc)) }
   | inr room ↦ leads-after count rest left entries x begun few room byte
 ]

@@ -1,6 +1,6 @@
 -- What a framer's fields say: its place.
 use Rattle.std.specs.Prelude.{◌≡◌, ℕ, ◌<◌, ◌≤◌, List, [], take}
-use Rattle.planar_code.specs.declared.TheConstants.{HEADER}
+use Rattle.planar_code.specs.declared.TheConstants.{HEADER, MAX_RECORDS}
 use Rattle.planar_code.specs.declared.framer.Framer.TheInside.{Inside}
 use Rattle.planar_code.specs.declared.framer.Stage.{Stage}
 use Rattle.planar_code.specs.declared.framer.Stage.TheVariants as stage
@@ -18,7 +18,7 @@ place_of f = place_at f.stage f.records f.current
 -- before the last byte of the header there is no record, nor a byte of one
 abbrev pub IsBefore : Stage → ℕ → List ℕ → Type 0
 IsBefore (stage.Header passed) records rest = (passed < 15) × (records ≡ 0) × (rest ≡ [])
-IsBefore stage.Records records rest = records ≤ 1000000
+IsBefore stage.Records records rest = records ≤ MAX_RECORDS
 IsBefore (stage.Failed fault) records rest = Unit {0}
 
 abbrev pub IsFramer : Inside → Type 0

@@ -1,6 +1,6 @@
 -- Where a framer stands in its stream, and what it does with the next piece.
 use Rattle.std.specs.Prelude.{◌≡◌, ◌≢◌, ◌⊎◌, ℕ, List, [], ◌∷◌, ◌++◌, length, drop, Result, Ok, Err}
-use Rattle.planar_code.specs.declared.TheConstants.{HEADER}
+use Rattle.planar_code.specs.declared.TheConstants.{HEADER, MAX_RECORDS}
 use Rattle.planar_code.specs.declared.ending.Ending.{Ending}
 use Rattle.planar_code.specs.declared.fault.FeedFault.{FeedFault}
 use Rattle.planar_code.specs.declared.fault.FeedFault.TheVariants as fault
@@ -30,7 +30,7 @@ pub record StandsAfter (stream : List ℕ) (records : List (List ℕ)) (count : 
   pub cut : IsCut body records rest
   pub counted : length records ≡ count
   pub open_record : IsUnfinished rest
-  pub full : count ≡ 1000000 → rest ≡ []
+  pub full : count ≡ MAX_RECORDS → rest ≡ []
 
 -- a stream that has these records so far has led to the place; to a fault where, however the stream
 -- goes on, it has just these records and ends as the fault says

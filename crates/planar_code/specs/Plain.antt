@@ -1,6 +1,7 @@
 -- What the plain splitter finds.
 use Rattle.std.specs.Prelude.{◌≡◌, ℕ, ◌-◌, ◌<◌, ◌≤◌, List, ◌++◌, length, take, All}
 use Rattle.std.specs.List.{concat}
+use Rattle.planar_code.specs.declared.TheConstants.{MAX_RECORDS}
 use Rattle.planar_code.specs.declared.ending.Ending.{Ending}
 use Rattle.planar_code.specs.declared.plain.End.{End}
 use Rattle.planar_code.specs.declared.plain.End.TheVariants as end
@@ -30,4 +31,4 @@ pub record SplitsBody (body : List ℕ) (records : List (List ℕ)) (end : Endin
 pub record HasSplit (body : List ℕ) (records : List (List ℕ)) (rest : List ℕ) : Type 0 where
   pub joined : body ≡ concat records ++ rest
   pub each : All IsRecord records
-  pub few : length records ≤ 1000000
+  pub few : length records ≤ MAX_RECORDS

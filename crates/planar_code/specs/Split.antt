@@ -1,7 +1,7 @@
 -- How a whole stream splits into header, records, rest and ending.
 use Rattle.std.specs.Prelude.{◌≡◌, ◌≢◌, ◌⊎◌, ℕ, ◌≤◌, List, [], ◌∷◌, ◌++◌, length, All}
 use Rattle.std.specs.List.{concat}
-use Rattle.planar_code.specs.declared.TheConstants.{HEADER}
+use Rattle.planar_code.specs.declared.TheConstants.{HEADER, MAX_RECORDS}
 use Rattle.planar_code.specs.declared.ending.Ending.{Ending}
 use Rattle.planar_code.specs.declared.ending.Ending.TheVariants as ending
 use Rattle.planar_code.specs.declared.fault.FeedFault.{FeedFault}
@@ -13,8 +13,8 @@ use Rattle.planar_code.specs.Stream.{IsRecord, IsUnfinished}
 pub record IsCut (body : List ℕ) (records : List (List ℕ)) (rest : List ℕ) : Type 0 where
   pub joined : body ≡ concat records ++ rest
   pub each : All IsRecord records
-  pub few : length records ≤ 1000000
-  pub longest : (others : List (List ℕ)) (left : List ℕ) → body ≡ concat others ++ left → All IsRecord others → length others ≤ 1000000 → length others ≤ length records
+  pub few : length records ≤ MAX_RECORDS
+  pub longest : (others : List (List ℕ)) (left : List ℕ) → body ≡ concat others ++ left → All IsRecord others → length others ≤ MAX_RECORDS → length others ≤ length records
 
 -- the bytes begin with byte 0
 abbrev pub BeginsWithZero : List ℕ → Type 0
@@ -23,10 +23,10 @@ BeginsWithZero bytes = (more : List ℕ) × (bytes ≡ 0 ∷ more)
 -- what a number of records and the rest after them end in: of these the first that fits
 abbrev pub EndsAs : ℕ → List ℕ → Ending → Type 0
 EndsAs count rest ending.Complete = rest ≡ []
-EndsAs count rest ending.Many = (rest ≢ []) × (count ≡ 1000000)
-EndsAs count rest ending.Large = BeginsWithZero rest × (count ≢ 1000000)
-EndsAs count rest ending.Truncated = IsUnfinished rest × (rest ≢ []) × (count ≢ 1000000)
-EndsAs count rest ending.Oversize = (IsUnfinished rest → ⊥) × (BeginsWithZero rest → ⊥) × (rest ≢ []) × (count ≢ 1000000)
+EndsAs count rest ending.Many = (rest ≢ []) × (count ≡ MAX_RECORDS)
+EndsAs count rest ending.Large = BeginsWithZero rest × (count ≢ MAX_RECORDS)
+EndsAs count rest ending.Truncated = IsUnfinished rest × (rest ≢ []) × (count ≢ MAX_RECORDS)
+EndsAs count rest ending.Oversize = (IsUnfinished rest → ⊥) × (BeginsWithZero rest → ⊥) × (rest ≢ []) × (count ≢ MAX_RECORDS)
 EndsAs count rest ending.Header = ⊥
 EndsAs count rest ending.Memory = ⊥
 

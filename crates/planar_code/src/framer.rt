@@ -1,4 +1,5 @@
 ghost use Rattle.std.specs.Prelude.{◌≡◌, ◌≢◌, ◌⊎◌, ℕ, ◌+◌, ◌<◌, ◌≤◌, List, [], ◌++◌, length, IfOk, OnOk, OnErr, IsSome, IsOk, Err, ◌↔◌, option_to_list};
+ghost use Rattle.planar_code.specs.declared.TheConstants.{MAX_RECORDS};
 ghost use Rattle.planar_code.specs.Split.{IsSplit, IsOpen, ending_of};
 ghost use Rattle.planar_code.specs.Place.{Place, Early, After, Failed, StandsAt, IsRunning, Feeds, HasMore, beyond};
 ghost use Rattle.planar_code.specs.Step.{Steps, Runs};
@@ -180,7 +181,7 @@ impl Framer {
         // No stream gives more than 1,000,000 records.
         ensures few { (stream : List ℕ) (records : List (List ℕ))
             → StandsAt stream records self.old
-            → length records + length out.new.items ≤ 1000000 + length out.old.items }
+            → length records + length out.new.items ≤ MAX_RECORDS + length out.old.items }
     {
         if let Stage::Failed(fault) = self.stage {
             return Err(fault);

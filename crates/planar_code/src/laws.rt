@@ -1,5 +1,6 @@
 //! Laws of the definitions, each as the contract of a function that does nothing.
 ghost use Rattle.std.specs.Prelude.{codes, ◌≡◌, ℕ, ◌<◌, ◌≤◌, List, [], ◌++◌, length, All};
+ghost use Rattle.planar_code.specs.declared.TheConstants.{MAX_RECORDS};
 ghost use Rattle.planar_code.specs.declared.ending.Ending.{Ending};
 ghost use Rattle.planar_code.specs.Stream.{IsRecord, HasLongList, lists_of};
 ghost use Rattle.planar_code.specs.Split.{IsSplit, IsOpen};
@@ -41,7 +42,7 @@ pub fn some_split()
 pub fn few_records()
     ensures { (stream : List ℕ) (records : List (List ℕ)) (end : Ending)
         → IsSplit stream records end
-        → length records ≤ 1000000 }
+        → length records ≤ MAX_RECORDS }
 {}
 
 /// The records so far begin the records of the stream, however it goes on.

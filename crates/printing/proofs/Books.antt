@@ -5,7 +5,7 @@ use Rattle.lanes.specs.Notes.{About, numbered}
 use Rattle.lanes.specs.Opening.{Meaning}
 use Rattle.entries.specs.declared.entry.Entry.{Entry}
 use Rattle.entries.specs.Abouts.{about_of}
-use Rattle.books.specs.Books.{Pages, AreBooks}
+use Rattle.books.specs.Books.{BookModel, AreBooks}
 use Rattle.reports.specs.declared.form.Form.{Form}
 use Rattle.reports.specs.declared.form.Form.TheVariants.{Report, Json}
 use Rattle.reports.specs.Report.{numbered_texts, entry_line, end_line, file_line, book_text}
@@ -14,7 +14,7 @@ use Rattle.reports.specs.Forms.{text_in}
 use Rattle.printing.specs.Lines.{line_in, lines_in, book_in}
 
 -- the text of a book in this form
-abbrev pub book_text_in : Form → ℕ → Pages → List ℕ
+abbrev pub book_text_in : Form → ℕ → BookModel → List ℕ
 book_text_in Report number book = book_text number book
 book_text_in Json number book = book_json number book
 
@@ -49,7 +49,7 @@ json_lines choice file ordinal (entry ∷ entries) (bytes ∷ records) same =
     ∙ ap (λ l. entry_json (file + 1) (ordinal + 1) entry ++ l) (json_lines choice file (ordinal + 1) entries records rest)
 
 -- the text of the book of file `file`, counted from 0
-pub book_by_lines : (form : Form) (choice : Choice) (file : ℕ) (book : Pages) (records : List (List ℕ)) → map about_of book.entries ≡ numbered choice file 0 records
+pub book_by_lines : (form : Form) (choice : Choice) (file : ℕ) (book : BookModel) (records : List (List ℕ)) → map about_of book.entries ≡ numbered choice file 0 records
     → book_in form (file + 1) book ≡ book_text_in form (file + 1) book
 book_by_lines Report choice file book records same =
     ap (λ l. file_line (file + 1) ++ l ++ end_line book.mark (length book.entries)) (report_lines choice file 0 book.entries records same)
@@ -57,7 +57,7 @@ book_by_lines Json choice file book records same =
     ap (λ l. l ++ end_json (file + 1) book.mark (length book.entries)) (json_lines choice file 0 book.entries records same)
 
 -- the text of books in a row, the first of which is of file `file`, counted from 0
-pub books_by_lines : (form : Form) (choice : Choice) (meaning : ℕ → Meaning) (file : ℕ) (books : List Pages) → AreBooks choice meaning file books
+pub books_by_lines : (form : Form) (choice : Choice) (meaning : ℕ → Meaning) (file : ℕ) (books : List BookModel) → AreBooks choice meaning file books
     → numbered_texts (book_in form) (file + 1) books ≡ numbered_texts (book_text_in form) (file + 1) books
 books_by_lines form choice meaning file [] are = refl
 books_by_lines form choice meaning file (book ∷ books) are =
@@ -65,7 +65,7 @@ books_by_lines form choice meaning file (book ∷ books) are =
     ∙ ap (λ l. book_text_in form (file + 1) book ++ l) (books_by_lines form choice meaning (file + 1) books are.1)
 
 -- the text of a run's books
-pub text_by_lines : (form : Form) (choice : Choice) (meaning : ℕ → Meaning) (books : List Pages) → AreBooks choice meaning 0 books
+pub text_by_lines : (form : Form) (choice : Choice) (meaning : ℕ → Meaning) (books : List BookModel) → AreBooks choice meaning 0 books
     → numbered_texts (book_in form) 1 books ≡ text_in form books
 text_by_lines Report choice meaning books are = books_by_lines Report choice meaning 0 books are
 text_by_lines Json choice meaning books are = books_by_lines Json choice meaning 0 books are

@@ -1,10 +1,10 @@
 -- The text of a run in each form, a line at a time.
 use Rattle.std.specs.Prelude.{◌≡◌, ◌≢◌, ℕ, ◌+◌, List, [], ◌∷◌, ◌++◌, length, codes, decimal, Option, Vec, IfSome}
 use Rattle.std.specs.declared.alloc.Global.{Global}
-use Rattle.streams.specs.declared.found.Mark.{Mark}
-use Rattle.entries.specs.declared.found.Answer.{Answer}
+use Rattle.streams.specs.declared.frames.Mark.{Mark}
+use Rattle.entries.specs.declared.answer.Answer.{Answer}
 use Rattle.entries.specs.declared.entry.Entry.{Entry}
-use Rattle.books.specs.Books.{Pages}
+use Rattle.books.specs.Books.{BookModel}
 use Rattle.reports.specs.declared.form.Form.{Form}
 use Rattle.reports.specs.declared.form.Form.TheVariants.{Report, Json}
 use Rattle.reports.specs.Report.{file_line, entry_line, answer_text, end_line}
@@ -43,5 +43,5 @@ abbrev pub whole_in : Form → ℕ → List Entry → Mark → List ℕ
 whole_in form number entries mark = head_in form number ++ lines_in form entries ++ end_in form number mark (length entries)
 
 -- the same of a book
-abbrev pub book_in : Form → ℕ → Pages → List ℕ
+abbrev pub book_in : Form → ℕ → BookModel → List ℕ
 book_in form number book = whole_in form number book.entries book.mark

@@ -1,6 +1,6 @@
 //! The lines of a run in each form. Files and places in a file count from 0 here, and from 1 in the text.
 ghost use Rattle.std.specs.Prelude.{◌≡◌, ◌+◌, IfOk};
-ghost use Rattle.entries.specs.declared.found.Answer.{Answer};
+ghost use Rattle.entries.specs.declared.answer.Answer.{Answer};
 ghost use Rattle.entries.specs.declared.entry.Entry.{Entry};
 ghost use Rattle.printing.specs.Lines.{line_in, head_in, end_in};
 

@@ -1,7 +1,7 @@
 //! A line that tells how far a run is.
 ghost use Rattle.std.specs.Prelude.{◌≡◌};
 
-use crate::line::Line;
+use crate::fault_line::Line;
 use lanes::{Gate, Stage};
 use std::fmt::Write;
 use std::io;

@@ -4,9 +4,9 @@ use Rattle.std.proofs.lemmas.List.{take-append-drop, take_more, length-take, tak
 use Rattle.streams.specs.declared.faults.WriteFault.{WriteFault}
 use Rattle.streams.specs.declared.faults.WriteFault.TheVariants.{Write, Memory}
 use Rattle.streams.specs.Sink.{IsOnItsWay, AppendsFront, StaysOnItsWay}
-use Rattle.streams.specs.declared.found.Mark.{Mark}
+use Rattle.streams.specs.declared.frames.Mark.{Mark}
 use Rattle.entries.specs.declared.entry.Entry.{Entry}
-use Rattle.books.specs.Books.{Pages}
+use Rattle.books.specs.Books.{BookModel}
 use Rattle.reports.specs.Report.{numbered_texts, file_line, entry_line, end_line, book_text}
 
 module _ {A : Type 0} (text : ℕ → A → List ℕ) where
@@ -73,7 +73,7 @@ stays_fails old new waited waits failed more rest whole Write r stays split is =
 stays_fails old new waited waits failed more rest whole Memory r stays split is = absurd stays
 
 -- the text of a book, by its parts
-pub book_by_parts : (number : ℕ) (book : Pages) (xs : List Entry) (mark : Mark) → xs ≡ book.entries → mark ≡ book.mark
+pub book_by_parts : (number : ℕ) (book : BookModel) (xs : List Entry) (mark : Mark) → xs ≡ book.entries → mark ≡ book.mark
     → (file_line number ++ numbered_texts entry_line 1 xs) ++ end_line mark (length xs) ≡ book_text number book
 book_by_parts number book xs mark same same_mark =
     ap (λ (ys : List Entry). (file_line number ++ numbered_texts entry_line 1 ys) ++ end_line mark (length ys)) same

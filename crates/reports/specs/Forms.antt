@@ -1,12 +1,12 @@
 -- The forms in which a batch is written.
 use Rattle.std.specs.Prelude.{ℕ, List}
-use Rattle.books.specs.Books.{Pages}
+use Rattle.books.specs.Books.{BookModel}
 use Rattle.reports.specs.Report.{report_text}
 use Rattle.reports.specs.Json.{json_text}
 use Rattle.reports.specs.declared.form.Form.{Form}
 use Rattle.reports.specs.declared.form.Form.TheVariants.{Report, Json}
 
 -- the text of these books
-abbrev pub text_in : Form → List Pages → List ℕ
+abbrev pub text_in : Form → List BookModel → List ℕ
 text_in Report books = report_text books
 text_in Json books = json_text books

@@ -1,18 +1,18 @@
 -- The text of a report.
 use Rattle.std.specs.Prelude.{ℕ, ◌+◌, ◌/◌, List, [], ◌∷◌, ◌++◌, length, codes, decimal, Result, Ok, Err}
-use Rattle.streams.specs.declared.found.Mark.{Mark}
+use Rattle.streams.specs.declared.frames.Mark.{Mark}
 use Rattle.streams.specs.Text as marks
 use Rattle.embedding.specs.Words as rules
-use Rattle.faces.specs.Map.{Map, vertices, darts}
-use Rattle.ortho_rep.specs.Shapes.{Figure, turns_at}
-use Rattle.ortho_rep.specs.Points.{Plot}
+use Rattle.faces.specs.Planes.{PlaneModel, vertices, darts}
+use Rattle.ortho_rep.specs.Shapes.{ShapeModel, turns_at}
+use Rattle.ortho_rep.specs.Points.{PointsModel}
 use Rattle.ortho_rep.specs.Representation.{bends_of}
 use Rattle.entries.specs.declared.cause.Cause.{Cause}
-use Rattle.entries.specs.declared.found.Answer.{Answer}
-use Rattle.entries.specs.declared.found.Answer.TheVariants.{Laid, Refused, NoMemory}
+use Rattle.entries.specs.declared.answer.Answer.{Answer}
+use Rattle.entries.specs.declared.answer.Answer.TheVariants.{Laid, Refused, NoMemory}
 use Rattle.entries.specs.declared.entry.Entry.{Entry}
 use Rattle.entries.specs.Words as causes
-use Rattle.books.specs.Books.{Pages}
+use Rattle.books.specs.Books.{BookModel}
 
 -- the texts of several things, one after another, the first of which has this number
 abbrev pub numbered_texts : {A : Type 0} → (ℕ → A → List ℕ) → ℕ → List A → List ℕ
@@ -20,7 +20,7 @@ numbered_texts text number [] = []
 numbered_texts text number (x ∷ xs) = text number x ++ numbered_texts text (number + 1) xs
 
 -- how many vertices, edges and faces a plane has, and how many bends its shape has
-abbrev pub sizes_text : Map → Figure → List ℕ
+abbrev pub sizes_text : PlaneModel → ShapeModel → List ℕ
 sizes_text plane shape =
     codes " n=" ++ decimal (vertices plane) ++ codes " m=" ++ decimal (darts plane / 2) ++ codes " f=" ++ decimal plane.faces
     ++ codes " bends=" ++ decimal (bends_of (length shape.strings) (turns_at shape))
@@ -30,7 +30,7 @@ abbrev pub cause_text : Cause → List ℕ
 cause_text cause = codes " drawn=no cause=" ++ causes.word_of cause
 
 -- whether there is a drawing, and the cause where there is none
-abbrev pub drawn_text : Result Plot Cause → List ℕ
+abbrev pub drawn_text : Result PointsModel Cause → List ℕ
 drawn_text (Ok points) = codes " drawn=yes"
 drawn_text (Err cause) = cause_text cause
 
@@ -53,9 +53,9 @@ abbrev pub end_line : Mark → ℕ → List ℕ
 end_line mark count = codes "end " ++ marks.word_of mark ++ codes " graphs=" ++ decimal count ++ codes "\n"
 
 -- the lines of the file with this number; its entries are numbered from 1
-abbrev pub book_text : ℕ → Pages → List ℕ
+abbrev pub book_text : ℕ → BookModel → List ℕ
 book_text number book = file_line number ++ numbered_texts entry_line 1 book.entries ++ end_line book.mark (length book.entries)
 
 -- the lines of all files, numbered from 1
-abbrev pub report_text : List Pages → List ℕ
+abbrev pub report_text : List BookModel → List ℕ
 report_text books = numbered_texts book_text 1 books

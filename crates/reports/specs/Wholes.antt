@@ -1,11 +1,11 @@
 -- Which books are whole.
 use Rattle.std.specs.Prelude.{◌≡◌, ◌≢◌, All}
 use Rattle.planar_code.specs.declared.ending.Ending.{Ending}
-use Rattle.streams.specs.declared.found.Mark.{Mark}
-use Rattle.entries.specs.declared.found.Answer.{Answer}
-use Rattle.books.specs.Books.{Pages}
+use Rattle.streams.specs.declared.frames.Mark.{Mark}
+use Rattle.entries.specs.declared.answer.Answer.{Answer}
+use Rattle.books.specs.Books.{BookModel}
 
 -- the file ended complete, and memory sufficed for an answer to each of its records
-pub record IsWholeBook (book : Pages) : Type 0 where
+pub record IsWholeBook (book : BookModel) : Type 0 where
   pub complete : book.mark ≡ Mark.Ended Ending.Complete
   pub answered : All (λ entry. entry.answer ≢ Answer.NoMemory) book.entries

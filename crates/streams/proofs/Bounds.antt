@@ -2,7 +2,7 @@
 use Rattle.std.proofs.Common.{ℕ, ◌+◌, ◌*◌, ◌≤◌, Bool, List, [], ◌∷◌, Option, length, All, refl, ap, arith, length-append}
 use Rattle.std.specs.List.{concat}
 use Rattle.std.proofs.lemmas.List.Elements.{All-head, All-tail}
-use Rattle.planar_code.specs.declared.TheConstants.{HEADER}
+use Rattle.planar_code.specs.declared.TheConstants.{HEADER, MAX_RECORDS}
 use Rattle.planar_code.specs.Stream.{IsRecord, IsUnfinished}
 use Rattle.planar_code.specs.Place.{Place, Early, After, Failed, StandsAt, IsRunning}
 use Rattle.planar_code.proofs.Started.{length-record}
@@ -45,9 +45,9 @@ few_rounds told told_fails rounds to_come fails records place r =
     let went = r.went in omega (arith, length-running r.read records place r.stands r.running)
 
 -- at no place are there more than 1,000,000 records
-pub few_stand : (read : List ℕ) (records : List (List ℕ)) (place : Place) → StandsAt read records place → length records ≤ 1000000
+pub few_stand : (read : List ℕ) (records : List (List ℕ)) (place : Place) → StandsAt read records place → length records ≤ MAX_RECORDS
 few_stand read records place s = let split = split_stands read records place s in length-split read records split.0 split.1
 
 -- where nothing is added, there are as few
-pub few_stay : (read : List ℕ) (records : List (List ℕ)) (place : Place) (count : ℕ) → StandsAt read records place → length records + count ≤ 1000000 + count
+pub few_stay : (read : List ℕ) (records : List (List ℕ)) (place : Place) (count : ℕ) → StandsAt read records place → length records + count ≤ MAX_RECORDS + count
 few_stay read records place count s = omega (arith, few_stand read records place s)

@@ -1,8 +1,8 @@
 -- The lines of a list of records, in parts.
 use Rattle.std.proofs.Common.{◌≡◌, ℕ, ◌+◌, ◌<◌, ◌≤◌, List, [], ◌∷◌, ◌++◌, length, take, drop, get_or, sym, ◌∙◌, ap, append_assoc, append-nil, arith}
 use Rattle.std.proofs.lemmas.List.{take-append-drop, take_more, length-take, take_all}
-use Rattle.streams.specs.declared.found.Mark.{Mark}
-use Rattle.streams.specs.Found.{Found}
+use Rattle.streams.specs.declared.frames.Mark.{Mark}
+use Rattle.streams.specs.FramesModel.{FramesModel}
 use Rattle.streams.specs.Text.{record_line, record_lines, end_line, frames_text}
 
 -- the lines of two lists, one after the other
@@ -42,7 +42,7 @@ pub record_lines-all : (xs : List (List ℕ)) (i : ℕ) → length xs ≤ i → 
 record_lines-all xs i past = ap (record_lines 1) (take_all i xs past)
 
 -- the text, by its parts
-pub text_by_parts : (found : Found) (xs : List (List ℕ)) (mark : Mark) → xs ≡ found.records → mark ≡ found.mark
+pub text_by_parts : (found : FramesModel) (xs : List (List ℕ)) (mark : Mark) → xs ≡ found.records → mark ≡ found.mark
     → record_lines 1 xs ++ end_line mark (length xs) ≡ frames_text found
 text_by_parts found xs mark same same_mark =
     ap (λ (ys : List (List ℕ)). record_lines 1 ys ++ end_line mark (length ys)) same

@@ -2,7 +2,7 @@
 use Rattle.std.proofs.Common.{◌≡◌, ℕ, List, [], ◌∷◌, ◌++◌, Option, None, Some, IsSome, sym, refl, ap, ◌∙◌, subst, append_assoc, append-nil}
 use native.Mathlib.Omega.{arith}
 use Rattle.std.specs.Prelude.{Bool, unwrap_or}
-use Rattle.streams.specs.declared.found.Mark.{Mark}
+use Rattle.streams.specs.declared.frames.Mark.{Mark}
 use Rattle.streams.specs.declared.framed.Framed.{Framed}
 use Rattle.streams.specs.declared.framed.Framed.TheVariants.{Records, End, Stop}
 use Rattle.streams.specs.Reading.{IsFoundIn}

@@ -9,8 +9,8 @@ use Rattle.planar_code.specs.declared.fault.FeedFault.TheVariants as fault
 use Rattle.planar_code.specs.Split.{IsSplit, ending_of}
 use Rattle.planar_code.specs.Place.{Place, Early, Failed, StandsAt, Goes, LosesRecord, Feeds}
 use Rattle.planar_code.proofs.Splits.{split_same}
-use Rattle.streams.specs.declared.found.Mark.{Mark}
-use Rattle.streams.specs.declared.found.Mark.TheVariants as mark
+use Rattle.streams.specs.declared.frames.Mark.{Mark}
+use Rattle.streams.specs.declared.frames.Mark.TheVariants as mark
 use Rattle.streams.specs.Tap.{IsAtItsEnd, IsAtItsFailure}
 use Rattle.streams.specs.Marks.{IsMarked, IsCutShort}
 use Rattle.streams.specs.Reading.{IsToldOf, IsFoundIn, IsBeingRead, IsReadToItsEnd}

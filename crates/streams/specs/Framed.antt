@@ -2,7 +2,7 @@
 use Rattle.std.specs.Prelude.{◌≡◌, ℕ, Bool, List, [], ◌∷◌, ◌++◌, Option, None, Some, IfSome, ⊤}
 use Rattle.ruled_lanes.specs.declared.link_ends.Giver.{Giver}
 use Rattle.ruled_lanes.specs.LinkEnds.{given, GivesToSame}
-use Rattle.streams.specs.declared.found.Mark.{Mark}
+use Rattle.streams.specs.declared.frames.Mark.{Mark}
 use Rattle.streams.specs.declared.framed.Framed.{Framed}
 use Rattle.streams.specs.declared.framed.Framed.TheVariants.{Records, End, Stop}
 use Rattle.streams.specs.Reading.{IsFoundIn}

@@ -1,6 +1,6 @@
 pub mod Tap
 pub mod Sink
-pub mod Found
+pub mod FramesModel
 pub mod Marks
 pub mod Memory
 pub mod Reading

@@ -3,8 +3,8 @@ use Rattle.std.specs.Prelude.{◌≡◌, ℕ, ◌+◌, ◌≤◌, Bool, false, L
 use Rattle.std.specs.Io.KnownBytes.{Consumes}
 use Rattle.planar_code.specs.Split.{ending_of}
 use Rattle.planar_code.specs.Place.{Place, StandsAt, IsRunning}
-use Rattle.streams.specs.declared.found.Mark.{Mark}
-use Rattle.streams.specs.declared.found.Mark.TheVariants as mark
+use Rattle.streams.specs.declared.frames.Mark.{Mark}
+use Rattle.streams.specs.declared.frames.Mark.TheVariants as mark
 use Rattle.streams.specs.declared.reading.Step.{Step}
 use Rattle.streams.specs.declared.reading.Step.TheVariants.{More, Ended, Failed, Stopped}
 use Rattle.streams.specs.Marks.{IsMarked}

@@ -1,9 +1,9 @@
 -- The text of what a run found.
 use Rattle.std.specs.Prelude.{ℕ, ◌+◌, List, [], ◌∷◌, ◌++◌, length, slice_index, codes, decimal}
 use Rattle.planar_code.specs.declared.ending.Ending.TheVariants as ending
-use Rattle.streams.specs.declared.found.Mark.{Mark}
-use Rattle.streams.specs.declared.found.Mark.TheVariants.{Ended, Io}
-use Rattle.streams.specs.Found.{Found}
+use Rattle.streams.specs.declared.frames.Mark.{Mark}
+use Rattle.streams.specs.declared.frames.Mark.TheVariants.{Ended, Io}
+use Rattle.streams.specs.FramesModel.{FramesModel}
 
 -- one record: its number, its first byte, and how many bytes it has
 abbrev pub record_line : ℕ → List ℕ → List ℕ
@@ -31,5 +31,5 @@ abbrev pub end_line : Mark → ℕ → List ℕ
 end_line mark count = codes "end " ++ word_of mark ++ codes " records=" ++ decimal count ++ codes "\n"
 
 -- a line for each record, numbered from 1, and the last line
-abbrev pub frames_text : Found → List ℕ
+abbrev pub frames_text : FramesModel → List ℕ
 frames_text found = record_lines 1 found.records ++ end_line found.mark (length found.records)

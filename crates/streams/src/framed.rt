@@ -1,6 +1,6 @@
 //! What the thread that reads a source gives to the thread that gathers its records.
 
-use super::found::Mark;
+use super::frames::Mark;
 use planar_code::Record;
 
 /// A message of a reader. It gives the records in order, one end mark and one stop.

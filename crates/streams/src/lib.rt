@@ -2,8 +2,8 @@
 #![tactic(auto)]
 
 mod faults;
-mod found;
 mod framed;
+mod frames;
 mod gather;
 mod giving;
 mod input;
@@ -15,7 +15,7 @@ mod report;
 mod run;
 
 pub use faults::{BatchFault, WriteFault};
-pub use found::{Frames, Mark};
+pub use frames::{Frames, Mark};
 pub use gather::{Gathered, put_all};
 pub use input::{Tap, TapFault};
 pub use memory::MemTap;

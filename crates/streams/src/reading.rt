@@ -1,9 +1,10 @@
 //! How a source is read into records and a mark.
 ghost use Rattle.std.specs.Prelude.{◌≡◌, ◌+◌, ◌<◌, ◌≤◌, ℕ, List, length, vec_len, IfOk};
+ghost use Rattle.planar_code.specs.declared.TheConstants.{MAX_RECORDS};
 ghost use Rattle.planar_code.specs.Place.{StandsAt};
 ghost use Rattle.streams.specs.Reading.{ReadsOn, IsFoundIn};
 
-use super::found::Mark;
+use super::frames::Mark;
 use super::input::Tap;
 use super::receiver::Receiver;
 use planar_code::{Ending, FeedFault, Framer, Record};
@@ -58,7 +59,7 @@ pub fn read_piece<T: Tap>(
     // No source has more than 1,000,000 records.
     ensures few { (stream : List ℕ) (earlier : List (List ℕ))
         → StandsAt stream earlier framer.old
-        → length earlier + length records.new.items ≤ 1000000 + length records.old.items }
+        → length earlier + length records.new.items ≤ MAX_RECORDS + length records.old.items }
 {
     match source.read(buffer) {
         Ok(0) => Step::Ended,

@@ -1,5 +1,6 @@
 //! What becomes of the records of a source as it is read.
 ghost use Rattle.std.specs.Prelude.{◌≡◌, ◌+◌, ◌≤◌, ℕ, List, [], ◌++◌, length, OnOk};
+ghost use Rattle.planar_code.specs.declared.TheConstants.{MAX_RECORDS};
 
 use planar_code::Record;
 use std::alloc::Global;
@@ -23,7 +24,7 @@ pub trait Receiver {
         first: u32,
         records: &mut Vec<Record>,
     ) -> Result<(), Self::Lost>
-        requires few { first + length records.old.items ≤ 1000000 }
+        requires few { first + length records.old.items ≤ MAX_RECORDS }
         ensures received { OnOk result (received first records.old.items self.old self.new) }
         ensures empties { OnOk result (records.new.items ≡ []) }
         ensures stays { stays self.old self.new };

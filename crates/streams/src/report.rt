@@ -4,7 +4,7 @@ ghost use Rattle.streams.specs.Sink.{Writes, StaysOnItsWay};
 ghost use Rattle.streams.specs.Text.{frames_text, record_line, end_line, word_of};
 
 use super::faults::WriteFault;
-use super::found::{Frames, Mark};
+use super::frames::{Frames, Mark};
 use super::gather::Gathered;
 use super::output::Sink;
 use planar_code::{Ending, Record};

@@ -2,14 +2,14 @@
 ghost use Rattle.std.specs.Prelude.{◌≡◌, ◌≢◌, ◌≤◌, ℕ, Bool, List, [], Some, IfOk, IfErr, vec_len};
 ghost use Rattle.ruled_lanes.specs.declared.limits.TheConstants.{MAX_CAPACITY};
 ghost use Rattle.ruled_lanes.specs.LinkEnds.{given, taken, AreEnds, TakesFromSame};
-ghost use Rattle.streams.specs.declared.found.Mark.{Mark};
+ghost use Rattle.streams.specs.declared.frames.Mark.{Mark};
 ghost use Rattle.streams.specs.Marks.{IsMarked};
 ghost use Rattle.streams.specs.Reading.{IsFoundIn};
 ghost use Rattle.streams.specs.Framed.{IsTold, GathersAll, GivesBack};
 
 use super::faults::BatchFault;
-use super::found::{Frames, Mark};
 use super::framed::Framed;
+use super::frames::{Frames, Mark};
 use super::giving::give_all;
 use super::input::Tap;
 use super::reading::piece_buffer;

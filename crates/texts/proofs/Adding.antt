@@ -1,7 +1,7 @@
 -- What is written and what waits, after one line or one mark more.
 use Rattle.std.proofs.Common.{◌≡◌, ◌≢◌, ℕ, zero, suc, ◌+◌, ◌<◌, ◌≤◌, List, [], ◌∷◌, ◌++◌, length, Option, All, inl, inr, refl, sym, ap, subst, ◌∙◌, arith, append_assoc, append-nil, length-append}
 use Rattle.std.proofs.lemmas.Bool.{cases_eq}
-use Rattle.streams.specs.declared.found.Mark.{Mark}
+use Rattle.streams.specs.declared.frames.Mark.{Mark}
 use Rattle.streams.specs.Sink.{IsOnItsWay}
 use Rattle.streams.proofs.Sinks.{added_none}
 use Rattle.entries.specs.declared.entry.Entry.{Entry}

@@ -3,7 +3,7 @@ use Rattle.std.proofs.Common.{◌≡◌, ◌≢◌, ℕ, ◌+◌, ◌<◌, ◌�
 use Rattle.std.proofs.lemmas.Bool.{false≢true}
 use Rattle.std.proofs.lemmas.List.{length-replicate}
 use Rattle.std.proofs.lemmas.List.Elements.{All-head, All-tail, All-nil, All-cons, All-replicate}
-use Rattle.planar_code.specs.declared.TheConstants.{HEADER}
+use Rattle.planar_code.specs.declared.TheConstants.{HEADER, MAX_RECORDS}
 use Rattle.planar_code.specs.declared.ending.Ending.{Ending}
 use Rattle.planar_code.specs.declared.ending.Ending.TheVariants as ending
 use Rattle.planar_code.specs.declared.fault.FeedFault.{FeedFault}
@@ -14,8 +14,8 @@ use Rattle.planar_code.specs.Started.{IsStarted, IsOversize}
 use Rattle.planar_code.specs.Place.{Place, After, Failed, StandsAt, Goes}
 use Rattle.planar_code.proofs.Started.{started-first, started-unfinished, started-oversize}
 use Rattle.planar_code.proofs.Going.{goes_more, goes_whole, fails_many, fails_large, fails_oversize, standing-header}
-use Rattle.streams.specs.declared.found.Mark.{Mark}
-use Rattle.streams.specs.declared.found.Mark.TheVariants.{Ended, Io}
+use Rattle.streams.specs.declared.frames.Mark.{Mark}
+use Rattle.streams.specs.declared.frames.Mark.TheVariants.{Ended, Io}
 use Rattle.streams.specs.Marks.{IsCutShort}
 use Rattle.streams.specs.Reading.{IsFoundIn}
 use Rattle.streams.proofs.Marks.{split_stands, open_stands, beginning_stands}
@@ -27,11 +27,11 @@ pub record_spelt : (bytes : List ℕ) → IsSpelt bytes → IsRecord bytes
 record_spelt bytes s = record { lists = lists_of bytes; spelt = s.spelt; each = s.each; some = s.some; few = s.few }
 
 -- a stream of these records after others
-stands_after : (stream : List ℕ) (before records : List (List ℕ)) → All IsRecord records → length before + length records ≤ 1000000 → StandsAt stream before (After (length before) [])
+stands_after : (stream : List ℕ) (before records : List (List ℕ)) → All IsRecord records → length before + length records ≤ MAX_RECORDS → StandsAt stream before (After (length before) [])
     → (whole : List ℕ) × StandsAt whole (before ++ records) (After (length (before ++ records)) [])
 stands_after stream before [] all few s = (stream, subst (λ rs. StandsAt stream rs (After (length rs) [])) (sym (append-nil before)) s)
 stands_after stream before (r ∷ records) all few s =
-    let room : length before < 1000000 = omega (arith, few) in
+    let room : length before < MAX_RECORDS = omega (arith, few) in
     let step = goes_whole (length before) [] r r room refl (All-head IsRecord r records all) stream before s in
     let count : length before + 1 ≡ length (before ++ r ∷ []) = omega (arith, length-append before (r ∷ [])) in
     let rest = stands_after (stream ++ r) (before ++ r ∷ []) records (All-tail IsRecord r records all) (omega (arith, few, count))
@@ -108,7 +108,7 @@ found_at stream records (Ended ending.Memory) s may = record {
 found_at stream records (Ended ending.Many) s may =
     found_fault stream (0 ∷ []) records (length records) fault.Many s (fails_many (length records) [] (0 ∷ []) may (λ e. cc))
 
-pub found_any : (records : List (List ℕ)) (mark : Mark) → All IsRecord records → length records ≤ 1000000 → MayEnd mark (length records) → IsFoundIn None false records mark
+pub found_any : (records : List (List ℕ)) (mark : Mark) → All IsRecord records → length records ≤ MAX_RECORDS → MayEnd mark (length records) → IsFoundIn None false records mark
 found_any records mark all few may =
     let stands = stands_after HEADER [] records all (omega (arith, few)) standing-header in
     found_at stands.0 records mark stands.1 may

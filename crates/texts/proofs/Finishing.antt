@@ -3,7 +3,7 @@ use Rattle.std.proofs.Common.{◌≡◌, ◌↔◌, ℕ, zero, suc, ◌+◌, ◌
 use Rattle.std.proofs.lemmas.Bool.{cases_lt}
 use Rattle.std.proofs.lemmas.List.Elements.{All-push, All-nil}
 use Rattle.std.specs.Io.KnownBytes.{Appends}
-use Rattle.streams.specs.declared.found.Mark.{Mark}
+use Rattle.streams.specs.declared.frames.Mark.{Mark}
 use Rattle.streams.proofs.Sinks.{added_both}
 use Rattle.choices.specs.declared.Choice.{Choice}
 use Rattle.lanes.specs.declared.message.Message.TheVariants.{Item}
@@ -11,7 +11,7 @@ use Rattle.lanes.specs.Notes.{About, Note, numbered}
 use Rattle.lanes.specs.Opening.{Meaning}
 use Rattle.lanes.specs.Drafts.{abouts, mark_after}
 use Rattle.lanes.specs.Files.{HasFile}
-use Rattle.books.specs.Books.{Pages, IsBook, AreBooks}
+use Rattle.books.specs.Books.{BookModel, IsBook, AreBooks}
 use Rattle.books.proofs.Whole.{all_answered, books_more}
 use Rattle.reports.specs.declared.form.Form.{Form}
 use Rattle.reports.specs.Report.{numbered_texts}
@@ -60,18 +60,18 @@ book_whole came mark is whole = record {
 
 -- the books of the first files
 record AreUpTo (choice : Choice) (meaning : ℕ → Meaning) (form : Form) (came : ℕ → Came) (n : ℕ) : Type 0 where
-  books : List Pages
+  books : List BookModel
   count : length books ≡ n
   each : AreBooks choice meaning 0 books
   text : numbered_texts (book_in form) 1 books ≡ ended_texts form came n
   whole : All IsWholeBook books ↔ ((k : ℕ) → k < n → IsWholeSoFar (came k))
 
 -- one more of them
-pub text_more : (form : Form) (came : ℕ → Came) (n : ℕ) (books : List Pages) (mark : Mark) → length books ≡ n → (came n).mark ≡ Some mark
+pub text_more : (form : Form) (came : ℕ → Came) (n : ℕ) (books : List BookModel) (mark : Mark) → length books ≡ n → (came n).mark ≡ Some mark
     → numbered_texts (book_in form) 1 books ≡ ended_texts form came n
     → numbered_texts (book_in form) 1 (books ++ record { entries = (came n).entries; mark = mark } ∷ []) ≡ ended_texts form came (suc n)
 text_more form came n books mark count is was =
-    let book : Pages = record { entries = (came n).entries; mark = mark } in
+    let book : BookModel = record { entries = (came n).entries; mark = mark } in
     let number : 1 + length books ≡ n + 1 = omega (arith, count) in
     texts-append (book_in form) 1 books (book ∷ [])
     ∙ ap (λ l. l ++ numbered_texts (book_in form) (1 + length books) (book ∷ [])) was
@@ -93,7 +93,7 @@ up_to choice meaning form ns came (suc n) told have =
     let last : n < suc n = omega arith in
     let has = have n last in
     let marked = mark_told choice (meaning n) n ns (came n) has (told n last) in
-    let book : Pages = record { entries = (came n).entries; mark = has.mark } in
+    let book : BookModel = record { entries = (came n).entries; mark = has.mark } in
     let number : n ≡ 0 + length was.books = omega (arith, was.count) in
     record {
       books = was.books ++ book ∷ [];

@@ -1,7 +1,7 @@
 -- What is written and what waits, as the front moves on.
 use Rattle.std.proofs.Common.{◌≡◌, ℕ, ◌+◌, ◌<◌, ◌≤◌, List, ◌++◌, length, get_or, Option, Some, inl, inr, refl, sym, ap, subst, ◌∙◌, arith, add-one, append_assoc}
 use Rattle.std.proofs.lemmas.Bool.{cases_lt}
-use Rattle.streams.specs.declared.found.Mark.{Mark}
+use Rattle.streams.specs.declared.frames.Mark.{Mark}
 use Rattle.streams.specs.Sink.{IsOnItsWay}
 use Rattle.reports.specs.declared.form.Form.{Form}
 use Rattle.printing.specs.Lines.{head_in, lines_in, end_in}

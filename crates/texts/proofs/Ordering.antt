@@ -3,8 +3,9 @@ use Rattle.std.proofs.Common.{◌≡◌, ◌≢◌, ℕ, zero, suc, ◌+◌, ◌
 use Rattle.std.proofs.lemmas.Bool.{cases_eq}
 use Rattle.std.proofs.lemmas.List.{map-append, length-map}
 use Rattle.std.proofs.lemmas.List.Elements.{All-push, All-nil, All-cons, All-head, All-tail}
+use Rattle.planar_code.specs.declared.TheConstants.{MAX_RECORDS}
 use Rattle.planar_code.specs.Stream.{IsRecord}
-use Rattle.streams.specs.declared.found.Mark.{Mark}
+use Rattle.streams.specs.declared.frames.Mark.{Mark}
 use Rattle.streams.specs.Sink.{AppendsFront}
 use Rattle.streams.proofs.Sinks.{added_none}
 use Rattle.choices.specs.declared.Choice.{Choice}
@@ -12,7 +13,7 @@ use Rattle.lanes.specs.Notes.{About, numbered}
 use Rattle.lanes.specs.Opening.{Meaning, Silent}
 use Rattle.entries.specs.declared.entry.Entry.{Entry}
 use Rattle.entries.specs.Abouts.{about_of}
-use Rattle.books.specs.Books.{Pages, IsBook, AreBooks}
+use Rattle.books.specs.Books.{BookModel, IsBook, AreBooks}
 use Rattle.books.proofs.Whole.{all_answered, books_more}
 use Rattle.reports.specs.declared.form.Form.{Form}
 use Rattle.reports.specs.Report.{numbered_texts}
@@ -50,7 +51,7 @@ numbered-push choice file first (r ∷ records) bytes =
 
 -- an entry at the next place of its file
 pub order_item : (choice : Choice) (file : ℕ) (came : Came) (entry : Entry) → came.mark ≡ None → entry.file ≡ file → entry.ordinal ≡ length came.entries → entry.choice ≡ choice
-    → IsSpelt entry.rec → length came.entries < 1000000 → IsInOrder choice file came → IsInOrder choice file (record { entries = came.entries ++ entry ∷ []; mark = came.mark })
+    → IsSpelt entry.rec → length came.entries < MAX_RECORDS → IsInOrder choice file came → IsInOrder choice file (record { entries = came.entries ++ entry ∷ []; mark = came.mark })
 order_item choice file came entry unmarked file_is ordinal_is choice_is spelt room was =
     let place : entry.ordinal ≡ 0 + length (map rec_of came.entries) = omega (arith, ordinal_is, length-map came.entries rec_of) in
     let about : about_of entry ≡ record { file = file; ordinal = 0 + length (map rec_of came.entries); bytes = entry.rec; choice = choice } =
@@ -113,7 +114,7 @@ book_closed choice file came order =
 
 -- the books of the first files
 record AreClosed (choice : Choice) (form : Form) (came : ℕ → Came) (n : ℕ) : Type 0 where
-  books : List Pages
+  books : List BookModel
   count : length books ≡ n
   each : AreBooks choice (λ _. Silent) 0 books
   text : numbered_texts (book_in form) 1 books ≡ ended_texts form (λ k. closed (came k)) n
@@ -123,7 +124,7 @@ close_up_to choice form came zero order = record { books = []; count = refl; eac
 close_up_to choice form came (suc n) order =
     let was = close_up_to choice form came n (λ k below. order k (omega (arith, below))) in
     let mark = mark_or_memory (came n).mark in
-    let book : Pages = record { entries = (came n).entries; mark = mark } in
+    let book : BookModel = record { entries = (came n).entries; mark = mark } in
     let number : n ≡ 0 + length was.books = omega (arith, was.count) in
     record {
       books = was.books ++ book ∷ [];

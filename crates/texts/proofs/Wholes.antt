@@ -4,8 +4,8 @@ use Rattle.std.proofs.lemmas.Bool.{cases_eq, false≢true}
 use Rattle.std.proofs.lemmas.List.{get_or_append_left, get_or-append-add}
 use Rattle.std.proofs.lemmas.List.Elements.{All-push}
 use Rattle.planar_code.specs.declared.ending.Ending.{Ending}
-use Rattle.streams.specs.declared.found.Mark.{Mark}
-use Rattle.entries.specs.declared.found.Answer.{Answer}
+use Rattle.streams.specs.declared.frames.Mark.{Mark}
+use Rattle.entries.specs.declared.answer.Answer.{Answer}
 use Rattle.entries.specs.declared.entry.Entry.{Entry}
 use Rattle.texts.specs.Came.{Came, HasEntryMore, HasEnded, IsWholeSoFar}
 

@@ -1,10 +1,10 @@
 -- What has come of the files of a run so far.
 use Rattle.std.specs.Prelude.{◌≡◌, ◌≢◌, ℕ, List, [], ◌∷◌, ◌++◌, map, Option, None, Some, All}
 use Rattle.planar_code.specs.declared.ending.Ending.{Ending}
-use Rattle.streams.specs.declared.found.Mark.{Mark}
+use Rattle.streams.specs.declared.frames.Mark.{Mark}
 use Rattle.lanes.specs.Notes.{Note, of_file}
 use Rattle.lanes.specs.Drafts.{abouts, mark_after}
-use Rattle.entries.specs.declared.found.Answer.{Answer}
+use Rattle.entries.specs.declared.answer.Answer.{Answer}
 use Rattle.entries.specs.declared.entry.Entry.{Entry}
 use Rattle.entries.specs.Abouts.{about_of}
 

@@ -1,9 +1,10 @@
 -- What may come of a file, whatever its bytes are.
 use Rattle.std.specs.Prelude.{◌≡◌, ◌≢◌, ℕ, ◌<◌, ◌≤◌, length, map, None, Some, All, ⊤}
+use Rattle.planar_code.specs.declared.TheConstants.{MAX_RECORDS}
 use Rattle.planar_code.specs.declared.ending.Ending.{Ending}
 use Rattle.planar_code.specs.declared.ending.Ending.TheVariants as ending
-use Rattle.streams.specs.declared.found.Mark.{Mark}
-use Rattle.streams.specs.declared.found.Mark.TheVariants.{Ended, Io}
+use Rattle.streams.specs.declared.frames.Mark.{Mark}
+use Rattle.streams.specs.declared.frames.Mark.TheVariants.{Ended, Io}
 use Rattle.choices.specs.declared.Choice.{Choice}
 use Rattle.lanes.specs.Notes.{numbered}
 use Rattle.entries.specs.declared.entry.Entry.{Entry}
@@ -16,23 +17,23 @@ use Rattle.texts.specs.Came.{Came}
 abbrev pub MayEnd : Mark → ℕ → Type 0
 MayEnd Io count = ⊤
 MayEnd (Ended ending.Complete) count = ⊤
-MayEnd (Ended ending.Truncated) count = count ≢ 1000000
+MayEnd (Ended ending.Truncated) count = count ≢ MAX_RECORDS
 MayEnd (Ended ending.Header) count = count ≡ 0
-MayEnd (Ended ending.Large) count = count ≢ 1000000
-MayEnd (Ended ending.Oversize) count = count ≢ 1000000
+MayEnd (Ended ending.Large) count = count ≢ MAX_RECORDS
+MayEnd (Ended ending.Oversize) count = count ≢ MAX_RECORDS
 MayEnd (Ended ending.Memory) count = ⊤
-MayEnd (Ended ending.Many) count = count ≡ 1000000
+MayEnd (Ended ending.Many) count = count ≡ MAX_RECORDS
 
 -- The entries are about records of this file under this choice, in order and from the first on, as many as a file may have; and
 -- where it has ended, some file of so many records has its mark.
 pub record IsInOrder (choice : Choice) (file : ℕ) (came : Came) : Type 0 where
   pub each : map about_of came.entries ≡ numbered choice file 0 (map (λ (entry : Entry). entry.rec) came.entries)
   pub records : All (λ (entry : Entry). IsSpelt entry.rec) came.entries
-  pub few : length came.entries ≤ 1000000
+  pub few : length came.entries ≤ MAX_RECORDS
   pub fits : (mark : Mark) → came.mark ≡ Some mark → MayEnd mark (length came.entries)
 
 -- the file has not ended, and an entry at this place is its next one
 pub record IsNext (ordinal : ℕ) (waiting : Waiting) : Type 0 where
   pub unmarked : waiting.mark ≡ None
   pub count : waiting.count ≡ ordinal
-  pub few : ordinal < 1000000
+  pub few : ordinal < MAX_RECORDS

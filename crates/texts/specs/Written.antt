@@ -1,6 +1,6 @@
 -- What has been written of what has come, and what waits.
 use Rattle.std.specs.Prelude.{◌≡◌, ℕ, zero, suc, ◌+◌, ◌<◌, ◌≤◌, Bool, true, false, List, [], ◌++◌, length, Option, None, Some, slice_index_or}
-use Rattle.streams.specs.declared.found.Mark.{Mark}
+use Rattle.streams.specs.declared.frames.Mark.{Mark}
 use Rattle.streams.specs.Sink.{AppendsFront, IsOnItsWay}
 use Rattle.reports.specs.declared.form.Form.{Form}
 use Rattle.printing.specs.Lines.{head_in, lines_in, end_in}

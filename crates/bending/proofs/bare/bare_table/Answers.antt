@@ -1,6 +1,6 @@
 use Rattle.std.proofs.Common.{◌-◌, ◌<◌, ◌≤◌, ◌∙◌, ℕ, List, get_or, slice_index, arith, ap, refl}
 use Rattle.embedding.specs.Darts.{dart_count}
-use Rattle.faces.specs.Map.{darts, head, mate, next}
+use Rattle.faces.specs.Planes.{darts, head, reverse_dart, next}
 use Rattle.ortho_rep.specs.Shapes.{angle_at}
 use Rattle.bending.proofs.Writing.{filled_more, turned_more}
 use Rattle.bending.proofs.bare.bare_table.Goals as goal
@@ -19,7 +19,7 @@ darts-preserved c =
     record {
       nexts = filled_more t.next.items t'.next.items (next p) k (next p k) before.nexts (omega arith) write.next refl;
       prevs = turned_more t.prev.items t'.prev.items (next p) (darts p) k before.prevs ends.next_one.one k_in (omega (arith, next_in)) write.prev;
-      twins = filled_more t.twin.items t'.twin.items (mate p) k (mate p k) before.twins (omega arith) write.twin refl;
+      reverse_darts = filled_more t.reverse_dart.items t'.reverse_dart.items (reverse_dart p) k (reverse_dart p k) before.reverse_darts (omega arith) write.reverse_dart refl;
       heads = filled_more t.head.items t'.head.items (λ d. head p d - 1) k (head p k - 1) before.heads (omega arith) write.head refl;
       directions = filled_more t.direction.items t'.direction.items (slice_index c.args.directions.now) k _ before.directions (omega arith)
           write.direction refl;
@@ -42,7 +42,7 @@ returns-clause-bare c =
       vertex_count = done.vertex_count;
       nexts = λ d l. done.nexts d (within d l);
       prevs = λ d l. done.prevs d (within d l);
-      twins = λ d l. done.twins d (within d l);
+      reverse_darts = λ d l. done.reverse_darts d (within d l);
       heads = λ d l. omega (arith, done.heads d (within d l), ends.head_from d l);
       directions = λ d l. done.directions d (within d l);
       angles = λ d l. done.angles d (within d l);

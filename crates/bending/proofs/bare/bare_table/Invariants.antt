@@ -1,5 +1,5 @@
 use Rattle.std.proofs.Common.{◌≡◌, ◌-◌, ◌<◌, ℕ, slice_index}
-use Rattle.faces.specs.Map.{darts, vertices, head, mate, next}
+use Rattle.faces.specs.Planes.{darts, vertices, head, reverse_dart, next}
 use Rattle.ortho_rep.specs.Shapes.{angle_at}
 use Rattle.cutting.specs.Webs.{no_dart}
 use Rattle.cutting.specs.Tables.{room}
@@ -10,7 +10,7 @@ abbrev pub invariant-darts : goal.invariant-darts
 invariant-darts l = record {
   nexts : IsFilled l.table.next.items (next l.plane) l.dart;
   prevs : IsTurned l.table.prev.items (next l.plane) l.dart;
-  twins : IsFilled l.table.twin.items (mate l.plane) l.dart;
+  reverse_darts : IsFilled l.table.reverse_dart.items (reverse_dart l.plane) l.dart;
   heads : IsFilled l.table.head.items (λ d. head l.plane d - 1) l.dart;
   directions : IsFilled l.table.direction.items (slice_index l.directions) l.dart;
   angles : IsFilled l.table.angle.items (angle_at l.shape) l.dart;

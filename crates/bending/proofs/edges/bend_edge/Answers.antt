@@ -10,11 +10,11 @@ pub turns-preserved : goal.turns-preserved
 turns-preserved c =
     let t = c.turns.table in
     let before = c.turns.invariant in
-    let twin_is = get_or_read t.twin.items c.args.e c.index-twin.result.now (omega (arith, before.inside)) c.index-twin.ensures 0 in
-    let twin_in : c.index-twin.result.now < t.darts = omega (arith, twin_is, before.linked.twin_in c.args.e before.inside) in
-    let direction_is = get_or_read t.direction.items c.index-twin.result.now c.index.result.now (omega (arith, twin_in)) c.index.ensures 0 in
+    let reverse_dart_is = get_or_read t.reverse_dart.items c.args.e c.index-reverse_dart.result.now (omega (arith, before.inside)) c.index-reverse_dart.ensures 0 in
+    let reverse_dart_in : c.index-reverse_dart.result.now < t.darts = omega (arith, reverse_dart_is, before.linked.reverse_dart_in c.args.e before.inside) in
+    let direction_is = get_or_read t.direction.items c.index-reverse_dart.result.now c.index.result.now (omega (arith, reverse_dart_in)) c.index.ensures 0 in
     let way_is : (c.index.result.now + 2) % 4 ≡ start_way (web_of t) c.args.e =
-    ap (λ (k : ℕ). (k + 2) % 4) (direction_is ∙ ap (web_of t).direction twin_is) in
+    ap (λ (k : ℕ). (k + 2) % 4) (direction_is ∙ ap (web_of t).direction reverse_dart_is) in
     let step = turn_on (web_of t) c.args.e _ c.angle_of.result c.args.turns.now c.turns.turn-index _ (web_of c.split.new.self)
     before.linked before.meeting before.inside c.turns-test.true way_is c.angle_of.ensures c.split.ensures.split in
     record {

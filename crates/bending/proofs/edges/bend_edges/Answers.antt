@@ -1,6 +1,6 @@
 use Rattle.std.proofs.Common.{◌≡◌, ◌+◌, ◌<◌, ℕ, List, length, arith, ap, sym, subst}
 use Rattle.embedding.specs.Darts.{dart_count}
-use Rattle.faces.specs.Map.{darts, mate}
+use Rattle.faces.specs.Planes.{darts, reverse_dart}
 use Rattle.ortho_rep.specs.declared.turn.Turn.{Turn}
 use Rattle.ortho_rep.specs.Shapes.{turns_at}
 use Rattle.cutting.specs.declared.table.DartTable.{DartTable}
@@ -17,13 +17,13 @@ bend_edge-requires-clause-space c =
     let s = turns_at c.args.shape.now in
     let d = c.darts.dart in
     let inside : d < darts p = omega (arith, ap dart_count c.graph-graph.ensures.value) in
-    let mate_is : c.reverse.result ≡ mate p d = (cc) in
+    let reverse_dart_is : c.reverse.result ≡ reverse_dart p d = (cc) in
     omega (
       arith,
       c.darts.invariant.count,
       c.darts.invariant.same,
       lesser_few p _ s d c.graph-graph.ensures.ends c.requires.shape.rep inside,
-      lesser_length-lesser p s d (omega (arith, mate_is, c.if-dart-reverse.true)),
+      lesser_length-lesser p s d (omega (arith, reverse_dart_is, c.if-dart-reverse.true)),
       ap (length {A = Turn}) c.turns.ensures.value,
     )
 
@@ -33,7 +33,7 @@ darts-preserved c =
     let s = turns_at c.args.shape.now in
     let d = c.darts.dart in
     let inside : d < darts p = omega (arith, ap dart_count c.graph-graph.ensures.value) in
-    let mate_is : c.reverse.result ≡ mate p d = (cc) in
+    let reverse_dart_is : c.reverse.result ≡ reverse_dart p d = (cc) in
     let table = c.if-dart-reverse.table in
     elim c.if-dart-reverse.branch [
       | then-dart-reverse w ↦
@@ -43,12 +43,12 @@ darts-preserved c =
           subst (λ (e : ℕ). IsBent e (web_of c.darts.table) (s d) (web_of new)) w.from.ensures
           (subst (λ (ts : List Turn). IsBent w.from.result (web_of c.darts.table) ts (web_of new)) turns_are w.bend_edge.ensures.bent) in
           subst (λ (t : DartTable). AreDone p s c.args.table.now t (d + 1)) (sym w.table-is)
-          (edge_done p s c.args.table.now c.darts.table new d c.darts.invariant inside (omega (arith, mate_is, w.if-dart-reverse.true)) edge
+          (edge_done p s c.args.table.now c.darts.table new d c.darts.invariant inside (omega (arith, reverse_dart_is, w.if-dart-reverse.true)) edge
           w.bend_edge.ensures.linked w.bend_edge.ensures.meeting
           (omega (arith, w.bend_edge.ensures.darts, ap (length {A = Turn}) turns_are)) w.bend_edge.ensures.room)
       | else-dart-reverse w ↦
           subst (λ (t : DartTable). AreDone p s c.args.table.now t (d + 1)) (sym w.table-is)
-          (edge_left p s c.args.table.now c.darts.table d c.darts.invariant (omega (arith, mate_is, w.if-dart-reverse.false)))
+          (edge_left p s c.args.table.now c.darts.table d c.darts.invariant (omega (arith, reverse_dart_is, w.if-dart-reverse.false)))
     ]
 
 pub returns-clause-bent : goal.returns-clause-bent

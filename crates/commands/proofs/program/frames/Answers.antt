@@ -1,5 +1,5 @@
 use Rattle.std.proofs.Common.{◌≡◌, ℕ, Bool, List, rules, inr}
-use Rattle.streams.specs.declared.found.Mark.{Mark}
+use Rattle.streams.specs.declared.frames.Mark.{Mark}
 use Rattle.streams.specs.Marks.{IsMarked}
 use Rattle.streams.specs.Text.{frames_text}
 use Rattle.commands.proofs.Reported.{front_of, on_err}

@@ -25,7 +25,7 @@ reads n v N P T H D A B d c e facing one two sound can long_N long_D long_A read
 pub chord-requires-clause-linked : goal.chord-requires-clause-linked
 chord-requires-clause-linked c =
     let t = c.args.table.now in
-    let read = reads t.darts t.vertices t.next.items t.prev.items t.twin.items t.head.items t.direction.items t.angle.items t.before.items
+    let read = reads t.darts t.vertices t.next.items t.prev.items t.reverse_dart.items t.head.items t.direction.items t.angle.items t.before.items
     c.args.d c.args.c c.index-e.result.now c.index-facing.result.now c.index.result.now c.index-2.result.now
     c.requires.sound c.requires.can (omega arith) (omega arith) (omega arith)
     c.index-e.ensures c.index-facing.ensures c.index.ensures c.index-2.ensures in
@@ -34,7 +34,7 @@ chord-requires-clause-linked c =
 pub chord-requires-clause-fits : goal.chord-requires-clause-fits
 chord-requires-clause-fits c =
     let t = c.args.table.now in
-    let read = reads t.darts t.vertices t.next.items t.prev.items t.twin.items t.head.items t.direction.items t.angle.items t.before.items
+    let read = reads t.darts t.vertices t.next.items t.prev.items t.reverse_dart.items t.head.items t.direction.items t.angle.items t.before.items
     c.args.d c.args.c c.index-e.result.now c.index-facing.result.now c.index.result.now c.index-2.result.now
     c.requires.sound c.requires.can (omega arith) (omega arith) (omega arith)
     c.index-e.ensures c.index-facing.ensures c.index.ensures c.index-2.ensures in
@@ -43,7 +43,7 @@ chord-requires-clause-fits c =
 pub returns-clause-cut : goal.returns-clause-cut
 returns-clause-cut c =
     let t = c.args.table.now in
-    let read = reads t.darts t.vertices t.next.items t.prev.items t.twin.items t.head.items t.direction.items t.angle.items t.before.items
+    let read = reads t.darts t.vertices t.next.items t.prev.items t.reverse_dart.items t.head.items t.direction.items t.angle.items t.before.items
     c.args.d c.args.c c.index-e.result.now c.index-facing.result.now c.index.result.now c.index-2.result.now
     c.requires.sound c.requires.can (omega arith) (omega arith) (omega arith)
     c.index-e.ensures c.index-facing.ensures c.index.ensures c.index-2.ensures in (

@@ -1,6 +1,6 @@
 use Rattle.std.proofs.Common.{◌≡◌, ◌<◌, ◌∙◌, ℕ, List, [], ◌∷◌, length, slice_index, slice_index_or, ap, sym, subst, arith}
 use Rattle.cutting.specs.Tables.{web_of}
-use Rattle.faces.specs.Map.{face_at, vertices}
+use Rattle.faces.specs.Planes.{face_at, vertices}
 use Rattle.cutting.specs.Paths.{IsPath}
 use Rattle.dissect.specs.Boxed.{IsBoxed}
 use Rattle.dissect.proofs.Boxing.{IsMade, are_boxes, edge_path, is_boxed}

@@ -1,6 +1,6 @@
 use Rattle.std.proofs.Common.{◌≡◌, arith, ap}
 use Rattle.embedding.specs.Darts.{dart_count}
-use Rattle.faces.specs.Map.{darts}
+use Rattle.faces.specs.Planes.{darts}
 use Rattle.dissect.proofs.parts.outer_dart.Goals as goal
 
 pub unreachable-requires : goal.unreachable-requires

@@ -1,5 +1,5 @@
 use Rattle.std.proofs.Common.{◌≢◌, ◌<◌, ℕ}
-use Rattle.faces.specs.Map.{face_at}
+use Rattle.faces.specs.Planes.{face_at}
 use Rattle.dissect.proofs.parts.outer_dart.Given as goal
 
 abbrev pub invariant-loop-dart : goal.invariant-loop-dart

@@ -6,7 +6,7 @@ use Rattle.std.proofs.lemmas.List.Elements.{All-append}
 use Rattle.std.proofs.lemmas.Result.{IfOk-weaker}
 use Rattle.rectangles.specs.declared.Rectangle.{Rectangle}
 use Rattle.rectangles.specs.Rectangles.{IsFilled, AreApart}
-use Rattle.faces.specs.Map.{darts, mate}
+use Rattle.faces.specs.Planes.{darts, reverse_dart}
 use Rattle.ortho_rep.specs.declared.points.Point.{Point}
 use Rattle.ortho_rep.specs.Points.{origin}
 use Rattle.ortho_rep.specs.Edges.{is_lesser}
@@ -50,10 +50,10 @@ loop-dart-preserved c =
     let points = c.args.points.now in
     let dart = c.loop-dart.dart in
     let base : List Rectangle = map (λ (q : Point). span_of q q) points.vertices in
-    let mate_is : c.reverse.result ≡ mate p dart = rw c.graph-graph.ensures.value at c.reverse.ensures.value in
+    let reverse_dart_is : c.reverse.result ≡ reverse_dart p dart = rw c.graph-graph.ensures.value at c.reverse.ensures.value in
     elim c.if-dart-reverse.branch [
       | then-dart-reverse+in_ok-add_route w ↦
-          let lesser : is_lesser p dart ≡ true = lt-ltb dart (mate p dart) (omega (arith, mate_is, w.if-dart-reverse.true)) in
+          let lesser : is_lesser p dart ≡ true = lt-ltb dart (reverse_dart p dart) (omega (arith, reverse_dart_is, w.if-dart-reverse.true)) in
           let added : w.add_route.new.rectangles.items ≡ c.loop-dart.rectangles.items ++ strips (path_along p points dart) =
           w.in_ok-add_route.ensures ∙ ap (λ (path : List Point). c.loop-dart.rectangles.items ++ strips path) w.route_of.ensures in
           record {
@@ -63,7 +63,7 @@ loop-dart-preserved c =
                 ∙ ap (λ (ps : List (List Point)). base ++ flat_map strips ps) (sym (paths_below-more p points dart lesser)));
           }
       | else-dart-reverse w ↦
-          let greater : is_lesser p dart ≡ false = le-ltb dart (mate p dart) (omega (arith, mate_is, w.if-dart-reverse.false)) in
+          let greater : is_lesser p dart ≡ false = le-ltb dart (reverse_dart p dart) (omega (arith, reverse_dart_is, w.if-dart-reverse.false)) in
           record {
             number = omega (arith, w.edge-is, number_of_greater p dart greater, c.loop-dart.invariant.number);
             shown = rw w.rectangles-is (c.loop-dart.invariant.shown ∙ ap (λ (ps : List (List Point)). base ++ flat_map strips ps) (sym (paths_below-kept p points dart greater)));

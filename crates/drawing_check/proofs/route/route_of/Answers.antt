@@ -1,5 +1,5 @@
 use Rattle.std.proofs.Common.{arith}
-use Rattle.faces.specs.Map.{darts}
+use Rattle.faces.specs.Planes.{darts}
 use Rattle.ortho_rep.proofs.EdgeNumbers.{edge_total, edge_number-below}
 use Rattle.drawing_check.proofs.route.route_of.Goals as goal
 

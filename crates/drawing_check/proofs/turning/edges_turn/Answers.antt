@@ -1,6 +1,6 @@
 use Rattle.std.proofs.Common.{◌≡◌, ℕ, List, true, false, refl, sym, subst, arith}
 use Rattle.std.proofs.lemmas.Bool.{lt-ltb, le-ltb, false≢true, both_ways}
-use Rattle.faces.specs.Map.{darts, mate}
+use Rattle.faces.specs.Planes.{darts, reverse_dart}
 use Rattle.ortho_rep.specs.declared.points.Point.{Point}
 use Rattle.ortho_rep.specs.declared.turn.Turn.{Turn}
 use Rattle.ortho_rep.specs.Edges.{is_lesser}
@@ -20,8 +20,8 @@ returns-then-not-is_turning c =
     let dart = c.loop-dart.dart in
     let turning : ℕ → Type 0 = λ d. IsTurning (path_along p c.args.points.now d) (turns_at c.args.shape.now d) in
     let count : c.darts-dart-end.result ≡ darts p = rw c.graph-graph.ensures.value at c.darts-dart-end.ensures.count in
-    let mate_is : c.reverse.result ≡ mate p dart = rw c.graph-graph.ensures.value at c.reverse.ensures.value in
-    let lesser : is_lesser p dart ≡ true = lt-ltb dart (mate p dart) (omega (arith, mate_is, c.if-dart-reverse.true)) in (
+    let reverse_dart_is : c.reverse.result ≡ reverse_dart p dart = rw c.graph-graph.ensures.value at c.reverse.ensures.value in
+    let lesser : is_lesser p dart ≡ true = lt-ltb dart (reverse_dart p dart) (omega (arith, reverse_dart_is, c.if-dart-reverse.true)) in (
       λ e. absurd (false≢true e),
       λ all.
           let fits : turning dart = (each_lesser turning p).0 all dart (omega (arith, count)) lesser in
@@ -39,10 +39,10 @@ loop-dart-preserved c =
     let points = c.args.points.now in
     let dart = c.loop-dart.dart in
     let turning : ℕ → Type 0 = λ d. IsTurning (path_along p points d) (turns_at c.args.shape.now d) in
-    let mate_is : c.reverse.result ≡ mate p dart = rw c.graph-graph.ensures.value at c.reverse.ensures.value in
+    let reverse_dart_is : c.reverse.result ≡ reverse_dart p dart = rw c.graph-graph.ensures.value at c.reverse.ensures.value in
     elim c.if-dart-reverse.branch [
       | then-dart-reverse+else-not-is_turning w ↦
-          let lesser : is_lesser p dart ≡ true = lt-ltb dart (mate p dart) (omega (arith, mate_is, w.if-dart-reverse.true)) in
+          let lesser : is_lesser p dart ≡ true = lt-ltb dart (reverse_dart p dart) (omega (arith, reverse_dart_is, w.if-dart-reverse.true)) in
           let fits : turning dart =
           subst (λ (path : List Point). IsTurning path (turns_at c.args.shape.now dart)) w.route_of-route.ensures
           (subst (λ (ts : List Turn). IsTurning (path_of w.route_of-route.result) ts) w.turns.ensures.value (w.if-not-is_turning.ensures.0 refl)) in
@@ -51,7 +51,7 @@ loop-dart-preserved c =
             turning = each_more turning p dart c.loop-dart.invariant.turning (λ _. fits);
           }
       | else-dart-reverse w ↦
-          let greater : is_lesser p dart ≡ false = le-ltb dart (mate p dart) (omega (arith, mate_is, w.if-dart-reverse.false)) in
+          let greater : is_lesser p dart ≡ false = le-ltb dart (reverse_dart p dart) (omega (arith, reverse_dart_is, w.if-dart-reverse.false)) in
           record {
             number = omega (arith, w.edge-is, number_of_greater p dart greater, c.loop-dart.invariant.number);
             turning = each_more turning p dart c.loop-dart.invariant.turning (λ less. absurd (both_ways (is_lesser p dart) greater less));

@@ -3,7 +3,7 @@ use Rattle.std.proofs.lemmas.Bool.{false≢true}
 use denote.Enum.Bare.{differs_true, differs_false}
 use Rattle.directions.specs.contracts.Direction.{the_type}
 use Rattle.directions.specs.Directions.{lefts}
-use Rattle.faces.specs.Map.{darts, mate, next}
+use Rattle.faces.specs.Planes.{darts, reverse_dart, next}
 use Rattle.ortho_rep.specs.Shapes.{angle_at}
 use Rattle.drawing_check.specs.Draws.{leaving}
 use Rattle.drawing_check.specs.Routes.{direction_at}
@@ -16,9 +16,9 @@ loop-dart-preserved c =
     let directions = c.leaving_directions-directions.result in
     let count : c.darts-dart-end.result ≡ darts p = rw c.graph-graph.ensures.value at c.darts-dart-end.ensures.count in
     let inside : dart < darts p = omega (arith, count) in
-    let mate_is : c.reverse.result ≡ mate p dart = rw c.graph-graph.ensures.value at c.reverse.ensures.value in
-    let back : direction_at directions c.from.result ≡ leaving p c.args.points.now (mate p dart) =
-    ap (direction_at directions) (c.from.ensures ∙ mate_is) ∙ c.leaving_directions-directions.ensures.each (mate p dart) (c.graph-graph.ensures.ends.mate_inside dart inside) in
+    let reverse_dart_is : c.reverse.result ≡ reverse_dart p dart = rw c.graph-graph.ensures.value at c.reverse.ensures.value in
+    let back : direction_at directions c.from.result ≡ leaving p c.args.points.now (reverse_dart p dart) =
+    ap (direction_at directions) (c.from.ensures ∙ reverse_dart_is) ∙ c.leaving_directions-directions.ensures.each (reverse_dart p dart) (c.graph-graph.ensures.ends.reverse_dart_inside dart inside) in
     let onward : c.lefts.result ≡ lefts (angle_at c.args.shape.now dart) (leaving p c.args.points.now (next p dart)) =
     c.lefts.ensures
     ∙ ap (λ (a : ℕ). lefts a (direction_at directions c.from-in-loop-dart.result)) c.angle.ensures
@@ -34,9 +34,9 @@ returns-then-ne c =
     let directions = c.leaving_directions-directions.result in
     let count : c.darts-dart-end.result ≡ darts p = rw c.graph-graph.ensures.value at c.darts-dart-end.ensures.count in
     let inside : dart < darts p = omega (arith, count) in
-    let mate_is : c.reverse.result ≡ mate p dart = rw c.graph-graph.ensures.value at c.reverse.ensures.value in
-    let back : direction_at directions c.from.result ≡ leaving p c.args.points.now (mate p dart) =
-    ap (direction_at directions) (c.from.ensures ∙ mate_is) ∙ c.leaving_directions-directions.ensures.each (mate p dart) (c.graph-graph.ensures.ends.mate_inside dart inside) in
+    let reverse_dart_is : c.reverse.result ≡ reverse_dart p dart = rw c.graph-graph.ensures.value at c.reverse.ensures.value in
+    let back : direction_at directions c.from.result ≡ leaving p c.args.points.now (reverse_dart p dart) =
+    ap (direction_at directions) (c.from.ensures ∙ reverse_dart_is) ∙ c.leaving_directions-directions.ensures.each (reverse_dart p dart) (c.graph-graph.ensures.ends.reverse_dart_inside dart inside) in
     let onward : c.lefts.result ≡ lefts (angle_at c.args.shape.now dart) (leaving p c.args.points.now (next p dart)) =
     c.lefts.ensures
     ∙ ap (λ (a : ℕ). lefts a (direction_at directions c.from-in-loop-dart.result)) c.angle.ensures

@@ -1,6 +1,6 @@
 use Rattle.std.proofs.Common.{◌≡◌, ◌<◌, true, false, ◌∙◌, arith}
 use Rattle.std.proofs.lemmas.Bool.{lt-ltb, le-ltb}
-use Rattle.faces.specs.Map.{darts, mate}
+use Rattle.faces.specs.Planes.{darts, reverse_dart}
 use Rattle.ortho_rep.specs.Edges.{is_lesser}
 use Rattle.ortho_rep.proofs.EdgeNumbers.{edge_number-le}
 use Rattle.drawing_check.proofs.Leaving.{number_of_lesser, number_of_greater, leaving_more, leaving_kept, leaves_out, leaves_back, all_leave}
@@ -15,22 +15,22 @@ loop-dart-preserved c =
     let p = c.args.plane.now in
     let dart = c.loop-dart.dart in
     let ends = c.graph-graph.ensures.ends in
-    let mate_is : c.reverse-reverse.result ≡ mate p dart = rw c.graph-graph.ensures.value at c.reverse-reverse.ensures.value in
+    let reverse_dart_is : c.reverse-reverse.result ≡ reverse_dart p dart = rw c.graph-graph.ensures.value at c.reverse-reverse.ensures.value in
     let count : c.darts-dart-end.result ≡ darts p = rw c.graph-graph.ensures.value at c.darts-dart-end.ensures.count in
     let inside : dart < darts p = omega (arith, count) in
     elim c.if-dart-reverse.branch [
       | then-dart-reverse w ↦
-          let lesser : is_lesser p dart ≡ true = lt-ltb dart (mate p dart) (omega (arith, mate_is, w.if-dart-reverse.true)) in
+          let lesser : is_lesser p dart ≡ true = lt-ltb dart (reverse_dart p dart) (omega (arith, reverse_dart_is, w.if-dart-reverse.true)) in
           record {
             number = omega (arith, w.edge-is, number_of_lesser p dart lesser, c.loop-dart.invariant.number);
             leaving =
                 leaving_more p c.args.points.now c.loop-dart.directions c.if-dart-reverse.directions dart w.from.result w.from-then-dart-reverse.result w.direction_from.result w.direction_from-then-dart-reverse.result ends c.loop-dart.invariant.leaving inside
-                w.from.ensures (w.from-then-dart-reverse.ensures ∙ mate_is) w.directions-is
+                w.from.ensures (w.from-then-dart-reverse.ensures ∙ reverse_dart_is) w.directions-is
                 (leaves_out p c.args.points.now dart w.route_of-route.result w.point_at.result w.direction_from.result lesser w.route_of-route.ensures w.point_at.ensures w.direction_from.ensures)
                 (leaves_back p c.args.points.now dart w.route_of-route.result w.point_at-then-dart-reverse.result w.direction_from-then-dart-reverse.result ends inside lesser w.route_of-route.ensures w.point_at-then-dart-reverse.ensures w.direction_from-then-dart-reverse.ensures);
           }
       | else-dart-reverse w ↦
-          let greater : is_lesser p dart ≡ false = le-ltb dart (mate p dart) (omega (arith, mate_is, w.if-dart-reverse.false)) in
+          let greater : is_lesser p dart ≡ false = le-ltb dart (reverse_dart p dart) (omega (arith, reverse_dart_is, w.if-dart-reverse.false)) in
           record {
             number = omega (arith, w.edge-is, number_of_greater p dart greater, c.loop-dart.invariant.number);
             leaving = rw w.directions-is (leaving_kept p c.args.points.now c.loop-dart.directions dart c.loop-dart.invariant.leaving greater);

@@ -1,5 +1,5 @@
 use Rattle.faces.proofs.Degrees.{degrees_sum}
-use Rattle.faces.specs.Map.{darts, face_at}
+use Rattle.faces.specs.Planes.{darts, face_at}
 use Rattle.faces.proofs.laws.degrees_sum.Goals as goal
 
 pub returns : goal.returns

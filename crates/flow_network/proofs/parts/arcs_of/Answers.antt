@@ -3,7 +3,7 @@ use Rattle.networks.specs.declared.arc.Arc.{Arc}
 use Rattle.networks.specs.declared.arc.Cap.TheVariants.{AtMost, Any}
 use Rattle.networks.specs.Net.{no_arc}
 use Rattle.embedding.specs.Darts.{head_of, reverse_of, dart_count}
-use Rattle.faces.specs.Map.{darts, vertices, head, mate, face_at}
+use Rattle.faces.specs.Planes.{darts, vertices, head, reverse_dart, face_at}
 use Rattle.flow_network.proofs.Pushing.{push_length, push_keeps, push_more, arc_same}
 use Rattle.flow_network.proofs.parts.arcs_of.Goals as goal
 
@@ -55,7 +55,7 @@ crossings-preserved c =
       size = push_length xs ys _ said ∙ ap (λ (k : ℕ). k + 1) size ∙ omega arith;
       corner = λ d l. push_keeps xs ys _ no_arc d said (omega (arith, size)) ∙ c.crossings.invariant.corner d l;
       crossing = push_more xs ys _ no_arc (darts p) c.crossings.dart
-          (λ d. record { from = vertices p + face_at p d; to = vertices p + face_at p (mate p d); cap = Any; cost = 1 }) said size
+          (λ d. record { from = vertices p + face_at p d; to = vertices p + face_at p (reverse_dart p d); cap = Any; cost = 1 }) said size
           (arc_same _ _ _ _ Any 1
           (omega (
             arith,

@@ -1,6 +1,6 @@
 use Rattle.std.proofs.Common.{◌≡◌, ◌<◌, ◌≤◌, ◌==◌, if◌then◌else◌, ℕ, length, get_or}
 use Rattle.sums.specs.Sums.{sum_below}
-use Rattle.faces.specs.Map.{darts, head}
+use Rattle.faces.specs.Planes.{darts, head}
 use Rattle.flow_network.proofs.parts.count_arrivals.Given as goal
 
 abbrev pub invariant-darts : goal.invariant-darts

@@ -1,6 +1,6 @@
 use Rattle.std.proofs.Common.{◌≡◌, ◌+◌, ◌<◌, ◌≤◌, ◌==◌, if◌then◌else◌, ℕ, length, get_or}
 use Rattle.std.specs.Prelude.{pos, negsuc, ◌-ℤ◌}
-use Rattle.faces.specs.Map.{vertices, degree}
+use Rattle.faces.specs.Planes.{vertices, degree}
 use Rattle.flow_network.specs.FaceNet.{arrivals}
 use Rattle.flow_network.proofs.parts.supplies_of.Given as goal
 

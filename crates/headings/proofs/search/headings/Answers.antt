@@ -1,7 +1,7 @@
 use Rattle.std.proofs.Common.{◌≡◌, ℕ, ◌+◌, ◌-◌, ◌%◌, ◌<◌, List, [], length, get_or, replicate, sym, ap, ◌∙◌, subst, arith}
 use Rattle.std.proofs.lemmas.List.{get_or-replicate, length-replicate, nil_from_length}
 use Rattle.embedding.specs.Darts.{dart_count, reverse_of}
-use Rattle.faces.specs.Map.{darts, mate, next}
+use Rattle.faces.specs.Planes.{darts, reverse_dart, next}
 use Rattle.faces.proofs.Ends.{plane_ends}
 use Rattle.ortho_rep.specs.Shapes.{angle_at, turns_at}
 use Rattle.ortho_rep.specs.Turns.{lefts, rights}
@@ -79,7 +79,7 @@ step_of c =
     record {
       ahead = c.reverse-clockwise.result;
       back = c.reverse-reverse.result;
-      ahead_is = c.reverse-clockwise.ensures.value ∙ (ap (λ (g : List (List ℕ)). reverse_of g c.next.result) graph ∙ ap (mate p) c.next.ensures.value);
+      ahead_is = c.reverse-clockwise.ensures.value ∙ (ap (λ (g : List (List ℕ)). reverse_of g c.next.result) graph ∙ ap (reverse_dart p) c.next.ensures.value);
       back_is = c.reverse-reverse.ensures.value ∙ ap (λ (g : List (List ℕ)). reverse_of g c.in-Some.dart) graph;
       first = c.clockwise_heading.result;
       second = c.reverse_heading.result;
@@ -122,4 +122,4 @@ returns-clause-headings c =
     let (h, are) = shape_headings c.args.plane.now c.args.shape.now c.graph-graph.ensures.plane c.requires in
     let none : c.loop-dart.search.waiting.items ≡ [] = nil_from_length c.loop-dart.search.waiting.items (omega (arith, c.in_default.ensures.cases.0)) in
     search_ends c.args.plane.now (angle_at c.args.shape.now) (turns_at c.args.shape.now) h c.loop-dart.search.headings.items c.graph-graph.ensures.plane are c.loop-dart.invariant.0
-    (subst (λ (w : List ℕ). IsSearch (darts c.args.plane.now) h (4 - h 0) (λ d. mate c.args.plane.now (next c.args.plane.now d)) (mate c.args.plane.now) c.loop-dart.search.headings.items w nobody) none (c.loop-dart.invariant.1 h are))
+    (subst (λ (w : List ℕ). IsSearch (darts c.args.plane.now) h (4 - h 0) (λ d. reverse_dart c.args.plane.now (next c.args.plane.now d)) (reverse_dart c.args.plane.now) c.loop-dart.search.headings.items w nobody) none (c.loop-dart.invariant.1 h are))

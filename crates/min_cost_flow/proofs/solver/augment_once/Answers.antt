@@ -6,10 +6,10 @@ use mir.Val.{SFits, of_z}
 use Rattle.networks.specs.Net.{node_count}
 use Rattle.networks.specs.Flow.{at_nodes}
 use Rattle.networks.specs.Layout.{numbers}
-use Rattle.min_cost_flow.specs.Search.{far, IsGraph, IsPriced, IsReached, IsNearest, IsServed, IsLeft}
+use Rattle.shortest_paths.specs.Search.{far, IsGraph, IsPriced, IsReached, IsNearest, IsServed, IsLeft}
 use Rattle.min_cost_flow.specs.Path.{HasPath}
-use Rattle.min_cost_flow.proofs.Signs.{same_from_bits, passed_within}
-use Rattle.min_cost_flow.proofs.Reaching.{strictly, reached_fits}
+use Rattle.shortest_paths.proofs.Signs.{same_from_bits, passed_within}
+use Rattle.shortest_paths.proofs.Reaching.{strictly, reached_fits}
 use Rattle.min_cost_flow.proofs.Solving.{is_graph, is_priced, IsMovedTo, moved_to, moved_round, has_path, nothing_found, path_looks, label_bounds, all_cleared}
 use Rattle.min_cost_flow.proofs.solver.augment_once.Goals as goal
 

@@ -1,7 +1,7 @@
 use Rattle.std.proofs.Common.{◌≡◌, ◌<◌, ℕ}
 use Rattle.networks.specs.Flow.{at_nodes}
 use Rattle.networks.specs.Layout.{numbers}
-use Rattle.min_cost_flow.specs.Search.{far}
+use Rattle.shortest_paths.specs.Search.{far}
 use Rattle.min_cost_flow.proofs.solver.clear.Given as goal
 
 abbrev pub invariant-loop-j : goal.invariant-loop-j

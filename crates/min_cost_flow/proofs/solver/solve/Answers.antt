@@ -4,7 +4,7 @@ use Rattle.std.proofs.lemmas.Bool.{cases_lt}
 use Rattle.std.proofs.lemmas.List.{get_or-replicate, with_items_is, get_or_past, length-replicate}
 use Rattle.networks.specs.Flow.{amounts, at_nodes, Answer}
 use Rattle.min_cost_flow.specs.Round.{IsDone}
-use Rattle.min_cost_flow.specs.Search.{far}
+use Rattle.shortest_paths.specs.Search.{far}
 use Rattle.min_cost_flow.proofs.Duality.{least_by_potentials}
 use Rattle.min_cost_flow.proofs.solver.solve.Goals as goal
 

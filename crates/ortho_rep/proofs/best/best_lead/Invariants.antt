@@ -1,5 +1,5 @@
 use Rattle.std.proofs.Common.{◌≡◌, ℕ, ◌<◌}
-use Rattle.faces.specs.Map.{with_outer}
+use Rattle.faces.specs.Planes.{with_outer}
 use Rattle.ortho_rep.specs.Tries.{IsWalk, IsLead, IsNoBetter, AreBounds}
 use Rattle.ortho_rep.proofs.best.best_lead.Given as goal
 

@@ -1,7 +1,7 @@
 use Rattle.std.proofs.Common.{rules, w32, ◌≡◌, ◌+◌, subst, ap, arith}
 use Rattle.std.proofs.lemmas.Int.{to_z-of_z}
 use mir.Val.{SFits}
-use Rattle.faces.specs.Map.{vertices}
+use Rattle.faces.specs.Planes.{vertices}
 use Rattle.networks.specs.Net.{Net}
 use Rattle.networks.specs.Flow.{at_nodes}
 use Rattle.min_cost_flow.specs.Stand.{IsShown}

@@ -1,5 +1,5 @@
 use Rattle.std.proofs.Common.{◌≡◌, ◌<◌, ◌≤◌, length}
-use Rattle.faces.specs.Map.{darts, with_outer}
+use Rattle.faces.specs.Planes.{darts, with_outer}
 use Rattle.ortho_rep.specs.Tries.{IsWalk, IsLead, AreBounds}
 use Rattle.ortho_rep.proofs.best.tour.Given as goal
 

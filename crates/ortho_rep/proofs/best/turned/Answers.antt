@@ -1,5 +1,5 @@
 use Rattle.std.proofs.Common.{◌≡◌, ◌+◌, ℕ, ap, sym, ◌∙◌, subst, arith}
-use Rattle.faces.specs.Map.{with_outer}
+use Rattle.faces.specs.Planes.{with_outer}
 use Rattle.networks.specs.Net.{Net, shifted, HasFairSupplies}
 use Rattle.networks.specs.Flow.{Flow}
 use Rattle.flow_network.proofs.Turning.{turned_fair}

@@ -1,5 +1,5 @@
 use Rattle.std.proofs.Common.{subst}
-use Rattle.faces.specs.Map.{Map}
+use Rattle.faces.specs.Planes.{PlaneModel}
 use Rattle.ortho_rep.specs.Best.{NeedsBends}
 use Rattle.ortho_rep.proofs.Tries.{lead_turning, tried_turning, no_better}
 use Rattle.ortho_rep.proofs.best.visit.Goals as goal
@@ -12,7 +12,7 @@ returns-else-loses_to-clause-tried c =
     let plane = c.args.plane.now in
     let lead = c.args.lead.now in
     let bends = c.learn-bends.result in
-    let needs = subst (λ (m : Map). NeedsBends m bends) c.turn_out.ensures c.learn-bends.ensures.needs in
+    let needs = subst (λ (m : PlaneModel). NeedsBends m bends) c.turn_out.ensures c.learn-bends.ensures.needs in
     let test = c.loses_to-2.ensures in
     let no = c.if-loses_to.false in
     tried_turning plane c.turn_out.new.self c.args.face lead.bends lead.face c.args.face c.turn_out.ensures (no_better plane lead.bends lead.face bends c.args.face needs (test.no no) (test.last no))

@@ -1,6 +1,6 @@
 use Rattle.std.proofs.Common.{◌≡◌, ℕ, ◌<◌, ◌+◌, get_or, vec_len}
 use Rattle.std.specs.Prelude.{pos}
-use Rattle.faces.specs.Map.{vertices}
+use Rattle.faces.specs.Planes.{vertices}
 use Rattle.networks.specs.Flow.{at_nodes}
 use Rattle.ortho_rep.proofs.least.face_prices.Given as goal
 

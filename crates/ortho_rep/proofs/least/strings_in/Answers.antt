@@ -1,7 +1,7 @@
 use Rattle.std.proofs.Common.{◌≡◌, ℕ, ◌+◌, ◌++◌, List, [], length, length-append, get_or, replicate, ap, ◌∙◌, arith}
 use Rattle.std.proofs.lemmas.List.{get_or_default, length-replicate}
 use Rattle.embedding.specs.Darts.{dart_count, reverse_of}
-use Rattle.faces.specs.Map.{darts, mate}
+use Rattle.faces.specs.Planes.{darts, reverse_dart}
 use Rattle.networks.specs.Flow.{amounts, at_nodes}
 use Rattle.ortho_rep.specs.declared.turn.Turn.{Turn}
 use Rattle.ortho_rep.specs.declared.turn.Turn.TheVariants.{Left, Right}
@@ -17,7 +17,7 @@ overflow_cast-len c =
     let dart = c.loop-dart.dart in
     let x = amounts c.args.solved.now.flow in
     let all = ap dart_count c.graph-graph.ensures.value in
-    let back : c.reverse.result ≡ mate plane dart = c.reverse.ensures.value ∙ ap (λ (g : List (List ℕ)). reverse_of g dart) c.graph-graph.ensures.value in
+    let back : c.reverse.result ≡ reverse_dart plane dart = c.reverse.ensures.value ∙ ap (λ (g : List (List ℕ)). reverse_of g dart) c.graph-graph.ensures.value in
     let few = short_of_flow plane c.args.net.now.network x (at_nodes c.args.solved.now.potential) c.graph-graph.ensures.ends c.graph-graph.ensures.plane.order c.requires.net.network c.requires.solves.flow c.requires.solves.potentials dart (omega (arith, all)) in
     omega (
       arith,
@@ -40,8 +40,8 @@ loop-dart-preserved c =
     let dart = c.loop-dart.dart in
     let x = amounts c.args.solved.now.flow in
     let all = ap dart_count c.graph-graph.ensures.value in
-    let back : c.reverse.result ≡ mate plane dart = c.reverse.ensures.value ∙ ap (λ (g : List (List ℕ)). reverse_of g dart) c.graph-graph.ensures.value in
-    let right : c.crossing_flow-in-loop-dart.result ≡ x (darts plane + mate plane dart) = c.crossing_flow-in-loop-dart.ensures ∙ ap (λ (e : ℕ). x (darts plane + e)) back in
+    let back : c.reverse.result ≡ reverse_dart plane dart = c.reverse.ensures.value ∙ ap (λ (g : List (List ℕ)). reverse_of g dart) c.graph-graph.ensures.value in
+    let right : c.crossing_flow-in-loop-dart.result ≡ x (darts plane + reverse_dart plane dart) = c.crossing_flow-in-loop-dart.ensures ∙ ap (λ (e : ℕ). x (darts plane + e)) back in
     let few = short_of_flow plane c.args.net.now.network x (at_nodes c.args.solved.now.potential) c.graph-graph.ensures.ends c.graph-graph.ensures.plane.order c.requires.net.network c.requires.solves.flow c.requires.solves.potentials dart (omega (arith, all)) in
     let lefts = replicate c.crossing_flow.result Left in
     let rights = replicate c.crossing_flow-in-loop-dart.result Right in
@@ -78,7 +78,7 @@ joined-requires-clause-short c =
           omega (
             arith,
             few,
-            length-run (x (darts plane + k)) (x (darts plane + mate plane k)),
+            length-run (x (darts plane + k)) (x (darts plane + reverse_dart plane k)),
             ap (length {A = Turn}) (get_or_default (cut c.loop-dart.starts.items c.loop-dart.turns.items) k d [] b ∙ pieces.1 k (omega (arith, pieces.0))),
           );
     }

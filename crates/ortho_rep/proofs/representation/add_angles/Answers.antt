@@ -1,7 +1,7 @@
 use Rattle.std.proofs.Common.{◌≡◌, ◌<◌, ℕ, cond, eqb, List, length, ap, ◌∙◌, arith}
 use Rattle.sums.specs.Sums.{sum_below}
 use Rattle.embedding.specs.Darts.{dart_count}
-use Rattle.faces.specs.Map.{darts, head}
+use Rattle.faces.specs.Planes.{darts, head}
 use Rattle.ortho_rep.specs.Shapes.{angle_at}
 use Rattle.ortho_rep.proofs.Tallied.{tallied, tallied-bound}
 use Rattle.ortho_rep.proofs.representation.add_angles.Goals as goal

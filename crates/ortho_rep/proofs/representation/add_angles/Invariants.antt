@@ -1,5 +1,5 @@
 use Rattle.std.proofs.Common.{ℕ, ◌<◌, ◌≤◌, ◌*◌, length, get_or}
-use Rattle.faces.specs.Map.{head}
+use Rattle.faces.specs.Planes.{head}
 use Rattle.ortho_rep.specs.Shapes.{angle_at}
 use Rattle.ortho_rep.proofs.Tallied.{IsTally}
 use Rattle.ortho_rep.proofs.representation.add_angles.Given as goal

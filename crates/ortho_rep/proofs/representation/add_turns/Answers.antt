@@ -1,7 +1,7 @@
 use Rattle.std.proofs.Common.{◌≡◌, ◌<◌, ℕ, ◌+◌, ◌-◌, length, get_or, ap, sym, ◌∙◌, arith}
 use Rattle.std.specs.Prelude.{pos, ◌-ℤ◌}
 use Rattle.embedding.specs.Darts.{dart_count}
-use Rattle.faces.specs.Map.{darts, face_at}
+use Rattle.faces.specs.Planes.{darts, face_at}
 use Rattle.ortho_rep.specs.Shapes.{angle_at, turns_at}
 use Rattle.ortho_rep.specs.Turns.{lefts, rights}
 use Rattle.ortho_rep.proofs.Tallied.{tallied, tallied-bound}

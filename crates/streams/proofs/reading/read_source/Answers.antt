@@ -1,5 +1,5 @@
 use Rattle.std.proofs.Common.{rules, ◌+◌, [], ◌++◌, length, refl, ap, length-append, arith}
-use Rattle.streams.specs.declared.found.Mark.TheVariants.{Ended}
+use Rattle.streams.specs.declared.frames.Mark.TheVariants.{Ended}
 use Rattle.streams.proofs.Bounds.{few_rounds}
 use Rattle.streams.proofs.Messages.{found_as}
 use Rattle.streams.proofs.Pieces.{nothing_read, nothing_new, found_nothing, found_ended}

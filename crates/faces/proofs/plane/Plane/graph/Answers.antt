@@ -1,5 +1,5 @@
 use Rattle.std.proofs.Common.{subst}
-use Rattle.faces.specs.Map.{IsPlane}
+use Rattle.faces.specs.Planes.{IsPlane}
 use Rattle.faces.proofs.Ends.{plane_ends}
 use Rattle.faces.proofs.plane.Plane.graph.Goals as goal
 

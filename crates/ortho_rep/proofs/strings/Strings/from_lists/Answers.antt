@@ -1,5 +1,6 @@
 use Rattle.std.proofs.Common.{arith}
 use Rattle.std.proofs.lemmas.List.{length-map}
+use Rattle.ortho_rep.specs.declared.strings.TheConstants.{MAX_TURNS}
 use Rattle.ortho_rep.specs.declared.turn.Turn.{Turn}
 use Rattle.std.specs.Prelude.{List, Vec}
 use Rattle.std.specs.declared.alloc.Global.{Global}
@@ -12,5 +13,5 @@ items_of v = v.items
 pub invariant_of-result : goal.invariant_of-result
 invariant_of-result c = record {
   few = omega (arith, c.requires.few, length-map c.args.lists.items items_of);
-  short = lists_in-short c.args.lists.items 1000000 c.requires.short;
+  short = lists_in-short c.args.lists.items MAX_TURNS c.requires.short;
 }

@@ -1,5 +1,6 @@
 -- Each exit is one lemma on places.
 use Rattle.std.proofs.Common.{◌+◌, ◌≤◌, length, Ok, Err, None, Some, sym, subst, arith}
+use Rattle.planar_code.specs.declared.TheConstants.{MAX_RECORDS}
 use Rattle.planar_code.specs.declared.framer.Stage.TheVariants as stage
 use Rattle.planar_code.specs.declared.fault.FeedFault.TheVariants as fault
 use Rattle.planar_code.specs.Place.{After}
@@ -35,7 +36,7 @@ returns-after-passed-eq15 c =
 pub returns-in-Ok-Some : goal.returns-in-Ok-Some
 returns-in-Ok-Some c =
     let f = c.self.inside in
-    let few : f.records ≤ 1000000 = subst (λ s. IsBefore s f.records f.current) c.in-Records.is c.self.invariant in
+    let few : f.records ≤ MAX_RECORDS = subst (λ s. IsBefore s f.records f.current) c.in-Records.is c.self.invariant in
     at-records f.stage f.records (f.records + 1) f.current c.read.new.self c.args.text.now c.args.self.now (Ok (c.in-Ok-Some.end, Some c.in-Ok-Some.record)) c.in-Records.is c.self.view_is
     (step-whole f.records f.current c.args.text.now _ c.in-Ok-Some.record c.in-Ok-Some.end (omega (arith, c.if-self-eq-MAX_RECORDS.false))
     (subst (λ o. TakesFrom f.current c.args.text.now c.read.new.self (Ok o)) c.in-Ok-Some.field-0-is c.in-Ok-Some.ensures))
@@ -43,7 +44,7 @@ returns-in-Ok-Some c =
 pub returns-in-Ok-None : goal.returns-in-Ok-None
 returns-in-Ok-None c =
     let f = c.self.inside in
-    let few : f.records ≤ 1000000 = subst (λ s. IsBefore s f.records f.current) c.in-Records.is c.self.invariant in
+    let few : f.records ≤ MAX_RECORDS = subst (λ s. IsBefore s f.records f.current) c.in-Records.is c.self.invariant in
     at-records f.stage f.records f.records f.current c.read.new.self c.args.text.now c.args.self.now (Ok (length c.args.text.now, None)) c.in-Records.is c.self.view_is
     (step-more f.records f.current c.args.text.now _ (omega (arith, c.if-self-eq-MAX_RECORDS.false)) c.requires.some
     (subst (λ o. TakesFrom f.current c.args.text.now c.read.new.self (Ok o)) c.in-Ok-None.field-0-is c.in-Ok-None.ensures))
@@ -51,6 +52,6 @@ returns-in-Ok-None c =
 pub returns-in-Err : goal.returns-in-Err
 returns-in-Err c =
     let f = c.self.inside in
-    let few : f.records ≤ 1000000 = subst (λ s. IsBefore s f.records f.current) c.in-Records.is c.self.invariant in
+    let few : f.records ≤ MAX_RECORDS = subst (λ s. IsBefore s f.records f.current) c.in-Records.is c.self.invariant in
     at-records f.stage f.records f.records f.current c.read.new.self c.args.text.now c.args.self.now (Err c.in-Err.fault) c.in-Records.is c.self.view_is
     (step-fault f.records f.current c.args.text.now c.read.new.self (After f.records c.read.new.self) c.in-Err.fault (omega (arith, c.if-self-eq-MAX_RECORDS.false)) c.in-Err.ensures)

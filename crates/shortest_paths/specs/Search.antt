@@ -1,0 +1,172 @@
+-- The search for the nearest node where units are wanting: labels, the order of nodes by their
+-- distance, and what holds of them.
+use Rattle.std.specs.Prelude.{ℕ, ◌+◌, ◌-◌, ◌*◌, ◌<◌, ◌≤◌, ◌≡◌, ◌≢◌, ℤ, pos, negsuc, ◌+ℤ◌, ◌-ℤ◌, ◌≤ℤ◌, ◌<ℤ◌, ◌⊎◌, List, length}
+use Rattle.networks.specs.declared.network.TheConstants.{MAX_NODES}
+use Rattle.sums.specs.Sums.{sum_below}
+use Rattle.networks.specs.declared.residual.ResidualArc.{ResidualArc}
+use Rattle.shortest_paths.specs.declared.reach.Ground.{Ground}
+use Rattle.shortest_paths.specs.declared.reach.Progress.{Progress}
+use Rattle.shortest_paths.specs.declared.reach.Step.{Step}
+use Rattle.networks.specs.Flow.{at_nodes}
+use Rattle.networks.specs.Layout.{numbers, end_at, code_at, StartsAt}
+
+-- the label of a node that was not reached
+abbrev pub far : ℤ
+far = pos 8000
+
+-- a price, or one that is raised since nothing fits
+abbrev pub IsCode : ℤ → Type 0
+IsCode c = ((negsuc 0 ≤ℤ c) × (c ≤ℤ pos 1)) ⊎ ((pos 15999 ≤ℤ c) × (c ≤ℤ pos 16001))
+
+-- so many nodes, and the residual arcs of each
+pub record IsGraph (n : ℕ) (first : List ℕ) (arcs : List ResidualArc) : Type 0 where
+  pub nodes : n ≤ MAX_NODES
+  pub few : length arcs ≤ 8192
+  pub starts : length first ≡ n + 1
+  pub rising : (v : ℕ) → v < n → numbers first v ≤ numbers first (v + 1)
+  pub inside : (v : ℕ) → v < n → numbers first (v + 1) ≤ length arcs
+  pub end : (v k : ℕ) → v < n → StartsAt first v k → end_at arcs k < n
+  pub code : (v k : ℕ) → v < n → StartsAt first v k → IsCode (code_at arcs k)
+
+-- a unit more fits along residual arc k
+abbrev pub IsOpen : List ResidualArc → ℕ → Type 0
+IsOpen arcs k = code_at arcs k ≤ℤ pos 1
+
+-- potentials with which a search can begin: no open residual arc costs less than 0 under them
+pub record IsPriced (n : ℕ) (first : List ℕ) (arcs : List ResidualArc) (p e : ℕ → ℤ) : Type 0 where
+  pub reduced : (v k : ℕ) → v < n → StartsAt first v k → IsOpen arcs k → pos 0 ≤ℤ (code_at arcs k +ℤ p v -ℤ p (end_at arcs k))
+  pub low : (v : ℕ) → v < n → (pos 0 ≤ℤ (p v +ℤ pos (2 * n))) × (p v ≤ℤ pos (2 * n))
+  pub zero : (v : ℕ) → v < n → e v <ℤ pos 0 → p v ≡ pos 0
+
+-- a whole number is at most k away from another
+abbrev pub IsNear : ℤ → ℕ → ℤ → Type 0
+IsNear z k a = (z ≤ℤ (a +ℤ pos k)) × (a ≤ℤ (z +ℤ pos k))
+
+-- node v was labelled along residual arc k, from a node that was scanned before
+pub record IsEntered (n : ℕ) (first : List ℕ) (arcs : List ResidualArc) (q : ℕ → ℤ) (place : ℕ → ℕ) (head v k : ℕ) : Type 0 where
+  pub start : ℕ
+  pub node : start < n
+  pub labelled : q start <ℤ far
+  pub scanned : place start < head
+  pub before : place start < place v
+  pub leaves : StartsAt first start k
+  pub unblocked : IsOpen arcs k
+  pub arrives : end_at arcs k ≡ v
+  pub label : q v ≡ q start +ℤ code_at arcs k
+
+-- the nodes that were reached, in order of their distance q v - p v: those that were scanned, those
+-- at the level, and those further off
+pub record IsReached (n : ℕ) (first : List ℕ) (arcs : List ResidualArc) (p e : ℕ → ℤ) (s : ℕ) (q : ℕ → ℤ) (enter order place : ℕ → ℕ) (head ordered reached : ℕ) (level : ℤ) : Type 0 where
+  pub counts : (head ≤ ordered) × (ordered ≤ reached) × (reached ≤ n)
+  pub begun : 0 < ordered
+  pub node : (j : ℕ) → j < reached → order j < n
+  pub at : (j : ℕ) → j < reached → place (order j) ≡ j
+  pub marked : (j : ℕ) → j < reached → q (order j) <ℤ far
+  pub listed : (v : ℕ) → v < n → q v <ℤ far → (place v < reached) × (order (place v) ≡ v)
+  pub most : (v : ℕ) → v < n → q v ≤ℤ far
+  pub under : (v : ℕ) → v < n → q v <ℤ far → place v < ordered → (q v -ℤ p v) ≤ℤ level
+  pub here : (v : ℕ) → v < n → q v <ℤ far → head ≤ place v → level ≤ℤ (q v -ℤ p v)
+  pub near : (v : ℕ) → v < n → q v <ℤ far → IsNear (p s) head (q v)
+  pub source : (s < n) × (q s <ℤ far) × (place s ≡ 0)
+  pub plain : (v : ℕ) → v < n → q v <ℤ far → pos 0 ≤ℤ e v
+  pub entered : (v : ℕ) → v < n → q v <ℤ far → v ≢ s → IsEntered n first arcs q place head v (enter v)
+
+-- residual arc k leads from a scanned node to one where units are wanting, at distance cut
+pub record IsHit (n : ℕ) (first : List ℕ) (arcs : List ResidualArc) (p e : ℕ → ℤ) (s : ℕ) (q : ℕ → ℤ) (place : ℕ → ℕ) (head : ℕ) (cut : ℤ) (k : ℕ) : Type 0 where
+  pub start : ℕ
+  pub node : start < n
+  pub labelled : q start <ℤ far
+  pub scanned : place start < head
+  pub leaves : StartsAt first start k
+  pub unblocked : IsOpen arcs k
+  pub wanting : e (end_at arcs k) <ℤ pos 0
+  pub distance : cut ≡ q start +ℤ code_at arcs k -ℤ p (end_at arcs k)
+  pub near : IsNear (p s) head cut
+
+-- the nearest node found so far where units are wanting is at distance cut, not below the level
+pub record IsNearest (n : ℕ) (first : List ℕ) (arcs : List ResidualArc) (p e : ℕ → ℤ) (s : ℕ) (q : ℕ → ℤ) (place : ℕ → ℕ) (head : ℕ) (level cut : ℤ) (k : ℕ) : Type 0 where
+  pub above : level ≤ℤ cut
+  pub most : cut ≤ℤ far
+  pub hit : cut <ℤ far → IsHit n first arcs p e s q place head cut k
+
+-- residual arc k from node u offers nothing more to its end
+abbrev pub Serves : List ResidualArc → (ℕ → ℤ) → (ℕ → ℤ) → ℤ → ℕ → ℕ → Type 0
+Serves arcs p q cut u k = IsOpen arcs k → (q u +ℤ code_at arcs k -ℤ p (end_at arcs k)) <ℤ cut → q (end_at arcs k) ≤ℤ (q u +ℤ code_at arcs k)
+
+-- the same for all residual arcs of the first h nodes of the order
+pub record IsServed (n : ℕ) (first : List ℕ) (arcs : List ResidualArc) (p q : ℕ → ℤ) (place : ℕ → ℕ) (cut : ℤ) (h : ℕ) : Type 0 where
+  pub served : (u k : ℕ) → u < n → q u <ℤ far → place u < h → StartsAt first u k → Serves arcs p q cut u k
+
+-- nodes that were not scanned are no nearer than cut
+abbrev pub IsLeft : ℕ → (ℕ → ℤ) → (ℕ → ℤ) → (ℕ → ℕ) → ℕ → ℤ → Type 0
+IsLeft n p q place head cut = (v : ℕ) → v < n → q v <ℤ far → head ≤ place v → cut ≤ℤ (q v -ℤ p v)
+
+-- how many residual arcs start at a node, and at the first h nodes of the order
+abbrev pub degree : List ℕ → ℕ → ℕ
+degree first v = numbers first (v + 1) - numbers first v
+
+abbrev pub looked : List ℕ → (ℕ → ℕ) → ℕ → ℕ
+looked first order h = sum_below h (λ j. degree first (order j))
+
+-- labels only fall, and those of the first h nodes of the order stay, with their places
+pub record IsKept (n h : ℕ) (q : ℕ → ℤ) (place : ℕ → ℕ) (q' : ℕ → ℤ) (place' : ℕ → ℕ) : Type 0 where
+  pub lower : (v : ℕ) → v < n → q' v ≤ℤ q v
+  pub same : (v : ℕ) → v < n → q v <ℤ far → place v < h → (q' v ≡ q v) × (place' v ≡ place v)
+  pub old : (v : ℕ) → v < n → q' v <ℤ far → place' v < h → (q v <ℤ far) × (place v < h)
+
+-- ---- the same, of the lists that the code keeps
+
+abbrev pub nodes_of : Ground → ℕ
+nodes_of g = length g.potential.now
+
+-- what a search reads is sound
+pub record IsGround (g : Ground) : Type 0 where
+  pub excesses : length g.excess.now ≡ nodes_of g
+  pub scores : length g.score.now ≡ nodes_of g
+  pub graph : IsGraph (nodes_of g) g.first.now g.arcs.now
+  pub priced : IsPriced (nodes_of g) g.first.now g.arcs.now (at_nodes g.potential.now) (at_nodes g.excess.now)
+  pub source : g.source < nodes_of g
+
+-- each list has an entry for each node
+abbrev pub HasSizes : Ground → List ℤ → List ℕ → List ℕ → List ℕ → Type 0
+HasSizes g label enter order place = (length label ≡ nodes_of g) × (length enter ≡ nodes_of g) × (length order ≡ nodes_of g) × (length place ≡ nodes_of g)
+
+abbrev pub Reaches : Ground → List ℤ → List ℕ → List ℕ → List ℕ → Progress → Type 0
+Reaches g label enter order place t = IsReached (nodes_of g) g.first.now g.arcs.now (at_nodes g.potential.now) (at_nodes g.excess.now) g.source (at_nodes label) (numbers enter) (numbers order) (numbers place) t.head t.ordered t.reached t.level
+
+abbrev pub FindsNearest : Ground → List ℤ → List ℕ → Progress → Type 0
+FindsNearest g label place t = IsNearest (nodes_of g) g.first.now g.arcs.now (at_nodes g.potential.now) (at_nodes g.excess.now) g.source (at_nodes label) (numbers place) t.head t.level t.cut t.found
+
+abbrev pub Keeps : Ground → ℕ → List ℤ → List ℕ → List ℤ → List ℕ → Type 0
+Keeps g h label place label' place' = IsKept (nodes_of g) h (at_nodes label) (numbers place) (at_nodes label') (numbers place')
+
+-- a scanned node's residual arc offers its end a lesser label, no nearer than the level
+pub record IsOffer (n : ℕ) (first : List ℕ) (arcs : List ResidualArc) (p : ℕ → ℤ) (s : ℕ) (q : ℕ → ℤ) (place : ℕ → ℕ) (head : ℕ) (level : ℤ) (k v : ℕ) (x : ℤ) : Type 0 where
+  pub start : ℕ
+  pub node : start < n
+  pub labelled : q start <ℤ far
+  pub scanned : place start < head
+  pub leaves : StartsAt first start k
+  pub unblocked : IsOpen arcs k
+  pub arrives : end_at arcs k ≡ v
+  pub label : x ≡ q start +ℤ code_at arcs k
+  pub near : IsNear (p s) head x
+  pub beyond : level ≤ℤ (x -ℤ p v)
+  pub less : x <ℤ q v
+
+abbrev pub Offers : Ground → List ℤ → List ℕ → Progress → Step → Type 0
+Offers g label place t step = IsOffer (nodes_of g) g.first.now g.arcs.now (at_nodes g.potential.now) g.source (at_nodes label) (numbers place) t.head t.level step.number step.end step.label
+
+-- an entry was written
+pub record IsPut {A : Type 0} (f f' : ℕ → A) (i : ℕ) (a : A) : Type 0 where
+  pub here : f' i ≡ a
+  pub others : (j : ℕ) → j ≢ i → f' j ≡ f j
+
+-- node v at place `from` of the order and the node at place `to` have changed places
+pub record IsSwapped (order place order' place' : ℕ → ℕ) (v from to : ℕ) : Type 0 where
+  pub moved : order' to ≡ v
+  pub other : from ≢ to → order' from ≡ order to
+  pub rest : (j : ℕ) → j ≢ to → j ≢ from → order' j ≡ order j
+  pub stands : place' v ≡ to
+  pub instead : order to ≢ v → place' (order to) ≡ from
+  pub stay : (w : ℕ) → w ≢ v → w ≢ order to → place' w ≡ place w

@@ -1,0 +1,14 @@
+//! The search by reduced costs for the nearest node where units are wanting, in a network whose
+//! residual arcs stand side by side.
+//!
+//! It begins at a node where units are left over, under potentials by which no open residual arc costs
+//! less than 0, and stops once no nearer node can come. Its labels tell how the potentials move, and
+//! the residual arcs on which nodes were entered lead back along a path of least cost.
+//! (Ahuja, Magnanti, Orlin: Network Flows, 1993, section 9.7, successive shortest paths.)
+#![tactic(auto)]
+
+mod nearest;
+mod reach;
+
+pub use nearest::search;
+pub use reach::{FAR, Ground, Progress};

@@ -1,8 +1,0 @@
--- What a run found in one source.
-use Rattle.std.specs.Prelude.{ℕ, List}
-use Rattle.streams.specs.declared.found.Mark.{Mark}
-
--- the bytes of its records, in order, and its mark
-pub record Found : Type 0 where
-  pub records : List (List ℕ)
-  pub mark : Mark

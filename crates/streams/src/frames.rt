@@ -1,0 +1,53 @@
+//! What a run found in one source.
+
+use planar_code::{Ending, Record};
+use std::marker::Model;
+
+/// How a source ended.
+#[derive(Clone, Copy, Debug, PartialEq, Eq)]
+pub enum Mark {
+    /// As its bytes say, or for want of memory in the framer.
+    Ended(Ending),
+    /// It failed where more bytes could have come.
+    Io,
+}
+
+/// The records of one source, in order, and its mark.
+#[derive(Drop)]
+pub struct Frames {
+    records: Vec<Record>,
+    mark: Mark,
+}
+
+impl Model for Frames {
+    ghost use Rattle.streams.specs.FramesModel.{FramesModel};
+
+    ghost Value = { FramesModel };
+
+    ghost view = { λ f. record { records = f.records.items; mark = f.mark } };
+}
+
+impl Frames {
+    ghost use Rattle.std.specs.Prelude.{◌≡◌};
+
+    pub(crate) fn new(records: Vec<Record>, mark: Mark) -> Frames
+        ensures records { result.records ≡ records.items }
+        ensures mark { result.mark ≡ mark }
+    {
+        Frames { records, mark }
+    }
+
+    /// The records in the order of the source.
+    pub fn records(&self) -> &[Record]
+        ensures { result.now ≡ self.now.records }
+    {
+        self.records.as_slice()
+    }
+
+    /// How the source ended.
+    pub fn mark(&self) -> Mark
+        ensures { result ≡ self.now.mark }
+    {
+        self.mark
+    }
+}
