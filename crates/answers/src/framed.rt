@@ -34,13 +34,9 @@ impl Numbered for Framed {
 impl Staged for Framed {
     type Next = Embedded;
 
-    type Scratch = ();
-
     const STAGE: Stage = Stage::Embed;
 
-    fn scratch(_alloc: Global) {}
-
-    fn next(self, alloc: Global, _scratch: &mut ()) -> Embedded {
+    fn next(self, alloc: Global) -> Embedded {
         let plane = embed(alloc, &self.rec);
         Embedded {
             file: self.file,

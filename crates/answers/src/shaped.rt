@@ -2,7 +2,6 @@
 
 ghost use Rattle.answers.specs.Steps.{IsShaped};
 
-use crate::drawing::DrawScratch;
 use crate::layout::Layout;
 use crate::refusal::Refusal;
 use crate::stages::answer_with;
@@ -41,21 +40,15 @@ impl Numbered for Shaped {
 impl Staged for Shaped {
     type Next = Entry;
 
-    type Scratch = DrawScratch;
-
     const STAGE: Stage = Stage::Draw;
 
-    fn scratch(alloc: Global) -> DrawScratch {
-        DrawScratch::empty(alloc)
-    }
-
-    fn next(self, alloc: Global, scratch: &mut DrawScratch) -> Entry {
+    fn next(self, alloc: Global) -> Entry {
         Entry {
             file: self.file,
             ordinal: self.ordinal,
             rec: self.rec,
             choice: self.choice,
-            answer: answer_with(alloc, scratch, self.layout),
+            answer: answer_with(alloc, self.layout),
         }
     }
 }

@@ -1,3 +1,4 @@
+pub mod Pieces
 pub mod Boxes
 pub mod Rectangle
 pub mod Boxed

@@ -5,8 +5,6 @@ mod boxes;
 mod dissection;
 mod parts;
 mod paths;
-mod scratch;
 
 pub use boxes::Boxes;
-pub use dissection::{dissect, dissect_in};
-pub use scratch::Scratch;
+pub use dissection::dissect;

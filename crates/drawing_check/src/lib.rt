@@ -11,9 +11,7 @@ mod fault;
 mod grid;
 mod meeting;
 mod route;
-mod scratch;
 mod turning;
 
-pub use drawing::{Drawing, check, check_in};
+pub use drawing::{Drawing, check};
 pub use fault::CheckFault;
-pub use scratch::Scratch;

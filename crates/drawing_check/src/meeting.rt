@@ -9,19 +9,14 @@ ghost use Rattle.drawing_check.specs.Routes.{path_of};
 ghost use Rattle.drawing_check.specs.Shown.{span_of, strips};
 
 use crate::route::{Route, route_of};
-use crate::scratch::Scratch;
 use faces::Plane;
 use ortho_rep::{Point, Points};
-use rectangles::{Rectangle, all_apart_in};
-use reuse::emptied;
+use rectangles::{Rectangle, all_apart};
 use std::alloc::{AllocError, Global};
-use std::mem;
 
-/// Whether no point is met twice, by all vertices and between the ends of all paths. Where memory runs
-/// out, that which was lent is gone.
+/// Whether no point is met twice, by all vertices and between the ends of all paths.
 pub(crate) fn meet_nowhere(
     alloc: Global,
-    scratch: &mut Scratch,
     plane: &Plane,
     points: &Points,
 ) -> Result<bool, AllocError>
@@ -33,11 +28,7 @@ pub(crate) fn meet_nowhere(
 {
     let graph = plane.graph();
     let count = usize::from(graph.vertices()) + usize::from(graph.edges());
-    let Scratch {
-        rectangles,
-        mut table,
-    } = mem::replace(scratch, Scratch::empty(alloc));
-    let mut rectangles = emptied(rectangles, count)?;
+    let mut rectangles = Vec::with_capacity(alloc, count)?;
     for point in points.vertices() {
         rectangles.push(spanned(*point, *point))?;
     }
@@ -48,9 +39,7 @@ pub(crate) fn meet_nowhere(
             edge += 1;
         }
     }
-    let apart = all_apart_in(alloc, &mut rectangles, &mut table)?;
-    *scratch = Scratch { rectangles, table };
-    Ok(apart)
+    all_apart(alloc, rectangles)
 }
 
 /// Adds what a path covers between its ends: a strip for each segment, with the corner at its end.

@@ -10,5 +10,4 @@ mod join;
 mod rectangle;
 mod walks;
 
-pub use faces::Faces;
-pub use join::{enclose, enclose_in};
+pub use join::enclose;

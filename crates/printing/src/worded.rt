@@ -30,20 +30,14 @@ impl Numbered for Worded<Framed> {
 impl Staged for Worded<Framed> {
     type Next = Worded<Embedded>;
 
-    type Scratch = <Framed as Staged>::Scratch;
-
     const STAGE: Stage = Stage::Embed;
 
-    fn scratch(alloc: Global) -> <Framed as Staged>::Scratch {
-        <Framed as Staged>::scratch(alloc)
-    }
-
-    fn next(self, alloc: Global, scratch: &mut <Framed as Staged>::Scratch) -> Worded<Embedded>
+    fn next(self, alloc: Global) -> Worded<Embedded>
         ensures about { ⟦<Embedded as Numbered>⟧.about result.item ≡ ⟦<Framed as Numbered>⟧.about self.item }
         ensures form { result.form ≡ self.form }
     {
         Worded {
-            item: self.item.next(alloc, scratch),
+            item: self.item.next(alloc),
             form: self.form,
         }
     }
@@ -64,20 +58,14 @@ impl Numbered for Worded<Embedded> {
 impl Staged for Worded<Embedded> {
     type Next = Worded<Shaped>;
 
-    type Scratch = <Embedded as Staged>::Scratch;
-
     const STAGE: Stage = Stage::Shape;
 
-    fn scratch(alloc: Global) -> <Embedded as Staged>::Scratch {
-        <Embedded as Staged>::scratch(alloc)
-    }
-
-    fn next(self, alloc: Global, scratch: &mut <Embedded as Staged>::Scratch) -> Worded<Shaped>
+    fn next(self, alloc: Global) -> Worded<Shaped>
         ensures about { ⟦<Shaped as Numbered>⟧.about result.item ≡ ⟦<Embedded as Numbered>⟧.about self.item }
         ensures form { result.form ≡ self.form }
     {
         Worded {
-            item: self.item.next(alloc, scratch),
+            item: self.item.next(alloc),
             form: self.form,
         }
     }
@@ -98,18 +86,12 @@ impl Numbered for Worded<Shaped> {
 impl Staged for Worded<Shaped> {
     type Next = Printed;
 
-    type Scratch = <Shaped as Staged>::Scratch;
-
     const STAGE: Stage = Stage::Draw;
 
-    fn scratch(alloc: Global) -> <Shaped as Staged>::Scratch {
-        <Shaped as Staged>::scratch(alloc)
-    }
-
-    fn next(self, alloc: Global, scratch: &mut <Shaped as Staged>::Scratch) -> Printed
+    fn next(self, alloc: Global) -> Printed
         ensures about { about_of result.entry.value ≡ ⟦<Shaped as Numbered>⟧.about self.item }
         ensures form { result.form ≡ self.form }
     {
-        print(alloc, self.form, self.item.next(alloc, scratch))
+        print(alloc, self.form, self.item.next(alloc))
     }
 }

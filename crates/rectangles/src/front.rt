@@ -8,24 +8,23 @@ ghost use Rattle.rectangles.specs.Rectangles.{IsFilled, AreApart};
 ghost use Rattle.rectangles.specs.Front.{Passes, Reaches};
 
 use crate::Rectangle;
-use std::alloc::AllocError;
+use std::alloc::{AllocError, Global};
 
 // Whether no two of the rectangles have a point in common. They are sorted by their left columns, and all
-// lie below row `height`. The front stands in the memory of the list that is lent.
+// lie below row `height`.
 pub(crate) fn sweep(
+    alloc: Global,
     rectangles: &[Rectangle],
     height: usize,
-    front: &mut Vec<u64>,
 ) -> Result<bool, AllocError>
     requires filled { All IsFilled rectangles.now }
     requires ordered { IsNonDecreasingBy (λ r. r.left) rectangles.now }
     requires low { All (λ r. r.top < height) rectangles.now }
     ensures { IfOk result (λ apart. IsTrue apart ↔ AllPairs AreApart rectangles.now) }
 {
-    front.clear();
-    front.resize(height, 0)?;
+    let mut front = vec![in alloc; 0u64; height]?;
     for rectangle in rectangles {
-        if !pass(front, *rectangle) {
+        if !pass(&mut front, *rectangle) {
             return Ok(false);
         }
     }

@@ -191,8 +191,7 @@ fn pass<S: Staged>(
 ) -> S::Next {
     same(rt, (staged.file(), staged.ordinal()), about);
     same(rt, S::STAGE, stage);
-    let mut scratch = S::scratch(alloc);
-    staged.next(alloc, &mut scratch)
+    staged.next(alloc)
 }
 
 /// The entry of a record, stage by stage.

@@ -1,0 +1,122 @@
+-- A list cut at places, piece by piece, and pieces that are put one after another into one list.
+use Rattle.std.proofs.Common.{◌≡◌, ◌≤◌, ◌<◌, ℕ, zero, suc, ◌+◌, ◌-◌, List, [], ◌∷◌, ◌++◌, length, get_or, take, drop, refl, sym, ap, ◌∙◌, inl, inr, length-append, add-one, arith, subst}
+use Rattle.std.specs.Prelude.{slice_range}
+use Rattle.std.proofs.lemmas.Bool.{cases_eq}
+use Rattle.std.proofs.lemmas.List.{get_or_append_left, get_or_at, drop-append-le, drop_at, take-append-le, take_all, length-drop}
+use Rattle.dissect.specs.Pieces.{cut, cut_from, IsCut}
+
+length-cut_from : (start : ℕ) (ends items : List ℕ) → length (cut_from start ends items) ≡ length ends
+length-cut_from start [] items = refl
+length-cut_from start (end ∷ ends) items = ap suc (length-cut_from end ends items)
+
+-- there is one piece less than there are places
+pub length-cut : (starts items : List ℕ) → 0 < length starts → length (cut starts items) + 1 ≡ length starts
+length-cut [] items some = absurd (omega arith)
+length-cut (start ∷ ends) items some = omega (arith, length-cut_from start ends items)
+
+get_or-cut_from : (k start : ℕ) (ends items : List ℕ) → k < length ends →
+    get_or (cut_from start ends items) k [] ≡ slice_range items (get_or (start ∷ ends) k 0) (get_or ends k 0)
+get_or-cut_from k start [] items within = absurd (omega arith)
+get_or-cut_from zero start (end ∷ ends) items within = refl
+get_or-cut_from (suc k) start (end ∷ ends) items within = get_or-cut_from k end ends items (omega arith)
+
+-- piece k is what stands between place k and place k + 1
+pub get_or-cut : (starts items : List ℕ) (k : ℕ) → k + 1 < length starts →
+    get_or (cut starts items) k [] ≡ slice_range items (get_or starts k 0) (get_or starts (k + 1) 0)
+get_or-cut [] items k within = absurd (omega arith)
+get_or-cut (start ∷ ends) items k within = rw add-one (get_or-cut_from k start ends items (omega arith))
+
+-- n pieces stand in the list, and the next one starts at its end
+pub record IsJoined (starts items : List ℕ) (n : ℕ) (IsPiece : ℕ → List ℕ → Type 0) : Type 0 where
+  pub count : length starts ≡ n + 1
+  pub ordered : (k : ℕ) → k < n → get_or starts k 0 ≤ get_or starts (k + 1) 0
+  pub inside : (k : ℕ) → k < n + 1 → get_or starts k 0 ≤ length items
+  pub end : get_or starts n 0 ≡ length items
+  pub pieces : (k : ℕ) → k < n → (piece : List ℕ) → IsPiece k piece →
+      slice_range items (get_or starts k 0) (get_or starts (k + 1) 0) ≡ piece
+
+-- a piece stays where more is put behind it
+slice_range-append : (xs ys : List ℕ) (a b : ℕ) → a ≤ b → b ≤ length xs → slice_range (xs ++ ys) a b ≡ slice_range xs a b
+slice_range-append xs ys a b h k =
+    ap (take (b - a)) (drop-append-le a xs ys (omega arith)) ∙ take-append-le (b - a) (drop a xs) ys (omega (arith, length-drop a xs))
+
+-- and what is put behind is a piece
+slice_range-behind : (xs ys : List ℕ) → slice_range (xs ++ ys) (length xs) (length (xs ++ ys)) ≡ ys
+slice_range-behind xs ys =
+    ap (take (length (xs ++ ys) - length xs)) (drop_at xs ys (length xs) refl) ∙ take_all (length (xs ++ ys) - length xs) ys (omega (arith, length-append xs ys))
+
+-- no piece yet
+pub joined-none : (IsPiece : ℕ → List ℕ → Type 0) → IsJoined (0 ∷ []) [] 0 IsPiece
+joined-none IsPiece = record {
+  count = refl;
+  ordered = λ k b. absurd (omega arith);
+  inside = λ k b. omega (arith, nothing k);
+  end = refl;
+  pieces = λ k b. absurd (omega arith);
+}
+  where
+    nothing : (k : ℕ) → let zeros : List ℕ = 0 ∷ [] in let none : ℕ = 0 in get_or zeros k none ≡ none
+    nothing zero = refl
+    nothing (suc k) = refl
+
+-- one piece more
+joined-more : (starts items more : List ℕ) (n : ℕ) (IsPiece : ℕ → List ℕ → Type 0) → IsJoined starts items n IsPiece →
+    ((piece : List ℕ) → IsPiece n piece → more ≡ piece) →
+    IsJoined (starts ++ length (items ++ more) ∷ []) (items ++ more) (n + 1) IsPiece
+joined-more starts items more n IsPiece is this =
+    let all : List ℕ = items ++ more in
+    let old : (k : ℕ) → k < n + 1 → get_or (starts ++ length all ∷ []) k 0 ≡ get_or starts k 0 = λ k b. get_or_append_left starts (length all ∷ []) 0 k (omega (arith, is.count)) in
+    let new : get_or (starts ++ length all ∷ []) (n + 1) 0 ≡ length all = get_or_at starts (length all) [] 0 (n + 1) is.count in
+    let longer : length all ≡ length items + length more = length-append items more in
+    record {
+      count = omega (arith, length-append starts (length all ∷ []), is.count);
+      ordered = λ k b. elim (cases_eq k n) [
+        | inl e ↦ omega (arith, ap (λ (z : ℕ). get_or (starts ++ length all ∷ []) z 0) e, ap (λ (z : ℕ). get_or (starts ++ length all ∷ []) (z + 1) 0) e, old n (omega arith), new, longer, is.end)
+        | inr ne ↦ omega (arith, old k (omega arith), old (k + 1) (omega arith), is.ordered k (omega arith))
+      ];
+      inside = λ k b. elim (cases_eq k (n + 1)) [
+        | inl e ↦ omega (arith, ap (λ (z : ℕ). get_or (starts ++ length all ∷ []) z 0) e, new)
+        | inr ne ↦ omega (arith, old k (omega arith), is.inside k (omega arith), longer)
+      ];
+      end = new;
+      pieces = λ k b piece is_piece. elim (cases_eq k n) [
+        | inl e ↦
+            ap (λ (z : ℕ). slice_range all (get_or (starts ++ length all ∷ []) z 0) (get_or (starts ++ length all ∷ []) (z + 1) 0)) e
+            ∙ (ap (λ (z : ℕ). slice_range all (get_or (starts ++ length all ∷ []) n 0) z) new
+            ∙ (ap (λ (z : ℕ). slice_range all z (length all)) (old n (omega arith) ∙ is.end)
+            ∙ (slice_range-behind items more ∙ this piece (subst (λ (z : ℕ). IsPiece z piece) e is_piece))))
+        | inr ne ↦
+            ap (λ (z : ℕ). slice_range all z (get_or (starts ++ length all ∷ []) (k + 1) 0)) (old k (omega arith))
+            ∙ (ap (λ (z : ℕ). slice_range all (get_or starts k 0) z) (old (k + 1) (omega arith))
+            ∙ (slice_range-append items more (get_or starts k 0) (get_or starts (k + 1) 0) (is.ordered k (omega arith)) (is.inside (k + 1) (omega arith))
+            ∙ is.pieces k (omega arith) piece is_piece))
+      ];
+    }
+
+-- what is put behind a list is one piece
+one_behind : (items more other : List ℕ) → items ++ more ≡ items ++ other → more ≡ other
+one_behind items more other same =
+    sym (drop_at items more (length items) refl) ∙ ap (drop (length items)) same ∙ drop_at items other (length items) refl
+
+-- one piece more, as a loop finds it
+pub joined-pushed : (starts starts' items items' more : List ℕ) (n m : ℕ) (IsPiece : ℕ → List ℕ → Type 0) → IsJoined starts items n IsPiece →
+    items' ≡ items ++ more → ((piece : List ℕ) → IsPiece n piece → items' ≡ items ++ piece) → m ≡ length items' → starts' ≡ starts ++ m ∷ [] →
+    IsJoined starts' items' (n + 1) IsPiece
+joined-pushed starts starts' items items' more n m IsPiece is all each long longer =
+    rw (longer, long, all) (joined-more starts items more n IsPiece is (λ piece h. one_behind items more piece (sym all ∙ each piece h)))
+
+-- so the list can be cut there
+pub joined-IsCut : (starts items : List ℕ) (n : ℕ) (IsPiece : ℕ → List ℕ → Type 0) → IsJoined starts items n IsPiece → IsCut starts items
+joined-IsCut starts items n IsPiece is = record {
+  some = omega (arith, is.count);
+  ordered = λ k b. is.ordered k (omega (arith, is.count));
+  inside = λ k b. is.inside k (omega (arith, is.count));
+}
+
+-- into those pieces
+pub joined-cut : (starts items : List ℕ) (n : ℕ) (IsPiece : ℕ → List ℕ → Type 0) → IsJoined starts items n IsPiece →
+    (length (cut starts items) ≡ n) × ((k : ℕ) → k < n → (piece : List ℕ) → IsPiece k piece → get_or (cut starts items) k [] ≡ piece)
+joined-cut starts items n IsPiece is = (
+  omega (arith, length-cut starts items (omega (arith, is.count)), is.count),
+  λ k b piece h. get_or-cut starts items k (omega (arith, is.count)) ∙ is.pieces k b piece h,
+)
