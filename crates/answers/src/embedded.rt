@@ -8,6 +8,7 @@ use crate::stages::shape;
 use choices::Choice;
 use faces::Plane;
 use lanes::{Numbered, Stage, Staged};
+use ortho_rep::Scratch;
 use planar_code::Record;
 use std::alloc::Global;
 
@@ -40,15 +41,21 @@ impl Numbered for Embedded {
 impl Staged for Embedded {
     type Next = Shaped;
 
+    type Scratch = Scratch;
+
     const STAGE: Stage = Stage::Shape;
 
-    fn next(self, alloc: Global) -> Shaped {
+    fn scratch(alloc: Global) -> Scratch {
+        Scratch::empty(alloc)
+    }
+
+    fn next(self, alloc: Global, scratch: &mut Scratch) -> Shaped {
         Shaped {
             file: self.file,
             ordinal: self.ordinal,
             rec: self.rec,
             choice: self.choice,
-            layout: shape(alloc, self.plane, self.choice),
+            layout: shape(alloc, scratch, self.plane, self.choice),
         }
     }
 }

@@ -34,9 +34,13 @@ impl Numbered for Framed {
 impl Staged for Framed {
     type Next = Embedded;
 
+    type Scratch = ();
+
     const STAGE: Stage = Stage::Embed;
 
-    fn next(self, alloc: Global) -> Embedded {
+    fn scratch(_alloc: Global) {}
+
+    fn next(self, alloc: Global, _scratch: &mut ()) -> Embedded {
         let plane = embed(alloc, &self.rec);
         Embedded {
             file: self.file,

@@ -3,6 +3,7 @@
 //! what it gives that it is the record's.
 #![tactic(auto)]
 
+mod drawing;
 mod embedded;
 mod framed;
 mod laying;
@@ -11,6 +12,7 @@ mod refusal;
 mod shaped;
 mod stages;
 
+pub use drawing::DrawScratch;
 pub use embedded::Embedded;
 pub use entries::{Answer, Cause, Entry};
 pub use framed::Framed;

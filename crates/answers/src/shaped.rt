@@ -2,6 +2,7 @@
 
 ghost use Rattle.answers.specs.Steps.{IsShaped};
 
+use crate::drawing::DrawScratch;
 use crate::layout::Layout;
 use crate::refusal::Refusal;
 use crate::stages::answer_with;
@@ -40,15 +41,21 @@ impl Numbered for Shaped {
 impl Staged for Shaped {
     type Next = Entry;
 
+    type Scratch = DrawScratch;
+
     const STAGE: Stage = Stage::Draw;
 
-    fn next(self, alloc: Global) -> Entry {
+    fn scratch(alloc: Global) -> DrawScratch {
+        DrawScratch::empty(alloc)
+    }
+
+    fn next(self, alloc: Global, scratch: &mut DrawScratch) -> Entry {
         Entry {
             file: self.file,
             ordinal: self.ordinal,
             rec: self.rec,
             choice: self.choice,
-            answer: answer_with(alloc, self.layout),
+            answer: answer_with(alloc, scratch, self.layout),
         }
     }
 }

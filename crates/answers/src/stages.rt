@@ -1,22 +1,19 @@
 //! The stages that answer a record.
 
-ghost use Rattle.std.specs.Prelude.{◌≡◌, ℕ, List, IfOk};
-ghost use Rattle.ortho_rep.specs.Representation.{IsShape};
+ghost use Rattle.std.specs.Prelude.{◌≡◌, ℕ, List};
 ghost use Rattle.answers.specs.Steps.{IsEmbedded, IsShaped};
 ghost use Rattle.choices.specs.declared.Choice.{Choice};
-ghost use Rattle.entries.specs.Drawn.{IsDrawn};
 ghost use Rattle.entries.specs.Answers.{Answers};
 
+use crate::drawing::{DrawScratch, draw};
 use crate::laying::lay;
 use crate::layout::Layout;
 use crate::refusal::Refusal;
 use choices::Choice;
-use compact::{CompactFault, compact, dissect};
-use drawing_check::{CheckFault, Drawing, check};
 use embedding::{Graph, ReadFault, Rule};
-use entries::{Answer, Cause, Entry};
+use entries::{Answer, Entry};
 use faces::{Plane, TraceFault};
-use ortho_rep::Shape;
+use ortho_rep::Scratch;
 use planar_code::Record;
 use std::alloc::{AllocError, Global};
 
@@ -39,40 +36,24 @@ pub(crate) fn embed(alloc: Global, rec: &Record) -> Result<Plane, Refusal>
 /// A layout of a record's plane with the chosen outer face, or why there is none.
 pub(crate) fn shape(
     alloc: Global,
+    scratch: &mut Scratch,
     plane: Result<Plane, Refusal>,
     choice: Choice,
 ) -> Result<Layout, Refusal>
     ensures { (bytes : List ℕ) → IsEmbedded bytes plane → IsShaped choice bytes result }
 {
-    match lay(alloc, plane?, choice) {
+    match lay(alloc, scratch, plane?, choice) {
         Ok(layout) => Ok(layout),
         Err(AllocError) => Err(Refusal::Memory),
     }
 }
 
-/// Points that draw the shape, or why there are none.
-fn draw(alloc: Global, plane: &Plane, shape: &Shape) -> Result<Result<Drawing, Cause>, AllocError>
-    requires { IsShape plane.now shape.now }
-    ensures { IfOk result (IsDrawn plane.now shape.now) }
-{
-    let boxes = dissect(alloc, plane, shape)?;
-    let points = match compact(alloc, &boxes) {
-        Ok(points) => points,
-        Err(CompactFault::Wide) => return Ok(Err(Cause::Wide)),
-        Err(CompactFault::Memory) => return Err(AllocError),
-    };
-    match check(alloc, plane, shape, points) {
-        Ok(drawing) => Ok(Ok(drawing)),
-        Err((CheckFault::OutOfGrid, _)) => Ok(Err(Cause::OutOfGrid)),
-        Err((CheckFault::NotAxis, _)) => Ok(Err(Cause::NotAxis)),
-        Err((CheckFault::WrongTurn, _)) => Ok(Err(Cause::WrongTurn)),
-        Err((CheckFault::Meet, _)) => Ok(Err(Cause::Meet)),
-        Err((CheckFault::Memory, _)) => Err(AllocError),
-    }
-}
-
 /// What is answered to a record with this layout, or without one.
-pub(crate) fn answer_with(alloc: Global, layout: Result<Layout, Refusal>) -> Answer
+pub(crate) fn answer_with(
+    alloc: Global,
+    scratch: &mut DrawScratch,
+    layout: Result<Layout, Refusal>,
+) -> Answer
     ensures { (choice : Choice) (bytes : List ℕ) → IsShaped choice bytes layout → Answers choice bytes result }
 {
     let Layout {
@@ -84,7 +65,7 @@ pub(crate) fn answer_with(alloc: Global, layout: Result<Layout, Refusal>) -> Ans
         Err(Refusal::Rule(rule)) => return Answer::Refused(rule),
         Err(Refusal::Memory) => return Answer::NoMemory,
     };
-    match draw(alloc, &plane, &shape) {
+    match draw(alloc, scratch, &plane, &shape) {
         Ok(drawing) => Answer::Laid {
             plane,
             shape,
@@ -106,12 +87,14 @@ pub fn answer(alloc: Global, file: u32, ordinal: u32, rec: Record, choice: Choic
     ensures answered { Answers choice rec result.answer }
 {
     let plane = embed(alloc, &rec);
-    let layout = shape(alloc, plane, choice);
+    let mut scratch = Scratch::empty(alloc);
+    let mut draw_scratch = DrawScratch::empty(alloc);
+    let layout = shape(alloc, &mut scratch, plane, choice);
     Entry {
         file,
         ordinal,
         rec,
         choice,
-        answer: answer_with(alloc, layout),
+        answer: answer_with(alloc, &mut draw_scratch, layout),
     }
 }

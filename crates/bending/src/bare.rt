@@ -11,7 +11,8 @@ ghost use Rattle.bending.specs.Bare.{IsBare, IsBlank};
 use cutting::{DartTable, NO_DART};
 use faces::Plane;
 use ortho_rep::Shape;
-use std::alloc::{AllocError, Global};
+use reuse::filled;
+use std::alloc::AllocError;
 
 /// How many darts the table of a shape is to have room for: two for each bend, four for each right
 /// turn that it may have, and 24 for a rectangle round it. A step for each dart.
@@ -29,9 +30,9 @@ pub fn room_for(plane: &Plane, shape: &Shape) -> u32
 }
 
 /// A table of so many darts and vertices, of which nothing is written yet, with no dart in front of
-/// another.
+/// another, in the memory of this one.
 fn blank_table(
-    alloc: Global,
+    table: DartTable,
     darts: u32,
     vertices: u32,
     places: u32,
@@ -42,13 +43,13 @@ fn blank_table(
 {
     let places = places as usize;
     Ok(DartTable {
-        next: vec![in alloc; 0; places]?,
-        prev: vec![in alloc; 0; places]?,
-        reverse_dart: vec![in alloc; 0; places]?,
-        head: vec![in alloc; 0; places]?,
-        before: vec![in alloc; NO_DART; places]?,
-        direction: vec![in alloc; 0; places]?,
-        angle: vec![in alloc; 0; places]?,
+        next: filled(table.next, places, 0)?,
+        prev: filled(table.prev, places, 0)?,
+        reverse_dart: filled(table.reverse_dart, places, 0)?,
+        head: filled(table.head, places, 0)?,
+        before: filled(table.before, places, NO_DART)?,
+        direction: filled(table.direction, places, 0)?,
+        angle: filled(table.angle, places, 0)?,
         darts,
         vertices,
     })
@@ -86,9 +87,10 @@ fn write_dart(table: &mut DartTable, plane: &Plane, shape: &Shape, directions: &
 }
 
 /// The table of a plane's darts with these directions and the angles of the shape, and with so much
-/// room. One allocation for each of its arrays; a step for each place of them.
+/// room, in the memory of an earlier table. One allocation for each array that has not enough; a step
+/// for each place of them.
 pub fn bare_table(
-    alloc: Global,
+    table: DartTable,
     plane: &Plane,
     shape: &Shape,
     directions: &[u8],
@@ -104,7 +106,7 @@ pub fn bare_table(
     let graph = plane.graph();
     let darts = u32::from(graph.darts());
     let vertices = u32::from(graph.vertices());
-    let mut table = blank_table(alloc, darts, vertices, places)?;
+    let mut table = blank_table(table, darts, vertices, places)?;
     'darts: for dart in 0..graph.darts() {
         write_dart(&mut table, plane, shape, directions, dart);
     }

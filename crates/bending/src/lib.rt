@@ -9,5 +9,5 @@ mod bare;
 mod edges;
 mod straight;
 
-pub use headings::headings;
-pub use straight::bend;
+pub use headings::{Search, headings, headings_in};
+pub use straight::{bend, bend_into};

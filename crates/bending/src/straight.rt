@@ -52,9 +52,39 @@ pub fn bend(
     ensures joined { IfOk result (λ t. IsJoined (web_of t)) }
     ensures space { IfOk result (λ t. t.darts + 4 * excess (web_of t) + 24 ≤ room t) }
 {
+    bend_into(DartTable::empty(alloc), plane, shape, directions)
+}
+
+/// The same in the memory of an earlier table, with one allocation for each of its arrays that has not
+/// enough.
+///
+/// # Errors
+///
+/// `AllocError` where there is no memory for the table; the memory that was lent is then gone.
+pub fn bend_into(
+    table: DartTable,
+    plane: &Plane,
+    shape: &Shape,
+    directions: &[u8],
+) -> Result<DartTable, AllocError>
+    requires shape { IsShape plane.now shape.now }
+    requires count { length directions.now ≡ darts plane.now }
+    requires headings { AreHeadings plane.now (angle_at shape.now) (turns_at shape.now) (slice_index directions.now) }
+    ensures sound { IfOk result (λ t. IsSound (web_of t)) }
+    ensures darts { IfOk result (λ t. KeepsDarts plane.now (angle_at shape.now) (web_of t)) }
+    ensures directions { IfOk result (λ t. AreHeadings plane.now (angle_at shape.now)
+        (turns_at shape.now) (web_of t).direction) }
+    ensures faces { IfOk result (λ t. KeepsFaces plane.now (web_of t)) }
+    ensures counts { IfOk result (λ t. CountsBends plane.now (turns_at shape.now) (web_of t)) }
+    ensures paths { IfOk result (λ t. HasPaths (web_of t) (darts plane.now) (reverse_dart plane.now)
+        (λ d. map angle_of (turns_at shape.now d))) }
+    ensures rows { IfOk result (λ t. AreRows (vertices plane.now) (web_of t)) }
+    ensures joined { IfOk result (λ t. IsJoined (web_of t)) }
+    ensures space { IfOk result (λ t. t.darts + 4 * excess (web_of t) + 24 ≤ room t) }
+{
     let _graph = plane.graph();
     let room = room_for(plane, shape);
-    let mut table = bare_table(alloc, plane, shape, directions, room)?;
+    let mut table = bare_table(table, plane, shape, directions, room)?;
     bend_edges(&mut table, plane, shape);
     Ok(table)
 }

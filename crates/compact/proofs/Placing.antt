@@ -1,15 +1,15 @@
 -- Numbers in order, axis by axis, and the points that are taken from them.
-use Rattle.std.proofs.Common.{◌≡◌, ℕ, ◌+◌, ◌%◌, ◌<◌, ◌≤◌, ◌∙◌, List, [], ◌∷◌, ◌++◌, Vec, Global, length, map, get_or, slice_index, arith, subst, sym, ap, inl, inr}
+use Rattle.std.proofs.Common.{◌≡◌, ℕ, ◌+◌, ◌%◌, ◌<◌, ◌≤◌, ◌∙◌, List, length, map, slice_index, arith, subst, ap, inl, inr}
 use Rattle.std.proofs.lemmas.Bool.{cases_eq}
-use Rattle.std.proofs.lemmas.List.{map_push, length-map, get_or_push, get_or_append_left}
+use Rattle.std.proofs.lemmas.List.{length-map}
 use Rattle.std.proofs.lemmas.List.FromFn.{length-range_with_len}
-use Rattle.cutting.specs.Webs.{Web, IsSound}
+use Rattle.cutting.specs.Webs.{Web, IsSound, no_dart}
 use Rattle.cutting.specs.Paths.{turning_places}
 use Rattle.ortho_rep.specs.declared.points.Point.{Point}
-use Rattle.ortho_rep.specs.Points.{point_lists}
 use Rattle.dissect.specs.Boxes.{BoxesModel, HasEdge, web}
-use Rattle.compact.specs.Ordered.{tail, point_at, IsOrdered, IsAlong, AreCorners, IsAxisFault, IsCompactFault, AreLaidOut, AreWithin}
+use Rattle.compact.specs.Ordered.{tail, point_at, IsOrdered, IsAlong, AreCorners, AreCornersOf, IsAxisFault, IsCompactFault, AreLaidOut, AreWithin}
 use Rattle.std.specs.List.{range_with_len}
+use Rattle.compact.proofs.Walking.{one_turning}
 use Rattle.compact.specs.declared.fault.CompactFault.{CompactFault}
 use Rattle.compact.specs.declared.fault.CompactFault.TheVariants.{Wide, Memory}
 
@@ -64,24 +64,16 @@ keep_y w x y sound ordered = record {
   ];
 }
 
--- the corners of one more edge
-pub corners_more : (b : BoxesModel) (x y : ℕ → ℕ) (n : ℕ) (lists new : List (Vec Point Global)) (v : Vec Point Global) → length lists ≡ n →
-    new ≡ lists ++ (v ∷ []) → AreCorners b x y n lists →
-    ((edge : HasEdge b n) → v.items ≡ map (point_at x y) (turning_places (web b) edge.first edge.rest)) → AreCorners b x y (n + 1) new
-corners_more b x y n lists new v size pushed corners one e e_in edge =
-    let flat : point_lists new ≡ point_lists lists ++ (v.items ∷ []) = ap point_lists pushed ∙ map_push (λ (u : Vec Point Global). u.items) lists v in
-    let long : length (point_lists lists) ≡ n = length-map lists (λ (u : Vec Point Global). u.items) ∙ size in
-    ap (λ (ls : List (List Point)). get_or ls e []) flat ∙
-    (elim (cases_eq e n) [
-      | inl last ↦
-          get_or_push (point_lists lists) v.items [] e (long ∙ sym last)
-          ∙ subst (λ (k : ℕ). (edge : HasEdge b k) → v.items ≡ map (point_at x y) (turning_places (web b) edge.first edge.rest)) (sym last) one edge
-      | inr before ↦ get_or_append_left (point_lists lists) (v.items ∷ []) [] e (omega (arith, e_in, before, long)) ∙ corners e (omega (arith, e_in, before)) edge
-    ])
+-- all paths of an edge turn at the same places
+pub one_corners : (b : BoxesModel) (x y : ℕ → ℕ) (e : ℕ) (points : List Point) (one : HasEdge b e) → b.darts ≤ no_dart →
+    points ≡ map (point_at x y) (turning_places (web b) one.first one.rest) → AreCornersOf b x y e points
+one_corners b x y e points one few is edge =
+    is ∙ ap (map (point_at x y)) (one_turning (web b) (slice_index b.edges e) one.first edge.first one.rest edge.rest few one.path edge.path)
 
--- no corners yet
-pub no_corners : (b : BoxesModel) (x y : ℕ → ℕ) (lists : List (Vec Point Global)) → AreCorners b x y 0 lists
-no_corners b x y lists e e_in edge = absurd (omega (arith, e_in))
+-- the points are those of the places where a path of the edge e turns
+pub record IsCornersOf (b : BoxesModel) (x y : ℕ → ℕ) (e : ℕ) (points : List Point) : Type 0 where
+  pub edge : HasEdge b e
+  pub is : points ≡ map (point_at x y) (turning_places (web b) edge.first edge.rest)
 
 -- what a fault of one axis says of both
 pub x_fault : (b : BoxesModel) (fault : CompactFault) → IsAxisFault b 0 fault → IsCompactFault b fault
@@ -97,14 +89,14 @@ y_fault b Wide wide = λ x y ordered.
 y_fault b Memory fault = tt
 
 -- points that are taken from numbers in order
-pub laid_out : (b : BoxesModel) (x y x1 y1 x2 y2 : List ℕ) (vertices : List Point) (corners : List (Vec Point Global)) →
+pub laid_out : (b : BoxesModel) (x y x1 y1 x2 y2 : List ℕ) (vertices : List Point) (corners : List (List Point)) →
     x1 ≡ x → y1 ≡ y → x2 ≡ x → y2 ≡ y → IsSound (web b) → IsAlong (web b) 0 (λ v. slice_index x v) → IsAlong (web b) 1 (λ v. slice_index y v) →
     ((z : ℕ → ℕ) → IsAlong (web b) 0 z → (v : ℕ) → v < b.vertices → slice_index x v ≤ z v) →
     ((z : ℕ → ℕ) → IsAlong (web b) 1 z → (v : ℕ) → v < b.vertices → slice_index y v ≤ z v) →
     AreWithin b.vertices (λ v. slice_index x v) → AreWithin b.vertices (λ v. slice_index y v) →
     vertices ≡ map (point_at (λ v. slice_index x1 v) (λ v. slice_index y1 v)) (range_with_len 0 b.old) → length corners ≡ length b.edges →
     AreCorners b (λ v. slice_index x2 v) (λ v. slice_index y2 v) (length b.edges) corners →
-    AreLaidOut b (record { vertices = vertices; corners = point_lists corners })
+    AreLaidOut b (record { vertices = vertices; corners = corners })
 laid_out b x y x1 y1 x2 y2 vertices corners sx1 sy1 sx2 sy2 sound along_x along_y least_x least_y within_x within_y at_vertices count at_corners =
     record {
       x = λ v. slice_index x v;
@@ -119,7 +111,7 @@ laid_out b x y x1 y1 x2 y2 vertices corners sx1 sy1 sx2 sy2 sound along_x along_
             ∙ ap (λ (ys : List ℕ). map (point_at (λ v. slice_index x v) (λ v. slice_index ys v)) (range_with_len 0 b.old)) sy1;
         vertex_count = ap length at_vertices
             ∙ length-map (range_with_len 0 b.old) (point_at (λ v. slice_index x1 v) (λ v. slice_index y1 v)) ∙ length-range_with_len 0 b.old;
-        count = length-map corners (λ (u : Vec Point Global). u.items) ∙ count;
+        count = count;
         corners = subst (λ (ys : List ℕ). AreCorners b (λ v. slice_index x v) (λ v. slice_index ys v) (length b.edges) corners) sy2
             (subst (λ (xs : List ℕ). AreCorners b (λ v. slice_index xs v) (λ v. slice_index y2 v) (length b.edges) corners) sx2 at_corners);
       };

@@ -1,12 +1,13 @@
 -- Walking back along an edge, from its last dart to its first.
-use Rattle.std.proofs.Common.{◌≡◌, ◌≢◌, ℕ, ◌<◌, ◌≤◌, ◌∙◌, ◌==◌, true, false, List, [], ◌∷◌, ◌++◌, length, reverse, map, eqb, if◌then◌else◌, arith, subst, sym, ap, refl, inl, inr, append_assoc, append-nil, ◌↔◌}
-use mathlib.Core.List.{reverse_aux}
+use Rattle.std.proofs.Common.{◌≡◌, ◌≢◌, ℕ, zero, suc, ◌+◌, ◌-◌, ◌<◌, ◌≤◌, ◌∙◌, ◌==◌, Bool, true, false, List, [], ◌∷◌, ◌++◌, length, take, get_or, reverse, eqb, if◌then◌else◌, All, arith, sym, ap, refl, inl, inr, append_assoc, append-nil, ◌↔◌}
 use Rattle.std.proofs.lemmas.Grind.{reverse_onto}
 use Rattle.std.proofs.lemmas.Bool.{cases_eq, ne_eqb, eq-eqb, cond-true, cond-false}
 use Rattle.cutting.specs.Webs.{Web, no_dart, IsSound}
 use Rattle.cutting.specs.Faces.{last_of}
 use Rattle.cutting.specs.Paths.{IsPath, turn_to, turning_places}
-use Rattle.dissect.proofs.Walking.{Back, behind, back_short, depth, depth_is, one_back, path_back}
+use Rattle.cutting.proofs.Reading.{all_below}
+use Rattle.dissect.proofs.Walking.{behind, one_back, path_back}
+use Rattle.compact.specs.Ordered.{places_along}
 
 -- the places where the walk turns in front of d, the nearest first
 abbrev pub places_back : Web → ℕ → List ℕ → List ℕ
@@ -36,74 +37,57 @@ places_of w a fs (b ∷ bs) =
 pub path_places : (w : Web) (first : ℕ) (rest : List ℕ) → reverse (places_back w (last_of first rest) (behind first [] rest)) ≡ turning_places w first rest
 path_places w first rest = places_of w first [] rest
 
--- where a walk back stands: the darts in front of it, and the places that it has met
-pub record IsWalking (w : Web) (last dart : ℕ) (met : List ℕ) : Type 0 where
-  pub all : List ℕ
-  pub front : List ℕ
-  pub all_back : Back w last all
-  pub front_back : Back w dart front
-  pub places : met ++ places_back w dart front ≡ places_back w last all
+-- so all paths to one dart turn at the same places
+pub one_turning : (w : Web) (end first other : ℕ) (rest others : List ℕ) → w.darts ≤ no_dart → IsPath w end first rest → IsPath w end other others →
+    turning_places w first rest ≡ turning_places w other others
+one_turning w end first other rest others few one two =
+    let same : behind first [] rest ≡ behind other [] others =
+    one_back w end (behind first [] rest) (behind other [] others) few (path_back w end first rest one) (path_back w end other others two) in
+    sym (path_places w first rest) ∙ ap (λ (d : ℕ). reverse (places_back w d (behind first [] rest))) (one.ends ∙ sym two.ends)
+    ∙ ap (λ (fs : List ℕ). reverse (places_back w (last_of other others) fs)) same ∙ path_places w other others
 
-pub walk_starts : (w : Web) (last first : ℕ) (rest : List ℕ) → IsPath w last first rest → IsWalking w last last []
-walk_starts w last first rest path = record {
-  all = behind first [] rest;
-  front = behind first [] rest;
-  all_back = path_back w last first rest path;
-  front_back = path_back w last first rest path;
-  places = refl;
-}
+-- the place between two darts, where the walk turns there
+abbrev pub place_between : Web → ℕ → ℕ → List ℕ
+place_between w a b = if turn_to w a b == 0 then [] else w.head a ∷ []
 
--- one dart further back
-abbrev pub met_more : Web → ℕ → ℕ → List ℕ → List ℕ
-met_more w front dart met = if turn_to w front dart == 0 then met else met ++ (w.head front ∷ [])
+pub between_straight : (w : Web) (a b : ℕ) → turn_to w a b ≡ 0 → place_between w a b ≡ []
+between_straight w a b straight = cond-true (eqb (turn_to w a b) 0) [] (w.head a ∷ []) (eq-eqb (turn_to w a b) 0 straight)
 
-pub walk_more : (w : Web) (last dart front : ℕ) (met : List ℕ) → w.darts ≤ no_dart → w.before dart ≡ front → front ≢ no_dart →
-    IsWalking w last dart met → IsWalking w last front (met_more w front dart met) × (front < w.darts) × (depth w w.darts front < depth w w.darts dart)
-walk_more w last dart front met few is real walk = further w last dart front met few is real walk.all walk.front walk.all_back walk.front_back walk.places
-  where
-    further : (w : Web) (last dart front : ℕ) (met : List ℕ) → w.darts ≤ no_dart → w.before dart ≡ front → front ≢ no_dart →
-        (all ahead : List ℕ) → Back w last all → Back w dart ahead → met ++ places_back w dart ahead ≡ places_back w last all →
-        IsWalking w last front (met_more w front dart met) × (front < w.darts) × (depth w w.darts front < depth w w.darts dart)
-    further w last dart front met few is real all [] all_back back places = absurd (real (sym is ∙ back))
-    further w last dart front met few is real all (f ∷ fs) all_back back places =
-        let same : f ≡ front = sym back.0 ∙ is in
-        let rest : Back w front fs = subst (λ (k : ℕ). Back w k fs) same back.2 in
-        let deep : depth w w.darts dart ≡ length (f ∷ fs) = depth_is w w.darts dart (f ∷ fs) few (back_short w dart (f ∷ fs) few back) back in
-        let less : depth w w.darts front ≡ length fs = depth_is w w.darts front fs few (back_short w front fs few rest) rest in
-        let places' : met ++ places_back w dart (front ∷ fs) ≡ places_back w last all = subst (λ (k : ℕ). met ++ places_back w dart (k ∷ fs) ≡ places_back w last all) same places in (
-          record {
-            all = all;
-            front = fs;
-            all_back = all_back;
-            front_back = rest;
-            places = elim (cases_eq (turn_to w front dart) 0) [
-              | inl straight ↦
-                  let test : eqb (turn_to w front dart) 0 ≡ true = eq-eqb (turn_to w front dart) 0 straight in
-                  ap (λ (xs : List ℕ). xs ++ places_back w front fs) (cond-true (eqb (turn_to w front dart) 0) met (met ++ (w.head front ∷ [])) test)
-                  ∙ ap (λ (xs : List ℕ). met ++ xs) (sym (cond-true (eqb (turn_to w front dart) 0) (places_back w front fs) (w.head front ∷ places_back w front fs) test))
-                  ∙ places'
-              | inr turns ↦
-                  let test : eqb (turn_to w front dart) 0 ≡ false = ne_eqb (turn_to w front dart) 0 turns in
-                  ap (λ (xs : List ℕ). xs ++ places_back w front fs) (cond-false (eqb (turn_to w front dart) 0) met (met ++ (w.head front ∷ [])) test)
-                  ∙ append_assoc met (w.head front ∷ []) (places_back w front fs)
-                  ∙ ap (λ (xs : List ℕ). met ++ xs) (sym (cond-false (eqb (turn_to w front dart) 0) (places_back w front fs) (w.head front ∷ places_back w front fs) test))
-                  ∙ places'
-            ];
-          },
-          subst (λ (k : ℕ). k < w.darts) same back.1,
-          omega (arith, deep, less),
-        )
+pub between_turn : (w : Web) (a b : ℕ) → turn_to w a b ≢ 0 → place_between w a b ≡ w.head a ∷ []
+between_turn w a b turns = cond-false (eqb (turn_to w a b) 0) [] (w.head a ∷ []) (ne_eqb (turn_to w a b) 0 turns)
 
--- at the first dart all places were met
-pub walk_ends : (w : Web) (last dart : ℕ) (met : List ℕ) → w.darts ≤ no_dart → w.before dart ≡ no_dart → IsWalking w last dart met →
-    (first : ℕ) (rest : List ℕ) → IsPath w last first rest → reverse met ≡ turning_places w first rest
-walk_ends w last dart met few is walk first rest path =
-    let none : walk.front ≡ [] = one_back w dart walk.front [] few walk.front_back is in
-    let met_all : met ≡ places_back w last walk.all =
-    sym (append-nil met) ∙ ap (λ (fs : List ℕ). met ++ places_back w dart fs) (sym none) ∙ walk.places in
-    let same : walk.all ≡ behind first [] rest = one_back w last walk.all (behind first [] rest) few walk.all_back (path_back w last first rest path) in
-    ap reverse (met_all ∙ ap (places_back w last) same)
-    ∙ subst (λ (d : ℕ). reverse (places_back w d (behind first [] rest)) ≡ turning_places w first rest) path.ends (path_places w first rest)
+either_push : (c : Bool) (h : ℕ) (xs more : List ℕ) → (if c then (xs ++ more) else h ∷ (xs ++ more)) ≡ (if c then xs else h ∷ xs) ++ more
+either_push true h xs more = refl
+either_push false h xs more = refl
+
+-- one dart further along a walk
+turning_more : (w : Web) (a : ℕ) (bs : List ℕ) (k : ℕ) → k < length bs →
+    turning_places w a (take (suc k) bs) ≡ turning_places w a (take k bs) ++ place_between w (get_or (a ∷ bs) k 0) (get_or bs k 0)
+turning_more w a [] k within = absurd (omega (arith, within))
+turning_more w a (b ∷ bs) zero within = refl
+turning_more w a (b ∷ bs) (suc k) within =
+    let more = place_between w (get_or (b ∷ bs) k 0) (get_or bs k 0) in
+    let far : turning_places w b (take (suc k) bs) ≡ turning_places w b (take k bs) ++ more = turning_more w b bs k (omega (arith, within)) in
+    ap (λ (xs : List ℕ). if turn_to w a b == 0 then xs else w.head a ∷ xs) far ∙ either_push (eqb (turn_to w a b) 0) (w.head a) (turning_places w b (take k bs)) more
+
+pub places_more : (w : Web) (ds : List ℕ) (k : ℕ) → 1 ≤ k → k < length ds →
+    places_along w (take (k + 1) ds) ≡ places_along w (take k ds) ++ place_between w (get_or ds (k - 1) 0) (get_or ds k 0)
+places_more w [] k some within = absurd (omega (arith, within))
+places_more w (a ∷ bs) zero some within = absurd (omega (arith, some))
+places_more w (a ∷ bs) (suc k) some within =
+    let long : suc k + 1 ≡ suc (suc k) = omega arith in
+    let back : suc k - 1 ≡ k = omega arith in
+    ap (λ (n : ℕ). places_along w (take n (a ∷ bs))) long ∙ turning_more w a bs k (omega (arith, within))
+    ∙ ap (λ (n : ℕ). turning_places w a (take k bs) ++ place_between w (get_or (a ∷ bs) n 0) (get_or bs k 0)) (sym back)
+
+-- the first dart alone turns nowhere
+pub places_one : (w : Web) (ds : List ℕ) → places_along w (take 1 ds) ≡ []
+places_one w [] = refl
+places_one w (a ∷ bs) = refl
+
+-- the darts of a path are all of the web
+pub path_below : (w : Web) (end first : ℕ) (rest : List ℕ) → IsPath w end first rest → All (λ d. d < w.darts) (first ∷ rest)
+path_below w end first rest path = all_below w.darts w.darts (first ∷ rest) (omega arith) (path.first_in, path.rest_in)
 
 -- directions are the same exactly where the walk does not turn
 pub same_way : (w : Web) (a b : ℕ) → IsSound w → a < w.darts → b < w.darts → (turn_to w a b ≡ 0) ↔ (w.direction a ≡ w.direction b)
@@ -114,18 +98,3 @@ same_way w a b sound a_in b_in =
       λ e. omega (arith, e, back, one, two),
       λ e. omega (arith, e, back, one, two),
     )
-
-pub met_straight : (w : Web) (front dart : ℕ) (met : List ℕ) → turn_to w front dart ≡ 0 → met_more w front dart met ≡ met
-met_straight w front dart met straight =
-    cond-true (eqb (turn_to w front dart) 0) met (met ++ (w.head front ∷ [])) (eq-eqb (turn_to w front dart) 0 straight)
-
-pub met_turn : (w : Web) (front dart : ℕ) (met : List ℕ) → turn_to w front dart ≢ 0 → met_more w front dart met ≡ met ++ (w.head front ∷ [])
-met_turn w front dart met turns =
-    cond-false (eqb (turn_to w front dart) 0) met (met ++ (w.head front ∷ [])) (ne_eqb (turn_to w front dart) 0 turns)
-
-map_onto : {X : Type 0} (h : ℕ → X) (xs ys : List ℕ) → map h (reverse_aux xs ys) ≡ reverse_aux (map h xs) (map h ys)
-map_onto h [] ys = refl
-map_onto h (x ∷ xs) ys = map_onto h xs (x ∷ ys)
-
-pub map-reverse : {X : Type 0} (h : ℕ → X) (xs : List ℕ) → map h (reverse xs) ≡ reverse (map h xs)
-map-reverse h xs = map_onto h xs []

@@ -1,11 +1,9 @@
 -- Numbers in the order of the darts, along each axis, and what the faults say.
-use Rattle.std.specs.Prelude.{◌≡◌, ◌≢◌, ℕ, ◌+◌, ◌<◌, ◌≤◌, List, [], Vec, map, slice_index_or}
-use Rattle.std.specs.declared.alloc.Global.{Global}
+use Rattle.std.specs.Prelude.{◌≡◌, ◌≢◌, ℕ, ◌+◌, ◌<◌, ◌≤◌, List, [], ◌∷◌, map, slice_index_or}
 use Rattle.ortho_rep.specs.declared.points.TheConstants.{MAX_COORDINATE}
 use Rattle.cutting.specs.Webs.{Web, IsSound}
 use Rattle.cutting.specs.Paths.{turning_places}
 use Rattle.ortho_rep.specs.declared.points.Point.{Point}
-use Rattle.ortho_rep.specs.Points.{point_lists}
 use Rattle.dissect.specs.Boxes.{BoxesModel, HasEdge, web}
 pub use Rattle.dissect.specs.Ordered.{tail, IsOrdered, AreWithin, point_at, AreTaken, AreLaidOut, HasNoPlace}
 use Rattle.compact.specs.declared.axis.Axis.{Axis}
@@ -48,7 +46,15 @@ abbrev pub IsAxisFault : BoxesModel → ℕ → CompactFault → Type 0
 IsAxisFault b k Wide = IsSound (web b) × ((x : ℕ → ℕ) → IsAlong (web b) k x → (v : ℕ) × (v < b.vertices) × (MAX_COORDINATE < x v))
 IsAxisFault b k Memory = Unit {0}
 
--- the lists have the corners of the first edges, in order
-abbrev pub AreCorners : BoxesModel → (ℕ → ℕ) → (ℕ → ℕ) → ℕ → List (Vec Point Global) → Type 0
-AreCorners b x y n lists = (e : ℕ) → e < n → (edge : HasEdge b e)
-    → slice_index_or (point_lists lists) e [] ≡ map (point_at x y) (turning_places (web b) edge.first edge.rest)
+-- the vertices at which the walk along these darts turns, in order
+abbrev pub places_along : Web → List ℕ → List ℕ
+places_along w [] = []
+places_along w (a ∷ bs) = turning_places w a bs
+
+-- the points are the corners of the edge e, in order
+abbrev pub AreCornersOf : BoxesModel → (ℕ → ℕ) → (ℕ → ℕ) → ℕ → List Point → Type 0
+AreCornersOf b x y e points = (edge : HasEdge b e) → points ≡ map (point_at x y) (turning_places (web b) edge.first edge.rest)
+
+-- the lists have the corners of the first n edges, in order
+abbrev pub AreCorners : BoxesModel → (ℕ → ℕ) → (ℕ → ℕ) → ℕ → List (List Point) → Type 0
+AreCorners b x y n lists = (e : ℕ) → e < n → AreCornersOf b x y e (slice_index_or lists e [])

@@ -1,6 +1,6 @@
 //! The constraints of a dissection along an axis, and the least numbers of its vertices.
 
-ghost use Rattle.std.specs.Prelude.{◌≡◌, ◌≢◌, ◌+◌, ◌*◌, length, slice_index, Some, None, IsTrue, IfOk, IfErr, ℕ, ◌<◌, ◌≤◌};
+ghost use Rattle.std.specs.Prelude.{◌≡◌, ◌≢◌, ◌+◌, ◌*◌, length, slice_index, Some, None, IsTrue, IfOk, IfErr, OnOk, ℕ, ◌<◌, ◌≤◌};
 ghost use Rattle.ortho_rep.specs.declared.points.TheConstants.{MAX_COORDINATE};
 ghost use Rattle.compact.specs.Ordered.{IsAlong, AreAlong, AreWithin, IsAcross, IsAxisFault, growth};
 ghost use Rattle.compact.specs.Steps.{AreSteps, AreUnder};
@@ -9,10 +9,11 @@ ghost use Rattle.dissect.specs.Boxes.{web, number_of};
 
 use crate::constraints::{Constraint, settle};
 use crate::fault::CompactFault;
-use crate::rows::{Steps, raise_rows};
+use crate::rows::{Search, Steps, raise_rows};
 use directions::Direction;
 use dissect::Boxes;
-use std::alloc::{AllocError, Global};
+use reuse::filled;
+use std::alloc::AllocError;
 
 /// An axis, by the direction in which its numbers grow.
 #[derive(Clone, Copy, Debug)]
@@ -38,15 +39,16 @@ fn least_difference(axis: Axis, direction: Direction) -> Option<u8>
     }
 }
 
-/// The constraints along an axis: one for each dart that does not run against it.
+/// Writes the constraints along an axis over this list: one for each dart that does not run against it.
 fn constraints_along(
-    alloc: Global,
     boxes: &Boxes,
     axis: Axis,
-) -> Result<Vec<Constraint>, AllocError>
-    ensures { IfOk result (λ constraints. AreAlong (web boxes.now) (growth axis) boxes.now.darts constraints.items) }
+    constraints: &mut Vec<Constraint>,
+) -> Result<(), AllocError>
+    ensures { OnOk result (AreAlong (web boxes.now) (growth axis) boxes.now.darts constraints.new.items) }
 {
-    let mut constraints = Vec::with_capacity(alloc, boxes.darts() as usize)?;
+    constraints.clear();
+    constraints.reserve(boxes.darts() as usize)?;
     for dart in 0..boxes.darts() {
         if let Some(least) = least_difference(axis, boxes.direction(dart)) {
             let from = boxes.head(boxes.reverse(dart));
@@ -54,7 +56,7 @@ fn constraints_along(
             constraints.push(Constraint { from, to, least })?;
         }
     }
-    Ok(constraints)
+    Ok(())
 }
 
 /// Whether numbers are in the order of the darts along an axis. A step for each dart.
@@ -76,14 +78,16 @@ fn are_along(boxes: &Boxes, axis: Axis, numbers: &[u16]) -> bool
 }
 
 /// Numbers that are nowhere above any in the order of the darts along the direction `ahead`, where `up`
-/// and `down` run across it. `around` has the steps from each vertex.
+/// and `down` run across it. `around` has the steps from each vertex. They stand in the memory of the
+/// list that is lent.
 fn low_along(
-    alloc: Global,
     boxes: &Boxes,
     around: &[u32],
     ahead: u8,
     up: u8,
     down: u8,
+    numbers: Vec<u16>,
+    search: &mut Search,
 ) -> Result<Vec<u16>, AllocError>
     requires steps { AreSteps (web boxes.now) around.now boxes.now.vertices }
     requires around { length around.now ≡ 4 * boxes.now.vertices }
@@ -94,24 +98,25 @@ fn low_along(
     ensures count { IfOk result (λ numbers. length numbers.items ≡ boxes.now.vertices) }
     ensures under { IfOk result (λ numbers. (y : ℕ → ℕ) → IsAlong (web boxes.now) ahead y → AreUnder boxes.now.vertices numbers.items y) }
 {
-    let mut numbers = vec![in alloc; 0; boxes.vertices() as usize]?;
+    let mut numbers = filled(numbers, boxes.vertices() as usize, 0)?;
     let steps = Steps {
         around,
         ahead,
         up,
         down,
     };
-    raise_rows(alloc, steps, boxes.vertices(), &mut numbers)?;
+    raise_rows(search, steps, boxes.vertices(), &mut numbers)?;
     Ok(numbers)
 }
 
 /// Numbers that are nowhere above any in the order of the darts along an axis: the lengths of longest
-/// paths, found row by row. Linear in the darts.
+/// paths, found row by row, in the memory of the list that is lent. Linear in the darts.
 fn low_numbers(
-    alloc: Global,
     boxes: &Boxes,
     around: &[u32],
     axis: Axis,
+    numbers: Vec<u16>,
+    search: &mut Search,
 ) -> Result<Vec<u16>, AllocError>
     requires steps { AreSteps (web boxes.now) around.now boxes.now.vertices }
     requires around { length around.now ≡ 4 * boxes.now.vertices }
@@ -120,18 +125,20 @@ fn low_numbers(
     ensures under { IfOk result (λ numbers. (y : ℕ → ℕ) → IsAlong (web boxes.now) (growth axis) y → AreUnder boxes.now.vertices numbers.items y) }
 {
     match axis {
-        Axis::X => low_along(alloc, boxes, around, 0, 1, 3),
-        Axis::Y => low_along(alloc, boxes, around, 1, 2, 0),
+        Axis::X => low_along(boxes, around, 0, 1, 3, numbers, search),
+        Axis::Y => low_along(boxes, around, 1, 2, 0, numbers, search),
     }
 }
 
-/// The least numbers of the vertices in the order of the darts along an axis. `around` has the steps
-/// from each vertex.
+/// The least numbers of the vertices in the order of the darts along an axis, in the memory of the list
+/// that is lent. `around` has the steps from each vertex.
 pub fn numbers_along(
-    alloc: Global,
     boxes: &Boxes,
     around: &[u32],
     axis: Axis,
+    numbers: Vec<u16>,
+    search: &mut Search,
+    constraints: &mut Vec<Constraint>,
 ) -> Result<Vec<u16>, CompactFault>
     requires steps { AreSteps (web boxes.now) around.now boxes.now.vertices }
     requires around { length around.now ≡ 4 * boxes.now.vertices }
@@ -143,16 +150,16 @@ pub fn numbers_along(
     ensures count { IfOk result (λ numbers. length numbers.items ≡ boxes.now.vertices) }
     ensures fault { IfErr result (IsAxisFault boxes.now (growth axis)) }
 {
-    let Ok(mut numbers) = low_numbers(alloc, boxes, around, axis) else {
+    let Ok(mut numbers) = low_numbers(boxes, around, axis, numbers, search) else {
         return Err(CompactFault::Memory);
     };
     if are_along(boxes, axis, &numbers) {
         return Ok(numbers);
     }
-    let Ok(constraints) = constraints_along(alloc, boxes, axis) else {
+    let Ok(()) = constraints_along(boxes, axis, constraints) else {
         return Err(CompactFault::Memory);
     };
-    let settled = settle(&constraints, &mut numbers);
+    let settled = settle(constraints, &mut numbers);
     if !settled {
         return Err(CompactFault::Wide);
     }

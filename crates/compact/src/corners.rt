@@ -1,13 +1,13 @@
 //! The corner points of the edges of a plane.
 
-ghost use Rattle.std.specs.Prelude.{◌≡◌, ◌≢◌, ◌<◌, ◌≤◌, ◌↔◌, ℕ, List, IsTrue, length, map, slice_index, IfOk};
-ghost use Rattle.cutting.specs.Paths.{IsPath, turn_to, turning_places};
+ghost use Rattle.std.specs.Prelude.{◌≡◌, ◌≢◌, ◌<◌, ◌↔◌, ◌++◌, IsTrue, All, length, map, slice_index, OnOk};
+ghost use Rattle.cutting.specs.Paths.{turn_to};
 ghost use Rattle.dissect.specs.Boxes.{web};
-ghost use Rattle.compact.specs.Ordered.{point_at};
+ghost use Rattle.compact.specs.Ordered.{point_at, places_along};
 
 use dissect::Boxes;
 use ortho_rep::Point;
-use std::alloc::{AllocError, Global};
+use std::alloc::AllocError;
 
 /// The point of a vertex.
 pub fn point_of(x: &[u16], y: &[u16], vertex: u32) -> Point
@@ -30,48 +30,49 @@ fn is_turn(boxes: &Boxes, front: u32, dart: u32) -> bool
     boxes.direction(front) != boxes.direction(dart)
 }
 
-/// How often the edge that ends with a dart turns. A step for each of its darts.
-fn turn_count(boxes: &Boxes, last: u16) -> usize
-    requires { last < boxes.now.darts }
+/// How often the walk along these darts turns. A step for each of them.
+fn turn_count(boxes: &Boxes, path: &[u32]) -> usize
+    requires { All (λ dart. dart < boxes.now.darts) path.now }
 {
     let mut count: usize = 0;
-    let mut dart = u32::from(last);
-    for _ in 0..boxes.darts() {
-        match boxes.before(dart) {
-            Some(front) if front < boxes.darts() => {
-                if is_turn(boxes, front, dart) {
-                    count += 1;
-                }
-                dart = front;
-            }
-            _ => return count,
+    for k in 1..path.len() {
+        if is_turn(boxes, path[k - 1], path[k]) {
+            count += 1;
         }
     }
     count
 }
 
-/// The corner points of the edge that ends with a dart, along it. Linear in the darts it is made of.
-pub fn corners_along(
-    alloc: Global,
+/// How many corners all edges have. Only how much room is made for them rests on it. A step for each
+/// dart that they are made of.
+pub fn corner_count(boxes: &Boxes) -> usize {
+    let mut count: usize = 0;
+    for edge in 0..boxes.edges() {
+        count = count.saturating_add(turn_count(boxes, boxes.path(edge)));
+    }
+    count
+}
+
+/// Puts the points at which the walk along these darts turns behind a list, in walking order. A step
+/// for each of the darts.
+pub fn push_corners(
+    corners: &mut Vec<Point>,
     boxes: &Boxes,
     x: &[u16],
     y: &[u16],
-    last: u16,
-) -> Result<Vec<Point>, AllocError>
+    path: &[u32],
+) -> Result<(), AllocError>
     requires x_in { length x.now ≡ boxes.now.vertices }
     requires y_in { length y.now ≡ boxes.now.vertices }
-    requires path { (first : ℕ) × (rest : List ℕ) × IsPath (web boxes.now) last first rest }
-    ensures { IfOk result (λ corners. (first : ℕ) (rest : List ℕ) → IsPath (web boxes.now) last first rest
-        → corners.items ≡ map (point_at (λ v. slice_index x.now v) (λ v. slice_index y.now v)) (turning_places (web boxes.now) first rest)) }
+    requires inside { All (λ dart. dart < boxes.now.darts) path.now }
+    ensures { OnOk result (corners.new.items
+        ≡ corners.old.items ++ map (point_at (λ v. slice_index x.now v) (λ v. slice_index y.now v)) (places_along (web boxes.now) path.now)) }
 {
-    let mut corners = Vec::with_capacity(alloc, turn_count(boxes, last))?;
-    let mut dart = u32::from(last);
-    'back: while let Some(front) = boxes.before(dart) {
-        if is_turn(boxes, front, dart) {
+    for k in 1..path.len() {
+        let front = path[k - 1];
+        if is_turn(boxes, front, path[k]) {
             corners.push(point_of(x, y, boxes.head(front)))?;
         }
-        dart = front;
     }
-    corners.reverse();
-    Ok(corners)
+    Ok(())
 }

@@ -7,8 +7,10 @@ mod corners;
 mod fault;
 mod place;
 mod rows;
+mod scratch;
 mod steps;
 
-pub use dissect::dissect;
+pub use dissect::{Scratch as BoxesScratch, dissect, dissect_in};
 pub use fault::CompactFault;
-pub use place::compact;
+pub use place::{compact, compact_in};
+pub use scratch::Scratch;

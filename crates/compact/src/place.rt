@@ -1,18 +1,19 @@
 //! Points for the vertices and the corners of a plane.
 
-ghost use Rattle.std.specs.Prelude.{◌≡◌, ◌<◌, ℕ, length, map, slice_index, IfOk, IfErr};
+ghost use Rattle.std.specs.Prelude.{◌≡◌, length, map, slice_index, IfOk, IfErr};
 ghost use Rattle.std.specs.List.{range_with_len};
-ghost use Rattle.dissect.specs.Boxes.{AreBoxes, HasEdge, web};
-ghost use Rattle.cutting.specs.Paths.{turning_places};
+ghost use Rattle.ortho_rep.specs.Storage.{cut, IsCut};
 ghost use Rattle.compact.specs.Ordered.{AreLaidOut, AreCorners, IsCompactFault, point_at};
 
 use crate::axis::{Axis, numbers_along};
-use crate::corners::{corners_along, point_of};
+use crate::corners::{corner_count, point_of, push_corners};
 use crate::fault::CompactFault;
+use crate::scratch::Scratch;
 use crate::steps::steps_of;
 use dissect::Boxes;
 use ortho_rep::{Point, Points};
 use std::alloc::{AllocError, Global};
+use std::mem;
 
 /// The points of the plane's vertices.
 fn vertex_points(
@@ -33,23 +34,29 @@ fn vertex_points(
     Ok(points)
 }
 
-/// The corner points of each edge.
-fn corner_lists(
+/// The corner points of all edges, one edge after another, and where those of each edge start; one
+/// place more, where the last ones end. One allocation for each of the two lists.
+fn corners_of(
     alloc: Global,
     boxes: &Boxes,
     x: &[u16],
     y: &[u16],
-) -> Result<Vec<Vec<Point>>, AllocError>
+) -> Result<(Vec<Point>, Vec<usize>), AllocError>
     requires x_in { length x.now ≡ boxes.now.vertices }
     requires y_in { length y.now ≡ boxes.now.vertices }
-    ensures count { IfOk result (λ lists. length lists.items ≡ length boxes.now.edges) }
-    ensures corners { IfOk result (λ lists. AreCorners boxes.now (λ v. slice_index x.now v) (λ v. slice_index y.now v) (length boxes.now.edges) lists.items) }
+    ensures places { IfOk result (λ found. IsCut found.1.items found.0.items) }
+    ensures count { IfOk result (λ found. length (cut found.1.items found.0.items) ≡ length boxes.now.edges) }
+    ensures corners { IfOk result (λ found. AreCorners boxes.now (λ v. slice_index x.now v) (λ v. slice_index y.now v)
+        (length boxes.now.edges) (cut found.1.items found.0.items)) }
 {
-    let mut lists = Vec::with_capacity(alloc, usize::from(boxes.edges()))?;
+    let mut corners = Vec::with_capacity(alloc, corner_count(boxes))?;
+    let mut starts = Vec::with_capacity(alloc, usize::from(boxes.edges()) + 1)?;
+    starts.push(0)?;
     for edge in 0..boxes.edges() {
-        lists.push(corners_along(alloc, boxes, x, y, boxes.lesser_dart(edge))?)?;
+        push_corners(&mut corners, boxes, x, y, boxes.path(edge))?;
+        starts.push(corners.len())?;
     }
-    Ok(lists)
+    Ok((corners, starts))
 }
 
 /// Points for a plane that was cut into boxes: whole numbers from 0 to 65,535 in the order of the darts,
@@ -59,7 +66,8 @@ fn corner_lists(
 /// The numbers are the lengths of longest paths in the two constraint graphs of the dissection
 /// (Tamassia 1987). They are found row by row, a row being what darts across the axis join: a few steps
 /// for each dart. Where that does not keep all constraints, as in a drawing too wide for the grid, the
-/// end of each constraint that is not kept is raised, in rounds.
+/// end of each constraint that is not kept is raised, in rounds. The points take three allocations,
+/// however many edges there are.
 ///
 /// # Errors
 ///
@@ -69,22 +77,53 @@ pub fn compact(alloc: Global, boxes: &Boxes) -> Result<Points, CompactFault>
     ensures laid { IfOk result (AreLaidOut boxes.now) }
     ensures fault { IfErr result (IsCompactFault boxes.now) }
 {
-    let Ok(around) = steps_of(alloc, boxes) else {
+    let mut scratch = Scratch::empty(alloc);
+    compact_in(alloc, &mut scratch, boxes)
+}
+
+/// The same in memory that is lent: only the points take new memory, and what the lent memory lacks.
+///
+/// # Errors
+///
+/// `Wide` and `Memory` as `compact`; the memory that was lent is then gone.
+pub fn compact_in(
+    alloc: Global,
+    scratch: &mut Scratch,
+    boxes: &Boxes,
+) -> Result<Points, CompactFault>
+    ensures laid { IfOk result (AreLaidOut boxes.now) }
+    ensures fault { IfErr result (IsCompactFault boxes.now) }
+{
+    let Scratch {
+        around,
+        x,
+        y,
+        mut search,
+        mut constraints,
+    } = mem::replace(scratch, Scratch::empty(alloc));
+    let Ok(around) = steps_of(boxes, around) else {
         return Err(CompactFault::Memory);
     };
-    let x = match numbers_along(alloc, boxes, &around, Axis::X) {
+    let x = match numbers_along(boxes, &around, Axis::X, x, &mut search, &mut constraints) {
         Ok(x) => x,
         Err(fault) => return Err(fault),
     };
-    let y = match numbers_along(alloc, boxes, &around, Axis::Y) {
+    let y = match numbers_along(boxes, &around, Axis::Y, y, &mut search, &mut constraints) {
         Ok(y) => y,
         Err(fault) => return Err(fault),
     };
     let Ok(vertices) = vertex_points(alloc, boxes, &x, &y) else {
         return Err(CompactFault::Memory);
     };
-    let Ok(corners) = corner_lists(alloc, boxes, &x, &y) else {
+    let Ok((corners, starts)) = corners_of(alloc, boxes, &x, &y) else {
         return Err(CompactFault::Memory);
     };
-    Ok(Points::new(vertices, corners))
+    *scratch = Scratch {
+        around,
+        x,
+        y,
+        search,
+        constraints,
+    };
+    Ok(Points::joined(vertices, corners, starts))
 }

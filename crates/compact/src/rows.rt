@@ -40,35 +40,44 @@ struct Place {
 }
 
 /// Which rows are to come next. Time alone rests on it: whatever is told, numbers are raised along
-/// steps alone.
+/// steps alone. The next search can use its memory again.
 #[derive(Drop)]
-struct Search {
+pub struct Search {
     places: Vec<Place>,
     /// How many rows are ready: no step to them is to come any more.
     ready: usize,
 }
 
 impl Search {
-    /// Where no step has come.
-    fn new(alloc: Global, steps: Steps<'_>, vertices: u32) -> Result<Search, AllocError> {
+    /// A search over no vertices. It takes no memory.
+    pub fn empty(alloc: Global) -> Search {
+        Search {
+            places: Vec::new(alloc),
+            ready: 0,
+        }
+    }
+
+    /// Begins a search over so many vertices, where no step has come.
+    fn begin(&mut self, steps: Steps<'_>, vertices: u32) -> Result<(), AllocError> {
         let unknown = Place {
             row: NO_VERTEX,
             waits: 0,
             ready: NO_VERTEX,
         };
-        let places = vec![in alloc; unknown; vertices as usize]?;
-        let mut search = Search { places, ready: 0 };
-        search.mark_rows(steps, vertices);
-        search.count_steps(steps, vertices);
+        self.places.clear();
+        self.places.resize(vertices as usize, unknown)?;
+        self.ready = 0;
+        self.mark_rows(steps, vertices);
+        self.count_steps(steps, vertices);
         for vertex in 0..vertices {
-            if let Some(place) = search.places.get(vertex as usize).copied()
+            if let Some(place) = self.places.get(vertex as usize).copied()
                 && place.row == vertex
                 && place.waits == 0
             {
-                search.make_ready(vertex);
+                self.make_ready(vertex);
             }
         }
-        Ok(search)
+        Ok(())
     }
 
     /// Tells each vertex the first one of its row.
@@ -198,7 +207,7 @@ fn descend(steps: Steps<'_>, last: u32, search: &mut Search, numbers: &mut [u16]
 /// Raises numbers to those of longest paths, row by row: a row comes when the numbers of all rows that
 /// have a step to it are known. Linear in the vertices.
 pub fn raise_rows(
-    alloc: Global,
+    search: &mut Search,
     steps: Steps<'_>,
     vertices: u32,
     numbers: &mut [u16],
@@ -208,14 +217,14 @@ pub fn raise_rows(
     ensures under { StayUnderAll (length numbers.old) (step steps.entry.around.now steps.entry.ahead) (step steps.entry.around.now steps.entry.up) (step steps.entry.around.now steps.entry.down) numbers.old numbers.new }
     ensures count { length numbers.new ≡ length numbers.old }
 {
-    let mut search = Search::new(alloc, steps, vertices)?;
+    search.begin(steps, vertices)?;
     for at in 0..numbers.len() {
         let first = search.row_at(at);
         if first as usize >= numbers.len() {
             return Ok(());
         }
         let last = climb(steps.around, steps.up, first, numbers);
-        descend(steps, last, &mut search, numbers);
+        descend(steps, last, search, numbers);
     }
     Ok(())
 }

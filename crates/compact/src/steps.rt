@@ -6,7 +6,8 @@ ghost use Rattle.dissect.specs.Boxes.{web, number_of};
 
 use directions::Direction;
 use dissect::Boxes;
-use std::alloc::{AllocError, Global};
+use reuse::filled;
+use std::alloc::AllocError;
 
 /// Stands where there is no vertex: more than any number of one.
 pub const NO_VERTEX: u32 = u32::MAX;
@@ -25,12 +26,13 @@ pub fn quarters(direction: Direction) -> u8
 }
 
 /// For each vertex four vertices, those that the darts from it come to: to the east, north, west and
-/// south. `NO_VERTEX` stands where there is no such dart. A step for each dart.
-pub fn steps_of(alloc: Global, boxes: &Boxes) -> Result<Vec<u32>, AllocError>
+/// south. `NO_VERTEX` stands where there is no such dart. They stand in the memory of the list that is
+/// lent. A step for each dart.
+pub fn steps_of(boxes: &Boxes, around: Vec<u32>) -> Result<Vec<u32>, AllocError>
     ensures steps { IfOk result (λ around. AreSteps (web boxes.now) around.items boxes.now.vertices) }
     ensures count { IfOk result (λ around. length around.items ≡ 4 * boxes.now.vertices) }
 {
-    let mut around = vec![in alloc; NO_VERTEX; 4 * boxes.vertices() as usize]?;
+    let mut around = filled(around, 4 * boxes.vertices() as usize, NO_VERTEX)?;
     for dart in 0..boxes.darts() {
         let from = boxes.head(boxes.reverse(dart));
         let way = quarters(boxes.direction(dart));

@@ -1,6 +1,7 @@
 ghost use Rattle.std.specs.Prelude.{◌≡◌, ◌≢◌, ◌+◌, ◌^◌, ◌<◌, ◌≤◌, vec_len};
 
 use crate::links::{link, pair, put_in_front, take_over};
+use std::alloc::Global;
 
 /// Stands where there is no dart.
 pub const NO_DART: u32 = u32::MAX;
@@ -40,6 +41,23 @@ pub struct DartTable {
 impl DartTable {
     ghost use Rattle.cutting.specs.Webs.{IsLinked, IsSplit, IsChord, Fits};
     ghost use Rattle.cutting.specs.Tables.{web_of, room};
+
+    /// A table with no darts and no room. It takes no memory.
+    pub fn empty(alloc: Global) -> DartTable
+        ensures { room result ≡ 0 }
+    {
+        DartTable {
+            next: Vec::new(alloc),
+            prev: Vec::new(alloc),
+            reverse_dart: Vec::new(alloc),
+            head: Vec::new(alloc),
+            before: Vec::new(alloc),
+            direction: Vec::new(alloc),
+            angle: Vec::new(alloc),
+            darts: 0,
+            vertices: 0,
+        }
+    }
 
     /// Splits the edge of the dart `e` by a new vertex, at which the walk along `e` arrives in the
     /// direction `way` and has the angle `bend` on its left.

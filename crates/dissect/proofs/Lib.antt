@@ -1,6 +1,5 @@
 pub mod Walking
 pub mod Joined
-pub mod Pieces
 pub mod Keeping
 pub mod Rectangles
 pub mod Through

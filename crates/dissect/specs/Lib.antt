@@ -1,4 +1,3 @@
-pub mod Pieces
 pub mod Boxes
 pub mod Rectangle
 pub mod Boxed

@@ -5,6 +5,7 @@ ghost use Rattle.cutting.specs.Webs.{no_dart};
 ghost use Rattle.dissect.specs.Boxes.{AreBoxes, IsEdgePath, number_of, parts_of, web};
 
 use crate::paths::Paths;
+use crate::scratch::Scratch;
 use cutting::{DartTable, NO_DART};
 use directions::Direction;
 use std::marker::Model;
@@ -47,6 +48,15 @@ impl Boxes {
             edges,
             paths,
         }
+    }
+
+    /// Hands the memory of these boxes back to that which they were made in.
+    pub fn give_back(self, scratch: &mut Scratch) {
+        let (darts, starts) = self.paths.into_lists();
+        scratch.table = self.table;
+        scratch.edges = self.edges;
+        scratch.darts = darts;
+        scratch.starts = starts;
     }
 
     /// How many vertices there are.

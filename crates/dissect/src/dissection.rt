@@ -6,11 +6,13 @@ ghost use Rattle.dissect.specs.Boxed.{IsBoxed};
 
 use crate::boxes::Boxes;
 use crate::parts::{lesser_darts_of, outer_dart, paths_of};
-use bending::{bend, headings};
-use enclosing::enclose;
+use crate::scratch::Scratch;
+use bending::{bend_into, headings_in};
+use enclosing::enclose_in;
 use faces::Plane;
 use ortho_rep::Shape;
 use std::alloc::{AllocError, Global};
+use std::mem;
 
 /// Cuts an orthogonal representation of a plane into boxes.
 ///
@@ -26,11 +28,40 @@ pub fn dissect(alloc: Global, plane: &Plane, shape: &Shape) -> Result<Boxes, All
     requires { IsShape plane.now shape.now }
     ensures { IfOk result (IsBoxed plane.now shape.now) }
 {
-    let edges = lesser_darts_of(alloc, plane)?;
-    let directions = headings(alloc, plane, shape)?;
-    let mut table = bend(alloc, plane, shape, &directions)?;
-    enclose(alloc, &mut table, u32::from(outer_dart(plane)))?;
+    let mut scratch = Scratch::empty(alloc);
+    dissect_in(alloc, &mut scratch, plane, shape)
+}
+
+/// The same in memory that is lent. What the boxes hold is taken from it, and `Boxes::give_back` hands it
+/// back; memory is asked for only where that is not enough.
+///
+/// # Errors
+///
+/// `AllocError` where there is no memory for the boxes, and no other; the memory that was lent is then gone.
+pub fn dissect_in(
+    alloc: Global,
+    scratch: &mut Scratch,
+    plane: &Plane,
+    shape: &Shape,
+) -> Result<Boxes, AllocError>
+    requires { IsShape plane.now shape.now }
+    ensures { IfOk result (IsBoxed plane.now shape.now) }
+{
+    let Scratch {
+        table,
+        search,
+        faces,
+        edges,
+        darts,
+        starts,
+    } = mem::replace(scratch, Scratch::empty(alloc));
+    let edges = lesser_darts_of(plane, edges)?;
+    let search = headings_in(plane, shape, search)?;
+    let mut table = bend_into(table, plane, shape, &search.headings)?;
+    let faces = enclose_in(&mut table, u32::from(outer_dart(plane)), faces)?;
     let old = plane.graph().vertices();
-    let paths = paths_of(alloc, &table, &edges)?;
+    let paths = paths_of(&table, &edges, darts, starts)?;
+    scratch.search = search;
+    scratch.faces = faces;
     Ok(Boxes::of(table, old, edges, paths))
 }

@@ -5,6 +5,8 @@ mod boxes;
 mod dissection;
 mod parts;
 mod paths;
+mod scratch;
 
 pub use boxes::Boxes;
-pub use dissection::dissect;
+pub use dissection::{dissect, dissect_in};
+pub use scratch::Scratch;

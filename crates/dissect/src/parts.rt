@@ -9,14 +9,15 @@ ghost use Rattle.ortho_rep.specs.Edges.{lesser_darts};
 use crate::paths::Paths;
 use cutting::{DartTable, NO_DART};
 use faces::Plane;
-use std::alloc::{AllocError, Global};
+use reuse::emptied;
+use std::alloc::AllocError;
 
-/// The lesser dart of each edge, in order.
-pub fn lesser_darts_of(alloc: Global, plane: &Plane) -> Result<Vec<u16>, AllocError>
+/// The lesser dart of each edge, in order, in the memory of this list.
+pub fn lesser_darts_of(plane: &Plane, edges: Vec<u16>) -> Result<Vec<u16>, AllocError>
     ensures { IfOk result (λ edges. edges.items ≡ lesser_darts plane.now) }
 {
     let graph = plane.graph();
-    let mut edges = Vec::with_capacity(alloc, usize::from(graph.edges()))?;
+    let mut edges = emptied(edges, usize::from(graph.edges()))?;
     for dart in 0..graph.darts() {
         if dart < graph.reverse(dart) {
             edges.push(dart)?;
@@ -57,9 +58,14 @@ fn push_path(darts: &mut Vec<u32>, table: &DartTable, last: u32) -> Result<(), A
     Ok(())
 }
 
-/// The darts that each of these edges is made of, which are told by their last darts. A step for each
-/// dart of theirs.
-pub fn paths_of(alloc: Global, table: &DartTable, edges: &[u16]) -> Result<Paths, AllocError>
+/// The darts that each of these edges is made of, which are told by their last darts, in the memory of
+/// these lists. A step for each dart of theirs.
+pub fn paths_of(
+    table: &DartTable,
+    edges: &[u16],
+    darts: Vec<u32>,
+    starts: Vec<usize>,
+) -> Result<Paths, AllocError>
     requires paths { (e : ℕ) → e < length edges.now
         → (first : ℕ) × (rest : List ℕ) × IsPath (web_of table.now) (slice_index edges.now e) first rest }
     ensures count { IfOk result (λ paths. length paths ≡ length edges.now) }
@@ -67,8 +73,8 @@ pub fn paths_of(alloc: Global, table: &DartTable, edges: &[u16]) -> Result<Paths
         → IsPath (web_of table.now) (slice_index edges.now e) first rest → slice_index_or paths e [] ≡ first ∷ rest) }
 {
     // No two paths share a dart, and none has its reverse: half of all darts are room enough.
-    let mut darts = Vec::with_capacity(alloc, table.darts as usize / 2)?;
-    let mut starts = Vec::with_capacity(alloc, edges.len() + 1)?;
+    let mut darts = emptied(darts, table.darts as usize / 2)?;
+    let mut starts = emptied(starts, edges.len() + 1)?;
     starts.push(0)?;
     'edges: for last in edges {
         push_path(&mut darts, table, u32::from(*last))?;

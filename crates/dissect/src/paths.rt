@@ -1,6 +1,6 @@
 //! The paths of edges, in one list.
 ghost use Rattle.std.specs.Prelude.{◌≡◌, ◌+◌, ◌<◌, [], length, slice_index_or};
-ghost use Rattle.dissect.specs.Pieces.{cut, IsCut};
+ghost use Rattle.ortho_rep.specs.Storage.{cut, IsCut};
 
 use std::marker::Model;
 
@@ -15,7 +15,7 @@ pub struct Paths {
 
 impl Model for Paths {
     ghost use Rattle.std.specs.Prelude.{ℕ, List};
-    ghost use Rattle.dissect.specs.Pieces.{cut, IsCut};
+    ghost use Rattle.ortho_rep.specs.Storage.{cut, IsCut};
 
     ghost Value = { List (List ℕ) };
 
@@ -31,6 +31,13 @@ impl Paths {
         ensures { result ≡ cut starts.items darts.items }
     {
         Paths { darts, starts }
+    }
+
+    /// The two lists, whose memory can be used again.
+    pub fn into_lists(self) -> (Vec<u32>, Vec<usize>)
+        ensures { self ≡ cut result.1.items result.0.items }
+    {
+        (self.darts, self.starts)
     }
 
     /// The path at place i.

@@ -10,6 +10,7 @@ use crate::axes::are_on_axes;
 use crate::fault::CheckFault;
 use crate::grid::are_in_grid;
 use crate::meeting::meet_nowhere;
+use crate::scratch::Scratch;
 use crate::turning::turn_as_said;
 use faces::Plane;
 use ortho_rep::{Points, Shape};
@@ -66,14 +67,43 @@ pub fn check(
     ensures memory { IfErr result (λ refused.
         refused.0 ≡ CheckFault.Memory → KeepsFirstThree plane.now shape.now points) }
 {
-    match first_fault(alloc, plane, shape, &points) {
+    let mut scratch = Scratch::empty(alloc);
+    check_in(alloc, &mut scratch, plane, shape, points)
+}
+
+/// The same in memory that is lent; more is asked for only where that is not enough. Where memory runs
+/// out, that which was lent is gone.
+pub fn check_in(
+    alloc: Global,
+    scratch: &mut Scratch,
+    plane: &Plane,
+    shape: &Shape,
+    points: Points,
+) -> Result<Drawing, (CheckFault, Points)>
+    requires shape { IsShape plane.now shape.now }
+    requires vertices { length points.vertices ≡ vertices plane.now }
+    requires corners { 2 * length points.corners ≡ darts plane.now }
+    ensures same { IfOk result (λ drawing. drawing ≡ points) }
+    ensures draws { IfOk result (Draws plane.now shape.now) }
+    ensures returned { IfErr result (λ refused. refused.1 ≡ points) }
+    ensures fault { IfErr result (λ refused. IsFirstFault plane.now shape.now points refused.0) }
+    ensures memory { IfErr result (λ refused.
+        refused.0 ≡ CheckFault.Memory → KeepsFirstThree plane.now shape.now points) }
+{
+    match first_fault(alloc, scratch, plane, shape, &points) {
         None => Ok(Drawing { points }),
         Some(fault) => Err((fault, points)),
     }
 }
 
 /// The first condition that fails, or want of memory.
-fn first_fault(alloc: Global, plane: &Plane, shape: &Shape, points: &Points) -> Option<CheckFault>
+fn first_fault(
+    alloc: Global,
+    scratch: &mut Scratch,
+    plane: &Plane,
+    shape: &Shape,
+    points: &Points,
+) -> Option<CheckFault>
     requires lengths { HasDarts plane.now shape.now }
     requires vertices { length points.now.vertices ≡ vertices plane.now }
     requires corners { 2 * length points.now.corners ≡ darts plane.now }
@@ -91,7 +121,7 @@ fn first_fault(alloc: Global, plane: &Plane, shape: &Shape, points: &Points) -> 
     if !turn_as_said(plane, shape, points) {
         return Some(CheckFault::WrongTurn);
     }
-    match meet_nowhere(alloc, plane, points) {
+    match meet_nowhere(alloc, scratch, plane, points) {
         Ok(true) => None,
         Ok(false) => Some(CheckFault::Meet),
         Err(_) => Some(CheckFault::Memory),

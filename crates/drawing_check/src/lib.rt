@@ -11,7 +11,9 @@ mod fault;
 mod grid;
 mod meeting;
 mod route;
+mod scratch;
 mod turning;
 
-pub use drawing::{Drawing, check};
+pub use drawing::{Drawing, check, check_in};
 pub use fault::CheckFault;
+pub use scratch::Scratch;

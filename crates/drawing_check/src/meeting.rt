@@ -9,14 +9,19 @@ ghost use Rattle.drawing_check.specs.Routes.{path_of};
 ghost use Rattle.drawing_check.specs.Shown.{span_of, strips};
 
 use crate::route::{Route, route_of};
+use crate::scratch::Scratch;
 use faces::Plane;
 use ortho_rep::{Point, Points};
-use rectangles::{Rectangle, all_apart};
+use rectangles::{Rectangle, all_apart_in};
+use reuse::emptied;
 use std::alloc::{AllocError, Global};
+use std::mem;
 
-/// Whether no point is met twice, by all vertices and between the ends of all paths.
+/// Whether no point is met twice, by all vertices and between the ends of all paths. Where memory runs
+/// out, that which was lent is gone.
 pub(crate) fn meet_nowhere(
     alloc: Global,
+    scratch: &mut Scratch,
     plane: &Plane,
     points: &Points,
 ) -> Result<bool, AllocError>
@@ -28,7 +33,11 @@ pub(crate) fn meet_nowhere(
 {
     let graph = plane.graph();
     let count = usize::from(graph.vertices()) + usize::from(graph.edges());
-    let mut rectangles = Vec::with_capacity(alloc, count)?;
+    let Scratch {
+        rectangles,
+        mut table,
+    } = mem::replace(scratch, Scratch::empty(alloc));
+    let mut rectangles = emptied(rectangles, count)?;
     for point in points.vertices() {
         rectangles.push(spanned(*point, *point))?;
     }
@@ -39,7 +48,9 @@ pub(crate) fn meet_nowhere(
             edge += 1;
         }
     }
-    all_apart(alloc, rectangles)
+    let apart = all_apart_in(alloc, &mut rectangles, &mut table)?;
+    *scratch = Scratch { rectangles, table };
+    Ok(apart)
 }
 
 /// Adds what a path covers between its ends: a strip for each segment, with the corner at its end.

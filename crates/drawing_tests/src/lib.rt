@@ -13,6 +13,8 @@ mod enclosed;
 #[cfg(test)]
 mod families;
 #[cfg(test)]
+mod lent;
+#[cfg(test)]
 mod planes;
 #[cfg(test)]
 mod quarters;

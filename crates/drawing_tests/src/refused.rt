@@ -11,7 +11,7 @@ use std::process::Abort;
 use std::test::Fail;
 
 /// Two dissections have the same darts.
-fn expect_same_darts(rt: &impl Abort, one: &Boxes, other: &Boxes) {
+pub(crate) fn expect_same_darts(rt: &impl Abort, one: &Boxes, other: &Boxes) {
     assert_eq!(rt; one.vertices(), other.vertices());
     assert_eq!(rt; one.darts(), other.darts());
     for dart in 0..one.darts() {
@@ -25,7 +25,7 @@ fn expect_same_darts(rt: &impl Abort, one: &Boxes, other: &Boxes) {
 }
 
 /// The vertices of the plane are the same in two dissections.
-fn expect_same_old(rt: &impl Abort, one: &Boxes, other: &Boxes) {
+pub(crate) fn expect_same_old(rt: &impl Abort, one: &Boxes, other: &Boxes) {
     assert_eq!(rt; one.old_vertices(), other.old_vertices());
     for before in 0..one.old_vertices() {
         same(rt, one.old(before + 1), other.old(before + 1));
@@ -33,7 +33,7 @@ fn expect_same_old(rt: &impl Abort, one: &Boxes, other: &Boxes) {
 }
 
 /// The edges of the plane are the same in two dissections, and run along the same darts.
-fn expect_same_paths(rt: &impl Abort, one: &Boxes, other: &Boxes) {
+pub(crate) fn expect_same_paths(rt: &impl Abort, one: &Boxes, other: &Boxes) {
     assert_eq!(rt; one.edges(), other.edges());
     for edge in 0..one.edges() {
         same(rt, one.lesser_dart(edge), other.lesser_dart(edge));

@@ -1,4 +1,4 @@
-ghost use Rattle.std.specs.Prelude.{◌≡◌, ◌<◌, ◌≤◌, ◌+◌, ◌^◌, ℕ, IfOk, List, OnOk};
+ghost use Rattle.std.specs.Prelude.{◌≡◌, ◌<◌, ◌≤◌, ◌+◌, ◌^◌, ℕ, [], IfOk, List, OnOk};
 ghost use Rattle.cutting.specs.Labels.{HasTurns};
 ghost use Rattle.cutting.specs.Tables.{room, web_of};
 ghost use Rattle.cutting.specs.Webs.{IsLinked};
@@ -6,17 +6,34 @@ ghost use Rattle.enclosing.specs.Listed.{AreFlat, AreJoined, AreListed};
 
 use crate::walks::walk;
 use cutting::DartTable;
+use reuse::{emptied, filled};
 use std::alloc::{AllocError, Global};
 
-/// The corners of faces, those of each face in walking order.
+/// The corners of faces, those of each face in walking order, whose memory can be used again.
 #[derive(Drop)]
 pub struct Faces {
     /// The corners of the inner faces, one face after another.
-    pub corners: Vec<u32>,
+    pub(crate) corners: Vec<u32>,
     /// How many corners each inner face has.
-    pub counts: Vec<u32>,
+    pub(crate) counts: Vec<u32>,
     /// The corners of the outer face.
-    pub outer: Vec<u32>,
+    pub(crate) outer: Vec<u32>,
+    // the darts whose faces are listed
+    seen: Vec<bool>,
+}
+
+impl Faces {
+    /// No faces. It takes no memory.
+    pub fn empty(alloc: Global) -> Faces
+        ensures { result.corners.items ≡ [] }
+    {
+        Faces {
+            corners: Vec::new(alloc),
+            counts: Vec::new(alloc),
+            outer: Vec::new(alloc),
+            seen: Vec::new(alloc),
+        }
+    }
 }
 
 /// How many darts are corners of their faces. A step for each dart.
@@ -35,8 +52,8 @@ fn face_count(table: &DartTable) -> usize {
 }
 
 /// Lists the corners of all faces. The outer face is that of the right turn `right`, with which its
-/// corners end. Linear in the darts.
-pub fn list_faces(alloc: Global, table: &DartTable, right: u32) -> Result<Faces, AllocError>
+/// corners end. They stand in the memory of earlier faces. Linear in the darts.
+pub fn list_faces(table: &DartTable, right: u32, faces: Faces) -> Result<Faces, AllocError>
     requires linked { IsLinked (web_of table.now) }
     requires inside { right < table.now.darts }
     requires turn { 2 < (web_of table.now).angle right }
@@ -45,12 +62,12 @@ pub fn list_faces(alloc: Global, table: &DartTable, right: u32) -> Result<Faces,
         × AreListed (web_of table.now) right inner f.outer.items) }
 {
     let corner_count = corner_count(table);
-    let mut seen = vec![in alloc; false; table.darts as usize]?;
-    let mut outer = Vec::with_capacity(alloc, corner_count)?;
+    let mut seen = filled(faces.seen, table.darts as usize, false)?;
+    let mut outer = emptied(faces.outer, corner_count)?;
     walk(table, right, &mut seen, &mut outer)?;
     // The joined face has the corners of the outer face, and seven more.
-    let mut corners = Vec::with_capacity(alloc, corner_count + 7)?;
-    let mut counts = Vec::with_capacity(alloc, face_count(table))?;
+    let mut corners = emptied(faces.corners, corner_count + 7)?;
+    let mut counts = emptied(faces.counts, face_count(table))?;
     'darts: for start in 0..table.darts {
         if !seen[start as usize] && table.angle[start as usize] != 2 {
             let before = corners.len();
@@ -62,6 +79,7 @@ pub fn list_faces(alloc: Global, table: &DartTable, right: u32) -> Result<Faces,
         corners,
         counts,
         outer,
+        seen,
     })
 }
 

@@ -5,7 +5,7 @@ ghost use Rattle.cutting.specs.Labels.{HasTurns};
 ghost use Rattle.cutting.specs.Tables.{room, web_of};
 ghost use Rattle.cutting.specs.Webs.{IsSound, excess};
 
-use crate::faces::{add_joined_face, list_faces};
+use crate::faces::{Faces, add_joined_face, list_faces};
 use crate::rectangle::frame;
 use crate::walks::find_right;
 use cutting::{DartTable, cut_across, cut_faces};
@@ -42,13 +42,35 @@ pub fn enclose(alloc: Global, table: &mut DartTable, outside: u32) -> Result<(),
     ensures unchanged { OnErr result (web_of table.new ≡ web_of table.old) }
     ensures room { room table.new ≡ room table.old }
 {
+    enclose_in(table, outside, Faces::empty(alloc))?;
+    Ok(())
+}
+
+/// The same, where faces are listed in the memory of earlier ones, which is given back.
+///
+/// # Errors
+///
+/// When memory runs out; the table is then as it was, and the memory that was lent is gone.
+pub fn enclose_in(table: &mut DartTable, outside: u32, faces: Faces) -> Result<Faces, AllocError>
+    requires sound { IsSound (web_of table.old) }
+    requires turns { (label : ℕ → ℕ) × HasTurns (web_of table.old) label (label outside) }
+    requires inside { outside < table.old.darts }
+    requires space { table.old.darts + 4 * excess (web_of table.old) + 24 ≤ room table.old }
+    ensures sound { OnOk result (IsSound (web_of table.new)) }
+    ensures enclosed { OnOk result (IsEnclosed (web_of table.old) outside (web_of table.new)) }
+    ensures done { OnOk result ((k : ℕ) → k < 4 → AreWaiting (web_of table.new) (table.old.darts + 4 + k) []) }
+    ensures reaches { OnOk result (ReachesCorners (web_of table.new)) }
+    ensures few { OnOk result (table.new.vertices ≤ table.old.vertices + excess (web_of table.old) + 4) }
+    ensures unchanged { OnErr result (web_of table.new ≡ web_of table.old) }
+    ensures room { room table.new ≡ room table.old }
+{
     let right = find_right(table, outside);
-    let mut faces = list_faces(alloc, table, right)?;
+    let mut faces = list_faces(table, right, faces)?;
     let side = facing_side(table, right);
     add_joined_face(table, right, side, &mut faces)?;
     let corner = table.darts + (side + 3) % 4;
     frame(table);
     cut_across(table, right, corner);
     cut_faces(table, faces.corners.as_mut_slice(), faces.counts.as_slice());
-    Ok(())
+    Ok(faces)
 }

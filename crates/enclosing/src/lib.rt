@@ -10,4 +10,5 @@ mod join;
 mod rectangle;
 mod walks;
 
-pub use join::enclose;
+pub use faces::Faces;
+pub use join::{enclose, enclose_in};

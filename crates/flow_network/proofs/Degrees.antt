@@ -1,14 +1,14 @@
 -- How many darts arrive at a vertex: at least one, and at most four.
-use Rattle.std.proofs.Common.{◌≡◌, ◌≢◌, ◌⊎◌, ℕ, zero, suc, ◌+◌, ◌-◌, ◌<◌, ◌≤◌, ◌==◌, if◌then◌else◌, ◌∙◌, min, Bool, true, false, not, List, [], length, get_or, arith, subst, sym, ap, refl, inl, inr, cond, eqb}
-use Rattle.std.proofs.lemmas.Bool.{cases_eq, cases_lt, cases_Bool, eq-eqb, eqb-true, eqb-false, ne_eqb, cond-true, cond-false, both_ways, not-true, not_from_false, not_from_true}
+use Rattle.std.proofs.Common.{◌≡◌, ◌≢◌, ◌⊎◌, ℕ, zero, suc, ◌+◌, ◌-◌, ◌<◌, ◌≤◌, ◌==◌, if◌then◌else◌, ◌∙◌, min, Bool, true, false, not, List, [], length, get_or, arith, subst, sym, ap, refl, inl, inr, eqb}
+use Rattle.std.proofs.lemmas.Bool.{cases_eq, cases_Bool, eq-eqb, eqb-true, eqb-false, ne_eqb, cond-false, not_from_false, not_from_true}
 use Rattle.std.proofs.lemmas.List.{get_or_default}
 use Rattle.sums.specs.Sums.{sum_below}
-use Rattle.sums.proofs.Sums.{sum_below-same, sum_below-none, sum_below-le, sum_below-split, sum_below-turned, sum_below-constant, sum_below-member}
+use Rattle.sums.proofs.Sums.{sum_below-same, sum_below-none, sum_below-turned}
 use Rattle.embedding.specs.Lists.{list_of}
 use Rattle.embedding.specs.Darts.{dart_count, tail_of, head_of, first_dart}
-use Rattle.embedding.specs.Rules.{KeepsBefore, IsClosed}
+use Rattle.embedding.specs.Rules.{IsClosed}
 use Rattle.embedding.specs.declared.rules.Rule.TheVariants.{Disconnected}
-use Rattle.embedding.proofs.Entries.{Stands, stands_at, dart_stands}
+use Rattle.embedding.proofs.Entries.{stands_at, dart_stands}
 use Rattle.embedding.proofs.Rotation.{list_of-place, tail_at, dart_below}
 use Rattle.embedding.proofs.KeptFacts.{list_of-short}
 use Rattle.faces.specs.Planes.{PlaneModel, IsPlane, HasEnds, darts, vertices, head, tail, reverse_dart}

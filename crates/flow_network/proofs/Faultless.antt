@@ -1,15 +1,15 @@
 -- The network of a plane is one: it has no fault.
-use Rattle.std.proofs.Common.{◌≡◌, ◌⊎◌, ℕ, ◌+◌, ◌-◌, ◌<◌, ◌≤◌, ◌==◌, if◌then◌else◌, ◌∙◌, Bool, true, false, List, length, arith, subst, sym, ap, refl, inl, inr}
+use Rattle.std.proofs.Common.{◌≡◌, ◌⊎◌, ℕ, ◌+◌, ◌-◌, ◌<◌, ◌≤◌, ◌==◌, if◌then◌else◌, Bool, true, false, arith, subst, ap, inl, inr}
 use Rattle.std.specs.Prelude.{ℤ, pos, negsuc, ◌-ℤ◌, ◌<ℤ◌}
-use Rattle.std.proofs.lemmas.Bool.{cases_eq, cases_lt}
+use Rattle.std.proofs.lemmas.Bool.{cases_lt}
 use Rattle.std.proofs.lemmas.Int.{ints}
 use Rattle.embedding.specs.declared.graphs.TheConstants.{MAX_DARTS}
-use Rattle.faces.specs.Planes.{PlaneModel, IsPlane, HasEnds, darts, vertices, head, reverse_dart, face_at, degree}
+use Rattle.faces.specs.Planes.{PlaneModel, IsPlane, darts, vertices, reverse_dart, face_at, degree}
 use Rattle.faces.proofs.Ends.{plane_ends}
 use Rattle.faces.proofs.Degrees.{degree_few}
 use Rattle.networks.specs.declared.arc.Arc.{Arc}
 use Rattle.networks.specs.Net.{Net, node_count, arc_count, arc_at, supply_at}
-use Rattle.networks.specs.Fault.{IsFirstFault, HasFault}
+use Rattle.networks.specs.Fault.{HasFault}
 use Rattle.networks.specs.declared.fault.NetFault.{NetFault}
 use Rattle.networks.specs.declared.fault.NetFault.TheVariants.{TooLarge, BadEnd, BadSupply, BadCost}
 use Rattle.flow_network.specs.FaceNet.{IsFaceNet, arrivals}

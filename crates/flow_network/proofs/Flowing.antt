@@ -1,25 +1,23 @@
 -- The network of a plane has a flow: each vertex sends its supply into one corner, and what faces have over can
 -- cross to what they want, since any two faces are joined by crossings.
-use Rattle.std.proofs.Common.{◌≡◌, ◌≢◌, ◌⊎◌, ℕ, zero, suc, ◌+◌, ◌-◌, ◌*◌, ◌<◌, ◌≤◌, ◌==◌, if◌then◌else◌, ◌∙◌, Bool, true, false, List, length, get_or, arith, subst, sym, ap, refl, inl, inr, cond, eqb, ltb}
-use Rattle.std.specs.Prelude.{nat_lt, ℤ, pos, negsuc, ◌+ℤ◌, ◌-ℤ◌, ◌≤ℤ◌, ◌<ℤ◌}
-use Rattle.std.proofs.lemmas.Bool.{cases_eq, cases_lt, cases_Bool, eq-eqb, eqb-true, eqb-false, ne_eqb, cond-true, cond-false, lt-ltb, le-ltb}
+use Rattle.std.proofs.Common.{◌≡◌, ◌≢◌, ℕ, zero, suc, ◌+◌, ◌-◌, ◌*◌, ◌<◌, ◌≤◌, ◌==◌, if◌then◌else◌, ◌∙◌, Bool, true, false, arith, subst, sym, ap, refl, inl, inr, cond, eqb, ltb}
+use Rattle.std.specs.Prelude.{nat_lt, ℤ, pos, negsuc, ◌+ℤ◌, ◌-ℤ◌, ◌<ℤ◌}
+use Rattle.std.proofs.lemmas.Bool.{cases_eq, cases_lt, cases_Bool, eq-eqb, eqb-true, ne_eqb, cond-true, cond-false, lt-ltb, le-ltb}
 use Rattle.std.proofs.lemmas.Int.{ints}
 use Rattle.sums.specs.Sums.{sum_below, total_below}
-use Rattle.sums.proofs.Sums.{sum_below-same, sum_below-none, sum_below-one, sum_below-split, sum_below-add, sum_below-constant, sum_below-member, exchanged-ones, total_below-split, total_below-parts, total_below-same}
+use Rattle.sums.proofs.Sums.{sum_below-same, sum_below-none, sum_below-one, sum_below-split, sum_below-add, sum_below-constant, sum_below-member, exchanged-ones, total_below-split, total_below-parts}
 use Rattle.faces.specs.Planes.{PlaneModel, IsPlane, HasEnds, darts, vertices, head, reverse_dart, face_at, degree}
 use Rattle.faces.proofs.Ends.{plane_ends}
 use Rattle.faces.proofs.Joined.{faces_joined}
 use Rattle.faces.proofs.Degrees.{degrees_sum}
 use Rattle.networks.specs.declared.arc.Arc.{Arc}
-use Rattle.networks.specs.declared.arc.Cap.{Cap}
-use Rattle.networks.specs.declared.arc.Cap.TheVariants.{AtMost, Any}
 use Rattle.networks.specs.Net.{Net, node_count, arc_count, arc_at, supply_at}
 use Rattle.networks.specs.Flow.{Flow, IsWithin, leaves, enters, balance}
-use Rattle.min_cost_flow.specs.Excess.{KeepsCaps, Leaves}
-use Rattle.min_cost_flow.specs.Existence.{IsClosedAny, IsJoined, IsBalanced}
+use Rattle.min_cost_flow.specs.Excess.{KeepsCaps}
+use Rattle.min_cost_flow.specs.Existence.{IsJoined, IsBalanced}
 use Rattle.min_cost_flow.proofs.Existence.{flow_where_joined, excess_leaves}
 use Rattle.flow_network.specs.FaceNet.{IsFaceNet, arrivals}
-use Rattle.flow_network.proofs.Degrees.{search_below, vertex_has_dart, arrivals_most}
+use Rattle.flow_network.proofs.Degrees.{vertex_has_dart, arrivals_most}
 
 -- the last number below n that passes, where one does
 abbrev pub last_below : ℕ → (ℕ → Bool) → ℕ

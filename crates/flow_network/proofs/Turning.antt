@@ -1,5 +1,5 @@
 -- The network of a plane once another face is the outer one.
-use Rattle.std.proofs.Common.{◌≡◌, ◌≢◌, ◌⊎◌, ℕ, ◌+◌, ◌-◌, ◌<◌, ◌≤◌, ◌==◌, if◌then◌else◌, ◌∙◌, Bool, true, false, cond, eqb, length, arith, subst, sym, ap, inl, inr}
+use Rattle.std.proofs.Common.{◌≡◌, ℕ, ◌+◌, ◌-◌, ◌<◌, ◌≤◌, ◌==◌, if◌then◌else◌, ◌∙◌, Bool, true, false, cond, eqb, length, arith, subst, sym, inl, inr}
 use Rattle.std.specs.Prelude.{ℤ, pos, negsuc, ◌+ℤ◌, ◌-ℤ◌, ◌≤ℤ◌}
 use Rattle.std.proofs.lemmas.Bool.{cases_eq, cases_lt, eq-eqb, ne_eqb}
 use Rattle.std.proofs.lemmas.Int.{ints}
@@ -7,7 +7,7 @@ use Rattle.embedding.specs.declared.graphs.TheConstants.{MAX_DARTS}
 use Rattle.faces.specs.Planes.{PlaneModel, IsPlane, darts, vertices, face_at, degree, with_outer}
 use Rattle.faces.proofs.Ends.{plane_ends}
 use Rattle.faces.proofs.Degrees.{degree_few}
-use Rattle.networks.specs.Net.{Net, node_count, supply_at, moved, shifted, HasFairSupplies}
+use Rattle.networks.specs.Net.{Net, supply_at, shifted, HasFairSupplies}
 use Rattle.networks.proofs.Moving.{delta, moved_at, length-moved}
 use Rattle.flow_network.specs.FaceNet.{IsFaceNet, arrivals}
 use Rattle.flow_network.proofs.Degrees.{arrivals_most}

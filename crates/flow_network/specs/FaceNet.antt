@@ -1,7 +1,7 @@
 -- The flow network of a plane: a node for each vertex and each face, and of each dart a corner arc, from its head
 -- to its face, and a crossing arc, from its face to the one across. A unit is a right angle, or a turn that goes
 -- over to the other face. (Tamassia 1987, for faces on the left.)
-use Rattle.std.specs.Prelude.{◌≡◌, ℕ, ◌+◌, ◌-◌, ◌<◌, ◌≤◌, ◌==◌, if◌then◌else◌, ℤ, pos, negsuc, ◌-ℤ◌}
+use Rattle.std.specs.Prelude.{◌≡◌, ℕ, ◌+◌, ◌-◌, ◌<◌, ◌≤◌, ◌==◌, if◌then◌else◌, pos, negsuc, ◌-ℤ◌}
 use Rattle.sums.specs.Sums.{sum_below}
 use Rattle.faces.specs.Planes.{PlaneModel, darts, vertices, head, reverse_dart, face_at, degree}
 use Rattle.networks.specs.declared.arc.Cap.TheVariants.{AtMost, Any}

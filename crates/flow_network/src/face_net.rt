@@ -5,10 +5,12 @@ ghost use Rattle.networks.specs.Net.{shifted};
 ghost use Rattle.networks.specs.Flow.{Flow};
 
 use crate::parts::{arcs_of, supplies_of};
+use crate::scratch::Scratch;
 use faces::Plane;
 use min_cost_flow::Network;
 use std::alloc::{AllocError, Global};
 use std::marker::Model;
+use std::mem;
 
 /// The flow network of a plane (Tamassia 1987). A unit in a corner is a right angle beyond the first, and
 /// a unit across an edge is a bend.
@@ -46,8 +48,22 @@ impl FaceNet {
         ensures net { IfOk result (IsNetOf plane.now) }
         ensures flow { IfOk result (λ n. (y : ℕ → ℕ) × Flow n.network y) }
     {
-        let supplies = supplies_of(alloc, plane)?;
-        let arcs = arcs_of(alloc, plane)?;
+        let mut scratch = Scratch::empty(alloc);
+        FaceNet::build_in(alloc, &mut scratch, plane)
+    }
+
+    /// The same as [`FaceNet::build`], in memory that is lent. The network takes its lists with it; they can be
+    /// given back by [`FaceNet::give_back`].
+    pub fn build_in(
+        alloc: Global,
+        scratch: &mut Scratch,
+        plane: &Plane,
+    ) -> Result<FaceNet, AllocError>
+        ensures net { IfOk result (IsNetOf plane.now) }
+        ensures flow { IfOk result (λ n. (y : ℕ → ℕ) × Flow n.network y) }
+    {
+        let supplies = supplies_of(mem::replace(&mut scratch.supplies, Vec::new(alloc)), plane)?;
+        let arcs = arcs_of(mem::replace(&mut scratch.arcs, Vec::new(alloc)), plane)?;
         let vertices = u32::from(plane.graph().vertices());
         let darts = u32::from(plane.graph().darts());
         match Network::new(supplies, arcs) {
@@ -65,6 +81,13 @@ impl FaceNet {
         ensures { result.now ≡ self.now.network }
     {
         &self.network
+    }
+
+    /// Hands the memory of this network back to that which it was made in.
+    pub fn give_back(self, scratch: &mut Scratch) {
+        let (supplies, arcs) = self.network.into_lists();
+        scratch.supplies = supplies;
+        scratch.arcs = arcs;
     }
 
     /// Turns a face out in place of the plane's outer one.

@@ -3,5 +3,7 @@
 
 mod face_net;
 mod parts;
+mod scratch;
 
 pub use face_net::FaceNet;
+pub use scratch::Scratch;

@@ -6,7 +6,8 @@ ghost use Rattle.flow_network.specs.FaceNet.{arrivals};
 
 use faces::Plane;
 use min_cost_flow::{Arc, Cap};
-use std::alloc::{AllocError, Global};
+use reuse::emptied;
+use std::alloc::AllocError;
 
 /// How many darts arrive at each vertex.
 fn count_arrivals(plane: &Plane) -> [u16; 256]
@@ -20,14 +21,6 @@ fn count_arrivals(plane: &Plane) -> [u16; 256]
     counts
 }
 
-/// An empty list with room for a number for each vertex and face.
-fn room_for_nodes(alloc: Global, plane: &Plane) -> Result<Vec<i32>, AllocError>
-    ensures { IfOk result (λ s. s.items ≡ []) }
-{
-    let vertices = usize::from(plane.graph().vertices());
-    Vec::with_capacity(alloc, vertices + usize::from(plane.face_count()))
-}
-
 /// What a face supplies: its turns in right angles, less its degree.
 fn face_supply(plane: &Plane, face: u16) -> i32
     requires { face < plane.now.faces }
@@ -38,8 +31,9 @@ fn face_supply(plane: &Plane, face: u16) -> i32
     turn - i32::from(plane.degree(face))
 }
 
-/// The supply of each node: those of the vertices, and then those of the faces.
-pub fn supplies_of(alloc: Global, plane: &Plane) -> Result<Vec<i32>, AllocError>
+/// The supply of each node: those of the vertices, and then those of the faces. They stand in the memory of
+/// an old list where that is enough.
+pub fn supplies_of(old: Vec<i32>, plane: &Plane) -> Result<Vec<i32>, AllocError>
     ensures nodes { IfOk result (λ s. length s.items ≡ vertices plane.now + plane.now.faces) }
     ensures at_vertex { IfOk result (λ s. (v : ℕ) → 1 ≤ v → v ≤ vertices plane.now
         → slice_index_or s.items (v - 1) (pos 0) ≡ pos 4 -ℤ pos (arrivals plane.now v)) }
@@ -48,8 +42,10 @@ pub fn supplies_of(alloc: Global, plane: &Plane) -> Result<Vec<i32>, AllocError>
         ≡ (if f == plane.now.outer then negsuc 3 else pos 4) -ℤ pos (degree plane.now f)) }
 {
     let counts = count_arrivals(plane);
-    let mut supplies = room_for_nodes(alloc, plane)?;
-    'vertices: for place in 0..plane.graph().vertices() {
+    let vertices = plane.graph().vertices();
+    let nodes = usize::from(vertices) + usize::from(plane.face_count());
+    let mut supplies = emptied(old, nodes)?;
+    'vertices: for place in 0..vertices {
         supplies.push(4 - i32::from(counts[usize::from(place) + 1]))?;
     }
     'faces: for face in 0..plane.face_count() {
@@ -58,8 +54,9 @@ pub fn supplies_of(alloc: Global, plane: &Plane) -> Result<Vec<i32>, AllocError>
     Ok(supplies)
 }
 
-/// The arcs: the corners of all darts, and then their crossings.
-pub fn arcs_of(alloc: Global, plane: &Plane) -> Result<Vec<Arc>, AllocError>
+/// The arcs: the corners of all darts, and then their crossings. They stand in the memory of an old list
+/// where that is enough.
+pub fn arcs_of(old: Vec<Arc>, plane: &Plane) -> Result<Vec<Arc>, AllocError>
     ensures arcs { IfOk result (λ a. length a.items ≡ darts plane.now + darts plane.now) }
     ensures corner { IfOk result (λ a. (d : ℕ) → d < darts plane.now
         → slice_index_or a.items d no_arc
@@ -70,7 +67,7 @@ pub fn arcs_of(alloc: Global, plane: &Plane) -> Result<Vec<Arc>, AllocError>
 {
     let graph = plane.graph();
     let first_face = u32::from(graph.vertices());
-    let mut arcs = Vec::with_capacity(alloc, 2 * graph.darts() as usize)?;
+    let mut arcs = emptied(old, 2 * graph.darts() as usize)?;
     'corners: for dart in 0..graph.darts() {
         arcs.push(Arc {
             from: u32::from(graph.head(dart)) - 1,

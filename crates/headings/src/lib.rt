@@ -4,4 +4,4 @@
 pub mod laws;
 mod search;
 
-pub use search::headings;
+pub use search::{Search, headings, headings_in};

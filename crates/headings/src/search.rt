@@ -1,6 +1,6 @@
 //! The search for the directions of all darts, from one dart on.
 
-ghost use Rattle.std.specs.Prelude.{◌≡◌, ◌+◌, ◌%◌, ◌<◌, ◌≤◌, length, vec_len, IfOk, OnOk, slice_index};
+ghost use Rattle.std.specs.Prelude.{◌≡◌, ◌+◌, ◌%◌, ◌<◌, ◌≤◌, [], length, replicate, vec_len, IfOk, OnOk, slice_index};
 ghost use Rattle.ortho_rep.specs.declared.strings.TheConstants.{MAX_TURNS};
 ghost use Rattle.ortho_rep.specs.Turns.{lefts, rights};
 ghost use Rattle.ortho_rep.specs.Shapes.{angle_at, turns_at};
@@ -11,19 +11,44 @@ ghost use Rattle.headings.specs.Search.{IsReached};
 
 use faces::Plane;
 use ortho_rep::{Shape, Turn};
+use reuse::{emptied, filled};
 use std::alloc::{AllocError, Global};
 
 /// Stands for no direction.
 const UNSET: u8 = 4;
 
-/// The directions found so far, by dart, and the darts with a direction from which to go on.
+/// A search for directions, whose memory the next one can use again.
 #[derive(Drop)]
-struct Search {
-    headings: Vec<u8>,
+pub struct Search {
+    /// The directions found so far, by dart.
+    pub headings: Vec<u8>,
+    // the darts with a direction from which to go on
     waiting: Vec<u16>,
 }
 
 impl Search {
+    /// A search that has found nothing. It takes no memory.
+    pub fn empty(alloc: Global) -> Search
+        ensures { result.headings.items ≡ [] }
+    {
+        Search {
+            headings: Vec::new(alloc),
+            waiting: Vec::new(alloc),
+        }
+    }
+
+    /// A search in which none of so many darts has a direction, in the memory of this one.
+    fn begun(self, darts: usize) -> Result<Search, AllocError>
+        ensures unset { IfOk result (λ s. s.headings.items ≡ replicate darts 4) }
+        ensures waiting { IfOk result (λ s. s.waiting.items ≡ []) }
+    {
+        let Search { headings, waiting } = self;
+        Ok(Search {
+            headings: filled(headings, darts, UNSET)?,
+            waiting: emptied(waiting, darts)?,
+        })
+    }
+
     /// Gives a dart this direction, and lets it wait, unless it has one.
     fn reach(&mut self, dart: u16, heading: u8) -> Result<(), AllocError>
         requires { dart < vec_len self.old.headings }
@@ -85,11 +110,25 @@ pub fn headings(alloc: Global, plane: &Plane, shape: &Shape) -> Result<Vec<u8>, 
     ensures headings { IfOk result (λ h. AreHeadings plane.now (angle_at shape.now)
         (turns_at shape.now) (slice_index h.items)) }
 {
+    let search = headings_in(plane, shape, Search::empty(alloc))?;
+    Ok(search.headings)
+}
+
+/// The same in the memory of an earlier search, which takes more only where that is not enough.
+///
+/// # Errors
+///
+/// `AllocError` where there is no memory for the directions or for the darts that wait in the search;
+/// the memory that was lent is then gone.
+pub fn headings_in(plane: &Plane, shape: &Shape, search: Search) -> Result<Search, AllocError>
+    requires { IsShape plane.now shape.now }
+    ensures count { IfOk result (λ s. length s.headings.items ≡ darts plane.now) }
+    ensures first { IfOk result (λ s. slice_index s.headings.items 0 ≡ 0) }
+    ensures headings { IfOk result (λ s. AreHeadings plane.now (angle_at shape.now)
+        (turns_at shape.now) (slice_index s.headings.items)) }
+{
     let graph = plane.graph();
-    let mut search = Search {
-        headings: vec![in alloc; UNSET; usize::from(graph.darts())]?,
-        waiting: Vec::with_capacity(alloc, usize::from(graph.darts()))?,
-    };
+    let mut search = search.begun(usize::from(graph.darts()))?;
     search.reach(0, 0)?;
     while let Some(dart) = search.waiting.pop() {
         let heading = search.headings[usize::from(dart)];
@@ -98,5 +137,5 @@ pub fn headings(alloc: Global, plane: &Plane, shape: &Shape) -> Result<Vec<u8>, 
         let reverse = graph.reverse(dart);
         search.reach(reverse, reverse_heading(heading, shape.turns(dart)))?;
     }
-    Ok(search.headings)
+    Ok(search)
 }

@@ -24,10 +24,16 @@ pub trait Staged: Numbered {
     /// What is known of it afterwards.
     type Next: Numbered;
 
+    /// What the work takes memory for and does not keep. The stage's thread lends it to each record.
+    type Scratch: Drop + Send;
+
     /// The stage that does the work.
     const STAGE: Stage;
 
+    /// An empty scratch. It takes no memory.
+    fn scratch(alloc: Global) -> Self::Scratch;
+
     /// Does the work. The record and the choice stay the same.
-    fn next(self, alloc: Global) -> Self::Next
+    fn next(self, alloc: Global, scratch: &mut Self::Scratch) -> Self::Next
         ensures { Self.Next.about result ≡ Self.about self };
 }

@@ -12,7 +12,8 @@ use std::sync::Wait;
 
 /// Takes the messages of the stage before, up to the stop, and gives one for each, in order: a record
 /// with the work of this stage done, an end or the stop as it is. Before it works on a record it
-/// passes the gate. It gives both ends back, or none where the other end of a link was gone.
+/// passes the gate; all records are lent one scratch. It gives both ends back, or none where the other end
+/// of a link was gone.
 pub fn run_stage<A: Staged, R: Wait, G: Gate>(
     rt: &R,
     alloc: Global,
@@ -25,11 +26,12 @@ pub fn run_stage<A: Staged, R: Wait, G: Gate>(
     requires none_given { given giver ≡ [] }
     ensures { IfSome result (λ ends. PassedAll A.about A.Next.about taker giver ends.0 ends.1) }
 {
+    let mut scratch = A::scratch(alloc);
     for _ in rt.forever() {
         match taker.take(rt) {
             Ok(Message::Item(item)) => {
                 gate.pass(lane, A::STAGE, item.ordinal());
-                match giver.give(rt, Message::Item(item.next(alloc))) {
+                match giver.give(rt, Message::Item(item.next(alloc, &mut scratch))) {
                     Ok(()) => {}
                     Err(_) => return None,
                 }

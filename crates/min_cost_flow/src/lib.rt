@@ -7,11 +7,13 @@
 
 mod augment;
 mod resume;
+mod scratch;
 mod solved;
 mod solver;
 mod standing;
 
 pub use networks::{Arc, Cap, NetFault, Network};
+pub use scratch::Scratch;
 pub use solved::Solved;
-pub use solver::{SolveFault, solve};
+pub use solver::{SolveFault, solve, solve_in};
 pub use standing::Standing;

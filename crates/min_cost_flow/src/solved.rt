@@ -1,6 +1,7 @@
 ghost use Rattle.std.specs.Prelude.{◌≡◌, ◌<◌, length, slice_index};
 ghost use Rattle.networks.specs.Flow.{Answer, at_nodes};
 
+use crate::scratch::Scratch;
 use std::marker::Model;
 
 /// A flow of least cost, and potentials that show it.
@@ -29,6 +30,12 @@ impl Solved {
             searches,
             looks,
         }
+    }
+
+    /// Hands the memory of this answer back to that which it was made in.
+    pub fn give_back(self, scratch: &mut Scratch) {
+        scratch.flow = self.flow;
+        scratch.potential = self.potential;
     }
 
     /// How many units the arc of a number carries.

@@ -10,10 +10,12 @@ ghost use Rattle.min_cost_flow.specs.Lists.{HasNodeLists};
 ghost use Rattle.min_cost_flow.specs.Round.{left_over, carrying, supply_sum, IsRound, IsLess, IsWork, IsDone, HasSupply, IsWithinReach};
 
 use crate::augment::send;
+use crate::scratch::Scratch;
 use crate::solved::Solved;
 use networks::{Layout, Network, ResidualArc, lay_out};
 use shortest_paths::{FAR, Ground, search};
 use std::alloc::{AllocError, Global};
+use std::mem;
 use thiserror::Error;
 
 /// Why there is no solution.
@@ -58,26 +60,40 @@ pub fn solve(alloc: Global, network: &Network) -> Result<Solved, SolveFault>
     ensures carrying { IfOk result (λ solved. carrying network.now (amounts solved.flow) ≤ solved.looks) }
     ensures reach { IfOk result (λ solved. IsWithinReach network.now (at_nodes solved.potential)) }
 {
-    let nodes = network.node_count();
-    let arc_count = network.arc_count();
-    let shut = ResidualArc { end: 0, code: 0 };
-    let mut flow = vec![in alloc; 0; arc_count]?;
-    let mut potential = vec![in alloc; 0; nodes]?;
-    let mut arcs = vec![in alloc; shut; 2 * arc_count]?;
-    let mut counts = vec![in alloc; 0; 4 * arc_count + 4 * nodes + 1]?;
-    let mut units = vec![in alloc; FAR; 3 * nodes]?;
+    let mut scratch = Scratch::empty(alloc);
+    solve_in(alloc, &mut scratch, network)
+}
+
+/// The same as [`solve`], in memory that is lent. The answer takes its two lists with it; they can be given
+/// back by [`Solved::give_back`].
+pub fn solve_in(
+    alloc: Global,
+    scratch: &mut Scratch,
+    network: &Network,
+) -> Result<Solved, SolveFault>
+    ensures ok { IfOk result (λ solved. Solves network.now solved) }
+    ensures infeasible { IfErr result (λ fault. fault ≡ SolveFault.Infeasible → HasNoFlow network.now) }
+    ensures searches { IfOk result (λ solved. solved.searches ≤ supply_sum network.now) }
+    ensures looks { IfOk result (λ solved. solved.looks ≤ solved.searches * (2 * arc_count network.now)) }
+    ensures begun { IfOk result (λ solved. HasSupply network.now → 1 ≤ solved.searches) }
+    ensures carrying { IfOk result (λ solved. carrying network.now (amounts solved.flow) ≤ solved.looks) }
+    ensures reach { IfOk result (λ solved. IsWithinReach network.now (at_nodes solved.potential)) }
+{
+    scratch.prepare(network.node_count(), network.arc_count())?;
     let done = fill(
         network,
-        &mut flow,
-        &mut potential,
-        &mut arcs,
-        &mut counts,
-        &mut units,
+        &mut scratch.flow,
+        &mut scratch.potential,
+        &mut scratch.arcs,
+        &mut scratch.counts,
+        &mut scratch.units,
     );
-    match done {
-        Some(work) => Ok(Solved::new(flow, potential, work.searches, work.looks)),
-        None => Err(SolveFault::Infeasible),
-    }
+    let Some(work) = done else {
+        return Err(SolveFault::Infeasible);
+    };
+    let flow = mem::replace(&mut scratch.flow, Vec::new(alloc));
+    let potential = mem::replace(&mut scratch.potential, Vec::new(alloc));
+    Ok(Solved::new(flow, potential, work.searches, work.looks))
 }
 
 /// Lays out the residual arcs in parts of the long lists, sends all units, and reads the flow off.

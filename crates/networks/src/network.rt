@@ -106,6 +106,14 @@ impl Network {
         move_units(&mut self.supplies, from, to, amount);
     }
 
+    /// The supplies and the arcs. It takes no memory.
+    pub fn into_lists(self) -> (Vec<i32>, Vec<Arc>)
+        ensures supplies { result.0.items ≡ self.supplies }
+        ensures arcs { result.1.items ≡ self.arcs }
+    {
+        (self.supplies, self.arcs)
+    }
+
     /// The same network again, its lists in memory of the same kind.
     pub fn copy(&self) -> Result<Network, AllocError>
         ensures { IfOk result (λ net. net ≡ self.now) }

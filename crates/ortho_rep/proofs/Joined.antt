@@ -1,33 +1,33 @@
--- Strings that are put one after another into one list, with the places where they start.
-use Rattle.std.proofs.Common.{◌≡◌, ◌≤◌, ◌<◌, ℕ, zero, suc, ◌+◌, ◌-◌, List, [], ◌∷◌, ◌++◌, length, get_or, take, drop, refl, sym, ap, ◌∙◌, inl, inr, length-append, arith}
+-- Lists that are put one after another into one list, with the places where they start.
+use Rattle.std.proofs.Common.{◌≡◌, ◌≤◌, ◌<◌, ℕ, zero, suc, ◌+◌, ◌-◌, List, [], ◌∷◌, ◌++◌, length, get_or, take, drop, refl, sym, ap, ◌∙◌, subst, inl, inr, length-append, arith}
 use Rattle.std.specs.Prelude.{slice_range}
 use Rattle.std.proofs.lemmas.Bool.{cases_eq}
 use Rattle.std.proofs.lemmas.List.{get_or_append_left, get_or_at, drop-append-le, drop_at, take-append-le, take_all, length-drop, append_assoc}
-use Rattle.ortho_rep.specs.declared.turn.Turn.{Turn}
 use Rattle.ortho_rep.specs.Storage.{cut, IsCut}
 use Rattle.ortho_rep.proofs.Pieces.{length-cut, get_or-cut}
 
--- n strings stand in the list, and the next one starts at its end
-pub record IsJoined (starts : List ℕ) (turns : List Turn) (n : ℕ) (string : ℕ → List Turn) : Type 0 where
+-- n pieces stand in the list, and the next one starts at its end
+pub record IsJoined {A : Type 0} (starts : List ℕ) (items : List A) (n : ℕ) (IsPiece : ℕ → List A → Type 0) : Type 0 where
   pub count : length starts ≡ n + 1
   pub ordered : (k : ℕ) → k < n → get_or starts k 0 ≤ get_or starts (k + 1) 0
-  pub inside : (k : ℕ) → k < n + 1 → get_or starts k 0 ≤ length turns
-  pub end : get_or starts n 0 ≡ length turns
-  pub pieces : (k : ℕ) → k < n → slice_range turns (get_or starts k 0) (get_or starts (k + 1) 0) ≡ string k
+  pub inside : (k : ℕ) → k < n + 1 → get_or starts k 0 ≤ length items
+  pub end : get_or starts n 0 ≡ length items
+  pub pieces : (k : ℕ) → k < n → (piece : List A) → IsPiece k piece →
+      slice_range items (get_or starts k 0) (get_or starts (k + 1) 0) ≡ piece
 
 -- a piece stays where more is put behind it
-slice_range-append : (xs ys : List Turn) (a b : ℕ) → a ≤ b → b ≤ length xs → slice_range (xs ++ ys) a b ≡ slice_range xs a b
+slice_range-append : {A : Type 0} (xs ys : List A) (a b : ℕ) → a ≤ b → b ≤ length xs → slice_range (xs ++ ys) a b ≡ slice_range xs a b
 slice_range-append xs ys a b h k =
     ap (take (b - a)) (drop-append-le a xs ys (omega arith)) ∙ take-append-le (b - a) (drop a xs) ys (omega (arith, length-drop a xs))
 
 -- and what is put behind is a piece
-slice_range-behind : (xs ys : List Turn) → slice_range (xs ++ ys) (length xs) (length (xs ++ ys)) ≡ ys
+slice_range-behind : {A : Type 0} (xs ys : List A) → slice_range (xs ++ ys) (length xs) (length (xs ++ ys)) ≡ ys
 slice_range-behind xs ys =
     ap (take (length (xs ++ ys) - length xs)) (drop_at xs ys (length xs) refl) ∙ take_all (length (xs ++ ys) - length xs) ys (omega (arith, length-append xs ys))
 
--- no string yet
-pub joined-none : (string : ℕ → List Turn) → IsJoined (0 ∷ []) [] 0 string
-joined-none string = record {
+-- no piece yet
+pub joined-none : {A : Type 0} (IsPiece : ℕ → List A → Type 0) → IsJoined (0 ∷ []) [] 0 IsPiece
+joined-none IsPiece = record {
   count = refl;
   ordered = λ k b. absurd (omega arith);
   inside = λ k b. omega (arith, nothing k);
@@ -39,13 +39,19 @@ joined-none string = record {
     nothing zero = refl
     nothing (suc k) = refl
 
--- one string more
-pub joined-more : (starts : List ℕ) (turns string_n : List Turn) (n : ℕ) (string : ℕ → List Turn) → IsJoined starts turns n string → string_n ≡ string n → IsJoined (starts ++ length (turns ++ string_n) ∷ []) (turns ++ string_n) (n + 1) string
-joined-more starts turns more n string is this =
-    let all = turns ++ more in
+-- the same, as a loop finds it
+pub joined-starts : {A : Type 0} (starts : List ℕ) (items : List A) (IsPiece : ℕ → List A → Type 0) → starts ≡ 0 ∷ [] → items ≡ [] → IsJoined starts items 0 IsPiece
+joined-starts starts items IsPiece s i = rw (s, i) (joined-none IsPiece)
+
+-- one piece more
+joined-more : {A : Type 0} (starts : List ℕ) (items more : List A) (n : ℕ) (IsPiece : ℕ → List A → Type 0) → IsJoined starts items n IsPiece →
+    ((piece : List A) → IsPiece n piece → more ≡ piece) →
+    IsJoined (starts ++ length (items ++ more) ∷ []) (items ++ more) (n + 1) IsPiece
+joined-more {A} starts items more n IsPiece is this =
+    let all : List A = items ++ more in
     let old : (k : ℕ) → k < n + 1 → get_or (starts ++ length all ∷ []) k 0 ≡ get_or starts k 0 = λ k b. get_or_append_left starts (length all ∷ []) 0 k (omega (arith, is.count)) in
     let new : get_or (starts ++ length all ∷ []) (n + 1) 0 ≡ length all = get_or_at starts (length all) [] 0 (n + 1) is.count in
-    let longer : length all ≡ length turns + length more = length-append turns more in
+    let longer : length all ≡ length items + length more = length-append items more in
     record {
       count = omega (arith, length-append starts (length all ∷ []), is.count);
       ordered = λ k b. elim (cases_eq k n) [
@@ -57,42 +63,53 @@ joined-more starts turns more n string is this =
         | inr ne ↦ omega (arith, old k (omega arith), is.inside k (omega arith), longer)
       ];
       end = new;
-      pieces = λ k b. elim (cases_eq k n) [
+      pieces = λ k b piece is_piece. elim (cases_eq k n) [
         | inl e ↦
             ap (λ (z : ℕ). slice_range all (get_or (starts ++ length all ∷ []) z 0) (get_or (starts ++ length all ∷ []) (z + 1) 0)) e
             ∙ (ap (λ (z : ℕ). slice_range all (get_or (starts ++ length all ∷ []) n 0) z) new
             ∙ (ap (λ (z : ℕ). slice_range all z (length all)) (old n (omega arith) ∙ is.end)
-            ∙ (slice_range-behind turns more ∙ (this ∙ ap string (sym e)))))
+            ∙ (slice_range-behind items more ∙ this piece (subst (λ (z : ℕ). IsPiece z piece) e is_piece))))
         | inr ne ↦
             ap (λ (z : ℕ). slice_range all z (get_or (starts ++ length all ∷ []) (k + 1) 0)) (old k (omega arith))
             ∙ (ap (λ (z : ℕ). slice_range all (get_or starts k 0) z) (old (k + 1) (omega arith))
-            ∙ (slice_range-append turns more (get_or starts k 0) (get_or starts (k + 1) 0) (is.ordered k (omega arith)) (is.inside (k + 1) (omega arith))
-            ∙ is.pieces k (omega arith)))
+            ∙ (slice_range-append items more (get_or starts k 0) (get_or starts (k + 1) 0) (is.ordered k (omega arith)) (is.inside (k + 1) (omega arith))
+            ∙ is.pieces k (omega arith) piece is_piece))
       ];
     }
 
--- the same, where its turns come in two runs
-pub joined-runs : (starts : List ℕ) (turns one two : List Turn) (n : ℕ) (string : ℕ → List Turn) → IsJoined starts turns n string → one ++ two ≡ string n → IsJoined (starts ++ length (turns ++ one ++ two) ∷ []) (turns ++ one ++ two) (n + 1) string
-joined-runs starts turns one two n string is this =
-    rw (append_assoc turns one two) (joined-more starts turns (one ++ two) n string is this)
+-- what is put behind a list is one piece
+one_behind : {A : Type 0} (items more other : List A) → items ++ more ≡ items ++ other → more ≡ other
+one_behind items more other same =
+    sym (drop_at items more (length items) refl) ∙ ap (drop (length items)) same ∙ drop_at items other (length items) refl
 
--- the same, as a loop finds it
-pub joined-pushed : (starts starts' : List ℕ) (turns middle turns' one two : List Turn) (n m : ℕ) (string : ℕ → List Turn) → IsJoined starts turns n string → one ++ two ≡ string n → middle ≡ turns ++ one → turns' ≡ middle ++ two → m ≡ length turns' → starts' ≡ starts ++ m ∷ [] → IsJoined starts' turns' (n + 1) string
-joined-pushed starts starts' turns middle turns' one two n m string is this first second long more =
-    let all : turns' ≡ turns ++ one ++ two = second ∙ ap (λ (z : List Turn). z ++ two) first in
-    rw (more, long, all) (joined-runs starts turns one two n string is this)
+-- one piece more, as a loop finds it
+pub joined-pushed : {A : Type 0} (starts starts' : List ℕ) (items items' more : List A) (n m : ℕ) (IsPiece : ℕ → List A → Type 0) → IsJoined starts items n IsPiece →
+    items' ≡ items ++ more → ((piece : List A) → IsPiece n piece → items' ≡ items ++ piece) → m ≡ length items' → starts' ≡ starts ++ m ∷ [] →
+    IsJoined starts' items' (n + 1) IsPiece
+joined-pushed starts starts' items items' more n m IsPiece is all each long longer =
+    rw (longer, long, all) (joined-more starts items more n IsPiece is (λ piece h. one_behind items more piece (sym all ∙ each piece h)))
+
+-- one piece more, which comes in two runs
+pub joined-runs : {A : Type 0} (starts starts' : List ℕ) (items middle items' one two : List A) (n m : ℕ) (piece_at : ℕ → List A) →
+    IsJoined starts items n (λ k piece. piece ≡ piece_at k) → one ++ two ≡ piece_at n → middle ≡ items ++ one → items' ≡ middle ++ two → m ≡ length items' →
+    starts' ≡ starts ++ m ∷ [] → IsJoined starts' items' (n + 1) (λ k piece. piece ≡ piece_at k)
+joined-runs {A} starts starts' items middle items' one two n m piece_at is this first second long longer =
+    let all : items' ≡ items ++ (one ++ two) = second ∙ ap (λ (z : List A). z ++ two) first ∙ append_assoc items one two in
+    joined-pushed starts starts' items items' (one ++ two) n m (λ k piece. piece ≡ piece_at k) is all
+    (λ piece h. all ∙ ap (λ (z : List A). items ++ z) (this ∙ sym h)) long longer
 
 -- so the list can be cut there
-pub joined-IsCut : (starts : List ℕ) (turns : List Turn) (n : ℕ) (string : ℕ → List Turn) → IsJoined starts turns n string → IsCut starts turns
-joined-IsCut starts turns n string is = record {
+pub joined-IsCut : {A : Type 0} (starts : List ℕ) (items : List A) (n : ℕ) (IsPiece : ℕ → List A → Type 0) → IsJoined starts items n IsPiece → IsCut starts items
+joined-IsCut starts items n IsPiece is = record {
   some = omega (arith, is.count);
-  ordered = λ d b. is.ordered d (omega (arith, is.count));
-  inside = λ d b. is.inside d (omega (arith, is.count));
+  ordered = λ k b. is.ordered k (omega (arith, is.count));
+  inside = λ k b. is.inside k (omega (arith, is.count));
 }
 
--- into those strings
-pub joined-cut : (starts : List ℕ) (turns : List Turn) (n : ℕ) (string : ℕ → List Turn) → IsJoined starts turns n string → (length (cut starts turns) ≡ n) × ((d : ℕ) → d < n → get_or (cut starts turns) d [] ≡ string d)
-joined-cut starts turns n string is = (
-  omega (arith, length-cut starts turns (omega (arith, is.count)), is.count),
-  λ d b. get_or-cut starts turns d (omega (arith, is.count)) ∙ is.pieces d b,
+-- into those pieces
+pub joined-cut : {A : Type 0} (starts : List ℕ) (items : List A) (n : ℕ) (IsPiece : ℕ → List A → Type 0) → IsJoined starts items n IsPiece →
+    (length (cut starts items) ≡ n) × ((k : ℕ) → k < n → (piece : List A) → IsPiece k piece → get_or (cut starts items) k [] ≡ piece)
+joined-cut starts items n IsPiece is = (
+  omega (arith, length-cut starts items (omega (arith, is.count)), is.count),
+  λ k b piece h. get_or-cut starts items k (omega (arith, is.count)) ∙ is.pieces k b piece h,
 )

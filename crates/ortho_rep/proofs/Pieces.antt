@@ -5,24 +5,24 @@ use Rattle.std.specs.declared.alloc.Global.{Global}
 use Rattle.ortho_rep.specs.declared.turn.Turn.{Turn}
 use Rattle.ortho_rep.specs.Storage.{cut, cut_from, lists_in}
 
-length-cut_from : (start : ℕ) (ends : List ℕ) (turns : List Turn) → length (cut_from start ends turns) ≡ length ends
-length-cut_from start [] turns = refl
-length-cut_from start (end ∷ ends) turns = ap suc (length-cut_from end ends turns)
+length-cut_from : {A : Type 0} (start : ℕ) (ends : List ℕ) (items : List A) → length (cut_from start ends items) ≡ length ends
+length-cut_from start [] items = refl
+length-cut_from start (end ∷ ends) items = ap suc (length-cut_from end ends items)
 
 -- there is one piece less than there are places
-pub length-cut : (starts : List ℕ) (turns : List Turn) → 0 < length starts → length (cut starts turns) + 1 ≡ length starts
-length-cut [] turns some = absurd (omega arith)
-length-cut (start ∷ ends) turns some = omega (arith, length-cut_from start ends turns)
+pub length-cut : {A : Type 0} (starts : List ℕ) (items : List A) → 0 < length starts → length (cut starts items) + 1 ≡ length starts
+length-cut [] items some = absurd (omega arith)
+length-cut (start ∷ ends) items some = omega (arith, length-cut_from start ends items)
 
-get_or-cut_from : (d start : ℕ) (ends : List ℕ) (turns : List Turn) → d < length ends → get_or (cut_from start ends turns) d [] ≡ slice_range turns (get_or (start ∷ ends) d 0) (get_or ends d 0)
-get_or-cut_from d start [] turns within = absurd (omega arith)
-get_or-cut_from zero start (end ∷ ends) turns within = refl
-get_or-cut_from (suc d) start (end ∷ ends) turns within = get_or-cut_from d end ends turns (omega arith)
+get_or-cut_from : {A : Type 0} (k start : ℕ) (ends : List ℕ) (items : List A) → k < length ends → get_or (cut_from start ends items) k [] ≡ slice_range items (get_or (start ∷ ends) k 0) (get_or ends k 0)
+get_or-cut_from k start [] items within = absurd (omega arith)
+get_or-cut_from zero start (end ∷ ends) items within = refl
+get_or-cut_from (suc k) start (end ∷ ends) items within = get_or-cut_from k end ends items (omega arith)
 
--- piece d is what stands between place d and place d + 1
-pub get_or-cut : (starts : List ℕ) (turns : List Turn) (d : ℕ) → d + 1 < length starts → get_or (cut starts turns) d [] ≡ slice_range turns (get_or starts d 0) (get_or starts (d + 1) 0)
-get_or-cut [] turns d within = absurd (omega arith)
-get_or-cut (start ∷ ends) turns d within = rw add-one (get_or-cut_from d start ends turns (omega arith))
+-- piece k is what stands between place k and place k + 1
+pub get_or-cut : {A : Type 0} (starts : List ℕ) (items : List A) (k : ℕ) → k + 1 < length starts → get_or (cut starts items) k [] ≡ slice_range items (get_or starts k 0) (get_or starts (k + 1) 0)
+get_or-cut [] items k within = absurd (omega arith)
+get_or-cut (start ∷ ends) items k within = rw add-one (get_or-cut_from k start ends items (omega arith))
 
 -- short vectors hold short lists
 pub lists_in-short : (vectors : List (Vec Turn Global)) (m : ℕ) → All (λ (v : Vec Turn Global). vec_len v ≤ m) vectors → All (λ (l : List Turn). length l ≤ m) (lists_in vectors)

@@ -1,5 +1,4 @@
--- How the strings of a shape are kept: as a list a dart, or as one list of turns with the places where
--- each dart's turns start.
+-- How lists of items are kept: each by itself, or all items in one list with the places where those of each list start.
 use Rattle.std.specs.Prelude.{ℕ, ◌+◌, ◌<◌, ◌≤◌, List, [], ◌∷◌, map, length, slice_index, slice_range, All, Vec}
 use Rattle.std.specs.declared.alloc.Global.{Global}
 use Rattle.embedding.specs.declared.graphs.TheConstants.{MAX_DARTS}
@@ -7,24 +6,24 @@ use Rattle.ortho_rep.specs.declared.strings.TheConstants.{MAX_TURNS}
 use Rattle.ortho_rep.specs.declared.turn.Turn.{Turn}
 
 -- the lists of a list of vectors
-abbrev pub lists_in : List (Vec Turn Global) → List (List Turn)
+abbrev pub lists_in : {A : Type 0} → List (Vec A Global) → List (List A)
 lists_in vectors = map (λ v. v.items) vectors
 
 -- the pieces of a list from place `start` on, cut at each of the further places
-abbrev pub cut_from : ℕ → List ℕ → List Turn → List (List Turn)
-cut_from start [] turns = []
-cut_from start (end ∷ ends) turns = slice_range turns start end ∷ cut_from end ends turns
+abbrev pub cut_from : {A : Type 0} → ℕ → List ℕ → List A → List (List A)
+cut_from start [] items = []
+cut_from start (end ∷ ends) items = slice_range items start end ∷ cut_from end ends items
 
 -- the pieces of a list between each two places that follow one another
-abbrev pub cut : List ℕ → List Turn → List (List Turn)
-cut [] turns = []
-cut (start ∷ ends) turns = cut_from start ends turns
+abbrev pub cut : {A : Type 0} → List ℕ → List A → List (List A)
+cut [] items = []
+cut (start ∷ ends) items = cut_from start ends items
 
 -- the places stand in order within the list
-pub record IsCut (starts : List ℕ) (turns : List Turn) : Type 0 where
+pub record IsCut {A : Type 0} (starts : List ℕ) (items : List A) : Type 0 where
   pub some : 0 < length starts
-  pub ordered : (d : ℕ) → d + 1 < length starts → slice_index starts d ≤ slice_index starts (d + 1)
-  pub inside : (d : ℕ) → d < length starts → slice_index starts d ≤ length turns
+  pub ordered : (k : ℕ) → k + 1 < length starts → slice_index starts k ≤ slice_index starts (k + 1)
+  pub inside : (k : ℕ) → k < length starts → slice_index starts k ≤ length items
 
 -- a string for each of at most 1,020 darts, of at most 1,000,000 turns
 pub record IsShort (strings : List (List Turn)) : Type 0 where

@@ -1,14 +1,13 @@
--- What a stored list of strings stands for.
+-- What stored lists stand for.
 use Rattle.std.specs.Prelude.{List}
-use Rattle.ortho_rep.specs.declared.turn.Turn.{Turn}
-use Rattle.ortho_rep.specs.declared.strings.Store.{Store}
-use Rattle.ortho_rep.specs.declared.strings.Store.TheVariants.{Lists, Joined}
-use Rattle.ortho_rep.specs.Storage.{lists_in, cut, IsCut, IsShort}
+use Rattle.ortho_rep.specs.declared.lists.Store.{Store}
+use Rattle.ortho_rep.specs.declared.lists.Store.TheVariants.{Apart, Joined}
+use Rattle.ortho_rep.specs.Storage.{lists_in, cut, IsCut}
 
-abbrev pub strings_in : Store → List (List Turn)
-strings_in (Lists lists) = lists_in lists.items
-strings_in (Joined turns starts) = cut starts.items turns.items
+abbrev pub lists_of : {A : Type 0} → Store A → List (List A)
+lists_of (Apart lists) = lists_in lists.items
+lists_of (Joined items starts) = cut starts.items items.items
 
-abbrev pub IsStored : Store → Type 0
-IsStored (Lists lists) = IsShort (lists_in lists.items)
-IsStored (Joined turns starts) = IsShort (cut starts.items turns.items) × IsCut starts.items turns.items
+abbrev pub IsStored : {A : Type 0} → Store A → Type 0
+IsStored (Apart lists) = Unit {0}
+IsStored (Joined items starts) = IsCut starts.items items.items

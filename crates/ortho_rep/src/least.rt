@@ -9,12 +9,13 @@ ghost use Rattle.ortho_rep.specs.Representation.{IsShape, IsLeast};
 ghost use Rattle.ortho_rep.specs.Prices.{IsProof};
 
 use crate::prices::Prices;
+use crate::scratch::Scratch;
 use crate::shape::Shape;
 use crate::strings::Strings;
 use crate::turn::Turn;
 use faces::Plane;
 use flow_network::FaceNet;
-use min_cost_flow::{Network, SolveFault, Solved, solve};
+use min_cost_flow::{Network, SolveFault, Solved, solve_in};
 use std::alloc::{AllocError, Global};
 
 /// An orthogonal representation of the plane with the fewest bends, and prices that prove it least.
@@ -30,9 +31,30 @@ pub fn least_shape(alloc: Global, plane: &Plane) -> Result<(Shape, Prices), Allo
     ensures least { IfOk result (λ found. IsLeast plane.now found.0) }
     ensures proof { IfOk result (λ found. IsProof plane.now found.0 found.1) }
 {
-    let net = FaceNet::build(alloc, plane)?;
-    let solved = least_flow(alloc, net.network())?;
-    shape_in(alloc, plane, &net, &solved)
+    let mut scratch = Scratch::empty(alloc);
+    least_shape_in(alloc, &mut scratch, plane)
+}
+
+/// The same as [`least_shape`], in memory that is lent.
+///
+/// # Errors
+///
+/// As those of [`least_shape`].
+pub fn least_shape_in(
+    alloc: Global,
+    scratch: &mut Scratch,
+    plane: &Plane,
+) -> Result<(Shape, Prices), AllocError>
+    ensures shape { IfOk result (λ found. IsShape plane.now found.0) }
+    ensures least { IfOk result (λ found. IsLeast plane.now found.0) }
+    ensures proof { IfOk result (λ found. IsProof plane.now found.0 found.1) }
+{
+    let net = FaceNet::build_in(alloc, &mut scratch.net, plane)?;
+    let solved = least_flow(alloc, &mut scratch.solver, net.network())?;
+    let made = shape_in(alloc, plane, &net, &solved)?;
+    solved.give_back(&mut scratch.solver);
+    net.give_back(&mut scratch.net);
+    Ok(made)
 }
 
 /// The representation that a flow of least cost is, and its prices.
@@ -61,11 +83,15 @@ pub(crate) fn shape_in(
 }
 
 /// A flow of least cost in a network that has some flow.
-fn least_flow(alloc: Global, network: &Network) -> Result<Solved, AllocError>
+fn least_flow(
+    alloc: Global,
+    scratch: &mut min_cost_flow::Scratch,
+    network: &Network,
+) -> Result<Solved, AllocError>
     requires { (x : ℕ → ℕ) × Flow network.now x }
     ensures { IfOk result (λ solved. Solves network.now solved) }
 {
-    match solve(alloc, network) {
+    match solve_in(alloc, scratch, network) {
         Ok(solved) => Ok(solved),
         Err(SolveFault::Memory) => Err(AllocError),
         Err(SolveFault::Infeasible) => unreachable!(),
@@ -146,7 +172,7 @@ fn strings_in(
             Turn::Right,
             crossing_flow(plane, net, solved, graph.reverse(dart)),
         )?;
-        starts.push(turns.len() as u32)?;
+        starts.push(turns.len())?;
     }
     Ok(Strings::joined(turns, starts))
 }

@@ -4,19 +4,22 @@
 mod best;
 mod certificate;
 mod least;
+mod lists;
 mod points;
 mod prices;
 mod representation;
+mod scratch;
 mod shape;
 mod strings;
 mod turn;
 
 pub use best::best_shape;
 pub use certificate::certify;
-pub use least::least_shape;
+pub use least::{least_shape, least_shape_in};
 pub use points::{MAX_COORDINATE, Point, Points};
 pub use prices::Prices;
 pub use representation::is_shape;
+pub use scratch::Scratch;
 pub use shape::Shape;
 pub use strings::MAX_TURNS;
 pub use turn::Turn;

@@ -2,7 +2,9 @@
 
 ghost use Rattle.std.specs.Prelude.{◌≡◌, ◌<◌, ◌≤◌, length};
 ghost use Rattle.ortho_rep.specs.Points.{vertex_point, corners_at, point_lists};
+ghost use Rattle.ortho_rep.specs.Storage.{cut, IsCut};
 
+use crate::lists::Lists;
 use std::marker::Model;
 
 /// The greatest coordinate of the grid; the least is 0.
@@ -23,18 +25,15 @@ pub struct Point {
 #[derive(Debug, Drop)]
 pub struct Points {
     vertices: Vec<Point>,
-    corners: Vec<Vec<Point>>,
+    corners: Lists<Point>,
 }
 
 impl Model for Points {
-    ghost use Rattle.ortho_rep.specs.Points.{PointsModel, point_lists};
+    ghost use Rattle.ortho_rep.specs.Points.{PointsModel};
 
     ghost Value = { PointsModel };
 
-    ghost view = { λ a. record {
-      vertices = a.vertices.items;
-      corners = point_lists a.corners.items;
-    } };
+    ghost view = { λ a. record { vertices = a.vertices.items; corners = a.corners } };
 }
 
 impl Points {
@@ -43,7 +42,22 @@ impl Points {
     pub fn new(vertices: Vec<Point>, corners: Vec<Vec<Point>>) -> Points
         ensures { result ≡ record { vertices = vertices.items; corners = point_lists corners.items } }
     {
-        Points { vertices, corners }
+        Points {
+            vertices,
+            corners: Lists::apart(corners),
+        }
+    }
+
+    /// These points: that of vertex v at place v - 1 of the first list, and of the second the corners of
+    /// edge e from place `starts[e]` to place `starts[e + 1]`. It takes no memory.
+    pub fn joined(vertices: Vec<Point>, corners: Vec<Point>, starts: Vec<usize>) -> Points
+        requires { IsCut starts.items corners.items }
+        ensures { result ≡ record { vertices = vertices.items; corners = cut starts.items corners.items } }
+    {
+        Points {
+            vertices,
+            corners: Lists::joined(corners, starts),
+        }
     }
 
     /// How many vertices have a point.
@@ -81,6 +95,6 @@ impl Points {
         requires { edge < length self.now.corners }
         ensures { result.now ≡ corners_at self.now edge }
     {
-        self.corners[usize::from(edge)].as_slice()
+        self.corners.get(usize::from(edge))
     }
 }

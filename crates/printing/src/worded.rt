@@ -30,14 +30,20 @@ impl Numbered for Worded<Framed> {
 impl Staged for Worded<Framed> {
     type Next = Worded<Embedded>;
 
+    type Scratch = <Framed as Staged>::Scratch;
+
     const STAGE: Stage = Stage::Embed;
 
-    fn next(self, alloc: Global) -> Worded<Embedded>
+    fn scratch(alloc: Global) -> <Framed as Staged>::Scratch {
+        <Framed as Staged>::scratch(alloc)
+    }
+
+    fn next(self, alloc: Global, scratch: &mut <Framed as Staged>::Scratch) -> Worded<Embedded>
         ensures about { ⟦<Embedded as Numbered>⟧.about result.item ≡ ⟦<Framed as Numbered>⟧.about self.item }
         ensures form { result.form ≡ self.form }
     {
         Worded {
-            item: self.item.next(alloc),
+            item: self.item.next(alloc, scratch),
             form: self.form,
         }
     }
@@ -58,14 +64,20 @@ impl Numbered for Worded<Embedded> {
 impl Staged for Worded<Embedded> {
     type Next = Worded<Shaped>;
 
+    type Scratch = <Embedded as Staged>::Scratch;
+
     const STAGE: Stage = Stage::Shape;
 
-    fn next(self, alloc: Global) -> Worded<Shaped>
+    fn scratch(alloc: Global) -> <Embedded as Staged>::Scratch {
+        <Embedded as Staged>::scratch(alloc)
+    }
+
+    fn next(self, alloc: Global, scratch: &mut <Embedded as Staged>::Scratch) -> Worded<Shaped>
         ensures about { ⟦<Shaped as Numbered>⟧.about result.item ≡ ⟦<Embedded as Numbered>⟧.about self.item }
         ensures form { result.form ≡ self.form }
     {
         Worded {
-            item: self.item.next(alloc),
+            item: self.item.next(alloc, scratch),
             form: self.form,
         }
     }
@@ -86,12 +98,18 @@ impl Numbered for Worded<Shaped> {
 impl Staged for Worded<Shaped> {
     type Next = Printed;
 
+    type Scratch = <Shaped as Staged>::Scratch;
+
     const STAGE: Stage = Stage::Draw;
 
-    fn next(self, alloc: Global) -> Printed
+    fn scratch(alloc: Global) -> <Shaped as Staged>::Scratch {
+        <Shaped as Staged>::scratch(alloc)
+    }
+
+    fn next(self, alloc: Global, scratch: &mut <Shaped as Staged>::Scratch) -> Printed
         ensures about { about_of result.entry.value ≡ ⟦<Shaped as Numbered>⟧.about self.item }
         ensures form { result.form ≡ self.form }
     {
-        print(alloc, self.form, self.item.next(alloc))
+        print(alloc, self.form, self.item.next(alloc, scratch))
     }
 }

@@ -8,23 +8,24 @@ ghost use Rattle.rectangles.specs.Rectangles.{IsFilled, AreApart};
 ghost use Rattle.rectangles.specs.Front.{Passes, Reaches};
 
 use crate::Rectangle;
-use std::alloc::{AllocError, Global};
+use std::alloc::AllocError;
 
 // Whether no two of the rectangles have a point in common. They are sorted by their left columns, and all
-// lie below row `height`.
+// lie below row `height`. The front stands in the memory of the list that is lent.
 pub(crate) fn sweep(
-    alloc: Global,
     rectangles: &[Rectangle],
     height: usize,
+    front: &mut Vec<u64>,
 ) -> Result<bool, AllocError>
     requires filled { All IsFilled rectangles.now }
     requires ordered { IsNonDecreasingBy (λ r. r.left) rectangles.now }
     requires low { All (λ r. r.top < height) rectangles.now }
     ensures { IfOk result (λ apart. IsTrue apart ↔ AllPairs AreApart rectangles.now) }
 {
-    let mut front = vec![in alloc; 0u64; height]?;
+    front.clear();
+    front.resize(height, 0)?;
     for rectangle in rectangles {
-        if !pass(&mut front, *rectangle) {
+        if !pass(front, *rectangle) {
             return Ok(false);
         }
     }

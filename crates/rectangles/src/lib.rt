@@ -38,18 +38,32 @@ pub fn all_apart(alloc: Global, mut rectangles: Vec<Rectangle>) -> Result<bool, 
     requires { All IsFilled rectangles.items }
     ensures { IfOk result (λ apart. IsTrue apart ↔ AllPairs AreApart rectangles.items) }
 {
+    all_apart_in(alloc, &mut rectangles, &mut Vec::new(alloc))
+}
+
+/// The same of a list that is lent, which is sorted, with a table in the memory of the other list.
+///
+/// The only error is want of memory, for the table where the list has not enough, or for the map.
+pub fn all_apart_in(
+    alloc: Global,
+    rectangles: &mut Vec<Rectangle>,
+    table: &mut Vec<u64>,
+) -> Result<bool, AllocError>
+    requires { All IsFilled rectangles.old.items }
+    ensures { IfOk result (λ apart. IsTrue apart ↔ AllPairs AreApart rectangles.old.items) }
+{
     rectangles.sort_unstable_by_key(|r| r.left);
-    sweep(alloc, &rectangles)
+    sweep(alloc, rectangles, table)
 }
 
 // The same of rectangles that are sorted by their left columns.
-fn sweep(alloc: Global, rectangles: &[Rectangle]) -> Result<bool, AllocError>
+fn sweep(alloc: Global, rectangles: &[Rectangle], table: &mut Vec<u64>) -> Result<bool, AllocError>
     requires filled { All IsFilled rectangles.now }
     requires ordered { IsNonDecreasingBy (λ r. r.left) rectangles.now }
     ensures { IfOk result (λ apart. IsTrue apart ↔ AllPairs AreApart rectangles.now) }
 {
     match table_height(rectangles) {
-        Some(height) => front::sweep(alloc, rectangles, height),
+        Some(height) => front::sweep(rectangles, height, table),
         None => stack::sweep(alloc, rectangles),
     }
 }

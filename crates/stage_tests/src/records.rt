@@ -191,7 +191,8 @@ fn pass<S: Staged>(
 ) -> S::Next {
     same(rt, (staged.file(), staged.ordinal()), about);
     same(rt, S::STAGE, stage);
-    staged.next(alloc)
+    let mut scratch = S::scratch(alloc);
+    staged.next(alloc, &mut scratch)
 }
 
 /// The entry of a record, stage by stage.

@@ -12,7 +12,7 @@ returns-clause-under c = λ y along.
     let around = c.args.around.now in
     let are = c.requires.steps in
     let size : length c.deref_mut.result.now ≡ n = omega (arith, c.deref_mut.ensures.len, c.in_ok-numbers.ensures.len, c.vertices.ensures.value) in
-    let blank = c.deref_mut.ensures.value ∙ c.in_ok-numbers.ensures.items_if_clones_equal (λ y h. h) in
+    let blank = c.deref_mut.ensures.value ∙ c.in_ok-numbers.ensures.items in
     subst (λ (xs : List ℕ). AreUnder n xs y)
     (sym (take_at c.raise_rows.new.numbers _ c.in_ok-numbers.numbers.len (omega (arith, c.in_ok-raise_rows.ensures.count, c.deref_mut.ensures.len))))
     (all_at (step around c.args.ahead) (step around c.args.up) (step around c.args.down) n _ _ _ size c.in_ok-raise_rows.ensures.under y

@@ -10,7 +10,7 @@ use Rattle.compact.proofs.axis.numbers_along.Goals as goal
 pub settle-settled-requires-clause-low : goal.settle-settled-requires-clause-low
 settle-settled-requires-clause-low c = λ y keeps v v_in.
     let kept = subst (λ (gs : List Constraint). Keeps gs y) c.deref-2.ensures.value keeps in
-    let along = all_along (web c.args.boxes.now) (growth c.args.axis) c.in-Ok-constraints_along.constraints.items y c.in-Ok-constraints_along.ensures kept in
+    let along = all_along (web c.args.boxes.now) (growth c.args.axis) c.constraints_along.new.constraints.items y c.in-Ok-constraints_along.ensures kept in
     subst (λ (xs : List ℕ). slice_index xs v ≤ y v) (sym c.deref_mut.ensures.value)
     (c.in-Ok.ensures.under y along v (omega (arith, v_in, c.deref_mut.ensures.len, c.in-Ok.ensures.count)))
 
@@ -30,7 +30,7 @@ returns-clause-along c =
     let size : length c.settle-settled.new.numbers ≡ c.in-Ok.numbers.len = omega (arith, c.if-not-settled.ensures.length, c.deref_mut.ensures.len) in
     subst (λ (xs : List ℕ). IsAlong (web c.args.boxes.now) (growth c.args.axis) (λ v. slice_index xs v))
     (sym (take_at c.settle-settled.new.numbers _ c.in-Ok.numbers.len size))
-    (all_along (web c.args.boxes.now) (growth c.args.axis) c.in-Ok-constraints_along.constraints.items x c.in-Ok-constraints_along.ensures keeps)
+    (all_along (web c.args.boxes.now) (growth c.args.axis) c.constraints_along.new.constraints.items x c.in-Ok-constraints_along.ensures keeps)
 
 pub returns-clause-least : goal.returns-clause-least
 returns-clause-least c = λ y along v v_in.

@@ -1,8 +1,5 @@
-use Rattle.std.proofs.Common.{◌<◌, ◌≤◌}
+use Rattle.std.proofs.Common.{◌<◌}
 use Rattle.compact.proofs.corners.turn_count.Given as goal
 
-abbrev pub invariant-loop : goal.invariant-loop
-invariant-loop l = record {
-  inside : l.dart < l.boxes.darts;
-  few : l.count ≤ l.counter;
-}
+abbrev pub invariant-loop-k : goal.invariant-loop-k
+invariant-loop-k l = l.count < l.k

@@ -1,17 +1,13 @@
 use Rattle.std.proofs.Common.{◌≡◌, ◌∙◌, ◌++◌, ℕ, List, [], ◌∷◌, length, slice_index, slice_index_or, ap, arith, subst, sym, refl}
-use Rattle.cutting.specs.Webs.{Web}
 use Rattle.cutting.specs.Tables.{web_of}
 use Rattle.cutting.specs.Paths.{IsPath}
 use Rattle.dissect.proofs.Joined.{IsPathOf}
-use Rattle.dissect.proofs.Pieces.{IsJoined, joined-none, joined-pushed, joined-IsCut, joined-cut}
+use Rattle.ortho_rep.proofs.Joined.{joined-starts, joined-pushed, joined-IsCut, joined-cut}
 use Rattle.dissect.proofs.parts.paths_of.Goals as goal
-
-none_yet : (starts items : List ℕ) (w : Web) (es : List ℕ) → starts ≡ 0 ∷ [] → items ≡ [] → IsJoined starts items 0 (IsPathOf w es)
-none_yet starts items w es s i = rw (s, i) (joined-none (IsPathOf w es))
 
 pub edges-init : goal.edges-init
 edges-init c =
-    none_yet c.push.new.self.items c.in_ok-darts.darts.items (web_of c.args.table.now) c.args.edges.now
+    joined-starts c.push.new.self.items c.in_ok-darts.darts.items (IsPathOf (web_of c.args.table.now) c.args.edges.now)
     (c.in_ok-push.ensures.items ∙ ap (λ (s : List ℕ). s ++ (0 ∷ [])) c.in_ok-starts.ensures.items) c.in_ok-darts.ensures.items
 
 pub push_path-requires : goal.push_path-requires

@@ -1,5 +1,5 @@
 use Rattle.std.proofs.Common.{sym}
-use Rattle.dissect.proofs.Pieces.{get_or-cut}
+use Rattle.ortho_rep.proofs.Pieces.{get_or-cut}
 use Rattle.dissect.proofs.paths.piece.Goals as goal
 
 pub returns : goal.returns

@@ -1,11 +1,10 @@
-use Rattle.std.proofs.Common.{◌≡◌, ◌↔◌, ◌++◌, [], ◌∷◌, Bool, true, false, List, map, length, get_or, sym, ap, ◌∙◌, arith, AllPairs, ℕ, refl}
+use Rattle.std.proofs.Common.{◌≡◌, ◌++◌, [], ◌∷◌, true, false, List, map, length, get_or, sym, ap, ◌∙◌, arith, ℕ, refl}
 use Rattle.std.specs.List.{flat_map}
 use Rattle.std.proofs.lemmas.Bool.{lt-ltb, le-ltb}
 use Rattle.std.proofs.lemmas.List.{map_more, take_all, append-nil}
 use Rattle.std.proofs.lemmas.List.Elements.{All-append}
-use Rattle.std.proofs.lemmas.Result.{IfOk-weaker}
 use Rattle.rectangles.specs.declared.Rectangle.{Rectangle}
-use Rattle.rectangles.specs.Rectangles.{IsFilled, AreApart}
+use Rattle.rectangles.specs.Rectangles.{IsFilled}
 use Rattle.faces.specs.Planes.{darts, reverse_dart}
 use Rattle.ortho_rep.specs.declared.points.Point.{Point}
 use Rattle.ortho_rep.specs.Points.{origin}
@@ -70,8 +69,8 @@ loop-dart-preserved c =
           }
     ]
 
-pub all_apart-requires : goal.all_apart-requires
-all_apart-requires c =
+pub all_apart_in-requires : goal.all_apart_in-requires
+all_apart_in-requires c =
     let points = c.args.points.now in
     let ps : List (List Point) = paths_below c.args.plane.now points c.loop-dart.dart in
     rw c.loop-dart.invariant.shown (All-append IsFilled (map (λ (q : Point). span_of q q) points.vertices) (flat_map strips ps) (points_filled points.vertices) (paths_filled ps))
@@ -85,6 +84,4 @@ returns c =
     let whole : c.loop-dart.dart ≡ darts p = omega (arith, count) in
     let shown = c.loop-dart.invariant.shown ∙ ap (λ (n : ℕ). base ++ flat_map strips (paths_below p points n)) whole in
     let same = apart_is_no_repeat points.vertices (paths p points) c.loop-dart.rectangles.items c.requires.axes shown in
-    IfOk-weaker c.all_apart.result _ _
-    (λ (b : Bool) (h : (b ≡ true) ↔ AllPairs AreApart c.loop-dart.rectangles.items). (λ t. same.0 (h.0 t), λ apart. h.1 (same.1 apart)))
-    c.all_apart.ensures
+    (λ t. same.0 (c.in_ok-apart.ensures.0 t), λ apart. c.in_ok-apart.ensures.1 (same.1 apart))

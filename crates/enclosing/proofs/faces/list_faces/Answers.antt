@@ -15,7 +15,7 @@ darts-init c =
     c.in_ok-outer.ensures.items c.in_ok-walk.ensures.walked in
     let blank : (a : ℕ) → IsMarked c.in_ok-seen.seen.items a → ⊥ =
     λ a m. unmarked c.args.table.now.darts a
-    (subst (λ marks. IsMarked marks a) (c.in_ok-seen.ensures.items_if_clones_equal (λ y h. h)) m) in
+    (subst (λ marks. IsMarked marks a) (c.in_ok-seen.ensures.items) m) in
     rw (c.in_ok-corners.ensures.items, c.in_ok-counts.ensures.items)
     (trace_begins w c.args.right c.in_ok-seen.seen.items c.walk.new.seen.items c.walk.new.corners.items blank
     (omega (arith, c.in_ok-seen.ensures.len, c.in_ok-walk.ensures.size, c.walk.new.seen.ok.0)) walked)

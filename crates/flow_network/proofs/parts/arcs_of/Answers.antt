@@ -1,5 +1,4 @@
-use Rattle.std.proofs.Common.{◌≡◌, ◌<◌, ◌+◌, ◌-◌, ℕ, List, length, get_or, arith, refl, sym, ap, subst, zero-add, ◌∙◌}
-use Rattle.networks.specs.declared.arc.Arc.{Arc}
+use Rattle.std.proofs.Common.{◌≡◌, ◌+◌, ◌-◌, ℕ, List, length, get_or, arith, sym, ap, subst, zero-add, ◌∙◌}
 use Rattle.networks.specs.declared.arc.Cap.TheVariants.{AtMost, Any}
 use Rattle.networks.specs.Net.{no_arc}
 use Rattle.embedding.specs.Darts.{head_of, reverse_of, dart_count}

@@ -1,8 +1,8 @@
-use Rattle.std.proofs.Common.{◌≡◌, ◌<◌, ◌+◌, ◌-◌, ℕ, List, length, get_or, arith, refl, sym, ap, ◌∙◌}
+use Rattle.std.proofs.Common.{◌≡◌, ◌+◌, ℕ, List, length, get_or, arith, refl, ap, ◌∙◌}
 use Rattle.std.proofs.lemmas.List.{get_or-replicate}
 use Rattle.std.proofs.Math.ListN.{length-set}
 use Rattle.embedding.specs.Darts.{head_of, dart_count}
-use Rattle.faces.specs.Planes.{darts, head}
+use Rattle.faces.specs.Planes.{head}
 use Rattle.flow_network.proofs.Pushing.{ones_few, counts_more}
 use Rattle.flow_network.proofs.parts.count_arrivals.Goals as goal
 

@@ -1,7 +1,5 @@
-use Rattle.std.proofs.Common.{◌≡◌, ◌<◌, ℕ, length, sym, subst, arith}
-use Rattle.std.specs.Prelude.{ℤ, pos, ◌+ℤ◌}
-use Rattle.std.proofs.lemmas.List.{length-set}
-use Rattle.networks.proofs.Moving.{at, raised_low}
+use Rattle.std.proofs.Common.{arith}
+use Rattle.networks.proofs.Moving.{raised_low}
 use Rattle.networks.proofs.units.move_units.Goals as goal
 
 pub lower-requires-clause-node : goal.lower-requires-clause-node

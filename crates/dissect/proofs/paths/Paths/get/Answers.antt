@@ -1,6 +1,6 @@
 use Rattle.std.proofs.Common.{◌≡◌, length, ap, arith}
-use Rattle.dissect.specs.Pieces.{cut}
-use Rattle.dissect.proofs.Pieces.{length-cut}
+use Rattle.ortho_rep.specs.Storage.{cut}
+use Rattle.ortho_rep.proofs.Pieces.{length-cut}
 use Rattle.dissect.proofs.paths.Paths.get.Goals as goal
 
 pub piece-requires-clause-within : goal.piece-requires-clause-within

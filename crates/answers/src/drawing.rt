@@ -1,0 +1,58 @@
+//! How a shape is drawn.
+
+ghost use Rattle.std.specs.Prelude.{IfOk};
+ghost use Rattle.ortho_rep.specs.Representation.{IsShape};
+ghost use Rattle.entries.specs.Drawn.{IsDrawn};
+
+use compact::{BoxesScratch, CompactFault, Scratch, compact_in, dissect_in};
+use drawing_check::{CheckFault, Drawing, check_in};
+use entries::Cause;
+use faces::Plane;
+use ortho_rep::Shape;
+use std::alloc::{AllocError, Global};
+
+/// What drawing takes memory for and does not keep. It is lent to one shape after another.
+#[derive(Drop)]
+pub struct DrawScratch {
+    boxes: BoxesScratch,
+    points: Scratch,
+    check: drawing_check::Scratch,
+}
+
+impl DrawScratch {
+    /// No memory yet.
+    pub fn empty(alloc: Global) -> DrawScratch {
+        DrawScratch {
+            boxes: BoxesScratch::empty(alloc),
+            points: Scratch::empty(alloc),
+            check: drawing_check::Scratch::empty(alloc),
+        }
+    }
+}
+
+/// Points that draw the shape, or why there are none.
+pub(crate) fn draw(
+    alloc: Global,
+    scratch: &mut DrawScratch,
+    plane: &Plane,
+    shape: &Shape,
+) -> Result<Result<Drawing, Cause>, AllocError>
+    requires { IsShape plane.now shape.now }
+    ensures { IfOk result (IsDrawn plane.now shape.now) }
+{
+    let boxes = dissect_in(alloc, &mut scratch.boxes, plane, shape)?;
+    let points = match compact_in(alloc, &mut scratch.points, &boxes) {
+        Ok(points) => points,
+        Err(CompactFault::Wide) => return Ok(Err(Cause::Wide)),
+        Err(CompactFault::Memory) => return Err(AllocError),
+    };
+    boxes.give_back(&mut scratch.boxes);
+    match check_in(alloc, &mut scratch.check, plane, shape, points) {
+        Ok(drawing) => Ok(Ok(drawing)),
+        Err((CheckFault::OutOfGrid, _)) => Ok(Err(Cause::OutOfGrid)),
+        Err((CheckFault::NotAxis, _)) => Ok(Err(Cause::NotAxis)),
+        Err((CheckFault::WrongTurn, _)) => Ok(Err(Cause::WrongTurn)),
+        Err((CheckFault::Meet, _)) => Ok(Err(Cause::Meet)),
+        Err((CheckFault::Memory, _)) => Err(AllocError),
+    }
+}

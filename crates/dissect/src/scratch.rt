@@ -1,0 +1,36 @@
+//! Memory for dissections, which is used again.
+
+ghost use Rattle.std.specs.Prelude.{◌≡◌};
+ghost use Rattle.cutting.specs.Tables.{room};
+
+use bending::Search;
+use cutting::DartTable;
+use enclosing::Faces;
+use std::alloc::Global;
+
+/// Memory that one dissection after another works in. What it holds between two of them is of no use.
+#[derive(Drop)]
+pub struct Scratch {
+    pub(crate) table: DartTable,
+    pub(crate) search: Search,
+    pub(crate) faces: Faces,
+    pub(crate) edges: Vec<u16>,
+    pub(crate) darts: Vec<u32>,
+    pub(crate) starts: Vec<usize>,
+}
+
+impl Scratch {
+    /// No memory yet.
+    pub fn empty(alloc: Global) -> Scratch
+        ensures { room result.table ≡ 0 }
+    {
+        Scratch {
+            table: DartTable::empty(alloc),
+            search: Search::empty(alloc),
+            faces: Faces::empty(alloc),
+            edges: Vec::new(alloc),
+            darts: Vec::new(alloc),
+            starts: Vec::new(alloc),
+        }
+    }
+}

@@ -1,0 +1,118 @@
+//! Shapes that are drawn one after another in memory that is lent: each drawing is the same as in memory of
+//! its own.
+
+use crate::planes::{EDGE, TRIANGLE, bent_triangle_in, plane_of, same, spiral_in};
+use crate::refused::{expect_same_darts, expect_same_old, expect_same_paths};
+use compact::{CompactFault, compact, compact_in};
+use dissect::{Boxes, dissect, dissect_in};
+use drawing_check::check_in;
+use faces::Plane;
+use ortho_rep::{Points, Shape, is_shape};
+use std::alloc::{AllocError, Global};
+use std::process::Abort;
+use std::test::Fail;
+
+/// The memory that all drawings share.
+#[derive(Drop)]
+struct Lent {
+    boxes: dissect::Scratch,
+    points: compact::Scratch,
+    checks: drawing_check::Scratch,
+}
+
+impl Lent {
+    /// No memory yet.
+    fn empty(alloc: Global) -> Lent {
+        Lent {
+            boxes: dissect::Scratch::empty(alloc),
+            points: compact::Scratch::empty(alloc),
+            checks: drawing_check::Scratch::empty(alloc),
+        }
+    }
+}
+
+/// The boxes of a shape in memory that is lent, which are those in memory of its own.
+fn boxes_in(
+    rt: &impl Abort,
+    alloc: Global,
+    lent: &mut dissect::Scratch,
+    plane: &Plane,
+    shape: &Shape,
+) -> Result<Boxes, AllocError> {
+    assert!(rt; is_shape(plane, shape));
+    let own = dissect(alloc, plane, shape)?;
+    let boxes = dissect_in(alloc, lent, plane, shape)?;
+    expect_same_darts(rt, &boxes, &own);
+    expect_same_old(rt, &boxes, &own);
+    expect_same_paths(rt, &boxes, &own);
+    Ok(boxes)
+}
+
+/// Two drawings of so many edges have the same points.
+fn expect_same_points(rt: &impl Abort, edges: u16, one: &Points, other: &Points) {
+    assert!(rt; one.edge_count() == usize::from(edges));
+    assert!(rt; other.edge_count() == usize::from(edges));
+    same(rt, one.vertices(), other.vertices());
+    for edge in 0..edges {
+        same(rt, one.corners(edge), other.corners(edge));
+    }
+}
+
+/// The points of boxes in memory that is lent, which are those in memory of its own.
+fn points_in(
+    rt: &impl Abort,
+    alloc: Global,
+    lent: &mut compact::Scratch,
+    boxes: &Boxes,
+) -> Result<Points, CompactFault> {
+    let own = compact(alloc, boxes)?;
+    let points = compact_in(alloc, lent, boxes)?;
+    expect_same_points(rt, boxes.edges(), &points, &own);
+    Ok(points)
+}
+
+/// The points draw the shape, as a check in memory that is lent finds.
+fn expect_drawing_in(
+    rt: &impl Abort,
+    alloc: Global,
+    lent: &mut drawing_check::Scratch,
+    plane: &Plane,
+    shape: &Shape,
+    points: Points,
+) {
+    assert!(rt; is_shape(plane, shape));
+    assert!(rt; points.vertex_count() == usize::from(plane.graph().vertices()));
+    assert!(rt; points.edge_count() == usize::from(plane.graph().edges()));
+    let fault = match check_in(alloc, lent, plane, shape, points) {
+        Ok(_) => None,
+        Err((fault, _)) => Some(fault),
+    };
+    same(rt, fault, None);
+}
+
+/// A shape of the plane of these bytes is drawn in memory that is lent.
+fn draw_in(
+    rt: &impl Abort,
+    alloc: Global,
+    lent: &mut Lent,
+    bytes: &[u8],
+    shape: Option<Shape>,
+) -> Result<(), Fail> {
+    let plane = plane_of(alloc, bytes)?;
+    let shape = shape.ok_or("no shape")?;
+    let boxes = boxes_in(rt, alloc, &mut lent.boxes, &plane, &shape)?;
+    let points = points_in(rt, alloc, &mut lent.points, &boxes)?;
+    boxes.give_back(&mut lent.boxes);
+    expect_drawing_in(rt, alloc, &mut lent.checks, &plane, &shape, points);
+    Ok(())
+}
+
+#[test]
+fn drawings_in_lent_memory(rt: HostRuntime) -> Result<(), Fail> {
+    let alloc = rt.alloc();
+    let mut lent = Lent::empty(alloc);
+    draw_in(&rt, alloc, &mut lent, &TRIANGLE, bent_triangle_in(alloc))?;
+    draw_in(&rt, alloc, &mut lent, &EDGE, spiral_in(alloc, 0))?;
+    draw_in(&rt, alloc, &mut lent, &EDGE, spiral_in(alloc, 20))?;
+    draw_in(&rt, alloc, &mut lent, &TRIANGLE, bent_triangle_in(alloc))
+}

@@ -1,0 +1,35 @@
+use Rattle.std.proofs.Common.{ℕ, subst, sym}
+use Rattle.networks.specs.Net.{Net}
+use Rattle.networks.specs.Flow.{Flow}
+use Rattle.flow_network.specs.FaceNet.{IsFaceNet}
+use Rattle.flow_network.proofs.Flowing.{net_flows}
+use Rattle.flow_network.proofs.Faultless.{no_fault, arc_ends}
+use Rattle.flow_network.proofs.face_net.FaceNet.build_in.Goals as goal
+
+pub unreachable-requires : goal.unreachable-requires
+unreachable-requires c =
+    let p = c.args.plane.now in
+    let net : Net = record { supplies = c.in_ok-supplies.supplies.items; arcs = c.in_ok-arcs.arcs.items } in
+    let is : IsFaceNet p net = record {
+      nodes = c.in_ok-supplies.ensures.nodes;
+      arcs = c.in_ok-arcs.ensures.arcs;
+      corner = c.in_ok-arcs.ensures.corner;
+      crossing = c.in_ok-arcs.ensures.crossing;
+      at_vertex = c.in_ok-supplies.ensures.at_vertex;
+      at_face = c.in_ok-supplies.ensures.at_face;
+    } in
+    no_fault p net _ c.graph.ensures.plane is c.in-Err.ensures.err.here
+
+pub returns-clause-flow : goal.returns-clause-flow
+returns-clause-flow c =
+    let p = c.args.plane.now in
+    let net : Net = record { supplies = c.in_ok-supplies.supplies.items; arcs = c.in_ok-arcs.arcs.items } in
+    let is : IsFaceNet p net = record {
+      nodes = c.in_ok-supplies.ensures.nodes;
+      arcs = c.in_ok-arcs.ensures.arcs;
+      corner = c.in_ok-arcs.ensures.corner;
+      crossing = c.in_ok-arcs.ensures.crossing;
+      at_vertex = c.in_ok-supplies.ensures.at_vertex;
+      at_face = c.in_ok-supplies.ensures.at_face;
+    } in
+    subst (λ (n : Net). (y : ℕ → ℕ) × Flow n y) (sym c.in-Ok.ensures.ok.0) (net_flows p net c.graph.ensures.plane is (arc_ends p net c.graph.ensures.plane is))
