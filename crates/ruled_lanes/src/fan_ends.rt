@@ -98,13 +98,13 @@ impl<T: Drop> LaneGiver<T> {
         ensures item { IfErr result (λ e. e.0 ≡ item) }
     {
         let mut held = item;
-        for _ in 0..TRIES {
+        for tried in 0..TRIES {
             match self.try_give(rt, held) {
                 Ok(()) => return Ok(()),
                 Err(TrySendError::Full((_, back))) => held = back,
                 Err(refused) => return Err(Closed(refused.into_inner().1)),
             }
-            linger();
+            linger(rt, tried);
         }
         self.wait_and_give(rt, held)
     }
@@ -160,10 +160,10 @@ impl<T: Drop> Gatherer<T> {
         ensures ok { IfOk result (λ item. gathered self.new ≡ gathered self.old ++ item ∷ []) }
         ensures refused { OnErr result (gathered self.new ≡ gathered self.old) }
     {
-        for _ in 0..TRIES {
+        for tried in 0..TRIES {
             match self.try_receive(rt) {
                 Ok(item) => return Ok(item),
-                Err(TryRecvError::Empty) => linger(),
+                Err(TryRecvError::Empty) => linger(rt, tried),
                 Err(TryRecvError::Disconnected) => return Err(Closed(())),
             }
         }

@@ -1,17 +1,36 @@
-//! Waiting for a short while before a thread sleeps: to wake it costs more.
+//! Waiting for a short while before a thread sleeps until it is woken: to wake it costs more.
+ghost use Rattle.std.specs.Prelude.{◌<◌};
+ghost use Rattle.ruled_lanes.specs.declared.lingering.TheConstants.{TRIES};
 
 use std::hint;
+use std::sync::Wait;
+use std::sync::atomic::AtomicU64;
+use std::time::Duration;
 
-/// How often a call that finds its channel full or empty tries again before its thread sleeps.
-pub(crate) const TRIES: u32 = 24;
+/// How often a call that finds its channel full or empty tries again before its thread sleeps until it
+/// is woken.
+pub(crate) const TRIES: u32 = 13;
 
-/// How many pauses of the processor lie between two tries. Each takes 10 to 40 ns, so a thread sleeps
-/// after some 15 to 60 microseconds.
-const PAUSES: u32 = 64;
+/// After so many tries the thread naps between two.
+const SPINS: u32 = 8;
 
-/// Lets a moment pass.
-pub(crate) fn linger() {
-    for _ in 0..PAUSES {
-        hint::spin_loop();
+/// How many pauses of the processor lie between two of the first tries. Each takes 10 to 40 ns.
+const PAUSES: u32 = 16;
+
+/// How long the first nap takes, in microseconds. Each takes twice as long as the one before.
+const NAP: u64 = 30;
+
+/// Lets a moment pass after the try of this number: some pauses at first, then a nap from which the thread
+/// wakes by itself, so that the other end need not wake it. It takes no memory.
+pub(crate) fn linger<R: Wait>(rt: &R, tried: u32)
+    requires tried { tried < TRIES }
+{
+    if tried < SPINS {
+        for _ in 0..PAUSES {
+            hint::spin_loop();
+        }
+    } else {
+        let nap = Duration::from_micros(NAP << (tried - SPINS));
+        AtomicU64::new(0).park_timeout(rt, 0, nap);
     }
 }

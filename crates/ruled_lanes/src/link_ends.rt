@@ -77,13 +77,13 @@ impl<T: Drop> Giver<T> {
         ensures item { IfErr result (λ e. e.0 ≡ item) }
     {
         let mut held = item;
-        for _ in 0..TRIES {
+        for tried in 0..TRIES {
             match self.try_give(rt, held) {
                 Ok(()) => return Ok(()),
                 Err(TrySendError::Full(back)) => held = back,
                 Err(refused) => return Err(Closed(refused.into_inner())),
             }
-            linger();
+            linger(rt, tried);
         }
         self.wait_and_give(rt, held)
     }
@@ -132,10 +132,10 @@ impl<T: Drop> Taker<T> {
         ensures ok { IfOk result (λ item. taken self.new ≡ taken self.old ++ item ∷ []) }
         ensures refused { OnErr result (taken self.new ≡ taken self.old) }
     {
-        for _ in 0..TRIES {
+        for tried in 0..TRIES {
             match self.try_receive(rt) {
                 Ok(item) => return Ok(item),
-                Err(TryRecvError::Empty) => linger(),
+                Err(TryRecvError::Empty) => linger(rt, tried),
                 Err(TryRecvError::Disconnected) => return Err(Closed(())),
             }
         }
