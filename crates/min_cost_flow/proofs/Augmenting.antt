@@ -12,7 +12,7 @@ use Rattle.networks.specs.Net.{Net, node_count, arc_count, arc_at, HasUnitCosts,
 use Rattle.networks.specs.Flow.{leaves, enters, IsWithin, HasRoom, IsResidual, HasPotentials, start_of, end_of, price_of, reduced_cost}
 use Rattle.min_cost_flow.specs.Excess.{KeepsCaps, Carries}
 use Rattle.min_cost_flow.specs.Residual.{IsMoved}
-use Rattle.networks.specs.Layout.{numbers, end_at, code_at, StartsAt, place_of, IsLaidOut, limit_of, IsFilled, carried}
+use Rattle.networks.specs.Layout.{numbers, end_at, cost_at, StartsAt, place_of, IsLaidOut, limit_of, IsFilled, carried}
 use Rattle.min_cost_flow.specs.Path.{IsTight, HasPath}
 use Rattle.min_cost_flow.specs.Round.{IsLess, carrying}
 use Rattle.networks.proofs.Ends.{start_in, end_in, price_most}
@@ -78,7 +78,7 @@ price_least : (net : Net) (i : ℕ) (back : Bool) → HasUnitCosts net → i < a
 price_least net i false costs b = omega (arith, ints)
 price_least net i true costs b = omega (arith, ints, costs i b)
 
--- the code of price z where r fits
+-- the cost of price z where r fits
 coded : ℤ → ℕ → ℤ
 coded z r = cond (eqb r 0) (z +ℤ SHUT) z
 
@@ -90,9 +90,9 @@ coded_some : (z : ℤ) (r : ℕ) → 0 < r → coded z r ≡ z
 unfolding coded
 coded_some z r h = cond-false {A = ℤ} (eqb r 0) (z +ℤ SHUT) z (ne_eqb r 0 (λ e. omega arith))
 
-code_is : (net : Net) (reverse forward : List ℕ) (arcs : List ResidualArc) (room : List ℕ) (i : ℕ) (back : Bool) → IsFilled net reverse forward arcs room → i < arc_count net → code_at arcs (place_of reverse forward i back) ≡ coded (price_of net i back) (numbers room (place_of reverse forward i back))
+code_is : (net : Net) (reverse forward : List ℕ) (arcs : List ResidualArc) (room : List ℕ) (i : ℕ) (back : Bool) → IsFilled net reverse forward arcs room → i < arc_count net → cost_at arcs (place_of reverse forward i back) ≡ coded (price_of net i back) (numbers room (place_of reverse forward i back))
 unfolding coded
-code_is net reverse forward arcs room i back f b = f.code i back b
+code_is net reverse forward arcs room i back f b = f.cost i back b
 
 least_coded : (z c : ℤ) (r : ℕ) → negsuc 0 ≤ℤ z → c ≡ coded z r → negsuc 0 ≤ℤ c
 least_coded z c r h e =
@@ -101,24 +101,24 @@ least_coded z c r h e =
       | inr ne ↦ let t : coded z r ≡ z = coded_some z r (omega arith) in omega (arith, ints)
     ]
 
--- the code of a node's residual arc, and that of its reverse, are not below -1
-pub reverse_code : (net : Net) (first reverse forward : List ℕ) (arcs : List ResidualArc) (room : List ℕ) (v k : ℕ) → IsNetwork net → IsLaidOut net first reverse forward → IsFilled net reverse forward arcs room → v < node_count net → StartsAt first v k → negsuc 0 ≤ℤ code_at arcs (numbers reverse k)
+-- the cost of a node's residual arc, and that of its reverse, are not below -1
+pub reverse_code : (net : Net) (first reverse forward : List ℕ) (arcs : List ResidualArc) (room : List ℕ) (v k : ℕ) → IsNetwork net → IsLaidOut net first reverse forward → IsFilled net reverse forward arcs room → v < node_count net → StartsAt first v k → negsuc 0 ≤ℤ cost_at arcs (numbers reverse k)
 reverse_code net first reverse forward arcs room v k n l f b s =
     let o = l.cover v k b s in
     let back = opposite o.back in
     let e : numbers reverse k ≡ place_of reverse forward o.arc back = reverse_place net first reverse forward k o.arc o.back l o.inside o.place in
-    least_coded (price_of net o.arc back) (code_at arcs (numbers reverse k)) (numbers room (place_of reverse forward o.arc back)) (price_least net o.arc back n.costs o.inside)
-    (ap (code_at arcs) e ∙ code_is net reverse forward arcs room o.arc back f o.inside)
+    least_coded (price_of net o.arc back) (cost_at arcs (numbers reverse k)) (numbers room (place_of reverse forward o.arc back)) (price_least net o.arc back n.costs o.inside)
+    (ap (cost_at arcs) e ∙ code_is net reverse forward arcs room o.arc back f o.inside)
 
 most_coded : (z c : ℤ) (r : ℕ) → z ≤ℤ pos 1 → 0 < r → c ≡ coded z r → c ≤ℤ pos 1
 most_coded z c r h s e = let t : coded z r ≡ z = coded_some z r s in omega (arith, ints)
 
--- where something fits the code is a price
-pub open_code : (net : Net) (first reverse forward : List ℕ) (arcs : List ResidualArc) (room : List ℕ) (v k : ℕ) → IsNetwork net → IsLaidOut net first reverse forward → IsFilled net reverse forward arcs room → v < node_count net → StartsAt first v k → 0 < numbers room k → code_at arcs k ≤ℤ pos 1
+-- where something fits the cost is a price
+pub open_code : (net : Net) (first reverse forward : List ℕ) (arcs : List ResidualArc) (room : List ℕ) (v k : ℕ) → IsNetwork net → IsLaidOut net first reverse forward → IsFilled net reverse forward arcs room → v < node_count net → StartsAt first v k → 0 < numbers room k → cost_at arcs k ≤ℤ pos 1
 open_code net first reverse forward arcs room v k n l f b s some =
     let o = l.cover v k b s in
-    most_coded (price_of net o.arc o.back) (code_at arcs k) (numbers room k) (price_most net o.arc o.back n.costs o.inside) some
-    (subst (λ (t : ℕ). code_at arcs t ≡ coded (price_of net o.arc o.back) (numbers room t)) o.place (code_is net reverse forward arcs room o.arc o.back f o.inside))
+    most_coded (price_of net o.arc o.back) (cost_at arcs k) (numbers room k) (price_most net o.arc o.back n.costs o.inside) some
+    (subst (λ (t : ℕ). cost_at arcs t ≡ coded (price_of net o.arc o.back) (numbers room t)) o.place (code_is net reverse forward arcs room o.arc o.back f o.inside))
 
 -- what fits along a residual arc and its reverse
 both_fit : (net : Net) (reverse forward : List ℕ) (arcs : List ResidualArc) (room : List ℕ) (i : ℕ) (back : Bool) → IsFilled net reverse forward arcs room → i < arc_count net → numbers room (place_of reverse forward i back) + numbers room (place_of reverse forward i (opposite back)) ≡ limit_of (arc_at net i).cap
@@ -158,26 +158,26 @@ give_code z c c' r r' amount some more was is =
 
 -- what a push along residual arc k does to the codes
 pub record IsCoded (reverse : List ℕ) (arcs arcs' : List ResidualArc) (room room' : List ℕ) (k : ℕ) : Type 0 where
-  pub here : code_at arcs' k ≡ cond (eqb (numbers room' k) 0) (code_at arcs k +ℤ SHUT) (code_at arcs k)
-  pub there : code_at arcs' (numbers reverse k) ≡ cond (eqb (numbers room (numbers reverse k)) 0) (code_at arcs (numbers reverse k) -ℤ SHUT) (code_at arcs (numbers reverse k))
-  pub others : (j : ℕ) → j ≢ k → j ≢ numbers reverse k → code_at arcs' j ≡ code_at arcs j
+  pub here : cost_at arcs' k ≡ cond (eqb (numbers room' k) 0) (cost_at arcs k +ℤ SHUT) (cost_at arcs k)
+  pub there : cost_at arcs' (numbers reverse k) ≡ cond (eqb (numbers room (numbers reverse k)) 0) (cost_at arcs (numbers reverse k) -ℤ SHUT) (cost_at arcs (numbers reverse k))
+  pub others : (j : ℕ) → j ≢ k → j ≢ numbers reverse k → cost_at arcs' j ≡ cost_at arcs j
 
-here_coded : (net : Net) (reverse forward : List ℕ) (arcs arcs' : List ResidualArc) (room room' : List ℕ) (i : ℕ) (b : Bool) (k amount : ℕ) → IsFilled net reverse forward arcs room → i < arc_count net → place_of reverse forward i b ≡ k → 0 < amount → IsPushed reverse arcs arcs' room room' k amount → IsCoded reverse arcs arcs' room room' k → code_at arcs' (place_of reverse forward i b) ≡ coded (price_of net i b) (numbers room' (place_of reverse forward i b))
+here_coded : (net : Net) (reverse forward : List ℕ) (arcs arcs' : List ResidualArc) (room room' : List ℕ) (i : ℕ) (b : Bool) (k amount : ℕ) → IsFilled net reverse forward arcs room → i < arc_count net → place_of reverse forward i b ≡ k → 0 < amount → IsPushed reverse arcs arcs' room room' k amount → IsCoded reverse arcs arcs' room room' k → cost_at arcs' (place_of reverse forward i b) ≡ coded (price_of net i b) (numbers room' (place_of reverse forward i b))
 unfolding coded
 here_coded net reverse forward arcs arcs' room room' i b k amount f inside e some s d =
     let z = price_of net i b in
-    let was : code_at arcs k ≡ coded z (numbers room k) = subst (λ (t : ℕ). code_at arcs t ≡ coded z (numbers room t)) e (code_is net reverse forward arcs room i b f inside) in
-    subst (λ (t : ℕ). code_at arcs' t ≡ coded z (numbers room' t)) (sym e) (take_code z (code_at arcs k) (code_at arcs' k) (numbers room k) (numbers room' k) amount some s.less was d.here)
+    let was : cost_at arcs k ≡ coded z (numbers room k) = subst (λ (t : ℕ). cost_at arcs t ≡ coded z (numbers room t)) e (code_is net reverse forward arcs room i b f inside) in
+    subst (λ (t : ℕ). cost_at arcs' t ≡ coded z (numbers room' t)) (sym e) (take_code z (cost_at arcs k) (cost_at arcs' k) (numbers room k) (numbers room' k) amount some s.less was d.here)
 
-there_coded : (net : Net) (reverse forward : List ℕ) (arcs arcs' : List ResidualArc) (room room' : List ℕ) (i : ℕ) (b : Bool) (k amount : ℕ) → IsFilled net reverse forward arcs room → i < arc_count net → place_of reverse forward i b ≡ numbers reverse k → 0 < amount → IsPushed reverse arcs arcs' room room' k amount → IsCoded reverse arcs arcs' room room' k → code_at arcs' (place_of reverse forward i b) ≡ coded (price_of net i b) (numbers room' (place_of reverse forward i b))
+there_coded : (net : Net) (reverse forward : List ℕ) (arcs arcs' : List ResidualArc) (room room' : List ℕ) (i : ℕ) (b : Bool) (k amount : ℕ) → IsFilled net reverse forward arcs room → i < arc_count net → place_of reverse forward i b ≡ numbers reverse k → 0 < amount → IsPushed reverse arcs arcs' room room' k amount → IsCoded reverse arcs arcs' room room' k → cost_at arcs' (place_of reverse forward i b) ≡ coded (price_of net i b) (numbers room' (place_of reverse forward i b))
 unfolding lowered
 there_coded net reverse forward arcs arcs' room room' i b k amount f inside e some s d =
     let z = price_of net i b in
     let r = numbers reverse k in
-    let was : code_at arcs r ≡ coded z (numbers room r) = subst (λ (t : ℕ). code_at arcs t ≡ coded z (numbers room t)) e (code_is net reverse forward arcs room i b f inside) in
-    subst (λ (t : ℕ). code_at arcs' t ≡ coded z (numbers room' t)) (sym e) (give_code z (code_at arcs r) (code_at arcs' r) (numbers room r) (numbers room' r) amount some s.more was d.there)
+    let was : cost_at arcs r ≡ coded z (numbers room r) = subst (λ (t : ℕ). cost_at arcs t ≡ coded z (numbers room t)) e (code_is net reverse forward arcs room i b f inside) in
+    subst (λ (t : ℕ). cost_at arcs' t ≡ coded z (numbers room' t)) (sym e) (give_code z (cost_at arcs r) (cost_at arcs' r) (numbers room r) (numbers room' r) amount some s.more was d.there)
 
-other_coded : (net : Net) (first reverse forward : List ℕ) (arcs arcs' : List ResidualArc) (room room' : List ℕ) (i j : ℕ) (b c : Bool) (k amount : ℕ) → IsLaidOut net first reverse forward → IsFilled net reverse forward arcs room → i < arc_count net → place_of reverse forward i b ≡ k → IsPushed reverse arcs arcs' room room' k amount → IsCoded reverse arcs arcs' room room' k → j < arc_count net → j ≢ i → code_at arcs' (place_of reverse forward j c) ≡ coded (price_of net j c) (numbers room' (place_of reverse forward j c))
+other_coded : (net : Net) (first reverse forward : List ℕ) (arcs arcs' : List ResidualArc) (room room' : List ℕ) (i j : ℕ) (b c : Bool) (k amount : ℕ) → IsLaidOut net first reverse forward → IsFilled net reverse forward arcs room → i < arc_count net → place_of reverse forward i b ≡ k → IsPushed reverse arcs arcs' room room' k amount → IsCoded reverse arcs arcs' room room' k → j < arc_count net → j ≢ i → cost_at arcs' (place_of reverse forward j c) ≡ coded (price_of net j c) (numbers room' (place_of reverse forward j c))
 other_coded net first reverse forward arcs arcs' room room' i j b c k amount l f inside e s d inside' ne =
     let q = place_of reverse forward j c in
     let z = price_of net j c in
@@ -185,7 +185,7 @@ other_coded net first reverse forward arcs arcs' room room' i j b c k amount l f
     let apart' : q ≢ numbers reverse k = λ h. ne (l.alone j i c (opposite b) inside' inside (h ∙ reverse_place net first reverse forward k i b l inside e)).0 in
     d.others q apart apart' ∙ code_is net reverse forward arcs room j c f inside' ∙ ap (coded z) (sym (s.others q apart apart'))
 
-pushed_code : (net : Net) (first reverse forward : List ℕ) (arcs arcs' : List ResidualArc) (room room' : List ℕ) (i j : ℕ) (b c : Bool) (k amount : ℕ) → IsLaidOut net first reverse forward → IsFilled net reverse forward arcs room → i < arc_count net → place_of reverse forward i b ≡ k → 0 < amount → IsPushed reverse arcs arcs' room room' k amount → IsCoded reverse arcs arcs' room room' k → j < arc_count net → code_at arcs' (place_of reverse forward j c) ≡ coded (price_of net j c) (numbers room' (place_of reverse forward j c))
+pushed_code : (net : Net) (first reverse forward : List ℕ) (arcs arcs' : List ResidualArc) (room room' : List ℕ) (i j : ℕ) (b c : Bool) (k amount : ℕ) → IsLaidOut net first reverse forward → IsFilled net reverse forward arcs room → i < arc_count net → place_of reverse forward i b ≡ k → 0 < amount → IsPushed reverse arcs arcs' room room' k amount → IsCoded reverse arcs arcs' room room' k → j < arc_count net → cost_at arcs' (place_of reverse forward j c) ≡ coded (price_of net j c) (numbers room' (place_of reverse forward j c))
 pushed_code net first reverse forward arcs arcs' room room' i j b c k amount l f inside e some s d inside' =
     elim (cases_eq j i) [
       | inl q ↦ elim (which_way b c) [
@@ -228,7 +228,7 @@ pushed_filled net first reverse forward arcs arcs' room room' v k amount l f b s
       arc_size = sizes ∙ f.arc_size;
       room_size = sizes' ∙ f.room_size;
       end = λ j c h. s.ends (place_of reverse forward j c) ∙ f.end j c h;
-      code = λ j c h. pushed_code net first reverse forward arcs arcs' room room' o.arc j o.back c k amount l f o.inside o.place some s d h;
+      cost = λ j c h. pushed_code net first reverse forward arcs arcs' room room' o.arc j o.back c k amount l f o.inside o.place some s d h;
       fits = λ j h. pushed_fits net first reverse forward arcs arcs' room room' o.arc j o.back k amount l f o.inside o.place s h;
     }
 
@@ -358,8 +358,8 @@ pub tight_link : (net : Net) (first reverse forward : List ℕ) (arcs : List Res
 tight_link net first reverse forward arcs room p u k v n l f b t =
     let o = l.cover u k b t.leaves in
     let z = price_of net o.arc o.back in
-    let code : code_at arcs k ≡ coded z (numbers room k) = subst (λ (q : ℕ). code_at arcs q ≡ coded z (numbers room q)) o.place (code_is net reverse forward arcs room o.arc o.back f o.inside) in
-    let some : 0 < numbers room k = some_coded z (code_at arcs k) (numbers room k) (price_least net o.arc o.back n.costs o.inside) code t.unblocked in
+    let cost : cost_at arcs k ≡ coded z (numbers room k) = subst (λ (q : ℕ). cost_at arcs q ≡ coded z (numbers room q)) o.place (code_is net reverse forward arcs room o.arc o.back f o.inside) in
+    let some : 0 < numbers room k = some_coded z (cost_at arcs k) (numbers room k) (price_least net o.arc o.back n.costs o.inside) cost t.unblocked in
     let finish : end_of net o.arc o.back ≡ v = sym (f.end o.arc o.back o.inside) ∙ ap (end_at arcs) o.place ∙ t.arrives in
     record {
       arc = o.arc;
@@ -369,7 +369,7 @@ tight_link net first reverse forward arcs room p u k v n l f b t =
       start = o.start;
       end = finish;
       some = some;
-      free = free_cost (code_at arcs k) z (p u) (p v) (p (start_of net o.arc o.back)) (p (end_of net o.arc o.back)) t.free (code ∙ coded_some z (numbers room k) some) (ap p o.start) (ap p finish);
+      free = free_cost (cost_at arcs k) z (p u) (p v) (p (start_of net o.arc o.back)) (p (end_of net o.arc o.back)) t.free (cost ∙ coded_some z (numbers room k) some) (ap p o.start) (ap p finish);
     }
 
 -- what a push does to the amount of its own arc, and to the others

@@ -14,8 +14,8 @@ use Rattle.networks.specs.declared.residual.ResidualArc.{ResidualArc}
 use Rattle.networks.specs.Net.{Net, node_count, arc_count, arc_at, HasUnitCosts, IsNetwork}
 use Rattle.networks.specs.Flow.{HasRoom, IsResidual, HasPotentials, HasNoFlow, start_of, end_of, price_of, reduced_cost}
 use Rattle.min_cost_flow.specs.Round.{IsRound}
-use Rattle.networks.specs.Layout.{numbers, end_at, code_at, StartsAt, place_of, limit_of, IsLaidOut, IsFilled, carried}
-use Rattle.shortest_paths.specs.Search.{far, IsCode, IsOpen, IsGraph, IsPriced, IsNear, IsReached, IsHit, IsNearest, IsServed, IsLeft, IsPut, degree, looked}
+use Rattle.networks.specs.Layout.{numbers, end_at, cost_at, StartsAt, place_of, limit_of, IsLaidOut, IsFilled, carried}
+use Rattle.shortest_paths.specs.Search.{far, IsArcCost, IsOpen, IsGraph, IsPriced, IsNear, IsReached, IsHit, IsNearest, IsServed, IsLeft, IsPut, degree, looked}
 use Rattle.min_cost_flow.specs.Path.{HasPath}
 use Rattle.min_cost_flow.proofs.Cut.{no_flow_out}
 use Rattle.networks.proofs.Ends.{start_in, end_in}
@@ -40,9 +40,9 @@ shut_code c z h (a, b) = (omega (arith, ints), omega (arith, ints))
 not_open : (c z : ℤ) → z ≡ c +ℤ SHUT → (negsuc 0 ≤ℤ c) × (c ≤ℤ pos 1) → z ≤ℤ pos 1 → ⊥
 not_open c z h (a, b) o = omega (arith, ints)
 
--- the code of residual arc (i, back): its price where something fits, and more where nothing does
-pub code_cases : (net : Net) (reverse forward : List ℕ) (arcs : List ResidualArc) (room : List ℕ) (i : ℕ) (back : Bool) → IsNetwork net → IsFilled net reverse forward arcs room → i < arc_count net → ((numbers room (place_of reverse forward i back) ≡ 0) × (code_at arcs (place_of reverse forward i back) ≡ price_of net i back +ℤ SHUT)) ⊎ ((0 < numbers room (place_of reverse forward i back)) × (code_at arcs (place_of reverse forward i back) ≡ price_of net i back))
-code_cases net reverse forward arcs room i back k f b = code_when (numbers room (place_of reverse forward i back)) (price_of net i back) (code_at arcs (place_of reverse forward i back)) (f.code i back b) (price_low net i back k.costs b)
+-- the cost of residual arc (i, back): its price where something fits, and more where nothing does
+pub code_cases : (net : Net) (reverse forward : List ℕ) (arcs : List ResidualArc) (room : List ℕ) (i : ℕ) (back : Bool) → IsNetwork net → IsFilled net reverse forward arcs room → i < arc_count net → ((numbers room (place_of reverse forward i back) ≡ 0) × (cost_at arcs (place_of reverse forward i back) ≡ price_of net i back +ℤ SHUT)) ⊎ ((0 < numbers room (place_of reverse forward i back)) × (cost_at arcs (place_of reverse forward i back) ≡ price_of net i back))
+code_cases net reverse forward arcs room i back k f b = code_when (numbers room (place_of reverse forward i back)) (price_of net i back) (cost_at arcs (place_of reverse forward i back)) (f.cost i back b) (price_low net i back k.costs b)
 
 room_open : (c : Cap) (r x : ℕ) → r + x ≡ limit_of c → x ≤ 2097152 → HasRoom c x → 0 < r
 room_open (AtMost k) r x h l o = omega arith
@@ -60,8 +60,8 @@ pub open_residual : (net : Net) (reverse forward : List ℕ) (arcs : List Residu
 open_residual net reverse forward arcs room i false f b o = open_room (arc_at net i).cap (numbers room (place_of reverse forward i false)) (carried reverse forward room i) (f.fits i b) o
 open_residual net reverse forward arcs room i true f b o = o
 
--- a residual arc has its price for a code, which is open
-pub price_open : (net : Net) (reverse forward : List ℕ) (arcs : List ResidualArc) (room : List ℕ) (i : ℕ) (back : Bool) → IsNetwork net → IsFilled net reverse forward arcs room → i < arc_count net → 0 < numbers room (place_of reverse forward i back) → (code_at arcs (place_of reverse forward i back) ≡ price_of net i back) × IsOpen arcs (place_of reverse forward i back)
+-- a residual arc has its price for a cost, which is open
+pub price_open : (net : Net) (reverse forward : List ℕ) (arcs : List ResidualArc) (room : List ℕ) (i : ℕ) (back : Bool) → IsNetwork net → IsFilled net reverse forward arcs room → i < arc_count net → 0 < numbers room (place_of reverse forward i back) → (cost_at arcs (place_of reverse forward i back) ≡ price_of net i back) × IsOpen arcs (place_of reverse forward i back)
 price_open net reverse forward arcs room i back k f b o =
     elim (code_cases net reverse forward arcs room i back k f b) [
       | inl h ↦ absurd (omega (arith, h.0))
@@ -69,10 +69,10 @@ price_open net reverse forward arcs room i back k f b o =
     ]
 
 -- and an open one fits
-pub open_price : (net : Net) (reverse forward : List ℕ) (arcs : List ResidualArc) (room : List ℕ) (i : ℕ) (back : Bool) → IsNetwork net → IsFilled net reverse forward arcs room → i < arc_count net → IsOpen arcs (place_of reverse forward i back) → (0 < numbers room (place_of reverse forward i back)) × (code_at arcs (place_of reverse forward i back) ≡ price_of net i back)
+pub open_price : (net : Net) (reverse forward : List ℕ) (arcs : List ResidualArc) (room : List ℕ) (i : ℕ) (back : Bool) → IsNetwork net → IsFilled net reverse forward arcs room → i < arc_count net → IsOpen arcs (place_of reverse forward i back) → (0 < numbers room (place_of reverse forward i back)) × (cost_at arcs (place_of reverse forward i back) ≡ price_of net i back)
 open_price net reverse forward arcs room i back k f b o =
     elim (code_cases net reverse forward arcs room i back k f b) [
-      | inl h ↦ absurd (not_open (price_of net i back) (code_at arcs (place_of reverse forward i back)) h.1 (price_low net i back k.costs b) o)
+      | inl h ↦ absurd (not_open (price_of net i back) (cost_at arcs (place_of reverse forward i back)) h.1 (price_low net i back k.costs b) o)
       | inr h ↦ h
     ]
 
@@ -86,16 +86,16 @@ is_graph net first reverse forward arcs room k l f =
       rising = l.rising;
       inside = λ v b. omega (arith, l.inside v b);
       end = λ v j b st. let o = l.cover v j b st in subst (λ (t : ℕ). end_at arcs t < node_count net) o.place (subst (λ (t : ℕ). t < node_count net) (sym (f.end o.arc o.back o.inside)) (end_in net o.arc o.back k.ends o.inside));
-      code = λ v j b st.
+      cost = λ v j b st.
           let o = l.cover v j b st in
-          subst (λ (t : ℕ). IsCode (code_at arcs t)) o.place (elim (code_cases net reverse forward arcs room o.arc o.back k f o.inside) [
-            | inl h ↦ inr (shut_code (price_of net o.arc o.back) (code_at arcs (place_of reverse forward o.arc o.back)) h.1 (price_low net o.arc o.back k.costs o.inside))
+          subst (λ (t : ℕ). IsArcCost (cost_at arcs t)) o.place (elim (code_cases net reverse forward arcs room o.arc o.back k f o.inside) [
+            | inl h ↦ inr (shut_code (price_of net o.arc o.back) (cost_at arcs (place_of reverse forward o.arc o.back)) h.1 (price_low net o.arc o.back k.costs o.inside))
             | inr h ↦ inl (subst (λ (z : ℤ). (negsuc 0 ≤ℤ z) × (z ≤ℤ pos 1)) (sym h.1) (price_low net o.arc o.back k.costs o.inside))
           ]);
     }
 
 -- reduced costs by number, and by arc
-pub reduced_by_number : (net : Net) (first reverse forward : List ℕ) (arcs : List ResidualArc) (room : List ℕ) (p : ℕ → ℤ) → IsNetwork net → IsLaidOut net first reverse forward → IsFilled net reverse forward arcs room → HasPotentials net (carried reverse forward room) p → (v k : ℕ) → v < node_count net → StartsAt first v k → IsOpen arcs k → pos 0 ≤ℤ (code_at arcs k +ℤ p v -ℤ p (end_at arcs k))
+pub reduced_by_number : (net : Net) (first reverse forward : List ℕ) (arcs : List ResidualArc) (room : List ℕ) (p : ℕ → ℤ) → IsNetwork net → IsLaidOut net first reverse forward → IsFilled net reverse forward arcs room → HasPotentials net (carried reverse forward room) p → (v k : ℕ) → v < node_count net → StartsAt first v k → IsOpen arcs k → pos 0 ≤ℤ (cost_at arcs k +ℤ p v -ℤ p (end_at arcs k))
 reduced_by_number net first reverse forward arcs room p n l f h v k b st op =
     let o = l.cover v k b st in
     let i = o.arc in
@@ -103,16 +103,16 @@ reduced_by_number net first reverse forward arcs room p n l f h v k b st op =
     let here : IsOpen arcs (place_of reverse forward i back) = subst (λ (t : ℕ). IsOpen arcs t) (sym o.place) op in
     let (fits, price) = open_price net reverse forward arcs room i back n f o.inside here in
     let red : pos 0 ≤ℤ reduced_cost net p i back = h.residual i back o.inside (open_residual net reverse forward arcs room i back f o.inside fits) in
-    let two : pos 0 ≤ℤ (code_at arcs (place_of reverse forward i back) +ℤ p (start_of net i back) -ℤ p (end_at arcs (place_of reverse forward i back))) = rw (price, f.end i back o.inside) red in
-    let one : pos 0 ≤ℤ (code_at arcs (place_of reverse forward i back) +ℤ p v -ℤ p (end_at arcs (place_of reverse forward i back))) = subst (λ (t : ℕ). pos 0 ≤ℤ (code_at arcs (place_of reverse forward i back) +ℤ p t -ℤ p (end_at arcs (place_of reverse forward i back)))) o.start two in
-    subst (λ (t : ℕ). pos 0 ≤ℤ (code_at arcs t +ℤ p v -ℤ p (end_at arcs t))) o.place one
+    let two : pos 0 ≤ℤ (cost_at arcs (place_of reverse forward i back) +ℤ p (start_of net i back) -ℤ p (end_at arcs (place_of reverse forward i back))) = rw (price, f.end i back o.inside) red in
+    let one : pos 0 ≤ℤ (cost_at arcs (place_of reverse forward i back) +ℤ p v -ℤ p (end_at arcs (place_of reverse forward i back))) = subst (λ (t : ℕ). pos 0 ≤ℤ (cost_at arcs (place_of reverse forward i back) +ℤ p t -ℤ p (end_at arcs (place_of reverse forward i back)))) o.start two in
+    subst (λ (t : ℕ). pos 0 ≤ℤ (cost_at arcs t +ℤ p v -ℤ p (end_at arcs t))) o.place one
 
-pub potentials_by_arc : (net : Net) (first reverse forward : List ℕ) (arcs : List ResidualArc) (room : List ℕ) (p : ℕ → ℤ) → IsNetwork net → IsLaidOut net first reverse forward → IsFilled net reverse forward arcs room → ((i : ℕ) → i < arc_count net → carried reverse forward room i ≤ 2097152) → ((v k : ℕ) → v < node_count net → StartsAt first v k → IsOpen arcs k → pos 0 ≤ℤ (code_at arcs k +ℤ p v -ℤ p (end_at arcs k))) → HasPotentials net (carried reverse forward room) p
+pub potentials_by_arc : (net : Net) (first reverse forward : List ℕ) (arcs : List ResidualArc) (room : List ℕ) (p : ℕ → ℤ) → IsNetwork net → IsLaidOut net first reverse forward → IsFilled net reverse forward arcs room → ((i : ℕ) → i < arc_count net → carried reverse forward room i ≤ 2097152) → ((v k : ℕ) → v < node_count net → StartsAt first v k → IsOpen arcs k → pos 0 ≤ℤ (cost_at arcs k +ℤ p v -ℤ p (end_at arcs k))) → HasPotentials net (carried reverse forward room) p
 potentials_by_arc net first reverse forward arcs room p n l f few h = record {
   residual = λ i back b r.
       let fits : 0 < numbers room (place_of reverse forward i back) = residual_open net reverse forward arcs room i back f b (few i b) r in
       let (price, op) = price_open net reverse forward arcs room i back n f b fits in
-      let red : pos 0 ≤ℤ (code_at arcs (place_of reverse forward i back) +ℤ p (start_of net i back) -ℤ p (end_at arcs (place_of reverse forward i back))) = h (start_of net i back) (place_of reverse forward i back) (start_in net i back n.ends b) (l.block i back b) op in
+      let red : pos 0 ≤ℤ (cost_at arcs (place_of reverse forward i back) +ℤ p (start_of net i back) -ℤ p (end_at arcs (place_of reverse forward i back))) = h (start_of net i back) (place_of reverse forward i back) (start_in net i back n.ends b) (l.block i back b) op in
       rw (price, f.end i back b) at red;
 }
 
@@ -178,20 +178,20 @@ near_end c a q qe b' cut h k l = omega (arith, ints)
 label_step : (ps q c qe : ℤ) (n h : ℕ) → n ≤ MAX_NODES → h ≤ n → ps ≤ℤ pos (2 * n) → IsNear ps h q → c ≤ℤ pos 1 → qe ≤ℤ (q +ℤ c) → qe <ℤ far
 label_step ps q c qe n h small le low (a, b) o k = omega (arith, ints)
 
-pub moved_priced : (n : ℕ) (first : List ℕ) (arcs : List ResidualArc) (p p' e : ℕ → ℤ) (s : ℕ) (q : ℕ → ℤ) (enter order place : ℕ → ℕ) (head ordered reached : ℕ) (level cut : ℤ) (f : ℕ) → IsGraph n first arcs → IsPriced n first arcs p e → IsReached n first arcs p e s q enter order place head ordered reached level → IsNearest n first arcs p e s q place head level cut f → IsServed n first arcs p q place cut head → IsLeft n p q place head cut → IsMovedTo n p p' q place head cut → (v k : ℕ) → v < n → StartsAt first v k → IsOpen arcs k → pos 0 ≤ℤ (code_at arcs k +ℤ p' v -ℤ p' (end_at arcs k))
+pub moved_priced : (n : ℕ) (first : List ℕ) (arcs : List ResidualArc) (p p' e : ℕ → ℤ) (s : ℕ) (q : ℕ → ℤ) (enter order place : ℕ → ℕ) (head ordered reached : ℕ) (level cut : ℤ) (f : ℕ) → IsGraph n first arcs → IsPriced n first arcs p e → IsReached n first arcs p e s q enter order place head ordered reached level → IsNearest n first arcs p e s q place head level cut f → IsServed n first arcs p q place cut head → IsLeft n p q place head cut → IsMovedTo n p p' q place head cut → (v k : ℕ) → v < n → StartsAt first v k → IsOpen arcs k → pos 0 ≤ℤ (cost_at arcs k +ℤ p' v -ℤ p' (end_at arcs k))
 moved_priced n first arcs p p' e s q enter order place head ordered reached level cut f g pr r near sv left m v k b st op =
     let eb : end_at arcs k < n = g.end v k b st in
     let fall : p' (end_at arcs k) ≤ℤ p (end_at arcs k) = potentials_fall n first arcs p p' e s q enter order place head ordered reached level cut f r near m (end_at arcs k) eb in
-    let old : p' v ≡ p v → pos 0 ≤ℤ (code_at arcs k +ℤ p' v -ℤ p' (end_at arcs k)) = λ t. subst (λ (z : ℤ). pos 0 ≤ℤ (code_at arcs k +ℤ z -ℤ p' (end_at arcs k))) (sym t) (both_lower (code_at arcs k) (p v) (p (end_at arcs k)) (p' (end_at arcs k)) (pr.reduced v k b st op) fall) in
+    let old : p' v ≡ p v → pos 0 ≤ℤ (cost_at arcs k +ℤ p' v -ℤ p' (end_at arcs k)) = λ t. subst (λ (z : ℤ). pos 0 ≤ℤ (cost_at arcs k +ℤ z -ℤ p' (end_at arcs k))) (sym t) (both_lower (cost_at arcs k) (p v) (p (end_at arcs k)) (p' (end_at arcs k)) (pr.reduced v k b st op) fall) in
     elim (below_or_not (q v) far) [
       | inl l ↦ elim (cases_lt (place v) head) [
-        | inl h ↦ elim (below_or_not (q v +ℤ code_at arcs k -ℤ p (end_at arcs k)) cut) [
+        | inl h ↦ elim (below_or_not (q v +ℤ cost_at arcs k -ℤ p (end_at arcs k)) cut) [
           | inl near ↦
-              let less : q (end_at arcs k) ≤ℤ (q v +ℤ code_at arcs k) = sv.served v k b l h st op near in
+              let less : q (end_at arcs k) ≤ℤ (q v +ℤ cost_at arcs k) = sv.served v k b l h st op near in
               let le : head ≤ n = omega (arith, r.counts) in
-              let mark : q (end_at arcs k) <ℤ far = label_step (p s) (q v) (code_at arcs k) (q (end_at arcs k)) n head g.nodes le (pr.low s r.source.0).1 (r.near v b l) op less in
-              near_end (code_at arcs k) (p' v) (q v) (q (end_at arcs k)) (p' (end_at arcs k)) cut (m.scanned v b l h) less (labels_fall n p p' q place head cut m left (end_at arcs k) eb mark)
-          | inr away ↦ far_end (code_at arcs k) (p' v) (q v) (p (end_at arcs k)) (p' (end_at arcs k)) cut (m.scanned v b l h) away fall
+              let mark : q (end_at arcs k) <ℤ far = label_step (p s) (q v) (cost_at arcs k) (q (end_at arcs k)) n head g.nodes le (pr.low s r.source.0).1 (r.near v b l) op less in
+              near_end (cost_at arcs k) (p' v) (q v) (q (end_at arcs k)) (p' (end_at arcs k)) cut (m.scanned v b l h) less (labels_fall n p p' q place head cut m left (end_at arcs k) eb mark)
+          | inr away ↦ far_end (cost_at arcs k) (p' v) (q v) (p (end_at arcs k)) (p' (end_at arcs k)) cut (m.scanned v b l h) away fall
         ]
         | inr h ↦ old (m.behind v b l h)
       ]
@@ -286,7 +286,7 @@ has_path n first arcs p p' e s q enter order place head ordered reached level cu
               leaves = x.leaves;
               unblocked = x.unblocked;
               arrives = x.arrives;
-              free = tight_step (code_at arcs (enter v)) (p' x.start) (p' v) (q x.start) (q v) cut (m.scanned x.start x.node x.labelled xh) (m.scanned v vb vl vh) x.label;
+              free = tight_step (cost_at arcs (enter v)) (p' x.start) (p' v) (q x.start) (q v) cut (m.scanned x.start x.node x.labelled xh) (m.scanned v vb vl vh) x.label;
             };
           };
       last = h.start;
@@ -299,7 +299,7 @@ has_path n first arcs p p' e s q enter order place head ordered reached level cu
         leaves = h.leaves;
         unblocked = h.unblocked;
         arrives = refl;
-        free = tight_end (code_at arcs f) (p' h.start) (p' (end_at arcs f)) (q h.start) (p (end_at arcs f)) cut (m.scanned h.start h.node h.labelled h.scanned) (m.unlabelled (end_at arcs f) eb off) h.distance;
+        free = tight_end (cost_at arcs f) (p' h.start) (p' (end_at arcs f)) (q h.start) (p (end_at arcs f)) cut (m.scanned h.start h.node h.labelled h.scanned) (m.unlabelled (end_at arcs f) eb off) h.distance;
       };
     }
 
@@ -333,9 +333,9 @@ nothing_found net first reverse forward arcs room p e s q enter order place head
           let st : StartsAt first u j = l.block i back b in
           let ends : end_at arcs j ≡ end_of net i back = fl.end i back b in
           let eb : end_at arcs j < n = subst (λ (t : ℕ). t < n) (sym ends) (end_in net i back k.ends b) in
-          let near : (q u +ℤ code_at arcs j -ℤ p (end_at arcs j)) <ℤ cut = subst (λ (z : ℤ). (q u +ℤ code_at arcs j -ℤ p (end_at arcs j)) <ℤ z) (sym none) (in_reach_step (p s) (q u) (p (end_at arcs j)) (code_at arcs j) n head k.small.0 le low (r.near u ub m) (rd.low (end_at arcs j) eb).0 op) in
-          let less : q (end_at arcs j) ≤ℤ (q u +ℤ code_at arcs j) = sv.served u j ub m (scanned u ub m) st op near in
-          subst (λ (t : ℕ). lt_z (q t) far ≡ true) ends (lt_true (q (end_at arcs j)) far (label_step (p s) (q u) (code_at arcs j) (q (end_at arcs j)) n head k.small.0 le low (r.near u ub m) op less));
+          let near : (q u +ℤ cost_at arcs j -ℤ p (end_at arcs j)) <ℤ cut = subst (λ (z : ℤ). (q u +ℤ cost_at arcs j -ℤ p (end_at arcs j)) <ℤ z) (sym none) (in_reach_step (p s) (q u) (p (end_at arcs j)) (cost_at arcs j) n head k.small.0 le low (r.near u ub m) (rd.low (end_at arcs j) eb).0 op) in
+          let less : q (end_at arcs j) ≤ℤ (q u +ℤ cost_at arcs j) = sv.served u j ub m (scanned u ub m) st op near in
+          subst (λ (t : ℕ). lt_z (q t) far ≡ true) ends (lt_true (q (end_at arcs j)) far (label_step (p s) (q u) (cost_at arcs j) (q (end_at arcs j)) n head k.small.0 le low (r.near u ub m) op less));
     })
     (λ v b m. r.plain v b (plain_lt (q v) far m))
     r.source.0 (lt_true (q s) far r.source.1) over

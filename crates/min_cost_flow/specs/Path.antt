@@ -2,7 +2,7 @@
 -- units are wanting.
 use Rattle.std.specs.Prelude.{ℕ, ◌<◌, ◌≡◌, ℤ, pos, ◌+ℤ◌, ◌-ℤ◌, Bool, true, false, List}
 use Rattle.networks.specs.declared.residual.ResidualArc.{ResidualArc}
-use Rattle.networks.specs.Layout.{end_at, code_at, StartsAt}
+use Rattle.networks.specs.Layout.{end_at, cost_at, StartsAt}
 use Rattle.shortest_paths.specs.Search.{IsOpen}
 
 -- residual arc k leads from node u to node v, is open and costs nothing under the potentials
@@ -10,7 +10,7 @@ pub record IsTight (first : List ℕ) (arcs : List ResidualArc) (p : ℕ → ℤ
   pub leaves : StartsAt first u k
   pub unblocked : IsOpen arcs k
   pub arrives : end_at arcs k ≡ v
-  pub free : code_at arcs k +ℤ p u -ℤ p v ≡ pos 0
+  pub free : cost_at arcs k +ℤ p u -ℤ p v ≡ pos 0
 
 -- node v was entered along residual arc k, from a node of the set that has a lesser place
 pub record IsAfter (first : List ℕ) (arcs : List ResidualArc) (p : ℕ → ℤ) (on : ℕ → Bool) (place : ℕ → ℕ) (v k : ℕ) : Type 0 where

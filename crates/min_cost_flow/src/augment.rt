@@ -5,7 +5,7 @@ ghost use Rattle.std.specs.Prelude.{◌≡◌, ◌≢◌, ◌<◌, ◌≤◌, �
 ghost use Rattle.networks.specs.declared.residual.TheConstants.{SHUT};
 ghost use Rattle.networks.specs.Net.{node_count, arc_count, arc_at, IsNetwork};
 ghost use Rattle.networks.specs.Flow.{at_nodes};
-ghost use Rattle.networks.specs.Layout.{numbers, end_at, code_at, StartsAt, IsLaidOut, IsFilled, carried, limit_of};
+ghost use Rattle.networks.specs.Layout.{numbers, end_at, cost_at, StartsAt, IsLaidOut, IsFilled, carried, limit_of};
 ghost use Rattle.min_cost_flow.specs.Path.{HasPath};
 ghost use Rattle.min_cost_flow.specs.Round.{IsRound, IsLess, carrying};
 
@@ -135,15 +135,15 @@ fn give_room(arcs: &mut [ResidualArc], room: &mut [u32], number: usize, amount: 
     requires arc { number < length arcs.old }
     requires room { number < length room.old }
     requires few { numbers room.old number + amount < 2 ^ 32 }
-    requires code { negsuc 0 ≤ℤ code_at arcs.old number }
+    requires cost { negsuc 0 ≤ℤ cost_at arcs.old number }
     ensures here { numbers room.new number ≡ numbers room.old number + amount }
     ensures others { (k : ℕ) → k ≢ number → numbers room.new k ≡ numbers room.old k }
-    ensures code { code_at arcs.new number ≡ (if numbers room.old number == 0 then code_at arcs.old number -ℤ SHUT else code_at arcs.old number) }
-    ensures codes { (k : ℕ) → k ≢ number → code_at arcs.new k ≡ code_at arcs.old k }
+    ensures cost { cost_at arcs.new number ≡ (if numbers room.old number == 0 then cost_at arcs.old number -ℤ SHUT else cost_at arcs.old number) }
+    ensures codes { (k : ℕ) → k ≢ number → cost_at arcs.new k ≡ cost_at arcs.old k }
     ensures ends { (k : ℕ) → end_at arcs.new k ≡ end_at arcs.old k }
 {
     if room[number] == 0 {
-        arcs[number].code -= SHUT;
+        arcs[number].cost -= SHUT;
     }
     room[number] += amount;
 }
@@ -153,15 +153,15 @@ fn take_room(arcs: &mut [ResidualArc], room: &mut [u32], number: usize, amount: 
     requires arc { number < length arcs.old }
     requires room { number < length room.old }
     requires fits { amount ≤ numbers room.old number }
-    requires code { code_at arcs.old number ≤ℤ pos 1 }
+    requires cost { cost_at arcs.old number ≤ℤ pos 1 }
     ensures here { numbers room.new number + amount ≡ numbers room.old number }
     ensures others { (k : ℕ) → k ≢ number → numbers room.new k ≡ numbers room.old k }
-    ensures code { code_at arcs.new number ≡ (if numbers room.new number == 0 then code_at arcs.old number +ℤ SHUT else code_at arcs.old number) }
-    ensures codes { (k : ℕ) → k ≢ number → code_at arcs.new k ≡ code_at arcs.old k }
+    ensures cost { cost_at arcs.new number ≡ (if numbers room.new number == 0 then cost_at arcs.old number +ℤ SHUT else cost_at arcs.old number) }
+    ensures codes { (k : ℕ) → k ≢ number → cost_at arcs.new k ≡ cost_at arcs.old k }
     ensures ends { (k : ℕ) → end_at arcs.new k ≡ end_at arcs.old k }
 {
     room[number] -= amount;
     if room[number] == 0 {
-        arcs[number].code += SHUT;
+        arcs[number].cost += SHUT;
     }
 }

@@ -45,11 +45,11 @@ impl Scratch {
         requires arcs { arc_count ≤ MAX_ARCS }
         ensures flow { OnOk result (self.new.flow.items ≡ replicate arc_count 0) }
         ensures potential { OnOk result (self.new.potential.items ≡ replicate nodes (pos 0)) }
-        ensures arcs { OnOk result (self.new.arcs.items ≡ replicate (2 * arc_count) (record { end = 0; code = pos 0 })) }
+        ensures arcs { OnOk result (self.new.arcs.items ≡ replicate (2 * arc_count) (record { end = 0; cost = pos 0 })) }
         ensures counts { OnOk result (self.new.counts.items ≡ replicate (4 * arc_count + 4 * nodes + 1) 0) }
         ensures units { OnOk result (self.new.units.items ≡ replicate (3 * nodes) far) }
     {
-        let shut = ResidualArc { end: 0, code: 0 };
+        let shut = ResidualArc { end: 0, cost: 0 };
         refill(&mut self.flow, 0, arc_count)?;
         refill(&mut self.potential, 0, nodes)?;
         refill(&mut self.arcs, shut, 2 * arc_count)?;

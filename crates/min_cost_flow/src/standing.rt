@@ -38,7 +38,7 @@ fn blank_lists(alloc: Global, network: &Network) -> Result<Lists, AllocError>
 {
     let nodes = network.node_count();
     let arc_count = network.arc_count();
-    let shut = ResidualArc { end: 0, code: 0 };
+    let shut = ResidualArc { end: 0, cost: 0 };
     Ok(Lists {
         first: vec![in alloc; 0; nodes + 1]?,
         reverse: vec![in alloc; 0; 2 * arc_count]?,

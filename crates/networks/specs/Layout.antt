@@ -12,13 +12,13 @@ numbers xs i = slice_index xs i
 
 -- stands for residual arcs past the last
 abbrev pub no_residual_arc : ResidualArc
-no_residual_arc = record { end = 0; code = pos 0 }
+no_residual_arc = record { end = 0; cost = pos 0 }
 
 abbrev pub end_at : List ResidualArc → ℕ → ℕ
 end_at arcs k = (slice_index_or arcs k no_residual_arc).end
 
-abbrev pub code_at : List ResidualArc → ℕ → ℤ
-code_at arcs k = (slice_index_or arcs k no_residual_arc).code
+abbrev pub cost_at : List ResidualArc → ℕ → ℤ
+cost_at arcs k = (slice_index_or arcs k no_residual_arc).cost
 
 -- number k is one of the residual arcs that start at node v
 pub record StartsAt (first : List ℕ) (v k : ℕ) : Type 0 where
@@ -60,7 +60,7 @@ pub record IsFilled (net : Net) (reverse forward : List ℕ) (arcs : List Residu
   pub arc_size : length arcs ≡ arc_count net + arc_count net
   pub room_size : length room ≡ arc_count net + arc_count net
   pub end : (i : ℕ) (back : Bool) → i < arc_count net → end_at arcs (place_of reverse forward i back) ≡ end_of net i back
-  pub code : (i : ℕ) (back : Bool) → i < arc_count net → code_at arcs (place_of reverse forward i back) ≡ (if numbers room (place_of reverse forward i back) == 0 then price_of net i back +ℤ SHUT else price_of net i back)
+  pub cost : (i : ℕ) (back : Bool) → i < arc_count net → cost_at arcs (place_of reverse forward i back) ≡ (if numbers room (place_of reverse forward i back) == 0 then price_of net i back +ℤ SHUT else price_of net i back)
   pub fits : (i : ℕ) → i < arc_count net → numbers room (place_of reverse forward i false) + numbers room (place_of reverse forward i true) ≡ limit_of (arc_at net i).cap
 
 -- what an arc carries is what fits back along it

@@ -1,10 +1,10 @@
 //! Residual arcs, those that start at a node side by side.
 ghost use Rattle.std.specs.Prelude.{◌≡◌, ◌<◌, ◌+◌, ◌^◌, length};
-ghost use Rattle.networks.specs.Layout.{end_at, code_at};
+ghost use Rattle.networks.specs.Layout.{end_at, cost_at};
 
 use crate::network::Network;
 
-/// What the code of a residual arc is raised by while nothing fits along it.
+/// What the cost of a residual arc is raised by while nothing fits along it.
 pub const SHUT: i16 = 16_000;
 
 /// A residual arc as a search reads it: the node where it ends, and what a unit along it costs, with
@@ -12,7 +12,7 @@ pub const SHUT: i16 = 16_000;
 #[derive(Clone, Copy, Debug, PartialEq, Eq)]
 pub struct ResidualArc {
     pub end: u16,
-    pub code: i16,
+    pub cost: i16,
 }
 
 /// Where the residual arcs of a network stand.
@@ -32,7 +32,7 @@ pub fn look(arcs: &[ResidualArc], number: usize, looks: &mut u64) -> ResidualArc
     requires number { number < length arcs.now }
     requires few { looks.old < 2 ^ 63 }
     ensures end { result.end ≡ end_at arcs.now number }
-    ensures code { result.code ≡ code_at arcs.now number }
+    ensures cost { result.cost ≡ cost_at arcs.now number }
     ensures tick { looks.new ≡ looks.old + 1 }
 {
     *looks += 1;

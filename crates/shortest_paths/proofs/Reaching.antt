@@ -6,7 +6,7 @@ use Rattle.std.proofs.lemmas.Int.{ints}
 use Rattle.networks.specs.declared.network.TheConstants.{MAX_NODES}
 use Rattle.networks.specs.declared.residual.ResidualArc.{ResidualArc}
 use Rattle.shortest_paths.proofs.Distinct.{AreDistinct, distinct_sum, room_for}
-use Rattle.networks.specs.Layout.{numbers, end_at, code_at, StartsAt}
+use Rattle.networks.specs.Layout.{numbers, end_at, cost_at, StartsAt}
 use Rattle.shortest_paths.specs.Search.{far, IsGraph, IsPriced, IsNear, IsEntered, IsReached, IsNearest, Serves, IsServed, IsLeft, IsKept, IsOffer, IsPut, IsSwapped, degree, looked}
 use Rattle.sums.specs.Sums.{sum_below}
 use Rattle.sums.proofs.Sums.{sum_below-same, sum_below-more}
@@ -481,8 +481,8 @@ no_more a a' c b b' h k l = omega (arith, ints)
 
 pub serves_kept : (arcs : List ResidualArc) (p q q' : ℕ → ℤ) (cut cut' : ℤ) (u k : ℕ) → q' u ≡ q u → q' (end_at arcs k) ≤ℤ q (end_at arcs k) → cut' ≤ℤ cut → Serves arcs p q cut u k → Serves arcs p q' cut' u k
 serves_kept arcs p q q' cut cut' u k same lower less sv unblocked near =
-    let was : (q u +ℤ code_at arcs k -ℤ p (end_at arcs k)) <ℤ cut = nearer (q u) (q' u) (code_at arcs k) (p (end_at arcs k)) cut cut' same near less in
-    no_more (q u) (q' u) (code_at arcs k) (q (end_at arcs k)) (q' (end_at arcs k)) same lower (sv unblocked was)
+    let was : (q u +ℤ cost_at arcs k -ℤ p (end_at arcs k)) <ℤ cut = nearer (q u) (q' u) (cost_at arcs k) (p (end_at arcs k)) cut cut' same near less in
+    no_more (q u) (q' u) (cost_at arcs k) (q (end_at arcs k)) (q' (end_at arcs k)) same lower (sv unblocked was)
 
 pub served_kept : (n : ℕ) (first : List ℕ) (arcs : List ResidualArc) (p q q' : ℕ → ℤ) (place place' : ℕ → ℕ) (cut cut' : ℤ) (h : ℕ) → IsGraph n first arcs → IsServed n first arcs p q place cut h → IsKept n h q place q' place' → cut' ≤ℤ cut → IsServed n first arcs p q' place' cut' h
 served_kept n first arcs p q q' place place' cut cut' h g sv kept less = record {
@@ -564,19 +564,19 @@ near_step ps qu c x h (a, b) d e s = (omega (arith, ints), omega (arith, ints))
 no_nearer : (level qu pu c pe x : ℤ) → level ≤ℤ (qu -ℤ pu) → pos 0 ≤ℤ (c +ℤ pu -ℤ pe) → x ≡ qu +ℤ c → level ≤ℤ (x -ℤ pe)
 no_nearer level qu pu c pe x h r s = omega (arith, ints)
 
-is_open : (n : ℕ) (first : List ℕ) (arcs : List ResidualArc) (p e : ℕ → ℤ) (s : ℕ) (q : ℕ → ℤ) (u k : ℕ) (h : ℕ) (x : ℤ) → IsGraph n first arcs → IsPriced n first arcs p e → s < n → u < n → h ≤ n → IsNear (p s) h (q u) → StartsAt first u k → x ≡ q u +ℤ code_at arcs k → x <ℤ q (end_at arcs k) → q (end_at arcs k) ≤ℤ far → (negsuc 0 ≤ℤ code_at arcs k) × (code_at arcs k ≤ℤ pos 1)
+is_open : (n : ℕ) (first : List ℕ) (arcs : List ResidualArc) (p e : ℕ → ℤ) (s : ℕ) (q : ℕ → ℤ) (u k : ℕ) (h : ℕ) (x : ℤ) → IsGraph n first arcs → IsPriced n first arcs p e → s < n → u < n → h ≤ n → IsNear (p s) h (q u) → StartsAt first u k → x ≡ q u +ℤ cost_at arcs k → x <ℤ q (end_at arcs k) → q (end_at arcs k) ≤ℤ far → (negsuc 0 ≤ℤ cost_at arcs k) × (cost_at arcs k ≤ℤ pos 1)
 is_open n first arcs p e s q u k h x g pr sb ub le near st sum less most =
-    elim (g.code u k ub st) [
+    elim (g.cost u k ub st) [
       | inl o ↦ o
-      | inr f ↦ absurd (shut_far x (q u) (q (end_at arcs k)) (code_at arcs k) (p s) n h g.nodes le near (pr.low s sb) sum less most f.0)
+      | inr f ↦ absurd (shut_far x (q u) (q (end_at arcs k)) (cost_at arcs k) (p s) n h g.nodes le near (pr.low s sb) sum less most f.0)
     ]
 
-pub offer_made : (n : ℕ) (first : List ℕ) (arcs : List ResidualArc) (p e : ℕ → ℤ) (s : ℕ) (q : ℕ → ℤ) (enter order place : ℕ → ℕ) (head ordered reached : ℕ) (level : ℤ) (u k v : ℕ) (x : ℤ) → IsGraph n first arcs → IsPriced n first arcs p e → IsReached n first arcs p e s q enter order place head ordered reached level → u < n → q u <ℤ far → place u + 1 ≡ head → IsNear (p s) (place u) (q u) → level ≤ℤ (q u -ℤ p u) → StartsAt first u k → v ≡ end_at arcs k → x ≡ q u +ℤ code_at arcs k → x <ℤ q v → IsOffer n first arcs p s q place head level k v x
+pub offer_made : (n : ℕ) (first : List ℕ) (arcs : List ResidualArc) (p e : ℕ → ℤ) (s : ℕ) (q : ℕ → ℤ) (enter order place : ℕ → ℕ) (head ordered reached : ℕ) (level : ℤ) (u k v : ℕ) (x : ℤ) → IsGraph n first arcs → IsPriced n first arcs p e → IsReached n first arcs p e s q enter order place head ordered reached level → u < n → q u <ℤ far → place u + 1 ≡ head → IsNear (p s) (place u) (q u) → level ≤ℤ (q u -ℤ p u) → StartsAt first u k → v ≡ end_at arcs k → x ≡ q u +ℤ cost_at arcs k → x <ℤ q v → IsOffer n first arcs p s q place head level k v x
 offer_made n first arcs p e s q enter order place head ordered reached level u k v x g pr r ub lu at near high st ends sum less =
     let le : place u ≤ n = omega (arith, r.counts) in
     let here : x <ℤ q (end_at arcs k) = subst (λ (i : ℕ). x <ℤ q i) ends less in
     let o = is_open n first arcs p e s q u k (place u) x g pr r.source.0 ub le near st sum here (r.most (end_at arcs k) (g.end u k ub st)) in
-    let close : IsNear (p s) (place u + 1) x = near_step (p s) (q u) (code_at arcs k) x (place u) near o.0 o.1 sum in
+    let close : IsNear (p s) (place u + 1) x = near_step (p s) (q u) (cost_at arcs k) x (place u) near o.0 o.1 sum in
     record {
       start = u;
       node = ub;
@@ -587,17 +587,17 @@ offer_made n first arcs p e s q enter order place head ordered reached level u k
       arrives = sym ends;
       label = sum;
       near = subst (λ (i : ℕ). IsNear (p s) i x) at close;
-      beyond = subst (λ (i : ℕ). level ≤ℤ (x -ℤ p i)) (sym ends) (no_nearer level (q u) (p u) (code_at arcs k) (p (end_at arcs k)) x high (pr.reduced u k ub st o.1) sum);
+      beyond = subst (λ (i : ℕ). level ≤ℤ (x -ℤ p i)) (sym ends) (no_nearer level (q u) (p u) (cost_at arcs k) (p (end_at arcs k)) x high (pr.reduced u k ub st o.1) sum);
       less = less;
     }
 
 -- a label that is no more than what is offered is served
-pub served_less : (arcs : List ResidualArc) (p q : ℕ → ℤ) (cut : ℤ) (u k v : ℕ) (x : ℤ) → v ≡ end_at arcs k → x ≡ q u +ℤ code_at arcs k → q v ≤ℤ x → Serves arcs p q cut u k
+pub served_less : (arcs : List ResidualArc) (p q : ℕ → ℤ) (cut : ℤ) (u k v : ℕ) (x : ℤ) → v ≡ end_at arcs k → x ≡ q u +ℤ cost_at arcs k → q v ≤ℤ x → Serves arcs p q cut u k
 served_less arcs p q cut u k v x ends sum less _ _ = subst (λ (z : ℤ). q (end_at arcs k) ≤ℤ z) sum (subst (λ (i : ℕ). q i ≤ℤ x) ends less)
 
-pub served_after : (arcs : List ResidualArc) (p q q' : ℕ → ℤ) (cut : ℤ) (u k v : ℕ) (x : ℤ) → v ≡ end_at arcs k → x ≡ q u +ℤ code_at arcs k → q' u ≡ q u → ((x -ℤ p v) <ℤ cut → q' v ≤ℤ x) → Serves arcs p q' cut u k
+pub served_after : (arcs : List ResidualArc) (p q q' : ℕ → ℤ) (cut : ℤ) (u k v : ℕ) (x : ℤ) → v ≡ end_at arcs k → x ≡ q u +ℤ cost_at arcs k → q' u ≡ q u → ((x -ℤ p v) <ℤ cut → q' v ≤ℤ x) → Serves arcs p q' cut u k
 served_after arcs p q q' cut u k v x ends sum same sv _ near =
-    let total : x ≡ q' u +ℤ code_at arcs k = sum ∙ ap (λ (z : ℤ). z +ℤ code_at arcs k) (sym same) in
+    let total : x ≡ q' u +ℤ cost_at arcs k = sum ∙ ap (λ (z : ℤ). z +ℤ cost_at arcs k) (sym same) in
     let close : (x -ℤ p v) <ℤ cut = subst (λ (i : ℕ). (x -ℤ p i) <ℤ cut) (sym ends) (subst (λ (z : ℤ). (z -ℤ p (end_at arcs k)) <ℤ cut) (sym total) near) in
     subst (λ (z : ℤ). q' (end_at arcs k) ≤ℤ z) total (subst (λ (i : ℕ). q' i ≤ℤ x) ends (sv close))
 

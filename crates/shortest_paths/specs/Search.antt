@@ -8,15 +8,15 @@ use Rattle.shortest_paths.specs.declared.reach.Ground.{Ground}
 use Rattle.shortest_paths.specs.declared.reach.Progress.{Progress}
 use Rattle.shortest_paths.specs.declared.reach.Step.{Step}
 use Rattle.networks.specs.Flow.{at_nodes}
-use Rattle.networks.specs.Layout.{numbers, end_at, code_at, StartsAt}
+use Rattle.networks.specs.Layout.{numbers, end_at, cost_at, StartsAt}
 
 -- the label of a node that was not reached
 abbrev pub far : ℤ
 far = pos 8000
 
 -- a price, or one that is raised since nothing fits
-abbrev pub IsCode : ℤ → Type 0
-IsCode c = ((negsuc 0 ≤ℤ c) × (c ≤ℤ pos 1)) ⊎ ((pos 15999 ≤ℤ c) × (c ≤ℤ pos 16001))
+abbrev pub IsArcCost : ℤ → Type 0
+IsArcCost c = ((negsuc 0 ≤ℤ c) × (c ≤ℤ pos 1)) ⊎ ((pos 15999 ≤ℤ c) × (c ≤ℤ pos 16001))
 
 -- so many nodes, and the residual arcs of each
 pub record IsGraph (n : ℕ) (first : List ℕ) (arcs : List ResidualArc) : Type 0 where
@@ -26,15 +26,15 @@ pub record IsGraph (n : ℕ) (first : List ℕ) (arcs : List ResidualArc) : Type
   pub rising : (v : ℕ) → v < n → numbers first v ≤ numbers first (v + 1)
   pub inside : (v : ℕ) → v < n → numbers first (v + 1) ≤ length arcs
   pub end : (v k : ℕ) → v < n → StartsAt first v k → end_at arcs k < n
-  pub code : (v k : ℕ) → v < n → StartsAt first v k → IsCode (code_at arcs k)
+  pub cost : (v k : ℕ) → v < n → StartsAt first v k → IsArcCost (cost_at arcs k)
 
 -- a unit more fits along residual arc k
 abbrev pub IsOpen : List ResidualArc → ℕ → Type 0
-IsOpen arcs k = code_at arcs k ≤ℤ pos 1
+IsOpen arcs k = cost_at arcs k ≤ℤ pos 1
 
 -- potentials with which a search can begin: no open residual arc costs less than 0 under them
 pub record IsPriced (n : ℕ) (first : List ℕ) (arcs : List ResidualArc) (p e : ℕ → ℤ) : Type 0 where
-  pub reduced : (v k : ℕ) → v < n → StartsAt first v k → IsOpen arcs k → pos 0 ≤ℤ (code_at arcs k +ℤ p v -ℤ p (end_at arcs k))
+  pub reduced : (v k : ℕ) → v < n → StartsAt first v k → IsOpen arcs k → pos 0 ≤ℤ (cost_at arcs k +ℤ p v -ℤ p (end_at arcs k))
   pub low : (v : ℕ) → v < n → (pos 0 ≤ℤ (p v +ℤ pos (2 * n))) × (p v ≤ℤ pos (2 * n))
   pub zero : (v : ℕ) → v < n → e v <ℤ pos 0 → p v ≡ pos 0
 
@@ -52,7 +52,7 @@ pub record IsEntered (n : ℕ) (first : List ℕ) (arcs : List ResidualArc) (q :
   pub leaves : StartsAt first start k
   pub unblocked : IsOpen arcs k
   pub arrives : end_at arcs k ≡ v
-  pub label : q v ≡ q start +ℤ code_at arcs k
+  pub label : q v ≡ q start +ℤ cost_at arcs k
 
 -- the nodes that were reached, in order of their distance q v - p v: those that were scanned, those
 -- at the level, and those further off
@@ -80,7 +80,7 @@ pub record IsHit (n : ℕ) (first : List ℕ) (arcs : List ResidualArc) (p e : �
   pub leaves : StartsAt first start k
   pub unblocked : IsOpen arcs k
   pub wanting : e (end_at arcs k) <ℤ pos 0
-  pub distance : cut ≡ q start +ℤ code_at arcs k -ℤ p (end_at arcs k)
+  pub distance : cut ≡ q start +ℤ cost_at arcs k -ℤ p (end_at arcs k)
   pub near : IsNear (p s) head cut
 
 -- the nearest node found so far where units are wanting is at distance cut, not below the level
@@ -91,7 +91,7 @@ pub record IsNearest (n : ℕ) (first : List ℕ) (arcs : List ResidualArc) (p e
 
 -- residual arc k from node u offers nothing more to its end
 abbrev pub Serves : List ResidualArc → (ℕ → ℤ) → (ℕ → ℤ) → ℤ → ℕ → ℕ → Type 0
-Serves arcs p q cut u k = IsOpen arcs k → (q u +ℤ code_at arcs k -ℤ p (end_at arcs k)) <ℤ cut → q (end_at arcs k) ≤ℤ (q u +ℤ code_at arcs k)
+Serves arcs p q cut u k = IsOpen arcs k → (q u +ℤ cost_at arcs k -ℤ p (end_at arcs k)) <ℤ cut → q (end_at arcs k) ≤ℤ (q u +ℤ cost_at arcs k)
 
 -- the same for all residual arcs of the first h nodes of the order
 pub record IsServed (n : ℕ) (first : List ℕ) (arcs : List ResidualArc) (p q : ℕ → ℤ) (place : ℕ → ℕ) (cut : ℤ) (h : ℕ) : Type 0 where
@@ -149,7 +149,7 @@ pub record IsOffer (n : ℕ) (first : List ℕ) (arcs : List ResidualArc) (p : �
   pub leaves : StartsAt first start k
   pub unblocked : IsOpen arcs k
   pub arrives : end_at arcs k ≡ v
-  pub label : x ≡ q start +ℤ code_at arcs k
+  pub label : x ≡ q start +ℤ cost_at arcs k
   pub near : IsNear (p s) head x
   pub beyond : level ≤ℤ (x -ℤ p v)
   pub less : x <ℤ q v

@@ -2,7 +2,7 @@
 ghost use Rattle.std.specs.Prelude.{◌≡◌, ◌≢◌, ◌⊎◌, ◌<◌, ◌≤◌, ◌+◌, ◌^◌, ℕ, ℤ, List, length, pos, negsuc, ◌≤ℤ◌, ◌<ℤ◌, ◌+ℤ◌, ◌-ℤ◌, true, false};
 ghost use Rattle.networks.specs.declared.network.TheConstants.{MAX_NODES};
 ghost use Rattle.networks.specs.Flow.{at_nodes};
-ghost use Rattle.networks.specs.Layout.{numbers, end_at, code_at, StartsAt};
+ghost use Rattle.networks.specs.Layout.{numbers, end_at, cost_at, StartsAt};
 ghost use Rattle.shortest_paths.specs.Search.{far, nodes_of, degree, looked, IsGround, HasSizes, Reaches, FindsNearest, Keeps, IsServed, Serves, IsNear, IsPut, IsLeft};
 
 use crate::reach::{FAR, Ground, Progress, Step, advance, distance, reach};
@@ -291,7 +291,7 @@ fn consider(
 {
     let arc = look(ground.arcs, number, looks);
     let end = usize::from(arc.end);
-    let offered = offered_label(label[node], arc.code);
+    let offered = offered_label(label[node], arc.cost);
     if offered < label[end] {
         let step = Step {
             number,
@@ -303,9 +303,9 @@ fn consider(
 }
 
 /// What a residual arc offers to its end.
-fn offered_label(label: i32, code: i16) -> i32
+fn offered_label(label: i32, cost: i16) -> i32
     requires label { (negsuc 1073741823 ≤ℤ label) × (label ≤ℤ pos 1073741823) }
-    ensures { result ≡ label +ℤ code }
+    ensures { result ≡ label +ℤ cost }
 {
-    label + i32::from(code)
+    label + i32::from(cost)
 }

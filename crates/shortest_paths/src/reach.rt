@@ -2,7 +2,7 @@
 ghost use Rattle.std.specs.Prelude.{◌≡◌, ◌≢◌, ◌⊎◌, ◌<◌, ◌≤◌, ◌+◌, ◌^◌, ℕ, ℤ, List, length, pos, negsuc, ◌≤ℤ◌, ◌<ℤ◌, ◌+ℤ◌, ◌-ℤ◌};
 ghost use Rattle.networks.specs.declared.network.TheConstants.{MAX_NODES};
 ghost use Rattle.networks.specs.Flow.{at_nodes};
-ghost use Rattle.networks.specs.Layout.{numbers, end_at, code_at, StartsAt};
+ghost use Rattle.networks.specs.Layout.{numbers, end_at, cost_at, StartsAt};
 ghost use Rattle.shortest_paths.specs.Search.{far, nodes_of, IsGround, HasSizes, Reaches, FindsNearest, Keeps, Offers, IsPut, IsSwapped};
 
 use networks::ResidualArc;

@@ -20,13 +20,13 @@ give_room-requires-clause-few c =
     let (v, b, s) = c.requires.number in
     reverse_few c.args.layout.network.now c.args.layout.first.now c.args.layout.reverse.now c.args.layout.forward.now c.args.arcs.now c.args.room.now v c.args.number c.args.amount 4294967296 c.requires.laid_out c.requires.filled c.requires.limits b s c.requires.fits
 
-pub give_room-requires-clause-code : goal.give_room-requires-clause-code
-give_room-requires-clause-code c =
+pub give_room-requires-clause-cost : goal.give_room-requires-clause-cost
+give_room-requires-clause-cost c =
     let (v, b, s) = c.requires.number in
     reverse_code c.args.layout.network.now c.args.layout.first.now c.args.layout.reverse.now c.args.layout.forward.now c.args.arcs.now c.args.room.now v c.args.number c.requires.network c.requires.laid_out c.requires.filled b s
 
-pub take_room-requires-clause-code : goal.take_room-requires-clause-code
-take_room-requires-clause-code c =
+pub take_room-requires-clause-cost : goal.take_room-requires-clause-cost
+take_room-requires-clause-cost c =
     let (v, b, s) = c.requires.number in
     let ne : c.args.number ≢ numbers c.args.layout.reverse.now c.args.number = not_reverse c.args.layout.network.now c.args.layout.first.now c.args.layout.reverse.now c.args.layout.forward.now v c.args.number c.requires.laid_out b s in
     rw (c.give_room.ensures.codes c.args.number ne) (open_code c.args.layout.network.now c.args.layout.first.now c.args.layout.reverse.now c.args.layout.forward.now c.args.arcs.now c.args.room.now v c.args.number c.requires.network c.requires.laid_out c.requires.filled b s (omega (arith, c.requires.some, c.requires.fits)))
@@ -47,8 +47,8 @@ returns-clause-filled c =
       others = λ j x y. taken.others j x ∙ given.others j y;
     } in
     let coded : IsCoded reverse c.args.arcs.now c.take_room.new.arcs c.args.room.now c.take_room.new.room k = record {
-      here = rw (← given.codes k ne) taken.code;
-      there = taken.codes (numbers reverse k) ne' ∙ given.code;
+      here = rw (← given.codes k ne) taken.cost;
+      there = taken.codes (numbers reverse k) ne' ∙ given.cost;
       others = λ j x y. taken.codes j x ∙ given.codes j y;
     } in
     pushed_filled c.args.layout.network.now c.args.layout.first.now reverse c.args.layout.forward.now c.args.arcs.now c.take_room.new.arcs c.args.room.now c.take_room.new.room v k c.args.amount c.requires.laid_out c.requires.filled b s c.requires.some

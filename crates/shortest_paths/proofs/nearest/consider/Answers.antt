@@ -4,7 +4,7 @@ use Rattle.std.proofs.lemmas.Int.{to_z-of_z}
 use mir.Syntax.{w16, w32}
 use mir.Val.{SFits}
 use Rattle.networks.specs.Flow.{at_nodes}
-use Rattle.networks.specs.Layout.{numbers, end_at, code_at}
+use Rattle.networks.specs.Layout.{numbers, end_at, cost_at}
 use Rattle.shortest_paths.proofs.Signs.{both_less, both_no_less, passed_within, sum_is}
 use Rattle.shortest_paths.proofs.Reaching.{offer_made, served_less, served_after, reached_fits, kept_same, same_z}
 use Rattle.shortest_paths.proofs.nearest.consider.Goals as goal
@@ -33,19 +33,19 @@ pub reach-requires-clause-offers : goal.reach-requires-clause-offers
 reach-requires-clause-offers c =
     let fl : SFits w32 (at_nodes c.args.label.now c.args.node) = search rules in
     let fe : SFits w32 (at_nodes c.args.label.now c.from-end.result) = search rules in
-    let fc : SFits w16 c.look-arc.result.code = search rules in
+    let fc : SFits w16 c.look-arc.result.cost = search rules in
     let fo : SFits w32 c.offered_label-offered.result = search rules in
     let ends : c.from-end.result ≡ end_at c.args.ground.arcs.now c.args.number = c.from-end.ensures ∙ c.look-arc.ensures.end in
-    let sum : c.offered_label-offered.result ≡ at_nodes c.args.label.now c.args.node +ℤ code_at c.args.ground.arcs.now c.args.number = sum_is _ _ _ _ fl fc c.offered_label-offered.ensures c.look-arc.ensures.code in
+    let sum : c.offered_label-offered.result ≡ at_nodes c.args.label.now c.args.node +ℤ cost_at c.args.ground.arcs.now c.args.number = sum_is _ _ _ _ fl fc c.offered_label-offered.ensures c.look-arc.ensures.cost in
     let less : c.offered_label-offered.result <ℤ at_nodes c.args.label.now c.from-end.result = both_less _ _ fo fe c.if-offered-label.true in
     rw (to_z-of_z w32 c.offered_label-offered.result fo) (offer_made _ _ _ _ _ _ _ _ _ _ _ _ _ _ c.args.node _ _ _ c.requires.ground.graph c.requires.ground.priced c.requires.reached c.requires.node c.requires.labelled c.requires.place c.requires.near c.requires.level c.requires.number ends sum less)
 
 pub returns-then-offered-label-clause-serves : goal.returns-then-offered-label-clause-serves
 returns-then-offered-label-clause-serves c =
     let fl : SFits w32 (at_nodes c.args.label.now c.args.node) = search rules in
-    let fc : SFits w16 c.look-arc.result.code = search rules in
+    let fc : SFits w16 c.look-arc.result.cost = search rules in
     let ends : c.from-end.result ≡ end_at c.args.ground.arcs.now c.args.number = c.from-end.ensures ∙ c.look-arc.ensures.end in
-    let sum : c.offered_label-offered.result ≡ at_nodes c.args.label.now c.args.node +ℤ code_at c.args.ground.arcs.now c.args.number = sum_is _ _ _ _ fl fc c.offered_label-offered.ensures c.look-arc.ensures.code in
+    let sum : c.offered_label-offered.result ≡ at_nodes c.args.label.now c.args.node +ℤ cost_at c.args.ground.arcs.now c.args.number = sum_is _ _ _ _ fl fc c.offered_label-offered.ensures c.look-arc.ensures.cost in
     let fo : SFits w32 c.offered_label-offered.result = search rules in
     let scanned : numbers c.args.place.now c.args.node < c.args.progress.now.head = omega (arith, c.requires.place) in
     let (same, stays) = c.reach.ensures.kept.same c.args.node c.requires.node c.requires.labelled scanned in
@@ -61,10 +61,10 @@ pub returns-else-offered-label-clause-serves : goal.returns-else-offered-label-c
 returns-else-offered-label-clause-serves c =
     let fl : SFits w32 (at_nodes c.args.label.now c.args.node) = search rules in
     let fe : SFits w32 (at_nodes c.args.label.now c.from-end.result) = search rules in
-    let fc : SFits w16 c.look-arc.result.code = search rules in
+    let fc : SFits w16 c.look-arc.result.cost = search rules in
     let fo : SFits w32 c.offered_label-offered.result = search rules in
     let ends : c.from-end.result ≡ end_at c.args.ground.arcs.now c.args.number = c.from-end.ensures ∙ c.look-arc.ensures.end in
-    let sum : c.offered_label-offered.result ≡ at_nodes c.args.label.now c.args.node +ℤ code_at c.args.ground.arcs.now c.args.number = sum_is _ _ _ _ fl fc c.offered_label-offered.ensures c.look-arc.ensures.code in
+    let sum : c.offered_label-offered.result ≡ at_nodes c.args.label.now c.args.node +ℤ cost_at c.args.ground.arcs.now c.args.number = sum_is _ _ _ _ fl fc c.offered_label-offered.ensures c.look-arc.ensures.cost in
     served_less c.args.ground.arcs.now (at_nodes c.args.ground.potential.now) (at_nodes c.args.label.now) c.args.progress.now.cut c.args.node c.args.number c.from-end.result c.offered_label-offered.result ends sum (both_no_less _ _ fo fe c.if-offered-label.false)
 
 pub returns-then-offered-label-clause-tick : goal.returns-then-offered-label-clause-tick
