@@ -42,10 +42,10 @@ loop-giver-preserved g c =
     }
 
 pub start_lane-requires-clause-seat : goal.start_lane-requires-clause-seat
-start_lane-requires-clause-seat g c = (All-pop (IsSeatOf c.args.tickets.now) _ _ (Some c.in-Some-pop.seat) c.in-Some-pop.ensures.items c.loop-giver.invariant.sits).1
+start_lane-requires-clause-seat g c κs within = (All-pop (IsSeatOf c.args.tickets.now) _ _ (Some c.in-Some-pop.seat) c.in-Some-pop.ensures.items c.loop-giver.invariant.sits).1
 
 pub start_lane-requires-clause-unused : goal.start_lane-requires-clause-unused
-start_lane-requires-clause-unused g c = (All-pop IsUnused _ _ (Some c.in-Some-pop.seat) c.in-Some-pop.ensures.items c.loop-giver.invariant.unused).1
+start_lane-requires-clause-unused g c κs within = (All-pop IsUnused _ _ (Some c.in-Some-pop.seat) c.in-Some-pop.ensures.items c.loop-giver.invariant.unused).1
 
 pub returns-in-Err-clause-stays : goal.returns-in-Err-clause-stays
 returns-in-Err-clause-stays g c = g.met.C.Consumer.stays_itself _
