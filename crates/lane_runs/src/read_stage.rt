@@ -3,6 +3,7 @@ ghost use Rattle.std.specs.Prelude.{◌≡◌, ◌<◌, [], IfSome, vec_len};
 ghost use Rattle.ruled_lanes.specs.LinkEnds.{given};
 ghost use Rattle.ruled_lanes.specs.TicketSeats.{IsSeatOf, IsUnused};
 ghost use Rattle.lane_runs.specs.Lanes.{ReadsSeat};
+ghost use Rattle.streams.specs.declared.reading.TheConstants.{PIECE};
 
 use crate::gives::Gives;
 use crate::line::Line;
@@ -29,7 +30,7 @@ pub fn read_stage<L: Line, O: Opener, R: Wait, G: Gate>(
     requires seat { IsSeatOf tickets.now seat }
     requires unused { IsUnused seat }
     requires none_given { given giver ≡ [] }
-    requires room { vec_len buffer ≡ 65536 }
+    requires room { vec_len buffer ≡ PIECE }
     ensures { IfSome result (λ ends.
         ReadsSeat L.Framed.about choice (O.meaning opener.now) tickets.now giver ends.0 ends.1) }
 {

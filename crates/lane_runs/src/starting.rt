@@ -4,6 +4,7 @@ ghost use Rattle.ruled_lanes.specs.LinkEnds.{given, taken};
 ghost use Rattle.ruled_lanes.specs.TicketSeats.{IsSeatOf, IsUnused};
 ghost use Rattle.lanes.specs.Stages.{PassedAll};
 ghost use Rattle.lane_runs.specs.Lanes.{ReadsSeat};
+ghost use Rattle.streams.specs.declared.reading.TheConstants.{PIECE};
 
 use crate::fault::LaneFault;
 use crate::line::Line;
@@ -50,7 +51,7 @@ pub fn start_read<'s, E, L: Line + 's, R: Threads + Wait + Sync, O: Opener, G: G
     requires seat { IsSeatOf tickets.now seat }
     requires unused { IsUnused seat }
     requires none_given { given giver ≡ [] }
-    requires room { vec_len buffer ≡ 65536 }
+    requires room { vec_len buffer ≡ PIECE }
     ensures choice { IfOk result (λ started. started.promise.choice ≡ choice) }
     ensures opener { IfOk result (λ started. started.promise.opener.value ≡ opener.now) }
     ensures tickets { IfOk result (λ started. started.promise.tickets.value ≡ tickets.now) }
@@ -65,7 +66,7 @@ pub fn start_read<'s, E, L: Line + 's, R: Threads + Wait + Sync, O: Opener, G: G
     match scope.spawn_with(
         promise,
         move || -> Option<(Giver<Message<L::Framed>>, Seat)>
-            requires { IsSeatOf tickets.now seat × IsUnused seat × (given giver ≡ []) × (vec_len buffer ≡ 65536) }
+            requires { IsSeatOf tickets.now seat × IsUnused seat × (given giver ≡ []) × (vec_len buffer ≡ PIECE) }
         {
             read_stage::<L, _, _, _>(
                 rt, alloc, opener, gate, choice, lane, tickets, seat, buffer, giver,

@@ -3,6 +3,7 @@ ghost use Rattle.std.specs.Prelude.{◌≡◌, ◌+◌, ◌<◌, ◌≤◌, ◌+
 ghost use Rattle.streams.specs.Sink.{Writes, StaysOnItsWay};
 ghost use Rattle.streams.specs.Text.{word_of};
 ghost use Rattle.reports.specs.Report.{report_text, book_text, file_line, end_line, entry_line, answer_text, sizes_text, drawn_text, cause_text, numbered_texts};
+ghost use Rattle.streams.specs.declared.gather.TheConstants.{LINE, ROOM};
 
 use books::{Batch, Book};
 use drawing_check::Drawing;
@@ -59,7 +60,7 @@ fn write_file<S: Sink>(lines: &mut Gathered, sink: &mut S, number: u32) -> Resul
 
 /// Adds the first line of a file.
 fn push_file(lines: &mut Gathered, number: u32)
-    requires { length lines.old ≤ 15872 }
+    requires { length lines.old + LINE ≤ ROOM }
     ensures { lines.new ≡ lines.old ++ file_line number }
 {
     lines.push(b"file ");
@@ -101,7 +102,7 @@ fn write_entry<S: Sink>(
 
 /// Adds the line of one entry.
 fn push_entry(lines: &mut Gathered, number: u64, entry: &Entry)
-    requires { length lines.old ≤ 15872 }
+    requires { length lines.old + LINE ≤ ROOM }
     ensures { lines.new ≡ lines.old ++ entry_line number entry.now }
 {
     lines.push(b"graph ");
@@ -191,7 +192,7 @@ fn write_end<S: Sink>(
 
 /// Adds the last line of a file.
 fn push_end(lines: &mut Gathered, mark: Mark, count: u64)
-    requires { length lines.old ≤ 15872 }
+    requires { length lines.old + LINE ≤ ROOM }
     ensures { lines.new ≡ lines.old ++ end_line mark count }
 {
     lines.push(b"end ");

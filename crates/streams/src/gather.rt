@@ -1,6 +1,7 @@
 //! Text that is gathered in a fixed buffer, so that many short lines make few writes.
 ghost use Rattle.std.specs.Prelude.{◌≡◌, ◌+◌, ◌^◌, ◌<◌, ◌≤◌, ℕ, List, [], ◌++◌, Option, false, length, take, decimal, OnOk};
 ghost use Rattle.streams.specs.Sink.{Writes, StaysOnItsWay};
+ghost use Rattle.streams.specs.declared.gather.TheConstants.{LINE, ROOM};
 
 use super::faults::WriteFault;
 use super::output::Sink;
@@ -8,10 +9,10 @@ use itoa::Buffer;
 use std::marker::Model;
 
 /// How many bytes are gathered before they are put into the sink.
-const ROOM: usize = 16384;
+pub const ROOM: usize = 16_384;
 
 /// How many bytes of room `make_room` leaves: more than any line takes.
-const LINE: usize = 512;
+pub const LINE: usize = 512;
 
 /// Text that waits to be put into a sink.
 #[derive(Drop)]
@@ -25,7 +26,7 @@ impl Model for Gathered {
 
     ghost view = { λ g. take g.len g.bytes };
 
-    ghost invariant = { λ g. g.len ≤ 16384 };
+    ghost invariant = { λ g. g.len ≤ ROOM };
 }
 
 impl Gathered {
@@ -41,7 +42,7 @@ impl Gathered {
 
     /// Adds a text, for which there is room.
     pub fn push(&mut self, text: &[u8])
-        requires { length self.old + length text.now ≤ 16384 }
+        requires { length self.old + length text.now ≤ ROOM }
         ensures { self.new ≡ self.old ++ text.now }
     {
         let end = self.len + text.len();
@@ -51,7 +52,7 @@ impl Gathered {
 
     /// Adds a number in decimal, for which there is room.
     pub fn push_number(&mut self, number: u64)
-        requires { length self.old + 40 ≤ 16384 }
+        requires { length self.old + 40 ≤ ROOM }
         ensures text { self.new ≡ self.old ++ decimal number }
         ensures short { length self.new ≤ length self.old + 40 }
     {
@@ -64,7 +65,7 @@ impl Gathered {
         requires { S.failed sink.old ≡ false }
         ensures writes { StaysOnItsWay (S.taken sink.old) self.old (S.taken sink.new) self.new
             (S.failed sink.new) [] result }
-        ensures room { OnOk result (length self.new ≤ 15872) }
+        ensures room { OnOk result (length self.new + LINE ≤ ROOM) }
     {
         if self.len <= ROOM - LINE {
             return Ok(());

@@ -16,11 +16,11 @@ mod run;
 
 pub use faults::{BatchFault, WriteFault};
 pub use frames::{Frames, Mark};
-pub use gather::{Gathered, put_all};
+pub use gather::{Gathered, LINE, ROOM, put_all};
 pub use input::{Tap, TapFault};
 pub use memory::MemTap;
 pub use output::{IoSink, Sink, SinkFault};
-pub use reading::{Step, piece_buffer, read_piece, read_source};
+pub use reading::{PIECE, Step, piece_buffer, read_piece, read_source};
 pub use receiver::Receiver;
 pub use report::write_frames;
 pub use ruled_lanes::MAX_CAPACITY;

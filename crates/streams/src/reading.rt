@@ -3,6 +3,7 @@ ghost use Rattle.std.specs.Prelude.{◌≡◌, ◌+◌, ◌<◌, ◌≤◌, ℕ,
 ghost use Rattle.planar_code.specs.declared.TheConstants.{MAX_RECORDS};
 ghost use Rattle.planar_code.specs.Place.{StandsAt};
 ghost use Rattle.streams.specs.Reading.{ReadsOn, IsFoundIn};
+ghost use Rattle.streams.specs.declared.reading.TheConstants.{PIECE};
 
 use super::frames::Mark;
 use super::input::Tap;
@@ -11,7 +12,7 @@ use planar_code::{Ending, FeedFault, Framer, Record};
 use std::alloc::{AllocError, Global};
 
 /// How many bytes are asked of a source at once.
-const PIECE: usize = 65536;
+pub const PIECE: usize = 65_536;
 
 /// What one read of a source led to.
 #[derive(Clone, Copy, Debug)]
@@ -26,13 +27,13 @@ pub enum Step {
     Stopped(FeedFault),
 }
 
-/// A buffer of 65,536 bytes, into which a source is read.
+/// A buffer of `PIECE` bytes, into which a source is read.
 ///
 /// # Errors
 ///
 /// `AllocError` where there is no memory for it.
 pub fn piece_buffer(alloc: Global) -> Result<Vec<u8>, AllocError>
-    ensures { IfOk result (λ v. vec_len v ≡ 65536) }
+    ensures { IfOk result (λ v. vec_len v ≡ PIECE) }
 {
     zeros(alloc, PIECE)
 }

@@ -2,6 +2,7 @@
 ghost use Rattle.std.specs.Prelude.{◌≡◌, ◌+◌, ◌<◌, ◌≤◌, ◌^◌, false, length, ◌++◌};
 ghost use Rattle.streams.specs.Sink.{Writes, StaysOnItsWay};
 ghost use Rattle.streams.specs.Text.{frames_text, record_line, end_line, word_of};
+ghost use Rattle.streams.specs.declared.gather.TheConstants.{LINE, ROOM};
 
 use super::faults::WriteFault;
 use super::frames::{Frames, Mark};
@@ -42,7 +43,7 @@ fn write_record<S: Sink>(
 
 /// Adds the line of one record.
 fn push_record(lines: &mut Gathered, number: u64, framed: &Record)
-    requires { length lines.old ≤ 15872 }
+    requires { length lines.old + LINE ≤ ROOM }
     ensures { lines.new ≡ lines.old ++ record_line number framed.now }
 {
     lines.push(b"record ");
@@ -72,7 +73,7 @@ fn write_end<S: Sink>(
 
 /// Adds the line of a mark.
 fn push_end(lines: &mut Gathered, mark: Mark, count: u64)
-    requires { length lines.old ≤ 15872 }
+    requires { length lines.old + LINE ≤ ROOM }
     ensures { lines.new ≡ lines.old ++ end_line mark count }
 {
     lines.push(b"end ");

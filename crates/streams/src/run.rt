@@ -6,6 +6,7 @@ ghost use Rattle.streams.specs.declared.frames.Mark.{Mark};
 ghost use Rattle.streams.specs.Marks.{IsMarked};
 ghost use Rattle.streams.specs.Reading.{IsFoundIn};
 ghost use Rattle.streams.specs.Framed.{IsTold, GathersAll, GivesBack};
+ghost use Rattle.streams.specs.declared.reading.TheConstants.{PIECE};
 
 use super::faults::BatchFault;
 use super::framed::Framed;
@@ -76,7 +77,7 @@ pub fn run_frames<R: Threads + Wait + Sync, T: Tap + Send>(
         rt,
         move |scope| -> Result<Frames, BatchFault>
             requires { AreEnds giver taker × (given giver ≡ []) × (taken taker ≡ [])
-                × (vec_len buffer ≡ 65536) }
+                × (vec_len buffer ≡ PIECE) }
             ensures { IfOk result (λ found.
                 IsFoundIn (T.to_come source) (T.fails source) found.records found.mark)
                 × IfErr result (λ fault.
@@ -89,7 +90,7 @@ pub fn run_frames<R: Threads + Wait + Sync, T: Tap + Send>(
             let reader = match scope.spawn_with(
                 promise,
                 move || -> Option<Giver<Framed>>
-                    requires { (given giver ≡ []) × (vec_len buffer ≡ 65536) }
+                    requires { (given giver ≡ []) × (vec_len buffer ≡ PIECE) }
                     ensures { GivesBack (T.to_come source) (T.fails source) giver result }
                 { give_all(rt, alloc, source, buffer, giver) },
             ) {

@@ -1,10 +1,11 @@
 use Rattle.std.proofs.Common.{◌≡◌, vec_len}
+use Rattle.streams.specs.declared.reading.TheConstants.{PIECE}
 use Rattle.books.specs.Books.{AreBooks}
 use Rattle.collector.proofs.plain.plain_books.Given as goal
 
 abbrev pub invariant-loop-file : goal.invariant-loop-file
 invariant-loop-file g l = record {
-  room : vec_len l.buffer ≡ 65536;
+  room : vec_len l.buffer ≡ PIECE;
   count : vec_len l.books ≡ l.file;
   each : AreBooks l.choice (g.O.Opener.meaning l.opener) 0 l.books.items;
 }

@@ -1,4 +1,5 @@
 use Rattle.std.proofs.Common.{◌≡◌, vec_len}
+use Rattle.streams.specs.declared.reading.TheConstants.{PIECE}
 use Rattle.ruled_lanes.specs.LinkEnds.{given, GivesToSame}
 use Rattle.ruled_lanes.specs.TicketSeats.{drawn, IsSeatOf}
 use Rattle.lanes.specs.Notes.{notes}
@@ -7,7 +8,7 @@ use Rattle.lane_runs.proofs.read_stage.read_stage.Given as goal
 
 abbrev pub invariant-loop : goal.invariant-loop
 invariant-loop g l = record {
-  room : vec_len l.buffer ≡ 65536;
+  room : vec_len l.buffer ≡ PIECE;
   seat : IsSeatOf l.tickets l.seat;
   to_same : GivesToSame l.fn.giver l.gives.giver;
   told : HasTold l.choice (g.O.Opener.meaning l.opener) (drawn l.seat) (notes g.L.Framed.Numbered.about (given l.gives.giver));
