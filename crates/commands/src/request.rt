@@ -168,13 +168,6 @@ fn describe_layout<'a>(alloc: Global) -> Result<Command<'a>, AllocError> {
             "Tells on standard error, where that is a terminal, how far the run is; given twice, also where it is none",
         )
         .action(ArgAction::Count);
-    let files = Arg::new(alloc, "FILE")
-        .help(
-            "Planar_code files, at most 256: the 15 bytes >>planar_code<< and then records; - is standard input",
-        )
-        .required(true)
-        .num_args(1..)
-        .action(ArgAction::Append);
     Command::new(alloc, "layout")
         .about(
             "Prints for each graph of planar_code files its fewest bends and whether it is drawn",
@@ -184,7 +177,17 @@ fn describe_layout<'a>(alloc: Global) -> Result<Command<'a>, AllocError> {
         .arg(outer)?
         .arg(json)?
         .arg(progress)?
-        .arg(files)
+        .arg(layout_files(alloc))
+}
+
+fn layout_files<'a>(alloc: Global) -> Arg<'a> {
+    Arg::new(alloc, "FILE")
+        .help(
+            "Planar_code files, at most 256: the 15 bytes >>planar_code<< and then records; - is standard input",
+        )
+        .required(true)
+        .num_args(1..)
+        .action(ArgAction::Append)
 }
 
 fn describe_frames<'a>(alloc: Global) -> Result<Command<'a>, AllocError> {
