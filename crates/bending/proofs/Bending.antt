@@ -11,7 +11,7 @@ use Rattle.sums.proofs.Sums.{sum_below-more}
 use Rattle.cutting.specs.declared.table.DartTable.{DartTable}
 use Rattle.cutting.specs.Tables.{web_of, room}
 use Rattle.bending.specs.Steps.{IsBent, turned, AreBent, passed, bent, angle_of, start_way}
-use Rattle.bending.proofs.Counting.{lesser_length, lesser_length-lesser, lesser_length-greater}
+use Rattle.bending.proofs.EdgeTurns.{lesser_length, lesser_length-lesser, lesser_length-greater}
 use Rattle.bending.proofs.Mirroring.{turn_counts}
 
 -- what one turn of the edge of e leads to

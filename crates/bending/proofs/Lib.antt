@@ -5,7 +5,7 @@ pub mod Turning
 pub mod Stepping
 pub mod Starting
 pub mod Ending
-pub mod Counting
+pub mod EdgeTurns
 pub mod Writing
 pub mod Bending
 pub mod Pathing

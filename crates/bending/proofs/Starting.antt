@@ -9,7 +9,7 @@ use Rattle.faces.specs.Planes.{PlaneModel, IsPlane, HasEnds, darts, vertices, he
 use Rattle.ortho_rep.specs.declared.turn.Turn.{Turn}
 use Rattle.ortho_rep.specs.Turns.{lefts, rights}
 use Rattle.ortho_rep.specs.Representation.{Rep}
-use Rattle.ortho_rep.proofs.Duality.{gains, losses, turning-split}
+use Rattle.ortho_rep.proofs.WeakDuality.{gains, losses, turning-split}
 use Rattle.headings.specs.Headings.{AreHeadings}
 use Rattle.cutting.specs.Webs.{Web, IsLinked, IsMeeting, around, excess}
 use Rattle.cutting.specs.Labels.{AreLabels}

@@ -1,3 +1,3 @@
-pub mod Begun
+pub mod LayoutBegun
 pub mod Refused
 pub mod Reported

@@ -6,7 +6,7 @@ use Rattle.cutting.specs.Webs.{Web, no_dart, IsSound}
 use Rattle.cutting.specs.Faces.{last_of}
 use Rattle.cutting.specs.Paths.{IsPath, turn_to, turning_places}
 use Rattle.cutting.proofs.Reading.{all_below}
-use Rattle.dissect.proofs.Walking.{behind, one_back, path_back}
+use Rattle.dissect.proofs.DartsInFront.{behind, one_back, path_back}
 use Rattle.compact.specs.Ordered.{places_along}
 
 -- the places where the walk turns in front of d, the nearest first

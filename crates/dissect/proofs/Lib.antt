@@ -1,5 +1,5 @@
-pub mod Walking
-pub mod Joined
+pub mod DartsInFront
+pub mod PathsOfEdges
 pub mod Keeping
 pub mod Rectangles
 pub mod Through

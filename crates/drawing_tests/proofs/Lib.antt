@@ -1,1 +1,1 @@
-mod Edges
+mod StraightEdge

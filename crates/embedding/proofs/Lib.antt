@@ -3,12 +3,12 @@ pub mod Entries
 pub mod FirstBelow
 pub mod Rotation
 pub mod KeptFacts
-pub mod Splits
+pub mod WrittenLists
 pub mod Places
-pub mod Reading
+pub mod ListStarts
 pub mod PairLemmas
 pub mod EachList
 pub mod Marking
 pub mod Symmetry
-pub mod Walking
+pub mod Reached
 pub mod Building

@@ -4,7 +4,7 @@ use Rattle.std.specs.List.{flat_map}
 use Rattle.planar_code.specs.Stream.{ended, lists_in}
 use Rattle.embedding.specs.Darts.{dart_count, first_dart}
 use Rattle.embedding.specs.Split.{IsSplit, start_of}
-use Rattle.embedding.proofs.Splits.{start_of-more, start_of-all, list_within, part_is, first_dart-start, spelt_short}
+use Rattle.embedding.proofs.WrittenLists.{start_of-more, start_of-all, list_within, part_is, first_dart-start, spelt_short}
 use Rattle.std.proofs.lemmas.List.{take_all}
 
 -- list k of g stands in the bytes from `from` up to the 0 before `to`

@@ -13,7 +13,7 @@ use Rattle.networks.specs.Fault.{HasFault}
 use Rattle.networks.specs.declared.fault.NetFault.{NetFault}
 use Rattle.networks.specs.declared.fault.NetFault.TheVariants.{TooLarge, BadEnd, BadSupply, BadCost}
 use Rattle.flow_network.specs.FaceNet.{IsFaceNet, arrivals}
-use Rattle.flow_network.proofs.Degrees.{arrivals_most}
+use Rattle.flow_network.proofs.VertexDegrees.{arrivals_most}
 
 -- a fact of each arc of the network
 pub each_arc : (p : PlaneModel) (net : Net) → IsFaceNet p net → (P : Arc → Type 0) →

@@ -17,7 +17,7 @@ use Rattle.min_cost_flow.specs.Excess.{KeepsCaps}
 use Rattle.min_cost_flow.specs.Existence.{IsJoined, IsBalanced}
 use Rattle.min_cost_flow.proofs.Existence.{flow_where_joined, excess_leaves}
 use Rattle.flow_network.specs.FaceNet.{IsFaceNet, arrivals}
-use Rattle.flow_network.proofs.Degrees.{vertex_has_dart, arrivals_most}
+use Rattle.flow_network.proofs.VertexDegrees.{vertex_has_dart, arrivals_most}
 
 -- the last number below n that passes, where one does
 abbrev pub last_below : ℕ → (ℕ → Bool) → ℕ

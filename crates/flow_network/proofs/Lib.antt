@@ -1,5 +1,5 @@
-pub mod Degrees
+pub mod VertexDegrees
 pub mod Flowing
 pub mod Pushing
 pub mod Faultless
-pub mod Turning
+pub mod TurnedOut

@@ -3,7 +3,7 @@ use Rattle.std.proofs.Common.{◌≡◌, ◌≢◌, ◌≤◌, ◌<◌, ℕ, zer
 use Rattle.std.proofs.lemmas.Bool.{cases_eq, eq-eqb, ne_eqb, eqb-true, cond-true, cond-false, and_from, and_parts, both_ways, not_from_false, not-true, true_from_ne_false}
 use Rattle.sums.specs.Sums.{sum_below}
 use Rattle.sums.proofs.Sums.{sum_below-lt}
-use Rattle.flow_network.proofs.Degrees.{search_below}
+use Rattle.flow_network.proofs.VertexDegrees.{search_below}
 
 -- n darts, each from the node `from d` to the node `to d`; the allowed ones may be taken
 pub record Joins : Type 0 where

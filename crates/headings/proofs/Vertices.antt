@@ -4,7 +4,7 @@ use Rattle.std.proofs.lemmas.Bool.{true_from_ne_false}
 use Rattle.embedding.specs.declared.rules.Rule.TheVariants.{Disconnected}
 use Rattle.embedding.specs.Rules.{IsClosed}
 use Rattle.faces.specs.Planes.{PlaneModel, IsPlane, HasEnds, darts, vertices, head, tail, reverse_dart, face_at}
-use Rattle.flow_network.proofs.Degrees.{entry_dart}
+use Rattle.flow_network.proofs.VertexDegrees.{entry_dart}
 use Rattle.headings.proofs.Trees.{Joins, Connects}
 use Rattle.headings.proofs.Peeling.{IsPaired}
 use Rattle.headings.proofs.Counting.{in_tree}

@@ -1,6 +1,6 @@
 mod Vectors
 pub mod TurnLemmas
-pub mod Duality
+pub mod WeakDuality
 pub mod Pieces
 pub mod EdgeNumbers
 pub mod Mirrors
@@ -8,6 +8,6 @@ pub mod Priced
 pub mod Tallied
 pub mod FewTurns
 pub mod FromFlow
-pub mod Joined
+pub mod JoinedLists
 pub mod Alike
 pub mod Tries

@@ -18,7 +18,7 @@ use Rattle.ortho_rep.specs.Representation.{bends_of}
 use Rattle.ortho_rep.specs.OfFlow.{angles_of, strings_of}
 use Rattle.ortho_rep.specs.Best.{HasRep, NeedsBends, IsBest}
 use Rattle.ortho_rep.specs.Tries.{IsLead, IsAhead, IsNoBetter, AreBounds}
-use Rattle.ortho_rep.proofs.Duality.{lefts_of, lengths-twice, least_by_prices, more_by_prices}
+use Rattle.ortho_rep.proofs.WeakDuality.{lefts_of, lengths-twice, least_by_prices, more_by_prices}
 use Rattle.ortho_rep.proofs.FromFlow.{lefts-of-run, rep_of_flow, prove_of_potentials}
 
 -- a face that is no better than one is no better than a better one

@@ -6,7 +6,7 @@ use Rattle.ortho_rep.specs.Shapes.{turns_at}
 use Rattle.cutting.specs.declared.table.DartTable.{DartTable}
 use Rattle.cutting.specs.Tables.{web_of}
 use Rattle.bending.specs.Steps.{IsBent, finished}
-use Rattle.bending.proofs.Counting.{lesser_length-lesser, lesser_few}
+use Rattle.bending.proofs.EdgeTurns.{lesser_length-lesser, lesser_few}
 use Rattle.bending.proofs.Bending.{AreDone, edge_done, edge_left}
 use Rattle.bending.proofs.edges.bend_edges.Goals as goal
 use Rattle.bending.proofs.edges.bend_edges.Goals.{then-dart-reverse, else-dart-reverse}

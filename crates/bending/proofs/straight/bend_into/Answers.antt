@@ -1,7 +1,7 @@
 use Rattle.std.proofs.Common.{slice_index, arith}
 use Rattle.ortho_rep.specs.Shapes.{angle_at, turns_at}
 use Rattle.cutting.specs.Tables.{web_of}
-use Rattle.bending.proofs.Counting.{bends_twice}
+use Rattle.bending.proofs.EdgeTurns.{bends_twice}
 use Rattle.bending.proofs.Starting.{linked, meeting}
 use Rattle.bending.proofs.Ending.{all_bends}
 use Rattle.bending.proofs.Pathing.{bends_have_paths, bends_are_joined}

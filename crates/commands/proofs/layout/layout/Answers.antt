@@ -1,6 +1,6 @@
 use Rattle.std.proofs.Common.{rules, length, refl}
 use Rattle.collector.proofs.Begun.{begun_by_nothing}
-use Rattle.commands.proofs.Begun.{begun_to_lay_out}
+use Rattle.commands.proofs.LayoutBegun.{begun_to_lay_out}
 use Rattle.commands.proofs.layout.layout.Goals as goal
 
 pub returns-in_default-clause-begun : goal.returns-in_default-clause-begun

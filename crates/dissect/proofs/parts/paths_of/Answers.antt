@@ -1,8 +1,8 @@
 use Rattle.std.proofs.Common.{◌≡◌, ◌∙◌, ◌++◌, ℕ, List, [], ◌∷◌, length, slice_index, slice_index_or, ap, arith, subst, sym, refl}
 use Rattle.cutting.specs.Tables.{web_of}
 use Rattle.cutting.specs.Paths.{IsPath}
-use Rattle.dissect.proofs.Joined.{IsPathOf}
-use Rattle.ortho_rep.proofs.Joined.{joined-starts, joined-pushed, joined-IsCut, joined-cut}
+use Rattle.dissect.proofs.PathsOfEdges.{IsPathOf}
+use Rattle.ortho_rep.proofs.JoinedLists.{joined-starts, joined-pushed, joined-IsCut, joined-cut}
 use Rattle.dissect.proofs.parts.paths_of.Goals as goal
 
 pub edges-init : goal.edges-init

@@ -6,7 +6,7 @@ use Rattle.cutting.specs.Webs.{no_dart}
 use Rattle.cutting.specs.Tables.{web_of}
 use Rattle.cutting.specs.Paths.{IsPath}
 use Rattle.cutting.proofs.Reading.{length-put_mid}
-use Rattle.dissect.proofs.Walking.{IsOnWay, depth, path_last_in, way_starts, way_on, way_ends}
+use Rattle.dissect.proofs.DartsInFront.{IsOnWay, depth, path_last_in, way_starts, way_on, way_ends}
 use Rattle.dissect.proofs.parts.push_path.Goals as goal
 
 -- a list whose end was written over

@@ -1,7 +1,7 @@
 use Rattle.std.proofs.Common.{◌≡◌, ◌<◌, ◌≤◌, ℕ, List, ◌∷◌, length, take, drop}
 use Rattle.cutting.specs.Tables.{web_of}
 use Rattle.cutting.specs.Paths.{IsPath}
-use Rattle.dissect.proofs.Walking.{IsOnWay, depth}
+use Rattle.dissect.proofs.DartsInFront.{IsOnWay, depth}
 use Rattle.dissect.proofs.parts.push_path.Given as goal
 
 abbrev pub invariant-back : goal.invariant-back

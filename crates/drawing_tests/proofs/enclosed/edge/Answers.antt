@@ -1,4 +1,4 @@
-use Rattle.drawing_tests.proofs.Edges.{edge_sound}
+use Rattle.drawing_tests.proofs.StraightEdge.{edge_sound}
 use Rattle.drawing_tests.proofs.enclosed.edge.Goals as goal
 
 pub returns-clause-sound : goal.returns-clause-sound

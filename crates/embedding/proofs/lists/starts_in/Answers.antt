@@ -1,8 +1,8 @@
 use Rattle.std.proofs.Common.{◌≡◌, ℕ, ◌<◌, ◌≤◌, List, length, get_or, refl, sym, ap, ◌∙◌, arith}
 use Rattle.std.specs.List.{flat_map}
 use Rattle.planar_code.specs.Stream.{ended, lists_in}
-use Rattle.embedding.proofs.Splits.{spelt_short}
-use Rattle.embedding.proofs.Reading.{next_list, reading_none, reading_end, reading_entry, reading_all}
+use Rattle.embedding.proofs.WrittenLists.{spelt_short}
+use Rattle.embedding.proofs.ListStarts.{next_list, reading_none, reading_end, reading_entry, reading_all}
 use Rattle.embedding.proofs.lists.starts_in.Goals as goal
 use Rattle.embedding.proofs.lists.starts_in.Goals.{then-byte-eq0, else-byte-eq0}
 

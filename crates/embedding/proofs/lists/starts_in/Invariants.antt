@@ -1,6 +1,6 @@
 -- `count` lists are behind the loop, and it stands in the next one.
 use Rattle.planar_code.specs.Stream.{lists_in}
-use Rattle.embedding.proofs.Reading.{IsReading}
+use Rattle.embedding.proofs.ListStarts.{IsReading}
 use Rattle.embedding.proofs.lists.starts_in.Given as goal
 
 abbrev pub invariant-loop-i : goal.invariant-loop-i

@@ -1,6 +1,6 @@
 use Rattle.std.proofs.Common.{◌≡◌, ℕ, ◌+◌, ◌-◌, ◌<◌, get_or, true, false, subst, arith}
 use Rattle.embedding.proofs.EachList.{yes_is, no_is}
-use Rattle.embedding.proofs.Walking.{unreached_breaks, reached_keeps}
+use Rattle.embedding.proofs.Reached.{unreached_breaks, reached_keeps}
 use Rattle.embedding.proofs.walks.breaks_disconnected.Goals as goal
 
 pub returns : goal.returns

@@ -1,5 +1,5 @@
 use Rattle.std.proofs.Common.{◌≡◌, ℕ, ◌<◌, get_or, false, sym, ap, ◌∙◌, arith}
-use Rattle.embedding.proofs.Walking.{queue_room, queue_more, marks_others}
+use Rattle.embedding.proofs.Reached.{queue_room, queue_more, marks_others}
 use Rattle.embedding.proofs.walks.reach.Goals as goal
 
 pub bounds-walk-walk : goal.bounds-walk-walk

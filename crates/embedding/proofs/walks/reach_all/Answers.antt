@@ -1,5 +1,5 @@
 use Rattle.std.proofs.Common.{get_or, refl, arith}
-use Rattle.embedding.proofs.Walking.{reaches_more, reaches_listed, reaches_others}
+use Rattle.embedding.proofs.Reached.{reaches_more, reaches_listed, reaches_others}
 use Rattle.embedding.proofs.walks.reach_all.Goals as goal
 
 pub loop-v-preserved : goal.loop-v-preserved

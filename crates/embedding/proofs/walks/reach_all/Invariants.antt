@@ -1,4 +1,4 @@
-use Rattle.embedding.proofs.Walking.{Reaches}
+use Rattle.embedding.proofs.Reached.{Reaches}
 use Rattle.embedding.proofs.walks.reach_all.Given as goal
 
 abbrev pub invariant-loop-v : goal.invariant-loop-v

@@ -1,5 +1,5 @@
 use Rattle.std.proofs.Common.{replicate, false, refl, arith}
-use Rattle.embedding.proofs.Walking.{queue_none, queue_short, blank_marks, walking_starts, walking_more, walking_ends}
+use Rattle.embedding.proofs.Reached.{queue_none, queue_short, blank_marks, walking_starts, walking_more, walking_ends}
 use Rattle.embedding.proofs.walks.reached_from_first.Goals as goal
 
 pub reach-requires : goal.reach-requires

@@ -1,5 +1,5 @@
 use Rattle.std.proofs.Common.{◌-◌, length}
-use Rattle.embedding.proofs.Walking.{IsWalking}
+use Rattle.embedding.proofs.Reached.{IsWalking}
 use Rattle.embedding.proofs.walks.reached_from_first.Given as goal
 
 abbrev pub invariant-loop-done : goal.invariant-loop-done

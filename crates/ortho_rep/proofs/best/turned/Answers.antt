@@ -2,7 +2,7 @@ use Rattle.std.proofs.Common.{◌≡◌, ◌+◌, ℕ, ap, sym, ◌∙◌, subst
 use Rattle.faces.specs.Planes.{with_outer}
 use Rattle.networks.specs.Net.{Net, shifted, HasFairSupplies}
 use Rattle.networks.specs.Flow.{Flow}
-use Rattle.flow_network.proofs.Turning.{turned_fair}
+use Rattle.flow_network.proofs.TurnedOut.{turned_fair}
 use Rattle.flow_network.proofs.Flowing.{net_flows}
 use Rattle.flow_network.proofs.Faultless.{arc_ends}
 use Rattle.ortho_rep.proofs.Tries.{plane_turned}

@@ -2,7 +2,7 @@ use Rattle.std.proofs.Common.{rules, below_more, ap, arith}
 use Rattle.embedding.specs.Darts.{dart_count}
 use Rattle.ortho_rep.specs.Prices.{Prove, vertex_price, face_price}
 use Rattle.ortho_rep.specs.Shapes.{angle_at, turns_at}
-use Rattle.ortho_rep.proofs.Duality.{least_by_prices}
+use Rattle.ortho_rep.proofs.WeakDuality.{least_by_prices}
 use Rattle.ortho_rep.proofs.certificate.are_priced.Goals as goal
 
 pub loop-dart-preserved : goal.loop-dart-preserved

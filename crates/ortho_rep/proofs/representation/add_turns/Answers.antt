@@ -5,7 +5,7 @@ use Rattle.faces.specs.Planes.{darts, face_at}
 use Rattle.ortho_rep.specs.Shapes.{angle_at, turns_at}
 use Rattle.ortho_rep.specs.Turns.{lefts, rights}
 use Rattle.ortho_rep.proofs.Tallied.{tallied, tallied-bound}
-use Rattle.ortho_rep.proofs.Duality.{part_at, gains, losses, turning-split}
+use Rattle.ortho_rep.proofs.WeakDuality.{part_at, gains, losses, turning-split}
 use Rattle.ortho_rep.proofs.TurnLemmas.{lefts-add-rights}
 use Rattle.ortho_rep.proofs.representation.add_turns.Goals as goal
 

@@ -2,7 +2,7 @@ use Rattle.std.proofs.Common.{◌≡◌, ◌+◌, ℕ, ap, sym, ◌∙◌, subst
 use Rattle.faces.specs.Planes.{vertices, with_outer}
 use Rattle.networks.specs.Net.{Net, shifted, HasFairSupplies}
 use Rattle.flow_network.specs.FaceNet.{IsFaceNet, FaceNetModel}
-use Rattle.flow_network.proofs.Turning.{net_turned, turned_fair}
+use Rattle.flow_network.proofs.TurnedOut.{net_turned, turned_fair}
 use Rattle.flow_network.proofs.face_net.FaceNet.turn_out.Goals as goal
 
 pub shift-requires-clause-fair : goal.shift-requires-clause-fair

@@ -10,7 +10,7 @@ use Rattle.faces.proofs.Degrees.{degree_few}
 use Rattle.networks.specs.Net.{Net, supply_at, shifted, HasFairSupplies}
 use Rattle.networks.proofs.Moving.{delta, moved_at, length-moved}
 use Rattle.flow_network.specs.FaceNet.{IsFaceNet, arrivals}
-use Rattle.flow_network.proofs.Degrees.{arrivals_most}
+use Rattle.flow_network.proofs.VertexDegrees.{arrivals_most}
 
 turned_face : (b c : Bool) (s s' : ℤ) (k : ℕ) → s ≡ (if b then negsuc 3 else pos 4) -ℤ pos k → s' ≡ s +ℤ (pos (cond {A = ℕ} b 8 0) -ℤ pos (cond {A = ℕ} c 8 0)) → s' ≡ (if c then negsuc 3 else pos 4) -ℤ pos k
 turned_face true true s s' k h e = omega (arith, ints)

@@ -5,7 +5,7 @@ use Rattle.std.proofs.lemmas.List.{get_or-set_same, get_or-set_other, length-set
 use Rattle.std.proofs.lemmas.Bool.{cases_lt, cases_eq}
 use Rattle.planar_code.specs.Stream.{IsList, ended}
 use Rattle.embedding.specs.Split.{start_of}
-use Rattle.embedding.proofs.Splits.{start_of-more, start_of-all, start_of-within, byte_in, byte_behind}
+use Rattle.embedding.proofs.WrittenLists.{start_of-more, start_of-all, start_of-within, byte_in, byte_behind}
 
 -- before byte i, `count` lists are whole, and the starts are known up to that of the next one
 pub record IsReading (g : List (List ℕ)) (starts : List ℕ) (i count : ℕ) : Type 0 where
