@@ -12,3 +12,4 @@ pub mod Marking
 pub mod Symmetry
 pub mod Reached
 pub mod Building
+pub mod Lesser

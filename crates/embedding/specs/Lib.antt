@@ -8,3 +8,4 @@ pub mod Split
 pub mod Pairs
 pub mod Walks
 pub mod Faults
+pub mod Lesser

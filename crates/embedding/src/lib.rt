@@ -7,6 +7,7 @@
 mod breaks;
 mod faults;
 mod graphs;
+mod lesser_darts;
 mod lists;
 mod pairs;
 mod rules;
@@ -15,4 +16,5 @@ mod walks;
 
 pub use faults::ReadFault;
 pub use graphs::{Graph, MAX_DARTS};
+pub use lesser_darts::LesserDarts;
 pub use rules::Rule;

@@ -11,3 +11,4 @@ pub mod Reading
 pub mod Walking
 pub mod Plains
 pub mod TooLong
+pub mod Parsing

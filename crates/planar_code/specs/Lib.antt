@@ -6,3 +6,4 @@ pub mod Scan
 pub mod Framer
 pub mod Step
 pub mod Plain
+pub mod Parse

@@ -2,9 +2,11 @@
 ghost use Rattle.std.specs.Prelude.{codes, ◌≡◌, ℕ, ◌<◌, ◌≤◌, List, [], ◌++◌, length, All};
 ghost use Rattle.planar_code.specs.declared.TheConstants.{MAX_RECORDS};
 ghost use Rattle.planar_code.specs.declared.ending.Ending.{Ending};
+ghost use Rattle.planar_code.specs.declared.parse.ParseFault.{ParseFault};
 ghost use Rattle.planar_code.specs.Stream.{IsRecord, HasLongList, lists_of};
 ghost use Rattle.planar_code.specs.Split.{IsSplit, IsOpen};
 ghost use Rattle.planar_code.specs.Place.{Place, StandsAt, IsRunning};
+ghost use Rattle.planar_code.specs.Parse.{IsParseFault};
 
 use crate::HEADER;
 
@@ -21,6 +23,15 @@ pub fn record_lists()
 /// No record is a front of another.
 pub fn no_front()
     ensures { (bytes more : List ℕ) → IsRecord bytes → IsRecord (bytes ++ more) → more ≡ [] }
+{}
+
+/// Of the faults of a record's parse at most one fits; what is one record has none but want of
+/// memory.
+pub fn one_fault()
+    ensures { (bytes : List ℕ) (fault other : ParseFault)
+        → IsParseFault bytes fault
+        → IsParseFault bytes other
+        → fault ≡ other }
 {}
 
 /// A stream splits in one way at most.

@@ -9,7 +9,7 @@ use crate::{HEADER, MAX_LIST, MAX_RECORDS};
 use std::alloc::{AllocError, Global};
 
 /// Where a list or a record that some bytes begin with ends.
-enum End {
+pub enum End {
     /// After so many bytes.
     After(usize),
     /// Not yet: it is cut.
@@ -34,7 +34,7 @@ fn list_end(bytes: &[u8]) -> End
 }
 
 /// Where the record ends that the bytes begin with.
-fn record_end(bytes: &[u8]) -> End
+pub fn record_end(bytes: &[u8]) -> End
     requires some { 0 < length bytes.now }
     requires nonzero { slice_index bytes.now 0 ≢ 0 }
     ensures { EndsRecord bytes.now result }
