@@ -55,12 +55,12 @@ impl Graph {
     ///
     /// `Rule` with the first of rules 1 to 7 that the record's lists break, exactly where they
     /// break one; `Memory` where they break none, but there was no memory for the graph.
-    pub fn read(alloc: Global, record: &Record) -> Result<Graph, ReadFault>
-        ensures lists { IfOk result (λ graph. graph ≡ lists_of record.now) }
-        ensures rules { OnOk result (KeepsBefore (lists_of record.now) 8) }
-        ensures fault { IfErr result (IsReadFault (lists_of record.now)) }
+    pub fn read(alloc: Global, rec: &Record) -> Result<Graph, ReadFault>
+        ensures lists { IfOk result (λ graph. graph ≡ lists_of rec.now) }
+        ensures rules { OnOk result (KeepsBefore (lists_of rec.now) 8) }
+        ensures fault { IfErr result (IsReadFault (lists_of rec.now)) }
     {
-        let lists = Lists::of(record);
+        let lists = Lists::of(rec);
         if let Some(rule) = first_broken(&lists) {
             return Err(ReadFault::Rule(rule));
         }

@@ -51,12 +51,12 @@ fn starts_in(bytes: &[u8]) -> [u16; 256]
 
 impl<'a> Lists<'a> {
     /// The lists of a record, in one pass over its bytes.
-    pub(crate) fn of(record: &'a Record) -> Lists<'a>
-        ensures value { result ≡ lists_of record.now }
+    pub(crate) fn of(rec: &'a Record) -> Lists<'a>
+        ensures value { result ≡ lists_of rec.now }
         ensures few { length result < 256 }
     {
-        let count = record.order();
-        let bytes = &record.bytes()[1..];
+        let count = rec.order();
+        let bytes = &rec.bytes()[1..];
         let starts = starts_in(bytes);
         Lists {
             bytes,
