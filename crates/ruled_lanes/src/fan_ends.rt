@@ -88,7 +88,7 @@ impl<T: Drop> LaneGiver<T> {
     }
 
     /// Adds an item of its lane at the end of the fan, in one step, and waits while the fan is full: at
-    /// first it tries again for some microseconds, then its thread sleeps. `Closed` hands the item back,
+    /// first it tries again for about a millisecond, then its thread sleeps. `Closed` hands the item back,
     /// and then what was given stays as it was. No clause says when `Closed` comes: it does where the
     /// gatherer is gone. It takes no memory.
     pub fn give<R: Wait>(&mut self, rt: &R, item: T) -> Result<(), Closed<T>>
@@ -151,7 +151,7 @@ impl<T: Drop> Gatherer<T> {
     }
 
     /// The item at the front of the fan, with the number of its lane, taken in one step. It waits while
-    /// the fan is empty: at first it tries again for some microseconds, then its thread sleeps. After
+    /// the fan is empty: at first it tries again for about a millisecond, then its thread sleeps. After
     /// `Closed` what was taken stays as it was. No clause says when `Closed` comes: it does where all
     /// givers are gone and all that they gave was taken. It takes no memory.
     pub fn take<R: Wait>(&mut self, rt: &R) -> Result<(u32, T), Closed<()>>

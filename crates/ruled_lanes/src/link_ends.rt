@@ -67,7 +67,7 @@ impl<T: Drop> Giver<T> {
     }
 
     /// Adds an item at the end of the link, in one step, and waits while the link is full: at first it
-    /// tries again for some microseconds, then its thread sleeps. `Closed` hands the item back, and then
+    /// tries again for about a millisecond, then its thread sleeps. `Closed` hands the item back, and then
     /// what was given stays as it was. No clause says when `Closed` comes: it does where the taker is
     /// gone. It takes no memory.
     pub fn give<R: Wait>(&mut self, rt: &R, item: T) -> Result<(), Closed<T>>
@@ -124,7 +124,7 @@ impl<T: Drop> Taker<T> {
     }
 
     /// The item at the front of the link, taken in one step. It waits while the link is empty: at first
-    /// it tries again for some microseconds, then its thread sleeps. After `Closed` what was taken stays
+    /// it tries again for about a millisecond, then its thread sleeps. After `Closed` what was taken stays
     /// as it was. No clause says when `Closed` comes: it does where the giver is gone and all that it
     /// gave was taken. It takes no memory.
     pub fn take<R: Wait>(&mut self, rt: &R) -> Result<T, Closed<()>>
