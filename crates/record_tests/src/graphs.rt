@@ -65,6 +65,8 @@ fn triangle_has_its_darts(rt: HostRuntime) -> Result<(), Fail> {
     );
     assert!(rt; triangle.vertices() == 3);
     same(&rt, triangle.neighbours(2), [3, 1].as_slice());
+    let lesser = triangle.lesser_darts().collect::<Vec<u16>>(rt.alloc())?;
+    same(&rt, lesser.as_slice(), [0, 1, 2].as_slice());
     Ok(())
 }
 

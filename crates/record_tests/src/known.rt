@@ -2,7 +2,7 @@
 
 use embedding::Graph;
 use faces::Plane;
-use planar_code::{Framer, HEADER, Record};
+use planar_code::Record;
 use std::alloc::Global;
 use std::fmt::Debug;
 use std::process::Abort;
@@ -40,11 +40,7 @@ pub(crate) const CUBE: [u8; 33] = [
 
 /// The record that these bytes are, if there is memory for it.
 pub(crate) fn record_of(alloc: Global, bytes: &[u8]) -> Option<Record> {
-    let mut framer = Framer::new(alloc).ok()?;
-    let mut records = Vec::new(alloc);
-    framer.feed(alloc, &HEADER, &mut records).ok()?;
-    framer.feed(alloc, bytes, &mut records).ok()?;
-    records.pop()
+    Record::parse(alloc, bytes).ok()
 }
 
 /// The graph of a record.

@@ -11,6 +11,8 @@ mod graphs;
 #[cfg(test)]
 mod known;
 #[cfg(test)]
+mod parsing;
+#[cfg(test)]
 mod planes;
 #[cfg(test)]
 mod rules;
