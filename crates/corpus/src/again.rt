@@ -143,7 +143,7 @@ fn draw<R: Print + Eprint + AllocGlobal>(
     drop(boxes);
     ensure!(
         points.vertex_count() == usize::from(plane.graph().vertices())
-            && 2 * points.edge_count() == usize::from(plane.graph().darts()),
+            && points.edge_count() == usize::from(plane.graph().edges()),
         "points are missing"
     );
     print_points(rt, drawing_again(rt, plane, shape, points)?.points())

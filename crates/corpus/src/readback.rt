@@ -55,7 +55,7 @@ fn test_points(alloc: Global, plane: &Plane, shape: &Shape, points: Points) -> R
     requires { IsShape plane.now shape.now }
 {
     let whole = points.vertex_count() == usize::from(plane.graph().vertices())
-        && 2 * points.edge_count() == usize::from(plane.graph().darts());
+        && points.edge_count() == usize::from(plane.graph().edges());
     ensure!(
         whole,
         "not a point for each vertex and corners for each edge"
