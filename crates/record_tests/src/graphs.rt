@@ -143,6 +143,6 @@ fn readers_take_no_memory(rt: HostRuntime) {
     same(&rt, record.bytes(), TRIANGLE.as_slice());
     if let Ok(graph) = Graph::read(rt.alloc(), &record) {
         expect_triangle(&rt, &graph);
-        same(&rt, graph.lesser_darts().count(), 3);
+        same(&rt, graph.lesser_darts().next(), Some(0));
     }
 }
