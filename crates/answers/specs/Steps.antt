@@ -5,12 +5,12 @@ use Rattle.embedding.specs.Rules.{FirstBroken}
 use Rattle.choices.specs.declared.Choice.{Choice}
 use Rattle.faces.specs.Planes.{PlaneModel, IsPlane, IsWidest}
 use Rattle.ortho_rep.specs.Best.{IsChosen}
-use Rattle.answers.specs.declared.refusal.Refusal.{Refusal}
-use Rattle.answers.specs.declared.refusal.Refusal.TheVariants.{Rule, Memory}
+use Rattle.answers.specs.declared.fault.LayoutFault.{LayoutFault}
+use Rattle.answers.specs.declared.fault.LayoutFault.TheVariants.{Rule, Memory}
 use Rattle.answers.specs.declared.layout.Layout.{Layout}
 
--- the plane of a record of these bytes, as its faces were traced
-pub record IsTraced (bytes : List ℕ) (plane : PlaneModel) : Type 0 where
+-- the plane of a record of these bytes, once its faces are traced
+pub record IsTracedPlane (bytes : List ℕ) (plane : PlaneModel) : Type 0 where
   -- it has the record's neighbour lists
   pub lists : plane.lists ≡ lists_of bytes
   -- no rule is broken, and the faces are those of the lists
@@ -25,16 +25,16 @@ pub record IsPlaneOf (choice : Choice) (bytes : List ℕ) (plane : PlaneModel) :
   pub chosen : IsChosen choice plane
 
 -- why such a record has no plane: the rule is broken, and none before it; want of memory says nothing
-abbrev pub IsRefused : List ℕ → Refusal → Type 0
+abbrev pub IsRefused : List ℕ → LayoutFault → Type 0
 IsRefused bytes (Rule rule) = FirstBroken (lists_of bytes) rule
 IsRefused bytes Memory = ⊤
 
 -- the plane of the record, or why there is none
-abbrev pub IsEmbedded : List ℕ → Result PlaneModel Refusal → Type 0
-IsEmbedded bytes (Ok plane) = IsTraced bytes plane
-IsEmbedded bytes (Err refusal) = IsRefused bytes refusal
+abbrev pub IsEmbedded : List ℕ → Result PlaneModel LayoutFault → Type 0
+IsEmbedded bytes (Ok plane) = IsTracedPlane bytes plane
+IsEmbedded bytes (Err fault) = IsRefused bytes fault
 
 -- a layout of the record's plane with the chosen outer face, or why there is none
-abbrev pub IsShaped : Choice → List ℕ → Result Layout Refusal → Type 0
+abbrev pub IsShaped : Choice → List ℕ → Result Layout LayoutFault → Type 0
 IsShaped choice bytes (Ok layout) = IsPlaneOf choice bytes layout.plane
-IsShaped choice bytes (Err refusal) = IsRefused bytes refusal
+IsShaped choice bytes (Err fault) = IsRefused bytes fault

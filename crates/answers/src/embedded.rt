@@ -2,7 +2,7 @@
 
 ghost use Rattle.answers.specs.Steps.{IsEmbedded};
 
-use crate::refusal::Refusal;
+use crate::fault::LayoutFault;
 use crate::shaped::Shaped;
 use crate::stages::shape;
 use choices::Choice;
@@ -22,7 +22,7 @@ pub struct Embedded {
     pub rec: Record,
     /// How the outer face of its plane is chosen.
     pub choice: Choice,
-    pub plane: Result<Plane, Refusal>,
+    pub plane: Result<Plane, LayoutFault>,
     pub ghost embedded: { ∥ IsEmbedded rec plane ∥₁ },
 }
 

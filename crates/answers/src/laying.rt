@@ -3,7 +3,7 @@
 ghost use Rattle.std.specs.Prelude.{ℕ, List, IfOk, OnOk};
 ghost use Rattle.ortho_rep.specs.Representation.{IsShape, IsLeast};
 ghost use Rattle.ortho_rep.specs.Prices.{IsProof};
-ghost use Rattle.answers.specs.Steps.{IsTraced, IsPlaneOf};
+ghost use Rattle.answers.specs.Steps.{IsTracedPlane, IsPlaneOf};
 
 use crate::layout::Layout;
 use choices::Choice;
@@ -23,7 +23,7 @@ pub(crate) fn lay(
     choice: Choice,
 ) -> Result<Layout, AllocError>
     ensures { IfOk result (λ layout. (bytes : List ℕ)
-        → IsTraced bytes plane → IsPlaneOf choice bytes layout.plane) }
+        → IsTracedPlane bytes plane → IsPlaneOf choice bytes layout.plane) }
 {
     let (shape, prices) = shape_of(alloc, scratch, &mut plane, choice)?;
     Ok(Layout {
@@ -41,7 +41,7 @@ fn shape_of(
     choice: Choice,
 ) -> Result<(Shape, Prices), AllocError>
     ensures chosen { OnOk result ((bytes : List ℕ)
-        → IsTraced bytes plane.old → IsPlaneOf choice bytes plane.new) }
+        → IsTracedPlane bytes plane.old → IsPlaneOf choice bytes plane.new) }
     ensures shape { IfOk result (λ found. IsShape plane.new found.0) }
     ensures least { IfOk result (λ found. IsLeast plane.new found.0) }
     ensures proof { IfOk result (λ found. IsProof plane.new found.0 found.1) }

@@ -5,18 +5,18 @@
 
 mod drawing;
 mod embedded;
+mod fault;
 mod framed;
 mod laying;
 mod layout;
-mod refusal;
 mod shaped;
 mod stages;
 
 pub use drawing::DrawScratch;
 pub use embedded::Embedded;
 pub use entries::{Answer, Cause, Entry};
+pub use fault::LayoutFault;
 pub use framed::Framed;
 pub use layout::Layout;
-pub use refusal::Refusal;
 pub use shaped::Shaped;
 pub use stages::answer;

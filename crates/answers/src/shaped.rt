@@ -3,8 +3,8 @@
 ghost use Rattle.answers.specs.Steps.{IsShaped};
 
 use crate::drawing::DrawScratch;
+use crate::fault::LayoutFault;
 use crate::layout::Layout;
-use crate::refusal::Refusal;
 use crate::stages::answer_with;
 use choices::Choice;
 use entries::Entry;
@@ -22,7 +22,7 @@ pub struct Shaped {
     pub rec: Record,
     /// How the outer face of its plane is chosen.
     pub choice: Choice,
-    pub layout: Result<Layout, Refusal>,
+    pub layout: Result<Layout, LayoutFault>,
     pub ghost shaped: { ∥ IsShaped choice rec layout ∥₁ },
 }
 

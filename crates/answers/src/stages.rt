@@ -6,9 +6,9 @@ ghost use Rattle.choices.specs.declared.Choice.{Choice};
 ghost use Rattle.entries.specs.Answers.{Answers};
 
 use crate::drawing::{DrawScratch, draw};
+use crate::fault::LayoutFault;
 use crate::laying::lay;
 use crate::layout::Layout;
-use crate::refusal::Refusal;
 use choices::Choice;
 use embedding::{Graph, ReadFault, Rule};
 use entries::{Answer, Entry};
@@ -18,18 +18,18 @@ use planar_code::Record;
 use std::alloc::{AllocError, Global};
 
 /// The plane of a record, or why there is none.
-pub(crate) fn embed(alloc: Global, rec: &Record) -> Result<Plane, Refusal>
+pub(crate) fn embed(alloc: Global, rec: &Record) -> Result<Plane, LayoutFault>
     ensures { IsEmbedded rec.now result }
 {
     let graph = match Graph::read(alloc, rec) {
         Ok(graph) => graph,
-        Err(ReadFault::Rule(rule)) => return Err(Refusal::Rule(rule)),
-        Err(ReadFault::Memory) => return Err(Refusal::Memory),
+        Err(ReadFault::Rule(rule)) => return Err(LayoutFault::Rule(rule)),
+        Err(ReadFault::Memory) => return Err(LayoutFault::Memory),
     };
     match Plane::trace(alloc, graph) {
         Ok(plane) => Ok(plane),
-        Err(TraceFault::Genus(_)) => Err(Refusal::Rule(Rule::Genus)),
-        Err(TraceFault::Memory(_)) => Err(Refusal::Memory),
+        Err(TraceFault::Genus(_)) => Err(LayoutFault::Rule(Rule::Genus)),
+        Err(TraceFault::Memory(_)) => Err(LayoutFault::Memory),
     }
 }
 
@@ -37,14 +37,14 @@ pub(crate) fn embed(alloc: Global, rec: &Record) -> Result<Plane, Refusal>
 pub(crate) fn shape(
     alloc: Global,
     scratch: &mut Scratch,
-    plane: Result<Plane, Refusal>,
+    plane: Result<Plane, LayoutFault>,
     choice: Choice,
-) -> Result<Layout, Refusal>
+) -> Result<Layout, LayoutFault>
     ensures { (bytes : List ℕ) → IsEmbedded bytes plane → IsShaped choice bytes result }
 {
     match lay(alloc, scratch, plane?, choice) {
         Ok(layout) => Ok(layout),
-        Err(AllocError) => Err(Refusal::Memory),
+        Err(AllocError) => Err(LayoutFault::Memory),
     }
 }
 
@@ -52,7 +52,7 @@ pub(crate) fn shape(
 pub(crate) fn answer_with(
     alloc: Global,
     scratch: &mut DrawScratch,
-    layout: Result<Layout, Refusal>,
+    layout: Result<Layout, LayoutFault>,
 ) -> Answer
     ensures { (choice : Choice) (bytes : List ℕ) → IsShaped choice bytes layout → Answers choice bytes result }
 {
@@ -62,8 +62,8 @@ pub(crate) fn answer_with(
         prices,
     } = match layout {
         Ok(layout) => layout,
-        Err(Refusal::Rule(rule)) => return Answer::Refused(rule),
-        Err(Refusal::Memory) => return Answer::NoMemory,
+        Err(LayoutFault::Rule(rule)) => return Answer::Refused(rule),
+        Err(LayoutFault::Memory) => return Answer::NoMemory,
     };
     match draw(alloc, scratch, &plane, &shape) {
         Ok(drawing) => Answer::Laid {

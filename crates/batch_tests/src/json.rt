@@ -142,7 +142,7 @@ fn writes_a_beginning_before_a_fault(rt: HostRuntime) -> Result<(), Fail> {
     Ok(())
 }
 
-/// What is written of a batch into a writer with little room, and the answer.
+/// What is written of a batch into a writer that takes at most 100 bytes a call, and the answer.
 fn narrow_text(alloc: Global, batch: &Batch) -> (Narrow, Result<(), WriteFault>) {
     let mut sink = IoSink::new(Narrow::new(2048, 100));
     let found = write_json(alloc, batch, &mut sink);
@@ -165,7 +165,7 @@ fn names_want_of_memory(rt: HostRuntime) {
     );
 }
 
-/// Of two texts, each with its answer, one is a beginning of the other, and says so.
+/// Two texts, each with its answer, are the same; or one is a beginning of the other, and its answer names the want.
 fn are_allowed(
     first: &[u8],
     found: Result<(), WriteFault>,

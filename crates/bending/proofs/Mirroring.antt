@@ -3,7 +3,7 @@ use Rattle.std.proofs.Common.{◌≡◌, ◌≢◌, ◌+◌, ◌*◌, ◌-◌, �
 use Rattle.ortho_rep.specs.declared.turn.Turn.{Turn}
 use Rattle.ortho_rep.specs.declared.turn.Turn.TheVariants.{Left, Right}
 use Rattle.ortho_rep.specs.Turns.{opposite, mirrored, lefts, rights}
-use Rattle.ortho_rep.proofs.TurnLemmas.{lefts-add-rights, lefts-mirrored, lefts-cons, rights-cons}
+use Rattle.ortho_rep.proofs.TurnCounts.{lefts-add-rights, lefts-mirrored, lefts-cons, rights-cons}
 use Rattle.ortho_rep.proofs.Mirrors.{length-mirrored, get_or-mirrored, mirrored-from}
 use Rattle.bending.specs.Steps.{angle_of}
 

@@ -4,7 +4,7 @@ use Rattle.std.proofs.lemmas.Bool.{cases_eq}
 use Rattle.sums.specs.Sums.{sum_below}
 use Rattle.ortho_rep.specs.declared.turn.Turn.{Turn}
 use Rattle.ortho_rep.specs.Turns.{mirrored, lefts, rights}
-use Rattle.ortho_rep.proofs.TurnLemmas.{lefts-mirrored}
+use Rattle.ortho_rep.proofs.TurnCounts.{lefts-mirrored}
 use Rattle.ortho_rep.proofs.Mirrors.{length-mirrored}
 use Rattle.cutting.specs.Webs.{Web, IsLinked, IsSplit, excess}
 use Rattle.cutting.proofs.Splitting.{by_place, part, part_here, part_elsewhere, part_same}

@@ -8,7 +8,7 @@ use Rattle.lanes.specs.Files.{IsReady}
 use Rattle.entries.specs.declared.entry.Entry.{Entry}
 use Rattle.entries.specs.Abouts.{about_of}
 use Rattle.books.specs.Books.{BookModel, IsBook}
-use Rattle.books.proofs.Whole.{all_answered}
+use Rattle.books.proofs.KeptBooks.{all_answered}
 
 pub ready_some : (choice : Choice) (meaning : Meaning) (file : ℕ) (draft : Draft Entry) → IsReady about_of choice meaning file draft → IsSome draft.mark
 ready_some choice meaning file draft ready = subst (λ m. IsSome m) (sym ready.marked) refl

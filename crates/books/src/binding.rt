@@ -14,6 +14,10 @@ use lanes::Draft;
 use std::alloc::{AllocError, Global};
 
 /// The books of drafts that are each all of their file.
+///
+/// # Errors
+///
+/// `AllocError` where there is no memory for the list of books.
 pub fn bind(alloc: Global, drafts: Vec<Draft<Entry>>) -> Result<Batch, AllocError>
     requires few { vec_len drafts ≤ MAX_FILES }
     requires ready { (choice : Choice) × (meaning : ℕ → Meaning) × AreReady about_of choice meaning 0 drafts.items }

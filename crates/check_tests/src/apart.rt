@@ -70,7 +70,8 @@ fn count_lacking(rt: &impl Abort, found: Result<bool, AllocError>, apart: bool) 
     }
 }
 
-// Rectangles in few rows, which go into a table, and the same a thousand rows up, which go into a map. Run
+// Rectangles, all but the last in few rows, which go into a table, and the same a thousand rows up, which go
+// into a map. Run
 // with each allocation refused in turn too: then one answer is not given, and the others are right.
 #[test]
 fn tells_what_is_apart(rt: HostRuntime) {

@@ -220,11 +220,9 @@ fn all_fit(plane: &Plane, shape: &Shape, paths: &[Vec<Place>]) -> Result<bool, F
 /// The places between the ends of the edges.
 fn all_met(alloc: Global, plane: &Plane, paths: &[Vec<Place>]) -> Result<Vec<Place>, Fail> {
     let mut places = Vec::new(alloc);
-    for dart in 0..plane.graph().darts() {
-        if dart < plane.graph().reverse(dart) {
-            let path = paths.get(usize::from(dart)).ok_or("no path")?;
-            places.extend_from_slice(met(alloc, path)?.as_slice())?;
-        }
+    for dart in plane.graph().lesser_darts() {
+        let path = paths.get(usize::from(dart)).ok_or("no path")?;
+        places.extend_from_slice(met(alloc, path)?.as_slice())?;
     }
     Ok(places)
 }

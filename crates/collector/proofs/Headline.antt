@@ -17,7 +17,7 @@ use Rattle.entries.specs.declared.entry.Entry.{Entry}
 use Rattle.entries.specs.Answers.{Answers}
 use Rattle.entries.specs.Abouts.{about_of}
 use Rattle.books.specs.Books.{BookModel, IsBook, AreBooks}
-use Rattle.books.specs.Results.{AreAllBooks}
+use Rattle.books.specs.AllBooks.{AreAllBooks}
 use Rattle.collector.specs.Headline.{IsDecided, IsEntryFor, AreOneForEach, IsWholeRun, HasMemory}
 
 decided : (choice : Choice) (bytes : List ℕ) (answer : Answer) → answer ≢ NoMemory → Answers choice bytes answer → IsDecided choice bytes answer

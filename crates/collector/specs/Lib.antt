@@ -1,2 +1,2 @@
 pub mod Headline
-pub mod Texts
+pub mod TextRuns

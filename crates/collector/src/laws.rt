@@ -3,7 +3,7 @@ ghost use Rattle.std.specs.Prelude.{◌≡◌, ℕ, ◌<◌, List, false, slice_
 ghost use Rattle.choices.specs.declared.Choice.{Choice};
 ghost use Rattle.lanes.specs.Opening.{Meaning, Opened};
 ghost use Rattle.books.specs.Books.{BookModel};
-ghost use Rattle.books.specs.Results.{AreAllBooks};
+ghost use Rattle.books.specs.AllBooks.{AreAllBooks};
 ghost use Rattle.collector.specs.Headline.{IsWholeRun, HasMemory};
 
 /// Where `run_plain` or `run_batch` hands out books, the book of each file that opens and gives all

@@ -2,7 +2,7 @@
 ghost use Rattle.std.specs.Prelude.{◌≡◌, ◌<◌, ◌≤◌, ◌⊎◌, ◌↔◌, Err, IfOk, IfErr, length, vec_len};
 ghost use Rattle.books.specs.declared.limits.TheConstants.{MAX_FILES};
 ghost use Rattle.books.specs.Books.{IsBook};
-ghost use Rattle.books.specs.Results.{AreAllBooks};
+ghost use Rattle.books.specs.AllBooks.{AreAllBooks};
 
 use crate::kept::Entries;
 use books::{Batch, Book, MAX_FILES};

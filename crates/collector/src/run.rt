@@ -2,7 +2,7 @@
 ghost use Rattle.std.specs.Prelude.{◌≡◌, ◌≤◌, ◌<◌, ◌⊎◌, ◌↔◌, Err, IfOk};
 ghost use Rattle.ruled_lanes.specs.declared.limits.TheConstants.{LANES, MAX_CAPACITY};
 ghost use Rattle.books.specs.declared.limits.TheConstants.{MAX_FILES};
-ghost use Rattle.books.specs.Results.{AreAllBooks};
+ghost use Rattle.books.specs.AllBooks.{AreAllBooks};
 
 use crate::answering::Answering;
 use books::{Batch, MAX_FILES, bind};

@@ -7,7 +7,7 @@ ghost use Rattle.lanes.specs.Files.{AreToldWhole};
 ghost use Rattle.lanes.specs.Opening.{Silent};
 ghost use Rattle.lane_runs.specs.Faults.{EndsRun};
 ghost use Rattle.texts.specs.Whole.{IsAllWritten, IsBegun};
-ghost use Rattle.collector.specs.Texts.{IsRefused};
+ghost use Rattle.collector.specs.TextRuns.{IsRefusedRun};
 
 use crate::run::MAX_LANES;
 use books::MAX_FILES;
@@ -43,8 +43,9 @@ pub enum TextFault {
 /// `TooManyFiles` exactly where there are more than `MAX_FILES`; `BadLanes` exactly where there are no lanes or
 /// more than `MAX_LANES`, and no more files than that; nothing is then written. `Write` exactly where the sink
 /// has then failed. `Memory`: there was none for links, the fan, tickets, buffers or lines. `LaneLost`: an end
-/// of a link or of the fan was gone. `Thread`: a thread could not be started. Whatever it is, what was written is
-/// a beginning of the text of some books, one for each file, whose records and mark are those of some bytes.
+/// of a link or of the fan was gone, or the text was handed a message that no lane gives. `Thread`: a thread could
+/// not be started. Whatever it is, what was written is a beginning of the text of some books, one for each file,
+/// whose records and mark are those of some bytes.
 pub fn write_batch<R: Threads + Wait + Sync, O: Opener, G: Gate, S: Sink>(
     rt: &R,
     alloc: Global,
@@ -66,7 +67,7 @@ pub fn write_batch<R: Threads + Wait + Sync, O: Opener, G: Gate, S: Sink>(
     ensures too_many { (MAX_FILES < files) ↔ (result ≡ Err (TextFault.Run BatchFault.TooManyFiles)) }
     ensures bad_lanes { (((lanes ≡ 0) ⊎ (LANES < lanes)) × (files ≤ MAX_FILES))
         ↔ (result ≡ Err (TextFault.Run BatchFault.BadLanes)) }
-    ensures refused { IfErr result (λ fault. IsRefused fault → sink.new ≡ sink.old) }
+    ensures refused { IfErr result (λ fault. IsRefusedRun fault → sink.new ≡ sink.old) }
     ensures failed { (result ≡ Err TextFault.Write) ↔ (S.failed sink.new ≡ true) }
 {
     if files > MAX_FILES {
@@ -105,7 +106,7 @@ fn let_go<S: Sink>(texts: Texts<'_, S, Lines>)
 /// Why a run came to nothing, as its caller is told.
 fn fault_of(fault: RunFault<Refusal>) -> TextFault
     ensures write { (result ≡ TextFault.Write) ↔ (fault ≡ RunFault.Refused Refusal.Write) }
-    ensures begun { ¬ IsRefused result }
+    ensures begun { ¬ IsRefusedRun result }
 {
     match fault {
         RunFault::Memory | RunFault::Refused(Refusal::Memory) => TextFault::Run(BatchFault::Memory),

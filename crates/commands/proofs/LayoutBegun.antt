@@ -3,7 +3,7 @@ use Rattle.std.proofs.Common.{◌≡◌, ℕ, List, Option, subst}
 use Rattle.choices.specs.declared.Choice.{Choice}
 use Rattle.lanes.specs.Opening.{Silent}
 use Rattle.reports.specs.declared.form.Form.{Form}
-use Rattle.collector.specs.Texts.{IsBegun}
+use Rattle.collector.specs.TextRuns.{IsBegun}
 use Rattle.commands.specs.Statuses.{IsBegunToLayOut}
 
 pub begun_to_lay_out : (choice : Choice) (form : Form) (files count : ℕ) (old new : Option (List ℕ)) → files ≡ count → IsBegun choice (λ _. Silent) form files old new

@@ -1,3 +1,3 @@
 pub mod LayoutBegun
-pub mod Refused
-pub mod Reported
+pub mod FaultStatus
+pub mod ReportBegun

@@ -10,7 +10,7 @@ use Rattle.streams.specs.Text.{frames_text}
 use Rattle.choices.specs.declared.Choice.{Choice}
 use Rattle.lanes.specs.Opening.{Meaning, Silent, told_of, fails_of}
 use Rattle.books.specs.Books.{BookModel}
-use Rattle.books.specs.Results.{AreAllBooks}
+use Rattle.books.specs.AllBooks.{AreAllBooks}
 use Rattle.reports.specs.declared.form.Form.{Form}
 use Rattle.reports.specs.Forms.{text_in}
 use Rattle.reports.specs.Wholes.{IsWholeBook}

@@ -21,7 +21,7 @@ pub const CAPACITY: u32 = MAX_CAPACITY;
 
 /// Writes answers to the records of these files in this form, under this choice of the outer face and worked
 /// out in so many lanes, while the files are read, and gives back the status of the report. The file named `-`
-/// is the file 0 of `input`. The meter counts.
+/// is the file 0 of `input`. The meter counts files and graphs.
 ///
 /// # Errors
 ///

@@ -11,7 +11,7 @@ ghost use Rattle.clap.specs.declared.error.kind.ErrorKind.{ErrorKind};
 ghost use Rattle.commands.specs.declared.reading.Wish.{Wish};
 ghost use Rattle.commands.specs.declared.request.Request.{Request};
 ghost use Rattle.commands.specs.Statuses.{IsReported, IsLaidOut, IsDone, IsBegunToReport, IsBegunToBeDone, IsPrinted, version_text};
-ghost use Rattle.commands.specs.Words.{IsAskedBy, asks_in};
+ghost use Rattle.commands.specs.Requests.{IsAskedBy, asks_in};
 
 use crate::layout::{CAPACITY, layout};
 use crate::reading::{Wish, asks};
@@ -152,7 +152,7 @@ fn end_by<E: Sink>(fault: Fault, err: &mut E) -> u8
     fault.status()
 }
 
-/// The records of one file.
+/// Writes the records of one file and how it ends, and answers the status.
 fn frames<R: Files + AllocGlobal + Threads + Wait + Sync, I: Opener, S: Sink>(
     rt: &R,
     path: &str,

@@ -2,14 +2,14 @@
 ghost use Rattle.std.specs.Prelude.{◌≡◌, ◌<◌, IfOk, map};
 ghost use Rattle.std.specs.List.{count_by};
 ghost use Rattle.program_io.specs.Naming as naming;
-ghost use Rattle.commands.specs.Words.{after, asks, asks_in, files_in, has_front, is_file, is_help};
+ghost use Rattle.commands.specs.Requests.{after, asks, asks_in, files_in, has_front, is_file, is_help};
 
 use program_io::is_input;
 use std::alloc::{AllocError, Global};
 
 /// What a word may be, by the words before it.
 #[derive(Clone, Copy)]
-pub enum Place {
+pub enum Role {
     /// The first word: a command, or `--version`.
     Command,
     /// An option, a file, or the `--` behind which all are files.
@@ -22,7 +22,7 @@ pub enum Place {
     File,
 }
 
-/// What words can ask for, beside files and a number of lanes.
+/// What words can ask for, beside files, a number of lanes and lines of progress.
 #[derive(Clone, Copy)]
 pub enum Wish {
     Version,
@@ -33,44 +33,44 @@ pub enum Wish {
     BestOuter,
 }
 
-impl Place {
-    /// What the next word may be, where this one stands here.
-    fn after(self, word: &str) -> Place
+impl Role {
+    /// What the next word may be, behind this one in this role.
+    fn after(self, word: &str) -> Role
         ensures { result ≡ after self word.now }
     {
         match self {
-            Place::Any if word == "--" => Place::File,
-            Place::Any if word == "--lanes" => Place::Lanes,
-            Place::Any if word == "--outer" => Place::Outer,
-            Place::File => Place::File,
-            _ => Place::Any,
+            Role::Any if word == "--" => Role::File,
+            Role::Any if word == "--lanes" => Role::Lanes,
+            Role::Any if word == "--outer" => Role::Outer,
+            Role::File => Role::File,
+            _ => Role::Any,
         }
     }
 
-    /// Whether a word that stands here is a file.
+    /// Whether a word in this role is a file.
     fn is_file(self, word: &str) -> bool
         ensures { result ≡ is_file self word.now }
     {
         match self {
-            Place::Any => !has_front(word, b'-', b'-'),
-            Place::File => true,
+            Role::Any => !has_front(word, b'-', b'-'),
+            Role::File => true,
             _ => false,
         }
     }
 
-    /// Whether a word that stands here asks for this.
+    /// Whether a word in this role asks for this.
     fn asks(self, wish: Wish, word: &str) -> bool
         ensures { result ≡ asks wish self word.now }
     {
         match (wish, self) {
-            (Wish::Version, Place::Command) => word == "--version",
-            (Wish::Frames, Place::Command) => word == "frames",
-            (Wish::Layout, Place::Command) => word == "layout",
-            (Wish::Json, Place::Any) => word == "--json",
-            (Wish::BestOuter, Place::Any) => word == "--outer=best",
-            (Wish::BestOuter, Place::Outer) => word == "best",
-            (Wish::Help, Place::File) => false,
-            (Wish::Help, Place::Command) => word == "help" || is_help(word),
+            (Wish::Version, Role::Command) => word == "--version",
+            (Wish::Frames, Role::Command) => word == "frames",
+            (Wish::Layout, Role::Command) => word == "layout",
+            (Wish::Json, Role::Any) => word == "--json",
+            (Wish::BestOuter, Role::Any) => word == "--outer=best",
+            (Wish::BestOuter, Role::Outer) => word == "best",
+            (Wish::Help, Role::File) => false,
+            (Wish::Help, Role::Command) => word == "help" || is_help(word),
             (Wish::Help, _) => is_help(word),
             _ => false,
         }
@@ -97,29 +97,33 @@ fn has_front(word: &str, first: u8, second: u8) -> bool
 pub fn asks(wish: Wish, words: &[String]) -> bool
     ensures { result ≡ asks_in wish words.now }
 {
-    let mut place = Place::Command;
+    let mut role = Role::Command;
     for word in words {
         let text = word.as_str();
-        if place.asks(wish, text) {
+        if role.asks(wish, text) {
             return true;
         }
-        place = place.after(text);
+        role = role.after(text);
     }
     false
 }
 
 /// The files that the words name, in their order.
+///
+/// # Errors
+///
+/// `AllocError` where there is no memory for the list.
 pub fn files_of<'a>(alloc: Global, words: &'a [String]) -> Result<Vec<&'a str>, AllocError>
     ensures { IfOk result (λ files. map (λ file. file.now) files.items ≡ files_in words.now) }
 {
     let mut files = Vec::new(alloc);
-    let mut place = Place::Command;
+    let mut role = Role::Command;
     for word in words {
         let text = word.as_str();
-        if place.is_file(text) {
+        if role.is_file(text) {
             files.push(text)?;
         }
-        place = place.after(text);
+        role = role.after(text);
     }
     Ok(files)
 }

@@ -3,7 +3,7 @@ ghost use Rattle.std.specs.Prelude.{◌≡◌, ◌≤◌, ◌↔◌, IfOk, IfSom
 ghost use Rattle.choices.specs.declared.Choice.{Choice};
 ghost use Rattle.reports.specs.declared.form.Form.{Form};
 ghost use Rattle.commands.specs.declared.reading.Wish.{Wish};
-ghost use Rattle.commands.specs.Words.{IsAskedBy, asks_in, files_in, inputs_in};
+ghost use Rattle.commands.specs.Requests.{IsAskedBy, asks_in, files_in, inputs_in};
 
 use crate::reading::{Wish, asks, files_of, inputs_among};
 use choices::Choice;
@@ -33,6 +33,10 @@ pub enum Request<'a> {
 
 /// Reads the words after the program's name, and answers what they ask for. A `layout` has a file at least, and
 /// standard input at most once.
+///
+/// # Errors
+///
+/// The help, where it is asked for; why the words are refused; or want of memory, of the kind `OutOfMemory`.
 pub fn parse<'a>(alloc: Global, words: &'a [String]) -> Result<Request<'a>, Error>
     ensures { IfOk result (IsAskedBy words.now) }
 {

@@ -2,10 +2,10 @@
 use Rattle.std.proofs.Common.{◌≡◌, refl, arith}
 use Rattle.directions.specs.declared.Direction.{Direction}
 use Rattle.directions.specs.declared.Direction.TheVariants.{East, North, West, South}
-use Rattle.dissect.specs.Boxes.{number_of}
+use Rattle.directions.specs.Directions.{quarters}
 
 -- a number belongs to one direction
-pub one_number : (a b : Direction) → number_of a ≡ number_of b → a ≡ b
+pub one_number : (a b : Direction) → quarters a ≡ quarters b → a ≡ b
 one_number East East e = refl
 one_number North North e = refl
 one_number West West e = refl

@@ -6,7 +6,7 @@ use Rattle.compact.specs.declared.constraints.Constraint.{Constraint}
 use Rattle.compact.specs.declared.constraints.Relaxation.{Relaxation}
 use Rattle.compact.specs.declared.constraints.Relaxation.TheVariants.{Kept, Raised, Wide}
 
--- the numbers x keep each constraint: what it ends at is greater than what it starts from, by its least width
+-- the numbers x keep each constraint: the number at its end is that at its start and `least` more, or greater
 abbrev pub Keeps : List Constraint → (ℕ → ℕ) → Type 0
 Keeps constraints x = All (λ constraint. x constraint.from + constraint.least ≤ x constraint.to) constraints
 

@@ -5,7 +5,8 @@ ghost use Rattle.ortho_rep.specs.declared.points.TheConstants.{MAX_COORDINATE};
 ghost use Rattle.compact.specs.Ordered.{IsAlong, AreAlong, AreWithin, IsAcross, IsAxisFault, growth};
 ghost use Rattle.compact.specs.Steps.{AreSteps, AreUnder};
 ghost use Rattle.cutting.specs.Webs.{IsSound};
-ghost use Rattle.dissect.specs.Boxes.{web, number_of};
+ghost use Rattle.directions.specs.Directions.{quarters};
+ghost use Rattle.dissect.specs.Boxes.{web};
 
 use crate::constraints::{Constraint, settle};
 use crate::fault::CompactFault;
@@ -24,12 +25,12 @@ pub enum Axis {
     Y,
 }
 
-/// By how much the number of its head is to be greater than that of its tail, along a dart of this
-/// direction; none where it may be less.
+/// How much, or more, the number of the head of a dart of this direction is to be beyond that of its tail;
+/// none where it may be less.
 fn least_difference(axis: Axis, direction: Direction) -> Option<u8>
-    ensures forward { number_of direction ≡ growth axis → result ≡ Some 1 }
-    ensures back { number_of direction ≡ growth axis + 2 → result ≡ None }
-    ensures across { number_of direction ≢ growth axis → number_of direction ≢ growth axis + 2 → result ≡ Some 0 }
+    ensures forward { quarters direction ≡ growth axis → result ≡ Some 1 }
+    ensures back { quarters direction ≡ growth axis + 2 → result ≡ None }
+    ensures across { quarters direction ≢ growth axis → quarters direction ≢ growth axis + 2 → result ≡ Some 0 }
 {
     match (axis, direction) {
         (Axis::X, Direction::East) | (Axis::Y, Direction::North) => Some(1),

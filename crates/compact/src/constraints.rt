@@ -6,7 +6,7 @@ ghost use Rattle.compact.specs.Constraints.{Keeps, AreInside, IsLow, AreWide, Is
 
 use ortho_rep::MAX_COORDINATE;
 
-/// The number of `to` is to be greater than that of `from`, by `least` or more.
+/// The number of `to` is to be that of `from` and `least` more, or greater.
 #[derive(Clone, Copy, Debug)]
 pub struct Constraint {
     pub from: u32,

@@ -2,28 +2,14 @@
 
 ghost use Rattle.std.specs.Prelude.{◌≡◌, ℕ, ◌*◌, ◌<◌, length, IfOk};
 ghost use Rattle.compact.specs.Steps.{AreSteps};
-ghost use Rattle.dissect.specs.Boxes.{web, number_of};
+ghost use Rattle.dissect.specs.Boxes.{web};
 
-use directions::Direction;
 use dissect::Boxes;
 use reuse::filled;
 use std::alloc::AllocError;
 
 /// Stands where there is no vertex: more than any number of one.
 pub const NO_VERTEX: u32 = u32::MAX;
-
-/// The number of a direction, in quarter turns to the left from east.
-pub fn quarters(direction: Direction) -> u8
-    ensures value { result ≡ number_of direction }
-    ensures few { result < 4 }
-{
-    match direction {
-        Direction::East => 0,
-        Direction::North => 1,
-        Direction::West => 2,
-        Direction::South => 3,
-    }
-}
 
 /// For each vertex four vertices, those that the darts from it come to: to the east, north, west and
 /// south. `NO_VERTEX` stands where there is no such dart. They stand in the memory of the list that is
@@ -35,7 +21,7 @@ pub fn steps_of(boxes: &Boxes, around: Vec<u32>) -> Result<Vec<u32>, AllocError>
     let mut around = filled(around, 4 * boxes.vertices() as usize, NO_VERTEX)?;
     for dart in 0..boxes.darts() {
         let from = boxes.head(boxes.reverse(dart));
-        let way = quarters(boxes.direction(dart));
+        let way = boxes.direction(dart).quarters();
         around[4 * from as usize + usize::from(way)] = boxes.head(dart);
     }
     Ok(around)

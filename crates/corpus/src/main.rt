@@ -2,8 +2,8 @@
 //! named is read in pieces of several sizes, and what is found is compared with what the plain
 //! splitter finds in the whole file. After `planes` each graph of a file is read and its faces are
 //! traced, and a line tells the result; after `shapes` a least shape is found too, and tested. After
-//! `times` and a number, it tells how long each stage takes on a file, the least of so many runs of
-//! each.
+//! `times` and a number, it tells how long each stage takes on a file, those behind the shape by the least of so many
+//! runs of each.
 //!
 //! All words after `batches` are files; those behind the word `best` are laid out with the best outer face.
 //! The report of each is printed, and compared with that of runs over lanes, as is the report of all files at

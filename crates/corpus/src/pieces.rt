@@ -1,3 +1,4 @@
+//! Files read in pieces, beside the plain splitter.
 ghost use Rattle.std.specs.Prelude.{◌<◌};
 
 use crate::stages::read_file;

@@ -1,3 +1,4 @@
+//! The graphs of a file, up to their planes or their least shapes.
 ghost use Rattle.std.specs.Prelude.{IfOk, OnOk};
 ghost use Rattle.ortho_rep.specs.Representation.{IsShape};
 

@@ -160,7 +160,7 @@ fn run_round<R: AllocGlobal + Clock + Threads + Wait + Sync>(
 ) -> Result<Tally> {
     let alloc = rt.alloc();
     let opener = random_files(alloc, numbers, records)?;
-    // Past the last file, one may be refused.
+    // Files past those in memory do not open.
     let files = numbers.up_to(9);
     let choice = random_choice(numbers);
     let (graphs, report) = plain_run(alloc, &opener, files, choice)?;
@@ -185,7 +185,7 @@ fn plain_run(
     Ok((graphs_of(&batch), report_of(alloc, &batch)?))
 }
 
-/// The report of a run over lanes, with random room between them, that are held up at random.
+/// The report of a run over lanes, with random room between two threads, which are held up at random.
 fn random_run<R: AllocGlobal + Clock + Threads + Wait + Sync>(
     rt: &R,
     numbers: &Numbers,

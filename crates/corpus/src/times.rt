@@ -60,8 +60,8 @@ impl Times {
     }
 }
 
-/// Prints how long each stage takes on the graphs of a file: the sum over the graphs, where a stage
-/// counts by the least of so many times that it is run on a graph, and the least shape by one.
+/// Prints how long each stage takes on the graphs of a file: the sum over the graphs, where the plane and the least
+/// shape of a graph count by one run, and each stage behind them by the least of so many.
 pub fn tell_times<R: Files + Print + AllocGlobal + Clock>(
     rt: &R,
     name: &str,

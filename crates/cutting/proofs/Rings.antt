@@ -69,7 +69,7 @@ split_four w e way angle a new s linked e_in l four =
       angle_fourth = s.angle_old four.fourth l4 ∙ four.angle_fourth;
     }
 
--- the outside of the frame stays one
+-- the outside of the rectangle stays one
 pub split_outside : (w : Web) (o e way a : ℕ) (new : Web) → IsSplit w e way 2 new → IsLinked w → e < w.darts →
     a < w.darts → IsOutside w o a → IsOutside new o a
 unfolding split_four
@@ -280,7 +280,7 @@ cut_box w d c1 c f way a new s linked hook l four =
     (box_clear w d c1 c f a linked hook l four) (box_clear w d c1 c f four.second linked hook l2 two)
     (box_clear w d c1 c f four.third linked hook l3 three) (box_clear w d c1 c f four.fourth linked hook l4 last)
 
--- the outside of the frame stays one where its corners are not the cut's
+-- the outside of the rectangle stays one where its corners are not the cut's
 pub chord_outside : (w : Web) (o d c f way a : ℕ) (new : Web) → IsChord w d f way new → IsLinked w → IsCutting w d c f →
     a < w.darts → (outside : IsOutside w o a) → (a ≢ d) × (a ≢ c) → (outside.four.second ≢ d) × (outside.four.second ≢ c) →
     (outside.four.third ≢ d) × (outside.four.third ≢ c) → (outside.four.fourth ≢ d) × (outside.four.fourth ≢ c) → IsOutside new o a

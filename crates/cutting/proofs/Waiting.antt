@@ -115,7 +115,7 @@ other_rings w d c1 c e way new bite (r ∷ rs) below out_d out_c rings =
     )
 
 -- each corner after the cut is of a list that has the chord's way there, d if it still turns, and what stays
--- of the corners before; or it is of a box or of the frame
+-- of the corners before; or it is of a box or of the outside of the rectangle
 pub bite_settles : (w : Web) (o d c1 c e way : ℕ) (new : Web) (before tail list : List ℕ) → IsBite w d c1 c e way new →
     ((a : ℕ) → a < w.darts → IsCorner w a → In a (before ++ (d ∷ c1 ∷ c ∷ tail)) ⊎ (IsRectangle w 1 a ⊎ IsOutside w o a)) →
     In (w.darts + 2) list → (IsCorner new d → In d list) → ((a : ℕ) → In a before → In a list) →
@@ -167,7 +167,7 @@ bite_settles w o d c1 c e way new before tail list bite settled x_in d_stays bef
     (λ _. inr (inl boxes.3))
     a (omega (arith, t.darts, l)) corner
 
--- the outside of the frame stays
+-- the outside of the rectangle stays
 pub bite_outside : (w : Web) (o d c1 c e way : ℕ) (new : Web) → IsBite w d c1 c e way new → o < w.darts → IsRectangle w 3 o → IsRectangle new 3 o
 bite_outside w o d c1 c e way new bite l four =
     let cut = bite.cut in

@@ -85,7 +85,7 @@ AreRings w [] = Unit {0}
 AreRings w (r ∷ rs) = (Ring w r × TurnsOnce w r) × AreRings w rs
 
 -- the faces that wait to be cut: each corner of the web is of one of them, or of a box, or of the outside of the
--- frame, of which o is a corner
+-- rectangle, of which o is a corner
 pub record AreWaiting (w : Web) (o : ℕ) (faces : List (List ℕ)) : Type 0 where
   pub rings : AreRings w faces
   pub distinct : Distinct (joined faces)

@@ -1,10 +1,11 @@
-//! Cuts the faces of a drawing in four directions into rectangles: the core of a dissection.
+//! Cuts the faces of a drawing in four directions into boxes, which turn left four times and are else
+//! straight: the core of a dissection.
 //!
 //! A drawing is a table of darts whose edges run along the axes. A face is told by its corners, in
 //! walking order. Read from the place on where the walk has turned left most, a stack of corners
 //! takes them one by one; wherever a right turn stands below two left turns, a chord from the right
-//! turn straight on to the edge behind the second left turn cuts a rectangle off. Four left turns are
-//! left at the end. (The method is that of Tamassia's compaction, 1987, with one pass a face.)
+//! turn to the edge behind the second left turn cuts a box off. Four left turns are left at the end.
+//! (The method is that of Tamassia's compaction, 1987, with one pass a face.)
 #![tactic(auto)]
 
 mod laws;

@@ -1,3 +1,5 @@
+//! Writes to the lists of a table: what follows on a face, what stands in front on an edge, what is reverse.
+
 ghost use Rattle.std.specs.Prelude.{◌≡◌, ◌<◌, vec_len, slice_index, slice_set};
 
 /// Puts the dart `new` in front of the dart `old` on its face.

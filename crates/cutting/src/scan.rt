@@ -1,3 +1,5 @@
+//! Cuts, and the scan of a face that cuts it into boxes.
+
 ghost use Rattle.std.specs.Prelude.{◌≡◌, ◌≢◌, ℕ, ◌+◌, ◌-◌, ◌*◌, ◌^◌, ◌<◌, ◌≤◌, ◌↔◌, List, [], ◌∷◌, length, map, drop, sum, slice_index, true, All};
 ghost use Rattle.cutting.specs.Webs.{IsSound, IsCut, Grows};
 ghost use Rattle.cutting.specs.Tables.{web_of, room};

@@ -1,3 +1,5 @@
+//! The table of a drawing's darts, with splits and chords.
+
 ghost use Rattle.std.specs.Prelude.{◌≡◌, ◌≢◌, ◌+◌, ◌^◌, ◌<◌, ◌≤◌, vec_len};
 
 use crate::links::{link, pair, put_in_front, take_over};
@@ -19,7 +21,8 @@ pub struct DartTable {
     pub reverse_dart: Vec<u32>,
     /// The vertex that the dart goes to.
     pub head: Vec<u32>,
-    /// The dart before it on its edge of the plane, or `NO_DART` where it is the first.
+    /// The dart in front of it on the same edge of the plane, side of a rectangle or chord, or `NO_DART`
+    /// where it is the first there.
     pub before: Vec<u32>,
     /// The direction in which it arrives.
     pub direction: Vec<u8>,

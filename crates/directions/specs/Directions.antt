@@ -25,6 +25,13 @@ opposite_of North = South
 opposite_of West = East
 opposite_of South = North
 
+-- the number of a direction: quarter turns to the left from east
+abbrev pub quarters : Direction → ℕ
+quarters East = 0
+quarters North = 1
+quarters West = 2
+quarters South = 3
+
 -- so many quarter turns to the left
 abbrev pub lefts : ℕ → Direction → Direction
 lefts zero direction = direction

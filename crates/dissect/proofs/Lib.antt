@@ -3,5 +3,4 @@ pub mod PathsOfEdges
 pub mod Keeping
 pub mod Rectangles
 pub mod Through
-pub mod Edges
 pub mod Boxing

@@ -1,7 +1,5 @@
 -- What callers see of `Boxes`: a drawing in four directions, and which of its parts are those of a plane.
 use Rattle.std.specs.Prelude.{◌≡◌, ℕ, ◌<◌, ◌≤◌, ◌⊎◌, List, [], ◌∷◌, length, slice_index, slice_index_or}
-use Rattle.directions.specs.declared.Direction.{Direction}
-use Rattle.directions.specs.declared.Direction.TheVariants.{East, North, West, South}
 use Rattle.cutting.specs.declared.table.DartTable.{DartTable}
 use Rattle.cutting.specs.Webs.{Web, IsSound, no_dart}
 use Rattle.cutting.specs.Faces.{IsCorner, IsRectangle, IsOutside, ReachesCorners}
@@ -56,13 +54,6 @@ parts_of t old edges paths = record {
   edges = edges;
   paths = paths;
 }
-
--- the number of a direction: quarters to the left from east
-abbrev pub number_of : Direction → ℕ
-number_of East = 0
-number_of North = 1
-number_of West = 2
-number_of South = 3
 
 -- the edge e of the plane is a path of the web
 pub record HasEdge (b : BoxesModel) (e : ℕ) : Type 0 where

@@ -1,8 +1,9 @@
-//! A drawing in four directions whose faces are rectangles.
+//! A drawing in four directions whose faces are boxes, but for the outside.
 
 ghost use Rattle.std.specs.Prelude.{◌≡◌, ◌≢◌, ◌-◌, ◌<◌, ◌≤◌, ◌^◌, length, slice_index, IfSome, IfNone};
 ghost use Rattle.cutting.specs.Webs.{no_dart};
-ghost use Rattle.dissect.specs.Boxes.{AreBoxes, IsEdgePath, number_of, parts_of, web};
+ghost use Rattle.directions.specs.Directions.{quarters};
+ghost use Rattle.dissect.specs.Boxes.{AreBoxes, IsEdgePath, parts_of, web};
 
 use crate::paths::Paths;
 use crate::scratch::Scratch;
@@ -11,8 +12,8 @@ use directions::Direction;
 use std::marker::Model;
 
 /// A dissection: the drawing of a plane in four directions, enclosed in a rectangle and cut until each
-/// face is one. Its edges have no bends. In contracts it is a `BoxesModel`: a web of darts, how many vertices
-/// of it are the plane's, and the lesser darts of the plane's edges.
+/// face but the outside is a box. Its edges have no bends. In contracts it is a `BoxesModel`: a web of
+/// darts, how many vertices of it are the plane's, the lesser darts of the plane's edges, and their paths.
 ///
 /// Vertices and darts are numbered from 0. The plane's vertex v is vertex v - 1; a dart of the plane
 /// has its number here too, and is the last of the darts that its edge is made of. Edges of the plane
@@ -114,15 +115,10 @@ impl Boxes {
     /// The direction in which a dart runs.
     pub fn direction(&self, dart: u32) -> Direction
         requires { dart < self.now.darts }
-        ensures value { number_of result ≡ (web self.now).direction dart }
+        ensures value { quarters result ≡ (web self.now).direction dart }
         ensures boxes { AreBoxes self.now }
     {
-        match self.table.direction[dart as usize] {
-            0 => Direction::East,
-            1 => Direction::North,
-            2 => Direction::West,
-            _ => Direction::South,
-        }
+        Direction::from_quarters(self.table.direction[dart as usize])
     }
 
     /// The dart in front of a dart on the same row, which is an edge of the plane, a side of the rectangle,

@@ -1,4 +1,4 @@
-//! Dissections: an orthogonal representation of a plane, cut into rectangles.
+//! Dissections: an orthogonal representation of a plane, cut into boxes.
 #![tactic(auto)]
 
 mod boxes;

@@ -18,10 +18,8 @@ pub fn lesser_darts_of(plane: &Plane, edges: Vec<u16>) -> Result<Vec<u16>, Alloc
 {
     let graph = plane.graph();
     let mut edges = emptied(edges, usize::from(graph.edges()))?;
-    for dart in 0..graph.darts() {
-        if dart < graph.reverse(dart) {
-            edges.push(dart)?;
-        }
+    for dart in graph.lesser_darts() {
+        edges.push(dart)?;
     }
     Ok(edges)
 }

@@ -1,4 +1,5 @@
 //! The paths of edges, in one list.
+
 ghost use Rattle.std.specs.Prelude.{◌≡◌, ◌+◌, ◌<◌, [], length, slice_index_or};
 ghost use Rattle.ortho_rep.specs.Storage.{cut, IsCut};
 

@@ -1,4 +1,4 @@
--- What it is that points draw a shape of a plane: four conditions, each on the paths of the edges.
+-- What it is that points draw a shape of a plane: four conditions, on the points and on the paths of the edges.
 use Rattle.std.specs.Prelude.{◌≡◌, ◌≢◌, ℕ, ◌+◌, ◌<◌, ◌≤◌, ◌⊎◌, List, ◌++◌, length, nat_lt, slice_index_or, if◌then◌else◌, All}
 use Rattle.std.specs.List.{flat_map}
 use Rattle.ortho_rep.specs.declared.points.TheConstants.{MAX_COORDINATE}

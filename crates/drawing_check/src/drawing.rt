@@ -49,8 +49,14 @@ impl Drawing {
 /// point is met twice, by vertices and between the ends of paths. The first three are tested before
 /// memory is asked for: want of memory is answered only where they hold.
 ///
-/// The points are compared as rectangles, one for each vertex and each segment, in O(s log s) time for
-/// s of them and 16 bytes of memory each, with some more for a sort and a map.
+/// The points are compared as rectangles, one for each vertex and at most one for each segment. For s of
+/// them it takes O(s log s) time, and 16 bytes of memory each, sorted in place; besides, a table of at most
+/// 64 bytes each, or a map of those that a sweep still meets.
+///
+/// # Errors
+///
+/// The first condition that fails, or `Memory` where there is none for the rectangles, the table or the map;
+/// with it the points.
 pub fn check(
     alloc: Global,
     plane: &Plane,
@@ -71,8 +77,11 @@ pub fn check(
     check_in(alloc, &mut scratch, plane, shape, points)
 }
 
-/// The same in memory that is lent; more is asked for only where that is not enough. Where memory runs
-/// out, that which was lent is gone.
+/// The same in memory that is lent; more is asked for only where that is not enough, and for the map.
+///
+/// # Errors
+///
+/// As `check`; after `Memory` the memory that was lent is gone.
 pub fn check_in(
     alloc: Global,
     scratch: &mut Scratch,

@@ -1,7 +1,7 @@
 //! The check of a drawing: whether points draw a shape of a plane, and if not, which condition fails
 //! first.
 //!
-//! The points are compared as segments and never one by one, so the time does not grow with the size
+//! The points are compared as rectangles and never one by one, so the time does not grow with the size
 //! of the grid.
 #![tactic(auto)]
 

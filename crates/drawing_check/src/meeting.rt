@@ -53,7 +53,8 @@ pub(crate) fn meet_nowhere(
     Ok(apart)
 }
 
-/// Adds what a path covers between its ends: a strip for each segment, with the corner at its end.
+/// Adds what a path covers between its ends: a strip for each segment, with the corner at its end, and none
+/// for a last segment of one step.
 fn add_route(rectangles: &mut Vec<Rectangle>, route: &Route<'_>) -> Result<(), AllocError>
     ensures { OnOk result (rectangles.new.items ≡ rectangles.old.items ++ strips (path_of route.now)) }
 {

@@ -1,5 +1,5 @@
-//! Tests of what comes of a dissection and its coordinates: known graphs drawn with known bends, shapes with
-//! more bends than need be, and refused allocations.
+//! Tests of directions, bends, rectangles, dissections and coordinates: known graphs drawn with their fewest
+//! bends, shapes with more bends than need be, and refused allocations.
 #![tactic(auto)]
 
 #[cfg(test)]

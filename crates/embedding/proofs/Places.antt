@@ -1,6 +1,7 @@
 -- What a record's split says of the list at one place.
 use Rattle.std.proofs.Common.{◌≡◌, ℕ, ◌+◌, ◌-◌, ◌*◌, ◌<◌, ◌≤◌, List, [], length, get_or, take, drop, sym, ap, ◌∙◌, subst, arith}
 use Rattle.std.specs.List.{flat_map}
+use Rattle.planar_code.specs.declared.TheConstants.{MAX_LIST}
 use Rattle.planar_code.specs.Stream.{ended, lists_in}
 use Rattle.embedding.specs.Darts.{dart_count, first_dart}
 use Rattle.embedding.specs.Split.{IsSplit, start_of}
@@ -12,7 +13,7 @@ pub record IsPlace (bytes : List ℕ) (g : List (List ℕ)) (k from to : ℕ) : 
   pub ends : to ≡ from + length (get_or g k []) + 1
   pub within : to ≤ length bytes
   pub part : take (to - 1 - from) (drop from bytes) ≡ get_or g k []
-  pub short : length (get_or g k []) ≤ 254
+  pub short : length (get_or g k []) ≤ MAX_LIST
   pub first : from ≡ first_dart g k + k
 
 pub place_is : (bytes starts : List ℕ) (count : ℕ) → IsSplit bytes starts count → (g : List (List ℕ)) → lists_in bytes ≡ g → (k from to : ℕ) → k < length g → from ≡ get_or starts k 0 → to ≡ get_or starts (k + 1) 0 → IsPlace bytes g k from to

@@ -1,7 +1,7 @@
 //! A graph that keeps rules 1 to 7, with its darts.
 
 ghost use Rattle.std.specs.Prelude.{◌≡◌, ℕ, ◌*◌, ◌<◌, ◌≤◌, length, IfOk, IfErr, OnOk};
-ghost use Rattle.embedding.specs.declared.graphs.TheConstants.{MAX_DARTS};
+ghost use Rattle.embedding.specs.declared.graphs.TheConstants.{MAX_DARTS, MAX_EDGES};
 ghost use Rattle.embedding.specs.Lists.{list_of};
 ghost use Rattle.embedding.specs.Darts.{dart_count, head_of, tail_of, reverse_of, after_of, next_of, IsInvolution, IsOneToOne};
 ghost use Rattle.embedding.specs.Rules.{KeepsBefore};
@@ -19,6 +19,9 @@ use std::marker::Model;
 
 /// How many darts a graph has at most: four for each of 255 vertices.
 pub const MAX_DARTS: usize = 1020;
+
+/// How many edges a graph has at most: half as many as darts.
+pub const MAX_EDGES: usize = 510;
 
 /// A connected graph without loops or double edges, of maximum degree 4, given by the clockwise
 /// list of neighbours of each vertex. In contracts it is these lists.
@@ -98,7 +101,7 @@ impl Graph {
     pub fn edges(&self) -> u16
         ensures count { 2 * result ≡ dart_count self.now }
         ensures some { 0 < result }
-        ensures few { result ≤ 510 }
+        ensures few { result ≤ MAX_EDGES }
     {
         (self.heads.len() / 2) as u16
     }

@@ -15,6 +15,6 @@ mod tables;
 mod walks;
 
 pub use faults::ReadFault;
-pub use graphs::{Graph, MAX_DARTS};
+pub use graphs::{Graph, MAX_DARTS, MAX_EDGES};
 pub use lesser_darts::LesserDarts;
 pub use rules::Rule;

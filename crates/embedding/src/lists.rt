@@ -2,6 +2,7 @@
 
 ghost use Rattle.std.specs.Prelude.{◌≡◌, ℕ, ◌<◌, ◌≤◌, ◌∷◌, List, length, All, slice_index, slice_index_or, []};
 ghost use Rattle.std.specs.List.{flat_map};
+ghost use Rattle.planar_code.specs.declared.TheConstants.{MAX_LIST};
 ghost use Rattle.planar_code.specs.Stream.{IsList, ended, lists_in, lists_of};
 ghost use Rattle.embedding.specs.Lists.{list_of};
 ghost use Rattle.embedding.specs.Darts.{dart_count, first_dart};
@@ -86,7 +87,7 @@ impl<'a> Lists<'a> {
     pub(crate) fn at(&self, place: u8) -> &'a [u8]
         requires { place < length self.now }
         ensures value { result.now ≡ slice_index_or self.now place [] }
-        ensures short { length result.now ≤ 254 }
+        ensures short { length result.now ≤ MAX_LIST }
         ensures few { length self.now < 256 }
     {
         let place = usize::from(place);

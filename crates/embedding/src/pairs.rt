@@ -3,7 +3,7 @@
 ghost use Rattle.std.specs.Prelude.{◌≡◌, ℕ, ◌<◌, ◌↔◌, ◌⊎◌, IsTrue, length};
 ghost use Rattle.embedding.specs.Pairs.{HasPair};
 
-/// One bit for each pair of numbers below 256, in 8 KB.
+/// One bit for each pair of numbers below 256, in 8 KiB.
 #[derive(Drop)]
 pub(crate) struct Pairs {
     words: [u64; 1024],

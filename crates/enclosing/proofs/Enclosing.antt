@@ -148,7 +148,7 @@ facing_can w framed right side sound s right_in turn side_in faces =
       );
     }
 
--- what the frame and the cut make of the web
+-- what the rectangle and the cut make of the web
 pub joining_of : (w framed : Web) (right side way : ℕ) (new : Web) → IsSound w → IsFramed w framed → right < w.darts → side < 4 →
     IsCut framed right (framed.next (w.darts + (side + 3) % 4)) way new → IsJoining w framed right side way new
 joining_of w framed right side way new sound s right_in side_in cut =

@@ -1,3 +1,5 @@
+//! The corners of all faces of a drawing, listed.
+
 ghost use Rattle.std.specs.Prelude.{◌≡◌, ◌<◌, ◌≤◌, ◌+◌, ◌^◌, ℕ, [], IfOk, List, OnOk};
 ghost use Rattle.cutting.specs.Labels.{HasTurns};
 ghost use Rattle.cutting.specs.Tables.{room, web_of};
@@ -12,9 +14,10 @@ use std::alloc::{AllocError, Global};
 /// The corners of faces, those of each face in walking order, whose memory can be used again.
 #[derive(Drop)]
 pub struct Faces {
-    /// The corners of the inner faces, one face after another.
+    /// The corners of the inner faces, one face after another, and behind them those of the joined face
+    /// once it is added.
     pub(crate) corners: Vec<u32>,
-    /// How many corners each inner face has.
+    /// How many corners each of these faces has.
     pub(crate) counts: Vec<u32>,
     /// The corners of the outer face.
     pub(crate) outer: Vec<u32>,

@@ -1,3 +1,5 @@
+//! The drawing in its rectangle, joined with it and cut.
+
 ghost use Rattle.std.specs.Prelude.{◌≡◌, ◌<◌, ◌≤◌, ◌+◌, ◌*◌, ◌%◌, ℕ, [], OnErr, OnOk};
 ghost use Rattle.cutting.specs.Faces.{AreWaiting, ReachesCorners};
 ghost use Rattle.cutting.specs.Frames.{IsEnclosed};
@@ -28,7 +30,7 @@ fn facing_side(table: &DartTable, right: u32) -> u32
 ///
 /// # Errors
 ///
-/// When memory runs out; the table is then as it was.
+/// `AllocError` where there is no memory for the lists of faces; the table is then as it was.
 pub fn enclose(alloc: Global, table: &mut DartTable, outside: u32) -> Result<(), AllocError>
     requires sound { IsSound (web_of table.old) }
     requires turns { (label : ℕ → ℕ) × HasTurns (web_of table.old) label (label outside) }
@@ -50,7 +52,8 @@ pub fn enclose(alloc: Global, table: &mut DartTable, outside: u32) -> Result<(),
 ///
 /// # Errors
 ///
-/// When memory runs out; the table is then as it was, and the memory that was lent is gone.
+/// `AllocError` where there is no memory for the lists of faces; the table is then as it was, and the memory
+/// that was lent is gone.
 pub fn enclose_in(table: &mut DartTable, outside: u32, faces: Faces) -> Result<Faces, AllocError>
     requires sound { IsSound (web_of table.old) }
     requires turns { (label : ℕ → ℕ) × HasTurns (web_of table.old) label (label outside) }

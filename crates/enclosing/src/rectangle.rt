@@ -1,3 +1,5 @@
+//! The rectangle beside a drawing.
+
 ghost use Rattle.std.specs.Prelude.{◌≡◌, ◌+◌, ◌<◌, ◌≤◌, ℕ, length, slice_index_or, vec_len};
 ghost use Rattle.cutting.specs.Frames.{IsFramed};
 ghost use Rattle.cutting.specs.Tables.{room, web_of};

@@ -1,3 +1,5 @@
+//! Walks round the faces of a drawing.
+
 ghost use Rattle.std.specs.Prelude.{◌≡◌, ◌<◌, ◌≤◌, ℕ, OnOk, vec_len};
 ghost use Rattle.cutting.specs.Labels.{AreLabels, HasTurns};
 ghost use Rattle.cutting.specs.Tables.{web_of};

@@ -1,4 +1,4 @@
--- What it is that an answer is one for a record.
+-- When an answer is one for a record.
 use Rattle.std.specs.Prelude.{◌≡◌, ℕ, List, Result, ⊤}
 use Rattle.planar_code.specs.Stream.{lists_of}
 use Rattle.embedding.specs.Rules.{FirstBroken}
@@ -27,6 +27,7 @@ pub record IsLaid (choice : Choice) (bytes : List ℕ) (plane : PlaneModel) (sha
   pub shape_is : IsShape plane shape
   -- each other one has at least as many bends
   pub least : IsLeast plane shape
+  -- the prices prove so
   pub proof : IsProof plane shape prices
   pub drawn : IsDrawn plane shape drawing
 

@@ -21,19 +21,19 @@ pub record FailFirst (plane : PlaneModel) (shape : ShapeModel) (boxes : BoxesMod
   pub first : IsFirstFault plane shape points fault
 
 -- the boxes show that this is why the shape is not drawn
-abbrev pub IsShown : PlaneModel → ShapeModel → BoxesModel → Cause → Type 0
+abbrev pub ShowsCause : PlaneModel → ShapeModel → BoxesModel → Cause → Type 0
 -- no numbers in their order are within the grid
-IsShown plane shape boxes Wide = HasNoPlace boxes
-IsShown plane shape boxes OutOfGrid = FailFirst plane shape boxes fault.OutOfGrid
-IsShown plane shape boxes NotAxis = FailFirst plane shape boxes fault.NotAxis
-IsShown plane shape boxes WrongTurn = FailFirst plane shape boxes fault.WrongTurn
-IsShown plane shape boxes Meet = FailFirst plane shape boxes fault.Meet
+ShowsCause plane shape boxes Wide = HasNoPlace boxes
+ShowsCause plane shape boxes OutOfGrid = FailFirst plane shape boxes fault.OutOfGrid
+ShowsCause plane shape boxes NotAxis = FailFirst plane shape boxes fault.NotAxis
+ShowsCause plane shape boxes WrongTurn = FailFirst plane shape boxes fault.WrongTurn
+ShowsCause plane shape boxes Meet = FailFirst plane shape boxes fault.Meet
 
 -- some boxes that dissect the shape show the cause
 pub record IsCause (plane : PlaneModel) (shape : ShapeModel) (cause : Cause) : Type 0 where
   pub boxes : BoxesModel
   pub boxed : IsBoxed plane shape boxes
-  pub shown : IsShown plane shape boxes cause
+  pub shown : ShowsCause plane shape boxes cause
 
 -- there is a point for each vertex, and a list of corners for each edge
 pub record HasPoints (plane : PlaneModel) (points : PointsModel) : Type 0 where

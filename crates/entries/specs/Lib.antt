@@ -1,4 +1,4 @@
-pub mod Words
+pub mod CauseWords
 pub mod Drawn
 pub mod Answers
 pub mod Abouts

@@ -18,7 +18,7 @@ pub enum Cause {
 }
 
 impl Cause {
-    ghost use Rattle.entries.specs.Words.{word_of};
+    ghost use Rattle.entries.specs.CauseWords.{word_of};
 
     /// The word that reports have for the cause.
     pub fn word(self) -> &'static str

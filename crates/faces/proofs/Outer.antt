@@ -1,4 +1,4 @@
--- What a tracer shows of the map that it makes.
+-- What is known once the faces are numbered: they make a plane, and the first widest face is the outer one.
 use Rattle.std.proofs.Common.{◌≡◌, ℕ, ◌+◌, ◌*◌, ◌<◌, ◌≤◌, List, length, slice_index, take, replicate, refl, inl, inr, sym, ap, ◌∙◌, subst, arith}
 use Rattle.std.proofs.lemmas.Bool.{cases_order}
 use Rattle.std.proofs.lemmas.List.Elements.{All-take, All-replicate}

@@ -4,6 +4,7 @@ use Rattle.embedding.specs.declared.graphs.TheConstants.{MAX_DARTS}
 use Rattle.embedding.specs.Darts.{dart_count, head_of, tail_of, reverse_of, after_of, next_of, IsOneToOne}
 use Rattle.embedding.specs.Faces.{HasFaces}
 use Rattle.embedding.specs.Rules.{KeepsBefore}
+use Rattle.faces.specs.declared.plane.TheConstants.{MAX_FACES}
 use Rattle.faces.specs.Faces.{IsOuter, degree_in}
 
 pub record PlaneModel : Type 0 where
@@ -14,12 +15,12 @@ pub record PlaneModel : Type 0 where
   pub faces : ℕ
   pub outer : ℕ
 
-abbrev pub map_of : List (List ℕ) → List ℕ → ℕ → ℕ → PlaneModel
-map_of lists face faces outer = record { lists = lists; face = face; faces = faces; outer = outer }
+abbrev pub model_of : List (List ℕ) → List ℕ → ℕ → ℕ → PlaneModel
+model_of lists face faces outer = record { lists = lists; face = face; faces = faces; outer = outer }
 
--- the same map with another outer face
+-- the same plane with another outer face
 abbrev pub with_outer : PlaneModel → ℕ → PlaneModel
-with_outer p outer = map_of p.lists p.face p.faces outer
+with_outer p outer = model_of p.lists p.face p.faces outer
 
 abbrev pub vertices : PlaneModel → ℕ
 vertices p = length p.lists
@@ -72,7 +73,7 @@ IsWidest p = IsOuter (darts p) (face_at p) p.faces p.outer
 pub record HasEnds (p : PlaneModel) : Type 0 where
   pub some_darts : 0 < darts p
   pub few_darts : darts p ≤ MAX_DARTS
-  pub few_faces : p.faces ≤ 257
+  pub few_faces : p.faces ≤ MAX_FACES
   pub tail_from : (d : ℕ) → d < darts p → 1 ≤ tail p d
   pub tail_to : (d : ℕ) → d < darts p → tail p d ≤ vertices p
   pub head_from : (d : ℕ) → d < darts p → 1 ≤ head p d
@@ -88,7 +89,7 @@ pub record HasEnds (p : PlaneModel) : Type 0 where
   pub next_tail : (d : ℕ) → d < darts p → tail p (next p d) ≡ head p d
   pub face_named : (d : ℕ) → d < darts p → face_at p d < p.faces
 
--- what a plane keeps of a map: the degrees of its faces
+-- what a plane keeps: it is one, and beside it stand the degrees of its faces
 pub record IsKept (p : PlaneModel) (degrees : List ℕ) : Type 0 where
   pub plane : IsPlane p
   pub degrees_are : (k : ℕ) → k < p.faces → slice_index degrees k ≡ degree p k

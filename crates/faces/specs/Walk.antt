@@ -4,7 +4,7 @@ use Rattle.faces.specs.declared.numbering.TheConstants.{UNSET}
 use Rattle.embedding.specs.Darts.{dart_count, next_of}
 use Rattle.faces.specs.Faces.{IsShut}
 
--- the darts below d and all of their faces are numbered, with the numbers below c; 65535 stands for no number
+-- the darts below d and all of their faces are numbered, with the numbers below c; `UNSET` stands for no number
 pub record IsTraced (n : ℕ) (next face : ℕ → ℕ) (c d : ℕ) : Type 0 where
   pub few : c ≤ d
   pub passed : (x : ℕ) → x < d → face x < c

@@ -10,4 +10,4 @@ mod numbering;
 mod plane;
 
 pub use choices::Choice;
-pub use plane::{Plane, TraceFault};
+pub use plane::{MAX_FACES, Plane, TraceFault};

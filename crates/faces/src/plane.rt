@@ -3,6 +3,7 @@
 ghost use Rattle.std.specs.Prelude.{◌≡◌, ◌<◌, ◌≤◌, ℕ, IfOk, IfErr, Err, length, slice_index, vec_len};
 ghost use Rattle.embedding.specs.declared.graphs.TheConstants.{MAX_DARTS};
 ghost use Rattle.embedding.specs.Rules.{KeepsBefore};
+ghost use Rattle.faces.specs.declared.plane.TheConstants.{MAX_FACES};
 ghost use Rattle.faces.specs.Faces.{degree_in};
 ghost use Rattle.faces.specs.Walk.{at};
 
@@ -11,6 +12,9 @@ use embedding::{Graph, MAX_DARTS};
 use std::alloc::{AllocError, Global};
 use std::marker::Model;
 use thiserror::Error;
+
+/// How many faces a plane has at most: 510 edges less 255 vertices, and two more.
+pub const MAX_FACES: usize = 257;
 
 /// A connected graph of maximum degree 4 that is drawn on the sphere without crossings: its faces, and
 /// which of them is the outer one. In contracts it is a `PlaneModel`.
@@ -27,14 +31,14 @@ pub struct Plane {
 
 impl Model for Plane {
     ghost use Rattle.std.specs.Prelude.{vec_len};
-    ghost use Rattle.faces.specs.Planes.{PlaneModel, IsKept, map_of};
+    ghost use Rattle.faces.specs.Planes.{PlaneModel, IsKept, model_of};
 
     ghost Value = { PlaneModel };
 
-    ghost view = { λ p. map_of p.graph p.faces.items (vec_len p.degrees) p.outer };
+    ghost view = { λ p. model_of p.graph p.faces.items (vec_len p.degrees) p.outer };
 
     ghost invariant = { λ p.
-        IsKept (map_of p.graph p.faces.items (vec_len p.degrees) p.outer) p.degrees.items };
+        IsKept (model_of p.graph p.faces.items (vec_len p.degrees) p.outer) p.degrees.items };
 }
 
 /// Why a graph gives no plane. It hands the graph back as it was.
@@ -138,7 +142,7 @@ impl Plane {
     pub fn face_count(&self) -> u16
         ensures value { result ≡ self.now.faces }
         ensures some { 0 < result }
-        ensures few { result ≤ 257 }
+        ensures few { result ≤ MAX_FACES }
         ensures plane { IsPlane self.now }
         ensures ends { HasEnds self.now }
     {

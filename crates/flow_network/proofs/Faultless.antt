@@ -8,7 +8,7 @@ use Rattle.faces.specs.Planes.{PlaneModel, IsPlane, darts, vertices, reverse_dar
 use Rattle.faces.proofs.Ends.{plane_ends}
 use Rattle.faces.proofs.Degrees.{degree_few}
 use Rattle.networks.specs.declared.arc.Arc.{Arc}
-use Rattle.networks.specs.Net.{Net, node_count, arc_count, arc_at, supply_at}
+use Rattle.networks.specs.Networks.{NetworkModel, node_count, arc_count, arc_at, supply_at}
 use Rattle.networks.specs.Fault.{HasFault}
 use Rattle.networks.specs.declared.fault.NetFault.{NetFault}
 use Rattle.networks.specs.declared.fault.NetFault.TheVariants.{TooLarge, BadEnd, BadSupply, BadCost}
@@ -16,7 +16,7 @@ use Rattle.flow_network.specs.FaceNet.{IsFaceNet, arrivals}
 use Rattle.flow_network.proofs.VertexDegrees.{arrivals_most}
 
 -- a fact of each arc of the network
-pub each_arc : (p : PlaneModel) (net : Net) → IsFaceNet p net → (P : Arc → Type 0) →
+pub each_arc : (p : PlaneModel) (net : NetworkModel) → IsFaceNet p net → (P : Arc → Type 0) →
     ((d : ℕ) → d < darts p → P (arc_at net d)) → ((d : ℕ) → d < darts p → P (arc_at net (darts p + d))) →
     (i : ℕ) → i < arc_count net → P (arc_at net i)
 each_arc p net is P corner crossing i l =
@@ -27,7 +27,7 @@ each_arc p net is P corner crossing i l =
           subst (λ (j : ℕ). P (arc_at net j)) at (crossing (i - darts p) (omega (arith, is.arcs)))
     ]
 
-pub arc_ends : (p : PlaneModel) (net : Net) → IsPlane p → IsFaceNet p net → (i : ℕ) → i < arc_count net →
+pub arc_ends : (p : PlaneModel) (net : NetworkModel) → IsPlane p → IsFaceNet p net → (i : ℕ) → i < arc_count net →
     ((arc_at net i).from < node_count net) × ((arc_at net i).to < node_count net)
 arc_ends p net plane is =
     let ends = plane_ends p plane in
@@ -41,7 +41,7 @@ arc_ends p net plane is =
       omega (arith, ap (λ (a : Arc). a.to) (is.crossing d l), is.nodes, ends.face_named (reverse_dart p d) (ends.reverse_dart_inside d l)),
     ))
 
-pub supply_fair : (p : PlaneModel) (net : Net) → IsPlane p → IsFaceNet p net → (k : ℕ) → k < node_count net →
+pub supply_fair : (p : PlaneModel) (net : NetworkModel) → IsPlane p → IsFaceNet p net → (k : ℕ) → k < node_count net →
     (supply_at net k <ℤ negsuc 2047) ⊎ (pos 2048 <ℤ supply_at net k) → ⊥
 supply_fair p net plane is k l unfair =
     let ends = plane_ends p plane in
@@ -69,7 +69,7 @@ supply_fair p net plane is k l unfair =
     at_face false z k is few (inl low) = omega (arith, ints)
     at_face false z k is few (inr high) = omega (arith, ints)
 
-pub no_fault : (p : PlaneModel) (net : Net) (fault : NetFault) → IsPlane p → IsFaceNet p net → HasFault net fault → ⊥
+pub no_fault : (p : PlaneModel) (net : NetworkModel) (fault : NetFault) → IsPlane p → IsFaceNet p net → HasFault net fault → ⊥
 no_fault p net TooLarge plane is fault =
     let ends = plane_ends p plane in
     elim fault [

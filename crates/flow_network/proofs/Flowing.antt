@@ -11,7 +11,7 @@ use Rattle.faces.proofs.Ends.{plane_ends}
 use Rattle.faces.proofs.Joined.{faces_joined}
 use Rattle.faces.proofs.Degrees.{degrees_sum}
 use Rattle.networks.specs.declared.arc.Arc.{Arc}
-use Rattle.networks.specs.Net.{Net, node_count, arc_count, arc_at, supply_at}
+use Rattle.networks.specs.Networks.{NetworkModel, node_count, arc_count, arc_at, supply_at}
 use Rattle.networks.specs.Flow.{Flow, IsWithin, leaves, enters, balance}
 use Rattle.min_cost_flow.specs.Excess.{KeepsCaps}
 use Rattle.min_cost_flow.specs.Existence.{IsJoined, IsBalanced}
@@ -75,7 +75,7 @@ arrivals_some p d l =
       cond-true {A = ℕ} (eqb (head p d) (head p d)) 1 0 (eq-eqb (head p d) (head p d) refl),
     )
 
-pub start_keeps : (p : PlaneModel) (net : Net) → IsFaceNet p net → KeepsCaps net (start p)
+pub start_keeps : (p : PlaneModel) (net : NetworkModel) → IsFaceNet p net → KeepsCaps net (start p)
 start_keeps p net is i l =
     elim (cases_lt i (darts p)) [
       | inl corner ↦
@@ -96,7 +96,7 @@ start_keeps p net is i l =
         ]
 
 -- what leaves a vertex is its supply
-pub start_leaves : (p : PlaneModel) (net : Net) → IsPlane p → IsFaceNet p net → (v : ℕ) → 1 ≤ v → v ≤ vertices p →
+pub start_leaves : (p : PlaneModel) (net : NetworkModel) → IsPlane p → IsFaceNet p net → (v : ℕ) → 1 ≤ v → v ≤ vertices p →
     leaves net (start p) (v - 1) ≡ 4 - arrivals p v
 start_leaves p net plane is v one most =
     let n : ℕ = darts p in
@@ -118,7 +118,7 @@ start_leaves p net plane is v one most =
     none true k e = e
     none false k e = refl
 
-    corner : (p : PlaneModel) (net : Net) → IsPlane p → IsFaceNet p net → (v : ℕ) → 1 ≤ v → v ≤ vertices p → (d : ℕ) → d < darts p →
+    corner : (p : PlaneModel) (net : NetworkModel) → IsPlane p → IsFaceNet p net → (v : ℕ) → 1 ≤ v → v ≤ vertices p → (d : ℕ) → d < darts p →
         cond (eqb (arc_at net d).from (v - 1)) (start p d) 0 ≡ cond (eqb (chosen p v) d) (4 - arrivals p v) 0
     corner p net plane is v one most d l =
         let ends = plane_ends p plane in
@@ -136,7 +136,7 @@ start_leaves p net plane is v one most =
         ]
 
 -- nothing enters a vertex
-pub start_enters : (p : PlaneModel) (net : Net) → IsFaceNet p net → (k : ℕ) → k < vertices p → enters net (start p) k ≡ 0
+pub start_enters : (p : PlaneModel) (net : NetworkModel) → IsFaceNet p net → (k : ℕ) → k < vertices p → enters net (start p) k ≡ 0
 start_enters p net is k below =
     let n : ℕ = darts p in
     let f : ℕ → ℕ = λ i. if (arc_at net i).to == k then start p i else 0 in
@@ -153,7 +153,7 @@ start_enters p net is k below =
     omega (arith, whole, corners, crossings)
 
 -- so no vertex has anything over, or wants anything
-pub vertex_even : (p : PlaneModel) (net : Net) → IsPlane p → IsFaceNet p net → (k : ℕ) → k < vertices p →
+pub vertex_even : (p : PlaneModel) (net : NetworkModel) → IsPlane p → IsFaceNet p net → (k : ℕ) → k < vertices p →
     supply_at net k -ℤ balance net (start p) k ≡ pos 0
 vertex_even p net plane is k below =
     let v : ℕ = k + 1 in
@@ -169,7 +169,7 @@ vertex_even p net plane is k below =
     even s out into many supply left nothing few = omega (arith, ints)
 
 -- what is over at one face can cross to each other face
-pub start_joined : (p : PlaneModel) (net : Net) → IsPlane p → IsFaceNet p net → IsJoined net (λ v. supply_at net v -ℤ balance net (start p) v)
+pub start_joined : (p : PlaneModel) (net : NetworkModel) → IsPlane p → IsFaceNet p net → IsJoined net (λ v. supply_at net v -ℤ balance net (start p) v)
 start_joined p net plane is = record {
   meets = λ s closed u v u_in v_in here over wants.
       let n : ℕ = vertices p in
@@ -198,13 +198,13 @@ start_joined p net plane is = record {
     wants_zero : (z : ℤ) → z ≡ pos 0 → z <ℤ pos 0 → ⊥
     wants_zero z e less = omega (arith, ints)
 
-    face_node : (p : PlaneModel) (net : Net) → IsPlane p → IsFaceNet p net → (w : ℕ) →
+    face_node : (p : PlaneModel) (net : NetworkModel) → IsPlane p → IsFaceNet p net → (w : ℕ) →
         (supply_at net w -ℤ balance net (start p) w ≡ pos 0 → ⊥) → vertices p ≤ w
     face_node p net plane is w uneven =
         elim (cases_lt w (vertices p)) [ inl below ↦ absurd (uneven (vertex_even p net plane is w below)) | inr face ↦ face ]
 
 -- as much is supplied as is wanted, by Euler's formula
-pub balanced : (p : PlaneModel) (net : Net) → IsPlane p → IsFaceNet p net → IsBalanced net
+pub balanced : (p : PlaneModel) (net : NetworkModel) → IsPlane p → IsFaceNet p net → IsBalanced net
 balanced p net plane is =
     let n : ℕ = vertices p in
     let m : ℕ = p.faces in
@@ -272,7 +272,7 @@ balanced p net plane is =
         ∙ sum_below-constant p.faces 4 in
         omega (arith, both, sum_below-add p.faces (λ f. if f == p.outer then 0 else 4) (λ f. if f == p.outer then 4 else 0), outer_sum p plane)
 
-pub net_flows : (p : PlaneModel) (net : Net) → IsPlane p → IsFaceNet p net → ((i : ℕ) → i < arc_count net → ((arc_at net i).from < node_count net) × ((arc_at net i).to < node_count net)) → (y : ℕ → ℕ) × Flow net y
+pub net_flows : (p : PlaneModel) (net : NetworkModel) → IsPlane p → IsFaceNet p net → ((i : ℕ) → i < arc_count net → ((arc_at net i).from < node_count net) × ((arc_at net i).to < node_count net)) → (y : ℕ → ℕ) × Flow net y
 net_flows p net plane is ends =
     flow_where_joined net (start p) (λ v. supply_at net v -ℤ balance net (start p) v) ends (balanced p net plane is)
     (start_keeps p net is) (excess_leaves net (start p)) (start_joined p net plane is)

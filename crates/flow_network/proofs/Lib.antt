@@ -1,5 +1,5 @@
 pub mod VertexDegrees
 pub mod Flowing
-pub mod Pushing
+pub mod GrowingLists
 pub mod Faultless
 pub mod TurnedOut

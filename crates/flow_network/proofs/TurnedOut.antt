@@ -7,7 +7,7 @@ use Rattle.embedding.specs.declared.graphs.TheConstants.{MAX_DARTS}
 use Rattle.faces.specs.Planes.{PlaneModel, IsPlane, darts, vertices, face_at, degree, with_outer}
 use Rattle.faces.proofs.Ends.{plane_ends}
 use Rattle.faces.proofs.Degrees.{degree_few}
-use Rattle.networks.specs.Net.{Net, supply_at, shifted, HasFairSupplies}
+use Rattle.networks.specs.Networks.{NetworkModel, supply_at, shifted, HasFairSupplies}
 use Rattle.networks.proofs.Moving.{delta, moved_at, length-moved}
 use Rattle.flow_network.specs.FaceNet.{IsFaceNet, arrivals}
 use Rattle.flow_network.proofs.VertexDegrees.{arrivals_most}
@@ -29,7 +29,7 @@ same_test n f g = elim (cases_eq f g) [
   | inr ne ↦ ne_eqb (n + f) (n + g) (λ e. ne (omega arith)) ∙ sym (ne_eqb f g ne)
 ]
 
-pub net_turned : (p : PlaneModel) (net : Net) (face : ℕ) → p.outer < p.faces → face < p.faces → IsFaceNet p net → IsFaceNet (with_outer p face) (shifted net (vertices p + p.outer) (vertices p + face) 8)
+pub net_turned : (p : PlaneModel) (net : NetworkModel) (face : ℕ) → p.outer < p.faces → face < p.faces → IsFaceNet p net → IsFaceNet (with_outer p face) (shifted net (vertices p + p.outer) (vertices p + face) 8)
 net_turned p net face outer inside is =
     let from : ℕ = vertices p + p.outer in
     let to : ℕ = vertices p + face in
@@ -57,7 +57,7 @@ face_fair true z k is few = (omega (arith, ints), omega (arith, ints))
 face_fair false z k is few = (omega (arith, ints), omega (arith, ints))
 
 -- whichever face is the outer one, the supplies are fair
-pub turned_fair : (p : PlaneModel) (net : Net) (face : ℕ) → IsPlane p → IsFaceNet (with_outer p face) net → HasFairSupplies net
+pub turned_fair : (p : PlaneModel) (net : NetworkModel) (face : ℕ) → IsPlane p → IsFaceNet (with_outer p face) net → HasFairSupplies net
 turned_fair p net face plane is k l =
     let ends = plane_ends p plane in
     elim (cases_lt k (vertices p)) [

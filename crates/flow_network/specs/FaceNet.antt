@@ -1,18 +1,19 @@
 -- The flow network of a plane: a node for each vertex and each face, and of each dart a corner arc, from its head
 -- to its face, and a crossing arc, from its face to the one across. A unit is a right angle, or a turn that goes
--- over to the other face. (Tamassia 1987, for faces on the left.)
+-- over to the other face. Faces lie on the left of their darts.
 use Rattle.std.specs.Prelude.{◌≡◌, ℕ, ◌+◌, ◌-◌, ◌<◌, ◌≤◌, ◌==◌, if◌then◌else◌, pos, negsuc, ◌-ℤ◌}
 use Rattle.sums.specs.Sums.{sum_below}
 use Rattle.faces.specs.Planes.{PlaneModel, darts, vertices, head, reverse_dart, face_at, degree}
 use Rattle.networks.specs.declared.arc.Cap.TheVariants.{AtMost, Any}
-use Rattle.networks.specs.Net.{Net, node_count, arc_count, arc_at, supply_at}
+use Rattle.networks.specs.Networks.{NetworkModel, node_count, arc_count, arc_at, supply_at}
 
 -- how many darts arrive at a vertex
 abbrev pub arrivals : PlaneModel → ℕ → ℕ
 arrivals p v = sum_below (darts p) (λ d. if head p d == v then 1 else 0)
 
--- nodes v - 1 for vertices and n + f for faces, arcs d for corners and D + d for crossings
-pub record IsFaceNet (p : PlaneModel) (net : Net) : Type 0 where
+-- with n vertices and D darts, node v - 1 is that of vertex v, node n + f that of face f, arc d the corner of dart d,
+-- and arc D + d its crossing
+pub record IsFaceNet (p : PlaneModel) (net : NetworkModel) : Type 0 where
   pub nodes : node_count net ≡ vertices p + p.faces
   pub arcs : arc_count net ≡ darts p + darts p
   -- the corner of a dart carries its angle less one
@@ -26,7 +27,7 @@ pub record IsFaceNet (p : PlaneModel) (net : Net) : Type 0 where
 
 -- what callers see of a `FaceNet`: the network, and how many vertices and darts the plane has
 pub record FaceNetModel : Type 0 where
-  pub network : Net
+  pub network : NetworkModel
   pub vertices : ℕ
   pub darts : ℕ
 

@@ -1,7 +1,7 @@
 ghost use Rattle.std.specs.Prelude.{◌≡◌, ◌+◌, ◌-◌, ◌<◌, ◌≤◌, ℕ, IfOk, vec_len};
 ghost use Rattle.embedding.specs.declared.graphs.TheConstants.{MAX_DARTS};
 ghost use Rattle.faces.specs.Planes.{darts, vertices, with_outer};
-ghost use Rattle.networks.specs.Net.{shifted};
+ghost use Rattle.networks.specs.Networks.{shifted};
 ghost use Rattle.networks.specs.Flow.{Flow};
 
 use crate::parts::{arcs_of, supplies_of};
@@ -14,6 +14,8 @@ use std::mem;
 
 /// The flow network of a plane (Tamassia 1987). A unit in a corner is a right angle beyond the first, and
 /// a unit across an edge is a bend.
+///
+/// For a plane with n vertices and D darts:
 ///
 /// | Thing | Number |
 /// |---|---|
@@ -43,7 +45,7 @@ impl Model for FaceNet {
 impl FaceNet {
     ghost use Rattle.flow_network.specs.FaceNet.{IsNetOf};
 
-    /// The network of a plane. The only refusal is for want of memory. Linear in the darts.
+    /// The network of a plane, or `AllocError` where there is no memory for it. Linear in the darts.
     pub fn build(alloc: Global, plane: &Plane) -> Result<FaceNet, AllocError>
         ensures net { IfOk result (IsNetOf plane.now) }
         ensures flow { IfOk result (λ n. (y : ℕ → ℕ) × Flow n.network y) }
@@ -83,14 +85,15 @@ impl FaceNet {
         &self.network
     }
 
-    /// Hands the memory of this network back to that which it was made in.
+    /// Gives the lists of this network back to be used again. It takes no memory.
     pub fn give_back(self, scratch: &mut Scratch) {
         let (supplies, arcs) = self.network.into_lists();
         scratch.supplies = supplies;
         scratch.arcs = arcs;
     }
 
-    /// Turns a face out in place of the plane's outer one.
+    /// Turns a face out in place of the plane's outer one: eight units more are supplied at the old one, and
+    /// eight less at the new one. It takes no memory.
     pub fn turn_out(&mut self, plane: &Plane, face: u16)
         requires net { IsNetOf plane.now self.old }
         requires face { face < plane.now.faces }
@@ -105,7 +108,7 @@ impl FaceNet {
         self.network.shift(from, to, 8);
     }
 
-    /// The arc that carries the angle of a dart, less one.
+    /// The number of the arc that carries the angle of a dart, less one.
     pub fn corner_arc(&self, dart: u16) -> u32
         ensures { result ≡ dart }
     {
@@ -113,14 +116,14 @@ impl FaceNet {
         u32::from(dart)
     }
 
-    /// The arc that carries the left turns of a dart.
+    /// The number of the arc that carries the left turns of a dart.
     pub fn crossing_arc(&self, dart: u16) -> u32
         ensures { result ≡ self.now.darts + dart }
     {
         self.darts + u32::from(dart)
     }
 
-    /// The node of a vertex; vertices count from 1.
+    /// The number of the node of a vertex; vertices count from 1.
     pub fn vertex_node(&self, vertex: u8) -> u32
         requires { 1 ≤ vertex }
         ensures { result ≡ vertex - 1 }
@@ -129,7 +132,7 @@ impl FaceNet {
         u32::from(vertex) - 1
     }
 
-    /// The node of a face.
+    /// The number of the node of a face; faces count from 0.
     pub fn face_node(&self, face: u16) -> u32
         ensures { result ≡ self.now.vertices + face }
     {

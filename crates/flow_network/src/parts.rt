@@ -1,7 +1,7 @@
 ghost use Rattle.std.specs.Prelude.{◌≡◌, [], ◌+◌, ◌-◌, ◌<◌, ◌≤◌, ◌==◌, if◌then◌else◌, ℕ, pos, negsuc, ◌-ℤ◌, IfOk, length, slice_index, slice_index_or};
 ghost use Rattle.faces.specs.Planes.{darts, vertices, head, reverse_dart, face_at, degree};
 ghost use Rattle.networks.specs.declared.arc.Cap.TheVariants.{AtMost, Any};
-ghost use Rattle.networks.specs.Net.{no_arc};
+ghost use Rattle.networks.specs.Networks.{no_arc};
 ghost use Rattle.flow_network.specs.FaceNet.{arrivals};
 
 use faces::Plane;
@@ -21,7 +21,7 @@ fn count_arrivals(plane: &Plane) -> [u16; 256]
     counts
 }
 
-/// What a face supplies: its turns in right angles, less its degree.
+/// What a face supplies: the right angles by which it turns to the left, less its degree.
 fn face_supply(plane: &Plane, face: u16) -> i32
     requires { face < plane.now.faces }
     ensures { result

@@ -1,1 +1,1 @@
-mod Moving
+mod FairSupplies

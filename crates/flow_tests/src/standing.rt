@@ -1,6 +1,6 @@
 //! A flow that stands while supplies move, beside the slow solver.
 ghost use Rattle.std.specs.Prelude.{◌≡◌, ◌<◌, ◌≤◌, ◌≤ℤ◌, pos, negsuc, true, IfSome};
-ghost use Rattle.networks.specs.Net.{node_count};
+ghost use Rattle.networks.specs.Networks.{node_count};
 
 use crate::plain;
 use crate::tests::{Numbers, cost_of, random_network};
@@ -27,7 +27,8 @@ fn is_within(more: i32, less: i32) -> bool
     more <= 2000 && less >= -2000
 }
 
-/// Moves supply in a standing flow and in a network that is the same, unless it is too great already.
+/// Lets one node supply more and another less in a standing flow and in a network that is the same, unless
+/// their supplies are too great already.
 fn moved(
     standing: Standing,
     twin: &mut Network,
@@ -69,7 +70,7 @@ fn is_right(alloc: Global, standing: &Standing) -> Result<bool, AllocError> {
     Ok(expected == Some(cost) && cost_of(standing.network(), &solved) == cost)
 }
 
-/// How a standing flow of a network ends with random moves of supply.
+/// How a standing flow of a network ends as random nodes supply more and less.
 fn end_of(alloc: Global, network: Network, numbers: &mut Numbers) -> Result<End, SolveFault> {
     let mut twin = network;
     let mut standing = match Standing::new(alloc, &twin) {

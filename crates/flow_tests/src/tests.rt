@@ -27,7 +27,7 @@ fn network(
     Ok(Network::new(Vec::from_slice(alloc, supplies)?, list))
 }
 
-/// The answer to a network, as its cost, or none where there is no flow.
+/// The least cost of a flow as the solver finds it, or none where there is no flow.
 fn least_cost(alloc: Global, network: &Network) -> Result<Option<u64>, SolveFault> {
     let solved = match solve(alloc, network) {
         Ok(solved) => solved,
@@ -248,8 +248,8 @@ fn random_networks_cost_what_the_slow_solver_finds(rt: HostRuntime) -> Result<()
     Ok(())
 }
 
-/// Each allocation that is refused answers `Memory` and leaves the network as it was, so that a
-/// second call answers as if none had been. The refusals are made from outside, one a run.
+/// A call in which an allocation is refused gives `Memory` and leaves the network as it was, so that a
+/// second call gives what it gives without the refusal. The refusals are made from outside, one a run.
 #[test]
 fn a_refused_allocation_leaves_the_network(rt: HostRuntime) -> Result<(), Fail> {
     let network = network(rt.alloc(), &[3, -3], &[(0, 1, Cap::Any, 1)])??;

@@ -7,7 +7,7 @@ use Rattle.faces.specs.Planes.{PlaneModel, IsPlane, HasEnds, darts, reverse_dart
 use Rattle.ortho_rep.specs.declared.turn.Turn.{Turn}
 use Rattle.ortho_rep.specs.Turns.{lefts, rights, mirrored}
 use Rattle.ortho_rep.specs.Representation.{Rep, turning_of, turning_around}
-use Rattle.ortho_rep.proofs.TurnLemmas.{lefts-mirrored, lefts-add-rights}
+use Rattle.ortho_rep.proofs.TurnCounts.{lefts-mirrored, lefts-add-rights}
 use Rattle.ortho_rep.proofs.Mirrors.{length-mirrored}
 use Rattle.headings.proofs.Reordered.{sum_at, sum_at-add, sum_at-times, sum_at-four, reordered_at}
 use Rattle.headings.proofs.Corners.{lacks, lacks_next}

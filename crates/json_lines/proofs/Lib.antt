@@ -1,1 +1,1 @@
-pub mod Plain
+pub mod NoFloats

@@ -4,7 +4,7 @@ ghost use Rattle.std.specs.List.{range_with_len};
 ghost use Rattle.serde_json.specs.View.{view};
 ghost use Rattle.ortho_rep.specs.Representation.{HasDarts};
 ghost use Rattle.ortho_rep.specs.Prices.{HasPrices};
-ghost use Rattle.json_lines.specs.Lines.{natural, whole, array_of, letter_of, turns_data, point_data, corners_data};
+ghost use Rattle.json_lines.specs.LineData.{natural, whole, array_of, letter_of, turns_data, point_data, corners_data};
 
 use faces::Plane;
 use ortho_rep::{Point, Points, Prices, Shape, Turn};

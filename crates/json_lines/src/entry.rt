@@ -2,7 +2,7 @@
 ghost use Rattle.std.specs.Prelude.{◌≡◌, IfOk};
 ghost use Rattle.serde_json.specs.View.{view};
 ghost use Rattle.entries.specs.declared.answer.Answer.TheVariants.{Refused, NoMemory};
-ghost use Rattle.json_lines.specs.Lines.{answer_data};
+ghost use Rattle.json_lines.specs.LineData.{answer_data};
 
 use embedding::Rule;
 use serde_json::{Value, json};

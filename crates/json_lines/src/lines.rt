@@ -5,7 +5,7 @@ ghost use Rattle.serde_json.specs.Written.{has_float};
 ghost use Rattle.ortho_rep.specs.Representation.{HasDarts};
 ghost use Rattle.ortho_rep.specs.Prices.{HasPrices};
 ghost use Rattle.entries.specs.declared.answer.Answer.TheVariants.{NoMemory};
-ghost use Rattle.json_lines.specs.Lines.{answer_data, end_data, laid_data, line_of};
+ghost use Rattle.json_lines.specs.LineData.{answer_data, end_data, laid_data, line_of};
 
 use crate::entry::{memory_value, refused_value};
 use crate::objects::laid_value;

@@ -7,7 +7,7 @@ ghost use Rattle.ortho_rep.specs.Shapes.{turns_at};
 ghost use Rattle.ortho_rep.specs.Representation.{HasDarts, bends_of};
 ghost use Rattle.ortho_rep.specs.Prices.{HasPrices};
 ghost use Rattle.json_lines.specs.Members.{with_members};
-ghost use Rattle.json_lines.specs.Lines.{natural, array_of, turns_data, prices_data, points_data, drawn_data, laid_data};
+ghost use Rattle.json_lines.specs.LineData.{natural, array_of, turns_data, prices_data, points_data, drawn_data, laid_data};
 
 use crate::arrays::{
     angles_value, corners_value, face_prices_value, points_value, turns_value, vertex_prices_value,
@@ -80,7 +80,7 @@ fn put_sizes(
     put(members, alloc, "bends", Value::from(shape.bends()))
 }
 
-/// Puts the angles and the turns by dart, and the prices that prove them least.
+/// Puts the angles and the turns by dart, and the prices that prove the shape least.
 fn put_shape(
     members: &mut Map<String, Value>,
     alloc: Global,

@@ -1,4 +1,4 @@
-//! One lane: four stages, each in a thread of its own.
+//! One lane: four stages. The last one runs on the lane's own thread, which starts a thread for each other one.
 ghost use Rattle.std.specs.Prelude.{◌≡◌, ◌≤◌, ◌∷◌, ◌++◌, [], IfOk};
 ghost use Rattle.ruled_lanes.specs.declared.limits.TheConstants.{MAX_CAPACITY};
 ghost use Rattle.ruled_lanes.specs.FanEnds.{given_at, GivesToSameLane};

@@ -14,7 +14,7 @@ use std::alloc::Global;
 use std::sync::Wait;
 
 /// Draws files until none is left, and reads each. Of each it gives its records and one end, and after
-/// the last one stop. It gives the end of its link and its seat back, or none where the other end was gone.
+/// the last file one stop. It gives the end of its link and its seat back, or none where the other end was gone.
 pub fn read_stage<L: Line, O: Opener, R: Wait, G: Gate>(
     rt: &R,
     alloc: Global,

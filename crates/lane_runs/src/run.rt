@@ -29,8 +29,8 @@ use std::thread::{Scope, Threads};
 ///
 /// # Errors
 ///
-/// `Memory`: there was none for links, the fan, tickets or buffers. `Lost`: an end of a link or of the fan was
-/// gone. `Thread`: a thread could not be started. `Refused`: the consumer refused a message.
+/// `Memory`: there was none for links, the fan, tickets, buffers, or the lists of lanes. `Lost`: an end of a link
+/// or of the fan was gone. `Thread`: a thread could not be started. `Refused`: the consumer refused a message.
 pub fn run_lanes<L: Line, C: Consumer<L::Entry>, R: Threads + Wait + Sync, O: Opener, G: Gate>(
     rt: &R,
     alloc: Global,
@@ -55,21 +55,17 @@ pub fn run_lanes<L: Line, C: Consumer<L::Entry>, R: Threads + Wait + Sync, O: Op
     let Ok((tickets, seats)) = Tickets::new(alloc, files, lanes) else {
         return (consumer, Err(RunFault::Memory));
     };
-    let (givers, gatherer) = match new_fan::<L::Entry>(alloc, capacity) {
-        Ok(made) => made,
-        Err(fault) => return (consumer, Err(RunFault::from(fault))),
+    let Ok((givers, gatherer)) = new_fan::<L::Entry>(alloc, capacity) else {
+        return (consumer, Err(RunFault::Memory));
     };
     let dealt = &tickets;
     let (consumer, ran) = thread::scope(
         thread::scope_env(),
         rt,
         move |scope| -> (C, Result<Vec<Seat>, RunFault<C::Refusal>>)
-            requires { (1 ≤ capacity) × (capacity ≤ MAX_CAPACITY) × (1 ≤ vec_len seats) × (vec_len seats ≤ LANES)
-                × All (IsSeatOf dealt.now) seats.items × All IsUnused seats.items
-                × (vec_len givers ≡ LANES) × AreNumbered (IsIdle gatherer) 0 givers.items × (gathered gatherer ≡ [])
-                × C.holds consumer [] }
-            ensures { HasEnded C.holds C.gave_up choice (O.meaning opener.entry.now) dealt.entry.now (vec_len seats) result.0 result.1
-                × C.stays consumer result.0 }
+            requires { (1 ≤ capacity) × (capacity ≤ MAX_CAPACITY) × (1 ≤ vec_len seats) × (vec_len seats ≤ LANES) × All (IsSeatOf dealt.now) seats.items
+                × All IsUnused seats.items × (vec_len givers ≡ LANES) × AreNumbered (IsIdle gatherer) 0 givers.items × (gathered gatherer ≡ []) × C.holds consumer [] }
+            ensures { HasEnded C.holds C.gave_up choice (O.meaning opener.entry.now) dealt.entry.now (vec_len seats) result.0 result.1 × C.stays consumer result.0 }
         {
             let mut consumer = consumer;
             let ran = start_lanes::<_, L, _, _, _, _>(

@@ -28,7 +28,7 @@ pub struct Drafts<E: Numbered> {
 }
 
 impl<E: Numbered> Drafts<E> {
-    /// An empty draft for each file.
+    /// An empty draft for each of so many files. `AllocError` where there is no memory for them.
     pub fn new(alloc: Global, files: u32) -> Result<Drafts<E>, AllocError>
         ensures count { IfOk result (λ drafts. vec_len drafts.files ≡ files) }
         ensures empty { IfOk result (λ drafts. AreDrafts E.about 0 [] drafts.files.items) }

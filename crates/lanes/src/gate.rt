@@ -7,9 +7,9 @@ pub enum Stage {
     Read,
     /// Reads a record's graph and traces its faces.
     Embed,
-    /// Finds a shape with the fewest bends.
+    /// Finds an orthogonal representation with the fewest bends.
     Shape,
-    /// Draws the shape.
+    /// Draws the orthogonal representation.
     Draw,
 }
 

@@ -1,5 +1,5 @@
-//! Files in lanes: what stands between a file's bytes and its book. Each stage of a lane takes
-//! messages of the stage before it and gives one for each.
+//! Files in lanes: what stands between a file's bytes and its book. Each stage of a lane but
+//! the first takes the messages of the stage before it and gives one for each.
 #![tactic(auto)]
 
 mod consumer;

@@ -14,8 +14,8 @@ use streams::{Mark, Tap, read_source};
 /// in order, numbered from 0 and with this choice of the outer face. It gives back the file's mark.
 ///
 /// A file that could not be opened has the mark `Io`, and one that found no memory `Memory`; neither
-/// has records. Besides what the opener and `keep` take, it takes the framer's buffer, the records
-/// of one piece and the list of them.
+/// has records. Besides what the opener and `keep` take, it takes memory for the framer's buffer, the
+/// records of one piece and the list of them.
 ///
 /// # Errors
 ///

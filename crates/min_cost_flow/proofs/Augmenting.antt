@@ -8,17 +8,17 @@ use Rattle.sums.proofs.Sums.{sum_below-same, sum_below-changed}
 use Rattle.networks.specs.declared.arc.Cap.{Cap}
 use Rattle.networks.specs.declared.arc.Cap.TheVariants.{AtMost, Any}
 use Rattle.networks.specs.declared.residual.ResidualArc.{ResidualArc}
-use Rattle.networks.specs.Net.{Net, node_count, arc_count, arc_at, HasUnitCosts, IsNetwork}
-use Rattle.networks.specs.Flow.{leaves, enters, IsWithin, HasRoom, IsResidual, HasPotentials, start_of, end_of, price_of, reduced_cost}
+use Rattle.networks.specs.Networks.{NetworkModel, node_count, arc_count, arc_at, HasUnitCosts, IsNetwork}
+use Rattle.networks.specs.Flow.{leaves, enters, IsWithin, HasRoom, IsResidual, HasPotentials, start_of, end_of, unit_cost, reduced_cost}
 use Rattle.min_cost_flow.specs.Excess.{KeepsCaps, Carries}
 use Rattle.min_cost_flow.specs.Residual.{IsMoved}
 use Rattle.networks.specs.Layout.{numbers, end_at, cost_at, StartsAt, place_of, IsLaidOut, limit_of, IsFilled, carried}
 use Rattle.min_cost_flow.specs.Path.{IsTight, HasPath}
 use Rattle.min_cost_flow.specs.Round.{IsLess, carrying}
-use Rattle.networks.proofs.Ends.{start_in, end_in, price_most}
+use Rattle.networks.proofs.Ends.{start_in, end_in, unit_cost_most}
 use Rattle.min_cost_flow.proofs.Changes.{SameBut, moved_carries, carried_leaves, potentials_stay}
 use Rattle.min_cost_flow.proofs.Rounds.{IsSent, left_falls}
-use Rattle.min_cost_flow.proofs.Turning.{start_is}
+use Rattle.min_cost_flow.proofs.Reverses.{start_is}
 
 -- ---- one push
 
@@ -26,7 +26,7 @@ opposite : Bool → Bool
 opposite false = true
 opposite true = false
 
-opposite_is : (net : Net) (first reverse forward : List ℕ) (i : ℕ) (b : Bool) → IsLaidOut net first reverse forward → i < arc_count net → numbers reverse (place_of reverse forward i b) ≡ place_of reverse forward i (opposite b)
+opposite_is : (net : NetworkModel) (first reverse forward : List ℕ) (i : ℕ) (b : Bool) → IsLaidOut net first reverse forward → i < arc_count net → numbers reverse (place_of reverse forward i b) ≡ place_of reverse forward i (opposite b)
 unfolding opposite
 opposite_is net first reverse forward i false l b = refl
 opposite_is net first reverse forward i true l b = l.turned i b
@@ -38,18 +38,18 @@ pub record IsPushed (reverse : List ℕ) (arcs arcs' : List ResidualArc) (room r
   pub more : numbers room' (numbers reverse k) ≡ numbers room (numbers reverse k) + amount
   pub others : (j : ℕ) → j ≢ k → j ≢ numbers reverse k → numbers room' j ≡ numbers room j
 
-pub number_below : (net : Net) (first reverse forward : List ℕ) (v k : ℕ) → IsLaidOut net first reverse forward → v < node_count net → StartsAt first v k → k < arc_count net + arc_count net
+pub number_below : (net : NetworkModel) (first reverse forward : List ℕ) (v k : ℕ) → IsLaidOut net first reverse forward → v < node_count net → StartsAt first v k → k < arc_count net + arc_count net
 number_below net first reverse forward v k l b s = omega (arith, s.below, l.inside v b)
 
-pub place_below : (net : Net) (first reverse forward : List ℕ) (i : ℕ) (back : Bool) → IsNetwork net → IsLaidOut net first reverse forward → i < arc_count net → place_of reverse forward i back < arc_count net + arc_count net
+pub place_below : (net : NetworkModel) (first reverse forward : List ℕ) (i : ℕ) (back : Bool) → IsNetwork net → IsLaidOut net first reverse forward → i < arc_count net → place_of reverse forward i back < arc_count net + arc_count net
 place_below net first reverse forward i back n l b =
     number_below net first reverse forward (start_of net i back) (place_of reverse forward i back) l (start_in net i back n.ends b) (l.block i back b)
 
-reverse_place : (net : Net) (first reverse forward : List ℕ) (k : ℕ) (i : ℕ) (back : Bool) → IsLaidOut net first reverse forward → i < arc_count net → place_of reverse forward i back ≡ k → numbers reverse k ≡ place_of reverse forward i (opposite back)
+reverse_place : (net : NetworkModel) (first reverse forward : List ℕ) (k : ℕ) (i : ℕ) (back : Bool) → IsLaidOut net first reverse forward → i < arc_count net → place_of reverse forward i back ≡ k → numbers reverse k ≡ place_of reverse forward i (opposite back)
 reverse_place net first reverse forward k i back l b e = ap (numbers reverse) (sym e) ∙ opposite_is net first reverse forward i back l b
 
 -- the reverse of one of a node's residual arcs has a number too
-pub reverse_below : (net : Net) (first reverse forward : List ℕ) (v k : ℕ) → IsNetwork net → IsLaidOut net first reverse forward → v < node_count net → StartsAt first v k → numbers reverse k < arc_count net + arc_count net
+pub reverse_below : (net : NetworkModel) (first reverse forward : List ℕ) (v k : ℕ) → IsNetwork net → IsLaidOut net first reverse forward → v < node_count net → StartsAt first v k → numbers reverse k < arc_count net + arc_count net
 reverse_below net first reverse forward v k n l b s =
     let o = l.cover v k b s in
     let e : numbers reverse k ≡ place_of reverse forward o.arc (opposite o.back) = reverse_place net first reverse forward k o.arc o.back l o.inside o.place in
@@ -68,17 +68,17 @@ which_way false true = inr refl
 which_way false false = inl refl
 
 -- no residual arc is its own reverse
-pub not_reverse : (net : Net) (first reverse forward : List ℕ) (v k : ℕ) → IsLaidOut net first reverse forward → v < node_count net → StartsAt first v k → k ≢ numbers reverse k
+pub not_reverse : (net : NetworkModel) (first reverse forward : List ℕ) (v k : ℕ) → IsLaidOut net first reverse forward → v < node_count net → StartsAt first v k → k ≢ numbers reverse k
 not_reverse net first reverse forward v k l b s h =
     let o = l.cover v k b s in
     let e : numbers reverse k ≡ place_of reverse forward o.arc (opposite o.back) = reverse_place net first reverse forward k o.arc o.back l o.inside o.place in
     not_turned o.back (l.alone o.arc o.arc o.back (opposite o.back) o.inside o.inside (o.place ∙ h ∙ e)).1
 
-price_least : (net : Net) (i : ℕ) (back : Bool) → HasUnitCosts net → i < arc_count net → negsuc 0 ≤ℤ price_of net i back
-price_least net i false costs b = omega (arith, ints)
-price_least net i true costs b = omega (arith, ints, costs i b)
+unit_cost_least : (net : NetworkModel) (i : ℕ) (back : Bool) → HasUnitCosts net → i < arc_count net → negsuc 0 ≤ℤ unit_cost net i back
+unit_cost_least net i false costs b = omega (arith, ints)
+unit_cost_least net i true costs b = omega (arith, ints, costs i b)
 
--- the cost of price z where r fits
+-- the cost of a residual arc along which r fits, where a unit costs z
 coded : ℤ → ℕ → ℤ
 coded z r = cond (eqb r 0) (z +ℤ SHUT) z
 
@@ -90,7 +90,7 @@ coded_some : (z : ℤ) (r : ℕ) → 0 < r → coded z r ≡ z
 unfolding coded
 coded_some z r h = cond-false {A = ℤ} (eqb r 0) (z +ℤ SHUT) z (ne_eqb r 0 (λ e. omega arith))
 
-code_is : (net : Net) (reverse forward : List ℕ) (arcs : List ResidualArc) (room : List ℕ) (i : ℕ) (back : Bool) → IsFilled net reverse forward arcs room → i < arc_count net → cost_at arcs (place_of reverse forward i back) ≡ coded (price_of net i back) (numbers room (place_of reverse forward i back))
+code_is : (net : NetworkModel) (reverse forward : List ℕ) (arcs : List ResidualArc) (room : List ℕ) (i : ℕ) (back : Bool) → IsFilled net reverse forward arcs room → i < arc_count net → cost_at arcs (place_of reverse forward i back) ≡ coded (unit_cost net i back) (numbers room (place_of reverse forward i back))
 unfolding coded
 code_is net reverse forward arcs room i back f b = f.cost i back b
 
@@ -102,31 +102,31 @@ least_coded z c r h e =
     ]
 
 -- the cost of a node's residual arc, and that of its reverse, are not below -1
-pub reverse_code : (net : Net) (first reverse forward : List ℕ) (arcs : List ResidualArc) (room : List ℕ) (v k : ℕ) → IsNetwork net → IsLaidOut net first reverse forward → IsFilled net reverse forward arcs room → v < node_count net → StartsAt first v k → negsuc 0 ≤ℤ cost_at arcs (numbers reverse k)
+pub reverse_code : (net : NetworkModel) (first reverse forward : List ℕ) (arcs : List ResidualArc) (room : List ℕ) (v k : ℕ) → IsNetwork net → IsLaidOut net first reverse forward → IsFilled net reverse forward arcs room → v < node_count net → StartsAt first v k → negsuc 0 ≤ℤ cost_at arcs (numbers reverse k)
 reverse_code net first reverse forward arcs room v k n l f b s =
     let o = l.cover v k b s in
     let back = opposite o.back in
     let e : numbers reverse k ≡ place_of reverse forward o.arc back = reverse_place net first reverse forward k o.arc o.back l o.inside o.place in
-    least_coded (price_of net o.arc back) (cost_at arcs (numbers reverse k)) (numbers room (place_of reverse forward o.arc back)) (price_least net o.arc back n.costs o.inside)
+    least_coded (unit_cost net o.arc back) (cost_at arcs (numbers reverse k)) (numbers room (place_of reverse forward o.arc back)) (unit_cost_least net o.arc back n.costs o.inside)
     (ap (cost_at arcs) e ∙ code_is net reverse forward arcs room o.arc back f o.inside)
 
 most_coded : (z c : ℤ) (r : ℕ) → z ≤ℤ pos 1 → 0 < r → c ≡ coded z r → c ≤ℤ pos 1
 most_coded z c r h s e = let t : coded z r ≡ z = coded_some z r s in omega (arith, ints)
 
--- where something fits the cost is a price
-pub open_code : (net : Net) (first reverse forward : List ℕ) (arcs : List ResidualArc) (room : List ℕ) (v k : ℕ) → IsNetwork net → IsLaidOut net first reverse forward → IsFilled net reverse forward arcs room → v < node_count net → StartsAt first v k → 0 < numbers room k → cost_at arcs k ≤ℤ pos 1
+-- where something fits the cost is what a unit costs, at most 1
+pub open_code : (net : NetworkModel) (first reverse forward : List ℕ) (arcs : List ResidualArc) (room : List ℕ) (v k : ℕ) → IsNetwork net → IsLaidOut net first reverse forward → IsFilled net reverse forward arcs room → v < node_count net → StartsAt first v k → 0 < numbers room k → cost_at arcs k ≤ℤ pos 1
 open_code net first reverse forward arcs room v k n l f b s some =
     let o = l.cover v k b s in
-    most_coded (price_of net o.arc o.back) (cost_at arcs k) (numbers room k) (price_most net o.arc o.back n.costs o.inside) some
-    (subst (λ (t : ℕ). cost_at arcs t ≡ coded (price_of net o.arc o.back) (numbers room t)) o.place (code_is net reverse forward arcs room o.arc o.back f o.inside))
+    most_coded (unit_cost net o.arc o.back) (cost_at arcs k) (numbers room k) (unit_cost_most net o.arc o.back n.costs o.inside) some
+    (subst (λ (t : ℕ). cost_at arcs t ≡ coded (unit_cost net o.arc o.back) (numbers room t)) o.place (code_is net reverse forward arcs room o.arc o.back f o.inside))
 
 -- what fits along a residual arc and its reverse
-both_fit : (net : Net) (reverse forward : List ℕ) (arcs : List ResidualArc) (room : List ℕ) (i : ℕ) (back : Bool) → IsFilled net reverse forward arcs room → i < arc_count net → numbers room (place_of reverse forward i back) + numbers room (place_of reverse forward i (opposite back)) ≡ limit_of (arc_at net i).cap
+both_fit : (net : NetworkModel) (reverse forward : List ℕ) (arcs : List ResidualArc) (room : List ℕ) (i : ℕ) (back : Bool) → IsFilled net reverse forward arcs room → i < arc_count net → numbers room (place_of reverse forward i back) + numbers room (place_of reverse forward i (opposite back)) ≡ limit_of (arc_at net i).cap
 unfolding opposite
 both_fit net reverse forward arcs room i false f b = f.fits i b
 both_fit net reverse forward arcs room i true f b = omega (arith, f.fits i b)
 
-pub reverse_few : (net : Net) (first reverse forward : List ℕ) (arcs : List ResidualArc) (room : List ℕ) (v k amount most : ℕ) → IsLaidOut net first reverse forward → IsFilled net reverse forward arcs room → ((i : ℕ) → i < arc_count net → limit_of (arc_at net i).cap < most) → v < node_count net → StartsAt first v k → amount ≤ numbers room k → numbers room (numbers reverse k) + amount < most
+pub reverse_few : (net : NetworkModel) (first reverse forward : List ℕ) (arcs : List ResidualArc) (room : List ℕ) (v k amount most : ℕ) → IsLaidOut net first reverse forward → IsFilled net reverse forward arcs room → ((i : ℕ) → i < arc_count net → limit_of (arc_at net i).cap < most) → v < node_count net → StartsAt first v k → amount ≤ numbers room k → numbers room (numbers reverse k) + amount < most
 reverse_few net first reverse forward arcs room v k amount most l f limits b s fits =
     let o = l.cover v k b s in
     let e : numbers reverse k ≡ place_of reverse forward o.arc (opposite o.back) = reverse_place net first reverse forward k o.arc o.back l o.inside o.place in
@@ -162,30 +162,30 @@ pub record IsCoded (reverse : List ℕ) (arcs arcs' : List ResidualArc) (room ro
   pub there : cost_at arcs' (numbers reverse k) ≡ cond (eqb (numbers room (numbers reverse k)) 0) (cost_at arcs (numbers reverse k) -ℤ SHUT) (cost_at arcs (numbers reverse k))
   pub others : (j : ℕ) → j ≢ k → j ≢ numbers reverse k → cost_at arcs' j ≡ cost_at arcs j
 
-here_coded : (net : Net) (reverse forward : List ℕ) (arcs arcs' : List ResidualArc) (room room' : List ℕ) (i : ℕ) (b : Bool) (k amount : ℕ) → IsFilled net reverse forward arcs room → i < arc_count net → place_of reverse forward i b ≡ k → 0 < amount → IsPushed reverse arcs arcs' room room' k amount → IsCoded reverse arcs arcs' room room' k → cost_at arcs' (place_of reverse forward i b) ≡ coded (price_of net i b) (numbers room' (place_of reverse forward i b))
+here_coded : (net : NetworkModel) (reverse forward : List ℕ) (arcs arcs' : List ResidualArc) (room room' : List ℕ) (i : ℕ) (b : Bool) (k amount : ℕ) → IsFilled net reverse forward arcs room → i < arc_count net → place_of reverse forward i b ≡ k → 0 < amount → IsPushed reverse arcs arcs' room room' k amount → IsCoded reverse arcs arcs' room room' k → cost_at arcs' (place_of reverse forward i b) ≡ coded (unit_cost net i b) (numbers room' (place_of reverse forward i b))
 unfolding coded
 here_coded net reverse forward arcs arcs' room room' i b k amount f inside e some s d =
-    let z = price_of net i b in
+    let z = unit_cost net i b in
     let was : cost_at arcs k ≡ coded z (numbers room k) = subst (λ (t : ℕ). cost_at arcs t ≡ coded z (numbers room t)) e (code_is net reverse forward arcs room i b f inside) in
     subst (λ (t : ℕ). cost_at arcs' t ≡ coded z (numbers room' t)) (sym e) (take_code z (cost_at arcs k) (cost_at arcs' k) (numbers room k) (numbers room' k) amount some s.less was d.here)
 
-there_coded : (net : Net) (reverse forward : List ℕ) (arcs arcs' : List ResidualArc) (room room' : List ℕ) (i : ℕ) (b : Bool) (k amount : ℕ) → IsFilled net reverse forward arcs room → i < arc_count net → place_of reverse forward i b ≡ numbers reverse k → 0 < amount → IsPushed reverse arcs arcs' room room' k amount → IsCoded reverse arcs arcs' room room' k → cost_at arcs' (place_of reverse forward i b) ≡ coded (price_of net i b) (numbers room' (place_of reverse forward i b))
+there_coded : (net : NetworkModel) (reverse forward : List ℕ) (arcs arcs' : List ResidualArc) (room room' : List ℕ) (i : ℕ) (b : Bool) (k amount : ℕ) → IsFilled net reverse forward arcs room → i < arc_count net → place_of reverse forward i b ≡ numbers reverse k → 0 < amount → IsPushed reverse arcs arcs' room room' k amount → IsCoded reverse arcs arcs' room room' k → cost_at arcs' (place_of reverse forward i b) ≡ coded (unit_cost net i b) (numbers room' (place_of reverse forward i b))
 unfolding lowered
 there_coded net reverse forward arcs arcs' room room' i b k amount f inside e some s d =
-    let z = price_of net i b in
+    let z = unit_cost net i b in
     let r = numbers reverse k in
     let was : cost_at arcs r ≡ coded z (numbers room r) = subst (λ (t : ℕ). cost_at arcs t ≡ coded z (numbers room t)) e (code_is net reverse forward arcs room i b f inside) in
     subst (λ (t : ℕ). cost_at arcs' t ≡ coded z (numbers room' t)) (sym e) (give_code z (cost_at arcs r) (cost_at arcs' r) (numbers room r) (numbers room' r) amount some s.more was d.there)
 
-other_coded : (net : Net) (first reverse forward : List ℕ) (arcs arcs' : List ResidualArc) (room room' : List ℕ) (i j : ℕ) (b c : Bool) (k amount : ℕ) → IsLaidOut net first reverse forward → IsFilled net reverse forward arcs room → i < arc_count net → place_of reverse forward i b ≡ k → IsPushed reverse arcs arcs' room room' k amount → IsCoded reverse arcs arcs' room room' k → j < arc_count net → j ≢ i → cost_at arcs' (place_of reverse forward j c) ≡ coded (price_of net j c) (numbers room' (place_of reverse forward j c))
+other_coded : (net : NetworkModel) (first reverse forward : List ℕ) (arcs arcs' : List ResidualArc) (room room' : List ℕ) (i j : ℕ) (b c : Bool) (k amount : ℕ) → IsLaidOut net first reverse forward → IsFilled net reverse forward arcs room → i < arc_count net → place_of reverse forward i b ≡ k → IsPushed reverse arcs arcs' room room' k amount → IsCoded reverse arcs arcs' room room' k → j < arc_count net → j ≢ i → cost_at arcs' (place_of reverse forward j c) ≡ coded (unit_cost net j c) (numbers room' (place_of reverse forward j c))
 other_coded net first reverse forward arcs arcs' room room' i j b c k amount l f inside e s d inside' ne =
     let q = place_of reverse forward j c in
-    let z = price_of net j c in
+    let z = unit_cost net j c in
     let apart : q ≢ k = λ h. ne (l.alone j i c b inside' inside (h ∙ sym e)).0 in
     let apart' : q ≢ numbers reverse k = λ h. ne (l.alone j i c (opposite b) inside' inside (h ∙ reverse_place net first reverse forward k i b l inside e)).0 in
     d.others q apart apart' ∙ code_is net reverse forward arcs room j c f inside' ∙ ap (coded z) (sym (s.others q apart apart'))
 
-pushed_code : (net : Net) (first reverse forward : List ℕ) (arcs arcs' : List ResidualArc) (room room' : List ℕ) (i j : ℕ) (b c : Bool) (k amount : ℕ) → IsLaidOut net first reverse forward → IsFilled net reverse forward arcs room → i < arc_count net → place_of reverse forward i b ≡ k → 0 < amount → IsPushed reverse arcs arcs' room room' k amount → IsCoded reverse arcs arcs' room room' k → j < arc_count net → cost_at arcs' (place_of reverse forward j c) ≡ coded (price_of net j c) (numbers room' (place_of reverse forward j c))
+pushed_code : (net : NetworkModel) (first reverse forward : List ℕ) (arcs arcs' : List ResidualArc) (room room' : List ℕ) (i j : ℕ) (b c : Bool) (k amount : ℕ) → IsLaidOut net first reverse forward → IsFilled net reverse forward arcs room → i < arc_count net → place_of reverse forward i b ≡ k → 0 < amount → IsPushed reverse arcs arcs' room room' k amount → IsCoded reverse arcs arcs' room room' k → j < arc_count net → cost_at arcs' (place_of reverse forward j c) ≡ coded (unit_cost net j c) (numbers room' (place_of reverse forward j c))
 pushed_code net first reverse forward arcs arcs' room room' i j b c k amount l f inside e some s d inside' =
     elim (cases_eq j i) [
       | inl q ↦ elim (which_way b c) [
@@ -204,7 +204,7 @@ unfolding opposite
 either_order reverse forward room i k false h = h
 either_order reverse forward room i k true h = omega arith
 
-pushed_fits : (net : Net) (first reverse forward : List ℕ) (arcs arcs' : List ResidualArc) (room room' : List ℕ) (i j : ℕ) (b : Bool) (k amount : ℕ) → IsLaidOut net first reverse forward → IsFilled net reverse forward arcs room → i < arc_count net → place_of reverse forward i b ≡ k → IsPushed reverse arcs arcs' room room' k amount → j < arc_count net → numbers room' (place_of reverse forward j false) + numbers room' (place_of reverse forward j true) ≡ limit_of (arc_at net j).cap
+pushed_fits : (net : NetworkModel) (first reverse forward : List ℕ) (arcs arcs' : List ResidualArc) (room room' : List ℕ) (i j : ℕ) (b : Bool) (k amount : ℕ) → IsLaidOut net first reverse forward → IsFilled net reverse forward arcs room → i < arc_count net → place_of reverse forward i b ≡ k → IsPushed reverse arcs arcs' room room' k amount → j < arc_count net → numbers room' (place_of reverse forward j false) + numbers room' (place_of reverse forward j true) ≡ limit_of (arc_at net j).cap
 pushed_fits net first reverse forward arcs arcs' room room' i j b k amount l f inside e s inside' =
     let back = reverse_place net first reverse forward k i b l inside e in
     elim (cases_eq j i) [
@@ -220,7 +220,7 @@ pushed_fits net first reverse forward arcs arcs' room room' i j b k amount l f i
           omega (arith, same false, same true, f.fits j inside')
     ]
 
-pub pushed_filled : (net : Net) (first reverse forward : List ℕ) (arcs arcs' : List ResidualArc) (room room' : List ℕ) (v k amount : ℕ) → IsLaidOut net first reverse forward → IsFilled net reverse forward arcs room → v < node_count net → StartsAt first v k → 0 < amount → length arcs' ≡ length arcs → length room' ≡ length room → IsPushed reverse arcs arcs' room room' k amount → IsCoded reverse arcs arcs' room room' k → IsFilled net reverse forward arcs' room'
+pub pushed_filled : (net : NetworkModel) (first reverse forward : List ℕ) (arcs arcs' : List ResidualArc) (room room' : List ℕ) (v k amount : ℕ) → IsLaidOut net first reverse forward → IsFilled net reverse forward arcs room → v < node_count net → StartsAt first v k → 0 < amount → length arcs' ≡ length arcs → length room' ≡ length room → IsPushed reverse arcs arcs' room room' k amount → IsCoded reverse arcs arcs' room room' k → IsFilled net reverse forward arcs' room'
 unfolding coded
 pushed_filled net first reverse forward arcs arcs' room room' v k amount l f b st some sizes sizes' s d =
     let o = l.cover v k b st in
@@ -235,10 +235,10 @@ pushed_filled net first reverse forward arcs arcs' room room' v k amount l f b s
 -- ---- what a push does to the amounts that the arcs carry
 
 -- y differs from x at i alone, among the arcs
-abbrev pub SameOthers : Net → ℕ → (ℕ → ℕ) → (ℕ → ℕ) → Type 0
+abbrev pub SameOthers : NetworkModel → ℕ → (ℕ → ℕ) → (ℕ → ℕ) → Type 0
 SameOthers net i x y = (j : ℕ) → j < arc_count net → j ≢ i → y j ≡ x j
 
-carries_same : (net : Net) (x y : ℕ → ℕ) (e : ℕ → ℤ) (v k : ℕ) → ((i : ℕ) → i < arc_count net → y i ≡ x i) → Carries net x e v k → Carries net y e v k
+carries_same : (net : NetworkModel) (x y : ℕ → ℕ) (e : ℕ → ℤ) (v k : ℕ) → ((i : ℕ) → i < arc_count net → y i ≡ x i) → Carries net x e v k → Carries net y e v k
 carries_same net x y e v k same c = record {
   at_node = λ w b.
       let m = arc_count net in
@@ -247,7 +247,7 @@ carries_same net x y e v k same c = record {
       rw (l, n) (c.at_node w b);
 }
 
-residual_too : (net : Net) (x y : ℕ → ℕ) (j : ℕ) (back : Bool) → y j ≡ x j → IsResidual net y j back → IsResidual net x j back
+residual_too : (net : NetworkModel) (x y : ℕ → ℕ) (j : ℕ) (back : Bool) → y j ≡ x j → IsResidual net y j back → IsResidual net x j back
 residual_too net x y j false e h = let P : ℕ → Type 0 = λ t. HasRoom (arc_at net j).cap t in subst P e h
 residual_too net x y j true e h = omega arith
 
@@ -263,20 +263,20 @@ changed_others : (i z : ℕ) (x : ℕ → ℕ) → SameBut i x (changed i z x)
 unfolding changed
 changed_others i z x j ne = cond-false {A = ℕ} (eqb j i) z (x j) (ne_eqb j i ne)
 
-is_changed : (net : Net) (i : ℕ) (x y : ℕ → ℕ) → SameOthers net i x y → (j : ℕ) → j < arc_count net → y j ≡ changed i (y i) x j
+is_changed : (net : NetworkModel) (i : ℕ) (x y : ℕ → ℕ) → SameOthers net i x y → (j : ℕ) → j < arc_count net → y j ≡ changed i (y i) x j
 is_changed net i x y others j b =
     elim (cases_eq j i) [
       | inl q ↦ ap y q ∙ sym (changed_here i (y i) x) ∙ ap (changed i (y i) x) (sym q)
       | inr ne ↦ others j b ne ∙ sym (changed_others i (y i) x j ne)
     ]
 
-pushed_carries : (net : Net) (x y : ℕ → ℕ) (e : ℕ → ℤ) (i k : ℕ) (back : Bool) → i < arc_count net → IsMoved back (x i) k (y i) → SameOthers net i x y → Carries net x e (end_of net i back) k → Carries net y e (start_of net i back) k
+pushed_carries : (net : NetworkModel) (x y : ℕ → ℕ) (e : ℕ → ℤ) (i k : ℕ) (back : Bool) → i < arc_count net → IsMoved back (x i) k (y i) → SameOthers net i x y → Carries net x e (end_of net i back) k → Carries net y e (start_of net i back) k
 pushed_carries net x y e i k back b moved others c =
     let z = changed i (y i) x in
     carries_same net z y e (start_of net i back) k (is_changed net i x y others)
     (moved_carries net x z e i k back b (subst (λ (t : ℕ). IsMoved back (x i) k t) (sym (changed_here i (y i) x)) moved) (changed_others i (y i) x) c)
 
-pushed_priced : (net : Net) (x y : ℕ → ℕ) (p : ℕ → ℤ) (i : ℕ) (back : Bool) → SameOthers net i x y → reduced_cost net p i back ≡ pos 0 → HasPotentials net x p → HasPotentials net y p
+pushed_priced : (net : NetworkModel) (x y : ℕ → ℕ) (p : ℕ → ℤ) (i : ℕ) (back : Bool) → SameOthers net i x y → reduced_cost net p i back ≡ pos 0 → HasPotentials net x p → HasPotentials net y p
 pushed_priced net x y p i back others free h =
     let z = changed i (y i) x in
     let stay : HasPotentials net z p = potentials_stay net x z p i back (changed_others i (y i) x) free h in
@@ -287,7 +287,7 @@ one_most true = omega arith
 one_most false = omega arith
 
 -- one arc more carries units, at most
-carrying_more : (net : Net) (x y : ℕ → ℕ) (i : ℕ) → i < arc_count net → SameOthers net i x y → carrying net y ≤ carrying net x + 1
+carrying_more : (net : NetworkModel) (x y : ℕ → ℕ) (i : ℕ) → i < arc_count net → SameOthers net i x y → carrying net y ≤ carrying net x + 1
 carrying_more net x y i b others =
     let sums : carrying net y + cond (eqb (x i) 0) 0 1 ≡ carrying net x + cond (eqb (y i) 0) 0 1 =
     sum_below-changed (arc_count net) i (λ j. cond (eqb (y j) 0) 0 1) (λ j. cond (eqb (x j) 0) 0 1) b (λ j c ne. ap (λ (t : ℕ). cond (eqb t 0) 0 1) (others j c ne)) in
@@ -301,14 +301,14 @@ moved_most true was amount is h = omega arith
 
 -- pushes have brought an amount from node v to the end of the path, and changed no arc between nodes of
 -- the path that are no further on than v
-pub record IsSending (net : Net) (p e : ℕ → ℤ) (on : ℕ → Bool) (place : ℕ → ℕ) (x y : ℕ → ℕ) (v amount most : ℕ) : Type 0 where
+pub record IsSending (net : NetworkModel) (p e : ℕ → ℤ) (on : ℕ → Bool) (place : ℕ → ℕ) (x y : ℕ → ℕ) (v amount most : ℕ) : Type 0 where
   pub carries : Carries net y e v amount
   pub priced : HasPotentials net y p
   pub kept : (i : ℕ) → i < arc_count net → on (arc_at net i).from ≡ true → on (arc_at net i).to ≡ true → place (arc_at net i).from ≤ place v → place (arc_at net i).to ≤ place v → y i ≡ x i
   pub grown : (i : ℕ) → i < arc_count net → y i ≤ x i + amount
   pub few : carrying net y + place v ≤ most
 
-end_beyond : (net : Net) (on : ℕ → Bool) (place : ℕ → ℕ) (i u v : ℕ) (back : Bool) → end_of net i back ≡ v → (on v ≡ true → place u < place v) → on (arc_at net i).from ≡ true → on (arc_at net i).to ≡ true → place (arc_at net i).from ≤ place u → place (arc_at net i).to ≤ place u → ⊥
+end_beyond : (net : NetworkModel) (on : ℕ → Bool) (place : ℕ → ℕ) (i u v : ℕ) (back : Bool) → end_of net i back ≡ v → (on v ≡ true → place u < place v) → on (arc_at net i).from ≡ true → on (arc_at net i).to ≡ true → place (arc_at net i).from ≤ place u → place (arc_at net i).to ≤ place u → ⊥
 end_beyond net on place i u v false e beyond a b c d =
     let h : place u < place (arc_at net i).to = subst (λ (t : ℕ). on t ≡ true → place u < place t) (sym e) beyond b in
     omega arith
@@ -316,7 +316,7 @@ end_beyond net on place i u v true e beyond a b c d =
     let h : place u < place (arc_at net i).from = subst (λ (t : ℕ). on t ≡ true → place u < place t) (sym e) beyond a in
     omega arith
 
-pub sent_on : (net : Net) (p e : ℕ → ℤ) (on : ℕ → Bool) (place : ℕ → ℕ) (x y z : ℕ → ℕ) (i : ℕ) (back : Bool) (u v amount most : ℕ) → i < arc_count net → IsMoved back (y i) amount (z i) → SameOthers net i y z → reduced_cost net p i back ≡ pos 0 → start_of net i back ≡ u → end_of net i back ≡ v → y i ≡ x i → (on v ≡ true → place u < place v) → ((j : ℕ) → j < arc_count net → on (arc_at net j).from ≡ true → on (arc_at net j).to ≡ true → place (arc_at net j).from ≤ place u → place (arc_at net j).to ≤ place u → y j ≡ x j) → Carries net y e v amount → HasPotentials net y p → ((j : ℕ) → j < arc_count net → y j ≤ x j + amount) → carrying net y + place u + 1 ≤ most → IsSending net p e on place x z u amount most
+pub sent_on : (net : NetworkModel) (p e : ℕ → ℤ) (on : ℕ → Bool) (place : ℕ → ℕ) (x y z : ℕ → ℕ) (i : ℕ) (back : Bool) (u v amount most : ℕ) → i < arc_count net → IsMoved back (y i) amount (z i) → SameOthers net i y z → reduced_cost net p i back ≡ pos 0 → start_of net i back ≡ u → end_of net i back ≡ v → y i ≡ x i → (on v ≡ true → place u < place v) → ((j : ℕ) → j < arc_count net → on (arc_at net j).from ≡ true → on (arc_at net j).to ≡ true → place (arc_at net j).from ≤ place u → place (arc_at net j).to ≤ place u → y j ≡ x j) → Carries net y e v amount → HasPotentials net y p → ((j : ℕ) → j < arc_count net → y j ≤ x j + amount) → carrying net y + place u + 1 ≤ most → IsSending net p e on place x z u amount most
 sent_on net p e on place x y z i back u v amount most b moved others free start finish own beyond kept carries priced grown few = record {
   carries = subst (λ (t : ℕ). Carries net z e t amount) start (pushed_carries net y z e i amount back b moved others (subst (λ (t : ℕ). Carries net y e t amount) (sym finish) carries));
   priced = pushed_priced net y z p i back others free priced;
@@ -334,7 +334,7 @@ sent_on net p e on place x y z i back u v amount most b moved others free start 
 -- ---- one residual arc of the path
 
 -- residual arc k leads from u to v, something fits along it, and it costs nothing
-pub record IsLink (net : Net) (reverse forward room : List ℕ) (p : ℕ → ℤ) (u k v : ℕ) : Type 0 where
+pub record IsLink (net : NetworkModel) (reverse forward room : List ℕ) (p : ℕ → ℤ) (u k v : ℕ) : Type 0 where
   pub arc : ℕ
   pub back : Bool
   pub inside : arc < arc_count net
@@ -354,12 +354,12 @@ some_coded z c r least e h =
 free_cost : (c z a b a' b' : ℤ) → c +ℤ a -ℤ b ≡ pos 0 → c ≡ z → a' ≡ a → b' ≡ b → z +ℤ a' -ℤ b' ≡ pos 0
 free_cost c z a b a' b' h e f g = omega (arith, ints)
 
-pub tight_link : (net : Net) (first reverse forward : List ℕ) (arcs : List ResidualArc) (room : List ℕ) (p : ℕ → ℤ) (u k v : ℕ) → IsNetwork net → IsLaidOut net first reverse forward → IsFilled net reverse forward arcs room → u < node_count net → IsTight first arcs p u k v → IsLink net reverse forward room p u k v
+pub tight_link : (net : NetworkModel) (first reverse forward : List ℕ) (arcs : List ResidualArc) (room : List ℕ) (p : ℕ → ℤ) (u k v : ℕ) → IsNetwork net → IsLaidOut net first reverse forward → IsFilled net reverse forward arcs room → u < node_count net → IsTight first arcs p u k v → IsLink net reverse forward room p u k v
 tight_link net first reverse forward arcs room p u k v n l f b t =
     let o = l.cover u k b t.leaves in
-    let z = price_of net o.arc o.back in
+    let z = unit_cost net o.arc o.back in
     let cost : cost_at arcs k ≡ coded z (numbers room k) = subst (λ (q : ℕ). cost_at arcs q ≡ coded z (numbers room q)) o.place (code_is net reverse forward arcs room o.arc o.back f o.inside) in
-    let some : 0 < numbers room k = some_coded z (cost_at arcs k) (numbers room k) (price_least net o.arc o.back n.costs o.inside) cost t.unblocked in
+    let some : 0 < numbers room k = some_coded z (cost_at arcs k) (numbers room k) (unit_cost_least net o.arc o.back n.costs o.inside) cost t.unblocked in
     let finish : end_of net o.arc o.back ≡ v = sym (f.end o.arc o.back o.inside) ∙ ap (end_at arcs) o.place ∙ t.arrives in
     record {
       arc = o.arc;
@@ -373,23 +373,23 @@ tight_link net first reverse forward arcs room p u k v n l f b t =
     }
 
 -- what a push does to the amount of its own arc, and to the others
-moved_by : (net : Net) (first reverse forward : List ℕ) (arcs arcs' : List ResidualArc) (room room' : List ℕ) (i : ℕ) (b : Bool) (k amount : ℕ) → IsLaidOut net first reverse forward → i < arc_count net → place_of reverse forward i b ≡ k → IsPushed reverse arcs arcs' room room' k amount → IsMoved b (carried reverse forward room i) amount (carried reverse forward room' i)
+moved_by : (net : NetworkModel) (first reverse forward : List ℕ) (arcs arcs' : List ResidualArc) (room room' : List ℕ) (i : ℕ) (b : Bool) (k amount : ℕ) → IsLaidOut net first reverse forward → i < arc_count net → place_of reverse forward i b ≡ k → IsPushed reverse arcs arcs' room room' k amount → IsMoved b (carried reverse forward room i) amount (carried reverse forward room' i)
 unfolding opposite
 moved_by net first reverse forward arcs arcs' room room' i false k amount l b e s = subst (λ (t : ℕ). numbers room' t ≡ numbers room t + amount) (reverse_place net first reverse forward k i false l b e) s.more
 moved_by net first reverse forward arcs arcs' room room' i true k amount l b e s = sym (subst (λ (t : ℕ). numbers room' t + amount ≡ numbers room t) (sym e) s.less)
 
-kept_by : (net : Net) (first reverse forward : List ℕ) (arcs arcs' : List ResidualArc) (room room' : List ℕ) (i : ℕ) (b : Bool) (k amount : ℕ) → IsLaidOut net first reverse forward → i < arc_count net → place_of reverse forward i b ≡ k → IsPushed reverse arcs arcs' room room' k amount → SameOthers net i (carried reverse forward room) (carried reverse forward room')
+kept_by : (net : NetworkModel) (first reverse forward : List ℕ) (arcs arcs' : List ResidualArc) (room room' : List ℕ) (i : ℕ) (b : Bool) (k amount : ℕ) → IsLaidOut net first reverse forward → i < arc_count net → place_of reverse forward i b ≡ k → IsPushed reverse arcs arcs' room room' k amount → SameOthers net i (carried reverse forward room) (carried reverse forward room')
 kept_by net first reverse forward arcs arcs' room room' i b k amount l inside e s j c ne =
     s.others (place_of reverse forward j true)
     (λ h. ne (l.alone j i true b c inside (h ∙ sym e)).0)
     (λ h. ne (l.alone j i true (opposite b) c inside (h ∙ reverse_place net first reverse forward k i b l inside e)).0)
 
 -- where an arc carries what it carried, the same fits along it
-same_room : (net : Net) (reverse forward : List ℕ) (arcs arcs' : List ResidualArc) (room room' : List ℕ) (i : ℕ) (back : Bool) → IsFilled net reverse forward arcs room → IsFilled net reverse forward arcs' room' → i < arc_count net → carried reverse forward room' i ≡ carried reverse forward room i → numbers room' (place_of reverse forward i back) ≡ numbers room (place_of reverse forward i back)
+same_room : (net : NetworkModel) (reverse forward : List ℕ) (arcs arcs' : List ResidualArc) (room room' : List ℕ) (i : ℕ) (back : Bool) → IsFilled net reverse forward arcs room → IsFilled net reverse forward arcs' room' → i < arc_count net → carried reverse forward room' i ≡ carried reverse forward room i → numbers room' (place_of reverse forward i back) ≡ numbers room (place_of reverse forward i back)
 same_room net reverse forward arcs arcs' room room' i true f f' b h = h
 same_room net reverse forward arcs arcs' room room' i false f f' b h = omega (arith, f.fits i b, f'.fits i b)
 
-both_ends : (net : Net) (on : ℕ → Bool) (place : ℕ → ℕ) (x y : ℕ → ℕ) (i : ℕ) (back : Bool) (u v : ℕ) → start_of net i back ≡ u → end_of net i back ≡ v → on u ≡ true → on v ≡ true → place u < place v → (on (arc_at net i).from ≡ true → on (arc_at net i).to ≡ true → place (arc_at net i).from ≤ place v → place (arc_at net i).to ≤ place v → y i ≡ x i) → y i ≡ x i
+both_ends : (net : NetworkModel) (on : ℕ → Bool) (place : ℕ → ℕ) (x y : ℕ → ℕ) (i : ℕ) (back : Bool) (u v : ℕ) → start_of net i back ≡ u → end_of net i back ≡ v → on u ≡ true → on v ≡ true → place u < place v → (on (arc_at net i).from ≡ true → on (arc_at net i).to ≡ true → place (arc_at net i).from ≤ place v → place (arc_at net i).to ≤ place v → y i ≡ x i) → y i ≡ x i
 both_ends net on place x y i false u v s e a b less kept =
     let f : place (arc_at net i).from ≡ place u = ap place s in
     let t : place (arc_at net i).to ≡ place v = ap place e in
@@ -399,19 +399,19 @@ both_ends net on place x y i true u v s e a b less kept =
     let f : place (arc_at net i).from ≡ place v = ap place e in
     kept (ap on e ∙ b) (ap on s ∙ a) (omega arith) (omega arith)
 
-link_kept : (net : Net) (reverse forward room : List ℕ) (p e : ℕ → ℤ) (on : ℕ → Bool) (place : ℕ → ℕ) (x y : ℕ → ℕ) (u k v amount most : ℕ) → (t : IsLink net reverse forward room p u k v) → on u ≡ true → on v ≡ true → place u < place v → IsSending net p e on place x y v amount most → y t.arc ≡ x t.arc
+link_kept : (net : NetworkModel) (reverse forward room : List ℕ) (p e : ℕ → ℤ) (on : ℕ → Bool) (place : ℕ → ℕ) (x y : ℕ → ℕ) (u k v amount most : ℕ) → (t : IsLink net reverse forward room p u k v) → on u ≡ true → on v ≡ true → place u < place v → IsSending net p e on place x y v amount most → y t.arc ≡ x t.arc
 link_kept net reverse forward room p e on place x y u k v amount most t a b less s =
     both_ends net on place x y t.arc t.back u v t.start t.end a b less (s.kept t.arc t.inside)
 
 -- what fitted along the next residual arc still does
-pub still_fits : (net : Net) (reverse forward : List ℕ) (arcs arcs' : List ResidualArc) (room room' : List ℕ) (p e : ℕ → ℤ) (on : ℕ → Bool) (place : ℕ → ℕ) (u k v amount most : ℕ) → IsFilled net reverse forward arcs room → IsFilled net reverse forward arcs' room' → IsLink net reverse forward room p u k v → on u ≡ true → on v ≡ true → place u < place v → IsSending net p e on place (carried reverse forward room) (carried reverse forward room') v amount most → amount ≤ numbers room k → amount ≤ numbers room' k
+pub still_fits : (net : NetworkModel) (reverse forward : List ℕ) (arcs arcs' : List ResidualArc) (room room' : List ℕ) (p e : ℕ → ℤ) (on : ℕ → Bool) (place : ℕ → ℕ) (u k v amount most : ℕ) → IsFilled net reverse forward arcs room → IsFilled net reverse forward arcs' room' → IsLink net reverse forward room p u k v → on u ≡ true → on v ≡ true → place u < place v → IsSending net p e on place (carried reverse forward room) (carried reverse forward room') v amount most → amount ≤ numbers room k → amount ≤ numbers room' k
 still_fits net reverse forward arcs arcs' room room' p e on place u k v amount most f f' t a b less s fits =
     let own = link_kept net reverse forward room p e on place (carried reverse forward room) (carried reverse forward room') u k v amount most t a b less s in
     let same : numbers room' k ≡ numbers room k = subst (λ (q : ℕ). numbers room' q ≡ numbers room q) t.place (same_room net reverse forward arcs arcs' room room' t.arc t.back f f' t.inside own) in
     omega arith
 
 -- a push along the next residual arc
-pub sending_more : (net : Net) (first reverse forward : List ℕ) (room : List ℕ) (arcs' arcs'' : List ResidualArc) (room' room'' : List ℕ) (p e : ℕ → ℤ) (on : ℕ → Bool) (place : ℕ → ℕ) (u k v amount most : ℕ) → IsLaidOut net first reverse forward → IsLink net reverse forward room p u k v → on u ≡ true → on v ≡ true → place u < place v → IsSending net p e on place (carried reverse forward room) (carried reverse forward room') v amount most → IsPushed reverse arcs' arcs'' room' room'' k amount → IsSending net p e on place (carried reverse forward room) (carried reverse forward room'') u amount most
+pub sending_more : (net : NetworkModel) (first reverse forward : List ℕ) (room : List ℕ) (arcs' arcs'' : List ResidualArc) (room' room'' : List ℕ) (p e : ℕ → ℤ) (on : ℕ → Bool) (place : ℕ → ℕ) (u k v amount most : ℕ) → IsLaidOut net first reverse forward → IsLink net reverse forward room p u k v → on u ≡ true → on v ≡ true → place u < place v → IsSending net p e on place (carried reverse forward room) (carried reverse forward room') v amount most → IsPushed reverse arcs' arcs'' room' room'' k amount → IsSending net p e on place (carried reverse forward room) (carried reverse forward room'') u amount most
 sending_more net first reverse forward room arcs' arcs'' room' room'' p e on place u k v amount most l t a b less s pushed =
     sent_on net p e on place (carried reverse forward room) (carried reverse forward room') (carried reverse forward room'') t.arc t.back u v amount most t.inside
     (moved_by net first reverse forward arcs' arcs'' room' room'' t.arc t.back k amount l t.inside t.place pushed)
@@ -421,7 +421,7 @@ sending_more net first reverse forward room arcs' arcs'' room' room'' p e on pla
     (λ _. less) (λ j c f g d h. s.kept j c f g (omega arith) (omega arith)) s.carries s.priced s.grown (omega (arith, s.few))
 
 -- the push along the last residual arc
-pub sending_first : (net : Net) (first reverse forward : List ℕ) (arcs arcs' : List ResidualArc) (room room' : List ℕ) (p e : ℕ → ℤ) (on : ℕ → Bool) (place : ℕ → ℕ) (u k v amount : ℕ) → IsLaidOut net first reverse forward → IsLink net reverse forward room p u k v → on v ≡ false → Carries net (carried reverse forward room) e v amount → HasPotentials net (carried reverse forward room) p → IsPushed reverse arcs arcs' room room' k amount → IsSending net p e on place (carried reverse forward room) (carried reverse forward room') u amount (carrying net (carried reverse forward room) + place u + 1)
+pub sending_first : (net : NetworkModel) (first reverse forward : List ℕ) (arcs arcs' : List ResidualArc) (room room' : List ℕ) (p e : ℕ → ℤ) (on : ℕ → Bool) (place : ℕ → ℕ) (u k v amount : ℕ) → IsLaidOut net first reverse forward → IsLink net reverse forward room p u k v → on v ≡ false → Carries net (carried reverse forward room) e v amount → HasPotentials net (carried reverse forward room) p → IsPushed reverse arcs arcs' room room' k amount → IsSending net p e on place (carried reverse forward room) (carried reverse forward room') u amount (carrying net (carried reverse forward room) + place u + 1)
 sending_first net first reverse forward arcs arcs' room room' p e on place u k v amount l t off carries priced pushed =
     let x = carried reverse forward room in
     sent_on net p e on place x x (carried reverse forward room') t.arc t.back u v amount (carrying net x + place u + 1) t.inside
@@ -511,11 +511,11 @@ within_limit : (c : Cap) (a b : ℕ) → a + b ≡ limit_of c → IsWithin c b
 within_limit (AtMost k) a b h = omega arith
 within_limit Any a b h = tt
 
-pub filled_caps : (net : Net) (reverse forward : List ℕ) (arcs : List ResidualArc) (room : List ℕ) → IsFilled net reverse forward arcs room → KeepsCaps net (carried reverse forward room)
+pub filled_caps : (net : NetworkModel) (reverse forward : List ℕ) (arcs : List ResidualArc) (room : List ℕ) → IsFilled net reverse forward arcs room → KeepsCaps net (carried reverse forward room)
 filled_caps net reverse forward arcs room f i b = within_limit (arc_at net i).cap (numbers room (place_of reverse forward i false)) (numbers room (place_of reverse forward i true)) (f.fits i b)
 
 -- where nothing is carried yet, what fits is the limit
-pub limits_fit : (net : Net) (reverse forward : List ℕ) (arcs : List ResidualArc) (room : List ℕ) (most : ℕ) → IsFilled net reverse forward arcs room → ((k : ℕ) → numbers room k < most) → ((i : ℕ) → i < arc_count net → carried reverse forward room i ≡ 0) → (i : ℕ) → i < arc_count net → limit_of (arc_at net i).cap < most
+pub limits_fit : (net : NetworkModel) (reverse forward : List ℕ) (arcs : List ResidualArc) (room : List ℕ) (most : ℕ) → IsFilled net reverse forward arcs room → ((k : ℕ) → numbers room k < most) → ((i : ℕ) → i < arc_count net → carried reverse forward room i ≡ 0) → (i : ℕ) → i < arc_count net → limit_of (arc_at net i).cap < most
 limits_fit net reverse forward arcs room most f fits none i b = omega (arith, f.fits i b, fits (place_of reverse forward i false), none i b)
 
 apart : (e : ℕ → ℤ) (u v : ℕ) → pos 0 <ℤ e u → e v ≤ℤ pos 0 → v ≢ u
@@ -537,7 +537,7 @@ left_there : (z w : ℤ) (k : ℕ) → w ≡ z -ℤ pos k → pos k ≤ℤ z →
 left_there z w k e h = omega (arith, ints)
 
 -- an amount went from u to v: from e, by e' where v has it and u still has, to e''
-pub sent_all : (net : Net) (x y : ℕ → ℕ) (e e' e'' : ℕ → ℤ) (u v k : ℕ) → u < node_count net → pos 0 <ℤ e u → e v <ℤ pos 0 → pos k ≤ℤ e u → (e v +ℤ pos k) ≤ℤ pos 0 → KeepsCaps net y → Carries net y e' u k → e' v ≡ e v +ℤ pos k → ((w : ℕ) → w ≢ v → e' w ≡ e w) → e'' u ≡ e' u -ℤ pos k → ((w : ℕ) → w ≢ u → e'' w ≡ e' w) → ((i : ℕ) → i < arc_count net → y i ≤ x i + k) → IsSent net x y e e'' u k
+pub sent_all : (net : NetworkModel) (x y : ℕ → ℕ) (e e' e'' : ℕ → ℤ) (u v k : ℕ) → u < node_count net → pos 0 <ℤ e u → e v <ℤ pos 0 → pos k ≤ℤ e u → (e v +ℤ pos k) ≤ℤ pos 0 → KeepsCaps net y → Carries net y e' u k → e' v ≡ e v +ℤ pos k → ((w : ℕ) → w ≢ v → e' w ≡ e w) → e'' u ≡ e' u -ℤ pos k → ((w : ℕ) → w ≢ u → e'' w ≡ e' w) → ((i : ℕ) → i < arc_count net → y i ≤ x i + k) → IsSent net x y e e'' u k
 sent_all net x y e e' e'' u v k node over want left short caps carries there others here others' grown =
     let ne : v ≢ u = apart e u v over (under (e v) (pos 0) want) in
     let same : e' u ≡ e u = others u (λ h. ne (sym h)) in
@@ -557,7 +557,7 @@ sent_all net x y e e' e'' u v k node over want left short caps carries there oth
       grown = grown;
     }
 
-pub sent_less : (net : Net) (x y : ℕ → ℕ) (e e' : ℕ → ℤ) (u k : ℕ) → IsSent net x y e e' u k → 0 < k → IsLess net e e'
+pub sent_less : (net : NetworkModel) (x y : ℕ → ℕ) (e e' : ℕ → ℤ) (u k : ℕ) → IsSent net x y e e' u k → 0 < k → IsLess net e e'
 sent_less net x y e e' u k s some = record {
   less = omega (arith, left_falls net x y e e' u k s);
   done = λ v b h. (s.wanting v b h).1;
@@ -566,14 +566,14 @@ sent_less net x y e e' u k s some = record {
 -- ---- the residual arcs of the path
 
 -- residual arc k, by which node v of the path was entered, leads there from a node of a lesser place
-pub record IsStep (net : Net) (first reverse forward : List ℕ) (arcs : List ResidualArc) (room : List ℕ) (p : ℕ → ℤ) (on : ℕ → Bool) (place : ℕ → ℕ) (v k : ℕ) : Type 0 where
+pub record IsStep (net : NetworkModel) (first reverse forward : List ℕ) (arcs : List ResidualArc) (room : List ℕ) (p : ℕ → ℤ) (on : ℕ → Bool) (place : ℕ → ℕ) (v k : ℕ) : Type 0 where
   pub node : end_at arcs (numbers reverse k) < node_count net
   pub member : on (end_at arcs (numbers reverse k)) ≡ true
   pub before : place (end_at arcs (numbers reverse k)) < place v
   pub leaves : StartsAt first (end_at arcs (numbers reverse k)) k
   pub link : IsLink net reverse forward room p (end_at arcs (numbers reverse k)) k v
 
-pub path_step : (net : Net) (first reverse forward : List ℕ) (arcs : List ResidualArc) (room : List ℕ) (p : ℕ → ℤ) (enter place : ℕ → ℕ) (source found : ℕ) → IsNetwork net → IsLaidOut net first reverse forward → IsFilled net reverse forward arcs room → (h : HasPath (node_count net) first arcs p enter place source found) → (v : ℕ) → h.on v ≡ true → 0 < place v → IsStep net first reverse forward arcs room p h.on place v (enter v)
+pub path_step : (net : NetworkModel) (first reverse forward : List ℕ) (arcs : List ResidualArc) (room : List ℕ) (p : ℕ → ℤ) (enter place : ℕ → ℕ) (source found : ℕ) → IsNetwork net → IsLaidOut net first reverse forward → IsFilled net reverse forward arcs room → (h : HasPath (node_count net) first arcs p enter place source found) → (v : ℕ) → h.on v ≡ true → 0 < place v → IsStep net first reverse forward arcs room p h.on place v (enter v)
 path_step net first reverse forward arcs room p enter place source found n l f h v on some =
     let a = h.after v on some in
     let b : a.start < node_count net = h.node a.start a.member in
@@ -587,13 +587,13 @@ path_step net first reverse forward arcs room p enter place source found n l f h
     }
 
 -- the last residual arc of the path leads off it
-pub record IsLast (net : Net) (first reverse forward : List ℕ) (arcs : List ResidualArc) (room : List ℕ) (p : ℕ → ℤ) (on : ℕ → Bool) (k : ℕ) : Type 0 where
+pub record IsLast (net : NetworkModel) (first reverse forward : List ℕ) (arcs : List ResidualArc) (room : List ℕ) (p : ℕ → ℤ) (on : ℕ → Bool) (k : ℕ) : Type 0 where
   pub node : end_at arcs (numbers reverse k) < node_count net
   pub member : on (end_at arcs (numbers reverse k)) ≡ true
   pub leaves : StartsAt first (end_at arcs (numbers reverse k)) k
   pub link : IsLink net reverse forward room p (end_at arcs (numbers reverse k)) k (end_at arcs k)
 
-pub path_last : (net : Net) (first reverse forward : List ℕ) (arcs : List ResidualArc) (room : List ℕ) (p : ℕ → ℤ) (enter place : ℕ → ℕ) (source found : ℕ) → IsNetwork net → IsLaidOut net first reverse forward → IsFilled net reverse forward arcs room → (h : HasPath (node_count net) first arcs p enter place source found) → IsLast net first reverse forward arcs room p h.on found
+pub path_last : (net : NetworkModel) (first reverse forward : List ℕ) (arcs : List ResidualArc) (room : List ℕ) (p : ℕ → ℤ) (enter place : ℕ → ℕ) (source found : ℕ) → IsNetwork net → IsLaidOut net first reverse forward → IsFilled net reverse forward arcs room → (h : HasPath (node_count net) first arcs p enter place source found) → IsLast net first reverse forward arcs room p h.on found
 path_last net first reverse forward arcs room p enter place source found n l f h =
     let b : h.last < node_count net = h.node h.last h.member in
     let s : end_at arcs (numbers reverse found) ≡ h.last = start_is net first reverse forward arcs room h.last found l f b h.step.leaves in
@@ -604,7 +604,7 @@ path_last net first reverse forward arcs room p enter place source found n l f h
       link = subst (λ (t : ℕ). IsLink net reverse forward room p t found (end_at arcs found)) (sym s) (tight_link net first reverse forward arcs room p h.last found (end_at arcs found) n l f b h.step);
     }
 
-pub link_end : (net : Net) (reverse forward room : List ℕ) (p : ℕ → ℤ) (u k v : ℕ) → IsNetwork net → IsLink net reverse forward room p u k v → v < node_count net
+pub link_end : (net : NetworkModel) (reverse forward room : List ℕ) (p : ℕ → ℤ) (u k v : ℕ) → IsNetwork net → IsLink net reverse forward room p u k v → v < node_count net
 link_end net reverse forward room p u k v n t = subst (λ (q : ℕ). q < node_count net) t.end (end_in net t.arc t.back n.ends t.inside)
 
 -- ---- the least of what fits

@@ -5,7 +5,7 @@ use Rattle.std.proofs.lemmas.Bool.{cases_eq, eq-eqb, ne_eqb, cond-true, cond-fal
 use Rattle.std.proofs.lemmas.Int.{ints}
 use Rattle.sums.specs.Sums.{sum_below}
 use Rattle.sums.proofs.Sums.{sum_below-changed}
-use Rattle.networks.specs.Net.{Net, arc_count, arc_at, supply_at}
+use Rattle.networks.specs.Networks.{NetworkModel, arc_count, arc_at, supply_at}
 use Rattle.networks.specs.Flow.{leaves, enters, balance, HasRoom, IsResidual, HasPotentials, start_of, end_of, reduced_cost}
 use Rattle.min_cost_flow.specs.Excess.{Leaves, Carries}
 use Rattle.min_cost_flow.specs.Residual.{IsMoved}
@@ -35,7 +35,7 @@ moved_backward false true l l' n n' x y k e s h a b c = omega (arith, ints)
 moved_backward false false l l' n n' x y k e s h a b c = omega (arith, ints)
 
 -- k units that have left the end of a residual arc, brought there along it, have left its start
-pub moved_carries : (net : Net) (x y : ℕ → ℕ) (e : ℕ → ℤ) (i k : ℕ) (back : Bool) → i < arc_count net → IsMoved back (x i) k (y i) → SameBut i x y → Carries net x e (end_of net i back) k → Carries net y e (start_of net i back) k
+pub moved_carries : (net : NetworkModel) (x y : ℕ → ℕ) (e : ℕ → ℤ) (i k : ℕ) (back : Bool) → i < arc_count net → IsMoved back (x i) k (y i) → SameBut i x y → Carries net x e (end_of net i back) k → Carries net y e (start_of net i back) k
 moved_carries net x y e i k false b moved others c = record {
   at_node = λ w d.
       moved_forward (eqb (arc_at net i).from w) (eqb (arc_at net i).to w) (leaves net x w) (leaves net y w) (enters net x w) (enters net y w) (x i) (y i) k (e w) (supply_at net w) moved
@@ -56,7 +56,7 @@ plus_none : (z s : ℤ) → z ≡ s → z ≡ s +ℤ pos 0
 plus_none z s h = omega (arith, ints)
 
 -- k units more are left over at v, once k have been sent out of v that did not arrive
-pub taken_carries : (net : Net) (x : ℕ → ℕ) (e e' : ℕ → ℤ) (v k : ℕ) → Leaves net x e → e' v ≡ e v +ℤ pos k → ((w : ℕ) → w ≢ v → e' w ≡ e w) → Carries net x e' v k
+pub taken_carries : (net : NetworkModel) (x : ℕ → ℕ) (e e' : ℕ → ℤ) (v k : ℕ) → Leaves net x e → e' v ≡ e v +ℤ pos k → ((w : ℕ) → w ≢ v → e' w ≡ e w) → Carries net x e' v k
 taken_carries net x e e' v k lv here others = record {
   at_node = λ w b. elim (cases_eq v w) [
     | inl q ↦
@@ -79,7 +79,7 @@ minus_none : (z s : ℤ) → z ≡ s +ℤ pos 0 → z ≡ s
 minus_none z s h = omega (arith, ints)
 
 -- what was sent out of v is taken from what is left over there
-pub carried_leaves : (net : Net) (x : ℕ → ℕ) (e e' : ℕ → ℤ) (v k : ℕ) → Carries net x e v k → e' v ≡ e v -ℤ pos k → ((w : ℕ) → w ≢ v → e' w ≡ e w) → Leaves net x e'
+pub carried_leaves : (net : NetworkModel) (x : ℕ → ℕ) (e e' : ℕ → ℤ) (v k : ℕ) → Carries net x e v k → e' v ≡ e v -ℤ pos k → ((w : ℕ) → w ≢ v → e' w ≡ e w) → Leaves net x e'
 carried_leaves net x e e' v k c here others = record {
   at_node = λ w b. elim (cases_eq v w) [
     | inl q ↦
@@ -97,7 +97,7 @@ carried_leaves net x e e' v k c here others = record {
 
 -- ---- potentials
 
-residual_same : (net : Net) (x y : ℕ → ℕ) (j : ℕ) (back : Bool) → y j ≡ x j → IsResidual net y j back → IsResidual net x j back
+residual_same : (net : NetworkModel) (x y : ℕ → ℕ) (j : ℕ) (back : Bool) → y j ≡ x j → IsResidual net y j back → IsResidual net x j back
 residual_same net x y j false e h = let P : ℕ → Type 0 = λ t. HasRoom (arc_at net j).cap t in subst P e h
 residual_same net x y j true e h = omega arith
 
@@ -111,14 +111,14 @@ not_under : (z : ℤ) → z ≡ pos 0 → pos 0 ≤ℤ z
 not_under z h = omega (arith, ints)
 
 -- an arc of reduced cost 0 costs nothing under the potentials either way
-free_both_ways : (net : Net) (p : ℕ → ℤ) (i : ℕ) (back other : Bool) → reduced_cost net p i back ≡ pos 0 → pos 0 ≤ℤ reduced_cost net p i other
+free_both_ways : (net : NetworkModel) (p : ℕ → ℤ) (i : ℕ) (back other : Bool) → reduced_cost net p i back ≡ pos 0 → pos 0 ≤ℤ reduced_cost net p i other
 free_both_ways net p i false false h = not_under (reduced_cost net p i false) h
 free_both_ways net p i true true h = not_under (reduced_cost net p i true) h
 free_both_ways net p i false true h = negated (pos (arc_at net i).cost) (p (arc_at net i).from) (p (arc_at net i).to) h
 free_both_ways net p i true false h = unnegated (pos (arc_at net i).cost) (p (arc_at net i).from) (p (arc_at net i).to) h
 
 -- an arc of reduced cost 0 may change as it will
-pub potentials_stay : (net : Net) (x y : ℕ → ℕ) (p : ℕ → ℤ) (i : ℕ) (back : Bool) → SameBut i x y → reduced_cost net p i back ≡ pos 0 → HasPotentials net x p → HasPotentials net y p
+pub potentials_stay : (net : NetworkModel) (x y : ℕ → ℕ) (p : ℕ → ℤ) (i : ℕ) (back : Bool) → SameBut i x y → reduced_cost net p i back ≡ pos 0 → HasPotentials net x p → HasPotentials net y p
 potentials_stay net x y p i back others free h = record {
   residual = λ j other b r. elim (cases_eq j i) [
     | inl q ↦ let P : ℕ → Type 0 = λ t. pos 0 ≤ℤ reduced_cost net p t other in subst P (sym q) (free_both_ways net p i back other free)

@@ -7,7 +7,7 @@ use Rattle.sums.specs.Sums.{sum_below}
 use Rattle.sums.proofs.Sums.{sum_below-le, sum_below-lt, sum_below-add}
 use Rattle.networks.specs.declared.arc.Cap.{Cap}
 use Rattle.networks.specs.declared.arc.Cap.TheVariants.{AtMost, Any}
-use Rattle.networks.specs.Net.{Net, node_count, arc_count, arc_at, supply_at, HasEnds}
+use Rattle.networks.specs.Networks.{NetworkModel, node_count, arc_count, arc_at, supply_at, HasEnds}
 use Rattle.networks.specs.Flow.{leaves, enters, IsWithin, HasRoom, HasNoFlow}
 use Rattle.min_cost_flow.specs.Excess.{Leaves, IsClosedOut, IsClosedIn}
 use Rattle.min_cost_flow.proofs.Duality.{at_starts, at_ends, sides_are}
@@ -54,7 +54,7 @@ weighed_lt true f g e h = omega arith
 weighed_lt false f g e h = cc
 
 -- the sums of two sides over arcs, where each arc's part is no more
-sides_le : (net : Net) (x y w : ℕ → ℕ) → ((i : ℕ) → i < arc_count net → w (arc_at net i).from * y i + w (arc_at net i).to * x i ≤ w (arc_at net i).from * x i + w (arc_at net i).to * y i) → at_starts net w y + at_ends net w x ≤ at_starts net w x + at_ends net w y
+sides_le : (net : NetworkModel) (x y w : ℕ → ℕ) → ((i : ℕ) → i < arc_count net → w (arc_at net i).from * y i + w (arc_at net i).to * x i ≤ w (arc_at net i).from * x i + w (arc_at net i).to * y i) → at_starts net w y + at_ends net w x ≤ at_starts net w x + at_ends net w y
 sides_le net x y w part =
     let m = arc_count net in
     let fy : ℕ → ℕ = λ i. w (arc_at net i).from * y i in
@@ -67,7 +67,7 @@ sides_le net x y w part =
     omega arith
 
 -- a set that no residual arc leaves, with nothing wanting and something left over: there is no flow
-pub no_flow_out : (net : Net) (x : ℕ → ℕ) (e : ℕ → ℤ) (s : ℕ → Bool) (u : ℕ) → HasEnds net → Leaves net x e → IsClosedOut net x s → ((v : ℕ) → v < node_count net → s v ≡ true → pos 0 ≤ℤ e v) → u < node_count net → s u ≡ true → pos 0 <ℤ e u → HasNoFlow net
+pub no_flow_out : (net : NetworkModel) (x : ℕ → ℕ) (e : ℕ → ℤ) (s : ℕ → Bool) (u : ℕ) → HasEnds net → Leaves net x e → IsClosedOut net x s → ((v : ℕ) → v < node_count net → s v ≡ true → pos 0 ≤ℤ e v) → u < node_count net → s u ≡ true → pos 0 <ℤ e u → HasNoFlow net
 no_flow_out net x e s u ends lv closed none inside su eu y fy =
     let n = node_count net in
     let m = arc_count net in
@@ -90,7 +90,7 @@ no_flow_out net x e s u ends lv closed none inside su eu y fy =
     omega arith
 
 -- a set that no residual arc enters, with nothing left over and something wanting: there is no flow
-pub no_flow_into : (net : Net) (x : ℕ → ℕ) (e : ℕ → ℤ) (s : ℕ → Bool) (u : ℕ) → HasEnds net → Leaves net x e → IsClosedIn net x s → ((v : ℕ) → v < node_count net → s v ≡ true → e v ≤ℤ pos 0) → u < node_count net → s u ≡ true → e u <ℤ pos 0 → HasNoFlow net
+pub no_flow_into : (net : NetworkModel) (x : ℕ → ℕ) (e : ℕ → ℤ) (s : ℕ → Bool) (u : ℕ) → HasEnds net → Leaves net x e → IsClosedIn net x s → ((v : ℕ) → v < node_count net → s v ≡ true → e v ≤ℤ pos 0) → u < node_count net → s u ≡ true → e u <ℤ pos 0 → HasNoFlow net
 no_flow_into net x e s u ends lv closed none inside su eu y fy =
     let n = node_count net in
     let m = arc_count net in

@@ -9,18 +9,18 @@ use Rattle.sums.specs.Sums.{sum_below}
 use Rattle.sums.proofs.Sums.{sum_below-same, sum_below-le, sum_below-add, exchanged}
 use Rattle.networks.specs.declared.arc.Cap.{Cap}
 use Rattle.networks.specs.declared.arc.Cap.TheVariants.{AtMost, Any}
-use Rattle.networks.specs.Net.{Net, node_count, arc_count, arc_at, supply_at, HasEnds}
+use Rattle.networks.specs.Networks.{NetworkModel, node_count, arc_count, arc_at, supply_at, HasEnds}
 use Rattle.networks.specs.Flow.{leaves, enters, balance, cost_of, IsWithin, HasRoom, Flow, IsLeastCost, HasPotentials}
 
 -- amounts weighed by the numbers of the arcs' starts, and of their ends
-abbrev pub at_starts : Net → (ℕ → ℕ) → (ℕ → ℕ) → ℕ
+abbrev pub at_starts : NetworkModel → (ℕ → ℕ) → (ℕ → ℕ) → ℕ
 at_starts net w x = sum_below (arc_count net) (λ i. w (arc_at net i).from * x i)
 
-abbrev pub at_ends : Net → (ℕ → ℕ) → (ℕ → ℕ) → ℕ
+abbrev pub at_ends : NetworkModel → (ℕ → ℕ) → (ℕ → ℕ) → ℕ
 at_ends net w x = sum_below (arc_count net) (λ i. w (arc_at net i).to * x i)
 
 -- what leaves by x and what enters by y, weighed by node
-pub sides_are : (net : Net) (x y w : ℕ → ℕ) → HasEnds net → sum_below (node_count net) (λ v. w v * (leaves net x v + enters net y v)) ≡ at_starts net w x + at_ends net w y
+pub sides_are : (net : NetworkModel) (x y w : ℕ → ℕ) → HasEnds net → sum_below (node_count net) (λ v. w v * (leaves net x v + enters net y v)) ≡ at_starts net w x + at_ends net w y
 sides_are net x y w ends =
     let n = node_count net in
     let m = arc_count net in
@@ -36,7 +36,7 @@ balances : (a b c d : ℕ) → pos a -ℤ pos b ≡ pos c -ℤ pos d → a + d �
 balances a b c d h = omega (arith, ints)
 
 -- two flows weigh the same, whatever the weights
-pub same_weight : (net : Net) (x y w : ℕ → ℕ) → HasEnds net → Flow net x → Flow net y → at_starts net w x + at_ends net w y ≡ at_starts net w y + at_ends net w x
+pub same_weight : (net : NetworkModel) (x y w : ℕ → ℕ) → HasEnds net → Flow net x → Flow net y → at_starts net w x + at_ends net w y ≡ at_starts net w y + at_ends net w x
 same_weight net x y w ends fx fy =
     let n = node_count net in
     let node : (v : ℕ) → v < n → leaves net x v + enters net y v ≡ leaves net y v + enters net x v = λ v b.
@@ -56,7 +56,7 @@ exchange_up x y d a b e h = rw e (omega (arith, mul-le-mul_left d h))
 exchange_down : (x y d a b : ℕ) → x ≡ y + d → a ≤ b → a * x + b * y ≤ a * y + b * x
 exchange_down x y d a b e h = rw e (omega (arith, mul-le-mul_left d h))
 
--- the larger amount at the smaller price: exchanging the amounts x and y at the prices a and b
+-- the larger amount at the smaller cost: exchanging the amounts x and y at the unit costs a and b
 pub arc_part : (x y a b : ℕ) → (x < y → b ≤ a) → (y < x → a ≤ b) → a * x + b * y ≤ a * y + b * x
 arc_part x y a b more less =
     elim (cases_order x y) [
@@ -87,7 +87,7 @@ backward_part : (c : ℕ) (s t : ℤ) → pos 0 ≤ℤ ((pos 0 -ℤ pos c) +ℤ 
 backward_part c s t h = omega (arith, ints)
 
 -- a flow whose residual arcs all have reduced cost at least 0 costs no more than any other
-pub least_by_potentials : (net : Net) (x : ℕ → ℕ) (p : ℕ → ℤ) → HasEnds net → Flow net x → HasPotentials net x p → IsLeastCost net x
+pub least_by_potentials : (net : NetworkModel) (x : ℕ → ℕ) (p : ℕ → ℤ) → HasEnds net → Flow net x → HasPotentials net x p → IsLeastCost net x
 least_by_potentials net x p ends fx hp y fy =
     let m = arc_count net in
     let cost = λ (i : ℕ). (arc_at net i).cost in

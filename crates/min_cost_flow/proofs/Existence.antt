@@ -8,7 +8,7 @@ use Rattle.sums.specs.Sums.{sum_below, total_below}
 use Rattle.sums.proofs.Sums.{sum_below-same, sum_below-changed, sum_below-some, sum_below-member, exchanged, total_below-parts}
 use Rattle.networks.specs.declared.arc.Cap.{Cap}
 use Rattle.networks.specs.declared.arc.Cap.TheVariants.{AtMost, Any}
-use Rattle.networks.specs.Net.{Net, node_count, arc_count, arc_at, supply_at, HasEnds}
+use Rattle.networks.specs.Networks.{NetworkModel, node_count, arc_count, arc_at, supply_at, HasEnds}
 use Rattle.networks.specs.Flow.{leaves, enters, balance, IsWithin, Flow}
 use Rattle.min_cost_flow.specs.Excess.{KeepsCaps, Leaves, Carries}
 use Rattle.min_cost_flow.specs.Existence.{IsClosedAny, IsJoined, IsBalanced}
@@ -19,12 +19,12 @@ use Rattle.min_cost_flow.proofs.Spreading.{Steps, IsClosedUnder, Passes, spread_
 -- ---- one unit to a node that can be reached
 
 -- whatever the amounts, one unit more can be sent from u to v
-record Reaches (net : Net) (u v : ℕ) : Type 0 where
+record Reaches (net : NetworkModel) (u v : ℕ) : Type 0 where
   sent : (ℕ → ℕ) → ℕ → ℕ
   caps : (x : ℕ → ℕ) → KeepsCaps net x → KeepsCaps net (sent x)
   carries : (x : ℕ → ℕ) (e : ℕ → ℤ) → Carries net x e v 1 → Carries net (sent x) e u 1
 
-reaches_itself : (net : Net) (u : ℕ) → Reaches net u u
+reaches_itself : (net : NetworkModel) (u : ℕ) → Reaches net u u
 reaches_itself net u = record {
   sent = λ x i. x i;
   caps = λ x h. h;
@@ -46,7 +46,7 @@ one_more_same i x j ne = cond-false {A = ℕ} (eqb j i) (x j + 1) (x j) (ne_eqb 
 any_within : (c : Cap) (k : ℕ) → c ≡ Any → IsWithin c k
 any_within c k e = let P : Cap → Type 0 = λ t. IsWithin t k in subst P (sym e) tt
 
-one_more_within : (net : Net) (i : ℕ) (x : ℕ → ℕ) → (arc_at net i).cap ≡ Any → KeepsCaps net x → KeepsCaps net (one_more i x)
+one_more_within : (net : NetworkModel) (i : ℕ) (x : ℕ → ℕ) → (arc_at net i).cap ≡ Any → KeepsCaps net x → KeepsCaps net (one_more i x)
 one_more_within net i x any caps j b =
     elim (cases_eq j i) [
       | inl e ↦ let P : ℕ → Type 0 = λ t. IsWithin (arc_at net t).cap (one_more i x j) in subst P (sym e) (any_within (arc_at net i).cap (one_more i x j) any)
@@ -54,7 +54,7 @@ one_more_within net i x any caps j b =
     ]
 
 -- past an arc of no limit
-reaches_on : (net : Net) (u i : ℕ) → i < arc_count net → (arc_at net i).cap ≡ Any → Reaches net u (arc_at net i).from → Reaches net u (arc_at net i).to
+reaches_on : (net : NetworkModel) (u i : ℕ) → i < arc_count net → (arc_at net i).cap ≡ Any → Reaches net u (arc_at net i).from → Reaches net u (arc_at net i).to
 reaches_on net u i b any r = record {
   sent = λ x. r.sent (one_more i x);
   caps = λ x h. r.caps (one_more i x) (one_more_within net i x any h);
@@ -77,7 +77,7 @@ unfolding is_any
 is_any_at c e = ap is_any e
 
 -- the arcs of no limit as steps, each along itself alone
-any_steps : Net → Steps
+any_steps : NetworkModel → Steps
 any_steps net = record {
   count = arc_count net;
   passes = λ i back. cond back false (is_any (arc_at net i).cap);
@@ -85,7 +85,7 @@ any_steps net = record {
   finish = λ i back. (arc_at net i).to;
 }
 
-any_pass : (net : Net) (u : ℕ) → HasEnds net → Passes (λ v. Reaches net u v) (node_count net) (any_steps net)
+any_pass : (net : NetworkModel) (u : ℕ) → HasEnds net → Passes (λ v. Reaches net u v) (node_count net) (any_steps net)
 unfolding any_steps
 any_pass net u ends = record {
   on = λ i back b. elim back as (λ v. cond v false (is_any (arc_at net i).cap) ≡ true → Reaches net u (arc_at net i).from → Reaches net u (arc_at net i).to) [
@@ -95,11 +95,11 @@ any_pass net u ends = record {
   node = λ i back b. (ends i b).1;
 }
 
-any_closed : (net : Net) (s : ℕ → Bool) → IsClosedUnder (any_steps net) s → IsClosedAny net s
+any_closed : (net : NetworkModel) (s : ℕ → Bool) → IsClosedUnder (any_steps net) s → IsClosedAny net s
 unfolding any_steps
 any_closed net s c = record { stays = λ i b any f. c.stays i false b (is_any_at (arc_at net i).cap any) f }
 
-reaches_wanting : (net : Net) (e : ℕ → ℤ) (u v : ℕ) → HasEnds net → IsJoined net e → u < node_count net → v < node_count net → pos 0 <ℤ e u → e v <ℤ pos 0 → Reaches net u v
+reaches_wanting : (net : NetworkModel) (e : ℕ → ℤ) (u v : ℕ) → HasEnds net → IsJoined net e → u < node_count net → v < node_count net → pos 0 <ℤ e u → e v <ℤ pos 0 → Reaches net u v
 reaches_wanting net e u v ends joined ub vb over under =
     let (t, r, closed) = spread_from (λ w. Reaches net u w) (node_count net) (any_steps net) u (any_pass net u ends) (reaches_itself net u) in
     r.each v (joined.meets t (any_closed net t closed) u v ub vb r.inside over under)
@@ -155,7 +155,7 @@ still_over : (z y : ℤ) → y ≡ z -ℤ pos 1 → pos 0 <ℤ y → pos 0 <ℤ 
 still_over z y e h = omega (arith, ints)
 
 -- one unit from u, where something is left over, to v, where something is wanting
-record IsUnit (net : Net) (e d f : ℕ → ℤ) (u v : ℕ) : Type 0 where
+record IsUnit (net : NetworkModel) (e d f : ℕ → ℤ) (u v : ℕ) : Type 0 where
   source : u < node_count net
   sink : v < node_count net
   over : pos 0 <ℤ e u
@@ -165,10 +165,10 @@ record IsUnit (net : Net) (e d f : ℕ → ℤ) (u v : ℕ) : Type 0 where
   taken : f u ≡ d u -ℤ pos 1
   rest : (w : ℕ) → w ≢ u → f w ≡ d w
 
-unit_apart : (net : Net) (e d f : ℕ → ℤ) (u v : ℕ) → IsUnit net e d f u v → u ≢ v
+unit_apart : (net : NetworkModel) (e d f : ℕ → ℤ) (u v : ℕ) → IsUnit net e d f u v → u ≢ v
 unit_apart net e d f u v k q = apart (e u) k.over (subst (λ (t : ℕ). e t <ℤ pos 0) (sym q) k.under)
 
-sum_ups : (net : Net) (e d f : ℕ → ℤ) (u v : ℕ) → IsUnit net e d f u v → sum_below (node_count net) (λ w. up (f w)) + 1 ≡ sum_below (node_count net) (λ w. up (e w))
+sum_ups : (net : NetworkModel) (e d f : ℕ → ℤ) (u v : ℕ) → IsUnit net e d f u v → sum_below (node_count net) (λ w. up (f w)) + 1 ≡ sum_below (node_count net) (λ w. up (e w))
 sum_ups net e d f u v k =
     let n = node_count net in
     let ne : u ≢ v = unit_apart net e d f u v k in
@@ -186,7 +186,7 @@ sum_ups net e d f u v k =
     ]) in
     omega arith
 
-sum_downs : (net : Net) (e d f : ℕ → ℤ) (u v : ℕ) → IsUnit net e d f u v → sum_below (node_count net) (λ w. down (f w)) + 1 ≡ sum_below (node_count net) (λ w. down (e w))
+sum_downs : (net : NetworkModel) (e d f : ℕ → ℤ) (u v : ℕ) → IsUnit net e d f u v → sum_below (node_count net) (λ w. down (f w)) + 1 ≡ sum_below (node_count net) (λ w. down (e w))
 sum_downs net e d f u v k =
     let n = node_count net in
     let ne : u ≢ v = unit_apart net e d f u v k in
@@ -207,7 +207,7 @@ sum_downs net e d f u v k =
 not_brought : (z y : ℤ) → z <ℤ pos 0 → y ≡ z +ℤ pos 1 → pos 0 <ℤ y → ⊥
 not_brought z y a e h = omega (arith, ints)
 
-unit_over : (net : Net) (e d f : ℕ → ℤ) (u v w : ℕ) → IsUnit net e d f u v → pos 0 <ℤ f w → pos 0 <ℤ e w
+unit_over : (net : NetworkModel) (e d f : ℕ → ℤ) (u v w : ℕ) → IsUnit net e d f u v → pos 0 <ℤ f w → pos 0 <ℤ e w
 unit_over net e d f u v w k h =
     elim (cases_eq w u) [
       | inl q ↦ subst (λ (t : ℕ). pos 0 <ℤ e t) (sym q) k.over
@@ -222,7 +222,7 @@ unit_over net e d f u v w k h =
 not_given : (z y : ℤ) → pos 0 <ℤ z → y ≡ z -ℤ pos 1 → y <ℤ pos 0 → ⊥
 not_given z y a e h = omega (arith, ints)
 
-unit_under : (net : Net) (e d f : ℕ → ℤ) (u v w : ℕ) → IsUnit net e d f u v → f w <ℤ pos 0 → e w <ℤ pos 0
+unit_under : (net : NetworkModel) (e d f : ℕ → ℤ) (u v w : ℕ) → IsUnit net e d f u v → f w <ℤ pos 0 → e w <ℤ pos 0
 unit_under net e d f u v w k h =
     elim (cases_eq w v) [
       | inl q ↦ subst (λ (t : ℕ). e t <ℤ pos 0) (sym q) k.under
@@ -251,7 +251,7 @@ flat_down (negsuc n) h = absurd (omega arith)
 nothing_under : (n : ℕ) (e : ℕ → ℤ) → sum_below n (λ w. down (e w)) ≡ 0 → (v : ℕ) → v < n → pos 0 ≤ℤ e v
 nothing_under n e h v b = flat_down (e v) (omega (arith, sum_below-member n v (λ w. down (e w)) b))
 
-flow_of_units : (net : Net) (k : ℕ) (x : ℕ → ℕ) (e : ℕ → ℤ) → HasEnds net → KeepsCaps net x → Leaves net x e → IsJoined net e → sum_below (node_count net) (λ w. up (e w)) ≡ k → sum_below (node_count net) (λ w. down (e w)) ≡ k → (y : ℕ → ℕ) × Flow net y
+flow_of_units : (net : NetworkModel) (k : ℕ) (x : ℕ → ℕ) (e : ℕ → ℤ) → HasEnds net → KeepsCaps net x → Leaves net x e → IsJoined net e → sum_below (node_count net) (λ w. up (e w)) ≡ k → sum_below (node_count net) (λ w. down (e w)) ≡ k → (y : ℕ → ℕ) × Flow net y
 flow_of_units net zero x e ends caps lv joined ups downs =
     (x, flow_at net x e caps lv (nothing_over (node_count net) e ups) (nothing_under (node_count net) e downs))
 flow_of_units net (suc k) x e ends caps lv joined ups downs =
@@ -297,7 +297,7 @@ none_total : (a b : ℕ) → pos a -ℤ pos b ≡ pos 0 → a ≡ b
 none_total a b h = omega (arith, ints)
 
 -- what leaves all nodes enters all nodes
-all_leave : (net : Net) (x : ℕ → ℕ) → HasEnds net → sum_below (node_count net) (λ v. leaves net x v) ≡ sum_below (node_count net) (λ v. enters net x v)
+all_leave : (net : NetworkModel) (x : ℕ → ℕ) → HasEnds net → sum_below (node_count net) (λ v. leaves net x v) ≡ sum_below (node_count net) (λ v. enters net x v)
 all_leave net x ends =
     let n = node_count net in
     let m = arc_count net in
@@ -307,7 +307,7 @@ all_leave net x ends =
     let r : sum_below n (λ v. 1 * enters net x v) ≡ sum_below n (λ v. enters net x v) = sum_below-same n (λ v. 1 * enters net x v) (λ v. enters net x v) (λ v b. omega arith) in
     omega arith
 
-as_much : (net : Net) (x : ℕ → ℕ) (e : ℕ → ℤ) → HasEnds net → IsBalanced net → Leaves net x e → sum_below (node_count net) (λ v. up (e v)) ≡ sum_below (node_count net) (λ v. down (e v))
+as_much : (net : NetworkModel) (x : ℕ → ℕ) (e : ℕ → ℤ) → HasEnds net → IsBalanced net → Leaves net x e → sum_below (node_count net) (λ v. up (e v)) ≡ sum_below (node_count net) (λ v. down (e v))
 as_much net x e ends flat lv =
     let n = node_count net in
     let s : ℕ → ℤ = λ v. supply_at net v in
@@ -325,7 +325,7 @@ as_much net x e ends flat lv =
 
 -- amounts x within the capacities leave the excess e; supplies sum to 0, and no set that no arc of no
 -- limit leaves has something left over and not all that is wanting: then there is a flow
-pub flow_where_joined : (net : Net) (x : ℕ → ℕ) (e : ℕ → ℤ) → HasEnds net → IsBalanced net → KeepsCaps net x → Leaves net x e → IsJoined net e → (y : ℕ → ℕ) × Flow net y
+pub flow_where_joined : (net : NetworkModel) (x : ℕ → ℕ) (e : ℕ → ℤ) → HasEnds net → IsBalanced net → KeepsCaps net x → Leaves net x e → IsJoined net e → (y : ℕ → ℕ) × Flow net y
 flow_where_joined net x e ends flat caps lv joined =
     flow_of_units net (sum_below (node_count net) (λ w. down (e w))) x e ends caps lv joined (as_much net x e ends flat lv) refl
 
@@ -333,5 +333,5 @@ excess_sum : (b s : ℤ) → b +ℤ (s -ℤ b) ≡ s
 excess_sum b s = omega (arith, ints)
 
 -- any amounts leave the supplies less their balances
-pub excess_leaves : (net : Net) (x : ℕ → ℕ) → Leaves net x (λ v. supply_at net v -ℤ balance net x v)
+pub excess_leaves : (net : NetworkModel) (x : ℕ → ℕ) → Leaves net x (λ v. supply_at net v -ℤ balance net x v)
 excess_leaves net x = record { at_node = λ v b. excess_sum (balance net x v) (supply_at net v) }

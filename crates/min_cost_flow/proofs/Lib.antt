@@ -5,8 +5,8 @@ pub mod Rounds
 pub mod Spreading
 pub mod Existence
 pub mod Paths
-pub mod Turning
+pub mod Reverses
 pub mod Augmenting
-pub mod Signs
+pub mod Comparisons
 pub mod Solving
 pub mod Moved

@@ -1,4 +1,4 @@
--- After supplies have moved: what holds before the next search.
+-- After one node supplies more and another less: what holds before the next search.
 use Rattle.std.proofs.Common.{◌≡◌, ◌≢◌, ◌<◌, ◌≤◌, ℕ, ◌+◌, ◌*◌, Bool, List, length, cond, eqb, true, false, refl, sym, subst, inl, inr, arith}
 use Rattle.std.specs.Prelude.{ℤ, pos, negsuc, ◌+ℤ◌, ◌-ℤ◌, ◌≤ℤ◌, ◌<ℤ◌}
 use Rattle.std.proofs.lemmas.Bool.{cases_eq, ne_eqb, eqb-true, cond-false}
@@ -6,9 +6,9 @@ use Rattle.std.proofs.lemmas.Int.{ints}
 use borrow.Author.Differences.{up}
 use Rattle.sums.specs.Sums.{sum_below}
 use Rattle.sums.proofs.Sums.{sum_below-changed, sum_below-none}
-use Rattle.networks.specs.Net.{Net, node_count, arc_count, arc_at, supply_at, moved, shifted, IsNetwork}
+use Rattle.networks.specs.Networks.{NetworkModel, node_count, arc_count, arc_at, supply_at, moved, shifted, IsNetwork}
 use Rattle.networks.proofs.Moving.{delta, moved_at, length-moved}
-use Rattle.networks.specs.Flow.{Answer, Flow, Solves, amounts, at_nodes, cost_of, balance, start_of, end_of, price_of, HasPotentials}
+use Rattle.networks.specs.Flow.{SolvedModel, Flow, Solves, amounts, at_nodes, cost_of, balance, start_of, end_of, unit_cost, HasPotentials}
 use Rattle.networks.specs.Layout.{numbers, IsLaidOut}
 use Rattle.min_cost_flow.specs.Round.{left_over, IsRound}
 use Rattle.min_cost_flow.specs.Stand.{IsShown}
@@ -44,8 +44,8 @@ own_base a b h = omega (arith, ints)
 same_cost : (c a b a' b' z : ℤ) → a' ≡ a -ℤ z → b' ≡ b -ℤ z → pos 0 ≤ℤ (c +ℤ a -ℤ b) → pos 0 ≤ℤ (c +ℤ a' -ℤ b')
 same_cost c a b a' b' z h k l = omega (arith, ints)
 
-same_price : (c a b a' b' : ℤ) → a' ≡ a → b' ≡ b → pos 0 ≤ℤ (c +ℤ a -ℤ b) → pos 0 ≤ℤ (c +ℤ a' -ℤ b')
-same_price c a b a' b' h k l = omega (arith, ints)
+same_unit_cost : (c a b a' b' : ℤ) → a' ≡ a → b' ≡ b → pos 0 ≤ℤ (c +ℤ a -ℤ b) → pos 0 ≤ℤ (c +ℤ a' -ℤ b')
+same_unit_cost c a b a' b' h k l = omega (arith, ints)
 
 chosen_few : (b : Bool) (k : ℕ) → cond {A = ℕ} b k 0 ≤ k
 chosen_few true k = omega arith
@@ -64,7 +64,7 @@ others_none es n f t k v size none fb tb vb ne =
     (moved_at es f t k v (omega arith) (omega arith))
     (cond-false {A = ℕ} (eqb v f) k 0 (ne_eqb v f ne))
 
-left_few : (net : Net) (es : List ℤ) (f t k : ℕ) → length es ≡ node_count net → none_at es (node_count net) → f < node_count net → t < node_count net → left_over net (at_nodes (moved es f t k)) ≤ k
+left_few : (net : NetworkModel) (es : List ℤ) (f t k : ℕ) → length es ≡ node_count net → none_at es (node_count net) → f < node_count net → t < node_count net → left_over net (at_nodes (moved es f t k)) ≤ k
 left_few net es f t k size none fb tb =
     let n = node_count net in
     let e' = at_nodes (moved es f t k) in
@@ -78,7 +78,7 @@ wanting_is : (b : Bool) (k : ℕ) → 0 < cond {A = ℕ} b k 0 → b ≡ true
 wanting_is true k h = refl
 wanting_is false k h = absurd (omega arith)
 
-pub moved_round : (net : Net) (x : ℕ → ℕ) (p p' : ℕ → ℤ) (es : List ℤ) (f t k : ℕ) → IsNetwork net → IsRound net x p (at_nodes es) → length es ≡ node_count net → none_at es (node_count net) → f < node_count net → t < node_count net → k ≤ 2048
+pub moved_round : (net : NetworkModel) (x : ℕ → ℕ) (p p' : ℕ → ℤ) (es : List ℤ) (f t k : ℕ) → IsNetwork net → IsRound net x p (at_nodes es) → length es ≡ node_count net → none_at es (node_count net) → f < node_count net → t < node_count net → k ≤ 2048
     → ((v : ℕ) → v < node_count net → p' v ≡ p v -ℤ p t)
     → ((v : ℕ) → v < node_count net → (pos 0 ≤ℤ (p' v +ℤ pos (2 * node_count net))) × (p' v ≤ℤ pos (2 * node_count net)))
     → ((i : ℕ) → i < arc_count net → x i + k ≤ 2097152)
@@ -97,7 +97,7 @@ moved_round net x p p' es f t k nw r size none fb tb few base low room =
       };
       caps = r.caps;
       priced = record {
-        residual = λ i back b res. same_cost (price_of net i back) (p (start_of net i back)) (p (end_of net i back)) (p' (start_of net i back)) (p' (end_of net i back)) (p t)
+        residual = λ i back b res. same_cost (unit_cost net i back) (p (start_of net i back)) (p (end_of net i back)) (p' (start_of net i back)) (p' (end_of net i back)) (p t)
             (base (start_of net i back) (start_in net i back nw.ends b)) (base (end_of net i back) (end_in net i back nw.ends b)) (r.priced.residual i back b res);
       };
       low = λ v b. let vb : v < n = omega arith in subst (λ (m : ℕ). (pos 0 ≤ℤ (p' v +ℤ pos (2 * m))) × (p' v ≤ℤ pos (2 * m))) (sym long) (low v vb);
@@ -117,7 +117,7 @@ moved_round net x p p' es f t k nw r size none fb tb few base low room =
 
 -- ---- the residual arcs stay where they are
 
-pub laid_still : (net : Net) (first reverse forward : List ℕ) (f t k : ℕ) → IsLaidOut net first reverse forward → IsLaidOut (shifted net f t k) first reverse forward
+pub laid_still : (net : NetworkModel) (first reverse forward : List ℕ) (f t k : ℕ) → IsLaidOut net first reverse forward → IsLaidOut (shifted net f t k) first reverse forward
 laid_still net first reverse forward f t k l =
     let long : length (moved net.supplies f t k) ≡ node_count net = length-moved net.supplies f t k in
     record {
@@ -141,10 +141,10 @@ over_none es n s others here v b =
     ]
 
 -- where the residual arc along each arc stands, and the one back
-pub forward_in : (net : Net) (first reverse forward : List ℕ) (i : ℕ) → IsNetwork net → IsLaidOut net first reverse forward → i < arc_count net → numbers forward i < arc_count net + arc_count net
+pub forward_in : (net : NetworkModel) (first reverse forward : List ℕ) (i : ℕ) → IsNetwork net → IsLaidOut net first reverse forward → i < arc_count net → numbers forward i < arc_count net + arc_count net
 forward_in net first reverse forward i n l b = omega (arith, (l.block i false b).below, l.inside (arc_at net i).from (n.ends i b).0)
 
-pub reverse_in : (net : Net) (first reverse forward : List ℕ) (i : ℕ) → IsNetwork net → IsLaidOut net first reverse forward → i < arc_count net → numbers reverse (numbers forward i) < arc_count net + arc_count net
+pub reverse_in : (net : NetworkModel) (first reverse forward : List ℕ) (i : ℕ) → IsNetwork net → IsLaidOut net first reverse forward → i < arc_count net → numbers reverse (numbers forward i) < arc_count net + arc_count net
 reverse_in net first reverse forward i n l b = omega (arith, (l.block i true b).below, l.inside (arc_at net i).to (n.ends i b).1)
 
 -- ---- where nothing is left over or wanting, the flow is one of least cost
@@ -155,25 +155,25 @@ none_over e h = omega (arith, ints)
 none_wanting : (e : ℤ) → e ≡ pos 0 → pos 0 ≤ℤ e
 none_wanting e h = omega (arith, ints)
 
-pub sent_flow : (net : Net) (x : ℕ → ℕ) (p e : ℕ → ℤ) → IsRound net x p e → ((v : ℕ) → v < node_count net → e v ≡ pos 0) → Flow net x
+pub sent_flow : (net : NetworkModel) (x : ℕ → ℕ) (p e : ℕ → ℤ) → IsRound net x p e → ((v : ℕ) → v < node_count net → e v ≡ pos 0) → Flow net x
 sent_flow net x p e r sent = flow_at net x e r.caps r.leaves (λ v b. none_over (e v) (sent v b)) (λ v b. none_wanting (e v) (sent v b))
 
-pub solves_at : (net : Net) (x : ℕ → ℕ) (p e : ℕ → ℤ) (answer : Answer) → IsNetwork net → IsRound net x p e → ((v : ℕ) → v < node_count net → e v ≡ pos 0) → length answer.flow ≡ arc_count net → length answer.potential ≡ node_count net → ((i : ℕ) → i < arc_count net → amounts answer.flow i ≡ x i) → ((v : ℕ) → at_nodes answer.potential v ≡ p v) → Solves net answer
-solves_at net x p e answer n r sent flows potentials same prices =
-    let flow : Flow net (amounts answer.flow) = flow_same net x (amounts answer.flow) same (sent_flow net x p e r sent) in
-    let own : HasPotentials net (amounts answer.flow) p = potentials_same net x (amounts answer.flow) p same r.priced in
-    let priced : HasPotentials net (amounts answer.flow) (at_nodes answer.potential) = record {
-      residual = λ i back b res. same_price (price_of net i back) (p (start_of net i back)) (p (end_of net i back)) (at_nodes answer.potential (start_of net i back)) (at_nodes answer.potential (end_of net i back)) (prices (start_of net i back)) (prices (end_of net i back)) (own.residual i back b res);
+pub solves_at : (net : NetworkModel) (x : ℕ → ℕ) (p e : ℕ → ℤ) (solved : SolvedModel) → IsNetwork net → IsRound net x p e → ((v : ℕ) → v < node_count net → e v ≡ pos 0) → length solved.flow ≡ arc_count net → length solved.potential ≡ node_count net → ((i : ℕ) → i < arc_count net → amounts solved.flow i ≡ x i) → ((v : ℕ) → at_nodes solved.potential v ≡ p v) → Solves net solved
+solves_at net x p e solved n r sent flows potentials same prices =
+    let flow : Flow net (amounts solved.flow) = flow_same net x (amounts solved.flow) same (sent_flow net x p e r sent) in
+    let own : HasPotentials net (amounts solved.flow) p = potentials_same net x (amounts solved.flow) p same r.priced in
+    let priced : HasPotentials net (amounts solved.flow) (at_nodes solved.potential) = record {
+      residual = λ i back b res. same_unit_cost (unit_cost net i back) (p (start_of net i back)) (p (end_of net i back)) (at_nodes solved.potential (start_of net i back)) (at_nodes solved.potential (end_of net i back)) (prices (start_of net i back)) (prices (end_of net i back)) (own.residual i back b res);
     } in
     record {
       flow_count = flows;
       potential_count = potentials;
       flow = flow;
       potentials = priced;
-      least = least_by_potentials net (amounts answer.flow) (at_nodes answer.potential) n.ends flow priced;
+      least = least_by_potentials net (amounts solved.flow) (at_nodes solved.potential) n.ends flow priced;
     }
 
-pub shown_at : (net : Net) (x : ℕ → ℕ) (ps : List ℤ) (e : ℕ → ℤ) (cost : ℕ) → IsNetwork net → IsRound net x (at_nodes ps) e → ((v : ℕ) → v < node_count net → e v ≡ pos 0) → length ps ≡ node_count net → cost ≡ cost_of net x → IsShown net cost ps
+pub shown_at : (net : NetworkModel) (x : ℕ → ℕ) (ps : List ℤ) (e : ℕ → ℤ) (cost : ℕ) → IsNetwork net → IsRound net x (at_nodes ps) e → ((v : ℕ) → v < node_count net → e v ≡ pos 0) → length ps ≡ node_count net → cost ≡ cost_of net x → IsShown net cost ps
 shown_at net x ps e cost n r sent size is =
     let flow : Flow net x = sent_flow net x (at_nodes ps) e r sent in
     record {

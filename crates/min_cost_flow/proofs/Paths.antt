@@ -6,7 +6,7 @@ use Rattle.std.proofs.lemmas.Int.{ints}
 use borrow.Author.Differences.{up}
 use Rattle.networks.specs.declared.arc.Cap.{Cap}
 use Rattle.networks.specs.declared.arc.Cap.TheVariants.{AtMost, Any}
-use Rattle.networks.specs.Net.{Net, node_count, arc_count, arc_at, HasEnds}
+use Rattle.networks.specs.Networks.{NetworkModel, node_count, arc_count, arc_at, HasEnds}
 use Rattle.networks.specs.Flow.{HasRoom, IsResidual, start_of, end_of, HasNoFlow}
 use Rattle.min_cost_flow.specs.Excess.{Leaves, IsClosedOut, IsResidualPath, IsCutOff}
 use Rattle.min_cost_flow.proofs.Cut.{no_flow_out}
@@ -30,20 +30,20 @@ unfolding has_room
 is_room (AtMost k) x h = lt-ltb x k h
 is_room Any x h = refl
 
-is_residual : Net → (ℕ → ℕ) → ℕ → Bool → Bool
+is_residual : NetworkModel → (ℕ → ℕ) → ℕ → Bool → Bool
 is_residual net x i back = cond back (ltb 0 (x i)) (has_room (arc_at net i).cap (x i))
 
-residual_is : (net : Net) (x : ℕ → ℕ) (i : ℕ) (back : Bool) → is_residual net x i back ≡ true → IsResidual net x i back
+residual_is : (net : NetworkModel) (x : ℕ → ℕ) (i : ℕ) (back : Bool) → is_residual net x i back ≡ true → IsResidual net x i back
 unfolding is_residual
 residual_is net x i false h = room_is (arc_at net i).cap (x i) h
 residual_is net x i true h = ltb-true 0 (x i) h
 
-is_residual_at : (net : Net) (x : ℕ → ℕ) (i : ℕ) (back : Bool) → IsResidual net x i back → is_residual net x i back ≡ true
+is_residual_at : (net : NetworkModel) (x : ℕ → ℕ) (i : ℕ) (back : Bool) → IsResidual net x i back → is_residual net x i back ≡ true
 unfolding is_residual
 is_residual_at net x i false h = is_room (arc_at net i).cap (x i) h
 is_residual_at net x i true h = lt-ltb 0 (x i) h
 
-residual_steps : Net → (ℕ → ℕ) → Steps
+residual_steps : NetworkModel → (ℕ → ℕ) → Steps
 residual_steps net x = record {
   count = arc_count net;
   passes = is_residual net x;
@@ -54,29 +54,29 @@ residual_steps net x = record {
 -- ---- what a path can reach
 
 -- some path leads from u to v
-IsReachable : Net → (ℕ → ℕ) → ℕ → ℕ → Type 0
+IsReachable : NetworkModel → (ℕ → ℕ) → ℕ → ℕ → Type 0
 IsReachable net x u v = (k : ℕ) × IsResidualPath net x u v k
 
-path_on : (net : Net) (x : ℕ → ℕ) (u i : ℕ) (back : Bool) → i < arc_count net → IsResidual net x i back → IsReachable net x u (start_of net i back) → IsReachable net x u (end_of net i back)
+path_on : (net : NetworkModel) (x : ℕ → ℕ) (u i : ℕ) (back : Bool) → i < arc_count net → IsResidual net x i back → IsReachable net x u (start_of net i back) → IsReachable net x u (end_of net i back)
 unfolding IsReachable
 path_on net x u i back b r p = let (k, path) = p in (suc k, (i, back, b, r, refl, path))
 
-path_itself : (net : Net) (x : ℕ → ℕ) (u : ℕ) → IsReachable net x u u
+path_itself : (net : NetworkModel) (x : ℕ → ℕ) (u : ℕ) → IsReachable net x u u
 unfolding IsReachable
 path_itself net x u = (zero, refl)
 
-paths_pass : (net : Net) (x : ℕ → ℕ) (u : ℕ) → HasEnds net → Passes (IsReachable net x u) (node_count net) (residual_steps net x)
+paths_pass : (net : NetworkModel) (x : ℕ → ℕ) (u : ℕ) → HasEnds net → Passes (IsReachable net x u) (node_count net) (residual_steps net x)
 unfolding residual_steps
 paths_pass net x u ends = record {
   on = λ i back b h p. path_on net x u i back b (residual_is net x i back h) p;
   node = λ i back b. end_in net i back ends b;
 }
 
-closed_out : (net : Net) (x : ℕ → ℕ) (s : ℕ → Bool) → IsClosedUnder (residual_steps net x) s → IsClosedOut net x s
+closed_out : (net : NetworkModel) (x : ℕ → ℕ) (s : ℕ → Bool) → IsClosedUnder (residual_steps net x) s → IsClosedOut net x s
 unfolding residual_steps
 closed_out net x s c = record { stays = λ i back b r h. c.stays i back b (is_residual_at net x i back r) h }
 
-not_wanting : (net : Net) (x : ℕ → ℕ) (e : ℕ → ℤ) (u v : ℕ) → IsCutOff net x e → u < node_count net → v < node_count net → pos 0 <ℤ e u → IsReachable net x u v → pos 0 ≤ℤ e v
+not_wanting : (net : NetworkModel) (x : ℕ → ℕ) (e : ℕ → ℤ) (u v : ℕ) → IsCutOff net x e → u < node_count net → v < node_count net → pos 0 <ℤ e u → IsReachable net x u v → pos 0 ≤ℤ e v
 unfolding IsReachable
 not_wanting net x e u v cut ub vb over p =
     elim (sign_of (e v)) [
@@ -84,7 +84,7 @@ not_wanting net x e u v cut ub vb over p =
       | inr o ↦ o
     ]
 
-no_flow_over : (net : Net) (x : ℕ → ℕ) (e : ℕ → ℤ) (u : ℕ) → HasEnds net → Leaves net x e → IsCutOff net x e → u < node_count net → pos 0 <ℤ e u → HasNoFlow net
+no_flow_over : (net : NetworkModel) (x : ℕ → ℕ) (e : ℕ → ℤ) (u : ℕ) → HasEnds net → Leaves net x e → IsCutOff net x e → u < node_count net → pos 0 <ℤ e u → HasNoFlow net
 no_flow_over net x e u ends lv cut ub over =
     let (t, r, closed) = spread_from (IsReachable net x u) (node_count net) (residual_steps net x) u (paths_pass net x u ends) (path_itself net x u) in
     no_flow_out net x e t u ends lv (closed_out net x t closed) (λ v b h. not_wanting net x e u v cut ub b over (r.each v h)) ub r.inside over
@@ -111,7 +111,7 @@ below_then (negsuc n) l ne = omega (arith, ints)
 
 -- where something is left over or wanting, and no residual path leads from the one to the other,
 -- there is no flow
-pub no_flow_cut_off : (net : Net) (x : ℕ → ℕ) (e : ℕ → ℤ) (u : ℕ) → HasEnds net → Leaves net x e → IsCutOff net x e → u < node_count net → e u ≢ pos 0 → HasNoFlow net
+pub no_flow_cut_off : (net : NetworkModel) (x : ℕ → ℕ) (e : ℕ → ℤ) (u : ℕ) → HasEnds net → Leaves net x e → IsCutOff net x e → u < node_count net → e u ≢ pos 0 → HasNoFlow net
 no_flow_cut_off net x e u ends lv cut ub ne =
     elim (over_or_not (e u)) [
       | inl over ↦ no_flow_over net x e u ends lv cut ub over

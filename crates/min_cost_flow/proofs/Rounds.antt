@@ -1,4 +1,4 @@
--- From one search to the next: how trees begin, what a hit leaves, what sending leaves, and the end.
+-- From one search to the next: what holds before the first, what sending along a path leaves, and the end.
 use Rattle.std.proofs.Common.{◌≡◌, ◌≢◌, ◌≤◌, ◌<◌, ◌⊎◌, ℕ, zero, suc, ◌+◌, ◌*◌, cond, eqb, Bool, true, false, refl, sym, ap, subst, inl, inr, arith}
 use Rattle.std.specs.Prelude.{ℤ, pos, negsuc, ◌+ℤ◌, ◌-ℤ◌, ◌≤ℤ◌, ◌<ℤ◌}
 use Rattle.std.proofs.lemmas.Bool.{cases_eq, eq-eqb, cond-true}
@@ -9,7 +9,7 @@ use Rattle.sums.specs.Sums.{sum_below}
 use Rattle.sums.proofs.Sums.{sum_below-same, sum_below-le, sum_below-changed, sum_below-constant, sum_below-none}
 use Rattle.networks.specs.declared.arc.Cap.{Cap}
 use Rattle.networks.specs.declared.arc.Cap.TheVariants.{AtMost, Any}
-use Rattle.networks.specs.Net.{Net, node_count, arc_count, arc_at, supply_at, HasEnds, IsNetwork}
+use Rattle.networks.specs.Networks.{NetworkModel, node_count, arc_count, arc_at, supply_at, HasEnds, IsNetwork}
 use Rattle.networks.specs.Flow.{leaves, enters, balance, IsWithin, HasRoom, Flow, HasNoFlow, IsResidual, HasPotentials, reduced_cost}
 use Rattle.min_cost_flow.specs.Excess.{KeepsCaps, Leaves}
 use Rattle.min_cost_flow.specs.Round.{left_over, supply_sum, carrying, IsRound, IsLess, IsWork, IsDone}
@@ -30,7 +30,7 @@ clash : (z : ℤ) → pos 0 <ℤ z → z ≤ℤ pos 0 → ⊥
 clash z a b = omega (arith, ints)
 
 -- where nothing is left over, and something is wanting, there is no flow
-pub no_flow_wanting : (net : Net) (x : ℕ → ℕ) (e : ℕ → ℤ) (u : ℕ) → HasEnds net → Leaves net x e → ((v : ℕ) → v < node_count net → e v ≤ℤ pos 0) → u < node_count net → e u <ℤ pos 0 → HasNoFlow net
+pub no_flow_wanting : (net : NetworkModel) (x : ℕ → ℕ) (e : ℕ → ℤ) (u : ℕ) → HasEnds net → Leaves net x e → ((v : ℕ) → v < node_count net → e v ≤ℤ pos 0) → u < node_count net → e u <ℤ pos 0 → HasNoFlow net
 no_flow_wanting net x e u ends lv none ub w =
     no_flow_into net x e (λ _. true) u ends lv (record { stays = λ i back b r s. refl }) (λ v b _. none v b) ub refl w
 
@@ -38,7 +38,7 @@ settled : (b e s : ℤ) → b +ℤ e ≡ s → e ≤ℤ pos 0 → pos 0 ≤ℤ e
 settled b e s h l g = omega (arith, ints)
 
 -- where nothing is left over and nothing wanting, it is a flow
-pub flow_at : (net : Net) (x : ℕ → ℕ) (e : ℕ → ℤ) → KeepsCaps net x → Leaves net x e → ((v : ℕ) → v < node_count net → e v ≤ℤ pos 0) → ((v : ℕ) → v < node_count net → pos 0 ≤ℤ e v) → Flow net x
+pub flow_at : (net : NetworkModel) (x : ℕ → ℕ) (e : ℕ → ℤ) → KeepsCaps net x → Leaves net x e → ((v : ℕ) → v < node_count net → e v ≤ℤ pos 0) → ((v : ℕ) → v < node_count net → pos 0 ≤ℤ e v) → Flow net x
 flow_at net x e caps lv none full = record {
   within = caps;
   meets = λ v b. let at : balance net x v +ℤ e v ≡ supply_at net v = lv.at_node v b in settled (balance net x v) (e v) (supply_at net v) at (none v b) (full v b);
@@ -46,8 +46,8 @@ flow_at net x e caps lv none full = record {
 
 -- ---- sending
 
--- what `route` has changed, and the taking of what it sent, from e to e'
-pub record IsSent (net : Net) (x y : ℕ → ℕ) (e e' : ℕ → ℤ) (u k : ℕ) : Type 0 where
+-- k units went from u to where units are wanting: the amounts from x to y, the excess from e to e'
+pub record IsSent (net : NetworkModel) (x y : ℕ → ℕ) (e e' : ℕ → ℤ) (u k : ℕ) : Type 0 where
   pub node : u < node_count net
   pub source : pos 0 <ℤ e u
   pub caps : KeepsCaps net y
@@ -77,7 +77,7 @@ up_falls (negsuc n) (pos m) k h z = absurd (omega (arith, ints))
 up_falls (negsuc n) (negsuc m) k h z = absurd (omega (arith, ints))
 
 -- what is left falls by what was sent
-pub left_falls : (net : Net) (x y : ℕ → ℕ) (e e' : ℕ → ℤ) (u k : ℕ) → IsSent net x y e e' u k → left_over net e' + k ≡ left_over net e
+pub left_falls : (net : NetworkModel) (x y : ℕ → ℕ) (e e' : ℕ → ℤ) (u k : ℕ) → IsSent net x y e e' u k → left_over net e' + k ≡ left_over net e
 left_falls net x y e e' u k s =
     let sums : left_over net e' + up (e u) ≡ left_over net e + up (e' u) =
     sum_below-changed (node_count net) u (λ v. up (e' v)) (λ v. up (e v)) s.node
@@ -93,7 +93,7 @@ still_wanting e e' h w = omega (arith, ints)
 not_both : (e : ℤ) → e <ℤ pos 0 → pos 0 ≤ℤ e → ⊥
 not_both e a b = omega (arith, ints)
 
-was_wanting : (net : Net) (x y : ℕ → ℕ) (e e' : ℕ → ℤ) (u k v : ℕ) → IsSent net x y e e' u k → v < node_count net → e' v <ℤ pos 0 → e v <ℤ pos 0
+was_wanting : (net : NetworkModel) (x y : ℕ → ℕ) (e e' : ℕ → ℤ) (u k v : ℕ) → IsSent net x y e e' u k → v < node_count net → e' v <ℤ pos 0 → e v <ℤ pos 0
 was_wanting net x y e e' u k v s b w =
     elim (over_or_not (e v)) [
       | inl o ↦ elim (cases_eq v u) [
@@ -109,7 +109,7 @@ fair_less e e' k h z m = (omega (arith, ints), omega (arith, ints))
 fair_more : (e e' : ℤ) → e ≤ℤ e' → e' ≤ℤ pos 0 → negsuc 2047 ≤ℤ e → (negsuc 2047 ≤ℤ e') × (e' ≤ℤ pos 2048)
 fair_more e e' h z m = (omega (arith, ints), omega (arith, ints))
 
-still_fair : (net : Net) (x y : ℕ → ℕ) (e e' : ℕ → ℤ) (u k v : ℕ) → IsSent net x y e e' u k → v < node_count net → (negsuc 2047 ≤ℤ e v) × (e v ≤ℤ pos 2048) → (negsuc 2047 ≤ℤ e' v) × (e' v ≤ℤ pos 2048)
+still_fair : (net : NetworkModel) (x y : ℕ → ℕ) (e e' : ℕ → ℤ) (u k v : ℕ) → IsSent net x y e e' u k → v < node_count net → (negsuc 2047 ≤ℤ e v) × (e v ≤ℤ pos 2048) → (negsuc 2047 ≤ℤ e' v) × (e' v ≤ℤ pos 2048)
 still_fair net x y e e' u k v s b f =
     elim (over_or_not (e v)) [
       | inl o ↦ elim (cases_eq v u) [
@@ -123,7 +123,7 @@ still_fair net x y e e' u k v s b f =
     ]
 
 -- sending along steps that cost nothing keeps all that holds between searches
-pub sent_round : (net : Net) (x y : ℕ → ℕ) (p e e' : ℕ → ℤ) (u k : ℕ) → IsSent net x y e e' u k → HasPotentials net y p → IsRound net x p e → IsRound net y p e'
+pub sent_round : (net : NetworkModel) (x y : ℕ → ℕ) (p e e' : ℕ → ℤ) (u k : ℕ) → IsSent net x y e e' u k → HasPotentials net y p → IsRound net x p e → IsRound net y p e'
 sent_round net x y p e e' u k s priced r =
     let fall : left_over net e' + k ≡ left_over net e = left_falls net x y e e' u k s in
     record {
@@ -155,18 +155,18 @@ up_most : (e : ℤ) → e ≤ℤ pos 2048 → up e ≤ 2048
 up_most (pos n) h = omega (arith, ints)
 up_most (negsuc n) h = omega (arith, ints)
 
-first_left : (net : Net) (e : ℕ → ℤ) → node_count net ≤ MAX_NODES → ((v : ℕ) → v < node_count net → e v ≤ℤ pos 2048) → left_over net e ≤ 2097152
+first_left : (net : NetworkModel) (e : ℕ → ℤ) → node_count net ≤ MAX_NODES → ((v : ℕ) → v < node_count net → e v ≤ℤ pos 2048) → left_over net e ≤ 2097152
 first_left net e small fair =
     let n = node_count net in
     let le : left_over net e ≤ sum_below n (λ _. 2048) = sum_below-le n (λ v. up (e v)) (λ _. 2048) (λ v b. up_most (e v) (fair v b)) in
     omega (arith, sum_below-constant n 2048)
 
-first_priced : (net : Net) (x : ℕ → ℕ) (p : ℕ → ℤ) (i : ℕ) (back : Bool) → x i ≡ 0 → ((v : ℕ) → p v ≡ pos 0) → IsResidual net x i back → pos 0 ≤ℤ reduced_cost net p i back
+first_priced : (net : NetworkModel) (x : ℕ → ℕ) (p : ℕ → ℤ) (i : ℕ) (back : Bool) → x i ≡ 0 → ((v : ℕ) → p v ≡ pos 0) → IsResidual net x i back → pos 0 ≤ℤ reduced_cost net p i back
 first_priced net x p i false none flat r = first_cost (arc_at net i).cost (p (arc_at net i).from) (p (arc_at net i).to) (flat (arc_at net i).from) (flat (arc_at net i).to)
 first_priced net x p i true none flat r = absurd (omega arith)
 
 -- no amounts, potentials 0, and all supplies left over or wanting
-pub first_round : (net : Net) (x : ℕ → ℕ) (p e : ℕ → ℤ) → IsNetwork net → ((i : ℕ) → i < arc_count net → x i ≡ 0) → ((v : ℕ) → p v ≡ pos 0) → ((v : ℕ) → e v ≡ supply_at net v) → IsRound net x p e
+pub first_round : (net : NetworkModel) (x : ℕ → ℕ) (p e : ℕ → ℤ) → IsNetwork net → ((i : ℕ) → i < arc_count net → x i ≡ 0) → ((v : ℕ) → p v ≡ pos 0) → ((v : ℕ) → e v ≡ supply_at net v) → IsRound net x p e
 first_round net x p e k none flat full =
     let m = arc_count net in
     let fair : (v : ℕ) → v < node_count net → (negsuc 2047 ≤ℤ e v) × (e v ≤ℤ pos 2048) = λ v b. let P : ℤ → Type 0 = λ z. (negsuc 2047 ≤ℤ z) × (z ≤ℤ pos 2048) in subst P (sym (full v)) (k.supplies v b) in
@@ -191,7 +191,7 @@ first_round net x p e k none flat full =
 looked_more : (l l' s m : ℕ) → l ≤ s * m → l' ≤ l + m → l' ≤ (s + 1) * m
 looked_more l l' s m h k = omega (arith, add-mul s 1 m, one-mul m)
 
-pub work_more : (net : Net) (x y : ℕ → ℕ) (e e' : ℕ → ℤ) (s l l' : ℕ) → IsWork net x e s l → IsLess net e e' → carrying net y + l ≤ carrying net x + l' → l' ≤ l + 2 * arc_count net → IsWork net y e' (s + 1) l'
+pub work_more : (net : NetworkModel) (x y : ℕ → ℕ) (e e' : ℕ → ℤ) (s l l' : ℕ) → IsWork net x e s l → IsLess net e e' → carrying net y + l ≤ carrying net x + l' → l' ≤ l + 2 * arc_count net → IsWork net y e' (s + 1) l'
 work_more net x y e e' s l l' w less c k = record {
   few = omega (arith, w.few, less.less);
   bounded = looked_more l l' s (2 * arc_count net) w.bounded k;
@@ -202,7 +202,7 @@ work_more net x y e e' s l l' w less c k = record {
 none_carry : (x : ℕ) → x ≡ 0 → cond {A = ℕ} (eqb x 0) 0 1 ≡ 0
 none_carry x h = cond-true {A = ℕ} (eqb x 0) 0 1 (eq-eqb x 0 h)
 
-pub first_work : (net : Net) (x : ℕ → ℕ) (e : ℕ → ℤ) → ((i : ℕ) → i < arc_count net → x i ≡ 0) → ((v : ℕ) → e v ≡ supply_at net v) → IsWork net x e 0 0
+pub first_work : (net : NetworkModel) (x : ℕ → ℕ) (e : ℕ → ℤ) → ((i : ℕ) → i < arc_count net → x i ≡ 0) → ((v : ℕ) → e v ≡ supply_at net v) → IsWork net x e 0 0
 first_work net x e none full = record {
   few = omega (arith, sum_below-same (node_count net) (λ v. up (e v)) (λ v. up (supply_at net v)) (λ v b. ap up (full v)));
   bounded = omega arith;
@@ -213,10 +213,10 @@ first_work net x e none full = record {
 bounds_looks : (l s k m : ℕ) → l ≤ s * (2 * m) → s ≤ 2097152 → m ≤ MAX_ARCS → l ≤ 17179869184
 bounds_looks l s k m h a b = omega (arith, mul-le s (2 * m) 2097152 8192 a (omega arith))
 
-pub supply_most : (net : Net) → IsNetwork net → supply_sum net ≤ 2097152
+pub supply_most : (net : NetworkModel) → IsNetwork net → supply_sum net ≤ 2097152
 supply_most net k = first_left net (λ v. supply_at net v) k.small.0 (λ v b. (k.supplies v b).1)
 
-pub looks_most : (net : Net) (x : ℕ → ℕ) (e : ℕ → ℤ) (s l : ℕ) → IsNetwork net → IsWork net x e s l → (s ≤ 2097152) × (l ≤ 17179869184)
+pub looks_most : (net : NetworkModel) (x : ℕ → ℕ) (e : ℕ → ℤ) (s l : ℕ) → IsNetwork net → IsWork net x e s l → (s ≤ 2097152) × (l ≤ 17179869184)
 looks_most net x e s l k w =
     let few : s ≤ 2097152 = omega (arith, w.few, supply_most net k) in
     (few, bounds_looks l s 0 (arc_count net) w.bounded few k.small.1)
@@ -228,7 +228,7 @@ pub nothing_left : (e : ℤ) → e ≤ℤ pos 0 → pos 0 ≤ℤ e → e ≡ pos
 nothing_left e a b = omega (arith, ints)
 
 -- where nothing is left over and nothing wanting, all is done
-pub done_at : (net : Net) (x : ℕ → ℕ) (p e : ℕ → ℤ) (s l : ℕ) → IsRound net x p e → IsWork net x e s l → ((v : ℕ) → v < node_count net → e v ≤ℤ pos 0) → ((v : ℕ) → v < node_count net → pos 0 ≤ℤ e v) → IsDone net x p s l
+pub done_at : (net : NetworkModel) (x : ℕ → ℕ) (p e : ℕ → ℤ) (s l : ℕ) → IsRound net x p e → IsWork net x e s l → ((v : ℕ) → v < node_count net → e v ≤ℤ pos 0) → ((v : ℕ) → v < node_count net → pos 0 ≤ℤ e v) → IsDone net x p s l
 done_at net x p e s l r w none full = record {
   flow = flow_at net x e r.caps r.leaves none full;
   potentials = r.priced;
@@ -244,26 +244,26 @@ done_at net x p e s l r w none full = record {
 
 -- ---- the same amounts
 
-same_side : (net : Net) (x y : ℕ → ℕ) (at : ℕ → ℕ) (v : ℕ) → ((i : ℕ) → i < arc_count net → y i ≡ x i) → sum_below (arc_count net) (λ i. cond {A = ℕ} (eqb (at i) v) (y i) 0) ≡ sum_below (arc_count net) (λ i. cond {A = ℕ} (eqb (at i) v) (x i) 0)
+same_side : (net : NetworkModel) (x y : ℕ → ℕ) (at : ℕ → ℕ) (v : ℕ) → ((i : ℕ) → i < arc_count net → y i ≡ x i) → sum_below (arc_count net) (λ i. cond {A = ℕ} (eqb (at i) v) (y i) 0) ≡ sum_below (arc_count net) (λ i. cond {A = ℕ} (eqb (at i) v) (x i) 0)
 same_side net x y at v same = sum_below-same (arc_count net) (λ i. cond {A = ℕ} (eqb (at i) v) (y i) 0) (λ i. cond {A = ℕ} (eqb (at i) v) (x i) 0) (λ i b. ap (λ (t : ℕ). cond {A = ℕ} (eqb (at i) v) t 0) (same i b))
 
 same_balance : (l l' n n' : ℕ) (s : ℤ) → l' ≡ l → n' ≡ n → pos l -ℤ pos n ≡ s → pos l' -ℤ pos n' ≡ s
 same_balance l l' n n' s a b h = omega (arith, ints)
 
-still_residual : (net : Net) (x y : ℕ → ℕ) (i : ℕ) (back : Bool) → y i ≡ x i → IsResidual net y i back → IsResidual net x i back
+still_residual : (net : NetworkModel) (x y : ℕ → ℕ) (i : ℕ) (back : Bool) → y i ≡ x i → IsResidual net y i back → IsResidual net x i back
 still_residual net x y i false e h = subst (λ (t : ℕ). HasRoom (arc_at net i).cap t) e h
 still_residual net x y i true e h = omega arith
 
-pub flow_same : (net : Net) (x y : ℕ → ℕ) → ((i : ℕ) → i < arc_count net → y i ≡ x i) → Flow net x → Flow net y
+pub flow_same : (net : NetworkModel) (x y : ℕ → ℕ) → ((i : ℕ) → i < arc_count net → y i ≡ x i) → Flow net x → Flow net y
 flow_same net x y same f = record {
   within = λ i b. subst (λ (t : ℕ). IsWithin (arc_at net i).cap t) (sym (same i b)) (f.within i b);
   meets = λ v b. same_balance (leaves net x v) (leaves net y v) (enters net x v) (enters net y v) (supply_at net v) (same_side net x y (λ i. (arc_at net i).from) v same) (same_side net x y (λ i. (arc_at net i).to) v same) (f.meets v b);
 }
 
-pub potentials_same : (net : Net) (x y : ℕ → ℕ) (p : ℕ → ℤ) → ((i : ℕ) → i < arc_count net → y i ≡ x i) → HasPotentials net x p → HasPotentials net y p
+pub potentials_same : (net : NetworkModel) (x y : ℕ → ℕ) (p : ℕ → ℤ) → ((i : ℕ) → i < arc_count net → y i ≡ x i) → HasPotentials net x p → HasPotentials net y p
 potentials_same net x y p same h = record { residual = λ i back b r. h.residual i back b (still_residual net x y i back (same i b) r) }
 
-pub done_same : (net : Net) (x y : ℕ → ℕ) (p : ℕ → ℤ) (s l : ℕ) → ((i : ℕ) → i < arc_count net → y i ≡ x i) → IsDone net x p s l → IsDone net y p s l
+pub done_same : (net : NetworkModel) (x y : ℕ → ℕ) (p : ℕ → ℤ) (s l : ℕ) → ((i : ℕ) → i < arc_count net → y i ≡ x i) → IsDone net x p s l → IsDone net y p s l
 done_same net x y p s l same d = record {
   flow = flow_same net x y same d.flow;
   potentials = potentials_same net x y p same d.potentials;

@@ -11,24 +11,24 @@ use Rattle.sums.proofs.Sums.{sum_below-le, sum_below-constant}
 use Rattle.networks.specs.declared.arc.Cap.{Cap}
 use Rattle.networks.specs.declared.arc.Cap.TheVariants.{AtMost, Any}
 use Rattle.networks.specs.declared.residual.ResidualArc.{ResidualArc}
-use Rattle.networks.specs.Net.{Net, node_count, arc_count, arc_at, HasUnitCosts, IsNetwork}
-use Rattle.networks.specs.Flow.{HasRoom, IsResidual, HasPotentials, HasNoFlow, start_of, end_of, price_of, reduced_cost}
+use Rattle.networks.specs.Networks.{NetworkModel, node_count, arc_count, arc_at, HasUnitCosts, IsNetwork}
+use Rattle.networks.specs.Flow.{HasRoom, IsResidual, HasPotentials, HasNoFlow, start_of, end_of, unit_cost, reduced_cost}
 use Rattle.min_cost_flow.specs.Round.{IsRound}
 use Rattle.networks.specs.Layout.{numbers, end_at, cost_at, StartsAt, place_of, limit_of, IsLaidOut, IsFilled, carried}
 use Rattle.shortest_paths.specs.Search.{far, IsArcCost, IsOpen, IsGraph, IsPriced, IsNear, IsReached, IsHit, IsNearest, IsServed, IsLeft, IsPut, degree, looked}
 use Rattle.min_cost_flow.specs.Path.{HasPath}
 use Rattle.min_cost_flow.proofs.Cut.{no_flow_out}
 use Rattle.networks.proofs.Ends.{start_in, end_in}
-use Rattle.min_cost_flow.proofs.Turning.{turned_back, start_is}
+use Rattle.min_cost_flow.proofs.Reverses.{turned_back, start_is}
 use Rattle.shortest_paths.proofs.Signs.{plain_lt}
-use Rattle.min_cost_flow.proofs.Signs.{lt_true}
+use Rattle.min_cost_flow.proofs.Comparisons.{lt_true}
 use Rattle.shortest_paths.proofs.Reaching.{below_or_not, not_less}
 
 -- ---- codes, rooms and residual arcs
 
-price_low : (net : Net) (i : ℕ) (back : Bool) → HasUnitCosts net → i < arc_count net → (negsuc 0 ≤ℤ price_of net i back) × (price_of net i back ≤ℤ pos 1)
-price_low net i false costs b = (omega (arith, ints), omega (arith, ints, costs i b))
-price_low net i true costs b = (omega (arith, ints, costs i b), omega (arith, ints))
+unit_cost_low : (net : NetworkModel) (i : ℕ) (back : Bool) → HasUnitCosts net → i < arc_count net → (negsuc 0 ≤ℤ unit_cost net i back) × (unit_cost net i back ≤ℤ pos 1)
+unit_cost_low net i false costs b = (omega (arith, ints), omega (arith, ints, costs i b))
+unit_cost_low net i true costs b = (omega (arith, ints, costs i b), omega (arith, ints))
 
 code_when : (r : ℕ) (c z : ℤ) → z ≡ cond (eqb r 0) (c +ℤ SHUT) c → (negsuc 0 ≤ℤ c) × (c ≤ℤ pos 1) → ((r ≡ 0) × (z ≡ c +ℤ SHUT)) ⊎ ((0 < r) × (z ≡ c))
 code_when zero c z h b = inl (refl, h)
@@ -40,9 +40,9 @@ shut_code c z h (a, b) = (omega (arith, ints), omega (arith, ints))
 not_open : (c z : ℤ) → z ≡ c +ℤ SHUT → (negsuc 0 ≤ℤ c) × (c ≤ℤ pos 1) → z ≤ℤ pos 1 → ⊥
 not_open c z h (a, b) o = omega (arith, ints)
 
--- the cost of residual arc (i, back): its price where something fits, and more where nothing does
-pub code_cases : (net : Net) (reverse forward : List ℕ) (arcs : List ResidualArc) (room : List ℕ) (i : ℕ) (back : Bool) → IsNetwork net → IsFilled net reverse forward arcs room → i < arc_count net → ((numbers room (place_of reverse forward i back) ≡ 0) × (cost_at arcs (place_of reverse forward i back) ≡ price_of net i back +ℤ SHUT)) ⊎ ((0 < numbers room (place_of reverse forward i back)) × (cost_at arcs (place_of reverse forward i back) ≡ price_of net i back))
-code_cases net reverse forward arcs room i back k f b = code_when (numbers room (place_of reverse forward i back)) (price_of net i back) (cost_at arcs (place_of reverse forward i back)) (f.cost i back b) (price_low net i back k.costs b)
+-- the cost of residual arc (i, back): what a unit costs where something fits, and more where nothing does
+pub code_cases : (net : NetworkModel) (reverse forward : List ℕ) (arcs : List ResidualArc) (room : List ℕ) (i : ℕ) (back : Bool) → IsNetwork net → IsFilled net reverse forward arcs room → i < arc_count net → ((numbers room (place_of reverse forward i back) ≡ 0) × (cost_at arcs (place_of reverse forward i back) ≡ unit_cost net i back +ℤ SHUT)) ⊎ ((0 < numbers room (place_of reverse forward i back)) × (cost_at arcs (place_of reverse forward i back) ≡ unit_cost net i back))
+code_cases net reverse forward arcs room i back k f b = code_when (numbers room (place_of reverse forward i back)) (unit_cost net i back) (cost_at arcs (place_of reverse forward i back)) (f.cost i back b) (unit_cost_low net i back k.costs b)
 
 room_open : (c : Cap) (r x : ℕ) → r + x ≡ limit_of c → x ≤ 2097152 → HasRoom c x → 0 < r
 room_open (AtMost k) r x h l o = omega arith
@@ -52,31 +52,31 @@ open_room : (c : Cap) (r x : ℕ) → r + x ≡ limit_of c → 0 < r → HasRoom
 open_room (AtMost k) r x h o = omega arith
 open_room Any r x h o = tt
 
-pub residual_open : (net : Net) (reverse forward : List ℕ) (arcs : List ResidualArc) (room : List ℕ) (i : ℕ) (back : Bool) → IsFilled net reverse forward arcs room → i < arc_count net → carried reverse forward room i ≤ 2097152 → IsResidual net (carried reverse forward room) i back → 0 < numbers room (place_of reverse forward i back)
+pub residual_open : (net : NetworkModel) (reverse forward : List ℕ) (arcs : List ResidualArc) (room : List ℕ) (i : ℕ) (back : Bool) → IsFilled net reverse forward arcs room → i < arc_count net → carried reverse forward room i ≤ 2097152 → IsResidual net (carried reverse forward room) i back → 0 < numbers room (place_of reverse forward i back)
 residual_open net reverse forward arcs room i false f b l r = room_open (arc_at net i).cap (numbers room (place_of reverse forward i false)) (carried reverse forward room i) (f.fits i b) l r
 residual_open net reverse forward arcs room i true f b l r = r
 
-pub open_residual : (net : Net) (reverse forward : List ℕ) (arcs : List ResidualArc) (room : List ℕ) (i : ℕ) (back : Bool) → IsFilled net reverse forward arcs room → i < arc_count net → 0 < numbers room (place_of reverse forward i back) → IsResidual net (carried reverse forward room) i back
+pub open_residual : (net : NetworkModel) (reverse forward : List ℕ) (arcs : List ResidualArc) (room : List ℕ) (i : ℕ) (back : Bool) → IsFilled net reverse forward arcs room → i < arc_count net → 0 < numbers room (place_of reverse forward i back) → IsResidual net (carried reverse forward room) i back
 open_residual net reverse forward arcs room i false f b o = open_room (arc_at net i).cap (numbers room (place_of reverse forward i false)) (carried reverse forward room i) (f.fits i b) o
 open_residual net reverse forward arcs room i true f b o = o
 
--- a residual arc has its price for a cost, which is open
-pub price_open : (net : Net) (reverse forward : List ℕ) (arcs : List ResidualArc) (room : List ℕ) (i : ℕ) (back : Bool) → IsNetwork net → IsFilled net reverse forward arcs room → i < arc_count net → 0 < numbers room (place_of reverse forward i back) → (cost_at arcs (place_of reverse forward i back) ≡ price_of net i back) × IsOpen arcs (place_of reverse forward i back)
-price_open net reverse forward arcs room i back k f b o =
+-- a residual arc along which something fits is open, and its cost is what a unit costs
+pub unit_cost_open : (net : NetworkModel) (reverse forward : List ℕ) (arcs : List ResidualArc) (room : List ℕ) (i : ℕ) (back : Bool) → IsNetwork net → IsFilled net reverse forward arcs room → i < arc_count net → 0 < numbers room (place_of reverse forward i back) → (cost_at arcs (place_of reverse forward i back) ≡ unit_cost net i back) × IsOpen arcs (place_of reverse forward i back)
+unit_cost_open net reverse forward arcs room i back k f b o =
     elim (code_cases net reverse forward arcs room i back k f b) [
       | inl h ↦ absurd (omega (arith, h.0))
-      | inr h ↦ (h.1, subst (λ (z : ℤ). z ≤ℤ pos 1) (sym h.1) (price_low net i back k.costs b).1)
+      | inr h ↦ (h.1, subst (λ (z : ℤ). z ≤ℤ pos 1) (sym h.1) (unit_cost_low net i back k.costs b).1)
     ]
 
 -- and an open one fits
-pub open_price : (net : Net) (reverse forward : List ℕ) (arcs : List ResidualArc) (room : List ℕ) (i : ℕ) (back : Bool) → IsNetwork net → IsFilled net reverse forward arcs room → i < arc_count net → IsOpen arcs (place_of reverse forward i back) → (0 < numbers room (place_of reverse forward i back)) × (cost_at arcs (place_of reverse forward i back) ≡ price_of net i back)
-open_price net reverse forward arcs room i back k f b o =
+pub open_unit_cost : (net : NetworkModel) (reverse forward : List ℕ) (arcs : List ResidualArc) (room : List ℕ) (i : ℕ) (back : Bool) → IsNetwork net → IsFilled net reverse forward arcs room → i < arc_count net → IsOpen arcs (place_of reverse forward i back) → (0 < numbers room (place_of reverse forward i back)) × (cost_at arcs (place_of reverse forward i back) ≡ unit_cost net i back)
+open_unit_cost net reverse forward arcs room i back k f b o =
     elim (code_cases net reverse forward arcs room i back k f b) [
-      | inl h ↦ absurd (not_open (price_of net i back) (cost_at arcs (place_of reverse forward i back)) h.1 (price_low net i back k.costs b) o)
+      | inl h ↦ absurd (not_open (unit_cost net i back) (cost_at arcs (place_of reverse forward i back)) h.1 (unit_cost_low net i back k.costs b) o)
       | inr h ↦ h
     ]
 
-pub is_graph : (net : Net) (first reverse forward : List ℕ) (arcs : List ResidualArc) (room : List ℕ) → IsNetwork net → IsLaidOut net first reverse forward → IsFilled net reverse forward arcs room → IsGraph (node_count net) first arcs
+pub is_graph : (net : NetworkModel) (first reverse forward : List ℕ) (arcs : List ResidualArc) (room : List ℕ) → IsNetwork net → IsLaidOut net first reverse forward → IsFilled net reverse forward arcs room → IsGraph (node_count net) first arcs
 is_graph net first reverse forward arcs room k l f =
     let size : length arcs ≡ arc_count net + arc_count net = f.arc_size in
     record {
@@ -89,34 +89,34 @@ is_graph net first reverse forward arcs room k l f =
       cost = λ v j b st.
           let o = l.cover v j b st in
           subst (λ (t : ℕ). IsArcCost (cost_at arcs t)) o.place (elim (code_cases net reverse forward arcs room o.arc o.back k f o.inside) [
-            | inl h ↦ inr (shut_code (price_of net o.arc o.back) (cost_at arcs (place_of reverse forward o.arc o.back)) h.1 (price_low net o.arc o.back k.costs o.inside))
-            | inr h ↦ inl (subst (λ (z : ℤ). (negsuc 0 ≤ℤ z) × (z ≤ℤ pos 1)) (sym h.1) (price_low net o.arc o.back k.costs o.inside))
+            | inl h ↦ inr (shut_code (unit_cost net o.arc o.back) (cost_at arcs (place_of reverse forward o.arc o.back)) h.1 (unit_cost_low net o.arc o.back k.costs o.inside))
+            | inr h ↦ inl (subst (λ (z : ℤ). (negsuc 0 ≤ℤ z) × (z ≤ℤ pos 1)) (sym h.1) (unit_cost_low net o.arc o.back k.costs o.inside))
           ]);
     }
 
 -- reduced costs by number, and by arc
-pub reduced_by_number : (net : Net) (first reverse forward : List ℕ) (arcs : List ResidualArc) (room : List ℕ) (p : ℕ → ℤ) → IsNetwork net → IsLaidOut net first reverse forward → IsFilled net reverse forward arcs room → HasPotentials net (carried reverse forward room) p → (v k : ℕ) → v < node_count net → StartsAt first v k → IsOpen arcs k → pos 0 ≤ℤ (cost_at arcs k +ℤ p v -ℤ p (end_at arcs k))
+pub reduced_by_number : (net : NetworkModel) (first reverse forward : List ℕ) (arcs : List ResidualArc) (room : List ℕ) (p : ℕ → ℤ) → IsNetwork net → IsLaidOut net first reverse forward → IsFilled net reverse forward arcs room → HasPotentials net (carried reverse forward room) p → (v k : ℕ) → v < node_count net → StartsAt first v k → IsOpen arcs k → pos 0 ≤ℤ (cost_at arcs k +ℤ p v -ℤ p (end_at arcs k))
 reduced_by_number net first reverse forward arcs room p n l f h v k b st op =
     let o = l.cover v k b st in
     let i = o.arc in
     let back = o.back in
     let here : IsOpen arcs (place_of reverse forward i back) = subst (λ (t : ℕ). IsOpen arcs t) (sym o.place) op in
-    let (fits, price) = open_price net reverse forward arcs room i back n f o.inside here in
+    let (fits, unit_is) = open_unit_cost net reverse forward arcs room i back n f o.inside here in
     let red : pos 0 ≤ℤ reduced_cost net p i back = h.residual i back o.inside (open_residual net reverse forward arcs room i back f o.inside fits) in
-    let two : pos 0 ≤ℤ (cost_at arcs (place_of reverse forward i back) +ℤ p (start_of net i back) -ℤ p (end_at arcs (place_of reverse forward i back))) = rw (price, f.end i back o.inside) red in
+    let two : pos 0 ≤ℤ (cost_at arcs (place_of reverse forward i back) +ℤ p (start_of net i back) -ℤ p (end_at arcs (place_of reverse forward i back))) = rw (unit_is, f.end i back o.inside) red in
     let one : pos 0 ≤ℤ (cost_at arcs (place_of reverse forward i back) +ℤ p v -ℤ p (end_at arcs (place_of reverse forward i back))) = subst (λ (t : ℕ). pos 0 ≤ℤ (cost_at arcs (place_of reverse forward i back) +ℤ p t -ℤ p (end_at arcs (place_of reverse forward i back)))) o.start two in
     subst (λ (t : ℕ). pos 0 ≤ℤ (cost_at arcs t +ℤ p v -ℤ p (end_at arcs t))) o.place one
 
-pub potentials_by_arc : (net : Net) (first reverse forward : List ℕ) (arcs : List ResidualArc) (room : List ℕ) (p : ℕ → ℤ) → IsNetwork net → IsLaidOut net first reverse forward → IsFilled net reverse forward arcs room → ((i : ℕ) → i < arc_count net → carried reverse forward room i ≤ 2097152) → ((v k : ℕ) → v < node_count net → StartsAt first v k → IsOpen arcs k → pos 0 ≤ℤ (cost_at arcs k +ℤ p v -ℤ p (end_at arcs k))) → HasPotentials net (carried reverse forward room) p
+pub potentials_by_arc : (net : NetworkModel) (first reverse forward : List ℕ) (arcs : List ResidualArc) (room : List ℕ) (p : ℕ → ℤ) → IsNetwork net → IsLaidOut net first reverse forward → IsFilled net reverse forward arcs room → ((i : ℕ) → i < arc_count net → carried reverse forward room i ≤ 2097152) → ((v k : ℕ) → v < node_count net → StartsAt first v k → IsOpen arcs k → pos 0 ≤ℤ (cost_at arcs k +ℤ p v -ℤ p (end_at arcs k))) → HasPotentials net (carried reverse forward room) p
 potentials_by_arc net first reverse forward arcs room p n l f few h = record {
   residual = λ i back b r.
       let fits : 0 < numbers room (place_of reverse forward i back) = residual_open net reverse forward arcs room i back f b (few i b) r in
-      let (price, op) = price_open net reverse forward arcs room i back n f b fits in
+      let (unit_is, op) = unit_cost_open net reverse forward arcs room i back n f b fits in
       let red : pos 0 ≤ℤ (cost_at arcs (place_of reverse forward i back) +ℤ p (start_of net i back) -ℤ p (end_at arcs (place_of reverse forward i back))) = h (start_of net i back) (place_of reverse forward i back) (start_in net i back n.ends b) (l.block i back b) op in
-      rw (price, f.end i back b) at red;
+      rw (unit_is, f.end i back b) at red;
 }
 
-pub is_priced : (net : Net) (first reverse forward : List ℕ) (arcs : List ResidualArc) (room : List ℕ) (p e : ℕ → ℤ) → IsNetwork net → IsLaidOut net first reverse forward → IsFilled net reverse forward arcs room → IsRound net (carried reverse forward room) p e → IsPriced (node_count net) first arcs p e
+pub is_priced : (net : NetworkModel) (first reverse forward : List ℕ) (arcs : List ResidualArc) (room : List ℕ) (p e : ℕ → ℤ) → IsNetwork net → IsLaidOut net first reverse forward → IsFilled net reverse forward arcs room → IsRound net (carried reverse forward room) p e → IsPriced (node_count net) first arcs p e
 is_priced net first reverse forward arcs room p e n l f r = record {
   reduced = reduced_by_number net first reverse forward arcs room p n l f r.priced;
   low = r.low;
@@ -229,7 +229,7 @@ wanting_far n first arcs p e s q enter order place head ordered reached level v 
 
 -- ---- the round after the potentials have moved
 
-pub moved_round : (net : Net) (first reverse forward : List ℕ) (arcs : List ResidualArc) (room : List ℕ) (p p' e : ℕ → ℤ) (s : ℕ) (q : ℕ → ℤ) (enter order place : ℕ → ℕ) (head ordered reached : ℕ) (level cut : ℤ) (f : ℕ) → IsNetwork net → IsLaidOut net first reverse forward → IsFilled net reverse forward arcs room → IsRound net (carried reverse forward room) p e → IsReached (node_count net) first arcs p e s q enter order place head ordered reached level → IsNearest (node_count net) first arcs p e s q place head level cut f → IsServed (node_count net) first arcs p q place cut head → IsLeft (node_count net) p q place head cut → cut <ℤ far → IsMovedTo (node_count net) p p' q place head cut → IsRound net (carried reverse forward room) p' e
+pub moved_round : (net : NetworkModel) (first reverse forward : List ℕ) (arcs : List ResidualArc) (room : List ℕ) (p p' e : ℕ → ℤ) (s : ℕ) (q : ℕ → ℤ) (enter order place : ℕ → ℕ) (head ordered reached : ℕ) (level cut : ℤ) (f : ℕ) → IsNetwork net → IsLaidOut net first reverse forward → IsFilled net reverse forward arcs room → IsRound net (carried reverse forward room) p e → IsReached (node_count net) first arcs p e s q enter order place head ordered reached level → IsNearest (node_count net) first arcs p e s q place head level cut f → IsServed (node_count net) first arcs p q place cut head → IsLeft (node_count net) p q place head cut → cut <ℤ far → IsMovedTo (node_count net) p p' q place head cut → IsRound net (carried reverse forward room) p' e
 moved_round net first reverse forward arcs room p p' e s q enter order place head ordered reached level cut f k l fl rd r near sv left hit m =
     let n = node_count net in
     let g : IsGraph n first arcs = is_graph net first reverse forward arcs room k l fl in
@@ -311,7 +311,7 @@ in_reach ps q pv n h small le low (a, b) d = omega (arith, ints)
 in_reach_step : (ps q pe c : ℤ) (n h : ℕ) → n ≤ MAX_NODES → h ≤ n → ps ≤ℤ pos (2 * n) → IsNear ps h q → pos 0 ≤ℤ (pe +ℤ pos (2 * n)) → c ≤ℤ pos 1 → (q +ℤ c -ℤ pe) <ℤ far
 in_reach_step ps q pe c n h small le low (a, b) d o = omega (arith, ints)
 
-pub nothing_found : (net : Net) (first reverse forward : List ℕ) (arcs : List ResidualArc) (room : List ℕ) (p e : ℕ → ℤ) (s : ℕ) (q : ℕ → ℤ) (enter order place : ℕ → ℕ) (head ordered reached : ℕ) (level cut : ℤ) → IsNetwork net → IsLaidOut net first reverse forward → IsFilled net reverse forward arcs room → IsRound net (carried reverse forward room) p e → IsReached (node_count net) first arcs p e s q enter order place head ordered reached level → IsServed (node_count net) first arcs p q place cut head → IsLeft (node_count net) p q place head cut → cut ≡ far → pos 0 <ℤ e s → HasNoFlow net
+pub nothing_found : (net : NetworkModel) (first reverse forward : List ℕ) (arcs : List ResidualArc) (room : List ℕ) (p e : ℕ → ℤ) (s : ℕ) (q : ℕ → ℤ) (enter order place : ℕ → ℕ) (head ordered reached : ℕ) (level cut : ℤ) → IsNetwork net → IsLaidOut net first reverse forward → IsFilled net reverse forward arcs room → IsRound net (carried reverse forward room) p e → IsReached (node_count net) first arcs p e s q enter order place head ordered reached level → IsServed (node_count net) first arcs p q place cut head → IsLeft (node_count net) p q place head cut → cut ≡ far → pos 0 <ℤ e s → HasNoFlow net
 nothing_found net first reverse forward arcs room p e s q enter order place head ordered reached level cut k l fl rd r sv left none over =
     let n = node_count net in
     let le : head ≤ n = omega (arith, r.counts) in
@@ -329,7 +329,7 @@ nothing_found net first reverse forward arcs room p e s q enter order place head
           let ub : u < n = start_in net i back k.ends b in
           let m : q u <ℤ far = plain_lt (q u) far so in
           let fits : 0 < numbers room j = residual_open net reverse forward arcs room i back fl b (omega (arith, rd.room i b)) res in
-          let op : IsOpen arcs j = (price_open net reverse forward arcs room i back k fl b fits).1 in
+          let op : IsOpen arcs j = (unit_cost_open net reverse forward arcs room i back k fl b fits).1 in
           let st : StartsAt first u j = l.block i back b in
           let ends : end_at arcs j ≡ end_of net i back = fl.end i back b in
           let eb : end_at arcs j < n = subst (λ (t : ℕ). t < n) (sym ends) (end_in net i back k.ends b) in
@@ -342,13 +342,13 @@ nothing_found net first reverse forward arcs room p e s q enter order place head
 
 -- ---- each scanned node has a residual arc
 
-turned_start : (net : Net) (i : ℕ) (back : Bool) → start_of net i (turned_back back) ≡ end_of net i back
+turned_start : (net : NetworkModel) (i : ℕ) (back : Bool) → start_of net i (turned_back back) ≡ end_of net i back
 unfolding turned_back
 turned_start net i false = refl
 turned_start net i true = refl
 
 -- the end of a residual arc has one of its own
-has_own : (net : Net) (first reverse forward : List ℕ) (arcs : List ResidualArc) (room : List ℕ) (u k : ℕ) → IsLaidOut net first reverse forward → IsFilled net reverse forward arcs room → u < node_count net → StartsAt first u k → 0 < degree first (end_at arcs k)
+has_own : (net : NetworkModel) (first reverse forward : List ℕ) (arcs : List ResidualArc) (room : List ℕ) (u k : ℕ) → IsLaidOut net first reverse forward → IsFilled net reverse forward arcs room → u < node_count net → StartsAt first u k → 0 < degree first (end_at arcs k)
 has_own net first reverse forward arcs room u k l f b st =
     let o = l.cover u k b st in
     let ends : end_at arcs k ≡ end_of net o.arc o.back = ap (end_at arcs) (sym o.place) ∙ f.end o.arc o.back o.inside in
@@ -369,7 +369,7 @@ source_degree n first arcs p e s q enter order place head ordered reached level 
       | inr d ↦ source_degree n first arcs p e s q enter order place head ordered reached level b x.start r (omega arith) x.node x.labelled d
     ]
 
-one_each : (net : Net) (first reverse forward : List ℕ) (arcs : List ResidualArc) (room : List ℕ) (p e : ℕ → ℤ) (s : ℕ) (q : ℕ → ℤ) (enter order place : ℕ → ℕ) (head ordered reached : ℕ) (level cut : ℤ) (f : ℕ) → IsLaidOut net first reverse forward → IsFilled net reverse forward arcs room → IsReached (node_count net) first arcs p e s q enter order place head ordered reached level → IsHit (node_count net) first arcs p e s q place head cut f → (v : ℕ) → v < node_count net → q v <ℤ far → 0 < degree first v
+one_each : (net : NetworkModel) (first reverse forward : List ℕ) (arcs : List ResidualArc) (room : List ℕ) (p e : ℕ → ℤ) (s : ℕ) (q : ℕ → ℤ) (enter order place : ℕ → ℕ) (head ordered reached : ℕ) (level cut : ℤ) (f : ℕ) → IsLaidOut net first reverse forward → IsFilled net reverse forward arcs room → IsReached (node_count net) first arcs p e s q enter order place head ordered reached level → IsHit (node_count net) first arcs p e s q place head cut f → (v : ℕ) → v < node_count net → q v <ℤ far → 0 < degree first v
 one_each net first reverse forward arcs room p e s q enter order place head ordered reached level cut f l fl r h v b m =
     elim (cases_eq v s) [
       | inl t ↦ subst (λ (i : ℕ). 0 < degree first i) (sym t) (elim (cases_eq h.start s) [
@@ -382,14 +382,14 @@ one_each net first reverse forward arcs room p e s q enter order place head orde
     ]
 
 -- so a search that finds something looks at no fewer residual arcs than it scans nodes
-pub many_looks : (net : Net) (first reverse forward : List ℕ) (arcs : List ResidualArc) (room : List ℕ) (p e : ℕ → ℤ) (s : ℕ) (q : ℕ → ℤ) (enter order place : ℕ → ℕ) (head ordered reached : ℕ) (level cut : ℤ) (f : ℕ) → IsLaidOut net first reverse forward → IsFilled net reverse forward arcs room → IsReached (node_count net) first arcs p e s q enter order place head ordered reached level → IsHit (node_count net) first arcs p e s q place head cut f → head ≤ looked first order head
+pub many_looks : (net : NetworkModel) (first reverse forward : List ℕ) (arcs : List ResidualArc) (room : List ℕ) (p e : ℕ → ℤ) (s : ℕ) (q : ℕ → ℤ) (enter order place : ℕ → ℕ) (head ordered reached : ℕ) (level cut : ℤ) (f : ℕ) → IsLaidOut net first reverse forward → IsFilled net reverse forward arcs room → IsReached (node_count net) first arcs p e s q enter order place head ordered reached level → IsHit (node_count net) first arcs p e s q place head cut f → head ≤ looked first order head
 many_looks net first reverse forward arcs room p e s q enter order place head ordered reached level cut f l fl r h =
     let le : head ≤ reached = omega (arith, r.counts) in
     let more : sum_below head (λ _. 1) ≤ looked first order head = sum_below-le head (λ _. 1) (λ j. degree first (order j)) (λ j b. one_each net first reverse forward arcs room p e s q enter order place head ordered reached level cut f l fl r h (order j) (r.node j (omega arith)) (r.marked j (omega arith))) in
     omega (arith, sum_below-constant head 1)
 
 -- the path has no more residual arcs than that
-pub path_looks : (net : Net) (first reverse forward : List ℕ) (arcs : List ResidualArc) (room : List ℕ) (p e : ℕ → ℤ) (s : ℕ) (q : ℕ → ℤ) (enter order place : ℕ → ℕ) (head ordered reached : ℕ) (level cut : ℤ) (f : ℕ) → IsLaidOut net first reverse forward → IsFilled net reverse forward arcs room → IsReached (node_count net) first arcs p e s q enter order place head ordered reached level → IsHit (node_count net) first arcs p e s q place head cut f → place (end_at arcs (numbers reverse f)) + 1 ≤ looked first order head
+pub path_looks : (net : NetworkModel) (first reverse forward : List ℕ) (arcs : List ResidualArc) (room : List ℕ) (p e : ℕ → ℤ) (s : ℕ) (q : ℕ → ℤ) (enter order place : ℕ → ℕ) (head ordered reached : ℕ) (level cut : ℤ) (f : ℕ) → IsLaidOut net first reverse forward → IsFilled net reverse forward arcs room → IsReached (node_count net) first arcs p e s q enter order place head ordered reached level → IsHit (node_count net) first arcs p e s q place head cut f → place (end_at arcs (numbers reverse f)) + 1 ≤ looked first order head
 path_looks net first reverse forward arcs room p e s q enter order place head ordered reached level cut f l fl r h =
     let last : place (end_at arcs (numbers reverse f)) ≡ place h.start = ap place (start_is net first reverse forward arcs room h.start f l fl h.node h.leaves) in
     let scan : place h.start < head = h.scanned in

@@ -2,15 +2,17 @@
 use Rattle.std.specs.Prelude.{ℕ, ◌+◌, ◌*◌, ◌<◌, ◌≤◌, ◌≡◌, ◌≢◌, ◌⊎◌, ◌==◌, if◌then◌else◌, ℤ, pos, negsuc, ◌+ℤ◌, ◌≤ℤ◌, ◌<ℤ◌}
 use borrow.Author.Differences.{up}
 use Rattle.sums.specs.Sums.{sum_below}
-use Rattle.networks.specs.Net.{Net, node_count, arc_count, supply_at}
+use Rattle.networks.specs.Networks.{NetworkModel, node_count, arc_count, supply_at}
 use Rattle.networks.specs.Flow.{Flow, HasPotentials}
 use Rattle.min_cost_flow.specs.Excess.{KeepsCaps, Leaves}
 
 -- what is left to send
-abbrev pub left_over : Net → (ℕ → ℤ) → ℕ
+abbrev pub left_over : NetworkModel → (ℕ → ℤ) → ℕ
 left_over net e = sum_below (node_count net) (λ v. up (e v))
 
-pub record IsRound (net : Net) (x : ℕ → ℕ) (p e : ℕ → ℤ) : Type 0 where
+-- amounts x within the capacities leave the excess e, the potentials p show that they cost least, and all numbers
+-- keep their bounds
+pub record IsRound (net : NetworkModel) (x : ℕ → ℕ) (p e : ℕ → ℤ) : Type 0 where
   pub leaves : Leaves net x e
   pub caps : KeepsCaps net x
   pub priced : HasPotentials net x p
@@ -20,35 +22,35 @@ pub record IsRound (net : Net) (x : ℕ → ℕ) (p e : ℕ → ℤ) : Type 0 wh
   pub room : (i : ℕ) → i < arc_count net → x i + left_over net e ≤ 2097152
 
 -- how many arcs carry units
-abbrev pub carrying : Net → (ℕ → ℕ) → ℕ
+abbrev pub carrying : NetworkModel → (ℕ → ℕ) → ℕ
 carrying net x = sum_below (arc_count net) (λ i. if x i == 0 then 0 else 1)
 
 -- what units that go from one node to another leave: nothing is left over anew, and less in all
-pub record IsLess (net : Net) (e e' : ℕ → ℤ) : Type 0 where
+pub record IsLess (net : NetworkModel) (e e' : ℕ → ℤ) : Type 0 where
   pub less : left_over net e' < left_over net e
   pub done : (v : ℕ) → v < node_count net → e v ≤ℤ pos 0 → e' v ≤ℤ pos 0
 
 -- all that is supplied
-abbrev pub supply_sum : Net → ℕ
+abbrev pub supply_sum : NetworkModel → ℕ
 supply_sum net = left_over net (λ v. supply_at net v)
 
 -- some node supplies or wants units
-abbrev pub HasSupply : Net → Type 0
+abbrev pub HasSupply : NetworkModel → Type 0
 HasSupply net = (v : ℕ) × (v < node_count net) × (supply_at net v ≢ pos 0)
 
 -- the potentials are at most twice the number of nodes in absolute value
-abbrev pub IsWithinReach : Net → (ℕ → ℤ) → Type 0
+abbrev pub IsWithinReach : NetworkModel → (ℕ → ℤ) → Type 0
 IsWithinReach net p = (v : ℕ) → v < node_count net → (pos 0 ≤ℤ (p v +ℤ pos (2 * node_count net))) × (p v ≤ℤ pos (2 * node_count net))
 
 -- how much work has been done by the time that amounts x leave the excess e
-pub record IsWork (net : Net) (x : ℕ → ℕ) (e : ℕ → ℤ) (searches looks : ℕ) : Type 0 where
+pub record IsWork (net : NetworkModel) (x : ℕ → ℕ) (e : ℕ → ℤ) (searches looks : ℕ) : Type 0 where
   pub few : searches + left_over net e ≤ supply_sum net
   pub bounded : looks ≤ searches * (2 * arc_count net)
   pub carried : carrying net x ≤ looks
   pub begun : (1 ≤ searches) ⊎ ((v : ℕ) → v < node_count net → e v ≡ supply_at net v)
 
 -- what is so at the end: x is a flow, p shows that it costs least, and the work keeps its bounds
-pub record IsDone (net : Net) (x : ℕ → ℕ) (p : ℕ → ℤ) (searches looks : ℕ) : Type 0 where
+pub record IsDone (net : NetworkModel) (x : ℕ → ℕ) (p : ℕ → ℤ) (searches looks : ℕ) : Type 0 where
   pub flow : Flow net x
   pub potentials : HasPotentials net x p
   pub reach : IsWithinReach net p

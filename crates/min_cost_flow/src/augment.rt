@@ -3,7 +3,7 @@
 
 ghost use Rattle.std.specs.Prelude.{◌≡◌, ◌≢◌, ◌<◌, ◌≤◌, ◌==◌, ◌+◌, ◌^◌, ℕ, ℤ, if◌then◌else◌, length, pos, negsuc, ◌≤ℤ◌, ◌<ℤ◌, ◌+ℤ◌, ◌-ℤ◌};
 ghost use Rattle.networks.specs.declared.residual.TheConstants.{SHUT};
-ghost use Rattle.networks.specs.Net.{node_count, arc_count, arc_at, IsNetwork};
+ghost use Rattle.networks.specs.Networks.{node_count, arc_count, arc_at, IsNetwork};
 ghost use Rattle.networks.specs.Flow.{at_nodes};
 ghost use Rattle.networks.specs.Layout.{numbers, end_at, cost_at, StartsAt, IsLaidOut, IsFilled, carried, limit_of};
 ghost use Rattle.min_cost_flow.specs.Path.{HasPath};

@@ -2,7 +2,7 @@
 //! to its capacity at a cost of 0 or 1 each, and the solver sends all of them at least cost.
 //!
 //! The method keeps, from the first unit on, potentials under which no residual arc costs less than
-//! 0. (Ahuja, Magnanti, Orlin: Network Flows, 1993, section 9.7, successive shortest paths.)
+//! 0. (Successive shortest paths: Ahuja, Magnanti and Orlin, Network Flows, 1993.)
 #![tactic(auto)]
 
 mod augment;

@@ -1,7 +1,7 @@
 //! Solving anew, or going on from the flow that is there after supplies have moved.
 ghost use Rattle.std.specs.Prelude.{◌≡◌, ◌≢◌, ◌<◌, ◌≤◌, ◌+◌, ◌*◌, ◌^◌, ℕ, length, pos, negsuc, ◌≤ℤ◌, ◌<ℤ◌, ◌+ℤ◌, ◌-ℤ◌, true, false};
 ghost use Rattle.networks.specs.declared.network.TheConstants.{MAX_NODES};
-ghost use Rattle.networks.specs.Net.{arc_count, arc_at, node_count, IsNetwork, HasFairSupplies, shifted};
+ghost use Rattle.networks.specs.Networks.{arc_count, arc_at, node_count, IsNetwork, HasFairSupplies, shifted};
 ghost use Rattle.networks.specs.Flow.{at_nodes, HasNoFlow};
 ghost use Rattle.networks.specs.Layout.{numbers, limit_of, IsLaidOut, IsFilled, carried};
 ghost use Rattle.shortest_paths.specs.Search.{far};
@@ -59,7 +59,8 @@ fn write_all(numbers: &mut [i32], number: i32)
     }
 }
 
-/// Moves supply from one node to another and goes on from the flow that stands; whether there is one still.
+/// Lets node `from` supply so many units more, and node `to` so many less, and goes on from the flow that
+/// stands; whether there is one still.
 /// Where potentials have drifted too far apart, or an arc carries too much, it solves from nothing.
 pub(crate) fn resume(
     network: &mut Network,

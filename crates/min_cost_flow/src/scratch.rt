@@ -8,8 +8,11 @@ use networks::ResidualArc;
 use shortest_paths::FAR;
 use std::alloc::{AllocError, Global};
 
-/// Lists that a solve works in. One that was lent before is as good as a new one, and needs no memory for
-/// networks that are no larger than those before.
+/// Lists that a solve works in, to be used again. What they hold between two solves is of no use.
+///
+/// A solution takes two of the lists with it. Where each solution is given back before the next solve, none
+/// takes memory for a network with no more nodes and no more arcs than one before it had; where one is not,
+/// the next solve takes memory for these two lists alone.
 #[derive(Drop)]
 pub struct Scratch {
     pub(crate) flow: Vec<u32>,
@@ -49,10 +52,10 @@ impl Scratch {
         ensures counts { OnOk result (self.new.counts.items ≡ replicate (4 * arc_count + 4 * nodes + 1) 0) }
         ensures units { OnOk result (self.new.units.items ≡ replicate (3 * nodes) far) }
     {
-        let shut = ResidualArc { end: 0, cost: 0 };
+        let blank = ResidualArc { end: 0, cost: 0 };
         refill(&mut self.flow, 0, arc_count)?;
         refill(&mut self.potential, 0, nodes)?;
-        refill(&mut self.arcs, shut, 2 * arc_count)?;
+        refill(&mut self.arcs, blank, 2 * arc_count)?;
         refill(&mut self.counts, 0, 4 * arc_count + 4 * nodes + 1)?;
         refill(&mut self.units, FAR, 3 * nodes)
     }

@@ -1,5 +1,5 @@
 ghost use Rattle.std.specs.Prelude.{◌≡◌, ◌<◌, length, slice_index};
-ghost use Rattle.networks.specs.Flow.{Answer, at_nodes};
+ghost use Rattle.networks.specs.Flow.{SolvedModel, at_nodes};
 
 use crate::scratch::Scratch;
 use std::marker::Model;
@@ -14,7 +14,7 @@ pub struct Solved {
 }
 
 impl Model for Solved {
-    ghost Value = { Answer };
+    ghost Value = { SolvedModel };
 
     ghost view = { λ s. record { flow = s.flow.items; potential = s.potential.items; searches = s.searches; looks = s.looks } };
 }
@@ -32,7 +32,7 @@ impl Solved {
         }
     }
 
-    /// Hands the memory of this answer back to that which it was made in.
+    /// Gives the two lists of this solution back to be used again. It takes no memory.
     pub fn give_back(self, scratch: &mut Scratch) {
         scratch.flow = self.flow;
         scratch.potential = self.potential;
@@ -61,7 +61,7 @@ impl Solved {
         self.searches
     }
 
-    /// How many times a residual arc was tested, in all searches.
+    /// How many times a residual arc was looked at, in all searches.
     pub fn looks(&self) -> u64
         ensures { result ≡ self.now.looks }
     {

@@ -2,7 +2,7 @@
 ghost use Rattle.std.specs.Prelude.{◌≡◌, ◌≢◌, ◌<◌, ◌≤◌, ◌+◌, ◌*◌, ◌^◌, ℕ, ℤ, List, length, pos, negsuc, ◌≤ℤ◌, ◌<ℤ◌, ◌+ℤ◌, ◌-ℤ◌, IfOk, IfErr, IfSome, IfNone, true, false};
 ghost use Rattle.networks.specs.declared.network.TheConstants.{MAX_ARCS, MAX_NODES};
 ghost use Rattle.min_cost_flow.specs.declared.solver.SolveFault.TheVariants.{Memory};
-ghost use Rattle.networks.specs.Net.{arc_count, arc_at, node_count, supply_at, IsNetwork};
+ghost use Rattle.networks.specs.Networks.{arc_count, arc_at, node_count, supply_at, IsNetwork};
 ghost use Rattle.networks.specs.Flow.{amounts, at_nodes, Flow, HasPotentials, HasNoFlow, Solves};
 ghost use Rattle.networks.specs.Layout.{numbers, limit_of, IsLaidOut, IsFilled, carried};
 ghost use Rattle.shortest_paths.specs.Search.{far, IsPut};
@@ -64,8 +64,8 @@ pub fn solve(alloc: Global, network: &Network) -> Result<Solved, SolveFault>
     solve_in(alloc, &mut scratch, network)
 }
 
-/// The same as [`solve`], in memory that is lent. The answer takes its two lists with it; they can be given
-/// back by [`Solved::give_back`].
+/// The same as [`solve`], in memory that is lent. The solution takes its two lists with it; they can be given
+/// back by [`Solved::give_back`]. Where there is no solution, all lists are left.
 pub fn solve_in(
     alloc: Global,
     scratch: &mut Scratch,
@@ -201,8 +201,8 @@ pub(crate) fn has_deficit(excess: &[i32]) -> bool
     excess.iter().any(|units| *units < 0)
 }
 
-/// Ranks each node for ties among those that are as near: what it wants, less what can come to it at
-/// no cost from where units are supplied. No result rests on it.
+/// Scores each node for ties among those that are as near: its supply, and what is supplied where arcs of
+/// cost 0 to it start. The least score comes first. No result rests on it.
 pub(crate) fn rank(network: &Network, score: &mut [i32])
     requires network { IsNetwork network.now }
     requires size { length score.old ≡ node_count network.now }

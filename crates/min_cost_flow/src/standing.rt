@@ -1,6 +1,6 @@
 //! A flow of least cost that stands while supplies move.
 ghost use Rattle.std.specs.Prelude.{◌≡◌, ◌<◌, ◌≤◌, ◌^◌, IfOk, IfErr, IfSome, IfNone, ℕ, length};
-ghost use Rattle.networks.specs.Net.{Net, node_count, arc_count, shifted, HasFairSupplies, IsNetwork};
+ghost use Rattle.networks.specs.Networks.{NetworkModel, node_count, arc_count, shifted, HasFairSupplies, IsNetwork};
 ghost use Rattle.networks.specs.Flow.{HasNoFlow, Solves, at_nodes, cost_of};
 ghost use Rattle.networks.specs.Layout.{numbers, carried};
 ghost use Rattle.min_cost_flow.specs.Lists.{HasNodeLists};
@@ -38,12 +38,12 @@ fn blank_lists(alloc: Global, network: &Network) -> Result<Lists, AllocError>
 {
     let nodes = network.node_count();
     let arc_count = network.arc_count();
-    let shut = ResidualArc { end: 0, cost: 0 };
+    let blank = ResidualArc { end: 0, cost: 0 };
     Ok(Lists {
         first: vec![in alloc; 0; nodes + 1]?,
         reverse: vec![in alloc; 0; 2 * arc_count]?,
         forward: vec![in alloc; 0; arc_count]?,
-        arcs: vec![in alloc; shut; 2 * arc_count]?,
+        arcs: vec![in alloc; blank; 2 * arc_count]?,
         room: vec![in alloc; 0; 2 * arc_count]?,
         potential: vec![in alloc; 0; nodes]?,
         excess: vec![in alloc; 0; nodes]?,
@@ -63,7 +63,7 @@ pub struct Standing {
 }
 
 impl Model for Standing {
-    ghost Value = { Net };
+    ghost Value = { NetworkModel };
 
     ghost view = { λ s. s.network };
 
@@ -99,8 +99,9 @@ impl Standing {
         Ok(Standing { network, lists })
     }
 
-    /// Moves supply from one node to another, and the flow follows at least cost; nothing where no
-    /// flow is left, and then the old one is gone too. No memory is taken.
+    /// Lets node `from` supply so many units more, and node `to` so many less, and the flow follows at
+    /// least cost; `None` where there is no flow any more, and then the old one is gone too. No memory is
+    /// taken.
     pub fn shift(self, from: u32, to: u32, amount: u32) -> Option<Standing>
         requires from { from < node_count self }
         requires to { to < node_count self }
@@ -140,10 +141,11 @@ impl Standing {
         &self.network
     }
 
-    /// The flow and its potentials, with no work counted.
+    /// The flow and its potentials, with no work counted, or `AllocError` where there is no memory for them.
     pub fn solved(&self, alloc: Global) -> Result<Solved, AllocError>
         ensures { IfOk result (λ solved. Solves self.now solved) }
     {
+        // Only the proof needs this: `node_count` says that the network is one.
         let _nodes = self.network.node_count();
         let mut flow = Vec::from_slice(alloc, &self.lists.forward)?;
         read_flow(&self.lists.reverse, &self.lists.room, &mut flow);

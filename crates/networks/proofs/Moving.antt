@@ -1,11 +1,11 @@
--- What moving units from one node to another leaves.
+-- What is left at each node once one has so many units more, and another so many less.
 use Rattle.std.proofs.Common.{◌≡◌, ◌<◌, ◌≤◌, ℕ, length, List, cond, eqb, sym, ◌∙◌, subst, inl, inr, get_or, arith}
 use Rattle.std.specs.Prelude.{ℤ, pos, negsuc, ◌+ℤ◌, ◌-ℤ◌, ◌≤ℤ◌}
 use Rattle.std.proofs.lemmas.Bool.{cases_eq, eq-eqb, ne_eqb, cond-true, cond-false}
 use Rattle.std.proofs.lemmas.Int.{ints}
 use Rattle.std.proofs.lemmas.List.{get_or-set_same, get_or-set_other, length-set}
 use Rattle.networks.specs.declared.network.TheConstants.{MAX_NODES}
-use Rattle.networks.specs.Net.{Net, arc_at, raised, lowered, moved, shifted, HasFairSupplies, IsNetwork}
+use Rattle.networks.specs.Networks.{NetworkModel, arc_at, raised, lowered, moved, shifted, HasFairSupplies, IsNetwork}
 
 abbrev pub at : List ℤ → ℕ → ℤ
 at units v = get_or units v (pos 0)
@@ -67,7 +67,7 @@ pub raised_low : (units : List ℤ) (f k v : ℕ) → f < length units → negsu
 raised_low units f k v b l = no_lower (at units v) (at (raised units f k) v) (cond {A = ℕ} (eqb v f) k 0) (raised_at units f k v b) l
 
 -- a network keeps being one while its supplies are fair
-pub still_network : (net : Net) (f t k : ℕ) → IsNetwork net → HasFairSupplies (shifted net f t k) → IsNetwork (shifted net f t k)
+pub still_network : (net : NetworkModel) (f t k : ℕ) → IsNetwork net → HasFairSupplies (shifted net f t k) → IsNetwork (shifted net f t k)
 still_network net f t k n fair =
     let same : length (moved net.supplies f t k) ≡ length net.supplies = length-moved net.supplies f t k in
     record {

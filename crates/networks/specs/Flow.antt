@@ -1,26 +1,25 @@
 -- Flows in a network, their residual arcs and reduced costs, and what a solution is.
--- (Ahuja, Magnanti, Orlin: Network Flows, 1993, chapters 2 and 9.)
 use Rattle.std.specs.Prelude.{ℕ, ◌*◌, ◌<◌, ◌≤◌, ◌==◌, ◌≡◌, ℤ, pos, ◌+ℤ◌, ◌-ℤ◌, ◌≤ℤ◌, Bool, true, false, if◌then◌else◌, List, length, slice_index, slice_index_or}
 use Rattle.sums.specs.Sums.{sum_below}
 use Rattle.networks.specs.declared.arc.Cap.{Cap}
 use Rattle.networks.specs.declared.arc.Cap.TheVariants.{AtMost, Any}
-use Rattle.networks.specs.Net.{Net, node_count, arc_count, arc_at, supply_at}
+use Rattle.networks.specs.Networks.{NetworkModel, node_count, arc_count, arc_at, supply_at}
 
 -- ---- flows: amounts x i by the arc's number i
 
 -- what leaves node v
-abbrev pub leaves : Net → (ℕ → ℕ) → ℕ → ℕ
+abbrev pub leaves : NetworkModel → (ℕ → ℕ) → ℕ → ℕ
 leaves net x v = sum_below (arc_count net) (λ i. if (arc_at net i).from == v then x i else 0)
 
 -- what enters node v
-abbrev pub enters : Net → (ℕ → ℕ) → ℕ → ℕ
+abbrev pub enters : NetworkModel → (ℕ → ℕ) → ℕ → ℕ
 enters net x v = sum_below (arc_count net) (λ i. if (arc_at net i).to == v then x i else 0)
 
 -- what leaves v less what enters it
-abbrev pub balance : Net → (ℕ → ℕ) → ℕ → ℤ
+abbrev pub balance : NetworkModel → (ℕ → ℕ) → ℕ → ℤ
 balance net x v = pos (leaves net x v) -ℤ pos (enters net x v)
 
-abbrev pub cost_of : Net → (ℕ → ℕ) → ℕ
+abbrev pub cost_of : NetworkModel → (ℕ → ℕ) → ℕ
 cost_of net x = sum_below (arc_count net) (λ i. (arc_at net i).cost * x i)
 
 -- the amount is within the capacity
@@ -29,15 +28,15 @@ IsWithin (AtMost k) amount = amount ≤ k
 IsWithin Any amount = Unit {0}
 
 -- x is a flow: it keeps the capacities, and each node sends out its supply
-pub record Flow (net : Net) (x : ℕ → ℕ) : Type 0 where
+pub record Flow (net : NetworkModel) (x : ℕ → ℕ) : Type 0 where
   pub within : (i : ℕ) → i < arc_count net → IsWithin (arc_at net i).cap (x i)
   pub meets : (v : ℕ) → v < node_count net → balance net x v ≡ supply_at net v
 
-abbrev pub HasNoFlow : Net → Type 0
+abbrev pub HasNoFlow : NetworkModel → Type 0
 HasNoFlow net = (y : ℕ → ℕ) → Flow net y → ⊥
 
 -- no flow costs less
-abbrev pub IsLeastCost : Net → (ℕ → ℕ) → Type 0
+abbrev pub IsLeastCost : NetworkModel → (ℕ → ℕ) → Type 0
 IsLeastCost net x = (y : ℕ → ℕ) → Flow net y → cost_of net x ≤ cost_of net y
 
 -- ---- residual arcs: arc i along itself where `back` is false, against itself where it is true
@@ -48,36 +47,36 @@ HasRoom (AtMost k) amount = amount < k
 HasRoom Any amount = Unit {0}
 
 -- one more unit can go along the residual arc
-abbrev pub IsResidual : Net → (ℕ → ℕ) → ℕ → Bool → Type 0
+abbrev pub IsResidual : NetworkModel → (ℕ → ℕ) → ℕ → Bool → Type 0
 IsResidual net x i false = HasRoom (arc_at net i).cap (x i)
 IsResidual net x i true = 0 < x i
 
-abbrev pub start_of : Net → ℕ → Bool → ℕ
+abbrev pub start_of : NetworkModel → ℕ → Bool → ℕ
 start_of net i false = (arc_at net i).from
 start_of net i true = (arc_at net i).to
 
-abbrev pub end_of : Net → ℕ → Bool → ℕ
+abbrev pub end_of : NetworkModel → ℕ → Bool → ℕ
 end_of net i false = (arc_at net i).to
 end_of net i true = (arc_at net i).from
 
 -- what a unit along the residual arc adds to the cost
-abbrev pub price_of : Net → ℕ → Bool → ℤ
-price_of net i false = pos (arc_at net i).cost
-price_of net i true = pos 0 -ℤ pos (arc_at net i).cost
+abbrev pub unit_cost : NetworkModel → ℕ → Bool → ℤ
+unit_cost net i false = pos (arc_at net i).cost
+unit_cost net i true = pos 0 -ℤ pos (arc_at net i).cost
 
 -- the same with the potential of its start more and that of its end less
-abbrev pub reduced_cost : Net → (ℕ → ℤ) → ℕ → Bool → ℤ
-reduced_cost net p i back = price_of net i back +ℤ p (start_of net i back) -ℤ p (end_of net i back)
+abbrev pub reduced_cost : NetworkModel → (ℕ → ℤ) → ℕ → Bool → ℤ
+reduced_cost net p i back = unit_cost net i back +ℤ p (start_of net i back) -ℤ p (end_of net i back)
 
 -- each residual arc costs at least 0 under the potentials
-pub record HasPotentials (net : Net) (x : ℕ → ℕ) (p : ℕ → ℤ) : Type 0 where
+pub record HasPotentials (net : NetworkModel) (x : ℕ → ℕ) (p : ℕ → ℤ) : Type 0 where
   pub residual : (i : ℕ) (back : Bool) → i < arc_count net → IsResidual net x i back → pos 0 ≤ℤ reduced_cost net p i back
 
 -- ---- solutions
 
--- an amount for each arc, a potential for each node, and how much work it took: the searches for a
--- path, and the tests of a residual arc in them
-pub record Answer : Type 0 where
+-- a solution: an amount for each arc, a potential for each node, and how much work it took: the searches
+-- for a path, and the looks at residual arcs in them
+pub record SolvedModel : Type 0 where
   pub flow : List ℕ
   pub potential : List ℤ
   pub searches : ℕ
@@ -90,9 +89,9 @@ abbrev pub at_nodes : List ℤ → ℕ → ℤ
 at_nodes ps v = slice_index_or ps v (pos 0)
 
 -- a flow of least cost, with potentials that show it
-pub record Solves (net : Net) (answer : Answer) : Type 0 where
-  pub flow_count : length answer.flow ≡ arc_count net
-  pub potential_count : length answer.potential ≡ node_count net
-  pub flow : Flow net (amounts answer.flow)
-  pub potentials : HasPotentials net (amounts answer.flow) (at_nodes answer.potential)
-  pub least : IsLeastCost net (amounts answer.flow)
+pub record Solves (net : NetworkModel) (solved : SolvedModel) : Type 0 where
+  pub flow_count : length solved.flow ≡ arc_count net
+  pub potential_count : length solved.potential ≡ node_count net
+  pub flow : Flow net (amounts solved.flow)
+  pub potentials : HasPotentials net (amounts solved.flow) (at_nodes solved.potential)
+  pub least : IsLeastCost net (amounts solved.flow)

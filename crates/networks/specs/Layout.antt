@@ -4,8 +4,8 @@ use Rattle.networks.specs.declared.residual.TheConstants.{SHUT}
 use Rattle.networks.specs.declared.arc.Cap.{Cap}
 use Rattle.networks.specs.declared.arc.Cap.TheVariants.{AtMost, Any}
 use Rattle.networks.specs.declared.residual.ResidualArc.{ResidualArc}
-use Rattle.networks.specs.Net.{Net, node_count, arc_count, arc_at}
-use Rattle.networks.specs.Flow.{start_of, end_of, price_of}
+use Rattle.networks.specs.Networks.{NetworkModel, node_count, arc_count, arc_at}
+use Rattle.networks.specs.Flow.{start_of, end_of, unit_cost}
 
 abbrev pub numbers : List ℕ → ℕ → ℕ
 numbers xs i = slice_index xs i
@@ -31,7 +31,7 @@ place_of reverse forward i false = numbers forward i
 place_of reverse forward i true = numbers reverse (numbers forward i)
 
 -- number k is that of a residual arc that starts at node v
-pub record HasOrigin (net : Net) (reverse forward : List ℕ) (v k : ℕ) : Type 0 where
+pub record HasOrigin (net : NetworkModel) (reverse forward : List ℕ) (v k : ℕ) : Type 0 where
   pub arc : ℕ
   pub back : Bool
   pub inside : arc < arc_count net
@@ -39,7 +39,7 @@ pub record HasOrigin (net : Net) (reverse forward : List ℕ) (v k : ℕ) : Type
   pub start : start_of net arc back ≡ v
 
 -- each residual arc has a number of its own, and those that start at a node are side by side
-pub record IsLaidOut (net : Net) (first reverse forward : List ℕ) : Type 0 where
+pub record IsLaidOut (net : NetworkModel) (first reverse forward : List ℕ) : Type 0 where
   pub starts : length first ≡ node_count net + 1
   pub reverses : length reverse ≡ arc_count net + arc_count net
   pub forwards : length forward ≡ arc_count net
@@ -55,12 +55,12 @@ abbrev pub limit_of : Cap → ℕ
 limit_of (AtMost k) = k
 limit_of Any = 2 ^ 30
 
--- what fits along each residual arc, its end, and its price, which is raised while nothing fits
-pub record IsFilled (net : Net) (reverse forward : List ℕ) (arcs : List ResidualArc) (room : List ℕ) : Type 0 where
+-- what fits along each residual arc, its end, and what a unit along it costs, with `SHUT` more while nothing fits
+pub record IsFilled (net : NetworkModel) (reverse forward : List ℕ) (arcs : List ResidualArc) (room : List ℕ) : Type 0 where
   pub arc_size : length arcs ≡ arc_count net + arc_count net
   pub room_size : length room ≡ arc_count net + arc_count net
   pub end : (i : ℕ) (back : Bool) → i < arc_count net → end_at arcs (place_of reverse forward i back) ≡ end_of net i back
-  pub cost : (i : ℕ) (back : Bool) → i < arc_count net → cost_at arcs (place_of reverse forward i back) ≡ (if numbers room (place_of reverse forward i back) == 0 then price_of net i back +ℤ SHUT else price_of net i back)
+  pub cost : (i : ℕ) (back : Bool) → i < arc_count net → cost_at arcs (place_of reverse forward i back) ≡ (if numbers room (place_of reverse forward i back) == 0 then unit_cost net i back +ℤ SHUT else unit_cost net i back)
   pub fits : (i : ℕ) → i < arc_count net → numbers room (place_of reverse forward i false) + numbers room (place_of reverse forward i true) ≡ limit_of (arc_at net i).cap
 
 -- what an arc carries is what fits back along it

@@ -1,4 +1,4 @@
-pub mod Net
+pub mod Networks
 pub mod Fault
 pub mod Flow
 pub mod Layout

@@ -1,6 +1,6 @@
 ghost use Rattle.std.specs.Prelude.{◌≡◌, [], true, false};
 ghost use Rattle.networks.specs.Fault.{HasFault};
-ghost use Rattle.networks.specs.Net.{net_of, HasEnds, HasFairSupplies, HasUnitCosts};
+ghost use Rattle.networks.specs.Networks.{net_of, HasEnds, HasFairSupplies, HasUnitCosts};
 
 use crate::arc::Arc;
 use thiserror::Error;

@@ -1,5 +1,5 @@
 ghost use Rattle.std.specs.Prelude.{◌≡◌, ◌<◌, ◌≤◌, IfOk, IfErr};
-ghost use Rattle.networks.specs.Net.{Net, net_of, node_count, arc_count, arc_at, supply_at, shifted, HasFairSupplies, IsNetwork};
+ghost use Rattle.networks.specs.Networks.{NetworkModel, net_of, node_count, arc_count, arc_at, supply_at, shifted, HasFairSupplies, IsNetwork};
 
 use crate::arc::Arc;
 use crate::fault::{NetFault, has_bad_cost, has_bad_end, has_bad_supply};
@@ -22,7 +22,7 @@ pub struct Network {
 }
 
 impl Model for Network {
-    ghost Value = { Net };
+    ghost Value = { NetworkModel };
 
     ghost view = { λ net. net_of net.supplies.items net.arcs.items };
 
@@ -95,7 +95,7 @@ impl Network {
         self.supplies[node as usize]
     }
 
-    /// Lets one node supply so many units more, and another one so many less.
+    /// Lets node `from` supply so many units more, and node `to` so many less. It takes no memory.
     pub fn shift(&mut self, from: u32, to: u32, amount: u32)
         requires from { from < node_count self.old }
         requires to { to < node_count self.old }
@@ -114,7 +114,7 @@ impl Network {
         (self.supplies, self.arcs)
     }
 
-    /// The same network again, its lists in memory of the same kind.
+    /// The same network again, or `AllocError` where there is no memory for its lists.
     pub fn copy(&self) -> Result<Network, AllocError>
         ensures { IfOk result (λ net. net ≡ self.now) }
     {

@@ -27,7 +27,7 @@ pub struct Layout<'a> {
     pub forward: &'a [u32],
 }
 
-/// One look at a residual arc: the only place where a search reads one.
+/// The residual arc of a number; the look at it is counted. A search reads residual arcs here alone.
 pub fn look(arcs: &[ResidualArc], number: usize, looks: &mut u64) -> ResidualArc
     requires number { number < length arcs.now }
     requires few { looks.old < 2 ^ 63 }

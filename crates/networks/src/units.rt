@@ -1,8 +1,8 @@
-//! Units by node, and how some move from one node to another.
+//! Units by node: so many more at one node, and so many less at another.
 ghost use Rattle.std.specs.Prelude.{◌≡◌, ◌<◌, ◌≤◌, ℕ, pos, negsuc, ◌≤ℤ◌, length, slice_index_or};
-ghost use Rattle.networks.specs.Net.{moved, raised, lowered};
+ghost use Rattle.networks.specs.Networks.{moved, raised, lowered};
 
-/// Moves units from one node to another: the one is given so many more, and the other so many less.
+/// Gives node `from` so many units more, and node `to` so many less. It takes no memory.
 pub fn move_units(units: &mut [i32], from: u32, to: u32, amount: u32)
     requires from { from < length units.old }
     requires to { to < length units.old }

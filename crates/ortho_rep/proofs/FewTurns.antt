@@ -12,7 +12,7 @@ use Rattle.faces.specs.Planes.{PlaneModel, HasEnds, darts, vertices, head, rever
 use Rattle.ortho_rep.specs.Turns.{lefts, rights}
 use Rattle.ortho_rep.specs.Representation.{Rep, whole_turn}
 use Rattle.ortho_rep.specs.Prices.{IsPriced, Prove}
-use Rattle.ortho_rep.proofs.TurnLemmas.{lefts-add-rights}
+use Rattle.ortho_rep.proofs.TurnCounts.{lefts-add-rights}
 use Rattle.ortho_rep.proofs.WeakDuality.{weighed, part_at, paired, gains, losses, turning-split, lefts_of, rights_are}
 
 -- 1 where the price is at most k

@@ -8,7 +8,7 @@ use Rattle.sums.specs.Sums.{sum_below}
 use Rattle.sums.proofs.Sums.{sum_below-same, sum_below-add, sum_below-none, sum_below-split, sum_below-turned}
 use Rattle.faces.specs.Planes.{PlaneModel, HasEnds, darts, vertices, head, reverse_dart, face_at, degree}
 use Rattle.networks.specs.declared.arc.Arc.{Arc}
-use Rattle.networks.specs.Net.{Net, arc_count, arc_at}
+use Rattle.networks.specs.Networks.{NetworkModel, arc_count, arc_at}
 use Rattle.networks.specs.Flow.{Flow, HasPotentials, IsWithin, HasRoom, leaves, enters, balance}
 use Rattle.ortho_rep.specs.declared.turn.Turn.{Turn}
 use Rattle.ortho_rep.specs.declared.turn.Turn.TheVariants.{Left, Right}
@@ -19,7 +19,7 @@ use Rattle.ortho_rep.specs.OfFlow.{lefts_then_rights, angles_of, strings_of}
 use Rattle.ortho_rep.specs.Prices.{PricesModel, Prove, IsProof, vertex_price, face_price}
 use Rattle.ortho_rep.specs.Shapes.{ShapeModel, angle_at, turns_at}
 use Rattle.ortho_rep.proofs.FewTurns.{few_turns}
-use Rattle.ortho_rep.proofs.TurnLemmas.{lefts-cons, rights-cons}
+use Rattle.ortho_rep.proofs.TurnCounts.{lefts-cons, rights-cons}
 use Rattle.ortho_rep.proofs.WeakDuality.{part_at, gains, losses, turning-split, least_by_prices}
 use Rattle.ortho_rep.proofs.Alike.{rep-alike, prove-alike}
 
@@ -81,7 +81,7 @@ part-same m at y z k same =
     sum_below-same m (λ d. cond (eqb (at d) k) (y d) 0) (λ d. cond (eqb (at d) k) (z d) 0) (λ d b. ap (λ (w : ℕ). cond (eqb (at d) k) w 0) (same d))
 
 -- what leaves a node, and what enters it, by corners and by crossings
-leaves-parts : (p : PlaneModel) (net : Net) (x : ℕ → ℕ) (k : ℕ) → IsFaceNet p net → leaves net x k ≡ part_at (darts p) (λ d. head p d - 1) x k + part_at (darts p) (λ d. vertices p + face_at p d) (λ d. x (darts p + d)) k
+leaves-parts : (p : PlaneModel) (net : NetworkModel) (x : ℕ → ℕ) (k : ℕ) → IsFaceNet p net → leaves net x k ≡ part_at (darts p) (λ d. head p d - 1) x k + part_at (darts p) (λ d. vertices p + face_at p d) (λ d. x (darts p + d)) k
 leaves-parts p net x k is =
     let n = darts p in
     ap (λ (m : ℕ). sum_below m (λ i. cond (eqb (arc_at net i).from k) (x i) 0)) is.arcs
@@ -93,7 +93,7 @@ leaves-parts p net x k is =
     ap2_add : {a b c d : ℕ} → a ≡ b → c ≡ d → a + c ≡ b + d
     ap2_add e h = omega (arith, e, h)
 
-enters-parts : (p : PlaneModel) (net : Net) (x : ℕ → ℕ) (k : ℕ) → IsFaceNet p net → enters net x k ≡ part_at (darts p) (λ d. vertices p + face_at p d) x k + part_at (darts p) (λ d. vertices p + face_at p (reverse_dart p d)) (λ d. x (darts p + d)) k
+enters-parts : (p : PlaneModel) (net : NetworkModel) (x : ℕ → ℕ) (k : ℕ) → IsFaceNet p net → enters net x k ≡ part_at (darts p) (λ d. vertices p + face_at p d) x k + part_at (darts p) (λ d. vertices p + face_at p (reverse_dart p d)) (λ d. x (darts p + d)) k
 enters-parts p net x k is =
     let n = darts p in
     ap (λ (m : ℕ). sum_below m (λ i. cond (eqb (arc_at net i).to k) (x i) 0)) is.arcs
@@ -106,7 +106,7 @@ enters-parts p net x k is =
     ap2_add e h = omega (arith, e, h)
 
 -- at a vertex: its corners carry what the angles have beyond 1
-around_vertex : (p : PlaneModel) (net : Net) (x : ℕ → ℕ) (v : ℕ) → HasEnds p → IsFaceNet p net → Flow net x → 1 ≤ v → v ≤ vertices p → angles_around p (angles_of x) v ≡ 4
+around_vertex : (p : PlaneModel) (net : NetworkModel) (x : ℕ → ℕ) (v : ℕ) → HasEnds p → IsFaceNet p net → Flow net x → 1 ≤ v → v ≤ vertices p → angles_around p (angles_of x) v ≡ 4
 around_vertex p net x v ends is flow from to =
     let n = darts p in
     let k = v - 1 in
@@ -120,7 +120,7 @@ around_vertex p net x v ends is flow from to =
     omega (arith, ints, corners, out, in_corner, in_crossing, meets, angles, leaves-parts p net x k is, enters-parts p net x k is)
 
 -- at a face: its turning is what its corners and crossings carry
-around_face : (p : PlaneModel) (net : Net) (x : ℕ → ℕ) (f : ℕ) → HasEnds p → IsFaceNet p net → Flow net x → f < p.faces → turning_around p (angles_of x) (strings_of p x) f ≡ whole_turn p f
+around_face : (p : PlaneModel) (net : NetworkModel) (x : ℕ → ℕ) (f : ℕ) → HasEnds p → IsFaceNet p net → Flow net x → f < p.faces → turning_around p (angles_of x) (strings_of p x) f ≡ whole_turn p f
 around_face p net x f ends is flow below =
     let n = darts p in
     let k = vertices p + f in
@@ -166,7 +166,7 @@ around_face p net x f ends is flow below =
     )
 
 -- a flow is a representation
-pub rep_of_flow : (p : PlaneModel) (net : Net) (x : ℕ → ℕ) → HasEnds p → IsFaceNet p net → Flow net x → Rep p (angles_of x) (strings_of p x)
+pub rep_of_flow : (p : PlaneModel) (net : NetworkModel) (x : ℕ → ℕ) → HasEnds p → IsFaceNet p net → Flow net x → Rep p (angles_of x) (strings_of p x)
 rep_of_flow p net x ends is flow = record {
   angles = λ d b. (omega arith, angle_within d b);
   strings = λ d b. ap (λ (e : ℕ). lefts_then_rights (x (darts p + reverse_dart p d)) (x (darts p + e))) (ends.reverse_dart_back d b) ∙ sym (mirrored-run (x (darts p + d)) (x (darts p + reverse_dart p d)));
@@ -186,7 +186,7 @@ fits arc q amount =
     × (0 < amount → pos 0 ≤ℤ ((pos 0 -ℤ pos arc.cost) +ℤ q arc.to -ℤ q arc.from))
 
 -- potentials are prices that prove it
-pub prove_of_potentials : (p : PlaneModel) (net : Net) (x : ℕ → ℕ) (q : ℕ → ℤ) → HasEnds p → IsFaceNet p net → HasPotentials net x q → Prove p (angles_of x) (strings_of p x) (λ v. q (v - 1)) (λ f. q (vertices p + f))
+pub prove_of_potentials : (p : PlaneModel) (net : NetworkModel) (x : ℕ → ℕ) (q : ℕ → ℤ) → HasEnds p → IsFaceNet p net → HasPotentials net x q → Prove p (angles_of x) (strings_of p x) (λ v. q (v - 1)) (λ f. q (vertices p + f))
 prove_of_potentials p net x q ends is fit = λ d b.
     let at : (i : ℕ) → i < arc_count net → fits (arc_at net i) q (x i) = λ i c. (λ h. fit.residual i false c h, λ h. fit.residual i true c h) in
     let corner = subst (λ (arc : Arc). fits arc q (x d)) (is.corner d b) (at d (omega (arith, is.arcs))) in
@@ -199,12 +199,12 @@ prove_of_potentials p net x q ends is fit = λ d b.
     }
 
 -- a corner carries at most three units
-pub corner_few : (p : PlaneModel) (net : Net) (x : ℕ → ℕ) (d : ℕ) → IsFaceNet p net → Flow net x → d < darts p → x d ≤ 3
+pub corner_few : (p : PlaneModel) (net : NetworkModel) (x : ℕ → ℕ) (d : ℕ) → IsFaceNet p net → Flow net x → d < darts p → x d ≤ 3
 corner_few p net x d is flow b =
     subst (λ (arc : Arc). IsWithin arc.cap (x d)) (is.corner d b) (flow.within d (omega (arith, is.arcs)))
 
 -- the strings of a least-cost flow are short
-pub short_of_flow : (p : PlaneModel) (net : Net) (x : ℕ → ℕ) (q : ℕ → ℤ) → HasEnds p → vertices p ≤ 255 → IsFaceNet p net → Flow net x → HasPotentials net x q → (d : ℕ) → d < darts p → x (darts p + d) + x (darts p + reverse_dart p d) ≤ 6144
+pub short_of_flow : (p : PlaneModel) (net : NetworkModel) (x : ℕ → ℕ) (q : ℕ → ℤ) → HasEnds p → vertices p ≤ 255 → IsFaceNet p net → Flow net x → HasPotentials net x q → (d : ℕ) → d < darts p → x (darts p + d) + x (darts p + reverse_dart p d) ≤ 6144
 short_of_flow p net x q ends order is flow fit d b =
     omega (
       arith,
@@ -224,19 +224,19 @@ pub record IsOfFlow (p : PlaneModel) (x : ℕ → ℕ) (q : ℕ → ℤ) (shape 
   pub face : (f : ℕ) → f < p.faces → face_price t f ≡ q (vertices p + f)
 
 -- are a least representation, and prices that prove it
-pub shape_of_flow : (p : PlaneModel) (net : Net) (x : ℕ → ℕ) (q : ℕ → ℤ) (shape : ShapeModel) (t : PricesModel) → HasEnds p → IsFaceNet p net → Flow net x → IsOfFlow p x q shape t → IsShape p shape
+pub shape_of_flow : (p : PlaneModel) (net : NetworkModel) (x : ℕ → ℕ) (q : ℕ → ℤ) (shape : ShapeModel) (t : PricesModel) → HasEnds p → IsFaceNet p net → Flow net x → IsOfFlow p x q shape t → IsShape p shape
 shape_of_flow p net x q shape t ends is flow found = record {
   lengths = record { angles = found.angle_count; strings = found.string_count };
   rep = rep-alike p (angles_of x) (angle_at shape) (strings_of p x) (turns_at shape) ends found.angle found.string (rep_of_flow p net x ends is flow);
 }
 
-pub proof_of_flow : (p : PlaneModel) (net : Net) (x : ℕ → ℕ) (q : ℕ → ℤ) (shape : ShapeModel) (t : PricesModel) → HasEnds p → IsFaceNet p net → HasPotentials net x q → IsOfFlow p x q shape t → IsProof p shape t
+pub proof_of_flow : (p : PlaneModel) (net : NetworkModel) (x : ℕ → ℕ) (q : ℕ → ℤ) (shape : ShapeModel) (t : PricesModel) → HasEnds p → IsFaceNet p net → HasPotentials net x q → IsOfFlow p x q shape t → IsProof p shape t
 proof_of_flow p net x q shape t ends is fit found = record {
   lengths = record { angles = found.angle_count; strings = found.string_count };
   prices = record { vertices = found.vertex_count; faces = found.face_count };
   prove = prove-alike p (angles_of x) (angle_at shape) (strings_of p x) (turns_at shape) (λ v. q (v - 1)) (vertex_price t) (λ f. q (vertices p + f)) (face_price t) ends found.angle found.string (λ v from to. found.vertex (v - 1) (omega arith)) found.face (prove_of_potentials p net x q ends is fit);
 }
 
-pub least_of_flow : (p : PlaneModel) (net : Net) (x : ℕ → ℕ) (q : ℕ → ℤ) (shape : ShapeModel) (t : PricesModel) → HasEnds p → IsFaceNet p net → Flow net x → HasPotentials net x q → IsOfFlow p x q shape t → IsLeast p shape
+pub least_of_flow : (p : PlaneModel) (net : NetworkModel) (x : ℕ → ℕ) (q : ℕ → ℤ) (shape : ShapeModel) (t : PricesModel) → HasEnds p → IsFaceNet p net → Flow net x → HasPotentials net x q → IsOfFlow p x q shape t → IsLeast p shape
 least_of_flow p net x q shape t ends is flow fit found =
     least_by_prices p (angle_at shape) (turns_at shape) (vertex_price t) (face_price t) ends (shape_of_flow p net x q shape t ends is flow found).rep (proof_of_flow p net x q shape t ends is fit found).prove

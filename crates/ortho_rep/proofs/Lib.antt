@@ -1,5 +1,5 @@
-mod Vectors
-pub mod TurnLemmas
+mod SmallPlanes
+pub mod TurnCounts
 pub mod WeakDuality
 pub mod Pieces
 pub mod EdgeNumbers

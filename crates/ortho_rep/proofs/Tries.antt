@@ -9,7 +9,7 @@ use Rattle.sums.specs.Sums.{sum_below}
 use Rattle.sums.proofs.Sums.{sum_below-same, sum_below-none, sum_below-split}
 use Rattle.faces.specs.Planes.{PlaneModel, IsPlane, HasEnds, darts, vertices, reverse_dart, with_outer}
 use Rattle.networks.specs.declared.arc.Arc.{Arc}
-use Rattle.networks.specs.Net.{Net, arc_at}
+use Rattle.networks.specs.Networks.{NetworkModel, arc_at}
 use Rattle.networks.specs.Flow.{Flow, at_nodes, cost_of}
 use Rattle.min_cost_flow.specs.Stand.{IsShown}
 use Rattle.flow_network.specs.FaceNet.{IsFaceNet}
@@ -104,7 +104,7 @@ tried_next p lead other face ahead all here =
     below_more _ _ (λ f b. no_better_still p other.bends other.face lead.bends lead.face f ahead.fewer ahead.first (all f b)) here
 
 -- the bends of a flow are what it costs
-pub bends_are_cost : (p : PlaneModel) (net : Net) (x : ℕ → ℕ) → HasEnds p → IsFaceNet p net → Flow net x → bends_of (darts p) (strings_of p x) ≡ cost_of net x
+pub bends_are_cost : (p : PlaneModel) (net : NetworkModel) (x : ℕ → ℕ) → HasEnds p → IsFaceNet p net → Flow net x → bends_of (darts p) (strings_of p x) ≡ cost_of net x
 bends_are_cost p net x ends is flow =
     let n = darts p in
     let left : ℕ → ℕ = λ d. x (n + d) in
@@ -126,11 +126,11 @@ bends_are_cost p net x ends is flow =
     once k = omega arith
 
 -- what a flow of least cost shows of the plane's outer face
-pub rep_of_cost : (p : PlaneModel) (net : Net) (bends : ℕ) (ps : List ℤ) → HasEnds p → IsFaceNet p net → IsShown net bends ps → HasRep p bends
+pub rep_of_cost : (p : PlaneModel) (net : NetworkModel) (bends : ℕ) (ps : List ℤ) → HasEnds p → IsFaceNet p net → IsShown net bends ps → HasRep p bends
 rep_of_cost p net bends ps ends is shown =
     (angles_of shown.amounts, strings_of p shown.amounts, rep_of_flow p net shown.amounts ends is shown.flow, bends_are_cost p net shown.amounts ends is shown.flow ∙ shown.costs)
 
-pub needs_cost : (p : PlaneModel) (net : Net) (bends : ℕ) (ps : List ℤ) → HasEnds p → IsFaceNet p net → IsShown net bends ps → NeedsBends p bends
+pub needs_cost : (p : PlaneModel) (net : NetworkModel) (bends : ℕ) (ps : List ℤ) → HasEnds p → IsFaceNet p net → IsShown net bends ps → NeedsBends p bends
 needs_cost p net bends ps ends is shown = λ a s rep.
     let x = shown.amounts in
     let own = rep_of_flow p net x ends is shown.flow in
@@ -138,7 +138,7 @@ needs_cost p net bends ps ends is shown = λ a s rep.
     omega (arith, least.least a s rep, bends_are_cost p net x ends is shown.flow, shown.costs)
 
 -- and its potentials prove a bound for each face
-pub bound_of_potentials : (p : PlaneModel) (net : Net) (bends : ℕ) (ps : List ℤ) (face bound : ℕ) (own other : ℤ) → HasEnds p → p.outer < p.faces → face < p.faces → IsFaceNet p net → IsShown net bends ps → own ≡ at_nodes ps (vertices p + p.outer) → other ≡ at_nodes ps (vertices p + face) → (bound ≡ 0) ⊎ (pos bound ≡ pos bends +ℤ pos 8 *ℤ (other -ℤ own)) → NeedsBends (with_outer p face) bound
+pub bound_of_potentials : (p : PlaneModel) (net : NetworkModel) (bends : ℕ) (ps : List ℤ) (face bound : ℕ) (own other : ℤ) → HasEnds p → p.outer < p.faces → face < p.faces → IsFaceNet p net → IsShown net bends ps → own ≡ at_nodes ps (vertices p + p.outer) → other ≡ at_nodes ps (vertices p + face) → (bound ≡ 0) ⊎ (pos bound ≡ pos bends +ℤ pos 8 *ℤ (other -ℤ own)) → NeedsBends (with_outer p face) bound
 bound_of_potentials p net bends ps face bound own other ends outer inside is shown of_own of_other (inl none) = λ a s rep. omega arith
 bound_of_potentials p net bends ps face bound own other ends outer inside is shown of_own of_other (inr sum) = λ a s rep.
     let x = shown.amounts in

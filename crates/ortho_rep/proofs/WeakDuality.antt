@@ -13,7 +13,7 @@ use Rattle.faces.specs.Planes.{PlaneModel, HasEnds, darts, vertices, head, rever
 use Rattle.ortho_rep.specs.Turns.{lefts, rights}
 use Rattle.ortho_rep.specs.Representation.{Rep, Least, bends_of, turning_of, turning_around, whole_turn}
 use Rattle.ortho_rep.specs.Prices.{IsPriced, Prove}
-use Rattle.ortho_rep.proofs.TurnLemmas.{lefts-add-rights, lefts-mirrored}
+use Rattle.ortho_rep.proofs.TurnCounts.{lefts-add-rights, lefts-mirrored}
 
 -- the sum of x, each number weighed by w
 abbrev pub weighed : ℕ → (ℕ → ℕ) → (ℕ → ℕ) → ℕ

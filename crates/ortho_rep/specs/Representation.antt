@@ -24,7 +24,7 @@ turning_around p a s f = total_below (darts p) (λ d. if face_at p d == f then t
 abbrev pub whole_turn : PlaneModel → ℕ → ℤ
 whole_turn p f = if f == p.outer then negsuc 3 else pos 4
 
--- an orthogonal representation of p with its outer face (Tamassia 1987)
+-- an orthogonal representation of p with its outer face
 pub record Rep (p : PlaneModel) (a : ℕ → ℕ) (s : ℕ → List Turn) : Type 0 where
   pub angles : (d : ℕ) → d < darts p → (1 ≤ a d) × (a d ≤ 4)
   pub strings : (d : ℕ) → d < darts p → s (reverse_dart p d) ≡ mirrored (s d)

@@ -47,8 +47,8 @@ const MAX_FACES: usize = 257;
 ///
 /// # Errors
 ///
-/// `AllocError` where there is no memory for a network, its flow or the answer. The plane is then what
-/// it was.
+/// `AllocError` where there is no memory for a network, its flow, the shape or the prices. The plane is then
+/// what it was.
 pub fn best_shape(alloc: Global, plane: &mut Plane) -> Result<(Shape, Prices), AllocError>
     ensures turned { OnOk result (plane.new ≡ with_outer plane.old plane.new.outer) }
     ensures best { OnOk result (IsBest plane.new) }
@@ -67,7 +67,7 @@ pub fn best_shape(alloc: Global, plane: &mut Plane) -> Result<(Shape, Prices), A
     }
 }
 
-/// The same, but where memory runs out some face is left outside.
+/// The same, but where memory runs out some face that was tried may be left as the outer one.
 fn best_found(alloc: Global, plane: &mut Plane) -> Result<(Shape, Prices), AllocError>
     ensures turned { plane.new ≡ with_outer plane.old plane.new.outer }
     ensures best { OnOk result (IsBest plane.new) }
@@ -272,7 +272,8 @@ fn bound(plane: &Plane, walk: &Walk, bends: u64, potentials: &[i32], face: u16) 
     dearer(bends, own, other)
 }
 
-/// So many bends, and eight more for each unit by which one potential is above another.
+/// So many bends, and eight more for each unit by which the other potential is above the own one, or eight
+/// fewer for each by which it is below, but not less than 0.
 fn dearer(bends: u64, own: i32, other: i32) -> u64
     requires few { bends < 2 ^ 48 }
     ensures { (result ≡ 0) ⊎ (pos result ≡ pos bends +ℤ pos 8 *ℤ (other -ℤ own)) }

@@ -25,7 +25,7 @@ use std::alloc::{AllocError, Global};
 ///
 /// # Errors
 ///
-/// `AllocError` where there is no memory for the network, its flow or the answer.
+/// `AllocError` where there is no memory for the network, its flow, the shape or the prices.
 pub fn least_shape(alloc: Global, plane: &Plane) -> Result<(Shape, Prices), AllocError>
     ensures shape { IfOk result (λ found. IsShape plane.now found.0) }
     ensures least { IfOk result (λ found. IsLeast plane.now found.0) }

@@ -1,4 +1,5 @@
-//! Orthogonal representations of a plane: shapes, prices that prove a shape least, and their tests.
+//! Orthogonal representations of a plane: shapes, prices that prove a shape least, and their tests; and points
+//! for the vertices and corners of a drawing.
 #![tactic(auto)]
 
 mod best;

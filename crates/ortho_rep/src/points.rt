@@ -1,4 +1,4 @@
-//! Points of the plane, and those that draw a graph's vertices and corners.
+//! Points of the grid, and those of a plane's vertices and corners.
 
 ghost use Rattle.std.specs.Prelude.{◌≡◌, ◌<◌, ◌≤◌, length};
 ghost use Rattle.ortho_rep.specs.Points.{vertex_point, corners_at, point_lists};

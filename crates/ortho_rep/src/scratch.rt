@@ -2,8 +2,11 @@
 
 use std::alloc::Global;
 
-/// What finding a least shape takes memory for and does not keep. One that was lent before is as good as a
-/// new one, and needs no memory for planes that are no larger than those before.
+/// What finding a least shape takes memory for and does not keep, to be used again. What it holds between two
+/// calls is of no use.
+///
+/// A call takes no more memory for it where a plane before had as many vertices, faces and darts or more. A call
+/// that found too little memory may lose what it was lent; the next one then takes it anew.
 #[derive(Drop)]
 pub struct Scratch {
     pub(crate) net: flow_network::Scratch,

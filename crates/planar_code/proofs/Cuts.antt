@@ -1,4 +1,4 @@
--- The longest list of whole records is one list, and any other is a front of it.
+-- The longest list of whole records is one list, and any other is a beginning of it.
 use Rattle.std.proofs.Common.{◌≡◌, ℕ, ◌+◌, ◌≤◌, List, [], ◌∷◌, ◌++◌, ◌⊎◌, inl, inr, length, All, refl, sym, ap, ◌∙◌, arith, append_assoc, append-nil, length-append}
 use Rattle.std.specs.List.{concat}
 use Rattle.std.proofs.lemmas.List.Elements.{All-head, All-tail, All-push}
@@ -40,7 +40,7 @@ front_of-stuck others records left rest each_o each_r e few (inl full) =
 front_of-stuck others records left rest each_o each_r e few (inr stops) =
     front_from 0 others records left rest each_o each_r e (omega arith) (inr stops)
 
--- a front is no longer than the whole
+-- a beginning is no longer than the whole
 pub length-front : (a b : List (List ℕ)) → ((more : List (List ℕ)) × (b ≡ a ++ more)) → length a ≤ length b
 length-front a b f = omega (arith, ap length f.1, length-append a f.0)
 

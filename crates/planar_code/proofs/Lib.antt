@@ -10,5 +10,5 @@ pub mod Stepping
 pub mod Reading
 pub mod Walking
 pub mod Plains
-pub mod TooLong
+pub mod Oversize
 pub mod Parsing

@@ -20,7 +20,7 @@ has_read-none p piece before running = record {
 }
 
 module _ (old mid : Place) (piece text : List ℕ) (before after : List (List ℕ)) (h : HasRead old piece text before after mid) where
-  -- the piece, where the next step takes a front of the text
+  -- the piece, where the next step takes a beginning of the text
   parts-more : (front back : List ℕ) → text ≡ front ++ back → piece ≡ (h.taken ++ front) ++ back
   parts-more front back e = h.parts ∙ ap (λ z. h.taken ++ z) e ∙ sym (append_assoc h.taken front back)
 
@@ -53,7 +53,7 @@ module _ (old mid : Place) (piece text : List ℕ) (before after : List (List �
       subst (λ z. Goes old z h.added (Failed f)) (sym h.parts)
       (subst (λ z. Goes old (h.taken ++ text) z (Failed f)) (append-nil h.added) (goes_on old mid (Failed f) h.taken text h.added [] h.goes g))
 
-  -- a lost record of a front of the text is one of the piece
+  -- a lost record of a beginning of the text is one of the piece
   loses-more : (front back : List ℕ) (lost : List ℕ) (next : Place) → text ≡ front ++ back → Goes mid front (lost ∷ []) next → LosesRecord old piece h.added
   loses-more front back lost next e g = record {
     front = h.taken ++ front;

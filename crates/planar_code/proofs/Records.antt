@@ -51,6 +51,6 @@ no_record-unfinished rest u first left r e =
     = append-nil (rest ++ u.missing) ∙ ap (λ z. z ++ u.missing) e ∙ append_assoc first left u.missing in
     u.more (nothing_after left u.missing (record_same (rest ++ u.missing) first [] (left ++ u.missing) u.whole r whole).1)
 
--- no record is a front of another
+-- no record is a beginning of another
 pub no_record-front : (bytes more : List ℕ) → IsRecord bytes → IsRecord (bytes ++ more) → more ≡ []
 no_record-front bytes more r s = sym (record_same (bytes ++ more) bytes [] more s r (append-nil (bytes ++ more))).1

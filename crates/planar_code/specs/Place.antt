@@ -48,7 +48,7 @@ Goes old piece added new = (stream : List ℕ) (records : List (List ℕ)) → S
 abbrev pub IsRunning : Place → Type 0
 IsRunning place = (f : FeedFault) → place ≢ Failed f
 
--- a front of the piece has the added records and one more, for which there was no memory
+-- a beginning of the piece has the added records and one more, for which there was no memory
 pub record LosesRecord (old : Place) (piece : List ℕ) (added : List (List ℕ)) : Type 0 where
   pub front : List ℕ
   pub back : List ℕ

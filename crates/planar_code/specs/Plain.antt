@@ -13,13 +13,13 @@ use Rattle.planar_code.specs.Started.{IsStarted, IsOversize}
 abbrev pub EndsList : List ℕ → ℕ → List ℕ → End → Type 0
 EndsList before left bytes (end.After n) = (0 < n) × (n ≤ length bytes) × (1 < left → IsStarted (before ++ take n bytes) (left - 1) 0) × (left ≡ 1 → IsRecord (before ++ take n bytes))
 EndsList before left bytes end.Cut = IsUnfinished (before ++ bytes)
-EndsList before left bytes end.Long = IsOversize (before ++ bytes)
+EndsList before left bytes end.Oversize = IsOversize (before ++ bytes)
 
 -- where the record ends that the bytes begin with
 abbrev pub EndsRecord : List ℕ → End → Type 0
 EndsRecord bytes (end.After n) = (0 < n) × (n ≤ length bytes) × IsRecord (take n bytes)
 EndsRecord bytes end.Cut = IsUnfinished bytes
-EndsRecord bytes end.Long = IsOversize bytes
+EndsRecord bytes end.Oversize = IsOversize bytes
 
 -- the records after the header, and what they end in
 pub record SplitsBody (body : List ℕ) (records : List (List ℕ)) (end : Ending) : Type 0 where

@@ -1,6 +1,7 @@
 -- A record that was begun, and how far it has come.
 use Rattle.std.specs.Prelude.{◌≡◌, ◌≢◌, ◌⊎◌, ℕ, ◌+◌, ◌<◌, ◌≤◌, List, [], ◌∷◌, ◌++◌, length, All}
 use Rattle.std.specs.List.{flat_map}
+use Rattle.planar_code.specs.declared.TheConstants.{MAX_LIST}
 use Rattle.planar_code.specs.Stream.{IsEntry, IsList, ended, NoRecordFirst}
 use Rattle.planar_code.specs.Split.{BeginsWithZero}
 
@@ -13,7 +14,7 @@ pub record IsStarted (bytes : List ℕ) (left entries : ℕ) : Type 0 where
   pub each : All IsList lists
   pub current_each : All IsEntry current
   pub counted : length current ≡ entries
-  pub short : entries ≤ 254
+  pub short : entries ≤ MAX_LIST
   pub some : 0 < left
   pub few : length lists + left < 256
 

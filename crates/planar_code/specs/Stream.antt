@@ -1,6 +1,7 @@
 -- What one record of a planar_code stream is, and which lists its bytes hold.
 use Rattle.std.specs.Prelude.{◌≡◌, ◌≢◌, ℕ, zero, suc, ◌<◌, ◌≤◌, List, [], ◌∷◌, ◌++◌, length, All}
 use Rattle.std.specs.List.{flat_map}
+use Rattle.planar_code.specs.declared.TheConstants.{MAX_LIST}
 
 -- an entry of a neighbour list: a byte other than 0
 abbrev pub IsEntry : ℕ → Type 0
@@ -9,7 +10,7 @@ IsEntry x = (0 < x) × (x < 256)
 -- one neighbour list: at most 254 entries
 pub record IsList (entries : List ℕ) : Type 0 where
   pub each : All IsEntry entries
-  pub short : length entries ≤ 254
+  pub short : length entries ≤ MAX_LIST
 
 -- a list as it is written: its entries, and one byte 0
 abbrev pub ended : List ℕ → List ℕ

@@ -1,4 +1,4 @@
-/// How a stream ends: of all of these the first that fits.
+/// How a stream ends. Where bytes follow record 1,000,000, it ends `Many`, whatever they are.
 #[derive(Clone, Copy, Debug, PartialEq, Eq, Hash)]
 pub enum Ending {
     /// The bytes are the header and whole records.

@@ -20,7 +20,7 @@ pub fn record_lists()
     ensures { (bytes : List ℕ) (r : IsRecord bytes) → lists_of bytes ≡ r.lists }
 {}
 
-/// No record is a front of another.
+/// No record is a beginning of another.
 pub fn no_front()
     ensures { (bytes more : List ℕ) → IsRecord bytes → IsRecord (bytes ++ more) → more ≡ [] }
 {}

@@ -10,7 +10,7 @@ use std::alloc::{AllocError, Global};
 use std::marker::Model;
 
 /// How many bytes a record has at most: its first byte, and 255 lists of 254 entries and a 0.
-const MAX_BYTES: usize = 65_026;
+pub(crate) const MAX_BYTES: usize = 65_026;
 
 /// The bytes of the record that is open, with room for the longest record.
 ///
@@ -25,13 +25,14 @@ pub struct OpenRecord {
 
 impl Model for OpenRecord {
     ghost use Rattle.std.specs.Prelude.{ℕ, List, ◌≤◌, vec_capacity};
+    ghost use Rattle.planar_code.specs.declared.open_record.TheConstants.{MAX_BYTES};
     ghost use Rattle.planar_code.specs.Started.{IsBegun};
 
     ghost Value = { List ℕ };
 
     ghost view = { λ r. r.bytes.items };
 
-    ghost invariant = { λ r. IsBegun r.bytes.items r.left r.entries × (65026 ≤ vec_capacity r.bytes) };
+    ghost invariant = { λ r. IsBegun r.bytes.items r.left r.entries × (MAX_BYTES ≤ vec_capacity r.bytes) };
 }
 
 impl OpenRecord {

@@ -14,7 +14,7 @@ pub enum ParseFault {
     /// The bytes are only a beginning of a record. So are no bytes at all.
     #[error("the bytes end before the record does")]
     Short,
-    /// The first byte is 0, which is no number of vertices.
+    /// The first byte is 0, which is no number of vertices. To a framer this is the fault `Large`.
     #[error("the record begins with byte 0")]
     Order,
     /// A neighbour list has a 255th entry.
@@ -54,7 +54,7 @@ impl Record {
         }
         match record_end(bytes) {
             End::Cut => Err(ParseFault::Short),
-            End::Long => Err(ParseFault::Oversize),
+            End::Oversize => Err(ParseFault::Oversize),
             End::After(end) if end < bytes.len() => Err(ParseFault::Long),
             End::After(_) => match Record::from_slice(alloc, bytes) {
                 Ok(record) => Ok(record),

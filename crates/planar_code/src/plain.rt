@@ -15,7 +15,7 @@ pub enum End {
     /// Not yet: it is cut.
     Cut,
     /// Nowhere: a list has more than 254 entries.
-    Long,
+    Oversize,
 }
 
 /// Where the list ends that the bytes begin with.
@@ -27,7 +27,7 @@ fn list_end(bytes: &[u8]) -> End
             return End::After(i + 1);
         }
         if i == MAX_LIST {
-            return End::Long;
+            return End::Oversize;
         }
     }
     End::Cut
@@ -45,7 +45,7 @@ pub fn record_end(bytes: &[u8]) -> End
         match list_end(&bytes[at..]) {
             End::After(end) => at += end,
             End::Cut => return End::Cut,
-            End::Long => return End::Long,
+            End::Oversize => return End::Oversize,
         }
     }
     End::After(at)
@@ -70,7 +70,7 @@ fn split_body(alloc: Global, body: &[u8]) -> Result<(Vec<Record>, Ending), Alloc
                 rest = &rest[end..];
             }
             End::Cut => return Ok((records, Ending::Truncated)),
-            End::Long => return Ok((records, Ending::Oversize)),
+            End::Oversize => return Ok((records, Ending::Oversize)),
         }
     }
     Ok((records, Ending::Complete))

@@ -1,4 +1,5 @@
 ghost use Rattle.std.specs.Prelude.{◌≡◌, ℕ, ◌<◌, ◌≤◌, List, ◌++◌, length, take};
+ghost use Rattle.planar_code.specs.declared.TheConstants.{MAX_LIST};
 ghost use Rattle.planar_code.specs.Started.{IsStarted};
 ghost use Rattle.planar_code.specs.Scan.{Scans};
 
@@ -24,7 +25,7 @@ pub fn scan_lists(
 ) -> Result<Scan, FeedFault>
     requires within { from ≤ length text.now }
     requires some { 0 < left }
-    requires short { entries ≤ 254 }
+    requires short { entries ≤ MAX_LIST }
     ensures { (before : List ℕ)
         → IsStarted (before ++ take from text.now) left entries
         → Scans before text.now result }

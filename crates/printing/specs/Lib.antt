@@ -1,2 +1,2 @@
-pub mod Lines
+pub mod FormLines
 pub mod Spelt

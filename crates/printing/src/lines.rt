@@ -2,7 +2,7 @@
 ghost use Rattle.std.specs.Prelude.{◌≡◌, ◌+◌, IfOk};
 ghost use Rattle.entries.specs.declared.answer.Answer.{Answer};
 ghost use Rattle.entries.specs.declared.entry.Entry.{Entry};
-ghost use Rattle.printing.specs.Lines.{line_in, head_in, end_in};
+ghost use Rattle.printing.specs.FormLines.{line_in, head_in, end_in};
 
 use crate::report;
 use entries::{Answer, Entry};

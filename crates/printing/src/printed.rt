@@ -2,7 +2,7 @@
 ghost use Rattle.std.specs.Prelude.{◌≡◌};
 ghost use Rattle.std.proofs.Props.{props};
 ghost use Rattle.entries.specs.Abouts.{about_of};
-ghost use Rattle.printing.specs.Lines.{IsLineOf};
+ghost use Rattle.printing.specs.FormLines.{IsLineOf};
 ghost use Rattle.printing.specs.Spelt.{IsSpelt};
 
 use crate::lines::entry_text;

@@ -1,7 +1,7 @@
 //! Single lines of a report.
 ghost use Rattle.std.specs.Prelude.{◌≡◌, ◌++◌, IfOk, OnOk, decimal};
 ghost use Rattle.reports.specs.Report.{file_line, end_line, answer_text, sizes_text, drawn_text};
-ghost use Rattle.printing.specs.Lines.{graph_line};
+ghost use Rattle.printing.specs.FormLines.{graph_line};
 
 use drawing_check::Drawing;
 use entries::{Answer, Cause};

@@ -8,15 +8,15 @@ use streams::{Sink, put_all};
 
 /// A short line of text in a fixed buffer; what does not fit is left out.
 #[derive(Drop)]
-pub(crate) struct Line {
+pub(crate) struct ShortLine {
     bytes: [u8; 128],
     len: usize,
     ghost in_range: { len ≤ 128 },
 }
 
-impl Line {
-    pub(crate) fn new() -> Line {
-        Line {
+impl ShortLine {
+    pub(crate) fn new() -> ShortLine {
+        ShortLine {
             bytes: [0; 128],
             len: 0,
         }
@@ -27,7 +27,7 @@ impl Line {
     }
 }
 
-impl fmt::Write for Line {
+impl fmt::Write for ShortLine {
     fn write_str(&mut self, text: &str) -> fmt::Result {
         for byte in text.as_bytes() {
             if self.len == 128 {
@@ -44,7 +44,7 @@ impl fmt::Write for Line {
 pub fn report<E: Sink>(fault: Fault, err: &mut E)
     requires { E.failed err.old ≡ false }
 {
-    let mut line = Line::new();
+    let mut line = ShortLine::new();
     let _ = writeln!(line, "planarbend: {fault}");
     let _ = put_all(err, line.text());
 }

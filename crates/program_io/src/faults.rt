@@ -1,11 +1,11 @@
-//! What ends the program without a whole report.
+//! What ends the program without a whole report, and its exit status.
 ghost use Rattle.std.specs.Prelude.{◌≡◌, ◌⊎◌, ◌↔◌};
 
 use std::io::ErrorKind;
 use streams::{BatchFault, WriteFault};
 use thiserror::Error;
 
-/// Why there is no whole report. The text of each is the line that the program prints.
+/// Why there is no whole report. The text of each is what the program prints of it behind its own name.
 #[derive(Clone, Copy, Debug, PartialEq, Eq, Error)]
 pub enum Fault {
     #[error("out of memory")]

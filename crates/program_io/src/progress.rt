@@ -1,7 +1,7 @@
 //! A line that tells how far a run is.
 ghost use Rattle.std.specs.Prelude.{◌≡◌};
 
-use crate::fault_line::Line;
+use crate::fault_line::ShortLine;
 use lanes::{Gate, Stage};
 use std::fmt::Write;
 use std::io;
@@ -9,7 +9,7 @@ use std::io::IsTerminal;
 use std::rt::Clock;
 use std::sync::atomic::{AtomicU64, Ordering};
 
-/// How many milliseconds lie between two lines at least.
+/// How many milliseconds lie between two lines at least. The last one waits for none.
 const PAUSE: u64 = 250;
 
 /// Where it is told how far a run is.
@@ -159,7 +159,7 @@ impl<'c, C: Console> Meter<'c, C> {
             Style::WrittenOver => ("\r", "   "),
             _ => ("", ""),
         };
-        let mut line = Line::new();
+        let mut line = ShortLine::new();
         let _ = write!(
             line,
             "{front}planarbend: {begun} of {} files begun, {graphs} graphs, {rate} a second{back}{end}",

@@ -1,7 +1,7 @@
 //! Files as sources of a run.
 ghost use Rattle.std.specs.Prelude.{◌≡◌, ◌↔◌, IfOk, IfErr};
 ghost use Rattle.program_io.specs.Naming.{meaning_of};
-ghost use Rattle.program_io.specs.Sources.{to_come_of, fails_of, Tells};
+ghost use Rattle.program_io.specs.Sources.{to_come_of, source_fails_of, Tells};
 
 use crate::faults::Fault;
 use crate::standard_input::is_input;
@@ -24,7 +24,7 @@ pub enum FileSource<F, I> {
 impl<F: Read + Drop, I: Tap> Tap for FileSource<F, I> {
     ghost to_come = { to_come_of I.to_come };
 
-    ghost fails = { fails_of I.fails };
+    ghost fails = { source_fails_of I.fails };
 
     fn read(&mut self, buf: &mut [u8]) -> Result<usize, TapFault> {
         match self {
@@ -35,8 +35,12 @@ impl<F: Read + Drop, I: Tap> Tap for FileSource<F, I> {
     }
 }
 
-/// Opens the file of this name: `-` is standard input, the file 0 of `input`. Where the open is refused for
-/// memory, the program ends; any other refusal is a source that fails.
+/// Opens the file of this name: `-` is standard input, the file 0 of `input`. A file that could not be opened is
+/// a source that fails.
+///
+/// # Errors
+///
+/// `Memory` where the open found no memory. There is no other.
 pub fn open_source<R: Files, I: Opener>(
     rt: &R,
     alloc: Global,

@@ -234,7 +234,7 @@ fn marks_files_that_do_not_end_well(rt: HostRuntime) -> Result<(), Fail> {
     check(&rt, &["layout", "--outer", "best", "cut.pc"], cut, 3)
 }
 
-/// Files that differ are reported in the order of their names, however many lanes there are.
+/// Files that differ are reported in the order in which they are named, however many lanes there are.
 #[test]
 fn keeps_files_apart(rt: HostRuntime) -> Result<(), Fail> {
     write_parts(&rt, "triangles.pc", &[HEADER, TRIANGLE, TRIANGLE])?;
@@ -263,7 +263,7 @@ fn keeps_files_apart(rt: HostRuntime) -> Result<(), Fail> {
     Ok(())
 }
 
-/// Runs the command on JSON lines that name no drawing, and looks at them.
+/// The JSON lines of files in which no graph is laid out.
 #[test]
 fn shows_json_lines(rt: HostRuntime) -> Result<(), Fail> {
     write_parts(&rt, "json_empty.pc", &[])?;

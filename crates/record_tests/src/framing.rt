@@ -104,7 +104,7 @@ fn repeats_its_fault(rt: HostRuntime) -> Result<(), Fail> {
     Ok(())
 }
 
-/// The most records that a stream has, of one vertex each, and how they were fed: all of them were found.
+/// A framer that was fed the most records that a stream has, of one vertex each: all of them were found.
 fn fed_with_a_million(rt: &impl Abort, alloc: Global) -> Result<Framer, Fail> {
     let mut framer = Framer::new(alloc)?;
     let mut out = Vec::new(alloc);

@@ -8,7 +8,8 @@ use std::fmt::Debug;
 use std::process::Abort;
 use std::test::Fail;
 
-/// Sees that two values are the same. (An `assert_eq!` in each place would make the tests' proofs several times as long.)
+/// Sees that two values are the same. (An `assert_eq!` in each place would make the tests' proofs several times
+/// as long.)
 pub(crate) fn same<T: PartialEq + Debug + Drop>(rt: &impl Abort, got: T, want: T) {
     assert_eq!(rt; got, want);
 }

@@ -32,8 +32,11 @@ const ALL_ROWS: usize = 128;
 
 /// Whether no two of the rectangles have a point in common.
 ///
-/// Takes O(n log n) time for n rectangles, however many points they hold. The only error is want of
-/// memory, for the table or for the map.
+/// Takes O(n log n) time for n rectangles, however many points they hold.
+///
+/// # Errors
+///
+/// `AllocError` where there is no memory for the table or for the map.
 pub fn all_apart(alloc: Global, mut rectangles: Vec<Rectangle>) -> Result<bool, AllocError>
     requires { All IsFilled rectangles.items }
     ensures { IfOk result (λ apart. IsTrue apart ↔ AllPairs AreApart rectangles.items) }
@@ -41,9 +44,11 @@ pub fn all_apart(alloc: Global, mut rectangles: Vec<Rectangle>) -> Result<bool, 
     all_apart_in(alloc, &mut rectangles, &mut Vec::new(alloc))
 }
 
-/// The same of a list that is lent, which is sorted, with a table in the memory of the other list.
+/// The same of a list that is lent, which it sorts, with a table in the memory of the other list.
 ///
-/// The only error is want of memory, for the table where the list has not enough, or for the map.
+/// # Errors
+///
+/// `AllocError` where there is no memory for the map, or for the table where the other list has not enough.
 pub fn all_apart_in(
     alloc: Global,
     rectangles: &mut Vec<Rectangle>,

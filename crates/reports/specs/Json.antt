@@ -3,7 +3,7 @@ use Rattle.std.specs.Prelude.{ℕ, List, ◌++◌, length}
 use Rattle.streams.specs.declared.frames.Mark.{Mark}
 use Rattle.streams.specs.Text as marks
 use Rattle.entries.specs.declared.entry.Entry.{Entry}
-use Rattle.json_lines.specs.Lines.{answer_data, end_data, line_of}
+use Rattle.json_lines.specs.LineData.{answer_data, end_data, line_of}
 use Rattle.books.specs.Books.{BookModel}
 use Rattle.reports.specs.Report.{numbered_texts}
 

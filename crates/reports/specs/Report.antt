@@ -11,7 +11,7 @@ use Rattle.entries.specs.declared.cause.Cause.{Cause}
 use Rattle.entries.specs.declared.answer.Answer.{Answer}
 use Rattle.entries.specs.declared.answer.Answer.TheVariants.{Laid, Refused, NoMemory}
 use Rattle.entries.specs.declared.entry.Entry.{Entry}
-use Rattle.entries.specs.Words as causes
+use Rattle.entries.specs.CauseWords as causes
 use Rattle.books.specs.Books.{BookModel}
 
 -- the texts of several things, one after another, the first of which has this number

@@ -24,8 +24,8 @@ impl Form {
     ///
     /// # Errors
     ///
-    /// `Write` exactly where the sink has then failed, and `Memory` where there was none for a line. The
-    /// sink has then taken a beginning of the text.
+    /// `Write` exactly where the sink has then failed, and in JSON `Memory` where there was none for a line.
+    /// The sink has then taken a beginning of the text.
     pub fn write<S: Sink>(self, alloc: Global, batch: &Batch, out: &mut S) -> Result<(), WriteFault>
         requires { S.failed out.old ≡ false }
         ensures { WritesOrLacks (S.taken out.old) (S.taken out.new) (S.failed out.new) (text_in self batch.now) result }

@@ -110,7 +110,11 @@ fn write_end<S: Sink>(
     }
 }
 
-/// Adds a line of any length, a piece at a time.
+/// Adds a line of any length, a piece at a time. It takes no memory.
+///
+/// # Errors
+///
+/// `Write` exactly where the sink has then failed; it has then taken a beginning of the text. There is no other.
 pub fn push_line<S: Sink>(lines: &mut Gathered, sink: &mut S, line: &[u8]) -> Result<(), WriteFault>
     requires { S.failed sink.old ≡ false }
     ensures { StaysOnItsWay (S.taken sink.old) lines.old (S.taken sink.new) lines.new

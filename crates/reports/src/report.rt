@@ -18,7 +18,7 @@ use streams::{Gathered, Mark, Sink, WriteFault};
 ///
 /// # Errors
 ///
-/// `Write` where the sink failed; it has then taken a beginning of the report. There is no other.
+/// `Write` exactly where the sink has then failed; it has then taken a beginning of the report. There is no other.
 pub fn write_report<S: Sink>(batch: &Batch, sink: &mut S) -> Result<(), WriteFault>
     requires { S.failed sink.old ≡ false }
     ensures { Writes (S.taken sink.old) (S.taken sink.new) (S.failed sink.new) (report_text batch.now) result }

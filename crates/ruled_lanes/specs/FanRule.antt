@@ -32,7 +32,7 @@ module _ {T : Type 0} where
   abbrev pub of_lane : ℕ → List (ℕ × T) → List T
   of_lane lane items = map (λ (x : ℕ × T). x.1) (filter (λ (x : ℕ × T). x.0 == lane) items)
 
-  -- a lane that a pass has: this pass has its seat, it was made, and what was given there is known
+  -- a lane that a pass has: no other pass has it, it was made, and what was given there is known
   abbrev pub KnowsLane : (ℕ → ℕ) → ℕ → List (ℕ × T) → ℕ → ℕ × List T → Type 0
   KnowsLane seat made all pass l = (pass ≡ seat l.0) × (l.0 < made) × (of_lane l.0 all ≡ l.1)
 

@@ -95,7 +95,7 @@ impl Tickets {
     }
 
     /// Tickets with the numbers below `limit`, and a seat for each of so many lanes, which has drawn
-    /// nothing and has not ended. `Memory` where there is no room for them.
+    /// nothing and has not ended. `Memory` where there is no memory for them.
     pub fn new(alloc: Global, limit: u32, lanes: u32) -> Result<(Tickets, Vec<Seat>), Memory>
         requires limit { limit ≤ MAX_TICKETS }
         requires lanes { (1 ≤ lanes) × (lanes ≤ LANES) }

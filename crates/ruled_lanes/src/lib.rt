@@ -1,4 +1,4 @@
-//! Bounded channels whose loss-freedom their callers know. A link has one giver and one taker, and
+//! Bounded channels whose callers can prove that nothing is lost. A link has one giver and one taker, and
 //! settling it tells that what was taken, followed by what the link still held, is what was given,
 //! in order. A fan has a giver for each lane and one gatherer, and settling it tells the same of each
 //! lane by itself. Tickets deal numbers to the seats of several lanes, each number once.

@@ -6,5 +6,5 @@ pub const LANES: u32 = 8;
 /// How many items a link or a fan holds at most.
 pub const MAX_CAPACITY: u32 = 64;
 
-/// How many numbers one object of tickets deals at most.
+/// How many numbers tickets deal at most.
 pub const MAX_TICKETS: u32 = 256;

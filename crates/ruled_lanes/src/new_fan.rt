@@ -11,7 +11,7 @@ use std::alloc::Global;
 
 /// The ends of a new fan that holds at most `capacity` items: a giver for each of its `LANES` lanes, in
 /// the order of their numbers, and the one gatherer. Nothing was given or taken. `Memory` where there
-/// is no room for them.
+/// is no memory for them.
 pub fn fan_in<T: Send + Drop>(
     alloc: Global,
     capacity: u32,

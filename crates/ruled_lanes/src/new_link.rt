@@ -10,7 +10,7 @@ use crossbeam_channel::bounded_with;
 use std::alloc::Global;
 
 /// The two ends of a new link that holds at most `capacity` items, of which nothing was given or
-/// taken. `Memory` where there is no room for them.
+/// taken. `Memory` where there is no memory for them.
 pub fn link<T: Send + Drop>(alloc: Global, capacity: u32) -> Result<(Giver<T>, Taker<T>), Memory>
     requires capacity { (1 ≤ capacity) × (capacity ≤ MAX_CAPACITY) }
     ensures room { IfOk result (λ r. room_of r.0 ≡ capacity) }

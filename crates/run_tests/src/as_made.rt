@@ -88,7 +88,7 @@ fn a_beginning_is_written_before_a_fault(rt: HostRuntime) {
     }
 }
 
-/// What a run of no files answers.
+/// How long the text of a run over so many files is, and how the run ended.
 fn answer_of<R: AllocGlobal + Threads + Wait + Sync>(
     rt: &R,
     files: u32,
@@ -141,8 +141,8 @@ fn may_stand_for(line: &[u8], due: &[u8]) -> bool {
         || line.starts_with(b"end memory graphs=")
 }
 
-/// Whether each whole line of a text may stand where one of the report is due, or the text has a file that ended
-/// early for want of memory.
+/// Whether each whole line of a text may stand where one of the report is due, at least up to the end of a file that
+/// ended early for want of memory.
 fn is_allowed(text: &[u8]) -> bool {
     let mut due = REPORT.split(|byte| *byte == b'\n');
     for line in text.split(|byte| *byte == b'\n') {

@@ -1,5 +1,5 @@
-//! Tests of shapes, prices and their two tests over planes that are read from records, and of the answers
-//! of the layers below where an allocation is refused.
+//! Tests of shapes, prices and their two tests over planes that are read from records, and of what the layers
+//! below give where an allocation is refused.
 #![tactic(auto)]
 
 #[cfg(test)]

@@ -1,5 +1,5 @@
 //! Calls that may find no memory. `checks/refuse-allocations` refuses each allocation of these tests in turn:
-//! what was lent is then as it was, and a second call answers as without the refusal. Where a refusal comes
+//! what was lent is then as it was, and a second call gives what it gives without the refusal. Where a refusal comes
 //! before the call, the test ends.
 
 ghost use Rattle.flow_network.specs.FaceNet.{IsNetOf};

@@ -88,7 +88,7 @@ fn prices_in(alloc: Global, case: &Case<'_>) -> Result<Prices, Fail> {
     Ok(Prices::new(vertices, case.faces.to_vec(alloc)?))
 }
 
-/// What both tests answer.
+/// What both tests say.
 fn answers(plane: &Plane, shape: &Shape, prices: &Prices) -> (bool, bool) {
     (is_shape(plane, shape), certify(plane, shape, prices))
 }
@@ -100,7 +100,7 @@ fn answers_in(alloc: Global, case: &Case<'_>) -> Result<(bool, bool), Fail> {
     Ok(answers(&plane, &shape, &prices))
 }
 
-/// A case of which the tests answer this.
+/// Sees that the tests say this of a case, and that it has so many bends.
 fn expect(
     rt: &impl Abort,
     alloc: Global,
@@ -469,7 +469,7 @@ fn count_random(
     Ok((shapes, proofs))
 }
 
-/// Both answers come up.
+/// The test of shapes says both yes and no.
 fn expect_random(rt: &impl Abort, alloc: Global, seed: u64, case: &Case<'_>) -> Result<(), Fail> {
     let (shapes, _proofs) = count_random(rt, alloc, seed, case)?;
     assert!(rt; 50 < shapes && shapes < 240, "{shapes} shapes");

@@ -525,8 +525,8 @@ offer_fits n first arcs p e s q enter order place head ordered reached level k v
     let le : head ≤ n = omega (arith, r.counts) in
     label_fits n head (p s) x g.nodes le o.near (pr.low s r.source.0)
 
-pub price_fits : (n : ℕ) (first : List ℕ) (arcs : List ResidualArc) (p e : ℕ → ℤ) (v : ℕ) → IsGraph n first arcs → IsPriced n first arcs p e → v < n → (negsuc 1073741823 ≤ℤ p v) × (p v ≤ℤ pos 1073741823)
-price_fits n first arcs p e v g pr b = potential_fits n (p v) g.nodes (pr.low v b)
+pub potential_fits_at : (n : ℕ) (first : List ℕ) (arcs : List ResidualArc) (p e : ℕ → ℤ) (v : ℕ) → IsGraph n first arcs → IsPriced n first arcs p e → v < n → (negsuc 1073741823 ≤ℤ p v) × (p v ≤ℤ pos 1073741823)
+potential_fits_at n first arcs p e v g pr b = potential_fits n (p v) g.nodes (pr.low v b)
 
 pub reached_fits : (n : ℕ) (first : List ℕ) (arcs : List ResidualArc) (p e : ℕ → ℤ) (s : ℕ) (q : ℕ → ℤ) (enter order place : ℕ → ℕ) (head ordered reached : ℕ) (level : ℤ) (v : ℕ) → IsGraph n first arcs → IsPriced n first arcs p e → IsReached n first arcs p e s q enter order place head ordered reached level → v < n → q v <ℤ far → (negsuc 1073741823 ≤ℤ q v) × (q v ≤ℤ pos 1073741823)
 reached_fits n first arcs p e s q enter order place head ordered reached level v g pr r b l =

@@ -44,6 +44,6 @@ passed_is a z f h = h ∙ to_z-of_z w32 z f
 pub passed_under : (a z : ℤ) → SFits w32 z → a ≤ℤ to_z w32 (of_z w32 z) → a ≤ℤ z
 passed_under a z f h = subst (λ (t : ℤ). a ≤ℤ t) (to_z-of_z w32 z f) h
 
--- a label, and a price beside it
+-- a label, and the cost of a residual arc added to it
 pub sum_is : (r a b c : ℤ) → SFits w32 a → SFits w16 b → r ≡ to_z w32 (of_z w32 a) +ℤ to_z w16 (of_z w16 b) → b ≡ c → r ≡ a +ℤ c
 sum_is r a b c f g h e = (rw (to_z-of_z w32 a f, to_z-of_z w16 b g) at h) ∙ ap (λ (t : ℤ). a +ℤ t) e

@@ -10,11 +10,11 @@ use Rattle.shortest_paths.specs.declared.reach.Step.{Step}
 use Rattle.networks.specs.Flow.{at_nodes}
 use Rattle.networks.specs.Layout.{numbers, end_at, cost_at, StartsAt}
 
--- the label of a node that was not reached
+-- the label of a node that was not reached, `FAR` in the code
 abbrev pub far : ℤ
 far = pos 8000
 
--- a price, or one that is raised since nothing fits
+-- what a unit along a residual arc costs, with `SHUT` more while nothing fits
 abbrev pub IsArcCost : ℤ → Type 0
 IsArcCost c = ((negsuc 0 ≤ℤ c) × (c ≤ℤ pos 1)) ⊎ ((pos 15999 ≤ℤ c) × (c ≤ℤ pos 16001))
 

@@ -4,7 +4,7 @@
 //! It begins at a node where units are left over, under potentials by which no open residual arc costs
 //! less than 0, and stops once no nearer node can come. Its labels tell how the potentials move, and
 //! the residual arcs on which nodes were entered lead back along a path of least cost.
-//! (Ahuja, Magnanti, Orlin: Network Flows, 1993, section 9.7, successive shortest paths.)
+//! (As in the method of successive shortest paths: Ahuja, Magnanti and Orlin, Network Flows, 1993.)
 #![tactic(auto)]
 
 mod nearest;

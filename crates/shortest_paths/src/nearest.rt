@@ -150,6 +150,7 @@ fn least_distance(
     least
 }
 
+/// The lesser of two numbers.
 fn lesser(a: i32, b: i32) -> i32
     ensures first { result ≤ℤ a }
     ensures second { result ≤ℤ b }
@@ -190,7 +191,7 @@ fn climb(
     }
 }
 
-/// Puts the node at a place behind those that are ordered, if it is at the level.
+/// Puts the node at place j of the order behind those that are ordered, if it is at the level.
 fn take_up(
     ground: Ground<'_>,
     label: &[i32],

@@ -51,8 +51,8 @@ pub(crate) struct Step {
     pub label: i32,
 }
 
-/// Takes up what a residual arc offers to its end: the end is now the nearest node where units are
-/// wanting, or it has a lesser label.
+/// Takes up what a residual arc offers to its end: where units are wanting there, it may be the nearest such
+/// node now, and else it gets the label if that is nearer than the cut.
 pub(crate) fn reach(
     ground: Ground<'_>,
     label: &mut [i32],

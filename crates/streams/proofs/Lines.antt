@@ -21,7 +21,7 @@ record_lines-next xs i d below =
     ap (record_lines 1) (take_more xs i d below) ∙ record_lines-append 1 (take i xs) (get_or xs i d ∷ [])
     ∙ ap (λ l. record_lines 1 (take i xs) ++ l) (append-nil _ ∙ ap (λ k. record_line k (get_or xs i d)) number)
 
--- the lines of the first records are a front of all
+-- the lines of the first records are a beginning of all
 pub record_lines-front : (xs : List (List ℕ)) (i : ℕ) → (rest : List ℕ) × (record_lines 1 xs ≡ record_lines 1 (take i xs) ++ rest)
 record_lines-front xs i = (
   record_lines (1 + length (take i xs)) (drop i xs),

@@ -25,18 +25,18 @@ added_kept (Some x) None c xs p q = absurd p
 added_kept (Some x) (Some y) None xs p q = absurd q
 added_kept (Some x) (Some y) (Some z) xs p q = q ∙ p
 
--- a longer front of a list, in two parts
+-- a longer beginning of a list, in two parts
 take-add : (n m : ℕ) (xs : List ℕ) → take (n + m) xs ≡ take n xs ++ take m (drop n xs)
 take-add n m xs = sym (take-append-drop n (take (n + m) xs)) ∙ ap (λ l. take n (take (n + m) xs) ++ l) (drop-take n m xs) ∙ ap (λ l. l ++ take m (drop n xs)) (take-take n (n + m) xs (omega arith))
 
--- the front of a text and the next bytes of it
+-- the beginning of a text and the next bytes of it
 pub added_next : (a b c : Option (List ℕ)) (text : List ℕ) (at count : ℕ)
     → Appends a b (take at text) → Appends b c (take count (drop at text)) → Appends a c (take (at + count) text)
 added_next a b c text at count p q =
     let joined : take at text ++ take count (drop at text) ≡ take (at + count) text = sym (take-add at count text) in
     subst (Appends a c) joined (added_both a b c _ _ p q)
 
--- a front of what waits was added: a front of the whole text was
+-- a beginning of what waits was added: a beginning of the whole text was
 pub sent_front : (start now after : Option (List ℕ)) (waiting text more : List ℕ) → IsOnItsWay start now waiting text
     → AppendsFront now after waiting → AppendsFront start after (text ++ more)
 sent_front start now after waiting text more w f =
@@ -81,7 +81,7 @@ line_waits old new waited mid waits failed more a b stays e = (
   },
 )
 
--- a line was not added whole: what was added is a front of any text that goes on from that line
+-- a line was not added whole: what was added is a beginning of any text that goes on from that line
 pub line_fails : (start old new : Option (List ℕ)) (waited waits : List ℕ) (failed : Bool) (text more rest whole : List ℕ) (e : WriteFault) (r : Result (Unit {0}) WriteFault)
     → IsOnItsWay start old waited text → StaysOnItsWay {A = Unit {0}} old waited new waits failed more (Err e) → whole ≡ (text ++ more) ++ rest → r ≡ Err e
     → Writes start new failed whole r

@@ -15,7 +15,7 @@ Writes old new failed text (Ok _) = (failed ≡ false) × Appends old new text
 Writes old new failed text (Err Write) = (failed ≡ true) × AppendsFront old new text
 Writes old new failed text (Err Memory) = ⊥
 
--- From `start` on, a front of the text was added to the sink, and the rest of it waits.
+-- From `start` on, a beginning of the text was added to the sink, and the rest of it waits.
 pub record IsOnItsWay (start now : Option (List ℕ)) (waiting text : List ℕ) : Type 0 where
   pub sent : List ℕ
   pub split : text ≡ sent ++ waiting

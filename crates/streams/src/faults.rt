@@ -5,15 +5,19 @@ use thiserror::Error;
 /// Why a run hands out nothing. The text of each is the line that the program prints.
 #[derive(Clone, Copy, Debug, PartialEq, Eq, Error)]
 pub enum BatchFault {
+    /// More than 256 files were named.
     #[error("more than 256 files")]
     TooManyFiles,
+    /// The number of lanes is not 1 to 8.
     #[error("lanes must be 1 to 8")]
     BadLanes,
     /// Memory was refused to the run itself; a file that lacks memory ends by its mark instead.
     #[error("out of memory")]
     Memory,
+    /// An end of a link or of a fan was gone before the last message.
     #[error("a lane was lost")]
     LaneLost,
+    /// A thread could not be started.
     #[error("a thread could not be run")]
     Thread,
 }
@@ -24,6 +28,7 @@ pub enum WriteFault {
     /// The sink has failed.
     #[error("write failed")]
     Write,
+    /// There was no memory to make the text.
     #[error("out of memory")]
     Memory,
 }

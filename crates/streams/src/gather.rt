@@ -8,10 +8,10 @@ use super::output::Sink;
 use itoa::Buffer;
 use std::marker::Model;
 
-/// How many bytes are gathered before they are put into the sink.
+/// How many bytes of text wait at most.
 pub const ROOM: usize = 16_384;
 
-/// How many bytes of room `make_room` leaves: more than any line takes.
+/// How many bytes of room `make_room` leaves at least: more than any line takes that is gathered.
 pub const LINE: usize = 512;
 
 /// Text that waits to be put into a sink.

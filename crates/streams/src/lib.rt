@@ -1,4 +1,4 @@
-//! Reads planar_code sources into records and writes what was found.
+//! Reads sources of planar code into records and writes what was found.
 #![tactic(auto)]
 
 mod faults;

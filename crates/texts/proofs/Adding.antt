@@ -6,10 +6,10 @@ use Rattle.streams.specs.Sink.{IsOnItsWay}
 use Rattle.streams.proofs.Sinks.{added_none}
 use Rattle.entries.specs.declared.entry.Entry.{Entry}
 use Rattle.reports.specs.declared.form.Form.{Form}
-use Rattle.printing.specs.Lines.{line_in, head_in, lines_in}
+use Rattle.printing.specs.FormLines.{line_in, head_in, lines_in}
 use Rattle.texts.specs.declared.waiting.Waiting.{Waiting}
-use Rattle.texts.specs.Came.{Came, nothing, HasMark, HasEntryMore, HasEnded}
-use Rattle.texts.specs.Waits.{ChangesAt, IsNothing, IsCountedOne, HasMore, IsMarked}
+use Rattle.texts.specs.Came.{Came, nothing, HasMark, HasEntryMore, HasMarkMore}
+use Rattle.texts.specs.Waits.{ChangesAt, IsNothing, IsCountedOne, GetsLine, GetsMark}
 use Rattle.texts.specs.Written.{GoesOn, begun, ended, ended_texts, IsCounted, AreWritten}
 use Rattle.texts.proofs.Waits.{after_change, changes_both}
 
@@ -69,7 +69,7 @@ written_front form start old new gathered gathers front waiting after came next 
 abbrev pub HasLineMore : List ℕ → Waiting → Waiting → Type 0
 HasLineMore line w w' = (w'.lines.items ≡ w.lines.items ++ line) × (w'.count ≡ w.count + 1) × (w'.mark ≡ w.mark)
 
-line_more : (line : List ℕ) (u v w : Waiting) → IsCountedOne u v → HasMore line v w → HasLineMore line u w
+line_more : (line : List ℕ) (u v w : Waiting) → IsCountedOne u v → GetsLine line v w → HasLineMore line u w
 line_more line u v w p q = (q.lines ∙ ap (λ l. l ++ line) p.lines, q.count ∙ p.count, q.mark ∙ p.mark)
 
 -- what has come of the front stays
@@ -81,10 +81,10 @@ front_same form file front came next before others =
 
 -- a line of a later file waits
 pub written_behind : (form : Form) (start now : Option (List ℕ)) (gathered : List ℕ) (file front : ℕ) (waiting mid after : List Waiting) (came next : ℕ → Came) (entry : Entry) (line : List ℕ)
-    → file < length waiting → front < file → line_in form entry ≡ line → HasEntryMore file entry came next → ChangesAt file IsCountedOne waiting mid → ChangesAt file (HasMore line) mid after
+    → file < length waiting → front < file → line_in form entry ≡ line → HasEntryMore file entry came next → ChangesAt file IsCountedOne waiting mid → ChangesAt file (GetsLine line) mid after
     → AreWritten form start now gathered front waiting came → AreWritten form start now gathered front after next
 written_behind form start now gathered file front waiting mid after came next entry line below before is more first then_more was =
-    let changed = changes_both waiting mid after file IsCountedOne (HasMore line) (HasLineMore line) (line_more line) first then_more in
+    let changed = changes_both waiting mid after file IsCountedOne (GetsLine line) (HasLineMore line) (line_more line) first then_more in
     record {
       within = omega (arith, was.within, changed.count);
       marked = marked_same came next front (λ k lt. more.others k (λ e. absurd (omega (arith, lt, before, e)))) was.marked;
@@ -97,7 +97,7 @@ written_behind form start now gathered file front waiting mid after came next en
       over = λ past. absurd (omega (arith, past, changed.count, below, before));
     }
 
-entries_same : (file : ℕ) (mark : Mark) (came next : ℕ → Came) → HasEnded file mark came next → (k : ℕ) → (came k).entries ≡ (next k).entries
+entries_same : (file : ℕ) (mark : Mark) (came next : ℕ → Came) → HasMarkMore file mark came next → (k : ℕ) → (came k).entries ≡ (next k).entries
 entries_same file mark came next more k =
     elim (cases_eq k file) [
       | inl same ↦ ap (λ j. (came j).entries) same ∙ ap (λ (c : Came). c.entries) (sym more.here) ∙ ap (λ j. (next j).entries) (sym same)
@@ -106,7 +106,7 @@ entries_same file mark came next more k =
 
 -- a mark is kept
 pub written_marked : (form : Form) (start now : Option (List ℕ)) (gathered : List ℕ) (file front : ℕ) (waiting after : List Waiting) (came next : ℕ → Came) (mark : Mark)
-    → file < length waiting → front ≤ file → HasEnded file mark came next → ChangesAt file (IsMarked mark) waiting after
+    → file < length waiting → front ≤ file → HasMarkMore file mark came next → ChangesAt file (GetsMark mark) waiting after
     → AreWritten form start now gathered front waiting came → AreWritten form start now gathered front after next
 written_marked form start now gathered file front waiting after came next mark below before more changed was =
     let text : ended_texts form came front ++ begun form front (came front) ≡ ended_texts form next front ++ begun form front (next front) =
@@ -115,12 +115,12 @@ written_marked form start now gathered file front waiting after came next mark b
     record {
       within = omega (arith, was.within, changed.count);
       marked = marked_same came next front (λ k lt. more.others k (λ e. absurd (omega (arith, lt, before, e)))) was.marked;
-      counted = after_change IsCounted (λ k. front ≤ k) file waiting after came next (IsMarked mark) changed more.others below
+      counted = after_change IsCounted (λ k. front ≤ k) file waiting after came next (GetsMark mark) changed more.others below
           (λ _ w w' c had. record {
             count = c.count ∙ had.count ∙ ap (λ (l : List Entry). length l) (entries_same file mark came next more file);
             mark = c.mark ∙ ap (λ (c : Came). c.mark) (sym more.here);
           }) was.counted;
-      lines = after_change (λ w c. w.lines.items ≡ lines_in form c.entries) (λ k. front < k) file waiting after came next (IsMarked mark) changed more.others below
+      lines = after_change (λ w c. w.lines.items ≡ lines_in form c.entries) (λ k. front < k) file waiting after came next (GetsMark mark) changed more.others below
           (λ _ w w' c same. c.lines ∙ same ∙ ap (lines_in form) (entries_same file mark came next more file)) was.lines;
       going = λ lt. subst (IsOnItsWay start now gathered) text (was.going (omega (arith, lt, changed.count)));
       over = λ past. absurd (omega (arith, past, changed.count, below, before));

@@ -7,7 +7,7 @@ use Rattle.streams.specs.declared.faults.WriteFault.{WriteFault}
 use Rattle.streams.specs.declared.faults.WriteFault.TheVariants.{Write, Memory}
 use Rattle.entries.specs.declared.entry.Entry.{Entry}
 use Rattle.reports.specs.declared.form.Form.{Form}
-use Rattle.printing.specs.Lines.{line_in, head_in, lines_in, end_in}
+use Rattle.printing.specs.FormLines.{line_in, head_in, lines_in, end_in}
 use Rattle.streams.specs.declared.frames.Mark.{Mark}
 use Rattle.texts.specs.declared.waiting.Waiting.{Waiting}
 use Rattle.texts.specs.Came.{Came, HasMark, HasEntryMore, closed, mark_or_memory}

@@ -12,18 +12,18 @@ use Rattle.lanes.specs.Opening.{Meaning}
 use Rattle.lanes.specs.Drafts.{abouts, mark_after}
 use Rattle.lanes.specs.Files.{HasFile}
 use Rattle.books.specs.Books.{BookModel, IsBook, AreBooks}
-use Rattle.books.proofs.Whole.{all_answered, books_more}
+use Rattle.books.proofs.KeptBooks.{all_answered, books_more}
 use Rattle.reports.specs.declared.form.Form.{Form}
 use Rattle.reports.specs.Report.{numbered_texts}
 use Rattle.reports.specs.Forms.{text_in}
 use Rattle.reports.specs.Wholes.{IsWholeBook}
-use Rattle.reports.proofs.Texts.{texts-append}
-use Rattle.printing.specs.Lines.{book_in}
-use Rattle.printing.proofs.Books.{text_by_lines}
+use Rattle.reports.proofs.TextParts.{texts-append}
+use Rattle.printing.specs.FormLines.{book_in}
+use Rattle.printing.proofs.BookTexts.{text_by_lines}
 use Rattle.texts.specs.declared.waiting.Waiting.{Waiting}
-use Rattle.texts.specs.Came.{Came, IsTold, IsWholeSoFar}
+use Rattle.texts.specs.Came.{Came, IsToldByNotes, IsWholeSoFar}
 use Rattle.texts.specs.Written.{ended_texts, begun, last_in}
-use Rattle.texts.specs.Holding.{Holds}
+use Rattle.texts.specs.Holding.{HoldsNotes}
 use Rattle.texts.specs.Whole.{HaveFiles, IsAllWritten}
 use Rattle.texts.proofs.Notes.{abouts-end, mark-end}
 use Rattle.texts.proofs.Wholes.{all_front, all_last}
@@ -33,12 +33,12 @@ abouts-items [] = refl
 abouts-items (x ∷ xs) = ap (λ l. x ∷ l) (abouts-items xs)
 
 -- the mark of a file of which all is told
-pub mark_told : (choice : Choice) (meaning : Meaning) (file : ℕ) (ns : List Note) (came : Came) (has : HasFile choice meaning file ns) → IsTold file ns came → came.mark ≡ Some has.mark
+pub mark_told : (choice : Choice) (meaning : Meaning) (file : ℕ) (ns : List Note) (came : Came) (has : HasFile choice meaning file ns) → IsToldByNotes file ns came → came.mark ≡ Some has.mark
 mark_told choice meaning file ns came has told =
     told.mark ∙ ap (mark_after None) has.told ∙ mark-end None (map Item (numbered choice file 0 has.records)) file has.mark
 
 -- all that is told of a file is its book
-book_told : (choice : Choice) (meaning : Meaning) (file : ℕ) (ns : List Note) (came : Came) (has : HasFile choice meaning file ns) → IsTold file ns came
+book_told : (choice : Choice) (meaning : Meaning) (file : ℕ) (ns : List Note) (came : Came) (has : HasFile choice meaning file ns) → IsToldByNotes file ns came
     → IsBook choice meaning file (record { entries = came.entries; mark = has.mark })
 book_told choice meaning file ns came has told = record {
   whole = record {
@@ -79,7 +79,7 @@ text_more form came n books mark count is was =
     ∙ ap (λ k. book_in form k book) number
     ∙ ap (λ m. begun form n (came n) ++ last_in form (n + 1) m (length (came n).entries)) (sym is))
 
-up_to : (choice : Choice) (meaning : ℕ → Meaning) (form : Form) (ns : List Note) (came : ℕ → Came) (n : ℕ) → ((k : ℕ) → k < n → IsTold k ns (came k))
+up_to : (choice : Choice) (meaning : ℕ → Meaning) (form : Form) (ns : List Note) (came : ℕ → Came) (n : ℕ) → ((k : ℕ) → k < n → IsToldByNotes k ns (came k))
     → ((k : ℕ) → k < n → HasFile choice (meaning k) k ns) → AreUpTo choice meaning form came n
 up_to choice meaning form ns came zero told have = record {
   books = [];
@@ -114,7 +114,7 @@ up_to choice meaning form ns came (suc n) told have =
 
 -- the front is past the last file
 past_last : (choice held_choice : Choice) (meaning : ℕ → Meaning) (form : Form) (start now : Option (List ℕ)) (gathered : List ℕ) (front : ℕ) (waiting : List Waiting) (whole : Bool) (ns : List Note)
-    → HaveFiles choice meaning (length waiting) ns → Holds held_choice form start now gathered front waiting whole ns → length waiting ≤ front
+    → HaveFiles choice meaning (length waiting) ns → HoldsNotes held_choice form start now gathered front waiting whole ns → length waiting ≤ front
 past_last choice held_choice meaning form start now gathered front waiting whole ns have holds =
     elim (cases_lt front (length waiting)) [
       | inl below ↦
@@ -127,7 +127,7 @@ past_last choice held_choice meaning form start now gathered front waiting whole
 
 -- what was gathered was put, and with it the text of all books
 pub all_written : (choice held_choice : Choice) (meaning : ℕ → Meaning) (form : Form) (start old new : Option (List ℕ)) (gathered : List ℕ) (front : ℕ) (waiting : List Waiting) (whole : Bool) (ns : List Note) (status : ℕ)
-    → HaveFiles choice meaning (length waiting) ns → Holds held_choice form start old gathered front waiting whole ns → Appends old new gathered → ((status ≡ 0) ↔ (whole ≡ true))
+    → HaveFiles choice meaning (length waiting) ns → HoldsNotes held_choice form start old gathered front waiting whole ns → Appends old new gathered → ((status ≡ 0) ↔ (whole ≡ true))
     → IsAllWritten choice meaning form (length waiting) start new status
 all_written choice held_choice meaning form start old new gathered front waiting whole ns status have holds put says =
     let books = up_to choice meaning form ns holds.came (length waiting) holds.told have in

@@ -14,19 +14,19 @@ use Rattle.entries.specs.declared.entry.Entry.{Entry}
 use Rattle.entries.specs.Abouts.{about_of}
 use Rattle.reports.specs.declared.form.Form.{Form}
 use Rattle.reports.specs.declared.form.Form.TheVariants.{Report, Json}
-use Rattle.printing.specs.Lines.{head_in}
+use Rattle.printing.specs.FormLines.{head_in}
 use Rattle.texts.specs.declared.waiting.Waiting.{Waiting}
 use Rattle.texts.specs.declared.lines.Lines.{Lines}
-use Rattle.texts.specs.Came.{Came, HasEntryMore, HasEnded, IsWholeSoFar, nothing}
+use Rattle.texts.specs.Came.{Came, HasEntryMore, HasMarkMore, IsWholeSoFar, nothing}
 use Rattle.texts.specs.Waits.{IsNothing}
 use Rattle.texts.specs.Orders.{MayEnd, IsInOrder, IsNext}
 use Rattle.printing.specs.Spelt.{IsSpelt}
 use Rattle.texts.proofs.Ordering.{order_none, order_item, order_end, order_but}
 use Rattle.texts.proofs.Breaking.{breaks_written, breaks_flushed}
-use Rattle.texts.specs.Holding.{Holds, LinesHold, LinesWrite, LeavesOff, LinesLeaveOff, AreLinesOf}
+use Rattle.texts.specs.Holding.{HoldsNotes, LinesHold, LinesWrite, LeavesOff, LinesLeaveOff, AreLinesOf}
 use Rattle.texts.specs.Written.{BreaksOff}
 use Rattle.streams.specs.Sink.{AppendsFront}
-use Rattle.texts.proofs.Notes.{entry_more, has_entry_more, ended_now, has_ended, all_told_item, all_told_end}
+use Rattle.texts.proofs.Notes.{entry_more, has_entry_more, ended_now, has_mark_more, all_told_item, all_told_end}
 use Rattle.texts.proofs.Wholes.{whole_end}
 use Rattle.texts.proofs.Adding.{written_none}
 use Rattle.texts.proofs.Waits.{some_waiting}
@@ -103,7 +103,7 @@ lacking entry = record { file = entry.file; ordinal = entry.ordinal; rec = entry
 
 -- with a mark that the file may have, all that has come is in order
 ordered_end : (start now : Option (List ℕ)) (lines : Lines) (ns : List Note) (file : ℕ) (mark : Mark) (next : ℕ → Came) → file < length lines.waiting.items → lines.front ≤ file
-    → ((other : Waiting) → MayEnd mark (get_or lines.waiting.items file other).count) → (held : LinesHold start now lines ns) → HasEnded file mark held.came next
+    → ((other : Waiting) → MayEnd mark (get_or lines.waiting.items file other).count) → (held : LinesHold start now lines ns) → HasMarkMore file mark held.came next
     → (k : ℕ) → k < length lines.waiting.items → IsInOrder lines.choice k (next k)
 ordered_end start now lines ns file mark next below from fits held more =
     let other = some_waiting lines.waiting.items file below in
@@ -117,13 +117,13 @@ pub held_end : (start old new : Option (List ℕ)) (before mid after : Lines) (n
     → file < length before.waiting.items
     → ((other : Waiting) → (get_or before.waiting.items file other).mark ≡ None) → ((other : Waiting) → MayEnd mark (get_or before.waiting.items file other).count) → before.front ≤ file
     → ((mid.whole ≡ true) ↔ ((before.whole ≡ true) × (mark ≡ Mark.Ended Ending.Complete))) → after.whole ≡ mid.whole
-    → ((came next : ℕ → Came) → HasEnded file mark came next → LinesWrite start old before came → LinesWrite start old mid next)
+    → ((came next : ℕ → Came) → HasMarkMore file mark came next → LinesWrite start old before came → LinesWrite start old mid next)
     → ((came : ℕ → Came) → LinesWrite start old mid came → LinesWrite start new after came)
     → ((other : Waiting) → after.front < length after.waiting.items → (get_or after.waiting.items after.front other).mark ≡ None)
     → LinesHold start old before ns → LinesHold start new after (ns ++ End file mark ∷ [])
 held_end start old new before mid after ns file mark went kept below unmarked fits from says whole keeps moves unended held =
     let next = ended_now file mark held.came in
-    let more = has_ended file mark held.came in
+    let more = has_mark_more file mark held.came in
     let count : length after.waiting.items ≡ length before.waiting.items = went.files ∙ kept.files in
     let written = moves next (keeps held.came next more held.written) in
     let other = some_waiting before.waiting.items file below in
@@ -143,7 +143,7 @@ held_end start old new before mid after ns file mark went kept below unmarked fi
 
 -- nothing is told
 pub held_none : (choice : Choice) (form : Form) (start : Option (List ℕ)) (gathered : List ℕ) (waiting : List Waiting) → All IsNothing waiting
-    → (0 < length waiting → gathered ≡ head_in form (0 + 1)) → (length waiting ≤ 0 → gathered ≡ []) → Holds choice form start start gathered 0 waiting true []
+    → (0 < length waiting → gathered ≡ head_in form (0 + 1)) → (length waiting ≤ 0 → gathered ≡ []) → HoldsNotes choice form start start gathered 0 waiting true []
 held_none choice form start gathered waiting all some none = record {
   came = λ _. nothing;
   told = λ k below. record { entries = refl; mark = refl };
@@ -196,12 +196,12 @@ left_off_item start old new before after ns file entry same below from comes bre
 -- where the front was to move on after one mark more
 pub left_off_end : (start old new : Option (List ℕ)) (before mid after : Lines) (ns : List Note) (file : ℕ) (mark : Mark) → AreLinesOf mid after → AreLinesOf before mid
     → file < length before.waiting.items → ((other : Waiting) → MayEnd mark (get_or before.waiting.items file other).count) → before.front ≤ file
-    → ((came next : ℕ → Came) → HasEnded file mark came next → LinesWrite start old before came → LinesWrite start old mid next)
+    → ((came next : ℕ → Came) → HasMarkMore file mark came next → LinesWrite start old before came → LinesWrite start old mid next)
     → ((came : ℕ → Came) → LinesWrite start old mid came → BreaksOff mid.form start new (length mid.waiting.items) came)
     → LinesHold start old before ns → LinesLeaveOff start new after
 left_off_end start old new before mid after ns file mark went kept below fits from keeps breaks held =
     let next = ended_now file mark held.came in
-    let more = has_ended file mark held.came in
+    let more = has_mark_more file mark held.came in
     left_off_as start new mid after went (record {
       came = next;
       ordered = ordered_as before mid next kept (ordered_end start old before ns file mark next below from fits held more);

@@ -4,7 +4,7 @@ use Rattle.std.proofs.lemmas.Bool.{cases_lt}
 use Rattle.streams.specs.declared.frames.Mark.{Mark}
 use Rattle.streams.specs.Sink.{IsOnItsWay}
 use Rattle.reports.specs.declared.form.Form.{Form}
-use Rattle.printing.specs.Lines.{head_in, lines_in, end_in}
+use Rattle.printing.specs.FormLines.{head_in, lines_in, end_in}
 use Rattle.texts.specs.declared.waiting.Waiting.{Waiting}
 use Rattle.texts.specs.Came.{Came, HasMark}
 use Rattle.texts.specs.Waits.{ChangesAt, IsTaken}

@@ -9,7 +9,7 @@ use Rattle.lanes.specs.Notes.{About, Note, is_of, of_file}
 use Rattle.lanes.specs.Drafts.{abouts, mark_after}
 use Rattle.entries.specs.declared.entry.Entry.{Entry}
 use Rattle.entries.specs.Abouts.{about_of}
-use Rattle.texts.specs.Came.{Came, HasEntryMore, HasEnded, IsTold}
+use Rattle.texts.specs.Came.{Came, HasEntryMore, HasMarkMore, IsToldByNotes}
 use Rattle.texts.specs.Stops.{told_same}
 
 -- one more record, one more mark
@@ -41,8 +41,8 @@ mark-end was (Stop ∷ ns) file mark = mark-end was ns file mark
 of_file-mine : (file : ℕ) (ns : List Note) (n : Note) → is_of file n ≡ true → of_file file (ns ++ n ∷ []) ≡ of_file file ns ++ n ∷ []
 of_file-mine file ns n is = filter-append (is_of file) ns (n ∷ []) ∙ ap (λ b. of_file file ns ++ cond b (n ∷ []) []) is
 
-told_item : (file : ℕ) (ns : List Note) (came : Came) (entry : Entry) → entry.file ≡ file → IsTold file ns came
-    → IsTold file (ns ++ Item (about_of entry) ∷ []) (record { entries = came.entries ++ entry ∷ []; mark = came.mark })
+told_item : (file : ℕ) (ns : List Note) (came : Came) (entry : Entry) → entry.file ≡ file → IsToldByNotes file ns came
+    → IsToldByNotes file (ns ++ Item (about_of entry) ∷ []) (record { entries = came.entries ++ entry ∷ []; mark = came.mark })
 told_item file ns came entry of_it was =
     let mine = of_file-mine file ns (Item (about_of entry)) (eq-eqb entry.file file of_it) in
     record {
@@ -51,8 +51,8 @@ told_item file ns came entry of_it was =
       mark = was.mark ∙ sym (mark-item None (of_file file ns) (about_of entry)) ∙ ap (mark_after None) (sym mine);
     }
 
-told_end : (file : ℕ) (ns : List Note) (came : Came) (mark : Mark) → IsTold file ns came
-    → IsTold file (ns ++ End file mark ∷ []) (record { entries = came.entries; mark = Some mark })
+told_end : (file : ℕ) (ns : List Note) (came : Came) (mark : Mark) → IsToldByNotes file ns came
+    → IsToldByNotes file (ns ++ End file mark ∷ []) (record { entries = came.entries; mark = Some mark })
 told_end file ns came mark was =
     let mine = of_file-mine file ns (End file mark) (eq-eqb file file refl) in
     record {
@@ -73,37 +73,37 @@ has_entry_more file entry came = record {
 abbrev pub ended_now : ℕ → Mark → (ℕ → Came) → ℕ → Came
 ended_now file mark came k = cond (k == file) (record { entries = (came file).entries; mark = Some mark }) (came k)
 
-pub has_ended : (file : ℕ) (mark : Mark) (came : ℕ → Came) → HasEnded file mark came (ended_now file mark came)
-has_ended file mark came = record {
+pub has_mark_more : (file : ℕ) (mark : Mark) (came : ℕ → Came) → HasMarkMore file mark came (ended_now file mark came)
+has_mark_more file mark came = record {
   here = ap (λ b. cond b (record { entries = (came file).entries; mark = Some mark }) (came file)) (eq-eqb file file refl);
   others = λ other apart. ap (λ b. cond b (record { entries = (came file).entries; mark = Some mark }) (came other)) (ne_eqb other file apart);
 }
 
 -- what the notes tell of all files
 pub all_told_item : (files : ℕ) (ns : List Note) (file : ℕ) (entry : Entry) (came next : ℕ → Came) → entry.file ≡ file → HasEntryMore file entry came next
-    → ((k : ℕ) → k < files → IsTold k ns (came k)) → (k : ℕ) → k < files → IsTold k (ns ++ Item (about_of entry) ∷ []) (next k)
+    → ((k : ℕ) → k < files → IsToldByNotes k ns (came k)) → (k : ℕ) → k < files → IsToldByNotes k (ns ++ Item (about_of entry) ∷ []) (next k)
 all_told_item files ns file entry came next of_it more told k below =
     elim (cases_eq k file) [
       | inl same ↦
-          let was : IsTold file ns (came file) = subst (λ j. IsTold j ns (came j)) same (told k below) in
-          let now : IsTold file (ns ++ Item (about_of entry) ∷ []) (next file) =
-          subst (IsTold file (ns ++ Item (about_of entry) ∷ [])) (sym more.here) (told_item file ns (came file) entry of_it was) in
-          subst (λ j. IsTold j (ns ++ Item (about_of entry) ∷ []) (next j)) (sym same) now
+          let was : IsToldByNotes file ns (came file) = subst (λ j. IsToldByNotes j ns (came j)) same (told k below) in
+          let now : IsToldByNotes file (ns ++ Item (about_of entry) ∷ []) (next file) =
+          subst (IsToldByNotes file (ns ++ Item (about_of entry) ∷ [])) (sym more.here) (told_item file ns (came file) entry of_it was) in
+          subst (λ j. IsToldByNotes j (ns ++ Item (about_of entry) ∷ []) (next j)) (sym same) now
       | inr apart ↦
-          subst (IsTold k (ns ++ Item (about_of entry) ∷ [])) (sym (more.others k apart))
+          subst (IsToldByNotes k (ns ++ Item (about_of entry) ∷ [])) (sym (more.others k apart))
           (told_same k ns (Item (about_of entry)) (came k) (ne_eqb entry.file k (λ e. apart (sym e ∙ of_it))) (told k below))
     ]
 
-pub all_told_end : (files : ℕ) (ns : List Note) (file : ℕ) (mark : Mark) (came next : ℕ → Came) → HasEnded file mark came next
-    → ((k : ℕ) → k < files → IsTold k ns (came k)) → (k : ℕ) → k < files → IsTold k (ns ++ End file mark ∷ []) (next k)
+pub all_told_end : (files : ℕ) (ns : List Note) (file : ℕ) (mark : Mark) (came next : ℕ → Came) → HasMarkMore file mark came next
+    → ((k : ℕ) → k < files → IsToldByNotes k ns (came k)) → (k : ℕ) → k < files → IsToldByNotes k (ns ++ End file mark ∷ []) (next k)
 all_told_end files ns file mark came next more told k below =
     elim (cases_eq k file) [
       | inl same ↦
-          let was : IsTold file ns (came file) = subst (λ j. IsTold j ns (came j)) same (told k below) in
-          let now : IsTold file (ns ++ End file mark ∷ []) (next file) =
-          subst (IsTold file (ns ++ End file mark ∷ [])) (sym more.here) (told_end file ns (came file) mark was) in
-          subst (λ j. IsTold j (ns ++ End file mark ∷ []) (next j)) (sym same) now
+          let was : IsToldByNotes file ns (came file) = subst (λ j. IsToldByNotes j ns (came j)) same (told k below) in
+          let now : IsToldByNotes file (ns ++ End file mark ∷ []) (next file) =
+          subst (IsToldByNotes file (ns ++ End file mark ∷ [])) (sym more.here) (told_end file ns (came file) mark was) in
+          subst (λ j. IsToldByNotes j (ns ++ End file mark ∷ []) (next j)) (sym same) now
       | inr apart ↦
-          subst (IsTold k (ns ++ End file mark ∷ [])) (sym (more.others k apart))
+          subst (IsToldByNotes k (ns ++ End file mark ∷ [])) (sym (more.others k apart))
           (told_same k ns (End file mark) (came k) (ne_eqb file k (λ e. apart (sym e))) (told k below))
     ]

@@ -14,14 +14,14 @@ use Rattle.lanes.specs.Opening.{Meaning, Silent}
 use Rattle.entries.specs.declared.entry.Entry.{Entry}
 use Rattle.entries.specs.Abouts.{about_of}
 use Rattle.books.specs.Books.{BookModel, IsBook, AreBooks}
-use Rattle.books.proofs.Whole.{all_answered, books_more}
+use Rattle.books.proofs.KeptBooks.{all_answered, books_more}
 use Rattle.reports.specs.declared.form.Form.{Form}
 use Rattle.reports.specs.Report.{numbered_texts}
 use Rattle.reports.specs.Forms.{text_in}
-use Rattle.printing.specs.Lines.{book_in}
+use Rattle.printing.specs.FormLines.{book_in}
 use Rattle.printing.specs.Spelt.{IsSpelt}
-use Rattle.printing.proofs.Books.{text_by_lines}
-use Rattle.texts.specs.Came.{Came, HasEntryMore, HasEnded, nothing, closed, mark_or_memory}
+use Rattle.printing.proofs.BookTexts.{text_by_lines}
+use Rattle.texts.specs.Came.{Came, HasEntryMore, HasMarkMore, nothing, closed, mark_or_memory}
 use Rattle.texts.specs.Orders.{MayEnd, IsInOrder}
 use Rattle.texts.specs.Written.{ended_texts}
 use Rattle.texts.specs.Holding.{LeavesOff}

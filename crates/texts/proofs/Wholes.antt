@@ -7,7 +7,7 @@ use Rattle.planar_code.specs.declared.ending.Ending.{Ending}
 use Rattle.streams.specs.declared.frames.Mark.{Mark}
 use Rattle.entries.specs.declared.answer.Answer.{Answer}
 use Rattle.entries.specs.declared.entry.Entry.{Entry}
-use Rattle.texts.specs.Came.{Came, HasEntryMore, HasEnded, IsWholeSoFar}
+use Rattle.texts.specs.Came.{Came, HasEntryMore, HasMarkMore, IsWholeSoFar}
 
 abbrev pub IsAnswered : Entry → Type 0
 IsAnswered entry = entry.answer ≢ Answer.NoMemory
@@ -54,7 +54,7 @@ whole_lacking files file entry came next below lacks more = (
 )
 
 pub whole_end : (files file : ℕ) (mark : Mark) (came next : ℕ → Came) (whole now : Bool) → file < files → (came file).mark ≡ None
-    → ((now ≡ true) ↔ ((whole ≡ true) × (mark ≡ Mark.Ended Ending.Complete))) → HasEnded file mark came next
+    → ((now ≡ true) ↔ ((whole ≡ true) × (mark ≡ Mark.Ended Ending.Complete))) → HasMarkMore file mark came next
     → ((whole ≡ true) ↔ ((k : ℕ) → k < files → IsWholeSoFar (came k))) → ((now ≡ true) ↔ ((k : ℕ) → k < files → IsWholeSoFar (next k)))
 whole_end files file mark came next whole now below unmarked says more was = (
   λ is.

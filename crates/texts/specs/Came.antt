@@ -35,12 +35,12 @@ pub record HasEntryMore (file : ℕ) (entry : Entry) (before after : ℕ → Cam
   pub others : (other : ℕ) → other ≢ file → after other ≡ before other
 
 -- this file has ended with this mark, and nothing has come of the others
-pub record HasEnded (file : ℕ) (mark : Mark) (before after : ℕ → Came) : Type 0 where
+pub record HasMarkMore (file : ℕ) (mark : Mark) (before after : ℕ → Came) : Type 0 where
   pub here : after file ≡ record { entries = (before file).entries; mark = Some mark }
   pub others : (other : ℕ) → other ≢ file → after other ≡ before other
 
 -- the notes tell this of a file
-pub record IsTold (file : ℕ) (ns : List Note) (came : Came) : Type 0 where
+pub record IsToldByNotes (file : ℕ) (ns : List Note) (came : Came) : Type 0 where
   pub entries : map about_of came.entries ≡ abouts (of_file file ns)
   pub mark : came.mark ≡ mark_after None (of_file file ns)
 

@@ -5,14 +5,14 @@ use Rattle.lanes.specs.Notes.{Note}
 use Rattle.reports.specs.declared.form.Form.{Form}
 use Rattle.texts.specs.declared.waiting.Waiting.{Waiting}
 use Rattle.texts.specs.declared.lines.Lines.{Lines}
-use Rattle.texts.specs.Came.{Came, IsTold, IsWholeSoFar}
+use Rattle.texts.specs.Came.{Came, IsToldByNotes, IsWholeSoFar}
 use Rattle.texts.specs.Orders.{IsInOrder}
 use Rattle.texts.specs.Written.{AreWritten, AreLeft, BreaksOff}
 
--- What the notes tell of each file is in order, and is written or waits. The front has not ended. And it is known whether all is whole so far.
-pub record Holds (choice : Choice) (form : Form) (start now : Option (List ℕ)) (gathered : List ℕ) (front : ℕ) (waiting : List Waiting) (whole : Bool) (ns : List Note) : Type 0 where
+-- What the notes tell of each file is in order, and is written or waits. The front, the first file that has not ended, has no mark. And it is known whether all is whole so far.
+pub record HoldsNotes (choice : Choice) (form : Form) (start now : Option (List ℕ)) (gathered : List ℕ) (front : ℕ) (waiting : List Waiting) (whole : Bool) (ns : List Note) : Type 0 where
   pub came : ℕ → Came
-  pub told : (file : ℕ) → file < length waiting → IsTold file ns (came file)
+  pub told : (file : ℕ) → file < length waiting → IsToldByNotes file ns (came file)
   pub ordered : (file : ℕ) → file < length waiting → IsInOrder choice file (came file)
   pub written : AreWritten form start now gathered front waiting came
   pub unended : front < length waiting → (came front).mark ≡ None
@@ -38,13 +38,13 @@ files_of lines = length lines.waiting.items
 abbrev pub LinesWrite : Option (List ℕ) → Option (List ℕ) → Lines → (ℕ → Came) → Type 0
 LinesWrite start now lines came = AreWritten lines.form start now lines.gathered lines.front lines.waiting.items came
 
--- the same before anything of the front was put on its way
+-- the same before anything of the first file that has not ended was put on its way
 abbrev pub LinesLeave : Option (List ℕ) → Option (List ℕ) → Lines → (ℕ → Came) → Type 0
 LinesLeave start now lines came = AreLeft lines.form start now lines.gathered lines.front lines.waiting.items came
 
 -- what the notes tell is written or waits
 abbrev pub LinesHold : Option (List ℕ) → Option (List ℕ) → Lines → List Note → Type 0
-LinesHold start now lines ns = Holds lines.choice lines.form start now lines.gathered lines.front lines.waiting.items lines.whole ns
+LinesHold start now lines ns = HoldsNotes lines.choice lines.form start now lines.gathered lines.front lines.waiting.items lines.whole ns
 
 -- the text was left off
 abbrev pub LinesLeaveOff : Option (List ℕ) → Option (List ℕ) → Lines → Type 0
@@ -56,7 +56,7 @@ pub record AreLinesOf (before after : Lines) : Type 0 where
   pub choice : after.choice ≡ before.choice
   pub files : length after.waiting.items ≡ length before.waiting.items
 
--- the first file that has not ended and the report of what is missing are those of before, too
+-- the first file that has not ended, and whether all is whole so far, are those of before, too
 pub record StandAt (before after : Lines) : Type 0 where
   pub same : AreLinesOf before after
   pub front : after.front ≡ before.front

@@ -7,20 +7,20 @@ use Rattle.lanes.specs.Notes.{Note, is_of, of_file}
 use Rattle.lanes.specs.Drafts.{abouts, mark_after}
 use Rattle.reports.specs.declared.form.Form.{Form}
 use Rattle.texts.specs.declared.waiting.Waiting.{Waiting}
-use Rattle.texts.specs.Came.{Came, IsTold}
-use Rattle.texts.specs.Holding.{Holds}
+use Rattle.texts.specs.Came.{Came, IsToldByNotes}
+use Rattle.texts.specs.Holding.{HoldsNotes}
 
 of_file-other : (file : ℕ) (ns : List Note) (n : Note) → is_of file n ≡ false → of_file file (ns ++ n ∷ []) ≡ of_file file ns
 of_file-other file ns n is = filter-append (is_of file) ns (n ∷ []) ∙ ap (λ b. of_file file ns ++ cond b (n ∷ []) []) is ∙ append-nil (of_file file ns)
 
 -- a note of another file or of none
-pub told_same : (file : ℕ) (ns : List Note) (n : Note) (came : Came) → is_of file n ≡ false → IsTold file ns came → IsTold file (ns ++ n ∷ []) came
+pub told_same : (file : ℕ) (ns : List Note) (n : Note) (came : Came) → is_of file n ≡ false → IsToldByNotes file ns came → IsToldByNotes file (ns ++ n ∷ []) came
 told_same file ns n came other was =
     let same = sym (of_file-other file ns n other) in
     record { entries = was.entries ∙ ap abouts same; mark = was.mark ∙ ap (mark_after None) same }
 
 pub held_stop : (choice : Choice) (form : Form) (start now : Option (List ℕ)) (gathered : List ℕ) (front : ℕ) (waiting : List Waiting) (whole : Bool) (ns : List Note)
-    → Holds choice form start now gathered front waiting whole ns → Holds choice form start now gathered front waiting whole (ns ++ Stop ∷ [])
+    → HoldsNotes choice form start now gathered front waiting whole ns → HoldsNotes choice form start now gathered front waiting whole (ns ++ Stop ∷ [])
 held_stop choice form start now gathered front waiting whole ns held = record {
   came = held.came;
   told = λ k below. told_same k ns Stop (held.came k) refl (held.told k below);

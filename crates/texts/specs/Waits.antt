@@ -17,13 +17,13 @@ pub record IsCountedOne (before after : Waiting) : Type 0 where
   pub mark : after.mark ≡ before.mark
 
 -- one line more waits
-pub record HasMore (line : List ℕ) (before after : Waiting) : Type 0 where
+pub record GetsLine (line : List ℕ) (before after : Waiting) : Type 0 where
   pub lines : after.lines.items ≡ before.lines.items ++ line
   pub count : after.count ≡ before.count
   pub mark : after.mark ≡ before.mark
 
 -- there was no mark, and there is this one, which a file of so many records may have
-pub record IsMarked (given : Mark) (before after : Waiting) : Type 0 where
+pub record GetsMark (given : Mark) (before after : Waiting) : Type 0 where
   pub lines : after.lines.items ≡ before.lines.items
   pub count : after.count ≡ before.count
   pub unmarked : before.mark ≡ None

@@ -7,7 +7,7 @@ use Rattle.lanes.specs.Notes.{Note}
 use Rattle.lanes.specs.Opening.{Meaning}
 use Rattle.lanes.specs.Files.{HasFile}
 use Rattle.books.specs.Books.{BookModel}
-use Rattle.books.specs.Results.{AreAllBooks}
+use Rattle.books.specs.AllBooks.{AreAllBooks}
 use Rattle.reports.specs.declared.form.Form.{Form}
 use Rattle.reports.specs.Forms.{text_in}
 use Rattle.reports.specs.Wholes.{IsWholeBook}

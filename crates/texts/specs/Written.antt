@@ -3,7 +3,7 @@ use Rattle.std.specs.Prelude.{◌≡◌, ℕ, zero, suc, ◌+◌, ◌<◌, ◌�
 use Rattle.streams.specs.declared.frames.Mark.{Mark}
 use Rattle.streams.specs.Sink.{AppendsFront, IsOnItsWay}
 use Rattle.reports.specs.declared.form.Form.{Form}
-use Rattle.printing.specs.Lines.{head_in, lines_in, end_in}
+use Rattle.printing.specs.FormLines.{head_in, lines_in, end_in}
 use Rattle.texts.specs.declared.refusal.Refusal.{Refusal}
 use Rattle.texts.specs.declared.refusal.Refusal.TheVariants.{Write, Memory, Astray}
 use Rattle.texts.specs.declared.waiting.Waiting.{Waiting}

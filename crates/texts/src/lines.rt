@@ -8,7 +8,7 @@ ghost use Rattle.lanes.specs.declared.message.Message.TheVariants.{Item, End};
 ghost use Rattle.entries.specs.declared.entry.Entry.{Entry};
 ghost use Rattle.entries.specs.declared.answer.Answer.{Answer};
 ghost use Rattle.entries.specs.Abouts.{about_of};
-ghost use Rattle.printing.specs.Lines.{line_in};
+ghost use Rattle.printing.specs.FormLines.{line_in};
 ghost use Rattle.texts.specs.declared.waiting.Waiting.{Waiting};
 ghost use Rattle.texts.specs.Came.{Came, HasEntryMore};
 ghost use Rattle.texts.specs.Orders.{IsNext};
@@ -38,7 +38,7 @@ pub struct Lines {
     front: u32,
     /// What waits of each file.
     waiting: Vec<Waiting>,
-    /// Whether each entry so far has an answer and each file that has ended is complete.
+    /// Whether no entry so far lacks an answer or its line, and each file that has ended is complete.
     whole: bool,
 }
 

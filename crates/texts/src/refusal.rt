@@ -5,9 +5,10 @@
 pub enum Refusal {
     /// The sink has failed.
     Write,
-    /// There was no memory for a line.
+    /// There was no memory for a line, or to let it wait.
     Memory,
-    /// No lane gives such a message: one of a file that has ended, of no file of the run or in another form,
-    /// or the second mark of a file.
+    /// No lane gives such a message: a line or mark of a file that has ended or is none of the run's; a line in
+    /// another form, under another choice, not at the next place of its file or past the last place that a file
+    /// may have; a mark that no file of so many records has.
     Astray,
 }

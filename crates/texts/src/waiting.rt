@@ -1,7 +1,7 @@
 //! What waits of files whose turn has not come.
 ghost use Rattle.std.specs.Prelude.{◌≡◌, ◌<◌, IfOk, IfErr, OnOk, All, length, IsTrue, slice_index_or};
 ghost use Rattle.texts.specs.Orders.{MayEnd};
-ghost use Rattle.texts.specs.Waits.{ChangesAt, IsNothing, IsCountedOne, HasMore, IsMarked, IsTaken};
+ghost use Rattle.texts.specs.Waits.{ChangesAt, IsNothing, IsCountedOne, GetsLine, GetsMark, IsTaken};
 
 use crate::refusal::Refusal;
 use planar_code::{Ending, MAX_RECORDS};
@@ -14,7 +14,7 @@ use streams::Mark;
 pub struct Waiting {
     /// The lines of its entries, as long as its turn has not come.
     pub lines: Vec<u8>,
-    /// How many entries it has.
+    /// How many entries have come of it.
     pub count: u32,
     /// Its mark, once it has ended.
     pub mark: Option<Mark>,
@@ -57,7 +57,7 @@ pub(crate) fn count_one(waiting: &mut Vec<Waiting>, file: u32) -> Result<(), Ref
 pub(crate) fn keep_line(waiting: &mut Vec<Waiting>, file: u32, line: &[u8]) -> Result<(), Refusal>
     requires { file < length waiting.old.items }
     ensures count { length waiting.new.items ≡ length waiting.old.items }
-    ensures kept { OnOk result (ChangesAt file (HasMore line.now) waiting.old.items waiting.new.items) }
+    ensures kept { OnOk result (ChangesAt file (GetsLine line.now) waiting.old.items waiting.new.items) }
     ensures memory { IfErr result (λ refusal. refusal ≡ Refusal.Memory) }
 {
     match waiting[file as usize].lines.extend_from_slice(line) {
@@ -70,7 +70,7 @@ pub(crate) fn keep_line(waiting: &mut Vec<Waiting>, file: u32, line: &[u8]) -> R
 pub(crate) fn keep_mark(waiting: &mut Vec<Waiting>, file: u32, mark: Mark) -> bool
     requires { file < length waiting.old.items }
     ensures count { length waiting.new.items ≡ length waiting.old.items }
-    ensures kept { IsTrue result → ChangesAt file (IsMarked mark) waiting.old.items waiting.new.items }
+    ensures kept { IsTrue result → ChangesAt file (GetsMark mark) waiting.old.items waiting.new.items }
 {
     let here = &mut waiting[file as usize];
     if here.mark.is_some() || !may_end(mark, here.count) {

@@ -1,6 +1,6 @@
 //! Text on its way to a sink.
 ghost use Rattle.std.specs.Prelude.{◌≡◌, ◌+◌, false, OnOk, OnErr, IfErr};
-ghost use Rattle.printing.specs.Lines.{head_in, end_in};
+ghost use Rattle.printing.specs.FormLines.{head_in, end_in};
 ghost use Rattle.texts.specs.Written.{GoesOn, BreaksIn, GivesUp};
 
 use crate::refusal::Refusal;

@@ -2,7 +2,7 @@ use Rattle.std.proofs.Common.{◌≡◌, ◌+◌, length, vec_len, arith, ap, sy
 use Rattle.lanes.specs.Files.{AreReady}
 use Rattle.entries.specs.Abouts.{about_of}
 use Rattle.books.specs.Books.{IsBook, AreBooks}
-use Rattle.books.proofs.Whole.{books_more}
+use Rattle.books.proofs.KeptBooks.{books_more}
 use Rattle.books.proofs.Ready.{ready_some, book_ready}
 use Rattle.books.proofs.binding.bind.Goals as goal
 

@@ -3,7 +3,7 @@ use Rattle.lanes.specs.declared.message.Message.TheVariants.{Item}
 use Rattle.lanes.specs.Keeping.{KeepsFile}
 use Rattle.entries.specs.Abouts.{about_of}
 use Rattle.books.specs.Books.{IsBook}
-use Rattle.books.proofs.Whole.{whole_kept, all_answered}
+use Rattle.books.proofs.KeptBooks.{whole_kept, all_answered}
 use Rattle.collector.proofs.plain.read_book.Goals as goal
 
 pub returns-clause-book : goal.returns-clause-book

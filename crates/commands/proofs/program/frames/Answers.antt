@@ -2,7 +2,7 @@ use Rattle.std.proofs.Common.{◌≡◌, ℕ, Bool, List, rules, inr}
 use Rattle.streams.specs.declared.frames.Mark.{Mark}
 use Rattle.streams.specs.Marks.{IsMarked}
 use Rattle.streams.specs.Text.{frames_text}
-use Rattle.commands.proofs.Reported.{front_of, on_err}
+use Rattle.commands.proofs.ReportBegun.{front_of, on_err}
 use Rattle.commands.proofs.program.frames.Goals as goal
 
 -- what two sources found that fail alike

@@ -1,4 +1,4 @@
-use Rattle.commands.proofs.Refused.{ends_else}
+use Rattle.commands.proofs.FaultStatus.{ends_else}
 use Rattle.commands.proofs.program.perform.Goals as goal
 
 pub returns-in-Err-clause-done : goal.returns-in-Err-clause-done

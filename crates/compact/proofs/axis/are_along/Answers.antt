@@ -1,5 +1,6 @@
 use Rattle.std.proofs.Common.{◌∙◌, ◌≡◌, ◌≢◌, ◌⊎◌, ◌+◌, ℕ, ap, sym, subst, arith, slice_index}
-use Rattle.dissect.specs.Boxes.{web, number_of}
+use Rattle.directions.specs.Directions.{quarters}
+use Rattle.dissect.specs.Boxes.{web}
 use Rattle.compact.specs.Ordered.{growth}
 use Rattle.compact.proofs.Constraining.{constraint_found, no_constraint_found}
 use Rattle.compact.proofs.Stepping.{IsAlongTo, along_kept, along_passed, along_all}
@@ -12,10 +13,10 @@ loop-dart-preserved c =
     let k = growth c.args.axis in
     let d = c.loop-dart.dart in
     let x : ℕ → ℕ = λ v. slice_index c.args.numbers.now v in
-    let way : number_of c.direction.result ≡ w.direction d = c.direction.ensures.value in
+    let way : quarters c.direction.result ≡ w.direction d = c.direction.ensures.value in
     elim c.match-least_difference.branch [
       | in-Some+else-from b ↦
-          let kind = constraint_found (number_of c.direction.result) k b.in-Some.least c.least_difference.result c.least_difference.ensures.forward c.least_difference.ensures.back c.least_difference.ensures.across b.in-Some.is in
+          let kind = constraint_found (quarters c.direction.result) k b.in-Some.least c.least_difference.result c.least_difference.ensures.forward c.least_difference.ensures.back c.least_difference.ensures.across b.in-Some.is in
           along_kept w k d b.in-Some.least x
           (subst (λ (n : ℕ). ((n ≡ k) × (b.in-Some.least ≡ 1)) ⊎ ((n ≢ k) × (n ≢ k + 2) × (b.in-Some.least ≡ 0))) way kind)
           (omega (
@@ -29,7 +30,7 @@ loop-dart-preserved c =
           ))
           c.loop-dart.invariant
       | in_default b ↦
-          along_passed w k d x (sym way ∙ no_constraint_found (number_of c.direction.result) k c.least_difference.result c.least_difference.ensures.forward c.least_difference.ensures.across b.in_default.is) c.loop-dart.invariant
+          along_passed w k d x (sym way ∙ no_constraint_found (quarters c.direction.result) k c.least_difference.result c.least_difference.ensures.forward c.least_difference.ensures.across b.in_default.is) c.loop-dart.invariant
     ]
 
 pub returns-clause-along : goal.returns-clause-along

@@ -2,7 +2,8 @@ use Rattle.std.proofs.Common.{◌∙◌, sym, ap, inl, inr}
 use Rattle.std.proofs.lemmas.Bool.{cases_Bool}
 use denote.Enum.Bare.{differs_true, differs_false}
 use Rattle.directions.specs.contracts.Direction.{the_type}
-use Rattle.dissect.specs.Boxes.{web, number_of}
+use Rattle.directions.specs.Directions.{quarters}
+use Rattle.dissect.specs.Boxes.{web}
 use Rattle.compact.proofs.Walking.{same_way}
 use Rattle.compact.proofs.Numbers.{one_number}
 use Rattle.compact.proofs.corners.is_turn.Goals as goal
@@ -17,6 +18,6 @@ returns c =
         | inl so ↦ so
         | inr not_so ↦
             let one = differs_false the_type tt c.direction.result c.direction-2.result (sym c.ne.ensures ∙ not_so) in
-            absurd (turns (same.1 (sym c.direction.ensures.value ∙ ap number_of one ∙ c.direction-2.ensures.value)))
+            absurd (turns (same.1 (sym c.direction.ensures.value ∙ ap quarters one ∙ c.direction-2.ensures.value)))
       ],
     )

@@ -1,9 +1,9 @@
 use Rattle.std.proofs.Common.{◌≡◌, ◌+◌, ◌-◌, ℕ, List, length, get_or, arith, sym, ap, subst, zero-add, ◌∙◌}
 use Rattle.networks.specs.declared.arc.Cap.TheVariants.{AtMost, Any}
-use Rattle.networks.specs.Net.{no_arc}
+use Rattle.networks.specs.Networks.{no_arc}
 use Rattle.embedding.specs.Darts.{head_of, reverse_of, dart_count}
 use Rattle.faces.specs.Planes.{darts, vertices, head, reverse_dart, face_at}
-use Rattle.flow_network.proofs.Pushing.{push_length, push_keeps, push_more, arc_same}
+use Rattle.flow_network.proofs.GrowingLists.{push_length, push_keeps, push_more, arc_same}
 use Rattle.flow_network.proofs.parts.arcs_of.Goals as goal
 
 pub corners-preserved : goal.corners-preserved

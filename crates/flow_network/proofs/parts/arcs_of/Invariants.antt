@@ -1,7 +1,7 @@
 use Rattle.std.proofs.Common.{◌≡◌, ◌+◌, ◌-◌, ◌<◌, ℕ, length, get_or}
 use Rattle.faces.specs.Planes.{darts, vertices, head, reverse_dart, face_at}
 use Rattle.networks.specs.declared.arc.Cap.TheVariants.{AtMost, Any}
-use Rattle.networks.specs.Net.{no_arc}
+use Rattle.networks.specs.Networks.{no_arc}
 use Rattle.flow_network.proofs.parts.arcs_of.Given as goal
 
 abbrev pub invariant-corners : goal.invariant-corners

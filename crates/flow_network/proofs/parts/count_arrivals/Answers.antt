@@ -3,7 +3,7 @@ use Rattle.std.proofs.lemmas.List.{get_or-replicate}
 use Rattle.std.proofs.Math.ListN.{length-set}
 use Rattle.embedding.specs.Darts.{head_of, dart_count}
 use Rattle.faces.specs.Planes.{head}
-use Rattle.flow_network.proofs.Pushing.{ones_few, counts_more}
+use Rattle.flow_network.proofs.GrowingLists.{ones_few, counts_more}
 use Rattle.flow_network.proofs.parts.count_arrivals.Goals as goal
 
 pub darts-init : goal.darts-init

@@ -2,8 +2,8 @@ use Rattle.std.proofs.Common.{rules, w32, subst, sym}
 use Rattle.std.proofs.lemmas.Int.{to_z-of_z}
 use mir.Val.{SFits}
 use Rattle.std.specs.Prelude.{ℤ, pos, negsuc, ◌≤ℤ◌}
-use Rattle.networks.specs.Net.{Net, shifted, HasFairSupplies}
-use Rattle.flow_tests.proofs.Moving.{still_fair}
+use Rattle.networks.specs.Networks.{NetworkModel, shifted, HasFairSupplies}
+use Rattle.flow_tests.proofs.FairSupplies.{still_fair}
 use Rattle.flow_tests.proofs.standing.moved.Goals as goal
 
 pub shift-requires-clause-fair : goal.shift-requires-clause-fair
@@ -25,4 +25,4 @@ shift-requires-2-clause-fair c =
     let fair = still_fair c.args.twin.now c.args.from c.args.to c.args.amount c.node_count-nodes.ensures.kept.supplies c.requires.from c.requires.to c.requires.few
     (subst (λ (z : ℤ). z ≤ℤ pos 2000) c.supply-more.ensures more)
     (subst (λ (z : ℤ). negsuc 1999 ≤ℤ z) c.supply-less.ensures less) in
-    subst (λ (n : Net). HasFairSupplies (shifted n c.args.from c.args.to c.args.amount)) (sym c.requires.same) fair
+    subst (λ (n : NetworkModel). HasFairSupplies (shifted n c.args.from c.args.to c.args.amount)) (sym c.requires.same) fair

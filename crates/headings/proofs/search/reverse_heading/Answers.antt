@@ -1,5 +1,5 @@
 use Rattle.std.proofs.Common.{arith}
-use Rattle.ortho_rep.proofs.TurnLemmas.{lefts-add-rights}
+use Rattle.ortho_rep.proofs.TurnCounts.{lefts-add-rights}
 use Rattle.headings.proofs.search.reverse_heading.Goals as goal
 
 pub returns-clause-turned : goal.returns-clause-turned

@@ -4,7 +4,7 @@ use Rattle.std.proofs.lemmas.List.FromFn.{map-range_with_len_more}
 use Rattle.std.specs.List.{range_with_len}
 use Rattle.serde_json.specs.Data.{Data}
 use Rattle.serde_json.specs.View.{view}
-use Rattle.json_lines.specs.Lines.{corners_data}
+use Rattle.json_lines.specs.LineData.{corners_data}
 use Rattle.json_lines.proofs.arrays.corners_value.Goals as goal
 
 pub loop-edge-preserved : goal.loop-edge-preserved

@@ -1,7 +1,7 @@
 use Rattle.std.proofs.Common.{◌≡◌, map}
 use Rattle.std.specs.List.{range_with_len}
 use Rattle.serde_json.specs.View.{view}
-use Rattle.json_lines.specs.Lines.{corners_data}
+use Rattle.json_lines.specs.LineData.{corners_data}
 use Rattle.json_lines.proofs.arrays.corners_value.Given as goal
 
 abbrev pub invariant-loop-edge : goal.invariant-loop-edge

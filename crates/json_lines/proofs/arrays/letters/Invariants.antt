@@ -1,5 +1,5 @@
 use Rattle.std.proofs.Common.{◌≡◌, map, take, string_bytes}
-use Rattle.json_lines.specs.Lines.{letter_of}
+use Rattle.json_lines.specs.LineData.{letter_of}
 use Rattle.json_lines.proofs.arrays.letters.Given as goal
 
 abbrev pub invariant-loop-turn : goal.invariant-loop-turn

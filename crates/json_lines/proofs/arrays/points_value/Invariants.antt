@@ -1,6 +1,6 @@
 use Rattle.std.proofs.Common.{◌≡◌, map, take}
 use Rattle.serde_json.specs.View.{view}
-use Rattle.json_lines.specs.Lines.{point_data}
+use Rattle.json_lines.specs.LineData.{point_data}
 use Rattle.json_lines.proofs.arrays.points_value.Given as goal
 
 abbrev pub invariant-loop-point : goal.invariant-loop-point

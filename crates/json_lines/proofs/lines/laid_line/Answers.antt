@@ -1,7 +1,7 @@
 use Rattle.std.proofs.Common.{ap, ◌∙◌}
 use Rattle.serde_json.specs.Written.{has_float}
 use Rattle.entries.specs.declared.answer.Answer.TheVariants.{Laid}
-use Rattle.json_lines.proofs.Plain.{plain_answer}
+use Rattle.json_lines.proofs.NoFloats.{plain_answer}
 use Rattle.json_lines.proofs.lines.laid_line.Goals as goal
 
 pub line-requires : goal.line-requires

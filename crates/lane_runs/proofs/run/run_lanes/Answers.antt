@@ -1,12 +1,8 @@
-use Rattle.std.proofs.Common.{◌≡◌, true, [], vec_len, subst, arith}
+use Rattle.std.proofs.Common.{◌≡◌, true, vec_len, subst, arith}
 use Rattle.ruled_lanes.specs.TicketSeats.{limit_of, has_ended, IsSeatOf}
 use Rattle.lane_runs.specs.Running.{HasEnded}
-use Rattle.lane_runs.proofs.Ending.{ended_so}
 use Rattle.lane_runs.proofs.Seats.{drawn_once}
 use Rattle.lane_runs.proofs.run.run_lanes.Goals as goal
-
-pub returns-in-Err-clause-ended : goal.returns-in-Err-clause-ended
-returns-in-Err-clause-ended g c = ended_so _ _ _ [] c.from.ensures c.requires.empty
 
 pub returns-in-Ok-ran-clause-told : goal.returns-in-Ok-ran-clause-told
 returns-in-Ok-ran-clause-told g c =

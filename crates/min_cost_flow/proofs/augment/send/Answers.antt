@@ -1,5 +1,5 @@
 use Rattle.std.proofs.Common.{◌≡◌, ◌≢◌, ◌<◌, ◌≤◌, ◌+◌, ℕ, min, pos, ◌≤ℤ◌, ◌+ℤ◌, sym, ◌∙◌, ap, subst, arith}
-use Rattle.networks.specs.Net.{node_count}
+use Rattle.networks.specs.Networks.{node_count}
 use Rattle.networks.specs.Flow.{at_nodes}
 use Rattle.min_cost_flow.specs.Excess.{Carries}
 use Rattle.networks.specs.Layout.{numbers, end_at, carried}

@@ -1,5 +1,5 @@
 use Rattle.std.proofs.Common.{◌≡◌, ◌<◌, ◌≤◌, ◌+◌, ℕ, pos, ◌≤ℤ◌, ◌+ℤ◌, true}
-use Rattle.networks.specs.Net.{node_count}
+use Rattle.networks.specs.Networks.{node_count}
 use Rattle.networks.specs.Flow.{at_nodes}
 use Rattle.networks.specs.Layout.{numbers, end_at, IsFilled, carried}
 use Rattle.min_cost_flow.specs.Path.{HasPath}

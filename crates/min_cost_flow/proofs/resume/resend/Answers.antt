@@ -2,7 +2,7 @@ use Rattle.std.proofs.Common.{rules, arith}
 use mir.Syntax.{w32}
 use mir.Val.{SFits}
 use Rattle.networks.specs.Flow.{at_nodes}
-use Rattle.min_cost_flow.proofs.Signs.{is_more, is_no_more}
+use Rattle.min_cost_flow.proofs.Comparisons.{is_more, is_no_more}
 use Rattle.min_cost_flow.proofs.Rounds.{no_flow_wanting, nothing_left}
 use Rattle.min_cost_flow.proofs.Moved.{over_none}
 use Rattle.min_cost_flow.proofs.resume.resend.Goals as goal

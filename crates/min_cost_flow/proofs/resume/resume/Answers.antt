@@ -1,6 +1,6 @@
 use Rattle.std.proofs.Common.{◌≡◌, ◌*◌, ℕ, length, ap, ◌∙◌, subst, arith}
 use Rattle.std.specs.Prelude.{pos, ◌+ℤ◌, ◌≤ℤ◌}
-use Rattle.networks.specs.Net.{node_count}
+use Rattle.networks.specs.Networks.{node_count}
 use Rattle.networks.proofs.Moving.{length-moved}
 use Rattle.networks.specs.Flow.{at_nodes}
 use Rattle.networks.specs.Layout.{carried}

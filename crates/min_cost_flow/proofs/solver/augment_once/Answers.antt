@@ -3,7 +3,7 @@ use Rattle.std.specs.Prelude.{◌<ℤ◌}
 use Rattle.std.proofs.lemmas.Int.{to_z-of_z}
 use mir.Syntax.{w32}
 use mir.Val.{SFits, of_z}
-use Rattle.networks.specs.Net.{node_count}
+use Rattle.networks.specs.Networks.{node_count}
 use Rattle.networks.specs.Flow.{at_nodes}
 use Rattle.networks.specs.Layout.{numbers}
 use Rattle.shortest_paths.specs.Search.{far, IsGraph, IsPriced, IsReached, IsNearest, IsServed, IsLeft}

@@ -2,7 +2,7 @@ use Rattle.std.proofs.Common.{rules, arith}
 use mir.Syntax.{w32}
 use mir.Val.{SFits}
 use Rattle.networks.specs.Flow.{at_nodes}
-use Rattle.min_cost_flow.proofs.Signs.{is_more, is_no_more}
+use Rattle.min_cost_flow.proofs.Comparisons.{is_more, is_no_more}
 use Rattle.min_cost_flow.proofs.Rounds.{looks_most, work_more}
 use Rattle.min_cost_flow.proofs.solver.drain.Goals as goal
 

@@ -1,5 +1,5 @@
 use Rattle.std.proofs.Common.{rules, ◌<◌, ◌^◌, ◌+◌, ◌∙◌, ap, ℕ, ℤ, List, true, false, arith}
-use Rattle.networks.specs.Net.{arc_count, arc_at}
+use Rattle.networks.specs.Networks.{arc_count, arc_at}
 use Rattle.networks.specs.Flow.{at_nodes}
 use Rattle.networks.specs.Layout.{numbers, place_of}
 use Rattle.min_cost_flow.proofs.Rounds.{first_round, done_same}

@@ -1,6 +1,6 @@
 use Rattle.std.proofs.Common.{◌≡◌, ◌≤◌, ◌*◌}
 use Rattle.sums.specs.Sums.{sum_below}
-use Rattle.networks.specs.Net.{arc_at}
+use Rattle.networks.specs.Networks.{arc_at}
 use Rattle.networks.specs.Layout.{carried}
 use Rattle.min_cost_flow.proofs.standing.flow_cost.Given as goal
 

@@ -2,7 +2,7 @@ use Rattle.std.proofs.Common.{rules, w32, ◌≡◌, ◌+◌, subst, ap, arith}
 use Rattle.std.proofs.lemmas.Int.{to_z-of_z}
 use mir.Val.{SFits}
 use Rattle.faces.specs.Planes.{vertices}
-use Rattle.networks.specs.Net.{Net}
+use Rattle.networks.specs.Networks.{NetworkModel}
 use Rattle.networks.specs.Flow.{at_nodes}
 use Rattle.min_cost_flow.specs.Stand.{IsShown}
 use Rattle.ortho_rep.proofs.Tries.{bound_of_potentials}
@@ -21,5 +21,5 @@ returns c =
     let sum = simp to_z-of_z at c.dearer.ensures in
     let first_is : first ≡ vertices plane + plane.outer = omega (arith, c.face_node.ensures, c.outer.ensures.value, c.requires.walk.net.vertices) in
     let second_is : second ≡ vertices plane + c.args.face = omega (arith, c.face_node-2.ensures, c.requires.walk.net.vertices) in
-    let shown = subst (λ (n : Net). IsShown n bends ps) c.requires.walk.same c.requires.shown in
+    let shown = subst (λ (n : NetworkModel). IsShown n bends ps) c.requires.walk.same c.requires.shown in
     bound_of_potentials plane net.network bends ps c.args.face c.dearer.result (at_nodes ps first) (at_nodes ps second) c.graph-graph.ensures.ends (c.graph-graph.ensures.plane).outer c.requires.named c.requires.walk.net.network shown (ap (at_nodes ps) first_is) (ap (at_nodes ps) second_is) sum

@@ -1,6 +1,6 @@
 use Rattle.std.proofs.Common.{◌≡◌, ◌+◌, ℕ, ap, sym, ◌∙◌, subst, arith}
 use Rattle.faces.specs.Planes.{with_outer}
-use Rattle.networks.specs.Net.{Net, shifted, HasFairSupplies}
+use Rattle.networks.specs.Networks.{NetworkModel, shifted, HasFairSupplies}
 use Rattle.networks.specs.Flow.{Flow}
 use Rattle.flow_network.proofs.TurnedOut.{turned_fair}
 use Rattle.flow_network.proofs.Flowing.{net_flows}
@@ -14,7 +14,7 @@ shift-requires-clause-fair c =
     let w = c.args.walk in
     let from_is : c.face_node-from.result ≡ w.net.vertices + p.outer = omega (arith, c.face_node-from.ensures, c.outer.ensures.value) in
     let net_is : shifted w.standing c.face_node-from.result c.face_node-to.result 8 ≡ c.turn_out.new.self.network =
-    ap (λ (n : Net). shifted n c.face_node-from.result c.face_node-to.result 8) c.requires.walk.same
+    ap (λ (n : NetworkModel). shifted n c.face_node-from.result c.face_node-to.result 8) c.requires.walk.same
     ∙ ap (λ (k : ℕ). shifted w.net.network k c.face_node-to.result 8) from_is
     ∙ ap (λ (k : ℕ). shifted w.net.network (w.net.vertices + p.outer) k 8) c.face_node-to.ensures
     ∙ sym c.turn_out.ensures.moved in
@@ -26,11 +26,11 @@ unreachable-requires c =
     let w = c.args.walk in
     let from_is : c.face_node-from.result ≡ w.net.vertices + p.outer = omega (arith, c.face_node-from.ensures, c.outer.ensures.value) in
     let net_is : shifted w.standing c.face_node-from.result c.face_node-to.result 8 ≡ c.turn_out.new.self.network =
-    ap (λ (n : Net). shifted n c.face_node-from.result c.face_node-to.result 8) c.requires.walk.same
+    ap (λ (n : NetworkModel). shifted n c.face_node-from.result c.face_node-to.result 8) c.requires.walk.same
     ∙ ap (λ (k : ℕ). shifted w.net.network k c.face_node-to.result 8) from_is
     ∙ ap (λ (k : ℕ). shifted w.net.network (w.net.vertices + p.outer) k 8) c.face_node-to.ensures
     ∙ sym c.turn_out.ensures.moved in
     let plane = plane_turned p c.args.face c.requires.face c.graph-graph.ensures.plane in
     let is = c.turn_out.ensures.net.network in
     let (y, flow) = net_flows (with_outer p c.args.face) c.turn_out.new.self.network plane is (arc_ends (with_outer p c.args.face) c.turn_out.new.self.network plane is) in
-    c.in-None.ensures.no_flow y (subst (λ (n : Net). Flow n y) (sym net_is) flow)
+    c.in-None.ensures.no_flow y (subst (λ (n : NetworkModel). Flow n y) (sym net_is) flow)

@@ -6,7 +6,7 @@ use Rattle.ortho_rep.specs.Shapes.{angle_at, turns_at}
 use Rattle.ortho_rep.specs.Turns.{lefts, rights}
 use Rattle.ortho_rep.proofs.Tallied.{tallied, tallied-bound}
 use Rattle.ortho_rep.proofs.WeakDuality.{part_at, gains, losses, turning-split}
-use Rattle.ortho_rep.proofs.TurnLemmas.{lefts-add-rights}
+use Rattle.ortho_rep.proofs.TurnCounts.{lefts-add-rights}
 use Rattle.ortho_rep.proofs.representation.add_turns.Goals as goal
 
 pub loop-dart-preserved : goal.loop-dart-preserved

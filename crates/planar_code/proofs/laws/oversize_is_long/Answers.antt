@@ -1,4 +1,4 @@
-use Rattle.planar_code.proofs.TooLong.{long_list-oversize}
+use Rattle.planar_code.proofs.Oversize.{long_list-oversize}
 use Rattle.planar_code.proofs.laws.oversize_is_long.Goals as goal
 
 pub returns : goal.returns

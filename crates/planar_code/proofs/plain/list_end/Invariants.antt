@@ -1,10 +1,11 @@
 use Rattle.std.proofs.Common.{ℕ, ◌≤◌, List, ◌++◌, take}
+use Rattle.planar_code.specs.declared.TheConstants.{MAX_LIST}
 use Rattle.planar_code.specs.Started.{IsStarted}
 use Rattle.planar_code.proofs.plain.list_end.Given as goal
 
 -- the bytes up to here are entries
 abbrev pub invariant-loop-i : goal.invariant-loop-i
 invariant-loop-i l = record {
-  short : l.i ≤ 254;
+  short : l.i ≤ MAX_LIST;
   started : (before : List ℕ) (left : ℕ) → IsStarted before left 0 → IsStarted (before ++ take l.i l.bytes) left l.i;
 }

@@ -26,10 +26,10 @@ returns-in-Cut c =
     let room : length c.loop-rest.records.items ≢ MAX_RECORDS = λ e. c.if-len.false (c.len.ensures ∙ c.loop-rest.records.ok.0 ∙ e) in
     split-truncated c.args.body.now c.loop-rest.records.items c.loop-rest.rest.now c.loop-rest.invariant some room c.in-Cut.ensures
 
-pub returns-in-Long : goal.returns-in-Long
-returns-in-Long c =
+pub returns-in-Oversize : goal.returns-in-Oversize
+returns-in-Oversize c =
     let room : length c.loop-rest.records.items ≢ MAX_RECORDS = λ e. c.if-len.false (c.len.ensures ∙ c.loop-rest.records.ok.0 ∙ e) in
-    split-oversize c.args.body.now c.loop-rest.records.items c.loop-rest.rest.now c.loop-rest.invariant room c.in-Long.ensures
+    split-oversize c.args.body.now c.loop-rest.records.items c.loop-rest.rest.now c.loop-rest.invariant room c.in-Oversize.ensures
 
 pub returns : goal.returns
 returns c =

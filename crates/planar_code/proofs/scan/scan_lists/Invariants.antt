@@ -1,4 +1,5 @@
 use Rattle.std.proofs.Common.{ℕ, ◌<◌, ◌≤◌, List, ◌++◌, take}
+use Rattle.planar_code.specs.declared.TheConstants.{MAX_LIST}
 use Rattle.planar_code.specs.Started.{IsStarted}
 use Rattle.planar_code.proofs.scan.scan_lists.Given as goal
 
@@ -6,6 +7,6 @@ use Rattle.planar_code.proofs.scan.scan_lists.Given as goal
 abbrev pub invariant-loop-i : goal.invariant-loop-i
 invariant-loop-i l = record {
   some : 0 < l.left;
-  short : l.entries ≤ 254;
+  short : l.entries ≤ MAX_LIST;
   started : (before : List ℕ) → IsStarted (before ++ take l.fn.from l.text) l.fn.left l.fn.entries → IsStarted (before ++ take l.i l.text) l.left l.entries;
 }

@@ -5,7 +5,7 @@ use Rattle.std.proofs.lemmas.Result.{err_from_is_err_and}
 use Rattle.streams.specs.declared.faults.WriteFault.{WriteFault}
 use Rattle.streams.specs.Sink.{StaysOnItsWay}
 use Rattle.streams.proofs.Sinks.{line_waits}
-use Rattle.reports.proofs.Texts.{stays_both, stays_fails}
+use Rattle.reports.proofs.TextParts.{stays_both, stays_fails}
 use Rattle.reports.proofs.json.push_line.Goals as goal
 
 pub returns-in_err-make_room : goal.returns-in_err-make_room

@@ -1,5 +1,5 @@
 use Rattle.std.proofs.Common.{◌∙◌, ap, List, ℕ}
-use Rattle.json_lines.specs.Lines.{end_data, line_of}
+use Rattle.json_lines.specs.LineData.{end_data, line_of}
 use Rattle.reports.specs.Json.{end_json}
 use Rattle.reports.proofs.Lacks.{lacks_now, writes_made}
 use Rattle.reports.proofs.json.write_end.Goals as goal

@@ -4,7 +4,7 @@ use Rattle.streams.specs.declared.faults.WriteFault.{WriteFault}
 use Rattle.reports.specs.Writing.{StaysOrLacks}
 use Rattle.reports.specs.Report.{numbered_texts}
 use Rattle.reports.specs.Json.{entry_json}
-use Rattle.reports.proofs.Texts.{texts-next, texts-at, texts_rest}
+use Rattle.reports.proofs.TextParts.{texts-next, texts-at, texts_rest}
 use Rattle.reports.proofs.Lacks.{lacks_both, lacks_more}
 use Rattle.reports.proofs.json.write_entries.Goals as goal
 

@@ -4,7 +4,7 @@ use Rattle.streams.specs.declared.faults.WriteFault.{WriteFault}
 use Rattle.streams.specs.Sink.{IsOnItsWay}
 use Rattle.reports.specs.Report.{numbered_texts}
 use Rattle.reports.specs.Json.{book_json, json_text}
-use Rattle.reports.proofs.Texts.{texts-next, texts-at, texts-all, texts_rest}
+use Rattle.reports.proofs.TextParts.{texts-next, texts-at, texts-all, texts_rest}
 use Rattle.reports.proofs.Lacks.{lacks_whole, lacks_nothing}
 use Rattle.reports.proofs.json.write_json.Goals as goal
 

@@ -3,7 +3,7 @@ use Rattle.std.proofs.lemmas.Result.{err_from_is_err_and}
 use Rattle.streams.specs.declared.faults.WriteFault.{WriteFault}
 use Rattle.streams.specs.Sink.{StaysOnItsWay}
 use Rattle.reports.specs.Report.{file_line, entry_line, end_line, book_text, numbered_texts}
-use Rattle.reports.proofs.Texts.{stays_both, stays_fails, book_by_parts}
+use Rattle.reports.proofs.TextParts.{stays_both, stays_fails, book_by_parts}
 use Rattle.reports.proofs.report.write_book.Goals as goal
 
 pub returns-in_err-write_file : goal.returns-in_err-write_file

@@ -3,7 +3,7 @@ use Rattle.std.proofs.lemmas.Result.{err_from_is_err_and}
 use Rattle.streams.specs.declared.faults.WriteFault.{WriteFault}
 use Rattle.streams.specs.Sink.{StaysOnItsWay}
 use Rattle.reports.specs.Report.{entry_line, numbered_texts}
-use Rattle.reports.proofs.Texts.{texts-next, texts-at, texts_rest, stays_both, stays_fails}
+use Rattle.reports.proofs.TextParts.{texts-next, texts-at, texts_rest, stays_both, stays_fails}
 use Rattle.reports.proofs.report.write_entries.Goals as goal
 
 pub returns-in_err-write_entry : goal.returns-in_err-write_entry

@@ -4,7 +4,7 @@ use Rattle.streams.specs.declared.faults.WriteFault.{WriteFault}
 use Rattle.streams.specs.Sink.{IsOnItsWay}
 use Rattle.streams.proofs.Sinks.{line_fails, flushed_whole}
 use Rattle.reports.specs.Report.{book_text, report_text, numbered_texts}
-use Rattle.reports.proofs.Texts.{texts-next, texts-at, texts-all, texts_rest}
+use Rattle.reports.proofs.TextParts.{texts-next, texts-at, texts-all, texts_rest}
 use Rattle.reports.proofs.report.write_report.Goals as goal
 
 pub returns-in_err-write_book : goal.returns-in_err-write_book

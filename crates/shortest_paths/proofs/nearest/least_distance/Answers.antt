@@ -7,7 +7,7 @@ use Rattle.networks.specs.Flow.{at_nodes}
 use Rattle.networks.specs.Layout.{numbers}
 use Rattle.shortest_paths.specs.Search.{nodes_of, far}
 use Rattle.shortest_paths.proofs.Signs.{passed_within, passed_under, passed_is, difference_is}
-use Rattle.shortest_paths.proofs.Reaching.{reached_fits, price_fits, least_more, at_place, under_level}
+use Rattle.shortest_paths.proofs.Reaching.{reached_fits, potential_fits_at, least_more, at_place, under_level}
 use Rattle.shortest_paths.proofs.nearest.least_distance.Goals as goal
 
 pub distance-requires : goal.distance-requires
@@ -21,7 +21,7 @@ distance-requires c =
     let g : SFits w32 (at_nodes c.args.ground.potential.now v) = search rules in
     record {
       label = passed_within _ _ (at_nodes c.args.label.now v) f (reached_fits _ _ _ _ _ _ _ _ _ _ _ _ _ _ v c.requires.ground.graph c.requires.ground.priced r b l);
-      potential = passed_within _ _ (at_nodes c.args.ground.potential.now v) g (price_fits _ _ _ _ _ v c.requires.ground.graph c.requires.ground.priced b);
+      potential = passed_within _ _ (at_nodes c.args.ground.potential.now v) g (potential_fits_at _ _ _ _ _ v c.requires.ground.graph c.requires.ground.priced b);
     }
 
 pub loop-j-preserved : goal.loop-j-preserved

@@ -6,7 +6,7 @@ use Rattle.networks.specs.Flow.{at_nodes}
 use Rattle.networks.specs.Layout.{numbers}
 use Rattle.shortest_paths.specs.Search.{nodes_of, far}
 use Rattle.shortest_paths.proofs.Signs.{passed_within, difference_is, same_from_bits}
-use Rattle.shortest_paths.proofs.Reaching.{swapped, kept_same, nearest_kept, reached_fits, price_fits, at_level}
+use Rattle.shortest_paths.proofs.Reaching.{swapped, kept_same, nearest_kept, reached_fits, potential_fits_at, at_level}
 use Rattle.shortest_paths.proofs.nearest.take_up.Goals as goal
 
 pub offset_bounds-order-j : goal.offset_bounds-order-j
@@ -37,7 +37,7 @@ distance-requires c =
     let g : SFits w32 (at_nodes c.args.ground.potential.now v) = search rules in
     record {
       label = passed_within _ _ (at_nodes c.args.label.now v) f (reached_fits _ _ _ _ _ _ _ _ _ _ _ _ _ _ v c.requires.ground.graph c.requires.ground.priced r b l);
-      potential = passed_within _ _ (at_nodes c.args.ground.potential.now v) g (price_fits _ _ _ _ _ v c.requires.ground.graph c.requires.ground.priced b);
+      potential = passed_within _ _ (at_nodes c.args.ground.potential.now v) g (potential_fits_at _ _ _ _ _ v c.requires.ground.graph c.requires.ground.priced b);
     }
 
 pub advance-requires : goal.advance-requires

@@ -7,7 +7,7 @@ use Rattle.networks.specs.Flow.{at_nodes}
 use Rattle.networks.specs.Layout.{numbers}
 use Rattle.shortest_paths.specs.Search.{far, nodes_of, IsKept}
 use Rattle.shortest_paths.proofs.Signs.{is_less, is_no_less, both_no_less, fits_within, passed_within, difference_is, same_from_bits, passed_is, passed_under}
-use Rattle.shortest_paths.proofs.Reaching.{swapped, nearest_offered, nearest_kept, kept_then, offer_end, offer_fits, price_fits, at_level, offer_below, offered_least, kept_same, same_z}
+use Rattle.shortest_paths.proofs.Reaching.{swapped, nearest_offered, nearest_kept, kept_then, offer_end, offer_fits, potential_fits_at, at_level, offer_below, offered_least, kept_same, same_z}
 use Rattle.shortest_paths.proofs.reach.reach.Goals as goal
 
 pub bounds-ground-step : goal.bounds-ground-step
@@ -22,7 +22,7 @@ pub distance-away-requires-clause-potential : goal.distance-away-requires-clause
 distance-away-requires-clause-potential c =
     let b : c.args.step.end < nodes_of c.args.ground = offer_end _ _ _ _ _ _ _ _ _ _ _ _ c.requires.ground.graph c.requires.offers in
     let f : SFits w32 (at_nodes c.args.ground.potential.now c.args.step.end) = search rules in
-    passed_within _ _ (at_nodes c.args.ground.potential.now c.args.step.end) f (price_fits _ _ _ _ _ c.args.step.end c.requires.ground.graph c.requires.ground.priced b)
+    passed_within _ _ (at_nodes c.args.ground.potential.now c.args.step.end) f (potential_fits_at _ _ _ _ _ c.args.step.end c.requires.ground.graph c.requires.ground.priced b)
 
 pub mark-requires-clause-plain : goal.mark-requires-clause-plain
 mark-requires-clause-plain c =

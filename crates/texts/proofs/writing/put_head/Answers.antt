@@ -1,5 +1,5 @@
 use Rattle.std.proofs.Common.{◌+◌, subst, ◌∙◌}
-use Rattle.printing.specs.Lines.{head_in}
+use Rattle.printing.specs.FormLines.{head_in}
 use Rattle.texts.specs.Written.{BreaksIn}
 use Rattle.texts.proofs.Breaking.{breaks_here}
 use Rattle.texts.proofs.Results.{err_then}

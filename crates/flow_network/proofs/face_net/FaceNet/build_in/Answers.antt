@@ -1,5 +1,5 @@
 use Rattle.std.proofs.Common.{ℕ, subst, sym}
-use Rattle.networks.specs.Net.{Net}
+use Rattle.networks.specs.Networks.{NetworkModel}
 use Rattle.networks.specs.Flow.{Flow}
 use Rattle.flow_network.specs.FaceNet.{IsFaceNet}
 use Rattle.flow_network.proofs.Flowing.{net_flows}
@@ -9,7 +9,7 @@ use Rattle.flow_network.proofs.face_net.FaceNet.build_in.Goals as goal
 pub unreachable-requires : goal.unreachable-requires
 unreachable-requires c =
     let p = c.args.plane.now in
-    let net : Net = record { supplies = c.in_ok-supplies.supplies.items; arcs = c.in_ok-arcs.arcs.items } in
+    let net : NetworkModel = record { supplies = c.in_ok-supplies.supplies.items; arcs = c.in_ok-arcs.arcs.items } in
     let is : IsFaceNet p net = record {
       nodes = c.in_ok-supplies.ensures.nodes;
       arcs = c.in_ok-arcs.ensures.arcs;
@@ -23,7 +23,7 @@ unreachable-requires c =
 pub returns-clause-flow : goal.returns-clause-flow
 returns-clause-flow c =
     let p = c.args.plane.now in
-    let net : Net = record { supplies = c.in_ok-supplies.supplies.items; arcs = c.in_ok-arcs.arcs.items } in
+    let net : NetworkModel = record { supplies = c.in_ok-supplies.supplies.items; arcs = c.in_ok-arcs.arcs.items } in
     let is : IsFaceNet p net = record {
       nodes = c.in_ok-supplies.ensures.nodes;
       arcs = c.in_ok-arcs.ensures.arcs;
@@ -32,4 +32,4 @@ returns-clause-flow c =
       at_vertex = c.in_ok-supplies.ensures.at_vertex;
       at_face = c.in_ok-supplies.ensures.at_face;
     } in
-    subst (λ (n : Net). (y : ℕ → ℕ) × Flow n y) (sym c.in-Ok.ensures.ok.0) (net_flows p net c.graph.ensures.plane is (arc_ends p net c.graph.ensures.plane is))
+    subst (λ (n : NetworkModel). (y : ℕ → ℕ) × Flow n y) (sym c.in-Ok.ensures.ok.0) (net_flows p net c.graph.ensures.plane is (arc_ends p net c.graph.ensures.plane is))

@@ -1,6 +1,6 @@
 use Rattle.std.proofs.Common.{◌≡◌, ◌+◌, ℕ, ap, sym, ◌∙◌, subst, arith}
 use Rattle.faces.specs.Planes.{vertices, with_outer}
-use Rattle.networks.specs.Net.{Net, shifted, HasFairSupplies}
+use Rattle.networks.specs.Networks.{NetworkModel, shifted, HasFairSupplies}
 use Rattle.flow_network.specs.FaceNet.{IsFaceNet, FaceNetModel}
 use Rattle.flow_network.proofs.TurnedOut.{net_turned, turned_fair}
 use Rattle.flow_network.proofs.face_net.FaceNet.turn_out.Goals as goal
@@ -8,7 +8,7 @@ use Rattle.flow_network.proofs.face_net.FaceNet.turn_out.Goals as goal
 pub shift-requires-clause-fair : goal.shift-requires-clause-fair
 shift-requires-clause-fair c =
     let p = c.args.plane.now in
-    let net : Net = c.self.inside.network in
+    let net : NetworkModel = c.self.inside.network in
     let is : IsFaceNet p net = subst (IsFaceNet p) (sym (ap (λ (n : FaceNetModel). n.network) c.self.view_is)) c.requires.net.network in
     let named = c.outer.ensures.named in
     let turned = net_turned p net c.args.face (omega (arith, c.outer.ensures.value)) c.requires.face is in
@@ -21,7 +21,7 @@ shift-requires-clause-fair c =
 pub returns-clause-net : goal.returns-clause-net
 returns-clause-net c =
     let p = c.args.plane.now in
-    let net : Net = c.self.inside.network in
+    let net : NetworkModel = c.self.inside.network in
     let is : IsFaceNet p net = subst (IsFaceNet p) (sym (ap (λ (n : FaceNetModel). n.network) c.self.view_is)) c.requires.net.network in
     let turned = net_turned p net c.args.face (omega (arith, c.outer.ensures.value, c.outer.ensures.named)) c.requires.face is in
     let from_is : c.face_node-from.result ≡ vertices p + p.outer = omega (arith, ap (λ (n : FaceNetModel). n.vertices) c.self.view_is, c.requires.net.vertices, c.outer.ensures.value, c.face_node-from.ensures) in

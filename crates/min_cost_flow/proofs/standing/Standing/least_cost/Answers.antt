@@ -1,5 +1,5 @@
 use Rattle.std.proofs.Common.{subst, arith}
-use Rattle.networks.specs.Net.{Net}
+use Rattle.networks.specs.Networks.{NetworkModel}
 use Rattle.networks.specs.Flow.{at_nodes}
 use Rattle.networks.specs.Layout.{carried}
 use Rattle.min_cost_flow.specs.Stand.{IsShown}
@@ -24,4 +24,4 @@ returns-clause-shown c =
     let cost_is = rw (c.deref.ensures.value, c.deref-2.ensures.value, c.deref-3.ensures.value) at c.flow_cost-cost.ensures.cost in
     let shown : IsShown s.network c.flow_cost-cost.result lists.potential.items =
     shown_at s.network (carried lists.reverse.items lists.forward.items lists.room.items) lists.potential.items (at_nodes lists.excess.items) c.flow_cost-cost.result c.node_count-nodes.ensures.kept st.round st.sent st.sizes.potentials cost_is in
-    rw c.deref-4.ensures.value (subst (λ (n : Net). IsShown n c.flow_cost-cost.result lists.potential.items) c.self.view_is shown)
+    rw c.deref-4.ensures.value (subst (λ (n : NetworkModel). IsShown n c.flow_cost-cost.result lists.potential.items) c.self.view_is shown)

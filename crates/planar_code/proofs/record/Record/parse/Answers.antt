@@ -17,9 +17,9 @@ pub returns-in-Cut-clause-ok_where_record : goal.returns-in-Cut-clause-ok_where_
 returns-in-Cut-clause-ok_where_record c = λ other.
     ((λ e. absurd (cc)), (λ r. absurd (no_record-first c.args.bytes.now (no_record-unfinished c.args.bytes.now c.in-Cut.ensures) r)))
 
-pub returns-in-Long-clause-ok_where_record : goal.returns-in-Long-clause-ok_where_record
-returns-in-Long-clause-ok_where_record c = λ other.
-    ((λ e. absurd (cc)), (λ r. absurd (no_record-first c.args.bytes.now (no_record-oversize c.args.bytes.now c.in-Long.ensures) r)))
+pub returns-in-Oversize-clause-ok_where_record : goal.returns-in-Oversize-clause-ok_where_record
+returns-in-Oversize-clause-ok_where_record c = λ other.
+    ((λ e. absurd (cc)), (λ r. absurd (no_record-first c.args.bytes.now (no_record-oversize c.args.bytes.now c.in-Oversize.ensures) r)))
 
 pub returns-in-After-clause-ok_where_record : goal.returns-in-After-clause-ok_where_record
 returns-in-After-clause-ok_where_record c = λ other. (

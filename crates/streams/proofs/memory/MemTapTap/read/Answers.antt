@@ -2,7 +2,7 @@ use Rattle.std.proofs.Common.{◌≡◌, ℕ, ◌+◌, ◌-◌, ◌≤◌, List,
 use Rattle.std.proofs.lemmas.List.{take-append-drop, drop-drop, take_at, length-take}
 use Rattle.streams.proofs.memory.MemTapTap.read.Goals as goal
 
--- what stood at a place was copied to the front of a buffer
+-- what stood at a place was copied to the beginning of a buffer
 copied_given : (bytes copied rest : List ℕ) (at count end : ℕ) → copied ≡ take (end - at) (drop at bytes) → end ≡ at + count → length copied ≡ count
     → drop at bytes ≡ take count (copied ++ rest) ++ drop end bytes
 copied_given bytes copied rest at count end is ends long =

@@ -1,6 +1,6 @@
 use Rattle.std.proofs.Common.{◌<◌, ◌≤◌, length, refl, rules}
 use Rattle.texts.specs.declared.lines.Lines.{Lines}
-use Rattle.texts.specs.Waits.{ChangesAt, IsMarked}
+use Rattle.texts.specs.Waits.{ChangesAt, GetsMark}
 use Rattle.texts.proofs.Adding.{written_marked}
 use Rattle.texts.proofs.Held.{held_end}
 use Rattle.texts.proofs.Results.{ok_both}
@@ -22,7 +22,7 @@ returns-clause-held g c =
     let old = g.S.Sink.taken c.args.sink.now in
     let from : before.front ≤ file = search rules in
     let below : file < length before.waiting.items = search rules in
-    let kept : ChangesAt file (IsMarked c.args.mark) before.waiting.items waiting.items = search rules in
+    let kept : ChangesAt file (GetsMark c.args.mark) before.waiting.items waiting.items = search rules in
     ok_both c.advance.result c.advance.ensures.written c.advance.ensures.unended (λ moves unended start ns held.
     held_end start old (g.S.Sink.taken c.advance.new.sink) before mid after ns file c.args.mark c.advance.ensures.same (record { form = refl; choice = refl; files = kept.count })
     below (λ other. (kept.here other).unmarked) (λ other. (kept.here other).fits) from c.is_whole_with-self.ensures c.advance.ensures.whole
@@ -39,7 +39,7 @@ returns-clause-broken g c =
     let old = g.S.Sink.taken c.args.sink.now in
     let from : before.front ≤ file = search rules in
     let below : file < length before.waiting.items = search rules in
-    let kept : ChangesAt file (IsMarked c.args.mark) before.waiting.items waiting.items = search rules in
+    let kept : ChangesAt file (GetsMark c.args.mark) before.waiting.items waiting.items = search rules in
     err_then c.advance.result c.advance.ensures.broken (λ broken start ns held.
     left_off_end start old (g.S.Sink.taken c.advance.new.sink) before mid after ns file c.args.mark c.advance.ensures.same (record { form = refl; choice = refl; files = kept.count })
     below (λ other. (kept.here other).fits) from

@@ -1,5 +1,5 @@
 use Rattle.std.proofs.Common.{◌≡◌, ◌<◌, ◌↔◌, true, ap, refl, rules, subst, sym, length, ℕ, ◌≤◌, ◌∙◌}
-use Rattle.printing.specs.Lines.{IsLineOf, line_in}
+use Rattle.printing.specs.FormLines.{IsLineOf, line_in}
 use Rattle.texts.specs.Came.{IsWholeSoFar}
 use Rattle.texts.proofs.Held.{comes_next, held_item, lacking}
 use Rattle.texts.proofs.Results.{ok_then, ok_both}

@@ -4,47 +4,47 @@ use Rattle.networks.specs.declared.network.TheConstants.{MAX_ARCS, MAX_NODES}
 use Rattle.networks.specs.declared.arc.Arc.{Arc}
 use Rattle.networks.specs.declared.arc.Cap.TheVariants.{AtMost}
 
--- a supply for each node, nodes being numbered from 0, and the arcs, which are numbered too
-pub record Net : Type 0 where
+-- what callers see of a `Network`: a supply for each node, and the arcs; nodes and arcs are numbered from 0
+pub record NetworkModel : Type 0 where
   pub supplies : List ℤ
   pub arcs : List Arc
 
-abbrev pub net_of : List ℤ → List Arc → Net
+abbrev pub net_of : List ℤ → List Arc → NetworkModel
 net_of supplies arcs = record { supplies = supplies; arcs = arcs }
 
-abbrev pub node_count : Net → ℕ
+abbrev pub node_count : NetworkModel → ℕ
 node_count net = length net.supplies
 
-abbrev pub arc_count : Net → ℕ
+abbrev pub arc_count : NetworkModel → ℕ
 arc_count net = length net.arcs
 
 -- stands for arcs past the last
 abbrev pub no_arc : Arc
 no_arc = record { from = 0; to = 0; cap = AtMost 0; cost = 0 }
 
-abbrev pub arc_at : Net → ℕ → Arc
+abbrev pub arc_at : NetworkModel → ℕ → Arc
 arc_at net i = slice_index_or net.arcs i no_arc
 
-abbrev pub supply_at : Net → ℕ → ℤ
+abbrev pub supply_at : NetworkModel → ℕ → ℤ
 supply_at net v = slice_index_or net.supplies v (pos 0)
 
-abbrev pub IsSmall : Net → Type 0
+abbrev pub IsSmall : NetworkModel → Type 0
 IsSmall net = (node_count net ≤ MAX_NODES) × (arc_count net ≤ MAX_ARCS)
 
 -- both ends of each arc are nodes
-abbrev pub HasEnds : Net → Type 0
+abbrev pub HasEnds : NetworkModel → Type 0
 HasEnds net = (i : ℕ) → i < arc_count net → ((arc_at net i).from < node_count net) × ((arc_at net i).to < node_count net)
 
 -- no supply exceeds 2,048 in absolute value
-abbrev pub HasFairSupplies : Net → Type 0
+abbrev pub HasFairSupplies : NetworkModel → Type 0
 HasFairSupplies net = (v : ℕ) → v < node_count net → (negsuc 2047 ≤ℤ supply_at net v) × (supply_at net v ≤ℤ pos 2048)
 
 -- each arc costs 0 or 1 a unit
-abbrev pub HasUnitCosts : Net → Type 0
+abbrev pub HasUnitCosts : NetworkModel → Type 0
 HasUnitCosts net = (i : ℕ) → i < arc_count net → (arc_at net i).cost ≤ 1
 
 -- what holds of each `Network`
-pub record IsNetwork (net : Net) : Type 0 where
+pub record IsNetwork (net : NetworkModel) : Type 0 where
   pub small : IsSmall net
   pub ends : HasEnds net
   pub supplies : HasFairSupplies net
@@ -61,5 +61,5 @@ abbrev pub moved : List ℤ → ℕ → ℕ → ℕ → List ℤ
 moved units from to k = lowered (raised units from k) to k
 
 -- node `from` supplies k units more, and node `to` k units less
-abbrev pub shifted : Net → ℕ → ℕ → ℕ → Net
+abbrev pub shifted : NetworkModel → ℕ → ℕ → ℕ → NetworkModel
 shifted net from to k = net_of (moved net.supplies from to k) net.arcs

@@ -1,7 +1,7 @@
 -- The start of a residual arc is the end of its reverse.
 use Rattle.std.proofs.Common.{◌≡◌, ◌<◌, ℕ, Bool, true, false, refl, sym, ◌∙◌, ap, List}
 use Rattle.networks.specs.declared.residual.ResidualArc.{ResidualArc}
-use Rattle.networks.specs.Net.{Net, node_count, arc_count}
+use Rattle.networks.specs.Networks.{NetworkModel, node_count, arc_count}
 use Rattle.networks.specs.Flow.{start_of, end_of}
 use Rattle.networks.specs.Layout.{numbers, end_at, StartsAt, place_of, IsLaidOut, IsFilled}
 
@@ -10,17 +10,17 @@ turned_back false = true
 turned_back true = false
 
 -- the reverse of residual arc (i, back)
-pub reverse_is : (net : Net) (first reverse forward : List ℕ) (i : ℕ) (back : Bool) → IsLaidOut net first reverse forward → i < arc_count net → numbers reverse (place_of reverse forward i back) ≡ place_of reverse forward i (turned_back back)
+pub reverse_is : (net : NetworkModel) (first reverse forward : List ℕ) (i : ℕ) (back : Bool) → IsLaidOut net first reverse forward → i < arc_count net → numbers reverse (place_of reverse forward i back) ≡ place_of reverse forward i (turned_back back)
 unfolding turned_back
 reverse_is net first reverse forward i false l b = refl
 reverse_is net first reverse forward i true l b = l.turned i b
 
-pub turned_end : (net : Net) (i : ℕ) (back : Bool) → end_of net i (turned_back back) ≡ start_of net i back
+pub turned_end : (net : NetworkModel) (i : ℕ) (back : Bool) → end_of net i (turned_back back) ≡ start_of net i back
 unfolding turned_back
 turned_end net i false = refl
 turned_end net i true = refl
 
-pub start_is : (net : Net) (first reverse forward : List ℕ) (arcs : List ResidualArc) (room : List ℕ) (v k : ℕ) → IsLaidOut net first reverse forward → IsFilled net reverse forward arcs room → v < node_count net → StartsAt first v k → end_at arcs (numbers reverse k) ≡ v
+pub start_is : (net : NetworkModel) (first reverse forward : List ℕ) (arcs : List ResidualArc) (room : List ℕ) (v k : ℕ) → IsLaidOut net first reverse forward → IsFilled net reverse forward arcs room → v < node_count net → StartsAt first v k → end_at arcs (numbers reverse k) ≡ v
 start_is net first reverse forward arcs room v k l f b st =
     let o = l.cover v k b st in
     let r : numbers reverse k ≡ place_of reverse forward o.arc (turned_back o.back) = ap (numbers reverse) (sym o.place) ∙ reverse_is net first reverse forward o.arc o.back l o.inside in

@@ -6,8 +6,8 @@ use Rattle.std.specs.declared.alloc.Global.{Global}
 use Rattle.choices.specs.declared.Choice.{Choice}
 use Rattle.reports.specs.declared.form.Form.{Form}
 use Rattle.program_io.specs.Naming.{is_input}
-use Rattle.commands.specs.declared.reading.Place.{Place}
-use Rattle.commands.specs.declared.reading.Place.TheVariants.{Command, Any, Lanes, Outer, File}
+use Rattle.commands.specs.declared.reading.Role.{Role}
+use Rattle.commands.specs.declared.reading.Role.TheVariants.{Command, Any, Lanes, Outer, File}
 use Rattle.commands.specs.declared.reading.Wish.{Wish}
 use Rattle.commands.specs.declared.reading.Wish.TheVariants as wish
 use Rattle.commands.specs.declared.request.Request.{Request}
@@ -21,8 +21,8 @@ has_front first second word = nat_eq (slice_index word 0) first && nat_eq (slice
 abbrev pub is_help : List ℕ → Bool
 is_help word = bytes_eq word (codes "--help") || has_front 45 104 word
 
--- what a word may be behind this one, which stands at such a place
-abbrev pub after : Place → List ℕ → Place
+-- the role of the word behind this one, which has this role
+abbrev pub after : Role → List ℕ → Role
 after Any word =
     if bytes_eq word (codes "--") then File
     else if bytes_eq word (codes "--lanes") then Lanes
@@ -32,13 +32,13 @@ after File word = File
 after _ word = Any
 
 -- the word is a file: it begins with no '--' where an option may stand
-abbrev pub is_file : Place → List ℕ → Bool
+abbrev pub is_file : Role → List ℕ → Bool
 is_file Any word = not (has_front 45 45 word)
 is_file File word = true
 is_file _ word = false
 
 -- the word asks for this
-abbrev pub asks : Wish → Place → List ℕ → Bool
+abbrev pub asks : Wish → Role → List ℕ → Bool
 asks wish.Version Command word = bytes_eq word (codes "--version")
 asks wish.Frames Command word = bytes_eq word (codes "frames")
 asks wish.Layout Command word = bytes_eq word (codes "layout")
@@ -50,18 +50,18 @@ asks wish.Help Command word = bytes_eq word (codes "help") || is_help word
 asks wish.Help _ word = is_help word
 asks _ _ word = false
 
--- one of these words asks for this, the first of which stands at such a place
-abbrev pub asks_from : Wish → Place → List (String Global) → Bool
-asks_from w place [] = false
-asks_from w place (word ∷ words) =
-    if asks w place (string_bytes word) then true else asks_from w (after place (string_bytes word)) words
+-- one of these words asks for this, the first of which has this role
+abbrev pub asks_from : Wish → Role → List (String Global) → Bool
+asks_from w role [] = false
+asks_from w role (word ∷ words) =
+    if asks w role (string_bytes word) then true else asks_from w (after role (string_bytes word)) words
 
--- the files among these words, in their order, the first of which stands at such a place
-abbrev pub files_from : Place → List (String Global) → List (List ℕ)
-files_from place [] = []
-files_from place (word ∷ words) =
-    if is_file place (string_bytes word) then string_bytes word ∷ files_from (after place (string_bytes word)) words
-    else files_from (after place (string_bytes word)) words
+-- the files among these words, in their order, the first of which has this role
+abbrev pub files_from : Role → List (String Global) → List (List ℕ)
+files_from role [] = []
+files_from role (word ∷ words) =
+    if is_file role (string_bytes word) then string_bytes word ∷ files_from (after role (string_bytes word)) words
+    else files_from (after role (string_bytes word)) words
 
 -- one of the words of a command line asks for this
 abbrev pub asks_in : Wish → List (String Global) → Bool

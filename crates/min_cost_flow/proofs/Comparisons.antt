@@ -1,4 +1,4 @@
--- Tests of signed numbers, as the code makes them.
+-- Whether one signed number is more than another, as tests of the code say.
 use Rattle.std.proofs.Common.{◌≡◌, true, false, subst, arith}
 use Rattle.std.specs.Prelude.{ℤ, ◌≤ℤ◌, ◌<ℤ◌}
 use Rattle.std.proofs.lemmas.Int.{ints, to_z-of_z}

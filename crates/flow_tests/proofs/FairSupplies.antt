@@ -3,7 +3,7 @@ use Rattle.std.proofs.Common.{◌≡◌, ◌<◌, ◌≤◌, ℕ, Bool, true, fa
 use Rattle.std.specs.Prelude.{ℤ, pos, negsuc, ◌+ℤ◌, ◌-ℤ◌, ◌≤ℤ◌}
 use Rattle.std.proofs.lemmas.Bool.{eqb-true}
 use Rattle.std.proofs.lemmas.Int.{ints}
-use Rattle.networks.specs.Net.{Net, node_count, supply_at, shifted, HasFairSupplies}
+use Rattle.networks.specs.Networks.{NetworkModel, node_count, supply_at, shifted, HasFairSupplies}
 use Rattle.networks.proofs.Moving.{moved_at, length-moved}
 
 abbrev IsFair : ℤ → Type 0
@@ -15,7 +15,7 @@ fair_delta true false e e' k few fair high low is = (omega (arith, ints, fair), 
 fair_delta false true e e' k few fair high low is = (omega (arith, ints, fair, low refl), omega (arith, ints, fair))
 fair_delta false false e e' k few fair high low is = (omega (arith, ints, fair), omega (arith, ints, fair))
 
-pub still_fair : (net : Net) (f t k : ℕ) → HasFairSupplies net → f < node_count net → t < node_count net → k ≤ 40 → supply_at net f ≤ℤ pos 2000 → negsuc 1999 ≤ℤ supply_at net t → HasFairSupplies (shifted net f t k)
+pub still_fair : (net : NetworkModel) (f t k : ℕ) → HasFairSupplies net → f < node_count net → t < node_count net → k ≤ 40 → supply_at net f ≤ℤ pos 2000 → negsuc 1999 ≤ℤ supply_at net t → HasFairSupplies (shifted net f t k)
 still_fair net f t k fair fb tb few high low = λ v b.
     let vb : v < node_count net = omega (arith, length-moved net.supplies f t k) in
     fair_delta (eqb v f) (eqb v t) (supply_at net v) (supply_at (shifted net f t k) v) k few (fair v vb)

@@ -1,4 +1,4 @@
--- The entries that were kept of a file are its book.
+-- The entries that were kept of a file are its book, and one book more goes with those in front of it.
 use Rattle.std.proofs.Common.{◌≡◌, ℕ, ◌+◌, List, [], ◌∷◌, ◌++◌, map, length, All, get_or, arith, refl, sym, ap, subst, ◌∙◌}
 use Rattle.streams.specs.declared.frames.Mark.{Mark}
 use Rattle.choices.specs.declared.Choice.{Choice}

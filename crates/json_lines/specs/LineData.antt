@@ -17,7 +17,7 @@ use Rattle.ortho_rep.specs.Representation.{bends_of}
 use Rattle.entries.specs.declared.cause.Cause.{Cause}
 use Rattle.entries.specs.declared.answer.Answer.{Answer}
 use Rattle.entries.specs.declared.answer.Answer.TheVariants.{Laid, Refused, NoMemory}
-use Rattle.entries.specs.Words as causes
+use Rattle.entries.specs.CauseWords as causes
 
 -- ---- numbers, texts, arrays and objects
 

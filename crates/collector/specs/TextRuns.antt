@@ -1,4 +1,4 @@
--- Which runs of texts are refused at once.
+-- Which runs that write a text are refused at once, beside `IsBegun` of `texts`.
 use Rattle.std.specs.Prelude.{⊤}
 use Rattle.streams.specs.declared.faults.BatchFault.TheVariants.{TooManyFiles, BadLanes}
 pub use Rattle.texts.specs.Whole.{IsBegun}
@@ -6,8 +6,8 @@ use Rattle.collector.specs.declared.text.TextFault.{TextFault}
 use Rattle.collector.specs.declared.text.TextFault.TheVariants.{Run, Write}
 
 -- there are too many files, or no lanes, or too many
-abbrev pub IsRefused : TextFault → Type 0
-IsRefused (Run TooManyFiles) = ⊤
-IsRefused (Run BadLanes) = ⊤
-IsRefused (Run _) = ⊥
-IsRefused Write = ⊥
+abbrev pub IsRefusedRun : TextFault → Type 0
+IsRefusedRun (Run TooManyFiles) = ⊤
+IsRefusedRun (Run BadLanes) = ⊤
+IsRefusedRun (Run _) = ⊥
+IsRefusedRun Write = ⊥

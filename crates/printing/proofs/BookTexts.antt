@@ -11,7 +11,7 @@ use Rattle.reports.specs.declared.form.Form.TheVariants.{Report, Json}
 use Rattle.reports.specs.Report.{numbered_texts, entry_line, end_line, file_line, book_text}
 use Rattle.reports.specs.Json.{entry_json, end_json, book_json}
 use Rattle.reports.specs.Forms.{text_in}
-use Rattle.printing.specs.Lines.{line_in, lines_in, book_in}
+use Rattle.printing.specs.FormLines.{line_in, lines_in, book_in}
 
 -- the text of a book in this form
 abbrev pub book_text_in : Form → ℕ → BookModel → List ℕ

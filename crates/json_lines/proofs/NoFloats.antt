@@ -10,7 +10,7 @@ use Rattle.ortho_rep.specs.Prices.{PricesModel}
 use Rattle.entries.specs.declared.cause.Cause.{Cause}
 use Rattle.entries.specs.declared.answer.Answer.{Answer}
 use Rattle.entries.specs.declared.answer.Answer.TheVariants.{Laid, Refused, NoMemory}
-use Rattle.json_lines.specs.Lines.{natural, whole, array_of, turns_data, point_data, corners_data, prices_data, points_data, drawn_data, answer_data}
+use Rattle.json_lines.specs.LineData.{natural, whole, array_of, turns_data, point_data, corners_data, prices_data, points_data, drawn_data, answer_data}
 
 plain_items : {A : Type 0} (value : A → Data) → ((x : A) → has_float (value x) ≡ false) → (xs : List A) → items_have_float (items_of (map value xs)) ≡ false
 plain_items value plain [] = refl
