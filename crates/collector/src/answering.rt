@@ -4,14 +4,14 @@ ghost use Rattle.std.specs.Prelude.{◌≡◌};
 use answers::{Embedded, Framed, Shaped};
 use choices::Choice;
 use entries::Entry;
-use lane_runs::Line;
+use lane_runs::LaneKind;
 use planar_code::Record;
 
 /// Lanes that answer records: what is known of a record between their stages.
 #[derive(Clone, Copy, Debug)]
 pub struct Answering;
 
-impl Line for Answering {
+impl LaneKind for Answering {
     type Framed = Framed;
 
     type Embedded = Embedded;

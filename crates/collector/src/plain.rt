@@ -17,7 +17,7 @@ use streams::{BatchFault, piece_buffer};
 ///
 /// # Errors
 ///
-/// `TooManyFiles` exactly where there are more than `MAX_FILES`; `Memory` where there was none for the buffer
+/// `TooManyFiles` exactly where there are more than `MAX_FILES`; `Memory` where there was no memory for the buffer
 /// that files are read into or for the books. There is no other.
 pub fn run_plain<O: Opener>(
     alloc: Global,

@@ -36,7 +36,7 @@ const _: () = prove!(MAX_LANES == 8);
 /// # Errors
 ///
 /// `TooManyFiles` exactly where there are more than `MAX_FILES`; `BadLanes` exactly where there are no lanes or
-/// more than `MAX_LANES`, and no more files than that. `Memory`: there was none for links, the fan, tickets,
+/// more than `MAX_LANES`, and no more files than that. `Memory`: no memory for links, the fan, tickets,
 /// buffers or books. `LaneLost`: an end of a link or of the fan was gone. `Thread`: a thread could not be started.
 pub fn run_batch<R: Threads + Wait + Sync, O: Opener, G: Gate>(
     rt: &R,

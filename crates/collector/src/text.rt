@@ -12,7 +12,7 @@ ghost use Rattle.collector.specs.TextRuns.{IsRefusedRun};
 use crate::run::MAX_LANES;
 use books::MAX_FILES;
 use choices::Choice;
-use lane_runs::{Line, RunFault, run_lanes};
+use lane_runs::{LaneKind, RunFault, run_lanes};
 use lanes::{Consumer, Gate, Opener};
 use std::alloc::Global;
 use std::sync::Wait;
@@ -42,7 +42,7 @@ pub enum TextFault {
 ///
 /// `TooManyFiles` exactly where there are more than `MAX_FILES`; `BadLanes` exactly where there are no lanes or
 /// more than `MAX_LANES`, and no more files than that; nothing is then written. `Write` exactly where the sink
-/// has then failed. `Memory`: there was none for links, the fan, tickets, buffers or lines. `LaneLost`: an end
+/// has then failed. `Memory`: no memory for links, the fan, tickets, buffers or lines. `LaneLost`: an end
 /// of a link or of the fan was gone, or the text was handed a message that no lane gives. `Thread`: a thread could
 /// not be started. Whatever it is, what was written is a beginning of the text of some books, one for each file,
 /// whose records and mark are those of some bytes.
@@ -151,7 +151,7 @@ fn run_form<C: Consumer<Printed>, R: Threads + Wait + Sync, O: Opener, G: Gate>(
 
 /// Runs lanes of one kind, and puts what came of them into `ran`.
 fn run_into<
-    L: Line<Entry = Printed>,
+    L: LaneKind<Entry = Printed>,
     C: Consumer<Printed>,
     R: Threads + Wait + Sync,
     O: Opener,

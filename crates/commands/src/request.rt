@@ -20,13 +20,17 @@ pub enum Request<'a> {
     Frames {
         path: &'a str,
     },
-    /// Answers to the records of files under a choice of the outer face, worked out in so many lanes and
-    /// written in a form, and where it is told how far the run is.
+    /// Answers to the records of files.
     Layout {
+        /// The files, in order.
         paths: Vec<&'a str>,
+        /// How many lanes work on them.
         lanes: u32,
+        /// How the outer face of each plane is chosen.
         choice: Choice,
+        /// The form of the text.
         form: Form,
+        /// Whether and where it is told how far the run is.
         progress: Progress,
     },
 }

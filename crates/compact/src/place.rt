@@ -64,7 +64,7 @@ fn corners_of(
 /// ends and corners.
 ///
 /// The numbers are the lengths of longest paths in the two constraint graphs of the dissection
-/// (Tamassia 1987). They are found row by row, a row being what darts across the axis join: a few steps
+/// (Tamassia 1987). They are found row by row, a row being the vertices that darts across the axis join: a few steps
 /// for each dart. Where that does not keep all constraints, as in a drawing too wide for the grid, the
 /// end of each constraint that is not kept is raised, in rounds. The points take three allocations,
 /// however many edges there are.

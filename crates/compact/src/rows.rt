@@ -30,7 +30,7 @@ impl Steps<'_> {
 
 /// What the search knows of a vertex, and the row that comes at the vertex's place.
 #[derive(Clone, Copy, Debug)]
-struct Place {
+struct VertexState {
     /// The first vertex of the row of this vertex.
     row: u32,
     /// For the first vertex of a row, how many steps to the row are still to come.
@@ -43,7 +43,7 @@ struct Place {
 /// steps alone. The next search can use its memory again.
 #[derive(Drop)]
 pub struct Search {
-    places: Vec<Place>,
+    places: Vec<VertexState>,
     /// How many rows are ready: no step to them is to come any more.
     ready: usize,
 }
@@ -59,7 +59,7 @@ impl Search {
 
     /// Begins a search over so many vertices, where no step has come.
     fn begin(&mut self, steps: Steps<'_>, vertices: u32) -> Result<(), AllocError> {
-        let unknown = Place {
+        let unknown = VertexState {
             row: NO_VERTEX,
             waits: 0,
             ready: NO_VERTEX,

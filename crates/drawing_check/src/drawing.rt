@@ -55,7 +55,7 @@ impl Drawing {
 ///
 /// # Errors
 ///
-/// The first condition that fails, or `Memory` where there is none for the rectangles, the table or the map;
+/// The first condition that fails, or `Memory` where there is no memory for the rectangles, the table or the map;
 /// with it the points.
 pub fn check(
     alloc: Global,

@@ -12,7 +12,7 @@ use std::alloc::{AllocError, Global};
 use std::process::Abort;
 use std::test::Fail;
 
-const ROOM: usize = 42;
+const TABLE_ROOM: usize = 42;
 
 /// The first number, and the other in all places behind it.
 fn numbers(alloc: Global, first: u32, others: u32) -> Result<Vec<u32>, AllocError>
@@ -20,7 +20,7 @@ fn numbers(alloc: Global, first: u32, others: u32) -> Result<Vec<u32>, AllocErro
     ensures first { IfOk result (λ v. slice_index v.items 0 ≡ first) }
     ensures second { IfOk result (λ v. slice_index v.items 1 ≡ others) }
 {
-    let mut list = vec![in alloc; others; ROOM]?;
+    let mut list = vec![in alloc; others; TABLE_ROOM]?;
     list[0] = first;
     Ok(list)
 }
@@ -31,7 +31,7 @@ fn small_numbers(alloc: Global, first: u8, others: u8) -> Result<Vec<u8>, AllocE
     ensures first { IfOk result (λ v. slice_index v.items 0 ≡ first) }
     ensures second { IfOk result (λ v. slice_index v.items 1 ≡ others) }
 {
-    let mut list = vec![in alloc; others; ROOM]?;
+    let mut list = vec![in alloc; others; TABLE_ROOM]?;
     list[0] = first;
     Ok(list)
 }

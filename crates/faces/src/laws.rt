@@ -52,7 +52,7 @@ pub fn faces_are_joined()
         → (k j : ℕ) → k < p.faces → j < p.faces → t k ≡ true → t j ≡ true }
 {}
 
-/// The darts of a plane have their ends, their reverses, their nexts and their faces within it.
+/// The darts of a plane have their ends, their reverses, the darts that follow them and their faces within it.
 pub fn planes_have_ends()
     ensures { (p : PlaneModel) → IsPlane p → HasEnds p }
 {}

@@ -15,7 +15,7 @@ use reuse::{emptied, filled};
 use std::alloc::{AllocError, Global};
 
 /// Stands for no direction.
-const UNSET: u8 = 4;
+const NO_DIRECTION: u8 = 4;
 
 /// A search for directions, whose memory the next one can use again.
 #[derive(Drop)]
@@ -44,7 +44,7 @@ impl Search {
     {
         let Search { headings, waiting } = self;
         Ok(Search {
-            headings: filled(headings, darts, UNSET)?,
+            headings: filled(headings, darts, NO_DIRECTION)?,
             waiting: emptied(waiting, darts)?,
         })
     }
@@ -55,7 +55,7 @@ impl Search {
         ensures { OnOk result (IsReached self.old.headings.items self.old.waiting.items dart heading
             self.new.headings.items self.new.waiting.items) }
     {
-        if self.headings[usize::from(dart)] == UNSET {
+        if self.headings[usize::from(dart)] == NO_DIRECTION {
             self.headings[usize::from(dart)] = heading;
             self.waiting.push(dart)?;
         }

@@ -3,7 +3,7 @@ ghost use Rattle.std.proofs.Common.{refl, ◌∙◌};
 ghost use Rattle.ruled_lanes.specs.LinkEnds.{given, GivesToSame};
 ghost use Rattle.lanes.specs.Notes.{notes};
 
-use crate::line::Line;
+use crate::lane_kind::LaneKind;
 use choices::Choice;
 use lanes::{Gate, Keep, Message, Stage};
 use planar_code::Record;
@@ -17,14 +17,14 @@ pub struct Gone;
 
 /// Passes the gate and gives a message for each record.
 #[derive(Drop)]
-pub struct Gives<'r, 'g, R, G, L: Line> {
+pub struct Gives<'r, 'g, R, G, L: LaneKind> {
     pub rt: &'r R,
     pub gate: &'g G,
     pub lane: u32,
     pub giver: Giver<Message<L::Framed>>,
 }
 
-impl<R: Wait, G: Gate, L: Line> Keep for Gives<'_, '_, R, G, L> {
+impl<R: Wait, G: Gate, L: LaneKind> Keep for Gives<'_, '_, R, G, L> {
     type Lost = Gone;
 
     ghost kept = { λ g. notes L.Framed.about (given g.giver) };

@@ -8,7 +8,7 @@ ghost use Rattle.lanes.specs.Notes.{notes, GoOn};
 ghost use Rattle.lane_runs.specs.Lanes.{TellsSeat, EndsLane};
 
 use crate::fault::LaneFault;
-use crate::line::Line;
+use crate::lane_kind::LaneKind;
 use crate::links::{Links, new_links, settle_lane};
 use crate::running::LaneEnd;
 use crate::starting::{start_read, start_stage};
@@ -24,7 +24,7 @@ use streams::piece_buffer;
 /// Runs a lane: its last stage on the caller's thread, the others in a thread each. All entries go to
 /// the giver, and after them, whatever the lane met, one stop; a lane whose stop was refused says so. The
 /// giver is given back once the other threads have ended.
-pub fn run_lane<L: Line, R: Threads + Wait + Sync, O: Opener, G: Gate>(
+pub fn run_lane<L: LaneKind, R: Threads + Wait + Sync, O: Opener, G: Gate>(
     rt: &R,
     alloc: Global,
     opener: &O,
@@ -70,7 +70,7 @@ pub fn run_lane<L: Line, R: Threads + Wait + Sync, O: Opener, G: Gate>(
 
 /// Makes the links of a lane, starts its first stages and runs the last one. The stop is the caller's to
 /// give. It gives the lane's seat back.
-fn run_stages<'s, E, L: Line + 's, R: Threads + Wait + Sync, O: Opener, G: Gate>(
+fn run_stages<'s, E, L: LaneKind + 's, R: Threads + Wait + Sync, O: Opener, G: Gate>(
     scope: &'s Scope<'s, E>,
     rt: &'s R,
     alloc: Global,

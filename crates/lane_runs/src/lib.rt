@@ -6,7 +6,7 @@ mod fault;
 mod gives;
 mod joining;
 mod lane;
-mod line;
+mod lane_kind;
 mod links;
 mod new_lanes;
 mod read_stage;
@@ -15,5 +15,5 @@ mod running;
 mod starting;
 
 pub use fault::RunFault;
-pub use line::Line;
+pub use lane_kind::LaneKind;
 pub use run::run_lanes;

@@ -9,7 +9,7 @@ ghost use Rattle.lanes.specs.Stages.{IsPassedOn};
 ghost use Rattle.lanes.specs.Files.{TellsDrawn};
 ghost use Rattle.lane_runs.specs.Lanes.{IsNewLink};
 
-use crate::line::Line;
+use crate::lane_kind::LaneKind;
 use lanes::Message;
 use ruled_lanes::{Giver, Taker, link};
 use std::alloc::{AllocError, Global};
@@ -17,14 +17,14 @@ use std::sync::Wait;
 
 /// Both ends of the three links between the stages of a lane.
 #[derive(Drop)]
-pub struct Links<L: Line> {
+pub struct Links<L: LaneKind> {
     pub framed: (Giver<Message<L::Framed>>, Taker<Message<L::Framed>>),
     pub embedded: (Giver<Message<L::Embedded>>, Taker<Message<L::Embedded>>),
     pub shaped: (Giver<Message<L::Shaped>>, Taker<Message<L::Shaped>>),
 }
 
 /// New links, each with room for `capacity` messages.
-pub fn new_links<L: Line>(alloc: Global, capacity: u32) -> Result<Links<L>, AllocError>
+pub fn new_links<L: LaneKind>(alloc: Global, capacity: u32) -> Result<Links<L>, AllocError>
     requires least { 1 ≤ capacity }
     requires most { capacity ≤ MAX_CAPACITY }
     ensures framed { IfOk result (λ links. IsNewLink capacity links.framed.0 links.framed.1) }
@@ -49,7 +49,7 @@ pub fn new_links<L: Line>(alloc: Global, capacity: u32) -> Result<Links<L>, Allo
 
 /// Takes in the links of a lane, by the ends that its stages gave back. So what the first stage told,
 /// the last one told too.
-pub fn settle_lane<L: Line, R: Wait>(
+pub fn settle_lane<L: LaneKind, R: Wait>(
     rt: &R,
     read: Giver<Message<L::Framed>>,
     embed: (Taker<Message<L::Framed>>, Giver<Message<L::Embedded>>),

@@ -6,7 +6,7 @@ ghost use Rattle.lane_runs.specs.Lanes.{ReadsSeat};
 ghost use Rattle.streams.specs.declared.reading.TheConstants.{PIECE};
 
 use crate::gives::Gives;
-use crate::line::Line;
+use crate::lane_kind::LaneKind;
 use choices::Choice;
 use lanes::{Gate, Message, Opener, read_file};
 use ruled_lanes::{Giver, Seat, Tickets};
@@ -15,7 +15,7 @@ use std::sync::Wait;
 
 /// Draws files until none is left, and reads each. Of each it gives its records and one end, and after
 /// the last file one stop. It gives the end of its link and its seat back, or none where the other end was gone.
-pub fn read_stage<L: Line, O: Opener, R: Wait, G: Gate>(
+pub fn read_stage<L: LaneKind, O: Opener, R: Wait, G: Gate>(
     rt: &R,
     alloc: Global,
     opener: &O,

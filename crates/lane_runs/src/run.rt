@@ -11,7 +11,7 @@ ghost use Rattle.lane_runs.specs.Faults.{EndsRun};
 use crate::fault::{LaneFault, RunFault};
 use crate::joining::finish_lanes;
 use crate::lane::run_lane;
-use crate::line::Line;
+use crate::lane_kind::LaneKind;
 use crate::new_lanes::new_fan;
 use crate::running::{LaneEnd, Promised, Running};
 use choices::Choice;
@@ -29,9 +29,9 @@ use std::thread::{Scope, Threads};
 ///
 /// # Errors
 ///
-/// `Memory`: there was none for links, the fan, tickets, buffers, or the lists of lanes. `Lost`: an end of a link
+/// `Memory`: no memory for links, the fan, tickets, buffers, or the lists of lanes. `Lost`: an end of a link
 /// or of the fan was gone. `Thread`: a thread could not be started. `Refused`: the consumer refused a message.
-pub fn run_lanes<L: Line, C: Consumer<L::Entry>, R: Threads + Wait + Sync, O: Opener, G: Gate>(
+pub fn run_lanes<L: LaneKind, C: Consumer<L::Entry>, R: Threads + Wait + Sync, O: Opener, G: Gate>(
     rt: &R,
     alloc: Global,
     opener: &O,
@@ -98,7 +98,7 @@ pub fn run_lanes<L: Line, C: Consumer<L::Entry>, R: Threads + Wait + Sync, O: Op
 fn start_lanes<
     's,
     E,
-    L: Line + 's,
+    L: LaneKind + 's,
     C: Consumer<L::Entry>,
     R: Threads + Wait + Sync,
     O: Opener,
@@ -160,7 +160,7 @@ fn start_lanes<
 }
 
 /// Starts a lane in a thread of its own.
-fn start_lane<'s, E, L: Line + 's, R: Threads + Wait + Sync, O: Opener, G: Gate>(
+fn start_lane<'s, E, L: LaneKind + 's, R: Threads + Wait + Sync, O: Opener, G: Gate>(
     scope: &'s Scope<'s, E>,
     rt: &'s R,
     alloc: Global,

@@ -7,7 +7,7 @@ ghost use Rattle.lane_runs.specs.Lanes.{ReadsSeat};
 ghost use Rattle.streams.specs.declared.reading.TheConstants.{PIECE};
 
 use crate::fault::LaneFault;
-use crate::line::Line;
+use crate::lane_kind::LaneKind;
 use crate::read_stage::read_stage;
 use choices::Choice;
 use lanes::{Gate, Message, Numbered, Opener, Staged, run_stage};
@@ -35,7 +35,7 @@ impl<A: Numbered, O: Opener> Promise<Option<(Giver<Message<A>>, Seat)>> for Read
 pub type StartedRead<A, O> = PromisedHandle<Option<(Giver<Message<A>>, Seat)>, Reads<A, O>>;
 
 /// Starts the first stage of a lane in a thread of its own.
-pub fn start_read<'s, E, L: Line + 's, R: Threads + Wait + Sync, O: Opener, G: Gate>(
+pub fn start_read<'s, E, L: LaneKind + 's, R: Threads + Wait + Sync, O: Opener, G: Gate>(
     scope: &'s Scope<'s, E>,
     rt: &'s R,
     alloc: Global,

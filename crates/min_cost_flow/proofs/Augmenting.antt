@@ -12,7 +12,7 @@ use Rattle.networks.specs.Networks.{NetworkModel, node_count, arc_count, arc_at,
 use Rattle.networks.specs.Flow.{leaves, enters, IsWithin, HasRoom, IsResidual, HasPotentials, start_of, end_of, unit_cost, reduced_cost}
 use Rattle.min_cost_flow.specs.Excess.{KeepsCaps, Carries}
 use Rattle.min_cost_flow.specs.Residual.{IsMoved}
-use Rattle.networks.specs.Layout.{numbers, end_at, cost_at, StartsAt, place_of, IsLaidOut, limit_of, IsFilled, carried}
+use Rattle.networks.specs.ResidualArcs.{numbers, end_at, cost_at, StartsAt, place_of, HasResidualArcs, limit_of, IsFilled, carried}
 use Rattle.min_cost_flow.specs.Path.{IsTight, HasPath}
 use Rattle.min_cost_flow.specs.Round.{IsLess, carrying}
 use Rattle.networks.proofs.Ends.{start_in, end_in, unit_cost_most}
@@ -26,7 +26,7 @@ opposite : Bool → Bool
 opposite false = true
 opposite true = false
 
-opposite_is : (net : NetworkModel) (first reverse forward : List ℕ) (i : ℕ) (b : Bool) → IsLaidOut net first reverse forward → i < arc_count net → numbers reverse (place_of reverse forward i b) ≡ place_of reverse forward i (opposite b)
+opposite_is : (net : NetworkModel) (first reverse forward : List ℕ) (i : ℕ) (b : Bool) → HasResidualArcs net first reverse forward → i < arc_count net → numbers reverse (place_of reverse forward i b) ≡ place_of reverse forward i (opposite b)
 unfolding opposite
 opposite_is net first reverse forward i false l b = refl
 opposite_is net first reverse forward i true l b = l.turned i b
@@ -38,18 +38,18 @@ pub record IsPushed (reverse : List ℕ) (arcs arcs' : List ResidualArc) (room r
   pub more : numbers room' (numbers reverse k) ≡ numbers room (numbers reverse k) + amount
   pub others : (j : ℕ) → j ≢ k → j ≢ numbers reverse k → numbers room' j ≡ numbers room j
 
-pub number_below : (net : NetworkModel) (first reverse forward : List ℕ) (v k : ℕ) → IsLaidOut net first reverse forward → v < node_count net → StartsAt first v k → k < arc_count net + arc_count net
+pub number_below : (net : NetworkModel) (first reverse forward : List ℕ) (v k : ℕ) → HasResidualArcs net first reverse forward → v < node_count net → StartsAt first v k → k < arc_count net + arc_count net
 number_below net first reverse forward v k l b s = omega (arith, s.below, l.inside v b)
 
-pub place_below : (net : NetworkModel) (first reverse forward : List ℕ) (i : ℕ) (back : Bool) → IsNetwork net → IsLaidOut net first reverse forward → i < arc_count net → place_of reverse forward i back < arc_count net + arc_count net
+pub place_below : (net : NetworkModel) (first reverse forward : List ℕ) (i : ℕ) (back : Bool) → IsNetwork net → HasResidualArcs net first reverse forward → i < arc_count net → place_of reverse forward i back < arc_count net + arc_count net
 place_below net first reverse forward i back n l b =
     number_below net first reverse forward (start_of net i back) (place_of reverse forward i back) l (start_in net i back n.ends b) (l.block i back b)
 
-reverse_place : (net : NetworkModel) (first reverse forward : List ℕ) (k : ℕ) (i : ℕ) (back : Bool) → IsLaidOut net first reverse forward → i < arc_count net → place_of reverse forward i back ≡ k → numbers reverse k ≡ place_of reverse forward i (opposite back)
+reverse_place : (net : NetworkModel) (first reverse forward : List ℕ) (k : ℕ) (i : ℕ) (back : Bool) → HasResidualArcs net first reverse forward → i < arc_count net → place_of reverse forward i back ≡ k → numbers reverse k ≡ place_of reverse forward i (opposite back)
 reverse_place net first reverse forward k i back l b e = ap (numbers reverse) (sym e) ∙ opposite_is net first reverse forward i back l b
 
 -- the reverse of one of a node's residual arcs has a number too
-pub reverse_below : (net : NetworkModel) (first reverse forward : List ℕ) (v k : ℕ) → IsNetwork net → IsLaidOut net first reverse forward → v < node_count net → StartsAt first v k → numbers reverse k < arc_count net + arc_count net
+pub reverse_below : (net : NetworkModel) (first reverse forward : List ℕ) (v k : ℕ) → IsNetwork net → HasResidualArcs net first reverse forward → v < node_count net → StartsAt first v k → numbers reverse k < arc_count net + arc_count net
 reverse_below net first reverse forward v k n l b s =
     let o = l.cover v k b s in
     let e : numbers reverse k ≡ place_of reverse forward o.arc (opposite o.back) = reverse_place net first reverse forward k o.arc o.back l o.inside o.place in
@@ -68,7 +68,7 @@ which_way false true = inr refl
 which_way false false = inl refl
 
 -- no residual arc is its own reverse
-pub not_reverse : (net : NetworkModel) (first reverse forward : List ℕ) (v k : ℕ) → IsLaidOut net first reverse forward → v < node_count net → StartsAt first v k → k ≢ numbers reverse k
+pub not_reverse : (net : NetworkModel) (first reverse forward : List ℕ) (v k : ℕ) → HasResidualArcs net first reverse forward → v < node_count net → StartsAt first v k → k ≢ numbers reverse k
 not_reverse net first reverse forward v k l b s h =
     let o = l.cover v k b s in
     let e : numbers reverse k ≡ place_of reverse forward o.arc (opposite o.back) = reverse_place net first reverse forward k o.arc o.back l o.inside o.place in
@@ -102,7 +102,7 @@ least_coded z c r h e =
     ]
 
 -- the cost of a node's residual arc, and that of its reverse, are not below -1
-pub reverse_code : (net : NetworkModel) (first reverse forward : List ℕ) (arcs : List ResidualArc) (room : List ℕ) (v k : ℕ) → IsNetwork net → IsLaidOut net first reverse forward → IsFilled net reverse forward arcs room → v < node_count net → StartsAt first v k → negsuc 0 ≤ℤ cost_at arcs (numbers reverse k)
+pub reverse_code : (net : NetworkModel) (first reverse forward : List ℕ) (arcs : List ResidualArc) (room : List ℕ) (v k : ℕ) → IsNetwork net → HasResidualArcs net first reverse forward → IsFilled net reverse forward arcs room → v < node_count net → StartsAt first v k → negsuc 0 ≤ℤ cost_at arcs (numbers reverse k)
 reverse_code net first reverse forward arcs room v k n l f b s =
     let o = l.cover v k b s in
     let back = opposite o.back in
@@ -114,7 +114,7 @@ most_coded : (z c : ℤ) (r : ℕ) → z ≤ℤ pos 1 → 0 < r → c ≡ coded 
 most_coded z c r h s e = let t : coded z r ≡ z = coded_some z r s in omega (arith, ints)
 
 -- where something fits the cost is what a unit costs, at most 1
-pub open_code : (net : NetworkModel) (first reverse forward : List ℕ) (arcs : List ResidualArc) (room : List ℕ) (v k : ℕ) → IsNetwork net → IsLaidOut net first reverse forward → IsFilled net reverse forward arcs room → v < node_count net → StartsAt first v k → 0 < numbers room k → cost_at arcs k ≤ℤ pos 1
+pub open_code : (net : NetworkModel) (first reverse forward : List ℕ) (arcs : List ResidualArc) (room : List ℕ) (v k : ℕ) → IsNetwork net → HasResidualArcs net first reverse forward → IsFilled net reverse forward arcs room → v < node_count net → StartsAt first v k → 0 < numbers room k → cost_at arcs k ≤ℤ pos 1
 open_code net first reverse forward arcs room v k n l f b s some =
     let o = l.cover v k b s in
     most_coded (unit_cost net o.arc o.back) (cost_at arcs k) (numbers room k) (unit_cost_most net o.arc o.back n.costs o.inside) some
@@ -126,7 +126,7 @@ unfolding opposite
 both_fit net reverse forward arcs room i false f b = f.fits i b
 both_fit net reverse forward arcs room i true f b = omega (arith, f.fits i b)
 
-pub reverse_few : (net : NetworkModel) (first reverse forward : List ℕ) (arcs : List ResidualArc) (room : List ℕ) (v k amount most : ℕ) → IsLaidOut net first reverse forward → IsFilled net reverse forward arcs room → ((i : ℕ) → i < arc_count net → limit_of (arc_at net i).cap < most) → v < node_count net → StartsAt first v k → amount ≤ numbers room k → numbers room (numbers reverse k) + amount < most
+pub reverse_few : (net : NetworkModel) (first reverse forward : List ℕ) (arcs : List ResidualArc) (room : List ℕ) (v k amount most : ℕ) → HasResidualArcs net first reverse forward → IsFilled net reverse forward arcs room → ((i : ℕ) → i < arc_count net → limit_of (arc_at net i).cap < most) → v < node_count net → StartsAt first v k → amount ≤ numbers room k → numbers room (numbers reverse k) + amount < most
 reverse_few net first reverse forward arcs room v k amount most l f limits b s fits =
     let o = l.cover v k b s in
     let e : numbers reverse k ≡ place_of reverse forward o.arc (opposite o.back) = reverse_place net first reverse forward k o.arc o.back l o.inside o.place in
@@ -177,7 +177,7 @@ there_coded net reverse forward arcs arcs' room room' i b k amount f inside e so
     let was : cost_at arcs r ≡ coded z (numbers room r) = subst (λ (t : ℕ). cost_at arcs t ≡ coded z (numbers room t)) e (code_is net reverse forward arcs room i b f inside) in
     subst (λ (t : ℕ). cost_at arcs' t ≡ coded z (numbers room' t)) (sym e) (give_code z (cost_at arcs r) (cost_at arcs' r) (numbers room r) (numbers room' r) amount some s.more was d.there)
 
-other_coded : (net : NetworkModel) (first reverse forward : List ℕ) (arcs arcs' : List ResidualArc) (room room' : List ℕ) (i j : ℕ) (b c : Bool) (k amount : ℕ) → IsLaidOut net first reverse forward → IsFilled net reverse forward arcs room → i < arc_count net → place_of reverse forward i b ≡ k → IsPushed reverse arcs arcs' room room' k amount → IsCoded reverse arcs arcs' room room' k → j < arc_count net → j ≢ i → cost_at arcs' (place_of reverse forward j c) ≡ coded (unit_cost net j c) (numbers room' (place_of reverse forward j c))
+other_coded : (net : NetworkModel) (first reverse forward : List ℕ) (arcs arcs' : List ResidualArc) (room room' : List ℕ) (i j : ℕ) (b c : Bool) (k amount : ℕ) → HasResidualArcs net first reverse forward → IsFilled net reverse forward arcs room → i < arc_count net → place_of reverse forward i b ≡ k → IsPushed reverse arcs arcs' room room' k amount → IsCoded reverse arcs arcs' room room' k → j < arc_count net → j ≢ i → cost_at arcs' (place_of reverse forward j c) ≡ coded (unit_cost net j c) (numbers room' (place_of reverse forward j c))
 other_coded net first reverse forward arcs arcs' room room' i j b c k amount l f inside e s d inside' ne =
     let q = place_of reverse forward j c in
     let z = unit_cost net j c in
@@ -185,7 +185,7 @@ other_coded net first reverse forward arcs arcs' room room' i j b c k amount l f
     let apart' : q ≢ numbers reverse k = λ h. ne (l.alone j i c (opposite b) inside' inside (h ∙ reverse_place net first reverse forward k i b l inside e)).0 in
     d.others q apart apart' ∙ code_is net reverse forward arcs room j c f inside' ∙ ap (coded z) (sym (s.others q apart apart'))
 
-pushed_code : (net : NetworkModel) (first reverse forward : List ℕ) (arcs arcs' : List ResidualArc) (room room' : List ℕ) (i j : ℕ) (b c : Bool) (k amount : ℕ) → IsLaidOut net first reverse forward → IsFilled net reverse forward arcs room → i < arc_count net → place_of reverse forward i b ≡ k → 0 < amount → IsPushed reverse arcs arcs' room room' k amount → IsCoded reverse arcs arcs' room room' k → j < arc_count net → cost_at arcs' (place_of reverse forward j c) ≡ coded (unit_cost net j c) (numbers room' (place_of reverse forward j c))
+pushed_code : (net : NetworkModel) (first reverse forward : List ℕ) (arcs arcs' : List ResidualArc) (room room' : List ℕ) (i j : ℕ) (b c : Bool) (k amount : ℕ) → HasResidualArcs net first reverse forward → IsFilled net reverse forward arcs room → i < arc_count net → place_of reverse forward i b ≡ k → 0 < amount → IsPushed reverse arcs arcs' room room' k amount → IsCoded reverse arcs arcs' room room' k → j < arc_count net → cost_at arcs' (place_of reverse forward j c) ≡ coded (unit_cost net j c) (numbers room' (place_of reverse forward j c))
 pushed_code net first reverse forward arcs arcs' room room' i j b c k amount l f inside e some s d inside' =
     elim (cases_eq j i) [
       | inl q ↦ elim (which_way b c) [
@@ -204,7 +204,7 @@ unfolding opposite
 either_order reverse forward room i k false h = h
 either_order reverse forward room i k true h = omega arith
 
-pushed_fits : (net : NetworkModel) (first reverse forward : List ℕ) (arcs arcs' : List ResidualArc) (room room' : List ℕ) (i j : ℕ) (b : Bool) (k amount : ℕ) → IsLaidOut net first reverse forward → IsFilled net reverse forward arcs room → i < arc_count net → place_of reverse forward i b ≡ k → IsPushed reverse arcs arcs' room room' k amount → j < arc_count net → numbers room' (place_of reverse forward j false) + numbers room' (place_of reverse forward j true) ≡ limit_of (arc_at net j).cap
+pushed_fits : (net : NetworkModel) (first reverse forward : List ℕ) (arcs arcs' : List ResidualArc) (room room' : List ℕ) (i j : ℕ) (b : Bool) (k amount : ℕ) → HasResidualArcs net first reverse forward → IsFilled net reverse forward arcs room → i < arc_count net → place_of reverse forward i b ≡ k → IsPushed reverse arcs arcs' room room' k amount → j < arc_count net → numbers room' (place_of reverse forward j false) + numbers room' (place_of reverse forward j true) ≡ limit_of (arc_at net j).cap
 pushed_fits net first reverse forward arcs arcs' room room' i j b k amount l f inside e s inside' =
     let back = reverse_place net first reverse forward k i b l inside e in
     elim (cases_eq j i) [
@@ -220,7 +220,7 @@ pushed_fits net first reverse forward arcs arcs' room room' i j b k amount l f i
           omega (arith, same false, same true, f.fits j inside')
     ]
 
-pub pushed_filled : (net : NetworkModel) (first reverse forward : List ℕ) (arcs arcs' : List ResidualArc) (room room' : List ℕ) (v k amount : ℕ) → IsLaidOut net first reverse forward → IsFilled net reverse forward arcs room → v < node_count net → StartsAt first v k → 0 < amount → length arcs' ≡ length arcs → length room' ≡ length room → IsPushed reverse arcs arcs' room room' k amount → IsCoded reverse arcs arcs' room room' k → IsFilled net reverse forward arcs' room'
+pub pushed_filled : (net : NetworkModel) (first reverse forward : List ℕ) (arcs arcs' : List ResidualArc) (room room' : List ℕ) (v k amount : ℕ) → HasResidualArcs net first reverse forward → IsFilled net reverse forward arcs room → v < node_count net → StartsAt first v k → 0 < amount → length arcs' ≡ length arcs → length room' ≡ length room → IsPushed reverse arcs arcs' room room' k amount → IsCoded reverse arcs arcs' room room' k → IsFilled net reverse forward arcs' room'
 unfolding coded
 pushed_filled net first reverse forward arcs arcs' room room' v k amount l f b st some sizes sizes' s d =
     let o = l.cover v k b st in
@@ -354,7 +354,7 @@ some_coded z c r least e h =
 free_cost : (c z a b a' b' : ℤ) → c +ℤ a -ℤ b ≡ pos 0 → c ≡ z → a' ≡ a → b' ≡ b → z +ℤ a' -ℤ b' ≡ pos 0
 free_cost c z a b a' b' h e f g = omega (arith, ints)
 
-pub tight_link : (net : NetworkModel) (first reverse forward : List ℕ) (arcs : List ResidualArc) (room : List ℕ) (p : ℕ → ℤ) (u k v : ℕ) → IsNetwork net → IsLaidOut net first reverse forward → IsFilled net reverse forward arcs room → u < node_count net → IsTight first arcs p u k v → IsLink net reverse forward room p u k v
+pub tight_link : (net : NetworkModel) (first reverse forward : List ℕ) (arcs : List ResidualArc) (room : List ℕ) (p : ℕ → ℤ) (u k v : ℕ) → IsNetwork net → HasResidualArcs net first reverse forward → IsFilled net reverse forward arcs room → u < node_count net → IsTight first arcs p u k v → IsLink net reverse forward room p u k v
 tight_link net first reverse forward arcs room p u k v n l f b t =
     let o = l.cover u k b t.leaves in
     let z = unit_cost net o.arc o.back in
@@ -373,12 +373,12 @@ tight_link net first reverse forward arcs room p u k v n l f b t =
     }
 
 -- what a push does to the amount of its own arc, and to the others
-moved_by : (net : NetworkModel) (first reverse forward : List ℕ) (arcs arcs' : List ResidualArc) (room room' : List ℕ) (i : ℕ) (b : Bool) (k amount : ℕ) → IsLaidOut net first reverse forward → i < arc_count net → place_of reverse forward i b ≡ k → IsPushed reverse arcs arcs' room room' k amount → IsMoved b (carried reverse forward room i) amount (carried reverse forward room' i)
+moved_by : (net : NetworkModel) (first reverse forward : List ℕ) (arcs arcs' : List ResidualArc) (room room' : List ℕ) (i : ℕ) (b : Bool) (k amount : ℕ) → HasResidualArcs net first reverse forward → i < arc_count net → place_of reverse forward i b ≡ k → IsPushed reverse arcs arcs' room room' k amount → IsMoved b (carried reverse forward room i) amount (carried reverse forward room' i)
 unfolding opposite
 moved_by net first reverse forward arcs arcs' room room' i false k amount l b e s = subst (λ (t : ℕ). numbers room' t ≡ numbers room t + amount) (reverse_place net first reverse forward k i false l b e) s.more
 moved_by net first reverse forward arcs arcs' room room' i true k amount l b e s = sym (subst (λ (t : ℕ). numbers room' t + amount ≡ numbers room t) (sym e) s.less)
 
-kept_by : (net : NetworkModel) (first reverse forward : List ℕ) (arcs arcs' : List ResidualArc) (room room' : List ℕ) (i : ℕ) (b : Bool) (k amount : ℕ) → IsLaidOut net first reverse forward → i < arc_count net → place_of reverse forward i b ≡ k → IsPushed reverse arcs arcs' room room' k amount → SameOthers net i (carried reverse forward room) (carried reverse forward room')
+kept_by : (net : NetworkModel) (first reverse forward : List ℕ) (arcs arcs' : List ResidualArc) (room room' : List ℕ) (i : ℕ) (b : Bool) (k amount : ℕ) → HasResidualArcs net first reverse forward → i < arc_count net → place_of reverse forward i b ≡ k → IsPushed reverse arcs arcs' room room' k amount → SameOthers net i (carried reverse forward room) (carried reverse forward room')
 kept_by net first reverse forward arcs arcs' room room' i b k amount l inside e s j c ne =
     s.others (place_of reverse forward j true)
     (λ h. ne (l.alone j i true b c inside (h ∙ sym e)).0)
@@ -411,7 +411,7 @@ still_fits net reverse forward arcs arcs' room room' p e on place u k v amount m
     omega arith
 
 -- a push along the next residual arc
-pub sending_more : (net : NetworkModel) (first reverse forward : List ℕ) (room : List ℕ) (arcs' arcs'' : List ResidualArc) (room' room'' : List ℕ) (p e : ℕ → ℤ) (on : ℕ → Bool) (place : ℕ → ℕ) (u k v amount most : ℕ) → IsLaidOut net first reverse forward → IsLink net reverse forward room p u k v → on u ≡ true → on v ≡ true → place u < place v → IsSending net p e on place (carried reverse forward room) (carried reverse forward room') v amount most → IsPushed reverse arcs' arcs'' room' room'' k amount → IsSending net p e on place (carried reverse forward room) (carried reverse forward room'') u amount most
+pub sending_more : (net : NetworkModel) (first reverse forward : List ℕ) (room : List ℕ) (arcs' arcs'' : List ResidualArc) (room' room'' : List ℕ) (p e : ℕ → ℤ) (on : ℕ → Bool) (place : ℕ → ℕ) (u k v amount most : ℕ) → HasResidualArcs net first reverse forward → IsLink net reverse forward room p u k v → on u ≡ true → on v ≡ true → place u < place v → IsSending net p e on place (carried reverse forward room) (carried reverse forward room') v amount most → IsPushed reverse arcs' arcs'' room' room'' k amount → IsSending net p e on place (carried reverse forward room) (carried reverse forward room'') u amount most
 sending_more net first reverse forward room arcs' arcs'' room' room'' p e on place u k v amount most l t a b less s pushed =
     sent_on net p e on place (carried reverse forward room) (carried reverse forward room') (carried reverse forward room'') t.arc t.back u v amount most t.inside
     (moved_by net first reverse forward arcs' arcs'' room' room'' t.arc t.back k amount l t.inside t.place pushed)
@@ -421,7 +421,7 @@ sending_more net first reverse forward room arcs' arcs'' room' room'' p e on pla
     (λ _. less) (λ j c f g d h. s.kept j c f g (omega arith) (omega arith)) s.carries s.priced s.grown (omega (arith, s.few))
 
 -- the push along the last residual arc
-pub sending_first : (net : NetworkModel) (first reverse forward : List ℕ) (arcs arcs' : List ResidualArc) (room room' : List ℕ) (p e : ℕ → ℤ) (on : ℕ → Bool) (place : ℕ → ℕ) (u k v amount : ℕ) → IsLaidOut net first reverse forward → IsLink net reverse forward room p u k v → on v ≡ false → Carries net (carried reverse forward room) e v amount → HasPotentials net (carried reverse forward room) p → IsPushed reverse arcs arcs' room room' k amount → IsSending net p e on place (carried reverse forward room) (carried reverse forward room') u amount (carrying net (carried reverse forward room) + place u + 1)
+pub sending_first : (net : NetworkModel) (first reverse forward : List ℕ) (arcs arcs' : List ResidualArc) (room room' : List ℕ) (p e : ℕ → ℤ) (on : ℕ → Bool) (place : ℕ → ℕ) (u k v amount : ℕ) → HasResidualArcs net first reverse forward → IsLink net reverse forward room p u k v → on v ≡ false → Carries net (carried reverse forward room) e v amount → HasPotentials net (carried reverse forward room) p → IsPushed reverse arcs arcs' room room' k amount → IsSending net p e on place (carried reverse forward room) (carried reverse forward room') u amount (carrying net (carried reverse forward room) + place u + 1)
 sending_first net first reverse forward arcs arcs' room room' p e on place u k v amount l t off carries priced pushed =
     let x = carried reverse forward room in
     sent_on net p e on place x x (carried reverse forward room') t.arc t.back u v amount (carrying net x + place u + 1) t.inside
@@ -573,7 +573,7 @@ pub record IsStep (net : NetworkModel) (first reverse forward : List ℕ) (arcs 
   pub leaves : StartsAt first (end_at arcs (numbers reverse k)) k
   pub link : IsLink net reverse forward room p (end_at arcs (numbers reverse k)) k v
 
-pub path_step : (net : NetworkModel) (first reverse forward : List ℕ) (arcs : List ResidualArc) (room : List ℕ) (p : ℕ → ℤ) (enter place : ℕ → ℕ) (source found : ℕ) → IsNetwork net → IsLaidOut net first reverse forward → IsFilled net reverse forward arcs room → (h : HasPath (node_count net) first arcs p enter place source found) → (v : ℕ) → h.on v ≡ true → 0 < place v → IsStep net first reverse forward arcs room p h.on place v (enter v)
+pub path_step : (net : NetworkModel) (first reverse forward : List ℕ) (arcs : List ResidualArc) (room : List ℕ) (p : ℕ → ℤ) (enter place : ℕ → ℕ) (source found : ℕ) → IsNetwork net → HasResidualArcs net first reverse forward → IsFilled net reverse forward arcs room → (h : HasPath (node_count net) first arcs p enter place source found) → (v : ℕ) → h.on v ≡ true → 0 < place v → IsStep net first reverse forward arcs room p h.on place v (enter v)
 path_step net first reverse forward arcs room p enter place source found n l f h v on some =
     let a = h.after v on some in
     let b : a.start < node_count net = h.node a.start a.member in
@@ -593,7 +593,7 @@ pub record IsLast (net : NetworkModel) (first reverse forward : List ℕ) (arcs 
   pub leaves : StartsAt first (end_at arcs (numbers reverse k)) k
   pub link : IsLink net reverse forward room p (end_at arcs (numbers reverse k)) k (end_at arcs k)
 
-pub path_last : (net : NetworkModel) (first reverse forward : List ℕ) (arcs : List ResidualArc) (room : List ℕ) (p : ℕ → ℤ) (enter place : ℕ → ℕ) (source found : ℕ) → IsNetwork net → IsLaidOut net first reverse forward → IsFilled net reverse forward arcs room → (h : HasPath (node_count net) first arcs p enter place source found) → IsLast net first reverse forward arcs room p h.on found
+pub path_last : (net : NetworkModel) (first reverse forward : List ℕ) (arcs : List ResidualArc) (room : List ℕ) (p : ℕ → ℤ) (enter place : ℕ → ℕ) (source found : ℕ) → IsNetwork net → HasResidualArcs net first reverse forward → IsFilled net reverse forward arcs room → (h : HasPath (node_count net) first arcs p enter place source found) → IsLast net first reverse forward arcs room p h.on found
 path_last net first reverse forward arcs room p enter place source found n l f h =
     let b : h.last < node_count net = h.node h.last h.member in
     let s : end_at arcs (numbers reverse found) ≡ h.last = start_is net first reverse forward arcs room h.last found l f b h.step.leaves in

@@ -9,7 +9,7 @@ use Rattle.sums.proofs.Sums.{sum_below-changed, sum_below-none}
 use Rattle.networks.specs.Networks.{NetworkModel, node_count, arc_count, arc_at, supply_at, moved, shifted, IsNetwork}
 use Rattle.networks.proofs.Moving.{delta, moved_at, length-moved}
 use Rattle.networks.specs.Flow.{SolvedModel, Flow, Solves, amounts, at_nodes, cost_of, balance, start_of, end_of, unit_cost, HasPotentials}
-use Rattle.networks.specs.Layout.{numbers, IsLaidOut}
+use Rattle.networks.specs.ResidualArcs.{numbers, HasResidualArcs}
 use Rattle.min_cost_flow.specs.Round.{left_over, IsRound}
 use Rattle.min_cost_flow.specs.Stand.{IsShown}
 use Rattle.networks.proofs.Ends.{start_in, end_in}
@@ -117,7 +117,7 @@ moved_round net x p p' es f t k nw r size none fb tb few base low room =
 
 -- ---- the residual arcs stay where they are
 
-pub laid_still : (net : NetworkModel) (first reverse forward : List ℕ) (f t k : ℕ) → IsLaidOut net first reverse forward → IsLaidOut (shifted net f t k) first reverse forward
+pub laid_still : (net : NetworkModel) (first reverse forward : List ℕ) (f t k : ℕ) → HasResidualArcs net first reverse forward → HasResidualArcs (shifted net f t k) first reverse forward
 laid_still net first reverse forward f t k l =
     let long : length (moved net.supplies f t k) ≡ node_count net = length-moved net.supplies f t k in
     record {
@@ -141,10 +141,10 @@ over_none es n s others here v b =
     ]
 
 -- where the residual arc along each arc stands, and the one back
-pub forward_in : (net : NetworkModel) (first reverse forward : List ℕ) (i : ℕ) → IsNetwork net → IsLaidOut net first reverse forward → i < arc_count net → numbers forward i < arc_count net + arc_count net
+pub forward_in : (net : NetworkModel) (first reverse forward : List ℕ) (i : ℕ) → IsNetwork net → HasResidualArcs net first reverse forward → i < arc_count net → numbers forward i < arc_count net + arc_count net
 forward_in net first reverse forward i n l b = omega (arith, (l.block i false b).below, l.inside (arc_at net i).from (n.ends i b).0)
 
-pub reverse_in : (net : NetworkModel) (first reverse forward : List ℕ) (i : ℕ) → IsNetwork net → IsLaidOut net first reverse forward → i < arc_count net → numbers reverse (numbers forward i) < arc_count net + arc_count net
+pub reverse_in : (net : NetworkModel) (first reverse forward : List ℕ) (i : ℕ) → IsNetwork net → HasResidualArcs net first reverse forward → i < arc_count net → numbers reverse (numbers forward i) < arc_count net + arc_count net
 reverse_in net first reverse forward i n l b = omega (arith, (l.block i true b).below, l.inside (arc_at net i).to (n.ends i b).1)
 
 -- ---- where nothing is left over or wanting, the flow is one of least cost

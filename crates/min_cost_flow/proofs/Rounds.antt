@@ -12,7 +12,7 @@ use Rattle.networks.specs.declared.arc.Cap.TheVariants.{AtMost, Any}
 use Rattle.networks.specs.Networks.{NetworkModel, node_count, arc_count, arc_at, supply_at, HasEnds, IsNetwork}
 use Rattle.networks.specs.Flow.{leaves, enters, balance, IsWithin, HasRoom, Flow, HasNoFlow, IsResidual, HasPotentials, reduced_cost}
 use Rattle.min_cost_flow.specs.Excess.{KeepsCaps, Leaves}
-use Rattle.min_cost_flow.specs.Round.{left_over, supply_sum, carrying, IsRound, IsLess, IsWork, IsDone}
+use Rattle.min_cost_flow.specs.Round.{left_over, supply_sum, carrying, IsRound, IsLess, IsWork, IsRoundDone}
 use Rattle.std.proofs.Math.Nat.{add-mul, one-mul}
 use Rattle.std.proofs.lemmas.Nat.{mul-le}
 use Rattle.min_cost_flow.proofs.Cut.{no_flow_into}
@@ -228,7 +228,7 @@ pub nothing_left : (e : ℤ) → e ≤ℤ pos 0 → pos 0 ≤ℤ e → e ≡ pos
 nothing_left e a b = omega (arith, ints)
 
 -- where nothing is left over and nothing wanting, all is done
-pub done_at : (net : NetworkModel) (x : ℕ → ℕ) (p e : ℕ → ℤ) (s l : ℕ) → IsRound net x p e → IsWork net x e s l → ((v : ℕ) → v < node_count net → e v ≤ℤ pos 0) → ((v : ℕ) → v < node_count net → pos 0 ≤ℤ e v) → IsDone net x p s l
+pub done_at : (net : NetworkModel) (x : ℕ → ℕ) (p e : ℕ → ℤ) (s l : ℕ) → IsRound net x p e → IsWork net x e s l → ((v : ℕ) → v < node_count net → e v ≤ℤ pos 0) → ((v : ℕ) → v < node_count net → pos 0 ≤ℤ e v) → IsRoundDone net x p s l
 done_at net x p e s l r w none full = record {
   flow = flow_at net x e r.caps r.leaves none full;
   potentials = r.priced;
@@ -263,7 +263,7 @@ flow_same net x y same f = record {
 pub potentials_same : (net : NetworkModel) (x y : ℕ → ℕ) (p : ℕ → ℤ) → ((i : ℕ) → i < arc_count net → y i ≡ x i) → HasPotentials net x p → HasPotentials net y p
 potentials_same net x y p same h = record { residual = λ i back b r. h.residual i back b (still_residual net x y i back (same i b) r) }
 
-pub done_same : (net : NetworkModel) (x y : ℕ → ℕ) (p : ℕ → ℤ) (s l : ℕ) → ((i : ℕ) → i < arc_count net → y i ≡ x i) → IsDone net x p s l → IsDone net y p s l
+pub done_same : (net : NetworkModel) (x y : ℕ → ℕ) (p : ℕ → ℤ) (s l : ℕ) → ((i : ℕ) → i < arc_count net → y i ≡ x i) → IsRoundDone net x p s l → IsRoundDone net y p s l
 done_same net x y p s l same d = record {
   flow = flow_same net x y same d.flow;
   potentials = potentials_same net x y p same d.potentials;

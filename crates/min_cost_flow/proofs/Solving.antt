@@ -14,7 +14,7 @@ use Rattle.networks.specs.declared.residual.ResidualArc.{ResidualArc}
 use Rattle.networks.specs.Networks.{NetworkModel, node_count, arc_count, arc_at, HasUnitCosts, IsNetwork}
 use Rattle.networks.specs.Flow.{HasRoom, IsResidual, HasPotentials, HasNoFlow, start_of, end_of, unit_cost, reduced_cost}
 use Rattle.min_cost_flow.specs.Round.{IsRound}
-use Rattle.networks.specs.Layout.{numbers, end_at, cost_at, StartsAt, place_of, limit_of, IsLaidOut, IsFilled, carried}
+use Rattle.networks.specs.ResidualArcs.{numbers, end_at, cost_at, StartsAt, place_of, limit_of, HasResidualArcs, IsFilled, carried}
 use Rattle.shortest_paths.specs.Search.{far, IsArcCost, IsOpen, IsGraph, IsPriced, IsNear, IsReached, IsHit, IsNearest, IsServed, IsLeft, IsPut, degree, looked}
 use Rattle.min_cost_flow.specs.Path.{HasPath}
 use Rattle.min_cost_flow.proofs.Cut.{no_flow_out}
@@ -76,7 +76,7 @@ open_unit_cost net reverse forward arcs room i back k f b o =
       | inr h ↦ h
     ]
 
-pub is_graph : (net : NetworkModel) (first reverse forward : List ℕ) (arcs : List ResidualArc) (room : List ℕ) → IsNetwork net → IsLaidOut net first reverse forward → IsFilled net reverse forward arcs room → IsGraph (node_count net) first arcs
+pub is_graph : (net : NetworkModel) (first reverse forward : List ℕ) (arcs : List ResidualArc) (room : List ℕ) → IsNetwork net → HasResidualArcs net first reverse forward → IsFilled net reverse forward arcs room → IsGraph (node_count net) first arcs
 is_graph net first reverse forward arcs room k l f =
     let size : length arcs ≡ arc_count net + arc_count net = f.arc_size in
     record {
@@ -95,7 +95,7 @@ is_graph net first reverse forward arcs room k l f =
     }
 
 -- reduced costs by number, and by arc
-pub reduced_by_number : (net : NetworkModel) (first reverse forward : List ℕ) (arcs : List ResidualArc) (room : List ℕ) (p : ℕ → ℤ) → IsNetwork net → IsLaidOut net first reverse forward → IsFilled net reverse forward arcs room → HasPotentials net (carried reverse forward room) p → (v k : ℕ) → v < node_count net → StartsAt first v k → IsOpen arcs k → pos 0 ≤ℤ (cost_at arcs k +ℤ p v -ℤ p (end_at arcs k))
+pub reduced_by_number : (net : NetworkModel) (first reverse forward : List ℕ) (arcs : List ResidualArc) (room : List ℕ) (p : ℕ → ℤ) → IsNetwork net → HasResidualArcs net first reverse forward → IsFilled net reverse forward arcs room → HasPotentials net (carried reverse forward room) p → (v k : ℕ) → v < node_count net → StartsAt first v k → IsOpen arcs k → pos 0 ≤ℤ (cost_at arcs k +ℤ p v -ℤ p (end_at arcs k))
 reduced_by_number net first reverse forward arcs room p n l f h v k b st op =
     let o = l.cover v k b st in
     let i = o.arc in
@@ -107,7 +107,7 @@ reduced_by_number net first reverse forward arcs room p n l f h v k b st op =
     let one : pos 0 ≤ℤ (cost_at arcs (place_of reverse forward i back) +ℤ p v -ℤ p (end_at arcs (place_of reverse forward i back))) = subst (λ (t : ℕ). pos 0 ≤ℤ (cost_at arcs (place_of reverse forward i back) +ℤ p t -ℤ p (end_at arcs (place_of reverse forward i back)))) o.start two in
     subst (λ (t : ℕ). pos 0 ≤ℤ (cost_at arcs t +ℤ p v -ℤ p (end_at arcs t))) o.place one
 
-pub potentials_by_arc : (net : NetworkModel) (first reverse forward : List ℕ) (arcs : List ResidualArc) (room : List ℕ) (p : ℕ → ℤ) → IsNetwork net → IsLaidOut net first reverse forward → IsFilled net reverse forward arcs room → ((i : ℕ) → i < arc_count net → carried reverse forward room i ≤ 2097152) → ((v k : ℕ) → v < node_count net → StartsAt first v k → IsOpen arcs k → pos 0 ≤ℤ (cost_at arcs k +ℤ p v -ℤ p (end_at arcs k))) → HasPotentials net (carried reverse forward room) p
+pub potentials_by_arc : (net : NetworkModel) (first reverse forward : List ℕ) (arcs : List ResidualArc) (room : List ℕ) (p : ℕ → ℤ) → IsNetwork net → HasResidualArcs net first reverse forward → IsFilled net reverse forward arcs room → ((i : ℕ) → i < arc_count net → carried reverse forward room i ≤ 2097152) → ((v k : ℕ) → v < node_count net → StartsAt first v k → IsOpen arcs k → pos 0 ≤ℤ (cost_at arcs k +ℤ p v -ℤ p (end_at arcs k))) → HasPotentials net (carried reverse forward room) p
 potentials_by_arc net first reverse forward arcs room p n l f few h = record {
   residual = λ i back b r.
       let fits : 0 < numbers room (place_of reverse forward i back) = residual_open net reverse forward arcs room i back f b (few i b) r in
@@ -116,7 +116,7 @@ potentials_by_arc net first reverse forward arcs room p n l f few h = record {
       rw (unit_is, f.end i back b) at red;
 }
 
-pub is_priced : (net : NetworkModel) (first reverse forward : List ℕ) (arcs : List ResidualArc) (room : List ℕ) (p e : ℕ → ℤ) → IsNetwork net → IsLaidOut net first reverse forward → IsFilled net reverse forward arcs room → IsRound net (carried reverse forward room) p e → IsPriced (node_count net) first arcs p e
+pub is_priced : (net : NetworkModel) (first reverse forward : List ℕ) (arcs : List ResidualArc) (room : List ℕ) (p e : ℕ → ℤ) → IsNetwork net → HasResidualArcs net first reverse forward → IsFilled net reverse forward arcs room → IsRound net (carried reverse forward room) p e → IsPriced (node_count net) first arcs p e
 is_priced net first reverse forward arcs room p e n l f r = record {
   reduced = reduced_by_number net first reverse forward arcs room p n l f r.priced;
   low = r.low;
@@ -229,7 +229,7 @@ wanting_far n first arcs p e s q enter order place head ordered reached level v 
 
 -- ---- the round after the potentials have moved
 
-pub moved_round : (net : NetworkModel) (first reverse forward : List ℕ) (arcs : List ResidualArc) (room : List ℕ) (p p' e : ℕ → ℤ) (s : ℕ) (q : ℕ → ℤ) (enter order place : ℕ → ℕ) (head ordered reached : ℕ) (level cut : ℤ) (f : ℕ) → IsNetwork net → IsLaidOut net first reverse forward → IsFilled net reverse forward arcs room → IsRound net (carried reverse forward room) p e → IsReached (node_count net) first arcs p e s q enter order place head ordered reached level → IsNearest (node_count net) first arcs p e s q place head level cut f → IsServed (node_count net) first arcs p q place cut head → IsLeft (node_count net) p q place head cut → cut <ℤ far → IsMovedTo (node_count net) p p' q place head cut → IsRound net (carried reverse forward room) p' e
+pub moved_round : (net : NetworkModel) (first reverse forward : List ℕ) (arcs : List ResidualArc) (room : List ℕ) (p p' e : ℕ → ℤ) (s : ℕ) (q : ℕ → ℤ) (enter order place : ℕ → ℕ) (head ordered reached : ℕ) (level cut : ℤ) (f : ℕ) → IsNetwork net → HasResidualArcs net first reverse forward → IsFilled net reverse forward arcs room → IsRound net (carried reverse forward room) p e → IsReached (node_count net) first arcs p e s q enter order place head ordered reached level → IsNearest (node_count net) first arcs p e s q place head level cut f → IsServed (node_count net) first arcs p q place cut head → IsLeft (node_count net) p q place head cut → cut <ℤ far → IsMovedTo (node_count net) p p' q place head cut → IsRound net (carried reverse forward room) p' e
 moved_round net first reverse forward arcs room p p' e s q enter order place head ordered reached level cut f k l fl rd r near sv left hit m =
     let n = node_count net in
     let g : IsGraph n first arcs = is_graph net first reverse forward arcs room k l fl in
@@ -311,7 +311,7 @@ in_reach ps q pv n h small le low (a, b) d = omega (arith, ints)
 in_reach_step : (ps q pe c : ℤ) (n h : ℕ) → n ≤ MAX_NODES → h ≤ n → ps ≤ℤ pos (2 * n) → IsNear ps h q → pos 0 ≤ℤ (pe +ℤ pos (2 * n)) → c ≤ℤ pos 1 → (q +ℤ c -ℤ pe) <ℤ far
 in_reach_step ps q pe c n h small le low (a, b) d o = omega (arith, ints)
 
-pub nothing_found : (net : NetworkModel) (first reverse forward : List ℕ) (arcs : List ResidualArc) (room : List ℕ) (p e : ℕ → ℤ) (s : ℕ) (q : ℕ → ℤ) (enter order place : ℕ → ℕ) (head ordered reached : ℕ) (level cut : ℤ) → IsNetwork net → IsLaidOut net first reverse forward → IsFilled net reverse forward arcs room → IsRound net (carried reverse forward room) p e → IsReached (node_count net) first arcs p e s q enter order place head ordered reached level → IsServed (node_count net) first arcs p q place cut head → IsLeft (node_count net) p q place head cut → cut ≡ far → pos 0 <ℤ e s → HasNoFlow net
+pub nothing_found : (net : NetworkModel) (first reverse forward : List ℕ) (arcs : List ResidualArc) (room : List ℕ) (p e : ℕ → ℤ) (s : ℕ) (q : ℕ → ℤ) (enter order place : ℕ → ℕ) (head ordered reached : ℕ) (level cut : ℤ) → IsNetwork net → HasResidualArcs net first reverse forward → IsFilled net reverse forward arcs room → IsRound net (carried reverse forward room) p e → IsReached (node_count net) first arcs p e s q enter order place head ordered reached level → IsServed (node_count net) first arcs p q place cut head → IsLeft (node_count net) p q place head cut → cut ≡ far → pos 0 <ℤ e s → HasNoFlow net
 nothing_found net first reverse forward arcs room p e s q enter order place head ordered reached level cut k l fl rd r sv left none over =
     let n = node_count net in
     let le : head ≤ n = omega (arith, r.counts) in
@@ -348,7 +348,7 @@ turned_start net i false = refl
 turned_start net i true = refl
 
 -- the end of a residual arc has one of its own
-has_own : (net : NetworkModel) (first reverse forward : List ℕ) (arcs : List ResidualArc) (room : List ℕ) (u k : ℕ) → IsLaidOut net first reverse forward → IsFilled net reverse forward arcs room → u < node_count net → StartsAt first u k → 0 < degree first (end_at arcs k)
+has_own : (net : NetworkModel) (first reverse forward : List ℕ) (arcs : List ResidualArc) (room : List ℕ) (u k : ℕ) → HasResidualArcs net first reverse forward → IsFilled net reverse forward arcs room → u < node_count net → StartsAt first u k → 0 < degree first (end_at arcs k)
 has_own net first reverse forward arcs room u k l f b st =
     let o = l.cover u k b st in
     let ends : end_at arcs k ≡ end_of net o.arc o.back = ap (end_at arcs) (sym o.place) ∙ f.end o.arc o.back o.inside in
@@ -369,7 +369,7 @@ source_degree n first arcs p e s q enter order place head ordered reached level 
       | inr d ↦ source_degree n first arcs p e s q enter order place head ordered reached level b x.start r (omega arith) x.node x.labelled d
     ]
 
-one_each : (net : NetworkModel) (first reverse forward : List ℕ) (arcs : List ResidualArc) (room : List ℕ) (p e : ℕ → ℤ) (s : ℕ) (q : ℕ → ℤ) (enter order place : ℕ → ℕ) (head ordered reached : ℕ) (level cut : ℤ) (f : ℕ) → IsLaidOut net first reverse forward → IsFilled net reverse forward arcs room → IsReached (node_count net) first arcs p e s q enter order place head ordered reached level → IsHit (node_count net) first arcs p e s q place head cut f → (v : ℕ) → v < node_count net → q v <ℤ far → 0 < degree first v
+one_each : (net : NetworkModel) (first reverse forward : List ℕ) (arcs : List ResidualArc) (room : List ℕ) (p e : ℕ → ℤ) (s : ℕ) (q : ℕ → ℤ) (enter order place : ℕ → ℕ) (head ordered reached : ℕ) (level cut : ℤ) (f : ℕ) → HasResidualArcs net first reverse forward → IsFilled net reverse forward arcs room → IsReached (node_count net) first arcs p e s q enter order place head ordered reached level → IsHit (node_count net) first arcs p e s q place head cut f → (v : ℕ) → v < node_count net → q v <ℤ far → 0 < degree first v
 one_each net first reverse forward arcs room p e s q enter order place head ordered reached level cut f l fl r h v b m =
     elim (cases_eq v s) [
       | inl t ↦ subst (λ (i : ℕ). 0 < degree first i) (sym t) (elim (cases_eq h.start s) [
@@ -382,14 +382,14 @@ one_each net first reverse forward arcs room p e s q enter order place head orde
     ]
 
 -- so a search that finds something looks at no fewer residual arcs than it scans nodes
-pub many_looks : (net : NetworkModel) (first reverse forward : List ℕ) (arcs : List ResidualArc) (room : List ℕ) (p e : ℕ → ℤ) (s : ℕ) (q : ℕ → ℤ) (enter order place : ℕ → ℕ) (head ordered reached : ℕ) (level cut : ℤ) (f : ℕ) → IsLaidOut net first reverse forward → IsFilled net reverse forward arcs room → IsReached (node_count net) first arcs p e s q enter order place head ordered reached level → IsHit (node_count net) first arcs p e s q place head cut f → head ≤ looked first order head
+pub many_looks : (net : NetworkModel) (first reverse forward : List ℕ) (arcs : List ResidualArc) (room : List ℕ) (p e : ℕ → ℤ) (s : ℕ) (q : ℕ → ℤ) (enter order place : ℕ → ℕ) (head ordered reached : ℕ) (level cut : ℤ) (f : ℕ) → HasResidualArcs net first reverse forward → IsFilled net reverse forward arcs room → IsReached (node_count net) first arcs p e s q enter order place head ordered reached level → IsHit (node_count net) first arcs p e s q place head cut f → head ≤ looked first order head
 many_looks net first reverse forward arcs room p e s q enter order place head ordered reached level cut f l fl r h =
     let le : head ≤ reached = omega (arith, r.counts) in
     let more : sum_below head (λ _. 1) ≤ looked first order head = sum_below-le head (λ _. 1) (λ j. degree first (order j)) (λ j b. one_each net first reverse forward arcs room p e s q enter order place head ordered reached level cut f l fl r h (order j) (r.node j (omega arith)) (r.marked j (omega arith))) in
     omega (arith, sum_below-constant head 1)
 
 -- the path has no more residual arcs than that
-pub path_looks : (net : NetworkModel) (first reverse forward : List ℕ) (arcs : List ResidualArc) (room : List ℕ) (p e : ℕ → ℤ) (s : ℕ) (q : ℕ → ℤ) (enter order place : ℕ → ℕ) (head ordered reached : ℕ) (level cut : ℤ) (f : ℕ) → IsLaidOut net first reverse forward → IsFilled net reverse forward arcs room → IsReached (node_count net) first arcs p e s q enter order place head ordered reached level → IsHit (node_count net) first arcs p e s q place head cut f → place (end_at arcs (numbers reverse f)) + 1 ≤ looked first order head
+pub path_looks : (net : NetworkModel) (first reverse forward : List ℕ) (arcs : List ResidualArc) (room : List ℕ) (p e : ℕ → ℤ) (s : ℕ) (q : ℕ → ℤ) (enter order place : ℕ → ℕ) (head ordered reached : ℕ) (level cut : ℤ) (f : ℕ) → HasResidualArcs net first reverse forward → IsFilled net reverse forward arcs room → IsReached (node_count net) first arcs p e s q enter order place head ordered reached level → IsHit (node_count net) first arcs p e s q place head cut f → place (end_at arcs (numbers reverse f)) + 1 ≤ looked first order head
 path_looks net first reverse forward arcs room p e s q enter order place head ordered reached level cut f l fl r h =
     let last : place (end_at arcs (numbers reverse f)) ≡ place h.start = ap place (start_is net first reverse forward arcs room h.start f l fl h.node h.leaves) in
     let scan : place h.start < head = h.scanned in

@@ -50,7 +50,7 @@ pub record IsWork (net : NetworkModel) (x : ℕ → ℕ) (e : ℕ → ℤ) (sear
   pub begun : (1 ≤ searches) ⊎ ((v : ℕ) → v < node_count net → e v ≡ supply_at net v)
 
 -- what is so at the end: x is a flow, p shows that it costs least, and the work keeps its bounds
-pub record IsDone (net : NetworkModel) (x : ℕ → ℕ) (p : ℕ → ℤ) (searches looks : ℕ) : Type 0 where
+pub record IsRoundDone (net : NetworkModel) (x : ℕ → ℕ) (p : ℕ → ℤ) (searches looks : ℕ) : Type 0 where
   pub flow : Flow net x
   pub potentials : HasPotentials net x p
   pub reach : IsWithinReach net p

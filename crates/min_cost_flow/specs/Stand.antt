@@ -3,7 +3,7 @@ use Rattle.std.specs.Prelude.{ℕ, ◌+◌, ◌<◌, ◌≡◌, ◌^◌, ℤ, po
 use Rattle.networks.specs.Networks.{NetworkModel, node_count, arc_count, arc_at}
 use Rattle.networks.specs.declared.residual.ResidualArc.{ResidualArc}
 use Rattle.networks.specs.Flow.{Flow, HasPotentials, IsLeastCost, at_nodes, cost_of}
-use Rattle.networks.specs.Layout.{IsLaidOut, IsFilled, carried, limit_of}
+use Rattle.networks.specs.ResidualArcs.{HasResidualArcs, IsFilled, carried, limit_of}
 use Rattle.min_cost_flow.specs.Lists.{HasNodeLists}
 use Rattle.shortest_paths.specs.Search.{far}
 use Rattle.min_cost_flow.specs.Round.{IsRound}
@@ -18,7 +18,7 @@ pub record HasArcLists (net : NetworkModel) (first reverse forward : List ℕ) (
 
 -- the lists of a solver when all units have been sent
 pub record IsSettled (net : NetworkModel) (first reverse forward : List ℕ) (arcs : List ResidualArc) (room : List ℕ) (potential excess score label : List ℤ) (enter order place : List ℕ) : Type 0 where
-  pub laid_out : IsLaidOut net first reverse forward
+  pub laid_out : HasResidualArcs net first reverse forward
   pub limits : (i : ℕ) → i < arc_count net → limit_of (arc_at net i).cap < 2 ^ 32
   pub filled : IsFilled net reverse forward arcs room
   pub sizes : HasNodeLists (node_count net) potential excess score label enter order place

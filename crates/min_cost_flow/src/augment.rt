@@ -5,17 +5,17 @@ ghost use Rattle.std.specs.Prelude.{◌≡◌, ◌≢◌, ◌<◌, ◌≤◌, �
 ghost use Rattle.networks.specs.declared.residual.TheConstants.{SHUT};
 ghost use Rattle.networks.specs.Networks.{node_count, arc_count, arc_at, IsNetwork};
 ghost use Rattle.networks.specs.Flow.{at_nodes};
-ghost use Rattle.networks.specs.Layout.{numbers, end_at, cost_at, StartsAt, IsLaidOut, IsFilled, carried, limit_of};
+ghost use Rattle.networks.specs.ResidualArcs.{numbers, end_at, cost_at, StartsAt, HasResidualArcs, IsFilled, carried, limit_of};
 ghost use Rattle.min_cost_flow.specs.Path.{HasPath};
 ghost use Rattle.min_cost_flow.specs.Round.{IsRound, IsLess, carrying};
 
-use networks::{Layout, ResidualArc, SHUT};
+use networks::{ResidualArc, ResidualArcs, SHUT};
 
 /// Sends along the path that ends with a residual arc as much as fits, is left over at the source and
 /// is wanting at the end: at least one unit. The path costs nothing under the potentials, which no
 /// code here reads.
 pub(crate) fn send(
-    layout: Layout<'_>,
+    layout: ResidualArcs<'_>,
     arcs: &mut [ResidualArc],
     room: &mut [u32],
     enter: &[u32],
@@ -26,7 +26,7 @@ pub(crate) fn send(
     found: usize,
 )
     requires network { IsNetwork layout.network.now }
-    requires laid_out { IsLaidOut layout.network.now layout.first.now layout.reverse.now layout.forward.now }
+    requires laid_out { HasResidualArcs layout.network.now layout.first.now layout.reverse.now layout.forward.now }
     requires filled { IsFilled layout.network.now layout.reverse.now layout.forward.now arcs.old room.old }
     requires limits { (i : ℕ) → i < arc_count layout.network.now → limit_of (arc_at layout.network.now i).cap < 2 ^ 32 }
     requires enters { length enter.now ≡ node_count layout.network.now }
@@ -102,7 +102,7 @@ fn take_from(excess: &mut [i32], node: usize, amount: u32)
 }
 
 /// The node where a residual arc starts.
-fn start_of(layout: Layout<'_>, arcs: &[ResidualArc], number: usize) -> usize
+fn start_of(layout: ResidualArcs<'_>, arcs: &[ResidualArc], number: usize) -> usize
     requires number { number < length layout.reverse.now }
     requires reverse { numbers layout.reverse.now number < length arcs.now }
     ensures { result ≡ end_at arcs.now (numbers layout.entry.reverse.now number) }
@@ -111,9 +111,15 @@ fn start_of(layout: Layout<'_>, arcs: &[ResidualArc], number: usize) -> usize
 }
 
 /// Sends along a residual arc, and so makes room for as much along its reverse.
-fn push(layout: Layout<'_>, arcs: &mut [ResidualArc], room: &mut [u32], number: usize, amount: u32)
+fn push(
+    layout: ResidualArcs<'_>,
+    arcs: &mut [ResidualArc],
+    room: &mut [u32],
+    number: usize,
+    amount: u32,
+)
     requires network { IsNetwork layout.network.now }
-    requires laid_out { IsLaidOut layout.network.now layout.first.now layout.reverse.now layout.forward.now }
+    requires laid_out { HasResidualArcs layout.network.now layout.first.now layout.reverse.now layout.forward.now }
     requires filled { IsFilled layout.network.now layout.reverse.now layout.forward.now arcs.old room.old }
     requires limits { (i : ℕ) → i < arc_count layout.network.now → limit_of (arc_at layout.network.now i).cap < 2 ^ 32 }
     requires number { (v : ℕ) × (v < node_count layout.network.now) × StartsAt layout.first.now v number }

@@ -3,14 +3,14 @@ ghost use Rattle.std.specs.Prelude.{◌≡◌, ◌≢◌, ◌<◌, ◌≤◌, �
 ghost use Rattle.networks.specs.declared.network.TheConstants.{MAX_NODES};
 ghost use Rattle.networks.specs.Networks.{arc_count, arc_at, node_count, IsNetwork, HasFairSupplies, shifted};
 ghost use Rattle.networks.specs.Flow.{at_nodes, HasNoFlow};
-ghost use Rattle.networks.specs.Layout.{numbers, limit_of, IsLaidOut, IsFilled, carried};
+ghost use Rattle.networks.specs.ResidualArcs.{numbers, limit_of, HasResidualArcs, IsFilled, carried};
 ghost use Rattle.shortest_paths.specs.Search.{far};
 ghost use Rattle.min_cost_flow.specs.Lists.{HasNodeLists};
 ghost use Rattle.min_cost_flow.specs.Round.{IsRound};
 ghost use Rattle.min_cost_flow.specs.Stand.{HasArcLists, IsSettled};
 
 use crate::solver::{augment_once, has_deficit, rank, run};
-use networks::{Layout, Network, ResidualArc, lay_out, move_units};
+use networks::{Network, ResidualArc, ResidualArcs, lay_out, move_units};
 use shortest_paths::FAR;
 
 /// Solves from nothing; whether there is a flow.
@@ -93,7 +93,7 @@ pub(crate) fn resume(
     network.shift(from, to, amount);
     if carries_little(reverse, forward, room, amount) && rebase(potential, to as usize) {
         move_units(excess, from, to, amount);
-        let layout = Layout {
+        let layout = ResidualArcs {
             network,
             first,
             reverse,
@@ -175,7 +175,7 @@ fn is_within_reach(potential: &[i32]) -> bool
 
 /// Sends all that is left over at the one node where there is something; whether there is a flow.
 fn resend(
-    layout: Layout<'_>,
+    layout: ResidualArcs<'_>,
     arcs: &mut [ResidualArc],
     room: &mut [u32],
     potential: &mut [i32],
@@ -188,7 +188,7 @@ fn resend(
     source: usize,
 ) -> bool
     requires network { IsNetwork layout.network.now }
-    requires laid_out { IsLaidOut layout.network.now layout.first.now layout.reverse.now layout.forward.now }
+    requires laid_out { HasResidualArcs layout.network.now layout.first.now layout.reverse.now layout.forward.now }
     requires limits { (i : ℕ) → i < arc_count layout.network.now → limit_of (arc_at layout.network.now i).cap < 2 ^ 32 }
     requires sizes { HasNodeLists (node_count layout.network.now) potential.old excess.old score.now label.old enter.old order.old place.old }
     requires filled { IsFilled layout.network.now layout.reverse.now layout.forward.now arcs.old room.old }

@@ -4,15 +4,15 @@ ghost use Rattle.networks.specs.declared.network.TheConstants.{MAX_ARCS, MAX_NOD
 ghost use Rattle.min_cost_flow.specs.declared.solver.SolveFault.TheVariants.{Memory};
 ghost use Rattle.networks.specs.Networks.{arc_count, arc_at, node_count, supply_at, IsNetwork};
 ghost use Rattle.networks.specs.Flow.{amounts, at_nodes, Flow, HasPotentials, HasNoFlow, Solves};
-ghost use Rattle.networks.specs.Layout.{numbers, limit_of, IsLaidOut, IsFilled, carried};
+ghost use Rattle.networks.specs.ResidualArcs.{numbers, limit_of, HasResidualArcs, IsFilled, carried};
 ghost use Rattle.shortest_paths.specs.Search.{far, IsPut};
 ghost use Rattle.min_cost_flow.specs.Lists.{HasNodeLists};
-ghost use Rattle.min_cost_flow.specs.Round.{left_over, carrying, supply_sum, IsRound, IsLess, IsWork, IsDone, HasSupply, IsWithinReach};
+ghost use Rattle.min_cost_flow.specs.Round.{left_over, carrying, supply_sum, IsRound, IsLess, IsWork, IsRoundDone, HasSupply, IsWithinReach};
 
 use crate::augment::send;
 use crate::scratch::Scratch;
 use crate::solved::Solved;
-use networks::{Layout, Network, ResidualArc, lay_out};
+use networks::{Network, ResidualArc, ResidualArcs, lay_out};
 use shortest_paths::{FAR, Ground, search};
 use std::alloc::{AllocError, Global};
 use std::mem;
@@ -113,7 +113,7 @@ fn fill(
     requires units { length units.old ≡ 3 * node_count network.now }
     requires flat { (v : ℕ) → at_nodes potential.old v ≡ pos 0 }
     requires blank { (v : ℕ) → v < length units.old → at_nodes units.old v ≡ far }
-    ensures done { IfSome result (λ work. IsDone network.now (amounts flow.new) (at_nodes potential.new) work.searches work.looks) }
+    ensures done { IfSome result (λ work. IsRoundDone network.now (amounts flow.new) (at_nodes potential.new) work.searches work.looks) }
     ensures no_flow { IfNone result (HasNoFlow network.now) }
 {
     let nodes = network.node_count();
@@ -154,7 +154,7 @@ pub(crate) fn run(
     place: &mut [u32],
 ) -> Option<Work>
     requires network { IsNetwork network.now }
-    requires laid_out { IsLaidOut network.now first.now reverse.now forward.now }
+    requires laid_out { HasResidualArcs network.now first.now reverse.now forward.now }
     requires limits { (i : ℕ) → i < arc_count network.now → limit_of (arc_at network.now i).cap < 2 ^ 32 }
     requires sizes { HasNodeLists (node_count network.now) potential.old excess.old score.now label.old enter.old order.old place.old }
     requires filled { IsFilled network.now reverse.now forward.now arcs.old room.old }
@@ -162,14 +162,14 @@ pub(crate) fn run(
     requires blank { (v : ℕ) → v < node_count network.now → at_nodes label.old v ≡ far }
     requires none { (i : ℕ) → i < arc_count network.now → carried reverse.now forward.now room.old i ≡ 0 }
     requires full { (v : ℕ) → at_nodes excess.old v ≡ supply_at network.now v }
-    ensures done { IfSome result (λ work. IsDone network.now (carried reverse.now forward.now room.new) (at_nodes potential.new) work.searches work.looks) }
+    ensures done { IfSome result (λ work. IsRoundDone network.now (carried reverse.now forward.now room.new) (at_nodes potential.new) work.searches work.looks) }
     ensures filled { IfSome result (λ _. IsFilled network.now reverse.now forward.now arcs.new room.new) }
     ensures round { IfSome result (λ _. IsRound network.now (carried reverse.now forward.now room.new) (at_nodes potential.new) (at_nodes excess.new)) }
     ensures blank { IfSome result (λ _. (v : ℕ) → v < node_count network.now → at_nodes label.new v ≡ far) }
     ensures sent { IfSome result (λ _. (v : ℕ) → v < node_count network.now → at_nodes excess.new v ≡ pos 0) }
     ensures no_flow { IfNone result (HasNoFlow network.now) }
 {
-    let layout = Layout {
+    let layout = ResidualArcs {
         network,
         first,
         reverse,
@@ -232,7 +232,7 @@ pub(crate) fn read_flow(reverse: &[u32], room: &[u32], flow: &mut [u32])
 
 /// Sends all that is left over at a node to where it is wanting; whether that can be done.
 fn drain(
-    layout: Layout<'_>,
+    layout: ResidualArcs<'_>,
     arcs: &mut [ResidualArc],
     room: &mut [u32],
     potential: &mut [i32],
@@ -246,7 +246,7 @@ fn drain(
     work: &mut Work,
 ) -> bool
     requires network { IsNetwork layout.network.now }
-    requires laid_out { IsLaidOut layout.network.now layout.first.now layout.reverse.now layout.forward.now }
+    requires laid_out { HasResidualArcs layout.network.now layout.first.now layout.reverse.now layout.forward.now }
     requires limits { (i : ℕ) → i < arc_count layout.network.now → limit_of (arc_at layout.network.now i).cap < 2 ^ 32 }
     requires sizes { HasNodeLists (node_count layout.network.now) potential.old excess.old score.now label.old enter.old order.old place.old }
     requires filled { IsFilled layout.network.now layout.reverse.now layout.forward.now arcs.old room.old }
@@ -280,7 +280,7 @@ fn drain(
 /// Sends along a path of least cost from a node where units are left over to a node where units are
 /// wanting; whether there is one.
 pub(crate) fn augment_once(
-    layout: Layout<'_>,
+    layout: ResidualArcs<'_>,
     arcs: &mut [ResidualArc],
     room: &mut [u32],
     potential: &mut [i32],
@@ -294,7 +294,7 @@ pub(crate) fn augment_once(
     looks: &mut u64,
 ) -> bool
     requires network { IsNetwork layout.network.now }
-    requires laid_out { IsLaidOut layout.network.now layout.first.now layout.reverse.now layout.forward.now }
+    requires laid_out { HasResidualArcs layout.network.now layout.first.now layout.reverse.now layout.forward.now }
     requires filled { IsFilled layout.network.now layout.reverse.now layout.forward.now arcs.old room.old }
     requires round { IsRound layout.network.now (carried layout.reverse.now layout.forward.now room.old) (at_nodes potential.old) (at_nodes excess.old) }
     requires sizes { HasNodeLists (node_count layout.network.now) potential.old excess.old score.now label.old enter.old order.old place.old }

@@ -1,5 +1,5 @@
 pub mod Networks
 pub mod Fault
 pub mod Flow
-pub mod Layout
+pub mod ResidualArcs
 pub mod Counting

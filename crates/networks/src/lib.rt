@@ -13,5 +13,5 @@ pub use arc::{Arc, Cap};
 pub use build::lay_out;
 pub use fault::NetFault;
 pub use network::Network;
-pub use residual::{Layout, ResidualArc, SHUT, look};
+pub use residual::{ResidualArc, ResidualArcs, SHUT, look};
 pub use units::move_units;

@@ -13,8 +13,8 @@ pub const MAX_NODES: usize = 1024;
 /// How many arcs a network has at most.
 pub const MAX_ARCS: usize = 4096;
 
-/// Nodes with supplies, joined by arcs. Nodes and arcs are numbered from 0; a negative supply is a
-/// demand.
+/// Nodes with supplies, joined by arcs. Nodes and arcs are numbered from 0; a node whose
+/// supply is below 0 wants units.
 #[derive(Debug, Drop)]
 pub struct Network {
     supplies: Vec<i32>,

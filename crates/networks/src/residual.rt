@@ -1,6 +1,6 @@
 //! Residual arcs, those that start at a node side by side.
 ghost use Rattle.std.specs.Prelude.{◌≡◌, ◌<◌, ◌+◌, ◌^◌, length};
-ghost use Rattle.networks.specs.Layout.{end_at, cost_at};
+ghost use Rattle.networks.specs.ResidualArcs.{end_at, cost_at};
 
 use crate::network::Network;
 
@@ -17,7 +17,7 @@ pub struct ResidualArc {
 
 /// Where the residual arcs of a network stand.
 #[derive(Clone, Copy)]
-pub struct Layout<'a> {
+pub struct ResidualArcs<'a> {
     pub network: &'a Network,
     /// The residual arcs that start at node v have the numbers from `first[v]` up to `first[v + 1]`.
     pub first: &'a [u32],

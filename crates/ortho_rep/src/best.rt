@@ -144,8 +144,8 @@ fn best_lead(plane: &mut Plane, walk: Walk) -> (Walk, Lead)
 /// Tries faces in depth-first order over shared edges, so that each move is short. Which faces it
 /// comes to is not proved: no result rests on it.
 ///
-/// It walks round the outer face, and through each edge behind which it has not been yet. A face that
-/// it entered so it walks round too, back through the edge by which it came, and goes on from there.
+/// It walks round the outer face, and through each edge behind which it has not been yet. It walks round
+/// each face that it enters so, and goes back through the edge by which it came.
 fn tour(plane: &mut Plane, walk: Walk, lead: &mut Lead, bounds: &mut [u64]) -> Walk
     requires walk { IsWalk plane.old walk }
     requires lead { IsLead plane.old lead.old }

@@ -9,7 +9,7 @@ use Rattle.planar_code.specs.declared.fault.FeedFault.{FeedFault}
 use Rattle.planar_code.specs.declared.fault.FeedFault.TheVariants as fault
 use Rattle.planar_code.specs.Stream.{IsRecord}
 use Rattle.planar_code.specs.Split.{IsSplit, ending_of, BeginsWithZero}
-use Rattle.planar_code.specs.Started.{IsStarted, IsBegun}
+use Rattle.planar_code.specs.Started.{IsStarted, HasBegun}
 use Rattle.planar_code.specs.Place.{Place, Early, After, Failed, StandsAt, Goes}
 use Rattle.planar_code.proofs.Started.{started-first, started-entry, started-end, started-whole, started-unfinished, started-oversize}
 use Rattle.planar_code.proofs.Going.{goes_on, goes_nowhere, goes_more, goes_whole, goes_early, goes_headed, goes_failed, fails_many, fails_large, fails_oversize, fails_header}
@@ -18,7 +18,7 @@ use Rattle.planar_code.proofs.Feeding.{split-early, split-complete, split-trunca
 -- places of which enough is known to go on
 data Known : Place → Type 0 where
   early : (passed : ℕ) → passed < 15 → Known (Early (take passed HEADER))
-  after : (count : ℕ) (rest : List ℕ) (left entries : ℕ) → IsBegun rest left entries → count ≤ MAX_RECORDS → Known (After count rest)
+  after : (count : ℕ) (rest : List ℕ) (left entries : ℕ) → HasBegun rest left entries → count ≤ MAX_RECORDS → Known (After count rest)
   failed : (f : FeedFault) → Known (Failed f)
 
 -- where some bytes lead
@@ -38,7 +38,7 @@ leads-more count rest x left entries room few s = record {
 }
 
 -- a byte of a record
-leads-after : (count : ℕ) (rest : List ℕ) (left entries x : ℕ) → IsBegun rest left entries → count ≤ MAX_RECORDS → count ≢ MAX_RECORDS → x < 256 → Leads (After count rest) (x ∷ [])
+leads-after : (count : ℕ) (rest : List ℕ) (left entries x : ℕ) → HasBegun rest left entries → count ≤ MAX_RECORDS → count ≢ MAX_RECORDS → x < 256 → Leads (After count rest) (x ∷ [])
 leads-after count rest left entries x (inl none) few room byte = elim (cases_eq x 0) [
   | inl z ↦ record {
     added = [];

@@ -25,5 +25,5 @@ pub record IsOversize (bytes : List ℕ) : Type 0 where
   pub never : (more : List ℕ) → NoRecordFirst (bytes ++ more)
 
 -- no byte of a record has come, or it is begun
-abbrev pub IsBegun : List ℕ → ℕ → ℕ → Type 0
-IsBegun bytes left entries = (bytes ≡ []) ⊎ IsStarted bytes left entries
+abbrev pub HasBegun : List ℕ → ℕ → ℕ → Type 0
+HasBegun bytes left entries = (bytes ≡ []) ⊎ IsStarted bytes left entries

@@ -26,13 +26,13 @@ pub struct OpenRecord {
 impl Model for OpenRecord {
     ghost use Rattle.std.specs.Prelude.{ℕ, List, ◌≤◌, vec_capacity};
     ghost use Rattle.planar_code.specs.declared.open_record.TheConstants.{MAX_BYTES};
-    ghost use Rattle.planar_code.specs.Started.{IsBegun};
+    ghost use Rattle.planar_code.specs.Started.{HasBegun};
 
     ghost Value = { List ℕ };
 
     ghost view = { λ r. r.bytes.items };
 
-    ghost invariant = { λ r. IsBegun r.bytes.items r.left r.entries × (MAX_BYTES ≤ vec_capacity r.bytes) };
+    ghost invariant = { λ r. HasBegun r.bytes.items r.left r.entries × (MAX_BYTES ≤ vec_capacity r.bytes) };
 }
 
 impl OpenRecord {

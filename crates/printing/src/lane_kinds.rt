@@ -5,7 +5,7 @@ use crate::printed::Printed;
 use crate::worded::Worded;
 use answers::{Embedded, Framed, Shaped};
 use choices::Choice;
-use lane_runs::Line;
+use lane_runs::LaneKind;
 use lanes::Numbered;
 use planar_code::Record;
 use reports::Form;
@@ -14,7 +14,7 @@ use reports::Form;
 #[derive(Clone, Copy, Debug)]
 pub struct ReportLines;
 
-impl Line for ReportLines {
+impl LaneKind for ReportLines {
     type Framed = Worded<Framed>;
 
     type Embedded = Worded<Embedded>;
@@ -36,7 +36,7 @@ impl Line for ReportLines {
 #[derive(Clone, Copy, Debug)]
 pub struct JsonLines;
 
-impl Line for JsonLines {
+impl LaneKind for JsonLines {
     type Framed = Worded<Framed>;
 
     type Embedded = Worded<Embedded>;

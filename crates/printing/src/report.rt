@@ -13,7 +13,7 @@ use std::alloc::{AllocError, Global};
 use streams::Mark;
 
 /// As many bytes as the line of a graph has room for at first: few have more.
-const ROOM: usize = 64;
+const LINE_ROOM: usize = 64;
 
 /// The first line of the file with this number.
 pub(crate) fn file_line(alloc: Global, number: u64) -> Result<Vec<u8>, AllocError>
@@ -29,7 +29,7 @@ pub(crate) fn file_line(alloc: Global, number: u64) -> Result<Vec<u8>, AllocErro
 pub(crate) fn graph_line(alloc: Global, number: u64, answer: &Answer) -> Result<Vec<u8>, AllocError>
     ensures { IfOk result (λ line. line.items ≡ graph_line number answer.now) }
 {
-    let mut line = Vec::with_capacity(alloc, ROOM)?;
+    let mut line = Vec::with_capacity(alloc, LINE_ROOM)?;
     line.extend_from_slice(b"graph ")?;
     push_number(&mut line, number)?;
     push_answer(&mut line, answer)?;

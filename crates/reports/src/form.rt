@@ -24,7 +24,7 @@ impl Form {
     ///
     /// # Errors
     ///
-    /// `Write` exactly where the sink has then failed, and in JSON `Memory` where there was none for a line.
+    /// `Write` exactly where the sink has then failed, and in JSON `Memory` where there was no memory for a line.
     /// The sink has then taken a beginning of the text.
     pub fn write<S: Sink>(self, alloc: Global, batch: &Batch, out: &mut S) -> Result<(), WriteFault>
         requires { S.failed out.old ≡ false }

@@ -13,7 +13,7 @@ use std::alloc::Global;
 use streams::{Gathered, Mark, Sink, WriteFault};
 
 /// How many bytes of a line are gathered at once.
-const PIECE: usize = 512;
+const SLICE: usize = 512;
 
 /// Writes for each file a line for each entry and one for its mark, each the text of a JSON object without
 /// spaces. Files and entries are numbered from 1. The lines are gathered, so that short ones make few
@@ -24,7 +24,7 @@ const PIECE: usize = 512;
 ///
 /// # Errors
 ///
-/// `Write` exactly where the sink has then failed, and `Memory` where there was none for a line. The sink
+/// `Write` exactly where the sink has then failed, and `Memory` where there was no memory for a line. The sink
 /// has then taken a beginning of the text.
 pub fn write_json<S: Sink>(alloc: Global, batch: &Batch, sink: &mut S) -> Result<(), WriteFault>
     requires { S.failed sink.old ≡ false }
@@ -122,7 +122,7 @@ pub fn push_line<S: Sink>(lines: &mut Gathered, sink: &mut S, line: &[u8]) -> Re
 {
     let mut at = 0;
     while at < line.len() {
-        let end = line.len().min(at + PIECE);
+        let end = line.len().min(at + SLICE);
         lines.make_room(sink)?;
         lines.push(&line[at..end]);
         at = end;

@@ -6,7 +6,7 @@ use Rattle.std.proofs.lemmas.Int.{ints}
 use Rattle.networks.specs.declared.network.TheConstants.{MAX_NODES}
 use Rattle.networks.specs.declared.residual.ResidualArc.{ResidualArc}
 use Rattle.shortest_paths.proofs.Distinct.{AreDistinct, distinct_sum, room_for}
-use Rattle.networks.specs.Layout.{numbers, end_at, cost_at, StartsAt}
+use Rattle.networks.specs.ResidualArcs.{numbers, end_at, cost_at, StartsAt}
 use Rattle.shortest_paths.specs.Search.{far, IsGraph, IsPriced, IsNear, IsEntered, IsReached, IsNearest, Serves, IsServed, IsLeft, IsKept, IsOffer, IsPut, IsSwapped, degree, looked}
 use Rattle.sums.specs.Sums.{sum_below}
 use Rattle.sums.proofs.Sums.{sum_below-same, sum_below-more}

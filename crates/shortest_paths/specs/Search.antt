@@ -5,10 +5,10 @@ use Rattle.networks.specs.declared.network.TheConstants.{MAX_NODES}
 use Rattle.sums.specs.Sums.{sum_below}
 use Rattle.networks.specs.declared.residual.ResidualArc.{ResidualArc}
 use Rattle.shortest_paths.specs.declared.reach.Ground.{Ground}
-use Rattle.shortest_paths.specs.declared.reach.Progress.{Progress}
+use Rattle.shortest_paths.specs.declared.reach.SearchProgress.{SearchProgress}
 use Rattle.shortest_paths.specs.declared.reach.Step.{Step}
 use Rattle.networks.specs.Flow.{at_nodes}
-use Rattle.networks.specs.Layout.{numbers, end_at, cost_at, StartsAt}
+use Rattle.networks.specs.ResidualArcs.{numbers, end_at, cost_at, StartsAt}
 
 -- the label of a node that was not reached, `FAR` in the code
 abbrev pub far : ℤ
@@ -131,10 +131,10 @@ pub record IsGround (g : Ground) : Type 0 where
 abbrev pub HasSizes : Ground → List ℤ → List ℕ → List ℕ → List ℕ → Type 0
 HasSizes g label enter order place = (length label ≡ nodes_of g) × (length enter ≡ nodes_of g) × (length order ≡ nodes_of g) × (length place ≡ nodes_of g)
 
-abbrev pub Reaches : Ground → List ℤ → List ℕ → List ℕ → List ℕ → Progress → Type 0
+abbrev pub Reaches : Ground → List ℤ → List ℕ → List ℕ → List ℕ → SearchProgress → Type 0
 Reaches g label enter order place t = IsReached (nodes_of g) g.first.now g.arcs.now (at_nodes g.potential.now) (at_nodes g.excess.now) g.source (at_nodes label) (numbers enter) (numbers order) (numbers place) t.head t.ordered t.reached t.level
 
-abbrev pub FindsNearest : Ground → List ℤ → List ℕ → Progress → Type 0
+abbrev pub FindsNearest : Ground → List ℤ → List ℕ → SearchProgress → Type 0
 FindsNearest g label place t = IsNearest (nodes_of g) g.first.now g.arcs.now (at_nodes g.potential.now) (at_nodes g.excess.now) g.source (at_nodes label) (numbers place) t.head t.level t.cut t.found
 
 abbrev pub Keeps : Ground → ℕ → List ℤ → List ℕ → List ℤ → List ℕ → Type 0
@@ -154,7 +154,7 @@ pub record IsOffer (n : ℕ) (first : List ℕ) (arcs : List ResidualArc) (p : �
   pub beyond : level ≤ℤ (x -ℤ p v)
   pub less : x <ℤ q v
 
-abbrev pub Offers : Ground → List ℤ → List ℕ → Progress → Step → Type 0
+abbrev pub Offers : Ground → List ℤ → List ℕ → SearchProgress → Step → Type 0
 Offers g label place t step = IsOffer (nodes_of g) g.first.now g.arcs.now (at_nodes g.potential.now) g.source (at_nodes label) (numbers place) t.head t.level step.number step.end step.label
 
 -- an entry was written

@@ -11,4 +11,4 @@ mod nearest;
 mod reach;
 
 pub use nearest::search;
-pub use reach::{FAR, Ground, Progress};
+pub use reach::{FAR, Ground, SearchProgress};

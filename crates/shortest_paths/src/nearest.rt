@@ -2,10 +2,10 @@
 ghost use Rattle.std.specs.Prelude.{◌≡◌, ◌≢◌, ◌⊎◌, ◌<◌, ◌≤◌, ◌+◌, ◌^◌, ℕ, ℤ, List, length, pos, negsuc, ◌≤ℤ◌, ◌<ℤ◌, ◌+ℤ◌, ◌-ℤ◌, true, false};
 ghost use Rattle.networks.specs.declared.network.TheConstants.{MAX_NODES};
 ghost use Rattle.networks.specs.Flow.{at_nodes};
-ghost use Rattle.networks.specs.Layout.{numbers, end_at, cost_at, StartsAt};
+ghost use Rattle.networks.specs.ResidualArcs.{numbers, end_at, cost_at, StartsAt};
 ghost use Rattle.shortest_paths.specs.Search.{far, nodes_of, degree, looked, IsGround, HasSizes, Reaches, FindsNearest, Keeps, IsServed, Serves, IsNear, IsPut, IsLeft};
 
-use crate::reach::{FAR, Ground, Progress, Step, advance, distance, reach};
+use crate::reach::{FAR, Ground, SearchProgress, Step, advance, distance, reach};
 use networks::look;
 
 /// Labels the nodes round a source, in order of their distance by reduced costs, up to the nearest one
@@ -26,7 +26,7 @@ pub fn search(
     order: &mut [u32],
     place: &mut [u32],
     looks: &mut u64,
-) -> Progress
+) -> SearchProgress
     requires ground { IsGround ground }
     requires sizes { HasSizes ground label.old enter.old order.old place.old }
     requires blank { (v : ℕ) → v < nodes_of ground → at_nodes label.old v ≡ far }
@@ -49,7 +49,12 @@ pub fn search(
 }
 
 /// Labels the source alone.
-fn begin(ground: Ground<'_>, label: &mut [i32], order: &mut [u32], place: &mut [u32]) -> Progress
+fn begin(
+    ground: Ground<'_>,
+    label: &mut [i32],
+    order: &mut [u32],
+    place: &mut [u32],
+) -> SearchProgress
     requires ground { IsGround ground }
     requires sizes { HasSizes ground label.old order.old order.old place.old }
     requires blank { (v : ℕ) → v < nodes_of ground → at_nodes label.old v ≡ far }
@@ -60,7 +65,7 @@ fn begin(ground: Ground<'_>, label: &mut [i32], order: &mut [u32], place: &mut [
 {
     let potential = ground.potential[ground.source];
     place_first(label, order, place, ground.source, potential);
-    Progress {
+    SearchProgress {
         head: 0,
         ordered: 1,
         reached: 1,
@@ -94,7 +99,7 @@ fn goes_on(
     enter: &[u32],
     order: &mut [u32],
     place: &mut [u32],
-    progress: &mut Progress,
+    progress: &mut SearchProgress,
 ) -> bool
     requires ground { IsGround ground }
     requires sizes { HasSizes ground label.now enter.now order.old place.old }
@@ -129,7 +134,7 @@ fn least_distance(
     enter: &[u32],
     order: &[u32],
     place: &[u32],
-    progress: &Progress,
+    progress: &SearchProgress,
 ) -> i32
     requires ground { IsGround ground }
     requires sizes { HasSizes ground label.now enter.now order.now place.now }
@@ -166,7 +171,7 @@ fn climb(
     enter: &[u32],
     order: &mut [u32],
     place: &mut [u32],
-    progress: &mut Progress,
+    progress: &mut SearchProgress,
     level: i32,
 )
     requires ground { IsGround ground }
@@ -198,7 +203,7 @@ fn take_up(
     enter: &[u32],
     order: &mut [u32],
     place: &mut [u32],
-    progress: &mut Progress,
+    progress: &mut SearchProgress,
     j: usize,
 )
     requires ground { IsGround ground }
@@ -232,7 +237,7 @@ fn scan(
     enter: &mut [u32],
     order: &mut [u32],
     place: &mut [u32],
-    progress: &mut Progress,
+    progress: &mut SearchProgress,
     looks: &mut u64,
 )
     requires ground { IsGround ground }
@@ -265,7 +270,7 @@ fn consider(
     enter: &mut [u32],
     order: &mut [u32],
     place: &mut [u32],
-    progress: &mut Progress,
+    progress: &mut SearchProgress,
     node: usize,
     number: usize,
     looks: &mut u64,

@@ -2,7 +2,7 @@
 ghost use Rattle.std.specs.Prelude.{◌≡◌, ◌≢◌, ◌⊎◌, ◌<◌, ◌≤◌, ◌+◌, ◌^◌, ℕ, ℤ, List, length, pos, negsuc, ◌≤ℤ◌, ◌<ℤ◌, ◌+ℤ◌, ◌-ℤ◌};
 ghost use Rattle.networks.specs.declared.network.TheConstants.{MAX_NODES};
 ghost use Rattle.networks.specs.Flow.{at_nodes};
-ghost use Rattle.networks.specs.Layout.{numbers, end_at, cost_at, StartsAt};
+ghost use Rattle.networks.specs.ResidualArcs.{numbers, end_at, cost_at, StartsAt};
 ghost use Rattle.shortest_paths.specs.Search.{far, nodes_of, IsGround, HasSizes, Reaches, FindsNearest, Keeps, Offers, IsPut, IsSwapped};
 
 use networks::ResidualArc;
@@ -28,7 +28,7 @@ pub struct Ground<'a> {
 
 /// How far a search has come, and what it found.
 #[derive(Clone, Copy, Debug, PartialEq, Eq)]
-pub struct Progress {
+pub struct SearchProgress {
     /// How many nodes were scanned, how many are ordered by their distance, and how many were
     /// reached: places in the order.
     pub head: usize,
@@ -59,7 +59,7 @@ pub(crate) fn reach(
     enter: &mut [u32],
     order: &mut [u32],
     place: &mut [u32],
-    progress: &mut Progress,
+    progress: &mut SearchProgress,
     step: Step,
 )
     requires ground { IsGround ground }
@@ -89,7 +89,7 @@ pub(crate) fn reach(
 
 /// Takes a node where units are wanting for the nearest one, if it is, or if it is as near and has a
 /// lesser score.
-fn offer(progress: &mut Progress, number: usize, distance: i32, score: i32)
+fn offer(progress: &mut SearchProgress, number: usize, distance: i32, score: i32)
     ensures head { progress.new.head ≡ progress.old.head }
     ensures ordered { progress.new.ordered ≡ progress.old.ordered }
     ensures reached { progress.new.reached ≡ progress.old.reached }
@@ -112,7 +112,7 @@ fn mark(
     enter: &mut [u32],
     order: &mut [u32],
     place: &mut [u32],
-    progress: &mut Progress,
+    progress: &mut SearchProgress,
     step: Step,
 )
     requires ground { IsGround ground }
@@ -144,7 +144,7 @@ fn enlist(
     enter: &mut [u32],
     order: &mut [u32],
     place: &mut [u32],
-    progress: &mut Progress,
+    progress: &mut SearchProgress,
     step: Step,
 )
     requires label { step.end < length label.old }
@@ -191,7 +191,12 @@ pub(crate) fn distance(label: i32, potential: i32) -> i32
 }
 
 /// Puts a node behind those that are ordered, in exchange for the node that is there.
-pub(crate) fn advance(order: &mut [u32], place: &mut [u32], progress: &mut Progress, node: usize)
+pub(crate) fn advance(
+    order: &mut [u32],
+    place: &mut [u32],
+    progress: &mut SearchProgress,
+    node: usize,
+)
     requires node { node < length place.old }
     requires small { length order.old ≤ MAX_NODES }
     requires from { numbers place.old node < length order.old }

@@ -3,7 +3,7 @@ use Rattle.std.proofs.Common.{◌≡◌, ℕ, ◌+◌, ◌<◌, ◌≤◌, List,
 use Rattle.std.proofs.lemmas.List.{take-append-drop, take_more, length-take, take_all}
 use Rattle.streams.specs.declared.frames.Mark.{Mark}
 use Rattle.streams.specs.FramesModel.{FramesModel}
-use Rattle.streams.specs.Text.{record_line, record_lines, end_line, frames_text}
+use Rattle.streams.specs.Text.{record_line, record_lines, frames_end_line, frames_text}
 
 -- the lines of two lists, one after the other
 pub record_lines-append : (n : ℕ) (xs ys : List (List ℕ)) → record_lines n (xs ++ ys) ≡ record_lines n xs ++ record_lines (n + length xs) ys
@@ -43,7 +43,7 @@ record_lines-all xs i past = ap (record_lines 1) (take_all i xs past)
 
 -- the text, by its parts
 pub text_by_parts : (found : FramesModel) (xs : List (List ℕ)) (mark : Mark) → xs ≡ found.records → mark ≡ found.mark
-    → record_lines 1 xs ++ end_line mark (length xs) ≡ frames_text found
+    → record_lines 1 xs ++ frames_end_line mark (length xs) ≡ frames_text found
 text_by_parts found xs mark same same_mark =
-    ap (λ (ys : List (List ℕ)). record_lines 1 ys ++ end_line mark (length ys)) same
-    ∙ ap (λ (m : Mark). record_lines 1 found.records ++ end_line m (length found.records)) same_mark
+    ap (λ (ys : List (List ℕ)). record_lines 1 ys ++ frames_end_line mark (length ys)) same
+    ∙ ap (λ (m : Mark). record_lines 1 found.records ++ frames_end_line m (length found.records)) same_mark

@@ -4,5 +4,5 @@ pub mod FramesModel
 pub mod Marks
 pub mod Memory
 pub mod Reading
-pub mod Framed
+pub mod ReadMessage
 pub mod Text

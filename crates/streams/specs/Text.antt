@@ -27,9 +27,9 @@ word_of (Ended ending.Memory) = codes "memory"
 word_of Io = codes "io"
 
 -- the last line: the mark, and how many records there are
-abbrev pub end_line : Mark → ℕ → List ℕ
-end_line mark count = codes "end " ++ word_of mark ++ codes " records=" ++ decimal count ++ codes "\n"
+abbrev pub frames_end_line : Mark → ℕ → List ℕ
+frames_end_line mark count = codes "end " ++ word_of mark ++ codes " records=" ++ decimal count ++ codes "\n"
 
 -- a line for each record, numbered from 1, and the last line
 abbrev pub frames_text : FramesModel → List ℕ
-frames_text found = record_lines 1 found.records ++ end_line found.mark (length found.records)
+frames_text found = record_lines 1 found.records ++ frames_end_line found.mark (length found.records)

@@ -2,10 +2,10 @@
 ghost use Rattle.std.specs.Prelude.{◌≡◌, ◌<◌, [], List, ℕ, ◌++◌, vec_len};
 ghost use Rattle.std.proofs.Common.{◌∙◌, refl, sym, subst, append-nil, append_assoc};
 ghost use Rattle.ruled_lanes.specs.LinkEnds.{given, GivesToSame};
-ghost use Rattle.streams.specs.Framed.{GiveRecords, GivesBack};
+ghost use Rattle.streams.specs.ReadMessage.{GiveRecords, GivesBack};
 
-use super::framed::Framed;
 use super::input::Tap;
+use super::read_message::ReadMessage;
 use super::reading::read_source;
 use super::receiver::Receiver;
 use planar_code::Record;
@@ -18,11 +18,11 @@ use std::sync::Wait;
 #[derive(Drop)]
 struct Gives<'r, R> {
     rt: &'r R,
-    giver: Giver<Framed>,
+    giver: Giver<ReadMessage>,
 }
 
 impl<R: Wait> Receiver for Gives<'_, R> {
-    type Lost = Closed<Framed>;
+    type Lost = Closed<ReadMessage>;
 
     ghost received = { λ first records x y. (earlier : List (List ℕ))
         → GiveRecords earlier (given x.giver) → GiveRecords (earlier ++ records) (given y.giver) };
@@ -34,12 +34,12 @@ impl<R: Wait> Receiver for Gives<'_, R> {
         alloc: Global,
         _first: u32,
         records: &mut Vec<Record>,
-    ) -> Result<(), Closed<Framed>> {
+    ) -> Result<(), Closed<ReadMessage>> {
         let batch = mem::replace(records, Vec::new(alloc));
         if batch.is_empty() {
             return Ok(());
         }
-        self.giver.give(self.rt, Framed::Records(batch))
+        self.giver.give(self.rt, ReadMessage::Records(batch))
     }
 
     ghost received_none = { λ x earlier give. subst (λ all. GiveRecords all (given x.giver)) (sym (append-nil earlier)) give };
@@ -53,14 +53,14 @@ impl<R: Wait> Receiver for Gives<'_, R> {
 }
 
 /// Reads a source to its end, to its failure, or to the first fault in its bytes, and gives what it
-/// found: its records in order, one end mark and one stop. None where the link's other end was gone.
+/// found: its records in order, one mark and one stop. None where the link's other end was gone.
 pub fn give_all<R: Wait, T: Tap>(
     rt: &R,
     alloc: Global,
     source: T,
     mut buffer: Vec<u8>,
-    giver: Giver<Framed>,
-) -> Option<Giver<Framed>>
+    giver: Giver<ReadMessage>,
+) -> Option<Giver<ReadMessage>>
     requires room { 0 < vec_len buffer }
     requires none { given giver ≡ [] }
     ensures { GivesBack (T.to_come source) (T.fails source) giver result }
@@ -71,11 +71,11 @@ pub fn give_all<R: Wait, T: Tap>(
         Err(_) => return None,
     };
     let mut giver = gives.giver;
-    match giver.give(rt, Framed::End(mark)) {
+    match giver.give(rt, ReadMessage::End(mark)) {
         Ok(()) => {}
         Err(_) => return None,
     }
-    match giver.give(rt, Framed::Stop) {
+    match giver.give(rt, ReadMessage::Stop) {
         Ok(()) => Some(giver),
         Err(_) => None,
     }

@@ -2,13 +2,13 @@
 #![tactic(auto)]
 
 mod faults;
-mod framed;
 mod frames;
 mod gather;
 mod giving;
 mod input;
 mod memory;
 mod output;
+mod read_message;
 mod reading;
 mod receiver;
 mod report;

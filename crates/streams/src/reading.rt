@@ -57,7 +57,7 @@ pub fn read_piece<T: Tap>(
     ensures reads { ReadsOn (T.to_come source.old) (T.fails source.old) records.old.items framer.old
         (T.to_come source.new) (T.fails source.new) records.new.items framer.new result }
 
-    // No source has more than 1,000,000 records.
+    // No stream gives more than 1,000,000 records.
     ensures few { (stream : List ℕ) (earlier : List (List ℕ))
         → StandsAt stream earlier framer.old
         → length earlier + length records.new.items ≤ MAX_RECORDS + length records.old.items }
@@ -73,7 +73,7 @@ pub fn read_piece<T: Tap>(
 }
 
 /// Reads a source to its end, to its failure or to the first fault in its bytes, and has its records
-/// received, in order. It gives back the mark of the source: `Memory` where there is none for the framer.
+/// received, in order. It gives back the mark of the source: `Memory` where the framer found none.
 ///
 /// # Errors
 ///

@@ -1,7 +1,7 @@
 //! The text of what was found.
 ghost use Rattle.std.specs.Prelude.{◌≡◌, ◌+◌, ◌<◌, ◌≤◌, ◌^◌, false, length, ◌++◌};
 ghost use Rattle.streams.specs.Sink.{Writes, StaysOnItsWay};
-ghost use Rattle.streams.specs.Text.{frames_text, record_line, end_line, word_of};
+ghost use Rattle.streams.specs.Text.{frames_text, record_line, frames_end_line, word_of};
 ghost use Rattle.streams.specs.declared.gather.TheConstants.{LINE, ROOM};
 
 use super::faults::WriteFault;
@@ -18,8 +18,8 @@ pub fn write_frames<S: Sink>(frames: &Frames, sink: &mut S) -> Result<(), WriteF
 {
     let mut lines = Gathered::new();
     let records = frames.records();
-    for (index, framed) in records.iter().enumerate() {
-        write_record(&mut lines, sink, index as u64 + 1, framed)?;
+    for (index, read_message) in records.iter().enumerate() {
+        write_record(&mut lines, sink, index as u64 + 1, read_message)?;
     }
     write_end(&mut lines, sink, frames.mark(), records.len() as u64)?;
     lines.flush(sink)
@@ -30,28 +30,28 @@ fn write_record<S: Sink>(
     lines: &mut Gathered,
     sink: &mut S,
     number: u64,
-    framed: &Record,
+    read_message: &Record,
 ) -> Result<(), WriteFault>
     requires { S.failed sink.old ≡ false }
     ensures { StaysOnItsWay (S.taken sink.old) lines.old (S.taken sink.new) lines.new
-        (S.failed sink.new) (record_line number framed.now) result }
+        (S.failed sink.new) (record_line number read_message.now) result }
 {
     lines.make_room(sink)?;
-    push_record(lines, number, framed);
+    push_record(lines, number, read_message);
     Ok(())
 }
 
 /// Adds the line of one record.
-fn push_record(lines: &mut Gathered, number: u64, framed: &Record)
+fn push_record(lines: &mut Gathered, number: u64, read_message: &Record)
     requires { length lines.old + LINE ≤ ROOM }
-    ensures { lines.new ≡ lines.old ++ record_line number framed.now }
+    ensures { lines.new ≡ lines.old ++ record_line number read_message.now }
 {
     lines.push(b"record ");
     lines.push_number(number);
     lines.push(b" n=");
-    lines.push_number(u64::from(framed.order()));
+    lines.push_number(u64::from(read_message.order()));
     lines.push(b" bytes=");
-    lines.push_number(framed.bytes().len() as u64);
+    lines.push_number(read_message.bytes().len() as u64);
     lines.push(b"\n");
 }
 
@@ -64,7 +64,7 @@ fn write_end<S: Sink>(
 ) -> Result<(), WriteFault>
     requires { S.failed sink.old ≡ false }
     ensures { StaysOnItsWay (S.taken sink.old) lines.old (S.taken sink.new) lines.new
-        (S.failed sink.new) (end_line mark count) result }
+        (S.failed sink.new) (frames_end_line mark count) result }
 {
     lines.make_room(sink)?;
     push_end(lines, mark, count);
@@ -74,7 +74,7 @@ fn write_end<S: Sink>(
 /// Adds the line of a mark.
 fn push_end(lines: &mut Gathered, mark: Mark, count: u64)
     requires { length lines.old + LINE ≤ ROOM }
-    ensures { lines.new ≡ lines.old ++ end_line mark count }
+    ensures { lines.new ≡ lines.old ++ frames_end_line mark count }
 {
     lines.push(b"end ");
     lines.push(mark_word(mark));

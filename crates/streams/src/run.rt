@@ -5,14 +5,14 @@ ghost use Rattle.ruled_lanes.specs.LinkEnds.{given, taken, AreEnds, TakesFromSam
 ghost use Rattle.streams.specs.declared.frames.Mark.{Mark};
 ghost use Rattle.streams.specs.Marks.{IsMarked};
 ghost use Rattle.streams.specs.Reading.{IsFoundIn};
-ghost use Rattle.streams.specs.Framed.{IsTold, GathersAll, GivesBack};
+ghost use Rattle.streams.specs.ReadMessage.{IsTold, GathersAll, GivesBack};
 ghost use Rattle.streams.specs.declared.reading.TheConstants.{PIECE};
 
 use super::faults::BatchFault;
-use super::framed::Framed;
 use super::frames::{Frames, Mark};
 use super::giving::give_all;
 use super::input::Tap;
+use super::read_message::ReadMessage;
 use super::reading::piece_buffer;
 use planar_code::Record;
 use ruled_lanes::{Giver, Taker, link};
@@ -26,10 +26,10 @@ use std::thread::{Promise, Threads};
 #[derive(Drop)]
 struct Reads<T: Tap> {
     source: Snapshot<T>,
-    giver: Snapshot<Giver<Framed>>,
+    giver: Snapshot<Giver<ReadMessage>>,
 }
 
-impl<T: Tap> Promise<Option<Giver<Framed>>> for Reads<T> {
+impl<T: Tap> Promise<Option<Giver<ReadMessage>>> for Reads<T> {
     ghost kept_by = { λ p result.
         GivesBack (T.to_come p.source.value) (T.fails p.source.value) p.giver.value result };
 }
@@ -37,7 +37,7 @@ impl<T: Tap> Promise<Option<Giver<Framed>>> for Reads<T> {
 /// What was gathered of a link, with its end.
 #[derive(Drop)]
 struct Harvest {
-    taker: Taker<Framed>,
+    taker: Taker<ReadMessage>,
     records: Vec<Record>,
     mark: Option<Mark>,
 }
@@ -89,7 +89,7 @@ pub fn run_frames<R: Threads + Wait + Sync, T: Tap + Send>(
             };
             let reader = match scope.spawn_with(
                 promise,
-                move || -> Option<Giver<Framed>>
+                move || -> Option<Giver<ReadMessage>>
                     requires { (given giver ≡ []) × (vec_len buffer ≡ PIECE) }
                     ensures { GivesBack (T.to_come source) (T.fails source) giver result }
                 { give_all(rt, alloc, source, buffer, giver) },
@@ -110,7 +110,11 @@ pub fn run_frames<R: Threads + Wait + Sync, T: Tap + Send>(
 
 /// Takes messages until the stop. Where it fails, it lets its end go, so that the giver does not
 /// wait for it.
-fn gather<R: Wait>(rt: &R, alloc: Global, mut taker: Taker<Framed>) -> Result<Harvest, BatchFault>
+fn gather<R: Wait>(
+    rt: &R,
+    alloc: Global,
+    mut taker: Taker<ReadMessage>,
+) -> Result<Harvest, BatchFault>
     requires { taken taker ≡ [] }
     ensures link { IfOk result (λ h. TakesFromSame taker h.taker) }
     ensures all { IfOk result (λ h. GathersAll h.records.items h.mark (taken h.taker)) }
@@ -121,12 +125,12 @@ fn gather<R: Wait>(rt: &R, alloc: Global, mut taker: Taker<Framed>) -> Result<Ha
     let mut mark = None;
     for _ in rt.forever() {
         match taker.take(rt) {
-            Ok(Framed::Records(mut batch)) => match records.append(&mut batch) {
+            Ok(ReadMessage::Records(mut batch)) => match records.append(&mut batch) {
                 Ok(()) => {}
                 Err(_) => return Err(BatchFault::Memory),
             },
-            Ok(Framed::End(end)) => mark = Some(end),
-            Ok(Framed::Stop) => break,
+            Ok(ReadMessage::End(end)) => mark = Some(end),
+            Ok(ReadMessage::Stop) => break,
             Err(_) => return Err(BatchFault::LaneLost),
         }
     }
@@ -138,7 +142,7 @@ fn gather<R: Wait>(rt: &R, alloc: Global, mut taker: Taker<Framed>) -> Result<Ha
 }
 
 /// Takes both ends of the link in. So what was gathered is all that was told, and it has a mark.
-fn settle<R: Wait>(rt: &R, harvest: Harvest, giver: Giver<Framed>) -> Frames
+fn settle<R: Wait>(rt: &R, harvest: Harvest, giver: Giver<ReadMessage>) -> Frames
     requires ends { AreEnds giver harvest.taker }
     requires all { GathersAll harvest.records.items harvest.mark (taken harvest.taker) }
     requires told { (records : List (List ℕ)) × (mark : Mark) × IsTold records mark (given giver) }

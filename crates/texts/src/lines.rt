@@ -74,7 +74,7 @@ impl Lines {
     ///
     /// # Errors
     ///
-    /// `Write` exactly where the sink has then failed; `Memory` where there was none for a line that has to
+    /// `Write` exactly where the sink has then failed; `Memory` where there was no memory for a line that has to
     /// wait or that tells of a lack of memory; `Astray` where no lane gives such a message.
     pub(crate) fn line<S: Sink>(
         &mut self,
@@ -112,7 +112,7 @@ impl Lines {
     ///
     /// # Errors
     ///
-    /// `Write` exactly where the sink has then failed; `Memory` where there was none for a line; `Astray`
+    /// `Write` exactly where the sink has then failed; `Memory` where there was no memory for a line; `Astray`
     /// where no lane gives such a message.
     pub(crate) fn end<S: Sink>(
         &mut self,

@@ -53,7 +53,7 @@ pub(crate) fn count_one(waiting: &mut Vec<Waiting>, file: u32) -> Result<(), Ref
     }
 }
 
-/// Keeps a line of a file. `Memory` where there is none for it.
+/// Keeps a line of a file. `Memory` where there is no memory for it.
 pub(crate) fn keep_line(waiting: &mut Vec<Waiting>, file: u32, line: &[u8]) -> Result<(), Refusal>
     requires { file < length waiting.old.items }
     ensures count { length waiting.new.items ≡ length waiting.old.items }

@@ -1,5 +1,5 @@
 use Rattle.std.proofs.Common.{◌≢◌, sym, ◌∙◌, arith}
-use Rattle.networks.specs.Layout.{numbers}
+use Rattle.networks.specs.ResidualArcs.{numbers}
 use Rattle.min_cost_flow.proofs.Augmenting.{IsPushed, IsCoded, reverse_below, reverse_few, reverse_code, open_code, not_reverse, pushed_filled}
 use Rattle.min_cost_flow.proofs.augment.push.Goals as goal
 

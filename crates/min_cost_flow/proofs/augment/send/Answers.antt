@@ -2,7 +2,7 @@ use Rattle.std.proofs.Common.{◌≡◌, ◌≢◌, ◌<◌, ◌≤◌, ◌+◌,
 use Rattle.networks.specs.Networks.{node_count}
 use Rattle.networks.specs.Flow.{at_nodes}
 use Rattle.min_cost_flow.specs.Excess.{Carries}
-use Rattle.networks.specs.Layout.{numbers, end_at, carried}
+use Rattle.networks.specs.ResidualArcs.{numbers, end_at, carried}
 use Rattle.min_cost_flow.specs.Round.{carrying}
 use Rattle.min_cost_flow.proofs.Changes.{taken_carries}
 use Rattle.min_cost_flow.proofs.Rounds.{IsSent, sent_round}

@@ -1,7 +1,7 @@
 use Rattle.std.proofs.Common.{◌≡◌, ◌<◌, ◌≤◌, ◌+◌, ℕ, pos, ◌≤ℤ◌, ◌+ℤ◌, true}
 use Rattle.networks.specs.Networks.{node_count}
 use Rattle.networks.specs.Flow.{at_nodes}
-use Rattle.networks.specs.Layout.{numbers, end_at, IsFilled, carried}
+use Rattle.networks.specs.ResidualArcs.{numbers, end_at, IsFilled, carried}
 use Rattle.min_cost_flow.specs.Path.{HasPath}
 use Rattle.min_cost_flow.specs.Round.{carrying}
 use Rattle.min_cost_flow.proofs.Augmenting.{IsOnWay, IsNarrowed, IsSending, next_of, room_into}

@@ -1,5 +1,5 @@
 use Rattle.std.proofs.Common.{◌<◌, ◌≤◌, ◌+◌, ℕ}
-use Rattle.networks.specs.Layout.{carried}
+use Rattle.networks.specs.ResidualArcs.{carried}
 use Rattle.min_cost_flow.proofs.resume.carries_little.Given as goal
 
 abbrev pub invariant-loop-along : goal.invariant-loop-along

@@ -3,7 +3,7 @@ use Rattle.std.specs.Prelude.{pos, ◌+ℤ◌, ◌≤ℤ◌}
 use Rattle.networks.specs.Networks.{node_count}
 use Rattle.networks.proofs.Moving.{length-moved}
 use Rattle.networks.specs.Flow.{at_nodes}
-use Rattle.networks.specs.Layout.{carried}
+use Rattle.networks.specs.ResidualArcs.{carried}
 use Rattle.min_cost_flow.proofs.Moved.{moved_round, laid_still, forward_in, reverse_in}
 use Rattle.min_cost_flow.proofs.resume.resume.Goals as goal
 

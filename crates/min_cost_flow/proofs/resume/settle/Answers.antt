@@ -2,7 +2,7 @@ use Rattle.std.proofs.Common.{rules, ◌≡◌, ◌<◌, ◌^◌, ℕ, ℤ, List
 use Rattle.std.proofs.lemmas.Bool.{cases_lt}
 use Rattle.std.proofs.lemmas.List.{get_or_past}
 use Rattle.networks.specs.Flow.{at_nodes}
-use Rattle.networks.specs.Layout.{numbers, place_of}
+use Rattle.networks.specs.ResidualArcs.{numbers, place_of}
 use Rattle.min_cost_flow.proofs.Rounds.{first_round}
 use Rattle.min_cost_flow.proofs.resume.settle.Goals as goal
 

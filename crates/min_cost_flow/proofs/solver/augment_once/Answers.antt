@@ -5,7 +5,7 @@ use mir.Syntax.{w32}
 use mir.Val.{SFits, of_z}
 use Rattle.networks.specs.Networks.{node_count}
 use Rattle.networks.specs.Flow.{at_nodes}
-use Rattle.networks.specs.Layout.{numbers}
+use Rattle.networks.specs.ResidualArcs.{numbers}
 use Rattle.shortest_paths.specs.Search.{far, IsGraph, IsPriced, IsReached, IsNearest, IsServed, IsLeft}
 use Rattle.min_cost_flow.specs.Path.{HasPath}
 use Rattle.shortest_paths.proofs.Signs.{same_from_bits, passed_within}

@@ -2,7 +2,7 @@ use Rattle.std.proofs.Common.{◌≡◌, ◌<◌, ℕ}
 use Rattle.std.specs.Prelude.{pos, ◌≤ℤ◌}
 use Rattle.networks.specs.Networks.{node_count}
 use Rattle.networks.specs.Flow.{at_nodes}
-use Rattle.networks.specs.Layout.{IsFilled, carried}
+use Rattle.networks.specs.ResidualArcs.{IsFilled, carried}
 use Rattle.shortest_paths.specs.Search.{far}
 use Rattle.min_cost_flow.specs.Round.{left_over, IsRound, IsWork}
 use Rattle.min_cost_flow.proofs.solver.drain.Given as goal

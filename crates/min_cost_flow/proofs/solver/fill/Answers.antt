@@ -1,7 +1,7 @@
 use Rattle.std.proofs.Common.{rules, ◌<◌, ◌^◌, ◌+◌, ◌∙◌, ap, ℕ, ℤ, List, true, false, arith}
 use Rattle.networks.specs.Networks.{arc_count, arc_at}
 use Rattle.networks.specs.Flow.{at_nodes}
-use Rattle.networks.specs.Layout.{numbers, place_of}
+use Rattle.networks.specs.ResidualArcs.{numbers, place_of}
 use Rattle.min_cost_flow.proofs.Rounds.{first_round, done_same}
 use Rattle.min_cost_flow.proofs.solver.fill.Goals as goal
 

@@ -1,6 +1,6 @@
 use Rattle.std.proofs.Common.{◌≡◌, ◌≤◌, ◌<◌, ℕ}
 use Rattle.networks.specs.Flow.{amounts}
-use Rattle.networks.specs.Layout.{numbers, carried}
+use Rattle.networks.specs.ResidualArcs.{numbers, carried}
 use Rattle.min_cost_flow.proofs.solver.read_flow.Given as goal
 
 abbrev pub invariant-loop-along : goal.invariant-loop-along

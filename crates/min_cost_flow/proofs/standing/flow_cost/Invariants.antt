@@ -1,7 +1,7 @@
 use Rattle.std.proofs.Common.{◌≡◌, ◌≤◌, ◌*◌}
 use Rattle.sums.specs.Sums.{sum_below}
 use Rattle.networks.specs.Networks.{arc_at}
-use Rattle.networks.specs.Layout.{carried}
+use Rattle.networks.specs.ResidualArcs.{carried}
 use Rattle.min_cost_flow.proofs.standing.flow_cost.Given as goal
 
 abbrev pub invariant-loop-i : goal.invariant-loop-i

@@ -3,7 +3,7 @@ use Rattle.std.proofs.lemmas.Int.{to_z-of_z}
 use mir.Syntax.{w32}
 use mir.Val.{SFits}
 use Rattle.networks.specs.Flow.{at_nodes}
-use Rattle.networks.specs.Layout.{numbers}
+use Rattle.networks.specs.ResidualArcs.{numbers}
 use Rattle.shortest_paths.specs.Search.{IsPut}
 use Rattle.shortest_paths.proofs.Reaching.{source_reached}
 use Rattle.shortest_paths.proofs.nearest.begin.Goals as goal

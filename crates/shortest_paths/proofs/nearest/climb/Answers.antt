@@ -5,7 +5,7 @@ use Rattle.std.specs.Prelude.{◌-ℤ◌}
 use mir.Syntax.{w32}
 use mir.Val.{SFits}
 use Rattle.networks.specs.Flow.{at_nodes}
-use Rattle.networks.specs.Layout.{numbers}
+use Rattle.networks.specs.ResidualArcs.{numbers}
 use Rattle.shortest_paths.specs.Search.{nodes_of, IsKept}
 use Rattle.shortest_paths.proofs.Reaching.{climbed, kept_same, kept_then, nearest_kept}
 use Rattle.shortest_paths.proofs.nearest.climb.Goals as goal

@@ -4,7 +4,7 @@ use Rattle.std.proofs.lemmas.Int.{to_z-of_z}
 use mir.Syntax.{w16, w32}
 use mir.Val.{SFits}
 use Rattle.networks.specs.Flow.{at_nodes}
-use Rattle.networks.specs.Layout.{numbers, end_at, cost_at}
+use Rattle.networks.specs.ResidualArcs.{numbers, end_at, cost_at}
 use Rattle.shortest_paths.proofs.Signs.{both_less, both_no_less, passed_within, sum_is}
 use Rattle.shortest_paths.proofs.Reaching.{offer_made, served_less, served_after, reached_fits, kept_same, same_z}
 use Rattle.shortest_paths.proofs.nearest.consider.Goals as goal

@@ -4,7 +4,7 @@ use Rattle.std.specs.Prelude.{ℤ, ◌-ℤ◌, ◌≤ℤ◌, ◌<ℤ◌}
 use mir.Syntax.{w32}
 use mir.Val.{SFits, of_z}
 use Rattle.networks.specs.Flow.{at_nodes}
-use Rattle.networks.specs.Layout.{numbers}
+use Rattle.networks.specs.ResidualArcs.{numbers}
 use Rattle.shortest_paths.proofs.Signs.{same_from_bits}
 use Rattle.shortest_paths.proofs.Reaching.{kept_same, left_at_level, left_behind, strictly}
 use Rattle.shortest_paths.proofs.nearest.goes_on.Goals as goal

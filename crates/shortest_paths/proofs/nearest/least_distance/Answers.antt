@@ -4,7 +4,7 @@ use Rattle.std.specs.Prelude.{ℤ, ◌-ℤ◌, ◌≤ℤ◌, ◌<ℤ◌}
 use mir.Syntax.{w32}
 use mir.Val.{SFits, to_z}
 use Rattle.networks.specs.Flow.{at_nodes}
-use Rattle.networks.specs.Layout.{numbers}
+use Rattle.networks.specs.ResidualArcs.{numbers}
 use Rattle.shortest_paths.specs.Search.{nodes_of, far}
 use Rattle.shortest_paths.proofs.Signs.{passed_within, passed_under, passed_is, difference_is}
 use Rattle.shortest_paths.proofs.Reaching.{reached_fits, potential_fits_at, least_more, at_place, under_level}

@@ -2,7 +2,7 @@ use Rattle.std.proofs.Common.{◌≡◌, ◌≤◌, ◌+◌, ℕ, arith, refl, i
 use Rattle.std.proofs.lemmas.Bool.{cases_lt}
 use Rattle.std.specs.Prelude.{length, ℤ, ◌-ℤ◌, ◌≤ℤ◌}
 use Rattle.networks.specs.Flow.{at_nodes}
-use Rattle.networks.specs.Layout.{numbers, end_at}
+use Rattle.networks.specs.ResidualArcs.{numbers, end_at}
 use Rattle.shortest_paths.specs.Search.{nodes_of, IsKept, IsServed, Serves}
 use Rattle.shortest_paths.proofs.Reaching.{headed, headed_nearest, kept_same, kept_then, kept_less, same_z, under_level, next_node, next_kept, next_only, serves_kept, served_kept, served_more}
 use Rattle.shortest_paths.proofs.nearest.scan.Goals as goal

@@ -1,7 +1,7 @@
 use Rattle.std.proofs.Common.{◌≡◌, ◌≤◌, ◌<◌, ◌+◌, ℕ}
 use Rattle.std.specs.Prelude.{◌≤ℤ◌}
 use Rattle.networks.specs.Flow.{at_nodes}
-use Rattle.networks.specs.Layout.{numbers}
+use Rattle.networks.specs.ResidualArcs.{numbers}
 use Rattle.shortest_paths.specs.Search.{Reaches, FindsNearest, Keeps, Serves}
 use Rattle.shortest_paths.proofs.nearest.scan.Given as goal
 

@@ -1,7 +1,7 @@
 use Rattle.std.proofs.Common.{◌≡◌, ◌<◌, ◌≤◌, ◌+◌, ℕ, arith, subst, sym}
 use Rattle.std.specs.Prelude.{length}
 use Rattle.networks.specs.Flow.{at_nodes}
-use Rattle.networks.specs.Layout.{numbers}
+use Rattle.networks.specs.ResidualArcs.{numbers}
 use Rattle.shortest_paths.specs.Search.{nodes_of, looked, IsServed}
 use Rattle.shortest_paths.proofs.Reaching.{served_kept, same_le, order_kept, looked_most, looked_same, looked_more}
 use Rattle.shortest_paths.proofs.nearest.search.Goals as goal

@@ -3,7 +3,7 @@ use Rattle.std.specs.Prelude.{◌-ℤ◌, ◌≤ℤ◌, ◌<ℤ◌}
 use mir.Syntax.{w32}
 use mir.Val.{SFits, of_z}
 use Rattle.networks.specs.Flow.{at_nodes}
-use Rattle.networks.specs.Layout.{numbers}
+use Rattle.networks.specs.ResidualArcs.{numbers}
 use Rattle.shortest_paths.specs.Search.{nodes_of, far}
 use Rattle.shortest_paths.proofs.Signs.{passed_within, difference_is, same_from_bits}
 use Rattle.shortest_paths.proofs.Reaching.{swapped, kept_same, nearest_kept, reached_fits, potential_fits_at, at_level}

@@ -5,7 +5,7 @@ use mir.Syntax.{w32}
 use mir.Val.{SFits}
 use Rattle.shortest_paths.proofs.Signs.{is_less, is_no_less}
 use Rattle.networks.specs.Flow.{at_nodes}
-use Rattle.networks.specs.Layout.{numbers}
+use Rattle.networks.specs.ResidualArcs.{numbers}
 use Rattle.shortest_paths.specs.Search.{far, nodes_of}
 use Rattle.shortest_paths.proofs.Reaching.{relabelled, enlisted, behind, offer_end, offer_number, order_room}
 use Rattle.shortest_paths.proofs.reach.mark.Goals as goal

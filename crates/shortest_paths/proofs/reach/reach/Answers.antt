@@ -4,7 +4,7 @@ use Rattle.networks.specs.declared.network.TheConstants.{MAX_NODES}
 use mir.Syntax.{w32}
 use mir.Val.{SFits}
 use Rattle.networks.specs.Flow.{at_nodes}
-use Rattle.networks.specs.Layout.{numbers}
+use Rattle.networks.specs.ResidualArcs.{numbers}
 use Rattle.shortest_paths.specs.Search.{far, nodes_of, IsKept}
 use Rattle.shortest_paths.proofs.Signs.{is_less, is_no_less, both_no_less, fits_within, passed_within, difference_is, same_from_bits, passed_is, passed_under}
 use Rattle.shortest_paths.proofs.Reaching.{swapped, nearest_offered, nearest_kept, kept_then, offer_end, offer_fits, potential_fits_at, at_level, offer_below, offered_least, kept_same, same_z}

@@ -1,7 +1,7 @@
 use Rattle.std.proofs.Common.{[], ◌∷◌, ◌++◌, refl, sym, ap, ◌∙◌, subst, append_assoc}
 use Rattle.ruled_lanes.specs.LinkEnds.{given}
-use Rattle.streams.specs.declared.framed.Framed.TheVariants.{Stop}
-use Rattle.streams.specs.Framed.{GiveRecords}
+use Rattle.streams.specs.declared.read_message.ReadMessage.TheVariants.{Stop}
+use Rattle.streams.specs.ReadMessage.{GiveRecords}
 use Rattle.streams.proofs.giving.give_all.Goals as goal
 
 pub returns-in-Ok-give-2 : goal.returns-in-Ok-give-2

@@ -2,7 +2,7 @@ use Rattle.std.proofs.Common.{◌≡◌, ◌+◌, ℕ, List, [], ◌++◌, Err, 
 use Rattle.std.proofs.lemmas.Result.{err_from_is_err_and}
 use Rattle.streams.specs.declared.faults.WriteFault.{WriteFault}
 use Rattle.streams.specs.Sink.{IsOnItsWay}
-use Rattle.streams.specs.Text.{record_lines, record_line, end_line, frames_text}
+use Rattle.streams.specs.Text.{record_lines, record_line, frames_end_line, frames_text}
 use Rattle.streams.proofs.Lines.{record_lines-next, record_lines-front, record_lines-at, record_lines-all, text_by_parts}
 use Rattle.streams.proofs.Sinks.{line_fails, flushed_whole}
 use Rattle.streams.proofs.report.write_frames.Goals as goal
@@ -15,7 +15,7 @@ returns-in_err-write_record g c =
     let xs = c.records-records.result.now in
     let i = c.loop-index.index in
     let found = c.args.frames.now in
-    let tail = end_line found.mark (length xs) in
+    let tail = frames_end_line found.mark (length xs) in
     let whole : frames_text found ≡ record_lines 1 xs ++ tail = sym (text_by_parts found xs found.mark c.records-records.ensures refl) in
     line_fails _ _ _ _ c.write_record.new.lines _ (record_lines 1 (take i xs)) (record_line (i + 1) c.index-records-index.result) ((record_lines-front xs (i + 1)).0 ++ tail) (frames_text found) _ _
     c.loop-index.invariant.on_its_way c.in_err-write_record.ensures
@@ -41,7 +41,7 @@ returns-in_err-write_end g c =
     subst (λ (e : WriteFault). c.from_residual-in_err-write_end.result ≡ Err e) p.2 p.1 in
     let xs = c.records-records.result.now in
     let i = c.loop-index.index in
-    let last = end_line c.mark.result (length xs) in
+    let last = frames_end_line c.mark.result (length xs) in
     let whole : record_lines 1 (take i xs) ++ last ≡ frames_text c.args.frames.now =
     ap (λ l. l ++ last) (record_lines-all xs i c.loop-index-test.false) ∙ text_by_parts c.args.frames.now xs c.mark.result c.records-records.ensures c.mark.ensures in
     line_fails _ _ _ _ c.write_end.new.lines _ (record_lines 1 (take i xs)) last [] (frames_text c.args.frames.now) _ _
@@ -51,7 +51,7 @@ pub returns : goal.returns
 returns g c =
     let xs = c.records-records.result.now in
     let i = c.loop-index.index in
-    let last = end_line c.mark.result (length xs) in
+    let last = frames_end_line c.mark.result (length xs) in
     let whole : record_lines 1 (take i xs) ++ last ≡ frames_text c.args.frames.now =
     ap (λ l. l ++ last) (record_lines-all xs i c.loop-index-test.false) ∙ text_by_parts c.args.frames.now xs c.mark.result c.records-records.ensures c.mark.ensures in
     flushed_whole _ _ _ _ _ (frames_text c.args.frames.now) _

@@ -1,5 +1,5 @@
 use Rattle.ruled_lanes.specs.LinkEnds.{taken, TakesFromSame}
-use Rattle.streams.specs.Framed.{Gathers}
+use Rattle.streams.specs.ReadMessage.{Gathers}
 use Rattle.streams.proofs.run.gather.Given as goal
 
 abbrev pub invariant-loop : goal.invariant-loop

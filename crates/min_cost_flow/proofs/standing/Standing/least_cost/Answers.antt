@@ -1,7 +1,7 @@
 use Rattle.std.proofs.Common.{subst, arith}
 use Rattle.networks.specs.Networks.{NetworkModel}
 use Rattle.networks.specs.Flow.{at_nodes}
-use Rattle.networks.specs.Layout.{carried}
+use Rattle.networks.specs.ResidualArcs.{carried}
 use Rattle.min_cost_flow.specs.Stand.{IsShown}
 use Rattle.min_cost_flow.proofs.Moved.{forward_in, reverse_in, shown_at}
 use Rattle.min_cost_flow.proofs.standing.Standing.least_cost.Goals as goal

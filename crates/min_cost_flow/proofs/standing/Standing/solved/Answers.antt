@@ -2,7 +2,7 @@ use Rattle.std.proofs.Common.{◌≡◌, ◌<◌, ℕ, ℤ, List, length, refl, 
 use Rattle.std.proofs.lemmas.List.{with_items_is}
 use Rattle.networks.specs.Networks.{NetworkModel, arc_count}
 use Rattle.networks.specs.Flow.{SolvedModel, Solves, amounts, at_nodes}
-use Rattle.networks.specs.Layout.{carried}
+use Rattle.networks.specs.ResidualArcs.{carried}
 use Rattle.min_cost_flow.proofs.Moved.{forward_in, reverse_in, solves_at}
 use Rattle.min_cost_flow.proofs.standing.Standing.solved.Goals as goal
 

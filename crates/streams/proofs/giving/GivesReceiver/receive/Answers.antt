@@ -1,7 +1,7 @@
 use Rattle.std.proofs.Common.{◌++◌, sym, subst}
 use Rattle.std.proofs.lemmas.Result.{on_ok_weaker}
 use Rattle.ruled_lanes.specs.LinkEnds.{given}
-use Rattle.streams.specs.Framed.{GiveRecords}
+use Rattle.streams.specs.ReadMessage.{GiveRecords}
 use Rattle.streams.proofs.Messages.{gave_records}
 use Rattle.streams.proofs.giving.GivesReceiver.receive.Goals as goal
 

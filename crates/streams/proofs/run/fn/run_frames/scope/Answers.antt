@@ -1,6 +1,6 @@
 use Rattle.std.proofs.Common.{ap, sym, subst, ◌∙◌}
 use Rattle.streams.specs.Reading.{IsFoundIn}
-use Rattle.streams.specs.Framed.{GivesBack}
+use Rattle.streams.specs.ReadMessage.{GivesBack}
 use Rattle.streams.proofs.Messages.{found_as}
 use Rattle.streams.proofs.run.fn.run_frames.scope.Goals as goal
 

@@ -6,7 +6,7 @@ use lanes::{Numbered, Staged};
 use planar_code::Record;
 
 /// What is known of a record at each of the four stages of a lane: each stage makes the next from it.
-pub trait Line: Sync {
+pub trait LaneKind: Sync {
     /// A record that was cut out of its file.
     type Framed: Staged<Next = Self::Embedded>;
 

@@ -39,7 +39,7 @@ pub record HasOrigin (net : NetworkModel) (reverse forward : List ℕ) (v k : �
   pub start : start_of net arc back ≡ v
 
 -- each residual arc has a number of its own, and those that start at a node are side by side
-pub record IsLaidOut (net : NetworkModel) (first reverse forward : List ℕ) : Type 0 where
+pub record HasResidualArcs (net : NetworkModel) (first reverse forward : List ℕ) : Type 0 where
   pub starts : length first ≡ node_count net + 1
   pub reverses : length reverse ≡ arc_count net + arc_count net
   pub forwards : length forward ≡ arc_count net

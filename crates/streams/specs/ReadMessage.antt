@@ -3,56 +3,56 @@ use Rattle.std.specs.Prelude.{◌≡◌, ℕ, Bool, List, [], ◌∷◌, ◌++�
 use Rattle.ruled_lanes.specs.declared.link_ends.Giver.{Giver}
 use Rattle.ruled_lanes.specs.LinkEnds.{given, GivesToSame}
 use Rattle.streams.specs.declared.frames.Mark.{Mark}
-use Rattle.streams.specs.declared.framed.Framed.{Framed}
-use Rattle.streams.specs.declared.framed.Framed.TheVariants.{Records, End, Stop}
+use Rattle.streams.specs.declared.read_message.ReadMessage.{ReadMessage}
+use Rattle.streams.specs.declared.read_message.ReadMessage.TheVariants.{Records, End, Stop}
 use Rattle.streams.specs.Reading.{IsFoundIn}
 
 -- the messages give these records in order, and nothing else
-abbrev pub GiveRecords : List (List ℕ) → List Framed → Type 0
+abbrev pub GiveRecords : List (List ℕ) → List ReadMessage → Type 0
 GiveRecords records [] = records ≡ []
 GiveRecords records (Records batch ∷ messages) = (rest : List (List ℕ)) × (records ≡ batch.items ++ rest) × GiveRecords rest messages
 GiveRecords records (_ ∷ messages) = ⊥
 
 -- the messages give the records of what was found in a source that told this of itself
-abbrev pub GivesFound : Option (List ℕ) → Bool → List Framed → Mark → Type 0
+abbrev pub GivesFound : Option (List ℕ) → Bool → List ReadMessage → Mark → Type 0
 GivesFound told fails messages mark = (records : List (List ℕ)) × GiveRecords records messages × IsFoundIn told fails records mark
 
 -- all messages of a reader: these records in order, then this one mark, then one stop
-abbrev pub IsTold : List (List ℕ) → Mark → List Framed → Type 0
-IsTold records mark messages = (front : List Framed) × (messages ≡ front ++ End mark ∷ Stop ∷ []) × GiveRecords records front
+abbrev pub IsTold : List (List ℕ) → Mark → List ReadMessage → Type 0
+IsTold records mark messages = (front : List ReadMessage) × (messages ≡ front ++ End mark ∷ Stop ∷ []) × GiveRecords records front
 
 -- all messages of the reader of a source that told this of itself
-abbrev pub TellsOf : Option (List ℕ) → Bool → List Framed → Type 0
+abbrev pub TellsOf : Option (List ℕ) → Bool → List ReadMessage → Type 0
 TellsOf told fails messages = (records : List (List ℕ)) × (mark : Mark) × IsTold records mark messages × IsFoundIn told fails records mark
 
 -- the giver that a reader gives back gave all messages to the link that it had
-abbrev pub GivesBack : Option (List ℕ) → Bool → Giver Framed → Option (Giver Framed) → Type 0
+abbrev pub GivesBack : Option (List ℕ) → Bool → Giver ReadMessage → Option (Giver ReadMessage) → Type 0
 GivesBack told fails giver result = IfSome result (λ after. GivesToSame giver after × TellsOf told fails (given after))
 
 -- there is no stop among the messages
-abbrev pub GoOn : List Framed → Type 0
+abbrev pub GoOn : List ReadMessage → Type 0
 GoOn [] = ⊤
 GoOn (Stop ∷ messages) = ⊥
 GoOn (_ ∷ messages) = GoOn messages
 
 -- the records of all messages, in order
-abbrev pub records_in : List Framed → List (List ℕ)
+abbrev pub records_in : List ReadMessage → List (List ℕ)
 records_in [] = []
 records_in (Records batch ∷ messages) = batch.items ++ records_in messages
 records_in (_ ∷ messages) = records_in messages
 
 -- the mark of the last message that has one, or else this one
-abbrev pub mark_after : Option Mark → List Framed → Option Mark
+abbrev pub mark_after : Option Mark → List ReadMessage → Option Mark
 mark_after mark [] = mark
 mark_after mark (End later ∷ messages) = mark_after (Some later) messages
 mark_after mark (_ ∷ messages) = mark_after mark messages
 
 -- the messages go on, and these are their records and their mark
-pub record Gathers (records : List (List ℕ)) (mark : Option Mark) (messages : List Framed) : Type 0 where
+pub record Gathers (records : List (List ℕ)) (mark : Option Mark) (messages : List ReadMessage) : Type 0 where
   pub going : GoOn messages
   pub same : records ≡ records_in messages
   pub marked : mark ≡ mark_after None messages
 
 -- all messages up to the stop were gathered
-abbrev pub GathersAll : List (List ℕ) → Option Mark → List Framed → Type 0
-GathersAll records mark messages = (front : List Framed) × (messages ≡ front ++ Stop ∷ []) × Gathers records mark front
+abbrev pub GathersAll : List (List ℕ) → Option Mark → List ReadMessage → Type 0
+GathersAll records mark messages = (front : List ReadMessage) × (messages ≡ front ++ Stop ∷ []) × Gathers records mark front

@@ -3,9 +3,9 @@
 use super::frames::Mark;
 use planar_code::Record;
 
-/// A message of a reader. It gives the records in order, one end mark and one stop.
+/// A message of a reader. It gives the records in order, one mark and one stop.
 #[derive(Drop)]
-pub enum Framed {
+pub enum ReadMessage {
     /// Records that follow those of the messages before. The type of each keeps that its bytes are one
     /// record.
     Records(Vec<Record>),
