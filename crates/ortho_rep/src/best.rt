@@ -12,7 +12,7 @@ use crate::least::shape_in;
 use crate::prices::Prices;
 use crate::shape::Shape;
 use embedding::MAX_DARTS;
-use faces::Plane;
+use faces::{MAX_FACES, Plane};
 use flow_network::FaceNet;
 use min_cost_flow::{SolveFault, Standing};
 use std::alloc::{AllocError, Global};
@@ -35,9 +35,6 @@ impl Lead {
         bends < self.bends || bends == self.bends && face < self.face
     }
 }
-
-/// The most faces that a plane has.
-const MAX_FACES: usize = 257;
 
 /// Turns the best face out, and gives a least shape with prices that prove it least.
 ///

@@ -8,7 +8,7 @@ ghost use Rattle.ortho_rep.specs.Representation.{HasDarts, IsShape, angles_aroun
 
 use crate::shape::Shape;
 use crate::turn::{count_lefts, mirrors};
-use faces::Plane;
+use faces::{MAX_FACES, Plane};
 
 /// Whether the shape is an orthogonal representation of the plane with its outer face, and has an angle
 /// and a string for each dart and for nothing else.
@@ -101,8 +101,8 @@ fn turns_faces(plane: &Plane, shape: &Shape) -> bool
         ≡ whole_turn plane.now f) }
 {
     let faces = plane.face_count();
-    let mut gains = [0; 257];
-    let mut losses = [0; 257];
+    let mut gains = [0; MAX_FACES];
+    let mut losses = [0; MAX_FACES];
     add_turns(plane, shape, &mut gains, &mut losses);
     for face in 0..faces {
         let place = usize::from(face);
