@@ -630,7 +630,8 @@ fn books_of_run<R: AllocGlobal + Threads + Wait + Sync>(
     Ok(batch.files())
 }
 
-/// With the start of each thread refused in turn, of a lane's own and of its stages', the fault says so.
+/// With the start of each thread refused in turn, of a lane's own and of its stages', the run ends, and
+/// answers Ok or the fault `Thread`.
 #[test]
 fn names_a_refused_thread(rt: HostRuntime) -> Result<(), Fail> {
     let opener = opener_of(rt.alloc(), &[TRIANGLES, CUT, HEADER], 1)?;

@@ -20,7 +20,7 @@ use crate::version::VERSION;
 use clap::Error;
 use clap::error::ErrorKind;
 use lanes::Opener;
-use program_io::{Console, Fault, Meter, open_source, report};
+use program_io::{Console, Fault, Meter, open_source, write_fault};
 use reports::status_of;
 use std::alloc::Global;
 use std::rt::Files;
@@ -148,7 +148,7 @@ fn end_by<E: Sink>(fault: Fault, err: &mut E) -> u8
     ensures refused { IsRefusal fault → result ≡ 2 }
     ensures failed { ¬ IsRefusal fault → result ≡ 1 }
 {
-    report(fault, err);
+    write_fault(fault, err);
     fault.status()
 }
 

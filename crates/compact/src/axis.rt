@@ -103,6 +103,7 @@ fn low_along(
     let steps = Steps {
         around,
         ahead,
+        behind: (ahead + 2) % 4,
         up,
         down,
     };

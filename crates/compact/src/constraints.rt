@@ -64,7 +64,8 @@ fn relax_all(constraints: &[Constraint], numbers: &mut [u16]) -> Relaxation
 }
 
 /// Raises low numbers until each constraint is kept, and says whether that could be: they are then the
-/// least that keep the constraints, the lengths of longest paths. If not, all numbers that keep the constraints pass 65,535.
+/// least that keep the constraints, the lengths of longest paths. If not, all numbers that keep the
+/// constraints pass 65,535 somewhere.
 ///
 /// It takes a step a constraint in each round, and at most as many rounds as a longest path has constraints, and one
 /// more.

@@ -14,6 +14,8 @@ pub struct Steps<'a> {
     pub around: &'a [u32],
     /// The direction along the axis.
     pub ahead: u8,
+    /// The direction against it.
+    pub behind: u8,
     /// A direction across the axis.
     pub up: u8,
     /// The other direction across the axis.
@@ -57,59 +59,44 @@ impl Search {
         }
     }
 
-    /// Begins a search over so many vertices, where no step has come.
+    /// Begins a search over so many vertices, where no step has come. What an earlier search wrote of them
+    /// may stand there until it is written over.
     fn begin(&mut self, steps: Steps<'_>, vertices: u32) -> Result<(), AllocError> {
         let unknown = VertexState {
             row: NO_VERTEX,
             waits: 0,
             ready: NO_VERTEX,
         };
-        self.places.clear();
         self.places.resize(vertices as usize, unknown)?;
         self.ready = 0;
-        self.mark_rows(steps, vertices);
-        self.count_steps(steps, vertices);
-        for vertex in 0..vertices {
-            if let Some(place) = self.places.get(vertex as usize).copied()
-                && place.row == vertex
-                && place.waits == 0
-            {
-                self.make_ready(vertex);
-            }
-        }
-        Ok(())
-    }
-
-    /// Tells each vertex the first one of its row.
-    fn mark_rows(&mut self, steps: Steps<'_>, vertices: u32) {
         for first in 0..vertices {
             if steps.next(first, steps.down) == NO_VERTEX {
                 self.mark_row(steps, first);
             }
         }
+        Ok(())
     }
 
-    /// Tells the vertices of a row its first one.
+    /// Tells the vertices of a row its first one, and counts the steps to the row, of which each comes
+    /// from behind one of them.
     fn mark_row(&mut self, steps: Steps<'_>, first: u32) {
         let mut vertex = first;
+        let mut waits = 0_u32;
         for _ in 0..self.places.len() {
             let Some(place) = self.places.get_mut(vertex as usize) else {
-                return;
+                break;
             };
             place.row = first;
+            if steps.next(vertex, steps.behind) != NO_VERTEX {
+                waits = waits.saturating_add(1);
+            }
             vertex = steps.next(vertex, steps.up);
         }
-    }
-
-    /// Counts the steps to each row.
-    fn count_steps(&mut self, steps: Steps<'_>, vertices: u32) {
-        for vertex in 0..vertices {
-            let to = steps.next(vertex, steps.ahead);
-            if let Some(place) = self.places.get(to as usize).copied()
-                && let Some(row) = self.places.get_mut(place.row as usize)
-            {
-                row.waits = row.waits.saturating_add(1);
-            }
+        if let Some(place) = self.places.get_mut(first as usize) {
+            place.waits = waits;
+        }
+        if waits == 0 {
+            self.make_ready(first);
         }
     }
 
@@ -136,8 +123,8 @@ impl Search {
     /// The first vertex of the row that comes at a place, or `NO_VERTEX`.
     fn row_at(&self, at: usize) -> u32 {
         match self.places.get(at) {
-            Some(place) => place.ready,
-            None => NO_VERTEX,
+            Some(place) if at < self.ready => place.ready,
+            _ => NO_VERTEX,
         }
     }
 }

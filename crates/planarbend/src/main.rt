@@ -2,7 +2,7 @@
 #![tactic(auto)]
 
 use commands::command;
-use program_io::{ErrorConsole, Fault, StandardInput, arguments_fault, report};
+use program_io::{ErrorConsole, Fault, StandardInput, arguments_fault, write_fault};
 use std::process::ExitCode;
 use std::{env, io};
 use streams::IoSink;
@@ -18,7 +18,7 @@ fn main(rt: HostRuntime) -> ExitCode {
     let status = match arguments(&rt) {
         Ok(words) => command(&rt, words.as_slice(), &input, &console, &mut out, &mut err),
         Err(fault) => {
-            report(fault, &mut err);
+            write_fault(fault, &mut err);
             fault.status()
         }
     };

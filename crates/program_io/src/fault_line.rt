@@ -41,7 +41,7 @@ impl fmt::Write for ShortLine {
 }
 
 /// Writes `planarbend: ` and the fault's message. That this may fail changes nothing.
-pub fn report<E: Sink>(fault: Fault, err: &mut E)
+pub fn write_fault<E: Sink>(fault: Fault, err: &mut E)
     requires { E.failed err.old ≡ false }
 {
     let mut line = ShortLine::new();

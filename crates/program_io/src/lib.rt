@@ -9,7 +9,7 @@ mod progress;
 mod source;
 mod standard_input;
 
-pub use fault_line::report;
+pub use fault_line::write_fault;
 pub use faults::{Fault, arguments_fault};
 pub use file_opener::FileOpener;
 pub use progress::{Console, ErrorConsole, Meter, Progress};

@@ -5,7 +5,7 @@ use crate::shared::{
     EDGE, HEADER, Narrow, TRIANGLE, check, check_failed_write, check_help, check_refused, copies,
     holds, names_no_run, run, run_narrow, same, write_parts,
 };
-use program_io::{Fault, report};
+use program_io::{Fault, write_fault};
 use std::alloc::{AllocError, Global};
 use std::process::Abort;
 use std::rt::Files;
@@ -147,7 +147,7 @@ fn names_a_failed_write(rt: HostRuntime) -> Result<(), Fail> {
 /// The line of a fault.
 fn line_of(fault: Fault) -> Narrow {
     let mut err = IoSink::new(Narrow::new(64));
-    report(fault, &mut err);
+    write_fault(fault, &mut err);
     err.into_writer()
 }
 
