@@ -23,8 +23,8 @@ PIECE = 1 << 20  # bytes of output read at a time, at most
 Run = collections.namedtuple("Run", "seconds processor peak digest")
 
 
-def words_of(text):
-    """What reads a command line, with this text as its help; other words end the script by status 2."""
+def parser_of(text):
+    """A parser of the command line, with this text as its help. A line that it refuses ends the script by status 2."""
     return argparse.ArgumentParser(description=text, formatter_class=argparse.RawDescriptionHelpFormatter)
 
 

@@ -84,10 +84,10 @@ def record(places, edges):
 
 
 def main():
-    words = argparse.ArgumentParser(description=__doc__, formatter_class=argparse.RawDescriptionHelpFormatter)
-    words.add_argument("file", metavar="FILE.pc", help="the file that is written")
+    parser = argparse.ArgumentParser(description=__doc__, formatter_class=argparse.RawDescriptionHelpFormatter)
+    parser.add_argument("file", metavar="FILE.pc", help="the file that is written")
     graphs = families()
-    with open(words.parse_args().file, "wb") as out:
+    with open(parser.parse_args().file, "wb") as out:
         out.write(HEADER)
         for (places, edges), _ in graphs:
             out.write(record(places, edges))

@@ -131,11 +131,11 @@ KINDS = {
 
 
 def main():
-    words = argparse.ArgumentParser(description=__doc__, formatter_class=argparse.RawDescriptionHelpFormatter)
-    words.add_argument("kind", metavar="KIND", choices=KINDS, help=", ".join(KINDS))
+    parser = argparse.ArgumentParser(description=__doc__, formatter_class=argparse.RawDescriptionHelpFormatter)
+    parser.add_argument("kind", metavar="KIND", choices=KINDS, help=", ".join(KINDS))
     for name in ("vertices", "count", "seed"):
-        words.add_argument(name, metavar=name.upper(), type=int)
-    told = words.parse_args()
+        parser.add_argument(name, metavar=name.upper(), type=int)
+    told = parser.parse_args()
     rng = random.Random(told.seed)
     out = sys.stdout.buffer
     out.write(HEADER)

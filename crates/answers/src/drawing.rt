@@ -4,7 +4,7 @@ ghost use Rattle.std.specs.Prelude.{IfOk};
 ghost use Rattle.ortho_rep.specs.Representation.{IsShape};
 ghost use Rattle.entries.specs.Drawn.{IsDrawn};
 
-use compact::{BoxesScratch, CompactFault, Scratch, compact_in, dissect_in};
+use compact::{BoxesScratch, CompactFault, compact_in, dissect_in};
 use drawing_check::{CheckFault, Drawing, check_in};
 use entries::Cause;
 use faces::Plane;
@@ -15,7 +15,7 @@ use std::alloc::{AllocError, Global};
 #[derive(Drop)]
 pub struct DrawScratch {
     boxes: BoxesScratch,
-    points: Scratch,
+    points: compact::Scratch,
     check: drawing_check::Scratch,
 }
 
@@ -24,7 +24,7 @@ impl DrawScratch {
     pub fn empty(alloc: Global) -> DrawScratch {
         DrawScratch {
             boxes: BoxesScratch::empty(alloc),
-            points: Scratch::empty(alloc),
+            points: compact::Scratch::empty(alloc),
             check: drawing_check::Scratch::empty(alloc),
         }
     }

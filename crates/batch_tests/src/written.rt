@@ -13,7 +13,7 @@ use std::io;
 use std::io::{ErrorKind, Write};
 use std::process::Abort;
 use std::test::Fail;
-use streams::Gathered;
+use streams::TextBuffer;
 
 const HEADER: &[u8] = b">>planar_code<<";
 
@@ -229,7 +229,7 @@ fn marks_a_file_that_does_not_open(rt: HostRuntime) -> Result<(), Fail> {
 
 /// A cause is written so.
 fn check_cause<R: AllocGlobal + Abort>(rt: &R, cause: Cause, text: &str) {
-    let mut lines = Gathered::new();
+    let mut lines = TextBuffer::new();
     push_cause(&mut lines, cause);
     let mut sink = IoSink::new(Vec::new(rt.alloc()));
     same(rt, lines.flush(&mut sink), Ok(()));

@@ -82,7 +82,7 @@ pub fn bend_into(
     ensures joined { IfOk result (λ t. IsJoined (web_of t)) }
     ensures space { IfOk result (λ t. t.darts + 4 * excess (web_of t) + 24 ≤ room t) }
 {
-    // That the plane keeps all rules is known once its graph is asked for.
+    // Only the proof needs this: `graph` says that the plane is one.
     let _graph = plane.graph();
     let room = room_for(plane, shape);
     let mut table = bare_table(table, plane, shape, directions, room)?;

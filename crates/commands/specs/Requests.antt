@@ -76,20 +76,20 @@ abbrev pub inputs_in : List (String Global) → ℕ
 inputs_in words = count_by is_input (files_in words)
 
 -- the words ask for a layout of these files, of which one at most is standard input, under this choice and in this form
-pub record AsksLayout (words : List (String Global)) (paths : Vec (Bor (List ℕ)) Global) (choice : Choice) (form : Form) : Type 0 where
+pub record AsksLayout (words : List (String Global)) (names : Vec (Bor (List ℕ)) Global) (choice : Choice) (form : Form) : Type 0 where
   pub command : asks_in wish.Layout words ≡ true
-  pub files : map (λ path. path.now) paths.items ≡ files_in words
-  pub some : 0 < vec_len paths
+  pub files : map (λ name. name.now) names.items ≡ files_in words
+  pub some : 0 < vec_len names
   pub once : inputs_in words ≤ 1
   pub best : (choice ≡ Choice.Best) ↔ (asks_in wish.BestOuter words ≡ true)
   pub json : (form ≡ Form.Json) ↔ (asks_in wish.Json words ≡ true)
 
 -- the words ask for the records of this file
-pub record AsksFrames (words : List (String Global)) (path : List ℕ) : Type 0 where
+pub record AsksFrames (words : List (String Global)) (name : List ℕ) : Type 0 where
   pub command : asks_in wish.Frames words ≡ true
-  pub file : files_in words ≡ path ∷ []
+  pub file : files_in words ≡ name ∷ []
 
 -- the request is what the words ask for
 abbrev pub IsAskedBy : List (String Global) → Request → Type 0
-IsAskedBy words (Frames path) = AsksFrames words path.now
-IsAskedBy words (Layout paths lanes choice form progress) = AsksLayout words paths choice form
+IsAskedBy words (Frames name) = AsksFrames words name.now
+IsAskedBy words (Layout names lanes choice form progress) = AsksLayout words names choice form

@@ -56,8 +56,8 @@ where
     // Status 3 comes with a whole report: of a file that does not end complete, or of files of which
     // one does not or lacks an answer for want of memory.
     ensures reported { result ≡ 3
-        → ((path : List ℕ)
-        × IsReported (meaning_of (I.meaning input.now 0) path) (S.taken out.old) (S.taken out.new) (S.failed out.new) 3)
+        → ((name : List ℕ)
+        × IsReported (meaning_of (I.meaning input.now 0) name) (S.taken out.old) (S.taken out.new) (S.failed out.new) 3)
         ⊎ ((choice : Choice) × (form : Form) × (names : List (Bor (List ℕ)))
         × IsLaidOut choice form (meanings (I.meaning input.now 0) names) (length names)
         (S.taken out.old) (S.taken out.new) (S.failed out.new) 3) }
@@ -121,15 +121,15 @@ where
         ⊎ IsBegunToBeDone (I.meaning input.now 0) request.entry (S.taken out.old) (S.taken out.new) }
 {
     let outcome = match request {
-        Request::Frames { path } => frames(rt, path, input, out),
+        Request::Frames { name } => frames(rt, name, input, out),
         Request::Layout {
-            paths,
+            names,
             lanes,
             choice,
             form,
             progress,
         } => {
-            let names = paths.as_slice();
+            let names = names.as_slice();
             let meter = Meter::new(console, progress, names.len());
             let outcome = layout(rt, names, input, lanes, choice, form, &meter, out);
             meter.finish();
@@ -155,20 +155,20 @@ fn end_by<E: Sink>(fault: Fault, err: &mut E) -> u8
 /// Writes the records of one file and how it ends, and answers the status.
 fn frames<R: Files + AllocGlobal + Threads + Wait + Sync, I: Opener, S: Sink>(
     rt: &R,
-    path: &str,
+    name: &str,
     input: &I,
     out: &mut S,
 ) -> Result<u8, Fault>
 where
     R::File: Send,
     requires { S.failed out.old ≡ false }
-    ensures reported { IfOk result (IsReported (meaning_of (I.meaning input.now 0) path.now)
+    ensures reported { IfOk result (IsReported (meaning_of (I.meaning input.now 0) name.now)
         (S.taken out.old) (S.taken out.new) (S.failed out.new)) }
     ensures failed { IfErr result (λ fault. ¬ IsRefusal fault) }
     ensures begun { OnErr result ((out.new ≡ out.old)
-        ⊎ IsBegunToReport (meaning_of (I.meaning input.now 0) path.now) (S.taken out.old) (S.taken out.new)) }
+        ⊎ IsBegunToReport (meaning_of (I.meaning input.now 0) name.now) (S.taken out.old) (S.taken out.new)) }
 {
-    let source = open_source(rt, rt.alloc(), input, path)?;
+    let source = open_source(rt, rt.alloc(), input, name)?;
     let found = run_frames(rt, rt.alloc(), source, CAPACITY)?;
     write_frames(&found, out)?;
     Ok(status_of(found.mark()))

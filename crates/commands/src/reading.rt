@@ -84,7 +84,8 @@ fn is_help(word: &str) -> bool
     word == "--help" || has_front(word, b'-', b'h')
 }
 
-/// Whether a word begins with these two bytes.
+/// Whether a word begins with these two bytes. The second is not 0, as which the definition reads a byte that is not
+/// there.
 fn has_front(word: &str, first: u8, second: u8) -> bool
     requires { 0 < second }
     ensures { result ≡ has_front first second word.now }

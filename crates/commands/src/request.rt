@@ -18,12 +18,12 @@ use std::alloc::{AllocError, Global};
 pub enum Request<'a> {
     /// The records of one file.
     Frames {
-        path: &'a str,
+        name: &'a str,
     },
     /// Answers to the records of files.
     Layout {
         /// The files, in order.
-        paths: Vec<&'a str>,
+        names: Vec<&'a str>,
         /// How many lanes work on them.
         lanes: u32,
         /// How the outer face of each plane is chosen.
@@ -75,7 +75,7 @@ fn request_of<'a>(
         return None;
     }
     Some(Request::Layout {
-        paths: files,
+        names: files,
         lanes: lanes_of(matches),
         choice: choice_of(words),
         form: form_of(words),
@@ -90,7 +90,7 @@ fn frames_request<'a>(words: &[String], files: &[&'a str]) -> Option<Request<'a>
     ensures { IfSome result (IsAskedBy words.now) }
 {
     match files {
-        [path] => Some(Request::Frames { path: *path }),
+        [name] => Some(Request::Frames { name: *name }),
         _ => None,
     }
 }

@@ -23,11 +23,11 @@ raised_under xs new n to need y to_in made enough under v v_in =
 pub under_at : (next : ℕ → ℕ) (n m least : ℕ) (old new : List ℕ) → m ≡ n → StayUnder m next least old new → StayUnder n next least old new
 under_at next n m least old new same stay = subst (λ (k : ℕ). StayUnder k next least old new) same stay
 
-pub both_at : (ahead down : ℕ → ℕ) (n m : ℕ) (old new : List ℕ) → m ≡ n → StayUnderBoth m ahead down old new → StayUnderBoth n ahead down old new
-both_at ahead down n m old new same stay = subst (λ (k : ℕ). StayUnderBoth k ahead down old new) same stay
+pub both_at : (ahead right : ℕ → ℕ) (n m : ℕ) (old new : List ℕ) → m ≡ n → StayUnderBoth m ahead right old new → StayUnderBoth n ahead right old new
+both_at ahead right n m old new same stay = subst (λ (k : ℕ). StayUnderBoth k ahead right old new) same stay
 
-pub all_at : (ahead up down : ℕ → ℕ) (n m : ℕ) (old new : List ℕ) → m ≡ n → StayUnderAll m ahead up down old new → StayUnderAll n ahead up down old new
-all_at ahead up down n m old new same stay = subst (λ (k : ℕ). StayUnderAll k ahead up down old new) same stay
+pub all_at : (ahead left right : ℕ → ℕ) (n m : ℕ) (old new : List ℕ) → m ≡ n → StayUnderAll m ahead left right old new → StayUnderAll n ahead left right old new
+all_at ahead left right n m old new same stay = subst (λ (k : ℕ). StayUnderAll k ahead left right old new) same stay
 
 -- each dart writes its step
 pub step_written : (w : Web) (a : ℕ) (around new : List ℕ) (n place to : ℕ) → a < w.darts → w.direction a < 4 → place ≡ 4 * tail w a + w.direction a →

@@ -24,12 +24,12 @@ AreUnder n xs y = (v : ℕ) → v < n → slice_index xs v ≤ y v
 abbrev pub StayUnder : ℕ → (ℕ → ℕ) → ℕ → List ℕ → List ℕ → Type 0
 StayUnder n next least old new = (y : ℕ → ℕ) → GrowBy next n least y → AreUnder n old y → AreUnder n new y
 
--- the same of steps ahead by 1 and of steps down
+-- the same of steps ahead by 1 and of steps to the right
 abbrev pub StayUnderBoth : ℕ → (ℕ → ℕ) → (ℕ → ℕ) → List ℕ → List ℕ → Type 0
-StayUnderBoth n ahead down old new =
-    (y : ℕ → ℕ) → GrowBy ahead n 1 y → GrowBy down n 0 y → AreUnder n old y → AreUnder n new y
+StayUnderBoth n ahead right old new =
+    (y : ℕ → ℕ) → GrowBy ahead n 1 y → GrowBy right n 0 y → AreUnder n old y → AreUnder n new y
 
--- and of steps up
+-- and of steps to the left
 abbrev pub StayUnderAll : ℕ → (ℕ → ℕ) → (ℕ → ℕ) → (ℕ → ℕ) → List ℕ → List ℕ → Type 0
-StayUnderAll n ahead up down old new =
-    (y : ℕ → ℕ) → GrowBy ahead n 1 y → GrowBy up n 0 y → GrowBy down n 0 y → AreUnder n old y → AreUnder n new y
+StayUnderAll n ahead left right old new =
+    (y : ℕ → ℕ) → GrowBy ahead n 1 y → GrowBy left n 0 y → GrowBy right n 0 y → AreUnder n old y → AreUnder n new y

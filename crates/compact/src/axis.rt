@@ -10,7 +10,7 @@ ghost use Rattle.dissect.specs.Boxes.{web};
 
 use crate::constraints::{Constraint, settle};
 use crate::fault::CompactFault;
-use crate::rows::{Search, Steps, raise_rows};
+use crate::rows::{RowQueue, Steps, raise_rows};
 use directions::Direction;
 use dissect::Boxes;
 use reuse::filled;
@@ -25,8 +25,8 @@ pub enum Axis {
     Y,
 }
 
-/// How much, or more, the number of the head of a dart of this direction is to be beyond that of its tail;
-/// none where it may be less.
+/// How much the number of a dart's head is at least above that of its tail, for darts of this direction.
+/// None for darts against the axis: their reverses say it.
 fn least_difference(axis: Axis, direction: Direction) -> Option<u8>
     ensures forward { quarters direction ≡ growth axis → result ≡ Some 1 }
     ensures back { quarters direction ≡ growth axis + 2 → result ≡ None }
@@ -78,47 +78,40 @@ fn are_along(boxes: &Boxes, axis: Axis, numbers: &[u16]) -> bool
     true
 }
 
-/// Numbers that are nowhere above any in the order of the darts along the direction `ahead`, where `up`
-/// and `down` run across it. `around` has the steps from each vertex. They stand in the memory of the
-/// list that is lent.
-fn low_along(
-    boxes: &Boxes,
-    around: &[u32],
-    ahead: u8,
-    up: u8,
-    down: u8,
-    numbers: Vec<u16>,
-    search: &mut Search,
-) -> Result<Vec<u16>, AllocError>
-    requires steps { AreSteps (web boxes.now) around.now boxes.now.vertices }
-    requires around { length around.now ≡ 4 * boxes.now.vertices }
-    requires ahead { ahead < 4 }
-    requires up { (up < 4) × IsAcross ahead up }
-    requires down { (down < 4) × IsAcross ahead down }
-    ensures sound { IfOk result (λ _. IsSound (web boxes.now)) }
-    ensures count { IfOk result (λ numbers. length numbers.items ≡ boxes.now.vertices) }
-    ensures under { IfOk result (λ numbers. (y : ℕ → ℕ) → IsAlong (web boxes.now) ahead y → AreUnder boxes.now.vertices numbers.items y) }
+/// The steps from each vertex by their directions along an axis. Directions are numbered from east.
+fn steps_along(around: &[u32], axis: Axis) -> Steps<'_>
+    ensures around { result.around.now ≡ around.now }
+    ensures ahead { (result.ahead < 4) × (result.ahead ≡ growth axis) }
+    ensures left { (result.left < 4) × IsAcross (growth axis) result.left }
+    ensures right { (result.right < 4) × IsAcross (growth axis) result.right }
 {
-    let mut numbers = filled(numbers, boxes.vertices() as usize, 0)?;
-    let steps = Steps {
-        around,
-        ahead,
-        behind: (ahead + 2) % 4,
-        up,
-        down,
-    };
-    raise_rows(search, steps, boxes.vertices(), &mut numbers)?;
-    Ok(numbers)
+    match axis {
+        Axis::X => Steps {
+            around,
+            ahead: 0,
+            left: 1,
+            behind: 2,
+            right: 3,
+        },
+        Axis::Y => Steps {
+            around,
+            ahead: 1,
+            left: 2,
+            behind: 3,
+            right: 0,
+        },
+    }
 }
 
 /// Numbers that are nowhere above any in the order of the darts along an axis: the lengths of longest
-/// paths, found row by row, in the memory of the list that is lent. Linear in the darts.
-fn low_numbers(
+/// paths, found row by row, in the memory of the list that is lent. `around` has the steps from each
+/// vertex. Linear in the darts.
+fn low_along(
     boxes: &Boxes,
     around: &[u32],
     axis: Axis,
     numbers: Vec<u16>,
-    search: &mut Search,
+    queue: &mut RowQueue,
 ) -> Result<Vec<u16>, AllocError>
     requires steps { AreSteps (web boxes.now) around.now boxes.now.vertices }
     requires around { length around.now ≡ 4 * boxes.now.vertices }
@@ -126,10 +119,14 @@ fn low_numbers(
     ensures count { IfOk result (λ numbers. length numbers.items ≡ boxes.now.vertices) }
     ensures under { IfOk result (λ numbers. (y : ℕ → ℕ) → IsAlong (web boxes.now) (growth axis) y → AreUnder boxes.now.vertices numbers.items y) }
 {
-    match axis {
-        Axis::X => low_along(boxes, around, 0, 1, 3, numbers, search),
-        Axis::Y => low_along(boxes, around, 1, 2, 0, numbers, search),
-    }
+    let mut numbers = filled(numbers, boxes.vertices() as usize, 0)?;
+    raise_rows(
+        queue,
+        steps_along(around, axis),
+        boxes.vertices(),
+        &mut numbers,
+    )?;
+    Ok(numbers)
 }
 
 /// The least numbers of the vertices in the order of the darts along an axis, in the memory of the list
@@ -139,7 +136,7 @@ pub fn numbers_along(
     around: &[u32],
     axis: Axis,
     numbers: Vec<u16>,
-    search: &mut Search,
+    queue: &mut RowQueue,
     constraints: &mut Vec<Constraint>,
 ) -> Result<Vec<u16>, CompactFault>
     requires steps { AreSteps (web boxes.now) around.now boxes.now.vertices }
@@ -152,7 +149,7 @@ pub fn numbers_along(
     ensures count { IfOk result (λ numbers. length numbers.items ≡ boxes.now.vertices) }
     ensures fault { IfErr result (IsAxisFault boxes.now (growth axis)) }
 {
-    let Ok(mut numbers) = low_numbers(boxes, around, axis, numbers, search) else {
+    let Ok(mut numbers) = low_along(boxes, around, axis, numbers, queue) else {
         return Err(CompactFault::Memory);
     };
     if are_along(boxes, axis, &numbers) {

@@ -98,17 +98,17 @@ pub fn compact_in(
         around,
         x,
         y,
-        mut search,
+        mut queue,
         mut constraints,
     } = mem::replace(scratch, Scratch::empty(alloc));
     let Ok(around) = steps_of(boxes, around) else {
         return Err(CompactFault::Memory);
     };
-    let x = match numbers_along(boxes, &around, Axis::X, x, &mut search, &mut constraints) {
+    let x = match numbers_along(boxes, &around, Axis::X, x, &mut queue, &mut constraints) {
         Ok(x) => x,
         Err(fault) => return Err(fault),
     };
-    let y = match numbers_along(boxes, &around, Axis::Y, y, &mut search, &mut constraints) {
+    let y = match numbers_along(boxes, &around, Axis::Y, y, &mut queue, &mut constraints) {
         Ok(y) => y,
         Err(fault) => return Err(fault),
     };
@@ -122,7 +122,7 @@ pub fn compact_in(
         around,
         x,
         y,
-        search,
+        queue,
         constraints,
     };
     Ok(Points::joined(vertices, corners, starts))

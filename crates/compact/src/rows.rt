@@ -16,114 +16,114 @@ pub struct Steps<'a> {
     pub ahead: u8,
     /// The direction against it.
     pub behind: u8,
-    /// A direction across the axis.
-    pub up: u8,
-    /// The other direction across the axis.
-    pub down: u8,
+    /// The direction a quarter turn to the left of `ahead`.
+    pub left: u8,
+    /// The direction a quarter turn to the right of `ahead`.
+    pub right: u8,
 }
 
 impl Steps<'_> {
     /// The next vertex in a direction, or `NO_VERTEX`.
     fn next(&self, vertex: u32, way: u8) -> u32 {
-        let place = 4 * vertex as usize + usize::from(way);
-        self.around.get(place).copied().unwrap_or(NO_VERTEX)
+        let index = 4 * vertex as usize + usize::from(way);
+        self.around.get(index).copied().unwrap_or(NO_VERTEX)
     }
 }
 
-/// What the search knows of a vertex, and the row that comes at the vertex's place.
+/// What is known of a vertex; and, though it has nothing to do with the vertex, one row of the queue.
 #[derive(Clone, Copy, Debug)]
 struct VertexState {
     /// The first vertex of the row of this vertex.
     row: u32,
     /// For the first vertex of a row, how many steps to the row are still to come.
     waits: u32,
-    /// The first vertex of the row that comes at this place, or `NO_VERTEX` where none is known yet.
-    ready: u32,
+    /// The first vertex of the row that stands in the queue at the number of this vertex, or `NO_VERTEX`.
+    queued: u32,
 }
 
-/// Which rows are to come next. Time alone rests on it: whatever is told, numbers are raised along
-/// steps alone. The next search can use its memory again.
+/// The rows that are to come next. Time alone rests on it: whatever it holds, numbers are raised along
+/// steps alone. Its memory is used again for the next dissection.
 #[derive(Drop)]
-pub struct Search {
-    places: Vec<VertexState>,
-    /// How many rows are ready: no step to them is to come any more.
-    ready: usize,
+pub struct RowQueue {
+    states: Vec<VertexState>,
+    /// How many rows were put into the queue: no step to them is to come any more.
+    count: usize,
 }
 
-impl Search {
-    /// A search over no vertices. It takes no memory.
-    pub fn empty(alloc: Global) -> Search {
-        Search {
-            places: Vec::new(alloc),
-            ready: 0,
+impl RowQueue {
+    /// A queue for no vertices. It takes no memory.
+    pub fn empty(alloc: Global) -> RowQueue {
+        RowQueue {
+            states: Vec::new(alloc),
+            count: 0,
         }
     }
 
-    /// Begins a search over so many vertices, where no step has come. What an earlier search wrote of them
-    /// may stand there until it is written over.
+    /// Begins with the rows to which no step leads. What an earlier dissection wrote of so many vertices may
+    /// stand there until it is written over.
     fn begin(&mut self, steps: Steps<'_>, vertices: u32) -> Result<(), AllocError> {
         let unknown = VertexState {
             row: NO_VERTEX,
             waits: 0,
-            ready: NO_VERTEX,
+            queued: NO_VERTEX,
         };
-        self.places.resize(vertices as usize, unknown)?;
-        self.ready = 0;
+        self.states.resize(vertices as usize, unknown)?;
+        self.count = 0;
         for first in 0..vertices {
-            if steps.next(first, steps.down) == NO_VERTEX {
+            if steps.next(first, steps.right) == NO_VERTEX {
                 self.mark_row(steps, first);
             }
         }
         Ok(())
     }
 
-    /// Tells the vertices of a row its first one, and counts the steps to the row, of which each comes
-    /// from behind one of them.
+    /// Writes the first vertex of a row at each of its vertices, and counts the steps that lead to the row
+    /// from behind.
     fn mark_row(&mut self, steps: Steps<'_>, first: u32) {
         let mut vertex = first;
         let mut waits = 0_u32;
-        for _ in 0..self.places.len() {
-            let Some(place) = self.places.get_mut(vertex as usize) else {
+        for _ in 0..self.states.len() {
+            let Some(state) = self.states.get_mut(vertex as usize) else {
                 break;
             };
-            place.row = first;
+            state.row = first;
             if steps.next(vertex, steps.behind) != NO_VERTEX {
                 waits = waits.saturating_add(1);
             }
-            vertex = steps.next(vertex, steps.up);
+            vertex = steps.next(vertex, steps.left);
         }
-        if let Some(place) = self.places.get_mut(first as usize) {
-            place.waits = waits;
+        if let Some(state) = self.states.get_mut(first as usize) {
+            state.waits = waits;
         }
         if waits == 0 {
-            self.make_ready(first);
+            self.put_last(first);
         }
     }
 
-    /// The row with this first vertex comes behind those that are ready.
-    fn make_ready(&mut self, first: u32) {
-        if let Some(place) = self.places.get_mut(self.ready) {
-            place.ready = first;
-            self.ready = self.ready.saturating_add(1);
+    /// Puts the row with this first vertex behind all others.
+    fn put_last(&mut self, first: u32) {
+        if let Some(state) = self.states.get_mut(self.count) {
+            state.queued = first;
+            self.count = self.count.saturating_add(1);
         }
     }
 
-    /// A step comes to a vertex.
-    fn arrive(&mut self, vertex: u32) {
-        if let Some(place) = self.places.get(vertex as usize).copied()
-            && let Some(row) = self.places.get_mut(place.row as usize)
+    /// Counts off one step to the row of this vertex. With the last one the row comes into the queue.
+    fn count_off(&mut self, vertex: u32) {
+        if let Some(state) = self.states.get(vertex as usize).copied()
+            && let Some(row) = self.states.get_mut(state.row as usize)
         {
             row.waits = row.waits.saturating_sub(1);
             if row.waits == 0 {
-                self.make_ready(place.row);
+                self.put_last(state.row);
             }
         }
     }
 
-    /// The first vertex of the row that comes at a place, or `NO_VERTEX`.
+    /// The first vertex of the row that stands at a place of the queue, or `NO_VERTEX`.
     fn row_at(&self, at: usize) -> u32 {
-        match self.places.get(at) {
-            Some(place) if at < self.ready => place.ready,
+        match self.states.get(at) {
+            Some(state) if at < self.count => state.queued,
             _ => NO_VERTEX,
         }
     }
@@ -152,18 +152,18 @@ fn raise(around: &[u32], way: u8, least: u8, from: u32, numbers: &mut [u16]) -> 
 
 /// Walks along a row from its first vertex, raises each number to the one before it, and gives back
 /// the last vertex.
-fn climb(around: &[u32], up: u8, first: u32, numbers: &mut [u16]) -> u32
-    requires up { up < 4 }
+fn climb(around: &[u32], left: u8, first: u32, numbers: &mut [u16]) -> u32
+    requires left { left < 4 }
     requires first { first < length numbers.old }
     requires count { length around.now ≡ 4 * length numbers.old }
-    ensures under { StayUnder (length numbers.old) (step around.now up) 0 numbers.old numbers.new }
+    ensures under { StayUnder (length numbers.old) (step around.now left) 0 numbers.old numbers.new }
     ensures count { length numbers.new ≡ length numbers.old }
     ensures inside { result < length numbers.old }
 {
     let mut vertex = first;
     for _ in 0..numbers.len() {
-        match raise(around, up, 0, vertex, numbers) {
-            Some(above) => vertex = above,
+        match raise(around, left, 0, vertex, numbers) {
+            Some(next) => vertex = next,
             None => return vertex,
         }
     }
@@ -172,20 +172,20 @@ fn climb(around: &[u32], up: u8, first: u32, numbers: &mut [u16]) -> u32
 
 /// Walks back along a row from its last vertex, raises each number to the one before it, and that of
 /// the next vertex along the axis to one more.
-fn descend(steps: Steps<'_>, last: u32, search: &mut Search, numbers: &mut [u16])
-    requires ways { (steps.ahead < 4) × (steps.down < 4) }
+fn descend(steps: Steps<'_>, last: u32, queue: &mut RowQueue, numbers: &mut [u16])
+    requires ways { (steps.ahead < 4) × (steps.right < 4) }
     requires last { last < length numbers.old }
     requires count { length steps.around.now ≡ 4 * length numbers.old }
-    ensures under { StayUnderBoth (length numbers.old) (step steps.entry.around.now steps.entry.ahead) (step steps.entry.around.now steps.entry.down) numbers.old numbers.new }
+    ensures under { StayUnderBoth (length numbers.old) (step steps.entry.around.now steps.entry.ahead) (step steps.entry.around.now steps.entry.right) numbers.old numbers.new }
     ensures count { length numbers.new ≡ length numbers.old }
 {
     let mut vertex = last;
     for _ in 0..numbers.len() {
         if let Some(to) = raise(steps.around, steps.ahead, 1, vertex, numbers) {
-            search.arrive(to);
+            queue.count_off(to);
         }
-        match raise(steps.around, steps.down, 0, vertex, numbers) {
-            Some(below) => vertex = below,
+        match raise(steps.around, steps.right, 0, vertex, numbers) {
+            Some(next) => vertex = next,
             None => return,
         }
     }
@@ -194,24 +194,24 @@ fn descend(steps: Steps<'_>, last: u32, search: &mut Search, numbers: &mut [u16]
 /// Raises numbers to those of longest paths, row by row: a row comes when the numbers of all rows that
 /// have a step to it are known. Linear in the vertices.
 pub fn raise_rows(
-    search: &mut Search,
+    queue: &mut RowQueue,
     steps: Steps<'_>,
     vertices: u32,
     numbers: &mut [u16],
 ) -> Result<(), AllocError>
-    requires ways { (steps.ahead < 4) × (steps.up < 4) × (steps.down < 4) }
+    requires ways { (steps.ahead < 4) × (steps.left < 4) × (steps.right < 4) }
     requires count { length steps.around.now ≡ 4 * length numbers.old }
-    ensures under { StayUnderAll (length numbers.old) (step steps.entry.around.now steps.entry.ahead) (step steps.entry.around.now steps.entry.up) (step steps.entry.around.now steps.entry.down) numbers.old numbers.new }
+    ensures under { StayUnderAll (length numbers.old) (step steps.entry.around.now steps.entry.ahead) (step steps.entry.around.now steps.entry.left) (step steps.entry.around.now steps.entry.right) numbers.old numbers.new }
     ensures count { length numbers.new ≡ length numbers.old }
 {
-    search.begin(steps, vertices)?;
+    queue.begin(steps, vertices)?;
     for at in 0..numbers.len() {
-        let first = search.row_at(at);
+        let first = queue.row_at(at);
         if first as usize >= numbers.len() {
             return Ok(());
         }
-        let last = climb(steps.around, steps.up, first, numbers);
-        descend(steps, last, search, numbers);
+        let last = climb(steps.around, steps.left, first, numbers);
+        descend(steps, last, queue, numbers);
     }
     Ok(())
 }

@@ -20,11 +20,11 @@ pub fn cut_across(table: &mut DartTable, d: u32, c: u32)
     ensures room { room table.new ≡ room table.old }
 {
     let e = table.next[c as usize];
-    let facing = table.direction[e as usize];
-    let way = (table.direction[d as usize] + 7 - table.angle[d as usize]) % 4;
-    let place = table.darts;
-    table.split(e, facing, 2);
-    table.chord(d, place, way);
+    let edge_direction = table.direction[e as usize];
+    let chord_direction = (table.direction[d as usize] + 7 - table.angle[d as usize]) % 4;
+    let first = table.darts;
+    table.split(e, edge_direction, 2);
+    table.chord(d, first, chord_direction);
 }
 
 /// Whether the uppermost corners of the stack are a left turn on a left turn on a right turn.
@@ -112,8 +112,8 @@ pub fn cut_face(table: &mut DartTable, ring: &mut [u32])
     ensures space { HasRoom (web_of table.new) (room table.new) }
     ensures room { room table.new ≡ room table.old }
 {
-    let turn = highest(table.angle.as_slice(), ring);
-    ring.rotate_left(turn);
+    let start = highest(table.angle.as_slice(), ring);
+    ring.rotate_left(start);
     let mut height = 0;
     'corners: for read in 0..ring.len() {
         ring[height] = ring[read];

@@ -149,7 +149,7 @@ impl Boxes {
         ensures value { result ≡ vertex - 1 }
         ensures inside { result < self.now.vertices }
     {
-        // That the boxes hold the plane's vertices is known once a field is read.
+        // Only the proof needs this field.
         let _ = &self.table;
         u32::from(vertex) - 1
     }

@@ -7,7 +7,7 @@ use Rattle.sums.proofs.Sums.{sum_below-none, sum_below-le, sum_below-lt, sum_bel
 use Rattle.embedding.specs.Lists.{list_of}
 use Rattle.embedding.specs.declared.rules.Rule.TheVariants.{Disconnected}
 use Rattle.embedding.specs.Rules.{Breaks, IsClosed}
-use Rattle.embedding.specs.Walks.{Holds, IsQueue, IsReached}
+use Rattle.embedding.specs.Reached.{Holds, IsQueue, IsReached}
 
 -- 1 for a marked number, else 0
 abbrev mark_of : List Bool → ℕ → ℕ

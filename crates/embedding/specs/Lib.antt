@@ -6,6 +6,6 @@ pub mod Words
 pub mod Tables
 pub mod Split
 pub mod Pairs
-pub mod Walks
+pub mod Reached
 pub mod Faults
 pub mod Lesser

@@ -7,8 +7,8 @@ ghost use Rattle.embedding.specs.Rules.{Breaks, KeepsBefore, FirstBroken, NamesT
 
 use crate::lists::Lists;
 use crate::pairs::Pairs;
+use crate::reached::breaks_disconnected;
 use crate::rules::Rule;
-use crate::walks::breaks_disconnected;
 
 /// Whether some entry of the list is greater than n.
 fn exceeds(list: &[u8], n: u8) -> bool
@@ -100,8 +100,8 @@ fn breaks_asymmetric(lists: &Lists<'_>) -> bool
     for place in 0..lists.count() {
         add_pairs(&mut pairs, place + 1, lists.at(place));
     }
-    for vertex in 0..lists.count() {
-        if lacks_pair(&pairs, vertex + 1, lists.at(vertex)) {
+    for place in 0..lists.count() {
+        if lacks_pair(&pairs, place + 1, lists.at(place)) {
             return true;
         }
     }

@@ -10,9 +10,9 @@ mod graphs;
 mod lesser_darts;
 mod lists;
 mod pairs;
+mod reached;
 mod rules;
 mod tables;
-mod walks;
 
 pub use faults::ReadFault;
 pub use graphs::{Graph, MAX_DARTS, MAX_EDGES};

@@ -48,13 +48,13 @@ pub(crate) fn tails_in(alloc: Global, lists: &Lists<'_>) -> Result<Vec<u8>, Allo
 
 /// The heads of all darts.
 pub(crate) fn heads_in(alloc: Global, lists: &Lists<'_>) -> Result<Vec<u8>, AllocError>
-    ensures { IfOk result (λ ends. ends.items ≡ heads lists.now) }
+    ensures { IfOk result (λ found. found.items ≡ heads lists.now) }
 {
-    let mut ends = Vec::with_capacity(alloc, lists.darts())?;
+    let mut heads = Vec::with_capacity(alloc, lists.darts())?;
     for place in 0..lists.count() {
-        ends.extend_from_slice(lists.at(place))?;
+        heads.extend_from_slice(lists.at(place))?;
     }
-    Ok(ends)
+    Ok(heads)
 }
 
 /// Where a vertex stands in a list that holds it.
@@ -71,8 +71,8 @@ fn place_of(list: &[u8], vertex: u8) -> usize
     unreachable!()
 }
 
-/// The dart from `head` to `tail`, where `head` stands in the list of `tail`.
-fn opposite(lists: &Lists<'_>, tail: u8, head: u8) -> u16
+/// The reverse of the dart from `tail` to `head`, which stands in the list of `tail`.
+fn reverse_between(lists: &Lists<'_>, tail: u8, head: u8) -> u16
     requires rules { KeepsBefore lists.now 8 }
     requires listed { Contains (list_of lists.now tail) head }
     ensures { (d : ℕ) → d < dart_count lists.now
@@ -92,7 +92,7 @@ fn add_reverses(reverses: &mut Vec<u16>, lists: &Lists<'_>, place: u8) -> Result
         IsTable (first_dart lists.now (place + 1)) (reverse_of lists.now) reverses.new.items) }
 {
     for head in lists.at(place) {
-        reverses.push(opposite(lists, place + 1, *head))?;
+        reverses.push(reverse_between(lists, place + 1, *head))?;
     }
     Ok(())
 }

@@ -49,7 +49,7 @@ fn corner_count(table: &DartTable) -> usize
         .count()
 }
 
-/// How many faces a drawing of one piece has, by Euler's formula.
+/// How many faces a joined drawing has, by Euler's formula. Only how much room is made for them rests on it.
 fn face_count(table: &DartTable) -> usize {
     (table.darts / 2 + 2).saturating_sub(table.vertices) as usize
 }

@@ -10,7 +10,7 @@ ghost use Rattle.headings.specs.Headings.{AreHeadings};
 ghost use Rattle.headings.specs.Search.{IsReached};
 
 use faces::Plane;
-use ortho_rep::{Shape, Turn};
+use ortho_rep::{Shape, Turn, count_lefts};
 use reuse::{emptied, filled};
 use std::alloc::{AllocError, Global};
 
@@ -72,14 +72,6 @@ fn clockwise_heading(heading: u8, angle: u8) -> u8
     ensures turned { (result + angle) % 4 ≡ heading }
 {
     (heading + 4 - angle) % 4
-}
-
-/// How many of these turns are left turns.
-fn count_lefts(turns: &[Turn]) -> usize
-    ensures count { result ≡ lefts turns.now }
-    ensures few { result ≤ length turns.now }
-{
-    turns.iter().filter(|turn| **turn == Turn::Left).count()
 }
 
 /// The direction of the reverse of a dart with this direction and these turns.

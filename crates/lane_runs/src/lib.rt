@@ -1,5 +1,5 @@
 //! Lanes that run: each draws files until none is left and works on their records in four threads, and
-//! the calling thread hands what they give from one fan to a consumer. What the stages do is the line's.
+//! the calling thread hands what they give from one fan to a consumer. What the stages do is said by the `LaneKind`.
 #![tactic(auto)]
 
 mod fault;

@@ -16,7 +16,7 @@ use std::sync::Wait;
 /// Why gathering came to nothing.
 #[derive(Drop)]
 pub enum GatherFault<F: Drop> {
-    /// There was no memory to note which lanes have stopped.
+    /// There was no memory for the marks of lanes that have stopped.
     Memory,
     /// The givers of all lanes were gone.
     LaneLost,
@@ -24,8 +24,8 @@ pub enum GatherFault<F: Drop> {
     Refused(F),
 }
 
-/// Notes that a lane has stopped.
-fn note_stop(stops: &mut Vec<bool>, lane: u32)
+/// Marks a lane as one that has stopped.
+fn set_stopped(stops: &mut Vec<bool>, lane: u32)
     ensures count { vec_len stops.new ≡ vec_len stops.old }
     ensures noted { (k : ℕ) → slice_index_or stops.new.items k false ≡ true
         → (k ≡ lane) ⊎ (slice_index_or stops.old.items k false ≡ true) }
@@ -38,7 +38,7 @@ fn note_stop(stops: &mut Vec<bool>, lane: u32)
 
 /// Takes the messages of the fan up to the stop of each of its first `lanes` lanes, and hands them to the
 /// consumer as they come, whichever lane they come from. It gives the end back. `LaneLost`: the givers of all
-/// lanes were gone. `Memory`: no memory to note the stops. `Refused`: the consumer refused a message. In
+/// lanes were gone. `Memory`: no memory for the marks of lanes that have stopped. `Refused`: the consumer refused a message. In
 /// these cases it lets its end go, so that no lane waits for it.
 pub fn gather<E: Numbered, C: Consumer<E>, R: Wait>(
     rt: &R,
@@ -70,7 +70,7 @@ pub fn gather<E: Numbered, C: Consumer<E>, R: Wait>(
                 Err(refusal) => return Err(GatherFault::Refused(refusal)),
             },
             Ok((lane, Message::Stop)) => {
-                note_stop(&mut stops, lane);
+                set_stopped(&mut stops, lane);
                 if !stops.contains(&false) {
                     return Ok(gatherer);
                 }

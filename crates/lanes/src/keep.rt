@@ -13,7 +13,7 @@ use std::alloc::Global;
 /// to a later one.
 pub trait Keep {
     /// Why a record was not kept.
-    type Lost: Drop;
+    type Refusal: Drop;
 
     ghost kept: { Self → List Note };
 
@@ -27,7 +27,7 @@ pub trait Keep {
         ordinal: u32,
         rec: Record,
         choice: Choice,
-    ) -> Result<(), Self::Lost>
+    ) -> Result<(), Self::Refusal>
         ensures kept { OnOk result (kept self.new ≡ kept self.old
             ++ Item (record { file = file; ordinal = ordinal; bytes = rec; choice = choice }) ∷ []) }
         ensures stays { keeps self.old self.new };

@@ -1,5 +1,6 @@
-//! Files in lanes: what stands between a file's bytes and its book. Each stage of a lane but
-//! the first takes the messages of the stage before it and gives one for each.
+//! The stages of a lane. The first reads files and gives a message for each record and one for each
+//! mark; each later one takes the messages of the stage before it and gives one for each. The last
+//! ones are gathered by file.
 #![tactic(auto)]
 
 mod consumer;

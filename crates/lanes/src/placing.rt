@@ -18,7 +18,7 @@ pub(crate) struct Places<'k, K> {
 }
 
 impl<K: Keep> Receiver for Places<'_, K> {
-    type Lost = K::Lost;
+    type Refusal = K::Refusal;
 
     ghost received = { λ first records x y. AreOfSame x.choice x.file y.choice y.file
         × KeepsRecords x.choice x.file first records (K.kept x.keep.now) (K.kept y.keep.now) };
@@ -30,7 +30,7 @@ impl<K: Keep> Receiver for Places<'_, K> {
         alloc: Global,
         first: u32,
         records: &mut Vec<Record>,
-    ) -> Result<(), K::Lost> {
+    ) -> Result<(), K::Refusal> {
         let mut ordinal = first;
         for rec in records.drain(..) {
             match self.keep.keep(alloc, self.file, ordinal, rec, self.choice) {

@@ -27,7 +27,7 @@ pub fn read_file<O: Opener, K: Keep>(
     choice: Choice,
     buffer: &mut [u8],
     keep: &mut K,
-) -> Result<Mark, K::Lost>
+) -> Result<Mark, K::Refusal>
     requires { 0 < length buffer.old }
     ensures kept { IfOk result (λ mark.
         KeepsFile choice (O.meaning opener.now file) file (K.kept keep.old) (K.kept keep.new) mark) }
@@ -48,7 +48,7 @@ fn read_open<T: Tap, K: Keep>(
     choice: Choice,
     buffer: &mut [u8],
     keep: &mut K,
-) -> Result<Mark, K::Lost>
+) -> Result<Mark, K::Refusal>
     requires { 0 < length buffer.old }
     ensures kept { IfOk result (λ mark.
         KeepsSource choice (T.to_come source) (T.fails source) file (K.kept keep.old) (K.kept keep.new) mark) }

@@ -102,8 +102,8 @@ least_coded z c r h e =
     ]
 
 -- the cost of a node's residual arc, and that of its reverse, are not below -1
-pub reverse_code : (net : NetworkModel) (first reverse forward : List ℕ) (arcs : List ResidualArc) (room : List ℕ) (v k : ℕ) → IsNetwork net → HasResidualArcs net first reverse forward → IsFilled net reverse forward arcs room → v < node_count net → StartsAt first v k → negsuc 0 ≤ℤ cost_at arcs (numbers reverse k)
-reverse_code net first reverse forward arcs room v k n l f b s =
+pub reverse_cost : (net : NetworkModel) (first reverse forward : List ℕ) (arcs : List ResidualArc) (room : List ℕ) (v k : ℕ) → IsNetwork net → HasResidualArcs net first reverse forward → IsFilled net reverse forward arcs room → v < node_count net → StartsAt first v k → negsuc 0 ≤ℤ cost_at arcs (numbers reverse k)
+reverse_cost net first reverse forward arcs room v k n l f b s =
     let o = l.cover v k b s in
     let back = opposite o.back in
     let e : numbers reverse k ≡ place_of reverse forward o.arc back = reverse_place net first reverse forward k o.arc o.back l o.inside o.place in
@@ -114,8 +114,8 @@ most_coded : (z c : ℤ) (r : ℕ) → z ≤ℤ pos 1 → 0 < r → c ≡ coded 
 most_coded z c r h s e = let t : coded z r ≡ z = coded_some z r s in omega (arith, ints)
 
 -- where something fits the cost is what a unit costs, at most 1
-pub open_code : (net : NetworkModel) (first reverse forward : List ℕ) (arcs : List ResidualArc) (room : List ℕ) (v k : ℕ) → IsNetwork net → HasResidualArcs net first reverse forward → IsFilled net reverse forward arcs room → v < node_count net → StartsAt first v k → 0 < numbers room k → cost_at arcs k ≤ℤ pos 1
-open_code net first reverse forward arcs room v k n l f b s some =
+pub open_cost : (net : NetworkModel) (first reverse forward : List ℕ) (arcs : List ResidualArc) (room : List ℕ) (v k : ℕ) → IsNetwork net → HasResidualArcs net first reverse forward → IsFilled net reverse forward arcs room → v < node_count net → StartsAt first v k → 0 < numbers room k → cost_at arcs k ≤ℤ pos 1
+open_cost net first reverse forward arcs room v k n l f b s some =
     let o = l.cover v k b s in
     most_coded (unit_cost net o.arc o.back) (cost_at arcs k) (numbers room k) (unit_cost_most net o.arc o.back n.costs o.inside) some
     (subst (λ (t : ℕ). cost_at arcs t ≡ coded (unit_cost net o.arc o.back) (numbers room t)) o.place (code_is net reverse forward arcs room o.arc o.back f o.inside))
@@ -136,8 +136,8 @@ reverse_few net first reverse forward arcs room v k amount most l f limits b s f
 
 -- ---- what a push keeps
 
-take_code : (z c c' : ℤ) (r r' amount : ℕ) → 0 < amount → r' + amount ≡ r → c ≡ coded z r → c' ≡ coded c r' → c' ≡ coded z r'
-take_code z c c' r r' amount some less was is =
+take_cost : (z c c' : ℤ) (r r' amount : ℕ) → 0 < amount → r' + amount ≡ r → c ≡ coded z r → c' ≡ coded c r' → c' ≡ coded z r'
+take_cost z c c' r r' amount some less was is =
     let same : c ≡ z = was ∙ coded_some z r (omega arith) in
     is ∙ ap (λ (t : ℤ). coded t r') same
 
@@ -147,16 +147,16 @@ lowered c r = cond (eqb r 0) (c -ℤ SHUT) c
 raised_lowered : (z c c' : ℤ) → c ≡ z +ℤ SHUT → c' ≡ c -ℤ SHUT → c' ≡ z
 raised_lowered z c c' h k = omega (arith, ints)
 
-give_code : (z c c' : ℤ) (r r' amount : ℕ) → 0 < amount → r' ≡ r + amount → c ≡ coded z r → c' ≡ lowered c r → c' ≡ coded z r'
+give_cost : (z c c' : ℤ) (r r' amount : ℕ) → 0 < amount → r' ≡ r + amount → c ≡ coded z r → c' ≡ lowered c r → c' ≡ coded z r'
 unfolding lowered
-give_code z c c' r r' amount some more was is =
+give_cost z c c' r r' amount some more was is =
     let now : coded z r' ≡ z = coded_some z r' (omega arith) in
     elim (cases_eq r 0) [
       | inl q ↦ raised_lowered z c c' (was ∙ coded_none z r q) (is ∙ cond-true {A = ℤ} (eqb r 0) (c -ℤ SHUT) c (eq-eqb r 0 q)) ∙ sym now
       | inr ne ↦ is ∙ cond-false {A = ℤ} (eqb r 0) (c -ℤ SHUT) c (ne_eqb r 0 ne) ∙ was ∙ coded_some z r (omega arith) ∙ sym now
     ]
 
--- what a push along residual arc k does to the codes
+-- what a push along residual arc k does to the costs
 pub record IsCoded (reverse : List ℕ) (arcs arcs' : List ResidualArc) (room room' : List ℕ) (k : ℕ) : Type 0 where
   pub here : cost_at arcs' k ≡ cond (eqb (numbers room' k) 0) (cost_at arcs k +ℤ SHUT) (cost_at arcs k)
   pub there : cost_at arcs' (numbers reverse k) ≡ cond (eqb (numbers room (numbers reverse k)) 0) (cost_at arcs (numbers reverse k) -ℤ SHUT) (cost_at arcs (numbers reverse k))
@@ -167,7 +167,7 @@ unfolding coded
 here_coded net reverse forward arcs arcs' room room' i b k amount f inside e some s d =
     let z = unit_cost net i b in
     let was : cost_at arcs k ≡ coded z (numbers room k) = subst (λ (t : ℕ). cost_at arcs t ≡ coded z (numbers room t)) e (code_is net reverse forward arcs room i b f inside) in
-    subst (λ (t : ℕ). cost_at arcs' t ≡ coded z (numbers room' t)) (sym e) (take_code z (cost_at arcs k) (cost_at arcs' k) (numbers room k) (numbers room' k) amount some s.less was d.here)
+    subst (λ (t : ℕ). cost_at arcs' t ≡ coded z (numbers room' t)) (sym e) (take_cost z (cost_at arcs k) (cost_at arcs' k) (numbers room k) (numbers room' k) amount some s.less was d.here)
 
 there_coded : (net : NetworkModel) (reverse forward : List ℕ) (arcs arcs' : List ResidualArc) (room room' : List ℕ) (i : ℕ) (b : Bool) (k amount : ℕ) → IsFilled net reverse forward arcs room → i < arc_count net → place_of reverse forward i b ≡ numbers reverse k → 0 < amount → IsPushed reverse arcs arcs' room room' k amount → IsCoded reverse arcs arcs' room room' k → cost_at arcs' (place_of reverse forward i b) ≡ coded (unit_cost net i b) (numbers room' (place_of reverse forward i b))
 unfolding lowered
@@ -175,7 +175,7 @@ there_coded net reverse forward arcs arcs' room room' i b k amount f inside e so
     let z = unit_cost net i b in
     let r = numbers reverse k in
     let was : cost_at arcs r ≡ coded z (numbers room r) = subst (λ (t : ℕ). cost_at arcs t ≡ coded z (numbers room t)) e (code_is net reverse forward arcs room i b f inside) in
-    subst (λ (t : ℕ). cost_at arcs' t ≡ coded z (numbers room' t)) (sym e) (give_code z (cost_at arcs r) (cost_at arcs' r) (numbers room r) (numbers room' r) amount some s.more was d.there)
+    subst (λ (t : ℕ). cost_at arcs' t ≡ coded z (numbers room' t)) (sym e) (give_cost z (cost_at arcs r) (cost_at arcs' r) (numbers room r) (numbers room' r) amount some s.more was d.there)
 
 other_coded : (net : NetworkModel) (first reverse forward : List ℕ) (arcs arcs' : List ResidualArc) (room room' : List ℕ) (i j : ℕ) (b c : Bool) (k amount : ℕ) → HasResidualArcs net first reverse forward → IsFilled net reverse forward arcs room → i < arc_count net → place_of reverse forward i b ≡ k → IsPushed reverse arcs arcs' room room' k amount → IsCoded reverse arcs arcs' room room' k → j < arc_count net → j ≢ i → cost_at arcs' (place_of reverse forward j c) ≡ coded (unit_cost net j c) (numbers room' (place_of reverse forward j c))
 other_coded net first reverse forward arcs arcs' room room' i j b c k amount l f inside e s d inside' ne =
@@ -185,8 +185,8 @@ other_coded net first reverse forward arcs arcs' room room' i j b c k amount l f
     let apart' : q ≢ numbers reverse k = λ h. ne (l.alone j i c (opposite b) inside' inside (h ∙ reverse_place net first reverse forward k i b l inside e)).0 in
     d.others q apart apart' ∙ code_is net reverse forward arcs room j c f inside' ∙ ap (coded z) (sym (s.others q apart apart'))
 
-pushed_code : (net : NetworkModel) (first reverse forward : List ℕ) (arcs arcs' : List ResidualArc) (room room' : List ℕ) (i j : ℕ) (b c : Bool) (k amount : ℕ) → HasResidualArcs net first reverse forward → IsFilled net reverse forward arcs room → i < arc_count net → place_of reverse forward i b ≡ k → 0 < amount → IsPushed reverse arcs arcs' room room' k amount → IsCoded reverse arcs arcs' room room' k → j < arc_count net → cost_at arcs' (place_of reverse forward j c) ≡ coded (unit_cost net j c) (numbers room' (place_of reverse forward j c))
-pushed_code net first reverse forward arcs arcs' room room' i j b c k amount l f inside e some s d inside' =
+pushed_cost : (net : NetworkModel) (first reverse forward : List ℕ) (arcs arcs' : List ResidualArc) (room room' : List ℕ) (i j : ℕ) (b c : Bool) (k amount : ℕ) → HasResidualArcs net first reverse forward → IsFilled net reverse forward arcs room → i < arc_count net → place_of reverse forward i b ≡ k → 0 < amount → IsPushed reverse arcs arcs' room room' k amount → IsCoded reverse arcs arcs' room room' k → j < arc_count net → cost_at arcs' (place_of reverse forward j c) ≡ coded (unit_cost net j c) (numbers room' (place_of reverse forward j c))
+pushed_cost net first reverse forward arcs arcs' room room' i j b c k amount l f inside e some s d inside' =
     elim (cases_eq j i) [
       | inl q ↦ elim (which_way b c) [
         | inl w ↦ here_coded net reverse forward arcs arcs' room room' j c k amount f inside' (ap (λ (t : ℕ). place_of reverse forward t c) q ∙ ap (place_of reverse forward i) w ∙ e) some s d
@@ -228,7 +228,7 @@ pushed_filled net first reverse forward arcs arcs' room room' v k amount l f b s
       arc_size = sizes ∙ f.arc_size;
       room_size = sizes' ∙ f.room_size;
       end = λ j c h. s.ends (place_of reverse forward j c) ∙ f.end j c h;
-      cost = λ j c h. pushed_code net first reverse forward arcs arcs' room room' o.arc j o.back c k amount l f o.inside o.place some s d h;
+      cost = λ j c h. pushed_cost net first reverse forward arcs arcs' room room' o.arc j o.back c k amount l f o.inside o.place some s d h;
       fits = λ j h. pushed_fits net first reverse forward arcs arcs' room room' o.arc j o.back k amount l f o.inside o.place s h;
     }
 

@@ -24,7 +24,7 @@ use Rattle.shortest_paths.proofs.Signs.{plain_lt}
 use Rattle.min_cost_flow.proofs.Comparisons.{lt_true}
 use Rattle.shortest_paths.proofs.Reaching.{below_or_not, not_less}
 
--- ---- codes, rooms and residual arcs
+-- ---- costs, rooms and residual arcs
 
 unit_cost_low : (net : NetworkModel) (i : ℕ) (back : Bool) → HasUnitCosts net → i < arc_count net → (negsuc 0 ≤ℤ unit_cost net i back) × (unit_cost net i back ≤ℤ pos 1)
 unit_cost_low net i false costs b = (omega (arith, ints), omega (arith, ints, costs i b))
@@ -34,8 +34,8 @@ code_when : (r : ℕ) (c z : ℤ) → z ≡ cond (eqb r 0) (c +ℤ SHUT) c → (
 code_when zero c z h b = inl (refl, h)
 code_when (suc r) c z h b = inr (omega arith, h ∙ cond-false {A = ℤ} (eqb (suc r) 0) (c +ℤ SHUT) c (ne_eqb (suc r) 0 (λ t. absurd (omega arith))))
 
-shut_code : (c z : ℤ) → z ≡ c +ℤ SHUT → (negsuc 0 ≤ℤ c) × (c ≤ℤ pos 1) → (pos 15999 ≤ℤ z) × (z ≤ℤ pos 16001)
-shut_code c z h (a, b) = (omega (arith, ints), omega (arith, ints))
+shut_cost : (c z : ℤ) → z ≡ c +ℤ SHUT → (negsuc 0 ≤ℤ c) × (c ≤ℤ pos 1) → (pos 15999 ≤ℤ z) × (z ≤ℤ pos 16001)
+shut_cost c z h (a, b) = (omega (arith, ints), omega (arith, ints))
 
 not_open : (c z : ℤ) → z ≡ c +ℤ SHUT → (negsuc 0 ≤ℤ c) × (c ≤ℤ pos 1) → z ≤ℤ pos 1 → ⊥
 not_open c z h (a, b) o = omega (arith, ints)
@@ -89,7 +89,7 @@ is_graph net first reverse forward arcs room k l f =
       cost = λ v j b st.
           let o = l.cover v j b st in
           subst (λ (t : ℕ). IsArcCost (cost_at arcs t)) o.place (elim (code_cases net reverse forward arcs room o.arc o.back k f o.inside) [
-            | inl h ↦ inr (shut_code (unit_cost net o.arc o.back) (cost_at arcs (place_of reverse forward o.arc o.back)) h.1 (unit_cost_low net o.arc o.back k.costs o.inside))
+            | inl h ↦ inr (shut_cost (unit_cost net o.arc o.back) (cost_at arcs (place_of reverse forward o.arc o.back)) h.1 (unit_cost_low net o.arc o.back k.costs o.inside))
             | inr h ↦ inl (subst (λ (z : ℤ). (negsuc 0 ≤ℤ z) × (z ≤ℤ pos 1)) (sym h.1) (unit_cost_low net o.arc o.back k.costs o.inside))
           ]);
     }

@@ -10,7 +10,7 @@ KeepsCaps net x = (i : ℕ) → i < arc_count net → IsWithin (arc_at net i).ca
 pub record Leaves (net : NetworkModel) (x : ℕ → ℕ) (e : ℕ → ℤ) : Type 0 where
   pub at_node : (v : ℕ) → v < node_count net → balance net x v +ℤ e v ≡ supply_at net v
 
--- the same, once k units more than have arrived there are sent out of v
+-- the same, but v has sent out k units that have not come to it yet
 pub record Carries (net : NetworkModel) (x : ℕ → ℕ) (e : ℕ → ℤ) (v k : ℕ) : Type 0 where
   pub at_node : (w : ℕ) → w < node_count net → balance net x w +ℤ e w ≡ supply_at net w +ℤ pos (if v == w then k else 0)
 

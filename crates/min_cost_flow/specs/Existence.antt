@@ -5,11 +5,11 @@ use Rattle.sums.specs.Sums.{total_below}
 use Rattle.networks.specs.declared.arc.Cap.TheVariants.{Any}
 use Rattle.networks.specs.Networks.{NetworkModel, node_count, arc_count, arc_at, supply_at}
 
--- no arc of no limit leads out of the set
+-- no unlimited arc leads out of the set
 pub record IsClosedAny (net : NetworkModel) (s : ℕ → Bool) : Type 0 where
   pub stays : (i : ℕ) → i < arc_count net → (arc_at net i).cap ≡ Any → s (arc_at net i).from ≡ true → s (arc_at net i).to ≡ true
 
--- each set that no arc of no limit leaves, and that has a node where something is left over, has
+-- each set that no unlimited arc leaves, and that has a node where something is left over, has
 -- every node where something is wanting
 pub record IsJoined (net : NetworkModel) (e : ℕ → ℤ) : Type 0 where
   pub meets : (s : ℕ → Bool) → IsClosedAny net s → (u v : ℕ) → u < node_count net → v < node_count net → s u ≡ true → pos 0 <ℤ e u → e v <ℤ pos 0 → s v ≡ true

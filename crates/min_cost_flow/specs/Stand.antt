@@ -13,7 +13,7 @@ pub record HasArcLists (net : NetworkModel) (first reverse forward : List ℕ) (
   pub starts : length first ≡ node_count net + 1
   pub reverses : length reverse ≡ arc_count net + arc_count net
   pub forwards : length forward ≡ arc_count net
-  pub codes : length arcs ≡ arc_count net + arc_count net
+  pub arc_size : length arcs ≡ arc_count net + arc_count net
   pub rooms : length room ≡ arc_count net + arc_count net
 
 -- the lists of a solver when all units have been sent

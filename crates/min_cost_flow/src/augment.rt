@@ -15,7 +15,7 @@ use networks::{ResidualArc, ResidualArcs, SHUT};
 /// is wanting at the end: at least one unit. The path costs nothing under the potentials, which no
 /// code here reads.
 pub(crate) fn send(
-    layout: ResidualArcs<'_>,
+    residual: ResidualArcs<'_>,
     arcs: &mut [ResidualArc],
     room: &mut [u32],
     enter: &[u32],
@@ -25,40 +25,41 @@ pub(crate) fn send(
     source: usize,
     found: usize,
 )
-    requires network { IsNetwork layout.network.now }
-    requires laid_out { HasResidualArcs layout.network.now layout.first.now layout.reverse.now layout.forward.now }
-    requires filled { IsFilled layout.network.now layout.reverse.now layout.forward.now arcs.old room.old }
-    requires limits { (i : ℕ) → i < arc_count layout.network.now → limit_of (arc_at layout.network.now i).cap < 2 ^ 32 }
-    requires enters { length enter.now ≡ node_count layout.network.now }
-    requires places { length place.now ≡ node_count layout.network.now }
-    requires excesses { length excess.old ≡ node_count layout.network.now }
-    requires path { HasPath (node_count layout.network.now) layout.first.now arcs.old (at_nodes potential.now) (numbers enter.now) (numbers place.now) source found }
-    requires round { IsRound layout.network.now (carried layout.reverse.now layout.forward.now room.old) (at_nodes potential.now) (at_nodes excess.old) }
-    requires source { source < node_count layout.network.now }
+    requires network { IsNetwork residual.network.now }
+    requires laid_out { HasResidualArcs residual.network.now residual.first.now residual.reverse.now residual.forward.now }
+    requires filled { IsFilled residual.network.now residual.reverse.now residual.forward.now arcs.old room.old }
+    requires limits { (i : ℕ) → i < arc_count residual.network.now → limit_of (arc_at residual.network.now i).cap < 2 ^ 32 }
+    requires enters { length enter.now ≡ node_count residual.network.now }
+    requires places { length place.now ≡ node_count residual.network.now }
+    requires excesses { length excess.old ≡ node_count residual.network.now }
+    requires path { HasPath (node_count residual.network.now) residual.first.now arcs.old (at_nodes potential.now) (numbers enter.now) (numbers place.now) source found }
+    requires round { IsRound residual.network.now (carried residual.reverse.now residual.forward.now room.old) (at_nodes potential.now) (at_nodes excess.old) }
+    requires source { source < node_count residual.network.now }
     requires left { pos 0 <ℤ at_nodes excess.old source }
     requires wanting { at_nodes excess.old (end_at arcs.old found) <ℤ pos 0 }
-    ensures filled { IsFilled layout.entry.network.now layout.entry.reverse.now layout.entry.forward.now arcs.new room.new }
-    ensures round { IsRound layout.entry.network.now (carried layout.entry.reverse.now layout.entry.forward.now room.new) (at_nodes potential.now) (at_nodes excess.new) }
-    ensures less { IsLess layout.entry.network.now (at_nodes excess.old) (at_nodes excess.new) }
-    ensures carrying { carrying layout.entry.network.now (carried layout.entry.reverse.now layout.entry.forward.now room.new) ≤ carrying layout.entry.network.now (carried layout.entry.reverse.now layout.entry.forward.now room.old) + numbers place.now (end_at arcs.old (numbers layout.entry.reverse.now found)) + 1 }
+    ensures filled { IsFilled residual.entry.network.now residual.entry.reverse.now residual.entry.forward.now arcs.new room.new }
+    ensures round { IsRound residual.entry.network.now (carried residual.entry.reverse.now residual.entry.forward.now room.new) (at_nodes potential.now) (at_nodes excess.new) }
+    ensures less { IsLess residual.entry.network.now (at_nodes excess.old) (at_nodes excess.new) }
+    ensures carrying { carrying residual.entry.network.now (carried residual.entry.reverse.now residual.entry.forward.now room.new) ≤ carrying residual.entry.network.now (carried residual.entry.reverse.now residual.entry.forward.now room.old) + numbers place.now (end_at arcs.old (numbers residual.entry.reverse.now found)) + 1 }
 {
+    // Only the contract reads `potential`.
     let _ = potential;
     let target = usize::from(arcs[found].end);
-    let last = start_of(layout, arcs, found);
+    let last = start_of(residual, arcs, found);
     let mut amount = most_between(excess, source, target).min(room[found]);
     let mut node = last;
     'narrow: while place[node] > 0 {
         let number = enter[node] as usize;
         amount = amount.min(room[number]);
-        node = start_of(layout, arcs, number);
+        node = start_of(residual, arcs, number);
     }
     bring_to(excess, target, amount);
-    push(layout, arcs, room, found, amount);
+    push(residual, arcs, room, found, amount);
     node = last;
     'along: while place[node] > 0 {
         let number = enter[node] as usize;
-        push(layout, arcs, room, number, amount);
-        node = start_of(layout, arcs, number);
+        push(residual, arcs, room, number, amount);
+        node = start_of(residual, arcs, number);
     }
     take_from(excess, source, amount);
 }
@@ -102,36 +103,36 @@ fn take_from(excess: &mut [i32], node: usize, amount: u32)
 }
 
 /// The node where a residual arc starts.
-fn start_of(layout: ResidualArcs<'_>, arcs: &[ResidualArc], number: usize) -> usize
-    requires number { number < length layout.reverse.now }
-    requires reverse { numbers layout.reverse.now number < length arcs.now }
-    ensures { result ≡ end_at arcs.now (numbers layout.entry.reverse.now number) }
+fn start_of(residual: ResidualArcs<'_>, arcs: &[ResidualArc], number: usize) -> usize
+    requires number { number < length residual.reverse.now }
+    requires reverse { numbers residual.reverse.now number < length arcs.now }
+    ensures { result ≡ end_at arcs.now (numbers residual.entry.reverse.now number) }
 {
-    usize::from(arcs[layout.reverse[number] as usize].end)
+    usize::from(arcs[residual.reverse[number] as usize].end)
 }
 
 /// Sends along a residual arc, and so makes room for as much along its reverse.
 fn push(
-    layout: ResidualArcs<'_>,
+    residual: ResidualArcs<'_>,
     arcs: &mut [ResidualArc],
     room: &mut [u32],
     number: usize,
     amount: u32,
 )
-    requires network { IsNetwork layout.network.now }
-    requires laid_out { HasResidualArcs layout.network.now layout.first.now layout.reverse.now layout.forward.now }
-    requires filled { IsFilled layout.network.now layout.reverse.now layout.forward.now arcs.old room.old }
-    requires limits { (i : ℕ) → i < arc_count layout.network.now → limit_of (arc_at layout.network.now i).cap < 2 ^ 32 }
-    requires number { (v : ℕ) × (v < node_count layout.network.now) × StartsAt layout.first.now v number }
+    requires network { IsNetwork residual.network.now }
+    requires laid_out { HasResidualArcs residual.network.now residual.first.now residual.reverse.now residual.forward.now }
+    requires filled { IsFilled residual.network.now residual.reverse.now residual.forward.now arcs.old room.old }
+    requires limits { (i : ℕ) → i < arc_count residual.network.now → limit_of (arc_at residual.network.now i).cap < 2 ^ 32 }
+    requires number { (v : ℕ) × (v < node_count residual.network.now) × StartsAt residual.first.now v number }
     requires some { 0 < amount }
     requires fits { amount ≤ numbers room.old number }
-    ensures filled { IsFilled layout.entry.network.now layout.entry.reverse.now layout.entry.forward.now arcs.new room.new }
+    ensures filled { IsFilled residual.entry.network.now residual.entry.reverse.now residual.entry.forward.now arcs.new room.new }
     ensures ends { (k : ℕ) → end_at arcs.new k ≡ end_at arcs.old k }
     ensures less { numbers room.new number + amount ≡ numbers room.old number }
-    ensures more { numbers room.new (numbers layout.entry.reverse.now number) ≡ numbers room.old (numbers layout.entry.reverse.now number) + amount }
-    ensures others { (k : ℕ) → k ≢ number → k ≢ numbers layout.entry.reverse.now number → numbers room.new k ≡ numbers room.old k }
+    ensures more { numbers room.new (numbers residual.entry.reverse.now number) ≡ numbers room.old (numbers residual.entry.reverse.now number) + amount }
+    ensures others { (k : ℕ) → k ≢ number → k ≢ numbers residual.entry.reverse.now number → numbers room.new k ≡ numbers room.old k }
 {
-    let back = layout.reverse[number] as usize;
+    let back = residual.reverse[number] as usize;
     give_room(arcs, room, back, amount);
     take_room(arcs, room, number, amount);
 }
@@ -145,7 +146,7 @@ fn give_room(arcs: &mut [ResidualArc], room: &mut [u32], number: usize, amount: 
     ensures here { numbers room.new number ≡ numbers room.old number + amount }
     ensures others { (k : ℕ) → k ≢ number → numbers room.new k ≡ numbers room.old k }
     ensures cost { cost_at arcs.new number ≡ (if numbers room.old number == 0 then cost_at arcs.old number -ℤ SHUT else cost_at arcs.old number) }
-    ensures codes { (k : ℕ) → k ≢ number → cost_at arcs.new k ≡ cost_at arcs.old k }
+    ensures costs { (k : ℕ) → k ≢ number → cost_at arcs.new k ≡ cost_at arcs.old k }
     ensures ends { (k : ℕ) → end_at arcs.new k ≡ end_at arcs.old k }
 {
     if room[number] == 0 {
@@ -163,7 +164,7 @@ fn take_room(arcs: &mut [ResidualArc], room: &mut [u32], number: usize, amount: 
     ensures here { numbers room.new number + amount ≡ numbers room.old number }
     ensures others { (k : ℕ) → k ≢ number → numbers room.new k ≡ numbers room.old k }
     ensures cost { cost_at arcs.new number ≡ (if numbers room.new number == 0 then cost_at arcs.old number +ℤ SHUT else cost_at arcs.old number) }
-    ensures codes { (k : ℕ) → k ≢ number → cost_at arcs.new k ≡ cost_at arcs.old k }
+    ensures costs { (k : ℕ) → k ≢ number → cost_at arcs.new k ≡ cost_at arcs.old k }
     ensures ends { (k : ℕ) → end_at arcs.new k ≡ end_at arcs.old k }
 {
     room[number] -= amount;

@@ -9,12 +9,12 @@ ghost use Rattle.min_cost_flow.specs.Lists.{HasNodeLists};
 ghost use Rattle.min_cost_flow.specs.Round.{IsRound};
 ghost use Rattle.min_cost_flow.specs.Stand.{HasArcLists, IsSettled};
 
-use crate::solver::{augment_once, has_deficit, rank, run};
+use crate::solver::{augment_once, has_deficit, run, score_nodes};
 use networks::{Network, ResidualArc, ResidualArcs, lay_out, move_units};
 use shortest_paths::FAR;
 
 /// Solves from nothing; whether there is a flow.
-pub(crate) fn settle(
+pub(crate) fn solve_from_nothing(
     network: &Network,
     first: &mut [u32],
     reverse: &mut [u32],
@@ -39,7 +39,7 @@ pub(crate) fn settle(
     write_all(label, FAR);
     excess.copy_from_slice(network.supplies());
     lay_out(network, first, reverse, forward, arcs, room);
-    rank(network, score);
+    score_nodes(network, score);
     let work = run(
         network, first, reverse, forward, arcs, room, potential, excess, score, label, enter,
         order, place,
@@ -93,14 +93,14 @@ pub(crate) fn resume(
     network.shift(from, to, amount);
     if carries_little(reverse, forward, room, amount) && rebase(potential, to as usize) {
         move_units(excess, from, to, amount);
-        let layout = ResidualArcs {
+        let residual = ResidualArcs {
             network,
             first,
             reverse,
             forward,
         };
         resend(
-            layout,
+            residual,
             arcs,
             room,
             potential,
@@ -113,7 +113,7 @@ pub(crate) fn resume(
             from as usize,
         )
     } else {
-        settle(
+        solve_from_nothing(
             network, first, reverse, forward, arcs, room, potential, excess, score, label, enter,
             order, place,
         )
@@ -175,7 +175,7 @@ fn is_within_reach(potential: &[i32]) -> bool
 
 /// Sends all that is left over at the one node where there is something; whether there is a flow.
 fn resend(
-    layout: ResidualArcs<'_>,
+    residual: ResidualArcs<'_>,
     arcs: &mut [ResidualArc],
     room: &mut [u32],
     potential: &mut [i32],
@@ -187,25 +187,25 @@ fn resend(
     place: &mut [u32],
     source: usize,
 ) -> bool
-    requires network { IsNetwork layout.network.now }
-    requires laid_out { HasResidualArcs layout.network.now layout.first.now layout.reverse.now layout.forward.now }
-    requires limits { (i : ℕ) → i < arc_count layout.network.now → limit_of (arc_at layout.network.now i).cap < 2 ^ 32 }
-    requires sizes { HasNodeLists (node_count layout.network.now) potential.old excess.old score.now label.old enter.old order.old place.old }
-    requires filled { IsFilled layout.network.now layout.reverse.now layout.forward.now arcs.old room.old }
-    requires round { IsRound layout.network.now (carried layout.reverse.now layout.forward.now room.old) (at_nodes potential.old) (at_nodes excess.old) }
-    requires blank { (v : ℕ) → v < node_count layout.network.now → at_nodes label.old v ≡ far }
-    requires source { source < node_count layout.network.now }
-    requires others { (v : ℕ) → v < node_count layout.network.now → v ≢ source → at_nodes excess.old v ≤ℤ pos 0 }
-    ensures filled { result ≡ true → IsFilled layout.entry.network.now layout.entry.reverse.now layout.entry.forward.now arcs.new room.new }
-    ensures round { result ≡ true → IsRound layout.entry.network.now (carried layout.entry.reverse.now layout.entry.forward.now room.new) (at_nodes potential.new) (at_nodes excess.new) }
-    ensures blank { result ≡ true → (v : ℕ) → v < node_count layout.entry.network.now → at_nodes label.new v ≡ far }
-    ensures sent { result ≡ true → (v : ℕ) → v < node_count layout.entry.network.now → at_nodes excess.new v ≡ pos 0 }
-    ensures no_flow { result ≡ false → HasNoFlow layout.entry.network.now }
+    requires network { IsNetwork residual.network.now }
+    requires laid_out { HasResidualArcs residual.network.now residual.first.now residual.reverse.now residual.forward.now }
+    requires limits { (i : ℕ) → i < arc_count residual.network.now → limit_of (arc_at residual.network.now i).cap < 2 ^ 32 }
+    requires sizes { HasNodeLists (node_count residual.network.now) potential.old excess.old score.now label.old enter.old order.old place.old }
+    requires filled { IsFilled residual.network.now residual.reverse.now residual.forward.now arcs.old room.old }
+    requires round { IsRound residual.network.now (carried residual.reverse.now residual.forward.now room.old) (at_nodes potential.old) (at_nodes excess.old) }
+    requires blank { (v : ℕ) → v < node_count residual.network.now → at_nodes label.old v ≡ far }
+    requires source { source < node_count residual.network.now }
+    requires others { (v : ℕ) → v < node_count residual.network.now → v ≢ source → at_nodes excess.old v ≤ℤ pos 0 }
+    ensures filled { result ≡ true → IsFilled residual.entry.network.now residual.entry.reverse.now residual.entry.forward.now arcs.new room.new }
+    ensures round { result ≡ true → IsRound residual.entry.network.now (carried residual.entry.reverse.now residual.entry.forward.now room.new) (at_nodes potential.new) (at_nodes excess.new) }
+    ensures blank { result ≡ true → (v : ℕ) → v < node_count residual.entry.network.now → at_nodes label.new v ≡ far }
+    ensures sent { result ≡ true → (v : ℕ) → v < node_count residual.entry.network.now → at_nodes excess.new v ≡ pos 0 }
+    ensures no_flow { result ≡ false → HasNoFlow residual.entry.network.now }
 {
     'units: while excess[source] > 0 {
         let mut looks = 0;
         if !augment_once(
-            layout, arcs, room, potential, excess, score, label, enter, order, place, source,
+            residual, arcs, room, potential, excess, score, label, enter, order, place, source,
             &mut looks,
         ) {
             return false;

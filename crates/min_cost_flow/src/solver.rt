@@ -108,7 +108,7 @@ fn fill(
     requires network { IsNetwork network.now }
     requires flows { length flow.old ≡ arc_count network.now }
     requires potentials { length potential.old ≡ node_count network.now }
-    requires codes { length arcs.old ≡ arc_count network.now + arc_count network.now }
+    requires arcs { length arcs.old ≡ arc_count network.now + arc_count network.now }
     requires counts { length counts.old ≡ 4 * arc_count network.now + 4 * node_count network.now + 1 }
     requires units { length units.old ≡ 3 * node_count network.now }
     requires flat { (v : ℕ) → at_nodes potential.old v ≡ pos 0 }
@@ -127,7 +127,7 @@ fn fill(
     let (excess, score) = units.split_at_mut(nodes);
     excess.copy_from_slice(network.supplies());
     lay_out(network, first, reverse, flow, arcs, room);
-    rank(network, score);
+    score_nodes(network, score);
     let work = run(
         network, first, reverse, flow, arcs, room, potential, excess, score, label, enter, order,
         place,
@@ -169,7 +169,7 @@ pub(crate) fn run(
     ensures sent { IfSome result (λ _. (v : ℕ) → v < node_count network.now → at_nodes excess.new v ≡ pos 0) }
     ensures no_flow { IfNone result (HasNoFlow network.now) }
 {
-    let layout = ResidualArcs {
+    let residual = ResidualArcs {
         network,
         first,
         reverse,
@@ -180,8 +180,8 @@ pub(crate) fn run(
         looks: 0,
     };
     for source in 0..excess.len() {
-        if !drain(
-            layout, arcs, room, potential, excess, score, label, enter, order, place, source,
+        if !send_all_from(
+            residual, arcs, room, potential, excess, score, label, enter, order, place, source,
             &mut work,
         ) {
             return None;
@@ -203,7 +203,7 @@ pub(crate) fn has_deficit(excess: &[i32]) -> bool
 
 /// Scores each node for ties among those that are as near: its supply, and what is supplied where arcs of
 /// cost 0 to it start. The least score comes first. No result rests on it.
-pub(crate) fn rank(network: &Network, score: &mut [i32])
+pub(crate) fn score_nodes(network: &Network, score: &mut [i32])
     requires network { IsNetwork network.now }
     requires size { length score.old ≡ node_count network.now }
 {
@@ -231,8 +231,8 @@ pub(crate) fn read_flow(reverse: &[u32], room: &[u32], flow: &mut [u32])
 }
 
 /// Sends all that is left over at a node to where it is wanting; whether that can be done.
-fn drain(
-    layout: ResidualArcs<'_>,
+fn send_all_from(
+    residual: ResidualArcs<'_>,
     arcs: &mut [ResidualArc],
     room: &mut [u32],
     potential: &mut [i32],
@@ -245,28 +245,28 @@ fn drain(
     source: usize,
     work: &mut Work,
 ) -> bool
-    requires network { IsNetwork layout.network.now }
-    requires laid_out { HasResidualArcs layout.network.now layout.first.now layout.reverse.now layout.forward.now }
-    requires limits { (i : ℕ) → i < arc_count layout.network.now → limit_of (arc_at layout.network.now i).cap < 2 ^ 32 }
-    requires sizes { HasNodeLists (node_count layout.network.now) potential.old excess.old score.now label.old enter.old order.old place.old }
-    requires filled { IsFilled layout.network.now layout.reverse.now layout.forward.now arcs.old room.old }
-    requires round { IsRound layout.network.now (carried layout.reverse.now layout.forward.now room.old) (at_nodes potential.old) (at_nodes excess.old) }
-    requires blank { (v : ℕ) → v < node_count layout.network.now → at_nodes label.old v ≡ far }
-    requires work { IsWork layout.network.now (carried layout.reverse.now layout.forward.now room.old) (at_nodes excess.old) work.old.searches work.old.looks }
-    requires source { source < node_count layout.network.now }
-    ensures filled { result ≡ true → IsFilled layout.entry.network.now layout.entry.reverse.now layout.entry.forward.now arcs.new room.new }
-    ensures round { result ≡ true → IsRound layout.entry.network.now (carried layout.entry.reverse.now layout.entry.forward.now room.new) (at_nodes potential.new) (at_nodes excess.new) }
-    ensures blank { result ≡ true → (v : ℕ) → v < node_count layout.entry.network.now → at_nodes label.new v ≡ far }
-    ensures work { result ≡ true → IsWork layout.entry.network.now (carried layout.entry.reverse.now layout.entry.forward.now room.new) (at_nodes excess.new) work.new.searches work.new.looks }
+    requires network { IsNetwork residual.network.now }
+    requires laid_out { HasResidualArcs residual.network.now residual.first.now residual.reverse.now residual.forward.now }
+    requires limits { (i : ℕ) → i < arc_count residual.network.now → limit_of (arc_at residual.network.now i).cap < 2 ^ 32 }
+    requires sizes { HasNodeLists (node_count residual.network.now) potential.old excess.old score.now label.old enter.old order.old place.old }
+    requires filled { IsFilled residual.network.now residual.reverse.now residual.forward.now arcs.old room.old }
+    requires round { IsRound residual.network.now (carried residual.reverse.now residual.forward.now room.old) (at_nodes potential.old) (at_nodes excess.old) }
+    requires blank { (v : ℕ) → v < node_count residual.network.now → at_nodes label.old v ≡ far }
+    requires work { IsWork residual.network.now (carried residual.reverse.now residual.forward.now room.old) (at_nodes excess.old) work.old.searches work.old.looks }
+    requires source { source < node_count residual.network.now }
+    ensures filled { result ≡ true → IsFilled residual.entry.network.now residual.entry.reverse.now residual.entry.forward.now arcs.new room.new }
+    ensures round { result ≡ true → IsRound residual.entry.network.now (carried residual.entry.reverse.now residual.entry.forward.now room.new) (at_nodes potential.new) (at_nodes excess.new) }
+    ensures blank { result ≡ true → (v : ℕ) → v < node_count residual.entry.network.now → at_nodes label.new v ≡ far }
+    ensures work { result ≡ true → IsWork residual.entry.network.now (carried residual.entry.reverse.now residual.entry.forward.now room.new) (at_nodes excess.new) work.new.searches work.new.looks }
     ensures here { result ≡ true → at_nodes excess.new source ≤ℤ pos 0 }
-    ensures done { result ≡ true → (v : ℕ) → v < node_count layout.entry.network.now → at_nodes excess.old v ≤ℤ pos 0 → at_nodes excess.new v ≤ℤ pos 0 }
-    ensures no_flow { result ≡ false → HasNoFlow layout.entry.network.now }
+    ensures done { result ≡ true → (v : ℕ) → v < node_count residual.entry.network.now → at_nodes excess.old v ≤ℤ pos 0 → at_nodes excess.new v ≤ℤ pos 0 }
+    ensures no_flow { result ≡ false → HasNoFlow residual.entry.network.now }
 {
     let mut searches = work.searches;
     let mut looks = work.looks;
     'units: while excess[source] > 0 {
         if !augment_once(
-            layout, arcs, room, potential, excess, score, label, enter, order, place, source,
+            residual, arcs, room, potential, excess, score, label, enter, order, place, source,
             &mut looks,
         ) {
             return false;
@@ -280,7 +280,7 @@ fn drain(
 /// Sends along a path of least cost from a node where units are left over to a node where units are
 /// wanting; whether there is one.
 pub(crate) fn augment_once(
-    layout: ResidualArcs<'_>,
+    residual: ResidualArcs<'_>,
     arcs: &mut [ResidualArc],
     room: &mut [u32],
     potential: &mut [i32],
@@ -293,26 +293,26 @@ pub(crate) fn augment_once(
     source: usize,
     looks: &mut u64,
 ) -> bool
-    requires network { IsNetwork layout.network.now }
-    requires laid_out { HasResidualArcs layout.network.now layout.first.now layout.reverse.now layout.forward.now }
-    requires filled { IsFilled layout.network.now layout.reverse.now layout.forward.now arcs.old room.old }
-    requires round { IsRound layout.network.now (carried layout.reverse.now layout.forward.now room.old) (at_nodes potential.old) (at_nodes excess.old) }
-    requires sizes { HasNodeLists (node_count layout.network.now) potential.old excess.old score.now label.old enter.old order.old place.old }
-    requires blank { (v : ℕ) → v < node_count layout.network.now → at_nodes label.old v ≡ far }
-    requires source { source < node_count layout.network.now }
+    requires network { IsNetwork residual.network.now }
+    requires laid_out { HasResidualArcs residual.network.now residual.first.now residual.reverse.now residual.forward.now }
+    requires filled { IsFilled residual.network.now residual.reverse.now residual.forward.now arcs.old room.old }
+    requires round { IsRound residual.network.now (carried residual.reverse.now residual.forward.now room.old) (at_nodes potential.old) (at_nodes excess.old) }
+    requires sizes { HasNodeLists (node_count residual.network.now) potential.old excess.old score.now label.old enter.old order.old place.old }
+    requires blank { (v : ℕ) → v < node_count residual.network.now → at_nodes label.old v ≡ far }
+    requires source { source < node_count residual.network.now }
     requires left { pos 0 <ℤ at_nodes excess.old source }
-    requires limits { (i : ℕ) → i < arc_count layout.network.now → limit_of (arc_at layout.network.now i).cap < 2 ^ 32 }
+    requires limits { (i : ℕ) → i < arc_count residual.network.now → limit_of (arc_at residual.network.now i).cap < 2 ^ 32 }
     requires few { looks.old < 2 ^ 61 }
-    ensures filled { result ≡ true → IsFilled layout.entry.network.now layout.entry.reverse.now layout.entry.forward.now arcs.new room.new }
-    ensures round { result ≡ true → IsRound layout.entry.network.now (carried layout.entry.reverse.now layout.entry.forward.now room.new) (at_nodes potential.new) (at_nodes excess.new) }
-    ensures blank { result ≡ true → (v : ℕ) → v < node_count layout.entry.network.now → at_nodes label.new v ≡ far }
-    ensures less { result ≡ true → IsLess layout.entry.network.now (at_nodes excess.old) (at_nodes excess.new) }
-    ensures carrying { result ≡ true → carrying layout.entry.network.now (carried layout.entry.reverse.now layout.entry.forward.now room.new) + looks.old ≤ carrying layout.entry.network.now (carried layout.entry.reverse.now layout.entry.forward.now room.old) + looks.new }
-    ensures looks { looks.new ≤ looks.old + 2 * arc_count layout.entry.network.now }
-    ensures no_flow { result ≡ false → HasNoFlow layout.entry.network.now }
+    ensures filled { result ≡ true → IsFilled residual.entry.network.now residual.entry.reverse.now residual.entry.forward.now arcs.new room.new }
+    ensures round { result ≡ true → IsRound residual.entry.network.now (carried residual.entry.reverse.now residual.entry.forward.now room.new) (at_nodes potential.new) (at_nodes excess.new) }
+    ensures blank { result ≡ true → (v : ℕ) → v < node_count residual.entry.network.now → at_nodes label.new v ≡ far }
+    ensures less { result ≡ true → IsLess residual.entry.network.now (at_nodes excess.old) (at_nodes excess.new) }
+    ensures carrying { result ≡ true → carrying residual.entry.network.now (carried residual.entry.reverse.now residual.entry.forward.now room.new) + looks.old ≤ carrying residual.entry.network.now (carried residual.entry.reverse.now residual.entry.forward.now room.old) + looks.new }
+    ensures looks { looks.new ≤ looks.old + 2 * arc_count residual.entry.network.now }
+    ensures no_flow { result ≡ false → HasNoFlow residual.entry.network.now }
 {
     let ground = Ground {
-        first: layout.first,
+        first: residual.first,
         arcs,
         potential,
         excess,
@@ -326,7 +326,7 @@ pub(crate) fn augment_once(
     move_potentials(order, label, potential, progress.head, progress.cut);
     clear(order, label, progress.reached);
     send(
-        layout,
+        residual,
         arcs,
         room,
         enter,

@@ -6,7 +6,7 @@ ghost use Rattle.networks.specs.ResidualArcs.{numbers, carried};
 ghost use Rattle.min_cost_flow.specs.Lists.{HasNodeLists};
 ghost use Rattle.min_cost_flow.specs.Stand.{HasArcLists, IsSettled, IsShown};
 
-use crate::resume::{resume, settle};
+use crate::resume::{resume, solve_from_nothing};
 use crate::solved::Solved;
 use crate::solver::{SolveFault, read_flow};
 use networks::{Network, ResidualArc};
@@ -79,7 +79,7 @@ impl Standing {
     {
         let network = network.copy()?;
         let mut lists = blank_lists(alloc, &network)?;
-        if !settle(
+        if !solve_from_nothing(
             &network,
             &mut lists.first,
             &mut lists.reverse,

@@ -3,13 +3,13 @@ use Rattle.std.specs.Prelude.{◌≡◌, ℕ, ◌<◌, ◌≤◌, List, slice_in
 use Rattle.faces.specs.Planes.{PlaneModel, with_outer}
 use Rattle.flow_network.specs.FaceNet.{IsNetOf}
 use Rattle.ortho_rep.specs.declared.best.Lead.{Lead}
-use Rattle.ortho_rep.specs.declared.best.Walk.{Walk}
+use Rattle.ortho_rep.specs.declared.best.Moving.{Moving}
 use Rattle.ortho_rep.specs.Best.{HasRep, NeedsBends}
 
--- the walk stands at the outer face of p
-pub record IsWalk (p : PlaneModel) (walk : Walk) : Type 0 where
-  pub net : IsNetOf p walk.net
-  pub same : walk.standing ≡ walk.net.network
+-- the flow that moves stands at the outer face of p
+pub record IsMoving (p : PlaneModel) (moving : Moving) : Type 0 where
+  pub net : IsNetOf p moving.net
+  pub same : moving.standing ≡ moving.net.network
 
 -- a face, and how many bends are needed with it as the outer one
 pub record IsLead (p : PlaneModel) (lead : Lead) : Type 0 where

@@ -6,7 +6,7 @@ ghost use Rattle.min_cost_flow.specs.Stand.{IsShown};
 ghost use Rattle.ortho_rep.specs.Representation.{IsShape, IsLeast};
 ghost use Rattle.ortho_rep.specs.Prices.{IsProof};
 ghost use Rattle.ortho_rep.specs.Best.{HasRep, NeedsBends, IsBest};
-ghost use Rattle.ortho_rep.specs.Tries.{IsWalk, IsLead, IsAhead, IsNoBetter, AreBounds};
+ghost use Rattle.ortho_rep.specs.Tries.{IsMoving, IsLead, IsAhead, IsNoBetter, AreBounds};
 
 use crate::least::shape_in;
 use crate::prices::Prices;
@@ -17,7 +17,7 @@ use flow_network::FaceNet;
 use min_cost_flow::{SolveFault, Standing};
 use std::alloc::{AllocError, Global};
 
-/// A face, and how many bends are needed with it as the outer one.
+/// The best face so far, and how many bends are needed with it as the outer one.
 #[derive(Clone, Copy)]
 struct Lead {
     face: u16,
@@ -72,28 +72,28 @@ fn best_found(alloc: Global, plane: &mut Plane) -> Result<(Shape, Prices), Alloc
     ensures least { IfOk result (λ found. IsLeast plane.new found.0) }
     ensures proof { IfOk result (λ found. IsProof plane.new found.0 found.1) }
 {
-    let walk = begin(alloc, plane)?;
-    let (walk, lead) = best_lead(plane, walk);
-    let walk = turned(walk, plane, lead.face);
+    let moving = begin(alloc, plane)?;
+    let (moving, lead) = best_lead(plane, moving);
+    let moving = turned(moving, plane, lead.face);
     plane.turn_out(lead.face);
-    let solved = walk.standing.solved(alloc)?;
-    shape_in(alloc, plane, &walk.net, &solved)
+    let solved = moving.standing.solved(alloc)?;
+    shape_in(alloc, plane, &moving.net, &solved)
 }
 
 /// A flow of least cost in the network of a plane, which goes on from one outer face to another.
 #[derive(Drop)]
-struct Walk {
+struct Moving {
     net: FaceNet,
     standing: Standing,
 }
 
-/// The walk that begins with the plane's outer face.
-fn begin(alloc: Global, plane: &Plane) -> Result<Walk, AllocError>
-    ensures { IfOk result (IsWalk plane.now) }
+/// The flow that begins with the plane's outer face.
+fn begin(alloc: Global, plane: &Plane) -> Result<Moving, AllocError>
+    ensures { IfOk result (IsMoving plane.now) }
 {
     let net = FaceNet::build(alloc, plane)?;
     match Standing::new(alloc, net.network()) {
-        Ok(standing) => Ok(Walk { net, standing }),
+        Ok(standing) => Ok(Moving { net, standing }),
         Err(SolveFault::Memory) => Err(AllocError),
         Err(SolveFault::Infeasible) => unreachable!(),
     }
@@ -101,41 +101,41 @@ fn begin(alloc: Global, plane: &Plane) -> Result<Walk, AllocError>
 
 /// Goes on to another outer face: eight units less are wanting at the old one, and eight more at the
 /// new one. It takes no memory.
-fn turned(walk: Walk, plane: &Plane, face: u16) -> Walk
-    requires walk { IsWalk plane.now walk }
+fn turned(moving: Moving, plane: &Plane, face: u16) -> Moving
+    requires moving { IsMoving plane.now moving }
     requires face { face < plane.now.faces }
-    ensures { IsWalk (with_outer plane.now face) result }
+    ensures { IsMoving (with_outer plane.now face) result }
 {
     // Only the proof needs this: `graph` says that the plane is one.
     let _graph = plane.graph();
-    let Walk { mut net, standing } = walk;
+    let Moving { mut net, standing } = moving;
     let from = net.face_node(plane.outer());
     let to = net.face_node(face);
     net.turn_out(plane, face);
     match standing.shift(from, to, 8) {
-        Some(standing) => Walk { net, standing },
+        Some(standing) => Moving { net, standing },
         None => unreachable!(),
     }
 }
 
 /// The best face. The outer face is left as it was turned last.
-fn best_lead(plane: &mut Plane, walk: Walk) -> (Walk, Lead)
-    requires walk { IsWalk plane.old walk }
+fn best_lead(plane: &mut Plane, moving: Moving) -> (Moving, Lead)
+    requires moving { IsMoving plane.old moving }
     ensures turned { plane.new ≡ with_outer plane.old plane.new.outer }
-    ensures walk { IsWalk plane.new result.0 }
+    ensures moving { IsMoving plane.new result.0 }
     ensures named { result.1.face < plane.old.faces }
     ensures best { IsBest (with_outer plane.old result.1.face) }
 {
     let faces = plane.face_count();
     let mut bounds = [0; MAX_FACES];
-    let bends = learn(plane, &walk, &mut bounds);
+    let bends = bends_and_bounds(plane, &moving, &mut bounds);
     let face = plane.outer();
     let mut lead = Lead { face, bends };
-    let mut walk = tour(plane, walk, &mut lead, &mut bounds);
+    let mut moving = tour(plane, moving, &mut lead, &mut bounds);
     for face in 0..faces {
-        walk = visit(plane, walk, &mut lead, &mut bounds, face);
+        moving = visit(plane, moving, &mut lead, &mut bounds, face);
     }
-    (walk, lead)
+    (moving, lead)
 }
 
 /// Tries faces in depth-first order over shared edges, so that each move is short. Which faces it
@@ -143,13 +143,13 @@ fn best_lead(plane: &mut Plane, walk: Walk) -> (Walk, Lead)
 ///
 /// It walks round the outer face, and through each edge behind which it has not been yet. It walks round
 /// each face that it enters so, and goes back through the edge by which it came.
-fn tour(plane: &mut Plane, walk: Walk, lead: &mut Lead, bounds: &mut [u64]) -> Walk
-    requires walk { IsWalk plane.old walk }
+fn tour(plane: &mut Plane, moving: Moving, lead: &mut Lead, bounds: &mut [u64]) -> Moving
+    requires moving { IsMoving plane.old moving }
     requires lead { IsLead plane.old lead.old }
     requires room { plane.old.faces ≤ length bounds.old }
     requires bounds { AreBounds plane.old bounds.old }
     ensures turned { plane.new ≡ with_outer plane.old plane.new.outer }
-    ensures walk { IsWalk plane.new result }
+    ensures moving { IsMoving plane.new result }
     ensures lead { IsLead plane.new lead.new }
     ensures bounds { AreBounds plane.new bounds.new }
 {
@@ -159,15 +159,15 @@ fn tour(plane: &mut Plane, walk: Walk, lead: &mut Lead, bounds: &mut [u64]) -> W
     let outer = plane.outer();
     seen[usize::from(outer)] = true;
     let mut dart = dart_on(plane, outer);
-    let mut walk = walk;
+    let mut moving = moving;
     for _step in 0..darts {
         let (next, face) = step(plane, dart, &mut seen, &mut doors);
         dart = next;
         if let Some(face) = face {
-            walk = visit(plane, walk, lead, bounds, face);
+            moving = visit(plane, moving, lead, bounds, face);
         }
     }
-    walk
+    moving
 }
 
 /// A dart of a face.
@@ -209,35 +209,41 @@ fn step(plane: &Plane, dart: u16, seen: &mut [bool], doors: &mut [bool]) -> (u16
 }
 
 /// Tries a face, unless its bound proves that it is no better than the best so far.
-fn visit(plane: &mut Plane, walk: Walk, lead: &mut Lead, bounds: &mut [u64], face: u16) -> Walk
+fn visit(
+    plane: &mut Plane,
+    moving: Moving,
+    lead: &mut Lead,
+    bounds: &mut [u64],
+    face: u16,
+) -> Moving
     requires face { face < plane.old.faces }
-    requires walk { IsWalk plane.old walk }
+    requires moving { IsMoving plane.old moving }
     requires lead { IsLead plane.old lead.old }
     requires room { plane.old.faces ≤ length bounds.old }
     requires bounds { AreBounds plane.old bounds.old }
     ensures turned { plane.new ≡ with_outer plane.old plane.new.outer }
-    ensures walk { IsWalk plane.new result }
+    ensures moving { IsMoving plane.new result }
     ensures lead { IsLead plane.new lead.new }
     ensures bounds { AreBounds plane.new bounds.new }
     ensures ahead { IsAhead lead.new lead.old }
     ensures tried { IsNoBetter plane.new lead.new.bends lead.new.face face }
 {
     if !lead.loses_to(bounds[usize::from(face)], face) {
-        return walk;
+        return moving;
     }
-    let walk = turned(walk, plane, face);
+    let moving = turned(moving, plane, face);
     plane.turn_out(face);
-    let bends = learn(plane, &walk, bounds);
+    let bends = bends_and_bounds(plane, &moving, bounds);
     if lead.loses_to(bends, face) {
         *lead = Lead { face, bends };
     }
-    walk
+    moving
 }
 
 /// How many bends are needed with the plane's outer face. The bounds of all faces rise to what the
 /// potentials prove. It takes no memory.
-fn learn(plane: &Plane, walk: &Walk, bounds: &mut [u64]) -> u64
-    requires walk { IsWalk plane.now walk.now }
+fn bends_and_bounds(plane: &Plane, moving: &Moving, bounds: &mut [u64]) -> u64
+    requires moving { IsMoving plane.now moving.now }
     requires room { plane.now.faces ≤ length bounds.old }
     requires bounds { AreBounds plane.now bounds.old }
     ensures bounds { AreBounds plane.now bounds.new }
@@ -246,32 +252,32 @@ fn learn(plane: &Plane, walk: &Walk, bounds: &mut [u64]) -> u64
 {
     // Only the proof needs this: `graph` says that the plane is one.
     let _graph = plane.graph();
-    let (bends, potentials) = walk.standing.least_cost();
+    let (bends, potentials) = moving.standing.least_cost();
     for face in 0..plane.face_count() {
         let place = usize::from(face);
-        bounds[place] = bounds[place].max(bound(plane, walk, bends, potentials, face));
+        bounds[place] = bounds[place].max(bound(plane, moving, bends, potentials, face));
     }
     bends
 }
 
 /// How many bends are needed at least with a face as the outer one, as the potentials prove.
-fn bound(plane: &Plane, walk: &Walk, bends: u64, potentials: &[i32], face: u16) -> u64
-    requires walk { IsWalk plane.now walk.now }
-    requires shown { IsShown walk.now.standing bends potentials.now }
+fn bound(plane: &Plane, moving: &Moving, bends: u64, potentials: &[i32], face: u16) -> u64
+    requires moving { IsMoving plane.now moving.now }
+    requires shown { IsShown moving.now.standing bends potentials.now }
     requires few { bends < 2 ^ 48 }
     requires named { face < plane.now.faces }
     ensures { NeedsBends (with_outer plane.now face) result }
 {
     // Only the proof needs this: `graph` says that the plane is one.
     let _graph = plane.graph();
-    let own = potentials[walk.net.face_node(plane.outer()) as usize];
-    let other = potentials[walk.net.face_node(face) as usize];
-    dearer(bends, own, other)
+    let own = potentials[moving.net.face_node(plane.outer()) as usize];
+    let other = potentials[moving.net.face_node(face) as usize];
+    moved_bound(bends, own, other)
 }
 
 /// So many bends, and eight more for each unit by which the other potential is above the own one, or eight
 /// fewer for each by which it is below, but not less than 0.
-fn dearer(bends: u64, own: i32, other: i32) -> u64
+fn moved_bound(bends: u64, own: i32, other: i32) -> u64
     requires few { bends < 2 ^ 48 }
     ensures { (result ≡ 0) ⊎ (pos result ≡ pos bends +ℤ pos 8 *ℤ (other -ℤ own)) }
 {

@@ -215,8 +215,8 @@ fn vertex_prices(
 {
     let vertices = plane.graph().vertices();
     let mut prices = Vec::with_capacity(alloc, usize::from(vertices))?;
-    for vertex in 0..vertices {
-        prices.push(solved.potential(net.vertex_node(vertex + 1)))?;
+    for place in 0..vertices {
+        prices.push(solved.potential(net.vertex_node(place + 1)))?;
     }
     Ok(prices)
 }

@@ -23,4 +23,4 @@ pub use representation::is_shape;
 pub use scratch::Scratch;
 pub use shape::Shape;
 pub use strings::MAX_TURNS;
-pub use turn::Turn;
+pub use turn::{Turn, count_lefts};

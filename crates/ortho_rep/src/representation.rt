@@ -71,8 +71,8 @@ fn closes_vertices(plane: &Plane, shape: &Shape) -> bool
     let vertices = plane.graph().vertices();
     let mut sums = [0; 256];
     add_angles(plane, shape, &mut sums);
-    for vertex in 0..vertices {
-        if sums[usize::from(vertex) + 1] != 4 {
+    for place in 0..vertices {
+        if sums[usize::from(place) + 1] != 4 {
             return false;
         }
     }

@@ -23,8 +23,8 @@ fn is_opposite(one: Turn, other: Turn) -> bool
     }
 }
 
-/// How many of these turns are left turns.
-pub(crate) fn count_lefts(turns: &[Turn]) -> usize
+/// How many of these turns are left turns. A step for each.
+pub fn count_lefts(turns: &[Turn]) -> usize
     ensures count { result ≡ lefts turns.now }
     ensures few { result ≤ length turns.now }
 {

@@ -1,9 +1,9 @@
-/// How a stream ends. Where bytes follow record 1,000,000, it ends `Many`, whatever they are.
+/// How a stream ends. If any bytes follow the millionth record, it is `Many`.
 #[derive(Clone, Copy, Debug, PartialEq, Eq, Hash)]
 pub enum Ending {
-    /// The bytes are the header and whole records.
+    /// The bytes are the header and then whole records alone.
     Complete,
-    /// The last record is cut.
+    /// The bytes end within a record.
     Truncated,
     /// The bytes do not begin with the whole header.
     Header,
@@ -11,8 +11,8 @@ pub enum Ending {
     Large,
     /// A neighbour list has more than 254 entries.
     Oversize,
-    /// There was no memory for a record. No stream ends so by its bytes.
+    /// There was no memory for a record, whatever the bytes are.
     Memory,
-    /// After 1,000,000 records there are more bytes.
+    /// More bytes follow the millionth record.
     Many,
 }

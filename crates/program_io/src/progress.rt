@@ -18,7 +18,7 @@ pub enum Progress {
     Nowhere,
     /// On a terminal, in one line that is written over.
     OnTerminal,
-    /// There, and in lines of their own where there is no terminal.
+    /// On a terminal as `OnTerminal`, elsewhere in lines of their own.
     Everywhere,
 }
 
@@ -97,10 +97,14 @@ pub struct Meter<'c, C> {
     console: &'c C,
     style: Style,
     files: usize,
+    /// When the run began, by the console's clock.
     start: u64,
+    /// How many files were begun.
     begun: AtomicU64,
+    /// How many graphs came to the last stage.
     graphs: AtomicU64,
-    told: AtomicU64,
+    /// When the last line was shown, in milliseconds since the start.
+    last_told: AtomicU64,
 }
 
 impl<'c, C: Console> Meter<'c, C> {
@@ -113,7 +117,7 @@ impl<'c, C: Console> Meter<'c, C> {
             start: console.time(),
             begun: AtomicU64::new(0),
             graphs: AtomicU64::new(0),
-            told: AtomicU64::new(0),
+            last_told: AtomicU64::new(0),
         }
     }
 
@@ -136,14 +140,14 @@ impl<'c, C: Console> Meter<'c, C> {
 
     /// Tells how far the run is, unless that was told a moment ago, or another thread tells it now.
     fn tell_in_time(&self) {
-        let told = self.told.load(Ordering::SeqCst);
+        let last_told = self.last_told.load(Ordering::SeqCst);
         let time = self.time();
-        if time < told.saturating_add(PAUSE) {
+        if time < last_told.saturating_add(PAUSE) {
             return;
         }
         let turn = self
-            .told
-            .compare_exchange(told, time, Ordering::SeqCst, Ordering::SeqCst);
+            .last_told
+            .compare_exchange(last_told, time, Ordering::SeqCst, Ordering::SeqCst);
         if turn.is_ok() {
             self.tell(time, if self.style == Style::Apart { "\n" } else { "" });
         }

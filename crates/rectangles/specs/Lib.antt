@@ -1,3 +1,3 @@
 pub mod Front
 pub mod Rectangles
-pub mod Stack
+pub mod Map

@@ -6,7 +6,7 @@
 #![tactic(auto)]
 
 mod front;
-mod stack;
+mod map;
 
 ghost use Rattle.std.specs.Prelude.{◌<◌, ◌↔◌, IsTrue, IfOk, IfSome, All, AllPairs};
 ghost use Rattle.std.specs.List.Sorted.{IsNonDecreasingBy};
@@ -69,7 +69,7 @@ fn sweep(alloc: Global, rectangles: &[Rectangle], table: &mut Vec<u64>) -> Resul
 {
     match table_height(rectangles) {
         Some(height) => front::sweep(rectangles, height, table),
-        None => stack::sweep(alloc, rectangles),
+        None => map::sweep(alloc, rectangles),
     }
 }
 

@@ -10,7 +10,7 @@ use books::{Batch, Book};
 use entries::Entry;
 use json_lines::{end_line, entry_line};
 use std::alloc::Global;
-use streams::{Gathered, Mark, Sink, WriteFault};
+use streams::{Mark, Sink, TextBuffer, WriteFault};
 
 /// How many bytes of a line are gathered at once.
 const SLICE: usize = 512;
@@ -30,7 +30,7 @@ pub fn write_json<S: Sink>(alloc: Global, batch: &Batch, sink: &mut S) -> Result
     requires { S.failed sink.old ≡ false }
     ensures { WritesOrLacks (S.taken sink.old) (S.taken sink.new) (S.failed sink.new) (json_text batch.now) result }
 {
-    let mut lines = Gathered::new();
+    let mut lines = TextBuffer::new();
     for file in 0..batch.files() {
         write_book(alloc, &mut lines, sink, file + 1, batch.book(file))?;
     }
@@ -40,7 +40,7 @@ pub fn write_json<S: Sink>(alloc: Global, batch: &Batch, sink: &mut S) -> Result
 /// Writes the lines of one file.
 fn write_book<S: Sink>(
     alloc: Global,
-    lines: &mut Gathered,
+    lines: &mut TextBuffer,
     sink: &mut S,
     file: u32,
     book: &Book,
@@ -57,7 +57,7 @@ fn write_book<S: Sink>(
 /// Writes a line for each entry.
 fn write_entries<S: Sink>(
     alloc: Global,
-    lines: &mut Gathered,
+    lines: &mut TextBuffer,
     sink: &mut S,
     file: u32,
     entries: &[Entry],
@@ -75,7 +75,7 @@ fn write_entries<S: Sink>(
 /// Writes the line of one entry.
 fn write_entry<S: Sink>(
     alloc: Global,
-    lines: &mut Gathered,
+    lines: &mut TextBuffer,
     sink: &mut S,
     file: u32,
     graph: u64,
@@ -94,7 +94,7 @@ fn write_entry<S: Sink>(
 /// Writes the line of a mark.
 fn write_end<S: Sink>(
     alloc: Global,
-    lines: &mut Gathered,
+    lines: &mut TextBuffer,
     sink: &mut S,
     file: u32,
     mark: Mark,
@@ -115,7 +115,11 @@ fn write_end<S: Sink>(
 /// # Errors
 ///
 /// `Write` exactly where the sink has then failed; it has then taken a beginning of the text. There is no other.
-pub fn push_line<S: Sink>(lines: &mut Gathered, sink: &mut S, line: &[u8]) -> Result<(), WriteFault>
+pub fn push_line<S: Sink>(
+    lines: &mut TextBuffer,
+    sink: &mut S,
+    line: &[u8],
+) -> Result<(), WriteFault>
     requires { S.failed sink.old ≡ false }
     ensures { StaysOnItsWay (S.taken sink.old) lines.old (S.taken sink.new) lines.new
         (S.failed sink.new) line.now result }

@@ -3,7 +3,7 @@ ghost use Rattle.std.specs.Prelude.{◌≡◌, ◌+◌, ◌<◌, ◌≤◌, ◌+
 ghost use Rattle.streams.specs.Sink.{Writes, StaysOnItsWay};
 ghost use Rattle.streams.specs.Text.{word_of};
 ghost use Rattle.reports.specs.Report.{report_text, book_text, file_line, end_line, entry_line, answer_text, sizes_text, drawn_text, cause_text, numbered_texts};
-ghost use Rattle.streams.specs.declared.gather.TheConstants.{LINE, ROOM};
+ghost use Rattle.streams.specs.declared.text_buffer.TheConstants.{LINE, ROOM};
 
 use books::{Batch, Book};
 use drawing_check::Drawing;
@@ -11,7 +11,7 @@ use entries::{Answer, Cause, Entry};
 use faces::Plane;
 use ortho_rep::Shape;
 use planar_code::Ending;
-use streams::{Gathered, Mark, Sink, WriteFault};
+use streams::{Mark, Sink, TextBuffer, WriteFault};
 
 /// Writes for each file a line with its number, a line for each entry and a line for its mark. It takes
 /// no memory: lines are gathered in a fixed buffer.
@@ -23,7 +23,7 @@ pub fn write_report<S: Sink>(batch: &Batch, sink: &mut S) -> Result<(), WriteFau
     requires { S.failed sink.old ≡ false }
     ensures { Writes (S.taken sink.old) (S.taken sink.new) (S.failed sink.new) (report_text batch.now) result }
 {
-    let mut lines = Gathered::new();
+    let mut lines = TextBuffer::new();
     for file in 0..batch.files() {
         write_book(&mut lines, sink, file + 1, batch.book(file))?;
     }
@@ -32,7 +32,7 @@ pub fn write_report<S: Sink>(batch: &Batch, sink: &mut S) -> Result<(), WriteFau
 
 /// Writes the lines of one file.
 fn write_book<S: Sink>(
-    lines: &mut Gathered,
+    lines: &mut TextBuffer,
     sink: &mut S,
     number: u32,
     book: &Book,
@@ -48,7 +48,7 @@ fn write_book<S: Sink>(
 }
 
 /// Writes the first line of a file.
-fn write_file<S: Sink>(lines: &mut Gathered, sink: &mut S, number: u32) -> Result<(), WriteFault>
+fn write_file<S: Sink>(lines: &mut TextBuffer, sink: &mut S, number: u32) -> Result<(), WriteFault>
     requires { S.failed sink.old ≡ false }
     ensures { StaysOnItsWay (S.taken sink.old) lines.old (S.taken sink.new) lines.new
         (S.failed sink.new) (file_line number) result }
@@ -59,7 +59,7 @@ fn write_file<S: Sink>(lines: &mut Gathered, sink: &mut S, number: u32) -> Resul
 }
 
 /// Adds the first line of a file.
-fn push_file(lines: &mut Gathered, number: u32)
+fn push_file(lines: &mut TextBuffer, number: u32)
     requires { length lines.old + LINE ≤ ROOM }
     ensures { lines.new ≡ lines.old ++ file_line number }
 {
@@ -70,7 +70,7 @@ fn push_file(lines: &mut Gathered, number: u32)
 
 /// Writes a line for each entry.
 fn write_entries<S: Sink>(
-    lines: &mut Gathered,
+    lines: &mut TextBuffer,
     sink: &mut S,
     entries: &[Entry],
 ) -> Result<(), WriteFault>
@@ -86,7 +86,7 @@ fn write_entries<S: Sink>(
 
 /// Writes the line of one entry.
 fn write_entry<S: Sink>(
-    lines: &mut Gathered,
+    lines: &mut TextBuffer,
     sink: &mut S,
     number: u64,
     entry: &Entry,
@@ -101,7 +101,7 @@ fn write_entry<S: Sink>(
 }
 
 /// Adds the line of one entry.
-fn push_entry(lines: &mut Gathered, number: u64, entry: &Entry)
+fn push_entry(lines: &mut TextBuffer, number: u64, entry: &Entry)
     requires { length lines.old + LINE ≤ ROOM }
     ensures { lines.new ≡ lines.old ++ entry_line number entry.now }
 {
@@ -112,7 +112,7 @@ fn push_entry(lines: &mut Gathered, number: u64, entry: &Entry)
 }
 
 /// Adds what an answer is, in at most 300 bytes.
-fn push_answer(lines: &mut Gathered, answer: &Answer)
+fn push_answer(lines: &mut TextBuffer, answer: &Answer)
     requires { length lines.old ≤ 16000 }
     ensures text { lines.new ≡ lines.old ++ answer_text answer.now }
     ensures short { length lines.new ≤ length lines.old + 300 }
@@ -137,7 +137,7 @@ fn push_answer(lines: &mut Gathered, answer: &Answer)
 }
 
 /// Adds how many vertices, edges, faces and bends there are, in at most 200 bytes.
-fn push_sizes(lines: &mut Gathered, plane: &Plane, shape: &Shape)
+fn push_sizes(lines: &mut TextBuffer, plane: &Plane, shape: &Shape)
     requires { length lines.old ≤ 16010 }
     ensures text { lines.new ≡ lines.old ++ sizes_text plane.now shape.now }
     ensures short { length lines.new ≤ length lines.old + 200 }
@@ -153,7 +153,7 @@ fn push_sizes(lines: &mut Gathered, plane: &Plane, shape: &Shape)
 }
 
 /// Adds whether there is a drawing, in at most 40 bytes.
-fn push_drawn(lines: &mut Gathered, drawing: &Result<Drawing, Cause>)
+fn push_drawn(lines: &mut TextBuffer, drawing: &Result<Drawing, Cause>)
     requires { length lines.old ≤ 16300 }
     ensures text { lines.new ≡ lines.old ++ drawn_text drawing.now }
     ensures short { length lines.new ≤ length lines.old + 40 }
@@ -165,7 +165,7 @@ fn push_drawn(lines: &mut Gathered, drawing: &Result<Drawing, Cause>)
 }
 
 /// Adds the end of the line of a graph that has no drawing, in at most 40 bytes.
-pub fn push_cause(lines: &mut Gathered, cause: Cause)
+pub fn push_cause(lines: &mut TextBuffer, cause: Cause)
     requires { length lines.old ≤ 16300 }
     ensures text { lines.new ≡ lines.old ++ cause_text cause }
     ensures short { length lines.new ≤ length lines.old + 40 }
@@ -176,7 +176,7 @@ pub fn push_cause(lines: &mut Gathered, cause: Cause)
 
 /// Writes the last line of a file.
 fn write_end<S: Sink>(
-    lines: &mut Gathered,
+    lines: &mut TextBuffer,
     sink: &mut S,
     mark: Mark,
     count: u64,
@@ -191,7 +191,7 @@ fn write_end<S: Sink>(
 }
 
 /// Adds the last line of a file.
-fn push_end(lines: &mut Gathered, mark: Mark, count: u64)
+fn push_end(lines: &mut TextBuffer, mark: Mark, count: u64)
     requires { length lines.old + LINE ≤ ROOM }
     ensures { lines.new ≡ lines.old ++ end_line mark count }
 {

@@ -38,6 +38,6 @@ SitsAt table limit s = (s.pass.table_id ≡ table) × (s.pass.me.0.limit ≡ lim
 abbrev pub IsSeatOf : Tickets → Seat → Type 0
 IsSeatOf t s = SitsAt t.table.shared.table_id t.limit s
 
--- a view that stands for all these seats
+-- what a pass knows that stands for all these seats
 abbrev pub IsPool : List Seat → Draws → Type 0
 IsPool seats v = (v.parts ≡ length seats) × (v.ends ≡ count_by has_ended seats) × (v.drawn ≡ all_drawn seats)

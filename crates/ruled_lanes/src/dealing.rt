@@ -51,7 +51,7 @@ impl Tickets {
     ghost use Rattle.ruled_lanes.specs.TicketRule.{draws, HasOnceBelow};
     ghost use Rattle.ruled_lanes.specs.TicketSeats.{limit_of, lanes_of, drawn, has_ended, all_drawn, SitsAt, IsSeatOf, IsUnused, IsPool};
 
-    // The seats off a pass that stands for all of them.
+    // Cuts a pass that stands for all seats into one for each.
     fn cut(
         alloc: Global,
         table: &Word,

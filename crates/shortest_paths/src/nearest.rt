@@ -71,7 +71,7 @@ fn begin(
         reached: 1,
         level: 0,
         cut: FAR,
-        wish: 0,
+        found_score: 0,
         found: 0,
     }
 }
@@ -145,6 +145,7 @@ fn least_distance(
     ensures least { (j : ℕ) → progress.now.ordered ≤ j → j < progress.now.reached → result ≤ℤ (at_nodes label.now (numbers order.now j) -ℤ at_nodes ground.entry.potential.now (numbers order.now j)) }
     ensures some { result <ℤ progress.now.cut → (j : ℕ) × (progress.now.ordered ≤ j) × (j < progress.now.reached) × (result ≡ at_nodes label.now (numbers order.now j) -ℤ at_nodes ground.entry.potential.now (numbers order.now j)) }
 {
+    // Only the contract reads `enter` and `place`.
     let _ = enter;
     let _ = place;
     let mut least = progress.cut;
@@ -223,6 +224,7 @@ fn take_up(
     ensures behind { (i : ℕ) → j < i → numbers order.new i ≡ numbers order.old i }
     ensures more { at_nodes label.now (numbers order.old j) -ℤ at_nodes ground.entry.potential.now (numbers order.old j) ≡ progress.old.level → progress.new.ordered ≡ progress.old.ordered + 1 }
 {
+    // Only the contract reads `enter`.
     let _ = enter;
     let node = order[j] as usize;
     if distance(label[node], ground.potential[node]) == progress.level {

@@ -29,17 +29,19 @@ pub struct Ground<'a> {
 /// How far a search has come, and what it found.
 #[derive(Clone, Copy, Debug, PartialEq, Eq)]
 pub struct SearchProgress {
-    /// How many nodes were scanned, how many are ordered by their distance, and how many were
-    /// reached: places in the order.
+    /// How many nodes were scanned: the first ones of the order.
     pub head: usize,
+    /// How many nodes stand first in the order, sorted by their distance; the scanned ones are among them.
     pub ordered: usize,
+    /// How many nodes were reached: all that stand in the order.
     pub reached: usize,
     /// The distance of the nodes that are scanned now.
     pub level: i32,
-    /// The distance of the nearest node found where units are wanting, or `FAR`, its score, and the
-    /// residual arc that leads there.
+    /// The distance of the nearest node found where units are wanting, or `FAR` where none was found.
     pub cut: i32,
-    pub wish: i32,
+    /// The score of that node.
+    pub found_score: i32,
+    /// The residual arc that leads to that node.
     pub found: usize,
 }
 
@@ -98,10 +100,10 @@ fn offer(progress: &mut SearchProgress, number: usize, distance: i32, score: i32
     ensures least { progress.new.cut ≤ℤ distance }
     ensures either { ((progress.new.cut ≡ progress.old.cut) × (progress.new.found ≡ progress.old.found)) ⊎ ((progress.new.cut ≡ distance) × (progress.new.found ≡ number)) }
 {
-    if distance < progress.cut || (distance == progress.cut && score < progress.wish) {
+    if distance < progress.cut || (distance == progress.cut && score < progress.found_score) {
         progress.cut = distance;
         progress.found = number;
-        progress.wish = score;
+        progress.found_score = score;
     }
 }
 
@@ -130,6 +132,7 @@ fn mark(
     ensures cut { progress.new.cut ≡ progress.old.cut }
     ensures found { progress.new.found ≡ progress.old.found }
 {
+    // Only the contract reads `ground`.
     let _ = ground;
     if label[step.end] < FAR {
         relabel(label, enter, step);

@@ -1,8 +1,8 @@
-//! What ends a run or a report.
+//! Why a run gives no result, and why a text is not written whole.
 
 use thiserror::Error;
 
-/// Why a run hands out nothing. The text of each is the line that the program prints.
+/// Why a run gives no result. The text of each is the line that the program prints.
 #[derive(Clone, Copy, Debug, PartialEq, Eq, Error)]
 pub enum BatchFault {
     /// More than 256 files were named.
@@ -11,10 +11,10 @@ pub enum BatchFault {
     /// The number of lanes is not 1 to 8.
     #[error("lanes must be 1 to 8")]
     BadLanes,
-    /// Memory was refused to the run itself; a file that lacks memory ends by its mark instead.
+    /// There was no memory for the run itself. Where there is none for a record of a file, that file's mark says so.
     #[error("out of memory")]
     Memory,
-    /// An end of a link or of a fan was gone before the last message.
+    /// An end of a link or of a fan was dropped before the last message.
     #[error("a lane was lost")]
     LaneLost,
     /// A thread could not be started.

@@ -1,4 +1,4 @@
-//! What a run found in one source.
+//! The records that were read from one source, and how it ended.
 
 use planar_code::{Ending, Record};
 use std::marker::Model;
@@ -6,9 +6,9 @@ use std::marker::Model;
 /// How a source ended.
 #[derive(Clone, Copy, Debug, PartialEq, Eq)]
 pub enum Mark {
-    /// As its bytes say, or for want of memory in the framer.
+    /// All its bytes were read, or the framer had no memory for a record.
     Ended(Ending),
-    /// It failed where more bytes could have come.
+    /// A read failed before the end of the source.
     Io,
 }
 

@@ -16,13 +16,13 @@ use std::sync::Wait;
 
 /// Gives the records of a source, those of a piece in one message.
 #[derive(Drop)]
-struct Gives<'r, R> {
+struct RecordGiver<'r, R> {
     rt: &'r R,
     giver: Giver<ReadMessage>,
 }
 
-impl<R: Wait> Receiver for Gives<'_, R> {
-    type Lost = Closed<ReadMessage>;
+impl<R: Wait> Receiver for RecordGiver<'_, R> {
+    type Refusal = Closed<ReadMessage>;
 
     ghost received = { λ first records x y. (earlier : List (List ℕ))
         → GiveRecords earlier (given x.giver) → GiveRecords (earlier ++ records) (given y.giver) };
@@ -65,7 +65,7 @@ pub fn give_all<R: Wait, T: Tap>(
     requires none { given giver ≡ [] }
     ensures { GivesBack (T.to_come source) (T.fails source) giver result }
 {
-    let mut gives = Gives { rt, giver };
+    let mut gives = RecordGiver { rt, giver };
     let mark = match read_source(source, alloc, buffer.as_mut_slice(), &mut gives) {
         Ok(mark) => mark,
         Err(_) => return None,

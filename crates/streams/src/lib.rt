@@ -3,7 +3,6 @@
 
 mod faults;
 mod frames;
-mod gather;
 mod giving;
 mod input;
 mod memory;
@@ -13,10 +12,10 @@ mod reading;
 mod receiver;
 mod report;
 mod run;
+mod text_buffer;
 
 pub use faults::{BatchFault, WriteFault};
 pub use frames::{Frames, Mark};
-pub use gather::{Gathered, LINE, ROOM, put_all};
 pub use input::{Tap, TapFault};
 pub use memory::MemTap;
 pub use output::{IoSink, Sink, SinkFault};
@@ -25,3 +24,4 @@ pub use receiver::Receiver;
 pub use report::write_frames;
 pub use ruled_lanes::MAX_CAPACITY;
 pub use run::run_frames;
+pub use text_buffer::{LINE, ROOM, TextBuffer, put_all};

@@ -83,7 +83,7 @@ pub fn read_source<T: Tap, V: Receiver>(
     alloc: Global,
     buffer: &mut [u8],
     receiver: &mut V,
-) -> Result<Mark, V::Lost>
+) -> Result<Mark, V::Refusal>
     requires room { 0 < length buffer.old }
     ensures found { IfOk result (λ mark. (records : List (List ℕ))
         × V.received 0 records receiver.old receiver.new × IsFoundIn (T.to_come source) (T.fails source) records mark) }
@@ -95,6 +95,8 @@ pub fn read_source<T: Tap, V: Receiver>(
     };
     let mut records = Vec::new(alloc);
     let mut ordinal = 0;
+    // Counted, so that the call is proved to end. The last round is never reached: a framer that still reads has
+    // had fewer bytes than a million records hold.
     for _ in 0..u64::MAX {
         let step = read_piece(&mut source, &mut framer, alloc, buffer, &mut records);
         let next = ordinal + records.len() as u32;

@@ -11,7 +11,7 @@ use std::alloc::Global;
 /// later one, and what stays the same of it.
 pub trait Receiver {
     /// Why records were not received.
-    type Lost: Drop;
+    type Refusal: Drop;
 
     ghost received: { ℕ → List (List ℕ) → Self → Self → Type 0 };
 
@@ -23,7 +23,7 @@ pub trait Receiver {
         alloc: Global,
         first: u32,
         records: &mut Vec<Record>,
-    ) -> Result<(), Self::Lost>
+    ) -> Result<(), Self::Refusal>
         requires few { first + length records.old.items ≤ MAX_RECORDS }
         ensures received { OnOk result (received first records.old.items self.old self.new) }
         ensures empties { OnOk result (records.new.items ≡ []) }

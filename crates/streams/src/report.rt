@@ -2,12 +2,12 @@
 ghost use Rattle.std.specs.Prelude.{◌≡◌, ◌+◌, ◌<◌, ◌≤◌, ◌^◌, false, length, ◌++◌};
 ghost use Rattle.streams.specs.Sink.{Writes, StaysOnItsWay};
 ghost use Rattle.streams.specs.Text.{frames_text, record_line, frames_end_line, word_of};
-ghost use Rattle.streams.specs.declared.gather.TheConstants.{LINE, ROOM};
+ghost use Rattle.streams.specs.declared.text_buffer.TheConstants.{LINE, ROOM};
 
 use super::faults::WriteFault;
 use super::frames::{Frames, Mark};
-use super::gather::Gathered;
 use super::output::Sink;
+use super::text_buffer::TextBuffer;
 use planar_code::{Ending, Record};
 
 /// Writes a line for each record and one for the mark. It takes no memory: lines are gathered in a
@@ -16,10 +16,10 @@ pub fn write_frames<S: Sink>(frames: &Frames, sink: &mut S) -> Result<(), WriteF
     requires { S.failed sink.old ≡ false }
     ensures { Writes (S.taken sink.old) (S.taken sink.new) (S.failed sink.new) (frames_text frames.now) result }
 {
-    let mut lines = Gathered::new();
+    let mut lines = TextBuffer::new();
     let records = frames.records();
-    for (index, read_message) in records.iter().enumerate() {
-        write_record(&mut lines, sink, index as u64 + 1, read_message)?;
+    for (index, rec) in records.iter().enumerate() {
+        write_record(&mut lines, sink, index as u64 + 1, rec)?;
     }
     write_end(&mut lines, sink, frames.mark(), records.len() as u64)?;
     lines.flush(sink)
@@ -27,37 +27,37 @@ pub fn write_frames<S: Sink>(frames: &Frames, sink: &mut S) -> Result<(), WriteF
 
 /// Writes the line of one record.
 fn write_record<S: Sink>(
-    lines: &mut Gathered,
+    lines: &mut TextBuffer,
     sink: &mut S,
     number: u64,
-    read_message: &Record,
+    rec: &Record,
 ) -> Result<(), WriteFault>
     requires { S.failed sink.old ≡ false }
     ensures { StaysOnItsWay (S.taken sink.old) lines.old (S.taken sink.new) lines.new
-        (S.failed sink.new) (record_line number read_message.now) result }
+        (S.failed sink.new) (record_line number rec.now) result }
 {
     lines.make_room(sink)?;
-    push_record(lines, number, read_message);
+    push_record(lines, number, rec);
     Ok(())
 }
 
 /// Adds the line of one record.
-fn push_record(lines: &mut Gathered, number: u64, read_message: &Record)
+fn push_record(lines: &mut TextBuffer, number: u64, rec: &Record)
     requires { length lines.old + LINE ≤ ROOM }
-    ensures { lines.new ≡ lines.old ++ record_line number read_message.now }
+    ensures { lines.new ≡ lines.old ++ record_line number rec.now }
 {
     lines.push(b"record ");
     lines.push_number(number);
     lines.push(b" n=");
-    lines.push_number(u64::from(read_message.order()));
+    lines.push_number(u64::from(rec.order()));
     lines.push(b" bytes=");
-    lines.push_number(read_message.bytes().len() as u64);
+    lines.push_number(rec.bytes().len() as u64);
     lines.push(b"\n");
 }
 
 /// Writes the line of a mark.
 fn write_end<S: Sink>(
-    lines: &mut Gathered,
+    lines: &mut TextBuffer,
     sink: &mut S,
     mark: Mark,
     count: u64,
@@ -72,7 +72,7 @@ fn write_end<S: Sink>(
 }
 
 /// Adds the line of a mark.
-fn push_end(lines: &mut Gathered, mark: Mark, count: u64)
+fn push_end(lines: &mut TextBuffer, mark: Mark, count: u64)
     requires { length lines.old + LINE ≤ ROOM }
     ensures { lines.new ≡ lines.old ++ frames_end_line mark count }
 {

@@ -24,19 +24,19 @@ use std::thread::{Promise, Threads};
 
 /// What the thread of a reader promises of the giver that it gives back.
 #[derive(Drop)]
-struct Reads<T: Tap> {
+struct ReaderPromise<T: Tap> {
     source: Snapshot<T>,
     giver: Snapshot<Giver<ReadMessage>>,
 }
 
-impl<T: Tap> Promise<Option<Giver<ReadMessage>>> for Reads<T> {
+impl<T: Tap> Promise<Option<Giver<ReadMessage>>> for ReaderPromise<T> {
     ghost kept_by = { λ p result.
         GivesBack (T.to_come p.source.value) (T.fails p.source.value) p.giver.value result };
 }
 
-/// What was gathered of a link, with its end.
+/// The records and the mark that were gathered from a link, and the end that took them.
 #[derive(Drop)]
-struct Harvest {
+struct GatheredRecords {
     taker: Taker<ReadMessage>,
     records: Vec<Record>,
     mark: Option<Mark>,
@@ -83,7 +83,7 @@ pub fn run_frames<R: Threads + Wait + Sync, T: Tap + Send>(
                 × IfErr result (λ fault.
                 (fault ≢ BatchFault.TooManyFiles) × (fault ≢ BatchFault.BadLanes)) }
         {
-            let promise = Reads {
+            let promise = ReaderPromise {
                 source: Snapshot::of(&source),
                 giver: Snapshot::of(&giver),
             };
@@ -99,9 +99,9 @@ pub fn run_frames<R: Threads + Wait + Sync, T: Tap + Send>(
             };
             let gathered = gather(rt, alloc, taker);
             let read = reader.join(rt);
-            let harvest = gathered?;
+            let all = gathered?;
             match read {
-                Some(giver) => Ok(settle(rt, harvest, giver)),
+                Some(giver) => Ok(settle(rt, all, giver)),
                 None => Err(BatchFault::LaneLost),
             }
         },
@@ -114,7 +114,7 @@ fn gather<R: Wait>(
     rt: &R,
     alloc: Global,
     mut taker: Taker<ReadMessage>,
-) -> Result<Harvest, BatchFault>
+) -> Result<GatheredRecords, BatchFault>
     requires { taken taker ≡ [] }
     ensures link { IfOk result (λ h. TakesFromSame taker h.taker) }
     ensures all { IfOk result (λ h. GathersAll h.records.items h.mark (taken h.taker)) }
@@ -134,26 +134,26 @@ fn gather<R: Wait>(
             Err(_) => return Err(BatchFault::LaneLost),
         }
     }
-    Ok(Harvest {
+    Ok(GatheredRecords {
         taker,
         records,
         mark,
     })
 }
 
-/// Takes both ends of the link in. So what was gathered is all that was told, and it has a mark.
-fn settle<R: Wait>(rt: &R, harvest: Harvest, giver: Giver<ReadMessage>) -> Frames
-    requires ends { AreEnds giver harvest.taker }
-    requires all { GathersAll harvest.records.items harvest.mark (taken harvest.taker) }
+/// Settles the link by both of its ends. So what was gathered is all that was told, and it has a mark.
+fn settle<R: Wait>(rt: &R, gathered: GatheredRecords, giver: Giver<ReadMessage>) -> Frames
+    requires ends { AreEnds giver gathered.taker }
+    requires all { GathersAll gathered.records.items gathered.mark (taken gathered.taker) }
     requires told { (records : List (List ℕ)) × (mark : Mark) × IsTold records mark (given giver) }
     ensures { (records : List (List ℕ)) (mark : Mark) → IsTold records mark (given giver)
         → (result.records ≡ records) × (result.mark ≡ mark) }
 {
-    let Harvest {
+    let GatheredRecords {
         taker,
         records,
         mark,
-    } = harvest;
+    } = gathered;
     taker.settle(rt, giver);
     Frames::new(records, mark.unwrap())
 }

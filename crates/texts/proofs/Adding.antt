@@ -8,7 +8,7 @@ use Rattle.entries.specs.declared.entry.Entry.{Entry}
 use Rattle.reports.specs.declared.form.Form.{Form}
 use Rattle.printing.specs.FormLines.{line_in, head_in, lines_in}
 use Rattle.texts.specs.declared.waiting.Waiting.{Waiting}
-use Rattle.texts.specs.Came.{Came, nothing, HasMark, HasEntryMore, HasMarkMore}
+use Rattle.texts.specs.Came.{Came, none_come, HasMark, HasEntryMore, HasMarkMore}
 use Rattle.texts.specs.Waits.{ChangesAt, IsNothing, IsCountedOne, GetsLine, GetsMark}
 use Rattle.texts.specs.Written.{GoesOn, begun, ended, ended_texts, IsCounted, AreWritten}
 use Rattle.texts.proofs.Waits.{after_change, changes_both}
@@ -50,10 +50,10 @@ front_more form front came next entry line is more =
     ∙ ap (λ t. t ++ begun form front (next front)) (texts_same form came next front (λ k lt. more.others k (λ e. absurd (omega (arith, lt, e)))))
 
 -- a line of the front went on its way
-pub written_front : (form : Form) (start old new : Option (List ℕ)) (gathered gathers : List ℕ) (front : ℕ) (waiting after : List Waiting) (came next : ℕ → Came) (entry : Entry) (line : List ℕ)
-    → front < length waiting → line_in form entry ≡ line → HasEntryMore front entry came next → ChangesAt front IsCountedOne waiting after → GoesOn old gathered new gathers line
-    → AreWritten form start old gathered front waiting came → AreWritten form start new gathers front after next
-written_front form start old new gathered gathers front waiting after came next entry line below is more changed goes was =
+pub written_front : (form : Form) (start old new : Option (List ℕ)) (buffer gathers : List ℕ) (front : ℕ) (waiting after : List Waiting) (came next : ℕ → Came) (entry : Entry) (line : List ℕ)
+    → front < length waiting → line_in form entry ≡ line → HasEntryMore front entry came next → ChangesAt front IsCountedOne waiting after → GoesOn old buffer new gathers line
+    → AreWritten form start old buffer front waiting came → AreWritten form start new gathers front after next
+written_front form start old new buffer gathers front waiting after came next entry line below is more changed goes was =
     record {
       within = omega (arith, was.within, changed.count);
       marked = marked_same came next front (λ k lt. more.others k (λ e. absurd (omega (arith, lt, e)))) was.marked;
@@ -80,10 +80,10 @@ front_same form file front came next before others =
     ∙ ap (λ c. ended_texts form next front ++ begun form front c) (sym (others front (λ e. absurd (omega (arith, before, e)))))
 
 -- a line of a later file waits
-pub written_behind : (form : Form) (start now : Option (List ℕ)) (gathered : List ℕ) (file front : ℕ) (waiting mid after : List Waiting) (came next : ℕ → Came) (entry : Entry) (line : List ℕ)
+pub written_behind : (form : Form) (start now : Option (List ℕ)) (buffer : List ℕ) (file front : ℕ) (waiting mid after : List Waiting) (came next : ℕ → Came) (entry : Entry) (line : List ℕ)
     → file < length waiting → front < file → line_in form entry ≡ line → HasEntryMore file entry came next → ChangesAt file IsCountedOne waiting mid → ChangesAt file (GetsLine line) mid after
-    → AreWritten form start now gathered front waiting came → AreWritten form start now gathered front after next
-written_behind form start now gathered file front waiting mid after came next entry line below before is more first then_more was =
+    → AreWritten form start now buffer front waiting came → AreWritten form start now buffer front after next
+written_behind form start now buffer file front waiting mid after came next entry line below before is more first then_more was =
     let changed = changes_both waiting mid after file IsCountedOne (GetsLine line) (HasLineMore line) (line_more line) first then_more in
     record {
       within = omega (arith, was.within, changed.count);
@@ -93,7 +93,7 @@ written_behind form start now gathered file front waiting mid after came next en
       lines = after_change (λ w c. w.lines.items ≡ lines_in form c.entries) (λ k. front < k) file waiting after came next (HasLineMore line) changed more.others below
           (λ _ w w' c same. c.0 ∙ ap (λ l. l ++ line) same ∙ ap (λ l. lines_in form (came file).entries ++ l) (sym is) ∙ sym (lines-more form (came file).entries entry)
           ∙ ap (λ (c : Came). lines_in form c.entries) (sym more.here)) was.lines;
-      going = λ lt. subst (IsOnItsWay start now gathered) (front_same form file front came next before more.others) (was.going (omega (arith, lt, changed.count)));
+      going = λ lt. subst (IsOnItsWay start now buffer) (front_same form file front came next before more.others) (was.going (omega (arith, lt, changed.count)));
       over = λ past. absurd (omega (arith, past, changed.count, below, before));
     }
 
@@ -105,10 +105,10 @@ entries_same file mark came next more k =
     ]
 
 -- a mark is kept
-pub written_marked : (form : Form) (start now : Option (List ℕ)) (gathered : List ℕ) (file front : ℕ) (waiting after : List Waiting) (came next : ℕ → Came) (mark : Mark)
+pub written_marked : (form : Form) (start now : Option (List ℕ)) (buffer : List ℕ) (file front : ℕ) (waiting after : List Waiting) (came next : ℕ → Came) (mark : Mark)
     → file < length waiting → front ≤ file → HasMarkMore file mark came next → ChangesAt file (GetsMark mark) waiting after
-    → AreWritten form start now gathered front waiting came → AreWritten form start now gathered front after next
-written_marked form start now gathered file front waiting after came next mark below before more changed was =
+    → AreWritten form start now buffer front waiting came → AreWritten form start now buffer front after next
+written_marked form start now buffer file front waiting after came next mark below before more changed was =
     let text : ended_texts form came front ++ begun form front (came front) ≡ ended_texts form next front ++ begun form front (next front) =
     ap (λ t. t ++ begun form front (came front)) (texts_same form came next front (λ k lt. more.others k (λ e. absurd (omega (arith, lt, before, e)))))
     ∙ ap (λ l. ended_texts form next front ++ (head_in form (front + 1) ++ lines_in form l)) (entries_same file mark came next more front) in
@@ -122,14 +122,14 @@ written_marked form start now gathered file front waiting after came next mark b
           }) was.counted;
       lines = after_change (λ w c. w.lines.items ≡ lines_in form c.entries) (λ k. front < k) file waiting after came next (GetsMark mark) changed more.others below
           (λ _ w w' c same. c.lines ∙ same ∙ ap (lines_in form) (entries_same file mark came next more file)) was.lines;
-      going = λ lt. subst (IsOnItsWay start now gathered) text (was.going (omega (arith, lt, changed.count)));
+      going = λ lt. subst (IsOnItsWay start now buffer) text (was.going (omega (arith, lt, changed.count)));
       over = λ past. absurd (omega (arith, past, changed.count, below, before));
     }
 
 -- nothing has come, and the head of the first file is on its way
-pub written_none : (form : Form) (start : Option (List ℕ)) (gathered : List ℕ) (waiting : List Waiting) → All IsNothing waiting
-    → (0 < length waiting → gathered ≡ head_in form (0 + 1)) → (length waiting ≤ 0 → gathered ≡ []) → AreWritten form start start gathered 0 waiting (λ _. nothing)
-written_none form start gathered waiting all some none = record {
+pub written_none : (form : Form) (start : Option (List ℕ)) (buffer : List ℕ) (waiting : List Waiting) → All IsNothing waiting
+    → (0 < length waiting → buffer ≡ head_in form (0 + 1)) → (length waiting ≤ 0 → buffer ≡ []) → AreWritten form start start buffer 0 waiting (λ _. nothing)
+written_none form start buffer waiting all some none = record {
   within = omega arith;
   marked = λ k below. absurd (omega (arith, below));
   counted = λ k other from below. record { count = (all k other below).count; mark = (all k other below).mark };

@@ -98,59 +98,59 @@ breaks_head form start now came n files below marked added =
     (lines_in form (came n).entries, sym (append_assoc (ended_texts form came n) (head_in form (n + 1)) (lines_in form (came n).entries))) added)
 
 -- where a beginning was added of what was on its way
-breaks_way : (form : Form) (start now new : Option (List ℕ)) (gathered : List ℕ) (front : ℕ) (waiting : List Waiting) (came : ℕ → Came)
-    → ((text : List ℕ) → IsOnItsWay start now gathered text → AppendsFront start new text)
-    → AreWritten form start now gathered front waiting came → BreaksOff form start new (length waiting) came
-breaks_way form start now new gathered front waiting came added was =
+breaks_way : (form : Form) (start now new : Option (List ℕ)) (buffer : List ℕ) (front : ℕ) (waiting : List Waiting) (came : ℕ → Came)
+    → ((text : List ℕ) → IsOnItsWay start now buffer text → AppendsFront start new text)
+    → AreWritten form start now buffer front waiting came → BreaksOff form start new (length waiting) came
+breaks_way form start now new buffer front waiting came added was =
     elim (cases_lt front (length waiting)) [
       | inl below ↦ breaks_in form start new came front (length waiting) below was.marked (added _ (was.going below))
       | inr past ↦ breaks_at form start new came front (length waiting) was.within was.marked (added _ (was.over past))
     ]
 
 -- where nothing more was put on its way
-pub breaks_written : (form : Form) (start now : Option (List ℕ)) (gathered : List ℕ) (front : ℕ) (waiting : List Waiting) (came : ℕ → Came)
-    → AreWritten form start now gathered front waiting came → BreaksOff form start now (length waiting) came
-breaks_written form start now gathered front waiting came was = breaks_way form start now now gathered front waiting came (way_front start now gathered) was
+pub breaks_written : (form : Form) (start now : Option (List ℕ)) (buffer : List ℕ) (front : ℕ) (waiting : List Waiting) (came : ℕ → Came)
+    → AreWritten form start now buffer front waiting came → BreaksOff form start now (length waiting) came
+breaks_written form start now buffer front waiting came was = breaks_way form start now now buffer front waiting came (way_front start now buffer) was
 
 -- where what was gathered was to be put
-pub breaks_flushed : (form : Form) (start now new : Option (List ℕ)) (gathered : List ℕ) (front : ℕ) (waiting : List Waiting) (came : ℕ → Came)
-    → AppendsFront now new gathered → AreWritten form start now gathered front waiting came → BreaksOff form start new (length waiting) came
-breaks_flushed form start now new gathered front waiting came put was =
-    breaks_way form start now new gathered front waiting came
+pub breaks_flushed : (form : Form) (start now new : Option (List ℕ)) (buffer : List ℕ) (front : ℕ) (waiting : List Waiting) (came : ℕ → Came)
+    → AppendsFront now new buffer → AreWritten form start now buffer front waiting came → BreaksOff form start new (length waiting) came
+breaks_flushed form start now new buffer front waiting came put was =
+    breaks_way form start now new buffer front waiting came
     (λ text way. (way.sent ++ put.0, put.1, way.split ∙ ap (λ l. way.sent ++ l) put.2 ∙ sym (append_assoc way.sent put.0 put.1), added_both start now new way.sent put.0 way.added put.3)) was
 
-pub breaks_left : (form : Form) (start now : Option (List ℕ)) (gathered : List ℕ) (front : ℕ) (waiting : List Waiting) (came : ℕ → Came)
-    → AreLeft form start now gathered front waiting came → BreaksOff form start now (length waiting) came
-breaks_left form start now gathered front waiting came was =
-    breaks_at form start now came front (length waiting) was.within was.marked (way_front start now gathered _ was.text)
+pub breaks_left : (form : Form) (start now : Option (List ℕ)) (buffer : List ℕ) (front : ℕ) (waiting : List Waiting) (came : ℕ → Came)
+    → AreLeft form start now buffer front waiting came → BreaksOff form start now (length waiting) came
+breaks_left form start now buffer front waiting came was =
+    breaks_at form start now came front (length waiting) was.within was.marked (way_front start now buffer _ was.text)
 
 -- where a line of the front was to go on its way
-pub breaks_line : (form : Form) (start old new : Option (List ℕ)) (gathered : List ℕ) (front : ℕ) (waiting : List Waiting) (came next : ℕ → Came) (entry : Entry) (line : List ℕ)
-    → front < length waiting → line_in form entry ≡ line → HasEntryMore front entry came next → BreaksIn old gathered new line
-    → AreWritten form start old gathered front waiting came → BreaksOff form start new (length waiting) next
-breaks_line form start old new gathered front waiting came next entry line below is more breaks was =
+pub breaks_line : (form : Form) (start old new : Option (List ℕ)) (buffer : List ℕ) (front : ℕ) (waiting : List Waiting) (came next : ℕ → Came) (entry : Entry) (line : List ℕ)
+    → front < length waiting → line_in form entry ≡ line → HasEntryMore front entry came next → BreaksIn old buffer new line
+    → AreWritten form start old buffer front waiting came → BreaksOff form start new (length waiting) next
+breaks_line form start old new buffer front waiting came next entry line below is more breaks was =
     breaks_in form start new next front (length waiting) below (λ k lt. subst HasMark (sym (more.others k (λ e. absurd (omega (arith, lt, e))))) (was.marked k lt))
     (subst (AppendsFront start new) (front_more form front came next entry line is more) (breaks start _ (was.going below)))
 
 -- where the last line of the front was
-pub breaks_end : (form : Form) (start old new : Option (List ℕ)) (gathered : List ℕ) (front : ℕ) (waiting : List Waiting) (came : ℕ → Came) (mark : Mark) (count : ℕ)
-    → front < length waiting → (came front).mark ≡ Some mark → count ≡ length (came front).entries → BreaksIn old gathered new (end_in form (front + 1) mark count)
-    → AreWritten form start old gathered front waiting came → BreaksOff form start new (length waiting) came
-breaks_end form start old new gathered front waiting came mark count below is counted breaks was =
+pub breaks_end : (form : Form) (start old new : Option (List ℕ)) (buffer : List ℕ) (front : ℕ) (waiting : List Waiting) (came : ℕ → Came) (mark : Mark) (count : ℕ)
+    → front < length waiting → (came front).mark ≡ Some mark → count ≡ length (came front).entries → BreaksIn old buffer new (end_in form (front + 1) mark count)
+    → AreWritten form start old buffer front waiting came → BreaksOff form start new (length waiting) came
+breaks_end form start old new buffer front waiting came mark count below is counted breaks was =
     breaks_at form start new came (front + 1) (length waiting) (omega (arith, below)) (marked_next came front (front + 1) mark refl is was.marked)
     (subst (AppendsFront start new) (ended_more form front (front + 1) came mark count refl is counted) (breaks start _ (was.going below)))
 
 -- where the first line of the front was, or its lines so far
-pub breaks_first : (form : Form) (start old new : Option (List ℕ)) (gathered : List ℕ) (front : ℕ) (waiting : List Waiting) (came : ℕ → Came)
-    → front < length waiting → BreaksIn old gathered new (head_in form (front + 1))
-    → AreLeft form start old gathered front waiting came → BreaksOff form start new (length waiting) came
-breaks_first form start old new gathered front waiting came below breaks was =
+pub breaks_first : (form : Form) (start old new : Option (List ℕ)) (buffer : List ℕ) (front : ℕ) (waiting : List Waiting) (came : ℕ → Came)
+    → front < length waiting → BreaksIn old buffer new (head_in form (front + 1))
+    → AreLeft form start old buffer front waiting came → BreaksOff form start new (length waiting) came
+breaks_first form start old new buffer front waiting came below breaks was =
     breaks_head form start new came front (length waiting) below was.marked (breaks start _ was.text)
 
-pub breaks_lines : (form : Form) (start old mid new : Option (List ℕ)) (gathered between : List ℕ) (front : ℕ) (waiting : List Waiting) (came : ℕ → Came) (lines : List ℕ)
-    → front < length waiting → GoesOn old gathered mid between (head_in form (front + 1)) → ((other : Waiting) → lines ≡ (get_or waiting front other).lines.items)
-    → BreaksIn mid between new lines → AreLeft form start old gathered front waiting came → BreaksOff form start new (length waiting) came
-breaks_lines form start old mid new gathered between front waiting came lines below head are breaks was =
+pub breaks_lines : (form : Form) (start old mid new : Option (List ℕ)) (buffer between : List ℕ) (front : ℕ) (waiting : List Waiting) (came : ℕ → Came) (lines : List ℕ)
+    → front < length waiting → GoesOn old buffer mid between (head_in form (front + 1)) → ((other : Waiting) → lines ≡ (get_or waiting front other).lines.items)
+    → BreaksIn mid between new lines → AreLeft form start old buffer front waiting came → BreaksOff form start new (length waiting) came
+breaks_lines form start old mid new buffer between front waiting came lines below head are breaks was =
     let T = ended_texts form came front in
     let H = head_in form (front + 1) in
     let other = some_waiting waiting front below in

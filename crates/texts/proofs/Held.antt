@@ -142,13 +142,13 @@ held_end start old new before mid after ns file mark went kept below unmarked fi
     }
 
 -- nothing is told
-pub held_none : (choice : Choice) (form : Form) (start : Option (List ℕ)) (gathered : List ℕ) (waiting : List Waiting) → All IsNothing waiting
-    → (0 < length waiting → gathered ≡ head_in form (0 + 1)) → (length waiting ≤ 0 → gathered ≡ []) → HoldsNotes choice form start start gathered 0 waiting true []
-held_none choice form start gathered waiting all some none = record {
+pub held_none : (choice : Choice) (form : Form) (start : Option (List ℕ)) (buffer : List ℕ) (waiting : List Waiting) → All IsNothing waiting
+    → (0 < length waiting → buffer ≡ head_in form (0 + 1)) → (length waiting ≤ 0 → buffer ≡ []) → HoldsNotes choice form start start buffer 0 waiting true []
+held_none choice form start buffer waiting all some none = record {
   came = λ _. nothing;
   told = λ k below. record { entries = refl; mark = refl };
   ordered = λ k below. order_none choice k;
-  written = written_none form start gathered waiting all some none;
+  written = written_none form start buffer waiting all some none;
   unended = λ _. refl;
   all_whole = (
     λ _ k below. record { answered = All-nil (λ (entry : Entry). entry.answer ≢ Answer.NoMemory); complete = λ mark e. absurd (let no : ⊥ = cc in no) },
@@ -168,7 +168,7 @@ pub left_off_held : (start now : Option (List ℕ)) (lines : Lines) (ns : List N
 left_off_held start now lines ns held = record {
   came = held.came;
   ordered = held.ordered;
-  text = breaks_written lines.form start now lines.gathered lines.front lines.waiting.items held.came held.written;
+  text = breaks_written lines.form start now lines.buffer lines.front lines.waiting.items held.came held.written;
 }
 
 -- of the same lines later
@@ -209,9 +209,9 @@ left_off_end start old new before mid after ns file mark went kept below fits fr
     })
 
 -- where what was gathered was to be put
-pub left_off_finish : (start old new : Option (List ℕ)) (lines : Lines) (ns : List Note) → AppendsFront old new lines.gathered → LinesHold start old lines ns → LinesLeaveOff start new lines
+pub left_off_finish : (start old new : Option (List ℕ)) (lines : Lines) (ns : List Note) → AppendsFront old new lines.buffer → LinesHold start old lines ns → LinesLeaveOff start new lines
 left_off_finish start old new lines ns put held = record {
   came = held.came;
   ordered = held.ordered;
-  text = breaks_flushed lines.form start old new lines.gathered lines.front lines.waiting.items held.came put held.written;
+  text = breaks_flushed lines.form start old new lines.buffer lines.front lines.waiting.items held.came put held.written;
 }

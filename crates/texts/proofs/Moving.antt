@@ -25,10 +25,10 @@ marked_next came front next mark next_is is was k below =
     ]
 
 -- what waits of the front tells its mark and how many entries it has
-pub front_told : (form : Form) (start now : Option (List ℕ)) (gathered : List ℕ) (front : ℕ) (waiting : List Waiting) (came : ℕ → Came) (w : Waiting) (mark : Mark) (count : ℕ)
+pub front_told : (form : Form) (start now : Option (List ℕ)) (buffer : List ℕ) (front : ℕ) (waiting : List Waiting) (came : ℕ → Came) (w : Waiting) (mark : Mark) (count : ℕ)
     → front < length waiting → ((other : Waiting) → (get_or waiting front other).mark ≡ Some mark) → w ≡ get_or waiting front w → count ≡ w.count
-    → AreWritten form start now gathered front waiting came → ((came front).mark ≡ Some mark) × (count ≡ length (came front).entries)
-front_told form start now gathered front waiting came w mark count below marked at is was =
+    → AreWritten form start now buffer front waiting came → ((came front).mark ≡ Some mark) × (count ≡ length (came front).entries)
+front_told form start now buffer front waiting came w mark count below marked at is was =
     let here = was.counted front w (omega arith) below in
     (sym here.mark ∙ marked w, is ∙ ap (λ (v : Waiting). v.count) at ∙ here.count)
 
@@ -43,12 +43,12 @@ ended_more form front next came mark count next_is mark_is counted =
     ∙ sym (texts-next form came front) ∙ ap (ended_texts form came) (sym next_is)
 
 -- the last line of the front went on its way
-pub left_ended : (form : Form) (start old new : Option (List ℕ)) (gathered gathers : List ℕ) (front next : ℕ) (waiting : List Waiting) (came : ℕ → Came) (w : Waiting) (mark : Mark) (count : ℕ)
+pub left_ended : (form : Form) (start old new : Option (List ℕ)) (buffer gathers : List ℕ) (front next : ℕ) (waiting : List Waiting) (came : ℕ → Came) (w : Waiting) (mark : Mark) (count : ℕ)
     → next ≡ front + 1 → front < length waiting → ((other : Waiting) → (get_or waiting front other).mark ≡ Some mark) → w ≡ get_or waiting front w → count ≡ w.count
-    → GoesOn old gathered new gathers (end_in form (front + 1) mark count)
-    → AreWritten form start old gathered front waiting came → AreLeft form start new gathers next waiting came
-left_ended form start old new gathered gathers front next waiting came w mark count next_is below marked at is goes was =
-    let told = front_told form start old gathered front waiting came w mark count below marked at is was in
+    → GoesOn old buffer new gathers (end_in form (front + 1) mark count)
+    → AreWritten form start old buffer front waiting came → AreLeft form start new gathers next waiting came
+left_ended form start old new buffer gathers front next waiting came w mark count next_is below marked at is goes was =
+    let told = front_told form start old buffer front waiting came w mark count below marked at is was in
     record {
       within = omega (arith, below, next_is);
       marked = marked_next came front next mark next_is told.0 was.marked;
@@ -58,11 +58,11 @@ left_ended form start old new gathered gathers front next waiting came w mark co
     }
 
 -- what has come of the front went on its way
-pub written_begun : (form : Form) (start old mid new : Option (List ℕ)) (gathered between gathers : List ℕ) (front : ℕ) (waiting after : List Waiting) (came : ℕ → Came) (lines : List ℕ)
-    → front < length waiting → GoesOn old gathered mid between (head_in form (front + 1))
+pub written_begun : (form : Form) (start old mid new : Option (List ℕ)) (buffer between gathers : List ℕ) (front : ℕ) (waiting after : List Waiting) (came : ℕ → Came) (lines : List ℕ)
+    → front < length waiting → GoesOn old buffer mid between (head_in form (front + 1))
     → ((other : Waiting) → lines ≡ (get_or waiting front other).lines.items) → ChangesAt front IsTaken waiting after → GoesOn mid between new gathers lines
-    → AreLeft form start old gathered front waiting came → AreWritten form start new gathers front after came
-written_begun form start old mid new gathered between gathers front waiting after came lines below head are changed goes was =
+    → AreLeft form start old buffer front waiting came → AreWritten form start new gathers front after came
+written_begun form start old mid new buffer between gathers front waiting after came lines below head are changed goes was =
     let T = ended_texts form came front in
     let H = head_in form (front + 1) in
     let other = some_waiting waiting front below in
@@ -80,9 +80,9 @@ written_begun form start old mid new gathered between gathers front waiting afte
     }
 
 -- there is no file more
-pub written_over : (form : Form) (start now : Option (List ℕ)) (gathered : List ℕ) (front : ℕ) (waiting : List Waiting) (came : ℕ → Came) → length waiting ≤ front
-    → AreLeft form start now gathered front waiting came → AreWritten form start now gathered front waiting came
-written_over form start now gathered front waiting came past was = record {
+pub written_over : (form : Form) (start now : Option (List ℕ)) (buffer : List ℕ) (front : ℕ) (waiting : List Waiting) (came : ℕ → Came) → length waiting ≤ front
+    → AreLeft form start now buffer front waiting came → AreWritten form start now buffer front waiting came
+written_over form start now buffer front waiting came past was = record {
   within = was.within;
   marked = was.marked;
   counted = was.counted;

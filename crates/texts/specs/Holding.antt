@@ -10,11 +10,11 @@ use Rattle.texts.specs.Orders.{IsInOrder}
 use Rattle.texts.specs.Written.{AreWritten, AreLeft, BreaksOff}
 
 -- What the notes tell of each file is in order, and is written or waits. The front, the first file that has not ended, has no mark. And it is known whether all is whole so far.
-pub record HoldsNotes (choice : Choice) (form : Form) (start now : Option (List ℕ)) (gathered : List ℕ) (front : ℕ) (waiting : List Waiting) (whole : Bool) (ns : List Note) : Type 0 where
+pub record HoldsNotes (choice : Choice) (form : Form) (start now : Option (List ℕ)) (buffer : List ℕ) (front : ℕ) (waiting : List Waiting) (whole : Bool) (ns : List Note) : Type 0 where
   pub came : ℕ → Came
   pub told : (file : ℕ) → file < length waiting → IsToldByNotes file ns (came file)
   pub ordered : (file : ℕ) → file < length waiting → IsInOrder choice file (came file)
-  pub written : AreWritten form start now gathered front waiting came
+  pub written : AreWritten form start now buffer front waiting came
   pub unended : front < length waiting → (came front).mark ≡ None
   pub all_whole : (whole ≡ true) ↔ ((file : ℕ) → file < length waiting → IsWholeSoFar (came file))
 
@@ -36,15 +36,15 @@ files_of lines = length lines.waiting.items
 
 -- what came of the files is written or waits, of a sink that had taken `start` and has now taken `now`
 abbrev pub LinesWrite : Option (List ℕ) → Option (List ℕ) → Lines → (ℕ → Came) → Type 0
-LinesWrite start now lines came = AreWritten lines.form start now lines.gathered lines.front lines.waiting.items came
+LinesWrite start now lines came = AreWritten lines.form start now lines.buffer lines.front lines.waiting.items came
 
 -- the same before anything of the first file that has not ended was put on its way
 abbrev pub LinesLeave : Option (List ℕ) → Option (List ℕ) → Lines → (ℕ → Came) → Type 0
-LinesLeave start now lines came = AreLeft lines.form start now lines.gathered lines.front lines.waiting.items came
+LinesLeave start now lines came = AreLeft lines.form start now lines.buffer lines.front lines.waiting.items came
 
 -- what the notes tell is written or waits
 abbrev pub LinesHold : Option (List ℕ) → Option (List ℕ) → Lines → List Note → Type 0
-LinesHold start now lines ns = HoldsNotes lines.choice lines.form start now lines.gathered lines.front lines.waiting.items lines.whole ns
+LinesHold start now lines ns = HoldsNotes lines.choice lines.form start now lines.buffer lines.front lines.waiting.items lines.whole ns
 
 -- the text was left off
 abbrev pub LinesLeaveOff : Option (List ℕ) → Option (List ℕ) → Lines → Type 0

@@ -51,20 +51,20 @@ pub record IsCounted (waiting : Waiting) (came : Came) : Type 0 where
   pub mark : waiting.mark ≡ came.mark
 
 -- The texts of the files before the front are on their way, and then what has come of the front. What has come of the files behind it waits.
-pub record AreWritten (form : Form) (start now : Option (List ℕ)) (gathered : List ℕ) (front : ℕ) (waiting : List Waiting) (came : ℕ → Came) : Type 0 where
+pub record AreWritten (form : Form) (start now : Option (List ℕ)) (buffer : List ℕ) (front : ℕ) (waiting : List Waiting) (came : ℕ → Came) : Type 0 where
   pub within : front ≤ length waiting
   pub marked : (file : ℕ) → file < front → HasMark (came file)
   pub counted : (file : ℕ) (other : Waiting) → front ≤ file → file < length waiting → IsCounted (slice_index_or waiting file other) (came file)
   pub lines : (file : ℕ) (other : Waiting) → front < file → file < length waiting
       → (slice_index_or waiting file other).lines.items ≡ lines_in form (came file).entries
-  pub going : front < length waiting → IsOnItsWay start now gathered (ended_texts form came front ++ begun form front (came front))
-  pub over : length waiting ≤ front → IsOnItsWay start now gathered (ended_texts form came front)
+  pub going : front < length waiting → IsOnItsWay start now buffer (ended_texts form came front ++ begun form front (came front))
+  pub over : length waiting ≤ front → IsOnItsWay start now buffer (ended_texts form came front)
 
 -- The same before anything of the front was put on its way: what has come of it still waits.
-pub record AreLeft (form : Form) (start now : Option (List ℕ)) (gathered : List ℕ) (front : ℕ) (waiting : List Waiting) (came : ℕ → Came) : Type 0 where
+pub record AreLeft (form : Form) (start now : Option (List ℕ)) (buffer : List ℕ) (front : ℕ) (waiting : List Waiting) (came : ℕ → Came) : Type 0 where
   pub within : front ≤ length waiting
   pub marked : (file : ℕ) → file < front → HasMark (came file)
   pub counted : (file : ℕ) (other : Waiting) → front ≤ file → file < length waiting → IsCounted (slice_index_or waiting file other) (came file)
   pub lines : (file : ℕ) (other : Waiting) → front ≤ file → file < length waiting
       → (slice_index_or waiting file other).lines.items ≡ lines_in form (came file).entries
-  pub text : IsOnItsWay start now gathered (ended_texts form came front)
+  pub text : IsOnItsWay start now buffer (ended_texts form came front)

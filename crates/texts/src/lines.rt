@@ -17,14 +17,14 @@ ghost use Rattle.texts.specs.Holding.{form_of, choice_of, files_of, LinesWrite, 
 ghost use Rattle.texts.specs.Whole.{HaveFiles, IsAllWritten};
 
 use crate::refusal::Refusal;
-use crate::waiting::{Waiting, count_one, keep_line, keep_mark, nothing, take_lines};
+use crate::waiting::{Waiting, count_one, keep_line, keep_mark, none_come, take_lines};
 use crate::writing::{put, put_end, put_head};
 use choices::Choice;
 use planar_code::{Ending, MAX_RECORDS};
 use printing::{Printed, head_text, lacking_text};
 use reports::Form;
 use std::alloc::{AllocError, Global};
-use streams::{Gathered, Mark, Sink, WriteFault};
+use streams::{Mark, Sink, TextBuffer, WriteFault};
 
 /// The lines of a run on their way to a sink, file after file. A line of the first file that has not ended
 /// is copied once, into a fixed buffer, and takes no memory; the lines of each later file wait until its turn.
@@ -33,10 +33,10 @@ pub struct Lines {
     form: Form,
     /// How the outer faces are chosen.
     choice: Choice,
-    gathered: Gathered,
+    buffer: TextBuffer,
     /// The first file that has not ended.
     front: u32,
-    /// What waits of each file.
+    /// What has come of each file.
     waiting: Vec<Waiting>,
     /// Whether no entry so far lacks an answer or its line, and each file that has ended is complete.
     whole: bool,
@@ -55,15 +55,15 @@ impl Lines {
         ensures choice { IfOk result (λ lines. choice_of lines ≡ choice) }
         ensures files { IfOk result (λ lines. files_of lines ≡ files) }
     {
-        let waiting = nothing(alloc, files)?;
-        let mut gathered = Gathered::new();
+        let waiting = none_come(alloc, files)?;
+        let mut buffer = TextBuffer::new();
         if files > 0 {
-            gathered.push(head_text(alloc, form, 0)?.as_slice());
+            buffer.push(head_text(alloc, form, 0)?.as_slice());
         }
         Ok(Lines {
             form,
             choice,
-            gathered,
+            buffer,
             front: 0,
             waiting,
             whole: true,
@@ -154,11 +154,11 @@ impl Lines {
         ensures write { (result ≡ Err WriteFault.Write) ↔ (S.failed sink.new ≡ true) }
         ensures memory { result ≢ Err WriteFault.Memory }
     {
-        self.gathered.flush(sink)?;
+        self.buffer.flush(sink)?;
         Ok(if self.whole { 0 } else { 3 })
     }
 
-    /// Whether a file is one of the run and has not ended, as far as that is written.
+    /// Whether a file is one of the run and its last line is not on its way yet.
     fn is_open(&self, file: u32) -> bool
         ensures { IsTrue result ↔ ((self.now.front ≤ file) × (file < length self.now.waiting.items)) }
     {
@@ -194,7 +194,7 @@ impl Lines {
     {
         count_one(&mut self.waiting, file)?;
         if file == self.front {
-            put(&mut self.gathered, sink, line)
+            put(&mut self.buffer, sink, line)
         } else {
             keep_line(&mut self.waiting, file, line)
         }
@@ -288,7 +288,7 @@ impl Lines {
         let count = self.waiting[self.front as usize].count;
         put_end(
             alloc,
-            &mut self.gathered,
+            &mut self.buffer,
             sink,
             self.form,
             self.front,
@@ -315,9 +315,9 @@ impl Lines {
         ensures gave_up { IfErr result (λ refusal. GivesUp (S.failed sink.new) refusal) }
         ensures same { StandAt self.old self.new }
     {
-        put_head(alloc, &mut self.gathered, sink, self.form, self.front)?;
+        put_head(alloc, &mut self.buffer, sink, self.form, self.front)?;
         let lines = take_lines(alloc, &mut self.waiting, self.front);
-        put(&mut self.gathered, sink, lines.as_slice())
+        put(&mut self.buffer, sink, lines.as_slice())
     }
 }
 

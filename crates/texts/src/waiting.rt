@@ -9,7 +9,7 @@ use std::alloc::{AllocError, Global};
 use std::mem;
 use streams::Mark;
 
-/// What waits of a file.
+/// What has come of a file.
 #[derive(Drop)]
 pub struct Waiting {
     /// The lines of its entries, as long as its turn has not come.
@@ -20,8 +20,8 @@ pub struct Waiting {
     pub mark: Option<Mark>,
 }
 
-/// Nothing waits of so many files.
-pub(crate) fn nothing(alloc: Global, files: u32) -> Result<Vec<Waiting>, AllocError>
+/// For each of so many files, that nothing has come of it.
+pub(crate) fn none_come(alloc: Global, files: u32) -> Result<Vec<Waiting>, AllocError>
     ensures count { IfOk result (λ waiting. length waiting.items ≡ files) }
     ensures empty { IfOk result (λ waiting. All IsNothing waiting.items) }
 {

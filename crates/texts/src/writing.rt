@@ -7,21 +7,21 @@ use crate::refusal::Refusal;
 use printing::{end_text, head_text};
 use reports::{Form, push_line};
 use std::alloc::Global;
-use streams::{Gathered, Mark, Sink};
+use streams::{Mark, Sink, TextBuffer};
 
 /// Puts a text on its way.
 pub(crate) fn put<S: Sink>(
-    gathered: &mut Gathered,
+    buffer: &mut TextBuffer,
     sink: &mut S,
     text: &[u8],
 ) -> Result<(), Refusal>
     requires { S.failed sink.old ≡ false }
-    ensures put { OnOk result (GoesOn (S.taken sink.old) gathered.old (S.taken sink.new) gathered.new text.now) }
-    ensures broken { OnErr result (BreaksIn (S.taken sink.old) gathered.old (S.taken sink.new) text.now) }
+    ensures put { OnOk result (GoesOn (S.taken sink.old) buffer.old (S.taken sink.new) buffer.new text.now) }
+    ensures broken { OnErr result (BreaksIn (S.taken sink.old) buffer.old (S.taken sink.new) text.now) }
     ensures stands { OnOk result (S.failed sink.new ≡ false) }
     ensures gave_up { IfErr result (λ refusal. GivesUp (S.failed sink.new) refusal) }
 {
-    match push_line(gathered, sink, text) {
+    match push_line(buffer, sink, text) {
         Ok(()) => Ok(()),
         Err(_) => Err(Refusal::Write),
     }
@@ -30,19 +30,19 @@ pub(crate) fn put<S: Sink>(
 /// Puts what stands before the lines of a file on its way.
 pub(crate) fn put_head<S: Sink>(
     alloc: Global,
-    gathered: &mut Gathered,
+    buffer: &mut TextBuffer,
     sink: &mut S,
     form: Form,
     file: u32,
 ) -> Result<(), Refusal>
     requires { S.failed sink.old ≡ false }
-    ensures put { OnOk result (GoesOn (S.taken sink.old) gathered.old (S.taken sink.new) gathered.new (head_in form (file + 1))) }
-    ensures broken { OnErr result (BreaksIn (S.taken sink.old) gathered.old (S.taken sink.new) (head_in form (file + 1))) }
+    ensures put { OnOk result (GoesOn (S.taken sink.old) buffer.old (S.taken sink.new) buffer.new (head_in form (file + 1))) }
+    ensures broken { OnErr result (BreaksIn (S.taken sink.old) buffer.old (S.taken sink.new) (head_in form (file + 1))) }
     ensures stands { OnOk result (S.failed sink.new ≡ false) }
     ensures gave_up { IfErr result (λ refusal. GivesUp (S.failed sink.new) refusal) }
 {
     match head_text(alloc, form, file) {
-        Ok(text) => put(gathered, sink, text.as_slice()),
+        Ok(text) => put(buffer, sink, text.as_slice()),
         Err(_) => Err(Refusal::Memory),
     }
 }
@@ -50,7 +50,7 @@ pub(crate) fn put_head<S: Sink>(
 /// Puts the last line of a file on its way.
 pub(crate) fn put_end<S: Sink>(
     alloc: Global,
-    gathered: &mut Gathered,
+    buffer: &mut TextBuffer,
     sink: &mut S,
     form: Form,
     file: u32,
@@ -58,13 +58,13 @@ pub(crate) fn put_end<S: Sink>(
     count: u32,
 ) -> Result<(), Refusal>
     requires { S.failed sink.old ≡ false }
-    ensures put { OnOk result (GoesOn (S.taken sink.old) gathered.old (S.taken sink.new) gathered.new (end_in form (file + 1) mark count)) }
-    ensures broken { OnErr result (BreaksIn (S.taken sink.old) gathered.old (S.taken sink.new) (end_in form (file + 1) mark count)) }
+    ensures put { OnOk result (GoesOn (S.taken sink.old) buffer.old (S.taken sink.new) buffer.new (end_in form (file + 1) mark count)) }
+    ensures broken { OnErr result (BreaksIn (S.taken sink.old) buffer.old (S.taken sink.new) (end_in form (file + 1) mark count)) }
     ensures stands { OnOk result (S.failed sink.new ≡ false) }
     ensures gave_up { IfErr result (λ refusal. GivesUp (S.failed sink.new) refusal) }
 {
     match end_text(alloc, form, file, mark, count) {
-        Ok(text) => put(gathered, sink, text.as_slice()),
+        Ok(text) => put(buffer, sink, text.as_slice()),
         Err(_) => Err(Refusal::Memory),
     }
 }

@@ -4,6 +4,6 @@ use Rattle.compact.proofs.rows.raise_rows.Given as goal
 
 abbrev pub invariant-loop-at : goal.invariant-loop-at
 invariant-loop-at l = record {
-  under : StayUnderAll (length l.fn.numbers) (step l.steps.around.now l.steps.ahead) (step l.steps.around.now l.steps.up) (step l.steps.around.now l.steps.down) l.fn.numbers l.numbers;
+  under : StayUnderAll (length l.fn.numbers) (step l.steps.around.now l.steps.ahead) (step l.steps.around.now l.steps.left) (step l.steps.around.now l.steps.right) l.fn.numbers l.numbers;
   count : length l.numbers ≡ length l.fn.numbers;
 }

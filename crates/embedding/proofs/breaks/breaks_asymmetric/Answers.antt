@@ -14,15 +14,15 @@ returns-then-lacks_pair c =
     let small : length g < 256 = omega (arith, c.count-place-end.ensures.count) in
     let has : HasLists g (length g) c.loop-place.pairs.words =
     subst (λ (n : ℕ). HasLists g n c.loop-place.pairs.words) (sym size) c.loop-place.invariant in
-    let lacks : Any (λ v. HasPair c.loop-place.pairs.words v (c.loop-vertex.vertex + 1) → ⊥) (get_or g c.loop-vertex.vertex []) =
-    subst (λ (l : List ℕ). Any (λ v. HasPair c.loop-place.pairs.words v (c.loop-vertex.vertex + 1) → ⊥) l) c.at-in-loop-vertex.ensures.value (c.lacks_pair.ensures.0 c.if-lacks_pair.true) in
-    yes_is (lacks_breaks g c.loop-place.pairs.words c.loop-vertex.vertex c.count-place-end.ensures.each small (omega (arith, c.count-vertex-end.ensures.count)) has lacks)
+    let lacks : Any (λ v. HasPair c.loop-place.pairs.words v (c.loop-place-2.place + 1) → ⊥) (get_or g c.loop-place-2.place []) =
+    subst (λ (l : List ℕ). Any (λ v. HasPair c.loop-place.pairs.words v (c.loop-place-2.place + 1) → ⊥) l) c.at-in-loop-place-2.ensures.value (c.lacks_pair.ensures.0 c.if-lacks_pair.true) in
+    yes_is (lacks_breaks g c.loop-place.pairs.words c.loop-place-2.place c.count-place-end.ensures.each small (omega (arith, c.count-place-end-2.ensures.count)) has lacks)
 
-pub loop-vertex-preserved : goal.loop-vertex-preserved
-loop-vertex-preserved c =
+pub loop-place-2-preserved : goal.loop-place-2-preserved
+loop-place-2-preserved c =
     let g = c.args.lists.now in
-    below_more _ _ c.loop-vertex.invariant
-    (λ any. iff_false c.lacks_pair.ensures c.if-lacks_pair.false (subst (λ (l : List ℕ). Any (λ v. HasPair c.loop-place.pairs.words v (c.loop-vertex.vertex + 1) → ⊥) l) (sym c.at-in-loop-vertex.ensures.value) any))
+    below_more _ _ c.loop-place-2.invariant
+    (λ any. iff_false c.lacks_pair.ensures c.if-lacks_pair.false (subst (λ (l : List ℕ). Any (λ v. HasPair c.loop-place.pairs.words v (c.loop-place-2.place + 1) → ⊥) l) (sym c.at-in-loop-place-2.ensures.value) any))
 
 pub returns : goal.returns
 returns c =
@@ -32,4 +32,4 @@ returns c =
     let small : length g < 256 = omega (arith, c.count-place-end.ensures.count) in
     let has : HasLists g (length g) c.loop-place.pairs.words =
     subst (λ (n : ℕ). HasLists g n c.loop-place.pairs.words) (sym size) c.loop-place.invariant in
-    no_is (lacks_none g c.loop-place.pairs.words c.count-place-end.ensures.each small has (λ k below. c.loop-vertex.invariant k (omega (arith, c.count-vertex-end.ensures.count, c.loop-vertex-test.false))))
+    no_is (lacks_none g c.loop-place.pairs.words c.count-place-end.ensures.each small has (λ k below. c.loop-place-2.invariant k (omega (arith, c.count-place-end-2.ensures.count, c.loop-place-2-test.false))))

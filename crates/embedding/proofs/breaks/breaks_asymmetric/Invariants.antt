@@ -8,6 +8,6 @@ use Rattle.embedding.proofs.breaks.breaks_asymmetric.Given as goal
 abbrev pub invariant-loop-place : goal.invariant-loop-place
 invariant-loop-place l = HasLists l.lists l.place l.pairs.words
 
-abbrev pub invariant-loop-vertex : goal.invariant-loop-vertex
-invariant-loop-vertex l =
-    (k : ℕ) → k < l.vertex → Any (λ v. HasPair l.pairs.words v (k + 1) → ⊥) (get_or l.lists k []) → ⊥
+abbrev pub invariant-loop-place-2 : goal.invariant-loop-place-2
+invariant-loop-place-2 l =
+    (k : ℕ) → k < l.place → Any (λ v. HasPair l.pairs.words v (k + 1) → ⊥) (get_or l.lists k []) → ⊥

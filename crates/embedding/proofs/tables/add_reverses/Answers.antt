@@ -18,8 +18,8 @@ loop-head-preserved c =
     stands_at 1 g (first_dart g c.args.place + i) c.args.place i c.requires.within inside refl in
     let head : head_of g (first_dart g c.args.place + i) ≡ get_or c.at-head-items.result.now i 0 =
     s.head ∙ ap (λ (l : List ℕ). get_or l i 0) (sym c.at-head-items.ensures.value) in
-    let is = c.opposite.ensures (first_dart g c.args.place + i) (stands_below g c.args.place i c.requires.within inside) (s.tail ∙ omega arith) head in
-    rw c.in_ok-push.ensures.items (table_push _ (reverse_of g) _ c.opposite.result _ (omega arith) is c.loop-head.invariant)
+    let is = c.reverse_between.ensures (first_dart g c.args.place + i) (stands_below g c.args.place i c.requires.within inside) (s.tail ∙ omega arith) head in
+    rw c.in_ok-push.ensures.items (table_push _ (reverse_of g) _ c.reverse_between.result _ (omega arith) is c.loop-head.invariant)
 
 pub returns : goal.returns
 returns c =

@@ -3,4 +3,4 @@ use Rattle.embedding.specs.Darts.{heads}
 use Rattle.embedding.proofs.tables.heads_in.Given as goal
 
 abbrev pub invariant-loop-place : goal.invariant-loop-place
-invariant-loop-place l = l.ends.items ≡ heads (take l.place l.lists)
+invariant-loop-place l = l.heads.items ≡ heads (take l.place l.lists)

@@ -35,9 +35,9 @@ loop-preserved-in-Ok-end g c =
 pub returns-then-not-contains-clause-stopped : goal.returns-then-not-contains-clause-stopped
 returns-then-not-contains-clause-stopped g c =
     let about = g.E.Numbered.about in
-    all_stopped about _ (λ y. beq y false ≡ false) (λ e. true≢false e) _ _ (omega (arith, c.deref.ensures.len, c.note_stop.ensures.count, c.loop.invariant.lanes)) c.if-not-contains.ensures.cases
+    all_stopped about _ (λ y. beq y false ≡ false) (λ e. true≢false e) _ _ (omega (arith, c.deref.ensures.len, c.set_stopped.ensures.count, c.loop.invariant.lanes)) c.if-not-contains.ensures.cases
     (subst (AreStops about _) (sym c.deref.ensures.value)
-    (stop_noted about _ _ _ _ _ c.in-Ok-default-Stop.ensures.ok c.in-Ok-default-Stop.field-0-1-is c.note_stop.ensures.noted c.loop.invariant.stops))
+    (stop_noted about _ _ _ _ _ c.in-Ok-default-Stop.ensures.ok c.in-Ok-default-Stop.field-0-1-is c.set_stopped.ensures.noted c.loop.invariant.stops))
 
 pub returns-then-not-contains-clause-told : goal.returns-then-not-contains-clause-told
 returns-then-not-contains-clause-told g c =
@@ -50,9 +50,9 @@ pub loop-preserved : goal.loop-preserved
 loop-preserved g c =
     let about = g.E.Numbered.about in
     record {
-      lanes = c.note_stop.ensures.count ∙ c.loop.invariant.lanes;
+      lanes = c.set_stopped.ensures.count ∙ c.loop.invariant.lanes;
       fan = c.take.ensures.fan ∙ c.loop.invariant.fan;
-      stops = stop_noted about _ _ _ _ _ c.in-Ok-default-Stop.ensures.ok c.in-Ok-default-Stop.field-0-1-is c.note_stop.ensures.noted c.loop.invariant.stops;
+      stops = stop_noted about _ _ _ _ _ c.in-Ok-default-Stop.ensures.ok c.in-Ok-default-Stop.field-0-1-is c.set_stopped.ensures.noted c.loop.invariant.stops;
       told = subst (g.C.Consumer.holds c.loop.consumer)
           (sym (told_more about _ _ _ Stop c.in-Ok-default-Stop.ensures.ok (ap (note about) c.in-Ok-default-Stop.field-0-1-is)))
           (g.met.C.Consumer.holds_on _ _ c.loop.invariant.told);

@@ -11,19 +11,19 @@ use Rattle.min_cost_flow.proofs.augment.send.Goals as goal
 
 pub start_of-last-requires-clause-reverse : goal.start_of-last-requires-clause-reverse
 start_of-last-requires-clause-reverse c =
-    let net = c.args.layout.network.now in
-    let first = c.args.layout.first.now in
-    let reverse = c.args.layout.reverse.now in
-    let forward = c.args.layout.forward.now in
+    let net = c.args.residual.network.now in
+    let first = c.args.residual.first.now in
+    let reverse = c.args.residual.reverse.now in
+    let forward = c.args.residual.forward.now in
     let h = c.requires.path in
     omega (arith, reverse_below net first reverse forward h.last c.args.found c.requires.network c.requires.laid_out (h.node h.last h.member) h.step.leaves, c.requires.filled.arc_size)
 
 pub narrow-init : goal.narrow-init
 narrow-init c =
-    let net = c.args.layout.network.now in
-    let first = c.args.layout.first.now in
-    let reverse = c.args.layout.reverse.now in
-    let forward = c.args.layout.forward.now in
+    let net = c.args.residual.network.now in
+    let first = c.args.residual.first.now in
+    let reverse = c.args.residual.reverse.now in
+    let forward = c.args.residual.forward.now in
     let arcs = c.args.arcs.now in
     let room = c.args.room.now in
     let p = at_nodes c.args.potential.now in
@@ -61,10 +61,10 @@ bounds-place-node-in-along c =
 
 pub bounds-room-number : goal.bounds-room-number
 bounds-room-number c =
-    let net = c.args.layout.network.now in
-    let first = c.args.layout.first.now in
-    let reverse = c.args.layout.reverse.now in
-    let forward = c.args.layout.forward.now in
+    let net = c.args.residual.network.now in
+    let first = c.args.residual.first.now in
+    let reverse = c.args.residual.reverse.now in
+    let forward = c.args.residual.forward.now in
     let arcs = c.args.arcs.now in
     let room = c.args.room.now in
     let p = at_nodes c.args.potential.now in
@@ -77,10 +77,10 @@ bounds-room-number c =
 
 pub start_of-node-requires-clause-number : goal.start_of-node-requires-clause-number
 start_of-node-requires-clause-number c =
-    let net = c.args.layout.network.now in
-    let first = c.args.layout.first.now in
-    let reverse = c.args.layout.reverse.now in
-    let forward = c.args.layout.forward.now in
+    let net = c.args.residual.network.now in
+    let first = c.args.residual.first.now in
+    let reverse = c.args.residual.reverse.now in
+    let forward = c.args.residual.forward.now in
     let arcs = c.args.arcs.now in
     let room = c.args.room.now in
     let p = at_nodes c.args.potential.now in
@@ -93,10 +93,10 @@ start_of-node-requires-clause-number c =
 
 pub start_of-node-requires-clause-reverse : goal.start_of-node-requires-clause-reverse
 start_of-node-requires-clause-reverse c =
-    let net = c.args.layout.network.now in
-    let first = c.args.layout.first.now in
-    let reverse = c.args.layout.reverse.now in
-    let forward = c.args.layout.forward.now in
+    let net = c.args.residual.network.now in
+    let first = c.args.residual.first.now in
+    let reverse = c.args.residual.reverse.now in
+    let forward = c.args.residual.forward.now in
     let arcs = c.args.arcs.now in
     let room = c.args.room.now in
     let p = at_nodes c.args.potential.now in
@@ -109,10 +109,10 @@ start_of-node-requires-clause-reverse c =
 
 pub narrow-smaller : goal.narrow-smaller
 narrow-smaller c =
-    let net = c.args.layout.network.now in
-    let first = c.args.layout.first.now in
-    let reverse = c.args.layout.reverse.now in
-    let forward = c.args.layout.forward.now in
+    let net = c.args.residual.network.now in
+    let first = c.args.residual.first.now in
+    let reverse = c.args.residual.reverse.now in
+    let forward = c.args.residual.forward.now in
     let arcs = c.args.arcs.now in
     let room = c.args.room.now in
     let p = at_nodes c.args.potential.now in
@@ -126,10 +126,10 @@ narrow-smaller c =
 
 pub narrow-preserved : goal.narrow-preserved
 narrow-preserved c =
-    let net = c.args.layout.network.now in
-    let first = c.args.layout.first.now in
-    let reverse = c.args.layout.reverse.now in
-    let forward = c.args.layout.forward.now in
+    let net = c.args.residual.network.now in
+    let first = c.args.residual.first.now in
+    let reverse = c.args.residual.reverse.now in
+    let forward = c.args.residual.forward.now in
     let arcs = c.args.arcs.now in
     let room = c.args.room.now in
     let p = at_nodes c.args.potential.now in
@@ -171,10 +171,10 @@ push-requires-clause-fits c =
 
 pub along-init : goal.along-init
 along-init c =
-    let net = c.args.layout.network.now in
-    let first = c.args.layout.first.now in
-    let reverse = c.args.layout.reverse.now in
-    let forward = c.args.layout.forward.now in
+    let net = c.args.residual.network.now in
+    let first = c.args.residual.first.now in
+    let reverse = c.args.residual.reverse.now in
+    let forward = c.args.residual.forward.now in
     let arcs = c.args.arcs.now in
     let room = c.args.room.now in
     let p = at_nodes c.args.potential.now in
@@ -208,10 +208,10 @@ push-requires-in-along-clause-filled c =
 
 pub push-requires-in-along-clause-number : goal.push-requires-in-along-clause-number
 push-requires-in-along-clause-number c =
-    let net = c.args.layout.network.now in
-    let first = c.args.layout.first.now in
-    let reverse = c.args.layout.reverse.now in
-    let forward = c.args.layout.forward.now in
+    let net = c.args.residual.network.now in
+    let first = c.args.residual.first.now in
+    let reverse = c.args.residual.reverse.now in
+    let forward = c.args.residual.forward.now in
     let arcs = c.args.arcs.now in
     let room = c.args.room.now in
     let p = at_nodes c.args.potential.now in
@@ -228,10 +228,10 @@ push-requires-in-along-clause-some c =
 
 pub push-requires-in-along-clause-fits : goal.push-requires-in-along-clause-fits
 push-requires-in-along-clause-fits c =
-    let net = c.args.layout.network.now in
-    let first = c.args.layout.first.now in
-    let reverse = c.args.layout.reverse.now in
-    let forward = c.args.layout.forward.now in
+    let net = c.args.residual.network.now in
+    let first = c.args.residual.first.now in
+    let reverse = c.args.residual.reverse.now in
+    let forward = c.args.residual.forward.now in
     let arcs = c.args.arcs.now in
     let room = c.args.room.now in
     let p = at_nodes c.args.potential.now in
@@ -249,10 +249,10 @@ push-requires-in-along-clause-fits c =
 
 pub start_of-node-requires-in-along-clause-number : goal.start_of-node-requires-in-along-clause-number
 start_of-node-requires-in-along-clause-number c =
-    let net = c.args.layout.network.now in
-    let first = c.args.layout.first.now in
-    let reverse = c.args.layout.reverse.now in
-    let forward = c.args.layout.forward.now in
+    let net = c.args.residual.network.now in
+    let first = c.args.residual.first.now in
+    let reverse = c.args.residual.reverse.now in
+    let forward = c.args.residual.forward.now in
     let arcs = c.args.arcs.now in
     let room = c.args.room.now in
     let p = at_nodes c.args.potential.now in
@@ -265,10 +265,10 @@ start_of-node-requires-in-along-clause-number c =
 
 pub start_of-node-requires-in-along-clause-reverse : goal.start_of-node-requires-in-along-clause-reverse
 start_of-node-requires-in-along-clause-reverse c =
-    let net = c.args.layout.network.now in
-    let first = c.args.layout.first.now in
-    let reverse = c.args.layout.reverse.now in
-    let forward = c.args.layout.forward.now in
+    let net = c.args.residual.network.now in
+    let first = c.args.residual.first.now in
+    let reverse = c.args.residual.reverse.now in
+    let forward = c.args.residual.forward.now in
     let arcs = c.args.arcs.now in
     let room = c.args.room.now in
     let p = at_nodes c.args.potential.now in
@@ -281,10 +281,10 @@ start_of-node-requires-in-along-clause-reverse c =
 
 pub along-smaller : goal.along-smaller
 along-smaller c =
-    let net = c.args.layout.network.now in
-    let first = c.args.layout.first.now in
-    let reverse = c.args.layout.reverse.now in
-    let forward = c.args.layout.forward.now in
+    let net = c.args.residual.network.now in
+    let first = c.args.residual.first.now in
+    let reverse = c.args.residual.reverse.now in
+    let forward = c.args.residual.forward.now in
     let arcs = c.args.arcs.now in
     let room = c.args.room.now in
     let p = at_nodes c.args.potential.now in
@@ -299,10 +299,10 @@ along-smaller c =
 
 pub along-preserved : goal.along-preserved
 along-preserved c =
-    let net = c.args.layout.network.now in
-    let first = c.args.layout.first.now in
-    let reverse = c.args.layout.reverse.now in
-    let forward = c.args.layout.forward.now in
+    let net = c.args.residual.network.now in
+    let first = c.args.residual.first.now in
+    let reverse = c.args.residual.reverse.now in
+    let forward = c.args.residual.forward.now in
     let arcs = c.args.arcs.now in
     let room = c.args.room.now in
     let p = at_nodes c.args.potential.now in
@@ -347,9 +347,9 @@ returns-clause-filled c =
 
 pub returns-clause-round : goal.returns-clause-round
 returns-clause-round c =
-    let net = c.args.layout.network.now in
-    let reverse = c.args.layout.reverse.now in
-    let forward = c.args.layout.forward.now in
+    let net = c.args.residual.network.now in
+    let reverse = c.args.residual.reverse.now in
+    let forward = c.args.residual.forward.now in
     let arcs = c.args.arcs.now in
     let room = c.args.room.now in
     let p = at_nodes c.args.potential.now in
@@ -373,9 +373,9 @@ returns-clause-round c =
 
 pub returns-clause-less : goal.returns-clause-less
 returns-clause-less c =
-    let net = c.args.layout.network.now in
-    let reverse = c.args.layout.reverse.now in
-    let forward = c.args.layout.forward.now in
+    let net = c.args.residual.network.now in
+    let reverse = c.args.residual.reverse.now in
+    let forward = c.args.residual.forward.now in
     let arcs = c.args.arcs.now in
     let room = c.args.room.now in
     let place = numbers c.args.place.now in

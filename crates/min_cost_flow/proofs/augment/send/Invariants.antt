@@ -9,13 +9,13 @@ use Rattle.min_cost_flow.proofs.augment.send.Given as goal
 
 abbrev pub invariant-narrow : goal.invariant-narrow
 invariant-narrow l = record {
-  node : l.node < node_count l.fn.layout.network.now;
-  narrowed : IsNarrowed (next_of l.fn.layout.reverse.now l.fn.arcs l.fn.enter) (numbers l.fn.place) (room_into l.fn.room l.fn.enter) l.last l.node l.amount;
+  node : l.node < node_count l.fn.residual.network.now;
+  narrowed : IsNarrowed (next_of l.fn.residual.reverse.now l.fn.arcs l.fn.enter) (numbers l.fn.place) (room_into l.fn.room l.fn.enter) l.last l.node l.amount;
   some : 0 < l.amount;
   found : l.amount ≤ numbers l.fn.room l.fn.found;
   left : pos l.amount ≤ℤ at_nodes l.fn.excess l.fn.source;
   short : (at_nodes l.fn.excess l.target +ℤ pos l.amount) ≤ℤ pos 0;
-  on : (h : HasPath (node_count l.fn.layout.network.now) l.fn.layout.first.now l.fn.arcs (at_nodes l.fn.potential) (numbers l.fn.enter) (numbers l.fn.place) l.fn.source l.fn.found) → h.on l.node ≡ true;
+  on : (h : HasPath (node_count l.fn.residual.network.now) l.fn.residual.first.now l.fn.arcs (at_nodes l.fn.potential) (numbers l.fn.enter) (numbers l.fn.place) l.fn.source l.fn.found) → h.on l.node ≡ true;
 }
 
 abbrev pub decreases-narrow : goal.decreases-narrow
@@ -23,13 +23,13 @@ decreases-narrow l = numbers l.place l.node
 
 abbrev pub invariant-along : goal.invariant-along
 invariant-along l = record {
-  node : l.node < node_count l.fn.layout.network.now;
-  filled : IsFilled l.fn.layout.network.now l.fn.layout.reverse.now l.fn.layout.forward.now l.arcs l.room;
+  node : l.node < node_count l.fn.residual.network.now;
+  filled : IsFilled l.fn.residual.network.now l.fn.residual.reverse.now l.fn.residual.forward.now l.arcs l.room;
   ends : (k : ℕ) → end_at l.arcs k ≡ end_at l.fn.arcs k;
-  on : (h : HasPath (node_count l.fn.layout.network.now) l.fn.layout.first.now l.fn.arcs (at_nodes l.fn.potential) (numbers l.fn.enter) (numbers l.fn.place) l.fn.source l.fn.found) → h.on l.node ≡ true;
-  way : IsOnWay (next_of l.fn.layout.reverse.now l.fn.arcs l.fn.enter) (numbers l.fn.place) (end_at l.fn.arcs (numbers l.fn.layout.reverse.now l.fn.found)) l.node;
-  sending : (h : HasPath (node_count l.fn.layout.network.now) l.fn.layout.first.now l.fn.arcs (at_nodes l.fn.potential) (numbers l.fn.enter) (numbers l.fn.place) l.fn.source l.fn.found) →
-      IsSending l.fn.layout.network.now (at_nodes l.fn.potential) (at_nodes l.excess) h.on (numbers l.fn.place) (carried l.fn.layout.reverse.now l.fn.layout.forward.now l.fn.room) (carried l.fn.layout.reverse.now l.fn.layout.forward.now l.room) l.node l.amount (carrying l.fn.layout.network.now (carried l.fn.layout.reverse.now l.fn.layout.forward.now l.fn.room) + numbers l.fn.place (end_at l.fn.arcs (numbers l.fn.layout.reverse.now l.fn.found)) + 1);
+  on : (h : HasPath (node_count l.fn.residual.network.now) l.fn.residual.first.now l.fn.arcs (at_nodes l.fn.potential) (numbers l.fn.enter) (numbers l.fn.place) l.fn.source l.fn.found) → h.on l.node ≡ true;
+  way : IsOnWay (next_of l.fn.residual.reverse.now l.fn.arcs l.fn.enter) (numbers l.fn.place) (end_at l.fn.arcs (numbers l.fn.residual.reverse.now l.fn.found)) l.node;
+  sending : (h : HasPath (node_count l.fn.residual.network.now) l.fn.residual.first.now l.fn.arcs (at_nodes l.fn.potential) (numbers l.fn.enter) (numbers l.fn.place) l.fn.source l.fn.found) →
+      IsSending l.fn.residual.network.now (at_nodes l.fn.potential) (at_nodes l.excess) h.on (numbers l.fn.place) (carried l.fn.residual.reverse.now l.fn.residual.forward.now l.fn.room) (carried l.fn.residual.reverse.now l.fn.residual.forward.now l.room) l.node l.amount (carrying l.fn.residual.network.now (carried l.fn.residual.reverse.now l.fn.residual.forward.now l.fn.room) + numbers l.fn.place (end_at l.fn.arcs (numbers l.fn.residual.reverse.now l.fn.found)) + 1);
 }
 
 abbrev pub decreases-along : goal.decreases-along

@@ -60,7 +60,7 @@ returns-then-has_deficit c =
       round = λ h. cc;
       blank = λ h. cc;
       sent = λ h. cc;
-      no_flow = λ _. no_flow_wanting c.args.layout.network.now _ (at_nodes c.units.excess) u c.requires.network.ends c.units.invariant.round.leaves (over_none c.units.excess _ c.args.source c.units.invariant.others (is_no_more _ _ f c.units-test.false)) (omega arith) under;
+      no_flow = λ _. no_flow_wanting c.args.residual.network.now _ (at_nodes c.units.excess) u c.requires.network.ends c.units.invariant.round.leaves (over_none c.units.excess _ c.args.source c.units.invariant.others (is_no_more _ _ f c.units-test.false)) (omega arith) under;
     }
 
 pub returns : goal.returns

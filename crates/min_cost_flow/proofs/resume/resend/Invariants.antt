@@ -9,11 +9,11 @@ use Rattle.min_cost_flow.proofs.resume.resend.Given as goal
 
 abbrev pub invariant-units : goal.invariant-units
 invariant-units l = record {
-  filled : IsFilled l.layout.network.now l.layout.reverse.now l.layout.forward.now l.arcs l.room;
-  round : IsRound l.layout.network.now (carried l.layout.reverse.now l.layout.forward.now l.room) (at_nodes l.potential) (at_nodes l.excess);
-  blank : (v : ℕ) → v < node_count l.layout.network.now → at_nodes l.label v ≡ far;
-  others : (v : ℕ) → v < node_count l.layout.network.now → v ≢ l.source → at_nodes l.excess v ≤ℤ pos 0;
+  filled : IsFilled l.residual.network.now l.residual.reverse.now l.residual.forward.now l.arcs l.room;
+  round : IsRound l.residual.network.now (carried l.residual.reverse.now l.residual.forward.now l.room) (at_nodes l.potential) (at_nodes l.excess);
+  blank : (v : ℕ) → v < node_count l.residual.network.now → at_nodes l.label v ≡ far;
+  others : (v : ℕ) → v < node_count l.residual.network.now → v ≢ l.source → at_nodes l.excess v ≤ℤ pos 0;
 }
 
 abbrev pub decreases-units : goal.decreases-units
-decreases-units l = left_over l.layout.network.now (at_nodes l.excess)
+decreases-units l = left_over l.residual.network.now (at_nodes l.excess)

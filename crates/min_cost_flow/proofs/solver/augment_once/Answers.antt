@@ -15,9 +15,9 @@ use Rattle.min_cost_flow.proofs.solver.augment_once.Goals as goal
 
 pub search-progress-requires-clause-ground : goal.search-progress-requires-clause-ground
 search-progress-requires-clause-ground c =
-    let net = c.args.layout.network.now in
+    let net = c.args.residual.network.now in
     let n : length c.args.potential.now ≡ node_count net = c.requires.sizes.potentials in
-    let first = c.args.layout.first.now in
+    let first = c.args.residual.first.now in
     let arcs = c.args.arcs.now in
     let g : IsGraph (node_count net) first arcs = is_graph _ _ _ _ _ _ c.requires.network c.requires.laid_out c.requires.filled in
     let pr : IsPriced (node_count net) first arcs (at_nodes c.args.potential.now) (at_nodes c.args.excess.now) = is_priced _ _ _ _ _ _ _ _ c.requires.network c.requires.laid_out c.requires.filled c.requires.round in
@@ -34,7 +34,7 @@ returns-then-progress-eq-FAR-clause-no_flow c _ =
     let n = c.requires.sizes.potentials in
     let e = c.search-progress.ensures in
     let t = c.search-progress.result in
-    let first = c.args.layout.first.now in
+    let first = c.args.residual.first.now in
     let arcs = c.args.arcs.now in
     let p = at_nodes c.args.potential.now in
     let q = at_nodes c.search-progress.new.label in
@@ -52,9 +52,9 @@ move_potentials-requires-clause-labels c j b =
     let e = c.search-progress.ensures in
     let r = e.reached in
     let less : j < c.search-progress.result.reached = omega (arith, r.counts) in
-    let net = c.args.layout.network.now in
+    let net = c.args.residual.network.now in
     let n = c.requires.sizes.potentials in
-    let first = c.args.layout.first.now in
+    let first = c.args.residual.first.now in
     let arcs = c.args.arcs.now in
     let g : IsGraph (node_count net) first arcs = is_graph _ _ _ _ _ _ c.requires.network c.requires.laid_out c.requires.filled in
     let pr : IsPriced (node_count net) first arcs (at_nodes c.args.potential.now) (at_nodes c.args.excess.now) = is_priced _ _ _ _ _ _ _ _ c.requires.network c.requires.laid_out c.requires.filled c.requires.round in
@@ -67,7 +67,7 @@ move_potentials-requires-clause-cut c =
     let fc : SFits w32 t.cut = search rules in
     let hit : t.cut <ℤ far = strictly _ _ e.nearest.most (λ h. c.if-progress-eq-FAR.false (ap (of_z w32) h)) in
     let low = c.requires.round.low c.args.source c.requires.source in
-    let le : t.head ≤ node_count c.args.layout.network.now = omega (arith, e.reached.counts, c.requires.sizes.potentials) in
+    let le : t.head ≤ node_count c.args.residual.network.now = omega (arith, e.reached.counts, c.requires.sizes.potentials) in
     passed_within _ _ t.cut fc (label_bounds _ t.head (at_nodes c.args.potential.now c.args.source) t.cut c.requires.network.small.0 le (e.nearest.hit hit).near low)
 
 pub clear-requires-clause-nodes : goal.clear-requires-clause-nodes
@@ -78,7 +78,7 @@ send-requires-clause-path c =
     let n = c.requires.sizes.potentials in
     let e = c.search-progress.ensures in
     let t = c.search-progress.result in
-    let first = c.args.layout.first.now in
+    let first = c.args.residual.first.now in
     let arcs = c.args.arcs.now in
     let p = at_nodes c.args.potential.now in
     let q = at_nodes c.search-progress.new.label in
@@ -88,7 +88,7 @@ send-requires-clause-path c =
     let fc : SFits w32 t.cut = search rules in
     let hit : t.cut <ℤ far = strictly _ _ e.nearest.most (λ h. c.if-progress-eq-FAR.false (ap (of_z w32) h)) in
     let m = moved_to _ _ _ _ (at_nodes c.move_potentials.new.potential) _ _ _ _ _ _ _ _ _ _ t.cut e.reached (rw (to_z-of_z w32 t.cut fc) at c.move_potentials.ensures.moved) c.move_potentials.ensures.others in
-    let g : IsGraph (node_count c.args.layout.network.now) first arcs = is_graph _ _ _ _ _ _ c.requires.network c.requires.laid_out c.requires.filled in
+    let g : IsGraph (node_count c.args.residual.network.now) first arcs = is_graph _ _ _ _ _ _ c.requires.network c.requires.laid_out c.requires.filled in
     let path = has_path _ _ _ _ _ _ _ _ _ _ _ _ _ _ _ _ t.found (subst (λ (k : ℕ). IsGraph k first arcs) (sym n) g) e.reached e.nearest hit m in
     subst (λ (k : ℕ). HasPath k first arcs (at_nodes c.move_potentials.new.potential) enter place c.args.source t.found) n path
 
@@ -97,7 +97,7 @@ send-requires-clause-round c =
     let n = c.requires.sizes.potentials in
     let e = c.search-progress.ensures in
     let t = c.search-progress.result in
-    let first = c.args.layout.first.now in
+    let first = c.args.residual.first.now in
     let arcs = c.args.arcs.now in
     let p = at_nodes c.args.potential.now in
     let p' = at_nodes c.move_potentials.new.potential in
@@ -130,7 +130,7 @@ returns-clause-carrying c _ =
     let n = c.requires.sizes.potentials in
     let e = c.search-progress.ensures in
     let t = c.search-progress.result in
-    let first = c.args.layout.first.now in
+    let first = c.args.residual.first.now in
     let arcs = c.args.arcs.now in
     let p = at_nodes c.args.potential.now in
     let x = at_nodes c.args.excess.now in

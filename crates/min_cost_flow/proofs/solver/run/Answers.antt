@@ -14,8 +14,8 @@ loop-source-init c = record {
   done = λ v b. absurd (omega arith);
 }
 
-pub drain-requires : goal.drain-requires
-drain-requires c =
+pub send_all_from-requires : goal.send_all_from-requires
+send_all_from-requires c =
     let i = c.loop-source.invariant in
     record {
       network = c.requires.network;
@@ -29,14 +29,14 @@ drain-requires c =
       source = omega (arith, c.requires.sizes.excesses);
     }
 
-pub returns-then-not-drain-clause-no_flow : goal.returns-then-not-drain-clause-no_flow
-returns-then-not-drain-clause-no_flow c = c.drain.ensures.no_flow c.if-not-drain.true
+pub returns-then-not-send_all_from-clause-no_flow : goal.returns-then-not-send_all_from-clause-no_flow
+returns-then-not-send_all_from-clause-no_flow c = c.send_all_from.ensures.no_flow c.if-not-send_all_from.true
 
 pub loop-source-preserved : goal.loop-source-preserved
 loop-source-preserved c =
     let i = c.loop-source.invariant in
-    let e = c.drain.ensures in
-    let yes = c.if-not-drain.false in
+    let e = c.send_all_from.ensures in
+    let yes = c.if-not-send_all_from.false in
     record {
       filled = e.filled yes;
       round = e.round yes;
@@ -44,7 +44,7 @@ loop-source-preserved c =
       work = e.work yes;
       done = λ v b. elim (cases_lt v c.loop-source.source) [
         | inl d ↦ e.done yes v (omega (arith, c.requires.sizes.excesses)) (i.done v d)
-        | inr d ↦ let t : v ≡ c.loop-source.source = omega arith in subst (λ (u : ℕ). at_nodes c.drain.new.excess u ≤ℤ pos 0) (sym t) (e.here yes)
+        | inr d ↦ let t : v ≡ c.loop-source.source = omega arith in subst (λ (u : ℕ). at_nodes c.send_all_from.new.excess u ≤ℤ pos 0) (sym t) (e.here yes)
       ];
     }
 

@@ -2,23 +2,23 @@ use Rattle.std.proofs.Common.{arith}
 use Rattle.ortho_rep.proofs.Tries.{turned_again, lead_turned, tried_turned, tried_turning, tried_next, no_bounds, best_of}
 use Rattle.ortho_rep.proofs.best.best_lead.Goals as goal
 
-pub learn-bends-requires-clause-bounds : goal.learn-bends-requires-clause-bounds
-learn-bends-requires-clause-bounds c = no_bounds _ 257 (omega (arith, c.face_count-faces.ensures.value, c.face_count-faces.ensures.few))
+pub bends_and_bounds-bends-requires-clause-bounds : goal.bends_and_bounds-bends-requires-clause-bounds
+bends_and_bounds-bends-requires-clause-bounds c = no_bounds _ 257 (omega (arith, c.face_count-faces.ensures.value, c.face_count-faces.ensures.few))
 
 pub loop-face-preserved : goal.loop-face-preserved
 loop-face-preserved c =
     let plane = c.args.plane.now in
     let was = c.loop-face.plane in
-    let is = c.visit-walk.new.plane in
+    let is = c.visit-moving.new.plane in
     let other = c.loop-face.lead in
     let known = c.loop-face.invariant in
-    let tried = c.visit-walk.ensures in
+    let tried = c.visit-moving.ensures in
     record {
       turned = turned_again plane was is was.outer is.outer known.turned tried.turned;
-      walk = tried.walk;
+      moving = tried.moving;
       lead = tried.lead;
       bounds = tried.bounds;
-      best = tried_next is c.visit-walk.new.lead other c.loop-face.face tried.ahead
+      best = tried_next is c.visit-moving.new.lead other c.loop-face.face tried.ahead
           (λ f b. tried_turning was is is.outer other.bends other.face f tried.turned (known.best f b))
           tried.tried;
     }

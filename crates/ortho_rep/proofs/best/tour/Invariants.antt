@@ -1,12 +1,12 @@
 use Rattle.std.proofs.Common.{◌≡◌, ◌<◌, ◌≤◌, length}
 use Rattle.faces.specs.Planes.{darts, with_outer}
-use Rattle.ortho_rep.specs.Tries.{IsWalk, IsLead, AreBounds}
+use Rattle.ortho_rep.specs.Tries.{IsMoving, IsLead, AreBounds}
 use Rattle.ortho_rep.proofs.best.tour.Given as goal
 
 abbrev pub invariant-loop-step : goal.invariant-loop-step
 invariant-loop-step l = record {
   turned : l.plane ≡ with_outer l.fn.plane l.plane.outer;
-  walk : IsWalk l.plane l.walk;
+  moving : IsMoving l.plane l.moving;
   lead : IsLead l.plane l.lead;
   bounds : AreBounds l.plane l.bounds;
   dart : l.dart < darts l.plane;

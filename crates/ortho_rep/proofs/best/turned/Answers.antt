@@ -11,10 +11,10 @@ use Rattle.ortho_rep.proofs.best.turned.Goals as goal
 pub shift-requires-clause-fair : goal.shift-requires-clause-fair
 shift-requires-clause-fair c =
     let p = c.args.plane.now in
-    let w = c.args.walk in
+    let w = c.args.moving in
     let from_is : c.face_node-from.result ≡ w.net.vertices + p.outer = omega (arith, c.face_node-from.ensures, c.outer.ensures.value) in
     let net_is : shifted w.standing c.face_node-from.result c.face_node-to.result 8 ≡ c.turn_out.new.self.network =
-    ap (λ (n : NetworkModel). shifted n c.face_node-from.result c.face_node-to.result 8) c.requires.walk.same
+    ap (λ (n : NetworkModel). shifted n c.face_node-from.result c.face_node-to.result 8) c.requires.moving.same
     ∙ ap (λ (k : ℕ). shifted w.net.network k c.face_node-to.result 8) from_is
     ∙ ap (λ (k : ℕ). shifted w.net.network (w.net.vertices + p.outer) k 8) c.face_node-to.ensures
     ∙ sym c.turn_out.ensures.moved in
@@ -23,10 +23,10 @@ shift-requires-clause-fair c =
 pub unreachable-requires : goal.unreachable-requires
 unreachable-requires c =
     let p = c.args.plane.now in
-    let w = c.args.walk in
+    let w = c.args.moving in
     let from_is : c.face_node-from.result ≡ w.net.vertices + p.outer = omega (arith, c.face_node-from.ensures, c.outer.ensures.value) in
     let net_is : shifted w.standing c.face_node-from.result c.face_node-to.result 8 ≡ c.turn_out.new.self.network =
-    ap (λ (n : NetworkModel). shifted n c.face_node-from.result c.face_node-to.result 8) c.requires.walk.same
+    ap (λ (n : NetworkModel). shifted n c.face_node-from.result c.face_node-to.result 8) c.requires.moving.same
     ∙ ap (λ (k : ℕ). shifted w.net.network k c.face_node-to.result 8) from_is
     ∙ ap (λ (k : ℕ). shifted w.net.network (w.net.vertices + p.outer) k 8) c.face_node-to.ensures
     ∙ sym c.turn_out.ensures.moved in

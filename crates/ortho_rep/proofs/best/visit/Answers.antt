@@ -11,8 +11,8 @@ pub returns-else-loses_to-clause-tried : goal.returns-else-loses_to-clause-tried
 returns-else-loses_to-clause-tried c =
     let plane = c.args.plane.now in
     let lead = c.args.lead.now in
-    let bends = c.learn-bends.result in
-    let needs = subst (λ (m : PlaneModel). NeedsBends m bends) c.turn_out.ensures c.learn-bends.ensures.needs in
+    let bends = c.bends_and_bounds-bends.result in
+    let needs = subst (λ (m : PlaneModel). NeedsBends m bends) c.turn_out.ensures c.bends_and_bounds-bends.ensures.needs in
     let test = c.loses_to-2.ensures in
     let no = c.if-loses_to.false in
     tried_turning plane c.turn_out.new.self c.args.face lead.bends lead.face c.args.face c.turn_out.ensures (no_better plane lead.bends lead.face bends c.args.face needs (test.no no) (test.last no))

@@ -3,7 +3,7 @@ use Rattle.std.specs.Prelude.{pos}
 use Rattle.networks.specs.Flow.{at_nodes}
 use Rattle.ortho_rep.proofs.least.vertex_prices.Given as goal
 
-abbrev pub invariant-loop-vertex : goal.invariant-loop-vertex
-invariant-loop-vertex l =
-    (vec_len l.prices ≡ l.vertex)
-    × ((k : ℕ) → k < l.vertex → get_or l.prices.items k (pos 0) ≡ at_nodes l.solved.potential k)
+abbrev pub invariant-loop-place : goal.invariant-loop-place
+invariant-loop-place l =
+    (vec_len l.prices ≡ l.place)
+    × ((k : ℕ) → k < l.place → get_or l.prices.items k (pos 0) ≡ at_nodes l.solved.potential k)

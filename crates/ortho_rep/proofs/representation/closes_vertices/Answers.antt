@@ -14,6 +14,6 @@ returns c =
     let order = ap (length {A = List ℕ}) c.graph.ensures.value in (
       λ _ v from to.
           let back : v - 1 + 1 ≡ v = omega arith in
-          sym (c.add_angles.ensures v to) ∙ (ap (λ (z : ℕ). get_or c.add_angles.new.sums z 0) (sym back) ∙ c.loop-vertex.invariant (v - 1) (omega (arith, order))),
+          sym (c.add_angles.ensures v to) ∙ (ap (λ (z : ℕ). get_or c.add_angles.new.sums z 0) (sym back) ∙ c.loop-place.invariant (v - 1) (omega (arith, order))),
       λ _. search rules,
     )

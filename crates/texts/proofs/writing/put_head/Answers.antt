@@ -8,7 +8,7 @@ use Rattle.texts.proofs.writing.put_head.Goals as goal
 pub returns-in-Ok-clause-broken : goal.returns-in-Ok-clause-broken
 returns-in-Ok-clause-broken g c =
     err_then c.put.result c.put.ensures.broken
-    (subst (BreaksIn (g.S.Sink.taken c.args.sink.now) c.args.gathered.now (g.S.Sink.taken c.put.new.sink)) (c.as_slice.ensures.value ∙ c.in-Ok.ensures))
+    (subst (BreaksIn (g.S.Sink.taken c.args.sink.now) c.args.buffer.now (g.S.Sink.taken c.put.new.sink)) (c.as_slice.ensures.value ∙ c.in-Ok.ensures))
 
 pub returns-in-Err-clause-broken : goal.returns-in-Err-clause-broken
-returns-in-Err-clause-broken g c = breaks_here (g.S.Sink.taken c.args.sink.now) c.args.gathered.now (head_in c.args.form (c.args.file + 1))
+returns-in-Err-clause-broken g c = breaks_here (g.S.Sink.taken c.args.sink.now) c.args.buffer.now (head_in c.args.form (c.args.file + 1))

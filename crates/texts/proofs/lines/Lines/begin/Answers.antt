@@ -14,15 +14,15 @@ returns-clause-begun g c =
     let mid = g.S.Sink.taken c.put_head.new.sink in
     let new = g.S.Sink.taken c.put.new.sink in
     ok_then c.put.result c.put.ensures.put (λ goes start came was.
-    written_begun self.form start old mid new self.gathered c.put_head.new.gathered c.put.new.gathered self.front self.waiting.items c.take_lines-lines.new.waiting.items came
+    written_begun self.form start old mid new self.buffer c.put_head.new.buffer c.put.new.buffer self.front self.waiting.items c.take_lines-lines.new.waiting.items came
     c.take_lines-lines.result.items c.requires.below c.in_ok-put_head.ensures.put c.take_lines-lines.ensures.lines c.take_lines-lines.ensures.taken
-    (subst (λ (l : List ℕ). GoesOn mid c.put_head.new.gathered new c.put.new.gathered l) c.as_slice.ensures.value goes) was)
+    (subst (λ (l : List ℕ). GoesOn mid c.put_head.new.buffer new c.put.new.buffer l) c.as_slice.ensures.value goes) was)
 
 pub returns-in_err-put_head-clause-broken : goal.returns-in_err-put_head-clause-broken
 returns-in_err-put_head-clause-broken g c =
     let self = c.args.self.now in
     err_any c.from_residual.result (λ start came was.
-    breaks_first self.form start (g.S.Sink.taken c.args.sink.now) (g.S.Sink.taken c.put_head.new.sink) self.gathered self.front self.waiting.items came c.requires.below
+    breaks_first self.form start (g.S.Sink.taken c.args.sink.now) (g.S.Sink.taken c.put_head.new.sink) self.buffer self.front self.waiting.items came c.requires.below
     c.in_err-put_head.ensures.broken was)
 
 pub returns-clause-broken : goal.returns-clause-broken
@@ -32,6 +32,6 @@ returns-clause-broken g c =
     let mid = g.S.Sink.taken c.put_head.new.sink in
     let new = g.S.Sink.taken c.put.new.sink in
     err_then c.put.result c.put.ensures.broken (λ breaks start came was.
-    breaks_lines self.form start old mid new self.gathered c.put_head.new.gathered self.front self.waiting.items came c.take_lines-lines.result.items
+    breaks_lines self.form start old mid new self.buffer c.put_head.new.buffer self.front self.waiting.items came c.take_lines-lines.result.items
     c.requires.below c.in_ok-put_head.ensures.put c.take_lines-lines.ensures.lines
-    (subst (λ (l : List ℕ). BreaksIn mid c.put_head.new.gathered new l) c.as_slice.ensures.value breaks) was)
+    (subst (λ (l : List ℕ). BreaksIn mid c.put_head.new.buffer new l) c.as_slice.ensures.value breaks) was)

@@ -17,7 +17,7 @@ returns-clause-held g c =
     let before = c.args.self.now in
     let file = c.args.file in
     let waiting = c.keep_mark.new.waiting in
-    let mid : Lines = record { form = before.form; choice = before.choice; gathered = before.gathered; front = before.front; waiting = waiting; whole = c.is_whole_with-self.result } in
+    let mid : Lines = record { form = before.form; choice = before.choice; buffer = before.buffer; front = before.front; waiting = waiting; whole = c.is_whole_with-self.result } in
     let after = c.advance.new.self in
     let old = g.S.Sink.taken c.args.sink.now in
     let from : before.front ≤ file = search rules in
@@ -26,7 +26,7 @@ returns-clause-held g c =
     ok_both c.advance.result c.advance.ensures.written c.advance.ensures.unended (λ moves unended start ns held.
     held_end start old (g.S.Sink.taken c.advance.new.sink) before mid after ns file c.args.mark c.advance.ensures.same (record { form = refl; choice = refl; files = kept.count })
     below (λ other. (kept.here other).unmarked) (λ other. (kept.here other).fits) from c.is_whole_with-self.ensures c.advance.ensures.whole
-    (λ came next more was. written_marked before.form start old before.gathered file before.front before.waiting.items waiting.items came next c.args.mark below from more kept was)
+    (λ came next more was. written_marked before.form start old before.buffer file before.front before.waiting.items waiting.items came next c.args.mark below from more kept was)
     (moves start) unended held)
 
 pub returns-clause-broken : goal.returns-clause-broken
@@ -34,7 +34,7 @@ returns-clause-broken g c =
     let before = c.args.self.now in
     let file = c.args.file in
     let waiting = c.keep_mark.new.waiting in
-    let mid : Lines = record { form = before.form; choice = before.choice; gathered = before.gathered; front = before.front; waiting = waiting; whole = c.is_whole_with-self.result } in
+    let mid : Lines = record { form = before.form; choice = before.choice; buffer = before.buffer; front = before.front; waiting = waiting; whole = c.is_whole_with-self.result } in
     let after = c.advance.new.self in
     let old = g.S.Sink.taken c.args.sink.now in
     let from : before.front ≤ file = search rules in
@@ -43,7 +43,7 @@ returns-clause-broken g c =
     err_then c.advance.result c.advance.ensures.broken (λ broken start ns held.
     left_off_end start old (g.S.Sink.taken c.advance.new.sink) before mid after ns file c.args.mark c.advance.ensures.same (record { form = refl; choice = refl; files = kept.count })
     below (λ other. (kept.here other).fits) from
-    (λ came next more was. written_marked before.form start old before.gathered file before.front before.waiting.items waiting.items came next c.args.mark below from more kept was)
+    (λ came next more was. written_marked before.form start old before.buffer file before.front before.waiting.items waiting.items came next c.args.mark below from more kept was)
     (broken start) held)
 
 pub returns-then-not-is_open-clause-broken : goal.returns-then-not-is_open-clause-broken
@@ -54,6 +54,6 @@ returns-then-not-is_open-clause-broken g c = λ start ns held.
     elim c.then-not-is_open.branch [
       | then-not-is_open-via-then-not-is_open w ↦ subst (LinesLeaveOff start now) (sym w.self-is) here
       | then-not-is_open-via-else-not-is_open+then-not-keep_mark w ↦
-          let mid : Lines = record { form = before.form; choice = before.choice; gathered = before.gathered; front = before.front; waiting = w.keep_mark.new.waiting; whole = before.whole } in
+          let mid : Lines = record { form = before.form; choice = before.choice; buffer = before.buffer; front = before.front; waiting = w.keep_mark.new.waiting; whole = before.whole } in
           subst (LinesLeaveOff start now) (sym w.self-is) (left_off_as start now before mid (record { form = refl; choice = refl; files = w.keep_mark.ensures.count }) here)
     ]

@@ -17,7 +17,7 @@ returns-clause-written g c = λ start choice meaning ns held have.
         λ is. absurd (false≢true (sym w.if-self.false ∙ is)),
       )
     ] in
-    all_written choice c.args.self.choice meaning c.args.self.form start (g.S.Sink.taken c.args.sink.now) (g.S.Sink.taken c.flush.new.sink) c.args.self.gathered c.args.self.front
+    all_written choice c.args.self.choice meaning c.args.self.form start (g.S.Sink.taken c.args.sink.now) (g.S.Sink.taken c.flush.new.sink) c.args.self.buffer c.args.self.front
     c.args.self.waiting.items c.args.self.whole ns c.if-self.result have held c.in_ok-flush.ensures.writes.1 says
 
 pub returns-in_err-flush-clause-broken : goal.returns-in_err-flush-clause-broken
@@ -25,4 +25,4 @@ returns-in_err-flush-clause-broken g c =
     let old = g.S.Sink.taken c.args.sink.now in
     let new = g.S.Sink.taken c.flush.new.sink in
     err_any c.from_residual.result (λ start ns held.
-    left_off_finish start old new c.args.self ns (writes_front (Unit {0}) old new c.args.self.gathered _ _ c.in_err-flush.ensures.writes) held)
+    left_off_finish start old new c.args.self ns (writes_front (Unit {0}) old new c.args.self.buffer _ _ c.in_err-flush.ensures.writes) held)

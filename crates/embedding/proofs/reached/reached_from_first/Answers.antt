@@ -1,0 +1,50 @@
+use Rattle.std.proofs.Common.{replicate, false, refl, arith}
+use Rattle.embedding.proofs.Reached.{queue_none, queue_short, blank_marks, walking_starts, walking_more, walking_ends}
+use Rattle.embedding.proofs.reached.reached_from_first.Goals as goal
+
+pub reach-requires : goal.reach-requires
+reach-requires c =
+    queue_none _ _ refl refl (blank_marks 256)
+
+pub loop-done-init : goal.loop-done-init
+loop-done-init c =
+    walking_starts c.args.lists.now (replicate 256 false) (replicate 256 0) c.reach.new.vertices.reached c.reach.new.vertices.queue c.reach.new.vertices.found (blank_marks 256)
+    (record {
+      queue_is = c.reach.ensures.queue;
+      here = c.reach.ensures.reached;
+      others = c.reach.ensures.others;
+      kept = c.reach.ensures.kept;
+      order = c.reach.ensures.order;
+      longer = c.reach.ensures.longer;
+    })
+
+pub bounds-vertices-done : goal.bounds-vertices-done
+bounds-vertices-done c =
+    let short = queue_short _ _ _ c.loop-done.invariant.queue_is in
+    omega (arith, short, c.loop-done-test.true)
+
+pub overflow_add-done : goal.overflow_add-done
+overflow_add-done c =
+    let short = queue_short _ _ _ c.loop-done.invariant.queue_is in
+    omega (arith, short, c.loop-done-test.true)
+
+pub loop-done-smaller : goal.loop-done-smaller
+loop-done-smaller c =
+    let short = queue_short _ _ _ c.loop-done.invariant.queue_is in
+    omega (arith, short, c.loop-done-test.true, c.loop-done.invariant.queue_is.places, c.reach_all.ensures.queue.places)
+
+pub loop-done-preserved : goal.loop-done-preserved
+loop-done-preserved c =
+    walking_more c.of_vertex.result.now c.reach_all.new.vertices.reached c.reach_all.new.vertices.queue c.reach_all.new.vertices.found c.loop-done-test.true c.of_vertex.ensures c.loop-done.invariant
+    (record {
+      queue_is = c.reach_all.ensures.queue;
+      listed = c.reach_all.ensures.reached;
+      others = c.reach_all.ensures.others;
+      kept = c.reach_all.ensures.kept;
+      order = c.reach_all.ensures.order;
+      longer = c.reach_all.ensures.longer;
+    })
+
+pub returns : goal.returns
+returns c =
+    walking_ends c.loop-done-test.false c.loop-done.invariant

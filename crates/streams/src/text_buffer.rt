@@ -1,0 +1,101 @@
+//! A buffer of fixed size before a sink, so that many short lines make few writes.
+ghost use Rattle.std.specs.Prelude.{◌≡◌, ◌+◌, ◌^◌, ◌<◌, ◌≤◌, ℕ, List, [], ◌++◌, Option, false, length, take, decimal, OnOk};
+ghost use Rattle.streams.specs.Sink.{Writes, StaysOnItsWay};
+ghost use Rattle.streams.specs.declared.text_buffer.TheConstants.{LINE, ROOM};
+
+use super::faults::WriteFault;
+use super::output::Sink;
+use itoa::Buffer;
+use std::marker::Model;
+
+/// How many bytes the buffer holds.
+pub const ROOM: usize = 16_384;
+
+/// How many bytes are free at least after `make_room`. No line that is gathered is longer.
+pub const LINE: usize = 512;
+
+/// Text that was gathered and is not in the sink yet.
+#[derive(Drop)]
+pub struct TextBuffer {
+    bytes: [u8; ROOM],
+    len: usize,
+}
+
+impl Model for TextBuffer {
+    ghost Value = { List ℕ };
+
+    ghost view = { λ g. take g.len g.bytes };
+
+    ghost invariant = { λ g. g.len ≤ ROOM };
+}
+
+impl TextBuffer {
+    /// No text yet.
+    pub fn new() -> TextBuffer
+        ensures { result ≡ [] }
+    {
+        TextBuffer {
+            bytes: [0; ROOM],
+            len: 0,
+        }
+    }
+
+    /// Adds a text, for which there is room.
+    pub fn push(&mut self, text: &[u8])
+        requires { length self.old + length text.now ≤ ROOM }
+        ensures { self.new ≡ self.old ++ text.now }
+    {
+        let end = self.len + text.len();
+        self.bytes[self.len..end].copy_from_slice(text);
+        self.len = end;
+    }
+
+    /// Adds a number in decimal, for which there is room.
+    pub fn push_number(&mut self, number: u64)
+        requires { length self.old + 40 ≤ ROOM }
+        ensures text { self.new ≡ self.old ++ decimal number }
+        ensures short { length self.new ≤ length self.old + 40 }
+    {
+        let mut buffer = Buffer::new();
+        self.push(buffer.format(number).as_bytes());
+    }
+
+    /// Makes sure that a line fits: where fewer than `LINE` bytes are free, puts all that was gathered into the sink.
+    pub fn make_room<S: Sink>(&mut self, sink: &mut S) -> Result<(), WriteFault>
+        requires { S.failed sink.old ≡ false }
+        ensures writes { StaysOnItsWay (S.taken sink.old) self.old (S.taken sink.new) self.new
+            (S.failed sink.new) [] result }
+        ensures room { OnOk result (length self.new + LINE ≤ ROOM) }
+    {
+        if self.len <= ROOM - LINE {
+            return Ok(());
+        }
+        self.flush(sink)
+    }
+
+    /// Puts all that was gathered into the sink.
+    pub fn flush<S: Sink>(&mut self, sink: &mut S) -> Result<(), WriteFault>
+        requires { S.failed sink.old ≡ false }
+        ensures writes { Writes (S.taken sink.old) (S.taken sink.new) (S.failed sink.new) self.old result }
+        ensures empty { OnOk result (self.new ≡ []) }
+    {
+        put_all(sink, &self.bytes[..self.len])?;
+        self.len = 0;
+        Ok(())
+    }
+}
+
+/// Puts a whole text into the sink, by several writes where the sink takes only a part at once.
+pub fn put_all<S: Sink>(sink: &mut S, text: &[u8]) -> Result<(), WriteFault>
+    requires { S.failed sink.old ≡ false }
+    ensures { Writes (S.taken sink.old) (S.taken sink.new) (S.failed sink.new) text.now result }
+{
+    let mut at = 0;
+    while at < text.len() {
+        match sink.put(&text[at..]) {
+            Ok(count) => at += count,
+            Err(_) => return Err(WriteFault::Write),
+        }
+    }
+    Ok(())
+}
