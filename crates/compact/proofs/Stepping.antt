@@ -60,38 +60,18 @@ pub record IsAlongTo (w : Web) (k darts : ℕ) (x : ℕ → ℕ) : Type 0 where
   pub forward : (a : ℕ) → a < darts → w.direction a ≡ k → x (tail w a) + 1 ≤ x (w.head a)
   pub across : (a : ℕ) → a < darts → w.direction a ≢ k → w.direction a ≢ k + 2 → x (tail w a) ≤ x (w.head a)
 
--- a dart whose constraint is kept
-pub along_kept : (w : Web) (k d least : ℕ) (x : ℕ → ℕ) →
-    ((w.direction d ≡ k) × (least ≡ 1)) ⊎ ((w.direction d ≢ k) × (w.direction d ≢ k + 2) × (least ≡ 0)) →
-    x (tail w d) + least ≤ x (w.head d) → IsAlongTo w k d x → IsAlongTo w k (d + 1) x
-along_kept w k d least x kind kept so_far = record {
+-- one dart more
+pub along_next : (w : Web) (k d : ℕ) (x : ℕ → ℕ) →
+    (w.direction d ≡ k → x (tail w d) + 1 ≤ x (w.head d)) → (w.direction d ≢ k → w.direction d ≢ k + 2 → x (tail w d) ≤ x (w.head d)) →
+    IsAlongTo w k d x → IsAlongTo w k (d + 1) x
+along_next w k d x ahead beside so_far = record {
   forward = λ a below way. elim (cases_eq a d) [
-    | inl same ↦
-        let here : w.direction d ≡ k = subst (λ (b : ℕ). w.direction b ≡ k) same way in
-        subst (λ (b : ℕ). x (tail w b) + 1 ≤ x (w.head b)) (sym same)
-        (elim kind [
-          | inl ahead ↦ omega (arith, kept, ahead.1)
-          | inr across ↦ absurd (across.0 here)
-        ])
+    | inl same ↦ subst (λ (b : ℕ). x (tail w b) + 1 ≤ x (w.head b)) (sym same) (ahead (subst (λ (b : ℕ). w.direction b ≡ k) same way))
     | inr other ↦ so_far.forward a (omega (arith, below, other)) way
   ];
   across = λ a below one two. elim (cases_eq a d) [
-    | inl same ↦ subst (λ (b : ℕ). x (tail w b) ≤ x (w.head b)) (sym same) (omega (arith, kept))
-    | inr other ↦ so_far.across a (omega (arith, below, other)) one two
-  ];
-}
-
--- a dart against the axis
-pub along_passed : (w : Web) (k d : ℕ) (x : ℕ → ℕ) → w.direction d ≡ k + 2 → IsAlongTo w k d x → IsAlongTo w k (d + 1) x
-along_passed w k d x back so_far = record {
-  forward = λ a below way. elim (cases_eq a d) [
-    | inl same ↦
-        let here : w.direction d ≡ k = subst (λ (b : ℕ). w.direction b ≡ k) same way in
-        absurd (omega (arith, here, back))
-    | inr other ↦ so_far.forward a (omega (arith, below, other)) way
-  ];
-  across = λ a below one two. elim (cases_eq a d) [
-    | inl same ↦ absurd (two (subst (λ (b : ℕ). w.direction b ≡ k + 2) (sym same) back))
+    | inl same ↦ subst (λ (b : ℕ). x (tail w b) ≤ x (w.head b)) (sym same)
+        (beside (λ e. one (subst (λ (b : ℕ). w.direction b ≡ k) (sym same) e)) (λ e. two (subst (λ (b : ℕ). w.direction b ≡ k + 2) (sym same) e)))
     | inr other ↦ so_far.across a (omega (arith, below, other)) one two
   ];
 }

@@ -13,6 +13,7 @@ use crate::fault::CompactFault;
 use crate::rows::{RowQueue, Steps, raise_rows};
 use directions::Direction;
 use dissect::Boxes;
+use ortho_rep::MAX_COORDINATE;
 use reuse::filled;
 use std::alloc::AllocError;
 
@@ -60,6 +61,22 @@ fn constraints_along(
     Ok(())
 }
 
+/// Whether the numbers of a dart's tail and head may stand at the ends of a dart of this direction.
+///
+/// It is one comparison, so that no branch is taken by a direction, which cannot be foreseen.
+fn is_kept(axis: Axis, direction: Direction, tail: u16, head: u16) -> bool
+    ensures forward { IsTrue result → quarters direction ≡ growth axis → tail + 1 ≤ head }
+    ensures across { IsTrue result → quarters direction ≢ growth axis → quarters direction ≢ growth axis + 2 → tail ≤ head }
+{
+    let (least, spare) = match (axis, direction) {
+        (Axis::X, Direction::East) | (Axis::Y, Direction::North) => (1, 0),
+        (Axis::X, Direction::West) | (Axis::Y, Direction::South) => (0, MAX_COORDINATE),
+        (Axis::X, Direction::North | Direction::South)
+        | (Axis::Y, Direction::East | Direction::West) => (0, 0),
+    };
+    u32::from(tail) + least <= u32::from(head) + spare
+}
+
 /// Whether numbers are in the order of the darts along an axis. A step for each dart.
 fn are_along(boxes: &Boxes, axis: Axis, numbers: &[u16]) -> bool
     requires count { length numbers.now ≡ boxes.now.vertices }
@@ -67,12 +84,10 @@ fn are_along(boxes: &Boxes, axis: Axis, numbers: &[u16]) -> bool
     ensures small { (v : ℕ) → v < length numbers.now → slice_index numbers.now v ≤ MAX_COORDINATE }
 {
     for dart in 0..boxes.darts() {
-        if let Some(least) = least_difference(axis, boxes.direction(dart)) {
-            let from = numbers[boxes.head(boxes.reverse(dart)) as usize];
-            let to = numbers[boxes.head(dart) as usize];
-            if u32::from(from) + u32::from(least) > u32::from(to) {
-                return false;
-            }
+        let tail = numbers[boxes.tail(dart) as usize];
+        let head = numbers[boxes.head(dart) as usize];
+        if !is_kept(axis, boxes.direction(dart), tail, head) {
+            return false;
         }
     }
     true

@@ -80,14 +80,10 @@ impl Direction {
         }
     }
 
-    /// The direction so many quarter turns to the left. It takes a step for each.
+    /// The direction so many quarter turns to the left. It takes constant time.
     pub fn lefts(self, quarters: u8) -> Direction
         ensures { result ≡ lefts quarters self }
     {
-        let mut direction = self;
-        for _ in 0..quarters {
-            direction = direction.left();
-        }
-        direction
+        Direction::from_quarters((self.quarters() + quarters % 4) % 4)
     }
 }

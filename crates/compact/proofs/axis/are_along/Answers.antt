@@ -1,11 +1,9 @@
-use Rattle.std.proofs.Common.{◌∙◌, ◌≡◌, ◌≢◌, ◌⊎◌, ◌+◌, ℕ, ap, sym, subst, arith, slice_index}
+use Rattle.std.proofs.Common.{◌∙◌, ◌≡◌, ◌≢◌, ◌≤◌, ◌+◌, ℕ, ap, sym, refl, subst, arith, slice_index}
 use Rattle.directions.specs.Directions.{quarters}
 use Rattle.dissect.specs.Boxes.{web}
-use Rattle.compact.specs.Ordered.{growth}
-use Rattle.compact.proofs.Constraining.{constraint_found, no_constraint_found}
-use Rattle.compact.proofs.Stepping.{IsAlongTo, along_kept, along_passed, along_all}
+use Rattle.compact.specs.Ordered.{tail, growth}
+use Rattle.compact.proofs.Stepping.{IsAlongTo, along_next, along_all}
 use Rattle.compact.proofs.axis.are_along.Goals as goal
-use Rattle.compact.proofs.axis.are_along.Goals.{in-Some+else-from, in_default}
 
 pub loop-dart-preserved : goal.loop-dart-preserved
 loop-dart-preserved c =
@@ -14,24 +12,13 @@ loop-dart-preserved c =
     let d = c.loop-dart.dart in
     let x : ℕ → ℕ = λ v. slice_index c.args.numbers.now v in
     let way : quarters c.direction.result ≡ w.direction d = c.direction.ensures.value in
-    elim c.match-least_difference.branch [
-      | in-Some+else-from b ↦
-          let kind = constraint_found (quarters c.direction.result) k b.in-Some.least c.least_difference.result c.least_difference.ensures.forward c.least_difference.ensures.back c.least_difference.ensures.across b.in-Some.is in
-          along_kept w k d b.in-Some.least x
-          (subst (λ (n : ℕ). ((n ≡ k) × (b.in-Some.least ≡ 1)) ⊎ ((n ≢ k) × (n ≢ k + 2) × (b.in-Some.least ≡ 0))) way kind)
-          (omega (
-            arith,
-            b.if-from.false,
-            b.from.ensures,
-            b.from-in-Some.ensures,
-            b.from-in-Some-2.ensures,
-            ap x (b.head.ensures.value ∙ ap w.head b.reverse.ensures.value),
-            ap x b.head-in-Some.ensures.value,
-          ))
-          c.loop-dart.invariant
-      | in_default b ↦
-          along_passed w k d x (sym way ∙ no_constraint_found (quarters c.direction.result) k c.least_difference.result c.least_difference.ensures.forward c.least_difference.ensures.across b.in_default.is) c.loop-dart.invariant
-    ]
+    let kept = c.if-not-is_kept.ensures in
+    let from = ap x c.tail-tail.ensures.value in
+    let to = ap x c.head-head.ensures.value in
+    along_next w k d x
+    (λ ahead. omega (arith, kept.forward refl (way ∙ ahead), from, to))
+    (λ one two. omega (arith, kept.across refl (λ e. one (sym way ∙ e)) (λ e. two (sym way ∙ e)), from, to))
+    c.loop-dart.invariant
 
 pub returns-clause-along : goal.returns-clause-along
 returns-clause-along c = λ _.
