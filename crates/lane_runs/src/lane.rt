@@ -1,6 +1,5 @@
 //! One lane: four stages. The last one runs on the lane's own thread, which starts a thread for each other one.
-ghost use Rattle.std.specs.Prelude.{◌≡◌, ◌≤◌, ◌∷◌, ◌++◌, [], IfOk};
-ghost use Rattle.ruled_lanes.specs.declared.limits.TheConstants.{MAX_CAPACITY};
+ghost use Rattle.std.specs.Prelude.{◌≡◌, ◌∷◌, ◌++◌, [], IfOk};
 ghost use Rattle.ruled_lanes.specs.FanEnds.{given_at, GivesToSameLane};
 ghost use Rattle.ruled_lanes.specs.TicketSeats.{IsSeatOf, IsUnused};
 ghost use Rattle.lanes.specs.declared.message.Message.TheVariants.{Stop};
@@ -11,11 +10,10 @@ use crate::fault::LaneFault;
 use crate::lane_kind::LaneKind;
 use crate::links::{Links, new_links, settle_lane};
 use crate::running::LaneEnd;
+use crate::setting::Setting;
 use crate::starting::{start_read, start_stage};
-use choices::Choice;
 use lanes::{Gate, Message, Opener, run_last_stage};
-use ruled_lanes::{LaneGiver, Seat, Tickets};
-use std::alloc::Global;
+use ruled_lanes::{LaneGiver, Seat};
 use std::sync::Wait;
 use std::thread;
 use std::thread::{Scope, Threads};
@@ -25,41 +23,31 @@ use streams::piece_buffer;
 /// the giver, and after them, whatever the lane met, one stop; a lane whose stop was refused says so. The
 /// giver is given back once the other threads have ended.
 pub fn run_lane<L: LaneKind, R: Threads + Wait + Sync, O: Opener, G: Gate>(
-    rt: &R,
-    alloc: Global,
-    opener: &O,
-    gate: &G,
-    choice: Choice,
-    tickets: &Tickets,
-    capacity: u32,
+    setting: &Setting<'_, R, O, G>,
     seat: Seat,
     giver: LaneGiver<Message<L::Entry>>,
 ) -> LaneEnd<L::Entry>
-    requires least { 1 ≤ capacity }
-    requires most { capacity ≤ MAX_CAPACITY }
-    requires seat { IsSeatOf tickets.now seat }
+    requires seat { IsSeatOf setting.now.tickets.now seat }
     requires unused { IsUnused seat }
     requires none_given { given_at giver ≡ [] }
-    ensures { EndsLane L.Entry.about choice (O.meaning opener.now) tickets.now giver result.giver result.seat }
+    ensures { EndsLane L.Entry.about setting.now.choice (O.meaning setting.now.opener.now) setting.now.tickets.now giver result.giver result.seat }
 {
     let LaneEnd { mut giver, seat } = thread::scope(
         thread::scope_env(),
-        rt,
+        setting.rt,
         move |scope| -> LaneEnd<L::Entry>
-            requires { (1 ≤ capacity) × (capacity ≤ MAX_CAPACITY) × IsSeatOf tickets.now seat × IsUnused seat × (given_at giver ≡ []) }
+            requires { IsSeatOf setting.now.tickets.now seat × IsUnused seat × (given_at giver ≡ []) }
             ensures { GivesToSameLane giver result.giver
                 × GoOn (notes L.Entry.about (given_at result.giver))
-                × IfOk result.seat (λ after. TellsSeat L.Entry.about choice (O.meaning opener.entry.now) tickets.entry.now after
+                × IfOk result.seat (λ after. TellsSeat L.Entry.about setting.entry.now.choice (O.meaning setting.entry.now.opener.now) setting.entry.now.tickets.now after
                 (given_at result.giver ++ Stop ∷ [])) }
         {
             let mut giver = giver;
-            let seat = run_stages::<_, L, _, _, _>(
-                scope, rt, alloc, opener, gate, choice, tickets, capacity, seat, &mut giver,
-            );
+            let seat = run_stages::<_, L, _, _, _>(scope, setting, seat, &mut giver);
             LaneEnd { giver, seat }
         },
     );
-    match giver.give(rt, Message::Stop) {
+    match giver.give(setting.rt, Message::Stop) {
         Ok(()) => LaneEnd { giver, seat },
         Err(_) => LaneEnd {
             giver,
@@ -72,30 +60,22 @@ pub fn run_lane<L: LaneKind, R: Threads + Wait + Sync, O: Opener, G: Gate>(
 /// give. It gives the lane's seat back.
 fn run_stages<'s, E, L: LaneKind + 's, R: Threads + Wait + Sync, O: Opener, G: Gate>(
     scope: &'s Scope<'s, E>,
-    rt: &'s R,
-    alloc: Global,
-    opener: &'s O,
-    gate: &'s G,
-    choice: Choice,
-    tickets: &'s Tickets,
-    capacity: u32,
+    setting: &'s Setting<'s, R, O, G>,
     seat: Seat,
     giver: &mut LaneGiver<Message<L::Entry>>,
 ) -> Result<Seat, LaneFault>
-    requires least { 1 ≤ capacity }
-    requires most { capacity ≤ MAX_CAPACITY }
-    requires seat { IsSeatOf tickets.now seat }
+    requires seat { IsSeatOf setting.now.tickets.now seat }
     requires unused { IsUnused seat }
     requires none_given { given_at giver.old ≡ [] }
     ensures same { GivesToSameLane giver.old giver.new }
     ensures goes_on { GoOn (notes L.Entry.about (given_at giver.new)) }
-    ensures told { IfOk result (λ after. TellsSeat L.Entry.about choice (O.meaning opener.now) tickets.now after
+    ensures told { IfOk result (λ after. TellsSeat L.Entry.about setting.now.choice (O.meaning setting.now.opener.now) setting.now.tickets.now after
         (given_at giver.new ++ Stop ∷ [])) }
 {
-    let Ok(links) = new_links::<L>(alloc, capacity) else {
+    let Ok(links) = new_links::<L>(setting.alloc, setting.capacity) else {
         return Err(LaneFault::Memory);
     };
-    let Ok(buffer) = piece_buffer(alloc) else {
+    let Ok(buffer) = piece_buffer(setting.alloc) else {
         return Err(LaneFault::Memory);
     };
     let Links {
@@ -104,28 +84,16 @@ fn run_stages<'s, E, L: LaneKind + 's, R: Threads + Wait + Sync, O: Opener, G: G
         shaped: (shaped_giver, shaped_taker),
     } = links;
     let lane = giver.lane();
-    let read = start_read::<_, L, _, _, _>(
-        scope,
-        rt,
-        alloc,
-        opener,
-        gate,
-        choice,
-        lane,
-        tickets,
-        seat,
-        buffer,
-        framed_giver,
-    )?;
-    let embed = start_stage(scope, rt, alloc, gate, lane, framed_taker, embedded_giver)?;
-    let shape = start_stage(scope, rt, alloc, gate, lane, embedded_taker, shaped_giver)?;
-    let draw = run_last_stage(rt, alloc, gate, shaped_taker, giver);
-    let read = read.join(rt);
-    let embed = embed.join(rt);
-    let shape = shape.join(rt);
+    let read = start_read::<_, L, _, _, _>(scope, setting, lane, seat, buffer, framed_giver)?;
+    let embed = start_stage(scope, setting, lane, framed_taker, embedded_giver)?;
+    let shape = start_stage(scope, setting, lane, embedded_taker, shaped_giver)?;
+    let draw = run_last_stage(setting.rt, setting.alloc, setting.gate, shaped_taker, giver);
+    let read = read.join(setting.rt);
+    let embed = embed.join(setting.rt);
+    let shape = shape.join(setting.rt);
     match (read, embed, shape, draw) {
         (Some((read, seat)), Some(embed), Some(shape), Some(draw)) => {
-            settle_lane::<L, _>(rt, read, embed, shape, draw);
+            settle_lane::<L, _>(setting.rt, read, embed, shape, draw);
             Ok(seat)
         }
         _ => Err(LaneFault::Lost),

@@ -3,15 +3,16 @@
 #![tactic(auto)]
 
 mod fault;
-mod gives;
 mod joining;
 mod lane;
 mod lane_kind;
 mod links;
-mod new_lanes;
+mod new_fan;
 mod read_stage;
+mod record_giver;
 mod run;
 mod running;
+mod setting;
 mod starting;
 
 pub use fault::RunFault;

@@ -47,7 +47,7 @@ pub fn new_links<L: LaneKind>(alloc: Global, capacity: u32) -> Result<Links<L>, 
     })
 }
 
-/// Takes in the links of a lane, by the ends that its stages gave back. So what the first stage told,
+/// Settles the links of a lane by the ends that its stages gave back. So what the first stage told,
 /// the last one told too.
 pub fn settle_lane<L: LaneKind, R: Wait>(
     rt: &R,

@@ -12,8 +12,9 @@ use crate::fault::{LaneFault, RunFault};
 use crate::joining::finish_lanes;
 use crate::lane::run_lane;
 use crate::lane_kind::LaneKind;
-use crate::new_lanes::new_fan;
-use crate::running::{LaneEnd, Promised, Running};
+use crate::new_fan::new_fan;
+use crate::running::{LaneEnd, LanePromise, Running};
+use crate::setting::Setting;
 use choices::Choice;
 use lanes::{Consumer, Gate, Message, Opener};
 use ruled_lanes::{Gatherer, LaneGiver, Seat, Tickets};
@@ -31,11 +32,18 @@ use std::thread::{Scope, Threads};
 ///
 /// `Memory`: no memory for links, the fan, tickets, buffers, or the lists of lanes. `Lost`: an end of a link
 /// or of the fan was gone. `Thread`: a thread could not be started. `Refused`: the consumer refused a message.
-pub fn run_lanes<L: LaneKind, C: Consumer<L::Entry>, R: Threads + Wait + Sync, O: Opener, G: Gate>(
-    rt: &R,
+pub fn run_lanes<
+    'r,
+    L: LaneKind,
+    C: Consumer<L::Entry>,
+    R: Threads + Wait + Sync,
+    O: Opener,
+    G: Gate,
+>(
+    rt: &'r R,
     alloc: Global,
-    opener: &O,
-    gate: &G,
+    opener: &'r O,
+    gate: &'r G,
     files: u32,
     lanes: u32,
     capacity: u32,
@@ -58,25 +66,28 @@ pub fn run_lanes<L: LaneKind, C: Consumer<L::Entry>, R: Threads + Wait + Sync, O
     let Ok((givers, gatherer)) = new_fan::<L::Entry>(alloc, capacity) else {
         return (consumer, Err(RunFault::Memory));
     };
-    let dealt = &tickets;
+    let shared = Setting {
+        rt,
+        alloc,
+        opener,
+        gate,
+        choice,
+        tickets: &tickets,
+        capacity,
+    };
+    let setting = &shared;
     let (consumer, ran) = thread::scope(
         thread::scope_env(),
         rt,
         move |scope| -> (C, Result<Vec<Seat>, RunFault<C::Refusal>>)
-            requires { (1 ≤ capacity) × (capacity ≤ MAX_CAPACITY) × (1 ≤ vec_len seats) × (vec_len seats ≤ LANES) × All (IsSeatOf dealt.now) seats.items
+            requires { (1 ≤ vec_len seats) × (vec_len seats ≤ LANES) × All (IsSeatOf setting.now.tickets.now) seats.items
                 × All IsUnused seats.items × (vec_len givers ≡ LANES) × AreNumbered (IsIdle gatherer) 0 givers.items × (gathered gatherer ≡ []) × C.holds consumer [] }
-            ensures { HasEnded C.holds C.gave_up choice (O.meaning opener.entry.now) dealt.entry.now (vec_len seats) result.0 result.1 × C.stays consumer result.0 }
+            ensures { HasEnded C.holds C.gave_up setting.entry.now.choice (O.meaning setting.entry.now.opener.now) setting.entry.now.tickets.now (vec_len seats) result.0 result.1 × C.stays consumer result.0 }
         {
             let mut consumer = consumer;
             let ran = start_lanes::<_, L, _, _, _, _>(
                 scope,
-                rt,
-                alloc,
-                opener,
-                gate,
-                choice,
-                dealt,
-                capacity,
+                setting,
                 seats,
                 givers,
                 gatherer,
@@ -105,41 +116,31 @@ fn start_lanes<
     G: Gate,
 >(
     scope: &'s Scope<'s, E>,
-    rt: &'s R,
-    alloc: Global,
-    opener: &'s O,
-    gate: &'s G,
-    choice: Choice,
-    tickets: &'s Tickets,
-    capacity: u32,
+    setting: &'s Setting<'s, R, O, G>,
     mut seats: Vec<Seat>,
     givers: Vec<LaneGiver<Message<L::Entry>>>,
     gatherer: Gatherer<Message<L::Entry>>,
     consumer: &mut C,
 ) -> Result<Vec<Seat>, RunFault<C::Refusal>>
-    requires least { 1 ≤ capacity }
-    requires most { capacity ≤ MAX_CAPACITY }
     requires some { (1 ≤ vec_len seats) × (vec_len seats ≤ LANES) }
-    requires seats { All (IsSeatOf tickets.now) seats.items }
+    requires seats { All (IsSeatOf setting.now.tickets.now) seats.items }
     requires unused { All IsUnused seats.items }
     requires lanes { vec_len givers ≡ LANES }
     requires idle { AreNumbered (IsIdle gatherer) 0 givers.items }
     requires none_gathered { gathered gatherer ≡ [] }
     requires empty { C.holds consumer.old [] }
-    ensures ended { HasEnded C.holds C.gave_up choice (O.meaning opener.now) tickets.now (vec_len seats) consumer.new result }
+    ensures ended { HasEnded C.holds C.gave_up setting.now.choice (O.meaning setting.now.opener.now) setting.now.tickets.now (vec_len seats) consumer.new result }
     ensures stays { C.stays consumer.old consumer.new }
 {
-    let mut running = match Vec::with_capacity(alloc, seats.len()) {
+    let mut running = match Vec::with_capacity(setting.alloc, seats.len()) {
         Ok(running) => running,
         Err(_) => return Err(RunFault::Memory),
     };
-    let mut idle = Vec::new(alloc);
+    let mut idle = Vec::new(setting.alloc);
     for giver in givers {
         match seats.pop() {
             Some(seat) => {
-                let started = match start_lane::<_, L, _, _, _>(
-                    scope, rt, alloc, opener, gate, choice, tickets, capacity, seat, giver,
-                ) {
+                let started = match start_lane::<_, L, _, _, _>(scope, setting, seat, giver) {
                     Ok(started) => started,
                     Err(fault) => return Err(RunFault::from(fault)),
                 };
@@ -154,49 +155,35 @@ fn start_lanes<
             },
         }
     }
-    finish_lanes(
-        rt, alloc, opener, choice, tickets, gatherer, running, idle, consumer,
-    )
+    finish_lanes(setting, gatherer, running, idle, consumer)
 }
 
 /// Starts a lane in a thread of its own.
 fn start_lane<'s, E, L: LaneKind + 's, R: Threads + Wait + Sync, O: Opener, G: Gate>(
     scope: &'s Scope<'s, E>,
-    rt: &'s R,
-    alloc: Global,
-    opener: &'s O,
-    gate: &'s G,
-    choice: Choice,
-    tickets: &'s Tickets,
-    capacity: u32,
+    setting: &'s Setting<'s, R, O, G>,
     seat: Seat,
     giver: LaneGiver<Message<L::Entry>>,
 ) -> Result<Running<L::Entry, O>, LaneFault>
-    requires least { 1 ≤ capacity }
-    requires most { capacity ≤ MAX_CAPACITY }
-    requires seat { IsSeatOf tickets.now seat }
+    requires seat { IsSeatOf setting.now.tickets.now seat }
     requires unused { IsUnused seat }
     requires none_given { given_at giver ≡ [] }
-    ensures choice { IfOk result (λ r. r.promise.choice ≡ choice) }
-    ensures opener { IfOk result (λ r. r.promise.opener.value ≡ opener.now) }
-    ensures tickets { IfOk result (λ r. r.promise.tickets.value ≡ tickets.now) }
+    ensures choice { IfOk result (λ r. r.promise.choice ≡ setting.now.choice) }
+    ensures opener { IfOk result (λ r. r.promise.opener.value ≡ setting.now.opener.now) }
+    ensures tickets { IfOk result (λ r. r.promise.tickets.value ≡ setting.now.tickets.now) }
     ensures giver { IfOk result (λ r. r.promise.giver.value ≡ giver) }
 {
-    let promise = Promised {
-        choice,
-        opener: Snapshot::of(opener),
-        tickets: Snapshot::of(tickets),
+    let promise = LanePromise {
+        choice: setting.choice,
+        opener: Snapshot::of(setting.opener),
+        tickets: Snapshot::of(setting.tickets),
         giver: Snapshot::of(&giver),
     };
     match scope.spawn_with(
         promise,
         move || -> LaneEnd<L::Entry>
-            requires { (1 ≤ capacity) × (capacity ≤ MAX_CAPACITY) × IsSeatOf tickets.now seat × IsUnused seat × (given_at giver ≡ []) }
-        {
-            run_lane::<L, _, _, _>(
-                rt, alloc, opener, gate, choice, tickets, capacity, seat, giver,
-            )
-        },
+            requires { IsSeatOf setting.now.tickets.now seat × IsUnused seat × (given_at giver ≡ []) }
+        { run_lane::<L, _, _, _>(setting, seat, giver) },
     ) {
         Ok(handle) => Ok(handle),
         Err(_) => Err(LaneFault::Thread),

@@ -18,16 +18,16 @@ pub struct LaneEnd<E: Numbered> {
 
 /// What the thread of a lane promises of the end and the seat that it gives back.
 #[derive(Drop)]
-pub struct Promised<E: Numbered, O: Opener> {
+pub struct LanePromise<E: Numbered, O: Opener> {
     pub choice: Choice,
     pub opener: Snapshot<O>,
     pub tickets: Snapshot<Tickets>,
     pub giver: Snapshot<LaneGiver<Message<E>>>,
 }
 
-impl<E: Numbered, O: Opener> Promise<LaneEnd<E>> for Promised<E, O> {
+impl<E: Numbered, O: Opener> Promise<LaneEnd<E>> for LanePromise<E, O> {
     ghost kept_by = { λ p end. EndsLane E.about p.choice (O.meaning p.opener.value) p.tickets.value p.giver.value end.giver end.seat };
 }
 
 /// A lane that runs.
-pub type Running<E, O> = PromisedHandle<LaneEnd<E>, Promised<E, O>>;
+pub type Running<E, O> = PromisedHandle<LaneEnd<E>, LanePromise<E, O>>;

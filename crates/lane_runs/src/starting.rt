@@ -9,69 +9,60 @@ ghost use Rattle.streams.specs.declared.reading.TheConstants.{PIECE};
 use crate::fault::LaneFault;
 use crate::lane_kind::LaneKind;
 use crate::read_stage::read_stage;
+use crate::setting::Setting;
 use choices::Choice;
 use lanes::{Gate, Message, Numbered, Opener, Staged, run_stage};
 use ruled_lanes::{Giver, Seat, Taker, Tickets};
-use std::alloc::Global;
 use std::snapshot::Snapshot;
 use std::sync::Wait;
 use std::thread::{Promise, PromisedHandle, Scope, Threads};
 
 /// What the thread of a lane's first stage promises of the end and the seat that it gives back.
 #[derive(Drop)]
-pub struct Reads<A: Numbered, O: Opener> {
+pub struct ReadPromise<A: Numbered, O: Opener> {
     pub choice: Choice,
     pub opener: Snapshot<O>,
     pub tickets: Snapshot<Tickets>,
     pub giver: Snapshot<Giver<Message<A>>>,
 }
 
-impl<A: Numbered, O: Opener> Promise<Option<(Giver<Message<A>>, Seat)>> for Reads<A, O> {
+impl<A: Numbered, O: Opener> Promise<Option<(Giver<Message<A>>, Seat)>> for ReadPromise<A, O> {
     ghost kept_by = { λ p result. IfSome result (λ ends.
         ReadsSeat A.about p.choice (O.meaning p.opener.value) p.tickets.value p.giver.value ends.0 ends.1) };
 }
 
 /// A first stage that runs in a thread of its own.
-pub type StartedRead<A, O> = PromisedHandle<Option<(Giver<Message<A>>, Seat)>, Reads<A, O>>;
+pub type StartedRead<A, O> = PromisedHandle<Option<(Giver<Message<A>>, Seat)>, ReadPromise<A, O>>;
 
 /// Starts the first stage of a lane in a thread of its own.
 pub fn start_read<'s, E, L: LaneKind + 's, R: Threads + Wait + Sync, O: Opener, G: Gate>(
     scope: &'s Scope<'s, E>,
-    rt: &'s R,
-    alloc: Global,
-    opener: &'s O,
-    gate: &'s G,
-    choice: Choice,
+    setting: &'s Setting<'s, R, O, G>,
     lane: u32,
-    tickets: &'s Tickets,
     seat: Seat,
     buffer: Vec<u8>,
     giver: Giver<Message<L::Framed>>,
 ) -> Result<StartedRead<L::Framed, O>, LaneFault>
-    requires seat { IsSeatOf tickets.now seat }
+    requires seat { IsSeatOf setting.now.tickets.now seat }
     requires unused { IsUnused seat }
     requires none_given { given giver ≡ [] }
     requires room { vec_len buffer ≡ PIECE }
-    ensures choice { IfOk result (λ started. started.promise.choice ≡ choice) }
-    ensures opener { IfOk result (λ started. started.promise.opener.value ≡ opener.now) }
-    ensures tickets { IfOk result (λ started. started.promise.tickets.value ≡ tickets.now) }
+    ensures choice { IfOk result (λ started. started.promise.choice ≡ setting.now.choice) }
+    ensures opener { IfOk result (λ started. started.promise.opener.value ≡ setting.now.opener.now) }
+    ensures tickets { IfOk result (λ started. started.promise.tickets.value ≡ setting.now.tickets.now) }
     ensures giver { IfOk result (λ started. started.promise.giver.value ≡ giver) }
 {
-    let promise = Reads {
-        choice,
-        opener: Snapshot::of(opener),
-        tickets: Snapshot::of(tickets),
+    let promise = ReadPromise {
+        choice: setting.choice,
+        opener: Snapshot::of(setting.opener),
+        tickets: Snapshot::of(setting.tickets),
         giver: Snapshot::of(&giver),
     };
     match scope.spawn_with(
         promise,
         move || -> Option<(Giver<Message<L::Framed>>, Seat)>
-            requires { IsSeatOf tickets.now seat × IsUnused seat × (given giver ≡ []) × (vec_len buffer ≡ PIECE) }
-        {
-            read_stage::<L, _, _, _>(
-                rt, alloc, opener, gate, choice, lane, tickets, seat, buffer, giver,
-            )
-        },
+            requires { IsSeatOf setting.now.tickets.now seat × IsUnused seat × (given giver ≡ []) × (vec_len buffer ≡ PIECE) }
+        { read_stage::<L, _, _, _>(setting, lane, seat, buffer, giver) },
     ) {
         Ok(started) => Ok(started),
         Err(_) => Err(LaneFault::Thread),
@@ -80,12 +71,12 @@ pub fn start_read<'s, E, L: LaneKind + 's, R: Threads + Wait + Sync, O: Opener, 
 
 /// What the thread of a stage promises of the ends that it gives back.
 #[derive(Drop)]
-pub struct Passes<A: Staged> {
+pub struct StagePromise<A: Staged> {
     pub taker: Snapshot<Taker<Message<A>>>,
     pub giver: Snapshot<Giver<Message<A::Next>>>,
 }
 
-impl<A: Staged> Promise<Option<(Taker<Message<A>>, Giver<Message<A::Next>>)>> for Passes<A> {
+impl<A: Staged> Promise<Option<(Taker<Message<A>>, Giver<Message<A::Next>>)>> for StagePromise<A> {
     ghost kept_by = { λ p result. IfSome result (λ ends.
         PassedAll A.about A.Next.about p.taker.value p.giver.value ends.0 ends.1) };
 }
@@ -93,15 +84,13 @@ impl<A: Staged> Promise<Option<(Taker<Message<A>>, Giver<Message<A::Next>>)>> fo
 /// A stage that runs in a thread of its own.
 pub type Started<A> = PromisedHandle<
     Option<(Taker<Message<A>>, Giver<Message<<A as Staged>::Next>>)>,
-    Passes<A>,
+    StagePromise<A>,
 >;
 
 /// Starts a stage in a thread of its own.
-pub fn start_stage<'s, E, A: Staged + 's, R: Threads + Wait + Sync, G: Gate>(
+pub fn start_stage<'s, E, A: Staged + 's, R: Threads + Wait + Sync, O: Opener, G: Gate>(
     scope: &'s Scope<'s, E>,
-    rt: &'s R,
-    alloc: Global,
-    gate: &'s G,
+    setting: &'s Setting<'s, R, O, G>,
     lane: u32,
     taker: Taker<Message<A>>,
     giver: Giver<Message<A::Next>>,
@@ -111,7 +100,7 @@ pub fn start_stage<'s, E, A: Staged + 's, R: Threads + Wait + Sync, G: Gate>(
     ensures taker { IfOk result (λ started. started.promise.taker.value ≡ taker) }
     ensures giver { IfOk result (λ started. started.promise.giver.value ≡ giver) }
 {
-    let promise = Passes {
+    let promise = StagePromise {
         taker: Snapshot::of(&taker),
         giver: Snapshot::of(&giver),
     };
@@ -119,7 +108,7 @@ pub fn start_stage<'s, E, A: Staged + 's, R: Threads + Wait + Sync, G: Gate>(
         promise,
         move || -> Option<(Taker<Message<A>>, Giver<Message<A::Next>>)>
             requires { (taken taker ≡ []) × (given giver ≡ []) }
-        { run_stage(rt, alloc, gate, lane, taker, giver) },
+        { run_stage(setting.rt, setting.alloc, setting.gate, lane, taker, giver) },
     ) {
         Ok(started) => Ok(started),
         Err(_) => Err(LaneFault::Thread),

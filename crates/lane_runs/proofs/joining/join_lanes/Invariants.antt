@@ -9,8 +9,8 @@ abbrev pub invariant-loop-handle : goal.invariant-loop-handle
 invariant-loop-handle g l = record {
   ran : List (LaneGiver (Message g.row.E.Denot));
   all : l.givers.items ≡ l.fn.givers.items ++ ran;
-  run : HaveRun g.E.Numbered.about l.fn.choice (g.O.Opener.meaning l.opener) l.tickets l.fn.gatherer 0 ran l.seats.items;
-  rest : AreNumbered (λ lane r. IsRunning l.fn.gatherer l.fn.choice l.opener l.tickets lane r.promise.choice r.promise.opener.value r.promise.tickets.value r.promise.giver.value) (vec_len l.seats) l.handle-iterator.rest.items;
+  run : HaveRun g.E.Numbered.about l.setting.choice (g.O.Opener.meaning l.setting.opener.now) l.setting.tickets.now l.fn.gatherer 0 ran l.seats.items;
+  rest : AreNumbered (λ lane r. IsRunning l.fn.gatherer l.setting.choice l.setting.opener.now l.setting.tickets.now lane r.promise.choice r.promise.opener.value r.promise.tickets.value r.promise.giver.value) (vec_len l.seats) l.handle-iterator.rest.items;
   count : vec_len l.seats + length l.handle-iterator.rest.items ≡ vec_len l.fn.running;
-  seats : All (λ s. IsSeatOf l.tickets s × (has_ended s ≡ true)) l.seats.items;
+  seats : All (λ s. IsSeatOf l.setting.tickets.now s × (has_ended s ≡ true)) l.seats.items;
 }

@@ -15,9 +15,9 @@ returns-in-Some-Some-Some-Some-clause-told g c =
     let read : ReadsSeat g.L.Framed.Numbered.about promise.choice (meaning promise.opener.value) promise.tickets.value promise.giver.value all.read all.seat =
     subst (λ r. IfSome r (λ ends. ReadsSeat g.L.Framed.Numbered.about promise.choice (meaning promise.opener.value) promise.tickets.value promise.giver.value ends.0 ends.1))
     all.is-0 c.join-read.ensures in
-    let told : TellsSeat g.L.Framed.Numbered.about c.args.choice (meaning c.args.opener.now) c.args.tickets.now all.seat (given all.read) =
-    subst (λ t. TellsSeat g.L.Framed.Numbered.about c.args.choice (meaning c.args.opener.now) t all.seat (given all.read)) c.in_ok-read.ensures.tickets
-    (subst (λ o. TellsSeat g.L.Framed.Numbered.about c.args.choice (meaning o) promise.tickets.value all.seat (given all.read)) c.in_ok-read.ensures.opener
+    let told : TellsSeat g.L.Framed.Numbered.about c.args.setting.now.choice (meaning c.args.setting.now.opener.now) c.args.setting.now.tickets.now all.seat (given all.read) =
+    subst (λ t. TellsSeat g.L.Framed.Numbered.about c.args.setting.now.choice (meaning c.args.setting.now.opener.now) t all.seat (given all.read)) c.in_ok-read.ensures.tickets
+    (subst (λ o. TellsSeat g.L.Framed.Numbered.about c.args.setting.now.choice (meaning o) promise.tickets.value all.seat (given all.read)) c.in_ok-read.ensures.opener
     (subst (λ x. TellsSeat g.L.Framed.Numbered.about x (meaning promise.opener.value) promise.tickets.value all.seat (given all.read)) c.in_ok-read.ensures.choice read.tells)) in
     let gave = given_at c.run_last_stage-draw.new.giver ++ Stop ∷ [] in
     let drew : IsPassedOn g.L.Shaped.Numbered.about g.L.Entry.Numbered.about (taken all.draw) gave =
@@ -25,5 +25,5 @@ returns-in-Some-Some-Some-Some-clause-told g c =
     record {
       seat_of = told.seat_of;
       ended = told.ended;
-      tells = c.settle_lane.ensures c.args.choice (meaning c.args.opener.now) (drawn all.seat) gave drew told.tells;
+      tells = c.settle_lane.ensures c.args.setting.now.choice (meaning c.args.setting.now.opener.now) (drawn all.seat) gave drew told.tells;
     }

@@ -7,7 +7,7 @@ use Rattle.lane_runs.proofs.read_stage.read_stage.Goals as goal
 pub returns-in-Ok : goal.returns-in-Ok
 returns-in-Ok g c =
     let about = g.L.Framed.Numbered.about in
-    let all = told_all c.args.choice (g.O.Opener.meaning c.args.opener.now) _ _ _ _ c.loop.invariant.told c.in_default.ensures.none.0
+    let all = told_all c.args.setting.now.choice (g.O.Opener.meaning c.args.setting.now.opener.now) _ _ _ _ c.loop.invariant.told c.in_default.ensures.none.0
     (notes-after about _ _ Stop c.in-Ok.ensures.ok) in
     record {
       to_same = c.give.ensures.link ∙ c.loop.invariant.to_same;
@@ -23,7 +23,7 @@ loop-preserved g c = record {
   room = c.loop.invariant.room;
   seat = c.draw.ensures.seat;
   to_same = c.give-in-loop.ensures.link ∙ c.read_file.ensures.stays ∙ c.loop.invariant.to_same;
-  told = told_more c.args.choice (g.O.Opener.meaning c.args.opener.now) c.in-Some-draw.file _ _ _ _ _ c.in-Ok-read_file.mark c.loop.invariant.told
+  told = told_more c.args.setting.now.choice (g.O.Opener.meaning c.args.setting.now.opener.now) c.in-Some-draw.file _ _ _ _ _ c.in-Ok-read_file.mark c.loop.invariant.told
       c.in-Some-draw.ensures.some c.in-Ok-read_file.ensures.kept
       (notes-after g.L.Framed.Numbered.about _ _ (End c.in-Some-draw.file c.in-Ok-read_file.mark) c.in-Ok-give.ensures.ok);
 }

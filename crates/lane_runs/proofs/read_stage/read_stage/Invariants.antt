@@ -9,7 +9,7 @@ use Rattle.lane_runs.proofs.read_stage.read_stage.Given as goal
 abbrev pub invariant-loop : goal.invariant-loop
 invariant-loop g l = record {
   room : vec_len l.buffer ≡ PIECE;
-  seat : IsSeatOf l.tickets l.seat;
+  seat : IsSeatOf l.setting.tickets.now l.seat;
   to_same : GivesToSame l.fn.giver l.gives.giver;
-  told : HasTold l.choice (g.O.Opener.meaning l.opener) (drawn l.seat) (notes g.L.Framed.Numbered.about (given l.gives.giver));
+  told : HasTold l.setting.choice (g.O.Opener.meaning l.setting.opener.now) (drawn l.seat) (notes g.L.Framed.Numbered.about (given l.gives.giver));
 }

@@ -21,7 +21,7 @@ loop-giver-preserved-in-Ok-push g c =
           (numbered_more _ 0 c.loop-giver.running.items now inv.running
           (started _ _ _ _ _ _ _ _ _ c.in-Some.giver _ rest.0 refl c.in-Ok-start_lane.ensures.giver c.in-Ok-start_lane.ensures.choice c.in-Ok-start_lane.ensures.opener c.in-Ok-start_lane.ensures.tickets));
       still = inv.still;
-      sits = (All-pop (IsSeatOf c.args.tickets.now) _ _ (Some c.in-Some-pop.seat) c.in-Some-pop.ensures.items inv.sits).0;
+      sits = (All-pop (IsSeatOf c.args.setting.now.tickets.now) _ _ (Some c.in-Some-pop.seat) c.in-Some-pop.ensures.items inv.sits).0;
       unused = (All-pop IsUnused _ _ (Some c.in-Some-pop.seat) c.in-Some-pop.ensures.items inv.unused).0;
     }
 
@@ -37,12 +37,12 @@ loop-giver-preserved g c =
       rest = numbered_as _ (vec_len c.args.seats + length c.loop-giver.idle.items + 1) _ _ _ (omega (arith, inv.count, none.0, c.in-Ok-push-2.ensures.len)) refl rest.1;
       running = inv.running;
       still = subst (AreNumbered _ (vec_len c.args.seats)) (sym c.in-Ok-push-2.ensures.items) (numbered_more _ (vec_len c.args.seats) c.loop-giver.idle.items c.in-Some.giver inv.still rest.0);
-      sits = (All-pop (IsSeatOf c.args.tickets.now) _ _ None c.in-None-pop.ensures.items inv.sits).0;
+      sits = (All-pop (IsSeatOf c.args.setting.now.tickets.now) _ _ None c.in-None-pop.ensures.items inv.sits).0;
       unused = (All-pop IsUnused _ _ None c.in-None-pop.ensures.items inv.unused).0;
     }
 
 pub start_lane-requires-clause-seat : goal.start_lane-requires-clause-seat
-start_lane-requires-clause-seat g c κs within = (All-pop (IsSeatOf c.args.tickets.now) _ _ (Some c.in-Some-pop.seat) c.in-Some-pop.ensures.items c.loop-giver.invariant.sits).1
+start_lane-requires-clause-seat g c κs within = (All-pop (IsSeatOf c.args.setting.now.tickets.now) _ _ (Some c.in-Some-pop.seat) c.in-Some-pop.ensures.items c.loop-giver.invariant.sits).1
 
 pub start_lane-requires-clause-unused : goal.start_lane-requires-clause-unused
 start_lane-requires-clause-unused g c κs within = (All-pop IsUnused _ _ (Some c.in-Some-pop.seat) c.in-Some-pop.ensures.items c.loop-giver.invariant.unused).1

@@ -1,4 +1,4 @@
-//! The fan that all lanes of a run give to.
+//! A new fan, to which all lanes of a run give.
 ghost use Rattle.std.specs.Prelude.{◌≡◌, ◌≤◌, [], All, IfOk, vec_len};
 ghost use Rattle.ruled_lanes.specs.declared.limits.TheConstants.{LANES, MAX_CAPACITY};
 ghost use Rattle.ruled_lanes.specs.FanEnds.{gathered, room_of_fan};

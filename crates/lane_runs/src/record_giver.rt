@@ -17,15 +17,15 @@ pub struct Gone;
 
 /// Passes the gate and gives a message for each record.
 #[derive(Drop)]
-pub struct Gives<'r, 'g, R, G, L: LaneKind> {
+pub struct RecordGiver<'r, 'g, R, G, L: LaneKind> {
     pub rt: &'r R,
     pub gate: &'g G,
     pub lane: u32,
     pub giver: Giver<Message<L::Framed>>,
 }
 
-impl<R: Wait, G: Gate, L: LaneKind> Keep for Gives<'_, '_, R, G, L> {
-    type Lost = Gone;
+impl<R: Wait, G: Gate, L: LaneKind> Keep for RecordGiver<'_, '_, R, G, L> {
+    type Refusal = Gone;
 
     ghost kept = { λ g. notes L.Framed.about (given g.giver) };
 
