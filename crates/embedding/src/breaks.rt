@@ -7,7 +7,7 @@ ghost use Rattle.embedding.specs.Rules.{Breaks, KeepsBefore, FirstBroken, NamesT
 
 use crate::lists::Lists;
 use crate::pairs::Pairs;
-use crate::reached::breaks_disconnected;
+use crate::reach::breaks_disconnected;
 use crate::rules::Rule;
 
 /// Whether some entry of the list is greater than n.

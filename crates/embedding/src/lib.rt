@@ -10,7 +10,7 @@ mod graphs;
 mod lesser_darts;
 mod lists;
 mod pairs;
-mod reached;
+mod reach;
 mod rules;
 mod tables;
 

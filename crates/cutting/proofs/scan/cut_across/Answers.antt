@@ -26,27 +26,27 @@ pub chord-requires-clause-linked : goal.chord-requires-clause-linked
 chord-requires-clause-linked c =
     let t = c.args.table.now in
     let read = reads t.darts t.vertices t.next.items t.prev.items t.reverse_dart.items t.head.items t.direction.items t.angle.items t.before.items
-    c.args.d c.args.c c.index-e.result.now c.index-facing.result.now c.index.result.now c.index-2.result.now
+    c.args.d c.args.c c.index-e.result.now c.index-edge_direction.result.now c.index.result.now c.index-2.result.now
     c.requires.sound c.requires.can (omega arith) (omega arith) (omega arith)
-    c.index-e.ensures c.index-facing.ensures c.index.ensures c.index-2.ensures in
+    c.index-e.ensures c.index-edge_direction.ensures c.index.ensures c.index-2.ensures in
     read_linked (web_of t) c.args.d c.args.c _ _ _ _ (web_of c.split.new.self) read c.requires.sound c.requires.can c.split.ensures.split
 
 pub chord-requires-clause-fits : goal.chord-requires-clause-fits
 chord-requires-clause-fits c =
     let t = c.args.table.now in
     let read = reads t.darts t.vertices t.next.items t.prev.items t.reverse_dart.items t.head.items t.direction.items t.angle.items t.before.items
-    c.args.d c.args.c c.index-e.result.now c.index-facing.result.now c.index.result.now c.index-2.result.now
+    c.args.d c.args.c c.index-e.result.now c.index-edge_direction.result.now c.index.result.now c.index-2.result.now
     c.requires.sound c.requires.can (omega arith) (omega arith) (omega arith)
-    c.index-e.ensures c.index-facing.ensures c.index.ensures c.index-2.ensures in
+    c.index-e.ensures c.index-edge_direction.ensures c.index.ensures c.index-2.ensures in
     read_fits (web_of t) c.args.d c.args.c _ _ _ _ (web_of c.split.new.self) read c.requires.sound c.requires.can c.split.ensures.split
 
 pub returns-clause-cut : goal.returns-clause-cut
 returns-clause-cut c =
     let t = c.args.table.now in
     let read = reads t.darts t.vertices t.next.items t.prev.items t.reverse_dart.items t.head.items t.direction.items t.angle.items t.before.items
-    c.args.d c.args.c c.index-e.result.now c.index-facing.result.now c.index.result.now c.index-2.result.now
+    c.args.d c.args.c c.index-e.result.now c.index-edge_direction.result.now c.index.result.now c.index-2.result.now
     c.requires.sound c.requires.can (omega arith) (omega arith) (omega arith)
-    c.index-e.ensures c.index-facing.ensures c.index.ensures c.index-2.ensures in (
+    c.index-e.ensures c.index-edge_direction.ensures c.index.ensures c.index-2.ensures in (
       (c.index.result.now + 7 - c.index-2.result.now) % 4,
       read_cut (web_of t) c.args.d c.args.c _ _ _ _ (web_of c.split.new.self) (web_of c.chord.new.self) read c.requires.sound c.requires.can
           c.split.ensures.split c.chord.ensures.chord,

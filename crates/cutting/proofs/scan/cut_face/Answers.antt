@@ -7,14 +7,14 @@ use Rattle.cutting.proofs.Stacks.{inside_put}
 use Rattle.cutting.proofs.Reading.{reading_begins, reading_top, reading_waits, reading_more, reading_done, all_below, all_small, below_turned}
 use Rattle.cutting.proofs.scan.cut_face.Goals as goal
 
-pub highest-turn-requires-clause-inside : goal.highest-turn-requires-clause-inside
-highest-turn-requires-clause-inside c =
+pub highest-start-requires-clause-inside : goal.highest-start-requires-clause-inside
+highest-start-requires-clause-inside c =
     let t = c.args.table.now in
     let below : Below t.darts c.args.ring.now = below_left t.darts c.args.ring.now (joined c.requires.waiting.1) c.requires.waiting.2.below in
     all_below t.darts (length c.as_slice.result.now) c.args.ring.now (omega (arith, c.as_slice.ensures.len)) below
 
-pub highest-turn-requires-clause-small : goal.highest-turn-requires-clause-small
-highest-turn-requires-clause-small c =
+pub highest-start-requires-clause-small : goal.highest-start-requires-clause-small
+highest-start-requires-clause-small c =
     let t = c.args.table.now in
     let below : Below t.darts c.args.ring.now = below_left t.darts c.args.ring.now (joined c.requires.waiting.1) c.requires.waiting.2.below in
     subst (λ (A : List ℕ). All (λ a. get_or A a 0 ≤ 4) c.args.ring.now) (sym c.as_slice.ensures.value)
@@ -24,12 +24,12 @@ pub corners-init : goal.corners-init
 corners-init c =
     let t = c.args.table.now in
     let face = c.args.ring.now in
-    let m = c.highest-turn.result in
+    let m = c.highest-start.result in
     let below : Below t.darts face = below_left t.darts face (joined c.requires.waiting.1) c.requires.waiting.2.below in
     let turned : Below t.darts (drop m face ++ take m face) = below_turned t.darts m face below in
     reading_begins (web_of t) face (room t) m c.rotate_left.new.self c.requires.sound c.requires.waiting.0 c.requires.waiting.1 c.requires.waiting.2
     c.requires.space
-    (subst (λ (A : List ℕ). IsHighest (map (λ (a : ℕ). get_or A a 0) face) m) c.as_slice.ensures.value c.highest-turn.ensures)
+    (subst (λ (A : List ℕ). IsHighest (map (λ (a : ℕ). get_or A a 0) face) m) c.as_slice.ensures.value c.highest-start.ensures)
     c.rotate_left.ensures.after
     (subst (λ (xs : List ℕ). All (λ a. a < room t) xs) (sym c.rotate_left.ensures.after)
     (all_below t.darts (room t) (drop m face ++ take m face) (omega arith) turned))

@@ -1,6 +1,6 @@
 use Rattle.std.proofs.Common.{◌-◌, length}
 use Rattle.embedding.proofs.Reached.{IsWalking}
-use Rattle.embedding.proofs.reached.reached_from_first.Given as goal
+use Rattle.embedding.proofs.reach.reached_from_first.Given as goal
 
 abbrev pub invariant-loop-done : goal.invariant-loop-done
 invariant-loop-done l = IsWalking l.lists l.vertices.reached l.vertices.queue l.vertices.found l.done

@@ -1,6 +1,6 @@
 use Rattle.std.proofs.Common.{get_or, refl, arith}
 use Rattle.embedding.proofs.Reached.{reaches_more, reaches_listed, reaches_others}
-use Rattle.embedding.proofs.reached.reach_all.Goals as goal
+use Rattle.embedding.proofs.reach.reach_all.Goals as goal
 
 pub loop-v-preserved : goal.loop-v-preserved
 loop-v-preserved c =

@@ -1,6 +1,6 @@
 use Rattle.std.proofs.Common.{◌≡◌, ℕ, ◌<◌, get_or, false, sym, ap, ◌∙◌, arith}
 use Rattle.embedding.proofs.Reached.{queue_room, queue_more, marks_others}
-use Rattle.embedding.proofs.reached.reach.Goals as goal
+use Rattle.embedding.proofs.reach.reach.Goals as goal
 
 pub bounds-vertices-vertices : goal.bounds-vertices-vertices
 bounds-vertices-vertices c =

@@ -1,7 +1,7 @@
 use Rattle.std.proofs.Common.{◌≡◌, ℕ, ◌+◌, ◌-◌, ◌<◌, get_or, true, false, subst, arith}
 use Rattle.embedding.proofs.EachList.{yes_is, no_is}
 use Rattle.embedding.proofs.Reached.{unreached_breaks, reached_keeps}
-use Rattle.embedding.proofs.reached.breaks_disconnected.Goals as goal
+use Rattle.embedding.proofs.reach.breaks_disconnected.Goals as goal
 
 pub returns : goal.returns
 returns c =

@@ -1,5 +1,5 @@
 use Rattle.embedding.proofs.Reached.{Reaches}
-use Rattle.embedding.proofs.reached.reach_all.Given as goal
+use Rattle.embedding.proofs.reach.reach_all.Given as goal
 
 abbrev pub invariant-loop-v : goal.invariant-loop-v
 invariant-loop-v l =

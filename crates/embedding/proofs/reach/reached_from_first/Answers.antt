@@ -1,6 +1,6 @@
 use Rattle.std.proofs.Common.{replicate, false, refl, arith}
 use Rattle.embedding.proofs.Reached.{queue_none, queue_short, blank_marks, walking_starts, walking_more, walking_ends}
-use Rattle.embedding.proofs.reached.reached_from_first.Goals as goal
+use Rattle.embedding.proofs.reach.reached_from_first.Goals as goal
 
 pub reach-requires : goal.reach-requires
 reach-requires c =
