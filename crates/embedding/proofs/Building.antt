@@ -67,8 +67,8 @@ entries_of-push lists l = map-append (λ (x : SmallVec ℕ). x.items) lists (l �
 -- ---- darts
 
 -- the dart from `head` to `tail` is the reverse of the one from `tail` to `head`
-pub reverse_is : (g : List (List ℕ)) → KeepsBefore g 8 → (tail head m i e : ℕ) → head ≡ suc m → m < length g → i < length (get_or g m []) → get_or (get_or g m []) i 0 ≡ tail → e ≡ first_dart g m + i → (d : ℕ) → d < dart_count g → tail_of g d ≡ tail → head_of g d ≡ head → e ≡ reverse_of g d
-reverse_is g rules tail head m i e vertex list inside entry number d below at-tail at-head =
+pub reverse_found : (g : List (List ℕ)) → KeepsBefore g 8 → (tail head m i e : ℕ) → head ≡ suc m → m < length g → i < length (get_or g m []) → get_or (get_or g m []) i 0 ≡ tail → e ≡ first_dart g m + i → (d : ℕ) → d < dart_count g → tail_of g d ≡ tail → head_of g d ≡ head → e ≡ reverse_of g d
+reverse_found g rules tail head m i e vertex list inside entry number d below at-tail at-head =
     let s : Stands 1 g e m i = stands_at 1 g e m i list inside number in
     let o = reverse_is g rules d below in
     let in-e : e < dart_count g = omega (arith, stands_below g m i list inside) in

@@ -5,7 +5,7 @@ use Rattle.embedding.specs.Darts.{first_dart}
 use Rattle.embedding.proofs.Entries.{stands_below}
 use Rattle.embedding.proofs.KeptFacts.{list_of-short}
 use Rattle.embedding.proofs.Rotation.{list_of-place, listed_back}
-use Rattle.embedding.proofs.Building.{reverse_is}
+use Rattle.embedding.proofs.Building.{reverse_found}
 use Rattle.embedding.proofs.tables.reverse_between.Goals as goal
 
 pub place_of-place-requires : goal.place_of-place-requires
@@ -40,4 +40,4 @@ returns c =
     let entry : get_or (get_or g m []) i 0 ≡ c.args.tail =
     ap (λ (l : List ℕ). get_or l i 0) (sym (c.of_vertex.ensures ∙ same)) ∙ c.place_of-place.ensures.here in
     let number : c.first_dart.result + i ≡ first_dart g m + i = omega arith in
-    reverse_is g c.requires.rules c.args.tail c.args.head m i (c.first_dart.result + i) vertex list inside entry number
+    reverse_found g c.requires.rules c.args.tail c.args.head m i (c.first_dart.result + i) vertex list inside entry number
