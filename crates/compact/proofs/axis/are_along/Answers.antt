@@ -13,8 +13,8 @@ loop-dart-preserved c =
     let x : ℕ → ℕ = λ v. slice_index c.args.numbers.now v in
     let way : quarters c.direction.result ≡ w.direction d = c.direction.ensures.value in
     let kept = c.if-not-is_kept.ensures in
-    let from = ap x c.tail-tail.ensures.value in
-    let to = ap x c.head-head.ensures.value in
+    let from = ap x c.tail.ensures.value in
+    let to = ap x c.head.ensures.value in
     along_next w k d x
     (λ ahead. omega (arith, kept.forward refl (way ∙ ahead), from, to))
     (λ one two. omega (arith, kept.across refl (λ e. one (sym way ∙ e)) (λ e. two (sym way ∙ e)), from, to))
