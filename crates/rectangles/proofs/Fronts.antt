@@ -77,13 +77,13 @@ AllPairs-front front xs i f all = λ m n d lt within.
 
 -- A write to the part of a list from a on that k elements make up.
 module _ (a k : ℕ) (xs ys : List ℕ) (within : a + k ≤ length xs) (same : length ys ≡ k) where
-  written : (y : ℕ) → a ≤ y → y < a + k → get_or (put_mid a k xs ys) y 0 ≡ get_or ys (y - a) 0
+  pub written : (y : ℕ) → a ≤ y → y < a + k → get_or (put_mid a k xs ys) y 0 ≡ get_or ys (y - a) 0
   written y low high = search (rules, places)
 
-  below : (y : ℕ) → y < a → get_or (put_mid a k xs ys) y 0 ≡ get_or xs y 0
+  pub below : (y : ℕ) → y < a → get_or (put_mid a k xs ys) y 0 ≡ get_or xs y 0
   below y low = search (rules, places)
 
-  above : (y : ℕ) → a + k ≤ y → get_or (put_mid a k xs ys) y 0 ≡ get_or xs y 0
+  pub above : (y : ℕ) → a + k ≤ y → get_or (put_mid a k xs ys) y 0 ≡ get_or xs y 0
   above y high = search (rules, places)
 
 pub Passes-part : (front part : List ℕ) (r : Rectangle) → IsFilled r → r.top < length front → EachIndex (mid_of r.bottom (r.top + 1 - r.bottom) front) (λ k. get_or (mid_of r.bottom (r.top + 1 - r.bottom) front) k 0 ≤ r.left) → part ≡ replicate (length (mid_of r.bottom (r.top + 1 - r.bottom) front)) (r.right + 1) → Passes front (put_mid r.bottom (r.top + 1 - r.bottom) front part) r

@@ -1,3 +1,4 @@
 pub mod Fronts
 pub mod Holdings
+pub mod Marking
 pub mod Pairs

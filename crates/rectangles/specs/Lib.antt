@@ -1,3 +1,4 @@
 pub mod Front
-pub mod Rectangles
 pub mod Map
+pub mod Masks
+pub mod Rectangles

@@ -1,15 +1,18 @@
 //! Rectangles of whole points, and whether any two of a list have a point in common.
 //!
-//! The method is a sweep from left to right (Shamos and Hoey 1976, for axis-parallel rectangles). Where
-//! the rectangles have few rows, the front of the sweep stands in a table by rows; else the rectangles
-//! that it still meets stand in a map.
+//! Where all rectangles lie in few rows and columns, their points are marked by bits. Else the method is
+//! a sweep from left to right (Shamos and Hoey 1976, for axis-parallel rectangles). Where the rectangles
+//! have few rows, the front of the sweep stands in a table by rows; else the rectangles that it still
+//! meets stand in a map.
 #![tactic(auto)]
 
 mod front;
 mod map;
+mod masks;
 
 ghost use Rattle.std.specs.Prelude.{◌<◌, ◌↔◌, IsTrue, IfOk, IfSome, All, AllPairs};
 ghost use Rattle.std.specs.List.Sorted.{IsNonDecreasingBy};
+ghost use Rattle.rectangles.specs.declared.masks.TheConstants.{COLUMNS};
 ghost use Rattle.rectangles.specs.Rectangles.{IsFilled, AreApart};
 
 use std::alloc::{AllocError, Global};
@@ -44,7 +47,7 @@ pub fn all_apart(alloc: Global, mut rectangles: Vec<Rectangle>) -> Result<bool, 
     all_apart_in(alloc, &mut rectangles, &mut Vec::new(alloc))
 }
 
-/// The same of a list that is lent, which it sorts, with a table in the memory of the other list.
+/// The same of a list that is lent, which it may sort, with a table in the memory of the other list.
 ///
 /// # Errors
 ///
@@ -57,8 +60,13 @@ pub fn all_apart_in(
     requires { All IsFilled rectangles.old.items }
     ensures { IfOk result (λ apart. IsTrue apart ↔ AllPairs AreApart rectangles.old.items) }
 {
-    rectangles.sort_unstable_by_key(|r| r.left);
-    sweep(alloc, rectangles, table)
+    match narrow_height(rectangles) {
+        Some(height) => masks::mark_all(rectangles, height, table),
+        None => {
+            rectangles.sort_unstable_by_key(|r| r.left);
+            sweep(alloc, rectangles, table)
+        }
+    }
 }
 
 // The same of rectangles that are sorted by their left columns.
@@ -89,4 +97,16 @@ fn table_height(rectangles: &[Rectangle]) -> Option<usize>
         return None;
     }
     Some(height)
+}
+
+// The same, where moreover all rectangles lie in the columns that have bits.
+fn narrow_height(rectangles: &[Rectangle]) -> Option<usize>
+    requires { All IsFilled rectangles.now }
+    ensures narrow { IfSome result (λ _. All (λ r. r.right < COLUMNS) rectangles.now) }
+    ensures low { IfSome result (λ height. All (λ r. r.top < height) rectangles.now) }
+{
+    if rectangles.iter().any(|r| r.right >= masks::COLUMNS) {
+        return None;
+    }
+    table_height(rectangles)
 }

@@ -8,7 +8,7 @@ use Rattle.entries.specs.declared.entry.Entry.{Entry}
 use Rattle.reports.specs.declared.form.Form.{Form}
 use Rattle.printing.specs.FormLines.{line_in, head_in, lines_in}
 use Rattle.texts.specs.declared.waiting.Waiting.{Waiting}
-use Rattle.texts.specs.Came.{Came, none_come, HasMark, HasEntryMore, HasMarkMore}
+use Rattle.texts.specs.Came.{Came, nothing, HasMark, HasEntryMore, HasMarkMore}
 use Rattle.texts.specs.Waits.{ChangesAt, IsNothing, IsCountedOne, GetsLine, GetsMark}
 use Rattle.texts.specs.Written.{GoesOn, begun, ended, ended_texts, IsCounted, AreWritten}
 use Rattle.texts.proofs.Waits.{after_change, changes_both}

@@ -21,7 +21,7 @@ use Rattle.reports.specs.Forms.{text_in}
 use Rattle.printing.specs.FormLines.{book_in}
 use Rattle.printing.specs.Spelt.{IsSpelt}
 use Rattle.printing.proofs.BookTexts.{text_by_lines}
-use Rattle.texts.specs.Came.{Came, HasEntryMore, HasMarkMore, none_come, closed, mark_or_memory}
+use Rattle.texts.specs.Came.{Came, HasEntryMore, HasMarkMore, nothing, closed, mark_or_memory}
 use Rattle.texts.specs.Orders.{MayEnd, IsInOrder}
 use Rattle.texts.specs.Written.{ended_texts}
 use Rattle.texts.specs.Holding.{LeavesOff}

@@ -1,0 +1,81 @@
+//! Marks on a grid of few columns: for each row a word with a bit for each column. The rectangles need no
+//! order. It takes a step for each row of the table and two for each row of each rectangle.
+
+ghost use Rattle.std.specs.Prelude.{◌≡◌, ◌≢◌, ◌+◌, ◌-◌, ◌^◌, ◌<◌, ◌≤◌, ◌↔◌, ℕ, IsTrue, IfOk, All, AllPairs, length, slice_index, SomeIndex, EachIndex};
+ghost use Rattle.std.specs.Bool.{OnTrue, OnFalse};
+ghost use Rattle.std.specs.Int.Bits.{bit_and, bit_or};
+ghost use Rattle.rectangles.specs.declared.masks.TheConstants.{COLUMNS};
+ghost use Rattle.rectangles.specs.Rectangles.{IsFilled, AreApart};
+ghost use Rattle.rectangles.specs.Masks.{Marks, IsMet};
+
+use crate::Rectangle;
+use std::alloc::AllocError;
+
+// How many columns a row has.
+pub(crate) const COLUMNS: u32 = 63;
+
+// Whether no two of the rectangles have a point in common. All lie left of column `COLUMNS` and below row
+// `height`. The marks stand in the memory of the list that is lent.
+pub(crate) fn mark_all(
+    rectangles: &[Rectangle],
+    height: usize,
+    table: &mut Vec<u64>,
+) -> Result<bool, AllocError>
+    requires filled { All IsFilled rectangles.now }
+    requires narrow { All (λ r. r.right < COLUMNS) rectangles.now }
+    requires low { All (λ r. r.top < height) rectangles.now }
+    ensures { IfOk result (λ apart. IsTrue apart ↔ AllPairs AreApart rectangles.now) }
+{
+    table.clear();
+    table.resize(height, 0)?;
+    for rectangle in rectangles {
+        if !mark(table, *rectangle) {
+            return Ok(false);
+        }
+    }
+    Ok(true)
+}
+
+// Marks the points of a rectangle; false where one of them is marked already.
+fn mark(table: &mut [u64], new: Rectangle) -> bool
+    requires filled { IsFilled new }
+    requires narrow { new.right < COLUMNS }
+    requires low { new.top < length table.old }
+    ensures marks { OnTrue result (Marks table.old table.new new) }
+    ensures met { OnFalse result (IsMet table.old new) }
+{
+    let mask = mask_of(new.left, new.right);
+    let rows = &mut table[new.bottom as usize..=new.top as usize];
+    if meets(rows, mask) {
+        return false;
+    }
+    add_mask(rows, mask);
+    true
+}
+
+// The bits of the columns from one to another.
+fn mask_of(left: u32, right: u32) -> u64
+    requires filled { left ≤ right }
+    requires narrow { right < COLUMNS }
+    ensures { result ≡ 2 ^ (right + 1) - 2 ^ left }
+{
+    (1u64 << (right + 1)) - (1u64 << left)
+}
+
+// Whether one of these rows has a bit of the mask.
+fn meets(rows: &[u64], mask: u64) -> bool
+    ensures some { OnTrue result (SomeIndex rows.now (λ y. bit_and (slice_index rows.now y) mask ≢ 0)) }
+    ensures none { OnFalse result (EachIndex rows.now (λ y. bit_and (slice_index rows.now y) mask ≡ 0)) }
+{
+    rows.iter().any(|row| *row & mask != 0)
+}
+
+// Adds the bits of the mask to each of these rows.
+fn add_mask(rows: &mut [u64], mask: u64)
+    ensures count { length rows.new ≡ length rows.old }
+    ensures each { (y : ℕ) → y < length rows.old → slice_index rows.new y ≡ bit_or (slice_index rows.old y) mask }
+{
+    for row in rows.iter_mut() {
+        *row |= mask;
+    }
+}
