@@ -16,13 +16,14 @@ fn are_filled(rectangles: &[Rectangle]) -> bool
         .all(|r| r.left <= r.right && r.bottom <= r.top)
 }
 
-// A rectangle from its left and right columns and its bottom and top rows, moved up as far as it can be
-// or by so many rows.
-fn rectangle(sides: [u32; 4], up: u32) -> Rectangle {
+// A rectangle from its left and right columns and its bottom and top rows, moved to the right and up by so
+// many columns and rows, or as far as it can be.
+fn rectangle(sides: [u32; 4], by: [u32; 2]) -> Rectangle {
     let [left, right, bottom, top] = sides;
+    let [across, up] = by;
     Rectangle {
-        left,
-        right,
+        left: left.saturating_add(across),
+        right: right.saturating_add(across),
         bottom: bottom.saturating_add(up),
         top: top.saturating_add(up),
     }
@@ -32,11 +33,11 @@ fn answer(
     rt: &impl Abort,
     alloc: Global,
     sides: [[u32; 4]; 3],
-    up: u32,
+    by: [u32; 2],
 ) -> Result<bool, AllocError> {
     let mut list = Vec::new(alloc);
     for one in sides {
-        list.push(rectangle(one, up))?;
+        list.push(rectangle(one, by))?;
     }
     assert!(rt; are_filled(&list));
     all_apart(alloc, list)
@@ -70,15 +71,15 @@ fn count_lacking(rt: &impl Abort, found: Result<bool, AllocError>, apart: bool) 
     }
 }
 
-// Rectangles, all but the last in few rows, which go into a table, and the same a thousand rows up, which go
-// into a map. Run
-// with each allocation refused in turn too: then one answer is not given, and the others are right.
+// Rectangles, all but the last in few rows and columns, which are marked by bits, the same a thousand columns
+// to the right, which go into a table, and a thousand rows up, which go into a map. Run with each allocation
+// refused in turn too: then one answer is not given, and the others are right.
 #[test]
 fn tells_what_is_apart(rt: HostRuntime) {
     let mut lacking = 0u8;
     for (sides, apart) in CASES {
-        for up in [0, 1000] {
-            let found = answer(&rt, rt.alloc(), sides, up);
+        for by in [[0, 0], [1000, 0], [0, 1000]] {
+            let found = answer(&rt, rt.alloc(), sides, by);
             lacking = lacking.saturating_add(count_lacking(&rt, found, apart));
         }
     }
