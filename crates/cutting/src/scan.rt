@@ -1,6 +1,6 @@
 //! Cuts, and the scan of a face that cuts it into boxes.
 
-ghost use Rattle.std.specs.Prelude.{◌≡◌, ◌≢◌, ℕ, ◌+◌, ◌-◌, ◌*◌, ◌^◌, ◌<◌, ◌≤◌, ◌↔◌, List, [], ◌∷◌, length, map, drop, sum, slice_index, true, All};
+ghost use Rattle.std.specs.Prelude.{◌≡◌, ◌≢◌, ℕ, ◌+◌, ◌-◌, ◌*◌, ◌^◌, ◌<◌, ◌≤◌, ◌↔◌, List, [], ◌∷◌, length, map, drop, sum, slice_index, true, IsTrue, All};
 ghost use Rattle.cutting.specs.Webs.{IsSound, IsCut, Grows};
 ghost use Rattle.cutting.specs.Tables.{web_of, room};
 ghost use Rattle.cutting.specs.Faces.{AreWaiting, cut_up};
@@ -27,6 +27,14 @@ pub fn cut_across(table: &mut DartTable, d: u32, c: u32)
     table.chord(d, first, chord_direction);
 }
 
+/// Whether these angles are a right turn and two left turns. It is no chain of branches, since none of them could be
+/// foreseen.
+fn are_hook(right: u8, below: u8, top: u8) -> bool
+    ensures { IsTrue result ↔ ((2 < right) × (below ≡ 1) × (top ≡ 1)) }
+{
+    (right > 2) & (below == 1) & (top == 1)
+}
+
 /// Whether the uppermost corners of the stack are a left turn on a left turn on a right turn.
 fn has_hook(table: &DartTable, ring: &[u32], height: usize) -> bool
     requires high { height ≤ length ring.now }
@@ -37,15 +45,9 @@ fn has_hook(table: &DartTable, ring: &[u32], height: usize) -> bool
         return false;
     }
     let top = table.angle[ring[height - 1] as usize];
-    if top != 1 {
-        return false;
-    }
     let below = table.angle[ring[height - 2] as usize];
-    if below != 1 {
-        return false;
-    }
     let right = table.angle[ring[height - 3] as usize];
-    right > 2
+    are_hook(right, below, top)
 }
 
 /// Cuts at the uppermost corners of the stack as long as they are two left turns on a right turn, and

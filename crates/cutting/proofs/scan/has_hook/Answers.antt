@@ -1,18 +1,8 @@
-use Rattle.std.proofs.Common.{◌-◌, get_or, arith, ◌∙◌}
-use Rattle.std.proofs.lemmas.Bool.{lt-ltb, ltb-true}
+use Rattle.std.proofs.Common.{◌-◌, get_or, arith}
 use Rattle.std.proofs.lemmas.List.{get_or_read}
 use Rattle.cutting.specs.Tables.{web_of}
 use Rattle.cutting.proofs.Stacks.{hook_parts, hook_from}
 use Rattle.cutting.proofs.scan.has_hook.Goals as goal
-
-pub returns-then-below-ne1 : goal.returns-then-below-ne1
-returns-then-below-ne1 c =
-    let t = c.args.table.now in
-    let xs = c.args.ring.now in
-    let h = c.args.height in
-    let inside = c.requires.inside (h - 2) 0 (omega arith) in
-    let below = get_or_read t.angle.items (get_or xs (h - 2) 0) c.index-below.result.now (omega (arith, inside)) c.index-below.ensures 0 in
-    (λ e. absurd (cc), λ hook. absurd (c.if-below-ne1.true (below ∙ (hook_parts (web_of t) xs h hook).1)))
 
 pub returns : goal.returns
 returns c =
@@ -25,7 +15,8 @@ returns c =
     let top = get_or_read t.angle.items (get_or xs (h - 1) 0) c.index-top.result.now (omega (arith, at1)) c.index-top.ensures 0 in
     let below = get_or_read t.angle.items (get_or xs (h - 2) 0) c.index-below.result.now (omega (arith, at2)) c.index-below.ensures 0 in
     let right = get_or_read t.angle.items (get_or xs (h - 3) 0) c.index-right.result.now (omega (arith, at3)) c.index-right.ensures 0 in (
-      λ e. hook_from (web_of t) xs h (omega arith) (omega (arith, top)) (omega (arith, below))
-          (omega (arith, right, ltb-true 2 c.index-right.result.now e)),
-      λ hook. lt-ltb 2 c.index-right.result.now (omega (arith, right, (hook_parts (web_of t) xs h hook).2)),
+      λ e. let parts = c.are_hook.ensures.0 e in
+          hook_from (web_of t) xs h (omega arith) (omega (arith, top, parts.2)) (omega (arith, below, parts.1)) (omega (arith, right, parts.0)),
+      λ hook. let parts = hook_parts (web_of t) xs h hook in
+          c.are_hook.ensures.1 (omega (arith, right, parts.2), omega (arith, below, parts.1), omega (arith, top, parts.0)),
     )
