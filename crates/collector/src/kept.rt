@@ -16,7 +16,7 @@ pub struct Entries {
 }
 
 impl Keep for Entries {
-    type Lost = AllocError;
+    type Refusal = AllocError;
 
     ghost kept = { λ e. map (λ entry. Item (about_of entry)) e.entries.items };
 

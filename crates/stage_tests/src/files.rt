@@ -36,7 +36,7 @@ struct Shelf {
 }
 
 impl Keep for Shelf {
-    type Lost = AllocError;
+    type Refusal = AllocError;
 
     ghost kept = { λ s. map (λ r. Item (record { file = r.file; ordinal = r.ordinal; bytes = r.rec; choice = r.choice })) s.records.items };
 
