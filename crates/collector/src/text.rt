@@ -1,5 +1,5 @@
 //! A run whose text leaves as it is made.
-ghost use Rattle.std.specs.Prelude.{◌≡◌, ◌≤◌, ◌<◌, ◌⊎◌, ◌↔◌, List, [], Err, false, true, IfOk, IfErr, OnErr};
+ghost use Rattle.std.specs.Prelude.{◌≡◌, ◌≤◌, ◌<◌, ◌⊎◌, ◌↔◌, List, [], Err, false, true, IfOk, IfErr, OnOk, OnErr};
 ghost use Rattle.ruled_lanes.specs.declared.limits.TheConstants.{LANES, MAX_CAPACITY, MAX_TICKETS};
 ghost use Rattle.books.specs.declared.limits.TheConstants.{MAX_FILES};
 ghost use Rattle.lanes.specs.Notes.{Note};
@@ -12,7 +12,7 @@ ghost use Rattle.collector.specs.TextRuns.{IsRefusedRun};
 use crate::run::MAX_LANES;
 use books::MAX_FILES;
 use choices::Choice;
-use lane_runs::{RunFault, run_lanes};
+use lane_runs::{LaneKind, RunFault, run_lanes};
 use lanes::{Consumer, Gate, Opener};
 use std::alloc::Global;
 use std::sync::Wait;
@@ -80,8 +80,9 @@ pub fn write_batch<R: Threads + Wait + Sync, O: Opener, G: Gate, S: Sink>(
         return Err(TextFault::Run(BatchFault::Memory));
     };
     let texts = Texts::new(alloc, sink, lines);
-    let (texts, ran) = run_form(
-        rt, alloc, opener, gate, files, lanes, capacity, choice, form, texts,
+    let mut ran = Ok(());
+    let texts = run_form(
+        rt, alloc, opener, gate, files, lanes, capacity, choice, form, texts, &mut ran,
     );
     match ran {
         Ok(()) => match texts.finish() {
@@ -127,22 +128,58 @@ fn run_form<C: Consumer<Printed>, R: Threads + Wait + Sync, O: Opener, G: Gate>(
     choice: Choice,
     form: Form,
     consumer: C,
-) -> (C, Result<(), RunFault<C::Refusal>>)
+    ran: &mut Result<(), RunFault<C::Refusal>>,
+) -> C
     requires some { 0 < lanes }
     requires few { (files ≤ MAX_TICKETS) × (lanes ≤ LANES) }
     requires least { 1 ≤ capacity }
     requires most { capacity ≤ MAX_CAPACITY }
     requires empty { C.holds consumer [] }
-    ensures told { IfOk result.1 (λ _. (ns : List Note) × C.holds result.0 ns × AreToldWhole choice (O.meaning opener.now) files ns) }
-    ensures ended { IfErr result.1 (EndsRun (C.gave_up result.0) (C.holds result.0)) }
-    ensures stays { C.stays consumer result.0 }
+    ensures told { OnOk ran.new ((ns : List Note) × C.holds result ns × AreToldWhole choice (O.meaning opener.now) files ns) }
+    ensures ended { IfErr ran.new (EndsRun (C.gave_up result) (C.holds result)) }
+    ensures stays { C.stays consumer result }
 {
     match form {
-        Form::Report => run_lanes::<ReportLines, _, _, _, _>(
-            rt, alloc, opener, gate, files, lanes, capacity, choice, consumer,
+        Form::Report => run_into::<ReportLines, _, _, _, _>(
+            rt, alloc, opener, gate, files, lanes, capacity, choice, consumer, ran,
         ),
-        Form::Json => run_lanes::<JsonLines, _, _, _, _>(
-            rt, alloc, opener, gate, files, lanes, capacity, choice, consumer,
+        Form::Json => run_into::<JsonLines, _, _, _, _>(
+            rt, alloc, opener, gate, files, lanes, capacity, choice, consumer, ran,
         ),
     }
+}
+
+/// Runs lanes of one kind, and puts what came of them into `ran`.
+fn run_into<
+    L: LaneKind<Entry = Printed>,
+    C: Consumer<Printed>,
+    R: Threads + Wait + Sync,
+    O: Opener,
+    G: Gate,
+>(
+    rt: &R,
+    alloc: Global,
+    opener: &O,
+    gate: &G,
+    files: u32,
+    lanes: u32,
+    capacity: u32,
+    choice: Choice,
+    consumer: C,
+    ran: &mut Result<(), RunFault<C::Refusal>>,
+) -> C
+    requires some { 0 < lanes }
+    requires few { (files ≤ MAX_TICKETS) × (lanes ≤ LANES) }
+    requires least { 1 ≤ capacity }
+    requires most { capacity ≤ MAX_CAPACITY }
+    requires empty { C.holds consumer [] }
+    ensures told { OnOk ran.new ((ns : List Note) × C.holds result ns × AreToldWhole choice (O.meaning opener.now) files ns) }
+    ensures ended { IfErr ran.new (EndsRun (C.gave_up result) (C.holds result)) }
+    ensures stays { C.stays consumer result }
+{
+    let (consumer, end) = run_lanes::<L, _, _, _, _>(
+        rt, alloc, opener, gate, files, lanes, capacity, choice, consumer,
+    );
+    *ran = end;
+    consumer
 }

@@ -1,4 +1,4 @@
-use Rattle.std.proofs.Common.{rules, ◌≡◌, ◌∙◌, List, IfOk, IfErr, false, arith, ap, subst, sym}
+use Rattle.std.proofs.Common.{rules, ◌≡◌, ◌∙◌, List, OnOk, IfErr, false, arith, ap, subst, sym}
 use Rattle.lanes.specs.Notes.{Note}
 use Rattle.lanes.specs.Opening.{Silent}
 use Rattle.lanes.specs.Files.{AreToldWhole}
@@ -16,9 +16,9 @@ pub returns-in-Ok-finish-clause-written : goal.returns-in-Ok-finish-clause-writt
 returns-in-Ok-finish-clause-written g c =
     let taken = g.S.Sink.taken in
     let meaning = g.O.Opener.meaning c.args.opener.now in
-    let texts = c.run_form-texts.result.0 in
+    let texts = c.run_form-texts.result in
     let stays = c.run_form-texts.ensures.stays in
-    let told = subst (λ r. IfOk r (λ _. (ns : List Note)
+    let told = subst (λ r. OnOk r ((ns : List Note)
     × ((g.S.Sink.failed texts.sink.now ≡ false) × LinesHold (taken texts.start.value) (taken texts.sink.now) texts.lines ns)
     × AreToldWhole c.args.choice meaning c.args.files ns)) c.in-Ok-ran.is c.run_form-texts.ensures.told in
     let form : form_of texts.lines ≡ c.args.form = stays.2.form ∙ ap form_of c.new-texts.ensures.lines ∙ c.in-Ok.ensures.form in
@@ -43,9 +43,9 @@ pub returns-in-Err-finish-clause-begun : goal.returns-in-Err-finish-clause-begun
 returns-in-Err-finish-clause-begun g c =
     let taken = g.S.Sink.taken in
     let meaning = g.O.Opener.meaning c.args.opener.now in
-    let texts = c.run_form-texts.result.0 in
+    let texts = c.run_form-texts.result in
     let stays = c.run_form-texts.ensures.stays in
-    let told = subst (λ r. IfOk r (λ _. (ns : List Note)
+    let told = subst (λ r. OnOk r ((ns : List Note)
     × ((g.S.Sink.failed texts.sink.now ≡ false) × LinesHold (taken texts.start.value) (taken texts.sink.now) texts.lines ns)
     × AreToldWhole c.args.choice meaning c.args.files ns)) c.in-Ok-ran.is c.run_form-texts.ensures.told in
     let choice : choice_of texts.lines ≡ c.args.choice = stays.2.choice ∙ ap choice_of c.new-texts.ensures.lines ∙ c.in-Ok.ensures.choice in
@@ -60,7 +60,7 @@ returns-in-Err-finish-clause-begun g c =
 pub returns-in-Err-clause-begun : goal.returns-in-Err-clause-begun
 returns-in-Err-clause-begun g c =
     let taken = g.S.Sink.taken in
-    let texts = c.run_form-texts.result.0 in
+    let texts = c.run_form-texts.result in
     let stays = c.run_form-texts.ensures.stays in
     let gave_up : Refusal → Type 0 = λ refusal. GivesUp (g.S.Sink.failed texts.sink.now) refusal × LinesLeaveOff (taken texts.start.value) (taken texts.sink.now) texts.lines in
     let holds : List Note → Type 0 = λ ns. (g.S.Sink.failed texts.sink.now ≡ false) × LinesHold (taken texts.start.value) (taken texts.sink.now) texts.lines ns in
