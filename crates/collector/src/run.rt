@@ -31,13 +31,14 @@ const _: () = prove!(MAX_LANES == 8);
 /// shapes, one draws. A lane takes the next file when it is free. At most `capacity` messages wait between two
 /// stages, and as many between all lanes and the calling thread.
 ///
-/// Each stage passes the gate once for each record, before it works on it.
+/// Each stage passes the gate once for each record: the read stage before it gives it, each later one before it
+/// works on it.
 ///
 /// # Errors
 ///
 /// `TooManyFiles` exactly where there are more than `MAX_FILES`; `BadLanes` exactly where there are no lanes or
 /// more than `MAX_LANES`, and no more files than that. `Memory`: no memory for links, the fan, tickets,
-/// buffers or books. `LaneLost`: an end of a link or of the fan was gone. `Thread`: a thread could not be started.
+/// buffers, lists of lanes or books. `LaneLost`: an end of a link or of the fan was gone. `Thread`: a thread could not be started.
 pub fn run_batch<R: Threads + Wait + Sync, O: Opener, G: Gate>(
     rt: &R,
     alloc: Global,

@@ -42,10 +42,10 @@ pub enum TextFault {
 ///
 /// `TooManyFiles` exactly where there are more than `MAX_FILES`; `BadLanes` exactly where there are no lanes or
 /// more than `MAX_LANES`, and no more files than that; nothing is then written. `Write` exactly where the sink
-/// has then failed. `Memory`: no memory for links, the fan, tickets, buffers or lines. `LaneLost`: an end
-/// of a link or of the fan was gone, or the text was handed a message that no lane gives. `Thread`: a thread could
-/// not be started. Whatever it is, what was written is a beginning of the text of some books, one for each file,
-/// whose records and mark are those of some bytes.
+/// has then failed. `Memory`: no memory for links, the fan, tickets, buffers, lists of lanes or lines.
+/// `LaneLost`: an end of a link or of the fan was gone, or the text was handed a message that no lane gives.
+/// `Thread`: a thread could not be started. Whatever it is, what was written is a beginning of the text of some
+/// books, one for each file, whose records and mark are those of some bytes.
 pub fn write_batch<R: Threads + Wait + Sync, O: Opener, G: Gate, S: Sink>(
     rt: &R,
     alloc: Global,

@@ -61,7 +61,8 @@ fn constraints_along(
     Ok(())
 }
 
-/// Whether the numbers of a dart's tail and head may stand at the ends of a dart of this direction.
+/// Whether these numbers of a dart's tail and head are in the order that its direction asks for. So they are
+/// for a dart against the axis, whose reverse is asked.
 ///
 /// It is one comparison, so that no branch is taken by a direction, which cannot be foreseen.
 fn is_kept(axis: Axis, direction: Direction, tail: u16, head: u16) -> bool

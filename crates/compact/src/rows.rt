@@ -1,4 +1,4 @@
-//! Rows of vertices with the same number along an axis, and the lengths of longest paths over them.
+//! Rows of vertices that darts across an axis join, and the lengths of longest paths over them.
 
 ghost use Rattle.std.specs.Prelude.{◌≡◌, ◌*◌, ◌<◌, length, IfSome};
 ghost use Rattle.compact.specs.Steps.{step, StayUnder, StayUnderBoth, StayUnderAll};

@@ -50,8 +50,8 @@ impl Drawing {
 /// memory is asked for: want of memory is answered only where they hold.
 ///
 /// The points are compared as rectangles, one for each vertex and at most one for each segment. For s of
-/// them it takes O(s log s) time, and 16 bytes of memory each, sorted in place where the grid is wide;
-/// besides, a table of at most 64 bytes each, or a map of those that a sweep still meets.
+/// them it takes O(s log s) time, and 16 bytes of memory each, sorted in place unless they lie in few rows
+/// and columns; besides, a table of at most 64 bytes each, or a map of those that a sweep still meets.
 ///
 /// # Errors
 ///

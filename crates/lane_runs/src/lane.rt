@@ -19,8 +19,9 @@ use std::thread;
 use std::thread::{Scope, Threads};
 use streams::piece_buffer;
 
-/// Runs a lane: its last stage on the caller's thread, the others in a thread each. All entries go to
-/// the giver, and after them, whatever the lane met, one stop; a lane whose stop was refused says so. The
+/// Runs a lane: its last stage on the caller's thread, the others in a thread each. What the last stage
+/// makes of each record, and the end of each file, go to the giver, and after them, whatever the lane met,
+/// one stop; a lane whose stop was refused says so. The
 /// giver is given back once the other threads have ended.
 pub fn run_lane<L: LaneKind, R: Threads + Wait + Sync, O: Opener, G: Gate>(
     setting: &Setting<'_, R, O, G>,

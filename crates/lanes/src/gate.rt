@@ -1,4 +1,4 @@
-//! What the stages of a lane pass before they work on a record.
+//! What the stages of a lane pass once for each record.
 
 /// A stage of a lane.
 #[derive(Clone, Copy, Debug, PartialEq, Eq)]

@@ -16,7 +16,7 @@ use std::sync::Wait;
 /// Why gathering came to nothing.
 #[derive(Drop)]
 pub enum GatherFault<F: Drop> {
-    /// There was no memory for the marks of lanes that have stopped.
+    /// There was no memory for the list of lanes that have stopped.
     Memory,
     /// The givers of all lanes were gone.
     LaneLost,
@@ -38,7 +38,7 @@ fn set_stopped(stops: &mut Vec<bool>, lane: u32)
 
 /// Takes the messages of the fan up to the stop of each of its first `lanes` lanes, and hands them to the
 /// consumer as they come, whichever lane they come from. It gives the end back. `LaneLost`: the givers of all
-/// lanes were gone. `Memory`: no memory for the marks of lanes that have stopped. `Refused`: the consumer refused a message. In
+/// lanes were gone. `Memory`: no memory for the list of lanes that have stopped. `Refused`: the consumer refused a message. In
 /// these cases it lets its end go, so that no lane waits for it.
 pub fn gather<E: Numbered, C: Consumer<E>, R: Wait>(
     rt: &R,

@@ -1,6 +1,6 @@
 //! The stages of a lane. The first reads files and gives a message for each record and one for each
-//! mark; each later one takes the messages of the stage before it and gives one for each. The last
-//! ones are gathered by file.
+//! mark; each later one takes the messages of the stage before it and gives one for each. The
+//! calling thread gathers what the last stages give, and hands it to a consumer.
 #![tactic(auto)]
 
 mod consumer;

@@ -12,11 +12,11 @@ use json_lines::{end_line, entry_line};
 use std::alloc::Global;
 use streams::{Mark, Sink, TextBuffer, WriteFault};
 
-/// How many bytes of a line are gathered at once.
+/// How many bytes of a line go into the buffer at once.
 const SLICE: usize = 512;
 
 /// Writes for each file a line for each entry and one for its mark, each the text of a JSON object without
-/// spaces. Files and entries are numbered from 1. The lines are gathered, so that short ones make few
+/// spaces. Files and entries are numbered from 1. The lines are buffered, so that short ones make few
 /// writes.
 ///
 /// A line is made whole before it is written. It takes a few allocations for each dart and each point,

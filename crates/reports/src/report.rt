@@ -14,7 +14,7 @@ use planar_code::Ending;
 use streams::{Mark, Sink, TextBuffer, WriteFault};
 
 /// Writes for each file a line with its number, a line for each entry and a line for its mark. It takes
-/// no memory: lines are gathered in a fixed buffer.
+/// no memory: lines wait in a fixed buffer.
 ///
 /// # Errors
 ///

@@ -14,7 +14,8 @@ pub enum BatchFault {
     /// There was no memory for the run itself. Where there is none for a record of a file, that file's mark says so.
     #[error("out of memory")]
     Memory,
-    /// An end of a link or of a fan was dropped before the last message.
+    /// An end of a link or of a fan was gone before the last message, or a text was handed a message that no
+    /// lane gives.
     #[error("a lane was lost")]
     LaneLost,
     /// A thread could not be started.

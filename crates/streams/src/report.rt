@@ -10,7 +10,7 @@ use super::output::Sink;
 use super::text_buffer::TextBuffer;
 use planar_code::{Ending, Record};
 
-/// Writes a line for each record and one for the mark. It takes no memory: lines are gathered in a
+/// Writes a line for each record and one for the mark. It takes no memory: lines wait in a
 /// fixed buffer.
 pub fn write_frames<S: Sink>(frames: &Frames, sink: &mut S) -> Result<(), WriteFault>
     requires { S.failed sink.old ≡ false }

@@ -11,10 +11,10 @@ use std::marker::Model;
 /// How many bytes the buffer holds.
 pub const ROOM: usize = 16_384;
 
-/// How many bytes are free at least after `make_room`. No line that is gathered is longer.
+/// How many bytes are free at least after `make_room`. A line that may be longer is added in pieces.
 pub const LINE: usize = 512;
 
-/// Text that was gathered and is not in the sink yet.
+/// Text that waits for the sink.
 #[derive(Drop)]
 pub struct TextBuffer {
     bytes: [u8; ROOM],
@@ -60,7 +60,7 @@ impl TextBuffer {
         self.push(buffer.format(number).as_bytes());
     }
 
-    /// Makes sure that a line fits: where fewer than `LINE` bytes are free, puts all that was gathered into the sink.
+    /// Makes sure that `LINE` bytes are free: where fewer are, puts all that waits into the sink.
     pub fn make_room<S: Sink>(&mut self, sink: &mut S) -> Result<(), WriteFault>
         requires { S.failed sink.old ≡ false }
         ensures writes { StaysOnItsWay (S.taken sink.old) self.old (S.taken sink.new) self.new
@@ -73,7 +73,7 @@ impl TextBuffer {
         self.flush(sink)
     }
 
-    /// Puts all that was gathered into the sink.
+    /// Puts all that waits into the sink.
     pub fn flush<S: Sink>(&mut self, sink: &mut S) -> Result<(), WriteFault>
         requires { S.failed sink.old ≡ false }
         ensures writes { Writes (S.taken sink.old) (S.taken sink.new) (S.failed sink.new) self.old result }
