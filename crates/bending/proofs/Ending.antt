@@ -15,7 +15,7 @@ use Rattle.bending.specs.Bare.{IsBare}
 use Rattle.bending.specs.Steps.{AreBent}
 use Rattle.bending.specs.Bends.{KeepsDarts, KeepsFaces, CountsBends}
 use Rattle.bending.proofs.EdgeTurns.{bends_twice}
-use Rattle.bending.proofs.Owing.{IsOwing, owing, gained, lost}
+use Rattle.bending.proofs.OwedTurns.{IsOwing, owing, gained, lost}
 use Rattle.bending.proofs.Stepping.{edges_on}
 use Rattle.bending.proofs.Starting.{owing_begins, behind_begins}
 

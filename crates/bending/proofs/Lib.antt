@@ -1,6 +1,6 @@
-pub mod Placing
+pub mod SumsAndMaps
 pub mod Mirroring
-pub mod Owing
+pub mod OwedTurns
 pub mod Turning
 pub mod Stepping
 pub mod Starting

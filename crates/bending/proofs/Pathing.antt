@@ -15,7 +15,7 @@ use Rattle.cutting.proofs.Splitting.{split_linked}
 use Rattle.edge_paths.proofs.Joining.{IsExtended, extended_same, extended_on, extended_joined, split_extended}
 use Rattle.edge_paths.proofs.Lengthening.{path_turns}
 use Rattle.edge_paths.proofs.Bends.{bend_paths}
-use Rattle.edge_paths.proofs.Plain.{plain_paths}
+use Rattle.edge_paths.proofs.StraightPaths.{plain_paths}
 use Rattle.bending.specs.Bare.{IsBare}
 use Rattle.bending.specs.Steps.{angle_of, start_way, IsBent, straight, turned, AreBent, finished, passed, bent}
 

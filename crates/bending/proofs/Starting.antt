@@ -15,8 +15,8 @@ use Rattle.cutting.specs.Webs.{Web, IsLinked, IsMeeting, around, excess}
 use Rattle.cutting.specs.Labels.{AreLabels}
 use Rattle.cutting.proofs.Splitting.{part, part_same}
 use Rattle.bending.specs.Bare.{IsBare}
-use Rattle.bending.proofs.Placing.{onto}
-use Rattle.bending.proofs.Owing.{IsOwing, owing, gained, lost, Turns}
+use Rattle.bending.proofs.SumsAndMaps.{onto}
+use Rattle.bending.proofs.OwedTurns.{IsOwing, owing, gained, lost, Turns}
 use Rattle.bending.proofs.Stepping.{IsBehind}
 
 module _ (p : PlaneModel) (a : ℕ → ℕ) (s : ℕ → List Turn) (h : ℕ → ℕ) (w : Web) (plane : IsPlane p) (ends : HasEnds p) (rep : Rep p a s)

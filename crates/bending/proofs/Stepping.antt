@@ -8,7 +8,7 @@ use Rattle.cutting.specs.Webs.{Web, IsSplit}
 use Rattle.cutting.proofs.Splitting.{by_age, split_linked, split_meeting}
 use Rattle.bending.specs.Steps.{IsBent, straight, turned, AreBent, finished, passed, bent, angle_of, start_way}
 use Rattle.bending.proofs.Mirroring.{turn_counts}
-use Rattle.bending.proofs.Owing.{IsOwing, IsOwedNext, IsLabelledNext, owed_next, labelled_next, split_labels}
+use Rattle.bending.proofs.OwedTurns.{IsOwing, IsOwedNext, IsLabelledNext, owed_next, labelled_next, split_labels}
 use Rattle.bending.proofs.Turning.{owing_less, excess_more, turned_alike, mirrors_on, ways_on}
 
 -- one bend

@@ -9,9 +9,9 @@ use Rattle.ortho_rep.proofs.Mirrors.{length-mirrored}
 use Rattle.cutting.specs.Webs.{Web, IsLinked, IsSplit, excess}
 use Rattle.cutting.proofs.Splitting.{by_place, part, part_here, part_elsewhere, part_same}
 use Rattle.bending.specs.Steps.{angle_of, start_way}
-use Rattle.bending.proofs.Placing.{sum_below-two_more}
+use Rattle.bending.proofs.SumsAndMaps.{sum_below-two_more}
 use Rattle.bending.proofs.Mirroring.{mirrored-mirrored, rights-mirrored, turn_counts}
-use Rattle.bending.proofs.Owing.{owing, gained, lost, IsOwedNext, IsLabelledNext}
+use Rattle.bending.proofs.OwedTurns.{owing, gained, lost, IsOwedNext, IsLabelledNext}
 
 module _ (w : Web) (e way : ℕ) (turn : Turn) (turns : List Turn) (new : Web) (label label' : ℕ → ℕ) (owed owed' : ℕ → List Turn)
     (linked : IsLinked w) (e_in : e < w.darts) (s : IsSplit w e way (angle_of turn) new)

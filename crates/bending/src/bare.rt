@@ -5,28 +5,30 @@ ghost use Rattle.sums.specs.Sums.{sum_below};
 ghost use Rattle.faces.specs.Planes.{darts, vertices, head, reverse_dart, next};
 ghost use Rattle.ortho_rep.specs.Shapes.{angle_at, turns_at};
 ghost use Rattle.ortho_rep.specs.Representation.{HasDarts};
+ghost use Rattle.cutting.specs.declared.table.TheConstants.{RECTANGLE_ROOM};
 ghost use Rattle.cutting.specs.Tables.{web_of, room};
 ghost use Rattle.bending.specs.Bare.{IsBare, IsBlank};
 
-use cutting::{DartTable, NO_DART};
+use cutting::{DartTable, NO_DART, RECTANGLE_ROOM};
 use faces::Plane;
 use ortho_rep::Shape;
 use reuse::filled;
 use std::alloc::AllocError;
 
 /// How many darts the table of a shape is to have room for: those of the plane, two for each bend, four
-/// for each right turn that there may be, and 24 for a rectangle round it. A step for each dart.
+/// for each right turn that there may be, and `RECTANGLE_ROOM` for a rectangle
+/// round it. A step for each dart.
 pub fn room_for(plane: &Plane, shape: &Shape) -> u32
     requires { HasDarts plane.now shape.now }
     ensures { let turns = sum_below (darts plane.now) (λ d. length (turns_at shape.now d)) in
-        result ≡ darts plane.now + 3 * turns + 8 * vertices plane.now + 24 }
+        result ≡ darts plane.now + 3 * turns + 8 * vertices plane.now + RECTANGLE_ROOM }
 {
     let graph = plane.graph();
     let mut turns = 0;
     'darts: for dart in 0..graph.darts() {
         turns += shape.turns(dart).len() as u32;
     }
-    u32::from(graph.darts()) + 3 * turns + 8 * u32::from(graph.vertices()) + 24
+    u32::from(graph.darts()) + 3 * turns + 8 * u32::from(graph.vertices()) + RECTANGLE_ROOM
 }
 
 /// A table of so many darts and vertices, of which nothing is written yet, with no dart in front of

@@ -5,6 +5,7 @@ ghost use Rattle.faces.specs.Planes.{darts, reverse_dart, vertices};
 ghost use Rattle.ortho_rep.specs.Shapes.{angle_at, turns_at};
 ghost use Rattle.ortho_rep.specs.Representation.{IsShape};
 ghost use Rattle.headings.specs.Headings.{AreHeadings};
+ghost use Rattle.cutting.specs.declared.table.TheConstants.{RECTANGLE_ROOM};
 ghost use Rattle.cutting.specs.Webs.{IsSound, excess};
 ghost use Rattle.cutting.specs.Tables.{web_of, room};
 ghost use Rattle.cutting.specs.Paths.{HasPaths, IsJoined};
@@ -50,7 +51,7 @@ pub fn bend(
         (λ d. map angle_of (turns_at shape.now d))) }
     ensures rows { IfOk result (λ t. AreRows (vertices plane.now) (web_of t)) }
     ensures joined { IfOk result (λ t. IsJoined (web_of t)) }
-    ensures space { IfOk result (λ t. t.darts + 4 * excess (web_of t) + 24 ≤ room t) }
+    ensures space { IfOk result (λ t. t.darts + 4 * excess (web_of t) + RECTANGLE_ROOM ≤ room t) }
 {
     bend_into(DartTable::empty(alloc), plane, shape, directions)
 }
@@ -80,7 +81,7 @@ pub fn bend_into(
         (λ d. map angle_of (turns_at shape.now d))) }
     ensures rows { IfOk result (λ t. AreRows (vertices plane.now) (web_of t)) }
     ensures joined { IfOk result (λ t. IsJoined (web_of t)) }
-    ensures space { IfOk result (λ t. t.darts + 4 * excess (web_of t) + 24 ≤ room t) }
+    ensures space { IfOk result (λ t. t.darts + 4 * excess (web_of t) + RECTANGLE_ROOM ≤ room t) }
 {
     // Only the proof needs this: `graph` says that the plane is one.
     let _graph = plane.graph();

@@ -15,4 +15,4 @@ mod table;
 
 pub use laws::{cuts_reach_corners, cuts_stay_sound, cuts_use_right_turns};
 pub use scan::{cut_across, cut_face, cut_faces};
-pub use table::{DartTable, NO_DART};
+pub use table::{DartTable, NO_DART, RECTANGLE_ROOM};

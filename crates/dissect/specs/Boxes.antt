@@ -1,5 +1,6 @@
 -- What callers see of `Boxes`: a drawing in four directions, and which of its parts are those of a plane.
 use Rattle.std.specs.Prelude.{◌≡◌, ℕ, ◌<◌, ◌≤◌, ◌⊎◌, List, [], ◌∷◌, length, slice_index, slice_index_or}
+use Rattle.embedding.specs.declared.graphs.TheConstants.{MAX_EDGES}
 use Rattle.cutting.specs.declared.table.DartTable.{DartTable}
 use Rattle.cutting.specs.Webs.{Web, IsSound, no_dart}
 use Rattle.cutting.specs.Faces.{IsCorner, IsRectangle, IsOutside, ReachesCorners}
@@ -83,7 +84,7 @@ pub record AreBoxes (b : BoxesModel) : Type 0 where
   pub few_darts : b.darts ≤ no_dart
   pub old_in : b.old ≤ b.vertices
   pub old_few : b.old ≤ 255
-  pub few_edges : length b.edges ≤ 510
+  pub few_edges : length b.edges ≤ MAX_EDGES
   pub edges : (e : ℕ) → e < length b.edges → HasEdge b e
   pub path_count : length b.paths ≡ length b.edges
   pub paths : (e : ℕ) → e < length b.edges → IsEdgePath b e (slice_index_or b.paths e [])

@@ -5,10 +5,10 @@ ghost use Rattle.cutting.specs.Webs.{no_dart};
 ghost use Rattle.directions.specs.Directions.{quarters};
 ghost use Rattle.dissect.specs.Boxes.{AreBoxes, IsEdgePath, parts_of, web};
 
-use crate::paths::Paths;
 use crate::scratch::Scratch;
 use cutting::{DartTable, NO_DART};
 use directions::Direction;
+use ortho_rep::JoinedLists;
 use std::marker::Model;
 
 /// A dissection: the drawing of a plane in four directions, enclosed in a rectangle and cut until each
@@ -24,7 +24,7 @@ pub struct Boxes {
     table: DartTable,
     old: u8,
     edges: Vec<u16>,
-    paths: Paths,
+    paths: JoinedLists<u32>,
 }
 
 impl Model for Boxes {
@@ -39,7 +39,7 @@ impl Model for Boxes {
 
 impl Boxes {
     /// The boxes that a table holds, for a plane of so many vertices, these lesser darts and their paths.
-    pub(crate) fn of(table: DartTable, old: u8, edges: Vec<u16>, paths: Paths) -> Boxes
+    pub(crate) fn of(table: DartTable, old: u8, edges: Vec<u16>, paths: JoinedLists<u32>) -> Boxes
         requires { AreBoxes (parts_of table old edges.items paths) }
         ensures { result ≡ parts_of table old edges.items paths }
     {
@@ -53,7 +53,7 @@ impl Boxes {
 
     /// Hands the memory of these boxes back to that which they were made in.
     pub fn give_back(self, scratch: &mut Scratch) {
-        let (darts, starts) = self.paths.into_lists();
+        let (darts, starts) = self.paths.into_parts();
         scratch.table = self.table;
         scratch.edges = self.edges;
         scratch.darts = darts;

@@ -5,7 +5,7 @@ ghost use Rattle.ortho_rep.specs.Representation.{IsShape};
 ghost use Rattle.dissect.specs.Boxed.{IsBoxed};
 
 use crate::boxes::Boxes;
-use crate::parts::{lesser_darts_of, outer_dart, paths_of};
+use crate::parts::{lesser_darts_of, paths_of};
 use crate::scratch::Scratch;
 use bending::{bend_into, headings_in};
 use enclosing::enclose_in;
@@ -58,7 +58,8 @@ pub fn dissect_in(
     let edges = lesser_darts_of(plane, edges)?;
     let search = headings_in(plane, shape, search)?;
     let mut table = bend_into(table, plane, shape, &search.headings)?;
-    let faces = enclose_in(&mut table, u32::from(outer_dart(plane)), faces)?;
+    let outside = plane.least_dart(plane.outer());
+    let faces = enclose_in(&mut table, u32::from(outside), faces)?;
     let old = plane.graph().vertices();
     let paths = paths_of(&table, &edges, darts, starts)?;
     scratch.search = search;

@@ -4,7 +4,6 @@
 mod boxes;
 mod dissection;
 mod parts;
-mod paths;
 mod scratch;
 
 pub use boxes::Boxes;

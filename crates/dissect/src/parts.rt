@@ -3,12 +3,11 @@
 ghost use Rattle.std.specs.Prelude.{◌≡◌, ◌<◌, ℕ, List, [], ◌∷◌, ◌++◌, IfOk, OnOk, length, slice_index, slice_index_or};
 ghost use Rattle.cutting.specs.Paths.{IsPath};
 ghost use Rattle.cutting.specs.Tables.{web_of};
-ghost use Rattle.faces.specs.Planes.{darts, face_at};
 ghost use Rattle.ortho_rep.specs.Edges.{lesser_darts};
 
-use crate::paths::Paths;
 use cutting::{DartTable, NO_DART};
 use faces::Plane;
+use ortho_rep::JoinedLists;
 use reuse::emptied;
 use std::alloc::AllocError;
 
@@ -22,20 +21,6 @@ pub fn lesser_darts_of(plane: &Plane, edges: Vec<u16>) -> Result<Vec<u16>, Alloc
         edges.push(dart)?;
     }
     Ok(edges)
-}
-
-/// A dart of the outer face.
-pub fn outer_dart(plane: &Plane) -> u16
-    ensures inside { result < darts plane.now }
-    ensures outer { face_at plane.now result ≡ plane.now.outer }
-{
-    let graph = plane.graph();
-    for dart in 0..graph.darts() {
-        if plane.face_of(dart) == plane.outer() {
-            return dart;
-        }
-    }
-    unreachable!()
 }
 
 /// Puts the darts of the path that ends with a dart behind a list, in walking order. A step for each of
@@ -63,7 +48,7 @@ pub fn paths_of(
     edges: &[u16],
     darts: Vec<u32>,
     starts: Vec<usize>,
-) -> Result<Paths, AllocError>
+) -> Result<JoinedLists<u32>, AllocError>
     requires paths { (e : ℕ) → e < length edges.now
         → (first : ℕ) × (rest : List ℕ) × IsPath (web_of table.now) (slice_index edges.now e) first rest }
     ensures count { IfOk result (λ paths. length paths ≡ length edges.now) }
@@ -78,5 +63,5 @@ pub fn paths_of(
         push_path(&mut darts, table, u32::from(*last))?;
         starts.push(darts.len())?;
     }
-    Ok(Paths::joined(darts, starts))
+    Ok(JoinedLists::new(darts, starts))
 }

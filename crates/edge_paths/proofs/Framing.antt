@@ -5,7 +5,7 @@ use Rattle.cutting.specs.Webs.{Web, no_dart, IsLinked, IsCut}
 use Rattle.cutting.specs.Paths.{HasPaths, IsJoined}
 use Rattle.cutting.specs.Frames.{IsFramed, IsEnclosed}
 use Rattle.cutting.proofs.Splitting.{split_linked}
-use Rattle.edge_paths.proofs.Joining.{IsShut, by_next, by_reverse_dart, extended_joined, chord_extended, cut_linked, cut_extended, grows_extended}
+use Rattle.edge_paths.proofs.Joining.{IsClosedUnder, by_next, by_reverse_dart, extended_joined, chord_extended, cut_linked, cut_extended, grows_extended}
 use Rattle.edge_paths.proofs.Cuts.{IsBeside, beside_paths, cut_paths, AreQuarters, cut_quarters, grows_paths}
 
 -- a fact at each dart of a framed web: at the old ones, at the four inside the rectangle and at the four outside it
@@ -103,14 +103,14 @@ enclosed_paths w outside new n reverse_dart quarters linked four e has =
     (frame_paths w e.framed n reverse_dart quarters linked e.frame has))
 
 -- a closed set of the framed web is one of the web
-pub framed_shut : (w new : Web) (s : ℕ → Bool) → IsFramed w new → IsShut new s → IsShut w s
+pub framed_shut : (w new : Web) (s : ℕ → Bool) → IsFramed w new → IsClosedUnder new s → IsClosedUnder w s
 framed_shut w new s f shut = record {
   next = λ a l h. by_next new s a (w.next a) shut (omega (arith, f.darts)) (f.next_old a l) h;
   reverse_dart = λ a l h. by_reverse_dart new s a (w.reverse_dart a) shut (omega (arith, f.darts)) (f.reverse_dart_old a l) h;
 }
 
 -- round the inside of the rectangle
-pub ring_turned : (w new : Web) (s : ℕ → Bool) (k i : ℕ) → IsFramed w new → IsShut new s → k < 4 → s (w.darts + k) ≡ true →
+pub ring_turned : (w new : Web) (s : ℕ → Bool) (k i : ℕ) → IsFramed w new → IsClosedUnder new s → k < 4 → s (w.darts + k) ≡ true →
     s (w.darts + (k + i) % 4) ≡ true
 ring_turned w new s k zero f shut l h = subst (λ (j : ℕ). s (w.darts + j) ≡ true) (omega (arith, l)) h
 ring_turned w new s k (suc i) f shut l h =
@@ -121,7 +121,7 @@ ring_turned w new s k (suc i) f shut l h =
     by_next new s (w.darts + (k + i) % 4) (w.darts + (k + suc i) % 4) shut inside step on
 
 -- a closed set that holds one dart of the rectangle holds them all
-pub ring_whole : (w new : Web) (s : ℕ → Bool) (k : ℕ) → IsFramed w new → IsShut new s → k < 4 → s (w.darts + k) ≡ true →
+pub ring_whole : (w new : Web) (s : ℕ → Bool) (k : ℕ) → IsFramed w new → IsClosedUnder new s → k < 4 → s (w.darts + k) ≡ true →
     (a : ℕ) → a < new.darts → w.darts ≤ a → s a ≡ true
 ring_whole w new s k f shut l h a a_in late =
     let inner : (j : ℕ) → j < 4 → s (w.darts + j) ≡ true = λ j l_j.
@@ -135,7 +135,7 @@ ring_whole w new s k f shut l h a a_in late =
     there k j l l_j = omega arith
 
 -- a closed set that holds any dart of the rectangle holds one of its inside
-pub ring_some : (w new : Web) (s : ℕ → Bool) (a : ℕ) → IsFramed w new → IsShut new s → a < new.darts → w.darts ≤ a → s a ≡ true →
+pub ring_some : (w new : Web) (s : ℕ → Bool) (a : ℕ) → IsFramed w new → IsClosedUnder new s → a < new.darts → w.darts ≤ a → s a ≡ true →
     (k : ℕ) × (k < 4) × (s (w.darts + k) ≡ true)
 ring_some w new s a f shut a_in late =
     by_side w.darts (λ (a : ℕ). w.darts ≤ a → s a ≡ true → (k : ℕ) × (k < 4) × (s (w.darts + k) ≡ true))
@@ -144,7 +144,7 @@ ring_some w new s a f shut a_in late =
     a (omega (arith, f.darts)) late
 
 -- the join leads from the web to the rectangle
-pub join_there : (framed : Web) (right e way : ℕ) (new : Web) (s : ℕ → Bool) → IsCut framed right e way new → IsShut new s →
+pub join_there : (framed : Web) (right e way : ℕ) (new : Web) (s : ℕ → Bool) → IsCut framed right e way new → IsClosedUnder new s →
     s right ≡ true → s e ≡ true
 join_there framed right e way new s cut shut h =
     let there : s cut.middle.darts ≡ true =
@@ -153,11 +153,11 @@ join_there framed right e way new s cut shut h =
 
 -- and back
 pub join_back : (framed : Web) (right e way : ℕ) (new : Web) (s : ℕ → Bool) → IsLinked framed → IsCut framed right e way new →
-    IsShut new s → right ≢ framed.prev e → right ≢ framed.prev (framed.reverse_dart e) → s (framed.prev e) ≡ true →
+    IsClosedUnder new s → right ≢ framed.prev e → right ≢ framed.prev (framed.reverse_dart e) → s (framed.prev e) ≡ true →
     s (framed.next right) ≡ true
 join_back framed right e way new s linked cut shut not_c not_p h =
     let linked_middle = split_linked framed e (framed.direction e) 2 cut.middle linked cut.e_in cut.split in
-    let middle : IsShut cut.middle s =
+    let middle : IsClosedUnder cut.middle s =
     (chord_extended cut.middle right framed.darts way new linked_middle cut.fits cut.chord).shut s shut in
     let first : s framed.darts ≡ true =
     by_next cut.middle s (framed.prev e) framed.darts middle (omega (arith, cut.split.darts, linked.prev_in e cut.e_in))
@@ -172,11 +172,11 @@ pub join_joined : (w framed : Web) (right side way : ℕ) (new : Web) → IsLink
     side < 4 → IsCut framed right (w.darts + side) way new → IsJoined new
 join_joined w framed right side way new linked joined f right_in side_in cut s next reverse_dart a b l_a l_b h =
     let e : ℕ = w.darts + side in
-    let shut : IsShut new s = record { next = next; reverse_dart = reverse_dart } in
+    let shut : IsClosedUnder new s = record { next = next; reverse_dart = reverse_dart } in
     let linked_framed = framed_linked w framed linked f in
     let extended = cut_extended framed right e way new linked_framed cut in
-    let shut_framed : IsShut framed s = extended.shut s shut in
-    let shut_old : IsShut w s = framed_shut w framed s f shut_framed in
+    let shut_framed : IsClosedUnder framed s = extended.shut s shut in
+    let shut_old : IsClosedUnder w s = framed_shut w framed s f shut_framed in
     let found = extended.some s shut a l_a h in
     let prev_e : framed.prev e ≡ w.darts + (side + 3) % 4 = f.prev_inner side side_in in
     let prev_t : framed.prev (framed.reverse_dart e) ≡ w.darts + 4 + (side + 1) % 4 =

@@ -7,22 +7,22 @@ use Rattle.cutting.proofs.Splitting.{by_age, split_linked}
 use Rattle.cutting.proofs.Chords.{chord_linked}
 
 -- a set of darts closed under "next" and "reverse"
-pub record IsShut (w : Web) (s : ℕ → Bool) : Type 0 where
+pub record IsClosedUnder (w : Web) (s : ℕ → Bool) : Type 0 where
   pub next : (a : ℕ) → a < w.darts → s a ≡ true → s (w.next a) ≡ true
   pub reverse_dart : (a : ℕ) → a < w.darts → s a ≡ true → s (w.reverse_dart a) ≡ true
 
-pub by_next : (w : Web) (s : ℕ → Bool) (a b : ℕ) → IsShut w s → a < w.darts → w.next a ≡ b → s a ≡ true → s b ≡ true
+pub by_next : (w : Web) (s : ℕ → Bool) (a b : ℕ) → IsClosedUnder w s → a < w.darts → w.next a ≡ b → s a ≡ true → s b ≡ true
 by_next w s a b shut l e h = subst (λ (k : ℕ). s k ≡ true) e (shut.next a l h)
 
-pub by_reverse_dart : (w : Web) (s : ℕ → Bool) (a b : ℕ) → IsShut w s → a < w.darts → w.reverse_dart a ≡ b → s a ≡ true → s b ≡ true
+pub by_reverse_dart : (w : Web) (s : ℕ → Bool) (a b : ℕ) → IsClosedUnder w s → a < w.darts → w.reverse_dart a ≡ b → s a ≡ true → s b ≡ true
 by_reverse_dart w s a b shut l e h = subst (λ (k : ℕ). s k ≡ true) e (shut.reverse_dart a l h)
 
 -- a closed set of the new web is one of the old web, and has a dart or all darts of the new web where it has
 -- a dart or all darts of the old one
 pub record IsExtended (w new : Web) : Type 0 where
-  pub shut : (s : ℕ → Bool) → IsShut new s → IsShut w s
-  pub some : (s : ℕ → Bool) → IsShut new s → (a : ℕ) → a < new.darts → s a ≡ true → (b : ℕ) × (b < w.darts) × (s b ≡ true)
-  pub all : (s : ℕ → Bool) → IsShut new s → ((b : ℕ) → b < w.darts → s b ≡ true) → (a : ℕ) → a < new.darts → s a ≡ true
+  pub shut : (s : ℕ → Bool) → IsClosedUnder new s → IsClosedUnder w s
+  pub some : (s : ℕ → Bool) → IsClosedUnder new s → (a : ℕ) → a < new.darts → s a ≡ true → (b : ℕ) × (b < w.darts) × (s b ≡ true)
+  pub all : (s : ℕ → Bool) → IsClosedUnder new s → ((b : ℕ) → b < w.darts → s b ≡ true) → (a : ℕ) → a < new.darts → s a ≡ true
 
 pub extended_same : (w : Web) → IsExtended w w
 extended_same w = record {
@@ -43,8 +43,8 @@ extended_on w mid new first second = record {
 -- a set that holds a dart of the old web, where it then holds all of them, holds all darts of the new web
 pub extended_joined : (w new : Web) → IsExtended w new → IsJoined w → IsJoined new
 extended_joined w new extended joined s next reverse_dart a b l_a l_b h =
-    let shut : IsShut new s = record { next = next; reverse_dart = reverse_dart } in
-    let old : IsShut w s = extended.shut s shut in
+    let shut : IsClosedUnder new s = record { next = next; reverse_dart = reverse_dart } in
+    let old : IsClosedUnder w s = extended.shut s shut in
     let found = extended.some s shut a l_a h in
     extended.all s shut (λ c l_c. joined s old.next old.reverse_dart found.0 c found.1 l_c found.2) b l_b
 

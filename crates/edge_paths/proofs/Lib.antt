@@ -4,7 +4,7 @@ pub mod Splits
 pub mod Bends
 pub mod Cuts
 pub mod Framing
-pub mod Plain
+pub mod StraightPaths
 pub mod Backwards
 pub mod Rows
 pub mod Apart

@@ -23,8 +23,8 @@ pub const MAX_DARTS: usize = 1020;
 /// How many edges a graph has at most: half as many as darts.
 pub const MAX_EDGES: usize = 510;
 
-/// A connected graph without loops or double edges, of maximum degree 4, given by the clockwise
-/// list of neighbours of each vertex. In contracts it is these lists.
+/// A connected graph without loops or double edges, of maximum degree at most 4, given by the
+/// clockwise list of neighbours of each vertex. In contracts it is these lists.
 ///
 /// Each entry v in the list of u is the dart from u, its tail, to v, its head. Vertices are
 /// numbered from 1, and darts from 0 in the order in which their entries stand. No reader takes

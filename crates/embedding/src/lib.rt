@@ -1,4 +1,4 @@
-//! Graphs of maximum degree 4 with a rotation: the neighbours of each vertex in clockwise order.
+//! Graphs of maximum degree at most 4 with a rotation: the neighbours of each vertex in clockwise order.
 //!
 //! Vertices are numbered from 1. Each entry v in the list of u is the dart from u to v, and darts are
 //! numbered from 0 in the order in which their entries stand.

@@ -1,6 +1,7 @@
 //! The drawing in its rectangle, joined with it and cut.
 
 ghost use Rattle.std.specs.Prelude.{◌≡◌, ◌<◌, ◌≤◌, ◌+◌, ◌*◌, ◌%◌, ℕ, [], OnErr, OnOk};
+ghost use Rattle.cutting.specs.declared.table.TheConstants.{RECTANGLE_ROOM};
 ghost use Rattle.cutting.specs.Faces.{AreWaiting, ReachesCorners};
 ghost use Rattle.cutting.specs.Frames.{IsEnclosed};
 ghost use Rattle.cutting.specs.Labels.{HasTurns};
@@ -26,7 +27,7 @@ fn facing_side(table: &DartTable, right: u32) -> u32
 
 /// Puts a rectangle round the drawing, joins it to a right turn of the outer face, which is that of
 /// the dart `outside`, and cuts all faces into boxes. The table needs room for four darts for each
-/// right turn, and for 24 more. Linear in the darts.
+/// right turn, and for `RECTANGLE_ROOM` more. Linear in the darts.
 ///
 /// # Errors
 ///
@@ -35,7 +36,7 @@ pub fn enclose(alloc: Global, table: &mut DartTable, outside: u32) -> Result<(),
     requires sound { IsSound (web_of table.old) }
     requires turns { (label : ℕ → ℕ) × HasTurns (web_of table.old) label (label outside) }
     requires inside { outside < table.old.darts }
-    requires space { table.old.darts + 4 * excess (web_of table.old) + 24 ≤ room table.old }
+    requires space { table.old.darts + 4 * excess (web_of table.old) + RECTANGLE_ROOM ≤ room table.old }
     ensures sound { OnOk result (IsSound (web_of table.new)) }
     ensures enclosed { OnOk result (IsEnclosed (web_of table.old) outside (web_of table.new)) }
     ensures done { OnOk result ((k : ℕ) → k < 4 → AreWaiting (web_of table.new) (table.old.darts + 4 + k) []) }
@@ -58,7 +59,7 @@ pub fn enclose_in(table: &mut DartTable, outside: u32, faces: Faces) -> Result<F
     requires sound { IsSound (web_of table.old) }
     requires turns { (label : ℕ → ℕ) × HasTurns (web_of table.old) label (label outside) }
     requires inside { outside < table.old.darts }
-    requires space { table.old.darts + 4 * excess (web_of table.old) + 24 ≤ room table.old }
+    requires space { table.old.darts + 4 * excess (web_of table.old) + RECTANGLE_ROOM ≤ room table.old }
     ensures sound { OnOk result (IsSound (web_of table.new)) }
     ensures enclosed { OnOk result (IsEnclosed (web_of table.old) outside (web_of table.new)) }
     ensures done { OnOk result ((k : ℕ) → k < 4 → AreWaiting (web_of table.new) (table.old.darts + 4 + k) []) }

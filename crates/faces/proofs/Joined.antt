@@ -9,12 +9,12 @@ use Rattle.embedding.specs.Darts.{dart_count, first_dart, head_of, tail_of, reve
 use Rattle.embedding.specs.Rules.{KeepsBefore, IsClosed}
 use Rattle.embedding.proofs.Entries.{Stands, stands_at, dart_stands}
 use Rattle.embedding.proofs.Rotation.{reverse_is, reverse_involution, after_place, tail_at, dart_below, list_of-place, tail_within}
-use Rattle.faces.specs.Faces.{IsShut}
+use Rattle.faces.specs.Faces.{IsClosedUnder}
 use Rattle.faces.specs.Planes.{PlaneModel, IsPlane, darts, reverse_dart, face_at}
 use Rattle.faces.proofs.Ends.{seven_rules}
 
 -- a set that is closed under "next" and "reverse" is closed under "after"
-shut_after : (g : List (List ℕ)) → KeepsBefore g 8 → (s : ℕ → Bool) → IsShut (dart_count g) (next_of g) s → IsShut (dart_count g) (reverse_of g) s → IsShut (dart_count g) (after_of g) s
+shut_after : (g : List (List ℕ)) → KeepsBefore g 8 → (s : ℕ → Bool) → IsClosedUnder (dart_count g) (next_of g) s → IsClosedUnder (dart_count g) (reverse_of g) s → IsClosedUnder (dart_count g) (after_of g) s
 shut_after g rules s next reverse d h m =
     let turns = reverse_involution g rules in
     subst (λ e. s (after_of g e) ≡ true) (turns.back d h) (next (reverse_of g d) (turns.inside d h) (reverse d h m))
@@ -24,7 +24,7 @@ same_dart : (g : List (List ℕ)) (d e k i j : ℕ) → Stands 1 g d k i → Sta
 same_dart g d e k i j s t same = omega (arith, s.number, t.number)
 
 -- from one place of a list such a set goes on to the later ones
-later : (g : List (List ℕ)) (s : ℕ → Bool) → IsShut (dart_count g) (after_of g) s → (k i m d e : ℕ) → Stands 1 g d k i → Stands 1 g e k (i + m) → s d ≡ true → s e ≡ true
+later : (g : List (List ℕ)) (s : ℕ → Bool) → IsClosedUnder (dart_count g) (after_of g) s → (k i m d e : ℕ) → Stands 1 g d k i → Stands 1 g e k (i + m) → s d ≡ true → s e ≡ true
 later g s shut k i zero d e at to here = subst (λ x. s x ≡ true) (same_dart g d e k i (i + 0) at to (omega arith)) here
 later g s shut k i (suc m) d e at to here =
     let (j, next, place) = after_place g d k i at in
@@ -35,7 +35,7 @@ later g s shut k i (suc m) d e at to here =
     ]
 
 -- and from each place to the first
-to_first : (g : List (List ℕ)) (s : ℕ → Bool) → IsShut (dart_count g) (after_of g) s → (k i m d : ℕ) → Stands 1 g d k i → i + m + 1 ≡ length (get_or g k []) → s d ≡ true → s (first_dart g k) ≡ true
+to_first : (g : List (List ℕ)) (s : ℕ → Bool) → IsClosedUnder (dart_count g) (after_of g) s → (k i m d : ℕ) → Stands 1 g d k i → i + m + 1 ≡ length (get_or g k []) → s d ≡ true → s (first_dart g k) ≡ true
 to_first g s shut k i m d at last here =
     let end = stands_at 1 g (first_dart g k + (i + m)) k (i + m) at.list (omega arith) refl in
     let there : s (first_dart g k + (i + m)) ≡ true = later g s shut k i m d (first_dart g k + (i + m)) at end here in
@@ -46,7 +46,7 @@ to_first g s shut k i m d at last here =
     ]
 
 -- with one dart of a vertex it holds the first
-first_held : (g : List (List ℕ)) (s : ℕ → Bool) → IsShut (dart_count g) (after_of g) s → (k i d : ℕ) → Stands 1 g d k i → s d ≡ true → s (first_dart g k) ≡ true
+first_held : (g : List (List ℕ)) (s : ℕ → Bool) → IsClosedUnder (dart_count g) (after_of g) s → (k i d : ℕ) → Stands 1 g d k i → s d ≡ true → s (first_dart g k) ≡ true
 first_held g s shut k i d at here =
     elim (cases_lt i (length (get_or g k []))) [
       | inl h ↦ let m : (m : ℕ) × (i + m + 1 ≡ length (get_or g k [])) = gap i (length (get_or g k [])) h in to_first g s shut k i m.0 d at m.1 here
@@ -57,7 +57,7 @@ first_held g s shut k i d at here =
     gap a b h = (b - suc a, omega arith)
 
 -- and with the first all
-all_held : (g : List (List ℕ)) (s : ℕ → Bool) → IsShut (dart_count g) (after_of g) s → (k i d : ℕ) → Stands 1 g d k i → s (first_dart g k) ≡ true → s d ≡ true
+all_held : (g : List (List ℕ)) (s : ℕ → Bool) → IsClosedUnder (dart_count g) (after_of g) s → (k i d : ℕ) → Stands 1 g d k i → s (first_dart g k) ≡ true → s d ≡ true
 all_held g s shut k i d at here =
     let first = stands_at 1 g (first_dart g k) k 0 at.list (omega (arith, at.place)) (omega arith) in
     later g s shut k 0 i (first_dart g k) d first (subst (λ x. Stands 1 g d k x) (omega arith) at) here
@@ -68,23 +68,23 @@ firsts g s zero = false
 firsts g s (suc k) = s (first_dart g k)
 
 -- a dart is held where its tail is
-tail_held : (g : List (List ℕ)) (s : ℕ → Bool) → IsShut (dart_count g) (after_of g) s → (d : ℕ) → d < dart_count g → s d ≡ true → firsts g s (tail_of g d) ≡ true
+tail_held : (g : List (List ℕ)) (s : ℕ → Bool) → IsClosedUnder (dart_count g) (after_of g) s → (d : ℕ) → d < dart_count g → s d ≡ true → firsts g s (tail_of g d) ≡ true
 tail_held g s shut d h here =
     let (k, i, at) = dart_stands 1 g d h in
     subst (λ u. firsts g s u ≡ true) (sym (tail_at g d k i at)) (first_held g s shut k i d at here)
 
-held_tail : (g : List (List ℕ)) (s : ℕ → Bool) → IsShut (dart_count g) (after_of g) s → (d : ℕ) → d < dart_count g → firsts g s (tail_of g d) ≡ true → s d ≡ true
+held_tail : (g : List (List ℕ)) (s : ℕ → Bool) → IsClosedUnder (dart_count g) (after_of g) s → (d : ℕ) → d < dart_count g → firsts g s (tail_of g d) ≡ true → s d ≡ true
 held_tail g s shut d h here =
     let (k, i, at) = dart_stands 1 g d h in
     all_held g s shut k i d at (subst (λ u. firsts g s u ≡ true) (tail_at g d k i at) here)
 
 -- the ends of a dart are held together
-crossed : (g : List (List ℕ)) → KeepsBefore g 8 → (s : ℕ → Bool) → IsShut (dart_count g) (after_of g) s → IsShut (dart_count g) (reverse_of g) s → (d : ℕ) → d < dart_count g → firsts g s (tail_of g d) ≡ true → firsts g s (head_of g d) ≡ true
+crossed : (g : List (List ℕ)) → KeepsBefore g 8 → (s : ℕ → Bool) → IsClosedUnder (dart_count g) (after_of g) s → IsClosedUnder (dart_count g) (reverse_of g) s → (d : ℕ) → d < dart_count g → firsts g s (tail_of g d) ≡ true → firsts g s (head_of g d) ≡ true
 crossed g rules s shut reverse d h here =
     let o = reverse_is g rules d h in
     subst (λ u. firsts g s u ≡ true) o.tail (tail_held g s shut (reverse_of g d) o.inside (reverse d h (held_tail g s shut d h here)))
 
-crossed_back : (g : List (List ℕ)) → KeepsBefore g 8 → (s : ℕ → Bool) → IsShut (dart_count g) (after_of g) s → IsShut (dart_count g) (reverse_of g) s → (d : ℕ) → d < dart_count g → firsts g s (head_of g d) ≡ true → firsts g s (tail_of g d) ≡ true
+crossed_back : (g : List (List ℕ)) → KeepsBefore g 8 → (s : ℕ → Bool) → IsClosedUnder (dart_count g) (after_of g) s → IsClosedUnder (dart_count g) (reverse_of g) s → (d : ℕ) → d < dart_count g → firsts g s (head_of g d) ≡ true → firsts g s (tail_of g d) ≡ true
 crossed_back g rules s shut reverse d h here =
     let o = reverse_is g rules d h in
     subst (λ u. firsts g s u ≡ true) o.head
@@ -104,13 +104,13 @@ entry_dart g u i other inside =
     )
 
 -- the vertices that are held are a closed set, and so are the others
-closed_held : (g : List (List ℕ)) → KeepsBefore g 8 → (s : ℕ → Bool) → IsShut (dart_count g) (after_of g) s → IsShut (dart_count g) (reverse_of g) s → IsClosed g (firsts g s)
+closed_held : (g : List (List ℕ)) → KeepsBefore g 8 → (s : ℕ → Bool) → IsClosedUnder (dart_count g) (after_of g) s → IsClosedUnder (dart_count g) (reverse_of g) s → IsClosed g (firsts g s)
 closed_held g rules s shut reverse u here i other inside =
     let (d, below, tail, head) = entry_dart g u i other inside in
     subst (λ v. firsts g s v ≡ true) head
     (crossed g rules s shut reverse d below (subst (λ v. firsts g s v ≡ true) (sym tail) here))
 
-closed_rest : (g : List (List ℕ)) → KeepsBefore g 8 → (s : ℕ → Bool) → IsShut (dart_count g) (after_of g) s → IsShut (dart_count g) (reverse_of g) s → IsClosed g (λ u. not (firsts g s u))
+closed_rest : (g : List (List ℕ)) → KeepsBefore g 8 → (s : ℕ → Bool) → IsClosedUnder (dart_count g) (after_of g) s → IsClosedUnder (dart_count g) (reverse_of g) s → IsClosed g (λ u. not (firsts g s u))
 closed_rest g rules s shut reverse u absent i other inside =
     let (d, below, tail, head) = entry_dart g u i other inside in
     let v = get_or (list_of g u) i other in
@@ -132,7 +132,7 @@ reaches_tails g rules t closed one d h =
     ]
 
 -- a set that is closed under "next" and "reverse" and holds one dart holds them all
-pub all_joined : (g : List (List ℕ)) → KeepsBefore g 8 → (s : ℕ → Bool) → IsShut (dart_count g) (next_of g) s → IsShut (dart_count g) (reverse_of g) s
+pub all_joined : (g : List (List ℕ)) → KeepsBefore g 8 → (s : ℕ → Bool) → IsClosedUnder (dart_count g) (next_of g) s → IsClosedUnder (dart_count g) (reverse_of g) s
     → (d e : ℕ) → d < dart_count g → e < dart_count g → s d ≡ true → s e ≡ true
 all_joined g rules s next reverse d e hd he here =
     let shut = shut_after g rules s next reverse in

@@ -4,7 +4,7 @@ use Rattle.std.specs.List.{list_any, IsDistinct, AllByRecursion}
 use Rattle.std.proofs.lemmas.Bool.{cases_eq, cases_Bool, eqb-true, eq-eqb, and_parts, and_from, or_cases, or_left, or_right, or_parts, both_ways}
 use Rattle.std.proofs.lemmas.Map.Steps.{length-le_from_distinct_below}
 use Rattle.embedding.specs.Faces.{HasFaces}
-use Rattle.faces.specs.Faces.{IsShut, IsFace, steps}
+use Rattle.faces.specs.Faces.{IsClosedUnder, IsFace, steps}
 
 -- the darts of one number are a face
 pub number_is_face : (n : ℕ) (next face : ℕ → ℕ) (f : ℕ) → HasFaces n next face f → (k : ℕ) → k < f → IsFace n next (λ d. face d == k)
@@ -23,7 +23,7 @@ face_has_number n next face f h s is =
     let d = is.some in
     let here : s d.0 ≡ true = d.2 in
     let both : ℕ → Bool = λ x. s x && (face x == face d.0) in
-    let shut : IsShut n next both = λ x hx m.
+    let shut : IsClosedUnder n next both = λ x hx m.
     let parts = and_parts (s x) (face x == face d.0) m in
     and_from (s (next x)) (face (next x) == face d.0) (is.closed x hx parts.0)
     (eq-eqb (face (next x)) (face d.0) (h.closed x hx ∙ eqb-true (face x) (face d.0) parts.1)) in (
@@ -103,7 +103,7 @@ returns n next inside d hd =
     ]
 
 -- the darts passed until then are closed under "next"
-seen_shut : (n : ℕ) (next : ℕ → ℕ) (d j : ℕ) → seen next d j (steps next j d) ≡ true → IsShut n next (seen next d j)
+seen_shut : (n : ℕ) (next : ℕ → ℕ) (d j : ℕ) → seen next d j (steps next j d) ≡ true → IsClosedUnder n next (seen next d j)
 seen_shut n next d j back e he m =
     let i = seen_steps next d j e m in
     elim (cases_eq (suc i.0) j) [

@@ -6,7 +6,7 @@ use Rattle.std.proofs.lemmas.Grind.{get_or-set_at}
 use Rattle.faces.specs.declared.numbering.TheConstants.{UNSET}
 use Rattle.embedding.specs.Faces.{HasFaces}
 use Rattle.embedding.specs.Darts.{IsOneToOne}
-use Rattle.faces.specs.Faces.{IsShut}
+use Rattle.faces.specs.Faces.{IsClosedUnder}
 use Rattle.sums.specs.Sums.{sum_below}
 use Rattle.sums.proofs.Sums.{sum_below-lt}
 use Rattle.faces.specs.Walk.{IsTraced, at}
@@ -24,9 +24,9 @@ pub record IsWalk (n : ℕ) (next old face : ℕ → ℕ) (c d t : ℕ) : Type 0
   pub behind : (x : ℕ) → x < n → face x ≡ c → x ≢ d → (y : ℕ) × (y < n) × (face y ≡ c) × (next y ≡ x)
   pub here : t ≢ d → (y : ℕ) × (y < n) × (face y ≡ c) × (next y ≡ t)
   pub first : t ≢ d → face d ≡ c
-  pub reach : (s : ℕ → Bool) → IsShut n next s → s d ≡ true → s t ≡ true
-  pub along : (s : ℕ → Bool) → IsShut n next s → s d ≡ true → (x : ℕ) → x < n → face x ≡ c → s x ≡ true
-  pub onward : (s : ℕ → Bool) → IsShut n next s → (x : ℕ) → x < n → face x ≡ c → s x ≡ true → s t ≡ true
+  pub reach : (s : ℕ → Bool) → IsClosedUnder n next s → s d ≡ true → s t ≡ true
+  pub along : (s : ℕ → Bool) → IsClosedUnder n next s → s d ≡ true → (x : ℕ) → x < n → face x ≡ c → s x ≡ true
+  pub onward : (s : ℕ → Bool) → IsClosedUnder n next s → (x : ℕ) → x < n → face x ≡ c → s x ≡ true → s t ≡ true
 
 -- one number more
 pub record IsPut (old new : ℕ → ℕ) (t c : ℕ) : Type 0 where
@@ -157,11 +157,11 @@ put_first : (n : ℕ) (next old face new : ℕ → ℕ) (c d t : ℕ) → IsWalk
 put_first n next old face new c d t w p =
     elim (cases_eq t d) [ inl e ↦ ap new (sym e) ∙ p.put | inr e ↦ put_stays face new c t p d (w.first e) ]
 
-put_along : (n : ℕ) (next old face new : ℕ → ℕ) (c d t : ℕ) → IsWalk n next old face c d t → IsPut face new t c → (s : ℕ → Bool) → IsShut n next s → s d ≡ true → (x : ℕ) → x < n → new x ≡ c → s x ≡ true
+put_along : (n : ℕ) (next old face new : ℕ → ℕ) (c d t : ℕ) → IsWalk n next old face c d t → IsPut face new t c → (s : ℕ → Bool) → IsClosedUnder n next s → s d ≡ true → (x : ℕ) → x < n → new x ≡ c → s x ≡ true
 put_along n next old face new c d t w p s closed h x hx m =
     elim (put_cases face new c t p x m) [ inl e ↦ ap s e ∙ w.reach s closed h | inr e ↦ w.along s closed h x hx e ]
 
-put_onward : (n : ℕ) (next old face new : ℕ → ℕ) (c d t : ℕ) → IsWalk n next old face c d t → IsPut face new t c → (s : ℕ → Bool) → IsShut n next s → (x : ℕ) → x < n → new x ≡ c → s x ≡ true → s (next t) ≡ true
+put_onward : (n : ℕ) (next old face new : ℕ → ℕ) (c d t : ℕ) → IsWalk n next old face c d t → IsPut face new t c → (s : ℕ → Bool) → IsClosedUnder n next s → (x : ℕ) → x < n → new x ≡ c → s x ≡ true → s (next t) ≡ true
 put_onward n next old face new c d t w p s closed x hx m h =
     elim (put_cases face new c t p x m) [
       | inl e ↦ closed t w.inside (ap s (sym e) ∙ h)
@@ -257,7 +257,7 @@ walk_ends n next old face new c d t inj w p round = record {
       ]
     ]
 
-    least : (s : ℕ → Bool) → IsShut n next s → (x y : ℕ) → x < n → y < n → new x ≡ new y → new x < c + 1 → s x ≡ true → s y ≡ true
+    least : (s : ℕ → Bool) → IsClosedUnder n next s → (x y : ℕ) → x < n → y < n → new x ≡ new y → new x < c + 1 → s x ≡ true → s y ≡ true
     least s shut x y hx hy same m here = elim (numbered x hx m) [
       | inl a ↦ elim (numbered y hy (omega arith)) [
         | inl b ↦ w.traced.least s shut x y hx hy (sym a.1 ∙ same ∙ b.1) a.0 here

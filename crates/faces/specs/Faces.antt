@@ -21,13 +21,13 @@ steps next zero d = d
 steps next (suc k) d = next (steps next k d)
 
 -- the set s of darts holds with each dart its next
-abbrev pub IsShut : ℕ → (ℕ → ℕ) → (ℕ → Bool) → Type 0
-IsShut n next s = (d : ℕ) → d < n → s d ≡ true → s (next d) ≡ true
+abbrev pub IsClosedUnder : ℕ → (ℕ → ℕ) → (ℕ → Bool) → Type 0
+IsClosedUnder n next s = (d : ℕ) → d < n → s d ≡ true → s (next d) ≡ true
 
 -- the set s is a face: it holds some dart and is closed under "next", and each such set within it is all of it
 pub record IsFace (n : ℕ) (next : ℕ → ℕ) (s : ℕ → Bool) : Type 0 where
   pub some : (d : ℕ) × (d < n) × (s d ≡ true)
-  pub closed : IsShut n next s
-  pub least : (t : ℕ → Bool) → IsShut n next t → ((d : ℕ) × (d < n) × (t d ≡ true))
+  pub closed : IsClosedUnder n next s
+  pub least : (t : ℕ → Bool) → IsClosedUnder n next t → ((d : ℕ) × (d < n) × (t d ≡ true))
       → ((d : ℕ) → d < n → t d ≡ true → s d ≡ true)
       → (d : ℕ) → d < n → s d ≡ true → t d ≡ true

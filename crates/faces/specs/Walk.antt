@@ -2,7 +2,7 @@
 use Rattle.std.specs.Prelude.{◌≡◌, ℕ, ◌<◌, ◌≤◌, ◌⊎◌, Bool, true, List, slice_index}
 use Rattle.faces.specs.declared.numbering.TheConstants.{UNSET}
 use Rattle.embedding.specs.Darts.{dart_count, next_of}
-use Rattle.faces.specs.Faces.{IsShut}
+use Rattle.faces.specs.Faces.{IsClosedUnder}
 
 -- the darts below d and all of their faces are numbered, with the numbers below c; `UNSET` stands for no number
 pub record IsTraced (n : ℕ) (next face : ℕ → ℕ) (c d : ℕ) : Type 0 where
@@ -12,7 +12,7 @@ pub record IsTraced (n : ℕ) (next face : ℕ → ℕ) (c d : ℕ) : Type 0 whe
   pub used : (k : ℕ) → k < c → (e : ℕ) × (e < d) × (face e ≡ k)
   pub closed : (x : ℕ) → x < n → face x < c → face (next x) ≡ face x
   pub behind : (x : ℕ) → x < n → face x < c → (y : ℕ) × (y < n) × (face y ≡ face x) × (next y ≡ x)
-  pub least : (s : ℕ → Bool) → IsShut n next s → (x y : ℕ) → x < n → y < n → face x ≡ face y → face x < c → s x ≡ true → s y ≡ true
+  pub least : (s : ℕ → Bool) → IsClosedUnder n next s → (x y : ℕ) → x < n → y < n → face x ≡ face y → face x < c → s x ≡ true → s y ≡ true
   pub ordered : (x k : ℕ) → x < n → face x < c → k < face x → (e : ℕ) × (e < x) × (face e ≡ k)
 
 -- the numbers that a list holds for the darts of a graph

@@ -5,7 +5,7 @@ ghost use Rattle.sums.specs.Sums.{sum_below};
 ghost use Rattle.embedding.specs.Darts.{dart_count, next_of, reverse_of};
 ghost use Rattle.embedding.specs.Faces.{HasFaces};
 ghost use Rattle.embedding.specs.Rules.{KeepsBefore};
-ghost use Rattle.faces.specs.Faces.{IsFace, IsShut, steps};
+ghost use Rattle.faces.specs.Faces.{IsFace, IsClosedUnder, steps};
 ghost use Rattle.faces.specs.Planes.{HasEnds, IsPlane, PlaneModel, darts, degree, face_at, reverse_dart};
 
 /// The faces are a partition: the darts of each number are a face, and each face has one of the numbers.
@@ -40,7 +40,7 @@ pub fn degrees_sum()
 /// "reverse" and holds one dart holds them all.
 pub fn darts_are_joined()
     ensures { (g : List (List ℕ)) → KeepsBefore g 8 → (s : ℕ → Bool)
-        → IsShut (dart_count g) (next_of g) s → IsShut (dart_count g) (reverse_of g) s
+        → IsClosedUnder (dart_count g) (next_of g) s → IsClosedUnder (dart_count g) (reverse_of g) s
         → (d e : ℕ) → d < dart_count g → e < dart_count g → s d ≡ true → s e ≡ true }
 {}
 

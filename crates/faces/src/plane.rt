@@ -1,6 +1,6 @@
 //! Planes: connected graphs with their faces, one of which is the outer one.
 
-ghost use Rattle.std.specs.Prelude.{◌≡◌, ◌<◌, ◌≤◌, ℕ, IfOk, IfErr, Err, length, slice_index, vec_len};
+ghost use Rattle.std.specs.Prelude.{◌≡◌, ◌≢◌, ◌<◌, ◌≤◌, ℕ, IfOk, IfErr, Err, length, slice_index, vec_len};
 ghost use Rattle.embedding.specs.declared.graphs.TheConstants.{MAX_DARTS};
 ghost use Rattle.embedding.specs.Rules.{KeepsBefore};
 ghost use Rattle.faces.specs.declared.plane.TheConstants.{MAX_FACES};
@@ -16,11 +16,11 @@ use thiserror::Error;
 /// How many faces a plane has at most: 510 edges less 255 vertices, and two more.
 pub const MAX_FACES: usize = 257;
 
-/// A connected graph of maximum degree 4 that is drawn on the sphere without crossings: its faces, and
-/// which of them is the outer one. In contracts it is a `PlaneModel`.
+/// A connected graph of maximum degree at most 4 that is drawn on the sphere without crossings: its
+/// faces, and which of them is the outer one. In contracts it is a `PlaneModel`.
 ///
 /// A face is walked by `next`, with the face on the left. Faces are numbered from 0 in the order of
-/// their least darts. No reader takes memory, and each takes constant time.
+/// their least darts. No reader takes memory, and each but `least_dart` takes constant time.
 #[derive(Debug, Drop)]
 pub struct Plane {
     graph: Graph,
@@ -136,6 +136,21 @@ impl Plane {
         ensures named { result < self.now.faces }
     {
         self.faces[usize::from(dart)]
+    }
+
+    /// The least dart of a face. It looks at each dart up to it.
+    pub fn least_dart(&self, face: u16) -> u16
+        requires { face < self.now.faces }
+        ensures inside { result < darts self.now }
+        ensures face { face_at self.now result ≡ face }
+        ensures least { (d : ℕ) → d < result → face_at self.now d ≢ face }
+    {
+        for dart in 0..self.graph().darts() {
+            if self.face_of(dart) == face {
+                return dart;
+            }
+        }
+        unreachable!()
     }
 
     /// How many faces there are, 1 to 257.

@@ -6,7 +6,7 @@ use Rattle.std.proofs.lemmas.List.Elements.{Contains-append_left, Contains-appen
 use Rattle.std.proofs.lemmas.Bool.{cases_eq, eq-eqb, ne_eqb, not-true, not_from_false, true≢false}
 use Rattle.sums.specs.Sums.{sum_below}
 use Rattle.sums.proofs.Sums.{sum_below-changed}
-use Rattle.faces.specs.Faces.{IsShut}
+use Rattle.faces.specs.Faces.{IsClosedUnder}
 use Rattle.faces.specs.Planes.{PlaneModel, IsPlane, HasEnds, darts, reverse_dart, next}
 use Rattle.faces.proofs.Ends.{plane_ends, seven_rules}
 use Rattle.faces.proofs.Joined.{all_joined}
@@ -195,10 +195,10 @@ search_whole p is {h} {c} {headings} first s d b =
       ]
     ]
 
-    across : IsShut (darts p) (reverse_dart p) (λ d. not (eqb (get_or headings d 0) 4))
+    across : IsClosedUnder (darts p) (reverse_dart p) (λ d. not (eqb (get_or headings d 0) 4))
     across d b marked = holds (reverse_dart p d) (both d b (known d marked)).1
 
-    onward : IsShut (darts p) (next p) (λ d. not (eqb (get_or headings d 0) 4))
+    onward : IsClosedUnder (darts p) (next p) (λ d. not (eqb (get_or headings d 0) 4))
     onward d b marked =
         let inside = ends.next_one.inside d b in
         let back : reverse_dart p (reverse_dart p (next p d)) ≡ next p d = ends.reverse_dart_back (next p d) inside in

@@ -7,6 +7,7 @@ ghost use Rattle.ortho_rep.specs.Shapes.{angle_at, turns_at};
 ghost use Rattle.ortho_rep.specs.Representation.{IsShape};
 ghost use Rattle.faces.specs.Planes.{darts};
 ghost use Rattle.headings.specs.Headings.{AreHeadings};
+ghost use Rattle.headings.specs.declared.search.TheConstants.{NO_DIRECTION};
 ghost use Rattle.headings.specs.Search.{IsReached};
 
 use faces::Plane;
@@ -39,7 +40,7 @@ impl Search {
 
     /// A search in which none of so many darts has a direction, in the memory of this one.
     fn begun(self, darts: usize) -> Result<Search, AllocError>
-        ensures unset { IfOk result (λ s. s.headings.items ≡ replicate darts 4) }
+        ensures unset { IfOk result (λ s. s.headings.items ≡ replicate darts NO_DIRECTION) }
         ensures waiting { IfOk result (λ s. s.waiting.items ≡ []) }
     {
         let Search { headings, waiting } = self;

@@ -21,7 +21,7 @@ use Rattle.ortho_rep.specs.Shapes.{ShapeModel, angle_at, turns_at}
 use Rattle.ortho_rep.proofs.FewTurns.{few_turns}
 use Rattle.ortho_rep.proofs.TurnCounts.{lefts-cons, rights-cons}
 use Rattle.ortho_rep.proofs.WeakDuality.{part_at, gains, losses, turning-split, least_by_prices}
-use Rattle.ortho_rep.proofs.Alike.{rep-alike, prove-alike}
+use Rattle.ortho_rep.proofs.SameAtDarts.{rep-alike, prove-alike}
 
 pub lefts-of-run : (l r : ℕ) → lefts (lefts_then_rights l r) ≡ l
 lefts-of-run zero zero = refl

@@ -8,6 +8,6 @@ pub mod Priced
 pub mod Tallied
 pub mod FewTurns
 pub mod FromFlow
-pub mod JoinedLists
-pub mod Alike
+pub mod PushedLists
+pub mod SameAtDarts
 pub mod Tries

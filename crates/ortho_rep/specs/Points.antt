@@ -1,6 +1,5 @@
 -- What callers see of `Points`: a point for each vertex, and for each edge its corners along its lesser dart.
-use Rattle.std.specs.Prelude.{ℕ, ◌-◌, List, [], map, slice_index_or, Vec}
-use Rattle.std.specs.declared.alloc.Global.{Global}
+use Rattle.std.specs.Prelude.{ℕ, ◌-◌, List, [], slice_index_or}
 use Rattle.ortho_rep.specs.declared.points.Point.{Point}
 
 -- place v - 1 of the first list belongs to vertex v, place e of the second to edge e
@@ -17,7 +16,3 @@ vertex_point points v = slice_index_or points.vertices (v - 1) origin
 
 abbrev pub corners_at : PointsModel → ℕ → List Point
 corners_at points e = slice_index_or points.corners e []
-
--- the lists of a list of vectors
-abbrev pub point_lists : List (Vec Point Global) → List (List Point)
-point_lists vectors = map (λ v. v.items) vectors

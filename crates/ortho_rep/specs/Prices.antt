@@ -1,5 +1,5 @@
--- Prices of vertices and faces, and when they prove that a representation is least: they are the dual
--- of its flow, and a flow and potentials without slack are both best (complementary slackness).
+-- Prices of vertices and faces, and when they prove that a representation is least: they are the dual of its flow,
+-- and a flow and potentials with slack only where nothing flows are both best (complementary slackness).
 use Rattle.std.specs.Prelude.{◌≡◌, ℕ, ◌-◌, ◌<◌, ℤ, pos, ◌+ℤ◌, ◌-ℤ◌, ◌≤ℤ◌, List, length, slice_index_or}
 use Rattle.faces.specs.Planes.{PlaneModel, darts, vertices, head, reverse_dart, face_at}
 use Rattle.ortho_rep.specs.declared.turn.Turn.{Turn}

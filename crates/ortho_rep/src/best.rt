@@ -158,7 +158,7 @@ fn tour(plane: &mut Plane, moving: Moving, lead: &mut Lead, bounds: &mut [u64]) 
     let mut doors = [false; MAX_DARTS];
     let outer = plane.outer();
     seen[usize::from(outer)] = true;
-    let mut dart = dart_on(plane, outer);
+    let mut dart = plane.least_dart(outer);
     let mut moving = moving;
     for _step in 0..darts {
         let (next, face) = step(plane, dart, &mut seen, &mut doors);
@@ -168,18 +168,6 @@ fn tour(plane: &mut Plane, moving: Moving, lead: &mut Lead, bounds: &mut [u64]) 
         }
     }
     moving
-}
-
-/// A dart of a face.
-fn dart_on(plane: &Plane, face: u16) -> u16
-    ensures { result < darts plane.now }
-{
-    for dart in 0..plane.graph().darts() {
-        if plane.face_of(dart) == face {
-            return dart;
-        }
-    }
-    0
 }
 
 /// The dart to look at after one, and the face across if it has not been seen yet. Then the edge

@@ -17,6 +17,7 @@ mod turn;
 pub use best::best_shape;
 pub use certificate::certify;
 pub use least::{least_shape, least_shape_in};
+pub use lists::JoinedLists;
 pub use points::{MAX_COORDINATE, Point, Points};
 pub use prices::Prices;
 pub use representation::is_shape;

@@ -5,6 +5,68 @@ ghost use Rattle.ortho_rep.specs.Storage.{lists_in, cut, IsCut};
 
 use std::marker::Model;
 
+/// Lists of items that stand in one list. In contracts it is the list of these lists.
+#[derive(Debug, Drop)]
+pub struct JoinedLists<T> {
+    // all items, and where those of each list start; one place more, where the last ones end
+    items: Vec<T>,
+    starts: Vec<usize>,
+}
+
+impl<T> Model for JoinedLists<T> {
+    ghost use Rattle.std.specs.Prelude.{List};
+    ghost use Rattle.ortho_rep.specs.Storage.{cut, IsCut};
+
+    ghost Value = { List (List T) };
+
+    ghost view = { λ a. cut a.starts.items a.items.items };
+
+    ghost invariant = { λ a. IsCut a.starts.items a.items.items };
+}
+
+impl<T> JoinedLists<T> {
+    /// The pieces between places that follow one another in one list of items. It takes no memory.
+    pub fn new(items: Vec<T>, starts: Vec<usize>) -> JoinedLists<T>
+        requires { IsCut starts.items items.items }
+        ensures { result ≡ cut starts.items items.items }
+    {
+        JoinedLists { items, starts }
+    }
+
+    /// The one list and the places, whose memory can be used again.
+    pub fn into_parts(self) -> (Vec<T>, Vec<usize>)
+        ensures { self ≡ cut result.1.items result.0.items }
+    {
+        (self.items, self.starts)
+    }
+
+    /// How many lists there are.
+    pub fn len(&self) -> usize
+        ensures { result ≡ length self.now }
+    {
+        self.starts.len() - 1
+    }
+
+    /// List i.
+    pub fn get(&self, i: usize) -> &[T]
+        requires { i < length self.now }
+        ensures { result.now ≡ slice_index_or self.now i [] }
+    {
+        piece(&self.items, &self.starts, i)
+    }
+}
+
+/// Piece i of a list that is cut at the given places.
+fn piece<'a, T>(items: &'a [T], starts: &[usize], i: usize) -> &'a [T]
+    requires places { IsCut starts.now items.now }
+    requires within { i + 1 < length starts.now }
+    ensures { result.now ≡ slice_index_or (cut starts.now items.now) i [] }
+{
+    let start = starts[i];
+    let end = starts[i + 1];
+    &items[start..end]
+}
+
 /// Lists of items. In contracts it is the list of these lists.
 #[derive(Debug, Drop)]
 pub(crate) struct Lists<T> {
@@ -13,10 +75,8 @@ pub(crate) struct Lists<T> {
 
 #[derive(Debug, Drop)]
 enum Store<T> {
-    // each list by itself
     Apart(Vec<Vec<T>>),
-    // all items, and where those of each list start; one place more, where the last ones end
-    Joined(Vec<T>, Vec<usize>),
+    Joined(JoinedLists<T>),
 }
 
 impl<T> Model for Lists<T> {
@@ -24,15 +84,13 @@ impl<T> Model for Lists<T> {
 
     ghost Value = { List (List T) };
 
-    ghost use Rattle.ortho_rep.specs.Stores.{lists_of, IsStored};
+    ghost use Rattle.ortho_rep.specs.Stores.{lists_of};
 
     ghost view = { λ a. lists_of a.store };
-
-    ghost invariant = { λ a. IsStored a.store };
 }
 
 impl<T> Lists<T> {
-    /// These lists, as they are.
+    /// These lists, each by itself.
     pub(crate) fn apart(lists: Vec<Vec<T>>) -> Lists<T>
         ensures { result ≡ lists_in lists.items }
     {
@@ -47,7 +105,7 @@ impl<T> Lists<T> {
         ensures { result ≡ cut starts.items items.items }
     {
         Lists {
-            store: Store::Joined(items, starts),
+            store: Store::Joined(JoinedLists::new(items, starts)),
         }
     }
 
@@ -57,7 +115,7 @@ impl<T> Lists<T> {
     {
         match &self.store {
             Store::Apart(lists) => lists.len(),
-            Store::Joined(_, starts) => starts.len() - 1,
+            Store::Joined(lists) => lists.len(),
         }
     }
 
@@ -68,18 +126,7 @@ impl<T> Lists<T> {
     {
         match &self.store {
             Store::Apart(lists) => lists[i].as_slice(),
-            Store::Joined(items, starts) => piece(items, starts, i),
+            Store::Joined(lists) => lists.get(i),
         }
     }
-}
-
-/// Piece i of a list that is cut at the given places.
-fn piece<'a, T>(items: &'a [T], starts: &[usize], i: usize) -> &'a [T]
-    requires places { IsCut starts.now items.now }
-    requires within { i + 1 < length starts.now }
-    ensures { result.now ≡ slice_index_or (cut starts.now items.now) i [] }
-{
-    let start = starts[i];
-    let end = starts[i + 1];
-    &items[start..end]
 }

@@ -1,8 +1,8 @@
 //! Points of the grid, and those of a plane's vertices and corners.
 
 ghost use Rattle.std.specs.Prelude.{◌≡◌, ◌<◌, ◌≤◌, length};
-ghost use Rattle.ortho_rep.specs.Points.{vertex_point, corners_at, point_lists};
-ghost use Rattle.ortho_rep.specs.Storage.{cut, IsCut};
+ghost use Rattle.ortho_rep.specs.Points.{vertex_point, corners_at};
+ghost use Rattle.ortho_rep.specs.Storage.{lists_in, cut, IsCut};
 
 use crate::lists::Lists;
 use std::marker::Model;
@@ -40,7 +40,7 @@ impl Points {
     /// These points: that of vertex v at place v - 1 of the first list, the corners of edge e at place e
     /// of the second. It takes no memory.
     pub fn new(vertices: Vec<Point>, corners: Vec<Vec<Point>>) -> Points
-        ensures { result ≡ record { vertices = vertices.items; corners = point_lists corners.items } }
+        ensures { result ≡ record { vertices = vertices.items; corners = lists_in corners.items } }
     {
         Points {
             vertices,

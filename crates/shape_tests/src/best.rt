@@ -19,7 +19,7 @@ const TENTH: [u8; 45] = [
     0, 4, 5, 9, 7, 0, 5, 6, 7, 8, 0, 1, 5, 0,
 ];
 
-/// One of all planar graphs of maximum degree 4 on 6 vertices, as nauty's `geng` and `planarg` list them.
+/// One of all planar graphs of maximum degree at most 4 on 6 vertices, as nauty's `geng` and `planarg` list them.
 const SIX: [u8; 25] = [
     6, 4, 5, 6, 0, 5, 4, 6, 0, 6, 0, 6, 2, 5, 1, 0, 1, 4, 2, 0, 3, 1, 2, 4, 0,
 ];

@@ -1,7 +1,7 @@
 use Rattle.std.proofs.Common.{◌≡◌, ◌<◌, ◌∙◌, ◌++◌, ℕ, List, [], ◌∷◌, length, All, slice_index, map, subst, sym, ap, refl, arith}
 use Rattle.cutting.specs.Paths.{turning_places}
 use Rattle.ortho_rep.specs.declared.points.Point.{Point}
-use Rattle.ortho_rep.proofs.JoinedLists.{joined-starts, joined-pushed, joined-IsCut, joined-cut}
+use Rattle.ortho_rep.proofs.PushedLists.{joined-starts, joined-pushed, joined-IsCut, joined-cut}
 use Rattle.dissect.specs.Boxes.{web}
 use Rattle.compact.specs.Ordered.{point_at, places_along}
 use Rattle.compact.proofs.Walking.{path_below}

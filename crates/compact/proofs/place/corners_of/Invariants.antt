@@ -1,5 +1,5 @@
 use Rattle.std.proofs.Common.{slice_index}
-use Rattle.ortho_rep.proofs.JoinedLists.{IsJoined}
+use Rattle.ortho_rep.proofs.PushedLists.{IsJoined}
 use Rattle.compact.proofs.Placing.{IsCornersOf}
 use Rattle.compact.proofs.place.corners_of.Given as goal
 

@@ -2,7 +2,7 @@ use Rattle.std.proofs.Common.{◌≡◌, ◌∙◌, ◌++◌, ℕ, List, [], ◌
 use Rattle.cutting.specs.Tables.{web_of}
 use Rattle.cutting.specs.Paths.{IsPath}
 use Rattle.dissect.proofs.PathsOfEdges.{IsPathOf}
-use Rattle.ortho_rep.proofs.JoinedLists.{joined-starts, joined-pushed, joined-IsCut, joined-cut}
+use Rattle.ortho_rep.proofs.PushedLists.{joined-starts, joined-pushed, joined-IsCut, joined-cut}
 use Rattle.dissect.proofs.parts.paths_of.Goals as goal
 
 pub edges-init : goal.edges-init
@@ -30,8 +30,8 @@ edges-preserved c =
     (λ piece is. pushed is.first is.rest is.path ∙ ap (λ (p : List ℕ). c.edges.darts.items ++ p) (sym is.is))
     (omega (arith, c.len.ensures, c.push_path.new.darts.ok)) c.in_ok-push-2.ensures.items
 
-pub joined-requires : goal.joined-requires
-joined-requires c = joined-IsCut _ _ _ _ c.edges.invariant
+pub new-requires : goal.new-requires
+new-requires c = joined-IsCut _ _ _ _ c.edges.invariant
 
 pub returns : goal.returns
 returns c =
@@ -40,8 +40,8 @@ returns c =
     let pieces = joined-cut c.edges.starts.items c.edges.darts.items c.edges.last-index (IsPathOf w es) c.edges.invariant in
     let all : c.edges.last-index ≡ length es = omega (arith, c.edges-test.false, c.edges.auto.last-index-end) in
     record {
-      count = ap length c.joined.ensures ∙ pieces.0 ∙ all;
+      count = ap length c.new.ensures ∙ pieces.0 ∙ all;
       paths = λ e e_in first rest path.
-          ap (λ (l : List (List ℕ)). slice_index_or l e []) c.joined.ensures
+          ap (λ (l : List (List ℕ)). slice_index_or l e []) c.new.ensures
           ∙ pieces.1 e (omega (arith, e_in, all)) (first ∷ rest) (record { first = first; rest = rest; path = path; is = refl });
     }

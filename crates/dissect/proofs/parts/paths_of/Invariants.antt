@@ -1,6 +1,6 @@
 use Rattle.cutting.specs.Tables.{web_of}
 use Rattle.dissect.proofs.PathsOfEdges.{IsPathOf}
-use Rattle.ortho_rep.proofs.JoinedLists.{IsJoined}
+use Rattle.ortho_rep.proofs.PushedLists.{IsJoined}
 use Rattle.dissect.proofs.parts.paths_of.Given as goal
 
 abbrev pub invariant-edges : goal.invariant-edges

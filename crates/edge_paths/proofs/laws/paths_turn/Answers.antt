@@ -1,4 +1,4 @@
-use Rattle.edge_paths.proofs.Plain.{turned_on}
+use Rattle.edge_paths.proofs.StraightPaths.{turned_on}
 use Rattle.edge_paths.proofs.laws.paths_turn.Goals as goal
 
 pub returns : goal.returns

@@ -8,7 +8,7 @@ use Rattle.ortho_rep.specs.declared.turn.Turn.TheVariants.{Left, Right}
 use Rattle.ortho_rep.specs.OfFlow.{strings_of}
 use Rattle.ortho_rep.specs.Storage.{cut}
 use Rattle.ortho_rep.proofs.FromFlow.{short_of_flow, length-run}
-use Rattle.ortho_rep.proofs.JoinedLists.{joined-runs, joined-IsCut, joined-cut}
+use Rattle.ortho_rep.proofs.PushedLists.{joined-runs, joined-IsCut, joined-cut}
 use Rattle.ortho_rep.proofs.least.strings_in.Goals as goal
 
 pub loop-dart-preserved : goal.loop-dart-preserved

@@ -1,7 +1,7 @@
 use Rattle.std.proofs.Common.{◌≡◌}
 use Rattle.networks.specs.Flow.{amounts}
 use Rattle.ortho_rep.specs.OfFlow.{strings_of}
-use Rattle.ortho_rep.proofs.JoinedLists.{IsJoined}
+use Rattle.ortho_rep.proofs.PushedLists.{IsJoined}
 use Rattle.ortho_rep.proofs.least.strings_in.Given as goal
 
 abbrev pub invariant-loop-dart : goal.invariant-loop-dart
