@@ -15,7 +15,7 @@ use Rattle.networks.specs.Networks.{NetworkModel, node_count, arc_count, arc_at,
 use Rattle.networks.specs.Flow.{HasRoom, IsResidual, HasPotentials, HasNoFlow, start_of, end_of, unit_cost, reduced_cost}
 use Rattle.min_cost_flow.specs.Round.{IsRound}
 use Rattle.networks.specs.ResidualArcs.{numbers, end_at, cost_at, StartsAt, place_of, limit_of, HasResidualArcs, IsFilled, carried}
-use Rattle.shortest_paths.specs.Search.{far, IsArcCost, IsOpen, IsGraph, IsPriced, IsNear, IsReached, IsHit, IsNearest, IsServed, IsLeft, IsPut, degree, looked}
+use Rattle.shortest_paths.specs.Search.{far, IsArcCost, IsOpen, IsGraph, IsPriced, IsNear, IsReached, IsHit, IsNearest, IsServed, IsLeft, IsPut, IsWithinFar, degree, looked}
 use Rattle.min_cost_flow.specs.Path.{HasPath}
 use Rattle.min_cost_flow.proofs.Cut.{no_flow_out}
 use Rattle.networks.proofs.Ends.{start_in, end_in}
@@ -396,7 +396,7 @@ path_looks net first reverse forward arcs room p e s q enter order place head or
     omega (arith, many_looks net first reverse forward arcs room p e s q enter order place head ordered reached level cut f l fl r h)
 
 -- labels and the cut fit
-pub label_bounds : (n h : ℕ) (ps z : ℤ) → n ≤ MAX_NODES → h ≤ n → IsNear ps h z → (pos 0 ≤ℤ (ps +ℤ pos (2 * n))) × (ps ≤ℤ pos (2 * n)) → (negsuc 1073741822 ≤ℤ z) × (z ≤ℤ pos 1073741823)
+pub label_bounds : (n h : ℕ) (ps z : ℤ) → n ≤ MAX_NODES → h ≤ n → IsNear ps h z → (pos 0 ≤ℤ (ps +ℤ pos (2 * n))) × (ps ≤ℤ pos (2 * n)) → IsWithinFar z
 label_bounds n h ps z small le (a, b) (c, d) = (omega (arith, ints), omega (arith, ints))
 
 -- ---- writing along a list

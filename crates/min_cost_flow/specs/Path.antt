@@ -5,7 +5,7 @@ use Rattle.networks.specs.declared.residual.ResidualArc.{ResidualArc}
 use Rattle.networks.specs.ResidualArcs.{end_at, cost_at, StartsAt}
 use Rattle.shortest_paths.specs.Search.{IsOpen}
 
--- residual arc k leads from node u to node v, is open and costs nothing under the potentials
+-- residual arc k leads from node u to node v, is open, and its reduced cost is 0
 pub record IsTight (first : List ℕ) (arcs : List ResidualArc) (p : ℕ → ℤ) (u k v : ℕ) : Type 0 where
   pub leaves : StartsAt first u k
   pub unblocked : IsOpen arcs k

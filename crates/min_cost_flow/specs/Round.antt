@@ -1,8 +1,9 @@
 -- What holds of amounts, potentials and excess between two searches.
-use Rattle.std.specs.Prelude.{ℕ, ◌+◌, ◌*◌, ◌<◌, ◌≤◌, ◌≡◌, ◌≢◌, ◌⊎◌, ◌==◌, if◌then◌else◌, ℤ, pos, negsuc, ◌+ℤ◌, ◌≤ℤ◌, ◌<ℤ◌}
+use Rattle.std.specs.Prelude.{ℕ, ◌+◌, ◌*◌, ◌<◌, ◌≤◌, ◌≡◌, ◌≢◌, ◌⊎◌, ◌==◌, if◌then◌else◌, ℤ, pos, ◌+ℤ◌, ◌≤ℤ◌, ◌<ℤ◌}
 use borrow.Author.Differences.{up}
 use Rattle.sums.specs.Sums.{sum_below}
-use Rattle.networks.specs.Networks.{NetworkModel, node_count, arc_count, supply_at}
+use Rattle.networks.specs.Networks.{NetworkModel, node_count, arc_count, supply_at, IsFair}
+use Rattle.min_cost_flow.specs.declared.resume.TheConstants.{MAX_CARRIED}
 use Rattle.networks.specs.Flow.{Flow, HasPotentials}
 use Rattle.min_cost_flow.specs.Excess.{KeepsCaps, Leaves}
 
@@ -18,8 +19,8 @@ pub record IsRound (net : NetworkModel) (x : ℕ → ℕ) (p e : ℕ → ℤ) : 
   pub priced : HasPotentials net x p
   pub low : (v : ℕ) → v < node_count net → (pos 0 ≤ℤ (p v +ℤ pos (2 * node_count net))) × (p v ≤ℤ pos (2 * node_count net))
   pub zero : (v : ℕ) → v < node_count net → e v <ℤ pos 0 → p v ≡ pos 0
-  pub fair : (v : ℕ) → v < node_count net → (negsuc 2047 ≤ℤ e v) × (e v ≤ℤ pos 2048)
-  pub room : (i : ℕ) → i < arc_count net → x i + left_over net e ≤ 2097152
+  pub fair : (v : ℕ) → v < node_count net → IsFair (e v)
+  pub room : (i : ℕ) → i < arc_count net → x i + left_over net e ≤ MAX_CARRIED
 
 -- how many arcs carry units
 abbrev pub carrying : NetworkModel → (ℕ → ℕ) → ℕ

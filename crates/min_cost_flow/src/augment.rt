@@ -2,6 +2,7 @@
 #![tactic(auto)]
 
 ghost use Rattle.std.specs.Prelude.{◌≡◌, ◌≢◌, ◌<◌, ◌≤◌, ◌==◌, ◌+◌, ◌^◌, ℕ, ℤ, if◌then◌else◌, length, pos, negsuc, ◌≤ℤ◌, ◌<ℤ◌, ◌+ℤ◌, ◌-ℤ◌};
+ghost use Rattle.networks.specs.declared.fault.TheConstants.{MAX_SUPPLY};
 ghost use Rattle.networks.specs.declared.residual.TheConstants.{SHUT};
 ghost use Rattle.networks.specs.Networks.{node_count, arc_count, arc_at, IsNetwork};
 ghost use Rattle.networks.specs.Flow.{at_nodes};
@@ -12,8 +13,8 @@ ghost use Rattle.min_cost_flow.specs.Round.{IsRound, IsLess, carrying};
 use networks::{ResidualArc, ResidualArcs, SHUT};
 
 /// Sends along the path that ends with a residual arc as much as fits, is left over at the source and
-/// is wanting at the end: at least one unit. The path costs nothing under the potentials, which no
-/// code here reads.
+/// is wanting at the end: at least one unit. Along the path reduced costs are 0 under the potentials,
+/// which no code here reads.
 pub(crate) fn send(
     residual: ResidualArcs<'_>,
     arcs: &mut [ResidualArc],
@@ -83,7 +84,7 @@ fn most_between(excess: &[i32], source: usize, target: usize) -> u32
 /// Brings units to a node where at least so many are wanting.
 fn bring_to(excess: &mut [i32], node: usize, amount: u32)
     requires node { node < length excess.old }
-    requires few { amount ≤ 2048 }
+    requires few { amount ≤ MAX_SUPPLY }
     requires wanting { (at_nodes excess.old node +ℤ pos amount) ≤ℤ pos 0 }
     ensures here { at_nodes excess.new node ≡ at_nodes excess.old node +ℤ pos amount }
     ensures others { (v : ℕ) → v ≢ node → at_nodes excess.new v ≡ at_nodes excess.old v }
@@ -94,7 +95,7 @@ fn bring_to(excess: &mut [i32], node: usize, amount: u32)
 /// Takes units from a node where at least so many are left over.
 fn take_from(excess: &mut [i32], node: usize, amount: u32)
     requires node { node < length excess.old }
-    requires few { amount ≤ 2048 }
+    requires few { amount ≤ MAX_SUPPLY }
     requires left { pos amount ≤ℤ at_nodes excess.old node }
     ensures here { at_nodes excess.new node ≡ at_nodes excess.old node -ℤ pos amount }
     ensures others { (v : ℕ) → v ≢ node → at_nodes excess.new v ≡ at_nodes excess.old v }

@@ -1,6 +1,9 @@
 //! Solving anew, or going on from the flow that is there after supplies have moved.
-ghost use Rattle.std.specs.Prelude.{◌≡◌, ◌≢◌, ◌<◌, ◌≤◌, ◌+◌, ◌*◌, ◌^◌, ℕ, length, pos, negsuc, ◌≤ℤ◌, ◌<ℤ◌, ◌+ℤ◌, ◌-ℤ◌, true, false};
+ghost use Rattle.std.specs.Prelude.{◌≡◌, ◌≢◌, ◌<◌, ◌≤◌, ◌+◌, ◌*◌, ◌^◌, ℕ, length, pos, ◌≤ℤ◌, ◌<ℤ◌, ◌+ℤ◌, ◌-ℤ◌, true, false};
+ghost use Rattle.networks.specs.declared.fault.TheConstants.{MAX_SUPPLY};
 ghost use Rattle.networks.specs.declared.network.TheConstants.{MAX_NODES};
+ghost use Rattle.networks.specs.declared.residual.TheConstants.{MAX_RESIDUAL_ARCS};
+ghost use Rattle.min_cost_flow.specs.declared.resume.TheConstants.{MAX_CARRIED};
 ghost use Rattle.networks.specs.Networks.{arc_count, arc_at, node_count, IsNetwork, HasFairSupplies, shifted};
 ghost use Rattle.networks.specs.Flow.{at_nodes, HasNoFlow};
 ghost use Rattle.networks.specs.ResidualArcs.{numbers, limit_of, HasResidualArcs, IsFilled, carried};
@@ -12,6 +15,9 @@ ghost use Rattle.min_cost_flow.specs.Stand.{HasArcLists, IsSettled};
 use crate::solver::{augment_once, has_deficit, run, score_nodes};
 use networks::{Network, ResidualArc, ResidualArcs, lay_out, move_units};
 use shortest_paths::FAR;
+
+/// How many units an arc carries at most: as many as all nodes of a network can supply.
+pub(crate) const MAX_CARRIED: u32 = 2_097_152;
 
 /// Solves from nothing; whether there is a flow.
 pub(crate) fn solve_from_nothing(
@@ -84,7 +90,7 @@ pub(crate) fn resume(
     requires settled { IsSettled network.old first.old reverse.old forward.old arcs.old room.old potential.old excess.old score.old label.old enter.old order.old place.old }
     requires from { from < node_count network.old }
     requires to { to < node_count network.old }
-    requires few { amount ≤ 2048 }
+    requires few { amount ≤ MAX_SUPPLY }
     requires fair { HasFairSupplies (shifted network.old from to amount) }
     ensures network { network.new ≡ shifted network.old from to amount }
     ensures settled { result ≡ true → IsSettled network.new first.new reverse.new forward.new arcs.new room.new potential.new excess.new score.new label.new enter.new order.new place.new }
@@ -120,15 +126,15 @@ pub(crate) fn resume(
     }
 }
 
-/// Whether each arc can carry so many units more, at most 2,097,152 in all.
+/// Whether each arc can carry so many units more, at most [`MAX_CARRIED`] in all.
 fn carries_little(reverse: &[u32], forward: &[u32], room: &[u32], amount: u32) -> bool
     requires reverses { (i : ℕ) → i < length forward.now → numbers forward.now i < length reverse.now }
     requires rooms { (i : ℕ) → i < length forward.now → numbers reverse.now (numbers forward.now i) < length room.now }
-    requires sizes { (length reverse.now ≤ 8192) × (length room.now ≤ 8192) }
-    requires few { amount ≤ 2048 }
-    ensures { result ≡ true → (i : ℕ) → i < length forward.now → carried reverse.now forward.now room.now i + amount ≤ 2097152 }
+    requires sizes { (length reverse.now ≤ MAX_RESIDUAL_ARCS) × (length room.now ≤ MAX_RESIDUAL_ARCS) }
+    requires few { amount ≤ MAX_SUPPLY }
+    ensures { result ≡ true → (i : ℕ) → i < length forward.now → carried reverse.now forward.now room.now i + amount ≤ MAX_CARRIED }
 {
-    let most = (1 << 21) - amount;
+    let most = MAX_CARRIED - amount;
     for along in forward.iter() {
         if room[reverse[*along as usize] as usize] > most {
             return false;
@@ -141,7 +147,7 @@ fn carries_little(reverse: &[u32], forward: &[u32], room: &[u32], amount: u32) -
 fn rebase(potential: &mut [i32], node: usize) -> bool
     requires node { node < length potential.old }
     requires small { length potential.old ≤ MAX_NODES }
-    requires low { (v : ℕ) → v < length potential.old → (negsuc 2047 ≤ℤ at_nodes potential.old v) × (at_nodes potential.old v ≤ℤ pos 2048) }
+    requires low { (v : ℕ) → v < length potential.old → ((pos 0 -ℤ pos (2 * MAX_NODES)) ≤ℤ at_nodes potential.old v) × (at_nodes potential.old v ≤ℤ pos (2 * MAX_NODES)) }
     ensures moved { (v : ℕ) → v < length potential.new → at_nodes potential.new v ≡ at_nodes potential.old v -ℤ at_nodes potential.old node }
     ensures low { result ≡ true → (v : ℕ) → v < length potential.new → (pos 0 ≤ℤ (at_nodes potential.new v +ℤ pos (2 * length potential.old))) × (at_nodes potential.new v ≤ℤ pos (2 * length potential.old)) }
 {
@@ -152,8 +158,8 @@ fn rebase(potential: &mut [i32], node: usize) -> bool
 
 /// Lowers each potential by as much.
 fn lower_all(potential: &mut [i32], base: i32)
-    requires low { (v : ℕ) → v < length potential.old → (negsuc 2047 ≤ℤ at_nodes potential.old v) × (at_nodes potential.old v ≤ℤ pos 2048) }
-    requires base { (negsuc 2047 ≤ℤ base) × (base ≤ℤ pos 2048) }
+    requires low { (v : ℕ) → v < length potential.old → ((pos 0 -ℤ pos (2 * MAX_NODES)) ≤ℤ at_nodes potential.old v) × (at_nodes potential.old v ≤ℤ pos (2 * MAX_NODES)) }
+    requires base { ((pos 0 -ℤ pos (2 * MAX_NODES)) ≤ℤ base) × (base ≤ℤ pos (2 * MAX_NODES)) }
     ensures { (v : ℕ) → v < length potential.new → at_nodes potential.new v ≡ at_nodes potential.old v -ℤ base }
 {
     for at_node in potential.iter_mut() {

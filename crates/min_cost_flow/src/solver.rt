@@ -1,11 +1,12 @@
 //! Searches from one node after another, and a path sent along after each, until nothing is left over.
-ghost use Rattle.std.specs.Prelude.{◌≡◌, ◌≢◌, ◌<◌, ◌≤◌, ◌+◌, ◌*◌, ◌^◌, ℕ, ℤ, List, length, pos, negsuc, ◌≤ℤ◌, ◌<ℤ◌, ◌+ℤ◌, ◌-ℤ◌, IfOk, IfErr, IfSome, IfNone, true, false};
+ghost use Rattle.std.specs.Prelude.{◌≡◌, ◌≢◌, ◌<◌, ◌≤◌, ◌+◌, ◌*◌, ◌^◌, ℕ, ℤ, List, length, pos, ◌≤ℤ◌, ◌<ℤ◌, ◌+ℤ◌, ◌-ℤ◌, IfOk, IfErr, IfSome, IfNone, true, false};
 ghost use Rattle.networks.specs.declared.network.TheConstants.{MAX_ARCS, MAX_NODES};
+ghost use Rattle.networks.specs.declared.residual.TheConstants.{MAX_RESIDUAL_ARCS};
 ghost use Rattle.min_cost_flow.specs.declared.solver.SolveFault.TheVariants.{Memory};
 ghost use Rattle.networks.specs.Networks.{arc_count, arc_at, node_count, supply_at, IsNetwork};
 ghost use Rattle.networks.specs.Flow.{amounts, at_nodes, Flow, HasPotentials, HasNoFlow, Solves};
 ghost use Rattle.networks.specs.ResidualArcs.{numbers, limit_of, HasResidualArcs, IsFilled, carried};
-ghost use Rattle.shortest_paths.specs.Search.{far, IsPut};
+ghost use Rattle.shortest_paths.specs.Search.{far, IsPut, IsWithinFar};
 ghost use Rattle.min_cost_flow.specs.Lists.{HasNodeLists};
 ghost use Rattle.min_cost_flow.specs.Round.{left_over, carrying, supply_sum, IsRound, IsLess, IsWork, IsRoundDone, HasSupply, IsWithinReach};
 
@@ -65,7 +66,7 @@ pub fn solve(alloc: Global, network: &Network) -> Result<Solved, SolveFault>
 }
 
 /// The same as [`solve`], in memory that is lent. The solution takes its two lists with it; they can be given
-/// back by [`Solved::give_back`]. Where there is no solution, all lists are left.
+/// back by [`Solved::give_back`]. Where there is no solution, all lists stay in the scratch.
 pub fn solve_in(
     alloc: Global,
     scratch: &mut Scratch,
@@ -202,7 +203,8 @@ pub(crate) fn has_deficit(excess: &[i32]) -> bool
 }
 
 /// Scores each node for ties among those that are as near: its supply, and what is supplied where arcs of
-/// cost 0 to it start. The least score comes first. No result rests on it.
+/// cost 0 to it start. The least score comes first. No clause rests on it, but it tells which of
+/// several flows of least cost is found.
 pub(crate) fn score_nodes(network: &Network, score: &mut [i32])
     requires network { IsNetwork network.now }
     requires size { length score.old ≡ node_count network.now }
@@ -222,7 +224,7 @@ pub(crate) fn read_flow(reverse: &[u32], room: &[u32], flow: &mut [u32])
     requires reverses { (i : ℕ) → i < length flow.old → numbers flow.old i < length reverse.now }
     requires rooms { (i : ℕ) → i < length flow.old → numbers reverse.now (numbers flow.old i) < length room.now }
     requires small { length flow.old ≤ MAX_ARCS }
-    requires sizes { (length reverse.now ≤ 8192) × (length room.now ≤ 8192) }
+    requires sizes { (length reverse.now ≤ MAX_RESIDUAL_ARCS) × (length room.now ≤ MAX_RESIDUAL_ARCS) }
     ensures { (i : ℕ) → i < length flow.new → amounts flow.new i ≡ carried reverse.now flow.old room.now i }
 {
     for along in flow.iter_mut() {
@@ -339,14 +341,14 @@ pub(crate) fn augment_once(
     true
 }
 
-/// Moves the potentials of the nodes that were scanned by as much as they are nearer than the cut.
+/// Lowers the potentials of the nodes that were scanned by as much as they are nearer than the cut.
 fn move_potentials(order: &[u32], label: &[i32], potential: &mut [i32], scanned: usize, cut: i32)
     requires order { scanned ≤ length order.now }
     requires small { length potential.old ≤ MAX_NODES }
     requires nodes { (j : ℕ) → j < scanned → numbers order.now j < length potential.old }
     requires sizes { length label.now ≡ length potential.old }
-    requires labels { (j : ℕ) → j < scanned → (negsuc 1073741823 ≤ℤ at_nodes label.now (numbers order.now j)) × (at_nodes label.now (numbers order.now j) ≤ℤ pos 1073741823) }
-    requires cut { (negsuc 1073741822 ≤ℤ cut) × (cut ≤ℤ pos 1073741823) }
+    requires labels { (j : ℕ) → j < scanned → IsWithinFar (at_nodes label.now (numbers order.now j)) }
+    requires cut { IsWithinFar cut }
     ensures moved { (j : ℕ) → j < scanned → at_nodes potential.new (numbers order.now j) ≡ at_nodes label.now (numbers order.now j) -ℤ cut }
     ensures others { (v : ℕ) → ((j : ℕ) → j < scanned → numbers order.now j ≢ v) → at_nodes potential.new v ≡ at_nodes potential.old v }
 {
@@ -360,8 +362,8 @@ fn move_potentials(order: &[u32], label: &[i32], potential: &mut [i32], scanned:
 fn write_potential(potential: &mut [i32], node: usize, label: i32, cut: i32)
     requires node { node < length potential.old }
     requires small { node < MAX_NODES }
-    requires label { (negsuc 1073741823 ≤ℤ label) × (label ≤ℤ pos 1073741823) }
-    requires cut { (negsuc 1073741822 ≤ℤ cut) × (cut ≤ℤ pos 1073741823) }
+    requires label { IsWithinFar label }
+    requires cut { IsWithinFar cut }
     ensures { IsPut (at_nodes potential.old) (at_nodes potential.new) node (label -ℤ cut) }
 {
     potential[node] = label - cut;

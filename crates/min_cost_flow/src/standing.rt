@@ -1,5 +1,6 @@
 //! A flow of least cost that stands while supplies move.
 ghost use Rattle.std.specs.Prelude.{◌≡◌, ◌<◌, ◌≤◌, ◌^◌, IfOk, IfErr, IfSome, IfNone, ℕ, length};
+ghost use Rattle.networks.specs.declared.fault.TheConstants.{MAX_SUPPLY};
 ghost use Rattle.networks.specs.Networks.{NetworkModel, node_count, arc_count, shifted, HasFairSupplies, IsNetwork};
 ghost use Rattle.networks.specs.Flow.{HasNoFlow, Solves, at_nodes, cost_of};
 ghost use Rattle.networks.specs.ResidualArcs.{numbers, carried};
@@ -14,7 +15,7 @@ use std::alloc::{AllocError, Global};
 use std::marker::Model;
 
 /// What the solver keeps of a network: its residual arcs, what fits along each, and by node the
-/// potentials, what is left over, and what a search writes.
+/// potentials, the excess, the scores, and what a search writes.
 #[derive(Drop)]
 struct Lists {
     first: Vec<u32>,
@@ -31,7 +32,7 @@ struct Lists {
     place: Vec<u32>,
 }
 
-/// Lists of the sizes that a network wants, with nothing in them yet.
+/// Lists of the sizes that a network needs, with nothing in them yet.
 fn blank_lists(alloc: Global, network: &Network) -> Result<Lists, AllocError>
     ensures arcs { IfOk result (λ s. HasArcLists network.now s.first.items s.reverse.items s.forward.items s.arcs.items s.room.items) }
     ensures nodes { IfOk result (λ s. HasNodeLists (node_count network.now) s.potential.items s.excess.items s.score.items s.label.items s.enter.items s.order.items s.place.items) }
@@ -105,7 +106,7 @@ impl Standing {
     pub fn shift(self, from: u32, to: u32, amount: u32) -> Option<Standing>
         requires from { from < node_count self }
         requires to { to < node_count self }
-        requires few { amount ≤ 2048 }
+        requires few { amount ≤ MAX_SUPPLY }
         requires fair { HasFairSupplies (shifted self from to amount) }
         ensures net { IfSome result (λ s. s ≡ shifted self from to amount) }
         ensures no_flow { IfNone result (HasNoFlow (shifted self from to amount)) }

@@ -1,6 +1,7 @@
 -- What a list of supplies and a list of arcs can be refused for.
-use Rattle.std.specs.Prelude.{ℕ, ◌<◌, ◌≤◌, pos, negsuc, ◌<ℤ◌, ◌⊎◌}
+use Rattle.std.specs.Prelude.{ℕ, ◌<◌, ◌≤◌, pos, ◌-ℤ◌, ◌<ℤ◌, ◌⊎◌}
 use Rattle.networks.specs.declared.network.TheConstants.{MAX_ARCS, MAX_NODES}
+use Rattle.networks.specs.declared.fault.TheConstants.{MAX_SUPPLY}
 use Rattle.networks.specs.Networks.{NetworkModel, node_count, arc_count, arc_at, supply_at, IsSmall, HasEnds, HasFairSupplies}
 use Rattle.networks.specs.declared.fault.NetFault.{NetFault}
 use Rattle.networks.specs.declared.fault.NetFault.TheVariants.{TooLarge, BadEnd, BadSupply, BadCost}
@@ -9,7 +10,7 @@ use Rattle.networks.specs.declared.fault.NetFault.TheVariants.{TooLarge, BadEnd,
 abbrev pub HasFault : NetworkModel → NetFault → Type 0
 HasFault net TooLarge = (MAX_NODES < node_count net) ⊎ (MAX_ARCS < arc_count net)
 HasFault net BadEnd = (i : ℕ) × (i < arc_count net) × ((node_count net ≤ (arc_at net i).from) ⊎ (node_count net ≤ (arc_at net i).to))
-HasFault net BadSupply = (v : ℕ) × (v < node_count net) × ((supply_at net v <ℤ negsuc 2047) ⊎ (pos 2048 <ℤ supply_at net v))
+HasFault net BadSupply = (v : ℕ) × (v < node_count net) × ((supply_at net v <ℤ (pos 0 -ℤ pos MAX_SUPPLY)) ⊎ (pos MAX_SUPPLY <ℤ supply_at net v))
 HasFault net BadCost = (i : ℕ) × (i < arc_count net) × (1 < (arc_at net i).cost)
 
 -- the faults before it in their order are not there

@@ -46,7 +46,7 @@ abbrev pub HasRoom : Cap → ℕ → Type 0
 HasRoom (AtMost k) amount = amount < k
 HasRoom Any amount = Unit {0}
 
--- one more unit can go along the residual arc
+-- the residual arc is open: one more unit can go along it
 abbrev pub IsResidual : NetworkModel → (ℕ → ℕ) → ℕ → Bool → Type 0
 IsResidual net x i false = HasRoom (arc_at net i).cap (x i)
 IsResidual net x i true = 0 < x i
@@ -64,11 +64,11 @@ abbrev pub unit_cost : NetworkModel → ℕ → Bool → ℤ
 unit_cost net i false = pos (arc_at net i).cost
 unit_cost net i true = pos 0 -ℤ pos (arc_at net i).cost
 
--- the same with the potential of its start more and that of its end less
+-- its reduced cost: the same with the potential of its start more and that of its end less
 abbrev pub reduced_cost : NetworkModel → (ℕ → ℤ) → ℕ → Bool → ℤ
 reduced_cost net p i back = unit_cost net i back +ℤ p (start_of net i back) -ℤ p (end_of net i back)
 
--- each residual arc costs at least 0 under the potentials
+-- each open residual arc has a reduced cost of at least 0
 pub record HasPotentials (net : NetworkModel) (x : ℕ → ℕ) (p : ℕ → ℤ) : Type 0 where
   pub residual : (i : ℕ) (back : Bool) → i < arc_count net → IsResidual net x i back → pos 0 ≤ℤ reduced_cost net p i back
 

@@ -1,6 +1,7 @@
 -- What a network is: nodes with supplies, arcs with capacities and costs.
-use Rattle.std.specs.Prelude.{ℕ, ◌<◌, ◌≤◌, ℤ, pos, negsuc, ◌+ℤ◌, ◌-ℤ◌, ◌≤ℤ◌, List, length, slice_index_or, slice_set}
+use Rattle.std.specs.Prelude.{ℕ, ◌<◌, ◌≤◌, ℤ, pos, ◌+ℤ◌, ◌-ℤ◌, ◌≤ℤ◌, List, length, slice_index_or, slice_set}
 use Rattle.networks.specs.declared.network.TheConstants.{MAX_ARCS, MAX_NODES}
+use Rattle.networks.specs.declared.fault.TheConstants.{MAX_SUPPLY}
 use Rattle.networks.specs.declared.arc.Arc.{Arc}
 use Rattle.networks.specs.declared.arc.Cap.TheVariants.{AtMost}
 
@@ -35,9 +36,13 @@ IsSmall net = (node_count net ≤ MAX_NODES) × (arc_count net ≤ MAX_ARCS)
 abbrev pub HasEnds : NetworkModel → Type 0
 HasEnds net = (i : ℕ) → i < arc_count net → ((arc_at net i).from < node_count net) × ((arc_at net i).to < node_count net)
 
--- no supply exceeds 2,048 in absolute value
+-- at most as many units as a node may supply or want
+abbrev pub IsFair : ℤ → Type 0
+IsFair units = ((pos 0 -ℤ pos MAX_SUPPLY) ≤ℤ units) × (units ≤ℤ pos MAX_SUPPLY)
+
+-- no node supplies or wants more than it may
 abbrev pub HasFairSupplies : NetworkModel → Type 0
-HasFairSupplies net = (v : ℕ) → v < node_count net → (negsuc 2047 ≤ℤ supply_at net v) × (supply_at net v ≤ℤ pos 2048)
+HasFairSupplies net = (v : ℕ) → v < node_count net → IsFair (supply_at net v)
 
 -- each arc costs 0 or 1 a unit
 abbrev pub HasUnitCosts : NetworkModel → Type 0

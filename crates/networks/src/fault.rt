@@ -6,7 +6,7 @@ use crate::arc::Arc;
 use thiserror::Error;
 
 /// How many units a node supplies or wants at most.
-pub const MAX_SUPPLY: i32 = 2048;
+pub const MAX_SUPPLY: u32 = 2_048;
 
 /// Why there is no network of the given supplies and arcs.
 #[derive(Clone, Copy, Debug, PartialEq, Eq, Error)]
@@ -41,7 +41,7 @@ pub(crate) fn has_bad_supply(supplies: &[i32]) -> bool
 {
     supplies
         .iter()
-        .any(|units| *units < -MAX_SUPPLY || *units > MAX_SUPPLY)
+        .any(|units| units.unsigned_abs() > MAX_SUPPLY)
 }
 
 /// Whether an arc costs neither 0 nor 1.

@@ -1,4 +1,5 @@
 ghost use Rattle.std.specs.Prelude.{◌≡◌, ◌<◌, ◌≤◌, IfOk, IfErr};
+ghost use Rattle.networks.specs.declared.fault.TheConstants.{MAX_SUPPLY};
 ghost use Rattle.networks.specs.Networks.{NetworkModel, net_of, node_count, arc_count, arc_at, supply_at, shifted, HasFairSupplies, IsNetwork};
 
 use crate::arc::Arc;
@@ -8,10 +9,10 @@ use std::alloc::{AllocError, Global};
 use std::marker::Model;
 
 /// How many nodes a network has at most.
-pub const MAX_NODES: usize = 1024;
+pub const MAX_NODES: usize = 1_024;
 
 /// How many arcs a network has at most.
-pub const MAX_ARCS: usize = 4096;
+pub const MAX_ARCS: usize = 4_096;
 
 /// Nodes with supplies, joined by arcs. Nodes and arcs are numbered from 0; a node whose
 /// supply is below 0 wants units.
@@ -99,7 +100,7 @@ impl Network {
     pub fn shift(&mut self, from: u32, to: u32, amount: u32)
         requires from { from < node_count self.old }
         requires to { to < node_count self.old }
-        requires few { amount ≤ 2048 }
+        requires few { amount ≤ MAX_SUPPLY }
         requires fair { HasFairSupplies (shifted self.old from to amount) }
         ensures { self.new ≡ shifted self.old from to amount }
     {

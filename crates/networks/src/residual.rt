@@ -2,7 +2,10 @@
 ghost use Rattle.std.specs.Prelude.{◌≡◌, ◌<◌, ◌+◌, ◌^◌, length};
 ghost use Rattle.networks.specs.ResidualArcs.{end_at, cost_at};
 
-use crate::network::Network;
+use crate::network::{MAX_ARCS, Network};
+
+/// How many residual arcs a network has at most: two for each arc.
+pub const MAX_RESIDUAL_ARCS: usize = 2 * MAX_ARCS;
 
 /// What the cost of a residual arc is raised by while nothing fits along it.
 pub const SHUT: i16 = 16_000;

@@ -1,14 +1,15 @@
 //! Units by node: so many more at one node, and so many less at another.
-ghost use Rattle.std.specs.Prelude.{◌≡◌, ◌<◌, ◌≤◌, ℕ, pos, negsuc, ◌≤ℤ◌, length, slice_index_or};
+ghost use Rattle.std.specs.Prelude.{◌≡◌, ◌<◌, ◌≤◌, ℕ, pos, ◌-ℤ◌, ◌≤ℤ◌, length, slice_index_or};
+ghost use Rattle.networks.specs.declared.fault.TheConstants.{MAX_SUPPLY};
 ghost use Rattle.networks.specs.Networks.{moved, raised, lowered};
 
 /// Gives node `from` so many units more, and node `to` so many less. It takes no memory.
 pub fn move_units(units: &mut [i32], from: u32, to: u32, amount: u32)
     requires from { from < length units.old }
     requires to { to < length units.old }
-    requires few { amount ≤ 2048 }
-    requires low { (v : ℕ) → v < length units.old → negsuc 2047 ≤ℤ slice_index_or units.old v (pos 0) }
-    requires high { (v : ℕ) → v < length units.old → slice_index_or units.old v (pos 0) ≤ℤ pos 2048 }
+    requires few { amount ≤ MAX_SUPPLY }
+    requires low { (v : ℕ) → v < length units.old → (pos 0 -ℤ pos MAX_SUPPLY) ≤ℤ slice_index_or units.old v (pos 0) }
+    requires high { (v : ℕ) → v < length units.old → slice_index_or units.old v (pos 0) ≤ℤ pos MAX_SUPPLY }
     ensures { units.new ≡ moved units.old from to amount }
 {
     raise(units, from as usize, amount);
@@ -18,8 +19,8 @@ pub fn move_units(units: &mut [i32], from: u32, to: u32, amount: u32)
 /// Gives a node so many units more.
 fn raise(units: &mut [i32], node: usize, amount: u32)
     requires node { node < length units.old }
-    requires few { amount ≤ 2048 }
-    requires high { slice_index_or units.old node (pos 0) ≤ℤ pos 2048 }
+    requires few { amount ≤ MAX_SUPPLY }
+    requires high { slice_index_or units.old node (pos 0) ≤ℤ pos MAX_SUPPLY }
     ensures { units.new ≡ raised units.old node amount }
 {
     units[node] += amount as i32;
@@ -28,8 +29,8 @@ fn raise(units: &mut [i32], node: usize, amount: u32)
 /// Gives a node so many units less.
 fn lower(units: &mut [i32], node: usize, amount: u32)
     requires node { node < length units.old }
-    requires few { amount ≤ 2048 }
-    requires low { negsuc 2047 ≤ℤ slice_index_or units.old node (pos 0) }
+    requires few { amount ≤ MAX_SUPPLY }
+    requires low { (pos 0 -ℤ pos MAX_SUPPLY) ≤ℤ slice_index_or units.old node (pos 0) }
     ensures { units.new ≡ lowered units.old node amount }
 {
     units[node] -= amount as i32;

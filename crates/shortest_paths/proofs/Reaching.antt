@@ -7,7 +7,7 @@ use Rattle.networks.specs.declared.network.TheConstants.{MAX_NODES}
 use Rattle.networks.specs.declared.residual.ResidualArc.{ResidualArc}
 use Rattle.shortest_paths.proofs.Distinct.{AreDistinct, distinct_sum, room_for}
 use Rattle.networks.specs.ResidualArcs.{numbers, end_at, cost_at, StartsAt}
-use Rattle.shortest_paths.specs.Search.{far, IsGraph, IsPriced, IsNear, IsEntered, IsReached, IsNearest, Serves, IsServed, IsLeft, IsKept, IsOffer, IsPut, IsSwapped, degree, looked}
+use Rattle.shortest_paths.specs.Search.{far, IsGraph, IsPriced, IsNear, IsEntered, IsReached, IsNearest, Serves, IsServed, IsLeft, IsKept, IsOffer, IsPut, IsSwapped, IsWithinFar, degree, looked}
 use Rattle.sums.specs.Sums.{sum_below}
 use Rattle.sums.proofs.Sums.{sum_below-same, sum_below-more}
 
@@ -514,21 +514,21 @@ order_room n first arcs p e s q enter order place head ordered reached level v r
 
 -- ---- bounds
 
-label_fits : (n head : ℕ) (ps x : ℤ) → n ≤ MAX_NODES → head ≤ n → IsNear ps head x → (pos 0 ≤ℤ (ps +ℤ pos (2 * n))) × (ps ≤ℤ pos (2 * n)) → (negsuc 1073741823 ≤ℤ x) × (x ≤ℤ pos 1073741823)
+label_fits : (n head : ℕ) (ps x : ℤ) → n ≤ MAX_NODES → head ≤ n → IsNear ps head x → (pos 0 ≤ℤ (ps +ℤ pos (2 * n))) × (ps ≤ℤ pos (2 * n)) → IsWithinFar x
 label_fits n head ps x small le (a, b) (c, d) = (omega (arith, ints), omega (arith, ints))
 
-potential_fits : (n : ℕ) (pv : ℤ) → n ≤ MAX_NODES → (pos 0 ≤ℤ (pv +ℤ pos (2 * n))) × (pv ≤ℤ pos (2 * n)) → (negsuc 1073741823 ≤ℤ pv) × (pv ≤ℤ pos 1073741823)
+potential_fits : (n : ℕ) (pv : ℤ) → n ≤ MAX_NODES → (pos 0 ≤ℤ (pv +ℤ pos (2 * n))) × (pv ≤ℤ pos (2 * n)) → IsWithinFar pv
 potential_fits n pv small (c, d) = (omega (arith, ints), omega (arith, ints))
 
-pub offer_fits : (n : ℕ) (first : List ℕ) (arcs : List ResidualArc) (p e : ℕ → ℤ) (s : ℕ) (q : ℕ → ℤ) (enter order place : ℕ → ℕ) (head ordered reached : ℕ) (level : ℤ) (k v : ℕ) (x : ℤ) → IsGraph n first arcs → IsPriced n first arcs p e → IsReached n first arcs p e s q enter order place head ordered reached level → IsOffer n first arcs p s q place head level k v x → (negsuc 1073741823 ≤ℤ x) × (x ≤ℤ pos 1073741823)
+pub offer_fits : (n : ℕ) (first : List ℕ) (arcs : List ResidualArc) (p e : ℕ → ℤ) (s : ℕ) (q : ℕ → ℤ) (enter order place : ℕ → ℕ) (head ordered reached : ℕ) (level : ℤ) (k v : ℕ) (x : ℤ) → IsGraph n first arcs → IsPriced n first arcs p e → IsReached n first arcs p e s q enter order place head ordered reached level → IsOffer n first arcs p s q place head level k v x → IsWithinFar x
 offer_fits n first arcs p e s q enter order place head ordered reached level k v x g pr r o =
     let le : head ≤ n = omega (arith, r.counts) in
     label_fits n head (p s) x g.nodes le o.near (pr.low s r.source.0)
 
-pub potential_fits_at : (n : ℕ) (first : List ℕ) (arcs : List ResidualArc) (p e : ℕ → ℤ) (v : ℕ) → IsGraph n first arcs → IsPriced n first arcs p e → v < n → (negsuc 1073741823 ≤ℤ p v) × (p v ≤ℤ pos 1073741823)
+pub potential_fits_at : (n : ℕ) (first : List ℕ) (arcs : List ResidualArc) (p e : ℕ → ℤ) (v : ℕ) → IsGraph n first arcs → IsPriced n first arcs p e → v < n → IsWithinFar (p v)
 potential_fits_at n first arcs p e v g pr b = potential_fits n (p v) g.nodes (pr.low v b)
 
-pub reached_fits : (n : ℕ) (first : List ℕ) (arcs : List ResidualArc) (p e : ℕ → ℤ) (s : ℕ) (q : ℕ → ℤ) (enter order place : ℕ → ℕ) (head ordered reached : ℕ) (level : ℤ) (v : ℕ) → IsGraph n first arcs → IsPriced n first arcs p e → IsReached n first arcs p e s q enter order place head ordered reached level → v < n → q v <ℤ far → (negsuc 1073741823 ≤ℤ q v) × (q v ≤ℤ pos 1073741823)
+pub reached_fits : (n : ℕ) (first : List ℕ) (arcs : List ResidualArc) (p e : ℕ → ℤ) (s : ℕ) (q : ℕ → ℤ) (enter order place : ℕ → ℕ) (head ordered reached : ℕ) (level : ℤ) (v : ℕ) → IsGraph n first arcs → IsPriced n first arcs p e → IsReached n first arcs p e s q enter order place head ordered reached level → v < n → q v <ℤ far → IsWithinFar (q v)
 reached_fits n first arcs p e s q enter order place head ordered reached level v g pr r b l =
     let le : head ≤ n = omega (arith, r.counts) in
     label_fits n head (p s) (q v) g.nodes le (r.near v b l) (pr.low s r.source.0)

@@ -5,6 +5,7 @@ use Rattle.std.proofs.lemmas.Int.{ints, to_z-of_z}
 use lib.Signed.{lt_z}
 use mir.Syntax.{w16, w32}
 use mir.Val.{SFits, of_z, to_z}
+use Rattle.shortest_paths.specs.Search.{IsWithinFar}
 
 pub plain_lt : (a b : ℤ) → lt_z a b ≡ true → a <ℤ b
 plain_lt a b h = grind (arith, ints)
@@ -13,7 +14,7 @@ pub plain_ge : (a b : ℤ) → lt_z a b ≡ false → b ≤ℤ a
 plain_ge a b h = grind (arith, ints)
 
 -- what is within the range of a label fits
-pub fits_within : (z : ℤ) → (negsuc 1073741823 ≤ℤ z) × (z ≤ℤ pos 1073741823) → SFits w32 z
+pub fits_within : (z : ℤ) → IsWithinFar z → SFits w32 z
 fits_within z (a, b) = grind (arith, ints)
 
 pub is_less : (z k : ℤ) → SFits w32 z → lt_z (to_z w32 (of_z w32 z)) k ≡ true → z <ℤ k

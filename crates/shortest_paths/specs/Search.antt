@@ -2,6 +2,8 @@
 -- distance, and what holds of them.
 use Rattle.std.specs.Prelude.{ℕ, ◌+◌, ◌-◌, ◌*◌, ◌<◌, ◌≤◌, ◌≡◌, ◌≢◌, ℤ, pos, negsuc, ◌+ℤ◌, ◌-ℤ◌, ◌≤ℤ◌, ◌<ℤ◌, ◌⊎◌, List, length}
 use Rattle.networks.specs.declared.network.TheConstants.{MAX_NODES}
+use Rattle.networks.specs.declared.residual.TheConstants.{MAX_RESIDUAL_ARCS, SHUT}
+use Rattle.shortest_paths.specs.declared.reach.TheConstants.{FAR}
 use Rattle.sums.specs.Sums.{sum_below}
 use Rattle.networks.specs.declared.residual.ResidualArc.{ResidualArc}
 use Rattle.shortest_paths.specs.declared.reach.Ground.{Ground}
@@ -12,27 +14,31 @@ use Rattle.networks.specs.ResidualArcs.{numbers, end_at, cost_at, StartsAt}
 
 -- the label of a node that was not reached, `FAR` in the code
 abbrev pub far : ℤ
-far = pos 8000
+far = FAR
+
+-- no further from 0 than `far`, as labels, potentials and distances are
+abbrev pub IsWithinFar : ℤ → Type 0
+IsWithinFar z = ((pos 0 -ℤ far) ≤ℤ z) × (z ≤ℤ far)
 
 -- what a unit along a residual arc costs, with `SHUT` more while nothing fits
 abbrev pub IsArcCost : ℤ → Type 0
-IsArcCost c = ((negsuc 0 ≤ℤ c) × (c ≤ℤ pos 1)) ⊎ ((pos 15999 ≤ℤ c) × (c ≤ℤ pos 16001))
+IsArcCost c = ((negsuc 0 ≤ℤ c) × (c ≤ℤ pos 1)) ⊎ (((SHUT -ℤ pos 1) ≤ℤ c) × (c ≤ℤ (SHUT +ℤ pos 1)))
 
 -- so many nodes, and the residual arcs of each
 pub record IsGraph (n : ℕ) (first : List ℕ) (arcs : List ResidualArc) : Type 0 where
   pub nodes : n ≤ MAX_NODES
-  pub few : length arcs ≤ 8192
+  pub few : length arcs ≤ MAX_RESIDUAL_ARCS
   pub starts : length first ≡ n + 1
   pub rising : (v : ℕ) → v < n → numbers first v ≤ numbers first (v + 1)
   pub inside : (v : ℕ) → v < n → numbers first (v + 1) ≤ length arcs
   pub end : (v k : ℕ) → v < n → StartsAt first v k → end_at arcs k < n
   pub cost : (v k : ℕ) → v < n → StartsAt first v k → IsArcCost (cost_at arcs k)
 
--- a unit more fits along residual arc k
+-- residual arc k is open: a unit more fits along it
 abbrev pub IsOpen : List ResidualArc → ℕ → Type 0
 IsOpen arcs k = cost_at arcs k ≤ℤ pos 1
 
--- potentials with which a search can begin: no open residual arc costs less than 0 under them
+-- potentials with which a search can begin: under them no open residual arc has a reduced cost below 0
 pub record IsPriced (n : ℕ) (first : List ℕ) (arcs : List ResidualArc) (p e : ℕ → ℤ) : Type 0 where
   pub reduced : (v k : ℕ) → v < n → StartsAt first v k → IsOpen arcs k → pos 0 ≤ℤ (cost_at arcs k +ℤ p v -ℤ p (end_at arcs k))
   pub low : (v : ℕ) → v < n → (pos 0 ≤ℤ (p v +ℤ pos (2 * n))) × (p v ≤ℤ pos (2 * n))

@@ -1,9 +1,9 @@
 //! The search for the nearest node where units are wanting.
-ghost use Rattle.std.specs.Prelude.{◌≡◌, ◌≢◌, ◌⊎◌, ◌<◌, ◌≤◌, ◌+◌, ◌^◌, ℕ, ℤ, List, length, pos, negsuc, ◌≤ℤ◌, ◌<ℤ◌, ◌+ℤ◌, ◌-ℤ◌, true, false};
+ghost use Rattle.std.specs.Prelude.{◌≡◌, ◌≢◌, ◌⊎◌, ◌<◌, ◌≤◌, ◌+◌, ◌^◌, ℕ, ℤ, List, length, pos, ◌≤ℤ◌, ◌<ℤ◌, ◌+ℤ◌, ◌-ℤ◌, true, false};
 ghost use Rattle.networks.specs.declared.network.TheConstants.{MAX_NODES};
 ghost use Rattle.networks.specs.Flow.{at_nodes};
 ghost use Rattle.networks.specs.ResidualArcs.{numbers, end_at, cost_at, StartsAt};
-ghost use Rattle.shortest_paths.specs.Search.{far, nodes_of, degree, looked, IsGround, HasSizes, Reaches, FindsNearest, Keeps, IsServed, Serves, IsNear, IsPut, IsLeft};
+ghost use Rattle.shortest_paths.specs.Search.{far, nodes_of, degree, looked, IsGround, HasSizes, Reaches, FindsNearest, Keeps, IsServed, Serves, IsNear, IsPut, IsLeft, IsWithinFar};
 
 use crate::reach::{FAR, Ground, SearchProgress, Step, advance, distance, reach};
 use networks::look;
@@ -312,7 +312,7 @@ fn consider(
 
 /// What a residual arc offers to its end.
 fn offered_label(label: i32, cost: i16) -> i32
-    requires label { (negsuc 1073741823 ≤ℤ label) × (label ≤ℤ pos 1073741823) }
+    requires label { IsWithinFar label }
     ensures { result ≡ label +ℤ cost }
 {
     label + i32::from(cost)

@@ -1,9 +1,10 @@
 //! The nodes that a search reaches, in order of their distance.
-ghost use Rattle.std.specs.Prelude.{◌≡◌, ◌≢◌, ◌⊎◌, ◌<◌, ◌≤◌, ◌+◌, ◌^◌, ℕ, ℤ, List, length, pos, negsuc, ◌≤ℤ◌, ◌<ℤ◌, ◌+ℤ◌, ◌-ℤ◌};
+ghost use Rattle.std.specs.Prelude.{◌≡◌, ◌≢◌, ◌⊎◌, ◌<◌, ◌≤◌, ◌+◌, ◌^◌, ℕ, ℤ, List, length, pos, ◌≤ℤ◌, ◌<ℤ◌, ◌+ℤ◌, ◌-ℤ◌};
 ghost use Rattle.networks.specs.declared.network.TheConstants.{MAX_NODES};
+ghost use Rattle.networks.specs.declared.residual.TheConstants.{MAX_RESIDUAL_ARCS};
 ghost use Rattle.networks.specs.Flow.{at_nodes};
 ghost use Rattle.networks.specs.ResidualArcs.{numbers, end_at, cost_at, StartsAt};
-ghost use Rattle.shortest_paths.specs.Search.{far, nodes_of, IsGround, HasSizes, Reaches, FindsNearest, Keeps, Offers, IsPut, IsSwapped};
+ghost use Rattle.shortest_paths.specs.Search.{far, nodes_of, IsGround, HasSizes, Reaches, FindsNearest, Keeps, Offers, IsPut, IsSwapped, IsWithinFar};
 
 use networks::ResidualArc;
 
@@ -16,7 +17,7 @@ pub struct Ground<'a> {
     /// The residual arcs that start at node v have the numbers from `first[v]` up to `first[v + 1]`.
     pub first: &'a [u32],
     pub arcs: &'a [ResidualArc],
-    /// Under these no open residual arc costs less than 0, and where units are wanting they are 0.
+    /// Under these no open residual arc has a reduced cost below 0, and where units are wanting they are 0.
     pub potential: &'a [i32],
     /// How many units are left over at a node, or, below 0, are wanting there.
     pub excess: &'a [i32],
@@ -154,7 +155,7 @@ fn enlist(
     requires enter { step.end < length enter.old }
     requires place { step.end < length place.old }
     requires order { progress.old.reached < length order.old }
-    requires small { (length order.old ≤ MAX_NODES) × (step.end < MAX_NODES) × (step.number < 8192) }
+    requires small { (length order.old ≤ MAX_NODES) × (step.end < MAX_NODES) × (step.number < MAX_RESIDUAL_ARCS) }
     ensures label { IsPut (at_nodes label.old) (at_nodes label.new) step.end step.label }
     ensures enter { IsPut (numbers enter.old) (numbers enter.new) step.end step.number }
     ensures order { IsPut (numbers order.old) (numbers order.new) progress.old.reached step.end }
@@ -176,7 +177,7 @@ fn enlist(
 fn relabel(label: &mut [i32], enter: &mut [u32], step: Step)
     requires label { step.end < length label.old }
     requires enter { step.end < length enter.old }
-    requires small { step.number < 8192 }
+    requires small { step.number < MAX_RESIDUAL_ARCS }
     ensures label { IsPut (at_nodes label.old) (at_nodes label.new) step.end step.label }
     ensures enter { IsPut (numbers enter.old) (numbers enter.new) step.end step.number }
 {
@@ -186,8 +187,8 @@ fn relabel(label: &mut [i32], enter: &mut [u32], step: Step)
 
 /// How far a node is from the source by reduced costs.
 pub(crate) fn distance(label: i32, potential: i32) -> i32
-    requires label { (negsuc 1073741823 ≤ℤ label) × (label ≤ℤ pos 1073741823) }
-    requires potential { (negsuc 1073741823 ≤ℤ potential) × (potential ≤ℤ pos 1073741823) }
+    requires label { IsWithinFar label }
+    requires potential { IsWithinFar potential }
     ensures { result ≡ label -ℤ potential }
 {
     label - potential

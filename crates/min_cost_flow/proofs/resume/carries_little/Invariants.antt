@@ -1,6 +1,7 @@
 use Rattle.std.proofs.Common.{◌<◌, ◌≤◌, ◌+◌, ℕ}
+use Rattle.min_cost_flow.specs.declared.resume.TheConstants.{MAX_CARRIED}
 use Rattle.networks.specs.ResidualArcs.{carried}
 use Rattle.min_cost_flow.proofs.resume.carries_little.Given as goal
 
 abbrev pub invariant-loop-along : goal.invariant-loop-along
-invariant-loop-along l = (i : ℕ) → i < l.along-index → carried l.reverse l.forward l.room i + l.amount ≤ 2097152
+invariant-loop-along l = (i : ℕ) → i < l.along-index → carried l.reverse l.forward l.room i + l.amount ≤ MAX_CARRIED

@@ -1,5 +1,5 @@
 use Rattle.std.proofs.Common.{rules, ◌≡◌, ◌<◌, ◌^◌, ℕ, ℤ, List, length, pos, false, inl, inr, ◌∙◌, ap, arith}
-use Rattle.std.proofs.lemmas.Bool.{cases_lt}
+use Rattle.std.proofs.lemmas.Bool.{cases_lt, true≢false}
 use Rattle.std.proofs.lemmas.List.{get_or_past}
 use Rattle.networks.specs.Flow.{at_nodes}
 use Rattle.networks.specs.ResidualArcs.{numbers, place_of}
@@ -25,3 +25,6 @@ returns-in-Some-clause-settled c _ = record {
   blank = c.in-Some.ensures.blank;
   sent = c.in-Some.ensures.sent;
 }
+
+pub returns-in-Some-clause-no_flow : goal.returns-in-Some-clause-no_flow
+returns-in-Some-clause-no_flow c h = absurd (true≢false h)
