@@ -1,7 +1,6 @@
 //! Runs over whole files, on one thread and over lanes: their reports must be the same.
 
 ghost use Rattle.std.specs.Prelude.{◌≤◌};
-ghost use Rattle.ruled_lanes.specs.declared.limits.TheConstants.{MAX_CAPACITY};
 
 use crate::readback::test_lines;
 use crate::stages::read_file;
@@ -111,7 +110,7 @@ pub fn report_over<R: AllocGlobal + Threads + Wait + Sync, G: Gate>(
     gate: &G,
 ) -> Result<Vec<u8>>
     requires least { 1 ≤ capacity }
-    requires most { capacity ≤ MAX_CAPACITY }
+    requires most { capacity ≤ 64 }
 {
     let alloc = rt.alloc();
     let batch = run_batch(rt, alloc, opener, files, lanes, capacity, choice, gate)?;

@@ -1,7 +1,6 @@
 //! How long a run over files takes, on one thread and over lanes.
 
 ghost use Rattle.std.specs.Prelude.{◌≤◌};
-ghost use Rattle.ruled_lanes.specs.declared.limits.TheConstants.{MAX_CAPACITY};
 
 use crate::batches::{graphs_of, read_files};
 use anyhow::{Result, bail};
@@ -43,7 +42,7 @@ fn time_over<R: Files + Print + AllocGlobal + Clock + Threads + Wait + Sync>(
     capacity: u32,
 ) -> Result<()>
     requires least { 1 ≤ capacity }
-    requires most { capacity ≤ MAX_CAPACITY }
+    requires most { capacity ≤ 64 }
 {
     let opener = read_files(rt, names)?;
     let count = u32::try_from(names.len())?;
