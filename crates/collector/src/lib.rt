@@ -1,4 +1,5 @@
-//! Whole files: each record is answered, and a run hands out a book for each file.
+//! Whole files: each record is answered, and a run hands out a book for each file, or writes the text of these
+//! books while the files are read.
 #![tactic(auto)]
 
 mod answering;

@@ -1,12 +1,28 @@
--- A run that ends beside its consumer, which holds what it held.
-use Rattle.std.proofs.Common.{List}
+-- How a run ends: beside its consumer, which holds what it held, or with its seats.
+use Rattle.std.proofs.Common.{◌≡◌, ℕ, List, All, true, Result, Ok, Err, Vec, vec_len, IfOk, IfErr, ◌∙◌}
+use Rattle.std.specs.declared.alloc.Global.{Global}
+use Rattle.choices.specs.declared.Choice.{Choice}
+use Rattle.ruled_lanes.specs.declared.dealing.Tickets.{Tickets}
+use Rattle.ruled_lanes.specs.declared.dealing.Seat.{Seat}
+use Rattle.ruled_lanes.specs.TicketRule.{times}
+use Rattle.ruled_lanes.specs.TicketSeats.{all_drawn, has_ended, IsSeatOf}
+use Rattle.lanes.specs.Opening.{Meaning}
+use Rattle.lanes.specs.Files.{HasFile}
 use Rattle.lanes.specs.Notes.{Note}
 use Rattle.lane_runs.specs.declared.fault.RunFault.{RunFault}
 use Rattle.lane_runs.specs.declared.fault.RunFault.TheVariants.{Memory, Lost, Thread, Refused}
 use Rattle.lane_runs.specs.Faults.{IsOfLanes, EndsRun}
+use Rattle.lane_runs.specs.Running.{HasEnded}
 
 pub ended_so : {F : Type 0} (gave_up : F → Type 0) (holds : List Note → Type 0) (fault : RunFault F) (ns : List Note) → IsOfLanes fault → holds ns → EndsRun gave_up holds fault
 ended_so gave_up holds (Refused refusal) ns is has = absurd is
 ended_so gave_up holds Memory ns is has = (ns, has)
 ended_so gave_up holds Lost ns is has = (ns, has)
 ended_so gave_up holds Thread ns is has = (ns, has)
+
+pub all_ended : {C F : Type 0} (holds : C → List Note → Type 0) (gave_up : C → F → Type 0) (choice : Choice) (meaning : ℕ → Meaning) (tickets : Tickets) (lanes count : ℕ) (consumer : C) (result : Result (Vec Seat Global) (RunFault F))
+    → lanes ≡ count → IfOk result (λ seats. vec_len seats ≡ lanes) → IfOk result (λ seats. All (λ s. IsSeatOf tickets s × (has_ended s ≡ true)) seats.items)
+    → IfOk result (λ seats. (ns : List Note) × holds consumer ns × ((file : ℕ) → times file (all_drawn seats.items) ≡ 1 → HasFile choice (meaning file) file ns))
+    → IfErr result (EndsRun (gave_up consumer) (holds consumer)) → HasEnded holds gave_up choice meaning tickets count consumer result
+all_ended holds gave_up choice meaning tickets lanes count consumer (Ok seats) same many are told ended = (many ∙ same, are, told)
+all_ended holds gave_up choice meaning tickets lanes count consumer (Err fault) same many are told ended = ended

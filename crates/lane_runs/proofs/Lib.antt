@@ -2,4 +2,4 @@ pub mod Ending
 pub mod Telling
 pub mod Seats
 pub mod Merging
-pub mod Ran
+pub mod RunningLanes

@@ -1,5 +1,5 @@
 -- What the threads of a lane give back.
-use Rattle.std.specs.Prelude.{◌≡◌, ◌⊎◌, ℕ, List, [], true, Result, Err, IfOk}
+use Rattle.std.specs.Prelude.{◌≡◌, ◌⊎◌, ◌++◌, ◌∷◌, ℕ, List, [], true, Result, Err, IfOk}
 use Rattle.choices.specs.declared.Choice.{Choice}
 use Rattle.ruled_lanes.specs.declared.link_ends.Giver.{Giver}
 use Rattle.ruled_lanes.specs.declared.link_ends.Taker.{Taker}
@@ -8,8 +8,10 @@ use Rattle.ruled_lanes.specs.declared.dealing.Tickets.{Tickets}
 use Rattle.ruled_lanes.specs.declared.dealing.Seat.{Seat}
 use Rattle.ruled_lanes.specs.LinkEnds.{given, taken, room_of, AreEnds, GivesToSame}
 use Rattle.ruled_lanes.specs.FanEnds.{given_at, GivesToSameLane}
-use Rattle.ruled_lanes.specs.TicketSeats.{drawn, has_ended, IsSeatOf}
+use Rattle.ruled_lanes.specs.TicketSeats.{drawn, has_ended, IsSeatOf, IsUnused}
+use Rattle.streams.specs.declared.reading.TheConstants.{PIECE}
 use Rattle.lanes.specs.declared.message.Message.{Message}
+use Rattle.lanes.specs.declared.message.Message.TheVariants.{Stop}
 use Rattle.lanes.specs.Notes.{About, Note, notes, GoOn, IsStopped}
 use Rattle.lanes.specs.Opening.{Meaning}
 use Rattle.lanes.specs.Files.{HasDrawn, TellsDrawn}
@@ -30,6 +32,27 @@ module _ {A : Type 0} where
     pub seat_of : IsSeatOf tickets seat
     pub ended : has_ended seat ≡ true
     pub tells : TellsDrawn about choice meaning (drawn seat) gave
+
+  -- what the first stage starts with: a seat of these tickets that has drawn nothing, room for a piece, and the end of a link to
+  -- which nothing was given
+  pub record StartsToRead (tickets : Tickets) (seat : Seat) (room : ℕ) (giver : Giver (Message A)) : Type 0 where
+    pub seat_of : IsSeatOf tickets seat
+    pub unused : IsUnused seat
+    pub none_given : given giver ≡ []
+    pub room_for : room ≡ PIECE
+
+  -- what a lane starts with: a seat of these tickets that has drawn nothing, and the end of a lane to which nothing was given
+  pub record StartsLane (tickets : Tickets) (seat : Seat) (giver : LaneGiver (Message A)) : Type 0 where
+    pub seat_of : IsSeatOf tickets seat
+    pub unused : IsUnused seat
+    pub none_given : given_at giver ≡ []
+
+  -- what the stages of a lane leave: the end of its own lane, where no stop has come yet, and its seat where nothing was lost;
+  -- with a stop all is told
+  pub record LeavesLane (about : A → About) (choice : Choice) (meaning : ℕ → Meaning) (tickets : Tickets) (giver after : LaneGiver (Message A)) (seat : Result Seat LaneFault) : Type 0 where
+    pub to_same : GivesToSameLane giver after
+    pub goes_on : GoOn (notes about (given_at after))
+    pub tells : IfOk seat (λ s. TellsSeat about choice meaning tickets s (given_at after ++ Stop ∷ []))
 
   -- the end and the seat that the first stage gives back: the end is that of the same link
   pub record ReadsSeat (about : A → About) (choice : Choice) (meaning : ℕ → Meaning) (tickets : Tickets) (giver after : Giver (Message A)) (seat : Seat) : Type 0 where

@@ -1,5 +1,5 @@
 -- Lanes that run, and those that do not.
-use Rattle.std.specs.Prelude.{◌≡◌, ℕ, ◌+◌, List, [], ◌∷◌, All, true, Result, Ok, Err, Vec, vec_len, ⊤}
+use Rattle.std.specs.Prelude.{◌≡◌, ℕ, ◌+◌, ◌≤◌, List, [], ◌∷◌, All, true, Result, Ok, Err, Vec, vec_len, ⊤}
 use Rattle.std.specs.declared.alloc.Global.{Global}
 use Rattle.crossbeam_channel.specs.Ends.{sends_on, receives_on}
 use Rattle.choices.specs.declared.Choice.{Choice}
@@ -7,9 +7,10 @@ use Rattle.ruled_lanes.specs.declared.fan_ends.LaneGiver.{LaneGiver}
 use Rattle.ruled_lanes.specs.declared.fan_ends.Gatherer.{Gatherer}
 use Rattle.ruled_lanes.specs.declared.dealing.Tickets.{Tickets}
 use Rattle.ruled_lanes.specs.declared.dealing.Seat.{Seat}
-use Rattle.ruled_lanes.specs.FanEnds.{lane_of, given_at}
+use Rattle.ruled_lanes.specs.declared.limits.TheConstants.{LANES}
+use Rattle.ruled_lanes.specs.FanEnds.{lane_of, given_at, gathered}
 use Rattle.ruled_lanes.specs.TicketRule.{times}
-use Rattle.ruled_lanes.specs.TicketSeats.{all_drawn, has_ended, IsSeatOf}
+use Rattle.ruled_lanes.specs.TicketSeats.{all_drawn, has_ended, IsSeatOf, IsUnused}
 use Rattle.lanes.specs.declared.message.Message.{Message}
 use Rattle.lanes.specs.Notes.{About, Note}
 use Rattle.lanes.specs.Opening.{Meaning}
@@ -64,3 +65,21 @@ HasEnded holds gave_up choice meaning tickets count consumer (Ok seats) =
     × ((ns : List Note) × holds consumer ns
     × ((file : ℕ) → times file (all_drawn seats.items) ≡ 1 → HasFile choice (meaning file) file ns))
 HasEnded holds gave_up choice meaning tickets count consumer (Err fault) = EndsRun (gave_up consumer) (holds consumer) fault
+
+-- what a run starts with: seats of these tickets that have drawn nothing, the ends of a fan that nothing has passed, and a
+-- consumer that holds nothing
+pub record StartsRun {C E : Type 0} (holds : C → List Note → Type 0) (tickets : Tickets) (seats : Vec Seat Global) (givers : Vec (LaneGiver E) Global) (fan : Gatherer E) (consumer : C) : Type 0 where
+  pub some : 1 ≤ vec_len seats
+  pub few : vec_len seats ≤ LANES
+  pub seats_of : All (IsSeatOf tickets) seats.items
+  pub unused : All IsUnused seats.items
+  pub lanes : vec_len givers ≡ LANES
+  pub idle : AreNumbered (IsIdle fan) 0 givers.items
+  pub none_gathered : gathered fan ≡ []
+  pub empty : holds consumer []
+
+-- what a run leaves of a consumer, which it only moved on, and the seats that it gives back
+pub record LeavesRun {C F : Type 0} (holds : C → List Note → Type 0) (gave_up : C → F → Type 0) (moves : C → C → Type 0) (choice : Choice) (meaning : ℕ → Meaning) (tickets : Tickets) (count : ℕ) (consumer after : C)
+    (ran : Result (Vec Seat Global) (RunFault F)) : Type 0 where
+  pub ended : HasEnded holds gave_up choice meaning tickets count after ran
+  pub stays : moves consumer after

@@ -4,7 +4,7 @@ ghost use Rattle.ruled_lanes.specs.FanEnds.{given_at, GivesToSameLane};
 ghost use Rattle.ruled_lanes.specs.TicketSeats.{IsSeatOf, IsUnused};
 ghost use Rattle.lanes.specs.declared.message.Message.TheVariants.{Stop};
 ghost use Rattle.lanes.specs.Notes.{notes, GoOn};
-ghost use Rattle.lane_runs.specs.Lanes.{TellsSeat, EndsLane};
+ghost use Rattle.lane_runs.specs.Lanes.{TellsSeat, StartsLane, LeavesLane, EndsLane};
 
 use crate::fault::LaneFault;
 use crate::lane_kind::LaneKind;
@@ -37,11 +37,9 @@ pub fn run_lane<L: LaneKind, R: Threads + Wait + Sync, O: Opener, G: Gate>(
         thread::scope_env(),
         setting.rt,
         move |scope| -> LaneEnd<L::Entry>
-            requires { IsSeatOf setting.now.tickets.now seat × IsUnused seat × (given_at giver ≡ []) }
-            ensures { GivesToSameLane giver result.giver
-                × GoOn (notes L.Entry.about (given_at result.giver))
-                × IfOk result.seat (λ after. TellsSeat L.Entry.about setting.entry.now.choice (O.meaning setting.entry.now.opener.now) setting.entry.now.tickets.now after
-                (given_at result.giver ++ Stop ∷ [])) }
+            requires { StartsLane setting.now.tickets.now seat giver }
+            ensures { LeavesLane L.Entry.about setting.entry.now.choice (O.meaning setting.entry.now.opener.now) setting.entry.now.tickets.now
+                giver result.giver result.seat }
         {
             let mut giver = giver;
             let seat = run_stages::<_, L, _, _, _>(scope, setting, seat, &mut giver);

@@ -1,11 +1,12 @@
 //! All lanes of a run.
-ghost use Rattle.std.specs.Prelude.{◌≡◌, ◌≤◌, ◌<◌, List, [], All, IfOk, IfErr, vec_len};
+ghost use Rattle.std.specs.Prelude.{◌≡◌, ◌≤◌, ◌<◌, ◌+◌, List, [], All, IfOk, IfErr, vec_len};
 ghost use Rattle.ruled_lanes.specs.declared.limits.TheConstants.{LANES, MAX_CAPACITY, MAX_TICKETS};
 ghost use Rattle.ruled_lanes.specs.FanEnds.{gathered, given_at};
 ghost use Rattle.ruled_lanes.specs.TicketSeats.{IsSeatOf, IsUnused};
 ghost use Rattle.lanes.specs.Notes.{Note};
 ghost use Rattle.lanes.specs.Files.{AreToldWhole};
-ghost use Rattle.lane_runs.specs.Running.{AreNumbered, IsIdle, HasEnded};
+ghost use Rattle.lane_runs.specs.Lanes.{StartsLane};
+ghost use Rattle.lane_runs.specs.Running.{AreNumbered, IsIdle, IsRunning, HasEnded, StartsRun, LeavesRun};
 ghost use Rattle.lane_runs.specs.Faults.{EndsRun};
 
 use crate::fault::{LaneFault, RunFault};
@@ -75,27 +76,7 @@ pub fn run_lanes<
         tickets: &tickets,
         capacity,
     };
-    let setting = &shared;
-    let (consumer, ran) = thread::scope(
-        thread::scope_env(),
-        rt,
-        move |scope| -> (C, Result<Vec<Seat>, RunFault<C::Refusal>>)
-            requires { (1 ≤ vec_len seats) × (vec_len seats ≤ LANES) × All (IsSeatOf setting.now.tickets.now) seats.items
-                × All IsUnused seats.items × (vec_len givers ≡ LANES) × AreNumbered (IsIdle gatherer) 0 givers.items × (gathered gatherer ≡ []) × C.holds consumer [] }
-            ensures { HasEnded C.holds C.gave_up setting.entry.now.choice (O.meaning setting.entry.now.opener.now) setting.entry.now.tickets.now (vec_len seats) result.0 result.1 × C.stays consumer result.0 }
-        {
-            let mut consumer = consumer;
-            let ran = start_lanes::<_, L, _, _, _, _>(
-                scope,
-                setting,
-                seats,
-                givers,
-                gatherer,
-                &mut consumer,
-            );
-            (consumer, ran)
-        },
-    );
+    let (consumer, ran) = run_seats::<L, _, _, _, _>(&shared, seats, givers, gatherer, consumer);
     match ran {
         Ok(seats) => {
             tickets.close(seats);
@@ -105,8 +86,41 @@ pub fn run_lanes<
     }
 }
 
-/// Starts a lane for each seat and gathers what they give. The givers of the other lanes stay here.
-fn start_lanes<
+/// Runs a lane for each seat, gathers what they give, and joins their threads. The consumer is given back,
+/// and the seats.
+fn run_seats<L: LaneKind, C: Consumer<L::Entry>, R: Threads + Wait + Sync, O: Opener, G: Gate>(
+    setting: &Setting<'_, R, O, G>,
+    seats: Vec<Seat>,
+    givers: Vec<LaneGiver<Message<L::Entry>>>,
+    gatherer: Gatherer<Message<L::Entry>>,
+    consumer: C,
+) -> (C, Result<Vec<Seat>, RunFault<C::Refusal>>)
+    requires { StartsRun C.holds setting.now.tickets.now seats givers gatherer consumer }
+    ensures { LeavesRun C.holds C.gave_up C.stays setting.now.choice (O.meaning setting.now.opener.now) setting.now.tickets.now (vec_len seats) consumer result.0 result.1 }
+{
+    thread::scope(
+        thread::scope_env(),
+        setting.rt,
+        move |scope| -> (C, Result<Vec<Seat>, RunFault<C::Refusal>>)
+            requires { StartsRun C.holds setting.now.tickets.now seats givers gatherer consumer }
+            ensures { LeavesRun C.holds C.gave_up C.stays setting.entry.now.choice (O.meaning setting.entry.now.opener.now) setting.entry.now.tickets.now (vec_len seats) consumer result.0 result.1 }
+        {
+            let mut consumer = consumer;
+            let ran = run_in::<_, L, _, _, _, _>(
+                scope,
+                setting,
+                seats,
+                givers,
+                gatherer,
+                &mut consumer,
+            );
+            (consumer, ran)
+        },
+    )
+}
+
+/// Starts a lane for each seat and gathers what they give.
+fn run_in<
     's,
     E,
     L: LaneKind + 's,
@@ -117,45 +131,59 @@ fn start_lanes<
 >(
     scope: &'s Scope<'s, E>,
     setting: &'s Setting<'s, R, O, G>,
-    mut seats: Vec<Seat>,
+    seats: Vec<Seat>,
     givers: Vec<LaneGiver<Message<L::Entry>>>,
     gatherer: Gatherer<Message<L::Entry>>,
     consumer: &mut C,
 ) -> Result<Vec<Seat>, RunFault<C::Refusal>>
-    requires some { (1 ≤ vec_len seats) × (vec_len seats ≤ LANES) }
+    requires { StartsRun C.holds setting.now.tickets.now seats givers gatherer consumer.old }
+    ensures { LeavesRun C.holds C.gave_up C.stays setting.now.choice (O.meaning setting.now.opener.now) setting.now.tickets.now (vec_len seats) consumer.old consumer.new result }
+{
+    match start_lanes::<_, L, _, _, _>(scope, setting, seats, givers, &gatherer) {
+        Ok((running, idle)) => finish_lanes(setting, gatherer, running, idle, consumer),
+        Err(fault) => Err(RunFault::from(fault)),
+    }
+}
+
+/// Starts a lane for each seat, which gives to this fan. The givers of the other lanes are given back.
+fn start_lanes<'s, E, L: LaneKind + 's, R: Threads + Wait + Sync, O: Opener, G: Gate>(
+    scope: &'s Scope<'s, E>,
+    setting: &'s Setting<'s, R, O, G>,
+    mut seats: Vec<Seat>,
+    givers: Vec<LaneGiver<Message<L::Entry>>>,
+    gatherer: &Gatherer<Message<L::Entry>>,
+) -> Result<(Vec<Running<L::Entry, O>>, Vec<LaneGiver<Message<L::Entry>>>), LaneFault>
+    requires few { vec_len seats ≤ LANES }
     requires seats { All (IsSeatOf setting.now.tickets.now) seats.items }
     requires unused { All IsUnused seats.items }
     requires lanes { vec_len givers ≡ LANES }
-    requires idle { AreNumbered (IsIdle gatherer) 0 givers.items }
-    requires none_gathered { gathered gatherer ≡ [] }
-    requires empty { C.holds consumer.old [] }
-    ensures ended { HasEnded C.holds C.gave_up setting.now.choice (O.meaning setting.now.opener.now) setting.now.tickets.now (vec_len seats) consumer.new result }
-    ensures stays { C.stays consumer.old consumer.new }
+    requires idle { AreNumbered (IsIdle gatherer.now) 0 givers.items }
+    ensures count { IfOk result (λ started. vec_len started.0 ≡ vec_len seats) }
+    ensures lanes { IfOk result (λ started. vec_len started.0 + vec_len started.1 ≡ LANES) }
+    ensures running { IfOk result (λ started. AreNumbered (λ lane r. IsRunning gatherer.now setting.now.choice setting.now.opener.now setting.now.tickets.now lane
+        r.promise.choice r.promise.opener.value r.promise.tickets.value r.promise.giver.value) 0 started.0.items) }
+    ensures idle { IfOk result (λ started. AreNumbered (IsIdle gatherer.now) (vec_len seats) started.1.items) }
 {
-    let mut running = match Vec::with_capacity(setting.alloc, seats.len()) {
-        Ok(running) => running,
-        Err(_) => return Err(RunFault::Memory),
+    let Ok(mut running) = Vec::with_capacity(setting.alloc, seats.len()) else {
+        return Err(LaneFault::Memory);
     };
     let mut idle = Vec::new(setting.alloc);
     for giver in givers {
         match seats.pop() {
             Some(seat) => {
-                let started = match start_lane::<_, L, _, _, _>(scope, setting, seat, giver) {
-                    Ok(started) => started,
-                    Err(fault) => return Err(RunFault::from(fault)),
-                };
+                let started = start_lane::<_, L, _, _, _>(scope, setting, seat, giver)?;
                 match running.push(started) {
                     Ok(()) => {}
-                    Err(_) => return Err(RunFault::Memory),
+                    Err(_) => return Err(LaneFault::Memory),
                 }
             }
             None => match idle.push(giver) {
                 Ok(()) => {}
-                Err(_) => return Err(RunFault::Memory),
+                Err(_) => return Err(LaneFault::Memory),
             },
         }
     }
-    finish_lanes(setting, gatherer, running, idle, consumer)
+    Ok((running, idle))
 }
 
 /// Starts a lane in a thread of its own.
@@ -182,7 +210,7 @@ fn start_lane<'s, E, L: LaneKind + 's, R: Threads + Wait + Sync, O: Opener, G: G
     match scope.spawn_with(
         promise,
         move || -> LaneEnd<L::Entry>
-            requires { IsSeatOf setting.now.tickets.now seat × IsUnused seat × (given_at giver ≡ []) }
+            requires { StartsLane setting.now.tickets.now seat giver }
         { run_lane::<L, _, _, _>(setting, seat, giver) },
     ) {
         Ok(handle) => Ok(handle),

@@ -3,7 +3,7 @@ ghost use Rattle.std.specs.Prelude.{◌≡◌, [], IfOk, IfSome, vec_len};
 ghost use Rattle.ruled_lanes.specs.LinkEnds.{given, taken};
 ghost use Rattle.ruled_lanes.specs.TicketSeats.{IsSeatOf, IsUnused};
 ghost use Rattle.lanes.specs.Stages.{PassedAll};
-ghost use Rattle.lane_runs.specs.Lanes.{ReadsSeat};
+ghost use Rattle.lane_runs.specs.Lanes.{ReadsSeat, StartsToRead};
 ghost use Rattle.streams.specs.declared.reading.TheConstants.{PIECE};
 
 use crate::fault::LaneFault;
@@ -61,7 +61,7 @@ pub fn start_read<'s, E, L: LaneKind + 's, R: Threads + Wait + Sync, O: Opener, 
     match scope.spawn_with(
         promise,
         move || -> Option<(Giver<Message<L::Framed>>, Seat)>
-            requires { IsSeatOf setting.now.tickets.now seat × IsUnused seat × (given giver ≡ []) × (vec_len buffer ≡ PIECE) }
+            requires { StartsToRead setting.now.tickets.now seat (vec_len buffer) giver }
         { read_stage::<L, _, _, _>(setting, lane, seat, buffer, giver) },
     ) {
         Ok(started) => Ok(started),

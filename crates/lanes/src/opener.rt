@@ -24,7 +24,11 @@ pub trait Opener: Sync {
 
     ghost meaning: { Self → ℕ → Meaning };
 
-    /// Opens a file.
+    /// Opens the file of this number, from 0.
+    ///
+    /// # Errors
+    ///
+    /// `Io` where it could not be opened, `Memory` where there was no memory to.
     fn open(&self, alloc: Global, file: u32) -> Result<Self::Source, OpenFault>
         ensures { Opens Self.Source.to_come Self.Source.fails (meaning self.now file) result };
 }

@@ -35,7 +35,7 @@ impl<K: Keep> Receiver for Places<'_, K> {
         for rec in records.drain(..) {
             match self.keep.keep(alloc, self.file, ordinal, rec, self.choice) {
                 Ok(()) => {}
-                Err(lost) => return Err(lost),
+                Err(refusal) => return Err(refusal),
             }
             ordinal += 1;
         }

@@ -12,7 +12,7 @@ use Rattle.planar_code.specs.Place.{Place, Early, After, Failed, StandsAt, IsRun
 use Rattle.planar_code.proofs.Records.{nothing_after}
 use Rattle.planar_code.proofs.Cuts.{front_of-cut}
 use Rattle.planar_code.proofs.Splits.{split_same, body_same}
-use Rattle.planar_code.proofs.Going.{standing-header}
+use Rattle.planar_code.proofs.LeadsTo.{standing-header}
 
 -- a beginning of the header is no whole header
 pub split-early : (stream : List ℕ) (records : List (List ℕ)) (front : List ℕ) → StandsAt stream records (Early front) → IsSplit stream records ending.Header

@@ -4,7 +4,7 @@ pub mod Cuts
 pub mod Splits
 pub mod Started
 pub mod Scanning
-pub mod Going
+pub mod LeadsTo
 pub mod Feeding
 pub mod Stepping
 pub mod Reading

@@ -8,7 +8,7 @@ use Rattle.planar_code.specs.Split.{BeginsWithZero}
 use Rattle.planar_code.specs.Started.{IsOversize}
 use Rattle.planar_code.specs.Parse.{HasBytesAfter, IsParseFault}
 use Rattle.planar_code.proofs.Records.{no_record-unfinished, no_record-front}
-use Rattle.planar_code.proofs.Going.{no_record-zero, no_record-oversize}
+use Rattle.planar_code.proofs.LeadsTo.{no_record-zero, no_record-oversize}
 use Rattle.planar_code.proofs.Splits.{zero_unfinished}
 
 -- bytes in which no record stands first are no record

@@ -15,7 +15,7 @@ use Rattle.planar_code.specs.Plain.{EndsList, SplitsBody, HasSplit}
 use Rattle.planar_code.proofs.Records.{no_record-unfinished}
 use Rattle.planar_code.proofs.Cuts.{IsStuck, concat-push, cut_from}
 use Rattle.planar_code.proofs.Scanning.{zero_first, empty-length}
-use Rattle.planar_code.proofs.Going.{unfinished-none, no_record-zero, no_record-oversize}
+use Rattle.planar_code.proofs.LeadsTo.{unfinished-none, no_record-zero, no_record-oversize}
 
 -- records that cannot be continued, and what they end in
 splits-body : (body : List ℕ) (records : List (List ℕ)) (rest : List ℕ) (e : Ending) → HasSplit body records rest → IsStuck (length records) rest → EndsAs (length records) rest e → SplitsBody body records e

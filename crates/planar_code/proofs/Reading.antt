@@ -6,7 +6,7 @@ use Rattle.planar_code.specs.declared.fault.FeedFault.{FeedFault}
 use Rattle.planar_code.specs.declared.fault.FeedFault.TheVariants as fault
 use Rattle.planar_code.specs.Place.{Place, Failed, Goes, IsRunning, LosesRecord, Feeds}
 use Rattle.planar_code.specs.Step.{Steps, HasRead, Runs}
-use Rattle.planar_code.proofs.Going.{goes_on, goes_nowhere, goes_failed}
+use Rattle.planar_code.proofs.LeadsTo.{goes_on, goes_nowhere, goes_failed}
 
 -- no step yet
 pub has_read-none : (p : Place) (piece : List ℕ) (before : List (List ℕ)) → IsRunning p → HasRead p piece piece before before p

@@ -12,7 +12,7 @@ use Rattle.planar_code.specs.Place.{Place, Early, After, Goes, IsRunning}
 use Rattle.planar_code.specs.Framer.{place_at, IsBefore}
 use Rattle.planar_code.specs.Step.{Steps}
 use Rattle.planar_code.proofs.Scanning.{take-first}
-use Rattle.planar_code.proofs.Going.{goes_more, goes_whole, goes_early, goes_headed, fails_many, fails_large, fails_oversize, fails_header}
+use Rattle.planar_code.proofs.LeadsTo.{goes_more, goes_whole, goes_early, goes_headed, fails_many, fails_large, fails_oversize, fails_header}
 
 early-runs : (front : List ℕ) → IsRunning (Early front)
 early-runs front f e = cc

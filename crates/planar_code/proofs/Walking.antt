@@ -12,7 +12,7 @@ use Rattle.planar_code.specs.Split.{IsSplit, ending_of, BeginsWithZero}
 use Rattle.planar_code.specs.Started.{IsStarted, HasBegun}
 use Rattle.planar_code.specs.Place.{Place, Early, After, Failed, StandsAt, Goes}
 use Rattle.planar_code.proofs.Started.{started-first, started-entry, started-end, started-whole, started-unfinished, started-oversize}
-use Rattle.planar_code.proofs.Going.{goes_on, goes_nowhere, goes_more, goes_whole, goes_early, goes_headed, goes_failed, fails_many, fails_large, fails_oversize, fails_header}
+use Rattle.planar_code.proofs.LeadsTo.{goes_on, goes_nowhere, goes_more, goes_whole, goes_early, goes_headed, goes_failed, fails_many, fails_large, fails_oversize, fails_header}
 use Rattle.planar_code.proofs.Feeding.{split-early, split-complete, split-truncated, split-failed}
 
 -- places of which enough is known to go on

@@ -6,9 +6,9 @@ ghost use Rattle.printing.specs.FormLines.{line_in, head_in, end_in};
 
 use crate::report;
 use entries::{Answer, Entry};
-use reports::{Form, mark_word};
+use reports::Form;
 use std::alloc::{AllocError, Global};
-use streams::Mark;
+use streams::{Mark, mark_word};
 
 /// The line of an entry in this form, with the byte 0A at its end. JSON takes a few allocations for each
 /// dart and each point, the report a few in all.

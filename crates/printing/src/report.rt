@@ -8,9 +8,8 @@ use entries::{Answer, Cause};
 use faces::Plane;
 use itoa::Buffer;
 use ortho_rep::Shape;
-use reports::mark_word;
 use std::alloc::{AllocError, Global};
-use streams::Mark;
+use streams::{Mark, mark_word};
 
 /// As many bytes as the line of a graph has room for at first: few have more.
 const LINE_ROOM: usize = 64;

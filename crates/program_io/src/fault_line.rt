@@ -1,23 +1,27 @@
 //! Short lines of text. They are made without memory.
 ghost use Rattle.std.specs.Prelude.{◌≡◌, ◌≤◌, false};
+ghost use Rattle.program_io.specs.declared.fault_line.TheConstants.{LINE_ROOM};
 
 use crate::faults::Fault;
 use std::fmt;
 use std::fmt::Write;
 use streams::{Sink, put_all};
 
+/// As many bytes as a line has room for.
+const LINE_ROOM: usize = 128;
+
 /// A short line of text in a fixed buffer; what does not fit is left out.
 #[derive(Drop)]
 pub(crate) struct ShortLine {
-    bytes: [u8; 128],
+    bytes: [u8; LINE_ROOM],
     len: usize,
-    ghost in_range: { len ≤ 128 },
+    ghost in_range: { len ≤ LINE_ROOM },
 }
 
 impl ShortLine {
     pub(crate) fn new() -> ShortLine {
         ShortLine {
-            bytes: [0; 128],
+            bytes: [0; LINE_ROOM],
             len: 0,
         }
     }
@@ -30,7 +34,7 @@ impl ShortLine {
 impl fmt::Write for ShortLine {
     fn write_str(&mut self, text: &str) -> fmt::Result {
         for byte in text.as_bytes() {
-            if self.len == 128 {
+            if self.len == LINE_ROOM {
                 return Err(fmt::Error);
             }
             self.bytes[self.len] = *byte;

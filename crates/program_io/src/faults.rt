@@ -8,12 +8,16 @@ use thiserror::Error;
 /// Why there is no whole report. The text of each is what the program prints of it behind its own name.
 #[derive(Clone, Copy, Debug, PartialEq, Eq, Error)]
 pub enum Fault {
+    /// There was no memory for the words after the program's name, for help on them, or to open a file.
     #[error("out of memory")]
     Memory,
+    /// The words after the program's name are no text.
     #[error("arguments are not text")]
     NotText,
+    /// The run gave no result.
     #[error(transparent)]
     Run(BatchFault),
+    /// A text was not written whole.
     #[error(transparent)]
     Write(WriteFault),
 }

@@ -15,6 +15,7 @@ const PAUSE: u64 = 250;
 /// Where it is told how far a run is.
 #[derive(Clone, Copy, Debug, PartialEq, Eq)]
 pub enum Progress {
+    /// Nowhere: nothing is told.
     Nowhere,
     /// On a terminal, in one line that is written over.
     OnTerminal,

@@ -16,8 +16,11 @@ use streams::{Tap, TapFault};
 /// every read fails.
 #[derive(Drop)]
 pub enum FileSource<F, I> {
+    /// An open file.
     Open(F),
+    /// Standard input.
     Input(I),
+    /// A file that could not be opened.
     Refused,
 }
 

@@ -5,15 +5,11 @@ ghost use Rattle.reports.specs.Writing.{WritesOrLacks, StaysOrLacks};
 ghost use Rattle.reports.specs.Report.{numbered_texts};
 ghost use Rattle.reports.specs.Json.{json_text, book_json, entry_json, end_json};
 
-use crate::report::mark_word;
 use books::{Batch, Book};
 use entries::Entry;
 use json_lines::{end_line, entry_line};
 use std::alloc::Global;
-use streams::{Mark, Sink, TextBuffer, WriteFault};
-
-/// How many bytes of a line go into the buffer at once.
-const SLICE: usize = 512;
+use streams::{LINE, Mark, Sink, TextBuffer, WriteFault, mark_word};
 
 /// Writes for each file a line for each entry and one for its mark, each the text of a JSON object without
 /// spaces. Files and entries are numbered from 1. The lines are buffered, so that short ones make few
@@ -126,7 +122,7 @@ pub fn push_line<S: Sink>(
 {
     let mut at = 0;
     while at < line.len() {
-        let end = line.len().min(at + SLICE);
+        let end = line.len().min(at + LINE);
         lines.make_room(sink)?;
         lines.push(&line[at..end]);
         at = end;

@@ -9,5 +9,5 @@ mod statuses;
 pub use form::Form;
 pub use json::{push_line, write_json};
 pub use json_lines::{end_line, entry_line, lacking_line};
-pub use report::{mark_word, push_cause, write_report};
+pub use report::{push_cause, write_report};
 pub use statuses::{status_of, status_of_batch};

@@ -1,17 +1,25 @@
 //! The text of a report.
 ghost use Rattle.std.specs.Prelude.{◌≡◌, ◌+◌, ◌<◌, ◌≤◌, ◌++◌, false, length};
 ghost use Rattle.streams.specs.Sink.{Writes, StaysOnItsWay};
-ghost use Rattle.streams.specs.Text.{word_of};
 ghost use Rattle.reports.specs.Report.{report_text, book_text, file_line, end_line, entry_line, answer_text, sizes_text, drawn_text, cause_text, numbered_texts};
 ghost use Rattle.streams.specs.declared.text_buffer.TheConstants.{LINE, ROOM};
+ghost use Rattle.reports.specs.declared.report.TheConstants.{ANSWER, SIZES, DRAWN};
 
 use books::{Batch, Book};
 use drawing_check::Drawing;
 use entries::{Answer, Cause, Entry};
 use faces::Plane;
 use ortho_rep::Shape;
-use planar_code::Ending;
-use streams::{Mark, Sink, TextBuffer, WriteFault};
+use streams::{Mark, Sink, TextBuffer, WriteFault, mark_word};
+
+/// As many bytes as an answer adds at most.
+const ANSWER: usize = 300;
+
+/// As many bytes as the sizes of a graph add at most.
+const SIZES: usize = 200;
+
+/// As many bytes as the end of a graph's line adds at most: whether there is a drawing, or why there is none.
+const DRAWN: usize = 40;
 
 /// Writes for each file a line with its number, a line for each entry and a line for its mark. It takes
 /// no memory: lines wait in a fixed buffer.
@@ -111,11 +119,11 @@ fn push_entry(lines: &mut TextBuffer, number: u64, entry: &Entry)
     lines.push(b"\n");
 }
 
-/// Adds what an answer is, in at most 300 bytes.
+/// Adds what an answer is.
 fn push_answer(lines: &mut TextBuffer, answer: &Answer)
-    requires { length lines.old ≤ 16000 }
+    requires { length lines.old + ANSWER ≤ ROOM }
     ensures text { lines.new ≡ lines.old ++ answer_text answer.now }
-    ensures short { length lines.new ≤ length lines.old + 300 }
+    ensures short { length lines.new ≤ length lines.old + ANSWER }
 {
     match answer {
         Answer::Laid {
@@ -136,11 +144,11 @@ fn push_answer(lines: &mut TextBuffer, answer: &Answer)
     }
 }
 
-/// Adds how many vertices, edges, faces and bends there are, in at most 200 bytes.
+/// Adds how many vertices, edges, faces and bends there are.
 fn push_sizes(lines: &mut TextBuffer, plane: &Plane, shape: &Shape)
-    requires { length lines.old ≤ 16010 }
+    requires { length lines.old + SIZES ≤ ROOM }
     ensures text { lines.new ≡ lines.old ++ sizes_text plane.now shape.now }
-    ensures short { length lines.new ≤ length lines.old + 200 }
+    ensures short { length lines.new ≤ length lines.old + SIZES }
 {
     lines.push(b" n=");
     lines.push_number(u64::from(plane.graph().vertices()));
@@ -152,11 +160,11 @@ fn push_sizes(lines: &mut TextBuffer, plane: &Plane, shape: &Shape)
     lines.push_number(u64::from(shape.bends()));
 }
 
-/// Adds whether there is a drawing, in at most 40 bytes.
+/// Adds whether there is a drawing.
 fn push_drawn(lines: &mut TextBuffer, drawing: &Result<Drawing, Cause>)
-    requires { length lines.old ≤ 16300 }
+    requires { length lines.old + DRAWN ≤ ROOM }
     ensures text { lines.new ≡ lines.old ++ drawn_text drawing.now }
-    ensures short { length lines.new ≤ length lines.old + 40 }
+    ensures short { length lines.new ≤ length lines.old + DRAWN }
 {
     match drawing {
         Ok(_) => lines.push(b" drawn=yes"),
@@ -164,11 +172,11 @@ fn push_drawn(lines: &mut TextBuffer, drawing: &Result<Drawing, Cause>)
     }
 }
 
-/// Adds the end of the line of a graph that has no drawing, in at most 40 bytes.
+/// Adds the end of the line of a graph that has no drawing.
 pub fn push_cause(lines: &mut TextBuffer, cause: Cause)
-    requires { length lines.old ≤ 16300 }
+    requires { length lines.old + DRAWN ≤ ROOM }
     ensures text { lines.new ≡ lines.old ++ cause_text cause }
-    ensures short { length lines.new ≤ length lines.old + 40 }
+    ensures short { length lines.new ≤ length lines.old + DRAWN }
 {
     lines.push(b" drawn=no cause=");
     lines.push(cause.word().as_bytes());
@@ -200,21 +208,4 @@ fn push_end(lines: &mut TextBuffer, mark: Mark, count: u64)
     lines.push(b" graphs=");
     lines.push_number(count);
     lines.push(b"\n");
-}
-
-/// The word that reports have for a mark.
-pub fn mark_word(mark: Mark) -> &'static str
-    ensures word { result.now ≡ word_of mark }
-    ensures short { length result.now ≤ 9 }
-{
-    match mark {
-        Mark::Ended(Ending::Complete) => "complete",
-        Mark::Ended(Ending::Truncated) => "truncated",
-        Mark::Ended(Ending::Header) => "header",
-        Mark::Ended(Ending::Large) => "large",
-        Mark::Ended(Ending::Oversize) => "oversize",
-        Mark::Ended(Ending::Many) => "many",
-        Mark::Ended(Ending::Memory) => "memory",
-        Mark::Io => "io",
-    }
 }

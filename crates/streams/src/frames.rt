@@ -6,9 +6,9 @@ use std::marker::Model;
 /// How a source ended.
 #[derive(Clone, Copy, Debug, PartialEq, Eq)]
 pub enum Mark {
-    /// All its bytes were read, or the framer had no memory for a record.
+    /// How its bytes end, up to the first fault in them; or there was no memory for a record, or to open it.
     Ended(Ending),
-    /// A read failed before the end of the source.
+    /// A read failed where more bytes could have come, or the file could not be opened.
     Io,
 }
 

@@ -21,7 +21,7 @@ pub use memory::MemTap;
 pub use output::{IoSink, Sink, SinkFault};
 pub use reading::{PIECE, Step, piece_buffer, read_piece, read_source};
 pub use receiver::Receiver;
-pub use report::write_frames;
+pub use report::{mark_word, write_frames};
 pub use ruled_lanes::MAX_CAPACITY;
 pub use run::run_frames;
 pub use text_buffer::{LINE, ROOM, TextBuffer, put_all};

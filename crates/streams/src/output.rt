@@ -17,6 +17,10 @@ pub trait Sink {
     ghost failed: { Self → Bool };
 
     /// Takes the first bytes of `piece` and answers how many: at least one of a nonempty piece.
+    ///
+    /// # Errors
+    ///
+    /// `SinkFault` where it takes no more.
     fn put(&mut self, piece: &[u8]) -> Result<usize, SinkFault>
         ensures bound { IfOk result (λ n. n ≤ length piece.now) }
         ensures moves { IfOk result (λ n. 0 < length piece.now → 0 < n) }
@@ -36,6 +40,7 @@ pub struct IoSink<W> {
 }
 
 impl<W: Write> IoSink<W> {
+    /// A sink over this writer. It has taken what the writer contains, and has not failed.
     pub fn new(writer: W) -> IoSink<W>
         ensures taken { ⟦<IoSink<W> as Sink>⟧.taken result ≡ W.contents writer }
         ensures whole { ⟦<IoSink<W> as Sink>⟧.failed result ≡ false }

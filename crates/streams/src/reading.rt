@@ -102,7 +102,7 @@ pub fn read_source<T: Tap, V: Receiver>(
         let next = ordinal + records.len() as u32;
         match receiver.receive(alloc, ordinal, &mut records) {
             Ok(()) => ordinal = next,
-            Err(lost) => return Err(lost),
+            Err(refusal) => return Err(refusal),
         }
         match step {
             Step::More => {}

@@ -12,6 +12,10 @@ use planar_code::{Ending, Record};
 
 /// Writes a line for each record and one for the mark. It takes no memory: lines wait in a
 /// fixed buffer.
+///
+/// # Errors
+///
+/// `Write` exactly where the sink has then failed; a beginning of the text was then added. There is no other.
 pub fn write_frames<S: Sink>(frames: &Frames, sink: &mut S) -> Result<(), WriteFault>
     requires { S.failed sink.old ≡ false }
     ensures { Writes (S.taken sink.old) (S.taken sink.new) (S.failed sink.new) (frames_text frames.now) result }
@@ -77,25 +81,25 @@ fn push_end(lines: &mut TextBuffer, mark: Mark, count: u64)
     ensures { lines.new ≡ lines.old ++ frames_end_line mark count }
 {
     lines.push(b"end ");
-    lines.push(mark_word(mark));
+    lines.push(mark_word(mark).as_bytes());
     lines.push(b" records=");
     lines.push_number(count);
     lines.push(b"\n");
 }
 
-/// The word of a mark.
-pub(crate) fn mark_word(mark: Mark) -> &'static [u8]
+/// The word that texts have for a mark.
+pub fn mark_word(mark: Mark) -> &'static str
     ensures word { result.now ≡ word_of mark }
     ensures short { length result.now ≤ 9 }
 {
     match mark {
-        Mark::Ended(Ending::Complete) => b"complete",
-        Mark::Ended(Ending::Truncated) => b"truncated",
-        Mark::Ended(Ending::Header) => b"header",
-        Mark::Ended(Ending::Large) => b"large",
-        Mark::Ended(Ending::Oversize) => b"oversize",
-        Mark::Ended(Ending::Many) => b"many",
-        Mark::Ended(Ending::Memory) => b"memory",
-        Mark::Io => b"io",
+        Mark::Ended(Ending::Complete) => "complete",
+        Mark::Ended(Ending::Truncated) => "truncated",
+        Mark::Ended(Ending::Header) => "header",
+        Mark::Ended(Ending::Large) => "large",
+        Mark::Ended(Ending::Oversize) => "oversize",
+        Mark::Ended(Ending::Many) => "many",
+        Mark::Ended(Ending::Memory) => "memory",
+        Mark::Io => "io",
     }
 }

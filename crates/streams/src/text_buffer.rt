@@ -61,6 +61,10 @@ impl TextBuffer {
     }
 
     /// Makes sure that `LINE` bytes are free: where fewer are, puts all that waits into the sink.
+    ///
+    /// # Errors
+    ///
+    /// `Write` exactly where the sink has then failed; a beginning of what waited was then added. There is no other.
     pub fn make_room<S: Sink>(&mut self, sink: &mut S) -> Result<(), WriteFault>
         requires { S.failed sink.old ≡ false }
         ensures writes { StaysOnItsWay (S.taken sink.old) self.old (S.taken sink.new) self.new
@@ -74,6 +78,10 @@ impl TextBuffer {
     }
 
     /// Puts all that waits into the sink.
+    ///
+    /// # Errors
+    ///
+    /// `Write` exactly where the sink has then failed; a beginning of what waited was then added. There is no other.
     pub fn flush<S: Sink>(&mut self, sink: &mut S) -> Result<(), WriteFault>
         requires { S.failed sink.old ≡ false }
         ensures writes { Writes (S.taken sink.old) (S.taken sink.new) (S.failed sink.new) self.old result }
@@ -86,6 +94,10 @@ impl TextBuffer {
 }
 
 /// Puts a whole text into the sink, by several writes where the sink takes only a part at once.
+///
+/// # Errors
+///
+/// `Write` exactly where the sink has then failed; a beginning of the text was then added. There is no other.
 pub fn put_all<S: Sink>(sink: &mut S, text: &[u8]) -> Result<(), WriteFault>
     requires { S.failed sink.old ≡ false }
     ensures { Writes (S.taken sink.old) (S.taken sink.new) (S.failed sink.new) text.now result }

@@ -13,7 +13,7 @@ use Rattle.planar_code.specs.Split.{IsSplit, ending_of}
 use Rattle.planar_code.specs.Started.{IsStarted, IsOversize}
 use Rattle.planar_code.specs.Place.{Place, After, Failed, StandsAt, Goes}
 use Rattle.planar_code.proofs.Started.{started-first, started-unfinished, started-oversize}
-use Rattle.planar_code.proofs.Going.{goes_more, goes_whole, fails_many, fails_large, fails_oversize, standing-header}
+use Rattle.planar_code.proofs.LeadsTo.{goes_more, goes_whole, fails_many, fails_large, fails_oversize, standing-header}
 use Rattle.streams.specs.declared.frames.Mark.{Mark}
 use Rattle.streams.specs.declared.frames.Mark.TheVariants.{Ended, Io}
 use Rattle.streams.specs.Marks.{IsCutShort}

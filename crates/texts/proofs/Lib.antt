@@ -7,5 +7,5 @@ pub mod Endings
 pub mod Ordering
 pub mod Moving
 pub mod Finishing
-pub mod Results
+pub mod SucceedsOrFails
 pub mod Held

@@ -1,5 +1,5 @@
 use Rattle.std.proofs.Common.{vec_len, arith}
-use Rattle.lane_runs.proofs.Ran.{numbered_weaker, running_still, idle_still}
+use Rattle.lane_runs.proofs.RunningLanes.{numbered_weaker, running_still, idle_still}
 use Rattle.lane_runs.proofs.Ending.{ended_so}
 use Rattle.lane_runs.proofs.joining.finish_lanes.Goals as goal
 

@@ -4,7 +4,7 @@ use Rattle.ruled_lanes.specs.FanEnds.{given_at, gathered}
 use Rattle.ruled_lanes.specs.TicketSeats.{has_ended, IsSeatOf}
 use Rattle.lane_runs.specs.Lanes.{TellsSeat}
 use Rattle.lane_runs.specs.Running.{HasRun, HaveRun}
-use Rattle.lane_runs.proofs.Ran.{all_givers, run_more, has_run, many_ran, numbered_as}
+use Rattle.lane_runs.proofs.RunningLanes.{all_givers, run_more, has_run, many_ran, numbered_as}
 use Rattle.lane_runs.proofs.Merging.{settled_whole}
 use Rattle.lane_runs.proofs.joining.join_lanes.Goals as goal
 

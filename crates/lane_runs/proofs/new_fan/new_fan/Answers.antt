@@ -1,5 +1,5 @@
 use Rattle.std.proofs.Common.{arith, ◌∙◌}
-use Rattle.lane_runs.proofs.Ran.{new_idle}
+use Rattle.lane_runs.proofs.RunningLanes.{new_idle}
 use Rattle.lane_runs.proofs.new_fan.new_fan.Goals as goal
 
 pub returns-in-Ok-clause-idle : goal.returns-in-Ok-clause-idle

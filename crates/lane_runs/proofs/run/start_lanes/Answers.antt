@@ -1,15 +1,14 @@
-use Rattle.std.proofs.Common.{◌≡◌, ◌+◌, length, vec_len, [], Some, None, arith, refl, ap, sym, subst}
+use Rattle.std.proofs.Common.{◌≡◌, ◌+◌, length, vec_len, Some, None, arith, refl, ap, sym, subst}
 use Rattle.std.proofs.lemmas.List.Elements.{All-pop}
 use Rattle.ruled_lanes.specs.TicketSeats.{IsSeatOf, IsUnused}
 use Rattle.lane_runs.specs.Running.{AreNumbered}
-use Rattle.lane_runs.proofs.Ending.{ended_so}
-use Rattle.lane_runs.proofs.Ran.{numbered_more, numbered_as, started}
+use Rattle.lane_runs.proofs.RunningLanes.{numbered_more, numbered_as, started}
 use Rattle.lane_runs.proofs.run.start_lanes.Goals as goal
 
 pub loop-giver-preserved-in-Ok-push : goal.loop-giver-preserved-in-Ok-push
 loop-giver-preserved-in-Ok-push g c =
     let inv = c.loop-giver.invariant in
-    let now = c.in-Ok-start_lane.started in
+    let now = c.in_ok-started-in-Some-pop.started in
     let none : vec_len c.loop-giver.idle ≡ 0 = inv.waits (omega (arith, c.in-Some-pop.ensures.cases)) in
     let rest = numbered_as _ (vec_len c.loop-giver.running + vec_len c.loop-giver.idle) (0 + length c.loop-giver.running.items) _ _ (omega (arith, none)) c.in-Some.ensures.steps.0 inv.rest in
     record {
@@ -19,7 +18,7 @@ loop-giver-preserved-in-Ok-push g c =
       rest = numbered_as _ (0 + length c.loop-giver.running.items + 1) _ _ _ (omega (arith, none, c.in-Ok-push.ensures.len)) refl rest.1;
       running = subst (AreNumbered _ 0) (sym c.in-Ok-push.ensures.items)
           (numbered_more _ 0 c.loop-giver.running.items now inv.running
-          (started _ _ _ _ _ _ _ _ _ c.in-Some.giver _ rest.0 refl c.in-Ok-start_lane.ensures.giver c.in-Ok-start_lane.ensures.choice c.in-Ok-start_lane.ensures.opener c.in-Ok-start_lane.ensures.tickets));
+          (started _ _ _ _ _ _ _ _ _ c.in-Some.giver _ rest.0 refl c.in_ok-started-in-Some-pop.ensures.giver c.in_ok-started-in-Some-pop.ensures.choice c.in_ok-started-in-Some-pop.ensures.opener c.in_ok-started-in-Some-pop.ensures.tickets));
       still = inv.still;
       sits = (All-pop (IsSeatOf c.args.setting.now.tickets.now) _ _ (Some c.in-Some-pop.seat) c.in-Some-pop.ensures.items inv.sits).0;
       unused = (All-pop IsUnused _ _ (Some c.in-Some-pop.seat) c.in-Some-pop.ensures.items inv.unused).0;
@@ -46,18 +45,3 @@ start_lane-requires-clause-seat g c κs within = (All-pop (IsSeatOf c.args.setti
 
 pub start_lane-requires-clause-unused : goal.start_lane-requires-clause-unused
 start_lane-requires-clause-unused g c κs within = (All-pop IsUnused _ _ (Some c.in-Some-pop.seat) c.in-Some-pop.ensures.items c.loop-giver.invariant.unused).1
-
-pub returns-in-Err-clause-stays : goal.returns-in-Err-clause-stays
-returns-in-Err-clause-stays g c = g.met.C.Consumer.stays_itself _
-
-pub returns-in-Err-start_lane-clause-ended : goal.returns-in-Err-start_lane-clause-ended
-returns-in-Err-start_lane-clause-ended g c = ended_so _ _ _ [] c.from.ensures c.requires.empty
-
-pub returns-in-Err-start_lane-clause-stays : goal.returns-in-Err-start_lane-clause-stays
-returns-in-Err-start_lane-clause-stays g c = g.met.C.Consumer.stays_itself _
-
-pub returns-in-Err-push-clause-stays : goal.returns-in-Err-push-clause-stays
-returns-in-Err-push-clause-stays g c = g.met.C.Consumer.stays_itself _
-
-pub returns-in-Err-push-2-clause-stays : goal.returns-in-Err-push-2-clause-stays
-returns-in-Err-push-2-clause-stays g c = g.met.C.Consumer.stays_itself _

@@ -2,7 +2,7 @@ use Rattle.std.proofs.Common.{◌+◌, subst, ◌∙◌}
 use Rattle.printing.specs.FormLines.{head_in}
 use Rattle.texts.specs.Written.{BreaksIn}
 use Rattle.texts.proofs.Breaking.{breaks_here}
-use Rattle.texts.proofs.Results.{err_then}
+use Rattle.texts.proofs.SucceedsOrFails.{err_then}
 use Rattle.texts.proofs.writing.put_head.Goals as goal
 
 pub returns-in-Ok-clause-broken : goal.returns-in-Ok-clause-broken

@@ -4,7 +4,7 @@ use Rattle.std.proofs.lemmas.Bool.{eqb-true}
 use Rattle.planar_code.specs.Stream.{IsUnfinished}
 use Rattle.planar_code.proofs.Records.{no_record-unfinished}
 use Rattle.planar_code.proofs.Scanning.{empty-length}
-use Rattle.planar_code.proofs.Going.{unfinished-none, no_record-oversize}
+use Rattle.planar_code.proofs.LeadsTo.{unfinished-none, no_record-oversize}
 use Rattle.planar_code.proofs.Parsing.{no_record-first, no_record-after, bytes_after}
 use Rattle.planar_code.proofs.record.Record.parse.Goals as goal
 

@@ -2,10 +2,10 @@ use Rattle.std.proofs.Common.{◌≡◌, ◌<◌, length, subst, arith}
 use Rattle.texts.specs.Came.{HasEntryMore}
 use Rattle.texts.specs.Waits.{ChangesAt, IsCountedOne}
 use Rattle.texts.proofs.Adding.{written_front, written_behind}
-use Rattle.texts.proofs.Results.{ok_then}
+use Rattle.texts.proofs.SucceedsOrFails.{ok_then}
 use Rattle.std.proofs.Common.{inl, inr}
 use Rattle.texts.proofs.Breaking.{breaks_written, breaks_line}
-use Rattle.texts.proofs.Results.{err_then, err_any}
+use Rattle.texts.proofs.SucceedsOrFails.{err_then, err_any}
 use Rattle.texts.proofs.lines.Lines.add.Goals as goal
 
 pub returns-then-file-self-clause-added : goal.returns-then-file-self-clause-added

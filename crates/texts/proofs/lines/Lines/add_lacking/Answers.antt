@@ -1,8 +1,8 @@
 use Rattle.std.proofs.Common.{sym, ◌∙◌}
-use Rattle.texts.proofs.Results.{ok_then}
+use Rattle.texts.proofs.SucceedsOrFails.{ok_then}
 use Rattle.std.proofs.Common.{inl}
 use Rattle.texts.proofs.Breaking.{breaks_written}
-use Rattle.texts.proofs.Results.{err_then}
+use Rattle.texts.proofs.SucceedsOrFails.{err_then}
 use Rattle.texts.proofs.lines.Lines.add_lacking.Goals as goal
 
 pub returns-in-Ok-clause-added : goal.returns-in-Ok-clause-added

@@ -1,5 +1,5 @@
 use Rattle.texts.proofs.Breaking.{breaks_as}
-use Rattle.texts.proofs.Results.{err_any}
+use Rattle.texts.proofs.SucceedsOrFails.{err_any}
 use Rattle.std.proofs.Common.{length}
 use Rattle.texts.proofs.lines.Lines.advance.Goals as goal
 

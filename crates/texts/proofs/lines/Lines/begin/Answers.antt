@@ -1,10 +1,10 @@
 use Rattle.texts.proofs.Moving.{written_begun}
-use Rattle.texts.proofs.Results.{ok_then}
+use Rattle.texts.proofs.SucceedsOrFails.{ok_then}
 use Rattle.std.proofs.Common.{List, ℕ, subst}
 use Rattle.texts.specs.Written.{GoesOn}
 use Rattle.texts.specs.Written.{BreaksIn}
 use Rattle.texts.proofs.Breaking.{breaks_first, breaks_lines}
-use Rattle.texts.proofs.Results.{err_then, err_any}
+use Rattle.texts.proofs.SucceedsOrFails.{err_then, err_any}
 use Rattle.texts.proofs.lines.Lines.begin.Goals as goal
 
 pub returns-clause-begun : goal.returns-clause-begun

@@ -3,9 +3,9 @@ use Rattle.texts.specs.declared.lines.Lines.{Lines}
 use Rattle.texts.specs.Waits.{ChangesAt, GetsMark}
 use Rattle.texts.proofs.Adding.{written_marked}
 use Rattle.texts.proofs.Held.{held_end}
-use Rattle.texts.proofs.Results.{ok_both}
+use Rattle.texts.proofs.SucceedsOrFails.{ok_both}
 use Rattle.texts.proofs.Held.{left_off_end}
-use Rattle.texts.proofs.Results.{err_then}
+use Rattle.texts.proofs.SucceedsOrFails.{err_then}
 use Rattle.std.proofs.Common.{sym, subst}
 use Rattle.texts.specs.Holding.{LinesLeaveOff}
 use Rattle.texts.proofs.Held.{left_off_held, left_off_as}

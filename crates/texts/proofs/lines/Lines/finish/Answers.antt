@@ -3,7 +3,7 @@ use Rattle.std.proofs.lemmas.Bool.{false≢true}
 use Rattle.texts.proofs.Finishing.{all_written}
 use Rattle.texts.proofs.Breaking.{writes_front}
 use Rattle.texts.proofs.Held.{left_off_finish}
-use Rattle.texts.proofs.Results.{err_any}
+use Rattle.texts.proofs.SucceedsOrFails.{err_any}
 use Rattle.texts.proofs.lines.Lines.finish.Goals as goal
 use Rattle.texts.proofs.lines.Lines.finish.Goals.{then-self, else-self}
 

@@ -1,9 +1,9 @@
 use Rattle.std.proofs.Common.{◌≡◌, ◌+◌, ◌≤◌, length, refl, rules, arith}
 use Rattle.texts.proofs.Moving.{left_ended, written_over}
-use Rattle.texts.proofs.Results.{ok_then}
+use Rattle.texts.proofs.SucceedsOrFails.{ok_then}
 use Rattle.texts.proofs.Moving.{front_told}
 use Rattle.texts.proofs.Breaking.{breaks_written, breaks_end}
-use Rattle.texts.proofs.Results.{err_then, err_any}
+use Rattle.texts.proofs.SucceedsOrFails.{err_then, err_any}
 use Rattle.texts.proofs.lines.Lines.leave.Goals as goal
 
 pub returns-then-self-len-clause-written : goal.returns-then-self-len-clause-written

@@ -2,10 +2,10 @@ use Rattle.std.proofs.Common.{◌≡◌, ◌<◌, ◌↔◌, true, ap, refl, rul
 use Rattle.printing.specs.FormLines.{IsLineOf, line_in}
 use Rattle.texts.specs.Came.{IsWholeSoFar}
 use Rattle.texts.proofs.Held.{comes_next, held_item, lacking}
-use Rattle.texts.proofs.Results.{ok_then, ok_both}
+use Rattle.texts.proofs.SucceedsOrFails.{ok_then, ok_both}
 use Rattle.texts.proofs.Wholes.{whole_item, whole_lacking}
 use Rattle.texts.proofs.Held.{left_off_held, left_off_item}
-use Rattle.texts.proofs.Results.{err_then}
+use Rattle.texts.proofs.SucceedsOrFails.{err_then}
 use Rattle.texts.proofs.lines.Lines.line.Goals as goal
 
 pub returns-in-Some-clause-held : goal.returns-in-Some-clause-held

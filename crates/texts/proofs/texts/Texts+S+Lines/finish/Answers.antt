@@ -1,5 +1,5 @@
 use Rattle.std.proofs.lemmas.Result.{IfOk-weaker}
-use Rattle.texts.proofs.Results.{err_then}
+use Rattle.texts.proofs.SucceedsOrFails.{err_then}
 use Rattle.texts.proofs.texts.Texts+S+Lines.finish.Goals as goal
 
 pub returns-clause-written : goal.returns-clause-written

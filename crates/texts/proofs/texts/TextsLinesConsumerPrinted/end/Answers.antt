@@ -1,5 +1,5 @@
-use Rattle.texts.proofs.Results.{ok_both}
-use Rattle.texts.proofs.Results.{err_both}
+use Rattle.texts.proofs.SucceedsOrFails.{ok_both}
+use Rattle.texts.proofs.SucceedsOrFails.{err_both}
 use Rattle.texts.proofs.texts.TextsLinesConsumerPrinted.end.Goals as goal
 
 pub returns-clause-taken : goal.returns-clause-taken
