@@ -31,14 +31,20 @@ fn expect_reverses(rt: &impl Abort, boxes: &Boxes) {
     }
 }
 
+/// Sees that a dart was not met before, and marks it.
+fn meet(rt: &impl Abort, met: &mut [bool], dart: u32) -> Result<(), Fail> {
+    let place = met.get_mut(dart as usize).ok_or("no such dart")?;
+    same(rt, (dart, *place), (dart, false));
+    *place = true;
+    Ok(())
+}
+
 /// Each dart is next after one dart only, which is not its reverse.
 fn expect_next(rt: &impl Abort, alloc: Global, boxes: &Boxes) -> Result<(), Fail> {
     let mut met = vec![in alloc; false; boxes.darts() as usize]?;
     for dart in 0..boxes.darts() {
         let next = boxes.next(dart);
-        let place = met.get_mut(next as usize).ok_or("no such dart")?;
-        assert!(rt; !*place);
-        *place = true;
+        meet(rt, &mut met, next)?;
         assert!(rt; next != boxes.reverse(dart));
     }
     Ok(())
@@ -77,11 +83,23 @@ fn expect_turn(rt: &impl Abort, boxes: &Boxes, front: u32) {
     same(rt, boxes.before(front), None);
 }
 
+/// The boxes of a straight edge.
+fn edge_boxes(rt: &impl Abort, alloc: Global) -> Result<Boxes, Fail> {
+    let plane = plane_of(alloc, &EDGE)?;
+    let shape = spiral_in(alloc, 0).ok_or("no shape")?;
+    boxes_of(rt, alloc, &plane, &shape)
+}
+
+/// The boxes of the triangle.
+fn triangle_boxes(rt: &impl Abort, alloc: Global) -> Result<Boxes, Fail> {
+    let plane = plane_of(alloc, &TRIANGLE)?;
+    let shape = bent_triangle_in(alloc).ok_or("no shape")?;
+    boxes_of(rt, alloc, &plane, &shape)
+}
+
 #[test]
 fn boxes_of_an_edge(rt: HostRuntime) -> Result<(), Fail> {
-    let plane = plane_of(rt.alloc(), &EDGE)?;
-    let shape = spiral_in(rt.alloc(), 0).ok_or("no shape")?;
-    let boxes = boxes_of(&rt, rt.alloc(), &plane, &shape)?;
+    let boxes = edge_boxes(&rt, rt.alloc())?;
     expect_reverses(&rt, &boxes);
     expect_next(&rt, rt.alloc(), &boxes)?;
     expect_edge(&rt, &boxes);
@@ -90,9 +108,7 @@ fn boxes_of_an_edge(rt: HostRuntime) -> Result<(), Fail> {
 
 #[test]
 fn boxes_of_a_triangle(rt: HostRuntime) -> Result<(), Fail> {
-    let plane = plane_of(rt.alloc(), &TRIANGLE)?;
-    let shape = bent_triangle_in(rt.alloc()).ok_or("no shape")?;
-    let boxes = boxes_of(&rt, rt.alloc(), &plane, &shape)?;
+    let boxes = triangle_boxes(&rt, rt.alloc())?;
     expect_reverses(&rt, &boxes);
     expect_next(&rt, rt.alloc(), &boxes)?;
     expect_triangle(&rt, &boxes)

@@ -109,18 +109,27 @@ fn keeps_rules(plane: &Plane, shape: &Shape, found: &[u8], dart: u16) -> bool
     heading < 4 && sum % 4 == u16::from(heading) && end % 4 == heading
 }
 
-/// That the directions of a least shape keep the rules at each dart.
+/// That directions keep the rules at each dart.
+fn expect_rules_at_each(rt: &impl Abort, plane: &Plane, shape: &Shape, found: &[u8]) {
+    let darts = plane.graph().darts();
+    let count = usize::from(darts);
+    assert_eq!(rt; (shape.angle_count(), shape.string_count()), (count, count));
+    same(rt, found.len(), count);
+    for dart in 0..darts {
+        same(
+            rt,
+            (dart, keeps_rules(plane, shape, found, dart)),
+            (dart, true),
+        );
+    }
+}
+
+/// That those of a least shape do.
 fn expect_rules(rt: &impl Abort, alloc: Global, record: &[u8]) -> Result<(), Fail> {
     let plane = plane_of(alloc, record)?;
     let (shape, _) = least_shape(alloc, &plane)?;
     let found = headings_of(alloc, &plane, &shape)?;
-    let darts = plane.graph().darts();
-    assert_eq!(rt; found.len(), usize::from(darts));
-    assert_eq!(rt; shape.angle_count(), usize::from(darts));
-    assert_eq!(rt; shape.string_count(), usize::from(darts));
-    for dart in 0..darts {
-        assert!(rt; keeps_rules(&plane, &shape, &found, dart), "dart {dart}");
-    }
+    expect_rules_at_each(rt, &plane, &shape, &found);
     Ok(())
 }
 

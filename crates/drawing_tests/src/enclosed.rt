@@ -63,17 +63,25 @@ fn edge(alloc: Global) -> Result<DartTable, AllocError>
     })
 }
 
+/// How many angles are as wide.
+fn count_of(angles: &[u8], width: u8) -> usize {
+    angles.iter().filter(|angle| **angle == width).count()
+}
+
+/// What the table of four boxes round an edge holds.
+fn expect_boxes(rt: &impl Abort, table: &DartTable) {
+    same(rt, (table.vertices, table.darts), (10, 26));
+    let angles = &table.angle.as_slice()[..table.darts as usize];
+    same(rt, (count_of(angles, 1), count_of(angles, 3)), (16, 4));
+}
+
 // Four boxes lie round the edge: below and above it, and beyond each of its ends.
 #[test]
 fn four_boxes_lie_round_an_edge(rt: HostRuntime) -> Result<(), Fail> {
     let alloc = rt.alloc();
     let mut table = edge(alloc)?;
     enclose(alloc, &mut table, 0)?;
-    let angles = &table.angle.as_slice()[..table.darts as usize];
-    same(&rt, table.vertices, 10);
-    same(&rt, table.darts, 26);
-    same(&rt, angles.iter().filter(|a| **a == 1).count(), 16);
-    same(&rt, angles.iter().filter(|a| **a == 3).count(), 4);
+    expect_boxes(&rt, &table);
     Ok(())
 }
 
@@ -86,7 +94,7 @@ fn refused_memory_leaves_the_edge(rt: HostRuntime) {
     };
     if let Err(AllocError) = enclose(alloc, &mut table, 0) {
         same(&rt, (table.darts, table.vertices), (2, 2));
-        assert!(rt; enclose(alloc, &mut table, 0).is_ok());
+        same(&rt, enclose(alloc, &mut table, 0), Ok(()));
     }
     same(&rt, (table.darts, table.vertices), (26, 10));
 }

@@ -30,14 +30,28 @@ fn path(alloc: Global, count: u8) -> Result<Vec<u8>, AllocError> {
     Ok(bytes)
 }
 
+/// The vertex after the one at a place of a cycle.
+fn after(place: u8, count: u8) -> u8
+    requires { place < count }
+    ensures { result ≤ count }
+{
+    if place + 1 == count { 1 } else { place + 2 }
+}
+
+/// The vertex before it.
+fn before(place: u8, count: u8) -> u8
+    requires { place < count }
+    ensures { result ≤ count }
+{
+    if place == 0 { count } else { place }
+}
+
 /// A cycle on so many vertices.
 fn cycle(alloc: Global, count: u8) -> Result<Vec<u8>, AllocError> {
     let mut bytes = Vec::new(alloc);
     bytes.push(count)?;
     for place in 0..count {
-        bytes.push(if place + 1 == count { 1 } else { place + 2 })?;
-        bytes.push(if place == 0 { count } else { place })?;
-        bytes.push(0)?;
+        bytes.extend_from_slice(&[after(place, count), before(place, count), 0])?;
     }
     Ok(bytes)
 }
@@ -92,13 +106,13 @@ pub(crate) fn prism(alloc: Global, count: u8) -> Result<Vec<u8>, AllocError>
     let mut bytes = Vec::new(alloc);
     bytes.push(2 * count)?;
     for place in 0..count {
-        let next = if place + 1 == count { 1 } else { place + 2 };
-        let last = if place == 0 { count } else { place };
+        let next = after(place, count);
+        let last = before(place, count);
         bytes.extend_from_slice(&[next, last, count + place + 1, 0])?;
     }
     for place in 0..count {
-        let next = if place + 1 == count { 1 } else { place + 2 };
-        let last = if place == 0 { count } else { place };
+        let next = after(place, count);
+        let last = before(place, count);
         bytes.extend_from_slice(&[count + next, place + 1, count + last, 0])?;
     }
     Ok(bytes)
@@ -111,13 +125,13 @@ pub(crate) fn antiprism(alloc: Global, count: u8) -> Result<Vec<u8>, AllocError>
     let mut bytes = Vec::new(alloc);
     bytes.push(2 * count)?;
     for place in 0..count {
-        let next = if place + 1 == count { 1 } else { place + 2 };
-        let last = if place == 0 { count } else { place };
+        let next = after(place, count);
+        let last = before(place, count);
         bytes.extend_from_slice(&[next, last, count + last, count + place + 1, 0])?;
     }
     for place in 0..count {
-        let next = if place + 1 == count { 1 } else { place + 2 };
-        let last = if place == 0 { count } else { place };
+        let next = after(place, count);
+        let last = before(place, count);
         bytes.extend_from_slice(&[count + next, next, place + 1, count + last, 0])?;
     }
     Ok(bytes)

@@ -2,7 +2,7 @@
 //! its own.
 
 use crate::planes::{EDGE, TRIANGLE, bent_triangle_in, plane_of, same, spiral_in};
-use crate::refused::{expect_same_darts, expect_same_old, expect_same_paths};
+use crate::refused::expect_same_boxes;
 use compact::{CompactFault, compact, compact_in};
 use dissect::{Boxes, dissect, dissect_in};
 use drawing_check::check_in;
@@ -42,9 +42,7 @@ fn boxes_in(
     assert!(rt; is_shape(plane, shape));
     let own = dissect(alloc, plane, shape)?;
     let boxes = dissect_in(alloc, lent, plane, shape)?;
-    expect_same_darts(rt, &boxes, &own);
-    expect_same_old(rt, &boxes, &own);
-    expect_same_paths(rt, &boxes, &own);
+    expect_same_boxes(rt, &boxes, &own);
     Ok(boxes)
 }
 
@@ -90,7 +88,22 @@ fn expect_drawing_in(
     same(rt, fault, None);
 }
 
-/// A shape of the plane of these bytes is drawn in memory that is lent.
+/// A shape of a plane is drawn in memory that is lent.
+fn draw_shape_in(
+    rt: &impl Abort,
+    alloc: Global,
+    lent: &mut Lent,
+    plane: &Plane,
+    shape: &Shape,
+) -> Result<(), Fail> {
+    let boxes = boxes_in(rt, alloc, &mut lent.boxes, plane, shape)?;
+    let points = points_in(rt, alloc, &mut lent.points, &boxes)?;
+    boxes.give_back(&mut lent.boxes);
+    expect_drawing_in(rt, alloc, &mut lent.checks, plane, shape, points);
+    Ok(())
+}
+
+/// The same of the plane of these bytes.
 fn draw_in(
     rt: &impl Abort,
     alloc: Global,
@@ -98,13 +111,9 @@ fn draw_in(
     bytes: &[u8],
     shape: Option<Shape>,
 ) -> Result<(), Fail> {
-    let plane = plane_of(alloc, bytes)?;
     let shape = shape.ok_or("no shape")?;
-    let boxes = boxes_in(rt, alloc, &mut lent.boxes, &plane, &shape)?;
-    let points = points_in(rt, alloc, &mut lent.points, &boxes)?;
-    boxes.give_back(&mut lent.boxes);
-    expect_drawing_in(rt, alloc, &mut lent.checks, &plane, &shape, points);
-    Ok(())
+    let plane = plane_of(alloc, bytes)?;
+    draw_shape_in(rt, alloc, lent, &plane, &shape)
 }
 
 #[test]

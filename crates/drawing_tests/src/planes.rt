@@ -6,8 +6,8 @@ use drawing_check::check;
 use embedding::Graph;
 use faces::Plane;
 use ortho_rep::{Points, Shape, Turn, is_shape};
-use planar_code::{Framer, HEADER};
-use std::alloc::Global;
+use planar_code::{Framer, HEADER, Record};
+use std::alloc::{AllocError, Global};
 use std::fmt::Debug;
 use std::process::Abort;
 use std::test::Fail;
@@ -21,13 +21,18 @@ pub(crate) const EDGE: [u8; 5] = [2, 2, 0, 1, 0];
 
 pub(crate) const TRIANGLE: [u8; 10] = [3, 2, 3, 0, 3, 1, 0, 1, 2, 0];
 
-/// The plane of these bytes, if they are a record of one and there is memory.
-pub(crate) fn plane_in(alloc: Global, bytes: &[u8]) -> Option<Plane> {
+/// The record of these bytes, if they are one and there is memory.
+fn record_in(alloc: Global, bytes: &[u8]) -> Option<Record> {
     let mut framer = Framer::new(alloc).ok()?;
     let mut records = Vec::new(alloc);
     framer.feed(alloc, &HEADER, &mut records).ok()?;
     framer.feed(alloc, bytes, &mut records).ok()?;
-    let record = records.pop()?;
+    records.pop()
+}
+
+/// The plane of these bytes, if they are a record of one and there is memory.
+pub(crate) fn plane_in(alloc: Global, bytes: &[u8]) -> Option<Plane> {
+    let record = record_in(alloc, bytes)?;
     let graph = Graph::read(alloc, &record).ok()?;
     Plane::trace(alloc, graph).ok()
 }
@@ -45,27 +50,34 @@ pub(crate) fn shape_of(angles: Vec<u8>, strings: Vec<Vec<Turn>>) -> Option<Shape
     }
 }
 
+/// The strings of a single edge that turns to the left so many times.
+fn spiral_strings(alloc: Global, turns: usize) -> Result<Vec<Vec<Turn>>, AllocError> {
+    let mut strings = Vec::new(alloc);
+    strings.push(vec![in alloc; Turn::Left; turns]?)?;
+    strings.push(vec![in alloc; Turn::Right; turns]?)?;
+    Ok(strings)
+}
+
 /// The shape of a single edge that turns to the left so many times, if there is memory.
 pub(crate) fn spiral_in(alloc: Global, turns: usize) -> Option<Shape> {
-    let mut strings = Vec::new(alloc);
-    strings.push(vec![in alloc; Turn::Left; turns].ok()?).ok()?;
-    strings.push(vec![in alloc; Turn::Right; turns].ok()?).ok()?;
+    let strings = spiral_strings(alloc, turns).ok()?;
     shape_of([4, 4].to_vec(alloc).ok()?, strings)
 }
 
-/// The shape of the triangle whose edge from 1 to 3 turns once, if there is memory.
-pub(crate) fn bent_triangle_in(alloc: Global) -> Option<Shape> {
+/// The strings of the triangle whose edge from 1 to 3 turns once.
+fn bent_strings(alloc: Global) -> Result<Vec<Vec<Turn>>, AllocError> {
     let mut strings = Vec::new(alloc);
-    for dart in 0..6 {
-        let mut turns = Vec::new(alloc);
-        if dart == 1 {
-            turns.push(Turn::Left).ok()?;
-        }
-        if dart == 4 {
-            turns.push(Turn::Right).ok()?;
-        }
-        strings.push(turns).ok()?;
+    for turns in BENT {
+        strings.push(turns.to_vec(alloc)?)?;
     }
+    Ok(strings)
+}
+
+const BENT: [&[Turn]; 6] = [&[], &[Turn::Left], &[], &[], &[Turn::Right], &[]];
+
+/// The shape of that triangle, if there is memory.
+pub(crate) fn bent_triangle_in(alloc: Global) -> Option<Shape> {
+    let strings = bent_strings(alloc).ok()?;
     shape_of([3, 1, 3, 1, 3, 1].to_vec(alloc).ok()?, strings)
 }
 
@@ -92,6 +104,12 @@ pub(crate) fn expect_drawing(
     same(rt, fault, None);
 }
 
+/// How many thousandths of a bound a number is.
+fn share(rt: &impl Abort, number: u32, most: u64) -> u64 {
+    assert!(rt; most > 0);
+    1000 * u64::from(number) / most
+}
+
 /// The shape is cut into boxes and drawn: how many thousandths of the most vertices the boxes have.
 pub(crate) fn draw(
     rt: &impl Abort,
@@ -101,9 +119,6 @@ pub(crate) fn draw(
 ) -> Result<u64, Fail> {
     assert!(rt; is_shape(plane, shape));
     let boxes = dissect(alloc, plane, shape)?;
-    let points = compact(alloc, &boxes)?;
-    expect_drawing(rt, alloc, plane, shape, points);
-    let most = bound(plane, shape);
-    assert!(rt; most > 0);
-    Ok(1000 * u64::from(boxes.vertices()) / most)
+    expect_drawing(rt, alloc, plane, shape, compact(alloc, &boxes)?);
+    Ok(share(rt, boxes.vertices(), bound(plane, shape)))
 }

@@ -11,8 +11,8 @@ use std::process::Abort;
 use std::test::Fail;
 
 /// Two dissections have the same darts.
-pub(crate) fn expect_same_darts(rt: &impl Abort, one: &Boxes, other: &Boxes) {
-    assert_eq!(rt; one.vertices(), other.vertices());
+fn expect_same_darts(rt: &impl Abort, one: &Boxes, other: &Boxes) {
+    same(rt, one.vertices(), other.vertices());
     assert_eq!(rt; one.darts(), other.darts());
     for dart in 0..one.darts() {
         same(rt, one.tail(dart), other.tail(dart));
@@ -25,7 +25,7 @@ pub(crate) fn expect_same_darts(rt: &impl Abort, one: &Boxes, other: &Boxes) {
 }
 
 /// The vertices of the plane are the same in two dissections.
-pub(crate) fn expect_same_old(rt: &impl Abort, one: &Boxes, other: &Boxes) {
+fn expect_same_old(rt: &impl Abort, one: &Boxes, other: &Boxes) {
     assert_eq!(rt; one.old_vertices(), other.old_vertices());
     for before in 0..one.old_vertices() {
         same(rt, one.old(before + 1), other.old(before + 1));
@@ -33,12 +33,19 @@ pub(crate) fn expect_same_old(rt: &impl Abort, one: &Boxes, other: &Boxes) {
 }
 
 /// The edges of the plane are the same in two dissections, and run along the same darts.
-pub(crate) fn expect_same_paths(rt: &impl Abort, one: &Boxes, other: &Boxes) {
+fn expect_same_paths(rt: &impl Abort, one: &Boxes, other: &Boxes) {
     assert_eq!(rt; one.edges(), other.edges());
     for edge in 0..one.edges() {
         same(rt, one.lesser_dart(edge), other.lesser_dart(edge));
         same(rt, one.path(edge), other.path(edge));
     }
+}
+
+/// Two dissections are the same.
+pub(crate) fn expect_same_boxes(rt: &impl Abort, one: &Boxes, other: &Boxes) {
+    expect_same_darts(rt, one, other);
+    expect_same_old(rt, one, other);
+    expect_same_paths(rt, one, other);
 }
 
 /// The boxes of the triangle, by the second call where the first finds no memory; nothing where memory is
@@ -63,9 +70,7 @@ fn dissections(rt: HostRuntime) -> Result<(), Fail> {
     let first = boxes_at_last(&rt, rt.alloc())?;
     let second = boxes_at_last(&rt, rt.alloc())?;
     if let (Some(boxes), Some(again)) = (&first, &second) {
-        expect_same_darts(&rt, boxes, again);
-        expect_same_old(&rt, boxes, again);
-        expect_same_paths(&rt, boxes, again);
+        expect_same_boxes(&rt, boxes, again);
     }
     Ok(())
 }
@@ -93,12 +98,18 @@ fn expect_same_points(rt: &impl Abort, one: &Points, other: &Points) {
     }
 }
 
+/// The points of boxes are the same at two calls, in one of which an allocation may be refused.
+fn expect_points(rt: &impl Abort, alloc: Global, boxes: &Boxes) -> Result<(), CompactFault> {
+    let points = points_at_last(rt, alloc, boxes)?;
+    let again = points_at_last(rt, alloc, boxes)?;
+    expect_same_points(rt, &points, &again);
+    Ok(())
+}
+
 #[test]
 fn coordinates(rt: HostRuntime) -> Result<(), Fail> {
     if let Some(boxes) = boxes_at_last(&rt, rt.alloc())? {
-        let points = points_at_last(&rt, rt.alloc(), &boxes)?;
-        let again = points_at_last(&rt, rt.alloc(), &boxes)?;
-        expect_same_points(&rt, &points, &again);
+        expect_points(&rt, rt.alloc(), &boxes)?;
     }
     Ok(())
 }

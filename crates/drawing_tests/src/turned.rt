@@ -1,10 +1,12 @@
 //! Shapes with more bends than need be are drawn too.
 
+ghost use Rattle.ortho_rep.specs.Representation.{HasDarts};
+
 use crate::families::{OCTAHEDRON, antiprism, grid, prism};
 use crate::planes::{EDGE, TRIANGLE, draw, plane_of, same, shape_of, spiral_in};
 use faces::Plane;
 use ortho_rep::{Shape, Turn, least_shape};
-use std::alloc::Global;
+use std::alloc::{AllocError, Global};
 use std::process::Abort;
 use std::test::Fail;
 
@@ -30,23 +32,26 @@ impl Random {
     }
 }
 
-/// The angles and the strings of a shape.
-fn parts_of(
-    alloc: Global,
-    plane: &Plane,
-    shape: &Shape,
-) -> Result<(Vec<u8>, Vec<Vec<Turn>>), Fail> {
-    let darts = usize::from(plane.graph().darts());
-    if shape.angle_count() != darts || shape.string_count() != darts {
-        return Err(Fail::from("another number of darts"));
-    }
+/// The angles of a shape.
+fn angles_of(alloc: Global, plane: &Plane, shape: &Shape) -> Result<Vec<u8>, AllocError>
+    requires { HasDarts plane.now shape.now }
+{
     let mut angles = Vec::new(alloc);
-    let mut strings = Vec::new(alloc);
     for dart in 0..plane.graph().darts() {
         angles.push(shape.angle(dart))?;
+    }
+    Ok(angles)
+}
+
+/// The strings of a shape.
+fn strings_of(alloc: Global, plane: &Plane, shape: &Shape) -> Result<Vec<Vec<Turn>>, AllocError>
+    requires { HasDarts plane.now shape.now }
+{
+    let mut strings = Vec::new(alloc);
+    for dart in 0..plane.graph().darts() {
         strings.push(shape.turns(dart).to_vec(alloc)?)?;
     }
-    Ok((angles, strings))
+    Ok(strings)
 }
 
 /// Puts two turns at a place of a string.
@@ -93,8 +98,13 @@ fn with_a_step(
     shape: &Shape,
     random: &mut Random,
 ) -> Result<Shape, Fail> {
-    let (angles, mut strings) = parts_of(alloc, plane, shape)?;
+    let darts = usize::from(plane.graph().darts());
+    if shape.angle_count() != darts || shape.string_count() != darts {
+        return Err(Fail::from("another number of darts"));
+    }
+    let mut strings = strings_of(alloc, plane, shape)?;
     add_step(random, plane, &mut strings)?;
+    let angles = angles_of(alloc, plane, shape)?;
     Ok(shape_of(angles, strings).ok_or("strings out of range")?)
 }
 
@@ -127,13 +137,19 @@ fn steps_are_drawn(rt: HostRuntime) -> Result<(), Fail> {
     Ok(())
 }
 
+/// A spiral of so many turns is drawn.
+fn expect_spiral(rt: &impl Abort, alloc: Global, plane: &Plane, turns: usize) -> Result<(), Fail> {
+    let shape = spiral_in(alloc, turns).ok_or("no shape")?;
+    assert!(rt; draw(rt, alloc, plane, &shape)? <= 1000);
+    Ok(())
+}
+
 #[test]
 fn spirals_are_drawn(rt: HostRuntime) -> Result<(), Fail> {
     let alloc = rt.alloc();
     let plane = plane_of(alloc, &EDGE)?;
     for turns in [1, 2, 3, 4, 5, 10, 100, 300] {
-        let shape = spiral_in(alloc, turns).ok_or("no shape")?;
-        assert!(rt; draw(&rt, alloc, &plane, &shape)? <= 1000);
+        expect_spiral(&rt, alloc, &plane, turns)?;
     }
     Ok(())
 }

@@ -1,30 +1,48 @@
-ghost use Rattle.std.specs.Prelude.{◌≡◌, ◌≤◌, ◌+◌, All, OnOk, vec_len};
+ghost use Rattle.std.specs.Prelude.{◌≡◌, ◌<◌, ◌≤◌, ◌+◌, All, OnOk, vec_len};
 ghost use Rattle.ruled_lanes.specs.TicketSeats.{IsSeatOf};
 
+use crate::compared::same;
 use ruled_lanes::{MAX_TICKETS, Memory, Seat, Tickets};
 use std::alloc::{AllocError, Global};
+use std::process::Abort;
 use std::test::*;
 use std::thread::{Threads, join};
+
+// Draws at the seat of a number, and sees what the answer is.
+fn draws(
+    rt: &impl Abort,
+    tickets: &Tickets,
+    seats: &mut Vec<Seat>,
+    number: usize,
+    answer: Option<u32>,
+)
+    requires number { number < vec_len seats.old }
+    requires seats { All (IsSeatOf tickets.now) seats.old.items }
+    ensures count { vec_len seats.new ≡ vec_len seats.old }
+    ensures seats { All (IsSeatOf tickets.now) seats.new.items }
+{
+    same(rt, tickets.draw(&mut seats[number]), answer);
+}
 
 #[test]
 fn two_seats_on_one_thread(rt: HostRuntime) -> Result<(), Fail> {
     let (tickets, mut seats) = Tickets::new(rt.alloc(), 3, 2)?;
-    assert_eq!(rt; tickets.draw(&mut seats[0]), Some(0));
-    assert_eq!(rt; tickets.draw(&mut seats[1]), Some(1));
-    assert_eq!(rt; tickets.draw(&mut seats[0]), Some(2));
-    assert_eq!(rt; tickets.draw(&mut seats[0]), None);
-    assert_eq!(rt; tickets.draw(&mut seats[0]), None);
-    assert_eq!(rt; tickets.draw(&mut seats[1]), None);
-    assert_eq!(rt; tickets.close(seats), 5);
+    draws(&rt, &tickets, &mut seats, 0, Some(0));
+    draws(&rt, &tickets, &mut seats, 1, Some(1));
+    draws(&rt, &tickets, &mut seats, 0, Some(2));
+    draws(&rt, &tickets, &mut seats, 0, None);
+    draws(&rt, &tickets, &mut seats, 0, None);
+    draws(&rt, &tickets, &mut seats, 1, None);
+    same(&rt, tickets.close(seats), 5);
     Ok(())
 }
 
 #[test]
 fn nothing_to_draw(rt: HostRuntime) -> Result<(), Fail> {
     let (tickets, mut seats) = Tickets::new(rt.alloc(), 0, 1)?;
-    assert_eq!(rt; tickets.draw(&mut seats[0]), None);
-    assert_eq!(rt; tickets.draw(&mut seats[0]), None);
-    assert_eq!(rt; tickets.close(seats), 1);
+    draws(&rt, &tickets, &mut seats, 0, None);
+    draws(&rt, &tickets, &mut seats, 0, None);
+    same(&rt, tickets.close(seats), 1);
     Ok(())
 }
 
@@ -35,7 +53,7 @@ fn refused_memory_is_told(rt: HostRuntime) -> Result<(), Fail> {
         Ok(made) => made,
         Err(Memory) => Tickets::new(rt.alloc(), 1, 4)?,
     };
-    assert_eq!(rt; tickets.draw(&mut seats[3]), Some(0));
+    draws(&rt, &tickets, &mut seats, 3, Some(0));
     Ok(())
 }
 
@@ -152,14 +170,20 @@ fn take_one(tickets: &Tickets, seats: &mut Vec<Seat>) -> Seat
     seat
 }
 
-// Puts a seat back.
-fn put_one(tickets: &Tickets, seats: &mut Vec<Seat>, seat: Seat) -> Result<(), AllocError>
+// Puts a seat back, and the numbers that it drew.
+fn put_one(
+    tickets: &Tickets,
+    seats: &mut Vec<Seat>,
+    numbers: &mut Vec<Vec<u32>>,
+    drawn: Drawn,
+) -> Result<(), AllocError>
     requires seats { All (IsSeatOf tickets.now) seats.old.items }
-    requires seat { IsSeatOf tickets.now seat }
+    requires seat { IsSeatOf tickets.now drawn.0 }
     ensures count { OnOk result (vec_len seats.new ≡ vec_len seats.old + 1) }
     ensures seats { OnOk result (All (IsSeatOf tickets.now) seats.new.items) }
 {
-    seats.push(seat)?;
+    seats.push(drawn.0)?;
+    numbers.push(drawn.1)?;
     Ok(())
 }
 
@@ -179,6 +203,22 @@ fn take_four(tickets: &Tickets, seats: &mut Vec<Seat>) -> FourSeats
     ((one, two), (three, four))
 }
 
+// Puts two seats back, and the numbers that they drew.
+fn put_two(
+    tickets: &Tickets,
+    seats: &mut Vec<Seat>,
+    numbers: &mut Vec<Vec<u32>>,
+    two: (Drawn, Drawn),
+) -> Result<(), AllocError>
+    requires seats { All (IsSeatOf tickets.now) seats.old.items }
+    requires two { IsSeatOf tickets.now two.0.0 × IsSeatOf tickets.now two.1.0 }
+    ensures count { OnOk result (vec_len seats.new ≡ vec_len seats.old + 2) }
+    ensures seats { OnOk result (All (IsSeatOf tickets.now) seats.new.items) }
+{
+    put_one(tickets, seats, numbers, two.0)?;
+    put_one(tickets, seats, numbers, two.1)
+}
+
 // Puts four seats back, and the numbers that they drew.
 fn put_four(
     tickets: &Tickets,
@@ -192,16 +232,8 @@ fn put_four(
     ensures count { OnOk result (vec_len seats.new ≡ vec_len seats.old + 4) }
     ensures seats { OnOk result (All (IsSeatOf tickets.now) seats.new.items) }
 {
-    let ((one, two), (three, four)) = four;
-    put_one(tickets, seats, one.0)?;
-    put_one(tickets, seats, two.0)?;
-    put_one(tickets, seats, three.0)?;
-    put_one(tickets, seats, four.0)?;
-    numbers.push(one.1)?;
-    numbers.push(two.1)?;
-    numbers.push(three.1)?;
-    numbers.push(four.1)?;
-    Ok(())
+    put_two(tickets, seats, numbers, four.0)?;
+    put_two(tickets, seats, numbers, four.1)
 }
 
 // How often each number below 256 stands in these lists.
@@ -217,6 +249,11 @@ fn tally(lists: &[Vec<u32>]) -> [u8; 256] {
     times
 }
 
+// Sees that each number below 256 stands in these lists once.
+fn stand_once(rt: &impl Abort, lists: &[Vec<u32>]) {
+    assert!(rt; tally(lists).iter().all(|count| *count == 1));
+}
+
 #[test]
 fn four_threads_draw_each_number_once(rt: HostRuntime) -> Result<(), Fail> {
     let alloc = rt.alloc();
@@ -225,22 +262,37 @@ fn four_threads_draw_each_number_once(rt: HostRuntime) -> Result<(), Fail> {
     let drawn = draw_in_four(&rt, alloc, &tickets, four);
     let mut numbers = Vec::new(alloc);
     put_four(&tickets, &mut seats, &mut numbers, drawn)?;
-    assert!(rt; tally(numbers.as_slice()).iter().all(|count| *count == 1));
-    assert_eq!(rt; tickets.close(seats), 260);
+    stand_once(&rt, numbers.as_slice());
+    same(&rt, tickets.close(seats), 260);
+    Ok(())
+}
+
+// Draws at eight seats, and sees that each number below 256 was drawn once.
+fn draw_all_in_eight<R: Threads + Sync + Abort>(
+    rt: &R,
+    alloc: Global,
+    tickets: &Tickets,
+    seats: &mut Vec<Seat>,
+) -> Result<(), AllocError>
+    requires count { vec_len seats.old ≡ 8 }
+    requires seats { All (IsSeatOf tickets.now) seats.old.items }
+    ensures count { OnOk result (vec_len seats.new ≡ 8) }
+    ensures seats { OnOk result (All (IsSeatOf tickets.now) seats.new.items) }
+{
+    let two = take_four(tickets, seats);
+    let one = take_four(tickets, seats);
+    let (one, two) = draw_in_eight(rt, alloc, tickets, one, two);
+    let mut numbers = Vec::new(alloc);
+    put_four(tickets, seats, &mut numbers, one)?;
+    put_four(tickets, seats, &mut numbers, two)?;
+    stand_once(rt, numbers.as_slice());
     Ok(())
 }
 
 #[test]
 fn eight_threads_draw_each_number_once(rt: HostRuntime) -> Result<(), Fail> {
-    let alloc = rt.alloc();
-    let (tickets, mut seats) = Tickets::new(alloc, 256, 8)?;
-    let two = take_four(&tickets, &mut seats);
-    let one = take_four(&tickets, &mut seats);
-    let (one, two) = draw_in_eight(&rt, alloc, &tickets, one, two);
-    let mut numbers = Vec::new(alloc);
-    put_four(&tickets, &mut seats, &mut numbers, one)?;
-    put_four(&tickets, &mut seats, &mut numbers, two)?;
-    assert!(rt; tally(numbers.as_slice()).iter().all(|count| *count == 1));
-    assert_eq!(rt; tickets.close(seats), 264);
+    let (tickets, mut seats) = Tickets::new(rt.alloc(), 256, 8)?;
+    draw_all_in_eight(&rt, rt.alloc(), &tickets, &mut seats)?;
+    same(&rt, tickets.close(seats), 264);
     Ok(())
 }

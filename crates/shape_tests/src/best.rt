@@ -1,9 +1,12 @@
 //! Least shapes where the outer face is chosen too.
 
-use crate::tests::{CUBE, EDGE, FOUR_CYCLE, K4, OCTAHEDRON, STAR, TRIANGLE, long_cycle, plane_of};
-use faces::Choice;
-use ortho_rep::{best_shape, certify, is_shape, least_shape};
-use std::alloc::Global;
+use crate::compared::same;
+use crate::tests::{
+    CUBE, EDGE, FOUR_CYCLE, K4, OCTAHEDRON, STAR, TRIANGLE, answers, long_cycle, plane_of,
+};
+use faces::{Choice, Plane};
+use ortho_rep::{best_shape, least_shape};
+use std::alloc::{AllocError, Global};
 use std::process::Abort;
 use std::test::Fail;
 
@@ -34,14 +37,25 @@ const SEVEN_WITH_FIVE_FACES: [u8; 28] = [
     7, 4, 7, 5, 6, 0, 5, 6, 0, 6, 7, 0, 7, 1, 0, 1, 7, 2, 0, 1, 2, 3, 0, 3, 5, 1, 4, 0,
 ];
 
-/// How many bends are needed with the first outer face and with the best one, and which face that is. The
-/// shapes pass both tests with their prices.
+/// How many bends are needed with the outer face that the plane has.
+fn bends_as_it_is(alloc: Global, plane: &Plane) -> Result<u32, AllocError> {
+    let (shape, _prices) = least_shape(alloc, plane)?;
+    Ok(shape.bends())
+}
+
+/// How many bends are needed with the best outer face. The shape passes both tests with its prices.
+fn bends_at_best(rt: &impl Abort, alloc: Global, plane: &mut Plane) -> Result<u32, AllocError> {
+    let (shape, prices) = best_shape(alloc, plane)?;
+    same(rt, answers(plane, &shape, &prices), (true, true));
+    Ok(shape.bends())
+}
+
+/// How many bends are needed with the first outer face and with the best one, and which face that is.
 fn bends_of(rt: &impl Abort, alloc: Global, bytes: &[u8]) -> Result<(u32, u32, u16), Fail> {
     let mut plane = plane_of(alloc, bytes)?;
-    let (first, _prices) = least_shape(alloc, &plane)?;
-    let (best, prices) = best_shape(alloc, &mut plane)?;
-    assert!(rt; is_shape(&plane, &best) && certify(&plane, &best, &prices));
-    Ok((first.bends(), best.bends(), plane.outer()))
+    let first = bends_as_it_is(alloc, &plane)?;
+    let best = bends_at_best(rt, alloc, &mut plane)?;
+    Ok((first, best, plane.outer()))
 }
 
 /// Both numbers of bends and the best face are these.
@@ -51,8 +65,7 @@ fn expect_best(
     bytes: &[u8],
     want: (u32, u32, u16),
 ) -> Result<(), Fail> {
-    let got = bends_of(rt, alloc, bytes)?;
-    assert!(rt; got == want, "{got:?}");
+    same(rt, bends_of(rt, alloc, bytes)?, want);
     Ok(())
 }
 
@@ -65,7 +78,7 @@ fn expect_bends(
     best: u32,
 ) -> Result<(), Fail> {
     let (one, other, _face) = bends_of(rt, alloc, bytes)?;
-    assert!(rt; one == first && other == best, "{one} and {other}");
+    same(rt, (one, other), (first, best));
     Ok(())
 }
 
@@ -106,16 +119,16 @@ fn bends_of_an_oracle(rt: HostRuntime) -> Result<(), Fail> {
 #[test]
 fn a_face_turned_out(rt: HostRuntime) -> Result<(), Fail> {
     let mut plane = plane_of(rt.alloc(), &TENTH)?;
-    assert_eq!(rt; (plane.outer(), plane.face_count()), (0, 9));
+    same(&rt, (plane.outer(), plane.face_count()), (0, 9));
     if 2 < plane.face_count() {
         plane.turn_out(2);
     }
-    assert_eq!(rt; (plane.outer(), plane.face_count()), (2, 9));
+    same(&rt, (plane.outer(), plane.face_count()), (2, 9));
     Ok(())
 }
 
 #[test]
 fn choices(rt: HostRuntime) -> Result<(), Fail> {
-    assert_eq!(rt; Choice::default(), Choice::First);
+    same(&rt, Choice::default(), Choice::First);
     Ok(())
 }

@@ -5,6 +5,8 @@
 #[cfg(test)]
 mod best;
 #[cfg(test)]
+mod compared;
+#[cfg(test)]
 mod refused;
 #[cfg(test)]
 mod tests;

@@ -5,12 +5,13 @@
 ghost use Rattle.flow_network.specs.FaceNet.{IsNetOf};
 
 use crate::best::NINTH;
-use crate::tests::{TRIANGLE, plane_in};
+use crate::compared::same;
+use crate::tests::{TRIANGLE, answers, plane_in};
 use faces::Plane;
 use flow_network::FaceNet;
 use min_cost_flow::{Arc, Cap, Network, SolveFault, Standing, solve};
-use ortho_rep::{Prices, Shape, Turn, best_shape, certify, is_shape, least_shape};
-use planar_code::{Ending, frame, split};
+use ortho_rep::{Prices, Shape, Turn, best_shape, least_shape};
+use planar_code::{Ending, Record, frame, split};
 use std::alloc::{AllocError, Global};
 use std::process::Abort;
 use std::test::Fail;
@@ -18,25 +19,38 @@ use std::test::Fail;
 /// A stream of two records.
 const STREAM: &[u8] = b">>planar_code<<\x01\x00\x02\x00\x00";
 
+/// These are the two records, and the stream is complete.
+fn expect_records(rt: &impl Abort, (records, ending): (Vec<Record>, Ending)) {
+    same(rt, (records.len(), ending), (2, Ending::Complete));
+}
+
+/// The records of the whole stream, by the second call where the first finds no memory.
+fn split_at_last(alloc: Global) -> Result<(Vec<Record>, Ending), AllocError> {
+    match split(alloc, STREAM) {
+        Ok(whole) => Ok(whole),
+        Err(AllocError) => split(alloc, STREAM),
+    }
+}
+
+/// The same of a stream in pieces.
+fn frame_at_last(alloc: Global, pieces: &[Vec<u8>]) -> Result<(Vec<Record>, Ending), AllocError> {
+    match frame(alloc, pieces) {
+        Ok(whole) => Ok(whole),
+        Err(AllocError) => frame(alloc, pieces),
+    }
+}
+
 #[test]
 fn streams(rt: HostRuntime) -> Result<(), Fail> {
     let alloc = rt.alloc();
-    let (records, ending) = match split(alloc, STREAM) {
-        Ok(whole) => whole,
-        Err(AllocError) => split(alloc, STREAM)?,
-    };
-    assert_eq!(rt; (records.len(), ending), (2, Ending::Complete));
+    expect_records(&rt, split_at_last(alloc)?);
     let Ok(piece) = STREAM.to_vec(alloc) else {
         return Ok(());
     };
     let Ok(pieces) = vec![in alloc; piece] else {
         return Ok(());
     };
-    let (records, ending) = match frame(alloc, pieces.as_slice()) {
-        Ok(whole) => whole,
-        Err(AllocError) => frame(alloc, pieces.as_slice())?,
-    };
-    assert_eq!(rt; (records.len(), ending), (2, Ending::Complete));
+    expect_records(&rt, frame_at_last(alloc, pieces.as_slice())?);
     Ok(())
 }
 
@@ -62,9 +76,29 @@ fn one_arc(alloc: Global) -> Result<Option<Network>, Fail> {
 
 /// What is read off the network of one arc.
 fn expect_one_arc(rt: &impl Abort, network: &Network) {
-    assert_eq!(rt; network.supplies(), [3, -3].as_slice());
+    assert_eq!(rt; (network.node_count(), network.arc_count()), (2, 1));
+    same(rt, network.supplies(), [3, -3].as_slice());
+    same(rt, (network.supply(1), network.arc(0)), (-3, ARC));
+}
+
+/// The solution of that network, by the second call where the first finds no memory.
+fn expect_solution(rt: &impl Abort, alloc: Global, network: &Network) -> Result<(), SolveFault> {
     assert!(rt; network.node_count() == 2 && network.arc_count() == 1);
-    assert_eq!(rt; (network.supply(1), network.arc(0)), (-3, ARC));
+    let solved = match solve(alloc, network) {
+        Ok(solved) => solved,
+        Err(fault) => {
+            same(rt, fault, SolveFault::Memory);
+            solve(alloc, network)?
+        }
+    };
+    same(rt, solved.flow(0), 3);
+    same(rt, (solved.potential(0), solved.potential(1)), (-1, 0));
+    same(
+        rt,
+        (solved.searches() > 0, solved.looks() > 0),
+        (true, true),
+    );
+    Ok(())
 }
 
 #[test]
@@ -73,18 +107,34 @@ fn flows(rt: HostRuntime) -> Result<(), Fail> {
     let Some(network) = one_arc(alloc)? else {
         return Ok(());
     };
-    let solved = match solve(alloc, &network) {
-        Ok(solved) => solved,
-        Err(fault) => {
-            assert_eq!(rt; fault, SolveFault::Memory);
-            solve(alloc, &network)?
-        }
-    };
+    expect_solution(&rt, alloc, &network)?;
     expect_one_arc(&rt, &network);
-    assert!(rt; network.node_count() == 2 && network.arc_count() == 1);
-    assert_eq!(rt; solved.flow(0), 3);
-    assert_eq!(rt; (solved.potential(0), solved.potential(1)), (-1, 0));
-    assert!(rt; solved.searches() > 0 && solved.looks() > 0);
+    Ok(())
+}
+
+/// A flow that stands, by the second call where the first finds no memory.
+fn stand_at_last(
+    rt: &impl Abort,
+    alloc: Global,
+    network: &Network,
+) -> Result<Standing, SolveFault> {
+    match Standing::new(alloc, network) {
+        Ok(standing) => Ok(standing),
+        Err(fault) => {
+            same(rt, fault, SolveFault::Memory);
+            Standing::new(alloc, network)
+        }
+    }
+}
+
+/// The solution that is read off it, likewise.
+fn expect_read_off(rt: &impl Abort, alloc: Global, standing: &Standing) -> Result<(), AllocError> {
+    assert!(rt; standing.network().arc_count() == 1);
+    let solved = match standing.solved(alloc) {
+        Ok(solved) => solved,
+        Err(AllocError) => standing.solved(alloc)?,
+    };
+    same(rt, solved.flow(0), 3);
     Ok(())
 }
 
@@ -95,21 +145,10 @@ fn standing_flows(rt: HostRuntime) -> Result<(), Fail> {
     let Some(network) = one_arc(alloc)? else {
         return Ok(());
     };
-    let standing = match Standing::new(alloc, &network) {
-        Ok(standing) => standing,
-        Err(fault) => {
-            assert_eq!(rt; fault, SolveFault::Memory);
-            Standing::new(alloc, &network)?
-        }
-    };
-    assert!(rt; standing.least_cost().0 == 3);
-    assert!(rt; standing.network().supplies() == network.supplies());
-    let solved = match standing.solved(alloc) {
-        Ok(solved) => solved,
-        Err(AllocError) => standing.solved(alloc)?,
-    };
-    assert!(rt; network.arc_count() == 1);
-    assert_eq!(rt; solved.flow(0), 3);
+    let standing = stand_at_last(&rt, alloc, &network)?;
+    same(&rt, standing.least_cost().0, 3);
+    same(&rt, standing.network().supplies(), network.supplies());
+    expect_read_off(&rt, alloc, &standing)?;
     Ok(())
 }
 
@@ -117,10 +156,10 @@ fn standing_flows(rt: HostRuntime) -> Result<(), Fail> {
 /// the inner face 1 of three darts each.
 fn expect_network(rt: &impl Abort, net: &FaceNet) {
     let network = net.network();
-    assert_eq!(rt; network.supplies(), [2, 2, 2, -7, 1].as_slice());
-    assert_eq!(rt; network.arc_count(), 12);
-    assert_eq!(rt; (net.corner_arc(1), net.crossing_arc(1)), (1, 7));
-    assert_eq!(rt; (net.vertex_node(3), net.face_node(1)), (2, 4));
+    same(rt, network.supplies(), [2, 2, 2, -7, 1].as_slice());
+    same(rt, network.arc_count(), 12);
+    same(rt, (net.corner_arc(1), net.crossing_arc(1)), (1, 7));
+    same(rt, (net.vertex_node(3), net.face_node(1)), (2, 4));
 }
 
 /// The supplies once the other face is the outer one.
@@ -130,7 +169,7 @@ fn expect_other_face(rt: &impl Abort, plane: &Plane, mut net: FaceNet)
     assert!(rt; plane.face_count() > 1);
     net.turn_out(plane, 1);
     let network = net.network();
-    assert_eq!(rt; network.supplies(), [2, 2, 2, 1, -7].as_slice());
+    same(rt, network.supplies(), [2, 2, 2, 1, -7].as_slice());
 }
 
 #[test]
@@ -158,8 +197,8 @@ fn least_shapes(rt: HostRuntime) -> Result<(), Fail> {
         Ok(found) => found,
         Err(AllocError) => least_shape(alloc, &plane)?,
     };
-    assert_eq!(rt; shape.bends(), 1);
-    assert!(rt; is_shape(&plane, &shape) && certify(&plane, &shape, &prices));
+    same(&rt, shape.bends(), 1);
+    same(&rt, answers(&plane, &shape, &prices), (true, true));
     Ok(())
 }
 
@@ -172,11 +211,11 @@ fn best_shapes(rt: HostRuntime) -> Result<(), Fail> {
     let (shape, _prices) = match best_shape(alloc, &mut plane) {
         Ok(found) => found,
         Err(AllocError) => {
-            assert_eq!(rt; plane.outer(), 0);
+            same(&rt, plane.outer(), 0);
             best_shape(alloc, &mut plane)?
         }
     };
-    assert_eq!(rt; (shape.bends(), plane.outer()), (8, 2));
+    same(&rt, (shape.bends(), plane.outer()), (8, 2));
     Ok(())
 }
 
@@ -190,6 +229,13 @@ fn strings_in(alloc: Global) -> Option<Vec<Vec<Turn>>> {
     Some(strings)
 }
 
+/// What is read off the shape of these strings.
+fn expect_strings(rt: &impl Abort, shape: &Shape) {
+    assert_eq!(rt; (shape.angle_count(), shape.string_count()), (3, 2));
+    same(rt, (shape.angle(0), shape.bends()), (7, 1));
+    same(rt, shape.turns(0), [Turn::Left, Turn::Right].as_slice());
+}
+
 /// Shapes that are made of lists, and what is read off them, take no memory.
 #[test]
 fn lists_of_shapes(rt: HostRuntime) {
@@ -197,10 +243,13 @@ fn lists_of_shapes(rt: HostRuntime) {
         return;
     };
     assert!(rt; Shape::are_short(&strings));
-    let shape = Shape::new(angles, strings);
-    assert!(rt; shape.angle_count() == 3 && shape.string_count() == 2);
-    assert_eq!(rt; (shape.angle(0), shape.bends()), (7, 1));
-    assert_eq!(rt; shape.turns(0), [Turn::Left, Turn::Right].as_slice());
+    expect_strings(&rt, &Shape::new(angles, strings));
+}
+
+/// What is read off prices of two vertices and one face.
+fn expect_prices(rt: &impl Abort, prices: &Prices) {
+    assert_eq!(rt; (prices.vertex_count(), prices.face_count()), (2, 1));
+    same(rt, (prices.vertex(2), prices.face(0)), (6, 7));
 }
 
 /// The same of prices.
@@ -209,7 +258,5 @@ fn lists_of_prices(rt: HostRuntime) {
     let (Ok(vertices), Ok(faces)) = ([-5, 6].to_vec(rt.alloc()), [7].to_vec(rt.alloc())) else {
         return;
     };
-    let prices = Prices::new(vertices, faces);
-    assert!(rt; prices.vertex_count() == 2 && prices.face_count() == 1);
-    assert_eq!(rt; (prices.vertex(2), prices.face(0)), (6, 7));
+    expect_prices(&rt, &Prices::new(vertices, faces));
 }

@@ -3,11 +3,12 @@
 ghost use Rattle.std.specs.Prelude.{◌<◌};
 ghost use Rattle.ortho_rep.specs.Representation.{HasDarts};
 
+use crate::compared::same;
 use embedding::Graph;
 use faces::Plane;
 use ortho_rep::{Prices, Shape, Turn, certify, is_shape, least_shape};
 use planar_code::{Framer, HEADER, Record};
-use std::alloc::Global;
+use std::alloc::{AllocError, Global};
 use std::process::Abort;
 use std::test::Fail;
 
@@ -89,7 +90,7 @@ fn prices_in(alloc: Global, case: &Case<'_>) -> Result<Prices, Fail> {
 }
 
 /// What both tests say.
-fn answers(plane: &Plane, shape: &Shape, prices: &Prices) -> (bool, bool) {
+pub(crate) fn answers(plane: &Plane, shape: &Shape, prices: &Prices) -> (bool, bool) {
     (is_shape(plane, shape), certify(plane, shape, prices))
 }
 
@@ -109,8 +110,8 @@ fn expect(
     proof: bool,
     bends: u32,
 ) -> Result<(), Fail> {
-    assert_eq!(rt; answers_in(alloc, case)?, (right, proof));
-    assert_eq!(rt; shape_in(alloc, case)?.bends(), bends);
+    same(rt, answers_in(alloc, case)?, (right, proof));
+    same(rt, shape_in(alloc, case)?.bends(), bends);
     Ok(())
 }
 
@@ -211,50 +212,54 @@ fn edges_without_shape(rt: HostRuntime) -> Result<(), Fail> {
     expect(&rt, rt.alloc(), &narrow_angle, false, true, 0)
 }
 
-#[test]
-fn strings_of_a_million_turns(rt: HostRuntime) -> Result<(), Fail> {
-    let alloc = rt.alloc();
-    let count = 1_000_000;
+/// The strings of a single edge that turns to the left so many times.
+fn spiral(alloc: Global, count: usize) -> Result<Vec<Vec<Turn>>, AllocError> {
     let mut strings = Vec::new(alloc);
     strings.push(vec![in alloc; Turn::Left; count]?)?;
     strings.push(vec![in alloc; Turn::Right; count]?)?;
-    let shape = shape_of([4, 4].to_vec(alloc)?, strings)?;
+    Ok(strings)
+}
+
+#[test]
+fn strings_of_a_million_turns(rt: HostRuntime) -> Result<(), Fail> {
+    let alloc = rt.alloc();
+    let shape = shape_of([4, 4].to_vec(alloc)?, spiral(alloc, 1_000_000)?)?;
     let plane = plane_of(alloc, &EDGE)?;
-    assert!(rt; is_shape(&plane, &shape));
+    same(&rt, is_shape(&plane, &shape), true);
     Ok(())
+}
+
+/// What is read off a shape of two angles and three strings.
+fn expect_shape(rt: &impl Abort, shape: &Shape) {
+    assert_eq!(rt; (shape.angle_count(), shape.string_count()), (2, 3));
+    same(rt, (shape.angle(0), shape.turns(0).len()), (7, 2));
 }
 
 #[test]
 fn readers_of_shapes(rt: HostRuntime) -> Result<(), Fail> {
-    let shape = shape_in(
-        rt.alloc(),
-        &Case {
-            angles: &[7, 0],
-            texts: &["LR", "", "L"],
-            ..STAIR
-        },
-    )?;
-    assert_eq!(rt; shape.angle_count(), 2);
-    assert_eq!(rt; shape.angle(0), 7);
-    assert_eq!(rt; shape.string_count(), 3);
-    assert_eq!(rt; shape.turns(0).len(), 2);
+    let case = Case {
+        angles: &[7, 0],
+        texts: &["LR", "", "L"],
+        ..STAIR
+    };
+    expect_shape(&rt, &shape_in(rt.alloc(), &case)?);
     Ok(())
+}
+
+/// What is read off prices of two vertices and one face.
+fn expect_prices(rt: &impl Abort, prices: &Prices) {
+    assert_eq!(rt; (prices.vertex_count(), prices.face_count()), (2, 1));
+    same(rt, (prices.vertex(2), prices.face(0)), (i32::MAX, i32::MIN));
 }
 
 #[test]
 fn readers_of_prices(rt: HostRuntime) -> Result<(), Fail> {
-    let prices = prices_in(
-        rt.alloc(),
-        &Case {
-            vertices: &[-5, i32::MAX],
-            faces: &[i32::MIN],
-            ..STAIR
-        },
-    )?;
-    assert_eq!(rt; prices.vertex_count(), 2);
-    assert_eq!(rt; prices.vertex(2), i32::MAX);
-    assert_eq!(rt; prices.face_count(), 1);
-    assert_eq!(rt; prices.face(0), i32::MIN);
+    let case = Case {
+        vertices: &[-5, i32::MAX],
+        faces: &[i32::MIN],
+        ..STAIR
+    };
+    expect_prices(&rt, &prices_in(rt.alloc(), &case)?);
     Ok(())
 }
 
@@ -423,26 +428,68 @@ fn spoil_length<T: Drop>(random: &mut Random, list: &mut Vec<T>) {
     }
 }
 
-/// A shape like that of a case.
-fn random_shape(alloc: Global, random: &mut Random, case: &Case<'_>) -> Result<Shape, Fail> {
-    let mut angles = case.angles.to_vec(alloc)?;
+/// Angles like those of a case.
+fn random_angles(alloc: Global, random: &mut Random, angles: &[u8]) -> Result<Vec<u8>, AllocError> {
+    let mut angles = angles.to_vec(alloc)?;
     spoil_angle(random, &mut angles);
     spoil_length(random, &mut angles);
-    let mut strings = strings_of(alloc, case.texts)?;
+    Ok(angles)
+}
+
+/// Strings like those of a case.
+fn random_strings(
+    alloc: Global,
+    random: &mut Random,
+    texts: &[&str],
+) -> Result<Vec<Vec<Turn>>, Fail> {
+    let mut strings = strings_of(alloc, texts)?;
     spoil_string(random, &mut strings)?;
     spoil_length(random, &mut strings);
-    shape_of(angles, strings)
+    Ok(strings)
+}
+
+/// A shape like that of a case.
+fn random_shape(alloc: Global, random: &mut Random, case: &Case<'_>) -> Result<Shape, Fail> {
+    let angles = random_angles(alloc, random, case.angles)?;
+    shape_of(angles, random_strings(alloc, random, case.texts)?)
+}
+
+/// Prices like those of a list.
+fn random_list(alloc: Global, random: &mut Random, list: &[i32]) -> Result<Vec<i32>, AllocError> {
+    let mut prices = list.to_vec(alloc)?;
+    spoil_price(random, &mut prices);
+    spoil_length(random, &mut prices);
+    Ok(prices)
 }
 
 /// Prices like those of a case.
 fn random_prices(alloc: Global, random: &mut Random, case: &Case<'_>) -> Result<Prices, Fail> {
-    let mut vertices = case.vertices.to_vec(alloc)?;
-    spoil_price(random, &mut vertices);
-    spoil_length(random, &mut vertices);
-    let mut faces = case.faces.to_vec(alloc)?;
-    spoil_price(random, &mut faces);
-    spoil_length(random, &mut faces);
-    Ok(Prices::new(vertices, faces))
+    let vertices = random_list(alloc, random, case.vertices)?;
+    Ok(Prices::new(vertices, random_list(alloc, random, case.faces)?))
+}
+
+/// What both tests say of a shape and prices, which is what the plain reading says.
+fn answers_as_read(rt: &impl Abort, plane: &Plane, shape: &Shape, prices: &Prices) -> (bool, bool) {
+    let got = answers(plane, shape, prices);
+    let read = (
+        plainly_is_shape(plane, shape),
+        plainly_certifies(plane, shape, prices),
+    );
+    same(rt, got, read);
+    got
+}
+
+/// The same of a random shape and random prices like those of a case.
+fn random_answers(
+    rt: &impl Abort,
+    alloc: Global,
+    random: &mut Random,
+    plane: &Plane,
+    case: &Case<'_>,
+) -> Result<(bool, bool), Fail> {
+    let shape = random_shape(alloc, random, case)?;
+    let prices = random_prices(alloc, random, case)?;
+    Ok(answers_as_read(rt, plane, &shape, &prices))
 }
 
 /// How often each test says yes of 250 random shapes and prices like those of a case: always as the
@@ -458,11 +505,7 @@ fn count_random(
     let mut shapes = 0u32;
     let mut proofs = 0u32;
     for _ in 0..250 {
-        let shape = random_shape(alloc, &mut random, case)?;
-        let prices = random_prices(alloc, &mut random, case)?;
-        let (right, proof) = answers(&plane, &shape, &prices);
-        assert_eq!(rt; right, plainly_is_shape(&plane, &shape));
-        assert_eq!(rt; proof, plainly_certifies(&plane, &shape, &prices));
+        let (right, proof) = random_answers(rt, alloc, &mut random, &plane, case)?;
         shapes = shapes.wrapping_add(u32::from(right));
         proofs = proofs.wrapping_add(u32::from(proof));
     }
@@ -497,8 +540,8 @@ pub(crate) fn expect_least(
 ) -> Result<(), Fail> {
     let plane = plane_of(alloc, bytes)?;
     let (shape, prices) = least_shape(alloc, &plane)?;
-    assert_eq!(rt; shape.bends(), bends);
-    assert_eq!(rt; answers(&plane, &shape, &prices), (true, true));
+    same(rt, shape.bends(), bends);
+    same(rt, answers(&plane, &shape, &prices), (true, true));
     Ok(())
 }
 

@@ -1,14 +1,32 @@
 //! How much work the solver does on the networks of planes, and least shapes of hundreds of darts.
 
 ghost use Rattle.std.specs.Prelude.{◌≤◌};
+ghost use Rattle.ortho_rep.specs.Representation.{HasDarts};
 
+use crate::compared::same;
 use crate::tests::{EDGE, OCTAHEDRON, TRIANGLE, expect_least, long_cycle, plane_of};
+use faces::Plane;
 use flow_network::FaceNet;
-use min_cost_flow::{Arc, Cap, Network, solve};
-use ortho_rep::least_shape;
+use min_cost_flow::{Arc, Cap, Network, SolveFault, solve};
+use ortho_rep::{Shape, least_shape};
 use std::alloc::{AllocError, Global};
 use std::process::Abort;
 use std::test::Fail;
+
+/// How many units are supplied in a network.
+fn supplied_in(network: &Network) -> u64 {
+    let mut units = 0u64;
+    for supply in network.supplies() {
+        units = units.wrapping_add(u64::from(supply.max(&0).unsigned_abs()));
+    }
+    units
+}
+
+/// How many searches and looks the solver takes.
+fn work_of(alloc: Global, network: &Network) -> Result<(u64, u64), SolveFault> {
+    let solved = solve(alloc, network)?;
+    Ok((u64::from(solved.searches()), solved.looks()))
+}
 
 /// So many units are supplied in a network of so many arcs. There is a search for each of them at most, and
 /// in each search no more looks than twice the number of arcs; there is at least one search and one look.
@@ -19,13 +37,12 @@ fn expect_work(
     supplied: u64,
     arcs: u64,
 ) -> Result<(), Fail> {
-    let mut units = 0u64;
-    for supply in network.supplies() {
-        units = units.wrapping_add(u64::from(supply.max(&0).unsigned_abs()));
-    }
-    assert_eq!(rt; (units, network.arc_count() as u64), (supplied, arcs));
-    let solved = solve(alloc, network)?;
-    let (searches, looks) = (u64::from(solved.searches()), solved.looks());
+    same(
+        rt,
+        (supplied_in(network), network.arc_count() as u64),
+        (supplied, arcs),
+    );
+    let (searches, looks) = work_of(alloc, network)?;
     assert!(rt;
         1 <= searches && searches <= supplied,
         "{searches} searches"
@@ -109,15 +126,28 @@ fn hundreds_of_darts(rt: HostRuntime) -> Result<(), Fail> {
     expect_least(&rt, alloc, &antiprism(alloc, 50)?, 104)
 }
 
-/// The octahedron has no drawing with at most two bends an edge.
-#[test]
-fn an_edge_bends_three_times(rt: HostRuntime) -> Result<(), Fail> {
-    let plane = plane_of(rt.alloc(), &OCTAHEDRON)?;
-    let (shape, _prices) = least_shape(rt.alloc(), &plane)?;
+/// The most turns that a dart has.
+fn most_turns(plane: &Plane, shape: &Shape) -> usize
+    requires { HasDarts plane.now shape.now }
+{
     let mut most = 0;
     for dart in 0..plane.graph().darts() {
         most = shape.turns(dart).len().max(most);
     }
+    most
+}
+
+/// The most bends of an edge in a least shape of these bytes.
+fn most_bends(alloc: Global, bytes: &[u8]) -> Result<usize, Fail> {
+    let plane = plane_of(alloc, bytes)?;
+    let (shape, _prices) = least_shape(alloc, &plane)?;
+    Ok(most_turns(&plane, &shape))
+}
+
+/// The octahedron has no drawing with at most two bends an edge.
+#[test]
+fn an_edge_bends_three_times(rt: HostRuntime) -> Result<(), Fail> {
+    let most = most_bends(rt.alloc(), &OCTAHEDRON)?;
     assert!(rt; 3 <= most, "{most} bends");
     Ok(())
 }
