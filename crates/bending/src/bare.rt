@@ -15,9 +15,10 @@ use ortho_rep::Shape;
 use reuse::filled;
 use std::alloc::AllocError;
 
-/// How many darts the table of a shape is to have room for: those of the plane, two for each bend, four
-/// for each right turn that there may be, and `RECTANGLE_ROOM` for a rectangle
-/// round it. A step for each dart.
+/// How many darts the table of a shape is to have room for: those of the plane, two for each bend, four for
+/// each right turn, of which there are at most two for each vertex and one for each bend, and
+/// `RECTANGLE_ROOM` for a rectangle round it. A bend is two turns here, one of each dart of its edge. A step
+/// for each dart.
 pub fn room_for(plane: &Plane, shape: &Shape) -> u32
     requires { HasDarts plane.now shape.now }
     ensures { let turns = sum_below (darts plane.now) (λ d. length (turns_at shape.now d)) in

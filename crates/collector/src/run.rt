@@ -19,6 +19,7 @@ use streams::BatchFault;
 /// How many lanes a run has at most.
 pub const MAX_LANES: u32 = LANES;
 
+// The texts of faults and of the help have these numbers.
 const _: () = prove!(MAX_FILES == 256);
 
 const _: () = prove!(MAX_LANES == 8);

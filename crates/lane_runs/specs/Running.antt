@@ -78,8 +78,8 @@ pub record StartsRun {C E : Type 0} (holds : C → List Note → Type 0) (ticket
   pub none_gathered : gathered fan ≡ []
   pub empty : holds consumer []
 
--- what a run leaves of a consumer, which it only moved on, and the seats that it gives back
-pub record LeavesRun {C F : Type 0} (holds : C → List Note → Type 0) (gave_up : C → F → Type 0) (moves : C → C → Type 0) (choice : Choice) (meaning : ℕ → Meaning) (tickets : Tickets) (count : ℕ) (consumer after : C)
+-- what a run leaves of a consumer, of which what stays the same has stayed so, and the seats that it gives back
+pub record LeavesRun {C F : Type 0} (holds : C → List Note → Type 0) (gave_up : C → F → Type 0) (stays_same : C → C → Type 0) (choice : Choice) (meaning : ℕ → Meaning) (tickets : Tickets) (count : ℕ) (consumer after : C)
     (ran : Result (Vec Seat Global) (RunFault F)) : Type 0 where
   pub ended : HasEnded holds gave_up choice meaning tickets count after ran
-  pub stays : moves consumer after
+  pub stays : stays_same consumer after

@@ -133,8 +133,8 @@ impl Framer {
     /// order.
     ///
     /// The stream may be cut anywhere, also within the header or a record. The work is linear in its
-    /// bytes: a record that lies whole in a piece is copied once, and one that is cut twice. Want of
-    /// memory is answered only where the piece ends a record, for its bytes or its place in `out`.
+    /// bytes: a record that lies whole in a piece is copied once, and one that is cut is copied twice. Want
+    /// of memory is answered only where the piece ends a record, for its bytes or its place in `out`.
     ///
     /// # Errors
     ///

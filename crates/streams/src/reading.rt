@@ -96,7 +96,7 @@ pub fn read_source<T: Tap, V: Receiver>(
     let mut records = Vec::new(alloc);
     let mut ordinal = 0;
     // Counted, so that the call is proved to end. The last round is never reached: a framer that still reads has
-    // had fewer bytes than a million records hold.
+    // had no more bytes than the header and a million records.
     for _ in 0..u64::MAX {
         let step = read_piece(&mut source, &mut framer, alloc, buffer, &mut records);
         let next = ordinal + records.len() as u32;
