@@ -53,6 +53,25 @@ fn moved(
     standing.shift(from, to, amount)
 }
 
+/// The same for random nodes and a small amount.
+fn moved_at_random(
+    standing: Standing,
+    twin: &mut Network,
+    numbers: &mut Numbers,
+) -> Option<Standing>
+    requires { standing ≡ twin.old }
+    ensures { IfSome result (λ s. s ≡ twin.new) }
+{
+    let nodes = twin.node_count() as u32;
+    if nodes == 0 {
+        return Some(standing);
+    }
+    let from = numbers.below(nodes);
+    let to = numbers.below(nodes);
+    let amount = numbers.below(4);
+    moved(standing, twin, from, to, amount)
+}
+
 /// Whether there is no flow, as the slow solver finds.
 fn end_without_flow(alloc: Global, network: &Network) -> Result<End, AllocError> {
     if plain::least_cost(alloc, network)?.is_none() {
@@ -82,14 +101,7 @@ fn end_of(alloc: Global, network: Network, numbers: &mut Numbers) -> Result<End,
         if !is_right(alloc, &standing)? {
             return Ok(End::Apart);
         }
-        let nodes = twin.node_count() as u32;
-        if nodes == 0 {
-            break;
-        }
-        let from = numbers.below(nodes);
-        let to = numbers.below(nodes);
-        let amount = numbers.below(4);
-        match moved(standing, &mut twin, from, to, amount) {
+        match moved_at_random(standing, &mut twin, numbers) {
             Some(next) => standing = next,
             None => return Ok(end_without_flow(alloc, &twin)?),
         }

@@ -6,8 +6,14 @@ ghost use Rattle.networks.specs.Flow.{Solves};
 use crate::plain;
 use min_cost_flow::{Arc, Cap, NetFault, Network, SolveFault, Solved, solve};
 use std::alloc::{AllocError, Global};
+use std::fmt::Debug;
 use std::process::Abort;
 use std::test::Fail;
+
+/// Sees that two values are the same. (An `assert_eq!` in each place would make the tests' proofs several times as long.)
+fn same<T: PartialEq + Debug + Drop>(rt: &impl Abort, got: T, want: T) {
+    assert_eq!(rt; got, want);
+}
 
 /// The network of supplies and arcs given as `(from, to, cap, cost)`.
 fn network(
@@ -51,6 +57,21 @@ pub(crate) fn cost_of(network: &Network, solved: &Solved) -> u64
     total
 }
 
+/// Each of three arcs carries one unit, no potential of the three nodes is above 0, and so much work was done.
+fn expect_free_way(rt: &impl Abort, network: &Network, solved: &Solved)
+    requires { Solves network.now solved.now }
+{
+    same(rt, (network.arc_count(), network.node_count()), (3, 3));
+    for arc in 0..network.arc_count() {
+        same(rt, (arc, solved.flow(arc as u32)), (arc, 1));
+    }
+    for node in 0..network.node_count() {
+        let potential = solved.potential(node as u32);
+        same(rt, (node, potential.max(0)), (node, 0));
+    }
+    same(rt, (solved.searches(), solved.looks()), (2, 6));
+}
+
 #[test]
 fn units_take_the_free_way_first(rt: HostRuntime) -> Result<(), Fail> {
     let arcs = [
@@ -60,17 +81,8 @@ fn units_take_the_free_way_first(rt: HostRuntime) -> Result<(), Fail> {
     ];
     let network = network(rt.alloc(), &[2, 0, -2], &arcs)??;
     let solved = solve(rt.alloc(), &network)?;
-    assert_eq!(rt; network.arc_count(), 3);
-    for i in 0..network.arc_count() {
-        assert_eq!(rt; solved.flow(i as u32), 1, "arc {i}");
-    }
-    assert_eq!(rt; least_cost(rt.alloc(), &network)?, Some(1));
-    assert_eq!(rt; network.node_count(), 3);
-    for v in 0..network.node_count() {
-        assert!(rt; solved.potential(v as u32) <= 0, "node {v}");
-    }
-    assert_eq!(rt; solved.searches(), 2);
-    assert_eq!(rt; solved.looks(), 6);
+    expect_free_way(&rt, &network, &solved);
+    same(&rt, least_cost(rt.alloc(), &network)?, Some(1));
     Ok(())
 }
 
@@ -82,7 +94,7 @@ fn expect_cost(
     expected: Option<u64>,
 ) -> Result<(), Fail> {
     let network = network(rt.alloc(), supplies, arcs)??;
-    assert_eq!(rt; least_cost(rt.alloc(), &network)?, expected);
+    same(rt, least_cost(rt.alloc(), &network)?, expected);
     Ok(())
 }
 
@@ -110,47 +122,34 @@ fn special_arcs_serve(rt: HostRuntime) -> Result<(), Fail> {
     expect_cost(&rt, &[2048, -2048], &[dear], Some(2048))
 }
 
-/// The fault of supplies and one arc.
-fn fault(
-    alloc: Global,
+/// Sees that supplies and one arc have the fault that is expected.
+fn expect_fault(
+    rt: &(impl Abort + AllocGlobal),
     supplies: &[i32],
     arc: (u32, u32, Cap, u32),
-) -> Result<Option<NetFault>, AllocError> {
-    Ok(network(alloc, supplies, &[arc])?.err())
+    expected: NetFault,
+) -> Result<(), Fail> {
+    let fault = network(rt.alloc(), supplies, &[arc])?.err();
+    same(rt, fault, Some(expected));
+    Ok(())
 }
 
 #[test]
 fn the_first_fault_is_named(rt: HostRuntime) -> Result<(), Fail> {
-    let alloc = rt.alloc();
     let many = [0; 1025];
-    assert_eq!(rt;
-        fault(alloc, &many, (0, 2000, Cap::Any, 0))?,
-        Some(NetFault::TooLarge)
-    );
     let far = [2049, -2049];
-    assert_eq!(rt;
-        fault(alloc, &far, (0, 2, Cap::Any, 0))?,
-        Some(NetFault::BadEnd)
-    );
-    assert_eq!(rt;
-        fault(alloc, &far, (0, 1, Cap::Any, 2))?,
-        Some(NetFault::BadSupply)
-    );
     let near = [2048, -2048];
-    assert_eq!(rt;
-        fault(alloc, &near, (0, 1, Cap::Any, 2))?,
-        Some(NetFault::BadCost)
-    );
-    Ok(())
+    expect_fault(&rt, &many, (0, 2000, Cap::Any, 0), NetFault::TooLarge)?;
+    expect_fault(&rt, &far, (0, 2, Cap::Any, 0), NetFault::BadEnd)?;
+    expect_fault(&rt, &far, (0, 1, Cap::Any, 2), NetFault::BadSupply)?;
+    expect_fault(&rt, &near, (0, 1, Cap::Any, 2), NetFault::BadCost)
 }
 
 #[test]
 fn faults_say_what_is_wrong(rt: HostRuntime) -> Result<(), Fail> {
     let text = format!(in rt.alloc(); "{}, {}", NetFault::BadEnd, SolveFault::Memory)?;
-    assert_eq!(rt;
-        text.as_str(),
-        "an arc has an end that is no node, out of memory"
-    );
+    let want = "an arc has an end that is no node, out of memory";
+    same(&rt, text.as_str(), want);
     Ok(())
 }
 
@@ -215,6 +214,18 @@ fn random_arc(numbers: &mut Numbers, nodes: u32) -> Arc
     }
 }
 
+/// Sees that a random network has the least cost that is expected, or no flow.
+fn expect_random(
+    rt: &impl Abort,
+    alloc: Global,
+    network: &Network,
+    count: u32,
+    expected: Option<u64>,
+) -> Result<(), SolveFault> {
+    same(rt, (count, least_cost(alloc, network)?), (count, expected));
+    Ok(())
+}
+
 #[test]
 fn random_networks_cost_what_other_solvers_found(rt: HostRuntime) -> Result<(), Fail> {
     let mut numbers = Numbers { state: 20_261_122 };
@@ -222,14 +233,10 @@ fn random_networks_cost_what_other_solvers_found(rt: HostRuntime) -> Result<(), 
     for word in LEAST_COSTS.split_whitespace() {
         let network = random_network(rt.alloc(), &mut numbers)??;
         let expected = word.parse::<u64>().ok();
-        assert_eq!(rt;
-            least_cost(rt.alloc(), &network)?,
-            expected,
-            "network {count}"
-        );
+        expect_random(&rt, rt.alloc(), &network, count, expected)?;
         count = count.saturating_add(1);
     }
-    assert_eq!(rt; count, 1000);
+    same(&rt, count, 1000);
     Ok(())
 }
 
@@ -239,13 +246,17 @@ fn random_networks_cost_what_the_slow_solver_finds(rt: HostRuntime) -> Result<()
     for count in 0..1000u32 {
         let network = random_network(rt.alloc(), &mut numbers)??;
         let expected = plain::least_cost(rt.alloc(), &network)?;
-        assert_eq!(rt;
-            least_cost(rt.alloc(), &network)?,
-            expected,
-            "network {count}"
-        );
+        expect_random(&rt, rt.alloc(), &network, count, expected)?;
     }
     Ok(())
+}
+
+/// The least cost of a flow, by the second call where the first finds no memory.
+fn cost_at_last(alloc: Global, network: &Network) -> Result<Option<u64>, SolveFault> {
+    match least_cost(alloc, network) {
+        Err(SolveFault::Memory) => least_cost(alloc, network),
+        found => found,
+    }
 }
 
 /// A call in which an allocation is refused gives `Memory` and leaves the network as it was, so that a
@@ -253,12 +264,8 @@ fn random_networks_cost_what_the_slow_solver_finds(rt: HostRuntime) -> Result<()
 #[test]
 fn a_refused_allocation_leaves_the_network(rt: HostRuntime) -> Result<(), Fail> {
     let network = network(rt.alloc(), &[3, -3], &[(0, 1, Cap::Any, 1)])??;
-    let first = least_cost(rt.alloc(), &network);
-    assert!(rt; matches!(first, Ok(Some(3)) | Err(SolveFault::Memory)));
-    if first.is_err() {
-        assert_eq!(rt; least_cost(rt.alloc(), &network)?, Some(3));
-    }
-    assert_eq!(rt; network.supplies(), [3, -3].as_slice());
+    same(&rt, cost_at_last(rt.alloc(), &network)?, Some(3));
+    same(&rt, network.supplies(), [3, -3].as_slice());
     Ok(())
 }
 

@@ -1,4 +1,4 @@
-ghost use Rattle.std.specs.Prelude.{◌≡◌, ◌≤◌, vec_len};
+ghost use Rattle.std.specs.Prelude.{◌≡◌, ◌<◌, ◌≤◌, vec_len};
 ghost use Rattle.ruled_lanes.specs.declared.limits.TheConstants.{MAX_CAPACITY};
 ghost use Rattle.ruled_lanes.specs.FanEnds.{AreGiversOf, GivesToSameLane, TakesFromSameFan};
 
@@ -23,6 +23,22 @@ fn gives<R: Wait + Abort>(
     same(rt, giver.give(rt, item), answer);
 }
 
+// Gives an item at a lane, where there is room for it.
+fn gives_at<R: Wait + Abort>(
+    rt: &R,
+    gatherer: &Gatherer<u32>,
+    givers: &mut Vec<LaneGiver<u32>>,
+    lane: usize,
+    item: u32,
+)
+    requires lane { lane < vec_len givers.old }
+    requires fan { AreGiversOf gatherer.now givers.old.items }
+    ensures count { vec_len givers.new ≡ vec_len givers.old }
+    ensures fan { AreGiversOf gatherer.now givers.new.items }
+{
+    gives(rt, &mut givers[lane], item, Ok(()));
+}
+
 // Takes an item, and sees what the answer is.
 fn takes<R: Wait + Abort>(
     rt: &R,
@@ -37,9 +53,9 @@ fn takes<R: Wait + Abort>(
 #[test]
 fn items_come_in_order_with_their_lanes(rt: HostRuntime) -> Result<(), Fail> {
     let (mut givers, mut gatherer) = fan_in(rt.alloc(), 8)?;
-    gives(&rt, &mut givers[0], 10, Ok(()));
-    gives(&rt, &mut givers[2], 20, Ok(()));
-    gives(&rt, &mut givers[0], 11, Ok(()));
+    gives_at(&rt, &gatherer, &mut givers, 0, 10);
+    gives_at(&rt, &gatherer, &mut givers, 2, 20);
+    gives_at(&rt, &gatherer, &mut givers, 0, 11);
     takes(&rt, &mut gatherer, Ok((0, 10)));
     takes(&rt, &mut gatherer, Ok((2, 20)));
     takes(&rt, &mut gatherer, Ok((0, 11)));
@@ -70,8 +86,8 @@ fn the_gatherer_is_gone(rt: HostRuntime) -> Result<(), Fail> {
 #[test]
 fn all_givers_are_gone(rt: HostRuntime) -> Result<(), Fail> {
     let (mut givers, mut gatherer) = fan_in(rt.alloc(), 8)?;
-    gives(&rt, &mut givers[3], 30, Ok(()));
-    gives(&rt, &mut givers[1], 10, Ok(()));
+    gives_at(&rt, &gatherer, &mut givers, 3, 30);
+    gives_at(&rt, &gatherer, &mut givers, 1, 10);
     drop(givers);
     takes(&rt, &mut gatherer, Ok((3, 30)));
     takes(&rt, &mut gatherer, Ok((1, 10)));
@@ -194,7 +210,7 @@ fn refused_memory_is_told(rt: HostRuntime) -> Result<(), Fail> {
         Ok(ends) => ends,
         Err(Memory) => fan_in(rt.alloc(), 2)?,
     };
-    gives(&rt, &mut givers[1], 5, Ok(()));
+    gives_at(&rt, &gatherer, &mut givers, 1, 5);
     takes(&rt, &mut gatherer, Ok((1, 5)));
     Ok(())
 }
