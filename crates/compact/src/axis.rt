@@ -26,6 +26,16 @@ pub enum Axis {
     Y,
 }
 
+/// The direction in which an axis grows, in quarter turns from east.
+fn growth_of(axis: Axis) -> u8
+    ensures { result ≡ growth axis }
+{
+    match axis {
+        Axis::X => 0,
+        Axis::Y => 1,
+    }
+}
+
 /// How much the number of a dart's head is at least above that of its tail, for darts of this direction.
 /// None for darts against the axis: their reverses say it.
 fn least_difference(axis: Axis, direction: Direction) -> Option<u8>
@@ -64,17 +74,15 @@ fn constraints_along(
 /// Whether these numbers of a dart's tail and head are in the order that its direction asks for. So they are
 /// for a dart against the axis, whose reverse is asked.
 ///
-/// It is one comparison, so that no branch is taken by a direction, which cannot be foreseen.
+/// It compares sums, so that no branch hangs on a direction, which cannot be foreseen.
 fn is_kept(axis: Axis, direction: Direction, tail: u16, head: u16) -> bool
     ensures forward { IsTrue result → quarters direction ≡ growth axis → tail + 1 ≤ head }
     ensures across { IsTrue result → quarters direction ≢ growth axis → quarters direction ≢ growth axis + 2 → tail ≤ head }
 {
-    let (least, spare) = match (axis, direction) {
-        (Axis::X, Direction::East) | (Axis::Y, Direction::North) => (1, 0),
-        (Axis::X, Direction::West) | (Axis::Y, Direction::South) => (0, MAX_COORDINATE),
-        (Axis::X, Direction::North | Direction::South)
-        | (Axis::Y, Direction::East | Direction::West) => (0, 0),
-    };
+    let ahead = growth_of(axis);
+    let way = direction.quarters();
+    let least = u32::from(way == ahead);
+    let spare = u32::from(way == ahead + 2) * MAX_COORDINATE;
     u32::from(tail) + least <= u32::from(head) + spare
 }
 

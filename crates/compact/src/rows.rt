@@ -87,24 +87,22 @@ impl RowQueue {
                 break;
             };
             state.row = first;
-            if steps.next(vertex, steps.behind) != NO_VERTEX {
-                waits = waits.saturating_add(1);
-            }
+            let is_led_to = steps.next(vertex, steps.behind) != NO_VERTEX;
+            waits = waits.saturating_add(u32::from(is_led_to));
             vertex = steps.next(vertex, steps.left);
         }
         if let Some(state) = self.states.get_mut(first as usize) {
             state.waits = waits;
         }
-        if waits == 0 {
-            self.put_last(first);
-        }
+        self.put_last(first, waits == 0);
     }
 
-    /// Puts the row with this first vertex behind all others.
-    fn put_last(&mut self, first: u32) {
+    /// Puts the row with this first vertex behind all others, if it is to come now. The place behind them is
+    /// written in any case: which rows come cannot be foreseen, so no branch is to hang on it.
+    fn put_last(&mut self, first: u32, comes: bool) {
         if let Some(state) = self.states.get_mut(self.count) {
             state.queued = first;
-            self.count = self.count.saturating_add(1);
+            self.count = self.count.saturating_add(usize::from(comes));
         }
     }
 
@@ -114,9 +112,8 @@ impl RowQueue {
             && let Some(row) = self.states.get_mut(state.row as usize)
         {
             row.waits = row.waits.saturating_sub(1);
-            if row.waits == 0 {
-                self.put_last(state.row);
-            }
+            let comes = row.waits == 0;
+            self.put_last(state.row, comes);
         }
     }
 
@@ -144,9 +141,8 @@ fn raise(around: &[u32], way: u8, least: u8, from: u32, numbers: &mut [u16]) -> 
         return None;
     }
     let need = (u32::from(numbers[from as usize]) + u32::from(least)).min(MAX_COORDINATE) as u16;
-    if numbers[to as usize] < need {
-        numbers[to as usize] = need;
-    }
+    // It is written in any case: whether it is raised cannot be foreseen, so no branch is to hang on it.
+    numbers[to as usize] = numbers[to as usize].max(need);
     Some(to)
 }
 
