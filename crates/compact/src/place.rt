@@ -72,7 +72,7 @@ fn corners_of(
 /// # Errors
 ///
 /// `Wide` where no numbers in the order of the darts are all at most 65,535; `Memory` where there is
-/// none for the constraints, the numbers or the points.
+/// none for the steps, the numbers, the rows, the constraints or the points.
 pub fn compact(alloc: Global, boxes: &Boxes) -> Result<Points, CompactFault>
     ensures laid { IfOk result (AreLaidOut boxes.now) }
     ensures fault { IfErr result (IsCompactFault boxes.now) }

@@ -1,8 +1,8 @@
-//! What a stage of a lane gives to the next one.
+//! What a stage of a lane gives to the next one, and the last one to the fan.
 
 use streams::Mark;
 
-/// A message between two stages of a lane.
+/// A message of a stage of a lane: to the next one, or from the last one to the calling thread.
 #[derive(Drop)]
 pub enum Message<T: Drop> {
     /// What is known so far of one record.

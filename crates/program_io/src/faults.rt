@@ -8,7 +8,8 @@ use thiserror::Error;
 /// Why there is no whole report. The text of each is what the program prints of it behind its own name.
 #[derive(Clone, Copy, Debug, PartialEq, Eq, Error)]
 pub enum Fault {
-    /// There was no memory for the words after the program's name, for help on them, or to open a file.
+    /// There was no memory for the words after the program's name, for the text that helps with them or refuses
+    /// them, or to open a file.
     #[error("out of memory")]
     Memory,
     /// The words after the program's name are no text.

@@ -2,7 +2,7 @@
 
 use thiserror::Error;
 
-/// Why a run gives no result. The text of each is the line that the program prints.
+/// Why a run gives no result. The text of each is what the program prints of it behind its own name.
 #[derive(Clone, Copy, Debug, PartialEq, Eq, Error)]
 pub enum BatchFault {
     /// More than 256 files were named.

@@ -48,7 +48,7 @@ impl Lines {
     ///
     /// # Errors
     ///
-    /// `AllocError` where there is no memory to keep so many files.
+    /// `AllocError` where there is no memory to keep so many files, or for the first line.
     pub fn new(alloc: Global, form: Form, choice: Choice, files: u32) -> Result<Lines, AllocError>
         ensures held { IfOk result (λ lines. (start : Option (List ℕ)) → LinesHold start start lines []) }
         ensures form { IfOk result (λ lines. form_of lines ≡ form) }
