@@ -71,16 +71,11 @@ fn expect_triangle(rt: &impl Abort, boxes: &Boxes) -> Result<(), Fail> {
     }
     let front = boxes.before(1).ok_or("the edge from 1 to 3 has no turn")?;
     same(rt, boxes.path(1), [front, 1].as_slice());
-    expect_turn(rt, boxes, front);
-    Ok(())
-}
-
-/// A new dart in front of dart 1 leads to a new vertex, from which dart 1 turns to the left.
-fn expect_turn(rt: &impl Abort, boxes: &Boxes, front: u32) {
-    assert!(rt; boxes.darts() > 1 && front < boxes.darts());
+    assert!(rt; front < boxes.darts());
     assert!(rt; 2 < boxes.head(front));
     same(rt, boxes.direction(1), boxes.direction(front).left());
     same(rt, boxes.before(front), None);
+    Ok(())
 }
 
 /// The boxes of a straight edge.

@@ -6,7 +6,7 @@ use drawing_check::check;
 use embedding::Graph;
 use faces::Plane;
 use ortho_rep::{Points, Shape, Turn, is_shape};
-use planar_code::{Framer, HEADER, Record};
+use planar_code::Record;
 use std::alloc::{AllocError, Global};
 use std::fmt::Debug;
 use std::process::Abort;
@@ -21,18 +21,9 @@ pub(crate) const EDGE: [u8; 5] = [2, 2, 0, 1, 0];
 
 pub(crate) const TRIANGLE: [u8; 10] = [3, 2, 3, 0, 3, 1, 0, 1, 2, 0];
 
-/// The record of these bytes, if they are one and there is memory.
-fn record_in(alloc: Global, bytes: &[u8]) -> Option<Record> {
-    let mut framer = Framer::new(alloc).ok()?;
-    let mut records = Vec::new(alloc);
-    framer.feed(alloc, &HEADER, &mut records).ok()?;
-    framer.feed(alloc, bytes, &mut records).ok()?;
-    records.pop()
-}
-
 /// The plane of these bytes, if they are a record of one and there is memory.
 pub(crate) fn plane_in(alloc: Global, bytes: &[u8]) -> Option<Plane> {
-    let record = record_in(alloc, bytes)?;
+    let record = Record::parse(alloc, bytes).ok()?;
     let graph = Graph::read(alloc, &record).ok()?;
     Plane::trace(alloc, graph).ok()
 }

@@ -24,17 +24,15 @@ fn expect_same_darts(rt: &impl Abort, one: &Boxes, other: &Boxes) {
     }
 }
 
-/// The vertices of the plane are the same in two dissections.
-fn expect_same_old(rt: &impl Abort, one: &Boxes, other: &Boxes) {
-    assert_eq!(rt; one.old_vertices(), other.old_vertices());
+/// The vertices and edges of the plane are the same in two dissections, and edges run along the same darts.
+fn expect_same_plane(rt: &impl Abort, one: &Boxes, other: &Boxes) {
+    assert_eq!(rt;
+        (one.old_vertices(), one.edges()),
+        (other.old_vertices(), other.edges())
+    );
     for before in 0..one.old_vertices() {
         same(rt, one.old(before + 1), other.old(before + 1));
     }
-}
-
-/// The edges of the plane are the same in two dissections, and run along the same darts.
-fn expect_same_paths(rt: &impl Abort, one: &Boxes, other: &Boxes) {
-    assert_eq!(rt; one.edges(), other.edges());
     for edge in 0..one.edges() {
         same(rt, one.lesser_dart(edge), other.lesser_dart(edge));
         same(rt, one.path(edge), other.path(edge));
@@ -44,8 +42,7 @@ fn expect_same_paths(rt: &impl Abort, one: &Boxes, other: &Boxes) {
 /// Two dissections are the same.
 pub(crate) fn expect_same_boxes(rt: &impl Abort, one: &Boxes, other: &Boxes) {
     expect_same_darts(rt, one, other);
-    expect_same_old(rt, one, other);
-    expect_same_paths(rt, one, other);
+    expect_same_plane(rt, one, other);
 }
 
 /// The boxes of the triangle, by the second call where the first finds no memory; nothing where memory is
