@@ -20,7 +20,7 @@ impl Keep for Entries {
 
     ghost kept = { λ e. map (λ entry. Item (about_of entry)) e.entries.items };
 
-    ghost keeps = { λ _ _. ⊤ };
+    ghost stays = { λ _ _. ⊤ };
 
     fn keep(
         &mut self,
@@ -35,7 +35,7 @@ impl Keep for Entries {
         Ok(())
     }
 
-    ghost keeps_itself = { λ _. tt };
+    ghost stays_itself = { λ _. tt };
 
-    ghost keeps_on = { λ _ _ _ _ _. tt };
+    ghost stays_on = { λ _ _ _ _ _. tt };
 }

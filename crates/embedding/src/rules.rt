@@ -12,7 +12,7 @@ pub enum Rule {
     Loop,
     /// Some list names a neighbour twice.
     Multi,
-    /// Some vertex stands in a list, and the list's vertex does not stand in its own.
+    /// Some vertex v stands in the list of a vertex u, and u does not stand in the list of v.
     Asymmetric,
     /// All lists are empty.
     Edgeless,

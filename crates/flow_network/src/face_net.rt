@@ -55,7 +55,7 @@ impl FaceNet {
     }
 
     /// The same as [`FaceNet::build`], in memory that is lent. The network takes its lists with it; they can be
-    /// given back by [`FaceNet::give_back`].
+    /// given back by [`FaceNet::give_back`]. After a refusal lists that were lent may be gone.
     pub fn build_in(
         alloc: Global,
         scratch: &mut Scratch,
@@ -108,7 +108,7 @@ impl FaceNet {
         self.network.shift(from, to, 8);
     }
 
-    /// The number of the arc that carries the angle of a dart, less one.
+    /// The number of the arc that carries one less than the angle of a dart.
     pub fn corner_arc(&self, dart: u16) -> u32
         ensures { result ≡ dart }
     {

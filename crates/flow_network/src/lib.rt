@@ -1,4 +1,5 @@
-//! The flow network of a plane, whose flows are its orthogonal representations.
+//! The flow network of a plane: each flow gives an orthogonal representation with as many bends as it costs,
+//! and each representation gives a flow.
 #![tactic(auto)]
 
 mod face_net;

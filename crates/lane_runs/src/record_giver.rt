@@ -29,7 +29,7 @@ impl<R: Wait, G: Gate, L: LaneKind> Keep for RecordGiver<'_, '_, R, G, L> {
 
     ghost kept = { λ g. notes L.Framed.about (given g.giver) };
 
-    ghost keeps = { λ a b. GivesToSame a.giver b.giver };
+    ghost stays = { λ a b. GivesToSame a.giver b.giver };
 
     fn keep(
         &mut self,
@@ -47,7 +47,7 @@ impl<R: Wait, G: Gate, L: LaneKind> Keep for RecordGiver<'_, '_, R, G, L> {
         }
     }
 
-    ghost keeps_itself = { λ x. refl };
+    ghost stays_itself = { λ x. refl };
 
-    ghost keeps_on = { λ x y z p q. q ∙ p };
+    ghost stays_on = { λ x y z p q. q ∙ p };
 }

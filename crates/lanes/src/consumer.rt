@@ -20,14 +20,14 @@ pub trait Consumer<E: Numbered>: Drop {
 
     ghost gave_up: { Self → Self.Refusal → Type 0 };
 
-    /// Takes in an item.
+    /// Takes in an item. Where it refuses, for a reason of its own, no more is gathered.
     fn item(&mut self, item: E) -> Result<(), Self::Refusal>
         requires { (ns : List Note) × holds self.old ns }
         ensures taken { OnOk result ((ns : List Note) → holds self.old ns → holds self.new (ns ++ Item (E.about item) ∷ [])) }
         ensures gave_up { IfErr result (λ refusal. gave_up self.new refusal) }
         ensures stays { stays self.old self.new };
 
-    /// Takes in that a file has ended with this mark.
+    /// Takes in that a file has ended with this mark. It refuses as `item` does.
     fn end(&mut self, file: u32, mark: Mark) -> Result<(), Self::Refusal>
         requires { (ns : List Note) × holds self.old ns }
         ensures taken { OnOk result ((ns : List Note) → holds self.old ns → holds self.new (ns ++ End file mark ∷ [])) }

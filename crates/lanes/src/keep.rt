@@ -17,9 +17,10 @@ pub trait Keep {
 
     ghost kept: { Self → List Note };
 
-    ghost keeps: { Self → Self → Type 0 };
+    ghost stays: { Self → Self → Type 0 };
 
-    /// Keeps a record, which has this place in this file, with this choice of the outer face.
+    /// Keeps a record, which has this place in this file, with this choice of the outer face. Where it refuses,
+    /// for a reason of its own, the file is read no further.
     fn keep(
         &mut self,
         alloc: Global,
@@ -30,10 +31,10 @@ pub trait Keep {
     ) -> Result<(), Self::Refusal>
         ensures kept { OnOk result (kept self.new ≡ kept self.old
             ++ Item (record { file = file; ordinal = ordinal; bytes = rec; choice = choice }) ∷ []) }
-        ensures stays { keeps self.old self.new };
+        ensures stays { stays self.old self.new };
 
     // What stays, stays over any calls.
-    ghost keeps_itself: { (x : Self) → keeps x x };
+    ghost stays_itself: { (x : Self) → stays x x };
 
-    ghost keeps_on: { (x y z : Self) → keeps x y → keeps y z → keeps x z };
+    ghost stays_on: { (x y z : Self) → stays x y → stays y z → stays x z };
 }

@@ -23,7 +23,7 @@ impl<K: Keep> Receiver for Places<'_, K> {
     ghost received = { λ first records x y. AreOfSame x.choice x.file y.choice y.file
         × KeepsRecords x.choice x.file first records (K.kept x.keep.now) (K.kept y.keep.now) };
 
-    ghost stays = { λ x y. (x.keep.ghost_name ≡ y.keep.ghost_name) × K.keeps x.keep.now y.keep.now };
+    ghost stays = { λ x y. (x.keep.ghost_name ≡ y.keep.ghost_name) × K.stays x.keep.now y.keep.now };
 
     fn receive(
         &mut self,
@@ -46,7 +46,7 @@ impl<K: Keep> Receiver for Places<'_, K> {
 
     ghost received_on = { λ records others x y z p q. (same_on _ _ _ _ _ _ p.0 q.0, keeps_on _ _ _ _ _ _ _ _ _ p.0 p.1 q.1) };
 
-    ghost stays_itself = { λ x. (refl, K.keeps_itself _) };
+    ghost stays_itself = { λ x. (refl, K.stays_itself _) };
 
-    ghost stays_on = { λ x y z p q. (p.0 ∙ q.0, K.keeps_on _ _ _ p.1 q.1) };
+    ghost stays_on = { λ x y z p q. (p.0 ∙ q.0, K.stays_on _ _ _ p.1 q.1) };
 }

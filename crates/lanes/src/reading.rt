@@ -31,7 +31,7 @@ pub fn read_file<O: Opener, K: Keep>(
     requires { 0 < length buffer.old }
     ensures kept { IfOk result (λ mark.
         KeepsFile choice (O.meaning opener.now file) file (K.kept keep.old) (K.kept keep.new) mark) }
-    ensures stays { K.keeps keep.old keep.new }
+    ensures stays { K.stays keep.old keep.new }
 {
     match opener.open(alloc, file) {
         Ok(source) => read_open(source, alloc, file, choice, buffer, keep),
@@ -52,7 +52,7 @@ fn read_open<T: Tap, K: Keep>(
     requires { 0 < length buffer.old }
     ensures kept { IfOk result (λ mark.
         KeepsSource choice (T.to_come source) (T.fails source) file (K.kept keep.old) (K.kept keep.new) mark) }
-    ensures stays { K.keeps keep.old keep.new }
+    ensures stays { K.stays keep.old keep.new }
 {
     let mut places = Places { keep, file, choice };
     read_source(source, alloc, buffer, &mut places)

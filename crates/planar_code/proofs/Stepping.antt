@@ -4,8 +4,8 @@ use Rattle.std.proofs.lemmas.List.{take-append-drop}
 use Rattle.planar_code.specs.declared.TheConstants.{HEADER, MAX_RECORDS}
 use Rattle.planar_code.specs.declared.fault.FeedFault.{FeedFault}
 use Rattle.planar_code.specs.declared.fault.FeedFault.TheVariants as fault
-use Rattle.planar_code.specs.declared.framer.Stage.{Stage}
-use Rattle.planar_code.specs.declared.framer.Stage.TheVariants as stage
+use Rattle.planar_code.specs.declared.framer.Part.{Part}
+use Rattle.planar_code.specs.declared.framer.Part.TheVariants as part
 use Rattle.planar_code.specs.Stream.{IsUnfinished}
 use Rattle.planar_code.specs.Scan.{TakesFrom}
 use Rattle.planar_code.specs.Place.{Place, Early, After, Goes, IsRunning}
@@ -25,7 +25,7 @@ some-text : (text : List ℕ) → 0 < length text → text ≢ []
 some-text text some e = omega (arith, ap length e)
 
 -- one byte of the header, not the last
-pub step-early : (passed records : ℕ) (rest text : List ℕ) → IsBefore (stage.Header passed) records rest → 0 < length text → (passed + 1 ≡ 15 → ⊥) → get_or text 0 0 ≡ get_or HEADER passed 0 → Steps (place_at (stage.Header passed) records rest) text (place_at (stage.Header (passed + 1)) records rest) (Ok (1, None))
+pub step-early : (passed records : ℕ) (rest text : List ℕ) → IsBefore (part.Header passed) records rest → 0 < length text → (passed + 1 ≡ 15 → ⊥) → get_or text 0 0 ≡ get_or HEADER passed 0 → Steps (place_at (part.Header passed) records rest) text (place_at (part.Header (passed + 1)) records rest) (Ok (1, None))
 step-early passed records rest text before some short same =
     let room = before.0 in (
       omega arith,
@@ -35,7 +35,7 @@ step-early passed records rest text before some short same =
     )
 
 -- the last byte of the header
-pub step-headed : (passed records : ℕ) (rest text : List ℕ) → IsBefore (stage.Header passed) records rest → 0 < length text → passed + 1 ≡ 15 → get_or text 0 0 ≡ get_or HEADER passed 0 → Steps (place_at (stage.Header passed) records rest) text (place_at stage.Records records rest) (Ok (1, None))
+pub step-headed : (passed records : ℕ) (rest text : List ℕ) → IsBefore (part.Header passed) records rest → 0 < length text → passed + 1 ≡ 15 → get_or text 0 0 ≡ get_or HEADER passed 0 → Steps (place_at (part.Header passed) records rest) text (place_at part.Records records rest) (Ok (1, None))
 step-headed passed records rest text before some last same =
     let place : After 0 [] ≡ After records rest = ap (λ n. After n []) (sym before.1) ∙ ap (λ z. After records z) (sym before.2) in (
       omega arith,
@@ -46,7 +46,7 @@ step-headed passed records rest text before some last same =
     )
 
 -- a byte that is not the header's
-pub step-header : (passed records : ℕ) (rest text : List ℕ) (new : Place) → IsBefore (stage.Header passed) records rest → 0 < length text → (get_or text 0 0 ≡ get_or HEADER passed 0 → ⊥) → Steps (place_at (stage.Header passed) records rest) text new (Err fault.Header)
+pub step-header : (passed records : ℕ) (rest text : List ℕ) (new : Place) → IsBefore (part.Header passed) records rest → 0 < length text → (get_or text 0 0 ≡ get_or HEADER passed 0 → ⊥) → Steps (place_at (part.Header passed) records rest) text new (Err fault.Header)
 step-header passed records rest [] new before some other = absurd (omega arith)
 step-header passed records rest (x ∷ text) new before some other = fails_header passed x text before.0 other
 
@@ -93,12 +93,12 @@ step-fault records rest text taken new fault.Memory room t = record {
 step-fault records rest text taken new fault.Many room t = absurd t
 
 -- the same, said of a framer's fields
-pub at-records : (s : Stage) (count next_count : ℕ) (rest next_rest text : List ℕ) (old : Place) (result : Result (ℕ × Option (List ℕ)) FeedFault) → s ≡ stage.Records → place_at s count rest ≡ old → Steps (After count rest) text (After next_count next_rest) result → Steps old text (place_at s next_count next_rest) result
+pub at-records : (s : Part) (count next_count : ℕ) (rest next_rest text : List ℕ) (old : Place) (result : Result (ℕ × Option (List ℕ)) FeedFault) → s ≡ part.Records → place_at s count rest ≡ old → Steps (After count rest) text (After next_count next_rest) result → Steps old text (place_at s next_count next_rest) result
 at-records s count next_count rest next_rest text old result e view h =
     subst (λ p. Steps p text (place_at s next_count next_rest) result) view
     (subst (λ z. Steps (place_at z count rest) text (place_at z next_count next_rest) result) (sym e) h)
 
-pub at-header : (s : Stage) (passed count : ℕ) (rest text : List ℕ) (old new : Place) (result : Result (ℕ × Option (List ℕ)) FeedFault) → s ≡ stage.Header passed → place_at s count rest ≡ old → Steps (place_at (stage.Header passed) count rest) text new result → Steps old text new result
+pub at-header : (s : Part) (passed count : ℕ) (rest text : List ℕ) (old new : Place) (result : Result (ℕ × Option (List ℕ)) FeedFault) → s ≡ part.Header passed → place_at s count rest ≡ old → Steps (place_at (part.Header passed) count rest) text new result → Steps old text new result
 at-header s passed count rest text old new result e view h =
     subst (λ p. Steps p text new result) view
     (subst (λ z. Steps (place_at z count rest) text new result) (sym e) h)

@@ -15,7 +15,7 @@ use std::marker::Model;
 
 /// Which part of the stream comes next.
 #[derive(Clone, Copy, Debug)]
-enum Stage {
+enum Part {
     /// The header, of which so many bytes have passed.
     Header { passed: usize },
     /// Records.
@@ -30,7 +30,7 @@ enum Stage {
 /// it has come, then how many records there were and the bytes of the open one, or its fault.
 #[derive(Debug, Drop)]
 pub struct Framer {
-    stage: Stage,
+    part: Part,
     records: u32,
     current: OpenRecord,
 }
@@ -73,7 +73,7 @@ impl Framer {
         ensures stands { IfOk result (λ framer. StandsAt [] [] framer) }
     {
         Ok(Framer {
-            stage: Stage::Header { passed: 0 },
+            part: Part::Header { passed: 0 },
             records: 0,
             current: OpenRecord::new(alloc)?,
         })
@@ -86,20 +86,20 @@ impl Framer {
         requires running { IsRunning self.old }
         ensures { Steps self.old text.now self.new result }
     {
-        match self.stage {
-            Stage::Failed(fault) => Err(fault),
-            Stage::Header { passed } => {
+        match self.part {
+            Part::Failed(fault) => Err(fault),
+            Part::Header { passed } => {
                 if text[0] != HEADER[passed] {
                     return Err(FeedFault::Header);
                 }
-                self.stage = if passed + 1 == HEADER.len() {
-                    Stage::Records
+                self.part = if passed + 1 == HEADER.len() {
+                    Part::Records
                 } else {
-                    Stage::Header { passed: passed + 1 }
+                    Part::Header { passed: passed + 1 }
                 };
                 Ok((1, None))
             }
-            Stage::Records => {
+            Part::Records => {
                 if self.records == MAX_RECORDS {
                     return Err(FeedFault::Many);
                 }
@@ -183,13 +183,13 @@ impl Framer {
             → StandsAt stream records self.old
             → length records + length out.new.items ≤ MAX_RECORDS + length out.old.items }
     {
-        if let Stage::Failed(fault) = self.stage {
+        if let Part::Failed(fault) = self.part {
             return Err(fault);
         }
         match self.read(alloc, piece, out) {
             Ok(()) => Ok(()),
             Err(fault) => {
-                self.stage = Stage::Failed(fault);
+                self.part = Part::Failed(fault);
                 Err(fault)
             }
         }
@@ -204,11 +204,11 @@ impl Framer {
             → IsSplit stream records result }
         ensures failed { (fault : FeedFault) → self ≡ Failed fault → result ≡ ending_of fault }
     {
-        match self.stage {
-            Stage::Header { .. } => Ending::Header,
-            Stage::Records if self.current.is_empty() => Ending::Complete,
-            Stage::Records => Ending::Truncated,
-            Stage::Failed(fault) => Ending::from(fault),
+        match self.part {
+            Part::Header { .. } => Ending::Header,
+            Part::Records if self.current.is_empty() => Ending::Complete,
+            Part::Records => Ending::Truncated,
+            Part::Failed(fault) => Ending::from(fault),
         }
     }
 }

@@ -139,7 +139,7 @@ impl Tickets {
         None
     }
 
-    /// The word at the end, which is how many numbers were drawn and how many seats have ended. The
+    /// The word at the end: the sum of how many numbers were drawn and how many seats have ended. The
     /// numbers drawn are those below it and the limit, each once. It takes no memory and waits for
     /// nothing.
     pub fn close(self, seats: Vec<Seat>) -> u32

@@ -103,7 +103,7 @@ Serves arcs p q cut u k = IsOpen arcs k → (q u +ℤ cost_at arcs k -ℤ p (end
 pub record IsServed (n : ℕ) (first : List ℕ) (arcs : List ResidualArc) (p q : ℕ → ℤ) (place : ℕ → ℕ) (cut : ℤ) (h : ℕ) : Type 0 where
   pub served : (u k : ℕ) → u < n → q u <ℤ far → place u < h → StartsAt first u k → Serves arcs p q cut u k
 
--- nodes that were not scanned are no nearer than cut
+-- nodes that were reached and not scanned are no nearer than cut
 abbrev pub IsLeft : ℕ → (ℕ → ℤ) → (ℕ → ℤ) → (ℕ → ℕ) → ℕ → ℤ → Type 0
 IsLeft n p q place head cut = (v : ℕ) → v < n → q v <ℤ far → head ≤ place v → cut ≤ℤ (q v -ℤ p v)
 

@@ -15,7 +15,8 @@ use networks::look;
 /// where open residual arcs lead to no such node, `cut` is `FAR`. A node's label is the source's
 /// potential and the costs of the residual arcs on the way; less its own potential it is its distance.
 /// Each node that was reached has the residual arc on which it was entered, and a place in the order,
-/// the source the first. Those before `head` were scanned, and all others are no nearer than `cut`.
+/// the source the first. Those before `head` were scanned, and the others that were reached are no nearer
+/// than `cut`.
 ///
 /// It looks at each residual arc once at most, and takes no memory. Beside that it goes over the nodes
 /// that were reached and wait, for each distance that it comes to.

@@ -40,11 +40,11 @@ impl Keep for Shelf {
 
     ghost kept = { λ s. map (λ r. Item (record { file = r.file; ordinal = r.ordinal; bytes = r.rec; choice = r.choice })) s.records.items };
 
-    ghost keeps = { λ _ _. ⊤ };
+    ghost stays = { λ _ _. ⊤ };
 
-    ghost keeps_itself = { λ _. tt };
+    ghost stays_itself = { λ _. tt };
 
-    ghost keeps_on = { λ _ _ _ _ _. tt };
+    ghost stays_on = { λ _ _ _ _ _. tt };
 
     fn keep(
         &mut self,

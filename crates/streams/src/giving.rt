@@ -16,12 +16,12 @@ use std::sync::Wait;
 
 /// Gives the records of a source, those of a piece in one message.
 #[derive(Drop)]
-struct RecordGiver<'r, R> {
+struct PieceGiver<'r, R> {
     rt: &'r R,
     giver: Giver<ReadMessage>,
 }
 
-impl<R: Wait> Receiver for RecordGiver<'_, R> {
+impl<R: Wait> Receiver for PieceGiver<'_, R> {
     type Refusal = Closed<ReadMessage>;
 
     ghost received = { λ first records x y. (earlier : List (List ℕ))
@@ -65,7 +65,7 @@ pub fn give_all<R: Wait, T: Tap>(
     requires none { given giver ≡ [] }
     ensures { GivesBack (T.to_come source) (T.fails source) giver result }
 {
-    let mut gives = RecordGiver { rt, giver };
+    let mut gives = PieceGiver { rt, giver };
     let mark = match read_source(source, alloc, buffer.as_mut_slice(), &mut gives) {
         Ok(mark) => mark,
         Err(_) => return None,

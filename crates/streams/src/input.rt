@@ -17,7 +17,8 @@ pub trait Tap: Drop {
     ghost fails: { Self → Bool };
 
     /// Puts the next bytes at the beginning of `buf` and answers how many. With room in `buf`, 0 is
-    /// the end of the source. After a fault `buf` may hold any bytes.
+    /// the end of the source. `TapFault` where the source failed before it gave any; `buf` may then hold
+    /// any bytes.
     fn read(&mut self, buf: &mut [u8]) -> Result<usize, TapFault>
         ensures bound { IfOk result (λ n. n ≤ length buf.new) }
         ensures given { IfOk result (λ n. Consumes (to_come self.old) (to_come self.new) (take n buf.new)) }

@@ -17,7 +17,8 @@ pub trait Receiver {
 
     ghost stays: { Self → Self → Type 0 };
 
-    /// Takes all records out of the list, in order. The first of them has this place in the source.
+    /// Takes all records out of the list, in order. The first of them has this place in the source. Where it
+    /// refuses, for a reason of its own, the source is read no further.
     fn receive(
         &mut self,
         alloc: Global,

@@ -13,5 +13,5 @@ loop-rec-preserved g c =
       same = search rules;
       kept = kept_next _ _ _ _ _ _ _ _ _ inv.next inv.kept (kept_as _ _ _ _ _ _ _ _ inv.same c.in-Ok.ensures.kept);
       name = search rules;
-      stays = g.met.K.Keep.keeps_on _ _ _ inv.stays c.in-Ok.ensures.stays;
+      stays = g.met.K.Keep.stays_on _ _ _ inv.stays c.in-Ok.ensures.stays;
     }

@@ -12,5 +12,5 @@ invariant-loop-rec g l = record {
   same : AreOfSame l.initial.self.choice l.initial.self.file l.self.choice l.self.file;
   kept : KeepsRecords l.initial.self.choice l.initial.self.file l.fn.first l.yielded (g.K.Keep.kept l.initial.self.keep.now) (g.K.Keep.kept l.self.keep.now);
   name : l.initial.self.keep.ghost_name ≡ l.self.keep.ghost_name;
-  stays : g.K.Keep.keeps l.initial.self.keep.now l.self.keep.now;
+  stays : g.K.Keep.stays l.initial.self.keep.now l.self.keep.now;
 }
