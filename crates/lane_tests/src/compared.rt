@@ -2,8 +2,15 @@
 
 use std::fmt::Debug;
 use std::process::Abort;
+use std::thread::{JoinHandle, Threads};
 
 /// Sees that two values are the same.
 pub(crate) fn same<T: PartialEq + Debug + Drop>(rt: &impl Abort, got: T, want: T) {
     assert_eq!(rt; got, want);
+}
+
+/// Waits for a thread, whose number is to be one of these two or between them.
+pub(crate) fn joins<R: Threads + Abort>(rt: &R, child: JoinHandle<u32>, least: u32, most: u32) {
+    let number = child.join(rt);
+    same(rt, number.max(least).min(most), number);
 }

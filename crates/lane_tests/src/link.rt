@@ -1,8 +1,7 @@
 ghost use Rattle.std.specs.Prelude.{◌≤◌};
 ghost use Rattle.ruled_lanes.specs.declared.limits.TheConstants.{MAX_CAPACITY};
-ghost use Rattle.ruled_lanes.specs.LinkEnds.{GivesToSame, TakesFromSame};
 
-use crate::compared::same;
+use crate::compared::{joins, same};
 use ruled_lanes::{Closed, Giver, MAX_CAPACITY, Memory, Taker, link};
 use std::alloc::Global;
 use std::process::Abort;
@@ -11,55 +10,12 @@ use std::test::*;
 use std::thread;
 use std::thread::Threads;
 
-// Gives an item, and sees what the answer is.
-fn gives<R: Wait + Abort>(
-    rt: &R,
-    giver: &mut Giver<u32>,
-    item: u32,
-    answer: Result<(), Closed<u32>>,
-)
-    ensures link { GivesToSame giver.old giver.new }
-{
-    same(rt, giver.give(rt, item), answer);
-}
-
-// Takes an item, and sees what the answer is.
-fn takes<R: Wait + Abort>(rt: &R, taker: &mut Taker<u32>, answer: Result<u32, Closed<()>>)
-    ensures link { TakesFromSame taker.old taker.new }
-{
-    same(rt, taker.take(rt), answer);
-}
-
-#[test]
-fn the_giver_is_gone(rt: HostRuntime) -> Result<(), Fail> {
-    let (mut giver, mut taker) = link(rt.alloc(), 4)?;
-    for item in 1..4u32 {
-        gives(&rt, &mut giver, item, Ok(()));
+// Takes the numbers below `count`, and then no more come.
+fn take_below<R: Wait + Abort>(rt: &R, mut taker: Taker<u32>, count: u32) {
+    for item in 0..count {
+        same(rt, taker.take(rt), Ok(item));
     }
-    drop(giver);
-    for item in 1..4u32 {
-        takes(&rt, &mut taker, Ok(item));
-    }
-    takes(&rt, &mut taker, Err(Closed(())));
-    Ok(())
-}
-
-#[test]
-fn the_taker_is_gone(rt: HostRuntime) -> Result<(), Fail> {
-    let (mut giver, taker) = link(rt.alloc(), 4)?;
-    drop(taker);
-    gives(&rt, &mut giver, 7, Err(Closed(7)));
-    Ok(())
-}
-
-#[test]
-fn settled_with_one_held(rt: HostRuntime) -> Result<(), Fail> {
-    let (mut giver, mut taker) = link(rt.alloc(), 2)?;
-    gives(&rt, &mut giver, 5, Ok(()));
-    gives(&rt, &mut giver, 6, Ok(()));
-    takes(&rt, &mut taker, Ok(5));
-    taker.settle(&rt, giver);
-    Ok(())
+    same(rt, taker.take(rt), Err(Closed(())));
 }
 
 // Gives the numbers below `count`, until one is refused: that one, or `count`.
@@ -72,12 +28,18 @@ fn give_below(rt: &impl Wait, mut giver: Giver<u32>, count: u32) -> u32 {
     count
 }
 
-// Takes the numbers below a thousand, and then no more come.
-fn take_all<R: Wait + Abort>(rt: &R, mut taker: Taker<u32>, capacity: u32) {
-    for item in 0..1000 {
-        same(rt, (capacity, taker.take(rt)), (capacity, Ok(item)));
-    }
-    takes(rt, &mut taker, Err(Closed(())));
+#[test]
+fn the_giver_is_gone(rt: HostRuntime) {
+    let (giver, taker) = link(rt.alloc(), 4).expect(&rt, "memory");
+    same(&rt, give_below(&rt, giver, 3), 3);
+    take_below(&rt, taker, 3);
+}
+
+#[test]
+fn the_taker_is_gone(rt: HostRuntime) {
+    let (mut giver, taker) = link(rt.alloc(), 4).expect(&rt, "memory");
+    drop(taker);
+    same(&rt, giver.give(&rt, 7u32), Err(Closed(7)));
 }
 
 // A thousand numbers go from one thread to another.
@@ -85,59 +47,46 @@ fn pass_through<R: Threads + Wait + Abort + Copy + Send + 'static>(
     rt: R,
     alloc: Global,
     capacity: u32,
-) -> Result<(), Fail>
+)
     requires capacity { (1 ≤ capacity) × (capacity ≤ MAX_CAPACITY) }
 {
-    let (giver, taker) = link(alloc, capacity)?;
-    let child = thread::spawn(&rt, move || give_below(&rt, giver, 1000))?;
-    take_all(&rt, taker, capacity);
-    same(&rt, child.join(&rt), 1000);
-    Ok(())
-}
-
-// Sees that the second or the third number was refused.
-fn ends_soon(rt: &impl Abort, refused: u32) {
-    assert!(rt; refused == 1 || refused == 2, "{refused}");
+    let (giver, taker) = link(alloc, capacity).expect(&rt, "memory");
+    let child = thread::spawn(&rt, move || give_below(&rt, giver, 1000)).expect(&rt, "a thread");
+    take_below(&rt, taker, 1000);
+    joins(&rt, child, 1000, 1000);
 }
 
 #[test]
-fn a_giver_that_waits_is_refused(rt: HostRuntime) -> Result<(), Fail> {
-    let (giver, mut taker) = link(rt.alloc(), 1)?;
-    let child = thread::spawn(&rt, move || give_below(&rt, giver, 1000))?;
-    takes(&rt, &mut taker, Ok(0));
+fn a_giver_that_waits_is_refused(rt: HostRuntime) {
+    let (giver, mut taker) = link(rt.alloc(), 1).expect(&rt, "memory");
+    let child = thread::spawn(&rt, move || give_below(&rt, giver, 1000)).expect(&rt, "a thread");
+    same(&rt, taker.take(&rt), Ok(0));
     drop(taker);
-    ends_soon(&rt, child.join(&rt));
-    Ok(())
+    joins(&rt, child, 1, 2);
 }
 
 #[test]
-fn a_thousand_in_order(rt: HostRuntime) -> Result<(), Fail> {
-    pass_through(rt, rt.alloc(), 1)?;
-    pass_through(rt, rt.alloc(), 2)?;
-    pass_through(rt, rt.alloc(), MAX_CAPACITY)
+fn a_thousand_in_order(rt: HostRuntime) {
+    for capacity in [1, 2, MAX_CAPACITY] {
+        pass_through(rt, rt.alloc(), capacity);
+    }
 }
 
 /// A refused allocation is told, and a second call makes the link.
 #[test]
-fn refused_memory_is_told(rt: HostRuntime) -> Result<(), Fail> {
+fn refused_memory_is_told(rt: HostRuntime) {
     let (mut giver, mut taker) = match link(rt.alloc(), 2) {
         Ok(ends) => ends,
-        Err(Memory) => link(rt.alloc(), 2)?,
+        Err(Memory) => link(rt.alloc(), 2).expect(&rt, "memory"),
     };
-    gives(&rt, &mut giver, 5, Ok(()));
-    takes(&rt, &mut taker, Ok(5));
-    Ok(())
+    same(&rt, giver.give(&rt, 5u32), Ok(()));
+    same(&rt, taker.take(&rt), Ok(5));
 }
 
 #[test]
-fn messages(rt: HostRuntime) -> Result<(), Fail> {
-    let closed = format!(in rt.alloc(); "{} {:?}", Closed(3), Closed(3))?;
-    same(
-        &rt,
-        closed.as_str(),
-        "the other end of the channel is gone Closed(..)",
-    );
-    let memory = format!(in rt.alloc(); "{Memory}")?;
-    same(&rt, memory.as_str(), "out of memory");
-    Ok(())
+fn messages(rt: HostRuntime) {
+    let told = format!(in rt.alloc(); "{} {:?} {Memory}", Closed(3), Closed(3));
+    let told = told.expect(&rt, "memory");
+    let wanted = "the other end of the channel is gone Closed(..) out of memory";
+    same(&rt, told.as_str(), wanted);
 }
