@@ -1,5 +1,5 @@
 -- Numbers in the order of the darts, along each axis, and what the faults say.
-use Rattle.std.specs.Prelude.{◌≡◌, ◌≢◌, ℕ, ◌+◌, ◌<◌, ◌≤◌, List, [], ◌∷◌, map, slice_index_or}
+use Rattle.std.specs.Prelude.{◌≡◌, ◌≢◌, ℕ, ◌+◌, ◌<◌, ◌≤◌, List, [], ◌∷◌, length, map, slice_index, slice_index_or}
 use Rattle.ortho_rep.specs.declared.points.TheConstants.{MAX_COORDINATE}
 use Rattle.cutting.specs.Webs.{Web, IsSound}
 use Rattle.cutting.specs.Paths.{turning_places}
@@ -40,6 +40,13 @@ pub record AreAlong (w : Web) (k : ℕ) (darts : ℕ) (constraints : List Constr
 abbrev pub growth : Axis → ℕ
 growth X = 0
 growth Y = 1
+
+-- the least numbers of the vertices in the order of the darts along an axis, within the grid
+pub record AreLeast (b : BoxesModel) (k : ℕ) (numbers : List ℕ) : Type 0 where
+  pub along : IsAlong (web b) k (λ v. slice_index numbers v)
+  pub least : (y : ℕ → ℕ) → IsAlong (web b) k y → (v : ℕ) → v < b.vertices → slice_index numbers v ≤ y v
+  pub within : AreWithin b.vertices (λ v. slice_index numbers v)
+  pub count : length numbers ≡ b.vertices
 
 -- what a fault says of one axis
 abbrev pub IsAxisFault : BoxesModel → ℕ → CompactFault → Type 0

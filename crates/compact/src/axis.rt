@@ -2,7 +2,7 @@
 
 ghost use Rattle.std.specs.Prelude.{◌≡◌, ◌≢◌, ◌+◌, ◌*◌, length, slice_index, Some, None, IsTrue, IfOk, IfErr, OnOk, ℕ, ◌<◌, ◌≤◌};
 ghost use Rattle.ortho_rep.specs.declared.points.TheConstants.{MAX_COORDINATE};
-ghost use Rattle.compact.specs.Ordered.{IsAlong, AreAlong, AreWithin, IsAcross, IsAxisFault, growth};
+ghost use Rattle.compact.specs.Ordered.{IsAlong, AreAlong, AreLeast, IsAcross, IsAxisFault, IsCompactFault, growth};
 ghost use Rattle.compact.specs.Steps.{AreSteps, AreUnder};
 ghost use Rattle.cutting.specs.Webs.{IsSound};
 ghost use Rattle.directions.specs.Directions.{quarters};
@@ -86,16 +86,23 @@ fn is_kept(axis: Axis, direction: Direction, tail: u16, head: u16) -> bool
     u32::from(tail) + least <= u32::from(head) + spare
 }
 
-/// Whether numbers are in the order of the darts along an axis. A step for each dart.
-fn are_along(boxes: &Boxes, axis: Axis, numbers: &[u16]) -> bool
-    requires count { length numbers.now ≡ boxes.now.vertices }
-    ensures along { IsTrue result → IsAlong (web boxes.now) (growth axis) (λ v. slice_index numbers.now v) }
-    ensures small { (v : ℕ) → v < length numbers.now → slice_index numbers.now v ≤ MAX_COORDINATE }
+/// Whether numbers are in the order of the darts along both axes. A step for each dart.
+fn are_along(boxes: &Boxes, x: &[u16], y: &[u16]) -> bool
+    requires x_count { length x.now ≡ boxes.now.vertices }
+    requires y_count { length y.now ≡ boxes.now.vertices }
+    ensures x_along { IsTrue result → IsAlong (web boxes.now) 0 (λ v. slice_index x.now v) }
+    ensures y_along { IsTrue result → IsAlong (web boxes.now) 1 (λ v. slice_index y.now v) }
+    ensures x_small { (v : ℕ) → v < length x.now → slice_index x.now v ≤ MAX_COORDINATE }
+    ensures y_small { (v : ℕ) → v < length y.now → slice_index y.now v ≤ MAX_COORDINATE }
 {
     for dart in 0..boxes.darts() {
-        let tail = numbers[boxes.tail(dart) as usize];
-        let head = numbers[boxes.head(dart) as usize];
-        if !is_kept(axis, boxes.direction(dart), tail, head) {
+        let direction = boxes.direction(dart);
+        let tail = boxes.tail(dart) as usize;
+        let head = boxes.head(dart) as usize;
+        if !is_kept(Axis::X, direction, x[tail], x[head]) {
+            return false;
+        }
+        if !is_kept(Axis::Y, direction, y[tail], y[head]) {
             return false;
         }
     }
@@ -153,32 +160,20 @@ fn low_along(
     Ok(numbers)
 }
 
-/// The least numbers of the vertices in the order of the darts along an axis, in the memory of the list
-/// that is lent. `around` has the steps from each vertex.
-pub fn numbers_along(
+/// Raises numbers that are nowhere above any in the order of the darts along an axis, until they are in that
+/// order: then they are the least.
+fn settled_along(
     boxes: &Boxes,
-    around: &[u32],
     axis: Axis,
-    numbers: Vec<u16>,
-    queue: &mut RowQueue,
+    mut numbers: Vec<u16>,
     constraints: &mut Vec<Constraint>,
 ) -> Result<Vec<u16>, CompactFault>
-    requires steps { AreSteps (web boxes.now) around.now boxes.now.vertices }
-    requires around { length around.now ≡ 4 * boxes.now.vertices }
-    ensures sound { IfOk result (λ _. IsSound (web boxes.now)) }
-    ensures along { IfOk result (λ numbers. IsAlong (web boxes.now) (growth axis) (λ v. slice_index numbers.items v)) }
-    ensures least { IfOk result (λ numbers. (y : ℕ → ℕ) → IsAlong (web boxes.now) (growth axis) y
-        → (v : ℕ) → v < boxes.now.vertices → slice_index numbers.items v ≤ y v) }
-    ensures within { IfOk result (λ numbers. AreWithin boxes.now.vertices (λ v. slice_index numbers.items v)) }
-    ensures count { IfOk result (λ numbers. length numbers.items ≡ boxes.now.vertices) }
+    requires sound { IsSound (web boxes.now) }
+    requires count { length numbers.items ≡ boxes.now.vertices }
+    requires under { (y : ℕ → ℕ) → IsAlong (web boxes.now) (growth axis) y → AreUnder boxes.now.vertices numbers.items y }
+    ensures along { IfOk result (λ numbers. AreLeast boxes.now (growth axis) numbers.items) }
     ensures fault { IfErr result (IsAxisFault boxes.now (growth axis)) }
 {
-    let Ok(mut numbers) = low_along(boxes, around, axis, numbers, queue) else {
-        return Err(CompactFault::Memory);
-    };
-    if are_along(boxes, axis, &numbers) {
-        return Ok(numbers);
-    }
     let Ok(()) = constraints_along(boxes, axis, constraints) else {
         return Err(CompactFault::Memory);
     };
@@ -187,4 +182,40 @@ pub fn numbers_along(
         return Err(CompactFault::Wide);
     }
     Ok(numbers)
+}
+
+/// The least numbers of the vertices in the order of the darts along x and along y, in the memory of the
+/// lists that are lent. `around` has the steps from each vertex.
+pub fn least_numbers(
+    boxes: &Boxes,
+    around: &[u32],
+    x: Vec<u16>,
+    y: Vec<u16>,
+    queue: &mut RowQueue,
+    constraints: &mut Vec<Constraint>,
+) -> Result<(Vec<u16>, Vec<u16>), CompactFault>
+    requires steps { AreSteps (web boxes.now) around.now boxes.now.vertices }
+    requires around { length around.now ≡ 4 * boxes.now.vertices }
+    ensures sound { IfOk result (λ _. IsSound (web boxes.now)) }
+    ensures x { IfOk result (λ found. AreLeast boxes.now 0 found.0.items) }
+    ensures y { IfOk result (λ found. AreLeast boxes.now 1 found.1.items) }
+    ensures fault { IfErr result (IsCompactFault boxes.now) }
+{
+    let Ok(x) = low_along(boxes, around, Axis::X, x, queue) else {
+        return Err(CompactFault::Memory);
+    };
+    let Ok(y) = low_along(boxes, around, Axis::Y, y, queue) else {
+        return Err(CompactFault::Memory);
+    };
+    if are_along(boxes, &x, &y) {
+        return Ok((x, y));
+    }
+    let x = match settled_along(boxes, Axis::X, x, constraints) {
+        Ok(x) => x,
+        Err(fault) => return Err(fault),
+    };
+    match settled_along(boxes, Axis::Y, y, constraints) {
+        Ok(y) => Ok((x, y)),
+        Err(fault) => Err(fault),
+    }
 }

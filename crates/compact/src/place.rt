@@ -5,7 +5,7 @@ ghost use Rattle.std.specs.List.{range_with_len};
 ghost use Rattle.ortho_rep.specs.Storage.{cut, IsCut};
 ghost use Rattle.compact.specs.Ordered.{AreLaidOut, AreCorners, IsCompactFault, point_at};
 
-use crate::axis::{Axis, numbers_along};
+use crate::axis::least_numbers;
 use crate::corners::{corner_count, point_of, push_corners};
 use crate::fault::CompactFault;
 use crate::scratch::Scratch;
@@ -104,12 +104,8 @@ pub fn compact_in(
     let Ok(around) = steps_of(boxes, around) else {
         return Err(CompactFault::Memory);
     };
-    let x = match numbers_along(boxes, &around, Axis::X, x, &mut queue, &mut constraints) {
-        Ok(x) => x,
-        Err(fault) => return Err(fault),
-    };
-    let y = match numbers_along(boxes, &around, Axis::Y, y, &mut queue, &mut constraints) {
-        Ok(y) => y,
+    let (x, y) = match least_numbers(boxes, &around, x, y, &mut queue, &mut constraints) {
+        Ok(found) => found,
         Err(fault) => return Err(fault),
     };
     let Ok(vertices) = vertex_points(alloc, boxes, &x, &y) else {

@@ -4,7 +4,7 @@ use Rattle.std.specs.List.{range_with_len, Contains}
 use Rattle.std.proofs.lemmas.List.{get_or-map, length-map, map_push, append-nil}
 use Rattle.std.proofs.lemmas.List.FromFn.{get_or-range_with_len, length-range_with_len}
 use Rattle.std.proofs.lemmas.List.Elements.{All-map, All-filter, All-contains, filter_passes, Contains-append_left, Contains-append_right}
-use Rattle.std.proofs.lemmas.Bool.{cases_eq, cond-true, cond-false}
+use Rattle.std.proofs.lemmas.Bool.{both_ways, cases_eq, cond-true, cond-false}
 use Rattle.faces.specs.Planes.{PlaneModel, darts}
 use Rattle.ortho_rep.proofs.EdgeNumbers.{lesser-more}
 use Rattle.ortho_rep.specs.declared.points.Point.{Point}
@@ -48,6 +48,22 @@ each_more P p n before last d lt lesser =
     (λ e. subst P (sym e) (last (subst (λ (m : ℕ). is_lesser p m ≡ true) e lesser)))
     (λ ne. before d (omega arith) lesser)
     (cases_eq d n)
+
+-- a flag that tells whether it holds of the lesser darts below n: a lesser dart more
+pub flag_more : (P : ℕ → Type 0) (p : PlaneModel) (n : ℕ) (old new here : Bool) → (new ≡ true ↔ ((old ≡ true) × (here ≡ true))) → (here ≡ true ↔ P n) → is_lesser p n ≡ true →
+    (old ≡ true ↔ ((d : ℕ) → d < n → is_lesser p d ≡ true → P d)) → new ≡ true ↔ ((d : ℕ) → d < n + 1 → is_lesser p d ≡ true → P d)
+flag_more P p n old new here both one lesser before = (
+  λ t. each_more P p n (before.0 (both.0 t).0) (λ _. one.0 (both.0 t).1),
+  λ all. both.1 (before.1 (λ d lt less. all d (omega (arith, lt)) less), one.1 (all n (omega arith) lesser)),
+)
+
+-- and a dart more that is not lesser
+pub flag_kept : (P : ℕ → Type 0) (p : PlaneModel) (n : ℕ) (old : Bool) → is_lesser p n ≡ false →
+    (old ≡ true ↔ ((d : ℕ) → d < n → is_lesser p d ≡ true → P d)) → old ≡ true ↔ ((d : ℕ) → d < n + 1 → is_lesser p d ≡ true → P d)
+flag_kept P p n old greater before = (
+  λ t. each_more P p n (before.0 t) (λ less. absurd (both_ways (is_lesser p n) greater less)),
+  λ all. before.1 (λ d lt less. all d (omega (arith, lt)) less),
+)
 
 -- all paths are on axes where that of each lesser dart is, and the other way
 pub axes_each : (p : PlaneModel) (points : PointsModel) → AreOnAxes (paths p points) ↔ ((d : ℕ) → d < darts p → is_lesser p d ≡ true → IsOnAxes (path_along p points d))

@@ -1,35 +1,14 @@
-//! Whether all segments are parallel to an axis.
+//! Whether the segments of a path are parallel to an axis.
 
-ghost use Rattle.std.specs.Prelude.{◌≡◌, ◌*◌, ◌↔◌, length, IsTrue};
-ghost use Rattle.faces.specs.Planes.{darts, vertices};
-ghost use Rattle.drawing_check.specs.Paths.{paths};
-ghost use Rattle.drawing_check.specs.Draws.{IsAxis, IsOnAxes, AreOnAxes};
+ghost use Rattle.std.specs.Prelude.{◌↔◌, IsTrue};
+ghost use Rattle.drawing_check.specs.Draws.{IsAxis, IsOnAxes};
 ghost use Rattle.drawing_check.specs.Routes.{path_of};
 
-use crate::route::{Route, route_of};
-use faces::Plane;
-use ortho_rep::{Point, Points};
+use crate::route::Route;
+use ortho_rep::Point;
 
-/// Whether each segment of each path is parallel to an axis.
-pub(crate) fn are_on_axes(plane: &Plane, points: &Points) -> bool
-    requires vertices { length points.now.vertices ≡ vertices plane.now }
-    requires corners { 2 * length points.now.corners ≡ darts plane.now }
-    ensures { IsTrue result ↔ AreOnAxes (paths plane.now points.now) }
-{
-    let graph = plane.graph();
-    let mut edge = 0;
-    for dart in 0..graph.darts() {
-        if dart < graph.reverse(dart) {
-            if !is_on_axes(&route_of(plane, points, dart, edge)) {
-                return false;
-            }
-            edge += 1;
-        }
-    }
-    true
-}
-
-fn is_on_axes(route: &Route<'_>) -> bool
+/// Whether each segment of a path is parallel to an axis.
+pub(crate) fn is_on_axes(route: &Route<'_>) -> bool
     ensures { IsTrue result ↔ IsOnAxes (path_of route.now) }
 {
     for k in 0..route.corners.len() + 1 {

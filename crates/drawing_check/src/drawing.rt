@@ -6,7 +6,7 @@ ghost use Rattle.ortho_rep.specs.Representation.{HasDarts, IsShape};
 ghost use Rattle.drawing_check.specs.Draws.{Draws};
 ghost use Rattle.drawing_check.specs.Faults.{IsFirstFault, KeepsFirstThree};
 
-use crate::axes::are_on_axes;
+use crate::edges::walk_edges;
 use crate::fault::CheckFault;
 use crate::grid::are_in_grid;
 use crate::meeting::meet_nowhere;
@@ -124,10 +124,11 @@ fn first_fault(
     if !are_in_grid(points, plane.graph().edges()) {
         return Some(CheckFault::OutOfGrid);
     }
-    if !are_on_axes(plane, points) {
+    let seen = walk_edges(plane, shape, points);
+    if !seen.on_axes {
         return Some(CheckFault::NotAxis);
     }
-    if !turn_as_said(plane, shape, points) {
+    if !turn_as_said(plane, shape, points, &seen) {
         return Some(CheckFault::WrongTurn);
     }
     match meet_nowhere(alloc, scratch, plane, points) {

@@ -7,6 +7,7 @@
 
 mod axes;
 mod drawing;
+mod edges;
 mod fault;
 mod grid;
 mod meeting;

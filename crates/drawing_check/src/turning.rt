@@ -11,46 +11,30 @@ ghost use Rattle.drawing_check.specs.Paths.{path_along, point_of};
 ghost use Rattle.drawing_check.specs.Draws.{direction_between, turned, IsTurning, leaving, TurnAsSaid};
 ghost use Rattle.drawing_check.specs.Routes.{path_of, direction_at};
 
-use crate::route::{Route, route_of};
+use crate::edges::EdgesSeen;
+use crate::route::Route;
 use directions::Direction;
-use embedding::MAX_DARTS;
 use faces::Plane;
 use ortho_rep::{Point, Points, Shape, Turn};
 
-/// Whether each corner and each angle is that of the shape.
-pub(crate) fn turn_as_said(plane: &Plane, shape: &Shape, points: &Points) -> bool
+/// Whether each corner and each angle is that of the shape, as far as a walk over the edges has not told.
+pub(crate) fn turn_as_said(plane: &Plane, shape: &Shape, points: &Points, seen: &EdgesSeen) -> bool
     requires lengths { HasDarts plane.now shape.now }
     requires vertices { length points.now.vertices ≡ vertices plane.now }
     requires corners { 2 * length points.now.corners ≡ darts plane.now }
-    ensures { IsTrue result ↔ TurnAsSaid plane.now shape.now points.now }
-{
-    edges_turn(plane, shape, points) && heads_turn(plane, shape, points)
-}
-
-/// Whether each edge has as many corners as turns, and each corner is its turn.
-fn edges_turn(plane: &Plane, shape: &Shape, points: &Points) -> bool
-    requires lengths { HasDarts plane.now shape.now }
-    requires vertices { length points.now.vertices ≡ vertices plane.now }
-    requires corners { 2 * length points.now.corners ≡ darts plane.now }
-    ensures { IsTrue result
+    requires turning { IsTrue seen.now.turning
         ↔ All (λ d. IsTurning (path_along plane.now points.now d) (turns_at shape.now d))
         (lesser_darts plane.now) }
+    requires size { length seen.now.leaving ≡ MAX_DARTS }
+    requires leaving { (d : ℕ) → d < darts plane.now
+        → direction_at seen.now.leaving d ≡ leaving plane.now points.now d }
+    ensures { IsTrue result ↔ TurnAsSaid plane.now shape.now points.now }
 {
-    let graph = plane.graph();
-    let mut edge = 0;
-    for dart in 0..graph.darts() {
-        if dart < graph.reverse(dart) {
-            let route = route_of(plane, points, dart, edge);
-            if !is_turning(&route, shape.turns(dart)) {
-                return false;
-            }
-            edge += 1;
-        }
-    }
-    true
+    seen.turning && heads_turn(plane, shape, points, &seen.leaving)
 }
 
-fn is_turning(route: &Route<'_>, turns: &[Turn]) -> bool
+/// Whether a path has as many corners as there are turns, and each corner is its turn.
+pub(crate) fn is_turning(route: &Route<'_>, turns: &[Turn]) -> bool
     ensures { IsTrue result ↔ IsTurning (path_of route.now) turns.now }
 {
     if route.corners.len() != turns.len() {
@@ -67,42 +51,21 @@ fn is_turning(route: &Route<'_>, turns: &[Turn]) -> bool
     true
 }
 
-/// The direction in which each dart leaves its tail.
-fn leaving_directions(plane: &Plane, points: &Points) -> [Direction; MAX_DARTS]
-    requires vertices { length points.now.vertices ≡ vertices plane.now }
-    requires corners { 2 * length points.now.corners ≡ darts plane.now }
-    ensures size { length result ≡ MAX_DARTS }
-    ensures each { (d : ℕ) → d < darts plane.now
-        → direction_at result d ≡ leaving plane.now points.now d }
-{
-    let graph = plane.graph();
-    let mut directions = [Direction::East; MAX_DARTS];
-    let mut edge = 0;
-    for dart in 0..graph.darts() {
-        let reverse = graph.reverse(dart);
-        if dart < reverse {
-            let route = route_of(plane, points, dart, edge);
-            let corners = route.corners.len();
-            directions[usize::from(dart)] = direction_from(route.start, route.point_at(1));
-            directions[usize::from(reverse)] = direction_from(route.end, route.point_at(corners));
-            edge += 1;
-        }
-    }
-    directions
-}
-
-/// Whether the angle at the head of each dart is that of the shape.
-fn heads_turn(plane: &Plane, shape: &Shape, points: &Points) -> bool
+/// Whether the angle at the head of each dart is that of the shape, where the darts leave their tails in these
+/// directions.
+fn heads_turn(plane: &Plane, shape: &Shape, points: &Points, directions: &[Direction]) -> bool
     requires lengths { HasDarts plane.now shape.now }
     requires vertices { length points.now.vertices ≡ vertices plane.now }
     requires corners { 2 * length points.now.corners ≡ darts plane.now }
+    requires size { length directions.now ≡ MAX_DARTS }
+    requires leaving { (d : ℕ) → d < darts plane.now
+        → direction_at directions.now d ≡ leaving plane.now points.now d }
     ensures { IsTrue result
         ↔ ((d : ℕ) → d < darts plane.now
         → leaving plane.now points.now (reverse_dart plane.now d)
         ≡ lefts (angle_at shape.now d) (leaving plane.now points.now (next plane.now d))) }
 {
     let graph = plane.graph();
-    let directions = leaving_directions(plane, points);
     for dart in 0..graph.darts() {
         let back = directions[usize::from(graph.reverse(dart))];
         let onward = directions[usize::from(plane.next(dart))];
@@ -113,20 +76,22 @@ fn heads_turn(plane: &Plane, shape: &Shape, points: &Points) -> bool
     true
 }
 
-/// Where `to` lies from `from`, if the two differ in one coordinate.
-fn direction_from(from: Point, to: Point) -> Direction
+/// Where `to` lies from `from`, if the two differ in one coordinate. Both answers are made before one is taken, so
+/// that no branch hangs on a direction, which cannot be foreseen.
+pub(crate) fn direction_from(from: Point, to: Point) -> Direction
     ensures { result ≡ direction_between from to }
 {
-    if from.x < to.x {
-        return Direction::East;
-    }
-    if to.x < from.x {
-        return Direction::West;
-    }
-    if from.y < to.y {
-        return Direction::North;
-    }
-    Direction::South
+    let along_x = if from.x < to.x {
+        Direction::East
+    } else {
+        Direction::West
+    };
+    let along_y = if from.y < to.y {
+        Direction::North
+    } else {
+        Direction::South
+    };
+    if from.x == to.x { along_y } else { along_x }
 }
 
 fn turn_from(direction: Direction, turn: Turn) -> Direction

@@ -1,0 +1,48 @@
+use Rattle.std.proofs.Common.{◌≡◌, ◌≤◌, ℕ, List, length, slice_index, subst, sym, ap, refl, arith}
+use Rattle.std.proofs.lemmas.List.{take_at}
+use Rattle.compact.specs.declared.constraints.Constraint.{Constraint}
+use Rattle.compact.specs.Constraints.{Keeps}
+use Rattle.compact.specs.Ordered.{AreLeast, growth}
+use Rattle.dissect.specs.Boxes.{web}
+use Rattle.compact.proofs.Constraining.{all_along}
+use Rattle.compact.proofs.axis.settled_along.Goals as goal
+
+pub settle-settled-requires-clause-low : goal.settle-settled-requires-clause-low
+settle-settled-requires-clause-low c = λ y keeps v v_in.
+    let size = ap (λ (xs : List ℕ). length xs) c.deref_mut.ensures.value in
+    let kept = subst (λ (gs : List Constraint). Keeps gs y) c.deref.ensures.value keeps in
+    let along = all_along (web c.args.boxes.now) (growth c.args.axis) c.constraints_along.new.constraints.items y c.in-Ok.ensures kept in
+    subst (λ (xs : List ℕ). slice_index xs v ≤ y v) (sym c.deref_mut.ensures.value)
+    (c.requires.under y along v (omega (arith, v_in, size, c.requires.count)))
+
+pub returns-then-not-settled-clause-fault : goal.returns-then-not-settled-clause-fault
+returns-then-not-settled-clause-fault c =
+    let size = ap (λ (xs : List ℕ). length xs) c.deref_mut.ensures.value in (
+      c.requires.sound,
+      λ x along.
+          let keeps = subst (λ (gs : List Constraint). Keeps gs x) (sym c.deref.ensures.value) (c.in-Ok.ensures.no_more x along) in
+          let (v, v_in, far) = c.if-not-settled.ensures.wide refl x keeps in
+          (v, omega (arith, v_in, size, c.requires.count), far),
+    )
+
+pub returns-clause-along : goal.returns-clause-along
+returns-clause-along c =
+    let w = web c.args.boxes.now in
+    let k = growth c.args.axis in
+    let found = c.settle-settled.new.numbers in
+    let settled = c.if-not-settled.ensures in
+    let x : ℕ → ℕ = λ v. slice_index found v in
+    let before : length c.deref_mut.result.now ≡ c.args.boxes.now.vertices =
+    omega (arith, ap (λ (xs : List ℕ). length xs) c.deref_mut.ensures.value, c.requires.count) in
+    let room : length found ≡ c.args.numbers.len = omega (arith, settled.length, c.deref_mut.ensures.len) in
+    let keeps = subst (λ (gs : List Constraint). Keeps gs x) c.deref.ensures.value (settled.keeps refl) in
+    subst (λ (xs : List ℕ). AreLeast c.args.boxes.now k xs)
+    (sym (take_at found _ c.args.numbers.len room))
+    (record {
+      along = all_along w k c.constraints_along.new.constraints.items x c.in-Ok.ensures keeps;
+      least = λ y along v v_in.
+          let kept = subst (λ (gs : List Constraint). Keeps gs y) (sym c.deref.ensures.value) (c.in-Ok.ensures.no_more y along) in
+          settled.least refl y kept v (omega (arith, v_in, before));
+      within = λ v v_in. settled.small v (omega (arith, v_in, before, settled.length));
+      count = omega (arith, before, settled.length);
+    })

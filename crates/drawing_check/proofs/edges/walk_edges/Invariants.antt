@@ -1,0 +1,16 @@
+use Rattle.std.proofs.Common.{◌≡◌, ◌↔◌, ℕ, ◌<◌, true}
+use Rattle.ortho_rep.specs.Edges.{is_lesser, edge_number}
+use Rattle.ortho_rep.specs.Shapes.{turns_at}
+use Rattle.drawing_check.specs.Paths.{path_along}
+use Rattle.drawing_check.specs.Draws.{IsOnAxes, IsTurning}
+use Rattle.drawing_check.proofs.Leaving.{IsLeaving}
+use Rattle.drawing_check.proofs.edges.walk_edges.Given as goal
+
+abbrev pub invariant-loop-dart : goal.invariant-loop-dart
+invariant-loop-dart l = record {
+  number : l.edge ≡ edge_number l.plane l.dart;
+  on_axes : l.on_axes ≡ true ↔ ((d : ℕ) → d < l.dart → is_lesser l.plane d ≡ true → IsOnAxes (path_along l.plane l.points d));
+  turning : l.turning ≡ true
+      ↔ ((d : ℕ) → d < l.dart → is_lesser l.plane d ≡ true → IsTurning (path_along l.plane l.points d) (turns_at l.shape d));
+  leaving : IsLeaving l.plane l.points l.directions l.dart;
+}
