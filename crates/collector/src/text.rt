@@ -31,8 +31,8 @@ pub enum TextFault {
 
 /// Reads the first `files` files of the opener, answers each record under this choice of the outer face, and
 /// writes the text of their books in this form, as `Form::write` writes those of `run_batch`, while they are
-/// read. It answers the status of the whole text: 0 where each file ended complete and no record lacks an answer
-/// for want of memory, and else 3.
+/// read. It answers the status of the whole text: 0 where each file ended complete and no record lacks its answer
+/// or its line for want of memory, and else 3.
 ///
 /// Files go over lanes as in `run_batch`. They leave in their order: the lines of the first file that has not
 /// ended go to the sink as they come, and those of later files wait. What was laid out for a record is let go

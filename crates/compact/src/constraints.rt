@@ -67,8 +67,8 @@ fn relax_all(constraints: &[Constraint], numbers: &mut [u16]) -> Relaxation
 /// least that keep the constraints, the lengths of longest paths. If not, all numbers that keep the
 /// constraints pass 65,535 somewhere.
 ///
-/// It takes a step a constraint in each round, and at most as many rounds as a longest path has constraints, and one
-/// more.
+/// It takes a step a constraint in each round. Where no circle has a constraint of 1 it needs at most as many rounds
+/// as a path without repeats has constraints, and one more, though no clause says so.
 pub fn settle(constraints: &[Constraint], numbers: &mut [u16]) -> bool
     requires inside { AreInside (length numbers.old) constraints.now }
     requires low { IsLow constraints.now (length numbers.old) (λ v. slice_index numbers.old v) }

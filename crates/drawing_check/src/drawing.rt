@@ -40,8 +40,8 @@ impl Drawing {
     }
 }
 
-/// Whether the points draw the shape; if not, the first condition that fails, and the points as they
-/// were.
+/// The points as a drawing, where they draw the shape; if not, the first condition that fails, and the points as
+/// they were.
 ///
 /// The conditions are, in order: every coordinate is at most 65,535; consecutive points of an edge's
 /// path differ in exactly one coordinate; each edge has as many corners as turns, each corner turns as

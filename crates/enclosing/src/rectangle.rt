@@ -1,4 +1,4 @@
-//! The rectangle beside a drawing.
+//! The rectangle round a drawing.
 
 ghost use Rattle.std.specs.Prelude.{◌≡◌, ◌+◌, ◌<◌, ◌≤◌, ℕ, length, slice_index_or, vec_len};
 ghost use Rattle.cutting.specs.Frames.{IsFramed};
@@ -16,7 +16,7 @@ fn put_at<T: Copy>(list: &mut Vec<T>, start: usize, items: &[T])
     list[start..start + items.len()].copy_from_slice(items);
 }
 
-/// Adds a rectangle beside the drawing: its inside runs along the four new darts from `darts` on, to
+/// Adds a rectangle round the drawing, not yet joined to it: its inside runs along the four new darts from `darts` on, to
 /// the east, north, west and south, and its outside along their reverses, the four after these. The
 /// table needs room for eight darts. Constant time.
 pub fn frame(table: &mut DartTable)
