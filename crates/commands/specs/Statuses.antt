@@ -20,7 +20,7 @@ use Rattle.commands.specs.declared.request.Request.TheVariants.{Frames, Layout}
 
 -- what '--version' prints
 abbrev pub version_text : List ℕ
-version_text = codes "planarbend 0.3.0\nproved with rattle-kit-13b logic dac8208d650f15bf\n"
+version_text = codes "planarbend 0.3.0\nproved with rattle-kit-13f logic dac8208d650f15bf\n"
 
 -- this text and nothing else was added to the output, with status 0; or the output failed, with a beginning of it and status 1
 abbrev pub IsPrinted : List ℕ → Option (List ℕ) → Option (List ℕ) → Bool → ℕ → Type 0

@@ -2,4 +2,4 @@
 
 /// What `--version` prints: the program's version, and the toolchain that it is proved with, as `rt version` has
 /// it.
-pub const VERSION: &str = "planarbend 0.3.0\nproved with rattle-kit-13b logic dac8208d650f15bf\n";
+pub const VERSION: &str = "planarbend 0.3.0\nproved with rattle-kit-13f logic dac8208d650f15bf\n";

@@ -6,7 +6,7 @@ use crate::shared::{
 };
 use std::test::Fail;
 
-const VERSION: &str = "planarbend 0.3.0\nproved with rattle-kit-13b logic dac8208d650f15bf\n";
+const VERSION: &str = "planarbend 0.3.0\nproved with rattle-kit-13f logic dac8208d650f15bf\n";
 
 #[test]
 fn prints_the_version(rt: HostRuntime) -> Result<(), Fail> {
