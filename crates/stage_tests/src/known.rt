@@ -1,6 +1,6 @@
 //! Records that are known, which the tests share.
 
-use planar_code::{Framer, HEADER, Record};
+use planar_code::Record;
 use std::alloc::Global;
 use std::fmt::Debug;
 use std::process::Abort;
@@ -14,9 +14,5 @@ pub(crate) const TRIANGLE: [u8; 10] = [3, 2, 3, 0, 3, 1, 0, 1, 2, 0];
 
 /// The record of these bytes, if they are one and there is memory.
 pub(crate) fn record_in(alloc: Global, bytes: &[u8]) -> Option<Record> {
-    let mut framer = Framer::new(alloc).ok()?;
-    let mut records = Vec::new(alloc);
-    framer.feed(alloc, &HEADER, &mut records).ok()?;
-    framer.feed(alloc, bytes, &mut records).ok()?;
-    records.pop()
+    Record::parse(alloc, bytes).ok()
 }

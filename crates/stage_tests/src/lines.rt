@@ -10,7 +10,6 @@ use json_lines::{end_line, laid_line};
 use ortho_rep::{Point, Points, Prices, Shape, Turn, certify, is_shape};
 use std::alloc::{AllocError, Global};
 use std::process::Abort;
-use std::test::Fail;
 
 const DRAWN: &[u8] =
     b"{\"angles\":[3,1,3,1,3,1],\"bends\":1,\"drawn\":\"yes\",\"f\":2,\"file\":3,\"graph\":7,\"m\":3,\"n\":3,\
@@ -29,19 +28,11 @@ fn triangle(alloc: Global) -> Option<Plane> {
     Plane::trace(alloc, graph).ok()
 }
 
-/// The turns of a dart: 1 and 4 are the two ways along the edge from 1 to 3, which has the one bend.
-fn turns_of(alloc: Global, dart: u32) -> Result<Vec<Turn>, AllocError> {
-    match dart {
-        1 => [Turn::Left].to_vec(alloc),
-        4 => [Turn::Right].to_vec(alloc),
-        _ => Ok(Vec::new(alloc)),
-    }
-}
-
+/// The turns of the darts: 1 and 4 are the two ways along the edge from 1 to 3, which has the one bend.
 fn strings(alloc: Global) -> Result<Vec<Vec<Turn>>, AllocError> {
     let mut strings = Vec::new(alloc);
-    for dart in 0..6 {
-        strings.push(turns_of(alloc, dart)?)?;
+    for turns in [&[][..], &[Turn::Left], &[], &[], &[Turn::Right], &[]] {
+        strings.push(turns.to_vec(alloc)?)?;
     }
     Ok(strings)
 }
@@ -61,21 +52,16 @@ fn prices(alloc: Global) -> Result<Prices, AllocError> {
     Ok(Prices::new(vertices, [-2, -3].to_vec(alloc)?))
 }
 
-fn corners(alloc: Global) -> Result<Vec<Vec<Point>>, AllocError> {
-    let mut corners = Vec::new(alloc);
-    corners.push(Vec::new(alloc))?;
-    corners.push([Point { x: 1, y: 0 }].to_vec(alloc)?)?;
-    corners.push(Vec::new(alloc))?;
-    Ok(corners)
-}
-
 fn points(alloc: Global) -> Result<Points, AllocError> {
     let vertices = [
         Point { x: 0, y: 0 },
         Point { x: 0, y: 1 },
         Point { x: 1, y: 1 },
     ];
-    let corners = corners(alloc)?;
+    let mut corners = Vec::new(alloc);
+    for places in [&[][..], &[Point { x: 1, y: 0 }], &[]] {
+        corners.push(places.to_vec(alloc)?)?;
+    }
     Ok(Points::new(vertices.to_vec(alloc)?, corners))
 }
 
@@ -104,16 +90,6 @@ fn triangle_line(
     laid_line(alloc, 3, 7, plane, shape, &prices, drawing).ok()
 }
 
-#[test]
-fn shows_a_triangle(rt: HostRuntime) -> Result<(), Fail> {
-    let plane = triangle(rt.alloc()).ok_or("no plane")?;
-    let shape = bent(rt.alloc()).ok_or("no shape")?;
-    let drawing = Ok(drawing(rt.alloc(), &plane, &shape).ok_or("no drawing")?);
-    let line = triangle_line(rt.alloc(), &plane, &shape, &drawing).ok_or("no line")?;
-    same(&rt, line.as_slice(), DRAWN);
-    Ok(())
-}
-
 /// The line of the triangle without a drawing has this word in its place.
 fn check_cause<R: AllocGlobal + Abort>(
     rt: &R,
@@ -121,17 +97,16 @@ fn check_cause<R: AllocGlobal + Abort>(
     shape: &Shape,
     cause: Cause,
     word: &str,
-) -> Result<(), Fail> {
-    let line = triangle_line(rt.alloc(), plane, shape, &Err(cause)).ok_or("no line")?;
-    let text = [TO_THE_CAUSE, word.as_bytes(), FROM_THE_CAUSE].concat(rt.alloc())?;
-    same(rt, line.as_slice(), text.as_slice());
-    Ok(())
+) {
+    let line = triangle_line(rt.alloc(), plane, shape, &Err(cause)).expect(rt, "a line");
+    let text = [TO_THE_CAUSE, word.as_bytes(), FROM_THE_CAUSE].concat(rt.alloc());
+    same(rt, line, text.expect(rt, "memory"));
 }
 
 #[test]
-fn names_each_cause(rt: HostRuntime) -> Result<(), Fail> {
-    let plane = triangle(rt.alloc()).ok_or("no plane")?;
-    let shape = bent(rt.alloc()).ok_or("no shape")?;
+fn shows_a_triangle(rt: HostRuntime) {
+    let plane = triangle(rt.alloc()).expect(&rt, "a plane");
+    let shape = bent(rt.alloc()).expect(&rt, "a shape");
     let cases = [
         (Cause::Wide, "wide"),
         (Cause::OutOfGrid, "outofgrid"),
@@ -140,15 +115,16 @@ fn names_each_cause(rt: HostRuntime) -> Result<(), Fail> {
         (Cause::Meet, "meet"),
     ];
     for (cause, word) in cases {
-        check_cause(&rt, &plane, &shape, cause, word)?;
+        check_cause(&rt, &plane, &shape, cause, word);
     }
-    Ok(())
+    let drawing = drawing(rt.alloc(), &plane, &shape).expect(&rt, "a drawing");
+    let line = triangle_line(rt.alloc(), &plane, &shape, &Ok(drawing)).expect(&rt, "a line");
+    same(&rt, line.as_slice(), DRAWN);
 }
 
 #[test]
-fn shows_an_end(rt: HostRuntime) -> Result<(), Fail> {
-    let text = end_line(rt.alloc(), 64, "truncated", 1_000_000)?;
+fn shows_an_end(rt: HostRuntime) {
+    let text = end_line(rt.alloc(), 64, "truncated", 1_000_000).expect(&rt, "memory");
     let expected = "{\"end\":\"truncated\",\"file\":64,\"graphs\":1000000}\n";
     same(&rt, text.as_slice(), expected.as_bytes());
-    Ok(())
 }

@@ -9,7 +9,6 @@ use lanes::{Drafts, GatherFault, Message, OpenGate, gather, run_last_stage, run_
 use ruled_lanes::{LANES, Memory, Taker, fan_in, link};
 use std::alloc::{AllocError, Global};
 use std::sync::Wait;
-use std::test::Fail;
 use streams::Mark;
 
 /// The end of a link whose giver is gone.
@@ -37,38 +36,35 @@ fn end_of<T: Drop>(answer: Result<T, GatherFault<AllocError>>) -> Ended {
 }
 
 #[test]
-fn a_stage_ends_where_the_one_before_is_gone(rt: HostRuntime) -> Result<(), Fail> {
-    let taker = left_alone::<Message<Framed>>(rt.alloc())?;
-    let (giver, mut next) = link::<Message<Embedded>>(rt.alloc(), 1)?;
+fn a_stage_ends_where_the_one_before_is_gone(rt: HostRuntime) {
+    let taker = left_alone::<Message<Framed>>(rt.alloc()).expect(&rt, "memory");
+    let (giver, mut next) = link::<Message<Embedded>>(rt.alloc(), 1).expect(&rt, "memory");
     let ends = run_stage(&rt, rt.alloc(), &OpenGate, 0, taker, giver);
     assert!(rt; ends.is_none());
     assert!(rt; next.take(&rt).is_err());
-    Ok(())
 }
 
 #[test]
-fn a_stage_ends_where_the_next_one_is_gone(rt: HostRuntime) -> Result<(), Fail> {
-    let (mut before, taker) = link::<Message<Framed>>(rt.alloc(), 2)?;
-    let (giver, _) = link::<Message<Embedded>>(rt.alloc(), 1)?;
+fn a_stage_ends_where_the_next_one_is_gone(rt: HostRuntime) {
+    let (mut before, taker) = link::<Message<Framed>>(rt.alloc(), 2).expect(&rt, "memory");
+    let (giver, _) = link::<Message<Embedded>>(rt.alloc(), 1).expect(&rt, "memory");
     assert!(rt; before.give(&rt, Message::End(0, Mark::Io)).is_ok());
     let ends = run_stage(&rt, rt.alloc(), &OpenGate, 0, taker, giver);
     assert!(rt; ends.is_none());
     assert!(rt; before.give(&rt, Message::Stop).is_err());
-    Ok(())
 }
 
 /// The last stage loses the one before it; the lane still gives its stop, so that gathering ends.
 #[test]
-fn a_lane_that_lost_gives_its_stop(rt: HostRuntime) -> Result<(), Fail> {
-    let taker = left_alone::<Message<Shaped>>(rt.alloc())?;
-    let (mut givers, gatherer) = fan_in::<Message<Entry>>(rt.alloc(), 4)?;
+fn a_lane_that_lost_gives_its_stop(rt: HostRuntime) {
+    let taker = left_alone::<Message<Shaped>>(rt.alloc()).expect(&rt, "memory");
+    let (mut givers, gatherer) = fan_in::<Message<Entry>>(rt.alloc(), 4).expect(&rt, "memory");
     let end = run_last_stage(&rt, rt.alloc(), &OpenGate, taker, &mut givers[0]);
     assert!(rt; end.is_none());
     assert!(rt; givers[0].give(&rt, Message::Stop).is_ok());
-    let mut drafts = Drafts::new(rt.alloc(), 1)?;
+    let mut drafts = Drafts::new(rt.alloc(), 1).expect(&rt, "memory");
     let answer = gather(&rt, rt.alloc(), gatherer, 1, &mut drafts);
     same(&rt, end_of(answer), Ended::Well);
-    Ok(())
 }
 
 /// Gathers from so many lanes, all of whose givers are gone.
