@@ -1,2 +1,2 @@
+pub mod Built
 pub mod LineData
-pub mod Members

@@ -2,6 +2,7 @@
 #![tactic(auto)]
 
 mod arrays;
+mod build;
 mod entry;
 mod lines;
 mod objects;

@@ -1,22 +1,21 @@
-//! The members of a graph's object, a few keys at a time.
-ghost use Rattle.std.specs.Prelude.{◌≡◌, ◌/◌, ◌∷◌, [], IfOk, OnOk, codes, length};
+//! The object of a graph that breaks no rule.
+ghost use Rattle.std.specs.Prelude.{◌≡◌, IfOk};
 ghost use Rattle.serde_json.specs.Data.{string};
-ghost use Rattle.serde_json.specs.View.{view, members_view};
-ghost use Rattle.faces.specs.Planes.{vertices, darts};
-ghost use Rattle.ortho_rep.specs.Shapes.{turns_at};
-ghost use Rattle.ortho_rep.specs.Representation.{HasDarts, bends_of};
+ghost use Rattle.serde_json.specs.View.{view};
+ghost use Rattle.ortho_rep.specs.Representation.{HasDarts};
 ghost use Rattle.ortho_rep.specs.Prices.{HasPrices};
-ghost use Rattle.json_lines.specs.Members.{with_members};
-ghost use Rattle.json_lines.specs.LineData.{natural, array_of, turns_data, prices_data, points_data, drawn_data, laid_data};
+ghost use Rattle.json_lines.specs.LineData.{prices_data, points_data, drawn_data, laid_data};
 
 use crate::arrays::{
     angles_value, corners_value, face_prices_value, points_value, turns_value, vertex_prices_value,
 };
+use crate::build::Object;
+use crate::entry::placed;
 use drawing_check::Drawing;
 use entries::Cause;
 use faces::Plane;
 use ortho_rep::{Prices, Shape};
-use serde_json::{Map, Value, json, put};
+use serde_json::Value;
 use std::alloc::{AllocError, Global};
 
 /// The object of a graph that breaks no rule.
@@ -34,102 +33,21 @@ pub(crate) fn laid_value(
     ensures { IfOk result (λ v.
         view v ≡ laid_data file graph plane.now shape.now prices.now drawing.now) }
 {
-    let mut members = Map::new(alloc);
-    put_place(&mut members, alloc, file, graph)?;
-    put_sizes(&mut members, alloc, plane, shape)?;
-    put_shape(&mut members, alloc, plane, shape, prices)?;
-    put_drawing(&mut members, alloc, plane, drawing)?;
-    Ok(Value::Object(members))
-}
-
-/// Puts which graph it is, and that it breaks no rule.
-fn put_place(
-    members: &mut Map<String, Value>,
-    alloc: Global,
-    file: u32,
-    graph: u64,
-) -> Result<(), AllocError>
-    ensures { OnOk result (members_view members.new.entries ≡ with_members (
-        (codes "file", natural file)
-        ∷ (codes "graph", natural graph)
-        ∷ (codes "status", string (codes "ok"))
-        ∷ []) (members_view members.old.entries)) }
-{
-    put(members, alloc, "file", Value::from(file))?;
-    put(members, alloc, "graph", Value::from(graph))?;
-    put(members, alloc, "status", Value::try_from_str(alloc, "ok")?)
-}
-
-/// Puts how many vertices, edges, faces and bends there are.
-fn put_sizes(
-    members: &mut Map<String, Value>,
-    alloc: Global,
-    plane: &Plane,
-    shape: &Shape,
-) -> Result<(), AllocError>
-    ensures { OnOk result (members_view members.new.entries ≡ with_members (
-        (codes "n", natural (vertices plane.now))
-        ∷ (codes "m", natural (darts plane.now / 2))
-        ∷ (codes "f", natural plane.now.faces)
-        ∷ (codes "bends", natural (bends_of (length shape.now.strings) (turns_at shape.now)))
-        ∷ []) (members_view members.old.entries)) }
-{
-    put(members, alloc, "n", Value::from(plane.graph().vertices()))?;
-    put(members, alloc, "m", Value::from(plane.graph().edges()))?;
-    put(members, alloc, "f", Value::from(plane.face_count()))?;
-    put(members, alloc, "bends", Value::from(shape.bends()))
-}
-
-/// Puts the angles and the turns by dart, and the prices that prove the shape least.
-fn put_shape(
-    members: &mut Map<String, Value>,
-    alloc: Global,
-    plane: &Plane,
-    shape: &Shape,
-    prices: &Prices,
-) -> Result<(), AllocError>
-    requires darts { HasDarts plane.now shape.now }
-    requires prices { HasPrices plane.now prices.now }
-    ensures { OnOk result (members_view members.new.entries ≡ with_members (
-        (codes "angles", array_of natural shape.now.angles)
-        ∷ (codes "turns", array_of turns_data shape.now.strings)
-        ∷ (codes "prices", prices_data prices.now)
-        ∷ []) (members_view members.old.entries)) }
-{
-    put(members, alloc, "angles", angles_value(alloc, plane, shape)?)?;
-    put(members, alloc, "turns", turns_value(alloc, shape)?)?;
-    put(
-        members,
-        alloc,
-        "prices",
-        prices_value(alloc, plane, prices)?,
-    )
-}
-
-/// Puts whether there is a drawing, and its points.
-fn put_drawing(
-    members: &mut Map<String, Value>,
-    alloc: Global,
-    plane: &Plane,
-    drawing: &Result<Drawing, Cause>,
-) -> Result<(), AllocError>
-    ensures { OnOk result (members_view members.new.entries ≡ with_members (
-        (codes "drawn", drawn_data drawing.now)
-        ∷ (codes "points", points_data (darts plane.now / 2) drawing.now)
-        ∷ []) (members_view members.old.entries)) }
-{
-    put(
-        members,
-        alloc,
-        "drawn",
-        Value::try_from_str(alloc, drawn_word(drawing))?,
-    )?;
-    put(
-        members,
-        alloc,
-        "points",
-        drawing_value(alloc, plane.graph().edges(), drawing)?,
-    )
+    placed(alloc, file, graph)
+        .text("status", "ok")
+        .natural("n", u64::from(plane.graph().vertices()))
+        .natural("m", u64::from(plane.graph().edges()))
+        .natural("f", u64::from(plane.face_count()))
+        .natural("bends", u64::from(shape.bends()))
+        .with("angles", angles_value(alloc, plane, shape))
+        .with("turns", turns_value(alloc, shape))
+        .with("prices", prices_value(alloc, plane, prices))
+        .text("drawn", drawn_word(drawing))
+        .with(
+            "points",
+            drawing_value(alloc, plane.graph().edges(), drawing),
+        )
+        .finish()
 }
 
 /// The prices of the faces and of the vertices.
@@ -137,10 +55,10 @@ fn prices_value(alloc: Global, plane: &Plane, prices: &Prices) -> Result<Value, 
     requires { HasPrices plane.now prices.now }
     ensures { IfOk result (λ v. view v ≡ prices_data prices.now) }
 {
-    json!(in alloc; {
-        "faces": face_prices_value(alloc, plane, prices)?,
-        "vertices": vertex_prices_value(alloc, plane, prices)?,
-    })
+    Object::new(alloc)
+        .with("faces", face_prices_value(alloc, plane, prices))
+        .with("vertices", vertex_prices_value(alloc, plane, prices))
+        .finish()
 }
 
 /// The points of so many edges and of the vertices, or null where there is no drawing.
@@ -154,10 +72,10 @@ fn drawing_value(
     match drawing {
         Ok(drawing) => {
             let points = drawing.points();
-            json!(in alloc; {
-                "corners": corners_value(alloc, points, edges)?,
-                "vertices": points_value(alloc, points.vertices())?,
-            })
+            Object::new(alloc)
+                .with("corners", corners_value(alloc, points, edges))
+                .with("vertices", points_value(alloc, points.vertices()))
+                .finish()
         }
         Err(_) => Ok(Value::Null),
     }
