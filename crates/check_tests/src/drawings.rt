@@ -1,79 +1,96 @@
-//! Points by hand, each with the first condition that they break, and refused allocations.
+//! Drawings by hand, each with the first condition that it breaks, and refused allocations.
 
 use drawing_check::{CheckFault, Drawing, check};
 use embedding::Graph;
 use faces::Plane;
 use ortho_rep::{Point, Points, Shape, Turn, is_shape};
-use planar_code::{Framer, HEADER, Record};
+use planar_code::Record;
 use std::alloc::{AllocError, Global};
 use std::fmt::Debug;
 use std::process::Abort;
-use std::test::Fail;
 
 /// Sees that two values are the same. (An `assert_eq!` in each place would make the tests' proofs several times as long.)
 pub(crate) fn same<T: PartialEq + Debug + Drop>(rt: &impl Abort, got: T, want: T) {
     assert_eq!(rt; got, want);
 }
 
-pub(crate) const EDGE: [u8; 5] = [2, 2, 0, 1, 0];
+pub(crate) type Place = (u32, u32);
 
-pub(crate) const TRIANGLE: [u8; 10] = [3, 2, 3, 0, 3, 1, 0, 1, 2, 0];
-
-// The path 1, 2, 3, 4, 5.
-pub(crate) const PATH: [u8; 14] = [5, 2, 0, 1, 3, 0, 2, 4, 0, 3, 5, 0, 4, 0];
-
-pub(crate) const SQUARE: [u8; 13] = [4, 2, 4, 0, 3, 1, 0, 4, 2, 0, 1, 3, 0];
-
-pub(crate) const STAR: [u8; 14] = [5, 2, 3, 4, 5, 0, 1, 0, 1, 0, 1, 0, 1, 0];
-
-/// The record of these bytes, if they are one and there is memory.
-fn record_in(alloc: Global, bytes: &[u8]) -> Option<Record> {
-    let mut framer = Framer::new(alloc).ok()?;
-    let mut records = Vec::new(alloc);
-    framer.feed(alloc, &HEADER, &mut records).ok()?;
-    framer.feed(alloc, bytes, &mut records).ok()?;
-    records.pop()
+/// The record of a plane, and the angles and strings of a shape of it.
+pub(crate) struct Figure {
+    record: &'static [u8],
+    angles: &'static [u8],
+    strings: &'static [&'static [Turn]],
 }
 
-/// The plane of these bytes, if they are a record of one and there is memory.
+const LEFT: Turn = Turn::Left;
+
+const RIGHT: Turn = Turn::Right;
+
+/// The strings of four edges without bends.
+const STRAIGHT: [&[Turn]; 8] = [&[]; 8];
+
+const EDGE: Figure = Figure {
+    record: &[2, 2, 0, 1, 0],
+    angles: &[4, 4],
+    strings: &[&[], &[]],
+};
+
+/// The edge that turns to the left three times.
+pub(crate) const BENT_EDGE: Figure = Figure {
+    record: &[2, 2, 0, 1, 0],
+    angles: &[4, 4],
+    strings: &[&[LEFT, LEFT, LEFT], &[RIGHT, RIGHT, RIGHT]],
+};
+
+/// The triangle with one bend, on the edge from 1 to 3.
+const TRIANGLE: Figure = Figure {
+    record: &[3, 2, 3, 0, 3, 1, 0, 1, 2, 0],
+    angles: &[3, 1, 3, 1, 3, 1],
+    strings: &[&[], &[LEFT], &[], &[], &[RIGHT], &[]],
+};
+
+/// The path 1, 2, 3, 4, 5, which turns to the left at each vertex.
+pub(crate) const PATH: Figure = Figure {
+    record: &[5, 2, 0, 1, 3, 0, 2, 4, 0, 3, 5, 0, 4, 0],
+    angles: &[1, 4, 1, 3, 1, 3, 4, 3],
+    strings: &STRAIGHT,
+};
+
+const SQUARE: Figure = Figure {
+    record: &[4, 2, 4, 0, 3, 1, 0, 4, 2, 0, 1, 3, 0],
+    angles: &[3, 1, 3, 1, 3, 1, 3, 1],
+    strings: &STRAIGHT,
+};
+
+const STAR: Figure = Figure {
+    record: &[5, 2, 3, 4, 5, 0, 1, 0, 1, 0, 1, 0, 1, 0],
+    angles: &[4, 4, 4, 4, 1, 1, 1, 1],
+    strings: &STRAIGHT,
+};
+
+/// The corners of four edges without bends.
+pub(crate) const FOUR: [&[Place]; 4] = [&[]; 4];
+
+/// The plane of these bytes, or nothing where memory is refused.
 fn plane_in(alloc: Global, bytes: &[u8]) -> Option<Plane> {
-    let record = record_in(alloc, bytes)?;
+    let record = Record::parse(alloc, bytes).ok()?;
     let graph = Graph::read(alloc, &record).ok()?;
     Plane::trace(alloc, graph).ok()
 }
 
-/// The plane of one record.
-pub(crate) fn plane_of(alloc: Global, bytes: &[u8]) -> Result<Plane, Fail> {
-    Ok(plane_in(alloc, bytes).ok_or("no plane")?)
-}
-
-/// The shape of these angles and strings, each string a text of `L` and `R`.
-pub(crate) fn shape_of(alloc: Global, angles: &[u8], texts: &[&str]) -> Result<Shape, Fail> {
-    let mut strings = Vec::new(alloc);
-    for text in texts {
-        strings.push(turns_of(alloc, text)?)?;
+fn strings_in(alloc: Global, strings: &[&[Turn]]) -> Result<Vec<Vec<Turn>>, AllocError> {
+    let mut lists = Vec::new(alloc);
+    for turns in strings {
+        lists.push(turns.to_vec(alloc)?)?;
     }
-    Ok(made(angles.to_vec(alloc)?, strings).ok_or("strings out of range")?)
+    Ok(lists)
 }
 
-fn turns_of(alloc: Global, text: &str) -> Result<Vec<Turn>, AllocError> {
-    let mut turns = Vec::new(alloc);
-    for letter in text.bytes() {
-        turns.push(turn_of(letter))?;
-    }
-    Ok(turns)
-}
-
-fn turn_of(letter: u8) -> Turn {
-    if letter == b'L' {
-        Turn::Left
-    } else {
-        Turn::Right
-    }
-}
-
-/// The shape of these angles and strings, if the strings are short enough.
-pub(crate) fn made(angles: Vec<u8>, strings: Vec<Vec<Turn>>) -> Option<Shape> {
+/// The shape of a figure, or nothing where memory is refused.
+fn shape_in(alloc: Global, figure: &Figure) -> Option<Shape> {
+    let strings = strings_in(alloc, figure.strings).ok()?;
+    let angles = figure.angles.to_vec(alloc).ok()?;
     if Shape::are_short(&strings) {
         Some(Shape::new(angles, strings))
     } else {
@@ -81,27 +98,28 @@ pub(crate) fn made(angles: Vec<u8>, strings: Vec<Vec<Turn>>) -> Option<Shape> {
     }
 }
 
-pub(crate) fn list_of(alloc: Global, places: &[(u32, u32)]) -> Result<Vec<Point>, AllocError> {
+fn list_in(alloc: Global, places: &[Place]) -> Result<Vec<Point>, AllocError> {
     places
         .iter()
         .map(|p| Point { x: p.0, y: p.1 })
         .collect(alloc)
 }
 
-pub(crate) fn points_of(
+/// The points of vertices and of the corners of edges.
+fn points_in(
     alloc: Global,
-    vertices: &[(u32, u32)],
-    corners: &[&[(u32, u32)]],
-) -> Result<Points, Fail> {
+    vertices: &[Place],
+    corners: &[&[Place]],
+) -> Result<Points, AllocError> {
     let mut lists = Vec::new(alloc);
     for places in corners {
-        lists.push(list_of(alloc, places)?)?;
+        lists.push(list_in(alloc, places)?)?;
     }
-    Ok(Points::new(list_of(alloc, vertices)?, lists))
+    Ok(Points::new(list_in(alloc, vertices)?, lists))
 }
 
 /// What `check` answers where its conditions hold.
-pub(crate) fn answer(
+fn answer(
     rt: &impl Abort,
     alloc: Global,
     plane: &Plane,
@@ -114,166 +132,162 @@ pub(crate) fn answer(
     check(alloc, plane, shape, points)
 }
 
-/// The fault that `check` answers, if any.
-pub(crate) fn fault_of(
+/// The fault that `check` finds, if any, and the one that it then finds with the points that come back.
+fn faults_of(
     rt: &impl Abort,
     alloc: Global,
     plane: &Plane,
     shape: &Shape,
     points: Points,
-) -> Option<CheckFault> {
+) -> [Option<CheckFault>; 2] {
     match answer(rt, alloc, plane, shape, points) {
-        Ok(_) => None,
-        Err((fault, _)) => Some(fault),
+        Ok(_) => [None, None],
+        Err((fault, points)) => {
+            let again = answer(rt, alloc, plane, shape, points).err();
+            [Some(fault), again.map(|it| it.0)]
+        }
     }
 }
 
-// The angles and strings of the triangle with one bend, on the edge from 1 to 3.
-pub(crate) const BENT: ([u8; 6], [&str; 6]) = ([3, 1, 3, 1, 3, 1], ["", "L", "", "", "R", ""]);
-
-/// The points at these places have this fault, or none.
-fn expect_fault(
+/// The same of points at these places, or nothing where memory is refused before.
+pub(crate) fn faults_at(
     rt: &impl Abort,
     alloc: Global,
-    plane: &Plane,
-    shape: &Shape,
-    vertices: &[(u32, u32)],
-    corners: &[&[(u32, u32)]],
-    fault: Option<CheckFault>,
-) -> Result<(), Fail> {
-    let points = points_of(alloc, vertices, corners)?;
-    same(rt, fault_of(rt, alloc, plane, shape, points), fault);
-    Ok(())
+    figure: &Figure,
+    vertices: &[Place],
+    corners: &[&[Place]],
+) -> Option<[Option<CheckFault>; 2]> {
+    let plane = plane_in(alloc, figure.record)?;
+    let shape = shape_in(alloc, figure)?;
+    let points = points_in(alloc, vertices, corners).ok()?;
+    Some(faults_of(rt, alloc, &plane, &shape, points))
 }
 
-/// Places of the triangle's vertices and of the corner, and the fault of the points there.
-const TRIANGLES: [([(u32, u32); 3], (u32, u32), Option<CheckFault>); 5] = [
-    ([(0, 0), (0, 1), (1, 1)], (1, 0), None),
-    ([(0, 0), (0, 1), (1, 1)], (2, 0), Some(CheckFault::NotAxis)),
+/// Figures, the places of their vertices and corners, and the first condition that the points there break.
+const DRAWINGS: [(&Figure, &[Place], &[&[Place]], Option<CheckFault>); 15] = [
     (
-        [(0, 0), (1, 0), (1, 1)],
-        (0, 1),
+        &TRIANGLE,
+        &[(0, 0), (0, 1), (1, 1)],
+        &[&[], &[(1, 0)], &[]],
+        None,
+    ),
+    (
+        &TRIANGLE,
+        &[(0, 0), (0, 1), (1, 1)],
+        &[&[], &[(2, 0)], &[]],
+        Some(CheckFault::NotAxis),
+    ),
+    (
+        &TRIANGLE,
+        &[(0, 0), (1, 0), (1, 1)],
+        &[&[], &[(0, 1)], &[]],
         Some(CheckFault::WrongTurn),
     ),
     (
-        [(65535, 0), (65535, 1), (65536, 1)],
-        (65536, 0),
+        &TRIANGLE,
+        &[(65535, 0), (65535, 1), (65536, 1)],
+        &[&[], &[(65536, 0)], &[]],
         Some(CheckFault::OutOfGrid),
     ),
-    ([(65534, 0), (65534, 1), (65535, 1)], (65535, 0), None),
+    (
+        &TRIANGLE,
+        &[(65534, 0), (65534, 1), (65535, 1)],
+        &[&[], &[(65535, 0)], &[]],
+        None,
+    ),
+    // A vertex on an edge, a vertex on a vertex, an edge across an edge, and a path that meets itself nowhere.
+    (
+        &PATH,
+        &[(0, 0), (2, 0), (2, 1), (1, 1), (1, 0)],
+        &FOUR,
+        Some(CheckFault::Meet),
+    ),
+    (
+        &PATH,
+        &[(0, 0), (2, 0), (2, 2), (0, 2), (0, 0)],
+        &FOUR,
+        Some(CheckFault::Meet),
+    ),
+    (
+        &PATH,
+        &[(0, 1), (3, 1), (3, 3), (1, 3), (1, 0)],
+        &FOUR,
+        Some(CheckFault::Meet),
+    ),
+    (
+        &PATH,
+        &[(0, 0), (3, 0), (3, 3), (1, 3), (1, 1)],
+        &FOUR,
+        None,
+    ),
+    // The other way round: a square, and two leaves of a star.
+    (&SQUARE, &[(2, 2), (2, 7), (7, 7), (7, 2)], &FOUR, None),
+    (
+        &SQUARE,
+        &[(2, 2), (7, 2), (7, 7), (2, 7)],
+        &FOUR,
+        Some(CheckFault::WrongTurn),
+    ),
+    (
+        &STAR,
+        &[(5, 5), (5, 8), (9, 5), (5, 1), (1, 5)],
+        &FOUR,
+        None,
+    ),
+    (
+        &STAR,
+        &[(5, 5), (9, 5), (5, 8), (5, 1), (1, 5)],
+        &FOUR,
+        Some(CheckFault::WrongTurn),
+    ),
+    // A corner where nothing turns, and one too few.
+    (
+        &EDGE,
+        &[(0, 0), (2, 0)],
+        &[&[(1, 0)]],
+        Some(CheckFault::WrongTurn),
+    ),
+    (
+        &BENT_EDGE,
+        &[(0, 0), (1, 1)],
+        &[&[(3, 0), (3, 1)]],
+        Some(CheckFault::WrongTurn),
+    ),
 ];
 
 #[test]
-fn triangles(rt: HostRuntime) -> Result<(), Fail> {
-    let alloc = rt.alloc();
-    let plane = plane_of(alloc, &TRIANGLE)?;
-    let shape = shape_of(alloc, &BENT.0, &BENT.1)?;
-    for (vertices, corner, fault) in TRIANGLES {
-        let corners: [&[(u32, u32)]; 3] = [&[], &[corner], &[]];
-        expect_fault(&rt, alloc, &plane, &shape, &vertices, &corners, fault)?;
-    }
-    Ok(())
-}
-
-// A vertex on an edge, a vertex on a vertex, an edge across an edge, and a path that meets itself nowhere.
-const PATHS: [([(u32, u32); 5], Option<CheckFault>); 4] = [
-    (
-        [(0, 0), (2, 0), (2, 1), (1, 1), (1, 0)],
-        Some(CheckFault::Meet),
-    ),
-    (
-        [(0, 0), (2, 0), (2, 2), (0, 2), (0, 0)],
-        Some(CheckFault::Meet),
-    ),
-    (
-        [(0, 1), (3, 1), (3, 3), (1, 3), (1, 0)],
-        Some(CheckFault::Meet),
-    ),
-    ([(0, 0), (3, 0), (3, 3), (1, 3), (1, 1)], None),
-];
-
-#[test]
-fn paths(rt: HostRuntime) -> Result<(), Fail> {
-    let alloc = rt.alloc();
-    let plane = plane_of(alloc, &PATH)?;
-    let shape = shape_of(alloc, &[1, 4, 1, 3, 1, 3, 4, 3], &[""; 8])?;
-    let none: [&[(u32, u32)]; 4] = [&[]; 4];
-    for (vertices, fault) in PATHS {
-        expect_fault(&rt, alloc, &plane, &shape, &vertices, &none, fault)?;
-    }
-    Ok(())
-}
-
-/// So many empty lists, or nothing where memory is refused.
-fn empty_lists<T: Drop>(alloc: Global, count: u32) -> Option<Vec<Vec<T>>> {
-    let mut lists = Vec::new(alloc);
-    for _ in 0..count {
-        lists.push(Vec::new(alloc)).ok()?;
-    }
-    Some(lists)
-}
-
-/// The shape of the path on five vertices that is rolled up, or nothing where memory is refused.
-fn rolled_in(alloc: Global) -> Option<Shape> {
-    let angles = [1, 4, 1, 3, 1, 3, 4, 3].to_vec(alloc).ok()?;
-    made(angles, empty_lists(alloc, 8)?)
-}
-
-/// Points of the path on five vertices, or nothing where memory is refused.
-fn points_in(alloc: Global, vertices: &[(u32, u32)]) -> Option<Points> {
-    let vertices = list_of(alloc, vertices).ok()?;
-    Some(Points::new(vertices, empty_lists(alloc, 4)?))
-}
-
-/// Where memory is refused the points come back, and a second call draws them.
-fn expect_points_back(
-    rt: &impl Abort,
-    alloc: Global,
-    plane: &Plane,
-    shape: &Shape,
-    points: Points,
-) {
-    if let Err((fault, points)) = answer(rt, alloc, plane, shape, points) {
-        same(rt, fault, CheckFault::Memory);
-        same(rt, fault_of(rt, alloc, plane, shape, points), None);
+fn drawings_by_hand(rt: HostRuntime) {
+    for (figure, vertices, corners, fault) in DRAWINGS {
+        let found = faults_at(&rt, rt.alloc(), figure, vertices, corners);
+        same(&rt, found, Some([fault; 2]));
     }
 }
 
-// Run with each allocation refused in turn too.
+// Run with each allocation refused in turn too: where memory is wanting, a second call draws the points that
+// come back.
 #[test]
 fn refused_memory_gives_the_points_back(rt: HostRuntime) {
-    let Some(plane) = plane_in(rt.alloc(), &PATH) else {
-        return;
-    };
-    let Some(shape) = rolled_in(rt.alloc()) else {
-        return;
-    };
     let vertices = [(0, 0), (3, 0), (3, 3), (1, 3), (1, 1)];
-    if let Some(points) = points_in(rt.alloc(), &vertices) {
-        expect_points_back(&rt, rt.alloc(), &plane, &shape, points);
+    let Some(found) = faults_at(&rt, rt.alloc(), &PATH, &vertices, &FOUR) else {
+        return;
+    };
+    if found[0].is_some() {
+        same(&rt, found, [Some(CheckFault::Memory), None]);
     }
-}
-
-/// The fault of the path's points at these places, or nothing where memory is refused before.
-fn fault_at(rt: &impl Abort, alloc: Global, vertices: &[(u32, u32)]) -> Option<Option<CheckFault>> {
-    let plane = plane_in(alloc, &PATH)?;
-    let shape = rolled_in(alloc)?;
-    let points = points_in(alloc, vertices)?;
-    Some(fault_of(rt, alloc, &plane, &shape, points))
 }
 
 /// Places of the path's vertices, and the first condition that they break.
-const FAULTS: [([(u32, u32); 5], CheckFault); 3] = [
+const FAULTS: [(&[Place], CheckFault); 3] = [
     (
-        [(0, 0), (65536, 0), (65536, 3), (1, 3), (1, 1)],
+        &[(0, 0), (65536, 0), (65536, 3), (1, 3), (1, 1)],
         CheckFault::OutOfGrid,
     ),
     (
-        [(0, 0), (3, 1), (3, 3), (1, 3), (1, 1)],
+        &[(0, 0), (3, 1), (3, 3), (1, 3), (1, 1)],
         CheckFault::NotAxis,
     ),
     (
-        [(0, 0), (3, 0), (3, 3), (5, 3), (5, 1)],
+        &[(0, 0), (3, 0), (3, 3), (5, 3), (5, 1)],
         CheckFault::WrongTurn,
     ),
 ];
@@ -282,9 +296,9 @@ const FAULTS: [([(u32, u32); 5], CheckFault); 3] = [
 #[test]
 fn three_conditions_take_no_memory(rt: HostRuntime) {
     for (vertices, fault) in FAULTS {
-        let Some(found) = fault_at(&rt, rt.alloc(), &vertices) else {
+        let Some(found) = faults_at(&rt, rt.alloc(), &PATH, vertices, &FOUR) else {
             return;
         };
-        same(&rt, found, Some(fault));
+        same(&rt, found, [Some(fault); 2]);
     }
 }
