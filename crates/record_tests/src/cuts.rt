@@ -6,13 +6,6 @@ use std::alloc::Global;
 use std::process::Abort;
 use std::test::Fail;
 
-/// The header, and then the bytes.
-fn stream(alloc: Global, bytes: &[u8]) -> Result<Vec<u8>, Fail> {
-    let mut text = HEADER.to_vec(alloc)?;
-    text.extend_from_slice(bytes)?;
-    Ok(text)
-}
-
 /// Behind which place the record ends that begins here, or else how the text ends.
 fn end_of_record(text: &[u8], start: usize) -> Result<usize, Ending> {
     let (mut lists, mut entries) = (0u32, 0u32);
@@ -88,15 +81,17 @@ fn divide(rt: &impl Abort, alloc: Global, text: &[u8]) -> Result<(), Fail> {
 
 /// Cuts the header and these bytes behind each byte.
 fn cut(rt: &impl Abort, alloc: Global, bytes: &[u8]) -> Result<(), Fail> {
-    let text = stream(alloc, bytes)?;
+    let mut text = HEADER.to_vec(alloc)?;
+    text.extend_from_slice(bytes)?;
     for count in 0..=text.len() {
         divide(rt, alloc, &text[..count])?;
     }
     Ok(())
 }
 
-/// Graphs, records that break a rule, and bytes that end badly.
-const FILES: [&[u8]; 17] = [
+/// Graphs, records that break a rule, and bytes that end badly. (The last is a list of 255 entries, and cut behind
+/// its byte before the last one of 254.)
+const FILES: [&[u8]; 18] = [
     &EDGE,
     &[1, 0],
     &[2, 0, 0],
@@ -114,37 +109,13 @@ const FILES: [&[u8]; 17] = [
     &[2, 2, 0, 1, 0, 2, 2, 0, 1],
     &[2, 2, 0, 1, 0, 0],
     &[2, 2, 0, 1, 0, 3, 2, 3, 0, 3, 1, 0, 1, 2, 0],
+    &[1; 256],
 ];
 
 #[test]
-fn short_files_are_cut_anywhere(rt: HostRuntime) -> Result<(), Fail> {
+fn files_are_cut_anywhere(rt: HostRuntime) -> Result<(), Fail> {
     for bytes in FILES {
         cut(&rt, rt.alloc(), bytes)?;
-    }
-    Ok(())
-}
-
-/// A list of 254 entries that does not end, and one of 255.
-#[test]
-fn long_lists_are_cut_anywhere(rt: HostRuntime) -> Result<(), Fail> {
-    let mut bytes = vec![in rt.alloc(); 1u8; 256]?;
-    bytes[0] = 255;
-    cut(&rt, rt.alloc(), bytes.as_slice())
-}
-
-/// What is found of a triangle, where only so many bytes of its file are left.
-#[test]
-fn tells_where_a_triangle_was_cut(rt: HostRuntime) -> Result<(), Fail> {
-    let text = stream(rt.alloc(), &TRIANGLE)?;
-    for count in 0..=text.len() {
-        let want = match count {
-            0..=14 => (0, Ending::Header),
-            15 => (0, Ending::Complete),
-            16..=24 => (0, Ending::Truncated),
-            _ => (1, Ending::Complete),
-        };
-        let (records, ending) = feed_both(rt.alloc(), &text[..count], &[])?;
-        same(&rt, (records.len(), ending), want);
     }
     Ok(())
 }

@@ -1,12 +1,10 @@
 //! Records that are known, and what is made of them.
 
-use embedding::Graph;
-use faces::Plane;
+use embedding::{Graph, ReadFault};
 use planar_code::Record;
 use std::alloc::Global;
 use std::fmt::Debug;
 use std::process::Abort;
-use std::test::Fail;
 
 /// Sees that two values are the same. (An `assert_eq!` in each place would make the tests' proofs several times
 /// as long.)
@@ -44,25 +42,8 @@ pub(crate) fn record_of(alloc: Global, bytes: &[u8]) -> Option<Record> {
     Record::parse(alloc, bytes).ok()
 }
 
-/// The graph of a record.
-pub(crate) fn graph_of(alloc: Global, bytes: &[u8]) -> Result<Graph, Fail> {
-    let record = record_of(alloc, bytes).ok_or("no record")?;
-    Ok(Graph::read(alloc, &record)?)
-}
-
-/// The plane of a record.
-pub(crate) fn plane_of(alloc: Global, bytes: &[u8]) -> Result<Plane, Fail> {
-    Ok(Plane::trace(alloc, graph_of(alloc, bytes)?)?)
-}
-
-/// The record of the cycle on 255 vertices.
-pub(crate) fn longest_cycle(alloc: Global) -> Result<Vec<u8>, Fail> {
-    let mut bytes = Vec::new(alloc);
-    bytes.push(255)?;
-    for v in 1..=255u8 {
-        bytes.push(if v == 255 { 1 } else { v + 1 })?;
-        bytes.push(if v == 1 { 255 } else { v - 1 })?;
-        bytes.push(0)?;
-    }
-    Ok(bytes)
+/// The graph of a record, and want of memory where there is none for the record.
+pub(crate) fn read(alloc: Global, bytes: &[u8]) -> Result<Graph, ReadFault> {
+    let record = record_of(alloc, bytes).ok_or(ReadFault::Memory)?;
+    Graph::read(alloc, &record)
 }
