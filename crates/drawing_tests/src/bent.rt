@@ -1,12 +1,11 @@
-//! A drawing worked out by hand, and the sizes of those of least shapes.
+//! A drawing worked out by hand, and refused allocations.
 
-use crate::families::OCTAHEDRON;
-use crate::planes::{EDGE, TRIANGLE, plane_in, plane_of, same, spiral_in};
+use crate::planes::{EDGE, TRIANGLE, bent_triangle_in, plane_in, plane_of, same, spiral_in};
 use bending::bend;
 use cutting::{DartTable, NO_DART};
 use faces::Plane;
 use headings::headings;
-use ortho_rep::{Shape, is_shape, least_shape};
+use ortho_rep::{Shape, is_shape};
 use std::alloc::{AllocError, Global};
 use std::fmt::Debug;
 use std::process::Abort;
@@ -53,23 +52,6 @@ fn edge_with_one_bend(rt: HostRuntime) -> Result<(), Fail> {
     Ok(())
 }
 
-/// How many darts and vertices the drawing of a least shape has.
-fn sizes(rt: &impl Abort, alloc: Global, record: &[u8]) -> Result<(u32, u32), Fail> {
-    let plane = plane_of(alloc, record)?;
-    let (shape, _) = least_shape(alloc, &plane)?;
-    let table = bend_of(rt, alloc, &plane, &shape)?;
-    Ok((table.darts, table.vertices))
-}
-
-// The fewest bends are 0, 1 and 12.
-#[test]
-fn least_shapes(rt: HostRuntime) -> Result<(), Fail> {
-    same(&rt, sizes(&rt, rt.alloc(), &EDGE)?, (2, 2));
-    same(&rt, sizes(&rt, rt.alloc(), &TRIANGLE)?, (8, 4));
-    same(&rt, sizes(&rt, rt.alloc(), &OCTAHEDRON)?, (48, 18));
-    Ok(())
-}
-
 /// How many darts the drawing of a shape has, by the second call where the first finds no memory.
 fn darts_at_last(
     rt: &impl Abort,
@@ -90,7 +72,7 @@ fn refused_allocations(rt: HostRuntime) {
     let Some(plane) = plane_in(rt.alloc(), &TRIANGLE) else {
         return;
     };
-    if let Ok((shape, _)) = least_shape(rt.alloc(), &plane) {
+    if let Some(shape) = bent_triangle_in(rt.alloc()) {
         same(&rt, darts_at_last(&rt, rt.alloc(), &plane, &shape), Ok(8));
     }
 }

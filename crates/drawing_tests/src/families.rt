@@ -1,6 +1,6 @@
 //! Graphs whose least bends are known: they are read, shaped, cut and drawn.
 
-ghost use Rattle.std.specs.Prelude.{◌<◌, ◌≤◌};
+ghost use Rattle.std.specs.Prelude.{◌<◌};
 
 use crate::planes::{EDGE, TRIANGLE, draw, plane_of, same};
 use ortho_rep::least_shape;
@@ -8,72 +8,13 @@ use std::alloc::{AllocError, Global};
 use std::process::Abort;
 use std::test::Fail;
 
-pub(crate) const K4: [u8; 17] = [4, 3, 4, 2, 0, 1, 4, 3, 0, 2, 4, 1, 0, 3, 2, 1, 0];
+const K4: [u8; 17] = [4, 3, 4, 2, 0, 1, 4, 3, 0, 2, 4, 1, 0, 3, 2, 1, 0];
 
 pub(crate) const OCTAHEDRON: [u8; 31] = [
     6, 2, 3, 4, 5, 0, 6, 3, 1, 5, 0, 2, 6, 4, 1, 0, 1, 3, 6, 5, 0, 2, 1, 4, 6, 0, 2, 5, 4, 3, 0,
 ];
 
-/// A path on so many vertices.
-fn path(alloc: Global, count: u8) -> Result<Vec<u8>, AllocError> {
-    let mut bytes = Vec::new(alloc);
-    bytes.push(count)?;
-    for before in 0..count {
-        if before > 0 {
-            bytes.push(before)?;
-        }
-        if before + 1 < count {
-            bytes.push(before + 2)?;
-        }
-        bytes.push(0)?;
-    }
-    Ok(bytes)
-}
-
-/// The vertex after the one at a place of a cycle.
-fn after(place: u8, count: u8) -> u8
-    requires { place < count }
-    ensures { result ≤ count }
-{
-    if place + 1 == count { 1 } else { place + 2 }
-}
-
-/// The vertex before it.
-fn before(place: u8, count: u8) -> u8
-    requires { place < count }
-    ensures { result ≤ count }
-{
-    if place == 0 { count } else { place }
-}
-
-/// A cycle on so many vertices.
-fn cycle(alloc: Global, count: u8) -> Result<Vec<u8>, AllocError> {
-    let mut bytes = Vec::new(alloc);
-    bytes.push(count)?;
-    for place in 0..count {
-        bytes.extend_from_slice(&[after(place, count), before(place, count), 0])?;
-    }
-    Ok(bytes)
-}
-
-/// A star of so many leaves, at most 4.
-fn star(alloc: Global, leaves: u8) -> Result<Vec<u8>, AllocError>
-    requires { leaves ≤ 4 }
-{
-    let mut bytes = Vec::new(alloc);
-    bytes.push(leaves + 1)?;
-    for leaf in 0..leaves {
-        bytes.push(leaf + 2)?;
-    }
-    bytes.push(0)?;
-    for _ in 0..leaves {
-        bytes.push(1)?;
-        bytes.push(0)?;
-    }
-    Ok(bytes)
-}
-
-/// A grid of so many rows and columns, at most 6 of each. Neighbours to the north, east, south and west.
+/// A grid of so many rows and columns, at most 255 places. Neighbours to the north, east, south and west.
 pub(crate) fn grid(alloc: Global, rows: u8, columns: u8) -> Result<Vec<u8>, AllocError>
     requires columns { 0 < columns }
 {
@@ -99,152 +40,111 @@ pub(crate) fn grid(alloc: Global, rows: u8, columns: u8) -> Result<Vec<u8>, Allo
     Ok(bytes)
 }
 
-/// Two cycles on so many vertices, each vertex of the outer one joined to that of the inner one.
-pub(crate) fn prism(alloc: Global, count: u8) -> Result<Vec<u8>, AllocError>
-    requires { count ≤ 12 }
-{
+/// A neighbour of a vertex on rings of vertices: on which ring, and how far round, less one.
+type Beside = (u8, u8);
+
+/// One ring.
+const CYCLE: [&[Beside]; 1] = [&[(0, 2), (0, 0)]];
+
+/// Two rings, each vertex of the outer one joined to that of the inner one.
+pub(crate) const PRISM: [&[Beside]; 2] = [&[(0, 2), (0, 0), (1, 1)], &[(1, 2), (0, 1), (1, 0)]];
+
+/// Two rings, each vertex of the inner one joined to one of the outer one and the next.
+pub(crate) const ANTIPRISM: [&[Beside]; 2] = [
+    &[(0, 2), (0, 0), (1, 0), (1, 1)],
+    &[(1, 2), (0, 2), (0, 1), (1, 0)],
+];
+
+/// The number of a neighbour of the vertex at a place of a ring of so many.
+fn number(beside: Beside, place: u8, count: u8) -> u8 {
+    let (ring, round) = beside;
+    let reached = if round == 0 && place == 0 {
+        count
+    } else if round == 2 && place.wrapping_add(1) == count {
+        1
+    } else {
+        place.wrapping_add(round)
+    };
+    ring.wrapping_mul(count).wrapping_add(reached)
+}
+
+/// One ring or two of so many vertices, each with the neighbours that its ring names, at most 255 in all.
+pub(crate) fn rings(alloc: Global, rings: &[&[Beside]], count: u8) -> Result<Vec<u8>, AllocError> {
     let mut bytes = Vec::new(alloc);
-    bytes.push(2 * count)?;
-    for place in 0..count {
-        let next = after(place, count);
-        let last = before(place, count);
-        bytes.extend_from_slice(&[next, last, count + place + 1, 0])?;
-    }
-    for place in 0..count {
-        let next = after(place, count);
-        let last = before(place, count);
-        bytes.extend_from_slice(&[count + next, place + 1, count + last, 0])?;
+    bytes.push(if rings.len() == 1 {
+        count
+    } else {
+        count.wrapping_mul(2)
+    })?;
+    for ring in rings {
+        for place in 0..count {
+            for beside in *ring {
+                bytes.push(number(*beside, place, count))?;
+            }
+            bytes.push(0)?;
+        }
     }
     Ok(bytes)
 }
 
-/// Two cycles on so many vertices, each vertex of the inner one joined to one of the outer one and the next.
-pub(crate) fn antiprism(alloc: Global, count: u8) -> Result<Vec<u8>, AllocError>
-    requires { count ≤ 12 }
-{
-    let mut bytes = Vec::new(alloc);
-    bytes.push(2 * count)?;
-    for place in 0..count {
-        let next = after(place, count);
-        let last = before(place, count);
-        bytes.extend_from_slice(&[next, last, count + last, count + place + 1, 0])?;
-    }
-    for place in 0..count {
-        let next = after(place, count);
-        let last = before(place, count);
-        bytes.extend_from_slice(&[count + next, next, place + 1, count + last, 0])?;
-    }
-    Ok(bytes)
-}
-
-/// A least shape of these bytes has so many bends, and is drawn: the share of the bound that its boxes have.
-fn expect_drawn(rt: &impl Abort, alloc: Global, bytes: &[u8], bends: u32) -> Result<u64, Fail> {
+/// A least shape of these bytes has so many bends, and is drawn.
+fn expect_drawn(rt: &impl Abort, alloc: Global, bytes: &[u8], bends: u32) -> Result<(), Fail> {
     let plane = plane_of(alloc, bytes)?;
     let (shape, _) = least_shape(alloc, &plane)?;
     same(rt, shape.bends(), bends);
     draw(rt, alloc, &plane, &shape)
 }
 
-/// Paths of 2 to 40 vertices, and stars.
-fn trees(rt: &impl Abort, alloc: Global) -> Result<u64, Fail> {
-    let mut share = 0;
-    for count in 2..41 {
-        share = share.max(expect_drawn(rt, alloc, &path(alloc, count)?, 0)?);
-    }
-    for leaves in 2..5 {
-        share = share.max(expect_drawn(rt, alloc, &star(alloc, leaves)?, 0)?);
-    }
-    Ok(share)
-}
-
-/// Cycles of 3 to 40 vertices.
-fn cycles(rt: &impl Abort, alloc: Global) -> Result<u64, Fail> {
-    let mut share = expect_drawn(rt, alloc, &TRIANGLE, 1)?;
-    for count in 3..41 {
-        let bends = if count == 3 { 1 } else { 0 };
-        share = share.max(expect_drawn(rt, alloc, &cycle(alloc, count)?, bends)?);
-    }
-    Ok(share)
-}
-
-/// Grids of 2 to 6 rows and columns.
-fn grids(rt: &impl Abort, alloc: Global) -> Result<u64, Fail> {
-    let mut share = 0;
-    for rows in 2..7 {
-        for columns in 2..7 {
-            share = share.max(expect_drawn(rt, alloc, &grid(alloc, rows, columns)?, 0)?);
-        }
-    }
-    Ok(share)
-}
-
-/// Prisms over cycles of 3 to 12 vertices.
-fn prisms(rt: &impl Abort, alloc: Global) -> Result<u64, Fail> {
-    let mut share = 0;
-    for count in 3..13 {
-        share = share.max(expect_drawn(rt, alloc, &prism(alloc, count)?, 4)?);
-    }
-    Ok(share)
-}
-
-/// Antiprisms over cycles of 3 to 12 vertices.
-fn antiprisms(rt: &impl Abort, alloc: Global) -> Result<u64, Fail> {
-    let mut share = 0;
-    for count in 3..13 {
-        let bends = if count == 3 {
-            12
-        } else {
-            2 * u32::from(count) + 4
-        };
-        share = share.max(expect_drawn(rt, alloc, &antiprism(alloc, count)?, bends)?);
-    }
-    Ok(share)
-}
-
-/// The single edge, the complete graph on 4 vertices and the octahedron.
-fn solids(rt: &impl Abort, alloc: Global) -> Result<u64, Fail> {
-    let edge = expect_drawn(rt, alloc, &EDGE, 0)?;
-    let complete = expect_drawn(rt, alloc, &K4, 4)?;
-    Ok(
-        edge.max(complete)
-            .max(expect_drawn(rt, alloc, &OCTAHEDRON, 12)?),
-    )
-}
-
-#[test]
-fn trees_without_bends(rt: HostRuntime) -> Result<(), Fail> {
-    assert!(rt; trees(&rt, rt.alloc())? <= 1000);
-    Ok(())
-}
-
-#[test]
-fn cycles_without_bends(rt: HostRuntime) -> Result<(), Fail> {
-    assert!(rt; cycles(&rt, rt.alloc())? <= 1000);
-    Ok(())
-}
-
-#[test]
-fn long_cycle_without_bends(rt: HostRuntime) -> Result<(), Fail> {
-    let bytes = cycle(rt.alloc(), 255)?;
-    assert!(rt; expect_drawn(&rt, rt.alloc(), &bytes, 0)? <= 1000);
-    Ok(())
-}
-
-#[test]
-fn grids_without_bends(rt: HostRuntime) -> Result<(), Fail> {
-    assert!(rt; grids(&rt, rt.alloc())? <= 1000);
-    Ok(())
-}
-
-#[test]
-fn prisms_with_bends(rt: HostRuntime) -> Result<(), Fail> {
-    assert!(rt; prisms(&rt, rt.alloc())? <= 1000);
-    assert!(rt; antiprisms(&rt, rt.alloc())? <= 1000);
-    Ok(())
-}
+/// The single edge, the triangle, the complete graph on 4 vertices, the octahedron, and stars.
+const SOLIDS: [(&[u8], u32); 7] = [
+    (&EDGE, 0),
+    (&TRIANGLE, 1),
+    (&K4, 4),
+    (&OCTAHEDRON, 12),
+    (&[3, 2, 3, 0, 1, 0, 1, 0], 0),
+    (&[4, 2, 3, 4, 0, 1, 0, 1, 0, 1, 0], 0),
+    (&[5, 2, 3, 4, 5, 0, 1, 0, 1, 0, 1, 0, 1, 0], 0),
+];
 
 #[test]
 fn solids_with_bends(rt: HostRuntime) -> Result<(), Fail> {
-    assert!(rt; solids(&rt, rt.alloc())? <= 1000);
+    for (bytes, bends) in SOLIDS {
+        expect_drawn(&rt, rt.alloc(), bytes, bends)?;
+    }
+    Ok(())
+}
+
+// Paths of 2 to 40 vertices, and grids of 2 to 6 rows and columns.
+#[test]
+fn grids_without_bends(rt: HostRuntime) -> Result<(), Fail> {
+    for (columns, most) in [(1, 40), (2, 6), (3, 6), (4, 6), (5, 6), (6, 6)] {
+        for rows in 2..=most {
+            let bytes = grid(rt.alloc(), rows, columns)?;
+            expect_drawn(&rt, rt.alloc(), &bytes, 0)?;
+        }
+    }
+    Ok(())
+}
+
+/// Rings, the least and the greatest number of vertices of each, and the fewest bends: so many, and so many more
+/// for each vertex of a ring.
+const RINGS: [(&[&[Beside]], [u8; 2], [u32; 2]); 6] = [
+    (&CYCLE, [3, 3], [1, 0]),
+    (&CYCLE, [4, 40], [0, 0]),
+    (&CYCLE, [255, 255], [0, 0]),
+    (&PRISM, [3, 12], [4, 0]),
+    (&ANTIPRISM, [3, 3], [12, 0]),
+    (&ANTIPRISM, [4, 12], [4, 2]),
+];
+
+#[test]
+fn rings_with_bends(rt: HostRuntime) -> Result<(), Fail> {
+    for (named, [least, most], [bends, more]) in RINGS {
+        for count in least..=most {
+            let bytes = rings(rt.alloc(), named, count)?;
+            let bends = bends.wrapping_add(more.wrapping_mul(u32::from(count)));
+            expect_drawn(&rt, rt.alloc(), &bytes, bends)?;
+        }
+    }
     Ok(())
 }

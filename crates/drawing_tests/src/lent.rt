@@ -1,11 +1,12 @@
 //! Shapes that are drawn one after another in memory that is lent: each drawing is the same as in memory of
 //! its own.
 
-use crate::planes::{EDGE, TRIANGLE, bent_triangle_in, plane_of, same, spiral_in};
-use crate::refused::expect_same_boxes;
+use crate::planes::{
+    EDGE, TRIANGLE, bent_triangle_in, boxes_of, expect_drawing, plane_of, same, spiral_in,
+};
+use crate::refused::{are_alike, are_same};
 use compact::{CompactFault, compact, compact_in};
-use dissect::{Boxes, dissect, dissect_in};
-use drawing_check::check_in;
+use dissect::{Boxes, dissect_in};
 use faces::Plane;
 use ortho_rep::{Points, Shape, is_shape};
 use std::alloc::{AllocError, Global};
@@ -20,17 +21,6 @@ struct Lent {
     checks: drawing_check::Scratch,
 }
 
-impl Lent {
-    /// No memory yet.
-    fn empty(alloc: Global) -> Lent {
-        Lent {
-            boxes: dissect::Scratch::empty(alloc),
-            points: compact::Scratch::empty(alloc),
-            checks: drawing_check::Scratch::empty(alloc),
-        }
-    }
-}
-
 /// The boxes of a shape in memory that is lent, which are those in memory of its own.
 fn boxes_in(
     rt: &impl Abort,
@@ -40,20 +30,10 @@ fn boxes_in(
     shape: &Shape,
 ) -> Result<Boxes, AllocError> {
     assert!(rt; is_shape(plane, shape));
-    let own = dissect(alloc, plane, shape)?;
     let boxes = dissect_in(alloc, lent, plane, shape)?;
-    expect_same_boxes(rt, &boxes, &own);
+    let own = boxes_of(rt, alloc, plane, shape)?;
+    same(rt, are_same(&boxes, &own), true);
     Ok(boxes)
-}
-
-/// Two drawings of so many edges have the same points.
-fn expect_same_points(rt: &impl Abort, edges: u16, one: &Points, other: &Points) {
-    assert!(rt; one.edge_count() == usize::from(edges));
-    assert!(rt; other.edge_count() == usize::from(edges));
-    same(rt, one.vertices(), other.vertices());
-    for edge in 0..edges {
-        same(rt, one.corners(edge), other.corners(edge));
-    }
 }
 
 /// The points of boxes in memory that is lent, which are those in memory of its own.
@@ -63,29 +43,10 @@ fn points_in(
     lent: &mut compact::Scratch,
     boxes: &Boxes,
 ) -> Result<Points, CompactFault> {
-    let own = compact(alloc, boxes)?;
     let points = compact_in(alloc, lent, boxes)?;
-    expect_same_points(rt, boxes.edges(), &points, &own);
+    let own = compact(alloc, boxes)?;
+    same(rt, are_alike(&points, &own), true);
     Ok(points)
-}
-
-/// The points draw the shape, as a check in memory that is lent finds.
-fn expect_drawing_in(
-    rt: &impl Abort,
-    alloc: Global,
-    lent: &mut drawing_check::Scratch,
-    plane: &Plane,
-    shape: &Shape,
-    points: Points,
-) {
-    assert!(rt; is_shape(plane, shape));
-    assert!(rt; points.vertex_count() == usize::from(plane.graph().vertices()));
-    assert!(rt; points.edge_count() == usize::from(plane.graph().edges()));
-    let fault = match check_in(alloc, lent, plane, shape, points) {
-        Ok(_) => None,
-        Err((fault, _)) => Some(fault),
-    };
-    same(rt, fault, None);
 }
 
 /// A shape of a plane is drawn in memory that is lent.
@@ -99,7 +60,7 @@ fn draw_shape_in(
     let boxes = boxes_in(rt, alloc, &mut lent.boxes, plane, shape)?;
     let points = points_in(rt, alloc, &mut lent.points, &boxes)?;
     boxes.give_back(&mut lent.boxes);
-    expect_drawing_in(rt, alloc, &mut lent.checks, plane, shape, points);
+    expect_drawing(rt, alloc, &mut lent.checks, plane, shape, points);
     Ok(())
 }
 
@@ -119,7 +80,11 @@ fn draw_in(
 #[test]
 fn drawings_in_lent_memory(rt: HostRuntime) -> Result<(), Fail> {
     let alloc = rt.alloc();
-    let mut lent = Lent::empty(alloc);
+    let mut lent = Lent {
+        boxes: dissect::Scratch::empty(alloc),
+        points: compact::Scratch::empty(alloc),
+        checks: drawing_check::Scratch::empty(alloc),
+    };
     draw_in(&rt, alloc, &mut lent, &TRIANGLE, bent_triangle_in(alloc))?;
     draw_in(&rt, alloc, &mut lent, &EDGE, spiral_in(alloc, 0))?;
     draw_in(&rt, alloc, &mut lent, &EDGE, spiral_in(alloc, 20))?;

@@ -1,8 +1,8 @@
 //! Planes, shapes and drawings that the tests share.
 
 use compact::compact;
-use dissect::dissect;
-use drawing_check::check;
+use dissect::{Boxes, dissect};
+use drawing_check::{Scratch, check_in};
 use embedding::Graph;
 use faces::Plane;
 use ortho_rep::{Points, Shape, Turn, is_shape};
@@ -32,8 +32,18 @@ pub(crate) fn plane_of(alloc: Global, bytes: &[u8]) -> Result<Plane, Fail> {
     Ok(plane_in(alloc, bytes).ok_or("no plane")?)
 }
 
-/// The shape of these angles and strings, if the strings are short enough.
-pub(crate) fn shape_of(angles: Vec<u8>, strings: Vec<Vec<Turn>>) -> Option<Shape> {
+fn strings_in(alloc: Global, strings: &[&[Turn]]) -> Result<Vec<Vec<Turn>>, AllocError> {
+    let mut lists = Vec::new(alloc);
+    for turns in strings {
+        lists.push(turns.to_vec(alloc)?)?;
+    }
+    Ok(lists)
+}
+
+/// The shape of these angles and strings, if the strings are short enough and there is memory.
+pub(crate) fn shape_in(alloc: Global, angles: &[u8], strings: &[&[Turn]]) -> Option<Shape> {
+    let strings = strings_in(alloc, strings).ok()?;
+    let angles = angles.to_vec(alloc).ok()?;
     if Shape::are_short(&strings) {
         Some(Shape::new(angles, strings))
     } else {
@@ -41,46 +51,35 @@ pub(crate) fn shape_of(angles: Vec<u8>, strings: Vec<Vec<Turn>>) -> Option<Shape
     }
 }
 
-/// The strings of a single edge that turns to the left so many times.
-fn spiral_strings(alloc: Global, turns: usize) -> Result<Vec<Vec<Turn>>, AllocError> {
-    let mut strings = Vec::new(alloc);
-    strings.push(vec![in alloc; Turn::Left; turns]?)?;
-    strings.push(vec![in alloc; Turn::Right; turns]?)?;
-    Ok(strings)
-}
-
 /// The shape of a single edge that turns to the left so many times, if there is memory.
 pub(crate) fn spiral_in(alloc: Global, turns: usize) -> Option<Shape> {
-    let strings = spiral_strings(alloc, turns).ok()?;
-    shape_of([4, 4].to_vec(alloc).ok()?, strings)
+    let left = vec![in alloc; Turn::Left; turns].ok()?;
+    let right = vec![in alloc; Turn::Right; turns].ok()?;
+    shape_in(alloc, &[4, 4], &[&left, &right])
 }
 
-/// The strings of the triangle whose edge from 1 to 3 turns once.
-fn bent_strings(alloc: Global) -> Result<Vec<Vec<Turn>>, AllocError> {
-    let mut strings = Vec::new(alloc);
-    for turns in BENT {
-        strings.push(turns.to_vec(alloc)?)?;
-    }
-    Ok(strings)
-}
-
-const BENT: [&[Turn]; 6] = [&[], &[Turn::Left], &[], &[], &[Turn::Right], &[]];
-
-/// The shape of that triangle, if there is memory.
+/// The shape of the triangle whose edge from 1 to 3 turns once, if there is memory.
 pub(crate) fn bent_triangle_in(alloc: Global) -> Option<Shape> {
-    let strings = bent_strings(alloc).ok()?;
-    shape_of([3, 1, 3, 1, 3, 1].to_vec(alloc).ok()?, strings)
+    let strings: [&[Turn]; 6] = [&[], &[Turn::Left], &[], &[], &[Turn::Right], &[]];
+    shape_in(alloc, &[3, 1, 3, 1, 3, 1], &strings)
 }
 
-/// The most vertices that the boxes of a shape may have: three for one of the plane, two for a bend, and five.
-pub(crate) fn bound(plane: &Plane, shape: &Shape) -> u64 {
-    3 * u64::from(plane.graph().vertices()) + 2 * u64::from(shape.bends()) + 5
+/// The boxes of a shape.
+pub(crate) fn boxes_of(
+    rt: &impl Abort,
+    alloc: Global,
+    plane: &Plane,
+    shape: &Shape,
+) -> Result<Boxes, AllocError> {
+    assert!(rt; is_shape(plane, shape));
+    dissect(alloc, plane, shape)
 }
 
-/// The points draw the shape.
+/// The points draw the shape, as a check in memory that is lent finds.
 pub(crate) fn expect_drawing(
     rt: &impl Abort,
     alloc: Global,
+    lent: &mut Scratch,
     plane: &Plane,
     shape: &Shape,
     points: Points,
@@ -88,28 +87,22 @@ pub(crate) fn expect_drawing(
     assert!(rt; is_shape(plane, shape));
     assert!(rt; points.vertex_count() == usize::from(plane.graph().vertices()));
     assert!(rt; points.edge_count() == usize::from(plane.graph().edges()));
-    let fault = match check(alloc, plane, shape, points) {
+    let fault = match check_in(alloc, lent, plane, shape, points) {
         Ok(_) => None,
         Err((fault, _)) => Some(fault),
     };
     same(rt, fault, None);
 }
 
-/// How many thousandths of a bound a number is.
-fn share(rt: &impl Abort, number: u32, most: u64) -> u64 {
-    assert!(rt; most > 0);
-    1000 * u64::from(number) / most
-}
-
-/// The shape is cut into boxes and drawn: how many thousandths of the most vertices the boxes have.
+/// The shape is cut into boxes and drawn.
 pub(crate) fn draw(
     rt: &impl Abort,
     alloc: Global,
     plane: &Plane,
     shape: &Shape,
-) -> Result<u64, Fail> {
-    assert!(rt; is_shape(plane, shape));
-    let boxes = dissect(alloc, plane, shape)?;
-    expect_drawing(rt, alloc, plane, shape, compact(alloc, &boxes)?);
-    Ok(share(rt, boxes.vertices(), bound(plane, shape)))
+) -> Result<(), Fail> {
+    let boxes = boxes_of(rt, alloc, plane, shape)?;
+    let points = compact(alloc, &boxes)?;
+    expect_drawing(rt, alloc, &mut Scratch::empty(alloc), plane, shape, points);
+    Ok(())
 }

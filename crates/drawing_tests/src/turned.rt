@@ -2,8 +2,8 @@
 
 ghost use Rattle.ortho_rep.specs.Representation.{HasDarts};
 
-use crate::families::{OCTAHEDRON, antiprism, grid, prism};
-use crate::planes::{EDGE, TRIANGLE, draw, plane_of, same, shape_of, spiral_in};
+use crate::families::{ANTIPRISM, OCTAHEDRON, PRISM, grid, rings};
+use crate::planes::{EDGE, TRIANGLE, draw, plane_of, spiral_in};
 use faces::Plane;
 use ortho_rep::{Shape, Turn, least_shape};
 use std::alloc::{AllocError, Global};
@@ -105,51 +105,42 @@ fn with_a_step(
     let mut strings = strings_of(alloc, plane, shape)?;
     add_step(random, plane, &mut strings)?;
     let angles = angles_of(alloc, plane, shape)?;
-    Ok(shape_of(angles, strings).ok_or("strings out of range")?)
+    if Shape::are_short(&strings) {
+        Ok(Shape::new(angles, strings))
+    } else {
+        Err("strings out of range")?
+    }
 }
 
-/// Least shapes of these bytes, each with one more random step than the one before it, are drawn: the
-/// largest share of the bound that boxes have.
-fn expect_steps(rt: &impl Abort, alloc: Global, bytes: &[u8], seed: u64) -> Result<u64, Fail> {
+/// Least shapes of these bytes, each with one more random step than the one before it, are drawn.
+fn expect_steps(rt: &impl Abort, alloc: Global, bytes: &[u8], seed: u64) -> Result<(), Fail> {
     let plane = plane_of(alloc, bytes)?;
     let (mut shape, _) = least_shape(alloc, &plane)?;
-    let least = shape.bends();
     let mut random = Random { state: seed };
-    let mut share = 0;
-    for steps in 0..20u32 {
-        same(rt, shape.bends(), least.wrapping_add(2 * steps));
-        share = share.max(draw(rt, alloc, &plane, &shape)?);
+    for _step in 0..20u32 {
+        draw(rt, alloc, &plane, &shape)?;
         shape = with_a_step(alloc, &plane, &shape, &mut random)?;
     }
-    Ok(share)
+    Ok(())
 }
 
 #[test]
 fn steps_are_drawn(rt: HostRuntime) -> Result<(), Fail> {
     let alloc = rt.alloc();
-    let mut share = expect_steps(&rt, alloc, &EDGE, 1)?;
-    share = share.max(expect_steps(&rt, alloc, &TRIANGLE, 2)?);
-    share = share.max(expect_steps(&rt, alloc, &OCTAHEDRON, 3)?);
-    share = share.max(expect_steps(&rt, alloc, &grid(alloc, 4, 4)?, 4)?);
-    share = share.max(expect_steps(&rt, alloc, &prism(alloc, 7)?, 5)?);
-    share = share.max(expect_steps(&rt, alloc, &antiprism(alloc, 6)?, 6)?);
-    assert!(rt; share <= 1000);
-    Ok(())
-}
-
-/// A spiral of so many turns is drawn.
-fn expect_spiral(rt: &impl Abort, alloc: Global, plane: &Plane, turns: usize) -> Result<(), Fail> {
-    let shape = spiral_in(alloc, turns).ok_or("no shape")?;
-    assert!(rt; draw(rt, alloc, plane, &shape)? <= 1000);
-    Ok(())
+    for (bytes, seed) in [(EDGE.as_slice(), 1), (&TRIANGLE, 2), (&OCTAHEDRON, 3)] {
+        expect_steps(&rt, alloc, bytes, seed)?;
+    }
+    expect_steps(&rt, alloc, &grid(alloc, 4, 4)?, 4)?;
+    expect_steps(&rt, alloc, &rings(alloc, &PRISM, 7)?, 5)?;
+    expect_steps(&rt, alloc, &rings(alloc, &ANTIPRISM, 6)?, 6)
 }
 
 #[test]
 fn spirals_are_drawn(rt: HostRuntime) -> Result<(), Fail> {
-    let alloc = rt.alloc();
-    let plane = plane_of(alloc, &EDGE)?;
+    let plane = plane_of(rt.alloc(), &EDGE)?;
     for turns in [1, 2, 3, 4, 5, 10, 100, 300] {
-        expect_spiral(&rt, alloc, &plane, turns)?;
+        let shape = spiral_in(rt.alloc(), turns).ok_or("no shape")?;
+        draw(&rt, rt.alloc(), &plane, &shape)?;
     }
     Ok(())
 }

@@ -1,4 +1,5 @@
-//! Tests of the least-cost flow solver: networks of known cost, and a slow solver of its own beside it.
+//! Tests of the least-cost flow solver: networks whose least cost is known, by hand, from other solvers, and by a slow
+//! solver of its own beside it.
 #![tactic(auto)]
 
 #[cfg(test)]
