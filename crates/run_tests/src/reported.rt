@@ -1,79 +1,156 @@
-//! Reports of runs, as the tests of this crate compare them.
+//! Files whose sources fail, writers that take little, and the texts of runs, as the tests of this crate compare them. The
+//! bytes and the texts come from the descriptions of the format and of the report.
+ghost use Rattle.std.specs.Prelude.{◌≤◌, false, None};
+ghost use Rattle.lanes.specs.Opening.{Silent};
 
 use collector::{
-    Batch, Choice, Form, Gate, IoSink, MemOpener, Opener, TextFault, run_batch, run_plain,
-    write_batch, write_report,
+    Choice, Form, Gate, IoSink, OpenFault, Opener, Tap, TapFault, TextFault, write_batch,
 };
 use std::alloc::Global;
+use std::fmt::Debug;
+use std::io;
+use std::io::{ErrorKind, Write};
 use std::process::Abort;
 use std::sync::Wait;
-use std::test::Fail;
 use std::thread::Threads;
 
-/// Sees that a report is this text.
-pub(crate) fn same(rt: &impl Abort, got: &[u8], want: &[u8]) {
+/// Sees that two values are the same. (An `assert_eq!` in each place would make the tests' proofs several times as long.)
+pub(crate) fn same<T: PartialEq + Debug + Drop>(rt: &impl Abort, got: T, want: T) {
     assert_eq!(rt; got, want);
 }
 
-/// A file in memory, of which a read gives at most two bytes.
-pub(crate) fn opener_of(alloc: Global, file: &[u8]) -> Result<MemOpener, Fail> {
-    let mut files = Vec::new(alloc);
-    files.push(file.to_vec(alloc)?)?;
-    Ok(MemOpener::new(files, 2))
+/// A source that gives one byte a read, and fails once it was read so often.
+#[derive(Drop)]
+pub(crate) struct Failing {
+    bytes: &'static [u8],
+    at: usize,
+    reads: usize,
 }
 
-/// The report of a batch.
-pub(crate) fn report_of(alloc: Global, batch: &Batch) -> Result<Vec<u8>, Fail> {
-    let mut sink = IoSink::new(Vec::new(alloc));
-    write_report(batch, &mut sink)?;
-    Ok(sink.into_writer())
+impl Tap for Failing {
+    ghost to_come = { λ _. None };
+
+    ghost fails = { λ _. false };
+
+    fn read(&mut self, buf: &mut [u8]) -> Result<usize, TapFault> {
+        if self.at >= self.reads {
+            return Err(TapFault);
+        }
+        match (buf.first_mut(), self.bytes.get(self.at)) {
+            (Some(place), Some(byte)) => {
+                *place = *byte;
+                self.at += 1;
+                Ok(1)
+            }
+            _ => Ok(0),
+        }
+    }
 }
 
-/// The report of a run on one thread.
-pub(crate) fn on_one_thread<O: Opener>(
-    alloc: Global,
-    opener: &O,
-    files: u32,
-) -> Result<Vec<u8>, Fail> {
-    let batch = run_plain(alloc, opener, files, Choice::First)?;
-    report_of(alloc, &batch)
+/// Opens these files, the second one only where there is no fault, with sources that fail once they were read so often.
+#[derive(Clone, Copy)]
+pub(crate) struct Files {
+    pub(crate) files: &'static [&'static [u8]],
+    pub(crate) fault: Option<OpenFault>,
+    pub(crate) reads: usize,
 }
 
-/// The report of a run over lanes, with room for one message between two threads.
-pub(crate) fn over_lanes<R: AllocGlobal + Threads + Wait + Sync, O: Opener, G: Gate>(
+impl Opener for Files {
+    type Source = Failing;
+
+    ghost meaning = { λ _ _. Silent };
+
+    fn open(&self, _alloc: Global, file: u32) -> Result<Failing, OpenFault> {
+        match (self.files.get(file as usize), self.fault) {
+            (Some(_), Some(fault)) if file == 1 => Err(fault),
+            (Some(bytes), _) => Ok(Failing {
+                bytes,
+                at: 0,
+                reads: self.reads,
+            }),
+            _ => Err(OpenFault::Io),
+        }
+    }
+}
+
+/// Two triangles; an edge and a record that is cut; no record.
+pub(crate) const THREE: Files = Files {
+    files: &[
+        b">>planar_code<<\x03\x02\x03\x00\x03\x01\x00\x01\x02\x00\x03\x02\x03\x00\x03\x01\x00\x01\x02\x00",
+        b">>planar_code<<\x02\x02\x00\x01\x00\x02\x02\x00\x01",
+        b">>planar_code<<",
+    ],
+    fault: None,
+    reads: usize::MAX,
+};
+
+/// The report of them.
+pub(crate) const REPORT: &[u8] =
+    b"file 1\ngraph 1 ok n=3 m=3 f=2 bends=1 drawn=yes\ngraph 2 ok n=3 m=3 f=2 bends=1 drawn=yes\nend complete graphs=2\n\
+    file 2\ngraph 1 ok n=2 m=1 f=1 bends=0 drawn=yes\nend truncated graphs=1\nfile 3\nend complete graphs=0\n";
+
+/// A writer that takes at most `most` bytes a write. Once it has `room` bytes, 211 at most, it fails or takes nothing.
+#[derive(Drop)]
+pub(crate) struct Narrow {
+    taken: [u8; 211],
+    len: usize,
+    room: usize,
+    most: usize,
+    fails: bool,
+    ghost within: { len ≤ 211 },
+}
+
+impl Narrow {
+    /// A writer that has taken nothing.
+    pub(crate) fn new(room: usize, most: usize, fails: bool) -> Narrow {
+        Narrow {
+            taken: [0; 211],
+            len: 0,
+            room,
+            most,
+            fails,
+        }
+    }
+
+    /// What it has taken.
+    pub(crate) fn text(&self) -> &[u8] {
+        &self.taken[..self.len]
+    }
+}
+
+impl Write for Narrow {
+    fn write(&mut self, buf: &[u8]) -> io::Result<usize> {
+        let left = self.room.min(211).saturating_sub(self.len);
+        if left == 0 && self.fails {
+            return Err(io::Error::from(ErrorKind::Other));
+        }
+        let count = buf.len().min(left).min(self.most);
+        let end = self.len + count;
+        self.taken[self.len..end].copy_from_slice(&buf[..count]);
+        self.len = end;
+        Ok(count)
+    }
+
+    fn flush(&mut self) -> io::Result<()> {
+        Ok(())
+    }
+}
+
+/// The text of a run over lanes in this form as it is made, with room for one message between two threads, in a writer
+/// with so much room that takes so many bytes a write, and how the run ended.
+pub(crate) fn written<R: AllocGlobal + Threads + Wait + Sync, G: Gate>(
     rt: &R,
-    opener: &O,
-    files: u32,
-    lanes: u32,
-    gate: &G,
-) -> Result<Vec<u8>, Fail> {
-    let alloc = rt.alloc();
-    let batch = run_batch(rt, alloc, opener, files, lanes, 1, Choice::First, gate)?;
-    report_of(alloc, &batch)
-}
-
-/// The text of a run over lanes in this form as it is made, with room for one message between two threads, and how
-/// the run ended.
-pub(crate) fn text_over_lanes<R: AllocGlobal + Threads + Wait + Sync, O: Opener, G: Gate>(
-    rt: &R,
-    opener: &O,
+    opener: &Files,
     files: u32,
     lanes: u32,
     form: Form,
     gate: &G,
-) -> (Vec<u8>, Result<u8, TextFault>) {
-    let mut sink = IoSink::new(Vec::new(rt.alloc()));
+    (room, most): (usize, usize),
+) -> (Result<u8, TextFault>, Narrow) {
+    let mut sink = IoSink::new(Narrow::new(room, most, true));
+    let (alloc, choice) = (rt.alloc(), Choice::First);
     let ended = write_batch(
-        rt,
-        rt.alloc(),
-        opener,
-        files,
-        lanes,
-        1,
-        Choice::First,
-        form,
-        gate,
-        &mut sink,
+        rt, alloc, opener, files, lanes, 1, choice, form, gate, &mut sink,
     );
-    (sink.into_writer(), ended)
+    (ended, sink.into_writer())
 }
