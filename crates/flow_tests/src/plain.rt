@@ -1,0 +1,167 @@
+//! A slow solver to compare with: one unit at a time along a path of least cost, found by going over all
+//! arcs until no label falls. (Bellman and Ford's method.)
+use min_cost_flow::{Arc, Cap, Network};
+use std::alloc::{AllocError, Global};
+
+/// The label of a node that no path reaches.
+const FAR: i64 = 1 << 40;
+
+/// An arc that ends a path at a node, and whether it is taken against itself.
+#[derive(Clone, Copy, Debug, PartialEq, Eq)]
+struct Step {
+    arc: usize,
+    back: bool,
+}
+
+/// Units on the way: what each arc carries, and what each node has left over or wants.
+#[derive(Drop)]
+struct Sending {
+    arcs: Vec<Arc>,
+    carried: Vec<u32>,
+    excess: Vec<i32>,
+}
+
+/// The least cost of a flow, or none where there is no flow.
+pub(crate) fn least_cost(alloc: Global, network: &Network) -> Result<Option<u64>, AllocError> {
+    let mut sending = begin(alloc, network)?;
+    for _ in 0..100_000 {
+        let Some(source) = sending.excess.iter().position(|units| *units > 0) else {
+            break;
+        };
+        let labels = labels_from(alloc, &sending, source)?;
+        let Some(target) = nearest(&sending, &labels) else {
+            return Ok(None);
+        };
+        let path = path_to(alloc, &sending, &labels, source, target)?;
+        send(&mut sending, &path, source, target);
+    }
+    if sending.excess.iter().any(|units| *units != 0) {
+        return Ok(None);
+    }
+    let mut total = 0u64;
+    for (arc, units) in sending.arcs.iter().zip(&sending.carried) {
+        total = total.saturating_add(u64::from(arc.cost).saturating_mul(u64::from(*units)));
+    }
+    Ok(Some(total))
+}
+
+fn begin(alloc: Global, network: &Network) -> Result<Sending, AllocError> {
+    let mut arcs = Vec::new(alloc);
+    for i in 0..network.arc_count() {
+        arcs.push(network.arc(i as u32))?;
+    }
+    Ok(Sending {
+        arcs,
+        carried: vec![in alloc; 0; network.arc_count()]?,
+        excess: Vec::from_slice(alloc, network.supplies())?,
+    })
+}
+
+/// Both ends of a step and its cost, if one more unit can go along it.
+fn open_step(sending: &Sending, step: Step) -> Option<(usize, usize, i64)> {
+    let arc = sending.arcs.get(step.arc)?;
+    let carried = *sending.carried.get(step.arc)?;
+    let (from, to) = (arc.from as usize, arc.to as usize);
+    if step.back {
+        return (carried > 0).then_some((to, from, -i64::from(arc.cost)));
+    }
+    let open = match arc.cap {
+        Cap::AtMost(limit) => carried < limit,
+        Cap::Any => true,
+    };
+    open.then_some((from, to, i64::from(arc.cost)))
+}
+
+/// The least cost of a path from a node to each, and its last step.
+fn labels_from(
+    alloc: Global,
+    sending: &Sending,
+    source: usize,
+) -> Result<Vec<(i64, Option<Step>)>, AllocError> {
+    let mut labels = vec![in alloc; (FAR, None); sending.excess.len()]?;
+    if let Some(label) = labels.get_mut(source) {
+        *label = (0, None);
+    }
+    for _ in 0..sending.excess.len() {
+        for arc in 0..sending.arcs.len() {
+            relax(sending, &mut labels, Step { arc, back: false });
+            relax(sending, &mut labels, Step { arc, back: true });
+        }
+    }
+    Ok(labels)
+}
+
+/// Lowers the label of a step's end, if the path along it costs less.
+fn relax(sending: &Sending, labels: &mut [(i64, Option<Step>)], step: Step) {
+    let Some((from, to, cost)) = open_step(sending, step) else {
+        return;
+    };
+    let Some((start, _)) = labels.get(from).copied() else {
+        return;
+    };
+    let offered = start.saturating_add(cost);
+    if let Some(label) = labels.get_mut(to)
+        && start < FAR
+        && offered < label.0
+    {
+        *label = (offered, Some(step));
+    }
+}
+
+/// The node at the end of a path of least cost among those where units are wanting.
+fn nearest(sending: &Sending, labels: &[(i64, Option<Step>)]) -> Option<usize> {
+    let mut best = None;
+    let mut least = FAR;
+    for (node, (units, label)) in sending.excess.iter().zip(labels).enumerate() {
+        if *units < 0 && label.0 < least {
+            best = Some(node);
+            least = label.0;
+        }
+    }
+    best
+}
+
+/// The steps of the path to a node, last to first.
+fn path_to(
+    alloc: Global,
+    sending: &Sending,
+    labels: &[(i64, Option<Step>)],
+    source: usize,
+    target: usize,
+) -> Result<Vec<Step>, AllocError> {
+    let mut path = Vec::new(alloc);
+    let mut node = target;
+    for _ in 0..labels.len() {
+        if node == source {
+            break;
+        }
+        let Some((_, Some(step))) = labels.get(node).copied() else {
+            break;
+        };
+        let Some((from, _, _)) = open_step(sending, step) else {
+            break;
+        };
+        path.push(step)?;
+        node = from;
+    }
+    Ok(path)
+}
+
+/// Sends one unit along a path.
+fn send(sending: &mut Sending, path: &[Step], source: usize, target: usize) {
+    for step in path {
+        if let Some(carried) = sending.carried.get_mut(step.arc) {
+            *carried = if step.back {
+                carried.saturating_sub(1)
+            } else {
+                carried.saturating_add(1)
+            };
+        }
+    }
+    if let Some(units) = sending.excess.get_mut(source) {
+        *units = units.saturating_sub(1);
+    }
+    if let Some(units) = sending.excess.get_mut(target) {
+        *units = units.saturating_add(1);
+    }
+}
