@@ -1,4 +1,5 @@
-ghost use Rattle.std.specs.Prelude.{◌≡◌, ◌<◌, All, vec_len};
+ghost use Rattle.std.specs.Prelude.{◌≡◌, ◌<◌, ◌≤◌, All, vec_len};
+ghost use Rattle.ruled_lanes.specs.declared.limits.TheConstants.{LANES};
 ghost use Rattle.ruled_lanes.specs.TicketSeats.{IsSeatOf};
 
 use crate::compared::same;
@@ -35,8 +36,17 @@ fn refused_memory_is_told(rt: HostRuntime) {
     draws(&rt, &tickets, &mut seats, 1, Some(1));
     draws(&rt, &tickets, &mut seats, 0, Some(2));
     draws(&rt, &tickets, &mut seats, 0, None);
+    draws(&rt, &tickets, &mut seats, 0, None);
     draws(&rt, &tickets, &mut seats, 1, None);
     same(&rt, tickets.close(seats), 5);
+}
+
+#[test]
+fn nothing_to_draw(rt: HostRuntime) {
+    let (tickets, mut seats) = Tickets::new(rt.alloc(), 0, 1).expect(&rt, "memory");
+    draws(&rt, &tickets, &mut seats, 0, None);
+    draws(&rt, &tickets, &mut seats, 0, None);
+    same(&rt, tickets.close(seats), 1);
 }
 
 // Draws until there is nothing left, and adds the numbers to a sum.
@@ -71,12 +81,23 @@ fn draw_in_threads<R: Threads + Sync>(
     );
 }
 
-/// The numbers below 256 add up to 32,640.
+// All numbers below 256 are dealt in threads, one for each of so many seats: they add up to 32,640.
+fn deals<R: Abort + AllocGlobal + Threads + Sync>(rt: &R, lanes: u32, word: u32)
+    requires lanes { (1 ≤ lanes) × (lanes ≤ LANES) }
+{
+    let (tickets, mut seats) = Tickets::new(rt.alloc(), 256, lanes).expect(rt, "memory");
+    let sum = AtomicU32::new(0);
+    draw_in_threads(rt, &tickets, &mut seats, &sum);
+    same(rt, tickets.close(seats), word);
+    same(rt, sum.load(Ordering::SeqCst), 32_640);
+}
+
+#[test]
+fn four_threads_draw_each_number_once(rt: HostRuntime) {
+    deals(&rt, 4, 260);
+}
+
 #[test]
 fn eight_threads_draw_each_number_once(rt: HostRuntime) {
-    let (tickets, mut seats) = Tickets::new(rt.alloc(), 256, 8).expect(&rt, "memory");
-    let sum = AtomicU32::new(0);
-    draw_in_threads(&rt, &tickets, &mut seats, &sum);
-    same(&rt, tickets.close(seats), 264);
-    same(&rt, sum.load(Ordering::SeqCst), 32_640);
+    deals(&rt, 8, 264);
 }
