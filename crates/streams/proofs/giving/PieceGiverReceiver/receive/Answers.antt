@@ -3,7 +3,7 @@ use Rattle.std.proofs.lemmas.Result.{on_ok_weaker}
 use Rattle.ruled_lanes.specs.LinkEnds.{given}
 use Rattle.streams.specs.ReadMessage.{GiveRecords}
 use Rattle.streams.proofs.Messages.{gave_records}
-use Rattle.streams.proofs.giving.RecordGiverReceiver.receive.Goals as goal
+use Rattle.streams.proofs.giving.PieceGiverReceiver.receive.Goals as goal
 
 pub returns-clause-received : goal.returns-clause-received
 returns-clause-received g c =
