@@ -72,7 +72,7 @@ impl Direction {
         requires { number < 4 }
         ensures { quarters result ≡ number }
     {
-        match number {
+        match number % 4 {
             0 => Direction::East,
             1 => Direction::North,
             2 => Direction::West,

@@ -39,16 +39,6 @@ impl Faces {
     }
 }
 
-/// How many darts are corners of their faces. A step for each dart.
-fn corner_count(table: &DartTable) -> usize
-    ensures few { result ≤ table.now.darts }
-{
-    table.angle[..table.darts as usize]
-        .iter()
-        .filter(|angle| **angle != 2)
-        .count()
-}
-
 /// How many faces a joined drawing has, by Euler's formula. Only how much room is made for them rests on it.
 fn face_count(table: &DartTable) -> usize {
     (table.darts / 2 + 2).saturating_sub(table.vertices) as usize
@@ -64,12 +54,13 @@ pub fn list_faces(table: &DartTable, right: u32, faces: Faces) -> Result<Faces, 
     ensures listed { IfOk result (λ f. (inner : List (List ℕ)) × AreFlat f.corners.items f.counts.items inner
         × AreListed (web_of table.now) right inner f.outer.items) }
 {
-    let corner_count = corner_count(table);
-    let mut seen = filled(faces.seen, table.darts as usize, false)?;
-    let mut outer = emptied(faces.outer, corner_count)?;
+    // No face has more corners than darts, nor have all of them together.
+    let darts = table.darts as usize;
+    let mut seen = filled(faces.seen, darts, false)?;
+    let mut outer = emptied(faces.outer, darts)?;
     walk(table, right, &mut seen, &mut outer)?;
     // The joined face has the corners of the outer face, and seven more.
-    let mut corners = emptied(faces.corners, corner_count + 7)?;
+    let mut corners = emptied(faces.corners, darts + 7)?;
     let mut counts = emptied(faces.counts, face_count(table))?;
     'darts: for start in 0..table.darts {
         if !seen[start as usize] && table.angle[start as usize] != 2 {
