@@ -4,6 +4,7 @@ use Rattle.std.specs.List.{list_any}
 use Rattle.std.proofs.lemmas.List.Sums.{sum_by-cons}
 use Rattle.sums.specs.Sums.{sum_below}
 use Rattle.sums.proofs.Sums.{sum_below-le}
+use Rattle.cutting.specs.declared.table.TheConstants.{RECTANGLE_ROOM}
 use Rattle.cutting.specs.Webs.{Web, IsLinked, IsSound, IsCut, Grows, excess}
 use Rattle.cutting.specs.Frames.{IsFramed, IsEnclosed}
 use Rattle.cutting.specs.Labels.{AreLabels, HasTurns}
@@ -166,7 +167,7 @@ join_sound w framed right side way new sound j =
     cut_sound framed right (w.darts + side) way new (frame_sound w framed j.frame sound) j.join
 
 pub join_room : (w framed : Web) (right side way room : ℕ) (new : Web) → IsJoining w framed right side way new →
-    w.darts + 4 * excess w + 24 ≤ room → HasRoom new room
+    w.darts + 4 * excess w + RECTANGLE_ROOM ≤ room → HasRoom new room
 join_room w framed right side way room new j space =
     omega (
       arith,
