@@ -1,11 +1,10 @@
 -- Tables that grow list by list and dart by dart.
 use Rattle.std.proofs.Common.{◌≡◌, ℕ, zero, suc, ◌+◌, ◌<◌, ◌≤◌, List, [], ◌∷◌, ◌++◌, length, get_or, take, replicate, refl, sym, ap, ◌∙◌, inl, inr, arith}
-use Rattle.std.proofs.lemmas.List.{append_assoc, append-nil, length-append, get_or_append_left, get_or_at, take_all, map-append, replicate-append-replicate}
+use Rattle.std.proofs.lemmas.List.{append_assoc, append-nil, length-append, get_or_append_left, get_or_at, take_all, replicate-append-replicate}
 use Rattle.std.proofs.lemmas.Bool.{cases_eq}
-use Rattle.smallvec.specs.SmallVec.{SmallVec}
 use Rattle.embedding.specs.Darts.{heads, tails_from, dart_count, first_dart, head_of, tail_of, reverse_of, after_of}
 use Rattle.embedding.specs.Rules.{KeepsBefore}
-use Rattle.embedding.specs.Tables.{entries_of, IsTable}
+use Rattle.embedding.specs.Tables.{IsTable}
 use Rattle.embedding.proofs.Entries.{Stands, stands_at, stands_below}
 use Rattle.embedding.proofs.Rotation.{one_dart, reverse_is, after_place, tail_at}
 
@@ -60,9 +59,6 @@ tails_from-more b (l ∷ ls) (suc k) below =
 
 pub replicate-more : (n x : ℕ) → replicate (n + 1) x ≡ replicate n x ++ x ∷ []
 replicate-more n x = sym (replicate-append-replicate n 1 x)
-
-pub entries_of-push : (lists : List (SmallVec ℕ)) (l : SmallVec ℕ) → entries_of (lists ++ l ∷ []) ≡ entries_of lists ++ l.items ∷ []
-entries_of-push lists l = map-append (λ (x : SmallVec ℕ). x.items) lists (l ∷ [])
 
 -- ---- darts
 

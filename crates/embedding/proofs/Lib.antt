@@ -12,4 +12,5 @@ pub mod Marking
 pub mod Symmetry
 pub mod Reached
 pub mod Building
+pub mod Parts
 pub mod Lesser

@@ -1,12 +1,14 @@
--- What a graph keeps beside its lists: the darts' ends and where they lead.
-use Rattle.std.specs.Prelude.{◌≡◌, ℕ, ◌<◌, List, length, map, slice_index}
-use Rattle.smallvec.specs.SmallVec.{SmallVec}
-use Rattle.embedding.specs.Darts.{heads, tails_from, dart_count, reverse_of, after_of}
+-- What a graph keeps: where its lists start, the darts' ends and where they lead.
+use Rattle.std.specs.Prelude.{◌≡◌, ℕ, ◌+◌, ◌-◌, ◌<◌, List, length, map, slice_index, slice_range}
+use Rattle.std.specs.List.{range_with_len}
+use Rattle.embedding.specs.Darts.{heads, tails_from, dart_count, first_dart, reverse_of, after_of}
 use Rattle.embedding.specs.Rules.{KeepsBefore}
 
--- the entries of each of the lists
-abbrev pub entries_of : List (SmallVec ℕ) → List (List ℕ)
-entries_of lists = map (λ (l : SmallVec ℕ). l.items) lists
+-- the parts of a list between each two places that follow one another: part k goes from place k of
+-- the starts up to the next one
+abbrev pub cut_at : List ℕ → List ℕ → List (List ℕ)
+cut_at starts ends =
+    map (λ k. slice_range ends (slice_index starts k) (slice_index starts (k + 1))) (range_with_len 0 (length starts - 1))
 
 -- the list holds the values of f at the numbers below n, in order
 pub record IsTable (n : ℕ) (f : ℕ → ℕ) (table : List ℕ) : Type 0 where
@@ -14,9 +16,10 @@ pub record IsTable (n : ℕ) (f : ℕ → ℕ) (table : List ℕ) : Type 0 where
   pub each : (d : ℕ) → d < n → slice_index table d ≡ f d
 
 -- the lists g of a graph keep the first seven rules, and the tables are theirs
-pub record IsKept (g : List (List ℕ)) (tails ends reverses afters : List ℕ) : Type 0 where
+pub record IsKept (g : List (List ℕ)) (starts tails ends reverses afters : List ℕ) : Type 0 where
   pub rules : KeepsBefore g 8
   pub order : length g < 256
+  pub starts_are : IsTable (length g + 1) (first_dart g) starts
   pub tails_are : tails ≡ tails_from 1 g
   pub heads_are : ends ≡ heads g
   pub reverses_are : IsTable (dart_count g) (reverse_of g) reverses

@@ -11,9 +11,8 @@ ghost use Rattle.planar_code.specs.Stream.{lists_of};
 use crate::breaks::first_broken;
 use crate::faults::ReadFault;
 use crate::lists::Lists;
-use crate::tables::{afters_in, copied_lists, heads_in, reverses_in, tails_in};
+use crate::tables::{afters_in, heads_in, reverses_in, starts_in, tails_in};
 use planar_code::Record;
-use smallvec::SmallVec;
 use std::alloc::{AllocError, Global};
 use std::marker::Model;
 
@@ -31,7 +30,8 @@ pub const MAX_EDGES: usize = 510;
 /// memory, and each takes constant time.
 #[derive(Debug, Drop)]
 pub struct Graph {
-    lists: Vec<SmallVec<u8, 4>>,
+    /// Where the list of each vertex begins in `heads`, and at the end the number of darts.
+    starts: Vec<u16>,
     tails: Vec<u8>,
     heads: Vec<u8>,
     reverses: Vec<u16>,
@@ -40,15 +40,15 @@ pub struct Graph {
 
 impl Model for Graph {
     ghost use Rattle.std.specs.Prelude.{ℕ, List};
-    ghost use Rattle.embedding.specs.Tables.{entries_of, IsKept};
+    ghost use Rattle.embedding.specs.Tables.{cut_at, IsKept};
 
     ghost Value = { List (List ℕ) };
 
-    ghost view = { λ g. entries_of g.lists.items };
+    ghost view = { λ g. cut_at g.starts.items g.heads.items };
 
     ghost invariant = { λ g.
-        IsKept (entries_of g.lists.items) g.tails.items g.heads.items g.reverses.items
-        g.afters.items };
+        IsKept (cut_at g.starts.items g.heads.items) g.starts.items g.tails.items g.heads.items
+        g.reverses.items g.afters.items };
 }
 
 impl Graph {
@@ -80,7 +80,7 @@ impl Graph {
         ensures { IfOk result (λ graph. graph ≡ lists.now) }
     {
         Ok(Graph {
-            lists: copied_lists(alloc, lists)?,
+            starts: starts_in(alloc, lists)?,
             tails: tails_in(alloc, lists)?,
             heads: heads_in(alloc, lists)?,
             reverses: reverses_in(alloc, lists)?,
@@ -94,7 +94,7 @@ impl Graph {
         ensures some { 0 < result }
         ensures rules { KeepsBefore self.now 8 }
     {
-        self.lists.len() as u8
+        (self.starts.len() - 1) as u8
     }
 
     /// How many edges there are, 1 to 510: half as many as darts.
@@ -128,7 +128,10 @@ impl Graph {
         ensures value { result.now ≡ list_of self.now vertex }
         ensures few { length result.now ≤ 4 }
     {
-        self.lists[usize::from(vertex) - 1].as_slice()
+        let place = usize::from(vertex) - 1;
+        let from = usize::from(self.starts[place]);
+        let to = usize::from(self.starts[place + 1]);
+        &self.heads[from..to]
     }
 
     /// The vertex that a dart comes from, 1 to n.

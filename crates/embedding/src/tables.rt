@@ -4,25 +4,22 @@ ghost use Rattle.std.specs.Prelude.{◌≡◌, ℕ, ◌+◌, ◌<◌, ◌++◌, 
 ghost use Rattle.embedding.specs.Lists.{list_of};
 ghost use Rattle.embedding.specs.Darts.{heads, tails_from, dart_count, first_dart, head_of, tail_of, reverse_of, after_of};
 ghost use Rattle.embedding.specs.Rules.{KeepsBefore};
-ghost use Rattle.embedding.specs.Tables.{entries_of, IsTable};
+ghost use Rattle.embedding.specs.Tables.{IsTable};
 
 use crate::lists::Lists;
-use smallvec::SmallVec;
 use std::alloc::{AllocError, Global};
 
-/// The lists, each of up to four entries in its own place.
-pub(crate) fn copied_lists(
-    alloc: Global,
-    lists: &Lists<'_>,
-) -> Result<Vec<SmallVec<u8, 4>>, AllocError>
-    ensures { IfOk result (λ copies. entries_of copies.items ≡ lists.now) }
+/// Where each list begins among the heads of all darts, and at the end how many darts there are.
+pub(crate) fn starts_in(alloc: Global, lists: &Lists<'_>) -> Result<Vec<u16>, AllocError>
+    ensures { IfOk result (λ starts.
+        IsTable (length lists.now + 1) (first_dart lists.now) starts.items) }
 {
-    let mut copies = Vec::with_capacity(alloc, usize::from(lists.count()))?;
+    let mut starts = Vec::with_capacity(alloc, usize::from(lists.count()) + 1)?;
     for place in 0..lists.count() {
-        let copy: SmallVec<u8, 4> = SmallVec::from_slice(alloc, lists.at(place))?;
-        copies.push(copy)?;
+        starts.push(lists.first_dart(place))?;
     }
-    Ok(copies)
+    starts.push(lists.darts() as u16)?;
+    Ok(starts)
 }
 
 /// Adds the tail of each of so many darts from one vertex.

@@ -1,0 +1,72 @@
+-- Lists that stand one after another, and their parts between the places where they start.
+use Rattle.std.proofs.Common.{◌≡◌, ℕ, zero, suc, ◌+◌, ◌-◌, ◌<◌, ◌≤◌, List, [], ◌∷◌, ◌++◌, length, get_or, take, drop, refl, sym, ap, ◌∙◌, arith}
+use Rattle.std.specs.List.{slice_range}
+use Rattle.std.proofs.lemmas.List.{length-append, take_at, drop_at, drop-drop, ext_get_or}
+use Rattle.std.proofs.lemmas.List.FromFn.{get_or-map-range_with_len, length-map-range_with_len}
+use Rattle.embedding.specs.Lists.{list_of}
+use Rattle.embedding.specs.Darts.{heads, first_dart}
+use Rattle.embedding.specs.Tables.{cut_at, IsTable, IsKept}
+use Rattle.embedding.proofs.EachList.{list_of-add}
+use Rattle.embedding.proofs.KeptFacts.{table_read}
+use Rattle.embedding.proofs.Building.{first_dart-more}
+
+-- a list is the part of all heads from its first dart up to that of the next list
+pub part_of-heads : (g : List (List ℕ)) (k : ℕ) → k < length g → slice_range (heads g) (first_dart g k) (first_dart g (k + 1)) ≡ get_or g k []
+part_of-heads g k below =
+    let n : first_dart g (k + 1) - first_dart g k ≡ length (get_or g k []) = omega (arith, first_dart-more g k below) in
+    ap (λ (m : ℕ). take m (drop (first_dart g k) (heads g))) n ∙ front g k below
+  where
+    front : (g : List (List ℕ)) (k : ℕ) → k < length g → take (length (get_or g k [])) (drop (first_dart g k) (heads g)) ≡ get_or g k []
+    front [] k below = absurd (omega arith)
+    front (l ∷ ls) zero below = take_at l (heads ls) (length l) refl
+    front (l ∷ ls) (suc k) below =
+        let far : first_dart (l ∷ ls) (suc k) ≡ length l + first_dart ls k = length-append l (heads (take k ls)) in
+        let behind : drop (first_dart (l ∷ ls) (suc k)) (l ++ heads ls) ≡ drop (first_dart ls k) (heads ls) =
+        ap (λ (m : ℕ). drop m (l ++ heads ls)) far
+        ∙ sym (drop-drop (first_dart ls k) (length l) (l ++ heads ls))
+        ∙ ap (drop (first_dart ls k)) (drop_at l (heads ls) (length l) refl) in
+        ap (take (length (get_or ls k []))) behind ∙ front ls k (omega arith)
+
+-- no list begins behind all heads
+pub first_dart-within : (g : List (List ℕ)) (k : ℕ) → first_dart g k ≤ length (heads g)
+first_dart-within [] zero = omega arith
+first_dart-within [] (suc k) = omega arith
+first_dart-within (l ∷ ls) zero = omega arith
+first_dart-within (l ∷ ls) (suc k) =
+    omega (arith, length-append l (heads (take k ls)), length-append l (heads ls), first_dart-within ls k)
+
+-- the ends from place `from` up to place `to` are the list
+pub record IsPart (ends list : List ℕ) (from to : ℕ) : Type 0 where
+  pub ordered : from ≤ to
+  pub within : to ≤ length ends
+  pub part : slice_range ends from to ≡ list
+
+pub part_between : (g : List (List ℕ)) (ends : List ℕ) (k from to : ℕ) → ends ≡ heads g → k < length g → from ≡ first_dart g k → to ≡ first_dart g (k + 1) → IsPart ends (get_or g k []) from to
+part_between g ends k from to same below is-from is-to =
+    record {
+      ordered = omega (arith, first_dart-more g k below);
+      within = omega (arith, first_dart-within g (k + 1), ap length same);
+      part =
+          ap (λ (l : List ℕ). slice_range l from to) same
+          ∙ ap (λ (m : ℕ). slice_range (heads g) m to) is-from
+          ∙ ap (slice_range (heads g) (first_dart g k)) is-to
+          ∙ part_of-heads g k below;
+    }
+
+-- the list of a vertex, between what is read from the table of starts
+pub vertex_part : (g : List (List ℕ)) {starts tails ends reverses afters : List ℕ} → IsKept g starts tails ends reverses afters → (v i from to : ℕ) → i + 1 ≡ v → v ≤ length g → from ≡ get_or starts i from → to ≡ get_or starts (i + 1) to → IsPart ends (list_of g v) from to
+vertex_part g {starts} {tails} {ends} kept v i from to at within read-from read-to =
+    let here : list_of g v ≡ get_or g i [] = ap (list_of g) (sym at) ∙ list_of-add g i in
+    rw here (part_between g ends i from to kept.heads_are (omega arith) (table_read _ _ starts kept.starts_are i i from (omega arith) refl read-from) (table_read _ _ starts kept.starts_are (i + 1) (i + 1) to (omega arith) refl read-to))
+
+-- cut where they start, the heads are the lists
+pub cut_whole : (g : List (List ℕ)) (starts ends : List ℕ) → IsTable (length g + 1) (first_dart g) starts → ends ≡ heads g → cut_at starts ends ≡ g
+cut_whole g starts ends table same =
+    let part : ℕ → List ℕ = λ k. slice_range ends (get_or starts k 0) (get_or starts (k + 1) 0) in
+    let n = length starts - 1 in
+    let long : length (cut_at starts ends) ≡ n = length-map-range_with_len part 0 n in
+    let count : n ≡ length g = omega (arith, table.size) in
+    ext_get_or [] (cut_at starts ends) g (long ∙ count) (λ k b.
+    let inside : k < n = omega (arith, long) in
+    get_or-map-range_with_len part 0 n k k [] inside (omega arith)
+    ∙ (part_between g ends k (get_or starts k 0) (get_or starts (k + 1) 0) same (omega (arith, count)) (table.each k (omega (arith, count))) (table.each (k + 1) (omega (arith, count)))).part)
