@@ -1,8 +1,8 @@
 -- Tables that grow list by list and dart by dart.
-use Rattle.std.proofs.Common.{◌≡◌, ℕ, zero, suc, ◌+◌, ◌<◌, ◌≤◌, List, [], ◌∷◌, ◌++◌, length, get_or, take, replicate, refl, sym, ap, ◌∙◌, inl, inr, arith}
-use Rattle.std.proofs.lemmas.List.{append_assoc, append-nil, length-append, get_or_append_left, get_or_at, take_all, replicate-append-replicate}
+use Rattle.std.proofs.Common.{◌≡◌, ℕ, zero, suc, ◌+◌, ◌<◌, ◌≤◌, List, [], ◌∷◌, ◌++◌, length, get_or, take, refl, sym, ap, ◌∙◌, inl, inr, arith}
+use Rattle.std.proofs.lemmas.List.{append_assoc, append-nil, length-append, get_or_append_left, get_or_at, take_all}
 use Rattle.std.proofs.lemmas.Bool.{cases_eq}
-use Rattle.embedding.specs.Darts.{heads, tails_from, dart_count, first_dart, head_of, tail_of, reverse_of, after_of}
+use Rattle.embedding.specs.Darts.{heads, dart_count, first_dart, head_of, tail_of, reverse_of, after_of}
 use Rattle.embedding.specs.Rules.{KeepsBefore}
 use Rattle.embedding.specs.Tables.{IsTable}
 use Rattle.embedding.proofs.Entries.{Stands, stands_at, stands_below}
@@ -29,7 +29,7 @@ table_push n f table x m next is t =
       ];
     }
 
--- ---- lists, tails and heads
+-- ---- lists and heads
 
 pub first_dart-more : (g : List (List ℕ)) (k : ℕ) → k < length g → first_dart g (k + 1) ≡ first_dart g k + length (get_or g k [])
 first_dart-more [] k below = absurd (omega arith)
@@ -47,18 +47,6 @@ heads-more (l ∷ ls) zero below = append-nil l
 heads-more (l ∷ ls) (suc k) below =
     let one : suc k + 1 ≡ suc (k + 1) = omega arith in
     rw one (ap (λ (x : List ℕ). l ++ x) (heads-more ls k (omega arith)) ∙ sym (append_assoc l (heads (take k ls)) (get_or ls k [])))
-
-pub tails_from-more : (b : ℕ) (g : List (List ℕ)) (k : ℕ) → k < length g → tails_from b (take (k + 1) g) ≡ tails_from b (take k g) ++ replicate (length (get_or g k [])) (b + k)
-tails_from-more b [] k below = absurd (omega arith)
-tails_from-more b (l ∷ ls) zero below =
-    let same : b + 0 ≡ b = omega arith in append-nil (replicate (length l) b) ∙ ap (replicate (length l)) (sym same)
-tails_from-more b (l ∷ ls) (suc k) below =
-    let one : suc k + 1 ≡ suc (k + 1) = omega arith in
-    let same : b + 1 + k ≡ b + suc k = omega arith in
-    rw one (ap (λ (x : List ℕ). replicate (length l) b ++ x) (tails_from-more (b + 1) ls k (omega arith)) ∙ sym (append_assoc (replicate (length l) b) (tails_from (b + 1) (take k ls)) (replicate (length (get_or ls k [])) (b + 1 + k))) ∙ ap (λ (n : ℕ). replicate (length l) b ++ tails_from (b + 1) (take k ls) ++ replicate (length (get_or ls k [])) n) same)
-
-pub replicate-more : (n x : ℕ) → replicate (n + 1) x ≡ replicate n x ++ x ∷ []
-replicate-more n x = sym (replicate-append-replicate n 1 x)
 
 -- ---- darts
 

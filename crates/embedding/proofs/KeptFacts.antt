@@ -11,9 +11,9 @@ use Rattle.embedding.specs.Tables.{IsTable, IsKept}
 use Rattle.embedding.proofs.Rotation.{darts_even, darts_few, darts_some}
 
 -- the fields' facts, of the lists by another name
-pub kept_as : (lists g : List (List ℕ)) {starts tails ends reverses afters : List ℕ} → lists ≡ g → IsKept lists starts tails ends reverses afters → IsKept g starts tails ends reverses afters
-kept_as lists g {starts} {tails} {ends} {reverses} {afters} same kept =
-    subst (λ (l : List (List ℕ)). IsKept l starts tails ends reverses afters) same kept
+pub kept_as : (lists g : List (List ℕ)) {starts ends reverses afters : List ℕ} → lists ≡ g → IsKept lists starts ends reverses afters → IsKept g starts ends reverses afters
+kept_as lists g {starts} {ends} {reverses} {afters} same kept =
+    subst (λ (l : List (List ℕ)). IsKept l starts ends reverses afters) same kept
 
 -- the numbers of darts, edges and vertices
 pub record HasSizes (g : List (List ℕ)) : Type 0 where

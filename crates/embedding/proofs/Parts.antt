@@ -54,8 +54,8 @@ part_between g ends k from to same below is-from is-to =
     }
 
 -- the list of a vertex, between what is read from the table of starts
-pub vertex_part : (g : List (List ℕ)) {starts tails ends reverses afters : List ℕ} → IsKept g starts tails ends reverses afters → (v i from to : ℕ) → i + 1 ≡ v → v ≤ length g → from ≡ get_or starts i from → to ≡ get_or starts (i + 1) to → IsPart ends (list_of g v) from to
-vertex_part g {starts} {tails} {ends} kept v i from to at within read-from read-to =
+pub vertex_part : (g : List (List ℕ)) {starts ends reverses afters : List ℕ} → IsKept g starts ends reverses afters → (v i from to : ℕ) → i + 1 ≡ v → v ≤ length g → from ≡ get_or starts i from → to ≡ get_or starts (i + 1) to → IsPart ends (list_of g v) from to
+vertex_part g {starts} {ends} kept v i from to at within read-from read-to =
     let here : list_of g v ≡ get_or g i [] = ap (list_of g) (sym at) ∙ list_of-add g i in
     rw here (part_between g ends i from to kept.heads_are (omega arith) (table_read _ _ starts kept.starts_are i i from (omega arith) refl read-from) (table_read _ _ starts kept.starts_are (i + 1) (i + 1) to (omega arith) refl read-to))
 

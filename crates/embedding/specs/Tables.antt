@@ -1,7 +1,7 @@
 -- What a graph keeps: where its lists start, the darts' ends and where they lead.
 use Rattle.std.specs.Prelude.{◌≡◌, ℕ, ◌+◌, ◌-◌, ◌<◌, List, length, map, slice_index, slice_range}
 use Rattle.std.specs.List.{range_with_len}
-use Rattle.embedding.specs.Darts.{heads, tails_from, dart_count, first_dart, reverse_of, after_of}
+use Rattle.embedding.specs.Darts.{heads, dart_count, first_dart, reverse_of, after_of}
 use Rattle.embedding.specs.Rules.{KeepsBefore}
 
 -- the parts of a list between each two places that follow one another: part k goes from place k of
@@ -16,11 +16,10 @@ pub record IsTable (n : ℕ) (f : ℕ → ℕ) (table : List ℕ) : Type 0 where
   pub each : (d : ℕ) → d < n → slice_index table d ≡ f d
 
 -- the lists g of a graph keep the first seven rules, and the tables are theirs
-pub record IsKept (g : List (List ℕ)) (starts tails ends reverses afters : List ℕ) : Type 0 where
+pub record IsKept (g : List (List ℕ)) (starts ends reverses afters : List ℕ) : Type 0 where
   pub rules : KeepsBefore g 8
   pub order : length g < 256
   pub starts_are : IsTable (length g + 1) (first_dart g) starts
-  pub tails_are : tails ≡ tails_from 1 g
   pub heads_are : ends ≡ heads g
   pub reverses_are : IsTable (dart_count g) (reverse_of g) reverses
   pub afters_are : IsTable (dart_count g) (after_of g) afters

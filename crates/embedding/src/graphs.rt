@@ -11,7 +11,7 @@ ghost use Rattle.planar_code.specs.Stream.{lists_of};
 use crate::breaks::first_broken;
 use crate::faults::ReadFault;
 use crate::lists::Lists;
-use crate::tables::{afters_in, heads_in, reverses_in, starts_in, tails_in};
+use crate::tables::{afters_in, heads_in, reverses_in, starts_in};
 use planar_code::Record;
 use std::alloc::{AllocError, Global};
 use std::marker::Model;
@@ -32,7 +32,6 @@ pub const MAX_EDGES: usize = 510;
 pub struct Graph {
     /// Where the list of each vertex begins in `heads`, and at the end the number of darts.
     starts: Vec<u16>,
-    tails: Vec<u8>,
     heads: Vec<u8>,
     reverses: Vec<u16>,
     afters: Vec<u16>,
@@ -47,7 +46,7 @@ impl Model for Graph {
     ghost view = { λ g. cut_at g.starts.items g.heads.items };
 
     ghost invariant = { λ g.
-        IsKept (cut_at g.starts.items g.heads.items) g.starts.items g.tails.items g.heads.items
+        IsKept (cut_at g.starts.items g.heads.items) g.starts.items g.heads.items
         g.reverses.items g.afters.items };
 }
 
@@ -81,7 +80,6 @@ impl Graph {
     {
         Ok(Graph {
             starts: starts_in(alloc, lists)?,
-            tails: tails_in(alloc, lists)?,
             heads: heads_in(alloc, lists)?,
             reverses: reverses_in(alloc, lists)?,
             afters: afters_in(alloc, lists)?,
@@ -141,7 +139,7 @@ impl Graph {
         ensures some { 0 < result }
         ensures within { result ≤ length self.now }
     {
-        self.tails[usize::from(dart)]
+        self.head(self.reverse(dart))
     }
 
     /// The vertex that a dart goes to, 1 to n.

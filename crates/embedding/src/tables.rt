@@ -2,7 +2,7 @@
 
 ghost use Rattle.std.specs.Prelude.{◌≡◌, ℕ, ◌+◌, ◌<◌, ◌++◌, length, slice_index, IfOk, Contains, replicate};
 ghost use Rattle.embedding.specs.Lists.{list_of};
-ghost use Rattle.embedding.specs.Darts.{heads, tails_from, dart_count, first_dart, head_of, tail_of, reverse_of, after_of};
+ghost use Rattle.embedding.specs.Darts.{heads, dart_count, first_dart, head_of, tail_of, reverse_of, after_of};
 ghost use Rattle.embedding.specs.Rules.{KeepsBefore};
 ghost use Rattle.embedding.specs.Tables.{IsTable};
 
@@ -20,27 +20,6 @@ pub(crate) fn starts_in(alloc: Global, lists: &Lists<'_>) -> Result<Vec<u16>, Al
     }
     starts.push(lists.darts() as u16)?;
     Ok(starts)
-}
-
-/// Adds the tail of each of so many darts from one vertex.
-fn add_tails(tails: &mut Vec<u8>, vertex: u8, count: usize) -> Result<(), AllocError>
-    ensures { IfOk result (λ _. tails.new.items ≡ tails.old.items ++ replicate count vertex) }
-{
-    for _dart in 0..count {
-        tails.push(vertex)?;
-    }
-    Ok(())
-}
-
-/// The tails of all darts.
-pub(crate) fn tails_in(alloc: Global, lists: &Lists<'_>) -> Result<Vec<u8>, AllocError>
-    ensures { IfOk result (λ tails. tails.items ≡ tails_from 1 lists.now) }
-{
-    let mut tails = Vec::with_capacity(alloc, lists.darts())?;
-    for place in 0..lists.count() {
-        add_tails(&mut tails, place + 1, lists.at(place).len())?;
-    }
-    Ok(tails)
 }
 
 /// The heads of all darts.

@@ -7,12 +7,11 @@ use Rattle.embedding.proofs.graphs.Graph.of.Goals as goal
 pub invariant_of-result : goal.invariant_of-result
 invariant_of-result c =
     let whole = cut_whole c.args.lists.now _ _ c.in_ok-starts_in.ensures c.in_ok-heads_in.ensures in
-    let kept : IsKept c.args.lists.now c.in_ok-starts_in.field-0.items c.in_ok-tails_in.field-0.items c.in_ok-heads_in.field-0.items c.in_ok-reverses_in.field-0.items c.in_ok-afters_in.field-0.items =
+    let kept : IsKept c.args.lists.now c.in_ok-starts_in.field-0.items c.in_ok-heads_in.field-0.items c.in_ok-reverses_in.field-0.items c.in_ok-afters_in.field-0.items =
     record {
       rules = c.requires.rules;
       order = c.requires.few;
       starts_are = c.in_ok-starts_in.ensures;
-      tails_are = c.in_ok-tails_in.ensures;
       heads_are = c.in_ok-heads_in.ensures;
       reverses_are = c.in_ok-reverses_in.ensures;
       afters_are = c.in_ok-afters_in.ensures;
