@@ -1,5 +1,5 @@
 -- Steps from vertex to vertex along one direction, and numbers that are raised along them.
-use Rattle.std.specs.Prelude.{◌≡◌, ℕ, ◌+◌, ◌*◌, ◌<◌, ◌≤◌, List, slice_index}
+use Rattle.std.specs.Prelude.{◌≡◌, ℕ, ◌+◌, ◌*◌, ◌<◌, ◌≤◌, List, length, slice_index}
 use Rattle.cutting.specs.Webs.{Web}
 use Rattle.compact.specs.Ordered.{tail}
 
@@ -12,24 +12,37 @@ abbrev pub AreSteps : Web → List ℕ → ℕ → Type 0
 AreSteps w around n = (v d : ℕ) → v < n → d < 4 → step around d v < n
     → (a : ℕ) × (a < w.darts) × (w.direction a ≡ d) × (tail w a ≡ v) × (w.head a ≡ step around d v)
 
--- the numbers y grow by `least` or more along each of the steps
-abbrev pub GrowBy : (ℕ → ℕ) → ℕ → ℕ → (ℕ → ℕ) → Type 0
-GrowBy next n least y = (v : ℕ) → v < n → next v < n → y v + least ≤ y (next v)
+-- the numbers y grow by 1 or more along each of the steps
+abbrev pub Grow : (ℕ → ℕ) → ℕ → (ℕ → ℕ) → Type 0
+Grow next n y = (v : ℕ) → v < n → next v < n → y v + 1 ≤ y (next v)
+
+-- the numbers y stay the same along each of the steps
+abbrev pub StayLevel : (ℕ → ℕ) → ℕ → (ℕ → ℕ) → Type 0
+StayLevel next n y = (v : ℕ) → v < n → next v < n → y (next v) ≡ y v
+
+-- for each vertex below n the list has a vertex below n, the first one of its row
+abbrev pub AreVertices : ℕ → List ℕ → Type 0
+AreVertices n rows = (length rows ≡ n) × ((v : ℕ) → v < n → slice_index rows v < n)
+
+-- y has one number in each row
+abbrev pub AreLevelIn : List ℕ → ℕ → (ℕ → ℕ) → Type 0
+AreLevelIn rows n y = (v : ℕ) → v < n → y (slice_index rows v) ≡ y v
+
+-- all numbers that stay the same along the steps have one number in each row
+pub record AreRows (next : ℕ → ℕ) (n : ℕ) (rows : List ℕ) : Type 0 where
+  pub inside : AreVertices n rows
+  pub level : (y : ℕ → ℕ) → StayLevel next n y → AreLevelIn rows n y
 
 -- the first n numbers are nowhere above y
 abbrev pub AreUnder : ℕ → List ℕ → (ℕ → ℕ) → Type 0
 AreUnder n xs y = (v : ℕ) → v < n → slice_index xs v ≤ y v
 
--- numbers nowhere above any numbers that grow by `least` along the steps stay so
-abbrev pub StayUnder : ℕ → (ℕ → ℕ) → ℕ → List ℕ → List ℕ → Type 0
-StayUnder n next least old new = (y : ℕ → ℕ) → GrowBy next n least y → AreUnder n old y → AreUnder n new y
+-- numbers nowhere above any numbers that grow along the steps and have one number in each row stay so
+abbrev pub StayUnder : (ℕ → ℕ) → ℕ → List ℕ → List ℕ → List ℕ → Type 0
+StayUnder ahead n rows old new =
+    (y : ℕ → ℕ) → Grow ahead n y → AreLevelIn rows n y → AreUnder n old y → AreUnder n new y
 
--- the same of steps ahead by 1 and of steps to the right
-abbrev pub StayUnderBoth : ℕ → (ℕ → ℕ) → (ℕ → ℕ) → List ℕ → List ℕ → Type 0
-StayUnderBoth n ahead right old new =
-    (y : ℕ → ℕ) → GrowBy ahead n 1 y → GrowBy right n 0 y → AreUnder n old y → AreUnder n new y
-
--- and of steps to the left
-abbrev pub StayUnderAll : ℕ → (ℕ → ℕ) → (ℕ → ℕ) → (ℕ → ℕ) → List ℕ → List ℕ → Type 0
-StayUnderAll n ahead left right old new =
-    (y : ℕ → ℕ) → GrowBy ahead n 1 y → GrowBy left n 0 y → GrowBy right n 0 y → AreUnder n old y → AreUnder n new y
+-- numbers nowhere above any that grow along the steps ahead, and stay the same along those to the left, stay so
+abbrev pub StayUnderAll : ℕ → (ℕ → ℕ) → (ℕ → ℕ) → List ℕ → List ℕ → Type 0
+StayUnderAll n ahead left old new =
+    (y : ℕ → ℕ) → Grow ahead n y → StayLevel left n y → AreUnder n old y → AreUnder n new y

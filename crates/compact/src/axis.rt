@@ -114,7 +114,6 @@ fn steps_along(around: &[u32], axis: Axis) -> Steps<'_>
     ensures around { result.around.now ≡ around.now }
     ensures ahead { (result.ahead < 4) × (result.ahead ≡ growth axis) }
     ensures left { (result.left < 4) × IsAcross (growth axis) result.left }
-    ensures right { (result.right < 4) × IsAcross (growth axis) result.right }
 {
     match axis {
         Axis::X => Steps {

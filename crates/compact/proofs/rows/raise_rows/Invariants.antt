@@ -1,9 +1,10 @@
 use Rattle.std.proofs.Common.{◌≡◌, length}
-use Rattle.compact.specs.Steps.{step, StayUnderAll}
+use Rattle.compact.specs.Steps.{step, AreRows, StayUnderAll}
 use Rattle.compact.proofs.rows.raise_rows.Given as goal
 
 abbrev pub invariant-loop-at : goal.invariant-loop-at
 invariant-loop-at l = record {
-  under : StayUnderAll (length l.fn.numbers) (step l.steps.around.now l.steps.ahead) (step l.steps.around.now l.steps.left) (step l.steps.around.now l.steps.right) l.fn.numbers l.numbers;
+  rows : AreRows (step l.steps.around.now l.steps.left) (length l.fn.numbers) l.queue.rows.items;
+  under : StayUnderAll (length l.fn.numbers) (step l.steps.around.now l.steps.ahead) (step l.steps.around.now l.steps.left) l.fn.numbers l.numbers;
   count : length l.numbers ≡ length l.fn.numbers;
 }
