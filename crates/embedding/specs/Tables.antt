@@ -4,8 +4,7 @@ use Rattle.std.specs.List.{range_with_len}
 use Rattle.embedding.specs.Darts.{heads, dart_count, first_dart, reverse_of, after_of}
 use Rattle.embedding.specs.Rules.{KeepsBefore}
 
--- the parts of a list between each two places that follow one another: part k goes from place k of
--- the starts up to the next one
+-- the parts into which the starts cut a list: part k goes from start k up to start k + 1
 abbrev pub cut_at : List ℕ → List ℕ → List (List ℕ)
 cut_at starts ends =
     map (λ k. slice_range ends (slice_index starts k) (slice_index starts (k + 1))) (range_with_len 0 (length starts - 1))
