@@ -79,11 +79,13 @@ impl Plane {
     ghost use Rattle.faces.specs.Faults.{IsTraceFault};
 
     /// Walks the faces of a graph, and takes the one with the most darts as the outer face, among equals
-    /// the one that holds the least dart.
+    /// the one that holds the least dart. Each dart is walked over once, and the faces are counted before
+    /// memory is asked for.
+    ///
+    /// # Errors
     ///
     /// The graph is handed back by `Genus` exactly where its vertices less its edges plus its faces are
-    /// not two, and by `Memory` where they are, but there is no memory for the faces. Each dart is walked
-    /// over once, and the faces are counted before memory is asked for.
+    /// not two, and by `Memory` where they are, but there is no memory for the faces.
     pub fn trace(alloc: Global, graph: Graph) -> Result<Plane, TraceFault>
         ensures graph { IfOk result (λ p. p.lists ≡ graph) }
         ensures plane { IfOk result IsPlane }

@@ -45,7 +45,11 @@ impl Model for FaceNet {
 impl FaceNet {
     ghost use Rattle.flow_network.specs.FaceNet.{IsNetOf};
 
-    /// The network of a plane, or `AllocError` where there is no memory for it. Linear in the darts.
+    /// The network of a plane. Linear in the darts.
+    ///
+    /// # Errors
+    ///
+    /// `AllocError` where there is no memory for it.
     pub fn build(alloc: Global, plane: &Plane) -> Result<FaceNet, AllocError>
         ensures net { IfOk result (IsNetOf plane.now) }
         ensures flow { IfOk result (λ n. (y : ℕ → ℕ) × Flow n.network y) }
@@ -55,7 +59,11 @@ impl FaceNet {
     }
 
     /// The same as [`FaceNet::build`], in memory that is lent. The network takes its lists with it; they can be
-    /// given back by [`FaceNet::give_back`]. After a refusal lists that were lent may be gone.
+    /// given back by [`FaceNet::give_back`].
+    ///
+    /// # Errors
+    ///
+    /// `AllocError` as [`FaceNet::build`]. After a refusal lists that were lent may be gone.
     pub fn build_in(
         alloc: Global,
         scratch: &mut Scratch,
