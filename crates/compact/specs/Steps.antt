@@ -20,7 +20,7 @@ Grow next n y = (v : ℕ) → v < n → next v < n → y v + 1 ≤ y (next v)
 abbrev pub StayLevel : (ℕ → ℕ) → ℕ → (ℕ → ℕ) → Type 0
 StayLevel next n y = (v : ℕ) → v < n → next v < n → y (next v) ≡ y v
 
--- for each vertex below n the list has a vertex below n, the first one of its row
+-- for each vertex below n the list has a vertex below n
 abbrev pub AreVertices : ℕ → List ℕ → Type 0
 AreVertices n rows = (length rows ≡ n) × ((v : ℕ) → v < n → slice_index rows v < n)
 

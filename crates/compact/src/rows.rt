@@ -70,6 +70,7 @@ impl RowQueue {
         ensures { OnOk result (AreRows (step steps.entry.around.now steps.entry.left) vertices self.new.rows.items) }
     {
         self.rows.clear();
+        self.rows.reserve(vertices as usize)?;
         for vertex in 0..vertices {
             self.rows.push(vertex)?;
         }

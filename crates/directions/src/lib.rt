@@ -72,6 +72,7 @@ impl Direction {
         requires { number < 4 }
         ensures { quarters result ≡ number }
     {
+        // The remainder tells the compiler that the last arm is direction 3, so no comparison is left.
         match number % 4 {
             0 => Direction::East,
             1 => Direction::North,

@@ -1,6 +1,6 @@
 //! The corners of all faces of a drawing, listed.
 
-ghost use Rattle.std.specs.Prelude.{◌≡◌, ◌<◌, ◌≤◌, ◌+◌, ◌^◌, ℕ, [], IfOk, List, OnOk};
+ghost use Rattle.std.specs.Prelude.{◌≡◌, ◌<◌, ◌≤◌, ◌+◌, ℕ, [], IfOk, List, OnOk};
 ghost use Rattle.cutting.specs.Labels.{HasTurns};
 ghost use Rattle.cutting.specs.Tables.{room, web_of};
 ghost use Rattle.cutting.specs.Webs.{IsLinked};

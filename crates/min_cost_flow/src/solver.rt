@@ -45,13 +45,15 @@ pub(crate) struct Work {
     looks: u64,
 }
 
-/// A flow of least cost that meets all supplies, with potentials that show it. `Infeasible` comes
-/// exactly where there is no flow, memory aside, and `Memory` where an allocation was refused.
+/// A flow of least cost that meets all supplies, with potentials that show it.
 ///
 /// All memory is taken before it begins. Each search sends at least one unit, so there are no more
 /// searches than units are supplied, and looks at each residual arc once at most, so there are no
 /// more looks than twice the number of arcs a search. The potentials are at most twice the number of
 /// nodes in absolute value.
+///
+/// # Errors
+/// `Infeasible` exactly where there is no flow, memory aside, and `Memory` where an allocation was refused.
 pub fn solve(alloc: Global, network: &Network) -> Result<Solved, SolveFault>
     ensures ok { IfOk result (λ solved. Solves network.now solved) }
     ensures infeasible { IfErr result (λ fault. fault ≡ SolveFault.Infeasible → HasNoFlow network.now) }

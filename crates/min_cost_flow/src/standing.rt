@@ -72,8 +72,10 @@ impl Model for Standing {
 }
 
 impl Standing {
-    /// A flow of least cost in a network. `Infeasible` comes exactly where there is no flow, memory
-    /// aside, and `Memory` where an allocation was refused.
+    /// A flow of least cost in a network.
+    ///
+    /// # Errors
+    /// `Infeasible` exactly where there is no flow, memory aside, and `Memory` where an allocation was refused.
     pub fn new(alloc: Global, network: &Network) -> Result<Standing, SolveFault>
         ensures net { IfOk result (λ s. s ≡ network.now) }
         ensures infeasible { IfErr result (λ fault. fault ≡ SolveFault.Infeasible → HasNoFlow network.now) }
@@ -142,7 +144,10 @@ impl Standing {
         &self.network
     }
 
-    /// The flow and its potentials, with no work counted, or `AllocError` where there is no memory for them.
+    /// The flow and its potentials, with no work counted.
+    ///
+    /// # Errors
+    /// `AllocError` where there is no memory for them.
     pub fn solved(&self, alloc: Global) -> Result<Solved, AllocError>
         ensures { IfOk result (λ solved. Solves self.now solved) }
     {

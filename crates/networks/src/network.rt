@@ -33,8 +33,10 @@ impl Model for Network {
 impl Network {
     ghost use Rattle.networks.specs.Fault.{IsFirstFault};
 
-    /// The network with one node for each supply, or the first fault in the order of [`NetFault`].
-    /// A refusal drops both lists. No memory is taken, and time is linear.
+    /// The network with one node for each supply. A refusal drops both lists. No memory is taken, and time is linear.
+    ///
+    /// # Errors
+    /// The first fault in the order of [`NetFault`].
     pub fn new(supplies: Vec<i32>, arcs: Vec<Arc>) -> Result<Network, NetFault>
         ensures ok { IfOk result (λ net. (net ≡ net_of supplies.items arcs.items) × IsNetwork net) }
         ensures err { IfErr result (λ fault. IsFirstFault (net_of supplies.items arcs.items) fault) }
@@ -115,7 +117,10 @@ impl Network {
         (self.supplies, self.arcs)
     }
 
-    /// The same network again, or `AllocError` where there is no memory for its lists.
+    /// The same network again.
+    ///
+    /// # Errors
+    /// `AllocError` where there is no memory for its lists.
     pub fn copy(&self) -> Result<Network, AllocError>
         ensures { IfOk result (λ net. net ≡ self.now) }
     {

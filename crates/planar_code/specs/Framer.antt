@@ -1,5 +1,5 @@
 -- What a framer's fields say: its place.
-use Rattle.std.specs.Prelude.{◌≡◌, ℕ, ◌<◌, ◌≤◌, List, [], take}
+use Rattle.std.specs.Prelude.{◌≡◌, ℕ, ◌<◌, ◌≤◌, List, [], take, length}
 use Rattle.planar_code.specs.declared.TheConstants.{HEADER, MAX_RECORDS}
 use Rattle.planar_code.specs.declared.framer.Framer.TheInside.{Inside}
 use Rattle.planar_code.specs.declared.framer.Part.{Part}
@@ -17,7 +17,7 @@ place_of f = place_at f.part f.records f.current
 
 -- before the last byte of the header there is no record, nor a byte of one
 abbrev pub IsBefore : Part → ℕ → List ℕ → Type 0
-IsBefore (part.Header passed) records rest = (passed < 15) × (records ≡ 0) × (rest ≡ [])
+IsBefore (part.Header passed) records rest = (passed < length HEADER) × (records ≡ 0) × (rest ≡ [])
 IsBefore part.Records records rest = records ≤ MAX_RECORDS
 IsBefore (part.Failed fault) records rest = Unit {0}
 

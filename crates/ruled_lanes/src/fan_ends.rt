@@ -88,9 +88,12 @@ impl<T: Drop> LaneGiver<T> {
     }
 
     /// Adds an item of its lane at the end of the fan, in one step, and waits while the fan is full: at
-    /// first it tries again for about a millisecond, then its thread sleeps until it is woken. `Closed`
-    /// hands the item back, and then what was given stays as it was. No clause says when `Closed` comes:
-    /// it does where the gatherer is gone. It takes no memory.
+    /// first it tries again for about a millisecond, then its thread sleeps until it is woken. It takes no
+    /// memory.
+    ///
+    /// # Errors
+    /// `Closed` hands the item back, and then what was given stays as it was. No clause says when it comes:
+    /// it does where the gatherer is gone.
     pub fn give<R: Wait>(&mut self, rt: &R, item: T) -> Result<(), Closed<T>>
         ensures lane { GivesToSameLane self.old self.new }
         ensures ok { OnOk result (given_at self.new ≡ given_at self.old ++ item ∷ []) }
@@ -152,8 +155,11 @@ impl<T: Drop> Gatherer<T> {
 
     /// The item at the front of the fan, with the number of its lane, taken in one step. It waits while
     /// the fan is empty: at first it tries again for about a millisecond, then its thread sleeps until it
-    /// is woken. After `Closed` what was taken stays as it was. No clause says when `Closed` comes: it does
-    /// where all givers are gone and all that they gave was taken. It takes no memory.
+    /// is woken. It takes no memory.
+    ///
+    /// # Errors
+    /// After `Closed` what was taken stays as it was. No clause says when it comes: it does where all givers
+    /// are gone and all that they gave was taken.
     pub fn take<R: Wait>(&mut self, rt: &R) -> Result<(u32, T), Closed<()>>
         ensures fan { TakesFromSameFan self.old self.new }
         ensures lane { IfOk result (λ item. item.0 < LANES) }

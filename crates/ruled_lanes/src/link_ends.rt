@@ -67,9 +67,11 @@ impl<T: Drop> Giver<T> {
     }
 
     /// Adds an item at the end of the link, in one step, and waits while the link is full: at first it
-    /// tries again for about a millisecond, then its thread sleeps until it is woken. `Closed` hands the
-    /// item back, and then what was given stays as it was. No clause says when `Closed` comes: it does
-    /// where the taker is gone. It takes no memory.
+    /// tries again for about a millisecond, then its thread sleeps until it is woken. It takes no memory.
+    ///
+    /// # Errors
+    /// `Closed` hands the item back, and then what was given stays as it was. No clause says when it comes:
+    /// it does where the taker is gone.
     pub fn give<R: Wait>(&mut self, rt: &R, item: T) -> Result<(), Closed<T>>
         ensures link { GivesToSame self.old self.new }
         ensures ok { OnOk result (given self.new ≡ given self.old ++ item ∷ []) }
@@ -124,9 +126,11 @@ impl<T: Drop> Taker<T> {
     }
 
     /// The item at the front of the link, taken in one step. It waits while the link is empty: at first
-    /// it tries again for about a millisecond, then its thread sleeps until it is woken. After `Closed`
-    /// what was taken stays as it was. No clause says when `Closed` comes: it does where the giver is gone
-    /// and all that it gave was taken. It takes no memory.
+    /// it tries again for about a millisecond, then its thread sleeps until it is woken. It takes no memory.
+    ///
+    /// # Errors
+    /// After `Closed` what was taken stays as it was. No clause says when it comes: it does where the giver
+    /// is gone and all that it gave was taken.
     pub fn take<R: Wait>(&mut self, rt: &R) -> Result<T, Closed<()>>
         ensures link { TakesFromSame self.old self.new }
         ensures ok { IfOk result (λ item. taken self.new ≡ taken self.old ++ item ∷ []) }
