@@ -2,8 +2,7 @@
 use Rattle.std.proofs.Common.{◌≡◌, ℕ, ◌+◌, List, [], ◌∷◌, ◌++◌, map, length, All, get_or, arith, refl, sym, ap, subst, ◌∙◌}
 use Rattle.streams.specs.declared.frames.Mark.{Mark}
 use Rattle.choices.specs.declared.Choice.{Choice}
-use Rattle.lanes.specs.declared.message.Message.TheVariants.{Item}
-use Rattle.lanes.specs.Notes.{About, numbered}
+use Rattle.lanes.specs.Notes.{About, numbered, Item}
 use Rattle.lanes.specs.Opening.{Meaning}
 use Rattle.lanes.specs.Keeping.{KeepsFile}
 use Rattle.lanes.specs.Drafts.{abouts, IsWhole}

@@ -1,6 +1,6 @@
 //! Entries of a file that is read and answered on one thread.
 ghost use Rattle.std.specs.Prelude.{⊤, map};
-ghost use Rattle.lanes.specs.declared.message.Message.TheVariants.{Item};
+ghost use Rattle.lanes.specs.Notes.{Item};
 ghost use Rattle.entries.specs.Abouts.{about_of};
 
 use answers::{Entry, answer};

@@ -41,14 +41,14 @@ module _ {T : Type 0} where
   lane_other lane x items n = let f : ℕ × T → T = λ y. y.1 in let p : ℕ × T → Bool = λ y. y.0 == lane in
       ap (λ t. map f (cond t (x ∷ filter p items) (filter p items))) (ne_eqb x.0 lane n)
 
-module _ {E : Type 0} (about : E → About) where
+module _ {E M : Type 0} (about : E → About) where
   -- of a file of which one lane alone has something, all lanes together have what that lane has
-  one_lane : (file one : ℕ) (items : List (ℕ × Message E)) → ((lane : ℕ) → lane ≢ one → of_file file (notes about (of_lane lane items)) ≡ [])
+  one_lane : (file one : ℕ) (items : List (ℕ × Message E M)) → ((lane : ℕ) → lane ≢ one → of_file file (notes about (of_lane lane items)) ≡ [])
       → of_file file (notes about (untagged items)) ≡ of_file file (notes about (of_lane one items))
   one_lane file one [] none = refl
   one_lane file one (x ∷ items) none =
       let n : Note = note about x.1 in
-      let told : List (Message E) → List Note = λ ms. of_file file (notes about ms) in
+      let told : List (Message E M) → List Note = λ ms. of_file file (notes about ms) in
       let others : (lane : ℕ) → lane ≢ one → x.0 ≢ lane → told (of_lane lane items) ≡ [] = λ lane apart away. ap told (sym (lane_other lane x items away)) ∙ none lane apart in
       elim (cases_eq x.0 one) [
         | inl here ↦ ap (λ l. cond (is_of file n) (n ∷ l) l) (one_lane file one items (λ lane apart. others lane apart (λ e. apart (sym e ∙ here))))
@@ -64,7 +64,7 @@ module _ {E : Type 0} (about : E → About) where
       ]
 
   -- so a file that was drawn once is told whole
-  file_whole : (choice : Choice) (meaning : ℕ → Meaning) (items : List (ℕ × Message E)) (seats : List Seat) → ((lane : ℕ) → HasDrawn choice meaning (drawn_at seats lane) (notes about (of_lane lane items)))
+  file_whole : (choice : Choice) (meaning : ℕ → Meaning) (items : List (ℕ × Message E M)) (seats : List Seat) → ((lane : ℕ) → HasDrawn choice meaning (drawn_at seats lane) (notes about (of_lane lane items)))
       → (file : ℕ) → times file (all_drawn seats) ≡ 1 → HasFile choice (meaning file) file (notes about (untagged items))
   file_whole choice meaning items seats has file once =
       let drew = one_drew file seats once in
@@ -72,10 +72,10 @@ module _ {E : Type 0} (about : E → About) where
       (one_lane file drew.0 items (λ lane apart. (has lane).others file (drew.2 lane apart))) ((has drew.0).own file drew.1)
 
   -- of a giver's lane, what was taken and then what was held is what was given
-  abbrev Settled : List (ℕ × Message E) → List (ℕ × Message E) → LaneGiver (Message E) → Type 0
+  abbrev Settled : List (ℕ × Message E M) → List (ℕ × Message E M) → LaneGiver (Message E M) → Type 0
   Settled items held g = of_lane (lane_of g) items ++ of_lane (lane_of g) held ≡ given_at g
 
-  ran_at : (choice : Choice) (meaning : ℕ → Meaning) (tickets : Tickets) (fan : Gatherer (Message E)) (items held : List (ℕ × Message E)) (first : ℕ) (givers : List (LaneGiver (Message E))) (seats : List Seat)
+  ran_at : (choice : Choice) (meaning : ℕ → Meaning) (tickets : Tickets) (fan : Gatherer (Message E M)) (items held : List (ℕ × Message E M)) (first : ℕ) (givers : List (LaneGiver (Message E M))) (seats : List Seat)
       → HaveRun about choice meaning tickets fan first givers seats → All (Settled items held) givers → (n lane : ℕ) → n < length seats → lane ≡ first + n
       → HasStop (notes about (of_lane lane items)) → HasDrawn choice meaning (drawn_at seats n) (notes about (of_lane lane items))
   ran_at choice meaning tickets fan items held first [] [] run settled n lane below is stop = absurd (omega (arith, below))
@@ -92,7 +92,7 @@ module _ {E : Type 0} (about : E → About) where
   ran_at choice meaning tickets fan items held first (g ∷ givers) (s ∷ seats) run settled (suc n) lane below is stop =
       ran_at choice meaning tickets fan items held (first + 1) givers seats run.1 (All-tail (Settled items held) g givers settled) n lane (omega (arith, below)) (omega (arith, is)) stop
 
-  idle_at : (fan : Gatherer (Message E)) (items held : List (ℕ × Message E)) (first : ℕ) (givers : List (LaneGiver (Message E)))
+  idle_at : (fan : Gatherer (Message E M)) (items held : List (ℕ × Message E M)) (first : ℕ) (givers : List (LaneGiver (Message E M)))
       → AreNumbered (IsIdle fan) first givers → All (Settled items held) givers → (n lane : ℕ) → n < length givers → lane ≡ first + n → of_lane lane items ≡ []
   idle_at fan items held first [] idle settled n lane below is = absurd (omega (arith, below))
   idle_at fan items held first (g ∷ givers) idle settled zero lane below is =
@@ -103,7 +103,7 @@ module _ {E : Type 0} (about : E → About) where
       idle_at fan items held (first + 1) givers idle.1 (All-tail (Settled items held) g givers settled) n lane (omega (arith, below)) (omega (arith, is))
 
   -- each lane has told of what its seat drew
-  each_lane : (choice : Choice) (meaning : ℕ → Meaning) (tickets : Tickets) (fan : Gatherer (Message E)) (items held : List (ℕ × Message E)) (idle ran : List (LaneGiver (Message E))) (seats : List Seat) (running : ℕ)
+  each_lane : (choice : Choice) (meaning : ℕ → Meaning) (tickets : Tickets) (fan : Gatherer (Message E M)) (items held : List (ℕ × Message E M)) (idle ran : List (LaneGiver (Message E M))) (seats : List Seat) (running : ℕ)
       → length seats ≡ running → running + length idle ≡ LANES → HaveRun about choice meaning tickets fan 0 ran seats → AreNumbered (IsIdle fan) running idle
       → All (Settled items held) idle → All (Settled items held) ran → ((lane : ℕ) → LANES ≤ lane → of_lane lane items ≡ [])
       → HaveStopped about running items → (lane : ℕ) → HasDrawn choice meaning (drawn_at seats lane) (notes about (of_lane lane items))
@@ -126,9 +126,9 @@ module _ {X : Type 0} (P : X → Type 0) where
   all_back [] ys all = all
   all_back (x ∷ xs) ys all = all_back xs ys (All-tail P x (xs ++ ys) all)
 
-module _ {E : Type 0} (about : E → About) where
+module _ {E M : Type 0} (about : E → About) where
   -- a fan that was settled tells each file that was drawn once
-  pub settled_whole : (choice : Choice) (meaning : ℕ → Meaning) (tickets : Tickets) (fan : Gatherer (Message E)) (items : List (ℕ × Message E)) (givers idle ran : List (LaneGiver (Message E))) (seats : List Seat) (running : ℕ)
+  pub settled_whole : (choice : Choice) (meaning : ℕ → Meaning) (tickets : Tickets) (fan : Gatherer (Message E M)) (items : List (ℕ × Message E M)) (givers idle ran : List (LaneGiver (Message E M))) (seats : List Seat) (running : ℕ)
       → givers ≡ idle ++ ran → length seats ≡ running → running + length idle ≡ LANES → HaveRun about choice meaning tickets fan 0 ran seats → AreNumbered (IsIdle fan) running idle
       → SettlesFan items givers → HaveStopped about running items
       → (file : ℕ) → times file (all_drawn seats) ≡ 1 → HasFile choice (meaning file) file (notes about (untagged items))

@@ -56,24 +56,24 @@ module _ {E : Type 0} where
   idle_givers fan first (g ∷ givers) (is, are) =
       All-cons (λ (h : LaneGiver E). receives_on fan.receiver ≡ sends_on h.sender) g givers is.gives_at.to_fan (idle_givers fan (first + 1) givers are)
 
-module _ {E : Type 0} (about : E → About) where
-  pub ran_givers : (choice : Choice) (meaning : ℕ → Meaning) (tickets : Tickets) (fan : Gatherer (Message E)) (first : ℕ) (givers : List (LaneGiver (Message E))) (seats : List Seat)
+module _ {E M : Type 0} (about : E → About) where
+  pub ran_givers : (choice : Choice) (meaning : ℕ → Meaning) (tickets : Tickets) (fan : Gatherer (Message E M)) (first : ℕ) (givers : List (LaneGiver (Message E M))) (seats : List Seat)
       → HaveRun about choice meaning tickets fan first givers seats → AreGiversOf fan givers
-  ran_givers choice meaning tickets fan first [] [] run = All-nil (λ (g : LaneGiver (Message E)). receives_on fan.receiver ≡ sends_on g.sender)
+  ran_givers choice meaning tickets fan first [] [] run = All-nil (λ (g : LaneGiver (Message E M)). receives_on fan.receiver ≡ sends_on g.sender)
   ran_givers choice meaning tickets fan first [] (s ∷ seats) run = absurd run
   ran_givers choice meaning tickets fan first (g ∷ givers) [] run = absurd run
   ran_givers choice meaning tickets fan first (g ∷ givers) (s ∷ seats) (is, run) =
-      All-cons (λ (h : LaneGiver (Message E)). receives_on fan.receiver ≡ sends_on h.sender) g givers is.gives_at.to_fan (ran_givers choice meaning tickets fan (first + 1) givers seats run)
+      All-cons (λ (h : LaneGiver (Message E M)). receives_on fan.receiver ≡ sends_on h.sender) g givers is.gives_at.to_fan (ran_givers choice meaning tickets fan (first + 1) givers seats run)
 
   -- all givers, idle or not, are those of the fan
-  pub all_givers : (choice : Choice) (meaning : ℕ → Meaning) (tickets : Tickets) (fan : Gatherer (Message E)) (running : ℕ) (all idle ran : List (LaneGiver (Message E))) (seats : List Seat) → all ≡ idle ++ ran
+  pub all_givers : (choice : Choice) (meaning : ℕ → Meaning) (tickets : Tickets) (fan : Gatherer (Message E M)) (running : ℕ) (all idle ran : List (LaneGiver (Message E M))) (seats : List Seat) → all ≡ idle ++ ran
       → AreNumbered (IsIdle fan) running idle → HaveRun about choice meaning tickets fan 0 ran seats → AreGiversOf fan all
   all_givers choice meaning tickets fan running all idle ran seats are still run =
       subst (AreGiversOf fan) (sym are)
-      (All-append (λ (g : LaneGiver (Message E)). receives_on fan.receiver ≡ sends_on g.sender) idle ran (idle_givers fan running idle still) (ran_givers choice meaning tickets fan 0 ran seats run))
+      (All-append (λ (g : LaneGiver (Message E M)). receives_on fan.receiver ≡ sends_on g.sender) idle ran (idle_givers fan running idle still) (ran_givers choice meaning tickets fan 0 ran seats run))
 
   -- one lane more has run
-  pub run_more : (choice : Choice) (meaning : ℕ → Meaning) (tickets : Tickets) (fan : Gatherer (Message E)) (first : ℕ) (givers : List (LaneGiver (Message E))) (seats : List Seat) (g : LaneGiver (Message E)) (s : Seat)
+  pub run_more : (choice : Choice) (meaning : ℕ → Meaning) (tickets : Tickets) (fan : Gatherer (Message E M)) (first : ℕ) (givers : List (LaneGiver (Message E M))) (seats : List Seat) (g : LaneGiver (Message E M)) (s : Seat)
       → HaveRun about choice meaning tickets fan first givers seats → HasRun about choice meaning tickets fan (first + length seats) g s → HaveRun about choice meaning tickets fan first (givers ++ g ∷ []) (seats ++ s ∷ [])
   run_more choice meaning tickets fan first [] [] g s run is = (let e : first + 0 ≡ first = omega arith in subst (λ k. HasRun about choice meaning tickets fan k g s) e is, tt)
   run_more choice meaning tickets fan first [] (z ∷ seats) g s run is = absurd run
@@ -82,7 +82,7 @@ module _ {E : Type 0} (about : E → About) where
       (was, run_more choice meaning tickets fan (first + 1) givers seats g s run (let e : first + length (z ∷ seats) ≡ first + 1 + length seats = omega arith in subst (λ k. HasRun about choice meaning tickets fan k g s) e is))
 
   -- a lane that kept its promise has run
-  pub has_run : {O : Type 0} (meaning_of : O → ℕ → Meaning) (fan : Gatherer (Message E)) (choice : Choice) (opener : O) (tickets : Tickets) (lane : ℕ) (promised_choice : Choice) (promised : O) (promised_tickets : Tickets) (giver after : LaneGiver (Message E)) (seat : Seat)
+  pub has_run : {O : Type 0} (meaning_of : O → ℕ → Meaning) (fan : Gatherer (Message E M)) (choice : Choice) (opener : O) (tickets : Tickets) (lane : ℕ) (promised_choice : Choice) (promised : O) (promised_tickets : Tickets) (giver after : LaneGiver (Message E M)) (seat : Seat)
       → IsRunning fan choice opener tickets lane promised_choice promised promised_tickets giver → GivesToSameLane giver after → TellsSeat about promised_choice (meaning_of promised) promised_tickets seat (given_at after)
       → HasRun about choice (meaning_of opener) tickets fan lane after seat
   has_run meaning_of fan choice opener tickets lane promised_choice promised promised_tickets giver after seat is same tells = record {
@@ -93,7 +93,7 @@ module _ {E : Type 0} (about : E → About) where
   }
 
   -- each lane that has run has its seat
-  pub many_ran : (choice : Choice) (meaning : ℕ → Meaning) (tickets : Tickets) (fan : Gatherer (Message E)) (first : ℕ) (givers : List (LaneGiver (Message E))) (seats : List Seat)
+  pub many_ran : (choice : Choice) (meaning : ℕ → Meaning) (tickets : Tickets) (fan : Gatherer (Message E M)) (first : ℕ) (givers : List (LaneGiver (Message E M))) (seats : List Seat)
       → HaveRun about choice meaning tickets fan first givers seats → length givers ≡ length seats
   many_ran choice meaning tickets fan first [] [] run = refl
   many_ran choice meaning tickets fan first [] (s ∷ seats) run = absurd run

@@ -5,8 +5,7 @@ use Rattle.std.proofs.lemmas.List.Elements.{filter-append}
 use Rattle.std.proofs.lemmas.List.Sums.{sum_by-cons, sum_by-append}
 use Rattle.streams.specs.declared.frames.Mark.{Mark}
 use Rattle.choices.specs.declared.Choice.{Choice}
-use Rattle.lanes.specs.declared.message.Message.TheVariants.{Item, End, Stop}
-use Rattle.lanes.specs.Notes.{About, Note, is_of, of_file, file_notes, numbered, GoOn, IsStopped}
+use Rattle.lanes.specs.Notes.{About, Note, is_of, of_file, file_notes, numbered, GoOn, IsStopped, Item, End, Stop}
 use Rattle.lanes.specs.Opening.{Meaning}
 use Rattle.lanes.specs.Keeping.{KeepsFile}
 use Rattle.ruled_lanes.specs.TicketRule.{times}
@@ -92,9 +91,9 @@ told_file choice meaning file drawn ns records mark told has =
     }
 
 -- one file more was drawn and told
-pub told_more : (choice : Choice) (meaning : ℕ → Meaning) (file : ℕ) (drawn drawn' : List ℕ) (ns kept after : List Note) (mark : Mark) → HasTold choice meaning drawn ns
-    → drawn' ≡ drawn ++ file ∷ [] → KeepsFile choice (meaning file) file ns kept mark → after ≡ kept ++ End file mark ∷ [] → HasTold choice meaning drawn' after
-told_more choice meaning file drawn drawn' ns kept after mark told drew keeps more =
+pub told_more : (choice : Choice) (meaning : ℕ → Meaning) (file : ℕ) (drawn drawn' : List ℕ) (ns kept after : List Note) (count : ℕ) (mark : Mark) → HasTold choice meaning drawn ns
+    → drawn' ≡ drawn ++ file ∷ [] → KeepsFile choice (meaning file) file ns kept count mark → after ≡ kept ++ End file mark ∷ [] → HasTold choice meaning drawn' after
+told_more choice meaning file drawn drawn' ns kept after count mark told drew keeps more =
     let fs : List Note = file_notes choice file keeps.records mark in
     let whole : ns ++ fs ≡ after =
     sym (append_assoc ns (map Item (numbered choice file 0 keeps.records)) (End file mark ∷ [])) ∙ ap (λ l. l ++ End file mark ∷ []) (sym keeps.kept) ∙ sym more in

@@ -2,7 +2,7 @@
 use Rattle.std.specs.Prelude.{List, ⊤}
 use Rattle.lanes.specs.Notes.{Note}
 use Rattle.lane_runs.specs.declared.fault.RunFault.{RunFault}
-use Rattle.lane_runs.specs.declared.fault.RunFault.TheVariants.{Memory, Lost, Thread, Refused}
+use Rattle.lane_runs.specs.declared.fault.RunFault.TheVariants.{Memory, LaneLost, Thread, Refused}
 
 module _ {F : Type 0} where
   -- the lanes came to nothing, and the consumer refused nothing
@@ -15,5 +15,5 @@ module _ {F : Type 0} where
   abbrev pub EndsRun : (F → Type 0) → (List Note → Type 0) → RunFault F → Type 0
   EndsRun gave_up holds (Refused refusal) = gave_up refusal
   EndsRun gave_up holds Memory = (ns : List Note) × holds ns
-  EndsRun gave_up holds Lost = (ns : List Note) × holds ns
+  EndsRun gave_up holds LaneLost = (ns : List Note) × holds ns
   EndsRun gave_up holds Thread = (ns : List Note) × holds ns

@@ -26,42 +26,43 @@ module _ {A : Type 0} where
     pub none_given : given giver ≡ []
     pub none_taken : taken taker ≡ []
 
+module _ {A M : Type 0} where
   -- a seat of these tickets has drawn until none was left, and the messages are all that is told of the files it drew,
   -- under this choice
-  pub record TellsSeat (about : A → About) (choice : Choice) (meaning : ℕ → Meaning) (tickets : Tickets) (seat : Seat) (gave : List (Message A)) : Type 0 where
+  pub record TellsSeat (about : A → About) (choice : Choice) (meaning : ℕ → Meaning) (tickets : Tickets) (seat : Seat) (gave : List (Message A M)) : Type 0 where
     pub seat_of : IsSeatOf tickets seat
     pub ended : has_ended seat ≡ true
     pub tells : TellsDrawn about choice meaning (drawn seat) gave
 
   -- what the first stage starts with: a seat of these tickets that has drawn nothing, room for a piece, and the end of a link to
   -- which nothing was given
-  pub record StartsToRead (tickets : Tickets) (seat : Seat) (room : ℕ) (giver : Giver (Message A)) : Type 0 where
+  pub record StartsToRead (tickets : Tickets) (seat : Seat) (room : ℕ) (giver : Giver (Message A M)) : Type 0 where
     pub seat_of : IsSeatOf tickets seat
     pub unused : IsUnused seat
     pub none_given : given giver ≡ []
     pub room_for : room ≡ PIECE
 
   -- what a lane starts with: a seat of these tickets that has drawn nothing, and the end of a lane to which nothing was given
-  pub record StartsLane (tickets : Tickets) (seat : Seat) (giver : LaneGiver (Message A)) : Type 0 where
+  pub record StartsLane (tickets : Tickets) (seat : Seat) (giver : LaneGiver (Message A M)) : Type 0 where
     pub seat_of : IsSeatOf tickets seat
     pub unused : IsUnused seat
     pub none_given : given_at giver ≡ []
 
   -- what the stages of a lane leave: the end of its own lane, where no stop has come yet, and its seat where nothing was lost;
   -- with a stop all is told
-  pub record LeavesLane (about : A → About) (choice : Choice) (meaning : ℕ → Meaning) (tickets : Tickets) (giver after : LaneGiver (Message A)) (seat : Result Seat LaneFault) : Type 0 where
+  pub record LeavesLane (about : A → About) (choice : Choice) (meaning : ℕ → Meaning) (tickets : Tickets) (giver after : LaneGiver (Message A M)) (seat : Result Seat LaneFault) : Type 0 where
     pub to_same : GivesToSameLane giver after
     pub goes_on : GoOn (notes about (given_at after))
     pub tells : IfOk seat (λ s. TellsSeat about choice meaning tickets s (given_at after ++ Stop ∷ []))
 
   -- the end and the seat that the first stage gives back: the end is that of the same link
-  pub record ReadsSeat (about : A → About) (choice : Choice) (meaning : ℕ → Meaning) (tickets : Tickets) (giver after : Giver (Message A)) (seat : Seat) : Type 0 where
+  pub record ReadsSeat (about : A → About) (choice : Choice) (meaning : ℕ → Meaning) (tickets : Tickets) (giver after : Giver (Message A M)) (seat : Seat) : Type 0 where
     pub to_same : GivesToSame giver after
     pub tells : TellsSeat about choice meaning tickets seat (given after)
 
   -- what a lane gives back: the end of its own lane, where one stop came last, whatever the lane met, or none where it was
   -- refused; and its seat where nothing was lost
-  pub record EndsLane (about : A → About) (choice : Choice) (meaning : ℕ → Meaning) (tickets : Tickets) (giver after : LaneGiver (Message A)) (seat : Result Seat LaneFault) : Type 0 where
+  pub record EndsLane (about : A → About) (choice : Choice) (meaning : ℕ → Meaning) (tickets : Tickets) (giver after : LaneGiver (Message A M)) (seat : Result Seat LaneFault) : Type 0 where
     pub to_same : GivesToSameLane giver after
     pub stopped : IsStopped (notes about (given_at after)) ⊎ ((seat ≡ Err StopRefused) × GoOn (notes about (given_at after)))
     pub tells : IfOk seat (λ s. TellsSeat about choice meaning tickets s (given_at after))

@@ -43,14 +43,14 @@ module _ {E : Type 0} where
     pub same_opener : promised_opener ≡ opener
     pub same_tickets : promised_tickets ≡ tickets
 
-module _ {E : Type 0} where
+module _ {E M : Type 0} where
   -- a lane has told all of the files that its seat drew
-  pub record HasRun (about : E → About) (choice : Choice) (meaning : ℕ → Meaning) (tickets : Tickets) (fan : Gatherer (Message E)) (lane : ℕ) (giver : LaneGiver (Message E)) (seat : Seat) : Type 0 where
+  pub record HasRun (about : E → About) (choice : Choice) (meaning : ℕ → Meaning) (tickets : Tickets) (fan : Gatherer (Message E M)) (lane : ℕ) (giver : LaneGiver (Message E M)) (seat : Seat) : Type 0 where
     pub gives_at : GivesAt fan lane giver
     pub tells : TellsSeat about choice meaning tickets seat (given_at giver)
 
   -- so have lanes in a row, the first of which has this number
-  abbrev pub HaveRun : (E → About) → Choice → (ℕ → Meaning) → Tickets → Gatherer (Message E) → ℕ → List (LaneGiver (Message E)) → List Seat → Type 0
+  abbrev pub HaveRun : (E → About) → Choice → (ℕ → Meaning) → Tickets → Gatherer (Message E M) → ℕ → List (LaneGiver (Message E M)) → List Seat → Type 0
   HaveRun about choice meaning tickets fan lane [] [] = ⊤
   HaveRun about choice meaning tickets fan lane (giver ∷ givers) (seat ∷ seats) =
       HasRun about choice meaning tickets fan lane giver seat × HaveRun about choice meaning tickets fan (lane + 1) givers seats

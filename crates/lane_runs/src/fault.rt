@@ -4,10 +4,10 @@ ghost use Rattle.lane_runs.specs.Faults.{IsOfLanes};
 /// Why a lane came to nothing.
 #[derive(Clone, Copy, Debug, PartialEq, Eq)]
 pub enum LaneFault {
-    /// There was no memory for links, the fan, a buffer, or the lists of lanes.
+    /// There was no memory for links, a buffer, or the lists of lanes.
     Memory,
     /// An end of a link or of the fan was gone.
-    Lost,
+    LaneLost,
     /// A thread could not be started.
     Thread,
     /// The gatherer was gone, so that the stop of the lane was refused.
@@ -20,7 +20,7 @@ pub enum RunFault<F: Drop> {
     /// There was no memory for links, the fan, tickets, buffers, or the lists of lanes.
     Memory,
     /// An end of a link or of the fan was gone.
-    Lost,
+    LaneLost,
     /// A thread could not be started.
     Thread,
     /// The consumer refused a message.
@@ -33,7 +33,7 @@ impl<F: Drop> From<LaneFault> for RunFault<F> {
     {
         match fault {
             LaneFault::Memory => RunFault::Memory,
-            LaneFault::Lost | LaneFault::StopRefused => RunFault::Lost,
+            LaneFault::LaneLost | LaneFault::StopRefused => RunFault::LaneLost,
             LaneFault::Thread => RunFault::Thread,
         }
     }

@@ -21,11 +21,11 @@ use std::thread::Threads;
 /// Joins the threads of the lanes and settles the fan with the givers of all lanes, also of those that do
 /// not run. So what was taken of each lane is all that it told, and a file that one seat drew was told
 /// whole. The seats are given back.
-fn join_lanes<E: Numbered, R: Threads + Wait + Sync, O: Opener, G: Gate>(
+fn join_lanes<E: Numbered, M: Drop + Send, R: Threads + Wait + Sync, O: Opener, G: Gate>(
     setting: &Setting<'_, R, O, G>,
-    gatherer: Gatherer<Message<E>>,
-    running: Vec<Running<E, O>>,
-    mut givers: Vec<LaneGiver<Message<E>>>,
+    gatherer: Gatherer<Message<E, M>>,
+    running: Vec<Running<E, M, O>>,
+    mut givers: Vec<LaneGiver<Message<E, M>>>,
 ) -> Result<Vec<Seat>, LaneFault>
     requires some { 1 ≤ vec_len running }
     requires lanes { vec_len running + vec_len givers ≡ LANES }
@@ -59,11 +59,11 @@ fn join_lanes<E: Numbered, R: Threads + Wait + Sync, O: Opener, G: Gate>(
 
 /// Hands all that the lanes give, up to the stop of each, to the consumer, and joins their threads. Then the
 /// consumer holds all of each file that one seat drew. The seats are given back.
-pub fn finish_lanes<E: Numbered, C: Consumer<E>, R: Threads + Wait + Sync, O: Opener, G: Gate>(
+pub fn finish_lanes<E: Numbered, M: Drop + Send, C: Consumer<E, M>, R: Threads + Wait + Sync, O: Opener, G: Gate>(
     setting: &Setting<'_, R, O, G>,
-    gatherer: Gatherer<Message<E>>,
-    running: Vec<Running<E, O>>,
-    idle: Vec<LaneGiver<Message<E>>>,
+    gatherer: Gatherer<Message<E, M>>,
+    running: Vec<Running<E, M, O>>,
+    idle: Vec<LaneGiver<Message<E, M>>>,
     consumer: &mut C,
 ) -> Result<Vec<Seat>, RunFault<C::Refusal>>
     requires some { 1 ≤ vec_len running }
@@ -84,7 +84,7 @@ pub fn finish_lanes<E: Numbered, C: Consumer<E>, R: Threads + Wait + Sync, O: Op
     let gatherer = match gather(setting.rt, setting.alloc, gatherer, lanes, consumer) {
         Ok(gatherer) => gatherer,
         Err(GatherFault::Memory) => return Err(RunFault::Memory),
-        Err(GatherFault::LaneLost) => return Err(RunFault::Lost),
+        Err(GatherFault::LaneLost) => return Err(RunFault::LaneLost),
         Err(GatherFault::Refused(refusal)) => return Err(RunFault::Refused(refusal)),
     };
     match join_lanes(setting, gatherer, running, idle) {

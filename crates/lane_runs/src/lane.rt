@@ -5,6 +5,7 @@ ghost use Rattle.ruled_lanes.specs.TicketSeats.{IsSeatOf, IsUnused};
 ghost use Rattle.lanes.specs.declared.message.Message.TheVariants.{Stop};
 ghost use Rattle.lanes.specs.Notes.{notes, GoOn};
 ghost use Rattle.lane_runs.specs.Lanes.{TellsSeat, StartsLane, LeavesLane, EndsLane};
+ghost use Rattle.lane_runs.specs.Taking.{TakesFiles};
 
 use crate::fault::LaneFault;
 use crate::lane_kind::LaneKind;
@@ -26,18 +27,20 @@ use streams::piece_buffer;
 pub fn run_lane<L: LaneKind, R: Threads + Wait + Sync, O: Opener, G: Gate>(
     setting: &Setting<'_, R, O, G>,
     seat: Seat,
-    giver: LaneGiver<Message<L::Entry>>,
-) -> LaneEnd<L::Entry>
+    giver: LaneGiver<Message<L::Entry, L::End>>,
+) -> LaneEnd<L::Entry, L::End>
     requires seat { IsSeatOf setting.now.tickets.now seat }
     requires unused { IsUnused seat }
     requires none_given { given_at giver ≡ [] }
+    requires takes { TakesFiles L.takes L.ends (O.meaning setting.now.opener.now) }
     ensures { EndsLane L.Entry.about setting.now.choice (O.meaning setting.now.opener.now) setting.now.tickets.now giver result.giver result.seat }
 {
     let LaneEnd { mut giver, seat } = thread::scope(
         thread::scope_env(),
         setting.rt,
-        move |scope| -> LaneEnd<L::Entry>
-            requires { StartsLane setting.now.tickets.now seat giver }
+        move |scope| -> LaneEnd<L::Entry, L::End>
+            requires { StartsLane setting.now.tickets.now seat giver
+                × TakesFiles L.takes L.ends (O.meaning setting.now.opener.now) }
             ensures { LeavesLane L.Entry.about setting.entry.now.choice (O.meaning setting.entry.now.opener.now) setting.entry.now.tickets.now
                 giver result.giver result.seat }
         {
@@ -61,11 +64,12 @@ fn run_stages<'s, E, L: LaneKind + 's, R: Threads + Wait + Sync, O: Opener, G: G
     scope: &'s Scope<'s, E>,
     setting: &'s Setting<'s, R, O, G>,
     seat: Seat,
-    giver: &mut LaneGiver<Message<L::Entry>>,
+    giver: &mut LaneGiver<Message<L::Entry, L::End>>,
 ) -> Result<Seat, LaneFault>
     requires seat { IsSeatOf setting.now.tickets.now seat }
     requires unused { IsUnused seat }
     requires none_given { given_at giver.old ≡ [] }
+    requires takes { TakesFiles L.takes L.ends (O.meaning setting.now.opener.now) }
     ensures same { GivesToSameLane giver.old giver.new }
     ensures goes_on { GoOn (notes L.Entry.about (given_at giver.new)) }
     ensures told { IfOk result (λ after. TellsSeat L.Entry.about setting.now.choice (O.meaning setting.now.opener.now) setting.now.tickets.now after
@@ -95,6 +99,6 @@ fn run_stages<'s, E, L: LaneKind + 's, R: Threads + Wait + Sync, O: Opener, G: G
             settle_lane::<L, _>(setting.rt, read, embed, shape, draw);
             Ok(seat)
         }
-        _ => Err(LaneFault::Lost),
+        _ => Err(LaneFault::LaneLost),
     }
 }

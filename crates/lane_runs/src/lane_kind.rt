@@ -1,11 +1,14 @@
 //! What travels through a lane.
-ghost use Rattle.std.specs.Prelude.{◌≡◌};
+ghost use Rattle.std.specs.Prelude.{◌≡◌, ℕ, List};
+ghost use Rattle.streams.specs.declared.frames.Mark.{Mark};
 
 use choices::Choice;
 use lanes::{Numbered, Staged};
 use planar_code::Record;
+use streams::SourceEnd;
 
-/// What is known of a record at each of the four stages of a lane: each stage makes the next from it.
+/// What is known of a record at each of the four stages of a lane, where each stage makes the next from it, and
+/// of the end of a file.
 pub trait LaneKind: Sync {
     /// A record that was cut out of its file.
     type Framed: Staged<Next = Self::Embedded>;
@@ -19,7 +22,21 @@ pub trait LaneKind: Sync {
     /// What the lane gives.
     type Entry: Numbered;
 
+    /// What is known of the end of a file beside its mark.
+    type End: Drop + Send;
+
+    // Which records it may be handed: of which file, and at which place there.
+    ghost takes: { ℕ → ℕ → List ℕ → Type 0 };
+
+    // Which ends it may be handed: of which file, with how many records and which mark.
+    ghost ends: { ℕ → ℕ → Mark → Type 0 };
+
     /// The record that has this place in this file, with this choice of the outer face.
     fn framed(file: u32, ordinal: u32, rec: Record, choice: Choice) -> Self::Framed
+        requires { takes file ordinal rec }
         ensures { Self.Framed.about result ≡ record { file = file; ordinal = ordinal; bytes = rec; choice = choice } };
+
+    /// What is known of this end of this file.
+    fn end(file: u32, end: SourceEnd) -> Self::End
+        requires { ends file end.count end.mark };
 }

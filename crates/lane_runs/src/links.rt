@@ -18,9 +18,9 @@ use std::sync::Wait;
 /// Both ends of the three links between the stages of a lane.
 #[derive(Drop)]
 pub struct Links<L: LaneKind> {
-    pub framed: (Giver<Message<L::Framed>>, Taker<Message<L::Framed>>),
-    pub embedded: (Giver<Message<L::Embedded>>, Taker<Message<L::Embedded>>),
-    pub shaped: (Giver<Message<L::Shaped>>, Taker<Message<L::Shaped>>),
+    pub framed: (Giver<Message<L::Framed, L::End>>, Taker<Message<L::Framed, L::End>>),
+    pub embedded: (Giver<Message<L::Embedded, L::End>>, Taker<Message<L::Embedded, L::End>>),
+    pub shaped: (Giver<Message<L::Shaped, L::End>>, Taker<Message<L::Shaped, L::End>>),
 }
 
 /// New links, each with room for `capacity` messages.
@@ -51,17 +51,17 @@ pub fn new_links<L: LaneKind>(alloc: Global, capacity: u32) -> Result<Links<L>, 
 /// the last one told too.
 pub fn settle_lane<L: LaneKind, R: Wait>(
     rt: &R,
-    read: Giver<Message<L::Framed>>,
-    embed: (Taker<Message<L::Framed>>, Giver<Message<L::Embedded>>),
-    shape: (Taker<Message<L::Embedded>>, Giver<Message<L::Shaped>>),
-    draw: Taker<Message<L::Shaped>>,
+    read: Giver<Message<L::Framed, L::End>>,
+    embed: (Taker<Message<L::Framed, L::End>>, Giver<Message<L::Embedded, L::End>>),
+    shape: (Taker<Message<L::Embedded, L::End>>, Giver<Message<L::Shaped, L::End>>),
+    draw: Taker<Message<L::Shaped, L::End>>,
 )
     requires framed { AreEnds read embed.0 }
     requires embedded { AreEnds embed.1 shape.0 }
     requires shaped { AreEnds shape.1 draw }
     requires embeds { IsPassedOn L.Framed.about L.Embedded.about (taken embed.0) (given embed.1) }
     requires shapes { IsPassedOn L.Embedded.about L.Shaped.about (taken shape.0) (given shape.1) }
-    ensures { (choice : Choice) (meaning : ℕ → Meaning) (drawn : List ℕ) (gave : List (AnyMessage L.Entry))
+    ensures { (choice : Choice) (meaning : ℕ → Meaning) (drawn : List ℕ) (gave : List (AnyMessage L.Entry L.End))
         → IsPassedOn L.Shaped.about L.Entry.about (taken draw) gave
         → TellsDrawn L.Framed.about choice meaning drawn (given read)
         → TellsDrawn L.Entry.about choice meaning drawn gave }

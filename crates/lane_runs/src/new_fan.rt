@@ -4,16 +4,15 @@ ghost use Rattle.ruled_lanes.specs.declared.limits.TheConstants.{LANES, MAX_CAPA
 ghost use Rattle.ruled_lanes.specs.FanEnds.{gathered, room_of_fan};
 ghost use Rattle.lane_runs.specs.Running.{AreNumbered, IsIdle};
 
-use crate::fault::LaneFault;
 use lanes::{Message, Numbered};
 use ruled_lanes::{Gatherer, LaneGiver, fan_in};
-use std::alloc::Global;
+use std::alloc::{AllocError, Global};
 
 /// A new fan with room for `capacity` messages: the givers in the order of their lanes.
-pub fn new_fan<E: Numbered>(
+pub fn new_fan<E: Numbered, M: Drop + Send>(
     alloc: Global,
     capacity: u32,
-) -> Result<(Vec<LaneGiver<Message<E>>>, Gatherer<Message<E>>), LaneFault>
+) -> Result<(Vec<LaneGiver<Message<E, M>>>, Gatherer<Message<E, M>>), AllocError>
     requires least { 1 ≤ capacity }
     requires most { capacity ≤ MAX_CAPACITY }
     ensures room { IfOk result (λ r. room_of_fan r.1 ≡ capacity) }
@@ -23,6 +22,6 @@ pub fn new_fan<E: Numbered>(
 {
     match fan_in(alloc, capacity) {
         Ok(made) => Ok(made),
-        Err(_) => Err(LaneFault::Memory),
+        Err(_) => Err(AllocError),
     }
 }

@@ -3,6 +3,7 @@ ghost use Rattle.std.specs.Prelude.{◌≡◌, ◌<◌, [], IfSome, vec_len};
 ghost use Rattle.ruled_lanes.specs.LinkEnds.{given};
 ghost use Rattle.ruled_lanes.specs.TicketSeats.{IsSeatOf, IsUnused};
 ghost use Rattle.lane_runs.specs.Lanes.{ReadsSeat};
+ghost use Rattle.lane_runs.specs.Taking.{TakesFiles};
 ghost use Rattle.streams.specs.declared.reading.TheConstants.{PIECE};
 
 use crate::lane_kind::LaneKind;
@@ -19,12 +20,13 @@ pub fn read_stage<L: LaneKind, O: Opener, R: Wait, G: Gate>(
     lane: u32,
     mut seat: Seat,
     mut buffer: Vec<u8>,
-    giver: Giver<Message<L::Framed>>,
-) -> Option<(Giver<Message<L::Framed>>, Seat)>
+    giver: Giver<Message<L::Framed, L::End>>,
+) -> Option<(Giver<Message<L::Framed, L::End>>, Seat)>
     requires seat { IsSeatOf setting.now.tickets.now seat }
     requires unused { IsUnused seat }
     requires none_given { given giver ≡ [] }
     requires room { vec_len buffer ≡ PIECE }
+    requires takes { TakesFiles L.takes L.ends (O.meaning setting.now.opener.now) }
     ensures { IfSome result (λ ends.
         ReadsSeat L.Framed.about setting.now.choice (O.meaning setting.now.opener.now) setting.now.tickets.now giver ends.0 ends.1) }
 {
@@ -41,7 +43,7 @@ pub fn read_stage<L: LaneKind, O: Opener, R: Wait, G: Gate>(
                 Err(_) => None,
             };
         };
-        let mark = match read_file(
+        let end = match read_file(
             setting.opener,
             setting.alloc,
             file,
@@ -49,10 +51,14 @@ pub fn read_stage<L: LaneKind, O: Opener, R: Wait, G: Gate>(
             buffer.as_mut_slice(),
             &mut gives,
         ) {
-            Ok(mark) => mark,
+            Ok(end) => end,
             Err(_) => return None,
         };
-        match gives.giver.give(setting.rt, Message::End(file, mark)) {
+        let known = L::end(file, end);
+        match gives
+            .giver
+            .give(setting.rt, Message::End(file, end.mark, known))
+        {
             Ok(()) => {}
             Err(_) => return None,
         }

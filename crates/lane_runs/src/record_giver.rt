@@ -21,7 +21,7 @@ pub struct RecordGiver<'r, 'g, R, G, L: LaneKind> {
     pub rt: &'r R,
     pub gate: &'g G,
     pub lane: u32,
-    pub giver: Giver<Message<L::Framed>>,
+    pub giver: Giver<Message<L::Framed, L::End>>,
 }
 
 impl<R: Wait, G: Gate, L: LaneKind> Keep for RecordGiver<'_, '_, R, G, L> {
@@ -30,6 +30,8 @@ impl<R: Wait, G: Gate, L: LaneKind> Keep for RecordGiver<'_, '_, R, G, L> {
     ghost kept = { λ g. notes L.Framed.about (given g.giver) };
 
     ghost stays = { λ a b. GivesToSame a.giver b.giver };
+
+    ghost accepts = { λ _ file ordinal bytes. L.takes file ordinal bytes };
 
     fn keep(
         &mut self,
@@ -46,6 +48,8 @@ impl<R: Wait, G: Gate, L: LaneKind> Keep for RecordGiver<'_, '_, R, G, L> {
             Err(_) => Err(Gone),
         }
     }
+
+    ghost accepts_on = { λ _ _ _ _ _ _ takes. takes };
 
     ghost stays_itself = { λ x. refl };
 

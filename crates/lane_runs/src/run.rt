@@ -1,5 +1,5 @@
 //! All lanes of a run.
-ghost use Rattle.std.specs.Prelude.{◌≡◌, ◌≤◌, ◌<◌, ◌+◌, List, [], All, IfOk, IfErr, vec_len};
+ghost use Rattle.std.specs.Prelude.{◌≡◌, ◌≤◌, ◌<◌, ◌+◌, ◌∷◌, ◌++◌, List, [], All, IfOk, OnOk, IfErr, vec_len};
 ghost use Rattle.ruled_lanes.specs.declared.limits.TheConstants.{LANES, MAX_CAPACITY, MAX_TICKETS};
 ghost use Rattle.ruled_lanes.specs.FanEnds.{gathered, given_at};
 ghost use Rattle.ruled_lanes.specs.TicketSeats.{IsSeatOf, IsUnused};
@@ -8,6 +8,7 @@ ghost use Rattle.lanes.specs.Files.{AreToldWhole};
 ghost use Rattle.lane_runs.specs.Lanes.{StartsLane};
 ghost use Rattle.lane_runs.specs.Running.{AreNumbered, IsIdle, IsRunning, HasEnded, StartsRun, LeavesRun};
 ghost use Rattle.lane_runs.specs.Faults.{EndsRun};
+ghost use Rattle.lane_runs.specs.Taking.{TakesFiles};
 
 use crate::fault::{LaneFault, RunFault};
 use crate::joining::finish_lanes;
@@ -31,12 +32,12 @@ use std::thread::{Scope, Threads};
 ///
 /// # Errors
 ///
-/// `Memory`: no memory for links, the fan, tickets, buffers, or the lists of lanes. `Lost`: an end of a link
+/// `Memory`: no memory for links, the fan, tickets, buffers, or the lists of lanes. `LaneLost`: an end of a link
 /// or of the fan was gone. `Thread`: a thread could not be started. `Refused`: the consumer refused a message.
 pub fn run_lanes<
     'r,
     L: LaneKind,
-    C: Consumer<L::Entry>,
+    C: Consumer<L::Entry, L::End>,
     R: Threads + Wait + Sync,
     O: Opener,
     G: Gate,
@@ -56,6 +57,7 @@ pub fn run_lanes<
     requires least { 1 ≤ capacity }
     requires most { capacity ≤ MAX_CAPACITY }
     requires empty { C.holds consumer [] }
+    requires takes { TakesFiles L.takes L.ends (O.meaning opener.now) }
     ensures told { IfOk result.1 (λ _. (ns : List Note) × C.holds result.0 ns
         × AreToldWhole choice (O.meaning opener.now) files ns) }
     ensures ended { IfErr result.1 (EndsRun (C.gave_up result.0) (C.holds result.0)) }
@@ -64,7 +66,7 @@ pub fn run_lanes<
     let Ok((tickets, seats)) = Tickets::new(alloc, files, lanes) else {
         return (consumer, Err(RunFault::Memory));
     };
-    let Ok((givers, gatherer)) = new_fan::<L::Entry>(alloc, capacity) else {
+    let Ok((givers, gatherer)) = new_fan::<L::Entry, L::End>(alloc, capacity) else {
         return (consumer, Err(RunFault::Memory));
     };
     let shared = Setting {
@@ -88,21 +90,23 @@ pub fn run_lanes<
 
 /// Runs a lane for each seat, gathers what they give, and joins their threads. The consumer is given back,
 /// and the seats.
-fn run_seats<L: LaneKind, C: Consumer<L::Entry>, R: Threads + Wait + Sync, O: Opener, G: Gate>(
+fn run_seats<L: LaneKind, C: Consumer<L::Entry, L::End>, R: Threads + Wait + Sync, O: Opener, G: Gate>(
     setting: &Setting<'_, R, O, G>,
     seats: Vec<Seat>,
-    givers: Vec<LaneGiver<Message<L::Entry>>>,
-    gatherer: Gatherer<Message<L::Entry>>,
+    givers: Vec<LaneGiver<Message<L::Entry, L::End>>>,
+    gatherer: Gatherer<Message<L::Entry, L::End>>,
     consumer: C,
 ) -> (C, Result<Vec<Seat>, RunFault<C::Refusal>>)
-    requires { StartsRun C.holds setting.now.tickets.now seats givers gatherer consumer }
+    requires { StartsRun C.holds setting.now.tickets.now seats givers gatherer consumer
+        × TakesFiles L.takes L.ends (O.meaning setting.now.opener.now) }
     ensures { LeavesRun C.holds C.gave_up C.stays setting.now.choice (O.meaning setting.now.opener.now) setting.now.tickets.now (vec_len seats) consumer result.0 result.1 }
 {
     thread::scope(
         thread::scope_env(),
         setting.rt,
         move |scope| -> (C, Result<Vec<Seat>, RunFault<C::Refusal>>)
-            requires { StartsRun C.holds setting.now.tickets.now seats givers gatherer consumer }
+            requires { StartsRun C.holds setting.now.tickets.now seats givers gatherer consumer
+        × TakesFiles L.takes L.ends (O.meaning setting.now.opener.now) }
             ensures { LeavesRun C.holds C.gave_up C.stays setting.entry.now.choice (O.meaning setting.entry.now.opener.now) setting.entry.now.tickets.now (vec_len seats) consumer result.0 result.1 }
         {
             let mut consumer = consumer;
@@ -124,7 +128,7 @@ fn run_in<
     's,
     E,
     L: LaneKind + 's,
-    C: Consumer<L::Entry>,
+    C: Consumer<L::Entry, L::End>,
     R: Threads + Wait + Sync,
     O: Opener,
     G: Gate,
@@ -132,11 +136,12 @@ fn run_in<
     scope: &'s Scope<'s, E>,
     setting: &'s Setting<'s, R, O, G>,
     seats: Vec<Seat>,
-    givers: Vec<LaneGiver<Message<L::Entry>>>,
-    gatherer: Gatherer<Message<L::Entry>>,
+    givers: Vec<LaneGiver<Message<L::Entry, L::End>>>,
+    gatherer: Gatherer<Message<L::Entry, L::End>>,
     consumer: &mut C,
 ) -> Result<Vec<Seat>, RunFault<C::Refusal>>
-    requires { StartsRun C.holds setting.now.tickets.now seats givers gatherer consumer.old }
+    requires { StartsRun C.holds setting.now.tickets.now seats givers gatherer consumer.old
+        × TakesFiles L.takes L.ends (O.meaning setting.now.opener.now) }
     ensures { LeavesRun C.holds C.gave_up C.stays setting.now.choice (O.meaning setting.now.opener.now) setting.now.tickets.now (vec_len seats) consumer.old consumer.new result }
 {
     match start_lanes::<_, L, _, _, _>(scope, setting, seats, givers, &gatherer) {
@@ -150,14 +155,15 @@ fn start_lanes<'s, E, L: LaneKind + 's, R: Threads + Wait + Sync, O: Opener, G: 
     scope: &'s Scope<'s, E>,
     setting: &'s Setting<'s, R, O, G>,
     mut seats: Vec<Seat>,
-    givers: Vec<LaneGiver<Message<L::Entry>>>,
-    gatherer: &Gatherer<Message<L::Entry>>,
-) -> Result<(Vec<Running<L::Entry, O>>, Vec<LaneGiver<Message<L::Entry>>>), LaneFault>
+    givers: Vec<LaneGiver<Message<L::Entry, L::End>>>,
+    gatherer: &Gatherer<Message<L::Entry, L::End>>,
+) -> Result<(Vec<Running<L::Entry, L::End, O>>, Vec<LaneGiver<Message<L::Entry, L::End>>>), LaneFault>
     requires few { vec_len seats ≤ LANES }
     requires seats { All (IsSeatOf setting.now.tickets.now) seats.items }
     requires unused { All IsUnused seats.items }
     requires lanes { vec_len givers ≡ LANES }
     requires idle { AreNumbered (IsIdle gatherer.now) 0 givers.items }
+    requires takes { TakesFiles L.takes L.ends (O.meaning setting.now.opener.now) }
     ensures count { IfOk result (λ started. vec_len started.0 ≡ vec_len seats) }
     ensures lanes { IfOk result (λ started. vec_len started.0 + vec_len started.1 ≡ LANES) }
     ensures running { IfOk result (λ started. AreNumbered (λ lane r. IsRunning gatherer.now setting.now.choice setting.now.opener.now setting.now.tickets.now lane
@@ -172,18 +178,23 @@ fn start_lanes<'s, E, L: LaneKind + 's, R: Threads + Wait + Sync, O: Opener, G: 
         match seats.pop() {
             Some(seat) => {
                 let started = start_lane::<_, L, _, _, _>(scope, setting, seat, giver)?;
-                match running.push(started) {
-                    Ok(()) => {}
-                    Err(_) => return Err(LaneFault::Memory),
-                }
+                push(&mut running, started)?;
             }
-            None => match idle.push(giver) {
-                Ok(()) => {}
-                Err(_) => return Err(LaneFault::Memory),
-            },
+            None => push(&mut idle, giver)?,
         }
     }
     Ok((running, idle))
+}
+
+/// Puts an item at the end of a list.
+fn push<T: Drop>(list: &mut Vec<T>, item: T) -> Result<(), LaneFault>
+    ensures items { OnOk result (list.new.items ≡ list.old.items ++ item ∷ []) }
+    ensures len { OnOk result (vec_len list.new ≡ vec_len list.old + 1) }
+{
+    match list.push(item) {
+        Ok(()) => Ok(()),
+        Err(_) => Err(LaneFault::Memory),
+    }
 }
 
 /// Starts a lane in a thread of its own.
@@ -191,11 +202,12 @@ fn start_lane<'s, E, L: LaneKind + 's, R: Threads + Wait + Sync, O: Opener, G: G
     scope: &'s Scope<'s, E>,
     setting: &'s Setting<'s, R, O, G>,
     seat: Seat,
-    giver: LaneGiver<Message<L::Entry>>,
-) -> Result<Running<L::Entry, O>, LaneFault>
+    giver: LaneGiver<Message<L::Entry, L::End>>,
+) -> Result<Running<L::Entry, L::End, O>, LaneFault>
     requires seat { IsSeatOf setting.now.tickets.now seat }
     requires unused { IsUnused seat }
     requires none_given { given_at giver ≡ [] }
+    requires takes { TakesFiles L.takes L.ends (O.meaning setting.now.opener.now) }
     ensures choice { IfOk result (λ r. r.promise.choice ≡ setting.now.choice) }
     ensures opener { IfOk result (λ r. r.promise.opener.value ≡ setting.now.opener.now) }
     ensures tickets { IfOk result (λ r. r.promise.tickets.value ≡ setting.now.tickets.now) }
@@ -209,8 +221,9 @@ fn start_lane<'s, E, L: LaneKind + 's, R: Threads + Wait + Sync, O: Opener, G: G
     };
     match scope.spawn_with(
         promise,
-        move || -> LaneEnd<L::Entry>
-            requires { StartsLane setting.now.tickets.now seat giver }
+        move || -> LaneEnd<L::Entry, L::End>
+            requires { StartsLane setting.now.tickets.now seat giver
+                × TakesFiles L.takes L.ends (O.meaning setting.now.opener.now) }
         { run_lane::<L, _, _, _>(setting, seat, giver) },
     ) {
         Ok(handle) => Ok(handle),

@@ -11,23 +11,23 @@ use std::thread::{Promise, PromisedHandle};
 
 /// What the thread of a lane gives back: in any case the end at which it gave, and its seat or what it met.
 #[derive(Drop)]
-pub struct LaneEnd<E: Numbered> {
-    pub giver: LaneGiver<Message<E>>,
+pub struct LaneEnd<E: Numbered, M: Drop + Send> {
+    pub giver: LaneGiver<Message<E, M>>,
     pub seat: Result<Seat, LaneFault>,
 }
 
 /// What the thread of a lane promises of the end and the seat that it gives back.
 #[derive(Drop)]
-pub struct LanePromise<E: Numbered, O: Opener> {
+pub struct LanePromise<E: Numbered, M: Drop + Send, O: Opener> {
     pub choice: Choice,
     pub opener: Snapshot<O>,
     pub tickets: Snapshot<Tickets>,
-    pub giver: Snapshot<LaneGiver<Message<E>>>,
+    pub giver: Snapshot<LaneGiver<Message<E, M>>>,
 }
 
-impl<E: Numbered, O: Opener> Promise<LaneEnd<E>> for LanePromise<E, O> {
+impl<E: Numbered, M: Drop + Send, O: Opener> Promise<LaneEnd<E, M>> for LanePromise<E, M, O> {
     ghost kept_by = { λ p end. EndsLane E.about p.choice (O.meaning p.opener.value) p.tickets.value p.giver.value end.giver end.seat };
 }
 
 /// A lane that runs.
-pub type Running<E, O> = PromisedHandle<LaneEnd<E>, LanePromise<E, O>>;
+pub type Running<E, M, O> = PromisedHandle<LaneEnd<E, M>, LanePromise<E, M, O>>;

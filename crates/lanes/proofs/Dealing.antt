@@ -4,9 +4,8 @@ use Rattle.ruled_lanes.specs.LinkEnds.{Settles}
 use Rattle.streams.specs.declared.frames.Mark.{Mark}
 use Rattle.choices.specs.declared.Choice.{Choice}
 use Rattle.lanes.specs.declared.message.Message.{Message}
-use Rattle.lanes.specs.declared.message.Message.TheVariants.{Item, End, Stop}
 use Rattle.lanes.specs.declared.drafts.Draft.{Draft}
-use Rattle.lanes.specs.Notes.{About, Note, note, notes, numbered, GoOn, IsStopped}
+use Rattle.lanes.specs.Notes.{About, Note, note, notes, numbered, GoOn, IsStopped, Item, End, Stop}
 use Rattle.lanes.specs.Opening.{Meaning}
 use Rattle.lanes.specs.Stages.{IsPassedOn}
 use Rattle.lanes.specs.Drafts.{abouts, mark_after, IsDraft, AreDrafts}
@@ -52,28 +51,28 @@ stop_last mine held theirs settled (front, rest, is) (front', is', on') =
 pub stopped_has : (ns : List Note) → IsStopped ns → HasStop ns
 stopped_has ns (front, is, on) = (front, [], is)
 
-module _ {A : Type 0} where
-  pub notes-append : (about : A → About) (xs ys : List (Message A)) → notes about (xs ++ ys) ≡ notes about xs ++ notes about ys
+module _ {A M : Type 0} where
+  pub notes-append : (about : A → About) (xs ys : List (Message A M)) → notes about (xs ++ ys) ≡ notes about xs ++ notes about ys
   notes-append about [] ys = refl
   notes-append about (x ∷ xs) ys = ap (λ l. note about x ∷ l) (notes-append about xs ys)
 
   -- over a link
-  pub link_passed : (about : A → About) (taken given : List (Message A)) → Settles taken given → IsStopped (notes about taken) → IsStopped (notes about given)
+  pub link_passed : (about : A → About) (taken given : List (Message A M)) → Settles taken given → IsStopped (notes about taken) → IsStopped (notes about given)
       → notes about taken ≡ notes about given
   link_passed about taken given (held, settled) stopped stopped' =
       stop_last (notes about taken) (notes about held) (notes about given) (sym (notes-append about taken held) ∙ ap (notes about) settled) (stopped_has (notes about taken) stopped) stopped'
 
   -- what is told stays told
-  pub tells_same : (about : A → About) (choice : Choice) (meaning : ℕ → Meaning) (drawn : List ℕ) (gave : List (Message A)) (ns : List Note) → notes about gave ≡ ns
+  pub tells_same : (about : A → About) (choice : Choice) (meaning : ℕ → Meaning) (drawn : List ℕ) (gave : List (Message A M)) (ns : List Note) → notes about gave ≡ ns
       → IsStopped ns → HasDrawn choice meaning drawn ns → TellsDrawn about choice meaning drawn gave
   tells_same about choice meaning drawn gave ns same stopped told = record {
     stopped = subst IsStopped (sym same) stopped;
     told = subst (HasDrawn choice meaning drawn) (sym same) told;
   }
 
-module _ {A B : Type 0} where
+module _ {A B M : Type 0} where
   -- over a link and a stage behind it
-  pub stage_tells : (about : A → About) (next_about : B → About) (choice : Choice) (meaning : ℕ → Meaning) (drawn : List ℕ) (given taken : List (Message A)) (gave : List (Message B))
+  pub stage_tells : (about : A → About) (next_about : B → About) (choice : Choice) (meaning : ℕ → Meaning) (drawn : List ℕ) (given taken : List (Message A M)) (gave : List (Message B M))
       → Settles taken given → IsPassedOn about next_about taken gave → TellsDrawn about choice meaning drawn given → TellsDrawn next_about choice meaning drawn gave
   stage_tells about next_about choice meaning drawn given taken gave settled passed tells =
       tells_same next_about choice meaning drawn gave (notes about given)

@@ -27,10 +27,11 @@ found_opened to_come fails (Opened bytes failing) source records mark opens f =
     subst (λ b. IsFoundIn (Some bytes) b records mark) opens.1 (subst (λ t. IsFoundIn t (fails source) records mark) opens.0 f)
 
 -- so is what is kept
-pub keeps_opened : {S : Type 0} (choice : Choice) (to_come : S → Option (List ℕ)) (fails : S → Bool) (meaning : Meaning) (source : S) (file : ℕ) (before after : List Note) (mark : Mark)
-    → Opens to_come fails meaning (Ok source) → KeepsSource choice (to_come source) (fails source) file before after mark → KeepsFile choice meaning file before after mark
-keeps_opened choice to_come fails meaning source file before after mark opens k = record {
+pub keeps_opened : {S : Type 0} (choice : Choice) (to_come : S → Option (List ℕ)) (fails : S → Bool) (meaning : Meaning) (source : S) (file : ℕ) (before after : List Note) (count : ℕ) (mark : Mark)
+    → Opens to_come fails meaning (Ok source) → KeepsSource choice (to_come source) (fails source) file before after count mark → KeepsFile choice meaning file before after count mark
+keeps_opened choice to_come fails meaning source file before after count mark opens k = record {
   records = k.records;
+  counted = k.counted;
   kept = k.kept;
   found = found_opened to_come fails meaning source k.records mark opens k.found;
 }
@@ -42,16 +43,17 @@ found_unopened to_come fails Unopened opens = found_failed (Some []) (Some []) t
 found_unopened to_come fails (Opened bytes failing) opens = absurd opens
 
 pub keeps_unopened : {S : Type 0} (choice : Choice) (to_come : S → Option (List ℕ)) (fails : S → Bool) (meaning : Meaning) (fault : OpenFault) (file : ℕ) (before : List Note)
-    → Opens to_come fails meaning (Err fault) → fault ≡ Io → KeepsFile choice meaning file before before mark.Io
+    → Opens to_come fails meaning (Err fault) → fault ≡ Io → KeepsFile choice meaning file before before 0 mark.Io
 keeps_unopened choice to_come fails meaning fault file before opens is = record {
   records = [];
+  counted = refl;
   kept = sym (append-nil before);
   found = found_unopened to_come fails meaning (subst (λ f. Opens to_come fails meaning (Err f)) is opens);
 }
 
 -- a file for which there was no memory
-pub keeps_wanting : (choice : Choice) (meaning : Meaning) (file : ℕ) (before : List Note) → KeepsFile choice meaning file before before (Ended ending.Memory)
-keeps_wanting choice meaning file before = record { records = []; kept = sym (append-nil before); found = found_nothing (told_of meaning) (fails_of meaning) [] refl }
+pub keeps_wanting : (choice : Choice) (meaning : Meaning) (file : ℕ) (before : List Note) → KeepsFile choice meaning file before before 0 (Ended ending.Memory)
+keeps_wanting choice meaning file before = record { records = []; counted = refl; kept = sym (append-nil before); found = found_nothing (told_of meaning) (fails_of meaning) [] refl }
 
-pub keeps_nothing : (choice : Choice) (told : Option (List ℕ)) (fails : Bool) (file : ℕ) (before : List Note) → KeepsSource choice told fails file before before (Ended ending.Memory)
-keeps_nothing choice told fails file before = record { records = []; kept = sym (append-nil before); found = found_nothing told fails [] refl }
+pub keeps_nothing : (choice : Choice) (told : Option (List ℕ)) (fails : Bool) (file : ℕ) (before : List Note) → KeepsSource choice told fails file before before 0 (Ended ending.Memory)
+keeps_nothing choice told fails file before = record { records = []; counted = refl; kept = sym (append-nil before); found = found_nothing told fails [] refl }

@@ -3,5 +3,6 @@ pub mod Numbers
 pub mod Keeping
 pub mod Passing
 pub mod Drafting
+pub mod Accepting
 pub mod Dealing
 pub mod Stopping

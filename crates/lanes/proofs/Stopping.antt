@@ -8,8 +8,8 @@ use Rattle.std.proofs.lemmas.List.Elements.{All-from_all_within}
 use Rattle.ruled_lanes.specs.FanRule.{of_lane}
 use Rattle.ruled_lanes.proofs.Fans.{of_lane-append}
 use Rattle.lanes.specs.declared.message.Message.{Message}
-use Rattle.lanes.specs.declared.message.Message.TheVariants.{Stop}
-use Rattle.lanes.specs.Notes.{About, Note, note, notes}
+use Rattle.lanes.specs.declared.message.Message.TheVariants as message
+use Rattle.lanes.specs.Notes.{About, Note, Stop, note, notes}
 use Rattle.lanes.specs.Fans.{HasStop, untagged, HaveStopped, AreStops}
 use Rattle.lanes.proofs.Dealing.{notes-append}
 
@@ -30,23 +30,23 @@ all_true : (Passes : Bool → Type 0) → (Passes false → ⊥) → (stops : Li
     → (k : ℕ) → k < length stops → slice_index_or stops k false ≡ true
 all_true Passes never stops all k below = not_false Passes never (slice_index_or stops k false) (All-from_all_within Passes stops all k false below)
 
-module _ {T : Type 0} where
+module _ {T M : Type 0} where
   -- the notes of a lane, of one message more
-  lane_parts : (about : T → About) (lane : ℕ) (before after : List (ℕ × Message T)) (x : ℕ × Message T) → after ≡ before ++ x ∷ []
+  lane_parts : (about : T → About) (lane : ℕ) (before after : List (ℕ × Message T M)) (x : ℕ × Message T M) → after ≡ before ++ x ∷ []
       → notes about (of_lane lane after) ≡ notes about (of_lane lane before) ++ notes about (of_lane lane (x ∷ []))
   lane_parts about lane before after x more =
       ap (λ l. notes about (of_lane lane l)) more ∙ ap (notes about) (of_lane-append lane before (x ∷ []))
       ∙ notes-append about (of_lane lane before) (of_lane lane (x ∷ []))
 
-  pub lane_more : (about : T → About) (lane : ℕ) (before after : List (ℕ × Message T)) (x : ℕ × Message T) → after ≡ before ++ x ∷ []
+  pub lane_more : (about : T → About) (lane : ℕ) (before after : List (ℕ × Message T M)) (x : ℕ × Message T M) → after ≡ before ++ x ∷ []
       → HasStop (notes about (of_lane lane before)) → HasStop (notes about (of_lane lane after))
   lane_more about lane before after x more has =
       subst HasStop (sym (lane_parts about lane before after x more)) (stop_stays (notes about (of_lane lane before)) (notes about (of_lane lane (x ∷ []))) has)
 
-  lane_stops : (about : T → About) (lane : ℕ) (before after : List (ℕ × Message T)) (x : ℕ × Message T) → after ≡ before ++ x ∷ [] → lane ≡ x.0 → x.1 ≡ Stop
+  lane_stops : (about : T → About) (lane : ℕ) (before after : List (ℕ × Message T M)) (x : ℕ × Message T M) → after ≡ before ++ x ∷ [] → lane ≡ x.0 → x.1 ≡ message.Stop
       → HasStop (notes about (of_lane lane after))
   lane_stops about lane before after x more mine stop =
-      let f : ℕ × Message T → Message T = λ y. y.1 in (
+      let f : ℕ × Message T M → Message T M = λ y. y.1 in (
         notes about (of_lane lane before),
         [],
         lane_parts about lane before after x more
@@ -55,11 +55,11 @@ module _ {T : Type 0} where
       )
 
   -- what is noted of stops, after one message more
-  pub stops_more : (about : T → About) (stops : List Bool) (before after : List (ℕ × Message T)) (x : ℕ × Message T) → after ≡ before ++ x ∷ []
+  pub stops_more : (about : T → About) (stops : List Bool) (before after : List (ℕ × Message T M)) (x : ℕ × Message T M) → after ≡ before ++ x ∷ []
       → AreStops about before stops → AreStops about after stops
   stops_more about stops before after x more are = λ lane is. lane_more about lane before after x more (are lane is)
 
-  pub stop_noted : (about : T → About) (stops stops' : List Bool) (before after : List (ℕ × Message T)) (x : ℕ × Message T) → after ≡ before ++ x ∷ [] → x.1 ≡ Stop
+  pub stop_noted : (about : T → About) (stops stops' : List Bool) (before after : List (ℕ × Message T M)) (x : ℕ × Message T M) → after ≡ before ++ x ∷ [] → x.1 ≡ message.Stop
       → ((k : ℕ) → slice_index_or stops' k false ≡ true → (k ≡ x.0) ⊎ (slice_index_or stops k false ≡ true))
       → AreStops about before stops → AreStops about after stops'
   stop_noted about stops stops' before after x more stop noted are = λ lane is.
@@ -68,18 +68,18 @@ module _ {T : Type 0} where
         | inr was ↦ lane_more about lane before after x more (are lane was)
       ]
 
-  pub none_noted : (about : T → About) (items : List (ℕ × Message T)) (n : ℕ) → AreStops about items (replicate n false)
+  pub none_noted : (about : T → About) (items : List (ℕ × Message T M)) (n : ℕ) → AreStops about items (replicate n false)
   none_noted about items n = λ lane is. absurd (none_true n lane is)
 
   -- the notes of one message more, whatever its lane
-  pub told_more : (about : T → About) (before after : List (ℕ × Message T)) (x : ℕ × Message T) (n : Note)
+  pub told_more : (about : T → About) (before after : List (ℕ × Message T M)) (x : ℕ × Message T M) (n : Note)
       → after ≡ before ++ x ∷ [] → note about x.1 ≡ n → notes about (untagged after) ≡ notes about (untagged before) ++ n ∷ []
   told_more about before after x n more is =
-      let f : ℕ × Message T → Message T = λ y. y.1 in
+      let f : ℕ × Message T M → Message T M = λ y. y.1 in
       ap (λ l. notes about (untagged l)) more ∙ ap (notes about) (map-append f before (x ∷ [])) ∙ notes-append about (untagged before) (x.1 ∷ [])
       ∙ ap (λ m. notes about (untagged before) ++ m ∷ []) is
 
   -- where no lane is left, each has stopped
-  pub all_stopped : (about : T → About) (items : List (ℕ × Message T)) (Passes : Bool → Type 0) → (Passes false → ⊥) → (stops : List Bool) (lanes : ℕ) → length stops ≡ lanes
+  pub all_stopped : (about : T → About) (items : List (ℕ × Message T M)) (Passes : Bool → Type 0) → (Passes false → ⊥) → (stops : List Bool) (lanes : ℕ) → length stops ≡ lanes
       → AllWithin Passes stops 0 (length stops) → AreStops about items stops → HaveStopped about lanes items
   all_stopped about items Passes never stops lanes count all are = λ lane below. are lane (all_true Passes never stops all lane (omega (arith, below, count)))

@@ -2,9 +2,8 @@
 use Rattle.std.specs.Prelude.{◌≡◌, ℕ, ◌+◌, List, [], ◌∷◌, map, Option, None, Some, ⊤}
 use Rattle.streams.specs.declared.frames.Mark.{Mark}
 use Rattle.choices.specs.declared.Choice.{Choice}
-use Rattle.lanes.specs.declared.message.Message.TheVariants.{Item, End}
 use Rattle.lanes.specs.declared.drafts.Draft.{Draft}
-use Rattle.lanes.specs.Notes.{About, Note, of_file, numbered}
+use Rattle.lanes.specs.Notes.{About, Note, of_file, numbered, Item, End}
 use Rattle.lanes.specs.Opening.{Meaning, IsFoundAt}
 
 -- the records that notes are about, in order

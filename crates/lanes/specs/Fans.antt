@@ -2,22 +2,21 @@
 use Rattle.std.specs.Prelude.{◌≡◌, ℕ, ◌<◌, Bool, true, false, List, ◌∷◌, ◌++◌, map, slice_index_or}
 use Rattle.ruled_lanes.specs.FanRule.{of_lane}
 use Rattle.lanes.specs.declared.message.Message.{Message}
-use Rattle.lanes.specs.declared.message.Message.TheVariants.{Stop}
-use Rattle.lanes.specs.Notes.{About, Note, notes}
+use Rattle.lanes.specs.Notes.{About, Note, notes, Stop}
 
 -- a stop stands among the notes
 abbrev pub HasStop : List Note → Type 0
 HasStop ns = (front : List Note) × (rest : List Note) × (ns ≡ front ++ Stop ∷ rest)
 
-module _ {T : Type 0} where
-  -- the items of all lanes, in order
-  abbrev pub untagged : List (ℕ × T) → List T
-  untagged items = map (λ (x : ℕ × T). x.1) items
+-- the items of all lanes, in order
+abbrev pub untagged : {T : Type 0} → List (ℕ × T) → List T
+untagged {T} items = map (λ (x : ℕ × T). x.1) items
 
+module _ {T M : Type 0} where
   -- each of the first lanes has stopped
-  abbrev pub HaveStopped : (T → About) → ℕ → List (ℕ × Message T) → Type 0
+  abbrev pub HaveStopped : (T → About) → ℕ → List (ℕ × Message T M) → Type 0
   HaveStopped about lanes items = (lane : ℕ) → lane < lanes → HasStop (notes about (of_lane lane items))
 
   -- the lanes of which this is noted have stopped
-  abbrev pub AreStops : (T → About) → List (ℕ × Message T) → List Bool → Type 0
+  abbrev pub AreStops : (T → About) → List (ℕ × Message T M) → List Bool → Type 0
   AreStops about items stops = (lane : ℕ) → slice_index_or stops lane false ≡ true → HasStop (notes about (of_lane lane items))

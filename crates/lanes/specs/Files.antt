@@ -25,12 +25,13 @@ pub record HasDrawn (choice : Choice) (meaning : ℕ → Meaning) (drawn : List 
   pub own : (file : ℕ) → times file drawn ≡ 1 → HasFile choice (meaning file) file ns
   pub others : (file : ℕ) → times file drawn ≡ 0 → of_file file ns ≡ []
 
-module _ {A : Type 0} where
+module _ {A M : Type 0} where
   -- the messages are all that is told of the files that were drawn, up to one stop
-  pub record TellsDrawn (about : A → About) (choice : Choice) (meaning : ℕ → Meaning) (drawn : List ℕ) (gave : List (Message A)) : Type 0 where
+  pub record TellsDrawn (about : A → About) (choice : Choice) (meaning : ℕ → Meaning) (drawn : List ℕ) (gave : List (Message A M)) : Type 0 where
     pub stopped : IsStopped (notes about gave)
     pub told : HasDrawn choice meaning drawn (notes about gave)
 
+module _ {A : Type 0} where
   -- the draft has a mark, and is all of its file
   pub record IsReady (about : A → About) (choice : Choice) (meaning : Meaning) (file : ℕ) (draft : Draft A) : Type 0 where
     pub mark : Mark

@@ -1,21 +1,22 @@
 -- What is kept of a file that is read.
-use Rattle.std.specs.Prelude.{◌≡◌, ℕ, Bool, List, ◌++◌, Option, map}
+use Rattle.std.specs.Prelude.{◌≡◌, ℕ, Bool, List, ◌++◌, Option, map, length}
 use Rattle.streams.specs.declared.frames.Mark.{Mark}
 use Rattle.streams.specs.Reading.{IsFoundIn}
 use Rattle.choices.specs.declared.Choice.{Choice}
-use Rattle.lanes.specs.declared.message.Message.TheVariants.{Item}
-use Rattle.lanes.specs.Notes.{Note, numbered}
+use Rattle.lanes.specs.Notes.{Note, numbered, Item}
 use Rattle.lanes.specs.Opening.{Meaning, IsFoundAt}
 
--- of a file that means this, the records were kept in order, numbered from 0 and with this choice, after what was kept before; they and the
--- mark are those of the file
-pub record KeepsFile (choice : Choice) (meaning : Meaning) (file : ℕ) (before after : List Note) (mark : Mark) : Type 0 where
+-- of a file that means this, the records were kept in order, numbered from 0 and with this choice, after what was kept before; they, their
+-- number and the mark are those of the file
+pub record KeepsFile (choice : Choice) (meaning : Meaning) (file : ℕ) (before after : List Note) (count : ℕ) (mark : Mark) : Type 0 where
   pub records : List (List ℕ)
+  pub counted : length records ≡ count
   pub kept : after ≡ before ++ map Item (numbered choice file 0 records)
   pub found : IsFoundAt meaning records mark
 
 -- the same of a source that told this of itself
-pub record KeepsSource (choice : Choice) (told : Option (List ℕ)) (fails : Bool) (file : ℕ) (before after : List Note) (mark : Mark) : Type 0 where
+pub record KeepsSource (choice : Choice) (told : Option (List ℕ)) (fails : Bool) (file : ℕ) (before after : List Note) (count : ℕ) (mark : Mark) : Type 0 where
   pub records : List (List ℕ)
+  pub counted : length records ≡ count
   pub kept : after ≡ before ++ map Item (numbered choice file 0 records)
   pub found : IsFoundIn told fails records mark

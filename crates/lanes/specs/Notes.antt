@@ -4,7 +4,7 @@ use Rattle.std.specs.List.{filter}
 use Rattle.streams.specs.declared.frames.Mark.{Mark}
 use Rattle.choices.specs.declared.Choice.{Choice}
 use Rattle.lanes.specs.declared.message.Message.{Message}
-use Rattle.lanes.specs.declared.message.Message.TheVariants.{Item, End, Stop}
+use Rattle.lanes.specs.declared.message.Message.TheVariants as message
 
 -- a record: of which file it is, its place there, its bytes, and how the outer face of its plane is chosen
 pub record About : Type 0 where
@@ -13,17 +13,21 @@ pub record About : Type 0 where
   pub bytes : List ℕ
   pub choice : Choice
 
-abbrev pub Note : Type 0
-Note = Message About
+-- a record; or a file that has ended, and its mark; or the stop
+pub data Note : Type 0 where
+  Item : About → Note
+  End : ℕ → Mark → Note
+  Stop : Note
 
--- what is told of a message, where `about` tells which record an item is about
-abbrev pub note : {A : Type 0} → (A → About) → Message A → Note
-note about (Item item) = Item (about item)
-note about (End file mark) = End file mark
-note about Stop = Stop
+module _ {A M : Type 0} where
+  -- what is told of a message, where `about` tells which record an item is about
+  abbrev pub note : (A → About) → Message A M → Note
+  note about (message.Item item) = Item (about item)
+  note about (message.End file mark known) = End file mark
+  note about message.Stop = Stop
 
-abbrev pub notes : {A : Type 0} → (A → About) → List (Message A) → List Note
-notes about messages = map (note about) messages
+  abbrev pub notes : (A → About) → List (Message A M) → List Note
+  notes about messages = map (note about) messages
 
 -- the records of a file under one choice, the first of which has this place there
 abbrev pub numbered : Choice → ℕ → ℕ → List (List ℕ) → List About

@@ -1,8 +1,8 @@
 -- What is kept of a file's records as they are read.
 use Rattle.std.proofs.Common.{◌≡◌, ℕ, ◌+◌, List, [], ◌∷◌, ◌++◌, length, map, refl, sym, ap, ◌∙◌, subst, append_assoc, append-nil, arith}
 use Rattle.choices.specs.declared.Choice.{Choice}
-use Rattle.lanes.specs.declared.message.Message.TheVariants.{Item}
-use Rattle.lanes.specs.Notes.{Note, numbered}
+use Rattle.streams.specs.Placing.{EachAt}
+use Rattle.lanes.specs.Notes.{Note, numbered, Item}
 
 -- these records of this file were kept in order, numbered from `first` on, after what was kept before
 abbrev pub KeepsRecords : Choice → ℕ → ℕ → List (List ℕ) → List Note → List Note → Type 0
@@ -26,6 +26,13 @@ numbered-append choice file first (bytes ∷ records) others =
     let same : first + 1 + length records ≡ first + length (bytes ∷ records) = omega arith in
     ap (λ l. Item (record { file = file; ordinal = first; bytes = bytes; choice = choice }) ∷ l)
     (numbered-append choice file (first + 1) records others ∙ ap (λ n. map Item (numbered choice file (first + 1) records) ++ map Item (numbered choice file n others)) same)
+
+-- what is accepted in one way is accepted in another
+pub accepts_same : (before after : ℕ → ℕ → List ℕ → Type 0) (file file' : ℕ) → file ≡ file' → ((of place : ℕ) (bytes : List ℕ) → before of place bytes → after of place bytes)
+    → (first : ℕ) (records : List (List ℕ)) → EachAt (before file) first records → EachAt (after file') first records
+accepts_same before after file file' same to first [] each = tt
+accepts_same before after file file' same to first (bytes ∷ records) each =
+    (subst (λ f. after f first bytes) same (to file first bytes each.0), accepts_same before after file file' same to (first + 1) records each.1)
 
 -- no records are kept by keeping nothing
 pub keeps_none : (choice : Choice) (file : ℕ) (before : List Note) → KeepsRecords choice file 0 [] before before

@@ -1,7 +1,8 @@
 -- What is known beforehand of a file that an opener opens.
-use Rattle.std.specs.Prelude.{◌≡◌, ℕ, Bool, true, false, List, [], Option, None, Some, Result, Ok, Err, ⊤}
+use Rattle.std.specs.Prelude.{◌≡◌, ℕ, Bool, true, false, List, [], Option, None, Some, Result, Ok, Err, length, ⊤}
 use Rattle.streams.specs.declared.frames.Mark.{Mark}
 use Rattle.streams.specs.Reading.{IsFoundIn}
+use Rattle.streams.specs.Placing.{IsPlaced}
 use Rattle.lanes.specs.declared.opener.OpenFault.{OpenFault}
 use Rattle.lanes.specs.declared.opener.OpenFault.TheVariants.{Io, Memory}
 
@@ -34,3 +35,13 @@ Opens to_come fails (Opened bytes f) (Err Memory) = ⊤
 -- these records and this mark are those of a file that means this
 abbrev pub IsFoundAt : Meaning → List (List ℕ) → Mark → Type 0
 IsFoundAt meaning records mark = IsFoundIn (told_of meaning) (fails_of meaning) records mark
+
+-- the record has this place in a file that means this
+abbrev pub IsPlacedAt : Meaning → ℕ → List ℕ → Type 0
+IsPlacedAt meaning place bytes = IsPlaced (told_of meaning) place bytes
+
+-- a file that means this has this mark and so many records
+pub record IsEndAt (meaning : Meaning) (count : ℕ) (mark : Mark) : Type 0 where
+  pub records : List (List ℕ)
+  pub counted : length records ≡ count
+  pub found : IsFoundAt meaning records mark

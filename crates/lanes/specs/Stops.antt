@@ -1,8 +1,7 @@
 -- A stop tells nothing of any file.
 use Rattle.std.proofs.Common.{◌≡◌, ℕ, ◌+◌, cond, List, [], ◌∷◌, ◌++◌, None, refl, sym, ap, ◌∙◌}
-use Rattle.lanes.specs.declared.message.Message.TheVariants.{Stop}
 use Rattle.lanes.specs.declared.drafts.Draft.{Draft}
-use Rattle.lanes.specs.Notes.{About, Note, is_of, of_file}
+use Rattle.lanes.specs.Notes.{About, Note, is_of, of_file, Stop}
 use Rattle.lanes.specs.Drafts.{abouts, mark_after, AreDrafts}
 
 pub of_file_stop : (file : ℕ) (ns : List Note) → of_file file (ns ++ Stop ∷ []) ≡ of_file file ns

@@ -1,7 +1,6 @@
 //! What the calling thread makes of the messages that it gathers.
 ghost use Rattle.std.specs.Prelude.{◌≡◌, List, [], ◌∷◌, ◌++◌, OnOk, IfErr};
-ghost use Rattle.lanes.specs.declared.message.Message.TheVariants.{Item, End, Stop};
-ghost use Rattle.lanes.specs.Notes.{Note};
+ghost use Rattle.lanes.specs.Notes.{Note, Item, End, Stop};
 
 use crate::numbered::Numbered;
 use streams::Mark;
@@ -10,7 +9,7 @@ use streams::Mark;
 ///
 /// For proofs it has what it holds: the notes of the messages that it took in. It also has what stays the
 /// same of it over any calls, and what is known of it once it refused a message.
-pub trait Consumer<E: Numbered>: Drop {
+pub trait Consumer<E: Numbered, M: Drop>: Drop {
     /// Why a message was refused.
     type Refusal: Drop;
 
@@ -27,8 +26,8 @@ pub trait Consumer<E: Numbered>: Drop {
         ensures gave_up { IfErr result (λ refusal. gave_up self.new refusal) }
         ensures stays { stays self.old self.new };
 
-    /// Takes in that a file has ended with this mark. It refuses as `item` does.
-    fn end(&mut self, file: u32, mark: Mark) -> Result<(), Self::Refusal>
+    /// Takes in that a file has ended with this mark, and what else is known of that. It refuses as `item` does.
+    fn end(&mut self, file: u32, mark: Mark, known: M) -> Result<(), Self::Refusal>
         requires { (ns : List Note) × holds self.old ns }
         ensures taken { OnOk result ((ns : List Note) → holds self.old ns → holds self.new (ns ++ End file mark ∷ [])) }
         ensures gave_up { IfErr result (λ refusal. gave_up self.new refusal) }

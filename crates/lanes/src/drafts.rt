@@ -2,8 +2,7 @@
 ghost use Rattle.std.specs.Prelude.{◌≡◌, ◌++◌, ◌∷◌, [], ℕ, List, IfOk, OnOk, ⊤, vec_len};
 ghost use Rattle.std.proofs.Common.{refl, ◌∙◌};
 ghost use Rattle.choices.specs.declared.Choice.{Choice};
-ghost use Rattle.lanes.specs.declared.message.Message.TheVariants.{Item, End};
-ghost use Rattle.lanes.specs.Notes.{Note};
+ghost use Rattle.lanes.specs.Notes.{Note, Item, End};
 ghost use Rattle.lanes.specs.Opening.{Meaning};
 ghost use Rattle.lanes.specs.Drafts.{AreDrafts};
 ghost use Rattle.lanes.specs.Files.{AreToldWhole, AreReady};
@@ -53,7 +52,7 @@ impl<E: Numbered> Drafts<E> {
     }
 }
 
-impl<E: Numbered> Consumer<E> for Drafts<E> {
+impl<E: Numbered, M: Drop> Consumer<E, M> for Drafts<E> {
     type Refusal = AllocError;
 
     ghost holds = { λ d ns. AreDrafts E.about 0 ns d.files.items };
@@ -62,7 +61,11 @@ impl<E: Numbered> Consumer<E> for Drafts<E> {
 
     ghost gave_up = { λ _ _. ⊤ };
 
-    fn item(&mut self, item: E) -> Result<(), AllocError> {
+    fn item(&mut self, item: E) -> Result<(), AllocError>
+        ensures taken { OnOk result ((ns : List Note) → AreDrafts E.about 0 ns self.old.files.items
+            → AreDrafts E.about 0 (ns ++ Item (E.about item) ∷ []) self.new.files.items) }
+        ensures stays { vec_len self.new.files ≡ vec_len self.old.files }
+    {
         let file = item.file() as usize;
         if file < self.files.len() {
             self.files[file].entries.push(item)?;
@@ -70,7 +73,11 @@ impl<E: Numbered> Consumer<E> for Drafts<E> {
         Ok(())
     }
 
-    fn end(&mut self, file: u32, mark: Mark) -> Result<(), AllocError> {
+    fn end(&mut self, file: u32, mark: Mark, _known: M) -> Result<(), AllocError>
+        ensures taken { OnOk result ((ns : List Note) → AreDrafts E.about 0 ns self.old.files.items
+            → AreDrafts E.about 0 (ns ++ End file mark ∷ []) self.new.files.items) }
+        ensures stays { vec_len self.new.files ≡ vec_len self.old.files }
+    {
         let place = file as usize;
         if place < self.files.len() {
             self.files[place].mark = Some(mark);

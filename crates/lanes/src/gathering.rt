@@ -40,13 +40,13 @@ fn set_stopped(stops: &mut Vec<bool>, lane: u32)
 /// consumer as they come, whichever lane they come from. It gives the end back. `LaneLost`: the givers of all
 /// lanes were gone. `Memory`: no memory for the list of lanes that have stopped. `Refused`: the consumer refused a message. In
 /// these cases it lets its end go, so that no lane waits for it.
-pub fn gather<E: Numbered, C: Consumer<E>, R: Wait>(
+pub fn gather<E: Numbered, M: Drop, C: Consumer<E, M>, R: Wait>(
     rt: &R,
     alloc: Global,
-    mut gatherer: Gatherer<Message<E>>,
+    mut gatherer: Gatherer<Message<E, M>>,
     lanes: u32,
     consumer: &mut C,
-) -> Result<Gatherer<Message<E>>, GatherFault<C::Refusal>>
+) -> Result<Gatherer<Message<E, M>>, GatherFault<C::Refusal>>
     requires lanes { (1 ≤ lanes) × (lanes ≤ LANES) }
     requires none_gathered { gathered gatherer ≡ [] }
     requires empty { C.holds consumer.old [] }
@@ -65,7 +65,7 @@ pub fn gather<E: Numbered, C: Consumer<E>, R: Wait>(
                 Ok(()) => {}
                 Err(refusal) => return Err(GatherFault::Refused(refusal)),
             },
-            Ok((_, Message::End(file, mark))) => match consumer.end(file, mark) {
+            Ok((_, Message::End(file, mark, known))) => match consumer.end(file, mark, known) {
                 Ok(()) => {}
                 Err(refusal) => return Err(GatherFault::Refused(refusal)),
             },

@@ -1,7 +1,6 @@
 //! What becomes of a file's records as they are read.
-ghost use Rattle.std.specs.Prelude.{◌≡◌, List, [], ◌∷◌, ◌++◌, OnOk};
-ghost use Rattle.lanes.specs.Notes.{Note};
-ghost use Rattle.lanes.specs.declared.message.Message.TheVariants.{Item};
+ghost use Rattle.std.specs.Prelude.{◌≡◌, ℕ, List, [], ◌∷◌, ◌++◌, OnOk};
+ghost use Rattle.lanes.specs.Notes.{Note, Item};
 
 use choices::Choice;
 use planar_code::Record;
@@ -9,8 +8,8 @@ use std::alloc::Global;
 
 /// Takes a file's records as they are read.
 ///
-/// For proofs it has what it has kept so far, in order, and what stays the same of it from one value
-/// to a later one.
+/// For proofs it has what it has kept so far, in order, what it accepts, and what stays the same of it from one
+/// value to a later one.
 pub trait Keep {
     /// Why a record was not kept.
     type Refusal: Drop;
@@ -19,8 +18,14 @@ pub trait Keep {
 
     ghost stays: { Self → Self → Type 0 };
 
-    /// Keeps a record, which has this place in this file, with this choice of the outer face. Where it refuses,
-    /// for a reason of its own, the file is read no further.
+    // Which record it may be handed, of which file and at which place there.
+    ghost accepts: { Self → ℕ → ℕ → List ℕ → Type 0 };
+
+    /// Keeps a record, which has this place in this file, with this choice of the outer face.
+    ///
+    /// # Errors
+    ///
+    /// A reason of its own. The file is then read no further.
     fn keep(
         &mut self,
         alloc: Global,
@@ -29,9 +34,14 @@ pub trait Keep {
         rec: Record,
         choice: Choice,
     ) -> Result<(), Self::Refusal>
+        requires { accepts self.old file ordinal rec }
         ensures kept { OnOk result (kept self.new ≡ kept self.old
             ++ Item (record { file = file; ordinal = ordinal; bytes = rec; choice = choice }) ∷ []) }
         ensures stays { stays self.old self.new };
+
+    // What it may be handed once, it may be handed later.
+    ghost accepts_on: { (x y : Self) (file ordinal : ℕ) (bytes : List ℕ)
+        → stays x y → accepts x file ordinal bytes → accepts y file ordinal bytes };
 
     // What stays, stays over any calls.
     ghost stays_itself: { (x : Self) → stays x x };

@@ -17,13 +17,13 @@ use std::sync::Wait;
 /// stop, in order: a record with the work of this stage done, or an end as it is. The stop is the
 /// caller's to give. Before it works on a record it passes the gate; all records are lent one scratch. It
 /// gives the end of its link back, or none where the other end or the gatherer was gone.
-pub fn run_last_stage<A: Staged, R: Wait, G: Gate>(
+pub fn run_last_stage<A: Staged, M: Drop, R: Wait, G: Gate>(
     rt: &R,
     alloc: Global,
     gate: &G,
-    mut taker: Taker<Message<A>>,
-    giver: &mut LaneGiver<Message<A::Next>>,
-) -> Option<Taker<Message<A>>>
+    mut taker: Taker<Message<A, M>>,
+    giver: &mut LaneGiver<Message<A::Next, M>>,
+) -> Option<Taker<Message<A, M>>>
     requires none_taken { taken taker ≡ [] }
     requires none_given { given_at giver.old ≡ [] }
     ensures same_lane { GivesToSameLane giver.old giver.new }
@@ -42,7 +42,7 @@ pub fn run_last_stage<A: Staged, R: Wait, G: Gate>(
                     Err(_) => return None,
                 }
             }
-            Ok(Message::End(file, mark)) => match giver.give(rt, Message::End(file, mark)) {
+            Ok(Message::End(file, mark, known)) => match giver.give(rt, Message::End(file, mark, known)) {
                 Ok(()) => {}
                 Err(_) => return None,
             },

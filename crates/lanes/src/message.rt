@@ -4,11 +4,11 @@ use streams::Mark;
 
 /// A message of a stage of a lane: to the next one, or from the last one to the calling thread.
 #[derive(Drop)]
-pub enum Message<T: Drop> {
+pub enum Message<T: Drop, M: Drop> {
     /// What is known so far of one record.
     Item(T),
-    /// A file has ended with this mark, and all of its records were given.
-    End(u32, Mark),
+    /// A file has ended with this mark, and all of its records were given. With it comes what else is known of that.
+    End(u32, Mark, M),
     /// Nothing more comes.
     Stop,
 }

@@ -1,7 +1,8 @@
 //! The places of a file's records.
 ghost use Rattle.std.specs.Prelude.{◌≡◌};
 ghost use Rattle.std.proofs.Common.{refl, ◌∙◌};
-ghost use Rattle.lanes.specs.Numbering.{KeepsRecords, keeps_none, keeps_on, AreOfSame, same_itself, same_on};
+ghost use Rattle.lanes.specs.Numbering.{KeepsRecords, keeps_none, keeps_on, AreOfSame, same_itself, same_on, accepts_same};
+ghost use Rattle.streams.specs.Placing.{EachAt};
 
 use crate::keep::Keep;
 use choices::Choice;
@@ -23,7 +24,10 @@ impl<K: Keep> Receiver for Places<'_, K> {
     ghost received = { λ first records x y. AreOfSame x.choice x.file y.choice y.file
         × KeepsRecords x.choice x.file first records (K.kept x.keep.now) (K.kept y.keep.now) };
 
-    ghost stays = { λ x y. (x.keep.ghost_name ≡ y.keep.ghost_name) × K.stays x.keep.now y.keep.now };
+    ghost accepts = { λ p first records. EachAt (K.accepts p.keep.now p.file) first records };
+
+    ghost stays = { λ x y. (x.file ≡ y.file) × (x.keep.ghost_name ≡ y.keep.ghost_name)
+        × K.stays x.keep.now y.keep.now };
 
     fn receive(
         &mut self,
@@ -46,7 +50,10 @@ impl<K: Keep> Receiver for Places<'_, K> {
 
     ghost received_on = { λ records others x y z p q. (same_on _ _ _ _ _ _ p.0 q.0, keeps_on _ _ _ _ _ _ _ _ _ p.0 p.1 q.1) };
 
-    ghost stays_itself = { λ x. (refl, K.stays_itself _) };
+    ghost accepts_on = { λ x y first records stays each. accepts_same (K.accepts x.keep.now) (K.accepts y.keep.now)
+        x.file y.file stays.0 (λ f place bytes was. K.accepts_on _ _ f place bytes stays.2 was) first records each };
 
-    ghost stays_on = { λ x y z p q. (p.0 ∙ q.0, K.stays_on _ _ _ p.1 q.1) };
+    ghost stays_itself = { λ x. (refl, refl, K.stays_itself _) };
+
+    ghost stays_on = { λ x y z p q. (p.0 ∙ q.0, p.1 ∙ q.1, K.stays_on _ _ _ p.2 q.2) };
 }

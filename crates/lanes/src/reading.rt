@@ -1,5 +1,7 @@
 //! How a file is read.
-ghost use Rattle.std.specs.Prelude.{◌<◌, length, IfOk};
+ghost use Rattle.std.specs.Prelude.{◌<◌, ℕ, List, length, IfOk};
+ghost use Rattle.streams.specs.Placing.{IsPlaced};
+ghost use Rattle.lanes.specs.Opening.{IsPlacedAt};
 ghost use Rattle.lanes.specs.Keeping.{KeepsFile, KeepsSource};
 
 use crate::keep::Keep;
@@ -8,10 +10,11 @@ use crate::placing::Places;
 use choices::Choice;
 use planar_code::Ending;
 use std::alloc::Global;
-use streams::{Mark, Tap, read_source};
+use streams::{Mark, SourceEnd, Tap, read_source};
 
 /// Reads a file to its end, to its failure or to the first fault in its bytes, and keeps its records
-/// in order, numbered from 0 and with this choice of the outer face. It gives back the file's mark.
+/// in order, numbered from 0 and with this choice of the outer face. It gives back how many there were and the
+/// file's mark.
 ///
 /// A file that could not be opened has the mark `Io`, and one that found no memory `Memory`; neither
 /// has records. Besides what the opener and `keep` take, it takes memory for the framer's buffer, the
@@ -27,16 +30,24 @@ pub fn read_file<O: Opener, K: Keep>(
     choice: Choice,
     buffer: &mut [u8],
     keep: &mut K,
-) -> Result<Mark, K::Refusal>
-    requires { 0 < length buffer.old }
-    ensures kept { IfOk result (λ mark.
-        KeepsFile choice (O.meaning opener.now file) file (K.kept keep.old) (K.kept keep.new) mark) }
+) -> Result<SourceEnd, K::Refusal>
+    requires room { 0 < length buffer.old }
+    requires accepted { (place : ℕ) (bytes : List ℕ) → IsPlacedAt (O.meaning opener.now file) place bytes
+        → K.accepts keep.old file place bytes }
+    ensures kept { IfOk result (λ end.
+        KeepsFile choice (O.meaning opener.now file) file (K.kept keep.old) (K.kept keep.new) end.count end.mark) }
     ensures stays { K.stays keep.old keep.new }
 {
     match opener.open(alloc, file) {
         Ok(source) => read_open(source, alloc, file, choice, buffer, keep),
-        Err(OpenFault::Io) => Ok(Mark::Io),
-        Err(OpenFault::Memory) => Ok(Mark::Ended(Ending::Memory)),
+        Err(OpenFault::Io) => Ok(SourceEnd {
+            count: 0,
+            mark: Mark::Io,
+        }),
+        Err(OpenFault::Memory) => Ok(SourceEnd {
+            count: 0,
+            mark: Mark::Ended(Ending::Memory),
+        }),
     }
 }
 
@@ -48,10 +59,12 @@ fn read_open<T: Tap, K: Keep>(
     choice: Choice,
     buffer: &mut [u8],
     keep: &mut K,
-) -> Result<Mark, K::Refusal>
-    requires { 0 < length buffer.old }
-    ensures kept { IfOk result (λ mark.
-        KeepsSource choice (T.to_come source) (T.fails source) file (K.kept keep.old) (K.kept keep.new) mark) }
+) -> Result<SourceEnd, K::Refusal>
+    requires room { 0 < length buffer.old }
+    requires accepted { (place : ℕ) (bytes : List ℕ) → IsPlaced (T.to_come source) place bytes
+        → K.accepts keep.old file place bytes }
+    ensures kept { IfOk result (λ end.
+        KeepsSource choice (T.to_come source) (T.fails source) file (K.kept keep.old) (K.kept keep.new) end.count end.mark) }
     ensures stays { K.stays keep.old keep.new }
 {
     let mut places = Places { keep, file, choice };

@@ -14,14 +14,14 @@ use std::sync::Wait;
 /// with the work of this stage done, an end or the stop as it is. Before it works on a record it
 /// passes the gate; all records are lent one scratch. It gives both ends back, or none where the other end
 /// of a link was gone.
-pub fn run_stage<A: Staged, R: Wait, G: Gate>(
+pub fn run_stage<A: Staged, M: Drop, R: Wait, G: Gate>(
     rt: &R,
     alloc: Global,
     gate: &G,
     lane: u32,
-    mut taker: Taker<Message<A>>,
-    mut giver: Giver<Message<A::Next>>,
-) -> Option<(Taker<Message<A>>, Giver<Message<A::Next>>)>
+    mut taker: Taker<Message<A, M>>,
+    mut giver: Giver<Message<A::Next, M>>,
+) -> Option<(Taker<Message<A, M>>, Giver<Message<A::Next, M>>)>
     requires none_taken { taken taker ≡ [] }
     requires none_given { given giver ≡ [] }
     ensures { IfSome result (λ ends. PassedAll A.about A.Next.about taker giver ends.0 ends.1) }
@@ -36,7 +36,7 @@ pub fn run_stage<A: Staged, R: Wait, G: Gate>(
                     Err(_) => return None,
                 }
             }
-            Ok(Message::End(file, mark)) => match giver.give(rt, Message::End(file, mark)) {
+            Ok(Message::End(file, mark, known)) => match giver.give(rt, Message::End(file, mark, known)) {
                 Ok(()) => {}
                 Err(_) => return None,
             },

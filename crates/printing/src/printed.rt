@@ -2,21 +2,25 @@
 ghost use Rattle.std.specs.Prelude.{◌≡◌};
 ghost use Rattle.std.proofs.Props.{props};
 ghost use Rattle.entries.specs.Abouts.{about_of};
+ghost use Rattle.lanes.specs.Opening.{IsPlacedAt};
 ghost use Rattle.printing.specs.FormLines.{IsLineOf};
 ghost use Rattle.printing.specs.Spelt.{IsSpelt};
 
 use crate::lines::entry_text;
+use crate::told::Told;
 use choices::Choice;
 use entries::{Answer, Entry};
 use lanes::Numbered;
 use planar_code::Record;
 use reports::Form;
 use std::alloc::{AllocError, Global};
+use std::marker::PhantomData;
 use std::snapshot::Snapshot;
 
-/// A record of a file, and the line of what is answered to it.
+/// A record of a file, and the line of what is answered to it. Its type keeps that the record has its place in what
+/// the file means.
 #[derive(Drop)]
-pub struct Printed {
+pub struct Printed<J: Told> {
     /// The file, from 0.
     pub file: u32,
     /// The record's place in its file, from 0.
@@ -29,14 +33,16 @@ pub struct Printed {
     pub line: Option<Vec<u8>>,
     /// The entry whose line it is. Only proofs see it.
     pub entry: Snapshot<Entry>,
+    pub told: PhantomData<J>,
     pub ghost file_is: { entry.value.file ≡ file },
     pub ghost ordinal_is: { entry.value.ordinal ≡ ordinal },
     pub ghost choice_is: { entry.value.choice ≡ choice } by { Prim.hlevel props },
     pub ghost rec_is: { IsSpelt entry.value.rec } by { Prim.hlevel props },
     pub ghost line_is: { IsLineOf form entry.value line } by { Prim.hlevel props },
+    pub ghost placed: { ∥ IsPlacedAt (J.meaning file) ordinal entry.value.rec ∥₁ } by { Prim.hlevel props },
 }
 
-impl Numbered for Printed {
+impl<J: Told + Send + Sync> Numbered for Printed<J> {
     ghost about = { λ p. about_of p.entry.value };
 
     fn file(&self) -> u32 {
@@ -50,7 +56,8 @@ impl Numbered for Printed {
 
 /// The record of an entry with its line in this form. There is none where the entry has no answer for want
 /// of memory, or where `entry_text` fails. The entry is dropped.
-pub fn print(alloc: Global, form: Form, entry: Entry) -> Printed
+pub fn print<J: Told>(alloc: Global, form: Form, entry: Entry) -> Printed<J>
+    requires { ∥ IsPlacedAt (J.meaning entry.file) entry.ordinal entry.rec ∥₁ }
     ensures form { result.form ≡ form }
     ensures same { result.entry.value ≡ entry }
 {
@@ -64,6 +71,7 @@ pub fn print(alloc: Global, form: Form, entry: Entry) -> Printed
         form,
         line,
         entry: kept,
+        told: PhantomData,
     }
 }
 

@@ -1,21 +1,28 @@
 //! Records on their way to their lines.
 ghost use Rattle.std.specs.Prelude.{◌≡◌};
+ghost use Rattle.std.proofs.Props.{props};
 ghost use Rattle.entries.specs.Abouts.{about_of};
+ghost use Rattle.lanes.specs.Opening.{IsPlacedAt};
 
 use crate::printed::{Printed, print};
+use crate::told::Told;
 use answers::{Embedded, Framed, Shaped};
 use lanes::{Numbered, Stage, Staged};
 use reports::Form;
 use std::alloc::Global;
+use std::marker::PhantomData;
 
-/// What is known of a record, and the form in which its line is wanted.
+/// What is known of a record, and the form in which its line is wanted. Its type keeps that the record has its place
+/// in what its file means.
 #[derive(Drop)]
-pub struct Worded<A> {
+pub struct Worded<J: Told, A: Numbered> {
     pub item: A,
     pub form: Form,
+    pub told: PhantomData<J>,
+    pub ghost placed: { ∥ IsPlacedAt (J.meaning (A.about item).file) (A.about item).ordinal (A.about item).bytes ∥₁ } by { Prim.hlevel props },
 }
 
-impl Numbered for Worded<Framed> {
+impl<J: Told + Send + Sync> Numbered for Worded<J, Framed> {
     ghost about = { λ w. ⟦<Framed as Numbered>⟧.about w.item };
 
     fn file(&self) -> u32 {
@@ -27,8 +34,8 @@ impl Numbered for Worded<Framed> {
     }
 }
 
-impl Staged for Worded<Framed> {
-    type Next = Worded<Embedded>;
+impl<J: Told + Send + Sync> Staged for Worded<J, Framed> {
+    type Next = Worded<J, Embedded>;
 
     type Scratch = <Framed as Staged>::Scratch;
 
@@ -38,18 +45,19 @@ impl Staged for Worded<Framed> {
         <Framed as Staged>::scratch(alloc)
     }
 
-    fn next(self, alloc: Global, scratch: &mut <Framed as Staged>::Scratch) -> Worded<Embedded>
+    fn next(self, alloc: Global, scratch: &mut <Framed as Staged>::Scratch) -> Worded<J, Embedded>
         ensures about { ⟦<Embedded as Numbered>⟧.about result.item ≡ ⟦<Framed as Numbered>⟧.about self.item }
         ensures form { result.form ≡ self.form }
     {
         Worded {
             item: self.item.next(alloc, scratch),
             form: self.form,
+            told: PhantomData,
         }
     }
 }
 
-impl Numbered for Worded<Embedded> {
+impl<J: Told + Send + Sync> Numbered for Worded<J, Embedded> {
     ghost about = { λ w. ⟦<Embedded as Numbered>⟧.about w.item };
 
     fn file(&self) -> u32 {
@@ -61,8 +69,8 @@ impl Numbered for Worded<Embedded> {
     }
 }
 
-impl Staged for Worded<Embedded> {
-    type Next = Worded<Shaped>;
+impl<J: Told + Send + Sync> Staged for Worded<J, Embedded> {
+    type Next = Worded<J, Shaped>;
 
     type Scratch = <Embedded as Staged>::Scratch;
 
@@ -72,18 +80,19 @@ impl Staged for Worded<Embedded> {
         <Embedded as Staged>::scratch(alloc)
     }
 
-    fn next(self, alloc: Global, scratch: &mut <Embedded as Staged>::Scratch) -> Worded<Shaped>
+    fn next(self, alloc: Global, scratch: &mut <Embedded as Staged>::Scratch) -> Worded<J, Shaped>
         ensures about { ⟦<Shaped as Numbered>⟧.about result.item ≡ ⟦<Embedded as Numbered>⟧.about self.item }
         ensures form { result.form ≡ self.form }
     {
         Worded {
             item: self.item.next(alloc, scratch),
             form: self.form,
+            told: PhantomData,
         }
     }
 }
 
-impl Numbered for Worded<Shaped> {
+impl<J: Told + Send + Sync> Numbered for Worded<J, Shaped> {
     ghost about = { λ w. ⟦<Shaped as Numbered>⟧.about w.item };
 
     fn file(&self) -> u32 {
@@ -95,8 +104,8 @@ impl Numbered for Worded<Shaped> {
     }
 }
 
-impl Staged for Worded<Shaped> {
-    type Next = Printed;
+impl<J: Told + Send + Sync> Staged for Worded<J, Shaped> {
+    type Next = Printed<J>;
 
     type Scratch = <Shaped as Staged>::Scratch;
 
@@ -106,7 +115,7 @@ impl Staged for Worded<Shaped> {
         <Shaped as Staged>::scratch(alloc)
     }
 
-    fn next(self, alloc: Global, scratch: &mut <Shaped as Staged>::Scratch) -> Printed
+    fn next(self, alloc: Global, scratch: &mut <Shaped as Staged>::Scratch) -> Printed<J>
         ensures about { about_of result.entry.value ≡ ⟦<Shaped as Numbered>⟧.about self.item }
         ensures form { result.form ≡ self.form }
     {

@@ -1,7 +1,7 @@
 //! Files in memory, and openers that refuse or whose sources fail. The bytes come from the description of the format.
 ghost use Rattle.std.specs.Prelude.{map, false, None, ⊤};
 ghost use Rattle.lanes.specs.Opening.{Silent};
-ghost use Rattle.lanes.specs.declared.message.Message.TheVariants.{Item};
+ghost use Rattle.lanes.specs.Notes.{Item};
 
 use crate::known::same;
 use choices::Choice;

@@ -3,5 +3,6 @@ pub mod Lines
 pub mod Marks
 pub mod Messages
 pub mod Pieces
+pub mod Placed
 pub mod Receiving
 pub mod Sinks

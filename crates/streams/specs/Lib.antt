@@ -4,5 +4,6 @@ pub mod FramesModel
 pub mod Marks
 pub mod Memory
 pub mod Reading
+pub mod Placing
 pub mod ReadMessage
 pub mod Text

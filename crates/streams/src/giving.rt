@@ -1,5 +1,5 @@
 //! What the thread that reads a source does.
-ghost use Rattle.std.specs.Prelude.{◌≡◌, ◌<◌, [], List, ℕ, ◌++◌, vec_len};
+ghost use Rattle.std.specs.Prelude.{◌≡◌, ◌<◌, [], List, ℕ, ◌++◌, ⊤, vec_len};
 ghost use Rattle.std.proofs.Common.{◌∙◌, refl, sym, subst, append-nil, append_assoc};
 ghost use Rattle.ruled_lanes.specs.LinkEnds.{given, GivesToSame};
 ghost use Rattle.streams.specs.ReadMessage.{GiveRecords, GivesBack};
@@ -29,6 +29,8 @@ impl<R: Wait> Receiver for PieceGiver<'_, R> {
 
     ghost stays = { λ x y. GivesToSame x.giver y.giver };
 
+    ghost accepts = { λ _ _ _. ⊤ };
+
     fn receive(
         &mut self,
         alloc: Global,
@@ -46,6 +48,8 @@ impl<R: Wait> Receiver for PieceGiver<'_, R> {
 
     ghost received_on = { λ records others x y z first then earlier give.
         subst (λ all. GiveRecords all (given z.giver)) (append_assoc earlier records others) (then (earlier ++ records) (first earlier give)) };
+
+    ghost accepts_on = { λ _ _ _ _ _ _. tt };
 
     ghost stays_itself = { λ x. refl };
 
@@ -67,7 +71,7 @@ pub fn give_all<R: Wait, T: Tap>(
 {
     let mut gives = PieceGiver { rt, giver };
     let mark = match read_source(source, alloc, buffer.as_mut_slice(), &mut gives) {
-        Ok(mark) => mark,
+        Ok(end) => end.mark,
         Err(_) => return None,
     };
     let mut giver = gives.giver;

@@ -3,6 +3,7 @@ ghost use Rattle.std.specs.Prelude.{◌≡◌, ◌+◌, ◌<◌, ◌≤◌, ℕ,
 ghost use Rattle.planar_code.specs.declared.TheConstants.{MAX_RECORDS};
 ghost use Rattle.planar_code.specs.Place.{StandsAt};
 ghost use Rattle.streams.specs.Reading.{ReadsOn, IsFoundIn};
+ghost use Rattle.streams.specs.Placing.{ArePlaced};
 ghost use Rattle.streams.specs.declared.reading.TheConstants.{PIECE};
 
 use super::frames::Mark;
@@ -72,8 +73,18 @@ pub fn read_piece<T: Tap>(
     }
 }
 
+/// How a source ended, and how many records it had.
+#[derive(Clone, Copy, Debug, PartialEq, Eq)]
+pub struct SourceEnd {
+    /// How many records were received, at most 1,000,000.
+    pub count: u32,
+    /// How the source ended.
+    pub mark: Mark,
+}
+
 /// Reads a source to its end, to its failure or to the first fault in its bytes, and has its records
-/// received, in order. It gives back the mark of the source: `Memory` where the framer found none.
+/// received, in order. It gives back how many there were and the mark of the source: `Memory` where the framer
+/// found none.
 ///
 /// # Errors
 ///
@@ -83,15 +94,22 @@ pub fn read_source<T: Tap, V: Receiver>(
     alloc: Global,
     buffer: &mut [u8],
     receiver: &mut V,
-) -> Result<Mark, V::Refusal>
+) -> Result<SourceEnd, V::Refusal>
     requires room { 0 < length buffer.old }
-    ensures found { IfOk result (λ mark. (records : List (List ℕ))
-        × V.received 0 records receiver.old receiver.new × IsFoundIn (T.to_come source) (T.fails source) records mark) }
+    requires accepted { (first : ℕ) (records : List (List ℕ)) → ArePlaced (T.to_come source) first records
+        → V.accepts receiver.old first records }
+    ensures found { IfOk result (λ end. (records : List (List ℕ)) × V.received 0 records receiver.old receiver.new
+        × (end.count ≡ length records) × IsFoundIn (T.to_come source) (T.fails source) records end.mark) }
     ensures stays { V.stays receiver.old receiver.new }
 {
     let mut framer = match Framer::new(alloc) {
         Ok(framer) => framer,
-        Err(_) => return Ok(Mark::Ended(Ending::Memory)),
+        Err(_) => {
+            return Ok(SourceEnd {
+                count: 0,
+                mark: Mark::Ended(Ending::Memory),
+            });
+        }
     };
     let mut records = Vec::new(alloc);
     let mut ordinal = 0;
@@ -106,9 +124,24 @@ pub fn read_source<T: Tap, V: Receiver>(
         }
         match step {
             Step::More => {}
-            Step::Ended => return Ok(Mark::Ended(framer.finish())),
-            Step::Failed => return Ok(Mark::Io),
-            Step::Stopped(fault) => return Ok(Mark::Ended(Ending::from(fault))),
+            Step::Ended => {
+                return Ok(SourceEnd {
+                    count: ordinal,
+                    mark: Mark::Ended(framer.finish()),
+                });
+            }
+            Step::Failed => {
+                return Ok(SourceEnd {
+                    count: ordinal,
+                    mark: Mark::Io,
+                });
+            }
+            Step::Stopped(fault) => {
+                return Ok(SourceEnd {
+                    count: ordinal,
+                    mark: Mark::Ended(Ending::from(fault)),
+                });
+            }
         }
     }
     unreachable!()

@@ -8,7 +8,7 @@ use std::alloc::Global;
 /// Receives the records of a source as they are read.
 ///
 /// For proofs it has which records, numbered from a first one on, were received from one value to a
-/// later one, and what stays the same of it.
+/// later one, which it accepts, and what stays the same of it.
 pub trait Receiver {
     /// Why records were not received.
     type Refusal: Drop;
@@ -17,8 +17,14 @@ pub trait Receiver {
 
     ghost stays: { Self → Self → Type 0 };
 
-    /// Takes all records out of the list, in order. The first of them has this place in the source. Where it
-    /// refuses, for a reason of its own, the source is read no further.
+    // Which records it may be handed, of which the first has this place in the source.
+    ghost accepts: { Self → ℕ → List (List ℕ) → Type 0 };
+
+    /// Takes all records out of the list, in order. The first of them has this place in the source.
+    ///
+    /// # Errors
+    ///
+    /// A reason of its own. The source is then read no further.
     fn receive(
         &mut self,
         alloc: Global,
@@ -26,6 +32,7 @@ pub trait Receiver {
         records: &mut Vec<Record>,
     ) -> Result<(), Self::Refusal>
         requires few { first + length records.old.items ≤ MAX_RECORDS }
+        requires accepted { accepts self.old first records.old.items }
         ensures received { OnOk result (received first records.old.items self.old self.new) }
         ensures empties { OnOk result (records.new.items ≡ []) }
         ensures stays { stays self.old self.new };
@@ -35,6 +42,10 @@ pub trait Receiver {
 
     ghost received_on: { (records others : List (List ℕ)) (x y z : Self)
         → received 0 records x y → received (length records) others y z → received 0 (records ++ others) x z };
+
+    // What it may be handed once, it may be handed later.
+    ghost accepts_on: { (x y : Self) (first : ℕ) (records : List (List ℕ))
+        → stays x y → accepts x first records → accepts y first records };
 
     // What stays, stays over any calls.
     ghost stays_itself: { (x : Self) → stays x x };

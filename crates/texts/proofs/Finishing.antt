@@ -6,8 +6,7 @@ use Rattle.std.specs.Io.KnownBytes.{Appends}
 use Rattle.streams.specs.declared.frames.Mark.{Mark}
 use Rattle.streams.proofs.Sinks.{added_both}
 use Rattle.choices.specs.declared.Choice.{Choice}
-use Rattle.lanes.specs.declared.message.Message.TheVariants.{Item}
-use Rattle.lanes.specs.Notes.{About, Note, numbered}
+use Rattle.lanes.specs.Notes.{About, Note, numbered, Item}
 use Rattle.lanes.specs.Opening.{Meaning}
 use Rattle.lanes.specs.Drafts.{abouts, mark_after}
 use Rattle.lanes.specs.Files.{HasFile}

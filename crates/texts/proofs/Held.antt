@@ -7,8 +7,7 @@ use Rattle.std.proofs.lemmas.Grind.{merely}
 use Rattle.choices.specs.declared.Choice.{Choice}
 use Rattle.planar_code.specs.declared.ending.Ending.{Ending}
 use Rattle.streams.specs.declared.frames.Mark.{Mark}
-use Rattle.lanes.specs.declared.message.Message.TheVariants.{Item, End}
-use Rattle.lanes.specs.Notes.{Note}
+use Rattle.lanes.specs.Notes.{Note, Item, End}
 use Rattle.entries.specs.declared.answer.Answer.{Answer}
 use Rattle.entries.specs.declared.entry.Entry.{Entry}
 use Rattle.entries.specs.Abouts.{about_of}

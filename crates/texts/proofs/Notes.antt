@@ -4,8 +4,7 @@ use Rattle.std.proofs.lemmas.Bool.{eq-eqb, ne_eqb, cases_eq}
 use Rattle.std.proofs.lemmas.List.{map-append}
 use Rattle.std.proofs.lemmas.List.Elements.{filter-append}
 use Rattle.streams.specs.declared.frames.Mark.{Mark}
-use Rattle.lanes.specs.declared.message.Message.TheVariants.{Item, End, Stop}
-use Rattle.lanes.specs.Notes.{About, Note, is_of, of_file}
+use Rattle.lanes.specs.Notes.{About, Note, is_of, of_file, Item, End, Stop}
 use Rattle.lanes.specs.Drafts.{abouts, mark_after}
 use Rattle.entries.specs.declared.entry.Entry.{Entry}
 use Rattle.entries.specs.Abouts.{about_of}

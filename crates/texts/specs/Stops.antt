@@ -2,8 +2,7 @@
 use Rattle.std.proofs.Common.{◌≡◌, ℕ, Bool, cond, false, List, [], ◌∷◌, ◌++◌, Option, None, refl, sym, ap, ◌∙◌, append-nil}
 use Rattle.std.proofs.lemmas.List.Elements.{filter-append}
 use Rattle.choices.specs.declared.Choice.{Choice}
-use Rattle.lanes.specs.declared.message.Message.TheVariants.{Stop}
-use Rattle.lanes.specs.Notes.{Note, is_of, of_file}
+use Rattle.lanes.specs.Notes.{Note, is_of, of_file, Stop}
 use Rattle.lanes.specs.Drafts.{abouts, mark_after}
 use Rattle.reports.specs.declared.form.Form.{Form}
 use Rattle.texts.specs.declared.waiting.Waiting.{Waiting}

@@ -2,9 +2,8 @@
 ghost use Rattle.std.specs.Prelude.{◌≡◌, ◌+◌, ◌<◌, ◌≤◌, ◌≢◌, ◌↔◌, ◌∷◌, ◌++◌, ℕ, List, [], Option, None, Some, Err, true, false, IfOk, OnOk, IfErr, IsTrue, IsSome, slice_index_or, length, OnErr, ◌⊎◌};
 ghost use Rattle.streams.specs.declared.frames.Mark.{Mark};
 ghost use Rattle.choices.specs.declared.Choice.{Choice};
-ghost use Rattle.lanes.specs.Notes.{Note};
+ghost use Rattle.lanes.specs.Notes.{Note, Item, End};
 ghost use Rattle.lanes.specs.Opening.{Meaning};
-ghost use Rattle.lanes.specs.declared.message.Message.TheVariants.{Item, End};
 ghost use Rattle.entries.specs.declared.entry.Entry.{Entry};
 ghost use Rattle.entries.specs.declared.answer.Answer.{Answer};
 ghost use Rattle.entries.specs.Abouts.{about_of};

@@ -1,5 +1,5 @@
 use Rattle.std.proofs.Common.{map, subst, sym}
-use Rattle.lanes.specs.declared.message.Message.TheVariants.{Item}
+use Rattle.lanes.specs.Notes.{Item}
 use Rattle.lanes.specs.Keeping.{KeepsFile}
 use Rattle.entries.specs.Abouts.{about_of}
 use Rattle.books.specs.Books.{IsBook}

@@ -18,12 +18,20 @@ returns-in-Ok g c =
       };
     }
 
+pub read_file-requires-clause-accepted : goal.read_file-requires-clause-accepted
+read_file-requires-clause-accepted g c = λ place bytes placed. c.requires.takes.records c.in-Some-draw.file place bytes placed
+
+pub end-known-requires : goal.end-known-requires
+end-known-requires g c =
+    let keeps = c.in-Ok-read_file.ensures.kept in
+    c.requires.takes.marks c.in-Some-draw.file _ _ (record { records = keeps.records; counted = keeps.counted; found = keeps.found })
+
 pub loop-preserved : goal.loop-preserved
 loop-preserved g c = record {
   room = c.loop.invariant.room;
   seat = c.draw.ensures.seat;
   to_same = c.give-in-loop.ensures.link ∙ c.read_file.ensures.stays ∙ c.loop.invariant.to_same;
-  told = told_more c.args.setting.now.choice (g.O.Opener.meaning c.args.setting.now.opener.now) c.in-Some-draw.file _ _ _ _ _ c.in-Ok-read_file.mark c.loop.invariant.told
+  told = told_more c.args.setting.now.choice (g.O.Opener.meaning c.args.setting.now.opener.now) c.in-Some-draw.file _ _ _ _ _ c.in-Ok-read_file.end.count c.in-Ok-read_file.end.mark c.loop.invariant.told
       c.in-Some-draw.ensures.some c.in-Ok-read_file.ensures.kept
-      (notes-after g.L.Framed.Numbered.about _ _ (End c.in-Some-draw.file c.in-Ok-read_file.mark) c.in-Ok-give.ensures.ok);
+      (notes-after g.L.Framed.Numbered.about _ _ (End c.in-Some-draw.file c.in-Ok-read_file.end.mark c.end-known.result) c.in-Ok-give.ensures.ok);
 }

@@ -1,7 +1,6 @@
 use mathlib.Core.Bool.{beq}
 use Rattle.std.proofs.Common.{◌≡◌, false, true≢false, ap, arith, sym, subst, ◌∙◌}
-use Rattle.lanes.specs.declared.message.Message.TheVariants.{Item, End, Stop}
-use Rattle.lanes.specs.Notes.{note}
+use Rattle.lanes.specs.Notes.{note, Item, End, Stop}
 use Rattle.lanes.specs.Fans.{AreStops}
 use Rattle.lanes.proofs.Stopping.{stops_more, stop_noted, all_stopped, told_more}
 use Rattle.lanes.proofs.gathering.gather.Goals as goal

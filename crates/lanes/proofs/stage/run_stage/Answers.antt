@@ -1,6 +1,7 @@
 use Rattle.std.proofs.Common.{ap, sym, ◌∙◌}
 use Rattle.lanes.specs.declared.message.Message.TheVariants.{Item, End}
 use Rattle.lanes.specs.Notes.{note}
+use Rattle.lanes.specs.Notes as notes
 use Rattle.lanes.proofs.Passing.{goes_item, goes_end, passed_one}
 use Rattle.lanes.proofs.stage.run_stage.Goals as goal
 
@@ -9,7 +10,7 @@ loop-preserved-in-Ok g c = record {
   from_same = c.take.ensures.link ∙ c.loop.invariant.from_same;
   to_same = c.give.ensures.link ∙ c.loop.invariant.to_same;
   same = passed_one _ _ _ _ _ _ c.in-Ok-Item.field-0 (Item c.next-in-Ok-Item.result) c.loop.invariant.same c.in-Ok-Item.ensures.ok c.in-Ok.ensures.ok
-      (ap Item c.next-in-Ok-Item.ensures ∙ ap (note g.A.Numbered.about) (sym c.in-Ok-Item.field-0-is));
+      (ap notes.Item c.next-in-Ok-Item.ensures ∙ ap (note g.A.Numbered.about) (sym c.in-Ok-Item.field-0-is));
   on = goes_item _ _ _ c.in-Ok-Item.field-0 c.in-Ok-Item.item c.loop.invariant.on c.in-Ok-Item.ensures.ok c.in-Ok-Item.field-0-is;
 }
 
@@ -17,7 +18,7 @@ pub loop-preserved : goal.loop-preserved
 loop-preserved g c = record {
   from_same = c.take.ensures.link ∙ c.loop.invariant.from_same;
   to_same = c.give-in-Ok-End.ensures.link ∙ c.loop.invariant.to_same;
-  same = passed_one _ _ _ _ _ _ c.in-Ok-End.field-0 (End c.in-Ok-End.file c.in-Ok-End.mark) c.loop.invariant.same c.in-Ok-End.ensures.ok c.in-Ok-give.ensures.ok
+  same = passed_one _ _ _ _ _ _ c.in-Ok-End.field-0 (End c.in-Ok-End.file c.in-Ok-End.mark c.in-Ok-End.known) c.loop.invariant.same c.in-Ok-End.ensures.ok c.in-Ok-give.ensures.ok
       (ap (note g.A.Numbered.about) (sym c.in-Ok-End.field-0-is));
-  on = goes_end _ _ _ c.in-Ok-End.field-0 c.in-Ok-End.file c.in-Ok-End.mark c.loop.invariant.on c.in-Ok-End.ensures.ok c.in-Ok-End.field-0-is;
+  on = goes_end _ _ _ c.in-Ok-End.field-0 c.in-Ok-End.file c.in-Ok-End.mark c.in-Ok-End.known c.loop.invariant.on c.in-Ok-End.ensures.ok c.in-Ok-End.field-0-is;
 }

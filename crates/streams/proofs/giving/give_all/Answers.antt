@@ -10,4 +10,4 @@ returns-in-Ok-give-2 g c =
     let front = given c.read_source.new.receiver.giver in
     let none = subst (λ messages. GiveRecords [] messages) (sym c.requires.none) refl in
     let all = c.in-Ok-give-2.ensures.ok ∙ ap (λ messages. messages ++ Stop ∷ []) c.in-Ok-give.ensures.ok ∙ append_assoc front _ _ in
-    (c.in-Ok-give-2.ensures.link ∙ c.in-Ok-give.ensures.link ∙ c.in-Ok.ensures.stays, (found.0, c.in-Ok.mark, (front, all, found.1 [] none), found.2))
+    (c.in-Ok-give-2.ensures.link ∙ c.in-Ok-give.ensures.link ∙ c.in-Ok.ensures.stays, (found.0, c.in-Ok.end.mark, (front, all, found.1 [] none), found.3))

@@ -3,11 +3,12 @@ use Rattle.streams.specs.declared.frames.Mark.TheVariants.{Ended}
 use Rattle.streams.proofs.Bounds.{few_rounds}
 use Rattle.streams.proofs.Messages.{found_as}
 use Rattle.streams.proofs.Pieces.{nothing_read, nothing_new, found_nothing, found_ended}
+use Rattle.streams.proofs.Placed.{first_step, placed_from}
 use Rattle.streams.proofs.Receiving.{received_from}
 use Rattle.streams.proofs.reading.read_source.Goals as goal
 
 pub returns-in-Err-clause-found : goal.returns-in-Err-clause-found
-returns-in-Err-clause-found g c = ([], g.met.V.Receiver.received_none _, found_nothing _ _ _ refl)
+returns-in-Err-clause-found g c = ([], g.met.V.Receiver.received_none _, refl, found_nothing _ _ _ refl)
 
 pub loop-init : goal.loop-init
 loop-init g c = record {
@@ -32,32 +33,40 @@ overflow_add-next g c =
     let few = c.read_piece-step.ensures.few inv.being_read.read inv.found inv.being_read.stands in
     omega (arith, few, ap length inv.none, inv.next)
 
-pub receive-requires : goal.receive-requires
-receive-requires g c =
+pub receive-requires-clause-few : goal.receive-requires-clause-few
+receive-requires-clause-few g c =
     let inv = c.loop.invariant in
     let few = c.read_piece-step.ensures.few inv.being_read.read inv.found inv.being_read.stands in
     omega (arith, few, ap length inv.none, inv.next)
+
+pub receive-requires-clause-accepted : goal.receive-requires-clause-accepted
+receive-requires-clause-accepted g c =
+    let inv = c.loop.invariant in
+    let new = c.read_piece-step.new.records.items in
+    let leads = c.read_piece-step.ensures.reads _ _ c.loop.counter inv.found (nothing_new _ _ _ _ _ _ _ _ inv.none inv.being_read) in
+    let first = first_step _ _ _ _ _ _ _ _ leads in
+    g.met.V.Receiver.accepts_on _ _ _ _ inv.stays (c.requires.accepted _ new (placed_from _ inv.found new _ inv.next first))
 
 pub returns-in-Ended-clause-found : goal.returns-in-Ended-clause-found
 returns-in-Ended-clause-found g c =
     let inv = c.loop.invariant in
     let ended = c.in-Ended.ensures.reads _ _ c.loop.counter inv.found (nothing_new _ _ _ _ _ _ _ _ inv.none inv.being_read) in
     let then = received_from g.V.Receiver.received _ _ _ _ _ inv.next c.in-Ok-receive.ensures.received in
-    (_, g.met.V.Receiver.received_on _ _ _ _ _ inv.received then, found_ended _ _ _ _ _ ended c.finish.ensures.split)
+    (_, g.met.V.Receiver.received_on _ _ _ _ _ inv.received then, omega (arith, inv.next, length-append inv.found c.read_piece-step.new.records.items), found_ended _ _ _ _ _ ended c.finish.ensures.split)
 
 pub returns-in-Failed-clause-found : goal.returns-in-Failed-clause-found
 returns-in-Failed-clause-found g c =
     let inv = c.loop.invariant in
     let failed = c.in-Failed.ensures.reads _ _ c.loop.counter inv.found (nothing_new _ _ _ _ _ _ _ _ inv.none inv.being_read) in
     let then = received_from g.V.Receiver.received _ _ _ _ _ inv.next c.in-Ok-receive.ensures.received in
-    (_, g.met.V.Receiver.received_on _ _ _ _ _ inv.received then, failed)
+    (_, g.met.V.Receiver.received_on _ _ _ _ _ inv.received then, omega (arith, inv.next, length-append inv.found c.read_piece-step.new.records.items), failed)
 
 pub returns-in-Stopped-clause-found : goal.returns-in-Stopped-clause-found
 returns-in-Stopped-clause-found g c =
     let inv = c.loop.invariant in
     let stopped = c.in-Stopped.ensures.reads _ _ c.loop.counter inv.found (nothing_new _ _ _ _ _ _ _ _ inv.none inv.being_read) in
     let then = received_from g.V.Receiver.received _ _ _ _ _ inv.next c.in-Ok-receive.ensures.received in
-    (_, g.met.V.Receiver.received_on _ _ _ _ _ inv.received then, found_as _ _ _ _ _ _ refl (ap Ended c.from.ensures) stopped)
+    (_, g.met.V.Receiver.received_on _ _ _ _ _ inv.received then, omega (arith, inv.next, length-append inv.found c.read_piece-step.new.records.items), found_as _ _ _ _ _ _ refl (ap Ended c.from.ensures) stopped)
 
 pub loop-preserved : goal.loop-preserved
 loop-preserved g c =

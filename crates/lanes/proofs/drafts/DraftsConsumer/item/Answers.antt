@@ -1,6 +1,6 @@
 use Rattle.std.proofs.Common.{arith, refl}
 use Rattle.std.proofs.lemmas.Bool.{ne_eqb}
-use Rattle.lanes.specs.declared.message.Message.TheVariants.{Item}
+use Rattle.lanes.specs.Notes.{Item}
 use Rattle.lanes.proofs.Drafting.{drafts_item, drafts_other}
 use Rattle.lanes.proofs.drafts.DraftsConsumer.item.Goals as goal
 

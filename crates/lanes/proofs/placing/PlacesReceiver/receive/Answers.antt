@@ -1,6 +1,19 @@
-use Rattle.std.proofs.Common.{rules, ◌∷◌, [], ◌++◌, sym, ap, ◌∙◌, append_assoc, length-append, arith}
+use Rattle.std.proofs.Common.{rules, ◌≡◌, ◌∷◌, [], ◌++◌, sym, subst, ap, ◌∙◌, append_assoc, length-append, arith}
+use Rattle.std.proofs.lemmas.List.{take_all}
+use Rattle.std.specs.Vec.Iter.{drain_items}
+use Rattle.lanes.proofs.Accepting.{accepts_next}
 use Rattle.lanes.proofs.Numbers.{kept_next, kept_as}
 use Rattle.lanes.proofs.placing.PlacesReceiver.receive.Goals as goal
+
+pub keep-requires : goal.keep-requires
+keep-requires g c =
+    let inv = c.loop-rec.invariant in
+    let accepts = g.K.Keep.accepts c.args.self.now.keep.now c.args.self.now.file in
+    let whole : c.args.records.now.items ≡ drain_items c.into_iter-rec-iterator.result =
+    sym (ap drain_items c.into_iter-rec-iterator.ensures.into_iter_gives ∙ c.drain-rec-items.ensures.rest ∙ take_all _ c.args.records.now.items (omega arith)) in
+    let first : accepts c.loop-rec.ordinal c.in-Some.rec =
+    accepts_next accepts c.args.first c.loop-rec.ordinal c.args.records.now.items c.loop-rec.yielded _ _ c.in-Some.rec c.requires.accepted (whole ∙ inv.left) c.in-Some.ensures.steps.0 inv.next in
+    subst (λ f. g.K.Keep.accepts c.loop-rec.self.keep.now f c.loop-rec.ordinal c.in-Some.rec) (sym inv.same.1) (g.met.K.Keep.accepts_on _ _ _ _ _ inv.stays first)
 
 pub loop-rec-preserved : goal.loop-rec-preserved
 loop-rec-preserved g c =

@@ -1,0 +1,42 @@
+//! What is known beforehand of the files of a run.
+ghost use Rattle.std.specs.Prelude.{ℕ};
+ghost use Rattle.std.proofs.Props.{props};
+ghost use Rattle.lanes.specs.Opening.{Meaning, Silent, IsEndAt};
+
+use std::marker::{Brand, PhantomData};
+use streams::{Mark, SourceEnd};
+
+/// What each file of a run means. Only proofs see it.
+pub trait Told {
+    ghost meaning: { ℕ → Meaning };
+}
+
+// A call that passes `Brand` picks what the files mean.
+impl Told for Brand {
+    ghost meaning = { λ _. Silent };
+}
+
+/// How a file has ended: its type keeps that a file which means the same has so many records and this mark.
+#[derive(Drop)]
+pub struct KnownEnd<J: Told> {
+    /// The file, from 0.
+    pub file: u32,
+    /// How many records it has.
+    pub count: u32,
+    /// How it ended.
+    pub mark: Mark,
+    pub told: PhantomData<J>,
+    pub ghost is_end: { ∥ IsEndAt (J.meaning file) count mark ∥₁ } by { Prim.hlevel props },
+}
+
+/// The end of a file that means the same.
+pub(crate) fn known_end<J: Told>(file: u32, end: SourceEnd) -> KnownEnd<J>
+    requires { IsEndAt (J.meaning file) end.count end.mark }
+{
+    KnownEnd {
+        file,
+        count: end.count,
+        mark: end.mark,
+        told: PhantomData,
+    }
+}

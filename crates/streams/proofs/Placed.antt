@@ -1,0 +1,95 @@
+-- Records that were read of a source stand at their places in what it tells.
+use Rattle.std.proofs.Common.{◌≡◌, ℕ, ◌+◌, Bool, List, [], ◌∷◌, ◌++◌, Option, None, Some, length, refl, sym, ap, subst, ◌∙◌, append_assoc, append-nil, length-append, arith}
+use Rattle.std.specs.Prelude.{⊤}
+use Rattle.planar_code.specs.declared.ending.Ending.{Ending}
+use Rattle.planar_code.specs.declared.ending.Ending.TheVariants as ending
+use Rattle.planar_code.specs.Split.{IsSplit}
+use Rattle.planar_code.specs.Place.{Place}
+use Rattle.planar_code.proofs.Splits.{split_same}
+use Rattle.streams.specs.declared.frames.Mark.{Mark}
+use Rattle.streams.specs.declared.frames.Mark.TheVariants.{Ended, Io}
+use Rattle.streams.specs.declared.reading.Step.{Step}
+use Rattle.streams.specs.declared.reading.Step.TheVariants as step
+use Rattle.streams.specs.Marks.{IsMarked, IsBeginningOf}
+use Rattle.streams.specs.Reading.{IsFoundIn, IsBeingRead, IsReadToItsEnd, LeadsTo}
+use Rattle.streams.specs.Placing.{IsAt, IsPlaced, EachAt, ArePlaced}
+use Rattle.streams.proofs.Marks.{beginning_stands}
+
+-- the records are the first of those of the bytes that a source tells
+abbrev pub AreFirst : Option (List ℕ) → List (List ℕ) → Type 0
+AreFirst None records = ⊤
+AreFirst (Some told) records = (all : List (List ℕ)) (end : Ending) → IsSplit told all end → IsBeginningOf records all
+
+placed_untold : (first : ℕ) (records : List (List ℕ)) → ArePlaced None first records
+placed_untold first [] = tt
+placed_untold first (bytes ∷ records) = (tt, placed_untold (first + 1) records)
+
+placed_told : (told : List ℕ) (found records : List (List ℕ)) → AreFirst (Some told) (found ++ records) → ArePlaced (Some told) (length found) records
+placed_told told found [] first = tt
+placed_told told found (bytes ∷ records) first =
+    let more : AreFirst (Some told) ((found ++ bytes ∷ []) ++ records) =
+    λ all end split. let f = first all end split in (f.0, f.1 ∙ ap (λ l. l ++ f.0) (sym (append_assoc found (bytes ∷ []) records))) in (
+      λ all end split. let f = first all end split in
+          record { front = found; rest = records ++ f.0; parts = f.1 ∙ append_assoc found (bytes ∷ records) f.0; before = refl },
+      subst (λ n. ArePlaced (Some told) n records) (length-append found (bytes ∷ [])) (placed_told told (found ++ bytes ∷ []) records more),
+    )
+
+-- the last of them stand after the others
+pub placed_after : (told : Option (List ℕ)) (found records : List (List ℕ)) → AreFirst told (found ++ records) → ArePlaced told (length found) records
+placed_after None found records first = placed_untold (length found) records
+placed_after (Some told) found records first = placed_told told found records first
+
+pub placed_from : (told : Option (List ℕ)) (found records : List (List ℕ)) (place : ℕ) → place ≡ length found → AreFirst told (found ++ records) → ArePlaced told place records
+placed_from told found records place is first = subst (λ n. ArePlaced told n records) (sym is) (placed_after told found records first)
+
+same_first : (bytes : List ℕ) (records all : List (List ℕ)) (end other : Ending) → IsSplit bytes records other → IsSplit bytes all end → IsBeginningOf records all
+same_first bytes records all end other mine split = ([], (split_same bytes all records end other split mine).0 ∙ sym (append-nil records))
+
+-- the records that come with a mark
+pub marked_first : (bytes : List ℕ) (fails : Bool) (records : List (List ℕ)) (mark : Mark) → IsMarked bytes fails records mark
+    → (all : List (List ℕ)) (end : Ending) → IsSplit bytes all end → IsBeginningOf records all
+marked_first bytes fails records Io m all end split = same_first bytes records all end m.1.0 m.1.1 split
+marked_first bytes fails records (Ended ending.Complete) m all end split = same_first bytes records all end ending.Complete m.1 split
+marked_first bytes fails records (Ended ending.Truncated) m all end split = same_first bytes records all end ending.Truncated m.1 split
+marked_first bytes fails records (Ended ending.Header) m all end split = same_first bytes records all end ending.Header m.1 split
+marked_first bytes fails records (Ended ending.Large) m all end split = same_first bytes records all end ending.Large m.1 split
+marked_first bytes fails records (Ended ending.Oversize) m all end split = same_first bytes records all end ending.Oversize m.1 split
+marked_first bytes fails records (Ended ending.Many) m all end split = same_first bytes records all end ending.Many m.1 split
+marked_first bytes fails records (Ended ending.Memory) m all end split = m all end split
+
+pub first_found : (told : Option (List ℕ)) (fails : Bool) (records : List (List ℕ)) (mark : Mark) → IsFoundIn told fails records mark → AreFirst told records
+first_found None fails records mark f = tt
+first_found (Some told) fails records mark f = λ all end split.
+    marked_first f.bytes f.fails records mark f.marked all end (subst (λ t. IsSplit t all end) f.gave.0 split)
+
+first_read : (told : Option (List ℕ)) (told_fails : Bool) (rounds : ℕ) (to_come : Option (List ℕ)) (fails : Bool) (records : List (List ℕ)) (place : Place)
+    → IsBeingRead told told_fails rounds to_come fails records place → AreFirst told records
+first_read None told_fails rounds to_come fails records place r = tt
+first_read (Some told) told_fails rounds None fails records place r = absurd r.took
+first_read (Some told) told_fails rounds (Some left) fails records place r = λ all end split.
+    beginning_stands r.read left records place r.stands all end (subst (λ t. IsSplit t all end) r.took split)
+
+first_ended : (told : Option (List ℕ)) (told_fails : Bool) (records : List (List ℕ)) (place : Place) → IsReadToItsEnd told told_fails records place → AreFirst told records
+first_ended None told_fails records place r = tt
+first_ended (Some told) told_fails records place r = λ all end split.
+    beginning_stands r.read [] records place r.stands all end (subst (λ t. IsSplit t all end) (r.gave.0 ∙ sym (append-nil r.read)) split)
+
+-- the records that one more read led to
+pub first_step : (told : Option (List ℕ)) (told_fails : Bool) (rounds : ℕ) (to_come : Option (List ℕ)) (fails : Bool) (records : List (List ℕ)) (place : Place) (led : Step)
+    → LeadsTo told told_fails rounds to_come fails records place led → AreFirst told records
+first_step told told_fails rounds to_come fails records place step.More leads = first_read told told_fails (rounds + 1) to_come fails records place leads
+first_step told told_fails rounds to_come fails records place step.Ended leads = first_ended told told_fails records place leads
+first_step told told_fails rounds to_come fails records place step.Failed leads = first_found told told_fails records Io leads
+first_step told told_fails rounds to_come fails records place (step.Stopped fault) leads = first_found told told_fails records (Ended _) leads
+
+-- of records in a row, the one after the first ones
+pub each_at : (fits : ℕ → List ℕ → Type 0) (first : ℕ) (before : List (List ℕ)) (bytes : List ℕ) (rest : List (List ℕ)) → EachAt fits first (before ++ bytes ∷ rest)
+    → fits (first + length before) bytes
+each_at fits first [] bytes rest each = subst (λ n. fits n bytes) (omega arith) each.0
+each_at fits first (b ∷ before) bytes rest each = subst (λ n. fits n bytes) (omega arith) (each_at fits (first + 1) before bytes rest each.1)
+
+-- what fits in one way fits in another
+pub each_as : (fits others : ℕ → List ℕ → Type 0) → ((place : ℕ) (bytes : List ℕ) → fits place bytes → others place bytes)
+    → (first : ℕ) (records : List (List ℕ)) → EachAt fits first records → EachAt others first records
+each_as fits others to first [] each = tt
+each_as fits others to first (bytes ∷ records) each = (to first bytes each.0, each_as fits others to (first + 1) records each.1)

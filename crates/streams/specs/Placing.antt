@@ -1,0 +1,25 @@
+-- Where the records of a source stand.
+use Rattle.std.specs.Prelude.{◌≡◌, ℕ, ◌+◌, List, [], ◌∷◌, ◌++◌, length, Option, None, Some, ⊤}
+use Rattle.planar_code.specs.declared.ending.Ending.{Ending}
+use Rattle.planar_code.specs.Split.{IsSplit}
+
+-- the record has this place in the list, from 0
+pub record IsAt (all : List (List ℕ)) (place : ℕ) (bytes : List ℕ) : Type 0 where
+  pub front : List (List ℕ)
+  pub rest : List (List ℕ)
+  pub parts : all ≡ front ++ bytes ∷ rest
+  pub before : length front ≡ place
+
+-- the record has this place among those of the bytes that a source tells; of one that tells none nothing is said
+abbrev pub IsPlaced : Option (List ℕ) → ℕ → List ℕ → Type 0
+IsPlaced None place bytes = ⊤
+IsPlaced (Some told) place bytes = (all : List (List ℕ)) (end : Ending) → IsSplit told all end → IsAt all place bytes
+
+-- so is it of each record and its place; the first has this one
+abbrev pub EachAt : (ℕ → List ℕ → Type 0) → ℕ → List (List ℕ) → Type 0
+EachAt fits first [] = ⊤
+EachAt fits first (bytes ∷ records) = fits first bytes × EachAt fits (first + 1) records
+
+-- the records have places in a row among those of the bytes that a source tells
+abbrev pub ArePlaced : Option (List ℕ) → ℕ → List (List ℕ) → Type 0
+ArePlaced told first records = EachAt (IsPlaced told) first records
