@@ -24,9 +24,9 @@ abouts-entries (entry ∷ entries) = ap (λ l. about_of entry ∷ l) (abouts-ent
 pub all_answered : (entries : List Entry) → All (λ entry. ∥ Answers entry.choice entry.rec entry.answer ∥₁) entries
 all_answered entries = λ k d below. (get_or entries k d).answers
 
-pub whole_kept : (choice : Choice) (meaning : Meaning) (file : ℕ) (entries : List Entry) (mark : Mark)
-    → KeepsFile choice meaning file [] (map (λ entry. Item (about_of entry)) entries) mark → IsWhole about_of choice meaning file entries mark
-whole_kept choice meaning file entries mark keeps = record {
+pub whole_kept : (choice : Choice) (meaning : Meaning) (file : ℕ) (entries : List Entry) (count : ℕ) (mark : Mark)
+    → KeepsFile choice meaning file [] (map (λ entry. Item (about_of entry)) entries) count mark → IsWhole about_of choice meaning file entries mark
+whole_kept choice meaning file entries count mark keeps = record {
   records = keeps.records;
   each = sym (abouts-entries entries) ∙ ap abouts keeps.kept ∙ abouts-map (numbered choice file 0 keeps.records);
   found = keeps.found;

@@ -2,9 +2,9 @@
 use Rattle.std.proofs.Common.{◌≡◌, ℕ, List, Option, subst}
 use Rattle.choices.specs.declared.Choice.{Choice}
 use Rattle.lanes.specs.Notes.{Note}
-use Rattle.lanes.specs.Opening.{Silent}
+use Rattle.lanes.specs.Opening.{Meaning}
 use Rattle.lane_runs.specs.declared.fault.RunFault.{RunFault}
-use Rattle.lane_runs.specs.declared.fault.RunFault.TheVariants.{Memory, Lost, Thread, Refused}
+use Rattle.lane_runs.specs.declared.fault.RunFault.TheVariants.{Memory, LaneLost, Thread, Refused}
 use Rattle.lane_runs.specs.Faults.{EndsRun}
 use Rattle.reports.specs.declared.form.Form.{Form}
 use Rattle.texts.specs.declared.lines.Lines.{Lines}
@@ -17,18 +17,18 @@ pub ended_with : {F Q : Type 0} (gave_up : F → Type 0) (holds : List Note → 
     → EndsRun gave_up holds fault → Q
 ended_with gave_up holds (Refused refusal) given held ends = given refusal ends
 ended_with gave_up holds Memory given held ends = held ends.0 ends.1
-ended_with gave_up holds Lost given held ends = held ends.0 ends.1
+ended_with gave_up holds LaneLost given held ends = held ends.0 ends.1
 ended_with gave_up holds Thread given held ends = held ends.0 ends.1
 
 -- lines of so many files in this form, under this choice
-pub begun_lines : (choice : Choice) (form : Form) (files : ℕ) (start now : Option (List ℕ)) (lines : Lines) → choice_of lines ≡ choice → form_of lines ≡ form → files_of lines ≡ files
-    → LinesLeaveOff start now lines → IsBegun choice (λ _. Silent) form files start now
-begun_lines choice form files start now lines choice_is form_is files_is left =
-    begun_left_off choice form files start now
-    (subst (λ n. LeavesOff choice form n start now) files_is
-    (subst (λ f. LeavesOff choice f (files_of lines) start now) form_is
-    (subst (λ c. LeavesOff c (form_of lines) (files_of lines) start now) choice_is left)))
+pub begun_lines : (choice : Choice) (meaning : ℕ → Meaning) (form : Form) (files : ℕ) (start now : Option (List ℕ)) (lines : Lines) → choice_of lines ≡ choice → form_of lines ≡ form → files_of lines ≡ files
+    → LinesLeaveOff meaning start now lines → ∥ IsBegun choice meaning form files start now ∥₁
+begun_lines choice meaning form files start now lines choice_is form_is files_is left =
+    begun_left_off choice meaning form files start now
+    (subst (λ n. LeavesOff choice meaning form n start now) files_is
+    (subst (λ f. LeavesOff choice meaning f (files_of lines) start now) form_is
+    (subst (λ c. LeavesOff c meaning (form_of lines) (files_of lines) start now) choice_is left)))
 
 -- nothing is a beginning of any text
-pub begun_by_nothing : (choice : Choice) (form : Form) (files : ℕ) (taken : Option (List ℕ)) → IsBegun choice (λ _. Silent) form files taken taken
-begun_by_nothing choice form files taken = begun_none choice form files taken
+pub begun_by_nothing : (choice : Choice) (meaning : ℕ → Meaning) (form : Form) (files : ℕ) (taken : Option (List ℕ)) → ∥ IsBegun choice meaning form files taken taken ∥₁
+begun_by_nothing choice meaning form files taken = begun_none choice meaning form files taken

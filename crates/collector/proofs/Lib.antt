@@ -1,2 +1,3 @@
 pub mod Headline
 pub mod Begun
+pub mod Taking

@@ -1,11 +1,12 @@
 //! What a run's lanes do.
-ghost use Rattle.std.specs.Prelude.{◌≡◌};
+ghost use Rattle.std.specs.Prelude.{⊤};
 
 use answers::{Embedded, Framed, Shaped};
 use choices::Choice;
 use entries::Entry;
 use lane_runs::LaneKind;
 use planar_code::Record;
+use streams::SourceEnd;
 
 /// Lanes that answer records: what is known of a record between their stages.
 #[derive(Clone, Copy, Debug)]
@@ -20,6 +21,12 @@ impl LaneKind for Answering {
 
     type Entry = Entry;
 
+    type End = ();
+
+    ghost takes = { λ _ _ _. ⊤ };
+
+    ghost ends = { λ _ _ _. ⊤ };
+
     fn framed(file: u32, ordinal: u32, rec: Record, choice: Choice) -> Framed {
         Framed {
             file,
@@ -28,4 +35,6 @@ impl LaneKind for Answering {
             choice,
         }
     }
+
+    fn end(_file: u32, _end: SourceEnd) {}
 }

@@ -22,6 +22,8 @@ impl Keep for Entries {
 
     ghost stays = { λ _ _. ⊤ };
 
+    ghost accepts = { λ _ _ _ _. ⊤ };
+
     fn keep(
         &mut self,
         alloc: Global,
@@ -34,6 +36,8 @@ impl Keep for Entries {
             .push(answer(alloc, file, ordinal, rec, choice))?;
         Ok(())
     }
+
+    ghost accepts_on = { λ _ _ _ _ _ _ _. tt };
 
     ghost stays_itself = { λ _. tt };
 

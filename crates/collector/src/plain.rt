@@ -72,6 +72,6 @@ fn read_book<O: Opener>(
     let mut entries = Entries {
         entries: Vec::new(alloc),
     };
-    let mark = read_file(opener, alloc, file, choice, buffer, &mut entries)?;
-    Ok(Book::new(entries.entries, mark))
+    let end = read_file(opener, alloc, file, choice, buffer, &mut entries)?;
+    Ok(Book::new(entries.entries, end.mark))
 }

@@ -72,7 +72,7 @@ pub fn run_batch<R: Threads + Wait + Sync, O: Opener, G: Gate>(
         Ok(()) => {}
         Err(RunFault::Memory) => return Err(BatchFault::Memory),
         Err(RunFault::Refused(AllocError)) => return Err(BatchFault::Memory),
-        Err(RunFault::Lost) => return Err(BatchFault::LaneLost),
+        Err(RunFault::LaneLost) => return Err(BatchFault::LaneLost),
         Err(RunFault::Thread) => return Err(BatchFault::Thread),
     }
     match bind(alloc, drafts.into_ready()) {

@@ -4,8 +4,8 @@ ghost use Rattle.ruled_lanes.specs.declared.limits.TheConstants.{LANES, MAX_CAPA
 ghost use Rattle.books.specs.declared.limits.TheConstants.{MAX_FILES};
 ghost use Rattle.lanes.specs.Notes.{Note};
 ghost use Rattle.lanes.specs.Files.{AreToldWhole};
-ghost use Rattle.lanes.specs.Opening.{Silent};
 ghost use Rattle.lane_runs.specs.Faults.{EndsRun};
+ghost use Rattle.lane_runs.specs.Taking.{TakesFiles};
 ghost use Rattle.texts.specs.Whole.{IsAllWritten, IsBegun};
 ghost use Rattle.collector.specs.TextRuns.{IsRefusedRun};
 
@@ -15,10 +15,11 @@ use choices::Choice;
 use lane_runs::{LaneKind, RunFault, run_lanes};
 use lanes::{Consumer, Gate, Opener};
 use std::alloc::Global;
+use std::marker::Brand;
 use std::sync::Wait;
 use std::thread::Threads;
 use streams::{BatchFault, Sink, WriteFault};
-use texts::{Form, JsonLines, Lines, Printed, Refusal, ReportLines, Texts};
+use texts::{Form, JsonLines, KnownEnd, Lines, Printed, Refusal, ReportLines, Texts, Told};
 
 /// Why a text was not written whole. What was written is then a beginning of one.
 #[derive(Clone, Copy, Debug, PartialEq, Eq)]
@@ -45,7 +46,9 @@ pub enum TextFault {
 /// has then failed. `Memory`: no memory for links, the fan, tickets, buffers, lists of lanes or lines.
 /// `LaneLost`: an end of a link or of the fan was gone, or the text was handed a message that no lane gives.
 /// `Thread`: a thread could not be started. Whatever it is, what was written is a beginning of the text of some
-/// books, one for each file, whose records and mark are those of some bytes.
+/// books, one for each file. The records of each are the file's, all or the first ones, and where it is not whole, its
+/// mark is that of want of memory. Of a file that tells no bytes, as real ones do, records and mark are those of some
+/// bytes.
 pub fn write_batch<R: Threads + Wait + Sync, O: Opener, G: Gate, S: Sink>(
     rt: &R,
     alloc: Global,
@@ -62,7 +65,7 @@ pub fn write_batch<R: Threads + Wait + Sync, O: Opener, G: Gate, S: Sink>(
     requires most { capacity ≤ MAX_CAPACITY }
     requires stands { S.failed sink.old ≡ false }
     ensures written { IfOk result (IsAllWritten choice (O.meaning opener.now) form files (S.taken sink.old) (S.taken sink.new)) }
-    ensures begun { OnErr result (IsBegun choice (λ _. Silent) form files (S.taken sink.old) (S.taken sink.new)) }
+    ensures begun { OnErr result ∥ IsBegun choice (O.meaning opener.now) form files (S.taken sink.old) (S.taken sink.new) ∥₁ }
     ensures status { IfOk result (λ status. (status ≡ 0) ⊎ (status ≡ 3)) }
     ensures too_many { (MAX_FILES < files) ↔ (result ≡ Err (TextFault.Run BatchFault.TooManyFiles)) }
     ensures bad_lanes { (((lanes ≡ 0) ⊎ (LANES < lanes)) × (files ≤ MAX_FILES))
@@ -76,12 +79,48 @@ pub fn write_batch<R: Threads + Wait + Sync, O: Opener, G: Gate, S: Sink>(
     if lanes == 0 || lanes > MAX_LANES {
         return Err(TextFault::Run(BatchFault::BadLanes));
     }
+    write_files::<Brand, _, _, _, _>(
+        rt, alloc, opener, files, lanes, capacity, choice, form, gate, sink,
+    )
+}
+
+/// Writes the text of a run over so many files and lanes, of which it is known what the files mean.
+fn write_files<
+    J: Told + Send + Sync,
+    R: Threads + Wait + Sync,
+    O: Opener,
+    G: Gate,
+    S: Sink,
+>(
+    rt: &R,
+    alloc: Global,
+    opener: &O,
+    files: u32,
+    lanes: u32,
+    capacity: u32,
+    choice: Choice,
+    form: Form,
+    gate: &G,
+    sink: &mut S,
+) -> Result<u8, TextFault>
+    requires some { 0 < lanes }
+    requires few { (files ≤ MAX_TICKETS) × (lanes ≤ LANES) }
+    requires least { 1 ≤ capacity }
+    requires most { capacity ≤ MAX_CAPACITY }
+    requires stands { S.failed sink.old ≡ false }
+    requires told { J.meaning ≡ O.meaning opener.now }
+    ensures written { IfOk result (IsAllWritten choice (O.meaning opener.now) form files (S.taken sink.old) (S.taken sink.new)) }
+    ensures begun { OnErr result ∥ IsBegun choice J.meaning form files (S.taken sink.old) (S.taken sink.new) ∥₁ }
+    ensures status { IfOk result (λ status. (status ≡ 0) ⊎ (status ≡ 3)) }
+    ensures began { IfErr result (λ fault. ¬ IsRefusedRun fault) }
+    ensures failed { (result ≡ Err TextFault.Write) ↔ (S.failed sink.new ≡ true) }
+{
     let Ok(lines) = Lines::new(alloc, form, choice, files) else {
         return Err(TextFault::Run(BatchFault::Memory));
     };
     let texts = Texts::new(alloc, sink, lines);
     let mut ran = Ok(());
-    let texts = run_form(
+    let texts = run_form::<J, _, _, _, _>(
         rt, alloc, opener, gate, files, lanes, capacity, choice, form, texts, &mut ran,
     );
     match ran {
@@ -110,14 +149,20 @@ fn fault_of(fault: RunFault<Refusal>) -> TextFault
 {
     match fault {
         RunFault::Memory | RunFault::Refused(Refusal::Memory) => TextFault::Run(BatchFault::Memory),
-        RunFault::Lost | RunFault::Refused(Refusal::Astray) => TextFault::Run(BatchFault::LaneLost),
+        RunFault::LaneLost | RunFault::Refused(Refusal::Astray) => TextFault::Run(BatchFault::LaneLost),
         RunFault::Thread => TextFault::Run(BatchFault::Thread),
         RunFault::Refused(Refusal::Write) => TextFault::Write,
     }
 }
 
 /// Runs the lanes that print lines in this form.
-fn run_form<C: Consumer<Printed>, R: Threads + Wait + Sync, O: Opener, G: Gate>(
+fn run_form<
+    J: Told + Send + Sync,
+    C: Consumer<Printed<J>, KnownEnd<J>>,
+    R: Threads + Wait + Sync,
+    O: Opener,
+    G: Gate,
+>(
     rt: &R,
     alloc: Global,
     opener: &O,
@@ -135,15 +180,16 @@ fn run_form<C: Consumer<Printed>, R: Threads + Wait + Sync, O: Opener, G: Gate>(
     requires least { 1 ≤ capacity }
     requires most { capacity ≤ MAX_CAPACITY }
     requires empty { C.holds consumer [] }
+    requires told { J.meaning ≡ O.meaning opener.now }
     ensures told { OnOk ran.new ((ns : List Note) × C.holds result ns × AreToldWhole choice (O.meaning opener.now) files ns) }
     ensures ended { IfErr ran.new (EndsRun (C.gave_up result) (C.holds result)) }
     ensures stays { C.stays consumer result }
 {
     match form {
-        Form::Report => run_into::<ReportLines, _, _, _, _>(
+        Form::Report => run_into::<ReportLines<J>, _, _, _, _>(
             rt, alloc, opener, gate, files, lanes, capacity, choice, consumer, ran,
         ),
-        Form::Json => run_into::<JsonLines, _, _, _, _>(
+        Form::Json => run_into::<JsonLines<J>, _, _, _, _>(
             rt, alloc, opener, gate, files, lanes, capacity, choice, consumer, ran,
         ),
     }
@@ -151,8 +197,8 @@ fn run_form<C: Consumer<Printed>, R: Threads + Wait + Sync, O: Opener, G: Gate>(
 
 /// Runs lanes of one kind, and puts what came of them into `ran`.
 fn run_into<
-    L: LaneKind<Entry = Printed>,
-    C: Consumer<Printed>,
+    L: LaneKind,
+    C: Consumer<L::Entry, L::End>,
     R: Threads + Wait + Sync,
     O: Opener,
     G: Gate,
@@ -173,6 +219,7 @@ fn run_into<
     requires least { 1 ≤ capacity }
     requires most { capacity ≤ MAX_CAPACITY }
     requires empty { C.holds consumer [] }
+    requires takes { TakesFiles L.takes L.ends (O.meaning opener.now) }
     ensures told { OnOk ran.new ((ns : List Note) × C.holds result ns × AreToldWhole choice (O.meaning opener.now) files ns) }
     ensures ended { IfErr ran.new (EndsRun (C.gave_up result) (C.holds result)) }
     ensures stays { C.stays consumer result }

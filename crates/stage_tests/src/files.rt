@@ -40,6 +40,10 @@ impl Keep for Shelf {
 
     ghost stays = { λ _ _. ⊤ };
 
+    ghost accepts = { λ _ _ _ _. ⊤ };
+
+    ghost accepts_on = { λ _ _ _ _ _ _ _. tt };
+
     ghost stays_itself = { λ _. tt };
 
     ghost stays_on = { λ _ _ _ _ _. tt };

@@ -105,22 +105,22 @@ entries_same file mark came next more k =
     ]
 
 -- a mark is kept
-pub written_marked : (form : Form) (start now : Option (List ℕ)) (buffer : List ℕ) (file front : ℕ) (waiting after : List Waiting) (came next : ℕ → Came) (mark : Mark)
-    → file < length waiting → front ≤ file → HasMarkMore file mark came next → ChangesAt file (GetsMark mark) waiting after
+pub written_marked : (form : Form) (start now : Option (List ℕ)) (buffer : List ℕ) (file front : ℕ) (waiting after : List Waiting) (came next : ℕ → Came) (many : ℕ) (mark : Mark)
+    → file < length waiting → front ≤ file → HasMarkMore file mark came next → ChangesAt file (GetsMark many mark) waiting after
     → AreWritten form start now buffer front waiting came → AreWritten form start now buffer front after next
-written_marked form start now buffer file front waiting after came next mark below before more changed was =
+written_marked form start now buffer file front waiting after came next many mark below before more changed was =
     let text : ended_texts form came front ++ begun form front (came front) ≡ ended_texts form next front ++ begun form front (next front) =
     ap (λ t. t ++ begun form front (came front)) (texts_same form came next front (λ k lt. more.others k (λ e. absurd (omega (arith, lt, before, e)))))
     ∙ ap (λ l. ended_texts form next front ++ (head_in form (front + 1) ++ lines_in form l)) (entries_same file mark came next more front) in
     record {
       within = omega (arith, was.within, changed.count);
       marked = marked_same came next front (λ k lt. more.others k (λ e. absurd (omega (arith, lt, before, e)))) was.marked;
-      counted = after_change IsCounted (λ k. front ≤ k) file waiting after came next (GetsMark mark) changed more.others below
+      counted = after_change IsCounted (λ k. front ≤ k) file waiting after came next (GetsMark many mark) changed more.others below
           (λ _ w w' c had. record {
             count = c.count ∙ had.count ∙ ap (λ (l : List Entry). length l) (entries_same file mark came next more file);
             mark = c.mark ∙ ap (λ (c : Came). c.mark) (sym more.here);
           }) was.counted;
-      lines = after_change (λ w c. w.lines.items ≡ lines_in form c.entries) (λ k. front < k) file waiting after came next (GetsMark mark) changed more.others below
+      lines = after_change (λ w c. w.lines.items ≡ lines_in form c.entries) (λ k. front < k) file waiting after came next (GetsMark many mark) changed more.others below
           (λ _ w w' c same. c.lines ∙ same ∙ ap (lines_in form) (entries_same file mark came next more file)) was.lines;
       going = λ lt. subst (IsOnItsWay start now buffer) text (was.going (omega (arith, lt, changed.count)));
       over = λ past. absurd (omega (arith, past, changed.count, below, before));

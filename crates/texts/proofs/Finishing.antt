@@ -112,9 +112,9 @@ up_to choice meaning form ns came (suc n) told have =
     }
 
 -- the front is past the last file
-past_last : (choice held_choice : Choice) (meaning : ℕ → Meaning) (form : Form) (start now : Option (List ℕ)) (buffer : List ℕ) (front : ℕ) (waiting : List Waiting) (whole : Bool) (ns : List Note)
-    → HaveFiles choice meaning (length waiting) ns → HoldsNotes held_choice form start now buffer front waiting whole ns → length waiting ≤ front
-past_last choice held_choice meaning form start now buffer front waiting whole ns have holds =
+past_last : (choice held_choice : Choice) (meaning known : ℕ → Meaning) (form : Form) (start now : Option (List ℕ)) (buffer : List ℕ) (front : ℕ) (waiting : List Waiting) (whole : Bool) (ns : List Note)
+    → HaveFiles choice meaning (length waiting) ns → HoldsNotes held_choice known form start now buffer front waiting whole ns → length waiting ≤ front
+past_last choice held_choice meaning known form start now buffer front waiting whole ns have holds =
     elim (cases_lt front (length waiting)) [
       | inl below ↦
           let has = have front below in
@@ -125,12 +125,12 @@ past_last choice held_choice meaning form start now buffer front waiting whole n
     ]
 
 -- what was gathered was put, and with it the text of all books
-pub all_written : (choice held_choice : Choice) (meaning : ℕ → Meaning) (form : Form) (start old new : Option (List ℕ)) (buffer : List ℕ) (front : ℕ) (waiting : List Waiting) (whole : Bool) (ns : List Note) (status : ℕ)
-    → HaveFiles choice meaning (length waiting) ns → HoldsNotes held_choice form start old buffer front waiting whole ns → Appends old new buffer → ((status ≡ 0) ↔ (whole ≡ true))
+pub all_written : (choice held_choice : Choice) (meaning known : ℕ → Meaning) (form : Form) (start old new : Option (List ℕ)) (buffer : List ℕ) (front : ℕ) (waiting : List Waiting) (whole : Bool) (ns : List Note) (status : ℕ)
+    → HaveFiles choice meaning (length waiting) ns → HoldsNotes held_choice known form start old buffer front waiting whole ns → Appends old new buffer → ((status ≡ 0) ↔ (whole ≡ true))
     → IsAllWritten choice meaning form (length waiting) start new status
-all_written choice held_choice meaning form start old new buffer front waiting whole ns status have holds put says =
+all_written choice held_choice meaning known form start old new buffer front waiting whole ns status have holds put says =
     let books = up_to choice meaning form ns holds.came (length waiting) holds.told have in
-    let past = past_last choice held_choice meaning form start old buffer front waiting whole ns have holds in
+    let past = past_last choice held_choice meaning known form start old buffer front waiting whole ns have holds in
     let way = holds.written.over past in
     let same : front ≡ length waiting = omega (arith, past, holds.written.within) in
     let text : ended_texts form holds.came front ≡ text_in form books.books =

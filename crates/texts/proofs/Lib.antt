@@ -4,6 +4,7 @@ pub mod Waits
 pub mod Adding
 pub mod Breaking
 pub mod Endings
+pub mod ToldEnds
 pub mod Ordering
 pub mod Moving
 pub mod Finishing

@@ -1,6 +1,8 @@
 -- What has come of files in order is a beginning of their books.
-use Rattle.std.proofs.Common.{◌≡◌, ◌≢◌, ℕ, zero, suc, ◌+◌, ◌<◌, ◌≤◌, List, [], ◌∷◌, ◌++◌, length, map, Option, None, Some, All, inl, inr, refl, sym, ap, subst, ◌∙◌, arith, length-append}
+use Rattle.std.proofs.Common.{◌≡◌, ◌≢◌, ℕ, zero, suc, ◌+◌, ◌<◌, ◌≤◌, List, [], ◌∷◌, ◌++◌, length, map, Option, None, Some, true, All, inl, inr, refl, sym, ap, subst, ◌∙◌, arith, length-append}
+use Rattle.std.proofs.Math.Logic.{∥∥₁_map}
 use Rattle.std.proofs.lemmas.Bool.{cases_eq}
+use Rattle.std.proofs.lemmas.Grind.{merely}
 use Rattle.std.proofs.lemmas.List.{map-append, length-map}
 use Rattle.std.proofs.lemmas.List.Elements.{All-push, All-nil, All-cons, All-head, All-tail}
 use Rattle.planar_code.specs.declared.TheConstants.{MAX_RECORDS}
@@ -10,7 +12,8 @@ use Rattle.streams.specs.Sink.{AppendsFront}
 use Rattle.streams.proofs.Sinks.{added_none}
 use Rattle.choices.specs.declared.Choice.{Choice}
 use Rattle.lanes.specs.Notes.{About, numbered}
-use Rattle.lanes.specs.Opening.{Meaning, Silent}
+use Rattle.streams.specs.Placing.{EachAt}
+use Rattle.lanes.specs.Opening.{Meaning, Silent, Unopened, Opened, IsFoundAt, IsEndAt}
 use Rattle.entries.specs.declared.entry.Entry.{Entry}
 use Rattle.entries.specs.Abouts.{about_of}
 use Rattle.books.specs.Books.{BookModel, IsBook, AreBooks}
@@ -22,12 +25,13 @@ use Rattle.printing.specs.FormLines.{book_in}
 use Rattle.printing.specs.Spelt.{IsSpelt}
 use Rattle.printing.proofs.BookTexts.{text_by_lines}
 use Rattle.texts.specs.Came.{Came, HasEntryMore, HasMarkMore, nothing, closed, mark_or_memory}
-use Rattle.texts.specs.Orders.{MayEnd, IsInOrder}
+use Rattle.texts.specs.Orders.{MayEnd, IsKnownAt, IsInOrder}
 use Rattle.texts.specs.Written.{ended_texts}
 use Rattle.texts.specs.Holding.{LeavesOff}
 use Rattle.texts.specs.Whole.{IsBegun}
 use Rattle.texts.proofs.Endings.{record_spelt, found_any}
 use Rattle.texts.proofs.Finishing.{text_more}
+use Rattle.texts.proofs.ToldEnds.{both, each_push, found_closed}
 
 abbrev rec_of : Entry → List ℕ
 rec_of entry = entry.rec
@@ -36,8 +40,15 @@ abbrev IsOfRecord : Entry → Type 0
 IsOfRecord entry = IsSpelt entry.rec
 
 -- nothing has come
-pub order_none : (choice : Choice) (file : ℕ) → IsInOrder choice file nothing
-order_none choice file = record { each = refl; records = All-nil IsOfRecord; few = omega arith; fits = λ mark e. absurd (let none : ⊥ = cc in none) }
+pub order_none : (choice : Choice) (meaning : Meaning) (file : ℕ) → IsInOrder choice meaning file nothing
+order_none choice meaning file = record {
+  each = refl;
+  records = All-nil IsOfRecord;
+  few = omega arith;
+  fits = λ mark e. absurd (let none : ⊥ = cc in none);
+  placed = tt;
+  ends = λ mark e. absurd (let none : ⊥ = cc in none);
+}
 
 -- one record more
 numbered-push : (choice : Choice) (file first : ℕ) (records : List (List ℕ)) (bytes : List ℕ)
@@ -50,9 +61,10 @@ numbered-push choice file first (r ∷ records) bytes =
     ∙ ap (λ n. numbered choice file (first + 1) records ++ record { file = file; ordinal = n; bytes = bytes; choice = choice } ∷ []) same)
 
 -- an entry at the next place of its file
-pub order_item : (choice : Choice) (file : ℕ) (came : Came) (entry : Entry) → came.mark ≡ None → entry.file ≡ file → entry.ordinal ≡ length came.entries → entry.choice ≡ choice
-    → IsSpelt entry.rec → length came.entries < MAX_RECORDS → IsInOrder choice file came → IsInOrder choice file (record { entries = came.entries ++ entry ∷ []; mark = came.mark })
-order_item choice file came entry unmarked file_is ordinal_is choice_is spelt room was =
+pub order_item : (choice : Choice) (meaning : Meaning) (file : ℕ) (came : Came) (entry : Entry) → came.mark ≡ None → entry.file ≡ file → entry.ordinal ≡ length came.entries → entry.choice ≡ choice
+    → IsSpelt entry.rec → IsKnownAt meaning entry.ordinal entry.rec → length came.entries < MAX_RECORDS → IsInOrder choice meaning file came
+    → IsInOrder choice meaning file (record { entries = came.entries ++ entry ∷ []; mark = came.mark })
+order_item choice meaning file came entry unmarked file_is ordinal_is choice_is spelt placed room was =
     let place : entry.ordinal ≡ 0 + length (map rec_of came.entries) = omega (arith, ordinal_is, length-map came.entries rec_of) in
     let about : about_of entry ≡ record { file = file; ordinal = 0 + length (map rec_of came.entries); bytes = entry.rec; choice = choice } =
     ap (λ f. record { file = f; ordinal = entry.ordinal; bytes = entry.rec; choice = entry.choice }) file_is
@@ -67,25 +79,30 @@ order_item choice file came entry unmarked file_is ordinal_is choice_is spelt ro
       records = All-push IsOfRecord came.entries entry was.records spelt;
       few = omega (arith, room, length-append came.entries (entry ∷ []));
       fits = λ mark e. absurd (let none : ⊥ = cc in none);
+      placed = subst (EachAt (IsKnownAt meaning) 0) (sym (map-append rec_of came.entries (entry ∷ [])))
+          (each_push (IsKnownAt meaning) 0 (map rec_of came.entries) entry.rec was.placed (subst (λ n. IsKnownAt meaning n entry.rec) place placed));
+      ends = λ mark e. absurd (let none : ⊥ = cc in none);
     }
 
 -- a mark
-pub order_end : (choice : Choice) (file : ℕ) (came : Came) (mark : Mark) → MayEnd mark (length came.entries) → IsInOrder choice file came
-    → IsInOrder choice file (record { entries = came.entries; mark = Some mark })
-order_end choice file came mark may was = record {
+pub order_end : (choice : Choice) (meaning : Meaning) (file : ℕ) (came : Came) (mark : Mark) → MayEnd mark (length came.entries) → ∥ IsEndAt meaning (length came.entries) mark ∥₁
+    → IsInOrder choice meaning file came → IsInOrder choice meaning file (record { entries = came.entries; mark = Some mark })
+order_end choice meaning file came mark may known was = record {
   each = was.each;
   records = was.records;
   few = was.few;
   fits = λ other e. let same : mark ≡ other = cc in subst (λ m. MayEnd m (length came.entries)) same may;
+  placed = was.placed;
+  ends = λ other e. let same : mark ≡ other = cc in subst (λ m. ∥ IsEndAt meaning (length came.entries) m ∥₁) same known;
 }
 
 -- where all but one file are as before
-pub order_but : (choice : Choice) (files file : ℕ) (came next : ℕ → Came) → ((other : ℕ) → other ≢ file → next other ≡ came other) → IsInOrder choice file (next file)
-    → ((k : ℕ) → k < files → IsInOrder choice k (came k)) → (k : ℕ) → k < files → IsInOrder choice k (next k)
-order_but choice files file came next others here were k below =
+pub order_but : (choice : Choice) (meaning : ℕ → Meaning) (files file : ℕ) (came next : ℕ → Came) → ((other : ℕ) → other ≢ file → next other ≡ came other)
+    → IsInOrder choice (meaning file) file (next file) → ((k : ℕ) → k < files → IsInOrder choice (meaning k) k (came k)) → (k : ℕ) → k < files → IsInOrder choice (meaning k) k (next k)
+order_but choice meaning files file came next others here were k below =
     elim (cases_eq k file) [
-      | inl same ↦ subst (λ j. IsInOrder choice j (next j)) (sym same) here
-      | inr apart ↦ subst (IsInOrder choice k) (sym (others k apart)) (were k below)
+      | inl same ↦ subst (λ j. IsInOrder choice (meaning j) j (next j)) (sym same) here
+      | inr apart ↦ subst (IsInOrder choice (meaning k) k) (sym (others k apart)) (were k below)
     ]
 
 -- what has come of a file, and its mark or that of want of memory
@@ -98,55 +115,67 @@ all_records [] all = All-nil IsRecord
 all_records (entry ∷ entries) all =
     All-cons IsRecord entry.rec (map rec_of entries) (record_spelt entry.rec (All-head IsOfRecord entry entries all)) (all_records entries (All-tail IsOfRecord entry entries all))
 
-book_closed : (choice : Choice) (file : ℕ) (came : Came) → IsInOrder choice file came → IsBook choice Silent file (record { entries = came.entries; mark = mark_or_memory came.mark })
-book_closed choice file came order =
+-- its records and this mark are the file's
+found_come : (choice : Choice) (meaning : Meaning) (file : ℕ) (came : Came) → IsInOrder choice meaning file came → ∥ IsFoundAt meaning (map rec_of came.entries) (mark_or_memory came.mark) ∥₁
+found_come choice Silent file came order =
     let count = length-map came.entries rec_of in
     let mark = mark_or_memory came.mark in
-    record {
-      whole = record {
-        records = map rec_of came.entries;
-        each = order.each;
-        found = found_any (map rec_of came.entries) mark (all_records came.entries order.records) (omega (arith, order.few, count))
-            (subst (MayEnd mark) (sym count) (fits_closed (length came.entries) came.mark order.fits));
-      };
-      answered = all_answered came.entries;
-    }
+    merely (found_any (map rec_of came.entries) mark (all_records came.entries order.records) (omega (arith, order.few, count))
+    (subst (MayEnd mark) (sym count) (fits_closed (length came.entries) came.mark order.fits)))
+found_come choice Unopened file came order =
+    found_closed [] true (map rec_of came.entries) (length came.entries) came.mark (sym (length-map came.entries rec_of)) order.placed
+    (λ mark e. ∥∥₁_map (order.ends mark e) (λ known. (known.records, known.counted, known.found)))
+found_come choice (Opened told fails) file came order =
+    found_closed told fails (map rec_of came.entries) (length came.entries) came.mark (sym (length-map came.entries rec_of)) order.placed
+    (λ mark e. ∥∥₁_map (order.ends mark e) (λ known. (known.records, known.counted, known.found)))
+
+book_closed : (choice : Choice) (meaning : Meaning) (file : ℕ) (came : Came) → IsInOrder choice meaning file came
+    → ∥ IsBook choice meaning file (record { entries = came.entries; mark = mark_or_memory came.mark }) ∥₁
+book_closed choice meaning file came order = ∥∥₁_map (found_come choice meaning file came order) (λ found. record {
+  whole = record { records = map rec_of came.entries; each = order.each; found = found };
+  answered = all_answered came.entries;
+})
 
 -- the books of the first files
-record AreClosed (choice : Choice) (form : Form) (came : ℕ → Came) (n : ℕ) : Type 0 where
+record AreClosed (choice : Choice) (meaning : ℕ → Meaning) (form : Form) (came : ℕ → Came) (n : ℕ) : Type 0 where
   books : List BookModel
   count : length books ≡ n
-  each : AreBooks choice (λ _. Silent) 0 books
+  each : AreBooks choice meaning 0 books
   text : numbered_texts (book_in form) 1 books ≡ ended_texts form (λ k. closed (came k)) n
 
-close_up_to : (choice : Choice) (form : Form) (came : ℕ → Came) (n : ℕ) → ((k : ℕ) → k < n → IsInOrder choice k (came k)) → AreClosed choice form came n
-close_up_to choice form came zero order = record { books = []; count = refl; each = tt; text = refl }
-close_up_to choice form came (suc n) order =
-    let was = close_up_to choice form came n (λ k below. order k (omega (arith, below))) in
+closed_more : (choice : Choice) (meaning : ℕ → Meaning) (form : Form) (came : ℕ → Came) (n : ℕ) → AreClosed choice meaning form came n
+    → IsBook choice (meaning n) n (record { entries = (came n).entries; mark = mark_or_memory (came n).mark }) → AreClosed choice meaning form came (suc n)
+closed_more choice meaning form came n was is =
     let mark = mark_or_memory (came n).mark in
     let book : BookModel = record { entries = (came n).entries; mark = mark } in
     let number : n ≡ 0 + length was.books = omega (arith, was.count) in
     record {
       books = was.books ++ book ∷ [];
       count = omega (arith, was.count, length-append was.books (book ∷ []));
-      each = books_more choice (λ _. Silent) 0 was.books book was.each
-          (subst (λ k. IsBook choice Silent k book) number (book_closed choice n (came n) (order n (omega arith))));
+      each = books_more choice meaning 0 was.books book was.each (subst (λ k. IsBook choice (meaning k) k book) number is);
       text = text_more form (λ k. closed (came k)) n was.books mark was.count refl was.text;
     }
 
+close_up_to : (choice : Choice) (meaning : ℕ → Meaning) (form : Form) (came : ℕ → Came) (n : ℕ) → ((k : ℕ) → k < n → IsInOrder choice (meaning k) k (came k))
+    → ∥ AreClosed choice meaning form came n ∥₁
+close_up_to choice meaning form came zero order = merely (record { books = []; count = refl; each = tt; text = refl })
+close_up_to choice meaning form came (suc n) order =
+    ∥∥₁_map (both (close_up_to choice meaning form came n (λ k below. order k (omega (arith, below)))) (book_closed choice (meaning n) n (came n) (order n (omega arith))))
+    (λ known. closed_more choice meaning form came n known.0 known.1)
+
 -- a text that was left off is a beginning of that of books
-pub begun_left_off : (choice : Choice) (form : Form) (files : ℕ) (start now : Option (List ℕ)) → LeavesOff choice form files start now → IsBegun choice (λ _. Silent) form files start now
-begun_left_off choice form files start now left =
-    let up_to = close_up_to choice form left.came files left.ordered in
-    let text : ended_texts form (λ k. closed (left.came k)) files ≡ text_in form up_to.books = sym up_to.text ∙ text_by_lines form choice (λ _. Silent) up_to.books up_to.each in
+pub begun_left_off : (choice : Choice) (meaning : ℕ → Meaning) (form : Form) (files : ℕ) (start now : Option (List ℕ)) → LeavesOff choice meaning form files start now
+    → ∥ IsBegun choice meaning form files start now ∥₁
+begun_left_off choice meaning form files start now left = ∥∥₁_map (close_up_to choice meaning form left.came files left.ordered) (λ up_to.
+    let text : ended_texts form (λ k. closed (left.came k)) files ≡ text_in form up_to.books = sym up_to.text ∙ text_by_lines form choice meaning up_to.books up_to.each in
     record {
       books = up_to.books;
       of_files = record { count = up_to.count; each = up_to.each };
       text = subst (AppendsFront start now) text left.text;
-    }
+    })
 
 -- so is no text
-pub begun_none : (choice : Choice) (form : Form) (files : ℕ) (start : Option (List ℕ)) → IsBegun choice (λ _. Silent) form files start start
-begun_none choice form files start =
-    begun_left_off choice form files start start
-    (record { came = λ _. nothing; ordered = λ k below. order_none choice k; text = ([], ended_texts form (λ _. closed nothing) files, refl, added_none start) })
+pub begun_none : (choice : Choice) (meaning : ℕ → Meaning) (form : Form) (files : ℕ) (start : Option (List ℕ)) → ∥ IsBegun choice meaning form files start start ∥₁
+begun_none choice meaning form files start =
+    begun_left_off choice meaning form files start start
+    (record { came = λ _. nothing; ordered = λ k below. order_none choice (meaning k) k; text = ([], ended_texts form (λ _. closed nothing) files, refl, added_none start) })

@@ -2,6 +2,7 @@
 use Rattle.std.specs.Prelude.{◌≡◌, ◌↔◌, ℕ, ◌<◌, Bool, true, List, Option, None, length}
 use Rattle.choices.specs.declared.Choice.{Choice}
 use Rattle.lanes.specs.Notes.{Note}
+use Rattle.lanes.specs.Opening.{Meaning}
 use Rattle.reports.specs.declared.form.Form.{Form}
 use Rattle.texts.specs.declared.waiting.Waiting.{Waiting}
 use Rattle.texts.specs.declared.lines.Lines.{Lines}
@@ -9,19 +10,19 @@ use Rattle.texts.specs.Came.{Came, IsToldByNotes, IsWholeSoFar}
 use Rattle.texts.specs.Orders.{IsInOrder}
 use Rattle.texts.specs.Written.{AreWritten, AreLeft, BreaksOff}
 
--- What the notes tell of each file is in order, and is written or waits. The front, the first file that has not ended, has no mark. And it is known whether all is whole so far.
-pub record HoldsNotes (choice : Choice) (form : Form) (start now : Option (List ℕ)) (buffer : List ℕ) (front : ℕ) (waiting : List Waiting) (whole : Bool) (ns : List Note) : Type 0 where
+-- What the notes tell of each file, which means this, is in order, and is written or waits. The front, the first file that has not ended, has no mark. And it is known whether all is whole so far.
+pub record HoldsNotes (choice : Choice) (meaning : ℕ → Meaning) (form : Form) (start now : Option (List ℕ)) (buffer : List ℕ) (front : ℕ) (waiting : List Waiting) (whole : Bool) (ns : List Note) : Type 0 where
   pub came : ℕ → Came
   pub told : (file : ℕ) → file < length waiting → IsToldByNotes file ns (came file)
-  pub ordered : (file : ℕ) → file < length waiting → IsInOrder choice file (came file)
+  pub ordered : (file : ℕ) → file < length waiting → IsInOrder choice (meaning file) file (came file)
   pub written : AreWritten form start now buffer front waiting came
   pub unended : front < length waiting → (came front).mark ≡ None
   pub all_whole : (whole ≡ true) ↔ ((file : ℕ) → file < length waiting → IsWholeSoFar (came file))
 
--- Of files in order, as many as these, a beginning of their texts was added after `start`.
-pub record LeavesOff (choice : Choice) (form : Form) (files : ℕ) (start now : Option (List ℕ)) : Type 0 where
+-- Of files in order, as many as these, which mean this, a beginning of their texts was added after `start`.
+pub record LeavesOff (choice : Choice) (meaning : ℕ → Meaning) (form : Form) (files : ℕ) (start now : Option (List ℕ)) : Type 0 where
   pub came : ℕ → Came
-  pub ordered : (file : ℕ) → file < files → IsInOrder choice file (came file)
+  pub ordered : (file : ℕ) → file < files → IsInOrder choice (meaning file) file (came file)
   pub text : BreaksOff form start now files came
 
 -- the form of the text, the choice of outer faces, and how many files the run has
@@ -42,13 +43,13 @@ LinesWrite start now lines came = AreWritten lines.form start now lines.buffer l
 abbrev pub LinesLeave : Option (List ℕ) → Option (List ℕ) → Lines → (ℕ → Came) → Type 0
 LinesLeave start now lines came = AreLeft lines.form start now lines.buffer lines.front lines.waiting.items came
 
--- what the notes tell is written or waits
-abbrev pub LinesHold : Option (List ℕ) → Option (List ℕ) → Lines → List Note → Type 0
-LinesHold start now lines ns = HoldsNotes lines.choice lines.form start now lines.buffer lines.front lines.waiting.items lines.whole ns
+-- what the notes tell of files that mean this is written or waits
+abbrev pub LinesHold : (ℕ → Meaning) → Option (List ℕ) → Option (List ℕ) → Lines → List Note → Type 0
+LinesHold meaning start now lines ns = HoldsNotes lines.choice meaning lines.form start now lines.buffer lines.front lines.waiting.items lines.whole ns
 
 -- the text was left off
-abbrev pub LinesLeaveOff : Option (List ℕ) → Option (List ℕ) → Lines → Type 0
-LinesLeaveOff start now lines = LeavesOff lines.choice lines.form (length lines.waiting.items) start now
+abbrev pub LinesLeaveOff : (ℕ → Meaning) → Option (List ℕ) → Option (List ℕ) → Lines → Type 0
+LinesLeaveOff meaning start now lines = LeavesOff lines.choice meaning lines.form (length lines.waiting.items) start now
 
 -- the form, the choice and the number of files are those of before
 pub record AreLinesOf (before after : Lines) : Type 0 where

@@ -1,12 +1,14 @@
--- What may come of a file, whatever its bytes are.
-use Rattle.std.specs.Prelude.{◌≡◌, ◌≢◌, ℕ, ◌<◌, ◌≤◌, length, map, None, Some, All, ⊤}
+-- What may come of a file.
+use Rattle.std.specs.Prelude.{◌≡◌, ◌≢◌, ℕ, ◌<◌, ◌≤◌, List, length, map, None, Some, All, ⊤}
 use Rattle.planar_code.specs.declared.TheConstants.{MAX_RECORDS}
 use Rattle.planar_code.specs.declared.ending.Ending.{Ending}
 use Rattle.planar_code.specs.declared.ending.Ending.TheVariants as ending
 use Rattle.streams.specs.declared.frames.Mark.{Mark}
 use Rattle.streams.specs.declared.frames.Mark.TheVariants.{Ended, Io}
 use Rattle.choices.specs.declared.Choice.{Choice}
+use Rattle.streams.specs.Placing.{EachAt}
 use Rattle.lanes.specs.Notes.{numbered}
+use Rattle.lanes.specs.Opening.{Meaning, IsPlacedAt, IsEndAt}
 use Rattle.entries.specs.declared.entry.Entry.{Entry}
 use Rattle.entries.specs.Abouts.{about_of}
 use Rattle.printing.specs.Spelt.{IsSpelt}
@@ -24,13 +26,19 @@ MayEnd (Ended ending.Oversize) count = count ≢ MAX_RECORDS
 MayEnd (Ended ending.Memory) count = ⊤
 MayEnd (Ended ending.Many) count = count ≡ MAX_RECORDS
 
--- The entries are about records of this file under this choice, in order and from the first on, as many as a file may have; and
--- where it has ended, some file of so many records has its mark.
-pub record IsInOrder (choice : Choice) (file : ℕ) (came : Came) : Type 0 where
+-- the record has this place in a file that means this
+abbrev pub IsKnownAt : Meaning → ℕ → List ℕ → Type 0
+IsKnownAt meaning place bytes = ∥ IsPlacedAt meaning place bytes ∥₁
+
+-- The entries are about records of this file under this choice, in order and from the first on, as many as a file may have, and
+-- each at its place in what the file means; and where it has ended, some file of so many records has its mark, and this file may.
+pub record IsInOrder (choice : Choice) (meaning : Meaning) (file : ℕ) (came : Came) : Type 0 where
   pub each : map about_of came.entries ≡ numbered choice file 0 (map (λ (entry : Entry). entry.rec) came.entries)
   pub records : All (λ (entry : Entry). IsSpelt entry.rec) came.entries
   pub few : length came.entries ≤ MAX_RECORDS
   pub fits : (mark : Mark) → came.mark ≡ Some mark → MayEnd mark (length came.entries)
+  pub placed : EachAt (IsKnownAt meaning) 0 (map (λ (entry : Entry). entry.rec) came.entries)
+  pub ends : (mark : Mark) → came.mark ≡ Some mark → ∥ IsEndAt meaning (length came.entries) mark ∥₁
 
 -- the file has not ended, and an entry at this place is its next one
 pub record IsNext (ordinal : ℕ) (waiting : Waiting) : Type 0 where

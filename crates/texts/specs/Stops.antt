@@ -3,6 +3,7 @@ use Rattle.std.proofs.Common.{◌≡◌, ℕ, Bool, cond, false, List, [], ◌�
 use Rattle.std.proofs.lemmas.List.Elements.{filter-append}
 use Rattle.choices.specs.declared.Choice.{Choice}
 use Rattle.lanes.specs.Notes.{Note, is_of, of_file, Stop}
+use Rattle.lanes.specs.Opening.{Meaning}
 use Rattle.lanes.specs.Drafts.{abouts, mark_after}
 use Rattle.reports.specs.declared.form.Form.{Form}
 use Rattle.texts.specs.declared.waiting.Waiting.{Waiting}
@@ -18,9 +19,9 @@ told_same file ns n came other was =
     let same = sym (of_file-other file ns n other) in
     record { entries = was.entries ∙ ap abouts same; mark = was.mark ∙ ap (mark_after None) same }
 
-pub held_stop : (choice : Choice) (form : Form) (start now : Option (List ℕ)) (buffer : List ℕ) (front : ℕ) (waiting : List Waiting) (whole : Bool) (ns : List Note)
-    → HoldsNotes choice form start now buffer front waiting whole ns → HoldsNotes choice form start now buffer front waiting whole (ns ++ Stop ∷ [])
-held_stop choice form start now buffer front waiting whole ns held = record {
+pub held_stop : (choice : Choice) (meaning : ℕ → Meaning) (form : Form) (start now : Option (List ℕ)) (buffer : List ℕ) (front : ℕ) (waiting : List Waiting) (whole : Bool) (ns : List Note)
+    → HoldsNotes choice meaning form start now buffer front waiting whole ns → HoldsNotes choice meaning form start now buffer front waiting whole (ns ++ Stop ∷ [])
+held_stop choice meaning form start now buffer front waiting whole ns held = record {
   came = held.came;
   told = λ k below. told_same k ns Stop (held.came k) refl (held.told k below);
   ordered = held.ordered;

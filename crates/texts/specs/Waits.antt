@@ -22,11 +22,12 @@ pub record GetsLine (line : List ℕ) (before after : Waiting) : Type 0 where
   pub count : after.count ≡ before.count
   pub mark : after.mark ≡ before.mark
 
--- there was no mark, and there is this one, which a file of so many records may have
-pub record GetsMark (given : Mark) (before after : Waiting) : Type 0 where
+-- there was no mark, and there is this one, which a file of so many records may have; and so many have come
+pub record GetsMark (many : ℕ) (given : Mark) (before after : Waiting) : Type 0 where
   pub lines : after.lines.items ≡ before.lines.items
   pub count : after.count ≡ before.count
   pub unmarked : before.mark ≡ None
+  pub counted : before.count ≡ many
   pub fits : MayEnd given before.count
   pub mark : after.mark ≡ Some given
 

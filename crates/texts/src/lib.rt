@@ -9,7 +9,7 @@ mod waiting;
 mod writing;
 
 pub use lines::Lines;
-pub use printing::{JsonLines, Printed, ReportLines};
+pub use printing::{JsonLines, KnownEnd, Printed, ReportLines, Told};
 pub use refusal::Refusal;
 pub use reports::{Form, push_cause, write_json, write_report};
 pub use texts::Texts;

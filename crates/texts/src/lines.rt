@@ -20,7 +20,7 @@ use crate::waiting::{Waiting, count_one, keep_line, keep_mark, none_come, take_l
 use crate::writing::{put, put_end, put_head};
 use choices::Choice;
 use planar_code::{Ending, MAX_RECORDS};
-use printing::{Printed, head_text, lacking_text};
+use printing::{KnownEnd, Printed, Told, head_text, lacking_text};
 use reports::Form;
 use std::alloc::{AllocError, Global};
 use streams::{Mark, Sink, TextBuffer, WriteFault};
@@ -49,7 +49,8 @@ impl Lines {
     ///
     /// `AllocError` where there is no memory to keep so many files, or for the first line.
     pub fn new(alloc: Global, form: Form, choice: Choice, files: u32) -> Result<Lines, AllocError>
-        ensures held { IfOk result (λ lines. (start : Option (List ℕ)) → LinesHold start start lines []) }
+        ensures held { IfOk result (λ lines. (meaning : ℕ → Meaning) (start : Option (List ℕ))
+            → LinesHold meaning start start lines []) }
         ensures form { IfOk result (λ lines. form_of lines ≡ form) }
         ensures choice { IfOk result (λ lines. choice_of lines ≡ choice) }
         ensures files { IfOk result (λ lines. files_of lines ≡ files) }
@@ -75,17 +76,17 @@ impl Lines {
     ///
     /// `Write` exactly where the sink has then failed; `Memory` where there was no memory for a line that has to
     /// wait or that tells of a lack of memory; `Astray` where no lane gives such a message.
-    pub(crate) fn line<S: Sink>(
+    pub(crate) fn line<S: Sink, J: Told>(
         &mut self,
         alloc: Global,
         sink: &mut S,
-        printed: Printed,
+        printed: Printed<J>,
     ) -> Result<(), Refusal>
         requires { S.failed sink.old ≡ false }
-        ensures held { OnOk result ((start : Option (List ℕ)) (ns : List Note) → LinesHold start (S.taken sink.old) self.old ns
-            → LinesHold start (S.taken sink.new) self.new (ns ++ Item (about_of printed.entry.value) ∷ [])) }
-        ensures broken { OnErr result ((start : Option (List ℕ)) (ns : List Note) → LinesHold start (S.taken sink.old) self.old ns
-            → LinesLeaveOff start (S.taken sink.new) self.new) }
+        ensures held { OnOk result ((start : Option (List ℕ)) (ns : List Note) → LinesHold J.meaning start (S.taken sink.old) self.old ns
+            → LinesHold J.meaning start (S.taken sink.new) self.new (ns ++ Item (about_of printed.entry.value) ∷ [])) }
+        ensures broken { OnErr result ((start : Option (List ℕ)) (ns : List Note) → LinesHold J.meaning start (S.taken sink.old) self.old ns
+            → LinesLeaveOff J.meaning start (S.taken sink.new) self.new) }
         ensures stands { OnOk result (S.failed sink.new ≡ false) }
         ensures gave_up { IfErr result (λ refusal. GivesUp (S.failed sink.new) refusal) }
         ensures same { AreLinesOf self.old self.new }
@@ -97,6 +98,7 @@ impl Lines {
             form,
             line,
             entry: _,
+            told: _,
         } = printed;
         if form != self.form || choice != self.choice || !self.is_next(file, ordinal) {
             return Err(Refusal::Astray);
@@ -113,23 +115,27 @@ impl Lines {
     ///
     /// `Write` exactly where the sink has then failed; `Memory` where there was no memory for a line; `Astray`
     /// where no lane gives such a message.
-    pub(crate) fn end<S: Sink>(
+    pub(crate) fn end<S: Sink, J: Told>(
         &mut self,
         alloc: Global,
         sink: &mut S,
         file: u32,
         mark: Mark,
+        known: KnownEnd<J>,
     ) -> Result<(), Refusal>
         requires { S.failed sink.old ≡ false }
-        ensures held { OnOk result ((start : Option (List ℕ)) (ns : List Note) → LinesHold start (S.taken sink.old) self.old ns
-            → LinesHold start (S.taken sink.new) self.new (ns ++ End file mark ∷ [])) }
-        ensures broken { OnErr result ((start : Option (List ℕ)) (ns : List Note) → LinesHold start (S.taken sink.old) self.old ns
-            → LinesLeaveOff start (S.taken sink.new) self.new) }
+        ensures held { OnOk result ((start : Option (List ℕ)) (ns : List Note) → LinesHold J.meaning start (S.taken sink.old) self.old ns
+            → LinesHold J.meaning start (S.taken sink.new) self.new (ns ++ End file mark ∷ [])) }
+        ensures broken { OnErr result ((start : Option (List ℕ)) (ns : List Note) → LinesHold J.meaning start (S.taken sink.old) self.old ns
+            → LinesLeaveOff J.meaning start (S.taken sink.new) self.new) }
         ensures stands { OnOk result (S.failed sink.new ≡ false) }
         ensures gave_up { IfErr result (λ refusal. GivesUp (S.failed sink.new) refusal) }
         ensures same { AreLinesOf self.old self.new }
     {
-        if !self.is_open(file) || !keep_mark(&mut self.waiting, file, mark) {
+        if known.file != file || known.mark != mark {
+            return Err(Refusal::Astray);
+        }
+        if !self.is_open(file) || !keep_mark(&mut self.waiting, file, known.count, mark) {
             return Err(Refusal::Astray);
         }
         self.whole = is_whole_with(self.whole, mark);
@@ -144,11 +150,11 @@ impl Lines {
     /// `Write` exactly where the sink has then failed. There is no other.
     pub(crate) fn finish<S: Sink>(mut self, sink: &mut S) -> Result<u8, WriteFault>
         requires { S.failed sink.old ≡ false }
-        ensures written { IfOk result (λ status. (start : Option (List ℕ)) (choice : Choice) (meaning : ℕ → Meaning) (ns : List Note)
-            → LinesHold start (S.taken sink.old) self ns → HaveFiles choice meaning (files_of self) ns
+        ensures written { IfOk result (λ status. (start : Option (List ℕ)) (choice : Choice) (known meaning : ℕ → Meaning)
+            (ns : List Note) → LinesHold known start (S.taken sink.old) self ns → HaveFiles choice meaning (files_of self) ns
             → IsAllWritten choice meaning (form_of self) (files_of self) start (S.taken sink.new) status) }
-        ensures broken { OnErr result ((start : Option (List ℕ)) (ns : List Note) → LinesHold start (S.taken sink.old) self ns
-            → LinesLeaveOff start (S.taken sink.new) self) }
+        ensures broken { OnErr result ((meaning : ℕ → Meaning) (start : Option (List ℕ)) (ns : List Note)
+            → LinesHold meaning start (S.taken sink.old) self ns → LinesLeaveOff meaning start (S.taken sink.new) self) }
         ensures other { IfOk result (λ status. status ≢ 0 → status ≡ 3) }
         ensures write { (result ≡ Err WriteFault.Write) ↔ (S.failed sink.new ≡ true) }
         ensures memory { result ≢ Err WriteFault.Memory }

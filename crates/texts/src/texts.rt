@@ -12,7 +12,7 @@ ghost use Rattle.texts.specs.Whole.{HaveFiles, IsAllWritten};
 use crate::lines::Lines;
 use crate::refusal::Refusal;
 use lanes::Consumer;
-use printing::Printed;
+use printing::{KnownEnd, Printed, Told};
 use std::alloc::Global;
 use std::snapshot::Snapshot;
 use streams::{Mark, Sink, WriteFault};
@@ -56,13 +56,14 @@ impl<S: Sink> Texts<'_, S, Lines> {
     /// `Write` exactly where the sink has then failed. There is no other.
     pub fn finish(self) -> Result<u8, WriteFault>
         requires { S.failed self.sink.now ≡ false }
-        ensures written { IfOk result (λ status. (choice : Choice) (meaning : ℕ → Meaning) (ns : List Note)
-            → LinesHold (S.taken self.entry.start.value) (S.taken self.entry.sink.now) self.entry.lines ns
+        ensures written { IfOk result (λ status. (choice : Choice) (known meaning : ℕ → Meaning) (ns : List Note)
+            → LinesHold known (S.taken self.entry.start.value) (S.taken self.entry.sink.now) self.entry.lines ns
             → HaveFiles choice meaning (files_of self.entry.lines) ns
             → IsAllWritten choice meaning (form_of self.entry.lines) (files_of self.entry.lines)
             (S.taken self.entry.start.value) (S.taken self.exit.0.now) status) }
-        ensures broken { OnErr result ((ns : List Note) → LinesHold (S.taken self.entry.start.value) (S.taken self.entry.sink.now) self.entry.lines ns
-            → LinesLeaveOff (S.taken self.entry.start.value) (S.taken self.exit.0.now) self.entry.lines) }
+        ensures broken { OnErr result ((meaning : ℕ → Meaning) (ns : List Note)
+            → LinesHold meaning (S.taken self.entry.start.value) (S.taken self.entry.sink.now) self.entry.lines ns
+            → LinesLeaveOff meaning (S.taken self.entry.start.value) (S.taken self.exit.0.now) self.entry.lines) }
         ensures other { IfOk result (λ status. status ≢ 0 → status ≡ 3) }
         ensures write { (result ≡ Err WriteFault.Write) ↔ (S.failed self.exit.0.now ≡ true) }
         ensures memory { result ≢ Err WriteFault.Memory }
@@ -71,24 +72,24 @@ impl<S: Sink> Texts<'_, S, Lines> {
     }
 }
 
-impl<S: Sink> Consumer<Printed> for Texts<'_, S, Lines> {
+impl<S: Sink, J: Told + Send + Sync> Consumer<Printed<J>, KnownEnd<J>> for Texts<'_, S, Lines> {
     type Refusal = Refusal;
 
-    ghost holds = { λ t ns. (S.failed t.sink.now ≡ false) × LinesHold (S.taken t.start.value) (S.taken t.sink.now) t.lines ns };
+    ghost holds = { λ t ns. (S.failed t.sink.now ≡ false) × LinesHold J.meaning (S.taken t.start.value) (S.taken t.sink.now) t.lines ns };
 
     ghost stays = { λ a b. (a.sink.ghost_name ≡ b.sink.ghost_name) × (a.start.value ≡ b.start.value) × AreLinesOf a.lines b.lines };
 
-    ghost gave_up = { λ t refusal. GivesUp (S.failed t.sink.now) refusal × LinesLeaveOff (S.taken t.start.value) (S.taken t.sink.now) t.lines };
+    ghost gave_up = { λ t refusal. GivesUp (S.failed t.sink.now) refusal × LinesLeaveOff J.meaning (S.taken t.start.value) (S.taken t.sink.now) t.lines };
 
-    fn item(&mut self, item: Printed) -> Result<(), Refusal> {
+    fn item(&mut self, item: Printed<J>) -> Result<(), Refusal> {
         self.lines.line(self.alloc, self.sink, item)
     }
 
-    fn end(&mut self, file: u32, mark: Mark) -> Result<(), Refusal> {
-        self.lines.end(self.alloc, self.sink, file, mark)
+    fn end(&mut self, file: u32, mark: Mark, known: KnownEnd<J>) -> Result<(), Refusal> {
+        self.lines.end(self.alloc, self.sink, file, mark, known)
     }
 
-    ghost holds_on = { λ t ns held. (held.0, held_stop _ _ _ _ _ _ _ _ _ held.1) };
+    ghost holds_on = { λ t ns held. (held.0, held_stop _ _ _ _ _ _ _ _ _ _ held.1) };
 
     ghost stays_itself = { λ t. (refl, refl, record { form = refl; choice = refl; files = refl }) };
 

@@ -66,14 +66,15 @@ pub(crate) fn keep_line(waiting: &mut Vec<Waiting>, file: u32, line: &[u8]) -> R
     }
 }
 
-/// Keeps the mark of a file that has none yet and may end so, and says whether it is kept.
-pub(crate) fn keep_mark(waiting: &mut Vec<Waiting>, file: u32, mark: Mark) -> bool
+/// Keeps the mark of a file that has none yet, of which so many entries have come and which may end so, and says
+/// whether it is kept.
+pub(crate) fn keep_mark(waiting: &mut Vec<Waiting>, file: u32, count: u32, mark: Mark) -> bool
     requires { file < length waiting.old.items }
     ensures count { length waiting.new.items ≡ length waiting.old.items }
-    ensures kept { IsTrue result → ChangesAt file (GetsMark mark) waiting.old.items waiting.new.items }
+    ensures kept { IsTrue result → ChangesAt file (GetsMark count mark) waiting.old.items waiting.new.items }
 {
     let here = &mut waiting[file as usize];
-    if here.mark.is_some() || !may_end(mark, here.count) {
+    if here.mark.is_some() || here.count != count || !may_end(mark, here.count) {
         return false;
     }
     here.mark = Some(mark);

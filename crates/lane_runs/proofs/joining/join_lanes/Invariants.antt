@@ -7,7 +7,7 @@ use Rattle.lane_runs.proofs.joining.join_lanes.Given as goal
 
 abbrev pub invariant-loop-handle : goal.invariant-loop-handle
 invariant-loop-handle g l = record {
-  ran : List (LaneGiver (Message g.row.E.Denot));
+  ran : List (LaneGiver (Message g.row.E.Denot g.row.M.Denot));
   all : l.givers.items ≡ l.fn.givers.items ++ ran;
   run : HaveRun g.E.Numbered.about l.setting.choice (g.O.Opener.meaning l.setting.opener.now) l.setting.tickets.now l.fn.gatherer 0 ran l.seats.items;
   rest : AreNumbered (λ lane r. IsRunning l.fn.gatherer l.setting.choice l.setting.opener.now l.setting.tickets.now lane r.promise.choice r.promise.opener.value r.promise.tickets.value r.promise.giver.value) (vec_len l.seats) l.handle-iterator.rest.items;

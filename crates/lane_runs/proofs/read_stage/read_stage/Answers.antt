@@ -19,7 +19,7 @@ returns-in-Ok g c =
     }
 
 pub read_file-requires-clause-accepted : goal.read_file-requires-clause-accepted
-read_file-requires-clause-accepted g c = λ place bytes placed. c.requires.takes.records c.in-Some-draw.file place bytes placed
+read_file-requires-clause-accepted g c κs within = λ place bytes placed. c.requires.takes.records c.in-Some-draw.file place bytes placed
 
 pub end-known-requires : goal.end-known-requires
 end-known-requires g c =

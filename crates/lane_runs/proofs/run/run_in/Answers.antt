@@ -16,6 +16,6 @@ returns-in-Ok g c = record {
 
 pub returns-in-Err : goal.returns-in-Err
 returns-in-Err g c = record {
-  ended = ended_so _ _ _ [] c.from.ensures c.requires.empty;
+  ended = ended_so _ _ _ [] c.from.ensures c.requires.0.empty;
   stays = g.met.C.Consumer.stays_itself _;
 }

@@ -22,11 +22,12 @@ returns-clause-held g c =
     let old = g.S.Sink.taken c.args.sink.now in
     let from : before.front ≤ file = search rules in
     let below : file < length before.waiting.items = search rules in
-    let kept : ChangesAt file (GetsMark c.args.mark) before.waiting.items waiting.items = search rules in
+    let kept : ChangesAt file (GetsMark c.args.known.count c.args.mark) before.waiting.items waiting.items = search rules in
+    let ends : {n : ℕ} → n ≡ c.args.known.count → ∥ IsEndAt (g.J.Told.meaning file) n c.args.mark ∥₁ = λ {n} same. end_as (g.J.Told.meaning) c.args.known.file file n c.args.known.count c.args.known.mark c.args.mark (search rules) same (search rules) c.args.known.is_end in
     ok_both c.advance.result c.advance.ensures.written c.advance.ensures.unended (λ moves unended start ns held.
-    held_end start old (g.S.Sink.taken c.advance.new.sink) before mid after ns file c.args.mark c.advance.ensures.same (record { form = refl; choice = refl; files = kept.count })
-    below (λ other. (kept.here other).unmarked) (λ other. (kept.here other).fits) from c.is_whole_with-self.ensures c.advance.ensures.whole
-    (λ came next more was. written_marked before.form start old before.buffer file before.front before.waiting.items waiting.items came next c.args.mark below from more kept was)
+    held_end g.J.Told.meaning start old (g.S.Sink.taken c.advance.new.sink) before mid after ns file c.args.mark c.advance.ensures.same (record { form = refl; choice = refl; files = kept.count })
+    below (λ other. (kept.here other).unmarked) (λ other. (kept.here other).fits) (λ other. ends (kept.here other).counted) from c.is_whole_with-self.ensures c.advance.ensures.whole
+    (λ came next more was. written_marked before.form start old before.buffer file before.front before.waiting.items waiting.items came next c.args.known.count c.args.mark below from more kept was)
     (moves start) unended held)
 
 pub returns-clause-broken : goal.returns-clause-broken
@@ -39,21 +40,22 @@ returns-clause-broken g c =
     let old = g.S.Sink.taken c.args.sink.now in
     let from : before.front ≤ file = search rules in
     let below : file < length before.waiting.items = search rules in
-    let kept : ChangesAt file (GetsMark c.args.mark) before.waiting.items waiting.items = search rules in
+    let kept : ChangesAt file (GetsMark c.args.known.count c.args.mark) before.waiting.items waiting.items = search rules in
+    let ends : {n : ℕ} → n ≡ c.args.known.count → ∥ IsEndAt (g.J.Told.meaning file) n c.args.mark ∥₁ = λ {n} same. end_as (g.J.Told.meaning) c.args.known.file file n c.args.known.count c.args.known.mark c.args.mark (search rules) same (search rules) c.args.known.is_end in
     err_then c.advance.result c.advance.ensures.broken (λ broken start ns held.
-    left_off_end start old (g.S.Sink.taken c.advance.new.sink) before mid after ns file c.args.mark c.advance.ensures.same (record { form = refl; choice = refl; files = kept.count })
-    below (λ other. (kept.here other).fits) from
-    (λ came next more was. written_marked before.form start old before.buffer file before.front before.waiting.items waiting.items came next c.args.mark below from more kept was)
+    left_off_end g.J.Told.meaning start old (g.S.Sink.taken c.advance.new.sink) before mid after ns file c.args.mark c.advance.ensures.same (record { form = refl; choice = refl; files = kept.count })
+    below (λ other. (kept.here other).fits) (λ other. ends (kept.here other).counted) from
+    (λ came next more was. written_marked before.form start old before.buffer file before.front before.waiting.items waiting.items came next c.args.known.count c.args.mark below from more kept was)
     (broken start) held)
 
 pub returns-then-not-is_open-clause-broken : goal.returns-then-not-is_open-clause-broken
 returns-then-not-is_open-clause-broken g c = λ start ns held.
     let before = c.args.self.now in
     let now = g.S.Sink.taken c.args.sink.now in
-    let here = left_off_held start now before ns held in
+    let here = left_off_held g.J.Told.meaning start now before ns held in
     elim c.then-not-is_open.branch [
-      | then-not-is_open-via-then-not-is_open w ↦ subst (LinesLeaveOff start now) (sym w.self-is) here
+      | then-not-is_open-via-then-not-is_open w ↦ subst (LinesLeaveOff g.J.Told.meaning start now) (sym w.self-is) here
       | then-not-is_open-via-else-not-is_open+then-not-keep_mark w ↦
           let mid : Lines = record { form = before.form; choice = before.choice; buffer = before.buffer; front = before.front; waiting = w.keep_mark.new.waiting; whole = before.whole } in
-          subst (LinesLeaveOff start now) (sym w.self-is) (left_off_as start now before mid (record { form = refl; choice = refl; files = w.keep_mark.ensures.count }) here)
+          subst (LinesLeaveOff g.J.Told.meaning start now) (sym w.self-is) (left_off_as g.J.Told.meaning start now before mid (record { form = refl; choice = refl; files = w.keep_mark.ensures.count }) here)
     ]
