@@ -8,7 +8,7 @@ use Rattle.streams.specs.Marks.{IsMarked}
 use Rattle.streams.specs.Sink.{AppendsFront}
 use Rattle.streams.specs.Text.{frames_text}
 use Rattle.choices.specs.declared.Choice.{Choice}
-use Rattle.lanes.specs.Opening.{Meaning, Silent, told_of, fails_of}
+use Rattle.lanes.specs.Opening.{Meaning, told_of, fails_of}
 use Rattle.books.specs.Books.{BookModel}
 use Rattle.books.specs.AllBooks.{AreAllBooks}
 use Rattle.reports.specs.declared.form.Form.{Form}
@@ -54,11 +54,10 @@ pub record IsLaidOut (choice : Choice) (form : Form) (meaning : ℕ → Meaning)
   pub whole : All IsWholeBook books ↔ (status ≡ 0)
   pub other : status ≢ 0 → status ≡ 3
 
--- A beginning of the text of the books of so many files under this choice, in this form, was added to the output. Nothing is known of the
--- files beforehand.
-pub record IsBegunToLayOut (choice : Choice) (form : Form) (files : ℕ) (old new : Option (List ℕ)) : Type 0 where
+-- A beginning of the text of the books of so many files, which mean this, under this choice and in this form, was added to the output.
+pub record IsBegunToLayOut (choice : Choice) (form : Form) (meaning : ℕ → Meaning) (files : ℕ) (old new : Option (List ℕ)) : Type 0 where
   pub books : List BookModel
-  pub of_files : AreAllBooks choice (λ _. Silent) files books
+  pub of_files : AreAllBooks choice meaning files books
   pub text : AppendsFront old new (text_in form books)
 
 -- A beginning of the report of a file that means this was added to the output. The records and the mark are those of some bytes, as in a whole
@@ -80,4 +79,5 @@ IsDone input (Layout names lanes choice form progress) old new failed status =
 -- a beginning of the report that a request asks for, where standard input means `input`, was added to the output
 abbrev pub IsBegunToBeDone : Meaning → Request → Option (List ℕ) → Option (List ℕ) → Type 0
 IsBegunToBeDone input (Frames name) old new = IsBegunToReport (meaning_of input name.now) old new
-IsBegunToBeDone input (Layout names lanes choice form progress) old new = IsBegunToLayOut choice form (vec_len names) old new
+IsBegunToBeDone input (Layout names lanes choice form progress) old new =
+    ∥ IsBegunToLayOut choice form (meanings input names.items) (vec_len names) old new ∥₁

@@ -50,7 +50,8 @@ where
     requires { S.failed out.old ≡ false }
     ensures reported { IfOk result (IsLaidOut choice form (meanings (I.meaning input.now 0) names.now)
         (length names.now) (S.taken out.old) (S.taken out.new) (S.failed out.new)) }
-    ensures begun { OnErr result (IsBegunToLayOut choice form (length names.now) (S.taken out.old) (S.taken out.new)) }
+    ensures begun { OnErr result ∥ IsBegunToLayOut choice form (meanings (I.meaning input.now 0) names.now)
+        (length names.now) (S.taken out.old) (S.taken out.new) ∥₁ }
     ensures too_many { (MAX_FILES < length names.now) ↔ (result ≡ Err (Fault.Run BatchFault.TooManyFiles)) }
     ensures bad_lanes { (((lanes ≡ 0) ⊎ (LANES < lanes)) × (length names.now ≤ MAX_FILES))
         ↔ (result ≡ Err (Fault.Run BatchFault.BadLanes)) }

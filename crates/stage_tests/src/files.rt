@@ -10,7 +10,7 @@ use planar_code::{Ending, Record};
 use std::alloc::{AllocError, Global};
 use std::process::Abort;
 use std::sync::atomic::{AtomicU32, Ordering};
-use streams::{Mark, Tap, TapFault, piece_buffer};
+use streams::{Mark, SourceEnd, Tap, TapFault, piece_buffer};
 
 const EDGES: &[u8] = b">>planar_code<<\x02\x02\x00\x01\x00\x02\x02\x00\x01\x00";
 
@@ -125,12 +125,12 @@ fn files(alloc: Global) -> Result<Vec<Vec<u8>>, AllocError> {
     Ok(files)
 }
 
-/// The mark of a file of an opener, and how many records it has.
+/// The end of a file of an opener, and how many records were kept of it.
 fn shelf_of<O: Opener>(
     alloc: Global,
     opener: &O,
     file: u32,
-) -> Option<(Result<Mark, AllocError>, usize)> {
+) -> Option<(Result<SourceEnd, AllocError>, usize)> {
     let mut buffer = piece_buffer(alloc).ok()?;
     let mut shelf = Shelf {
         records: Vec::new(alloc),
@@ -138,6 +138,12 @@ fn shelf_of<O: Opener>(
     let buf = buffer.as_mut_slice();
     let found = read_file(opener, alloc, file, Choice::Best, buf, &mut shelf);
     Some((found, shelf.records.len()))
+}
+
+/// An end with this mark and so many records, all of which were kept.
+fn ended(mark: Mark, kept: usize) -> Option<(Result<SourceEnd, AllocError>, usize)> {
+    let count = kept as u32;
+    Some((Ok(SourceEnd { count, mark }), kept))
 }
 
 #[test]
@@ -152,7 +158,7 @@ fn keeps_the_records_of_each_file(rt: HostRuntime) {
     ];
     for (file, (mark, count)) in wanted.into_iter().enumerate() {
         let found = shelf_of(rt.alloc(), &opener, file as u32);
-        same(&rt, found, Some((Ok(mark), count)));
+        same(&rt, found, ended(mark, count));
     }
 }
 
@@ -173,7 +179,7 @@ fn check_breaking<R: AllocGlobal + Abort>(
     same(
         rt,
         shelf_of(rt.alloc(), &&opener, 7),
-        Some((Ok(mark), count)),
+        ended(mark, count),
     );
     same(rt, opener.reads.load(Ordering::SeqCst), reads);
 }
@@ -200,7 +206,11 @@ fn names_want_of_memory(rt: HostRuntime) {
         return;
     };
     match found {
-        Ok(Mark::Ended(Ending::Memory)) | Err(AllocError) => assert!(rt; count < 2),
-        Ok(mark) => same(&rt, (mark, count), (Mark::Ended(Ending::Complete), 2)),
+        Err(AllocError) => assert!(rt; count < 2),
+        Ok(end) => {
+            same(&rt, end.count as usize, count);
+            let whole = (end.mark, count) == (Mark::Ended(Ending::Complete), 2);
+            assert!(rt; whole || (end.mark == Mark::Ended(Ending::Memory) && count < 2));
+        }
     }
 }

@@ -37,8 +37,8 @@ fn end_of<T: Drop>(answer: Result<T, GatherFault<AllocError>>) -> Ended {
 
 #[test]
 fn a_stage_ends_where_the_one_before_is_gone(rt: HostRuntime) {
-    let taker = left_alone::<Message<Framed>>(rt.alloc()).expect(&rt, "memory");
-    let (giver, mut next) = link::<Message<Embedded>>(rt.alloc(), 1).expect(&rt, "memory");
+    let taker = left_alone::<Message<Framed, ()>>(rt.alloc()).expect(&rt, "memory");
+    let (giver, mut next) = link::<Message<Embedded, ()>>(rt.alloc(), 1).expect(&rt, "memory");
     let ends = run_stage(&rt, rt.alloc(), &OpenGate, 0, taker, giver);
     assert!(rt; ends.is_none());
     assert!(rt; next.take(&rt).is_err());
@@ -46,9 +46,9 @@ fn a_stage_ends_where_the_one_before_is_gone(rt: HostRuntime) {
 
 #[test]
 fn a_stage_ends_where_the_next_one_is_gone(rt: HostRuntime) {
-    let (mut before, taker) = link::<Message<Framed>>(rt.alloc(), 2).expect(&rt, "memory");
-    let (giver, _) = link::<Message<Embedded>>(rt.alloc(), 1).expect(&rt, "memory");
-    assert!(rt; before.give(&rt, Message::End(0, Mark::Io)).is_ok());
+    let (mut before, taker) = link::<Message<Framed, ()>>(rt.alloc(), 2).expect(&rt, "memory");
+    let (giver, _) = link::<Message<Embedded, ()>>(rt.alloc(), 1).expect(&rt, "memory");
+    assert!(rt; before.give(&rt, Message::End(0, Mark::Io, ())).is_ok());
     let ends = run_stage(&rt, rt.alloc(), &OpenGate, 0, taker, giver);
     assert!(rt; ends.is_none());
     assert!(rt; before.give(&rt, Message::Stop).is_err());
@@ -57,8 +57,8 @@ fn a_stage_ends_where_the_next_one_is_gone(rt: HostRuntime) {
 /// The last stage loses the one before it; the lane still gives its stop, so that gathering ends.
 #[test]
 fn a_lane_that_lost_gives_its_stop(rt: HostRuntime) {
-    let taker = left_alone::<Message<Shaped>>(rt.alloc()).expect(&rt, "memory");
-    let (mut givers, gatherer) = fan_in::<Message<Entry>>(rt.alloc(), 4).expect(&rt, "memory");
+    let taker = left_alone::<Message<Shaped, ()>>(rt.alloc()).expect(&rt, "memory");
+    let (mut givers, gatherer) = fan_in::<Message<Entry, ()>>(rt.alloc(), 4).expect(&rt, "memory");
     let end = run_last_stage(&rt, rt.alloc(), &OpenGate, taker, &mut givers[0]);
     assert!(rt; end.is_none());
     assert!(rt; givers[0].give(&rt, Message::Stop).is_ok());
@@ -72,7 +72,7 @@ fn gathered_of_none<R: AllocGlobal + Wait>(rt: &R, lanes: u32) -> Option<Ended>
     requires { (1 ≤ lanes) × (lanes ≤ LANES) }
 {
     let mut drafts = Drafts::<Entry>::new(rt.alloc(), 1).ok()?;
-    let (_, gatherer) = fan_in(rt.alloc(), 1).ok()?;
+    let (_, gatherer) = fan_in::<Message<Entry, ()>>(rt.alloc(), 1).ok()?;
     Some(end_of(gather(rt, rt.alloc(), gatherer, lanes, &mut drafts)))
 }
 

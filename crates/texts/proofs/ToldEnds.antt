@@ -89,7 +89,7 @@ found_wanting told fails records each = record { bytes = told; fails = fails; ga
 -- its records so far, with its mark or that of want of memory
 pub found_closed : (told : List ℕ) (fails : Bool) (records : List (List ℕ)) (count : ℕ) (was : Option Mark) → count ≡ length records
     → EachAt (λ place bytes. ∥ IsPlaced (Some told) place bytes ∥₁) 0 records
-    → ((mark : Mark) → was ≡ Some mark → ∥ (others : List (List ℕ)) × (length others ≡ count) × IsFoundIn (Some told) fails others mark ∥₁)
+    → ((mark : Mark) → was ≡ Some mark → ∥ ((others : List (List ℕ)) × (length others ≡ count) × IsFoundIn (Some told) fails others mark) ∥₁)
     → ∥ IsFoundIn (Some told) fails records (mark_or_memory was) ∥₁
 found_closed told fails records count None same placed ends = ∥∥₁_map (each_merely (IsPlaced (Some told)) 0 records placed) (λ each. found_wanting told fails records each)
 found_closed told fails records count (Some mark) same placed ends =

@@ -1,8 +1,8 @@
-use Rattle.std.proofs.Common.{◌<◌, ◌≤◌, length, refl, rules}
+use Rattle.std.proofs.Common.{◌≡◌, ◌<◌, ◌≤◌, length, refl, rules}
 use Rattle.texts.specs.declared.lines.Lines.{Lines}
 use Rattle.texts.specs.Waits.{ChangesAt, GetsMark}
 use Rattle.texts.proofs.Adding.{written_marked}
-use Rattle.texts.proofs.Held.{held_end}
+use Rattle.texts.proofs.Held.{held_end, end_as}
 use Rattle.texts.proofs.SucceedsOrFails.{ok_both}
 use Rattle.texts.proofs.Held.{left_off_end}
 use Rattle.texts.proofs.SucceedsOrFails.{err_then}
@@ -23,10 +23,11 @@ returns-clause-held g c =
     let from : before.front ≤ file = search rules in
     let below : file < length before.waiting.items = search rules in
     let kept : ChangesAt file (GetsMark c.args.known.count c.args.mark) before.waiting.items waiting.items = search rules in
-    let ends : {n : ℕ} → n ≡ c.args.known.count → ∥ IsEndAt (g.J.Told.meaning file) n c.args.mark ∥₁ = λ {n} same. end_as (g.J.Told.meaning) c.args.known.file file n c.args.known.count c.args.known.mark c.args.mark (search rules) same (search rules) c.args.known.is_end in
+    let file_is : c.args.known.file ≡ file = search rules in
+    let mark_is : c.args.known.mark ≡ c.args.mark = search rules in
     ok_both c.advance.result c.advance.ensures.written c.advance.ensures.unended (λ moves unended start ns held.
     held_end g.J.Told.meaning start old (g.S.Sink.taken c.advance.new.sink) before mid after ns file c.args.mark c.advance.ensures.same (record { form = refl; choice = refl; files = kept.count })
-    below (λ other. (kept.here other).unmarked) (λ other. (kept.here other).fits) (λ other. ends (kept.here other).counted) from c.is_whole_with-self.ensures c.advance.ensures.whole
+    below (λ other. (kept.here other).unmarked) (λ other. (kept.here other).fits) (λ other. end_as g.J.Told.meaning c.args.known.file file _ c.args.known.count c.args.known.mark c.args.mark file_is (kept.here other).counted mark_is c.args.known.is_end) from c.is_whole_with-self.ensures c.advance.ensures.whole
     (λ came next more was. written_marked before.form start old before.buffer file before.front before.waiting.items waiting.items came next c.args.known.count c.args.mark below from more kept was)
     (moves start) unended held)
 
@@ -41,10 +42,11 @@ returns-clause-broken g c =
     let from : before.front ≤ file = search rules in
     let below : file < length before.waiting.items = search rules in
     let kept : ChangesAt file (GetsMark c.args.known.count c.args.mark) before.waiting.items waiting.items = search rules in
-    let ends : {n : ℕ} → n ≡ c.args.known.count → ∥ IsEndAt (g.J.Told.meaning file) n c.args.mark ∥₁ = λ {n} same. end_as (g.J.Told.meaning) c.args.known.file file n c.args.known.count c.args.known.mark c.args.mark (search rules) same (search rules) c.args.known.is_end in
+    let file_is : c.args.known.file ≡ file = search rules in
+    let mark_is : c.args.known.mark ≡ c.args.mark = search rules in
     err_then c.advance.result c.advance.ensures.broken (λ broken start ns held.
     left_off_end g.J.Told.meaning start old (g.S.Sink.taken c.advance.new.sink) before mid after ns file c.args.mark c.advance.ensures.same (record { form = refl; choice = refl; files = kept.count })
-    below (λ other. (kept.here other).fits) (λ other. ends (kept.here other).counted) from
+    below (λ other. (kept.here other).fits) (λ other. end_as g.J.Told.meaning c.args.known.file file _ c.args.known.count c.args.known.mark c.args.mark file_is (kept.here other).counted mark_is c.args.known.is_end) from
     (λ came next more was. written_marked before.form start old before.buffer file before.front before.waiting.items waiting.items came next c.args.known.count c.args.mark below from more kept was)
     (broken start) held)
 
@@ -59,3 +61,6 @@ returns-then-not-is_open-clause-broken g c = λ start ns held.
           let mid : Lines = record { form = before.form; choice = before.choice; buffer = before.buffer; front = before.front; waiting = w.keep_mark.new.waiting; whole = before.whole } in
           subst (LinesLeaveOff g.J.Told.meaning start now) (sym w.self-is) (left_off_as g.J.Told.meaning start now before mid (record { form = refl; choice = refl; files = w.keep_mark.ensures.count }) here)
     ]
+
+pub returns-then-known-file-clause-broken : goal.returns-then-known-file-clause-broken
+returns-then-known-file-clause-broken g c = λ start ns held. left_off_held g.J.Told.meaning start (g.S.Sink.taken c.args.sink.now) c.args.self.now ns held

@@ -1,6 +1,6 @@
 use Rattle.texts.proofs.SucceedsOrFails.{ok_both}
 use Rattle.texts.proofs.SucceedsOrFails.{err_both}
-use Rattle.texts.proofs.texts.TextsLinesConsumerPrinted.item.Goals as goal
+use Rattle.texts.proofs.texts.TextsLinesConsumerPrintedKnownEnd.item.Goals as goal
 
 pub returns-clause-taken : goal.returns-clause-taken
 returns-clause-taken g c = ok_both c.line.result c.line.ensures.held c.line.ensures.stands (λ held stands ns was. (stands, held _ ns was.1))
