@@ -85,13 +85,7 @@ pub fn write_batch<R: Threads + Wait + Sync, O: Opener, G: Gate, S: Sink>(
 }
 
 /// Writes the text of a run over so many files and lanes, of which it is known what the files mean.
-fn write_files<
-    J: Told + Send + Sync,
-    R: Threads + Wait + Sync,
-    O: Opener,
-    G: Gate,
-    S: Sink,
->(
+fn write_files<J: Told + Send + Sync, R: Threads + Wait + Sync, O: Opener, G: Gate, S: Sink>(
     rt: &R,
     alloc: Global,
     opener: &O,
@@ -149,7 +143,9 @@ fn fault_of(fault: RunFault<Refusal>) -> TextFault
 {
     match fault {
         RunFault::Memory | RunFault::Refused(Refusal::Memory) => TextFault::Run(BatchFault::Memory),
-        RunFault::LaneLost | RunFault::Refused(Refusal::Astray) => TextFault::Run(BatchFault::LaneLost),
+        RunFault::LaneLost | RunFault::Refused(Refusal::Astray) => TextFault::Run(
+            BatchFault::LaneLost,
+        ),
         RunFault::Thread => TextFault::Run(BatchFault::Thread),
         RunFault::Refused(Refusal::Write) => TextFault::Write,
     }

@@ -59,7 +59,14 @@ fn join_lanes<E: Numbered, M: Drop + Send, R: Threads + Wait + Sync, O: Opener, 
 
 /// Hands all that the lanes give, up to the stop of each, to the consumer, and joins their threads. Then the
 /// consumer holds all of each file that one seat drew. The seats are given back.
-pub fn finish_lanes<E: Numbered, M: Drop + Send, C: Consumer<E, M>, R: Threads + Wait + Sync, O: Opener, G: Gate>(
+pub fn finish_lanes<
+    E: Numbered,
+    M: Drop + Send,
+    C: Consumer<E, M>,
+    R: Threads + Wait + Sync,
+    O: Opener,
+    G: Gate,
+>(
     setting: &Setting<'_, R, O, G>,
     gatherer: Gatherer<Message<E, M>>,
     running: Vec<Running<E, M, O>>,

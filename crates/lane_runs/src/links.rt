@@ -18,9 +18,18 @@ use std::sync::Wait;
 /// Both ends of the three links between the stages of a lane.
 #[derive(Drop)]
 pub struct Links<L: LaneKind> {
-    pub framed: (Giver<Message<L::Framed, L::End>>, Taker<Message<L::Framed, L::End>>),
-    pub embedded: (Giver<Message<L::Embedded, L::End>>, Taker<Message<L::Embedded, L::End>>),
-    pub shaped: (Giver<Message<L::Shaped, L::End>>, Taker<Message<L::Shaped, L::End>>),
+    pub framed: (
+        Giver<Message<L::Framed, L::End>>,
+        Taker<Message<L::Framed, L::End>>,
+    ),
+    pub embedded: (
+        Giver<Message<L::Embedded, L::End>>,
+        Taker<Message<L::Embedded, L::End>>,
+    ),
+    pub shaped: (
+        Giver<Message<L::Shaped, L::End>>,
+        Taker<Message<L::Shaped, L::End>>,
+    ),
 }
 
 /// New links, each with room for `capacity` messages.
@@ -52,8 +61,14 @@ pub fn new_links<L: LaneKind>(alloc: Global, capacity: u32) -> Result<Links<L>, 
 pub fn settle_lane<L: LaneKind, R: Wait>(
     rt: &R,
     read: Giver<Message<L::Framed, L::End>>,
-    embed: (Taker<Message<L::Framed, L::End>>, Giver<Message<L::Embedded, L::End>>),
-    shape: (Taker<Message<L::Embedded, L::End>>, Giver<Message<L::Shaped, L::End>>),
+    embed: (
+        Taker<Message<L::Framed, L::End>>,
+        Giver<Message<L::Embedded, L::End>>,
+    ),
+    shape: (
+        Taker<Message<L::Embedded, L::End>>,
+        Giver<Message<L::Shaped, L::End>>,
+    ),
     draw: Taker<Message<L::Shaped, L::End>>,
 )
     requires framed { AreEnds read embed.0 }

@@ -90,7 +90,13 @@ pub fn run_lanes<
 
 /// Runs a lane for each seat, gathers what they give, and joins their threads. The consumer is given back,
 /// and the seats.
-fn run_seats<L: LaneKind, C: Consumer<L::Entry, L::End>, R: Threads + Wait + Sync, O: Opener, G: Gate>(
+fn run_seats<
+    L: LaneKind,
+    C: Consumer<L::Entry, L::End>,
+    R: Threads + Wait + Sync,
+    O: Opener,
+    G: Gate,
+>(
     setting: &Setting<'_, R, O, G>,
     seats: Vec<Seat>,
     givers: Vec<LaneGiver<Message<L::Entry, L::End>>>,
@@ -106,7 +112,7 @@ fn run_seats<L: LaneKind, C: Consumer<L::Entry, L::End>, R: Threads + Wait + Syn
         setting.rt,
         move |scope| -> (C, Result<Vec<Seat>, RunFault<C::Refusal>>)
             requires { StartsRun C.holds setting.now.tickets.now seats givers gatherer consumer
-        × TakesFiles L.takes L.ends (O.meaning setting.now.opener.now) }
+                × TakesFiles L.takes L.ends (O.meaning setting.now.opener.now) }
             ensures { LeavesRun C.holds C.gave_up C.stays setting.entry.now.choice (O.meaning setting.entry.now.opener.now) setting.entry.now.tickets.now (vec_len seats) consumer result.0 result.1 }
         {
             let mut consumer = consumer;
@@ -157,7 +163,13 @@ fn start_lanes<'s, E, L: LaneKind + 's, R: Threads + Wait + Sync, O: Opener, G: 
     mut seats: Vec<Seat>,
     givers: Vec<LaneGiver<Message<L::Entry, L::End>>>,
     gatherer: &Gatherer<Message<L::Entry, L::End>>,
-) -> Result<(Vec<Running<L::Entry, L::End, O>>, Vec<LaneGiver<Message<L::Entry, L::End>>>), LaneFault>
+) -> Result<
+    (
+        Vec<Running<L::Entry, L::End, O>>,
+        Vec<LaneGiver<Message<L::Entry, L::End>>>,
+    ),
+    LaneFault,
+>
     requires few { vec_len seats ≤ LANES }
     requires seats { All (IsSeatOf setting.now.tickets.now) seats.items }
     requires unused { All IsUnused seats.items }

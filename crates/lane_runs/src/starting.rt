@@ -27,13 +27,17 @@ pub struct ReadPromise<A: Numbered, M: Drop + Send, O: Opener> {
     pub giver: Snapshot<Giver<Message<A, M>>>,
 }
 
-impl<A: Numbered, M: Drop + Send, O: Opener> Promise<Option<(Giver<Message<A, M>>, Seat)>> for ReadPromise<A, M, O> {
+impl<A: Numbered, M: Drop + Send, O: Opener> Promise<Option<(Giver<Message<A, M>>, Seat)>>
+    for ReadPromise<A, M, O> {
     ghost kept_by = { λ p result. IfSome result (λ ends.
         ReadsSeat A.about p.choice (O.meaning p.opener.value) p.tickets.value p.giver.value ends.0 ends.1) };
 }
 
 /// A first stage that runs in a thread of its own.
-pub type StartedRead<A, M, O> = PromisedHandle<Option<(Giver<Message<A, M>>, Seat)>, ReadPromise<A, M, O>>;
+pub type StartedRead<A, M, O> = PromisedHandle<
+    Option<(Giver<Message<A, M>>, Seat)>,
+    ReadPromise<A, M, O>,
+>;
 
 /// Starts the first stage of a lane in a thread of its own.
 pub fn start_read<'s, E, L: LaneKind + 's, R: Threads + Wait + Sync, O: Opener, G: Gate>(
@@ -79,7 +83,8 @@ pub struct StagePromise<A: Staged, M: Drop + Send> {
     pub giver: Snapshot<Giver<Message<A::Next, M>>>,
 }
 
-impl<A: Staged, M: Drop + Send> Promise<Option<(Taker<Message<A, M>>, Giver<Message<A::Next, M>>)>> for StagePromise<A, M> {
+impl<A: Staged, M: Drop + Send> Promise<Option<(Taker<Message<A, M>>, Giver<Message<A::Next, M>>)>>
+    for StagePromise<A, M> {
     ghost kept_by = { λ p result. IfSome result (λ ends.
         PassedAll A.about A.Next.about p.taker.value p.giver.value ends.0 ends.1) };
 }
@@ -91,7 +96,15 @@ pub type Started<A, M> = PromisedHandle<
 >;
 
 /// Starts a stage in a thread of its own.
-pub fn start_stage<'s, E, A: Staged + 's, M: Drop + Send + 's, R: Threads + Wait + Sync, O: Opener, G: Gate>(
+pub fn start_stage<
+    's,
+    E,
+    A: Staged + 's,
+    M: Drop + Send + 's,
+    R: Threads + Wait + Sync,
+    O: Opener,
+    G: Gate,
+>(
     scope: &'s Scope<'s, E>,
     setting: &'s Setting<'s, R, O, G>,
     lane: u32,

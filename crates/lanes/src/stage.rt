@@ -36,7 +36,10 @@ pub fn run_stage<A: Staged, M: Drop, R: Wait, G: Gate>(
                     Err(_) => return None,
                 }
             }
-            Ok(Message::End(file, mark, known)) => match giver.give(rt, Message::End(file, mark, known)) {
+            Ok(Message::End(file, mark, known)) => match giver.give(
+                rt,
+                Message::End(file, mark, known),
+            ) {
                 Ok(()) => {}
                 Err(_) => return None,
             },

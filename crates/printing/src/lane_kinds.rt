@@ -83,7 +83,13 @@ impl<J: Told + Send + Sync> LaneKind for JsonLines<J> {
 }
 
 /// The record that has this place in this file, with this choice of the outer face, and this form.
-fn worded<J: Told>(file: u32, ordinal: u32, rec: Record, choice: Choice, form: Form) -> Worded<J, Framed>
+fn worded<J: Told>(
+    file: u32,
+    ordinal: u32,
+    rec: Record,
+    choice: Choice,
+    form: Form,
+) -> Worded<J, Framed>
     requires { IsPlacedAt (J.meaning file) ordinal rec }
     ensures about { ⟦<Framed as Numbered>⟧.about result.item
         ≡ record { file = file; ordinal = ordinal; bytes = rec; choice = choice } }

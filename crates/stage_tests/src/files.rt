@@ -176,11 +176,7 @@ fn check_breaking<R: AllocGlobal + Abort>(
         reads: AtomicU32::new(0),
     };
     let (mark, count) = found;
-    same(
-        rt,
-        shelf_of(rt.alloc(), &&opener, 7),
-        ended(mark, count),
-    );
+    same(rt, shelf_of(rt.alloc(), &&opener, 7), ended(mark, count));
     same(rt, opener.reads.load(Ordering::SeqCst), reads);
 }
 
