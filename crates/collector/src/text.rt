@@ -46,9 +46,9 @@ pub enum TextFault {
 /// has then failed. `Memory`: no memory for links, the fan, tickets, buffers, lists of lanes or lines.
 /// `LaneLost`: an end of a link or of the fan was gone, or the text was handed a message that no lane gives.
 /// `Thread`: a thread could not be started. Whatever it is, what was written is a beginning of the text of some
-/// books, one for each file. The records of each are the file's, all or the first ones, and where it is not whole, its
-/// mark is that of want of memory. Of a file that tells no bytes, as real ones do, records and mark are those of some
-/// bytes.
+/// books, one for each file. The records of each are the file's. Where not all of them stand there, or the file had
+/// not ended, its mark is that of want of memory. Of a file that tells no bytes, as a real one, records and mark are
+/// those of some bytes.
 pub fn write_batch<R: Threads + Wait + Sync, O: Opener, G: Gate, S: Sink>(
     rt: &R,
     alloc: Global,
@@ -84,7 +84,7 @@ pub fn write_batch<R: Threads + Wait + Sync, O: Opener, G: Gate, S: Sink>(
     )
 }
 
-/// Writes the text of a run over so many files and lanes, of which it is known what the files mean.
+/// Writes the text of a run over so many files and lanes. The type `J` stands for what the files mean.
 fn write_files<J: Told + Send + Sync, R: Threads + Wait + Sync, O: Opener, G: Gate, S: Sink>(
     rt: &R,
     alloc: Global,
@@ -104,7 +104,7 @@ fn write_files<J: Told + Send + Sync, R: Threads + Wait + Sync, O: Opener, G: Ga
     requires stands { S.failed sink.old ≡ false }
     requires told { J.meaning ≡ O.meaning opener.now }
     ensures written { IfOk result (IsAllWritten choice (O.meaning opener.now) form files (S.taken sink.old) (S.taken sink.new)) }
-    ensures begun { OnErr result ∥ IsBegun choice J.meaning form files (S.taken sink.old) (S.taken sink.new) ∥₁ }
+    ensures begun { OnErr result ∥ IsBegun choice (O.meaning opener.now) form files (S.taken sink.old) (S.taken sink.new) ∥₁ }
     ensures status { IfOk result (λ status. (status ≡ 0) ⊎ (status ≡ 3)) }
     ensures began { IfErr result (λ fault. ¬ IsRefusedRun fault) }
     ensures failed { (result ≡ Err TextFault.Write) ↔ (S.failed sink.new ≡ true) }

@@ -27,7 +27,8 @@ pub const CAPACITY: u32 = MAX_CAPACITY;
 ///
 /// `TooManyFiles` exactly where there are more than `MAX_FILES` files, and `BadLanes` exactly where there are
 /// no more than that and no lanes or more than `MAX_LANES`; nothing is then written. Else what a run or the
-/// writing met; a beginning of the report of some books, one for each file, is then written.
+/// writing met; a beginning of the text of the files' books is then written, where a file that had not ended has
+/// the mark of want of memory. Of a file that tells no bytes, as a real one, it is a book of some bytes.
 pub fn layout<
     'a,
     R: Files + AllocGlobal + Threads + Wait + Sync,

@@ -8,8 +8,8 @@ use std::alloc::Global;
 
 /// Takes a file's records as they are read.
 ///
-/// For proofs it has what it has kept so far, in order, what it accepts, and what stays the same of it from one
-/// value to a later one.
+/// For proofs it has what it has kept so far, in order; what it may be handed; and what stays the same of it from
+/// one value to a later one.
 pub trait Keep {
     /// Why a record was not kept.
     type Refusal: Drop;

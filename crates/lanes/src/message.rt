@@ -7,7 +7,8 @@ use streams::Mark;
 pub enum Message<T: Drop, M: Drop> {
     /// What is known so far of one record.
     Item(T),
-    /// A file has ended with this mark, and all of its records were given. With it comes what else is known of that.
+    /// A file has ended with this mark, and all that were read of its records were given. With it comes what else
+    /// is known of that end.
     End(u32, Mark, M),
     /// Nothing more comes.
     Stop,

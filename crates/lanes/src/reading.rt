@@ -16,8 +16,8 @@ use streams::{Mark, SourceEnd, Tap, read_source};
 /// in order, numbered from 0 and with this choice of the outer face. It gives back how many there were and the
 /// file's mark.
 ///
-/// A file that could not be opened has the mark `Io`, and one that found no memory `Memory`; neither
-/// has records. Besides what the opener and `keep` take, it takes memory for the framer's buffer, the
+/// A file that could not be opened has the mark `Io`, and one for whose opening there was no memory `Memory`;
+/// neither has records. Besides what the opener and `keep` take, it takes memory for the framer's buffer, the
 /// records of one piece and the list of them.
 ///
 /// # Errors

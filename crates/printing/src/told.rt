@@ -16,12 +16,13 @@ impl Told for Brand {
     ghost meaning = { λ _. Silent };
 }
 
-/// How a file has ended: its type keeps that a file which means the same has so many records and this mark.
+/// How a file has ended: its type keeps that a file which means what `J` tells of this number has so many records and
+/// this mark.
 #[derive(Drop)]
 pub struct KnownEnd<J: Told> {
     /// The file, from 0.
     pub file: u32,
-    /// How many records it has.
+    /// How many of its records were read.
     pub count: u32,
     /// How it ended.
     pub mark: Mark,
@@ -29,7 +30,7 @@ pub struct KnownEnd<J: Told> {
     pub ghost is_end: { ∥ IsEndAt (J.meaning file) count mark ∥₁ } by { Prim.hlevel props },
 }
 
-/// The end of a file that means the same.
+/// The end of a file, kept with what `J` tells of it.
 pub(crate) fn known_end<J: Told>(file: u32, end: SourceEnd) -> KnownEnd<J>
     requires { IsEndAt (J.meaning file) end.count end.mark }
 {

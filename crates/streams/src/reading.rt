@@ -73,7 +73,7 @@ pub fn read_piece<T: Tap>(
     }
 }
 
-/// How a source ended, and how many records it had.
+/// How a source ended, and how many records were read of it.
 #[derive(Clone, Copy, Debug, PartialEq, Eq)]
 pub struct SourceEnd {
     /// How many records were received, at most 1,000,000.
@@ -84,7 +84,7 @@ pub struct SourceEnd {
 
 /// Reads a source to its end, to its failure or to the first fault in its bytes, and has its records
 /// received, in order. It gives back how many there were and the mark of the source: `Memory` where the framer
-/// found none.
+/// found no memory.
 ///
 /// # Errors
 ///

@@ -8,7 +8,7 @@ use std::alloc::Global;
 /// Receives the records of a source as they are read.
 ///
 /// For proofs it has which records, numbered from a first one on, were received from one value to a
-/// later one, which it accepts, and what stays the same of it.
+/// later one; which ones it may be handed; and what stays the same of it.
 pub trait Receiver {
     /// Why records were not received.
     type Refusal: Drop;

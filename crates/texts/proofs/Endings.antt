@@ -1,6 +1,9 @@
 -- Any records, as many as a file may have, are those of some bytes that end as a file of so many may.
-use Rattle.std.proofs.Common.{◌≡◌, ◌≢◌, ℕ, ◌+◌, ◌<◌, ◌≤◌, false, true, List, [], ◌∷◌, ◌++◌, None, inl, inr, length, map, All, replicate, refl, sym, ap, subst, ◌∙◌, arith, append_assoc, append-nil, length-append}
+use Rattle.std.proofs.Common.{◌≡◌, ◌≢◌, ℕ, ◌+◌, ◌<◌, ◌≤◌, Bool, false, true, List, [], ◌∷◌, ◌++◌, Option, None, Some, inl, inr, length, map, All, replicate, refl, sym, ap, subst, ◌∙◌, arith, append_assoc, append-nil, length-append}
+use Rattle.std.specs.Prelude.{⊤}
+use Rattle.std.proofs.Math.Logic.{∥∥₁_map}
 use Rattle.std.proofs.lemmas.Bool.{false≢true}
+use Rattle.std.proofs.lemmas.Grind.{merely}
 use Rattle.std.proofs.lemmas.List.{length-replicate}
 use Rattle.std.proofs.lemmas.List.Elements.{All-head, All-tail, All-nil, All-cons, All-replicate}
 use Rattle.planar_code.specs.declared.TheConstants.{HEADER, MAX_RECORDS}
@@ -16,12 +19,49 @@ use Rattle.planar_code.proofs.Started.{started-first, started-unfinished, starte
 use Rattle.planar_code.proofs.LeadsTo.{goes_more, goes_whole, fails_many, fails_large, fails_oversize, standing-header}
 use Rattle.streams.specs.declared.frames.Mark.{Mark}
 use Rattle.streams.specs.declared.frames.Mark.TheVariants.{Ended, Io}
-use Rattle.streams.specs.Marks.{IsCutShort}
+use Rattle.streams.specs.Marks.{IsCutShort, IsMarked}
 use Rattle.streams.specs.Reading.{IsFoundIn}
 use Rattle.streams.proofs.Marks.{split_stands, open_stands, beginning_stands}
 use Rattle.streams.proofs.Pieces.{marked_split}
 use Rattle.printing.specs.Spelt.{IsSpelt}
-use Rattle.texts.specs.Orders.{MayEnd}
+use Rattle.lanes.specs.Opening.{Silent, IsFoundAt, IsEndAt}
+use Rattle.texts.specs.Came.{mark_or_memory}
+
+-- some file of so many records, at most 1,000,000, has this mark
+abbrev pub MayEnd : Mark → ℕ → Type 0
+MayEnd Io count = ⊤
+MayEnd (Ended ending.Complete) count = ⊤
+MayEnd (Ended ending.Truncated) count = count ≢ MAX_RECORDS
+MayEnd (Ended ending.Header) count = count ≡ 0
+MayEnd (Ended ending.Large) count = count ≢ MAX_RECORDS
+MayEnd (Ended ending.Oversize) count = count ≢ MAX_RECORDS
+MayEnd (Ended ending.Memory) count = ⊤
+MayEnd (Ended ending.Many) count = count ≡ MAX_RECORDS
+
+may_split : (bytes : List ℕ) (records : List (List ℕ)) (end : Ending) → IsSplit bytes records end → MayEnd (Ended end) (length records)
+may_split bytes records ending.Complete split = tt
+may_split bytes records ending.Memory split = tt
+may_split bytes records ending.Header (inl h) = ap (λ (rs : List (List ℕ)). length rs) h.none
+may_split bytes records ending.Header (inr h) = absurd h.ends
+may_split bytes records ending.Truncated (inl h) = absurd (let e = h.ends in let none : ⊥ = cc in none)
+may_split bytes records ending.Truncated (inr h) = h.ends.2
+may_split bytes records ending.Large (inl h) = absurd (let e = h.ends in let none : ⊥ = cc in none)
+may_split bytes records ending.Large (inr h) = h.ends.1
+may_split bytes records ending.Oversize (inl h) = absurd (let e = h.ends in let none : ⊥ = cc in none)
+may_split bytes records ending.Oversize (inr h) = h.ends.3
+may_split bytes records ending.Many (inl h) = absurd (let e = h.ends in let none : ⊥ = cc in none)
+may_split bytes records ending.Many (inr h) = h.ends.1
+
+-- a mark that some bytes have with these records
+may_marked : (bytes : List ℕ) (fails : Bool) (records : List (List ℕ)) (mark : Mark) → IsMarked bytes fails records mark → MayEnd mark (length records)
+may_marked bytes fails records Io m = tt
+may_marked bytes fails records (Ended ending.Complete) m = tt
+may_marked bytes fails records (Ended ending.Memory) m = tt
+may_marked bytes fails records (Ended ending.Header) m = may_split bytes records ending.Header m.1
+may_marked bytes fails records (Ended ending.Truncated) m = may_split bytes records ending.Truncated m.1
+may_marked bytes fails records (Ended ending.Large) m = may_split bytes records ending.Large m.1
+may_marked bytes fails records (Ended ending.Oversize) m = may_split bytes records ending.Oversize m.1
+may_marked bytes fails records (Ended ending.Many) m = may_split bytes records ending.Many m.1
 
 pub record_spelt : (bytes : List ℕ) → IsSpelt bytes → IsRecord bytes
 record_spelt bytes s = record { lists = lists_of bytes; spelt = s.spelt; each = s.each; some = s.some; few = s.few }
@@ -112,3 +152,11 @@ pub found_any : (records : List (List ℕ)) (mark : Mark) → All IsRecord recor
 found_any records mark all few may =
     let stands = stands_after HEADER [] records all (omega (arith, few)) standing-header in
     found_at stands.0 records mark stands.1 may
+
+-- records of a file that tells nothing, with its mark or that of want of memory
+pub found_untold : (records : List (List ℕ)) (count : ℕ) (was : Option Mark) → All IsRecord records → length records ≤ MAX_RECORDS → count ≡ length records
+    → ((mark : Mark) → was ≡ Some mark → ∥ IsEndAt Silent count mark ∥₁) → ∥ IsFoundAt Silent records (mark_or_memory was) ∥₁
+found_untold records count None all few same ends = merely (found_any records (Ended ending.Memory) all few tt)
+found_untold records count (Some mark) all few same ends = ∥∥₁_map (ends mark refl) (λ known.
+    let f = known.found in
+    found_any records mark all few (subst (MayEnd mark) (known.counted ∙ same) (may_marked f.bytes f.fails known.records mark f.marked)))

@@ -19,7 +19,7 @@ use Rattle.texts.specs.declared.waiting.Waiting.{Waiting}
 use Rattle.texts.specs.declared.lines.Lines.{Lines}
 use Rattle.texts.specs.Came.{Came, HasEntryMore, HasMarkMore, IsWholeSoFar, nothing}
 use Rattle.texts.specs.Waits.{IsNothing}
-use Rattle.texts.specs.Orders.{MayEnd, IsKnownAt, IsInOrder, IsNext}
+use Rattle.texts.specs.Orders.{IsKnownAt, IsInOrder, IsNext}
 use Rattle.printing.specs.Spelt.{IsSpelt}
 use Rattle.texts.proofs.Ordering.{order_none, order_item, order_end, order_but}
 use Rattle.texts.proofs.Breaking.{breaks_written, breaks_flushed}
@@ -105,28 +105,26 @@ lacking entry = record { file = entry.file; ordinal = entry.ordinal; rec = entry
 
 -- with a mark that the file may have, all that has come is in order
 ordered_end : (meaning : ℕ → Meaning) (start now : Option (List ℕ)) (lines : Lines) (ns : List Note) (file : ℕ) (mark : Mark) (next : ℕ → Came) → file < length lines.waiting.items → lines.front ≤ file
-    → ((other : Waiting) → MayEnd mark (get_or lines.waiting.items file other).count)
     → ((other : Waiting) → ∥ IsEndAt (meaning file) (get_or lines.waiting.items file other).count mark ∥₁) → (held : LinesHold meaning start now lines ns) → HasMarkMore file mark held.came next
     → (k : ℕ) → k < length lines.waiting.items → IsInOrder lines.choice (meaning k) k (next k)
-ordered_end meaning start now lines ns file mark next below from fits ends held more =
+ordered_end meaning start now lines ns file mark next below from ends held more =
     let other = some_waiting lines.waiting.items file below in
     let counted = held.written.counted file other from below in
-    let may = subst (MayEnd mark) counted.count (fits other) in
     let known = subst (λ n. ∥ IsEndAt (meaning file) n mark ∥₁) counted.count (ends other) in
     order_but lines.choice meaning (length lines.waiting.items) file held.came next more.others
-    (subst (IsInOrder lines.choice (meaning file) file) (sym more.here) (order_end lines.choice (meaning file) file (held.came file) mark may known (held.ordered file below))) held.ordered
+    (subst (IsInOrder lines.choice (meaning file) file) (sym more.here) (order_end lines.choice (meaning file) file (held.came file) mark known (held.ordered file below))) held.ordered
 
 -- one mark more: it is kept first, and then the front moves on
 pub held_end : (meaning : ℕ → Meaning) (start old new : Option (List ℕ)) (before mid after : Lines) (ns : List Note) (file : ℕ) (mark : Mark) → AreLinesOf mid after → AreLinesOf before mid
     → file < length before.waiting.items
-    → ((other : Waiting) → (get_or before.waiting.items file other).mark ≡ None) → ((other : Waiting) → MayEnd mark (get_or before.waiting.items file other).count)
+    → ((other : Waiting) → (get_or before.waiting.items file other).mark ≡ None)
     → ((other : Waiting) → ∥ IsEndAt (meaning file) (get_or before.waiting.items file other).count mark ∥₁) → before.front ≤ file
     → ((mid.whole ≡ true) ↔ ((before.whole ≡ true) × (mark ≡ Mark.Ended Ending.Complete))) → after.whole ≡ mid.whole
     → ((came next : ℕ → Came) → HasMarkMore file mark came next → LinesWrite start old before came → LinesWrite start old mid next)
     → ((came : ℕ → Came) → LinesWrite start old mid came → LinesWrite start new after came)
     → ((other : Waiting) → after.front < length after.waiting.items → (get_or after.waiting.items after.front other).mark ≡ None)
     → LinesHold meaning start old before ns → LinesHold meaning start new after (ns ++ End file mark ∷ [])
-held_end meaning start old new before mid after ns file mark went kept below unmarked fits ends from says whole keeps moves unended held =
+held_end meaning start old new before mid after ns file mark went kept below unmarked ends from says whole keeps moves unended held =
     let next = ended_now file mark held.came in
     let more = has_mark_more file mark held.came in
     let count : length after.waiting.items ≡ length before.waiting.items = went.files ∙ kept.files in
@@ -136,7 +134,7 @@ held_end meaning start old new before mid after ns file mark went kept below unm
     record {
       came = next;
       told = λ k lt. all_told_end (length before.waiting.items) ns file mark held.came next more held.told k (omega (arith, lt, count));
-      ordered = ordered_as meaning mid after next went (ordered_as meaning before mid next kept (ordered_end meaning start old before ns file mark next below from fits ends held more));
+      ordered = ordered_as meaning mid after next went (ordered_as meaning before mid next kept (ordered_end meaning start old before ns file mark next below from ends held more));
       written = written;
       unended = λ lt.
           let w = some_waiting after.waiting.items after.front lt in
@@ -200,17 +198,17 @@ left_off_item meaning start old new before after ns file entry same below from c
 
 -- where the front was to move on after one mark more
 pub left_off_end : (meaning : ℕ → Meaning) (start old new : Option (List ℕ)) (before mid after : Lines) (ns : List Note) (file : ℕ) (mark : Mark) → AreLinesOf mid after → AreLinesOf before mid
-    → file < length before.waiting.items → ((other : Waiting) → MayEnd mark (get_or before.waiting.items file other).count)
+    → file < length before.waiting.items
     → ((other : Waiting) → ∥ IsEndAt (meaning file) (get_or before.waiting.items file other).count mark ∥₁) → before.front ≤ file
     → ((came next : ℕ → Came) → HasMarkMore file mark came next → LinesWrite start old before came → LinesWrite start old mid next)
     → ((came : ℕ → Came) → LinesWrite start old mid came → BreaksOff mid.form start new (length mid.waiting.items) came)
     → LinesHold meaning start old before ns → LinesLeaveOff meaning start new after
-left_off_end meaning start old new before mid after ns file mark went kept below fits ends from keeps breaks held =
+left_off_end meaning start old new before mid after ns file mark went kept below ends from keeps breaks held =
     let next = ended_now file mark held.came in
     let more = has_mark_more file mark held.came in
     left_off_as meaning start new mid after went (record {
       came = next;
-      ordered = ordered_as meaning before mid next kept (ordered_end meaning start old before ns file mark next below from fits ends held more);
+      ordered = ordered_as meaning before mid next kept (ordered_end meaning start old before ns file mark next below from ends held more);
       text = breaks next (keeps held.came next more held.written);
     })
 

@@ -25,11 +25,11 @@ use Rattle.printing.specs.FormLines.{book_in}
 use Rattle.printing.specs.Spelt.{IsSpelt}
 use Rattle.printing.proofs.BookTexts.{text_by_lines}
 use Rattle.texts.specs.Came.{Came, HasEntryMore, HasMarkMore, nothing, closed, mark_or_memory}
-use Rattle.texts.specs.Orders.{MayEnd, IsKnownAt, IsInOrder}
+use Rattle.texts.specs.Orders.{IsKnownAt, IsInOrder}
 use Rattle.texts.specs.Written.{ended_texts}
 use Rattle.texts.specs.Holding.{LeavesOff}
 use Rattle.texts.specs.Whole.{IsBegun}
-use Rattle.texts.proofs.Endings.{record_spelt, found_any}
+use Rattle.texts.proofs.Endings.{record_spelt, found_untold}
 use Rattle.texts.proofs.Finishing.{text_more}
 use Rattle.texts.proofs.ToldEnds.{both, each_push, found_closed}
 
@@ -45,7 +45,6 @@ order_none choice meaning file = record {
   each = refl;
   records = All-nil IsOfRecord;
   few = omega arith;
-  fits = λ mark e. absurd (let none : ⊥ = cc in none);
   placed = tt;
   ends = λ mark e. absurd (let none : ⊥ = cc in none);
 }
@@ -78,20 +77,18 @@ order_item choice meaning file came entry unmarked file_is ordinal_is choice_is 
           ∙ ap (numbered choice file 0) (sym (map-append rec_of came.entries (entry ∷ [])));
       records = All-push IsOfRecord came.entries entry was.records spelt;
       few = omega (arith, room, length-append came.entries (entry ∷ []));
-      fits = λ mark e. absurd (let none : ⊥ = cc in none);
       placed = subst (EachAt (IsKnownAt meaning) 0) (sym (map-append rec_of came.entries (entry ∷ [])))
           (each_push (IsKnownAt meaning) 0 (map rec_of came.entries) entry.rec was.placed (subst (λ n. IsKnownAt meaning n entry.rec) place placed));
       ends = λ mark e. absurd (let none : ⊥ = cc in none);
     }
 
 -- a mark
-pub order_end : (choice : Choice) (meaning : Meaning) (file : ℕ) (came : Came) (mark : Mark) → MayEnd mark (length came.entries) → ∥ IsEndAt meaning (length came.entries) mark ∥₁
+pub order_end : (choice : Choice) (meaning : Meaning) (file : ℕ) (came : Came) (mark : Mark) → ∥ IsEndAt meaning (length came.entries) mark ∥₁
     → IsInOrder choice meaning file came → IsInOrder choice meaning file (record { entries = came.entries; mark = Some mark })
-order_end choice meaning file came mark may known was = record {
+order_end choice meaning file came mark known was = record {
   each = was.each;
   records = was.records;
   few = was.few;
-  fits = λ other e. let same : mark ≡ other = cc in subst (λ m. MayEnd m (length came.entries)) same may;
   placed = was.placed;
   ends = λ other e. let same : mark ≡ other = cc in subst (λ m. ∥ IsEndAt meaning (length came.entries) m ∥₁) same known;
 }
@@ -105,11 +102,6 @@ order_but choice meaning files file came next others here were k below =
       | inr apart ↦ subst (IsInOrder choice (meaning k) k) (sym (others k apart)) (were k below)
     ]
 
--- what has come of a file, and its mark or that of want of memory
-fits_closed : (count : ℕ) (was : Option Mark) → ((mark : Mark) → was ≡ Some mark → MayEnd mark count) → MayEnd (mark_or_memory was) count
-fits_closed count None fits = tt
-fits_closed count (Some mark) fits = fits mark refl
-
 all_records : (entries : List Entry) → All IsOfRecord entries → All IsRecord (map rec_of entries)
 all_records [] all = All-nil IsRecord
 all_records (entry ∷ entries) all =
@@ -119,9 +111,7 @@ all_records (entry ∷ entries) all =
 found_come : (choice : Choice) (meaning : Meaning) (file : ℕ) (came : Came) → IsInOrder choice meaning file came → ∥ IsFoundAt meaning (map rec_of came.entries) (mark_or_memory came.mark) ∥₁
 found_come choice Silent file came order =
     let count = length-map came.entries rec_of in
-    let mark = mark_or_memory came.mark in
-    merely (found_any (map rec_of came.entries) mark (all_records came.entries order.records) (omega (arith, order.few, count))
-    (subst (MayEnd mark) (sym count) (fits_closed (length came.entries) came.mark order.fits)))
+    found_untold (map rec_of came.entries) (length came.entries) came.mark (all_records came.entries order.records) (omega (arith, order.few, count)) (sym count) order.ends
 found_come choice Unopened file came order =
     found_closed [] true (map rec_of came.entries) (length came.entries) came.mark (sym (length-map came.entries rec_of)) order.placed
     (λ mark e. ∥∥₁_map (order.ends mark e) (λ known. (known.records, known.counted, known.found)))

@@ -22,6 +22,7 @@ abbrev pub mark_or_memory : Option Mark → Mark
 mark_or_memory None = Mark.Ended Ending.Memory
 mark_or_memory (Some mark) = mark
 
+-- what has come of a file, which has now ended
 abbrev pub closed : Came → Came
 closed came = record { entries = came.entries; mark = Some (mark_or_memory came.mark) }
 

@@ -19,7 +19,7 @@ pub record HoldsNotes (choice : Choice) (meaning : ℕ → Meaning) (form : Form
   pub unended : front < length waiting → (came front).mark ≡ None
   pub all_whole : (whole ≡ true) ↔ ((file : ℕ) → file < length waiting → IsWholeSoFar (came file))
 
--- Of files in order, as many as these, which mean this, a beginning of their texts was added after `start`.
+-- Of so many files, which mean this, what has come is in order, and a beginning of their texts, each closed, was added after `start`.
 pub record LeavesOff (choice : Choice) (meaning : ℕ → Meaning) (form : Form) (files : ℕ) (start now : Option (List ℕ)) : Type 0 where
   pub came : ℕ → Came
   pub ordered : (file : ℕ) → file < files → IsInOrder choice (meaning file) file (came file)

@@ -1,10 +1,7 @@
 -- What may come of a file.
-use Rattle.std.specs.Prelude.{◌≡◌, ◌≢◌, ℕ, ◌<◌, ◌≤◌, List, length, map, None, Some, All, ⊤}
+use Rattle.std.specs.Prelude.{◌≡◌, ℕ, ◌<◌, ◌≤◌, List, length, map, None, Some, All}
 use Rattle.planar_code.specs.declared.TheConstants.{MAX_RECORDS}
-use Rattle.planar_code.specs.declared.ending.Ending.{Ending}
-use Rattle.planar_code.specs.declared.ending.Ending.TheVariants as ending
 use Rattle.streams.specs.declared.frames.Mark.{Mark}
-use Rattle.streams.specs.declared.frames.Mark.TheVariants.{Ended, Io}
 use Rattle.choices.specs.declared.Choice.{Choice}
 use Rattle.streams.specs.Placing.{EachAt}
 use Rattle.lanes.specs.Notes.{numbered}
@@ -15,28 +12,16 @@ use Rattle.printing.specs.Spelt.{IsSpelt}
 use Rattle.texts.specs.declared.waiting.Waiting.{Waiting}
 use Rattle.texts.specs.Came.{Came}
 
--- some file of so many records has this mark
-abbrev pub MayEnd : Mark → ℕ → Type 0
-MayEnd Io count = ⊤
-MayEnd (Ended ending.Complete) count = ⊤
-MayEnd (Ended ending.Truncated) count = count ≢ MAX_RECORDS
-MayEnd (Ended ending.Header) count = count ≡ 0
-MayEnd (Ended ending.Large) count = count ≢ MAX_RECORDS
-MayEnd (Ended ending.Oversize) count = count ≢ MAX_RECORDS
-MayEnd (Ended ending.Memory) count = ⊤
-MayEnd (Ended ending.Many) count = count ≡ MAX_RECORDS
-
 -- the record has this place in a file that means this
 abbrev pub IsKnownAt : Meaning → ℕ → List ℕ → Type 0
 IsKnownAt meaning place bytes = ∥ IsPlacedAt meaning place bytes ∥₁
 
--- The entries are about records of this file under this choice, in order and from the first on, as many as a file may have, and
--- each at its place in what the file means; and where it has ended, some file of so many records has its mark, and this file may.
+-- The entries are about records of this file under this choice, in order and from the first on, at most as many as a file may have, and
+-- each at its place in what the file means. Where the file has ended, what it means allows its mark with so many records.
 pub record IsInOrder (choice : Choice) (meaning : Meaning) (file : ℕ) (came : Came) : Type 0 where
   pub each : map about_of came.entries ≡ numbered choice file 0 (map (λ (entry : Entry). entry.rec) came.entries)
   pub records : All (λ (entry : Entry). IsSpelt entry.rec) came.entries
   pub few : length came.entries ≤ MAX_RECORDS
-  pub fits : (mark : Mark) → came.mark ≡ Some mark → MayEnd mark (length came.entries)
   pub placed : EachAt (IsKnownAt meaning) 0 (map (λ (entry : Entry). entry.rec) came.entries)
   pub ends : (mark : Mark) → came.mark ≡ Some mark → ∥ IsEndAt meaning (length came.entries) mark ∥₁
 

@@ -2,7 +2,6 @@
 use Rattle.std.specs.Prelude.{◌≡◌, ◌≢◌, ℕ, ◌+◌, List, [], ◌++◌, None, Some, length, slice_index_or}
 use Rattle.streams.specs.declared.frames.Mark.{Mark}
 use Rattle.texts.specs.declared.waiting.Waiting.{Waiting}
-use Rattle.texts.specs.Orders.{MayEnd}
 
 -- nothing waits
 pub record IsNothing (waiting : Waiting) : Type 0 where
@@ -22,13 +21,12 @@ pub record GetsLine (line : List ℕ) (before after : Waiting) : Type 0 where
   pub count : after.count ≡ before.count
   pub mark : after.mark ≡ before.mark
 
--- there was no mark, and there is this one, which a file of so many records may have; and so many have come
+-- there was no mark, and there is this one; and so many entries have come
 pub record GetsMark (many : ℕ) (given : Mark) (before after : Waiting) : Type 0 where
   pub lines : after.lines.items ≡ before.lines.items
   pub count : after.count ≡ before.count
   pub unmarked : before.mark ≡ None
   pub counted : before.count ≡ many
-  pub fits : MayEnd given before.count
   pub mark : after.mark ≡ Some given
 
 -- nothing is said of the lines

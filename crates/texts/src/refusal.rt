@@ -9,6 +9,7 @@ pub enum Refusal {
     Memory,
     /// No lane gives such a message: a line or mark of a file that has ended or is none of the run's; a line in
     /// another form, under another choice, not at the next place of its file or past the last place that a file
-    /// may have; a mark that no file of so many records has, or that came with another number of records.
+    /// may have; an end of which the part that knows names another file,
+    /// another mark, or another number of records than have come.
     Astray,
 }

@@ -1,10 +1,8 @@
 //! What waits of files whose turn has not come.
 ghost use Rattle.std.specs.Prelude.{◌≡◌, ◌<◌, IfOk, IfErr, OnOk, All, length, IsTrue, slice_index_or};
-ghost use Rattle.texts.specs.Orders.{MayEnd};
 ghost use Rattle.texts.specs.Waits.{ChangesAt, IsNothing, IsCountedOne, GetsLine, GetsMark, IsTaken};
 
 use crate::refusal::Refusal;
-use planar_code::{Ending, MAX_RECORDS};
 use std::alloc::{AllocError, Global};
 use std::mem;
 use streams::Mark;
@@ -66,33 +64,18 @@ pub(crate) fn keep_line(waiting: &mut Vec<Waiting>, file: u32, line: &[u8]) -> R
     }
 }
 
-/// Keeps the mark of a file that has none yet, of which so many entries have come and which may end so, and says
-/// whether it is kept.
+/// Keeps the mark of a file that has none yet and of which so many entries have come, and says whether it is kept.
 pub(crate) fn keep_mark(waiting: &mut Vec<Waiting>, file: u32, count: u32, mark: Mark) -> bool
     requires { file < length waiting.old.items }
     ensures count { length waiting.new.items ≡ length waiting.old.items }
     ensures kept { IsTrue result → ChangesAt file (GetsMark count mark) waiting.old.items waiting.new.items }
 {
     let here = &mut waiting[file as usize];
-    if here.mark.is_some() || here.count != count || !may_end(mark, here.count) {
+    if here.mark.is_some() || here.count != count {
         return false;
     }
     here.mark = Some(mark);
     true
-}
-
-/// Whether some file of so many records has this mark.
-fn may_end(mark: Mark, count: u32) -> bool
-    ensures { IsTrue result → MayEnd mark count }
-{
-    match mark {
-        Mark::Io | Mark::Ended(Ending::Complete) | Mark::Ended(Ending::Memory) => true,
-        Mark::Ended(Ending::Header) => count == 0,
-        Mark::Ended(Ending::Many) => count == MAX_RECORDS,
-        Mark::Ended(Ending::Truncated)
-        | Mark::Ended(Ending::Large)
-        | Mark::Ended(Ending::Oversize) => count != MAX_RECORDS,
-    }
 }
 
 /// Takes the lines of a file out, so that none of them wait.

@@ -30,7 +30,7 @@ returns-in-Ok-finish-clause-written g c =
     (subst (λ f. IsAllWritten c.args.choice meaning f (files_of texts.lines) (taken texts.start.value) (taken c.finish.new.self.0) c.in-Ok-finish.status) form all)))
 
 pub returns-in_default-clause-begun : goal.returns-in_default-clause-begun
-returns-in_default-clause-begun g c = begun_none c.args.choice g.J.Told.meaning c.args.form c.args.files (g.S.Sink.taken c.args.sink.now)
+returns-in_default-clause-begun g c = begun_none c.args.choice (g.O.Opener.meaning c.args.opener.now) c.args.form c.args.files (g.S.Sink.taken c.args.sink.now)
 
 pub returns-in-Err-finish-clause-begun : goal.returns-in-Err-finish-clause-begun
 returns-in-Err-finish-clause-begun g c =
@@ -46,9 +46,10 @@ returns-in-Err-finish-clause-begun g c =
     let files : files_of texts.lines ≡ c.args.files = stays.2.files ∙ ap files_of c.new-texts.ensures.lines ∙ c.in-Ok.ensures.files in
     let start : texts.start.value ≡ c.args.sink.now = sym stays.1 ∙ c.new-texts.ensures.start in
     let left = c.in-Err-finish.ensures.broken g.J.Told.meaning told.0 told.1.1 in
-    subst (λ s. ∥ IsBegun c.args.choice g.J.Told.meaning c.args.form c.args.files (taken c.args.sink.now) (taken s) ∥₁) (search rules)
-    (subst (λ b. ∥ IsBegun c.args.choice g.J.Told.meaning c.args.form c.args.files (taken b) (taken c.finish.new.self.0) ∥₁) start
-    (begun_lines c.args.choice g.J.Told.meaning c.args.form c.args.files (taken texts.start.value) (taken c.finish.new.self.0) texts.lines choice form files left))
+    subst (λ s. ∥ IsBegun c.args.choice (g.O.Opener.meaning c.args.opener.now) c.args.form c.args.files (taken c.args.sink.now) (taken s) ∥₁) (search rules)
+    (subst (λ b. ∥ IsBegun c.args.choice (g.O.Opener.meaning c.args.opener.now) c.args.form c.args.files (taken b) (taken c.finish.new.self.0) ∥₁) start
+    (subst (λ m. ∥ IsBegun c.args.choice m c.args.form c.args.files (taken texts.start.value) (taken c.finish.new.self.0) ∥₁) c.requires.told
+    (begun_lines c.args.choice g.J.Told.meaning c.args.form c.args.files (taken texts.start.value) (taken c.finish.new.self.0) texts.lines choice form files left)))
 
 pub returns-in-Err-clause-begun : goal.returns-in-Err-clause-begun
 returns-in-Err-clause-begun g c =
@@ -64,7 +65,8 @@ returns-in-Err-clause-begun g c =
     let start : texts.start.value ≡ c.args.sink.now = sym stays.1 ∙ c.new-texts.ensures.start in
     let left : LinesLeaveOff g.J.Told.meaning (taken texts.start.value) (taken texts.sink.now) texts.lines =
     ended_with gave_up holds c.in-Err.fault (λ refusal gave. gave.1) (λ ns held. left_off_held g.J.Told.meaning (taken texts.start.value) (taken texts.sink.now) texts.lines ns held.1) ended in
-    subst (λ s. ∥ IsBegun c.args.choice g.J.Told.meaning c.args.form c.args.files (taken c.args.sink.now) (taken s) ∥₁) (search rules)
-    (subst (λ s. ∥ IsBegun c.args.choice g.J.Told.meaning c.args.form c.args.files (taken c.args.sink.now) (taken s) ∥₁) (sym c.let_go.ensures)
-    (subst (λ b. ∥ IsBegun c.args.choice g.J.Told.meaning c.args.form c.args.files (taken b) (taken texts.sink.now) ∥₁) start
-    (begun_lines c.args.choice g.J.Told.meaning c.args.form c.args.files (taken texts.start.value) (taken texts.sink.now) texts.lines choice form files left)))
+    subst (λ s. ∥ IsBegun c.args.choice (g.O.Opener.meaning c.args.opener.now) c.args.form c.args.files (taken c.args.sink.now) (taken s) ∥₁) (search rules)
+    (subst (λ s. ∥ IsBegun c.args.choice (g.O.Opener.meaning c.args.opener.now) c.args.form c.args.files (taken c.args.sink.now) (taken s) ∥₁) (sym c.let_go.ensures)
+    (subst (λ b. ∥ IsBegun c.args.choice (g.O.Opener.meaning c.args.opener.now) c.args.form c.args.files (taken b) (taken texts.sink.now) ∥₁) start
+    (subst (λ m. ∥ IsBegun c.args.choice m c.args.form c.args.files (taken texts.start.value) (taken texts.sink.now) ∥₁) c.requires.told
+    (begun_lines c.args.choice g.J.Told.meaning c.args.form c.args.files (taken texts.start.value) (taken texts.sink.now) texts.lines choice form files left))))

@@ -27,7 +27,7 @@ returns-clause-held g c =
     let mark_is : c.args.known.mark ≡ c.args.mark = search rules in
     ok_both c.advance.result c.advance.ensures.written c.advance.ensures.unended (λ moves unended start ns held.
     held_end g.J.Told.meaning start old (g.S.Sink.taken c.advance.new.sink) before mid after ns file c.args.mark c.advance.ensures.same (record { form = refl; choice = refl; files = kept.count })
-    below (λ other. (kept.here other).unmarked) (λ other. (kept.here other).fits) (λ other. end_as g.J.Told.meaning c.args.known.file file _ c.args.known.count c.args.known.mark c.args.mark file_is (kept.here other).counted mark_is c.args.known.is_end) from c.is_whole_with-self.ensures c.advance.ensures.whole
+    below (λ other. (kept.here other).unmarked) (λ other. end_as g.J.Told.meaning c.args.known.file file _ c.args.known.count c.args.known.mark c.args.mark file_is (kept.here other).counted mark_is c.args.known.is_end) from c.is_whole_with-self.ensures c.advance.ensures.whole
     (λ came next more was. written_marked before.form start old before.buffer file before.front before.waiting.items waiting.items came next c.args.known.count c.args.mark below from more kept was)
     (moves start) unended held)
 
@@ -46,7 +46,7 @@ returns-clause-broken g c =
     let mark_is : c.args.known.mark ≡ c.args.mark = search rules in
     err_then c.advance.result c.advance.ensures.broken (λ broken start ns held.
     left_off_end g.J.Told.meaning start old (g.S.Sink.taken c.advance.new.sink) before mid after ns file c.args.mark c.advance.ensures.same (record { form = refl; choice = refl; files = kept.count })
-    below (λ other. (kept.here other).fits) (λ other. end_as g.J.Told.meaning c.args.known.file file _ c.args.known.count c.args.known.mark c.args.mark file_is (kept.here other).counted mark_is c.args.known.is_end) from
+    below (λ other. end_as g.J.Told.meaning c.args.known.file file _ c.args.known.count c.args.known.mark c.args.mark file_is (kept.here other).counted mark_is c.args.known.is_end) from
     (λ came next more was. written_marked before.form start old before.buffer file before.front before.waiting.items waiting.items came next c.args.known.count c.args.mark below from more kept was)
     (broken start) held)
 
