@@ -141,9 +141,8 @@ fn shelf_of<O: Opener>(
 }
 
 /// An end with this mark and so many records, all of which were kept.
-fn ended(mark: Mark, kept: usize) -> Option<(Result<SourceEnd, AllocError>, usize)> {
-    let count = kept as u32;
-    Some((Ok(SourceEnd { count, mark }), kept))
+fn ended(mark: Mark, count: u32) -> Option<(Result<SourceEnd, AllocError>, usize)> {
+    Some((Ok(SourceEnd { count, mark }), count as usize))
 }
 
 #[test]
@@ -167,7 +166,7 @@ fn check_breaking<R: AllocGlobal + Abort>(
     rt: &R,
     bytes: &'static [u8],
     fails_at: Option<u32>,
-    found: (Mark, usize),
+    found: (Mark, u32),
     reads: u32,
 ) {
     let opener = Breaking {
