@@ -2,9 +2,10 @@
 
 ghost use Rattle.std.specs.Prelude.{IfOk};
 ghost use Rattle.ortho_rep.specs.Representation.{IsShape};
+ghost use Rattle.compact.specs.Ordered.{AreHeadingsOf};
 ghost use Rattle.entries.specs.Drawn.{IsDrawn};
 
-use compact::{BoxesScratch, CompactFault, compact_in, dissect_in};
+use compact::{BoxesScratch, CompactFault, compact_in, dissect_along};
 use drawing_check::{CheckFault, Drawing, check_in};
 use entries::Cause;
 use faces::Plane;
@@ -30,17 +31,19 @@ impl DrawScratch {
     }
 }
 
-/// Points that draw the shape, or why there are none.
+/// Points that draw the shape, whose darts run in these directions, or why there are none.
 pub(crate) fn draw(
     alloc: Global,
     scratch: &mut DrawScratch,
     plane: &Plane,
     shape: &Shape,
+    headings: &[u8],
 ) -> Result<Result<Drawing, Cause>, AllocError>
-    requires { IsShape plane.now shape.now }
+    requires shape { IsShape plane.now shape.now }
+    requires headings { AreHeadingsOf plane.now shape.now headings.now }
     ensures { IfOk result (IsDrawn plane.now shape.now) }
 {
-    let boxes = dissect_in(alloc, &mut scratch.boxes, plane, shape)?;
+    let boxes = dissect_along(alloc, &mut scratch.boxes, plane, shape, headings)?;
     let points = match compact_in(alloc, &mut scratch.points, &boxes) {
         Ok(points) => points,
         Err(CompactFault::Wide) => return Ok(Err(Cause::Wide)),

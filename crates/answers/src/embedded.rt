@@ -3,12 +3,12 @@
 ghost use Rattle.answers.specs.Steps.{IsEmbedded};
 
 use crate::fault::LayoutFault;
+use crate::laying::LayScratch;
 use crate::shaped::Shaped;
 use crate::stages::shape;
 use choices::Choice;
 use faces::Plane;
 use lanes::{Numbered, Stage, Staged};
-use ortho_rep::Scratch;
 use planar_code::Record;
 use std::alloc::Global;
 
@@ -41,15 +41,15 @@ impl Numbered for Embedded {
 impl Staged for Embedded {
     type Next = Shaped;
 
-    type Scratch = Scratch;
+    type Scratch = LayScratch;
 
     const STAGE: Stage = Stage::Shape;
 
-    fn scratch(alloc: Global) -> Scratch {
-        Scratch::empty(alloc)
+    fn scratch(alloc: Global) -> LayScratch {
+        LayScratch::empty(alloc)
     }
 
-    fn next(self, alloc: Global, scratch: &mut Scratch) -> Shaped {
+    fn next(self, alloc: Global, scratch: &mut LayScratch) -> Shaped {
         Shaped {
             file: self.file,
             ordinal: self.ordinal,

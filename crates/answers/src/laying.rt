@@ -3,40 +3,65 @@
 ghost use Rattle.std.specs.Prelude.{ℕ, List, IfOk, OnOk};
 ghost use Rattle.ortho_rep.specs.Representation.{IsShape, IsLeast};
 ghost use Rattle.ortho_rep.specs.Prices.{IsProof};
+ghost use Rattle.compact.specs.Ordered.{AreHeadingsOf};
 ghost use Rattle.answers.specs.Steps.{IsTracedPlane, IsPlaneOf};
 
 use crate::layout::Layout;
 use choices::Choice;
+use compact::{Search, headings_in};
 use faces::Plane;
-use ortho_rep::{Prices, Scratch, Shape, best_shape, least_shape_in};
+use ortho_rep::{Prices, Shape, best_shape, least_shape_in};
 use std::alloc::{AllocError, Global};
+use std::mem;
+
+/// What laying out takes memory for and does not keep. It is lent to one plane after another.
+#[derive(Drop)]
+pub struct LayScratch {
+    shapes: ortho_rep::Scratch,
+    search: Search,
+}
+
+impl LayScratch {
+    /// No memory yet.
+    pub fn empty(alloc: Global) -> LayScratch {
+        LayScratch {
+            shapes: ortho_rep::Scratch::empty(alloc),
+            search: Search::empty(alloc),
+        }
+    }
+}
 
 /// A layout of the plane, whose outer face is then the chosen one.
+///
+/// The directions of the darts are found here, and not where the shape is drawn, since drawing takes
+/// longest of all stages.
 ///
 /// # Errors
 ///
 /// `AllocError` where there is no memory for it; the plane is dropped then.
 pub(crate) fn lay(
     alloc: Global,
-    scratch: &mut Scratch,
+    scratch: &mut LayScratch,
     mut plane: Plane,
     choice: Choice,
 ) -> Result<Layout, AllocError>
     ensures { IfOk result (λ layout. (bytes : List ℕ)
         → IsTracedPlane bytes plane → IsPlaneOf choice bytes layout.plane) }
 {
-    let (shape, prices) = shape_of(alloc, scratch, &mut plane, choice)?;
+    let (shape, prices) = shape_of(alloc, &mut scratch.shapes, &mut plane, choice)?;
+    let headings = headings_of(alloc, &mut scratch.search, &plane, &shape)?;
     Ok(Layout {
         plane,
         shape,
         prices,
+        headings,
     })
 }
 
 /// A least shape of the plane, whose outer face is then the chosen one, and prices that prove it least.
 fn shape_of(
     alloc: Global,
-    scratch: &mut Scratch,
+    scratch: &mut ortho_rep::Scratch,
     plane: &mut Plane,
     choice: Choice,
 ) -> Result<(Shape, Prices), AllocError>
@@ -53,4 +78,21 @@ fn shape_of(
     // Only the proof needs this: `graph` says that the plane still is one.
     let _graph = plane.graph();
     Ok(found)
+}
+
+/// The directions of the darts of a plane that is drawn by the shape.
+fn headings_of(
+    alloc: Global,
+    scratch: &mut Search,
+    plane: &Plane,
+    shape: &Shape,
+) -> Result<Vec<u8>, AllocError>
+    requires { IsShape plane.now shape.now }
+    ensures { IfOk result (λ headings. AreHeadingsOf plane.now shape.now headings.items) }
+{
+    let lent = mem::replace(scratch, Search::empty(alloc));
+    let search = headings_in(plane, shape, lent)?;
+    let headings = search.headings.to_vec(alloc)?;
+    *scratch = search;
+    Ok(headings)
 }

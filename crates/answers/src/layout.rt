@@ -2,18 +2,22 @@
 
 ghost use Rattle.ortho_rep.specs.Representation.{IsShape, IsLeast};
 ghost use Rattle.ortho_rep.specs.Prices.{IsProof};
+ghost use Rattle.compact.specs.Ordered.{AreHeadingsOf};
 ghost use Rattle.std.proofs.Props.{props};
 
 use faces::Plane;
 use ortho_rep::{Prices, Shape};
 
-/// A plane, an orthogonal representation of it with the fewest bends, and prices that prove so.
+/// A plane, an orthogonal representation of it with the fewest bends, prices that prove so, and the
+/// direction in which each of its darts arrives there, in quarter turns to the left from east.
 #[derive(Drop)]
 pub struct Layout {
     pub plane: Plane,
     pub shape: Shape,
     pub prices: Prices,
+    pub headings: Vec<u8>,
     pub ghost shape_is: { IsShape plane shape } by { Prim.hlevel props },
     pub ghost least: { IsLeast plane shape } by { Prim.hlevel props },
     pub ghost proof: { IsProof plane shape prices } by { Prim.hlevel props },
+    pub ghost headed: { AreHeadingsOf plane shape headings.items } by { Prim.hlevel props },
 }

@@ -17,6 +17,7 @@ pub use embedded::Embedded;
 pub use entries::{Answer, Cause, Entry};
 pub use fault::LayoutFault;
 pub use framed::Framed;
+pub use laying::LayScratch;
 pub use layout::Layout;
 pub use shaped::Shaped;
 pub use stages::answer;

@@ -7,13 +7,12 @@ ghost use Rattle.entries.specs.Answers.{Answers};
 
 use crate::drawing::{DrawScratch, draw};
 use crate::fault::LayoutFault;
-use crate::laying::lay;
+use crate::laying::{LayScratch, lay};
 use crate::layout::Layout;
 use choices::Choice;
 use embedding::{Graph, ReadFault, Rule};
 use entries::{Answer, Entry};
 use faces::{Plane, TraceFault};
-use ortho_rep::Scratch;
 use planar_code::Record;
 use std::alloc::{AllocError, Global};
 
@@ -36,7 +35,7 @@ pub(crate) fn embed(alloc: Global, rec: &Record) -> Result<Plane, LayoutFault>
 /// A layout of a record's plane with the chosen outer face, or why there is none.
 pub(crate) fn shape(
     alloc: Global,
-    scratch: &mut Scratch,
+    scratch: &mut LayScratch,
     plane: Result<Plane, LayoutFault>,
     choice: Choice,
 ) -> Result<Layout, LayoutFault>
@@ -60,12 +59,13 @@ pub(crate) fn answer_with(
         plane,
         shape,
         prices,
+        headings,
     } = match layout {
         Ok(layout) => layout,
         Err(LayoutFault::Rule(rule)) => return Answer::Refused(rule),
         Err(LayoutFault::Memory) => return Answer::NoMemory,
     };
-    match draw(alloc, scratch, &plane, &shape) {
+    match draw(alloc, scratch, &plane, &shape, &headings) {
         Ok(drawing) => Answer::Laid {
             plane,
             shape,
@@ -87,9 +87,9 @@ pub fn answer(alloc: Global, file: u32, ordinal: u32, rec: Record, choice: Choic
     ensures answered { Answers choice rec result.answer }
 {
     let plane = embed(alloc, &rec);
-    let mut scratch = Scratch::empty(alloc);
+    let mut lay_scratch = LayScratch::empty(alloc);
     let mut draw_scratch = DrawScratch::empty(alloc);
-    let layout = shape(alloc, &mut scratch, plane, choice);
+    let layout = shape(alloc, &mut lay_scratch, plane, choice);
     Entry {
         file,
         ordinal,

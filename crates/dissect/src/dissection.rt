@@ -3,11 +3,12 @@
 ghost use Rattle.std.specs.Prelude.{IfOk};
 ghost use Rattle.ortho_rep.specs.Representation.{IsShape};
 ghost use Rattle.dissect.specs.Boxed.{IsBoxed};
+ghost use Rattle.dissect.specs.Headed.{AreHeadingsOf};
 
 use crate::boxes::Boxes;
 use crate::parts::{lesser_darts_of, paths_of};
 use crate::scratch::Scratch;
-use bending::{bend_into, headings_in};
+use bending::{Search, bend_into, headings_in};
 use enclosing::enclose_in;
 use faces::Plane;
 use ortho_rep::Shape;
@@ -47,6 +48,29 @@ pub fn dissect_in(
     requires { IsShape plane.now shape.now }
     ensures { IfOk result (IsBoxed plane.now shape.now) }
 {
+    let lent = mem::replace(&mut scratch.search, Search::empty(alloc));
+    let search = headings_in(plane, shape, lent)?;
+    let boxes = dissect_along(alloc, scratch, plane, shape, &search.headings)?;
+    scratch.search = search;
+    Ok(boxes)
+}
+
+/// The same where the directions of the plane's darts are known, as `headings_in` finds them.
+///
+/// # Errors
+///
+/// `AllocError` where there is no memory for the boxes, and no other; the memory that was lent is then gone.
+pub fn dissect_along(
+    alloc: Global,
+    scratch: &mut Scratch,
+    plane: &Plane,
+    shape: &Shape,
+    headings: &[u8],
+) -> Result<Boxes, AllocError>
+    requires shape { IsShape plane.now shape.now }
+    requires headings { AreHeadingsOf plane.now shape.now headings.now }
+    ensures { IfOk result (IsBoxed plane.now shape.now) }
+{
     let Scratch {
         table,
         search,
@@ -56,8 +80,7 @@ pub fn dissect_in(
         starts,
     } = mem::replace(scratch, Scratch::empty(alloc));
     let edges = lesser_darts_of(plane, edges)?;
-    let search = headings_in(plane, shape, search)?;
-    let mut table = bend_into(table, plane, shape, &search.headings)?;
+    let mut table = bend_into(table, plane, shape, headings)?;
     let outside = plane.least_dart(plane.outer());
     let faces = enclose_in(&mut table, u32::from(outside), faces)?;
     let old = plane.graph().vertices();

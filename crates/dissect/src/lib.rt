@@ -6,6 +6,7 @@ mod dissection;
 mod parts;
 mod scratch;
 
+pub use bending::{Search, headings_in};
 pub use boxes::Boxes;
-pub use dissection::{dissect, dissect_in};
+pub use dissection::{dissect, dissect_along, dissect_in};
 pub use scratch::Scratch;

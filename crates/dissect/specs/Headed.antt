@@ -1,0 +1,10 @@
+-- The directions of all darts of a plane, in one list.
+use Rattle.std.specs.Prelude.{◌≡◌, ℕ, List, length, slice_index}
+use Rattle.faces.specs.Planes.{PlaneModel, darts}
+use Rattle.ortho_rep.specs.Shapes.{ShapeModel, angle_at, turns_at}
+use Rattle.bending.specs.Bends.{AreHeadings}
+
+-- the list has for each dart of the plane the direction in which it arrives, where the plane is drawn by the shape
+pub record AreHeadingsOf (p : PlaneModel) (shape : ShapeModel) (headings : List ℕ) : Type 0 where
+  pub count : length headings ≡ darts p
+  pub each : AreHeadings p (angle_at shape) (turns_at shape) (λ d. slice_index headings d)
