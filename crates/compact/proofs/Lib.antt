@@ -4,3 +4,4 @@ pub mod Walking
 pub mod Numbers
 pub mod Placing
 pub mod Stepping
+pub mod OneWay

@@ -7,7 +7,8 @@ use Rattle.cutting.specs.Webs.{Web, IsSound}
 use Rattle.compact.specs.declared.axis.Axis.{Axis}
 use Rattle.compact.specs.declared.axis.Axis.TheVariants.{X, Y}
 use Rattle.compact.specs.Ordered.{tail, growth, IsAlong}
-use Rattle.compact.specs.Steps.{step, AreSteps, Grow, StayLevel, AreVertices, AreLevelIn, AreRows, AreUnder, StayUnder}
+use Rattle.compact.specs.Steps.{step, AreSteps, HasSteps, Grow, StayLevel, AreVertices, AreLevelIn, AreRows, AreUnder, StayUnder}
+use Rattle.compact.proofs.OneWay.{one_leaves}
 
 -- a number raised to one that is not above y stays under y
 pub raised_under : (xs new : List ℕ) (n to need : ℕ) (y : ℕ → ℕ) → to < length xs → new ≡ set xs to need → need ≤ y to → AreUnder n xs y → AreUnder n new y
@@ -94,6 +95,24 @@ step_written w a around new n place to a_in few here there is made are v d v_in 
           (b, b_in, b_way, b_from, b_to ∙ sym value)
     ]
 
+-- and writes over no other one's, as no other dart leaves its vertex in its direction
+pub step_kept : (w : Web) (a : ℕ) (around new : List ℕ) (place to : ℕ) → IsSound w → a < w.darts → place ≡ 4 * tail w a + w.direction a →
+    place < length around → to ≡ w.head a → new ≡ set around place to → HasSteps w around a → HasSteps w new (a + 1)
+step_kept w a around new place to sound a_in here there is made has b below =
+    let at : ℕ = 4 * tail w b + w.direction b in
+    elim (cases_eq b a) [
+      | inl same ↦
+          let value : slice_index new place ≡ to = ap (λ (zs : List ℕ). slice_index zs place) made ∙ get_or-set_same around place to 0 there in
+          subst (λ (c : ℕ). step new (w.direction c) (tail w c) ≡ w.head c) (sym same)
+          (subst (λ (k : ℕ). slice_index new k ≡ w.head a) here (value ∙ is))
+      | inr other ↦
+          let b_in : b < w.darts = omega (arith, below, a_in) in
+          let few_a = sound.meeting.quarter a a_in in
+          let few_b = sound.meeting.quarter b b_in in
+          let apart : at ≢ place = λ e. other (one_leaves w b a sound b_in a_in (omega (arith, e, here, few_a, few_b)) (omega (arith, e, here, few_a, few_b))) in
+          ap (λ (zs : List ℕ). slice_index zs at) made ∙ get_or-set_other around place at to 0 apart ∙ has b (omega (arith, below, other))
+    ]
+
 -- numbers in the order of the darts along an axis grow by 1 along its direction
 pub grow_ahead : (w : Web) (k : ℕ) (around : List ℕ) (n : ℕ) (y : ℕ → ℕ) → k < 4 → AreSteps w around n → IsAlong w k y → Grow (step around k) n y
 grow_ahead w k around n y k_in are along v v_in real =
@@ -116,33 +135,63 @@ pub growth_few : (axis : Axis) → growth axis < 2
 growth_few X = omega arith
 growth_few Y = omega arith
 
--- what the first darts say of numbers along an axis
-pub record IsAlongTo (w : Web) (k darts : ℕ) (x : ℕ → ℕ) : Type 0 where
-  pub forward : (a : ℕ) → a < darts → w.direction a ≡ k → x (tail w a) + 1 ≤ x (w.head a)
-  pub across : (a : ℕ) → a < darts → w.direction a ≢ k → w.direction a ≢ k + 2 → x (tail w a) ≤ x (w.head a)
+-- numbers that grow along the steps in one direction of an axis, and stay the same along those across it, are in
+-- the order of all darts: the other darts go back along these steps
+pub along_steps : (w : Web) (k d : ℕ) (around : List ℕ) (x : ℕ → ℕ) → IsSound w → k < 2 → k + d ≡ 1 →
+    HasSteps w around w.darts → Grow (step around k) w.vertices x → StayLevel (step around d) w.vertices x → IsAlong w k x
+along_steps w k d around x sound k_in other has grow level =
+    let head_in = sound.meeting.head_in in
+    let reverse_in = sound.linked.reverse_dart_in in
+    let to : (e a : ℕ) → a < w.darts → w.direction a ≡ e → step around e (tail w a) ≡ w.head a =
+    λ e a a_in way. subst (λ (m : ℕ). step around m (tail w a) ≡ w.head a) way (has a a_in) in
+    let from_in : (a : ℕ) → a < w.darts → tail w a < w.vertices = λ a a_in. head_in (w.reverse_dart a) (reverse_in a a_in) in
+    let to_in : (e a : ℕ) → a < w.darts → w.direction a ≡ e → step around e (tail w a) < w.vertices =
+    λ e a a_in way. omega (arith, to e a a_in way, head_in a a_in) in
+    let beside : (a : ℕ) → a < w.darts → w.direction a ≡ d → x (w.head a) ≡ x (tail w a) =
+    λ a a_in way. ap x (sym (to d a a_in way)) ∙ level (tail w a) (from_in a a_in) (to_in d a a_in way) in
+    record {
+      forward = λ a a_in way. omega (arith, grow (tail w a) (from_in a a_in) (to_in k a a_in way), ap x (to k a a_in way));
+      across = λ a a_in one two. elim (cases_eq (w.direction a) d) [
+        | inl way ↦ omega (arith, beside a a_in way)
+        | inr turned ↦
+            let b = w.reverse_dart a in
+            let b_in : b < w.darts = reverse_in a a_in in
+            let way : w.direction b ≡ d = omega (arith, sound.straight a a_in, sound.meeting.quarter a a_in, turned, one, two, k_in, other) in
+            let tail_b : tail w b ≡ w.head a = ap w.head (sound.linked.reverse_dart_back a a_in) in
+            omega (arith, beside b b_in way, ap x tail_b)
+      ];
+    }
 
--- one dart more
-pub along_next : (w : Web) (k d : ℕ) (x : ℕ → ℕ) →
-    (w.direction d ≡ k → x (tail w d) + 1 ≤ x (w.head d)) → (w.direction d ≢ k → w.direction d ≢ k + 2 → x (tail w d) ≤ x (w.head d)) →
-    IsAlongTo w k d x → IsAlongTo w k (d + 1) x
-along_next w k d x ahead beside so_far = record {
-  forward = λ a below way. elim (cases_eq a d) [
-    | inl same ↦ subst (λ (b : ℕ). x (tail w b) + 1 ≤ x (w.head b)) (sym same) (ahead (subst (λ (b : ℕ). w.direction b ≡ k) same way))
-    | inr other ↦ so_far.forward a (omega (arith, below, other)) way
-  ];
-  across = λ a below one two. elim (cases_eq a d) [
-    | inl same ↦ subst (λ (b : ℕ). x (tail w b) ≤ x (w.head b)) (sym same)
-        (beside (λ e. one (subst (λ (b : ℕ). w.direction b ≡ k) (sym same) e)) (λ e. two (subst (λ (b : ℕ). w.direction b ≡ k + 2) (sym same) e)))
-    | inr other ↦ so_far.across a (omega (arith, below, other)) one two
-  ];
-}
+-- the steps in this direction from the first vertices keep the order: the numbers along it grow, those across it stay
+pub record AreKeptTo (around : List ℕ) (d vertices : ℕ) (along across : List ℕ) : Type 0 where
+  pub grows : (v : ℕ) → v < vertices → step around d v < length along → slice_index along v + 1 ≤ slice_index along (step around d v)
+  pub level : (v : ℕ) → v < vertices → step around d v < length along → slice_index across (step around d v) ≡ slice_index across v
 
--- with all darts
-pub along_all : (w : Web) (k : ℕ) (x : ℕ → ℕ) → IsAlongTo w k w.darts x → IsAlong w k x
-along_all w k x so_far = record {
-  forward = so_far.forward;
-  across = so_far.across;
-}
+-- with one vertex more
+pub kept_next : (around : List ℕ) (d v to : ℕ) (along across : List ℕ) → to ≡ step around d v →
+    (to < length along → slice_index along v + 1 ≤ slice_index along to) → (to < length along → slice_index across to ≡ slice_index across v) →
+    AreKeptTo around d v along across → AreKeptTo around d (v + 1) along across
+kept_next around d v to along across is grows level so_far =
+    let grows_here = subst (λ (u : ℕ). u < length along → slice_index along v + 1 ≤ slice_index along u) is grows in
+    let level_here = subst (λ (u : ℕ). u < length along → slice_index across u ≡ slice_index across v) is level in
+    record {
+      grows = λ u below. elim (cases_eq u v) [
+        | inl same ↦ subst (λ (t : ℕ). step around d t < length along → slice_index along t + 1 ≤ slice_index along (step around d t)) (sym same) grows_here
+        | inr other ↦ so_far.grows u (omega (arith, below, other))
+      ];
+      level = λ u below. elim (cases_eq u v) [
+        | inl same ↦ subst (λ (t : ℕ). step around d t < length along → slice_index across (step around d t) ≡ slice_index across t) (sym same) level_here
+        | inr other ↦ so_far.level u (omega (arith, below, other))
+      ];
+    }
+
+-- with all of them, the numbers are in the order of the darts
+pub kept_along : (w : Web) (k d : ℕ) (around x y : List ℕ) → IsSound w → length x ≡ w.vertices → length y ≡ w.vertices → k < 2 → k + d ≡ 1 →
+    HasSteps w around w.darts → AreKeptTo around k w.vertices x y → AreKeptTo around d w.vertices y x → IsAlong w k (λ v. slice_index x v)
+kept_along w k d around x y sound x_all y_all k_in other has ahead beside =
+    along_steps w k d around (λ v. slice_index x v) sound k_in other has
+    (λ v v_in real. ahead.grows v v_in (omega (arith, real, x_all)))
+    (λ v v_in real. beside.level v v_in (omega (arith, real, y_all)))
 
 -- zeros are nowhere above any numbers
 pub zeros_under : (xs : List ℕ) (m n : ℕ) (y : ℕ → ℕ) → xs ≡ replicate m 0 → length xs ≡ n → AreUnder n xs y

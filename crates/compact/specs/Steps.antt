@@ -12,6 +12,10 @@ abbrev pub AreSteps : Web → List ℕ → ℕ → Type 0
 AreSteps w around n = (v d : ℕ) → v < n → d < 4 → step around d v < n
     → (a : ℕ) × (a < w.darts) × (w.direction a ≡ d) × (tail w a ≡ v) × (w.head a ≡ step around d v)
 
+-- each of the first darts is a step: in its direction, from the vertex that it leaves to the one that it comes to
+abbrev pub HasSteps : Web → List ℕ → ℕ → Type 0
+HasSteps w around darts = (a : ℕ) → a < darts → step around (w.direction a) (tail w a) ≡ w.head a
+
 -- the numbers y grow by 1 or more along each of the steps
 abbrev pub Grow : (ℕ → ℕ) → ℕ → (ℕ → ℕ) → Type 0
 Grow next n y = (v : ℕ) → v < n → next v < n → y v + 1 ≤ y (next v)

@@ -3,7 +3,7 @@
 ghost use Rattle.std.specs.Prelude.{◌≡◌, ◌≢◌, ◌+◌, ◌*◌, length, slice_index, Some, None, IsTrue, IfOk, IfErr, OnOk, ℕ, ◌<◌, ◌≤◌};
 ghost use Rattle.ortho_rep.specs.declared.points.TheConstants.{MAX_COORDINATE};
 ghost use Rattle.compact.specs.Ordered.{IsAlong, AreAlong, AreLeast, IsAcross, IsAxisFault, IsCompactFault, growth};
-ghost use Rattle.compact.specs.Steps.{AreSteps, AreUnder};
+ghost use Rattle.compact.specs.Steps.{AreSteps, HasSteps, AreUnder};
 ghost use Rattle.cutting.specs.Webs.{IsSound};
 ghost use Rattle.directions.specs.Directions.{quarters};
 ghost use Rattle.dissect.specs.Boxes.{web};
@@ -13,7 +13,6 @@ use crate::fault::CompactFault;
 use crate::rows::{RowQueue, Steps, raise_rows};
 use directions::Direction;
 use dissect::Boxes;
-use ortho_rep::MAX_COORDINATE;
 use reuse::filled;
 use std::alloc::AllocError;
 
@@ -24,16 +23,6 @@ pub enum Axis {
     X,
     /// y, which grows to the north.
     Y,
-}
-
-/// The direction in which an axis grows, in quarter turns from east.
-fn growth_of(axis: Axis) -> u8
-    ensures { result ≡ growth axis }
-{
-    match axis {
-        Axis::X => 0,
-        Axis::Y => 1,
-    }
 }
 
 /// How much the number of a dart's head is at least above that of its tail, for darts of this direction.
@@ -71,23 +60,29 @@ fn constraints_along(
     Ok(())
 }
 
-/// Whether these numbers of a dart's tail and head are in the order that its direction asks for. So they are
-/// for a dart against the axis, whose reverse is asked.
+/// Whether a step from a vertex keeps the order: the numbers along it grow, and those across it stay the
+/// same. So it does where it leads to no vertex.
 ///
-/// It compares sums, so that no branch hangs on a direction, which cannot be foreseen.
-fn is_kept(axis: Axis, direction: Direction, tail: u16, head: u16) -> bool
-    ensures forward { IsTrue result → quarters direction ≡ growth axis → tail + 1 ≤ head }
-    ensures across { IsTrue result → quarters direction ≢ growth axis → quarters direction ≢ growth axis + 2 → tail ≤ head }
+/// The vertex itself then stands in the place of the next one, so that no branch hangs on whether there is
+/// one, which cannot be foreseen.
+fn is_step_kept(along: &[u16], across: &[u16], vertex: usize, to: u32) -> bool
+    requires vertex { vertex < length along.now }
+    requires count { length across.now ≡ length along.now }
+    ensures grows { IsTrue result → to < length along.now → slice_index along.now vertex + 1 ≤ slice_index along.now to }
+    ensures level { IsTrue result → to < length along.now → slice_index across.now to ≡ slice_index across.now vertex }
 {
-    let ahead = growth_of(axis);
-    let way = direction.quarters();
-    let least = u32::from(way == ahead);
-    let spare = u32::from(way == ahead + 2) * MAX_COORDINATE;
-    u32::from(tail) + least <= u32::from(head) + spare
+    let is_there = (to as usize) < along.len();
+    let end = if is_there { to as usize } else { vertex };
+    let least = u32::from(is_there);
+    let grows = u32::from(along[vertex]) + least <= u32::from(along[end]);
+    grows & (across[vertex] == across[end])
 }
 
-/// Whether numbers are in the order of the darts along both axes. A step for each dart.
-fn are_along(boxes: &Boxes, x: &[u16], y: &[u16]) -> bool
+/// Whether numbers are in the order of the darts along both axes. `around` has the steps from each vertex:
+/// those to the east and to the north say it of all darts, since the others go back along them.
+fn are_along(boxes: &Boxes, around: &[u32], x: &[u16], y: &[u16]) -> bool
+    requires all_steps { HasSteps (web boxes.now) around.now boxes.now.darts }
+    requires around { length around.now ≡ 4 * boxes.now.vertices }
     requires x_count { length x.now ≡ boxes.now.vertices }
     requires y_count { length y.now ≡ boxes.now.vertices }
     ensures x_along { IsTrue result → IsAlong (web boxes.now) 0 (λ v. slice_index x.now v) }
@@ -95,14 +90,10 @@ fn are_along(boxes: &Boxes, x: &[u16], y: &[u16]) -> bool
     ensures x_small { (v : ℕ) → v < length x.now → slice_index x.now v ≤ MAX_COORDINATE }
     ensures y_small { (v : ℕ) → v < length y.now → slice_index y.now v ≤ MAX_COORDINATE }
 {
-    for dart in 0..boxes.darts() {
-        let direction = boxes.direction(dart);
-        let tail = boxes.tail(dart) as usize;
-        let head = boxes.head(dart) as usize;
-        if !is_kept(Axis::X, direction, x[tail], x[head]) {
-            return false;
-        }
-        if !is_kept(Axis::Y, direction, y[tail], y[head]) {
+    for vertex in 0..boxes.vertices() as usize {
+        let east = around[4 * vertex];
+        let north = around[4 * vertex + 1];
+        if !(is_step_kept(x, y, vertex, east) & is_step_kept(y, x, vertex, north)) {
             return false;
         }
     }
@@ -194,6 +185,7 @@ pub fn least_numbers(
     constraints: &mut Vec<Constraint>,
 ) -> Result<(Vec<u16>, Vec<u16>), CompactFault>
     requires steps { AreSteps (web boxes.now) around.now boxes.now.vertices }
+    requires all_steps { HasSteps (web boxes.now) around.now boxes.now.darts }
     requires around { length around.now ≡ 4 * boxes.now.vertices }
     ensures sound { IfOk result (λ _. IsSound (web boxes.now)) }
     ensures x { IfOk result (λ found. AreLeast boxes.now 0 found.0.items) }
@@ -206,7 +198,7 @@ pub fn least_numbers(
     let Ok(y) = low_along(boxes, around, Axis::Y, y, queue) else {
         return Err(CompactFault::Memory);
     };
-    if are_along(boxes, &x, &y) {
+    if are_along(boxes, around, &x, &y) {
         return Ok((x, y));
     }
     let x = match settled_along(boxes, Axis::X, x, constraints) {

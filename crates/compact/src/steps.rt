@@ -1,7 +1,7 @@
 //! Steps from each vertex to the next one in each direction.
 
 ghost use Rattle.std.specs.Prelude.{◌≡◌, ℕ, ◌*◌, ◌<◌, length, IfOk};
-ghost use Rattle.compact.specs.Steps.{AreSteps};
+ghost use Rattle.compact.specs.Steps.{AreSteps, HasSteps};
 ghost use Rattle.dissect.specs.Boxes.{web};
 
 use dissect::Boxes;
@@ -16,6 +16,7 @@ pub const NO_VERTEX: u32 = u32::MAX;
 /// lent. A step for each dart.
 pub fn steps_of(boxes: &Boxes, around: Vec<u32>) -> Result<Vec<u32>, AllocError>
     ensures steps { IfOk result (λ around. AreSteps (web boxes.now) around.items boxes.now.vertices) }
+    ensures all_steps { IfOk result (λ around. HasSteps (web boxes.now) around.items boxes.now.darts) }
     ensures count { IfOk result (λ around. length around.items ≡ 4 * boxes.now.vertices) }
 {
     let mut around = filled(around, 4 * boxes.vertices() as usize, NO_VERTEX)?;

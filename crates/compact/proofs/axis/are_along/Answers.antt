@@ -1,42 +1,43 @@
-use Rattle.std.proofs.Common.{◌∙◌, ◌≡◌, ◌≢◌, ◌≤◌, ◌+◌, ℕ, ap, sym, refl, subst, arith, slice_index}
-use Rattle.directions.specs.Directions.{quarters}
+use Rattle.std.proofs.Common.{◌≡◌, ◌&&◌, ◌+◌, ◌*◌, ℕ, Bool, true, arith, slice_index, subst, ap, refl}
 use Rattle.dissect.specs.Boxes.{web}
-use Rattle.compact.specs.Ordered.{tail}
-use Rattle.compact.proofs.Stepping.{IsAlongTo, along_next, along_all}
+use Rattle.compact.proofs.Stepping.{AreKeptTo, kept_next, kept_along}
 use Rattle.compact.proofs.axis.are_along.Goals as goal
 
-pub loop-dart-preserved : goal.loop-dart-preserved
-loop-dart-preserved c =
-    let w = web c.args.boxes.now in
-    let d = c.loop-dart.dart in
-    let x : ℕ → ℕ = λ v. slice_index c.args.x.now v in
-    let y : ℕ → ℕ = λ v. slice_index c.args.y.now v in
-    let way : quarters c.direction-direction.result ≡ w.direction d = c.direction-direction.ensures.value in
-    let from = c.tail-tail.ensures.value in
-    let to = c.head-head.ensures.value in
-    let by_x = c.if-not-is_kept.ensures in
-    let by_y = c.if-not-is_kept-2.ensures in
+both : (a b : Bool) → (a && b) ≡ true → (a ≡ true) × (b ≡ true)
+both a b e = grind arith
+
+pub loop-vertex-preserved : goal.loop-vertex-preserved
+loop-vertex-preserved c =
+    let v = c.loop-vertex.vertex in
+    let around = c.args.around.now in
+    let x = c.args.x.now in
+    let y = c.args.y.now in
+    let kept = both c.is_step_kept.result c.is_step_kept-in-loop-vertex.result c.if-not-is_step_kept.false in
+    let east = c.is_step_kept.ensures in
+    let north = c.is_step_kept-in-loop-vertex.ensures in
     record {
-      x = along_next w 0 d x
-          (λ ahead. omega (arith, by_x.forward refl (way ∙ ahead), ap x from, ap x to))
-          (λ one two. omega (arith, by_x.across refl (λ e. one (sym way ∙ e)) (λ e. two (sym way ∙ e)), ap x from, ap x to))
-          c.loop-dart.invariant.x;
-      y = along_next w 1 d y
-          (λ ahead. omega (arith, by_y.forward refl (way ∙ ahead), ap y from, ap y to))
-          (λ one two. omega (arith, by_y.across refl (λ e. one (sym way ∙ e)) (λ e. two (sym way ∙ e)), ap y from, ap y to))
-          c.loop-dart.invariant.y;
+      east = kept_next around 0 v (slice_index around (4 * v)) x y (ap (λ (i : ℕ). slice_index around i) (omega arith)) (east.grows kept.0) (east.level kept.0) c.loop-vertex.invariant.east;
+      north = kept_next around 1 v (slice_index around (4 * v + 1)) y x refl (north.grows kept.1) (north.level kept.1) c.loop-vertex.invariant.north;
     }
 
 pub returns-clause-x_along : goal.returns-clause-x_along
 returns-clause-x_along c = λ _.
     let w = web c.args.boxes.now in
-    let x : ℕ → ℕ = λ v. slice_index c.args.x.now v in
-    let all : c.loop-dart.dart ≡ c.args.boxes.now.darts = omega (arith, c.loop-dart-test.false, c.loop-dart.auto.dart-end, c.darts-dart-end.ensures.value) in
-    along_all w 0 x (subst (λ (n : ℕ). IsAlongTo w 0 n x) all c.loop-dart.invariant.x)
+    let around = c.args.around.now in
+    let x = c.args.x.now in
+    let y = c.args.y.now in
+    let all : c.loop-vertex.vertex ≡ w.vertices = omega (arith, c.loop-vertex-test.false, c.loop-vertex.auto.vertex-end, c.vertices-vertex-end.ensures.value) in
+    let so_far = c.loop-vertex.invariant in
+    kept_along w 0 1 around x y c.vertices-vertex-end.ensures.boxes.sound c.requires.x_count c.requires.y_count (omega arith) (omega arith) c.requires.all_steps
+    (subst (λ n. AreKeptTo around 0 n x y) all so_far.east) (subst (λ n. AreKeptTo around 1 n y x) all so_far.north)
 
 pub returns-clause-y_along : goal.returns-clause-y_along
 returns-clause-y_along c = λ _.
     let w = web c.args.boxes.now in
-    let y : ℕ → ℕ = λ v. slice_index c.args.y.now v in
-    let all : c.loop-dart.dart ≡ c.args.boxes.now.darts = omega (arith, c.loop-dart-test.false, c.loop-dart.auto.dart-end, c.darts-dart-end.ensures.value) in
-    along_all w 1 y (subst (λ (n : ℕ). IsAlongTo w 1 n y) all c.loop-dart.invariant.y)
+    let around = c.args.around.now in
+    let x = c.args.x.now in
+    let y = c.args.y.now in
+    let all : c.loop-vertex.vertex ≡ w.vertices = omega (arith, c.loop-vertex-test.false, c.loop-vertex.auto.vertex-end, c.vertices-vertex-end.ensures.value) in
+    let so_far = c.loop-vertex.invariant in
+    kept_along w 1 0 around y x c.vertices-vertex-end.ensures.boxes.sound c.requires.y_count c.requires.x_count (omega arith) (omega arith) c.requires.all_steps
+    (subst (λ n. AreKeptTo around 1 n y x) all so_far.north) (subst (λ n. AreKeptTo around 0 n x y) all so_far.east)

@@ -1,10 +1,8 @@
-use Rattle.std.proofs.Common.{slice_index}
-use Rattle.dissect.specs.Boxes.{web}
-use Rattle.compact.proofs.Stepping.{IsAlongTo}
+use Rattle.compact.proofs.Stepping.{AreKeptTo}
 use Rattle.compact.proofs.axis.are_along.Given as goal
 
-abbrev pub invariant-loop-dart : goal.invariant-loop-dart
-invariant-loop-dart l = record {
-  x : IsAlongTo (web l.boxes) 0 l.dart (λ v. slice_index l.x v);
-  y : IsAlongTo (web l.boxes) 1 l.dart (λ v. slice_index l.y v);
+abbrev pub invariant-loop-vertex : goal.invariant-loop-vertex
+invariant-loop-vertex l = record {
+  east : AreKeptTo l.around 0 l.vertex l.x l.y;
+  north : AreKeptTo l.around 1 l.vertex l.y l.x;
 }
