@@ -145,7 +145,46 @@ fn angles_in(
 }
 
 /// The strings of a flow, in one list of turns. Along each dart the left turns come first.
+///
+/// Their places take two bytes each, so that the list of a small plane's is short. No least shape was seen that
+/// has too many turns for it.
 fn strings_in(
+    alloc: Global,
+    plane: &Plane,
+    net: &FaceNet,
+    solved: &Solved,
+) -> Result<Strings, AllocError>
+    requires net { IsNetOf plane.now net.now }
+    requires solves { Solves net.now.network solved.now }
+    ensures count { IfOk result (λ strings. length strings ≡ darts plane.now) }
+    ensures each { IfOk result (λ strings. (d : ℕ) → d < darts plane.now
+        → slice_index_or strings d [] ≡ strings_of plane.now (amounts solved.now.flow) d) }
+{
+    let graph = plane.graph();
+    let mut turns = Vec::with_capacity(alloc, 2 * count_bends(plane, net, solved))?;
+    let mut starts = Vec::with_capacity(alloc, usize::from(graph.darts()) + 1)?;
+    starts.push(0)?;
+    for dart in 0..graph.darts() {
+        push_turns(
+            &mut turns,
+            Turn::Left,
+            crossing_flow(plane, net, solved, dart),
+        )?;
+        push_turns(
+            &mut turns,
+            Turn::Right,
+            crossing_flow(plane, net, solved, graph.reverse(dart)),
+        )?;
+        let Ok(start) = u16::try_from(turns.len()) else {
+            return wide_strings(alloc, plane, net, solved);
+        };
+        starts.push(start)?;
+    }
+    Ok(Strings::narrow(turns, starts))
+}
+
+/// The same, however many turns there are.
+fn wide_strings(
     alloc: Global,
     plane: &Plane,
     net: &FaceNet,

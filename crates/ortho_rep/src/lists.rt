@@ -67,6 +67,61 @@ fn piece<'a, T>(items: &'a [T], starts: &[usize], i: usize) -> &'a [T]
     &items[start..end]
 }
 
+/// Lists of items that stand in one list, where each place is told in two bytes. In contracts it is the list of
+/// these lists.
+#[derive(Debug, Drop)]
+pub(crate) struct NarrowLists<T> {
+    items: Vec<T>,
+    starts: Vec<u16>,
+}
+
+impl<T> Model for NarrowLists<T> {
+    ghost use Rattle.std.specs.Prelude.{List};
+    ghost use Rattle.ortho_rep.specs.Storage.{cut, IsCut};
+
+    ghost Value = { List (List T) };
+
+    ghost view = { λ a. cut a.starts.items a.items.items };
+
+    ghost invariant = { λ a. IsCut a.starts.items a.items.items };
+}
+
+impl<T> NarrowLists<T> {
+    /// The pieces between places that follow one another in one list of items.
+    pub(crate) fn new(items: Vec<T>, starts: Vec<u16>) -> NarrowLists<T>
+        requires { IsCut starts.items items.items }
+        ensures { result ≡ cut starts.items items.items }
+    {
+        NarrowLists { items, starts }
+    }
+
+    /// How many lists there are.
+    pub(crate) fn len(&self) -> usize
+        ensures { result ≡ length self.now }
+    {
+        self.starts.len() - 1
+    }
+
+    /// List i.
+    pub(crate) fn get(&self, i: usize) -> &[T]
+        requires { i < length self.now }
+        ensures { result.now ≡ slice_index_or self.now i [] }
+    {
+        narrow_piece(&self.items, &self.starts, i)
+    }
+}
+
+/// Piece i of a list that is cut at the given places.
+fn narrow_piece<'a, T>(items: &'a [T], starts: &[u16], i: usize) -> &'a [T]
+    requires places { IsCut starts.now items.now }
+    requires within { i + 1 < length starts.now }
+    ensures { result.now ≡ slice_index_or (cut starts.now items.now) i [] }
+{
+    let start = usize::from(starts[i]);
+    let end = usize::from(starts[i + 1]);
+    &items[start..end]
+}
+
 /// Lists of items. In contracts it is the list of these lists.
 #[derive(Debug, Drop)]
 pub(crate) struct Lists<T> {
@@ -77,6 +132,7 @@ pub(crate) struct Lists<T> {
 enum Store<T> {
     Apart(Vec<Vec<T>>),
     Joined(JoinedLists<T>),
+    Narrow(NarrowLists<T>),
 }
 
 impl<T> Model for Lists<T> {
@@ -109,6 +165,16 @@ impl<T> Lists<T> {
         }
     }
 
+    /// The same, where each place is told in two bytes.
+    pub(crate) fn narrow(items: Vec<T>, starts: Vec<u16>) -> Lists<T>
+        requires { IsCut starts.items items.items }
+        ensures { result ≡ cut starts.items items.items }
+    {
+        Lists {
+            store: Store::Narrow(NarrowLists::new(items, starts)),
+        }
+    }
+
     /// How many lists there are.
     pub(crate) fn len(&self) -> usize
         ensures { result ≡ length self.now }
@@ -116,6 +182,7 @@ impl<T> Lists<T> {
         match &self.store {
             Store::Apart(lists) => lists.len(),
             Store::Joined(lists) => lists.len(),
+            Store::Narrow(lists) => lists.len(),
         }
     }
 
@@ -127,6 +194,7 @@ impl<T> Lists<T> {
         match &self.store {
             Store::Apart(lists) => lists[i].as_slice(),
             Store::Joined(lists) => lists.get(i),
+            Store::Narrow(lists) => lists.get(i),
         }
     }
 }

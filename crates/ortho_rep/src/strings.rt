@@ -54,6 +54,17 @@ impl Strings {
         }
     }
 
+    /// The same, where each place is told in two bytes.
+    pub(crate) fn narrow(turns: Vec<Turn>, starts: Vec<u16>) -> Strings
+        requires places { IsCut starts.items turns.items }
+        requires short { IsShort (cut starts.items turns.items) }
+        ensures { result ≡ cut starts.items turns.items }
+    {
+        Strings {
+            lists: Lists::narrow(turns, starts),
+        }
+    }
+
     /// How many strings there are.
     pub(crate) fn len(&self) -> usize
         ensures count { result ≡ length self.now }

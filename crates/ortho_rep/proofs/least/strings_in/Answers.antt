@@ -22,14 +22,14 @@ loop-dart-preserved c =
     let rights = replicate c.crossing_flow-in-loop-dart.result Right in
     let this : lefts ++ rights ≡ strings_of plane x dart =
     ap (λ (z : ℕ). replicate z Left ++ rights) c.crossing_flow.ensures ∙ ap (λ (z : ℕ). replicate (x (darts plane + dart)) Left ++ replicate z Right) right in
-    joined-runs _ _ c.loop-dart.turns.items c.push_turns.new.turns.items _ lefts rights dart c.len.result (strings_of plane x) c.loop-dart.invariant this
-    c.in_ok-push_turns.ensures c.in_ok-push_turns-2.ensures (omega (arith, c.push_turns-in-loop-dart.new.turns.ok)) c.in_ok-push-2.ensures.items
+    joined-runs _ _ c.loop-dart.turns.items c.push_turns.new.turns.items _ lefts rights dart c.in-Ok.start (strings_of plane x) c.loop-dart.invariant this
+    c.in_ok-push_turns.ensures c.in_ok-push_turns-2.ensures (omega (arith, c.push_turns-in-loop-dart.new.turns.ok, c.in-Ok.ensures)) c.in_ok-push-2.ensures.items
 
-pub joined-requires-clause-places : goal.joined-requires-clause-places
-joined-requires-clause-places c = joined-IsCut _ _ _ _ c.loop-dart.invariant
+pub narrow-requires-clause-places : goal.narrow-requires-clause-places
+narrow-requires-clause-places c = joined-IsCut _ _ _ _ c.loop-dart.invariant
 
-pub joined-requires-clause-short : goal.joined-requires-clause-short
-joined-requires-clause-short c =
+pub narrow-requires-clause-short : goal.narrow-requires-clause-short
+narrow-requires-clause-short c =
     let plane = c.args.plane.now in
     let x = amounts c.args.solved.now.flow in
     let all = ap dart_count c.graph-graph.ensures.value in
@@ -49,9 +49,9 @@ joined-requires-clause-short c =
 pub returns-clause-count : goal.returns-clause-count
 returns-clause-count c =
     let pieces = joined-cut c.loop-dart.starts.items c.loop-dart.turns.items c.loop-dart.dart (λ d piece. piece ≡ strings_of c.args.plane.now (amounts c.args.solved.now.flow) d) c.loop-dart.invariant in
-    omega (arith, pieces.0, ap (length {A = List Turn}) c.joined.ensures, ap dart_count c.graph-graph.ensures.value)
+    omega (arith, pieces.0, ap (length {A = List Turn}) c.narrow.ensures, ap dart_count c.graph-graph.ensures.value)
 
 pub returns-clause-each : goal.returns-clause-each
 returns-clause-each c = λ d b.
     let pieces = joined-cut c.loop-dart.starts.items c.loop-dart.turns.items c.loop-dart.dart (λ d piece. piece ≡ strings_of c.args.plane.now (amounts c.args.solved.now.flow) d) c.loop-dart.invariant in
-    ap (λ (l : List (List Turn)). get_or l d []) c.joined.ensures ∙ pieces.1 d (omega (arith, ap dart_count c.graph-graph.ensures.value)) (strings_of c.args.plane.now (amounts c.args.solved.now.flow) d) refl
+    ap (λ (l : List (List Turn)). get_or l d []) c.narrow.ensures ∙ pieces.1 d (omega (arith, ap dart_count c.graph-graph.ensures.value)) (strings_of c.args.plane.now (amounts c.args.solved.now.flow) d) refl
