@@ -1,7 +1,6 @@
 use Rattle.std.proofs.Common.{◌≡◌, ◌↔◌, ◌<◌, ◌++◌, ℕ, List, map, true, false, sym, ap, ◌∙◌, subst, arith}
 use Rattle.std.specs.List.{flat_map}
 use Rattle.std.proofs.lemmas.Bool.{lt-ltb, le-ltb}
-use Rattle.std.proofs.lemmas.List.{append-nil}
 use Rattle.rectangles.specs.declared.Rectangle.{Rectangle}
 use Rattle.faces.specs.Planes.{darts, reverse_dart}
 use Rattle.ortho_rep.specs.declared.points.Point.{Point}
@@ -9,7 +8,7 @@ use Rattle.ortho_rep.specs.declared.turn.Turn.{Turn}
 use Rattle.ortho_rep.specs.Edges.{is_lesser}
 use Rattle.ortho_rep.specs.Shapes.{turns_at}
 use Rattle.ortho_rep.proofs.EdgeNumbers.{edge_number-le}
-use Rattle.drawing_check.specs.Paths.{path_along, paths}
+use Rattle.drawing_check.specs.Paths.{path_along}
 use Rattle.drawing_check.specs.Draws.{IsOnAxes, IsTurning}
 use Rattle.drawing_check.specs.Routes.{path_of}
 use Rattle.drawing_check.specs.Shown.{span_of, strips}
