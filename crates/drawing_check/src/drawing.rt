@@ -46,8 +46,8 @@ impl Drawing {
 /// The conditions are, in order: every coordinate is at most 65,535; consecutive points of an edge's
 /// path differ in exactly one coordinate; each edge has as many corners as turns, each corner turns as
 /// its string says, and at the head of each dart the direction changes as its angle says; no whole
-/// point is met twice, by vertices and between the ends of paths. The first three are told without
-/// memory: want of it is answered only where they hold.
+/// point is met twice, by vertices and between the ends of paths. The first three need no memory:
+/// want of it is answered only where they hold.
 ///
 /// The points are compared as rectangles, one for each vertex and at most one for each segment. For s of
 /// them it takes O(s log s) time, and 16 bytes of memory each, sorted in place unless they lie in few rows
