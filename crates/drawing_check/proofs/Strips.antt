@@ -147,7 +147,7 @@ shows_points (p ∷ ps) = (p ∷ [], ps, refl, point_lists p, shows_points ps)
 span_filled : (a b : Point) → IsFilled (span_of a b)
 span_filled a b = (omega arith, omega arith)
 
-pub points_filled : (ps : List Point) → All IsFilled (map (λ p. span_of p p) ps)
+points_filled : (ps : List Point) → All IsFilled (map (λ p. span_of p p) ps)
 points_filled [] = All-nil IsFilled
 points_filled (p ∷ ps) = All-cons IsFilled (span_of p p) (map (λ q. span_of q q) ps) (span_filled p p) (points_filled ps)
 
@@ -162,9 +162,13 @@ strips_filled (a ∷ b ∷ []) = last (same_point (step_from a b 1) b)
 strips_filled (a ∷ b ∷ c ∷ rest) =
     All-cons IsFilled (span_of (step_from a b 1) b) (strips (b ∷ c ∷ rest)) (span_filled (step_from a b 1) b) (strips_filled (b ∷ c ∷ rest))
 
-pub paths_filled : (ps : List (List Point)) → All IsFilled (flat_map strips ps)
+paths_filled : (ps : List (List Point)) → All IsFilled (flat_map strips ps)
 paths_filled [] = All-nil IsFilled
 paths_filled (path ∷ ps) = All-append IsFilled (strips path) (flat_map strips ps) (strips_filled path) (paths_filled ps)
+
+-- each rectangle of the vertices and the paths is one
+pub listed_filled : (vertices : List Point) (ps : List (List Point)) (rs : List Rectangle) → rs ≡ map (λ p. span_of p p) vertices ++ flat_map strips ps → All IsFilled rs
+listed_filled vertices ps rs is = rw is (All-append IsFilled (map (λ p. span_of p p) vertices) (flat_map strips ps) (points_filled vertices) (paths_filled ps))
 
 -- ---- one segment more
 

@@ -9,11 +9,11 @@ ghost use Rattle.drawing_check.specs.Faults.{IsFirstFault, KeepsFirstThree};
 use crate::edges::walk_edges;
 use crate::fault::CheckFault;
 use crate::grid::are_in_grid;
-use crate::meeting::meet_nowhere;
 use crate::scratch::Scratch;
 use crate::turning::turn_as_said;
 use faces::Plane;
 use ortho_rep::{Points, Shape};
+use rectangles::all_apart_in;
 use std::alloc::Global;
 use std::marker::Model;
 
@@ -46,8 +46,8 @@ impl Drawing {
 /// The conditions are, in order: every coordinate is at most 65,535; consecutive points of an edge's
 /// path differ in exactly one coordinate; each edge has as many corners as turns, each corner turns as
 /// its string says, and at the head of each dart the direction changes as its angle says; no whole
-/// point is met twice, by vertices and between the ends of paths. The first three are tested before
-/// memory is asked for: want of memory is answered only where they hold.
+/// point is met twice, by vertices and between the ends of paths. The first three need no memory:
+/// want of it is answered only where they hold.
 ///
 /// The points are compared as rectangles, one for each vertex and at most one for each segment. For s of
 /// them it takes O(s log s) time, and 16 bytes of memory each, sorted in place unless they lie in few rows
@@ -81,7 +81,7 @@ pub fn check(
 ///
 /// # Errors
 ///
-/// As `check`; after `Memory` the memory that was lent is gone.
+/// As `check`.
 pub fn check_in(
     alloc: Global,
     scratch: &mut Scratch,
@@ -124,14 +124,17 @@ fn first_fault(
     if !are_in_grid(points, plane.graph().edges()) {
         return Some(CheckFault::OutOfGrid);
     }
-    let seen = walk_edges(plane, shape, points);
+    let seen = walk_edges(plane, shape, points, &mut scratch.rectangles);
     if !seen.on_axes {
         return Some(CheckFault::NotAxis);
     }
     if !turn_as_said(plane, shape, points, &seen) {
         return Some(CheckFault::WrongTurn);
     }
-    match meet_nowhere(alloc, scratch, plane, points) {
+    if !seen.listed {
+        return Some(CheckFault::Memory);
+    }
+    match all_apart_in(alloc, &mut scratch.rectangles, &mut scratch.table) {
         Ok(true) => None,
         Ok(false) => Some(CheckFault::Meet),
         Err(_) => Some(CheckFault::Memory),

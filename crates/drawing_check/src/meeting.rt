@@ -1,61 +1,39 @@
-//! Whether some point is met twice, by vertices and paths.
+//! The points that are met, by vertices and by paths, as rectangles that cover them.
 
-ghost use Rattle.std.specs.Prelude.{◌≡◌, ◌*◌, ◌↔◌, ◌++◌, length, IsTrue, IfOk, OnOk};
-ghost use Rattle.faces.specs.Planes.{darts, vertices};
-ghost use Rattle.drawing_check.specs.Paths.{paths};
+ghost use Rattle.std.specs.Prelude.{◌≡◌, ◌++◌, map, OnOk};
 ghost use Rattle.drawing_check.specs.Walks.{toward, step_from};
-ghost use Rattle.drawing_check.specs.Draws.{AreOnAxes, MeetNowhere};
 ghost use Rattle.drawing_check.specs.Routes.{path_of};
 ghost use Rattle.drawing_check.specs.Shown.{span_of, strips};
 
-use crate::route::{Route, route_of};
-use crate::scratch::Scratch;
-use faces::Plane;
+use crate::route::Route;
 use ortho_rep::{Point, Points};
-use rectangles::{Rectangle, all_apart_in};
-use reuse::emptied;
-use std::alloc::{AllocError, Global};
-use std::mem;
+use rectangles::Rectangle;
+use std::alloc::AllocError;
 
-/// Whether no point is met twice, by all vertices and between the ends of all paths. Where memory runs
-/// out, that which was lent is gone.
-pub(crate) fn meet_nowhere(
-    alloc: Global,
-    scratch: &mut Scratch,
-    plane: &Plane,
+/// Lists what the vertices cover, in place of what the list held: each a rectangle of one point. There is room
+/// for one of each of so many edges besides.
+pub(crate) fn list_vertices(
+    rectangles: &mut Vec<Rectangle>,
     points: &Points,
-) -> Result<bool, AllocError>
-    requires vertices { length points.now.vertices ≡ vertices plane.now }
-    requires corners { 2 * length points.now.corners ≡ darts plane.now }
-    requires axes { AreOnAxes (paths plane.now points.now) }
-    ensures { IfOk result (λ apart.
-        IsTrue apart ↔ MeetNowhere points.now (paths plane.now points.now)) }
+    edges: u16,
+) -> Result<(), AllocError>
+    ensures { OnOk result (rectangles.new.items ≡ map (λ q. span_of q q) points.now.vertices) }
 {
-    let graph = plane.graph();
-    let count = usize::from(graph.vertices()) + usize::from(graph.edges());
-    let Scratch {
-        rectangles,
-        mut table,
-    } = mem::replace(scratch, Scratch::empty(alloc));
-    let mut rectangles = emptied(rectangles, count)?;
-    for point in points.vertices() {
+    let vertices = points.vertices();
+    rectangles.clear();
+    rectangles.reserve(vertices.len() + usize::from(edges))?;
+    for point in vertices {
         rectangles.push(spanned(*point, *point))?;
     }
-    let mut edge = 0;
-    for dart in 0..graph.darts() {
-        if dart < graph.reverse(dart) {
-            add_route(&mut rectangles, &route_of(plane, points, dart, edge))?;
-            edge += 1;
-        }
-    }
-    let apart = all_apart_in(alloc, &mut rectangles, &mut table)?;
-    *scratch = Scratch { rectangles, table };
-    Ok(apart)
+    Ok(())
 }
 
 /// Adds what a path covers between its ends: a strip for each segment, with the corner at its end, and none
 /// for a last segment of one step.
-fn add_route(rectangles: &mut Vec<Rectangle>, route: &Route<'_>) -> Result<(), AllocError>
+pub(crate) fn add_route(
+    rectangles: &mut Vec<Rectangle>,
+    route: &Route<'_>,
+) -> Result<(), AllocError>
     ensures { OnOk result (rectangles.new.items ≡ rectangles.old.items ++ strips (path_of route.now)) }
 {
     let mut from = route.start;
