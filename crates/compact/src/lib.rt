@@ -10,7 +10,9 @@ mod rows;
 mod scratch;
 mod steps;
 
-pub use dissect::{Scratch as BoxesScratch, Search, dissect, dissect_along, dissect_in, headings_in};
+pub use dissect::{
+    Scratch as BoxesScratch, Search, dissect, dissect_along, dissect_in, headings_in,
+};
 pub use fault::CompactFault;
 pub use place::{compact, compact_in};
 pub use scratch::Scratch;

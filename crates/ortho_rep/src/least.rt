@@ -165,16 +165,7 @@ fn strings_in(
     let mut starts = Vec::with_capacity(alloc, usize::from(graph.darts()) + 1)?;
     starts.push(0)?;
     for dart in 0..graph.darts() {
-        push_turns(
-            &mut turns,
-            Turn::Left,
-            crossing_flow(plane, net, solved, dart),
-        )?;
-        push_turns(
-            &mut turns,
-            Turn::Right,
-            crossing_flow(plane, net, solved, graph.reverse(dart)),
-        )?;
+        push_string(&mut turns, plane, net, solved, dart)?;
         let Ok(start) = u16::try_from(turns.len()) else {
             return wide_strings(alloc, plane, net, solved);
         };
@@ -201,19 +192,33 @@ fn wide_strings(
     let mut starts = Vec::with_capacity(alloc, usize::from(graph.darts()) + 1)?;
     starts.push(0)?;
     for dart in 0..graph.darts() {
-        push_turns(
-            &mut turns,
-            Turn::Left,
-            crossing_flow(plane, net, solved, dart),
-        )?;
-        push_turns(
-            &mut turns,
-            Turn::Right,
-            crossing_flow(plane, net, solved, graph.reverse(dart)),
-        )?;
+        push_string(&mut turns, plane, net, solved, dart)?;
         starts.push(turns.len())?;
     }
     Ok(Strings::joined(turns, starts))
+}
+
+/// Puts the string of a dart behind a list: the left turns, then the right ones.
+fn push_string(
+    turns: &mut Vec<Turn>,
+    plane: &Plane,
+    net: &FaceNet,
+    solved: &Solved,
+    dart: u16,
+) -> Result<(), AllocError>
+    requires net { IsNetOf plane.now net.now }
+    requires solves { Solves net.now.network solved.now }
+    requires within { dart < darts plane.now }
+    ensures { OnOk result (turns.new.items
+        ≡ turns.old.items ++ strings_of plane.now (amounts solved.now.flow) dart) }
+{
+    let reverse = plane.graph().reverse(dart);
+    push_turns(turns, Turn::Left, crossing_flow(plane, net, solved, dart))?;
+    push_turns(
+        turns,
+        Turn::Right,
+        crossing_flow(plane, net, solved, reverse),
+    )
 }
 
 /// How much all crossings carry.

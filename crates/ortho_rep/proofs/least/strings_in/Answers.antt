@@ -1,29 +1,22 @@
-use Rattle.std.proofs.Common.{◌≡◌, ℕ, ◌+◌, ◌++◌, List, [], length, get_or, replicate, ap, refl, ◌∙◌, arith}
+use Rattle.std.proofs.Common.{◌≡◌, ℕ, ◌++◌, ◌+◌, List, [], length, get_or, ap, refl, sym, ◌∙◌, arith}
 use Rattle.std.proofs.lemmas.List.{get_or_default}
-use Rattle.embedding.specs.Darts.{dart_count, reverse_of}
+use Rattle.embedding.specs.Darts.{dart_count}
 use Rattle.faces.specs.Planes.{darts, reverse_dart}
 use Rattle.networks.specs.Flow.{amounts, at_nodes}
 use Rattle.ortho_rep.specs.declared.turn.Turn.{Turn}
-use Rattle.ortho_rep.specs.declared.turn.Turn.TheVariants.{Left, Right}
 use Rattle.ortho_rep.specs.OfFlow.{strings_of}
 use Rattle.ortho_rep.specs.Storage.{cut}
 use Rattle.ortho_rep.proofs.FromFlow.{short_of_flow, length-run}
-use Rattle.ortho_rep.proofs.PushedLists.{joined-runs, joined-IsCut, joined-cut}
+use Rattle.ortho_rep.proofs.PushedLists.{joined-pushed, joined-IsCut, joined-cut}
 use Rattle.ortho_rep.proofs.least.strings_in.Goals as goal
 
 pub loop-dart-preserved : goal.loop-dart-preserved
 loop-dart-preserved c =
-    let plane = c.args.plane.now in
     let dart = c.loop-dart.dart in
-    let x = amounts c.args.solved.now.flow in
-    let back : c.reverse.result ≡ reverse_dart plane dart = c.reverse.ensures.value ∙ ap (λ (g : List (List ℕ)). reverse_of g dart) c.graph-graph.ensures.value in
-    let right : c.crossing_flow-in-loop-dart.result ≡ x (darts plane + reverse_dart plane dart) = c.crossing_flow-in-loop-dart.ensures ∙ ap (λ (e : ℕ). x (darts plane + e)) back in
-    let lefts = replicate c.crossing_flow.result Left in
-    let rights = replicate c.crossing_flow-in-loop-dart.result Right in
-    let this : lefts ++ rights ≡ strings_of plane x dart =
-    ap (λ (z : ℕ). replicate z Left ++ rights) c.crossing_flow.ensures ∙ ap (λ (z : ℕ). replicate (x (darts plane + dart)) Left ++ replicate z Right) right in
-    joined-runs _ _ c.loop-dart.turns.items c.push_turns.new.turns.items _ lefts rights dart c.in-Ok.start (strings_of plane x) c.loop-dart.invariant this
-    c.in_ok-push_turns.ensures c.in_ok-push_turns-2.ensures (omega (arith, c.push_turns-in-loop-dart.new.turns.ok, c.in-Ok.ensures)) c.in_ok-push-2.ensures.items
+    let string = strings_of c.args.plane.now (amounts c.args.solved.now.flow) in
+    joined-pushed c.loop-dart.starts.items _ c.loop-dart.turns.items c.push_string.new.turns.items (string dart) dart c.in-Ok.start (λ d piece. piece ≡ string d) c.loop-dart.invariant
+    c.in_ok-push_string.ensures (λ piece is. c.in_ok-push_string.ensures ∙ ap (λ (ts : List Turn). c.loop-dart.turns.items ++ ts) (sym is))
+    (omega (arith, c.push_string.new.turns.ok, c.in-Ok.ensures)) c.in_ok-push-2.ensures.items
 
 pub narrow-requires-clause-places : goal.narrow-requires-clause-places
 narrow-requires-clause-places c = joined-IsCut _ _ _ _ c.loop-dart.invariant
