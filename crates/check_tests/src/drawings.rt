@@ -294,7 +294,7 @@ const FAULTS: [(&[Place], CheckFault); 3] = [
 
 // The first three conditions are told by their names, whatever memory there is.
 #[test]
-fn three_conditions_take_no_memory(rt: HostRuntime) {
+fn three_conditions_need_no_memory(rt: HostRuntime) {
     for (vertices, fault) in FAULTS {
         let Some(found) = faults_at(&rt, rt.alloc(), &PATH, vertices, &FOUR) else {
             return;
