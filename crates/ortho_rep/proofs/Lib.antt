@@ -5,6 +5,7 @@ pub mod Pieces
 pub mod EdgeNumbers
 pub mod Mirrors
 pub mod Priced
+pub mod JoinedPrices
 pub mod Tallied
 pub mod FewTurns
 pub mod FromFlow

@@ -5,6 +5,7 @@ pub mod Shapes
 pub mod Representation
 pub mod OfFlow
 pub mod Prices
+pub mod PriceStores
 pub mod Points
 pub mod Edges
 pub mod Best

@@ -1,6 +1,7 @@
 //! Least shapes, by a flow of least cost in the network of a plane.
 
-ghost use Rattle.std.specs.Prelude.{◌≡◌, ◌+◌, ◌<◌, ◌≤◌, ◌++◌, [], ℕ, pos, OnOk, IfOk, length, replicate, slice_index, slice_index_or, vec_len, ◌^◌};
+ghost use Rattle.std.specs.Prelude.{◌≡◌, ◌+◌, ◌<◌, ◌≤◌, ◌++◌, [], ℕ, OnOk, IfOk, length, map, replicate, slice_index, slice_index_or, vec_len, ◌^◌};
+ghost use Rattle.std.specs.List.{range_with_len};
 ghost use Rattle.faces.specs.Planes.{darts, vertices};
 ghost use Rattle.networks.specs.Flow.{Flow, Solves, amounts, at_nodes};
 ghost use Rattle.flow_network.specs.FaceNet.{IsNetOf};
@@ -70,15 +71,13 @@ pub(crate) fn shape_in(
     ensures least { IfOk result (λ found. IsLeast plane.now found.0) }
     ensures proof { IfOk result (λ found. IsProof plane.now found.0 found.1) }
 {
-    // Only the proof needs this: `graph` says that the plane is one.
-    let _graph = plane.graph();
+    let vertices = plane.graph().vertices();
     let angles = angles_in(alloc, plane, net, solved)?;
     let strings = strings_in(alloc, plane, net, solved)?;
-    let vertices = vertex_prices(alloc, plane, net, solved)?;
-    let faces = face_prices(alloc, plane, net, solved)?;
+    let prices = prices_in(alloc, plane, net, solved)?;
     Ok((
         Shape::of_strings(angles, strings),
-        Prices::new(vertices, faces),
+        Prices::joined(prices, usize::from(vertices)),
     ))
 }
 
@@ -244,8 +243,8 @@ fn push_turns(turns: &mut Vec<Turn>, turn: Turn, count: u32) -> Result<(), Alloc
     Ok(())
 }
 
-/// The potentials of the vertices.
-fn vertex_prices(
+/// The potentials of the vertices and behind them those of the faces, in one list.
+fn prices_in(
     alloc: Global,
     plane: &Plane,
     net: &FaceNet,
@@ -253,33 +252,15 @@ fn vertex_prices(
 ) -> Result<Vec<i32>, AllocError>
     requires net { IsNetOf plane.now net.now }
     requires solves { Solves net.now.network solved.now }
-    ensures count { IfOk result (λ prices. vec_len prices ≡ vertices plane.now) }
-    ensures each { IfOk result (λ prices. (k : ℕ) → k < vertices plane.now
-        → slice_index_or prices.items k (pos 0) ≡ at_nodes solved.now.potential k) }
+    ensures { IfOk result (λ prices. prices.items
+        ≡ map (at_nodes solved.now.potential) (range_with_len 0 (vertices plane.now + plane.now.faces))) }
 {
     let vertices = plane.graph().vertices();
-    let mut prices = Vec::with_capacity(alloc, usize::from(vertices))?;
+    let faces = plane.face_count();
+    let mut prices = Vec::with_capacity(alloc, usize::from(vertices) + usize::from(faces))?;
     for place in 0..vertices {
         prices.push(solved.potential(net.vertex_node(place + 1)))?;
     }
-    Ok(prices)
-}
-
-/// The potentials of the faces.
-fn face_prices(
-    alloc: Global,
-    plane: &Plane,
-    net: &FaceNet,
-    solved: &Solved,
-) -> Result<Vec<i32>, AllocError>
-    requires net { IsNetOf plane.now net.now }
-    requires solves { Solves net.now.network solved.now }
-    ensures count { IfOk result (λ prices. vec_len prices ≡ plane.now.faces) }
-    ensures each { IfOk result (λ prices. (f : ℕ) → f < plane.now.faces
-        → slice_index_or prices.items f (pos 0) ≡ at_nodes solved.now.potential (vertices plane.now + f)) }
-{
-    let faces = plane.face_count();
-    let mut prices = Vec::with_capacity(alloc, usize::from(faces))?;
     for face in 0..faces {
         prices.push(solved.potential(net.face_node(face)))?;
     }

@@ -1,6 +1,6 @@
 //! Prices of vertices and faces.
 
-ghost use Rattle.std.specs.Prelude.{◌≡◌, ◌<◌, ◌≤◌, length};
+ghost use Rattle.std.specs.Prelude.{◌≡◌, ◌<◌, ◌≤◌, length, take, drop};
 ghost use Rattle.ortho_rep.specs.Prices.{vertex_price, face_price};
 
 use std::marker::Model;
@@ -11,16 +11,25 @@ use std::marker::Model;
 /// and each takes constant time.
 #[derive(Debug, Drop)]
 pub struct Prices {
-    vertices: Vec<i32>,
-    faces: Vec<i32>,
+    store: PriceStore,
+}
+
+#[derive(Debug, Drop)]
+enum PriceStore {
+    Apart { vertices: Vec<i32>, faces: Vec<i32> },
+    // those of so many vertices, and behind them those of the faces
+    Joined { prices: Vec<i32>, vertices: usize },
 }
 
 impl Model for Prices {
     ghost use Rattle.ortho_rep.specs.Prices.{PricesModel};
+    ghost use Rattle.ortho_rep.specs.PriceStores.{prices_of, HasVertices};
 
     ghost Value = { PricesModel };
 
-    ghost view = { λ a. record { vertices = a.vertices.items; faces = a.faces.items } };
+    ghost view = { λ a. prices_of a.store };
+
+    ghost invariant = { λ a. HasVertices a.store };
 }
 
 impl Prices {
@@ -29,21 +38,39 @@ impl Prices {
     pub fn new(vertices: Vec<i32>, faces: Vec<i32>) -> Prices
         ensures { result ≡ record { vertices = vertices.items; faces = faces.items } }
     {
-        Prices { vertices, faces }
+        Prices {
+            store: PriceStore::Apart { vertices, faces },
+        }
+    }
+
+    /// The prices of so many vertices, and behind them those of the faces, in one list.
+    pub(crate) fn joined(prices: Vec<i32>, vertices: usize) -> Prices
+        requires { vertices ≤ length prices.items }
+        ensures { result ≡ record { vertices = take vertices prices.items; faces = drop vertices prices.items } }
+    {
+        Prices {
+            store: PriceStore::Joined { prices, vertices },
+        }
     }
 
     /// How many vertices have a price.
     pub fn vertex_count(&self) -> usize
         ensures { result ≡ length self.now.vertices }
     {
-        self.vertices.len()
+        match &self.store {
+            PriceStore::Apart { vertices, .. } => vertices.len(),
+            PriceStore::Joined { vertices, .. } => *vertices,
+        }
     }
 
     /// How many faces have a price.
     pub fn face_count(&self) -> usize
         ensures { result ≡ length self.now.faces }
     {
-        self.faces.len()
+        match &self.store {
+            PriceStore::Apart { faces, .. } => faces.len(),
+            PriceStore::Joined { prices, vertices } => prices.len() - *vertices,
+        }
     }
 
     /// The price of a vertex, numbered from 1.
@@ -52,7 +79,11 @@ impl Prices {
         requires within { vertex ≤ length self.now.vertices }
         ensures { result ≡ vertex_price self.now vertex }
     {
-        self.vertices[usize::from(vertex) - 1]
+        let place = usize::from(vertex) - 1;
+        match &self.store {
+            PriceStore::Apart { vertices, .. } => vertices[place],
+            PriceStore::Joined { prices, .. } => prices[place],
+        }
     }
 
     /// The price of a face, numbered from 0.
@@ -60,6 +91,10 @@ impl Prices {
         requires { face < length self.now.faces }
         ensures { result ≡ face_price self.now face }
     {
-        self.faces[usize::from(face)]
+        let place = usize::from(face);
+        match &self.store {
+            PriceStore::Apart { faces, .. } => faces[place],
+            PriceStore::Joined { prices, vertices } => prices[*vertices + place],
+        }
     }
 }

@@ -1,7 +1,15 @@
-use Rattle.std.proofs.Common.{arith}
+use Rattle.std.proofs.Common.{◌≡◌, ◌+◌, ◌∙◌, length, ap, arith}
+use Rattle.faces.specs.Planes.{vertices}
 use Rattle.networks.specs.Flow.{Solves, amounts, at_nodes}
 use Rattle.ortho_rep.proofs.FromFlow.{IsOfFlow, shape_of_flow, least_of_flow, proof_of_flow}
+use Rattle.ortho_rep.proofs.JoinedPrices.{length-first, vertex_count, face_count, vertex_value, face_value}
 use Rattle.ortho_rep.proofs.least.shape_in.Goals as goal
+
+pub joined-requires : goal.joined-requires
+joined-requires c =
+    let plane = c.args.plane.now in
+    let q = at_nodes c.args.solved.now.potential in
+    omega (arith, c.from.ensures, c.vertices-vertices.ensures.count, ap length c.graph.ensures.value, ap length c.in_ok-prices.ensures, length-first q (vertices plane + plane.faces))
 
 pub returns : goal.returns
 returns c =
@@ -9,21 +17,23 @@ returns c =
     let net = c.args.net.now.network in
     let x = amounts c.args.solved.now.flow in
     let q = at_nodes c.args.solved.now.potential in
+    let n = vertices plane in
     let is = c.requires.net.network in
-    let ends = c.graph-graph.ensures.ends in
+    let ends = c.graph.ensures.ends in
     let solves : Solves net c.args.solved.now = c.requires.solves in
-    let found : IsOfFlow plane x q c.of_strings.result c.new.result = rw (c.of_strings.ensures, c.new.ensures) (record {
+    let cut : c.from.result ≡ n = c.from.ensures ∙ (c.vertices-vertices.ensures.count ∙ ap length c.graph.ensures.value) in
+    let found : IsOfFlow plane x q c.of_strings.result c.joined.result = rw (c.of_strings.ensures, c.joined.ensures, cut, c.in_ok-prices.ensures) (record {
       angle_count = omega (arith, c.in_ok-angles.angles.ok, c.in_ok-angles.ensures.count);
       string_count = c.in_ok-strings.ensures.count;
-      vertex_count = omega (arith, c.in_ok-vertices.vertices.ok, c.in_ok-vertices.ensures.count);
-      face_count = omega (arith, c.in_ok-faces.faces.ok, c.in_ok-faces.ensures.count);
+      vertex_count = vertex_count q n plane.faces;
+      face_count = face_count q n plane.faces;
       angle = c.in_ok-angles.ensures.each;
       string = c.in_ok-strings.ensures.each;
-      vertex = c.in_ok-vertices.ensures.each;
-      face = c.in_ok-faces.ensures.each;
+      vertex = vertex_value q n plane.faces;
+      face = face_value q n plane.faces;
     }) in
     record {
-      shape = shape_of_flow plane net x q c.of_strings.result c.new.result ends is solves.flow found;
-      least = least_of_flow plane net x q c.of_strings.result c.new.result ends is solves.flow solves.potentials found;
-      proof = proof_of_flow plane net x q c.of_strings.result c.new.result ends is solves.potentials found;
+      shape = shape_of_flow plane net x q c.of_strings.result c.joined.result ends is solves.flow found;
+      least = least_of_flow plane net x q c.of_strings.result c.joined.result ends is solves.flow solves.potentials found;
+      proof = proof_of_flow plane net x q c.of_strings.result c.joined.result ends is solves.potentials found;
     }
