@@ -9,17 +9,17 @@ use std::time::Duration;
 
 /// How often a call tries, while it finds its channel full or empty, before its thread sleeps until it is
 /// woken.
-pub(crate) const TRIES: u32 = 8;
+pub(crate) const TRIES: u32 = 13;
 
 /// After each of the first so many tries the thread pauses, and after each later one it naps.
-const SPINS: u32 = 4;
+const SPINS: u32 = 8;
 
 /// How many pauses of the processor follow each of the first tries. Each takes 10 to 40 ns.
-const PAUSES: u32 = 8;
+const PAUSES: u32 = 16;
 
-/// How long the first nap takes, in microseconds: some twenty messages of small graphs. Each takes twice as long
-/// as the one before, so the four take 100 to 800.
-const NAP: u64 = 100;
+/// How long the first nap takes, in microseconds. Each takes twice as long as the one before, so the five
+/// take 30 to 480.
+const NAP: u64 = 30;
 
 /// Lets a moment pass after the try of this number, from 0: pauses after each of the first tries, and after
 /// each later one, the last one too, a nap from which the thread wakes by itself, so that the other end need
