@@ -31,7 +31,7 @@ impl DrawScratch {
     }
 }
 
-/// Points that draw the shape, whose darts run in these directions, or why there are none.
+/// Points that draw the shape, whose darts arrive in these directions, or why there are none.
 pub(crate) fn draw(
     alloc: Global,
     scratch: &mut DrawScratch,

@@ -13,7 +13,7 @@ pub const NO_VERTEX: u32 = u32::MAX;
 
 /// For each vertex four vertices, those that the darts from it come to: to the east, north, west and
 /// south. `NO_VERTEX` stands where there is no such dart. They stand in the memory of the list that is
-/// lent. A step for each dart.
+/// lent. Linear in the darts.
 pub fn steps_of(boxes: &Boxes, around: Vec<u32>) -> Result<Vec<u32>, AllocError>
     ensures steps { IfOk result (λ around. AreSteps (web boxes.now) around.items boxes.now.vertices) }
     ensures all_steps { IfOk result (λ around. HasSteps (web boxes.now) around.items boxes.now.darts) }

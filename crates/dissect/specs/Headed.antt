@@ -4,7 +4,7 @@ use Rattle.faces.specs.Planes.{PlaneModel, darts}
 use Rattle.ortho_rep.specs.Shapes.{ShapeModel, angle_at, turns_at}
 use Rattle.bending.specs.Bends.{AreHeadings}
 
--- the list has for each dart of the plane the direction in which it arrives, where the plane is drawn by the shape
+-- the list has for each dart of the plane a direction in which it arrives, as the angles and strings of the shape ask
 pub record AreHeadingsOf (p : PlaneModel) (shape : ShapeModel) (headings : List ℕ) : Type 0 where
   pub count : length headings ≡ darts p
   pub each : AreHeadings p (angle_at shape) (turns_at shape) (λ d. slice_index headings d)

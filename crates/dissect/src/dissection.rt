@@ -38,7 +38,7 @@ pub fn dissect(alloc: Global, plane: &Plane, shape: &Shape) -> Result<Boxes, All
 ///
 /// # Errors
 ///
-/// `AllocError` where there is no memory for the boxes, and no other; the memory that was lent is then gone.
+/// `AllocError` where there is no memory for the boxes, and no other; what was lent may be gone then.
 pub fn dissect_in(
     alloc: Global,
     scratch: &mut Scratch,

@@ -145,8 +145,8 @@ fn angles_in(
 
 /// The strings of a flow, in one list of turns. Along each dart the left turns come first.
 ///
-/// Their places take two bytes each, so that the list of a small plane's is short. No least shape was seen that
-/// has too many turns for it.
+/// Their places take two bytes each, so that the list of them is short for a small plane. No least shape was seen
+/// with too many turns for that.
 fn strings_in(
     alloc: Global,
     plane: &Plane,

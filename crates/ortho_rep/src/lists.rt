@@ -1,4 +1,4 @@
-//! Lists of items, in one of two forms.
+//! Lists of items, in one of three forms.
 
 ghost use Rattle.std.specs.Prelude.{◌≡◌, ◌+◌, ◌<◌, [], length, slice_index_or};
 ghost use Rattle.ortho_rep.specs.Storage.{lists_in, cut, IsCut};
