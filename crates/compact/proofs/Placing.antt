@@ -7,8 +7,10 @@ use Rattle.cutting.specs.Webs.{Web, IsSound, no_dart}
 use Rattle.cutting.specs.Paths.{turning_places}
 use Rattle.ortho_rep.specs.declared.points.Point.{Point}
 use Rattle.dissect.specs.Boxes.{BoxesModel, HasEdge, web}
-use Rattle.compact.specs.Ordered.{tail, point_at, IsOrdered, IsAlong, AreCorners, AreCornersOf, IsAxisFault, IsCompactFault, AreLaidOut, AreWithin}
+use Rattle.compact.specs.Ordered.{tail, point_at, IsOrdered, IsAlong, AreCorners, AreCornersOf, IsAxisFault, IsCompactFault, AreLaidOut, AreLeast, AreWithin}
 use Rattle.std.specs.List.{range_with_len}
+use Rattle.ortho_rep.specs.declared.points.TheConstants.{MAX_COORDINATE}
+use Rattle.compact.specs.Steps.{AreUnder}
 use Rattle.compact.proofs.Walking.{one_turning}
 use Rattle.compact.specs.declared.fault.CompactFault.{CompactFault}
 use Rattle.compact.specs.declared.fault.CompactFault.TheVariants.{Wide, Memory}
@@ -116,3 +118,14 @@ laid_out b x y x1 y1 x2 y2 vertices corners sx1 sy1 sx2 sy2 sound along_x along_
             (subst (λ (xs : List ℕ). AreCorners b (λ v. slice_index xs v) (λ v. slice_index y2 v) (length b.edges) corners) sx2 at_corners);
       };
     }
+
+-- numbers in the order of the darts along an axis that are nowhere above any such are the least, in a list or in a slice of it
+pub least_of : (b : BoxesModel) (k : ℕ) (xs zs : List ℕ) → zs ≡ xs → IsAlong (web b) k (λ v. slice_index zs v) →
+    ((y : ℕ → ℕ) → IsAlong (web b) k y → AreUnder b.vertices xs y) → ((v : ℕ) → v < length zs → slice_index zs v ≤ MAX_COORDINATE) →
+    length xs ≡ b.vertices → AreLeast b k xs
+least_of b k xs zs same along under small count = record {
+  along = subst (λ (list : List ℕ). IsAlong (web b) k (λ v. slice_index list v)) same along;
+  least = under;
+  within = λ v v_in. subst (λ (list : List ℕ). slice_index list v ≤ MAX_COORDINATE) same (small v (omega (arith, v_in, count, ap (λ (list : List ℕ). length list) same)));
+  count = count;
+}

@@ -6,8 +6,8 @@ use Rattle.std.proofs.lemmas.List.Elements.{All-replicate}
 use Rattle.cutting.specs.Webs.{Web, IsSound}
 use Rattle.compact.specs.declared.axis.Axis.{Axis}
 use Rattle.compact.specs.declared.axis.Axis.TheVariants.{X, Y}
-use Rattle.compact.specs.Ordered.{tail, growth, IsAlong}
-use Rattle.compact.specs.Steps.{step, AreSteps, HasSteps, Grow, StayLevel, AreVertices, AreLevelIn, AreRows, AreUnder, StayUnder}
+use Rattle.compact.specs.Ordered.{tail, growth, across, IsAcross, IsAlong}
+use Rattle.compact.specs.Steps.{step, AreSteps, HasSteps, Grow, StayLevel, AreVertices, AreLevelIn, AreRows, IsOnRow, AreUnder, StayUnder}
 use Rattle.compact.proofs.OneWay.{one_leaves}
 
 -- a number raised to one that is not above y stays under y
@@ -59,6 +59,24 @@ pub rows_set : (next : ℕ → ℕ) (n : ℕ) (rows new : List ℕ) (v first : �
 rows_set next n rows new v first v_in first_in joined made are = record {
   inside = vertices_set n rows new v first v_in first_in made are.inside;
   level = λ y level. level_set n rows new v first y (omega (arith, v_in, are.inside.0)) (joined y level) made (are.level y level);
+}
+
+-- rows stay rows under other names of the steps and of the number of vertices
+pub rows_at : (around other : List ℕ) (d e n m : ℕ) (rows : List ℕ) → around ≡ other → d ≡ e → n ≡ m → AreRows (step around d) n rows → AreRows (step other e) m rows
+rows_at around other d e n m rows same way size are =
+    subst (λ (k : ℕ). AreRows (step other e) k rows) size (subst (λ (k : ℕ). AreRows (step other k) n rows) way (subst (λ (list : List ℕ). AreRows (step list d) n rows) same are))
+
+-- and a vertex stays on its row
+pub on_row_at : (around other : List ℕ) (d e n m first vertex : ℕ) → around ≡ other → d ≡ e → n ≡ m → IsOnRow (step around d) n first vertex → IsOnRow (step other e) m first vertex
+on_row_at around other d e n m first vertex same way size is =
+    subst (λ (k : ℕ). IsOnRow (step other e) k first vertex) size (subst (λ (k : ℕ). IsOnRow (step other k) n first vertex) way (subst (λ (list : List ℕ). IsOnRow (step list d) n first vertex) same is))
+
+-- a first vertex is on its own row
+pub on_own_row : (next : ℕ → ℕ) (n : ℕ) (firsts : List ℕ) (first vertex : ℕ) → 0 < n → AreVertices n firsts → first ≡ slice_index firsts 0 → vertex ≡ slice_index firsts 0 → IsOnRow next n first vertex
+on_own_row next n firsts first vertex some are first_is vertex_is = record {
+  first_in = omega (arith, first_is, are.1 0 some);
+  vertex_in = omega (arith, vertex_is, are.1 0 some);
+  joined = λ y level. ap y (first_is ∙ sym vertex_is);
 }
 
 -- a number is raised to one more than that of a row which has a step to its row
@@ -134,6 +152,11 @@ level_across w k d around n y sound k_in d_in one two are along v v_in real =
 pub growth_few : (axis : Axis) → growth axis < 2
 growth_few X = omega arith
 growth_few Y = omega arith
+
+-- a quarter turn to the left of an axis is across it
+pub across_far : (axis : Axis) → IsAcross (growth axis) (across axis)
+across_far X = (λ e. omega (arith, e), λ e. omega (arith, e))
+across_far Y = (λ e. omega (arith, e), λ e. omega (arith, e))
 
 -- numbers that grow along the steps in one direction of an axis, and stay the same along those across it, are in
 -- the order of all darts: the other darts go back along these steps

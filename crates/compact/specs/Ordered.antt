@@ -42,6 +42,11 @@ abbrev pub growth : Axis → ℕ
 growth X = 0
 growth Y = 1
 
+-- the number of the direction a quarter turn to the left of it
+abbrev pub across : Axis → ℕ
+across X = 1
+across Y = 2
+
 -- the least numbers of the vertices in the order of the darts along an axis, within the grid
 pub record AreLeast (b : BoxesModel) (k : ℕ) (numbers : List ℕ) : Type 0 where
   pub along : IsAlong (web b) k (λ v. slice_index numbers v)

@@ -37,6 +37,16 @@ pub record AreRows (next : ℕ → ℕ) (n : ℕ) (rows : List ℕ) : Type 0 whe
   pub inside : AreVertices n rows
   pub level : (y : ℕ → ℕ) → StayLevel next n y → AreLevelIn rows n y
 
+-- each vertex below n stands at its own place
+abbrev pub AreOwn : ℕ → List ℕ → Type 0
+AreOwn n rows = (length rows ≡ n) × ((v : ℕ) → v < n → slice_index rows v ≡ v)
+
+-- a vertex below n is on a row with this first vertex: all numbers that stay the same along the steps are the same at both
+pub record IsOnRow (next : ℕ → ℕ) (n first vertex : ℕ) : Type 0 where
+  pub first_in : first < n
+  pub vertex_in : vertex < n
+  pub joined : (y : ℕ → ℕ) → StayLevel next n y → y first ≡ y vertex
+
 -- the first n numbers are nowhere above y
 abbrev pub AreUnder : ℕ → List ℕ → (ℕ → ℕ) → Type 0
 AreUnder n xs y = (v : ℕ) → v < n → slice_index xs v ≤ y v

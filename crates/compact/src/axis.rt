@@ -2,15 +2,15 @@
 
 ghost use Rattle.std.specs.Prelude.{◌≡◌, ◌≢◌, ◌+◌, ◌*◌, length, slice_index, Some, None, IsTrue, IfOk, IfErr, OnOk, ℕ, ◌<◌, ◌≤◌};
 ghost use Rattle.ortho_rep.specs.declared.points.TheConstants.{MAX_COORDINATE};
-ghost use Rattle.compact.specs.Ordered.{IsAlong, AreAlong, AreLeast, IsAcross, IsAxisFault, IsCompactFault, growth};
-ghost use Rattle.compact.specs.Steps.{AreSteps, HasSteps, AreUnder};
+ghost use Rattle.compact.specs.Ordered.{IsAlong, AreAlong, AreLeast, IsAxisFault, IsCompactFault, growth, across};
+ghost use Rattle.compact.specs.Steps.{step, AreSteps, HasSteps, AreRows, AreUnder};
 ghost use Rattle.cutting.specs.Webs.{IsSound};
 ghost use Rattle.directions.specs.Directions.{quarters};
 ghost use Rattle.dissect.specs.Boxes.{web};
 
 use crate::constraints::{Constraint, settle};
 use crate::fault::CompactFault;
-use crate::rows::{RowQueue, Steps, raise_rows};
+use crate::rows::{RowQueue, RowQueues, Steps, find_rows, raise_rows};
 use directions::Direction;
 use dissect::Boxes;
 use reuse::filled;
@@ -104,23 +104,11 @@ fn are_along(boxes: &Boxes, around: &[u32], x: &[u16], y: &[u16]) -> bool
 fn steps_along(around: &[u32], axis: Axis) -> Steps<'_>
     ensures around { result.around.now ≡ around.now }
     ensures ahead { (result.ahead < 4) × (result.ahead ≡ growth axis) }
-    ensures left { (result.left < 4) × IsAcross (growth axis) result.left }
+    ensures left { (result.left < 4) × (result.left ≡ across axis) }
 {
     match axis {
-        Axis::X => Steps {
-            around,
-            ahead: 0,
-            left: 1,
-            behind: 2,
-            right: 3,
-        },
-        Axis::Y => Steps {
-            around,
-            ahead: 1,
-            left: 2,
-            behind: 3,
-            right: 0,
-        },
+        Axis::X => Steps::east(around),
+        Axis::Y => Steps::north(around),
     }
 }
 
@@ -136,17 +124,13 @@ fn low_along(
 ) -> Result<Vec<u16>, AllocError>
     requires steps { AreSteps (web boxes.now) around.now boxes.now.vertices }
     requires around { length around.now ≡ 4 * boxes.now.vertices }
+    requires rows { AreRows (step around.now (across axis)) boxes.now.vertices queue.old.rows.items }
     ensures sound { IfOk result (λ _. IsSound (web boxes.now)) }
     ensures count { IfOk result (λ numbers. length numbers.items ≡ boxes.now.vertices) }
     ensures under { IfOk result (λ numbers. (y : ℕ → ℕ) → IsAlong (web boxes.now) (growth axis) y → AreUnder boxes.now.vertices numbers.items y) }
 {
     let mut numbers = filled(numbers, boxes.vertices() as usize, 0)?;
-    raise_rows(
-        queue,
-        steps_along(around, axis),
-        boxes.vertices(),
-        &mut numbers,
-    )?;
+    raise_rows(queue, steps_along(around, axis), &mut numbers);
     Ok(numbers)
 }
 
@@ -181,7 +165,7 @@ pub fn least_numbers(
     around: &[u32],
     x: Vec<u16>,
     y: Vec<u16>,
-    queue: &mut RowQueue,
+    queues: &mut RowQueues,
     constraints: &mut Vec<Constraint>,
 ) -> Result<(Vec<u16>, Vec<u16>), CompactFault>
     requires steps { AreSteps (web boxes.now) around.now boxes.now.vertices }
@@ -192,10 +176,13 @@ pub fn least_numbers(
     ensures y { IfOk result (λ found. AreLeast boxes.now 1 found.1.items) }
     ensures fault { IfErr result (IsCompactFault boxes.now) }
 {
-    let Ok(x) = low_along(boxes, around, Axis::X, x, queue) else {
+    let Ok(()) = find_rows(around, boxes.vertices(), queues) else {
         return Err(CompactFault::Memory);
     };
-    let Ok(y) = low_along(boxes, around, Axis::Y, y, queue) else {
+    let Ok(x) = low_along(boxes, around, Axis::X, x, &mut queues.x) else {
+        return Err(CompactFault::Memory);
+    };
+    let Ok(y) = low_along(boxes, around, Axis::Y, y, &mut queues.y) else {
         return Err(CompactFault::Memory);
     };
     if are_along(boxes, around, &x, &y) {

@@ -98,13 +98,13 @@ pub fn compact_in(
         around,
         x,
         y,
-        mut queue,
+        mut queues,
         mut constraints,
     } = mem::replace(scratch, Scratch::empty(alloc));
     let Ok(around) = steps_of(boxes, around) else {
         return Err(CompactFault::Memory);
     };
-    let (x, y) = match least_numbers(boxes, &around, x, y, &mut queue, &mut constraints) {
+    let (x, y) = match least_numbers(boxes, &around, x, y, &mut queues, &mut constraints) {
         Ok(found) => found,
         Err(fault) => return Err(fault),
     };
@@ -118,7 +118,7 @@ pub fn compact_in(
         around,
         x,
         y,
-        queue,
+        queues,
         constraints,
     };
     Ok(Points::joined(vertices, corners, starts))

@@ -1,7 +1,7 @@
 //! Rows of vertices that darts across an axis join, and the lengths of longest paths over them.
 
-ghost use Rattle.std.specs.Prelude.{◌≡◌, ◌*◌, ◌<◌, ℕ, length};
-ghost use Rattle.compact.specs.Steps.{step, AreVertices, AreLevelIn, AreRows, AreUnder, StayUnder, StayUnderAll};
+ghost use Rattle.std.specs.Prelude.{◌≡◌, ◌*◌, ◌^◌, ◌<◌, ℕ, length, OnOk};
+ghost use Rattle.compact.specs.Steps.{step, AreVertices, AreLevelIn, AreRows, AreOwn, IsOnRow, AreUnder, StayUnder, StayUnderAll};
 
 use crate::steps::NO_VERTEX;
 use ortho_rep::MAX_COORDINATE;
@@ -22,135 +22,276 @@ pub struct Steps<'a> {
     pub right: u8,
 }
 
-impl Steps<'_> {
-    /// The next vertex in a direction, or `NO_VERTEX`.
-    fn next(&self, vertex: u32, way: u8) -> u32 {
-        let index = 4 * vertex as usize + usize::from(way);
-        self.around.get(index).copied().unwrap_or(NO_VERTEX)
+impl<'a> Steps<'a> {
+    /// Those along x, which grows to the east. Directions are numbered from east.
+    pub fn east(around: &'a [u32]) -> Steps<'a>
+        ensures around { result.around.now ≡ around.now }
+        ensures ahead { result.ahead ≡ 0 }
+        ensures left { result.left ≡ 1 }
+        ensures behind { result.behind ≡ 2 }
+        ensures right { result.right ≡ 3 }
+    {
+        Steps {
+            around,
+            ahead: 0,
+            left: 1,
+            behind: 2,
+            right: 3,
+        }
+    }
+
+    /// Those along y, which grows to the north.
+    pub fn north(around: &'a [u32]) -> Steps<'a>
+        ensures around { result.around.now ≡ around.now }
+        ensures ahead { result.ahead ≡ 1 }
+        ensures left { result.left ≡ 2 }
+        ensures behind { result.behind ≡ 3 }
+        ensures right { result.right ≡ 0 }
+    {
+        Steps {
+            around,
+            ahead: 1,
+            left: 2,
+            behind: 3,
+            right: 0,
+        }
     }
 }
 
-/// How many steps to a row are still to come, at the place of its first vertex; and, though it has nothing to
-/// do with that row, one row of the queue.
-#[derive(Clone, Copy, Debug)]
-struct RowState {
-    waits: u32,
-    /// The first vertex of the row that stands in the queue at the number of this vertex, or `NO_VERTEX`.
-    queued: u32,
-}
-
-/// The rows of all vertices, and those that are to come next. Its memory is used again for the next dissection.
+/// The rows of all vertices along an axis, and the order in which they come. Its memory is used again for the next
+/// dissection.
 #[derive(Drop)]
 pub struct RowQueue {
     /// For each vertex the first one of its row. A row has one number, which stands there.
     rows: Vec<u32>,
     // Time alone rests on what follows: whatever it holds, numbers are raised along steps alone.
-    states: Vec<RowState>,
-    /// How many rows were put into the queue: no step to them is to come any more.
+    /// The first vertices of all rows, and zeros behind them.
+    firsts: Vec<u32>,
+    /// How many rows there are.
     count: usize,
+    /// How many steps to a row are still to come, at the place of its first vertex.
+    waits: Vec<u32>,
+    /// The rows in the order in which they come, by their first vertices.
+    line: Vec<u32>,
 }
 
 impl RowQueue {
-    ghost use Rattle.std.specs.Prelude.{OnOk};
-
     /// A queue for no vertices. It takes no memory.
     pub fn empty(alloc: Global) -> RowQueue {
         RowQueue {
             rows: Vec::new(alloc),
-            states: Vec::new(alloc),
+            firsts: Vec::new(alloc),
             count: 0,
+            waits: Vec::new(alloc),
+            line: Vec::new(alloc),
         }
     }
 
-    /// Finds the rows of so many vertices, and begins with those to which no step leads. What an earlier dissection
-    /// wrote of the steps to a vertex may stand there until it is written over.
+    /// Makes a row of each of so many vertices, and lists the first ones of the rows that are to be marked: those to which no step
+    /// leads from the left.
     fn begin(&mut self, steps: Steps<'_>, vertices: u32) -> Result<(), AllocError>
-        requires left { steps.left < 4 }
+        requires right { steps.right < 4 }
         requires count { length steps.around.now ≡ 4 * vertices }
-        ensures { OnOk result (AreRows (step steps.entry.around.now steps.entry.left) vertices self.new.rows.items) }
+        ensures own { OnOk result (AreOwn vertices self.new.rows.items) }
+        ensures firsts { OnOk result (AreVertices vertices self.new.firsts.items) }
+        ensures waits { OnOk result (length self.new.waits.items ≡ vertices) }
     {
+        let places = vertices as usize;
         self.rows.clear();
-        self.rows.reserve(vertices as usize)?;
-        for vertex in 0..vertices {
-            self.rows.push(vertex)?;
-        }
-        let unknown = RowState {
-            waits: 0,
-            queued: NO_VERTEX,
-        };
-        self.states.resize(vertices as usize, unknown)?;
-        self.count = 0;
-        for first in 0..vertices {
-            if steps.next(first, steps.right) == NO_VERTEX {
-                let waits = mark_row(&mut self.rows, steps, first);
-                self.wait(first, waits);
-            }
-        }
+        self.rows.resize(places, 0)?;
+        self.firsts.clear();
+        self.firsts.resize(places, 0)?;
+        self.waits.clear();
+        self.waits.resize(places, 0)?;
+        self.line.resize(places, 0)?;
+        self.count = list_rows(steps, self.rows.as_mut_slice(), self.firsts.as_mut_slice());
         Ok(())
     }
+}
 
-    /// Has the row with this first vertex wait for so many steps.
-    fn wait(&mut self, first: u32, waits: u32)
-        ensures { self.new.rows.items ≡ self.old.rows.items }
-    {
-        if let Some(state) = self.states.get_mut(first as usize) {
-            state.waits = waits;
-        }
-        self.put_last(first, waits == 0);
+/// Writes each vertex at its own place, lists those to which no step leads from the left, and says how many they are. All are
+/// written and some are counted, so that no branch hangs on which.
+fn list_rows(steps: Steps<'_>, rows: &mut [u32], firsts: &mut [u32]) -> usize
+    requires right { steps.right < 4 }
+    requires count { length steps.around.now ≡ 4 * length rows.old }
+    requires few { length rows.old < 2 ^ 32 }
+    requires firsts { AreVertices (length rows.old) firsts.old }
+    ensures own { AreOwn (length rows.old) rows.new }
+    ensures firsts { AreVertices (length rows.old) firsts.new }
+{
+    let mut count = 0;
+    for vertex in 0..rows.len() {
+        rows[vertex] = vertex as u32;
+        firsts[count] = vertex as u32;
+        let right = steps.around[4 * vertex + usize::from(steps.right)];
+        count += usize::from(right as usize >= rows.len());
     }
+    count
+}
 
-    /// Puts the row with this first vertex behind all others, if it is to come now. The place behind them is
-    /// written in any case: which rows come cannot be foreseen, so no branch is to hang on it.
-    fn put_last(&mut self, first: u32, comes: bool)
-        ensures { self.new.rows.items ≡ self.old.rows.items }
+/// A walk along rows, one after another: where it is.
+#[derive(Clone, Copy, Debug)]
+struct RowWalk {
+    /// The row behind this one, by its place among all.
+    behind: usize,
+    /// The first vertex of the row.
+    first: u32,
+    vertex: u32,
+}
+
+impl RowWalk {
+    /// The walk that begins with the row of this first vertex, the first row of all.
+    fn new(first: u32) -> RowWalk
+        ensures first { result.first ≡ first }
+        ensures vertex { result.vertex ≡ first }
     {
-        if let Some(state) = self.states.get_mut(self.count) {
-            state.queued = first;
-            self.count = self.count.saturating_add(usize::from(comes));
-        }
-    }
-
-    /// Counts off one step to the row with this first vertex. With the last one the row comes into the queue.
-    fn count_off(&mut self, first: u32)
-        ensures { self.new.rows.items ≡ self.old.rows.items }
-    {
-        if let Some(state) = self.states.get_mut(first as usize) {
-            state.waits = state.waits.saturating_sub(1);
-            let comes = state.waits == 0;
-            self.put_last(first, comes);
-        }
-    }
-
-    /// The first vertex of the row that stands at a place of the queue, or `NO_VERTEX`.
-    fn row_at(&self, at: usize) -> u32 {
-        match self.states.get(at) {
-            Some(state) if at < self.count => state.queued,
-            _ => NO_VERTEX,
+        RowWalk {
+            behind: 1,
+            first,
+            vertex: first,
         }
     }
 }
 
-/// Writes the first vertex of a row at each of its vertices, and says how many steps lead to the row from behind.
-fn mark_row(rows: &mut [u32], steps: Steps<'_>, first: u32) -> u32
-    requires left { steps.left < 4 }
-    requires first { first < length rows.old }
+/// Writes the first vertex of the row at the vertex where the walk is, counts the step that leads to it from behind, and
+/// goes on: to the next vertex of the row, or to the first one of the row behind it. No branch hangs on where rows end, which
+/// cannot be foreseen.
+fn mark_next(
+    steps: Steps<'_>,
+    firsts: &[u32],
+    walk: RowWalk,
+    rows: &mut [u32],
+    waits: &mut [u32],
+) -> RowWalk
+    requires ways { (steps.left < 4) × (steps.behind < 4) }
     requires count { length steps.around.now ≡ 4 * length rows.old }
+    requires firsts { AreVertices (length rows.old) firsts.now }
+    requires waits { length waits.old ≡ length rows.old }
+    requires walk { IsOnRow (step steps.around.now steps.left) (length rows.old) walk.first walk.vertex }
     requires rows { AreRows (step steps.around.now steps.left) (length rows.old) rows.old }
+    ensures walk { IsOnRow (step steps.entry.around.now steps.entry.left) (length rows.old) result.first result.vertex }
     ensures rows { AreRows (step steps.entry.around.now steps.entry.left) (length rows.old) rows.new }
+    ensures waits { length waits.new ≡ length waits.old }
 {
-    let mut vertex = first;
-    let mut waits = 0_u32;
-    for _ in 0..rows.len() {
-        rows[vertex as usize] = first;
-        let is_led_to = steps.next(vertex, steps.behind) != NO_VERTEX;
-        waits = waits.saturating_add(u32::from(is_led_to));
-        let next = steps.around[4 * vertex as usize + usize::from(steps.left)];
-        if next as usize >= rows.len() {
-            return waits;
-        }
-        vertex = next;
+    let RowWalk {
+        behind,
+        first,
+        vertex,
+    } = walk;
+    rows[vertex as usize] = first;
+    let at = 4 * vertex as usize;
+    let is_led_to = (steps.around[at + usize::from(steps.behind)] as usize) < rows.len();
+    waits[first as usize] = waits[first as usize].wrapping_add(u32::from(is_led_to));
+    let next = steps.around[at + usize::from(steps.left)];
+    let ends = next as usize >= rows.len();
+    let after = firsts.get(behind).copied().unwrap_or(first);
+    RowWalk {
+        behind: behind.wrapping_add(usize::from(ends)),
+        first: if ends { after } else { first },
+        vertex: if ends { after } else { next },
     }
-    waits
+}
+
+/// Marks the rows along both axes. The two walks go side by side, since each waits for memory at each step.
+fn mark_both(
+    around: &[u32],
+    x_firsts: &[u32],
+    x_rows: &mut [u32],
+    x_waits: &mut [u32],
+    y_firsts: &[u32],
+    y_rows: &mut [u32],
+    y_waits: &mut [u32],
+)
+    requires count { length around.now ≡ 4 * length x_rows.old }
+    requires same { length y_rows.old ≡ length x_rows.old }
+    requires x_firsts { AreVertices (length x_rows.old) x_firsts.now }
+    requires y_firsts { AreVertices (length y_rows.old) y_firsts.now }
+    requires x_waits { length x_waits.old ≡ length x_rows.old }
+    requires y_waits { length y_waits.old ≡ length y_rows.old }
+    requires x_rows { AreRows (step around.now 1) (length x_rows.old) x_rows.old }
+    requires y_rows { AreRows (step around.now 2) (length y_rows.old) y_rows.old }
+    ensures x_rows { AreRows (step around.now 1) (length x_rows.old) x_rows.new }
+    ensures y_rows { AreRows (step around.now 2) (length y_rows.old) y_rows.new }
+{
+    if x_rows.is_empty() {
+        return;
+    }
+    let x_steps = Steps::east(around);
+    let y_steps = Steps::north(around);
+    let mut x_walk = RowWalk::new(x_firsts[0]);
+    let mut y_walk = RowWalk::new(y_firsts[0]);
+    for _ in 0..x_rows.len() {
+        x_walk = mark_next(x_steps, x_firsts, x_walk, x_rows, x_waits);
+        y_walk = mark_next(y_steps, y_firsts, y_walk, y_rows, y_waits);
+    }
+}
+
+/// The rows along both axes.
+#[derive(Drop)]
+pub struct RowQueues {
+    pub x: RowQueue,
+    pub y: RowQueue,
+}
+
+impl RowQueues {
+    /// Queues for no vertices. They take no memory.
+    pub fn empty(alloc: Global) -> RowQueues {
+        RowQueues {
+            x: RowQueue::empty(alloc),
+            y: RowQueue::empty(alloc),
+        }
+    }
+}
+
+/// Finds the rows of so many vertices along x and along y. Linear in the vertices.
+pub fn find_rows(around: &[u32], vertices: u32, queues: &mut RowQueues) -> Result<(), AllocError>
+    requires count { length around.now ≡ 4 * vertices }
+    ensures x { OnOk result (AreRows (step around.now 1) vertices queues.new.x.rows.items) }
+    ensures y { OnOk result (AreRows (step around.now 2) vertices queues.new.y.rows.items) }
+{
+    let RowQueues { x, y } = queues;
+    x.begin(Steps::east(around), vertices)?;
+    y.begin(Steps::north(around), vertices)?;
+    mark_both(
+        around,
+        x.firsts.as_slice(),
+        x.rows.as_mut_slice(),
+        x.waits.as_mut_slice(),
+        y.firsts.as_slice(),
+        y.rows.as_mut_slice(),
+        y.waits.as_mut_slice(),
+    );
+    Ok(())
+}
+
+/// Puts a row behind the rows of the queue, if it is to come now, and says how many there are then. The place behind them is
+/// written in any case: which rows come cannot be foreseen, so no branch is to hang on it.
+fn put_last(line: &mut [u32], count: usize, first: u32, comes: bool) -> usize {
+    if count >= line.len() {
+        return count;
+    }
+    line[count] = first;
+    count + usize::from(comes)
+}
+
+/// Counts off one step to the row with this first vertex, which comes into the queue with the last one.
+fn count_off(waits: &mut [u32], line: &mut [u32], count: usize, first: u32) -> usize {
+    let Some(wait) = waits.get_mut(first as usize) else {
+        return count;
+    };
+    *wait = wait.wrapping_sub(1);
+    let comes = *wait == 0;
+    put_last(line, count, first, comes)
+}
+
+/// Puts the rows to which no step leads into the queue, and says how many they are.
+fn begin_line(firsts: &[u32], rows: usize, waits: &[u32], line: &mut [u32]) -> usize {
+    let mut count = 0;
+    for first in firsts.iter().take(rows) {
+        let comes = waits.get(*first as usize).copied() == Some(0);
+        count = put_last(line, count, *first, comes);
+    }
+    count
 }
 
 /// Raises the number of the row of the next vertex along the axis, if there is one, to that of the row of a
@@ -175,27 +316,37 @@ fn raise(around: &[u32], ahead: u8, rows: &[u32], vertex: u32, numbers: &mut [u1
     Some(row)
 }
 
-/// Walks along a row from its first vertex, and raises the numbers of the rows that come next along the axis.
-fn pass_row(steps: Steps<'_>, first: u32, queue: &mut RowQueue, numbers: &mut [u16])
+/// Walks along a row from its first vertex, and raises the numbers of the rows that come next along the axis. The queue has
+/// `count` rows, and so many more than are given back.
+fn pass_row(
+    steps: Steps<'_>,
+    first: u32,
+    rows: &[u32],
+    waits: &mut [u32],
+    line: &mut [u32],
+    count: usize,
+    numbers: &mut [u16],
+) -> usize
     requires ways { (steps.ahead < 4) × (steps.left < 4) }
     requires first { first < length numbers.old }
     requires count { length steps.around.now ≡ 4 * length numbers.old }
-    requires rows { AreVertices (length numbers.old) queue.old.rows.items }
-    ensures under { StayUnder (step steps.entry.around.now steps.entry.ahead) (length numbers.old) queue.old.rows.items numbers.old numbers.new }
+    requires rows { AreVertices (length numbers.old) rows.now }
+    ensures under { StayUnder (step steps.entry.around.now steps.entry.ahead) (length numbers.old) rows.now numbers.old numbers.new }
     ensures count { length numbers.new ≡ length numbers.old }
-    ensures rows { queue.new.rows.items ≡ queue.old.rows.items }
 {
+    let mut count = count;
     let mut vertex = first;
     for _ in 0..numbers.len() {
-        if let Some(row) = raise(steps.around, steps.ahead, &queue.rows, vertex, numbers) {
-            queue.count_off(row);
+        if let Some(row) = raise(steps.around, steps.ahead, rows, vertex, numbers) {
+            count = count_off(waits, line, count, row);
         }
         let next = steps.around[4 * vertex as usize + usize::from(steps.left)];
         if next as usize >= numbers.len() {
-            return;
+            return count;
         }
         vertex = next;
     }
+    count
 }
 
 /// Gives each vertex the number of its row.
@@ -211,26 +362,26 @@ fn spread(rows: &[u32], numbers: &mut [u16])
 
 /// Raises numbers to those of longest paths, row by row: a row comes when the numbers of all rows that
 /// have a step to it are known. Linear in the vertices.
-pub fn raise_rows(
-    queue: &mut RowQueue,
-    steps: Steps<'_>,
-    vertices: u32,
-    numbers: &mut [u16],
-) -> Result<(), AllocError>
+pub fn raise_rows(queue: &mut RowQueue, steps: Steps<'_>, numbers: &mut [u16])
     requires ways { (steps.ahead < 4) × (steps.left < 4) }
-    requires vertices { vertices ≡ length numbers.old }
     requires count { length steps.around.now ≡ 4 * length numbers.old }
+    requires rows { AreRows (step steps.around.now steps.left) (length numbers.old) queue.old.rows.items }
     ensures under { StayUnderAll (length numbers.old) (step steps.entry.around.now steps.entry.ahead) (step steps.entry.around.now steps.entry.left) numbers.old numbers.new }
     ensures count { length numbers.new ≡ length numbers.old }
 {
-    queue.begin(steps, vertices)?;
+    let rows = queue.rows.as_slice();
+    let waits = queue.waits.as_mut_slice();
+    let line = queue.line.as_mut_slice();
+    let mut count = begin_line(queue.firsts.as_slice(), queue.count, waits, line);
     for at in 0..numbers.len() {
-        let first = queue.row_at(at);
+        let first = match line.get(at) {
+            Some(first) if at < count => *first,
+            _ => NO_VERTEX,
+        };
         if first as usize >= numbers.len() {
             break;
         }
-        pass_row(steps, first, queue, numbers);
+        count = pass_row(steps, first, rows, waits, line, count, numbers);
     }
-    spread(&queue.rows, numbers);
-    Ok(())
+    spread(rows, numbers);
 }

@@ -3,7 +3,7 @@
 ghost use Rattle.std.specs.Prelude.{◌≡◌, []};
 
 use crate::constraints::Constraint;
-use crate::rows::RowQueue;
+use crate::rows::RowQueues;
 use std::alloc::Global;
 
 /// Memory in which points are found for one dissection after another. What it holds between two of
@@ -13,7 +13,7 @@ pub struct Scratch {
     pub(crate) around: Vec<u32>,
     pub(crate) x: Vec<u16>,
     pub(crate) y: Vec<u16>,
-    pub(crate) queue: RowQueue,
+    pub(crate) queues: RowQueues,
     pub(crate) constraints: Vec<Constraint>,
 }
 
@@ -26,7 +26,7 @@ impl Scratch {
             around: Vec::new(alloc),
             x: Vec::new(alloc),
             y: Vec::new(alloc),
-            queue: RowQueue::empty(alloc),
+            queues: RowQueues::empty(alloc),
             constraints: Vec::new(alloc),
         }
     }

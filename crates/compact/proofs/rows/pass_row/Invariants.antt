@@ -4,8 +4,7 @@ use Rattle.compact.proofs.rows.pass_row.Given as goal
 
 abbrev pub invariant-loop : goal.invariant-loop
 invariant-loop l = record {
-  under : StayUnder (step l.steps.around.now l.steps.ahead) (length l.fn.numbers) l.fn.queue.rows.items l.fn.numbers l.numbers;
+  under : StayUnder (step l.steps.around.now l.steps.ahead) (length l.fn.numbers) l.rows l.fn.numbers l.numbers;
   count : length l.numbers ≡ length l.fn.numbers;
-  rows : l.queue.rows.items ≡ l.fn.queue.rows.items;
   inside : l.vertex < length l.fn.numbers;
 }

@@ -4,7 +4,7 @@ use Rattle.compact.proofs.rows.raise_rows.Given as goal
 
 abbrev pub invariant-loop-at : goal.invariant-loop-at
 invariant-loop-at l = record {
-  rows : AreRows (step l.steps.around.now l.steps.left) (length l.fn.numbers) l.queue.rows.items;
   under : StayUnderAll (length l.fn.numbers) (step l.steps.around.now l.steps.ahead) (step l.steps.around.now l.steps.left) l.fn.numbers l.numbers;
   count : length l.numbers ≡ length l.fn.numbers;
+  rows : AreRows (step l.steps.around.now l.steps.left) (length l.fn.numbers) l.rows;
 }
