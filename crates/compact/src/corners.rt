@@ -30,29 +30,6 @@ fn is_turn(boxes: &Boxes, front: u32, dart: u32) -> bool
     boxes.direction(front) != boxes.direction(dart)
 }
 
-/// How often the walk along these darts turns. A step for each of them.
-fn turn_count(boxes: &Boxes, path: &[u32]) -> usize
-    requires { All (λ dart. dart < boxes.now.darts) path.now }
-{
-    let mut count: usize = 0;
-    for k in 1..path.len() {
-        if is_turn(boxes, path[k - 1], path[k]) {
-            count += 1;
-        }
-    }
-    count
-}
-
-/// How many corners all edges have. Only how much room is made for them rests on it. A step for each
-/// dart that they are made of.
-pub fn corner_count(boxes: &Boxes) -> usize {
-    let mut count: usize = 0;
-    for edge in 0..boxes.edges() {
-        count = count.saturating_add(turn_count(boxes, boxes.path(edge)));
-    }
-    count
-}
-
 /// Puts the points at which the walk along these darts turns behind a list, in walking order. A step
 /// for each of the darts.
 pub fn push_corners(

@@ -6,7 +6,7 @@ ghost use Rattle.ortho_rep.specs.Storage.{cut, IsCut};
 ghost use Rattle.compact.specs.Ordered.{AreLaidOut, AreCorners, IsCompactFault, point_at};
 
 use crate::axis::least_numbers;
-use crate::corners::{corner_count, point_of, push_corners};
+use crate::corners::{point_of, push_corners};
 use crate::fault::CompactFault;
 use crate::scratch::Scratch;
 use crate::steps::steps_of;
@@ -34,29 +34,30 @@ fn vertex_points(
     Ok(points)
 }
 
-/// The corner points of all edges, one edge after another, and where those of each edge start; one
-/// place more, where the last ones end. One allocation for each of the two lists.
-fn corners_of(
+/// Writes the corner points of all edges over this list, one edge after another, and says where those of each
+/// edge start; one place more, where the last ones end.
+fn list_corners(
     alloc: Global,
+    corners: &mut Vec<Point>,
     boxes: &Boxes,
     x: &[u16],
     y: &[u16],
-) -> Result<(Vec<Point>, Vec<usize>), AllocError>
+) -> Result<Vec<usize>, AllocError>
     requires x_in { length x.now ≡ boxes.now.vertices }
     requires y_in { length y.now ≡ boxes.now.vertices }
-    ensures places { IfOk result (λ found. IsCut found.1.items found.0.items) }
-    ensures count { IfOk result (λ found. length (cut found.1.items found.0.items) ≡ length boxes.now.edges) }
-    ensures corners { IfOk result (λ found. AreCorners boxes.now (λ v. slice_index x.now v) (λ v. slice_index y.now v)
-        (length boxes.now.edges) (cut found.1.items found.0.items)) }
+    ensures places { IfOk result (λ starts. IsCut starts.items corners.new.items) }
+    ensures count { IfOk result (λ starts. length (cut starts.items corners.new.items) ≡ length boxes.now.edges) }
+    ensures corners { IfOk result (λ starts. AreCorners boxes.now (λ v. slice_index x.now v) (λ v. slice_index y.now v)
+        (length boxes.now.edges) (cut starts.items corners.new.items)) }
 {
-    let mut corners = Vec::with_capacity(alloc, corner_count(boxes))?;
+    corners.clear();
     let mut starts = Vec::with_capacity(alloc, usize::from(boxes.edges()) + 1)?;
     starts.push(0)?;
     for edge in 0..boxes.edges() {
-        push_corners(&mut corners, boxes, x, y, boxes.path(edge))?;
+        push_corners(corners, boxes, x, y, boxes.path(edge))?;
         starts.push(corners.len())?;
     }
-    Ok((corners, starts))
+    Ok(starts)
 }
 
 /// Points for a plane that was cut into boxes: whole numbers from 0 to 65,535 in the order of the darts,
@@ -100,6 +101,7 @@ pub fn compact_in(
         y,
         mut queues,
         mut constraints,
+        mut corners,
     } = mem::replace(scratch, Scratch::empty(alloc));
     let Ok(around) = steps_of(boxes, around) else {
         return Err(CompactFault::Memory);
@@ -111,7 +113,10 @@ pub fn compact_in(
     let Ok(vertices) = vertex_points(alloc, boxes, &x, &y) else {
         return Err(CompactFault::Memory);
     };
-    let Ok((corners, starts)) = corners_of(alloc, boxes, &x, &y) else {
+    let Ok(starts) = list_corners(alloc, &mut corners, boxes, &x, &y) else {
+        return Err(CompactFault::Memory);
+    };
+    let Ok(found) = corners.to_vec(alloc) else {
         return Err(CompactFault::Memory);
     };
     *scratch = Scratch {
@@ -120,6 +125,7 @@ pub fn compact_in(
         y,
         queues,
         constraints,
+        corners,
     };
-    Ok(Points::joined(vertices, corners, starts))
+    Ok(Points::joined(vertices, found, starts))
 }

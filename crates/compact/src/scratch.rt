@@ -4,6 +4,7 @@ ghost use Rattle.std.specs.Prelude.{◌≡◌, []};
 
 use crate::constraints::Constraint;
 use crate::rows::RowQueues;
+use ortho_rep::Point;
 use std::alloc::Global;
 
 /// Memory in which points are found for one dissection after another. What it holds between two of
@@ -15,6 +16,7 @@ pub struct Scratch {
     pub(crate) y: Vec<u16>,
     pub(crate) queues: RowQueues,
     pub(crate) constraints: Vec<Constraint>,
+    pub(crate) corners: Vec<Point>,
 }
 
 impl Scratch {
@@ -28,6 +30,7 @@ impl Scratch {
             y: Vec::new(alloc),
             queues: RowQueues::empty(alloc),
             constraints: Vec::new(alloc),
+            corners: Vec::new(alloc),
         }
     }
 }

@@ -1,4 +1,4 @@
-use Rattle.std.proofs.Common.{◌∙◌, ◌≡◌, ◌*◌, ℕ, List, length, arith, ap, subst, sym}
+use Rattle.std.proofs.Common.{◌∙◌, ◌≡◌, ℕ, List, length, arith, subst, sym}
 use Rattle.std.proofs.lemmas.List.{take_at}
 use Rattle.dissect.specs.Boxes.{web}
 use Rattle.compact.specs.Ordered.{IsAlong, growth}

@@ -1,4 +1,4 @@
-use Rattle.std.proofs.Common.{◌∙◌, arith, refl}
+use Rattle.std.proofs.Common.{◌∙◌, refl}
 use Rattle.std.proofs.lemmas.List.{length-set}
 use Rattle.compact.proofs.Stepping.{spread_one}
 use Rattle.compact.proofs.rows.spread.Goals as goal

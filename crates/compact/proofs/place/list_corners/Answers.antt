@@ -6,12 +6,12 @@ use Rattle.dissect.specs.Boxes.{web}
 use Rattle.compact.specs.Ordered.{point_at, places_along}
 use Rattle.compact.proofs.Walking.{path_below}
 use Rattle.compact.proofs.Placing.{IsCornersOf, one_corners}
-use Rattle.compact.proofs.place.corners_of.Goals as goal
+use Rattle.compact.proofs.place.list_corners.Goals as goal
 
 pub loop-edge-init : goal.loop-edge-init
 loop-edge-init c =
-    joined-starts c.push.new.self.items c.in_ok-corners.corners.items (IsCornersOf c.args.boxes.now (λ v. slice_index c.args.x.now v) (λ v. slice_index c.args.y.now v))
-    (c.in_ok-push.ensures.items ∙ ap (λ (s : List ℕ). s ++ (0 ∷ [])) c.in_ok-starts.ensures.items) c.in_ok-corners.ensures.items
+    joined-starts c.push.new.self.items c.clear.new.self.items (IsCornersOf c.args.boxes.now (λ v. slice_index c.args.x.now v) (λ v. slice_index c.args.y.now v))
+    (c.in_ok-push.ensures.items ∙ ap (λ (s : List ℕ). s ++ (0 ∷ [])) c.in_ok-starts.ensures.items) c.clear.ensures.items
 
 pub push_corners-requires-clause-inside : goal.push_corners-requires-clause-inside
 push_corners-requires-clause-inside c =
