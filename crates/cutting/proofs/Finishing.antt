@@ -121,6 +121,23 @@ scan_done w0 face w st scan reduced o rs wait =
         four_done w a b c d o rs lefts.1.1.1.0 lefts.1.1.0 lefts.1.0 lefts.0 waiting
     close w (d ∷ c ∷ b ∷ a ∷ e ∷ st) o rs lefts four waiting = absurd (omega (arith, four))
 
+-- a face with four corners turns left at each of them, and is done
+pub four_corners_done : (w : Web) (face : List ℕ) (o : ℕ) (rs : List (List ℕ)) → IsSound w → length face ≡ 4 →
+    AreWaiting w o (face ∷ rs) → AreWaiting w o rs
+four_corners_done w [] o rs sound four waiting = absurd (omega (arith, four))
+four_corners_done w (a ∷ []) o rs sound four waiting = absurd (omega (arith, four))
+four_corners_done w (a ∷ b ∷ []) o rs sound four waiting = absurd (omega (arith, four))
+four_corners_done w (a ∷ b ∷ c ∷ []) o rs sound four waiting = absurd (omega (arith, four))
+four_corners_done w (a ∷ b ∷ c ∷ d ∷ []) o rs sound four waiting =
+    let some_a = sound.meeting.some a waiting.below.0 in
+    let some_b = sound.meeting.some b waiting.below.1.0 in
+    let some_c = sound.meeting.some c waiting.below.1.1.0 in
+    let some_d = sound.meeting.some d waiting.below.1.1.1.0 in
+    let once : w.angle a + (w.angle b + (w.angle c + (w.angle d + 0))) + 4 ≡ 2 * 4 = waiting.rings.0.1 in
+    four_done w a b c d o rs (omega (arith, some_b, some_c, some_d, some_a, once)) (omega (arith, some_a, some_b, some_c, some_d, once))
+    (omega (arith, some_a, some_b, some_c, some_d, once)) (omega (arith, some_a, some_b, some_c, some_d, once)) waiting
+four_corners_done w (a ∷ b ∷ c ∷ d ∷ e ∷ rest) o rs sound four waiting = absurd (omega (arith, four))
+
 -- a face can be read from another corner on
 pub turned_waiting : (w : Web) (xs ys : List ℕ) (o : ℕ) (rs : List (List ℕ)) → AreWaiting w o ((xs ++ ys) ∷ rs) → AreWaiting w o ((ys ++ xs) ∷ rs)
 turned_waiting w xs ys o rs waiting = record {

@@ -9,6 +9,9 @@ ghost use Rattle.cutting.specs.Scan.{CanCut, HasRoom, IsHookOn, IsTop, down, top
 
 use crate::table::DartTable;
 
+/// How many corners a box has.
+const BOX_CORNERS: usize = 4;
+
 /// Cuts across a face: from the head of the dart `d`, which is a right turn, by a new edge to a new
 /// vertex on the edge that follows the dart `c`. The new edge leaves one right angle on its left. The
 /// table needs room for four more darts. Constant time.
@@ -114,6 +117,9 @@ pub fn cut_face(table: &mut DartTable, ring: &mut [u32])
     ensures space { HasRoom (web_of table.new) (room table.new) }
     ensures room { room table.new ≡ room table.old }
 {
+    if ring.len() == BOX_CORNERS {
+        return;
+    }
     let start = highest(table.angle.as_slice(), ring);
     ring.rotate_left(start);
     let mut height = 0;

@@ -1,11 +1,20 @@
 use Rattle.std.proofs.Common.{◌<◌, ◌≤◌, ◌++◌, ℕ, List, length, map, get_or, drop, take, All, arith, sym, subst, refl}
+use Rattle.cutting.specs.Webs.{same}
 use Rattle.cutting.specs.Tables.{web_of, room}
 use Rattle.cutting.specs.Turning.{IsHighest}
 use Rattle.cutting.specs.Faces.{Below, joined}
 use Rattle.cutting.proofs.Listing.{below_left}
+use Rattle.cutting.proofs.Finishing.{four_corners_done}
 use Rattle.cutting.proofs.Stacks.{inside_put}
 use Rattle.cutting.proofs.Reading.{reading_begins, reading_top, reading_waits, reading_more, reading_done, all_below, all_small, below_turned}
 use Rattle.cutting.proofs.scan.cut_face.Goals as goal
+
+pub returns-then-ring-eq-BOX_CORNERS-clause-grows : goal.returns-then-ring-eq-BOX_CORNERS-clause-grows
+returns-then-ring-eq-BOX_CORNERS-clause-grows c = same
+
+pub returns-then-ring-eq-BOX_CORNERS-clause-waiting : goal.returns-then-ring-eq-BOX_CORNERS-clause-waiting
+returns-then-ring-eq-BOX_CORNERS-clause-waiting c =
+    λ o rs wait. four_corners_done (web_of c.args.table.now) c.args.ring.now o rs c.requires.sound c.if-ring-eq-BOX_CORNERS.true wait
 
 pub highest-start-requires-clause-inside : goal.highest-start-requires-clause-inside
 highest-start-requires-clause-inside c =
