@@ -1,5 +1,5 @@
 -- The web of a plane whose edges have no bends yet.
-use Rattle.std.specs.Prelude.{◌≡◌, ℕ, ◌+◌, ◌<◌, slice_index}
+use Rattle.std.specs.Prelude.{◌≡◌, ℕ, ◌+◌, ◌<◌, ◌≤◌}
 use Rattle.faces.specs.Planes.{PlaneModel, darts, vertices, head, reverse_dart, next}
 use Rattle.cutting.specs.declared.table.DartTable.{DartTable}
 use Rattle.cutting.specs.Webs.{Web, no_dart}
@@ -17,9 +17,8 @@ pub record IsBare (p : PlaneModel) (a h : ℕ → ℕ) (w : Web) : Type 0 where
   pub angles : (d : ℕ) → d < darts p → w.angle d ≡ a d
   pub befores : (d : ℕ) → d < darts p → w.before d ≡ no_dart
 
--- a table of so many darts and vertices, with no dart in front of another
+-- a table of so many darts and vertices, with room for `places` darts at least
 pub record IsBlank (dart_number vertex_number places : ℕ) (t : DartTable) : Type 0 where
   pub dart_count : t.darts ≡ dart_number
   pub vertex_count : t.vertices ≡ vertex_number
-  pub size : room t ≡ places
-  pub befores : (a : ℕ) → a < places → slice_index t.before.items a ≡ no_dart
+  pub size : places ≤ room t

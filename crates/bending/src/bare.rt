@@ -5,7 +5,7 @@ ghost use Rattle.sums.specs.Sums.{sum_below};
 ghost use Rattle.faces.specs.Planes.{darts, vertices, head, reverse_dart, next};
 ghost use Rattle.ortho_rep.specs.Shapes.{angle_at, turns_at};
 ghost use Rattle.ortho_rep.specs.Representation.{HasDarts};
-ghost use Rattle.cutting.specs.declared.table.TheConstants.{RECTANGLE_ROOM};
+ghost use Rattle.cutting.specs.declared.table.TheConstants.{NO_DART, RECTANGLE_ROOM};
 ghost use Rattle.cutting.specs.Tables.{web_of, room};
 ghost use Rattle.bending.specs.Bare.{IsBare, IsBlank};
 
@@ -32,8 +32,8 @@ pub fn room_for(plane: &Plane, shape: &Shape) -> u32
     u32::from(graph.darts()) + 3 * turns + 8 * u32::from(graph.vertices()) + RECTANGLE_ROOM
 }
 
-/// A table of so many darts and vertices, of which nothing is written yet, with no dart in front of
-/// another, in the memory of this one.
+/// A table of so many darts and vertices, of which nothing is written yet, with room for `places` darts at least,
+/// in the memory of this one. Only where that is too short are its lists filled anew.
 fn blank_table(
     table: DartTable,
     darts: u32,
@@ -45,6 +45,19 @@ fn blank_table(
     ensures { IfOk result (IsBlank darts vertices places) }
 {
     let places = places as usize;
+    if places <= table.next.len() {
+        return Ok(DartTable {
+            next: table.next,
+            prev: table.prev,
+            reverse_dart: table.reverse_dart,
+            head: table.head,
+            before: table.before,
+            direction: table.direction,
+            angle: table.angle,
+            darts,
+            vertices,
+        });
+    }
     Ok(DartTable {
         next: filled(table.next, places, 0)?,
         prev: filled(table.prev, places, 0)?,
@@ -58,8 +71,8 @@ fn blank_table(
     })
 }
 
-/// Writes what the table holds of a dart: its next, its reverse, its head, its direction and its angle;
-/// and the dart as the previous one of its next.
+/// Writes what the table holds of a dart: its next, its reverse, its head, its direction and its angle, and that
+/// none is in front of it; and the dart as the previous one of its next.
 fn write_dart(table: &mut DartTable, plane: &Plane, shape: &Shape, directions: &[u8], dart: u16)
     requires within { dart < darts plane.now }
     requires space { darts plane.now ≤ room table.old }
@@ -73,7 +86,7 @@ fn write_dart(table: &mut DartTable, plane: &Plane, shape: &Shape, directions: &
         ≡ slice_set table.old.direction.items dart (slice_index directions.now dart) }
     ensures angle { table.new.angle.items
         ≡ slice_set table.old.angle.items dart (angle_at shape.now dart) }
-    ensures before { table.new.before.items ≡ table.old.before.items }
+    ensures before { table.new.before.items ≡ slice_set table.old.before.items dart NO_DART }
     ensures darts { table.new.darts ≡ table.old.darts }
     ensures vertices { table.new.vertices ≡ table.old.vertices }
     ensures room { room table.new ≡ room table.old }
@@ -85,13 +98,14 @@ fn write_dart(table: &mut DartTable, plane: &Plane, shape: &Shape, directions: &
     table.prev[usize::from(next)] = u32::from(dart);
     table.reverse_dart[place] = u32::from(graph.reverse(dart));
     table.head[place] = u32::from(graph.head(dart)) - 1;
+    table.before[place] = NO_DART;
     table.direction[place] = directions[place];
     table.angle[place] = shape.angle(dart);
 }
 
-/// The table of a plane's darts with these directions and the angles of the shape, and with so much
-/// room, in the memory of an earlier table. One allocation for each array that has not enough; a step
-/// for each place of them.
+/// The table of a plane's darts with these directions and the angles of the shape, and with at least so much
+/// room, in the memory of an earlier table. A step for each dart; where the arrays have not enough room, an allocation
+/// for each, and a step for each of their places.
 pub fn bare_table(
     table: DartTable,
     plane: &Plane,
@@ -104,7 +118,7 @@ pub fn bare_table(
     requires space { darts plane.now ≤ places }
     ensures bare { IfOk result (λ t. IsBare plane.now (angle_at shape.now)
         (slice_index directions.now) (web_of t)) }
-    ensures room { IfOk result (λ t. room t ≡ places) }
+    ensures room { IfOk result (λ t. places ≤ room t) }
 {
     let graph = plane.graph();
     let darts = u32::from(graph.darts());

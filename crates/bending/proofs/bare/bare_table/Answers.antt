@@ -1,7 +1,8 @@
-use Rattle.std.proofs.Common.{◌-◌, ◌<◌, ◌≤◌, ◌∙◌, ℕ, List, get_or, slice_index, arith, ap, refl}
+use Rattle.std.proofs.Common.{◌-◌, ◌<◌, ◌≤◌, ◌∙◌, ℕ, slice_index, arith, ap, refl}
 use Rattle.embedding.specs.Darts.{dart_count}
 use Rattle.faces.specs.Planes.{darts, head, reverse_dart, next}
 use Rattle.ortho_rep.specs.Shapes.{angle_at}
+use Rattle.cutting.specs.Webs.{no_dart}
 use Rattle.bending.proofs.Writing.{filled_more, turned_more}
 use Rattle.bending.proofs.bare.bare_table.Goals as goal
 
@@ -24,10 +25,10 @@ darts-preserved c =
       directions = filled_more t.direction.items t'.direction.items (slice_index c.args.directions.now) k _ before.directions (omega arith)
           write.direction refl;
       angles = filled_more t.angle.items t'.angle.items (angle_at c.args.shape.now) k _ before.angles (omega arith) write.angle refl;
-      befores = λ d l. ap (λ (xs : List ℕ). get_or xs d 0) write.before ∙ before.befores d (omega (arith, l, write.room));
+      befores = filled_more t.before.items t'.before.items (λ _. no_dart) k no_dart before.befores (omega arith) write.before refl;
       dart_count = write.darts ∙ before.dart_count;
       vertex_count = write.vertices ∙ before.vertex_count;
-      same = write.room ∙ before.same;
+      size = omega (arith, write.room, before.size);
     }
 
 pub returns-clause-bare : goal.returns-clause-bare
@@ -46,5 +47,5 @@ returns-clause-bare c =
       heads = λ d l. omega (arith, done.heads d (within d l), ends.head_from d l);
       directions = λ d l. done.directions d (within d l);
       angles = λ d l. done.angles d (within d l);
-      befores = λ d l. done.befores d (omega (arith, l, done.same));
+      befores = λ d l. done.befores d (within d l);
     }

@@ -1,4 +1,4 @@
-use Rattle.std.proofs.Common.{◌≡◌, ◌-◌, ◌<◌, ℕ, slice_index}
+use Rattle.std.proofs.Common.{◌≡◌, ◌-◌, ◌≤◌, slice_index}
 use Rattle.faces.specs.Planes.{darts, vertices, head, reverse_dart, next}
 use Rattle.ortho_rep.specs.Shapes.{angle_at}
 use Rattle.cutting.specs.Webs.{no_dart}
@@ -14,8 +14,8 @@ invariant-darts l = record {
   heads : IsFilled l.table.head.items (λ d. head l.plane d - 1) l.dart;
   directions : IsFilled l.table.direction.items (slice_index l.directions) l.dart;
   angles : IsFilled l.table.angle.items (angle_at l.shape) l.dart;
-  befores : (d : ℕ) → d < room l.table → slice_index l.table.before.items d ≡ no_dart;
+  befores : IsFilled l.table.before.items (λ _. no_dart) l.dart;
   dart_count : l.table.darts ≡ darts l.plane;
   vertex_count : l.table.vertices ≡ vertices l.plane;
-  same : room l.table ≡ l.places;
+  size : l.places ≤ room l.table;
 }
