@@ -203,6 +203,34 @@ hook_from w xs h three left left_first right =
     (subst (IsHookOn w) (sym (tops_three xs k))
     (subst (λ (j : ℕ). w.angle (get_or xs j 0) ≡ 1) e1 left, subst (λ (j : ℕ). w.angle (get_or xs j 0) ≡ 1) e2 left_first, right))
 
+-- the angles of the three uppermost
+pub three_turns : (w : Web) (xs : List ℕ) (h : ℕ) → 3 ≤ h → AreTurns (map w.angle (tops xs h)) →
+    AreTurns (w.angle (get_or xs (h - 1) 0) ∷ w.angle (get_or xs (h - 2) 0) ∷ w.angle (get_or xs (h - 3) 0) ∷ [])
+three_turns w xs h three turns =
+    let k : ℕ = h - 3 in
+    let e : h ≡ k + 3 = omega arith in
+    let e1 : k + 2 ≡ h - 1 = omega arith in
+    let e2 : k + 1 ≡ h - 2 = omega arith in
+    let all : AreTurns (map w.angle (get_or xs (k + 2) 0 ∷ get_or xs (k + 1) 0 ∷ get_or xs k 0 ∷ tops xs k)) =
+    subst (λ (st : List ℕ). AreTurns (map w.angle st)) (ap (tops xs) e ∙ tops_three xs k) turns in
+    subst (λ (i : ℕ). AreTurns (w.angle (get_or xs i 0) ∷ w.angle (get_or xs (h - 2) 0) ∷ w.angle (get_or xs k 0) ∷ [])) e1
+    (subst (λ (i : ℕ). AreTurns (w.angle (get_or xs (k + 2) 0) ∷ w.angle (get_or xs i 0) ∷ w.angle (get_or xs k 0) ∷ [])) e2
+    (all.0, all.1, all.2, (all.3.0, all.3.1, all.3.2, (all.3.3.0, all.3.3.1, all.3.3.2, tt))))
+
+-- among corners, only a right turn has more right angles than two others, and only than two left turns
+pub hook_compared : (top below right : ℕ) → AreTurns (top ∷ below ∷ right ∷ []) → below + top < right →
+    (top ≡ 1) × (below ≡ 1) × (2 < right)
+hook_compared top below right turns less =
+    let small : below + top < 4 = omega (arith, less, turns.3.3.1) in (
+      one top below turns.0 turns.2 turns.3.0 turns.3.2 small,
+      one below top turns.3.0 turns.3.2 turns.0 turns.2 (omega (arith, small)),
+      omega (arith, less, turns.0, turns.3.0),
+    )
+  where
+    one : (a b : ℕ) → 1 ≤ a → (a ≡ 2 → ⊥) → 1 ≤ b → (b ≡ 2 → ⊥) → b + a < 4 → a ≡ 1
+    one a b some_a two_a some_b two_b small =
+        elim (cases_lt a 2) [ inl low ↦ omega arith | inr high ↦ absurd (two_a (omega arith)) ]
+
 -- the same steps at any height
 pub can_at : (w0 : Web) (room : ℕ) (face : List ℕ) (w : Web) (xs : List ℕ) (h read : ℕ) (o : ℕ) (rs : List (List ℕ)) →
     IsTop w0 room face w xs h read → AreWaiting w0 o (face ∷ rs) → IsHookOn w (tops xs h) → CanCut w (get_or xs (h - 3) 0) (get_or xs (h - 1) 0)
@@ -247,6 +275,12 @@ turning_at w0 room face w xs h read way o rs new top wait hook cut corner =
     (hook_at w xs k (subst (λ (j : ℕ). IsHookOn w (tops xs j)) e hook))
     (subst (λ (j : ℕ). IsCut w (get_or xs k 0) (w.next (get_or xs j 0)) way new) e1 cut) corner))
 
+-- the corners on the stack turn
+pub turns_at : (w0 : Web) (room : ℕ) (face : List ℕ) (w : Web) (xs : List ℕ) (h read : ℕ) (o : ℕ) (rs : List (List ℕ)) →
+    IsTop w0 room face w xs h read → AreWaiting w0 o (face ∷ rs) → AreTurns (map w.angle (tops xs h))
+turns_at w0 room face w xs h read o rs top wait =
+    turns_of w (tops xs h) top.scan.sound (stack_turns w0 face w (tops xs h) (drop read xs) o rs top.scan wait)
+
 -- with no hook uppermost, the whole stack is reduced
 pub unhooked_at : (w0 : Web) (room : ℕ) (face : List ℕ) (w : Web) (xs : List ℕ) (h read : ℕ) (o : ℕ) (rs : List (List ℕ)) →
     IsTop w0 room face w xs h read → AreWaiting w0 o (face ∷ rs) → (IsHookOn w (tops xs h) → ⊥) → Reduced 0 (map w.angle (tops xs h))
@@ -255,8 +289,7 @@ unhooked_at w0 room face w xs h read o rs top wait clear =
     let some : 1 ≤ h = top.some in
     let e : h ≡ k + 1 = omega arith in
     let same : tops xs h ≡ get_or xs k 0 ∷ tops xs k = ap (tops xs) e ∙ tops_more xs k in
-    let turns : AreTurns (map w.angle (tops xs h)) = turns_of w (tops xs h) top.scan.sound
-    (stack_turns w0 face w (tops xs h) (drop read xs) o rs top.scan wait) in
+    let turns : AreTurns (map w.angle (tops xs h)) = turns_at w0 room face w xs h read o rs top wait in
     subst (λ (st : List ℕ). Reduced 0 (map w.angle st)) (sym same)
     (unhooked w (get_or xs k 0 ∷ tops xs k) (subst (λ (st : List ℕ). AreTurns (map w.angle st)) same turns)
     (λ hook. clear (subst (IsHookOn w) (sym same) hook)) (omega arith)

@@ -1,10 +1,10 @@
 //! Cuts, and the scan of a face that cuts it into boxes.
 
-ghost use Rattle.std.specs.Prelude.{◌≡◌, ◌≢◌, ℕ, ◌+◌, ◌-◌, ◌*◌, ◌^◌, ◌<◌, ◌≤◌, ◌↔◌, List, [], ◌∷◌, length, map, drop, sum, slice_index, true, IsTrue, All};
+ghost use Rattle.std.specs.Prelude.{◌≡◌, ◌≢◌, ℕ, ◌+◌, ◌-◌, ◌*◌, ◌^◌, ◌<◌, ◌≤◌, ◌↔◌, List, [], ◌∷◌, length, map, drop, sum, slice_index, true, All};
 ghost use Rattle.cutting.specs.Webs.{IsSound, IsCut, Grows};
 ghost use Rattle.cutting.specs.Tables.{web_of, room};
 ghost use Rattle.cutting.specs.Faces.{AreWaiting, cut_up};
-ghost use Rattle.cutting.specs.Turning.{Reduced, IsHighest};
+ghost use Rattle.cutting.specs.Turning.{AreTurns, Reduced, IsHighest};
 ghost use Rattle.cutting.specs.Scan.{CanCut, HasRoom, IsHookOn, IsTop, down, tops};
 
 use crate::table::DartTable;
@@ -30,18 +30,11 @@ pub fn cut_across(table: &mut DartTable, d: u32, c: u32)
     table.chord(d, first, chord_direction);
 }
 
-/// Whether these angles are a right turn and two left turns. It is no chain of branches, since none of them could be
-/// foreseen.
-fn are_hook(right: u8, below: u8, top: u8) -> bool
-    ensures { IsTrue result ↔ ((2 < right) × (below ≡ 1) × (top ≡ 1)) }
-{
-    (right > 2) & (below == 1) & (top == 1)
-}
-
 /// Whether the uppermost corners of the stack are a left turn on a left turn on a right turn.
 fn has_hook(table: &DartTable, ring: &[u32], height: usize) -> bool
     requires high { height ≤ length ring.now }
     requires inside { All (λ a. a < room table.now) ring.now }
+    requires turns { AreTurns (map (web_of table.now).angle (tops ring.now height)) }
     ensures { (result ≡ true) ↔ IsHookOn (web_of table.now) (tops ring.now height) }
 {
     if height < 3 {
@@ -50,7 +43,9 @@ fn has_hook(table: &DartTable, ring: &[u32], height: usize) -> bool
     let top = table.angle[ring[height - 1] as usize];
     let below = table.angle[ring[height - 2] as usize];
     let right = table.angle[ring[height - 3] as usize];
-    are_hook(right, below, top)
+    // A corner has one, three or four right angles, so both upper ones have one here. It is one comparison, and no
+    // chain of them, since none could be foreseen.
+    right > below + top
 }
 
 /// Cuts at the uppermost corners of the stack as long as they are two left turns on a right turn, and

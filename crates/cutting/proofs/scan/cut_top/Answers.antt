@@ -2,8 +2,13 @@ use Rattle.std.proofs.Common.{◌≤◌, ◌+◌, ◌-◌, get_or, arith, sym, �
 use Rattle.std.proofs.lemmas.List.{get_or_read, drop-set-lt}
 use Rattle.cutting.specs.Tables.{web_of, room}
 use Rattle.cutting.proofs.Scanning.{right_room}
-use Rattle.cutting.proofs.Stacks.{hook_three, can_at, straight_at, turning_at, unhooked_at, inside_put}
+use Rattle.cutting.proofs.Stacks.{hook_three, can_at, straight_at, turning_at, turns_at, unhooked_at, inside_put}
 use Rattle.cutting.proofs.scan.cut_top.Goals as goal
+
+pub has_hook-requires-clause-turns : goal.has_hook-requires-clause-turns
+has_hook-requires-clause-turns c =
+    turns_at _ _ _ (web_of c.cuts.table) c.cuts.ring c.cuts.height c.args.read c.requires.waiting.0 c.requires.waiting.1 c.cuts.invariant.top
+    c.requires.waiting.2
 
 pub overflow_sub-right : goal.overflow_sub-right
 overflow_sub-right c = hook_three (web_of c.cuts.table) c.cuts.ring c.cuts.height (c.has_hook.ensures.0 c.cuts-test.true)
