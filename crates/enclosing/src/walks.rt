@@ -1,6 +1,6 @@
 //! Walks round the faces of a drawing.
 
-ghost use Rattle.std.specs.Prelude.{◌≡◌, ◌<◌, ◌≤◌, ℕ, OnOk, vec_len};
+ghost use Rattle.std.specs.Prelude.{◌≡◌, ◌≢◌, ◌⊎◌, ◌<◌, ◌≤◌, ℕ, [], ◌∷◌, ◌++◌, OnOk, vec_len};
 ghost use Rattle.cutting.specs.Labels.{AreLabels, HasTurns};
 ghost use Rattle.cutting.specs.Tables.{web_of};
 ghost use Rattle.cutting.specs.Webs.{IsLinked};
@@ -29,6 +29,17 @@ pub fn find_right(table: &DartTable, outside: u32) -> u32
     dart
 }
 
+/// Puts a dart behind the corners if it is one, that is, if its angle is not straight. It is put there in any case,
+/// and let go again if it is none: whether it is one could not be foreseen by a branch.
+fn push_corner(corners: &mut Vec<u32>, dart: u32, angle: u8) -> Result<(), AllocError>
+    ensures { OnOk result (((angle ≢ 2) × (corners.new.items ≡ corners.old.items ++ (dart ∷ [])))
+        ⊎ ((angle ≡ 2) × (corners.new.items ≡ corners.old.items))) }
+{
+    corners.push(dart)?;
+    corners.truncate(corners.len() - usize::from(angle == 2));
+    Ok(())
+}
+
 /// Walks from the dart `start` once round its face, marks the darts as seen, and adds the corners
 /// among them to the list, `start` last where it is one.
 pub fn walk(
@@ -47,9 +58,7 @@ pub fn walk(
     'steps: for _ in 0..table.darts {
         dart = table.next[dart as usize];
         seen[dart as usize] = true;
-        if table.angle[dart as usize] != 2 {
-            corners.push(dart)?;
-        }
+        push_corner(corners, dart, table.angle[dart as usize])?;
         if dart == start {
             return Ok(());
         }

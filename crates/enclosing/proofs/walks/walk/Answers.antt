@@ -1,9 +1,8 @@
-use Rattle.std.proofs.Common.{arith, refl, inl, inr}
+use Rattle.std.proofs.Common.{arith}
 use Rattle.std.proofs.lemmas.List.{get_or_read}
 use Rattle.cutting.specs.Tables.{web_of}
 use Rattle.enclosing.proofs.Walking.{IsTurn, walk_in, walk_turns, walk_goes, walk_ends, walk_fails}
 use Rattle.enclosing.proofs.walks.walk.Goals as goal
-use Rattle.enclosing.proofs.walks.walk.Goals.{then-index-ne2+in_ok-push, else-index-ne2}
 
 pub index-dart-requires : goal.index-dart-requires
 index-dart-requires c =
@@ -34,15 +33,8 @@ returns-then-dart-start-clause-walked c =
     let next = get_or_read t.next.items c.steps.dart c.index-dart.result.now (omega arith) c.index-dart.ensures 0 in
     let after = c.requires.linked.next_in c.steps.dart inside in
     let angle = get_or_read t.angle.items c.index-dart.result.now c.index.result.now (omega (arith, next, after)) c.index.ensures 0 in
-    let turn : IsTurn w c.steps.dart c.index-dart.result.now c.index.result.now c.steps.corners.items c.if-index-ne2.corners.items =
-    record {
-      next_is = next;
-      angle_is = angle;
-      put = elim c.if-index-ne2.branch [
-        | then-index-ne2+in_ok-push w ↦ inl (w.if-index-ne2.true, rw w.corners-is w.in_ok-push.ensures.items)
-        | else-index-ne2 w ↦ inr (w.if-index-ne2.false, rw w.corners-is refl)
-      ];
-    } in
+    let turn : IsTurn w c.steps.dart c.index-dart.result.now c.index.result.now c.steps.corners.items c.push_corner.new.corners.items =
+    record { next_is = next; angle_is = angle; put = c.in_ok-push_corner.ensures } in
     let step = walk_turns w _ _ _ _ _ _ _ _ _ _ c.steps.invariant (omega (arith, next, after, c.steps.invariant.size)) turn in
     walk_ends w _ _ _ _ _ _ _ step c.steps-test.true c.if-dart-start.true
 
@@ -54,15 +46,8 @@ steps-preserved c =
     let next = get_or_read t.next.items c.steps.dart c.index-dart.result.now (omega arith) c.index-dart.ensures 0 in
     let after = c.requires.linked.next_in c.steps.dart inside in
     let angle = get_or_read t.angle.items c.index-dart.result.now c.index.result.now (omega (arith, next, after)) c.index.ensures 0 in
-    let turn : IsTurn w c.steps.dart c.index-dart.result.now c.index.result.now c.steps.corners.items c.if-index-ne2.corners.items =
-    record {
-      next_is = next;
-      angle_is = angle;
-      put = elim c.if-index-ne2.branch [
-        | then-index-ne2+in_ok-push w ↦ inl (w.if-index-ne2.true, rw w.corners-is w.in_ok-push.ensures.items)
-        | else-index-ne2 w ↦ inr (w.if-index-ne2.false, rw w.corners-is refl)
-      ];
-    } in
+    let turn : IsTurn w c.steps.dart c.index-dart.result.now c.index.result.now c.steps.corners.items c.push_corner.new.corners.items =
+    record { next_is = next; angle_is = angle; put = c.in_ok-push_corner.ensures } in
     let step = walk_turns w _ _ _ _ _ _ _ _ _ _ c.steps.invariant (omega (arith, next, after, c.steps.invariant.size)) turn in
     walk_goes w _ _ _ _ _ _ _ step c.if-dart-start.false
 
