@@ -1,7 +1,10 @@
 -- One turn of an edge, and one edge of a plane, as the loops take them.
-use Rattle.std.proofs.Common.{◌≡◌, ℕ, ◌+◌, ◌*◌, ◌<◌, ◌≤◌, List, [], ◌∷◌, length, get_or, drop, ◌∙◌, arith, subst, sym, ap}
+use Rattle.std.proofs.Common.{◌≡◌, ℕ, zero, suc, ◌+◌, ◌-◌, ◌*◌, ◌<◌, ◌≤◌, List, [], ◌∷◌, length, get_or, drop, ◌∙◌, arith, subst, sym, ap, refl, inl, inr}
+use Rattle.std.proofs.lemmas.Bool.{cases_lt}
 use Rattle.std.proofs.Math.Seq.{drop-cons}
 use Rattle.std.proofs.Math.Numerals.{add-one}
+use Rattle.embedding.specs.Lesser.{lesser_darts_from}
+use Rattle.embedding.proofs.Lesser.{lesser_past, lesser_away, lesser_next}
 use Rattle.faces.specs.Planes.{PlaneModel, darts, reverse_dart}
 use Rattle.ortho_rep.specs.declared.turn.Turn.{Turn}
 use Rattle.cutting.specs.Webs.{Web, IsLinked, IsMeeting, IsSplit}
@@ -64,3 +67,75 @@ edge_left p s start t k before greater = record {
   same = before.same;
   steps = λ end rest. before.steps end (passed k (web_of t) end greater rest);
 }
+
+-- the lesser darts that are left begin behind the edges that have their bends
+pub record AreLeft (p : PlaneModel) (s : ℕ → List Turn) (start t : DartTable) (left : List ℕ) : Type 0 where
+  pub place : ℕ
+  pub within : place ≤ darts p
+  pub are : left ≡ lesser_darts_from p.lists place
+  pub done : AreDone p s start t place
+
+-- the first of the lesser darts that are left
+pub record IsNext (p : PlaneModel) (s : ℕ → List Turn) (start t : DartTable) (d : ℕ) (rest : List ℕ) : Type 0 where
+  pub inside : d < darts p
+  pub lesser : d < reverse_dart p d
+  pub are : rest ≡ lesser_darts_from p.lists (d + 1)
+  pub done : AreDone p s start t d
+
+next_from : (p : PlaneModel) (s : ℕ → List Turn) (start t : DartTable) (d : ℕ) (rest : List ℕ) (more k : ℕ) → more + k ≡ darts p →
+    d ∷ rest ≡ lesser_darts_from p.lists k → AreDone p s start t k → IsNext p s start t d rest
+next_from p s start t d rest zero k all are done =
+    let none : d ∷ rest ≡ [] = are ∙ lesser_past p.lists k (omega (arith, all)) in absurd (cc)
+next_from p s start t d rest (suc more) k all are done =
+    let inside : k < darts p = omega (arith, all) in
+    elim (cases_lt k (reverse_dart p k)) [
+      | inl lesser ↦
+          let here : d ∷ rest ≡ k ∷ lesser_darts_from p.lists (k + 1) =
+          lesser_next p.lists p.lists (d ∷ rest) k k (sym are) refl refl inside lesser in
+          let at : k ≡ d = cc in
+          let behind : rest ≡ lesser_darts_from p.lists (k + 1) = cc in
+          subst (λ (e : ℕ). IsNext p s start t e rest) at (record { inside = inside; lesser = lesser; are = behind; done = done })
+      | inr greater ↦
+          next_from p s start t d rest more (k + 1) (omega (arith, all)) (are ∙ lesser_away p.lists k inside greater)
+          (edge_left p s start t k done greater)
+    ]
+
+pub next_left : (p : PlaneModel) (s : ℕ → List Turn) (start t : DartTable) (d : ℕ) (rest : List ℕ) → AreLeft p s start t (d ∷ rest) →
+    IsNext p s start t d rest
+next_left p s start t d rest left =
+    next_from p s start t d rest (darts p - left.place) left.place (omega (arith, left.within)) left.are left.done
+
+-- the same at a place of the list
+pub next_at : (p : PlaneModel) (s : ℕ → List Turn) (start t : DartTable) (edges : List ℕ) (i : ℕ) → i < length edges →
+    AreLeft p s start t (drop i edges) → IsNext p s start t (get_or edges i 0) (drop (i + 1) edges)
+next_at p s start t edges i inside left =
+    let parts : drop i edges ≡ get_or edges i 0 ∷ drop (i + 1) edges =
+    drop-cons edges i 0 inside ∙ ap (λ (k : ℕ). get_or edges i 0 ∷ drop k edges) (sym (add-one i)) in
+    next_left p s start t (get_or edges i 0) (drop (i + 1) edges) (subst (AreLeft p s start t) parts left)
+
+pub next_done : (p : PlaneModel) (s : ℕ → List Turn) (start t new : DartTable) (d : ℕ) (rest : List ℕ) → IsNext p s start t d rest →
+    IsBent d (web_of t) (s d) (web_of new) → IsLinked (web_of new) → IsMeeting (web_of new) →
+    new.darts ≡ t.darts + 2 * length (s d) → room new ≡ room t → AreLeft p s start new rest
+next_done p s start t new d rest next edge linked meeting count same = record {
+  place = d + 1;
+  within = omega (arith, next.inside);
+  are = next.are;
+  done = edge_done p s start t new d next.done next.inside next.lesser edge linked meeting count same;
+}
+
+none_from : (p : PlaneModel) (s : ℕ → List Turn) (start t : DartTable) (more k : ℕ) → more + k ≡ darts p →
+    [] ≡ lesser_darts_from p.lists k → AreDone p s start t k → AreDone p s start t (darts p)
+none_from p s start t zero k all are done = subst (AreDone p s start t) (omega (arith, all)) done
+none_from p s start t (suc more) k all are done =
+    let inside : k < darts p = omega (arith, all) in
+    elim (cases_lt k (reverse_dart p k)) [
+      | inl lesser ↦
+          let here : [] ≡ k ∷ lesser_darts_from p.lists (k + 1) = lesser_next p.lists p.lists [] k k (sym are) refl refl inside lesser in absurd (cc)
+      | inr greater ↦
+          none_from p s start t more (k + 1) (omega (arith, all)) (are ∙ lesser_away p.lists k inside greater)
+          (edge_left p s start t k done greater)
+    ]
+
+-- where none is left, all edges have their bends
+pub none_left : (p : PlaneModel) (s : ℕ → List Turn) (start t : DartTable) → AreLeft p s start t [] → AreDone p s start t (darts p)
+none_left p s start t left = none_from p s start t (darts p - left.place) left.place (omega (arith, left.within)) left.are left.done

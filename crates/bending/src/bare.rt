@@ -1,6 +1,6 @@
 //! The table of a plane's darts before the edges have bends.
 
-ghost use Rattle.std.specs.Prelude.{◌≡◌, ◌+◌, ◌-◌, ◌*◌, ◌<◌, ◌≤◌, ℕ, IfOk, length, slice_index, slice_set};
+ghost use Rattle.std.specs.Prelude.{◌≡◌, ◌+◌, ◌-◌, ◌*◌, ◌<◌, ◌≤◌, ℕ, IfOk, length, slice_index, slice_set, vec_len};
 ghost use Rattle.sums.specs.Sums.{sum_below};
 ghost use Rattle.faces.specs.Planes.{darts, vertices, head, reverse_dart, next};
 ghost use Rattle.ortho_rep.specs.Shapes.{angle_at, turns_at};
@@ -71,19 +71,38 @@ fn blank_table(
     })
 }
 
-/// Writes what the table holds of a dart: its next, its reverse, its head, its direction and its angle, and that
-/// none is in front of it; and the dart as the previous one of its next.
-fn write_dart(table: &mut DartTable, plane: &Plane, shape: &Shape, directions: &[u8], dart: u16)
+/// Writes the items over the first ones of the list.
+fn put_first(list: &mut Vec<u8>, items: &[u8])
+    requires inside { length items.now ≤ vec_len list.old }
+    ensures here { (k : ℕ) → k < length items.now → slice_index list.new.items k ≡ slice_index items.now k }
+    ensures room { vec_len list.new ≡ vec_len list.old }
+{
+    list[0..items.len()].copy_from_slice(items);
+}
+
+/// Writes the directions of the first darts.
+fn put_directions(table: &mut DartTable, directions: &[u8])
+    requires inside { length directions.now ≤ room table.old }
+    ensures here { (k : ℕ) → k < length directions.now
+        → slice_index table.new.direction.items k ≡ slice_index directions.now k }
+    ensures darts { table.new.darts ≡ table.old.darts }
+    ensures vertices { table.new.vertices ≡ table.old.vertices }
+    ensures room { room table.new ≡ room table.old }
+{
+    put_first(&mut table.direction, directions);
+}
+
+/// Writes what the table holds of a dart beside its direction: its next, its reverse, its head and its angle, and
+/// that none is in front of it; and the dart as the previous one of its next.
+fn write_dart(table: &mut DartTable, plane: &Plane, shape: &Shape, dart: u16)
     requires within { dart < darts plane.now }
     requires space { darts plane.now ≤ room table.old }
     requires shape { HasDarts plane.now shape.now }
-    requires directions { length directions.now ≡ darts plane.now }
     ensures next { table.new.next.items ≡ slice_set table.old.next.items dart (next plane.now dart) }
     ensures prev { table.new.prev.items ≡ slice_set table.old.prev.items (next plane.now dart) dart }
     ensures reverse_dart { table.new.reverse_dart.items ≡ slice_set table.old.reverse_dart.items dart (reverse_dart plane.now dart) }
     ensures head { table.new.head.items ≡ slice_set table.old.head.items dart (head plane.now dart - 1) }
-    ensures direction { table.new.direction.items
-        ≡ slice_set table.old.direction.items dart (slice_index directions.now dart) }
+    ensures direction { table.new.direction.items ≡ table.old.direction.items }
     ensures angle { table.new.angle.items
         ≡ slice_set table.old.angle.items dart (angle_at shape.now dart) }
     ensures before { table.new.before.items ≡ slice_set table.old.before.items dart NO_DART }
@@ -99,7 +118,6 @@ fn write_dart(table: &mut DartTable, plane: &Plane, shape: &Shape, directions: &
     table.reverse_dart[place] = u32::from(graph.reverse(dart));
     table.head[place] = u32::from(graph.head(dart)) - 1;
     table.before[place] = NO_DART;
-    table.direction[place] = directions[place];
     table.angle[place] = shape.angle(dart);
 }
 
@@ -124,8 +142,9 @@ pub fn bare_table(
     let darts = u32::from(graph.darts());
     let vertices = u32::from(graph.vertices());
     let mut table = blank_table(table, darts, vertices, places)?;
+    put_directions(&mut table, directions);
     'darts: for dart in 0..graph.darts() {
-        write_dart(&mut table, plane, shape, directions, dart);
+        write_dart(&mut table, plane, shape, dart);
     }
     Ok(table)
 }

@@ -1,7 +1,8 @@
 //! The bends of edges.
 
-ghost use Rattle.std.specs.Prelude.{◌≡◌, ◌+◌, ◌*◌, ◌<◌, ◌≤◌, length};
+ghost use Rattle.std.specs.Prelude.{◌≡◌, ◌+◌, ◌*◌, ◌<◌, ◌≤◌, IfOk, length};
 ghost use Rattle.faces.specs.Planes.{darts};
+ghost use Rattle.ortho_rep.specs.Edges.{lesser_darts};
 ghost use Rattle.ortho_rep.specs.Shapes.{turns_at};
 ghost use Rattle.ortho_rep.specs.Representation.{IsShape, bends_of};
 ghost use Rattle.cutting.specs.Webs.{IsLinked, IsMeeting};
@@ -11,6 +12,8 @@ ghost use Rattle.bending.specs.Steps.{AreBent, IsBent, angle_of};
 use cutting::DartTable;
 use faces::Plane;
 use ortho_rep::{Shape, Turn};
+use reuse::emptied;
+use std::alloc::AllocError;
 
 /// The angle on the left of a walk that makes this turn, in right angles.
 fn angle_of(turn: Turn) -> u8
@@ -41,20 +44,33 @@ fn bend_edge(table: &mut DartTable, e: u32, turns: &[Turn])
     }
 }
 
-/// Gives each edge of the plane the turns of its lesser dart. Linear in the darts and the turns.
-pub fn bend_edges(table: &mut DartTable, plane: &Plane, shape: &Shape)
+/// The lesser dart of each edge, in order, in the memory of this list.
+pub fn lesser_darts_of(plane: &Plane, edges: Vec<u16>) -> Result<Vec<u16>, AllocError>
+    ensures { IfOk result (λ edges. edges.items ≡ lesser_darts plane.now) }
+{
+    let graph = plane.graph();
+    let mut edges = emptied(edges, usize::from(graph.edges()))?;
+    for dart in graph.lesser_darts() {
+        edges.push(dart)?;
+    }
+    Ok(edges)
+}
+
+/// Gives each edge of the plane the turns of its lesser dart, of which `edges` is the list. Linear in the edges and
+/// the turns.
+pub fn bend_edges(table: &mut DartTable, plane: &Plane, shape: &Shape, edges: &[u16])
     requires linked { IsLinked (web_of table.old) }
     requires meeting { IsMeeting (web_of table.old) }
     requires shape { IsShape plane.now shape.now }
+    requires edges { edges.now ≡ lesser_darts plane.now }
     requires inside { darts plane.now ≤ table.old.darts }
     requires space { table.old.darts + 2 * bends_of (darts plane.now) (turns_at shape.now) ≤ room table.old }
     ensures bent { AreBent plane.now (turns_at shape.now) 0 (web_of table.old) (web_of table.new) }
     ensures room { room table.new ≡ room table.old }
 {
-    let graph = plane.graph();
-    'darts: for dart in 0..graph.darts() {
-        if dart < graph.reverse(dart) {
-            bend_edge(table, u32::from(dart), shape.turns(dart));
-        }
+    // Only the proof needs this: `graph` says that the plane is one.
+    let _graph = plane.graph();
+    'edges: for dart in edges {
+        bend_edge(table, u32::from(*dart), shape.turns(*dart));
     }
 }

@@ -9,5 +9,6 @@ mod bare;
 mod edges;
 mod straight;
 
+pub use edges::lesser_darts_of;
 pub use headings::{Search, headings, headings_in};
 pub use straight::{bend, bend_into};

@@ -2,6 +2,7 @@
 
 ghost use Rattle.std.specs.Prelude.{◌≡◌, ◌+◌, ◌*◌, ◌<◌, ◌≤◌, IfOk, length, map, slice_index};
 ghost use Rattle.faces.specs.Planes.{darts, reverse_dart, vertices};
+ghost use Rattle.ortho_rep.specs.Edges.{lesser_darts};
 ghost use Rattle.ortho_rep.specs.Shapes.{angle_at, turns_at};
 ghost use Rattle.ortho_rep.specs.Representation.{IsShape};
 ghost use Rattle.headings.specs.Headings.{AreHeadings};
@@ -14,7 +15,7 @@ ghost use Rattle.bending.specs.Bends.{CountsBends, KeepsDarts, KeepsFaces};
 ghost use Rattle.bending.specs.Steps.{angle_of};
 
 use crate::bare::{bare_table, room_for};
-use crate::edges::bend_edges;
+use crate::edges::{bend_edges, lesser_darts_of};
 use cutting::DartTable;
 use faces::Plane;
 use ortho_rep::Shape;
@@ -27,11 +28,11 @@ use std::alloc::{AllocError, Global};
 /// The plane's darts keep their numbers, heads, angles and faces; vertex v has the number v - 1. Each of
 /// them is the last dart of its edge: `before` leads back along the edge, which turns as its string says.
 /// The directions are counted by quarter turns to the left from east. Linear in the darts and the turns,
-/// with one allocation for each of the table's arrays.
+/// with one allocation for each of the table's arrays, and one for a list of the edges.
 ///
 /// # Errors
 ///
-/// `AllocError` where there is no memory for the table.
+/// `AllocError` where there is no memory for the table or the list.
 pub fn bend(
     alloc: Global,
     plane: &Plane,
@@ -53,11 +54,12 @@ pub fn bend(
     ensures joined { IfOk result (λ t. IsJoined (web_of t)) }
     ensures space { IfOk result (λ t. t.darts + 4 * excess (web_of t) + RECTANGLE_ROOM ≤ room t) }
 {
-    bend_into(DartTable::empty(alloc), plane, shape, directions)
+    let edges = lesser_darts_of(plane, Vec::new(alloc))?;
+    bend_into(DartTable::empty(alloc), plane, shape, directions, &edges)
 }
 
 /// The same in the memory of an earlier table, with one allocation for each of its arrays that has not
-/// enough.
+/// enough, where the lesser darts of the edges are known.
 ///
 /// # Errors
 ///
@@ -67,10 +69,12 @@ pub fn bend_into(
     plane: &Plane,
     shape: &Shape,
     directions: &[u8],
+    edges: &[u16],
 ) -> Result<DartTable, AllocError>
     requires shape { IsShape plane.now shape.now }
     requires count { length directions.now ≡ darts plane.now }
     requires headings { AreHeadings plane.now (angle_at shape.now) (turns_at shape.now) (slice_index directions.now) }
+    requires edges { edges.now ≡ lesser_darts plane.now }
     ensures sound { IfOk result (λ t. IsSound (web_of t)) }
     ensures darts { IfOk result (λ t. KeepsDarts plane.now (angle_at shape.now) (web_of t)) }
     ensures directions { IfOk result (λ t. AreHeadings plane.now (angle_at shape.now)
@@ -87,6 +91,6 @@ pub fn bend_into(
     let _graph = plane.graph();
     let room = room_for(plane, shape);
     let mut table = bare_table(table, plane, shape, directions, room)?;
-    bend_edges(&mut table, plane, shape);
+    bend_edges(&mut table, plane, shape, edges);
     Ok(table)
 }

@@ -6,9 +6,9 @@ ghost use Rattle.dissect.specs.Boxed.{IsBoxed};
 ghost use Rattle.dissect.specs.Headed.{AreHeadingsOf};
 
 use crate::boxes::Boxes;
-use crate::parts::{lesser_darts_of, paths_of};
+use crate::parts::paths_of;
 use crate::scratch::Scratch;
-use bending::{Search, bend_into, headings_in};
+use bending::{Search, bend_into, headings_in, lesser_darts_of};
 use enclosing::enclose_in;
 use faces::Plane;
 use ortho_rep::Shape;
@@ -80,7 +80,7 @@ pub fn dissect_along(
         starts,
     } = mem::replace(scratch, Scratch::empty(alloc));
     let edges = lesser_darts_of(plane, edges)?;
-    let mut table = bend_into(table, plane, shape, headings)?;
+    let mut table = bend_into(table, plane, shape, headings, &edges)?;
     let outside = plane.least_dart(plane.outer());
     let faces = enclose_in(&mut table, u32::from(outside), faces)?;
     let old = plane.graph().vertices();

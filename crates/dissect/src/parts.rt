@@ -3,25 +3,11 @@
 ghost use Rattle.std.specs.Prelude.{◌≡◌, ◌<◌, ℕ, List, [], ◌∷◌, ◌++◌, IfOk, OnOk, length, slice_index, slice_index_or};
 ghost use Rattle.cutting.specs.Paths.{IsPath};
 ghost use Rattle.cutting.specs.Tables.{web_of};
-ghost use Rattle.ortho_rep.specs.Edges.{lesser_darts};
 
 use cutting::{DartTable, NO_DART};
-use faces::Plane;
 use ortho_rep::JoinedLists;
 use reuse::emptied;
 use std::alloc::AllocError;
-
-/// The lesser dart of each edge, in order, in the memory of this list.
-pub fn lesser_darts_of(plane: &Plane, edges: Vec<u16>) -> Result<Vec<u16>, AllocError>
-    ensures { IfOk result (λ edges. edges.items ≡ lesser_darts plane.now) }
-{
-    let graph = plane.graph();
-    let mut edges = emptied(edges, usize::from(graph.edges()))?;
-    for dart in graph.lesser_darts() {
-        edges.push(dart)?;
-    }
-    Ok(edges)
-}
 
 /// Puts the darts of the path that ends with a dart behind a list, in walking order. A step for each of
 /// them.

@@ -1,4 +1,4 @@
-use Rattle.std.proofs.Common.{◌-◌, ◌<◌, ◌≤◌, ◌∙◌, ℕ, slice_index, arith, ap, refl}
+use Rattle.std.proofs.Common.{◌-◌, ◌<◌, ◌≤◌, ◌∙◌, ℕ, List, get_or, arith, ap, refl}
 use Rattle.embedding.specs.Darts.{dart_count}
 use Rattle.faces.specs.Planes.{darts, head, reverse_dart, next}
 use Rattle.ortho_rep.specs.Shapes.{angle_at}
@@ -22,8 +22,7 @@ darts-preserved c =
       prevs = turned_more t.prev.items t'.prev.items (next p) (darts p) k before.prevs ends.next_one.one k_in (omega (arith, next_in)) write.prev;
       reverse_darts = filled_more t.reverse_dart.items t'.reverse_dart.items (reverse_dart p) k (reverse_dart p k) before.reverse_darts (omega arith) write.reverse_dart refl;
       heads = filled_more t.head.items t'.head.items (λ d. head p d - 1) k (head p k - 1) before.heads (omega arith) write.head refl;
-      directions = filled_more t.direction.items t'.direction.items (slice_index c.args.directions.now) k _ before.directions (omega arith)
-          write.direction refl;
+      directions = λ d l. ap (λ (xs : List ℕ). get_or xs d 0) write.direction ∙ before.directions d l;
       angles = filled_more t.angle.items t'.angle.items (angle_at c.args.shape.now) k _ before.angles (omega arith) write.angle refl;
       befores = filled_more t.before.items t'.before.items (λ _. no_dart) k no_dart before.befores (omega arith) write.before refl;
       dart_count = write.darts ∙ before.dart_count;
@@ -45,7 +44,7 @@ returns-clause-bare c =
       prevs = λ d l. done.prevs d (within d l);
       reverse_darts = λ d l. done.reverse_darts d (within d l);
       heads = λ d l. omega (arith, done.heads d (within d l), ends.head_from d l);
-      directions = λ d l. done.directions d (within d l);
+      directions = done.directions;
       angles = λ d l. done.angles d (within d l);
       befores = λ d l. done.befores d (within d l);
     }

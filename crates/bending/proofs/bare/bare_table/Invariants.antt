@@ -12,7 +12,7 @@ invariant-darts l = record {
   prevs : IsTurned l.table.prev.items (next l.plane) l.dart;
   reverse_darts : IsFilled l.table.reverse_dart.items (reverse_dart l.plane) l.dart;
   heads : IsFilled l.table.head.items (λ d. head l.plane d - 1) l.dart;
-  directions : IsFilled l.table.direction.items (slice_index l.directions) l.dart;
+  directions : IsFilled l.table.direction.items (slice_index l.directions) (darts l.plane);
   angles : IsFilled l.table.angle.items (angle_at l.shape) l.dart;
   befores : IsFilled l.table.before.items (λ _. no_dart) l.dart;
   dart_count : l.table.darts ≡ darts l.plane;

@@ -31,10 +31,10 @@ paths_of-requires c =
     record {
       paths = λ e e_in.
           let path = edge_path c.args.plane.now c.args.shape.now (web_of c.in_ok-table.table) c.from.result c.enclose_in.new.table es
-          made c.in_ok-edges.ensures e (omega (arith, e_in, ap length c.deref.ensures.value)) in (
+          made c.in_ok-edges.ensures e (omega (arith, e_in, ap length c.deref-2.ensures.value)) in (
             path.0,
             path.1,
-            subst (λ (ds : List ℕ). IsPath (web_of c.enclose_in.new.table) (slice_index ds e) path.0 path.1) (sym c.deref.ensures.value) path.2,
+            subst (λ (ds : List ℕ). IsPath (web_of c.enclose_in.new.table) (slice_index ds e) path.0 path.1) (sym c.deref-2.ensures.value) path.2,
           );
     }
 
@@ -62,12 +62,12 @@ of-requires c =
     let listed : (e : ℕ) → e < length c.in_ok-edges.edges.items → (first : ℕ) (rest : List ℕ) →
     IsPath (web_of c.enclose_in.new.table) (slice_index c.in_ok-edges.edges.items e) first rest →
     slice_index_or c.in_ok-paths.paths e [] ≡ first ∷ rest = λ e e_in first rest path.
-    c.in_ok-paths.ensures.paths e (omega (arith, e_in, ap length c.deref.ensures.value)) first rest
-    (subst (λ (ds : List ℕ). IsPath (web_of c.enclose_in.new.table) (slice_index ds e) first rest) (sym c.deref.ensures.value) path) in
+    c.in_ok-paths.ensures.paths e (omega (arith, e_in, ap length c.deref-2.ensures.value)) first rest
+    (subst (λ (ds : List ℕ). IsPath (web_of c.enclose_in.new.table) (slice_index ds e) first rest) (sym c.deref-2.ensures.value) path) in
     let all : c.vertices-old.result ≡ vertices c.args.plane.now = c.vertices-old.ensures.count ∙ ap length c.graph.ensures.value in
     are_boxes c.args.plane.now c.args.shape.now (web_of c.in_ok-table.table) c.from.result c.enclose_in.new.table c.vertices-old.result
     c.in_ok-edges.edges.items c.in_ok-paths.paths made all c.in_ok-edges.ensures
-    (c.in_ok-paths.ensures.count ∙ ap length c.deref.ensures.value) listed
+    (c.in_ok-paths.ensures.count ∙ ap length c.deref-2.ensures.value) listed
 
 pub returns : goal.returns
 returns c =
@@ -93,10 +93,10 @@ returns c =
     let listed : (e : ℕ) → e < length c.in_ok-edges.edges.items → (first : ℕ) (rest : List ℕ) →
     IsPath (web_of c.enclose_in.new.table) (slice_index c.in_ok-edges.edges.items e) first rest →
     slice_index_or c.in_ok-paths.paths e [] ≡ first ∷ rest = λ e e_in first rest path.
-    c.in_ok-paths.ensures.paths e (omega (arith, e_in, ap length c.deref.ensures.value)) first rest
-    (subst (λ (ds : List ℕ). IsPath (web_of c.enclose_in.new.table) (slice_index ds e) first rest) (sym c.deref.ensures.value) path) in
+    c.in_ok-paths.ensures.paths e (omega (arith, e_in, ap length c.deref-2.ensures.value)) first rest
+    (subst (λ (ds : List ℕ). IsPath (web_of c.enclose_in.new.table) (slice_index ds e) first rest) (sym c.deref-2.ensures.value) path) in
     let all : c.vertices-old.result ≡ vertices c.args.plane.now = c.vertices-old.ensures.count ∙ ap length c.graph.ensures.value in
     subst (IsBoxed c.args.plane.now c.args.shape.now) (sym c.of.ensures)
     (is_boxed c.args.plane.now c.args.shape.now (web_of c.in_ok-table.table) c.from.result c.enclose_in.new.table c.vertices-old.result
     c.in_ok-edges.edges.items c.in_ok-paths.paths made all c.in_ok-edges.ensures
-    (c.in_ok-paths.ensures.count ∙ ap length c.deref.ensures.value) listed)
+    (c.in_ok-paths.ensures.count ∙ ap length c.deref-2.ensures.value) listed)
