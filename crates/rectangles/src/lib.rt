@@ -99,14 +99,22 @@ fn table_height(rectangles: &[Rectangle]) -> Option<usize>
     Some(height)
 }
 
-// The same, where moreover all rectangles lie in the columns that have bits.
+// The number of rows of a table that has each row of the rectangles, where all of them lie in the columns that have
+// bits; none where the table would have too many. The rows of all rectangles need no count here: those that are marked
+// are apart, so that at most `COLUMNS` of them have a row in common.
 fn narrow_height(rectangles: &[Rectangle]) -> Option<usize>
-    requires { All IsFilled rectangles.now }
     ensures narrow { IfSome result (λ _. All (λ r. r.right < COLUMNS) rectangles.now) }
     ensures low { IfSome result (λ height. All (λ r. r.top < height) rectangles.now) }
 {
-    if rectangles.iter().any(|r| r.right >= masks::COLUMNS) {
+    let mut right = 0;
+    let mut top = 0;
+    for rectangle in rectangles {
+        right = right.max(rectangle.right);
+        top = top.max(rectangle.top);
+    }
+    let height = top as usize + 1;
+    if right >= masks::COLUMNS || rectangles.len().saturating_mul(TABLE_ROWS) < height {
         return None;
     }
-    table_height(rectangles)
+    Some(height)
 }

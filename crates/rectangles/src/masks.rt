@@ -1,5 +1,5 @@
 //! Marks on a grid of few columns: for each row a word with a bit for each column. The rectangles need no
-//! order. It takes a step for each row of the table and two for each row of each rectangle.
+//! order. It takes a step for each row of the table and one for each row of each rectangle.
 
 ghost use Rattle.std.specs.Prelude.{◌≡◌, ◌≢◌, ◌+◌, ◌-◌, ◌^◌, ◌<◌, ◌≤◌, ◌↔◌, ℕ, IsTrue, IfOk, All, AllPairs, length, slice_index, SomeIndex, EachIndex};
 ghost use Rattle.std.specs.Bool.{OnTrue, OnFalse};
@@ -26,10 +26,13 @@ pub(crate) fn mark_all(
     requires low { All (λ r. r.top < height) rectangles.now }
     ensures { IfOk result (λ apart. IsTrue apart ↔ AllPairs AreApart rectangles.now) }
 {
-    table.clear();
-    table.resize(height, 0)?;
+    if table.len() < height {
+        table.resize(height, 0)?;
+    }
+    let marks = &mut table[..height];
+    marks.fill(0);
     for rectangle in rectangles {
-        if !mark(table, *rectangle) {
+        if !mark(marks, *rectangle) {
             return Ok(false);
         }
     }
@@ -46,11 +49,8 @@ fn mark(table: &mut [u64], new: Rectangle) -> bool
 {
     let mask = mask_of(new.left, new.right);
     let rows = &mut table[new.bottom as usize..=new.top as usize];
-    if meets(rows, mask) {
-        return false;
-    }
-    add_mask(rows, mask);
-    true
+    let met = add_mask(rows, mask);
+    !met
 }
 
 // The bits of the columns from one to another.
@@ -62,20 +62,18 @@ fn mask_of(left: u32, right: u32) -> u64
     (1u64 << (right + 1)) - (1u64 << left)
 }
 
-// Whether one of these rows has a bit of the mask.
-fn meets(rows: &[u64], mask: u64) -> bool
-    ensures some { OnTrue result (SomeIndex rows.now (λ y. bit_and (slice_index rows.now y) mask ≢ 0)) }
-    ensures none { OnFalse result (EachIndex rows.now (λ y. bit_and (slice_index rows.now y) mask ≡ 0)) }
-{
-    rows.iter().any(|row| *row & mask != 0)
-}
-
-// Adds the bits of the mask to each of these rows.
-fn add_mask(rows: &mut [u64], mask: u64)
+// Adds the bits of the mask to each of these rows. Whether one of them had one of these bits before. Both in one walk,
+// since where a walk over few rows ends cannot be foreseen.
+fn add_mask(rows: &mut [u64], mask: u64) -> bool
+    ensures some { OnTrue result (SomeIndex rows.old (λ y. bit_and (slice_index rows.old y) mask ≢ 0)) }
+    ensures none { OnFalse result (EachIndex rows.old (λ y. bit_and (slice_index rows.old y) mask ≡ 0)) }
     ensures count { length rows.new ≡ length rows.old }
     ensures each { (y : ℕ) → y < length rows.old → slice_index rows.new y ≡ bit_or (slice_index rows.old y) mask }
 {
+    let mut met = false;
     for row in rows.iter_mut() {
+        met |= *row & mask != 0;
         *row |= mask;
     }
+    met
 }
