@@ -49,8 +49,7 @@ fn mark(table: &mut [u64], new: Rectangle) -> bool
 {
     let mask = mask_of(new.left, new.right);
     let rows = &mut table[new.bottom as usize..=new.top as usize];
-    let met = add_mask(rows, mask);
-    !met
+    add_mask(rows, mask)
 }
 
 // The bits of the columns from one to another.
@@ -62,18 +61,20 @@ fn mask_of(left: u32, right: u32) -> u64
     (1u64 << (right + 1)) - (1u64 << left)
 }
 
-// Adds the bits of the mask to each of these rows. Whether one of them had one of these bits before. Both in one walk,
-// since where a walk over few rows ends cannot be foreseen.
+// Adds the bits of the mask to each of these rows; false where one of them has one of these bits already. Both in one
+// walk, since where a walk over few rows ends cannot be foreseen.
 fn add_mask(rows: &mut [u64], mask: u64) -> bool
-    ensures some { OnTrue result (SomeIndex rows.old (λ y. bit_and (slice_index rows.old y) mask ≢ 0)) }
-    ensures none { OnFalse result (EachIndex rows.old (λ y. bit_and (slice_index rows.old y) mask ≡ 0)) }
+    ensures free { OnTrue result (EachIndex rows.old (λ y. bit_and (slice_index rows.old y) mask ≡ 0)) }
+    ensures met { OnFalse result (SomeIndex rows.old (λ y. bit_and (slice_index rows.old y) mask ≢ 0)) }
     ensures count { length rows.new ≡ length rows.old }
-    ensures each { (y : ℕ) → y < length rows.old → slice_index rows.new y ≡ bit_or (slice_index rows.old y) mask }
+    ensures each { OnTrue result ((y : ℕ) → y < length rows.old
+        → slice_index rows.new y ≡ bit_or (slice_index rows.old y) mask) }
 {
-    let mut met = false;
     for row in rows.iter_mut() {
-        met |= *row & mask != 0;
+        if *row & mask != 0 {
+            return false;
+        }
         *row |= mask;
     }
-    met
+    true
 }

@@ -1,4 +1,4 @@
-use Rattle.std.proofs.Common.{◌≡◌, ◌≢◌, ◌<◌, ◌≤◌, ℕ, true, false, slice_index}
+use Rattle.std.proofs.Common.{◌≡◌, ◌<◌, ◌≤◌, ℕ, slice_index}
 use Rattle.std.specs.Int.Bits.{bit_and, bit_or}
 use Rattle.rectangles.proofs.masks.add_mask.Given as goal
 
@@ -6,6 +6,5 @@ abbrev pub invariant-loop-row : goal.invariant-loop-row
 invariant-loop-row l = record {
   done : (y : ℕ) → y < l.row-index → slice_index l.rows y ≡ bit_or (slice_index l.fn.rows y) l.mask;
   ahead : (y : ℕ) → l.row-index ≤ y → slice_index l.rows y ≡ slice_index l.fn.rows y;
-  some : l.met ≡ true → (y : ℕ) × (y < l.row-index) × (bit_and (slice_index l.fn.rows y) l.mask ≢ 0);
-  none : l.met ≡ false → (y : ℕ) → y < l.row-index → bit_and (slice_index l.fn.rows y) l.mask ≡ 0;
+  free : (y : ℕ) → y < l.row-index → bit_and (slice_index l.fn.rows y) l.mask ≡ 0;
 }
