@@ -3,3 +3,5 @@ pub mod Segments
 pub mod Strips
 pub mod Routing
 pub mod Leaving
+pub mod Straight
+pub mod InGrid

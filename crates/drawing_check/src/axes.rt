@@ -19,7 +19,8 @@ pub(crate) fn is_on_axes(route: &Route<'_>) -> bool
     true
 }
 
-fn is_axis(a: Point, b: Point) -> bool
+/// Whether two points differ in exactly one coordinate.
+pub(crate) fn is_axis(a: Point, b: Point) -> bool
     ensures { IsTrue result ↔ IsAxis a b }
 {
     (a.x == b.x) != (a.y == b.y)

@@ -8,7 +8,6 @@ ghost use Rattle.drawing_check.specs.Faults.{IsFirstFault, KeepsFirstThree};
 
 use crate::edges::walk_edges;
 use crate::fault::CheckFault;
-use crate::grid::are_in_grid;
 use crate::scratch::Scratch;
 use crate::turning::turn_as_said;
 use faces::Plane;
@@ -121,10 +120,10 @@ fn first_fault(
     ensures memory { result ≡ Some CheckFault.Memory
         → KeepsFirstThree plane.now shape.now points.now }
 {
-    if !are_in_grid(points, plane.graph().edges()) {
+    let seen = walk_edges(plane, shape, points, &mut scratch.rectangles);
+    if !seen.in_grid {
         return Some(CheckFault::OutOfGrid);
     }
-    let seen = walk_edges(plane, shape, points, &mut scratch.rectangles);
     if !seen.on_axes {
         return Some(CheckFault::NotAxis);
     }

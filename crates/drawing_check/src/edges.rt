@@ -8,14 +8,14 @@ ghost use Rattle.ortho_rep.specs.Shapes.{turns_at};
 ghost use Rattle.ortho_rep.specs.Representation.{HasDarts};
 ghost use Rattle.ortho_rep.specs.Edges.{lesser_darts};
 ghost use Rattle.drawing_check.specs.Paths.{path_along, paths};
-ghost use Rattle.drawing_check.specs.Draws.{AreOnAxes, IsTurning, leaving};
+ghost use Rattle.drawing_check.specs.Draws.{AreInGrid, AreOnAxes, IsTurning, leaving};
 ghost use Rattle.drawing_check.specs.Routes.{path_of, direction_at};
 ghost use Rattle.drawing_check.specs.Shown.{span_of, strips};
 
-use crate::axes::is_on_axes;
-use crate::meeting::{add_route, list_vertices};
-use crate::route::{Route, route_of};
-use crate::turning::{direction_from, is_turning};
+use crate::grid::all_in_grid;
+use crate::meeting::list_vertices;
+use crate::path::{both, see_route};
+use crate::route::route_of;
 use directions::Direction;
 use embedding::MAX_DARTS;
 use faces::Plane;
@@ -25,6 +25,8 @@ use rectangles::Rectangle;
 /// What was seen of all edges.
 #[derive(Drop)]
 pub(crate) struct EdgesSeen {
+    /// Whether all vertices and all corners lie in the grid.
+    pub(crate) in_grid: bool,
     /// Whether each segment of each path is parallel to an axis.
     pub(crate) on_axes: bool,
     /// Whether each edge has as many corners as turns, and each corner is its turn.
@@ -35,23 +37,7 @@ pub(crate) struct EdgesSeen {
     pub(crate) leaving: [Direction; MAX_DARTS],
 }
 
-/// Whether both hold. It is no branch.
-fn both(one: bool, other: bool) -> bool
-    ensures { IsTrue result ↔ (IsTrue one × IsTrue other) }
-{
-    one & other
-}
-
-/// Adds the rectangles of a path, if all before it are listed. Whether all are listed now.
-fn list_route(rectangles: &mut Vec<Rectangle>, listed: bool, route: &Route<'_>) -> bool
-    ensures before { IsTrue result → IsTrue listed }
-    ensures added { IsTrue result
-        → rectangles.new.items ≡ rectangles.old.items ++ strips (path_of route.now) }
-{
-    listed && add_route(rectangles, route).is_ok()
-}
-
-/// Walks over all edges once. Both tests are made of each edge, so that it is known which fails first; and the
+/// Walks over all edges once. All three tests are made of each edge, so that it is known which fails first; and the
 /// rectangles of all vertices and all paths are listed, as far as there is memory.
 pub(crate) fn walk_edges(
     plane: &Plane,
@@ -62,6 +48,7 @@ pub(crate) fn walk_edges(
     requires lengths { HasDarts plane.now shape.now }
     requires vertices { length points.now.vertices ≡ vertices plane.now }
     requires corners { 2 * length points.now.corners ≡ darts plane.now }
+    ensures in_grid { IsTrue result.in_grid ↔ AreInGrid points.now }
     ensures on_axes { IsTrue result.on_axes ↔ AreOnAxes (paths plane.now points.now) }
     ensures turning { IsTrue result.turning
         ↔ All (λ d. IsTurning (path_along plane.now points.now d) (turns_at shape.now d))
@@ -75,6 +62,7 @@ pub(crate) fn walk_edges(
 {
     let graph = plane.graph();
     let mut listed = list_vertices(rectangles, points, graph.edges()).is_ok();
+    let mut in_grid = all_in_grid(points.vertices());
     let mut on_axes = true;
     let mut turning = true;
     let mut directions = [Direction::East; MAX_DARTS];
@@ -82,19 +70,19 @@ pub(crate) fn walk_edges(
     for dart in 0..graph.darts() {
         let reverse = graph.reverse(dart);
         if dart < reverse {
-            let route = route_of(plane, points, dart, edge);
-            let corners = route.corners.len();
-            let straight = is_on_axes(&route);
-            let fits = is_turning(&route, shape.turns(dart));
-            on_axes = both(on_axes, straight);
-            turning = both(turning, fits);
-            listed = list_route(rectangles, listed, &route);
-            directions[usize::from(dart)] = direction_from(route.start, route.point_at(1));
-            directions[usize::from(reverse)] = direction_from(route.end, route.point_at(corners));
+            let route = route_of(plane, points, dart, reverse, edge);
+            let path = see_route(&route, shape.turns(dart), rectangles, listed);
+            in_grid = both(in_grid, path.in_grid);
+            on_axes = both(on_axes, path.on_axes);
+            turning = both(turning, path.turning);
+            listed = path.listed;
+            directions[usize::from(dart)] = path.out;
+            directions[usize::from(reverse)] = path.back;
             edge += 1;
         }
     }
     EdgesSeen {
+        in_grid,
         on_axes,
         turning,
         listed,

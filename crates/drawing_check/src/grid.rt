@@ -1,27 +1,12 @@
-//! Whether all points lie in the grid.
+//! Whether points lie in the grid.
 
-ghost use Rattle.std.specs.Prelude.{◌≡◌, ◌↔◌, length, IsTrue, All};
-ghost use Rattle.drawing_check.specs.Draws.{IsInGrid, AreInGrid};
+ghost use Rattle.std.specs.Prelude.{◌↔◌, IsTrue, All};
+ghost use Rattle.drawing_check.specs.Draws.{IsInGrid};
 
-use ortho_rep::{MAX_COORDINATE, Point, Points};
+use ortho_rep::{MAX_COORDINATE, Point};
 
-/// Whether all vertices and all corners of so many edges lie in the grid.
-pub(crate) fn are_in_grid(points: &Points, edges: u16) -> bool
-    requires { length points.now.corners ≡ edges }
-    ensures { IsTrue result ↔ AreInGrid points.now }
-{
-    if !all_in_grid(points.vertices()) {
-        return false;
-    }
-    for edge in 0..edges {
-        if !all_in_grid(points.corners(edge)) {
-            return false;
-        }
-    }
-    true
-}
-
-fn all_in_grid(points: &[Point]) -> bool
+/// Whether all points of a list lie in the grid.
+pub(crate) fn all_in_grid(points: &[Point]) -> bool
     ensures { IsTrue result ↔ All IsInGrid points.now }
 {
     points

@@ -11,6 +11,7 @@ mod edges;
 mod fault;
 mod grid;
 mod meeting;
+mod path;
 mod route;
 mod scratch;
 mod turning;

@@ -1,6 +1,6 @@
 //! The points that are met, by vertices and by paths, as rectangles that cover them.
 
-ghost use Rattle.std.specs.Prelude.{◌≡◌, ◌++◌, map, OnOk};
+ghost use Rattle.std.specs.Prelude.{◌≡◌, ◌∷◌, ◌++◌, [], map, OnOk};
 ghost use Rattle.drawing_check.specs.Walks.{toward, step_from};
 ghost use Rattle.drawing_check.specs.Routes.{path_of};
 ghost use Rattle.drawing_check.specs.Shown.{span_of, strips};
@@ -41,9 +41,20 @@ pub(crate) fn add_route(
         rectangles.push(spanned(first_step(from, *corner), *corner))?;
         from = *corner;
     }
-    let first = first_step(from, route.end);
-    if first != route.end {
-        rectangles.push(spanned(first, first_step(route.end, from)))?;
+    add_last(rectangles, from, route.end)
+}
+
+/// Adds what the last segment of a path covers without its end: nothing where it is one step.
+pub(crate) fn add_last(
+    rectangles: &mut Vec<Rectangle>,
+    from: Point,
+    end: Point,
+) -> Result<(), AllocError>
+    ensures { OnOk result (rectangles.new.items ≡ rectangles.old.items ++ strips (from ∷ end ∷ [])) }
+{
+    let first = first_step(from, end);
+    if first != end {
+        rectangles.push(spanned(first, first_step(end, from)))?;
     }
     Ok(())
 }

@@ -1,7 +1,8 @@
 //! The path of an edge, seen in place.
 
 ghost use Rattle.std.specs.Prelude.{◌≡◌, ℕ, ◌+◌, ◌*◌, ◌<◌, ◌≤◌, length, IsTrue};
-ghost use Rattle.faces.specs.Planes.{darts, vertices};
+ghost use Rattle.faces.specs.Planes.{darts, vertices, reverse_dart};
+ghost use Rattle.ortho_rep.specs.Points.{corners_at};
 ghost use Rattle.ortho_rep.specs.Edges.{is_lesser, edge_number};
 ghost use Rattle.drawing_check.specs.Paths.{path_along, point_of};
 ghost use Rattle.drawing_check.specs.Routes.{path_of};
@@ -33,18 +34,26 @@ impl Route<'_> {
     }
 }
 
-/// The path of the edge with this number, whose lesser dart is given.
-pub(crate) fn route_of<'a>(plane: &Plane, points: &'a Points, dart: u16, edge: u16) -> Route<'a>
+/// The path of the edge with this number, whose lesser dart and its reverse are given.
+pub(crate) fn route_of<'a>(
+    plane: &Plane,
+    points: &'a Points,
+    dart: u16,
+    reverse: u16,
+    edge: u16,
+) -> Route<'a>
     requires inside { dart < darts plane.now }
     requires lesser { IsTrue (is_lesser plane.now dart) }
+    requires reverse { reverse ≡ reverse_dart plane.now dart }
     requires number { edge ≡ edge_number plane.now dart }
     requires vertices { length points.now.vertices ≡ vertices plane.now }
     requires corners { 2 * length points.now.corners ≡ darts plane.now }
-    ensures { path_of result ≡ path_along plane.now points.now dart }
+    ensures path { path_of result ≡ path_along plane.now points.now dart }
+    ensures corners { result.corners.now ≡ corners_at points.now edge }
 {
     let graph = plane.graph();
     Route {
-        start: points.vertex(graph.tail(dart)),
+        start: points.vertex(graph.head(reverse)),
         corners: points.corners(edge),
         end: points.vertex(graph.head(dart)),
     }

@@ -6,15 +6,15 @@ use Rattle.drawing_check.proofs.drawing.first_fault.Goals as goal
 pub all_apart_in-requires : goal.all_apart_in-requires
 all_apart_in-requires c =
     let points = c.args.points.now in
-    listed_filled points.vertices (paths c.args.plane.now points) c.walk_edges-seen.new.rectangles.items (c.walk_edges-seen.ensures.listed c.if-not-seen-2.false)
+    listed_filled points.vertices (paths c.args.plane.now points) c.walk_edges-seen.new.rectangles.items (c.walk_edges-seen.ensures.listed c.if-not-seen-3.false)
 
 pub returns-in-Ok-true-clause-draws : goal.returns-in-Ok-true-clause-draws
 returns-in-Ok-true-clause-draws c =
     let points = c.args.points.now in
-    let axes = c.walk_edges-seen.ensures.on_axes.0 c.if-not-seen.false in
-    let same = apart_is_no_repeat points.vertices (paths c.args.plane.now points) c.walk_edges-seen.new.rectangles.items axes (c.walk_edges-seen.ensures.listed c.if-not-seen-2.false) in
+    let axes = c.walk_edges-seen.ensures.on_axes.0 c.if-not-seen-2.false in
+    let same = apart_is_no_repeat points.vertices (paths c.args.plane.now points) c.walk_edges-seen.new.rectangles.items axes (c.walk_edges-seen.ensures.listed c.if-not-seen-3.false) in
     record {
-      grid = c.are_in_grid.ensures.0 c.if-not-are_in_grid.false;
+      grid = c.walk_edges-seen.ensures.in_grid.0 c.if-not-seen.false;
       axes = axes;
       turns = c.turn_as_said.ensures.0 c.if-not-turn_as_said.false;
       apart = same.0 (c.in-Ok-true.ensures.0 c.in-Ok-true.field-0-test);
@@ -23,9 +23,9 @@ returns-in-Ok-true-clause-draws c =
 pub returns-in-Ok-false-clause-fault : goal.returns-in-Ok-false-clause-fault
 returns-in-Ok-false-clause-fault c =
     let points = c.args.points.now in
-    let axes = c.walk_edges-seen.ensures.on_axes.0 c.if-not-seen.false in
-    let same = apart_is_no_repeat points.vertices (paths c.args.plane.now points) c.walk_edges-seen.new.rectangles.items axes (c.walk_edges-seen.ensures.listed c.if-not-seen-2.false) in (
-      c.are_in_grid.ensures.0 c.if-not-are_in_grid.false,
+    let axes = c.walk_edges-seen.ensures.on_axes.0 c.if-not-seen-2.false in
+    let same = apart_is_no_repeat points.vertices (paths c.args.plane.now points) c.walk_edges-seen.new.rectangles.items axes (c.walk_edges-seen.ensures.listed c.if-not-seen-3.false) in (
+      c.walk_edges-seen.ensures.in_grid.0 c.if-not-seen.false,
       axes,
       c.turn_as_said.ensures.0 c.if-not-turn_as_said.false,
       λ apart. both_ways c.in-Ok-false.field-0 c.in-Ok-false.field-0-test (c.in-Ok-false.ensures.1 (same.1 apart)),
