@@ -10,7 +10,8 @@ mod front;
 mod map;
 mod masks;
 
-ghost use Rattle.std.specs.Prelude.{◌<◌, ◌↔◌, IsTrue, IfOk, IfSome, All, AllPairs};
+ghost use Rattle.std.specs.Prelude.{◌<◌, ◌≤◌, ◌↔◌, IsTrue, IfOk, IfSome, All, AllPairs};
+ghost use Rattle.std.specs.Bool.{OnTrue};
 ghost use Rattle.std.specs.List.Sorted.{IsNonDecreasingBy};
 ghost use Rattle.rectangles.specs.declared.masks.TheConstants.{COLUMNS};
 ghost use Rattle.rectangles.specs.Rectangles.{IsFilled, AreApart};
@@ -99,9 +100,10 @@ fn table_height(rectangles: &[Rectangle]) -> Option<usize>
     Some(height)
 }
 
-// The number of rows of a table that has each row of the rectangles, where all of them lie in the columns that have
-// bits; none where the table would have too many. The rows of all rectangles need no count here: those that are marked
-// are apart, so that at most `COLUMNS` of them have a row in common.
+// A number of rows that has each row of the rectangles, less than twice as many as they need, where all of them lie in
+// the columns that have bits; none where it is too great. Numbers are gathered by `or`, in which no step is a branch.
+// The rows of all rectangles together need no count here: those that are marked are apart, so that at most `COLUMNS` of
+// them have a row in common.
 fn narrow_height(rectangles: &[Rectangle]) -> Option<usize>
     ensures narrow { IfSome result (λ _. All (λ r. r.right < COLUMNS) rectangles.now) }
     ensures low { IfSome result (λ height. All (λ r. r.top < height) rectangles.now) }
@@ -109,12 +111,20 @@ fn narrow_height(rectangles: &[Rectangle]) -> Option<usize>
     let mut right = 0;
     let mut top = 0;
     for rectangle in rectangles {
-        right = right.max(rectangle.right);
-        top = top.max(rectangle.top);
+        right |= rectangle.right;
+        top |= rectangle.top;
     }
     let height = top as usize + 1;
-    if right >= masks::COLUMNS || rectangles.len().saturating_mul(TABLE_ROWS) < height {
+    if !are_narrow(rectangles, right) || rectangles.len().saturating_mul(TABLE_ROWS) < height {
         return None;
     }
     Some(height)
+}
+
+// Whether all rectangles, none of which goes beyond column `right`, lie in the columns that have bits.
+fn are_narrow(rectangles: &[Rectangle], right: u32) -> bool
+    requires { All (λ r. r.right ≤ right) rectangles.now }
+    ensures { OnTrue result (All (λ r. r.right < COLUMNS) rectangles.now) }
+{
+    right < masks::COLUMNS || rectangles.iter().all(|r| r.right < masks::COLUMNS)
 }
