@@ -17,18 +17,15 @@ use std::alloc::AllocError;
 
 /// How many darts the table of a shape is to have room for: those of the plane, two for each bend, four for
 /// each right turn, of which there are at most two for each vertex and one for each bend, and
-/// `RECTANGLE_ROOM` for a rectangle round it. A bend is two turns here, one of each dart of its edge. A step
-/// for each dart.
+/// `RECTANGLE_ROOM` for a rectangle round it. A bend is two turns here, one of each dart of its edge. At
+/// most a step for each dart.
 pub fn room_for(plane: &Plane, shape: &Shape) -> u32
     requires { HasDarts plane.now shape.now }
     ensures { let turns = sum_below (darts plane.now) (λ d. length (turns_at shape.now d)) in
         result ≡ darts plane.now + 3 * turns + 8 * vertices plane.now + RECTANGLE_ROOM }
 {
     let graph = plane.graph();
-    let mut turns = 0;
-    'darts: for dart in 0..graph.darts() {
-        turns += shape.turns(dart).len() as u32;
-    }
+    let turns = shape.turn_count();
     u32::from(graph.darts()) + 3 * turns + 8 * u32::from(graph.vertices()) + RECTANGLE_ROOM
 }
 

@@ -97,19 +97,6 @@ fn least_flow(
     }
 }
 
-/// What the corner of a dart carries.
-fn corner_flow(plane: &Plane, net: &FaceNet, solved: &Solved, dart: u16) -> u8
-    requires net { IsNetOf plane.now net.now }
-    requires solves { Solves net.now.network solved.now }
-    requires within { dart < darts plane.now }
-    ensures value { result ≡ amounts solved.now.flow dart }
-    ensures few { result ≤ 3 }
-{
-    // Only the proof needs this: `outer` says that there is a face.
-    let _outer = plane.outer();
-    solved.flow(net.corner_arc(dart)) as u8
-}
-
 /// What the crossing of a dart carries.
 fn crossing_flow(plane: &Plane, net: &FaceNet, solved: &Solved, dart: u16) -> u32
     requires net { IsNetOf plane.now net.now }
@@ -135,10 +122,13 @@ fn angles_in(
     ensures each { IfOk result (λ angles. (d : ℕ) → d < darts plane.now
         → slice_index angles.items d ≡ angles_of (amounts solved.now.flow) d) }
 {
+    // Only the proof needs this: `outer` says that there is a face.
+    let _outer = plane.outer();
     let darts = plane.graph().darts();
     let mut angles = Vec::with_capacity(alloc, usize::from(darts))?;
     for dart in 0..darts {
-        angles.push(corner_flow(plane, net, solved, dart) + 1)?;
+        let corner = solved.flow(net.corner_arc(dart)) as u8;
+        angles.push(corner + 1)?;
     }
     Ok(angles)
 }
@@ -212,12 +202,14 @@ fn push_string(
         ≡ turns.old.items ++ strings_of plane.now (amounts solved.now.flow) dart) }
 {
     let reverse = plane.graph().reverse(dart);
-    push_turns(turns, Turn::Left, crossing_flow(plane, net, solved, dart))?;
-    push_turns(
-        turns,
-        Turn::Right,
-        crossing_flow(plane, net, solved, reverse),
-    )
+    let lefts = crossing_flow(plane, net, solved, dart) as usize;
+    let rights = crossing_flow(plane, net, solved, reverse) as usize;
+    // Most edges have no bend.
+    if lefts + rights > 0 {
+        turns.resize(turns.len() + lefts, Turn::Left)?;
+        turns.resize(turns.len() + rights, Turn::Right)?;
+    }
+    Ok(())
 }
 
 /// How much all crossings carry.
@@ -231,16 +223,6 @@ fn count_bends(plane: &Plane, net: &FaceNet, solved: &Solved) -> usize
         bends += crossing_flow(plane, net, solved, dart) as usize;
     }
     bends
-}
-
-/// Puts a turn behind a list so many times.
-fn push_turns(turns: &mut Vec<Turn>, turn: Turn, count: u32) -> Result<(), AllocError>
-    ensures { OnOk result (turns.new.items ≡ turns.old.items ++ replicate count turn) }
-{
-    for _done in 0..count {
-        turns.push(turn)?;
-    }
-    Ok(())
 }
 
 /// The potentials of the vertices and behind them those of the faces, in one list.

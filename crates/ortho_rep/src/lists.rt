@@ -1,6 +1,7 @@
 //! Lists of items, in one of three forms.
 
-ghost use Rattle.std.specs.Prelude.{◌≡◌, ◌+◌, ◌<◌, [], length, slice_index_or};
+ghost use Rattle.std.specs.Prelude.{◌≡◌, ◌+◌, ◌<◌, [], length, slice_index_or, IfSome};
+ghost use Rattle.sums.specs.Sums.{sum_below};
 ghost use Rattle.ortho_rep.specs.Storage.{lists_in, cut, IsCut};
 
 use std::marker::Model;
@@ -87,14 +88,6 @@ impl<T> Model for NarrowLists<T> {
 }
 
 impl<T> NarrowLists<T> {
-    /// The pieces between places that follow one another in one list of items.
-    pub(crate) fn new(items: Vec<T>, starts: Vec<u16>) -> NarrowLists<T>
-        requires { IsCut starts.items items.items }
-        ensures { result ≡ cut starts.items items.items }
-    {
-        NarrowLists { items, starts }
-    }
-
     /// How many lists there are.
     pub(crate) fn len(&self) -> usize
         ensures { result ≡ length self.now }
@@ -108,6 +101,14 @@ impl<T> NarrowLists<T> {
         ensures { result.now ≡ slice_index_or self.now i [] }
     {
         narrow_piece(&self.items, &self.starts, i)
+    }
+
+    /// How many items all lists have, in constant time.
+    pub(crate) fn item_count(&self) -> u16
+        ensures { result ≡ sum_below (length self.now) (λ i. length (slice_index_or self.now i [])) }
+    {
+        let starts = self.starts.as_slice();
+        starts[starts.len() - 1] - starts[0]
     }
 }
 
@@ -171,7 +172,7 @@ impl<T> Lists<T> {
         ensures { result ≡ cut starts.items items.items }
     {
         Lists {
-            store: Store::Narrow(NarrowLists::new(items, starts)),
+            store: Store::Narrow(NarrowLists { items, starts }),
         }
     }
 
@@ -195,6 +196,16 @@ impl<T> Lists<T> {
             Store::Apart(lists) => lists[i].as_slice(),
             Store::Joined(lists) => lists.get(i),
             Store::Narrow(lists) => lists.get(i),
+        }
+    }
+
+    /// How many items all lists have, where that is known in constant time.
+    pub(crate) fn known_count(&self) -> Option<u16>
+        ensures { IfSome result (λ count. count ≡ sum_below (length self.now) (λ i. length (slice_index_or self.now i []))) }
+    {
+        match &self.store {
+            Store::Narrow(lists) => Some(lists.item_count()),
+            Store::Apart(_) | Store::Joined(_) => None,
         }
     }
 }

@@ -1,6 +1,7 @@
 //! Shapes: an angle and a string of turns for each dart.
 
-ghost use Rattle.std.specs.Prelude.{◌≡◌, ◌<◌, ◌≤◌, ◌↔◌, IsTrue, length, All, vec_len};
+ghost use Rattle.std.specs.Prelude.{◌≡◌, ◌*◌, ◌<◌, ◌≤◌, ◌↔◌, IsTrue, length, All, vec_len};
+ghost use Rattle.sums.specs.Sums.{sum_below};
 ghost use Rattle.embedding.specs.declared.graphs.TheConstants.{MAX_DARTS};
 ghost use Rattle.ortho_rep.specs.declared.strings.TheConstants.{MAX_TURNS};
 ghost use Rattle.ortho_rep.specs.Storage.{lists_in};
@@ -92,15 +93,20 @@ impl Shape {
         self.strings.get(usize::from(dart))
     }
 
-    /// The number of bends: half the sum of the lengths of all strings, rounded down. It takes a step
+    /// How many turns all strings have: at once in a shape from [`least_shape`](crate::least_shape), else in a
+    /// step for each string.
+    pub fn turn_count(&self) -> u32
+        ensures count { result ≡ sum_below (length self.now.strings) (λ d. length (turns_at self.now d)) }
+        ensures few { result ≤ length self.now.strings * MAX_TURNS }
+    {
+        self.strings.turn_count()
+    }
+
+    /// The number of bends: half the sum of the lengths of all strings, rounded down. It takes at most a step
     /// for each string.
     pub fn bends(&self) -> u32
         ensures { result ≡ bends_of (length self.now.strings) (turns_at self.now) }
     {
-        let mut turns = 0;
-        for dart in 0..self.strings.len() {
-            turns += self.strings.get(dart).len() as u32;
-        }
-        turns / 2
+        self.turn_count() / 2
     }
 }

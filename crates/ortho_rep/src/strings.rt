@@ -1,6 +1,7 @@
 //! The strings of all darts.
 
-ghost use Rattle.std.specs.Prelude.{◌≡◌, ◌<◌, ◌≤◌, [], length, slice_index_or, All, vec_len};
+ghost use Rattle.std.specs.Prelude.{◌≡◌, ◌*◌, ◌<◌, ◌≤◌, [], length, slice_index_or, All, vec_len};
+ghost use Rattle.sums.specs.Sums.{sum_below};
 ghost use Rattle.embedding.specs.declared.graphs.TheConstants.{MAX_DARTS};
 ghost use Rattle.ortho_rep.specs.declared.strings.TheConstants.{MAX_TURNS};
 ghost use Rattle.ortho_rep.specs.Storage.{lists_in, cut, IsCut, IsShort};
@@ -80,5 +81,20 @@ impl Strings {
         ensures short { length result.now ≤ MAX_TURNS }
     {
         self.lists.get(i)
+    }
+
+    /// How many turns all strings have: in constant time where they are narrow, else with a step for each string.
+    pub(crate) fn turn_count(&self) -> u32
+        ensures count { result ≡ sum_below (length self.now) (λ i. length (slice_index_or self.now i [])) }
+        ensures few { result ≤ length self.now * MAX_TURNS }
+    {
+        if let Some(count) = self.lists.known_count() {
+            return u32::from(count);
+        }
+        let mut turns = 0;
+        for i in 0..self.len() {
+            turns += self.get(i).len() as u32;
+        }
+        turns
     }
 }

@@ -1,7 +1,7 @@
 //! Quarter turns, and strings of them.
 
 ghost use Rattle.std.specs.Prelude.{◌≡◌, ◌≤◌, ◌↔◌, IsTrue, length};
-ghost use Rattle.ortho_rep.specs.Turns.{opposite, lefts, mirrored};
+ghost use Rattle.ortho_rep.specs.Turns.{lefts, mirrored};
 
 /// A quarter turn of an edge, met in walking along a dart.
 #[derive(Clone, Copy, Debug, PartialEq, Eq)]
@@ -12,16 +12,6 @@ pub enum Turn {
 
 // A turn takes one byte.
 const _: () = prove!(size_of::<Turn>() == 1);
-
-/// Whether the second turn is the first one, met in walking the other way.
-fn is_opposite(one: Turn, other: Turn) -> bool
-    ensures { IsTrue result ↔ (other ≡ opposite one) }
-{
-    match (one, other) {
-        (Turn::Left, Turn::Right) | (Turn::Right, Turn::Left) => true,
-        (Turn::Left, Turn::Left) | (Turn::Right, Turn::Right) => false,
-    }
-}
 
 /// How many of these turns are left turns. A step for each.
 pub fn count_lefts(turns: &[Turn]) -> usize
@@ -39,7 +29,8 @@ pub(crate) fn mirrors(turns: &[Turn], reverse: &[Turn]) -> bool
         return false;
     }
     for (i, turn) in turns.iter().enumerate() {
-        if !is_opposite(*turn, reverse[reverse.len() - 1 - i]) {
+        // A turn is the opposite of each turn that is another.
+        if *turn == reverse[reverse.len() - 1 - i] {
             return false;
         }
     }
