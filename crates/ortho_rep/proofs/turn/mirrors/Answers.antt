@@ -1,4 +1,4 @@
-use Rattle.std.proofs.Common.{◌≡◌, ◌<◌, ℕ, ◌-◌, true, false, length, get_or, ◌∙◌, sym, rules, arith}
+use Rattle.std.proofs.Common.{◌≡◌, ◌-◌, true, false, length, get_or, ◌∙◌, sym, rules, arith}
 use borrow.Author.Count.{below_more}
 use denote.Enum.Bare.{sameb}
 use Rattle.ortho_rep.specs.contracts.turn.Turn.{the_type}

@@ -1,4 +1,4 @@
-use Rattle.std.proofs.Common.{◌≡◌, ◌≤◌, ◌+◌, ◌-◌, [], length, get_or, ap, arith}
+use Rattle.std.proofs.Common.{◌≡◌, ◌+◌, ◌-◌, [], length, get_or, arith}
 use Rattle.sums.specs.Sums.{sum_below}
 use Rattle.ortho_rep.specs.Storage.{cut}
 use Rattle.ortho_rep.proofs.Pieces.{length-cut, sum-cut}
