@@ -7,7 +7,9 @@ pub mod WrittenLists
 pub mod Places
 pub mod ListStarts
 pub mod PairLemmas
+pub mod RowBits
 pub mod EachList
+pub mod SmallGraphs
 pub mod Marking
 pub mod Symmetry
 pub mod Reached

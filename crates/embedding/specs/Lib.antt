@@ -9,3 +9,4 @@ pub mod Pairs
 pub mod Reached
 pub mod Faults
 pub mod Lesser
+pub mod Rows

@@ -8,6 +8,7 @@ ghost use Rattle.embedding.specs.Rules.{Breaks, KeepsBefore, FirstBroken, NamesT
 use crate::lists::Lists;
 use crate::pairs::Pairs;
 use crate::reach::breaks_disconnected;
+use crate::rows::is_small_graph;
 use crate::rules::Rule;
 
 /// Whether some entry of the list is greater than n.
@@ -136,6 +137,9 @@ pub(crate) fn first_broken(lists: &Lists<'_>) -> Option<Rule>
     ensures { MatchOption result (KeepsBefore lists.now 8)
         (λ rule. FirstBroken lists.now rule × (rule_number rule < 8)) }
 {
+    if is_small_graph(lists) {
+        return None;
+    }
     if breaks_range(lists) {
         Some(Rule::Range)
     } else if breaks_loop(lists) {

@@ -11,6 +11,7 @@ mod lesser_darts;
 mod lists;
 mod pairs;
 mod reach;
+mod rows;
 mod rules;
 mod tables;
 
