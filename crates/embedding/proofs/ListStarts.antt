@@ -1,8 +1,9 @@
 -- One pass over the bytes of lists, which finds where each list begins.
-use Rattle.std.proofs.Common.{◌≡◌, ℕ, ◌+◌, ◌<◌, ◌≤◌, List, [], length, get_or, set, ◌∙◌, inl, inr, arith}
+use Rattle.std.proofs.Common.{◌≡◌, ℕ, ◌+◌, ◌<◌, ◌≤◌, eqb, List, [], length, get_or, set, ap, subst, ◌∙◌, inl, inr, arith}
+use mir.Val.{bool_byte}
 use Rattle.std.specs.List.{flat_map, All}
 use Rattle.std.proofs.lemmas.List.{get_or-set_same, get_or-set_other, length-set}
-use Rattle.std.proofs.lemmas.Bool.{cases_lt, cases_eq}
+use Rattle.std.proofs.lemmas.Bool.{cases_lt, cases_eq, eq-eqb, ne_eqb}
 use Rattle.planar_code.specs.Stream.{IsList, ended}
 use Rattle.embedding.specs.Split.{start_of}
 use Rattle.embedding.proofs.WrittenLists.{start_of-more, start_of-all, start_of-within, byte_in, byte_behind}
@@ -86,3 +87,30 @@ reading_none g starts size first =
       to = λ some. omega (arith, start_of-more g 0 some);
       starts_are = λ k b. let none : k ≡ 0 = omega arith in rw none first;
     }
+
+-- what is written behind the last known start changes nothing
+pub reading_ahead : (g : List (List ℕ)) (starts : List ℕ) (i count x : ℕ) → IsReading g starts i count → IsReading g (set starts (count + 1) x) i count
+reading_ahead g starts i count x r =
+    record {
+      size = length-set starts (count + 1) x ∙ r.size;
+      few = r.few;
+      from = r.from;
+      to = r.to;
+      starts_are = λ k b.
+          let other : k ≡ count + 1 → ⊥ = λ e. absurd (omega arith) in
+          get_or-set_other starts (count + 1) k x 0 other ∙ r.starts_are k b;
+    }
+
+-- the place behind a byte is written, and counts where the byte is 0
+pub reading_step : (g : List (List ℕ)) (starts : List ℕ) (i count n : ℕ) → All IsList g → length g < 256 → IsReading g starts i count → i < length (flat_map ended g) → n ≡ bool_byte (eqb (get_or (flat_map ended g) i 0) 0) → IsReading g (set starts (count + 1) (i + 1)) (i + 1) (count + n)
+reading_step g starts i count n each few r below is =
+    elim (cases_eq (get_or (flat_map ended g) i 0) 0) [
+      | inl zeros ↦
+          let one : n ≡ 1 = is ∙ ap bool_byte (eq-eqb _ _ zeros) in
+          rw one (reading_end g starts i count each few r below zeros)
+      | inr other ↦
+          let none : n ≡ 0 = is ∙ ap bool_byte (ne_eqb _ _ other) in
+          let same : count ≡ count + n = omega arith in
+          subst (λ (m : ℕ). IsReading g (set starts (count + 1) (i + 1)) (i + 1) m) same
+          (reading_ahead g starts (i + 1) count (i + 1) (reading_entry g starts i count r below other))
+    ]

@@ -31,7 +31,8 @@ impl<'a> Model for Lists<'a> {
     ghost invariant = { λ l. IsSplit l.bytes.now l.starts l.count };
 }
 
-/// Where each of the lists begins, in one pass over their bytes.
+/// Where each of the lists begins, in one pass over their bytes. Each byte might be the last of its
+/// list, so the place behind it is written, and stays where it is the last.
 fn starts_in(bytes: &[u8]) -> [u16; 256]
     requires spelt { bytes.now ≡ flat_map ended (lists_in bytes.now) }
     requires each { All IsList (lists_in bytes.now) }
@@ -42,10 +43,8 @@ fn starts_in(bytes: &[u8]) -> [u16; 256]
     let mut starts = [0u16; 256];
     let mut count = 0;
     for (i, byte) in bytes.iter().enumerate() {
-        if *byte == 0 {
-            count += 1;
-            starts[count] = (i + 1) as u16;
-        }
+        starts[count + 1] = (i + 1) as u16;
+        count += usize::from(*byte == 0);
     }
     starts
 }

@@ -1,8 +1,7 @@
 //! A quick test of the lists of small graphs, one step a list whatever its length. Nearly all lists that
 //! keep the first seven rules pass it.
 
-ghost use Rattle.std.specs.Prelude.{◌≡◌, ◌≢◌, ℕ, ◌+◌, ◌-◌, ◌<◌, ◌≤◌, ◌↔◌, Bool, true, List, [], length, slice_index, slice_index_or, min, IsTrue, All, Contains};
-ghost use Rattle.embedding.specs.Lists.{list_of};
+ghost use Rattle.std.specs.Prelude.{◌≡◌, ◌≢◌, ℕ, ◌+◌, ◌-◌, ◌<◌, ◌≤◌, Bool, true, [], length, slice_index, slice_index_or, min, IsTrue, All, Contains};
 ghost use Rattle.embedding.specs.Rules.{KeepsBefore, NamesTwice};
 ghost use Rattle.embedding.specs.Rows.{HasBit, IsRow, IsRows, IsKeptBy};
 
@@ -12,7 +11,7 @@ use crate::lists::Lists;
 const FEW: u8 = 62;
 
 /// The entries of a short list, with the last of them again up to four.
-fn four_of(list: &[u8]) -> [u8; 4]
+pub(crate) fn four_of(list: &[u8]) -> [u8; 4]
     requires some { 0 < length list.now }
     requires short { length list.now ≤ 4 }
     ensures { (i : ℕ) → i < 4

@@ -1,12 +1,13 @@
 //! What a graph keeps, made from lists that keep rules 1 to 7.
 
-ghost use Rattle.std.specs.Prelude.{◌≡◌, ℕ, ◌+◌, ◌<◌, length, slice_index, IfOk, Contains};
+ghost use Rattle.std.specs.Prelude.{◌≡◌, ℕ, ◌+◌, ◌<◌, ◌≤◌, length, slice_index, IfOk, Contains};
 ghost use Rattle.embedding.specs.Lists.{list_of};
 ghost use Rattle.embedding.specs.Darts.{heads, dart_count, first_dart, head_of, tail_of, reverse_of, after_of};
 ghost use Rattle.embedding.specs.Rules.{KeepsBefore};
 ghost use Rattle.embedding.specs.Tables.{IsTable};
 
 use crate::lists::Lists;
+use crate::rows::four_of;
 use std::alloc::{AllocError, Global};
 
 /// Where each list begins among the heads of all darts, and at the end how many darts there are.
@@ -33,18 +34,18 @@ pub(crate) fn heads_in(alloc: Global, lists: &Lists<'_>) -> Result<Vec<u8>, Allo
     Ok(heads)
 }
 
-/// Where a vertex stands in a list that holds it.
+/// Where a vertex stands in a short list that holds it. No branch hangs on which place it is.
 fn place_of(list: &[u8], vertex: u8) -> usize
-    requires { Contains list.now vertex }
+    requires held { Contains list.now vertex }
+    requires short { length list.now ≤ 4 }
     ensures within { result < length list.now }
     ensures here { slice_index list.now result ≡ vertex }
 {
-    for (i, v) in list.iter().enumerate() {
-        if *v == vertex {
-            return i;
-        }
-    }
-    unreachable!()
+    let [first, second, third, _] = four_of(list);
+    let past_first = first != vertex;
+    let past_second = past_first & (second != vertex);
+    let past_third = past_second & (third != vertex);
+    usize::from(past_first) + usize::from(past_second) + usize::from(past_third)
 }
 
 /// The reverse of the dart from `tail` to `head`, which stands in the list of `tail`.
@@ -87,30 +88,21 @@ pub(crate) fn reverses_in(alloc: Global, lists: &Lists<'_>) -> Result<Vec<u16>, 
     Ok(reverses)
 }
 
-/// Adds the dart after each dart of the list at a place.
-fn add_afters(afters: &mut Vec<u16>, lists: &Lists<'_>, place: u8) -> Result<(), AllocError>
-    requires within { place < length lists.now }
-    requires so_far { IsTable (first_dart lists.now place) (after_of lists.now) afters.old.items }
-    ensures { IfOk result (λ _.
-        IsTable (first_dart lists.now (place + 1)) (after_of lists.now) afters.new.items) }
-{
-    let first = lists.first_dart(place);
-    let count = lists.at(place).len() as u16;
-    for i in 0..count {
-        let next = if i + 1 < count { first + i + 1 } else { first };
-        afters.push(next)?;
-    }
-    Ok(())
-}
-
-/// The darts after all darts.
+/// The darts after all darts: the next one of each, but of the last dart of a list its first one.
 pub(crate) fn afters_in(alloc: Global, lists: &Lists<'_>) -> Result<Vec<u16>, AllocError>
     ensures { IfOk result (λ afters.
         IsTable (dart_count lists.now) (after_of lists.now) afters.items) }
 {
     let mut afters = Vec::with_capacity(alloc, lists.darts())?;
+    for dart in 0..lists.darts() as u16 {
+        afters.push(dart + 1)?;
+    }
     for place in 0..lists.count() {
-        add_afters(&mut afters, lists, place)?;
+        let first = lists.first_dart(place);
+        let end = first + lists.at(place).len() as u16;
+        if first < end {
+            afters[usize::from(end) - 1] = first;
+        }
     }
     Ok(afters)
 }

@@ -1,10 +1,10 @@
-use Rattle.std.proofs.Common.{◌≡◌, ℕ, ◌<◌, ◌≤◌, List, length, get_or, refl, sym, ap, ◌∙◌, arith}
+use Rattle.std.proofs.Common.{ℕ, ◌<◌, ◌≤◌, eqb, List, length, get_or, refl, ap, ◌∙◌, arith}
+use mir.Val.{bool_byte}
 use Rattle.std.specs.List.{flat_map}
 use Rattle.planar_code.specs.Stream.{ended, lists_in}
 use Rattle.embedding.proofs.WrittenLists.{spelt_short}
-use Rattle.embedding.proofs.ListStarts.{next_list, reading_none, reading_end, reading_entry, reading_all}
+use Rattle.embedding.proofs.ListStarts.{next_list, reading_none, reading_step, reading_all}
 use Rattle.embedding.proofs.lists.starts_in.Goals as goal
-use Rattle.embedding.proofs.lists.starts_in.Goals.{then-byte-eq0, else-byte-eq0}
 
 pub overflow_cast-starts : goal.overflow_cast-starts
 overflow_cast-starts c =
@@ -23,13 +23,7 @@ loop-i-preserved c =
     let g = lists_in c.args.bytes.now in
     let i = c.loop-i.i in
     let below : i < length (flat_map ended g) = omega (arith, ap length c.requires.spelt) in
-    let byte : get_or c.args.bytes.now i 0 ≡ get_or (flat_map ended g) i 0 = ap (λ (b : List ℕ). get_or b i 0) c.requires.spelt in
-    elim c.if-byte-eq0.branch [
-      | then-byte-eq0 w ↦
-          rw (w.count-is, w.starts-is) (reading_end g c.loop-i.starts i c.loop-i.count c.requires.each c.requires.few c.loop-i.invariant below (sym byte ∙ w.if-byte-eq0.true))
-      | else-byte-eq0 w ↦
-          rw (w.count-is, w.starts-is) (reading_entry g c.loop-i.starts i c.loop-i.count c.loop-i.invariant below (λ e. w.if-byte-eq0.false (byte ∙ e)))
-    ]
+    reading_step g c.loop-i.starts i c.loop-i.count c.from-count.result c.requires.each c.requires.few c.loop-i.invariant below (c.from-count.ensures ∙ ap (λ (b : List ℕ). bool_byte (eqb (get_or b i 0) 0)) c.requires.spelt)
 
 pub returns : goal.returns
 returns c =

@@ -8,9 +8,13 @@ use Rattle.embedding.proofs.Rotation.{list_of-place, listed_back}
 use Rattle.embedding.proofs.Building.{reverse_found}
 use Rattle.embedding.proofs.tables.reverse_between.Goals as goal
 
-pub place_of-place-requires : goal.place_of-place-requires
-place_of-place-requires c =
+pub place_of-place-requires-clause-held : goal.place_of-place-requires-clause-held
+place_of-place-requires-clause-held c =
     subst (λ (l : List ℕ). Contains l c.args.tail) (sym c.of_vertex.ensures) (listed_back c.args.lists.now c.requires.rules c.args.tail c.args.head c.requires.listed)
+
+pub place_of-place-requires-clause-short : goal.place_of-place-requires-clause-short
+place_of-place-requires-clause-short c =
+    omega (arith, ap length c.of_vertex.ensures, list_of-short c.args.lists.now c.requires.rules c.args.head)
 
 pub overflow_cast-result : goal.overflow_cast-result
 overflow_cast-result c =
