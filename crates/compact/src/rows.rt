@@ -87,8 +87,8 @@ impl RowQueue {
         }
     }
 
-    /// Makes a row of each of so many vertices, and lists the first ones of the rows that are to be marked: those to which no step
-    /// leads from the left.
+    /// Makes a row of each of so many vertices, and lists the first ones of the rows that are to be marked: those with no vertex
+    /// to their right.
     fn begin(&mut self, steps: Steps<'_>, vertices: u32) -> Result<(), AllocError>
         requires right { steps.right < 4 }
         requires count { length steps.around.now ≡ 4 * vertices }
@@ -109,7 +109,7 @@ impl RowQueue {
     }
 }
 
-/// Writes each vertex at its own place, lists those to which no step leads from the left, and says how many they are. All are
+/// Writes each vertex at its own place, lists those with no vertex to their right, and says how many they are. All are
 /// written and some are counted, so that no branch hangs on which.
 fn list_rows(steps: Steps<'_>, rows: &mut [u32], firsts: &mut [u32]) -> usize
     requires right { steps.right < 4 }
@@ -192,7 +192,7 @@ fn mark_next(
     }
 }
 
-/// Marks the rows along both axes. The two walks go side by side, since each waits for memory at each step.
+/// Marks the rows along both axes. The two walks go side by side, since each step of a walk waits for the one before.
 fn mark_both(
     around: &[u32],
     x_firsts: &[u32],
@@ -317,7 +317,7 @@ fn raise(around: &[u32], ahead: u8, rows: &[u32], vertex: u32, numbers: &mut [u1
 }
 
 /// Walks along a row from its first vertex, and raises the numbers of the rows that come next along the axis. The queue has
-/// `count` rows, and so many more than are given back.
+/// `count` rows before; how many it has then is given back.
 fn pass_row(
     steps: Steps<'_>,
     first: u32,
