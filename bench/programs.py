@@ -1,9 +1,11 @@
 """What the scripts of bench/ and checks/ share: their command lines, the programs that they run, building a program
-over this repository's crates, files of graphs, and one run of a program."""
+over this repository's crates, files of graphs, one run of a program, and the sections of bench/RESULTS.md."""
 import argparse
 import collections
+import datetime
 import hashlib
 import os
+import re
 import shutil
 import subprocess
 import sys
@@ -17,6 +19,8 @@ PARTS = os.path.join(ROOT, "bench/parts")
 KINDS = [("cubic", "250", "1"), ("medial", "249", "2"), ("grid", "250", "3"), ("tree", "250", "4")]
 SMALL = os.path.join(DATA, "planar_d4_n8.pc")
 
+RESULTS = os.path.join(ROOT, "bench/RESULTS.md")
+
 PIECE = 1 << 20  # bytes of output read at a time, at most
 
 # One run: wall seconds, processor seconds, peak bytes and a digest of the output.
@@ -26,6 +30,80 @@ Run = collections.namedtuple("Run", "seconds processor peak digest")
 def parser_of(text):
     """A parser of the command line, with this text as its help. A line that it refuses ends the script by status 2."""
     return argparse.ArgumentParser(description=text, formatter_class=argparse.RawDescriptionHelpFormatter)
+
+
+def add_write(parser):
+    """The option by which a script keeps its tables in bench/RESULTS.md."""
+    parser.add_argument("--write", action="store_true",
+                        help="put the tables into bench/RESULTS.md, in place of those of the last run")
+
+
+class Section:
+    """A section of bench/RESULTS.md: the command that writes it, what it shows, when and where it ran, and its
+    tables. Each line is printed as it comes."""
+
+    def __init__(self, command, title):
+        self.head = f"## `{command}`"
+        self.lines = []
+        self.add(f"{self.head}: {title}", "", where(), "")
+
+    def add(self, *lines):
+        self.lines += lines
+        print("\n".join(lines), flush=True)
+
+    def columns(self, *names):
+        """Begins a table."""
+        self.row(*names)
+        self.add("|---" * len(names) + "|")
+
+    def row(self, *cells):
+        self.add("| " + " | ".join(map(str, cells)) + " |")
+
+    def keep(self, wanted):
+        """Where it is wanted, puts the section in place of that of the same command, or behind all others."""
+        if not wanted:
+            return
+        with open(RESULTS, encoding="utf-8") as page:
+            parts = re.split(r"^(?=## )", page.read(), flags=re.M)
+        mine = "\n".join(self.lines).rstrip() + "\n\n"
+        places = [at for at, part in enumerate(parts) if part.startswith(self.head + ":")]
+        if places:
+            parts[places[0]] = mine
+        else:
+            parts[-1] = parts[-1].rstrip() + "\n\n"
+            parts.append(mine)
+        with open(RESULTS, "w", encoding="utf-8") as page:
+            page.write("".join(parts).rstrip() + "\n")
+
+
+def where():
+    """The day, the commit of the program, the cores, and how many of them others kept busy just before the run."""
+    busy = busy_cores()
+    beside = "nothing else running" if busy < 0.3 else f"beside other work on {busy:.1f} of them"
+    return f"{datetime.date.today()}, commit {commit()}, {len(os.sched_getaffinity(0))} cores, {beside}."
+
+
+def busy_cores():
+    """How many cores were busy during one second."""
+    def ticks():
+        with open("/proc/stat", encoding="ascii") as lines:
+            numbers = list(map(int, lines.readline().split()[1:9]))
+        return sum(numbers), numbers[3] + numbers[4]  # all, and idle or waiting for a disk
+
+    before, idle_before = ticks()
+    time.sleep(1)
+    after, idle = ticks()
+    return os.cpu_count() * (1 - (idle - idle_before) / max(1, after - before))
+
+
+def commit():
+    """The commit of the checkout in which the program lies, or of this one."""
+    place = os.path.dirname(os.path.abspath(os.environ.get("PLANARBEND") or ROOT + "/bench"))
+    for folder in (place, ROOT):
+        found = subprocess.run(["git", "-C", folder, "log", "-1", "--format=%h"], capture_output=True, text=True)
+        if found.returncode == 0:
+            return found.stdout.strip()
+    return "unknown"
 
 
 def planarbend():
