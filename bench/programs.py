@@ -107,9 +107,9 @@ def commit():
 
 
 def planarbend():
-    """The built program: PLANARBEND, or the one that ./planarbend builds at its first start."""
+    """The built program: PLANARBEND, or that of ./planarbend --build."""
     program = os.path.abspath(os.environ.get("PLANARBEND") or os.path.join(ROOT, "crates/planarbend/out/planarbend"))
-    return built(program, "./planarbend --help")
+    return built(program, "./planarbend --build")
 
 
 def corpus():

@@ -1,0 +1,60 @@
+"""What the trial run and the build share: the program's folder, lines on standard error, and looks at the machine."""
+import contextlib
+import os
+import re
+import shutil
+import signal
+import sys
+
+ROOT = os.path.dirname(os.path.dirname(os.path.abspath(__file__)))
+CRATE = os.path.join(ROOT, "crates", "planarbend")
+
+BUILD_MINUTES = 35  # from nothing, on 4 free cores
+
+
+def write_error(text):
+    """Writes bytes to standard error. That this may fail changes nothing."""
+    with contextlib.suppress(OSError):
+        while text:
+            text = text[os.write(2, text):]
+
+
+def say(*lines):
+    for line in lines:
+        write_error(os.fsencode(f"planarbend: {line}\n"))
+
+
+def stop(*lines, status=1):
+    """Ends by this status, behind these lines."""
+    say(*lines)
+    sys.exit(status)
+
+
+def free_memory():
+    """MB of memory that programs can have."""
+    with open("/proc/meminfo", encoding="ascii") as file:
+        return int(re.search(r"^MemAvailable: *(\d+)", file.read(), re.M)[1]) // 1000
+
+
+def look_at_machine(what, memory, disk, folder):
+    """Ends at once where there is less memory, or less disk in this folder, than this needs, both in MB."""
+    if free_memory() < memory:
+        stop(f"{what} needs {memory} MB of free memory, and {free_memory()} MB are free",
+             "end other programs, or build on another machine and copy crates/planarbend/out/planarbend")
+    free = shutil.disk_usage(folder).free // 1000000
+    if free < disk:
+        stop(f"{what} needs {disk} MB of disk below {folder}, and {free} MB are free", "make room there")
+
+
+def end_on_signals():
+    """Has signals that end a program raise SystemExit, so that what was begun is ended and what was made is removed."""
+    for number in (signal.SIGINT, signal.SIGTERM, signal.SIGHUP):
+        signal.signal(number, lambda number, _: sys.exit(128 + number))
+
+
+def end(process):
+    """Ends a process that may still run, and waits for it."""
+    for number in (signal.SIGINT, signal.SIGTERM, signal.SIGHUP):
+        signal.signal(number, signal.SIG_IGN)
+    process.terminate()
+    process.wait()
