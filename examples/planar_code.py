@@ -8,7 +8,9 @@ from collections.abc import Iterable, Iterator
 from typing import BinaryIO
 
 HEADER = b">>planar_code<<"
+MOST_VERTICES = 255  # of one record
 MOST_NEIGHBOURS = 254  # of one neighbour list
+MOST_RECORD = 1 + MOST_VERTICES * (MOST_NEIGHBOURS + 1)  # bytes of one record
 MOST_RECORDS = 1_000_000  # of one file, as planarbend reads it
 PIECE = 1 << 16  # bytes read at a time
 

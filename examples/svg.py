@@ -12,6 +12,7 @@ from typing import Any
 
 sys.dont_write_bytecode = True
 from planar_code import Lists, Plane, Unreadable, lists_of, records
+from planarbend import outer_of
 from reports import NoLine, json_line
 
 TEXT = """\
@@ -110,18 +111,6 @@ def reason_of(line: dict[str, Any]) -> str | None:
     return None if line["points"] is not None else f"not drawn: {line['drawn']}"
 
 
-def outer_face(plane: Plane, line: dict[str, Any]) -> int:
-    """The one face whose sum of 2 less each angle, plus left and less right turns, is -4."""
-    sums = [0] * plane.faces
-    for dart, face in enumerate(plane.face):
-        turns = line["turns"][dart]
-        sums[face] += 2 - line["angles"][dart] + turns.count("L") - turns.count("R")
-    outer = [face for face, turning in enumerate(sums) if turning == -4]
-    if len(outer) != 1:
-        raise Refused(f"graph {line['graph']}: its angles and turns have {len(outer)} outer faces, not one")
-    return outer[0]
-
-
 def paths_of(plane: Plane, points: dict[str, Any]) -> list[list[Point]]:
     """The points along each dart, from its tail to its head."""
     paths: list[list[Point]] = [[]] * len(plane.darts)
@@ -148,7 +137,7 @@ def draw(plane: Plane, line: dict[str, Any], shaded: bool) -> Picture:
 
     elements = []
     if shaded:  # the outer face is what no inner one covers
-        outer = outer_face(plane, line)
+        outer = outer_of(plane, line)
         elements.append(f'<rect width="{width}" height="{height}" fill="{SHADE}"/>')
         elements += [f'<polygon points="{along(point for dart in walk for point in paths[dart][:-1])}" fill="white"/>'
                      for face, walk in enumerate(plane.walks) if face != outer]

@@ -1,0 +1,312 @@
+"""planarbend from Python: hands it a stream of embedded graphs, and gives back one object a graph.
+
+    for layout in layouts([{"a": ["b"], "b": ["a"]}], outer="best"):
+        print(layout.bends, layout.points["a"], layout.path("a", "b"), layout.outer_face)
+
+A graph is a mapping from each vertex to its neighbours in clockwise order, a networkx `PlanarEmbedding`, or a
+`Record`. Graphs are taken and layouts given while the program runs, so memory does not grow with their number; after a
+million graphs another run goes on. Python's standard library alone.
+
+What goes wrong is an exception in the words of the tool: `NoProgram`, `RunFailed`, and for a single graph
+`GraphRefused`, `GraphUndrawn` or `GraphLost`, behind which `next` goes on with the next graph.
+"""
+from __future__ import annotations
+
+import collections
+import dataclasses
+import itertools
+import os
+import shutil
+import subprocess
+import sys
+import tempfile
+import threading
+from collections.abc import Hashable, Iterable, Iterator, Mapping
+from typing import Any
+
+sys.dont_write_bytecode = True
+from planar_code import HEADER, MOST_NEIGHBOURS, MOST_RECORDS, MOST_VERTICES, Lists, Plane, lists_of, record_of
+from reports import NoLine, json_line
+
+ROOT = os.path.dirname(os.path.dirname(os.path.abspath(__file__)))
+BUILT = os.path.join(ROOT, "crates/planarbend/out/planarbend")
+SCRIPT = os.path.join(ROOT, "planarbend")
+
+Vertex = Hashable
+Point = tuple[int, int]
+
+
+class PlanarbendError(Exception):
+    """What planarbend says in place of a layout."""
+
+
+class NoProgram(PlanarbendError):
+    """There is no program to run."""
+
+
+class RunFailed(PlanarbendError):
+    """The run ended before its last graph: its status, and what it said."""
+
+    def __init__(self, status: int, said: str) -> None:
+        super().__init__(said or f"planarbend ended with status {status}")
+        self.status = status
+
+
+class GraphError(PlanarbendError):
+    """What is said of one graph, counted from 1, in place of its layout."""
+
+    def __init__(self, number: int, said: str) -> None:
+        super().__init__(f"graph {number}: {said}")
+        self.number = number
+
+
+class GraphRefused(GraphError):
+    """The graph breaks a rule: its word, as docs/FORMAT.md has it."""
+
+    def __init__(self, number: int, rule: str) -> None:
+        super().__init__(number, f"refused {rule}")
+        self.rule = rule
+
+
+class GraphUndrawn(GraphError):
+    """The graph has no drawing: the word of the cause."""
+
+    def __init__(self, number: int, cause: str) -> None:
+        super().__init__(number, f"drawn=no cause={cause}")
+        self.cause = cause
+
+
+class GraphLost(GraphError):
+    """There was no memory for the graph."""
+
+    def __init__(self, number: int) -> None:
+        super().__init__(number, "memory")
+
+
+@dataclasses.dataclass(frozen=True)
+class Record:
+    """A graph as planar_code has it, with the names of its vertices, vertex 1 first."""
+    names: tuple[Vertex, ...]
+    lists: Lists
+
+    @staticmethod
+    def of(graph: Record | Mapping[Vertex, Iterable[Vertex]] | Any) -> Record:
+        """The record of a graph. Raises `ValueError` where it has none, and says why."""
+        if isinstance(graph, Record):
+            return graph
+        if hasattr(graph, "neighbors_cw_order"):  # a PlanarEmbedding of networkx
+            graph = {vertex: list(graph.neighbors_cw_order(vertex)) for vertex in graph}
+        names = tuple(graph)
+        number = {name: place for place, name in enumerate(names, 1)}
+        if not 1 <= len(names) <= MOST_VERTICES:
+            raise ValueError(f"a graph of {len(names)} vertices; planar_code has 1 to {MOST_VERTICES}")
+        lists = []
+        for name, neighbours in graph.items():
+            strange = [other for other in neighbours if other not in number]
+            if strange:
+                raise ValueError(f"{name!r} has the neighbour {strange[0]!r}, which is no vertex")
+            lists.append([number[other] for other in neighbours])
+            if len(lists[-1]) > MOST_NEIGHBOURS:
+                raise ValueError(f"{name!r} has {len(lists[-1])} neighbours; planar_code has at most {MOST_NEIGHBOURS}")
+        return Record(names, lists)
+
+    @staticmethod
+    def read(record: bytes) -> Record:
+        """The record of these bytes; its vertices are named 1, 2, and so on."""
+        lists = lists_of(record)
+        return Record(tuple(range(1, len(lists) + 1)), lists)
+
+    def bytes(self) -> bytes:
+        return record_of(self.lists)
+
+
+@dataclasses.dataclass(frozen=True)
+class Layout:
+    """What planarbend says of one graph. Vertices are those of the graph that was given."""
+    number: int  # of the graph in the stream, counted from 1
+    record: Record
+    bends: int  # the fewest
+    outer: int  # the number of the outer face
+    faces: list[list[Vertex]]  # the vertices of each face, in walking order with the face on the left
+    points: dict[Vertex, Point]  # x grows to the east, y to the north
+    corners: dict[tuple[Vertex, Vertex], list[Point]]  # of each edge, from its first vertex to its second, both ways
+    line: dict[str, Any]  # the JSON line that it was made of: docs/JSON.md
+
+    @property
+    def outer_face(self) -> list[Vertex]:
+        """The vertices of the outer face, in walking order with it on the left."""
+        return self.faces[self.outer]
+
+    def path(self, tail: Vertex, head: Vertex) -> list[Point]:
+        """The points along an edge, its ends included."""
+        return [self.points[tail], *self.corners[tail, head], self.points[head]]
+
+    @staticmethod
+    def of(number: int, record: Record, line: dict[str, Any]) -> Layout:
+        """What the JSON line of a record says. Raises a `GraphError` where that is no layout."""
+        if line["status"] == "refused":
+            raise GraphRefused(number, line["rule"])
+        if line["status"] != "ok":
+            raise GraphLost(number)
+        if line["points"] is None:
+            raise GraphUndrawn(number, line["drawn"])
+        plane, names = Plane(record.lists), record.names
+        corners = {}
+        for dart, between in zip(plane.lesser, line["points"]["corners"], strict=True):
+            tail, head = (names[end - 1] for end in plane.darts[dart])
+            corners[tail, head] = [(x, y) for x, y in between]
+            corners[head, tail] = corners[tail, head][::-1]
+        return Layout(number, record, line["bends"], outer_of(plane, line),
+                      [[names[plane.darts[dart][0] - 1] for dart in walk] for walk in plane.walks],
+                      {name: (x, y) for name, (x, y) in zip(names, line["points"]["vertices"], strict=True)},
+                      corners, line)
+
+
+def outer_of(plane: Plane, line: dict[str, Any]) -> int:
+    """The outer face of a line: the one face whose sum of 2 less each angle, plus left and less right turns, is -4."""
+    sums = [0] * plane.faces
+    for dart, face in enumerate(plane.face):
+        turns = line["turns"][dart]
+        sums[face] += 2 - line["angles"][dart] + turns.count("L") - turns.count("R")
+    found = [face for face, turning in enumerate(sums) if turning == -4]
+    if len(found) != 1:
+        raise ValueError(f"graph {line['graph']}: its angles and turns have {len(found)} outer faces, not one")
+    return found[0]
+
+
+def program() -> str:
+    """The program to run: PLANARBEND, or the one that is built here, or ./planarbend, or the one on the path. Raises
+    `NoProgram` where there is none."""
+    named = os.environ.get("PLANARBEND")
+    for path in [named] if named else [BUILT, SCRIPT, shutil.which("planarbend")]:
+        if path and os.path.isfile(path) and os.access(path, os.X_OK):
+            return os.path.abspath(path)
+    raise NoProgram(f"no such program: {named or SCRIPT}")
+
+
+class Run:
+    """One run of `layout --json -`: records go in by a thread of their own, lines come out."""
+
+    def __init__(self, words: list[str], records: Iterator[Record], most: int) -> None:
+        self.given: collections.deque[Record] = collections.deque()  # those without a line so far
+        self.failed: BaseException | None = None  # what the caller's graphs raised
+        self.is_last = False  # whether the graphs ended in this run
+        self.said = tempfile.TemporaryFile()
+        try:
+            self.child = subprocess.Popen(words, stdin=subprocess.PIPE, stdout=subprocess.PIPE, stderr=self.said)
+        except OSError as error:
+            raise NoProgram(f"{words[0]}: {error.strerror}") from None
+        self.feeder = threading.Thread(target=self._feed, args=(records, most), daemon=True)
+        self.feeder.start()
+
+    def _feed(self, records: Iterator[Record], most: int) -> None:
+        try:
+            with self.child.stdin as sink:
+                sink.write(HEADER)
+                for record in itertools.islice(records, most):
+                    self.given.append(record)
+                    sink.write(record.bytes())
+                    most -= 1
+                self.is_last = most > 0
+        except BrokenPipeError:
+            pass  # the run has ended; its status says why
+        except BaseException as error:
+            self.failed = error
+            self.child.kill()
+
+    def lines(self) -> Iterator[tuple[Record, dict[str, Any]]]:
+        """Each record with its line, in order. Raises what went wrong behind the last of them."""
+        ended = False
+        for text in self.child.stdout:
+            try:
+                line = json_line(text.decode())
+            except (NoLine, UnicodeDecodeError):
+                break
+            if "end" in line:
+                ended = line["end"] == "complete"
+                break
+            yield self.given.popleft(), line
+        self.end(ended)
+
+    def end(self, is_whole: bool) -> None:
+        """Waits for the end of the run. Raises what the caller's graphs raised, or `RunFailed`."""
+        self.child.stdout.close()
+        status = self.child.wait()
+        self.feeder.join()
+        self.said.seek(0)
+        said = self.said.read().decode(errors="replace").strip()
+        self.said.close()
+        if self.failed is not None:
+            raise self.failed
+        if status not in (0, 3) or not is_whole or self.given:
+            raise RunFailed(status, said.splitlines()[-1].removeprefix("planarbend: ") if said else "")
+
+    def stop(self) -> None:
+        """Ends the run before its end."""
+        self.child.kill()
+        self.child.stdout.close()
+        self.child.wait()
+        self.said.close()
+
+
+class Layouts:
+    """The layouts of a stream of graphs, one after another. Behind a `GraphError` it goes on with the next graph."""
+
+    def __init__(self, graphs: Iterable[Any], outer: str = "first", words: Iterable[str] = (),
+                 most: int = MOST_RECORDS) -> None:
+        self.words = [program(), "layout", "--json", "--outer", outer, *words, "-"]
+        self.records = map(Record.of, graphs)
+        self.most = most  # graphs of one run
+        self.number = 0
+        self.run: Run | None = None
+        self.lines: Iterator[tuple[Record, dict[str, Any]]] = iter(())
+        self.is_over = False
+
+    def __iter__(self) -> Layouts:
+        return self
+
+    def __next__(self) -> Layout:
+        while not self.is_over:
+            if self.run is None:
+                self.run = Run(self.words, self.records, self.most)
+                self.lines = self.run.lines()
+            try:
+                record, line = next(self.lines)
+            except StopIteration:
+                self.is_over, self.run = self.run.is_last, None
+                continue
+            except BaseException:
+                self.is_over, self.run = True, None
+                raise
+            self.number += 1
+            return Layout.of(self.number, record, line)
+        raise StopIteration
+
+    def close(self) -> None:
+        """Ends the run where it is."""
+        self.is_over = True
+        if self.run is not None:
+            self.run.stop()
+            self.run = None
+
+    def __enter__(self) -> Layouts:
+        return self
+
+    def __exit__(self, *_: object) -> None:
+        self.close()
+
+    def __del__(self) -> None:
+        if getattr(self, "run", None) is not None:
+            self.close()
+
+
+def layouts(graphs: Iterable[Any], outer: str = "first", words: Iterable[str] = ()) -> Layouts:
+    """The layouts of a stream of graphs, with the outer face that `layout --outer` chooses, `first` or `best`; further
+    words go to `layout` as they are."""
+    return Layouts(graphs, outer, words)
+
+
+def layout_of(graph: Any, outer: str = "first") -> Layout:
+    """The layout of one graph."""
+    with layouts([graph], outer) as found:
+        return next(found)
