@@ -56,7 +56,7 @@ class Tree:
             self.folders.add(place)
             self.files.update(os.path.normpath(os.path.join(place, name)) for name in names)
         self.words = {crate: self.words_of_crate(crate) for crate in self.crates}
-        scripts = [file for file in self.files if file.split("/")[0] in ("checks", "bench", "examples")
+        scripts = [file for file in self.files if file.split("/")[0] in ("checks", "bench", "examples", "start")
                    and not file.endswith((".md", ".pc")) and not file.startswith("checks/pages")]
         self.others = self.split("\n".join(map(text_of, scripts + ["planarbend", "crates.txt"])))
         self.all = self.others.union(OUTSIDE, *self.words.values())
