@@ -1,0 +1,9 @@
+pub mod OuterFaces
+pub mod Meanings
+pub mod Layouts
+pub mod Running
+pub mod Straight
+pub mod Enclosing
+pub mod ShortFaces
+pub mod Supplying
+pub mod Sizes

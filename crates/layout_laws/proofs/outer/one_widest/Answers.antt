@@ -1,0 +1,5 @@
+use Rattle.layout_laws.proofs.OuterFaces.{widest_once}
+use Rattle.layout_laws.proofs.outer.one_widest.Goals as goal
+
+pub returns : goal.returns
+returns c = widest_once
