@@ -57,7 +57,7 @@ class Section:
         self.add("|---" * len(names) + "|")
 
     def row(self, *cells):
-        self.add("| " + " | ".join(map(str, cells)) + " |")
+        self.add("|" + "|".join(map(str, cells)) + "|")
 
     def keep(self, wanted):
         """Where it is wanted, puts the section in place of that of the same command, or behind all others."""
