@@ -1,5 +1,5 @@
 //! The lines of a run in each form. Files and places in a file count from 0 here, and from 1 in the text.
-ghost use Rattle.std.specs.Prelude.{◌≡◌, ◌+◌, IfOk};
+ghost use Rattle.std.specs.Prelude.{◌≡◌, ◌+◌, ◌^◌, ◌≤◌, IfOk, OnErr};
 ghost use Rattle.entries.specs.declared.answer.Answer.{Answer};
 ghost use Rattle.entries.specs.declared.entry.Entry.{Entry};
 ghost use Rattle.printing.specs.FormLines.{line_in, head_in, end_in};
@@ -94,7 +94,8 @@ pub fn end_text(
 ///
 /// `AllocError` where it does not fit. No file of a run has such a number.
 fn number_of(file: u32) -> Result<u32, AllocError>
-    ensures { IfOk result (λ number. number ≡ file + 1) }
+    ensures number { IfOk result (λ number. number ≡ file + 1) }
+    ensures fits { OnErr result (2 ^ 32 ≤ file + 1) }
 {
     match file.checked_add(1) {
         Some(number) => Ok(number),

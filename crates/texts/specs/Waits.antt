@@ -29,6 +29,11 @@ pub record GetsMark (many : ℕ) (given : Mark) (before after : Waiting) : Type 
   pub counted : before.count ≡ many
   pub mark : after.mark ≡ Some given
 
+-- there is no mark, and so many entries have come
+pub record IsUnmarked (many : ℕ) (waiting : Waiting) : Type 0 where
+  pub mark : waiting.mark ≡ None
+  pub count : waiting.count ≡ many
+
 -- nothing is said of the lines
 pub record IsTaken (before after : Waiting) : Type 0 where
   pub count : after.count ≡ before.count

@@ -174,6 +174,8 @@ impl Lines {
     fn is_next(&self, file: u32, ordinal: u32) -> bool
         ensures open { IsTrue result → (self.now.front ≤ file) × (file < length self.now.waiting.items) }
         ensures next { IsTrue result → (other : Waiting) → IsNext ordinal (slice_index_or self.now.waiting.items file other) }
+        ensures due { self.now.front ≤ file → file < length self.now.waiting.items
+            → ((other : Waiting) → IsNext ordinal (slice_index_or self.now.waiting.items file other)) → IsTrue result }
     {
         if !self.is_open(file) {
             return false;

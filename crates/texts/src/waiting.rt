@@ -1,6 +1,6 @@
 //! What waits of files whose turn has not come.
 ghost use Rattle.std.specs.Prelude.{◌≡◌, ◌<◌, IfOk, IfErr, OnOk, All, length, IsTrue, slice_index_or};
-ghost use Rattle.texts.specs.Waits.{ChangesAt, IsNothing, IsCountedOne, GetsLine, GetsMark, IsTaken};
+ghost use Rattle.texts.specs.Waits.{ChangesAt, IsNothing, IsCountedOne, GetsLine, GetsMark, IsTaken, IsUnmarked};
 
 use crate::refusal::Refusal;
 use std::alloc::{AllocError, Global};
@@ -69,6 +69,7 @@ pub(crate) fn keep_mark(waiting: &mut Vec<Waiting>, file: u32, count: u32, mark:
     requires { file < length waiting.old.items }
     ensures count { length waiting.new.items ≡ length waiting.old.items }
     ensures kept { IsTrue result → ChangesAt file (GetsMark count mark) waiting.old.items waiting.new.items }
+    ensures due { ((other : Waiting) → IsUnmarked count (slice_index_or waiting.old.items file other)) → IsTrue result }
 {
     let here = &mut waiting[file as usize];
     if here.mark.is_some() || here.count != count {
