@@ -9,7 +9,7 @@ ghost use Rattle.commands.specs.Statuses.{IsLaidOut, IsBegunToLayOut};
 use choices::Choice;
 use collector::{TextFault, write_batch};
 use lanes::Opener;
-use program_io::{Console, Fault, FileOpener, Meter};
+use program_io::{Console, Fault, FileOpener, FilesAndInput, Meter, SystemFiles};
 use reports::Form;
 use std::rt::Files;
 use std::sync::Wait;
@@ -58,10 +58,13 @@ where
         ↔ (result ≡ Err (Fault.Run BatchFault.BadLanes)) }
     ensures refused { IfErr result (λ fault. IsRefusal fault → out.new ≡ out.old) }
 {
-    let opener = FileOpener {
-        rt,
-        names,
+    let named = FilesAndInput {
+        files: &SystemFiles { rt },
         input,
+    };
+    let opener = FileOpener {
+        files: &named,
+        names,
         begun: meter.begun(),
     };
     let Ok(files) = u32::try_from(names.len()) else {

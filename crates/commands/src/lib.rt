@@ -2,9 +2,11 @@
 #![tactic(auto)]
 
 mod layout;
+mod process;
 mod program;
 mod reading;
 mod request;
 mod version;
 
+pub use process::run;
 pub use program::command;

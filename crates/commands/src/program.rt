@@ -20,7 +20,7 @@ use crate::version::VERSION;
 use clap::Error;
 use clap::error::ErrorKind;
 use lanes::Opener;
-use program_io::{Console, Fault, Meter, open_source, write_fault};
+use program_io::{Console, Fault, FilesAndInput, Meter, SystemFiles, open_source, write_fault};
 use reports::status_of;
 use std::alloc::Global;
 use std::rt::Files;
@@ -161,6 +161,7 @@ fn frames<R: Files + AllocGlobal + Threads + Wait + Sync, I: Opener, S: Sink>(
 ) -> Result<u8, Fault>
 where
     R::File: Send,
+    R::Dir: Send,
     requires { S.failed out.old ≡ false }
     ensures reported { IfOk result (IsReported (meaning_of (I.meaning input.now 0) name.now)
         (S.taken out.old) (S.taken out.new) (S.failed out.new)) }
@@ -168,7 +169,11 @@ where
     ensures begun { OnErr result ((out.new ≡ out.old)
         ⊎ IsBegunToReport (meaning_of (I.meaning input.now 0) name.now) (S.taken out.old) (S.taken out.new)) }
 {
-    let source = open_source(rt, rt.alloc(), input, name)?;
+    let files = FilesAndInput {
+        files: &SystemFiles { rt },
+        input,
+    };
+    let source = open_source(&files, rt.alloc(), name)?;
     let found = run_frames(rt, rt.alloc(), source, CAPACITY)?;
     write_frames(&found, out)?;
     Ok(status_of(found.mark()))

@@ -1,3 +1,4 @@
 pub mod Naming
+pub mod Readers
 pub mod Refusals
 pub mod Sources

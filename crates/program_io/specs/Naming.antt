@@ -7,14 +7,21 @@ use Rattle.lanes.specs.Opening.{Meaning, Silent, Unopened}
 abbrev pub is_input : List ℕ → Bool
 is_input name = bytes_eq name (codes "-")
 
--- what the file of this name means, where `input` is what standard input means: a real file tells nothing
-abbrev pub meaning_of : Meaning → List ℕ → Meaning
-meaning_of input name = if is_input name then input else Silent
+-- what the file of this name means, where `input` is what standard input means, and `files` what other names mean
+abbrev pub meaning_in : Meaning → (List ℕ → Meaning) → List ℕ → Meaning
+meaning_in input files name = if is_input name then input else files name
 
--- what the file with a number means, which is its place among these names
-abbrev pub meaning_at : Meaning → Option (Bor (List ℕ)) → Meaning
-meaning_at input None = Unopened
-meaning_at input (Some name) = meaning_of input name.now
+-- what the file with a number means, which is the place of its name among these
+abbrev pub meaning_at : (List ℕ → Meaning) → Option (Bor (List ℕ)) → Meaning
+meaning_at files None = Unopened
+meaning_at files (Some name) = files name.now
+
+abbrev pub meanings_in : (List ℕ → Meaning) → List (Bor (List ℕ)) → ℕ → Meaning
+meanings_in files names file = meaning_at files (slice_get names file)
+
+-- the same where the other files are those of a system, which tell nothing
+abbrev pub meaning_of : Meaning → List ℕ → Meaning
+meaning_of input name = meaning_in input (λ _. Silent) name
 
 abbrev pub meanings : Meaning → List (Bor (List ℕ)) → ℕ → Meaning
-meanings input names file = meaning_at input (slice_get names file)
+meanings input names file = meanings_in (meaning_of input) names file

@@ -5,13 +5,17 @@
 mod fault_line;
 mod faults;
 mod file_opener;
+mod named_files;
 mod progress;
+mod read_tap;
 mod source;
 mod standard_input;
 
 pub use fault_line::write_fault;
 pub use faults::{Fault, arguments_fault};
 pub use file_opener::FileOpener;
+pub use named_files::{FilesAndInput, NamedFiles, SystemFiles};
 pub use progress::{Console, ErrorConsole, Meter, Progress};
-pub use source::{FileSource, open_fault, open_source};
-pub use standard_input::{INPUT, ReadTap, StandardInput, is_input};
+pub use read_tap::ReadTap;
+pub use source::{FileSource, NamedSource, open_fault, open_source};
+pub use standard_input::{INPUT, StandardInput, is_input};

@@ -1,81 +1,75 @@
 //! Files as sources of a run.
 ghost use Rattle.std.specs.Prelude.{◌≡◌, ◌↔◌, IfOk, IfErr};
-ghost use Rattle.program_io.specs.Naming.{meaning_of};
-ghost use Rattle.program_io.specs.Sources.{to_come_of, source_fails_of, Tells};
+ghost use Rattle.program_io.specs.Sources.{named_to_come, named_fails, opened_to_come, opened_fails, Tells};
 
 use crate::faults::Fault;
-use crate::standard_input::is_input;
-use lanes::{OpenFault, Opener};
+use crate::named_files::NamedFiles;
+use lanes::OpenFault;
 use std::alloc::Global;
-use std::fs;
-use std::io::{ErrorKind, Read};
-use std::rt::Files;
+use std::io::ErrorKind;
 use streams::{Tap, TapFault};
 
-/// An open file, which tells nothing of its bytes; standard input; or a file that could not be opened, whose
-/// every read fails.
+/// A file that was named, or standard input.
 #[derive(Drop)]
-pub enum FileSource<F, I> {
-    /// An open file.
-    Open(F),
+pub enum NamedSource<F, I> {
+    /// A file of this name.
+    File(F),
     /// Standard input.
     Input(I),
+}
+
+impl<F: Tap, I: Tap> Tap for NamedSource<F, I> {
+    ghost to_come = { named_to_come F.to_come I.to_come };
+
+    ghost fails = { named_fails F.fails I.fails };
+
+    fn read(&mut self, buf: &mut [u8]) -> Result<usize, TapFault> {
+        match self {
+            NamedSource::File(file) => file.read(buf),
+            NamedSource::Input(input) => input.read(buf),
+        }
+    }
+}
+
+/// An open file, or one that could not be opened, whose every read fails.
+#[derive(Drop)]
+pub enum FileSource<F> {
+    /// An open file.
+    Open(F),
     /// A file that could not be opened.
     Refused,
 }
 
-impl<F: Read + Drop, I: Tap> Tap for FileSource<F, I> {
-    ghost to_come = { to_come_of I.to_come };
+impl<F: Tap> Tap for FileSource<F> {
+    ghost to_come = { opened_to_come F.to_come };
 
-    ghost fails = { source_fails_of I.fails };
+    ghost fails = { opened_fails F.fails };
 
     fn read(&mut self, buf: &mut [u8]) -> Result<usize, TapFault> {
         match self {
-            FileSource::Open(file) => file.read(buf).map_err(|_| TapFault),
-            FileSource::Input(input) => input.read(buf),
+            FileSource::Open(file) => file.read(buf),
             FileSource::Refused => Err(TapFault),
         }
     }
 }
 
-/// Opens the file of this name: `-` is standard input, the file 0 of `input`. A file that could not be opened is
-/// a source that fails.
+/// Opens the file of this name. A file that could not be opened is a source that fails.
 ///
 /// # Errors
 ///
 /// `Memory` where the open found no memory. There is no other.
-pub fn open_source<R: Files, I: Opener>(
-    rt: &R,
+pub fn open_source<N: NamedFiles>(
+    files: &N,
     alloc: Global,
-    input: &I,
     name: &str,
-) -> Result<FileSource<R::File, I::Source>, Fault>
-    ensures told { IfOk result (Tells I.Source.to_come I.Source.fails (meaning_of (I.meaning input.now 0) name.now)) }
+) -> Result<FileSource<N::Source>, Fault>
+    ensures told { IfOk result (Tells N.Source.to_come N.Source.fails (N.meaning files.now name.now)) }
     ensures memory { IfErr result (λ fault. fault ≡ Fault.Memory) }
 {
-    let opened = if is_input(name) {
-        match input.open(alloc, 0) {
-            Ok(source) => Ok(FileSource::Input(source)),
-            Err(fault) => Err(fault),
-        }
-    } else {
-        open_file(rt, name)
-    };
-    match opened {
-        Ok(source) => Ok(source),
+    match files.open(alloc, name) {
+        Ok(file) => Ok(FileSource::Open(file)),
         Err(OpenFault::Memory) => Err(Fault::Memory),
         Err(OpenFault::Io) => Ok(FileSource::Refused),
-    }
-}
-
-/// Opens a file that is not standard input.
-pub(crate) fn open_file<R: Files, I>(
-    rt: &R,
-    name: &str,
-) -> Result<FileSource<R::File, I>, OpenFault> {
-    match fs::open(rt, name) {
-        Ok(file) => Ok(FileSource::Open(file)),
-        Err(error) => Err(open_fault(error.kind())),
     }
 }
 

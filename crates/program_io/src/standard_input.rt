@@ -1,13 +1,14 @@
 //! Standard input as a source of a run.
-ghost use Rattle.std.specs.Prelude.{◌≡◌, None, false};
-ghost use Rattle.lanes.specs.Opening.{Silent};
+ghost use Rattle.std.specs.Prelude.{◌≡◌, IfOk};
+ghost use Rattle.lanes.specs.Opening.{Opens, Silent};
 ghost use Rattle.program_io.specs.Naming.{is_input};
 
+use crate::read_tap::ReadTap;
 use lanes::{OpenFault, Opener};
 use std::alloc::Global;
 use std::io::Read;
 use std::os::fd::AsFd;
-use streams::{Tap, TapFault};
+use streams::Tap;
 
 /// The name that stands for standard input.
 pub const INPUT: &str = "-";
@@ -17,22 +18,6 @@ pub fn is_input(name: &str) -> bool
     ensures { result ≡ is_input name.now }
 {
     name == INPUT
-}
-
-/// A reader as a source. It tells nothing of its bytes.
-#[derive(Drop)]
-pub struct ReadTap<R> {
-    reader: R,
-}
-
-impl<R: Read + Drop> Tap for ReadTap<R> {
-    ghost to_come = { λ _. None };
-
-    ghost fails = { λ _. false };
-
-    fn read(&mut self, buf: &mut [u8]) -> Result<usize, TapFault> {
-        self.reader.read(buf).map_err(|_| TapFault)
-    }
 }
 
 /// Standard input, as the only file of an opener. It tells nothing of its bytes.
@@ -54,13 +39,20 @@ impl<I: AsFd + Copy> StandardInput<I> {
 }
 
 impl<I: Read + Copy + Send + Sync> Opener for StandardInput<I> {
+    ghost use Rattle.program_io.specs.Readers.{left_in, left_of};
+
     type Source = ReadTap<I>;
 
     ghost meaning = { λ _ _. Silent };
 
-    fn open(&self, _alloc: Global, _file: u32) -> Result<ReadTap<I>, OpenFault> {
+    // What every opener keeps, and that the source has all that standard input has.
+    fn open(&self, _alloc: Global, file: u32) -> Result<ReadTap<I>, OpenFault>
+        ensures opens { Opens ⟦<ReadTap<I> as Tap>⟧.to_come ⟦<ReadTap<I> as Tap>⟧.fails
+            (⟦<StandardInput<I> as Opener>⟧.meaning self.now file) result }
+        ensures whole { IfOk result (λ source. left_of I.remaining source ≡ left_in I.remaining self.now) }
+    {
         if self.is_open {
-            Ok(ReadTap { reader: self.input })
+            Ok(ReadTap::new(self.input))
         } else {
             Err(OpenFault::Io)
         }

@@ -1,0 +1,47 @@
+//! A whole run of the program.
+ghost use Rattle.std.specs.Prelude.{◌≡◌, ◌≤◌, true, false};
+ghost use Rattle.std.specs.Process.{exit_status};
+
+use crate::program::command;
+use lanes::Opener;
+use program_io::{Console, Fault, arguments_fault, write_fault};
+use std::env;
+use std::process::ExitCode;
+use std::rt::Files;
+use std::sync::Wait;
+use std::thread::Threads;
+use streams::Sink;
+
+/// Does what the words after the program's name ask for, as `command` does, and ends with its status. Where these words
+/// cannot be had, the line of that fault goes to `err`, and the status is that of the fault.
+pub fn run<
+    R: env::Env + Files + AllocGlobal + Threads + Wait + Sync,
+    I: Opener,
+    C: Console + Sync,
+    S: Sink,
+    E: Sink,
+>(rt: &R, input: &I, console: &C, out: &mut S, err: &mut E) -> ExitCode
+where
+    R::File: Send,
+    R::Dir: Send,
+    requires out_is_whole { S.failed out.old ≡ false }
+    requires err_is_whole { E.failed err.old ≡ false }
+    ensures known { exit_status result ≤ 3 }
+    ensures failed_write { S.failed out.new ≡ true → exit_status result ≡ 1 }
+    ensures refused { exit_status result ≡ 2 → out.new ≡ out.old }
+{
+    let status = match arguments(rt) {
+        Ok(words) => command(rt, words.as_slice(), input, console, out, err),
+        Err(fault) => {
+            write_fault(fault, err);
+            fault.status()
+        }
+    };
+    ExitCode::from(status)
+}
+
+/// The words after the program's name.
+fn arguments<R: env::Env + AllocGlobal>(rt: &R) -> Result<Vec<String>, Fault> {
+    let all = env::args(rt).map_err(|error| arguments_fault(error.kind()))?;
+    all.skip(1).collect(rt.alloc()).map_err(|_| Fault::Memory)
+}
