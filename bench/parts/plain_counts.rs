@@ -10,9 +10,11 @@ fn main() {
     let bytes = std::fs::read(path).expect("a readable file");
     let (records, _) = planar_code::split(Global, &bytes).expect("memory");
     let mut shapes_in = ortho_rep::Scratch::empty(Global);
-    let mut boxes_in = compact::BoxesScratch::empty(Global);
-    let mut points_in = compact::Scratch::empty(Global);
-    let mut check_in = drawing_check::Scratch::empty(Global);
+    let mut room = Room {
+        boxes: compact::BoxesScratch::empty(Global),
+        points: compact::Scratch::empty(Global),
+        check: drawing_check::Scratch::empty(Global),
+    };
     let mut search = Some(dissect::Search::empty(Global));
     for record in &records {
         let graph = embedding::Graph::read(Global, record).expect("a graph");
@@ -23,24 +25,35 @@ fn main() {
             ortho_rep::least_shape_in(Global, &mut shapes_in, &plane).expect("memory")
         };
         let found = dissect::headings_in(&plane, &shape, search.take().unwrap()).expect("memory");
-        let boxes = dissect::dissect_along(Global, &mut boxes_in, &plane, &shape, &found.headings)
-            .expect("memory");
+        black_box(room.drawn(&plane, &shape, &found.headings));
         search = Some(found);
-        let points = compact::compact_in(Global, &mut points_in, &boxes)
-            .ok()
-            .expect("a place for each vertex");
-        boxes.give_back(&mut boxes_in);
-        black_box(checked(&mut check_in, &plane, &shape, points));
     }
 }
 
-/// The check, which is counted apart.
-#[inline(never)]
-fn checked(
-    scratch: &mut drawing_check::Scratch,
-    plane: &faces::Plane,
-    shape: &ortho_rep::Shape,
-    points: ortho_rep::Points,
-) -> drawing_check::Drawing {
-    drawing_check::check_in(Global, scratch, plane, shape, points).ok().expect("a drawing")
+/// The memory of the last stage.
+struct Room {
+    boxes: compact::BoxesScratch,
+    points: compact::Scratch,
+    check: drawing_check::Scratch,
+}
+
+impl Room {
+    /// The last stage, which is counted apart.
+    #[inline(never)]
+    fn drawn(
+        &mut self,
+        plane: &faces::Plane,
+        shape: &ortho_rep::Shape,
+        headings: &[u8],
+    ) -> drawing_check::Drawing {
+        let boxes =
+            dissect::dissect_along(Global, &mut self.boxes, plane, shape, headings).expect("memory");
+        let points = compact::compact_in(Global, &mut self.points, &boxes)
+            .ok()
+            .expect("a place for each vertex");
+        boxes.give_back(&mut self.boxes);
+        drawing_check::check_in(Global, &mut self.check, plane, shape, points)
+            .ok()
+            .expect("a drawing")
+    }
 }
