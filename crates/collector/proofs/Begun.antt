@@ -22,12 +22,12 @@ ended_with gave_up holds Thread given held ends = held ends.0 ends.1
 
 -- lines of so many files in this form, under this choice
 pub begun_lines : (choice : Choice) (meaning : ℕ → Meaning) (form : Form) (files : ℕ) (start now : Option (List ℕ)) (lines : Lines) → choice_of lines ≡ choice → form_of lines ≡ form → files_of lines ≡ files
-    → LinesLeaveOff meaning start now lines → ∥ IsBegun choice meaning form files start now ∥₁
-begun_lines choice meaning form files start now lines choice_is form_is files_is left =
-    begun_left_off choice meaning form files start now
-    (subst (λ n. LeavesOff choice meaning form n start now) files_is
-    (subst (λ f. LeavesOff choice meaning f (files_of lines) start now) form_is
-    (subst (λ c. LeavesOff c meaning (form_of lines) (files_of lines) start now) choice_is left)))
+    → (ns : List Note) → LinesLeaveOff meaning start now lines ns → ∥ IsBegun choice meaning form files start now ∥₁
+begun_lines choice meaning form files start now lines choice_is form_is files_is ns left =
+    begun_left_off choice meaning form files start now ns
+    (subst (λ n. LeavesOff choice meaning form n start now ns) files_is
+    (subst (λ f. LeavesOff choice meaning f (files_of lines) start now ns) form_is
+    (subst (λ c. LeavesOff c meaning (form_of lines) (files_of lines) start now ns) choice_is left)))
 
 -- nothing is a beginning of any text
 pub begun_by_nothing : (choice : Choice) (meaning : ℕ → Meaning) (form : Form) (files : ℕ) (taken : Option (List ℕ)) → ∥ IsBegun choice meaning form files taken taken ∥₁

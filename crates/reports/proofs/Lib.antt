@@ -1,2 +1,3 @@
 pub mod TextParts
 pub mod Lacks
+pub mod FirstBytes

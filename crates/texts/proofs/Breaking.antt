@@ -1,5 +1,5 @@
 -- What was added to a sink where the text was left off.
-use Rattle.std.proofs.Common.{◌≡◌, ℕ, zero, suc, ◌+◌, ◌<◌, ◌≤◌, List, [], ◌++◌, length, Option, Some, inl, inr, refl, sym, ap, subst, ◌∙◌, arith, append_assoc, append-nil, get_or, Bool, Err}
+use Rattle.std.proofs.Common.{◌≡◌, ℕ, ◌+◌, ◌<◌, ◌≤◌, List, ◌++◌, length, Option, Some, inl, inr, refl, sym, ap, subst, ◌∙◌, arith, append_assoc, get_or, Bool, Err}
 use Rattle.std.proofs.lemmas.Bool.{cases_lt}
 use Rattle.streams.specs.Sink.{AppendsFront, IsOnItsWay, Writes}
 use Rattle.streams.proofs.Sinks.{added_both}
@@ -10,8 +10,8 @@ use Rattle.reports.specs.declared.form.Form.{Form}
 use Rattle.printing.specs.FormLines.{line_in, head_in, lines_in, end_in}
 use Rattle.streams.specs.declared.frames.Mark.{Mark}
 use Rattle.texts.specs.declared.waiting.Waiting.{Waiting}
-use Rattle.texts.specs.Came.{Came, HasMark, HasEntryMore, closed, mark_or_memory}
-use Rattle.texts.specs.Written.{GoesOn, begun, ended, last_in, ended_texts, AreWritten, AreLeft, BreaksIn, BreaksOff}
+use Rattle.texts.specs.Came.{Came, HasMark, HasEntryMore}
+use Rattle.texts.specs.Written.{GoesOn, begun, ended_texts, AreWritten, AreLeft, BreaksIn, BreaksOff}
 use Rattle.texts.proofs.Waits.{some_waiting}
 use Rattle.texts.proofs.Adding.{front_more}
 use Rattle.texts.proofs.Moving.{marked_next, ended_more}
@@ -19,9 +19,6 @@ use Rattle.texts.proofs.Moving.{marked_next, ended_more}
 -- one text begins with the other
 abbrev Longer : List ℕ → List ℕ → Type 0
 Longer whole text = (more : List ℕ) × (whole ≡ text ++ more)
-
-longer_both : (a b c : List ℕ) → Longer a b → Longer b c → Longer a c
-longer_both a b c p q = (q.0 ++ p.0, p.1 ∙ ap (λ l. l ++ p.0) q.1 ∙ append_assoc c q.0 p.0)
 
 appends_longer : (start now : Option (List ℕ)) (whole text : List ℕ) → Longer whole text → AppendsFront start now text → AppendsFront start now whole
 appends_longer start now whole text longer added =
@@ -40,54 +37,15 @@ pub writes_front : (A : Type 0) (old new : Option (List ℕ)) (text : List ℕ) 
 writes_front A old new text failed Write writes = writes.1
 writes_front A old new text failed Memory writes = absurd writes
 
--- a file that has ended
-closed_same : (form : Form) (file : ℕ) (came : Came) → HasMark came → ended form file (closed came) ≡ ended form file came
-closed_same form file came (mark, is) = ap (λ m. begun form file came ++ last_in form (file + 1) m (length came.entries)) (ap (λ m. Some (mark_or_memory m)) is ∙ sym is)
-
-texts_closed : (form : Form) (came : ℕ → Came) (n : ℕ) → ((k : ℕ) → k < n → HasMark (came k)) → ended_texts form (λ k. closed (came k)) n ≡ ended_texts form came n
-texts_closed form came zero marked = refl
-texts_closed form came (suc n) marked =
-    ap (λ l. l ++ ended form n (closed (came n))) (texts_closed form came n (λ k below. marked k (omega (arith, below))))
-    ∙ ap (λ l. ended_texts form came n ++ l) (closed_same form n (came n) (marked n (omega arith)))
-
--- the text of more files
-texts_longer : (form : Form) (came : ℕ → Came) (n files : ℕ) → n ≤ files → Longer (ended_texts form came files) (ended_texts form came n)
-texts_longer form came n zero within =
-    let same : zero ≡ n = omega (arith, within) in
-    ([], ap (ended_texts form came) same ∙ sym (append-nil (ended_texts form came n)))
-texts_longer form came n (suc files) within =
-    elim (cases_lt files n) [
-      | inl lt ↦
-          let same : suc files ≡ n = omega (arith, lt, within) in
-          ([], ap (ended_texts form came) same ∙ sym (append-nil (ended_texts form came n)))
-      | inr from ↦
-          longer_both (ended_texts form came (suc files)) (ended_texts form came files) (ended_texts form came n)
-          (ended form files (came files), refl) (texts_longer form came n files from)
-    ]
-
 -- of the files below this one all was on its way, and they have ended
 pub breaks_at : (form : Form) (start now : Option (List ℕ)) (came : ℕ → Came) (n files : ℕ) → n ≤ files → ((k : ℕ) → k < n → HasMark (came k))
     → AppendsFront start now (ended_texts form came n) → BreaksOff form start now files came
-breaks_at form start now came n files within marked added =
-    appends_longer start now (ended_texts form (λ k. closed (came k)) files) (ended_texts form (λ k. closed (came k)) n)
-    (texts_longer form (λ k. closed (came k)) n files within)
-    (subst (AppendsFront start now) (sym (texts_closed form came n marked)) added)
+breaks_at form start now came n files within marked added = record { front = n; within = within; marked = marked; text = inl added }
 
 -- and of this one its first line and its lines so far
-begun_longer : (form : Form) (came : ℕ → Came) (n files : ℕ) → n < files → ((k : ℕ) → k < n → HasMark (came k))
-    → Longer (ended_texts form (λ k. closed (came k)) files) (ended_texts form came n ++ begun form n (came n))
-begun_longer form came n files below marked =
-    let T = ended_texts form (λ k. closed (came k)) n in
-    let B = begun form n (came n) in
-    let L = last_in form (n + 1) (closed (came n)).mark (length (came n).entries) in
-    let here : T ++ (B ++ L) ≡ (ended_texts form came n ++ B) ++ L = sym (append_assoc T B L) ∙ ap (λ t. (t ++ B) ++ L) (texts_closed form came n marked) in
-    longer_both (ended_texts form (λ k. closed (came k)) files) (ended_texts form (λ k. closed (came k)) (suc n)) (ended_texts form came n ++ B)
-    (texts_longer form (λ k. closed (came k)) (suc n) files (omega (arith, below))) (L, here)
-
 pub breaks_in : (form : Form) (start now : Option (List ℕ)) (came : ℕ → Came) (n files : ℕ) → n < files → ((k : ℕ) → k < n → HasMark (came k))
     → AppendsFront start now (ended_texts form came n ++ begun form n (came n)) → BreaksOff form start now files came
-breaks_in form start now came n files below marked added =
-    appends_longer start now (ended_texts form (λ k. closed (came k)) files) (ended_texts form came n ++ begun form n (came n)) (begun_longer form came n files below marked) added
+breaks_in form start now came n files below marked added = record { front = n; within = omega (arith, below); marked = marked; text = inr (below, added) }
 
 -- or its first line alone
 pub breaks_head : (form : Form) (start now : Option (List ℕ)) (came : ℕ → Came) (n files : ℕ) → n < files → ((k : ℕ) → k < n → HasMark (came k))

@@ -25,7 +25,7 @@ use Rattle.streams.proofs.Marks.{split_stands, open_stands, beginning_stands}
 use Rattle.streams.proofs.Pieces.{marked_split}
 use Rattle.printing.specs.Spelt.{IsSpelt}
 use Rattle.lanes.specs.Opening.{Silent, IsFoundAt, IsEndAt}
-use Rattle.texts.specs.Came.{mark_or_memory}
+use Rattle.texts.proofs.ToldEnds.{mark_or_memory}
 
 -- some file of so many records, at most 1,000,000, has this mark
 abbrev pub MayEnd : Mark → ℕ → Type 0

@@ -23,7 +23,7 @@ use Rattle.texts.specs.Orders.{IsKnownAt, IsInOrder, IsNext}
 use Rattle.printing.specs.Spelt.{IsSpelt}
 use Rattle.texts.proofs.Ordering.{order_none, order_item, order_end, order_but}
 use Rattle.texts.proofs.Breaking.{breaks_written, breaks_flushed}
-use Rattle.texts.specs.Holding.{HoldsNotes, LinesHold, LinesWrite, LeavesOff, LinesLeaveOff, AreLinesOf}
+use Rattle.texts.specs.Holding.{HoldsNotes, LinesHold, LinesWrite, LeavesOff, LinesLeaveOff, LinesLeaveOffAt, AreLinesOf}
 use Rattle.texts.specs.Written.{BreaksOff}
 use Rattle.streams.specs.Sink.{AppendsFront}
 use Rattle.texts.proofs.Notes.{entry_more, has_entry_more, ended_now, has_mark_more, all_told_item, all_told_end}
@@ -167,34 +167,39 @@ head_short Report =
 head_short Json = omega arith
 
 -- what is held is left off as it is
-pub left_off_held : (meaning : ℕ → Meaning) (start now : Option (List ℕ)) (lines : Lines) (ns : List Note) → LinesHold meaning start now lines ns → LinesLeaveOff meaning start now lines
+pub left_off_held : (meaning : ℕ → Meaning) (start now : Option (List ℕ)) (lines : Lines) (ns : List Note) → LinesHold meaning start now lines ns → LinesLeaveOff meaning start now lines ns
 left_off_held meaning start now lines ns held = record {
   came = held.came;
+  told = held.told;
   ordered = held.ordered;
   text = breaks_written lines.form start now lines.buffer lines.front lines.waiting.items held.came held.written;
 }
 
 -- of the same lines later
-pub left_off_as : (meaning : ℕ → Meaning) (start now : Option (List ℕ)) (before after : Lines) → AreLinesOf before after → LinesLeaveOff meaning start now before → LinesLeaveOff meaning start now after
-left_off_as meaning start now before after same was =
-    subst (λ n. LeavesOff after.choice meaning after.form n start now) (sym same.files)
-    (subst (λ f. LeavesOff after.choice meaning f (length before.waiting.items) start now) (sym same.form)
-    (subst (λ c. LeavesOff c meaning before.form (length before.waiting.items) start now) (sym same.choice) was))
+pub left_off_as : (meaning : ℕ → Meaning) (start now : Option (List ℕ)) (before after : Lines) (ns : List Note) → AreLinesOf before after → LinesLeaveOff meaning start now before ns → LinesLeaveOff meaning start now after ns
+left_off_as meaning start now before after ns same was =
+    subst (λ n. LeavesOff after.choice meaning after.form n start now ns) (sym same.files)
+    (subst (λ f. LeavesOff after.choice meaning f (length before.waiting.items) start now ns) (sym same.form)
+    (subst (λ c. LeavesOff c meaning before.form (length before.waiting.items) start now ns) (sym same.choice) was))
 
 -- where one entry more was to be added
 pub left_off_item : (meaning : ℕ → Meaning) (start old new : Option (List ℕ)) (before after : Lines) (ns : List Note) (file : ℕ) (entry : Entry) → AreLinesOf before after
     → file < length before.waiting.items → before.front ≤ file → ComesNext before.choice (meaning file) file before.waiting.items entry
     → ((came next : ℕ → Came) → HasEntryMore file entry came next → LinesWrite start old before came
     → BreaksOff before.form start new (length before.waiting.items) came ⊎ BreaksOff before.form start new (length before.waiting.items) next)
-    → LinesHold meaning start old before ns → LinesLeaveOff meaning start new after
+    → LinesHold meaning start old before ns → LinesLeaveOffAt meaning start new after ns (Item (about_of entry))
 left_off_item meaning start old new before after ns file entry same below from comes breaks held =
     let next = entry_more file entry held.came in
     let more = has_entry_more file entry held.came in
-    left_off_as meaning start new before after same
-    (elim (breaks held.came next more held.written) [
-      | inl text ↦ record { came = held.came; ordered = held.ordered; text = text }
-      | inr text ↦ record { came = next; ordered = ordered_item meaning start old before ns file entry next below from comes held more; text = text }
-    ])
+    elim (breaks held.came next more held.written) [
+      | inl text ↦ inl (left_off_as meaning start new before after ns same (record { came = held.came; told = held.told; ordered = held.ordered; text = text }))
+      | inr text ↦ inr (left_off_as meaning start new before after (ns ++ Item (about_of entry) ∷ []) same (record {
+        came = next;
+        told = all_told_item (length before.waiting.items) ns file entry held.came next comes.file_is more held.told;
+        ordered = ordered_item meaning start old before ns file entry next below from comes held more;
+        text = text;
+      }))
+    ]
 
 -- where the front was to move on after one mark more
 pub left_off_end : (meaning : ℕ → Meaning) (start old new : Option (List ℕ)) (before mid after : Lines) (ns : List Note) (file : ℕ) (mark : Mark) → AreLinesOf mid after → AreLinesOf before mid
@@ -202,20 +207,22 @@ pub left_off_end : (meaning : ℕ → Meaning) (start old new : Option (List ℕ
     → ((other : Waiting) → ∥ IsEndAt (meaning file) (get_or before.waiting.items file other).count mark ∥₁) → before.front ≤ file
     → ((came next : ℕ → Came) → HasMarkMore file mark came next → LinesWrite start old before came → LinesWrite start old mid next)
     → ((came : ℕ → Came) → LinesWrite start old mid came → BreaksOff mid.form start new (length mid.waiting.items) came)
-    → LinesHold meaning start old before ns → LinesLeaveOff meaning start new after
+    → LinesHold meaning start old before ns → LinesLeaveOffAt meaning start new after ns (End file mark)
 left_off_end meaning start old new before mid after ns file mark went kept below ends from keeps breaks held =
     let next = ended_now file mark held.came in
     let more = has_mark_more file mark held.came in
-    left_off_as meaning start new mid after went (record {
+    inr (left_off_as meaning start new mid after (ns ++ End file mark ∷ []) went (record {
       came = next;
+      told = λ k lt. all_told_end (length before.waiting.items) ns file mark held.came next more held.told k (omega (arith, lt, kept.files));
       ordered = ordered_as meaning before mid next kept (ordered_end meaning start old before ns file mark next below from ends held more);
       text = breaks next (keeps held.came next more held.written);
-    })
+    }))
 
 -- where what was gathered was to be put
-pub left_off_finish : (meaning : ℕ → Meaning) (start old new : Option (List ℕ)) (lines : Lines) (ns : List Note) → AppendsFront old new lines.buffer → LinesHold meaning start old lines ns → LinesLeaveOff meaning start new lines
+pub left_off_finish : (meaning : ℕ → Meaning) (start old new : Option (List ℕ)) (lines : Lines) (ns : List Note) → AppendsFront old new lines.buffer → LinesHold meaning start old lines ns → LinesLeaveOff meaning start new lines ns
 left_off_finish meaning start old new lines ns put held = record {
   came = held.came;
+  told = held.told;
   ordered = held.ordered;
   text = breaks_flushed lines.form start old new lines.buffer lines.front lines.waiting.items held.came put held.written;
 }

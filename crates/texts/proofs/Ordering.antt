@@ -1,5 +1,5 @@
 -- What has come of files in order is a beginning of their books.
-use Rattle.std.proofs.Common.{◌≡◌, ◌≢◌, ℕ, zero, suc, ◌+◌, ◌<◌, ◌≤◌, List, [], ◌∷◌, ◌++◌, length, map, Option, None, Some, true, All, inl, inr, refl, sym, ap, subst, ◌∙◌, arith, length-append}
+use Rattle.std.proofs.Common.{◌≡◌, ◌≢◌, ℕ, zero, suc, ◌+◌, ◌<◌, ◌≤◌, List, [], ◌∷◌, ◌++◌, length, map, Option, None, Some, true, All, inl, inr, refl, sym, ap, subst, ◌∙◌, arith, append_assoc, length-append}
 use Rattle.std.proofs.Math.Logic.{∥∥₁_map}
 use Rattle.std.proofs.lemmas.Bool.{cases_eq}
 use Rattle.std.proofs.lemmas.Grind.{merely}
@@ -11,7 +11,7 @@ use Rattle.streams.specs.declared.frames.Mark.{Mark}
 use Rattle.streams.specs.Sink.{AppendsFront}
 use Rattle.streams.proofs.Sinks.{added_none}
 use Rattle.choices.specs.declared.Choice.{Choice}
-use Rattle.lanes.specs.Notes.{About, numbered}
+use Rattle.lanes.specs.Notes.{About, Note, numbered}
 use Rattle.streams.specs.Placing.{EachAt}
 use Rattle.lanes.specs.Opening.{Meaning, Silent, Unopened, Opened, IsFoundAt, IsEndAt}
 use Rattle.entries.specs.declared.entry.Entry.{Entry}
@@ -21,17 +21,17 @@ use Rattle.books.proofs.KeptBooks.{all_answered, books_more}
 use Rattle.reports.specs.declared.form.Form.{Form}
 use Rattle.reports.specs.Report.{numbered_texts}
 use Rattle.reports.specs.Forms.{text_in}
-use Rattle.printing.specs.FormLines.{book_in}
+use Rattle.printing.specs.FormLines.{head_in, lines_in, book_in}
 use Rattle.printing.specs.Spelt.{IsSpelt}
 use Rattle.printing.proofs.BookTexts.{text_by_lines}
-use Rattle.texts.specs.Came.{Came, HasEntryMore, HasMarkMore, nothing, closed, mark_or_memory}
+use Rattle.texts.specs.Came.{Came, HasMark, HasEntryMore, HasMarkMore, nothing}
 use Rattle.texts.specs.Orders.{IsKnownAt, IsInOrder}
-use Rattle.texts.specs.Written.{ended_texts}
+use Rattle.texts.specs.Written.{begun, ended_texts}
 use Rattle.texts.specs.Holding.{LeavesOff}
-use Rattle.texts.specs.Whole.{IsBegun}
+use Rattle.texts.specs.Whole.{AreFirst, IsBegun}
 use Rattle.texts.proofs.Endings.{record_spelt, found_untold}
 use Rattle.texts.proofs.Finishing.{text_more}
-use Rattle.texts.proofs.ToldEnds.{both, each_push, found_closed}
+use Rattle.texts.proofs.ToldEnds.{both, each_push, found_closed, mark_or_memory}
 
 abbrev rec_of : Entry → List ℕ
 rec_of entry = entry.rec
@@ -126,46 +126,90 @@ book_closed choice meaning file came order = ∥∥₁_map (found_come choice me
   answered = all_answered came.entries;
 })
 
--- the books of the first files
-record AreClosed (choice : Choice) (meaning : ℕ → Meaning) (form : Form) (came : ℕ → Came) (n : ℕ) : Type 0 where
+-- the book of a file that has ended
+book_ended : (choice : Choice) (meaning : Meaning) (file : ℕ) (came : Came) (mark : Mark) → came.mark ≡ Some mark → IsInOrder choice meaning file came
+    → ∥ IsBook choice meaning file (record { entries = came.entries; mark = mark }) ∥₁
+book_ended choice meaning file came mark is order =
+    subst (λ m. ∥ IsBook choice meaning file (record { entries = came.entries; mark = m }) ∥₁) (ap mark_or_memory is) (book_closed choice meaning file came order)
+
+-- what has come of one, ended or not, are its first entries
+first_come : (choice : Choice) (meaning : Meaning) (file : ℕ) (came : Came) → IsInOrder choice meaning file came → ∥ AreFirst choice meaning file came.entries ∥₁
+first_come choice meaning file came order =
+    book_closed choice meaning file (record { entries = came.entries; mark = None })
+    (record { each = order.each; records = order.records; few = order.few; placed = order.placed; ends = λ mark e. absurd (let none : ⊥ = cc in none) })
+
+-- the books of the first files, which have ended
+record AreEnded (choice : Choice) (meaning : ℕ → Meaning) (form : Form) (came : ℕ → Came) (n : ℕ) : Type 0 where
   books : List BookModel
   count : length books ≡ n
   each : AreBooks choice meaning 0 books
-  text : numbered_texts (book_in form) 1 books ≡ ended_texts form (λ k. closed (came k)) n
+  text : numbered_texts (book_in form) 1 books ≡ ended_texts form came n
 
-closed_more : (choice : Choice) (meaning : ℕ → Meaning) (form : Form) (came : ℕ → Came) (n : ℕ) → AreClosed choice meaning form came n
-    → IsBook choice (meaning n) n (record { entries = (came n).entries; mark = mark_or_memory (came n).mark }) → AreClosed choice meaning form came (suc n)
-closed_more choice meaning form came n was is =
-    let mark = mark_or_memory (came n).mark in
+ended_one : (choice : Choice) (meaning : ℕ → Meaning) (form : Form) (came : ℕ → Came) (n : ℕ) (mark : Mark) → (came n).mark ≡ Some mark → AreEnded choice meaning form came n
+    → IsBook choice (meaning n) n (record { entries = (came n).entries; mark = mark }) → AreEnded choice meaning form came (suc n)
+ended_one choice meaning form came n mark marked was is =
     let book : BookModel = record { entries = (came n).entries; mark = mark } in
     let number : n ≡ 0 + length was.books = omega (arith, was.count) in
     record {
       books = was.books ++ book ∷ [];
       count = omega (arith, was.count, length-append was.books (book ∷ []));
       each = books_more choice meaning 0 was.books book was.each (subst (λ k. IsBook choice (meaning k) k book) number is);
-      text = text_more form (λ k. closed (came k)) n was.books mark was.count refl was.text;
+      text = text_more form came n was.books mark was.count marked was.text;
     }
 
-close_up_to : (choice : Choice) (meaning : ℕ → Meaning) (form : Form) (came : ℕ → Came) (n : ℕ) → ((k : ℕ) → k < n → IsInOrder choice (meaning k) k (came k))
-    → ∥ AreClosed choice meaning form came n ∥₁
-close_up_to choice meaning form came zero order = merely (record { books = []; count = refl; each = tt; text = refl })
-close_up_to choice meaning form came (suc n) order =
-    ∥∥₁_map (both (close_up_to choice meaning form came n (λ k below. order k (omega (arith, below)))) (book_closed choice (meaning n) n (came n) (order n (omega arith))))
-    (λ known. closed_more choice meaning form came n known.0 known.1)
+end_up_to : (choice : Choice) (meaning : ℕ → Meaning) (form : Form) (came : ℕ → Came) (n : ℕ) → ((k : ℕ) → k < n → HasMark (came k)) → ((k : ℕ) → k < n → IsInOrder choice (meaning k) k (came k))
+    → ∥ AreEnded choice meaning form came n ∥₁
+end_up_to choice meaning form came zero marked order = merely (record { books = []; count = refl; each = tt; text = refl })
+end_up_to choice meaning form came (suc n) marked order =
+    let here = marked n (omega arith) in
+    ∥∥₁_map (both (end_up_to choice meaning form came n (λ k below. marked k (omega (arith, below))) (λ k below. order k (omega (arith, below))))
+    (book_ended choice (meaning n) n (came n) here.0 here.1 (order n (omega arith))))
+    (λ known. ended_one choice meaning form came n here.0 here.1 known.0 known.1)
 
--- a text that was left off is a beginning of that of books
-pub begun_left_off : (choice : Choice) (meaning : ℕ → Meaning) (form : Form) (files : ℕ) (start now : Option (List ℕ)) → LeavesOff choice meaning form files start now
-    → ∥ IsBegun choice meaning form files start now ∥₁
-begun_left_off choice meaning form files start now left = ∥∥₁_map (close_up_to choice meaning form left.came files left.ordered) (λ up_to.
-    let text : ended_texts form (λ k. closed (left.came k)) files ≡ text_in form up_to.books = sym up_to.text ∙ text_by_lines form choice meaning up_to.books up_to.each in
+-- a text that was left off ends with the books of the files that have ended, or with the first entries of the next file
+begun_ended : (choice : Choice) (meaning : ℕ → Meaning) (form : Form) (files : ℕ) (start now : Option (List ℕ)) (came : ℕ → Came) (front : ℕ) → front ≤ files
+    → AppendsFront start now (ended_texts form came front) → AreEnded choice meaning form came front → IsBegun choice meaning form files start now
+begun_ended choice meaning form files start now came front within added up_to =
+    let text : ended_texts form came front ≡ text_in form up_to.books = sym up_to.text ∙ text_by_lines form choice meaning up_to.books up_to.each in
+    record { books = up_to.books; of_files = up_to.each; few = omega (arith, within, up_to.count); text = inl (subst (AppendsFront start now) text added) }
+
+begun_next : (choice : Choice) (meaning : ℕ → Meaning) (form : Form) (files : ℕ) (start now : Option (List ℕ)) (came : ℕ → Came) (front : ℕ) → front < files
+    → AppendsFront start now (ended_texts form came front ++ begun form front (came front)) → AreFirst choice (meaning front) front (came front).entries
+    → AreEnded choice meaning form came front → IsBegun choice meaning form files start now
+begun_next choice meaning form files start now came front below added first up_to =
+    let same : front ≡ length up_to.books = sym up_to.count in
+    let text : ended_texts form came front ≡ text_in form up_to.books = sym up_to.text ∙ text_by_lines form choice meaning up_to.books up_to.each in
+    let entries = (came front).entries in
+    let ended : AppendsFront start now (text_in form up_to.books ++ head_in form (front + 1) ++ lines_in form entries) =
+    subst (AppendsFront start now) (sym (append_assoc (text_in form up_to.books) (head_in form (front + 1)) (lines_in form entries)))
+    (subst (λ l. AppendsFront start now (l ++ begun form front (came front))) text added) in
     record {
       books = up_to.books;
-      of_files = record { count = up_to.count; each = up_to.each };
-      text = subst (AppendsFront start now) text left.text;
-    })
+      of_files = up_to.each;
+      few = omega (arith, below, up_to.count);
+      text = inr (
+        omega (arith, below, up_to.count),
+        (
+          entries,
+          subst (λ k. AreFirst choice (meaning k) k entries) same first,
+          subst (λ k. AppendsFront start now (text_in form up_to.books ++ head_in form (k + 1) ++ lines_in form entries)) same ended,
+        ),
+      );
+    }
 
--- so is no text
+pub begun_left_off : (choice : Choice) (meaning : ℕ → Meaning) (form : Form) (files : ℕ) (start now : Option (List ℕ)) (ns : List Note) → LeavesOff choice meaning form files start now ns
+    → ∥ IsBegun choice meaning form files start now ∥₁
+begun_left_off choice meaning form files start now ns left =
+    let off = left.text in
+    let up_to = end_up_to choice meaning form left.came off.front off.marked (λ k below. left.ordered k (omega (arith, below, off.within))) in
+    elim off.text [
+      | inl added ↦ ∥∥₁_map up_to (begun_ended choice meaning form files start now left.came off.front off.within added)
+      | inr next ↦
+          ∥∥₁_map (both up_to (first_come choice (meaning off.front) off.front (left.came off.front) (left.ordered off.front next.0)))
+          (λ known. begun_next choice meaning form files start now left.came off.front next.0 next.1 known.1 known.0)
+    ]
+
+-- where nothing was added, no file has ended
 pub begun_none : (choice : Choice) (meaning : ℕ → Meaning) (form : Form) (files : ℕ) (start : Option (List ℕ)) → ∥ IsBegun choice meaning form files start start ∥₁
 begun_none choice meaning form files start =
-    begun_left_off choice meaning form files start start
-    (record { came = λ _. nothing; ordered = λ k below. order_none choice (meaning k) k; text = ([], ended_texts form (λ _. closed nothing) files, refl, added_none start) })
+    merely (record { books = []; of_files = tt; few = omega arith; text = inl ([], text_in form [], refl, added_none start) })

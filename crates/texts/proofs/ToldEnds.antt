@@ -11,7 +11,11 @@ use Rattle.streams.specs.declared.frames.Mark.TheVariants.{Ended, Io}
 use Rattle.streams.specs.Marks.{IsMarked, IsBeginningOf}
 use Rattle.streams.specs.Reading.{IsFoundIn}
 use Rattle.streams.specs.Placing.{IsAt, IsPlaced, EachAt}
-use Rattle.texts.specs.Came.{mark_or_memory}
+
+-- the mark of a book of a file: that of want of memory where it has none
+abbrev pub mark_or_memory : Option Mark → Mark
+mark_or_memory None = Ended ending.Memory
+mark_or_memory (Some mark) = mark
 
 -- one more of records in a row
 pub each_push : (fits : ℕ → List ℕ → Type 0) (first : ℕ) (records : List (List ℕ)) (bytes : List ℕ) → EachAt fits first records → fits (first + length records) bytes

@@ -17,15 +17,6 @@ pub record Came : Type 0 where
 abbrev pub nothing : Came
 nothing = record { entries = []; mark = None }
 
--- a file that has not ended ends for want of memory
-abbrev pub mark_or_memory : Option Mark → Mark
-mark_or_memory None = Mark.Ended Ending.Memory
-mark_or_memory (Some mark) = mark
-
--- what has come of a file, which has now ended
-abbrev pub closed : Came → Came
-closed came = record { entries = came.entries; mark = Some (mark_or_memory came.mark) }
-
 -- the file has ended
 abbrev pub HasMark : Came → Type 0
 HasMark came = (mark : Mark) × (came.mark ≡ Some mark)

@@ -1,5 +1,5 @@
 -- What lines hold of the notes of a run.
-use Rattle.std.specs.Prelude.{◌≡◌, ◌↔◌, ℕ, ◌<◌, Bool, true, List, Option, None, length}
+use Rattle.std.specs.Prelude.{◌≡◌, ◌↔◌, ◌⊎◌, ℕ, ◌<◌, Bool, true, List, [], ◌∷◌, ◌++◌, Option, None, length}
 use Rattle.choices.specs.declared.Choice.{Choice}
 use Rattle.lanes.specs.Notes.{Note}
 use Rattle.lanes.specs.Opening.{Meaning}
@@ -19,9 +19,10 @@ pub record HoldsNotes (choice : Choice) (meaning : ℕ → Meaning) (form : Form
   pub unended : front < length waiting → (came front).mark ≡ None
   pub all_whole : (whole ≡ true) ↔ ((file : ℕ) → file < length waiting → IsWholeSoFar (came file))
 
--- Of so many files, which mean this, what has come is in order, and a beginning of their texts, each closed, was added after `start`.
-pub record LeavesOff (choice : Choice) (meaning : ℕ → Meaning) (form : Form) (files : ℕ) (start now : Option (List ℕ)) : Type 0 where
+-- What the notes tell of each of so many files, which means this, is in order, and the text of it was left off.
+pub record LeavesOff (choice : Choice) (meaning : ℕ → Meaning) (form : Form) (files : ℕ) (start now : Option (List ℕ)) (ns : List Note) : Type 0 where
   pub came : ℕ → Came
+  pub told : (file : ℕ) → file < files → IsToldByNotes file ns (came file)
   pub ordered : (file : ℕ) → file < files → IsInOrder choice (meaning file) file (came file)
   pub text : BreaksOff form start now files came
 
@@ -47,9 +48,14 @@ LinesLeave start now lines came = AreLeft lines.form start now lines.buffer line
 abbrev pub LinesHold : (ℕ → Meaning) → Option (List ℕ) → Option (List ℕ) → Lines → List Note → Type 0
 LinesHold meaning start now lines ns = HoldsNotes lines.choice meaning lines.form start now lines.buffer lines.front lines.waiting.items lines.whole ns
 
--- the text was left off
-abbrev pub LinesLeaveOff : (ℕ → Meaning) → Option (List ℕ) → Option (List ℕ) → Lines → Type 0
-LinesLeaveOff meaning start now lines = LeavesOff lines.choice meaning lines.form (length lines.waiting.items) start now
+-- the text of what the notes tell was left off
+abbrev pub LinesLeaveOff : (ℕ → Meaning) → Option (List ℕ) → Option (List ℕ) → Lines → List Note → Type 0
+LinesLeaveOff meaning start now lines ns = LeavesOff lines.choice meaning lines.form (length lines.waiting.items) start now ns
+
+-- the same, with or without the note that came last
+abbrev pub LinesLeaveOffAt : (ℕ → Meaning) → Option (List ℕ) → Option (List ℕ) → Lines → List Note → Note → Type 0
+LinesLeaveOffAt meaning start now lines ns note =
+    LinesLeaveOff meaning start now lines ns ⊎ LinesLeaveOff meaning start now lines (ns ++ note ∷ [])
 
 -- the form, the choice and the number of files are those of before
 pub record AreLinesOf (before after : Lines) : Type 0 where

@@ -1,5 +1,5 @@
 -- What has been written of what has come, and what waits.
-use Rattle.std.specs.Prelude.{◌≡◌, ℕ, zero, suc, ◌+◌, ◌<◌, ◌≤◌, Bool, true, false, List, [], ◌++◌, length, Option, None, Some, slice_index_or}
+use Rattle.std.specs.Prelude.{◌≡◌, ℕ, zero, suc, ◌+◌, ◌<◌, ◌≤◌, ◌⊎◌, Bool, true, false, List, [], ◌++◌, length, Option, None, Some, slice_index_or}
 use Rattle.streams.specs.declared.frames.Mark.{Mark}
 use Rattle.streams.specs.Sink.{AppendsFront, IsOnItsWay}
 use Rattle.reports.specs.declared.form.Form.{Form}
@@ -7,7 +7,7 @@ use Rattle.printing.specs.FormLines.{head_in, lines_in, end_in}
 use Rattle.texts.specs.declared.refusal.Refusal.{Refusal}
 use Rattle.texts.specs.declared.refusal.Refusal.TheVariants.{Write, Memory, Astray}
 use Rattle.texts.specs.declared.waiting.Waiting.{Waiting}
-use Rattle.texts.specs.Came.{Came, HasMark, closed}
+use Rattle.texts.specs.Came.{Came, HasMark}
 
 -- the sink has failed exactly where that is why a message was refused
 abbrev pub GivesUp : Bool → Refusal → Type 0
@@ -41,9 +41,13 @@ abbrev pub ended_texts : Form → (ℕ → Came) → ℕ → List ℕ
 ended_texts form came zero = []
 ended_texts form came (suc file) = ended_texts form came file ++ ended form file (came file)
 
--- a beginning of the texts of so many files was added, of which those that have not ended end for want of memory
-abbrev pub BreaksOff : Form → Option (List ℕ) → Option (List ℕ) → ℕ → (ℕ → Came) → Type 0
-BreaksOff form start now files came = AppendsFront start now (ended_texts form (λ file. closed (came file)) files)
+-- Of so many files the first have ended, and a beginning was added of their texts, or of these and what has come of the next file.
+pub record BreaksOff (form : Form) (start now : Option (List ℕ)) (files : ℕ) (came : ℕ → Came) : Type 0 where
+  pub front : ℕ
+  pub within : front ≤ files
+  pub marked : (file : ℕ) → file < front → HasMark (came file)
+  pub text : AppendsFront start now (ended_texts form came front)
+      ⊎ ((front < files) × AppendsFront start now (ended_texts form came front ++ begun form front (came front)))
 
 -- the entries are counted and the mark is kept
 pub record IsCounted (waiting : Waiting) (came : Came) : Type 0 where

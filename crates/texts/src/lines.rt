@@ -12,7 +12,7 @@ ghost use Rattle.texts.specs.declared.waiting.Waiting.{Waiting};
 ghost use Rattle.texts.specs.Came.{Came, HasEntryMore};
 ghost use Rattle.texts.specs.Orders.{IsNext};
 ghost use Rattle.texts.specs.Written.{BreaksOff, GivesUp};
-ghost use Rattle.texts.specs.Holding.{form_of, choice_of, files_of, LinesWrite, LinesLeave, LinesHold, LinesLeaveOff, AreLinesOf, StandAt};
+ghost use Rattle.texts.specs.Holding.{form_of, choice_of, files_of, LinesWrite, LinesLeave, LinesHold, LinesLeaveOff, LinesLeaveOffAt, AreLinesOf, StandAt};
 ghost use Rattle.texts.specs.Whole.{HaveFiles, IsAllWritten};
 
 use crate::refusal::Refusal;
@@ -86,7 +86,7 @@ impl Lines {
         ensures held { OnOk result ((start : Option (List ℕ)) (ns : List Note) → LinesHold J.meaning start (S.taken sink.old) self.old ns
             → LinesHold J.meaning start (S.taken sink.new) self.new (ns ++ Item (about_of printed.entry.value) ∷ [])) }
         ensures broken { OnErr result ((start : Option (List ℕ)) (ns : List Note) → LinesHold J.meaning start (S.taken sink.old) self.old ns
-            → LinesLeaveOff J.meaning start (S.taken sink.new) self.new) }
+            → LinesLeaveOffAt J.meaning start (S.taken sink.new) self.new ns (Item (about_of printed.entry.value))) }
         ensures stands { OnOk result (S.failed sink.new ≡ false) }
         ensures gave_up { IfErr result (λ refusal. GivesUp (S.failed sink.new) refusal) }
         ensures same { AreLinesOf self.old self.new }
@@ -127,7 +127,7 @@ impl Lines {
         ensures held { OnOk result ((start : Option (List ℕ)) (ns : List Note) → LinesHold J.meaning start (S.taken sink.old) self.old ns
             → LinesHold J.meaning start (S.taken sink.new) self.new (ns ++ End file mark ∷ [])) }
         ensures broken { OnErr result ((start : Option (List ℕ)) (ns : List Note) → LinesHold J.meaning start (S.taken sink.old) self.old ns
-            → LinesLeaveOff J.meaning start (S.taken sink.new) self.new) }
+            → LinesLeaveOffAt J.meaning start (S.taken sink.new) self.new ns (End file mark)) }
         ensures stands { OnOk result (S.failed sink.new ≡ false) }
         ensures gave_up { IfErr result (λ refusal. GivesUp (S.failed sink.new) refusal) }
         ensures same { AreLinesOf self.old self.new }
@@ -154,7 +154,7 @@ impl Lines {
             (ns : List Note) → LinesHold known start (S.taken sink.old) self ns → HaveFiles choice meaning (files_of self) ns
             → IsAllWritten choice meaning (form_of self) (files_of self) start (S.taken sink.new) status) }
         ensures broken { OnErr result ((meaning : ℕ → Meaning) (start : Option (List ℕ)) (ns : List Note)
-            → LinesHold meaning start (S.taken sink.old) self ns → LinesLeaveOff meaning start (S.taken sink.new) self) }
+            → LinesHold meaning start (S.taken sink.old) self ns → LinesLeaveOff meaning start (S.taken sink.new) self ns) }
         ensures other { IfOk result (λ status. status ≢ 0 → status ≡ 3) }
         ensures write { (result ≡ Err WriteFault.Write) ↔ (S.failed sink.new ≡ true) }
         ensures memory { result ≢ Err WriteFault.Memory }

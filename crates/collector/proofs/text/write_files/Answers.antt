@@ -49,24 +49,25 @@ returns-in-Err-finish-clause-begun g c =
     subst (λ s. ∥ IsBegun c.args.choice (g.O.Opener.meaning c.args.opener.now) c.args.form c.args.files (taken c.args.sink.now) (taken s) ∥₁) (search rules)
     (subst (λ b. ∥ IsBegun c.args.choice (g.O.Opener.meaning c.args.opener.now) c.args.form c.args.files (taken b) (taken c.finish.new.self.0) ∥₁) start
     (subst (λ m. ∥ IsBegun c.args.choice m c.args.form c.args.files (taken texts.start.value) (taken c.finish.new.self.0) ∥₁) c.requires.told
-    (begun_lines c.args.choice g.J.Told.meaning c.args.form c.args.files (taken texts.start.value) (taken c.finish.new.self.0) texts.lines choice form files left)))
+    (begun_lines c.args.choice g.J.Told.meaning c.args.form c.args.files (taken texts.start.value) (taken c.finish.new.self.0) texts.lines choice form files told.0 left)))
 
 pub returns-in-Err-clause-begun : goal.returns-in-Err-clause-begun
 returns-in-Err-clause-begun g c =
     let taken = g.S.Sink.taken in
     let texts = c.run_form-texts.result in
     let stays = c.run_form-texts.ensures.stays in
-    let gave_up : Refusal → Type 0 = λ refusal. GivesUp (g.S.Sink.failed texts.sink.now) refusal × LinesLeaveOff g.J.Told.meaning (taken texts.start.value) (taken texts.sink.now) texts.lines in
+    let Left : Type 0 = (ns : List Note) × LinesLeaveOff g.J.Told.meaning (taken texts.start.value) (taken texts.sink.now) texts.lines ns in
+    let gave_up : Refusal → Type 0 = λ refusal. GivesUp (g.S.Sink.failed texts.sink.now) refusal × Left in
     let holds : List Note → Type 0 = λ ns. (g.S.Sink.failed texts.sink.now ≡ false) × LinesHold g.J.Told.meaning (taken texts.start.value) (taken texts.sink.now) texts.lines ns in
     let ended = subst (λ r. IfErr r (EndsRun gave_up holds)) c.in-Err.is c.run_form-texts.ensures.ended in
     let choice : choice_of texts.lines ≡ c.args.choice = stays.2.choice ∙ ap choice_of c.new-texts.ensures.lines ∙ c.in-Ok.ensures.choice in
     let form : form_of texts.lines ≡ c.args.form = stays.2.form ∙ ap form_of c.new-texts.ensures.lines ∙ c.in-Ok.ensures.form in
     let files : files_of texts.lines ≡ c.args.files = stays.2.files ∙ ap files_of c.new-texts.ensures.lines ∙ c.in-Ok.ensures.files in
     let start : texts.start.value ≡ c.args.sink.now = sym stays.1 ∙ c.new-texts.ensures.start in
-    let left : LinesLeaveOff g.J.Told.meaning (taken texts.start.value) (taken texts.sink.now) texts.lines =
-    ended_with gave_up holds c.in-Err.fault (λ refusal gave. gave.1) (λ ns held. left_off_held g.J.Told.meaning (taken texts.start.value) (taken texts.sink.now) texts.lines ns held.1) ended in
+    let left : Left =
+    ended_with gave_up holds c.in-Err.fault (λ refusal gave. gave.1) (λ ns held. (ns, left_off_held g.J.Told.meaning (taken texts.start.value) (taken texts.sink.now) texts.lines ns held.1)) ended in
     subst (λ s. ∥ IsBegun c.args.choice (g.O.Opener.meaning c.args.opener.now) c.args.form c.args.files (taken c.args.sink.now) (taken s) ∥₁) (search rules)
     (subst (λ s. ∥ IsBegun c.args.choice (g.O.Opener.meaning c.args.opener.now) c.args.form c.args.files (taken c.args.sink.now) (taken s) ∥₁) (sym c.let_go.ensures)
     (subst (λ b. ∥ IsBegun c.args.choice (g.O.Opener.meaning c.args.opener.now) c.args.form c.args.files (taken b) (taken texts.sink.now) ∥₁) start
     (subst (λ m. ∥ IsBegun c.args.choice m c.args.form c.args.files (taken texts.start.value) (taken texts.sink.now) ∥₁) c.requires.told
-    (begun_lines c.args.choice g.J.Told.meaning c.args.form c.args.files (taken texts.start.value) (taken texts.sink.now) texts.lines choice form files left))))
+    (begun_lines c.args.choice g.J.Told.meaning c.args.form c.args.files (taken texts.start.value) (taken texts.sink.now) texts.lines choice form files left.0 left.1))))

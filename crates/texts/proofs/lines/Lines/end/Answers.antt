@@ -6,7 +6,7 @@ use Rattle.texts.proofs.Held.{held_end, end_as}
 use Rattle.texts.proofs.SucceedsOrFails.{ok_both}
 use Rattle.texts.proofs.Held.{left_off_end}
 use Rattle.texts.proofs.SucceedsOrFails.{err_then}
-use Rattle.std.proofs.Common.{sym, subst}
+use Rattle.std.proofs.Common.{sym, subst, inl}
 use Rattle.texts.specs.Holding.{LinesLeaveOff}
 use Rattle.texts.proofs.Held.{left_off_held, left_off_as}
 use Rattle.texts.proofs.lines.Lines.end.Goals as goal
@@ -56,11 +56,11 @@ returns-then-not-is_open-clause-broken g c = λ start ns held.
     let now = g.S.Sink.taken c.args.sink.now in
     let here = left_off_held g.J.Told.meaning start now before ns held in
     elim c.then-not-is_open.branch [
-      | then-not-is_open-via-then-not-is_open w ↦ subst (LinesLeaveOff g.J.Told.meaning start now) (sym w.self-is) here
+      | then-not-is_open-via-then-not-is_open w ↦ inl (subst (λ l. LinesLeaveOff g.J.Told.meaning start now l ns) (sym w.self-is) here)
       | then-not-is_open-via-else-not-is_open+then-not-keep_mark w ↦
           let mid : Lines = record { form = before.form; choice = before.choice; buffer = before.buffer; front = before.front; waiting = w.keep_mark.new.waiting; whole = before.whole } in
-          subst (LinesLeaveOff g.J.Told.meaning start now) (sym w.self-is) (left_off_as g.J.Told.meaning start now before mid (record { form = refl; choice = refl; files = w.keep_mark.ensures.count }) here)
+          inl (subst (λ l. LinesLeaveOff g.J.Told.meaning start now l ns) (sym w.self-is) (left_off_as g.J.Told.meaning start now before mid ns (record { form = refl; choice = refl; files = w.keep_mark.ensures.count }) here))
     ]
 
 pub returns-then-known-file-clause-broken : goal.returns-then-known-file-clause-broken
-returns-then-known-file-clause-broken g c = λ start ns held. left_off_held g.J.Told.meaning start (g.S.Sink.taken c.args.sink.now) c.args.self.now ns held
+returns-then-known-file-clause-broken g c = λ start ns held. inl (left_off_held g.J.Told.meaning start (g.S.Sink.taken c.args.sink.now) c.args.self.now ns held)

@@ -1,4 +1,4 @@
-use Rattle.std.proofs.Common.{◌≡◌, ◌<◌, ◌↔◌, true, ap, refl, rules, subst, sym, length, ℕ, ◌≤◌, ◌∙◌}
+use Rattle.std.proofs.Common.{◌≡◌, ◌<◌, ◌↔◌, true, ap, refl, rules, subst, sym, length, ℕ, ◌≤◌, ◌∙◌, inl}
 use Rattle.printing.specs.FormLines.{IsLineOf, line_in}
 use Rattle.texts.specs.Came.{IsWholeSoFar}
 use Rattle.texts.proofs.Held.{comes_next, held_item, lacking}
@@ -79,4 +79,4 @@ returns-clause-broken g c =
     (λ came next more was. broken start came next entry c.args.printed.file_is c.args.printed.ordinal_is refl more was) held)
 
 pub returns-then-ne-clause-broken : goal.returns-then-ne-clause-broken
-returns-then-ne-clause-broken g c = λ start ns held. left_off_held g.J.Told.meaning start (g.S.Sink.taken c.args.sink.now) c.args.self.now ns held
+returns-then-ne-clause-broken g c = λ start ns held. inl (left_off_held g.J.Told.meaning start (g.S.Sink.taken c.args.sink.now) c.args.self.now ns held)
