@@ -1,3 +1,4 @@
 pub mod LayoutBegun
 pub mod FaultStatus
 pub mod ReportBegun
+pub mod NoReport

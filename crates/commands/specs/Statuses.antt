@@ -1,5 +1,5 @@
 -- What the program's exit status says.
-use Rattle.std.specs.Prelude.{◌≡◌, ◌≢◌, ◌↔◌, ◌⊎◌, ℕ, Bool, true, false, List, Option, Some, All, codes, vec_len}
+use Rattle.std.specs.Prelude.{◌≡◌, ◌≢◌, ◌↔◌, ◌⊎◌, ℕ, Bool, true, false, List, ◌++◌, Option, Some, All, codes, vec_len}
 use Rattle.std.specs.Io.KnownBytes.{Appends}
 use Rattle.planar_code.specs.declared.ending.Ending.{Ending}
 use Rattle.streams.specs.declared.frames.Mark.{Mark}
@@ -14,6 +14,7 @@ use Rattle.books.specs.AllBooks.{AreAllBooks}
 use Rattle.reports.specs.declared.form.Form.{Form}
 use Rattle.reports.specs.Forms.{text_in}
 use Rattle.reports.specs.Wholes.{IsWholeBook}
+use Rattle.collector.specs.TextRuns.{IsBegun}
 use Rattle.program_io.specs.Naming.{meaning_of, meanings}
 use Rattle.commands.specs.declared.request.Request.{Request}
 use Rattle.commands.specs.declared.request.Request.TheVariants.{Frames, Layout}
@@ -21,6 +22,11 @@ use Rattle.commands.specs.declared.request.Request.TheVariants.{Frames, Layout}
 -- what '--version' prints
 abbrev pub version_text : List ℕ
 version_text = codes "planarbend 0.3.0\nproved with rattle-kit-13f logic dac8208d650f15bf\n"
+
+-- the text is no beginning of a report: neither of the text of some books, in any form, nor of the lines of some records
+pub record IsNoReport (text : List ℕ) : Type 0 where
+  pub no_books : (form : Form) (books : List BookModel) (rest : List ℕ) → text_in form books ≡ text ++ rest → ⊥
+  pub no_records : (found : FramesModel) (rest : List ℕ) → frames_text found ≡ text ++ rest → ⊥
 
 -- this text and nothing else was added to the output, with status 0; or the output failed, with a beginning of it and status 1
 abbrev pub IsPrinted : List ℕ → Option (List ℕ) → Option (List ℕ) → Bool → ℕ → Type 0
@@ -54,11 +60,10 @@ pub record IsLaidOut (choice : Choice) (form : Form) (meaning : ℕ → Meaning)
   pub whole : All IsWholeBook books ↔ (status ≡ 0)
   pub other : status ≢ 0 → status ≡ 3
 
--- A beginning of the text of the books of so many files, which mean this, under this choice and in this form, was added to the output.
-pub record IsBegunToLayOut (choice : Choice) (form : Form) (meaning : ℕ → Meaning) (files : ℕ) (old new : Option (List ℕ)) : Type 0 where
-  pub books : List BookModel
-  pub of_files : AreAllBooks choice meaning files books
-  pub text : AppendsFront old new (text_in form books)
+-- A beginning of the text of the books of the first of so many files, which mean this, was added to the output, or of it and the lines of the next
+-- one, which has not ended, under this choice and in this form.
+abbrev pub IsBegunToLayOut : Choice → Form → (ℕ → Meaning) → ℕ → Option (List ℕ) → Option (List ℕ) → Type 0
+IsBegunToLayOut choice form meaning files old new = ∥ IsBegun choice meaning form files old new ∥₁
 
 -- A beginning of the report of a file that means this was added to the output. The records and the mark are those of some bytes, as in a whole
 -- report.
@@ -80,4 +85,4 @@ IsDone input (Layout names lanes choice form progress) old new failed status =
 abbrev pub IsBegunToBeDone : Meaning → Request → Option (List ℕ) → Option (List ℕ) → Type 0
 IsBegunToBeDone input (Frames name) old new = IsBegunToReport (meaning_of input name.now) old new
 IsBegunToBeDone input (Layout names lanes choice form progress) old new =
-    ∥ IsBegunToLayOut choice form (meanings input names.items) (vec_len names) old new ∥₁
+    IsBegunToLayOut choice form (meanings input names.items) (vec_len names) old new

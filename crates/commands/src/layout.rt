@@ -27,8 +27,8 @@ pub const CAPACITY: u32 = MAX_CAPACITY;
 ///
 /// `TooManyFiles` exactly where there are more than `MAX_FILES` files, and `BadLanes` exactly where there are
 /// no more than that and no lanes or more than `MAX_LANES`; nothing is then written. Else what a run or the
-/// writing met; a beginning of the text of the files' books is then written, where a file that had not ended has
-/// the mark of want of memory. Of a file that tells no bytes, as a real one, it is a book of some bytes.
+/// writing met; then a beginning of the text is written: that of the books of the first files, which have ended, and
+/// the lines of the next one, which has no last line. Of a file that tells no bytes, as a real one, they are those of some bytes.
 pub fn layout<
     'a,
     R: Files + AllocGlobal + Threads + Wait + Sync,
@@ -51,8 +51,8 @@ where
     requires { S.failed out.old ≡ false }
     ensures reported { IfOk result (IsLaidOut choice form (meanings (I.meaning input.now 0) names.now)
         (length names.now) (S.taken out.old) (S.taken out.new) (S.failed out.new)) }
-    ensures begun { OnErr result ∥ IsBegunToLayOut choice form (meanings (I.meaning input.now 0) names.now)
-        (length names.now) (S.taken out.old) (S.taken out.new) ∥₁ }
+    ensures begun { OnErr result (IsBegunToLayOut choice form (meanings (I.meaning input.now 0) names.now)
+        (length names.now) (S.taken out.old) (S.taken out.new)) }
     ensures too_many { (MAX_FILES < length names.now) ↔ (result ≡ Err (Fault.Run BatchFault.TooManyFiles)) }
     ensures bad_lanes { (((lanes ≡ 0) ⊎ (LANES < lanes)) × (length names.now ≤ MAX_FILES))
         ↔ (result ≡ Err (Fault.Run BatchFault.BadLanes)) }

@@ -1,5 +1,5 @@
 //! What the program does with its words.
-ghost use Rattle.std.specs.Prelude.{◌≡◌, ◌≤◌, ◌⊎◌, ℕ, List, length, true, false, IfOk, IfErr, OnOk, OnErr};
+ghost use Rattle.std.specs.Prelude.{◌≡◌, ◌≤◌, ◌⊎◌, ℕ, List, length, slice_index, true, false, IfOk, IfErr, IsTrue, OnErr};
 ghost use Rattle.std.specs.Borrow.{Bor};
 ghost use Rattle.std.specs.Io.KnownBytes.{Appends};
 ghost use Rattle.choices.specs.declared.Choice.{Choice};
@@ -10,7 +10,7 @@ ghost use Rattle.clap.specs.Words.{kind_of};
 ghost use Rattle.clap.specs.declared.error.kind.ErrorKind.{ErrorKind};
 ghost use Rattle.commands.specs.declared.reading.Wish.{Wish};
 ghost use Rattle.commands.specs.declared.request.Request.{Request};
-ghost use Rattle.commands.specs.Statuses.{IsReported, IsLaidOut, IsDone, IsBegunToReport, IsBegunToBeDone, IsPrinted, version_text};
+ghost use Rattle.commands.specs.Statuses.{IsReported, IsLaidOut, IsDone, IsBegunToReport, IsBegunToBeDone, IsNoReport, IsPrinted, version_text};
 ghost use Rattle.commands.specs.Requests.{IsAskedBy, asks_in};
 
 use crate::layout::{CAPACITY, layout};
@@ -66,12 +66,12 @@ where
     ensures version { asks_in Wish.Version words.now ≡ true
         → IsPrinted version_text (S.taken out.old) (S.taken out.new) (S.failed out.new) result }
 
-    // With status 0 and 3 there is the version, help, or the report of all files that the words name, as
-    // they ask for it. The file named `-` has what standard input tells.
+    // With status 0 and 3 there is the version, or help, which no report begins like, or the report of all files that
+    // the words name, as they ask for it. The file named `-` has what standard input tells.
     ensures done { (result ≡ 0) ⊎ (result ≡ 3)
         → ((result ≡ 0) × (asks_in Wish.Version words.now ≡ true))
         ⊎ ((result ≡ 0) × (asks_in Wish.Help words.now ≡ true)
-        × ((text : List ℕ) × Appends (S.taken out.old) (S.taken out.new) text))
+        × ((text : List ℕ) × IsNoReport text × Appends (S.taken out.old) (S.taken out.new) text))
         ⊎ ((request : Request) × IsAskedBy words.now request
         × IsDone (I.meaning input.now 0) request (S.taken out.old) (S.taken out.new) (S.failed out.new) result) }
 
@@ -90,10 +90,7 @@ where
         Err(error) if error.use_stderr() || !asks(Wish::Help, words) => {
             refuse(rt.alloc(), &error, err)
         }
-        Err(error) => match show_help(rt.alloc(), &error, out) {
-            Ok(()) => 0,
-            Err(fault) => end_by(fault, err),
-        },
+        Err(error) => show_help(rt.alloc(), &error, out, err),
     }
 }
 
@@ -209,14 +206,37 @@ fn show_version<S: Sink, E: Sink>(out: &mut S, err: &mut E) -> u8
     }
 }
 
-/// Writes the help that was asked for.
-fn show_help<S: Sink>(alloc: Global, help: &Error, out: &mut S) -> Result<(), Fault>
-    requires { S.failed out.old ≡ false }
-    ensures whole { OnOk result ((S.failed out.new ≡ false)
-        × ((text : List ℕ) × Appends (S.taken out.old) (S.taken out.new) text)) }
-    ensures failed { IfErr result (λ fault. ¬ IsRefusal fault) }
+/// Writes the help that was asked for, and answers the status. What does not begin as help is refused.
+fn show_help<S: Sink, E: Sink>(alloc: Global, help: &Error, out: &mut S, err: &mut E) -> u8
+    requires out_is_whole { S.failed out.old ≡ false }
+    requires err_is_whole { E.failed err.old ≡ false }
+    ensures known { result ≤ 2 }
+    ensures shown { result ≡ 0 → ((text : List ℕ) × IsNoReport text × Appends (S.taken out.old) (S.taken out.new) text) }
+    ensures refused { result ≡ 2 → out.new ≡ out.old }
+    ensures failed_write { S.failed out.new ≡ true → result ≡ 1 }
 {
-    let text = help.to_string(alloc).map_err(|_| Fault::Memory)?;
-    put_all(out, text.as_bytes())?;
-    Ok(())
+    let Ok(text) = help.to_string(alloc) else {
+        return end_by(Fault::Memory, err);
+    };
+    if !begins_as_help(text.as_bytes()) {
+        return refuse(alloc, help, err);
+    }
+    match put_all(out, text.as_bytes()) {
+        Ok(()) => 0,
+        Err(fault) => end_by(Fault::Write(fault), err),
+    }
+}
+
+/// Whether a text begins as help does, and as no report.
+fn begins_as_help(text: &[u8]) -> bool
+    ensures { IsTrue result → IsNoReport text.now }
+{
+    begins_with_capital(text)
+}
+
+/// Whether a text begins with a capital letter.
+fn begins_with_capital(text: &[u8]) -> bool
+    ensures { IsTrue result → (65 ≤ slice_index text.now 0) × (slice_index text.now 0 ≤ 90) }
+{
+    !text.is_empty() && b'A' <= text[0] && text[0] <= b'Z'
 }

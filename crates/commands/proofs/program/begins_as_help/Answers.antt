@@ -1,0 +1,5 @@
+use Rattle.commands.proofs.NoReport.{no_report}
+use Rattle.commands.proofs.program.begins_as_help.Goals as goal
+
+pub returns : goal.returns
+returns c = λ yes. let both = c.begins_with_capital.ensures yes in no_report c.args.text.now both.0 both.1
