@@ -87,9 +87,10 @@ fn run_stages<'s, E, L: LaneKind + 's, R: Threads + Wait + Sync, O: Opener, G: G
         shaped: (shaped_giver, shaped_taker),
     } = links;
     let lane = giver.lane();
-    let read = start_read::<_, L, _, _, _>(scope, setting, lane, seat, buffer, framed_giver)?;
+    // The first stage comes last: a lane that could not be started has drawn no file.
     let embed = start_stage(scope, setting, lane, framed_taker, embedded_giver)?;
     let shape = start_stage(scope, setting, lane, embedded_taker, shaped_giver)?;
+    let read = start_read::<_, L, _, _, _>(scope, setting, lane, seat, buffer, framed_giver)?;
     let draw = run_last_stage(setting.rt, setting.alloc, setting.gate, shaped_taker, giver);
     let read = read.join(setting.rt);
     let embed = embed.join(setting.rt);

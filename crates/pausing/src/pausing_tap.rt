@@ -1,0 +1,27 @@
+//! Sources whose reading pauses.
+
+use crate::pauses::Pauses;
+use std::sync::Wait;
+use streams::{Tap, TapFault};
+
+/// An open file of a run. Before each read it waits as long as its file pauses; what it gives is what the file gives.
+#[derive(Drop)]
+pub struct PausingTap<'r, R, T> {
+    pub rt: &'r R,
+    pub pauses: &'r Pauses,
+    /// The number of the file.
+    pub file: u32,
+    /// The open file.
+    pub tap: T,
+}
+
+impl<R: Wait, T: Tap> Tap for PausingTap<'_, R, T> {
+    ghost to_come = { λ p. T.to_come p.tap };
+
+    ghost fails = { λ p. T.fails p.tap };
+
+    fn read(&mut self, buf: &mut [u8]) -> Result<usize, TapFault> {
+        self.pauses.wait(self.rt, self.file);
+        self.tap.read(buf)
+    }
+}
