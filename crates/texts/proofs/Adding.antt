@@ -59,7 +59,7 @@ written_front form start old new buffer gathers front waiting after came next en
       marked = marked_same came next front (λ k lt. more.others k (λ e. absurd (omega (arith, lt, e)))) was.marked;
       counted = after_change IsCounted (λ k. front ≤ k) front waiting after came next IsCountedOne changed more.others below
           (λ _ w w' c. counted_one front entry came next w w' more c.count c.mark) was.counted;
-      lines = after_change (λ w c. w.lines.items ≡ lines_in form c.entries) (λ k. front < k) front waiting after came next IsCountedOne changed more.others below
+      lines = after_change (λ w c. w.lines ≡ lines_in form c.entries) (λ k. front < k) front waiting after came next IsCountedOne changed more.others below
           (λ lt. absurd (omega (arith, lt))) was.lines;
       going = λ _. subst (IsOnItsWay start new gathers) (front_more form front came next entry line is more) (goes start (ended_texts form came front ++ begun form front (came front)) (was.going below));
       over = λ past. absurd (omega (arith, past, changed.count, below));
@@ -67,7 +67,7 @@ written_front form start old new buffer gathers front waiting after came next en
 
 -- one entry more is counted and its line waits
 abbrev pub HasLineMore : List ℕ → Waiting → Waiting → Type 0
-HasLineMore line w w' = (w'.lines.items ≡ w.lines.items ++ line) × (w'.count ≡ w.count + 1) × (w'.mark ≡ w.mark)
+HasLineMore line w w' = (w'.lines ≡ w.lines ++ line) × (w'.count ≡ w.count + 1) × (w'.mark ≡ w.mark)
 
 line_more : (line : List ℕ) (u v w : Waiting) → IsCountedOne u v → GetsLine line v w → HasLineMore line u w
 line_more line u v w p q = (q.lines ∙ ap (λ l. l ++ line) p.lines, q.count ∙ p.count, q.mark ∙ p.mark)
@@ -90,7 +90,7 @@ written_behind form start now buffer file front waiting mid after came next entr
       marked = marked_same came next front (λ k lt. more.others k (λ e. absurd (omega (arith, lt, before, e)))) was.marked;
       counted = after_change IsCounted (λ k. front ≤ k) file waiting after came next (HasLineMore line) changed more.others below
           (λ _ w w' c. counted_one file entry came next w w' more c.1 c.2) was.counted;
-      lines = after_change (λ w c. w.lines.items ≡ lines_in form c.entries) (λ k. front < k) file waiting after came next (HasLineMore line) changed more.others below
+      lines = after_change (λ w c. w.lines ≡ lines_in form c.entries) (λ k. front < k) file waiting after came next (HasLineMore line) changed more.others below
           (λ _ w w' c same. c.0 ∙ ap (λ l. l ++ line) same ∙ ap (λ l. lines_in form (came file).entries ++ l) (sym is) ∙ sym (lines-more form (came file).entries entry)
           ∙ ap (λ (c : Came). lines_in form c.entries) (sym more.here)) was.lines;
       going = λ lt. subst (IsOnItsWay start now buffer) (front_same form file front came next before more.others) (was.going (omega (arith, lt, changed.count)));
@@ -120,7 +120,7 @@ written_marked form start now buffer file front waiting after came next many mar
             count = c.count ∙ had.count ∙ ap (λ (l : List Entry). length l) (entries_same file mark came next more file);
             mark = c.mark ∙ ap (λ (c : Came). c.mark) (sym more.here);
           }) was.counted;
-      lines = after_change (λ w c. w.lines.items ≡ lines_in form c.entries) (λ k. front < k) file waiting after came next (GetsMark many mark) changed more.others below
+      lines = after_change (λ w c. w.lines ≡ lines_in form c.entries) (λ k. front < k) file waiting after came next (GetsMark many mark) changed more.others below
           (λ _ w w' c same. c.lines ∙ same ∙ ap (lines_in form) (entries_same file mark came next more file)) was.lines;
       going = λ lt. subst (IsOnItsWay start now buffer) text (was.going (omega (arith, lt, changed.count)));
       over = λ past. absurd (omega (arith, past, changed.count, below, before));

@@ -17,10 +17,13 @@ use Rattle.texts.proofs.Adding.{front_more}
 use Rattle.texts.proofs.Moving.{marked_next, ended_more}
 
 -- one text begins with the other
-abbrev Longer : List ℕ → List ℕ → Type 0
+abbrev pub Longer : List ℕ → List ℕ → Type 0
 Longer whole text = (more : List ℕ) × (whole ≡ text ++ more)
 
-appends_longer : (start now : Option (List ℕ)) (whole text : List ℕ) → Longer whole text → AppendsFront start now text → AppendsFront start now whole
+longer_both : (a b c : List ℕ) → Longer a b → Longer b c → Longer a c
+longer_both a b c p q = (q.0 ++ p.0, p.1 ∙ ap (λ l. l ++ p.0) q.1 ∙ append_assoc c q.0 p.0)
+
+pub appends_longer : (start now : Option (List ℕ)) (whole text : List ℕ) → Longer whole text → AppendsFront start now text → AppendsFront start now whole
 appends_longer start now whole text longer added =
     (added.0, added.1 ++ longer.0, longer.1 ∙ ap (λ l. l ++ longer.0) added.2 ∙ append_assoc added.0 added.1 longer.0, added.3)
 
@@ -106,7 +109,7 @@ breaks_first form start old new buffer front waiting came below breaks was =
     breaks_head form start new came front (length waiting) below was.marked (breaks start _ was.text)
 
 pub breaks_lines : (form : Form) (start old mid new : Option (List ℕ)) (buffer between : List ℕ) (front : ℕ) (waiting : List Waiting) (came : ℕ → Came) (lines : List ℕ)
-    → front < length waiting → GoesOn old buffer mid between (head_in form (front + 1)) → ((other : Waiting) → lines ≡ (get_or waiting front other).lines.items)
+    → front < length waiting → GoesOn old buffer mid between (head_in form (front + 1)) → ((other : Waiting) → lines ≡ (get_or waiting front other).lines)
     → BreaksIn mid between new lines → AreLeft form start old buffer front waiting came → BreaksOff form start new (length waiting) came
 breaks_lines form start old mid new buffer between front waiting came lines below head are breaks was =
     let T = ended_texts form came front in

@@ -3,6 +3,7 @@ pub mod Wholes
 pub mod Waits
 pub mod Adding
 pub mod Breaking
+pub mod Joining
 pub mod Endings
 pub mod ToldEnds
 pub mod Ordering

@@ -60,7 +60,7 @@ left_ended form start old new buffer gathers front next waiting came w mark coun
 -- what has come of the front went on its way
 pub written_begun : (form : Form) (start old mid new : Option (List ℕ)) (buffer between gathers : List ℕ) (front : ℕ) (waiting after : List Waiting) (came : ℕ → Came) (lines : List ℕ)
     → front < length waiting → GoesOn old buffer mid between (head_in form (front + 1))
-    → ((other : Waiting) → lines ≡ (get_or waiting front other).lines.items) → ChangesAt front IsTaken waiting after → GoesOn mid between new gathers lines
+    → ((other : Waiting) → lines ≡ (get_or waiting front other).lines) → ChangesAt front IsTaken waiting after → GoesOn mid between new gathers lines
     → AreLeft form start old buffer front waiting came → AreWritten form start new gathers front after came
 written_begun form start old mid new buffer between gathers front waiting after came lines below head are changed goes was =
     let T = ended_texts form came front in
@@ -73,7 +73,7 @@ written_begun form start old mid new buffer between gathers front waiting after 
       marked = was.marked;
       counted = after_change IsCounted (λ k. front ≤ k) front waiting after came came IsTaken changed (λ _ _. refl) below
           (λ _ w w' c had. record { count = c.count ∙ had.count; mark = c.mark ∙ had.mark }) was.counted;
-      lines = after_change (λ w c. w.lines.items ≡ lines_in form c.entries) (λ k. front < k) front waiting after came came IsTaken changed (λ _ _. refl) below
+      lines = after_change (λ w c. w.lines ≡ lines_in form c.entries) (λ k. front < k) front waiting after came came IsTaken changed (λ _ _. refl) below
           (λ lt. absurd (omega (arith, lt))) (λ k o from lt. was.lines k o (omega (arith, from)) lt);
       going = λ _. subst (IsOnItsWay start new gathers) text (goes start (T ++ H) (head start T was.text));
       over = λ past. absurd (omega (arith, past, changed.count, below));

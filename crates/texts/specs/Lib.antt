@@ -1,3 +1,4 @@
+pub mod Joined
 pub mod Came
 pub mod Orders
 pub mod Waits

@@ -5,25 +5,25 @@ use Rattle.texts.specs.declared.waiting.Waiting.{Waiting}
 
 -- nothing waits
 pub record IsNothing (waiting : Waiting) : Type 0 where
-  pub lines : waiting.lines.items ≡ []
+  pub lines : waiting.lines ≡ []
   pub count : waiting.count ≡ 0
   pub mark : waiting.mark ≡ None
 
 -- one entry more is counted
 pub record IsCountedOne (before after : Waiting) : Type 0 where
-  pub lines : after.lines.items ≡ before.lines.items
+  pub lines : after.lines ≡ before.lines
   pub count : after.count ≡ before.count + 1
   pub mark : after.mark ≡ before.mark
 
 -- one line more waits
 pub record GetsLine (line : List ℕ) (before after : Waiting) : Type 0 where
-  pub lines : after.lines.items ≡ before.lines.items ++ line
+  pub lines : after.lines ≡ before.lines ++ line
   pub count : after.count ≡ before.count
   pub mark : after.mark ≡ before.mark
 
 -- there was no mark, and there is this one; and so many entries have come
 pub record GetsMark (many : ℕ) (given : Mark) (before after : Waiting) : Type 0 where
-  pub lines : after.lines.items ≡ before.lines.items
+  pub lines : after.lines ≡ before.lines
   pub count : after.count ≡ before.count
   pub unmarked : before.mark ≡ None
   pub counted : before.count ≡ many

@@ -60,7 +60,7 @@ pub record AreWritten (form : Form) (start now : Option (List ℕ)) (buffer : Li
   pub marked : (file : ℕ) → file < front → HasMark (came file)
   pub counted : (file : ℕ) (other : Waiting) → front ≤ file → file < length waiting → IsCounted (slice_index_or waiting file other) (came file)
   pub lines : (file : ℕ) (other : Waiting) → front < file → file < length waiting
-      → (slice_index_or waiting file other).lines.items ≡ lines_in form (came file).entries
+      → (slice_index_or waiting file other).lines ≡ lines_in form (came file).entries
   pub going : front < length waiting → IsOnItsWay start now buffer (ended_texts form came front ++ begun form front (came front))
   pub over : length waiting ≤ front → IsOnItsWay start now buffer (ended_texts form came front)
 
@@ -70,5 +70,5 @@ pub record AreLeft (form : Form) (start now : Option (List ℕ)) (buffer : List 
   pub marked : (file : ℕ) → file < front → HasMark (came file)
   pub counted : (file : ℕ) (other : Waiting) → front ≤ file → file < length waiting → IsCounted (slice_index_or waiting file other) (came file)
   pub lines : (file : ℕ) (other : Waiting) → front ≤ file → file < length waiting
-      → (slice_index_or waiting file other).lines.items ≡ lines_in form (came file).entries
+      → (slice_index_or waiting file other).lines ≡ lines_in form (came file).entries
   pub text : IsOnItsWay start now buffer (ended_texts form came front)

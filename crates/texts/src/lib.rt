@@ -3,12 +3,16 @@
 #![tactic(auto)]
 
 mod lines;
+mod pace;
+mod pieces;
 mod refusal;
 mod texts;
 mod waiting;
 mod writing;
 
 pub use lines::Lines;
+pub use pace::Pace;
+pub use pieces::Pieces;
 pub use printing::{JsonLines, KnownEnd, Printed, ReportLines, Told};
 pub use refusal::Refusal;
 pub use reports::{Form, push_cause, write_json, write_report};

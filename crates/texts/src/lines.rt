@@ -37,6 +37,8 @@ pub struct Lines {
     front: u32,
     /// What has come of each file.
     waiting: Vec<Waiting>,
+    /// How many bytes of memory what waits holds.
+    held: usize,
     /// Whether no entry so far lacks an answer or its line, and each file that has ended is complete.
     whole: bool,
 }
@@ -66,8 +68,19 @@ impl Lines {
             buffer,
             front: 0,
             waiting,
+            held: 0,
             whole: true,
         })
+    }
+
+    /// The first file that has not ended.
+    pub(crate) fn front(&self) -> u32 {
+        self.front
+    }
+
+    /// How many bytes of memory what waits of the files behind the front holds.
+    pub(crate) fn waits(&self) -> usize {
+        self.held
     }
 
     /// Takes in the line of one more entry.
@@ -104,7 +117,7 @@ impl Lines {
             return Err(Refusal::Astray);
         }
         match line {
-            Some(line) => self.add(sink, file, line.as_slice()),
+            Some(line) => self.add(alloc, sink, file, line.as_slice()),
             None => self.add_lacking(alloc, sink, file, ordinal),
         }
     }
@@ -185,7 +198,13 @@ impl Lines {
     }
 
     /// Adds a line of one more entry: that of the front straight on its way, another to what waits.
-    fn add<S: Sink>(&mut self, sink: &mut S, file: u32, line: &[u8]) -> Result<(), Refusal>
+    fn add<S: Sink>(
+        &mut self,
+        alloc: Global,
+        sink: &mut S,
+        file: u32,
+        line: &[u8],
+    ) -> Result<(), Refusal>
         requires stands { S.failed sink.old ≡ false }
         requires from { self.old.front ≤ file }
         requires below { file < length self.old.waiting.items }
@@ -201,10 +220,11 @@ impl Lines {
     {
         count_one(&mut self.waiting, file)?;
         if file == self.front {
-            put(&mut self.buffer, sink, line)
-        } else {
-            keep_line(&mut self.waiting, file, line)
+            return put(&mut self.buffer, sink, line);
         }
+        let more = keep_line(alloc, &mut self.waiting, file, line)?;
+        self.held = self.held.saturating_add(more);
+        Ok(())
     }
 
     /// Adds the line of one more entry that has none.
@@ -234,7 +254,7 @@ impl Lines {
         match lacking_text(alloc, self.form, file, ordinal) {
             Ok(line) => {
                 self.whole = false;
-                self.add(sink, file, line.as_slice())
+                self.add(alloc, sink, file, line.as_slice())
             }
             Err(_) => Err(Refusal::Memory),
         }
@@ -324,7 +344,8 @@ impl Lines {
     {
         put_head(alloc, &mut self.buffer, sink, self.form, self.front)?;
         let lines = take_lines(alloc, &mut self.waiting, self.front);
-        put(&mut self.buffer, sink, lines.as_slice())
+        self.held = self.held.saturating_sub(lines.size());
+        lines.put(&mut self.buffer, sink)
     }
 }
 

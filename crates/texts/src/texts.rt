@@ -10,6 +10,7 @@ ghost use Rattle.texts.specs.Holding.{form_of, files_of, LinesHold, LinesLeaveOf
 ghost use Rattle.texts.specs.Whole.{HaveFiles, IsAllWritten};
 
 use crate::lines::Lines;
+use crate::pace::Pace;
 use crate::refusal::Refusal;
 use lanes::Consumer;
 use printing::{KnownEnd, Printed, Told};
@@ -18,7 +19,8 @@ use std::snapshot::Snapshot;
 use streams::{Mark, Sink, WriteFault};
 
 /// The text of a run that goes to a sink. It takes in the messages of the lanes: a line of the first file that
-/// has not ended goes to the sink through a fixed buffer, and what comes of later files waits in memory.
+/// has not ended goes to the sink through a fixed buffer, and what comes of later files waits in memory, until so
+/// much waits that their reading pauses.
 #[derive(Drop)]
 pub struct Texts<'s, S, W: Drop> {
     pub sink: &'s mut S,
@@ -27,11 +29,13 @@ pub struct Texts<'s, S, W: Drop> {
     pub alloc: Global,
     /// What is on its way and what waits: `Lines`.
     pub lines: W,
+    /// How much may wait until the reading of later files pauses.
+    pub pace: Pace<'s>,
 }
 
 impl<'s, S: Sink> Texts<'s, S, Lines> {
-    /// The text of these lines, which goes to this sink. Nothing is written yet.
-    pub fn new(alloc: Global, sink: &'s mut S, lines: Lines) -> Texts<'s, S, Lines>
+    /// The text of these lines, which goes to this sink at this pace. Nothing is written yet.
+    pub fn new(alloc: Global, sink: &'s mut S, lines: Lines, pace: Pace<'s>) -> Texts<'s, S, Lines>
         ensures same { result.sink.ghost_name ≡ sink.entry.ghost_name }
         ensures now { result.sink.now ≡ sink.old }
         ensures start { result.start.value ≡ sink.old }
@@ -43,6 +47,19 @@ impl<'s, S: Sink> Texts<'s, S, Lines> {
             start,
             alloc,
             lines,
+            pace,
+        }
+    }
+}
+
+impl<S> Texts<'_, S, Lines> {
+    /// Lets later files pause or go on by what waits; where a message was refused, they go on, since no more
+    /// is taken in.
+    fn keep_pace(&self, goes_on: bool) {
+        if goes_on {
+            self.pace.keep(&self.lines);
+        } else {
+            self.pace.give_up();
         }
     }
 }
@@ -83,11 +100,15 @@ impl<S: Sink, J: Told + Send + Sync> Consumer<Printed<J>, KnownEnd<J>> for Texts
         × ((ns : List Note) × LinesLeaveOff J.meaning (S.taken t.start.value) (S.taken t.sink.now) t.lines ns) };
 
     fn item(&mut self, item: Printed<J>) -> Result<(), Refusal> {
-        self.lines.line(self.alloc, self.sink, item)
+        let taken = self.lines.line(self.alloc, self.sink, item);
+        self.keep_pace(taken.is_ok());
+        taken
     }
 
     fn end(&mut self, file: u32, mark: Mark, known: KnownEnd<J>) -> Result<(), Refusal> {
-        self.lines.end(self.alloc, self.sink, file, mark, known)
+        let taken = self.lines.end(self.alloc, self.sink, file, mark, known);
+        self.keep_pace(taken.is_ok());
+        taken
     }
 
     ghost holds_on = { λ t ns held. (held.0, held_stop _ _ _ _ _ _ _ _ _ _ held.1) };

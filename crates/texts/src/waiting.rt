@@ -2,6 +2,7 @@
 ghost use Rattle.std.specs.Prelude.{◌≡◌, ◌<◌, IfOk, IfErr, OnOk, All, length, IsTrue, slice_index_or};
 ghost use Rattle.texts.specs.Waits.{ChangesAt, IsNothing, IsCountedOne, GetsLine, GetsMark, IsTaken, IsUnmarked};
 
+use crate::pieces::Pieces;
 use crate::refusal::Refusal;
 use std::alloc::{AllocError, Global};
 use std::mem;
@@ -11,7 +12,7 @@ use streams::Mark;
 #[derive(Drop)]
 pub struct Waiting {
     /// The lines of its entries, as long as its turn has not come.
-    pub lines: Vec<u8>,
+    pub lines: Pieces,
     /// How many entries have come of it.
     pub count: u32,
     /// Its mark, once it has ended.
@@ -26,7 +27,7 @@ pub(crate) fn none_come(alloc: Global, files: u32) -> Result<Vec<Waiting>, Alloc
     let mut waiting = Vec::with_capacity(alloc, files as usize)?;
     for _ in 0..files {
         waiting.push(Waiting {
-            lines: Vec::new(alloc),
+            lines: Pieces::new(alloc),
             count: 0,
             mark: None,
         })?;
@@ -51,15 +52,21 @@ pub(crate) fn count_one(waiting: &mut Vec<Waiting>, file: u32) -> Result<(), Ref
     }
 }
 
-/// Keeps a line of a file. `Memory` where there is no memory for it.
-pub(crate) fn keep_line(waiting: &mut Vec<Waiting>, file: u32, line: &[u8]) -> Result<(), Refusal>
+/// Keeps a line of a file, and answers how many bytes of memory that took. `Memory` where there is no memory for it.
+pub(crate) fn keep_line(
+    alloc: Global,
+    waiting: &mut Vec<Waiting>,
+    file: u32,
+    line: &[u8],
+) -> Result<usize, Refusal>
     requires { file < length waiting.old.items }
     ensures count { length waiting.new.items ≡ length waiting.old.items }
     ensures kept { OnOk result (ChangesAt file (GetsLine line.now) waiting.old.items waiting.new.items) }
     ensures memory { IfErr result (λ refusal. refusal ≡ Refusal.Memory) }
 {
-    match waiting[file as usize].lines.extend_from_slice(line) {
-        Ok(()) => Ok(()),
+    let here = &mut waiting[file as usize];
+    match here.lines.push(alloc, line) {
+        Ok(more) => Ok(more),
         Err(_) => Err(Refusal::Memory),
     }
 }
@@ -80,11 +87,11 @@ pub(crate) fn keep_mark(waiting: &mut Vec<Waiting>, file: u32, count: u32, mark:
 }
 
 /// Takes the lines of a file out, so that none of them wait.
-pub(crate) fn take_lines(alloc: Global, waiting: &mut Vec<Waiting>, file: u32) -> Vec<u8>
+pub(crate) fn take_lines(alloc: Global, waiting: &mut Vec<Waiting>, file: u32) -> Pieces
     requires { file < length waiting.old.items }
     ensures count { length waiting.new.items ≡ length waiting.old.items }
-    ensures lines { (other : Waiting) → result.items ≡ (slice_index_or waiting.old.items file other).lines.items }
+    ensures lines { (other : Waiting) → result ≡ (slice_index_or waiting.old.items file other).lines }
     ensures taken { ChangesAt file IsTaken waiting.old.items waiting.new.items }
 {
-    mem::replace(&mut waiting[file as usize].lines, Vec::new(alloc))
+    mem::replace(&mut waiting[file as usize].lines, Pieces::new(alloc))
 }

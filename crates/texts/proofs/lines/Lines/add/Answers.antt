@@ -19,14 +19,13 @@ returns-then-file-self-clause-added g c =
     written_front self.form start (g.S.Sink.taken c.args.sink.now) (g.S.Sink.taken c.put.new.sink) self.buffer c.put.new.buffer self.front self.waiting.items waiting before after
     entry c.args.line.now below is (subst (λ k. HasEntryMore k entry before after) at more) changed goes was)
 
-pub returns-else-file-self-clause-added : goal.returns-else-file-self-clause-added
-returns-else-file-self-clause-added g c =
+pub returns-clause-added : goal.returns-clause-added
+returns-clause-added g c = λ start before after entry is more was.
     let self = c.args.self.now in
     let apart = c.if-file-self.false in
     let behind : self.front < c.args.file = omega (arith, apart, c.requires.from) in
-    ok_then c.keep_line.result c.keep_line.ensures.kept (λ kept start before after entry is more was.
     written_behind self.form start (g.S.Sink.taken c.args.sink.now) self.buffer c.args.file self.front self.waiting.items c.count_one.new.waiting.items c.keep_line.new.waiting.items
-    before after entry c.args.line.now c.requires.below behind is more c.in_ok-count_one.ensures.counted kept was)
+    before after entry c.args.line.now c.requires.below behind is more c.in_ok-count_one.ensures.counted c.in_ok-more.ensures.kept was
 
 pub returns-in_err-count_one-clause-broken : goal.returns-in_err-count_one-clause-broken
 returns-in_err-count_one-clause-broken g c =
@@ -43,8 +42,8 @@ returns-then-file-self-clause-broken g c =
     inr (breaks_line self.form start (g.S.Sink.taken c.args.sink.now) (g.S.Sink.taken c.put.new.sink) self.buffer self.front self.waiting.items before after
     entry c.args.line.now below is (subst (λ k. HasEntryMore k entry before after) at more) breaks was))
 
-pub returns-else-file-self-clause-broken : goal.returns-else-file-self-clause-broken
-returns-else-file-self-clause-broken g c =
+pub returns-in_err-more-clause-broken : goal.returns-in_err-more-clause-broken
+returns-in_err-more-clause-broken g c =
     let self = c.args.self.now in
-    err_any c.keep_line.result (λ start before after entry is more was.
+    err_any c.from_residual-in_err-more.result (λ start before after entry is more was.
     inl (breaks_written self.form start (g.S.Sink.taken c.args.sink.now) self.buffer self.front self.waiting.items before was))

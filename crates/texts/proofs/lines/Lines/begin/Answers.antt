@@ -1,8 +1,5 @@
 use Rattle.texts.proofs.Moving.{written_begun}
 use Rattle.texts.proofs.SucceedsOrFails.{ok_then}
-use Rattle.std.proofs.Common.{List, ℕ, subst}
-use Rattle.texts.specs.Written.{GoesOn}
-use Rattle.texts.specs.Written.{BreaksIn}
 use Rattle.texts.proofs.Breaking.{breaks_first, breaks_lines}
 use Rattle.texts.proofs.SucceedsOrFails.{err_then, err_any}
 use Rattle.texts.proofs.lines.Lines.begin.Goals as goal
@@ -15,8 +12,7 @@ returns-clause-begun g c =
     let new = g.S.Sink.taken c.put.new.sink in
     ok_then c.put.result c.put.ensures.put (λ goes start came was.
     written_begun self.form start old mid new self.buffer c.put_head.new.buffer c.put.new.buffer self.front self.waiting.items c.take_lines-lines.new.waiting.items came
-    c.take_lines-lines.result.items c.requires.below c.in_ok-put_head.ensures.put c.take_lines-lines.ensures.lines c.take_lines-lines.ensures.taken
-    (subst (λ (l : List ℕ). GoesOn mid c.put_head.new.buffer new c.put.new.buffer l) c.as_slice.ensures.value goes) was)
+    c.take_lines-lines.result c.requires.below c.in_ok-put_head.ensures.put c.take_lines-lines.ensures.lines c.take_lines-lines.ensures.taken goes was)
 
 pub returns-in_err-put_head-clause-broken : goal.returns-in_err-put_head-clause-broken
 returns-in_err-put_head-clause-broken g c =
@@ -32,6 +28,5 @@ returns-clause-broken g c =
     let mid = g.S.Sink.taken c.put_head.new.sink in
     let new = g.S.Sink.taken c.put.new.sink in
     err_then c.put.result c.put.ensures.broken (λ breaks start came was.
-    breaks_lines self.form start old mid new self.buffer c.put_head.new.buffer self.front self.waiting.items came c.take_lines-lines.result.items
-    c.requires.below c.in_ok-put_head.ensures.put c.take_lines-lines.ensures.lines
-    (subst (λ (l : List ℕ). BreaksIn mid c.put_head.new.buffer new l) c.as_slice.ensures.value breaks) was)
+    breaks_lines self.form start old mid new self.buffer c.put_head.new.buffer self.front self.waiting.items came c.take_lines-lines.result
+    c.requires.below c.in_ok-put_head.ensures.put c.take_lines-lines.ensures.lines breaks was)

@@ -17,7 +17,7 @@ returns-clause-held g c =
     let before = c.args.self.now in
     let file = c.args.file in
     let waiting = c.keep_mark.new.waiting in
-    let mid : Lines = record { form = before.form; choice = before.choice; buffer = before.buffer; front = before.front; waiting = waiting; whole = c.is_whole_with-self.result } in
+    let mid : Lines = record { form = before.form; choice = before.choice; buffer = before.buffer; front = before.front; waiting = waiting; held = before.held; whole = c.is_whole_with-self.result } in
     let after = c.advance.new.self in
     let old = g.S.Sink.taken c.args.sink.now in
     let from : before.front ≤ file = search rules in
@@ -36,7 +36,7 @@ returns-clause-broken g c =
     let before = c.args.self.now in
     let file = c.args.file in
     let waiting = c.keep_mark.new.waiting in
-    let mid : Lines = record { form = before.form; choice = before.choice; buffer = before.buffer; front = before.front; waiting = waiting; whole = c.is_whole_with-self.result } in
+    let mid : Lines = record { form = before.form; choice = before.choice; buffer = before.buffer; front = before.front; waiting = waiting; held = before.held; whole = c.is_whole_with-self.result } in
     let after = c.advance.new.self in
     let old = g.S.Sink.taken c.args.sink.now in
     let from : before.front ≤ file = search rules in
@@ -58,7 +58,7 @@ returns-then-not-is_open-clause-broken g c = λ start ns held.
     elim c.then-not-is_open.branch [
       | then-not-is_open-via-then-not-is_open w ↦ inl (subst (λ l. LinesLeaveOff g.J.Told.meaning start now l ns) (sym w.self-is) here)
       | then-not-is_open-via-else-not-is_open+then-not-keep_mark w ↦
-          let mid : Lines = record { form = before.form; choice = before.choice; buffer = before.buffer; front = before.front; waiting = w.keep_mark.new.waiting; whole = before.whole } in
+          let mid : Lines = record { form = before.form; choice = before.choice; buffer = before.buffer; front = before.front; waiting = w.keep_mark.new.waiting; held = before.held; whole = before.whole } in
           inl (subst (λ l. LinesLeaveOff g.J.Told.meaning start now l ns) (sym w.self-is) (left_off_as g.J.Told.meaning start now before mid ns (record { form = refl; choice = refl; files = w.keep_mark.ensures.count }) here))
     ]
 
