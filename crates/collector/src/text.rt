@@ -14,12 +14,13 @@ use books::MAX_FILES;
 use choices::Choice;
 use lane_runs::{LaneKind, RunFault, run_lanes};
 use lanes::{Consumer, Gate, Opener};
+use pausing::{Pauses, PausingOpener};
 use std::alloc::Global;
 use std::marker::Brand;
 use std::sync::Wait;
 use std::thread::Threads;
 use streams::{BatchFault, Sink, WriteFault};
-use texts::{Form, JsonLines, KnownEnd, Lines, Printed, Refusal, ReportLines, Texts, Told};
+use texts::{Form, JsonLines, KnownEnd, Lines, Pace, Printed, Refusal, ReportLines, Texts, Told};
 
 /// Why a text was not written whole. What was written is then a beginning of one.
 #[derive(Clone, Copy, Debug, PartialEq, Eq)]
@@ -37,7 +38,8 @@ pub enum TextFault {
 ///
 /// Files go over lanes as in `run_batch`. They leave in their order: the lines of the first file that has not
 /// ended go to the sink as they come, and those of later files wait. What was laid out for a record is let go
-/// once its line is made.
+/// once its line is made. Where what waits holds `waiting` bytes of memory or more, the reading of later files
+/// pauses until there is room again or their turn comes; what lanes have read by then still comes and waits too.
 ///
 /// # Errors
 ///
@@ -55,6 +57,7 @@ pub fn write_batch<R: Threads + Wait + Sync, O: Opener, G: Gate, S: Sink>(
     files: u32,
     lanes: u32,
     capacity: u32,
+    waiting: usize,
     choice: Choice,
     form: Form,
     gate: &G,
@@ -78,12 +81,17 @@ pub fn write_batch<R: Threads + Wait + Sync, O: Opener, G: Gate, S: Sink>(
     if lanes == 0 || lanes > MAX_LANES {
         return Err(TextFault::Run(BatchFault::BadLanes));
     }
+    let pauses = Pauses::none();
+    let pace = Pace {
+        pauses: &pauses,
+        most: waiting,
+    };
     write_files::<Brand, _, _, _, _>(
-        rt, alloc, opener, files, lanes, capacity, choice, form, gate, sink,
+        rt, alloc, opener, files, lanes, capacity, pace, choice, form, gate, sink,
     )
 }
 
-/// Writes the text of a run over so many files and lanes. The type `J` stands for what the files mean.
+/// Writes the text of a run over so many files and lanes at this pace. The type `J` stands for what the files mean.
 fn write_files<J: Told + Send + Sync, R: Threads + Wait + Sync, O: Opener, G: Gate, S: Sink>(
     rt: &R,
     alloc: Global,
@@ -91,6 +99,7 @@ fn write_files<J: Told + Send + Sync, R: Threads + Wait + Sync, O: Opener, G: Ga
     files: u32,
     lanes: u32,
     capacity: u32,
+    pace: Pace<'_>,
     choice: Choice,
     form: Form,
     gate: &G,
@@ -111,10 +120,15 @@ fn write_files<J: Told + Send + Sync, R: Threads + Wait + Sync, O: Opener, G: Ga
     let Ok(lines) = Lines::new(alloc, form, choice, files) else {
         return Err(TextFault::Run(BatchFault::Memory));
     };
-    let texts = Texts::new(alloc, sink, lines);
+    let pausing = PausingOpener {
+        rt,
+        opener,
+        pauses: pace.pauses,
+    };
+    let texts = Texts::new(alloc, sink, lines, pace);
     let mut ran = Ok(());
     let texts = run_form::<J, _, _, _, _>(
-        rt, alloc, opener, gate, files, lanes, capacity, choice, form, texts, &mut ran,
+        rt, alloc, &pausing, gate, files, lanes, capacity, choice, form, texts, &mut ran,
     );
     match ran {
         Ok(()) => match texts.finish() {

@@ -7,7 +7,7 @@ use Rattle.choices.specs.declared.Choice.{Choice}
 use Rattle.reports.specs.declared.form.Form.{Form}
 use Rattle.program_io.specs.Naming.{is_input}
 use Rattle.commands.specs.declared.reading.Role.{Role}
-use Rattle.commands.specs.declared.reading.Role.TheVariants.{Command, Any, Lanes, Outer, File}
+use Rattle.commands.specs.declared.reading.Role.TheVariants.{Command, Any, Lanes, Waiting, Outer, File}
 use Rattle.commands.specs.declared.reading.Wish.{Wish}
 use Rattle.commands.specs.declared.reading.Wish.TheVariants as wish
 use Rattle.commands.specs.declared.request.Request.{Request}
@@ -26,6 +26,7 @@ abbrev pub after : Role → List ℕ → Role
 after Any word =
     if bytes_eq word (codes "--") then File
     else if bytes_eq word (codes "--lanes") then Lanes
+    else if bytes_eq word (codes "--waiting") then Waiting
     else if bytes_eq word (codes "--outer") then Outer
     else Any
 after File word = File
@@ -92,4 +93,4 @@ pub record AsksFrames (words : List (String Global)) (name : List ℕ) : Type 0 
 -- the request is what the words ask for
 abbrev pub IsAskedBy : List (String Global) → Request → Type 0
 IsAskedBy words (Frames name) = AsksFrames words name.now
-IsAskedBy words (Layout names lanes choice form progress) = AsksLayout words names choice form
+IsAskedBy words (Layout names lanes waiting choice form progress) = AsksLayout words names choice form

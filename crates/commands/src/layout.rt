@@ -19,9 +19,13 @@ use streams::{BatchFault, MAX_CAPACITY, Sink, WriteFault};
 /// How many messages wait between two threads of a run at most.
 pub const CAPACITY: u32 = MAX_CAPACITY;
 
+/// How many bytes a megabyte has.
+const MEGABYTE: usize = 1_000_000;
+
 /// Writes answers to the records of these files in this form, under this choice of the outer face and worked
 /// out in so many lanes, while the files are read, and gives back the status of the report. The file named `-`
-/// is the file 0 of `input`. The meter counts files and graphs.
+/// is the file 0 of `input`. The meter counts files and graphs. Where the text of later files that waits holds
+/// `waiting` megabytes of memory, their reading pauses.
 ///
 /// # Errors
 ///
@@ -40,6 +44,7 @@ pub fn layout<
     names: &[&str],
     input: &'a I,
     lanes: u32,
+    waiting: u32,
     choice: Choice,
     form: Form,
     meter: &'a Meter<'_, C>,
@@ -77,6 +82,7 @@ where
         files,
         lanes,
         CAPACITY,
+        (waiting as usize).saturating_mul(MEGABYTE),
         choice,
         form,
         meter,

@@ -122,13 +122,14 @@ where
         Request::Layout {
             names,
             lanes,
+            waiting,
             choice,
             form,
             progress,
         } => {
             let names = names.as_slice();
             let meter = Meter::new(console, progress, names.len());
-            let outcome = layout(rt, names, input, lanes, choice, form, &meter, out);
+            let outcome = layout(rt, names, input, lanes, waiting, choice, form, &meter, out);
             meter.finish();
             outcome
         }

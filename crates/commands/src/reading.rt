@@ -16,13 +16,15 @@ pub enum Role {
     Any,
     /// The value of `--lanes`.
     Lanes,
+    /// The value of `--waiting`.
+    Waiting,
     /// The value of `--outer`.
     Outer,
     /// A file.
     File,
 }
 
-/// What words can ask for, beside files, a number of lanes and lines of progress.
+/// What words can ask for, beside files, numbers and lines of progress.
 #[derive(Clone, Copy)]
 pub enum Wish {
     Version,
@@ -41,6 +43,7 @@ impl Role {
         match self {
             Role::Any if word == "--" => Role::File,
             Role::Any if word == "--lanes" => Role::Lanes,
+            Role::Any if word == "--waiting" => Role::Waiting,
             Role::Any if word == "--outer" => Role::Outer,
             Role::File => Role::File,
             _ => Role::Any,

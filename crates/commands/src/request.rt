@@ -26,6 +26,8 @@ pub enum Request<'a> {
         names: Vec<&'a str>,
         /// How many lanes work on them.
         lanes: u32,
+        /// How many megabytes of text of later files may wait until their reading pauses.
+        waiting: u32,
         /// How the outer face of each plane is chosen.
         choice: Choice,
         /// The form of the text.
@@ -77,6 +79,7 @@ fn request_of<'a>(
     Some(Request::Layout {
         names: files,
         lanes: lanes_of(matches),
+        waiting: waiting_of(matches),
         choice: choice_of(words),
         form: form_of(words),
         progress: progress_of(matches),
@@ -100,6 +103,14 @@ fn lanes_of(matches: &ArgMatches) -> u32 {
     match matches.subcommand_matches("layout") {
         Some(layout) => layout.get_one("lanes").unwrap_or(1),
         None => 1,
+    }
+}
+
+/// The number of megabytes that clap found.
+fn waiting_of(matches: &ArgMatches) -> u32 {
+    match matches.subcommand_matches("layout") {
+        Some(layout) => layout.get_one("waiting").unwrap_or(MOST_WAITING),
+        None => MOST_WAITING,
     }
 }
 
@@ -158,6 +169,14 @@ fn describe_layout<'a>(alloc: Global) -> Result<Command<'a>, AllocError> {
         .help("How many files are worked on at once, 1 to 8")
         .value_parser(value_parser!(u32))
         .default_value("1");
+    let waiting = Arg::new(alloc, "waiting")
+        .long("waiting")
+        .value_name("MB")
+        .help(
+            "How many megabytes of text of later files may wait until their reading pauses, 1 to 65536",
+        )
+        .value_parser(value_parser!(u32).range(1..=65536))
+        .default_value("64");
     let outer = Arg::new(alloc, "outer")
         .long("outer")
         .value_name("CHOICE")
@@ -182,6 +201,7 @@ fn describe_layout<'a>(alloc: Global) -> Result<Command<'a>, AllocError> {
         )
         .after_help(LAYOUT_HELP)
         .arg(lanes)?
+        .arg(waiting)?
         .arg(outer)?
         .arg(json)?
         .arg(progress)?
@@ -210,6 +230,9 @@ fn describe_frames<'a>(alloc: Global) -> Result<Command<'a>, AllocError> {
         .after_help(FRAMES_HELP)
         .arg(file)
 }
+
+/// How many megabytes of text may wait where the words do not say.
+const MOST_WAITING: u32 = 64;
 
 /// Why standard input is not taken twice.
 const INPUT_TWICE: &str = "standard input, the file '-', can be read only once, and is named twice";
