@@ -119,6 +119,7 @@ fn lanes_text<R: AllocGlobal + Threads + Wait + Sync, G: Gate>(
         count,
         lanes,
         1,
+        usize::MAX,
         choice,
         form,
         gate,

@@ -1,11 +1,12 @@
-//! Runs over random files, with random lanes, capacities and sizes of reads, whose stages are held up at random.
-//! Each report must be that of a run on one thread. All numbers come from the seed: none from the time.
+//! Runs over random files, with random lanes, capacities and sizes of reads, whose stages are held up at random, to
+//! books and to a text of which little may wait. Each report must be that of a run on one thread. All numbers come from
+//! the seed: none from the time.
 ghost use Rattle.std.specs.Prelude.{◌<◌, ◌≤◌};
 
 use crate::batches::{graphs_of, report_of, report_over};
 use crate::stages::records_of;
 use anyhow::{Context, Result, bail, ensure};
-use collector::{Choice, Gate, MAX_LANES, MemOpener, Stage, run_plain};
+use collector::{Choice, Form, Gate, IoSink, MAX_LANES, MemOpener, Stage, run_plain, write_batch};
 use planar_code::{HEADER, Record};
 use std::alloc::Global;
 use std::rt::{Clock, Files};
@@ -167,10 +168,12 @@ fn run_round<R: AllocGlobal + Clock + Threads + Wait + Sync>(
     let lanes = numbers.up_to(MAX_LANES - 1) + 1;
     let found = random_run(rt, numbers, &opener, files, lanes, choice)?;
     ensure!(found == report, "another report over {lanes} lanes");
+    let text = random_text(rt, numbers, &opener, files, lanes, choice)?;
+    ensure!(text == report, "another text over {lanes} lanes");
     Ok(Tally {
         files: u64::from(files),
         graphs,
-        threads: u64::from(4 * lanes),
+        threads: u64::from(8 * lanes),
     })
 }
 
@@ -200,6 +203,33 @@ fn random_run<R: AllocGlobal + Clock + Threads + Wait + Sync>(
         numbers: Numbers::of(numbers.next()),
     };
     report_over(rt, opener, files, lanes, capacity, choice, &gate)
+}
+
+/// The text of such a run as it is made, where what waits may hold a random number of bytes, mostly less than one line
+/// of each file takes.
+fn random_text<R: AllocGlobal + Clock + Threads + Wait + Sync>(
+    rt: &R,
+    numbers: &Numbers,
+    opener: &MemOpener,
+    files: u32,
+    lanes: u32,
+    choice: Choice,
+) -> Result<Vec<u8>> {
+    let capacity = numbers.small(MAX_CAPACITY);
+    let most = numbers.up_to(100_000) as usize;
+    let gate = Holding {
+        rt,
+        numbers: Numbers::of(numbers.next()),
+    };
+    let (alloc, form) = (rt.alloc(), Form::Report);
+    let mut sink = IoSink::new(Vec::new(alloc));
+    let ended = write_batch(
+        rt, alloc, opener, files, lanes, capacity, most, choice, form, &gate, &mut sink,
+    );
+    match ended {
+        Ok(_) => Ok(sink.into_writer()),
+        Err(fault) => bail!("no text over {lanes} lanes: {fault:?}"),
+    }
 }
 
 /// Mostly the widest outer face.

@@ -326,6 +326,11 @@ fn refuses_other_command_lines(rt: HostRuntime) -> Result<(), Fail> {
             "planarbend: lanes must be 1 to 8\n",
         )?;
     }
+    for waiting in ["0", "65537", "x", "1.5"] {
+        let word = format!(in rt.alloc(); "invalid value '{waiting}' for '--waiting")?;
+        let words = ["layout", "--waiting", waiting, "a"];
+        check_refused(&rt, &words, word.as_str())?;
+    }
     let mut words = ["a"; 258];
     words[0] = "layout";
     check_refused(&rt, &words, "planarbend: more than 256 files\n")?;

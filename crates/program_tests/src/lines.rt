@@ -46,6 +46,17 @@ fn takes_options_out_of_the_files(rt: HostRuntime) -> Result<(), Fail> {
     check(&rt, &words, report, 0)?;
     let words = ["layout", "best", "--lanes=1", "--outer", "best", "edge.pc"];
     check(&rt, &words, report, 0)?;
+    let words = [
+        "layout",
+        "best",
+        "--waiting",
+        "65536",
+        "edge.pc",
+        "--waiting=1",
+    ];
+    check_refused(&rt, &words, "cannot be used multiple times")?;
+    let words = ["layout", "best", "--waiting", "1", "edge.pc", "--lanes=2"];
+    check(&rt, &words, report, 0)?;
     check(&rt, &["layout", "best", "--", "edge.pc"], report, 0)
 }
 

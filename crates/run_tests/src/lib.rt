@@ -9,3 +9,5 @@ mod broken;
 mod held;
 #[cfg(test)]
 mod reported;
+#[cfg(test)]
+mod waiting;

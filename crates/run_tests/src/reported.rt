@@ -136,8 +136,8 @@ impl Write for Narrow {
     }
 }
 
-/// The text of a run over lanes in this form as it is made, with room for one message between two threads, in a writer
-/// with so much room that takes so many bytes a write, and how the run ended.
+/// The text of a run over lanes in this form as it is made, with room for one message between two threads and as
+/// little as may wait, in a writer with so much room that takes so many bytes a write, and how the run ended.
 pub(crate) fn written<R: AllocGlobal + Threads + Wait + Sync, G: Gate>(
     rt: &R,
     opener: &Files,
@@ -150,7 +150,7 @@ pub(crate) fn written<R: AllocGlobal + Threads + Wait + Sync, G: Gate>(
     let mut sink = IoSink::new(Narrow::new(room, most, true));
     let (alloc, choice) = (rt.alloc(), Choice::First);
     let ended = write_batch(
-        rt, alloc, opener, files, lanes, 1, choice, form, gate, &mut sink,
+        rt, alloc, opener, files, lanes, 1, 1, choice, form, gate, &mut sink,
     );
     (ended, sink.into_writer())
 }

@@ -1,0 +1,294 @@
+//! Texts of runs in which the reading of later files pauses while too much waits. The bytes and the texts come from
+//! the descriptions of the format and of the report.
+ghost use Rattle.std.specs.Prelude.{false, None};
+ghost use Rattle.lanes.specs.Opening.{Silent};
+
+use crate::reported::{Narrow, same};
+use collector::{
+    Choice, Form, Gate, IoSink, MAX_LANES, OpenFault, OpenGate, Opener, Stage, Tap, TapFault,
+    TextFault, write_batch,
+};
+use std::alloc::{AllocError, Global};
+use std::fmt::Write;
+use std::sync::Wait;
+use std::sync::atomic::{AtomicBool, AtomicU32, Ordering};
+use std::test::Fail;
+use std::thread;
+use std::thread::Threads;
+
+/// How many records the first file has, and each later one.
+const FIRST: u32 = 450;
+
+const LATER: u32 = 30;
+
+/// How many calls of its first stage a lane has made at most when it pauses, with room for one message between two
+/// threads: as many records as the links, the fan and the stages hold, and the one that is read.
+const AHEAD: u32 = 10;
+
+/// A file of edges: its bytes are told one by one. Files before the last one are read only once the last one was read
+/// so often.
+#[derive(Clone, Copy)]
+struct Edges<'r> {
+    files: u32,
+    awaited: u32,
+    reads_of_last: &'r AtomicU32,
+    ran_out: &'r AtomicBool,
+}
+
+/// An open file of edges.
+#[derive(Drop)]
+struct EdgesTap<'r> {
+    of: Edges<'r>,
+    file: u32,
+    at: u32,
+    records: u32,
+}
+
+const HEADER: &[u8] = b">>planar_code<<";
+
+const EDGE: &[u8] = b"\x02\x02\x00\x01\x00";
+
+impl EdgesTap<'_> {
+    /// The next byte, where there is one.
+    fn next(&mut self) -> Option<u8> {
+        let at = self.at as usize;
+        let byte = if at < HEADER.len() {
+            HEADER.get(at)
+        } else if (at - HEADER.len()) / EDGE.len() < self.records as usize {
+            EDGE.get((at - HEADER.len()) % EDGE.len())
+        } else {
+            None
+        };
+        self.at = self.at.saturating_add(1);
+        byte.copied()
+    }
+
+    /// Waits until the last file was read often enough, and notes where a million turns were too few.
+    fn wait(&self) {
+        for _ in 0..1_000_000 {
+            if self.of.reads_of_last.load(Ordering::SeqCst) >= self.of.awaited {
+                return;
+            }
+            thread::yield_now();
+        }
+        self.of.ran_out.store(true, Ordering::SeqCst);
+    }
+}
+
+impl Tap for EdgesTap<'_> {
+    ghost to_come = { λ _. None };
+
+    ghost fails = { λ _. false };
+
+    fn read(&mut self, buf: &mut [u8]) -> Result<usize, TapFault> {
+        if self.file.saturating_add(1) == self.of.files {
+            self.of.reads_of_last.fetch_add(1, Ordering::SeqCst);
+        } else if self.at == 0 {
+            self.wait();
+        }
+        match (buf.first_mut(), self.next()) {
+            (Some(place), Some(byte)) => {
+                *place = byte;
+                Ok(1)
+            }
+            _ => Ok(0),
+        }
+    }
+}
+
+impl<'r> Opener for Edges<'r> {
+    type Source = EdgesTap<'r>;
+
+    ghost meaning = { λ _ _. Silent };
+
+    fn open(&self, _alloc: Global, file: u32) -> Result<EdgesTap<'r>, OpenFault> {
+        if file >= self.files {
+            return Err(OpenFault::Io);
+        }
+        Ok(EdgesTap {
+            of: *self,
+            file,
+            at: 0,
+            records: if file == 0 { FIRST } else { LATER },
+        })
+    }
+}
+
+/// How a run over so many files and lanes ended, where what waits may hold so much, and its text. Files before the last
+/// one are read once the last one was read `awaited` times; whether that took too long is told, too.
+fn run<R: AllocGlobal + Threads + Wait + Sync, G: Gate>(
+    rt: &R,
+    (files, lanes, awaited): (u32, u32, u32),
+    most: usize,
+    gate: &G,
+) -> (Result<u8, TextFault>, Vec<u8>, bool) {
+    let (reads_of_last, ran_out) = (AtomicU32::new(0), AtomicBool::new(false));
+    let opener = Edges {
+        files,
+        awaited,
+        reads_of_last: &reads_of_last,
+        ran_out: &ran_out,
+    };
+    let mut sink = IoSink::new(Vec::new(rt.alloc()));
+    let (alloc, choice, form) = (rt.alloc(), Choice::First, Form::Report);
+    let ended = write_batch(
+        rt, alloc, &opener, files, lanes, 1, most, choice, form, gate, &mut sink,
+    );
+    (ended, sink.into_writer(), ran_out.load(Ordering::SeqCst))
+}
+
+/// The report of so many files.
+fn report(alloc: Global, files: u32) -> Result<String, Fail> {
+    let mut report = String::new(alloc);
+    for file in 0..files {
+        let records = if file == 0 { FIRST } else { LATER };
+        let number = file.saturating_add(1);
+        writeln!(&mut report, "file {number}")?;
+        for graph in 1..=records {
+            writeln!(
+                &mut report,
+                "graph {graph} ok n=2 m=1 f=1 bends=0 drawn=yes"
+            )?;
+        }
+        writeln!(&mut report, "end complete graphs={records}")?;
+    }
+    Ok(report)
+}
+
+/// The text is that of all files, however little may wait, and no source waited too long.
+#[test]
+fn pauses_change_no_text(rt: HostRuntime) -> Result<(), Fail> {
+    for files in [1, 9] {
+        let report = report(rt.alloc(), files)?;
+        for lanes in [1, 3, MAX_LANES] {
+            for most in [1, 40_000] {
+                let (ended, text, ran_out) = run(&rt, (files, lanes, 0), most, &OpenGate);
+                same(&rt, (ended, ran_out), (Ok(0), false));
+                same(&rt, text.as_slice(), report.as_bytes());
+            }
+        }
+    }
+    Ok(())
+}
+
+/// The last file comes first: its lane has read three records when the others begin, and then pauses or not.
+#[test]
+fn the_last_file_may_come_first(rt: HostRuntime) -> Result<(), Fail> {
+    let report = report(rt.alloc(), 4)?;
+    for most in [0, usize::MAX] {
+        let (ended, text, ran_out) = run(&rt, (4, 4, 30), most, &OpenGate);
+        same(&rt, (ended, ran_out), (Ok(0), false));
+        same(&rt, text.as_slice(), report.as_bytes());
+    }
+    Ok(())
+}
+
+/// Counts the calls of first stages, and holds that of the record at place 300, which only the first file has, for so
+/// many turns that all other lanes have paused or ended. From then on it holds calls of the record at place 25 until
+/// `met` lanes have made one.
+#[derive(Drop)]
+struct HoldsFirst {
+    met: u32,
+    calls: AtomicU32,
+    seen: AtomicU32,
+    came: AtomicU32,
+    ran_out: AtomicBool,
+}
+
+impl HoldsFirst {
+    fn until(met: u32) -> HoldsFirst {
+        HoldsFirst {
+            met,
+            calls: AtomicU32::new(0),
+            seen: AtomicU32::new(0),
+            came: AtomicU32::new(0),
+            ran_out: AtomicBool::new(false),
+        }
+    }
+
+    fn hold(&self) {
+        for _ in 0..200_000 {
+            thread::yield_now();
+        }
+        self.seen
+            .store(self.calls.load(Ordering::SeqCst), Ordering::SeqCst);
+    }
+
+    fn meet(&self) {
+        self.came.fetch_add(1, Ordering::SeqCst);
+        if self.seen.load(Ordering::SeqCst) == 0 {
+            return;
+        }
+        for _ in 0..1_000_000 {
+            if self.came.load(Ordering::SeqCst) >= self.met {
+                return;
+            }
+            thread::yield_now();
+        }
+        self.ran_out.store(true, Ordering::SeqCst);
+    }
+}
+
+impl Gate for HoldsFirst {
+    fn pass(&self, _lane: u32, stage: Stage, ordinal: u32) {
+        if stage != Stage::Read {
+            return;
+        }
+        self.calls.fetch_add(1, Ordering::SeqCst);
+        match ordinal {
+            300 => self.hold(),
+            25 => self.meet(),
+            _ => {}
+        }
+    }
+}
+
+/// While the first file is held, the lanes of all others pause once a line waits, and go on afterwards.
+#[test]
+fn gate_holds_the_first_until_others_pause(rt: HostRuntime) -> Result<(), Fail> {
+    let report = report(rt.alloc(), 8)?;
+    for lanes in [2, 4, MAX_LANES] {
+        let gate = HoldsFirst::until(0);
+        let (ended, text, ran_out) = run(&rt, (8, lanes, 0), 1, &gate);
+        same(&rt, (ended, ran_out), (Ok(0), false));
+        same(&rt, text.as_slice(), report.as_bytes());
+        let most = AHEAD.saturating_mul(lanes).saturating_add(301);
+        same(&rt, gate.seen.load(Ordering::SeqCst) <= most, true);
+    }
+    Ok(())
+}
+
+/// Where the first file has ended there is room again: the lanes of both later files read at once, though each of them
+/// waits in one piece of 16,384 bytes, and no more than two pieces may wait.
+#[test]
+fn room_comes_where_a_file_ends(rt: HostRuntime) -> Result<(), Fail> {
+    let report = report(rt.alloc(), 3)?;
+    let gate = HoldsFirst::until(3);
+    let (ended, text, ran_out) = run(&rt, (3, 3, 0), 32_768, &gate);
+    same(&rt, (ended, ran_out), (Ok(0), false));
+    same(&rt, text.as_slice(), report.as_bytes());
+    same(&rt, gate.ran_out.load(Ordering::SeqCst), false);
+    Ok(())
+}
+
+/// A sink that fails while lanes pause ends the run. It is asked for more than it takes once the lines of some four hundred
+/// records have come.
+#[test]
+fn a_sink_may_fail_while_lanes_pause(rt: HostRuntime) {
+    for lanes in [2, 4, MAX_LANES] {
+        let (reads_of_last, ran_out) = (AtomicU32::new(0), AtomicBool::new(false));
+        let opener = Edges {
+            files: 8,
+            awaited: 0,
+            reads_of_last: &reads_of_last,
+            ran_out: &ran_out,
+        };
+        let gate = HoldsFirst::until(0);
+        let mut sink = IoSink::new(Narrow::new(100, 100, true));
+        let (alloc, choice, form) = (rt.alloc(), Choice::First, Form::Report);
+        let ended = write_batch(
+            &rt, alloc, &opener, 8, lanes, 1, 1, choice, form, &gate, &mut sink,
+        );
+        same(&rt, ended, Err(TextFault::Write));
+    }
+}
