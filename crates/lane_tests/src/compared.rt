@@ -1,5 +1,6 @@
 //! Comparisons that the tests share. (An `assert_eq!` in each place would make the tests' proofs several times as long.)
 
+use ruled_lanes::Closed;
 use std::fmt::Debug;
 use std::process::Abort;
 use std::thread::{JoinHandle, Threads};
@@ -7,6 +8,14 @@ use std::thread::{JoinHandle, Threads};
 /// Sees that two values are the same.
 pub(crate) fn same<T: PartialEq + Debug + Drop>(rt: &impl Abort, got: T, want: T) {
     assert_eq!(rt; got, want);
+}
+
+/// What a call on a link or a fan answered, or what it handed back where it was refused.
+pub(crate) fn answer<T, U>(got: Result<T, Closed<U>>) -> Result<T, U> {
+    match got {
+        Ok(value) => Ok(value),
+        Err(closed) => Err(closed.into_inner()),
+    }
 }
 
 /// Waits for a thread, whose number is to be one of these two or between them.

@@ -1,8 +1,8 @@
 ghost use Rattle.std.specs.Prelude.{◌≤◌};
 ghost use Rattle.ruled_lanes.specs.declared.limits.TheConstants.{MAX_CAPACITY};
 
-use crate::compared::{joins, same};
-use ruled_lanes::{Closed, Gatherer, LANES, LaneGiver, MAX_CAPACITY, Memory, fan_in};
+use crate::compared::{answer, joins, same};
+use ruled_lanes::{Gatherer, LANES, LaneGiver, MAX_CAPACITY, Memory, fan_in};
 use std::alloc::Global;
 use std::process::Abort;
 use std::sync::Wait;
@@ -26,7 +26,7 @@ fn refused_memory_is_told(rt: HostRuntime) {
     for (lane, item) in items {
         same(&rt, gatherer.take(&rt), Ok((lane as u32, item)));
     }
-    same(&rt, gatherer.take(&rt), Err(Closed(())));
+    same(&rt, answer(gatherer.take(&rt)), Err(()));
 }
 
 #[test]
@@ -34,15 +34,15 @@ fn the_gatherer_is_gone(rt: HostRuntime) {
     let (mut givers, gatherer) = fan_in(rt.alloc(), 4).expect(&rt, "memory");
     drop(gatherer);
     for giver in &mut givers {
-        same(&rt, giver.give(&rt, 7u32), Err(Closed(7)));
+        same(&rt, answer(giver.give(&rt, 7u32)), Err(7));
     }
 }
 
 // Gives the numbers below `count`, until one is refused: that one, or `count`.
 fn give_below(rt: &impl Wait, mut giver: LaneGiver<u32>, count: u32) -> u32 {
     for item in 0..count {
-        if let Err(Closed(refused)) = giver.give(rt, item) {
-            return refused;
+        if let Err(closed) = giver.give(rt, item) {
+            return closed.into_inner();
         }
     }
     count
@@ -76,7 +76,7 @@ fn take_all<R: Wait + Abort>(rt: &R, mut gatherer: Gatherer<u32>) {
         *due = due.saturating_add(1);
     }
     same(rt, next, [250; LANE_COUNT]);
-    same(rt, gatherer.take(rt), Err(Closed(())));
+    same(rt, answer(gatherer.take(rt)), Err(()));
 }
 
 // Each lane gives from a thread of its own, and the numbers of each come in order.

@@ -1,8 +1,8 @@
 ghost use Rattle.std.specs.Prelude.{◌≤◌};
 ghost use Rattle.ruled_lanes.specs.declared.limits.TheConstants.{MAX_CAPACITY};
 
-use crate::compared::{joins, same};
-use ruled_lanes::{Closed, Giver, MAX_CAPACITY, Memory, Taker, link};
+use crate::compared::{answer, joins, same};
+use ruled_lanes::{Giver, MAX_CAPACITY, Memory, Taker, link};
 use std::alloc::Global;
 use std::process::Abort;
 use std::sync::Wait;
@@ -15,14 +15,14 @@ fn take_below<R: Wait + Abort>(rt: &R, mut taker: Taker<u32>, count: u32) {
     for item in 0..count {
         same(rt, taker.take(rt), Ok(item));
     }
-    same(rt, taker.take(rt), Err(Closed(())));
+    same(rt, answer(taker.take(rt)), Err(()));
 }
 
 // Gives the numbers below `count`, until one is refused: that one, or `count`.
 fn give_below(rt: &impl Wait, mut giver: Giver<u32>, count: u32) -> u32 {
     for item in 0..count {
-        if let Err(Closed(refused)) = giver.give(rt, item) {
-            return refused;
+        if let Err(closed) = giver.give(rt, item) {
+            return closed.into_inner();
         }
     }
     count
@@ -39,7 +39,7 @@ fn the_giver_is_gone(rt: HostRuntime) {
 fn the_taker_is_gone(rt: HostRuntime) {
     let (mut giver, taker) = link(rt.alloc(), 4).expect(&rt, "memory");
     drop(taker);
-    same(&rt, giver.give(&rt, 7u32), Err(Closed(7)));
+    same(&rt, answer(giver.give(&rt, 7u32)), Err(7));
 }
 
 // A thousand numbers go from one thread to another.
@@ -85,7 +85,10 @@ fn refused_memory_is_told(rt: HostRuntime) {
 
 #[test]
 fn messages(rt: HostRuntime) {
-    let told = format!(in rt.alloc(); "{} {:?} {Memory}", Closed(3), Closed(3));
+    let (mut giver, taker) = link(rt.alloc(), 1).expect(&rt, "memory");
+    drop(taker);
+    let closed = giver.give(&rt, 3u32).expect_err(&rt, "no taker");
+    let told = format!(in rt.alloc(); "{closed} {closed:?} {Memory}");
     let told = told.expect(&rt, "memory");
     let wanted = "the other end of the channel is gone Closed(..) out of memory";
     same(&rt, told.as_str(), wanted);

@@ -1,12 +1,13 @@
 -- A pass that stands for more and more seats, from the last to the first.
-use Rattle.std.proofs.Common.{◌≡◌, ◌+◌, ◌<◌, ◌≤◌, min, subst, ℕ, List, [], ◌∷◌, ◌++◌, length, cond, count_by, sym, ap, ◌∙◌, append_assoc, append-nil, arith}
+use Rattle.std.proofs.Common.{◌≡◌, ◌+◌, ◌<◌, ◌≤◌, min, subst, ℕ, Bool, List, [], ◌∷◌, ◌++◌, length, cond, count_by, refl, All, sym, ap, ◌∙◌, append_assoc, append-nil, arith}
+use Rattle.std.proofs.lemmas.List.Elements.{All-head, All-tail}
 use Rattle.std.proofs.lemmas.List.Sums.{sum_by-cons}
 use Rattle.ruled_lanes.specs.declared.dealing.Seat.{Seat}
 use Rattle.ruled_lanes.specs.declared.ticket_rule.Draws.{Draws}
 use mathlib.Core.Option.{some}
 use lib.ListN.{get_elem?}
 use Rattle.ruled_lanes.specs.TicketRule.{draws, HasOnceBelow, IsDealt}
-use Rattle.ruled_lanes.specs.TicketSeats.{drawn, has_ended, all_drawn, IsPool}
+use Rattle.ruled_lanes.specs.TicketSeats.{drawn, has_ended, all_drawn, word_of, IsUnused, IsPool}
 use Rattle.ruled_lanes.proofs.Deals.{closes}
 
 -- of all seats the view stands for the last ones, and not for the first, the rest
@@ -49,3 +50,15 @@ tells key words views id v seats limit word h at pool many is here =
     let past = facts.2 in
     let bounded = facts.3 in
     (subst (λ n. HasOnceBelow (min word n) (all_drawn seats)) is once, omega arith, (λ some_ended. let reached : key.0 ≤ word = past (omega arith) in omega arith), omega arith)
+
+-- the word of seats that have drawn nothing and have not ended
+pub word_at_first : (seats : List Seat) → All IsUnused seats → word_of seats ≡ 0
+word_at_first [] unused = refl
+word_at_first (s ∷ seats) unused =
+    let first = All-head IsUnused s seats unused in
+    let rest = word_at_first seats (All-tail IsUnused s seats unused) in
+    let drawn_none : length (all_drawn (s ∷ seats)) ≡ length (all_drawn seats) = ap (λ l. length (l ++ all_drawn seats)) first.0 in
+    let ended : Bool → ℕ = λ b. cond b 1 0 in
+    let ended_none : ended (has_ended s) ≡ 0 = ap ended first.1 in
+    let more = sum_by-cons (λ (r : Seat). cond (has_ended r) 1 0) s seats in
+    omega (arith, drawn_none, ended_none, more, rest)

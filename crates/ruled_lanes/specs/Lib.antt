@@ -1,5 +1,6 @@
 pub mod FanEnds
 pub mod FanRule
+pub mod HandedBack
 pub mod LinkEnds
 pub mod LinkRule
 pub mod TicketRule

@@ -1,5 +1,5 @@
 -- What tickets and their seats know.
-use Rattle.std.specs.Prelude.{◌≡◌, ℕ, Bool, false, List, [], length, count_by}
+use Rattle.std.specs.Prelude.{◌≡◌, ◌+◌, ℕ, Bool, false, List, [], length, count_by}
 use Rattle.std.specs.List.{flat_map}
 use Rattle.atomic_table.specs.Seated.{TableId}
 use Rattle.ruled_lanes.specs.declared.dealing.Tickets.{Tickets}
@@ -25,6 +25,10 @@ has_ended s = s.has_ended
 -- the numbers that all of them drew
 abbrev pub all_drawn : List Seat → List ℕ
 all_drawn seats = flat_map drawn seats
+
+-- the word, as all seats know it: how many numbers they drew, and how many of them have ended
+abbrev pub word_of : List Seat → ℕ
+word_of seats = length (all_drawn seats) + count_by has_ended seats
 
 -- it has drawn nothing and has not ended
 abbrev pub IsUnused : Seat → Type 0

@@ -2,10 +2,23 @@
 use std::fmt;
 use thiserror::Error;
 
-/// The other end is gone. A refused give hands its item back in it, a refused take the empty value.
+/// The other end is gone. A refused give hands its item back in it, a refused take the empty value. Only the ends
+/// of links and fans make one, so who has one was refused.
 #[derive(Clone, PartialEq, Eq, Drop, Error)]
 #[error("the other end of the channel is gone")]
-pub struct Closed<T>(pub T);
+pub struct Closed<T>(pub(crate) T);
+
+impl<T> Closed<T> {
+    ghost use Rattle.std.specs.Prelude.{◌≡◌};
+    ghost use Rattle.ruled_lanes.specs.HandedBack.{handed_back};
+
+    /// What it hands back.
+    pub fn into_inner(self) -> T
+        ensures { result ≡ handed_back self }
+    {
+        self.0
+    }
+}
 
 impl<T> fmt::Debug for Closed<T> {
     fn fmt<W: fmt::Write>(&self, f: &mut fmt::Formatter<W>) -> fmt::Result {

@@ -37,6 +37,7 @@ impl<T: Drop> LaneGiver<T> {
     ghost use Rattle.std.specs.Prelude.{◌∷◌, ◌++◌, [], OnOk, OnErr, IfErr};
     ghost use Rattle.crossbeam_channel.specs.Err.{try_send_message};
     ghost use Rattle.ruled_lanes.specs.FanEnds.{lane_of, given_at, GivesToSameLane};
+    ghost use Rattle.ruled_lanes.specs.HandedBack.{handed_back};
 
     // The end of a channel that sends, with the pass of one lane.
     pub(crate) fn of(
@@ -76,7 +77,7 @@ impl<T: Drop> LaneGiver<T> {
         ensures lane { GivesToSameLane self.old self.new }
         ensures ok { OnOk result (given_at self.new ≡ given_at self.old ++ item ∷ []) }
         ensures refused { OnErr result (given_at self.new ≡ given_at self.old) }
-        ensures item { IfErr result (λ e. e.0 ≡ item) }
+        ensures item { IfErr result (λ closed. handed_back closed ≡ item) }
     {
         match self
             .sender
@@ -98,7 +99,7 @@ impl<T: Drop> LaneGiver<T> {
         ensures lane { GivesToSameLane self.old self.new }
         ensures ok { OnOk result (given_at self.new ≡ given_at self.old ++ item ∷ []) }
         ensures refused { OnErr result (given_at self.new ≡ given_at self.old) }
-        ensures item { IfErr result (λ e. e.0 ≡ item) }
+        ensures item { IfErr result (λ closed. handed_back closed ≡ item) }
     {
         let mut held = item;
         for tried in 0..TRIES {

@@ -31,6 +31,7 @@ pub struct Taker<T: Drop> {
 impl<T: Drop> Giver<T> {
     ghost use Rattle.std.specs.Prelude.{◌∷◌, ◌++◌, OnOk, OnErr, IfErr};
     ghost use Rattle.crossbeam_channel.specs.Err.{try_send_message};
+    ghost use Rattle.ruled_lanes.specs.HandedBack.{handed_back};
     ghost use Rattle.ruled_lanes.specs.LinkEnds.{given, GivesToSame};
 
     // The end of a channel that sends, with the pass that may.
@@ -58,7 +59,7 @@ impl<T: Drop> Giver<T> {
         ensures link { GivesToSame self.old self.new }
         ensures ok { OnOk result (given self.new ≡ given self.old ++ item ∷ []) }
         ensures refused { OnErr result (given self.new ≡ given self.old) }
-        ensures item { IfErr result (λ e. e.0 ≡ item) }
+        ensures item { IfErr result (λ closed. handed_back closed ≡ item) }
     {
         match self.sender.send_as::<Gives, R>(rt, &mut self.pass, item) {
             Ok(()) => Ok(()),
@@ -76,7 +77,7 @@ impl<T: Drop> Giver<T> {
         ensures link { GivesToSame self.old self.new }
         ensures ok { OnOk result (given self.new ≡ given self.old ++ item ∷ []) }
         ensures refused { OnErr result (given self.new ≡ given self.old) }
-        ensures item { IfErr result (λ e. e.0 ≡ item) }
+        ensures item { IfErr result (λ closed. handed_back closed ≡ item) }
     {
         let mut held = item;
         for tried in 0..TRIES {
