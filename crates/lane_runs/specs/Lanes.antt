@@ -1,11 +1,13 @@
 -- What the threads of a lane give back.
-use Rattle.std.specs.Prelude.{◌≡◌, ◌⊎◌, ◌++◌, ◌∷◌, ℕ, List, [], true, Result, Err, IfOk}
+use Rattle.std.specs.Prelude.{◌≡◌, ◌++◌, ◌∷◌, ℕ, List, [], true, Result, IfOk, IfErr, OnOk}
 use Rattle.choices.specs.declared.Choice.{Choice}
 use Rattle.ruled_lanes.specs.declared.link_ends.Giver.{Giver}
 use Rattle.ruled_lanes.specs.declared.link_ends.Taker.{Taker}
 use Rattle.ruled_lanes.specs.declared.fan_ends.LaneGiver.{LaneGiver}
 use Rattle.ruled_lanes.specs.declared.dealing.Tickets.{Tickets}
 use Rattle.ruled_lanes.specs.declared.dealing.Seat.{Seat}
+use Rattle.ruled_lanes.specs.declared.errors.Closed.{Closed}
+use Rattle.ruled_lanes.specs.HandedBack.{handed_back}
 use Rattle.ruled_lanes.specs.LinkEnds.{given, taken, room_of, AreEnds, GivesToSame}
 use Rattle.ruled_lanes.specs.FanEnds.{given_at, GivesToSameLane}
 use Rattle.ruled_lanes.specs.TicketSeats.{drawn, has_ended, IsSeatOf, IsUnused}
@@ -16,7 +18,6 @@ use Rattle.lanes.specs.Notes.{About, Note, notes, GoOn, IsStopped}
 use Rattle.lanes.specs.Opening.{Meaning}
 use Rattle.lanes.specs.Files.{HasDrawn, TellsDrawn}
 use Rattle.lane_runs.specs.declared.fault.LaneFault.{LaneFault}
-use Rattle.lane_runs.specs.declared.fault.LaneFault.TheVariants.{StopRefused}
 
 module _ {A : Type 0} where
   -- both ends of a link that has room for so many messages, and that nothing has passed
@@ -60,12 +61,13 @@ module _ {A M : Type 0} where
     pub to_same : GivesToSame giver after
     pub tells : TellsSeat about choice meaning tickets seat (given after)
 
-  -- what a lane gives back: the end of its own lane, where one stop came last, whatever the lane met, or none where it was
-  -- refused; and its seat where nothing was lost
-  pub record EndsLane (about : A → About) (choice : Choice) (meaning : ℕ → Meaning) (tickets : Tickets) (giver after : LaneGiver (Message A M)) (seat : Result Seat LaneFault) : Type 0 where
+  -- what a lane gives back: the end of its own lane, where one stop came last, whatever the lane met, or none where a give of the
+  -- stop was refused; and where it was not, its seat if nothing was lost
+  pub record EndsLane {R : Type 0} (about : A → About) (choice : Choice) (meaning : ℕ → Meaning) (tickets : Tickets) (giver after : LaneGiver (Message A M)) (stop : Result R (Closed (Message A M))) (seat : Result Seat LaneFault) : Type 0 where
     pub to_same : GivesToSameLane giver after
-    pub stopped : IsStopped (notes about (given_at after)) ⊎ ((seat ≡ Err StopRefused) × GoOn (notes about (given_at after)))
-    pub tells : IfOk seat (λ s. TellsSeat about choice meaning tickets s (given_at after))
+    pub stopped : OnOk stop (IsStopped (notes about (given_at after)))
+    pub refused : IfErr stop (λ closed. (handed_back closed ≡ Stop) × GoOn (notes about (given_at after)))
+    pub tells : OnOk stop (IfOk seat (λ s. TellsSeat about choice meaning tickets s (given_at after)))
 
 -- so far all is told of the files that were drawn, and there was no stop
 pub record HasTold (choice : Choice) (meaning : ℕ → Meaning) (drawn : List ℕ) (ns : List Note) : Type 0 where

@@ -10,8 +10,6 @@ pub enum LaneFault {
     LaneLost,
     /// A thread could not be started.
     Thread,
-    /// The gatherer was gone, so that the stop of the lane was refused.
-    StopRefused,
 }
 
 /// Why a run of lanes came to nothing.
@@ -33,7 +31,7 @@ impl<F: Drop> From<LaneFault> for RunFault<F> {
     {
         match fault {
             LaneFault::Memory => RunFault::Memory,
-            LaneFault::LaneLost | LaneFault::StopRefused => RunFault::LaneLost,
+            LaneFault::LaneLost => RunFault::LaneLost,
             LaneFault::Thread => RunFault::Thread,
         }
     }

@@ -42,7 +42,11 @@ fn join_lanes<E: Numbered, M: Drop + Send, R: Threads + Wait + Sync, O: Opener, 
         return Err(LaneFault::Memory);
     };
     for handle in running {
-        let LaneEnd { giver, seat } = handle.join(setting.rt);
+        let LaneEnd { giver, stop, seat } = handle.join(setting.rt);
+        match stop {
+            Ok(()) => {}
+            Err(_) => return Err(LaneFault::LaneLost),
+        }
         let seat = seat?;
         match seats.push(seat) {
             Ok(()) => {}

@@ -22,8 +22,7 @@ use streams::piece_buffer;
 
 /// Runs a lane: its last stage on the caller's thread, the others in a thread each. What the last stage
 /// makes of each record, and the end of each file, go to the giver, and after them, whatever the lane met,
-/// one stop; a lane whose stop was refused says so. The
-/// giver is given back once the other threads have ended.
+/// one stop; what the give of it answered is given back, with the giver, once the other threads have ended.
 pub fn run_lane<L: LaneKind, R: Threads + Wait + Sync, O: Opener, G: Gate>(
     setting: &Setting<'_, R, O, G>,
     seat: Seat,
@@ -33,29 +32,28 @@ pub fn run_lane<L: LaneKind, R: Threads + Wait + Sync, O: Opener, G: Gate>(
     requires unused { IsUnused seat }
     requires none_given { given_at giver ≡ [] }
     requires takes { TakesFiles L.takes L.ends (O.meaning setting.now.opener.now) }
-    ensures { EndsLane L.Entry.about setting.now.choice (O.meaning setting.now.opener.now) setting.now.tickets.now giver result.giver result.seat }
+    ensures { EndsLane L.Entry.about setting.now.choice (O.meaning setting.now.opener.now) setting.now.tickets.now
+        giver result.giver result.stop result.seat }
 {
-    let LaneEnd { mut giver, seat } = thread::scope(
+    let (mut giver, seat) = thread::scope(
         thread::scope_env(),
         setting.rt,
-        move |scope| -> LaneEnd<L::Entry, L::End>
+        move |scope| -> (
+            LaneGiver<Message<L::Entry, L::End>>,
+            Result<Seat, LaneFault>,
+        )
             requires { StartsLane setting.now.tickets.now seat giver
                 × TakesFiles L.takes L.ends (O.meaning setting.now.opener.now) }
             ensures { LeavesLane L.Entry.about setting.entry.now.choice (O.meaning setting.entry.now.opener.now) setting.entry.now.tickets.now
-                giver result.giver result.seat }
+                giver result.0 result.1 }
         {
             let mut giver = giver;
             let seat = run_stages::<_, L, _, _, _>(scope, setting, seat, &mut giver);
-            LaneEnd { giver, seat }
+            (giver, seat)
         },
     );
-    match giver.give(setting.rt, Message::Stop) {
-        Ok(()) => LaneEnd { giver, seat },
-        Err(_) => LaneEnd {
-            giver,
-            seat: Err(LaneFault::StopRefused),
-        },
-    }
+    let stop = giver.give(setting.rt, Message::Stop);
+    LaneEnd { giver, stop, seat }
 }
 
 /// Makes the links of a lane, starts its first stages and runs the last one. The stop is the caller's to

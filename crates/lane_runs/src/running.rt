@@ -5,14 +5,17 @@ ghost use Rattle.lane_runs.specs.Lanes.{EndsLane};
 use crate::fault::LaneFault;
 use choices::Choice;
 use lanes::{Message, Numbered, Opener};
-use ruled_lanes::{LaneGiver, Seat, Tickets};
+use ruled_lanes::{Closed, LaneGiver, Seat, Tickets};
 use std::snapshot::Snapshot;
 use std::thread::{Promise, PromisedHandle};
 
-/// What the thread of a lane gives back: in any case the end at which it gave, and its seat or what it met.
+/// What the thread of a lane gives back: in any case the end at which it gave, what the give of its stop answered,
+/// and its seat or what it met.
 #[derive(Drop)]
 pub struct LaneEnd<E: Numbered, M: Drop + Send> {
     pub giver: LaneGiver<Message<E, M>>,
+    /// Only a give that was refused makes the error, so that no lane can leave its stop untried.
+    pub stop: Result<(), Closed<Message<E, M>>>,
     pub seat: Result<Seat, LaneFault>,
 }
 
@@ -26,7 +29,7 @@ pub struct LanePromise<E: Numbered, M: Drop + Send, O: Opener> {
 }
 
 impl<E: Numbered, M: Drop + Send, O: Opener> Promise<LaneEnd<E, M>> for LanePromise<E, M, O> {
-    ghost kept_by = { λ p end. EndsLane E.about p.choice (O.meaning p.opener.value) p.tickets.value p.giver.value end.giver end.seat };
+    ghost kept_by = { λ p end. EndsLane E.about p.choice (O.meaning p.opener.value) p.tickets.value p.giver.value end.giver end.stop end.seat };
 }
 
 /// A lane that runs.

@@ -1,4 +1,4 @@
-use Rattle.std.proofs.Common.{rules, ◌≡◌, ◌+◌, ◌++◌, ◌∷◌, [], All, length, true, vec_len, IfOk, arith, refl, ap, sym, subst, ◌∙◌, append-nil, append_assoc, length-append}
+use Rattle.std.proofs.Common.{rules, ◌≡◌, ◌+◌, ◌++◌, ◌∷◌, [], All, length, true, vec_len, IfOk, OnOk, arith, refl, ap, sym, subst, ◌∙◌, append-nil, append_assoc, length-append}
 use Rattle.std.proofs.lemmas.List.Elements.{All-nil, All-push}
 use Rattle.ruled_lanes.specs.FanEnds.{given_at, gathered}
 use Rattle.ruled_lanes.specs.TicketSeats.{has_ended, IsSeatOf}
@@ -29,7 +29,8 @@ loop-handle-preserved g c =
     let before = c.loop-handle.seats.items in
     let rest = numbered_as _ (vec_len c.loop-handle.seats) (0 + length before) _ _ (omega arith) c.in-Some.ensures.steps.0 inv.rest in
     let tells : TellsSeat about promise.choice (meaning promise.opener.value) promise.tickets.value seat (given_at giver) =
-    subst (λ r. IfOk r (λ s. TellsSeat about promise.choice (meaning promise.opener.value) promise.tickets.value s (given_at giver))) c.in_ok-seat.was c.join-giver.ensures.tells in
+    subst (λ r. IfOk r (λ s. TellsSeat about promise.choice (meaning promise.opener.value) promise.tickets.value s (given_at giver))) c.in_ok-seat.was
+    (subst (λ r. OnOk r (IfOk c.join-giver.result.seat (λ s. TellsSeat about promise.choice (meaning promise.opener.value) promise.tickets.value s (given_at giver)))) c.in-Ok-stop.is c.join-giver.ensures.tells) in
     let has : HasRun about c.args.setting.now.choice (meaning c.args.setting.now.opener.now) c.args.setting.now.tickets.now c.args.gatherer (0 + length before) giver seat =
     has_run about meaning _ _ _ _ _ _ _ _ promise.giver.value giver seat rest.0 c.join-giver.ensures.to_same tells in
     record {
