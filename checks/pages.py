@@ -55,6 +55,8 @@ class Tree:
             place = os.path.relpath(folder, ROOT)
             self.folders.add(place)
             self.files.update(os.path.normpath(os.path.join(place, name)) for name in names)
+        self.ends = {"/".join(place.split("/")[at:]) for place in self.files | self.folders
+                     for at in range(place.count("/") + 1)}
         self.words = {crate: self.words_of_crate(crate) for crate in self.crates}
         scripts = [file for file in self.files if file.split("/")[0] in ("checks", "bench", "examples", "start")
                    and not file.endswith((".md", ".pc")) and not file.startswith("checks/pages")]
@@ -86,8 +88,7 @@ class Tree:
 
     def has_path(self, name):
         """Whether some file or folder of the tree ends so."""
-        name = name.removeprefix("./").rstrip("/")
-        return any(place == name or place.endswith("/" + name) for places in (self.files, self.folders) for place in places)
+        return name.removeprefix("./").rstrip("/") in self.ends
 
     def has(self, word, crates):
         """Whether a word is one of these crates, or where these are all, of scripts; or a word of other programs. A
