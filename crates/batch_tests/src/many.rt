@@ -2,8 +2,10 @@
 ghost use Rattle.std.specs.Prelude.{◌≤◌};
 ghost use Rattle.ruled_lanes.specs.declared.limits.TheConstants.{MAX_CAPACITY};
 
-use crate::shared::{report_of, same};
-use collector::{Choice, MAX_LANES, MemOpener, OpenGate, run_batch, run_plain};
+use crate::shared::{opener_of, report_of, same, text_of_lanes};
+use collector::{
+    Choice, Form, IoSink, MAX_LANES, MemOpener, OpenGate, run_batch, run_plain, write_json,
+};
 use std::alloc::{AllocError, Global};
 use std::process::Abort;
 use std::sync::Wait;
@@ -68,6 +70,60 @@ fn reports_64_files_the_same_over_lanes(rt: HostRuntime) -> Result<(), Fail> {
     for lanes in 1..=MAX_LANES {
         check_lanes(&rt, &opener, 64, lanes, 1, report.as_slice())?;
         check_lanes(&rt, &opener, 64, lanes, MAX_CAPACITY, report.as_slice())?;
+    }
+    Ok(())
+}
+
+/// An edge, the complete graph on four vertices in a rotation of another surface, two edges apart, a triangle, and a
+/// record that is cut off.
+const MIXED: &[u8] = b">>planar_code<<\x02\x02\x00\x01\x00\
+    \x04\x03\x04\x02\x00\x01\x04\x03\x00\x02\x04\x01\x00\x01\x02\x03\x00\
+    \x04\x02\x00\x01\x00\x04\x00\x03\x00\
+    \x03\x02\x03\x00\x03\x01\x00\x01\x02\x00\
+    \x02\x00";
+
+const OF_MIXED: &[u8] = b"file 1\n\
+    graph 1 ok n=2 m=1 f=1 bends=0 drawn=yes\n\
+    graph 2 refused genus\n\
+    graph 3 refused disconnected\n\
+    graph 4 ok n=3 m=3 f=2 bends=1 drawn=yes\n\
+    end truncated graphs=4\n";
+
+/// One file over four lanes, read two bytes at a time.
+#[test]
+fn reports_one_file_over_four_lanes(rt: HostRuntime) -> Result<(), Fail> {
+    let opener = opener_of(rt.alloc(), &[MIXED], 2)?;
+    check_lanes(&rt, &opener, 1, 4, 1, OF_MIXED)
+}
+
+/// So many files, which are in turn of one triangle, of graphs of several kinds, and of no header.
+fn different(alloc: Global, count: u32) -> Result<MemOpener, AllocError> {
+    let kinds: [&[u8]; 3] = [TRIANGLE, MIXED, b"planar_code"];
+    let mut files = Vec::new(alloc);
+    for place in 0..count {
+        files.push(kinds[(place % 3) as usize].to_vec(alloc)?)?;
+    }
+    Ok(MemOpener::new(files, 7))
+}
+
+/// The JSON lines of the books of a run on one thread.
+fn lines_of_books(alloc: Global, opener: &MemOpener, files: u32) -> Option<Vec<u8>> {
+    let batch = run_plain(alloc, opener, files, Choice::First).ok()?;
+    let mut sink = IoSink::new(Vec::new(alloc));
+    write_json(alloc, &batch, &mut sink).ok()?;
+    Some(sink.into_writer())
+}
+
+/// JSON lines that leave as they are made over any number of lanes are those of the books of one thread.
+#[test]
+fn json_lines_are_those_of_books(rt: HostRuntime) -> Result<(), Fail> {
+    let opener = different(rt.alloc(), 48)?;
+    let due = lines_of_books(rt.alloc(), &opener, 48).ok_or("no lines")?;
+    let lines = due.as_slice().split(|byte| *byte == b'\n').count();
+    same(&rt, lines, 16 * 2 + 16 * 5 + 16 + 1);
+    for lanes in 1..=MAX_LANES {
+        let found = text_of_lanes(&rt, &opener, 48, lanes, Form::Json).ok_or("no text")?;
+        same(&rt, found.as_slice() == due.as_slice(), true);
     }
     Ok(())
 }

@@ -192,14 +192,12 @@ fn check_counts<R: AllocGlobal + Threads + Wait + Sync + Abort>(
     rt: &R,
     files: &[&[u8]],
     report: &str,
-    count: u32,
+    count: usize,
 ) -> Result<(), Fail> {
     for way in WAYS {
         let counts = Counts::new();
         check(rt, way, files, 1, &counts, report)?;
-        for stage in [Stage::Read, Stage::Embed, Stage::Shape, Stage::Draw] {
-            same(rt, (stage, counts.passed(stage)), (stage, count));
-        }
+        check_passed(rt, &counts, count);
     }
     Ok(())
 }
@@ -235,9 +233,15 @@ fn refuses_bad_numbers(rt: HostRuntime) -> Result<(), Fail> {
     same(&rt, fault_of(&rt, 257, 0), Some(BatchFault::TooManyFiles));
     same(&rt, fault_of(&rt, 256, 9), Some(BatchFault::BadLanes));
     same(&rt, fault_of(&rt, 256, 0), Some(BatchFault::BadLanes));
-    for way in WAYS {
-        check(&rt, way, &[], 1, &OpenGate, "")?;
-        check(&rt, way, &[], 8, &OpenGate, "")?;
+    Ok(())
+}
+
+#[test]
+fn no_files_have_an_empty_report(rt: HostRuntime) -> Result<(), Fail> {
+    for lanes in 1..=MAX_LANES {
+        for way in WAYS {
+            check(&rt, way, &[], lanes, &OpenGate, "")?;
+        }
     }
     Ok(())
 }
@@ -515,9 +519,9 @@ fn gate_holds_deal(rt: HostRuntime) -> Result<(), Fail> {
 /// The numbers of vertices, edges, faces and bends of a drawn record.
 type Sizes = (u32, u32, u32, u32);
 
-/// The answer is these sizes and a drawing, or tells want of memory.
-fn is_allowed(answer: &Answer, sizes: Sizes) -> bool {
-    match answer {
+/// How many wants of memory an answer tells, which is else a drawing of these sizes.
+fn wants_of(rt: &impl Abort, answer: &Answer, sizes: Sizes) -> usize {
+    let found = match answer {
         Answer::Laid {
             plane,
             shape,
@@ -531,45 +535,55 @@ fn is_allowed(answer: &Answer, sizes: Sizes) -> bool {
                 u32::from(plane.face_count()),
                 shape.bends(),
             );
-            found == sizes && drawing.is_ok()
+            drawing.is_ok().then_some(found)
         }
-        Answer::Refused(_) => false,
-        Answer::NoMemory => true,
-    }
+        Answer::Refused(_) => None,
+        Answer::NoMemory => return 1,
+    };
+    same(rt, found, Some(sizes));
+    0
 }
 
-/// The book is of these records and has this mark, or tells want of memory after a beginning of them.
-fn check_book(rt: &impl Abort, book: &Book, records: &[Sizes], mark: Mark) {
+/// How many wants of memory a book tells, by an answer or by its mark, and how many entries it has. It is else of these
+/// records and has this mark.
+fn wants_in(rt: &impl Abort, book: &Book, records: &[Sizes], mark: Mark) -> (usize, usize) {
     let entries = book.entries();
+    let mut wants: usize = 0;
+    for (entry, sizes) in entries.iter().zip(records) {
+        wants = wants.saturating_add(wants_of(rt, &entry.answer, *sizes));
+    }
     if book.mark() == mark {
         same(rt, entries.len(), records.len());
     } else {
         same(rt, book.mark(), Mark::Ended(Ending::Memory));
-        assert!(rt; entries.len() <= records.len());
+        same(rt, entries.len() <= records.len(), true);
+        wants = wants.saturating_add(1);
     }
-    for (entry, sizes) in entries.iter().zip(records) {
-        assert!(rt; is_allowed(&entry.answer, *sizes));
-    }
+    (wants, entries.len())
 }
 
-/// The books are those of two triangles, of an edge in front of a cut record and of no record, or tell want
-/// of memory.
-fn check_books(rt: &impl Abort, batch: &Batch) {
+/// The books are those of two triangles, of an edge in front of a cut record and of no record, but for one place at
+/// most, which tells want of memory. Answers how many entries they have.
+fn check_books(rt: &impl Abort, batch: &Batch) -> usize {
     assert!(rt; batch.files() == 3);
     let complete = Mark::Ended(Ending::Complete);
     let triangle = (3, 3, 2, 1);
-    check_book(rt, batch.book(0), &[triangle, triangle], complete);
+    let first = wants_in(rt, batch.book(0), &[triangle, triangle], complete);
     let cut = Mark::Ended(Ending::Truncated);
-    check_book(rt, batch.book(1), &[(2, 1, 1, 0)], cut);
-    check_book(rt, batch.book(2), &[], complete);
+    let second = wants_in(rt, batch.book(1), &[(2, 1, 1, 0)], cut);
+    let third = wants_in(rt, batch.book(2), &[], complete);
+    let wants = first.0.saturating_add(second.0).saturating_add(third.0);
+    same(rt, wants <= 1, true);
+    first.1.saturating_add(second.1).saturating_add(third.1)
 }
 
-/// A run over lanes, and how many sources were opened and let go.
-fn counted_run<R: AllocGlobal + Threads + Wait + Sync>(
+/// A run over lanes behind a gate, and how many sources were opened and let go.
+fn counted_run<R: AllocGlobal + Threads + Wait + Sync, G: Gate>(
     rt: &R,
     files: MemOpener,
     count: u32,
     lanes: u32,
+    gate: &G,
 ) -> (Result<Batch, BatchFault>, (u32, u32)) {
     let (opened, dropped) = (AtomicU32::new(0), AtomicU32::new(0));
     let opener = Counting {
@@ -585,7 +599,7 @@ fn counted_run<R: AllocGlobal + Threads + Wait + Sync>(
         lanes,
         1,
         Choice::First,
-        &OpenGate,
+        gate,
     );
     (
         run,
@@ -596,18 +610,27 @@ fn counted_run<R: AllocGlobal + Threads + Wait + Sync>(
     )
 }
 
-/// With each allocation refused in turn, an answer, a mark or a fault says so. Where it was to start a
-/// thread, the fault names that instead; a lane's own fault arrives, so none is told as a lost lane.
+/// With each allocation refused in turn, one answer or one mark says so and all else is as ever, or a fault does. Where
+/// it was to start a thread, the fault names that instead; a lane's own fault arrives, so none is told as a lost lane.
+/// Each record that is booked has passed the gate once at each stage, whether or not memory was wanting for it.
 #[test]
 fn names_want_of_memory(rt: HostRuntime) {
     let Ok(files) = opener_of(rt.alloc(), &[TRIANGLES, CUT, HEADER], 1) else {
         return;
     };
-    let (run, (opened, dropped)) = counted_run(&rt, files, 3, 2);
+    let counts = Counts::new();
+    let (run, (opened, dropped)) = counted_run(&rt, files, 3, 2, &counts);
     same(&rt, opened, dropped);
     match run {
-        Ok(batch) => check_books(&rt, &batch),
+        Ok(batch) => check_passed(&rt, &counts, check_books(&rt, &batch)),
         Err(fault) => assert!(rt; fault == BatchFault::Memory || fault == BatchFault::Thread),
+    }
+}
+
+/// Each stage has passed the gate so often.
+fn check_passed(rt: &impl Abort, counts: &Counts, count: usize) {
+    for stage in [Stage::Read, Stage::Embed, Stage::Shape, Stage::Draw] {
+        same(rt, (stage, counts.passed(stage) as usize), (stage, count));
     }
 }
 
@@ -709,7 +732,7 @@ fn check_let_go<R: AllocGlobal + Threads + Wait + Sync + Abort>(
     lanes: u32,
 ) -> Result<(), Fail> {
     let files = opener_of(rt.alloc(), &[TRIANGLES, CUT, b"planar_code", LARGE], 1)?;
-    let (run, counts) = counted_run(rt, files, 6, lanes);
+    let (run, counts) = counted_run(rt, files, 6, lanes, &OpenGate);
     same(rt, counts, (5, 5));
     check_report(rt, &run?, OF_FAULTS.as_bytes())
 }

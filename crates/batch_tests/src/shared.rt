@@ -3,8 +3,8 @@
 ghost use Rattle.std.specs.Prelude.{◌<◌};
 
 use collector::{
-    Batch, Choice, Form, Gate, IoSink, MemOpener, WriteFault, run_batch, run_plain, write_batch,
-    write_report,
+    Batch, Choice, Form, Gate, IoSink, MemOpener, OpenGate, WriteFault, run_batch, run_plain,
+    write_batch, write_report,
 };
 use std::alloc::{AllocError, Global};
 use std::fmt::Debug;
@@ -123,6 +123,33 @@ fn lanes_text<R: AllocGlobal + Threads + Wait + Sync, G: Gate>(
         choice,
         form,
         gate,
+        &mut sink,
+    )
+    .ok()?;
+    Some(sink.into_writer())
+}
+
+/// The text in this form of a run over so many files of an opener, as it is made.
+pub(crate) fn text_of_lanes<R: AllocGlobal + Threads + Wait + Sync>(
+    rt: &R,
+    opener: &MemOpener,
+    files: u32,
+    lanes: u32,
+    form: Form,
+) -> Option<Vec<u8>> {
+    let (alloc, choice) = (rt.alloc(), Choice::First);
+    let mut sink = IoSink::new(Vec::new(alloc));
+    write_batch(
+        rt,
+        alloc,
+        opener,
+        files,
+        lanes,
+        1,
+        usize::MAX,
+        choice,
+        form,
+        &OpenGate,
         &mut sink,
     )
     .ok()?;

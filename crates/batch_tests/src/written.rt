@@ -23,7 +23,7 @@ const TRIANGLE: &[u8] = b"\x03\x02\x03\x00\x03\x01\x00\x01\x02\x00";
 
 /// Records, each with what its line says after the number. The bends of the octahedron, which has six
 /// vertices, are the distances of its inner faces from the outer one: 1, 1, 1, 2, 2, 2 and 3.
-const RECORDS: [(&[u8], &str); 15] = [
+const RECORDS: [(&[u8], &str); 17] = [
     (EDGE, "ok n=2 m=1 f=1 bends=0 drawn=yes"),
     (b"\x01\x00", "refused edgeless"),
     (b"\x02\x00\x00", "refused edgeless"),
@@ -58,6 +58,16 @@ const RECORDS: [(&[u8], &str); 15] = [
     ),
     // A vertex past the last one stands in one list, and a vertex in its own.
     (b"\x02\x03\x00\x02\x00", "refused range"),
+    // A cycle of four.
+    (
+        b"\x04\x02\x04\x00\x03\x01\x00\x04\x02\x00\x01\x03\x00",
+        "ok n=4 m=4 f=2 bends=0 drawn=yes",
+    ),
+    // A cube.
+    (
+        b"\x08\x02\x05\x04\x00\x03\x06\x01\x00\x04\x07\x02\x00\x01\x08\x03\x00\x01\x06\x08\x00\x02\x07\x05\x00\x03\x08\x06\x00\x04\x05\x07\x00",
+        "ok n=8 m=12 f=6 bends=4 drawn=yes",
+    ),
 ];
 
 fn joined(alloc: Global, parts: &[&[u8]]) -> Result<Vec<u8>, AllocError> {

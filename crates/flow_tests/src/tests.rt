@@ -87,6 +87,37 @@ fn units_take_the_free_way_first(rt: HostRuntime) -> Result<(), Fail> {
     Ok(())
 }
 
+/// So many units at one node, 1,000 at most, which go through a second one and from there by an arc each to as many
+/// others. Every second arc is dear.
+fn fountain(alloc: Global, units: u32) -> Result<Result<Network, NetFault>, AllocError> {
+    let units = units.min(1000);
+    let mut supplies = vec![in alloc; -1i32; units as usize + 2]?;
+    supplies[0] = units as i32;
+    supplies[1] = 0;
+    let mut arcs = Vec::new(alloc);
+    arcs.push((0, 1, Cap::Any, 0))?;
+    for end in 2..units + 2 {
+        arcs.push((1, end, Cap::AtMost(1), end % 2))?;
+    }
+    network(alloc, &supplies, &arcs)
+}
+
+/// Each search finds one unit's end. It scans the first node, which has one residual arc, and the second one, which
+/// has one for each unit and one back: so it looks at two more than there are units, whichever end it finds.
+#[test]
+fn looks_are_told_exactly(rt: HostRuntime) -> Result<(), Fail> {
+    for (units, looks) in [(1, 3), (9, 99), (10, 120), (300, 90_600), (1000, 1_002_000)] {
+        let network = fountain(rt.alloc(), units)??;
+        let solved = solve(rt.alloc(), &network)?;
+        same(
+            &rt,
+            (units, solved.searches(), solved.looks()),
+            (units, units, looks),
+        );
+    }
+    Ok(())
+}
+
 /// Supplies, arcs, and the least cost, or none where there is no flow.
 const COSTS: [(&[i32], &[(u32, u32, Cap, u32)], Option<u64>); 13] = [
     (&[1, -1], &[], None),

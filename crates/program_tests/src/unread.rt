@@ -1,7 +1,12 @@
-//! Runs of `layout` on several files of which one cannot be read. The texts come from the description of the report.
+//! Runs of `layout` on files without records, and on several files of which one cannot be read. The texts come from the
+//! description of the report.
 
 use crate::shared::{EDGE, HEADER, TRIANGLE, check, write_parts};
+use std::process::Abort;
+use std::rt::Files;
+use std::sync::Wait;
 use std::test::Fail;
+use std::thread::Threads;
 
 const MISSING_LAST: &str = "file 1\n\
     graph 1 ok n=2 m=1 f=1 bends=0 drawn=yes\n\
@@ -28,4 +33,38 @@ fn a_missing_file_leaves_the_other(rt: HostRuntime) -> Result<(), Fail> {
         check(&rt, &words, MISSING_FIRST, 3)?;
     }
     Ok(())
+}
+
+/// Of a missing file and one that is the header alone, both have their ends.
+#[test]
+fn a_missing_file_leaves_one_without_records(rt: HostRuntime) -> Result<(), Fail> {
+    write_parts(&rt, "header.pc", &[HEADER])?;
+    let report = "file 1\nend io graphs=0\nfile 2\nend complete graphs=0\n";
+    check(&rt, &["layout", "missing.pc", "header.pc"], report, 3)
+}
+
+/// The report of one file without records, which ends so, is the same under either choice of the outer face.
+fn check_end<R: Files + AllocGlobal + Threads + Wait + Sync + Abort>(
+    rt: &R,
+    bytes: &[u8],
+    report: &str,
+    status: u8,
+) -> Result<(), Fail>
+where
+    R::File: Send,
+    R::Dir: Send,
+{
+    write_parts(rt, "front.pc", &[bytes])?;
+    for choice in ["--outer=first", "--outer=best"] {
+        check(rt, &["layout", choice, "front.pc"], report, status)?;
+    }
+    Ok(())
+}
+
+/// An empty file, the header without its last byte, and the header.
+#[test]
+fn files_without_records_end_by_their_header(rt: HostRuntime) -> Result<(), Fail> {
+    check_end(&rt, b"", "file 1\nend header graphs=0\n", 3)?;
+    check_end(&rt, &HEADER[..14], "file 1\nend header graphs=0\n", 3)?;
+    check_end(&rt, HEADER, "file 1\nend complete graphs=0\n", 0)
 }

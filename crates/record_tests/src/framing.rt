@@ -1,6 +1,6 @@
 //! Streams whose records and endings are known, the limit of a million records, and refused allocations.
 
-use crate::known::same;
+use crate::known::{TRIANGLE, same};
 use planar_code::{Ending, FeedFault, Framer, HEADER, frame, split};
 use std::alloc::{AllocError, Global};
 use std::process::Abort;
@@ -58,6 +58,66 @@ fn tells_the_endings(rt: HostRuntime) -> Result<(), Fail> {
         expect(&rt, rt.alloc(), text, (count, ending))?;
     }
     Ok(())
+}
+
+/// A file of one triangle, cut behind each byte: in the header, right behind it, in the record, and not at all.
+#[test]
+fn a_triangle_is_cut_anywhere(rt: HostRuntime) -> Result<(), Fail> {
+    let text = [HEADER.as_slice(), TRIANGLE.as_slice()].concat(rt.alloc())?;
+    same(&rt, text.len(), 25);
+    for count in 0..=text.len() {
+        let want = match count {
+            0..15 => (0, Ending::Header),
+            15 => (0, Ending::Complete),
+            25 => (1, Ending::Complete),
+            _ => (0, Ending::Truncated),
+        };
+        expect(&rt, rt.alloc(), &text[..count], want)?;
+    }
+    Ok(())
+}
+
+/// A piece, what the feed of it answers, and how many records there are by then.
+type Feed<'a> = (&'a [u8], Result<(), FeedFault>, usize);
+
+/// Feeds these pieces to one framer, which then ends so.
+fn expect_feeds(
+    rt: &impl Abort,
+    alloc: Global,
+    feeds: &[Feed<'_>],
+    ending: Ending,
+) -> Result<(), Fail> {
+    let mut framer = Framer::new(alloc)?;
+    let mut out = Vec::new(alloc);
+    for (piece, answer, count) in feeds {
+        same(rt, framer.feed(alloc, piece, &mut out), *answer);
+        same(rt, out.len(), *count);
+    }
+    same(rt, framer.finish(), ending);
+    Ok(())
+}
+
+/// Pieces that end in the header and in a record; a piece with another header, and one behind it; a record that is
+/// kept before a fault in the same piece.
+#[test]
+fn pieces_are_answered_one_by_one(rt: HostRuntime) -> Result<(), Fail> {
+    let three: [Feed<'_>; 3] = [
+        (b">>planar_c", Ok(()), 0),
+        (b"ode<<\x02\x02", Ok(()), 0),
+        (b"\x00\x01\x00", Ok(()), 1),
+    ];
+    expect_feeds(&rt, rt.alloc(), &three, Ending::Complete)?;
+    let other: [Feed<'_>; 2] = [
+        (b">>planar_codeX", Err(FeedFault::Header), 0),
+        (b"\x02\x02\x00\x01\x00", Err(FeedFault::Header), 0),
+    ];
+    expect_feeds(&rt, rt.alloc(), &other, Ending::Header)?;
+    let large: [Feed<'_>; 1] = [(
+        b">>planar_code<<\x02\x02\x00\x01\x00\x00\x02",
+        Err(FeedFault::Large),
+        1,
+    )];
+    expect_feeds(&rt, rt.alloc(), &large, Ending::Large)
 }
 
 /// Sees that a million records of one vertex and then these bytes are a million records, and end so.

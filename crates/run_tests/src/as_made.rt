@@ -56,26 +56,37 @@ fn bad_numbers_take_no_memory(rt: HostRuntime) {
     }
 }
 
-/// Whether a line may stand where this one is due: itself, or one that tells of want of memory.
-fn may_stand_for(line: &[u8], due: &[u8]) -> bool {
-    line == due
-        || line.starts_with(b"graph ") && line.ends_with(b" memory")
-        || line.starts_with(b"end memory graphs=")
+/// How many wants of memory a whole line tells where this one is due; none where it may not stand there.
+fn wants_of(line: &[u8], due: &[u8]) -> Option<usize> {
+    if line == due {
+        return Some(0);
+    }
+    let is_want = line.starts_with(b"graph ") && line.ends_with(b" memory");
+    (is_want && due.starts_with(b"graph ")).then_some(1)
 }
 
-/// Whether each whole line of a text may stand where one of the report is due, at least up to the end of a file that
-/// ended early for want of memory.
+/// Whether the lines of a text stand where those of the report are due, but for one place at most, which tells want of
+/// memory: the line of a graph, or the end of a file behind a beginning of its graphs. A text may be cut off.
 fn is_allowed(text: &[u8]) -> bool {
     let mut due = REPORT.split(|byte| *byte == b'\n');
+    let mut wants: usize = 0;
     for line in text.split(|byte| *byte == b'\n') {
-        match due.next() {
-            Some(other) if line.starts_with(b"end memory") => return !other.is_empty(),
-            Some(other) if may_stand_for(line, other) => {}
-            Some(other) => return other.starts_with(line),
-            None => return false,
+        let is_early_end = line.starts_with(b"end memory graphs=");
+        let next = if is_early_end {
+            due.find(|other| other.starts_with(b"end "))
+        } else {
+            due.next()
+        };
+        let Some(other) = next else {
+            return false;
+        };
+        match wants_of(line, other) {
+            Some(more) => wants = wants.saturating_add(more),
+            None if is_early_end => wants = wants.saturating_add(1),
+            None => return other.starts_with(line) && wants <= 1,
         }
     }
-    true
+    wants <= 1
 }
 
 /// `checks/refuse-allocations` refuses each allocation of this test in turn: the run ends in a named answer, with the

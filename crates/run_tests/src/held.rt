@@ -51,20 +51,20 @@ impl Gate for HoldsEach {
     }
 }
 
-const FOUR_EDGES: Files = Files {
+const FOUR_TRIANGLES: Files = Files {
     files: &[
-        b">>planar_code<<\
-        \x02\x02\x00\x01\x00\x02\x02\x00\x01\x00\x02\x02\x00\x01\x00\x02\x02\x00\x01\x00",
+        b">>planar_code<<\x03\x02\x03\x00\x03\x01\x00\x01\x02\x00\x03\x02\x03\x00\x03\x01\x00\x01\x02\x00\
+        \x03\x02\x03\x00\x03\x01\x00\x01\x02\x00\x03\x02\x03\x00\x03\x01\x00\x01\x02\x00",
     ],
     fault: None,
     reads: usize::MAX,
 };
 
-const OF_FOUR_EDGES: &[u8] = b"file 1\n\
-    graph 1 ok n=2 m=1 f=1 bends=0 drawn=yes\n\
-    graph 2 ok n=2 m=1 f=1 bends=0 drawn=yes\n\
-    graph 3 ok n=2 m=1 f=1 bends=0 drawn=yes\n\
-    graph 4 ok n=2 m=1 f=1 bends=0 drawn=yes\n\
+const OF_FOUR_TRIANGLES: &[u8] = b"file 1\n\
+    graph 1 ok n=3 m=3 f=2 bends=1 drawn=yes\n\
+    graph 2 ok n=3 m=3 f=2 bends=1 drawn=yes\n\
+    graph 3 ok n=3 m=3 f=2 bends=1 drawn=yes\n\
+    graph 4 ok n=3 m=3 f=2 bends=1 drawn=yes\n\
     end complete graphs=4\n";
 
 /// The stages of a lane work at once, each on a record of its own: so no thread serves two of them.
@@ -72,7 +72,7 @@ const OF_FOUR_EDGES: &[u8] = b"file 1\n\
 fn gate_holds_each(rt: HostRuntime) {
     let gate = HoldsEach::new();
     let (alloc, choice) = (rt.alloc(), Choice::First);
-    let run = run_batch(&rt, alloc, &FOUR_EDGES, 1, 1, 1, choice, &gate);
+    let run = run_batch(&rt, alloc, &FOUR_TRIANGLES, 1, 1, 1, choice, &gate);
     same(&rt, run.expect(&rt, "a batch").files(), 1);
     same(&rt, gate.told(), (4, false));
 }
@@ -82,8 +82,8 @@ fn gate_holds_each(rt: HostRuntime) {
 fn gate_holds_each_of_a_text(rt: HostRuntime) {
     let gate = HoldsEach::new();
     let room = (211, 211);
-    let (ended, text) = written(&rt, &FOUR_EDGES, 1, 1, Form::Report, &gate, room);
+    let (ended, text) = written(&rt, &FOUR_TRIANGLES, 1, 1, Form::Report, &gate, room);
     same(&rt, ended, Ok(0));
-    same(&rt, text.text(), OF_FOUR_EDGES);
+    same(&rt, text.text(), OF_FOUR_TRIANGLES);
     same(&rt, gate.told(), (4, false));
 }
