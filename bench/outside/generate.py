@@ -2,7 +2,8 @@
 """Prints a planar_code file of random graphs, by a seed.
 
 KIND is `cubic` (duals of random triangulations), `medial` (medial graphs of random triangulations, so
-4-regular), `grid` (connected parts of a square grid) or `tree` (random trees of degree at most 4).
+4-regular), `grid` (connected parts of a square grid), `tree` (random trees of degree at most 4) or `mixed` (one of the
+first three, of any size up to VERTICES, with a random share of the edges left out that are not needed to connect it).
 VERTICES is met as nearly as the kind allows: an even number for cubic, a multiple of 3 for medial.
 
 Needs Python's standard library alone, and takes a few milliseconds a graph of 250 vertices.
@@ -115,6 +116,30 @@ def tree(vertices, rng):
     return rotation
 
 
+def thinned(rotation, rng):
+    """The same without a random share of the edges, and still connected."""
+    edges = [(v, w) for v, around in rotation.items() for w in around if v < w]
+    rng.shuffle(edges)
+    part, kept, share = {v: v for v in rotation}, set(), rng.random()
+
+    def root(v):
+        while part[v] != v:
+            v = part[v]
+        return v
+
+    for v, w in edges:
+        one, other = root(v), root(w)
+        if one != other or rng.random() < share:
+            kept |= {(v, w), (w, v)}
+        part[one] = other
+    return {v: [w for w in around if (v, w) in kept] for v, around in rotation.items()}
+
+
+def mixed(vertices, rng):
+    size = rng.randint(6, vertices)
+    return thinned(KINDS[rng.choice(("cubic", "medial", "grid"))](size, rng), rng)
+
+
 def relabelled(rotation, rng):
     names = list(rotation)
     rng.shuffle(names)
@@ -127,6 +152,7 @@ KINDS = {
     "medial": lambda vertices, rng: medial(triangulation(vertices // 3 + 2, rng)),
     "grid": grid,
     "tree": tree,
+    "mixed": mixed,
 }
 
 

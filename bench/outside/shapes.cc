@@ -2,6 +2,8 @@
 // Prints the lines of the report up to the bends; `planes` as second argument stops behind the faces, `best`
 // tries each face as the outer one, and `quiet` prints totals alone. `times` and a number print one line: the
 // nanoseconds that building and solving the networks took, each the least of so many times, all graphs together.
+// `turning` prints one line too: how many vertices have degree 2, and the fewest of them that turn in a shape with the
+// fewest bends, all graphs together.
 #include "planar.hpp"
 #include <chrono>
 #include <cstdlib>
@@ -10,7 +12,9 @@
 #include <lemon/network_simplex.h>
 #include <lemon/smart_graph.h>
 
-static long fewest_bends(const Graph &graph) {
+// The least cost of a shape, where each bend costs so much, and so does each vertex of degree 2 that turns: such a
+// vertex has two units, and has both in one corner.
+static long least_cost(const Graph &graph, int bend, int turn) {
   using Net = lemon::SmartDigraph;
   const int n = graph.vertices, darts = graph.darts(), faces = static_cast<int>(graph.degree.size());
   Net net;
@@ -23,10 +27,15 @@ static long fewest_bends(const Graph &graph) {
     const auto corner = net.addArc(net.nodeFromId(graph.head[d] - 1), net.nodeFromId(n + graph.face[d]));
     upper[corner] = 3;
     cost[corner] = 0;
+    if (turn > 0 && graph.lists[graph.head[d]].size() == 2) {
+      const auto second = net.addArc(net.source(corner), net.target(corner));
+      upper[corner] = upper[second] = 1;
+      cost[second] = turn;
+    }
     const auto crossing =
         net.addArc(net.nodeFromId(n + graph.face[d]), net.nodeFromId(n + graph.face[graph.reverse[d]]));
     upper[crossing] = 1 << 20;
-    cost[crossing] = 1;
+    cost[crossing] = bend;
   }
   for (int v = 1; v <= n; ++v) supply[net.nodeFromId(v - 1)] = 4 - static_cast<int>(graph.lists[v].size());
   for (int f = 0; f < faces; ++f)
@@ -36,6 +45,8 @@ static long fewest_bends(const Graph &graph) {
   if (simplex.run() != lemon::NetworkSimplex<Net>::OPTIMAL) return -1;
   return simplex.totalCost();
 }
+
+static long fewest_bends(const Graph &graph) { return least_cost(graph, 1, 0); }
 
 // The fewest bends with whichever face as the outer one.
 static long best_bends(Graph graph) {
@@ -73,8 +84,26 @@ static int print_times(const std::string &text, int rounds) {
   return 0;
 }
 
+static int print_turning(const std::string &text) {
+  const int bend = 1000;  // more than vertices can turn
+  size_t at = 15;
+  Graph graph;
+  long graphs = 0, two = 0, bends = 0, turning = 0;
+  while (next_record(text, at, graph)) {
+    if (broken_rule(graph)) return 1;
+    ++graphs;
+    for (const auto &neighbours : graph.lists) two += neighbours.size() == 2;
+    const long cost = least_cost(graph, bend, 1);
+    bends += cost / bend;
+    turning += cost % bend;
+  }
+  std::printf("graphs=%ld bends=%ld two=%ld turning=%ld\n", graphs, bends, two, turning);
+  return 0;
+}
+
 int main(int count, char **words) {
   if (count < 2) return 2;
+  if (count > 2 && std::strcmp(words[2], "turning") == 0) return print_turning(bytes_of(words[1]));
   if (count > 3 && std::strcmp(words[2], "times") == 0)
     return print_times(bytes_of(words[1]), std::atoi(words[3]));
   const bool planes = count > 2 && std::strcmp(words[2], "planes") == 0;

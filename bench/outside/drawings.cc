@@ -1,0 +1,172 @@
+// Points for orthogonal representations, by the compaction of OGDF (the Open Graph Drawing Framework).
+// Reads graphs from standard input, each as whole numbers and words with spaces between: how many vertices there are;
+// for each vertex its degree and its neighbours clockwise, counted from 1; a dart with the outer face on its left; for
+// each dart its angle and its turns, or `-` where it has none. What darts, angles and turns are says docs/JSON.md.
+// Prints two lines a graph, each the points of a drawing in the form that this page has for them: those of the
+// longest paths in the constraint graphs of the boxes, and those of the flow compaction that begins with these.
+#include <iostream>
+#include <map>
+#include <ogdf/orthogonal/FlowCompaction.h>
+#include <ogdf/orthogonal/LongestPathCompaction.h>
+#include <ogdf/orthogonal/OrthoRep.h>
+#include <ogdf/planarity/PlanRep.h>
+#include <string>
+#include <utility>
+#include <vector>
+
+struct Shape {
+  std::vector<std::vector<int>> lists;  // by vertex, both from 0
+  std::vector<int> tail, reverse;       // by dart
+  int outer = 0;
+  std::vector<int> angles;
+  std::vector<std::string> turns;
+};
+
+// The next shape; false where the input ends.
+static bool next_shape(std::istream &in, Shape &shape) {
+  int vertices = 0;
+  if (!(in >> vertices)) return false;
+  shape = Shape();
+  shape.lists.resize(vertices);
+  std::map<std::pair<int, int>, int> number;
+  for (int v = 0; v < vertices; ++v) {
+    int degree = 0;
+    in >> degree;
+    for (int neighbour = 0; degree > 0 && in >> neighbour; --degree) {
+      number[{v, neighbour - 1}] = static_cast<int>(shape.tail.size());
+      shape.lists[v].push_back(neighbour - 1);
+      shape.tail.push_back(v);
+    }
+  }
+  const int darts = static_cast<int>(shape.tail.size());
+  shape.reverse.resize(darts);
+  for (const auto &[ends, dart] : number) shape.reverse[dart] = number.at({ends.second, ends.first});
+  shape.angles.resize(darts);
+  shape.turns.resize(darts);
+  in >> shape.outer;
+  for (int d = 0; d < darts; ++d) in >> shape.angles[d] >> shape.turns[d];
+  if (!in) throw std::runtime_error("a shape is cut off");
+  return true;
+}
+
+// Vertices and edges in OGDF, and the adjacency entry of each dart. It is a representation of no other graph, so all
+// its vertices are plain points, without boxes round them.
+struct Drawn {
+  ogdf::Graph none;
+  ogdf::PlanRep plane;
+  std::vector<ogdf::node> vertices;
+  std::vector<ogdf::adjEntry> darts;
+
+  explicit Drawn(const Shape &shape) : plane(none), darts(shape.tail.size()) {
+    for (size_t v = 0; v < shape.lists.size(); ++v) vertices.push_back(plane.newNode());
+    for (size_t d = 0; d < darts.size(); ++d) {
+      const size_t back = shape.reverse[d];
+      if (back < d) continue;
+      const ogdf::edge edge = plane.newEdge(vertices[shape.tail[d]], vertices[shape.tail[back]]);
+      darts[d] = edge->adjSource();
+      darts[back] = edge->adjTarget();
+    }
+    size_t first = 0;
+    for (size_t v = 0; v < vertices.size(); ++v) {
+      ogdf::List<ogdf::adjEntry> around;
+      for (size_t i = 0; i < shape.lists[v].size(); ++i) around.pushBack(darts[first + i]);
+      plane.sort(vertices[v], around);
+      first += shape.lists[v].size();
+    }
+  }
+};
+
+// Sets angles and bends. OGDF has the angle of an entry at its own vertex, between it and the next one clockwise, with
+// the face on the right; a bend `0` turns to the right.
+static void represent(const Shape &shape, const Drawn &drawn, ogdf::OrthoRep &rep) {
+  for (size_t d = 0; d < drawn.darts.size(); ++d) {
+    rep.angle(drawn.darts[d]) = shape.angles[shape.reverse[d]];
+    std::string bends;
+    for (const char turn : shape.turns[d])
+      if (turn != '-') bends += turn == 'R' ? '0' : '1';
+    rep.bend(drawn.darts[d]).set(bends.c_str());
+  }
+  std::string error;
+  if (!rep.check(error)) throw std::runtime_error(error);
+}
+
+using Point = std::pair<int, int>;
+
+// The corners of each edge, by its ends, from the lesser of them to the other.
+static std::map<Point, std::vector<ogdf::node>> corners_of(const Drawn &drawn) {
+  ogdf::NodeArray<int> number(drawn.plane, -1);
+  for (size_t v = 0; v < drawn.vertices.size(); ++v) number[drawn.vertices[v]] = static_cast<int>(v);
+  std::map<Point, std::vector<ogdf::node>> found;
+  for (const ogdf::node vertex : drawn.vertices) {
+    ogdf::adjEntry first;
+    forall_adj(first, vertex) {
+      std::vector<ogdf::node> between;
+      ogdf::adjEntry at = first;
+      for (; number[at->twinNode()] < 0; at = at->twin()->cyclicSucc()) between.push_back(at->twinNode());
+      const int head = number[at->twinNode()];
+      if (number[vertex] < head) found[{number[vertex], head}] = between;
+    }
+  }
+  return found;
+}
+
+static void print_points(const Shape &shape, const Drawn &drawn, const ogdf::GridLayout &layout) {
+  int left = layout.x(drawn.vertices[0]), bottom = layout.y(drawn.vertices[0]);
+  ogdf::node node;
+  forall_nodes(node, drawn.plane) {
+    left = std::min(left, layout.x(node));
+    bottom = std::min(bottom, layout.y(node));
+  }
+  const auto print = [&](const std::vector<ogdf::node> &nodes) {
+    const char *between = "";
+    std::cout << '[';
+    for (const ogdf::node one : nodes) {
+      std::cout << between << '[' << layout.x(one) - left << ',' << layout.y(one) - bottom << ']';
+      between = ",";
+    }
+    std::cout << ']';
+  };
+  const auto corners = corners_of(drawn);
+  const char *between = "{\"corners\":[";
+  for (int v = 0; v < static_cast<int>(shape.lists.size()); ++v)
+    for (const int w : shape.lists[v]) {
+      if (w < v) continue;
+      std::cout << between;
+      print(corners.at({v, w}));
+      between = ",";
+    }
+  std::cout << "],\"vertices\":";
+  print(drawn.vertices);
+  std::cout << "}\n";
+}
+
+static void draw(const Shape &shape) {
+  Drawn drawn(shape);
+  ogdf::CombinatorialEmbedding embedding(drawn.plane);
+  embedding.setExternalFace(embedding.rightFace(drawn.darts[shape.reverse[shape.outer]]));
+  ogdf::OrthoRep rep(embedding);
+  represent(shape, drawn, rep);
+  rep.normalize();
+  rep.dissect2(&drawn.plane);
+  rep.orientate();
+  rep.computeCageInfoUML(drawn.plane);
+  const ogdf::RoutingChannel<int> channels(drawn.plane, 1, 0.0);
+  ogdf::GridLayoutMapped layout(drawn.plane, rep, 1.0, 0.0, 1);
+  ogdf::LongestPathCompaction().constructiveHeuristics(drawn.plane, rep, channels, layout);
+  rep.undissect();
+  print_points(shape, drawn, layout);
+  ogdf::FlowCompaction().improvementHeuristics(drawn.plane, rep, channels, layout);
+  print_points(shape, drawn, layout);
+}
+
+int main() {
+  std::ios::sync_with_stdio(false);
+  Shape shape;
+  try {
+    while (next_shape(std::cin, shape)) draw(shape);
+  } catch (const std::exception &error) {
+    std::cout.flush();
+    std::cerr << "drawings: " << error.what() << '\n';
+    return 1;
+  }
+}
