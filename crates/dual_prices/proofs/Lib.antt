@@ -1,0 +1,3 @@
+pub mod Moving
+pub mod Reaching
+pub mod StrongDuality
