@@ -2,6 +2,7 @@
 //! chosen face and the coordinates of boxes leave no choice open, what it is for that boxes are as they are, and how large things may be.
 #![tactic(auto)]
 
+mod bends;
 mod laid;
 mod layout;
 mod limits;
@@ -10,6 +11,7 @@ mod outside;
 mod pieces;
 mod supplies;
 
+pub use bends::{boxes_are_few, laid_bends};
 pub use laid::laid_means;
 pub use layout::one_layout;
 pub use limits::{network_limits, plane_limits, record_limits};
