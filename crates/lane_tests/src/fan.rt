@@ -39,7 +39,7 @@ fn the_gatherer_is_gone(rt: HostRuntime) {
 }
 
 // Gives the numbers below `count`, until one is refused: that one, or `count`.
-fn give_below(rt: &impl Wait, mut giver: LaneGiver<u32>, count: u32) -> u32 {
+pub(crate) fn give_below(rt: &impl Wait, mut giver: LaneGiver<u32>, count: u32) -> u32 {
     for item in 0..count {
         if let Err(closed) = giver.give(rt, item) {
             return closed.into_inner();

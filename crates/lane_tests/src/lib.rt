@@ -6,6 +6,8 @@ mod compared;
 #[cfg(test)]
 mod fan;
 #[cfg(test)]
+mod late;
+#[cfg(test)]
 mod link;
 #[cfg(test)]
 mod memory;
