@@ -1,3 +1,4 @@
 pub mod Moving
 pub mod Reaching
 pub mod StrongDuality
+pub mod Existence

@@ -1,7 +1,7 @@
--- Strong duality: each least representation has prices that prove it. The prices begin at 0; for one dart after the other that
--- turns left the price across is raised, with all that has no slack, until it is one more than that of the dart's face. If a
--- unit could move on to that face, it could move round and save a bend.
-use Rattle.std.proofs.Common.{◌≡◌, ◌≤◌, ◌<◌, ℕ, zero, suc, ◌+◌, ◌-◌, Bool, true, false, cond, eqb, List, map, inl, inr, refl, sym, ap, ◌∙◌, subst, arith}
+-- Strong duality: a representation has prices that prove it, or there is one with fewer bends. The prices begin at 0; for one
+-- dart after the other that turns left the price across is raised, with all that has no slack, until it is one more than that
+-- of the dart's face. If a unit can move on to that face, it can move round and save a bend.
+use Rattle.std.proofs.Common.{◌≡◌, ◌≤◌, ◌<◌, ◌⊎◌, ℕ, zero, suc, ◌+◌, ◌-◌, Bool, true, false, cond, eqb, List, map, inl, inr, refl, sym, ap, ◌∙◌, subst, arith}
 use Rattle.std.specs.List.{range_with_len}
 use Rattle.std.proofs.lemmas.List.FromFn.{length-map-range_with_len, get_or-map-range_with_len}
 use Rattle.std.specs.Prelude.{ℤ, pos, ◌-ℤ◌}
@@ -15,11 +15,11 @@ use Rattle.faces.proofs.Ends.{plane_ends}
 use Rattle.ortho_rep.specs.Turns.{lefts, rights}
 use Rattle.ortho_rep.specs.OfFlow.{lefts_then_rights}
 use Rattle.ortho_rep.specs.Shapes.{ShapeModel, angle_at, turns_at}
-use Rattle.ortho_rep.specs.Representation.{Rep, Least, IsShape, IsLeast}
+use Rattle.ortho_rep.specs.Representation.{Rep, Least, IsShape, IsLeast, bends_of}
 use Rattle.ortho_rep.specs.Prices.{PricesModel, Prove, IsProof, vertex_price, face_price}
 use Rattle.ortho_rep.proofs.SameAtDarts.{prove-alike}
 use Rattle.ortho_rep.proofs.FromFlow.{lefts-of-run, rights-of-run, mirrored-run}
-use Rattle.ortho_rep.proofs.WeakDuality.{part_at, gains, losses, turning-split, lefts_of, rights_are, lengths-twice}
+use Rattle.ortho_rep.proofs.WeakDuality.{part_at, gains, losses, turning-split, lefts_of, rights_are, lengths-twice, least_by_prices}
 use Rattle.dual_prices.proofs.Moving.{corner_at, across_at, one_at, gain_at, loss_at, put, put-here, put-other, gain-lefts, loss-lefts, total-lefts, Moved}
 use Rattle.dual_prices.proofs.Reaching.{IsClosed, reach}
 
@@ -59,27 +59,30 @@ other_rep p a s b l ends rep sizes around faces = record {
     same_turn : (g r g' r' : ℕ) → g + r' ≡ g' + r → (pos g -ℤ pos r) ≡ (pos g' -ℤ pos r')
     same_turn g r g' r' e = omega (arith, ints)
 
--- so in a least representation there are no fewer left turns
-no_fewer : (p : PlaneModel) (a : ℕ → ℕ) (s : ℕ → List Turn) (b l : ℕ → ℕ) → HasEnds p → Least p a s → Rep p b (strings p l) → sum_below (darts p) (lefts_of s) ≤ sum_below (darts p) l
-no_fewer p a s b l ends least rep =
+-- some representation has fewer bends
+abbrev pub Better : PlaneModel → (ℕ → List Turn) → Type 0
+Better p s = (b : ℕ → ℕ) × (t : ℕ → List Turn) × (Rep p b t) × (bends_of (darts p) t < bends_of (darts p) s)
+
+-- one with fewer left turns
+better : (p : PlaneModel) (a : ℕ → ℕ) (s : ℕ → List Turn) (b l : ℕ → ℕ) → HasEnds p → Rep p a s → Rep p b (strings p l) → sum_below (darts p) l < sum_below (darts p) (lefts_of s) → Better p s
+better p a s b l ends rep other less =
     let lefts_are : sum_below (darts p) (lefts_of (strings p l)) ≡ sum_below (darts p) l =
     sum_below-same (darts p) (lefts_of (strings p l)) l (λ d in_d. lefts-of-run (l d) (l (reverse_dart p d))) in
-    omega (arith, least.least b (strings p l) rep, lengths-twice p a s ends least.rep, lengths-twice p b (strings p l) ends rep, lefts_are)
+    (b, strings p l, other, omega (arith, less, lengths-twice p a s ends rep, lengths-twice p b (strings p l) ends other, lefts_are))
 
--- a unit that has come to the face of dart k from the face across, where that is no dearer, would save a bend
-no_way_round : (p : PlaneModel) (a : ℕ → ℕ) (s : ℕ → List Turn) (y : ℕ → ℕ) (k : ℕ) (reached : ℕ → Bool) → HasEnds p → Least p a s → k < darts p
-    → 0 < lefts_of s k → y (across_at p k) ≤ y (face_at p k) → Moved p a (lefts_of s) y k reached (face_at p k) → ⊥
-no_way_round p a s y k reached ends least inside some cheap m =
-    let l : ℕ → ℕ = lefts_of s in
+-- a unit that has come to the face of dart k from the face across, where that is no dearer, saves a bend
+way_round : (p : PlaneModel) (a : ℕ → ℕ) (s : ℕ → List Turn) (y : ℕ → ℕ) (k : ℕ) (reached : ℕ → Bool) → HasEnds p → Rep p a s → k < darts p
+    → 0 < lefts_of s k → y (across_at p k) ≤ y (face_at p k) → Moved p a (lefts_of s) y k reached (face_at p k) → Better p s
+way_round p a s y k reached ends rep inside some cheap m =
     let new : ℕ → ℕ = put m.lefts k (m.lefts k - 1) in
     let here : m.lefts k ≡ new k + 1 = omega (arith, put-here m.lefts k (m.lefts k - 1), m.kept, some) in
     let others : (e : ℕ) → e < darts p → (e ≡ k → ⊥) → new e ≡ m.lefts e = λ e b ne. put-other m.lefts k (m.lefts k - 1) e ne in
     let below : face_at p k < p.faces = ends.face_named k inside in
-    let rep : Rep p m.angles (strings p new) =
-    other_rep p a s m.angles new ends least.rep m.sizes
+    let other : Rep p m.angles (strings p new) =
+    other_rep p a s m.angles new ends rep m.sizes
     (λ v from to. omega (arith, m.around v, apart (face_at p k) (p.faces + v) (omega arith)))
     (λ f b. omega (arith, gain-lefts p new m.lefts k inside others here f, loss-lefts p m.angles new m.lefts k ends inside others here f, m.faces f b)) in
-    omega (arith, no_fewer p a s m.angles new ends least rep, total-lefts p new m.lefts k inside others here, m.total, cheap)
+    better p a s m.angles new ends rep other (omega (arith, total-lefts p new m.lefts k inside others here, m.total, cheap))
   where
     apart : (w u : ℕ) → w < u → one_at w u ≡ 0
     apart w u h = cond-false {A = ℕ} (eqb w u) 1 0 (ne_eqb w u (λ e. omega arith))
@@ -129,48 +132,72 @@ next_fits p a l y k prices here = record {
   ];
 }
 
--- the face across dart k is raised until it is dear enough
-lift : (p : PlaneModel) (a : ℕ → ℕ) (s : ℕ → List Turn) (k : ℕ) → HasEnds p → Least p a s → k < darts p → (fuel : ℕ) (y : ℕ → ℕ) → ArePrices p a (lefts_of s) y k
-    → y (face_at p k) + 1 ≤ y (across_at p k) + fuel → (z : ℕ → ℕ) × ArePrices p a (lefts_of s) z (k + 1)
-lift p a s k ends least inside zero y prices near = (y, next_fits p a (lefts_of s) y k prices (λ some. omega arith))
-lift p a s k ends least inside (suc fuel) y prices near =
+-- the face across dart k is raised until it is dear enough, or there is a better representation
+lift : (p : PlaneModel) (a : ℕ → ℕ) (s : ℕ → List Turn) (k : ℕ) → HasEnds p → Rep p a s → k < darts p → (fuel : ℕ) (y : ℕ → ℕ) → ArePrices p a (lefts_of s) y k
+    → y (face_at p k) + 1 ≤ y (across_at p k) + fuel → Better p s ⊎ ((z : ℕ → ℕ) × ArePrices p a (lefts_of s) z (k + 1))
+lift p a s k ends rep inside zero y prices near = inr (y, next_fits p a (lefts_of s) y k prices (λ some. omega arith))
+lift p a s k ends rep inside (suc fuel) y prices near =
     elim (cases_eq (lefts_of s k) 0) [
-      | inl none ↦ (y, next_fits p a (lefts_of s) y k prices (λ some. omega arith))
+      | inl none ↦ inr (y, next_fits p a (lefts_of s) y k prices (λ some. omega arith))
       | inr some ↦ elim (cases_lt (y (face_at p k)) (y (across_at p k))) [
-        | inl dear ↦ (y, next_fits p a (lefts_of s) y k prices (λ more. omega arith))
+        | inl dear ↦ inr (y, next_fits p a (lefts_of s) y k prices (λ more. omega arith))
         | inr cheap ↦
-            let r = reach p a (lefts_of s) y k ends inside least.rep.angles in
+            let r = reach p a (lefts_of s) y k ends inside rep.angles in
             elim (cases_Bool (r.reached (face_at p k))) [
-              | inl there ↦ absurd (no_way_round p a s y k r.reached ends least inside (omega arith) cheap (r.moved (face_at p k) there))
+              | inl there ↦ inl (way_round p a s y k r.reached ends rep inside (omega arith) cheap (r.moved (face_at p k) there))
               | inr away ↦
                   let face : raised y r.reached (face_at p k) ≡ y (face_at p k) = omega (arith, cond-false {A = ℕ} (r.reached (face_at p k)) 1 0 away) in
                   let across : raised y r.reached (across_at p k) ≡ y (across_at p k) + 1 = omega (arith, cond-true {A = ℕ} (r.reached (across_at p k)) 1 0 r.start) in
-                  lift p a s k ends least inside fuel (raised y r.reached) (raise p a (lefts_of s) y k r.reached prices r.closed) (omega (arith, face, across, near))
+                  lift p a s k ends rep inside fuel (raised y r.reached) (raise p a (lefts_of s) y k r.reached prices r.closed) (omega (arith, face, across, near))
             ]
       ]
     ]
 
 -- the darts before dart k
-prices_before : (p : PlaneModel) (a : ℕ → ℕ) (s : ℕ → List Turn) → HasEnds p → Least p a s → (k : ℕ) → k ≤ darts p → (y : ℕ → ℕ) × ArePrices p a (lefts_of s) y k
-prices_before p a s ends least zero most = (λ x. 0, record { wider = λ d b room. omega arith; narrower = λ d b some. omega arith; crossed = λ d b. omega arith; tight = λ d b before some. absurd (omega arith) })
-prices_before p a s ends least (suc k) most =
-    let (y, prices) = prices_before p a s ends least k (omega arith) in
-    let (z, next) = lift p a s k ends least (omega arith) (y (face_at p k) + 1) y prices (omega arith) in
-    (z, subst (λ (i : ℕ). ArePrices p a (lefts_of s) z i) (omega arith) next)
+prices_before : (p : PlaneModel) (a : ℕ → ℕ) (s : ℕ → List Turn) → HasEnds p → Rep p a s → (k : ℕ) → k ≤ darts p → Better p s ⊎ ((y : ℕ → ℕ) × ArePrices p a (lefts_of s) y k)
+prices_before p a s ends rep zero most = inr (λ x. 0, record { wider = λ d b room. omega arith; narrower = λ d b some. omega arith; crossed = λ d b. omega arith; tight = λ d b before some. absurd (omega arith) })
+prices_before p a s ends rep (suc k) most =
+    elim (prices_before p a s ends rep k (omega arith)) [
+      | inl other ↦ inl other
+      | inr (y, prices) ↦ elim (lift p a s k ends rep (omega arith) (y (face_at p k) + 1) y prices (omega arith)) [
+        | inl other ↦ inl other
+        | inr (z, next) ↦ inr (z, subst (λ (i : ℕ). ArePrices p a (lefts_of s) z i) (omega arith) next)
+      ]
+    ]
 
+-- of a representation there is a better one, or prices prove it
+pub better_or_priced : (p : PlaneModel) (a : ℕ → ℕ) (s : ℕ → List Turn) → IsPlane p → Rep p a s → Better p s ⊎ ((v q : ℕ → ℤ) × Prove p a s v q)
+better_or_priced p a s plane rep =
+    elim (prices_before p a s (plane_ends p plane) rep (darts p) (omega arith)) [
+      | inl other ↦ inl other
+      | inr (y, prices) ↦ inr (
+        λ v. pos (y (p.faces + v)),
+        λ f. pos (y f),
+        λ d b. record {
+          wider = λ room. let h = prices.wider d b room in omega (arith, ints, h);
+          narrower = λ some. let h = prices.narrower d b some in omega (arith, ints, h);
+          crossed = let h = prices.crossed d b in omega (arith, ints, h);
+          tight = λ some. let h = prices.crossed d b in let g = prices.tight d b b some in omega (arith, ints, h, g);
+        },
+      )
+    ]
+
+-- a least one has no better one
 pub prices_exist : (p : PlaneModel) (a : ℕ → ℕ) (s : ℕ → List Turn) → IsPlane p → Least p a s → (v q : ℕ → ℤ) × Prove p a s v q
 prices_exist p a s plane least =
-    let ends = plane_ends p plane in
-    let (y, prices) = prices_before p a s ends least (darts p) (omega arith) in (
-      λ v. pos (y (p.faces + v)),
-      λ f. pos (y f),
-      λ d b. record {
-        wider = λ room. let h = prices.wider d b room in omega (arith, ints, h);
-        narrower = λ some. let h = prices.narrower d b some in omega (arith, ints, h);
-        crossed = let h = prices.crossed d b in omega (arith, ints, h);
-        tight = λ some. let h = prices.crossed d b in let g = prices.tight d b b some in omega (arith, ints, h, g);
-      },
-    )
+    elim (better_or_priced p a s plane least.rep) [
+      | inl (b, t, rep, less) ↦ absurd (omega (arith, less, least.least b t rep))
+      | inr priced ↦ priced
+    ]
+
+-- and from each one better ones lead to a least one
+pub least_below : (p : PlaneModel) → IsPlane p → (most : ℕ) (a : ℕ → ℕ) (s : ℕ → List Turn) → Rep p a s → bends_of (darts p) s < most → (b : ℕ → ℕ) × (t : ℕ → List Turn) × Least p b t
+least_below p plane zero a s rep few = absurd (omega arith)
+least_below p plane (suc most) a s rep few =
+    elim (better_or_priced p a s plane rep) [
+      | inl (b, t, other, less) ↦ least_below p plane most b t other (omega (arith, less, few))
+      | inr (v, q, prove) ↦ (a, s, least_by_prices p a s v q (plane_ends p plane) rep prove)
+    ]
 
 -- ---- of a shape
 

@@ -1,4 +1,5 @@
-//! Prices tell just which shapes are least: a law, as the contract of a function that does nothing.
+//! Prices tell just which shapes are least, and each plane has a least one: laws, each as the contract of a function that does
+//! nothing.
 #![tactic(auto)]
 
 ghost use Rattle.std.specs.Prelude.{◌↔◌};
@@ -12,4 +13,9 @@ ghost use Rattle.ortho_rep.specs.Shapes.{ShapeModel};
 pub fn least_is_priced()
     ensures { (p : PlaneModel) (shape : ShapeModel) → IsPlane p → IsShape p shape
         → IsLeast p shape ↔ ((t : PricesModel) × IsProof p shape t) }
+{}
+
+/// Each plane has a shape with the fewest bends.
+pub fn least_shape_exists()
+    ensures { (p : PlaneModel) → IsPlane p → (shape : ShapeModel) × (IsShape p shape) × (IsLeast p shape) }
 {}
