@@ -1,0 +1,5 @@
+pub mod Raising
+pub mod Gaps
+pub mod Axes
+pub mod Lowest
+pub mod Left
