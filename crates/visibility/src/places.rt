@@ -1,0 +1,88 @@
+//! The points of vertices and corners on their rows.
+
+ghost use Rattle.std.specs.Prelude.{◌≡◌, ◌++◌, List, length, IfOk, OnOk};
+ghost use Rattle.ortho_rep.specs.declared.points.Point.{Point};
+ghost use Rattle.ortho_rep.specs.Storage.{cut, IsCut};
+
+use crate::rows::Rows;
+use ortho_rep::{Point, Points};
+use std::alloc::{AllocError, Global};
+
+/// The points of all vertices and corners where their rows are now, for as many corners as each edge has before.
+pub(crate) fn points_on(
+    alloc: Global,
+    old: &Points,
+    edges: u16,
+    x: &Rows,
+    y: &Rows,
+) -> Result<Points, AllocError>
+    requires { length old.now.corners ≡ edges }
+    ensures vertices { IfOk result (λ points. length points.vertices ≡ length old.now.vertices) }
+    ensures corners { IfOk result (λ points. length points.corners ≡ edges) }
+{
+    let vertices = vertex_points(alloc, old.vertex_count(), x, y)?;
+    let (corners, starts) = corner_points(alloc, old, edges, x, y)?;
+    Ok(Points::joined(vertices, corners, starts))
+}
+
+/// The points of so many vertices.
+fn vertex_points(alloc: Global, count: usize, x: &Rows, y: &Rows) -> Result<Vec<Point>, AllocError>
+    ensures { IfOk result (λ points. length points.items ≡ count) }
+{
+    let mut points = Vec::with_capacity(alloc, count)?;
+    for place in 0..count {
+        points.push(point_at(x, y, place))?;
+    }
+    Ok(points)
+}
+
+/// The corner points of so many edges, one edge after another, and where those of each edge start; one place more,
+/// where the last ones end.
+fn corner_points(
+    alloc: Global,
+    old: &Points,
+    edges: u16,
+    x: &Rows,
+    y: &Rows,
+) -> Result<(Vec<Point>, Vec<usize>), AllocError>
+    requires { length old.now.corners ≡ edges }
+    ensures places { IfOk result (λ found. IsCut found.1.items found.0.items) }
+    ensures count { IfOk result (λ found. length (cut found.1.items found.0.items) ≡ edges) }
+{
+    let mut place = old.vertex_count();
+    let mut corners = Vec::with_capacity(alloc, x.of.len().saturating_sub(place))?;
+    let mut starts = Vec::with_capacity(alloc, usize::from(edges) + 1)?;
+    starts.push(0)?;
+    for edge in 0..edges {
+        let next = place.saturating_add(old.corners(edge).len());
+        push_points(&mut corners, x, y, place, next)?;
+        let end = corners.len();
+        starts.push(end)?;
+        place = next;
+    }
+    Ok((corners, starts))
+}
+
+/// Puts the points of the vertices or corners from one place to another behind a list.
+fn push_points(
+    points: &mut Vec<Point>,
+    x: &Rows,
+    y: &Rows,
+    from: usize,
+    to: usize,
+) -> Result<(), AllocError>
+    ensures { OnOk result ((more : List Point) × (points.new.items ≡ points.old.items ++ more)) }
+{
+    for place in from..to {
+        points.push(point_at(x, y, place))?;
+    }
+    Ok(())
+}
+
+/// The point of the vertex or corner at this place.
+fn point_at(x: &Rows, y: &Rows, place: usize) -> Point {
+    Point {
+        x: x.number_at(place),
+        y: y.number_at(place),
+    }
+}

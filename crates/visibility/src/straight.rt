@@ -1,0 +1,34 @@
+//! The vertices that edges without corners join.
+
+/// For each vertex, by its number, those to which straight edges along one axis lead; 0 where there is none.
+#[derive(Drop)]
+pub(crate) struct StraightEdges {
+    ahead: [u8; 256],
+    behind: [u8; 256],
+}
+
+impl StraightEdges {
+    /// No edges.
+    pub(crate) fn none() -> StraightEdges {
+        StraightEdges {
+            ahead: [0; 256],
+            behind: [0; 256],
+        }
+    }
+
+    /// Adds the edge between two vertices, of which the first has the lesser coordinate.
+    pub(crate) fn join(&mut self, low: u8, high: u8) {
+        self.ahead[usize::from(low)] = high;
+        self.behind[usize::from(high)] = low;
+    }
+
+    /// Whether some edge leads to this vertex from behind.
+    pub(crate) fn is_led_to(&self, vertex: u8) -> bool {
+        self.behind[usize::from(vertex)] != 0
+    }
+
+    /// The vertex to which the edge ahead leads.
+    pub(crate) fn ahead(&self, vertex: u8) -> u8 {
+        self.ahead[usize::from(vertex)]
+    }
+}
