@@ -1,4 +1,3 @@
 pub mod Laid
-pub mod Pieces
 pub mod Outside
 pub mod Supplies

@@ -7,7 +7,7 @@ use Rattle.cutting.specs.Webs.{Web}
 use Rattle.dissect.specs.Boxes.{BoxesModel, web}
 use Rattle.dissect.specs.Boxed.{IsDrawing}
 use Rattle.dissect.specs.Ordered.{IsOrdered}
-use Rattle.layout_laws.specs.Pieces.{IsPiece}
+use Rattle.planarity.specs.Pieces.{IsPiece}
 
 -- four vertices that are the corners of a rectangle along the axes
 pub record Corners : Type 0 where

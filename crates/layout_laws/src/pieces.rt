@@ -5,7 +5,7 @@ ghost use Rattle.faces.specs.Planes.{PlaneModel, IsPlane, darts, vertices, tail}
 ghost use Rattle.ortho_rep.specs.Shapes.{ShapeModel};
 ghost use Rattle.dissect.specs.Boxes.{BoxesModel, web};
 ghost use Rattle.dissect.specs.Boxed.{IsBoxed};
-ghost use Rattle.layout_laws.specs.Pieces.{IsPiece, IsOneEdge};
+ghost use Rattle.planarity.specs.Pieces.{IsPiece, IsOneEdge};
 
 /// Why the paths of a plane's darts lie apart: no piece is of two edges, whichever way it is walked, and an edge passes no
 /// vertex twice, nor the one that it sets out from.

@@ -1,4 +1,4 @@
-use Rattle.layout_laws.proofs.Running.{end_alone, meet_at_ends}
+use Rattle.planarity.proofs.Pieces.{end_alone, meet_at_ends}
 use Rattle.layout_laws.proofs.pieces.edges_meet_at_ends.Goals as goal
 
 pub returns : goal.returns

@@ -1,4 +1,4 @@
-use Rattle.layout_laws.proofs.Running.{piece_of_one, vertex_once, start_apart}
+use Rattle.planarity.proofs.Pieces.{piece_of_one, vertex_once, start_apart}
 use Rattle.layout_laws.proofs.pieces.edges_share_no_piece.Goals as goal
 
 pub returns : goal.returns

@@ -10,11 +10,11 @@ use Rattle.cutting.specs.Paths.{Follows, IsPath}
 use Rattle.edge_paths.proofs.Backwards.{path_unique}
 use Rattle.dissect.specs.Boxes.{BoxesModel, web}
 use Rattle.dissect.specs.Boxed.{IsBoxed}
-use Rattle.layout_laws.specs.Pieces.{IsPiece, IsOneEdge}
+use Rattle.planarity.specs.Pieces.{IsPiece, IsOneEdge}
 
 -- ---- lists
 
-pub in_below : (n y : ℕ) (xs : List ℕ) → Below n xs → In y xs → y < n
+in_below : (n y : ℕ) (xs : List ℕ) → Below n xs → In y xs → y < n
 in_below n y [] below here = absurd here
 in_below n y (x ∷ xs) below (inl at) = omega (arith, at, below.0)
 in_below n y (x ∷ xs) below (inr there) = in_below n y xs below.1 there
@@ -67,11 +67,11 @@ later w b y (c ∷ cs) follows here =
 -- ---- pieces
 
 module _ (p : PlaneModel) (shape : ShapeModel) (b : BoxesModel) (plane : IsPlane p) (boxed : IsBoxed p shape b) where
-  piece_in : (d a : ℕ) → IsPiece (web b) d a → a < b.darts
+  pub piece_in : (d a : ℕ) → IsPiece (web b) d a → a < b.darts
   piece_in d a piece = in_below b.darts a (piece.first ∷ piece.rest) (piece.path.first_in, piece.path.rest_in) piece.on
 
   -- the reverse of a piece is one of the way back
-  piece_back : (d a : ℕ) → d < darts p → IsPiece (web b) d a → IsPiece (web b) (reverse_dart p d) ((web b).reverse_dart a)
+  pub piece_back : (d a : ℕ) → d < darts p → IsPiece (web b) d a → IsPiece (web b) (reverse_dart p d) ((web b).reverse_dart a)
   piece_back d a d_in piece =
       let back = boxed.paths.paths (reverse_dart p d) ((plane_ends p plane).reverse_dart_inside d d_in) in
       let all : List ℕ = piece.first ∷ piece.rest in
@@ -84,7 +84,7 @@ module _ (p : PlaneModel) (shape : ShapeModel) (b : BoxesModel) (plane : IsPlane
             (in_mapped (web b).reverse_dart a (reverse all) (in_reverse a all piece.on));
       }
 
-  one_piece : (d e a : ℕ) → d < darts p → e < darts p → IsPiece (web b) d a → IsPiece (web b) e a → d ≡ e
+  pub one_piece : (d e a : ℕ) → d < darts p → e < darts p → IsPiece (web b) d a → IsPiece (web b) e a → d ≡ e
   one_piece d e a d_in e_in one two =
       boxed.apart.apart d e a one.first two.first one.rest two.rest d_in e_in one.path two.path one.on two.on
 

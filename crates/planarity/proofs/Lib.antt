@@ -1,0 +1,10 @@
+pub mod Sides
+pub mod Rounds
+pub mod Rows
+pub mod Apart
+pub mod Covering
+pub mod Lines
+pub mod Passing
+pub mod Pieces
+pub mod Meeting
+pub mod Drawn
