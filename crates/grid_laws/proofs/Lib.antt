@@ -3,3 +3,4 @@ pub mod Gaps
 pub mod Axes
 pub mod Lowest
 pub mod Left
+pub mod WideOnly

@@ -1,6 +1,6 @@
 //! What is left of the causes that boxes may show in place of a drawing.
 
-ghost use Rattle.std.specs.Prelude.{◌+◌, ◌≤◌, ℕ, List, Err};
+ghost use Rattle.std.specs.Prelude.{◌≡◌, ◌+◌, ◌≤◌, ℕ, List, Err};
 ghost use Rattle.choices.specs.declared.Choice.{Choice};
 ghost use Rattle.faces.specs.Planes.{PlaneModel, IsPlane};
 ghost use Rattle.ortho_rep.specs.declared.points.TheConstants.{MAX_COORDINATE};
@@ -15,6 +15,7 @@ ghost use Rattle.dissect.specs.Ordered.{AreLaidOut};
 ghost use Rattle.entries.specs.declared.cause.Cause.{Cause};
 ghost use Rattle.entries.specs.Drawn.{ShowsCause};
 ghost use Rattle.entries.specs.Answers.{IsLaid};
+ghost use Rattle.grid_laws.specs.Least.{HasNoOrder};
 ghost use Rattle.grid_laws.specs.Left.{MayShow};
 
 /// The points and corners of a layout are within the grid, so no boxes of a shape show `OutOfGrid`.
@@ -37,4 +38,14 @@ pub fn causes_left()
     ensures laid { (choice : Choice) (bytes : List ℕ) (plane : PlaneModel) (shape : ShapeModel) (prices : PricesModel) (cause : Cause)
         → IsLaid choice bytes plane shape prices (Err cause)
         → (boxes : BoxesModel) × IsBoxed plane shape boxes × MayShow boxes cause }
+{}
+
+/// Points that are laid out for boxes of a shape of a plane draw it, so of the causes `Wide` alone can be shown. In place of points a
+/// laid answer has it only where some boxes of its shape have no numbers in their order at all.
+pub fn only_wide()
+    ensures shown { (plane : PlaneModel) (shape : ShapeModel) (b : BoxesModel) (cause : Cause)
+        → IsPlane plane → IsBoxed plane shape b → ShowsCause plane shape b cause → cause ≡ Cause.Wide }
+    ensures laid { (choice : Choice) (bytes : List ℕ) (plane : PlaneModel) (shape : ShapeModel) (prices : PricesModel) (cause : Cause)
+        → IsLaid choice bytes plane shape prices (Err cause)
+        → (boxes : BoxesModel) × IsBoxed plane shape boxes × HasNoOrder boxes × (cause ≡ Cause.Wide) }
 {}

@@ -5,5 +5,5 @@
 mod causes;
 mod least;
 
-pub use causes::{causes_left, layouts_are_in_grid};
+pub use causes::{causes_left, layouts_are_in_grid, only_wide};
 pub use least::{layouts_have_no_gap, least_numbers_exist, least_numbers_have_no_gap};
