@@ -9,6 +9,8 @@ mod compared;
 #[cfg(test)]
 mod refused;
 #[cfg(test)]
+mod straight;
+#[cfg(test)]
 mod tests;
 #[cfg(test)]
 mod work;

@@ -2,11 +2,14 @@
 //! what was lent is then as it was, and a second call gives what it gives without the refusal. Where a refusal comes
 //! before the call, the test ends.
 
+ghost use Rattle.std.specs.Prelude.{IfOk};
 ghost use Rattle.flow_network.specs.FaceNet.{IsNetOf};
+ghost use Rattle.ortho_rep.specs.Representation.{IsShape};
 
 use crate::best::NINTH;
 use crate::compared::same;
-use crate::tests::{TRIANGLE, answers, plane_in};
+use crate::straight::figures;
+use crate::tests::{PATH, TRIANGLE, answers, plane_in};
 use faces::Plane;
 use flow_network::FaceNet;
 use min_cost_flow::{Arc, Cap, Network, SolveFault, Standing, solve};
@@ -15,6 +18,7 @@ use planar_code::{Ending, Record, frame, split};
 use std::alloc::{AllocError, Global};
 use std::process::Abort;
 use std::test::Fail;
+use straightening::{Scratch, straighten_in};
 
 /// A stream of two records.
 const STREAM: &[u8] = b">>planar_code<<\x01\x00\x02\x00\x00";
@@ -216,6 +220,35 @@ fn best_shapes(rt: HostRuntime) -> Result<(), Fail> {
         }
     };
     same(&rt, (shape.bends(), plane.outer()), (8, 2));
+    Ok(())
+}
+
+/// A least shape that was made straighter, and its prices.
+fn straight_in(
+    alloc: Global,
+    scratch: &mut Scratch,
+    plane: &Plane,
+) -> Result<(Shape, Prices), AllocError>
+    ensures { IfOk result (λ found. IsShape plane.now found.0) }
+{
+    let (shape, prices) = least_shape(alloc, plane)?;
+    let straight = straighten_in(alloc, scratch, plane, shape, &prices)?;
+    Ok((straight, prices))
+}
+
+#[test]
+fn straight_shapes(rt: HostRuntime) -> Result<(), Fail> {
+    let alloc = rt.alloc();
+    let Some(plane) = plane_in(alloc, &PATH) else {
+        return Ok(());
+    };
+    let mut scratch = Scratch::new();
+    let (shape, prices) = match straight_in(alloc, &mut scratch, &plane) {
+        Ok(found) => found,
+        Err(AllocError) => straight_in(alloc, &mut scratch, &plane)?,
+    };
+    let want = (0, 0, (true, true));
+    same(&rt, figures(&plane, &shape, &prices), want);
     Ok(())
 }
 

@@ -14,17 +14,17 @@ use std::test::Fail;
 
 /// A record, the angles and strings of a shape, and prices.
 #[derive(Clone, Copy)]
-struct Case<'a> {
-    record: &'a [u8],
-    angles: &'a [u8],
-    texts: &'a [&'a str],
-    vertices: &'a [i32],
-    faces: &'a [i32],
+pub(crate) struct Case<'a> {
+    pub(crate) record: &'a [u8],
+    pub(crate) angles: &'a [u8],
+    pub(crate) texts: &'a [&'a str],
+    pub(crate) vertices: &'a [i32],
+    pub(crate) faces: &'a [i32],
 }
 
 pub(crate) const TRIANGLE: [u8; 10] = [3, 2, 3, 0, 3, 1, 0, 1, 2, 0];
 
-const PATH: [u8; 14] = [5, 2, 0, 1, 3, 0, 2, 4, 0, 3, 5, 0, 4, 0];
+pub(crate) const PATH: [u8; 14] = [5, 2, 0, 1, 3, 0, 2, 4, 0, 3, 5, 0, 4, 0];
 
 pub(crate) const EDGE: [u8; 5] = [2, 2, 0, 1, 0];
 
@@ -79,12 +79,12 @@ fn shape_of(angles: Vec<u8>, strings: Vec<Vec<Turn>>) -> Result<Shape, Fail> {
     }
 }
 
-fn shape_in(alloc: Global, case: &Case<'_>) -> Result<Shape, Fail> {
+pub(crate) fn shape_in(alloc: Global, case: &Case<'_>) -> Result<Shape, Fail> {
     let strings = strings_of(alloc, case.texts)?;
     shape_of(case.angles.to_vec(alloc)?, strings)
 }
 
-fn prices_in(alloc: Global, case: &Case<'_>) -> Result<Prices, Fail> {
+pub(crate) fn prices_in(alloc: Global, case: &Case<'_>) -> Result<Prices, Fail> {
     let vertices = case.vertices.to_vec(alloc)?;
     Ok(Prices::new(vertices, case.faces.to_vec(alloc)?))
 }
