@@ -125,10 +125,14 @@ fn left_turns(turns: &[Turn]) -> u16 {
 fn string(alloc: Global, lefts: u16, rights: u16) -> Result<Vec<Turn>, AllocError>
     ensures { IfOk result (λ turns. vec_len turns ≤ MAX_TURNS) }
 {
+    let mut turns = Vec::new(alloc);
     let lefts = usize::from(lefts);
     let count = lefts + usize::from(rights);
-    let mut turns = Vec::with_capacity(alloc, count)?;
-    turns.resize(lefts, Turn::Left)?;
-    turns.resize(count, Turn::Right)?;
+    // Most edges have no bend.
+    if count > 0 {
+        turns.reserve(count)?;
+        turns.resize(lefts, Turn::Left)?;
+        turns.resize(count, Turn::Right)?;
+    }
     Ok(turns)
 }

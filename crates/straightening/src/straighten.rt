@@ -34,14 +34,15 @@ impl Scratch {
 /// The angle on the outside of a vertex of degree 2 that turns. No other vertex has it.
 const WIDE: u8 = 3;
 
-/// A shape with as few bends as the given one, in which few vertices of degree 2 turn. The same prices prove it least.
+/// A shape with as many bends as the given one, in which few vertices of degree 2 turn. The same prices prove it least.
 ///
 /// At a vertex of degree 2 that turns, one corner has three right angles and the other has one. Such vertices are
 /// made straight one after another: a unit goes from the wide corner to the narrow one, and back from the face of
-/// the narrow one to that of the wide one, where there is a way of arcs whose reduced cost is 0 by the prices. On
-/// that way no vertex of degree 2 begins to turn. What comes of these moves is handed out only where it has fewer such
-/// angles and `is_shape` and `certify` accept it; else the given shape comes back, where no vertex of degree 2 turns
-/// after one look at each angle. How few turn in the end is measured and not proved.
+/// the narrow one to that of the wide one, where there is a way of residual arcs whose reduced cost is 0 by the
+/// prices (a flow of least cost stays one along a cycle of such arcs, by complementary slackness). On that way no
+/// vertex of degree 2 begins to turn. What comes of these moves is handed out only where it has fewer wide angles and
+/// `is_shape` and `certify` accept it; else the given shape comes back: after one look at each angle where no vertex of
+/// degree 2 turns. How few turn in the end is measured and not proved.
 ///
 /// # Errors
 ///
@@ -101,7 +102,7 @@ fn count_wide(plane: &Plane, shape: &Shape) -> u16
     count
 }
 
-/// Makes what vertices of degree 2 it can straight, and answers whether there was one.
+/// Makes each vertex of degree 2 straight where it can, and answers whether it did anywhere.
 fn straighten_all(scratch: &mut Scratch, plane: &Plane, prices: &Prices) -> bool
     requires { HasPrices plane.now prices.now }
 {
