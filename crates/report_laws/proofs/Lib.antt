@@ -1,0 +1,7 @@
+pub mod Bytes
+pub mod Planes
+pub mod Memory
+pub mod Spelling
+pub mod Entering
+pub mod Booking
+pub mod Wording

@@ -1,0 +1,2 @@
+pub mod BeforeDrawn
+pub mod Reports
