@@ -138,7 +138,7 @@ fn steps_are_drawn(rt: HostRuntime) -> Result<(), Fail> {
 #[test]
 fn spirals_are_drawn(rt: HostRuntime) -> Result<(), Fail> {
     let plane = plane_of(rt.alloc(), &EDGE)?;
-    for turns in [1, 2, 3, 4, 5, 10, 100, 300] {
+    for turns in [1, 2, 3, 4, 5, 10, 100, 300, 5_000] {
         let shape = spiral_in(rt.alloc(), turns).ok_or("no shape")?;
         draw(&rt, rt.alloc(), &plane, &shape)?;
     }
