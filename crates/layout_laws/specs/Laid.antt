@@ -1,4 +1,4 @@
--- What a laid answer is, in terms of lists, numbers and points alone.
+-- What a laid answer is, in terms of lists, numbers and points.
 use Rattle.std.specs.Prelude.{◌≡◌, ◌≢◌, ℕ, ◌+◌, ◌*◌, ◌/◌, ◌<◌, ◌≤◌, ◌==◌, ◌⊎◌, if◌then◌else◌, ℤ, pos, negsuc, ◌+ℤ◌, ◌-ℤ◌, ◌≤ℤ◌, List, ◌++◌, length, map, reverse, slice_index, slice_index_or, All, AllPairs, Result, IfOk, IfErr}
 use Rattle.std.specs.List.{flat_map}
 use Rattle.sums.specs.Sums.{sum_below, total_below}

@@ -43,7 +43,7 @@ IsOnOuterFace p w a =
     (s : ℕ → Bool) → ((c : ℕ) → c < w.darts → s c ≡ true → s (w.next c) ≡ true) → s a ≡ true
     → (d : ℕ) → d < darts p → face_at p d ≡ p.outer → s d ≡ true
 
--- the drawing of the shape stands in the boxes, inside a rectangle, and its outer face looks out at a side of that
+-- the drawing of the shape stands in the boxes, some corners are those of a rectangle, and a right turn of its outer face looks at a side of that
 pub record LooksOut (p : PlaneModel) (shape : ShapeModel) (b : BoxesModel) : Type 0 where
   pub drawing : Web
   pub drawn : IsDrawing p shape drawing

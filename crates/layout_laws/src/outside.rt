@@ -6,9 +6,8 @@ ghost use Rattle.dissect.specs.Boxes.{BoxesModel};
 ghost use Rattle.dissect.specs.Boxed.{IsBoxed};
 ghost use Rattle.layout_laws.specs.Outside.{LooksOut};
 
-/// Why the drawing is enclosed: it is the plane's outer face that lies outside. The whole drawing stands in the boxes with a
-/// rectangle, whatever numbers its vertices get in the order of the darts, and straight in front of a right turn
-/// of the outer face lies a place on a side of the rectangle.
+/// The whole drawing stands in the boxes. Whatever numbers their vertices get in the order of the darts, four of them are the
+/// corners of a rectangle, and straight in front of a right turn of the plane's outer face lies a place on a side of it.
 pub fn outer_face_looks_out()
     ensures { (p : PlaneModel) (shape : ShapeModel) (b : BoxesModel) → IsBoxed p shape b → LooksOut p shape b }
 {}
