@@ -1,0 +1,6 @@
+//! Each accepted graph is drawn: laws, each as the contract of a function that does nothing.
+#![tactic(auto)]
+
+mod drawn;
+
+pub use drawn::{laid_answers_are_drawn, no_cause_is_shown};
