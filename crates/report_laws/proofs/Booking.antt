@@ -58,7 +58,7 @@ split_by bytes fails records ending.Oversize has is = is
 split_by bytes fails records ending.Many has is = is
 split_by bytes fails records ending.Memory has is = absurd (has refl)
 
-same_marked : (bytes : List ℕ) (fails : Bool) (records others : List (List ℕ)) (mark other : Mark)
+pub same_marked : (bytes : List ℕ) (fails : Bool) (records others : List (List ℕ)) (mark other : Mark)
     → IsMarked bytes fails records mark → IsMarked bytes fails others other
     → mark ≢ Ended ending.Memory → other ≢ Ended ending.Memory → (records ≡ others) × (mark ≡ other)
 same_marked bytes fails records others Io Io is is' has has' =
@@ -82,7 +82,7 @@ marked_as_told (Some told) told_fails all records mark bytes fails e gave marked
 
 -- ---- the lines of all books
 
-book_marked : (choice : Choice) (meaning : Meaning) (file : ℕ) (book : BookModel) (bytes : List ℕ) → told_of meaning ≡ Some bytes
+pub book_marked : (choice : Choice) (meaning : Meaning) (file : ℕ) (book : BookModel) (bytes : List ℕ) → told_of meaning ≡ Some bytes
     → (is : IsBook choice meaning file book) → IsMarked bytes (fails_of meaning) is.whole.records book.mark
 book_marked choice meaning file book bytes told is =
     let found = is.whole.found in

@@ -5,3 +5,4 @@ pub mod Spelling
 pub mod Entering
 pub mod Booking
 pub mod Wording
+pub mod Whole

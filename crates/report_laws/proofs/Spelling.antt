@@ -124,7 +124,7 @@ drawn_behind front drawing other = parted drawing ∙ drawn_apart front (behind_
     parted d = ap (λ (l : List ℕ). before_drawn (front ++ l)) (drawn_parts d) ∙ ap before_drawn (sym (append_assoc front (codes " drawn=") (behind_drawn d)))
 
 -- the sizes of a plane and of a least shape of it leave no choice open
-same_sizes : (choice : Choice) (bytes : List ℕ) (plane other : PlaneModel) (shape shape' : ShapeModel) (prices prices' : PricesModel) (drawing drawing' : Result PointsModel Cause)
+pub same_sizes : (choice : Choice) (bytes : List ℕ) (plane other : PlaneModel) (shape shape' : ShapeModel) (prices prices' : PricesModel) (drawing drawing' : Result PointsModel Cause)
     → IsLaid choice bytes plane shape prices drawing → IsLaid choice bytes other shape' prices' drawing'
     → sizes_text plane shape ≡ sizes_text other shape'
 same_sizes choice bytes plane other shape shape' prices prices' drawing drawing' one two =

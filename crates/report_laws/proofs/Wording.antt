@@ -76,7 +76,7 @@ have_memory number (book ∷ books) none zero d inside = has_memory number book 
 have_memory number (book ∷ books) none (suc k) d inside =
     have_memory (number + 1) books (λ has. none (word_behind (book_text number book) (numbered_texts book_text (number + 1) books) has)) k d (omega (arith, inside))
 
-books_have_memory : (text : List ℕ) (books : List BookModel) → text ≡ report_text books → HasNoMemoryWord text → All HasMemory books
+pub books_have_memory : (text : List ℕ) (books : List BookModel) → text ≡ report_text books → HasNoMemoryWord text → All HasMemory books
 books_have_memory text books is none = have_memory 1 books (λ has. none has.front has.back (is ∙ has.parts))
 
 pub same_texts : (choice : Choice) (meaning other_meaning : ℕ → Meaning) (files : ℕ) (text other : List ℕ)

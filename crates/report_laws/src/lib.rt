@@ -1,7 +1,6 @@
-//! Laws of reports, each as the contract of a function that does nothing: a report leaves no choice open but what it says of
-//! drawings.
+//! Laws of reports, each as the contract of a function that does nothing: a report leaves no choice open.
 #![tactic(auto)]
 
 mod same;
 
-pub use same::{only_drawn_is_left_out, same_lines, same_report};
+pub use same::{one_report, only_drawn_is_left_out, same_lines, same_report};

@@ -1,4 +1,4 @@
-//! Reports of the same bytes under the same choice are the same, line by line, up to " drawn=".
+//! Reports of the same bytes under the same choice are the same.
 
 ghost use Rattle.std.specs.Prelude.{◌≡◌, ◌⊎◌, ℕ, List, [], ◌++◌, codes};
 ghost use Rattle.choices.specs.declared.Choice.{Choice};
@@ -37,4 +37,15 @@ pub fn same_report()
         → HasNoMemoryWord text
         → HasNoMemoryWord other
         → lines_before_drawn text ≡ lines_before_drawn other }
+{}
+
+/// So the whole texts are one: each accepted graph is drawn, so a line says `drawn=yes` or nothing of a drawing.
+pub fn one_report()
+    ensures { (choice : Choice) (meaning other_meaning : ℕ → Meaning) (files : ℕ) (text other : List ℕ)
+        → IsReport choice meaning files text
+        → IsReport choice other_meaning files other
+        → AllTellSame files meaning other_meaning
+        → HasNoMemoryWord text
+        → HasNoMemoryWord other
+        → text ≡ other }
 {}
