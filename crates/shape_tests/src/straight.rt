@@ -85,7 +85,7 @@ fn fewest_turning(rt: HostRuntime) -> Result<(), Fail> {
     expect_turning(&rt, alloc, &mut scratch, &SPIDER, 0)
 }
 
-/// Three paths of two edges between the vertices 4 and 5, and two bends, both on the edge from 2 to 4. All three
+/// Three paths of two edges between the vertices 4 and 5, and two bends, both on the edge from 1 to 5. All three
 /// vertices of degree 2 turn, but only two have to: those of the outer face, which needs two bends beside them. The
 /// one between the inner faces goes straight once a bend has moved from the one edge to another.
 const BENT: Case<'static> = Case {
@@ -99,6 +99,7 @@ const BENT: Case<'static> = Case {
 /// The figures of a least shape, and those of the straighter one.
 fn straightened(
     alloc: Global,
+    scratch: &mut Scratch,
     plane: &Plane,
     shape: Shape,
     prices: &Prices,
@@ -108,26 +109,63 @@ fn straightened(
     requires proof { IsProof plane.now shape prices.now }
 {
     let before = figures(plane, &shape, prices);
-    let straight = straighten_in(alloc, &mut Scratch::new(), plane, shape, prices)?;
+    let straight = straighten_in(alloc, scratch, plane, shape, prices)?;
     Ok((before, figures(plane, &straight, prices)))
 }
 
 /// The same of the shape of a case, where it is a least one.
-fn figures_of(alloc: Global, case: &Case<'_>) -> Result<(Figures, Figures), Fail> {
+fn figures_of(
+    alloc: Global,
+    scratch: &mut Scratch,
+    case: &Case<'_>,
+) -> Result<(Figures, Figures), Fail> {
     let plane = plane_of(alloc, case.record)?;
     let shape = shape_in(alloc, case)?;
     let prices = prices_in(alloc, case)?;
     if is_shape(&plane, &shape) && certify(&plane, &shape, &prices) {
-        straightened(alloc, &plane, shape, &prices)
+        straightened(alloc, scratch, &plane, shape, &prices)
     } else {
         Err("no least shape")?
     }
 }
 
-#[test]
-fn bends_move(rt: HostRuntime) -> Result<(), Fail> {
+const HEXAGON: [u8; 19] = [6, 2, 6, 0, 3, 1, 0, 4, 2, 0, 5, 3, 0, 6, 4, 0, 1, 5, 0];
+
+/// A cycle of six vertices as a rectangle: four of them turn, as they have to.
+const RECTANGLE: Case<'static> = Case {
+    record: &HEXAGON,
+    angles: &[3, 2, 2, 1, 3, 1, 3, 2, 2, 1, 3, 1],
+    texts: &["", "", "", "", "", "", "", "", "", "", "", ""],
+    vertices: &[0, 0, 0, 0, 0, 0],
+    faces: &[0, 0],
+};
+
+/// The same in the shape of an L: all six turn. Of its inward corner and an outward one both can go straight.
+const ANGLED: Case<'static> = Case {
+    angles: &[3, 1, 3, 3, 3, 1, 3, 1, 3, 1, 1, 1],
+    ..RECTANGLE
+};
+
+/// Sees that so many vertices of degree 2 turn before and after, with so many bends.
+fn expect_straightened(
+    rt: &impl Abort,
+    alloc: Global,
+    scratch: &mut Scratch,
+    case: &Case<'_>,
+    want: (u16, u16, u32),
+) -> Result<(), Fail> {
+    let (before, after, bends) = want;
     let right = (true, true);
-    let want = ((3, 2, right), (2, 2, right));
-    assert_eq!(rt; figures_of(rt.alloc(), &BENT)?, want);
+    let figures = figures_of(alloc, scratch, case)?;
+    same(rt, figures, ((before, bends, right), (after, bends, right)));
     Ok(())
+}
+
+/// What the search in the rectangle leaves in the scratch would mislead the one for the bends behind it.
+#[test]
+fn units_move(rt: HostRuntime) -> Result<(), Fail> {
+    let mut scratch = Scratch::new();
+    expect_straightened(&rt, rt.alloc(), &mut scratch, &RECTANGLE, (4, 4, 0))?;
+    expect_straightened(&rt, rt.alloc(), &mut scratch, &BENT, (3, 2, 2))?;
+    expect_straightened(&rt, rt.alloc(), &mut scratch, &ANGLED, (6, 4, 0))
 }
