@@ -1,0 +1,5 @@
+use Rattle.run_laws.proofs.Whole.{same_runs}
+use Rattle.run_laws.proofs.runs.same_whole_runs.Goals as goal
+
+pub returns : goal.returns
+returns c = same_runs

@@ -1,0 +1,29 @@
+//! Whole runs, and texts that `write_batch` has written, in the words of reports.
+
+ghost use Rattle.std.specs.Prelude.{◌≡◌, ℕ, List, ◌++◌, Some};
+ghost use Rattle.choices.specs.declared.Choice.{Choice};
+ghost use Rattle.lanes.specs.Opening.{Meaning};
+ghost use Rattle.books.specs.Books.{BookModel};
+ghost use Rattle.reports.specs.Report.{book_text};
+ghost use Rattle.reports.specs.declared.form.Form.{Form};
+ghost use Rattle.texts.specs.Whole.{IsAllWritten};
+ghost use Rattle.collector.specs.Headline.{IsWholeRun};
+ghost use Rattle.report_laws.specs.BeforeDrawn.{lines_before_drawn};
+ghost use Rattle.report_laws.specs.Reports.{IsReport};
+
+/// Two whole runs of the same bytes under the same choice have the same lines up to " drawn=" in a report, the last one
+/// included, whichever numbers their files have.
+pub fn same_whole_runs()
+    ensures { (choice : Choice) (file other_file : ℕ) (bytes : List ℕ) (book other : BookModel)
+        → IsWholeRun choice file bytes book
+        → IsWholeRun choice other_file bytes other
+        → (number : ℕ)
+        → lines_before_drawn (book_text number book) ≡ lines_before_drawn (book_text number other) }
+{}
+
+/// What `write_batch` adds to a sink, in the form of a report, is the report of right books.
+pub fn written_is_report()
+    ensures { (choice : Choice) (meaning : ℕ → Meaning) (files status : ℕ) (start now : List ℕ)
+        → IsAllWritten choice meaning Form.Report files (Some start) (Some now) status
+        → (text : List ℕ) × (now ≡ start ++ text) × IsReport choice meaning files text }
+{}
