@@ -2,7 +2,6 @@
 
 ghost use Rattle.answers.specs.Steps.{IsEmbedded};
 
-use crate::drawing_kind::DrawingKind;
 use crate::fault::LayoutFault;
 use crate::laying::LayScratch;
 use crate::shaped::Shaped;
@@ -23,8 +22,6 @@ pub struct Embedded {
     pub rec: Record,
     /// How the outer face of its plane is chosen.
     pub choice: Choice,
-    /// Which drawing is made of it.
-    pub drawing: DrawingKind,
     pub plane: Result<Plane, LayoutFault>,
     pub ghost embedded: { ∥ IsEmbedded rec plane ∥₁ },
 }
@@ -58,8 +55,7 @@ impl Staged for Embedded {
             ordinal: self.ordinal,
             rec: self.rec,
             choice: self.choice,
-            drawing: self.drawing,
-            layout: shape(alloc, scratch, self.plane, self.choice, self.drawing),
+            layout: shape(alloc, scratch, self.plane, self.choice),
         }
     }
 }

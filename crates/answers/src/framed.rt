@@ -1,6 +1,5 @@
 //! Records that were cut out of a file.
 
-use crate::drawing_kind::DrawingKind;
 use crate::embedded::Embedded;
 use crate::stages::embed;
 use choices::Choice;
@@ -18,8 +17,6 @@ pub struct Framed {
     pub rec: Record,
     /// How the outer face of its plane is chosen.
     pub choice: Choice,
-    /// Which drawing is made of it.
-    pub drawing: DrawingKind,
 }
 
 impl Numbered for Framed {
@@ -50,7 +47,6 @@ impl Staged for Framed {
             ordinal: self.ordinal,
             rec: self.rec,
             choice: self.choice,
-            drawing: self.drawing,
             plane,
         }
     }

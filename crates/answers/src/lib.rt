@@ -4,7 +4,6 @@
 #![tactic(auto)]
 
 mod drawing;
-mod drawing_kind;
 mod embedded;
 mod fault;
 mod framed;
@@ -14,7 +13,6 @@ mod shaped;
 mod stages;
 
 pub use drawing::DrawScratch;
-pub use drawing_kind::DrawingKind;
 pub use embedded::Embedded;
 pub use entries::{Answer, Cause, Entry};
 pub use fault::LayoutFault;

@@ -124,12 +124,12 @@ where
             lanes,
             waiting,
             choice,
-            style,
+            form,
             progress,
         } => {
             let names = names.as_slice();
             let meter = Meter::new(console, progress, names.len());
-            let outcome = layout(rt, names, input, lanes, waiting, choice, style, &meter, out);
+            let outcome = layout(rt, names, input, lanes, waiting, choice, form, &meter, out);
             meter.finish();
             outcome
         }

@@ -23,6 +23,4 @@ mod refused;
 #[cfg(test)]
 mod turned;
 #[cfg(test)]
-mod visible;
-#[cfg(test)]
 mod wide;

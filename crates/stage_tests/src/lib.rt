@@ -6,8 +6,6 @@
 #[cfg(test)]
 mod files;
 #[cfg(test)]
-mod kinds;
-#[cfg(test)]
 mod known;
 #[cfg(test)]
 mod lines;
