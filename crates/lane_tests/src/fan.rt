@@ -29,6 +29,19 @@ fn refused_memory_is_told(rt: HostRuntime) {
     same(&rt, answer(gatherer.take(&rt)), Err(()));
 }
 
+/// Items come in order with their lanes, and then the gatherer takes all givers in.
+#[test]
+fn all_givers_are_taken_in(rt: HostRuntime) {
+    let (mut givers, mut gatherer) = fan_in(rt.alloc(), 8).expect(&rt, "memory");
+    same(&rt, givers[0].give(&rt, 10), Ok(()));
+    same(&rt, givers[2].give(&rt, 20), Ok(()));
+    same(&rt, givers[0].give(&rt, 11), Ok(()));
+    same(&rt, gatherer.take(&rt), Ok((0, 10)));
+    same(&rt, gatherer.take(&rt), Ok((2, 20)));
+    same(&rt, gatherer.take(&rt), Ok((0, 11)));
+    gatherer.settle(&rt, givers);
+}
+
 #[test]
 fn the_gatherer_is_gone(rt: HostRuntime) {
     let (mut givers, gatherer) = fan_in(rt.alloc(), 4).expect(&rt, "memory");
