@@ -1,0 +1,120 @@
+//! Sums of what moves each row up and down.
+
+ghost use Rattle.std.specs.Prelude.{◌≡◌, ◌<◌, ◌≤◌, ◌↔◌, ◌+◌, ◌==◌, if◌then◌else◌, ℕ, [], length, true, IfOk, slice_index};
+ghost use Rattle.sums.specs.Sums.{sum_below};
+ghost use Rattle.least_length.specs.declared.rows.TheConstants.{MAX_EDGES, MAX_SIGHTS};
+ghost use Rattle.least_length.specs.Lengths.{edge_at};
+ghost use Rattle.least_length.specs.Weights.{down_at, sight_at, up_at};
+
+use crate::rows::{Edge, Sight};
+use std::alloc::{AllocError, Global};
+
+/// Memory for what moves each row up and down.
+#[derive(Drop)]
+pub(crate) struct Balance {
+    /// For each row what moves it up.
+    up: Vec<u64>,
+    /// For each row what moves it down.
+    down: Vec<u64>,
+}
+
+impl Balance {
+    /// No memory yet.
+    pub(crate) fn empty(alloc: Global) -> Balance
+        ensures { result.up.items ≡ [] }
+    {
+        Balance {
+            up: Vec::new(alloc),
+            down: Vec::new(alloc),
+        }
+    }
+
+    /// Whether at each row edges and weights are in balance.
+    pub(crate) fn is_even(
+        &mut self,
+        rows: usize,
+        edges: &[Edge],
+        sights: &[Sight],
+    ) -> Result<bool, AllocError>
+        requires edges { length edges.now ≤ MAX_EDGES }
+        requires sights { length sights.now ≤ MAX_SIGHTS }
+        requires ends { (i : ℕ) → i < length edges.now → ((edge_at edges.now i).from < rows) × ((edge_at edges.now i).to < rows) }
+        requires pairs { (i : ℕ) → i < length sights.now → ((sight_at sights.now i).before < rows) × ((sight_at sights.now i).behind < rows) }
+        ensures { IfOk result (λ even. (even ≡ true) ↔ ((r : ℕ) → r < rows → up_at edges.now sights.now r ≡ down_at edges.now sights.now r)) }
+    {
+        self.up.clear();
+        self.up.resize(rows, 0)?;
+        self.down.clear();
+        self.down.resize(rows, 0)?;
+        let even = is_even_in(
+            edges,
+            sights,
+            self.up.as_mut_slice(),
+            self.down.as_mut_slice(),
+        );
+        Ok(even)
+    }
+}
+
+/// Whether at each row edges and weights are in balance, by adding them up in two lists of zeros.
+fn is_even_in(edges: &[Edge], sights: &[Sight], up: &mut [u64], down: &mut [u64]) -> bool
+    requires edges { length edges.now ≤ MAX_EDGES }
+    requires sights { length sights.now ≤ MAX_SIGHTS }
+    requires sizes { length down.old ≡ length up.old }
+    requires ends { (i : ℕ) → i < length edges.now → ((edge_at edges.now i).from < length up.old) × ((edge_at edges.now i).to < length up.old) }
+    requires pairs { (i : ℕ) → i < length sights.now → ((sight_at sights.now i).before < length up.old) × ((sight_at sights.now i).behind < length up.old) }
+    requires blank { (r : ℕ) → slice_index up.old r ≡ 0 }
+    requires clear { (r : ℕ) → slice_index down.old r ≡ 0 }
+    ensures { (result ≡ true) ↔ ((r : ℕ) → r < length up.old → up_at edges.now sights.now r ≡ down_at edges.now sights.now r) }
+{
+    add_edges(edges, up, down);
+    add_sights(sights, up, down);
+    are_same(up, down)
+}
+
+/// Adds a unit up where each edge starts, and one down where it ends.
+fn add_edges(edges: &[Edge], up: &mut [u64], down: &mut [u64])
+    requires few { length edges.now ≤ MAX_EDGES }
+    requires starts { (i : ℕ) → i < length edges.now → (edge_at edges.now i).from < length up.old }
+    requires ends { (i : ℕ) → i < length edges.now → (edge_at edges.now i).to < length down.old }
+    requires blank { (r : ℕ) → slice_index up.old r ≡ 0 }
+    requires clear { (r : ℕ) → slice_index down.old r ≡ 0 }
+    ensures up { (r : ℕ) → r < length up.new → slice_index up.new r ≡ sum_below (length edges.now) (λ i. if (edge_at edges.now i).from == r then 1 else 0) }
+    ensures light { (r : ℕ) → slice_index up.new r ≤ MAX_EDGES }
+    ensures slight { (r : ℕ) → slice_index down.new r ≤ MAX_EDGES }
+    ensures down { (r : ℕ) → r < length down.new → slice_index down.new r ≡ sum_below (length edges.now) (λ i. if (edge_at edges.now i).to == r then 1 else 0) }
+{
+    for edge in edges {
+        up[usize::from(edge.from)] += 1;
+        down[usize::from(edge.to)] += 1;
+    }
+}
+
+/// Adds the weight of each pair up at the row behind, and down at the row before.
+fn add_sights(sights: &[Sight], up: &mut [u64], down: &mut [u64])
+    requires few { length sights.now ≤ MAX_SIGHTS }
+    requires behind { (i : ℕ) → i < length sights.now → (sight_at sights.now i).behind < length up.old }
+    requires before { (i : ℕ) → i < length sights.now → (sight_at sights.now i).before < length down.old }
+    requires light { (r : ℕ) → slice_index up.old r ≤ MAX_EDGES }
+    requires slight { (r : ℕ) → slice_index down.old r ≤ MAX_EDGES }
+    ensures up { (r : ℕ) → r < length up.new → slice_index up.new r ≡ slice_index up.old r + sum_below (length sights.now) (λ i. if (sight_at sights.now i).behind == r then (sight_at sights.now i).weight else 0) }
+    ensures down { (r : ℕ) → r < length down.new → slice_index down.new r ≡ slice_index down.old r + sum_below (length sights.now) (λ i. if (sight_at sights.now i).before == r then (sight_at sights.now i).weight else 0) }
+{
+    for sight in sights {
+        up[usize::from(sight.behind)] += u64::from(sight.weight);
+        down[usize::from(sight.before)] += u64::from(sight.weight);
+    }
+}
+
+/// Whether two lists of one length are the same.
+fn are_same(up: &[u64], down: &[u64]) -> bool
+    requires { length up.now ≡ length down.now }
+    ensures { (result ≡ true) ↔ ((r : ℕ) → r < length up.now → slice_index up.now r ≡ slice_index down.now r) }
+{
+    for place in 0..up.len() {
+        if up[place] != down[place] {
+            return false;
+        }
+    }
+    true
+}

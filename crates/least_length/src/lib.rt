@@ -1,0 +1,18 @@
+//! Numbers of rows along one axis with which edges are shortest in all, and their proof.
+//!
+//! A *row* is a longest line of vertices and corners that edges join along the other axis; along this one it has one
+//! number. The rows on a level keep their order, and nothing else is kept. Least total length is then a linear program
+//! over the rows; its dual gives each pair of rows that stand on one level a weight, and weights that are in balance
+//! at each row bound the length of all numbers from below (Tamassia 1987, by a flow; strong duality).
+#![tactic(auto)]
+
+mod balance;
+mod certificate;
+mod laws;
+mod rows;
+mod scratch;
+
+pub use certificate::certify_lengths;
+pub use laws::weights_bound_lengths;
+pub use rows::{Edge, MAX_EDGES, MAX_SIGHTS, Row, Sight};
+pub use scratch::Scratch;

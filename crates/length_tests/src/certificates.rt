@@ -1,0 +1,122 @@
+//! Certificates by hand, and lists that are none.
+use crate::made::{Drawn, is_certified, same};
+use std::process::Abort;
+use std::test::Fail;
+
+/// Three vertices on a line, drawn far apart.
+const LINE: Drawn<'static> = Drawn {
+    rows: &[(0, 3, 3), (5, 3, 3), (9, 3, 3)],
+    edges: &[(0, 1), (1, 2)],
+};
+
+/// A box with two vertices on its lower side, and in it a leaf of its right side, drawn too far to the left:
+///
+/// ```text
+/// level 4   0-----------4
+///           |           |
+/// level 2   |  3--------|
+///           |           |
+/// level 0   0--1-----2--4
+/// ```
+///
+/// Below a width of 3 the vertices of the lower side do not keep their order, so its least length is 3 + 1 + 3.
+const BOX: Drawn<'static> = Drawn {
+    rows: &[(0, 0, 4), (1, 0, 0), (3, 0, 0), (1, 2, 2), (4, 0, 4)],
+    edges: &[(0, 1), (1, 2), (2, 4), (3, 4), (0, 4)],
+};
+
+/// The box without its upper side.
+const OPEN_BOX: Drawn<'static> = Drawn {
+    rows: &[(0, 0, 4), (1, 0, 0), (3, 0, 0), (1, 2, 2), (4, 0, 4)],
+    edges: &[(0, 1), (1, 2), (2, 4), (3, 4)],
+};
+
+/// The lower side holds the upper one apart too; the leaf's edge holds itself.
+const BOX_WEIGHTS: &[(u16, u16, u32)] = &[(0, 1, 2), (1, 2, 2), (2, 4, 2), (3, 4, 1), (0, 3, 0)];
+
+/// Numbers, weights, and whether they are a certificate of the box.
+const OF_BOX: [(&[u16], &[(u16, u16, u32)], bool); 13] = [
+    (&[0, 1, 2, 2, 3], BOX_WEIGHTS, true),
+    // the same further on
+    (&[7, 8, 9, 9, 10], BOX_WEIGHTS, true),
+    // other points: the leaf where it was, the box as wide as it was
+    (&[0, 1, 2, 1, 3], BOX_WEIGHTS, false),
+    (&[0, 1, 3, 3, 4], BOX_WEIGHTS, false),
+    // shorter, but not in order: the leaf on the right side, a vertex on the corner
+    (&[0, 1, 2, 3, 3], BOX_WEIGHTS, false),
+    (&[0, 1, 1, 1, 2], BOX_WEIGHTS, false),
+    // the leaf's edge does not count
+    (&[0, 1, 2, 2, 3], &[(0, 1, 2), (1, 2, 2), (2, 4, 2)], false),
+    // the cut from the left side to the leaf counts as an edge
+    (
+        &[0, 1, 2, 2, 3],
+        &[(0, 1, 2), (1, 2, 2), (2, 4, 2), (3, 4, 1), (0, 3, 1)],
+        false,
+    ),
+    // the right sum, out of balance
+    (
+        &[0, 1, 2, 2, 3],
+        &[(0, 1, 3), (1, 2, 2), (2, 4, 1), (3, 4, 1)],
+        false,
+    ),
+    // a pair the wrong way, one on no level, and one without a row
+    (
+        &[0, 1, 2, 2, 3],
+        &[(0, 1, 2), (1, 2, 2), (2, 4, 2), (3, 4, 1), (4, 3, 0)],
+        false,
+    ),
+    (
+        &[0, 1, 2, 2, 3],
+        &[(0, 1, 2), (1, 2, 2), (2, 4, 2), (3, 4, 1), (1, 3, 0)],
+        false,
+    ),
+    (
+        &[0, 1, 2, 2, 3],
+        &[(0, 1, 2), (1, 2, 2), (2, 4, 2), (3, 4, 1), (0, 5, 0)],
+        false,
+    ),
+    // none
+    (&[0, 1, 2, 2, 3], &[], false),
+];
+
+#[test]
+fn rows_on_a_line_close_up(rt: HostRuntime) -> Result<(), Fail> {
+    let weights = [(0, 1, 1), (1, 2, 1)];
+    for (numbers, wanted) in [([0, 1, 2], true), ([0, 5, 9], false), ([0, 1, 3], false)] {
+        same(
+            &rt,
+            is_certified(rt.alloc(), LINE, &numbers, &weights)?,
+            wanted,
+        );
+    }
+    Ok(())
+}
+
+#[test]
+fn a_box_is_held_apart_by_one_side(rt: HostRuntime) -> Result<(), Fail> {
+    for (numbers, weights, wanted) in OF_BOX {
+        same(
+            &rt,
+            is_certified(rt.alloc(), BOX, numbers, weights)?,
+            wanted,
+        );
+    }
+    Ok(())
+}
+
+#[test]
+fn weights_are_of_one_drawing(rt: HostRuntime) -> Result<(), Fail> {
+    let numbers = [0, 1, 2, 2, 3];
+    same(
+        &rt,
+        is_certified(rt.alloc(), OPEN_BOX, &numbers, BOX_WEIGHTS)?,
+        false,
+    );
+    let lighter = [(0, 1, 1), (1, 2, 1), (2, 4, 1), (3, 4, 1)];
+    same(
+        &rt,
+        is_certified(rt.alloc(), OPEN_BOX, &numbers, &lighter)?,
+        true,
+    );
+    Ok(())
+}
