@@ -5,6 +5,7 @@ ghost use Rattle.least_length.specs.declared.rows.TheConstants.{MAX_EDGES, MAX_S
 ghost use Rattle.least_length.specs.Lengths.{edge_at, numbers_in, row_at, total_length, IsBefore, IsLeast, KeepsOrder};
 ghost use Rattle.least_length.specs.Weights.{sight_at, total_weight, HasEnds, IsCertificate, IsSight};
 
+use crate::balance::Balance;
 use crate::rows::{Edge, Row, Sight};
 use crate::scratch::Scratch;
 use std::alloc::AllocError;
@@ -29,13 +30,30 @@ pub fn certify_lengths(
     ensures exact { IfOk result (λ found. (found ≡ true) ↔ IsCertificate rows.now edges.now (numbers_in numbers.now) sights.now) }
     ensures least { IfOk result (λ found. found ≡ true → IsLeast rows.now edges.now (numbers_in numbers.now)) }
 {
+    certify(&mut scratch.balance, rows, edges, numbers, sights)
+}
+
+/// The same as [`certify_lengths`], in just the memory that it needs.
+pub(crate) fn certify(
+    balance: &mut Balance,
+    rows: &[Row],
+    edges: &[Edge],
+    numbers: &[u16],
+    sights: &[Sight],
+) -> Result<bool, AllocError>
+    requires numbers { length numbers.now ≡ length rows.now }
+    requires edges { length edges.now ≤ MAX_EDGES }
+    requires sights { length sights.now ≤ MAX_SIGHTS }
+    ensures exact { IfOk result (λ found. (found ≡ true) ↔ IsCertificate rows.now edges.now (numbers_in numbers.now) sights.now) }
+    ensures least { IfOk result (λ found. found ≡ true → IsLeast rows.now edges.now (numbers_in numbers.now)) }
+{
     if !have_ends(rows, edges) || !are_sights(rows, sights) || !keep_order(rows, numbers) {
         return Ok(false);
     }
     if weigh(sights) != measure(edges, numbers) {
         return Ok(false);
     }
-    scratch.balance.is_even(rows.len(), edges, sights)
+    balance.is_even(rows.len(), edges, sights)
 }
 
 /// Whether both ends of each edge are rows.

@@ -9,10 +9,14 @@
 mod balance;
 mod certificate;
 mod laws;
+mod least;
+mod neighbours;
+mod pulling;
 mod rows;
 mod scratch;
 
 pub use certificate::certify_lengths;
 pub use laws::weights_bound_lengths;
+pub use least::{least_numbers, least_numbers_in};
 pub use rows::{Edge, MAX_EDGES, MAX_SIGHTS, Row, Sight};
 pub use scratch::Scratch;

@@ -3,12 +3,14 @@
 ghost use Rattle.std.specs.Prelude.{◌≡◌, []};
 
 use crate::balance::Balance;
+use crate::pulling::Pulling;
 use std::alloc::Global;
 
-/// Memory in which one certificate after another is tested. What it holds between two of them is of no use.
+/// Memory in which one axis after another is looked at. What it holds between two of them is of no use.
 #[derive(Drop)]
 pub struct Scratch {
     pub(crate) balance: Balance,
+    pub(crate) pulling: Pulling,
 }
 
 impl Scratch {
@@ -18,6 +20,7 @@ impl Scratch {
     {
         Scratch {
             balance: Balance::empty(alloc),
+            pulling: Pulling::empty(alloc),
         }
     }
 }

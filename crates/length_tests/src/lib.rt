@@ -4,4 +4,6 @@
 #[cfg(test)]
 mod certificates;
 #[cfg(test)]
+mod least;
+#[cfg(test)]
 mod made;

@@ -2,7 +2,7 @@ use Rattle.std.proofs.Common.{◌≡◌, ◌∙◌, sym, true, rules}
 use Rattle.std.proofs.lemmas.Result.{IfOk-weaker}
 use Rattle.least_length.specs.Lengths.{numbers_in}
 use Rattle.least_length.proofs.Weighing.{certified, certificate_parts}
-use Rattle.least_length.proofs.certificate.certify_lengths.Goals as goal
+use Rattle.least_length.proofs.certificate.certify.Goals as goal
 
 pub returns-clause-exact : goal.returns-clause-exact
 returns-clause-exact c =

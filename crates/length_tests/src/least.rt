@@ -1,0 +1,158 @@
+//! Rows whose least length is known by hand.
+use crate::made::{Drawn, edges_of, rows_of, same};
+use least_length::{Edge, least_numbers};
+use std::alloc::{AllocError, Global};
+use std::process::Abort;
+use std::test::Fail;
+
+/// Drawings, rows in the order of their numbers, and the least length of each.
+const DRAWINGS: [(Drawn<'static>, Option<u32>); 10] = [
+    // nothing, and a row alone
+    (
+        Drawn {
+            rows: &[],
+            edges: &[],
+        },
+        Some(0),
+    ),
+    (
+        Drawn {
+            rows: &[(7, 0, 3)],
+            edges: &[],
+        },
+        Some(0),
+    ),
+    // three on a line
+    (
+        Drawn {
+            rows: &[(0, 3, 3), (5, 3, 3), (9, 3, 3)],
+            edges: &[(0, 1), (1, 2)],
+        },
+        Some(2),
+    ),
+    // leaves of a line, ahead of it and behind it, on levels of their own
+    (
+        Drawn {
+            rows: &[(0, 0, 4), (5, 0, 0), (7, 2, 2), (9, 4, 4)],
+            edges: &[(0, 1), (0, 2), (0, 3)],
+        },
+        Some(3),
+    ),
+    (
+        Drawn {
+            rows: &[(0, 0, 0), (1, 2, 2), (2, 4, 4), (9, 0, 4)],
+            edges: &[(0, 3), (1, 3), (2, 3)],
+        },
+        Some(3),
+    ),
+    // a box of width 3 by its lower side, and a leaf of its right side: 3 + 1 + 3
+    (
+        Drawn {
+            rows: &[(0, 0, 4), (1, 0, 0), (1, 2, 2), (3, 0, 0), (4, 0, 4)],
+            edges: &[(0, 1), (1, 3), (3, 4), (2, 4), (0, 4)],
+        },
+        Some(7),
+    ),
+    // the same with a leaf of each side: 3 + 1 + 1 + 3
+    (
+        Drawn {
+            rows: &[
+                (0, 0, 6),
+                (1, 0, 0),
+                (1, 4, 4),
+                (3, 0, 0),
+                (3, 2, 2),
+                (9, 0, 6),
+            ],
+            edges: &[(0, 1), (1, 3), (3, 5), (2, 5), (0, 4), (0, 5)],
+        },
+        Some(8),
+    ),
+    // a box of width 5, and in it a line with two edges to its left and one to its right: 5 + 1 + 1 + 4
+    (
+        Drawn {
+            rows: &[
+                (0, 0, 4),
+                (1, 0, 0),
+                (2, 0, 0),
+                (3, 0, 0),
+                (3, 2, 4),
+                (4, 0, 0),
+                (5, 0, 4),
+            ],
+            edges: &[
+                (0, 1),
+                (1, 2),
+                (2, 3),
+                (3, 5),
+                (5, 6),
+                (0, 4),
+                (0, 4),
+                (4, 6),
+            ],
+        },
+        Some(11),
+    ),
+    // one edge to its left and two to its right: 5 + 4 + 1 + 1
+    (
+        Drawn {
+            rows: &[
+                (0, 0, 4),
+                (1, 0, 0),
+                (1, 2, 4),
+                (2, 0, 0),
+                (3, 0, 0),
+                (4, 0, 0),
+                (5, 0, 4),
+            ],
+            edges: &[
+                (0, 1),
+                (1, 3),
+                (3, 4),
+                (4, 5),
+                (5, 6),
+                (0, 2),
+                (2, 6),
+                (2, 6),
+            ],
+        },
+        Some(11),
+    ),
+    // not in the order of their numbers
+    (
+        Drawn {
+            rows: &[(5, 3, 3), (0, 3, 3)],
+            edges: &[(1, 0)],
+        },
+        None,
+    ),
+];
+
+/// The total length of the edges with the numbers found, or none where none are found.
+fn least_length_of(alloc: Global, drawn: Drawn<'_>) -> Result<Option<u32>, AllocError> {
+    let rows = rows_of(alloc, drawn.rows)?;
+    let edges = edges_of(alloc, drawn.edges)?;
+    let Some(numbers) = least_numbers(alloc, &rows, &edges)? else {
+        return Ok(None);
+    };
+    Ok(Some(length_of(&edges, &numbers)))
+}
+
+/// The total length of edges.
+fn length_of(edges: &[Edge], numbers: &[u16]) -> u32 {
+    let mut total: u32 = 0;
+    for edge in edges {
+        let from = numbers.get(usize::from(edge.from)).copied().unwrap_or(0);
+        let to = numbers.get(usize::from(edge.to)).copied().unwrap_or(0);
+        total = total.saturating_add(u32::from(from.abs_diff(to)));
+    }
+    total
+}
+
+#[test]
+fn least_lengths_are_those_by_hand(rt: HostRuntime) -> Result<(), Fail> {
+    for (drawn, wanted) in DRAWINGS {
+        same(&rt, least_length_of(rt.alloc(), drawn)?, wanted);
+    }
+    Ok(())
+}
