@@ -7,15 +7,17 @@ ghost use Rattle.least_length.specs.Lengths.{edge_at};
 ghost use Rattle.least_length.specs.Weights.{down_at, sight_at, up_at};
 
 use crate::rows::{Edge, Sight};
+use crate::sweep::Sweep;
 use std::alloc::{AllocError, Global};
 
-/// Memory for what moves each row up and down.
+/// Memory for a test: what moves each row up and down, and a sweep.
 #[derive(Drop)]
 pub(crate) struct Balance {
     /// For each row what moves it up.
     up: Vec<u64>,
     /// For each row what moves it down.
     down: Vec<u64>,
+    pub(crate) sweep: Sweep,
 }
 
 impl Balance {
@@ -26,6 +28,7 @@ impl Balance {
         Balance {
             up: Vec::new(alloc),
             down: Vec::new(alloc),
+            sweep: Sweep::empty(alloc),
         }
     }
 

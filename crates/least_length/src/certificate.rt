@@ -13,7 +13,8 @@ use std::alloc::AllocError;
 /// Whether pairs of rows and their weights show that the edges are shortest in all with these numbers, one for each row:
 /// that no numbers with which rows keep their order on each level give a lesser total length.
 ///
-/// The time is quadratic in the rows, and linear in edges and pairs.
+/// The time is linear in the rows and their levels, edges and pairs, where rows are listed in the order of their numbers
+/// and the answer is yes. Else it is quadratic in the rows.
 ///
 /// # Errors
 /// `AllocError` where the lent memory is too small and there is no more.
@@ -47,7 +48,11 @@ pub(crate) fn certify(
     ensures exact { IfOk result (λ found. (found ≡ true) ↔ IsCertificate rows.now edges.now (numbers_in numbers.now) sights.now) }
     ensures least { IfOk result (λ found. found ≡ true → IsLeast rows.now edges.now (numbers_in numbers.now)) }
 {
-    if !have_ends(rows, edges) || !are_sights(rows, sights) || !keep_order(rows, numbers) {
+    if !have_ends(rows, edges) || !are_sights(rows, sights) {
+        return Ok(false);
+    }
+    let kept = balance.sweep.keep_order(rows, numbers)?;
+    if !kept {
         return Ok(false);
     }
     if weigh(sights) != measure(edges, numbers) {
@@ -102,8 +107,8 @@ fn stands_before(first: Row, second: Row) -> bool
     low <= high && first.number < second.number
 }
 
-/// Whether rows keep their order with these numbers.
-fn keep_order(rows: &[Row], numbers: &[u16]) -> bool
+/// Whether rows keep their order with these numbers, row by row.
+pub(crate) fn keep_order(rows: &[Row], numbers: &[u16]) -> bool
     requires { length numbers.now ≡ length rows.now }
     ensures { (result ≡ true) ↔ KeepsOrder rows.now (numbers_in numbers.now) }
 {

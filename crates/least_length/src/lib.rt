@@ -14,6 +14,7 @@ mod neighbours;
 mod pulling;
 mod rows;
 mod scratch;
+mod sweep;
 
 pub use certificate::certify_lengths;
 pub use laws::weights_bound_lengths;

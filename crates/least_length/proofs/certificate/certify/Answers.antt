@@ -6,11 +6,10 @@ use Rattle.least_length.proofs.certificate.certify.Goals as goal
 
 pub returns-clause-exact : goal.returns-clause-exact
 returns-clause-exact c =
-    let kept : c.keep_order.result ≡ true = search rules in
     let joined : c.have_ends.result ≡ true = search rules in
     let seen : c.are_sights.result ≡ true = search rules in
     IfOk-weaker c.is_even.result _ _
-    (λ found even. certificate_parts c.args.rows.now c.args.edges.now (numbers_in c.args.numbers.now) c.args.sights.now found (c.keep_order.ensures.0 kept) (c.have_ends.ensures.0 joined) (c.are_sights.ensures.0 seen) (sym c.weigh.ensures ∙ c.if-weigh-measure.false ∙ c.measure.ensures) even)
+    (λ found even. certificate_parts c.args.rows.now c.args.edges.now (numbers_in c.args.numbers.now) c.args.sights.now found (c.in_ok-kept.ensures.0 (search rules)) (c.have_ends.ensures.0 joined) (c.are_sights.ensures.0 seen) (sym c.weigh.ensures ∙ c.if-weigh-measure.false ∙ c.measure.ensures) even)
     c.is_even.ensures
 
 pub returns-clause-least : goal.returns-clause-least
