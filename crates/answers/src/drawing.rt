@@ -1,22 +1,27 @@
 //! How a shape is drawn.
 
-ghost use Rattle.std.specs.Prelude.{IfOk};
+ghost use Rattle.std.specs.Prelude.{◌≡◌, ◌*◌, length, IfOk, IfSome};
+ghost use Rattle.faces.specs.Planes.{darts, vertices};
 ghost use Rattle.ortho_rep.specs.Representation.{IsShape};
 ghost use Rattle.compact.specs.Ordered.{AreHeadingsOf};
-ghost use Rattle.entries.specs.Drawn.{IsDrawn};
+ghost use Rattle.drawing_check.specs.Draws.{Draws};
+ghost use Rattle.entries.specs.Drawn.{HasPoints, IsDrawn};
 
+use crate::drawing_kind::DrawingKind;
 use compact::{BoxesScratch, CompactFault, compact_in, dissect_along};
 use drawing_check::{CheckFault, Drawing, check_in};
 use entries::Cause;
 use faces::Plane;
-use ortho_rep::Shape;
+use ortho_rep::{Points, Shape};
 use std::alloc::{AllocError, Global};
+use visibility::compact_by_visibility_in;
 
 /// What drawing takes memory for and does not keep. It is lent to one shape after another.
 #[derive(Drop)]
 pub struct DrawScratch {
     boxes: BoxesScratch,
     points: compact::Scratch,
+    rows: visibility::Scratch,
     check: drawing_check::Scratch,
 }
 
@@ -26,18 +31,23 @@ impl DrawScratch {
         DrawScratch {
             boxes: BoxesScratch::empty(alloc),
             points: compact::Scratch::empty(alloc),
+            rows: visibility::Scratch::empty(alloc),
             check: drawing_check::Scratch::empty(alloc),
         }
     }
 }
 
-/// Points that draw the shape, whose darts arrive in these directions, or why there are none.
+/// Points that draw the shape so, whose darts arrive in these directions, or why there are none.
+///
+/// For a short drawing the points are compacted. Those found are handed out only where they are checked to draw the
+/// shape; else the points before are.
 pub(crate) fn draw(
     alloc: Global,
     scratch: &mut DrawScratch,
     plane: &Plane,
     shape: &Shape,
     headings: &[u8],
+    drawing: DrawingKind,
 ) -> Result<Result<Drawing, Cause>, AllocError>
     requires shape { IsShape plane.now shape.now }
     requires headings { AreHeadingsOf plane.now shape.now headings.now }
@@ -50,6 +60,11 @@ pub(crate) fn draw(
         Err(CompactFault::Memory) => return Err(AllocError),
     };
     boxes.give_back(&mut scratch.boxes);
+    match shorter_drawing(alloc, scratch, plane, shape, &points, drawing) {
+        Ok(Some(shorter)) => return Ok(Ok(shorter)),
+        Ok(None) => {}
+        Err(AllocError) => return Err(AllocError),
+    }
     match check_in(alloc, &mut scratch.check, plane, shape, points) {
         Ok(drawing) => Ok(Ok(drawing)),
         Err((CheckFault::OutOfGrid, _)) => Ok(Err(Cause::OutOfGrid)),
@@ -57,5 +72,34 @@ pub(crate) fn draw(
         Err((CheckFault::WrongTurn, _)) => Ok(Err(Cause::WrongTurn)),
         Err((CheckFault::Meet, _)) => Ok(Err(Cause::Meet)),
         Err((CheckFault::Memory, _)) => Err(AllocError),
+    }
+}
+
+/// For a short drawing, the one that compaction makes of points, where its edges are shorter and it is checked to draw
+/// the shape.
+fn shorter_drawing(
+    alloc: Global,
+    scratch: &mut DrawScratch,
+    plane: &Plane,
+    shape: &Shape,
+    points: &Points,
+    drawing: DrawingKind,
+) -> Result<Option<Drawing>, AllocError>
+    requires shape { IsShape plane.now shape.now }
+    requires vertices { length points.now.vertices ≡ vertices plane.now }
+    requires corners { 2 * length points.now.corners ≡ darts plane.now }
+    ensures points { IfOk result (λ found. IfSome found (HasPoints plane.now)) }
+    ensures draws { IfOk result (λ found. IfSome found (Draws plane.now shape.now)) }
+{
+    if drawing == DrawingKind::Quick {
+        return Ok(None);
+    }
+    let Some(shorter) = compact_by_visibility_in(alloc, &mut scratch.rows, plane, points)? else {
+        return Ok(None);
+    };
+    match check_in(alloc, &mut scratch.check, plane, shape, shorter) {
+        Ok(drawing) => Ok(Some(drawing)),
+        Err((CheckFault::Memory, _)) => Err(AllocError),
+        Err(_) => Ok(None),
     }
 }

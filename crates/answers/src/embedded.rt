@@ -2,6 +2,7 @@
 
 ghost use Rattle.answers.specs.Steps.{IsEmbedded};
 
+use crate::drawing_kind::DrawingKind;
 use crate::fault::LayoutFault;
 use crate::laying::LayScratch;
 use crate::shaped::Shaped;
@@ -22,6 +23,8 @@ pub struct Embedded {
     pub rec: Record,
     /// How the outer face of its plane is chosen.
     pub choice: Choice,
+    /// Which drawing is made of it.
+    pub drawing: DrawingKind,
     pub plane: Result<Plane, LayoutFault>,
     pub ghost embedded: { ∥ IsEmbedded rec plane ∥₁ },
 }
@@ -55,7 +58,8 @@ impl Staged for Embedded {
             ordinal: self.ordinal,
             rec: self.rec,
             choice: self.choice,
-            layout: shape(alloc, scratch, self.plane, self.choice),
+            drawing: self.drawing,
+            layout: shape(alloc, scratch, self.plane, self.choice, self.drawing),
         }
     }
 }

@@ -1,5 +1,6 @@
 //! Records that were cut out of a file.
 
+use crate::drawing_kind::DrawingKind;
 use crate::embedded::Embedded;
 use crate::stages::embed;
 use choices::Choice;
@@ -17,6 +18,8 @@ pub struct Framed {
     pub rec: Record,
     /// How the outer face of its plane is chosen.
     pub choice: Choice,
+    /// Which drawing is made of it.
+    pub drawing: DrawingKind,
 }
 
 impl Numbered for Framed {
@@ -47,6 +50,7 @@ impl Staged for Framed {
             ordinal: self.ordinal,
             rec: self.rec,
             choice: self.choice,
+            drawing: self.drawing,
             plane,
         }
     }

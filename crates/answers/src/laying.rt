@@ -6,6 +6,7 @@ ghost use Rattle.ortho_rep.specs.Prices.{IsProof};
 ghost use Rattle.compact.specs.Ordered.{AreHeadingsOf};
 ghost use Rattle.answers.specs.Steps.{IsTracedPlane, IsPlaneOf};
 
+use crate::drawing_kind::DrawingKind;
 use crate::layout::Layout;
 use choices::Choice;
 use compact::{Search, headings_in};
@@ -13,11 +14,13 @@ use faces::Plane;
 use ortho_rep::{Prices, Shape, best_shape, least_shape_in};
 use std::alloc::{AllocError, Global};
 use std::mem;
+use straightening::straighten_in;
 
 /// What laying out takes memory for and does not keep. It is lent to one plane after another.
 #[derive(Drop)]
 pub struct LayScratch {
     shapes: ortho_rep::Scratch,
+    straight: straightening::Scratch,
     search: Search,
 }
 
@@ -26,12 +29,13 @@ impl LayScratch {
     pub fn empty(alloc: Global) -> LayScratch {
         LayScratch {
             shapes: ortho_rep::Scratch::empty(alloc),
+            straight: straightening::Scratch::new(),
             search: Search::empty(alloc),
         }
     }
 }
 
-/// A layout of the plane, whose outer face is then the chosen one.
+/// A layout of the plane for this drawing, whose outer face is then the chosen one.
 ///
 /// The directions of the darts are found here, and not where the shape is drawn, since drawing takes
 /// longest of all stages.
@@ -44,11 +48,20 @@ pub(crate) fn lay(
     scratch: &mut LayScratch,
     mut plane: Plane,
     choice: Choice,
+    drawing: DrawingKind,
 ) -> Result<Layout, AllocError>
     ensures { IfOk result (λ layout. (bytes : List ℕ)
         → IsTracedPlane bytes plane → IsPlaneOf choice bytes layout.plane) }
 {
     let (shape, prices) = shape_of(alloc, &mut scratch.shapes, &mut plane, choice)?;
+    let shape = shape_for(
+        alloc,
+        &mut scratch.straight,
+        &plane,
+        shape,
+        &prices,
+        drawing,
+    )?;
     let headings = headings_of(alloc, &mut scratch.search, &plane, &shape)?;
     Ok(Layout {
         plane,
@@ -78,6 +91,29 @@ fn shape_of(
     // Only the proof needs this: `graph` says that the plane still is one.
     let _graph = plane.graph();
     Ok(found)
+}
+
+/// The shape that is drawn so: for a short drawing one in which few vertices of degree 2 turn, and else the shape as it
+/// is. The same prices prove it least.
+fn shape_for(
+    alloc: Global,
+    scratch: &mut straightening::Scratch,
+    plane: &Plane,
+    shape: Shape,
+    prices: &Prices,
+    drawing: DrawingKind,
+) -> Result<Shape, AllocError>
+    requires shape { IsShape plane.now shape }
+    requires least { IsLeast plane.now shape }
+    requires proof { IsProof plane.now shape prices.now }
+    ensures shape { IfOk result (λ made. IsShape plane.now made) }
+    ensures least { IfOk result (λ made. IsLeast plane.now made) }
+    ensures proof { IfOk result (λ made. IsProof plane.now made prices.now) }
+{
+    match drawing {
+        DrawingKind::Quick => Ok(shape),
+        DrawingKind::Short => straighten_in(alloc, scratch, plane, shape, prices),
+    }
 }
 
 /// The directions of the darts of a plane that is drawn by the shape.

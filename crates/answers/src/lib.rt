@@ -4,6 +4,7 @@
 #![tactic(auto)]
 
 mod drawing;
+mod drawing_kind;
 mod embedded;
 mod fault;
 mod framed;
@@ -13,6 +14,7 @@ mod shaped;
 mod stages;
 
 pub use drawing::DrawScratch;
+pub use drawing_kind::DrawingKind;
 pub use embedded::Embedded;
 pub use entries::{Answer, Cause, Entry};
 pub use fault::LayoutFault;

@@ -3,6 +3,7 @@
 ghost use Rattle.answers.specs.Steps.{IsShaped};
 
 use crate::drawing::DrawScratch;
+use crate::drawing_kind::DrawingKind;
 use crate::fault::LayoutFault;
 use crate::layout::Layout;
 use crate::stages::answer_with;
@@ -22,6 +23,8 @@ pub struct Shaped {
     pub rec: Record,
     /// How the outer face of its plane is chosen.
     pub choice: Choice,
+    /// Which drawing is made of it.
+    pub drawing: DrawingKind,
     pub layout: Result<Layout, LayoutFault>,
     pub ghost shaped: { ∥ IsShaped choice rec layout ∥₁ },
 }
@@ -55,7 +58,7 @@ impl Staged for Shaped {
             ordinal: self.ordinal,
             rec: self.rec,
             choice: self.choice,
-            answer: answer_with(alloc, scratch, self.layout),
+            answer: answer_with(alloc, scratch, self.layout, self.drawing),
         }
     }
 }

@@ -6,6 +6,7 @@ ghost use Rattle.choices.specs.declared.Choice.{Choice};
 ghost use Rattle.entries.specs.Answers.{Answers};
 
 use crate::drawing::{DrawScratch, draw};
+use crate::drawing_kind::DrawingKind;
 use crate::fault::LayoutFault;
 use crate::laying::{LayScratch, lay};
 use crate::layout::Layout;
@@ -32,26 +33,28 @@ pub(crate) fn embed(alloc: Global, rec: &Record) -> Result<Plane, LayoutFault>
     }
 }
 
-/// A layout of a record's plane with the chosen outer face, or why there is none.
+/// A layout of a record's plane with the chosen outer face, for this drawing, or why there is none.
 pub(crate) fn shape(
     alloc: Global,
     scratch: &mut LayScratch,
     plane: Result<Plane, LayoutFault>,
     choice: Choice,
+    drawing: DrawingKind,
 ) -> Result<Layout, LayoutFault>
     ensures { (bytes : List ℕ) → IsEmbedded bytes plane → IsShaped choice bytes result }
 {
-    match lay(alloc, scratch, plane?, choice) {
+    match lay(alloc, scratch, plane?, choice, drawing) {
         Ok(layout) => Ok(layout),
         Err(AllocError) => Err(LayoutFault::Memory),
     }
 }
 
-/// What is answered to a record with this layout, or without one.
+/// What is answered to a record with this layout, which is drawn so, or without one.
 pub(crate) fn answer_with(
     alloc: Global,
     scratch: &mut DrawScratch,
     layout: Result<Layout, LayoutFault>,
+    drawing: DrawingKind,
 ) -> Answer
     ensures { (choice : Choice) (bytes : List ℕ) → IsShaped choice bytes layout → Answers choice bytes result }
 {
@@ -65,7 +68,7 @@ pub(crate) fn answer_with(
         Err(LayoutFault::Rule(rule)) => return Answer::Refused(rule),
         Err(LayoutFault::Memory) => return Answer::NoMemory,
     };
-    match draw(alloc, scratch, &plane, &shape, &headings) {
+    match draw(alloc, scratch, &plane, &shape, &headings, drawing) {
         Ok(drawing) => Answer::Laid {
             plane,
             shape,
@@ -76,7 +79,8 @@ pub(crate) fn answer_with(
     }
 }
 
-/// The entry of a record under a choice of its outer face: one stage after another, on the caller's thread.
+/// The entry of a record under a choice of its outer face: one stage after another, on the caller's thread. The
+/// drawing is the quick one.
 ///
 /// Where any call on the way finds no memory, the answer is `NoMemory`.
 pub fn answer(alloc: Global, file: u32, ordinal: u32, rec: Record, choice: Choice) -> Entry
@@ -89,12 +93,13 @@ pub fn answer(alloc: Global, file: u32, ordinal: u32, rec: Record, choice: Choic
     let plane = embed(alloc, &rec);
     let mut lay_scratch = LayScratch::empty(alloc);
     let mut draw_scratch = DrawScratch::empty(alloc);
-    let layout = shape(alloc, &mut lay_scratch, plane, choice);
+    let drawing = DrawingKind::Quick;
+    let layout = shape(alloc, &mut lay_scratch, plane, choice, drawing);
     Entry {
         file,
         ordinal,
         rec,
         choice,
-        answer: answer_with(alloc, &mut draw_scratch, layout),
+        answer: answer_with(alloc, &mut draw_scratch, layout, drawing),
     }
 }

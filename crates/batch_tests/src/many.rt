@@ -4,7 +4,8 @@ ghost use Rattle.ruled_lanes.specs.declared.limits.TheConstants.{MAX_CAPACITY};
 
 use crate::shared::{opener_of, report_of, same, text_of_lanes};
 use collector::{
-    Choice, Form, IoSink, MAX_LANES, MemOpener, OpenGate, run_batch, run_plain, write_json,
+    Choice, DrawingKind, Form, IoSink, MAX_LANES, MemOpener, OpenGate, Style, run_batch, run_plain,
+    write_json,
 };
 use std::alloc::{AllocError, Global};
 use std::process::Abort;
@@ -114,15 +115,22 @@ fn lines_of_books(alloc: Global, opener: &MemOpener, files: u32) -> Option<Vec<u
     Some(sink.into_writer())
 }
 
-/// JSON lines that leave as they are made over any number of lanes are those of the books of one thread.
+/// A text of drawings of this kind.
+fn style_of(form: Form, drawing: DrawingKind) -> Style {
+    Style { form, drawing }
+}
+
+/// JSON lines of quick drawings that leave as they are made over any number of lanes are those of the books of one
+/// thread.
 #[test]
 fn json_lines_are_those_of_books(rt: HostRuntime) -> Result<(), Fail> {
     let opener = different(rt.alloc(), 48)?;
     let due = lines_of_books(rt.alloc(), &opener, 48).ok_or("no lines")?;
     let lines = due.as_slice().split(|byte| *byte == b'\n').count();
     same(&rt, lines, 16 * 2 + 16 * 5 + 16 + 1);
+    let style = style_of(Form::Json, DrawingKind::Quick);
     for lanes in 1..=MAX_LANES {
-        let found = text_of_lanes(&rt, &opener, 48, lanes, Form::Json).ok_or("no text")?;
+        let found = text_of_lanes(&rt, &opener, 48, lanes, style).ok_or("no text")?;
         same(&rt, found.as_slice() == due.as_slice(), true);
     }
     Ok(())

@@ -3,8 +3,8 @@
 ghost use Rattle.std.specs.Prelude.{◌<◌};
 
 use collector::{
-    Batch, Choice, Form, Gate, IoSink, MemOpener, OpenGate, WriteFault, run_batch, run_plain,
-    write_batch, write_report,
+    Batch, Choice, DrawingKind, Form, Gate, IoSink, MemOpener, OpenGate, Style, WriteFault,
+    run_batch, run_plain, write_batch, write_report,
 };
 use std::alloc::{AllocError, Global};
 use std::fmt::Debug;
@@ -111,7 +111,10 @@ fn lanes_text<R: AllocGlobal + Threads + Wait + Sync, G: Gate>(
     let count = count_of(files)?;
     let opener = opener_of(rt.alloc(), files, 1).ok()?;
     let mut sink = IoSink::new(Vec::new(rt.alloc()));
-    let form = Form::Report;
+    let style = Style {
+        form: Form::Report,
+        drawing: DrawingKind::Quick,
+    };
     write_batch(
         rt,
         rt.alloc(),
@@ -121,7 +124,7 @@ fn lanes_text<R: AllocGlobal + Threads + Wait + Sync, G: Gate>(
         1,
         usize::MAX,
         choice,
-        form,
+        style,
         gate,
         &mut sink,
     )
@@ -129,13 +132,13 @@ fn lanes_text<R: AllocGlobal + Threads + Wait + Sync, G: Gate>(
     Some(sink.into_writer())
 }
 
-/// The text in this form of a run over so many files of an opener, as it is made.
+/// The text in this style of a run over so many files of an opener, as it is made.
 pub(crate) fn text_of_lanes<R: AllocGlobal + Threads + Wait + Sync>(
     rt: &R,
     opener: &MemOpener,
     files: u32,
     lanes: u32,
-    form: Form,
+    style: Style,
 ) -> Option<Vec<u8>> {
     let (alloc, choice) = (rt.alloc(), Choice::First);
     let mut sink = IoSink::new(Vec::new(alloc));
@@ -148,7 +151,7 @@ pub(crate) fn text_of_lanes<R: AllocGlobal + Threads + Wait + Sync>(
         1,
         usize::MAX,
         choice,
-        form,
+        style,
         &OpenGate,
         &mut sink,
     )

@@ -1,14 +1,14 @@
 //! What a run's lanes do.
 ghost use Rattle.std.specs.Prelude.{⊤};
 
-use answers::{Embedded, Framed, Shaped};
+use answers::{DrawingKind, Embedded, Framed, Shaped};
 use choices::Choice;
 use entries::Entry;
 use lane_runs::LaneKind;
 use planar_code::Record;
 use streams::SourceEnd;
 
-/// Lanes that answer records: what is known of a record between their stages.
+/// Lanes that answer records by quick drawings: what is known of a record between their stages.
 #[derive(Clone, Copy, Debug)]
 pub struct Answering;
 
@@ -33,6 +33,7 @@ impl LaneKind for Answering {
             ordinal,
             rec,
             choice,
+            drawing: DrawingKind::Quick,
         }
     }
 

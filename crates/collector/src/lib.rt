@@ -9,7 +9,7 @@ mod plain;
 mod run;
 mod text;
 
-pub use answers::{Answer, Cause, Entry, answer};
+pub use answers::{Answer, Cause, DrawingKind, Entry, answer};
 pub use books::{Batch, Book, MAX_FILES};
 pub use choices::Choice;
 pub use lanes::{Gate, MemOpener, OpenFault, OpenGate, Opener, Stage};
@@ -20,4 +20,4 @@ pub use streams::{
     run_frames, write_frames,
 };
 pub use text::{TextFault, write_batch};
-pub use texts::{Form, push_cause, write_json, write_report};
+pub use texts::{Form, Style, push_cause, write_json, write_report};

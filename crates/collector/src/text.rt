@@ -10,6 +10,7 @@ ghost use Rattle.texts.specs.Whole.{IsAllWritten, IsBegun};
 ghost use Rattle.collector.specs.TextRuns.{IsRefusedRun};
 
 use crate::run::MAX_LANES;
+use answers::DrawingKind;
 use books::MAX_FILES;
 use choices::Choice;
 use lane_runs::{LaneKind, RunFault, run_lanes};
@@ -20,7 +21,10 @@ use std::marker::Brand;
 use std::sync::Wait;
 use std::thread::Threads;
 use streams::{BatchFault, Sink, WriteFault};
-use texts::{Form, JsonLines, KnownEnd, Lines, Pace, Printed, Refusal, ReportLines, Texts, Told};
+use texts::{
+    Form, JsonLines, KnownEnd, Lines, Pace, Printed, Quick, Refusal, ReportLines, Short, Style,
+    Texts, Told,
+};
 
 /// Why a text was not written whole. What was written is then a beginning of one.
 #[derive(Clone, Copy, Debug, PartialEq, Eq)]
@@ -32,8 +36,8 @@ pub enum TextFault {
 }
 
 /// Reads the first `files` files of the opener, answers each record under this choice of the outer face, and
-/// writes the text of their books in this form, as `Form::write` writes those of `run_batch`, while they are
-/// read. It answers the status of the whole text: 0 where each file ended complete and no record lacks its answer
+/// writes the text of their books in the form of this style, as `Form::write` writes books, while they are
+/// read. Their drawings are of the style's kind, which only JSON lines show. It answers the status of the whole text: 0 where each file ended complete and no record lacks its answer
 /// or its line for want of memory, and else 3.
 ///
 /// Files go over lanes as in `run_batch`. They leave in their order: the lines of the first file that has not
@@ -59,15 +63,15 @@ pub fn write_batch<R: Threads + Wait + Sync, O: Opener, G: Gate, S: Sink>(
     capacity: u32,
     waiting: usize,
     choice: Choice,
-    form: Form,
+    style: Style,
     gate: &G,
     sink: &mut S,
 ) -> Result<u8, TextFault>
     requires least { 1 ≤ capacity }
     requires most { capacity ≤ MAX_CAPACITY }
     requires stands { S.failed sink.old ≡ false }
-    ensures written { IfOk result (IsAllWritten choice (O.meaning opener.now) form files (S.taken sink.old) (S.taken sink.new)) }
-    ensures begun { OnErr result ∥ IsBegun choice (O.meaning opener.now) form files (S.taken sink.old) (S.taken sink.new) ∥₁ }
+    ensures written { IfOk result (IsAllWritten choice (O.meaning opener.now) style.form files (S.taken sink.old) (S.taken sink.new)) }
+    ensures begun { OnErr result ∥ IsBegun choice (O.meaning opener.now) style.form files (S.taken sink.old) (S.taken sink.new) ∥₁ }
     ensures status { IfOk result (λ status. (status ≡ 0) ⊎ (status ≡ 3)) }
     ensures too_many { (MAX_FILES < files) ↔ (result ≡ Err (TextFault.Run BatchFault.TooManyFiles)) }
     ensures bad_lanes { (((lanes ≡ 0) ⊎ (LANES < lanes)) × (files ≤ MAX_FILES))
@@ -87,7 +91,7 @@ pub fn write_batch<R: Threads + Wait + Sync, O: Opener, G: Gate, S: Sink>(
         most: waiting,
     };
     write_files::<Brand, _, _, _, _>(
-        rt, alloc, opener, files, lanes, capacity, pace, choice, form, gate, sink,
+        rt, alloc, opener, files, lanes, capacity, pace, choice, style, gate, sink,
     )
 }
 
@@ -101,7 +105,7 @@ fn write_files<J: Told + Send + Sync, R: Threads + Wait + Sync, O: Opener, G: Ga
     capacity: u32,
     pace: Pace<'_>,
     choice: Choice,
-    form: Form,
+    style: Style,
     gate: &G,
     sink: &mut S,
 ) -> Result<u8, TextFault>
@@ -111,13 +115,13 @@ fn write_files<J: Told + Send + Sync, R: Threads + Wait + Sync, O: Opener, G: Ga
     requires most { capacity ≤ MAX_CAPACITY }
     requires stands { S.failed sink.old ≡ false }
     requires told { J.meaning ≡ O.meaning opener.now }
-    ensures written { IfOk result (IsAllWritten choice (O.meaning opener.now) form files (S.taken sink.old) (S.taken sink.new)) }
-    ensures begun { OnErr result ∥ IsBegun choice (O.meaning opener.now) form files (S.taken sink.old) (S.taken sink.new) ∥₁ }
+    ensures written { IfOk result (IsAllWritten choice (O.meaning opener.now) style.form files (S.taken sink.old) (S.taken sink.new)) }
+    ensures begun { OnErr result ∥ IsBegun choice (O.meaning opener.now) style.form files (S.taken sink.old) (S.taken sink.new) ∥₁ }
     ensures status { IfOk result (λ status. (status ≡ 0) ⊎ (status ≡ 3)) }
     ensures began { IfErr result (λ fault. ¬ IsRefusedRun fault) }
     ensures failed { (result ≡ Err TextFault.Write) ↔ (S.failed sink.new ≡ true) }
 {
-    let Ok(lines) = Lines::new(alloc, form, choice, files) else {
+    let Ok(lines) = Lines::new(alloc, style.form, choice, files) else {
         return Err(TextFault::Run(BatchFault::Memory));
     };
     let pausing = PausingOpener {
@@ -128,7 +132,7 @@ fn write_files<J: Told + Send + Sync, R: Threads + Wait + Sync, O: Opener, G: Ga
     let texts = Texts::new(alloc, sink, lines, pace);
     let mut ran = Ok(());
     let texts = run_form::<J, _, _, _, _>(
-        rt, alloc, &pausing, gate, files, lanes, capacity, choice, form, texts, &mut ran,
+        rt, alloc, &pausing, gate, files, lanes, capacity, choice, style, texts, &mut ran,
     );
     match ran {
         Ok(()) => match texts.finish() {
@@ -164,7 +168,7 @@ fn fault_of(fault: RunFault<Refusal>) -> TextFault
     }
 }
 
-/// Runs the lanes that print lines in this form.
+/// Runs the lanes that print lines in this style.
 fn run_form<
     J: Told + Send + Sync,
     C: Consumer<Printed<J>, KnownEnd<J>>,
@@ -180,7 +184,7 @@ fn run_form<
     lanes: u32,
     capacity: u32,
     choice: Choice,
-    form: Form,
+    style: Style,
     consumer: C,
     ran: &mut Result<(), RunFault<C::Refusal>>,
 ) -> C
@@ -194,11 +198,17 @@ fn run_form<
     ensures ended { IfErr ran.new (EndsRun (C.gave_up result) (C.holds result)) }
     ensures stays { C.stays consumer result }
 {
-    match form {
-        Form::Report => run_into::<ReportLines<J>, _, _, _, _>(
+    match (style.form, style.drawing) {
+        (Form::Report, DrawingKind::Quick) => run_into::<ReportLines<J, Quick>, _, _, _, _>(
             rt, alloc, opener, gate, files, lanes, capacity, choice, consumer, ran,
         ),
-        Form::Json => run_into::<JsonLines<J>, _, _, _, _>(
+        (Form::Report, DrawingKind::Short) => run_into::<ReportLines<J, Short>, _, _, _, _>(
+            rt, alloc, opener, gate, files, lanes, capacity, choice, consumer, ran,
+        ),
+        (Form::Json, DrawingKind::Quick) => run_into::<JsonLines<J, Quick>, _, _, _, _>(
+            rt, alloc, opener, gate, files, lanes, capacity, choice, consumer, ran,
+        ),
+        (Form::Json, DrawingKind::Short) => run_into::<JsonLines<J, Short>, _, _, _, _>(
             rt, alloc, opener, gate, files, lanes, capacity, choice, consumer, ran,
         ),
     }

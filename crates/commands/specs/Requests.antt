@@ -5,9 +5,12 @@ use Rattle.std.specs.Borrow.{Bor}
 use Rattle.std.specs.declared.alloc.Global.{Global}
 use Rattle.choices.specs.declared.Choice.{Choice}
 use Rattle.reports.specs.declared.form.Form.{Form}
+use Rattle.answers.specs.declared.drawing_kind.DrawingKind.{DrawingKind}
+use Rattle.answers.specs.declared.drawing_kind.DrawingKind.TheVariants.{Quick, Short}
+use Rattle.printing.specs.declared.style.Style.{Style}
 use Rattle.program_io.specs.Naming.{is_input}
 use Rattle.commands.specs.declared.reading.Role.{Role}
-use Rattle.commands.specs.declared.reading.Role.TheVariants.{Command, Any, Lanes, Waiting, Outer, File}
+use Rattle.commands.specs.declared.reading.Role.TheVariants.{Command, Any, Lanes, Waiting, Outer, Drawing, File}
 use Rattle.commands.specs.declared.reading.Wish.{Wish}
 use Rattle.commands.specs.declared.reading.Wish.TheVariants as wish
 use Rattle.commands.specs.declared.request.Request.{Request}
@@ -28,6 +31,7 @@ after Any word =
     else if bytes_eq word (codes "--lanes") then Lanes
     else if bytes_eq word (codes "--waiting") then Waiting
     else if bytes_eq word (codes "--outer") then Outer
+    else if bytes_eq word (codes "--drawing") then Drawing
     else Any
 after File word = File
 after _ word = Any
@@ -46,6 +50,10 @@ asks wish.Layout Command word = bytes_eq word (codes "layout")
 asks wish.Json Any word = bytes_eq word (codes "--json")
 asks wish.BestOuter Any word = bytes_eq word (codes "--outer=best")
 asks wish.BestOuter Outer word = bytes_eq word (codes "best")
+asks wish.ShortDrawing Any word = bytes_eq word (codes "--drawing=short")
+asks wish.ShortDrawing Drawing word = bytes_eq word (codes "short")
+asks wish.QuickDrawing Any word = bytes_eq word (codes "--drawing=quick")
+asks wish.QuickDrawing Drawing word = bytes_eq word (codes "quick")
 asks wish.Help File word = false
 asks wish.Help Command word = bytes_eq word (codes "help") || is_help word
 asks wish.Help _ word = is_help word
@@ -76,14 +84,23 @@ files_in words = files_from Command words
 abbrev pub inputs_in : List (String Global) → ℕ
 inputs_in words = count_by is_input (files_in words)
 
--- the words ask for a layout of these files, of which one at most is standard input, under this choice and in this form
-pub record AsksLayout (words : List (String Global)) (names : Vec (Bor (List ℕ)) Global) (choice : Choice) (form : Form) : Type 0 where
+-- the drawing that a command line asks for: where it names none, a short one in JSON lines and a quick one in the report
+abbrev pub drawing_in : List (String Global) → DrawingKind
+drawing_in words =
+    if asks_in wish.ShortDrawing words then Short
+    else if asks_in wish.QuickDrawing words then Quick
+    else if asks_in wish.Json words then Short
+    else Quick
+
+-- the words ask for a layout of these files, of which one at most is standard input, under this choice and in this style
+pub record AsksLayout (words : List (String Global)) (names : Vec (Bor (List ℕ)) Global) (choice : Choice) (style : Style) : Type 0 where
   pub command : asks_in wish.Layout words ≡ true
   pub files : map (λ name. name.now) names.items ≡ files_in words
   pub some : 0 < vec_len names
   pub once : inputs_in words ≤ 1
   pub best : (choice ≡ Choice.Best) ↔ (asks_in wish.BestOuter words ≡ true)
-  pub json : (form ≡ Form.Json) ↔ (asks_in wish.Json words ≡ true)
+  pub json : (style.form ≡ Form.Json) ↔ (asks_in wish.Json words ≡ true)
+  pub drawing : style.drawing ≡ drawing_in words
 
 -- the words ask for the records of this file
 pub record AsksFrames (words : List (String Global)) (name : List ℕ) : Type 0 where
@@ -93,4 +110,4 @@ pub record AsksFrames (words : List (String Global)) (name : List ℕ) : Type 0 
 -- the request is what the words ask for
 abbrev pub IsAskedBy : List (String Global) → Request → Type 0
 IsAskedBy words (Frames name) = AsksFrames words name.now
-IsAskedBy words (Layout names lanes waiting choice form progress) = AsksLayout words names choice form
+IsAskedBy words (Layout names lanes waiting choice style progress) = AsksLayout words names choice style

@@ -7,10 +7,9 @@ ghost use Rattle.program_io.specs.Naming.{meanings};
 ghost use Rattle.commands.specs.Statuses.{IsLaidOut, IsBegunToLayOut};
 
 use choices::Choice;
-use collector::{TextFault, write_batch};
+use collector::{Style, TextFault, write_batch};
 use lanes::Opener;
 use program_io::{Console, Fault, FileOpener, FilesAndInput, Meter, SystemFiles};
-use reports::Form;
 use std::rt::Files;
 use std::sync::Wait;
 use std::thread::Threads;
@@ -22,7 +21,7 @@ pub const CAPACITY: u32 = MAX_CAPACITY;
 /// How many bytes a megabyte has.
 const MEGABYTE: usize = 1_000_000;
 
-/// Writes answers to the records of these files in this form, under this choice of the outer face and worked
+/// Writes answers to the records of these files in this style, under this choice of the outer face and worked
 /// out in so many lanes, while the files are read, and gives back the status of the report. The file named `-`
 /// is the file 0 of `input`. The meter counts files and graphs. Where the text of later files that waits holds
 /// `waiting` megabytes of memory, their reading pauses.
@@ -46,7 +45,7 @@ pub fn layout<
     lanes: u32,
     waiting: u32,
     choice: Choice,
-    form: Form,
+    style: Style,
     meter: &'a Meter<'_, C>,
     out: &mut S,
 ) -> Result<u8, Fault>
@@ -54,9 +53,9 @@ where
     R::File: Send,
     R::Dir: Send,
     requires { S.failed out.old ≡ false }
-    ensures reported { IfOk result (IsLaidOut choice form (meanings (I.meaning input.now 0) names.now)
+    ensures reported { IfOk result (IsLaidOut choice style.form (meanings (I.meaning input.now 0) names.now)
         (length names.now) (S.taken out.old) (S.taken out.new) (S.failed out.new)) }
-    ensures begun { OnErr result (IsBegunToLayOut choice form (meanings (I.meaning input.now 0) names.now)
+    ensures begun { OnErr result (IsBegunToLayOut choice style.form (meanings (I.meaning input.now 0) names.now)
         (length names.now) (S.taken out.old) (S.taken out.new)) }
     ensures too_many { (MAX_FILES < length names.now) ↔ (result ≡ Err (Fault.Run BatchFault.TooManyFiles)) }
     ensures bad_lanes { (((lanes ≡ 0) ⊎ (LANES < lanes)) × (length names.now ≤ MAX_FILES))
@@ -84,7 +83,7 @@ where
         CAPACITY,
         (waiting as usize).saturating_mul(MEGABYTE),
         choice,
-        form,
+        style,
         meter,
         out,
     ) {

@@ -124,12 +124,12 @@ where
             lanes,
             waiting,
             choice,
-            form,
+            style,
             progress,
         } => {
             let names = names.as_slice();
             let meter = Meter::new(console, progress, names.len());
-            let outcome = layout(rt, names, input, lanes, waiting, choice, form, &meter, out);
+            let outcome = layout(rt, names, input, lanes, waiting, choice, style, &meter, out);
             meter.finish();
             outcome
         }

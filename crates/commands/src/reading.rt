@@ -20,6 +20,8 @@ pub enum Role {
     Waiting,
     /// The value of `--outer`.
     Outer,
+    /// The value of `--drawing`.
+    Drawing,
     /// A file.
     File,
 }
@@ -33,6 +35,8 @@ pub enum Wish {
     Layout,
     Json,
     BestOuter,
+    ShortDrawing,
+    QuickDrawing,
 }
 
 impl Role {
@@ -45,6 +49,7 @@ impl Role {
             Role::Any if word == "--lanes" => Role::Lanes,
             Role::Any if word == "--waiting" => Role::Waiting,
             Role::Any if word == "--outer" => Role::Outer,
+            Role::Any if word == "--drawing" => Role::Drawing,
             Role::File => Role::File,
             _ => Role::Any,
         }
@@ -72,6 +77,10 @@ impl Role {
             (Wish::Json, Role::Any) => word == "--json",
             (Wish::BestOuter, Role::Any) => word == "--outer=best",
             (Wish::BestOuter, Role::Outer) => word == "best",
+            (Wish::ShortDrawing, Role::Any) => word == "--drawing=short",
+            (Wish::ShortDrawing, Role::Drawing) => word == "short",
+            (Wish::QuickDrawing, Role::Any) => word == "--drawing=quick",
+            (Wish::QuickDrawing, Role::Drawing) => word == "quick",
             (Wish::Help, Role::File) => false,
             (Wish::Help, Role::Command) => word == "help" || is_help(word),
             (Wish::Help, _) => is_help(word),

@@ -3,12 +3,13 @@ ghost use Rattle.std.specs.Prelude.{◌≡◌, ◌≤◌, ◌↔◌, IfOk, IfSom
 ghost use Rattle.choices.specs.declared.Choice.{Choice};
 ghost use Rattle.reports.specs.declared.form.Form.{Form};
 ghost use Rattle.commands.specs.declared.reading.Wish.{Wish};
-ghost use Rattle.commands.specs.Requests.{IsAskedBy, asks_in, files_in, inputs_in};
+ghost use Rattle.commands.specs.Requests.{IsAskedBy, asks_in, drawing_in, files_in, inputs_in};
 
 use crate::reading::{Wish, asks, files_of, inputs_among};
 use choices::Choice;
 use clap::error::ErrorKind;
 use clap::{Arg, ArgAction, ArgMatches, Command, Error, value_parser};
+use collector::{DrawingKind, Style};
 use program_io::Progress;
 use reports::Form;
 use std::alloc::{AllocError, Global};
@@ -30,8 +31,8 @@ pub enum Request<'a> {
         waiting: u32,
         /// How the outer face of each plane is chosen.
         choice: Choice,
-        /// The form of the text.
-        form: Form,
+        /// The form of the text, and which drawings it is of.
+        style: Style,
         /// Whether and where it is told how far the run is.
         progress: Progress,
     },
@@ -81,7 +82,10 @@ fn request_of<'a>(
         lanes: lanes_of(matches),
         waiting: waiting_of(matches),
         choice: choice_of(words),
-        form: form_of(words),
+        style: Style {
+            form: form_of(words),
+            drawing: drawing_of(words),
+        },
         progress: progress_of(matches),
     })
 }
@@ -144,6 +148,21 @@ fn form_of(words: &[String]) -> Form
     }
 }
 
+/// The drawing that the words ask for.
+fn drawing_of(words: &[String]) -> DrawingKind
+    ensures { result ≡ drawing_in words.now }
+{
+    if asks(Wish::ShortDrawing, words) {
+        DrawingKind::Short
+    } else if asks(Wish::QuickDrawing, words) {
+        DrawingKind::Quick
+    } else if asks(Wish::Json, words) {
+        DrawingKind::Short
+    } else {
+        DrawingKind::Quick
+    }
+}
+
 /// What the program takes, with the texts of its help.
 fn describe<'a>(alloc: Global) -> Result<Command<'a>, AllocError> {
     let version = Arg::new(alloc, "version")
@@ -185,6 +204,13 @@ fn describe_layout<'a>(alloc: Global) -> Result<Command<'a>, AllocError> {
         )
         .value_parser(OUTER)
         .default_value("first");
+    let drawing = Arg::new(alloc, "drawing")
+        .long("drawing")
+        .value_name("KIND")
+        .help(
+            "The drawing: short has shorter edges, and is what --json takes; quick is found sooner, and is what the report takes",
+        )
+        .value_parser(DRAWING);
     let json = Arg::new(alloc, "json")
         .long("json")
         .help("Prints JSON lines in place of the report: also shapes, prices and points")
@@ -203,6 +229,7 @@ fn describe_layout<'a>(alloc: Global) -> Result<Command<'a>, AllocError> {
         .arg(lanes)?
         .arg(waiting)?
         .arg(outer)?
+        .arg(drawing)?
         .arg(json)?
         .arg(progress)?
         .arg(layout_files(alloc))
@@ -239,6 +266,9 @@ const INPUT_TWICE: &str = "standard input, the file '-', can be read only once, 
 
 /// The words for the choices of the outer face.
 const OUTER: &[&str] = &["first", "best"];
+
+/// The words for the kinds of drawings.
+const DRAWING: &[&str] = &["short", "quick"];
 
 const HELP: &str = "Examples:
   planarbend layout examples/two.pc

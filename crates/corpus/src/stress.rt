@@ -6,7 +6,10 @@ ghost use Rattle.std.specs.Prelude.{◌<◌, ◌≤◌};
 use crate::batches::{graphs_of, report_of, report_over};
 use crate::stages::records_of;
 use anyhow::{Context, Result, bail, ensure};
-use collector::{Choice, Form, Gate, IoSink, MAX_LANES, MemOpener, Stage, run_plain, write_batch};
+use collector::{
+    Choice, DrawingKind, Form, Gate, IoSink, MAX_LANES, MemOpener, Stage, Style, run_plain,
+    write_batch,
+};
 use planar_code::{HEADER, Record};
 use std::alloc::Global;
 use std::rt::{Clock, Files};
@@ -221,14 +224,27 @@ fn random_text<R: AllocGlobal + Clock + Threads + Wait + Sync>(
         rt,
         numbers: Numbers::of(numbers.next()),
     };
-    let (alloc, form) = (rt.alloc(), Form::Report);
+    let alloc = rt.alloc();
+    let style = Style {
+        form: Form::Report,
+        drawing: random_drawing(numbers),
+    };
     let mut sink = IoSink::new(Vec::new(alloc));
     let ended = write_batch(
-        rt, alloc, opener, files, lanes, capacity, most, choice, form, &gate, &mut sink,
+        rt, alloc, opener, files, lanes, capacity, most, choice, style, &gate, &mut sink,
     );
     match ended {
         Ok(_) => Ok(sink.into_writer()),
         Err(fault) => bail!("no text over {lanes} lanes: {fault:?}"),
+    }
+}
+
+/// Either kind of drawings.
+fn random_drawing(numbers: &Numbers) -> DrawingKind {
+    if numbers.up_to(1) == 0 {
+        DrawingKind::Short
+    } else {
+        DrawingKind::Quick
     }
 }
 

@@ -23,4 +23,6 @@ mod refused;
 #[cfg(test)]
 mod turned;
 #[cfg(test)]
+mod visible;
+#[cfg(test)]
 mod wide;

@@ -5,7 +5,7 @@ ghost use Rattle.lanes.specs.Opening.{IsPlacedAt, IsEndAt};
 use crate::printed::Printed;
 use crate::told::{KnownEnd, Told, known_end};
 use crate::worded::Worded;
-use answers::{Embedded, Framed, Shaped};
+use answers::{DrawingKind, Embedded, Framed, Shaped};
 use choices::Choice;
 use lane_runs::LaneKind;
 use lanes::Numbered;
@@ -14,12 +14,32 @@ use reports::Form;
 use std::marker::PhantomData;
 use streams::SourceEnd;
 
-/// Lanes that answer records and print the lines of the report.
-pub struct ReportLines<J: Told> {
-    told: PhantomData<J>,
+/// Which drawings lanes make.
+pub trait Draws {
+    const DRAWING: DrawingKind;
 }
 
-impl<J: Told + Send + Sync> LaneKind for ReportLines<J> {
+/// Lanes that make quick drawings.
+pub struct Quick;
+
+impl Draws for Quick {
+    const DRAWING: DrawingKind = DrawingKind::Quick;
+}
+
+/// Lanes that make short drawings.
+pub struct Short;
+
+impl Draws for Short {
+    const DRAWING: DrawingKind = DrawingKind::Short;
+}
+
+/// Lanes that answer records and print the lines of the report.
+pub struct ReportLines<J: Told, D: Draws> {
+    told: PhantomData<J>,
+    draws: PhantomData<D>,
+}
+
+impl<J: Told + Send + Sync, D: Draws + Sync> LaneKind for ReportLines<J, D> {
     type Framed = Worded<J, Framed>;
 
     type Embedded = Worded<J, Embedded>;
@@ -40,7 +60,7 @@ impl<J: Told + Send + Sync> LaneKind for ReportLines<J> {
             ≡ record { file = file; ordinal = ordinal; bytes = rec; choice = choice } }
         ensures form { result.form ≡ Form.Report }
     {
-        worded(file, ordinal, rec, choice, Form::Report)
+        worded(file, ordinal, rec, choice, Form::Report, D::DRAWING)
     }
 
     fn end(file: u32, end: SourceEnd) -> KnownEnd<J> {
@@ -49,11 +69,12 @@ impl<J: Told + Send + Sync> LaneKind for ReportLines<J> {
 }
 
 /// Lanes that answer records and print JSON lines.
-pub struct JsonLines<J: Told> {
+pub struct JsonLines<J: Told, D: Draws> {
     told: PhantomData<J>,
+    draws: PhantomData<D>,
 }
 
-impl<J: Told + Send + Sync> LaneKind for JsonLines<J> {
+impl<J: Told + Send + Sync, D: Draws + Sync> LaneKind for JsonLines<J, D> {
     type Framed = Worded<J, Framed>;
 
     type Embedded = Worded<J, Embedded>;
@@ -74,7 +95,7 @@ impl<J: Told + Send + Sync> LaneKind for JsonLines<J> {
             ≡ record { file = file; ordinal = ordinal; bytes = rec; choice = choice } }
         ensures form { result.form ≡ Form.Json }
     {
-        worded(file, ordinal, rec, choice, Form::Json)
+        worded(file, ordinal, rec, choice, Form::Json, D::DRAWING)
     }
 
     fn end(file: u32, end: SourceEnd) -> KnownEnd<J> {
@@ -82,18 +103,20 @@ impl<J: Told + Send + Sync> LaneKind for JsonLines<J> {
     }
 }
 
-/// The record that has this place in this file, with this choice of the outer face, and this form.
+/// The record that has this place in this file, with this choice of the outer face, this form and this drawing.
 fn worded<J: Told>(
     file: u32,
     ordinal: u32,
     rec: Record,
     choice: Choice,
     form: Form,
+    drawing: DrawingKind,
 ) -> Worded<J, Framed>
     requires { IsPlacedAt (J.meaning file) ordinal rec }
     ensures about { ⟦<Framed as Numbered>⟧.about result.item
         ≡ record { file = file; ordinal = ordinal; bytes = rec; choice = choice } }
     ensures form { result.form ≡ form }
+    ensures drawing { result.item.drawing ≡ drawing }
 {
     Worded {
         item: Framed {
@@ -101,6 +124,7 @@ fn worded<J: Told>(
             ordinal,
             rec,
             choice,
+            drawing,
         },
         form,
         told: PhantomData,

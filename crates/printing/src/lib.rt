@@ -6,11 +6,13 @@ mod lane_kinds;
 mod lines;
 mod printed;
 mod report;
+mod style;
 mod told;
 mod worded;
 
-pub use lane_kinds::{JsonLines, ReportLines};
+pub use lane_kinds::{Draws, JsonLines, Quick, ReportLines, Short};
 pub use lines::{end_text, entry_text, head_text, lacking_text};
 pub use printed::{Printed, print};
+pub use style::Style;
 pub use told::{KnownEnd, Told};
 pub use worded::Worded;

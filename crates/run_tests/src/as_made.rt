@@ -1,20 +1,20 @@
 //! Texts that leave as they are made: their bytes, writers that take little, and refused allocations.
 
-use crate::reported::{REPORT, THREE, same, written};
-use collector::{BatchFault, Form, MAX_LANES, OpenGate, TextFault};
+use crate::reported::{QUICK, REPORT, SHORT, THREE, same, written};
+use collector::{BatchFault, MAX_LANES, OpenGate, Style, TextFault};
 use std::process::Abort;
 use std::sync::Wait;
 use std::thread::Threads;
 
-/// Over so many lanes, the writer took all of the report of three files, or the first `room` bytes before it failed.
+/// Over so many lanes and in this style, the writer took all of the report of three files, or the first `room` bytes before it failed.
 fn check_writer<R: AllocGlobal + Threads + Wait + Sync + Abort>(
     rt: &R,
     lanes: u32,
+    style: Style,
     room: usize,
     most: usize,
 ) {
-    let form = Form::Report;
-    let (ended, writer) = written(rt, &THREE, 3, lanes, form, &OpenGate, (room, most));
+    let (ended, writer) = written(rt, &THREE, 3, lanes, style, &OpenGate, (room, most));
     same(rt, writer.text(), &REPORT[..room.min(211)]);
     let due = if room < 211 {
         Err(TextFault::Write)
@@ -24,19 +24,21 @@ fn check_writer<R: AllocGlobal + Threads + Wait + Sync + Abort>(
     same(rt, ended, due);
 }
 
+/// Which drawings are made changes nothing in the report.
 #[test]
 fn files_come_in_their_order(rt: HostRuntime) {
     for lanes in 1..=MAX_LANES {
-        check_writer(&rt, lanes, 211, 211);
+        check_writer(&rt, lanes, QUICK, 211, 211);
+        check_writer(&rt, lanes, SHORT, 211, 211);
     }
 }
 
 #[test]
 fn a_beginning_is_written_before_a_fault(rt: HostRuntime) {
     for room in [0, 1, 2, 7, 100, 209, 210, 211] {
-        check_writer(&rt, 1, room, usize::MAX);
-        check_writer(&rt, 2, room, usize::MAX);
-        check_writer(&rt, 2, room, 1);
+        check_writer(&rt, 1, QUICK, room, usize::MAX);
+        check_writer(&rt, 2, QUICK, room, usize::MAX);
+        check_writer(&rt, 2, QUICK, room, 1);
     }
 }
 
@@ -49,8 +51,7 @@ fn bad_numbers_take_no_memory(rt: HostRuntime) {
         (256, 9, BatchFault::BadLanes),
     ];
     for (files, lanes, fault) in cases {
-        let form = Form::Json;
-        let (ended, writer) = written(&rt, &THREE, files, lanes, form, &OpenGate, (211, 211));
+        let (ended, writer) = written(&rt, &THREE, files, lanes, SHORT, &OpenGate, (211, 211));
         same(&rt, ended, Err(TextFault::Run(fault)));
         same(&rt, writer.text().len(), 0);
     }
@@ -90,11 +91,11 @@ fn is_allowed(text: &[u8]) -> bool {
 }
 
 /// `checks/refuse-allocations` refuses each allocation of this test in turn: the run ends in a named answer, with the
-/// report, in which some lines may tell of want of memory, or a beginning of it.
+/// report, in which some lines may tell of want of memory, or a beginning of it. Short drawings take all memory that
+/// quick ones take, and more.
 #[test]
 fn names_want_of_memory(rt: HostRuntime) {
-    let form = Form::Report;
-    let (ended, writer) = written(&rt, &THREE, 3, 2, form, &OpenGate, (211, 211));
+    let (ended, writer) = written(&rt, &THREE, 3, 2, SHORT, &OpenGate, (211, 211));
     let named = match ended {
         Ok(status) => status == 3,
         Err(TextFault::Run(fault)) => fault == BatchFault::Memory || fault == BatchFault::Thread,

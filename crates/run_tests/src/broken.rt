@@ -1,8 +1,8 @@
 //! Sources that fail, files that do not open, and writers that take little: what came before stays.
 
-use crate::reported::{Files, Narrow, REPORT, THREE, same, written};
+use crate::reported::{Files, Narrow, QUICK, REPORT, THREE, same, written};
 use collector::{
-    Batch, BatchFault, Choice, Form, IoSink, OpenFault, OpenGate, WriteFault, run_batch, run_plain,
+    Batch, BatchFault, Choice, IoSink, OpenFault, OpenGate, WriteFault, run_batch, run_plain,
     write_report,
 };
 use std::process::Abort;
@@ -34,7 +34,7 @@ fn check<R: AllocGlobal + Threads + Wait + Sync + Abort>(
     let lanes = run_batch(rt, alloc, opener, files, 2, 1, choice, &OpenGate).expect(rt, "a batch");
     same(rt, report_in(&lanes, 211, 211, true).1.text(), report);
     let room = (211, 211);
-    let (_, text) = written(rt, opener, files, 2, Form::Report, &OpenGate, room);
+    let (_, text) = written(rt, opener, files, 2, QUICK, &OpenGate, room);
     same(rt, text.text(), report);
 }
 

@@ -1,8 +1,8 @@
 //! Runs whose four stages are held at once. The bytes and the texts come from the descriptions of the format and of the
 //! report.
 
-use crate::reported::{Files, same, written};
-use collector::{Choice, Form, Gate, Stage, run_batch};
+use crate::reported::{Files, QUICK, same, written};
+use collector::{Choice, Gate, Stage, run_batch};
 use std::sync::atomic::{AtomicBool, AtomicU32, Ordering};
 use std::thread;
 
@@ -82,7 +82,7 @@ fn gate_holds_each(rt: HostRuntime) {
 fn gate_holds_each_of_a_text(rt: HostRuntime) {
     let gate = HoldsEach::new();
     let room = (211, 211);
-    let (ended, text) = written(&rt, &FOUR_TRIANGLES, 1, 1, Form::Report, &gate, room);
+    let (ended, text) = written(&rt, &FOUR_TRIANGLES, 1, 1, QUICK, &gate, room);
     same(&rt, ended, Ok(0));
     same(&rt, text.text(), OF_FOUR_TRIANGLES);
     same(&rt, gate.told(), (4, false));

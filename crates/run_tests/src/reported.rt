@@ -4,7 +4,8 @@ ghost use Rattle.std.specs.Prelude.{◌≤◌, false, None};
 ghost use Rattle.lanes.specs.Opening.{Silent};
 
 use collector::{
-    Choice, Form, Gate, IoSink, OpenFault, Opener, Tap, TapFault, TextFault, write_batch,
+    Choice, DrawingKind, Form, Gate, IoSink, OpenFault, Opener, Style, Tap, TapFault, TextFault,
+    write_batch,
 };
 use std::alloc::Global;
 use std::fmt::Debug;
@@ -84,6 +85,18 @@ pub(crate) const THREE: Files = Files {
     reads: usize::MAX,
 };
 
+/// The report, of quick drawings.
+pub(crate) const QUICK: Style = Style {
+    form: Form::Report,
+    drawing: DrawingKind::Quick,
+};
+
+/// The report, of short drawings.
+pub(crate) const SHORT: Style = Style {
+    form: Form::Report,
+    drawing: DrawingKind::Short,
+};
+
 /// The report of them.
 pub(crate) const REPORT: &[u8] =
     b"file 1\ngraph 1 ok n=3 m=3 f=2 bends=1 drawn=yes\ngraph 2 ok n=3 m=3 f=2 bends=1 drawn=yes\nend complete graphs=2\n\
@@ -136,21 +149,21 @@ impl Write for Narrow {
     }
 }
 
-/// The text of a run over lanes in this form as it is made, with room for one message between two threads and as
+/// The text of a run over lanes in this style as it is made, with room for one message between two threads and as
 /// little as may wait, in a writer with so much room that takes so many bytes a write, and how the run ended.
 pub(crate) fn written<R: AllocGlobal + Threads + Wait + Sync, G: Gate>(
     rt: &R,
     opener: &Files,
     files: u32,
     lanes: u32,
-    form: Form,
+    style: Style,
     gate: &G,
     (room, most): (usize, usize),
 ) -> (Result<u8, TextFault>, Narrow) {
     let mut sink = IoSink::new(Narrow::new(room, most, true));
     let (alloc, choice) = (rt.alloc(), Choice::First);
     let ended = write_batch(
-        rt, alloc, opener, files, lanes, 1, 1, choice, form, gate, &mut sink,
+        rt, alloc, opener, files, lanes, 1, 1, choice, style, gate, &mut sink,
     );
     (ended, sink.into_writer())
 }

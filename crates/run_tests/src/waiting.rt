@@ -3,10 +3,10 @@
 ghost use Rattle.std.specs.Prelude.{false, None};
 ghost use Rattle.lanes.specs.Opening.{Silent};
 
-use crate::reported::{Narrow, same};
+use crate::reported::{Narrow, QUICK, same};
 use collector::{
-    Choice, Form, Gate, IoSink, MAX_LANES, OpenFault, OpenGate, Opener, Stage, Tap, TapFault,
-    TextFault, write_batch,
+    Choice, Gate, IoSink, MAX_LANES, OpenFault, OpenGate, Opener, Stage, Tap, TapFault, TextFault,
+    write_batch,
 };
 use std::alloc::{AllocError, Global};
 use std::fmt::Write;
@@ -130,9 +130,9 @@ fn run<R: AllocGlobal + Threads + Wait + Sync, G: Gate>(
         ran_out: &ran_out,
     };
     let mut sink = IoSink::new(Vec::new(rt.alloc()));
-    let (alloc, choice, form) = (rt.alloc(), Choice::First, Form::Report);
+    let (alloc, choice) = (rt.alloc(), Choice::First);
     let ended = write_batch(
-        rt, alloc, &opener, files, lanes, 1, most, choice, form, gate, &mut sink,
+        rt, alloc, &opener, files, lanes, 1, most, choice, QUICK, gate, &mut sink,
     );
     (ended, sink.into_writer(), ran_out.load(Ordering::SeqCst))
 }
@@ -285,9 +285,9 @@ fn a_sink_may_fail_while_lanes_pause(rt: HostRuntime) {
         };
         let gate = HoldsFirst::until(0);
         let mut sink = IoSink::new(Narrow::new(100, 100, true));
-        let (alloc, choice, form) = (rt.alloc(), Choice::First, Form::Report);
+        let (alloc, choice) = (rt.alloc(), Choice::First);
         let ended = write_batch(
-            &rt, alloc, &opener, 8, lanes, 1, 1, choice, form, &gate, &mut sink,
+            &rt, alloc, &opener, 8, lanes, 1, 1, choice, QUICK, &gate, &mut sink,
         );
         same(&rt, ended, Err(TextFault::Write));
     }

@@ -1,7 +1,7 @@
 //! Known graphs and refused records, answered as a whole and stage by stage.
 
 use crate::known::{TRIANGLE, record_in, same};
-use answers::{Answer, Cause, Entry, Framed, answer};
+use answers::{Answer, Cause, DrawingKind, Entry, Framed, answer};
 use choices::Choice;
 use embedding::Rule;
 use lanes::{Numbered, Staged};
@@ -85,8 +85,10 @@ fn expect(rt: &impl Abort, answer: &Answer, said: Said) {
 fn check(rt: &impl Abort, alloc: Global, bytes: &[u8], choice: Choice, said: Said) {
     let rec = record_in(alloc, bytes).expect(rt, "a record");
     expect(rt, &answer(alloc, 63, 999_999, rec, choice).answer, said);
-    let rec = record_in(alloc, bytes).expect(rt, "a record");
-    expect(rt, &staged(alloc, rec, choice).answer, said);
+    for drawing in [DrawingKind::Quick, DrawingKind::Short] {
+        let rec = record_in(alloc, bytes).expect(rt, "a record");
+        expect(rt, &staged(alloc, rec, choice, drawing).answer, said);
+    }
 }
 
 /// What a stage makes of a record.
@@ -95,13 +97,14 @@ fn pass<S: Staged>(alloc: Global, staged: S) -> S::Next {
     staged.next(alloc, &mut scratch)
 }
 
-/// The entry of a record, stage by stage.
-fn staged(alloc: Global, rec: Record, choice: Choice) -> Entry {
+/// The entry of a record with this drawing, stage by stage.
+pub(crate) fn staged(alloc: Global, rec: Record, choice: Choice, drawing: DrawingKind) -> Entry {
     let framed = Framed {
         file: 7,
         ordinal: 2,
         rec,
         choice,
+        drawing,
     };
     pass(alloc, pass(alloc, pass(alloc, framed)))
 }
@@ -115,14 +118,14 @@ fn answers_known_records(rt: HostRuntime) {
 }
 
 /// A cube with a ninth vertex that is joined to all corners of one face.
-const CAPPED_CUBE: [u8; 42] = [
+pub(crate) const CAPPED_CUBE: [u8; 42] = [
     9, 5, 4, 2, 0, 3, 6, 1, 0, 4, 7, 2, 0, 1, 8, 3, 0, 1, 6, 9, 8, 0, 2, 7, 9, 5, 0, 3, 8, 9, 6, 0,
     4, 5, 9, 7, 0, 5, 6, 7, 8, 0,
 ];
 
 /// The same with a vertex on the edge from 1 to 5, so that the face with fewest bends is not among those
 /// with most darts.
-const LONGER_CUBE: [u8; 45] = [
+pub(crate) const LONGER_CUBE: [u8; 45] = [
     10, 10, 4, 2, 0, 3, 6, 1, 0, 4, 7, 2, 0, 1, 8, 3, 0, 10, 6, 9, 8, 0, 2, 7, 9, 5, 0, 3, 8, 9, 6,
     0, 4, 5, 9, 7, 0, 5, 6, 7, 8, 0, 1, 5, 0,
 ];

@@ -9,7 +9,7 @@ returns-in_default-clause-begun g c =
     let count = length c.args.names.now in
     let taken = g.S.Sink.taken c.args.out.now in
     let meaning = meanings (g.I.Opener.meaning c.args.input.now 0) c.args.names.now in
-    begun_to_lay_out c.args.choice meaning c.args.form count count taken taken refl (begun_by_nothing c.args.choice meaning c.args.form count taken)
+    begun_to_lay_out c.args.choice meaning c.args.style.form count count taken taken refl (begun_by_nothing c.args.choice meaning c.args.style.form count taken)
 
 pub returns-in-Err-Run-clause-begun : goal.returns-in-Err-Run-clause-begun
 returns-in-Err-Run-clause-begun g c = begun_to_lay_out _ _ _ _ _ _ _ (search rules) c.in-Err-Run.ensures.begun

@@ -1,0 +1,274 @@
+//! Compaction by visibility: drawings by hand, known graphs, memory that is lent, and refused allocations.
+
+use crate::families::{ANTIPRISM, OCTAHEDRON, PRISM, grid, rings};
+use crate::planes::{
+    EDGE, TRIANGLE, boxes_of, expect_drawing, plane_in, plane_of, same, spiral_in,
+};
+use crate::refused::are_alike;
+use compact::compact;
+use faces::Plane;
+use ortho_rep::{Point, Points, Shape, least_shape};
+use std::alloc::{AllocError, Global};
+use std::process::Abort;
+use std::test::Fail;
+use visibility::{Scratch, compact_by_visibility_in};
+
+type Place = (u32, u32);
+
+/// The points of vertices, and the corners of edges.
+type Figure = (&'static [Place], &'static [&'static [Place]]);
+
+const PATH_OF_3: [u8; 8] = [3, 2, 0, 1, 3, 0, 2, 0];
+
+const PATH_OF_5: [u8; 14] = [5, 2, 0, 1, 3, 0, 2, 4, 0, 3, 5, 0, 4, 0];
+
+/// The corners of four edges without any.
+const NONE: [&[Place]; 4] = [&[]; 4];
+
+/// Drawings by hand, and what compaction makes of them.
+const BY_HAND: [(&[u8], Figure, Figure); 4] = [
+    (
+        &EDGE,
+        (&[(0, 0), (5, 0)], &[&[]]),
+        (&[(0, 0), (1, 0)], &[&[]]),
+    ),
+    (
+        &EDGE,
+        (&[(1, 0), (5, 4)], &[&[(3, 0), (3, 4)]]),
+        (&[(0, 0), (2, 1)], &[&[(1, 0), (1, 1)]]),
+    ),
+    (
+        &PATH_OF_3,
+        (&[(0, 0), (0, 5), (4, 5)], &[&[], &[]]),
+        (&[(0, 0), (0, 1), (1, 1)], &[&[], &[]]),
+    ),
+    // Vertex 5 sees no other row to its left, and comes above vertex 2.
+    (
+        &PATH_OF_5,
+        (&[(0, 0), (0, 3), (2, 3), (2, 5), (1, 5)], &NONE),
+        (&[(0, 0), (0, 1), (1, 1), (1, 2), (0, 2)], &NONE),
+    ),
+];
+
+/// Drawings whose edges compaction leaves as long as they are.
+const AS_SHORT: [(&[u8], Figure); 2] = [
+    (&EDGE, (&[(7, 3), (7, 4)], &[&[]])),
+    (
+        &TRIANGLE,
+        (&[(1, 2), (2, 2), (1, 1)], &[&[], &[], &[(2, 1)]]),
+    ),
+];
+
+fn list_in(alloc: Global, places: &[Place]) -> Result<Vec<Point>, AllocError> {
+    places
+        .iter()
+        .map(|p| Point { x: p.0, y: p.1 })
+        .collect(alloc)
+}
+
+/// The points of a figure.
+fn points_in(alloc: Global, figure: Figure) -> Result<Points, AllocError> {
+    let mut lists = Vec::new(alloc);
+    for places in figure.1 {
+        lists.push(list_in(alloc, places)?)?;
+    }
+    Ok(Points::new(list_in(alloc, figure.0)?, lists))
+}
+
+/// What compaction makes of points, as many as the plane has.
+fn compacted(
+    rt: &impl Abort,
+    alloc: Global,
+    lent: &mut Scratch,
+    plane: &Plane,
+    points: &Points,
+) -> Result<Option<Points>, AllocError> {
+    assert!(rt; points.vertex_count() == usize::from(plane.graph().vertices()));
+    assert!(rt; points.edge_count() == usize::from(plane.graph().edges()));
+    compact_by_visibility_in(alloc, lent, plane, points)
+}
+
+/// Compaction makes these points of a figure.
+fn expect_figure(
+    rt: &impl Abort,
+    alloc: Global,
+    lent: &mut Scratch,
+    bytes: &[u8],
+    figure: Figure,
+    want: Option<Figure>,
+) -> Result<(), Fail> {
+    let plane = plane_of(alloc, bytes)?;
+    let points = points_in(alloc, figure)?;
+    let found = compacted(rt, alloc, lent, &plane, &points)?;
+    match (found, want) {
+        (Some(points), Some(want)) => same(rt, are_alike(&points, &points_in(alloc, want)?), true),
+        (found, want) => same(rt, found.is_some(), want.is_some()),
+    }
+    Ok(())
+}
+
+#[test]
+fn figures_by_hand(rt: HostRuntime) -> Result<(), Fail> {
+    let mut lent = Scratch::empty(rt.alloc());
+    for (bytes, figure, want) in BY_HAND {
+        expect_figure(&rt, rt.alloc(), &mut lent, bytes, figure, Some(want))?;
+    }
+    for (bytes, figure) in AS_SHORT {
+        expect_figure(&rt, rt.alloc(), &mut lent, bytes, figure, None)?;
+    }
+    Ok(())
+}
+
+/// How far apart two points are, along the axes.
+fn distance(from: Point, to: Point) -> u32 {
+    let along_x = from.x.abs_diff(to.x);
+    along_x.wrapping_add(from.y.abs_diff(to.y))
+}
+
+/// How long all edges are together.
+fn length_of(plane: &Plane, points: &Points) -> u32 {
+    let graph = plane.graph();
+    let mut length: u32 = 0;
+    let mut edge: u16 = 0;
+    for dart in 0..graph.darts() {
+        let reverse = graph.reverse(dart);
+        if dart < reverse && usize::from(edge) < points.edge_count() {
+            let mut from = vertex_of(points, graph.head(reverse));
+            for corner in points.corners(edge) {
+                length = length.wrapping_add(distance(from, *corner));
+                from = *corner;
+            }
+            let end = vertex_of(points, graph.head(dart));
+            length = length.wrapping_add(distance(from, end));
+            edge = edge.wrapping_add(1);
+        }
+    }
+    length
+}
+
+/// The point of a vertex, and the origin where there is none.
+fn vertex_of(points: &Points, vertex: u8) -> Point {
+    match points.vertices().get(usize::from(vertex).wrapping_sub(1)) {
+        Some(point) => *point,
+        None => Point { x: 0, y: 0 },
+    }
+}
+
+/// The memory that the tests lend.
+#[derive(Drop)]
+struct Lent {
+    compaction: Scratch,
+    checks: drawing_check::Scratch,
+}
+
+/// The points of a shape are compacted, and those found draw it, with shorter edges. It says whether there are any.
+fn expect_shorter(
+    rt: &impl Abort,
+    alloc: Global,
+    lent: &mut Lent,
+    plane: &Plane,
+    shape: &Shape,
+) -> Result<bool, Fail> {
+    let boxes = boxes_of(rt, alloc, plane, shape)?;
+    let points = compact(alloc, &boxes)?;
+    match compacted(rt, alloc, &mut lent.compaction, plane, &points)? {
+        Some(shorter) => {
+            same(
+                rt,
+                length_of(plane, &shorter) < length_of(plane, &points),
+                true,
+            );
+            expect_drawing(rt, alloc, &mut lent.checks, plane, shape, shorter);
+            Ok(true)
+        }
+        None => Ok(false),
+    }
+}
+
+/// The same of a least shape of these bytes.
+fn expect_compacted(
+    rt: &impl Abort,
+    alloc: Global,
+    lent: &mut Lent,
+    bytes: &[u8],
+) -> Result<bool, Fail> {
+    let plane = plane_of(alloc, bytes)?;
+    let (shape, _) = least_shape(alloc, &plane)?;
+    expect_shorter(rt, alloc, lent, &plane, &shape)
+}
+
+/// Trees. Each has vertices of degree 2 or 3, at which a drawing without bends turns, and so winds itself up.
+const TREES: [&[u8]; 3] = [
+    &[
+        8, 2, 5, 3, 4, 0, 1, 7, 0, 1, 6, 0, 1, 0, 8, 1, 0, 3, 0, 2, 0, 5, 0,
+    ],
+    &[
+        12, 9, 6, 2, 3, 0, 8, 4, 1, 0, 11, 1, 0, 10, 5, 2, 0, 4, 12, 7, 0, 1, 0, 5, 0, 2, 0, 1, 0,
+        4, 0, 3, 0, 5, 0,
+    ],
+    &[
+        20, 3, 5, 8, 2, 0, 1, 7, 4, 0, 1, 14, 0, 6, 2, 0, 9, 11, 1, 12, 0, 10, 4, 0, 2, 0, 15, 1,
+        0, 5, 0, 6, 0, 5, 0, 5, 16, 13, 0, 17, 12, 19, 0, 3, 18, 0, 20, 8, 0, 12, 0, 13, 0, 14, 0,
+        13, 0, 15, 0,
+    ],
+];
+
+#[test]
+fn known_graphs_are_compacted(rt: HostRuntime) -> Result<(), Fail> {
+    let alloc = rt.alloc();
+    let mut lent = Lent {
+        compaction: Scratch::empty(alloc),
+        checks: drawing_check::Scratch::empty(alloc),
+    };
+    for bytes in TREES {
+        let is_shorter = expect_compacted(&rt, alloc, &mut lent, bytes)?;
+        same(&rt, is_shorter, true);
+    }
+    for count in 4..=12 {
+        for named in [&PRISM, &ANTIPRISM] {
+            let bytes = rings(alloc, named, count)?;
+            let _found = expect_compacted(&rt, alloc, &mut lent, &bytes)?;
+        }
+    }
+    let _found = expect_compacted(&rt, alloc, &mut lent, &OCTAHEDRON)?;
+    // All edges of a grid have length 1.
+    let is_shorter = expect_compacted(&rt, alloc, &mut lent, &grid(alloc, 5, 6)?)?;
+    same(&rt, is_shorter, false);
+    let spiral = spiral_in(alloc, 300).ok_or("no shape")?;
+    let plane = plane_of(alloc, &EDGE)?;
+    let _found = expect_shorter(&rt, alloc, &mut lent, &plane, &spiral)?;
+    Ok(())
+}
+
+/// What compaction makes of the first of two calls, or of the second where the first finds no memory.
+fn compacted_at_last(
+    rt: &impl Abort,
+    alloc: Global,
+    plane: &Plane,
+    points: &Points,
+) -> Result<Option<Points>, AllocError> {
+    let mut lent = Scratch::empty(alloc);
+    match compacted(rt, alloc, &mut lent, plane, points) {
+        Ok(found) => Ok(found),
+        Err(AllocError) => compacted(rt, alloc, &mut lent, plane, points),
+    }
+}
+
+/// `checks/refuse-allocations` refuses each allocation of this test in turn: a second call in the same memory answers as
+/// without the refusal. Where a refusal comes before the call, the test ends.
+#[test]
+fn refused_allocations(rt: HostRuntime) -> Result<(), Fail> {
+    let alloc = rt.alloc();
+    let (_, figure, want) = BY_HAND[1];
+    let Some(plane) = plane_in(alloc, &EDGE) else {
+        return Ok(());
+    };
+    let (Ok(points), Ok(want)) = (points_in(alloc, figure), points_in(alloc, want)) else {
+        return Ok(());
+    };
+    match compacted_at_last(&rt, alloc, &plane, &points)? {
+        Some(found) => same(&rt, are_alike(&found, &want), true),
+        None => same(&rt, true, false),
+    }
+    Ok(())
+}
