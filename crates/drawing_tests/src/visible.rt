@@ -26,7 +26,7 @@ const PATH_OF_5: [u8; 14] = [5, 2, 0, 1, 3, 0, 2, 4, 0, 3, 5, 0, 4, 0];
 const NONE: [&[Place]; 4] = [&[]; 4];
 
 /// Drawings by hand, and what compaction makes of them.
-const BY_HAND: [(&[u8], Figure, Figure); 4] = [
+const BY_HAND: [(&[u8], Figure, Figure); 5] = [
     (
         &EDGE,
         (&[(0, 0), (5, 0)], &[&[]]),
@@ -47,6 +47,12 @@ const BY_HAND: [(&[u8], Figure, Figure); 4] = [
         &PATH_OF_5,
         (&[(0, 0), (0, 3), (2, 3), (2, 5), (1, 5)], &NONE),
         (&[(0, 0), (0, 1), (1, 1), (1, 2), (0, 2)], &NONE),
+    ),
+    // Vertex 5 falls no further, and is pulled to where its edge is shorter.
+    (
+        &PATH_OF_5,
+        (&[(0, 0), (1, 0), (2, 0), (2, 1), (0, 1)], &NONE),
+        (&[(0, 0), (1, 0), (2, 0), (2, 1), (1, 1)], &NONE),
     ),
 ];
 

@@ -2,7 +2,7 @@
 //! the format and of the report.
 
 use crate::shared::{
-    EDGE, HEADER, TRIANGLE, check, check_failed_write, check_help, check_refused, copies,
+    EDGE, HEADER, TRIANGLE, check, check_failed_write, check_help, check_refused, copies, holds,
     names_no_run, run, run_narrow, same, write_parts,
 };
 use std::alloc::{AllocError, Global};
@@ -300,6 +300,46 @@ fn expect_edge(rt: &impl Abort, text: &[u8]) {
     same(rt, text.ends_with(ends), true);
 }
 
+/// A path of ten vertices.
+const PATH: &[u8] = &[
+    10, 2, 0, 1, 3, 0, 2, 4, 0, 3, 5, 0, 4, 6, 0, 5, 7, 0, 6, 8, 0, 7, 9, 0, 8, 10, 0, 9, 0,
+];
+
+/// How the JSON line of that path begins where no vertex turns.
+const STRAIGHT: &[u8] =
+    b"{\"angles\":[2,4,2,2,2,2,2,2,2,2,2,2,2,2,2,2,4,2],\"bends\":0,\"drawn\":\"yes\",\"f\":1,\"file\":1,";
+
+/// JSON lines of that path, with these words: it is drawn, in one line or not.
+fn check_path<R: Files + AllocGlobal + Threads + Wait + Sync + Abort>(
+    rt: &R,
+    words: &[&str],
+    is_straight: bool,
+) -> Result<(), Fail>
+where
+    R::File: Send,
+    R::Dir: Send,
+{
+    let ran = run(rt, words)?;
+    same(rt, (ran.status, ran.err.len()), (0, 0));
+    let text = ran.out.as_slice();
+    same(rt, holds(text, b"],\"bends\":0,\"drawn\":\"yes\","), true);
+    same(rt, text.starts_with(STRAIGHT), is_straight);
+    Ok(())
+}
+
+/// A path is drawn in one line where that is short, and the quick drawing winds it up.
+#[test]
+fn draws_a_path_as_asked(rt: HostRuntime) -> Result<(), Fail> {
+    write_parts(&rt, "path.pc", &[HEADER, PATH])?;
+    check_path(&rt, &["layout", "--json", "path.pc"], true)?;
+    let short = ["layout", "--drawing=short", "--json", "path.pc"];
+    check_path(&rt, &short, true)?;
+    let quick = ["layout", "--drawing=quick", "--json", "path.pc"];
+    check_path(&rt, &quick, false)?;
+    let quick = ["layout", "--json", "path.pc", "--drawing", "quick"];
+    check_path(&rt, &quick, false)
+}
+
 #[test]
 fn refuses_other_command_lines(rt: HostRuntime) -> Result<(), Fail> {
     check_refused(&rt, &["layout"], "were not provided:\n  <FILE>...\n")?;
@@ -313,6 +353,11 @@ fn refuses_other_command_lines(rt: HostRuntime) -> Result<(), Fail> {
         &rt,
         &["frames", "--outer", "best", "a"],
         "unexpected argument '--outer' found",
+    )?;
+    check_refused(
+        &rt,
+        &["layout", "--drawing", "x", "a"],
+        "invalid value 'x' for '--drawing <KIND>'\n  [possible values: short, quick]\n",
     )?;
     check_refused(
         &rt,

@@ -60,11 +60,43 @@ fn takes_options_out_of_the_files(rt: HostRuntime) -> Result<(), Fail> {
     check(&rt, &["layout", "best", "--", "edge.pc"], report, 0)
 }
 
+/// The words for drawings are files where they stand behind no `--drawing`.
+#[test]
+fn takes_drawings_out_of_the_files(rt: HostRuntime) -> Result<(), Fail> {
+    write_parts(&rt, "short", &[HEADER, EDGE])?;
+    let report = "file 1\n\
+        graph 1 ok n=2 m=1 f=1 bends=0 drawn=yes\n\
+        end complete graphs=1\n";
+    check(&rt, &["layout", "short"], report, 0)?;
+    check(&rt, &["layout", "--drawing", "quick", "short"], report, 0)?;
+    check(&rt, &["layout", "--drawing", "short", "short"], report, 0)?;
+    check(&rt, &["layout", "short", "--drawing=short"], report, 0)?;
+    check_refused(
+        &rt,
+        &["layout", "--drawing", "short"],
+        "were not provided:\n  <FILE>...\n",
+    )?;
+    check_refused(
+        &rt,
+        &["layout", "--drawing=short", "--drawing=quick", "short"],
+        "cannot be used multiple times",
+    )
+}
+
 /// Behind `--` all words are files, and `help` is one behind `layout`.
 #[test]
 fn takes_words_behind_dashes_as_files(rt: HostRuntime) -> Result<(), Fail> {
     let unread = "file 1\nend io graphs=0\n";
-    for word in ["--json", "--help", "-h", "--version", "--outer=best", "--"] {
+    let words = [
+        "--json",
+        "--help",
+        "-h",
+        "--version",
+        "--outer=best",
+        "--drawing=short",
+        "--",
+    ];
+    for word in words {
         check(&rt, &["layout", "--", word], unread, 3)?;
     }
     check(&rt, &["layout", "help"], unread, 3)?;

@@ -2,7 +2,7 @@
 
 use crate::known::{record_in, same};
 use crate::records::{CAPPED_CUBE, LONGER_CUBE, staged};
-use answers::{Answer, DrawingKind};
+use answers::{Answer, DrawingKind, Entry};
 use choices::Choice;
 use faces::Plane;
 use ortho_rep::{Point, Points};
@@ -94,6 +94,45 @@ fn short_paths_are_straight(rt: HostRuntime) -> Result<(), Fail> {
         same(&rt, count < 10 || quick > short, true);
     }
     Ok(())
+}
+
+/// The answer is a short drawing of a path of four, or want of memory. It says whether it is a drawing.
+fn is_path_of_four(rt: &impl Abort, answer: &Answer) -> bool {
+    match answer {
+        Answer::Laid {
+            plane,
+            shape,
+            drawing: Ok(drawing),
+            ..
+        } => {
+            same(
+                rt,
+                (shape.bends(), length_of(plane, drawing.points())),
+                (0, 3),
+            );
+            true
+        }
+        Answer::NoMemory => false,
+        _ => {
+            same(rt, true, false);
+            false
+        }
+    }
+}
+
+/// `checks/refuse-allocations` refuses each allocation of this test in turn: the answer is then the right one or the want
+/// of memory, and a second call answers as without the refusal. Where a refusal comes before the call, the test ends.
+#[test]
+fn refused_allocations(rt: HostRuntime) {
+    let alloc = rt.alloc();
+    let Some(rec) = record_in(alloc, &[4, 2, 0, 1, 3, 0, 2, 4, 0, 3, 0]) else {
+        return;
+    };
+    let Entry { rec, answer, .. } = staged(alloc, rec, Choice::First, DrawingKind::Short);
+    if !is_path_of_four(&rt, &answer) {
+        let again = staged(alloc, rec, Choice::First, DrawingKind::Short);
+        same(&rt, is_path_of_four(&rt, &again.answer), true);
+    }
 }
 
 #[test]
