@@ -4,6 +4,7 @@ ghost use Rattle.std.specs.Prelude.{◌≡◌, ℕ, List};
 ghost use Rattle.answers.specs.Steps.{IsEmbedded, IsShaped};
 ghost use Rattle.choices.specs.declared.Choice.{Choice};
 ghost use Rattle.entries.specs.Answers.{Answers};
+ghost use Rattle.drawn_laws.specs.Drawings.{IsDrawnIfLaid};
 
 use crate::drawing::{DrawScratch, draw};
 use crate::drawing_kind::DrawingKind;
@@ -89,6 +90,7 @@ pub fn answer(alloc: Global, file: u32, ordinal: u32, rec: Record, choice: Choic
     ensures same { result.rec ≡ rec }
     ensures chosen { result.choice ≡ choice }
     ensures answered { Answers choice rec result.answer }
+    ensures drawn { IsDrawnIfLaid result.answer }
 {
     let plane = embed(alloc, &rec);
     let mut lay_scratch = LayScratch::empty(alloc);

@@ -18,6 +18,7 @@ use Rattle.entries.specs.Answers.{Answers}
 use Rattle.entries.specs.Abouts.{about_of}
 use Rattle.books.specs.Books.{BookModel, IsBook, AreBooks}
 use Rattle.books.specs.AllBooks.{AreAllBooks}
+use Rattle.drawn_laws.proofs.Drawings.{answer_drawn}
 use Rattle.collector.specs.Headline.{IsDecided, IsEntryFor, AreOneForEach, IsWholeRun, HasMemory}
 
 decided : (choice : Choice) (bytes : List ℕ) (answer : Answer) → answer ≢ NoMemory → Answers choice bytes answer → IsDecided choice bytes answer
@@ -35,6 +36,7 @@ entry_for choice file ordinal bytes entry e answered has = record {
   choice_is = ap (λ about. about.choice) e;
   decided = ∥∥₁_map answered (λ is.
       decided choice bytes entry.answer has (subst (λ about. Answers about.choice about.bytes entry.answer) e is));
+  drawn = ∥∥₁_map answered (λ is. answer_drawn entry.choice entry.rec entry.answer is);
 }
 
 entries_for : (choice : Choice) (file ordinal : ℕ) (records : List (List ℕ)) (entries : List Entry)

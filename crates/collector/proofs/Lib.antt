@@ -1,3 +1,4 @@
 pub mod Headline
 pub mod Begun
 pub mod Taking
+pub mod Drawing

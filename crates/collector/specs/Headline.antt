@@ -10,23 +10,25 @@ use Rattle.entries.specs.declared.answer.Answer.{Answer}
 use Rattle.entries.specs.declared.answer.Answer.TheVariants.{Laid, Refused, NoMemory}
 use Rattle.entries.specs.declared.entry.Entry.{Entry}
 use Rattle.entries.specs.Answers.{IsLaid}
+use Rattle.drawn_laws.specs.Drawings.{IsDrawnIfLaid}
 use Rattle.books.specs.Books.{BookModel}
 
 -- The answer names the first rule that a record of these bytes breaks, or gives a plane with the record's lists, an
--- orthogonal representation of it and its chosen outer face with the fewest bends, and points that draw it, if any are
--- given.
+-- orthogonal representation of it and its chosen outer face with the fewest bends.
 abbrev pub IsDecided : Choice → List ℕ → Answer → Type 0
 IsDecided choice bytes (Laid plane shape prices drawing) = IsLaid choice bytes plane shape prices drawing
 IsDecided choice bytes (Refused rule) = FirstBroken (lists_of bytes) rule
 IsDecided choice bytes NoMemory = ⊥
 
--- the entry is about the record of these bytes, at this place of this file, and decides it under this choice
+-- the entry is about the record of these bytes, at this place of this file, decides it under this choice, and where it has a
+-- shape has points that draw it
 pub record IsEntryFor (choice : Choice) (file ordinal : ℕ) (bytes : List ℕ) (entry : Entry) : Type 0 where
   pub file_is : entry.file ≡ file
   pub ordinal_is : entry.ordinal ≡ ordinal
   pub bytes_are : entry.rec ≡ bytes
   pub choice_is : entry.choice ≡ choice
   pub decided : ∥ IsDecided choice bytes entry.answer ∥₁
+  pub drawn : ∥ IsDrawnIfLaid entry.answer ∥₁
 
 -- the entries are one for each record, each once and in order; the first is at this place of the file
 abbrev pub AreOneForEach : Choice → ℕ → ℕ → List (List ℕ) → List Entry → Type 0

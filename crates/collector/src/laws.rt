@@ -10,7 +10,7 @@ ghost use Rattle.collector.specs.Headline.{IsWholeRun, HasMemory};
 /// its bytes, and in which no want of memory stands, has one entry for each record of these bytes,
 /// each once and in order, and their ending as its mark. Each entry names the first rule that its
 /// record breaks, or gives an orthogonal representation of its embedding and chosen outer face with the
-/// fewest bends, and coordinates, where given, draw it without crossings.
+/// fewest bends, and coordinates that draw it without crossings.
 pub fn whole_run()
     ensures { (choice : Choice) (meaning : ℕ → Meaning) (files : ℕ) (books : List BookModel) (other : BookModel)
         → AreAllBooks choice meaning files books

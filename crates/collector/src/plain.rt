@@ -3,6 +3,7 @@ ghost use Rattle.std.specs.Prelude.{◌≡◌, ◌<◌, ◌≤◌, ◌⊎◌, �
 ghost use Rattle.books.specs.declared.limits.TheConstants.{MAX_FILES};
 ghost use Rattle.books.specs.Books.{IsBook};
 ghost use Rattle.books.specs.AllBooks.{AreAllBooks};
+ghost use Rattle.drawn_reports.specs.DrawnBooks.{AreDrawnBooks};
 
 use crate::kept::Entries;
 use books::{Batch, Book, MAX_FILES};
@@ -26,6 +27,7 @@ pub fn run_plain<O: Opener>(
     choice: Choice,
 ) -> Result<Batch, BatchFault>
     ensures books { IfOk result (AreAllBooks choice (O.meaning opener.now) files) }
+    ensures drawn { IfOk result AreDrawnBooks }
     ensures too_many { (MAX_FILES < files) ↔ (result ≡ Err BatchFault.TooManyFiles) }
     ensures no_other { IfErr result (λ fault.
         (fault ≡ BatchFault.TooManyFiles) ⊎ (fault ≡ BatchFault.Memory)) }

@@ -3,6 +3,7 @@ ghost use Rattle.std.specs.Prelude.{◌≡◌, ◌≤◌, ◌<◌, ◌⊎◌, �
 ghost use Rattle.ruled_lanes.specs.declared.limits.TheConstants.{LANES, MAX_CAPACITY};
 ghost use Rattle.books.specs.declared.limits.TheConstants.{MAX_FILES};
 ghost use Rattle.books.specs.AllBooks.{AreAllBooks};
+ghost use Rattle.drawn_reports.specs.DrawnBooks.{AreDrawnBooks};
 
 use crate::answering::Answering;
 use books::{Batch, MAX_FILES, bind};
@@ -53,6 +54,7 @@ pub fn run_batch<R: Threads + Wait + Sync, O: Opener, G: Gate>(
     requires least { 1 ≤ capacity }
     requires most { capacity ≤ MAX_CAPACITY }
     ensures books { IfOk result (AreAllBooks choice (O.meaning opener.now) files) }
+    ensures drawn { IfOk result AreDrawnBooks }
     ensures too_many { (MAX_FILES < files) ↔ (result ≡ Err BatchFault.TooManyFiles) }
     ensures bad_lanes { (((lanes ≡ 0) ⊎ (LANES < lanes)) × (files ≤ MAX_FILES)) ↔ (result ≡ Err BatchFault.BadLanes) }
 {

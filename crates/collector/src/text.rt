@@ -7,6 +7,7 @@ ghost use Rattle.lanes.specs.Files.{AreToldWhole};
 ghost use Rattle.lane_runs.specs.Faults.{EndsRun};
 ghost use Rattle.lane_runs.specs.Taking.{TakesFiles};
 ghost use Rattle.texts.specs.Whole.{IsAllWritten, IsBegun};
+ghost use Rattle.drawn_reports.specs.Telling.{AddsNoneUndrawn};
 ghost use Rattle.collector.specs.TextRuns.{IsRefusedRun};
 
 use crate::run::MAX_LANES;
@@ -72,6 +73,7 @@ pub fn write_batch<R: Threads + Wait + Sync, O: Opener, G: Gate, S: Sink>(
     requires stands { S.failed sink.old ≡ false }
     ensures written { IfOk result (IsAllWritten choice (O.meaning opener.now) style.form files (S.taken sink.old) (S.taken sink.new)) }
     ensures begun { OnErr result ∥ IsBegun choice (O.meaning opener.now) style.form files (S.taken sink.old) (S.taken sink.new) ∥₁ }
+    ensures drawn { AddsNoneUndrawn (S.taken sink.old) (S.taken sink.new) }
     ensures status { IfOk result (λ status. (status ≡ 0) ⊎ (status ≡ 3)) }
     ensures too_many { (MAX_FILES < files) ↔ (result ≡ Err (TextFault.Run BatchFault.TooManyFiles)) }
     ensures bad_lanes { (((lanes ≡ 0) ⊎ (LANES < lanes)) × (files ≤ MAX_FILES))

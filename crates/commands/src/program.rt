@@ -12,6 +12,7 @@ ghost use Rattle.commands.specs.declared.reading.Wish.{Wish};
 ghost use Rattle.commands.specs.declared.request.Request.{Request};
 ghost use Rattle.commands.specs.Statuses.{IsReported, IsLaidOut, IsDone, IsBegunToReport, IsBegunToBeDone, IsNoReport, IsPrinted, version_text};
 ghost use Rattle.commands.specs.Requests.{IsAskedBy, asks_in};
+ghost use Rattle.drawn_reports.specs.Telling.{AddsNoneUndrawn};
 
 use crate::layout::{CAPACITY, layout};
 use crate::reading::{Wish, asks};
@@ -81,6 +82,12 @@ where
         → (out.new ≡ out.old)
         ⊎ ((request : Request) × IsAskedBy words.now request
         × IsBegunToBeDone (I.meaning input.now 0) request (S.taken out.old) (S.taken out.new)) }
+
+    // Whatever the status, what is written tells of no graph without a drawing, as the line `drawn=no` of a report would. Of help,
+    // where that is asked for, it is known that no report begins like it.
+    ensures drawn { AddsNoneUndrawn (S.taken out.old) (S.taken out.new)
+        ⊎ ((asks_in Wish.Help words.now ≡ true)
+        × ((text : List ℕ) × IsNoReport text × Appends (S.taken out.old) (S.taken out.new) text)) }
 {
     if asks(Wish::Version, words) {
         return show_version(out, err);
@@ -215,6 +222,8 @@ fn show_help<S: Sink, E: Sink>(alloc: Global, help: &Error, out: &mut S, err: &m
     ensures shown { result ≡ 0 → ((text : List ℕ) × IsNoReport text × Appends (S.taken out.old) (S.taken out.new) text) }
     ensures refused { result ≡ 2 → out.new ≡ out.old }
     ensures failed_write { S.failed out.new ≡ true → result ≡ 1 }
+    ensures drawn { AddsNoneUndrawn (S.taken out.old) (S.taken out.new)
+        ⊎ ((text : List ℕ) × IsNoReport text × Appends (S.taken out.old) (S.taken out.new) text) }
 {
     let Ok(text) = help.to_string(alloc) else {
         return end_by(Fault::Memory, err);
@@ -230,7 +239,8 @@ fn show_help<S: Sink, E: Sink>(alloc: Global, help: &Error, out: &mut S, err: &m
 
 /// Whether a text begins as help does, and as no report.
 fn begins_as_help(text: &[u8]) -> bool
-    ensures { IsTrue result → IsNoReport text.now }
+    ensures no_report { IsTrue result → IsNoReport text.now }
+    ensures capital { IsTrue result → (65 ≤ slice_index text.now 0) × (slice_index text.now 0 ≤ 90) }
 {
     begins_with_capital(text)
 }

@@ -12,7 +12,10 @@ use Rattle.dissect.specs.Boxed.{IsBoxed}
 use Rattle.orders.proofs.Numbers.{boxes_ordered}
 use Rattle.entries.specs.declared.cause.Cause.{Cause}
 use Rattle.entries.specs.Drawn.{ShowsCause, HasPoints}
-use Rattle.entries.specs.Answers.{IsLaid}
+use Rattle.entries.specs.declared.answer.Answer.{Answer}
+use Rattle.entries.specs.declared.answer.Answer.TheVariants.{Laid, Refused, NoMemory}
+use Rattle.entries.specs.Answers.{IsLaid, Answers}
+use Rattle.drawn_laws.specs.Drawings.{HasDrawing, IsDrawnIfLaid}
 use Rattle.grid_laws.specs.Least.{HasNoOrder}
 use Rattle.grid_laws.specs.Left.{MayShow}
 use Rattle.grid_laws.proofs.Left.{left_of_least}
@@ -41,3 +44,13 @@ pub drawn : (choice : Choice) (bytes : List ℕ) (plane : PlaneModel) (shape : S
     → (points : PointsModel) × (drawing ≡ Ok points) × HasPoints plane points × Draws plane shape points
 drawn choice bytes plane shape prices (Ok points) is = (points, refl, is.drawn.0, is.drawn.1)
 drawn choice bytes plane shape prices (Err cause) is = absurd (no_cause choice bytes plane shape prices cause is)
+
+laid_drawn : (choice : Choice) (bytes : List ℕ) (plane : PlaneModel) (shape : ShapeModel) (prices : PricesModel) (drawing : Result PointsModel Cause)
+    → IsLaid choice bytes plane shape prices drawing → HasDrawing plane shape drawing
+laid_drawn choice bytes plane shape prices (Ok points) is = is.drawn
+laid_drawn choice bytes plane shape prices (Err cause) is = no_cause choice bytes plane shape prices cause is
+
+pub answer_drawn : (choice : Choice) (bytes : List ℕ) (answer : Answer) → Answers choice bytes answer → IsDrawnIfLaid answer
+answer_drawn choice bytes (Laid plane shape prices drawing) is = laid_drawn choice bytes plane shape prices drawing is
+answer_drawn choice bytes (Refused rule) is = tt
+answer_drawn choice bytes NoMemory is = tt

@@ -11,8 +11,10 @@ ghost use Rattle.drawing_check.specs.Draws.{Draws};
 ghost use Rattle.dissect.specs.Boxes.{BoxesModel};
 ghost use Rattle.dissect.specs.Boxed.{IsBoxed};
 ghost use Rattle.entries.specs.declared.cause.Cause.{Cause};
+ghost use Rattle.entries.specs.declared.answer.Answer.{Answer};
 ghost use Rattle.entries.specs.Drawn.{ShowsCause, HasPoints};
-ghost use Rattle.entries.specs.Answers.{IsLaid};
+ghost use Rattle.entries.specs.Answers.{IsLaid, Answers};
+ghost use Rattle.drawn_laws.specs.Drawings.{IsDrawnIfLaid};
 
 /// Boxes that dissect a shape with the fewest bends show no cause: some numbers are in their order, so the least ones are within the
 /// grid, and points that are taken from these draw the shape.
@@ -28,4 +30,9 @@ pub fn laid_answers_are_drawn()
     ensures points { (choice : Choice) (bytes : List ℕ) (plane : PlaneModel) (shape : ShapeModel) (prices : PricesModel) (drawing : Result PointsModel Cause)
         → IsLaid choice bytes plane shape prices drawing
         → (points : PointsModel) × (drawing ≡ Ok points) × HasPoints plane points × Draws plane shape points }
+{}
+
+/// So an answer to a record has a drawing where it has a shape.
+pub fn answers_are_drawn()
+    ensures { (choice : Choice) (bytes : List ℕ) (answer : Answer) → Answers choice bytes answer → IsDrawnIfLaid answer }
 {}

@@ -3,4 +3,4 @@
 
 mod drawn;
 
-pub use drawn::{laid_answers_are_drawn, no_cause_is_shown};
+pub use drawn::{answers_are_drawn, laid_answers_are_drawn, no_cause_is_shown};

@@ -1,3 +1,4 @@
+use Rattle.drawn_laws.proofs.Drawings.{answer_drawn}
 use Rattle.answers.proofs.stages.answer.Goals as goal
 
 pub invariant_of-result : goal.invariant_of-result
@@ -5,3 +6,7 @@ invariant_of-result c = record { answers = ∣ c.answer_with.ensures c.args.choi
 
 pub returns-clause-answered : goal.returns-clause-answered
 returns-clause-answered c = c.answer_with.ensures c.args.choice c.args.rec (c.shape-layout.ensures c.args.rec c.embed-plane.ensures)
+
+pub returns-clause-drawn : goal.returns-clause-drawn
+returns-clause-drawn c =
+    answer_drawn c.args.choice c.args.rec _ (c.answer_with.ensures c.args.choice c.args.rec (c.shape-layout.ensures c.args.rec c.embed-plane.ensures))

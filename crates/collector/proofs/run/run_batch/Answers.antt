@@ -3,6 +3,7 @@ use Rattle.lanes.specs.Notes.{Note}
 use Rattle.lanes.specs.Drafts.{AreDrafts}
 use Rattle.lanes.specs.Files.{AreToldWhole}
 use Rattle.entries.specs.Abouts.{about_of}
+use Rattle.drawn_reports.proofs.Books.{drawn_books}
 use Rattle.collector.proofs.run.run_batch.Goals as goal
 
 pub bind-requires-clause-ready : goal.bind-requires-clause-ready
@@ -15,3 +16,12 @@ bind-requires-clause-ready g c =
       c.into_ready.ensures.ready c.args.choice meaning told.0 told.1
           (λ file below. told.2 file (omega (arith, below, ran.ensures.stays, c.in-Ok.ensures.count))),
     )
+
+pub returns-in-Ok-bind-clause-drawn : goal.returns-in-Ok-bind-clause-drawn
+returns-in-Ok-bind-clause-drawn g c =
+    let meaning = g.O.Opener.meaning c.args.opener.now in
+    let ran = c.run_lanes-drafts in
+    let told = subst (λ r. IfOk r (λ _. (ns : List Note) × AreDrafts about_of 0 ns ran.result.0.files.items × AreToldWhole c.args.choice meaning c.args.files ns)) c.in-Ok-ran.is ran.ensures.told in
+    let ready = c.into_ready.ensures.ready c.args.choice meaning told.0 told.1
+    (λ file below. told.2 file (omega (arith, below, ran.ensures.stays, c.in-Ok.ensures.count))) in
+    drawn_books c.args.choice meaning 0 c.in-Ok-bind.batch (c.in-Ok-bind.ensures.books c.args.choice meaning ready)

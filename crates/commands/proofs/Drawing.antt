@@ -1,0 +1,116 @@
+-- No command writes of a graph without a drawing.
+use Rattle.std.proofs.Common.{◌≡◌, ◌⊎◌, ℕ, zero, suc, ◌+◌, ◌≤◌, Bool, List, [], ◌∷◌, ◌++◌, length, slice_index, codes, decimal, Option, Result, Ok, Err, refl, sym, ap, subst, arith, inl, inr, append_assoc}
+use Rattle.std.specs.Io.KnownBytes.{Appends}
+use Rattle.planar_code.specs.declared.ending.Ending.TheVariants as ending
+use Rattle.streams.specs.declared.frames.Mark.{Mark}
+use Rattle.streams.specs.declared.frames.Mark.TheVariants.{Ended, Io}
+use Rattle.streams.specs.FramesModel.{FramesModel}
+use Rattle.streams.specs.declared.faults.WriteFault.{WriteFault}
+use Rattle.streams.specs.declared.faults.WriteFault.TheVariants.{Write, Memory}
+use Rattle.streams.specs.Sink.{AppendsFront, Writes}
+use Rattle.streams.specs.Text as marks
+use Rattle.streams.specs.Text.{record_line, record_lines, frames_end_line, frames_text}
+use Rattle.choices.specs.declared.Choice.{Choice}
+use Rattle.lanes.specs.Opening.{Meaning}
+use Rattle.reports.specs.declared.form.Form.{Form}
+use Rattle.reports.specs.Forms.{text_in}
+use Rattle.reports.proofs.FirstBytes.{first}
+use Rattle.drawn_reports.specs.Telling.{AddsNoneUndrawn}
+use Rattle.drawn_reports.proofs.Apart.{IsApart, joined, counted}
+use Rattle.drawn_reports.proofs.Texts.{text_apart}
+use Rattle.drawn_reports.proofs.Added.{text_added, front_added, none_added, from_some}
+use Rattle.collector.proofs.Drawing.{all_drawn, begun_drawn}
+use Rattle.commands.specs.declared.request.Request.{Request}
+use Rattle.commands.specs.declared.request.Request.TheVariants.{Frames, Layout}
+use Rattle.commands.specs.Statuses.{IsReported, IsLaidOut, IsBegunToReport, IsBegunToLayOut, IsDone, IsBegunToBeDone, IsNoReport, IsPrinted, version_text}
+use Rattle.commands.proofs.NoReport.{no_report}
+
+-- ---- records and how they end
+
+record_apart : (number : ℕ) (bytes : List ℕ) → IsApart (record_line number bytes)
+record_apart number bytes =
+    let named : List ℕ = codes "record " ++ decimal number in
+    let sized : List ℕ = named ++ codes " n=" ++ decimal (slice_index bytes 0) in
+    let sized_is : IsApart sized = counted (named ++ codes " n=") (slice_index bytes 0) (joined named (codes " n=") (counted (codes "record ") number refl) refl) in
+    joined (sized ++ codes " bytes=" ++ decimal (length bytes)) (codes "\n")
+    (counted (sized ++ codes " bytes=") (length bytes) (joined sized (codes " bytes=") sized_is refl)) refl
+
+records_apart : (number : ℕ) (records : List (List ℕ)) → IsApart (record_lines number records)
+records_apart number [] = refl
+records_apart number (bytes ∷ records) = joined (record_line number bytes) (record_lines (number + 1) records) (record_apart number bytes) (records_apart (number + 1) records)
+
+marked_apart : (mark : Mark) → IsApart (codes "end " ++ marks.word_of mark ++ codes " records=")
+marked_apart Io = refl
+marked_apart (Ended ending.Complete) = refl
+marked_apart (Ended ending.Truncated) = refl
+marked_apart (Ended ending.Header) = refl
+marked_apart (Ended ending.Large) = refl
+marked_apart (Ended ending.Oversize) = refl
+marked_apart (Ended ending.Many) = refl
+marked_apart (Ended ending.Memory) = refl
+
+frames_apart : (found : FramesModel) → IsApart (frames_text found)
+frames_apart found =
+    let count = length found.records in
+    joined (record_lines 1 found.records) (frames_end_line found.mark count) (records_apart 1 found.records)
+    (joined (codes "end " ++ marks.word_of found.mark ++ codes " records=" ++ decimal count) (codes "\n")
+    (counted (codes "end " ++ marks.word_of found.mark ++ codes " records=") count (marked_apart found.mark)) refl)
+
+-- ---- what requests ask for
+
+done_drawn : (input : Meaning) (request : Request) (old new : Option (List ℕ)) (failed : Bool) (status : ℕ) → IsDone input request old new failed status → AddsNoneUndrawn old new
+done_drawn input (Frames name) old new failed status is = text_added old new (frames_text is.found) (frames_apart is.found) is.text
+done_drawn input (Layout names lanes waiting choice style progress) old new failed status is =
+    text_added old new (text_in style.form is.books) (text_apart style.form is.books (all_drawn choice _ _ is.books is.of_files)) is.text
+
+begun_to_be_drawn : (input : Meaning) (request : Request) (old new : Option (List ℕ)) → IsBegunToBeDone input request old new → AddsNoneUndrawn old new
+begun_to_be_drawn input (Frames name) old new is = front_added old new (frames_text is.found) (frames_apart is.found) is.text
+begun_to_be_drawn input (Layout names lanes waiting choice style progress) old new is = begun_drawn choice _ style.form _ old new is
+
+unchanged : {S : Type 0} (taken : S → Option (List ℕ)) (old new : S) → new ≡ old → AddsNoneUndrawn (taken old) (taken new)
+unchanged taken old new same = subst (λ s. AddsNoneUndrawn (taken old) (taken s)) (sym same) (none_added (taken old))
+
+pub performed_drawn : {S : Type 0} (taken : S → Option (List ℕ)) (input : Meaning) (request : Request) (old new : S) (failed : Bool) (status : ℕ) → status ≤ 3
+    → (status ≡ 2 → new ≡ old)
+    → ((status ≡ 0) ⊎ (status ≡ 3) → IsDone input request (taken old) (taken new) failed status)
+    → (status ≡ 1 → (new ≡ old) ⊎ IsBegunToBeDone input request (taken old) (taken new))
+    → AddsNoneUndrawn (taken old) (taken new)
+performed_drawn taken input request old new failed zero known refused done begun = done_drawn input request (taken old) (taken new) failed 0 (done (inl refl))
+performed_drawn taken input request old new failed (suc zero) known refused done begun =
+    elim (begun refl) [
+      | inl same ↦ unchanged taken old new same
+      | inr is ↦ begun_to_be_drawn input request (taken old) (taken new) is
+    ]
+performed_drawn taken input request old new failed (suc (suc zero)) known refused done begun = unchanged taken old new (refused refl)
+performed_drawn taken input request old new failed (suc (suc (suc zero))) known refused done begun = done_drawn input request (taken old) (taken new) failed 3 (done (inr refl))
+performed_drawn taken input request old new failed (suc (suc (suc (suc n)))) known refused done begun = absurd (let none : ⊥ = omega (arith, known) in none)
+
+-- ---- the version and help
+
+pub printed_drawn : (old new : Option (List ℕ)) (failed : Bool) (status : ℕ) → IsPrinted version_text old new failed status → AddsNoneUndrawn old new
+printed_drawn old new failed status is =
+    elim is [
+      | inl whole ↦ text_added old new version_text refl whole.2
+      | inr front ↦ front_added old new version_text refl front.2
+    ]
+
+-- a beginning of help
+pub help_begun : (old new : Option (List ℕ)) (help : List ℕ) → 65 ≤ first help → first help ≤ 90 → AppendsFront old new help
+    → AddsNoneUndrawn old new ⊎ ((text : List ℕ) × IsNoReport text × Appends old new text)
+help_begun old new help low high adds = by adds.0 adds.1 adds.2 adds.3
+  where
+    by : (front rest : List ℕ) → help ≡ front ++ rest → Appends old new front → AddsNoneUndrawn old new ⊎ ((text : List ℕ) × IsNoReport text × Appends old new text)
+    by [] rest e appends = inl (text_added old new [] refl appends)
+    by (byte ∷ bytes) rest e appends =
+        let same : first help ≡ byte = ap first e in
+        inr (byte ∷ bytes, no_report (byte ∷ bytes) (omega (arith, same, low)) (omega (arith, same, high)), appends)
+
+-- help that was written, whole or a beginning of it
+pub help_drawn : {A : Type 0} (old new : Option (List ℕ)) (failed : Bool) (help : List ℕ) (result : Result A WriteFault) → (65 ≤ first help) × (first help ≤ 90)
+    → Writes old new failed help result → AddsNoneUndrawn old new ⊎ ((text : List ℕ) × IsNoReport text × Appends old new text)
+help_drawn old new failed help (Ok done) capital writes = inr (help, no_report help capital.0 capital.1, writes.1)
+help_drawn old new failed help (Err Write) capital writes = help_begun old new help capital.0 capital.1 writes.1
+help_drawn old new failed help (Err Memory) capital writes = absurd writes
+
+pub none_or_help : {P : Type 0} (known : Option (List ℕ)) → AddsNoneUndrawn known known ⊎ P
+none_or_help known = inl (none_added known)
