@@ -1,7 +1,6 @@
-pub mod Bytes
 pub mod Planes
 pub mod Memory
-pub mod Spelling
+pub mod Sizes
 pub mod Entering
 pub mod Booking
 pub mod Wording

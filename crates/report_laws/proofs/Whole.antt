@@ -24,10 +24,10 @@ use Rattle.reports.specs.Report.{numbered_texts, drawn_text, answer_text, entry_
 use Rattle.report_laws.specs.Reports.{IsReport, TellSame, AllTellSame, HasNoMemoryWord}
 use Rattle.report_laws.proofs.Memory.{IsDecided, HasMemory}
 use Rattle.report_laws.proofs.Planes.{one_rule, none_broken}
-use Rattle.report_laws.proofs.Spelling.{same_sizes}
+use Rattle.report_laws.proofs.Sizes.{same_sizes}
 use Rattle.report_laws.proofs.Entering.{AreDecided, as_many, decided_by_book}
 use Rattle.report_laws.proofs.Booking.{same_marked, book_marked}
-use Rattle.report_laws.proofs.Wording.{books_have_memory}
+use Rattle.report_laws.proofs.Wording.{has_memory, books_have_memory}
 
 drawn_yes : (choice : Choice) (bytes : List ℕ) (plane : PlaneModel) (shape : ShapeModel) (prices : PricesModel) (drawing : Result PointsModel Cause)
     → IsLaid choice bytes plane shape prices drawing → drawn_text drawing ≡ codes " drawn=yes"
@@ -63,7 +63,7 @@ whole_entries choice (bytes ∷ records) (entry ∷ entries) (other ∷ others) 
     (whole_graph choice bytes entry.answer other.answer are.0 are'.0)
     (whole_entries choice records entries others are.1 are'.1 (number + 1))
 
-whole_book : (choice : Choice) (records : List (List ℕ)) (book other : BookModel) → AreDecided choice records book.entries → AreDecided choice records other.entries
+pub whole_book : (choice : Choice) (records : List (List ℕ)) (book other : BookModel) → AreDecided choice records book.entries → AreDecided choice records other.entries
     → book.mark ≡ other.mark → (number : ℕ) → book_text number book ≡ book_text number other
 whole_book choice records book other are are' marked number =
     let count : length book.entries ≡ length other.entries = as_many choice records book.entries are ∙ sym (as_many choice records other.entries are') in
@@ -71,19 +71,26 @@ whole_book choice records book other are are' marked number =
     (whole_entries choice records book.entries other.entries are are' 1)
     (ap₂ end_line marked count)
 
-whole_told : (choice : Choice) (meaning other_meaning : Meaning) (file : ℕ) (book other : BookModel)
-    → IsBook choice meaning file book → IsBook choice other_meaning file other → TellSame meaning other_meaning → HasMemory book → HasMemory other
+whole_told : (choice : Choice) (meaning other_meaning : Meaning) (file other_file : ℕ) (book other : BookModel)
+    → IsBook choice meaning file book → IsBook choice other_meaning other_file other → TellSame meaning other_meaning → HasMemory book → HasMemory other
     → (number : ℕ) → book_text number book ≡ book_text number other
-whole_told choice meaning other_meaning file book other one two tell has has' number =
+whole_told choice meaning other_meaning file other_file book other one two tell has has' number =
     let marked : IsMarked tell.bytes (fails_of meaning) one.whole.records book.mark = book_marked choice meaning file book tell.bytes tell.told one in
     let marked' : IsMarked tell.bytes (fails_of meaning) two.whole.records other.mark =
-    subst (λ (f : Bool). IsMarked tell.bytes f two.whole.records other.mark) (sym tell.fails) (book_marked choice other_meaning file other tell.bytes tell.told_too two) in
+    subst (λ (f : Bool). IsMarked tell.bytes f two.whole.records other.mark) (sym tell.fails) (book_marked choice other_meaning other_file other tell.bytes tell.told_too two) in
     let same = same_marked tell.bytes (fails_of meaning) one.whole.records two.whole.records book.mark other.mark marked marked' has.mark has'.mark in
     whole_book choice one.whole.records book other
     (decided_by_book choice file 0 one.whole.records book.entries one.whole.each one.answered has.answers)
     (subst (λ (rs : List (List ℕ)). AreDecided choice rs other.entries) (sym same.0)
-    (decided_by_book choice file 0 two.whole.records other.entries two.whole.each two.answered has'.answers))
+    (decided_by_book choice other_file 0 two.whole.records other.entries two.whole.each two.answered has'.answers))
     same.1 number
+
+pub one_told : (choice : Choice) (meaning other_meaning : Meaning) (file other_file : ℕ) (book other : BookModel)
+    → IsBook choice meaning file book → IsBook choice other_meaning other_file other → TellSame meaning other_meaning
+    → (number : ℕ) → HasNoMemoryWord (book_text number book) → HasNoMemoryWord (book_text number other) → book_text number book ≡ book_text number other
+one_told choice meaning other_meaning file other_file book other one two tell number none none' =
+    whole_told choice meaning other_meaning file other_file book other one two tell
+    (has_memory number book (λ has. none has.front has.back has.parts)) (has_memory number other (λ has. none' has.front has.back has.parts)) number
 
 whole_books : (choice : Choice) (meaning other_meaning : ℕ → Meaning) (first number : ℕ) (books others : List BookModel)
     → AreBooks choice meaning first books → AreBooks choice other_meaning first others → length books ≡ length others
@@ -96,7 +103,7 @@ whole_books choice meaning other_meaning first number (book ∷ books) [] are ar
 whole_books choice meaning other_meaning first number (book ∷ books) (other ∷ others) are are' count tell has has' =
     let here : first + 0 ≡ first = omega arith in
     ap₂ (λ (text : List ℕ) (rest : List ℕ). text ++ rest)
-    (whole_told choice (meaning first) (other_meaning first) first book other are.0 are'.0
+    (whole_told choice (meaning first) (other_meaning first) first first book other are.0 are'.0
     (subst (λ (n : ℕ). TellSame (meaning n) (other_meaning n)) here (tell 0 (omega arith)))
     (has 0 book (omega arith)) (has' 0 other (omega arith)) number)
     (whole_books choice meaning other_meaning (first + 1) (number + 1) books others are.1 are'.1 (omega (arith, count))

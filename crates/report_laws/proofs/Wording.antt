@@ -3,23 +3,19 @@ use Rattle.std.proofs.Common.{◌≡◌, ℕ, zero, suc, ◌+◌, ◌<◌, List,
 use Rattle.planar_code.specs.declared.ending.Ending.TheVariants as ending
 use Rattle.streams.specs.declared.frames.Mark.{Mark}
 use Rattle.streams.specs.declared.frames.Mark.TheVariants.{Ended}
-use Rattle.choices.specs.declared.Choice.{Choice}
-use Rattle.lanes.specs.Opening.{Meaning}
 use Rattle.entries.specs.declared.answer.Answer.{Answer}
 use Rattle.entries.specs.declared.answer.Answer.TheVariants.{NoMemory}
 use Rattle.entries.specs.declared.entry.Entry.{Entry}
-use Rattle.books.specs.Books.{BookModel, IsBook}
+use Rattle.books.specs.Books.{BookModel}
 use Rattle.reports.specs.Report.{numbered_texts, answer_text, entry_line, end_line, file_line, book_text, report_text}
 use Rattle.report_laws.proofs.Memory.{HasMemory}
-use Rattle.report_laws.specs.BeforeDrawn.{lines_before_drawn}
-use Rattle.report_laws.specs.Reports.{IsReport, TellSame, AllTellSame, HasNoMemoryWord}
-use Rattle.report_laws.proofs.Booking.{same_alone, same_reports}
+use Rattle.report_laws.specs.Reports.{HasNoMemoryWord}
 
 -- the word stands somewhere in the text
-record HasWord (text : List ℕ) : Type 0 where
-  front : List ℕ
-  back : List ℕ
-  parts : text ≡ front ++ codes "memory" ++ back
+pub record HasWord (text : List ℕ) : Type 0 where
+  pub front : List ℕ
+  pub back : List ℕ
+  pub parts : text ≡ front ++ codes "memory" ++ back
 
 -- so it does where more stands behind or before
 word_before : (xs ys : List ℕ) → HasWord xs → HasWord (xs ++ ys)
@@ -60,7 +56,7 @@ word_in_end mark count is =
     word_before (codes "end " ++ codes "memory" ++ codes " graphs=") (decimal count) (word_before (codes "end " ++ codes "memory") (codes " graphs=") word) in
     subst (λ m. HasWord (end_line m count)) (sym is) (word_before (codes "end " ++ codes "memory" ++ codes " graphs=" ++ decimal count) (codes "\n") more)
 
-has_memory : (number : ℕ) (book : BookModel) → (HasWord (book_text number book) → ⊥) → HasMemory book
+pub has_memory : (number : ℕ) (book : BookModel) → (HasWord (book_text number book) → ⊥) → HasMemory book
 has_memory number book none =
     let first : List ℕ = file_line number in
     let graphs : List ℕ = numbered_texts entry_line 1 book.entries in
@@ -78,20 +74,3 @@ have_memory number (book ∷ books) none (suc k) d inside =
 
 pub books_have_memory : (text : List ℕ) (books : List BookModel) → text ≡ report_text books → HasNoMemoryWord text → All HasMemory books
 books_have_memory text books is none = have_memory 1 books (λ has. none has.front has.back (is ∙ has.parts))
-
-pub same_texts : (choice : Choice) (meaning other_meaning : ℕ → Meaning) (files : ℕ) (text other : List ℕ)
-    → IsReport choice meaning files text → IsReport choice other_meaning files other → AllTellSame files meaning other_meaning
-    → HasNoMemoryWord text → HasNoMemoryWord other → lines_before_drawn text ≡ lines_before_drawn other
-same_texts choice meaning other_meaning files text other one two tell none none' =
-    ap lines_before_drawn one.text_is
-    ∙ same_reports choice meaning other_meaning files one.books two.books one.of_files two.of_files tell
-    (books_have_memory text one.books one.text_is none) (books_have_memory other two.books two.text_is none')
-    ∙ sym (ap lines_before_drawn two.text_is)
-
-pub same_told_lines : (choice : Choice) (meaning other_meaning : Meaning) (file other_file : ℕ) (book other : BookModel)
-    → IsBook choice meaning file book → IsBook choice other_meaning other_file other → TellSame meaning other_meaning
-    → (number : ℕ) → HasNoMemoryWord (book_text number book) → HasNoMemoryWord (book_text number other)
-    → lines_before_drawn (book_text number book) ≡ lines_before_drawn (book_text number other)
-same_told_lines choice meaning other_meaning file other_file book other one two tell number none none' =
-    same_alone choice meaning other_meaning file other_file book other one two tell
-    (has_memory number book (λ has. none has.front has.back has.parts)) (has_memory number other (λ has. none' has.front has.back has.parts)) number

@@ -1,2 +1,1 @@
-pub mod BeforeDrawn
 pub mod Reports

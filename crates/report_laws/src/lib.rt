@@ -3,4 +3,4 @@
 
 mod same;
 
-pub use same::{one_report, only_drawn_is_left_out, same_lines, same_report};
+pub use same::{one_book_text, one_report};

@@ -1,5 +1,5 @@
--- The lines of two whole runs of the same bytes.
-use Rattle.std.proofs.Common.{◌≡◌, ℕ, ◌+◌, List, [], ◌∷◌, ◌++◌, refl, sym, ap, subst, ◌∙◌, append-nil, Some}
+-- The texts of two whole runs of the same bytes.
+use Rattle.std.proofs.Common.{◌≡◌, ℕ, ◌+◌, List, [], ◌∷◌, ◌++◌, refl, sym, ap, subst, ◌∙◌, Some}
 use Rattle.std.proofs.Math.Logic.{∥∥₁_map}
 use Rattle.planar_code.proofs.Splits.{split_same}
 use Rattle.streams.specs.declared.frames.Mark.TheVariants.{Ended}
@@ -13,11 +13,10 @@ use Rattle.reports.specs.Report.{book_text, report_text}
 use Rattle.reports.specs.declared.form.Form.TheVariants.{Report}
 use Rattle.texts.specs.Whole.{IsAllWritten}
 use Rattle.collector.specs.Headline.{IsDecided, AreOneForEach, IsWholeRun}
-use Rattle.report_laws.specs.BeforeDrawn.{lines_before_drawn}
 use Rattle.report_laws.specs.Reports.{IsReport}
 use Rattle.report_laws.proofs.Memory as memory
 use Rattle.report_laws.proofs.Entering.{AreDecided}
-use Rattle.report_laws.proofs.Booking.{same_book}
+use Rattle.report_laws.proofs.Whole.{whole_book}
 
 decided : (choice : Choice) (bytes : List ℕ) (answer : Answer) → IsDecided choice bytes answer → memory.IsDecided choice bytes answer
 decided choice bytes (Laid plane shape prices drawing) is = is
@@ -34,15 +33,13 @@ decided_by_run choice file ordinal (bytes ∷ records) (entry ∷ entries) are =
 
 pub same_runs : (choice : Choice) (file other_file : ℕ) (bytes : List ℕ) (book other : BookModel)
     → IsWholeRun choice file bytes book → IsWholeRun choice other_file bytes other
-    → (number : ℕ) → lines_before_drawn (book_text number book) ≡ lines_before_drawn (book_text number other)
+    → (number : ℕ) → book_text number book ≡ book_text number other
 same_runs choice file other_file bytes book other one two number =
     let same = split_same bytes one.records two.records one.end two.end one.split two.split in
-    sym (ap lines_before_drawn (append-nil (book_text number book)))
-    ∙ same_book choice one.records book other
+    whole_book choice one.records book other
     (decided_by_run choice file 0 one.records book.entries one.entries)
     (subst (λ (rs : List (List ℕ)). AreDecided choice rs other.entries) (sym same.0) (decided_by_run choice other_file 0 two.records other.entries two.entries))
-    (one.mark ∙ ap Ended same.1 ∙ sym two.mark) number [] [] refl
-    ∙ ap lines_before_drawn (append-nil (book_text number other))
+    (one.mark ∙ ap Ended same.1 ∙ sym two.mark) number
 
 -- what was written of all books is their report
 pub as_report : (choice : Choice) (meaning : ℕ → Meaning) (files status : ℕ) (start now : List ℕ)

@@ -8,17 +8,15 @@ ghost use Rattle.reports.specs.Report.{book_text};
 ghost use Rattle.reports.specs.declared.form.Form.{Form};
 ghost use Rattle.texts.specs.Whole.{IsAllWritten};
 ghost use Rattle.collector.specs.Headline.{IsWholeRun};
-ghost use Rattle.report_laws.specs.BeforeDrawn.{lines_before_drawn};
 ghost use Rattle.report_laws.specs.Reports.{IsReport};
 
-/// Two whole runs of the same bytes under the same choice have the same lines up to " drawn=" in a report, the last one
-/// included, whichever numbers their files have.
+/// Two whole runs of the same bytes under the same choice have one text in a report, whichever numbers their files have.
 pub fn same_whole_runs()
     ensures { (choice : Choice) (file other_file : ℕ) (bytes : List ℕ) (book other : BookModel)
         → IsWholeRun choice file bytes book
         → IsWholeRun choice other_file bytes other
         → (number : ℕ)
-        → lines_before_drawn (book_text number book) ≡ lines_before_drawn (book_text number other) }
+        → book_text number book ≡ book_text number other }
 {}
 
 /// What `write_batch` adds to a sink, in the form of a report, is the report of right books.
