@@ -144,6 +144,24 @@ def libraries():
     return uses
 
 
+def plant(edit, crate):
+    """Makes the changes of an edit in a crate: lines `file:`, `old:` and `new:`, as those of attacks/."""
+    with open(edit) as lines:
+        for line in lines:
+            word, _, text = line.rstrip("\n").partition(": ")
+            if word == "file":
+                path = os.path.join(crate, text)
+            elif word == "old":
+                old = text
+            elif word == "new":
+                with open(path) as source:
+                    whole = source.read()
+                if whole.count(old) != 1:
+                    sys.exit(f"{edit}: its text does not stand once in {path}")
+                with open(path, "w") as source:
+                    source.write(whole.replace(old, text))
+
+
 def closure(names, uses):
     """These crates and all crates of the repository that they stand on, lowest first."""
     found = set()
