@@ -6,6 +6,7 @@
 #![tactic(auto)]
 
 mod augment;
+mod lists;
 mod resume;
 mod scratch;
 mod solved;

@@ -151,6 +151,8 @@ places s = numbers s.place.items
 
 -- what a search reads is sound
 pub record IsGround (g : Ground) : Type 0 where
+  pub excesses : length g.nodes.now.excess.items ≡ nodes_of g
+  pub scores : length g.nodes.now.score.items ≡ nodes_of g
   pub graph : IsGraph (nodes_of g) (first_of g) (arcs_of g)
   pub priced : IsPriced (nodes_of g) (first_of g) (arcs_of g) (potential_of g) (excess_of g)
   pub source : g.source < nodes_of g

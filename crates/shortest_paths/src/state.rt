@@ -15,8 +15,6 @@ pub struct Nodes {
     pub excess: Vec<i32>,
     /// Of nodes that are found at the same distance the one with the least score is taken.
     pub score: Vec<i32>,
-    ghost excesses: { vec_len excess ≡ vec_len potential },
-    ghost scores: { vec_len score ≡ vec_len potential },
 }
 
 /// What a search reads: a residual network, its nodes, and the node where the search begins.

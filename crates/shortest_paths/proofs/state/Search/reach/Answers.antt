@@ -26,7 +26,7 @@ settle-requires-clause-plain c =
     let f : SFits w32 c.index-2.result.now = search rules in
     let o = c.requires.offer in
     let b : c.args.step.end < nodes_of c.args.ground = end_in c.args.ground c.args.self.now c.args.step o in
-    let e = get_or_read c.args.ground.nodes.now.excess.items c.args.step.end c.index-2.result.now (omega (arith, c.args.ground.nodes.now.excesses)) c.index-2.ensures (pos 0) in
+    let e = get_or_read c.args.ground.nodes.now.excess.items c.args.step.end c.index-2.result.now (omega (arith, c.requires.offer.search.ground.excesses)) c.index-2.ensures (pos 0) in
     subst (λ (z : ℤ). pos 0 ≤ℤ z) e (is_no_less _ _ f c.if-index-lt0.false)
 
 pub returns-then-index-lt0 : goal.returns-then-index-lt0
@@ -37,7 +37,7 @@ returns-then-index-lt0 c =
     let o = c.requires.offer in
     let v = c.args.step.end in
     let b : v < nodes_of c.args.ground = end_in c.args.ground c.args.self.now c.args.step o in
-    let e = get_or_read c.args.ground.nodes.now.excess.items v c.index-2.result.now (omega (arith, c.args.ground.nodes.now.excesses)) c.index-2.ensures (pos 0) in
+    let e = get_or_read c.args.ground.nodes.now.excess.items v c.index-2.result.now (omega (arith, c.requires.offer.search.ground.excesses)) c.index-2.ensures (pos 0) in
     let wants : excess_of c.args.ground v <ℤ pos 0 = subst (λ (z : ℤ). z <ℤ pos 0) e (is_less _ _ fe c.if-index-lt0.true) in
     let away : c.distance-away.result ≡ c.args.step.label -ℤ potential_of c.args.ground v = away_is _ _ _ _ _ (fits_within _ (offer_within c.args.ground c.args.self.now c.args.step o)) f c.distance-away.ensures refl (get_or_read c.args.ground.nodes.now.potential.items v c.index.result.now b c.index.ensures (pos 0)) in
     let a = c.offer.ensures in
@@ -50,7 +50,7 @@ returns-then-index-lt0 c =
 pub index-requires-then-index-lt0 : goal.index-requires-then-index-lt0
 index-requires-then-index-lt0 c =
     let b : c.args.step.end < nodes_of c.args.ground = end_in c.args.ground c.args.self.now c.args.step c.requires.offer in
-    omega (arith, c.args.ground.nodes.now.scores)
+    omega (arith, c.requires.offer.search.ground.scores)
 
 pub returns-else-away-self-clause-served : goal.returns-else-away-self-clause-served
 returns-else-away-self-clause-served c h =

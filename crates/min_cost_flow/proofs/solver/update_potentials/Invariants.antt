@@ -2,7 +2,7 @@ use Rattle.std.proofs.Common.{◌≡◌, ◌≢◌, ◌<◌, ℕ}
 use Rattle.std.specs.Prelude.{◌-ℤ◌}
 use Rattle.networks.specs.Flow.{at_nodes}
 use Rattle.networks.specs.ResidualArcs.{numbers}
-use Rattle.min_cost_flow.proofs.solver.move_potentials.Given as goal
+use Rattle.min_cost_flow.proofs.solver.update_potentials.Given as goal
 
 abbrev pub invariant-loop-j : goal.invariant-loop-j
 invariant-loop-j l = record {

@@ -7,7 +7,7 @@ use Rattle.networks.specs.Flow.{at_nodes}
 use Rattle.networks.specs.ResidualArcs.{numbers}
 use Rattle.shortest_paths.specs.Search.{IsPut}
 use Rattle.min_cost_flow.proofs.Solving.{moved_more}
-use Rattle.min_cost_flow.proofs.solver.move_potentials.Goals as goal
+use Rattle.min_cost_flow.proofs.solver.update_potentials.Goals as goal
 
 pub loop-j-preserved : goal.loop-j-preserved
 loop-j-preserved c =
