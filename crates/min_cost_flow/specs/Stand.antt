@@ -3,7 +3,7 @@ use Rattle.std.specs.Prelude.{ℕ, ◌<◌, ◌≡◌, ℤ, pos, List, length}
 use Rattle.networks.specs.Networks.{NetworkModel, node_count}
 use Rattle.networks.specs.Networks.{IsNetwork}
 use Rattle.networks.specs.Flow.{Flow, HasPotentials, IsLeastCost, at_nodes, cost_of}
-use Rattle.networks.specs.Residuals.{HasRoom, IsResidual, flow_of}
+use Rattle.networks.specs.Residuals.{HasSizes, IsResidualNetwork, flow_of}
 use Rattle.shortest_paths.specs.declared.state.Search.{Search}
 use Rattle.shortest_paths.specs.Search.{far, labels, orders}
 use Rattle.min_cost_flow.specs.declared.lists.Lists.{Lists}
@@ -11,7 +11,8 @@ use Rattle.min_cost_flow.specs.Round.{IsRound}
 
 -- the lists have the sizes that the network needs
 pub record IsSized (net : NetworkModel) (l : Lists) : Type 0 where
-  pub room : HasRoom net l.residual
+  pub network : IsNetwork net
+  pub room : HasSizes net l.residual
   pub potentials : length l.nodes.potential.items ≡ node_count net
   pub excesses : length l.nodes.excess.items ≡ node_count net
   pub scores : length l.nodes.score.items ≡ node_count net
@@ -20,7 +21,7 @@ pub record IsSized (net : NetworkModel) (l : Lists) : Type 0 where
 -- what holds of the solver's lists between two searches
 pub record IsReady (net : NetworkModel) (l : Lists) : Type 0 where
   pub network : IsNetwork net
-  pub residual : IsResidual net l.residual
+  pub residual : IsResidualNetwork net l.residual
   pub potentials : length l.nodes.potential.items ≡ node_count net
   pub excesses : length l.nodes.excess.items ≡ node_count net
   pub scores : length l.nodes.score.items ≡ node_count net

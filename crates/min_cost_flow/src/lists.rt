@@ -1,7 +1,7 @@
 //! What the solver keeps of a network.
 ghost use Rattle.std.specs.Prelude.{◌≡◌, OnOk, IfOk, length};
 ghost use Rattle.std.proofs.Math.ListN.{replicate};
-ghost use Rattle.networks.specs.Residuals.{HasRoom};
+ghost use Rattle.networks.specs.Residuals.{HasSizes};
 ghost use Rattle.min_cost_flow.specs.Stand.{IsSized};
 
 use networks::{Network, Residual, ResidualArc};
@@ -77,7 +77,7 @@ pub(crate) fn prepare(lists: Lists, network: &Network) -> Result<Lists, AllocErr
 }
 
 fn prepare_residual(residual: Residual, network: &Network) -> Result<Residual, AllocError>
-    ensures { IfOk result (λ residual. HasRoom network.now residual) }
+    ensures { IfOk result (λ residual. HasSizes network.now residual) }
 {
     let nodes = network.node_count();
     let arcs = network.arc_count();

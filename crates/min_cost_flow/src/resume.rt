@@ -6,13 +6,12 @@ ghost use Rattle.networks.specs.declared.residual.TheConstants.{MAX_RESIDUAL_ARC
 ghost use Rattle.min_cost_flow.specs.declared.resume.TheConstants.{MAX_CARRIED};
 ghost use Rattle.networks.specs.Networks.{node_count, IsNetwork, HasFairSupplies, shifted};
 ghost use Rattle.networks.specs.Flow.{at_nodes, HasNoFlow};
-ghost use Rattle.networks.specs.ResidualArcs.{numbers};
-ghost use Rattle.networks.specs.Residuals.{flow_of};
+ghost use Rattle.networks.specs.ResidualArcs.{numbers, carried};
 ghost use Rattle.min_cost_flow.specs.Stand.{IsReady, IsSettled, IsSized};
 
 use crate::lists::Lists;
 use crate::solver::{Solver, has_deficit};
-use networks::{Network, Residual, move_units};
+use networks::{Network, move_units};
 
 /// How many units an arc carries at most: as many as all nodes of a network can supply.
 pub(crate) const MAX_CARRIED: u32 = 2_097_152;
@@ -39,24 +38,28 @@ pub(crate) fn resume(
 {
     network.shift(from, to, amount);
     let mut lists = lists;
-    if carries_little(&lists.residual, amount) && rebase(&mut lists.nodes.potential, to as usize) {
-        move_units(&mut lists.nodes.excess, from, to, amount);
-        resend(network, lists, from as usize)
-    } else {
-        solve_anew(network, lists)
+    let residual = &lists.residual;
+    if !carries_little(&residual.reverse, &residual.forward, &residual.room, amount) {
+        return solve_anew(network, lists);
     }
+    if !rebase(&mut lists.nodes.potential, to as usize) {
+        return solve_anew(network, lists);
+    }
+    move_units(&mut lists.nodes.excess, from, to, amount);
+    resend(network, lists, from as usize)
 }
 
 /// Solves from nothing.
 pub(crate) fn solve_anew(network: &Network, lists: Lists) -> Option<Lists>
-    requires network { IsNetwork network.now }
     requires sized { IsSized network.now lists }
     ensures settled { IfSome result (λ lists. IsSettled network.now lists) }
     ensures no_flow { IfNone result (HasNoFlow network.now) }
 {
     let mut solver = Solver { network, lists };
-    solver.solve()?;
-    Some(solver.lists)
+    match solver.solve() {
+        Some(_) => Some(solver.lists),
+        None => None,
+    }
 }
 
 /// Sends all that is left over at the one node where there is something.
@@ -81,15 +84,16 @@ fn resend(network: &Network, lists: Lists, source: usize) -> Option<Lists>
 }
 
 /// Whether each arc can carry so many units more, at most [`MAX_CARRIED`] in all.
-fn carries_little(residual: &Residual, amount: u32) -> bool
-    requires reverses { (i : ℕ) → i < length residual.now.forward.items → numbers residual.now.forward.items i < length residual.now.reverse.items }
-    requires rooms { (i : ℕ) → i < length residual.now.forward.items → numbers residual.now.reverse.items (numbers residual.now.forward.items i) < length residual.now.room.items }
+fn carries_little(reverse: &[u32], forward: &[u32], room: &[u32], amount: u32) -> bool
+    requires reverses { (i : ℕ) → i < length forward.now → numbers forward.now i < length reverse.now }
+    requires rooms { (i : ℕ) → i < length forward.now → numbers reverse.now (numbers forward.now i) < length room.now }
+    requires sizes { (length reverse.now ≤ MAX_RESIDUAL_ARCS) × (length room.now ≤ MAX_RESIDUAL_ARCS) }
     requires few { amount ≤ MAX_SUPPLY }
-    ensures { result ≡ true → (i : ℕ) → i < length residual.now.forward.items → flow_of residual.now i + amount ≤ MAX_CARRIED }
+    ensures { result ≡ true → (i : ℕ) → i < length forward.now → carried reverse.now forward.now room.now i + amount ≤ MAX_CARRIED }
 {
     let most = MAX_CARRIED - amount;
-    for along in residual.forward.iter() {
-        if residual.room[residual.reverse[*along as usize] as usize] > most {
+    for along in forward.iter() {
+        if room[reverse[*along as usize] as usize] > most {
             return false;
         }
     }

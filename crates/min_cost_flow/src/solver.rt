@@ -11,9 +11,10 @@ ghost use Rattle.networks.specs.declared.residual.TheConstants.{MAX_RESIDUAL_ARC
 ghost use Rattle.min_cost_flow.specs.declared.solver.SolveFault.TheVariants.{Memory};
 ghost use Rattle.networks.specs.Networks.{arc_count, node_count, supply_at, IsNetwork};
 ghost use Rattle.networks.specs.Flow.{amounts, at_nodes, HasNoFlow, Solves};
-ghost use Rattle.networks.specs.ResidualArcs.{numbers, carried};
+ghost use Rattle.networks.specs.ResidualArcs.{numbers, end_at, carried};
 ghost use Rattle.networks.specs.Residuals.{flow_of};
-ghost use Rattle.shortest_paths.specs.Search.{far, labels, orders, IsWithinFar};
+ghost use Rattle.shortest_paths.specs.Search.{far, labels, enters, orders, places, IsPut, IsWithinFar};
+ghost use Rattle.min_cost_flow.specs.Path.{HasPath};
 ghost use Rattle.min_cost_flow.specs.Round.{carrying, supply_sum, IsLess, IsWork, IsRoundDone, HasSupply, IsWithinReach};
 ghost use Rattle.min_cost_flow.specs.Stand.{IsSized, IsReady, IsSettled, IsCleared};
 
@@ -54,6 +55,7 @@ pub(crate) struct Work {
 }
 
 /// A network, and what the solver keeps of it.
+#[derive(Drop)]
 pub(crate) struct Solver<'a> {
     pub network: &'a Network,
     pub lists: Lists,
@@ -118,7 +120,6 @@ impl Solver<'_> {
     /// Sends all units from nothing, and gives how much work that was; none where it cannot be done, or where
     /// units are wanting still.
     pub(crate) fn solve(&mut self) -> Option<Work>
-        requires network { IsNetwork self.old.network.now }
         requires sized { IsSized self.old.network.now self.old.lists }
         ensures same { self.new.network ≡ self.old.network }
         ensures done { IfSome result (λ work. IsRoundDone self.old.network.now (flow_of self.new.lists.residual) (at_nodes self.new.lists.nodes.potential.items) work.searches work.looks) }
@@ -143,7 +144,6 @@ impl Solver<'_> {
 
     /// Initialise: no arc carries anything, all potentials are 0, and all that is supplied is left over.
     fn initialise(&mut self)
-        requires network { IsNetwork self.old.network.now }
         requires sized { IsSized self.old.network.now self.old.lists }
         ensures same { self.new.network ≡ self.old.network }
         ensures ready { IsReady self.old.network.now self.new.lists }
@@ -204,51 +204,59 @@ impl Solver<'_> {
         if self.lists.search.cut == FAR {
             return false;
         }
-        let lists = &mut self.lists;
-        let (head, reached, cut) = (lists.search.head, lists.search.reached, lists.search.cut);
-        update_potentials(
-            &lists.search.order,
-            &lists.search.label,
-            &mut lists.nodes.potential,
-            head,
-            cut,
-        );
-        clear(&lists.search.order, &mut lists.search.label, reached);
+        update_potentials(&mut self.lists.nodes, &self.lists.search);
+        clear(&mut self.lists.search);
+        self.augment(source);
+        true
+    }
+
+    /// Augment: sends units along the path that the search found.
+    fn augment(&mut self, source: usize)
+        requires ready { IsReady self.old.network.now self.old.lists }
+        requires path { HasPath (node_count self.old.network.now) self.old.lists.residual.first.items self.old.lists.residual.arcs.items (at_nodes self.old.lists.nodes.potential.items) (enters self.old.lists.search) (places self.old.lists.search) source self.old.lists.search.found }
+        requires source { source < node_count self.old.network.now }
+        requires left { pos 0 <ℤ at_nodes self.old.lists.nodes.excess.items source }
+        requires wanting { at_nodes self.old.lists.nodes.excess.items (end_at self.old.lists.residual.arcs.items self.old.lists.search.found) <ℤ pos 0 }
+        ensures same { self.new.network ≡ self.old.network }
+        ensures ready { IsReady self.old.network.now self.new.lists }
+        ensures less { IsLess self.old.network.now (at_nodes self.old.lists.nodes.excess.items) (at_nodes self.new.lists.nodes.excess.items) }
+        ensures carrying { carrying self.old.network.now (flow_of self.new.lists.residual) ≤ carrying self.old.network.now (flow_of self.old.lists.residual) + places self.old.lists.search (end_at self.old.lists.residual.arcs.items (numbers self.old.lists.residual.reverse.items self.old.lists.search.found)) + 1 }
+    {
         let path = Path {
             network: self.network,
-            first: &lists.residual.first,
-            reverse: &lists.residual.reverse,
-            forward: &lists.residual.forward,
-            enter: &lists.search.enter,
-            place: &lists.search.place,
-            potential: &lists.nodes.potential,
+            first: &self.lists.residual.first,
+            reverse: &self.lists.residual.reverse,
+            forward: &self.lists.residual.forward,
+            enter: &self.lists.search.enter,
+            place: &self.lists.search.place,
+            potential: &self.lists.nodes.potential,
             source,
-            found: lists.search.found,
+            found: self.lists.search.found,
         };
         send(
             path,
-            &mut lists.residual.arcs,
-            &mut lists.residual.room,
-            &mut lists.nodes.excess,
+            &mut self.lists.residual.arcs,
+            &mut self.lists.residual.room,
+            &mut self.lists.nodes.excess,
         );
-        true
     }
 }
 
-/// Lowers the potentials of the nodes that were scanned by as much as they are nearer than the cut.
-fn update_potentials(order: &[u32], label: &[i32], potential: &mut [i32], scanned: usize, cut: i32)
-    requires order { scanned ≤ length order.now }
-    requires small { length potential.old ≤ MAX_NODES }
-    requires nodes { (j : ℕ) → j < scanned → numbers order.now j < length potential.old }
-    requires sizes { length label.now ≡ length potential.old }
-    requires labels { (j : ℕ) → j < scanned → IsWithinFar (at_nodes label.now (numbers order.now j)) }
-    requires cut { IsWithinFar cut }
-    ensures moved { (j : ℕ) → j < scanned → at_nodes potential.new (numbers order.now j) ≡ at_nodes label.now (numbers order.now j) -ℤ cut }
-    ensures others { (v : ℕ) → ((j : ℕ) → j < scanned → numbers order.now j ≢ v) → at_nodes potential.new v ≡ at_nodes potential.old v }
+/// Update potentials: lowers those of the nodes that were scanned by as much as the nodes are nearer than the cut.
+fn update_potentials(nodes: &mut Nodes, search: &Search)
+    requires order { search.now.head ≤ length search.now.label.items }
+    requires small { length nodes.old.potential.items ≤ MAX_NODES }
+    requires scanned { (j : ℕ) → j < search.now.head → orders search.now j < length nodes.old.potential.items }
+    requires sizes { length search.now.label.items ≡ length nodes.old.potential.items }
+    requires labels { (j : ℕ) → j < search.now.head → IsWithinFar (labels search.now (orders search.now j)) }
+    requires cut { IsWithinFar search.now.cut }
+    ensures moved { (j : ℕ) → j < search.now.head → at_nodes nodes.new.potential.items (orders search.now j) ≡ labels search.now (orders search.now j) -ℤ search.now.cut }
+    ensures others { (v : ℕ) → ((j : ℕ) → j < search.now.head → orders search.now j ≢ v) → at_nodes nodes.new.potential.items v ≡ at_nodes nodes.old.potential.items v }
+    ensures same { (nodes.new.excess ≡ nodes.old.excess) × (nodes.new.score ≡ nodes.old.score) × (length nodes.new.potential.items ≡ length nodes.old.potential.items) }
 {
-    for j in 0..scanned {
-        let node = order[j] as usize;
-        write_potential(potential, node, label[node], cut);
+    for j in 0..search.head {
+        let node = search.order[j] as usize;
+        write_potential(&mut nodes.potential, node, search.label[node], search.cut);
     }
 }
 
@@ -264,25 +272,16 @@ fn write_potential(potential: &mut [i32], node: usize, label: i32, cut: i32)
 }
 
 /// Takes the labels of the nodes that were reached away.
-fn clear(order: &[u32], label: &mut [i32], reached: usize)
-    requires order { reached ≤ length order.now }
-    requires small { length label.old ≤ MAX_NODES }
-    requires nodes { (j : ℕ) → j < reached → numbers order.now j < length label.old }
-    ensures cleared { (j : ℕ) → j < reached → at_nodes label.new (numbers order.now j) ≡ far }
-    ensures others { (v : ℕ) → at_nodes label.old v ≡ far → at_nodes label.new v ≡ far }
+fn clear(search: &mut Search)
+    requires order { search.old.reached ≤ length search.old.label.items }
+    requires small { length search.old.label.items ≤ MAX_NODES }
+    requires nodes { (j : ℕ) → j < search.old.reached → orders search.old j < length search.old.label.items }
+    ensures cleared { IsCleared search.old search.new }
 {
-    for j in 0..reached {
-        write_far(label, order[j] as usize);
+    for j in 0..search.reached {
+        let node = search.order[j] as usize;
+        search.label[node] = FAR;
     }
-}
-
-/// Takes the label of a node away.
-fn write_far(label: &mut [i32], node: usize)
-    requires node { node < length label.old }
-    requires small { node < MAX_NODES }
-    ensures { IsPut (at_nodes label.old) (at_nodes label.new) node far }
-{
-    label[node] = FAR;
 }
 
 /// Whether units are wanting at a node.

@@ -3,14 +3,14 @@ ghost use Rattle.std.specs.Prelude.{◌≡◌, ◌<◌, ◌≤◌, ◌^◌, IfOk
 ghost use Rattle.networks.specs.declared.fault.TheConstants.{MAX_SUPPLY};
 ghost use Rattle.networks.specs.Networks.{NetworkModel, node_count, arc_count, shifted, HasFairSupplies, IsNetwork};
 ghost use Rattle.networks.specs.Flow.{HasNoFlow, Solves, at_nodes, cost_of};
-ghost use Rattle.networks.specs.Residuals.{IsResidual, flow_of};
+ghost use Rattle.networks.specs.ResidualArcs.{numbers, carried};
 ghost use Rattle.min_cost_flow.specs.Stand.{IsSettled, IsShown};
 
 use crate::lists::{Lists, empty, prepare};
 use crate::resume::{resume, solve_anew};
 use crate::solved::Solved;
 use crate::solver::{SolveFault, read_flow};
-use networks::{Network, Residual};
+use networks::Network;
 use std::alloc::{AllocError, Global};
 use std::marker::Model;
 
@@ -96,22 +96,30 @@ impl Standing {
     {
         // Only the proof needs this: `node_count` says that the network is one.
         let _nodes = self.network.node_count();
-        let cost = flow_cost(&self.network, &self.lists.residual);
+        let residual = &self.lists.residual;
+        let cost = flow_cost(
+            &self.network,
+            &residual.reverse,
+            &residual.forward,
+            &residual.room,
+        );
         (cost, &self.lists.nodes.potential)
     }
 }
 
 /// How much the arcs of cost 1 carry.
-fn flow_cost(network: &Network, residual: &Residual) -> u64
-    requires residual { IsResidual network.now residual.now }
-    ensures cost { result ≡ cost_of network.now (flow_of residual.now) }
+fn flow_cost(network: &Network, reverse: &[u32], forward: &[u32], room: &[u32]) -> u64
+    requires forwards { length forward.now ≡ arc_count network.now }
+    requires reverses { (i : ℕ) → i < arc_count network.now → numbers forward.now i < length reverse.now }
+    requires rooms { (i : ℕ) → i < arc_count network.now → numbers reverse.now (numbers forward.now i) < length room.now }
+    ensures cost { result ≡ cost_of network.now (carried reverse.now forward.now room.now) }
     ensures few { result < 2 ^ 48 }
 {
     let mut cost = 0;
     for i in 0..network.arc_count() {
         if network.arc(i as u32).cost == 1 {
-            let along = residual.forward[i] as usize;
-            cost += u64::from(residual.room[residual.reverse[along] as usize]);
+            let along = forward[i] as usize;
+            cost += u64::from(room[reverse[along] as usize]);
         }
     }
     cost

@@ -43,20 +43,20 @@ narrow-init c =
       on = λ g. ap g.on at ∙ (path_last net first reverse forward arcs room p enter place c.args.path.source c.args.path.found c.requires.network c.requires.laid_out c.requires.filled g).member;
     }
 
-pub offset_bounds-place-node : goal.offset_bounds-place-node
-offset_bounds-place-node c =
+pub offset_bounds-path-node : goal.offset_bounds-path-node
+offset_bounds-path-node c =
     omega (arith, c.narrow.invariant.node, c.requires.network.small.0)
 
-pub bounds-place-node : goal.bounds-place-node
-bounds-place-node c =
+pub bounds-path-node : goal.bounds-path-node
+bounds-path-node c =
     omega (arith, c.narrow.invariant.node, c.requires.places)
 
-pub offset_bounds-place-node-in-along : goal.offset_bounds-place-node-in-along
-offset_bounds-place-node-in-along c =
+pub offset_bounds-path-node-in-along : goal.offset_bounds-path-node-in-along
+offset_bounds-path-node-in-along c =
     omega (arith, c.along.invariant.node, c.requires.network.small.0)
 
-pub bounds-place-node-in-along : goal.bounds-place-node-in-along
-bounds-place-node-in-along c =
+pub bounds-path-node-in-along : goal.bounds-path-node-in-along
+bounds-path-node-in-along c =
     omega (arith, c.along.invariant.node, c.requires.places)
 
 pub bounds-room-number : goal.bounds-room-number

@@ -1,21 +1,54 @@
-use Rattle.std.proofs.Common.{rules, ℕ, arith, sym, ◌∙◌}
+use Rattle.std.proofs.Common.{rules, ◌≡◌, ◌<◌, ℕ, arith, sym, subst, ◌∙◌}
+use Rattle.std.specs.Vec.{with_items}
+use Rattle.std.proofs.lemmas.List.{with_items_is, get_or_read}
 use Rattle.std.proofs.lemmas.Int.{to_z-of_z}
-use Rattle.std.specs.Prelude.{◌-ℤ◌}
+use Rattle.std.specs.Prelude.{ℤ, pos, ◌-ℤ◌, length}
 use mir.Syntax.{w32}
 use mir.Val.{SFits, of_z, to_z}
 use Rattle.networks.specs.Flow.{at_nodes}
-use Rattle.networks.specs.ResidualArcs.{numbers}
-use Rattle.shortest_paths.specs.Search.{IsPut}
-use Rattle.min_cost_flow.proofs.Solving.{moved_more}
+use Rattle.shortest_paths.specs.Search.{IsPut, IsWithinFar, labels, orders}
+use Rattle.shortest_paths.proofs.Signs.{passed_within}
+use Rattle.min_cost_flow.proofs.Solving.{put_label, moved_more}
 use Rattle.min_cost_flow.proofs.solver.update_potentials.Goals as goal
+
+pub write_potential-requires : goal.write_potential-requires
+write_potential-requires c =
+    let f : SFits w32 c.index-2.result.now = search rules in
+    let fc : SFits w32 c.args.search.now.cut = search rules in
+    let s = c.args.search.now in
+    let j = c.loop-j.j in
+    let v : ℕ = c.index.result.now in
+    let e : v ≡ orders s j = get_or_read s.order.items j v (omega (arith, c.requires.order, s.orders)) c.index.ensures 0 in
+    let b : v < length c.args.nodes.now.potential.items = subst (λ (k : ℕ). k < length c.args.nodes.now.potential.items) (sym e) (c.requires.scanned j (omega arith)) in
+    let at : c.index-2.result.now ≡ labels s v = get_or_read s.label.items v c.index-2.result.now (omega (arith, c.requires.sizes)) c.index-2.ensures (pos 0) in
+    let within : IsWithinFar c.index-2.result.now = subst (λ (z : ℤ). IsWithinFar z) (sym at) (subst (λ (k : ℕ). IsWithinFar (labels s k)) (sym e) (c.requires.labels j (omega arith))) in
+    record {
+      node = rw c.deref_mut.ensures.value (omega (arith, c.loop-j.invariant.size));
+      small = omega (arith, c.requires.small);
+      label = passed_within _ _ c.index-2.result.now f within;
+      cut = passed_within _ _ s.cut fc c.requires.cut;
+    }
 
 pub loop-j-preserved : goal.loop-j-preserved
 loop-j-preserved c =
+    let f : SFits w32 c.index-2.result.now = search rules in
+    let fc : SFits w32 c.args.search.now.cut = search rules in
     let i = c.loop-j.invariant in
-    let v : ℕ = numbers c.args.order.now c.loop-j.j in
-    let f : SFits w32 (at_nodes c.args.label.now v) = search rules in
-    let put : IsPut (at_nodes c.loop-j.potential) (at_nodes c.write_potential.new.potential) v (at_nodes c.args.label.now v -ℤ to_z w32 (of_z w32 c.args.cut)) = rw (to_z-of_z w32 (at_nodes c.args.label.now v) f) at c.write_potential.ensures in
-    record {
-      moved = moved_more (at_nodes c.loop-j.potential) (at_nodes c.loop-j.potential) (at_nodes c.write_potential.new.potential) (at_nodes c.args.label.now) (numbers c.args.order.now) c.loop-j.j (to_z w32 (of_z w32 c.args.cut)) put i.moved;
-      others = λ w h. put.others w (λ t. h c.loop-j.j (omega arith) (sym t)) ∙ i.others w (λ k b. h k (omega arith));
-    }
+    let s = c.args.search.now in
+    let j = c.loop-j.j in
+    let old = c.loop-j.nodes.potential in
+    let new = c.write_potential.new.potential in
+    let v : ℕ = c.index.result.now in
+    let e : v ≡ orders s j = get_or_read s.order.items j v (omega (arith, c.requires.order, s.orders)) c.index.ensures 0 in
+    let b : v < length c.args.nodes.now.potential.items = subst (λ (k : ℕ). k < length c.args.nodes.now.potential.items) (sym e) (c.requires.scanned j (omega arith)) in
+    let at : c.index-2.result.now ≡ labels s v = get_or_read s.label.items v c.index-2.result.now (omega (arith, c.requires.sizes)) c.index-2.ensures (pos 0) in
+    let is : (with_items old new).items ≡ new = with_items_is old new (omega arith) in
+    let written = rw c.deref_mut.ensures.value at c.write_potential.ensures in
+    let put : IsPut (at_nodes old.items) (at_nodes new) (orders s j) (labels s (orders s j) -ℤ s.cut) = put_label (at_nodes old.items) (at_nodes new) (labels s) v (orders s j) c.index-2.result.now s.cut f fc e at written in
+    rw is (record {
+      moved = moved_more (at_nodes old.items) (at_nodes old.items) (at_nodes new) (labels s) (orders s) j s.cut put i.moved;
+      others = λ w h. put.others w (λ t. h j (omega arith) (sym t)) ∙ i.others w (λ k d. h k (omega arith));
+      excess = i.excess;
+      score = i.score;
+      size = omega (arith, i.size);
+    })
