@@ -10,71 +10,59 @@ ghost use Rattle.networks.specs.ResidualArcs.{numbers, end_at, cost_at, StartsAt
 ghost use Rattle.min_cost_flow.specs.Path.{HasPath};
 ghost use Rattle.min_cost_flow.specs.Round.{IsRound, IsLess, carrying};
 
-use networks::{Network, ResidualArc, SHUT};
+use networks::{ResidualArc, ResidualArcs, SHUT};
 
-/// A path that a search found, and the residual network in which it lies.
-#[derive(Clone, Copy)]
-pub(crate) struct Path<'a> {
-    pub network: &'a Network,
-    /// The residual arcs that start at node v have the numbers from `first[v]` up to `first[v + 1]`.
-    pub first: &'a [u32],
-    /// For each residual arc the one the other way.
-    pub reverse: &'a [u32],
-    /// For each arc the residual arc along it.
-    pub forward: &'a [u32],
-    /// The residual arc on which a node was entered, and the place of the node in the order.
-    pub enter: &'a [u32],
-    pub place: &'a [u32],
-    /// Along the path reduced costs are 0 under these.
-    pub potential: &'a [i32],
-    pub source: usize,
-    /// The last residual arc of the path.
-    pub found: usize,
-}
-
-/// Augment: sends along the path as much as fits, is left over at the source and is wanting at the end, at least
-/// one unit.
+/// Sends along the path that ends with a residual arc as much as fits, is left over at the source and
+/// is wanting at the end: at least one unit. Along the path reduced costs are 0 under the potentials,
+/// which no code here reads.
 pub(crate) fn send(
-    path: Path<'_>,
+    residual: ResidualArcs<'_>,
     arcs: &mut [ResidualArc],
     room: &mut [u32],
+    enter: &[u32],
+    place: &[u32],
+    potential: &[i32],
     excess: &mut [i32],
+    source: usize,
+    found: usize,
 )
-    requires network { IsNetwork path.network.now }
-    requires laid_out { HasResidualArcs path.network.now path.first.now path.reverse.now path.forward.now }
-    requires filled { IsFilled path.network.now path.reverse.now path.forward.now arcs.old room.old }
-    requires limits { (i : ℕ) → i < arc_count path.network.now → limit_of (arc_at path.network.now i).cap < 2 ^ 32 }
-    requires enters { length path.enter.now ≡ node_count path.network.now }
-    requires places { length path.place.now ≡ node_count path.network.now }
-    requires excesses { length excess.old ≡ node_count path.network.now }
-    requires path { HasPath (node_count path.network.now) path.first.now arcs.old (at_nodes path.potential.now) (numbers path.enter.now) (numbers path.place.now) path.source path.found }
-    requires round { IsRound path.network.now (carried path.reverse.now path.forward.now room.old) (at_nodes path.potential.now) (at_nodes excess.old) }
-    requires source { path.source < node_count path.network.now }
-    requires left { pos 0 <ℤ at_nodes excess.old path.source }
-    requires wanting { at_nodes excess.old (end_at arcs.old path.found) <ℤ pos 0 }
-    ensures filled { IsFilled path.entry.network.now path.entry.reverse.now path.entry.forward.now arcs.new room.new }
-    ensures round { IsRound path.entry.network.now (carried path.entry.reverse.now path.entry.forward.now room.new) (at_nodes path.entry.potential.now) (at_nodes excess.new) }
-    ensures less { IsLess path.entry.network.now (at_nodes excess.old) (at_nodes excess.new) }
-    ensures carrying { carrying path.entry.network.now (carried path.entry.reverse.now path.entry.forward.now room.new) ≤ carrying path.entry.network.now (carried path.entry.reverse.now path.entry.forward.now room.old) + numbers path.entry.place.now (end_at arcs.old (numbers path.entry.reverse.now path.entry.found)) + 1 }
+    requires network { IsNetwork residual.network.now }
+    requires laid_out { HasResidualArcs residual.network.now residual.first.now residual.reverse.now residual.forward.now }
+    requires filled { IsFilled residual.network.now residual.reverse.now residual.forward.now arcs.old room.old }
+    requires limits { (i : ℕ) → i < arc_count residual.network.now → limit_of (arc_at residual.network.now i).cap < 2 ^ 32 }
+    requires enters { length enter.now ≡ node_count residual.network.now }
+    requires places { length place.now ≡ node_count residual.network.now }
+    requires excesses { length excess.old ≡ node_count residual.network.now }
+    requires path { HasPath (node_count residual.network.now) residual.first.now arcs.old (at_nodes potential.now) (numbers enter.now) (numbers place.now) source found }
+    requires round { IsRound residual.network.now (carried residual.reverse.now residual.forward.now room.old) (at_nodes potential.now) (at_nodes excess.old) }
+    requires source { source < node_count residual.network.now }
+    requires left { pos 0 <ℤ at_nodes excess.old source }
+    requires wanting { at_nodes excess.old (end_at arcs.old found) <ℤ pos 0 }
+    ensures filled { IsFilled residual.entry.network.now residual.entry.reverse.now residual.entry.forward.now arcs.new room.new }
+    ensures round { IsRound residual.entry.network.now (carried residual.entry.reverse.now residual.entry.forward.now room.new) (at_nodes potential.now) (at_nodes excess.new) }
+    ensures less { IsLess residual.entry.network.now (at_nodes excess.old) (at_nodes excess.new) }
+    ensures carrying { carrying residual.entry.network.now (carried residual.entry.reverse.now residual.entry.forward.now room.new) ≤ carrying residual.entry.network.now (carried residual.entry.reverse.now residual.entry.forward.now room.old) + numbers place.now (end_at arcs.old (numbers residual.entry.reverse.now found)) + 1 }
 {
-    let target = usize::from(arcs[path.found].end);
-    let last = start_of(path, arcs, path.found);
-    let mut amount = most_between(excess, path.source, target).min(room[path.found]);
+    // Only the contract reads `potential`.
+    let _ = potential;
+    let target = usize::from(arcs[found].end);
+    let last = start_of(residual, arcs, found);
+    let mut amount = most_between(excess, source, target).min(room[found]);
     let mut node = last;
-    'narrow: while path.place[node] > 0 {
-        let number = path.enter[node] as usize;
+    'narrow: while place[node] > 0 {
+        let number = enter[node] as usize;
         amount = amount.min(room[number]);
-        node = start_of(path, arcs, number);
+        node = start_of(residual, arcs, number);
     }
     bring_to(excess, target, amount);
-    push(path, arcs, room, path.found, amount);
+    push(residual, arcs, room, found, amount);
     node = last;
-    'along: while path.place[node] > 0 {
-        let number = path.enter[node] as usize;
-        push(path, arcs, room, number, amount);
-        node = start_of(path, arcs, number);
+    'along: while place[node] > 0 {
+        let number = enter[node] as usize;
+        push(residual, arcs, room, number, amount);
+        node = start_of(residual, arcs, number);
     }
-    take_from(excess, path.source, amount);
+    take_from(excess, source, amount);
 }
 
 /// How much can go from one node to another: as much as is left over at the one and wanting at the
@@ -116,36 +104,36 @@ fn take_from(excess: &mut [i32], node: usize, amount: u32)
 }
 
 /// The node where a residual arc starts.
-fn start_of(path: Path<'_>, arcs: &[ResidualArc], number: usize) -> usize
-    requires number { number < length path.reverse.now }
-    requires reverse { numbers path.reverse.now number < length arcs.now }
-    ensures { result ≡ end_at arcs.now (numbers path.entry.reverse.now number) }
+fn start_of(residual: ResidualArcs<'_>, arcs: &[ResidualArc], number: usize) -> usize
+    requires number { number < length residual.reverse.now }
+    requires reverse { numbers residual.reverse.now number < length arcs.now }
+    ensures { result ≡ end_at arcs.now (numbers residual.entry.reverse.now number) }
 {
-    usize::from(arcs[path.reverse[number] as usize].end)
+    usize::from(arcs[residual.reverse[number] as usize].end)
 }
 
 /// Sends along a residual arc, and so makes room for as much along its reverse.
 fn push(
-    path: Path<'_>,
+    residual: ResidualArcs<'_>,
     arcs: &mut [ResidualArc],
     room: &mut [u32],
     number: usize,
     amount: u32,
 )
-    requires network { IsNetwork path.network.now }
-    requires laid_out { HasResidualArcs path.network.now path.first.now path.reverse.now path.forward.now }
-    requires filled { IsFilled path.network.now path.reverse.now path.forward.now arcs.old room.old }
-    requires limits { (i : ℕ) → i < arc_count path.network.now → limit_of (arc_at path.network.now i).cap < 2 ^ 32 }
-    requires number { (v : ℕ) × (v < node_count path.network.now) × StartsAt path.first.now v number }
+    requires network { IsNetwork residual.network.now }
+    requires laid_out { HasResidualArcs residual.network.now residual.first.now residual.reverse.now residual.forward.now }
+    requires filled { IsFilled residual.network.now residual.reverse.now residual.forward.now arcs.old room.old }
+    requires limits { (i : ℕ) → i < arc_count residual.network.now → limit_of (arc_at residual.network.now i).cap < 2 ^ 32 }
+    requires number { (v : ℕ) × (v < node_count residual.network.now) × StartsAt residual.first.now v number }
     requires some { 0 < amount }
     requires fits { amount ≤ numbers room.old number }
-    ensures filled { IsFilled path.entry.network.now path.entry.reverse.now path.entry.forward.now arcs.new room.new }
+    ensures filled { IsFilled residual.entry.network.now residual.entry.reverse.now residual.entry.forward.now arcs.new room.new }
     ensures ends { (k : ℕ) → end_at arcs.new k ≡ end_at arcs.old k }
     ensures less { numbers room.new number + amount ≡ numbers room.old number }
-    ensures more { numbers room.new (numbers path.entry.reverse.now number) ≡ numbers room.old (numbers path.entry.reverse.now number) + amount }
-    ensures others { (k : ℕ) → k ≢ number → k ≢ numbers path.entry.reverse.now number → numbers room.new k ≡ numbers room.old k }
+    ensures more { numbers room.new (numbers residual.entry.reverse.now number) ≡ numbers room.old (numbers residual.entry.reverse.now number) + amount }
+    ensures others { (k : ℕ) → k ≢ number → k ≢ numbers residual.entry.reverse.now number → numbers room.new k ≡ numbers room.old k }
 {
-    let back = path.reverse[number] as usize;
+    let back = residual.reverse[number] as usize;
     give_room(arcs, room, back, amount);
     take_room(arcs, room, number, amount);
 }

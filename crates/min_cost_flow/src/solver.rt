@@ -1,29 +1,20 @@
-//! Successive shortest paths (Ahuja, Magnanti and Orlin, Network Flows, 1993, section 9.7): initialise, and
-//! then, as long as units are left over at a node, search for a shortest path by reduced costs, update the
-//! potentials, and augment along the path.
-//!
-//! Networks have at most 1,024 nodes and 4,096 arcs of cost 0 or 1, and nodes supply or want at most 2,048
-//! units. Each search looks at each residual arc once at most and sends at least one unit, so all is done in as
-//! many searches as units are supplied. A search also goes over the nodes that wait, for each distance.
-ghost use Rattle.std.specs.Prelude.{◌≡◌, ◌≢◌, ◌<◌, ◌≤◌, ◌+◌, ◌*◌, ◌^◌, ℕ, length, pos, ◌≤ℤ◌, ◌<ℤ◌, ◌-ℤ◌, IfOk, IfErr, IfSome, IfNone, true, false};
+//! Searches from one node after another, and a path sent along after each, until nothing is left over.
+ghost use Rattle.std.specs.Prelude.{◌≡◌, ◌≢◌, ◌<◌, ◌≤◌, ◌+◌, ◌*◌, ◌^◌, ℕ, ℤ, List, length, pos, ◌≤ℤ◌, ◌<ℤ◌, ◌+ℤ◌, ◌-ℤ◌, IfOk, IfErr, IfSome, IfNone, true, false};
 ghost use Rattle.networks.specs.declared.network.TheConstants.{MAX_ARCS, MAX_NODES};
 ghost use Rattle.networks.specs.declared.residual.TheConstants.{MAX_RESIDUAL_ARCS};
 ghost use Rattle.min_cost_flow.specs.declared.solver.SolveFault.TheVariants.{Memory};
-ghost use Rattle.networks.specs.Networks.{arc_count, node_count, supply_at, IsNetwork};
-ghost use Rattle.networks.specs.Flow.{amounts, at_nodes, HasNoFlow, Solves};
-ghost use Rattle.networks.specs.ResidualArcs.{numbers, end_at, carried};
-ghost use Rattle.networks.specs.Residuals.{flow_of};
-ghost use Rattle.shortest_paths.specs.Search.{far, labels, enters, orders, places, IsPut, IsWithinFar};
-ghost use Rattle.min_cost_flow.specs.Path.{HasPath};
-ghost use Rattle.min_cost_flow.specs.Round.{carrying, supply_sum, IsLess, IsWork, IsRoundDone, HasSupply, IsWithinReach};
-ghost use Rattle.min_cost_flow.specs.Stand.{IsSized, IsReady, IsSettled, IsCleared};
+ghost use Rattle.networks.specs.Networks.{arc_count, arc_at, node_count, supply_at, IsNetwork};
+ghost use Rattle.networks.specs.Flow.{amounts, at_nodes, Flow, HasPotentials, HasNoFlow, Solves};
+ghost use Rattle.networks.specs.ResidualArcs.{numbers, limit_of, HasResidualArcs, IsFilled, carried};
+ghost use Rattle.shortest_paths.specs.Search.{far, IsPut, IsWithinFar};
+ghost use Rattle.min_cost_flow.specs.Lists.{HasNodeLists};
+ghost use Rattle.min_cost_flow.specs.Round.{left_over, carrying, supply_sum, IsRound, IsLess, IsWork, IsRoundDone, HasSupply, IsWithinReach};
 
-use crate::augment::{Path, send};
-use crate::lists::{Lists, empty, prepare};
+use crate::augment::send;
 use crate::scratch::Scratch;
 use crate::solved::Solved;
-use networks::Network;
-use shortest_paths::{FAR, Ground, Nodes, Search};
+use networks::{Network, ResidualArc, ResidualArcs, lay_out};
+use shortest_paths::{FAR, Ground, search};
 use std::alloc::{AllocError, Global};
 use std::mem;
 use thiserror::Error;
@@ -50,15 +41,8 @@ impl From<AllocError> for SolveFault {
 /// How much work was done: searches, and looks at residual arcs in them.
 #[derive(Clone, Copy, Debug, PartialEq, Eq)]
 pub(crate) struct Work {
-    pub searches: u32,
-    pub looks: u64,
-}
-
-/// A network, and what the solver keeps of it.
-#[derive(Drop)]
-pub(crate) struct Solver<'a> {
-    pub network: &'a Network,
-    pub lists: Lists,
+    searches: u32,
+    looks: u64,
 }
 
 /// A flow of least cost that meets all supplies, with potentials that show it.
@@ -98,190 +82,118 @@ pub fn solve_in(
     ensures carrying { IfOk result (λ solved. carrying network.now (amounts solved.flow) ≤ solved.looks) }
     ensures reach { IfOk result (λ solved. IsWithinReach network.now (at_nodes solved.potential)) }
 {
-    let lists = prepare(mem::replace(&mut scratch.lists, empty(alloc)), network)?;
-    let mut solver = Solver { network, lists };
-    let done = solver.solve();
-    let Solver { lists, .. } = solver;
-    scratch.lists = lists;
+    scratch.prepare(network.node_count(), network.arc_count())?;
+    let done = fill(
+        network,
+        &mut scratch.flow,
+        &mut scratch.potential,
+        &mut scratch.arcs,
+        &mut scratch.counts,
+        &mut scratch.units,
+    );
     let Some(work) = done else {
         return Err(SolveFault::Infeasible);
     };
-    read_flow(
-        &scratch.lists.residual.reverse,
-        &scratch.lists.residual.room,
-        &mut scratch.lists.residual.forward,
-    );
-    let flow = mem::replace(&mut scratch.lists.residual.forward, Vec::new(alloc));
-    let potential = mem::replace(&mut scratch.lists.nodes.potential, Vec::new(alloc));
+    let flow = mem::replace(&mut scratch.flow, Vec::new(alloc));
+    let potential = mem::replace(&mut scratch.potential, Vec::new(alloc));
     Ok(Solved::new(flow, potential, work.searches, work.looks))
 }
 
-impl Solver<'_> {
-    /// Sends all units from nothing, and gives how much work that was; none where it cannot be done, or where
-    /// units are wanting still.
-    pub(crate) fn solve(&mut self) -> Option<Work>
-        requires sized { IsSized self.old.network.now self.old.lists }
-        ensures same { self.new.network ≡ self.old.network }
-        ensures done { IfSome result (λ work. IsRoundDone self.old.network.now (flow_of self.new.lists.residual) (at_nodes self.new.lists.nodes.potential.items) work.searches work.looks) }
-        ensures settled { IfSome result (λ _. IsSettled self.old.network.now self.new.lists) }
-        ensures no_flow { IfNone result (HasNoFlow self.old.network.now) }
-    {
-        self.initialise();
-        let mut work = Work {
-            searches: 0,
-            looks: 0,
-        };
-        for source in 0..self.lists.nodes.excess.len() {
-            if !self.send_all_from(source, &mut work) {
-                return None;
-            }
-        }
-        if has_deficit(&self.lists.nodes.excess) {
+/// Lays out the residual arcs in parts of the long lists, sends all units, and reads the flow off.
+fn fill(
+    network: &Network,
+    flow: &mut [u32],
+    potential: &mut [i32],
+    arcs: &mut [ResidualArc],
+    counts: &mut [u32],
+    units: &mut [i32],
+) -> Option<Work>
+    requires network { IsNetwork network.now }
+    requires flows { length flow.old ≡ arc_count network.now }
+    requires potentials { length potential.old ≡ node_count network.now }
+    requires arcs { length arcs.old ≡ arc_count network.now + arc_count network.now }
+    requires counts { length counts.old ≡ 4 * arc_count network.now + 4 * node_count network.now + 1 }
+    requires units { length units.old ≡ 3 * node_count network.now }
+    requires flat { (v : ℕ) → at_nodes potential.old v ≡ pos 0 }
+    requires blank { (v : ℕ) → v < length units.old → at_nodes units.old v ≡ far }
+    ensures done { IfSome result (λ work. IsRoundDone network.now (amounts flow.new) (at_nodes potential.new) work.searches work.looks) }
+    ensures no_flow { IfNone result (HasNoFlow network.now) }
+{
+    let nodes = network.node_count();
+    let ends = 2 * network.arc_count();
+    let (first, counts) = counts.split_at_mut(nodes + 1);
+    let (reverse, counts) = counts.split_at_mut(ends);
+    let (room, counts) = counts.split_at_mut(ends);
+    let (enter, counts) = counts.split_at_mut(nodes);
+    let (order, place) = counts.split_at_mut(nodes);
+    let (label, units) = units.split_at_mut(nodes);
+    let (excess, score) = units.split_at_mut(nodes);
+    excess.copy_from_slice(network.supplies());
+    lay_out(network, first, reverse, flow, arcs, room);
+    score_nodes(network, score);
+    let work = run(
+        network, first, reverse, flow, arcs, room, potential, excess, score, label, enter, order,
+        place,
+    )?;
+    read_flow(reverse, room, flow);
+    Some(work)
+}
+
+/// Sends all that is left over at any node, and gives how much work that was; none where it cannot be
+/// done, or where units are wanting still.
+pub(crate) fn run(
+    network: &Network,
+    first: &[u32],
+    reverse: &[u32],
+    forward: &[u32],
+    arcs: &mut [ResidualArc],
+    room: &mut [u32],
+    potential: &mut [i32],
+    excess: &mut [i32],
+    score: &[i32],
+    label: &mut [i32],
+    enter: &mut [u32],
+    order: &mut [u32],
+    place: &mut [u32],
+) -> Option<Work>
+    requires network { IsNetwork network.now }
+    requires laid_out { HasResidualArcs network.now first.now reverse.now forward.now }
+    requires limits { (i : ℕ) → i < arc_count network.now → limit_of (arc_at network.now i).cap < 2 ^ 32 }
+    requires sizes { HasNodeLists (node_count network.now) potential.old excess.old score.now label.old enter.old order.old place.old }
+    requires filled { IsFilled network.now reverse.now forward.now arcs.old room.old }
+    requires round { IsRound network.now (carried reverse.now forward.now room.old) (at_nodes potential.old) (at_nodes excess.old) }
+    requires blank { (v : ℕ) → v < node_count network.now → at_nodes label.old v ≡ far }
+    requires none { (i : ℕ) → i < arc_count network.now → carried reverse.now forward.now room.old i ≡ 0 }
+    requires full { (v : ℕ) → at_nodes excess.old v ≡ supply_at network.now v }
+    ensures done { IfSome result (λ work. IsRoundDone network.now (carried reverse.now forward.now room.new) (at_nodes potential.new) work.searches work.looks) }
+    ensures filled { IfSome result (λ _. IsFilled network.now reverse.now forward.now arcs.new room.new) }
+    ensures round { IfSome result (λ _. IsRound network.now (carried reverse.now forward.now room.new) (at_nodes potential.new) (at_nodes excess.new)) }
+    ensures blank { IfSome result (λ _. (v : ℕ) → v < node_count network.now → at_nodes label.new v ≡ far) }
+    ensures sent { IfSome result (λ _. (v : ℕ) → v < node_count network.now → at_nodes excess.new v ≡ pos 0) }
+    ensures no_flow { IfNone result (HasNoFlow network.now) }
+{
+    let residual = ResidualArcs {
+        network,
+        first,
+        reverse,
+        forward,
+    };
+    let mut work = Work {
+        searches: 0,
+        looks: 0,
+    };
+    for source in 0..excess.len() {
+        if !send_all_from(
+            residual, arcs, room, potential, excess, score, label, enter, order, place, source,
+            &mut work,
+        ) {
             return None;
         }
-        Some(work)
     }
-
-    /// Initialise: no arc carries anything, all potentials are 0, and all that is supplied is left over.
-    fn initialise(&mut self)
-        requires sized { IsSized self.old.network.now self.old.lists }
-        ensures same { self.new.network ≡ self.old.network }
-        ensures ready { IsReady self.old.network.now self.new.lists }
-        ensures none { (i : ℕ) → i < arc_count self.old.network.now → flow_of self.new.lists.residual i ≡ 0 }
-        ensures full { (v : ℕ) → at_nodes self.new.lists.nodes.excess.items v ≡ supply_at self.old.network.now v }
-    {
-        write_all(&mut self.lists.nodes.potential, 0);
-        write_all(&mut self.lists.search.label, FAR);
-        self.lists.nodes.excess.copy_from_slice(self.network.supplies());
-        self.lists.residual.lay_out(self.network);
-        score_nodes(self.network, &mut self.lists.nodes.score);
+    if has_deficit(excess) {
+        return None;
     }
-
-    /// Sends all that is left over at a node to where it is wanting; whether that can be done.
-    pub(crate) fn send_all_from(&mut self, source: usize, work: &mut Work) -> bool
-        requires ready { IsReady self.old.network.now self.old.lists }
-        requires source { source < node_count self.old.network.now }
-        requires work { IsWork self.old.network.now (flow_of self.old.lists.residual) (at_nodes self.old.lists.nodes.excess.items) work.old.searches work.old.looks }
-        ensures same { self.new.network ≡ self.old.network }
-        ensures ready { result ≡ true → IsReady self.old.network.now self.new.lists }
-        ensures work { result ≡ true → IsWork self.old.network.now (flow_of self.new.lists.residual) (at_nodes self.new.lists.nodes.excess.items) work.new.searches work.new.looks }
-        ensures here { result ≡ true → at_nodes self.new.lists.nodes.excess.items source ≤ℤ pos 0 }
-        ensures done { result ≡ true → (v : ℕ) → v < node_count self.old.network.now → at_nodes self.old.lists.nodes.excess.items v ≤ℤ pos 0 → at_nodes self.new.lists.nodes.excess.items v ≤ℤ pos 0 }
-        ensures no_flow { result ≡ false → HasNoFlow self.old.network.now }
-    {
-        let mut searches = work.searches;
-        let mut looks = work.looks;
-        'units: while self.lists.nodes.excess[source] > 0 {
-            if !self.augment_once(source, &mut looks) {
-                return false;
-            }
-            searches += 1;
-        }
-        *work = Work { searches, looks };
-        true
-    }
-
-    /// Searches for a shortest path from a node where units are left over to one where units are wanting, updates
-    /// the potentials and augments along it; whether there is one.
-    pub(crate) fn augment_once(&mut self, source: usize, looks: &mut u64) -> bool
-        requires ready { IsReady self.old.network.now self.old.lists }
-        requires source { source < node_count self.old.network.now }
-        requires left { pos 0 <ℤ at_nodes self.old.lists.nodes.excess.items source }
-        requires few { looks.old < 2 ^ 61 }
-        ensures same { self.new.network ≡ self.old.network }
-        ensures ready { result ≡ true → IsReady self.old.network.now self.new.lists }
-        ensures less { result ≡ true → IsLess self.old.network.now (at_nodes self.old.lists.nodes.excess.items) (at_nodes self.new.lists.nodes.excess.items) }
-        ensures carrying { result ≡ true → carrying self.old.network.now (flow_of self.new.lists.residual) + looks.old ≤ carrying self.old.network.now (flow_of self.old.lists.residual) + looks.new }
-        ensures looks { looks.new ≤ looks.old + 2 * arc_count self.old.network.now }
-        ensures no_flow { result ≡ false → HasNoFlow self.old.network.now }
-    {
-        let ground = Ground {
-            residual: &self.lists.residual,
-            nodes: &self.lists.nodes,
-            source,
-        };
-        self.lists.search.run(ground, looks);
-        if self.lists.search.cut == FAR {
-            return false;
-        }
-        update_potentials(&mut self.lists.nodes, &self.lists.search);
-        clear(&mut self.lists.search);
-        self.augment(source);
-        true
-    }
-
-    /// Augment: sends units along the path that the search found.
-    fn augment(&mut self, source: usize)
-        requires ready { IsReady self.old.network.now self.old.lists }
-        requires path { HasPath (node_count self.old.network.now) self.old.lists.residual.first.items self.old.lists.residual.arcs.items (at_nodes self.old.lists.nodes.potential.items) (enters self.old.lists.search) (places self.old.lists.search) source self.old.lists.search.found }
-        requires source { source < node_count self.old.network.now }
-        requires left { pos 0 <ℤ at_nodes self.old.lists.nodes.excess.items source }
-        requires wanting { at_nodes self.old.lists.nodes.excess.items (end_at self.old.lists.residual.arcs.items self.old.lists.search.found) <ℤ pos 0 }
-        ensures same { self.new.network ≡ self.old.network }
-        ensures ready { IsReady self.old.network.now self.new.lists }
-        ensures less { IsLess self.old.network.now (at_nodes self.old.lists.nodes.excess.items) (at_nodes self.new.lists.nodes.excess.items) }
-        ensures carrying { carrying self.old.network.now (flow_of self.new.lists.residual) ≤ carrying self.old.network.now (flow_of self.old.lists.residual) + places self.old.lists.search (end_at self.old.lists.residual.arcs.items (numbers self.old.lists.residual.reverse.items self.old.lists.search.found)) + 1 }
-    {
-        let path = Path {
-            network: self.network,
-            first: &self.lists.residual.first,
-            reverse: &self.lists.residual.reverse,
-            forward: &self.lists.residual.forward,
-            enter: &self.lists.search.enter,
-            place: &self.lists.search.place,
-            potential: &self.lists.nodes.potential,
-            source,
-            found: self.lists.search.found,
-        };
-        send(
-            path,
-            &mut self.lists.residual.arcs,
-            &mut self.lists.residual.room,
-            &mut self.lists.nodes.excess,
-        );
-    }
-}
-
-/// Update potentials: lowers those of the nodes that were scanned by as much as the nodes are nearer than the cut.
-fn update_potentials(nodes: &mut Nodes, search: &Search)
-    requires order { search.now.head ≤ length search.now.label.items }
-    requires small { length nodes.old.potential.items ≤ MAX_NODES }
-    requires scanned { (j : ℕ) → j < search.now.head → orders search.now j < length nodes.old.potential.items }
-    requires sizes { length search.now.label.items ≡ length nodes.old.potential.items }
-    requires labels { (j : ℕ) → j < search.now.head → IsWithinFar (labels search.now (orders search.now j)) }
-    requires cut { IsWithinFar search.now.cut }
-    ensures moved { (j : ℕ) → j < search.now.head → at_nodes nodes.new.potential.items (orders search.now j) ≡ labels search.now (orders search.now j) -ℤ search.now.cut }
-    ensures others { (v : ℕ) → ((j : ℕ) → j < search.now.head → orders search.now j ≢ v) → at_nodes nodes.new.potential.items v ≡ at_nodes nodes.old.potential.items v }
-    ensures same { (nodes.new.excess ≡ nodes.old.excess) × (nodes.new.score ≡ nodes.old.score) × (length nodes.new.potential.items ≡ length nodes.old.potential.items) }
-{
-    for j in 0..search.head {
-        let node = search.order[j] as usize;
-        write_potential(&mut nodes.potential, node, search.label[node], search.cut);
-    }
-}
-
-/// Gives a node its label less the cut for a potential.
-fn write_potential(potential: &mut [i32], node: usize, label: i32, cut: i32)
-    requires node { node < length potential.old }
-    requires small { node < MAX_NODES }
-    requires label { IsWithinFar label }
-    requires cut { IsWithinFar cut }
-    ensures { IsPut (at_nodes potential.old) (at_nodes potential.new) node (label -ℤ cut) }
-{
-    potential[node] = label - cut;
-}
-
-/// Takes the labels of the nodes that were reached away.
-fn clear(search: &mut Search)
-    requires order { search.old.reached ≤ length search.old.label.items }
-    requires small { length search.old.label.items ≤ MAX_NODES }
-    requires nodes { (j : ℕ) → j < search.old.reached → orders search.old j < length search.old.label.items }
-    ensures cleared { IsCleared search.old search.new }
-{
-    for j in 0..search.reached {
-        let node = search.order[j] as usize;
-        search.label[node] = FAR;
-    }
+    Some(work)
 }
 
 /// Whether units are wanting at a node.
@@ -322,11 +234,161 @@ pub(crate) fn read_flow(reverse: &[u32], room: &[u32], flow: &mut [u32])
     }
 }
 
-/// Writes a number at each node.
-fn write_all(numbers: &mut [i32], number: i32)
-    ensures { (v : ℕ) → v < length numbers.new → at_nodes numbers.new v ≡ number }
+/// Sends all that is left over at a node to where it is wanting; whether that can be done.
+fn send_all_from(
+    residual: ResidualArcs<'_>,
+    arcs: &mut [ResidualArc],
+    room: &mut [u32],
+    potential: &mut [i32],
+    excess: &mut [i32],
+    score: &[i32],
+    label: &mut [i32],
+    enter: &mut [u32],
+    order: &mut [u32],
+    place: &mut [u32],
+    source: usize,
+    work: &mut Work,
+) -> bool
+    requires network { IsNetwork residual.network.now }
+    requires laid_out { HasResidualArcs residual.network.now residual.first.now residual.reverse.now residual.forward.now }
+    requires limits { (i : ℕ) → i < arc_count residual.network.now → limit_of (arc_at residual.network.now i).cap < 2 ^ 32 }
+    requires sizes { HasNodeLists (node_count residual.network.now) potential.old excess.old score.now label.old enter.old order.old place.old }
+    requires filled { IsFilled residual.network.now residual.reverse.now residual.forward.now arcs.old room.old }
+    requires round { IsRound residual.network.now (carried residual.reverse.now residual.forward.now room.old) (at_nodes potential.old) (at_nodes excess.old) }
+    requires blank { (v : ℕ) → v < node_count residual.network.now → at_nodes label.old v ≡ far }
+    requires work { IsWork residual.network.now (carried residual.reverse.now residual.forward.now room.old) (at_nodes excess.old) work.old.searches work.old.looks }
+    requires source { source < node_count residual.network.now }
+    ensures filled { result ≡ true → IsFilled residual.entry.network.now residual.entry.reverse.now residual.entry.forward.now arcs.new room.new }
+    ensures round { result ≡ true → IsRound residual.entry.network.now (carried residual.entry.reverse.now residual.entry.forward.now room.new) (at_nodes potential.new) (at_nodes excess.new) }
+    ensures blank { result ≡ true → (v : ℕ) → v < node_count residual.entry.network.now → at_nodes label.new v ≡ far }
+    ensures work { result ≡ true → IsWork residual.entry.network.now (carried residual.entry.reverse.now residual.entry.forward.now room.new) (at_nodes excess.new) work.new.searches work.new.looks }
+    ensures here { result ≡ true → at_nodes excess.new source ≤ℤ pos 0 }
+    ensures done { result ≡ true → (v : ℕ) → v < node_count residual.entry.network.now → at_nodes excess.old v ≤ℤ pos 0 → at_nodes excess.new v ≤ℤ pos 0 }
+    ensures no_flow { result ≡ false → HasNoFlow residual.entry.network.now }
 {
-    for at_node in numbers.iter_mut() {
-        *at_node = number;
+    let mut searches = work.searches;
+    let mut looks = work.looks;
+    'units: while excess[source] > 0 {
+        if !augment_once(
+            residual, arcs, room, potential, excess, score, label, enter, order, place, source,
+            &mut looks,
+        ) {
+            return false;
+        }
+        searches += 1;
     }
+    *work = Work { searches, looks };
+    true
+}
+
+/// Sends along a path of least cost from a node where units are left over to a node where units are
+/// wanting; whether there is one.
+pub(crate) fn augment_once(
+    residual: ResidualArcs<'_>,
+    arcs: &mut [ResidualArc],
+    room: &mut [u32],
+    potential: &mut [i32],
+    excess: &mut [i32],
+    score: &[i32],
+    label: &mut [i32],
+    enter: &mut [u32],
+    order: &mut [u32],
+    place: &mut [u32],
+    source: usize,
+    looks: &mut u64,
+) -> bool
+    requires network { IsNetwork residual.network.now }
+    requires laid_out { HasResidualArcs residual.network.now residual.first.now residual.reverse.now residual.forward.now }
+    requires filled { IsFilled residual.network.now residual.reverse.now residual.forward.now arcs.old room.old }
+    requires round { IsRound residual.network.now (carried residual.reverse.now residual.forward.now room.old) (at_nodes potential.old) (at_nodes excess.old) }
+    requires sizes { HasNodeLists (node_count residual.network.now) potential.old excess.old score.now label.old enter.old order.old place.old }
+    requires blank { (v : ℕ) → v < node_count residual.network.now → at_nodes label.old v ≡ far }
+    requires source { source < node_count residual.network.now }
+    requires left { pos 0 <ℤ at_nodes excess.old source }
+    requires limits { (i : ℕ) → i < arc_count residual.network.now → limit_of (arc_at residual.network.now i).cap < 2 ^ 32 }
+    requires few { looks.old < 2 ^ 61 }
+    ensures filled { result ≡ true → IsFilled residual.entry.network.now residual.entry.reverse.now residual.entry.forward.now arcs.new room.new }
+    ensures round { result ≡ true → IsRound residual.entry.network.now (carried residual.entry.reverse.now residual.entry.forward.now room.new) (at_nodes potential.new) (at_nodes excess.new) }
+    ensures blank { result ≡ true → (v : ℕ) → v < node_count residual.entry.network.now → at_nodes label.new v ≡ far }
+    ensures less { result ≡ true → IsLess residual.entry.network.now (at_nodes excess.old) (at_nodes excess.new) }
+    ensures carrying { result ≡ true → carrying residual.entry.network.now (carried residual.entry.reverse.now residual.entry.forward.now room.new) + looks.old ≤ carrying residual.entry.network.now (carried residual.entry.reverse.now residual.entry.forward.now room.old) + looks.new }
+    ensures looks { looks.new ≤ looks.old + 2 * arc_count residual.entry.network.now }
+    ensures no_flow { result ≡ false → HasNoFlow residual.entry.network.now }
+{
+    let ground = Ground {
+        first: residual.first,
+        arcs,
+        potential,
+        excess,
+        score,
+        source,
+    };
+    let progress = search(ground, label, enter, order, place, looks);
+    if progress.cut == FAR {
+        return false;
+    }
+    move_potentials(order, label, potential, progress.head, progress.cut);
+    clear(order, label, progress.reached);
+    send(
+        residual,
+        arcs,
+        room,
+        enter,
+        place,
+        potential,
+        excess,
+        source,
+        progress.found,
+    );
+    true
+}
+
+/// Lowers the potentials of the nodes that were scanned by as much as they are nearer than the cut.
+fn move_potentials(order: &[u32], label: &[i32], potential: &mut [i32], scanned: usize, cut: i32)
+    requires order { scanned ≤ length order.now }
+    requires small { length potential.old ≤ MAX_NODES }
+    requires nodes { (j : ℕ) → j < scanned → numbers order.now j < length potential.old }
+    requires sizes { length label.now ≡ length potential.old }
+    requires labels { (j : ℕ) → j < scanned → IsWithinFar (at_nodes label.now (numbers order.now j)) }
+    requires cut { IsWithinFar cut }
+    ensures moved { (j : ℕ) → j < scanned → at_nodes potential.new (numbers order.now j) ≡ at_nodes label.now (numbers order.now j) -ℤ cut }
+    ensures others { (v : ℕ) → ((j : ℕ) → j < scanned → numbers order.now j ≢ v) → at_nodes potential.new v ≡ at_nodes potential.old v }
+{
+    for j in 0..scanned {
+        let node = order[j] as usize;
+        write_potential(potential, node, label[node], cut);
+    }
+}
+
+/// Gives a node its label less the cut for a potential.
+fn write_potential(potential: &mut [i32], node: usize, label: i32, cut: i32)
+    requires node { node < length potential.old }
+    requires small { node < MAX_NODES }
+    requires label { IsWithinFar label }
+    requires cut { IsWithinFar cut }
+    ensures { IsPut (at_nodes potential.old) (at_nodes potential.new) node (label -ℤ cut) }
+{
+    potential[node] = label - cut;
+}
+
+/// Takes the labels of the nodes that were reached away.
+fn clear(order: &[u32], label: &mut [i32], reached: usize)
+    requires order { reached ≤ length order.now }
+    requires small { length label.old ≤ MAX_NODES }
+    requires nodes { (j : ℕ) → j < reached → numbers order.now j < length label.old }
+    ensures cleared { (j : ℕ) → j < reached → at_nodes label.new (numbers order.now j) ≡ far }
+    ensures others { (v : ℕ) → at_nodes label.old v ≡ far → at_nodes label.new v ≡ far }
+{
+    for j in 0..reached {
+        write_far(label, order[j] as usize);
+    }
+}
+
+/// Takes the label of a node away.
+fn write_far(label: &mut [i32], node: usize)
+    requires node { node < length label.old }
+    requires small { node < MAX_NODES }
+    ensures { IsPut (at_nodes label.old) (at_nodes label.new) node far }
+{
+    label[node] = FAR;
 }

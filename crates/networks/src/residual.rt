@@ -2,7 +2,7 @@
 ghost use Rattle.std.specs.Prelude.{◌≡◌, ◌<◌, ◌+◌, ◌^◌, length};
 ghost use Rattle.networks.specs.ResidualArcs.{end_at, cost_at};
 
-use crate::network::MAX_ARCS;
+use crate::network::{MAX_ARCS, Network};
 
 /// How many residual arcs a network has at most: two for each arc.
 pub const MAX_RESIDUAL_ARCS: usize = 2 * MAX_ARCS;
@@ -18,30 +18,26 @@ pub struct ResidualArc {
     pub cost: i16,
 }
 
-/// The residual arcs of a network under a flow. Those that start at a node stand side by side.
-#[derive(Drop)]
-pub struct Residual {
+/// Where the residual arcs of a network stand.
+#[derive(Clone, Copy)]
+pub struct ResidualArcs<'a> {
+    pub network: &'a Network,
     /// The residual arcs that start at node v have the numbers from `first[v]` up to `first[v + 1]`.
-    pub first: Vec<u32>,
+    pub first: &'a [u32],
     /// For each residual arc the one the other way.
-    pub reverse: Vec<u32>,
+    pub reverse: &'a [u32],
     /// For each arc the residual arc along it.
-    pub forward: Vec<u32>,
-    pub arcs: Vec<ResidualArc>,
-    /// For each residual arc its residual capacity: how many more units fit along it.
-    pub room: Vec<u32>,
+    pub forward: &'a [u32],
 }
 
-impl Residual {
-    /// The residual arc of a number; the look at it is counted. A search reads residual arcs here alone.
-    pub fn look(&self, number: usize, looks: &mut u64) -> ResidualArc
-        requires number { number < length self.now.arcs.items }
-        requires few { looks.old < 2 ^ 63 }
-        ensures end { result.end ≡ end_at self.now.arcs.items number }
-        ensures cost { result.cost ≡ cost_at self.now.arcs.items number }
-        ensures tick { looks.new ≡ looks.old + 1 }
-    {
-        *looks += 1;
-        self.arcs[number]
-    }
+/// The residual arc of a number; the look at it is counted. A search reads residual arcs here alone.
+pub fn look(arcs: &[ResidualArc], number: usize, looks: &mut u64) -> ResidualArc
+    requires number { number < length arcs.now }
+    requires few { looks.old < 2 ^ 63 }
+    ensures end { result.end ≡ end_at arcs.now number }
+    ensures cost { result.cost ≡ cost_at arcs.now number }
+    ensures tick { looks.new ≡ looks.old + 1 }
+{
+    *looks += 1;
+    arcs[number]
 }

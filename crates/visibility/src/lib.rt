@@ -12,7 +12,6 @@ mod listing;
 mod places;
 mod rows;
 mod scratch;
-mod shortening;
 mod straight;
 mod sweep;
 

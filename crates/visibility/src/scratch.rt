@@ -4,7 +4,6 @@ ghost use Rattle.std.specs.Prelude.{◌≡◌, []};
 
 use crate::listing::Bent;
 use crate::rows::Rows;
-use crate::shortening::Shortening;
 use crate::sweep::Sweep;
 use std::alloc::Global;
 
@@ -17,7 +16,6 @@ pub struct Scratch {
     pub(crate) y: Rows,
     pub(crate) bent: Vec<Bent>,
     pub(crate) sweep: Sweep,
-    pub(crate) shortening: Shortening,
 }
 
 impl Scratch {
@@ -30,7 +28,6 @@ impl Scratch {
             y: Rows::empty(alloc),
             bent: Vec::new(alloc),
             sweep: Sweep::empty(alloc),
-            shortening: Shortening::empty(alloc),
         }
     }
 }

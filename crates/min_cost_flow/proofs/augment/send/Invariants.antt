@@ -9,28 +9,28 @@ use Rattle.min_cost_flow.proofs.augment.send.Given as goal
 
 abbrev pub invariant-narrow : goal.invariant-narrow
 invariant-narrow l = record {
-  node : l.node < node_count l.fn.path.network.now;
-  narrowed : IsNarrowed (next_of l.fn.path.reverse.now l.fn.arcs l.fn.path.enter.now) (numbers l.fn.path.place.now) (room_into l.fn.room l.fn.path.enter.now) l.last l.node l.amount;
+  node : l.node < node_count l.fn.residual.network.now;
+  narrowed : IsNarrowed (next_of l.fn.residual.reverse.now l.fn.arcs l.fn.enter) (numbers l.fn.place) (room_into l.fn.room l.fn.enter) l.last l.node l.amount;
   some : 0 < l.amount;
-  found : l.amount ≤ numbers l.fn.room l.fn.path.found;
-  left : pos l.amount ≤ℤ at_nodes l.fn.excess l.fn.path.source;
+  found : l.amount ≤ numbers l.fn.room l.fn.found;
+  left : pos l.amount ≤ℤ at_nodes l.fn.excess l.fn.source;
   short : (at_nodes l.fn.excess l.target +ℤ pos l.amount) ≤ℤ pos 0;
-  on : (h : HasPath (node_count l.fn.path.network.now) l.fn.path.first.now l.fn.arcs (at_nodes l.fn.path.potential.now) (numbers l.fn.path.enter.now) (numbers l.fn.path.place.now) l.fn.path.source l.fn.path.found) → h.on l.node ≡ true;
+  on : (h : HasPath (node_count l.fn.residual.network.now) l.fn.residual.first.now l.fn.arcs (at_nodes l.fn.potential) (numbers l.fn.enter) (numbers l.fn.place) l.fn.source l.fn.found) → h.on l.node ≡ true;
 }
 
 abbrev pub decreases-narrow : goal.decreases-narrow
-decreases-narrow l = numbers l.path.place.now l.node
+decreases-narrow l = numbers l.place l.node
 
 abbrev pub invariant-along : goal.invariant-along
 invariant-along l = record {
-  node : l.node < node_count l.fn.path.network.now;
-  filled : IsFilled l.fn.path.network.now l.fn.path.reverse.now l.fn.path.forward.now l.arcs l.room;
+  node : l.node < node_count l.fn.residual.network.now;
+  filled : IsFilled l.fn.residual.network.now l.fn.residual.reverse.now l.fn.residual.forward.now l.arcs l.room;
   ends : (k : ℕ) → end_at l.arcs k ≡ end_at l.fn.arcs k;
-  on : (h : HasPath (node_count l.fn.path.network.now) l.fn.path.first.now l.fn.arcs (at_nodes l.fn.path.potential.now) (numbers l.fn.path.enter.now) (numbers l.fn.path.place.now) l.fn.path.source l.fn.path.found) → h.on l.node ≡ true;
-  way : IsOnWay (next_of l.fn.path.reverse.now l.fn.arcs l.fn.path.enter.now) (numbers l.fn.path.place.now) (end_at l.fn.arcs (numbers l.fn.path.reverse.now l.fn.path.found)) l.node;
-  sending : (h : HasPath (node_count l.fn.path.network.now) l.fn.path.first.now l.fn.arcs (at_nodes l.fn.path.potential.now) (numbers l.fn.path.enter.now) (numbers l.fn.path.place.now) l.fn.path.source l.fn.path.found) →
-      IsSending l.fn.path.network.now (at_nodes l.fn.path.potential.now) (at_nodes l.excess) h.on (numbers l.fn.path.place.now) (carried l.fn.path.reverse.now l.fn.path.forward.now l.fn.room) (carried l.fn.path.reverse.now l.fn.path.forward.now l.room) l.node l.amount (carrying l.fn.path.network.now (carried l.fn.path.reverse.now l.fn.path.forward.now l.fn.room) + numbers l.fn.path.place.now (end_at l.fn.arcs (numbers l.fn.path.reverse.now l.fn.path.found)) + 1);
+  on : (h : HasPath (node_count l.fn.residual.network.now) l.fn.residual.first.now l.fn.arcs (at_nodes l.fn.potential) (numbers l.fn.enter) (numbers l.fn.place) l.fn.source l.fn.found) → h.on l.node ≡ true;
+  way : IsOnWay (next_of l.fn.residual.reverse.now l.fn.arcs l.fn.enter) (numbers l.fn.place) (end_at l.fn.arcs (numbers l.fn.residual.reverse.now l.fn.found)) l.node;
+  sending : (h : HasPath (node_count l.fn.residual.network.now) l.fn.residual.first.now l.fn.arcs (at_nodes l.fn.potential) (numbers l.fn.enter) (numbers l.fn.place) l.fn.source l.fn.found) →
+      IsSending l.fn.residual.network.now (at_nodes l.fn.potential) (at_nodes l.excess) h.on (numbers l.fn.place) (carried l.fn.residual.reverse.now l.fn.residual.forward.now l.fn.room) (carried l.fn.residual.reverse.now l.fn.residual.forward.now l.room) l.node l.amount (carrying l.fn.residual.network.now (carried l.fn.residual.reverse.now l.fn.residual.forward.now l.fn.room) + numbers l.fn.place (end_at l.fn.arcs (numbers l.fn.residual.reverse.now l.fn.found)) + 1);
 }
 
 abbrev pub decreases-along : goal.decreases-along
-decreases-along l = numbers l.path.place.now l.node
+decreases-along l = numbers l.place l.node

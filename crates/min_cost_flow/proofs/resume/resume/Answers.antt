@@ -1,74 +1,48 @@
-use Rattle.std.proofs.Common.{◌≡◌, ◌*◌, ℕ, ℤ, List, length, ap, refl, ◌∙◌, subst, arith}
-use Rattle.std.specs.Prelude.{pos, ◌+ℤ◌, ◌-ℤ◌, ◌≤ℤ◌}
-use Rattle.std.specs.Vec.{with_items}
-use Rattle.std.proofs.lemmas.List.{with_items_is}
-use Rattle.networks.specs.Networks.{node_count, moved}
-use Rattle.networks.proofs.Moving.{length-moved, still_network}
+use Rattle.std.proofs.Common.{◌≡◌, ◌*◌, ℕ, length, ap, ◌∙◌, subst, arith}
+use Rattle.std.specs.Prelude.{pos, ◌+ℤ◌, ◌≤ℤ◌}
+use Rattle.networks.specs.Networks.{node_count}
+use Rattle.networks.proofs.Moving.{length-moved}
 use Rattle.networks.specs.Flow.{at_nodes}
-use Rattle.networks.specs.Residuals.{flow_of}
-use Rattle.min_cost_flow.proofs.Moved.{moved_round, others_none, laid_still, forward_in, reverse_in, sized_moved, low_bounds}
+use Rattle.networks.specs.ResidualArcs.{carried}
+use Rattle.min_cost_flow.proofs.Moved.{moved_round, laid_still, forward_in, reverse_in}
 use Rattle.min_cost_flow.proofs.resume.resume.Goals as goal
 
 pub carries_little-requires-clause-reverses : goal.carries_little-requires-clause-reverses
 carries_little-requires-clause-reverses c i b =
-    let l = c.requires.settled.ready.residual.laid_out in
-    rw (c.deref.ensures.value, c.deref-2.ensures.value) (omega (arith, forward_in c.args.network.now _ _ _ i c.requires.network l (omega (arith, l.forwards, ap (length {A = ℕ}) c.deref-2.ensures.value)), l.reverses))
+    let l = c.requires.settled.laid_out in
+    omega (arith, forward_in _ _ _ _ i c.requires.network l (omega (arith, l.forwards)), l.reverses)
 
 pub carries_little-requires-clause-rooms : goal.carries_little-requires-clause-rooms
 carries_little-requires-clause-rooms c i b =
-    let l = c.requires.settled.ready.residual.laid_out in
-    rw (c.deref.ensures.value, c.deref-2.ensures.value, c.deref-3.ensures.value) (omega (arith, reverse_in c.args.network.now _ _ _ i c.requires.network l (omega (arith, l.forwards, ap (length {A = ℕ}) c.deref-2.ensures.value)), c.requires.settled.ready.residual.filled.room_size))
+    let l = c.requires.settled.laid_out in
+    omega (arith, reverse_in _ _ _ _ i c.requires.network l (omega (arith, l.forwards)), c.requires.settled.filled.room_size)
 
-pub rebase-requires : goal.rebase-requires
-rebase-requires c =
-    let r = c.requires.settled.ready in
-    let m = c.deref_mut.ensures.value in
-    record {
-      node = rw m (omega (arith, r.potentials, c.requires.to));
-      small = rw m (omega (arith, r.potentials, r.network.small));
-      low = rw m (λ v b. low_bounds (node_count c.args.network.now) (at_nodes c.args.lists.nodes.potential.items v) (r.network.small).0 (r.round.low v (omega (arith, r.potentials))));
-    }
+pub resend-requires-clause-laid_out : goal.resend-requires-clause-laid_out
+resend-requires-clause-laid_out c = rw c.shift.ensures (laid_still c.args.network.now _ _ _ c.args.from c.args.to c.args.amount c.requires.settled.laid_out)
 
-pub solve_anew-requires : goal.solve_anew-requires
-solve_anew-requires c = record {
-  sized = rw c.shift.ensures (sized_moved c.args.network.now c.args.lists c.args.lists c.args.from c.args.to c.args.amount c.requires.settled.ready c.requires.fair refl refl refl refl refl);
-}
-
-pub move_units-requires : goal.move_units-requires
-move_units-requires c =
-    let r = c.requires.settled.ready in
-    let m = c.deref_mut-2.ensures.value in
-    record {
-      from = rw m (omega (arith, r.excesses, c.requires.from));
-      to = rw m (omega (arith, r.excesses, c.requires.to));
-      few = c.requires.few;
-      low = rw m (λ v b. (r.round.fair v (omega (arith, r.excesses))).0);
-      high = rw m (λ v b. (r.round.fair v (omega (arith, r.excesses))).1);
-    }
-
-pub resend-requires : goal.resend-requires
-resend-requires c =
+pub resend-requires-clause-round : goal.resend-requires-clause-round
+resend-requires-clause-round c =
     let net = c.args.network.now in
-    let l = c.args.lists in
     let st = c.requires.settled in
-    let r = st.ready in
-    let p' = c.rebase.new.potential in
-    let es = c.move_units.new.units in
-    let long : length (moved net.supplies c.args.from c.args.to c.args.amount) ≡ node_count net = length-moved net.supplies c.args.from c.args.to c.args.amount in
-    let d = c.deref_mut.ensures.value in
-    let size : length c.deref_mut.result.now ≡ node_count net = ap (length {A = ℤ}) d ∙ r.potentials in
-    let pot_is : (with_items l.nodes.potential p').items ≡ p' = with_items_is l.nodes.potential p' (omega arith) in
-    let excess_is : (with_items l.nodes.excess es).items ≡ es = with_items_is l.nodes.excess es (omega arith) in
-    let value : es ≡ moved l.nodes.excess.items c.args.from c.args.to c.args.amount = c.move_units.ensures ∙ ap (λ (xs : List ℤ). moved xs c.args.from c.args.to c.args.amount) c.deref_mut-2.ensures.value in
-    let base = rw d at c.rebase.ensures.moved in
-    let low = c.rebase.ensures.low c.if-not-rebase.false in
-    let little = rw (c.deref.ensures.value, c.deref-2.ensures.value, c.deref-3.ensures.value) at (c.carries_little.ensures c.if-not-carries_little.false) in
+    let n : length c.args.potential.now ≡ node_count net = st.sizes.potentials in
+    let p' = at_nodes c.rebase.new.potential in
+    let low = c.rebase.ensures.low c.if-rebase.true in
+    rw (c.shift.ensures, c.move_units.ensures) (moved_round net (carried c.args.reverse.now c.args.forward.now c.args.room.now) (at_nodes c.args.potential.now) p' c.args.excess.now c.args.from c.args.to c.args.amount c.requires.network st.round st.sizes.excesses st.sent c.requires.from c.requires.to c.requires.few
+    (λ v b. c.rebase.ensures.moved v (omega arith))
+    (λ v b. subst (λ (m : ℕ). (pos 0 ≤ℤ (p' v +ℤ pos (2 * m))) × (p' v ≤ℤ pos (2 * m))) n (low v (omega arith)))
+    (λ i b. c.carries_little.ensures c.if-carries_little.true i (omega (arith, st.laid_out.forwards))))
+
+pub returns-then-rebase-clause-settled : goal.returns-then-rebase-clause-settled
+returns-then-rebase-clause-settled c h =
+    let st = c.requires.settled in
+    let e = c.resend.ensures in
+    let same : node_count c.shift.new.self ≡ node_count c.args.network.now = ap node_count c.shift.ensures ∙ length-moved c.args.network.now.supplies c.args.from c.args.to c.args.amount in
     record {
-      ready = rw c.shift.ensures (ready_moved net l _ c.args.from c.args.to c.args.amount st c.requires.fair c.requires.from c.requires.to c.requires.few
-        (λ v b. rw pot_is (base v (omega (arith, size))))
-        (λ v b. rw pot_is (subst (λ (m : ℕ). (pos 0 ≤ℤ (at_nodes p' v +ℤ pos (2 * m))) × (at_nodes p' v ≤ℤ pos (2 * m))) size (low v (omega (arith, size)))))
-        (λ i b. little i (omega (arith, r.residual.laid_out.forwards)))
-        refl refl refl (rw pot_is (omega (arith, size, r.potentials))) (excess_is ∙ value));
-      source = rw c.shift.ensures (omega (arith, c.requires.from));
-      others = rw c.shift.ensures (λ v b ne. rw (excess_is, value) (others_none l.nodes.excess.items (node_count net) c.args.from c.args.to c.args.amount v r.excesses st.sent c.requires.from c.requires.to (omega arith) ne));
+      laid_out = rw c.shift.ensures (laid_still c.args.network.now _ _ _ c.args.from c.args.to c.args.amount st.laid_out);
+      limits = rw c.shift.ensures st.limits;
+      filled = e.filled h;
+      sizes = record { potentials = omega (arith, st.sizes.potentials); excesses = omega (arith, st.sizes.excesses); scores = omega (arith, st.sizes.scores); labels = omega (arith, st.sizes.labels); enters = omega (arith, st.sizes.enters); orders = omega (arith, st.sizes.orders); places = omega (arith, st.sizes.places) };
+      round = e.round h;
+      blank = e.blank h;
+      sent = e.sent h;
     }
