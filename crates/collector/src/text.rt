@@ -52,9 +52,9 @@ pub enum TextFault {
 /// more than `MAX_LANES`, and no more files than that; nothing is then written. `Write` exactly where the sink
 /// has then failed. `Memory`: no memory for links, the fan, tickets, buffers, lists of lanes or lines.
 /// `LaneLost`: an end of a link or of the fan was gone, or the text was handed a message that no lane gives.
-/// `Thread`: a thread could not be started. Whatever it is, what was written is a beginning of this: the text of the
-/// books of the first files, which have ended, with their own marks, and the lines of the next file so far, which has
-/// no last line. Of a file that tells no bytes, as a real one, records and mark are those of some bytes.
+/// `Thread`: a thread could not be started. Whatever it is, what was written is a beginning of this: the text of
+/// books of the first files, of which any may end `memory`, and the lines of the next file so far, which has no last
+/// line. Of a file that tells no bytes, as a real one, records and mark are those of some bytes.
 pub fn write_batch<R: Threads + Wait + Sync, O: Opener, G: Gate, S: Sink>(
     rt: &R,
     alloc: Global,

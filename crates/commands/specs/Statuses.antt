@@ -61,7 +61,7 @@ pub record IsLaidOut (choice : Choice) (form : Form) (meaning : ℕ → Meaning)
   pub other : status ≢ 0 → status ≡ 3
 
 -- A beginning of the text of the books of the first of so many files, which mean this, was added to the output, or of it and the lines of the next
--- one, which has not ended, under this choice and in this form.
+-- one, which has no last line, under this choice and in this form.
 abbrev pub IsBegunToLayOut : Choice → Form → (ℕ → Meaning) → ℕ → Option (List ℕ) → Option (List ℕ) → Type 0
 IsBegunToLayOut choice form meaning files old new = ∥ IsBegun choice meaning form files old new ∥₁
 

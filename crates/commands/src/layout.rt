@@ -30,8 +30,8 @@ const MEGABYTE: usize = 1_000_000;
 ///
 /// `TooManyFiles` exactly where there are more than `MAX_FILES` files, and `BadLanes` exactly where there are
 /// no more than that and no lanes or more than `MAX_LANES`; nothing is then written. Else what a run or the
-/// writing met; then a beginning of the text is written: that of the books of the first files, which have ended, and
-/// the lines of the next one, which has no last line. Of a file that tells no bytes, as a real one, they are those of some bytes.
+/// writing met; then a beginning of the text is written: that of books of the first files, of which any may end
+/// `memory`, and the lines of the next one, which has no last line. Of a file that tells no bytes, as a real one, they are those of some bytes.
 pub fn layout<
     'a,
     R: Files + AllocGlobal + Threads + Wait + Sync,

@@ -1,4 +1,4 @@
-//! Each accepted graph is drawn: laws, each as the contract of a function that does nothing.
+//! Each laid answer is drawn: laws, each as the contract of a function that does nothing.
 #![tactic(auto)]
 
 mod drawn;

@@ -1,6 +1,6 @@
 //! Numbers in the order of boxes exist: laws, each as the contract of a function that does nothing.
 //!
-//! Take a set of boxes that has, with each box, all boxes directly above it, and suppose that it avoids the outside. Take in what the
+//! Take a nonempty set of boxes that has, with each box, all boxes directly above it, and suppose that it avoids the outside. Take in what the
 //! outside does not reach without crossing it, so that the rest is joined. Count the edges that touch the rest. At each vertex the
 //! corner over the north-west belongs to the rest, or one dart at most to the east or north runs along the set's border with the set
 //! on its left: so there are fewer of these edges than vertices on them and boxes off the set, taken together. But a tree on the faces

@@ -27,12 +27,12 @@ pub record IsAllWritten (choice : Choice) (meaning : ℕ → Meaning) (form : Fo
   pub text : Appends start now (text_in form books)
   pub whole : (status ≡ 0) ↔ All IsWholeBook books
 
--- The entries are the first of a file that means this and has not ended: those that its book may have where memory is wanted.
+-- The entries are the first of a file that means this: those that its book may have where memory is wanted.
 abbrev pub AreFirst : Choice → Meaning → ℕ → List Entry → Type 0
 AreFirst choice meaning file entries = IsBook choice meaning file (record { entries = entries; mark = Mark.Ended Ending.Memory })
 
--- The first of so many files have ended, and these are their books. After `start` a beginning was added of the text of these books, or of it and
--- the lines of the first entries of the next file, which has no last line.
+-- These are books of the first of so many files, of which any may end for want of memory. After `start` a beginning was added of their text, or of
+-- it and the lines of the first entries of the next file, which has no last line.
 pub record IsBegun (choice : Choice) (meaning : ℕ → Meaning) (form : Form) (files : ℕ) (start now : Option (List ℕ)) : Type 0 where
   pub books : List BookModel
   pub of_files : AreBooks choice meaning 0 books
