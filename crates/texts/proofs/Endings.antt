@@ -1,11 +1,11 @@
 -- Any records, as many as a file may have, are those of some bytes that end as a file of so many may.
-use Rattle.std.proofs.Common.{◌≡◌, ◌≢◌, ℕ, ◌+◌, ◌<◌, ◌≤◌, Bool, false, true, List, [], ◌∷◌, ◌++◌, Option, None, Some, inl, inr, length, map, All, replicate, refl, sym, ap, subst, ◌∙◌, arith, append_assoc, append-nil, length-append}
+use Rattle.std.proofs.Common.{◌≡◌, ◌≢◌, ℕ, ◌+◌, ◌<◌, ◌≤◌, Bool, false, true, List, [], ◌∷◌, ◌++◌, Option, None, Some, inl, inr, length, All, replicate, refl, sym, ap, subst, ◌∙◌, arith, append_assoc, append-nil, length-append}
 use Rattle.std.specs.Prelude.{⊤}
 use Rattle.std.proofs.Math.Logic.{∥∥₁_map}
 use Rattle.std.proofs.lemmas.Bool.{false≢true}
 use Rattle.std.proofs.lemmas.Grind.{merely}
 use Rattle.std.proofs.lemmas.List.{length-replicate}
-use Rattle.std.proofs.lemmas.List.Elements.{All-head, All-tail, All-nil, All-cons, All-replicate}
+use Rattle.std.proofs.lemmas.List.Elements.{All-head, All-tail, All-nil, All-replicate}
 use Rattle.planar_code.specs.declared.TheConstants.{HEADER, MAX_RECORDS}
 use Rattle.planar_code.specs.declared.ending.Ending.{Ending}
 use Rattle.planar_code.specs.declared.ending.Ending.TheVariants as ending
@@ -13,13 +13,13 @@ use Rattle.planar_code.specs.declared.fault.FeedFault.{FeedFault}
 use Rattle.planar_code.specs.declared.fault.FeedFault.TheVariants as fault
 use Rattle.planar_code.specs.Stream.{IsEntry, IsList, IsRecord, lists_of}
 use Rattle.planar_code.specs.Split.{IsSplit, ending_of}
-use Rattle.planar_code.specs.Started.{IsStarted, IsOversize}
-use Rattle.planar_code.specs.Place.{Place, After, Failed, StandsAt, Goes}
+use Rattle.planar_code.specs.Started.{IsStarted}
+use Rattle.planar_code.specs.Place.{After, Failed, StandsAt, Goes}
 use Rattle.planar_code.proofs.Started.{started-first, started-unfinished, started-oversize}
 use Rattle.planar_code.proofs.LeadsTo.{goes_more, goes_whole, fails_many, fails_large, fails_oversize, standing-header}
 use Rattle.streams.specs.declared.frames.Mark.{Mark}
 use Rattle.streams.specs.declared.frames.Mark.TheVariants.{Ended, Io}
-use Rattle.streams.specs.Marks.{IsCutShort, IsMarked}
+use Rattle.streams.specs.Marks.{IsMarked}
 use Rattle.streams.specs.Reading.{IsFoundIn}
 use Rattle.streams.proofs.Marks.{split_stands, open_stands, beginning_stands}
 use Rattle.streams.proofs.Pieces.{marked_split}

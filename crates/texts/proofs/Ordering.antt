@@ -11,7 +11,7 @@ use Rattle.streams.specs.declared.frames.Mark.{Mark}
 use Rattle.streams.specs.Sink.{AppendsFront}
 use Rattle.streams.proofs.Sinks.{added_none}
 use Rattle.choices.specs.declared.Choice.{Choice}
-use Rattle.lanes.specs.Notes.{About, Note, numbered}
+use Rattle.lanes.specs.Notes.{Note, numbered}
 use Rattle.streams.specs.Placing.{EachAt}
 use Rattle.lanes.specs.Opening.{Meaning, Silent, Unopened, Opened, IsFoundAt, IsEndAt}
 use Rattle.entries.specs.declared.entry.Entry.{Entry}
@@ -24,7 +24,7 @@ use Rattle.reports.specs.Forms.{text_in}
 use Rattle.printing.specs.FormLines.{head_in, lines_in, book_in}
 use Rattle.printing.specs.Spelt.{IsSpelt}
 use Rattle.printing.proofs.BookTexts.{text_by_lines}
-use Rattle.texts.specs.Came.{Came, HasMark, HasEntryMore, HasMarkMore, nothing}
+use Rattle.texts.specs.Came.{Came, HasMark, nothing}
 use Rattle.texts.specs.Orders.{IsKnownAt, IsInOrder}
 use Rattle.texts.specs.Written.{begun, ended_texts}
 use Rattle.texts.specs.Holding.{LeavesOff}

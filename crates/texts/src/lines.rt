@@ -78,6 +78,17 @@ impl Lines {
         self.front
     }
 
+    /// The first file behind the front that has not ended.
+    pub(crate) fn next(&self) -> u32 {
+        for file in self.front.saturating_add(1)..u32::MAX {
+            let place = file as usize;
+            if place >= self.waiting.len() || self.waiting[place].mark.is_none() {
+                return file;
+            }
+        }
+        u32::MAX
+    }
+
     /// How many bytes of memory what waits of the files behind the front holds.
     pub(crate) fn waits(&self) -> usize {
         self.held

@@ -3,21 +3,28 @@
 use crate::lines::Lines;
 use pausing::Pauses;
 
+/// The part of what may wait from which on the next file that has not ended alone goes on beside the front. So two
+/// lanes are at work for most of a run, where a whole bound for all would let one run alone.
+const PART: usize = 4;
+
 /// How much may wait of files whose turn has not come, and where it is told that their reading pauses.
 #[derive(Drop)]
 pub struct Pace<'p> {
     pub pauses: &'p Pauses,
-    /// How many bytes of memory what waits may hold until the reading of the files behind the front pauses.
+    /// How many bytes of memory what waits may hold until the reading of all files behind the front pauses.
     pub most: usize,
 }
 
 impl Pace<'_> {
-    /// Lets the files behind the front pause where as much waits of them as may, and else go on.
+    /// Lets the files behind the front pause where as much waits of them as may, those behind the next one where a
+    /// part of it waits, and else none.
     pub(crate) fn keep(&self, lines: &Lines) {
-        if lines.waits() < self.most {
-            self.pauses.lift();
-        } else {
+        if lines.waits() >= self.most {
             self.pauses.pause_behind(lines.front());
+        } else if lines.waits() >= self.most / PART {
+            self.pauses.pause_behind(lines.next());
+        } else {
+            self.pauses.lift();
         }
     }
 

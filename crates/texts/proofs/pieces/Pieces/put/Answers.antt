@@ -1,4 +1,4 @@
-use Rattle.std.proofs.Common.{◌++◌, ◌∙◌, ap, subst, sym}
+use Rattle.std.proofs.Common.{◌++◌, ◌∙◌, ap, subst}
 use Rattle.texts.specs.Joined.{joined}
 use Rattle.texts.specs.Written.{BreaksIn}
 use Rattle.texts.proofs.SucceedsOrFails.{err_any, err_then}
