@@ -3,6 +3,7 @@
 ghost use Rattle.std.specs.Prelude.{◌≤◌};
 
 use crate::readback::test_lines;
+use crate::run_texts::compare_texts;
 use crate::stages::read_file;
 use anyhow::{Context, Result, ensure};
 use collector::{
@@ -47,7 +48,7 @@ fn compare_runs<R: Files + Print + AllocGlobal + Threads + Wait + Sync>(
     }
     let report = report_of_runs(rt, names, choice)?;
     ensure!(report == joined, "another report of all files at once");
-    Ok(())
+    compare_texts(rt, names, choice)
 }
 
 /// Puts the report of one file behind those of others, under this number.

@@ -7,7 +7,8 @@
 //!
 //! All words after `batches` are files; those behind the word `best` are laid out with the best outer face.
 //! The report of each is printed, and compared with that of runs over lanes, as is the report of all files at
-//! once; the JSON lines of each are read back and tested.
+//! once; the JSON lines of each are read back and tested. Both texts of all files at once, as they are made over lanes,
+//! must be those of books.
 //! All words after `plain` are files too: it tells how long a run over them takes on one thread; after
 //! `lanes`, the number of lanes and the room of the links between threads, how long a run over lanes
 //! takes.
@@ -21,6 +22,7 @@ mod again;
 mod batches;
 mod pieces;
 mod readback;
+mod run_texts;
 mod run_times;
 mod stages;
 mod stress;

@@ -1,0 +1,64 @@
+//! Texts of runs over lanes, as they are made: they must be those of the books of one thread.
+
+use crate::batches::read_files;
+use anyhow::{Result, bail, ensure};
+use collector::{
+    Batch, Choice, DrawingKind, Form, IoSink, MemOpener, OpenGate, Style, run_plain, write_batch,
+};
+use std::alloc::Global;
+use std::rt::Files;
+use std::sync::Wait;
+use std::thread::Threads;
+
+/// How many messages wait between two threads at most.
+const CAPACITY: u32 = 16;
+
+/// From how many bytes of later files' lines on reading pauses.
+const WAITING: usize = 100_000;
+
+/// Over how many lanes the files are read.
+const LANES: u32 = 3;
+
+/// Compares the texts of these files in both forms.
+pub fn compare_texts<R: Files + AllocGlobal + Threads + Wait + Sync>(
+    rt: &R,
+    names: &[String],
+    choice: Choice,
+) -> Result<()> {
+    let opener = read_files(rt, names)?;
+    let count = u32::try_from(names.len())?;
+    let batch = run_plain(rt.alloc(), &opener, count, choice)?;
+    for form in [Form::Report, Form::Json] {
+        let due = text_of(rt.alloc(), &batch, form)?;
+        let text = text_over(rt, &opener, count, choice, form)?;
+        ensure!(text == due, "{names:?}: another text over lanes");
+    }
+    Ok(())
+}
+
+/// The text of a batch in this form.
+fn text_of(alloc: Global, batch: &Batch, form: Form) -> Result<Vec<u8>> {
+    let mut sink = IoSink::new(Vec::new(alloc));
+    form.write(alloc, batch, &mut sink)?;
+    Ok(sink.into_writer())
+}
+
+/// The text in this form of a run over lanes, whose drawings are the quick ones, as those of books are.
+fn text_over<R: AllocGlobal + Threads + Wait + Sync>(
+    rt: &R,
+    opener: &MemOpener,
+    files: u32,
+    choice: Choice,
+    form: Form,
+) -> Result<Vec<u8>> {
+    let (alloc, drawing) = (rt.alloc(), DrawingKind::Quick);
+    let mut sink = IoSink::new(Vec::new(alloc));
+    let style = Style { form, drawing };
+    let ended = write_batch(
+        rt, alloc, opener, files, LANES, CAPACITY, WAITING, choice, style, &OpenGate, &mut sink,
+    );
+    match ended {
+        Ok(_) => Ok(sink.into_writer()),
+        Err(fault) => bail!("no text over lanes: {fault:?}"),
+    }
+}
