@@ -182,35 +182,6 @@ fn describe<'a>(alloc: Global) -> Result<Command<'a>, AllocError> {
 }
 
 fn describe_layout<'a>(alloc: Global) -> Result<Command<'a>, AllocError> {
-    let lanes = Arg::new(alloc, "lanes")
-        .long("lanes")
-        .value_name("N")
-        .help("How many files are worked on at once, 1 to 8")
-        .value_parser(value_parser!(u32))
-        .default_value("1");
-    let waiting = Arg::new(alloc, "waiting")
-        .long("waiting")
-        .value_name("MB")
-        .help(
-            "How many megabytes of text of later files may wait until their reading pauses, 1 to 65536",
-        )
-        .value_parser(value_parser!(u32).range(1..=65536))
-        .default_value("64");
-    let outer = Arg::new(alloc, "outer")
-        .long("outer")
-        .value_name("CHOICE")
-        .help(
-            "The outer face: first is the one with the longest boundary, best the one with which the fewest bends are needed",
-        )
-        .value_parser(OUTER)
-        .default_value("first");
-    let drawing = Arg::new(alloc, "drawing")
-        .long("drawing")
-        .value_name("KIND")
-        .help(
-            "The drawing: short has shorter edges, and is what --json takes; quick is found sooner, and is what the report takes",
-        )
-        .value_parser(DRAWING);
     let json = Arg::new(alloc, "json")
         .long("json")
         .help("Prints JSON lines in place of the report: also shapes, prices and points")
@@ -226,13 +197,54 @@ fn describe_layout<'a>(alloc: Global) -> Result<Command<'a>, AllocError> {
             "Prints for each graph of planar_code files its fewest bends and whether it is drawn",
         )
         .after_help(LAYOUT_HELP)
-        .arg(lanes)?
-        .arg(waiting)?
-        .arg(outer)?
-        .arg(drawing)?
+        .arg(lanes_option(alloc))?
+        .arg(waiting_option(alloc))?
+        .arg(outer_option(alloc))?
+        .arg(drawing_option(alloc))?
         .arg(json)?
         .arg(progress)?
         .arg(layout_files(alloc))
+}
+
+fn lanes_option<'a>(alloc: Global) -> Arg<'a> {
+    Arg::new(alloc, "lanes")
+        .long("lanes")
+        .value_name("N")
+        .help("How many files are worked on at once, 1 to 8")
+        .value_parser(value_parser!(u32))
+        .default_value("1")
+}
+
+fn waiting_option<'a>(alloc: Global) -> Arg<'a> {
+    Arg::new(alloc, "waiting")
+        .long("waiting")
+        .value_name("MB")
+        .help(
+            "How many megabytes of text of later files may wait until their reading pauses, 1 to 65536",
+        )
+        .value_parser(value_parser!(u32).range(1..=65536))
+        .default_value("64")
+}
+
+fn outer_option<'a>(alloc: Global) -> Arg<'a> {
+    Arg::new(alloc, "outer")
+        .long("outer")
+        .value_name("CHOICE")
+        .help(
+            "The outer face: first is the one with the longest boundary, best the one with which the fewest bends are needed",
+        )
+        .value_parser(OUTER)
+        .default_value("first")
+}
+
+fn drawing_option<'a>(alloc: Global) -> Arg<'a> {
+    Arg::new(alloc, "drawing")
+        .long("drawing")
+        .value_name("KIND")
+        .help(
+            "The drawing: short has shorter edges, and is what --json takes; quick is found sooner, and is what the report takes",
+        )
+        .value_parser(DRAWING)
 }
 
 fn layout_files<'a>(alloc: Global) -> Arg<'a> {
