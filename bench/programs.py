@@ -9,12 +9,16 @@ import re
 import shutil
 import subprocess
 import sys
+import tempfile
 import time
 
 ROOT = os.path.dirname(os.path.dirname(os.path.abspath(__file__)))
 DATA = os.path.join(ROOT, "crates/corpus/data")
 OUTSIDE = os.path.join(ROOT, "bench/outside")
 PARTS = os.path.join(ROOT, "bench/parts")
+SHARED = ["files.rt", "runs.rt", "shapes.rt"]  # modules of crates/corpus that bench/parts/trials uses
+TRIED = ["collector", "streams", "compact", "dissect", "drawing_check", "embedding", "faces", "ortho_rep", "planar_code",
+         "anyhow"]  # the crates that it names
 
 KINDS = [("cubic", "250", "1"), ("medial", "249", "2"), ("grid", "250", "3"), ("tree", "250", "4")]
 SMALL = os.path.join(DATA, "planar_d4_n8.pc")
@@ -112,10 +116,47 @@ def planarbend():
     return built(program, "./planarbend --build")
 
 
-def corpus():
-    """The built program of crates/corpus."""
-    return built(os.path.join(ROOT, "crates/corpus/out/corpus"),
-                 "(cd crates/corpus && rt run -- planes data/planar_d4_n4.pc)")
+def trials():
+    """The program of bench/parts/trials with the modules of crates/corpus that it uses, in the folder of temporary
+    files: proved and built where a source of it has changed since then."""
+    home = os.path.join(tempfile.gettempdir(), f"planarbend-trials-{sum_of([ROOT.encode()])}")
+    texts = [os.path.join(PARTS, "trials", name) for name in sorted(os.listdir(os.path.join(PARTS, "trials")))]
+    texts += [os.path.join(ROOT, "crates/corpus/src", name) for name in SHARED]
+    told = sum_of([read(path) for path in texts + sources(closure(TRIED, libraries()))])
+    stamp = os.path.join(home, "stamp")
+    program = os.path.join(home, "crates/trials/out/trials")
+    if not os.access(program, os.X_OK) or not os.path.exists(stamp) or read(stamp).decode() != told:
+        print("proving and building bench/parts/trials", file=sys.stderr)
+        os.makedirs(os.path.join(home, "crates/trials/src"), exist_ok=True)
+        for path in texts:
+            name = os.path.basename(path).replace(".txt", ".rt")
+            shutil.copy(path, os.path.join(home, "crates/trials/src", name))
+        build(home, "trials", os.path.join(PARTS, "trials/main.txt"), TRIED, ["planes", SMALL])
+        with open(stamp, "w", encoding="utf-8") as out:
+            out.write(told)
+    return program
+
+
+def read(path):
+    """A file's bytes."""
+    with open(path, "rb") as data:
+        return data.read()
+
+
+def sum_of(parts):
+    """A sum of these bytes."""
+    return hashlib.sha256(b"\0".join(parts)).hexdigest()[:12]
+
+
+def sources(crates):
+    """The files from which these crates are proved."""
+    found = [os.path.join(ROOT, "crates.txt")]
+    for crate in crates:
+        for part in ("src", "specs", "proofs"):
+            for folder, below, names in os.walk(os.path.join(ROOT, "crates", crate, part)):
+                below.sort()
+                found += [os.path.join(folder, name) for name in sorted(names)]
+    return found
 
 
 def built(program, command):

@@ -1,23 +1,17 @@
 //! Runs over whole files, on one thread and over lanes: their reports must be the same.
 
-ghost use Rattle.std.specs.Prelude.{◌≤◌};
-
+use crate::files::read_files;
 use crate::readback::test_lines;
 use crate::run_texts::compare_texts;
-use crate::stages::read_file;
+use crate::runs::{report_of, report_over};
 use anyhow::{Context, Result, ensure};
-use collector::{
-    Batch, Choice, Gate, IoSink, MAX_LANES, MemOpener, OpenGate, run_batch, run_plain, write_report,
-};
+use collector::{Choice, MAX_LANES, MemOpener, OpenGate, run_plain};
 use std::alloc::Global;
 use std::io;
 use std::io::Write;
 use std::rt::Files;
 use std::sync::Wait;
 use std::thread::Threads;
-
-/// How many bytes a read gives at most.
-const MOST: usize = 65_536;
 
 /// How many messages wait between two threads at most.
 const CAPACITIES: [u32; 2] = [1, 16];
@@ -98,47 +92,4 @@ fn is_same_over<R: AllocGlobal + Threads + Wait + Sync>(
         }
     }
     Ok(true)
-}
-
-/// The report of a run over lanes.
-pub fn report_over<R: AllocGlobal + Threads + Wait + Sync, G: Gate>(
-    rt: &R,
-    opener: &MemOpener,
-    files: u32,
-    lanes: u32,
-    capacity: u32,
-    choice: Choice,
-    gate: &G,
-) -> Result<Vec<u8>>
-    requires least { 1 ≤ capacity }
-    requires most { capacity ≤ 64 }
-{
-    let alloc = rt.alloc();
-    let batch = run_batch(rt, alloc, opener, files, lanes, capacity, choice, gate)?;
-    report_of(alloc, &batch)
-}
-
-/// These files in memory.
-pub fn read_files<R: Files + AllocGlobal>(rt: &R, names: &[String]) -> Result<MemOpener> {
-    let mut files = Vec::with_capacity(rt.alloc(), names.len())?;
-    for name in names {
-        files.push(read_file(rt, name.as_str())?)?;
-    }
-    Ok(MemOpener::new(files, MOST))
-}
-
-/// The text of a report.
-pub fn report_of(alloc: Global, batch: &Batch) -> Result<Vec<u8>> {
-    let mut sink = IoSink::new(Vec::new(alloc));
-    write_report(batch, &mut sink)?;
-    Ok(sink.into_writer())
-}
-
-/// How many records a batch has.
-pub fn graphs_of(batch: &Batch) -> usize {
-    let mut graphs: usize = 0;
-    for file in 0..batch.files() {
-        graphs = graphs.saturating_add(batch.book(file).entries().len());
-    }
-    graphs
 }

@@ -1,7 +1,7 @@
 //! Files read in pieces, beside the plain splitter.
 ghost use Rattle.std.specs.Prelude.{◌<◌};
 
-use crate::stages::read_file;
+use crate::files::read_file;
 use anyhow::{Result, ensure};
 use planar_code::{Ending, Record, split};
 use std::rt::Files;

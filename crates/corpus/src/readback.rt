@@ -2,7 +2,7 @@
 //! record's plane, prices that prove it least, and points that draw it.
 ghost use Rattle.ortho_rep.specs.Representation.{IsShape};
 
-use crate::stages::test_shape;
+use crate::shapes::test_shape;
 use anyhow::{Context, Result, bail, ensure};
 use collector::{Answer, Batch, Entry, IoSink, write_json};
 use drawing_check::check;

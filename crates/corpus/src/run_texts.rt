@@ -1,6 +1,6 @@
 //! Texts of runs over lanes, as they are made: they must be those of the books of one thread.
 
-use crate::batches::read_files;
+use crate::files::read_files;
 use anyhow::{Result, bail, ensure};
 use collector::{
     Batch, Choice, DrawingKind, Form, IoSink, MemOpener, OpenGate, Style, run_plain, write_batch,
