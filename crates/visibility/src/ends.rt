@@ -1,42 +1,23 @@
 //! Where rows begin and end.
 
-use crate::rows::{Row, Rows, number_of};
+use crate::rows::{Rows, list};
+use std::alloc::AllocError;
 
-/// Finds for each row the rows of the other axis that cross it where it begins and where it ends, by all that lies on it.
-pub(crate) fn find_ends(along: &mut Rows, other: &Rows) {
-    let of = along.of.as_slice();
-    let rows = along.rows.as_mut_slice();
-    for (place, crossing) in of.iter().zip(other.of.as_slice()) {
-        if let Some(row) = rows.get_mut(usize::from(*place)) {
-            row.low = *crossing;
-            row.high = *crossing;
+/// Finds for each row the rows of the other axis that cross it where it begins and where it ends, counts these in their
+/// pulls, and lists the row by its coordinate.
+pub(crate) fn find_ends(along: &mut Rows, other: &mut Rows) -> Result<(), AllocError> {
+    along.open_lists()?;
+    let firsts = along.firsts.as_mut_slice();
+    for (place, row) in along.rows.iter_mut().enumerate() {
+        row.low = other.row_of(usize::from(row.low));
+        row.high = other.row_of(usize::from(row.high));
+        if let Some(begun_on) = other.rows.get_mut(usize::from(row.low)) {
+            begun_on.pull = begun_on.pull.wrapping_add(1);
         }
-    }
-    for (place, crossing) in of.iter().zip(other.of.as_slice()) {
-        if let Some(row) = rows.get_mut(usize::from(*place)) {
-            reach(row, *crossing, other.rows.as_slice());
+        if let Some(ended_on) = other.rows.get_mut(usize::from(row.high)) {
+            ended_on.pull = ended_on.pull.wrapping_sub(1);
         }
+        list(firsts, row, place.min(usize::from(u16::MAX)) as u16);
     }
-}
-
-/// Makes a row reach as far as this one that crosses it.
-fn reach(row: &mut Row, crossing: u16, others: &[Row]) {
-    let number = number_of(others, crossing);
-    if number < number_of(others, row.low) {
-        row.low = crossing;
-    }
-    if number > number_of(others, row.high) {
-        row.high = crossing;
-    }
-}
-
-/// How long all rows are together. `crossing` are the rows of the other axis.
-pub(crate) fn total_length(rows: &[Row], crossing: &[Row]) -> usize {
-    let mut total: usize = 0;
-    for row in rows {
-        let low = number_of(crossing, row.low);
-        let high = number_of(crossing, row.high);
-        total = total.saturating_add(usize::from(high.saturating_sub(low)));
-    }
-    total
+    Ok(())
 }

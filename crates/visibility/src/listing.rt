@@ -6,7 +6,6 @@ ghost use Rattle.faces.specs.Planes.{darts, vertices};
 use crate::ends::find_ends;
 use crate::rows::Rows;
 use crate::scratch::Scratch;
-use crate::straight::StraightEdges;
 use faces::Plane;
 use ortho_rep::{Point, Points};
 use std::alloc::AllocError;
@@ -17,8 +16,10 @@ pub(crate) struct Bent {
     edge: u16,
     tail: u8,
     head: u8,
-    /// Whether the piece from its tail to its first corner runs along y.
-    upright: bool,
+    /// The point of its tail.
+    from: Point,
+    /// The point of its head.
+    to: Point,
 }
 
 /// Lists the rows of a drawing along both axes, with their ends.
@@ -30,64 +31,62 @@ pub(crate) fn list_rows(
     requires vertices { length points.now.vertices ≡ vertices plane.now }
     requires corners { 2 * length points.now.corners ≡ darts plane.now }
 {
-    let mut upright = StraightEdges::none();
-    let mut level = StraightEdges::none();
-    list_edges(plane, points, &mut upright, &mut level, &mut scratch.bent)?;
     scratch.x.begin(points.vertex_count())?;
     scratch.y.begin(points.vertex_count())?;
+    list_edges(
+        plane,
+        points,
+        &mut scratch.x,
+        &mut scratch.y,
+        &mut scratch.bent,
+    )?;
     for (place, point) in points.vertices().iter().enumerate() {
         let vertex = place.wrapping_add(1).min(255) as u8;
-        if !upright.is_led_to(vertex) {
-            follow(&upright, vertex, point.x, &mut scratch.x)?;
-        }
-        if !level.is_led_to(vertex) {
-            follow(&level, vertex, point.y, &mut scratch.y)?;
-        }
+        scratch.x.follow(vertex, point.x)?;
+        scratch.y.follow(vertex, point.y)?;
     }
     for bent in scratch.bent.as_slice() {
         let corners = corners_of(points, bent.edge);
         list_corners(corners, *bent, &mut scratch.x, &mut scratch.y)?;
     }
-    find_ends(&mut scratch.x, &scratch.y);
-    find_ends(&mut scratch.y, &scratch.x);
-    Ok(())
+    find_ends(&mut scratch.x, &mut scratch.y)?;
+    find_ends(&mut scratch.y, &mut scratch.x)
 }
 
 /// Joins the ends of all edges that have no corner, and lists those that have some.
 fn list_edges(
     plane: &Plane,
     points: &Points,
-    upright: &mut StraightEdges,
-    level: &mut StraightEdges,
+    x: &mut Rows,
+    y: &mut Rows,
     bent: &mut Vec<Bent>,
 ) -> Result<(), AllocError>
     requires vertices { length points.now.vertices ≡ vertices plane.now }
     requires corners { 2 * length points.now.corners ≡ darts plane.now }
 {
     let graph = plane.graph();
+    let edges = points.edge_count();
     bent.clear();
     let mut edge: u16 = 0;
     for dart in 0..graph.darts() {
         let reverse = graph.reverse(dart);
-        if dart < reverse && usize::from(edge) < points.edge_count() {
+        if dart < reverse && usize::from(edge) < edges {
             let tail = graph.head(reverse);
             let head = graph.head(dart);
             let from = points.vertex(tail);
-            match points.corners(edge).first() {
-                Some(corner) => bent.push(Bent {
+            let to = points.vertex(head);
+            if !points.corners(edge).is_empty() {
+                bent.push(Bent {
                     edge,
                     tail,
                     head,
-                    upright: from.x == corner.x,
-                })?,
-                None => {
-                    let to = points.vertex(head);
-                    if from.x == to.x {
-                        join(upright, tail, from.y, head, to.y);
-                    } else {
-                        join(level, tail, from.x, head, to.x);
-                    }
-                }
+                    from,
+                    to,
+                })?;
+            } else if from.x == to.x {
+                x.edges.join(tail, from.y, head, to.y);
+            } else {
+                y.edges.join(tail, from.x, head, to.x);
             }
             edge = edge.wrapping_add(1);
         }
@@ -95,61 +94,42 @@ fn list_edges(
     Ok(())
 }
 
-/// Adds the straight edge between two vertices with these coordinates.
-fn join(edges: &mut StraightEdges, tail: u8, from: u32, head: u8, to: u32) {
-    if from < to {
-        edges.join(tail, head);
-    } else {
-        edges.join(head, tail);
-    }
-}
-
-/// Adds a row that begins at a vertex, with all to which straight edges lead from there.
-fn follow(
-    edges: &StraightEdges,
-    first: u8,
-    number: u32,
-    rows: &mut Rows,
-) -> Result<(), AllocError> {
-    let row = rows.add(number)?;
-    let mut vertex = first;
-    for _ in 0..255 {
-        if vertex == 0 {
-            break;
-        }
-        if let Some(of) = rows.of.get_mut(usize::from(vertex).wrapping_sub(1)) {
-            *of = row;
-        }
-        vertex = edges.ahead(vertex);
-    }
-    Ok(())
-}
-
-/// Adds the corners of an edge to the rows on which they lie. Between two corners lies a row of its own.
+/// Adds the corners of an edge to the rows on which they lie, which end there. Between two corners lies a row of its own.
 fn list_corners(
     corners: &[Point],
     bent: Bent,
     x: &mut Rows,
     y: &mut Rows,
 ) -> Result<(), AllocError> {
-    let mut upright = bent.upright;
+    let mut from = bent.from;
+    let mut upright = corners.first().is_some_and(|corner| corner.x == from.x);
     let mut row = if upright {
         x.of_vertex(bent.tail)
     } else {
         y.of_vertex(bent.tail)
     };
-    for (place, corner) in corners.iter().enumerate() {
-        let end = if place + 1 == corners.len() {
+    let mut place = 0;
+    for (number, corner) in corners.iter().enumerate() {
+        place = x.of.len().min(usize::from(u16::MAX)) as u16;
+        let end = if number + 1 == corners.len() {
             Some(bent.head)
         } else {
             None
         };
         row = if upright {
+            x.reach(row, place, from.y < corner.y);
             turn(x, row, y, corner.y, end)?
         } else {
+            y.reach(row, place, from.x < corner.x);
             turn(y, row, x, corner.x, end)?
         };
         upright = !upright;
+        from = *corner;
+    }
+    if upright {
+        x.reach(row, place, bent.to.y < from.y);
+    } else {
+        y.reach(row, place, bent.to.x < from.x);
     }
     Ok(())
 }
@@ -163,9 +143,10 @@ fn turn(
     number: u32,
     end: Option<u8>,
 ) -> Result<u16, AllocError> {
+    let place = left.of.len().min(usize::from(u16::MAX)) as u16;
     let next = match end {
         Some(vertex) => entered.of_vertex(vertex),
-        None => entered.add(number)?,
+        None => entered.add(number, place, place)?,
     };
     left.of.push(row)?;
     entered.of.push(next)?;

@@ -16,8 +16,23 @@ impl StraightEdges {
         }
     }
 
-    /// Adds the edge between two vertices, of which the first has the lesser coordinate.
-    pub(crate) fn join(&mut self, low: u8, high: u8) {
+    /// Forgets all edges.
+    pub(crate) fn clear(&mut self) {
+        for entry in self.ahead.iter_mut() {
+            *entry = 0;
+        }
+        for entry in self.behind.iter_mut() {
+            *entry = 0;
+        }
+    }
+
+    /// Adds the straight edge between two vertices with these coordinates.
+    pub(crate) fn join(&mut self, tail: u8, from: u32, head: u8, to: u32) {
+        let (low, high) = if from < to {
+            (tail, head)
+        } else {
+            (head, tail)
+        };
         self.ahead[usize::from(low)] = high;
         self.behind[usize::from(high)] = low;
     }
