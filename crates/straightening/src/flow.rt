@@ -1,10 +1,14 @@
 //! A shape as a flow, whose units are moved.
 
-ghost use Rattle.std.specs.Prelude.{◌≡◌, ◌<◌, ◌≤◌, vec_len, IfOk};
-ghost use Rattle.faces.specs.Planes.{darts};
+ghost use Rattle.std.specs.Prelude.{◌≡◌, ◌<◌, ◌≤◌, ℕ, pos, ◌+ℤ◌, ◌-ℤ◌, vec_len, slice_index, IfOk, IsTrue};
+ghost use Rattle.faces.specs.Planes.{darts, head, reverse_dart, face_at};
 ghost use Rattle.ortho_rep.specs.declared.strings.TheConstants.{MAX_TURNS};
-ghost use Rattle.ortho_rep.specs.Representation.{HasDarts};
-ghost use Rattle.ortho_rep.specs.Prices.{HasPrices};
+ghost use Rattle.ortho_rep.specs.OfFlow.{lefts_then_rights};
+ghost use Rattle.ortho_rep.specs.Turns.{lefts};
+ghost use Rattle.ortho_rep.specs.Shapes.{angle_at, turns_at};
+ghost use Rattle.ortho_rep.specs.Representation.{Rep, HasDarts, IsShape, IsLeast};
+ghost use Rattle.ortho_rep.specs.Prices.{PricesModel, HasPrices, IsProof, vertex_price, face_price};
+ghost use Rattle.straightening.specs.Flows.{AreFit, angle_in, string_in};
 
 use embedding::MAX_DARTS;
 use faces::Plane;
@@ -12,7 +16,7 @@ use ortho_rep::{Prices, Shape, Turn, count_lefts};
 use std::alloc::{AllocError, Global};
 
 /// The angle of each dart, and how often it turns to the left: a corner carries its angle less one, and a unit across
-/// an edge is a left turn. Nothing is promised of what stands here once units were moved.
+/// an edge is a left turn. Once units were moved it may be no representation, but prices that proved it least fit it still.
 #[derive(Drop)]
 pub(crate) struct Flow {
     angles: [u8; MAX_DARTS],
@@ -31,6 +35,8 @@ impl Flow {
     /// Takes over a shape.
     pub(crate) fn load(&mut self, plane: &Plane, shape: &Shape)
         requires { HasDarts plane.now shape.now }
+        ensures angles { (d : ℕ) → d < darts plane.now → angle_in self.new.angles d ≡ angle_at shape.now d }
+        ensures lefts { (d : ℕ) → d < darts plane.now → slice_index self.new.lefts d ≤ lefts (turns_at shape.now d) }
     {
         for dart in 0..plane.graph().darts() {
             self.angles[usize::from(dart)] = shape.angle(dart);
@@ -41,33 +47,44 @@ impl Flow {
     /// The angle of a dart.
     pub(crate) fn angle(&self, plane: &Plane, dart: u16) -> u8
         requires { dart < darts plane.now }
+        ensures { result ≡ angle_in self.now.angles dart }
     {
         // Only the proof needs this: `graph` says that there are few darts.
         let _graph = plane.graph();
         self.angles[usize::from(dart)]
     }
 
-    /// Whether a dart turns to the right somewhere.
-    pub(crate) fn turns_right(&self, plane: &Plane, dart: u16) -> bool
+    /// How often a dart turns to the left.
+    pub(crate) fn left_turns(&self, plane: &Plane, dart: u16) -> u16
         requires { dart < darts plane.now }
+        ensures { result ≡ slice_index self.now.lefts dart }
     {
-        self.lefts[usize::from(plane.graph().reverse(dart))] > 0
+        // Only the proof needs this: `graph` says that there are few darts.
+        let _graph = plane.graph();
+        self.lefts[usize::from(dart)]
     }
 
-    /// Moves a unit from the corner of a dart to the corner of another one, or across the edge where that is its reverse.
-    pub(crate) fn send(&mut self, plane: &Plane, give: u16, take: u16)
+    /// Moves a unit from the corner of a dart to the corner of another one, or across the edge where that is its reverse,
+    /// if the prices stay a proof; else nothing is done.
+    pub(crate) fn send(&mut self, plane: &Plane, prices: &Prices, give: u16, take: u16)
+        requires prices { HasPrices plane.now prices.now }
         requires give { give < darts plane.now }
         requires take { take < darts plane.now }
+        requires fit { AreFit plane.now self.old.angles self.old.lefts prices.now }
+        ensures { AreFit plane.now self.new.angles self.new.lefts prices.now }
     {
         let across = plane.graph().reverse(give) == take;
-        let (give, take) = (usize::from(give), usize::from(take));
-        if !across {
-            self.angles[give] = self.angles[give].saturating_sub(1);
-            self.angles[take] = self.angles[take].saturating_add(1);
-        } else if self.lefts[take] > 0 {
-            self.lefts[take] -= 1;
-        } else {
-            self.lefts[give] = self.lefts[give].saturating_add(1);
+        let (from, to) = (usize::from(give), usize::from(take));
+        if across && self.lefts[to] > 0 {
+            self.lefts[to] -= 1;
+        } else if across && is_free_crossing(plane, prices, give) {
+            self.lefts[from] = self.lefts[from].saturating_add(1);
+        } else if !across
+            && is_free_corner(plane, prices, give)
+            && is_free_corner(plane, prices, take)
+        {
+            self.angles[from] = self.angles[from].saturating_sub(1);
+            self.angles[to] = self.angles[to].saturating_add(1);
         }
     }
 
@@ -76,14 +93,21 @@ impl Flow {
     /// # Errors
     ///
     /// `AllocError` where there is no memory for it.
-    pub(crate) fn shape(&self, alloc: Global, plane: &Plane) -> Result<Shape, AllocError> {
+    pub(crate) fn shape(&self, alloc: Global, plane: &Plane) -> Result<Shape, AllocError>
+        ensures shape { IfOk result (λ made. Rep plane.now (angle_in self.now.angles) (string_in plane.now self.now.lefts)
+            → IsShape plane.now made) }
+        ensures proof { IfOk result (λ made. (t : PricesModel) → HasPrices plane.now t
+            → AreFit plane.now self.now.angles self.now.lefts t → IsProof plane.now made t) }
+        ensures least { IfOk result (λ made. (t : PricesModel) → IsShape plane.now made
+            → IsProof plane.now made t → IsLeast plane.now made) }
+    {
         let graph = plane.graph();
         let darts = graph.darts();
-        let angles = self.angles[..usize::from(darts)].to_vec(alloc)?;
+        let angles = copy_of(alloc, &self.angles[..usize::from(darts)])?;
         let mut strings = Vec::with_capacity(alloc, usize::from(darts))?;
         for dart in 0..darts {
-            let lefts = self.lefts[usize::from(dart)];
-            let rights = self.lefts[usize::from(graph.reverse(dart))];
+            let lefts = self.left_turns(plane, dart);
+            let rights = self.left_turns(plane, graph.reverse(dart));
             strings.push(string(alloc, lefts, rights)?)?;
         }
         Ok(Shape::new(angles, strings))
@@ -102,28 +126,55 @@ pub(crate) fn clockwise(plane: &Plane, dart: u16) -> u16
 pub(crate) fn is_free_corner(plane: &Plane, prices: &Prices, dart: u16) -> bool
     requires prices { HasPrices plane.now prices.now }
     requires within { dart < darts plane.now }
+    ensures { IsTrue result → vertex_price prices.now (head plane.now dart) ≡ face_price prices.now (face_at plane.now dart) }
 {
     prices.vertex(plane.graph().head(dart)) == prices.face(plane.face_of(dart))
 }
 
 /// Whether a dart may turn to the left once more while the prices stay a proof.
-pub(crate) fn is_free_crossing(plane: &Plane, prices: &Prices, dart: u16) -> bool
+fn is_free_crossing(plane: &Plane, prices: &Prices, dart: u16) -> bool
     requires prices { HasPrices plane.now prices.now }
     requires within { dart < darts plane.now }
+    ensures { IsTrue result → (pos 1 +ℤ face_price prices.now (face_at plane.now dart)
+        -ℤ face_price prices.now (face_at plane.now (reverse_dart plane.now dart))) ≡ pos 0 }
 {
     let face = prices.face(plane.face_of(dart));
     let across = prices.face(plane.face_of(plane.graph().reverse(dart)));
-    i64::from(face) + 1 == i64::from(across)
+    is_tight(face, across)
+}
+
+/// Whether a bend costs just what a crossing between faces of these prices gains.
+fn is_tight(face: i32, across: i32) -> bool
+    ensures { IsTrue result → (pos 1 +ℤ face -ℤ across) ≡ pos 0 }
+{
+    slack(face, across) == 0
+}
+
+/// What a bend costs more than a crossing between faces of these prices gains.
+fn slack(face: i32, across: i32) -> i64
+    ensures { result ≡ (pos 1 +ℤ face -ℤ across) }
+{
+    1 + i64::from(face) - i64::from(across)
+}
+
+/// A copy of these angles.
+fn copy_of(alloc: Global, angles: &[u8]) -> Result<Vec<u8>, AllocError>
+    ensures { IfOk result (λ copy. copy.items ≡ angles.now) }
+{
+    angles.to_vec(alloc)
 }
 
 /// How many of these turns are left turns, or 65,535 where there are more.
-fn left_turns(turns: &[Turn]) -> u16 {
+fn left_turns(turns: &[Turn]) -> u16
+    ensures { result ≤ lefts turns.now }
+{
     count_lefts(turns).min(usize::from(u16::MAX)) as u16
 }
 
 /// So many left turns and then so many right turns.
 fn string(alloc: Global, lefts: u16, rights: u16) -> Result<Vec<Turn>, AllocError>
-    ensures { IfOk result (λ turns. vec_len turns ≤ MAX_TURNS) }
+    ensures short { IfOk result (λ turns. vec_len turns ≤ MAX_TURNS) }
+    ensures value { IfOk result (λ turns. turns.items ≡ lefts_then_rights lefts rights) }
 {
     let mut turns = Vec::new(alloc);
     let lefts = usize::from(lefts);

@@ -5,5 +5,6 @@
 mod flow;
 mod search;
 mod straighten;
+mod tally;
 
 pub use straighten::{Scratch, straighten_in};

@@ -4,8 +4,9 @@ ghost use Rattle.std.specs.Prelude.{◌≡◌, ◌<◌, ◌≤◌};
 ghost use Rattle.faces.specs.Planes.{darts};
 ghost use Rattle.faces.specs.declared.plane.TheConstants.{MAX_FACES};
 ghost use Rattle.ortho_rep.specs.Prices.{HasPrices};
+ghost use Rattle.straightening.specs.Flows.{AreFit};
 
-use crate::flow::{Flow, clockwise, is_free_corner, is_free_crossing};
+use crate::flow::{Flow, clockwise, is_free_corner};
 use faces::{MAX_FACES, Plane};
 use ortho_rep::Prices;
 
@@ -17,6 +18,14 @@ const NO_DART: u16 = 65_535;
 pub(crate) struct Way {
     pub(crate) from: u16,
     pub(crate) to: u16,
+}
+
+/// A step out of a face: the dart by which it leaves, where the way is to lead, and the price of the face.
+#[derive(Clone, Copy)]
+struct Step {
+    dart: u16,
+    goal: u16,
+    price: i32,
 }
 
 /// A breadth-first search over faces. A step leaves a face by one of its darts, and enters the next one by one of that
@@ -65,15 +74,7 @@ impl Search {
             if self.goals[end] == way.to || entered >= darts {
                 break;
             }
-            self.leave(
-                plane,
-                prices,
-                flow,
-                Way {
-                    from: entered,
-                    to: way.to,
-                },
-            );
+            self.leave(plane, prices, flow, entered, way.to);
         }
         self.goals[end] == way.to
     }
@@ -92,71 +93,77 @@ impl Search {
         self.found = 1;
     }
 
-    /// Takes each step out of the face of the first dart.
-    fn leave(&mut self, plane: &Plane, prices: &Prices, flow: &Flow, way: Way)
+    /// Takes each step out of the face of a dart.
+    fn leave(&mut self, plane: &Plane, prices: &Prices, flow: &Flow, first: u16, goal: u16)
         requires prices { HasPrices plane.now prices.now }
-        requires from { way.from < darts plane.now }
+        requires first { first < darts plane.now }
     {
-        let mut dart = way.from;
-        for _step in 0..plane.degree(plane.face_of(dart)) {
-            let leaving = Way {
-                from: dart,
-                to: way.to,
-            };
-            self.cross(plane, prices, flow, leaving);
-            self.turn(plane, prices, flow, leaving);
+        let face = plane.face_of(first);
+        let price = prices.face(face);
+        let mut dart = first;
+        for _step in 0..plane.degree(face) {
+            let step = Step { dart, goal, price };
+            self.cross(plane, prices, flow, step);
+            self.turn(plane, prices, flow, step);
             dart = plane.next(dart);
         }
     }
 
     /// Takes the step across the edge of a dart, where that is free.
-    fn cross(&mut self, plane: &Plane, prices: &Prices, flow: &Flow, way: Way)
+    fn cross(&mut self, plane: &Plane, prices: &Prices, flow: &Flow, step: Step)
         requires prices { HasPrices plane.now prices.now }
-        requires from { way.from < darts plane.now }
+        requires dart { step.dart < darts plane.now }
     {
-        let dart = way.from;
-        if flow.turns_right(plane, dart) || is_free_crossing(plane, prices, dart) {
-            self.reach(plane, way, plane.graph().reverse(dart));
+        let reverse = plane.graph().reverse(step.dart);
+        let across = prices.face(plane.face_of(reverse));
+        if flow.left_turns(plane, reverse) > 0 || i64::from(step.price) + 1 == i64::from(across) {
+            self.reach(plane, step, reverse);
         }
     }
 
     /// Takes each step from the corner of a dart to others at the same vertex, where that is free and no vertex of degree
     /// 2 begins to turn.
-    fn turn(&mut self, plane: &Plane, prices: &Prices, flow: &Flow, way: Way)
+    fn turn(&mut self, plane: &Plane, prices: &Prices, flow: &Flow, step: Step)
         requires prices { HasPrices plane.now prices.now }
-        requires from { way.from < darts plane.now }
+        requires dart { step.dart < darts plane.now }
     {
-        let dart = way.from;
         // An angle of 4 is that of a leaf, and one of 1 has nothing to give.
-        let angle = flow.angle(plane, dart);
-        if angle != 2 && angle != 3 || !is_free_corner(plane, prices, dart) {
+        let angle = flow.angle(plane, step.dart);
+        if angle != 2 && angle != 3 || prices.vertex(plane.graph().head(step.dart)) != step.price {
             return;
         }
-        let second = clockwise(plane, dart);
+        let second = clockwise(plane, step.dart);
         let third = clockwise(plane, second);
-        if angle == 2 && third == dart {
+        if angle == 2 && third == step.dart {
             return;
         }
-        for taking in [second, third] {
-            if taking != dart && is_free_corner(plane, prices, taking) {
-                self.reach(plane, way, taking);
-            }
+        self.turn_to(plane, prices, step, second);
+        self.turn_to(plane, prices, step, third);
+    }
+
+    /// Takes the step from the corner of its dart to this one, where that is another one and free.
+    fn turn_to(&mut self, plane: &Plane, prices: &Prices, step: Step, take: u16)
+        requires prices { HasPrices plane.now prices.now }
+        requires take { take < darts plane.now }
+    {
+        if take != step.dart && is_free_corner(plane, prices, take) {
+            self.reach(plane, step, take);
         }
     }
 
-    /// Enters the face of a dart by it, from the face of the first dart of a way, unless this search was there.
-    fn reach(&mut self, plane: &Plane, way: Way, take: u16)
+    /// Enters the face of a dart by it, by a step, unless this search was there.
+    fn reach(&mut self, plane: &Plane, step: Step, take: u16)
         requires { take < darts plane.now }
     {
         // Only the proof needs this: `graph` says that there are few faces.
         let _graph = plane.graph();
         let face = usize::from(plane.face_of(take));
         // Each face is entered once, so there is always room.
-        if self.goals[face] == way.to || self.found >= MAX_FACES {
+        if self.goals[face] == step.goal || self.found >= MAX_FACES {
             return;
         }
-        self.goals[face] = way.to;
-        self.gives[face] = way.from;
+        self.goals[face] = step.goal;
+        self.gives[face] = step.dart;
         self.takes[face] = take;
         self.queue[self.found] = take;
         self.found += 1;
@@ -166,8 +173,11 @@ impl Search {
     }
 
     /// Sends a unit along the way that was found last.
-    pub(crate) fn send(&self, plane: &Plane, flow: &mut Flow, way: Way)
-        requires { way.to < darts plane.now }
+    pub(crate) fn send(&self, plane: &Plane, prices: &Prices, flow: &mut Flow, way: Way)
+        requires prices { HasPrices plane.now prices.now }
+        requires to { way.to < darts plane.now }
+        requires fit { AreFit plane.now flow.old.angles flow.old.lefts prices.now }
+        ensures { AreFit plane.now flow.new.angles flow.new.lefts prices.now }
     {
         let darts = plane.graph().darts();
         let mut entered = way.to;
@@ -178,7 +188,7 @@ impl Search {
             if give >= darts || take >= darts {
                 return;
             }
-            flow.send(plane, give, take);
+            flow.send(plane, prices, give, take);
             entered = give;
         }
     }

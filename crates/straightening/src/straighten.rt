@@ -5,12 +5,14 @@ ghost use Rattle.faces.specs.Planes.{darts};
 ghost use Rattle.ortho_rep.specs.Shapes.{turns_at};
 ghost use Rattle.ortho_rep.specs.Representation.{HasDarts, IsShape, IsLeast, bends_of};
 ghost use Rattle.ortho_rep.specs.Prices.{HasPrices, IsProof};
+ghost use Rattle.straightening.specs.Flows.{AreFit};
 ghost use Rattle.straightening.specs.Wide.{wide_angles};
 
 use crate::flow::{Flow, clockwise, is_free_corner};
 use crate::search::{Search, Way};
+use crate::tally::is_rep;
 use faces::Plane;
-use ortho_rep::{Prices, Shape, certify, is_shape};
+use ortho_rep::{Prices, Shape};
 use std::alloc::{AllocError, Global};
 
 /// What straightening works in, to be lent to one shape after another. It has about 5 KB, and none of them on the heap.
@@ -40,9 +42,10 @@ const WIDE: u8 = 3;
 /// made straight one after another: a unit goes from the wide corner to the narrow one, and back from the face of
 /// the narrow one to that of the wide one, where there is a way of residual arcs whose reduced cost is 0 by the
 /// prices (a flow of least cost stays one along a cycle of such arcs, by complementary slackness). On that way no
-/// vertex of degree 2 begins to turn. What comes of these moves is handed out only where it has fewer wide angles and
-/// `is_shape` and `certify` accept it; else the given shape comes back: after one look at each angle where no vertex of
-/// degree 2 turns. How few turn in the end is measured and not proved.
+/// vertex of degree 2 begins to turn. Each unit is moved only where the prices
+/// stay a proof. What comes of these moves is handed out only where it has fewer wide angles and is tested to be a
+/// representation; else the given shape comes back: after one look at each angle where no vertex can be made straight so.
+/// How few turn in the end is measured and not proved.
 ///
 /// # Errors
 ///
@@ -63,29 +66,34 @@ pub fn straighten_in(
     ensures straighter { IfOk result (λ made. wide_angles made ≤ wide_angles shape) }
     ensures bends { IfOk result (λ made. bends_of (length made.strings) (turns_at made) ≡ bends_of (length shape.strings) (turns_at shape)) }
 {
-    let wide = count_wide(plane, &shape);
-    if wide == 0 {
+    let Some(first) = first_movable(plane, &shape, prices) else {
+        return Ok(shape);
+    };
+    let Scratch { flow, search } = scratch;
+    flow.load(plane, &shape);
+    search.clear(plane);
+    if !straighten_from(flow, search, plane, prices, first) || !is_rep(plane, flow) {
         return Ok(shape);
     }
-    scratch.flow.load(plane, &shape);
-    scratch.search.clear(plane);
-    if !straighten_all(scratch, plane, prices) {
-        return Ok(shape);
-    }
-    let made = scratch.flow.shape(alloc, plane)?;
-    if is_straighter(plane, &made, wide) && certify(plane, &made, prices) {
+    let made = flow.shape(alloc, plane)?;
+    if count_wide(plane, &made) < count_wide(plane, &shape) {
         Ok(made)
     } else {
         Ok(shape)
     }
 }
 
-/// Whether this is a shape of the plane with fewer wide angles than so many.
-fn is_straighter(plane: &Plane, made: &Shape, wide: u16) -> bool
-    ensures shape { IsTrue result → IsShape plane.now made.now }
-    ensures fewer { IsTrue result → wide_angles made.now < wide }
+/// The first dart whose head turns and may give a unit from its wide corner to its narrow one.
+fn first_movable(plane: &Plane, shape: &Shape, prices: &Prices) -> Option<u16>
+    requires darts { HasDarts plane.now shape.now }
+    requires prices { HasPrices plane.now prices.now }
 {
-    is_shape(plane, made) && count_wide(plane, made) < wide
+    for dart in 0..plane.graph().darts() {
+        if shape.angle(dart) == WIDE && is_movable(plane, prices, dart) {
+            return Some(dart);
+        }
+    }
+    None
 }
 
 /// How many angles of three right angles a shape has.
@@ -102,29 +110,42 @@ fn count_wide(plane: &Plane, shape: &Shape) -> u16
     count
 }
 
-/// Makes each vertex of degree 2 straight where it can, and answers whether it did anywhere.
-fn straighten_all(scratch: &mut Scratch, plane: &Plane, prices: &Prices) -> bool
-    requires { HasPrices plane.now prices.now }
+/// Makes each vertex of degree 2 straight where it can, from the head of a dart on, and answers whether it did anywhere.
+fn straighten_from(
+    flow: &mut Flow,
+    search: &mut Search,
+    plane: &Plane,
+    prices: &Prices,
+    first: u16,
+) -> bool
+    requires prices { HasPrices plane.now prices.now }
+    requires fit { AreFit plane.now flow.old.angles flow.old.lefts prices.now }
+    ensures { AreFit plane.now flow.new.angles flow.new.lefts prices.now }
 {
     let mut moved = false;
-    for dart in 0..plane.graph().darts() {
-        if scratch.flow.angle(plane, dart) == WIDE && straighten_one(scratch, plane, prices, dart) {
-            moved = true;
-        }
+    for dart in first..plane.graph().darts() {
+        moved |= straighten_one(flow, search, plane, prices, dart);
     }
     moved
 }
 
-/// Makes the head of a dart with a wide angle straight, if it can, and answers whether it did.
-fn straighten_one(scratch: &mut Scratch, plane: &Plane, prices: &Prices, wide: u16) -> bool
+/// Makes the head of a dart straight where its angle is wide and it can, and answers whether it did.
+fn straighten_one(
+    flow: &mut Flow,
+    search: &mut Search,
+    plane: &Plane,
+    prices: &Prices,
+    wide: u16,
+) -> bool
     requires prices { HasPrices plane.now prices.now }
     requires within { wide < darts plane.now }
+    requires fit { AreFit plane.now flow.old.angles flow.old.lefts prices.now }
+    ensures { AreFit plane.now flow.new.angles flow.new.lefts prices.now }
 {
-    let Scratch { flow, search } = scratch;
-    let narrow = clockwise(plane, wide);
-    if !is_free_corner(plane, prices, wide) || !is_free_corner(plane, prices, narrow) {
+    if flow.angle(plane, wide) != WIDE || !is_movable(plane, prices, wide) {
         return false;
     }
+    let narrow = clockwise(plane, wide);
     if plane.face_of(wide) != plane.face_of(narrow) {
         let back = Way {
             from: narrow,
@@ -133,8 +154,16 @@ fn straighten_one(scratch: &mut Scratch, plane: &Plane, prices: &Prices, wide: u
         if !search.finds(plane, prices, flow, back) {
             return false;
         }
-        search.send(plane, flow, back);
+        search.send(plane, prices, flow, back);
     }
-    flow.send(plane, wide, narrow);
+    flow.send(plane, prices, wide, narrow);
     true
+}
+
+/// Whether a unit may go from the wide corner of a vertex of degree 2 to its narrow one while the prices stay a proof.
+fn is_movable(plane: &Plane, prices: &Prices, wide: u16) -> bool
+    requires prices { HasPrices plane.now prices.now }
+    requires within { wide < darts plane.now }
+{
+    is_free_corner(plane, prices, wide) && is_free_corner(plane, prices, clockwise(plane, wide))
 }

@@ -1,6 +1,10 @@
 use Rattle.std.proofs.Common.{◌<◌}
 use Rattle.faces.specs.Planes.{darts}
+use Rattle.straightening.specs.Flows.{AreFit}
 use Rattle.straightening.proofs.search.Search.send.Given as goal
 
 abbrev pub invariant-loop-step : goal.invariant-loop-step
-invariant-loop-step l = l.entered < darts l.plane
+invariant-loop-step l = record {
+  within : l.entered < darts l.plane;
+  fit : AreFit l.plane l.flow.angles l.flow.lefts l.prices;
+}

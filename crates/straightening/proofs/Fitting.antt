@@ -1,0 +1,66 @@
+-- Prices that fit a flow fit it still where angles changed at corners that are free, and left turns at crossings that are.
+use Rattle.std.proofs.Common.{◌≡◌, ◌≤◌, ◌<◌, ℕ, List, length, inl, inr, ap, sym, arith}
+use Rattle.std.specs.Prelude.{ℤ, pos, ◌+ℤ◌, ◌-ℤ◌, ◌⊎◌, slice_index, slice_set}
+use Rattle.std.proofs.lemmas.Bool.{cases_eq}
+use Rattle.std.proofs.lemmas.Int.{ints}
+use Rattle.std.proofs.lemmas.List.{get_or-set_same, get_or-set_other}
+use Rattle.faces.specs.Planes.{PlaneModel, darts, head, reverse_dart, face_at}
+use Rattle.ortho_rep.specs.declared.turn.Turn.{Turn}
+use Rattle.ortho_rep.specs.Turns.{lefts}
+use Rattle.ortho_rep.specs.Shapes.{ShapeModel, angle_at, turns_at}
+use Rattle.ortho_rep.specs.Prices.{PricesModel, IsPriced, Prove, vertex_price, face_price}
+use Rattle.ortho_rep.proofs.FromFlow.{lefts-of-run}
+use Rattle.straightening.specs.Flows.{AreFit, string_in}
+
+-- of one dart
+priced : (a a' : ℕ) (s s' : List Turn) (v f g : ℤ) → (a' ≡ a) ⊎ (v ≡ f) → (lefts s' ≤ lefts s) ⊎ ((pos 1 +ℤ f -ℤ g) ≡ pos 0) → IsPriced a s v f g → IsPriced a' s' v f g
+priced a a' s s' v f g angle turns old = record {
+  wider = λ h. elim angle [ inl e ↦ old.wider (omega (arith, e, h)) | inr e ↦ omega (arith, ints, e) ];
+  narrower = λ h. elim angle [ inl e ↦ old.narrower (omega (arith, e, h)) | inr e ↦ omega (arith, ints, e) ];
+  crossed = old.crossed;
+  tight = λ h. elim turns [ inl e ↦ old.tight (omega (arith, e, h)) | inr e ↦ e ];
+}
+
+abbrev pub IsFreeCorner : PlaneModel → PricesModel → ℕ → Type 0
+IsFreeCorner p t d = vertex_price t (head p d) ≡ face_price t (face_at p d)
+
+abbrev pub IsFreeCrossing : PlaneModel → PricesModel → ℕ → Type 0
+IsFreeCrossing p t d = (pos 1 +ℤ face_price t (face_at p d) -ℤ face_price t (face_at p (reverse_dart p d))) ≡ pos 0
+
+pub moved : (p : PlaneModel) (a a' l l' : List ℕ) (t : PricesModel)
+    → ((d : ℕ) → d < darts p → (slice_index a' d ≡ slice_index a d) ⊎ IsFreeCorner p t d)
+    → ((d : ℕ) → d < darts p → (slice_index l' d ≤ slice_index l d) ⊎ IsFreeCrossing p t d)
+    → AreFit p a l t → AreFit p a' l' t
+moved p a a' l l' t angles turns fit = λ d b.
+    priced (slice_index a d) (slice_index a' d) (string_in p l d) (string_in p l' d) (vertex_price t (head p d)) (face_price t (face_at p d)) (face_price t (face_at p (reverse_dart p d)))
+    (angles d b)
+    (elim (turns d b) [
+      | inl e ↦ inl (omega (arith, e, lefts-of-run (slice_index l d) (slice_index l (reverse_dart p d)), lefts-of-run (slice_index l' d) (slice_index l' (reverse_dart p d))))
+      | inr e ↦ inr e
+    ])
+    (fit d b)
+
+-- an entry that is written, and all others
+pub set-other : (l : List ℕ) (k x d : ℕ) → (slice_index (slice_set l k x) d ≡ slice_index l d) ⊎ (d ≡ k)
+set-other l k x d = elim (cases_eq d k) [ inl e ↦ inr e | inr ne ↦ inl (get_or-set_other l k d x 0 ne) ]
+
+pub set-lower : (l : List ℕ) (k x d : ℕ) → k < length l → x ≤ slice_index l k → slice_index (slice_set l k x) d ≤ slice_index l d
+set-lower l k x d within less =
+    elim (cases_eq d k) [
+      | inl e ↦ omega (arith, ap (λ (z : ℕ). slice_index (slice_set l k x) z) e, ap (λ (z : ℕ). slice_index l z) e, get_or-set_same l k x 0 within)
+      | inr ne ↦ omega (arith, get_or-set_other l k d x 0 ne)
+    ]
+
+pub tight-alike : (f g f' g' : ℤ) → f ≡ f' → g ≡ g' → (pos 1 +ℤ f -ℤ g) ≡ pos 0 → (pos 1 +ℤ f' -ℤ g') ≡ pos 0
+tight-alike f g f' g' ef eg h = rw (sym ef, sym eg) h
+
+-- of a shape that a flow is
+pub loaded : (p : PlaneModel) (shape : ShapeModel) (a l : List ℕ) (t : PricesModel)
+    → ((d : ℕ) → d < darts p → slice_index a d ≡ angle_at shape d)
+    → ((d : ℕ) → d < darts p → slice_index l d ≤ lefts (turns_at shape d))
+    → Prove p (angle_at shape) (turns_at shape) (vertex_price t) (face_price t) → AreFit p a l t
+loaded p shape a l t angles turns fit = λ d b.
+    priced (angle_at shape d) (slice_index a d) (turns_at shape d) (string_in p l d) (vertex_price t (head p d)) (face_price t (face_at p d)) (face_price t (face_at p (reverse_dart p d)))
+    (inl (angles d b))
+    (inl (omega (arith, turns d b, lefts-of-run (slice_index l d) (slice_index l (reverse_dart p d)))))
+    (fit d b)

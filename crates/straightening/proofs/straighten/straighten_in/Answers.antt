@@ -1,0 +1,4 @@
+use Rattle.straightening.proofs.straighten.straighten_in.Goals as goal
+
+pub returns-then-count_wide-clause-proof : goal.returns-then-count_wide-clause-proof
+returns-then-count_wide-clause-proof c = c.in_ok-made.ensures.proof c.args.prices.now c.requires.proof.prices c.straighten_from.ensures

@@ -1,0 +1,111 @@
+//! Whether a flow is an orthogonal representation.
+
+ghost use Rattle.std.specs.Prelude.{◌≡◌, ◌≤◌, ◌<◌, ℕ, IsTrue, length, replicate, slice_index, pos, negsuc, ◌-ℤ◌, if◌then◌else◌};
+ghost use Rattle.faces.specs.Planes.{darts, vertices};
+ghost use Rattle.faces.specs.declared.plane.TheConstants.{MAX_FACES};
+ghost use Rattle.ortho_rep.specs.Representation.{Rep, angles_around, turning_around, whole_turn};
+ghost use Rattle.straightening.specs.Flows.{angle_in, string_in};
+
+use crate::flow::Flow;
+use faces::{MAX_FACES, Plane};
+
+/// Whether a flow is a representation of the plane with its outer face.
+///
+/// The cost is a step for each dart, each vertex and each face. Strings are not looked at: those of a flow mirror each
+/// other.
+pub(crate) fn is_rep(plane: &Plane, flow: &Flow) -> bool
+    ensures { IsTrue result → Rep plane.now (angle_in flow.now.angles) (string_in plane.now flow.now.lefts) }
+{
+    // Only the proof needs this: `graph` says where darts end.
+    let _graph = plane.graph();
+    closes_vertices(plane, flow) && turns_faces(plane, flow)
+}
+
+/// Whether all angles are 1 to 4, and those round each vertex sum to 4.
+fn closes_vertices(plane: &Plane, flow: &Flow) -> bool
+    ensures angles { IsTrue result → (d : ℕ) → d < darts plane.now
+        → (1 ≤ angle_in flow.now.angles d) × (angle_in flow.now.angles d ≤ 4) }
+    ensures around { IsTrue result → (v : ℕ) → 1 ≤ v → v ≤ vertices plane.now
+        → angles_around plane.now (angle_in flow.now.angles) v ≡ 4 }
+{
+    let vertices = plane.graph().vertices();
+    let mut sums = [0; 256];
+    if !add_angles(plane, flow, &mut sums) {
+        return false;
+    }
+    for place in 0..vertices {
+        if sums[usize::from(place) + 1] != 4 {
+            return false;
+        }
+    }
+    true
+}
+
+/// Sums the angles that arrive at each vertex, and answers whether all are 1 to 4.
+fn add_angles(plane: &Plane, flow: &Flow, sums: &mut [u32]) -> bool
+    requires room { vertices plane.now < length sums.old }
+    requires clear { sums.old ≡ replicate (length sums.old) 0 }
+    ensures angles { IsTrue result → (d : ℕ) → d < darts plane.now
+        → (1 ≤ angle_in flow.now.angles d) × (angle_in flow.now.angles d ≤ 4) }
+    ensures sums { IsTrue result → (v : ℕ) → v ≤ vertices plane.now
+        → slice_index sums.new v ≡ angles_around plane.now (angle_in flow.now.angles) v }
+{
+    let graph = plane.graph();
+    for dart in 0..graph.darts() {
+        let angle = flow.angle(plane, dart);
+        if angle < 1 || angle > 4 {
+            return false;
+        }
+        sums[usize::from(graph.head(dart))] += u32::from(angle);
+    }
+    true
+}
+
+/// Whether the darts of each inner face turn once to the left, and those of the outer face to the right.
+fn turns_faces(plane: &Plane, flow: &Flow) -> bool
+    ensures { IsTrue result → (f : ℕ) → f < plane.now.faces
+        → turning_around plane.now (angle_in flow.now.angles) (string_in plane.now flow.now.lefts) f
+        ≡ whole_turn plane.now f }
+{
+    let faces = plane.face_count();
+    let mut gains = [0; MAX_FACES];
+    let mut losses = [0; MAX_FACES];
+    add_turns(plane, flow, &mut gains, &mut losses);
+    for face in 0..faces {
+        let place = usize::from(face);
+        if !turns_once(gains[place], losses[place], face == plane.outer()) {
+            return false;
+        }
+    }
+    true
+}
+
+/// Whether so many turns to the left, and so many to the right, are one turn round a face.
+fn turns_once(gain: u32, loss: u32, is_outer: bool) -> bool
+    ensures { IsTrue result → (pos gain -ℤ pos loss) ≡ (if is_outer then negsuc 3 else pos 4) }
+{
+    if is_outer {
+        loss >= 4 && loss - 4 == gain
+    } else {
+        gain >= 4 && gain - 4 == loss
+    }
+}
+
+/// Sums round each face what its darts turn to the left, and what they turn to the right.
+fn add_turns(plane: &Plane, flow: &Flow, gains: &mut [u32], losses: &mut [u32])
+    requires gain_room { plane.now.faces ≤ length gains.old }
+    requires loss_room { plane.now.faces ≤ length losses.old }
+    requires clear_gains { gains.old ≡ replicate (length gains.old) 0 }
+    requires clear_losses { losses.old ≡ replicate (length losses.old) 0 }
+    ensures { (f : ℕ) → f < plane.now.faces
+        → turning_around plane.now (angle_in flow.now.angles) (string_in plane.now flow.now.lefts) f
+        ≡ (pos (slice_index gains.new f) -ℤ pos (slice_index losses.new f)) }
+{
+    for dart in 0..plane.graph().darts() {
+        let face = usize::from(plane.face_of(dart));
+        let lefts = flow.left_turns(plane, dart);
+        let rights = flow.left_turns(plane, plane.graph().reverse(dart));
+        gains[face] += 2 + u32::from(lefts);
+        losses[face] += u32::from(flow.angle(plane, dart)) + u32::from(rights);
+    }
+}
