@@ -14,6 +14,7 @@ records_first (bytes ∷ records) mark count = lit≤ tt
 pub no_report : (text : List ℕ) → 65 ≤ first text → first text ≤ 90 → IsNoReport text
 no_report [] low high = absurd (let none : ⊥ = omega (arith, low) in none)
 no_report (byte ∷ text) low high = record {
+  capital = (low, high);
   no_books = λ form books rest same.
       let at : first (text_in form books) ≡ byte = ap first same in
       elim (books_first form books) [

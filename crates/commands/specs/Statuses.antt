@@ -1,5 +1,5 @@
 -- What the program's exit status says.
-use Rattle.std.specs.Prelude.{◌≡◌, ◌≢◌, ◌↔◌, ◌⊎◌, ℕ, Bool, true, false, List, ◌++◌, Option, Some, All, codes, vec_len}
+use Rattle.std.specs.Prelude.{◌≡◌, ◌≢◌, ◌≤◌, ◌↔◌, ◌⊎◌, ℕ, Bool, true, false, List, ◌++◌, Option, Some, All, codes, slice_index, vec_len}
 use Rattle.std.specs.Io.KnownBytes.{Appends}
 use Rattle.planar_code.specs.declared.ending.Ending.{Ending}
 use Rattle.streams.specs.declared.frames.Mark.{Mark}
@@ -23,8 +23,10 @@ use Rattle.commands.specs.declared.request.Request.TheVariants.{Frames, Layout}
 abbrev pub version_text : List ℕ
 version_text = codes "planarbend 0.3.0\nproved with rattle-kit-13f logic dac8208d650f15bf\n"
 
--- the text is no beginning of a report: neither of the text of some books, in any form, nor of the lines of some records
+-- The text begins with a capital letter, and is no beginning of a report: neither of the text of some books, in any form, nor
+-- of the lines of some records. (Books have right entries alone, so what only looks like a report is told by its first byte.)
 pub record IsNoReport (text : List ℕ) : Type 0 where
+  pub capital : (65 ≤ slice_index text 0) × (slice_index text 0 ≤ 90)
   pub no_books : (form : Form) (books : List BookModel) (rest : List ℕ) → text_in form books ≡ text ++ rest → ⊥
   pub no_records : (found : FramesModel) (rest : List ℕ) → frames_text found ≡ text ++ rest → ⊥
 

@@ -1,6 +1,9 @@
 //! A whole run of the program.
-ghost use Rattle.std.specs.Prelude.{◌≡◌, ◌≤◌, true, false};
+ghost use Rattle.std.specs.Prelude.{◌≡◌, ◌≤◌, ◌⊎◌, ℕ, List, true, false};
+ghost use Rattle.std.specs.Io.KnownBytes.{Appends};
 ghost use Rattle.std.specs.Process.{exit_status};
+ghost use Rattle.drawn_reports.specs.Telling.{AddsNoneUndrawn};
+ghost use Rattle.commands.specs.Statuses.{IsNoReport};
 
 use crate::program::command;
 use lanes::Opener;
@@ -29,15 +32,18 @@ where
     ensures known { exit_status result ≤ 3 }
     ensures failed_write { S.failed out.new ≡ true → exit_status result ≡ 1 }
     ensures refused { exit_status result ≡ 2 → out.new ≡ out.old }
+
+    // What is written tells of no graph without a drawing, or it is help, which begins with a capital letter, and as no report does.
+    ensures drawn { AddsNoneUndrawn (S.taken out.old) (S.taken out.new)
+        ⊎ ((text : List ℕ) × IsNoReport text × Appends (S.taken out.old) (S.taken out.new) text) }
 {
-    let status = match arguments(rt) {
-        Ok(words) => command(rt, words.as_slice(), input, console, out, err),
+    match arguments(rt) {
+        Ok(words) => ExitCode::from(command(rt, words.as_slice(), input, console, out, err)),
         Err(fault) => {
             write_fault(fault, err);
-            fault.status()
+            ExitCode::from(fault.status())
         }
-    };
-    ExitCode::from(status)
+    }
 }
 
 /// The words after the program's name.

@@ -67,8 +67,8 @@ where
     ensures version { asks_in Wish.Version words.now ≡ true
         → IsPrinted version_text (S.taken out.old) (S.taken out.new) (S.failed out.new) result }
 
-    // With status 0 and 3 there is the version, or help, which no report begins like, or the report of all files that
-    // the words name, as they ask for it. The file named `-` has what standard input tells.
+    // With status 0 and 3 there is the version, or help, which begins with a capital letter and as no report does, or the
+    // report of all files that the words name, as they ask for it. The file named `-` has what standard input tells.
     ensures done { (result ≡ 0) ⊎ (result ≡ 3)
         → ((result ≡ 0) × (asks_in Wish.Version words.now ≡ true))
         ⊎ ((result ≡ 0) × (asks_in Wish.Help words.now ≡ true)
@@ -84,7 +84,7 @@ where
         × IsBegunToBeDone (I.meaning input.now 0) request (S.taken out.old) (S.taken out.new)) }
 
     // Whatever the status, what is written tells of no graph without a drawing, as the line `drawn=no` of a report would. Of help,
-    // where that is asked for, it is known that no report begins like it.
+    // where that is asked for, it is known that it begins with a capital letter, and as no report does.
     ensures drawn { AddsNoneUndrawn (S.taken out.old) (S.taken out.new)
         ⊎ ((asks_in Wish.Help words.now ≡ true)
         × ((text : List ℕ) × IsNoReport text × Appends (S.taken out.old) (S.taken out.new) text)) }

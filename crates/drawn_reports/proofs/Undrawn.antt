@@ -1,5 +1,5 @@
--- Texts of books tell of each graph that has no drawing.
-use Rattle.std.proofs.Common.{◌≡◌, ◌≢◌, ℕ, zero, suc, ◌/◌, ◌+◌, ◌<◌, Bool, true, false, List, [], ◌∷◌, ◌++◌, length, All, get_or, codes, decimal, Err, refl, sym, ap, subst, ◌∙◌, arith, append_assoc}
+-- Texts tell of a graph that has no drawing.
+use Rattle.std.proofs.Common.{◌≡◌, ℕ, ◌/◌, Bool, true, false, List, [], ◌∷◌, ◌++◌, length, codes, Err, refl, sym, ap, subst, ◌∙◌, append_assoc}
 use Rattle.json.specs.Print.{quoted, escape_byte}
 use Rattle.serde_json.specs.Data.{Data, Members, member, string}
 use Rattle.serde_json.specs.Written.{compact_text, members_text, comma_if}
@@ -11,16 +11,10 @@ use Rattle.entries.specs.declared.cause.Cause.{Cause}
 use Rattle.entries.specs.CauseWords as causes
 use Rattle.entries.specs.declared.answer.Answer.{Answer}
 use Rattle.entries.specs.declared.answer.Answer.TheVariants.{Laid}
-use Rattle.entries.specs.declared.entry.Entry.{Entry}
-use Rattle.books.specs.Books.{BookModel}
 use Rattle.json_lines.specs.LineData.{natural, array_of, members_of, turns_data, prices_data, points_data, drawn_data, answer_data, line_of}
-use Rattle.reports.specs.declared.form.Form.{Form}
-use Rattle.reports.specs.declared.form.Form.TheVariants.{Report, Json}
-use Rattle.reports.specs.Report.{numbered_texts, sizes_text, answer_text, entry_line, end_line, file_line, book_text}
-use Rattle.reports.specs.Json.{entry_json, end_json, book_json}
-use Rattle.reports.specs.Forms.{text_in}
+use Rattle.reports.specs.Report.{sizes_text, answer_text}
 use Rattle.drawn_reports.specs.Telling.{TellsNoneUndrawn}
-use Rattle.drawn_reports.specs.DrawnBooks.{HasNoCause}
+use Rattle.drawn_reports.specs.DrawnBooks.{IsUndrawn}
 
 -- the word stands somewhere in the text
 record HasWord (word text : List ℕ) : Type 0 where
@@ -54,13 +48,6 @@ in_answer : (plane : PlaneModel) (shape : ShapeModel) (prices : PricesModel) (ca
 in_answer plane shape prices cause =
     word_behind in_report (codes " ok" ++ sizes_text plane shape) (codes " drawn=no cause=" ++ causes.word_of cause)
     (word_before in_report (codes " drawn=no cause=") (causes.word_of cause) (record { front = codes " "; back = codes " cause="; parts = refl }))
-
-in_line : (number : ℕ) (entry : Entry) (plane : PlaneModel) (shape : ShapeModel) (prices : PricesModel) (cause : Cause) → entry.answer ≡ Laid plane shape prices (Err cause)
-    → HasWord in_report (entry_line number entry)
-in_line number entry plane shape prices cause is =
-    word_before in_report (codes "graph " ++ decimal number ++ answer_text entry.answer) (codes "\n")
-    (word_behind in_report (codes "graph " ++ decimal number) (answer_text entry.answer)
-    (subst (λ (a : Answer). HasWord in_report (answer_text a)) (sym is) (in_answer plane shape prices cause)))
 
 -- ---- a line of JSON
 
@@ -102,35 +89,21 @@ in_object file graph plane shape prices cause =
     word_behind in_json (123 ∷ []) (members_text false (members_of ((codes "angles", array_of natural shape.angles) ∷ (before ++ points))))
     (in_later false (codes "angles") (array_of natural shape.angles) (members_of (before ++ points)) (in_behind before points there))
 
-in_json_line : (file graph : ℕ) (entry : Entry) (plane : PlaneModel) (shape : ShapeModel) (prices : PricesModel) (cause : Cause) → entry.answer ≡ Laid plane shape prices (Err cause)
-    → HasWord in_json (entry_json file graph entry)
-in_json_line file graph entry plane shape prices cause is =
-    word_before in_json (compact_text (answer_data file graph entry.answer)) (codes "\n")
-    (subst (λ (a : Answer). HasWord in_json (compact_text (answer_data file graph a))) (sym is) (in_object file graph plane shape prices cause))
-
 -- ---- texts
 
-in_one : {A : Type 0} (word : List ℕ) (text : ℕ → A → List ℕ) (number : ℕ) (xs : List A) (k : ℕ) (d : A) → k < length xs
-    → ((n : ℕ) → HasWord word (text n (get_or xs k d))) → HasWord word (numbered_texts text number xs)
-in_one word text number [] k d inside has = absurd (let none : ⊥ = omega (arith, inside) in none)
-in_one word text number (x ∷ xs) zero d inside has = word_before word (text number x) (numbered_texts text (number + 1) xs) (has number)
-in_one word text number (x ∷ xs) (suc k) d inside has =
-    word_behind word (text number x) (numbered_texts text (number + 1) xs) (in_one word text (number + 1) xs k d (omega (arith, inside)) has)
+-- the word stands in a text where it stands in a part
+inside : (word before text behind : List ℕ) → HasWord word text → HasWord word (before ++ text ++ behind)
+inside word before text behind has = word_before word (before ++ text) behind (word_behind word before text has)
 
-in_book : (number : ℕ) (book : BookModel) → HasWord in_report (numbered_texts entry_line 1 book.entries) → HasWord in_report (book_text number book)
-in_book number book has =
-    word_before in_report (file_line number ++ numbered_texts entry_line 1 book.entries) (end_line book.mark (length book.entries))
-    (word_behind in_report (file_line number) (numbered_texts entry_line 1 book.entries) has)
-
-in_json_book : (file : ℕ) (book : BookModel) → HasWord in_json (numbered_texts (entry_json file) 1 book.entries) → HasWord in_json (book_json file book)
-in_json_book file book has = word_before in_json (numbered_texts (entry_json file) 1 book.entries) (end_json file book.mark (length book.entries)) has
-
-pub none_undrawn : (form : Form) (books : List BookModel) → TellsNoneUndrawn (text_in form books) → All (λ book. All HasNoCause book.entries) books
-none_undrawn Report books tells k book inside j entry within plane shape prices cause is =
-    let has = in_one in_report book_text 1 books k book inside (λ n. in_book n (get_or books k book)
-    (in_one in_report entry_line 1 (get_or books k book).entries j entry within (λ m. in_line m (get_or (get_or books k book).entries j entry) plane shape prices cause is))) in
+pub told_by_report : (answer : Answer) (before behind : List ℕ) → IsUndrawn answer → TellsNoneUndrawn (before ++ answer_text answer ++ behind) → ⊥
+told_by_report answer before behind undrawn tells =
+    let has = inside in_report before (answer_text answer) behind
+    (subst (λ (a : Answer). HasWord in_report (answer_text a)) (sym undrawn.4) (in_answer undrawn.0 undrawn.1 undrawn.2 undrawn.3)) in
     tells.report has.front has.back has.parts
-none_undrawn Json books tells k book inside j entry within plane shape prices cause is =
-    let has = in_one in_json book_json 1 books k book inside (λ n. in_json_book n (get_or books k book)
-    (in_one in_json (entry_json n) 1 (get_or books k book).entries j entry within (λ m. in_json_line n m (get_or (get_or books k book).entries j entry) plane shape prices cause is))) in
+
+pub told_by_json : (answer : Answer) (file graph : ℕ) (before behind : List ℕ) → IsUndrawn answer → TellsNoneUndrawn (before ++ line_of (answer_data file graph answer) ++ behind) → ⊥
+told_by_json answer file graph before behind undrawn tells =
+    let has = inside in_json before (line_of (answer_data file graph answer)) behind
+    (word_before in_json (compact_text (answer_data file graph answer)) (codes "\n")
+    (subst (λ (a : Answer). HasWord in_json (compact_text (answer_data file graph a))) (sym undrawn.4) (in_object file graph undrawn.0 undrawn.1 undrawn.2 undrawn.3))) in
     tells.json has.front has.back has.parts

@@ -1,11 +1,11 @@
 -- Books of graphs that are drawn.
-use Rattle.std.specs.Prelude.{◌≢◌, List, All, Err}
+use Rattle.std.specs.Prelude.{◌≡◌, List, All, Err}
 use Rattle.faces.specs.Planes.{PlaneModel}
 use Rattle.ortho_rep.specs.Shapes.{ShapeModel}
 use Rattle.ortho_rep.specs.Prices.{PricesModel}
 use Rattle.entries.specs.declared.cause.Cause.{Cause}
+use Rattle.entries.specs.declared.answer.Answer.{Answer}
 use Rattle.entries.specs.declared.answer.Answer.TheVariants.{Laid}
-use Rattle.entries.specs.declared.entry.Entry.{Entry}
 use Rattle.books.specs.Books.{BookModel}
 use Rattle.drawn_laws.specs.Drawings.{IsDrawnIfLaid}
 
@@ -17,6 +17,6 @@ IsDrawnBook book = All (λ entry. ∥ IsDrawnIfLaid entry.answer ∥₁) book.en
 abbrev pub AreDrawnBooks : List BookModel → Type 0
 AreDrawnBooks books = All IsDrawnBook books
 
--- the entry has no cause in place of a drawing
-abbrev pub HasNoCause : Entry → Type 0
-HasNoCause entry = (plane : PlaneModel) (shape : ShapeModel) (prices : PricesModel) (cause : Cause) → entry.answer ≢ Laid plane shape prices (Err cause)
+-- the answer has a shape, and a cause in place of a drawing (which no entry has: so this is said of answers)
+abbrev pub IsUndrawn : Answer → Type 0
+IsUndrawn answer = (plane : PlaneModel) × (shape : ShapeModel) × (prices : PricesModel) × (cause : Cause) × (answer ≡ Laid plane shape prices (Err cause))

@@ -10,7 +10,7 @@ pub record TellsNoneUndrawn (text : List ℕ) : Type 0 where
   pub report : IsNowhere (codes "drawn=no") text
   pub json : IsNowhere (codes "\"points\":null") text
 
--- nor does what was added to known bytes, with which they still begin
+-- nor does what was added to known bytes, where these are still the first
 abbrev pub AddsNoneUndrawn : Option (List ℕ) → Option (List ℕ) → Type 0
 AddsNoneUndrawn None now = ⊤
 AddsNoneUndrawn (Some start) None = ⊥

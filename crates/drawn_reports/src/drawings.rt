@@ -1,14 +1,17 @@
 //! Graphs without a drawing, of which there are none.
 
-ghost use Rattle.std.specs.Prelude.{ℕ, List, All};
+ghost use Rattle.std.specs.Prelude.{ℕ, List, ◌++◌};
 ghost use Rattle.choices.specs.declared.Choice.{Choice};
 ghost use Rattle.lanes.specs.Opening.{Meaning};
+ghost use Rattle.entries.specs.declared.answer.Answer.{Answer};
 ghost use Rattle.books.specs.Books.{BookModel};
 ghost use Rattle.books.specs.AllBooks.{AreAllBooks};
 ghost use Rattle.reports.specs.declared.form.Form.{Form};
+ghost use Rattle.json_lines.specs.LineData.{answer_data, line_of};
 ghost use Rattle.reports.specs.Forms.{text_in};
+ghost use Rattle.reports.specs.Report.{answer_text};
 ghost use Rattle.drawn_reports.specs.Telling.{TellsNoneUndrawn};
-ghost use Rattle.drawn_reports.specs.DrawnBooks.{AreDrawnBooks, HasNoCause};
+ghost use Rattle.drawn_reports.specs.DrawnBooks.{AreDrawnBooks, IsUndrawn};
 
 /// In books that are right for their files each entry that has a shape has a drawing of it.
 pub fn books_are_drawn()
@@ -21,8 +24,11 @@ pub fn texts_tell_none_undrawn()
     ensures { (form : Form) (books : List BookModel) → AreDrawnBooks books → TellsNoneUndrawn (text_in form books) }
 {}
 
-/// It would tell: a text that tells of none is that of books in which no entry has a cause in place of a drawing.
+/// It would tell: no text tells of none that says of a graph, in either form, what is said where a cause stands in place
+/// of a drawing, whatever stands before and behind.
 pub fn undrawn_is_told()
-    ensures { (form : Form) (books : List BookModel)
-        → TellsNoneUndrawn (text_in form books) → All (λ book. All HasNoCause book.entries) books }
+    ensures report { (answer : Answer) (before behind : List ℕ) → IsUndrawn answer
+        → TellsNoneUndrawn (before ++ answer_text answer ++ behind) → ⊥ }
+    ensures json { (answer : Answer) (file graph : ℕ) (before behind : List ℕ) → IsUndrawn answer
+        → TellsNoneUndrawn (before ++ line_of (answer_data file graph answer) ++ behind) → ⊥ }
 {}

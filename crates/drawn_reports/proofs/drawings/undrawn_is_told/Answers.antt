@@ -1,5 +1,8 @@
-use Rattle.drawn_reports.proofs.Undrawn.{none_undrawn}
+use Rattle.drawn_reports.proofs.Undrawn.{told_by_report, told_by_json}
 use Rattle.drawn_reports.proofs.drawings.undrawn_is_told.Goals as goal
 
-pub returns : goal.returns
-returns c = none_undrawn
+pub returns-clause-report : goal.returns-clause-report
+returns-clause-report c = told_by_report
+
+pub returns-clause-json : goal.returns-clause-json
+returns-clause-json c = told_by_json
