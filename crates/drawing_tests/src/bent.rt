@@ -9,7 +9,6 @@ use ortho_rep::{Shape, is_shape};
 use std::alloc::{AllocError, Global};
 use std::fmt::Debug;
 use std::process::Abort;
-use std::test::Fail;
 
 /// The drawing of a shape, which is an orthogonal representation.
 fn bend_of(
@@ -35,21 +34,29 @@ fn expect_bent_edge(rt: &impl Abort, table: &DartTable) {
         (table.darts, table.vertices, table.next.len()),
         (4, 3, 48),
     );
-    begins(rt, &table.next, &[3, 2, 0, 1]);
-    begins(rt, &table.prev, &[2, 3, 1, 0]);
-    begins(rt, &table.reverse_dart, &[3, 2, 1, 0]);
-    begins(rt, &table.head, &[1, 0, 2, 2]);
-    begins(rt, &table.before, &[2, 3, NO_DART, NO_DART]);
+    for (list, want) in [
+        (&table.next, [3, 2, 0, 1]),
+        (&table.prev, [2, 3, 1, 0]),
+        (&table.reverse_dart, [3, 2, 1, 0]),
+        (&table.head, [1, 0, 2, 2]),
+        (&table.before, [2, 3, NO_DART, NO_DART]),
+    ] {
+        begins(rt, list, &want);
+    }
     begins(rt, &table.direction, &[0, 1, 3, 2]);
     begins(rt, &table.angle, &[4, 4, 1, 3]);
 }
 
+/// The drawing of a shape of an edge.
+fn bent_edge(rt: &impl Abort, alloc: Global, shape: &Shape) -> DartTable {
+    let plane = plane_of(rt, alloc, &EDGE);
+    bend_of(rt, alloc, &plane, shape).expect(rt, "memory")
+}
+
 #[test]
-fn edge_with_one_bend(rt: HostRuntime) -> Result<(), Fail> {
-    let plane = plane_of(rt.alloc(), &EDGE)?;
-    let shape = spiral_in(rt.alloc(), 1).ok_or("no shape")?;
-    expect_bent_edge(&rt, &bend_of(&rt, rt.alloc(), &plane, &shape)?);
-    Ok(())
+fn edge_with_one_bend(rt: HostRuntime) {
+    let shape = spiral_in(rt.alloc(), 1).expect(&rt, "a shape");
+    expect_bent_edge(&rt, &bent_edge(&rt, rt.alloc(), &shape));
 }
 
 /// How many darts the drawing of a shape has, by the second call where the first finds no memory.

@@ -2,11 +2,9 @@
 
 ghost use Rattle.std.specs.Prelude.{◌<◌};
 
-use crate::planes::{EDGE, TRIANGLE, draw, plane_of, same};
-use ortho_rep::least_shape;
+use crate::planes::{EDGE, TRIANGLE, draw, plane_of, same, shape_of};
 use std::alloc::{AllocError, Global};
 use std::process::Abort;
-use std::test::Fail;
 
 const K4: [u8; 17] = [4, 3, 4, 2, 0, 1, 4, 3, 0, 2, 4, 1, 0, 3, 2, 1, 0];
 
@@ -88,11 +86,11 @@ pub(crate) fn rings(alloc: Global, rings: &[&[Beside]], count: u8) -> Result<Vec
 }
 
 /// A least shape of these bytes has so many bends, and is drawn.
-fn expect_drawn(rt: &impl Abort, alloc: Global, bytes: &[u8], bends: u32) -> Result<(), Fail> {
-    let plane = plane_of(alloc, bytes)?;
-    let (shape, _) = least_shape(alloc, &plane)?;
+fn expect_drawn(rt: &impl Abort, alloc: Global, bytes: &[u8], bends: u32) {
+    let plane = plane_of(rt, alloc, bytes);
+    let shape = shape_of(rt, alloc, &plane);
     same(rt, shape.bends(), bends);
-    draw(rt, alloc, &plane, &shape)
+    draw(rt, alloc, &plane, &shape);
 }
 
 /// The single edge, the triangle, the complete graph on 4 vertices, the octahedron, and stars.
@@ -107,23 +105,21 @@ const SOLIDS: [(&[u8], u32); 7] = [
 ];
 
 #[test]
-fn solids_with_bends(rt: HostRuntime) -> Result<(), Fail> {
+fn solids_with_bends(rt: HostRuntime) {
     for (bytes, bends) in SOLIDS {
-        expect_drawn(&rt, rt.alloc(), bytes, bends)?;
+        expect_drawn(&rt, rt.alloc(), bytes, bends);
     }
-    Ok(())
 }
 
 // Paths of 2 to 40 vertices, and grids of 2 to 6 rows and columns.
 #[test]
-fn grids_without_bends(rt: HostRuntime) -> Result<(), Fail> {
+fn grids_without_bends(rt: HostRuntime) {
     for (columns, most) in [(1, 40), (2, 6), (3, 6), (4, 6), (5, 6), (6, 6)] {
         for rows in 2..=most {
-            let bytes = grid(rt.alloc(), rows, columns)?;
-            expect_drawn(&rt, rt.alloc(), &bytes, 0)?;
+            let bytes = grid(rt.alloc(), rows, columns).expect(&rt, "memory");
+            expect_drawn(&rt, rt.alloc(), &bytes, 0);
         }
     }
-    Ok(())
 }
 
 /// Rings, the least and the greatest number of vertices of each, and the fewest bends: so many, and so many more
@@ -138,13 +134,12 @@ const RINGS: [(&[&[Beside]], [u8; 2], [u32; 2]); 6] = [
 ];
 
 #[test]
-fn rings_with_bends(rt: HostRuntime) -> Result<(), Fail> {
+fn rings_with_bends(rt: HostRuntime) {
     for (named, [least, most], [bends, more]) in RINGS {
         for count in least..=most {
-            let bytes = rings(rt.alloc(), named, count)?;
+            let bytes = rings(rt.alloc(), named, count).expect(&rt, "memory");
             let bends = bends.wrapping_add(more.wrapping_mul(u32::from(count)));
-            expect_drawn(&rt, rt.alloc(), &bytes, bends)?;
+            expect_drawn(&rt, rt.alloc(), &bytes, bends);
         }
     }
-    Ok(())
 }

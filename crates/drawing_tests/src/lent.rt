@@ -5,13 +5,12 @@ use crate::planes::{
     EDGE, TRIANGLE, bent_triangle_in, boxes_of, expect_drawing, plane_of, same, spiral_in,
 };
 use crate::refused::{are_alike, are_same};
-use compact::{CompactFault, compact, compact_in};
+use compact::{compact, compact_in};
 use dissect::{Boxes, dissect_in};
 use faces::Plane;
 use ortho_rep::{Points, Shape, is_shape};
-use std::alloc::{AllocError, Global};
+use std::alloc::Global;
 use std::process::Abort;
-use std::test::Fail;
 
 /// The memory that all drawings share.
 #[derive(Drop)]
@@ -28,65 +27,48 @@ fn boxes_in(
     lent: &mut dissect::Scratch,
     plane: &Plane,
     shape: &Shape,
-) -> Result<Boxes, AllocError> {
+) -> Boxes {
     assert!(rt; is_shape(plane, shape));
-    let boxes = dissect_in(alloc, lent, plane, shape)?;
-    let own = boxes_of(rt, alloc, plane, shape)?;
+    let boxes = dissect_in(alloc, lent, plane, shape).expect(rt, "memory");
+    let own = boxes_of(rt, alloc, plane, shape).expect(rt, "memory");
     same(rt, are_same(&boxes, &own), true);
-    Ok(boxes)
+    boxes
 }
 
 /// The points of boxes in memory that is lent, which are those in memory of its own.
-fn points_in(
-    rt: &impl Abort,
-    alloc: Global,
-    lent: &mut compact::Scratch,
-    boxes: &Boxes,
-) -> Result<Points, CompactFault> {
-    let points = compact_in(alloc, lent, boxes)?;
-    let own = compact(alloc, boxes)?;
+fn points_in(rt: &impl Abort, alloc: Global, lent: &mut compact::Scratch, boxes: &Boxes) -> Points {
+    let points = compact_in(alloc, lent, boxes).expect(rt, "points");
+    let own = compact(alloc, boxes).expect(rt, "points");
     same(rt, are_alike(&points, &own), true);
-    Ok(points)
+    points
 }
 
 /// A shape of a plane is drawn in memory that is lent.
-fn draw_shape_in(
-    rt: &impl Abort,
-    alloc: Global,
-    lent: &mut Lent,
-    plane: &Plane,
-    shape: &Shape,
-) -> Result<(), Fail> {
-    let boxes = boxes_in(rt, alloc, &mut lent.boxes, plane, shape)?;
-    let points = points_in(rt, alloc, &mut lent.points, &boxes)?;
+fn draw_shape_in(rt: &impl Abort, alloc: Global, lent: &mut Lent, plane: &Plane, shape: &Shape) {
+    let boxes = boxes_in(rt, alloc, &mut lent.boxes, plane, shape);
+    let points = points_in(rt, alloc, &mut lent.points, &boxes);
     boxes.give_back(&mut lent.boxes);
     expect_drawing(rt, alloc, &mut lent.checks, plane, shape, points);
-    Ok(())
 }
 
 /// The same of the plane of these bytes.
-fn draw_in(
-    rt: &impl Abort,
-    alloc: Global,
-    lent: &mut Lent,
-    bytes: &[u8],
-    shape: Option<Shape>,
-) -> Result<(), Fail> {
-    let shape = shape.ok_or("no shape")?;
-    let plane = plane_of(alloc, bytes)?;
-    draw_shape_in(rt, alloc, lent, &plane, &shape)
+fn draw_in(rt: &impl Abort, alloc: Global, lent: &mut Lent, bytes: &[u8], shape: Option<Shape>) {
+    let shape = shape.expect(rt, "a shape");
+    let plane = plane_of(rt, alloc, bytes);
+    draw_shape_in(rt, alloc, lent, &plane, &shape);
 }
 
 #[test]
-fn drawings_in_lent_memory(rt: HostRuntime) -> Result<(), Fail> {
+fn drawings_in_lent_memory(rt: HostRuntime) {
     let alloc = rt.alloc();
     let mut lent = Lent {
         boxes: dissect::Scratch::empty(alloc),
         points: compact::Scratch::empty(alloc),
         checks: drawing_check::Scratch::empty(alloc),
     };
-    draw_in(&rt, alloc, &mut lent, &TRIANGLE, bent_triangle_in(alloc))?;
-    draw_in(&rt, alloc, &mut lent, &EDGE, spiral_in(alloc, 0))?;
-    draw_in(&rt, alloc, &mut lent, &EDGE, spiral_in(alloc, 20))?;
-    draw_in(&rt, alloc, &mut lent, &TRIANGLE, bent_triangle_in(alloc))
+    draw_in(&rt, alloc, &mut lent, &TRIANGLE, bent_triangle_in(alloc));
+    for turns in [0, 20] {
+        draw_in(&rt, alloc, &mut lent, &EDGE, spiral_in(alloc, turns));
+    }
+    draw_in(&rt, alloc, &mut lent, &TRIANGLE, bent_triangle_in(alloc));
 }

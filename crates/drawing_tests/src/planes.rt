@@ -5,12 +5,11 @@ use dissect::{Boxes, dissect};
 use drawing_check::{Scratch, check_in};
 use embedding::Graph;
 use faces::Plane;
-use ortho_rep::{Points, Shape, Turn, is_shape};
+use ortho_rep::{Points, Shape, Turn, is_shape, least_shape};
 use planar_code::Record;
 use std::alloc::{AllocError, Global};
 use std::fmt::Debug;
 use std::process::Abort;
-use std::test::Fail;
 
 /// Sees that two values are the same. (An `assert_eq!` in each place would make the tests' proofs several times as long.)
 pub(crate) fn same<T: PartialEq + Debug + Drop>(rt: &impl Abort, got: T, want: T) {
@@ -28,8 +27,15 @@ pub(crate) fn plane_in(alloc: Global, bytes: &[u8]) -> Option<Plane> {
     Plane::trace(alloc, graph).ok()
 }
 
-pub(crate) fn plane_of(alloc: Global, bytes: &[u8]) -> Result<Plane, Fail> {
-    Ok(plane_in(alloc, bytes).ok_or("no plane")?)
+/// The plane of these bytes, which are a record of one, where memory suffices.
+pub(crate) fn plane_of(rt: &impl Abort, alloc: Global, bytes: &[u8]) -> Plane {
+    plane_in(alloc, bytes).expect(rt, "a plane")
+}
+
+/// A least shape of a plane, where memory suffices.
+pub(crate) fn shape_of(rt: &impl Abort, alloc: Global, plane: &Plane) -> Shape {
+    let (shape, _prices) = least_shape(alloc, plane).expect(rt, "a least shape");
+    shape
 }
 
 fn strings_in(alloc: Global, strings: &[&[Turn]]) -> Result<Vec<Vec<Turn>>, AllocError> {
@@ -94,15 +100,14 @@ pub(crate) fn expect_drawing(
     same(rt, fault, None);
 }
 
+/// The points of a shape that is cut into boxes.
+pub(crate) fn points_of(rt: &impl Abort, alloc: Global, plane: &Plane, shape: &Shape) -> Points {
+    let boxes = boxes_of(rt, alloc, plane, shape).expect(rt, "boxes");
+    compact(alloc, &boxes).expect(rt, "points")
+}
+
 /// The shape is cut into boxes and drawn.
-pub(crate) fn draw(
-    rt: &impl Abort,
-    alloc: Global,
-    plane: &Plane,
-    shape: &Shape,
-) -> Result<(), Fail> {
-    let boxes = boxes_of(rt, alloc, plane, shape)?;
-    let points = compact(alloc, &boxes)?;
+pub(crate) fn draw(rt: &impl Abort, alloc: Global, plane: &Plane, shape: &Shape) {
+    let points = points_of(rt, alloc, plane, shape);
     expect_drawing(rt, alloc, &mut Scratch::empty(alloc), plane, shape, points);
-    Ok(())
 }

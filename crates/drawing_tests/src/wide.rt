@@ -3,13 +3,10 @@
 use crate::boxed::boxes_in;
 use crate::planes::{EDGE, same, spiral_in};
 use compact::{CompactFault, compact};
-use std::test::Fail;
 
 #[test]
-fn long_spiral_is_too_wide(rt: HostRuntime) -> Result<(), Fail> {
+fn long_spiral_is_too_wide(rt: HostRuntime) {
     let alloc = rt.alloc();
-    let boxes = boxes_in(&rt, alloc, &EDGE, spiral_in(alloc, 140_000))?;
-    let fault = compact(alloc, &boxes).err();
-    same(&rt, fault, Some(CompactFault::Wide));
-    Ok(())
+    let boxes = boxes_in(&rt, alloc, &EDGE, spiral_in(alloc, 140_000));
+    same(&rt, compact(alloc, &boxes).err(), Some(CompactFault::Wide));
 }
