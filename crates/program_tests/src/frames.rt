@@ -2,15 +2,14 @@
 //! format and of the report.
 
 use crate::shared::{
-    EDGE, HEADER, Narrow, TRIANGLE, check, check_failed_write, check_help, check_refused, copies,
-    holds, names_no_run, run, run_narrow, same, write_parts,
+    EDGE, HEADER, Narrow, TRIANGLE, check_failed_write, check_help, check_refused, check_rows,
+    copies, expect_texts, make_file, names_no_run, run, run_narrow, same,
 };
 use program_io::{Fault, write_fault};
 use std::alloc::{AllocError, Global};
 use std::process::Abort;
 use std::rt::Files;
 use std::sync::Wait;
-use std::test::Fail;
 use std::thread::Threads;
 use std::{fs, io};
 use streams::{BatchFault, IoSink, WriteFault};
@@ -21,41 +20,50 @@ fn check_parts<R: Files + AllocGlobal + Threads + Wait + Sync + Abort>(
     parts: &[&[u8]],
     report: &str,
     status: u8,
-) -> Result<(), Fail>
+)
 where
     R::File: Send,
     R::Dir: Send,
 {
-    write_parts(rt, "case.pc", parts)?;
-    check(rt, &["frames", "case.pc"], report, status)
+    make_file(rt, "case.pc", parts);
+    check_rows(rt, &[(&["frames", "case.pc"], report, status)]);
 }
 
+/// Parts of a file, the report and the status.
+const FILES: [(&[&[u8]], &str, u8); 10] = [
+    (&[], "end header records=0\n", 3),
+    (&[b">>planar_code<"], "end header records=0\n", 3),
+    (&[b">>planar_codeX"], "end header records=0\n", 3),
+    (&[HEADER], "end complete records=0\n", 0),
+    (
+        &[HEADER, EDGE, TRIANGLE],
+        "record 1 n=2 bytes=5\nrecord 2 n=3 bytes=10\nend complete records=2\n",
+        0,
+    ),
+    (
+        &[HEADER, EDGE, &[2, 2, 0, 1]],
+        "record 1 n=2 bytes=5\nend truncated records=1\n",
+        3,
+    ),
+    (
+        &[HEADER, EDGE, &[0]],
+        "record 1 n=2 bytes=5\nend large records=1\n",
+        3,
+    ),
+    (
+        &[HEADER, EDGE, &[0, 2]],
+        "record 1 n=2 bytes=5\nend large records=1\n",
+        3,
+    ),
+    (&[HEADER, &[255], &[1; 254]], "end truncated records=0\n", 3),
+    (&[HEADER, &[255], &[1; 255]], "end oversize records=0\n", 3),
+];
+
 #[test]
-fn reports_records_and_the_ending(rt: HostRuntime) -> Result<(), Fail> {
-    check_parts(&rt, &[], "end header records=0\n", 3)?;
-    check_parts(&rt, &[b">>planar_code<"], "end header records=0\n", 3)?;
-    check_parts(&rt, &[b">>planar_codeX"], "end header records=0\n", 3)?;
-    check_parts(&rt, &[HEADER], "end complete records=0\n", 0)?;
-    let both = "record 1 n=2 bytes=5\nrecord 2 n=3 bytes=10\nend complete records=2\n";
-    check_parts(&rt, &[HEADER, EDGE, TRIANGLE], both, 0)?;
-    let cut = "record 1 n=2 bytes=5\nend truncated records=1\n";
-    check_parts(&rt, &[HEADER, EDGE, &[2, 2, 0, 1]], cut, 3)?;
-    let large = "record 1 n=2 bytes=5\nend large records=1\n";
-    check_parts(&rt, &[HEADER, EDGE, &[0]], large, 3)?;
-    check_parts(&rt, &[HEADER, EDGE, &[0, 2]], large, 3)?;
-    let entries = [1u8; 255];
-    check_parts(
-        &rt,
-        &[HEADER, &[255], &entries[..254]],
-        "end truncated records=0\n",
-        3,
-    )?;
-    check_parts(
-        &rt,
-        &[HEADER, &[255], &entries],
-        "end oversize records=0\n",
-        3,
-    )
+fn reports_records_and_the_ending(rt: HostRuntime) {
+    for (parts, report, status) in FILES {
+        check_parts(&rt, parts, report, status);
+    }
 }
 
 /// Runs `frames` on a file of these bytes, and looks at the end of the report and at the status.
@@ -64,16 +72,15 @@ fn check_end<R: Files + AllocGlobal + Threads + Wait + Sync + Abort>(
     bytes: &[u8],
     end: &str,
     status: u8,
-) -> Result<(), Fail>
+)
 where
     R::File: Send,
     R::Dir: Send,
 {
-    fs::write(rt, "million.pc", bytes)?;
-    let ran = run(rt, &["frames", "million.pc"])?;
-    same(rt, ran.out.as_slice().ends_with(end.as_bytes()), true);
-    same(rt, ran.status, status);
-    Ok(())
+    fs::write(rt, "million.pc", bytes).expect(rt, "a file");
+    let ran = run(rt, &["frames", "million.pc"]).expect(rt, "memory");
+    let is_end = ran.out.as_slice().ends_with(end.as_bytes());
+    same(rt, (is_end, ran.status), (true, status));
 }
 
 /// The header and a million records of one vertex.
@@ -86,63 +93,106 @@ fn million_records(alloc: Global) -> Result<Vec<u8>, AllocError> {
 }
 
 #[test]
-fn stops_after_a_million_records(rt: HostRuntime) -> Result<(), Fail> {
-    let mut bytes = million_records(rt.alloc())?;
+fn stops_after_a_million_records(rt: HostRuntime) {
+    let mut bytes = million_records(rt.alloc()).expect(&rt, "memory");
     let complete = "\nrecord 1000000 n=1 bytes=2\nend complete records=1000000\n";
-    check_end(&rt, bytes.as_slice(), complete, 0)?;
-    bytes.push(1)?;
+    check_end(&rt, bytes.as_slice(), complete, 0);
+    bytes.push(1).expect(&rt, "memory");
     let many = "\nrecord 1000000 n=1 bytes=2\nend many records=1000000\n";
-    check_end(&rt, bytes.as_slice(), many, 3)
+    check_end(&rt, bytes.as_slice(), many, 3);
 }
 
 #[test]
-fn marks_what_cannot_be_read(rt: HostRuntime) -> Result<(), Fail> {
-    fs::create_dir_all(&rt, "frames_folder")?;
-    for name in ["frames_folder", "missing.pc", "frames_folder/missing.pc"] {
-        check(&rt, &["frames", name], "end io records=0\n", 3)?;
-    }
-    Ok(())
-}
-
-#[test]
-fn answers_command_lines(rt: HostRuntime) -> Result<(), Fail> {
-    check_refused(&rt, &[], "Usage: planarbend <COMMAND>\n")?;
-    check_refused(&rt, &["bend"], "error: unrecognized subcommand 'bend'\n")?;
-    check_refused(&rt, &["frames"], "were not provided:\n  <FILE>\n")?;
-    check_refused(
+fn marks_what_cannot_be_read(rt: HostRuntime) {
+    fs::create_dir_all(&rt, "frames_folder").expect(&rt, "a folder");
+    let unread = "end io records=0\n";
+    check_rows(
         &rt,
-        &["frames", "a", "b"],
-        "unexpected argument 'b' found\n",
-    )?;
-    for words in [["frames", "--help"], ["help", "frames"]] {
-        check_help(
-            &rt,
-            &words,
-            "Example:\n  planarbend frames examples/two.pc\n",
-        )?;
-    }
-    for words in [["--help", "frames"], ["--help", "layout"]] {
-        check_help(
-            &rt,
-            &words,
-            "Examples:\n  planarbend layout examples/two.pc\n",
-        )?;
-    }
-    Ok(())
+        &[
+            (&["frames", "frames_folder"], unread, 3),
+            (&["frames", "missing.pc"], unread, 3),
+            (&["frames", "frames_folder/missing.pc"], unread, 3),
+        ],
+    );
+}
+
+/// Command lines that are refused, and a text in what is said of each.
+const REFUSED: [(&[&str], &str); 4] = [
+    (&[], "Usage: planarbend <COMMAND>\n"),
+    (&["bend"], "error: unrecognized subcommand 'bend'\n"),
+    (&["frames"], "were not provided:\n  <FILE>\n"),
+    (&["frames", "a", "b"], "unexpected argument 'b' found\n"),
+];
+
+const ONE: &str = "Example:\n  planarbend frames examples/two.pc\n";
+
+const ALL: &str = "Examples:\n  planarbend layout examples/two.pc\n";
+
+/// Ways to ask for help, and a text in it.
+const HELP: [(&[&str], &str); 4] = [
+    (&["frames", "--help"], ONE),
+    (&["help", "frames"], ONE),
+    (&["--help", "frames"], ALL),
+    (&["--help", "layout"], ALL),
+];
+
+#[test]
+fn answers_command_lines(rt: HostRuntime) {
+    check_refused(&rt, &REFUSED);
+    check_help(&rt, &HELP);
 }
 
 #[test]
-fn names_a_failed_write(rt: HostRuntime) -> Result<(), Fail> {
-    let words = words_for(&rt)?;
+fn names_a_failed_write(rt: HostRuntime) {
+    let words = words_for(&rt).expect(&rt, "a file");
     for room in 0..REPORT.len() {
         check_failed_write(&rt, words.as_slice(), &REPORT[..room]);
     }
     let ran = run_narrow(&rt, words.as_slice(), 64, 0);
-    same(&rt, ran.status, 0);
-    same(&rt, ran.out.text(), REPORT);
+    expect_texts(&rt, &ran, 0, REPORT, b"");
     same(&rt, run_narrow(&rt, words.as_slice(), 0, 0).status, 1);
-    Ok(())
 }
+
+/// Each fault, its line and its status.
+const FAULTS: [(Fault, &[u8], u8); 9] = [
+    (Fault::Memory, b"planarbend: out of memory\n", 1),
+    (Fault::NotText, b"planarbend: arguments are not text\n", 2),
+    (
+        Fault::Run(BatchFault::TooManyFiles),
+        b"planarbend: more than 256 files\n",
+        2,
+    ),
+    (
+        Fault::Run(BatchFault::BadLanes),
+        b"planarbend: lanes must be 1 to 8\n",
+        2,
+    ),
+    (
+        Fault::Run(BatchFault::Memory),
+        b"planarbend: out of memory\n",
+        1,
+    ),
+    (
+        Fault::Run(BatchFault::LaneLost),
+        b"planarbend: a lane was lost\n",
+        1,
+    ),
+    (
+        Fault::Run(BatchFault::Thread),
+        b"planarbend: a thread could not be run\n",
+        1,
+    ),
+    (
+        Fault::Write(WriteFault::Write),
+        b"planarbend: write failed\n",
+        1,
+    ),
+    (
+        Fault::Write(WriteFault::Memory),
+        b"planarbend: out of memory\n",
+        1,
+    ),
+];
 
 /// The line of a fault.
 fn line_of(fault: Fault) -> Narrow {
@@ -151,41 +201,12 @@ fn line_of(fault: Fault) -> Narrow {
     err.into_writer()
 }
 
-/// A fault is told in a line of this text, and has this status.
-fn check_fault(rt: &impl Abort, fault: Fault, text: &str, status: u8) {
-    let written = line_of(fault);
-    let line = written.text();
-    same(rt, line.starts_with(b"planarbend: "), true);
-    same(rt, line.ends_with(b"\n"), true);
-    same(rt, holds(line, text.as_bytes()), true);
-    same(rt, line.len(), text.len().saturating_add(13));
-    same(rt, fault.status(), status);
-}
-
 /// The line and the status of each fault.
 #[test]
 fn tells_each_fault_in_a_line(rt: HostRuntime) {
-    let told = [
-        (Fault::Memory, "out of memory", 1),
-        (Fault::NotText, "arguments are not text", 2),
-        (
-            Fault::Run(BatchFault::TooManyFiles),
-            "more than 256 files",
-            2,
-        ),
-        (Fault::Run(BatchFault::BadLanes), "lanes must be 1 to 8", 2),
-        (Fault::Run(BatchFault::Memory), "out of memory", 1),
-        (Fault::Run(BatchFault::LaneLost), "a lane was lost", 1),
-        (
-            Fault::Run(BatchFault::Thread),
-            "a thread could not be run",
-            1,
-        ),
-        (Fault::Write(WriteFault::Write), "write failed", 1),
-        (Fault::Write(WriteFault::Memory), "out of memory", 1),
-    ];
-    for (fault, text, status) in told {
-        check_fault(&rt, fault, text, status);
+    for (fault, line, status) in FAULTS {
+        same(&rt, line_of(fault).text(), line);
+        same(&rt, fault.status(), status);
     }
 }
 

@@ -2,129 +2,142 @@
 //! the format and of the report.
 
 use crate::shared::{
-    EDGE, HEADER, TRIANGLE, check, check_failed_write, check_help, check_refused, copies, holds,
-    names_no_run, run, run_narrow, same, write_parts,
+    EDGE, HEADER, Ran, Row, TRIANGLE, check_failed_write, check_help, check_refused, check_rows,
+    copies, holds, make_file, names_no_run, run, run_narrow, same, write_parts,
 };
 use std::alloc::{AllocError, Global};
 use std::process::Abort;
 use std::rt::Files;
 use std::sync::Wait;
-use std::test::Fail;
 use std::thread::Threads;
 use std::{fs, io};
 
+/// What is said of an edge and a triangle in two files.
+const TWICE: &str = "file 1\n\
+    graph 1 ok n=2 m=1 f=1 bends=0 drawn=yes\n\
+    graph 2 ok n=3 m=3 f=2 bends=1 drawn=yes\n\
+    end complete graphs=2\n\
+    file 2\n\
+    graph 1 ok n=2 m=1 f=1 bends=0 drawn=yes\n\
+    graph 2 ok n=3 m=3 f=2 bends=1 drawn=yes\n\
+    end complete graphs=2\n";
+
 #[test]
-fn reports_each_graph(rt: HostRuntime) -> Result<(), Fail> {
-    write_parts(&rt, "two.pc", &[HEADER, EDGE, TRIANGLE])?;
-    let first = "file 1\n\
-        graph 1 ok n=2 m=1 f=1 bends=0 drawn=yes\n\
-        graph 2 ok n=3 m=3 f=2 bends=1 drawn=yes\n\
-        end complete graphs=2\n";
-    check(&rt, &["layout", "two.pc"], first, 0)?;
-    let twice = "file 1\n\
-        graph 1 ok n=2 m=1 f=1 bends=0 drawn=yes\n\
-        graph 2 ok n=3 m=3 f=2 bends=1 drawn=yes\n\
-        end complete graphs=2\n\
-        file 2\n\
-        graph 1 ok n=2 m=1 f=1 bends=0 drawn=yes\n\
-        graph 2 ok n=3 m=3 f=2 bends=1 drawn=yes\n\
-        end complete graphs=2\n";
-    check(&rt, &["layout", "two.pc", "two.pc"], twice, 0)
+fn reports_each_file(rt: HostRuntime) {
+    make_file(&rt, "two.pc", &[HEADER, EDGE, TRIANGLE]);
+    check_rows(&rt, &[(&["layout", "two.pc", "two.pc"], TWICE, 0)]);
 }
 
-/// A graph that is refused does not change the status.
-#[test]
-fn reports_refused_graphs(rt: HostRuntime) -> Result<(), Fail> {
-    write_parts(&rt, "refused.pc", &[HEADER, &[1, 0], EDGE])?;
-    let report = "file 1\n\
-        graph 1 refused edgeless\n\
-        graph 2 ok n=2 m=1 f=1 bends=0 drawn=yes\n\
-        end complete graphs=2\n";
-    check(&rt, &["layout", "refused.pc"], report, 0)?;
-    write_parts(&rt, "none.pc", &[HEADER])?;
-    check(
-        &rt,
-        &["layout", "none.pc"],
-        "file 1\nend complete graphs=0\n",
-        0,
-    )
-}
-
-/// These texts, one behind another.
-fn joined(alloc: Global, parts: &[&str]) -> Result<String, AllocError> {
-    let mut text = String::new(alloc);
-    for part in parts {
-        text.push_str(part)?;
-    }
-    Ok(text)
-}
-
-/// Runs `layout` on a file of this body behind the header, and looks at the lines behind the first: they are
-/// the same under either choice of the outer face.
+/// Runs `layout` on a file of this body behind the header, and looks at the report: it is the same under either
+/// choice of the outer face.
 fn check_body<R: Files + AllocGlobal + Threads + Wait + Sync + Abort>(
     rt: &R,
     body: &[u8],
-    lines: &str,
+    report: &str,
     status: u8,
-) -> Result<(), Fail>
+)
 where
     R::File: Send,
     R::Dir: Send,
 {
-    write_parts(rt, "body.pc", &[HEADER, body])?;
-    let report = joined(rt.alloc(), &["file 1\n", lines, "\n"])?;
-    check(rt, &["layout", "body.pc"], report.as_str(), status)?;
-    check(
-        rt,
-        &["layout", "--outer", "best", "body.pc"],
-        report.as_str(),
-        status,
-    )
-}
-
-/// Runs `layout` on a file of one graph, and looks at what the graph's line says behind the number.
-fn check_graph<R: Files + AllocGlobal + Threads + Wait + Sync + Abort>(
-    rt: &R,
-    body: &[u8],
-    said: &[&str],
-) -> Result<(), Fail>
-where
-    R::File: Send,
-    R::Dir: Send,
-{
-    let said = joined(rt.alloc(), said)?;
-    let lines = joined(
-        rt.alloc(),
-        &["graph 1 ", said.as_str(), "\nend complete graphs=1"],
-    )?;
-    check_body(rt, body, lines.as_str(), 0)
-}
-
-/// Known graphs, each in a file of its own, with their fewest bends.
-#[test]
-fn lays_out_known_graphs(rt: HostRuntime) -> Result<(), Fail> {
-    let laid: [(&[u8], &str); 4] = [
-        (TRIANGLE, "n=3 m=3 f=2 bends=1"),
-        (
-            &[4, 3, 4, 2, 0, 1, 4, 3, 0, 2, 4, 1, 0, 3, 2, 1, 0],
-            "n=4 m=6 f=4 bends=4",
-        ),
-        (
-            &[
-                6, 2, 3, 4, 5, 0, 6, 3, 1, 5, 0, 2, 6, 4, 1, 0, 1, 3, 6, 5, 0, 2, 1, 4, 6, 0, 2, 5,
-                4, 3, 0,
-            ],
-            "n=6 m=12 f=8 bends=12",
-        ),
-        (
-            &[5, 2, 3, 4, 5, 0, 1, 0, 1, 0, 1, 0, 1, 0],
-            "n=5 m=4 f=1 bends=0",
-        ),
-    ];
-    for (body, sizes) in laid {
-        check_graph(&rt, body, &["ok ", sizes, " drawn=yes"])?;
+    make_file(rt, "body.pc", &[HEADER, body]);
+    for choice in ["first", "best"] {
+        check_rows(
+            rt,
+            &[(&["layout", "--outer", choice, "body.pc"], report, status)],
+        );
     }
-    Ok(())
+}
+
+/// Bodies of files with their reports and status: known graphs with their fewest bends, graphs that break a rule,
+/// which does not change the status, and files that go on behind their records as no file may.
+const BODIES: [(&[u8], &str, u8); 15] = [
+    (
+        TRIANGLE,
+        "file 1\ngraph 1 ok n=3 m=3 f=2 bends=1 drawn=yes\nend complete graphs=1\n",
+        0,
+    ),
+    (
+        &[4, 3, 4, 2, 0, 1, 4, 3, 0, 2, 4, 1, 0, 3, 2, 1, 0],
+        "file 1\ngraph 1 ok n=4 m=6 f=4 bends=4 drawn=yes\nend complete graphs=1\n",
+        0,
+    ),
+    (
+        &[
+            6, 2, 3, 4, 5, 0, 6, 3, 1, 5, 0, 2, 6, 4, 1, 0, 1, 3, 6, 5, 0, 2, 1, 4, 6, 0, 2, 5, 4,
+            3, 0,
+        ],
+        "file 1\ngraph 1 ok n=6 m=12 f=8 bends=12 drawn=yes\nend complete graphs=1\n",
+        0,
+    ),
+    (
+        &[5, 2, 3, 4, 5, 0, 1, 0, 1, 0, 1, 0, 1, 0],
+        "file 1\ngraph 1 ok n=5 m=4 f=1 bends=0 drawn=yes\nend complete graphs=1\n",
+        0,
+    ),
+    (
+        &[1, 0, 2, 2, 0, 1, 0],
+        "file 1\ngraph 1 refused edgeless\ngraph 2 ok n=2 m=1 f=1 bends=0 drawn=yes\n\
+        end complete graphs=2\n",
+        0,
+    ),
+    (
+        &[2, 0, 0],
+        "file 1\ngraph 1 refused edgeless\nend complete graphs=1\n",
+        0,
+    ),
+    (
+        &[4, 3, 4, 2, 0, 1, 4, 3, 0, 2, 4, 1, 0, 1, 2, 3, 0],
+        "file 1\ngraph 1 refused genus\nend complete graphs=1\n",
+        0,
+    ),
+    (
+        &[6, 2, 3, 4, 5, 6, 0, 1, 0, 1, 0, 1, 0, 1, 0, 1, 0],
+        "file 1\ngraph 1 refused degree\nend complete graphs=1\n",
+        0,
+    ),
+    (
+        &[2, 3, 0, 1, 0],
+        "file 1\ngraph 1 refused range\nend complete graphs=1\n",
+        0,
+    ),
+    (
+        &[2, 2, 0, 0],
+        "file 1\ngraph 1 refused asymmetric\nend complete graphs=1\n",
+        0,
+    ),
+    (
+        &[2, 1, 0, 0],
+        "file 1\ngraph 1 refused loop\nend complete graphs=1\n",
+        0,
+    ),
+    (
+        &[2, 2, 2, 0, 1, 1, 0],
+        "file 1\ngraph 1 refused multi\nend complete graphs=1\n",
+        0,
+    ),
+    (
+        &[4, 2, 0, 1, 0, 4, 0, 3, 0],
+        "file 1\ngraph 1 refused disconnected\nend complete graphs=1\n",
+        0,
+    ),
+    (
+        &[2, 2, 0, 1, 0, 0],
+        "file 1\ngraph 1 ok n=2 m=1 f=1 bends=0 drawn=yes\nend large graphs=1\n",
+        3,
+    ),
+    (
+        &[2, 2, 0, 1, 0, 2, 2, 0, 1],
+        "file 1\ngraph 1 ok n=2 m=1 f=1 bends=0 drawn=yes\nend truncated graphs=1\n",
+        3,
+    ),
+];
+
+#[test]
+fn reports_each_graph_and_the_ending(rt: HostRuntime) {
+    for (body, report, status) in BODIES {
+        check_body(&rt, body, report, status);
+    }
 }
 
 /// A cube with a ninth vertex that is joined to all corners of one face.
@@ -139,116 +152,92 @@ const LONGER_CUBE: &[u8] = &[
     0, 4, 5, 9, 7, 0, 5, 6, 7, 8, 0, 1, 5, 0,
 ];
 
+const FIRST: &str = "file 1\n\
+    graph 1 ok n=9 m=16 f=9 bends=10 drawn=yes\n\
+    graph 2 ok n=10 m=17 f=9 bends=9 drawn=yes\n\
+    end complete graphs=2\n";
+
+const BEST: &str = "file 1\n\
+    graph 1 ok n=9 m=16 f=9 bends=8 drawn=yes\n\
+    graph 2 ok n=10 m=17 f=9 bends=8 drawn=yes\n\
+    end complete graphs=2\n";
+
+const CUBES: [Row; 4] = [
+    (&["layout", "cubes.pc"], FIRST, 0),
+    (&["layout", "--outer", "first", "cubes.pc"], FIRST, 0),
+    (&["layout", "--outer", "best", "cubes.pc"], BEST, 0),
+    (
+        &["layout", "cubes.pc", "--lanes=2", "--outer=best"],
+        BEST,
+        0,
+    ),
+];
+
 /// Graphs that need fewer bends with another outer face than the widest one.
 #[test]
-fn chooses_the_outer_face(rt: HostRuntime) -> Result<(), Fail> {
-    write_parts(&rt, "cubes.pc", &[HEADER, CAPPED_CUBE, LONGER_CUBE])?;
-    let first = "file 1\n\
-        graph 1 ok n=9 m=16 f=9 bends=10 drawn=yes\n\
-        graph 2 ok n=10 m=17 f=9 bends=9 drawn=yes\n\
-        end complete graphs=2\n";
-    check(&rt, &["layout", "cubes.pc"], first, 0)?;
-    check(&rt, &["layout", "--outer", "first", "cubes.pc"], first, 0)?;
-    let best = "file 1\n\
-        graph 1 ok n=9 m=16 f=9 bends=8 drawn=yes\n\
-        graph 2 ok n=10 m=17 f=9 bends=8 drawn=yes\n\
-        end complete graphs=2\n";
-    check(&rt, &["layout", "--outer", "best", "cubes.pc"], best, 0)?;
-    check(
-        &rt,
-        &["layout", "cubes.pc", "--lanes=2", "--outer=best"],
-        best,
-        0,
-    )
+fn chooses_the_outer_face(rt: HostRuntime) {
+    make_file(&rt, "cubes.pc", &[HEADER, CAPPED_CUBE, LONGER_CUBE]);
+    check_rows(&rt, &CUBES);
 }
 
-/// Graphs that break a rule, each in a file of its own.
+/// A record that goes on for more bytes than a list may have, and its beginning.
 #[test]
-fn names_each_broken_rule(rt: HostRuntime) -> Result<(), Fail> {
-    let refused: [(&[u8], &str); 9] = [
-        (&[1, 0], "edgeless"),
-        (&[2, 0, 0], "edgeless"),
-        (
-            &[4, 3, 4, 2, 0, 1, 4, 3, 0, 2, 4, 1, 0, 1, 2, 3, 0],
-            "genus",
-        ),
-        (
-            &[6, 2, 3, 4, 5, 6, 0, 1, 0, 1, 0, 1, 0, 1, 0, 1, 0],
-            "degree",
-        ),
-        (&[2, 3, 0, 1, 0], "range"),
-        (&[2, 2, 0, 0], "asymmetric"),
-        (&[2, 1, 0, 0], "loop"),
-        (&[2, 2, 2, 0, 1, 1, 0], "multi"),
-        (&[4, 2, 0, 1, 0, 4, 0, 3, 0], "disconnected"),
-    ];
-    for (body, rule) in refused {
-        check_graph(&rt, body, &["refused ", rule])?;
-    }
-    Ok(())
-}
-
-/// Files that go on behind their records as no file may.
-#[test]
-fn marks_faults_behind_records(rt: HostRuntime) -> Result<(), Fail> {
-    let edge = "graph 1 ok n=2 m=1 f=1 bends=0 drawn=yes\nend large graphs=1";
-    check_body(&rt, &[2, 2, 0, 1, 0, 0], edge, 3)?;
+fn marks_lists_that_are_too_long(rt: HostRuntime) {
     let mut long = [1; 256];
     long[0] = 255;
-    check_body(&rt, &long[..255], "end truncated graphs=0", 3)?;
-    check_body(&rt, &long, "end oversize graphs=0", 3)
+    let truncated = "file 1\nend truncated graphs=0\n";
+    check_body(&rt, &long[..255], truncated, 3);
+    check_body(&rt, &long, "file 1\nend oversize graphs=0\n", 3);
 }
 
 /// The longest cycle that a record can hold.
-#[test]
-fn reports_a_cycle_of_most_vertices(rt: HostRuntime) -> Result<(), Fail> {
-    let mut body = Vec::new(rt.alloc());
+fn longest_cycle(alloc: Global) -> Result<Vec<u8>, AllocError> {
+    let mut body = Vec::new(alloc);
     body.push(255)?;
     for v in 1..=255u8 {
         let next = if v == 255 { 1 } else { v + 1 };
         let last = if v == 1 { 255 } else { v - 1 };
         body.extend_from_slice(&[next, last, 0])?;
     }
-    let lines = "graph 1 ok n=255 m=255 f=2 bends=0 drawn=yes\nend complete graphs=1";
-    check_body(&rt, body.as_slice(), lines, 0)
+    Ok(body)
 }
 
 #[test]
-fn marks_files_that_do_not_end_well(rt: HostRuntime) -> Result<(), Fail> {
-    fs::create_dir_all(&rt, "layout_folder")?;
-    let unread = "file 1\nend io graphs=0\n";
-    check(&rt, &["layout", "layout_folder"], unread, 3)?;
-    check(&rt, &["layout", "missing.pc"], unread, 3)?;
-    write_parts(&rt, "empty.pc", &[])?;
-    check(
-        &rt,
-        &["layout", "empty.pc"],
-        "file 1\nend header graphs=0\n",
-        3,
-    )?;
-    write_parts(&rt, "cut.pc", &[HEADER, EDGE, &[2, 2, 0, 1]])?;
-    let cut = "file 1\n\
-        graph 1 ok n=2 m=1 f=1 bends=0 drawn=yes\n\
-        end truncated graphs=1\n";
-    check(&rt, &["layout", "cut.pc"], cut, 3)?;
-    check(&rt, &["layout", "--outer", "best", "cut.pc"], cut, 3)
+fn reports_a_cycle_of_most_vertices(rt: HostRuntime) {
+    let body = longest_cycle(rt.alloc()).expect(&rt, "memory");
+    let report = "file 1\ngraph 1 ok n=255 m=255 f=2 bends=0 drawn=yes\nend complete graphs=1\n";
+    check_body(&rt, body.as_slice(), report, 0);
 }
+
+#[test]
+fn marks_files_that_cannot_be_read(rt: HostRuntime) {
+    fs::create_dir_all(&rt, "layout_folder").expect(&rt, "a folder");
+    let unread = "file 1\nend io graphs=0\n";
+    check_rows(
+        &rt,
+        &[
+            (&["layout", "layout_folder"], unread, 3),
+            (&["layout", "missing.pc"], unread, 3),
+        ],
+    );
+}
+
+const APART: &str = "file 1\n\
+    graph 1 ok n=3 m=3 f=2 bends=1 drawn=yes\n\
+    graph 2 ok n=3 m=3 f=2 bends=1 drawn=yes\n\
+    end complete graphs=2\n\
+    file 2\n\
+    graph 1 ok n=2 m=1 f=1 bends=0 drawn=yes\n\
+    end truncated graphs=1\n\
+    file 3\n\
+    end complete graphs=0\n";
 
 /// Files that differ are reported in the order in which they are named, however many lanes there are.
 #[test]
-fn keeps_files_apart(rt: HostRuntime) -> Result<(), Fail> {
-    write_parts(&rt, "triangles.pc", &[HEADER, TRIANGLE, TRIANGLE])?;
-    write_parts(&rt, "cut.pc", &[HEADER, EDGE, &[2, 2, 0, 1]])?;
-    write_parts(&rt, "none.pc", &[HEADER])?;
-    let report = "file 1\n\
-        graph 1 ok n=3 m=3 f=2 bends=1 drawn=yes\n\
-        graph 2 ok n=3 m=3 f=2 bends=1 drawn=yes\n\
-        end complete graphs=2\n\
-        file 2\n\
-        graph 1 ok n=2 m=1 f=1 bends=0 drawn=yes\n\
-        end truncated graphs=1\n\
-        file 3\n\
-        end complete graphs=0\n";
+fn keeps_files_apart(rt: HostRuntime) {
+    make_file(&rt, "triangles.pc", &[HEADER, TRIANGLE, TRIANGLE]);
+    make_file(&rt, "cut.pc", &[HEADER, EDGE, &[2, 2, 0, 1]]);
+    make_file(&rt, "none.pc", &[HEADER]);
     for lanes in ["1", "2", "3", "4", "8"] {
         let words = [
             "layout",
@@ -258,46 +247,61 @@ fn keeps_files_apart(rt: HostRuntime) -> Result<(), Fail> {
             "cut.pc",
             "none.pc",
         ];
-        check(&rt, &words, report, 3)?;
+        check_rows(&rt, &[(&words, APART, 3)]);
     }
-    Ok(())
 }
+
+const JSON: [Row; 3] = [
+    (
+        &["layout", "--json", "json_empty.pc"],
+        "{\"end\":\"header\",\"file\":1,\"graphs\":0}\n",
+        3,
+    ),
+    (
+        &["layout", "--json", "json_edgeless.pc"],
+        "{\"file\":1,\"graph\":1,\"rule\":\"edgeless\",\"status\":\"refused\"}\n\
+        {\"end\":\"complete\",\"file\":1,\"graphs\":1}\n",
+        0,
+    ),
+    (
+        &["layout", "json_torus.pc", "--json"],
+        "{\"file\":1,\"graph\":1,\"rule\":\"genus\",\"status\":\"refused\"}\n\
+        {\"end\":\"complete\",\"file\":1,\"graphs\":1}\n",
+        0,
+    ),
+];
 
 /// The JSON lines of files in which no graph is laid out.
 #[test]
-fn shows_json_lines(rt: HostRuntime) -> Result<(), Fail> {
-    write_parts(&rt, "json_empty.pc", &[])?;
-    let header = "{\"end\":\"header\",\"file\":1,\"graphs\":0}\n";
-    check(&rt, &["layout", "--json", "json_empty.pc"], header, 3)?;
-    write_parts(&rt, "json_edgeless.pc", &[HEADER, &[1, 0]])?;
-    let edgeless = "{\"file\":1,\"graph\":1,\"rule\":\"edgeless\",\"status\":\"refused\"}\n\
-        {\"end\":\"complete\",\"file\":1,\"graphs\":1}\n";
-    check(&rt, &["layout", "--json", "json_edgeless.pc"], edgeless, 0)?;
+fn shows_json_lines(rt: HostRuntime) {
+    make_file(&rt, "json_empty.pc", &[]);
+    make_file(&rt, "json_edgeless.pc", &[HEADER, &[1, 0]]);
     let torus = [4, 3, 4, 2, 0, 1, 4, 3, 0, 2, 4, 1, 0, 1, 2, 3, 0];
-    write_parts(&rt, "json_torus.pc", &[HEADER, &torus])?;
-    let genus = "{\"file\":1,\"graph\":1,\"rule\":\"genus\",\"status\":\"refused\"}\n\
-        {\"end\":\"complete\",\"file\":1,\"graphs\":1}\n";
-    check(&rt, &["layout", "json_torus.pc", "--json"], genus, 0)
+    make_file(&rt, "json_torus.pc", &[HEADER, &torus]);
+    check_rows(&rt, &JSON);
 }
 
 /// The line of a single edge, but for its points and prices.
 #[test]
-fn shows_an_edge_as_json(rt: HostRuntime) -> Result<(), Fail> {
-    write_parts(&rt, "json_edge.pc", &[HEADER, EDGE])?;
-    let ran = run(&rt, &["layout", "--json", "--lanes", "2", "json_edge.pc"])?;
-    same(&rt, (ran.status, ran.err.len()), (0, 0));
-    expect_edge(&rt, ran.out.as_slice());
-    Ok(())
+fn shows_an_edge_as_json(rt: HostRuntime) {
+    make_file(&rt, "json_edge.pc", &[HEADER, EDGE]);
+    let words = ["layout", "--json", "--lanes", "2", "json_edge.pc"];
+    expect_edge(&rt, &run(&rt, &words).expect(&rt, "memory"));
 }
 
-/// The text begins and ends as that of a single edge.
-fn expect_edge(rt: &impl Abort, text: &[u8]) {
+/// A run's text begins and ends as that of a single edge.
+fn expect_edge(rt: &impl Abort, ran: &Ran<Vec<u8>>) {
     let begins =
         b"{\"angles\":[4,4],\"bends\":0,\"drawn\":\"yes\",\"f\":1,\"file\":1,\"graph\":1,\"m\":1,\"n\":2,\"points\":{";
     let ends =
         b"\"status\":\"ok\",\"turns\":[\"\",\"\"]}\n{\"end\":\"complete\",\"file\":1,\"graphs\":1}\n";
-    same(rt, text.starts_with(begins), true);
-    same(rt, text.ends_with(ends), true);
+    let text = ran.out.as_slice();
+    same(
+        rt,
+        (text.starts_with(begins), text.ends_with(ends)),
+        (true, true),
+    );
+    same(rt, (ran.status, ran.err.len()), (0, 0));
 }
 
 /// A path of ten vertices.
@@ -314,76 +318,95 @@ fn check_path<R: Files + AllocGlobal + Threads + Wait + Sync + Abort>(
     rt: &R,
     words: &[&str],
     is_straight: bool,
-) -> Result<(), Fail>
+)
 where
     R::File: Send,
     R::Dir: Send,
 {
-    let ran = run(rt, words)?;
-    same(rt, (ran.status, ran.err.len()), (0, 0));
+    expect_path(rt, &run(rt, words).expect(rt, "memory"), is_straight);
+}
+
+/// A run's text is that of the path.
+fn expect_path(rt: &impl Abort, ran: &Ran<Vec<u8>>, is_straight: bool) {
     let text = ran.out.as_slice();
     same(rt, holds(text, b"],\"bends\":0,\"drawn\":\"yes\","), true);
     same(rt, text.starts_with(STRAIGHT), is_straight);
-    Ok(())
+    same(rt, (ran.status, ran.err.len()), (0, 0));
 }
+
+const PATHS: [(&[&str], bool); 4] = [
+    (&["layout", "--json", "path.pc"], true),
+    (&["layout", "--drawing=short", "--json", "path.pc"], true),
+    (&["layout", "--drawing=quick", "--json", "path.pc"], false),
+    (
+        &["layout", "--json", "path.pc", "--drawing", "quick"],
+        false,
+    ),
+];
 
 /// A path is drawn in one line where that is short, and the quick drawing winds it up.
 #[test]
-fn draws_a_path_as_asked(rt: HostRuntime) -> Result<(), Fail> {
-    write_parts(&rt, "path.pc", &[HEADER, PATH])?;
-    check_path(&rt, &["layout", "--json", "path.pc"], true)?;
-    let short = ["layout", "--drawing=short", "--json", "path.pc"];
-    check_path(&rt, &short, true)?;
-    let quick = ["layout", "--drawing=quick", "--json", "path.pc"];
-    check_path(&rt, &quick, false)?;
-    let quick = ["layout", "--json", "path.pc", "--drawing", "quick"];
-    check_path(&rt, &quick, false)
+fn draws_a_path_as_asked(rt: HostRuntime) {
+    make_file(&rt, "path.pc", &[HEADER, PATH]);
+    for (words, is_straight) in PATHS {
+        check_path(&rt, words, is_straight);
+    }
 }
 
-#[test]
-fn refuses_other_command_lines(rt: HostRuntime) -> Result<(), Fail> {
-    check_refused(&rt, &["layout"], "were not provided:\n  <FILE>...\n")?;
-    check_refused(&rt, &["layout", "--lanes", "x", "a"], "invalid value 'x'")?;
-    check_refused(
-        &rt,
+/// Command lines that are refused, and a text in what is said of each.
+const REFUSED: [(&[&str], &str); 12] = [
+    (&["layout"], "were not provided:\n  <FILE>...\n"),
+    (&["layout", "--lanes", "x", "a"], "invalid value 'x'"),
+    (
         &["layout", "--outer", "widest", "a"],
         "invalid value 'widest' for '--outer <CHOICE>'\n  [possible values: first, best]\n",
-    )?;
-    check_refused(
-        &rt,
+    ),
+    (
         &["frames", "--outer", "best", "a"],
         "unexpected argument '--outer' found",
-    )?;
-    check_refused(
-        &rt,
+    ),
+    (
         &["layout", "--drawing", "x", "a"],
         "invalid value 'x' for '--drawing <KIND>'\n  [possible values: short, quick]\n",
-    )?;
-    check_refused(
-        &rt,
+    ),
+    (
         &["frames", "--json", "a"],
         "unexpected argument '--json' found",
-    )?;
-    for lanes in ["0", "9"] {
-        check_refused(
-            &rt,
-            &["layout", "--lanes", lanes, "a"],
-            "planarbend: lanes must be 1 to 8\n",
-        )?;
-    }
-    for waiting in ["0", "65537", "x", "1.5"] {
-        let word = format!(in rt.alloc(); "invalid value '{waiting}' for '--waiting")?;
-        let words = ["layout", "--waiting", waiting, "a"];
-        check_refused(&rt, &words, word.as_str())?;
-    }
+    ),
+    (
+        &["layout", "--lanes", "0", "a"],
+        "planarbend: lanes must be 1 to 8\n",
+    ),
+    (
+        &["layout", "--lanes", "9", "a"],
+        "planarbend: lanes must be 1 to 8\n",
+    ),
+    (
+        &["layout", "--waiting", "0", "a"],
+        "invalid value '0' for '--waiting",
+    ),
+    (
+        &["layout", "--waiting", "65537", "a"],
+        "invalid value '65537' for '--waiting",
+    ),
+    (
+        &["layout", "--waiting", "x", "a"],
+        "invalid value 'x' for '--waiting",
+    ),
+    (
+        &["layout", "--waiting", "1.5", "a"],
+        "invalid value '1.5' for '--waiting",
+    ),
+];
+
+#[test]
+fn refuses_other_command_lines(rt: HostRuntime) {
+    check_refused(&rt, &REFUSED);
     let mut words = ["a"; 258];
     words[0] = "layout";
-    check_refused(&rt, &words, "planarbend: more than 256 files\n")?;
-    check_help(
-        &rt,
-        &["layout", "--help"],
-        "  geng -c -D4 8 | planarg -p | planarbend layout -\n",
-    )
+    check_refused(&rt, &[(&words, "planarbend: more than 256 files\n")]);
+    let pipe = "  geng -c -D4 8 | planarg -p | planarbend layout -\n";
+    check_help(&rt, &[(&["layout", "--help"], pipe)]);
 }
 
 const REPORT: &[u8] = b"file 1\n\
@@ -396,12 +419,11 @@ fn words_for<R: Files + AllocGlobal>(rt: &R) -> io::Result<Vec<String>> {
 }
 
 #[test]
-fn names_a_failed_write(rt: HostRuntime) -> Result<(), Fail> {
-    let words = words_for(&rt)?;
+fn names_a_failed_write(rt: HostRuntime) {
+    let words = words_for(&rt).expect(&rt, "a file");
     for room in [0, 10, REPORT.len() - 1] {
         check_failed_write(&rt, words.as_slice(), &REPORT[..room]);
     }
-    Ok(())
 }
 
 /// With each allocation refused in turn, the run ends in an answer that names it.

@@ -10,7 +10,6 @@ use std::io::{ErrorKind, Write};
 use std::process::Abort;
 use std::rt::Files;
 use std::sync::Wait;
-use std::test::Fail;
 use std::thread::Threads;
 use std::{fs, io};
 use streams::IoSink;
@@ -137,53 +136,57 @@ where
     )
 }
 
-/// Runs the command with these words, and looks at the report and the status.
-pub fn check<R: Files + AllocGlobal + Threads + Wait + Sync + Abort>(
-    rt: &R,
-    words: &[&str],
-    report: &str,
-    status: u8,
-) -> Result<(), Fail>
-where
-    R::File: Send,
-    R::Dir: Send,
-{
-    let ran = run(rt, words)?;
+/// What a run wrote is the report, with this status.
+pub fn expect_report(rt: &impl Abort, ran: &Ran<Vec<u8>>, report: &str, status: u8) {
     same(rt, ran.out.as_slice(), report.as_bytes());
     same(rt, (ran.status, ran.err.len()), (status, 0));
-    Ok(())
 }
 
-/// Runs a command line that is refused, and looks for a text in what is said of it.
+/// Words, the report of the command with them, and its status.
+pub type Row<'a> = (&'a [&'a str], &'a str, u8);
+
+/// Runs the command with the words of each row, and looks at the report and the status.
+pub fn check_rows<R: Files + AllocGlobal + Threads + Wait + Sync + Abort>(rt: &R, rows: &[Row])
+where
+    R::File: Send,
+    R::Dir: Send,
+{
+    for (words, report, status) in rows {
+        let ran = run(rt, words).expect(rt, "memory");
+        expect_report(rt, &ran, report, *status);
+    }
+}
+
+/// Runs command lines that are refused, and looks for a text in what is said of each.
 pub fn check_refused<R: Files + AllocGlobal + Threads + Wait + Sync + Abort>(
     rt: &R,
-    words: &[&str],
-    text: &str,
-) -> Result<(), Fail>
+    rows: &[(&[&str], &str)],
+)
 where
     R::File: Send,
     R::Dir: Send,
 {
-    let ran = run(rt, words)?;
-    expect_part(rt, ran.err.as_slice(), text);
-    same(rt, (ran.status, ran.out.len()), (2, 0));
-    Ok(())
+    for (words, text) in rows {
+        let ran = run(rt, words).expect(rt, "memory");
+        expect_part(rt, ran.err.as_slice(), text);
+        same(rt, (ran.status, ran.out.len()), (2, 0));
+    }
 }
 
-/// Asks for help, and looks for a text in it.
+/// Asks for help by each of these command lines, and looks for a text in it.
 pub fn check_help<R: Files + AllocGlobal + Threads + Wait + Sync + Abort>(
     rt: &R,
-    words: &[&str],
-    text: &str,
-) -> Result<(), Fail>
+    rows: &[(&[&str], &str)],
+)
 where
     R::File: Send,
     R::Dir: Send,
 {
-    let ran = run(rt, words)?;
-    expect_part(rt, ran.out.as_slice(), text);
-    same(rt, (ran.status, ran.err.len()), (0, 0));
-    Ok(())
+    for (words, text) in rows {
+        let ran = run(rt, words).expect(rt, "memory");
+        expect_part(rt, ran.out.as_slice(), text);
+        same(rt, (ran.status, ran.err.len()), (0, 0));
+    }
 }
 
 /// Sees that a part stands somewhere in a text.
@@ -207,9 +210,14 @@ where
     R::Dir: Send,
 {
     let ran = run_narrow(rt, words, begins.len(), 64);
-    same(rt, ran.status, 1);
-    same(rt, ran.out.text(), begins);
-    same(rt, ran.err.text(), b"planarbend: write failed\n".as_slice());
+    expect_texts(rt, &ran, 1, begins, b"planarbend: write failed\n");
+}
+
+/// A run wrote these texts into two narrow writers, with this status.
+pub fn expect_texts(rt: &impl Abort, ran: &Ran<Narrow>, status: u8, out: &[u8], err: &[u8]) {
+    same(rt, ran.status, status);
+    same(rt, ran.out.text(), out);
+    same(rt, ran.err.text(), err);
 }
 
 /// Whether the line says that the run itself found no memory. Where a thread is started or an end
@@ -232,6 +240,11 @@ pub fn joined_bytes(alloc: Global, parts: &[&[u8]]) -> Result<Vec<u8>, AllocErro
 /// Writes a file of these parts.
 pub fn write_parts<R: Files + AllocGlobal>(rt: &R, name: &str, parts: &[&[u8]]) -> io::Result<()> {
     fs::write(rt, name, joined_bytes(rt.alloc(), parts)?.as_slice())
+}
+
+/// Makes a file of these parts.
+pub fn make_file<R: Files + AllocGlobal + Abort>(rt: &R, name: &str, parts: &[&[u8]]) {
+    write_parts(rt, name, parts).expect(rt, "a file");
 }
 
 /// A writer with little room, which fails when it is full.

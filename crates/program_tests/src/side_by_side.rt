@@ -1,13 +1,12 @@
 //! Runs of `layout` in several lanes, which are to open their files side by side.
 
-use crate::shared::{EDGE, HEADER, run, same, write_parts};
+use crate::shared::{EDGE, HEADER, make_file, run, same};
 use std::alloc::{Allocator, Global};
 use std::fs::{Metadata, OpenOptions};
 use std::process::Abort;
 use std::rt::Files;
 use std::sync::Wait;
 use std::sync::atomic::{AtomicBool, AtomicU32, Ordering};
-use std::test::Fail;
 use std::thread::Threads;
 use std::{io, thread};
 
@@ -98,7 +97,7 @@ fn check_lanes<R: Files + AllocGlobal + Threads + Wait + Sync + Abort>(
     rt: &R,
     lanes: &str,
     wanted: u32,
-) -> Result<(), Fail>
+)
 where
     R::File: Send,
     R::Dir: Send,
@@ -113,19 +112,17 @@ where
         "layout", "--lanes", lanes, "lane.pc", "lane.pc", "lane.pc", "lane.pc", "lane.pc",
         "lane.pc", "lane.pc", "lane.pc",
     ];
-    let ran = run(&crowd, &words)?;
-    same(rt, ran.status, 0);
-    same(rt, crowd.ran_out.load(Ordering::SeqCst), false);
-    Ok(())
+    let ran = run(&crowd, &words).expect(rt, "memory");
+    let ran_out = crowd.ran_out.load(Ordering::SeqCst);
+    same(rt, (ran.status, ran_out), (0, false));
 }
 
 /// As many lanes as `--lanes` says open files at once: with eight files, the open of each waits for those
 /// of the others in so many lanes.
 #[test]
-fn works_in_as_many_lanes_as_are_asked_for(rt: HostRuntime) -> Result<(), Fail> {
-    write_parts(&rt, "lane.pc", &[HEADER, EDGE])?;
+fn works_in_as_many_lanes_as_are_asked_for(rt: HostRuntime) {
+    make_file(&rt, "lane.pc", &[HEADER, EDGE]);
     for (lanes, wanted) in [("1", 1), ("2", 2), ("3", 3), ("4", 4), ("8", 8)] {
-        check_lanes(&rt, lanes, wanted)?;
+        check_lanes(&rt, lanes, wanted);
     }
-    Ok(())
 }

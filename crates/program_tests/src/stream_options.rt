@@ -2,8 +2,8 @@
 //! of the report and of the lines.
 
 use crate::shared::{
-    EDGE, HEADER, NoConsole, TRIANGLE, check, check_refused, joined_bytes, run_on, same,
-    write_parts,
+    EDGE, HEADER, NoConsole, Ran, Row, TRIANGLE, check_refused, check_rows, expect_report,
+    joined_bytes, make_file, run_on, same,
 };
 use lanes::{Gate, MemOpener, Stage};
 use program_io::{Console, Meter, Progress, is_input};
@@ -12,7 +12,6 @@ use std::process::Abort;
 use std::rt::Files;
 use std::sync::Wait;
 use std::sync::atomic::{AtomicU64, Ordering};
-use std::test::Fail;
 use std::thread::Threads;
 
 /// A standard input of these parts, of which a read gives at most 7 bytes.
@@ -22,22 +21,22 @@ fn input_of(alloc: Global, parts: &[&[u8]]) -> Result<MemOpener, AllocError> {
     Ok(MemOpener::new(files, 7))
 }
 
-/// Runs the command with these words on a standard input of these parts, and looks at the report and the status.
+/// Runs the command with the words of each row on a standard input of these parts, and looks at the report and the
+/// status.
 fn check_on<R: Files + AllocGlobal + Threads + Wait + Sync + Abort>(
     rt: &R,
     parts: &[&[u8]],
-    words: &[&str],
-    report: &str,
-    status: u8,
-) -> Result<(), Fail>
+    rows: &[Row],
+)
 where
     R::File: Send,
     R::Dir: Send,
 {
-    let ran = run_on(rt, words, &input_of(rt.alloc(), parts)?, &NoConsole)?;
-    same(rt, ran.out.as_slice(), report.as_bytes());
-    same(rt, (ran.status, ran.err.len()), (status, 0));
-    Ok(())
+    for (words, report, status) in rows {
+        let input = input_of(rt.alloc(), parts).expect(rt, "memory");
+        let ran = run_on(rt, words, &input, &NoConsole).expect(rt, "memory");
+        expect_report(rt, &ran, report, *status);
+    }
 }
 
 const BOTH: &str = "file 1\n\
@@ -45,97 +44,97 @@ const BOTH: &str = "file 1\n\
     graph 2 ok n=3 m=3 f=2 bends=1 drawn=yes\n\
     end complete graphs=2\n";
 
-#[test]
-fn lays_out_standard_input(rt: HostRuntime) -> Result<(), Fail> {
-    let two = [HEADER, EDGE, TRIANGLE];
-    check_on(&rt, &two, &["layout", "-"], BOTH, 0)?;
-    check_on(&rt, &two, &["layout", "--", "-"], BOTH, 0)?;
-    check_on(&rt, &two, &["layout", "--lanes=8", "-"], BOTH, 0)?;
-    check_on(
-        &rt,
-        &[HEADER, &[1, 0]],
-        &["layout", "--json", "-"],
-        "{\"file\":1,\"graph\":1,\"rule\":\"edgeless\",\"status\":\"refused\"}\n\
-        {\"end\":\"complete\",\"file\":1,\"graphs\":1}\n",
+const OF_BOTH: [Row; 4] = [
+    (&["layout", "-"], BOTH, 0),
+    (&["layout", "--", "-"], BOTH, 0),
+    (&["layout", "--lanes=8", "-"], BOTH, 0),
+    (
+        &["frames", "-"],
+        "record 1 n=2 bytes=5\nrecord 2 n=3 bytes=10\nend complete records=2\n",
         0,
-    )?;
-    check_on(
-        &rt,
-        &[],
-        &["layout", "-"],
-        "file 1\nend header graphs=0\n",
-        3,
-    )?;
-    check(&rt, &["layout", "-"], "file 1\nend io graphs=0\n", 3)
-}
+    ),
+];
+
+const EDGELESS: &str = "{\"file\":1,\"graph\":1,\"rule\":\"edgeless\",\"status\":\"refused\"}\n\
+    {\"end\":\"complete\",\"file\":1,\"graphs\":1}\n";
+
+const CUT: &str = "record 1 n=2 bytes=5\nend truncated records=1\n";
+
+/// Parts of standard input, and a row.
+const INPUTS: [(&[&[u8]], Row); 3] = [
+    (
+        &[HEADER, &[1, 0]],
+        (&["layout", "--json", "-"], EDGELESS, 0),
+    ),
+    (&[], (&["layout", "-"], "file 1\nend header graphs=0\n", 3)),
+    (
+        &[HEADER, EDGE, &[2, 2, 0, 1]],
+        (&["frames", "--", "-"], CUT, 3),
+    ),
+];
+
+/// What is said of a standard input that cannot be read.
+const UNREAD: [Row; 2] = [
+    (&["layout", "-"], "file 1\nend io graphs=0\n", 3),
+    (&["frames", "-"], "end io records=0\n", 3),
+];
 
 #[test]
-fn cuts_standard_input_into_records(rt: HostRuntime) -> Result<(), Fail> {
-    let both = "record 1 n=2 bytes=5\nrecord 2 n=3 bytes=10\nend complete records=2\n";
-    check_on(&rt, &[HEADER, EDGE, TRIANGLE], &["frames", "-"], both, 0)?;
-    let cut = "record 1 n=2 bytes=5\nend truncated records=1\n";
-    check_on(
-        &rt,
-        &[HEADER, EDGE, &[2, 2, 0, 1]],
-        &["frames", "--", "-"],
-        cut,
-        3,
-    )?;
-    check(&rt, &["frames", "-"], "end io records=0\n", 3)
+fn reads_standard_input(rt: HostRuntime) {
+    check_on(&rt, &[HEADER, EDGE, TRIANGLE], &OF_BOTH);
+    for (parts, row) in INPUTS {
+        check_on(&rt, parts, &[row]);
+    }
+    check_rows(&rt, &UNREAD);
 }
 
 /// Standard input has its place among other files, of which `./-` is the one of that name.
-#[test]
-fn reads_standard_input_beside_files(rt: HostRuntime) -> Result<(), Fail> {
-    write_parts(&rt, "-", &[HEADER, TRIANGLE])?;
-    let edge = [HEADER, EDGE];
-    let input_first = "file 1\n\
+const BESIDE_FILES: [Row; 2] = [
+    (
+        &["layout", "-", "./-"],
+        "file 1\n\
         graph 1 ok n=2 m=1 f=1 bends=0 drawn=yes\n\
         end complete graphs=1\n\
         file 2\n\
         graph 1 ok n=3 m=3 f=2 bends=1 drawn=yes\n\
-        end complete graphs=1\n";
-    check_on(&rt, &edge, &["layout", "-", "./-"], input_first, 0)?;
-    let file_first = "file 1\n\
-        graph 1 ok n=3 m=3 f=2 bends=1 drawn=yes\n\
-        end complete graphs=1\n\
-        file 2\n\
-        graph 1 ok n=2 m=1 f=1 bends=0 drawn=yes\n\
-        end complete graphs=1\n";
-    check_on(
-        &rt,
-        &edge,
-        &["layout", "--lanes", "2", "./-", "--", "-"],
-        file_first,
+        end complete graphs=1\n",
         0,
-    )?;
-    same(&rt, is_input("-"), true);
-    for name in ["./-", "--", "", "- ", "a-"] {
-        same(&rt, is_input(name), false);
-    }
-    Ok(())
-}
+    ),
+    (
+        &["layout", "--lanes", "2", "./-", "--", "-"],
+        "file 1\n\
+        graph 1 ok n=3 m=3 f=2 bends=1 drawn=yes\n\
+        end complete graphs=1\n\
+        file 2\n\
+        graph 1 ok n=2 m=1 f=1 bends=0 drawn=yes\n\
+        end complete graphs=1\n",
+        0,
+    ),
+];
 
 #[test]
-fn reads_standard_input_once(rt: HostRuntime) -> Result<(), Fail> {
-    let lines: [&[&str]; 4] = [
-        &["layout", "-", "-"],
-        &["layout", "-", "a", "--lanes", "2", "-"],
-        &["layout", "-", "--", "-"],
-        &["layout", "--", "-", "-", "-"],
-    ];
-    for words in lines {
-        check_refused(
-            &rt,
-            words,
-            "error: standard input, the file '-', can be read only once, and is named twice\n",
-        )?;
+fn reads_standard_input_beside_files(rt: HostRuntime) {
+    make_file(&rt, "-", &[HEADER, TRIANGLE]);
+    check_on(&rt, &[HEADER, EDGE], &BESIDE_FILES);
+    for name in ["-", "./-", "--", "", "- ", "a-"] {
+        same(&rt, is_input(name), name == "-");
     }
-    check_refused(
-        &rt,
-        &["frames", "-", "-"],
-        "unexpected argument '-' found\n",
-    )
+}
+
+const TWICE: &str =
+    "error: standard input, the file '-', can be read only once, and is named twice\n";
+
+const READ_TWICE: [(&[&str], &str); 5] = [
+    (&["layout", "-", "-"], TWICE),
+    (&["layout", "-", "a", "--lanes", "2", "-"], TWICE),
+    (&["layout", "-", "--", "-"], TWICE),
+    (&["layout", "--", "-", "-", "-"], TWICE),
+    (&["frames", "-", "-"], "unexpected argument '-' found\n"),
+];
+
+#[test]
+fn reads_standard_input_once(rt: HostRuntime) {
+    check_refused(&rt, &READ_TWICE);
 }
 
 /// A console whose clock goes on by so many milliseconds at each look, and which compares what it is to show with
@@ -198,45 +197,52 @@ fn check_told<R: Files + AllocGlobal + Threads + Wait + Sync + Abort>(
     words: &[&str],
     terminal: bool,
     wanted: &[&str],
-) -> Result<(), Fail>
+)
 where
     R::File: Send,
     R::Dir: Send,
 {
-    let input = input_of(rt.alloc(), &[HEADER, EDGE, EDGE, EDGE, EDGE, EDGE])?;
+    let five = [HEADER, EDGE, EDGE, EDGE, EDGE, EDGE];
+    let input = input_of(rt.alloc(), &five).expect(rt, "memory");
     let console = Ticking::new(terminal, 100, wanted);
-    let ran = run_on(rt, words, &input, &console)?;
-    same(
-        rt,
-        ran.out.as_slice().ends_with(b"\nend complete graphs=5\n"),
-        true,
-    );
-    same(rt, (ran.status, ran.err.len()), (0, 0));
+    let ran = run_on(rt, words, &input, &console).expect(rt, "memory");
+    expect_five(rt, &ran);
     same(rt, console.counts(), (wanted.len() as u64, 0));
-    Ok(())
 }
 
+/// A run's text ends as that of five graphs.
+fn expect_five(rt: &impl Abort, ran: &Ran<Vec<u8>>) {
+    let ends = b"\nend complete graphs=5\n";
+    same(rt, ran.out.as_slice().ends_with(ends), true);
+    same(rt, (ran.status, ran.err.len()), (0, 0));
+}
+
+const OVER: [&str; 2] = [
+    "\rplanarbend: 1 of 1 files begun, 3 graphs, 10 a second   ",
+    "\rplanarbend: 1 of 1 files begun, 5 graphs, 8 a second   \n",
+];
+
+const APART: [&str; 2] = [
+    "planarbend: 1 of 1 files begun, 3 graphs, 10 a second\n",
+    "planarbend: 1 of 1 files begun, 5 graphs, 8 a second\n",
+];
+
+/// Words, whether there is a terminal, and what is told.
+const TOLD: [(&[&str], bool, &[&str]); 5] = [
+    (&["layout", "-"], true, &[]),
+    (&["layout", "-", "--progress"], true, &OVER),
+    (&["layout", "-", "--progress"], false, &[]),
+    (&["layout", "--progress", "-", "--progress"], true, &OVER),
+    (&["layout", "--progress", "-", "--progress"], false, &APART),
+];
+
 #[test]
-fn tells_how_far_it_is(rt: HostRuntime) -> Result<(), Fail> {
-    let over = [
-        "\rplanarbend: 1 of 1 files begun, 3 graphs, 10 a second   ",
-        "\rplanarbend: 1 of 1 files begun, 5 graphs, 8 a second   \n",
-    ];
-    let apart = [
-        "planarbend: 1 of 1 files begun, 3 graphs, 10 a second\n",
-        "planarbend: 1 of 1 files begun, 5 graphs, 8 a second\n",
-    ];
-    let twice = ["layout", "--progress", "-", "--progress"];
-    check_told(&rt, &["layout", "-"], true, &[])?;
-    check_told(&rt, &["layout", "-", "--progress"], true, &over)?;
-    check_told(&rt, &["layout", "-", "--progress"], false, &[])?;
-    check_told(&rt, &twice, true, &over)?;
-    check_told(&rt, &twice, false, &apart)?;
-    check_refused(
-        &rt,
-        &["frames", "--progress", "a"],
-        "unexpected argument '--progress' found",
-    )
+fn tells_how_far_it_is(rt: HostRuntime) {
+    for (words, terminal, wanted) in TOLD {
+        check_told(&rt, words, terminal, wanted);
+    }
+    let refused = "unexpected argument '--progress' found";
+    check_refused(&rt, &[(&["frames", "--progress", "a"], refused)]);
 }
 
 /// How many lines are told of so many graphs, between which so many milliseconds pass.
@@ -252,9 +258,13 @@ fn lines_of(graphs: u32, step: u64) -> u64 {
 
 #[test]
 fn tells_at_most_four_lines_a_second(rt: HostRuntime) {
-    same(&rt, lines_of(1000, 1), 4);
-    same(&rt, lines_of(40, 25), 4);
-    same(&rt, lines_of(10, 100), 3);
-    same(&rt, lines_of(10, 300), 10);
-    same(&rt, lines_of(10, 0), 0);
+    for (graphs, step, lines) in [
+        (1000, 1, 4),
+        (40, 25, 4),
+        (10, 100, 3),
+        (10, 300, 10),
+        (10, 0, 0),
+    ] {
+        same(&rt, lines_of(graphs, step), lines);
+    }
 }
