@@ -216,7 +216,8 @@ fn run_form<
     }
 }
 
-/// Runs lanes of one kind, and puts what came of them into `ran`.
+/// Runs lanes of one kind, and puts what came of them into `ran`. Not inlined: the frames of all kinds would stand in one.
+#[inline(never)]
 fn run_into<
     L: LaneKind,
     C: Consumer<L::Entry, L::End>,
