@@ -6,9 +6,8 @@ use crate::tests::{
 };
 use faces::{Choice, Plane};
 use ortho_rep::{best_shape, least_shape};
-use std::alloc::{AllocError, Global};
+use std::alloc::Global;
 use std::process::Abort;
-use std::test::Fail;
 
 /// A cube with a ninth vertex, joined to the four of a face.
 pub(crate) const NINTH: [u8; 42] = [
@@ -38,97 +37,75 @@ const SEVEN_WITH_FIVE_FACES: [u8; 28] = [
 ];
 
 /// How many bends are needed with the outer face that the plane has.
-fn bends_as_it_is(alloc: Global, plane: &Plane) -> Result<u32, AllocError> {
-    let (shape, _prices) = least_shape(alloc, plane)?;
-    Ok(shape.bends())
+fn bends_as_it_is(rt: &impl Abort, alloc: Global, plane: &Plane) -> u32 {
+    let (shape, _prices) = least_shape(alloc, plane).expect(rt, "memory");
+    shape.bends()
 }
 
 /// How many bends are needed with the best outer face. The shape passes both tests with its prices.
-fn bends_at_best(rt: &impl Abort, alloc: Global, plane: &mut Plane) -> Result<u32, AllocError> {
-    let (shape, prices) = best_shape(alloc, plane)?;
+fn bends_at_best(rt: &impl Abort, alloc: Global, plane: &mut Plane) -> u32 {
+    let (shape, prices) = best_shape(alloc, plane).expect(rt, "memory");
     same(rt, answers(plane, &shape, &prices), (true, true));
-    Ok(shape.bends())
+    shape.bends()
 }
 
 /// How many bends are needed with the first outer face and with the best one, and which face that is.
-fn bends_of(rt: &impl Abort, alloc: Global, bytes: &[u8]) -> Result<(u32, u32, u16), Fail> {
-    let mut plane = plane_of(alloc, bytes)?;
-    let first = bends_as_it_is(alloc, &plane)?;
-    let best = bends_at_best(rt, alloc, &mut plane)?;
-    Ok((first, best, plane.outer()))
+fn bends_of(rt: &impl Abort, alloc: Global, bytes: &[u8]) -> (u32, u32, u16) {
+    let mut plane = plane_of(rt, alloc, bytes);
+    let first = bends_as_it_is(rt, alloc, &plane);
+    let best = bends_at_best(rt, alloc, &mut plane);
+    (first, best, plane.outer())
 }
 
-/// Both numbers of bends and the best face are these.
-fn expect_best(
-    rt: &impl Abort,
-    alloc: Global,
-    bytes: &[u8],
-    want: (u32, u32, u16),
-) -> Result<(), Fail> {
-    same(rt, bends_of(rt, alloc, bytes)?, want);
-    Ok(())
+/// Graphs of which another face is better, and others, whose faces are all alike, or there is one: both numbers of
+/// bends and the best face.
+const BEST: [(&[u8], (u32, u32, u16)); 9] = [
+    (&NINTH, (10, 8, 2)),
+    (&TENTH, (9, 8, 2)),
+    (&EDGE, (0, 0, 0)),
+    (&TRIANGLE, (1, 1, 0)),
+    (&STAR, (0, 0, 0)),
+    (&FOUR_CYCLE, (0, 0, 0)),
+    (&K4, (4, 4, 0)),
+    (&OCTAHEDRON, (12, 12, 0)),
+    (&CUBE, (4, 4, 0)),
+];
+
+#[test]
+fn best_faces(rt: HostRuntime) {
+    for (bytes, want) in BEST {
+        same(&rt, bends_of(&rt, rt.alloc(), bytes), want);
+    }
+    let bytes = long_cycle(rt.alloc()).expect(&rt, "memory");
+    same(&rt, bends_of(&rt, rt.alloc(), &bytes), (0, 0, 0));
 }
 
-/// Both numbers of bends are these.
-fn expect_bends(
-    rt: &impl Abort,
-    alloc: Global,
-    bytes: &[u8],
-    first: u32,
-    best: u32,
-) -> Result<(), Fail> {
-    let (one, other, _face) = bends_of(rt, alloc, bytes)?;
-    same(rt, (one, other), (first, best));
-    Ok(())
+/// Bends that LEMON's network simplex found, with the first outer face and with the best one.
+const OF_AN_ORACLE: [(&[u8], u32, u32); 3] = [
+    (&SIX, 6, 5),
+    (&SEVEN, 2, 1),
+    (&SEVEN_WITH_FIVE_FACES, 5, 4),
+];
+
+#[test]
+fn bends_of_an_oracle(rt: HostRuntime) {
+    for (bytes, first, best) in OF_AN_ORACLE {
+        let (one, other, _face) = bends_of(&rt, rt.alloc(), bytes);
+        same(&rt, (one, other), (first, best));
+    }
 }
 
 #[test]
-fn another_face_is_better(rt: HostRuntime) -> Result<(), Fail> {
-    expect_best(&rt, rt.alloc(), &NINTH, (10, 8, 2))?;
-    expect_best(&rt, rt.alloc(), &TENTH, (9, 8, 2))
-}
-
-/// All faces of these are alike, or there is one.
-#[test]
-fn the_first_face_is_best(rt: HostRuntime) -> Result<(), Fail> {
-    let alloc = rt.alloc();
-    expect_best(&rt, alloc, &EDGE, (0, 0, 0))?;
-    expect_best(&rt, alloc, &TRIANGLE, (1, 1, 0))?;
-    expect_best(&rt, alloc, &STAR, (0, 0, 0))?;
-    expect_best(&rt, alloc, &FOUR_CYCLE, (0, 0, 0))?;
-    expect_best(&rt, alloc, &long_cycle(alloc)?, (0, 0, 0))
-}
-
-#[test]
-fn the_first_of_more_faces_is_best(rt: HostRuntime) -> Result<(), Fail> {
-    let alloc = rt.alloc();
-    expect_best(&rt, alloc, &K4, (4, 4, 0))?;
-    expect_best(&rt, alloc, &OCTAHEDRON, (12, 12, 0))?;
-    expect_best(&rt, alloc, &CUBE, (4, 4, 0))
-}
-
-/// Bends that LEMON's network simplex found.
-#[test]
-fn bends_of_an_oracle(rt: HostRuntime) -> Result<(), Fail> {
-    let alloc = rt.alloc();
-    expect_bends(&rt, alloc, &SIX, 6, 5)?;
-    expect_bends(&rt, alloc, &SEVEN, 2, 1)?;
-    expect_bends(&rt, alloc, &SEVEN_WITH_FIVE_FACES, 5, 4)
-}
-
-#[test]
-fn a_face_turned_out(rt: HostRuntime) -> Result<(), Fail> {
-    let mut plane = plane_of(rt.alloc(), &TENTH)?;
+fn a_face_turned_out(rt: HostRuntime) {
+    let mut plane = plane_of(&rt, rt.alloc(), &TENTH);
     same(&rt, (plane.outer(), plane.face_count()), (0, 9));
     if 2 < plane.face_count() {
         plane.turn_out(2);
     }
     same(&rt, (plane.outer(), plane.face_count()), (2, 9));
-    Ok(())
 }
 
 #[test]
-fn choices(rt: HostRuntime) -> Result<(), Fail> {
+fn choices(rt: HostRuntime) {
     same(&rt, Choice::default(), Choice::First);
-    Ok(())
 }

@@ -8,7 +8,7 @@ ghost use Rattle.ortho_rep.specs.Representation.{IsShape};
 
 use crate::best::NINTH;
 use crate::compared::same;
-use crate::straight::figures;
+use crate::straight::{Figures, figures};
 use crate::tests::{PATH, TRIANGLE, answers, plane_in};
 use faces::Plane;
 use flow_network::FaceNet;
@@ -17,7 +17,6 @@ use ortho_rep::{Prices, Shape, Turn, best_shape, least_shape};
 use planar_code::{Ending, Record, frame, split};
 use std::alloc::{AllocError, Global};
 use std::process::Abort;
-use std::test::Fail;
 use straightening::{Scratch, straighten_in};
 
 /// A stream of two records.
@@ -29,33 +28,33 @@ fn expect_records(rt: &impl Abort, (records, ending): (Vec<Record>, Ending)) {
 }
 
 /// The records of the whole stream, by the second call where the first finds no memory.
-fn split_at_last(alloc: Global) -> Result<(Vec<Record>, Ending), AllocError> {
+fn split_at_last(rt: &impl Abort, alloc: Global) -> (Vec<Record>, Ending) {
     match split(alloc, STREAM) {
-        Ok(whole) => Ok(whole),
-        Err(AllocError) => split(alloc, STREAM),
+        Ok(whole) => whole,
+        Err(AllocError) => split(alloc, STREAM).expect(rt, "memory"),
     }
 }
 
 /// The same of a stream in pieces.
-fn frame_at_last(alloc: Global, pieces: &[Vec<u8>]) -> Result<(Vec<Record>, Ending), AllocError> {
+fn frame_at_last(rt: &impl Abort, alloc: Global, pieces: &[Vec<u8>]) -> (Vec<Record>, Ending) {
     match frame(alloc, pieces) {
-        Ok(whole) => Ok(whole),
-        Err(AllocError) => frame(alloc, pieces),
+        Ok(whole) => whole,
+        Err(AllocError) => frame(alloc, pieces).expect(rt, "memory"),
     }
 }
 
+/// The stream as one piece.
+fn pieces_in(alloc: Global) -> Option<Vec<Vec<u8>>> {
+    let piece = STREAM.to_vec(alloc).ok()?;
+    vec![in alloc; piece].ok()
+}
+
 #[test]
-fn streams(rt: HostRuntime) -> Result<(), Fail> {
-    let alloc = rt.alloc();
-    expect_records(&rt, split_at_last(alloc)?);
-    let Ok(piece) = STREAM.to_vec(alloc) else {
-        return Ok(());
-    };
-    let Ok(pieces) = vec![in alloc; piece] else {
-        return Ok(());
-    };
-    expect_records(&rt, frame_at_last(alloc, pieces.as_slice())?);
-    Ok(())
+fn streams(rt: HostRuntime) {
+    expect_records(&rt, split_at_last(&rt, rt.alloc()));
+    if let Some(pieces) = pieces_in(rt.alloc()) {
+        expect_records(&rt, frame_at_last(&rt, rt.alloc(), pieces.as_slice()));
+    }
 }
 
 /// The one arc of a network, which costs 1 a unit.
@@ -68,14 +67,10 @@ const ARC: Arc = Arc {
 
 /// Two nodes, three units from one to the other, and one arc. Where memory is wanting for the lists there is
 /// nothing, and from them the network takes none.
-fn one_arc(alloc: Global) -> Result<Option<Network>, Fail> {
-    let Ok(supplies) = [3, -3].to_vec(alloc) else {
-        return Ok(None);
-    };
-    let Ok(arcs) = [ARC].to_vec(alloc) else {
-        return Ok(None);
-    };
-    Ok(Some(Network::new(supplies, arcs)?))
+fn one_arc(rt: &impl Abort, alloc: Global) -> Option<Network> {
+    let supplies = [3, -3].to_vec(alloc).ok()?;
+    let arcs = [ARC].to_vec(alloc).ok()?;
+    Some(Network::new(supplies, arcs).expect(rt, "a network"))
 }
 
 /// What is read off the network of one arc.
@@ -86,74 +81,63 @@ fn expect_one_arc(rt: &impl Abort, network: &Network) {
 }
 
 /// The solution of that network, by the second call where the first finds no memory.
-fn expect_solution(rt: &impl Abort, alloc: Global, network: &Network) -> Result<(), SolveFault> {
+fn expect_solution(rt: &impl Abort, alloc: Global, network: &Network) {
     assert!(rt; network.node_count() == 2 && network.arc_count() == 1);
     let solved = match solve(alloc, network) {
         Ok(solved) => solved,
         Err(fault) => {
             same(rt, fault, SolveFault::Memory);
-            solve(alloc, network)?
+            solve(alloc, network).expect(rt, "a flow")
         }
     };
-    same(rt, solved.flow(0), 3);
-    same(rt, (solved.potential(0), solved.potential(1)), (-1, 0));
-    same(
-        rt,
-        (solved.searches() > 0, solved.looks() > 0),
-        (true, true),
-    );
-    Ok(())
+    let potentials = (solved.potential(0), solved.potential(1));
+    same(rt, (solved.flow(0), potentials), (3, (-1, 0)));
+    let counts = (solved.searches() > 0, solved.looks() > 0);
+    same(rt, counts, (true, true));
 }
 
 #[test]
-fn flows(rt: HostRuntime) -> Result<(), Fail> {
-    let alloc = rt.alloc();
-    let Some(network) = one_arc(alloc)? else {
-        return Ok(());
-    };
-    expect_solution(&rt, alloc, &network)?;
-    expect_one_arc(&rt, &network);
-    Ok(())
+fn flows(rt: HostRuntime) {
+    if let Some(network) = one_arc(&rt, rt.alloc()) {
+        expect_solution(&rt, rt.alloc(), &network);
+        expect_one_arc(&rt, &network);
+    }
 }
 
 /// A flow that stands, by the second call where the first finds no memory.
-fn stand_at_last(
-    rt: &impl Abort,
-    alloc: Global,
-    network: &Network,
-) -> Result<Standing, SolveFault> {
+fn stand_at_last(rt: &impl Abort, alloc: Global, network: &Network) -> Standing {
     match Standing::new(alloc, network) {
-        Ok(standing) => Ok(standing),
+        Ok(standing) => standing,
         Err(fault) => {
             same(rt, fault, SolveFault::Memory);
-            Standing::new(alloc, network)
+            Standing::new(alloc, network).expect(rt, "a flow")
         }
     }
 }
 
 /// The solution that is read off it, likewise.
-fn expect_read_off(rt: &impl Abort, alloc: Global, standing: &Standing) -> Result<(), AllocError> {
+fn expect_read_off(rt: &impl Abort, alloc: Global, standing: &Standing) {
     assert!(rt; standing.network().arc_count() == 1);
     let solved = match standing.solved(alloc) {
         Ok(solved) => solved,
-        Err(AllocError) => standing.solved(alloc)?,
+        Err(AllocError) => standing.solved(alloc).expect(rt, "memory"),
     };
     same(rt, solved.flow(0), 3);
-    Ok(())
 }
 
-/// A flow that stands, and the solution that is read off it.
+/// A flow that stands on a network, and the solution that is read off it.
+fn expect_standing(rt: &impl Abort, alloc: Global, network: &Network) {
+    let standing = stand_at_last(rt, alloc, network);
+    same(rt, standing.least_cost().0, 3);
+    same(rt, standing.network().supplies(), network.supplies());
+    expect_read_off(rt, alloc, &standing);
+}
+
 #[test]
-fn standing_flows(rt: HostRuntime) -> Result<(), Fail> {
-    let alloc = rt.alloc();
-    let Some(network) = one_arc(alloc)? else {
-        return Ok(());
-    };
-    let standing = stand_at_last(&rt, alloc, &network)?;
-    same(&rt, standing.least_cost().0, 3);
-    same(&rt, standing.network().supplies(), network.supplies());
-    expect_read_off(&rt, alloc, &standing)?;
-    Ok(())
+fn standing_flows(rt: HostRuntime) {
+    if let Some(network) = one_arc(&rt, rt.alloc()) {
+        expect_standing(&rt, rt.alloc(), &network);
+    }
 }
 
 /// The supplies and the numbers of a triangle's network: three vertices of two darts, the outer face 0 and
@@ -176,51 +160,61 @@ fn expect_other_face(rt: &impl Abort, plane: &Plane, mut net: FaceNet)
     same(rt, network.supplies(), [2, 2, 2, 1, -7].as_slice());
 }
 
-#[test]
-fn networks(rt: HostRuntime) -> Result<(), Fail> {
-    let alloc = rt.alloc();
-    let Some(plane) = plane_in(alloc, &TRIANGLE) else {
-        return Ok(());
-    };
-    let net = match FaceNet::build(alloc, &plane) {
+/// The network of a plane, by the second call where the first finds no memory.
+fn network_at_last(rt: &impl Abort, alloc: Global, plane: &Plane) -> FaceNet
+    ensures { IsNetOf plane.now result }
+{
+    match FaceNet::build(alloc, plane) {
         Ok(net) => net,
-        Err(AllocError) => FaceNet::build(alloc, &plane)?,
+        Err(AllocError) => FaceNet::build(alloc, plane).expect(rt, "memory"),
+    }
+}
+
+#[test]
+fn networks(rt: HostRuntime) {
+    let Some(plane) = plane_in(rt.alloc(), &TRIANGLE) else {
+        return;
     };
+    let net = network_at_last(&rt, rt.alloc(), &plane);
     expect_network(&rt, &net);
     expect_other_face(&rt, &plane, net);
-    Ok(())
 }
 
-#[test]
-fn least_shapes(rt: HostRuntime) -> Result<(), Fail> {
-    let alloc = rt.alloc();
-    let Some(plane) = plane_in(alloc, &TRIANGLE) else {
-        return Ok(());
-    };
-    let (shape, prices) = match least_shape(alloc, &plane) {
+/// A least shape of a plane has one bend, by the second call where the first finds no memory.
+fn expect_least(rt: &impl Abort, alloc: Global, plane: &Plane) {
+    let (shape, prices) = match least_shape(alloc, plane) {
         Ok(found) => found,
-        Err(AllocError) => least_shape(alloc, &plane)?,
+        Err(AllocError) => least_shape(alloc, plane).expect(rt, "memory"),
     };
-    same(&rt, shape.bends(), 1);
-    same(&rt, answers(&plane, &shape, &prices), (true, true));
-    Ok(())
+    same(rt, shape.bends(), 1);
+    same(rt, answers(plane, &shape, &prices), (true, true));
 }
 
 #[test]
-fn best_shapes(rt: HostRuntime) -> Result<(), Fail> {
-    let alloc = rt.alloc();
-    let Some(mut plane) = plane_in(alloc, &NINTH) else {
-        return Ok(());
-    };
-    let (shape, _prices) = match best_shape(alloc, &mut plane) {
+fn least_shapes(rt: HostRuntime) {
+    if let Some(plane) = plane_in(rt.alloc(), &TRIANGLE) {
+        expect_least(&rt, rt.alloc(), &plane);
+    }
+}
+
+/// How many bends a best shape of a plane has, by the second call where the first finds no memory.
+fn best_bends(rt: &impl Abort, alloc: Global, plane: &mut Plane) -> u32 {
+    let (shape, _prices) = match best_shape(alloc, plane) {
         Ok(found) => found,
         Err(AllocError) => {
-            same(&rt, plane.outer(), 0);
-            best_shape(alloc, &mut plane)?
+            same(rt, plane.outer(), 0);
+            best_shape(alloc, plane).expect(rt, "memory")
         }
     };
-    same(&rt, (shape.bends(), plane.outer()), (8, 2));
-    Ok(())
+    shape.bends()
+}
+
+#[test]
+fn best_shapes(rt: HostRuntime) {
+    if let Some(mut plane) = plane_in(rt.alloc(), &NINTH) {
+        same(&rt, best_bends(&rt, rt.alloc(), &mut plane), 8);
+        same(&rt, plane.outer(), 2);
+    }
 }
 
 /// A least shape that was made straighter, and its prices.
@@ -236,20 +230,22 @@ fn straight_in(
     Ok((straight, prices))
 }
 
-#[test]
-fn straight_shapes(rt: HostRuntime) -> Result<(), Fail> {
-    let alloc = rt.alloc();
-    let Some(plane) = plane_in(alloc, &PATH) else {
-        return Ok(());
-    };
+/// The figures of such a shape, by the second call where the first finds no memory.
+fn straight_figures(rt: &impl Abort, alloc: Global, plane: &Plane) -> Figures {
     let mut scratch = Scratch::new();
-    let (shape, prices) = match straight_in(alloc, &mut scratch, &plane) {
+    let (shape, prices) = match straight_in(alloc, &mut scratch, plane) {
         Ok(found) => found,
-        Err(AllocError) => straight_in(alloc, &mut scratch, &plane)?,
+        Err(AllocError) => straight_in(alloc, &mut scratch, plane).expect(rt, "memory"),
     };
-    let want = (0, 0, (true, true));
-    same(&rt, figures(&plane, &shape, &prices), want);
-    Ok(())
+    figures(plane, &shape, &prices)
+}
+
+#[test]
+fn straight_shapes(rt: HostRuntime) {
+    if let Some(plane) = plane_in(rt.alloc(), &PATH) {
+        let found = straight_figures(&rt, rt.alloc(), &plane);
+        same(&rt, found, (0, 0, (true, true)));
+    }
 }
 
 /// Two strings, of two turns and of none, or nothing where memory is wanting.

@@ -7,9 +7,8 @@ use crate::compared::same;
 use crate::tests::{Case, EDGE, PATH, TRIANGLE, answers, plane_of, prices_in, shape_in};
 use faces::Plane;
 use ortho_rep::{Prices, Shape, certify, is_shape, least_shape};
-use std::alloc::Global;
+use std::alloc::{AllocError, Global};
 use std::process::Abort;
-use std::test::Fail;
 use straightening::{Scratch, straighten_in};
 
 /// How many vertices of degree 2 turn, bends, and what both tests say.
@@ -39,21 +38,15 @@ pub(crate) fn figures(plane: &Plane, shape: &Shape, prices: &Prices) -> Figures
     )
 }
 
-/// Sees that of the least shape of this record, once it is straightened, so many vertices of degree 2 turn.
-fn expect_turning(
-    rt: &impl Abort,
-    alloc: Global,
-    scratch: &mut Scratch,
-    record: &[u8],
-    turning: u16,
-) -> Result<(), Fail> {
-    let plane = plane_of(alloc, record)?;
-    let (shape, prices) = least_shape(alloc, &plane)?;
-    let bends = shape.bends();
-    let straight = straighten_in(alloc, scratch, &plane, shape, &prices)?;
-    let want = (turning, bends, (true, true));
-    same(rt, figures(&plane, &straight, &prices), want);
-    Ok(())
+/// How many vertices of degree 2 of this record turn, once its least shape is straightened. That has as many bends
+/// as before, and passes both tests.
+fn turning_of(rt: &impl Abort, alloc: Global, scratch: &mut Scratch, record: &[u8]) -> u16 {
+    let plane = plane_of(rt, alloc, record);
+    let (shape, prices) = least_shape(alloc, &plane).expect(rt, "memory");
+    let found = straightened(alloc, scratch, &plane, shape, &prices);
+    let ((_, bends, _), (turning, kept, right)) = found.expect(rt, "memory");
+    same(rt, (kept, right), (bends, (true, true)));
+    turning
 }
 
 /// A cycle of five vertices. Without a bend, four of them turn.
@@ -70,19 +63,26 @@ const THETA: [u8; 24] = [
     7, 6, 5, 3, 0, 4, 5, 7, 0, 1, 4, 0, 3, 2, 0, 1, 2, 0, 1, 7, 0, 6, 2, 0,
 ];
 
-/// One scratch for planes of several sizes, from large to small and back.
+/// Planes of several sizes, from large to small and back, and how many vertices turn.
+const TURNING: [(&[u8], u16); 8] = [
+    (&SPIDER, 0),
+    (&THETA, 4),
+    (&PATH, 0),
+    (&CYCLE, 4),
+    (&TRIANGLE, 3),
+    (&EDGE, 0),
+    (&THETA, 4),
+    (&SPIDER, 0),
+];
+
+/// One scratch serves all.
 #[test]
-fn fewest_turning(rt: HostRuntime) -> Result<(), Fail> {
-    let alloc = rt.alloc();
+fn fewest_turning(rt: HostRuntime) {
     let mut scratch = Scratch::new();
-    expect_turning(&rt, alloc, &mut scratch, &SPIDER, 0)?;
-    expect_turning(&rt, alloc, &mut scratch, &THETA, 4)?;
-    expect_turning(&rt, alloc, &mut scratch, &PATH, 0)?;
-    expect_turning(&rt, alloc, &mut scratch, &CYCLE, 4)?;
-    expect_turning(&rt, alloc, &mut scratch, &TRIANGLE, 3)?;
-    expect_turning(&rt, alloc, &mut scratch, &EDGE, 0)?;
-    expect_turning(&rt, alloc, &mut scratch, &THETA, 4)?;
-    expect_turning(&rt, alloc, &mut scratch, &SPIDER, 0)
+    for (record, turning) in TURNING {
+        let found = turning_of(&rt, rt.alloc(), &mut scratch, record);
+        same(&rt, found, turning);
+    }
 }
 
 /// Three paths of two edges between the vertices 4 and 5, and two bends, both on the edge from 1 to 5. All three
@@ -103,7 +103,7 @@ fn straightened(
     plane: &Plane,
     shape: Shape,
     prices: &Prices,
-) -> Result<(Figures, Figures), Fail>
+) -> Result<(Figures, Figures), AllocError>
     requires shape { IsShape plane.now shape }
     requires least { IsLeast plane.now shape }
     requires proof { IsProof plane.now shape prices.now }
@@ -115,18 +115,16 @@ fn straightened(
 
 /// The same of the shape of a case, where it is a least one.
 fn figures_of(
+    rt: &impl Abort,
     alloc: Global,
     scratch: &mut Scratch,
     case: &Case<'_>,
-) -> Result<(Figures, Figures), Fail> {
-    let plane = plane_of(alloc, case.record)?;
-    let shape = shape_in(alloc, case)?;
-    let prices = prices_in(alloc, case)?;
-    if is_shape(&plane, &shape) && certify(&plane, &shape, &prices) {
-        straightened(alloc, scratch, &plane, shape, &prices)
-    } else {
-        Err("no least shape")?
-    }
+) -> (Figures, Figures) {
+    let plane = plane_of(rt, alloc, case.record);
+    let shape = shape_in(rt, alloc, case);
+    let prices = prices_in(alloc, case).expect(rt, "memory");
+    assert!(rt; is_shape(&plane, &shape) && certify(&plane, &shape, &prices));
+    straightened(alloc, scratch, &plane, shape, &prices).expect(rt, "memory")
 }
 
 const HEXAGON: [u8; 19] = [6, 2, 6, 0, 3, 1, 0, 4, 2, 0, 5, 3, 0, 6, 4, 0, 1, 5, 0];
@@ -146,26 +144,20 @@ const ANGLED: Case<'static> = Case {
     ..RECTANGLE
 };
 
-/// Sees that so many vertices of degree 2 turn before and after, with so many bends.
-fn expect_straightened(
-    rt: &impl Abort,
-    alloc: Global,
-    scratch: &mut Scratch,
-    case: &Case<'_>,
-    want: (u16, u16, u32),
-) -> Result<(), Fail> {
-    let (before, after, bends) = want;
-    let right = (true, true);
-    let figures = figures_of(alloc, scratch, case)?;
-    same(rt, figures, ((before, bends, right), (after, bends, right)));
-    Ok(())
-}
+/// Cases, how many vertices of degree 2 turn before and after, and bends.
+const MOVED: [(Case<'static>, u16, u16, u32); 3] = [
+    (RECTANGLE, 4, 4, 0),
+    (BENT, 3, 2, 2),
+    (ANGLED, 6, 4, 0),
+];
 
 /// What the search in the rectangle leaves in the scratch would mislead the one for the bends behind it.
 #[test]
-fn units_move(rt: HostRuntime) -> Result<(), Fail> {
+fn units_move(rt: HostRuntime) {
+    let right = (true, true);
     let mut scratch = Scratch::new();
-    expect_straightened(&rt, rt.alloc(), &mut scratch, &RECTANGLE, (4, 4, 0))?;
-    expect_straightened(&rt, rt.alloc(), &mut scratch, &BENT, (3, 2, 2))?;
-    expect_straightened(&rt, rt.alloc(), &mut scratch, &ANGLED, (6, 4, 0))
+    for (case, before, after, bends) in MOVED {
+        let found = figures_of(&rt, rt.alloc(), &mut scratch, &case);
+        same(&rt, found, ((before, bends, right), (after, bends, right)));
+    }
 }

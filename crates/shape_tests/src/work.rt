@@ -11,7 +11,6 @@ use min_cost_flow::{Arc, Cap, Network, SolveFault, solve};
 use ortho_rep::{Shape, least_shape};
 use std::alloc::{AllocError, Global};
 use std::process::Abort;
-use std::test::Fail;
 
 /// How many units are supplied in a network.
 fn supplied_in(network: &Network) -> u64 {
@@ -30,73 +29,67 @@ fn work_of(alloc: Global, network: &Network) -> Result<(u64, u64), SolveFault> {
 
 /// So many units are supplied in a network of so many arcs. There is a search for each of them at most, and
 /// in each search no more looks than twice the number of arcs; there is at least one search and one look.
-fn expect_work(
-    rt: &impl Abort,
-    alloc: Global,
-    network: &Network,
-    supplied: u64,
-    arcs: u64,
-) -> Result<(), Fail> {
-    same(
-        rt,
-        (supplied_in(network), network.arc_count() as u64),
-        (supplied, arcs),
-    );
-    let (searches, looks) = work_of(alloc, network)?;
-    assert!(rt;
-        1 <= searches && searches <= supplied,
-        "{searches} searches"
-    );
-    let most = supplied.wrapping_mul(2).wrapping_mul(arcs);
-    assert!(rt; 1 <= looks && looks <= most, "{looks} looks");
-    Ok(())
+fn expect_work(rt: &impl Abort, alloc: Global, network: &Network, supplied: u64, arcs: u64) {
+    let counts = (supplied_in(network), network.arc_count() as u64);
+    same(rt, counts, (supplied, arcs));
+    let (searches, looks) = work_of(alloc, network).expect(rt, "a flow");
+    expect_between(rt, searches, supplied);
+    expect_between(rt, looks, supplied.wrapping_mul(2).wrapping_mul(arcs));
+}
+
+/// A number is at least 1 and at most so much.
+fn expect_between(rt: &impl Abort, number: u64, most: u64) {
+    assert!(rt; 1 <= number && number <= most, "{number} of {most}");
 }
 
 /// The same of the network of a plane.
-fn expect_plane_work(
-    rt: &impl Abort,
-    alloc: Global,
-    bytes: &[u8],
-    supplied: u64,
-    arcs: u64,
-) -> Result<(), Fail> {
-    let plane = plane_of(alloc, bytes)?;
-    let net = FaceNet::build(alloc, &plane)?;
-    expect_work(rt, alloc, net.network(), supplied, arcs)
+fn expect_plane_work(rt: &impl Abort, alloc: Global, bytes: &[u8], supplied: u64, arcs: u64) {
+    let plane = plane_of(rt, alloc, bytes);
+    let net = FaceNet::build(alloc, &plane).expect(rt, "memory");
+    expect_work(rt, alloc, net.network(), supplied, arcs);
 }
 
 /// Three nodes in a row by free arcs, of which the first carries one unit, and a dear arc past them.
-fn free_way(alloc: Global) -> Result<Network, Fail> {
-    let arcs = [
-        (0, 2, Cap::Any, 1),
-        (0, 1, Cap::AtMost(1), 0),
-        (1, 2, Cap::Any, 0),
-    ];
-    let mut list = Vec::new(alloc);
-    for (from, to, cap, cost) in arcs {
-        list.push(Arc {
-            from,
-            to,
-            cap,
-            cost,
-        })?;
-    }
-    Ok(Network::new([2, 0, -2].to_vec(alloc)?, list)?)
+const FREE_WAY: [Arc; 3] = [
+    Arc {
+        from: 0,
+        to: 2,
+        cap: Cap::Any,
+        cost: 1,
+    },
+    Arc {
+        from: 0,
+        to: 1,
+        cap: Cap::AtMost(1),
+        cost: 0,
+    },
+    Arc {
+        from: 1,
+        to: 2,
+        cap: Cap::Any,
+        cost: 0,
+    },
+];
+
+fn free_way(rt: &impl Abort, alloc: Global) -> Network {
+    let supplies = [2, 0, -2].to_vec(alloc).expect(rt, "memory");
+    let arcs = FREE_WAY.to_vec(alloc).expect(rt, "memory");
+    Network::new(supplies, arcs).expect(rt, "a network")
 }
 
 #[test]
-fn little_work_on_small_networks(rt: HostRuntime) -> Result<(), Fail> {
+fn little_work(rt: HostRuntime) {
     let alloc = rt.alloc();
-    expect_work(&rt, alloc, &free_way(alloc)?, 2, 3)?;
-    expect_plane_work(&rt, alloc, &EDGE, 6, 4)?;
-    expect_plane_work(&rt, alloc, &TRIANGLE, 7, 12)?;
-    expect_plane_work(&rt, alloc, &OCTAHEDRON, 7, 48)
-}
-
-#[test]
-fn little_work_on_a_long_cycle(rt: HostRuntime) -> Result<(), Fail> {
-    let bytes = long_cycle(rt.alloc())?;
-    expect_plane_work(&rt, rt.alloc(), &bytes, 510, 1020)
+    expect_work(&rt, alloc, &free_way(&rt, alloc), 2, 3);
+    let cycle = long_cycle(alloc).expect(&rt, "memory");
+    for (bytes, supplied, arcs) in [
+        (EDGE.as_slice(), 6, 4),
+        (&TRIANGLE, 7, 12),
+        (&OCTAHEDRON, 7, 48),
+        (&cycle, 510, 1020),
+    ] {
+        expect_plane_work(&rt, alloc, bytes, supplied, arcs);
+    }
 }
 
 /// Two cycles on so many vertices, each vertex of the inner one joined to one of the outer one and the next.
@@ -120,10 +113,11 @@ fn antiprism(alloc: Global, count: u8) -> Result<Vec<u8>, AllocError>
 
 /// An antiprism of 128 darts and one of 400, with the bends that LEMON's network simplex found.
 #[test]
-fn hundreds_of_darts(rt: HostRuntime) -> Result<(), Fail> {
-    let alloc = rt.alloc();
-    expect_least(&rt, alloc, &antiprism(alloc, 16)?, 36)?;
-    expect_least(&rt, alloc, &antiprism(alloc, 50)?, 104)
+fn hundreds_of_darts(rt: HostRuntime) {
+    for (count, bends) in [(16, 36), (50, 104)] {
+        let bytes = antiprism(rt.alloc(), count).expect(&rt, "memory");
+        expect_least(&rt, rt.alloc(), &bytes, bends);
+    }
 }
 
 /// The most turns that a dart has.
@@ -138,16 +132,15 @@ fn most_turns(plane: &Plane, shape: &Shape) -> usize
 }
 
 /// The most bends of an edge in a least shape of these bytes.
-fn most_bends(alloc: Global, bytes: &[u8]) -> Result<usize, Fail> {
-    let plane = plane_of(alloc, bytes)?;
-    let (shape, _prices) = least_shape(alloc, &plane)?;
-    Ok(most_turns(&plane, &shape))
+fn most_bends(rt: &impl Abort, alloc: Global, bytes: &[u8]) -> usize {
+    let plane = plane_of(rt, alloc, bytes);
+    let (shape, _prices) = least_shape(alloc, &plane).expect(rt, "memory");
+    most_turns(&plane, &shape)
 }
 
 /// The octahedron has no drawing with at most two bends an edge.
 #[test]
-fn an_edge_bends_three_times(rt: HostRuntime) -> Result<(), Fail> {
-    let most = most_bends(rt.alloc(), &OCTAHEDRON)?;
+fn an_edge_bends_three_times(rt: HostRuntime) {
+    let most = most_bends(&rt, rt.alloc(), &OCTAHEDRON);
     assert!(rt; 3 <= most, "{most} bends");
-    Ok(())
 }
