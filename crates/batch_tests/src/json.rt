@@ -8,7 +8,6 @@ use std::alloc::Global;
 use std::io;
 use std::io::{ErrorKind, Write};
 use std::process::Abort;
-use std::test::Fail;
 
 const EDGE: &[u8] = b">>planar_code<<\x02\x02\x00\x01\x00";
 
@@ -34,34 +33,36 @@ fn text_of(alloc: Global, batch: &Batch) -> Result<Vec<u8>, WriteFault> {
 }
 
 /// The lines of these files.
-fn lines_of(alloc: Global, files: &[&[u8]]) -> Result<Vec<u8>, Fail> {
-    let batch = batch_of(alloc, files).ok_or("no batch")?;
-    Ok(text_of(alloc, &batch)?)
+fn lines_of(rt: &impl Abort, alloc: Global, files: &[&[u8]]) -> Vec<u8> {
+    let batch = batch_of(alloc, files).expect(rt, "a batch");
+    text_of(alloc, &batch).expect(rt, "lines")
 }
 
 #[test]
-fn shows_refused_graphs_and_ends(rt: HostRuntime) -> Result<(), Fail> {
-    let lines = lines_of(rt.alloc(), &[b"", REFUSED, b">>planar_code<<"])?;
+fn shows_refused_graphs_and_ends(rt: HostRuntime) {
+    let lines = lines_of(&rt, rt.alloc(), &[b"", REFUSED, b">>planar_code<<"]);
     let text = "{\"end\":\"header\",\"file\":1,\"graphs\":0}\n\
         {\"file\":2,\"graph\":1,\"rule\":\"genus\",\"status\":\"refused\"}\n\
         {\"file\":2,\"graph\":2,\"rule\":\"edgeless\",\"status\":\"refused\"}\n\
         {\"end\":\"complete\",\"file\":2,\"graphs\":2}\n\
         {\"end\":\"complete\",\"file\":3,\"graphs\":0}\n";
     same(&rt, lines.as_slice(), text.as_bytes());
-    same(&rt, lines_of(rt.alloc(), &[])?.len(), 0);
-    Ok(())
+    same(&rt, lines_of(&rt, rt.alloc(), &[]).len(), 0);
 }
 
 #[test]
-fn shows_a_single_edge(rt: HostRuntime) -> Result<(), Fail> {
-    let text = lines_of(rt.alloc(), &[EDGE])?;
+fn shows_a_single_edge(rt: HostRuntime) {
+    let text = lines_of(&rt, rt.alloc(), &[EDGE]);
     let begins =
         b"{\"angles\":[4,4],\"bends\":0,\"drawn\":\"yes\",\"f\":1,\"file\":1,\"graph\":1,\"m\":1,\"n\":2,\"points\":{";
     let ends =
         b"\"status\":\"ok\",\"turns\":[\"\",\"\"]}\n{\"end\":\"complete\",\"file\":1,\"graphs\":1}\n";
-    same(&rt, text.as_slice().starts_with(begins), true);
-    same(&rt, text.as_slice().ends_with(ends), true);
-    Ok(())
+    let text = text.as_slice();
+    same(
+        &rt,
+        (text.starts_with(begins), text.ends_with(ends)),
+        (true, true),
+    );
 }
 
 /// A writer that takes so many bytes a call, and fails when it is full.
@@ -124,9 +125,9 @@ fn check_room<R: AllocGlobal + Abort>(
 
 /// A writer that fails after so many bytes has just these, and one that takes a byte a call has all.
 #[test]
-fn writes_a_beginning_before_a_fault(rt: HostRuntime) -> Result<(), Fail> {
-    let batch = batch_of(rt.alloc(), &THREE_FILES).ok_or("no batch")?;
-    let text = text_of(rt.alloc(), &batch)?;
+fn writes_a_beginning_before_a_fault(rt: HostRuntime) {
+    let batch = batch_of(rt.alloc(), &THREE_FILES).expect(&rt, "a batch");
+    let text = text_of(rt.alloc(), &batch).expect(&rt, "lines");
     let text = text.as_slice();
     assert!(rt; text.len() <= 2048);
     for room in 0..text.len() {
@@ -139,7 +140,6 @@ fn writes_a_beginning_before_a_fault(rt: HostRuntime) -> Result<(), Fail> {
         );
     }
     check_room(&rt, &batch, text, Narrow::new(2048, 1), Ok(()));
-    Ok(())
 }
 
 /// What is written of a batch into a writer that takes at most 100 bytes a call, and the answer.

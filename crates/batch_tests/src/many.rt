@@ -10,7 +10,6 @@ use collector::{
 use std::alloc::{AllocError, Global};
 use std::process::Abort;
 use std::sync::Wait;
-use std::test::Fail;
 use std::thread::Threads;
 use streams::MAX_CAPACITY;
 
@@ -55,24 +54,23 @@ fn check_lanes<R: AllocGlobal + Threads + Wait + Sync + Abort>(
     lanes: u32,
     capacity: u32,
     report: &[u8],
-) -> Result<(), Fail>
+)
     requires capacity { (1 ≤ capacity) × (capacity ≤ MAX_CAPACITY) }
 {
-    let found = report_of_lanes(rt, opener, files, lanes, capacity).ok_or("no report")?;
+    let found = report_of_lanes(rt, opener, files, lanes, capacity).expect(rt, "a report");
     assert!(rt; found.as_slice() == report, "{lanes}");
-    Ok(())
 }
 
 #[test]
-fn reports_64_files_the_same_over_lanes(rt: HostRuntime) -> Result<(), Fail> {
-    let opener = triangles(rt.alloc(), 64)?;
-    let report = report_of_plain(rt.alloc(), &opener, 64).ok_or("no report")?;
+fn reports_64_files_the_same_over_lanes(rt: HostRuntime) {
+    let opener = triangles(rt.alloc(), 64).expect(&rt, "memory");
+    let report = report_of_plain(rt.alloc(), &opener, 64).expect(&rt, "a report");
     same(&rt, report.len(), 4_535);
     for lanes in 1..=MAX_LANES {
-        check_lanes(&rt, &opener, 64, lanes, 1, report.as_slice())?;
-        check_lanes(&rt, &opener, 64, lanes, MAX_CAPACITY, report.as_slice())?;
+        for capacity in [1, MAX_CAPACITY] {
+            check_lanes(&rt, &opener, 64, lanes, capacity, report.as_slice());
+        }
     }
-    Ok(())
 }
 
 /// An edge, the complete graph on four vertices in a rotation of another surface, two edges apart, a triangle, and a
@@ -92,9 +90,9 @@ const OF_MIXED: &[u8] = b"file 1\n\
 
 /// One file over four lanes, read two bytes at a time.
 #[test]
-fn reports_one_file_over_four_lanes(rt: HostRuntime) -> Result<(), Fail> {
-    let opener = opener_of(rt.alloc(), &[MIXED], 2)?;
-    check_lanes(&rt, &opener, 1, 4, 1, OF_MIXED)
+fn reports_one_file_over_four_lanes(rt: HostRuntime) {
+    let opener = opener_of(rt.alloc(), &[MIXED], 2).expect(&rt, "memory");
+    check_lanes(&rt, &opener, 1, 4, 1, OF_MIXED);
 }
 
 /// So many files, which are in turn of one triangle, of graphs of several kinds, and of no header.
@@ -123,23 +121,22 @@ fn style_of(form: Form, drawing: DrawingKind) -> Style {
 /// JSON lines of quick drawings that leave as they are made over any number of lanes are those of the books of one
 /// thread.
 #[test]
-fn json_lines_are_those_of_books(rt: HostRuntime) -> Result<(), Fail> {
-    let opener = different(rt.alloc(), 48)?;
-    let due = lines_of_books(rt.alloc(), &opener, 48).ok_or("no lines")?;
+fn json_lines_are_those_of_books(rt: HostRuntime) {
+    let opener = different(rt.alloc(), 48).expect(&rt, "memory");
+    let due = lines_of_books(rt.alloc(), &opener, 48).expect(&rt, "lines");
     let lines = due.as_slice().split(|byte| *byte == b'\n').count();
     same(&rt, lines, 16 * 2 + 16 * 5 + 16 + 1);
     let style = style_of(Form::Json, DrawingKind::Quick);
     for lanes in 1..=MAX_LANES {
-        let found = text_of_lanes(&rt, &opener, 48, lanes, style).ok_or("no text")?;
+        let found = text_of_lanes(&rt, &opener, 48, lanes, style).expect(&rt, "a text");
         same(&rt, found.as_slice() == due.as_slice(), true);
     }
-    Ok(())
 }
 
 #[test]
-fn reports_256_files_the_same_over_eight_lanes(rt: HostRuntime) -> Result<(), Fail> {
-    let opener = triangles(rt.alloc(), 256)?;
-    let report = report_of_plain(rt.alloc(), &opener, 256).ok_or("no report")?;
+fn reports_256_files_the_same_over_eight_lanes(rt: HostRuntime) {
+    let opener = triangles(rt.alloc(), 256).expect(&rt, "memory");
+    let report = report_of_plain(rt.alloc(), &opener, 256).expect(&rt, "a report");
     same(&rt, report.len(), 18_324);
-    check_lanes(&rt, &opener, 256, 8, 1, report.as_slice())
+    check_lanes(&rt, &opener, 256, 8, 1, report.as_slice());
 }

@@ -14,7 +14,6 @@ use std::fmt::Write;
 use std::process::Abort;
 use std::sync::Wait;
 use std::sync::atomic::{AtomicBool, AtomicU32, Ordering};
-use std::test::Fail;
 use std::thread;
 use std::thread::Threads;
 
@@ -63,8 +62,8 @@ fn check<R: AllocGlobal + Threads + Wait + Sync + Abort, G: Gate>(
     lanes: u32,
     gate: &G,
     report: &str,
-) -> Result<(), Fail> {
-    check_chosen(rt, way, files, lanes, Choice::First, gate, report)
+) {
+    check_chosen(rt, way, files, lanes, Choice::First, gate, report);
 }
 
 /// The same under a choice of the outer face.
@@ -76,44 +75,38 @@ fn check_chosen<R: AllocGlobal + Threads + Wait + Sync + Abort, G: Gate>(
     choice: Choice,
     gate: &G,
     report: &str,
-) -> Result<(), Fail> {
-    let text = lanes_report(rt, way, files, lanes, choice, gate).ok_or("no report")?;
+) {
+    let text = lanes_report(rt, way, files, lanes, choice, gate).expect(rt, "a report");
     same(rt, text.as_slice(), report.as_bytes());
-    Ok(())
 }
 
 /// Runs the files on one thread, and looks at the report.
-fn check_plain<R: AllocGlobal + Abort>(
-    rt: &R,
-    files: &[&[u8]],
-    choice: Choice,
-    report: &str,
-) -> Result<(), Fail> {
-    let batch = plain_batch(rt.alloc(), files, 1, choice).ok_or("no batch")?;
-    check_report(rt, &batch, report.as_bytes())
+fn check_plain<R: AllocGlobal + Abort>(rt: &R, files: &[&[u8]], choice: Choice, report: &str) {
+    let batch = plain_batch(rt.alloc(), files, 1, choice).expect(rt, "a batch");
+    check_report(rt, &batch, report.as_bytes());
 }
 
 #[test]
-fn reports_the_same_over_lanes(rt: HostRuntime) -> Result<(), Fail> {
+fn reports_the_same_over_lanes(rt: HostRuntime) {
     let files = [TRIANGLES, CUT, HEADER];
     for lanes in 1..=MAX_LANES {
         for way in WAYS {
-            check(&rt, way, &files, lanes, &OpenGate, OF_THREE)?;
+            check(&rt, way, &files, lanes, &OpenGate, OF_THREE);
         }
     }
-    check_plain(&rt, &files, Choice::First, OF_THREE)
+    check_plain(&rt, &files, Choice::First, OF_THREE);
 }
 
 /// Neither a single edge nor a triangle has a better face than the widest.
 #[test]
-fn reports_the_same_under_either_choice(rt: HostRuntime) -> Result<(), Fail> {
+fn reports_the_same_under_either_choice(rt: HostRuntime) {
     let files = [TRIANGLES, CUT, HEADER];
     for lanes in 1..=4 {
         for way in WAYS {
-            check_chosen(&rt, way, &files, lanes, Choice::Best, &OpenGate, OF_THREE)?;
+            check_chosen(&rt, way, &files, lanes, Choice::Best, &OpenGate, OF_THREE);
         }
     }
-    check_plain(&rt, &files, Choice::Best, OF_THREE)
+    check_plain(&rt, &files, Choice::Best, OF_THREE);
 }
 
 /// A cube with a ninth vertex that is joined to all corners of one face: that face's opposite one needs
@@ -131,7 +124,7 @@ const CAPPED_BY_BEST: &str = "file 1\n\
     end complete graphs=1\n";
 
 #[test]
-fn chooses_the_outer_face(rt: HostRuntime) -> Result<(), Fail> {
+fn chooses_the_outer_face(rt: HostRuntime) {
     let files = [CAPPED_CUBE];
     for way in WAYS {
         check_chosen(
@@ -142,10 +135,9 @@ fn chooses_the_outer_face(rt: HostRuntime) -> Result<(), Fail> {
             Choice::First,
             &OpenGate,
             CAPPED_BY_FIRST,
-        )?;
-        check_chosen(&rt, way, &files, 1, Choice::Best, &OpenGate, CAPPED_BY_BEST)?;
+        );
+        check_chosen(&rt, way, &files, 1, Choice::Best, &OpenGate, CAPPED_BY_BEST);
     }
-    Ok(())
 }
 
 /// Counts the calls of each stage.
@@ -193,19 +185,18 @@ fn check_counts<R: AllocGlobal + Threads + Wait + Sync + Abort>(
     files: &[&[u8]],
     report: &str,
     count: usize,
-) -> Result<(), Fail> {
+) {
     for way in WAYS {
         let counts = Counts::new();
-        check(rt, way, files, 1, &counts, report)?;
+        check(rt, way, files, 1, &counts, report);
         check_passed(rt, &counts, count);
     }
-    Ok(())
 }
 
 #[test]
-fn each_stage_passes_the_gate_once_a_record(rt: HostRuntime) -> Result<(), Fail> {
-    check_counts(&rt, &[TRIANGLES, CUT, HEADER], OF_THREE, 3)?;
-    check_counts(&rt, &[TRIANGLES, CUT, HEADER, EDGELESS], OF_FOUR, 4)
+fn each_stage_passes_the_gate_once_a_record(rt: HostRuntime) {
+    check_counts(&rt, &[TRIANGLES, CUT, HEADER], OF_THREE, 3);
+    check_counts(&rt, &[TRIANGLES, CUT, HEADER, EDGELESS], OF_FOUR, 4);
 }
 
 /// Why a run over so many files that do not open and so many lanes came to nothing, or none.
@@ -229,21 +220,19 @@ fn fault_of<R: AllocGlobal + Threads + Wait + Sync>(
 }
 
 #[test]
-fn refuses_bad_numbers(rt: HostRuntime) -> Result<(), Fail> {
+fn refuses_bad_numbers(rt: HostRuntime) {
     same(&rt, fault_of(&rt, 257, 0), Some(BatchFault::TooManyFiles));
     same(&rt, fault_of(&rt, 256, 9), Some(BatchFault::BadLanes));
     same(&rt, fault_of(&rt, 256, 0), Some(BatchFault::BadLanes));
-    Ok(())
 }
 
 #[test]
-fn no_files_have_an_empty_report(rt: HostRuntime) -> Result<(), Fail> {
+fn no_files_have_an_empty_report(rt: HostRuntime) {
     for lanes in 1..=MAX_LANES {
         for way in WAYS {
-            check(&rt, way, &[], lanes, &OpenGate, "")?;
+            check(&rt, way, &[], lanes, &OpenGate, "");
         }
     }
-    Ok(())
 }
 
 /// Waits until the flag is set, and notes where a million turns were too few.
@@ -310,15 +299,14 @@ impl Gate for HoldsStages {
 /// Two stages of a lane work at once: the first one on the second record while the second one has the
 /// first record.
 #[test]
-fn gate_holds_stages(rt: HostRuntime) -> Result<(), Fail> {
+fn gate_holds_stages(rt: HostRuntime) {
     for way in WAYS {
         let gate = HoldsStages {
             meeting: Meeting::new(),
         };
-        check(&rt, way, &[TRIANGLES], 1, &gate, OF_TRIANGLES)?;
+        check(&rt, way, &[TRIANGLES], 1, &gate, OF_TRIANGLES);
         same(&rt, gate.meeting.took_place(), true);
     }
-    Ok(())
 }
 
 /// Holds the first stage of each of two lanes, until both are there.
@@ -339,15 +327,14 @@ impl Gate for HoldsTwo {
 
 /// Two lanes read at once.
 #[test]
-fn gate_holds_two(rt: HostRuntime) -> Result<(), Fail> {
+fn gate_holds_two(rt: HostRuntime) {
     for way in WAYS {
         let gate = HoldsTwo {
             meeting: Meeting::new(),
         };
-        check(&rt, way, &[EDGE, EDGE], 2, &gate, OF_EDGES)?;
+        check(&rt, way, &[EDGE, EDGE], 2, &gate, OF_EDGES);
         same(&rt, gate.meeting.took_place(), true);
     }
-    Ok(())
 }
 
 /// Counts the calls of each of two lanes at the first stage, and holds the first call of one lane until the
@@ -416,7 +403,7 @@ fn edges(alloc: Global, count: u32) -> Result<Vec<u8>, AllocError> {
 }
 
 /// The report of so many files of so many such records.
-fn report_of_edges(alloc: Global, files: u32, count: u32) -> Result<String, Fail> {
+fn report_of_edges(alloc: Global, files: u32, count: u32) -> Result<String, AllocError> {
     let mut report = String::new(alloc);
     for file in 1..=files {
         tell_edges(&mut report, file, count)?;
@@ -425,13 +412,12 @@ fn report_of_edges(alloc: Global, files: u32, count: u32) -> Result<String, Fail
 }
 
 /// What it says of one file.
-fn tell_edges(report: &mut String, file: u32, count: u32) -> Result<(), Fail> {
+fn tell_edges(report: &mut String, file: u32, count: u32) -> Result<(), AllocError> {
     writeln!(report, "file {file}")?;
     for graph in 1..=count {
         writeln!(report, "graph {graph} ok n=2 m=1 f=1 bends=0 drawn=yes")?;
     }
-    writeln!(report, "end complete graphs={count}")?;
-    Ok(())
+    writeln!(report, "end complete graphs={count}")
 }
 
 /// Runs two files of these bytes with one of two lanes held, and looks at the report.
@@ -440,24 +426,22 @@ fn check_fan<R: AllocGlobal + Threads + Wait + Sync + Abort>(
     bytes: &[u8],
     held: u32,
     report: &str,
-) -> Result<(), Fail> {
+) {
     for way in WAYS {
         let gate = HoldsFan::of(held);
-        check(rt, way, &[bytes, bytes], 2, &gate, report)?;
+        check(rt, way, &[bytes, bytes], 2, &gate, report);
         same(rt, gate.ran_out.load(Ordering::SeqCst), false);
     }
-    Ok(())
 }
 
 /// Of two lanes one gives all records of its file while the other gives none, whichever of them is held.
 #[test]
-fn gate_holds_fan(rt: HostRuntime) -> Result<(), Fail> {
-    let file = edges(rt.alloc(), 12)?;
-    let report = report_of_edges(rt.alloc(), 2, 12)?;
+fn gate_holds_fan(rt: HostRuntime) {
+    let file = edges(rt.alloc(), 12).expect(&rt, "memory");
+    let report = report_of_edges(rt.alloc(), 2, 12).expect(&rt, "memory");
     for held in 0..2 {
-        check_fan(&rt, file.as_slice(), held, report.as_str())?;
+        check_fan(&rt, file.as_slice(), held, report.as_str());
     }
-    Ok(())
 }
 
 /// Holds the first call of the second lane at the first stage until the first lane has called there, and
@@ -493,27 +477,30 @@ fn check_deal<R: AllocGlobal + Threads + Wait + Sync + Abort>(
     way: Way,
     bytes: &[u8],
     report: &str,
-) -> Result<(), Fail> {
+) {
     let gate = HoldsDeal {
         calls: [AtomicU32::new(0), AtomicU32::new(0)],
         ran_out: AtomicBool::new(false),
     };
-    check(rt, way, &[bytes, bytes, bytes, bytes], 2, &gate, report)?;
+    check(rt, way, &[bytes, bytes, bytes, bytes], 2, &gate, report);
     same(rt, gate.ran_out.load(Ordering::SeqCst), false);
-    same(rt, calls_of(&gate.calls, 0).load(Ordering::SeqCst), 4);
-    same(rt, calls_of(&gate.calls, 1).load(Ordering::SeqCst), 12);
-    Ok(())
+    for (lane, calls) in [(0, 4), (1, 12)] {
+        same(
+            rt,
+            calls_of(&gate.calls, lane).load(Ordering::SeqCst),
+            calls,
+        );
+    }
 }
 
 /// While one lane is held at its first file, the other draws all other files.
 #[test]
-fn gate_holds_deal(rt: HostRuntime) -> Result<(), Fail> {
-    let file = edges(rt.alloc(), 4)?;
-    let report = report_of_edges(rt.alloc(), 4, 4)?;
+fn gate_holds_deal(rt: HostRuntime) {
+    let file = edges(rt.alloc(), 4).expect(&rt, "memory");
+    let report = report_of_edges(rt.alloc(), 4, 4).expect(&rt, "memory");
     for way in WAYS {
-        check_deal(&rt, way, file.as_slice(), report.as_str())?;
+        check_deal(&rt, way, file.as_slice(), report.as_str());
     }
-    Ok(())
 }
 
 /// The numbers of vertices, edges, faces and bends of a drawn record.
@@ -656,8 +643,8 @@ fn books_of_run<R: AllocGlobal + Threads + Wait + Sync>(
 /// With the start of each thread refused in turn, of a lane's own and of its stages', the run ends, and
 /// answers Ok or the fault `Thread`.
 #[test]
-fn names_a_refused_thread(rt: HostRuntime) -> Result<(), Fail> {
-    let opener = opener_of(rt.alloc(), &[TRIANGLES, CUT, HEADER], 1)?;
+fn names_a_refused_thread(rt: HostRuntime) {
+    let opener = opener_of(rt.alloc(), &[TRIANGLES, CUT, HEADER], 1).expect(&rt, "memory");
     for lanes in 1..=MAX_LANES {
         let found = books_of_run(&rt, &opener, lanes);
         assert!(rt;
@@ -665,7 +652,6 @@ fn names_a_refused_thread(rt: HostRuntime) -> Result<(), Fail> {
             "{found:?}"
         );
     }
-    Ok(())
 }
 
 /// Opens these files, and then one whose reads all fail. It counts the sources that it opened, and those
@@ -727,21 +713,19 @@ impl Tap for Counted<'_> {
 
 /// Runs six files over lanes: a whole one, a cut one, one with another beginning, one with a fault, one
 /// whose reads fail and one that does not open. Looks at the report and at how many sources were let go.
-fn check_let_go<R: AllocGlobal + Threads + Wait + Sync + Abort>(
-    rt: &R,
-    lanes: u32,
-) -> Result<(), Fail> {
-    let files = opener_of(rt.alloc(), &[TRIANGLES, CUT, b"planar_code", LARGE], 1)?;
+fn check_let_go<R: AllocGlobal + Threads + Wait + Sync + Abort>(rt: &R, lanes: u32) {
+    let files = opener_of(rt.alloc(), &[TRIANGLES, CUT, b"planar_code", LARGE], 1).expect(
+        rt, "memory",
+    );
     let (run, counts) = counted_run(rt, files, 6, lanes, &OpenGate);
     same(rt, counts, (5, 5));
-    check_report(rt, &run?, OF_FAULTS.as_bytes())
+    check_report(rt, &run.expect(rt, "a batch"), OF_FAULTS.as_bytes());
 }
 
 /// Every source is let go.
 #[test]
-fn lets_every_source_go(rt: HostRuntime) -> Result<(), Fail> {
+fn lets_every_source_go(rt: HostRuntime) {
     for lanes in 1..=MAX_LANES {
-        check_let_go(&rt, lanes)?;
+        check_let_go(&rt, lanes);
     }
-    Ok(())
 }

@@ -10,7 +10,6 @@ use std::alloc::{AllocError, Global};
 use std::fmt::Debug;
 use std::process::Abort;
 use std::sync::Wait;
-use std::test::Fail;
 use std::thread::Threads;
 
 /// Sees that two values are the same. (An `assert_eq!` in each place would make the tests' proofs several times as long.)
@@ -167,12 +166,7 @@ pub(crate) fn report_of(alloc: Global, batch: &Batch) -> Result<Vec<u8>, WriteFa
 }
 
 /// The report of a batch is this text.
-pub(crate) fn check_report<R: AllocGlobal + Abort>(
-    rt: &R,
-    batch: &Batch,
-    report: &[u8],
-) -> Result<(), Fail> {
-    let text = report_of(rt.alloc(), batch)?;
+pub(crate) fn check_report<R: AllocGlobal + Abort>(rt: &R, batch: &Batch, report: &[u8]) {
+    let text = report_of(rt.alloc(), batch).expect(rt, "a report");
     same(rt, text.as_slice(), report);
-    Ok(())
 }

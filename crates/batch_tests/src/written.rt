@@ -12,7 +12,6 @@ use std::alloc::{AllocError, Global};
 use std::io;
 use std::io::{ErrorKind, Write};
 use std::process::Abort;
-use std::test::Fail;
 use streams::TextBuffer;
 
 const HEADER: &[u8] = b">>planar_code<<";
@@ -79,24 +78,23 @@ fn joined(alloc: Global, parts: &[&[u8]]) -> Result<Vec<u8>, AllocError> {
 }
 
 /// Reads these files, a byte or all at a time, and looks at the report.
-fn check_files<R: AllocGlobal + Abort>(rt: &R, files: &[&[u8]], report: &[u8]) -> Result<(), Fail> {
+fn check_files<R: AllocGlobal + Abort>(rt: &R, files: &[&[u8]], report: &[u8]) {
     for most in [1, 65_536] {
-        let batch = plain_batch(rt.alloc(), files, most, Choice::First).ok_or("no batch")?;
-        check_report(rt, &batch, report)?;
+        let batch = plain_batch(rt.alloc(), files, most, Choice::First).expect(rt, "a batch");
+        check_report(rt, &batch, report);
     }
-    Ok(())
 }
 
 /// Reads one file, and looks at the lines after its first.
-fn check_file<R: AllocGlobal + Abort>(rt: &R, parts: &[&[u8]], lines: &str) -> Result<(), Fail> {
-    let bytes = joined(rt.alloc(), parts)?;
-    let report = joined(rt.alloc(), &[b"file 1\n", lines.as_bytes()])?;
-    check_files(rt, &[bytes.as_slice()], report.as_slice())
+fn check_file<R: AllocGlobal + Abort>(rt: &R, parts: &[&[u8]], lines: &str) {
+    let bytes = joined(rt.alloc(), parts).expect(rt, "memory");
+    let report = joined(rt.alloc(), &[b"file 1\n", lines.as_bytes()]).expect(rt, "memory");
+    check_files(rt, &[bytes.as_slice()], report.as_slice());
 }
 
 /// Reads a file of one record, and looks at what the record's line says after the number.
-fn check_record<R: AllocGlobal + Abort>(rt: &R, bytes: &[u8], said: &str) -> Result<(), Fail> {
-    let bytes = joined(rt.alloc(), &[HEADER, bytes])?;
+fn check_record<R: AllocGlobal + Abort>(rt: &R, bytes: &[u8], said: &str) {
+    let bytes = joined(rt.alloc(), &[HEADER, bytes]).expect(rt, "memory");
     let report = joined(
         rt.alloc(),
         &[
@@ -104,46 +102,61 @@ fn check_record<R: AllocGlobal + Abort>(rt: &R, bytes: &[u8], said: &str) -> Res
             said.as_bytes(),
             b"\nend complete graphs=1\n",
         ],
-    )?;
-    check_files(rt, &[bytes.as_slice()], report.as_slice())
+    )
+    .expect(rt, "memory");
+    check_files(rt, &[bytes.as_slice()], report.as_slice());
 }
 
 #[test]
-fn tells_sizes_and_rules(rt: HostRuntime) -> Result<(), Fail> {
+fn tells_sizes_and_rules(rt: HostRuntime) {
     for (bytes, said) in RECORDS {
-        check_record(&rt, bytes, said)?;
+        check_record(&rt, bytes, said);
     }
-    Ok(())
 }
 
-#[test]
-fn draws_a_cycle_of_most_vertices(rt: HostRuntime) -> Result<(), Fail> {
-    let mut bytes = joined(rt.alloc(), &[HEADER, &[255]])?;
+/// A file of the longest cycle that a record can hold.
+fn longest_cycle(alloc: Global) -> Result<Vec<u8>, AllocError> {
+    let mut bytes = joined(alloc, &[HEADER, &[255]])?;
     for vertex in 1..=255u8 {
         let after = if vertex == 255 { 1 } else { vertex + 1 };
         let before = if vertex == 1 { 255 } else { vertex - 1 };
         bytes.extend_from_slice(&[after, before, 0])?;
     }
-    let lines = "graph 1 ok n=255 m=255 f=2 bends=0 drawn=yes\nend complete graphs=1\n";
-    check_file(&rt, &[bytes.as_slice()], lines)
+    Ok(bytes)
 }
 
 #[test]
-fn tells_how_a_file_ended(rt: HostRuntime) -> Result<(), Fail> {
-    check_file(&rt, &[], "end header graphs=0\n")?;
-    check_file(&rt, &[&HEADER[..14]], "end header graphs=0\n")?;
-    check_file(&rt, &[HEADER], "end complete graphs=0\n")?;
-    let cut = "graph 1 ok n=2 m=1 f=1 bends=0 drawn=yes\nend truncated graphs=1\n";
-    check_file(&rt, &[HEADER, EDGE, &EDGE[..4]], cut)?;
-    let large = "graph 1 ok n=2 m=1 f=1 bends=0 drawn=yes\nend large graphs=1\n";
-    check_file(&rt, &[HEADER, EDGE, b"\x00"], large)?;
+fn draws_a_cycle_of_most_vertices(rt: HostRuntime) {
+    let bytes = longest_cycle(rt.alloc()).expect(&rt, "memory");
+    let lines = "graph 1 ok n=255 m=255 f=2 bends=0 drawn=yes\nend complete graphs=1\n";
+    check_file(&rt, &[bytes.as_slice()], lines);
+}
+
+/// Parts of a file, and the lines after the first.
+const ENDINGS: [(&[&[u8]], &str); 5] = [
+    (&[], "end header graphs=0\n"),
+    (&[b">>planar_code<"], "end header graphs=0\n"),
+    (&[HEADER], "end complete graphs=0\n"),
+    (
+        &[HEADER, EDGE, b"\x02\x02\x00\x01"],
+        "graph 1 ok n=2 m=1 f=1 bends=0 drawn=yes\nend truncated graphs=1\n",
+    ),
+    (
+        &[HEADER, EDGE, b"\x00"],
+        "graph 1 ok n=2 m=1 f=1 bends=0 drawn=yes\nend large graphs=1\n",
+    ),
+];
+
+#[test]
+fn tells_how_a_file_ended(rt: HostRuntime) {
+    for (parts, lines) in ENDINGS {
+        check_file(&rt, parts, lines);
+    }
     let entries = [1u8; 255];
-    check_file(
-        &rt,
-        &[HEADER, &[255], &entries[..254]],
-        "end truncated graphs=0\n",
-    )?;
-    check_file(&rt, &[HEADER, &[255], &entries], "end oversize graphs=0\n")
+    let cut = [HEADER, &[255], &entries[..254]];
+    check_file(&rt, &cut, "end truncated graphs=0\n");
+    let long = [HEADER, &[255], &entries];
+    check_file(&rt, &long, "end oversize graphs=0\n");
 }
 
 const THREE_FILES: [&[u8]; 3] = [
@@ -153,7 +166,7 @@ const THREE_FILES: [&[u8]; 3] = [
 ];
 
 #[test]
-fn tells_of_all_files_in_order(rt: HostRuntime) -> Result<(), Fail> {
+fn tells_of_all_files_in_order(rt: HostRuntime) {
     let report = b"file 1
 graph 1 ok n=3 m=3 f=2 bends=1 drawn=yes
 graph 2 ok n=3 m=3 f=2 bends=1 drawn=yes
@@ -164,8 +177,8 @@ end truncated graphs=1
 file 3
 end complete graphs=0
 ";
-    check_files(&rt, &THREE_FILES, report)?;
-    check_files(&rt, &[], b"")
+    check_files(&rt, &THREE_FILES, report);
+    check_files(&rt, &[], b"");
 }
 
 /// A writer that takes ten bytes and then fails.
@@ -205,11 +218,10 @@ fn narrow_report(alloc: Global) -> Option<(Narrow, Result<(), WriteFault>)> {
 }
 
 #[test]
-fn writes_a_beginning_before_a_fault(rt: HostRuntime) -> Result<(), Fail> {
-    let (narrow, found) = narrow_report(rt.alloc()).ok_or("no batch")?;
+fn writes_a_beginning_before_a_fault(rt: HostRuntime) {
+    let (narrow, found) = narrow_report(rt.alloc()).expect(&rt, "a batch");
     same(&rt, found, Err(WriteFault::Write));
     same(&rt, &narrow.taken, b"file 1\ngra");
-    Ok(())
 }
 
 /// How many books a run of files that do not open has, or why it came to nothing.
@@ -230,11 +242,11 @@ fn takes_at_most_256_files(rt: HostRuntime) {
 }
 
 #[test]
-fn marks_a_file_that_does_not_open(rt: HostRuntime) -> Result<(), Fail> {
-    let opener = opener_of(rt.alloc(), &[HEADER], 1)?;
-    let batch = run_plain(rt.alloc(), &opener, 2, Choice::First)?;
+fn marks_a_file_that_does_not_open(rt: HostRuntime) {
+    let opener = opener_of(rt.alloc(), &[HEADER], 1).expect(&rt, "memory");
+    let batch = run_plain(rt.alloc(), &opener, 2, Choice::First).expect(&rt, "a batch");
     let report = b"file 1\nend complete graphs=0\nfile 2\nend io graphs=0\n";
-    check_report(&rt, &batch, report)
+    check_report(&rt, &batch, report);
 }
 
 /// A cause is written so.
