@@ -1,2 +1,2 @@
-pub mod Built
+pub mod Adding
 pub mod LineData

@@ -1,49 +1,51 @@
 //! The arrays of a line: angles, turns, prices and points.
-ghost use Rattle.std.specs.Prelude.{◌≡◌, ◌∷◌, [], IfOk};
+ghost use Rattle.std.specs.Prelude.{◌≡◌, ◌∷◌, [], OnOk, map, string_bytes};
 ghost use Rattle.std.specs.List.{range_with_len};
-ghost use Rattle.serde_json.specs.View.{view};
 ghost use Rattle.ortho_rep.specs.Representation.{HasDarts};
 ghost use Rattle.ortho_rep.specs.Prices.{HasPrices};
 ghost use Rattle.json_lines.specs.LineData.{natural, whole, array_of, letter_of, turns_data, point_data, corners_data};
+ghost use Rattle.json_lines.specs.Adding.{Adds, tokens_of};
 
-use crate::build::Array;
+use crate::put::{begin_array, end_array, natural, text, whole};
 use faces::Plane;
+use json::Writer;
 use ortho_rep::{Point, Points, Prices, Shape, Turn};
-use serde_json::Value;
 use std::alloc::{AllocError, Global};
 
-/// The angles by dart.
-pub(crate) fn angles_value(alloc: Global, plane: &Plane, shape: &Shape) -> Result<Value, AllocError>
+/// Puts the angles by dart.
+pub(crate) fn put_angles(out: &mut Writer, plane: &Plane, shape: &Shape) -> Result<(), AllocError>
     requires { HasDarts plane.now shape.now }
-    ensures { IfOk result (λ v. view v ≡ array_of natural shape.now.angles) }
+    ensures { OnOk result (Adds out.old out.new (tokens_of (array_of natural shape.now.angles))) }
 {
-    let mut angles = Array::with_room(alloc, shape.angle_count());
+    begin_array(out)?;
     for dart in 0..plane.graph().darts() {
-        angles.natural(u32::from(shape.angle(dart)));
+        natural(out, u64::from(shape.angle(dart)))?;
     }
-    angles.finish()
+    end_array(out)
 }
 
-/// The turns by dart.
-pub(crate) fn turns_value(alloc: Global, shape: &Shape) -> Result<Value, AllocError>
-    ensures { IfOk result (λ v. view v ≡ array_of turns_data shape.now.strings) }
+/// Puts the turns by dart.
+pub(crate) fn put_turns(alloc: Global, out: &mut Writer, shape: &Shape) -> Result<(), AllocError>
+    ensures { OnOk result (Adds out.old out.new (tokens_of (array_of turns_data shape.now.strings))) }
 {
-    let mut strings = Array::with_room(alloc, shape.string_count());
+    let mut letters = String::new(alloc);
+    begin_array(out)?;
     for dart in 0..shape.string_count() as u16 {
-        strings.push(letters_value(alloc, shape.turns(dart)));
+        set_letters(&mut letters, shape.turns(dart))?;
+        text(out, letters.as_str())?;
     }
-    strings.finish()
+    end_array(out)
 }
 
-/// The text that has a letter for each turn.
-fn letters_value(alloc: Global, turns: &[Turn]) -> Result<Value, AllocError>
-    ensures { IfOk result (λ v. view v ≡ turns_data turns.now) }
+/// Makes the text one that has a letter for each turn.
+fn set_letters(text: &mut String, turns: &[Turn]) -> Result<(), AllocError>
+    ensures { OnOk result (string_bytes text.new ≡ map letter_of turns.now) }
 {
-    let mut text = String::with_capacity(alloc, turns.len())?;
+    text.clear();
     for turn in turns {
         text.push_str(letter(*turn))?;
     }
-    Ok(Value::from(text))
+    Ok(())
 }
 
 /// The letter of a turn.
@@ -56,77 +58,78 @@ fn letter(turn: Turn) -> &'static str
     }
 }
 
-/// The prices of the vertices, in order.
-pub(crate) fn vertex_prices_value(
-    alloc: Global,
+/// Puts the prices of the vertices, in order.
+pub(crate) fn put_vertex_prices(
+    out: &mut Writer,
     plane: &Plane,
     prices: &Prices,
-) -> Result<Value, AllocError>
+) -> Result<(), AllocError>
     requires { HasPrices plane.now prices.now }
-    ensures { IfOk result (λ v. view v ≡ array_of whole prices.now.vertices) }
+    ensures { OnOk result (Adds out.old out.new (tokens_of (array_of whole prices.now.vertices))) }
 {
-    let mut list = Array::with_room(alloc, prices.vertex_count());
+    begin_array(out)?;
     for place in 0..plane.graph().vertices() {
-        list.whole(prices.vertex(place + 1));
+        whole(out, prices.vertex(place + 1))?;
     }
-    list.finish()
+    end_array(out)
 }
 
-/// The prices of the faces, in order.
-pub(crate) fn face_prices_value(
-    alloc: Global,
+/// Puts the prices of the faces, in order.
+pub(crate) fn put_face_prices(
+    out: &mut Writer,
     plane: &Plane,
     prices: &Prices,
-) -> Result<Value, AllocError>
+) -> Result<(), AllocError>
     requires { HasPrices plane.now prices.now }
-    ensures { IfOk result (λ v. view v ≡ array_of whole prices.now.faces) }
+    ensures { OnOk result (Adds out.old out.new (tokens_of (array_of whole prices.now.faces))) }
 {
-    let mut list = Array::with_room(alloc, prices.face_count());
+    begin_array(out)?;
     for face in 0..plane.face_count() {
-        list.whole(prices.face(face));
+        whole(out, prices.face(face))?;
     }
-    list.finish()
+    end_array(out)
 }
 
-/// The corners of so many edges, in order. An edge without a list has none.
-pub(crate) fn corners_value(alloc: Global, points: &Points, edges: u16) -> Result<Value, AllocError>
-    ensures { IfOk result (λ v. view v ≡ array_of (corners_data points.now) (range_with_len 0 edges)) }
+/// Puts the corners of so many edges, in order. An edge without a list has none.
+pub(crate) fn put_corners(out: &mut Writer, points: &Points, edges: u16) -> Result<(), AllocError>
+    ensures { OnOk result (Adds out.old out.new
+        (tokens_of (array_of (corners_data points.now) (range_with_len 0 edges)))) }
 {
-    let mut list = Array::with_room(alloc, usize::from(edges));
+    begin_array(out)?;
     for edge in 0..edges {
-        list.push(edge_value(alloc, points, edge));
+        put_edge(out, points, edge)?;
     }
-    list.finish()
+    end_array(out)
 }
 
-/// The corners of one edge.
-fn edge_value(alloc: Global, points: &Points, edge: u16) -> Result<Value, AllocError>
-    ensures { IfOk result (λ v. view v ≡ corners_data points.now edge) }
+/// Puts the corners of one edge.
+fn put_edge(out: &mut Writer, points: &Points, edge: u16) -> Result<(), AllocError>
+    ensures { OnOk result (Adds out.old out.new (tokens_of (corners_data points.now edge))) }
 {
     if usize::from(edge) < points.edge_count() {
-        points_value(alloc, points.corners(edge))
+        put_points(out, points.corners(edge))
     } else {
-        points_value(alloc, &[])
+        put_points(out, &[])
     }
 }
 
-/// These points, in order.
-pub(crate) fn points_value(alloc: Global, points: &[Point]) -> Result<Value, AllocError>
-    ensures { IfOk result (λ v. view v ≡ array_of point_data points.now) }
+/// Puts these points, in order.
+pub(crate) fn put_points(out: &mut Writer, points: &[Point]) -> Result<(), AllocError>
+    ensures { OnOk result (Adds out.old out.new (tokens_of (array_of point_data points.now))) }
 {
-    let mut list = Array::with_room(alloc, points.len());
+    begin_array(out)?;
     for point in points {
-        list.push(point_value(alloc, *point));
+        put_point(out, *point)?;
     }
-    list.finish()
+    end_array(out)
 }
 
-/// A point as the array of its two coordinates.
-fn point_value(alloc: Global, point: Point) -> Result<Value, AllocError>
-    ensures { IfOk result (λ v. view v ≡ point_data point) }
+/// Puts a point as the array of its two coordinates.
+fn put_point(out: &mut Writer, point: Point) -> Result<(), AllocError>
+    ensures { OnOk result (Adds out.old out.new (tokens_of (point_data point))) }
 {
-    let mut pair = Array::with_room(alloc, 2);
-    pair.natural(point.x);
-    pair.natural(point.y);
-    pair.finish()
+    begin_array(out)?;
+    natural(out, u64::from(point.x))?;
+    natural(out, u64::from(point.y))?;
+    end_array(out)
 }

@@ -2,9 +2,8 @@
 #![tactic(auto)]
 
 mod arrays;
-mod build;
-mod entry;
 mod lines;
 mod objects;
+mod put;
 
 pub use lines::{end_line, entry_line, lacking_line, laid_line};

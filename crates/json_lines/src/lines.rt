@@ -1,25 +1,33 @@
 //! Lines of JSON.
-ghost use Rattle.std.specs.Prelude.{◌≡◌, IfOk, false};
+ghost use Rattle.std.specs.Prelude.{◌≡◌, [], IfOk};
 ghost use Rattle.serde_json.specs.Data.{Data};
-ghost use Rattle.serde_json.specs.View.{view};
-ghost use Rattle.serde_json.specs.Written.{has_float};
 ghost use Rattle.ortho_rep.specs.Representation.{HasDarts};
 ghost use Rattle.ortho_rep.specs.Prices.{HasPrices};
-ghost use Rattle.entries.specs.declared.answer.Answer.TheVariants.{NoMemory};
+ghost use Rattle.entries.specs.declared.answer.Answer.TheVariants.{NoMemory, Refused};
 ghost use Rattle.json_lines.specs.LineData.{answer_data, end_data, laid_data, line_of};
+ghost use Rattle.json_lines.specs.Adding.{tokens_of};
 
-use crate::build::Object;
-use crate::entry::{memory_value, refused_value};
-use crate::objects::laid_value;
+use crate::objects::{put_drawing, put_end, put_place, put_prices, put_shape, put_sizes};
+use crate::put;
 use drawing_check::Drawing;
+use embedding::Rule;
 use entries::{Answer, Cause, Entry};
 use faces::Plane;
+use json::Writer;
 use ortho_rep::{Prices, Shape};
-use serde_json::Value;
 use std::alloc::{AllocError, Global};
 
+/// As many bytes as a short line has room for at first.
+const SHORT_ROOM: usize = 96;
+
+/// As many bytes as the line of a laid graph has room for at first, beside those for each dart.
+const LAID_ROOM: usize = 256;
+
+/// As many bytes as there is room for at first for each dart: an angle, turns, prices and points.
+const DART_ROOM: usize = 16;
+
 /// The line of an entry, which is the graph of this number in the file of this number, with the byte 0A
-/// at its end. It takes a few allocations for each dart and each point.
+/// at its end. It takes a few allocations.
 ///
 /// # Errors
 ///
@@ -39,7 +47,7 @@ pub fn entry_line(
             prices,
             drawing,
         } => laid_line(alloc, file, graph, plane, shape, prices, drawing),
-        Answer::Refused(rule) => line(alloc, refused_value(alloc, file, graph, *rule)),
+        Answer::Refused(rule) => refused_line(alloc, file, graph, *rule),
         Answer::NoMemory => lacking_line(alloc, file, graph),
     }
 }
@@ -53,11 +61,29 @@ pub fn entry_line(
 pub fn lacking_line(alloc: Global, file: u32, graph: u64) -> Result<Vec<u8>, AllocError>
     ensures { IfOk result (λ line. line.items ≡ line_of (answer_data file graph NoMemory)) }
 {
-    line(alloc, memory_value(alloc, file, graph))
+    let mut out = Writer::new(Vec::with_capacity(alloc, SHORT_ROOM)?);
+    put::begin_object(&mut out)?;
+    put_place(&mut out, file, graph)?;
+    put::text_at(&mut out, "status", "memory")?;
+    put::end_object(&mut out)?;
+    ended(out)
+}
+
+/// The line of a graph whose record breaks this rule.
+fn refused_line(alloc: Global, file: u32, graph: u64, rule: Rule) -> Result<Vec<u8>, AllocError>
+    ensures { IfOk result (λ line. line.items ≡ line_of (answer_data file graph (Refused rule))) }
+{
+    let mut out = Writer::new(Vec::with_capacity(alloc, SHORT_ROOM)?);
+    put::begin_object(&mut out)?;
+    put_place(&mut out, file, graph)?;
+    put::text_at(&mut out, "rule", rule.word())?;
+    put::text_at(&mut out, "status", "refused")?;
+    put::end_object(&mut out)?;
+    ended(out)
 }
 
 /// The line of a graph that breaks no rule, of which these are a shape, prices and a drawing or the cause
-/// in its place, with the byte 0A at its end. It takes a few allocations for each dart and each point.
+/// in its place, with the byte 0A at its end. It takes a few allocations.
 ///
 /// # Errors
 ///
@@ -76,8 +102,16 @@ pub fn laid_line(
     ensures { IfOk result (λ line.
         line.items ≡ line_of (laid_data file graph plane.now shape.now prices.now drawing.now)) }
 {
-    let value = laid_value(alloc, file, graph, plane, shape, prices, drawing);
-    line(alloc, value)
+    let room = LAID_ROOM + DART_ROOM * usize::from(plane.graph().darts());
+    let mut out = Writer::new(Vec::with_capacity(alloc, room)?);
+    put::begin_object(&mut out)?;
+    put_shape(&mut out, plane, shape, drawing)?;
+    put_place(&mut out, file, graph)?;
+    put_sizes(&mut out, plane)?;
+    put_drawing(&mut out, plane.graph().edges(), drawing)?;
+    put_prices(&mut out, plane, prices)?;
+    put_end(alloc, &mut out, shape)?;
+    ended(out)
 }
 
 /// The line of the end of the file of this number: the word of its mark, and how many graphs it has,
@@ -89,26 +123,21 @@ pub fn laid_line(
 pub fn end_line(alloc: Global, file: u32, word: &str, graphs: u64) -> Result<Vec<u8>, AllocError>
     ensures { IfOk result (λ line. line.items ≡ line_of (end_data file word.now graphs)) }
 {
-    line(alloc, end_value(alloc, file, word, graphs))
+    let mut out = Writer::new(Vec::with_capacity(alloc, SHORT_ROOM)?);
+    put::begin_object(&mut out)?;
+    put::text_at(&mut out, "end", word)?;
+    put::natural_at(&mut out, "file", u64::from(file))?;
+    put::natural_at(&mut out, "graphs", graphs)?;
+    put::end_object(&mut out)?;
+    ended(out)
 }
 
-/// The object of the end of a file.
-fn end_value(alloc: Global, file: u32, word: &str, graphs: u64) -> Result<Value, AllocError>
-    ensures { IfOk result (λ v. view v ≡ end_data file word.now graphs) }
+/// What was written from nothing, with the byte that ends a line.
+fn ended(out: Writer) -> Result<Vec<u8>, AllocError>
+    requires { out.before ≡ [] }
+    ensures { (d : Data) → out.tokens ≡ tokens_of d → IfOk result (λ line. line.items ≡ line_of d) }
 {
-    Object::new(alloc)
-        .text("end", word)
-        .natural("file", u64::from(file))
-        .natural("graphs", graphs)
-        .finish()
-}
-
-/// The text of a value and the byte that ends a line, where there was memory for the value.
-fn line(alloc: Global, value: Result<Value, AllocError>) -> Result<Vec<u8>, AllocError>
-    requires { IfOk value (λ v. has_float (view v) ≡ false) }
-    ensures { (d : Data) → IfOk value (λ v. view v ≡ d) → IfOk result (λ line. line.items ≡ line_of d) }
-{
-    let mut text = value?.to_vec(alloc)?;
+    let mut text = out.into_inner();
     text.push(b'\n')?;
     Ok(text)
 }

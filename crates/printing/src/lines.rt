@@ -10,8 +10,7 @@ use reports::Form;
 use std::alloc::{AllocError, Global};
 use streams::{Mark, mark_word};
 
-/// The line of an entry in this form, with the byte 0A at its end. JSON takes a few allocations for each
-/// dart and each point, the report a few in all.
+/// The line of an entry in this form, with the byte 0A at its end. It takes a few allocations.
 ///
 /// # Errors
 ///

@@ -15,8 +15,8 @@ use streams::{LINE, Mark, Sink, TextBuffer, WriteFault, mark_word};
 /// spaces. Files and entries are numbered from 1. The lines are buffered, so that short ones make few
 /// writes.
 ///
-/// A line is made whole before it is written. It takes a few allocations for each dart and each point,
-/// which are given back before the next line.
+/// A line is made whole before it is written. It takes a few allocations, which are given back before the
+/// next line.
 ///
 /// # Errors
 ///

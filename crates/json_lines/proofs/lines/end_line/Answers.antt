@@ -1,10 +1,7 @@
-use Rattle.std.proofs.Common.{ap}
-use Rattle.std.proofs.lemmas.Result.{IfOk-weaker}
-use Rattle.serde_json.specs.Written.{has_float}
+use Rattle.std.proofs.Common.{refl}
+use Rattle.json_lines.specs.LineData.{end_data}
 use Rattle.json_lines.proofs.lines.end_line.Goals as goal
 
-pub line-requires : goal.line-requires
-line-requires c = IfOk-weaker c.end_value.result _ _ (λ v is. ap has_float is) c.end_value.ensures
-
 pub returns : goal.returns
-returns c = c.line.ensures _ c.end_value.ensures
+returns c =
+    c.ended.ensures (end_data c.args.file c.args.word.now c.args.graphs) (rw (c.in_ok-end_object.ensures.1, c.in_ok-natural_at-2.ensures.1, c.in_ok-natural_at.ensures.1, c.from.ensures, c.in_ok-text_at.ensures.1, c.in_ok-begin_object.ensures.1, c.new-out.ensures.tokens) refl)

@@ -1,10 +1,7 @@
-use Rattle.std.proofs.Common.{ap}
-use Rattle.std.proofs.lemmas.Result.{IfOk-weaker}
-use Rattle.serde_json.specs.Written.{has_float}
+use Rattle.std.proofs.Common.{refl}
+use Rattle.entries.specs.declared.answer.Answer.TheVariants.{NoMemory}
+use Rattle.json_lines.specs.LineData.{answer_data}
 use Rattle.json_lines.proofs.lines.lacking_line.Goals as goal
 
-pub line-requires : goal.line-requires
-line-requires c = IfOk-weaker c.memory_value.result _ _ (λ v is. ap has_float is) c.memory_value.ensures
-
 pub returns : goal.returns
-returns c = c.line.ensures _ c.memory_value.ensures
+returns c = c.ended.ensures (answer_data c.args.file c.args.graph NoMemory) (rw (c.in_ok-end_object.ensures.1, c.in_ok-text_at.ensures.1, c.in_ok-put_place.ensures.1, c.in_ok-begin_object.ensures.1, c.new-out.ensures.tokens) refl)

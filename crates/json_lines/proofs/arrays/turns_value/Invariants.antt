@@ -1,7 +1,0 @@
-use Rattle.std.proofs.Common.{map, take}
-use Rattle.json_lines.specs.Built.{Lists}
-use Rattle.json_lines.specs.LineData.{turns_data}
-use Rattle.json_lines.proofs.arrays.turns_value.Given as goal
-
-abbrev pub invariant-loop-dart : goal.invariant-loop-dart
-invariant-loop-dart l = Lists l.strings (map turns_data (take l.dart l.shape.strings))

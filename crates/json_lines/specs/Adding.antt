@@ -1,0 +1,14 @@
+-- The tokens of a value, and what is put behind what was written.
+use Rattle.std.specs.Prelude.{◌≡◌, List, ◌++◌}
+use Rattle.json.specs.Token.{Token}
+use Rattle.json.specs.Tree.{json_tokens}
+use Rattle.json.specs.Written.{Written}
+use Rattle.serde_json.specs.Data.{Data}
+use Rattle.serde_json.specs.Written.{outline}
+
+abbrev pub tokens_of : Data → List Token
+tokens_of d = json_tokens (outline d)
+
+-- these tokens stand behind those before, and the buffer began as before
+abbrev pub Adds : Written → Written → List Token → Type 0
+Adds old new ts = (new.before ≡ old.before) × (new.tokens ≡ old.tokens ++ ts)
