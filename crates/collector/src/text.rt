@@ -201,10 +201,8 @@ fn run_form<
     ensures stays { C.stays consumer result }
 {
     match (style.form, style.drawing) {
-        (Form::Report, DrawingKind::Quick) => run_into::<ReportLines<J, Quick>, _, _, _, _>(
-            rt, alloc, opener, gate, files, lanes, capacity, choice, consumer, ran,
-        ),
-        (Form::Report, DrawingKind::Short) => run_into::<ReportLines<J, Short>, _, _, _, _>(
+        // A report shows no points, so it is the same of either drawing.
+        (Form::Report, _) => run_into::<ReportLines<J, Quick>, _, _, _, _>(
             rt, alloc, opener, gate, files, lanes, capacity, choice, consumer, ran,
         ),
         (Form::Json, DrawingKind::Quick) => run_into::<JsonLines<J, Quick>, _, _, _, _>(
@@ -216,8 +214,7 @@ fn run_form<
     }
 }
 
-/// Runs lanes of one kind, and puts what came of them into `ran`. Not inlined: the frames of all kinds would stand in one.
-#[inline(never)]
+/// Runs lanes of one kind, and puts what came of them into `ran`.
 fn run_into<
     L: LaneKind,
     C: Consumer<L::Entry, L::End>,
