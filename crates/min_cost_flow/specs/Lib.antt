@@ -3,4 +3,5 @@ pub mod Residual
 pub mod Path
 pub mod Round
 pub mod Existence
+pub mod Lists
 pub mod Stand

@@ -3,4 +3,3 @@ pub mod Fault
 pub mod Flow
 pub mod ResidualArcs
 pub mod Counting
-pub mod Residuals

@@ -1,0 +1,20 @@
+use Rattle.std.proofs.Common.{◌≡◌, ◌<◌, ℕ}
+use Rattle.std.specs.Prelude.{pos, ◌≤ℤ◌}
+use Rattle.networks.specs.Networks.{node_count}
+use Rattle.networks.specs.Flow.{at_nodes}
+use Rattle.networks.specs.ResidualArcs.{IsFilled, carried}
+use Rattle.shortest_paths.specs.Search.{far}
+use Rattle.min_cost_flow.specs.Round.{left_over, IsRound, IsWork}
+use Rattle.min_cost_flow.proofs.solver.send_all_from.Given as goal
+
+abbrev pub invariant-units : goal.invariant-units
+invariant-units l = record {
+  filled : IsFilled l.residual.network.now l.residual.reverse.now l.residual.forward.now l.arcs l.room;
+  round : IsRound l.residual.network.now (carried l.residual.reverse.now l.residual.forward.now l.room) (at_nodes l.potential) (at_nodes l.excess);
+  blank : (v : ℕ) → v < node_count l.residual.network.now → at_nodes l.label v ≡ far;
+  work : IsWork l.residual.network.now (carried l.residual.reverse.now l.residual.forward.now l.room) (at_nodes l.excess) l.searches l.looks;
+  done : (v : ℕ) → v < node_count l.residual.network.now → at_nodes l.initial.excess v ≤ℤ pos 0 → at_nodes l.excess v ≤ℤ pos 0;
+}
+
+abbrev pub decreases-units : goal.decreases-units
+decreases-units l = left_over l.residual.network.now (at_nodes l.excess)
