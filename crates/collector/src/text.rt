@@ -38,8 +38,9 @@ pub enum TextFault {
 
 /// Reads the first `files` files of the opener, answers each record under this choice of the outer face, and
 /// writes the text of their books in the form of this style, as `Form::write` writes books, while they are
-/// read. Their drawings are of the style's kind, which only JSON lines show. It answers the status of the whole text: 0 where each file ended complete and no record lacks its answer
-/// or its line for want of memory, and else 3.
+/// read. JSON lines show drawings of the style's kind; a report shows no points, and is of quick ones. It answers the
+/// status of the whole text: 0 where each file ended complete and no record lacks its answer or its line for want of
+/// memory, and else 3.
 ///
 /// Files go over lanes as in `run_batch`. They leave in their order: the lines of the first file that has not
 /// ended go to the sink as they come, and those of later files wait. What was laid out for a record is let go
