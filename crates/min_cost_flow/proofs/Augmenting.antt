@@ -1,5 +1,5 @@
 -- Sending along a path: what one push changes, and what pushes along the path from its end leave.
-use Rattle.std.proofs.Common.{◌≡◌, ◌≢◌, ◌≤◌, ◌<◌, ◌⊎◌, ℕ, zero, suc, min, ◌+◌, cond, eqb, Bool, true, false, refl, sym, ◌∙◌, ap, subst, inl, inr, arith, List, length}
+use Rattle.std.proofs.Common.{◌≡◌, ◌≢◌, ◌≤◌, ◌<◌, ℕ, suc, min, ◌+◌, cond, eqb, Bool, true, false, refl, sym, ◌∙◌, ap, subst, inl, inr, arith, List}
 use Rattle.std.specs.Prelude.{ℤ, pos, negsuc, ◌+ℤ◌, ◌-ℤ◌, ◌≤ℤ◌, ◌<ℤ◌}
 use Rattle.std.proofs.lemmas.Bool.{both_ways, cases_eq, cases_lt, eq-eqb, ne_eqb, cond-true, cond-false}
 use Rattle.std.proofs.lemmas.Int.{ints}
@@ -12,9 +12,13 @@ use Rattle.networks.specs.Networks.{NetworkModel, node_count, arc_count, arc_at,
 use Rattle.networks.specs.Flow.{leaves, enters, IsWithin, HasRoom, IsResidual, HasPotentials, start_of, end_of, unit_cost, reduced_cost}
 use Rattle.min_cost_flow.specs.Excess.{KeepsCaps, Carries}
 use Rattle.min_cost_flow.specs.Residual.{IsMoved}
-use Rattle.networks.specs.ResidualArcs.{numbers, end_at, cost_at, StartsAt, place_of, HasResidualArcs, limit_of, IsFilled, carried}
-use Rattle.min_cost_flow.specs.Path.{IsTight, HasPath}
+use Rattle.networks.specs.declared.residual.Residual.{Residual}
+use Rattle.networks.specs.ResidualArcs.{numbers, end_at, cost_at, StartsAt, place_of, HasResidualArcs, limit_of, IsCosted, IsFilled, carried}
+use Rattle.networks.specs.Residuals.{IsResidualNetwork, IsSetTo}
+use Rattle.min_cost_flow.specs.Path.{IsTight, HasPath, way, IsOnWay}
 use Rattle.min_cost_flow.specs.Round.{IsLess, carrying}
+use Rattle.min_cost_flow.specs.declared.state.Solver.{Solver}
+use Rattle.min_cost_flow.specs.Stand.{potential_at, CanAugment, IsPushedAlong}
 use Rattle.networks.proofs.Ends.{start_in, end_in, unit_cost_most}
 use Rattle.min_cost_flow.proofs.Changes.{SameBut, moved_carries, carried_leaves, potentials_stay}
 use Rattle.min_cost_flow.proofs.Rounds.{IsSent, left_falls}
@@ -60,13 +64,6 @@ unfolding opposite
 not_turned true h = cc
 not_turned false h = cc
 
-which_way : (b c : Bool) → (c ≡ b) ⊎ (c ≡ opposite b)
-unfolding opposite
-which_way true true = inl refl
-which_way true false = inr refl
-which_way false true = inr refl
-which_way false false = inl refl
-
 -- no residual arc is its own reverse
 pub not_reverse : (net : NetworkModel) (first reverse forward : List ℕ) (v k : ℕ) → HasResidualArcs net first reverse forward → v < node_count net → StartsAt first v k → k ≢ numbers reverse k
 not_reverse net first reverse forward v k l b s h =
@@ -94,106 +91,59 @@ code_is : (net : NetworkModel) (reverse forward : List ℕ) (arcs : List Residua
 unfolding coded
 code_is net reverse forward arcs room i back f b = f.cost i back b
 
-least_coded : (z c : ℤ) (r : ℕ) → negsuc 0 ≤ℤ z → c ≡ coded z r → negsuc 0 ≤ℤ c
-least_coded z c r h e =
-    elim (cases_eq r 0) [
-      | inl q ↦ let t : coded z r ≡ z +ℤ SHUT = coded_none z r q in omega (arith, ints)
-      | inr ne ↦ let t : coded z r ≡ z = coded_some z r (omega arith) in omega (arith, ints)
-    ]
-
--- the cost of a node's residual arc, and that of its reverse, are not below -1
-pub reverse_cost : (net : NetworkModel) (first reverse forward : List ℕ) (arcs : List ResidualArc) (room : List ℕ) (v k : ℕ) → IsNetwork net → HasResidualArcs net first reverse forward → IsFilled net reverse forward arcs room → v < node_count net → StartsAt first v k → negsuc 0 ≤ℤ cost_at arcs (numbers reverse k)
-reverse_cost net first reverse forward arcs room v k n l f b s =
-    let o = l.cover v k b s in
-    let back = opposite o.back in
-    let e : numbers reverse k ≡ place_of reverse forward o.arc back = reverse_place net first reverse forward k o.arc o.back l o.inside o.place in
-    least_coded (unit_cost net o.arc back) (cost_at arcs (numbers reverse k)) (numbers room (place_of reverse forward o.arc back)) (unit_cost_least net o.arc back n.costs o.inside)
-    (ap (cost_at arcs) e ∙ code_is net reverse forward arcs room o.arc back f o.inside)
-
-most_coded : (z c : ℤ) (r : ℕ) → z ≤ℤ pos 1 → 0 < r → c ≡ coded z r → c ≤ℤ pos 1
-most_coded z c r h s e = let t : coded z r ≡ z = coded_some z r s in omega (arith, ints)
-
--- where something fits the cost is what a unit costs, at most 1
-pub open_cost : (net : NetworkModel) (first reverse forward : List ℕ) (arcs : List ResidualArc) (room : List ℕ) (v k : ℕ) → IsNetwork net → HasResidualArcs net first reverse forward → IsFilled net reverse forward arcs room → v < node_count net → StartsAt first v k → 0 < numbers room k → cost_at arcs k ≤ℤ pos 1
-open_cost net first reverse forward arcs room v k n l f b s some =
-    let o = l.cover v k b s in
-    most_coded (unit_cost net o.arc o.back) (cost_at arcs k) (numbers room k) (unit_cost_most net o.arc o.back n.costs o.inside) some
-    (subst (λ (t : ℕ). cost_at arcs t ≡ coded (unit_cost net o.arc o.back) (numbers room t)) o.place (code_is net reverse forward arcs room o.arc o.back f o.inside))
-
 -- what fits along a residual arc and its reverse
 both_fit : (net : NetworkModel) (reverse forward : List ℕ) (arcs : List ResidualArc) (room : List ℕ) (i : ℕ) (back : Bool) → IsFilled net reverse forward arcs room → i < arc_count net → numbers room (place_of reverse forward i back) + numbers room (place_of reverse forward i (opposite back)) ≡ limit_of (arc_at net i).cap
 unfolding opposite
 both_fit net reverse forward arcs room i false f b = f.fits i b
 both_fit net reverse forward arcs room i true f b = omega (arith, f.fits i b)
 
-pub reverse_few : (net : NetworkModel) (first reverse forward : List ℕ) (arcs : List ResidualArc) (room : List ℕ) (v k amount most : ℕ) → HasResidualArcs net first reverse forward → IsFilled net reverse forward arcs room → ((i : ℕ) → i < arc_count net → limit_of (arc_at net i).cap < most) → v < node_count net → StartsAt first v k → amount ≤ numbers room k → numbers room (numbers reverse k) + amount < most
-reverse_few net first reverse forward arcs room v k amount most l f limits b s fits =
-    let o = l.cover v k b s in
+-- the cost of a residual arc is that of a unit, from -1 to 1
+abbrev pub HasUnitCost : Residual → ℕ → Type 0
+HasUnitCost r k = (z : ℤ) × (negsuc 0 ≤ℤ z) × (z ≤ℤ pos 1) × IsCosted r.arcs.items r.room.items k z
+
+cost_in : (net : NetworkModel) (r : Residual) (i : ℕ) (back : Bool) → IsNetwork net → IsResidualNetwork net r → i < arc_count net → HasUnitCost r (place_of r.reverse.items r.forward.items i back)
+cost_in net r i back n s b = (unit_cost net i back, unit_cost_least net i back n.costs b, unit_cost_most net i back n.costs b, s.filled.cost i back b)
+
+-- number k is that of a node's residual arc
+pub record IsNumber (net : NetworkModel) (r : Residual) (k : ℕ) : Type 0 where
+  pub here : k < arc_count net + arc_count net
+  pub back : numbers r.reverse.items k < arc_count net + arc_count net
+  pub apart : k ≢ numbers r.reverse.items k
+  pub cost : HasUnitCost r k
+  pub back_cost : HasUnitCost r (numbers r.reverse.items k)
+  pub room : numbers r.room.items k + numbers r.room.items (numbers r.reverse.items k) < 4294967296
+
+pub is_number : (net : NetworkModel) (r : Residual) (v k : ℕ) → IsNetwork net → IsResidualNetwork net r → v < node_count net → StartsAt r.first.items v k → IsNumber net r k
+is_number net r v k n s b st =
+    let l = s.laid_out in
+    let first = r.first.items in
+    let reverse = r.reverse.items in
+    let forward = r.forward.items in
+    let o = l.cover v k b st in
     let e : numbers reverse k ≡ place_of reverse forward o.arc (opposite o.back) = reverse_place net first reverse forward k o.arc o.back l o.inside o.place in
-    let there : numbers room (numbers reverse k) ≡ numbers room (place_of reverse forward o.arc (opposite o.back)) = ap (numbers room) e in
-    let here : numbers room (place_of reverse forward o.arc o.back) ≡ numbers room k = ap (numbers room) o.place in
-    omega (arith, both_fit net reverse forward arcs room o.arc o.back f o.inside, limits o.arc o.inside)
+    let there : numbers r.room.items (numbers reverse k) ≡ numbers r.room.items (place_of reverse forward o.arc (opposite o.back)) = ap (numbers r.room.items) e in
+    let here : numbers r.room.items (place_of reverse forward o.arc o.back) ≡ numbers r.room.items k = ap (numbers r.room.items) o.place in
+    record {
+      here = number_below net first reverse forward v k l b st;
+      back = reverse_below net first reverse forward v k n l b st;
+      apart = not_reverse net first reverse forward v k l b st;
+      cost = subst (λ (t : ℕ). HasUnitCost r t) o.place (cost_in net r o.arc o.back n s o.inside);
+      back_cost = subst (λ (t : ℕ). HasUnitCost r t) (sym e) (cost_in net r o.arc (opposite o.back) n s o.inside);
+      room = omega (arith, both_fit net reverse forward r.arcs.items r.room.items o.arc o.back s.filled o.inside, s.limits o.arc o.inside);
+    }
+
+-- what fits along one residual arc changes no other cost
+pub still_costs : (r r' : Residual) (k units j : ℕ) (z : ℤ) → IsSetTo r r' k units → IsCosted r.arcs.items r.room.items j z → IsCosted r'.arcs.items r'.room.items j z
+still_costs r r' k units j z s h =
+    elim (cases_eq j k) [
+      | inl q ↦ subst (λ (t : ℕ). IsCosted r'.arcs.items r'.room.items t z) (sym q) (s.cost z (subst (λ (t : ℕ). IsCosted r.arcs.items r.room.items t z) q h))
+      | inr ne ↦ s.costs j ne ∙ h ∙ ap (λ (t : ℕ). cond (eqb t 0) (z +ℤ SHUT) z) (sym (s.others j ne))
+    ]
+
+pub still_unit_cost : (r r' : Residual) (k units j : ℕ) → IsSetTo r r' k units → HasUnitCost r j → HasUnitCost r' j
+still_unit_cost r r' k units j s (z, low, high, costed) = (z, low, high, still_costs r r' k units j z s costed)
 
 -- ---- what a push keeps
-
-take_cost : (z c c' : ℤ) (r r' amount : ℕ) → 0 < amount → r' + amount ≡ r → c ≡ coded z r → c' ≡ coded c r' → c' ≡ coded z r'
-take_cost z c c' r r' amount some less was is =
-    let same : c ≡ z = was ∙ coded_some z r (omega arith) in
-    is ∙ ap (λ (t : ℤ). coded t r') same
-
-lowered : ℤ → ℕ → ℤ
-lowered c r = cond (eqb r 0) (c -ℤ SHUT) c
-
-raised_lowered : (z c c' : ℤ) → c ≡ z +ℤ SHUT → c' ≡ c -ℤ SHUT → c' ≡ z
-raised_lowered z c c' h k = omega (arith, ints)
-
-give_cost : (z c c' : ℤ) (r r' amount : ℕ) → 0 < amount → r' ≡ r + amount → c ≡ coded z r → c' ≡ lowered c r → c' ≡ coded z r'
-unfolding lowered
-give_cost z c c' r r' amount some more was is =
-    let now : coded z r' ≡ z = coded_some z r' (omega arith) in
-    elim (cases_eq r 0) [
-      | inl q ↦ raised_lowered z c c' (was ∙ coded_none z r q) (is ∙ cond-true {A = ℤ} (eqb r 0) (c -ℤ SHUT) c (eq-eqb r 0 q)) ∙ sym now
-      | inr ne ↦ is ∙ cond-false {A = ℤ} (eqb r 0) (c -ℤ SHUT) c (ne_eqb r 0 ne) ∙ was ∙ coded_some z r (omega arith) ∙ sym now
-    ]
-
--- what a push along residual arc k does to the costs
-pub record IsCoded (reverse : List ℕ) (arcs arcs' : List ResidualArc) (room room' : List ℕ) (k : ℕ) : Type 0 where
-  pub here : cost_at arcs' k ≡ cond (eqb (numbers room' k) 0) (cost_at arcs k +ℤ SHUT) (cost_at arcs k)
-  pub there : cost_at arcs' (numbers reverse k) ≡ cond (eqb (numbers room (numbers reverse k)) 0) (cost_at arcs (numbers reverse k) -ℤ SHUT) (cost_at arcs (numbers reverse k))
-  pub others : (j : ℕ) → j ≢ k → j ≢ numbers reverse k → cost_at arcs' j ≡ cost_at arcs j
-
-here_coded : (net : NetworkModel) (reverse forward : List ℕ) (arcs arcs' : List ResidualArc) (room room' : List ℕ) (i : ℕ) (b : Bool) (k amount : ℕ) → IsFilled net reverse forward arcs room → i < arc_count net → place_of reverse forward i b ≡ k → 0 < amount → IsPushed reverse arcs arcs' room room' k amount → IsCoded reverse arcs arcs' room room' k → cost_at arcs' (place_of reverse forward i b) ≡ coded (unit_cost net i b) (numbers room' (place_of reverse forward i b))
-unfolding coded
-here_coded net reverse forward arcs arcs' room room' i b k amount f inside e some s d =
-    let z = unit_cost net i b in
-    let was : cost_at arcs k ≡ coded z (numbers room k) = subst (λ (t : ℕ). cost_at arcs t ≡ coded z (numbers room t)) e (code_is net reverse forward arcs room i b f inside) in
-    subst (λ (t : ℕ). cost_at arcs' t ≡ coded z (numbers room' t)) (sym e) (take_cost z (cost_at arcs k) (cost_at arcs' k) (numbers room k) (numbers room' k) amount some s.less was d.here)
-
-there_coded : (net : NetworkModel) (reverse forward : List ℕ) (arcs arcs' : List ResidualArc) (room room' : List ℕ) (i : ℕ) (b : Bool) (k amount : ℕ) → IsFilled net reverse forward arcs room → i < arc_count net → place_of reverse forward i b ≡ numbers reverse k → 0 < amount → IsPushed reverse arcs arcs' room room' k amount → IsCoded reverse arcs arcs' room room' k → cost_at arcs' (place_of reverse forward i b) ≡ coded (unit_cost net i b) (numbers room' (place_of reverse forward i b))
-unfolding lowered
-there_coded net reverse forward arcs arcs' room room' i b k amount f inside e some s d =
-    let z = unit_cost net i b in
-    let r = numbers reverse k in
-    let was : cost_at arcs r ≡ coded z (numbers room r) = subst (λ (t : ℕ). cost_at arcs t ≡ coded z (numbers room t)) e (code_is net reverse forward arcs room i b f inside) in
-    subst (λ (t : ℕ). cost_at arcs' t ≡ coded z (numbers room' t)) (sym e) (give_cost z (cost_at arcs r) (cost_at arcs' r) (numbers room r) (numbers room' r) amount some s.more was d.there)
-
-other_coded : (net : NetworkModel) (first reverse forward : List ℕ) (arcs arcs' : List ResidualArc) (room room' : List ℕ) (i j : ℕ) (b c : Bool) (k amount : ℕ) → HasResidualArcs net first reverse forward → IsFilled net reverse forward arcs room → i < arc_count net → place_of reverse forward i b ≡ k → IsPushed reverse arcs arcs' room room' k amount → IsCoded reverse arcs arcs' room room' k → j < arc_count net → j ≢ i → cost_at arcs' (place_of reverse forward j c) ≡ coded (unit_cost net j c) (numbers room' (place_of reverse forward j c))
-other_coded net first reverse forward arcs arcs' room room' i j b c k amount l f inside e s d inside' ne =
-    let q = place_of reverse forward j c in
-    let z = unit_cost net j c in
-    let apart : q ≢ k = λ h. ne (l.alone j i c b inside' inside (h ∙ sym e)).0 in
-    let apart' : q ≢ numbers reverse k = λ h. ne (l.alone j i c (opposite b) inside' inside (h ∙ reverse_place net first reverse forward k i b l inside e)).0 in
-    d.others q apart apart' ∙ code_is net reverse forward arcs room j c f inside' ∙ ap (coded z) (sym (s.others q apart apart'))
-
-pushed_cost : (net : NetworkModel) (first reverse forward : List ℕ) (arcs arcs' : List ResidualArc) (room room' : List ℕ) (i j : ℕ) (b c : Bool) (k amount : ℕ) → HasResidualArcs net first reverse forward → IsFilled net reverse forward arcs room → i < arc_count net → place_of reverse forward i b ≡ k → 0 < amount → IsPushed reverse arcs arcs' room room' k amount → IsCoded reverse arcs arcs' room room' k → j < arc_count net → cost_at arcs' (place_of reverse forward j c) ≡ coded (unit_cost net j c) (numbers room' (place_of reverse forward j c))
-pushed_cost net first reverse forward arcs arcs' room room' i j b c k amount l f inside e some s d inside' =
-    elim (cases_eq j i) [
-      | inl q ↦ elim (which_way b c) [
-        | inl w ↦ here_coded net reverse forward arcs arcs' room room' j c k amount f inside' (ap (λ (t : ℕ). place_of reverse forward t c) q ∙ ap (place_of reverse forward i) w ∙ e) some s d
-        | inr w ↦ there_coded net reverse forward arcs arcs' room room' j c k amount f inside' (ap (λ (t : ℕ). place_of reverse forward t c) q ∙ ap (place_of reverse forward i) w ∙ sym (reverse_place net first reverse forward k i b l inside e)) some s d
-      ]
-      | inr ne ↦ other_coded net first reverse forward arcs arcs' room room' i j b c k amount l f inside e s d inside' ne
-    ]
 
 moved_fits : (a b a' b' m k : ℕ) → a + b ≡ k → a' + m ≡ a → b' ≡ b + m → a' + b' ≡ k
 moved_fits a b a' b' m k h x y = omega arith
@@ -220,17 +170,44 @@ pushed_fits net first reverse forward arcs arcs' room room' i j b k amount l f i
           omega (arith, same false, same true, f.fits j inside')
     ]
 
-pub pushed_filled : (net : NetworkModel) (first reverse forward : List ℕ) (arcs arcs' : List ResidualArc) (room room' : List ℕ) (v k amount : ℕ) → HasResidualArcs net first reverse forward → IsFilled net reverse forward arcs room → v < node_count net → StartsAt first v k → 0 < amount → length arcs' ≡ length arcs → length room' ≡ length room → IsPushed reverse arcs arcs' room room' k amount → IsCoded reverse arcs arcs' room room' k → IsFilled net reverse forward arcs' room'
-unfolding coded
-pushed_filled net first reverse forward arcs arcs' room room' v k amount l f b st some sizes sizes' s d =
+-- less fits along residual arc k, and as much more along its reverse
+pub pushed_along : (net : NetworkModel) (r r' r'' : Residual) (v k amount less more : ℕ) → IsNetwork net → IsResidualNetwork net r → v < node_count net → StartsAt r.first.items v k → IsSetTo r r' k less → IsSetTo r' r'' (numbers r.reverse.items k) more → less + amount ≡ numbers r.room.items k → more ≡ numbers r'.room.items (numbers r.reverse.items k) + amount → IsPushedAlong net r r'' k amount
+pushed_along net r r' r'' v k amount less more n s b st one two le me =
+    let l = s.laid_out in
+    let f = s.filled in
+    let back = numbers r.reverse.items k in
+    let ne : k ≢ back = not_reverse net r.first.items r.reverse.items r.forward.items v k l b st in
     let o = l.cover v k b st in
+    let pushed : IsPushed r.reverse.items r.arcs.items r''.arcs.items r.room.items r''.room.items k amount = record {
+      ends = λ j. two.end j ∙ one.end j;
+      less = ap (λ (t : ℕ). t + amount) (two.others k ne ∙ one.here) ∙ le;
+      more = two.here ∙ me ∙ ap (λ (t : ℕ). t + amount) (one.others back (λ h. ne (sym h)));
+      others = λ j x y. two.others j y ∙ one.others j x;
+    } in
+    let filled : IsFilled net r.reverse.items r.forward.items r''.arcs.items r''.room.items = record {
+      arc_size = two.arc_size ∙ one.arc_size ∙ f.arc_size;
+      room_size = two.room_size ∙ one.room_size ∙ f.room_size;
+      end = λ j c h. two.end (place_of r.reverse.items r.forward.items j c) ∙ one.end (place_of r.reverse.items r.forward.items j c) ∙ f.end j c h;
+      cost = λ j c h. still_costs r' r'' back more (place_of r.reverse.items r.forward.items j c) (unit_cost net j c) two (still_costs r r' k less (place_of r.reverse.items r.forward.items j c) (unit_cost net j c) one (f.cost j c h));
+      fits = λ j h. pushed_fits net r.first.items r.reverse.items r.forward.items r.arcs.items r''.arcs.items r.room.items r''.room.items o.arc j o.back k amount l f o.inside o.place pushed h;
+    } in
     record {
-      arc_size = sizes ∙ f.arc_size;
-      room_size = sizes' ∙ f.room_size;
-      end = λ j c h. s.ends (place_of reverse forward j c) ∙ f.end j c h;
-      cost = λ j c h. pushed_cost net first reverse forward arcs arcs' room room' o.arc j o.back c k amount l f o.inside o.place some s d h;
-      fits = λ j h. pushed_fits net first reverse forward arcs arcs' room room' o.arc j o.back k amount l f o.inside o.place s h;
+      residual = record {
+        laid_out = rw (two.first, one.first, two.reverse, one.reverse, two.forward, one.forward) l;
+        filled = rw (two.reverse, one.reverse, two.forward, one.forward) filled;
+        limits = s.limits;
+      };
+      first = two.first ∙ one.first;
+      reverse = two.reverse ∙ one.reverse;
+      forward = two.forward ∙ one.forward;
+      ends = pushed.ends;
+      less = pushed.less;
+      more = pushed.more;
+      others = pushed.others;
     }
+
+pub was_pushed : (net : NetworkModel) (r r' : Residual) (k amount : ℕ) → IsPushedAlong net r r' k amount → IsPushed r.reverse.items r.arcs.items r'.arcs.items r.room.items r'.room.items k amount
+was_pushed net r r' k amount s = record { ends = s.ends; less = s.less; more = s.more; others = s.others }
 
 -- ---- what a push does to the amounts that the arcs carry
 
@@ -432,17 +409,6 @@ sending_first net first reverse forward arcs arcs' room room' p e on place u k v
 
 -- ---- the way back along the path
 
--- the node k steps on from v
-abbrev pub way : (ℕ → ℕ) → ℕ → ℕ → ℕ
-way next v zero = v
-way next v (suc k) = next (way next v k)
-
--- node w is on the way from v, and no node before it has place 0
-pub record IsOnWay (next place : ℕ → ℕ) (v w : ℕ) : Type 0 where
-  pub steps : ℕ
-  pub at : w ≡ way next v steps
-  pub high : (i : ℕ) → i < steps → 0 < place (way next v i)
-
 pub way_first : (next place : ℕ → ℕ) (v : ℕ) → IsOnWay next place v v
 way_first next place v = record { steps = 0; at = refl; high = λ i b. absurd (omega arith) }
 
@@ -498,13 +464,6 @@ narrowed_all next place room v w amount h none u on some =
       ]
     ]
 
--- the start of the residual arc by which a node was entered, and what fits along it
-abbrev pub next_of : List ℕ → List ResidualArc → List ℕ → ℕ → ℕ
-next_of reverse arcs enter w = end_at arcs (numbers reverse (numbers enter w))
-
-abbrev pub room_into : List ℕ → List ℕ → ℕ → ℕ
-room_into room enter w = numbers room (numbers enter w)
-
 -- ---- the end
 
 within_limit : (c : Cap) (a b : ℕ) → a + b ≡ limit_of c → IsWithin c b
@@ -513,10 +472,6 @@ within_limit Any a b h = tt
 
 pub filled_caps : (net : NetworkModel) (reverse forward : List ℕ) (arcs : List ResidualArc) (room : List ℕ) → IsFilled net reverse forward arcs room → KeepsCaps net (carried reverse forward room)
 filled_caps net reverse forward arcs room f i b = within_limit (arc_at net i).cap (numbers room (place_of reverse forward i false)) (numbers room (place_of reverse forward i true)) (f.fits i b)
-
--- where nothing is carried yet, what fits is the limit
-pub limits_fit : (net : NetworkModel) (reverse forward : List ℕ) (arcs : List ResidualArc) (room : List ℕ) (most : ℕ) → IsFilled net reverse forward arcs room → ((k : ℕ) → numbers room k < most) → ((i : ℕ) → i < arc_count net → carried reverse forward room i ≡ 0) → (i : ℕ) → i < arc_count net → limit_of (arc_at net i).cap < most
-limits_fit net reverse forward arcs room most f fits none i b = omega (arith, f.fits i b, fits (place_of reverse forward i false), none i b)
 
 apart : (e : ℕ → ℤ) (u v : ℕ) → pos 0 <ℤ e u → e v ≤ℤ pos 0 → v ≢ u
 apart e u v a b h = let same : e v ≡ e u = ap e h in omega (arith, ints)
@@ -606,6 +561,18 @@ path_last net first reverse forward arcs room p enter place source found n l f h
 
 pub link_end : (net : NetworkModel) (reverse forward room : List ℕ) (p : ℕ → ℤ) (u k v : ℕ) → IsNetwork net → IsLink net reverse forward room p u k v → v < node_count net
 link_end net reverse forward room p u k v n t = subst (λ (q : ℕ). q < node_count net) t.end (end_in net t.arc t.back n.ends t.inside)
+
+-- the same of the solver's own lists
+pub own_step : (net : NetworkModel) (s : Solver) (source : ℕ) → (h : CanAugment net s source) → (v : ℕ) → h.path.on v ≡ true → 0 < numbers s.search.place.items v → IsStep net s.residual.first.items s.residual.reverse.items s.residual.forward.items s.residual.arcs.items s.residual.room.items (potential_at s) h.path.on (numbers s.search.place.items) v (numbers s.search.enter.items v)
+own_step net s source h v on some =
+    path_step net s.residual.first.items s.residual.reverse.items s.residual.forward.items s.residual.arcs.items s.residual.room.items (potential_at s) (numbers s.search.enter.items) (numbers s.search.place.items) source s.search.found h.ready.network h.ready.residual.laid_out h.ready.residual.filled h.path v on some
+
+pub own_last : (net : NetworkModel) (s : Solver) (source : ℕ) → (h : CanAugment net s source) → IsLast net s.residual.first.items s.residual.reverse.items s.residual.forward.items s.residual.arcs.items s.residual.room.items (potential_at s) h.path.on s.search.found
+own_last net s source h =
+    path_last net s.residual.first.items s.residual.reverse.items s.residual.forward.items s.residual.arcs.items s.residual.room.items (potential_at s) (numbers s.search.enter.items) (numbers s.search.place.items) source s.search.found h.ready.network h.ready.residual.laid_out h.ready.residual.filled h.path
+
+pub own_end : (net : NetworkModel) (s : Solver) (source : ℕ) → CanAugment net s source → end_at s.residual.arcs.items s.search.found < node_count net
+own_end net s source h = link_end net s.residual.reverse.items s.residual.forward.items s.residual.room.items (potential_at s) (end_at s.residual.arcs.items (numbers s.residual.reverse.items s.search.found)) s.search.found (end_at s.residual.arcs.items s.search.found) h.ready.network (own_last net s source h).link
 
 -- ---- the least of what fits
 

@@ -11,7 +11,11 @@ use Rattle.networks.proofs.Moving.{delta, moved_at, length-moved}
 use Rattle.networks.specs.Flow.{SolvedModel, Flow, Solves, amounts, at_nodes, cost_of, balance, start_of, end_of, unit_cost, HasPotentials}
 use Rattle.networks.specs.ResidualArcs.{numbers, HasResidualArcs}
 use Rattle.min_cost_flow.specs.Round.{left_over, IsRound}
-use Rattle.min_cost_flow.specs.Stand.{IsShown}
+use Rattle.networks.specs.Networks.{HasFairSupplies}
+use Rattle.networks.specs.Residuals.{IsResidualNetwork, flow_of}
+use Rattle.networks.proofs.Moving.{still_network}
+use Rattle.min_cost_flow.specs.declared.state.Solver.{Solver}
+use Rattle.min_cost_flow.specs.Stand.{IsShown, IsSized, IsReady, IsSettled, CanRead}
 use Rattle.networks.proofs.Ends.{start_in, end_in}
 use Rattle.min_cost_flow.proofs.Duality.{least_by_potentials}
 use Rattle.min_cost_flow.proofs.Rounds.{flow_at, flow_same, potentials_same}
@@ -147,6 +151,18 @@ forward_in net first reverse forward i n l b = omega (arith, (l.block i false b)
 pub reverse_in : (net : NetworkModel) (first reverse forward : List ℕ) (i : ℕ) → IsNetwork net → HasResidualArcs net first reverse forward → i < arc_count net → numbers reverse (numbers forward i) < arc_count net + arc_count net
 reverse_in net first reverse forward i n l b = omega (arith, (l.block i true b).below, l.inside (arc_at net i).to (n.ends i b).1)
 
+-- what each arc carries can be read
+pub can_read : (net : NetworkModel) (s : Solver) → IsReady net s → CanRead s.residual.reverse.items s.residual.forward.items s.residual.room.items
+can_read net s r =
+    let l = r.residual.laid_out in
+    let f = r.residual.filled in
+    record {
+      reverses = λ i b. omega (arith, forward_in net _ _ _ i r.network l (omega (arith, l.forwards)), l.reverses);
+      rooms = λ i b. omega (arith, reverse_in net _ _ _ i r.network l (omega (arith, l.forwards)), f.room_size);
+      small = omega (arith, l.forwards, r.network.small);
+      sizes = (omega (arith, l.reverses, r.network.small), omega (arith, f.room_size, r.network.small));
+    }
+
 -- ---- where nothing is left over or wanting, the flow is one of least cost
 
 none_over : (e : ℤ) → e ≡ pos 0 → e ≤ℤ pos 0
@@ -183,4 +199,73 @@ shown_at net x ps e cost n r sent size is =
       potentials = r.priced;
       least = least_by_potentials net x (at_nodes ps) n.ends flow r.priced;
       costs = sym is;
+    }
+
+-- the work that is counted has no part in it
+pub ready_still : (net : NetworkModel) (s s' : Solver) → IsReady net s → s'.residual ≡ s.residual → s'.nodes ≡ s.nodes → s'.search ≡ s.search → IsReady net s'
+ready_still net s s' r re ne se = record {
+  network = r.network;
+  residual = rw re r.residual;
+  potentials = rw ne r.potentials;
+  excesses = rw ne r.excesses;
+  scores = rw ne r.scores;
+  labels = rw se r.labels;
+  even = rw se r.even;
+  round = rw (re, ne) r.round;
+  blank = rw se r.blank;
+}
+
+-- the lists of a flow have the sizes that its network needs after supplies have moved
+pub sized_moved : (net : NetworkModel) (l l' : Solver) (f t k : ℕ) → IsReady net l → HasFairSupplies (shifted net f t k) → l'.residual ≡ l.residual → length l'.nodes.potential.items ≡ length l.nodes.potential.items → l'.nodes.excess ≡ l.nodes.excess → l'.nodes.score ≡ l.nodes.score → l'.search ≡ l.search → IsSized (shifted net f t k) l'
+sized_moved net l l' f t k r fair re pe ee se he =
+    let long : length (moved net.supplies f t k) ≡ node_count net = length-moved net.supplies f t k in
+    let w = r.residual.laid_out in
+    record {
+      network = still_network net f t k r.network fair;
+      room = record {
+        starts = rw re (omega (arith, w.starts));
+        reverses = rw re w.reverses;
+        forwards = rw re w.forwards;
+        arc_size = rw re r.residual.filled.arc_size;
+        rooms = rw re r.residual.filled.room_size;
+      };
+      potentials = omega (arith, r.potentials);
+      excesses = rw ee (omega (arith, r.excesses));
+      scores = rw se (omega (arith, r.scores));
+      labels = rw he (omega (arith, r.labels));
+      even = rw he r.even;
+    }
+
+-- potentials in reach can be lowered by one of them
+pub low_bounds : (n : ℕ) (z : ℤ) → n ≤ 1024 → (pos 0 ≤ℤ (z +ℤ pos (2 * n))) × (z ≤ℤ pos (2 * n)) → (negsuc 2047 ≤ℤ z) × (z ≤ℤ pos 2048)
+low_bounds n z s (a, b) = (grind (arith, ints), grind (arith, ints))
+
+-- a flow that stands, after supplies have moved and potentials were lowered by one of them
+pub ready_moved : (net : NetworkModel) (l l' : Solver) (f t k : ℕ) → IsSettled net l → HasFairSupplies (shifted net f t k) → f < node_count net → t < node_count net → k ≤ 2048
+    → ((v : ℕ) → v < node_count net → at_nodes l'.nodes.potential.items v ≡ at_nodes l.nodes.potential.items v -ℤ at_nodes l.nodes.potential.items t)
+    → ((v : ℕ) → v < node_count net → (pos 0 ≤ℤ (at_nodes l'.nodes.potential.items v +ℤ pos (2 * node_count net))) × (at_nodes l'.nodes.potential.items v ≤ℤ pos (2 * node_count net)))
+    → ((i : ℕ) → i < arc_count net → flow_of l.residual i + k ≤ 2097152)
+    → l'.residual ≡ l.residual → l'.search ≡ l.search → l'.nodes.score ≡ l.nodes.score → length l'.nodes.potential.items ≡ length l.nodes.potential.items → l'.nodes.excess.items ≡ moved l.nodes.excess.items f t k
+    → IsReady (shifted net f t k) l'
+ready_moved net l l' f t k st fair fb tb few base low room re he se pe ee =
+    let r = st.ready in
+    let w = r.residual.filled in
+    let long : length (moved net.supplies f t k) ≡ node_count net = length-moved net.supplies f t k in
+    let wide : length (moved l.nodes.excess.items f t k) ≡ length l.nodes.excess.items = length-moved l.nodes.excess.items f t k in
+    let laid = laid_still net _ _ _ f t k r.residual.laid_out in
+    let here : IsResidualNetwork (shifted net f t k) l.residual = record {
+      laid_out = laid;
+      filled = record { arc_size = w.arc_size; room_size = w.room_size; end = λ i b c. w.end i b c; cost = λ i b c. w.cost i b c; fits = λ i b. w.fits i b };
+      limits = λ i b. r.residual.limits i b;
+    } in
+    record {
+      network = still_network net f t k r.network fair;
+      residual = rw re here;
+      potentials = omega (arith, r.potentials);
+      excesses = rw ee (omega (arith, r.excesses));
+      scores = rw se (omega (arith, r.scores));
+      labels = rw he (omega (arith, r.labels));
+      even = rw he r.even;
+      round = rw (re, ee) (moved_round net (flow_of l.residual) (at_nodes l.nodes.potential.items) (at_nodes l'.nodes.potential.items) l.nodes.excess.items f t k r.network r.round r.excesses st.sent fb tb few base low room);
+      blank = rw he (λ v b. r.blank v (omega arith));
     }

@@ -2,7 +2,9 @@
 use Rattle.std.proofs.Common.{length, zero, suc, ◌≡◌, ◌≢◌, ◌≤◌, ◌<◌, ◌⊎◌, ℕ, ◌+◌, ◌*◌, Bool, true, false, ◌&&◌, cond, eqb, ltb, refl, sym, ◌∙◌, ap, subst, inl, inr, arith, List}
 use Rattle.std.specs.Prelude.{ℤ, pos, negsuc, ◌+ℤ◌, ◌-ℤ◌, ◌≤ℤ◌, ◌<ℤ◌}
 use Rattle.std.proofs.lemmas.Bool.{cases_eq, cases_lt, cases_Bool, eq-eqb, ne_eqb, eqb-true, lt-ltb, ltb-true, cond-false, and_parts, and_from}
-use Rattle.std.proofs.lemmas.Int.{ints}
+use Rattle.std.proofs.lemmas.Int.{ints, to_z-of_z}
+use mir.Syntax.{w32}
+use mir.Val.{SFits, of_z, to_z}
 use Rattle.networks.specs.declared.network.TheConstants.{MAX_NODES}
 use Rattle.networks.specs.declared.residual.TheConstants.{SHUT}
 use lib.Signed.{lt_z}
@@ -434,3 +436,10 @@ all_cleared n first arcs p e s q q' enter order place head ordered reached level
       | inl l ↦ let (a, back) = r.listed v b l in subst (λ (t : ℕ). q' t ≡ far) back (cleared (place v) a)
       | inr f ↦ others v (both_far (q v) (r.most v b) f)
     ]
+
+-- the label that was read less the cut, as it is written
+pub put_label : (p p' q : ℕ → ℤ) (v w : ℕ) (z cut : ℤ) → SFits w32 z → SFits w32 cut → v ≡ w → z ≡ q v → IsPut p p' v (to_z w32 (of_z w32 z) -ℤ to_z w32 (of_z w32 cut)) → IsPut p p' w (q w -ℤ cut)
+put_label p p' q v w z cut f g e at put =
+    let a : IsPut p p' v (z -ℤ cut) = rw (to_z-of_z w32 z f, to_z-of_z w32 cut g) at put in
+    let b : IsPut p p' v (q v -ℤ cut) = subst (λ (t : ℤ). IsPut p p' v (t -ℤ cut)) at a in
+    subst (λ (k : ℕ). IsPut p p' k (q k -ℤ cut)) e b

@@ -3,5 +3,4 @@ pub mod Residual
 pub mod Path
 pub mod Round
 pub mod Existence
-pub mod Lists
 pub mod Stand

@@ -1,8 +1,8 @@
 -- A path of open residual arcs of reduced cost 0, from a node where units are left over to one where
 -- units are wanting.
-use Rattle.std.specs.Prelude.{ℕ, ◌<◌, ◌≡◌, ℤ, pos, ◌+ℤ◌, ◌-ℤ◌, Bool, true, false, List}
+use Rattle.std.specs.Prelude.{ℕ, zero, suc, ◌<◌, ◌≡◌, ℤ, pos, ◌+ℤ◌, ◌-ℤ◌, Bool, true, false, List}
 use Rattle.networks.specs.declared.residual.ResidualArc.{ResidualArc}
-use Rattle.networks.specs.ResidualArcs.{end_at, cost_at, StartsAt}
+use Rattle.networks.specs.ResidualArcs.{numbers, end_at, cost_at, StartsAt}
 use Rattle.shortest_paths.specs.Search.{IsOpen}
 
 -- residual arc k leads from node u to node v, is open, and its reduced cost is 0
@@ -30,3 +30,23 @@ pub record HasPath (n : ℕ) (first : List ℕ) (arcs : List ResidualArc) (p : �
   pub member : on last ≡ true
   pub off : on (end_at arcs found) ≡ false
   pub step : IsTight first arcs p last found (end_at arcs found)
+
+-- ---- the way back along the path
+
+-- the node k steps on from v
+abbrev pub way : (ℕ → ℕ) → ℕ → ℕ → ℕ
+way next v zero = v
+way next v (suc k) = next (way next v k)
+
+-- node w is on the way from v, and no node before it has place 0
+pub record IsOnWay (next place : ℕ → ℕ) (v w : ℕ) : Type 0 where
+  pub steps : ℕ
+  pub at : w ≡ way next v steps
+  pub high : (i : ℕ) → i < steps → 0 < place (way next v i)
+
+-- the start of the residual arc by which a node was entered, and what fits along it
+abbrev pub next_of : List ℕ → List ResidualArc → List ℕ → ℕ → ℕ
+next_of reverse arcs enter w = end_at arcs (numbers reverse (numbers enter w))
+
+abbrev pub room_into : List ℕ → List ℕ → ℕ → ℕ
+room_into room enter w = numbers room (numbers enter w)

@@ -1,30 +1,150 @@
--- A flow of least cost that stands while supplies move.
-use Rattle.std.specs.Prelude.{ℕ, ◌+◌, ◌<◌, ◌≡◌, ◌^◌, ℤ, pos, List, length}
-use Rattle.networks.specs.Networks.{NetworkModel, node_count, arc_count, arc_at}
-use Rattle.networks.specs.declared.residual.ResidualArc.{ResidualArc}
-use Rattle.networks.specs.Flow.{Flow, HasPotentials, IsLeastCost, at_nodes, cost_of}
-use Rattle.networks.specs.ResidualArcs.{HasResidualArcs, IsFilled, carried, limit_of}
-use Rattle.min_cost_flow.specs.Lists.{HasNodeLists}
-use Rattle.shortest_paths.specs.Search.{far}
-use Rattle.min_cost_flow.specs.Round.{IsRound}
+-- What holds of the solver from one step to the next, and of a flow that stands while supplies move.
+use Rattle.std.specs.Prelude.{ℕ, ◌+◌, ◌*◌, ◌<◌, ◌≤◌, ◌≡◌, ◌≢◌, ℤ, pos, ◌+ℤ◌, ◌≤ℤ◌, ◌<ℤ◌, Bool, true, false, List, length}
+use Rattle.networks.specs.declared.network.TheConstants.{MAX_ARCS, MAX_NODES}
+use Rattle.networks.specs.declared.residual.TheConstants.{MAX_RESIDUAL_ARCS}
+use Rattle.networks.specs.declared.residual.Residual.{Residual}
+use Rattle.networks.specs.Networks.{NetworkModel, node_count, arc_count, IsNetwork}
+use Rattle.networks.specs.Flow.{Flow, HasPotentials, IsLeastCost, HasNoFlow, at_nodes, cost_of}
+use Rattle.networks.specs.ResidualArcs.{numbers, end_at}
+use Rattle.networks.specs.Residuals.{HasSizes, IsResidualNetwork, flow_of}
+use Rattle.shortest_paths.specs.declared.state.Nodes.{Nodes}
+use Rattle.shortest_paths.specs.declared.state.Search.{Search}
+use Rattle.shortest_paths.specs.Search.{far, labels, enters, orders, places, IsEven, IsWithinFar}
+use Rattle.min_cost_flow.specs.declared.state.Solver.{Solver}
+use Rattle.min_cost_flow.specs.Path.{HasPath, IsOnWay, next_of, room_into}
+use Rattle.min_cost_flow.specs.Round.{IsRound, IsLess, IsWork, carrying}
 
--- the lists of residual arcs have their sizes
-pub record HasArcLists (net : NetworkModel) (first reverse forward : List ℕ) (arcs : List ResidualArc) (room : List ℕ) : Type 0 where
-  pub starts : length first ≡ node_count net + 1
-  pub reverses : length reverse ≡ arc_count net + arc_count net
-  pub forwards : length forward ≡ arc_count net
-  pub arc_size : length arcs ≡ arc_count net + arc_count net
-  pub rooms : length room ≡ arc_count net + arc_count net
+-- what is left over at a node, or below 0 is wanting there
+abbrev pub excess_at : Solver → ℕ → ℤ
+excess_at s = at_nodes s.nodes.excess.items
 
--- the lists of a solver when all units have been sent
-pub record IsSettled (net : NetworkModel) (first reverse forward : List ℕ) (arcs : List ResidualArc) (room : List ℕ) (potential excess score label : List ℤ) (enter order place : List ℕ) : Type 0 where
-  pub laid_out : HasResidualArcs net first reverse forward
-  pub limits : (i : ℕ) → i < arc_count net → limit_of (arc_at net i).cap < 2 ^ 32
-  pub filled : IsFilled net reverse forward arcs room
-  pub sizes : HasNodeLists (node_count net) potential excess score label enter order place
-  pub round : IsRound net (carried reverse forward room) (at_nodes potential) (at_nodes excess)
-  pub blank : (v : ℕ) → v < node_count net → at_nodes label v ≡ far
-  pub sent : (v : ℕ) → v < node_count net → at_nodes excess v ≡ pos 0
+abbrev pub potential_at : Solver → ℕ → ℤ
+potential_at s = at_nodes s.nodes.potential.items
+
+-- what each arc carries
+abbrev pub flow_in : Solver → ℕ → ℕ
+flow_in s = flow_of s.residual
+
+-- the lists have the sizes that the network needs
+pub record IsSized (net : NetworkModel) (s : Solver) : Type 0 where
+  pub network : IsNetwork net
+  pub room : HasSizes net s.residual
+  pub potentials : length s.nodes.potential.items ≡ node_count net
+  pub excesses : length s.nodes.excess.items ≡ node_count net
+  pub scores : length s.nodes.score.items ≡ node_count net
+  pub labels : length s.search.label.items ≡ node_count net
+  pub even : IsEven s.search
+
+-- what holds between two searches
+pub record IsReady (net : NetworkModel) (s : Solver) : Type 0 where
+  pub network : IsNetwork net
+  pub residual : IsResidualNetwork net s.residual
+  pub potentials : length s.nodes.potential.items ≡ node_count net
+  pub excesses : length s.nodes.excess.items ≡ node_count net
+  pub scores : length s.nodes.score.items ≡ node_count net
+  pub labels : length s.search.label.items ≡ node_count net
+  pub even : IsEven s.search
+  pub round : IsRound net (flow_in s) (potential_at s) (excess_at s)
+  pub blank : (v : ℕ) → v < node_count net → at_nodes s.search.label.items v ≡ far
+
+-- the same when all units have been sent
+pub record IsSettled (net : NetworkModel) (s : Solver) : Type 0 where
+  pub ready : IsReady net s
+  pub sent : (v : ℕ) → v < node_count net → excess_at s v ≡ pos 0
+
+-- whether all units could be sent
+pub record IsAnswer (net : NetworkModel) (s : Solver) (sent : Bool) : Type 0 where
+  pub settled : sent ≡ true → IsSettled net s
+  pub no_flow : sent ≡ false → HasNoFlow net
+
+-- the work that was done keeps its bounds
+abbrev pub HasWorked : NetworkModel → Solver → Type 0
+HasWorked net s = IsWork net (flow_in s) (excess_at s) s.searches s.looks
+
+-- units went along a path
+pub record IsAugmented (net : NetworkModel) (s s' : Solver) : Type 0 where
+  pub ready : IsReady net s'
+  pub less : IsLess net (excess_at s) (excess_at s')
+  pub carrying : carrying net (flow_in s') + s.looks ≤ carrying net (flow_in s) + s'.looks
+  pub looks : s'.looks ≤ s.looks + 2 * arc_count net
+  pub searches : s'.searches ≡ s.searches
+
+-- nothing is left over at a node any more, nor anew at any other
+pub record HasSentFrom (net : NetworkModel) (s s' : Solver) (source : ℕ) : Type 0 where
+  pub ready : IsReady net s'
+  pub work : HasWorked net s'
+  pub here : excess_at s' source ≤ℤ pos 0
+  pub done : (v : ℕ) → v < node_count net → excess_at s v ≤ℤ pos 0 → excess_at s' v ≤ℤ pos 0
+
+-- ---- one augmentation
+
+-- the node where the last residual arc of the path starts
+abbrev pub last_node : Solver → ℕ
+last_node s = end_at s.residual.arcs.items (numbers s.residual.reverse.items s.search.found)
+
+-- a search has found a path from a node where units are left over to one where units are wanting
+pub record CanAugment (net : NetworkModel) (s : Solver) (from : ℕ) : Type 0 where
+  pub ready : IsReady net s
+  pub path : HasPath (node_count net) s.residual.first.items s.residual.arcs.items (potential_at s) (enters s.search) (places s.search) from s.search.found
+  pub source : from < node_count net
+  pub left : pos 0 <ℤ excess_at s from
+  pub wanting : excess_at s (end_at s.residual.arcs.items s.search.found) <ℤ pos 0
+
+-- so many units can go along the path
+pub record IsBottleneck (s : Solver) (source amount : ℕ) : Type 0 where
+  pub some : 0 < amount
+  pub found : amount ≤ numbers s.residual.room.items s.search.found
+  pub left : pos amount ≤ℤ excess_at s source
+  pub short : (excess_at s (end_at s.residual.arcs.items s.search.found) +ℤ pos amount) ≤ℤ pos 0
+  pub fits : (v : ℕ) → IsOnWay (next_of s.residual.reverse.items s.residual.arcs.items s.search.enter.items) (places s.search) (last_node s) v → 0 < places s.search v → amount ≤ room_into s.residual.room.items s.search.enter.items v
+
+-- so many units went along residual arc k
+pub record IsPushedAlong (net : NetworkModel) (r r' : Residual) (k amount : ℕ) : Type 0 where
+  pub residual : IsResidualNetwork net r'
+  pub first : r'.first ≡ r.first
+  pub reverse : r'.reverse ≡ r.reverse
+  pub forward : r'.forward ≡ r.forward
+  pub ends : (j : ℕ) → end_at r'.arcs.items j ≡ end_at r.arcs.items j
+  pub less : numbers r'.room.items k + amount ≡ numbers r.room.items k
+  pub more : numbers r'.room.items (numbers r.reverse.items k) ≡ numbers r.room.items (numbers r.reverse.items k) + amount
+  pub others : (j : ℕ) → j ≢ k → j ≢ numbers r.reverse.items k → numbers r'.room.items j ≡ numbers r.room.items j
+
+-- ---- what is read and written after a search
+
+-- the scanned nodes are in the order, and their labels and the cut are in range
+pub record CanUpdate (nodes : Nodes) (s : Search) : Type 0 where
+  pub even : IsEven s
+  pub order : s.head ≤ length s.label.items
+  pub small : length nodes.potential.items ≤ MAX_NODES
+  pub scanned : (j : ℕ) → j < s.head → orders s j < length nodes.potential.items
+  pub sizes : length s.label.items ≡ length nodes.potential.items
+  pub labels : (j : ℕ) → j < s.head → IsWithinFar (labels s (orders s j))
+  pub cut : IsWithinFar s.cut
+
+-- the nodes that were reached are in the order
+pub record HasOrder (s : Search) : Type 0 where
+  pub even : IsEven s
+  pub order : s.reached ≤ length s.label.items
+  pub small : length s.label.items ≤ MAX_NODES
+  pub nodes : (j : ℕ) → j < s.reached → orders s j < length s.label.items
+
+-- the labels of the nodes that were reached are taken away, and their order stays
+pub record IsCleared (s s' : Search) : Type 0 where
+  pub even : IsEven s'
+  pub cleared : (j : ℕ) → j < s.reached → labels s' (orders s j) ≡ far
+  pub others : (v : ℕ) → labels s v ≡ far → labels s' v ≡ far
+  pub enter : s'.enter ≡ s.enter
+  pub order : s'.order ≡ s.order
+  pub place : s'.place ≡ s.place
+  pub found : s'.found ≡ s.found
+  pub size : length s'.label.items ≡ length s.label.items
+
+-- what each arc carries can be read: the number of the residual arc along it is that of one that has a reverse
+pub record CanRead (reverse forward room : List ℕ) : Type 0 where
+  pub reverses : (i : ℕ) → i < length forward → numbers forward i < length reverse
+  pub rooms : (i : ℕ) → i < length forward → numbers reverse (numbers forward i) < length room
+  pub small : length forward ≤ MAX_ARCS
+  pub sizes : (length reverse ≤ MAX_RESIDUAL_ARCS) × (length room ≤ MAX_RESIDUAL_ARCS)
 
 -- what a flow costs, and potentials that show that none costs less
 pub record IsShown (net : NetworkModel) (cost : ℕ) (potential : List ℤ) : Type 0 where

@@ -11,6 +11,7 @@ mod scratch;
 mod solved;
 mod solver;
 mod standing;
+mod state;
 
 pub use networks::{Arc, Cap, NetFault, Network};
 pub use scratch::Scratch;

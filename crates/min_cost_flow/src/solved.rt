@@ -34,8 +34,8 @@ impl Solved {
 
     /// Gives the two lists of this solution back to be used again. It takes no memory.
     pub fn give_back(self, scratch: &mut Scratch) {
-        scratch.flow = self.flow;
-        scratch.potential = self.potential;
+        scratch.solver.residual.forward = self.flow;
+        scratch.solver.nodes.potential = self.potential;
     }
 
     /// How many units the arc of a number carries.

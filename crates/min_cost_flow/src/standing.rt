@@ -4,63 +4,20 @@ ghost use Rattle.networks.specs.declared.fault.TheConstants.{MAX_SUPPLY};
 ghost use Rattle.networks.specs.Networks.{NetworkModel, node_count, arc_count, shifted, HasFairSupplies, IsNetwork};
 ghost use Rattle.networks.specs.Flow.{HasNoFlow, Solves, at_nodes, cost_of};
 ghost use Rattle.networks.specs.ResidualArcs.{numbers, carried};
-ghost use Rattle.min_cost_flow.specs.Lists.{HasNodeLists};
-ghost use Rattle.min_cost_flow.specs.Stand.{HasArcLists, IsSettled, IsShown};
+ghost use Rattle.min_cost_flow.specs.Stand.{IsSettled, IsShown};
 
-use crate::resume::{resume, solve_from_nothing};
 use crate::solved::Solved;
 use crate::solver::{SolveFault, read_flow};
-use networks::{Network, ResidualArc};
+use crate::state::Solver;
+use networks::Network;
 use std::alloc::{AllocError, Global};
 use std::marker::Model;
-
-/// What the solver keeps of a network: its residual arcs, what fits along each, and by node the
-/// potentials, the excess, the scores, and what a search writes.
-#[derive(Drop)]
-struct Lists {
-    first: Vec<u32>,
-    reverse: Vec<u32>,
-    forward: Vec<u32>,
-    arcs: Vec<ResidualArc>,
-    room: Vec<u32>,
-    potential: Vec<i32>,
-    excess: Vec<i32>,
-    score: Vec<i32>,
-    label: Vec<i32>,
-    enter: Vec<u32>,
-    order: Vec<u32>,
-    place: Vec<u32>,
-}
-
-/// Lists of the sizes that a network needs, with nothing in them yet.
-fn blank_lists(alloc: Global, network: &Network) -> Result<Lists, AllocError>
-    ensures arcs { IfOk result (λ s. HasArcLists network.now s.first.items s.reverse.items s.forward.items s.arcs.items s.room.items) }
-    ensures nodes { IfOk result (λ s. HasNodeLists (node_count network.now) s.potential.items s.excess.items s.score.items s.label.items s.enter.items s.order.items s.place.items) }
-{
-    let nodes = network.node_count();
-    let arc_count = network.arc_count();
-    let blank = ResidualArc { end: 0, cost: 0 };
-    Ok(Lists {
-        first: vec![in alloc; 0; nodes + 1]?,
-        reverse: vec![in alloc; 0; 2 * arc_count]?,
-        forward: vec![in alloc; 0; arc_count]?,
-        arcs: vec![in alloc; blank; 2 * arc_count]?,
-        room: vec![in alloc; 0; 2 * arc_count]?,
-        potential: vec![in alloc; 0; nodes]?,
-        excess: vec![in alloc; 0; nodes]?,
-        score: vec![in alloc; 0; nodes]?,
-        label: vec![in alloc; 0; nodes]?,
-        enter: vec![in alloc; 0; nodes]?,
-        order: vec![in alloc; 0; nodes]?,
-        place: vec![in alloc; 0; nodes]?,
-    })
-}
 
 /// A flow of least cost in a network of its own, which follows as supplies move.
 #[derive(Drop)]
 pub struct Standing {
     network: Network,
-    lists: Lists,
+    solver: Solver,
 }
 
 impl Model for Standing {
@@ -68,7 +25,7 @@ impl Model for Standing {
 
     ghost view = { λ s. s.network };
 
-    ghost invariant = { λ s. IsSettled s.network s.lists.first.items s.lists.reverse.items s.lists.forward.items s.lists.arcs.items s.lists.room.items s.lists.potential.items s.lists.excess.items s.lists.score.items s.lists.label.items s.lists.enter.items s.lists.order.items s.lists.place.items };
+    ghost invariant = { λ s. IsSettled s.network s.solver };
 }
 
 impl Standing {
@@ -81,25 +38,12 @@ impl Standing {
         ensures infeasible { IfErr result (λ fault. fault ≡ SolveFault.Infeasible → HasNoFlow network.now) }
     {
         let network = network.copy()?;
-        let mut lists = blank_lists(alloc, &network)?;
-        if !solve_from_nothing(
-            &network,
-            &mut lists.first,
-            &mut lists.reverse,
-            &mut lists.forward,
-            &mut lists.arcs,
-            &mut lists.room,
-            &mut lists.potential,
-            &mut lists.excess,
-            &mut lists.score,
-            &mut lists.label,
-            &mut lists.enter,
-            &mut lists.order,
-            &mut lists.place,
-        ) {
+        let mut solver = Solver::empty(alloc);
+        solver.prepare(&network)?;
+        if !solver.solve(&network) {
             return Err(SolveFault::Infeasible);
         }
-        Ok(Standing { network, lists })
+        Ok(Standing { network, solver })
     }
 
     /// Lets node `from` supply so many units more, and node `to` so many less, and the flow follows at
@@ -113,28 +57,13 @@ impl Standing {
         ensures net { IfSome result (λ s. s ≡ shifted self from to amount) }
         ensures no_flow { IfNone result (HasNoFlow (shifted self from to amount)) }
     {
-        let mut standing = self;
-        if !resume(
-            &mut standing.network,
-            &mut standing.lists.first,
-            &mut standing.lists.reverse,
-            &mut standing.lists.forward,
-            &mut standing.lists.arcs,
-            &mut standing.lists.room,
-            &mut standing.lists.potential,
-            &mut standing.lists.excess,
-            &mut standing.lists.score,
-            &mut standing.lists.label,
-            &mut standing.lists.enter,
-            &mut standing.lists.order,
-            &mut standing.lists.place,
-            from,
-            to,
-            amount,
-        ) {
+        let Standing { network, solver } = self;
+        let mut network = network;
+        let mut solver = solver;
+        if !solver.resume(&mut network, from, to, amount) {
             return None;
         }
-        Some(standing)
+        Some(Standing { network, solver })
     }
 
     /// The network, with its supplies as they are now.
@@ -153,9 +82,13 @@ impl Standing {
     {
         // Only the proof needs this: `node_count` says that the network is one.
         let _nodes = self.network.node_count();
-        let mut flow = Vec::from_slice(alloc, &self.lists.forward)?;
-        read_flow(&self.lists.reverse, &self.lists.room, &mut flow);
-        let potential = Vec::from_slice(alloc, &self.lists.potential)?;
+        let mut flow = Vec::from_slice(alloc, &self.solver.residual.forward)?;
+        read_flow(
+            &self.solver.residual.reverse,
+            &self.solver.residual.room,
+            &mut flow,
+        );
+        let potential = Vec::from_slice(alloc, &self.solver.nodes.potential)?;
         Ok(Solved::new(flow, potential, 0, 0))
     }
 
@@ -166,13 +99,14 @@ impl Standing {
     {
         // Only the proof needs this: `node_count` says that the network is one.
         let _nodes = self.network.node_count();
+        let residual = &self.solver.residual;
         let cost = flow_cost(
             &self.network,
-            &self.lists.reverse,
-            &self.lists.forward,
-            &self.lists.room,
+            &residual.reverse,
+            &residual.forward,
+            &residual.room,
         );
-        (cost, &self.lists.potential)
+        (cost, &self.solver.nodes.potential)
     }
 }
 

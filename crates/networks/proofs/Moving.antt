@@ -1,5 +1,7 @@
 -- What is left at each node once one has so many units more, and another so many less.
-use Rattle.std.proofs.Common.{◌≡◌, ◌<◌, ◌≤◌, ℕ, length, List, cond, eqb, sym, ◌∙◌, subst, inl, inr, get_or, arith}
+use Rattle.std.proofs.Common.{◌≡◌, ◌<◌, ◌≤◌, Bool, true, false, ℕ, length, List, cond, eqb, sym, ◌∙◌, subst, inl, inr, get_or, arith}
+use mir.Syntax.{w32}
+use mir.Val.{of_z, to_z}
 use Rattle.std.specs.Prelude.{ℤ, pos, negsuc, ◌+ℤ◌, ◌-ℤ◌, ◌≤ℤ◌}
 use Rattle.std.proofs.lemmas.Bool.{cases_eq, eq-eqb, ne_eqb, cond-true, cond-false}
 use Rattle.std.proofs.lemmas.Int.{ints}
@@ -65,6 +67,23 @@ no_lower a b x h l = omega (arith, ints)
 
 pub raised_low : (units : List ℤ) (f k v : ℕ) → f < length units → negsuc 2047 ≤ℤ at units v → negsuc 2047 ≤ℤ at (raised units f k) v
 raised_low units f k v b l = no_lower (at units v) (at (raised units f k) v) (cond {A = ℕ} (eqb v f) k 0) (raised_at units f k v b) l
+
+no_higher : (a b : ℤ) (x k : ℕ) → b ≡ a +ℤ pos x → x ≤ k → k ≤ 2048 → a ≤ℤ pos 2048 → b ≤ℤ pos 4096
+no_higher a b x k h l m n = omega (arith, ints)
+
+chosen_most : (b : Bool) (k : ℕ) → cond {A = ℕ} b k 0 ≤ k
+chosen_most true k = omega arith
+chosen_most false k = omega arith
+
+pub raised_high : (units : List ℤ) (f k v : ℕ) → f < length units → k ≤ 2048 → at units v ≤ℤ pos 2048 → at (raised units f k) v ≤ℤ pos 4096
+raised_high units f k v b few l = no_higher (at units v) (at (raised units f k) v) (cond {A = ℕ} (eqb v f) k 0) k (raised_at units f k v b) (chosen_most (eqb v f) k) few l
+
+-- sums and differences as they are computed
+pub sum_is : (x : ℤ) (k : ℕ) → negsuc 2047 ≤ℤ x → x ≤ℤ pos 2048 → k ≤ 2048 → to_z w32 (of_z w32 (to_z w32 (of_z w32 x) +ℤ to_z w32 k)) ≡ x +ℤ pos k
+sum_is x k l h m = omega (arith, ints)
+
+pub difference_is : (x : ℤ) (k : ℕ) → negsuc 2047 ≤ℤ x → x ≤ℤ pos 4096 → k ≤ 2048 → to_z w32 (of_z w32 (to_z w32 (of_z w32 x) -ℤ to_z w32 k)) ≡ x -ℤ pos k
+difference_is x k l h m = omega (arith, ints)
 
 -- a network keeps being one while its supplies are fair
 pub still_network : (net : NetworkModel) (f t k : ℕ) → IsNetwork net → HasFairSupplies (shifted net f t k) → IsNetwork (shifted net f t k)

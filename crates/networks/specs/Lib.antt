@@ -3,3 +3,4 @@ pub mod Fault
 pub mod Flow
 pub mod ResidualArcs
 pub mod Counting
+pub mod Residuals

@@ -55,12 +55,20 @@ abbrev pub limit_of : Cap → ℕ
 limit_of (AtMost k) = k
 limit_of Any = 2 ^ 30
 
--- what fits along each residual arc, its end, and what a unit along it costs, with `SHUT` more while nothing fits
+-- a residual arc where a unit costs z has cost c, since so much fits along it
+abbrev pub IsRated : ℤ → ℕ → ℤ → Type 0
+IsRated c room z = c ≡ (if room == 0 then z +ℤ SHUT else z)
+
+-- a unit costs z along residual arc k
+abbrev pub IsCosted : List ResidualArc → List ℕ → ℕ → ℤ → Type 0
+IsCosted arcs room k z = IsRated (cost_at arcs k) (numbers room k) z
+
+-- what fits along each residual arc, its end, and what a unit along it costs
 pub record IsFilled (net : NetworkModel) (reverse forward : List ℕ) (arcs : List ResidualArc) (room : List ℕ) : Type 0 where
   pub arc_size : length arcs ≡ arc_count net + arc_count net
   pub room_size : length room ≡ arc_count net + arc_count net
   pub end : (i : ℕ) (back : Bool) → i < arc_count net → end_at arcs (place_of reverse forward i back) ≡ end_of net i back
-  pub cost : (i : ℕ) (back : Bool) → i < arc_count net → cost_at arcs (place_of reverse forward i back) ≡ (if numbers room (place_of reverse forward i back) == 0 then unit_cost net i back +ℤ SHUT else unit_cost net i back)
+  pub cost : (i : ℕ) (back : Bool) → i < arc_count net → IsCosted arcs room (place_of reverse forward i back) (unit_cost net i back)
   pub fits : (i : ℕ) → i < arc_count net → numbers room (place_of reverse forward i false) + numbers room (place_of reverse forward i true) ≡ limit_of (arc_at net i).cap
 
 -- what an arc carries is what fits back along it

@@ -10,8 +10,7 @@ mod residual;
 mod units;
 
 pub use arc::{Arc, Cap};
-pub use build::lay_out;
 pub use fault::NetFault;
 pub use network::Network;
-pub use residual::{ResidualArc, ResidualArcs, SHUT, look};
+pub use residual::{Residual, ResidualArc, SHUT};
 pub use units::move_units;

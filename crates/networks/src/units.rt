@@ -1,7 +1,7 @@
 //! Units by node: so many more at one node, and so many less at another.
 ghost use Rattle.std.specs.Prelude.{◌≡◌, ◌<◌, ◌≤◌, ℕ, pos, ◌-ℤ◌, ◌≤ℤ◌, length, slice_index_or};
 ghost use Rattle.networks.specs.declared.fault.TheConstants.{MAX_SUPPLY};
-ghost use Rattle.networks.specs.Networks.{moved, raised, lowered};
+ghost use Rattle.networks.specs.Networks.{moved};
 
 /// Gives node `from` so many units more, and node `to` so many less. It takes no memory.
 pub fn move_units(units: &mut [i32], from: u32, to: u32, amount: u32)
@@ -12,26 +12,6 @@ pub fn move_units(units: &mut [i32], from: u32, to: u32, amount: u32)
     requires high { (v : ℕ) → v < length units.old → slice_index_or units.old v (pos 0) ≤ℤ pos MAX_SUPPLY }
     ensures { units.new ≡ moved units.old from to amount }
 {
-    raise(units, from as usize, amount);
-    lower(units, to as usize, amount);
-}
-
-/// Gives a node so many units more.
-fn raise(units: &mut [i32], node: usize, amount: u32)
-    requires node { node < length units.old }
-    requires few { amount ≤ MAX_SUPPLY }
-    requires high { slice_index_or units.old node (pos 0) ≤ℤ pos MAX_SUPPLY }
-    ensures { units.new ≡ raised units.old node amount }
-{
-    units[node] += amount as i32;
-}
-
-/// Gives a node so many units less.
-fn lower(units: &mut [i32], node: usize, amount: u32)
-    requires node { node < length units.old }
-    requires few { amount ≤ MAX_SUPPLY }
-    requires low { (pos 0 -ℤ pos MAX_SUPPLY) ≤ℤ slice_index_or units.old node (pos 0) }
-    ensures { units.new ≡ lowered units.old node amount }
-{
-    units[node] -= amount as i32;
+    units[from as usize] += amount as i32;
+    units[to as usize] -= amount as i32;
 }

@@ -1,3 +1,4 @@
 pub mod Reaching
 pub mod Distinct
 pub mod Signs
+pub mod Searching

@@ -3,12 +3,12 @@
 use Rattle.std.specs.Prelude.{ℕ, ◌+◌, ◌-◌, ◌*◌, ◌<◌, ◌≤◌, ◌≡◌, ◌≢◌, ℤ, pos, negsuc, ◌+ℤ◌, ◌-ℤ◌, ◌≤ℤ◌, ◌<ℤ◌, ◌⊎◌, List, length}
 use Rattle.networks.specs.declared.network.TheConstants.{MAX_NODES}
 use Rattle.networks.specs.declared.residual.TheConstants.{MAX_RESIDUAL_ARCS, SHUT}
-use Rattle.shortest_paths.specs.declared.reach.TheConstants.{FAR}
+use Rattle.shortest_paths.specs.declared.state.TheConstants.{FAR}
 use Rattle.sums.specs.Sums.{sum_below}
 use Rattle.networks.specs.declared.residual.ResidualArc.{ResidualArc}
-use Rattle.shortest_paths.specs.declared.reach.Ground.{Ground}
-use Rattle.shortest_paths.specs.declared.reach.SearchProgress.{SearchProgress}
-use Rattle.shortest_paths.specs.declared.reach.Step.{Step}
+use Rattle.shortest_paths.specs.declared.state.Ground.{Ground}
+use Rattle.shortest_paths.specs.declared.state.Search.{Search}
+use Rattle.shortest_paths.specs.declared.state.Step.{Step}
 use Rattle.networks.specs.Flow.{at_nodes}
 use Rattle.networks.specs.ResidualArcs.{numbers, end_at, cost_at, StartsAt}
 
@@ -120,31 +120,158 @@ pub record IsKept (n h : ℕ) (q : ℕ → ℤ) (place : ℕ → ℕ) (q' : ℕ 
   pub same : (v : ℕ) → v < n → q v <ℤ far → place v < h → (q' v ≡ q v) × (place' v ≡ place v)
   pub old : (v : ℕ) → v < n → q' v <ℤ far → place' v < h → (q v <ℤ far) × (place v < h)
 
--- ---- the same, of the lists that the code keeps
+-- ---- the same, of the structs that the code keeps
 
 abbrev pub nodes_of : Ground → ℕ
-nodes_of g = length g.potential.now
+nodes_of g = length g.nodes.now.potential.items
+
+abbrev pub first_of : Ground → List ℕ
+first_of g = g.residual.now.first.items
+
+abbrev pub arcs_of : Ground → List ResidualArc
+arcs_of g = g.residual.now.arcs.items
+
+abbrev pub potential_of : Ground → ℕ → ℤ
+potential_of g = at_nodes g.nodes.now.potential.items
+
+abbrev pub excess_of : Ground → ℕ → ℤ
+excess_of g = at_nodes g.nodes.now.excess.items
+
+abbrev pub labels : Search → ℕ → ℤ
+labels s = at_nodes s.label.items
+
+abbrev pub enters : Search → ℕ → ℕ
+enters s = numbers s.enter.items
+
+abbrev pub orders : Search → ℕ → ℕ
+orders s = numbers s.order.items
+
+abbrev pub places : Search → ℕ → ℕ
+places s = numbers s.place.items
 
 -- what a search reads is sound
 pub record IsGround (g : Ground) : Type 0 where
-  pub excesses : length g.excess.now ≡ nodes_of g
-  pub scores : length g.score.now ≡ nodes_of g
-  pub graph : IsGraph (nodes_of g) g.first.now g.arcs.now
-  pub priced : IsPriced (nodes_of g) g.first.now g.arcs.now (at_nodes g.potential.now) (at_nodes g.excess.now)
+  pub excesses : length g.nodes.now.excess.items ≡ nodes_of g
+  pub scores : length g.nodes.now.score.items ≡ nodes_of g
+  pub graph : IsGraph (nodes_of g) (first_of g) (arcs_of g)
+  pub priced : IsPriced (nodes_of g) (first_of g) (arcs_of g) (potential_of g) (excess_of g)
   pub source : g.source < nodes_of g
 
--- each list has an entry for each node
-abbrev pub HasSizes : Ground → List ℤ → List ℕ → List ℕ → List ℕ → Type 0
-HasSizes g label enter order place = (length label ≡ nodes_of g) × (length enter ≡ nodes_of g) × (length order ≡ nodes_of g) × (length place ≡ nodes_of g)
+-- a search's lists are all as long as that of its labels
+pub record IsEven (s : Search) : Type 0 where
+  pub enters : length s.enter.items ≡ length s.label.items
+  pub orders : length s.order.items ≡ length s.label.items
+  pub places : length s.place.items ≡ length s.label.items
 
-abbrev pub Reaches : Ground → List ℤ → List ℕ → List ℕ → List ℕ → SearchProgress → Type 0
-Reaches g label enter order place t = IsReached (nodes_of g) g.first.now g.arcs.now (at_nodes g.potential.now) (at_nodes g.excess.now) g.source (at_nodes label) (numbers enter) (numbers order) (numbers place) t.head t.ordered t.reached t.level
+-- a search can begin: units are left over at the source, and no node has a label
+pub record IsBlank (g : Ground) (s : Search) : Type 0 where
+  pub ground : IsGround g
+  pub even : IsEven s
+  pub size : length s.label.items ≡ nodes_of g
+  pub blank : (v : ℕ) → v < nodes_of g → labels s v ≡ far
+  pub source : pos 0 <ℤ excess_of g g.source
 
-abbrev pub FindsNearest : Ground → List ℤ → List ℕ → SearchProgress → Type 0
-FindsNearest g label place t = IsNearest (nodes_of g) g.first.now g.arcs.now (at_nodes g.potential.now) (at_nodes g.excess.now) g.source (at_nodes label) (numbers place) t.head t.level t.cut t.found
+abbrev pub Reaches : Ground → Search → Type 0
+Reaches g s = IsReached (nodes_of g) (first_of g) (arcs_of g) (potential_of g) (excess_of g) g.source (labels s) (enters s) (orders s) (places s) s.head s.ordered s.reached s.level
 
-abbrev pub Keeps : Ground → ℕ → List ℤ → List ℕ → List ℤ → List ℕ → Type 0
-Keeps g h label place label' place' = IsKept (nodes_of g) h (at_nodes label) (numbers place) (at_nodes label') (numbers place')
+abbrev pub FindsNearest : Ground → Search → Type 0
+FindsNearest g s = IsNearest (nodes_of g) (first_of g) (arcs_of g) (potential_of g) (excess_of g) g.source (labels s) (places s) s.head s.level s.cut s.found
+
+-- what holds all through a search
+pub record IsSearch (g : Ground) (s : Search) : Type 0 where
+  pub ground : IsGround g
+  pub even : IsEven s
+  pub size : length s.label.items ≡ nodes_of g
+  pub reached : Reaches g s
+  pub nearest : FindsNearest g s
+
+abbrev pub HasServed : Ground → Search → Type 0
+HasServed g s = IsServed (nodes_of g) (first_of g) (arcs_of g) (potential_of g) (labels s) (places s) s.cut s.head
+
+abbrev pub HasLeft : Ground → Search → Type 0
+HasLeft g s = IsLeft (nodes_of g) (potential_of g) (labels s) (places s) s.head s.cut
+
+abbrev pub Keeps : Ground → ℕ → Search → Search → Type 0
+Keeps g h s s' = IsKept (nodes_of g) h (labels s) (places s) (labels s') (places s')
+
+-- all nodes at the level were scanned, and no node that waits is nearer than `level`, at which one is
+pub record IsNextLevel (g : Ground) (s : Search) (level : ℤ) : Type 0 where
+  pub done : s.head ≡ s.ordered
+  pub rises : s.level ≤ℤ level
+  pub cut : level ≤ℤ s.cut
+  pub least : (j : ℕ) → s.ordered ≤ j → j < s.reached → level ≤ℤ (labels s (orders s j) -ℤ potential_of g (orders s j))
+  pub some : (j : ℕ) × (s.ordered ≤ j) × (j < s.reached) × (level ≡ labels s (orders s j) -ℤ potential_of g (orders s j))
+
+-- only the order of nodes has changed, and those that were scanned stay
+pub record IsOrdered (g : Ground) (s s' : Search) : Type 0 where
+  pub search : IsSearch g s'
+  pub kept : Keeps g s.head s s'
+  pub label : s'.label ≡ s.label
+  pub head : s'.head ≡ s.head
+  pub reached : s'.reached ≡ s.reached
+  pub cut : s'.cut ≡ s.cut
+
+-- the node at place j of the order waits behind those that are ordered
+pub record IsWaiting (g : Ground) (s : Search) (j : ℕ) : Type 0 where
+  pub search : IsSearch g s
+  pub behind : s.ordered ≤ j
+  pub inside : j < s.reached
+
+-- node u is the one that is scanned
+pub record IsScanning (g : Ground) (s : Search) (u : ℕ) : Type 0 where
+  pub search : IsSearch g s
+  pub node : u < nodes_of g
+  pub labelled : labels s u <ℤ far
+  pub place : places s u + 1 ≡ s.head
+  pub near : IsNear (potential_of g g.source) (places s u) (labels s u)
+  pub level : s.level ≤ℤ (labels s u -ℤ potential_of g u)
+
+-- a residual arc of the scanned node was taken up: labels and the cut may have fallen
+pub record IsRelaxed (g : Ground) (s s' : Search) : Type 0 where
+  pub search : IsSearch g s'
+  pub kept : Keeps g s.head s s'
+  pub head : s'.head ≡ s.head
+  pub level : s'.level ≡ s.level
+  pub cut : s'.cut ≤ℤ s.cut
+
+-- all stays but the cut and what was found
+pub record SameBesideCut (s s' : Search) : Type 0 where
+  pub label : s'.label ≡ s.label
+  pub enter : s'.enter ≡ s.enter
+  pub order : s'.order ≡ s.order
+  pub place : s'.place ≡ s.place
+  pub head : s'.head ≡ s.head
+  pub ordered : s'.ordered ≡ s.ordered
+  pub reached : s'.reached ≡ s.reached
+  pub level : s'.level ≡ s.level
+
+-- all stays but the order
+pub record SameBesideOrder (s s' : Search) : Type 0 where
+  pub even : IsEven s'
+  pub label : s'.label ≡ s.label
+  pub enter : s'.enter ≡ s.enter
+  pub head : s'.head ≡ s.head
+  pub reached : s'.reached ≡ s.reached
+  pub level : s'.level ≡ s.level
+  pub cut : s'.cut ≡ s.cut
+  pub found : s'.found ≡ s.found
+
+-- a new label changes none of these
+pub record SameProgress (s s' : Search) : Type 0 where
+  pub even : IsEven s'
+  pub size : length s'.label.items ≡ length s.label.items
+  pub head : s'.head ≡ s.head
+  pub ordered : s'.ordered ≡ s.ordered
+  pub level : s'.level ≡ s.level
+  pub cut : s'.cut ≡ s.cut
+  pub found : s'.found ≡ s.found
+
+-- nor these, where the node was reached before
+pub record SameOrder (s s' : Search) : Type 0 where
+  pub order : s'.order ≡ s.order
+  pub place : s'.place ≡ s.place
+  pub reached : s'.reached ≡ s.reached
+  pub progress : SameProgress s s'
 
 -- a scanned node's residual arc offers its end a lesser label, no nearer than the level
 pub record IsOffer (n : ℕ) (first : List ℕ) (arcs : List ResidualArc) (p : ℕ → ℤ) (s : ℕ) (q : ℕ → ℤ) (place : ℕ → ℕ) (head : ℕ) (level : ℤ) (k v : ℕ) (x : ℤ) : Type 0 where
@@ -160,8 +287,28 @@ pub record IsOffer (n : ℕ) (first : List ℕ) (arcs : List ResidualArc) (p : �
   pub beyond : level ≤ℤ (x -ℤ p v)
   pub less : x <ℤ q v
 
-abbrev pub Offers : Ground → List ℤ → List ℕ → SearchProgress → Step → Type 0
-Offers g label place t step = IsOffer (nodes_of g) g.first.now g.arcs.now (at_nodes g.potential.now) g.source (at_nodes label) (numbers place) t.head t.level step.number step.end step.label
+-- the step is such an offer in a search
+pub record IsOffered (g : Ground) (s : Search) (step : Step) : Type 0 where
+  pub search : IsSearch g s
+  pub offer : IsOffer (nodes_of g) (first_of g) (arcs_of g) (potential_of g) g.source (labels s) (places s) s.head s.level step.number step.end step.label
+
+-- the step ends at a node of the search
+pub record HasEnd (s : Search) (step : Step) : Type 0 where
+  pub even : IsEven s
+  pub few : length s.label.items ≤ MAX_NODES
+  pub node : step.end < length s.label.items
+  pub number : step.number < MAX_RESIDUAL_ARCS
+
+-- a node stands in the order behind those that are ordered, and can change places with the first behind them
+pub record CanAdvance (s : Search) (v : ℕ) : Type 0 where
+  pub even : IsEven s
+  pub few : length s.label.items ≤ MAX_NODES
+  pub node : v < length s.label.items
+  pub from : places s v < length s.label.items
+  pub order : s.ordered ≤ places s v
+  pub other : orders s s.ordered < length s.label.items
+  pub at : places s (orders s s.ordered) ≡ s.ordered
+  pub listed : orders s (places s v) ≡ v
 
 -- an entry was written
 pub record IsPut {A : Type 0} (f f' : ℕ → A) (i : ℕ) (a : A) : Type 0 where
@@ -176,3 +323,12 @@ pub record IsSwapped (order place order' place' : ℕ → ℕ) (v from to : ℕ)
   pub stands : place' v ≡ to
   pub instead : order to ≢ v → place' (order to) ≡ from
   pub stay : (w : ℕ) → w ≢ v → w ≢ order to → place' w ≡ place w
+
+-- a node has got a label and the residual arc on which it was entered, and where it had no label a place behind
+-- all others
+pub record IsMarked (s s' : Search) (step : Step) : Type 0 where
+  pub label : IsPut (labels s) (labels s') step.end step.label
+  pub enter : IsPut (enters s) (enters s') step.end step.number
+  pub progress : SameProgress s s'
+  pub again : labels s step.end <ℤ far → SameOrder s s'
+  pub anew : far ≤ℤ labels s step.end → IsPut (orders s) (orders s') s.reached step.end × IsPut (places s) (places s') step.end s.reached × (s'.reached ≡ s.reached + 1)

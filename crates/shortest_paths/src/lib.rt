@@ -9,6 +9,6 @@
 
 mod nearest;
 mod reach;
+mod state;
 
-pub use nearest::search;
-pub use reach::{FAR, Ground, SearchProgress};
+pub use state::{FAR, Ground, Nodes, Search};

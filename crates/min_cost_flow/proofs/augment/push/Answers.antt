@@ -1,66 +1,90 @@
-use Rattle.std.proofs.Common.{◌≢◌, sym, ◌∙◌, arith}
+use Rattle.std.proofs.Common.{◌≡◌, ◌+◌, ℕ, sym, ap, arith}
+use Rattle.std.proofs.lemmas.List.{get_or_read}
 use Rattle.networks.specs.ResidualArcs.{numbers}
-use Rattle.min_cost_flow.proofs.Augmenting.{IsPushed, IsCoded, reverse_below, reverse_few, reverse_cost, open_cost, not_reverse, pushed_filled}
+use Rattle.min_cost_flow.proofs.Augmenting.{IsNumber, is_number, still_unit_cost, pushed_along}
 use Rattle.min_cost_flow.proofs.augment.push.Goals as goal
 
-pub give_room-requires-clause-arc : goal.give_room-requires-clause-arc
-give_room-requires-clause-arc c =
-    let (v, b, s) = c.requires.number in
-    let back = reverse_below c.args.residual.network.now c.args.residual.first.now c.args.residual.reverse.now c.args.residual.forward.now v c.args.number c.requires.network c.requires.laid_out b s in
-    omega (arith, back, c.requires.filled.arc_size)
+pub index-requires : goal.index-requires
+index-requires c =
+    let (v, b, st) = c.requires.number in
+    let n : IsNumber c.args.network.now c.args.residual.now c.args.number = is_number c.args.network.now c.args.residual.now v c.args.number c.requires.network c.requires.residual b st in
+    omega (arith, n.here, c.requires.residual.laid_out.reverses)
 
-pub give_room-requires-clause-room : goal.give_room-requires-clause-room
-give_room-requires-clause-room c =
-    let (v, b, s) = c.requires.number in
-    let back = reverse_below c.args.residual.network.now c.args.residual.first.now c.args.residual.reverse.now c.args.residual.forward.now v c.args.number c.requires.network c.requires.laid_out b s in
-    omega (arith, back, c.requires.filled.room_size)
+pub index-requires-2 : goal.index-requires-2
+index-requires-2 c =
+    let (v, b, st) = c.requires.number in
+    let n : IsNumber c.args.network.now c.args.residual.now c.args.number = is_number c.args.network.now c.args.residual.now v c.args.number c.requires.network c.requires.residual b st in
+    omega (arith, n.here, c.requires.residual.filled.room_size)
 
-pub give_room-requires-clause-few : goal.give_room-requires-clause-few
-give_room-requires-clause-few c =
-    let (v, b, s) = c.requires.number in
-    reverse_few c.args.residual.network.now c.args.residual.first.now c.args.residual.reverse.now c.args.residual.forward.now c.args.arcs.now c.args.room.now v c.args.number c.args.amount 4294967296 c.requires.laid_out c.requires.filled c.requires.limits b s c.requires.fits
+pub overflow_sub-less : goal.overflow_sub-less
+overflow_sub-less c =
+    let (v, b, st) = c.requires.number in
+    let n : IsNumber c.args.network.now c.args.residual.now c.args.number = is_number c.args.network.now c.args.residual.now v c.args.number c.requires.network c.requires.residual b st in
+    let at : c.index-2.result.now ≡ numbers c.args.residual.now.room.items c.args.number = get_or_read c.args.residual.now.room.items c.args.number c.index-2.result.now (omega (arith, n.here, c.requires.residual.filled.room_size)) c.index-2.ensures 0 in
+    omega (arith, c.requires.fits)
 
-pub give_room-requires-clause-cost : goal.give_room-requires-clause-cost
-give_room-requires-clause-cost c =
-    let (v, b, s) = c.requires.number in
-    reverse_cost c.args.residual.network.now c.args.residual.first.now c.args.residual.reverse.now c.args.residual.forward.now c.args.arcs.now c.args.room.now v c.args.number c.requires.network c.requires.laid_out c.requires.filled b s
+pub set_room-requires : goal.set_room-requires
+set_room-requires c =
+    let (v, b, st) = c.requires.number in
+    let n : IsNumber c.args.network.now c.args.residual.now c.args.number = is_number c.args.network.now c.args.residual.now v c.args.number c.requires.network c.requires.residual b st in
+    record {
+      arc = omega (arith, n.here, c.requires.residual.filled.arc_size);
+      room = omega (arith, n.here, c.requires.residual.filled.room_size);
+      cost = n.cost;
+    }
 
-pub take_room-requires-clause-cost : goal.take_room-requires-clause-cost
-take_room-requires-clause-cost c =
-    let (v, b, s) = c.requires.number in
-    let ne : c.args.number ≢ numbers c.args.residual.reverse.now c.args.number = not_reverse c.args.residual.network.now c.args.residual.first.now c.args.residual.reverse.now c.args.residual.forward.now v c.args.number c.requires.laid_out b s in
-    rw (c.give_room.ensures.costs c.args.number ne) (open_cost c.args.residual.network.now c.args.residual.first.now c.args.residual.reverse.now c.args.residual.forward.now c.args.arcs.now c.args.room.now v c.args.number c.requires.network c.requires.laid_out c.requires.filled b s (omega (arith, c.requires.some, c.requires.fits)))
-
-pub returns-clause-filled : goal.returns-clause-filled
-returns-clause-filled c =
-    let (v, b, s) = c.requires.number in
-    let reverse = c.args.residual.reverse.now in
+pub index-requires-3 : goal.index-requires-3
+index-requires-3 c =
+    let (v, b, st) = c.requires.number in
+    let r = c.args.residual.now in
     let k = c.args.number in
-    let ne : k ≢ numbers reverse k = not_reverse c.args.residual.network.now c.args.residual.first.now reverse c.args.residual.forward.now v k c.requires.laid_out b s in
-    let ne' : numbers reverse k ≢ k = λ h. ne (sym h) in
-    let given = c.give_room.ensures in
-    let taken = c.take_room.ensures in
-    let pushed : IsPushed reverse c.args.arcs.now c.take_room.new.arcs c.args.room.now c.take_room.new.room k c.args.amount = record {
-      ends = λ j. taken.ends j ∙ given.ends j;
-      less = taken.here ∙ given.others k ne;
-      more = taken.others (numbers reverse k) ne' ∙ given.here;
-      others = λ j x y. taken.others j x ∙ given.others j y;
-    } in
-    let coded : IsCoded reverse c.args.arcs.now c.take_room.new.arcs c.args.room.now c.take_room.new.room k = record {
-      here = rw (← given.costs k ne) taken.cost;
-      there = taken.costs (numbers reverse k) ne' ∙ given.cost;
-      others = λ j x y. taken.costs j x ∙ given.costs j y;
-    } in
-    pushed_filled c.args.residual.network.now c.args.residual.first.now reverse c.args.residual.forward.now c.args.arcs.now c.take_room.new.arcs c.args.room.now c.take_room.new.room v k c.args.amount c.requires.laid_out c.requires.filled b s c.requires.some
-    (c.take_room.auto.arcs ∙ c.give_room.auto.arcs) (c.take_room.auto.room ∙ c.give_room.auto.room) pushed coded
+    let n : IsNumber c.args.network.now r k = is_number c.args.network.now r v k c.requires.network c.requires.residual b st in
+    let f = c.requires.residual.filled in
+    let e = c.set_room.ensures in
+    let r' = c.set_room.new.self in
+    let back : c.index.result.now ≡ numbers r.reverse.items k = get_or_read r.reverse.items k c.index.result.now (omega (arith, n.here, c.requires.residual.laid_out.reverses)) c.index.ensures 0 in
+    omega (arith, n.back, e.room_size, f.room_size)
 
-pub returns-clause-less : goal.returns-clause-less
-returns-clause-less c =
-    let (v, b, s) = c.requires.number in
-    c.take_room.ensures.here ∙ c.give_room.ensures.others c.args.number (not_reverse c.args.residual.network.now c.args.residual.first.now c.args.residual.reverse.now c.args.residual.forward.now v c.args.number c.requires.laid_out b s)
+pub overflow_add-more : goal.overflow_add-more
+overflow_add-more c =
+    let (v, b, st) = c.requires.number in
+    let r = c.args.residual.now in
+    let k = c.args.number in
+    let n : IsNumber c.args.network.now r k = is_number c.args.network.now r v k c.requires.network c.requires.residual b st in
+    let f = c.requires.residual.filled in
+    let e = c.set_room.ensures in
+    let r' = c.set_room.new.self in
+    let back : c.index.result.now ≡ numbers r.reverse.items k = get_or_read r.reverse.items k c.index.result.now (omega (arith, n.here, c.requires.residual.laid_out.reverses)) c.index.ensures 0 in
+    let at : c.index-3.result.now ≡ numbers r'.room.items c.index.result.now = get_or_read r'.room.items c.index.result.now c.index-3.result.now (omega (arith, n.back, e.room_size, f.room_size)) c.index-3.ensures 0 in
+    let same : numbers r'.room.items c.index.result.now ≡ numbers r.room.items (numbers r.reverse.items k) = rw back (e.others (numbers r.reverse.items k) (λ h. n.apart (sym h))) in
+    omega (arith, n.room, c.requires.fits)
 
-pub returns-clause-more : goal.returns-clause-more
-returns-clause-more c =
-    let (v, b, s) = c.requires.number in
-    let ne : c.args.number ≢ numbers c.args.residual.reverse.now c.args.number = not_reverse c.args.residual.network.now c.args.residual.first.now c.args.residual.reverse.now c.args.residual.forward.now v c.args.number c.requires.laid_out b s in
-    c.take_room.ensures.others (numbers c.args.residual.reverse.now c.args.number) (λ h. ne (sym h)) ∙ c.give_room.ensures.here
+pub set_room-requires-2 : goal.set_room-requires-2
+set_room-requires-2 c =
+    let (v, b, st) = c.requires.number in
+    let r = c.args.residual.now in
+    let k = c.args.number in
+    let n : IsNumber c.args.network.now r k = is_number c.args.network.now r v k c.requires.network c.requires.residual b st in
+    let f = c.requires.residual.filled in
+    let e = c.set_room.ensures in
+    let r' = c.set_room.new.self in
+    let back : c.index.result.now ≡ numbers r.reverse.items k = get_or_read r.reverse.items k c.index.result.now (omega (arith, n.here, c.requires.residual.laid_out.reverses)) c.index.ensures 0 in
+    record {
+      arc = omega (arith, n.back, e.arc_size, f.arc_size);
+      room = omega (arith, n.back, e.room_size, f.room_size);
+      cost = rw back (still_unit_cost r r' k _ (numbers r.reverse.items k) e n.back_cost);
+    }
+
+pub returns : goal.returns
+returns c =
+    let (v, b, st) = c.requires.number in
+    let r = c.args.residual.now in
+    let k = c.args.number in
+    let n : IsNumber c.args.network.now r k = is_number c.args.network.now r v k c.requires.network c.requires.residual b st in
+    let f = c.requires.residual.filled in
+    let e = c.set_room.ensures in
+    let r' = c.set_room.new.self in
+    let back : c.index.result.now ≡ numbers r.reverse.items k = get_or_read r.reverse.items k c.index.result.now (omega (arith, n.here, c.requires.residual.laid_out.reverses)) c.index.ensures 0 in
+    let was : c.index-2.result.now ≡ numbers r.room.items k = get_or_read r.room.items k c.index-2.result.now (omega (arith, n.here, f.room_size)) c.index-2.ensures 0 in
+    let at : c.index-3.result.now ≡ numbers r'.room.items c.index.result.now = get_or_read r'.room.items c.index.result.now c.index-3.result.now (omega (arith, n.back, e.room_size, f.room_size)) c.index-3.ensures 0 in
+    pushed_along c.args.network.now r r' c.set_room-2.new.self v k c.args.amount _ _ c.requires.network c.requires.residual b st e (rw back at c.set_room-2.ensures) (omega (arith, c.requires.fits)) (ap (λ (t : ℕ). t + c.args.amount) (rw back at at))

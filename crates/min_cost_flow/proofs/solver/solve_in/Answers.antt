@@ -1,24 +1,47 @@
-use Rattle.std.proofs.Common.{◌≡◌, length, ℕ, ℤ, pos, List, sym, ◌∙◌, ap, subst, arith, Vec, Global}
-use Rattle.std.proofs.lemmas.List.{length-replicate, with_items_is}
+use Rattle.std.proofs.Common.{◌≡◌, length, ℕ, ℤ, ◌∙◌, ap, arith, Vec, Global}
+use Rattle.std.proofs.lemmas.List.{with_items_is}
+use Rattle.networks.specs.Networks.{arc_count}
 use Rattle.networks.specs.Flow.{amounts, at_nodes, SolvedModel}
+use Rattle.networks.specs.Residuals.{flow_of}
 use Rattle.min_cost_flow.specs.Round.{IsRoundDone}
 use Rattle.min_cost_flow.proofs.Duality.{least_by_potentials}
+use Rattle.min_cost_flow.proofs.Rounds.{done_same}
+use Rattle.min_cost_flow.proofs.Moved.{can_read}
 use Rattle.min_cost_flow.proofs.solver.solve_in.Goals as goal
 
-pub returns-clause-ok : goal.returns-clause-ok
-returns-clause-ok c =
+pub read_flow-requires : goal.read_flow-requires
+read_flow-requires c =
     let net = c.args.network.now in
+    let r = (c.solve.ensures.answer.settled c.if-not-solve.false).ready in
+    rw (c.deref.ensures.value, c.deref-2.ensures.value, c.deref_mut.ensures.value) (can_read net c.solve.new.self r)
+
+pub returns : goal.returns
+returns c =
+    let net = c.args.network.now in
+    let yes = c.if-not-solve.false in
+    let r = (c.solve.ensures.answer.settled yes).ready in
+    let l = c.solve.new.self in
     let solved : SolvedModel = c.new-3.result in
-    let d = c.in-Some.ensures.done in
-    let flow_is : solved.flow ≡ c.fill-done.new.flow = ap (λ (a : SolvedModel). a.flow) c.new-3.ensures ∙ ap (λ (v : Vec ℕ Global). v.items) c.replace-flow.ensures.value ∙ with_items_is c.prepare.new.self.flow c.fill-done.new.flow (omega arith) in
-    let potential_is : solved.potential ≡ c.fill-done.new.potential = ap (λ (a : SolvedModel). a.potential) c.new-3.ensures ∙ ap (λ (v : Vec ℤ Global). v.items) c.replace-potential.ensures.value ∙ with_items_is c.prepare.new.self.potential c.fill-done.new.potential (omega arith) in
-    let at : IsRoundDone net (amounts solved.flow) (at_nodes solved.potential) c.in-Some.work.searches c.in-Some.work.looks =
-    subst (λ (ps : List ℤ). IsRoundDone net (amounts solved.flow) (at_nodes ps) c.in-Some.work.searches c.in-Some.work.looks) (sym potential_is)
-    (subst (λ (xs : List ℕ). IsRoundDone net (amounts xs) (at_nodes c.fill-done.new.potential) c.in-Some.work.searches c.in-Some.work.looks) (sym flow_is) d) in
+    let flow_is : solved.flow ≡ c.read_flow.new.flow = ap (λ (a : SolvedModel). a.flow) c.new-3.ensures ∙ ap (λ (v : Vec ℕ Global). v.items) c.replace-flow.ensures.value ∙ with_items_is l.residual.forward c.read_flow.new.flow (omega arith) in
+    let potential_is : solved.potential ≡ l.nodes.potential.items = ap (λ (a : SolvedModel). a.potential) c.new-3.ensures ∙ ap (λ (v : Vec ℤ Global). v.items) c.replace-potential.ensures.value in
+    let searches_is : solved.searches ≡ l.searches = ap (λ (a : SolvedModel). a.searches) c.new-3.ensures in
+    let looks_is : solved.looks ≡ l.looks = ap (λ (a : SolvedModel). a.looks) c.new-3.ensures in
+    let read = rw (c.deref.ensures.value, c.deref-2.ensures.value, c.deref_mut.ensures.value) at c.read_flow.ensures in
+    let long : length c.read_flow.new.flow ≡ arc_count net = omega (arith, r.residual.laid_out.forwards, ap (length {A = ℕ}) c.deref_mut.ensures.value) in
+    let done : IsRoundDone net (amounts c.read_flow.new.flow) (at_nodes l.nodes.potential.items) l.searches l.looks = done_same net (flow_of l.residual) (amounts c.read_flow.new.flow) (at_nodes l.nodes.potential.items) l.searches l.looks (λ i b. read i (omega (arith, long))) (c.solve.ensures.done yes) in
+    let at : IsRoundDone net (amounts solved.flow) (at_nodes solved.potential) solved.searches solved.looks = rw (flow_is, potential_is, searches_is, looks_is) done in
     record {
-      flow_count = rw flow_is (omega (arith, ap (length {A = ℕ}) c.in_ok-prepare.ensures.flow, length-replicate {A = ℕ} c.arc_count.result 0, c.arc_count.ensures.count));
-      potential_count = rw potential_is (omega (arith, ap (length {A = ℤ}) c.in_ok-prepare.ensures.potential, length-replicate {A = ℤ} c.node_count.result (pos 0), c.node_count.ensures.count));
-      flow = at.flow;
-      potentials = at.potentials;
-      least = least_by_potentials net (amounts solved.flow) (at_nodes solved.potential) c.node_count.ensures.kept.ends at.flow at.potentials;
+      ok = record {
+        flow_count = rw flow_is long;
+        potential_count = rw potential_is r.potentials;
+        flow = at.flow;
+        potentials = at.potentials;
+        least = least_by_potentials net (amounts solved.flow) (at_nodes solved.potential) r.network.ends at.flow at.potentials;
+      };
+      infeasible = tt;
+      searches = at.few;
+      looks = at.bounded;
+      begun = at.begun;
+      carrying = at.carried;
+      reach = at.reach;
     }

@@ -8,20 +8,20 @@ use Rattle.min_cost_flow.proofs.standing.Standing.least_cost.Goals as goal
 
 pub flow_cost-cost-requires-clause-reverses : goal.flow_cost-cost-requires-clause-reverses
 flow_cost-cost-requires-clause-reverses c i b =
-    let l = c.self.invariant.laid_out in
+    let l = c.self.invariant.ready.residual.laid_out in
     rw (c.deref.ensures.value, c.deref-2.ensures.value) (omega (arith, forward_in c.self.inside.network _ _ _ i c.node_count-nodes.ensures.kept l b, l.reverses))
 
 pub flow_cost-cost-requires-clause-rooms : goal.flow_cost-cost-requires-clause-rooms
 flow_cost-cost-requires-clause-rooms c i b =
-    let l = c.self.invariant.laid_out in
-    rw (c.deref.ensures.value, c.deref-2.ensures.value, c.deref-3.ensures.value) (omega (arith, reverse_in c.self.inside.network _ _ _ i c.node_count-nodes.ensures.kept l b, c.self.invariant.filled.room_size))
+    let l = c.self.invariant.ready.residual.laid_out in
+    rw (c.deref.ensures.value, c.deref-2.ensures.value, c.deref-3.ensures.value) (omega (arith, reverse_in c.self.inside.network _ _ _ i c.node_count-nodes.ensures.kept l b, c.self.invariant.ready.residual.filled.room_size))
 
 pub returns-clause-shown : goal.returns-clause-shown
 returns-clause-shown c =
     let s = c.self.inside in
     let st = c.self.invariant in
-    let lists = s.lists in
+    let lists = s.solver in
     let cost_is = rw (c.deref.ensures.value, c.deref-2.ensures.value, c.deref-3.ensures.value) at c.flow_cost-cost.ensures.cost in
-    let shown : IsShown s.network c.flow_cost-cost.result lists.potential.items =
-    shown_at s.network (carried lists.reverse.items lists.forward.items lists.room.items) lists.potential.items (at_nodes lists.excess.items) c.flow_cost-cost.result c.node_count-nodes.ensures.kept st.round st.sent st.sizes.potentials cost_is in
-    rw c.deref-4.ensures.value (subst (λ (n : NetworkModel). IsShown n c.flow_cost-cost.result lists.potential.items) c.self.view_is shown)
+    let shown : IsShown s.network c.flow_cost-cost.result lists.nodes.potential.items =
+    shown_at s.network (carried lists.residual.reverse.items lists.residual.forward.items lists.residual.room.items) lists.nodes.potential.items (at_nodes lists.nodes.excess.items) c.flow_cost-cost.result c.node_count-nodes.ensures.kept st.ready.round st.sent st.ready.potentials cost_is in
+    rw c.deref-4.ensures.value (subst (λ (n : NetworkModel). IsShown n c.flow_cost-cost.result lists.nodes.potential.items) c.self.view_is shown)

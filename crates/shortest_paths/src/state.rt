@@ -1,0 +1,59 @@
+//! What a search reads, and what it keeps.
+use networks::Residual;
+
+/// The label of a node that was not reached, above that of each node that was.
+pub const FAR: i32 = 8_000;
+
+/// What is known of each node of a network.
+#[derive(Drop)]
+pub struct Nodes {
+    /// Under these no open residual arc has a reduced cost below 0, and where units are wanting they are 0.
+    pub potential: Vec<i32>,
+    /// How many units are left over at a node, or, below 0, are wanting there.
+    pub excess: Vec<i32>,
+    /// Of nodes that are found at the same distance the one with the least score is taken.
+    pub score: Vec<i32>,
+}
+
+/// What a search reads: a residual network, its nodes, and the node where the search begins.
+#[derive(Clone, Copy)]
+pub struct Ground<'a> {
+    pub residual: &'a Residual,
+    pub nodes: &'a Nodes,
+    pub source: usize,
+}
+
+/// What a search has found so far. Its lists have an entry for each node.
+#[derive(Drop)]
+pub struct Search {
+    /// The source's potential and the costs of the residual arcs on the way to a node, or `FAR`.
+    pub label: Vec<i32>,
+    /// The residual arc on which a node was entered.
+    pub enter: Vec<u32>,
+    /// The nodes that were reached: first those that were scanned, then those at the level, then those further off.
+    pub order: Vec<u32>,
+    /// The place of a node in that order.
+    pub place: Vec<u32>,
+    /// How many nodes were scanned: the first ones of the order.
+    pub head: usize,
+    /// How many nodes stand first in the order, sorted by their distance; the scanned ones are among them.
+    pub ordered: usize,
+    /// How many nodes were reached: all that stand in the order.
+    pub reached: usize,
+    /// The distance of the nodes that are scanned now.
+    pub level: i32,
+    /// The distance of the nearest node found where units are wanting, or `FAR` where none was found.
+    pub cut: i32,
+    /// The score of that node.
+    pub found_score: i32,
+    /// The residual arc that leads to that node.
+    pub found: usize,
+}
+
+/// A residual arc that was looked at, and the label that it offers to its end.
+#[derive(Clone, Copy, Debug, PartialEq, Eq)]
+pub(crate) struct Step {
+    pub number: usize,
+    pub end: usize,
+    pub label: i32,
+}
