@@ -9,7 +9,7 @@ use crate::answering::Answering;
 use books::{Batch, MAX_FILES, bind};
 use choices::Choice;
 use entries::Entry;
-use lane_runs::{RunFault, run_lanes};
+use lane_runs::{Run, RunFault, run_lanes};
 use lanes::{Drafts, Gate, Opener};
 use ruled_lanes::LANES;
 use std::alloc::{AllocError, Global};
@@ -67,9 +67,17 @@ pub fn run_batch<R: Threads + Wait + Sync, O: Opener, G: Gate>(
     let Ok(drafts) = Drafts::<Entry>::new(alloc, files) else {
         return Err(BatchFault::Memory);
     };
-    let (drafts, ran) = run_lanes::<Answering, _, _, _, _>(
-        rt, alloc, opener, gate, files, lanes, capacity, choice, drafts,
-    );
+    let run = Run {
+        rt,
+        alloc,
+        opener,
+        gate,
+        files,
+        lanes,
+        capacity,
+        choice,
+    };
+    let (drafts, ran) = run_lanes::<Answering, _, _, _, _>(&run, drafts);
     match ran {
         Ok(()) => {}
         Err(RunFault::Memory) => return Err(BatchFault::Memory),

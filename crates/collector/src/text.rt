@@ -1,6 +1,6 @@
 //! A run whose text leaves as it is made.
 ghost use Rattle.std.specs.Prelude.{◌≡◌, ◌≤◌, ◌<◌, ◌⊎◌, ◌↔◌, List, [], Err, false, true, IfOk, IfErr, OnOk, OnErr};
-ghost use Rattle.ruled_lanes.specs.declared.limits.TheConstants.{LANES, MAX_CAPACITY, MAX_TICKETS};
+ghost use Rattle.ruled_lanes.specs.declared.limits.TheConstants.{LANES, MAX_CAPACITY};
 ghost use Rattle.books.specs.declared.limits.TheConstants.{MAX_FILES};
 ghost use Rattle.lanes.specs.Notes.{Note};
 ghost use Rattle.lanes.specs.Files.{AreToldWhole};
@@ -14,7 +14,7 @@ use crate::run::MAX_LANES;
 use answers::DrawingKind;
 use books::MAX_FILES;
 use choices::Choice;
-use lane_runs::{LaneKind, RunFault, run_lanes};
+use lane_runs::{LaneKind, Run, RunFault, run_lanes};
 use lanes::{Consumer, Gate, Opener};
 use pausing::{Pauses, PausingOpener};
 use std::alloc::Global;
@@ -89,54 +89,49 @@ pub fn write_batch<R: Threads + Wait + Sync, O: Opener, G: Gate, S: Sink>(
         return Err(TextFault::Run(BatchFault::BadLanes));
     }
     let pauses = Pauses::none();
+    let pausing = PausingOpener {
+        rt,
+        opener,
+        pauses: &pauses,
+    };
+    let run = Run {
+        rt,
+        alloc,
+        opener: &pausing,
+        gate,
+        files,
+        lanes,
+        capacity,
+        choice,
+    };
     let pace = Pace {
         pauses: &pauses,
         most: waiting,
     };
-    write_files::<Brand, _, _, _, _>(
-        rt, alloc, opener, files, lanes, capacity, pace, choice, style, gate, sink,
-    )
+    write_files::<Brand, _, _, _, _>(&run, style, pace, sink)
 }
 
-/// Writes the text of a run over so many files and lanes at this pace. The type `J` stands for what the files mean.
+/// Writes the text of a run in this style and at this pace. The type `J` stands for what the files mean.
 fn write_files<J: Told + Send + Sync, R: Threads + Wait + Sync, O: Opener, G: Gate, S: Sink>(
-    rt: &R,
-    alloc: Global,
-    opener: &O,
-    files: u32,
-    lanes: u32,
-    capacity: u32,
-    pace: Pace<'_>,
-    choice: Choice,
+    run: &Run<'_, R, O, G>,
     style: Style,
-    gate: &G,
+    pace: Pace<'_>,
     sink: &mut S,
 ) -> Result<u8, TextFault>
-    requires some { 0 < lanes }
-    requires few { (files ≤ MAX_TICKETS) × (lanes ≤ LANES) }
-    requires least { 1 ≤ capacity }
-    requires most { capacity ≤ MAX_CAPACITY }
     requires stands { S.failed sink.old ≡ false }
-    requires told { J.meaning ≡ O.meaning opener.now }
-    ensures written { IfOk result (IsAllWritten choice (O.meaning opener.now) style.form files (S.taken sink.old) (S.taken sink.new)) }
-    ensures begun { OnErr result ∥ IsBegun choice (O.meaning opener.now) style.form files (S.taken sink.old) (S.taken sink.new) ∥₁ }
+    requires told { J.meaning ≡ O.meaning run.now.opener.now }
+    ensures written { IfOk result (IsAllWritten run.now.choice (O.meaning run.now.opener.now) style.form run.now.files (S.taken sink.old) (S.taken sink.new)) }
+    ensures begun { OnErr result ∥ IsBegun run.now.choice (O.meaning run.now.opener.now) style.form run.now.files (S.taken sink.old) (S.taken sink.new) ∥₁ }
     ensures status { IfOk result (λ status. (status ≡ 0) ⊎ (status ≡ 3)) }
     ensures began { IfErr result (λ fault. ¬ IsRefusedRun fault) }
     ensures failed { (result ≡ Err TextFault.Write) ↔ (S.failed sink.new ≡ true) }
 {
-    let Ok(lines) = Lines::new(alloc, style.form, choice, files) else {
+    let Ok(lines) = Lines::new(run.alloc, style.form, run.choice, run.files) else {
         return Err(TextFault::Run(BatchFault::Memory));
     };
-    let pausing = PausingOpener {
-        rt,
-        opener,
-        pauses: pace.pauses,
-    };
-    let texts = Texts::new(alloc, sink, lines, pace);
+    let texts = Texts::new(run.alloc, sink, lines, pace);
     let mut ran = Ok(());
-    let texts = run_form::<J, _, _, _, _>(
-        rt, alloc, &pausing, gate, files, lanes, capacity, choice, style, texts, &mut ran,
-    );
+    let texts = run_form::<J, _, _, _, _>(run, style, texts, &mut ran);
     match ran {
         Ok(()) => match texts.finish() {
             Ok(status) => Ok(status),
@@ -179,39 +174,26 @@ fn run_form<
     O: Opener,
     G: Gate,
 >(
-    rt: &R,
-    alloc: Global,
-    opener: &O,
-    gate: &G,
-    files: u32,
-    lanes: u32,
-    capacity: u32,
-    choice: Choice,
+    run: &Run<'_, R, O, G>,
     style: Style,
     consumer: C,
     ran: &mut Result<(), RunFault<C::Refusal>>,
 ) -> C
-    requires some { 0 < lanes }
-    requires few { (files ≤ MAX_TICKETS) × (lanes ≤ LANES) }
-    requires least { 1 ≤ capacity }
-    requires most { capacity ≤ MAX_CAPACITY }
     requires empty { C.holds consumer [] }
-    requires told { J.meaning ≡ O.meaning opener.now }
-    ensures told { OnOk ran.new ((ns : List Note) × C.holds result ns × AreToldWhole choice (O.meaning opener.now) files ns) }
+    requires told { J.meaning ≡ O.meaning run.now.opener.now }
+    ensures told { OnOk ran.new ((ns : List Note) × C.holds result ns × AreToldWhole run.now.choice (O.meaning run.now.opener.now) run.now.files ns) }
     ensures ended { IfErr ran.new (EndsRun (C.gave_up result) (C.holds result)) }
     ensures stays { C.stays consumer result }
 {
     match (style.form, style.drawing) {
         // A report shows no points, so it is the same of either drawing.
-        (Form::Report, _) => run_into::<ReportLines<J, Quick>, _, _, _, _>(
-            rt, alloc, opener, gate, files, lanes, capacity, choice, consumer, ran,
-        ),
-        (Form::Json, DrawingKind::Quick) => run_into::<JsonLines<J, Quick>, _, _, _, _>(
-            rt, alloc, opener, gate, files, lanes, capacity, choice, consumer, ran,
-        ),
-        (Form::Json, DrawingKind::Short) => run_into::<JsonLines<J, Short>, _, _, _, _>(
-            rt, alloc, opener, gate, files, lanes, capacity, choice, consumer, ran,
-        ),
+        (Form::Report, _) => run_into::<ReportLines<J, Quick>, _, _, _, _>(run, consumer, ran),
+        (Form::Json, DrawingKind::Quick) => {
+            run_into::<JsonLines<J, Quick>, _, _, _, _>(run, consumer, ran)
+        }
+        (Form::Json, DrawingKind::Short) => {
+            run_into::<JsonLines<J, Short>, _, _, _, _>(run, consumer, ran)
+        }
     }
 }
 
@@ -222,31 +204,14 @@ fn run_into<
     R: Threads + Wait + Sync,
     O: Opener,
     G: Gate,
->(
-    rt: &R,
-    alloc: Global,
-    opener: &O,
-    gate: &G,
-    files: u32,
-    lanes: u32,
-    capacity: u32,
-    choice: Choice,
-    consumer: C,
-    ran: &mut Result<(), RunFault<C::Refusal>>,
-) -> C
-    requires some { 0 < lanes }
-    requires few { (files ≤ MAX_TICKETS) × (lanes ≤ LANES) }
-    requires least { 1 ≤ capacity }
-    requires most { capacity ≤ MAX_CAPACITY }
+>(run: &Run<'_, R, O, G>, consumer: C, ran: &mut Result<(), RunFault<C::Refusal>>) -> C
     requires empty { C.holds consumer [] }
-    requires takes { TakesFiles L.takes L.ends (O.meaning opener.now) }
-    ensures told { OnOk ran.new ((ns : List Note) × C.holds result ns × AreToldWhole choice (O.meaning opener.now) files ns) }
+    requires takes { TakesFiles L.takes L.ends (O.meaning run.now.opener.now) }
+    ensures told { OnOk ran.new ((ns : List Note) × C.holds result ns × AreToldWhole run.now.choice (O.meaning run.now.opener.now) run.now.files ns) }
     ensures ended { IfErr ran.new (EndsRun (C.gave_up result) (C.holds result)) }
     ensures stays { C.stays consumer result }
 {
-    let (consumer, end) = run_lanes::<L, _, _, _, _>(
-        rt, alloc, opener, gate, files, lanes, capacity, choice, consumer,
-    );
+    let (consumer, end) = run_lanes::<L, _, _, _, _>(run, consumer);
     *ran = end;
     consumer
 }

@@ -12,94 +12,89 @@ ghost use Rattle.lane_runs.specs.Faults.{EndsRun};
 
 use crate::fault::{LaneFault, RunFault};
 use crate::running::{LaneEnd, Running};
-use crate::setting::Setting;
+use crate::shared::Shared;
 use lanes::{Consumer, Gate, GatherFault, Message, Numbered, Opener, gather};
 use ruled_lanes::{Gatherer, LaneGiver, Seat};
 use std::sync::Wait;
 use std::thread::Threads;
 
-/// Joins the threads of the lanes and settles the fan with the givers of all lanes, also of those that do
-/// not run. So what was taken of each lane is all that it told, and a file that one seat drew was told
-/// whole. The seats are given back.
-fn join_lanes<E: Numbered, M: Drop + Send, R: Threads + Wait + Sync, O: Opener, G: Gate>(
-    setting: &Setting<'_, R, O, G>,
-    gatherer: Gatherer<Message<E, M>>,
-    running: Vec<Running<E, M, O>>,
-    mut givers: Vec<LaneGiver<Message<E, M>>>,
-) -> Result<Vec<Seat>, LaneFault>
-    requires some { 1 ≤ vec_len running }
-    requires lanes { vec_len running + vec_len givers ≡ LANES }
-    requires running { AreNumbered (λ lane r. IsRunning gatherer setting.now.choice setting.now.opener.now setting.now.tickets.now lane
-        r.promise.choice r.promise.opener.value r.promise.tickets.value r.promise.giver.value) 0 running.items }
-    requires idle { AreNumbered (IsIdle gatherer) (vec_len running) givers.items }
-    requires stopped { HaveStopped E.about (vec_len running) (gathered gatherer) }
-    ensures count { IfOk result (λ seats. vec_len seats ≡ vec_len running) }
-    ensures seats { IfOk result (λ seats. All (λ s. IsSeatOf setting.now.tickets.now s × (has_ended s ≡ true)) seats.items) }
-    ensures told { IfOk result (λ seats. (file : ℕ) → times file (all_drawn seats.items) ≡ 1
-        → HasFile setting.now.choice (O.meaning setting.now.opener.now file) file (notes E.about (untagged (gathered gatherer)))) }
-{
-    let Ok(mut seats) = Vec::with_capacity(setting.alloc, running.len()) else {
-        return Err(LaneFault::Memory);
-    };
-    for handle in running {
-        let LaneEnd { giver, stop, seat } = handle.join(setting.rt);
-        match stop {
-            Ok(()) => {}
-            Err(_) => return Err(LaneFault::LaneLost),
+impl<R: Threads + Wait + Sync, O: Opener, G: Gate> Shared<'_, R, O, G> {
+    /// Joins the threads of the lanes and settles the fan with the givers of all lanes, also of those that do
+    /// not run. So what was taken of each lane is all that it told, and a file that one seat drew was told
+    /// whole. The seats are given back.
+    fn join_lanes<E: Numbered, M: Drop + Send>(
+        &self,
+        gatherer: Gatherer<Message<E, M>>,
+        running: Vec<Running<E, M, O>>,
+        mut givers: Vec<LaneGiver<Message<E, M>>>,
+    ) -> Result<Vec<Seat>, LaneFault>
+        requires some { 1 ≤ vec_len running }
+        requires lanes { vec_len running + vec_len givers ≡ LANES }
+        requires running { AreNumbered (λ lane r. IsRunning gatherer self.now.run.now.choice self.now.run.now.opener.now self.now.tickets.now lane
+            r.promise.choice r.promise.opener.value r.promise.tickets.value r.promise.giver.value) 0 running.items }
+        requires idle { AreNumbered (IsIdle gatherer) (vec_len running) givers.items }
+        requires stopped { HaveStopped E.about (vec_len running) (gathered gatherer) }
+        ensures count { IfOk result (λ seats. vec_len seats ≡ vec_len running) }
+        ensures seats { IfOk result (λ seats. All (λ s. IsSeatOf self.now.tickets.now s × (has_ended s ≡ true)) seats.items) }
+        ensures told { IfOk result (λ seats. (file : ℕ) → times file (all_drawn seats.items) ≡ 1
+            → HasFile self.now.run.now.choice (O.meaning self.now.run.now.opener.now file) file (notes E.about (untagged (gathered gatherer)))) }
+    {
+        let Ok(mut seats) = Vec::with_capacity(self.run.alloc, running.len()) else {
+            return Err(LaneFault::Memory);
+        };
+        for handle in running {
+            let LaneEnd { giver, stop, seat } = handle.join(self.run.rt);
+            match stop {
+                Ok(()) => {}
+                Err(_) => return Err(LaneFault::LaneLost),
+            }
+            let seat = seat?;
+            match seats.push(seat) {
+                Ok(()) => {}
+                Err(_) => return Err(LaneFault::Memory),
+            }
+            match givers.push(giver) {
+                Ok(()) => {}
+                Err(_) => return Err(LaneFault::Memory),
+            }
         }
-        let seat = seat?;
-        match seats.push(seat) {
-            Ok(()) => {}
-            Err(_) => return Err(LaneFault::Memory),
-        }
-        match givers.push(giver) {
-            Ok(()) => {}
-            Err(_) => return Err(LaneFault::Memory),
-        }
+        gatherer.settle(self.run.rt, givers);
+        Ok(seats)
     }
-    gatherer.settle(setting.rt, givers);
-    Ok(seats)
-}
 
-/// Hands all that the lanes give, up to the stop of each, to the consumer, and joins their threads. Then the
-/// consumer holds all of each file that one seat drew. The seats are given back.
-pub fn finish_lanes<
-    E: Numbered,
-    M: Drop + Send,
-    C: Consumer<E, M>,
-    R: Threads + Wait + Sync,
-    O: Opener,
-    G: Gate,
->(
-    setting: &Setting<'_, R, O, G>,
-    gatherer: Gatherer<Message<E, M>>,
-    running: Vec<Running<E, M, O>>,
-    idle: Vec<LaneGiver<Message<E, M>>>,
-    consumer: &mut C,
-) -> Result<Vec<Seat>, RunFault<C::Refusal>>
-    requires some { 1 ≤ vec_len running }
-    requires lanes { vec_len running + vec_len idle ≡ LANES }
-    requires running { AreNumbered (λ lane r. IsRunning gatherer setting.now.choice setting.now.opener.now setting.now.tickets.now lane
-        r.promise.choice r.promise.opener.value r.promise.tickets.value r.promise.giver.value) 0 running.items }
-    requires idle { AreNumbered (IsIdle gatherer) (vec_len running) idle.items }
-    requires none_gathered { gathered gatherer ≡ [] }
-    requires empty { C.holds consumer.old [] }
-    ensures count { IfOk result (λ seats. vec_len seats ≡ vec_len running) }
-    ensures seats { IfOk result (λ seats. All (λ s. IsSeatOf setting.now.tickets.now s × (has_ended s ≡ true)) seats.items) }
-    ensures told { IfOk result (λ seats. (ns : List Note) × C.holds consumer.new ns
-        × ((file : ℕ) → times file (all_drawn seats.items) ≡ 1 → HasFile setting.now.choice (O.meaning setting.now.opener.now file) file ns)) }
-    ensures ended { IfErr result (EndsRun (C.gave_up consumer.new) (C.holds consumer.new)) }
-    ensures stays { C.stays consumer.old consumer.new }
-{
-    let lanes = running.len() as u32;
-    let gatherer = match gather(setting.rt, setting.alloc, gatherer, lanes, consumer) {
-        Ok(gatherer) => gatherer,
-        Err(GatherFault::Memory) => return Err(RunFault::Memory),
-        Err(GatherFault::LaneLost) => return Err(RunFault::LaneLost),
-        Err(GatherFault::Refused(refusal)) => return Err(RunFault::Refused(refusal)),
-    };
-    match join_lanes(setting, gatherer, running, idle) {
-        Ok(seats) => Ok(seats),
-        Err(fault) => Err(RunFault::from(fault)),
+    /// Hands all that the lanes give, up to the stop of each, to the consumer, and joins their threads. Then the
+    /// consumer holds all of each file that one seat drew. The seats are given back.
+    pub fn finish_lanes<E: Numbered, M: Drop + Send, C: Consumer<E, M>>(
+        &self,
+        gatherer: Gatherer<Message<E, M>>,
+        running: Vec<Running<E, M, O>>,
+        idle: Vec<LaneGiver<Message<E, M>>>,
+        consumer: &mut C,
+    ) -> Result<Vec<Seat>, RunFault<C::Refusal>>
+        requires some { 1 ≤ vec_len running }
+        requires lanes { vec_len running + vec_len idle ≡ LANES }
+        requires running { AreNumbered (λ lane r. IsRunning gatherer self.now.run.now.choice self.now.run.now.opener.now self.now.tickets.now lane
+            r.promise.choice r.promise.opener.value r.promise.tickets.value r.promise.giver.value) 0 running.items }
+        requires idle { AreNumbered (IsIdle gatherer) (vec_len running) idle.items }
+        requires none_gathered { gathered gatherer ≡ [] }
+        requires empty { C.holds consumer.old [] }
+        ensures count { IfOk result (λ seats. vec_len seats ≡ vec_len running) }
+        ensures seats { IfOk result (λ seats. All (λ s. IsSeatOf self.now.tickets.now s × (has_ended s ≡ true)) seats.items) }
+        ensures told { IfOk result (λ seats. (ns : List Note) × C.holds consumer.new ns
+            × ((file : ℕ) → times file (all_drawn seats.items) ≡ 1 → HasFile self.now.run.now.choice (O.meaning self.now.run.now.opener.now file) file ns)) }
+        ensures ended { IfErr result (EndsRun (C.gave_up consumer.new) (C.holds consumer.new)) }
+        ensures stays { C.stays consumer.old consumer.new }
+    {
+        let lanes = running.len() as u32;
+        let gatherer = match gather(self.run.rt, self.run.alloc, gatherer, lanes, consumer) {
+            Ok(gatherer) => gatherer,
+            Err(GatherFault::Memory) => return Err(RunFault::Memory),
+            Err(GatherFault::LaneLost) => return Err(RunFault::LaneLost),
+            Err(GatherFault::Refused(refusal)) => return Err(RunFault::Refused(refusal)),
+        };
+        match self.join_lanes(gatherer, running, idle) {
+            Ok(seats) => Ok(seats),
+            Err(fault) => Err(RunFault::from(fault)),
+        }
     }
 }

@@ -2,6 +2,7 @@
 //! the calling thread hands what they give from one fan to a consumer. What the stages do is said by the `LaneKind`.
 #![tactic(auto)]
 
+mod all_lanes;
 mod fault;
 mod joining;
 mod lane;
@@ -12,9 +13,10 @@ mod read_stage;
 mod record_giver;
 mod run;
 mod running;
-mod setting;
+mod shared;
 mod starting;
 
+pub use all_lanes::run_lanes;
 pub use fault::RunFault;
 pub use lane_kind::LaneKind;
-pub use run::run_lanes;
+pub use run::Run;

@@ -1,16 +1,14 @@
 //! Stages that are started in threads of their own.
 ghost use Rattle.std.specs.Prelude.{◌≡◌, [], IfOk, IfSome, vec_len};
 ghost use Rattle.ruled_lanes.specs.LinkEnds.{given, taken};
-ghost use Rattle.ruled_lanes.specs.TicketSeats.{IsSeatOf, IsUnused};
 ghost use Rattle.lanes.specs.Stages.{PassedAll};
 ghost use Rattle.lane_runs.specs.Lanes.{ReadsSeat, StartsToRead};
 ghost use Rattle.lane_runs.specs.Taking.{TakesFiles};
-ghost use Rattle.streams.specs.declared.reading.TheConstants.{PIECE};
 
 use crate::fault::LaneFault;
 use crate::lane_kind::LaneKind;
-use crate::read_stage::read_stage;
-use crate::setting::Setting;
+use crate::read_stage::Reading;
+use crate::shared::Shared;
 use choices::Choice;
 use lanes::{Gate, Message, Numbered, Opener, Staged, run_stage};
 use ruled_lanes::{Giver, Seat, Taker, Tickets};
@@ -39,43 +37,6 @@ pub type StartedRead<A, M, O> = PromisedHandle<
     ReadPromise<A, M, O>,
 >;
 
-/// Starts the first stage of a lane in a thread of its own.
-pub fn start_read<'s, E, L: LaneKind + 's, R: Threads + Wait + Sync, O: Opener, G: Gate>(
-    scope: &'s Scope<'s, E>,
-    setting: &'s Setting<'s, R, O, G>,
-    lane: u32,
-    seat: Seat,
-    buffer: Vec<u8>,
-    giver: Giver<Message<L::Framed, L::End>>,
-) -> Result<StartedRead<L::Framed, L::End, O>, LaneFault>
-    requires seat { IsSeatOf setting.now.tickets.now seat }
-    requires unused { IsUnused seat }
-    requires none_given { given giver ≡ [] }
-    requires room { vec_len buffer ≡ PIECE }
-    requires takes { TakesFiles L.takes L.ends (O.meaning setting.now.opener.now) }
-    ensures choice { IfOk result (λ started. started.promise.choice ≡ setting.now.choice) }
-    ensures opener { IfOk result (λ started. started.promise.opener.value ≡ setting.now.opener.now) }
-    ensures tickets { IfOk result (λ started. started.promise.tickets.value ≡ setting.now.tickets.now) }
-    ensures giver { IfOk result (λ started. started.promise.giver.value ≡ giver) }
-{
-    let promise = ReadPromise {
-        choice: setting.choice,
-        opener: Snapshot::of(setting.opener),
-        tickets: Snapshot::of(setting.tickets),
-        giver: Snapshot::of(&giver),
-    };
-    match scope.spawn_with(
-        promise,
-        move || -> Option<(Giver<Message<L::Framed, L::End>>, Seat)>
-            requires { StartsToRead setting.now.tickets.now seat (vec_len buffer) giver
-                × TakesFiles L.takes L.ends (O.meaning setting.now.opener.now) }
-        { read_stage::<L, _, _, _>(setting, lane, seat, buffer, giver) },
-    ) {
-        Ok(started) => Ok(started),
-        Err(_) => Err(LaneFault::Thread),
-    }
-}
-
 /// What the thread of a stage promises of the ends that it gives back.
 #[derive(Drop)]
 pub struct StagePromise<A: Staged, M: Drop + Send> {
@@ -95,38 +56,64 @@ pub type Started<A, M> = PromisedHandle<
     StagePromise<A, M>,
 >;
 
-/// Starts a stage in a thread of its own.
-pub fn start_stage<
-    's,
-    E,
-    A: Staged + 's,
-    M: Drop + Send + 's,
-    R: Threads + Wait + Sync,
-    O: Opener,
-    G: Gate,
->(
-    scope: &'s Scope<'s, E>,
-    setting: &'s Setting<'s, R, O, G>,
-    lane: u32,
-    taker: Taker<Message<A, M>>,
-    giver: Giver<Message<A::Next, M>>,
-) -> Result<Started<A, M>, LaneFault>
-    requires none_taken { taken taker ≡ [] }
-    requires none_given { given giver ≡ [] }
-    ensures taker { IfOk result (λ started. started.promise.taker.value ≡ taker) }
-    ensures giver { IfOk result (λ started. started.promise.giver.value ≡ giver) }
-{
-    let promise = StagePromise {
-        taker: Snapshot::of(&taker),
-        giver: Snapshot::of(&giver),
-    };
-    match scope.spawn_with(
-        promise,
-        move || -> Option<(Taker<Message<A, M>>, Giver<Message<A::Next, M>>)>
-            requires { (taken taker ≡ []) × (given giver ≡ []) }
-        { run_stage(setting.rt, setting.alloc, setting.gate, lane, taker, giver) },
-    ) {
-        Ok(started) => Ok(started),
-        Err(_) => Err(LaneFault::Thread),
+impl<'s, R: Threads + Wait + Sync, O: Opener, G: Gate> Shared<'s, R, O, G> {
+    /// Starts the first stage of a lane in a thread of its own.
+    pub fn start_read<E, L: LaneKind + 's>(
+        &'s self,
+        scope: &'s Scope<'s, E>,
+        reading: Reading<L::Framed, L::End>,
+    ) -> Result<StartedRead<L::Framed, L::End, O>, LaneFault>
+        requires { StartsToRead self.now.tickets.now reading.seat (vec_len reading.buffer) reading.giver
+            × TakesFiles L.takes L.ends (O.meaning self.now.run.now.opener.now) }
+        ensures choice { IfOk result (λ started. started.promise.choice ≡ self.now.run.now.choice) }
+        ensures opener { IfOk result (λ started. started.promise.opener.value ≡ self.now.run.now.opener.now) }
+        ensures tickets { IfOk result (λ started. started.promise.tickets.value ≡ self.now.tickets.now) }
+        ensures giver { IfOk result (λ started. started.promise.giver.value ≡ reading.giver) }
+    {
+        let promise = ReadPromise {
+            choice: self.run.choice,
+            opener: Snapshot::of(self.run.opener),
+            tickets: Snapshot::of(self.tickets),
+            giver: Snapshot::of(&reading.giver),
+        };
+        match scope.spawn_with(
+            promise,
+            move || -> Option<(Giver<Message<L::Framed, L::End>>, Seat)>
+                requires { StartsToRead self.now.tickets.now reading.seat (vec_len reading.buffer) reading.giver
+                    × TakesFiles L.takes L.ends (O.meaning self.now.run.now.opener.now) }
+            { self.read_stage::<L>(reading) },
+        ) {
+            Ok(started) => Ok(started),
+            Err(_) => Err(LaneFault::Thread),
+        }
+    }
+
+    /// Starts a stage in a thread of its own.
+    pub fn start_stage<E, A: Staged + 's, M: Drop + Send + 's>(
+        &'s self,
+        scope: &'s Scope<'s, E>,
+        lane: u32,
+        taker: Taker<Message<A, M>>,
+        giver: Giver<Message<A::Next, M>>,
+    ) -> Result<Started<A, M>, LaneFault>
+        requires none_taken { taken taker ≡ [] }
+        requires none_given { given giver ≡ [] }
+        ensures taker { IfOk result (λ started. started.promise.taker.value ≡ taker) }
+        ensures giver { IfOk result (λ started. started.promise.giver.value ≡ giver) }
+    {
+        let promise = StagePromise {
+            taker: Snapshot::of(&taker),
+            giver: Snapshot::of(&giver),
+        };
+        let run = self.run;
+        match scope.spawn_with(
+            promise,
+            move || -> Option<(Taker<Message<A, M>>, Giver<Message<A::Next, M>>)>
+                requires { (taken taker ≡ []) × (given giver ≡ []) }
+            { run_stage(run.rt, run.alloc, run.gate, lane, taker, giver) },
+        ) {
+            Ok(started) => Ok(started),
+            Err(_) => Err(LaneFault::Thread),
+        }
     }
 }

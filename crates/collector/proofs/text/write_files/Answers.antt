@@ -14,42 +14,42 @@ use Rattle.collector.proofs.text.write_files.Goals as goal
 pub returns-in-Ok-finish-clause-written : goal.returns-in-Ok-finish-clause-written
 returns-in-Ok-finish-clause-written g c =
     let taken = g.S.Sink.taken in
-    let meaning = g.O.Opener.meaning c.args.opener.now in
+    let meaning = g.O.Opener.meaning c.args.run.now.opener.now in
     let texts = c.run_form-texts.result in
     let stays = c.run_form-texts.ensures.stays in
     let told = subst (λ r. OnOk r ((ns : List Note)
     × ((g.S.Sink.failed texts.sink.now ≡ false) × LinesHold g.J.Told.meaning (taken texts.start.value) (taken texts.sink.now) texts.lines ns)
-    × AreToldWhole c.args.choice meaning c.args.files ns)) c.in-Ok-ran.is c.run_form-texts.ensures.told in
+    × AreToldWhole c.args.run.now.choice meaning c.args.run.now.files ns)) c.in-Ok-ran.is c.run_form-texts.ensures.told in
     let form : form_of texts.lines ≡ c.args.style.form = stays.2.form ∙ ap form_of c.new-texts.ensures.lines ∙ c.in-Ok.ensures.form in
-    let files : files_of texts.lines ≡ c.args.files = stays.2.files ∙ ap files_of c.new-texts.ensures.lines ∙ c.in-Ok.ensures.files in
+    let files : files_of texts.lines ≡ c.args.run.now.files = stays.2.files ∙ ap files_of c.new-texts.ensures.lines ∙ c.in-Ok.ensures.files in
     let start : texts.start.value ≡ c.args.sink.now = sym stays.1 ∙ c.new-texts.ensures.start in
-    let all = c.in-Ok-finish.ensures.written c.args.choice g.J.Told.meaning meaning told.0 told.1.1 (λ file below. told.2 file (omega (arith, below, files))) in
-    subst (λ s. IsAllWritten c.args.choice meaning c.args.style.form c.args.files (taken c.args.sink.now) (taken s) c.in-Ok-finish.status) (search rules)
-    (subst (λ b. IsAllWritten c.args.choice meaning c.args.style.form c.args.files (taken b) (taken c.finish.new.self.0) c.in-Ok-finish.status) start
-    (subst (λ n. IsAllWritten c.args.choice meaning c.args.style.form n (taken texts.start.value) (taken c.finish.new.self.0) c.in-Ok-finish.status) files
-    (subst (λ f. IsAllWritten c.args.choice meaning f (files_of texts.lines) (taken texts.start.value) (taken c.finish.new.self.0) c.in-Ok-finish.status) form all)))
+    let all = c.in-Ok-finish.ensures.written c.args.run.now.choice g.J.Told.meaning meaning told.0 told.1.1 (λ file below. told.2 file (omega (arith, below, files))) in
+    subst (λ s. IsAllWritten c.args.run.now.choice meaning c.args.style.form c.args.run.now.files (taken c.args.sink.now) (taken s) c.in-Ok-finish.status) (search rules)
+    (subst (λ b. IsAllWritten c.args.run.now.choice meaning c.args.style.form c.args.run.now.files (taken b) (taken c.finish.new.self.0) c.in-Ok-finish.status) start
+    (subst (λ n. IsAllWritten c.args.run.now.choice meaning c.args.style.form n (taken texts.start.value) (taken c.finish.new.self.0) c.in-Ok-finish.status) files
+    (subst (λ f. IsAllWritten c.args.run.now.choice meaning f (files_of texts.lines) (taken texts.start.value) (taken c.finish.new.self.0) c.in-Ok-finish.status) form all)))
 
 pub returns-in_default-clause-begun : goal.returns-in_default-clause-begun
-returns-in_default-clause-begun g c = begun_none c.args.choice (g.O.Opener.meaning c.args.opener.now) c.args.style.form c.args.files (g.S.Sink.taken c.args.sink.now)
+returns-in_default-clause-begun g c = begun_none c.args.run.now.choice (g.O.Opener.meaning c.args.run.now.opener.now) c.args.style.form c.args.run.now.files (g.S.Sink.taken c.args.sink.now)
 
 pub returns-in-Err-finish-clause-begun : goal.returns-in-Err-finish-clause-begun
 returns-in-Err-finish-clause-begun g c =
     let taken = g.S.Sink.taken in
-    let meaning = g.O.Opener.meaning c.args.opener.now in
+    let meaning = g.O.Opener.meaning c.args.run.now.opener.now in
     let texts = c.run_form-texts.result in
     let stays = c.run_form-texts.ensures.stays in
     let told = subst (λ r. OnOk r ((ns : List Note)
     × ((g.S.Sink.failed texts.sink.now ≡ false) × LinesHold g.J.Told.meaning (taken texts.start.value) (taken texts.sink.now) texts.lines ns)
-    × AreToldWhole c.args.choice meaning c.args.files ns)) c.in-Ok-ran.is c.run_form-texts.ensures.told in
-    let choice : choice_of texts.lines ≡ c.args.choice = stays.2.choice ∙ ap choice_of c.new-texts.ensures.lines ∙ c.in-Ok.ensures.choice in
+    × AreToldWhole c.args.run.now.choice meaning c.args.run.now.files ns)) c.in-Ok-ran.is c.run_form-texts.ensures.told in
+    let choice : choice_of texts.lines ≡ c.args.run.now.choice = stays.2.choice ∙ ap choice_of c.new-texts.ensures.lines ∙ c.in-Ok.ensures.choice in
     let form : form_of texts.lines ≡ c.args.style.form = stays.2.form ∙ ap form_of c.new-texts.ensures.lines ∙ c.in-Ok.ensures.form in
-    let files : files_of texts.lines ≡ c.args.files = stays.2.files ∙ ap files_of c.new-texts.ensures.lines ∙ c.in-Ok.ensures.files in
+    let files : files_of texts.lines ≡ c.args.run.now.files = stays.2.files ∙ ap files_of c.new-texts.ensures.lines ∙ c.in-Ok.ensures.files in
     let start : texts.start.value ≡ c.args.sink.now = sym stays.1 ∙ c.new-texts.ensures.start in
     let left = c.in-Err-finish.ensures.broken g.J.Told.meaning told.0 told.1.1 in
-    subst (λ s. ∥ IsBegun c.args.choice (g.O.Opener.meaning c.args.opener.now) c.args.style.form c.args.files (taken c.args.sink.now) (taken s) ∥₁) (search rules)
-    (subst (λ b. ∥ IsBegun c.args.choice (g.O.Opener.meaning c.args.opener.now) c.args.style.form c.args.files (taken b) (taken c.finish.new.self.0) ∥₁) start
-    (subst (λ m. ∥ IsBegun c.args.choice m c.args.style.form c.args.files (taken texts.start.value) (taken c.finish.new.self.0) ∥₁) c.requires.told
-    (begun_lines c.args.choice g.J.Told.meaning c.args.style.form c.args.files (taken texts.start.value) (taken c.finish.new.self.0) texts.lines choice form files told.0 left)))
+    subst (λ s. ∥ IsBegun c.args.run.now.choice (g.O.Opener.meaning c.args.run.now.opener.now) c.args.style.form c.args.run.now.files (taken c.args.sink.now) (taken s) ∥₁) (search rules)
+    (subst (λ b. ∥ IsBegun c.args.run.now.choice (g.O.Opener.meaning c.args.run.now.opener.now) c.args.style.form c.args.run.now.files (taken b) (taken c.finish.new.self.0) ∥₁) start
+    (subst (λ m. ∥ IsBegun c.args.run.now.choice m c.args.style.form c.args.run.now.files (taken texts.start.value) (taken c.finish.new.self.0) ∥₁) c.requires.told
+    (begun_lines c.args.run.now.choice g.J.Told.meaning c.args.style.form c.args.run.now.files (taken texts.start.value) (taken c.finish.new.self.0) texts.lines choice form files told.0 left)))
 
 pub returns-in-Err-clause-begun : goal.returns-in-Err-clause-begun
 returns-in-Err-clause-begun g c =
@@ -60,14 +60,14 @@ returns-in-Err-clause-begun g c =
     let gave_up : Refusal → Type 0 = λ refusal. GivesUp (g.S.Sink.failed texts.sink.now) refusal × Left in
     let holds : List Note → Type 0 = λ ns. (g.S.Sink.failed texts.sink.now ≡ false) × LinesHold g.J.Told.meaning (taken texts.start.value) (taken texts.sink.now) texts.lines ns in
     let ended = subst (λ r. IfErr r (EndsRun gave_up holds)) c.in-Err.is c.run_form-texts.ensures.ended in
-    let choice : choice_of texts.lines ≡ c.args.choice = stays.2.choice ∙ ap choice_of c.new-texts.ensures.lines ∙ c.in-Ok.ensures.choice in
+    let choice : choice_of texts.lines ≡ c.args.run.now.choice = stays.2.choice ∙ ap choice_of c.new-texts.ensures.lines ∙ c.in-Ok.ensures.choice in
     let form : form_of texts.lines ≡ c.args.style.form = stays.2.form ∙ ap form_of c.new-texts.ensures.lines ∙ c.in-Ok.ensures.form in
-    let files : files_of texts.lines ≡ c.args.files = stays.2.files ∙ ap files_of c.new-texts.ensures.lines ∙ c.in-Ok.ensures.files in
+    let files : files_of texts.lines ≡ c.args.run.now.files = stays.2.files ∙ ap files_of c.new-texts.ensures.lines ∙ c.in-Ok.ensures.files in
     let start : texts.start.value ≡ c.args.sink.now = sym stays.1 ∙ c.new-texts.ensures.start in
     let left : Left =
     ended_with gave_up holds c.in-Err.fault (λ refusal gave. gave.1) (λ ns held. (ns, left_off_held g.J.Told.meaning (taken texts.start.value) (taken texts.sink.now) texts.lines ns held.1)) ended in
-    subst (λ s. ∥ IsBegun c.args.choice (g.O.Opener.meaning c.args.opener.now) c.args.style.form c.args.files (taken c.args.sink.now) (taken s) ∥₁) (search rules)
-    (subst (λ s. ∥ IsBegun c.args.choice (g.O.Opener.meaning c.args.opener.now) c.args.style.form c.args.files (taken c.args.sink.now) (taken s) ∥₁) (sym c.let_go.ensures)
-    (subst (λ b. ∥ IsBegun c.args.choice (g.O.Opener.meaning c.args.opener.now) c.args.style.form c.args.files (taken b) (taken texts.sink.now) ∥₁) start
-    (subst (λ m. ∥ IsBegun c.args.choice m c.args.style.form c.args.files (taken texts.start.value) (taken texts.sink.now) ∥₁) c.requires.told
-    (begun_lines c.args.choice g.J.Told.meaning c.args.style.form c.args.files (taken texts.start.value) (taken texts.sink.now) texts.lines choice form files left.0 left.1))))
+    subst (λ s. ∥ IsBegun c.args.run.now.choice (g.O.Opener.meaning c.args.run.now.opener.now) c.args.style.form c.args.run.now.files (taken c.args.sink.now) (taken s) ∥₁) (search rules)
+    (subst (λ s. ∥ IsBegun c.args.run.now.choice (g.O.Opener.meaning c.args.run.now.opener.now) c.args.style.form c.args.run.now.files (taken c.args.sink.now) (taken s) ∥₁) (sym c.let_go.ensures)
+    (subst (λ b. ∥ IsBegun c.args.run.now.choice (g.O.Opener.meaning c.args.run.now.opener.now) c.args.style.form c.args.run.now.files (taken b) (taken texts.sink.now) ∥₁) start
+    (subst (λ m. ∥ IsBegun c.args.run.now.choice m c.args.style.form c.args.run.now.files (taken texts.start.value) (taken texts.sink.now) ∥₁) c.requires.told
+    (begun_lines c.args.run.now.choice g.J.Told.meaning c.args.style.form c.args.run.now.files (taken texts.start.value) (taken texts.sink.now) texts.lines choice form files left.0 left.1))))

@@ -6,16 +6,16 @@ use Rattle.lane_runs.specs.Lanes.{TellsSeat}
 use Rattle.lane_runs.specs.Running.{HasRun, HaveRun}
 use Rattle.lane_runs.proofs.RunningLanes.{all_givers, run_more, has_run, many_ran, numbered_as}
 use Rattle.lane_runs.proofs.Merging.{settled_whole}
-use Rattle.lane_runs.proofs.joining.join_lanes.Goals as goal
+use Rattle.lane_runs.proofs.shared.Shared.join_lanes.Goals as goal
 
 pub loop-handle-init : goal.loop-handle-init
 loop-handle-init g c = record {
   ran = [];
   all = sym (append-nil _);
-  run = subst (HaveRun g.E.Numbered.about c.args.setting.now.choice (g.O.Opener.meaning c.args.setting.now.opener.now) c.args.setting.now.tickets.now c.args.gatherer 0 []) (sym c.in-Ok.ensures.items) tt;
+  run = subst (HaveRun g.E.Numbered.about c.args.self.now.run.now.choice (g.O.Opener.meaning c.args.self.now.run.now.opener.now) c.args.self.now.tickets.now c.args.gatherer 0 []) (sym c.in-Ok.ensures.items) tt;
   rest = numbered_as _ 0 _ _ _ (omega (arith, c.in-Ok.ensures.len)) (sym c.into_iter-handle-iterator.ensures.into_iter_gives.0) c.requires.running;
   count = omega (arith, c.in-Ok.ensures.len, ap length c.into_iter-handle-iterator.ensures.into_iter_gives.0);
-  seats = subst (All (λ s. IsSeatOf c.args.setting.now.tickets.now s × (has_ended s ≡ true))) (sym c.in-Ok.ensures.items) (All-nil (λ s. IsSeatOf c.args.setting.now.tickets.now s × (has_ended s ≡ true)));
+  seats = subst (All (λ s. IsSeatOf c.args.self.now.tickets.now s × (has_ended s ≡ true))) (sym c.in-Ok.ensures.items) (All-nil (λ s. IsSeatOf c.args.self.now.tickets.now s × (has_ended s ≡ true)));
 }
 
 pub loop-handle-preserved : goal.loop-handle-preserved
@@ -31,17 +31,17 @@ loop-handle-preserved g c =
     let tells : TellsSeat about promise.choice (meaning promise.opener.value) promise.tickets.value seat (given_at giver) =
     subst (λ r. IfOk r (λ s. TellsSeat about promise.choice (meaning promise.opener.value) promise.tickets.value s (given_at giver))) c.in_ok-seat.was
     (subst (λ r. OnOk r (IfOk c.join-giver.result.seat (λ s. TellsSeat about promise.choice (meaning promise.opener.value) promise.tickets.value s (given_at giver)))) c.in-Ok-stop.is c.join-giver.ensures.tells) in
-    let has : HasRun about c.args.setting.now.choice (meaning c.args.setting.now.opener.now) c.args.setting.now.tickets.now c.args.gatherer (0 + length before) giver seat =
+    let has : HasRun about c.args.self.now.run.now.choice (meaning c.args.self.now.run.now.opener.now) c.args.self.now.tickets.now c.args.gatherer (0 + length before) giver seat =
     has_run about meaning _ _ _ _ _ _ _ _ promise.giver.value giver seat rest.0 c.join-giver.ensures.to_same tells in
     record {
       ran = inv.ran ++ giver ∷ [];
       all = c.in-Ok-push-2.ensures.items ∙ ap (λ l. l ++ giver ∷ []) inv.all ∙ append_assoc c.args.givers.items inv.ran (giver ∷ []);
-      run = subst (HaveRun about c.args.setting.now.choice (meaning c.args.setting.now.opener.now) c.args.setting.now.tickets.now c.args.gatherer 0 (inv.ran ++ giver ∷ [])) (sym c.in-Ok-push.ensures.items)
-          (run_more about c.args.setting.now.choice (meaning c.args.setting.now.opener.now) c.args.setting.now.tickets.now c.args.gatherer 0 inv.ran before giver seat inv.run has);
+      run = subst (HaveRun about c.args.self.now.run.now.choice (meaning c.args.self.now.run.now.opener.now) c.args.self.now.tickets.now c.args.gatherer 0 (inv.ran ++ giver ∷ [])) (sym c.in-Ok-push.ensures.items)
+          (run_more about c.args.self.now.run.now.choice (meaning c.args.self.now.run.now.opener.now) c.args.self.now.tickets.now c.args.gatherer 0 inv.ran before giver seat inv.run has);
       rest = numbered_as _ (0 + length before + 1) _ _ _ (omega (arith, c.in-Ok-push.ensures.len)) refl rest.1;
       count = omega (arith, inv.count, ap length c.in-Some.ensures.steps.0, c.in-Ok-push.ensures.len);
-      seats = subst (All (λ s. IsSeatOf c.args.setting.now.tickets.now s × (has_ended s ≡ true))) (sym c.in-Ok-push.ensures.items)
-          (All-push (λ s. IsSeatOf c.args.setting.now.tickets.now s × (has_ended s ≡ true)) before seat inv.seats (has.tells.seat_of, has.tells.ended));
+      seats = subst (All (λ s. IsSeatOf c.args.self.now.tickets.now s × (has_ended s ≡ true))) (sym c.in-Ok-push.ensures.items)
+          (All-push (λ s. IsSeatOf c.args.self.now.tickets.now s × (has_ended s ≡ true)) before seat inv.seats (has.tells.seat_of, has.tells.ended));
     }
 
 pub settle-requires-clause-some : goal.settle-requires-clause-some
@@ -53,12 +53,12 @@ settle-requires-clause-some g c =
 
 pub settle-requires-clause-fan : goal.settle-requires-clause-fan
 settle-requires-clause-fan g c =
-    all_givers g.E.Numbered.about c.args.setting.now.choice (g.O.Opener.meaning c.args.setting.now.opener.now) c.args.setting.now.tickets.now c.args.gatherer (vec_len c.args.running) c.loop-handle.givers.items c.args.givers.items
+    all_givers g.E.Numbered.about c.args.self.now.run.now.choice (g.O.Opener.meaning c.args.self.now.run.now.opener.now) c.args.self.now.tickets.now c.args.gatherer (vec_len c.args.running) c.loop-handle.givers.items c.args.givers.items
     c.loop-handle.invariant.ran c.loop-handle.seats.items c.loop-handle.invariant.all c.requires.idle c.loop-handle.invariant.run
 
 pub returns-clause-told : goal.returns-clause-told
 returns-clause-told g c =
     let inv = c.loop-handle.invariant in
     let many : vec_len c.loop-handle.seats ≡ vec_len c.args.running = search rules in
-    settled_whole g.E.Numbered.about c.args.setting.now.choice (g.O.Opener.meaning c.args.setting.now.opener.now) c.args.setting.now.tickets.now c.args.gatherer (gathered c.args.gatherer) c.loop-handle.givers.items c.args.givers.items
+    settled_whole g.E.Numbered.about c.args.self.now.run.now.choice (g.O.Opener.meaning c.args.self.now.run.now.opener.now) c.args.self.now.tickets.now c.args.gatherer (gathered c.args.gatherer) c.loop-handle.givers.items c.args.givers.items
     inv.ran c.loop-handle.seats.items (vec_len c.args.running) inv.all (omega (arith, many)) (omega (arith, c.requires.lanes)) inv.run c.requires.idle c.settle.ensures.settled c.requires.stopped

@@ -1,14 +1,14 @@
 use Rattle.std.proofs.Common.{[], vec_len, sym, subst}
 use Rattle.lane_runs.specs.Running.{AreNumbered, IsIdle}
 use Rattle.lane_runs.proofs.Ending.{ended_so, all_ended}
-use Rattle.lane_runs.proofs.run.run_in.Goals as goal
+use Rattle.lane_runs.proofs.shared.Shared.run_in.Goals as goal
 
 pub finish_lanes-requires-clause-idle : goal.finish_lanes-requires-clause-idle
 finish_lanes-requires-clause-idle g c κs within = subst (λ n. AreNumbered (IsIdle c.args.gatherer) n c.in-Ok.idle.items) (sym c.in-Ok.ensures.count) c.in-Ok.ensures.idle
 
 pub returns-in-Ok : goal.returns-in-Ok
 returns-in-Ok g c = record {
-  ended = all_ended g.C.Consumer.holds g.C.Consumer.gave_up c.args.setting.now.choice (g.O.Opener.meaning c.args.setting.now.opener.now) c.args.setting.now.tickets.now
+  ended = all_ended g.C.Consumer.holds g.C.Consumer.gave_up c.args.self.now.run.now.choice (g.O.Opener.meaning c.args.self.now.run.now.opener.now) c.args.self.now.tickets.now
       (vec_len c.in-Ok.running) (vec_len c.args.seats) c.finish_lanes.new.consumer c.finish_lanes.result
       c.in-Ok.ensures.count c.finish_lanes.ensures.count c.finish_lanes.ensures.seats c.finish_lanes.ensures.told c.finish_lanes.ensures.ended;
   stays = c.finish_lanes.ensures.stays;

@@ -1,7 +1,7 @@
 use Rattle.std.proofs.Common.{vec_len, arith}
 use Rattle.lane_runs.proofs.RunningLanes.{numbered_weaker, running_still, idle_still}
 use Rattle.lane_runs.proofs.Ending.{ended_so}
-use Rattle.lane_runs.proofs.joining.finish_lanes.Goals as goal
+use Rattle.lane_runs.proofs.shared.Shared.finish_lanes.Goals as goal
 
 pub join_lanes-requires-clause-running : goal.join_lanes-requires-clause-running
 join_lanes-requires-clause-running g c = λ κs within.

@@ -5,7 +5,7 @@ use Rattle.ruled_lanes.specs.TicketSeats.{drawn}
 use Rattle.lanes.specs.declared.message.Message.TheVariants.{Stop}
 use Rattle.lanes.specs.Stages.{IsPassedOn}
 use Rattle.lane_runs.specs.Lanes.{TellsSeat, ReadsSeat}
-use Rattle.lane_runs.proofs.lane.run_stages.Goals as goal
+use Rattle.lane_runs.proofs.shared.Shared.run_stages.Goals as goal
 
 pub returns-in-Some-Some-Some-Some-clause-told : goal.returns-in-Some-Some-Some-Some-clause-told
 returns-in-Some-Some-Some-Some-clause-told g c =
@@ -15,9 +15,9 @@ returns-in-Some-Some-Some-Some-clause-told g c =
     let read : ReadsSeat g.L.Framed.Numbered.about promise.choice (meaning promise.opener.value) promise.tickets.value promise.giver.value all.read all.seat =
     subst (λ r. IfSome r (λ ends. ReadsSeat g.L.Framed.Numbered.about promise.choice (meaning promise.opener.value) promise.tickets.value promise.giver.value ends.0 ends.1))
     all.is-0 c.join-read.ensures in
-    let told : TellsSeat g.L.Framed.Numbered.about c.args.setting.now.choice (meaning c.args.setting.now.opener.now) c.args.setting.now.tickets.now all.seat (given all.read) =
-    subst (λ t. TellsSeat g.L.Framed.Numbered.about c.args.setting.now.choice (meaning c.args.setting.now.opener.now) t all.seat (given all.read)) c.in_ok-read.ensures.tickets
-    (subst (λ o. TellsSeat g.L.Framed.Numbered.about c.args.setting.now.choice (meaning o) promise.tickets.value all.seat (given all.read)) c.in_ok-read.ensures.opener
+    let told : TellsSeat g.L.Framed.Numbered.about c.args.self.now.run.now.choice (meaning c.args.self.now.run.now.opener.now) c.args.self.now.tickets.now all.seat (given all.read) =
+    subst (λ t. TellsSeat g.L.Framed.Numbered.about c.args.self.now.run.now.choice (meaning c.args.self.now.run.now.opener.now) t all.seat (given all.read)) c.in_ok-read.ensures.tickets
+    (subst (λ o. TellsSeat g.L.Framed.Numbered.about c.args.self.now.run.now.choice (meaning o) promise.tickets.value all.seat (given all.read)) c.in_ok-read.ensures.opener
     (subst (λ x. TellsSeat g.L.Framed.Numbered.about x (meaning promise.opener.value) promise.tickets.value all.seat (given all.read)) c.in_ok-read.ensures.choice read.tells)) in
     let gave = given_at c.run_last_stage-draw.new.giver ++ Stop ∷ [] in
     let drew : IsPassedOn g.L.Shaped.Numbered.about g.L.Entry.Numbered.about (taken all.draw) gave =
@@ -25,5 +25,5 @@ returns-in-Some-Some-Some-Some-clause-told g c =
     record {
       seat_of = told.seat_of;
       ended = told.ended;
-      tells = c.settle_lane.ensures c.args.setting.now.choice (meaning c.args.setting.now.opener.now) (drawn all.seat) gave drew told.tells;
+      tells = c.settle_lane.ensures c.args.self.now.run.now.choice (meaning c.args.self.now.run.now.opener.now) (drawn all.seat) gave drew told.tells;
     }

@@ -1,0 +1,199 @@
+//! All lanes of a run.
+ghost use Rattle.std.specs.Prelude.{◌≡◌, ◌≤◌, ◌+◌, ◌∷◌, ◌++◌, List, [], All, IfOk, OnOk, IfErr, vec_len};
+ghost use Rattle.ruled_lanes.specs.declared.limits.TheConstants.{LANES};
+ghost use Rattle.ruled_lanes.specs.TicketSeats.{IsSeatOf, IsUnused};
+ghost use Rattle.lanes.specs.Notes.{Note};
+ghost use Rattle.lanes.specs.Files.{AreToldWhole};
+ghost use Rattle.lane_runs.specs.Lanes.{StartsLane};
+ghost use Rattle.lane_runs.specs.Running.{AreNumbered, IsIdle, IsRunning, StartsRun, LeavesRun};
+ghost use Rattle.lane_runs.specs.Faults.{EndsRun};
+ghost use Rattle.lane_runs.specs.Taking.{TakesFiles};
+
+use crate::fault::{LaneFault, RunFault};
+use crate::lane::Lane;
+use crate::lane_kind::LaneKind;
+use crate::new_fan::new_fan;
+use crate::run::Run;
+use crate::running::{LaneEnd, LanePromise, Running};
+use crate::shared::Shared;
+use lanes::{Consumer, Gate, Message, Opener};
+use ruled_lanes::{Gatherer, LaneGiver, Seat, Tickets};
+use std::snapshot::Snapshot;
+use std::sync::Wait;
+use std::thread;
+use std::thread::{Scope, Threads};
+
+/// Runs the lanes of a run, in threads of their own, which draw its files as they become free, and hands what
+/// they give from one fan to the consumer, on this thread. The consumer is given back; where the run ends well, it
+/// holds all of each file under the run's choice of the outer face.
+///
+/// # Errors
+///
+/// `Memory`: no memory for links, the fan, tickets, buffers, or the lists of lanes. `LaneLost`: an end of a link
+/// or of the fan was gone. `Thread`: a thread could not be started. `Refused`: the consumer refused a message.
+pub fn run_lanes<
+    L: LaneKind,
+    C: Consumer<L::Entry, L::End>,
+    R: Threads + Wait + Sync,
+    O: Opener,
+    G: Gate,
+>(run: &Run<'_, R, O, G>, consumer: C) -> (C, Result<(), RunFault<C::Refusal>>)
+    requires empty { C.holds consumer [] }
+    requires takes { TakesFiles L.takes L.ends (O.meaning run.now.opener.now) }
+    ensures told { IfOk result.1 (λ _. (ns : List Note) × C.holds result.0 ns
+        × AreToldWhole run.now.choice (O.meaning run.now.opener.now) run.now.files ns) }
+    ensures ended { IfErr result.1 (EndsRun (C.gave_up result.0) (C.holds result.0)) }
+    ensures stays { C.stays consumer result.0 }
+{
+    let Ok((tickets, seats)) = Tickets::new(run.alloc, run.files, run.lanes) else {
+        return (consumer, Err(RunFault::Memory));
+    };
+    let Ok((givers, gatherer)) = new_fan::<L::Entry, L::End>(run.alloc, run.capacity) else {
+        return (consumer, Err(RunFault::Memory));
+    };
+    let shared = Shared {
+        run,
+        tickets: &tickets,
+    };
+    let (consumer, ran) = shared.run_seats::<L, _>(seats, givers, gatherer, consumer);
+    match ran {
+        Ok(seats) => {
+            tickets.close(seats);
+            (consumer, Ok(()))
+        }
+        Err(fault) => (consumer, Err(fault)),
+    }
+}
+
+impl<'s, R: Threads + Wait + Sync, O: Opener, G: Gate> Shared<'s, R, O, G> {
+    /// Runs a lane for each seat, gathers what they give, and joins their threads. The consumer is given back,
+    /// and the seats.
+    fn run_seats<L: LaneKind, C: Consumer<L::Entry, L::End>>(
+        &self,
+        seats: Vec<Seat>,
+        givers: Vec<LaneGiver<Message<L::Entry, L::End>>>,
+        gatherer: Gatherer<Message<L::Entry, L::End>>,
+        consumer: C,
+    ) -> (C, Result<Vec<Seat>, RunFault<C::Refusal>>)
+        requires { StartsRun C.holds self.now.tickets.now seats givers gatherer consumer
+            × TakesFiles L.takes L.ends (O.meaning self.now.run.now.opener.now) }
+        ensures { LeavesRun C.holds C.gave_up C.stays self.now.run.now.choice (O.meaning self.now.run.now.opener.now) self.now.tickets.now (vec_len seats) consumer result.0 result.1 }
+    {
+        thread::scope(
+            thread::scope_env(),
+            self.run.rt,
+            move |scope| -> (C, Result<Vec<Seat>, RunFault<C::Refusal>>)
+                requires { StartsRun C.holds self.now.tickets.now seats givers gatherer consumer
+                    × TakesFiles L.takes L.ends (O.meaning self.now.run.now.opener.now) }
+                ensures { LeavesRun C.holds C.gave_up C.stays self.entry.now.run.now.choice (O.meaning self.entry.now.run.now.opener.now) self.entry.now.tickets.now (vec_len seats) consumer result.0 result.1 }
+            {
+                let mut consumer = consumer;
+                let ran = self.run_in::<_, L, _>(scope, seats, givers, gatherer, &mut consumer);
+                (consumer, ran)
+            },
+        )
+    }
+
+    /// Starts a lane for each seat and gathers what they give.
+    fn run_in<E, L: LaneKind + 's, C: Consumer<L::Entry, L::End>>(
+        &'s self,
+        scope: &'s Scope<'s, E>,
+        seats: Vec<Seat>,
+        givers: Vec<LaneGiver<Message<L::Entry, L::End>>>,
+        gatherer: Gatherer<Message<L::Entry, L::End>>,
+        consumer: &mut C,
+    ) -> Result<Vec<Seat>, RunFault<C::Refusal>>
+        requires { StartsRun C.holds self.now.tickets.now seats givers gatherer consumer.old
+            × TakesFiles L.takes L.ends (O.meaning self.now.run.now.opener.now) }
+        ensures { LeavesRun C.holds C.gave_up C.stays self.now.run.now.choice (O.meaning self.now.run.now.opener.now) self.now.tickets.now (vec_len seats) consumer.old consumer.new result }
+    {
+        match self.start_lanes::<_, L>(scope, seats, givers, &gatherer) {
+            Ok((running, idle)) => self.finish_lanes(gatherer, running, idle, consumer),
+            Err(fault) => Err(RunFault::from(fault)),
+        }
+    }
+
+    /// Starts a lane for each seat, which gives to this fan. The givers of the other lanes are given back.
+    fn start_lanes<E, L: LaneKind + 's>(
+        &'s self,
+        scope: &'s Scope<'s, E>,
+        mut seats: Vec<Seat>,
+        givers: Vec<LaneGiver<Message<L::Entry, L::End>>>,
+        gatherer: &Gatherer<Message<L::Entry, L::End>>,
+    ) -> Result<
+        (
+            Vec<Running<L::Entry, L::End, O>>,
+            Vec<LaneGiver<Message<L::Entry, L::End>>>,
+        ),
+        LaneFault,
+    >
+        requires few { vec_len seats ≤ LANES }
+        requires seats { All (IsSeatOf self.now.tickets.now) seats.items }
+        requires unused { All IsUnused seats.items }
+        requires lanes { vec_len givers ≡ LANES }
+        requires idle { AreNumbered (IsIdle gatherer.now) 0 givers.items }
+        requires takes { TakesFiles L.takes L.ends (O.meaning self.now.run.now.opener.now) }
+        ensures count { IfOk result (λ started. vec_len started.0 ≡ vec_len seats) }
+        ensures lanes { IfOk result (λ started. vec_len started.0 + vec_len started.1 ≡ LANES) }
+        ensures running { IfOk result (λ started. AreNumbered (λ lane r. IsRunning gatherer.now self.now.run.now.choice self.now.run.now.opener.now self.now.tickets.now lane
+            r.promise.choice r.promise.opener.value r.promise.tickets.value r.promise.giver.value) 0 started.0.items) }
+        ensures idle { IfOk result (λ started. AreNumbered (IsIdle gatherer.now) (vec_len seats) started.1.items) }
+    {
+        let Ok(mut running) = Vec::with_capacity(self.run.alloc, seats.len()) else {
+            return Err(LaneFault::Memory);
+        };
+        let mut idle = Vec::new(self.run.alloc);
+        for giver in givers {
+            match seats.pop() {
+                Some(seat) => {
+                    let started = self.start_lane::<_, L>(scope, Lane { seat, giver })?;
+                    push(&mut running, started)?;
+                }
+                None => push(&mut idle, giver)?,
+            }
+        }
+        Ok((running, idle))
+    }
+
+    /// Starts a lane in a thread of its own.
+    fn start_lane<E, L: LaneKind + 's>(
+        &'s self,
+        scope: &'s Scope<'s, E>,
+        lane: Lane<L::Entry, L::End>,
+    ) -> Result<Running<L::Entry, L::End, O>, LaneFault>
+        requires ready { StartsLane self.now.tickets.now lane.seat lane.giver }
+        requires takes { TakesFiles L.takes L.ends (O.meaning self.now.run.now.opener.now) }
+        ensures choice { IfOk result (λ r. r.promise.choice ≡ self.now.run.now.choice) }
+        ensures opener { IfOk result (λ r. r.promise.opener.value ≡ self.now.run.now.opener.now) }
+        ensures tickets { IfOk result (λ r. r.promise.tickets.value ≡ self.now.tickets.now) }
+        ensures giver { IfOk result (λ r. r.promise.giver.value ≡ lane.giver) }
+    {
+        let promise = LanePromise {
+            choice: self.run.choice,
+            opener: Snapshot::of(self.run.opener),
+            tickets: Snapshot::of(self.tickets),
+            giver: Snapshot::of(&lane.giver),
+        };
+        match scope.spawn_with(
+            promise,
+            move || -> LaneEnd<L::Entry, L::End>
+                requires { StartsLane self.now.tickets.now lane.seat lane.giver
+                    × TakesFiles L.takes L.ends (O.meaning self.now.run.now.opener.now) }
+            { self.run_lane::<L>(lane) },
+        ) {
+            Ok(handle) => Ok(handle),
+            Err(_) => Err(LaneFault::Thread),
+        }
+    }
+}
+
+/// Puts an item at the end of a list.
+fn push<T: Drop>(list: &mut Vec<T>, item: T) -> Result<(), LaneFault>
+    ensures items { OnOk result (list.new.items ≡ list.old.items ++ item ∷ []) }
+    ensures len { OnOk result (vec_len list.new ≡ vec_len list.old + 1) }
+{
+    match list.push(item) {
+        Ok(()) => Ok(()),
+        Err(_) => Err(LaneFault::Memory),
+    }
+}
