@@ -23,7 +23,7 @@ use planar_code::{Ending, MAX_RECORDS};
 use printing::{KnownEnd, Printed, Told, head_text, lacking_text};
 use reports::Form;
 use std::alloc::{AllocError, Global};
-use streams::{Mark, Sink, TextBuffer, WriteFault};
+use streams::{Mark, Sink, SourceEnd, TextBuffer, WriteFault};
 
 /// The lines of a run on their way to a sink, file after file. A line of the first file that has not ended
 /// is copied once, into a fixed buffer, and takes no memory; the lines of each later file wait until its turn.
@@ -324,15 +324,8 @@ impl Lines {
             return Err(Refusal::Astray);
         };
         let count = self.waiting[self.front as usize].count;
-        put_end(
-            alloc,
-            &mut self.buffer,
-            sink,
-            self.form,
-            self.front,
-            mark,
-            count,
-        )?;
+        let end = SourceEnd { count, mark };
+        put_end(alloc, &mut self.buffer, sink, self.form, self.front, end)?;
         self.front = next;
         if (self.front as usize) < self.waiting.len() {
             self.begin(alloc, sink)

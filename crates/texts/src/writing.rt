@@ -7,7 +7,7 @@ use crate::refusal::Refusal;
 use printing::{end_text, head_text};
 use reports::{Form, push_line};
 use std::alloc::Global;
-use streams::{Mark, Sink, TextBuffer};
+use streams::{Sink, SourceEnd, TextBuffer};
 
 /// Puts a text on its way.
 pub(crate) fn put<S: Sink>(
@@ -54,16 +54,15 @@ pub(crate) fn put_end<S: Sink>(
     sink: &mut S,
     form: Form,
     file: u32,
-    mark: Mark,
-    count: u32,
+    end: SourceEnd,
 ) -> Result<(), Refusal>
     requires { S.failed sink.old ≡ false }
-    ensures put { OnOk result (GoesOn (S.taken sink.old) buffer.old (S.taken sink.new) buffer.new (end_in form (file + 1) mark count)) }
-    ensures broken { OnErr result (BreaksIn (S.taken sink.old) buffer.old (S.taken sink.new) (end_in form (file + 1) mark count)) }
+    ensures put { OnOk result (GoesOn (S.taken sink.old) buffer.old (S.taken sink.new) buffer.new (end_in form (file + 1) end.mark end.count)) }
+    ensures broken { OnErr result (BreaksIn (S.taken sink.old) buffer.old (S.taken sink.new) (end_in form (file + 1) end.mark end.count)) }
     ensures stands { OnOk result (S.failed sink.new ≡ false) }
     ensures gave_up { IfErr result (λ refusal. GivesUp (S.failed sink.new) refusal) }
 {
-    match end_text(alloc, form, file, mark, count) {
+    match end_text(alloc, form, file, end.mark, end.count) {
         Ok(text) => put(buffer, sink, text.as_slice()),
         Err(_) => Err(Refusal::Memory),
     }

@@ -11,4 +11,4 @@ returns-in-Ok-clause-broken g c =
     (subst (BreaksIn (g.S.Sink.taken c.args.sink.now) c.args.buffer.now (g.S.Sink.taken c.put.new.sink)) (c.as_slice.ensures.value ∙ c.in-Ok.ensures))
 
 pub returns-in-Err-clause-broken : goal.returns-in-Err-clause-broken
-returns-in-Err-clause-broken g c = breaks_here (g.S.Sink.taken c.args.sink.now) c.args.buffer.now (end_in c.args.form (c.args.file + 1) c.args.mark c.args.count)
+returns-in-Err-clause-broken g c = breaks_here (g.S.Sink.taken c.args.sink.now) c.args.buffer.now (end_in c.args.form (c.args.file + 1) c.args.end.mark c.args.end.count)
