@@ -60,12 +60,12 @@ frames_apart found =
 
 done_drawn : (input : Meaning) (request : Request) (old new : Option (List ℕ)) (failed : Bool) (status : ℕ) → IsDone input request old new failed status → AddsNoneUndrawn old new
 done_drawn input (Frames name) old new failed status is = text_added old new (frames_text is.found) (frames_apart is.found) is.text
-done_drawn input (Layout names lanes waiting choice style progress) old new failed status is =
-    text_added old new (text_in style.form is.books) (text_apart style.form is.books (all_drawn choice _ _ is.books is.of_files)) is.text
+done_drawn input (Layout asked) old new failed status is =
+    text_added old new (text_in asked.style.form is.books) (text_apart asked.style.form is.books (all_drawn asked.choice _ _ is.books is.of_files)) is.text
 
 begun_to_be_drawn : (input : Meaning) (request : Request) (old new : Option (List ℕ)) → IsBegunToBeDone input request old new → AddsNoneUndrawn old new
 begun_to_be_drawn input (Frames name) old new is = front_added old new (frames_text is.found) (frames_apart is.found) is.text
-begun_to_be_drawn input (Layout names lanes waiting choice style progress) old new is = begun_drawn choice _ style.form _ old new is
+begun_to_be_drawn input (Layout asked) old new is = begun_drawn asked.choice _ asked.style.form _ old new is
 
 unchanged : {S : Type 0} (taken : S → Option (List ℕ)) (old new : S) → new ≡ old → AddsNoneUndrawn (taken old) (taken new)
 unchanged taken old new same = subst (λ s. AddsNoneUndrawn (taken old) (taken s)) (sym same) (none_added (taken old))

@@ -1,4 +1,4 @@
-pub mod LayoutBegun
+pub mod Layouts
 pub mod FaultStatus
 pub mod ReportBegun
 pub mod NoReport

@@ -110,4 +110,4 @@ pub record AsksFrames (words : List (String Global)) (name : List ℕ) : Type 0 
 -- the request is what the words ask for
 abbrev pub IsAskedBy : List (String Global) → Request → Type 0
 IsAskedBy words (Frames name) = AsksFrames words name.now
-IsAskedBy words (Layout names lanes waiting choice style progress) = AsksLayout words names choice style
+IsAskedBy words (Layout asked) = AsksLayout words asked.names asked.choice asked.style

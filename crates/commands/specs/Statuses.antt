@@ -80,11 +80,11 @@ pub record IsBegunToReport (meaning : Meaning) (old new : Option (List ℕ)) : T
 -- the whole report that a request asks for, where standard input means `input`, was added to the output, with this status
 abbrev pub IsDone : Meaning → Request → Option (List ℕ) → Option (List ℕ) → Bool → ℕ → Type 0
 IsDone input (Frames name) old new failed status = IsReported (meaning_of input name.now) old new failed status
-IsDone input (Layout names lanes waiting choice style progress) old new failed status =
-    IsLaidOut choice style.form (meanings input names.items) (vec_len names) old new failed status
+IsDone input (Layout asked) old new failed status =
+    IsLaidOut asked.choice asked.style.form (meanings input asked.names.items) (vec_len asked.names) old new failed status
 
 -- a beginning of the report that a request asks for, where standard input means `input`, was added to the output
 abbrev pub IsBegunToBeDone : Meaning → Request → Option (List ℕ) → Option (List ℕ) → Type 0
 IsBegunToBeDone input (Frames name) old new = IsBegunToReport (meaning_of input name.now) old new
-IsBegunToBeDone input (Layout names lanes waiting choice style progress) old new =
-    IsBegunToLayOut choice style.form (meanings input names.items) (vec_len names) old new
+IsBegunToBeDone input (Layout asked) old new =
+    IsBegunToLayOut asked.choice asked.style.form (meanings input asked.names.items) (vec_len asked.names) old new

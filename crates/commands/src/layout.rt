@@ -1,13 +1,13 @@
 //! What `layout` does.
-ghost use Rattle.std.specs.Prelude.{◌≡◌, ◌<◌, ◌≤◌, ◌⊎◌, ◌↔◌, false, Err, IfOk, IfErr, OnErr, length};
+ghost use Rattle.std.specs.Prelude.{◌≡◌, ◌<◌, ◌≤◌, ◌⊎◌, ◌↔◌, false, Err, IfOk, IfErr, OnErr, vec_len};
 ghost use Rattle.program_io.specs.Refusals.{IsRefusal};
 ghost use Rattle.ruled_lanes.specs.declared.limits.TheConstants.{LANES};
 ghost use Rattle.books.specs.declared.limits.TheConstants.{MAX_FILES};
 ghost use Rattle.program_io.specs.Naming.{meanings};
 ghost use Rattle.commands.specs.Statuses.{IsLaidOut, IsBegunToLayOut};
 
-use choices::Choice;
-use collector::{Style, TextFault, write_batch};
+use crate::request::LayoutRequest;
+use collector::{TextFault, write_batch};
 use lanes::Opener;
 use program_io::{Console, Fault, FileOpener, FilesAndInput, Meter, SystemFiles};
 use std::rt::Files;
@@ -21,10 +21,9 @@ pub const CAPACITY: u32 = MAX_CAPACITY;
 /// How many bytes a megabyte has.
 const MEGABYTE: usize = 1_000_000;
 
-/// Writes answers to the records of these files in this style, under this choice of the outer face and worked
-/// out in so many lanes, while the files are read, and gives back the status of the report. The file named `-`
-/// is the file 0 of `input`. The meter counts files and graphs. Where the text of later files that waits holds
-/// `waiting` megabytes of memory, their reading pauses.
+/// Writes the answers that are asked for, while the files are read, and gives back the status of the report. The file
+/// named `-` is the file 0 of `input`. The meter counts files and graphs. Where the text of later files that waits
+/// holds `waiting` megabytes of memory, their reading pauses.
 ///
 /// # Errors
 ///
@@ -40,12 +39,8 @@ pub fn layout<
     S: Sink,
 >(
     rt: &'a R,
-    names: &[&str],
+    asked: &LayoutRequest<'_>,
     input: &'a I,
-    lanes: u32,
-    waiting: u32,
-    choice: Choice,
-    style: Style,
     meter: &'a Meter<'_, C>,
     out: &mut S,
 ) -> Result<u8, Fault>
@@ -53,15 +48,16 @@ where
     R::File: Send,
     R::Dir: Send,
     requires { S.failed out.old ≡ false }
-    ensures reported { IfOk result (IsLaidOut choice style.form (meanings (I.meaning input.now 0) names.now)
-        (length names.now) (S.taken out.old) (S.taken out.new) (S.failed out.new)) }
-    ensures begun { OnErr result (IsBegunToLayOut choice style.form (meanings (I.meaning input.now 0) names.now)
-        (length names.now) (S.taken out.old) (S.taken out.new)) }
-    ensures too_many { (MAX_FILES < length names.now) ↔ (result ≡ Err (Fault.Run BatchFault.TooManyFiles)) }
-    ensures bad_lanes { (((lanes ≡ 0) ⊎ (LANES < lanes)) × (length names.now ≤ MAX_FILES))
+    ensures reported { IfOk result (IsLaidOut asked.now.choice asked.now.style.form (meanings (I.meaning input.now 0) asked.now.names.items)
+        (vec_len asked.now.names) (S.taken out.old) (S.taken out.new) (S.failed out.new)) }
+    ensures begun { OnErr result (IsBegunToLayOut asked.now.choice asked.now.style.form (meanings (I.meaning input.now 0) asked.now.names.items)
+        (vec_len asked.now.names) (S.taken out.old) (S.taken out.new)) }
+    ensures too_many { (MAX_FILES < vec_len asked.now.names) ↔ (result ≡ Err (Fault.Run BatchFault.TooManyFiles)) }
+    ensures bad_lanes { (((asked.now.lanes ≡ 0) ⊎ (LANES < asked.now.lanes)) × (vec_len asked.now.names ≤ MAX_FILES))
         ↔ (result ≡ Err (Fault.Run BatchFault.BadLanes)) }
     ensures refused { IfErr result (λ fault. IsRefusal fault → out.new ≡ out.old) }
 {
+    let names = asked.names.as_slice();
     let named = FilesAndInput {
         files: &SystemFiles { rt },
         input,
@@ -79,11 +75,11 @@ where
         rt.alloc(),
         &opener,
         files,
-        lanes,
+        asked.lanes,
         CAPACITY,
-        (waiting as usize).saturating_mul(MEGABYTE),
-        choice,
-        style,
+        (asked.waiting as usize).saturating_mul(MEGABYTE),
+        asked.choice,
+        asked.style,
         meter,
         out,
     ) {

@@ -126,17 +126,9 @@ where
 {
     let outcome = match request {
         Request::Frames { name } => frames(rt, name, input, out),
-        Request::Layout {
-            names,
-            lanes,
-            waiting,
-            choice,
-            style,
-            progress,
-        } => {
-            let names = names.as_slice();
-            let meter = Meter::new(console, progress, names.len());
-            let outcome = layout(rt, names, input, lanes, waiting, choice, style, &meter, out);
+        Request::Layout(asked) => {
+            let meter = Meter::new(console, asked.progress, asked.names.len());
+            let outcome = layout(rt, &asked, input, &meter, out);
             meter.finish();
             outcome
         }

@@ -18,24 +18,26 @@ use std::alloc::{AllocError, Global};
 #[derive(Drop)]
 pub enum Request<'a> {
     /// The records of one file.
-    Frames {
-        name: &'a str,
-    },
+    Frames { name: &'a str },
     /// Answers to the records of files.
-    Layout {
-        /// The files, in order.
-        names: Vec<&'a str>,
-        /// How many lanes work on them.
-        lanes: u32,
-        /// How many megabytes of text of later files may wait until their reading pauses.
-        waiting: u32,
-        /// How the outer face of each plane is chosen.
-        choice: Choice,
-        /// The form of the text, and which drawings it is of.
-        style: Style,
-        /// Whether and where it is told how far the run is.
-        progress: Progress,
-    },
+    Layout(LayoutRequest<'a>),
+}
+
+/// Which answers a layout is to have, and how it is to be worked out.
+#[derive(Drop)]
+pub struct LayoutRequest<'a> {
+    /// The files, in order.
+    pub names: Vec<&'a str>,
+    /// How many lanes work on them.
+    pub lanes: u32,
+    /// How many megabytes of text of later files may wait until their reading pauses.
+    pub waiting: u32,
+    /// How the outer face of each plane is chosen.
+    pub choice: Choice,
+    /// The form of the text, and which drawings it is of.
+    pub style: Style,
+    /// Whether and where it is told how far the run is.
+    pub progress: Progress,
 }
 
 /// Reads the words after the program's name, and answers what they ask for. A `layout` has a file at least, and
@@ -77,7 +79,7 @@ fn request_of<'a>(
     if files.is_empty() || !asks(Wish::Layout, words) {
         return None;
     }
-    Some(Request::Layout {
+    Some(Request::Layout(LayoutRequest {
         names: files,
         lanes: lanes_of(matches),
         waiting: waiting_of(matches),
@@ -87,7 +89,7 @@ fn request_of<'a>(
             drawing: drawing_of(words),
         },
         progress: progress_of(matches),
-    })
+    }))
 }
 
 /// The file whose records are asked for.

@@ -1,18 +1,30 @@
-use Rattle.std.proofs.Common.{rules, length, refl}
+use Rattle.std.proofs.Common.{rules, vec_len}
 use Rattle.program_io.specs.Naming.{meanings}
 use Rattle.collector.proofs.Begun.{begun_by_nothing}
-use Rattle.commands.proofs.LayoutBegun.{begun_to_lay_out}
+use Rattle.commands.proofs.Layouts.{begun_to_lay_out, laid_out}
 use Rattle.commands.proofs.layout.layout.Goals as goal
 
 pub returns-in_default-clause-begun : goal.returns-in_default-clause-begun
 returns-in_default-clause-begun g c =
-    let count = length c.args.names.now in
-    let taken = g.S.Sink.taken c.args.out.now in
-    let meaning = meanings (g.I.Opener.meaning c.args.input.now 0) c.args.names.now in
-    begun_to_lay_out c.args.choice meaning c.args.style.form count count taken taken refl (begun_by_nothing c.args.choice meaning c.args.style.form count taken)
+    let asked = c.args.asked.now in
+    begun_by_nothing asked.choice (meanings (g.I.Opener.meaning c.args.input.now 0) asked.names.items) asked.style.form (vec_len asked.names) (g.S.Sink.taken c.args.out.now)
+
+pub returns-in-Ok-write_batch-clause-reported : goal.returns-in-Ok-write_batch-clause-reported
+returns-in-Ok-write_batch-clause-reported g c =
+    let asked = c.args.asked.now in
+    let all = c.in-Ok-write_batch.ensures.written in
+    laid_out (meanings (g.I.Opener.meaning c.args.input.now 0)) asked.choice asked.style.form asked.names.items c.as_slice-names.result.now c.in-Ok.files (vec_len asked.names)
+    (g.S.Sink.taken c.args.out.now) (g.S.Sink.taken c.write_batch.new.sink) c.as_slice-names.ensures.value (search rules) _ _
+    (record { books = all.books; of_files = all.of_files; text = all.text; written = search rules; whole = search rules; other = search rules })
 
 pub returns-in-Err-Run-clause-begun : goal.returns-in-Err-Run-clause-begun
-returns-in-Err-Run-clause-begun g c = begun_to_lay_out _ _ _ _ _ _ _ (search rules) c.in-Err-Run.ensures.begun
+returns-in-Err-Run-clause-begun g c =
+    let asked = c.args.asked.now in
+    begun_to_lay_out (meanings (g.I.Opener.meaning c.args.input.now 0)) asked.choice asked.style.form asked.names.items c.as_slice-names.result.now c.in-Ok.files (vec_len asked.names)
+    (g.S.Sink.taken c.args.out.now) (g.S.Sink.taken c.write_batch.new.sink) c.as_slice-names.ensures.value (search rules) c.in-Err-Run.ensures.begun
 
 pub returns-in-Err-Write-clause-begun : goal.returns-in-Err-Write-clause-begun
-returns-in-Err-Write-clause-begun g c = begun_to_lay_out _ _ _ _ _ _ _ (search rules) c.in-Err-Write.ensures.begun
+returns-in-Err-Write-clause-begun g c =
+    let asked = c.args.asked.now in
+    begun_to_lay_out (meanings (g.I.Opener.meaning c.args.input.now 0)) asked.choice asked.style.form asked.names.items c.as_slice-names.result.now c.in-Ok.files (vec_len asked.names)
+    (g.S.Sink.taken c.args.out.now) (g.S.Sink.taken c.write_batch.new.sink) c.as_slice-names.ensures.value (search rules) c.in-Err-Write.ensures.begun
