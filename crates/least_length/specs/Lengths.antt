@@ -13,7 +13,7 @@ row_at rows r = slice_index_or rows r no_row
 
 -- stands for edges past the last
 abbrev pub no_edge : Edge
-no_edge = record { from = 0; to = 0 }
+no_edge = record { from = 0; to = 0; level = 0 }
 
 abbrev pub edge_at : List Edge → ℕ → Edge
 edge_at edges i = slice_index_or edges i no_edge

@@ -1,6 +1,6 @@
 //! Numbers of least total length.
 
-ghost use Rattle.std.specs.Prelude.{◌≡◌, length, IfOk, IfSome};
+ghost use Rattle.std.specs.Prelude.{◌≡◌, length, true, IfOk, IfSome};
 ghost use Rattle.least_length.specs.Lengths.{numbers_in, IsLeast};
 
 use crate::certificate::certify;
@@ -42,18 +42,32 @@ pub fn least_numbers_in(
     ensures least { IfOk result (λ found. IfSome found (λ numbers. IsLeast rows.now edges.now (numbers_in numbers.items))) }
     ensures count { IfOk result (λ found. IfSome found (λ numbers. length numbers.items ≡ length rows.now)) }
 {
-    if edges.len() > MAX_EDGES || !scratch.pulling.balance(rows, edges)? {
-        return Ok(None);
-    }
     let mut numbers = Vec::with_capacity(alloc, rows.len())?;
-    scratch.pulling.write(&mut numbers)?;
+    if find_least(scratch, rows, edges, &mut numbers)? {
+        Ok(Some(numbers))
+    } else {
+        Ok(None)
+    }
+}
+
+/// The same as [`least_numbers`], in memory that is lent, and into a list; whether there are such numbers.
+pub fn find_least(
+    scratch: &mut Scratch,
+    rows: &[Row],
+    edges: &[Edge],
+    numbers: &mut Vec<u16>,
+) -> Result<bool, AllocError>
+    ensures least { IfOk result (λ found. found ≡ true → IsLeast rows.now edges.now (numbers_in numbers.new.items)) }
+    ensures count { IfOk result (λ found. found ≡ true → length numbers.new.items ≡ length rows.now) }
+{
+    if edges.len() > MAX_EDGES || !scratch.pulling.balance(rows, edges)? {
+        return Ok(false);
+    }
+    scratch.pulling.write(numbers)?;
     let balance = &mut scratch.balance;
     let sights = scratch.pulling.neighbours.sights.as_slice();
     if sights.len() > MAX_SIGHTS || numbers.len() != rows.len() {
-        return Ok(None);
+        return Ok(false);
     }
-    if !certify(balance, rows, edges, numbers.as_slice(), sights)? {
-        return Ok(None);
-    }
-    Ok(Some(numbers))
+    certify(balance, rows, edges, numbers.as_slice(), sights)
 }

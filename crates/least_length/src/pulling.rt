@@ -27,6 +27,8 @@ pub(crate) struct Pulling {
     from: Vec<u16>,
     /// The rows that the search has reached.
     reached: Vec<u16>,
+    /// Those of them at which it has not looked yet.
+    open: Vec<u16>,
 }
 
 impl Pulling {
@@ -40,13 +42,14 @@ impl Pulling {
             numbers: Vec::new(alloc),
             from: Vec::new(alloc),
             reached: Vec::new(alloc),
+            open: Vec::new(alloc),
         }
     }
 
     /// Gives pairs of neighbours weights that are in balance, and rows numbers with which those with a weight are next to
     /// each other; whether that was done. The rows are in the order of their numbers.
     pub(crate) fn balance(&mut self, rows: &[Row], edges: &[Edge]) -> Result<bool, AllocError> {
-        self.neighbours.list(rows)?;
+        self.neighbours.list(rows, edges)?;
         if self.neighbours.sights.len() > MAX_SIGHTS || rows.len() >= usize::from(SOURCE) {
             return Ok(false);
         }
@@ -64,7 +67,8 @@ impl Pulling {
         Ok(true)
     }
 
-    /// Takes the numbers of the rows, and a unit up where each edge begins, and down where it ends.
+    /// Takes the numbers of the rows, and a unit up where each edge begins, and down where it ends, less the weights of pairs
+    /// that are next to each other. No other pair has a weight then.
     fn begin(&mut self, rows: &[Row], edges: &[Edge]) -> Result<(), AllocError> {
         self.numbers.clear();
         self.from.clear();
@@ -78,6 +82,17 @@ impl Pulling {
         for edge in edges {
             add(self.excess.as_mut_slice(), edge.from, 1);
             add(self.excess.as_mut_slice(), edge.to, -1);
+        }
+        let numbers = self.numbers.as_slice();
+        let excess = self.excess.as_mut_slice();
+        for sight in self.neighbours.sights.iter_mut() {
+            if room_between(numbers, *sight) != 0 {
+                sight.weight = 0;
+            } else if sight.weight != 0 {
+                let units = sight.weight.min(MAX_PULLS as u32) as i32;
+                add(excess, sight.before, -units);
+                add(excess, sight.behind, units);
+            }
         }
         Ok(())
     }
@@ -104,10 +119,13 @@ impl Pulling {
         Ok(false)
     }
 
-    /// Reaches all rows to which pairs lead, up to the first one that is pulled down.
+    /// Reaches all rows to which pairs lead, up to the first one that is pulled down. From the last row reached it goes on
+    /// first, which finds one after fewer rows than in their order.
     fn spread(&mut self) -> Result<Option<u16>, AllocError> {
-        for place in 0..self.from.len() {
-            let Some(row) = self.reached.get(place).copied() else {
+        self.open.clear();
+        self.open.extend_from_slice(self.reached.as_slice())?;
+        for _ in 0..self.from.len() {
+            let Some(row) = self.open.pop() else {
                 break;
             };
             if let Some(target) = self.visit(row)? {
@@ -125,6 +143,7 @@ impl Pulling {
             if let Some(next) = self.next(pair, row) {
                 set(self.from.as_mut_slice(), next, pair);
                 self.reached.push(next)?;
+                self.open.push(next)?;
                 if self.excess_at(next) < 0 {
                     return Ok(Some(next));
                 }
@@ -234,8 +253,7 @@ impl Pulling {
 
     /// How far the rows of a pair can come nearer to each other.
     fn room(&self, sight: Sight) -> u32 {
-        let before = self.number_at(sight.before).saturating_add(1);
-        self.number_at(sight.behind).saturating_sub(before)
+        room_between(self.numbers.as_slice(), sight)
     }
 
     fn is_reached(&self, row: u16) -> bool {
@@ -248,10 +266,6 @@ impl Pulling {
 
     fn excess_at(&self, row: u16) -> i32 {
         self.excess.get(usize::from(row)).copied().unwrap_or(0)
-    }
-
-    fn number_at(&self, row: u16) -> u32 {
-        self.numbers.get(usize::from(row)).copied().unwrap_or(0)
     }
 
     /// Lists the numbers of all rows, the least of them as 0.
@@ -281,4 +295,15 @@ fn add(list: &mut [i32], row: u16, amount: i32) {
     if let Some(entry) = list.get_mut(usize::from(row)) {
         *entry = entry.saturating_add(amount);
     }
+}
+
+/// How far the rows of a pair can come nearer to each other with these numbers.
+fn room_between(numbers: &[u32], sight: Sight) -> u32 {
+    let before = number_of(numbers, sight.before).saturating_add(1);
+    number_of(numbers, sight.behind).saturating_sub(before)
+}
+
+/// The number of a row.
+fn number_of(numbers: &[u32], row: u16) -> u32 {
+    numbers.get(usize::from(row)).copied().unwrap_or(0)
 }

@@ -14,11 +14,13 @@ pub struct Row {
     pub high: u16,
 }
 
-/// An edge along the axis, by the rows at its ends.
+/// An edge along the axis, by the rows at its ends. The level on which it runs tells a search where to begin, and what
+/// is found is the same with any level.
 #[derive(Clone, Copy, Debug, PartialEq, Eq)]
 pub struct Edge {
     pub from: u16,
     pub to: u16,
+    pub level: u16,
 }
 
 /// Two rows, of which the first stands before the second on some level, and a weight.

@@ -12,6 +12,7 @@ mod listing;
 mod places;
 mod rows;
 mod scratch;
+mod shortening;
 mod straight;
 mod sweep;
 

@@ -4,6 +4,7 @@ ghost use Rattle.std.specs.Prelude.{◌≡◌, []};
 
 use crate::listing::Bent;
 use crate::rows::Rows;
+use crate::shortening::Shortening;
 use crate::sweep::Sweep;
 use std::alloc::Global;
 
@@ -16,6 +17,7 @@ pub struct Scratch {
     pub(crate) y: Rows,
     pub(crate) bent: Vec<Bent>,
     pub(crate) sweep: Sweep,
+    pub(crate) shortening: Shortening,
 }
 
 impl Scratch {
@@ -28,6 +30,7 @@ impl Scratch {
             y: Rows::empty(alloc),
             bent: Vec::new(alloc),
             sweep: Sweep::empty(alloc),
+            shortening: Shortening::empty(alloc),
         }
     }
 }
