@@ -131,7 +131,7 @@ const DRAWINGS: [(Drawn<'static>, Option<u32>); 10] = [
 /// The total length of the edges with the numbers found, or none where none are found.
 fn least_length_of(alloc: Global, drawn: Drawn<'_>) -> Result<Option<u32>, AllocError> {
     let rows = rows_of(alloc, drawn.rows)?;
-    let edges = edges_of(alloc, drawn.edges)?;
+    let edges = edges_of(alloc, &rows, drawn.edges)?;
     let Some(numbers) = least_numbers(alloc, &rows, &edges)? else {
         return Ok(None);
     };
@@ -139,7 +139,7 @@ fn least_length_of(alloc: Global, drawn: Drawn<'_>) -> Result<Option<u32>, Alloc
 }
 
 /// The total length of edges.
-fn length_of(edges: &[Edge], numbers: &[u16]) -> u32 {
+pub(crate) fn length_of(edges: &[Edge], numbers: &[u16]) -> u32 {
     let mut total: u32 = 0;
     for edge in edges {
         let from = numbers.get(usize::from(edge.from)).copied().unwrap_or(0);

@@ -7,3 +7,5 @@ mod certificates;
 mod least;
 #[cfg(test)]
 mod made;
+#[cfg(test)]
+mod random;

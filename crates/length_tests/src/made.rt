@@ -27,7 +27,7 @@ pub(crate) fn is_certified(
     sights: &[(u16, u16, u32)],
 ) -> Result<bool, AllocError> {
     let rows = rows_of(alloc, drawn.rows)?;
-    let edges = edges_of(alloc, drawn.edges)?;
+    let edges = edges_of(alloc, &rows, drawn.edges)?;
     let weighed = sights_of(alloc, sights)?;
     let mut scratch = Scratch::empty(alloc);
     if numbers.len() != rows.len() || edges.len() > MAX_EDGES || weighed.len() > MAX_SIGHTS {
@@ -48,15 +48,29 @@ pub(crate) fn rows_of(alloc: Global, rows: &[(u16, u16, u16)]) -> Result<Vec<Row
     Ok(made)
 }
 
-pub(crate) fn edges_of(alloc: Global, edges: &[(u16, u16)]) -> Result<Vec<Edge>, AllocError> {
+/// Edges between rows, each on the lowest level that both its rows cross.
+pub(crate) fn edges_of(
+    alloc: Global,
+    rows: &[Row],
+    edges: &[(u16, u16)],
+) -> Result<Vec<Edge>, AllocError> {
     let mut made = Vec::new(alloc);
     for (from, to) in edges {
         made.push(Edge {
             from: *from,
             to: *to,
+            level: low_of(rows, *from).max(low_of(rows, *to)),
         })?;
     }
     Ok(made)
+}
+
+/// The lowest level of a row.
+fn low_of(rows: &[Row], place: u16) -> u16 {
+    match rows.get(usize::from(place)) {
+        Some(row) => row.low,
+        None => 0,
+    }
 }
 
 fn sights_of(alloc: Global, sights: &[(u16, u16, u32)]) -> Result<Vec<Sight>, AllocError> {

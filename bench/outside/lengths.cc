@@ -1,0 +1,63 @@
+// The least total lengths of a thousand random drawings along one axis, each hundred of them added up, a line each; by
+// LEMON's network simplex. Rows keep their order on each level that two of them share, one unit apart at least: the dual
+// of that linear program sends units from rows where more edges begin to those where more end, over each such pair, and
+// as many as can be. Drawings are made as crates/length_tests/src/random.rt makes them.
+#include <algorithm>
+#include <cstdint>
+#include <iostream>
+#include <lemon/list_graph.h>
+#include <lemon/network_simplex.h>
+#include <vector>
+
+struct Random {
+  uint64_t state;
+  int below(int count) {
+    state = state * 6364136223846793005u + 1442695040888963407u;
+    return static_cast<int>((state >> 33) % static_cast<uint64_t>(count));
+  }
+};
+
+struct Row {
+  int low, high;
+};
+
+static bool share_a_level(const Row &one, const Row &other) {
+  return std::max(one.low, other.low) <= std::min(one.high, other.high);
+}
+
+static long least_length(uint64_t drawing) {
+  Random random{drawing};
+  const int count = random.below(30) + 2, levels = random.below(12) + 1;
+  std::vector<Row> rows;
+  for (int r = 0; r < count; ++r) {
+    random.below(3);  // how far behind the row before it is drawn
+    const int low = random.below(levels);
+    rows.push_back({low, std::min(low + random.below(levels), levels - 1)});
+  }
+  lemon::ListDigraph graph;
+  std::vector<lemon::ListDigraph::Node> nodes;
+  for (int r = 0; r < count; ++r) nodes.push_back(graph.addNode());
+  lemon::ListDigraph::NodeMap<long> supply(graph, 0);
+  lemon::ListDigraph::ArcMap<long> cost(graph, -1);
+  for (int tried = 0; tried < 2 * count; ++tried) {
+    const int one = random.below(count), other = random.below(count);
+    if (one == other || !share_a_level(rows[one], rows[other])) continue;
+    ++supply[nodes[std::min(one, other)]];
+    --supply[nodes[std::max(one, other)]];
+  }
+  for (int r = 0; r < count; ++r)
+    for (int s = r + 1; s < count; ++s)
+      if (share_a_level(rows[r], rows[s])) cost[graph.addArc(nodes[r], nodes[s])] = -1;
+  lemon::NetworkSimplex<lemon::ListDigraph, long, long> simplex(graph);
+  simplex.costMap(cost).supplyMap(supply);
+  if (simplex.run() != simplex.OPTIMAL) throw std::runtime_error("no least length");
+  return -simplex.totalCost<long>();
+}
+
+int main() {
+  for (uint64_t first = 0; first < 1000; first += 100) {
+    long total = 0;
+    for (uint64_t drawing = first; drawing < first + 100; ++drawing) total += least_length(drawing);
+    std::cout << total << "\n";
+  }
+}
