@@ -19,6 +19,51 @@ const PATH_OF_3: [u8; 8] = [3, 2, 0, 1, 3, 0, 2, 0];
 
 const PATH_OF_5: [u8; 14] = [5, 2, 0, 1, 3, 0, 2, 4, 0, 3, 5, 0, 4, 0];
 
+/// A box, and on its sides and within it paths of two edges from the left and the right side and from the top. Its
+/// vertices, clockwise around each other, are
+///
+/// ```text
+/// 5    6--------5--------4
+/// 4    7        |        |
+/// 3    8        |        |
+/// 2    9        15       |
+/// 1    10-11-12 16 14-13-3
+/// 0    1-----------------2
+/// ```
+///
+/// The upper path is in no other's way on levels 3 and 4, and then is as short as it can be: 2. Only with it there the box
+/// can be 5 wide, and not less for the four vertices between its sides on level 1.
+const BOX_OF_PATHS: [u8; 49] = [
+    16, 10, 2, 0, 3, 1, 0, 4, 2, 13, 0, 3, 5, 0, 4, 15, 6, 0, 5, 7, 0, 6, 8, 0, 7, 9, 0, 8, 10, 0,
+    9, 11, 1, 0, 12, 10, 0, 11, 0, 3, 14, 0, 13, 0, 5, 16, 0, 15, 0,
+];
+
+/// The box, 6 wide.
+const BOXED: Figure = (
+    &[
+        (0, 0),
+        (6, 0),
+        (6, 1),
+        (6, 5),
+        (3, 5),
+        (0, 5),
+        (0, 4),
+        (0, 3),
+        (0, 2),
+        (0, 1),
+        (1, 1),
+        (2, 1),
+        (5, 1),
+        (4, 1),
+        (3, 2),
+        (3, 1),
+    ],
+    &[&[]; 16],
+);
+
+/// The least length of its edges: twice 5 for the width, twice 5 for the height, and 2 for each path.
+const BOX_LENGTH: u32 = 26;
+
 /// The corners of four edges without any.
 const NONE: [&[Place]; 4] = [&[]; 4];
 
@@ -183,6 +228,18 @@ fn vertex_of(points: &Points, vertex: u8) -> Point {
         Some(point) => *point,
         None => Point { x: 0, y: 0 },
     }
+}
+
+/// First the path from the top becomes shorter, and then the box narrower, by rows that move together.
+#[test]
+fn boxes_are_shortened_along_both_axes(rt: HostRuntime) {
+    let alloc = rt.alloc();
+    let mut lent = Scratch::empty(alloc);
+    let plane = plane_of(&rt, alloc, &BOX_OF_PATHS);
+    let points = points_in(alloc, BOXED).expect(&rt, "memory");
+    let found = compacted(&rt, alloc, &mut lent, &plane, &points).expect(&rt, "memory");
+    let shortest = found.expect(&rt, "shorter edges");
+    same(&rt, length_of(&plane, &shortest), BOX_LENGTH);
 }
 
 /// The memory that the tests lend.
