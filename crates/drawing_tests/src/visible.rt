@@ -38,6 +38,9 @@ const BOX_OF_PATHS: [u8; 49] = [
     9, 11, 1, 0, 12, 10, 0, 11, 0, 3, 14, 0, 13, 0, 5, 16, 0, 15, 0,
 ];
 
+/// The corners of its edges, none.
+const STRAIGHT: [&[Place]; 16] = [&[]; 16];
+
 /// The box, 6 wide.
 const BOXED: Figure = (
     &[
@@ -58,7 +61,7 @@ const BOXED: Figure = (
         (3, 2),
         (3, 1),
     ],
-    &[&[]; 16],
+    &STRAIGHT,
 );
 
 /// The least length of its edges: twice 5 for the width, twice 5 for the height, and 2 for each path.
