@@ -350,6 +350,62 @@ fn edge_at_last(rt: &impl Abort, alloc: Global, figure: Figure) -> Option<Option
     Some(compacted_at_last(rt, alloc, &plane, &points))
 }
 
+/// How many corners the stairs have. With them there are enough rows that these fall and are set apart.
+const STAIRS: u32 = 40;
+
+/// The corner with this number of an edge that goes up stairs of this size, first to the right.
+fn stair(number: u32, size: u32) -> Point {
+    let step = number / 2;
+    let rise = step.saturating_add(number % 2);
+    Point {
+        x: step.saturating_add(1).saturating_mul(size),
+        y: rise.saturating_mul(size),
+    }
+}
+
+/// Where it ends.
+fn landing(size: u32) -> Point {
+    Point {
+        x: (STAIRS / 2 + 1).saturating_mul(size),
+        y: (STAIRS / 2).saturating_mul(size),
+    }
+}
+
+/// The points of the edge up stairs of this size.
+fn stairs(alloc: Global, size: u32) -> Result<Points, AllocError> {
+    let mut vertices = Vec::new(alloc);
+    vertices.push(Point { x: 0, y: 0 })?;
+    vertices.push(landing(size))?;
+    let mut corners = Vec::new(alloc);
+    for number in 0..STAIRS {
+        corners.push(stair(number, size))?;
+    }
+    let mut lists = Vec::new(alloc);
+    lists.push(corners)?;
+    Ok(Points::new(vertices, lists))
+}
+
+/// Whether these points are those of stairs of size 1.
+fn are_small_stairs(points: &Points) -> bool {
+    if points.vertices().get(1) != Some(&landing(1)) || points.edge_count() == 0 {
+        return false;
+    }
+    let corners = points.corners(0);
+    for number in 0..STAIRS {
+        if corners.get(number as usize) != Some(&stair(number, 1)) {
+            return false;
+        }
+    }
+    true
+}
+
+/// What compaction makes of stairs of size 3, if memory suffices for them, in the first of two calls or in the second.
+fn stairs_at_last(rt: &impl Abort, alloc: Global) -> Option<Option<Points>> {
+    let points = stairs(alloc, 3).ok()?;
+    let plane = plane_in(alloc, &EDGE)?;
+    Some(compacted_at_last(rt, alloc, &plane, &points))
+}
+
 /// `checks/refuse-allocations` refuses each allocation of this test in turn: a second call in the same memory answers as
 /// without the refusal. Where a refusal comes before the call, the test ends.
 #[test]
@@ -357,5 +413,8 @@ fn refused_allocations(rt: HostRuntime) {
     let (_, figure, want) = BY_HAND[1];
     if let Some(found) = edge_at_last(&rt, rt.alloc(), figure) {
         same(&rt, is_wanted(found.as_ref(), Some(want)), true);
+    }
+    if let Some(found) = stairs_at_last(&rt, rt.alloc()) {
+        same(&rt, found.as_ref().is_some_and(are_small_stairs), true);
     }
 }

@@ -54,6 +54,13 @@ impl Pulling {
             return Ok(false);
         }
         self.begin(rows, edges)?;
+        if self.excess.iter().all(|units| *units == 0) {
+            return Ok(true);
+        }
+        self.neighbours.list_pairs(rows.len())?;
+        self.from.clear();
+        self.from.resize(rows.len(), UNREACHED)?;
+        self.reached.clear();
         for source in 0..rows.len() as u16 {
             for _ in 0..MAX_PULLS {
                 if self.excess_at(source) <= 0 {
@@ -71,20 +78,17 @@ impl Pulling {
     /// that are next to each other. No other pair has a weight then.
     fn begin(&mut self, rows: &[Row], edges: &[Edge]) -> Result<(), AllocError> {
         self.numbers.clear();
-        self.from.clear();
         self.excess.clear();
-        self.reached.clear();
         for row in rows {
             self.numbers.push(u32::from(row.number))?;
         }
-        self.from.resize(rows.len(), UNREACHED)?;
         self.excess.resize(rows.len(), 0)?;
-        for edge in edges {
-            add(self.excess.as_mut_slice(), edge.from, 1);
-            add(self.excess.as_mut_slice(), edge.to, -1);
-        }
         let numbers = self.numbers.as_slice();
         let excess = self.excess.as_mut_slice();
+        for edge in edges {
+            add(excess, edge.from, 1);
+            add(excess, edge.to, -1);
+        }
         for sight in self.neighbours.sights.iter_mut() {
             if room_between(numbers, *sight) != 0 {
                 sight.weight = 0;
