@@ -193,26 +193,24 @@ fn mark_next(
 }
 
 /// Marks the rows along both axes. The two walks go side by side, since each step of a walk waits for the one before.
-fn mark_both(
-    around: &[u32],
-    x_firsts: &[u32],
-    x_rows: &mut [u32],
-    x_waits: &mut [u32],
-    y_firsts: &[u32],
-    y_rows: &mut [u32],
-    y_waits: &mut [u32],
-)
-    requires count { length around.now ≡ 4 * length x_rows.old }
-    requires same { length y_rows.old ≡ length x_rows.old }
-    requires x_firsts { AreVertices (length x_rows.old) x_firsts.now }
-    requires y_firsts { AreVertices (length y_rows.old) y_firsts.now }
-    requires x_waits { length x_waits.old ≡ length x_rows.old }
-    requires y_waits { length y_waits.old ≡ length y_rows.old }
-    requires x_rows { AreRows (step around.now 1) (length x_rows.old) x_rows.old }
-    requires y_rows { AreRows (step around.now 2) (length y_rows.old) y_rows.old }
-    ensures x_rows { AreRows (step around.now 1) (length x_rows.old) x_rows.new }
-    ensures y_rows { AreRows (step around.now 2) (length y_rows.old) y_rows.new }
+fn mark_both(around: &[u32], x: &mut RowQueue, y: &mut RowQueue)
+    requires count { length around.now ≡ 4 * length x.old.rows.items }
+    requires same { length y.old.rows.items ≡ length x.old.rows.items }
+    requires x_firsts { AreVertices (length x.old.rows.items) x.old.firsts.items }
+    requires y_firsts { AreVertices (length x.old.rows.items) y.old.firsts.items }
+    requires x_waits { length x.old.waits.items ≡ length x.old.rows.items }
+    requires y_waits { length y.old.waits.items ≡ length y.old.rows.items }
+    requires x_rows { AreRows (step around.now 1) (length x.old.rows.items) x.old.rows.items }
+    requires y_rows { AreRows (step around.now 2) (length y.old.rows.items) y.old.rows.items }
+    ensures x_rows { AreRows (step around.now 1) (length x.old.rows.items) x.new.rows.items }
+    ensures y_rows { AreRows (step around.now 2) (length y.old.rows.items) y.new.rows.items }
 {
+    let x_firsts = x.firsts.as_slice();
+    let x_rows = x.rows.as_mut_slice();
+    let x_waits = x.waits.as_mut_slice();
+    let y_firsts = y.firsts.as_slice();
+    let y_rows = y.rows.as_mut_slice();
+    let y_waits = y.waits.as_mut_slice();
     if x_rows.is_empty() {
         return;
     }
@@ -252,46 +250,56 @@ pub fn find_rows(around: &[u32], vertices: u32, queues: &mut RowQueues) -> Resul
     let RowQueues { x, y } = queues;
     x.begin(Steps::east(around), vertices)?;
     y.begin(Steps::north(around), vertices)?;
-    mark_both(
-        around,
-        x.firsts.as_slice(),
-        x.rows.as_mut_slice(),
-        x.waits.as_mut_slice(),
-        y.firsts.as_slice(),
-        y.rows.as_mut_slice(),
-        y.waits.as_mut_slice(),
-    );
+    mark_both(around, x, y);
     Ok(())
 }
 
-/// Puts a row behind the rows of the queue, if it is to come now, and says how many there are then. The place behind them is
-/// written in any case: which rows come cannot be foreseen, so no branch is to hang on it.
-fn put_last(line: &mut [u32], count: usize, first: u32, comes: bool) -> usize {
-    if count >= line.len() {
-        return count;
-    }
-    line[count] = first;
-    count + usize::from(comes)
+/// The rows in the order in which they come, while numbers are raised.
+#[derive(Drop)]
+struct Line<'a> {
+    /// How many steps to a row are still to come, at the place of its first vertex.
+    waits: &'a mut [u32],
+    /// The first vertices of the rows that have come, and others behind them.
+    firsts: &'a mut [u32],
+    /// How many have come.
+    count: usize,
 }
 
-/// Counts off one step to the row with this first vertex, which comes into the queue with the last one.
-fn count_off(waits: &mut [u32], line: &mut [u32], count: usize, first: u32) -> usize {
-    let Some(wait) = waits.get_mut(first as usize) else {
-        return count;
-    };
-    *wait = wait.wrapping_sub(1);
-    let comes = *wait == 0;
-    put_last(line, count, first, comes)
-}
-
-/// Puts the rows to which no step leads into the queue, and says how many they are.
-fn begin_line(firsts: &[u32], rows: usize, waits: &[u32], line: &mut [u32]) -> usize {
-    let mut count = 0;
-    for first in firsts.iter().take(rows) {
-        let comes = waits.get(*first as usize).copied() == Some(0);
-        count = put_last(line, count, *first, comes);
+impl Line<'_> {
+    /// The first vertex of the row at this place, or out of range where it has not come.
+    fn row_at(&self, at: usize) -> u32 {
+        match self.firsts.get(at) {
+            Some(first) if at < self.count => *first,
+            _ => NO_VERTEX,
+        }
     }
-    count
+
+    /// Puts a row behind the others, if it is to come now. The place behind them is written in any case: which rows come
+    /// cannot be foreseen, so no branch is to hang on it.
+    fn put_last(&mut self, first: u32, comes: bool) {
+        if self.count < self.firsts.len() {
+            self.firsts[self.count] = first;
+            self.count += usize::from(comes);
+        }
+    }
+
+    /// Puts the rows to which no step leads, among so many, behind the others.
+    fn begin(&mut self, firsts: &[u32], rows: usize) {
+        for first in firsts.iter().take(rows) {
+            let comes = self.waits.get(*first as usize).copied() == Some(0);
+            self.put_last(*first, comes);
+        }
+    }
+
+    /// Counts off one step to the row with this first vertex, which comes with the last one.
+    fn count_off(&mut self, first: u32) {
+        let Some(wait) = self.waits.get_mut(first as usize) else {
+            return;
+        };
+        *wait = wait.wrapping_sub(1);
+        let comes = *wait == 0;
+        self.put_last(first, comes);
+    }
 }
 
 /// Raises the number of the row of the next vertex along the axis, if there is one, to that of the row of a
@@ -316,17 +324,9 @@ fn raise(around: &[u32], ahead: u8, rows: &[u32], vertex: u32, numbers: &mut [u1
     Some(row)
 }
 
-/// Walks along a row from its first vertex, and raises the numbers of the rows that come next along the axis. The queue has
-/// `count` rows before; how many it has then is given back.
-fn pass_row(
-    steps: Steps<'_>,
-    first: u32,
-    rows: &[u32],
-    waits: &mut [u32],
-    line: &mut [u32],
-    count: usize,
-    numbers: &mut [u16],
-) -> usize
+/// Walks along a row from its first vertex, raises the numbers of the rows that come next along the axis, and counts off
+/// the steps to them.
+fn pass_row(steps: Steps<'_>, first: u32, rows: &[u32], line: &mut Line<'_>, numbers: &mut [u16])
     requires ways { (steps.ahead < 4) × (steps.left < 4) }
     requires first { first < length numbers.old }
     requires count { length steps.around.now ≡ 4 * length numbers.old }
@@ -334,19 +334,17 @@ fn pass_row(
     ensures under { StayUnder (step steps.entry.around.now steps.entry.ahead) (length numbers.old) rows.now numbers.old numbers.new }
     ensures count { length numbers.new ≡ length numbers.old }
 {
-    let mut count = count;
     let mut vertex = first;
     for _ in 0..numbers.len() {
         if let Some(row) = raise(steps.around, steps.ahead, rows, vertex, numbers) {
-            count = count_off(waits, line, count, row);
+            line.count_off(row);
         }
         let next = steps.around[4 * vertex as usize + usize::from(steps.left)];
         if next as usize >= numbers.len() {
-            return count;
+            return;
         }
         vertex = next;
     }
-    count
 }
 
 /// Gives each vertex the number of its row.
@@ -370,18 +368,18 @@ pub fn raise_rows(queue: &mut RowQueue, steps: Steps<'_>, numbers: &mut [u16])
     ensures count { length numbers.new ≡ length numbers.old }
 {
     let rows = queue.rows.as_slice();
-    let waits = queue.waits.as_mut_slice();
-    let line = queue.line.as_mut_slice();
-    let mut count = begin_line(queue.firsts.as_slice(), queue.count, waits, line);
+    let mut line = Line {
+        waits: queue.waits.as_mut_slice(),
+        firsts: queue.line.as_mut_slice(),
+        count: 0,
+    };
+    line.begin(queue.firsts.as_slice(), queue.count);
     for at in 0..numbers.len() {
-        let first = match line.get(at) {
-            Some(first) if at < count => *first,
-            _ => NO_VERTEX,
-        };
+        let first = line.row_at(at);
         if first as usize >= numbers.len() {
             break;
         }
-        count = pass_row(steps, first, rows, waits, line, count, numbers);
+        pass_row(steps, first, rows, &mut line, numbers);
     }
     spread(rows, numbers);
 }

@@ -15,8 +15,8 @@ loop-at-preserved c =
     let ahead = step c.args.steps.around.now c.args.steps.ahead in
     record {
       under = λ y grow level under.
-          under_at ahead _ _ _ _ _ c.loop-at.invariant.count c.pass_row-count.ensures.under y grow (c.loop-at.invariant.rows.level y level) (c.loop-at.invariant.under y grow level under);
-      count = c.pass_row-count.ensures.count ∙ c.loop-at.invariant.count;
+          under_at ahead _ _ _ _ _ c.loop-at.invariant.count c.pass_row.ensures.under y grow (c.loop-at.invariant.rows.level y level) (c.loop-at.invariant.under y grow level under);
+      count = c.pass_row.ensures.count ∙ c.loop-at.invariant.count;
       rows = c.loop-at.invariant.rows;
     }
 
