@@ -6,4 +6,4 @@ mod lines;
 mod objects;
 mod put;
 
-pub use lines::{end_line, entry_line, lacking_line, laid_line};
+pub use lines::{LaidGraph, end_line, entry_line, lacking_line, laid_line};

@@ -46,7 +46,17 @@ pub fn entry_line(
             shape,
             prices,
             drawing,
-        } => laid_line(alloc, file, graph, plane, shape, prices, drawing),
+        } => laid_line(
+            alloc,
+            file,
+            graph,
+            LaidGraph {
+                plane,
+                shape,
+                prices,
+                drawing,
+            },
+        ),
         Answer::Refused(rule) => refused_line(alloc, file, graph, *rule),
         Answer::NoMemory => lacking_line(alloc, file, graph),
     }
@@ -82,8 +92,18 @@ fn refused_line(alloc: Global, file: u32, graph: u64, rule: Rule) -> Result<Vec<
     ended(out)
 }
 
-/// The line of a graph that breaks no rule, of which these are a shape, prices and a drawing or the cause
-/// in its place, with the byte 0A at its end. It takes a few allocations.
+/// What a line tells of a graph that breaks no rule.
+#[derive(Clone, Copy)]
+pub struct LaidGraph<'a> {
+    pub plane: &'a Plane,
+    /// A shape of the plane.
+    pub shape: &'a Shape,
+    pub prices: &'a Prices,
+    /// A drawing, or the cause in its place.
+    pub drawing: &'a Result<Drawing, Cause>,
+}
+
+/// The line of a graph that breaks no rule, with the byte 0A at its end. It takes a few allocations.
 ///
 /// # Errors
 ///
@@ -92,16 +112,19 @@ pub fn laid_line(
     alloc: Global,
     file: u32,
     graph: u64,
-    plane: &Plane,
-    shape: &Shape,
-    prices: &Prices,
-    drawing: &Result<Drawing, Cause>,
+    laid: LaidGraph<'_>,
 ) -> Result<Vec<u8>, AllocError>
-    requires darts { HasDarts plane.now shape.now }
-    requires prices { HasPrices plane.now prices.now }
+    requires darts { HasDarts laid.plane.now laid.shape.now }
+    requires prices { HasPrices laid.plane.now laid.prices.now }
     ensures { IfOk result (λ line.
-        line.items ≡ line_of (laid_data file graph plane.now shape.now prices.now drawing.now)) }
+        line.items ≡ line_of (laid_data file graph laid.entry.plane.now laid.entry.shape.now laid.entry.prices.now laid.entry.drawing.now)) }
 {
+    let LaidGraph {
+        plane,
+        shape,
+        prices,
+        drawing,
+    } = laid;
     let room = LAID_ROOM + DART_ROOM * usize::from(plane.graph().darts());
     let mut out = Writer::new(Vec::with_capacity(alloc, room)?);
     put::begin_object(&mut out)?;

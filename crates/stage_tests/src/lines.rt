@@ -6,7 +6,7 @@ use answers::Cause;
 use drawing_check::{Drawing, check};
 use embedding::Graph;
 use faces::Plane;
-use json_lines::{end_line, laid_line};
+use json_lines::{LaidGraph, end_line, laid_line};
 use ortho_rep::{Point, Points, Prices, Shape, Turn, certify, is_shape};
 use std::alloc::{AllocError, Global};
 use std::process::Abort;
@@ -87,7 +87,13 @@ fn triangle_line(
     if !is_shape(plane, shape) || !certify(plane, shape, &prices) {
         return None;
     }
-    laid_line(alloc, 3, 7, plane, shape, &prices, drawing).ok()
+    let laid = LaidGraph {
+        plane,
+        shape,
+        prices: &prices,
+        drawing,
+    };
+    laid_line(alloc, 3, 7, laid).ok()
 }
 
 /// The line of the triangle without a drawing has this word in its place.

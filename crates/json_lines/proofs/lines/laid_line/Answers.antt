@@ -12,17 +12,17 @@ use Rattle.json_lines.proofs.lines.laid_line.Goals as goal
 
 pub returns : goal.returns
 returns c =
-    let plane = c.args.plane.now in
-    let shape = c.args.shape.now in
+    let plane = c.args.laid.plane.now in
+    let shape = c.args.laid.shape.now in
     let angles : List Token = tokens_of (array_of natural shape.angles) in
     let bends : List Token = key (codes "bends") ∷ (tokens_of (natural (bends_of (length shape.strings) (turns_at shape))) ++ key (codes "drawn") ∷ []) in
-    let drawn : List Token = tokens_of (drawn_data c.args.drawing.now) in
+    let drawn : List Token = tokens_of (drawn_data c.args.laid.drawing.now) in
     let faces : List Token = key (codes "f") ∷ tokens_of (natural plane.faces) in
     let shape_tokens : List Token = key (codes "angles") ∷ (angles ++ (bends ++ (drawn ++ faces))) in
     let place : List Token = key (codes "file") ∷ (tokens_of (natural c.args.file) ++ key (codes "graph") ∷ tokens_of (natural c.args.graph)) in
     let sizes : List Token = key (codes "m") ∷ (tokens_of (natural (darts plane / 2)) ++ key (codes "n") ∷ tokens_of (natural (vertices plane))) in
-    let points : List Token = key (codes "points") ∷ tokens_of (points_data (darts plane / 2) c.args.drawing.now) in
-    let prices : List Token = key (codes "prices") ∷ tokens_of (prices_data c.args.prices.now) in
+    let points : List Token = key (codes "points") ∷ tokens_of (points_data (darts plane / 2) c.args.laid.drawing.now) in
+    let prices : List Token = key (codes "prices") ∷ tokens_of (prices_data c.args.laid.prices.now) in
     let end : List Token = key (codes "status") ∷ (tokens_of (string (codes "ok")) ++ key (codes "turns") ∷ (tokens_of (array_of turns_data shape.strings) ++ end_object ∷ [])) in
     let darts_too : 2 * c.edges.result ≡ darts plane = c.edges.ensures.count ∙ ap dart_count c.graph-2.ensures.value in
     let edges : c.edges.result ≡ darts plane / 2 = omega arith in
@@ -36,6 +36,6 @@ returns c =
     (then c.put_drawing.new.out c.put_prices.new.out last prices end c.in_ok-put_prices.ensures c.in_ok-put_end.ensures))) in
     let whole = then c.new-out.result c.begin_object.new.out last (begin_object ∷ []) (shape_tokens ++ rest) c.in_ok-begin_object.ensures
     (then c.begin_object.new.out c.put_shape.new.out last shape_tokens rest c.in_ok-put_shape.ensures behind) in
-    c.ended.ensures (laid_data c.args.file c.args.graph plane shape c.args.prices.now c.args.drawing.now) (
+    c.ended.ensures (laid_data c.args.file c.args.graph plane shape c.args.laid.prices.now c.args.laid.drawing.now) (
     whole.1 ∙ ap (λ (ts : List Token). ts ++ begin_object ∷ (shape_tokens ++ rest)) c.new-out.ensures.tokens
     ∙ ap (λ (ts : List Token). begin_object ∷ key (codes "angles") ∷ ts) (shape_first angles bends drawn faces rest))
