@@ -2,32 +2,14 @@
 //! format and of the report.
 
 use crate::shared::{
-    EDGE, HEADER, Narrow, TRIANGLE, check_failed_write, check_help, check_refused, check_rows,
-    copies, expect_texts, make_file, names_no_run, run, run_narrow, same,
+    Case, EDGE, HEADER, Narrow, Ran, Row, TRIANGLE, check_failed_write, check_rows, check_said,
+    check_wants, expect_texts, make_file, run, run_narrow, same, words_for,
 };
 use program_io::{Fault, write_fault};
 use std::alloc::{AllocError, Global};
+use std::fs;
 use std::process::Abort;
-use std::rt::Files;
-use std::sync::Wait;
-use std::thread::Threads;
-use std::{fs, io};
 use streams::{BatchFault, IoSink, WriteFault};
-
-/// Runs `frames` on a file of these parts, and looks at the report and the status.
-fn check_parts<R: Files + AllocGlobal + Threads + Wait + Sync + Abort>(
-    rt: &R,
-    parts: &[&[u8]],
-    report: &str,
-    status: u8,
-)
-where
-    R::File: Send,
-    R::Dir: Send,
-{
-    make_file(rt, "case.pc", parts);
-    check_rows(rt, &[(&["frames", "case.pc"], report, status)]);
-}
 
 /// Parts of a file, the report and the status.
 const FILES: [(&[&[u8]], &str, u8); 10] = [
@@ -62,25 +44,9 @@ const FILES: [(&[&[u8]], &str, u8); 10] = [
 #[test]
 fn reports_records_and_the_ending(rt: HostRuntime) {
     for (parts, report, status) in FILES {
-        check_parts(&rt, parts, report, status);
+        make_file(&rt, "case.pc", parts);
+        check_rows(&rt, &[("frames case.pc", report, status)]);
     }
-}
-
-/// Runs `frames` on a file of these bytes, and looks at the end of the report and at the status.
-fn check_end<R: Files + AllocGlobal + Threads + Wait + Sync + Abort>(
-    rt: &R,
-    bytes: &[u8],
-    end: &str,
-    status: u8,
-)
-where
-    R::File: Send,
-    R::Dir: Send,
-{
-    fs::write(rt, "million.pc", bytes).expect(rt, "a file");
-    let ran = run(rt, &["frames", "million.pc"]).expect(rt, "memory");
-    let is_end = ran.out.as_slice().ends_with(end.as_bytes());
-    same(rt, (is_end, ran.status), (true, status));
 }
 
 /// The header and a million records of one vertex.
@@ -92,36 +58,43 @@ fn million_records(alloc: Global) -> Result<Vec<u8>, AllocError> {
     Ok(bytes)
 }
 
+/// The end of a run's report, and its status.
+fn expect_end(rt: &impl Abort, ran: &Ran<Vec<u8>>, end: &[u8], status: u8) {
+    let is_end = ran.out.as_slice().ends_with(end);
+    same(rt, (is_end, ran.status), (true, status));
+}
+
 #[test]
 fn stops_after_a_million_records(rt: HostRuntime) {
-    let mut bytes = million_records(rt.alloc()).expect(&rt, "memory");
-    let complete = "\nrecord 1000000 n=1 bytes=2\nend complete records=1000000\n";
-    check_end(&rt, bytes.as_slice(), complete, 0);
-    bytes.push(1).expect(&rt, "memory");
-    let many = "\nrecord 1000000 n=1 bytes=2\nend many records=1000000\n";
-    check_end(&rt, bytes.as_slice(), many, 3);
+    let bytes = million_records(rt.alloc()).expect(&rt, "memory");
+    make_file(&rt, "million.pc", &[bytes.as_slice()]);
+    let complete = b"\nrecord 1000000 n=1 bytes=2\nend complete records=1000000\n";
+    expect_end(&rt, &run(&rt, "frames million.pc"), complete, 0);
+    make_file(&rt, "million.pc", &[bytes.as_slice(), &[1]]);
+    let many = b"\nrecord 1000000 n=1 bytes=2\nend many records=1000000\n";
+    expect_end(&rt, &run(&rt, "frames million.pc"), many, 3);
 }
+
+const UNREAD: &str = "end io records=0\n";
+
+const CANNOT_BE_READ: [Row; 3] = [
+    ("frames frames_folder", UNREAD, 3),
+    ("frames missing.pc", UNREAD, 3),
+    ("frames frames_folder/missing.pc", UNREAD, 3),
+];
 
 #[test]
 fn marks_what_cannot_be_read(rt: HostRuntime) {
     fs::create_dir_all(&rt, "frames_folder").expect(&rt, "a folder");
-    let unread = "end io records=0\n";
-    check_rows(
-        &rt,
-        &[
-            (&["frames", "frames_folder"], unread, 3),
-            (&["frames", "missing.pc"], unread, 3),
-            (&["frames", "frames_folder/missing.pc"], unread, 3),
-        ],
-    );
+    check_rows(&rt, &CANNOT_BE_READ);
 }
 
 /// Command lines that are refused, and a text in what is said of each.
-const REFUSED: [(&[&str], &str); 4] = [
-    (&[], "Usage: planarbend <COMMAND>\n"),
-    (&["bend"], "error: unrecognized subcommand 'bend'\n"),
-    (&["frames"], "were not provided:\n  <FILE>\n"),
-    (&["frames", "a", "b"], "unexpected argument 'b' found\n"),
+const REFUSED: [(&str, &str); 4] = [
+    ("", "Usage: planarbend <COMMAND>\n"),
+    ("bend", "error: unrecognized subcommand 'bend'\n"),
+    ("frames", "were not provided:\n  <FILE>\n"),
+    ("frames a b", "unexpected argument 'b' found\n"),
 ];
 
 const ONE: &str = "Example:\n  planarbend frames examples/two.pc\n";
@@ -129,33 +102,47 @@ const ONE: &str = "Example:\n  planarbend frames examples/two.pc\n";
 const ALL: &str = "Examples:\n  planarbend layout examples/two.pc\n";
 
 /// Ways to ask for help, and a text in it.
-const HELP: [(&[&str], &str); 4] = [
-    (&["frames", "--help"], ONE),
-    (&["help", "frames"], ONE),
-    (&["--help", "frames"], ALL),
-    (&["--help", "layout"], ALL),
+const HELP: [(&str, &str); 4] = [
+    ("frames --help", ONE),
+    ("help frames", ONE),
+    ("--help frames", ALL),
+    ("--help layout", ALL),
 ];
 
 #[test]
 fn answers_command_lines(rt: HostRuntime) {
-    check_refused(&rt, &REFUSED);
-    check_help(&rt, &HELP);
+    check_said(&rt, &REFUSED, 2);
+    check_said(&rt, &HELP, 0);
 }
+
+const REPORT: &str = "record 1 n=2 bytes=5\nend complete records=1\n";
+
+/// `frames` on a file of one edge.
+const ONE_EDGE: Case = Case {
+    line: "frames case.pc",
+    file: "case.pc",
+    parts: &[HEADER, EDGE],
+    report: REPORT,
+    wants: &[b"end memory records=0\n"],
+    may_begin: false,
+};
 
 #[test]
 fn names_a_failed_write(rt: HostRuntime) {
-    let words = words_for(&rt).expect(&rt, "a file");
+    let words = words_for(&rt, &ONE_EDGE).expect(&rt, "a file");
     for room in 0..REPORT.len() {
-        check_failed_write(&rt, words.as_slice(), &REPORT[..room]);
+        check_failed_write(&rt, words.as_slice(), &REPORT.as_bytes()[..room]);
     }
     let ran = run_narrow(&rt, words.as_slice(), 64, 0);
-    expect_texts(&rt, &ran, 0, REPORT, b"");
+    expect_texts(&rt, &ran, 0, REPORT.as_bytes(), b"");
     same(&rt, run_narrow(&rt, words.as_slice(), 0, 0).status, 1);
 }
 
+const MEMORY: &[u8] = b"planarbend: out of memory\n";
+
 /// Each fault, its line and its status.
 const FAULTS: [(Fault, &[u8], u8); 9] = [
-    (Fault::Memory, b"planarbend: out of memory\n", 1),
+    (Fault::Memory, MEMORY, 1),
     (Fault::NotText, b"planarbend: arguments are not text\n", 2),
     (
         Fault::Run(BatchFault::TooManyFiles),
@@ -167,11 +154,7 @@ const FAULTS: [(Fault, &[u8], u8); 9] = [
         b"planarbend: lanes must be 1 to 8\n",
         2,
     ),
-    (
-        Fault::Run(BatchFault::Memory),
-        b"planarbend: out of memory\n",
-        1,
-    ),
+    (Fault::Run(BatchFault::Memory), MEMORY, 1),
     (
         Fault::Run(BatchFault::LaneLost),
         b"planarbend: a lane was lost\n",
@@ -187,11 +170,7 @@ const FAULTS: [(Fault, &[u8], u8); 9] = [
         b"planarbend: write failed\n",
         1,
     ),
-    (
-        Fault::Write(WriteFault::Memory),
-        b"planarbend: out of memory\n",
-        1,
-    ),
+    (Fault::Write(WriteFault::Memory), MEMORY, 1),
 ];
 
 /// The line of a fault.
@@ -210,35 +189,7 @@ fn tells_each_fault_in_a_line(rt: HostRuntime) {
     }
 }
 
-/// With each allocation refused in turn, the run ends in an answer that names it.
 #[test]
 fn names_want_of_memory(rt: HostRuntime) {
-    let Ok(words) = words_for(&rt) else {
-        return;
-    };
-    let ran = run_narrow(&rt, words.as_slice(), 64, 64);
-    same(
-        &rt,
-        is_allowed(ran.status, ran.out.text(), ran.err.text()),
-        true,
-    );
-}
-
-const REPORT: &[u8] = b"record 1 n=2 bytes=5\nend complete records=1\n";
-
-const NO_FRAMER: &[u8] = b"end memory records=0\n";
-
-/// Whether a run gave the whole report, or said what found no memory.
-fn is_allowed(status: u8, out: &[u8], err: &[u8]) -> bool {
-    match status {
-        0 => out == REPORT && err.is_empty(),
-        1 => out.is_empty() && names_no_run(err),
-        3 => out == NO_FRAMER && err.is_empty(),
-        _ => false,
-    }
-}
-
-fn words_for<R: Files + AllocGlobal>(rt: &R) -> io::Result<Vec<String>> {
-    fs::write(rt, "case.pc", [HEADER, EDGE].concat(rt.alloc())?.as_slice())?;
-    Ok(copies(rt.alloc(), &["frames", "case.pc"])?)
+    check_wants(&rt, &ONE_EDGE);
 }

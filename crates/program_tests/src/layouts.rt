@@ -2,15 +2,15 @@
 //! the format and of the report.
 
 use crate::shared::{
-    EDGE, HEADER, Ran, Row, TRIANGLE, check_failed_write, check_help, check_refused, check_rows,
-    copies, holds, make_file, names_no_run, run, run_narrow, same, write_parts,
+    Case, EDGE, HEADER, Ran, Row, TRIANGLE, check_failed_write, check_rows, check_said,
+    check_wants, expect_report, holds, make_file, run, same, words_for,
 };
 use std::alloc::{AllocError, Global};
+use std::fs;
 use std::process::Abort;
 use std::rt::Files;
 use std::sync::Wait;
 use std::thread::Threads;
-use std::{fs, io};
 
 /// What is said of an edge and a triangle in two files.
 const TWICE: &str = "file 1\n\
@@ -25,100 +25,86 @@ const TWICE: &str = "file 1\n\
 #[test]
 fn reports_each_file(rt: HostRuntime) {
     make_file(&rt, "two.pc", &[HEADER, EDGE, TRIANGLE]);
-    check_rows(&rt, &[(&["layout", "two.pc", "two.pc"], TWICE, 0)]);
+    check_rows(&rt, &[("layout two.pc two.pc", TWICE, 0)]);
 }
 
-/// Runs `layout` on a file of this body behind the header, and looks at the report: it is the same under either
-/// choice of the outer face.
+/// `layout` under either choice of the outer face, which changes nothing in most reports.
+const BY_CHOICE: [&str; 2] = ["layout --outer first body", "layout --outer best body"];
+
+/// Runs `layout` on a file of this body behind the header, and looks at the report.
 fn check_body<R: Files + AllocGlobal + Threads + Wait + Sync + Abort>(
     rt: &R,
     body: &[u8],
-    report: &str,
+    report: &[u8],
     status: u8,
 )
 where
     R::File: Send,
     R::Dir: Send,
 {
-    make_file(rt, "body.pc", &[HEADER, body]);
-    for choice in ["first", "best"] {
-        check_rows(
-            rt,
-            &[(&["layout", "--outer", choice, "body.pc"], report, status)],
-        );
+    make_file(rt, "body", &[HEADER, body]);
+    for line in BY_CHOICE {
+        expect_report(rt, &run(rt, line), report, status);
     }
 }
 
-/// Bodies of files with their reports and status: known graphs with their fewest bends, graphs that break a rule,
-/// which does not change the status, and files that go on behind their records as no file may.
-const BODIES: [(&[u8], &str, u8); 15] = [
-    (
-        TRIANGLE,
-        "file 1\ngraph 1 ok n=3 m=3 f=2 bends=1 drawn=yes\nend complete graphs=1\n",
-        0,
-    ),
+/// Runs `layout` on a file of one record, and looks at what the record's line says after the number.
+fn check_record<R: Files + AllocGlobal + Threads + Wait + Sync + Abort>(
+    rt: &R,
+    record: &[u8],
+    said: &str,
+)
+where
+    R::File: Send,
+    R::Dir: Send,
+{
+    let (before, behind) = (b"file 1\ngraph 1 ", b"\nend complete graphs=1\n");
+    let parts = [before.as_slice(), said.as_bytes(), behind];
+    let report = parts.concat(rt.alloc()).expect(rt, "memory");
+    check_body(rt, record, report.as_slice(), 0);
+}
+
+/// Known graphs with their fewest bends, and graphs that break a rule, which does not change the status.
+const RECORDS: [(&[u8], &str); 12] = [
+    (TRIANGLE, "ok n=3 m=3 f=2 bends=1 drawn=yes"),
     (
         &[4, 3, 4, 2, 0, 1, 4, 3, 0, 2, 4, 1, 0, 3, 2, 1, 0],
-        "file 1\ngraph 1 ok n=4 m=6 f=4 bends=4 drawn=yes\nend complete graphs=1\n",
-        0,
+        "ok n=4 m=6 f=4 bends=4 drawn=yes",
     ),
     (
         &[
             6, 2, 3, 4, 5, 0, 6, 3, 1, 5, 0, 2, 6, 4, 1, 0, 1, 3, 6, 5, 0, 2, 1, 4, 6, 0, 2, 5, 4,
             3, 0,
         ],
-        "file 1\ngraph 1 ok n=6 m=12 f=8 bends=12 drawn=yes\nend complete graphs=1\n",
-        0,
+        "ok n=6 m=12 f=8 bends=12 drawn=yes",
     ),
     (
         &[5, 2, 3, 4, 5, 0, 1, 0, 1, 0, 1, 0, 1, 0],
-        "file 1\ngraph 1 ok n=5 m=4 f=1 bends=0 drawn=yes\nend complete graphs=1\n",
-        0,
+        "ok n=5 m=4 f=1 bends=0 drawn=yes",
     ),
+    (&[2, 0, 0], "refused edgeless"),
+    (
+        &[4, 3, 4, 2, 0, 1, 4, 3, 0, 2, 4, 1, 0, 1, 2, 3, 0],
+        "refused genus",
+    ),
+    (
+        &[6, 2, 3, 4, 5, 6, 0, 1, 0, 1, 0, 1, 0, 1, 0, 1, 0],
+        "refused degree",
+    ),
+    (&[2, 3, 0, 1, 0], "refused range"),
+    (&[2, 2, 0, 0], "refused asymmetric"),
+    (&[2, 1, 0, 0], "refused loop"),
+    (&[2, 2, 2, 0, 1, 1, 0], "refused multi"),
+    (&[4, 2, 0, 1, 0, 4, 0, 3, 0], "refused disconnected"),
+];
+
+/// Bodies of files with their reports and status: a graph behind a refused one, and files that go on behind their records
+/// as no file may.
+const BODIES: [(&[u8], &str, u8); 3] = [
     (
         &[1, 0, 2, 2, 0, 1, 0],
         "file 1\ngraph 1 refused edgeless\ngraph 2 ok n=2 m=1 f=1 bends=0 drawn=yes\n\
         end complete graphs=2\n",
-        0,
-    ),
-    (
-        &[2, 0, 0],
-        "file 1\ngraph 1 refused edgeless\nend complete graphs=1\n",
-        0,
-    ),
-    (
-        &[4, 3, 4, 2, 0, 1, 4, 3, 0, 2, 4, 1, 0, 1, 2, 3, 0],
-        "file 1\ngraph 1 refused genus\nend complete graphs=1\n",
-        0,
-    ),
-    (
-        &[6, 2, 3, 4, 5, 6, 0, 1, 0, 1, 0, 1, 0, 1, 0, 1, 0],
-        "file 1\ngraph 1 refused degree\nend complete graphs=1\n",
-        0,
-    ),
-    (
-        &[2, 3, 0, 1, 0],
-        "file 1\ngraph 1 refused range\nend complete graphs=1\n",
-        0,
-    ),
-    (
-        &[2, 2, 0, 0],
-        "file 1\ngraph 1 refused asymmetric\nend complete graphs=1\n",
-        0,
-    ),
-    (
-        &[2, 1, 0, 0],
-        "file 1\ngraph 1 refused loop\nend complete graphs=1\n",
-        0,
-    ),
-    (
-        &[2, 2, 2, 0, 1, 1, 0],
-        "file 1\ngraph 1 refused multi\nend complete graphs=1\n",
-        0,
-    ),
-    (
-        &[4, 2, 0, 1, 0, 4, 0, 3, 0],
-        "file 1\ngraph 1 refused disconnected\nend complete graphs=1\n",
         0,
     ),
     (
@@ -135,8 +121,11 @@ const BODIES: [(&[u8], &str, u8); 15] = [
 
 #[test]
 fn reports_each_graph_and_the_ending(rt: HostRuntime) {
+    for (record, said) in RECORDS {
+        check_record(&rt, record, said);
+    }
     for (body, report, status) in BODIES {
-        check_body(&rt, body, report, status);
+        check_body(&rt, body, report.as_bytes(), status);
     }
 }
 
@@ -163,14 +152,10 @@ const BEST: &str = "file 1\n\
     end complete graphs=2\n";
 
 const CUBES: [Row; 4] = [
-    (&["layout", "cubes.pc"], FIRST, 0),
-    (&["layout", "--outer", "first", "cubes.pc"], FIRST, 0),
-    (&["layout", "--outer", "best", "cubes.pc"], BEST, 0),
-    (
-        &["layout", "cubes.pc", "--lanes=2", "--outer=best"],
-        BEST,
-        0,
-    ),
+    ("layout cubes.pc", FIRST, 0),
+    ("layout --outer first cubes.pc", FIRST, 0),
+    ("layout --outer best cubes.pc", BEST, 0),
+    ("layout cubes.pc --lanes=2 --outer=best", BEST, 0),
 ];
 
 /// Graphs that need fewer bends with another outer face than the widest one.
@@ -185,9 +170,8 @@ fn chooses_the_outer_face(rt: HostRuntime) {
 fn marks_lists_that_are_too_long(rt: HostRuntime) {
     let mut long = [1; 256];
     long[0] = 255;
-    let truncated = "file 1\nend truncated graphs=0\n";
-    check_body(&rt, &long[..255], truncated, 3);
-    check_body(&rt, &long, "file 1\nend oversize graphs=0\n", 3);
+    check_body(&rt, &long[..255], b"file 1\nend truncated graphs=0\n", 3);
+    check_body(&rt, &long, b"file 1\nend oversize graphs=0\n", 3);
 }
 
 /// The longest cycle that a record can hold.
@@ -205,21 +189,67 @@ fn longest_cycle(alloc: Global) -> Result<Vec<u8>, AllocError> {
 #[test]
 fn reports_a_cycle_of_most_vertices(rt: HostRuntime) {
     let body = longest_cycle(rt.alloc()).expect(&rt, "memory");
-    let report = "file 1\ngraph 1 ok n=255 m=255 f=2 bends=0 drawn=yes\nend complete graphs=1\n";
-    check_body(&rt, body.as_slice(), report, 0);
+    check_record(&rt, body.as_slice(), "ok n=255 m=255 f=2 bends=0 drawn=yes");
 }
+
+pub const UNREAD: &str = "file 1\nend io graphs=0\n";
 
 #[test]
 fn marks_files_that_cannot_be_read(rt: HostRuntime) {
     fs::create_dir_all(&rt, "layout_folder").expect(&rt, "a folder");
-    let unread = "file 1\nend io graphs=0\n";
-    check_rows(
-        &rt,
-        &[
-            (&["layout", "layout_folder"], unread, 3),
-            (&["layout", "missing.pc"], unread, 3),
-        ],
-    );
+    check_rows(&rt, &[("layout layout_folder", UNREAD, 3)]);
+    check_rows(&rt, &[("layout missing.pc", UNREAD, 3)]);
+}
+
+const MISSING_LAST: &str = "file 1\n\
+    graph 1 ok n=2 m=1 f=1 bends=0 drawn=yes\n\
+    graph 2 ok n=3 m=3 f=2 bends=1 drawn=yes\n\
+    end complete graphs=2\n\
+    file 2\n\
+    end io graphs=0\n";
+
+const MISSING_FIRST: &str = "file 1\n\
+    end io graphs=0\n\
+    file 2\n\
+    graph 1 ok n=2 m=1 f=1 bends=0 drawn=yes\n\
+    graph 2 ok n=3 m=3 f=2 bends=1 drawn=yes\n\
+    end complete graphs=2\n";
+
+const WITHOUT_ONE: [Row; 5] = [
+    ("layout --lanes 1 pair.pc missing.pc", MISSING_LAST, 3),
+    ("layout --lanes 2 pair.pc missing.pc", MISSING_LAST, 3),
+    ("layout --lanes 1 missing.pc pair.pc", MISSING_FIRST, 3),
+    ("layout --lanes 2 missing.pc pair.pc", MISSING_FIRST, 3),
+    (
+        "layout missing.pc header.pc",
+        "file 1\nend io graphs=0\nfile 2\nend complete graphs=0\n",
+        3,
+    ),
+];
+
+/// Of two files, one of which is missing, the other one is laid out, or has its end if it is the header alone.
+#[test]
+fn a_missing_file_leaves_the_other(rt: HostRuntime) {
+    make_file(&rt, "pair.pc", &[HEADER, EDGE, TRIANGLE]);
+    make_file(&rt, "header.pc", &[HEADER]);
+    check_rows(&rt, &WITHOUT_ONE);
+}
+
+/// An empty file, the header without its last byte, and the header: each has the same report under either choice of the
+/// outer face.
+const FRONTS: [(&[u8], &str, u8); 3] = [
+    (b"", "file 1\nend header graphs=0\n", 3),
+    (b">>planar_code<", "file 1\nend header graphs=0\n", 3),
+    (HEADER, "file 1\nend complete graphs=0\n", 0),
+];
+
+#[test]
+fn files_without_records_end_by_their_header(rt: HostRuntime) {
+    for (bytes, report, status) in FRONTS {
+        make_file(&rt, "front.pc", &[bytes]);
+        check_rows(&rt, &[("layout --outer=first front.pc", report, status)]);
+        check_rows(&rt, &[("layout --outer=best front.pc", report, status)]);
+    }
 }
 
 const APART: &str = "file 1\n\
@@ -232,43 +262,35 @@ const APART: &str = "file 1\n\
     file 3\n\
     end complete graphs=0\n";
 
+const OVER_LANES: [Row; 5] = [
+    ("layout --lanes 1 triangles.pc cut.pc none.pc", APART, 3),
+    ("layout --lanes 2 triangles.pc cut.pc none.pc", APART, 3),
+    ("layout --lanes 3 triangles.pc cut.pc none.pc", APART, 3),
+    ("layout --lanes 4 triangles.pc cut.pc none.pc", APART, 3),
+    ("layout --lanes 8 triangles.pc cut.pc none.pc", APART, 3),
+];
+
 /// Files that differ are reported in the order in which they are named, however many lanes there are.
 #[test]
 fn keeps_files_apart(rt: HostRuntime) {
     make_file(&rt, "triangles.pc", &[HEADER, TRIANGLE, TRIANGLE]);
     make_file(&rt, "cut.pc", &[HEADER, EDGE, &[2, 2, 0, 1]]);
     make_file(&rt, "none.pc", &[HEADER]);
-    for lanes in ["1", "2", "3", "4", "8"] {
-        let words = [
-            "layout",
-            "--lanes",
-            lanes,
-            "triangles.pc",
-            "cut.pc",
-            "none.pc",
-        ];
-        check_rows(&rt, &[(&words, APART, 3)]);
-    }
+    check_rows(&rt, &OVER_LANES);
 }
 
+pub const EDGELESS: &str = "{\"file\":1,\"graph\":1,\"rule\":\"edgeless\",\"status\":\"refused\"}\n\
+    {\"end\":\"complete\",\"file\":1,\"graphs\":1}\n";
+
+const TORUS: &str = "{\"file\":1,\"graph\":1,\"rule\":\"genus\",\"status\":\"refused\"}\n\
+    {\"end\":\"complete\",\"file\":1,\"graphs\":1}\n";
+
+const EMPTY: &str = "{\"end\":\"header\",\"file\":1,\"graphs\":0}\n";
+
 const JSON: [Row; 3] = [
-    (
-        &["layout", "--json", "json_empty.pc"],
-        "{\"end\":\"header\",\"file\":1,\"graphs\":0}\n",
-        3,
-    ),
-    (
-        &["layout", "--json", "json_edgeless.pc"],
-        "{\"file\":1,\"graph\":1,\"rule\":\"edgeless\",\"status\":\"refused\"}\n\
-        {\"end\":\"complete\",\"file\":1,\"graphs\":1}\n",
-        0,
-    ),
-    (
-        &["layout", "json_torus.pc", "--json"],
-        "{\"file\":1,\"graph\":1,\"rule\":\"genus\",\"status\":\"refused\"}\n\
-        {\"end\":\"complete\",\"file\":1,\"graphs\":1}\n",
-        0,
-    ),
+    ("layout --json json_empty.pc", EMPTY, 3),
+    ("layout --json json_edgeless.pc", EDGELESS, 0),
+    ("layout json_torus.pc --json", TORUS, 0),
 ];
 
 /// The JSON lines of files in which no graph is laid out.
@@ -285,8 +307,7 @@ fn shows_json_lines(rt: HostRuntime) {
 #[test]
 fn shows_an_edge_as_json(rt: HostRuntime) {
     make_file(&rt, "json_edge.pc", &[HEADER, EDGE]);
-    let words = ["layout", "--json", "--lanes", "2", "json_edge.pc"];
-    expect_edge(&rt, &run(&rt, &words).expect(&rt, "memory"));
+    expect_edge(&rt, &run(&rt, "layout --json --lanes 2 json_edge.pc"));
 }
 
 /// A run's text begins and ends as that of a single edge.
@@ -313,20 +334,7 @@ const PATH: &[u8] = &[
 const STRAIGHT: &[u8] =
     b"{\"angles\":[2,4,2,2,2,2,2,2,2,2,2,2,2,2,2,2,4,2],\"bends\":0,\"drawn\":\"yes\",\"f\":1,\"file\":1,";
 
-/// JSON lines of that path, with these words: it is drawn, in one line or not.
-fn check_path<R: Files + AllocGlobal + Threads + Wait + Sync + Abort>(
-    rt: &R,
-    words: &[&str],
-    is_straight: bool,
-)
-where
-    R::File: Send,
-    R::Dir: Send,
-{
-    expect_path(rt, &run(rt, words).expect(rt, "memory"), is_straight);
-}
-
-/// A run's text is that of the path.
+/// A run's text is that of the path, drawn in one line or not.
 fn expect_path(rt: &impl Abort, ran: &Ran<Vec<u8>>, is_straight: bool) {
     let text = ran.out.as_slice();
     same(rt, holds(text, b"],\"bends\":0,\"drawn\":\"yes\","), true);
@@ -334,163 +342,117 @@ fn expect_path(rt: &impl Abort, ran: &Ran<Vec<u8>>, is_straight: bool) {
     same(rt, (ran.status, ran.err.len()), (0, 0));
 }
 
-const PATHS: [(&[&str], bool); 4] = [
-    (&["layout", "--json", "path.pc"], true),
-    (&["layout", "--drawing=short", "--json", "path.pc"], true),
-    (&["layout", "--drawing=quick", "--json", "path.pc"], false),
-    (
-        &["layout", "--json", "path.pc", "--drawing", "quick"],
-        false,
-    ),
+const PATHS: [(&str, bool); 4] = [
+    ("layout --json path.pc", true),
+    ("layout --drawing=short --json path.pc", true),
+    ("layout --drawing=quick --json path.pc", false),
+    ("layout --json path.pc --drawing quick", false),
 ];
 
 /// A path is drawn in one line where that is short, and the quick drawing winds it up.
 #[test]
 fn draws_a_path_as_asked(rt: HostRuntime) {
     make_file(&rt, "path.pc", &[HEADER, PATH]);
-    for (words, is_straight) in PATHS {
-        check_path(&rt, words, is_straight);
+    for (line, is_straight) in PATHS {
+        expect_path(&rt, &run(&rt, line), is_straight);
     }
 }
 
 /// Command lines that are refused, and a text in what is said of each.
-const REFUSED: [(&[&str], &str); 12] = [
-    (&["layout"], "were not provided:\n  <FILE>...\n"),
-    (&["layout", "--lanes", "x", "a"], "invalid value 'x'"),
+const REFUSED: [(&str, &str); 12] = [
+    ("layout", "were not provided:\n  <FILE>...\n"),
+    ("layout --lanes x a", "invalid value 'x'"),
     (
-        &["layout", "--outer", "widest", "a"],
+        "layout --outer widest a",
         "invalid value 'widest' for '--outer <CHOICE>'\n  [possible values: first, best]\n",
     ),
     (
-        &["frames", "--outer", "best", "a"],
+        "frames --outer best a",
         "unexpected argument '--outer' found",
     ),
     (
-        &["layout", "--drawing", "x", "a"],
+        "layout --drawing x a",
         "invalid value 'x' for '--drawing <KIND>'\n  [possible values: short, quick]\n",
     ),
+    ("frames --json a", "unexpected argument '--json' found"),
+    ("layout --lanes 0 a", "planarbend: lanes must be 1 to 8\n"),
+    ("layout --lanes 9 a", "planarbend: lanes must be 1 to 8\n"),
+    ("layout --waiting 0 a", "invalid value '0' for '--waiting"),
     (
-        &["frames", "--json", "a"],
-        "unexpected argument '--json' found",
-    ),
-    (
-        &["layout", "--lanes", "0", "a"],
-        "planarbend: lanes must be 1 to 8\n",
-    ),
-    (
-        &["layout", "--lanes", "9", "a"],
-        "planarbend: lanes must be 1 to 8\n",
-    ),
-    (
-        &["layout", "--waiting", "0", "a"],
-        "invalid value '0' for '--waiting",
-    ),
-    (
-        &["layout", "--waiting", "65537", "a"],
+        "layout --waiting 65537 a",
         "invalid value '65537' for '--waiting",
     ),
+    ("layout --waiting x a", "invalid value 'x' for '--waiting"),
     (
-        &["layout", "--waiting", "x", "a"],
-        "invalid value 'x' for '--waiting",
-    ),
-    (
-        &["layout", "--waiting", "1.5", "a"],
+        "layout --waiting 1.5 a",
         "invalid value '1.5' for '--waiting",
     ),
 ];
 
-#[test]
-fn refuses_other_command_lines(rt: HostRuntime) {
-    check_refused(&rt, &REFUSED);
-    let mut words = ["a"; 258];
-    words[0] = "layout";
-    check_refused(&rt, &[(&words, "planarbend: more than 256 files\n")]);
-    let pipe = "  geng -c -D4 8 | planarg -p | planarbend layout -\n";
-    check_help(&rt, &[(&["layout", "--help"], pipe)]);
+/// A command line of so many files.
+fn line_of(alloc: Global, files: u32) -> Result<String, AllocError> {
+    let mut line = String::from_str(alloc, "layout")?;
+    for _ in 0..files {
+        line.push_str(" a")?;
+    }
+    Ok(line)
 }
 
-const REPORT: &[u8] = b"file 1\n\
+#[test]
+fn refuses_other_command_lines(rt: HostRuntime) {
+    check_said(&rt, &REFUSED, 2);
+    let line = line_of(rt.alloc(), 257).expect(&rt, "memory");
+    let many = "planarbend: more than 256 files\n";
+    check_said(&rt, &[(line.as_str(), many)], 2);
+    let pipe = "  geng -c -D4 8 | planarg -p | planarbend layout -\n";
+    check_said(&rt, &[("layout --help", pipe)], 0);
+}
+
+/// What is said of an edge.
+pub const REPORT: &str = "file 1\n\
     graph 1 ok n=2 m=1 f=1 bends=0 drawn=yes\n\
     end complete graphs=1\n";
 
-fn words_for<R: Files + AllocGlobal>(rt: &R) -> io::Result<Vec<String>> {
-    write_parts(rt, "case.pc", &[HEADER, EDGE])?;
-    Ok(copies(rt.alloc(), &["layout", "case.pc"])?)
-}
+/// The report of a file of one edge.
+const ONE_EDGE: Case = Case {
+    line: "layout case.pc",
+    file: "case.pc",
+    parts: &[HEADER, EDGE],
+    report: REPORT,
+    wants: &[
+        b"file 1\nend memory graphs=0\n",
+        b"file 1\ngraph 1 memory\nend complete graphs=1\n",
+    ],
+    may_begin: false,
+};
 
 #[test]
 fn names_a_failed_write(rt: HostRuntime) {
-    let words = words_for(&rt).expect(&rt, "a file");
+    let words = words_for(&rt, &ONE_EDGE).expect(&rt, "a file");
     for room in [0, 10, REPORT.len() - 1] {
-        check_failed_write(&rt, words.as_slice(), &REPORT[..room]);
+        check_failed_write(&rt, words.as_slice(), &REPORT.as_bytes()[..room]);
     }
 }
 
-/// With each allocation refused in turn, the run ends in an answer that names it.
 #[test]
 fn names_want_of_memory(rt: HostRuntime) {
-    let Ok(words) = words_for(&rt) else {
-        return;
-    };
-    let ran = run_narrow(&rt, words.as_slice(), 128, 64);
-    same(
-        &rt,
-        is_allowed(ran.status, ran.out.text(), ran.err.text()),
-        true,
-    );
+    check_wants(&rt, &ONE_EDGE);
 }
 
-/// Whether a run gave the whole report, or said what found no memory.
-fn is_allowed(status: u8, out: &[u8], err: &[u8]) -> bool {
-    match status {
-        0 => out == REPORT && err.is_empty(),
-        1 => out.is_empty() && names_no_run(err),
-        3 => names_no_answer(out) && err.is_empty(),
-        _ => false,
-    }
-}
+/// The JSON lines of a file of one vertex, which take memory of their own.
+const ONE_VERTEX: Case = Case {
+    line: "layout --json json_case.pc",
+    file: "json_case.pc",
+    parts: &[HEADER, &[1, 0]],
+    report: EDGELESS,
+    wants: &[
+        b"{\"end\":\"memory\",\"file\":1,\"graphs\":0}\n",
+        b"{\"file\":1,\"graph\":1,\"status\":\"memory\"}\n{\"end\":\"complete\",\"file\":1,\"graphs\":1}\n",
+    ],
+    may_begin: true,
+};
 
-/// Whether the report says that the file or its graph found no memory.
-fn names_no_answer(report: &[u8]) -> bool {
-    report == b"file 1\nend memory graphs=0\n".as_slice()
-        || report == b"file 1\ngraph 1 memory\nend complete graphs=1\n".as_slice()
-}
-
-const JSON_LINES: &[u8] = b"{\"file\":1,\"graph\":1,\"rule\":\"edgeless\",\"status\":\"refused\"}\n\
-    {\"end\":\"complete\",\"file\":1,\"graphs\":1}\n";
-
-/// The same of JSON lines, which take memory of their own.
 #[test]
 fn json_names_want_of_memory(rt: HostRuntime) {
-    let Ok(words) = json_words_for(&rt) else {
-        return;
-    };
-    let ran = run_narrow(&rt, words.as_slice(), 128, 64);
-    same(
-        &rt,
-        is_json_allowed(ran.status, ran.out.text(), ran.err.text()),
-        true,
-    );
-}
-
-/// Whether a run gave all lines, or said what found no memory.
-fn is_json_allowed(status: u8, out: &[u8], err: &[u8]) -> bool {
-    match status {
-        0 => out == JSON_LINES && err.is_empty(),
-        1 => JSON_LINES.starts_with(out) && names_no_run(err),
-        3 => names_no_json_answer(out) && err.is_empty(),
-        _ => false,
-    }
-}
-
-fn json_words_for<R: Files + AllocGlobal>(rt: &R) -> io::Result<Vec<String>> {
-    write_parts(rt, "json_case.pc", &[HEADER, &[1, 0]])?;
-    Ok(copies(rt.alloc(), &["layout", "--json", "json_case.pc"])?)
-}
-
-/// Whether the lines say that the file or its graph found no memory.
-fn names_no_json_answer(lines: &[u8]) -> bool {
-    lines == b"{\"end\":\"memory\",\"file\":1,\"graphs\":0}\n".as_slice()
-        || lines
-            == b"{\"file\":1,\"graph\":1,\"status\":\"memory\"}\n{\"end\":\"complete\",\"file\":1,\"graphs\":1}\n".as_slice()
+    check_wants(&rt, &ONE_VERTEX);
 }

@@ -14,5 +14,3 @@ mod shared;
 mod side_by_side;
 #[cfg(test)]
 mod stream_options;
-#[cfg(test)]
-mod unread;

@@ -1,30 +1,25 @@
 //! What command lines ask for, word by word.
 
+use crate::layouts::{REPORT, UNREAD};
 use crate::shared::{
-    EDGE, HEADER, Row, TRIANGLE, check_failed_write, check_help, check_refused, check_rows, copies,
-    make_file,
+    EDGE, HEADER, Row, TRIANGLE, check_failed_write, check_rows, check_said, make_file, words_of,
 };
 
 const VERSION: &str = "planarbend 0.3.0\nproved with rattle-kit-13f logic dac8208d650f15bf\n";
 
 #[test]
 fn prints_the_version(rt: HostRuntime) {
-    check_rows(
-        &rt,
-        &[
-            (&["--version"], VERSION, 0),
-            (&["--version", "layout", "missing.pc"], VERSION, 0),
-        ],
-    );
+    check_rows(&rt, &[("--version", VERSION, 0)]);
+    check_rows(&rt, &[("--version layout missing.pc", VERSION, 0)]);
     let refused = "unexpected argument '--version' found";
-    check_refused(&rt, &[(&["layout", "--version", "missing.pc"], refused)]);
-    check_help(&rt, &[(&["--help"], "--version")]);
+    check_said(&rt, &[("layout --version missing.pc", refused)], 2);
+    check_said(&rt, &[("--help", "--version")], 0);
 }
 
 /// An output with too little room takes a beginning of the version.
 #[test]
 fn names_a_failed_write_of_the_version(rt: HostRuntime) {
-    let words = copies(rt.alloc(), &["--version"]).expect(&rt, "memory");
+    let words = words_of(rt.alloc(), "--version").expect(&rt, "memory");
     for room in [0, 10, VERSION.len() - 1] {
         check_failed_write(&rt, words.as_slice(), &VERSION.as_bytes()[..room]);
     }
@@ -38,57 +33,27 @@ const TWO: &str = "file 1\n\
     graph 1 ok n=2 m=1 f=1 bends=0 drawn=yes\n\
     end complete graphs=1\n";
 
-/// What is said of an edge.
-const ONE: &str = "file 1\n\
-    graph 1 ok n=2 m=1 f=1 bends=0 drawn=yes\n\
-    end complete graphs=1\n";
-
 /// Files keep their order among options, wherever these stand, and the words of options are files elsewhere.
 const AMONG_OPTIONS: [Row; 9] = [
-    (&["layout", "best", "edge.pc"], TWO, 0),
-    (
-        &["layout", "--outer=first", "best", "--lanes", "2", "edge.pc"],
-        TWO,
-        0,
-    ),
-    (
-        &["layout", "best", "--lanes=1", "--outer", "best", "edge.pc"],
-        TWO,
-        0,
-    ),
-    (
-        &["layout", "best", "--waiting", "1", "edge.pc", "--lanes=2"],
-        TWO,
-        0,
-    ),
-    (&["layout", "best", "--", "edge.pc"], TWO, 0),
-    (&["layout", "short"], ONE, 0),
-    (&["layout", "--drawing", "quick", "short"], ONE, 0),
-    (&["layout", "--drawing", "short", "short"], ONE, 0),
-    (&["layout", "short", "--drawing=short"], ONE, 0),
+    ("layout best edge.pc", TWO, 0),
+    ("layout --outer=first best --lanes 2 edge.pc", TWO, 0),
+    ("layout best --lanes=1 --outer best edge.pc", TWO, 0),
+    ("layout best --waiting 1 edge.pc --lanes=2", TWO, 0),
+    ("layout best -- edge.pc", TWO, 0),
+    ("layout short", REPORT, 0),
+    ("layout --drawing quick short", REPORT, 0),
+    ("layout --drawing short short", REPORT, 0),
+    ("layout short --drawing=short", REPORT, 0),
 ];
 
 const TWICE: &str = "cannot be used multiple times";
 
 const NO_FILE: &str = "were not provided:\n  <FILE>...\n";
 
-const REFUSED: [(&[&str], &str); 3] = [
-    (
-        &[
-            "layout",
-            "best",
-            "--waiting",
-            "65536",
-            "edge.pc",
-            "--waiting=1",
-        ],
-        TWICE,
-    ),
-    (
-        &["layout", "--drawing=short", "--drawing=quick", "short"],
-        TWICE,
-    ),
-    (&["layout", "--drawing", "short"], NO_FILE),
+const REFUSED: [(&str, &str); 3] = [
+    ("layout best --waiting 65536 edge.pc --waiting=1", TWICE),
+    ("layout --drawing=short --drawing=quick short", TWICE),
+    ("layout --drawing short", NO_FILE),
 ];
 
 #[test]
@@ -97,24 +62,22 @@ fn takes_options_out_of_the_files(rt: HostRuntime) {
     make_file(&rt, "best", &[HEADER, TRIANGLE]);
     make_file(&rt, "short", &[HEADER, EDGE]);
     check_rows(&rt, &AMONG_OPTIONS);
-    check_refused(&rt, &REFUSED);
+    check_said(&rt, &REFUSED, 2);
 }
-
-const UNREAD: &str = "file 1\nend io graphs=0\n";
 
 /// Behind `--` all words are files, and `help` is one behind `layout`.
 const BEHIND_DASHES: [Row; 10] = [
-    (&["layout", "--", "--json"], UNREAD, 3),
-    (&["layout", "--", "--help"], UNREAD, 3),
-    (&["layout", "--", "-h"], UNREAD, 3),
-    (&["layout", "--", "--version"], UNREAD, 3),
-    (&["layout", "--", "--outer=best"], UNREAD, 3),
-    (&["layout", "--", "--drawing=short"], UNREAD, 3),
-    (&["layout", "--", "--"], UNREAD, 3),
-    (&["layout", "help"], UNREAD, 3),
-    (&["frames", "--", "--help"], "end io records=0\n", 3),
+    ("layout -- --json", UNREAD, 3),
+    ("layout -- --help", UNREAD, 3),
+    ("layout -- -h", UNREAD, 3),
+    ("layout -- --version", UNREAD, 3),
+    ("layout -- --outer=best", UNREAD, 3),
+    ("layout -- --drawing=short", UNREAD, 3),
+    ("layout -- --", UNREAD, 3),
+    ("layout help", UNREAD, 3),
+    ("frames -- --help", "end io records=0\n", 3),
     (
-        &["layout", "--json", "--", "--json"],
+        "layout --json -- --json",
         "{\"end\":\"io\",\"file\":1,\"graphs\":0}\n",
         3,
     ),

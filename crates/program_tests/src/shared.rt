@@ -72,46 +72,60 @@ where
     }
 }
 
-/// Copies of these words.
-pub fn copies(alloc: Global, words: &[&str]) -> Result<Vec<String>, AllocError> {
+/// The words of a command line, which blanks part.
+pub fn words_of(alloc: Global, line: &str) -> Result<Vec<String>, AllocError> {
     let mut list = Vec::new(alloc);
-    for word in words {
+    for word in line.split_whitespace() {
         list.push(String::from_str(alloc, word)?)?;
     }
     Ok(list)
 }
 
 /// A standard input that cannot be read.
-fn no_input(alloc: Global) -> MemOpener {
+pub fn no_input(alloc: Global) -> MemOpener {
     MemOpener::new(Vec::new(alloc), 1)
 }
 
 /// Runs the command with these words, on this standard input and with this console.
-pub fn run_on<R: Files + AllocGlobal + Threads + Wait + Sync, C: Console + Sync>(
+pub fn run_words<R: Files + AllocGlobal + Threads + Wait + Sync, C: Console + Sync>(
     rt: &R,
-    words: &[&str],
+    words: &[String],
     input: &MemOpener,
     console: &C,
-) -> Result<Ran<Vec<u8>>, AllocError>
+) -> Ran<Vec<u8>>
 where
     R::File: Send,
     R::Dir: Send,
 {
-    let words = copies(rt.alloc(), words)?;
     let (out, err) = (Vec::new(rt.alloc()), Vec::new(rt.alloc()));
-    Ok(run_into(rt, words.as_slice(), input, console, out, err))
+    run_into(rt, words, input, console, out, err)
 }
 
-/// Runs the command with these words.
-pub fn run<R: Files + AllocGlobal + Threads + Wait + Sync>(
+/// Runs a command line, on this standard input and with this console.
+pub fn run_on<R: Files + AllocGlobal + Threads + Wait + Sync + Abort, C: Console + Sync>(
     rt: &R,
-    words: &[&str],
-) -> Result<Ran<Vec<u8>>, AllocError>
+    line: &str,
+    input: &MemOpener,
+    console: &C,
+) -> Ran<Vec<u8>>
 where
     R::File: Send,
     R::Dir: Send,
 {
-    run_on(rt, words, &no_input(rt.alloc()), &NoConsole)
+    let words = words_of(rt.alloc(), line).expect(rt, "memory");
+    run_words(rt, words.as_slice(), input, console)
+}
+
+/// Runs a command line.
+pub fn run<R: Files + AllocGlobal + Threads + Wait + Sync + Abort>(
+    rt: &R,
+    line: &str,
+) -> Ran<Vec<u8>>
+where
+    R::File: Send,
+    R::Dir: Send,
+{
+    run_on(rt, line, &no_input(rt.alloc()), &NoConsole)
 }
 
 /// Runs the command with these words, and writes the report and the line of a fault into so much room.
@@ -126,72 +140,55 @@ where
     R::Dir: Send,
 {
     let input = no_input(rt.alloc());
-    run_into(
-        rt,
-        words,
-        &input,
-        &NoConsole,
-        Narrow::new(out),
-        Narrow::new(err),
-    )
+    let (out, err) = (Narrow::new(out), Narrow::new(err));
+    run_into(rt, words, &input, &NoConsole, out, err)
 }
 
 /// What a run wrote is the report, with this status.
-pub fn expect_report(rt: &impl Abort, ran: &Ran<Vec<u8>>, report: &str, status: u8) {
-    same(rt, ran.out.as_slice(), report.as_bytes());
+pub fn expect_report(rt: &impl Abort, ran: &Ran<Vec<u8>>, report: &[u8], status: u8) {
+    same(rt, ran.out.as_slice(), report);
     same(rt, (ran.status, ran.err.len()), (status, 0));
 }
 
-/// Words, the report of the command with them, and its status.
-pub type Row<'a> = (&'a [&'a str], &'a str, u8);
+/// A command line, its report and its status.
+pub type Row<'a> = (&'a str, &'a str, u8);
 
-/// Runs the command with the words of each row, and looks at the report and the status.
+/// Runs the command line of each row, and looks at the report and the status.
 pub fn check_rows<R: Files + AllocGlobal + Threads + Wait + Sync + Abort>(rt: &R, rows: &[Row])
 where
     R::File: Send,
     R::Dir: Send,
 {
-    for (words, report, status) in rows {
-        let ran = run(rt, words).expect(rt, "memory");
-        expect_report(rt, &ran, report, *status);
+    for (line, report, status) in rows {
+        expect_report(rt, &run(rt, line), report.as_bytes(), *status);
     }
 }
 
-/// Runs command lines that are refused, and looks for a text in what is said of each.
-pub fn check_refused<R: Files + AllocGlobal + Threads + Wait + Sync + Abort>(
+/// Runs command lines with this status, and looks for a text in what is said of each: in the report where it is 0, and
+/// else in the other writer.
+pub fn check_said<R: Files + AllocGlobal + Threads + Wait + Sync + Abort>(
     rt: &R,
-    rows: &[(&[&str], &str)],
+    rows: &[(&str, &str)],
+    status: u8,
 )
 where
     R::File: Send,
     R::Dir: Send,
 {
-    for (words, text) in rows {
-        let ran = run(rt, words).expect(rt, "memory");
-        expect_part(rt, ran.err.as_slice(), text);
-        same(rt, (ran.status, ran.out.len()), (2, 0));
+    for (line, text) in rows {
+        expect_said(rt, &run(rt, line), text, status);
     }
 }
 
-/// Asks for help by each of these command lines, and looks for a text in it.
-pub fn check_help<R: Files + AllocGlobal + Threads + Wait + Sync + Abort>(
-    rt: &R,
-    rows: &[(&[&str], &str)],
-)
-where
-    R::File: Send,
-    R::Dir: Send,
-{
-    for (words, text) in rows {
-        let ran = run(rt, words).expect(rt, "memory");
-        expect_part(rt, ran.out.as_slice(), text);
-        same(rt, (ran.status, ran.err.len()), (0, 0));
-    }
-}
-
-/// Sees that a part stands somewhere in a text.
-fn expect_part(rt: &impl Abort, text: &[u8], part: &str) {
-    assert!(rt; holds(text, part.as_bytes()), "{part}");
+/// A run has this status, and this part stands in what it said.
+fn expect_said(rt: &impl Abort, ran: &Ran<Vec<u8>>, part: &str, status: u8) {
+    let (said, other) = if status == 0 {
+        (ran.out.as_slice(), ran.err.len())
+    } else {
+        (ran.err.as_slice(), ran.out.len())
+    };
+    assert!(rt; holds(said, part.as_bytes()), "{part}");
+    same(rt, (ran.status, other), (status, 0));
 }
 
 /// Whether `part` stands somewhere in `text`.
@@ -220,26 +217,62 @@ pub fn expect_texts(rt: &impl Abort, ran: &Ran<Narrow>, status: u8, out: &[u8], 
     same(rt, ran.err.text(), err);
 }
 
+/// A command line on a file that is made for it, and its report.
+pub struct Case {
+    pub line: &'static str,
+    pub file: &'static str,
+    pub parts: &'static [&'static [u8]],
+    pub report: &'static str,
+    /// What is written where memory is wanting for the file or its graph.
+    pub wants: &'static [&'static [u8]],
+    /// Whether some of the report may be written before memory is wanting for the run.
+    pub may_begin: bool,
+}
+
+/// Makes the file of a case: the words of its command line.
+pub fn words_for<R: Files + AllocGlobal>(rt: &R, case: &Case) -> io::Result<Vec<String>> {
+    write_parts(rt, case.file, case.parts)?;
+    Ok(words_of(rt.alloc(), case.line)?)
+}
+
+/// Runs the command line of a case. With each allocation refused in turn, it ends in an answer that names it.
+pub fn check_wants<R: Files + AllocGlobal + Threads + Wait + Sync + Abort>(rt: &R, case: &Case)
+where
+    R::File: Send,
+    R::Dir: Send,
+{
+    let Ok(words) = words_for(rt, case) else {
+        return;
+    };
+    let ran = run_narrow(rt, words.as_slice(), 128, 64);
+    let allowed = is_allowed(case, ran.status, ran.out.text(), ran.err.text());
+    same(rt, allowed, true);
+}
+
+/// Whether a run gave the whole report of a case, or said what found no memory.
+fn is_allowed(case: &Case, status: u8, out: &[u8], err: &[u8]) -> bool {
+    match status {
+        0 => out == case.report.as_bytes() && err.is_empty(),
+        1 => {
+            let begins = case.may_begin && case.report.as_bytes().starts_with(out);
+            (begins || out.is_empty()) && names_no_run(err)
+        }
+        3 => case.wants.iter().any(|want| *want == out) && err.is_empty(),
+        _ => false,
+    }
+}
+
 /// Whether the line says that the run itself found no memory. Where a thread is started or an end
 /// is given up for it, the line may name that instead.
-pub fn names_no_run(line: &[u8]) -> bool {
+fn names_no_run(line: &[u8]) -> bool {
     line == b"planarbend: out of memory\n".as_slice()
         || line == b"planarbend: a thread could not be run\n".as_slice()
         || line == b"planarbend: a lane was lost\n".as_slice()
 }
 
-/// These parts, one behind another.
-pub fn joined_bytes(alloc: Global, parts: &[&[u8]]) -> Result<Vec<u8>, AllocError> {
-    let mut bytes = Vec::new(alloc);
-    for part in parts {
-        bytes.extend_from_slice(part)?;
-    }
-    Ok(bytes)
-}
-
 /// Writes a file of these parts.
 pub fn write_parts<R: Files + AllocGlobal>(rt: &R, name: &str, parts: &[&[u8]]) -> io::Result<()> {
-    fs::write(rt, name, joined_bytes(rt.alloc(), parts)?.as_slice())
+    fs::write(rt, name, parts.concat(rt.alloc())?.as_slice())
 }
 
 /// Makes a file of these parts.

@@ -1,6 +1,6 @@
 //! Runs of `layout` in several lanes, which are to open their files side by side.
 
-use crate::shared::{EDGE, HEADER, make_file, run, same};
+use crate::shared::{EDGE, HEADER, NoConsole, make_file, no_input, run_words, same, words_of};
 use std::alloc::{Allocator, Global};
 use std::fs::{Metadata, OpenOptions};
 use std::process::Abort;
@@ -92,10 +92,10 @@ impl<R: Files> Files for Crowd<'_, R> {
     }
 }
 
-/// Runs `layout` on eight files in so many lanes, where the open of each file waits for those of others.
+/// Runs a command line where the open of each file waits until so many are asked for.
 fn check_lanes<R: Files + AllocGlobal + Threads + Wait + Sync + Abort>(
     rt: &R,
-    lanes: &str,
+    line: &str,
     wanted: u32,
 )
 where
@@ -108,21 +108,43 @@ where
         asked: AtomicU32::new(0),
         ran_out: AtomicBool::new(false),
     };
-    let words = [
-        "layout", "--lanes", lanes, "lane.pc", "lane.pc", "lane.pc", "lane.pc", "lane.pc",
-        "lane.pc", "lane.pc", "lane.pc",
-    ];
-    let ran = run(&crowd, &words).expect(rt, "memory");
+    let words = words_of(rt.alloc(), line).expect(rt, "memory");
+    let input = no_input(rt.alloc());
+    let status = run_words(&crowd, words.as_slice(), &input, &NoConsole).status;
     let ran_out = crowd.ran_out.load(Ordering::SeqCst);
-    same(rt, (ran.status, ran_out), (0, false));
+    same(rt, (status, ran_out), (0, false));
 }
+
+/// Command lines, and how many lanes they ask for.
+const LANES: [(&str, u32); 5] = [
+    (
+        "layout --lanes 1 lane lane lane lane lane lane lane lane",
+        1,
+    ),
+    (
+        "layout --lanes 2 lane lane lane lane lane lane lane lane",
+        2,
+    ),
+    (
+        "layout --lanes 3 lane lane lane lane lane lane lane lane",
+        3,
+    ),
+    (
+        "layout --lanes 4 lane lane lane lane lane lane lane lane",
+        4,
+    ),
+    (
+        "layout --lanes 8 lane lane lane lane lane lane lane lane",
+        8,
+    ),
+];
 
 /// As many lanes as `--lanes` says open files at once: with eight files, the open of each waits for those
 /// of the others in so many lanes.
 #[test]
 fn works_in_as_many_lanes_as_are_asked_for(rt: HostRuntime) {
-    make_file(&rt, "lane.pc", &[HEADER, EDGE]);
-    for (lanes, wanted) in [("1", 1), ("2", 2), ("3", 3), ("4", 4), ("8", 8)] {
-        check_lanes(&rt, lanes, wanted);
+    make_file(&rt, "lane", &[HEADER, EDGE]);
+    for (line, wanted) in LANES {
+        check_lanes(&rt, line, wanted);
     }
 }

@@ -1,9 +1,10 @@
 //! Standard input as a file, and lines of progress. The bytes and the texts come from the description of the format,
 //! of the report and of the lines.
 
+use crate::layouts::{EDGELESS, UNREAD};
 use crate::shared::{
-    EDGE, HEADER, NoConsole, Ran, Row, TRIANGLE, check_refused, check_rows, expect_report,
-    joined_bytes, make_file, run_on, same,
+    EDGE, HEADER, NoConsole, Ran, Row, TRIANGLE, check_rows, check_said, expect_report, make_file,
+    run_on, same,
 };
 use lanes::{Gate, MemOpener, Stage};
 use program_io::{Console, Meter, Progress, is_input};
@@ -17,11 +18,11 @@ use std::thread::Threads;
 /// A standard input of these parts, of which a read gives at most 7 bytes.
 fn input_of(alloc: Global, parts: &[&[u8]]) -> Result<MemOpener, AllocError> {
     let mut files = Vec::new(alloc);
-    files.push(joined_bytes(alloc, parts)?)?;
+    files.push(parts.concat(alloc)?)?;
     Ok(MemOpener::new(files, 7))
 }
 
-/// Runs the command with the words of each row on a standard input of these parts, and looks at the report and the
+/// Runs the command line of each row on a standard input of these parts, and looks at the report and the
 /// status.
 fn check_on<R: Files + AllocGlobal + Threads + Wait + Sync + Abort>(
     rt: &R,
@@ -32,10 +33,10 @@ where
     R::File: Send,
     R::Dir: Send,
 {
-    for (words, report, status) in rows {
+    for (line, report, status) in rows {
         let input = input_of(rt.alloc(), parts).expect(rt, "memory");
-        let ran = run_on(rt, words, &input, &NoConsole).expect(rt, "memory");
-        expect_report(rt, &ran, report, *status);
+        let ran = run_on(rt, line, &input, &NoConsole);
+        expect_report(rt, &ran, report.as_bytes(), *status);
     }
 }
 
@@ -45,38 +46,23 @@ const BOTH: &str = "file 1\n\
     end complete graphs=2\n";
 
 const OF_BOTH: [Row; 4] = [
-    (&["layout", "-"], BOTH, 0),
-    (&["layout", "--", "-"], BOTH, 0),
-    (&["layout", "--lanes=8", "-"], BOTH, 0),
+    ("layout -", BOTH, 0),
+    ("layout -- -", BOTH, 0),
+    ("layout --lanes=8 -", BOTH, 0),
     (
-        &["frames", "-"],
+        "frames -",
         "record 1 n=2 bytes=5\nrecord 2 n=3 bytes=10\nend complete records=2\n",
         0,
     ),
 ];
 
-const EDGELESS: &str = "{\"file\":1,\"graph\":1,\"rule\":\"edgeless\",\"status\":\"refused\"}\n\
-    {\"end\":\"complete\",\"file\":1,\"graphs\":1}\n";
-
 const CUT: &str = "record 1 n=2 bytes=5\nend truncated records=1\n";
 
 /// Parts of standard input, and a row.
 const INPUTS: [(&[&[u8]], Row); 3] = [
-    (
-        &[HEADER, &[1, 0]],
-        (&["layout", "--json", "-"], EDGELESS, 0),
-    ),
-    (&[], (&["layout", "-"], "file 1\nend header graphs=0\n", 3)),
-    (
-        &[HEADER, EDGE, &[2, 2, 0, 1]],
-        (&["frames", "--", "-"], CUT, 3),
-    ),
-];
-
-/// What is said of a standard input that cannot be read.
-const UNREAD: [Row; 2] = [
-    (&["layout", "-"], "file 1\nend io graphs=0\n", 3),
-    (&["frames", "-"], "end io records=0\n", 3),
+    (&[HEADER, &[1, 0]], ("layout --json -", EDGELESS, 0)),
+    (&[], ("layout -", "file 1\nend header graphs=0\n", 3)),
+    (&[HEADER, EDGE, &[2, 2, 0, 1]], ("frames -- -", CUT, 3)),
 ];
 
 #[test]
@@ -85,13 +71,14 @@ fn reads_standard_input(rt: HostRuntime) {
     for (parts, row) in INPUTS {
         check_on(&rt, parts, &[row]);
     }
-    check_rows(&rt, &UNREAD);
+    check_rows(&rt, &[("layout -", UNREAD, 3)]);
+    check_rows(&rt, &[("frames -", "end io records=0\n", 3)]);
 }
 
 /// Standard input has its place among other files, of which `./-` is the one of that name.
 const BESIDE_FILES: [Row; 2] = [
     (
-        &["layout", "-", "./-"],
+        "layout - ./-",
         "file 1\n\
         graph 1 ok n=2 m=1 f=1 bends=0 drawn=yes\n\
         end complete graphs=1\n\
@@ -101,7 +88,7 @@ const BESIDE_FILES: [Row; 2] = [
         0,
     ),
     (
-        &["layout", "--lanes", "2", "./-", "--", "-"],
+        "layout --lanes 2 ./- -- -",
         "file 1\n\
         graph 1 ok n=3 m=3 f=2 bends=1 drawn=yes\n\
         end complete graphs=1\n\
@@ -124,17 +111,17 @@ fn reads_standard_input_beside_files(rt: HostRuntime) {
 const TWICE: &str =
     "error: standard input, the file '-', can be read only once, and is named twice\n";
 
-const READ_TWICE: [(&[&str], &str); 5] = [
-    (&["layout", "-", "-"], TWICE),
-    (&["layout", "-", "a", "--lanes", "2", "-"], TWICE),
-    (&["layout", "-", "--", "-"], TWICE),
-    (&["layout", "--", "-", "-", "-"], TWICE),
-    (&["frames", "-", "-"], "unexpected argument '-' found\n"),
+const READ_TWICE: [(&str, &str); 5] = [
+    ("layout - -", TWICE),
+    ("layout - a --lanes 2 -", TWICE),
+    ("layout - -- -", TWICE),
+    ("layout -- - - -", TWICE),
+    ("frames - -", "unexpected argument '-' found\n"),
 ];
 
 #[test]
 fn reads_standard_input_once(rt: HostRuntime) {
-    check_refused(&rt, &READ_TWICE);
+    check_said(&rt, &READ_TWICE, 2);
 }
 
 /// A console whose clock goes on by so many milliseconds at each look, and which compares what it is to show with
@@ -190,11 +177,11 @@ impl Console for Ticking<'_> {
     }
 }
 
-/// Runs `layout` with these words on a standard input of five graphs, while 100 milliseconds pass between two looks
+/// Runs a command line on a standard input of five graphs, while 100 milliseconds pass between two looks
 /// at the clock. All texts that are wanted are shown, and no others.
 fn check_told<R: Files + AllocGlobal + Threads + Wait + Sync + Abort>(
     rt: &R,
-    words: &[&str],
+    line: &str,
     terminal: bool,
     wanted: &[&str],
 )
@@ -205,8 +192,7 @@ where
     let five = [HEADER, EDGE, EDGE, EDGE, EDGE, EDGE];
     let input = input_of(rt.alloc(), &five).expect(rt, "memory");
     let console = Ticking::new(terminal, 100, wanted);
-    let ran = run_on(rt, words, &input, &console).expect(rt, "memory");
-    expect_five(rt, &ran);
+    expect_five(rt, &run_on(rt, line, &input, &console));
     same(rt, console.counts(), (wanted.len() as u64, 0));
 }
 
@@ -227,22 +213,22 @@ const APART: [&str; 2] = [
     "planarbend: 1 of 1 files begun, 5 graphs, 8 a second\n",
 ];
 
-/// Words, whether there is a terminal, and what is told.
-const TOLD: [(&[&str], bool, &[&str]); 5] = [
-    (&["layout", "-"], true, &[]),
-    (&["layout", "-", "--progress"], true, &OVER),
-    (&["layout", "-", "--progress"], false, &[]),
-    (&["layout", "--progress", "-", "--progress"], true, &OVER),
-    (&["layout", "--progress", "-", "--progress"], false, &APART),
+/// A command line, whether there is a terminal, and what is told.
+const TOLD: [(&str, bool, &[&str]); 5] = [
+    ("layout -", true, &[]),
+    ("layout - --progress", true, &OVER),
+    ("layout - --progress", false, &[]),
+    ("layout --progress - --progress", true, &OVER),
+    ("layout --progress - --progress", false, &APART),
 ];
 
 #[test]
 fn tells_how_far_it_is(rt: HostRuntime) {
-    for (words, terminal, wanted) in TOLD {
-        check_told(&rt, words, terminal, wanted);
+    for (line, terminal, wanted) in TOLD {
+        check_told(&rt, line, terminal, wanted);
     }
     let refused = "unexpected argument '--progress' found";
-    check_refused(&rt, &[(&["frames", "--progress", "a"], refused)]);
+    check_said(&rt, &[("frames --progress a", refused)], 2);
 }
 
 /// How many lines are told of so many graphs, between which so many milliseconds pass.
