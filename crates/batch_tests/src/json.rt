@@ -124,22 +124,20 @@ fn check_room<R: AllocGlobal + Abort>(
 }
 
 /// A writer that fails after so many bytes has just these, and one that takes a byte a call has all.
+fn check_rooms<R: AllocGlobal + Abort>(rt: &R, batch: &Batch, text: &[u8]) {
+    assert!(rt; text.len() <= 2048);
+    for room in 0..text.len() {
+        let narrow = Narrow::new(room, 100);
+        check_room(rt, batch, text, narrow, Err(WriteFault::Write));
+    }
+    check_room(rt, batch, text, Narrow::new(2048, 1), Ok(()));
+}
+
 #[test]
 fn writes_a_beginning_before_a_fault(rt: HostRuntime) {
     let batch = batch_of(rt.alloc(), &THREE_FILES).expect(&rt, "a batch");
     let text = text_of(rt.alloc(), &batch).expect(&rt, "lines");
-    let text = text.as_slice();
-    assert!(rt; text.len() <= 2048);
-    for room in 0..text.len() {
-        check_room(
-            &rt,
-            &batch,
-            text,
-            Narrow::new(room, 100),
-            Err(WriteFault::Write),
-        );
-    }
-    check_room(&rt, &batch, text, Narrow::new(2048, 1), Ok(()));
+    check_rooms(&rt, &batch, text.as_slice());
 }
 
 /// What is written of a batch into a writer that takes at most 100 bytes a call, and the answer.
@@ -149,20 +147,20 @@ fn narrow_text(alloc: Global, batch: &Batch) -> (Narrow, Result<(), WriteFault>)
     (sink.into_writer(), found)
 }
 
+/// Writes a batch twice: whether one text is whole, and the other as well, or a beginning that names the want.
+fn is_written(alloc: Global, batch: &Batch) -> bool {
+    let (first, found) = narrow_text(alloc, batch);
+    let (second, again) = narrow_text(alloc, batch);
+    are_allowed(first.text(), found, second.text(), again)
+}
+
 /// With each allocation refused in turn, one of two calls writes a beginning of the text and names the want,
 /// and the other writes the whole text; or both do, where none of theirs was refused.
 #[test]
 fn names_want_of_memory(rt: HostRuntime) {
-    let Some(batch) = batch_of(rt.alloc(), &THREE_FILES) else {
-        return;
-    };
-    let (first, found) = narrow_text(rt.alloc(), &batch);
-    let (second, again) = narrow_text(rt.alloc(), &batch);
-    same(
-        &rt,
-        are_allowed(first.text(), found, second.text(), again),
-        true,
-    );
+    if let Some(batch) = batch_of(rt.alloc(), &THREE_FILES) {
+        same(&rt, is_written(rt.alloc(), &batch), true);
+    }
 }
 
 /// Two texts, each with its answer, are the same; or one is a beginning of the other, and its answer names the want.

@@ -4,8 +4,7 @@ ghost use Rattle.ruled_lanes.specs.declared.limits.TheConstants.{MAX_CAPACITY};
 
 use crate::shared::{opener_of, report_of, same, text_of_lanes};
 use collector::{
-    Choice, DrawingKind, Form, IoSink, MAX_LANES, MemOpener, OpenGate, Style, run_batch, run_plain,
-    write_json,
+    Choice, Form, IoSink, MAX_LANES, MemOpener, OpenGate, run_batch, run_plain, write_json,
 };
 use std::alloc::{AllocError, Global};
 use std::process::Abort;
@@ -113,11 +112,6 @@ fn lines_of_books(alloc: Global, opener: &MemOpener, files: u32) -> Option<Vec<u
     Some(sink.into_writer())
 }
 
-/// A text of drawings of this kind.
-fn style_of(form: Form, drawing: DrawingKind) -> Style {
-    Style { form, drawing }
-}
-
 /// JSON lines of quick drawings that leave as they are made over any number of lanes are those of the books of one
 /// thread.
 #[test]
@@ -126,9 +120,10 @@ fn json_lines_are_those_of_books(rt: HostRuntime) {
     let due = lines_of_books(rt.alloc(), &opener, 48).expect(&rt, "lines");
     let lines = due.as_slice().split(|byte| *byte == b'\n').count();
     same(&rt, lines, 16 * 2 + 16 * 5 + 16 + 1);
-    let style = style_of(Form::Json, DrawingKind::Quick);
+    let (choice, form) = (Choice::First, Form::Json);
     for lanes in 1..=MAX_LANES {
-        let found = text_of_lanes(&rt, &opener, 48, lanes, style).expect(&rt, "a text");
+        let found = text_of_lanes(&rt, &opener, 48, lanes, choice, form, &OpenGate);
+        let found = found.expect(&rt, "a text");
         same(&rt, found.as_slice() == due.as_slice(), true);
     }
 }

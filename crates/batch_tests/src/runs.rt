@@ -3,12 +3,14 @@
 ghost use Rattle.std.specs.Prelude.{◌<◌, ◌≤◌, false, None};
 ghost use Rattle.lanes.specs.Opening.{Silent};
 
-use crate::shared::{WAYS, Way, check_report, lanes_report, opener_of, plain_batch, same};
-use collector::{
-    Answer, Batch, BatchFault, Book, Choice, Gate, MAX_LANES, Mark, MemOpener, MemTap, OpenFault,
-    OpenGate, Opener, Stage, Tap, TapFault, run_batch,
+use crate::shared::{
+    CUT, HEADER, OF_THREE, THREE_FILES, TRIANGLES, WAYS, Way, check_report, check_three,
+    lanes_report, opener_of, plain_batch, same,
 };
-use planar_code::Ending;
+use collector::{
+    Batch, BatchFault, Choice, Gate, MAX_LANES, MemOpener, MemTap, OpenFault, OpenGate, Opener,
+    Stage, Tap, TapFault, run_batch,
+};
 use std::alloc::{AllocError, Global};
 use std::fmt::Write;
 use std::process::Abort;
@@ -16,13 +18,6 @@ use std::sync::Wait;
 use std::sync::atomic::{AtomicBool, AtomicU32, Ordering};
 use std::thread;
 use std::thread::Threads;
-
-const TRIANGLES: &[u8] =
-    b">>planar_code<<\x03\x02\x03\x00\x03\x01\x00\x01\x02\x00\x03\x02\x03\x00\x03\x01\x00\x01\x02\x00";
-
-const CUT: &[u8] = b">>planar_code<<\x02\x02\x00\x01\x00\x02\x02\x00\x01";
-
-const HEADER: &[u8] = b">>planar_code<<";
 
 const EDGELESS: &[u8] = b">>planar_code<<\x01\x00";
 
@@ -32,11 +27,6 @@ const LARGE: &[u8] = b">>planar_code<<\x02\x02\x00\x01\x00\x00\x02";
 
 const OF_TRIANGLES: &str = "file 1\ngraph 1 ok n=3 m=3 f=2 bends=1 drawn=yes\n\
     graph 2 ok n=3 m=3 f=2 bends=1 drawn=yes\nend complete graphs=2\n";
-
-const OF_THREE: &str = "file 1\ngraph 1 ok n=3 m=3 f=2 bends=1 drawn=yes\n\
-    graph 2 ok n=3 m=3 f=2 bends=1 drawn=yes\nend complete graphs=2\n\
-    file 2\ngraph 1 ok n=2 m=1 f=1 bends=0 drawn=yes\nend truncated graphs=1\n\
-    file 3\nend complete graphs=0\n";
 
 const OF_FOUR: &str = "file 1\ngraph 1 ok n=3 m=3 f=2 bends=1 drawn=yes\n\
     graph 2 ok n=3 m=3 f=2 bends=1 drawn=yes\nend complete graphs=2\n\
@@ -88,25 +78,24 @@ fn check_plain<R: AllocGlobal + Abort>(rt: &R, files: &[&[u8]], choice: Choice, 
 
 #[test]
 fn reports_the_same_over_lanes(rt: HostRuntime) {
-    let files = [TRIANGLES, CUT, HEADER];
     for lanes in 1..=MAX_LANES {
         for way in WAYS {
-            check(&rt, way, &files, lanes, &OpenGate, OF_THREE);
+            check(&rt, way, &THREE_FILES, lanes, &OpenGate, OF_THREE);
         }
     }
-    check_plain(&rt, &files, Choice::First, OF_THREE);
+    check_plain(&rt, &THREE_FILES, Choice::First, OF_THREE);
 }
 
 /// Neither a single edge nor a triangle has a better face than the widest.
 #[test]
 fn reports_the_same_under_either_choice(rt: HostRuntime) {
-    let files = [TRIANGLES, CUT, HEADER];
+    let (files, best) = (THREE_FILES, Choice::Best);
     for lanes in 1..=4 {
         for way in WAYS {
-            check_chosen(&rt, way, &files, lanes, Choice::Best, &OpenGate, OF_THREE);
+            check_chosen(&rt, way, &files, lanes, best, &OpenGate, OF_THREE);
         }
     }
-    check_plain(&rt, &files, Choice::Best, OF_THREE);
+    check_plain(&rt, &files, best, OF_THREE);
 }
 
 /// A cube with a ninth vertex that is joined to all corners of one face: that face's opposite one needs
@@ -126,17 +115,13 @@ const CAPPED_BY_BEST: &str = "file 1\n\
 #[test]
 fn chooses_the_outer_face(rt: HostRuntime) {
     let files = [CAPPED_CUBE];
-    for way in WAYS {
-        check_chosen(
-            &rt,
-            way,
-            &files,
-            1,
-            Choice::First,
-            &OpenGate,
-            CAPPED_BY_FIRST,
-        );
-        check_chosen(&rt, way, &files, 1, Choice::Best, &OpenGate, CAPPED_BY_BEST);
+    for (choice, report) in [
+        (Choice::First, CAPPED_BY_FIRST),
+        (Choice::Best, CAPPED_BY_BEST),
+    ] {
+        for way in WAYS {
+            check_chosen(&rt, way, &files, 1, choice, &OpenGate, report);
+        }
     }
 }
 
@@ -195,7 +180,7 @@ fn check_counts<R: AllocGlobal + Threads + Wait + Sync + Abort>(
 
 #[test]
 fn each_stage_passes_the_gate_once_a_record(rt: HostRuntime) {
-    check_counts(&rt, &[TRIANGLES, CUT, HEADER], OF_THREE, 3);
+    check_counts(&rt, &THREE_FILES, OF_THREE, 3);
     check_counts(&rt, &[TRIANGLES, CUT, HEADER, EDGELESS], OF_FOUR, 4);
 }
 
@@ -235,10 +220,10 @@ fn no_files_have_an_empty_report(rt: HostRuntime) {
     }
 }
 
-/// Waits until the flag is set, and notes where a million turns were too few.
-fn wait_for(flag: &AtomicBool, ran_out: &AtomicBool) {
+/// Waits until a number of calls is reached, and notes where a million turns were too few.
+fn wait_for_calls(calls: &AtomicU32, least: u32, ran_out: &AtomicBool) {
     for _ in 0..1_000_000 {
-        if flag.load(Ordering::SeqCst) {
+        if calls.load(Ordering::SeqCst) >= least {
             return;
         }
         thread::yield_now();
@@ -249,34 +234,37 @@ fn wait_for(flag: &AtomicBool, ran_out: &AtomicBool) {
 /// Two calls, of which each is held up until the other is made.
 #[derive(Drop)]
 struct Meeting {
-    first: AtomicBool,
-    second: AtomicBool,
+    first: AtomicU32,
+    second: AtomicU32,
     ran_out: AtomicBool,
 }
 
 impl Meeting {
     fn new() -> Meeting {
         Meeting {
-            first: AtomicBool::new(false),
-            second: AtomicBool::new(false),
+            first: AtomicU32::new(0),
+            second: AtomicU32::new(0),
             ran_out: AtomicBool::new(false),
         }
     }
 
     fn come_first(&self) {
-        self.first.store(true, Ordering::SeqCst);
-        wait_for(&self.second, &self.ran_out);
+        self.first.fetch_add(1, Ordering::SeqCst);
+        wait_for_calls(&self.second, 1, &self.ran_out);
     }
 
     fn come_second(&self) {
-        self.second.store(true, Ordering::SeqCst);
-        wait_for(&self.first, &self.ran_out);
+        self.second.fetch_add(1, Ordering::SeqCst);
+        wait_for_calls(&self.first, 1, &self.ran_out);
     }
 
     /// Both calls were made, and neither waited too long.
     fn took_place(&self) -> bool {
-        let both = self.first.load(Ordering::SeqCst) && self.second.load(Ordering::SeqCst);
-        both && !self.ran_out.load(Ordering::SeqCst)
+        let both = self
+            .first
+            .load(Ordering::SeqCst)
+            .min(self.second.load(Ordering::SeqCst));
+        both > 0 && !self.ran_out.load(Ordering::SeqCst)
     }
 }
 
@@ -364,17 +352,6 @@ fn calls_of(calls: &[AtomicU32; 2], lane: u32) -> &AtomicU32 {
 /// The other of two lanes.
 fn other_than(lane: u32) -> u32 {
     if lane == 0 { 1 } else { 0 }
-}
-
-/// Waits until a number of calls is reached, and notes where a million turns were too few.
-fn wait_for_calls(calls: &AtomicU32, least: u32, ran_out: &AtomicBool) {
-    for _ in 0..1_000_000 {
-        if calls.load(Ordering::SeqCst) >= least {
-            return;
-        }
-        thread::yield_now();
-    }
-    ran_out.store(true, Ordering::SeqCst);
 }
 
 impl Gate for HoldsFan {
@@ -503,67 +480,6 @@ fn gate_holds_deal(rt: HostRuntime) {
     }
 }
 
-/// The numbers of vertices, edges, faces and bends of a drawn record.
-type Sizes = (u32, u32, u32, u32);
-
-/// How many wants of memory an answer tells, which is else a drawing of these sizes.
-fn wants_of(rt: &impl Abort, answer: &Answer, sizes: Sizes) -> usize {
-    let found = match answer {
-        Answer::Laid {
-            plane,
-            shape,
-            drawing,
-            prices: _,
-        } => {
-            let graph = plane.graph();
-            let found = (
-                u32::from(graph.vertices()),
-                u32::from(graph.edges()),
-                u32::from(plane.face_count()),
-                shape.bends(),
-            );
-            drawing.is_ok().then_some(found)
-        }
-        Answer::Refused(_) => None,
-        Answer::NoMemory => return 1,
-    };
-    same(rt, found, Some(sizes));
-    0
-}
-
-/// How many wants of memory a book tells, by an answer or by its mark, and how many entries it has. It is else of these
-/// records and has this mark.
-fn wants_in(rt: &impl Abort, book: &Book, records: &[Sizes], mark: Mark) -> (usize, usize) {
-    let entries = book.entries();
-    let mut wants: usize = 0;
-    for (entry, sizes) in entries.iter().zip(records) {
-        wants = wants.saturating_add(wants_of(rt, &entry.answer, *sizes));
-    }
-    if book.mark() == mark {
-        same(rt, entries.len(), records.len());
-    } else {
-        same(rt, book.mark(), Mark::Ended(Ending::Memory));
-        same(rt, entries.len() <= records.len(), true);
-        wants = wants.saturating_add(1);
-    }
-    (wants, entries.len())
-}
-
-/// The books are those of two triangles, of an edge in front of a cut record and of no record, but for one place at
-/// most, which tells want of memory. Answers how many entries they have.
-fn check_books(rt: &impl Abort, batch: &Batch) -> usize {
-    assert!(rt; batch.files() == 3);
-    let complete = Mark::Ended(Ending::Complete);
-    let triangle = (3, 3, 2, 1);
-    let first = wants_in(rt, batch.book(0), &[triangle, triangle], complete);
-    let cut = Mark::Ended(Ending::Truncated);
-    let second = wants_in(rt, batch.book(1), &[(2, 1, 1, 0)], cut);
-    let third = wants_in(rt, batch.book(2), &[], complete);
-    let wants = first.0.saturating_add(second.0).saturating_add(third.0);
-    same(rt, wants <= 1, true);
-    first.1.saturating_add(second.1).saturating_add(third.1)
-}
-
 /// A run over lanes behind a gate, and how many sources were opened and let go.
 fn counted_run<R: AllocGlobal + Threads + Wait + Sync, G: Gate>(
     rt: &R,
@@ -602,14 +518,19 @@ fn counted_run<R: AllocGlobal + Threads + Wait + Sync, G: Gate>(
 /// Each record that is booked has passed the gate once at each stage, whether or not memory was wanting for it.
 #[test]
 fn names_want_of_memory(rt: HostRuntime) {
-    let Ok(files) = opener_of(rt.alloc(), &[TRIANGLES, CUT, HEADER], 1) else {
+    let Ok(files) = opener_of(rt.alloc(), &THREE_FILES, 1) else {
         return;
     };
     let counts = Counts::new();
     let (run, (opened, dropped)) = counted_run(&rt, files, 3, 2, &counts);
     same(&rt, opened, dropped);
+    check_named(&rt, &counts, run);
+}
+
+/// A run has its books, or a fault that names want of memory or of a thread.
+fn check_named(rt: &impl Abort, counts: &Counts, run: Result<Batch, BatchFault>) {
     match run {
-        Ok(batch) => check_passed(&rt, &counts, check_books(&rt, &batch)),
+        Ok(batch) => check_passed(rt, counts, check_three(rt, &batch)),
         Err(fault) => assert!(rt; fault == BatchFault::Memory || fault == BatchFault::Thread),
     }
 }
@@ -644,7 +565,7 @@ fn books_of_run<R: AllocGlobal + Threads + Wait + Sync>(
 /// answers Ok or the fault `Thread`.
 #[test]
 fn names_a_refused_thread(rt: HostRuntime) {
-    let opener = opener_of(rt.alloc(), &[TRIANGLES, CUT, HEADER], 1).expect(&rt, "memory");
+    let opener = opener_of(rt.alloc(), &THREE_FILES, 1).expect(&rt, "memory");
     for lanes in 1..=MAX_LANES {
         let found = books_of_run(&rt, &opener, lanes);
         assert!(rt;

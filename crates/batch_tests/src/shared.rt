@@ -3,9 +3,10 @@
 ghost use Rattle.std.specs.Prelude.{◌<◌};
 
 use collector::{
-    Batch, Choice, DrawingKind, Form, Gate, IoSink, MemOpener, OpenGate, Style, WriteFault,
-    run_batch, run_plain, write_batch, write_report,
+    Answer, Batch, Book, Choice, DrawingKind, Form, Gate, IoSink, Mark, MemOpener, Style,
+    WriteFault, run_batch, run_plain, write_batch, write_report,
 };
+use planar_code::Ending;
 use std::alloc::{AllocError, Global};
 use std::fmt::Debug;
 use std::process::Abort;
@@ -16,6 +17,22 @@ use std::thread::Threads;
 pub(crate) fn same<T: PartialEq + Debug + Drop>(rt: &impl Abort, got: T, want: T) {
     assert_eq!(rt; got, want);
 }
+
+pub(crate) const TRIANGLES: &[u8] =
+    b">>planar_code<<\x03\x02\x03\x00\x03\x01\x00\x01\x02\x00\x03\x02\x03\x00\x03\x01\x00\x01\x02\x00";
+
+pub(crate) const CUT: &[u8] = b">>planar_code<<\x02\x02\x00\x01\x00\x02\x02\x00\x01";
+
+pub(crate) const HEADER: &[u8] = b">>planar_code<<";
+
+/// Two triangles; an edge and a record that is cut; no record.
+pub(crate) const THREE_FILES: [&[u8]; 3] = [TRIANGLES, CUT, HEADER];
+
+/// The report of them.
+pub(crate) const OF_THREE: &str = "file 1\ngraph 1 ok n=3 m=3 f=2 bends=1 drawn=yes\n\
+    graph 2 ok n=3 m=3 f=2 bends=1 drawn=yes\nend complete graphs=2\n\
+    file 2\ngraph 1 ok n=2 m=1 f=1 bends=0 drawn=yes\nend truncated graphs=1\n\
+    file 3\nend complete graphs=0\n";
 
 /// Copies of these files.
 pub(crate) fn copies(alloc: Global, files: &[&[u8]]) -> Result<Vec<Vec<u8>>, AllocError> {
@@ -109,39 +126,23 @@ fn lanes_text<R: AllocGlobal + Threads + Wait + Sync, G: Gate>(
 ) -> Option<Vec<u8>> {
     let count = count_of(files)?;
     let opener = opener_of(rt.alloc(), files, 1).ok()?;
-    let mut sink = IoSink::new(Vec::new(rt.alloc()));
-    let style = Style {
-        form: Form::Report,
-        drawing: DrawingKind::Quick,
-    };
-    write_batch(
-        rt,
-        rt.alloc(),
-        &opener,
-        count,
-        lanes,
-        1,
-        usize::MAX,
-        choice,
-        style,
-        gate,
-        &mut sink,
-    )
-    .ok()?;
-    Some(sink.into_writer())
+    text_of_lanes(rt, &opener, count, lanes, choice, Form::Report, gate)
 }
 
-/// The text in this style of a run over so many files of an opener, as it is made.
-pub(crate) fn text_of_lanes<R: AllocGlobal + Threads + Wait + Sync>(
+/// The text in this form of a run over so many files of an opener, as it is made, of quick drawings.
+pub(crate) fn text_of_lanes<R: AllocGlobal + Threads + Wait + Sync, G: Gate>(
     rt: &R,
     opener: &MemOpener,
     files: u32,
     lanes: u32,
-    style: Style,
+    choice: Choice,
+    form: Form,
+    gate: &G,
 ) -> Option<Vec<u8>> {
-    let (alloc, choice) = (rt.alloc(), Choice::First);
+    let (alloc, drawing) = (rt.alloc(), DrawingKind::Quick);
+    let style = Style { form, drawing };
     let mut sink = IoSink::new(Vec::new(alloc));
-    write_batch(
+    let ended = write_batch(
         rt,
         alloc,
         opener,
@@ -151,11 +152,13 @@ pub(crate) fn text_of_lanes<R: AllocGlobal + Threads + Wait + Sync>(
         usize::MAX,
         choice,
         style,
-        &OpenGate,
+        gate,
         &mut sink,
-    )
-    .ok()?;
-    Some(sink.into_writer())
+    );
+    match ended {
+        Ok(_) => Some(sink.into_writer()),
+        Err(_) => None,
+    }
 }
 
 /// The report of a batch.
@@ -169,4 +172,65 @@ pub(crate) fn report_of(alloc: Global, batch: &Batch) -> Result<Vec<u8>, WriteFa
 pub(crate) fn check_report<R: AllocGlobal + Abort>(rt: &R, batch: &Batch, report: &[u8]) {
     let text = report_of(rt.alloc(), batch).expect(rt, "a report");
     same(rt, text.as_slice(), report);
+}
+
+/// The numbers of vertices, edges, faces and bends of a drawn record.
+type Sizes = (u32, u32, u32, u32);
+
+/// How many wants of memory an answer tells, which is else a drawing of these sizes.
+fn wants_of(rt: &impl Abort, answer: &Answer, sizes: Sizes) -> usize {
+    let found = match answer {
+        Answer::Laid {
+            plane,
+            shape,
+            drawing,
+            prices: _,
+        } => {
+            let graph = plane.graph();
+            let found = (
+                u32::from(graph.vertices()),
+                u32::from(graph.edges()),
+                u32::from(plane.face_count()),
+                shape.bends(),
+            );
+            drawing.is_ok().then_some(found)
+        }
+        Answer::Refused(_) => None,
+        Answer::NoMemory => return 1,
+    };
+    same(rt, found, Some(sizes));
+    0
+}
+
+/// How many wants of memory a book tells, by an answer or by its mark, and how many entries it has. It is else of these
+/// records and has this mark.
+fn wants_in(rt: &impl Abort, book: &Book, records: &[Sizes], mark: Mark) -> (usize, usize) {
+    let entries = book.entries();
+    let mut wants: usize = 0;
+    for (entry, sizes) in entries.iter().zip(records) {
+        wants = wants.saturating_add(wants_of(rt, &entry.answer, *sizes));
+    }
+    if book.mark() == mark {
+        same(rt, entries.len(), records.len());
+    } else {
+        same(rt, book.mark(), Mark::Ended(Ending::Memory));
+        same(rt, entries.len() <= records.len(), true);
+        wants = wants.saturating_add(1);
+    }
+    (wants, entries.len())
+}
+
+/// The books are those of the three files, but for one place at most, which tells want of memory. Answers how many
+/// entries they have.
+pub(crate) fn check_three(rt: &impl Abort, batch: &Batch) -> usize {
+    assert!(rt; batch.files() == 3);
+    let complete = Mark::Ended(Ending::Complete);
+    let triangle = (3, 3, 2, 1);
+    let first = wants_in(rt, batch.book(0), &[triangle, triangle], complete);
+    let cut = Mark::Ended(Ending::Truncated);
+    let second = wants_in(rt, batch.book(1), &[(2, 1, 1, 0)], cut);
+    let third = wants_in(rt, batch.book(2), &[], complete);
+    let wants = first.0.saturating_add(second.0).saturating_add(third.0);
+    same(rt, wants <= 1, true);
+    first.1.saturating_add(second.1).saturating_add(third.1)
 }

@@ -2,19 +2,17 @@
 //! and of the report.
 ghost use Rattle.std.specs.Prelude.{◌≤◌};
 
-use crate::shared::{check_report, opener_of, plain_batch, same};
-use collector::{
-    Answer, Batch, BatchFault, Book, Cause, Choice, IoSink, Mark, MemOpener, WriteFault,
-    push_cause, run_plain, write_report,
+use crate::shared::{
+    HEADER, OF_THREE, THREE_FILES, check_report, check_three, opener_of, plain_batch, same,
 };
-use planar_code::Ending;
+use collector::{
+    BatchFault, Cause, Choice, IoSink, MemOpener, WriteFault, push_cause, run_plain, write_report,
+};
 use std::alloc::{AllocError, Global};
 use std::io;
 use std::io::{ErrorKind, Write};
 use std::process::Abort;
 use streams::TextBuffer;
-
-const HEADER: &[u8] = b">>planar_code<<";
 
 const EDGE: &[u8] = b"\x02\x02\x00\x01\x00";
 
@@ -159,25 +157,9 @@ fn tells_how_a_file_ended(rt: HostRuntime) {
     check_file(&rt, &long, "end oversize graphs=0\n");
 }
 
-const THREE_FILES: [&[u8]; 3] = [
-    b">>planar_code<<\x03\x02\x03\x00\x03\x01\x00\x01\x02\x00\x03\x02\x03\x00\x03\x01\x00\x01\x02\x00",
-    b">>planar_code<<\x02\x02\x00\x01\x00\x02\x02\x00\x01",
-    b">>planar_code<<",
-];
-
 #[test]
 fn tells_of_all_files_in_order(rt: HostRuntime) {
-    let report = b"file 1
-graph 1 ok n=3 m=3 f=2 bends=1 drawn=yes
-graph 2 ok n=3 m=3 f=2 bends=1 drawn=yes
-end complete graphs=2
-file 2
-graph 1 ok n=2 m=1 f=1 bends=0 drawn=yes
-end truncated graphs=1
-file 3
-end complete graphs=0
-";
-    check_files(&rt, &THREE_FILES, report);
+    check_files(&rt, &THREE_FILES, OF_THREE.as_bytes());
     check_files(&rt, &[], b"");
 }
 
@@ -273,41 +255,6 @@ fn names_each_cause(rt: HostRuntime) {
     }
 }
 
-/// Looks at a book of which each graph has so many bends, and counts where it names want of memory.
-fn count_wants<R: Abort>(rt: &R, book: &Book, count: usize, bends: u32, end: Ending) -> usize {
-    let mut wants: usize = 0;
-    for entry in book.entries() {
-        wants = wants.saturating_add(wants_of(rt, &entry.answer, bends));
-    }
-    if book.mark() == Mark::Ended(Ending::Memory) {
-        wants.saturating_add(1)
-    } else {
-        same(rt, book.mark(), Mark::Ended(end));
-        same(rt, book.entries().len(), count);
-        wants
-    }
-}
-
-/// An answer with so many bends counts nothing, and one that names want of memory counts one.
-fn wants_of<R: Abort>(rt: &R, answer: &Answer, bends: u32) -> usize {
-    let found = match answer {
-        Answer::Laid { shape, .. } => Some(shape.bends()),
-        Answer::Refused(_) => None,
-        Answer::NoMemory => return 1,
-    };
-    same(rt, found, Some(bends));
-    0
-}
-
-/// All is as ever but for one entry or one file that names want of memory.
-fn check_wants(rt: &impl Abort, batch: &Batch) {
-    assert!(rt; batch.files() == 3);
-    let first = count_wants(rt, batch.book(0), 2, 1, Ending::Complete);
-    let second = count_wants(rt, batch.book(1), 1, 0, Ending::Truncated);
-    let third = count_wants(rt, batch.book(2), 0, 0, Ending::Complete);
-    assert!(rt; first.saturating_add(second).saturating_add(third) <= 1);
-}
-
 /// With each allocation refused in turn, all is as ever but for one entry that says so, or one file that
 /// ends early and says so, or there is no batch.
 #[test]
@@ -316,7 +263,9 @@ fn names_want_of_memory(rt: HostRuntime) {
         return;
     };
     match run_plain(rt.alloc(), &opener, 3, Choice::First) {
-        Ok(batch) => check_wants(&rt, &batch),
+        Ok(batch) => {
+            let _entries = check_three(&rt, &batch);
+        }
         Err(fault) => same(&rt, fault, BatchFault::Memory),
     }
 }
