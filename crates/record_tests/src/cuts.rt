@@ -4,7 +4,6 @@ use crate::known::{EDGE, OCTAHEDRON, STAR, TETRAHEDRON, TETRAHEDRON_ON_A_TORUS, 
 use planar_code::{Ending, Framer, HEADER, Record};
 use std::alloc::Global;
 use std::process::Abort;
-use std::test::Fail;
 
 /// Behind which place the record ends that begins here, or else how the text ends.
 fn end_of_record(text: &[u8], start: usize) -> Result<usize, Ending> {
@@ -29,11 +28,11 @@ fn end_of_record(text: &[u8], start: usize) -> Result<usize, Ending> {
 }
 
 /// Behind which places the records of a text end, and how the text ends.
-fn read_plainly(alloc: Global, text: &[u8]) -> Result<(Vec<usize>, Ending), Fail> {
+fn read_plainly(rt: &impl Abort, alloc: Global, text: &[u8]) -> (Vec<usize>, Ending) {
     let mut ends = Vec::new(alloc);
     let mut start = HEADER.len();
     if !text.starts_with(&HEADER) {
-        return Ok((ends, Ending::Header));
+        return (ends, Ending::Header);
     }
     for _ in text {
         if start == text.len() {
@@ -41,20 +40,20 @@ fn read_plainly(alloc: Global, text: &[u8]) -> Result<(Vec<usize>, Ending), Fail
         }
         match end_of_record(text, start) {
             Ok(end) => start = end,
-            Err(ending) => return Ok((ends, ending)),
+            Err(ending) => return (ends, ending),
         }
-        ends.push(start)?;
+        ends.push(start).expect(rt, "memory");
     }
-    Ok((ends, Ending::Complete))
+    (ends, Ending::Complete)
 }
 
 /// The records of a text that is fed in two pieces, and how it ends.
-fn feed_both(alloc: Global, one: &[u8], two: &[u8]) -> Result<(Vec<Record>, Ending), Fail> {
-    let mut framer = Framer::new(alloc)?;
+fn feed_both(rt: &impl Abort, alloc: Global, one: &[u8], two: &[u8]) -> (Vec<Record>, Ending) {
+    let mut framer = Framer::new(alloc).expect(rt, "memory");
     let mut records = Vec::new(alloc);
     let _ = framer.feed(alloc, one, &mut records);
     let _ = framer.feed(alloc, two, &mut records);
-    Ok((records, framer.finish()))
+    (records, framer.finish())
 }
 
 /// The records are the parts of the text that end in these places.
@@ -68,25 +67,24 @@ fn are_parts(rt: &impl Abort, records: &[Record], text: &[u8], ends: &[usize]) {
 }
 
 /// Feeds a text in two pieces, divided in each place, and compares with the plain reading.
-fn divide(rt: &impl Abort, alloc: Global, text: &[u8]) -> Result<(), Fail> {
-    let (ends, ending) = read_plainly(alloc, text)?;
+fn divide(rt: &impl Abort, alloc: Global, text: &[u8]) {
+    let (ends, ending) = read_plainly(rt, alloc, text);
     for place in 0..=text.len() {
         let (one, two) = text.split_at(place);
-        let (records, found) = feed_both(alloc, one, two)?;
+        let (records, found) = feed_both(rt, alloc, one, two);
         same(rt, found, ending);
         are_parts(rt, records.as_slice(), text, ends.as_slice());
     }
-    Ok(())
 }
 
 /// Cuts the header and these bytes behind each byte.
-fn cut(rt: &impl Abort, alloc: Global, bytes: &[u8]) -> Result<(), Fail> {
-    let mut text = HEADER.to_vec(alloc)?;
-    text.extend_from_slice(bytes)?;
+fn cut(rt: &impl Abort, alloc: Global, bytes: &[u8]) {
+    let text = [HEADER.as_slice(), bytes]
+        .concat(alloc)
+        .expect(rt, "memory");
     for count in 0..=text.len() {
-        divide(rt, alloc, &text[..count])?;
+        divide(rt, alloc, &text[..count]);
     }
-    Ok(())
 }
 
 /// Graphs, records that break a rule, and bytes that end badly.
@@ -111,17 +109,16 @@ const FILES: [&[u8]; 17] = [
 ];
 
 #[test]
-fn files_are_cut_anywhere(rt: HostRuntime) -> Result<(), Fail> {
+fn files_are_cut_anywhere(rt: HostRuntime) {
     for bytes in FILES {
-        cut(&rt, rt.alloc(), bytes)?;
+        cut(&rt, rt.alloc(), bytes);
     }
-    Ok(())
 }
 
 /// A record of most vertices, whose first list has 255 entries: it is at fault at its last byte, and cut before that.
 #[test]
-fn a_long_list_is_cut_anywhere(rt: HostRuntime) -> Result<(), Fail> {
+fn a_long_list_is_cut_anywhere(rt: HostRuntime) {
     let mut bytes = [1; 256];
     bytes[0] = 255;
-    cut(&rt, rt.alloc(), &bytes)
+    cut(&rt, rt.alloc(), &bytes);
 }

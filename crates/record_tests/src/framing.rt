@@ -2,33 +2,27 @@
 
 use crate::known::{TRIANGLE, same};
 use planar_code::{Ending, FeedFault, Framer, HEADER, frame, split};
-use std::alloc::{AllocError, Global};
+use std::alloc::Global;
 use std::process::Abort;
-use std::test::Fail;
 
 /// How many records the framer finds in a text, and how it ends.
-fn framed(alloc: Global, text: &[u8]) -> Result<(usize, Ending), AllocError> {
-    let pieces = vec![in alloc; text.to_vec(alloc)?]?;
-    let (records, ending) = frame(alloc, pieces.as_slice())?;
-    Ok((records.len(), ending))
+fn framed(rt: &impl Abort, alloc: Global, text: &[u8]) -> (usize, Ending) {
+    let piece = text.to_vec(alloc).expect(rt, "memory");
+    let pieces = vec![in alloc; piece].expect(rt, "memory");
+    let (records, ending) = frame(alloc, pieces.as_slice()).expect(rt, "memory");
+    (records.len(), ending)
 }
 
 /// The same of the plain splitter.
-fn divided(alloc: Global, text: &[u8]) -> Result<(usize, Ending), AllocError> {
-    let (records, ending) = split(alloc, text)?;
-    Ok((records.len(), ending))
+fn divided(rt: &impl Abort, alloc: Global, text: &[u8]) -> (usize, Ending) {
+    let (records, ending) = split(alloc, text).expect(rt, "memory");
+    (records.len(), ending)
 }
 
 /// Sees that both find so many records and this ending.
-fn expect(
-    rt: &impl Abort,
-    alloc: Global,
-    text: &[u8],
-    want: (usize, Ending),
-) -> Result<(), AllocError> {
-    same(rt, framed(alloc, text)?, want);
-    same(rt, divided(alloc, text)?, want);
-    Ok(())
+fn expect(rt: &impl Abort, alloc: Global, text: &[u8], want: (usize, Ending)) {
+    same(rt, framed(rt, alloc, text), want);
+    same(rt, divided(rt, alloc, text), want);
 }
 
 /// Texts, how many records they have, and how they end.
@@ -53,17 +47,17 @@ const TEXTS: [(&[u8], usize, Ending); 9] = [
 ];
 
 #[test]
-fn tells_the_endings(rt: HostRuntime) -> Result<(), Fail> {
+fn tells_the_endings(rt: HostRuntime) {
     for (text, count, ending) in TEXTS {
-        expect(&rt, rt.alloc(), text, (count, ending))?;
+        expect(&rt, rt.alloc(), text, (count, ending));
     }
-    Ok(())
 }
 
 /// A file of one triangle, cut behind each byte: in the header, right behind it, in the record, and not at all.
 #[test]
-fn a_triangle_is_cut_anywhere(rt: HostRuntime) -> Result<(), Fail> {
-    let text = [HEADER.as_slice(), TRIANGLE.as_slice()].concat(rt.alloc())?;
+fn a_triangle_is_cut_anywhere(rt: HostRuntime) {
+    let text = [HEADER.as_slice(), TRIANGLE.as_slice()].concat(rt.alloc());
+    let text = text.expect(&rt, "memory");
     same(&rt, text.len(), 25);
     for count in 0..=text.len() {
         let want = match count {
@@ -72,87 +66,82 @@ fn a_triangle_is_cut_anywhere(rt: HostRuntime) -> Result<(), Fail> {
             25 => (1, Ending::Complete),
             _ => (0, Ending::Truncated),
         };
-        expect(&rt, rt.alloc(), &text[..count], want)?;
+        expect(&rt, rt.alloc(), &text[..count], want);
     }
-    Ok(())
 }
 
 /// A piece, what the feed of it answers, and how many records there are by then.
 type Feed<'a> = (&'a [u8], Result<(), FeedFault>, usize);
 
 /// Feeds these pieces to one framer, which then ends so.
-fn expect_feeds(
-    rt: &impl Abort,
-    alloc: Global,
-    feeds: &[Feed<'_>],
-    ending: Ending,
-) -> Result<(), Fail> {
-    let mut framer = Framer::new(alloc)?;
+fn expect_feeds(rt: &impl Abort, alloc: Global, feeds: &[Feed<'_>], ending: Ending) {
+    let mut framer = Framer::new(alloc).expect(rt, "memory");
     let mut out = Vec::new(alloc);
     for (piece, answer, count) in feeds {
         same(rt, framer.feed(alloc, piece, &mut out), *answer);
         same(rt, out.len(), *count);
     }
     same(rt, framer.finish(), ending);
-    Ok(())
 }
 
 /// Pieces that end in the header and in a record; a piece with another header, and one behind it; a record that is
 /// kept before a fault in the same piece.
+const FEEDS: [(&[Feed<'static>], Ending); 3] = [
+    (
+        &[
+            (b">>planar_c", Ok(()), 0),
+            (b"ode<<\x02\x02", Ok(()), 0),
+            (b"\x00\x01\x00", Ok(()), 1),
+        ],
+        Ending::Complete,
+    ),
+    (
+        &[
+            (b">>planar_codeX", Err(FeedFault::Header), 0),
+            (b"\x02\x02\x00\x01\x00", Err(FeedFault::Header), 0),
+        ],
+        Ending::Header,
+    ),
+    (
+        &[(
+            b">>planar_code<<\x02\x02\x00\x01\x00\x00\x02",
+            Err(FeedFault::Large),
+            1,
+        )],
+        Ending::Large,
+    ),
+];
+
 #[test]
-fn pieces_are_answered_one_by_one(rt: HostRuntime) -> Result<(), Fail> {
-    let three: [Feed<'_>; 3] = [
-        (b">>planar_c", Ok(()), 0),
-        (b"ode<<\x02\x02", Ok(()), 0),
-        (b"\x00\x01\x00", Ok(()), 1),
-    ];
-    expect_feeds(&rt, rt.alloc(), &three, Ending::Complete)?;
-    let other: [Feed<'_>; 2] = [
-        (b">>planar_codeX", Err(FeedFault::Header), 0),
-        (b"\x02\x02\x00\x01\x00", Err(FeedFault::Header), 0),
-    ];
-    expect_feeds(&rt, rt.alloc(), &other, Ending::Header)?;
-    let large: [Feed<'_>; 1] = [(
-        b">>planar_code<<\x02\x02\x00\x01\x00\x00\x02",
-        Err(FeedFault::Large),
-        1,
-    )];
-    expect_feeds(&rt, rt.alloc(), &large, Ending::Large)
+fn pieces_are_answered_one_by_one(rt: HostRuntime) {
+    for (feeds, ending) in FEEDS {
+        expect_feeds(&rt, rt.alloc(), feeds, ending);
+    }
 }
 
 /// Sees that a million records of one vertex and then these bytes are a million records, and end so.
-fn expect_a_million(
-    rt: &impl Abort,
-    alloc: Global,
-    bytes: &[u8],
-    ending: Ending,
-) -> Result<(), Fail> {
-    let mut text = HEADER.to_vec(alloc)?;
+fn expect_a_million(rt: &impl Abort, alloc: Global, bytes: &[u8], ending: Ending) {
+    let mut text = HEADER.to_vec(alloc).expect(rt, "memory");
     for _ in 0..1_000_000 {
-        text.extend_from_slice(&[1, 0])?;
+        text.extend_from_slice(&[1, 0]).expect(rt, "memory");
     }
-    text.extend_from_slice(bytes)?;
-    Ok(expect(rt, alloc, &text, (1_000_000, ending))?)
+    text.extend_from_slice(bytes).expect(rt, "memory");
+    expect(rt, alloc, &text, (1_000_000, ending));
 }
 
-#[test]
-fn a_million_records_are_complete(rt: HostRuntime) -> Result<(), Fail> {
-    expect_a_million(&rt, rt.alloc(), &[], Ending::Complete)
-}
+/// Nothing behind a million records, a byte 0, a record that is begun, and a whole one.
+const BEHIND_A_MILLION: [(&[u8], Ending); 4] = [
+    (&[], Ending::Complete),
+    (&[0], Ending::Many),
+    (&[7], Ending::Many),
+    (&[1, 0], Ending::Many),
+];
 
 #[test]
-fn a_zero_byte_is_too_many(rt: HostRuntime) -> Result<(), Fail> {
-    expect_a_million(&rt, rt.alloc(), &[0], Ending::Many)
-}
-
-#[test]
-fn a_begun_record_is_too_many(rt: HostRuntime) -> Result<(), Fail> {
-    expect_a_million(&rt, rt.alloc(), &[7], Ending::Many)
-}
-
-#[test]
-fn a_whole_record_is_too_many(rt: HostRuntime) -> Result<(), Fail> {
-    expect_a_million(&rt, rt.alloc(), &[1, 0], Ending::Many)
+fn a_million_records_are_most(rt: HostRuntime) {
+    for (bytes, ending) in BEHIND_A_MILLION {
+        expect_a_million(&rt, rt.alloc(), bytes, ending);
+    }
 }
 
 /// A refused growth is answered by its name, and leaves a beginning of the records.

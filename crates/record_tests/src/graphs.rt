@@ -5,15 +5,13 @@ use embedding::{Graph, ReadFault, Rule};
 use planar_code::ParseFault;
 use std::alloc::Global;
 use std::process::Abort;
-use std::test::Fail;
 
 #[test]
-fn faults_have_messages(rt: HostRuntime) -> Result<(), Fail> {
+fn faults_have_messages(rt: HostRuntime) {
     let rule = ReadFault::Rule(Rule::Multi);
-    let text = format!(in rt.alloc(); "{rule}, {}, {}", ReadFault::Memory, ParseFault::Long)?;
+    let text = format!(in rt.alloc(); "{rule}, {}, {}", ReadFault::Memory, ParseFault::Long);
     let want = "a rule is broken: multi, out of memory, more bytes follow the record";
-    same(&rt, text.as_str(), want);
-    Ok(())
+    same(&rt, text.expect(&rt, "memory").as_str(), want);
 }
 
 /// Whether a graph with so many edges was read; if not, there was no memory.

@@ -3,10 +3,10 @@
 use crate::known::{
     CUBE, EDGE, OCTAHEDRON, PATH, STAR, TETRAHEDRON, TETRAHEDRON_ON_A_TORUS, TRIANGLE, read, same,
 };
+use embedding::Graph;
 use faces::{Plane, TraceFault};
 use std::alloc::Global;
 use std::process::Abort;
-use std::test::Fail;
 
 /// How many vertices, edges and faces there are, which face is the outer one, and its degree.
 fn counts(plane: &Plane) -> (u8, u16, u16, u16, u16) {
@@ -19,15 +19,15 @@ fn counts(plane: &Plane) -> (u8, u16, u16, u16, u16) {
     )
 }
 
-/// The same for a record.
-fn counts_of(alloc: Global, bytes: &[u8]) -> Result<(u8, u16, u16, u16, u16), Fail> {
-    let graph = read(alloc, bytes)?;
-    let plane = Plane::trace(alloc, graph)?;
-    Ok(counts(&plane))
+/// The same for a record, where there is memory and it is one of a plane.
+fn counts_of(alloc: Global, bytes: &[u8]) -> Option<(u8, u16, u16, u16, u16)> {
+    let graph = read(alloc, bytes).ok()?;
+    let plane = Plane::trace(alloc, graph).ok()?;
+    Some(counts(&plane))
 }
 
 #[test]
-fn known_planes_have_their_counts(rt: HostRuntime) -> Result<(), Fail> {
+fn known_planes_have_their_counts(rt: HostRuntime) {
     let known = [
         (EDGE.as_slice(), (2, 1, 1, 0, 2)),
         (&PATH, (5, 4, 1, 0, 8)),
@@ -37,26 +37,27 @@ fn known_planes_have_their_counts(rt: HostRuntime) -> Result<(), Fail> {
         (&CUBE, (8, 12, 6, 0, 4)),
     ];
     for (bytes, want) in known {
-        same(&rt, counts_of(rt.alloc(), bytes)?, want);
+        same(&rt, counts_of(rt.alloc(), bytes), Some(want));
     }
-    Ok(())
+}
+
+/// The plane of a graph, by the second call where the first finds no memory.
+fn plane_at_last(rt: &impl Abort, alloc: Global, graph: Graph) -> Plane {
+    let graph = match Plane::trace(alloc, graph) {
+        Ok(plane) => return plane,
+        Err(TraceFault::Memory(graph)) => graph,
+        Err(TraceFault::Genus(graph)) => graph,
+    };
+    Plane::trace(alloc, graph).ok().expect(rt, "a plane")
 }
 
 // To be run with each allocation refused in turn. A refused one may come before the walk, where it ends the
 // test, or in it, and then the graph that comes back gives the plane.
 #[test]
-fn memory_hands_the_graph_back(rt: HostRuntime) -> Result<(), Fail> {
-    let alloc = rt.alloc();
-    let Ok(graph) = read(alloc, &TRIANGLE) else {
-        return Ok(());
-    };
-    let plane = match Plane::trace(alloc, graph) {
-        Ok(plane) => plane,
-        Err(TraceFault::Memory(graph)) => Plane::trace(alloc, graph)?,
-        Err(fault) => return Err(fault.into()),
-    };
-    expect_triangle(&rt, plane);
-    Ok(())
+fn memory_hands_the_graph_back(rt: HostRuntime) {
+    if let Ok(graph) = read(rt.alloc(), &TRIANGLE) {
+        expect_triangle(&rt, plane_at_last(&rt, rt.alloc(), graph));
+    }
 }
 
 /// The dart after each dart of the triangle.

@@ -4,7 +4,6 @@ use crate::known::{EDGE, TETRAHEDRON, TETRAHEDRON_ON_A_TORUS, read, same};
 use embedding::{Graph, ReadFault, Rule};
 use faces::{Plane, TraceFault};
 use std::alloc::{AllocError, Global};
-use std::test::Fail;
 
 /// The rule that a graph's faces break, if any.
 fn broken_by_faces(alloc: Global, graph: Graph) -> Result<Option<Rule>, AllocError> {
@@ -55,11 +54,10 @@ const RECORDS: [(&[u8], Option<Rule>); 16] = [
 ];
 
 #[test]
-fn each_rule_is_named(rt: HostRuntime) -> Result<(), Fail> {
+fn each_rule_is_named(rt: HostRuntime) {
     for (bytes, rule) in RECORDS {
-        same(&rt, broken(rt.alloc(), bytes)?, rule);
+        same(&rt, broken(rt.alloc(), bytes), Ok(rule));
     }
-    Ok(())
 }
 
 #[test]
