@@ -1,7 +1,8 @@
 //! A slow solver to compare with: one unit at a time along a path of least cost, found by going over all
 //! arcs until no label falls. (Bellman and Ford's method.)
 use min_cost_flow::{Arc, Cap, Network};
-use std::alloc::{AllocError, Global};
+use std::alloc::Global;
+use std::process::Abort;
 
 /// The label of a node that no path reaches.
 const FAR: i64 = 1 << 40;
@@ -22,39 +23,52 @@ struct Sending {
 }
 
 /// The least cost of a flow, or none where there is no flow.
-pub(crate) fn least_cost(alloc: Global, network: &Network) -> Result<Option<u64>, AllocError> {
-    let mut sending = begin(alloc, network)?;
+pub(crate) fn least_cost(rt: &impl Abort, alloc: Global, network: &Network) -> Option<u64> {
+    let mut sending = begin(rt, alloc, network);
     for _ in 0..100_000 {
         let Some(source) = sending.excess.iter().position(|units| *units > 0) else {
             break;
         };
-        let labels = labels_from(alloc, &sending, source)?;
-        let Some(target) = nearest(&sending, &labels) else {
-            return Ok(None);
-        };
-        let path = path_to(alloc, &sending, &labels, source, target)?;
-        send(&mut sending, &path, source, target);
+        if !send_from(rt, alloc, &mut sending, source) {
+            return None;
+        }
     }
     if sending.excess.iter().any(|units| *units != 0) {
-        return Ok(None);
+        return None;
     }
+    Some(cost_of(&sending))
+}
+
+/// What the units cost that the arcs carry.
+fn cost_of(sending: &Sending) -> u64 {
     let mut total = 0u64;
     for (arc, units) in sending.arcs.iter().zip(&sending.carried) {
         total = total.saturating_add(u64::from(arc.cost).saturating_mul(u64::from(*units)));
     }
-    Ok(Some(total))
+    total
 }
 
-fn begin(alloc: Global, network: &Network) -> Result<Sending, AllocError> {
+/// Sends one unit from a node to where one is wanting, and says whether there is a path.
+fn send_from(rt: &impl Abort, alloc: Global, sending: &mut Sending, source: usize) -> bool {
+    let labels = labels_from(rt, alloc, sending, source);
+    let Some(target) = nearest(sending, &labels) else {
+        return false;
+    };
+    let path = path_to(rt, alloc, sending, &labels, source, target);
+    send(sending, &path, source, target);
+    true
+}
+
+fn begin(rt: &impl Abort, alloc: Global, network: &Network) -> Sending {
     let mut arcs = Vec::new(alloc);
     for i in 0..network.arc_count() {
-        arcs.push(network.arc(i as u32))?;
+        arcs.push(network.arc(i as u32)).expect(rt, "memory");
     }
-    Ok(Sending {
+    Sending {
         arcs,
-        carried: vec![in alloc; 0; network.arc_count()]?,
-        excess: Vec::from_slice(alloc, network.supplies())?,
-    })
+        carried: vec![in alloc; 0; network.arc_count()].expect(rt, "memory"),
+        excess: network.supplies().to_vec(alloc).expect(rt, "memory"),
+    }
 }
 
 /// Both ends of a step and its cost, if one more unit can go along it.
@@ -74,11 +88,12 @@ fn open_step(sending: &Sending, step: Step) -> Option<(usize, usize, i64)> {
 
 /// The least cost of a path from a node to each, and its last step.
 fn labels_from(
+    rt: &impl Abort,
     alloc: Global,
     sending: &Sending,
     source: usize,
-) -> Result<Vec<(i64, Option<Step>)>, AllocError> {
-    let mut labels = vec![in alloc; (FAR, None); sending.excess.len()]?;
+) -> Vec<(i64, Option<Step>)> {
+    let mut labels = vec![in alloc; (FAR, None); sending.excess.len()].expect(rt, "memory");
     if let Some(label) = labels.get_mut(source) {
         *label = (0, None);
     }
@@ -88,7 +103,7 @@ fn labels_from(
             relax(sending, &mut labels, Step { arc, back: true });
         }
     }
-    Ok(labels)
+    labels
 }
 
 /// Lowers the label of a step's end, if the path along it costs less.
@@ -123,12 +138,13 @@ fn nearest(sending: &Sending, labels: &[(i64, Option<Step>)]) -> Option<usize> {
 
 /// The steps of the path to a node, last to first.
 fn path_to(
+    rt: &impl Abort,
     alloc: Global,
     sending: &Sending,
     labels: &[(i64, Option<Step>)],
     source: usize,
     target: usize,
-) -> Result<Vec<Step>, AllocError> {
+) -> Vec<Step> {
     let mut path = Vec::new(alloc);
     let mut node = target;
     for _ in 0..labels.len() {
@@ -141,10 +157,10 @@ fn path_to(
         let Some((from, _, _)) = open_step(sending, step) else {
             break;
         };
-        path.push(step)?;
+        path.push(step).expect(rt, "memory");
         node = from;
     }
-    Ok(path)
+    path
 }
 
 /// Sends one unit along a path.

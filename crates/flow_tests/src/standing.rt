@@ -4,7 +4,6 @@ ghost use Rattle.networks.specs.Networks.{node_count};
 
 use crate::tests::{FREE_WAY, cost_of, network, same};
 use min_cost_flow::{Network, Standing};
-use std::test::Fail;
 
 /// Whether one supply may grow by 40 and another may fall by as much.
 fn is_within(more: i32, less: i32) -> bool
@@ -43,20 +42,17 @@ fn moved(
 // At first a unit takes the dear arc. Then the first node supplies one unit less, so that none has to. In the end the
 // second node wants two units, and the one arc to it carries only one.
 #[test]
-fn moved_supplies_have_their_costs(rt: HostRuntime) -> Result<(), Fail> {
-    let mut twin = network(rt.alloc(), &[2, 0, -2], &FREE_WAY)??;
+fn moved_supplies_have_their_costs(rt: HostRuntime) {
+    let twin = network(&rt, rt.alloc(), &[2, 0, -2], &FREE_WAY);
+    let mut twin = twin.expect(&rt, "a network");
     assert!(rt; twin.node_count() == 3);
-    let standing = Standing::new(rt.alloc(), &twin)?;
+    let standing = Standing::new(rt.alloc(), &twin).expect(&rt, "a flow");
     let dear = standing.least_cost().0;
-    let standing = moved(standing, &mut twin, 1, 0, 1).ok_or("no flow")?;
+    let standing = moved(standing, &mut twin, 1, 0, 1).expect(&rt, "a flow");
     let free = standing.least_cost().0;
-    let solved = standing.solved(rt.alloc())?;
-    same(
-        &rt,
-        (dear, free, cost_of(standing.network(), &solved)),
-        (1, 0, 0),
-    );
+    let solved = standing.solved(rt.alloc()).expect(&rt, "memory");
+    let read_off = cost_of(standing.network(), &solved);
+    same(&rt, (dear, free, read_off), (1, 0, 0));
     assert!(rt; twin.node_count() == 3);
     assert!(rt; moved(standing, &mut twin, 0, 1, 3).is_none());
-    Ok(())
 }

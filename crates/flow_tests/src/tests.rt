@@ -5,10 +5,9 @@ ghost use Rattle.networks.specs.Flow.{Solves};
 
 use crate::plain;
 use min_cost_flow::{Arc, Cap, NetFault, Network, SolveFault, Solved, solve};
-use std::alloc::{AllocError, Global};
+use std::alloc::Global;
 use std::fmt::Debug;
 use std::process::Abort;
-use std::test::Fail;
 
 /// Sees that two values are the same. (An `assert_eq!` in each place would make the tests' proofs several times as long.)
 pub(crate) fn same<T: PartialEq + Debug + Drop>(rt: &impl Abort, got: T, want: T) {
@@ -17,30 +16,31 @@ pub(crate) fn same<T: PartialEq + Debug + Drop>(rt: &impl Abort, got: T, want: T
 
 /// The network of supplies and arcs given as `(from, to, cap, cost)`.
 pub(crate) fn network(
+    rt: &impl Abort,
     alloc: Global,
     supplies: &[i32],
     arcs: &[(u32, u32, Cap, u32)],
-) -> Result<Result<Network, NetFault>, AllocError> {
+) -> Result<Network, NetFault> {
     let mut list = Vec::new(alloc);
     for (from, to, cap, cost) in arcs {
-        list.push(Arc {
+        let arc = Arc {
             from: *from,
             to: *to,
             cap: *cap,
             cost: *cost,
-        })?;
+        };
+        list.push(arc).expect(rt, "memory");
     }
-    Ok(Network::new(Vec::from_slice(alloc, supplies)?, list))
+    let supplies = supplies.to_vec(alloc).expect(rt, "memory");
+    Network::new(supplies, list)
 }
 
-/// The least cost of a flow as the solver finds it, or none where there is no flow.
-fn least_cost(alloc: Global, network: &Network) -> Result<Option<u64>, SolveFault> {
-    let solved = match solve(alloc, network) {
-        Ok(solved) => solved,
-        Err(SolveFault::Infeasible) => return Ok(None),
-        Err(SolveFault::Memory) => return Err(SolveFault::Memory),
-    };
-    Ok(Some(cost_of(network, &solved)))
+/// The least cost of a flow as the solver finds it, or why there is none.
+fn least_cost(alloc: Global, network: &Network) -> Result<u64, SolveFault> {
+    match solve(alloc, network) {
+        Ok(solved) => Ok(cost_of(network, &solved)),
+        Err(fault) => Err(fault),
+    }
 }
 
 /// What a solution costs.
@@ -80,60 +80,63 @@ pub(crate) const FREE_WAY: [(u32, u32, Cap, u32); 3] = [
 ];
 
 #[test]
-fn units_take_the_free_way_first(rt: HostRuntime) -> Result<(), Fail> {
-    let network = network(rt.alloc(), &[2, 0, -2], &FREE_WAY)??;
-    let solved = solve(rt.alloc(), &network)?;
+fn units_take_the_free_way_first(rt: HostRuntime) {
+    let network = network(&rt, rt.alloc(), &[2, 0, -2], &FREE_WAY).expect(&rt, "a network");
+    let solved = solve(rt.alloc(), &network).expect(&rt, "a flow");
     expect_free_way(&rt, &network, &solved);
-    Ok(())
 }
 
 /// So many units at one node, 1,000 at most, which go through a second one and from there by an arc each to as many
 /// others. Every second arc is dear.
-fn fountain(alloc: Global, units: u32) -> Result<Result<Network, NetFault>, AllocError> {
+fn fountain(rt: &impl Abort, alloc: Global, units: u32) -> Network {
     let units = units.min(1000);
-    let mut supplies = vec![in alloc; -1i32; units as usize + 2]?;
+    let mut supplies = vec![in alloc; -1i32; units as usize + 2].expect(rt, "memory");
     supplies[0] = units as i32;
     supplies[1] = 0;
     let mut arcs = Vec::new(alloc);
-    arcs.push((0, 1, Cap::Any, 0))?;
+    arcs.push((0, 1, Cap::Any, 0)).expect(rt, "memory");
     for end in 2..units + 2 {
-        arcs.push((1, end, Cap::AtMost(1), end % 2))?;
+        let pushed = arcs.push((1, end, Cap::AtMost(1), end % 2));
+        pushed.expect(rt, "memory");
     }
-    network(alloc, &supplies, &arcs)
+    network(rt, alloc, &supplies, &arcs).expect(rt, "a network")
+}
+
+/// How many searches and looks the solver takes.
+fn work_of(rt: &impl Abort, alloc: Global, network: &Network) -> (u32, u64) {
+    let solved = solve(alloc, network).expect(rt, "a flow");
+    (solved.searches(), solved.looks())
 }
 
 /// Each search finds one unit's end. It scans the first node, which has one residual arc, and the second one, which
 /// has one for each unit and one back: so it looks at two more than there are units, whichever end it finds.
 #[test]
-fn looks_are_told_exactly(rt: HostRuntime) -> Result<(), Fail> {
+fn looks_are_told_exactly(rt: HostRuntime) {
     for (units, looks) in [(1, 3), (9, 99), (10, 120), (300, 90_600), (1000, 1_002_000)] {
-        let network = fountain(rt.alloc(), units)??;
-        let solved = solve(rt.alloc(), &network)?;
-        same(
-            &rt,
-            (units, solved.searches(), solved.looks()),
-            (units, units, looks),
-        );
+        let network = fountain(&rt, rt.alloc(), units);
+        same(&rt, work_of(&rt, rt.alloc(), &network), (units, looks));
     }
-    Ok(())
 }
 
-/// Supplies, arcs, and the least cost, or none where there is no flow.
-const COSTS: [(&[i32], &[(u32, u32, Cap, u32)], Option<u64>); 13] = [
-    (&[1, -1], &[], None),
-    (&[1, 0], &[(0, 1, Cap::Any, 0)], None),
-    (&[0, -1], &[(0, 1, Cap::Any, 0)], None),
-    (&[1, -2], &[(0, 1, Cap::Any, 0)], None),
-    (&[1, -1], &[(1, 0, Cap::Any, 0)], None),
-    (&[1, -1], &[(0, 1, Cap::AtMost(0), 0)], None),
-    (&[1], &[(0, 0, Cap::Any, 1)], None),
-    (&[2, 0, -2], &FREE_WAY, Some(1)),
-    (&[], &[], Some(0)),
-    (&[0, 0], &[], Some(0)),
+/// No flow.
+const NONE: Result<u64, SolveFault> = Err(SolveFault::Infeasible);
+
+/// Supplies, arcs, and the least cost, or that there is no flow.
+const COSTS: [(&[i32], &[(u32, u32, Cap, u32)], Result<u64, SolveFault>); 13] = [
+    (&[1, -1], &[], NONE),
+    (&[1, 0], &[(0, 1, Cap::Any, 0)], NONE),
+    (&[0, -1], &[(0, 1, Cap::Any, 0)], NONE),
+    (&[1, -2], &[(0, 1, Cap::Any, 0)], NONE),
+    (&[1, -1], &[(1, 0, Cap::Any, 0)], NONE),
+    (&[1, -1], &[(0, 1, Cap::AtMost(0), 0)], NONE),
+    (&[1], &[(0, 0, Cap::Any, 1)], NONE),
+    (&[2, 0, -2], &FREE_WAY, Ok(1)),
+    (&[], &[], Ok(0)),
+    (&[0, 0], &[], Ok(0)),
     (
         &[1, -1],
         &[(0, 0, Cap::Any, 1), (0, 1, Cap::AtMost(2), 0)],
-        Some(0),
+        Ok(0),
     ),
     (
         &[5, -5],
@@ -142,18 +145,17 @@ const COSTS: [(&[i32], &[(u32, u32, Cap, u32)], Option<u64>); 13] = [
             (0, 1, Cap::Any, 1),
             (0, 1, Cap::AtMost(1), 0),
         ],
-        Some(2),
+        Ok(2),
     ),
-    (&[2048, -2048], &[(0, 1, Cap::Any, 1)], Some(2048)),
+    (&[2048, -2048], &[(0, 1, Cap::Any, 1)], Ok(2048)),
 ];
 
 #[test]
-fn special_arcs_serve(rt: HostRuntime) -> Result<(), Fail> {
+fn special_arcs_serve(rt: HostRuntime) {
     for (supplies, arcs, expected) in COSTS {
-        let network = network(rt.alloc(), supplies, arcs)??;
-        same(&rt, least_cost(rt.alloc(), &network)?, expected);
+        let network = network(&rt, rt.alloc(), supplies, arcs).expect(&rt, "a network");
+        same(&rt, least_cost(rt.alloc(), &network), expected);
     }
-    Ok(())
 }
 
 /// Supplies and an arc, and the first fault that they have.
@@ -165,20 +167,18 @@ const FAULTS: [(&[i32], (u32, u32, Cap, u32), NetFault); 4] = [
 ];
 
 #[test]
-fn the_first_fault_is_named(rt: HostRuntime) -> Result<(), Fail> {
+fn the_first_fault_is_named(rt: HostRuntime) {
     for (supplies, arc, expected) in FAULTS {
-        let fault = network(rt.alloc(), supplies, &[arc])?.err();
+        let fault = network(&rt, rt.alloc(), supplies, &[arc]).err();
         same(&rt, fault, Some(expected));
     }
-    Ok(())
 }
 
 #[test]
-fn faults_say_what_is_wrong(rt: HostRuntime) -> Result<(), Fail> {
-    let text = format!(in rt.alloc(); "{}, {}", NetFault::BadEnd, SolveFault::Memory)?;
+fn faults_say_what_is_wrong(rt: HostRuntime) {
+    let text = format!(in rt.alloc(); "{}, {}", NetFault::BadEnd, SolveFault::Memory);
     let want = "an arc has an end that is no node, out of memory";
-    same(&rt, text.as_str(), want);
-    Ok(())
+    same(&rt, text.expect(&rt, "memory").as_str(), want);
 }
 
 /// A linear congruential generator (Knuth's MMIX constants), its upper 31 bits.
@@ -198,13 +198,11 @@ impl Numbers {
     }
 }
 
-/// The next of the random networks, made as `bench/networks/least_costs.py` makes it.
-pub(crate) fn random_network(
-    alloc: Global,
-    numbers: &mut Numbers,
-) -> Result<Result<Network, NetFault>, AllocError> {
-    let nodes = 2 + numbers.below(7);
-    let mut supplies = vec![in alloc; 0i32; nodes as usize]?;
+/// The supplies of the next random network of so many nodes.
+fn random_supplies(rt: &impl Abort, alloc: Global, numbers: &mut Numbers, nodes: u32) -> Vec<i32>
+    requires { 1 < nodes }
+{
+    let mut supplies = vec![in alloc; 0i32; nodes as usize].expect(rt, "memory");
     for _ in 0..1 + numbers.below(5) {
         let units = 1 + numbers.below(3) as i32;
         let start = numbers.below(nodes) as usize;
@@ -215,11 +213,18 @@ pub(crate) fn random_network(
     if numbers.below(16) == 0 {
         supplies[0] = supplies[0].saturating_add(1);
     }
+    supplies
+}
+
+/// The next of the random networks, made as `bench/networks/least_costs.py` makes it.
+pub(crate) fn random_network(rt: &impl Abort, alloc: Global, numbers: &mut Numbers) -> Network {
+    let nodes = 2 + numbers.below(7);
+    let supplies = random_supplies(rt, alloc, numbers, nodes);
     let mut arcs = Vec::new(alloc);
     for _ in 0..2 * nodes + numbers.below(3 * nodes) {
-        arcs.push(random_arc(numbers, nodes))?;
+        arcs.push(random_arc(numbers, nodes)).expect(rt, "memory");
     }
-    Ok(Network::new(supplies, arcs))
+    Network::new(supplies, arcs).expect(rt, "a network")
 }
 
 fn random_arc(numbers: &mut Numbers, nodes: u32) -> Arc
@@ -249,25 +254,24 @@ fn expect_random(
     network: &Network,
     count: u32,
     expected: Option<u64>,
-) -> Result<(), SolveFault> {
-    let found = least_cost(alloc, network)?;
-    let slow = plain::least_cost(alloc, network)?;
-    same(rt, (count, found, slow), (count, expected, expected));
-    Ok(())
+) {
+    let found = least_cost(alloc, network);
+    let slow = plain::least_cost(rt, alloc, network);
+    let due = expected.ok_or(SolveFault::Infeasible);
+    same(rt, (count, found, slow), (count, due, expected));
 }
 
 #[test]
-fn random_networks_cost_what_other_solvers_found(rt: HostRuntime) -> Result<(), Fail> {
+fn random_networks_cost_what_other_solvers_found(rt: HostRuntime) {
     let mut numbers = Numbers { state: 20_261_122 };
     let mut count = 0u32;
     for word in LEAST_COSTS.split_whitespace() {
-        let network = random_network(rt.alloc(), &mut numbers)??;
+        let network = random_network(&rt, rt.alloc(), &mut numbers);
         let expected = word.parse::<u64>().ok();
-        expect_random(&rt, rt.alloc(), &network, count, expected)?;
+        expect_random(&rt, rt.alloc(), &network, count, expected);
         count = count.saturating_add(1);
     }
     same(&rt, count, 1000);
-    Ok(())
 }
 
 /// What networkx and LEMON found, `-` where there is no flow (`bench/networks/least_costs.py`).
