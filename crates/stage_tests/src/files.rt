@@ -140,24 +140,33 @@ fn shelf_of<O: Opener>(
     Some((found, shelf.records.len()))
 }
 
-/// An end with this mark and so many records, all of which were kept.
-fn ended(mark: Mark, count: u32) -> Option<(Result<SourceEnd, AllocError>, usize)> {
-    Some((Ok(SourceEnd { count, mark }), count as usize))
+/// The file of an opener ends with this mark and so many records, all of which are kept.
+fn check_file<O: Opener, R: AllocGlobal + Abort>(
+    rt: &R,
+    opener: &O,
+    file: u32,
+    mark: Mark,
+    count: u32,
+) {
+    let (found, kept) = shelf_of(rt.alloc(), opener, file).expect(rt, "memory");
+    same(rt, found.ok(), Some(SourceEnd { count, mark }));
+    same(rt, kept, count as usize);
 }
+
+/// Files by their numbers, the mark and how many records each has.
+const ENDS: [(u32, Mark, u32); 4] = [
+    (0, Mark::Ended(Ending::Complete), 2),
+    (1, Mark::Ended(Ending::Truncated), 1),
+    (2, Mark::Ended(Ending::Large), 1),
+    (3, Mark::Io, 0),
+];
 
 #[test]
 fn keeps_the_records_of_each_file(rt: HostRuntime) {
     let files = files(rt.alloc()).expect(&rt, "memory");
     let opener = MemOpener::new(files, 2);
-    let wanted = [
-        (Mark::Ended(Ending::Complete), 2),
-        (Mark::Ended(Ending::Truncated), 1),
-        (Mark::Ended(Ending::Large), 1),
-        (Mark::Io, 0),
-    ];
-    for (file, (mark, count)) in wanted.into_iter().enumerate() {
-        let found = shelf_of(rt.alloc(), &opener, file as u32);
-        same(&rt, found, ended(mark, count));
+    for (file, mark, count) in ENDS {
+        check_file(&rt, &opener, file, mark, count);
     }
 }
 
@@ -174,8 +183,7 @@ fn check_breaking<R: AllocGlobal + Abort>(
         fails_at,
         reads: AtomicU32::new(0),
     };
-    let (mark, count) = found;
-    same(rt, shelf_of(rt.alloc(), &&opener, 7), ended(mark, count));
+    check_file(rt, &&opener, 7, found.0, found.1);
     same(rt, opener.reads.load(Ordering::SeqCst), reads);
 }
 
@@ -189,23 +197,27 @@ fn reads_no_more_after_a_fault(rt: HostRuntime) {
     check_breaking(&rt, LARGE, Some(21), (large, 1), 21);
 }
 
-/// With each allocation refused in turn, the mark or the error says so, and the records are a
-/// beginning of all.
+/// Whether all records of the first file were found and kept, or the mark or the error names want of memory behind a
+/// beginning of them.
+fn is_allowed(found: Result<SourceEnd, AllocError>, kept: usize) -> bool {
+    match found {
+        Ok(end) if end.mark == Mark::Ended(Ending::Complete) => (end.count, kept) == (2, 2),
+        Ok(end) => {
+            let is_want = end.mark == Mark::Ended(Ending::Memory);
+            is_want && kept < 2 && end.count as usize == kept
+        }
+        Err(AllocError) => kept < 2,
+    }
+}
+
+/// With each allocation refused in turn, the mark or the error says so, and the records are a beginning of all.
 #[test]
 fn names_want_of_memory(rt: HostRuntime) {
     let Ok(files) = files(rt.alloc()) else {
         return;
     };
     let opener = MemOpener::new(files, 4);
-    let Some((found, count)) = shelf_of(rt.alloc(), &opener, 0) else {
-        return;
-    };
-    match found {
-        Err(AllocError) => assert!(rt; count < 2),
-        Ok(end) => {
-            same(&rt, end.count as usize, count);
-            let whole = (end.mark, count) == (Mark::Ended(Ending::Complete), 2);
-            assert!(rt; whole || (end.mark == Mark::Ended(Ending::Memory) && count < 2));
-        }
+    if let Some((found, kept)) = shelf_of(rt.alloc(), &opener, 0) {
+        same(&rt, is_allowed(found, kept), true);
     }
 }

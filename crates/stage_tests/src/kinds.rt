@@ -1,71 +1,70 @@
-//! The two kinds of drawings, stage by stage.
+//! The two kinds of drawings, stage by stage, of trees, whose drawings have no bends.
 
 use crate::known::{record_in, same};
-use crate::records::{CAPPED_CUBE, LONGER_CUBE, staged};
-use answers::{Answer, DrawingKind, Entry};
+use crate::records::staged;
+use answers::{Answer, DrawingKind};
 use choices::Choice;
 use faces::Plane;
-use ortho_rep::{Point, Points};
-use planar_code::Record;
+use ortho_rep::Point;
 use std::alloc::{AllocError, Global};
 use std::process::Abort;
-use std::test::Fail;
-
-/// How far apart two points are, along the axes.
-fn distance(from: Point, to: Point) -> u32 {
-    from.x.abs_diff(to.x).wrapping_add(from.y.abs_diff(to.y))
-}
 
 /// The point of a vertex, and the origin where there is none.
-fn vertex_of(points: &Points, vertex: u8) -> Point {
-    match points.vertices().get(usize::from(vertex).wrapping_sub(1)) {
-        Some(point) => *point,
+fn place_of(places: &[Point], vertex: u8) -> Point {
+    match places.get(usize::from(vertex).wrapping_sub(1)) {
+        Some(place) => *place,
         None => Point { x: 0, y: 0 },
     }
 }
 
-/// How long all edges are together.
-fn length_of(plane: &Plane, points: &Points) -> u32 {
+/// How long all edges are together, where none bends, twice: each dart counts.
+fn twice_the_length(plane: &Plane, places: &[Point]) -> u32 {
     let graph = plane.graph();
     let mut length: u32 = 0;
-    let mut edge: u16 = 0;
     for dart in 0..graph.darts() {
-        let reverse = graph.reverse(dart);
-        if dart < reverse && usize::from(edge) < points.edge_count() {
-            let mut from = vertex_of(points, graph.head(reverse));
-            for corner in points.corners(edge) {
-                length = length.wrapping_add(distance(from, *corner));
-                from = *corner;
-            }
-            let end = vertex_of(points, graph.head(dart));
-            length = length.wrapping_add(distance(from, end));
-            edge = edge.wrapping_add(1);
-        }
+        let from = place_of(places, graph.tail(dart));
+        let to = place_of(places, graph.head(dart));
+        length = length.wrapping_add(from.x.abs_diff(to.x));
+        length = length.wrapping_add(from.y.abs_diff(to.y));
     }
     length
 }
 
-/// How many bends the drawing of this kind has, and how long its edges are together.
-fn drawn(alloc: Global, rec: Record, drawing: DrawingKind) -> Option<(u32, u32)> {
-    match &staged(alloc, rec, Choice::First, drawing).answer {
+/// How many bends a drawing has, and how long its edges are together, twice.
+fn figures(answer: &Answer) -> Option<(u32, u32)> {
+    match answer {
         Answer::Laid {
             plane,
             shape,
             drawing: Ok(drawing),
             ..
-        } => Some((shape.bends(), length_of(plane, drawing.points()))),
+        } => {
+            let places = drawing.points().vertices();
+            Some((shape.bends(), twice_the_length(plane, places)))
+        }
         _ => None,
     }
 }
 
-/// The lengths of the quick and of the short drawing of these bytes, which have equal bends.
-fn lengths(rt: &impl Abort, alloc: Global, bytes: &[u8]) -> Result<(u32, u32), Fail> {
-    let rec = record_in(alloc, bytes).ok_or("no record")?;
-    let (bends, quick) = drawn(alloc, rec, DrawingKind::Quick).ok_or("no drawing")?;
-    let rec = record_in(alloc, bytes).ok_or("no record")?;
-    let (same_bends, short) = drawn(alloc, rec, DrawingKind::Short).ok_or("no drawing")?;
-    same(rt, same_bends, bends);
-    Ok((quick, short))
+/// The same of the drawing of this kind of these bytes.
+fn figures_of(
+    rt: &impl Abort,
+    alloc: Global,
+    bytes: &[u8],
+    drawing: DrawingKind,
+) -> Option<(u32, u32)> {
+    let rec = record_in(alloc, bytes).expect(rt, "a record");
+    let entry = staged(alloc, rec, Choice::First, drawing);
+    figures(&entry.answer)
+}
+
+/// The short drawing of a tree has this length, taken twice, and the quick one is longer, if it is to be.
+fn check(rt: &impl Abort, alloc: Global, bytes: &[u8], twice: u32, quick_is_longer: bool) {
+    let short = figures_of(rt, alloc, bytes, DrawingKind::Short);
+    same(rt, short, Some((0, twice)));
+    let quick = figures_of(rt, alloc, bytes, DrawingKind::Quick);
+    let is_longer = quick.is_some_and(|(bends, length)| bends == 0 && length > twice);
+    same(rt, is_longer || !quick_is_longer, true);
 }
 
 /// A path of so many vertices, at least 2.
@@ -84,62 +83,51 @@ fn path(alloc: Global, count: u8) -> Result<Vec<u8>, AllocError> {
     Ok(bytes)
 }
 
-/// A path is drawn in one line, where short: each edge has the least length.
+/// A path is drawn in one line, where short: each edge has the least length. A longer one is wound up, where quick.
 #[test]
-fn short_paths_are_straight(rt: HostRuntime) -> Result<(), Fail> {
+fn short_paths_are_straight(rt: HostRuntime) {
     for count in [2, 3, 10, 40, 255] {
-        let bytes = path(rt.alloc(), count)?;
-        let (quick, short) = lengths(&rt, rt.alloc(), &bytes)?;
-        same(&rt, short, u32::from(count) - 1);
-        same(&rt, count < 10 || quick > short, true);
+        let bytes = path(rt.alloc(), count).expect(&rt, "memory");
+        let twice = 2 * (u32::from(count) - 1);
+        check(&rt, rt.alloc(), &bytes, twice, count >= 10);
     }
-    Ok(())
 }
 
 /// The answer is a short drawing of a path of four, or want of memory. It says whether it is a drawing.
 fn is_path_of_four(rt: &impl Abort, answer: &Answer) -> bool {
-    match answer {
-        Answer::Laid {
-            plane,
-            shape,
-            drawing: Ok(drawing),
-            ..
-        } => {
-            same(
-                rt,
-                (shape.bends(), length_of(plane, drawing.points())),
-                (0, 3),
-            );
-            true
+    if let Answer::NoMemory = answer {
+        return false;
+    }
+    same(rt, figures(answer), Some((0, 6)));
+    true
+}
+
+/// The same of the answer to that path. Where memory is wanting for its record, nothing is answered, and it says yes.
+fn answers_path_of_four(rt: &impl Abort, alloc: Global) -> bool {
+    match record_in(alloc, &[4, 2, 0, 1, 3, 0, 2, 4, 0, 3, 0]) {
+        Some(rec) => {
+            let entry = staged(alloc, rec, Choice::First, DrawingKind::Short);
+            is_path_of_four(rt, &entry.answer)
         }
-        Answer::NoMemory => false,
-        _ => {
-            same(rt, true, false);
-            false
-        }
+        None => true,
     }
 }
 
 /// `checks/refuse-allocations` refuses each allocation of this test in turn: the answer is then the right one or the want
-/// of memory, and a second call answers as without the refusal. Where a refusal comes before the call, the test ends.
+/// of memory, and a second call answers as without the refusal.
 #[test]
 fn refused_allocations(rt: HostRuntime) {
-    let alloc = rt.alloc();
-    let Some(rec) = record_in(alloc, &[4, 2, 0, 1, 3, 0, 2, 4, 0, 3, 0]) else {
-        return;
-    };
-    let Entry { rec, answer, .. } = staged(alloc, rec, Choice::First, DrawingKind::Short);
-    if !is_path_of_four(&rt, &answer) {
-        let again = staged(alloc, rec, Choice::First, DrawingKind::Short);
-        same(&rt, is_path_of_four(&rt, &again.answer), true);
+    if !answers_path_of_four(&rt, rt.alloc()) {
+        same(&rt, answers_path_of_four(&rt, rt.alloc()), true);
     }
 }
 
+/// A tree without vertices of degree 2: its shape is the same in both drawings, and the quick one is longer.
+const TREE: [u8; 29] = [
+    10, 2, 3, 4, 0, 1, 5, 6, 0, 1, 7, 8, 0, 1, 9, 10, 0, 2, 0, 2, 0, 3, 0, 3, 0, 4, 0, 4, 0,
+];
+
 #[test]
-fn short_drawings_are_no_longer(rt: HostRuntime) -> Result<(), Fail> {
-    for bytes in [CAPPED_CUBE.as_slice(), &LONGER_CUBE] {
-        let (quick, short) = lengths(&rt, rt.alloc(), bytes)?;
-        same(&rt, short <= quick, true);
-    }
-    Ok(())
+fn short_drawings_are_shorter(rt: HostRuntime) {
+    check(&rt, rt.alloc(), &TREE, 18, true);
 }

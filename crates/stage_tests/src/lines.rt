@@ -109,23 +109,30 @@ fn check_cause<R: AllocGlobal + Abort>(
     same(rt, line, text.expect(rt, "memory"));
 }
 
+/// The line of the triangle with its drawing.
+fn check_drawn<R: AllocGlobal + Abort>(rt: &R, plane: &Plane, shape: &Shape) {
+    let drawing = drawing(rt.alloc(), plane, shape).expect(rt, "a drawing");
+    let line = triangle_line(rt.alloc(), plane, shape, &Ok(drawing)).expect(rt, "a line");
+    same(rt, line.as_slice(), DRAWN);
+}
+
+/// Causes and their words.
+const CAUSES: [(Cause, &str); 5] = [
+    (Cause::Wide, "wide"),
+    (Cause::OutOfGrid, "outofgrid"),
+    (Cause::NotAxis, "notaxis"),
+    (Cause::WrongTurn, "wrongturn"),
+    (Cause::Meet, "meet"),
+];
+
 #[test]
 fn shows_a_triangle(rt: HostRuntime) {
     let plane = triangle(rt.alloc()).expect(&rt, "a plane");
     let shape = bent(rt.alloc()).expect(&rt, "a shape");
-    let cases = [
-        (Cause::Wide, "wide"),
-        (Cause::OutOfGrid, "outofgrid"),
-        (Cause::NotAxis, "notaxis"),
-        (Cause::WrongTurn, "wrongturn"),
-        (Cause::Meet, "meet"),
-    ];
-    for (cause, word) in cases {
+    for (cause, word) in CAUSES {
         check_cause(&rt, &plane, &shape, cause, word);
     }
-    let drawing = drawing(rt.alloc(), &plane, &shape).expect(&rt, "a drawing");
-    let line = triangle_line(rt.alloc(), &plane, &shape, &Ok(drawing)).expect(&rt, "a line");
-    same(&rt, line.as_slice(), DRAWN);
+    check_drawn(&rt, &plane, &shape);
 }
 
 #[test]

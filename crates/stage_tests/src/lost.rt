@@ -2,12 +2,14 @@
 ghost use Rattle.std.specs.Prelude.{◌≡◌, ◌≤◌, [], IfOk};
 ghost use Rattle.ruled_lanes.specs.declared.limits.TheConstants.{LANES};
 ghost use Rattle.ruled_lanes.specs.LinkEnds.{taken};
+ghost use Rattle.ruled_lanes.specs.FanEnds.{given_at, gathered};
 
 use crate::known::same;
 use answers::{Embedded, Entry, Framed, Shaped};
 use lanes::{Drafts, GatherFault, Message, OpenGate, gather, run_last_stage, run_stage};
-use ruled_lanes::{LANES, Memory, Taker, fan_in, link};
+use ruled_lanes::{Gatherer, LANES, LaneGiver, Memory, Taker, fan_in, link};
 use std::alloc::{AllocError, Global};
+use std::process::Abort;
 use std::sync::Wait;
 use streams::Mark;
 
@@ -54,30 +56,50 @@ fn a_stage_ends_where_the_next_one_is_gone(rt: HostRuntime) {
     assert!(rt; before.give(&rt, Message::Stop).is_err());
 }
 
-/// The last stage loses the one before it; the lane still gives its stop, so that gathering ends.
+/// How gathering ends.
+fn end_of_gathering<R: AllocGlobal + Wait + Abort>(
+    rt: &R,
+    gatherer: Gatherer<Message<Entry, ()>>,
+    lanes: u32,
+) -> Ended
+    requires lanes { (1 ≤ lanes) × (lanes ≤ LANES) }
+    requires none_gathered { gathered gatherer ≡ [] }
+{
+    let mut drafts = Drafts::new(rt.alloc(), 1).expect(rt, "memory");
+    end_of(gather(rt, rt.alloc(), gatherer, lanes, &mut drafts))
+}
+
+/// The last stage loses the one before it, and the lane still gives its stop.
+fn lose_the_stage_before<R: AllocGlobal + Wait + Abort>(
+    rt: &R,
+    giver: &mut LaneGiver<Message<Entry, ()>>,
+)
+    requires { given_at giver.old ≡ [] }
+{
+    let taker = left_alone::<Message<Shaped, ()>>(rt.alloc()).expect(rt, "memory");
+    let end = run_last_stage(rt, rt.alloc(), &OpenGate, taker, giver);
+    assert!(rt; end.is_none());
+    assert!(rt; giver.give(rt, Message::Stop).is_ok());
+}
+
+/// So gathering ends.
 #[test]
 fn a_lane_that_lost_gives_its_stop(rt: HostRuntime) {
-    let taker = left_alone::<Message<Shaped, ()>>(rt.alloc()).expect(&rt, "memory");
     let (mut givers, gatherer) = fan_in::<Message<Entry, ()>>(rt.alloc(), 4).expect(&rt, "memory");
-    let end = run_last_stage(&rt, rt.alloc(), &OpenGate, taker, &mut givers[0]);
-    assert!(rt; end.is_none());
-    assert!(rt; givers[0].give(&rt, Message::Stop).is_ok());
-    let mut drafts = Drafts::new(rt.alloc(), 1).expect(&rt, "memory");
-    let answer = gather(&rt, rt.alloc(), gatherer, 1, &mut drafts);
-    same(&rt, end_of(answer), Ended::Well);
+    lose_the_stage_before(&rt, &mut givers[0]);
+    same(&rt, end_of_gathering(&rt, gatherer, 1), Ended::Well);
 }
 
 /// Gathers from so many lanes, all of whose givers are gone.
-fn gathered_of_none<R: AllocGlobal + Wait>(rt: &R, lanes: u32) -> Option<Ended>
+fn gathered_of_none<R: AllocGlobal + Wait + Abort>(rt: &R, lanes: u32) -> Ended
     requires { (1 ≤ lanes) × (lanes ≤ LANES) }
 {
-    let mut drafts = Drafts::<Entry>::new(rt.alloc(), 1).ok()?;
-    let (_, gatherer) = fan_in::<Message<Entry, ()>>(rt.alloc(), 1).ok()?;
-    Some(end_of(gather(rt, rt.alloc(), gatherer, lanes, &mut drafts)))
+    let (_, gatherer) = fan_in::<Message<Entry, ()>>(rt.alloc(), 1).expect(rt, "memory");
+    end_of_gathering(rt, gatherer, lanes)
 }
 
 #[test]
 fn gathering_ends_where_all_lanes_are_gone(rt: HostRuntime) {
-    same(&rt, gathered_of_none(&rt, 1), Some(Ended::Lost));
-    same(&rt, gathered_of_none(&rt, LANES), Some(Ended::Lost));
+    same(&rt, gathered_of_none(&rt, 1), Ended::Lost);
+    same(&rt, gathered_of_none(&rt, LANES), Ended::Lost);
 }

@@ -81,14 +81,32 @@ fn expect(rt: &impl Abort, answer: &Answer, said: Said) {
     }
 }
 
-/// The answer to a record under a choice says so, as a whole and stage by stage.
-fn check(rt: &impl Abort, alloc: Global, bytes: &[u8], choice: Choice, said: Said) {
+/// The answer to a record under a choice says so, as a whole.
+fn check_whole(rt: &impl Abort, alloc: Global, bytes: &[u8], choice: Choice, said: Said) {
     let rec = record_in(alloc, bytes).expect(rt, "a record");
-    expect(rt, &answer(alloc, 63, 999_999, rec, choice).answer, said);
-    for drawing in [DrawingKind::Quick, DrawingKind::Short] {
-        let rec = record_in(alloc, bytes).expect(rt, "a record");
-        expect(rt, &staged(alloc, rec, choice, drawing).answer, said);
-    }
+    let entry = answer(alloc, 63, 999_999, rec, choice);
+    expect(rt, &entry.answer, said);
+}
+
+/// The same stage by stage, with this drawing.
+fn check_staged(
+    rt: &impl Abort,
+    alloc: Global,
+    bytes: &[u8],
+    choice: Choice,
+    drawing: DrawingKind,
+    said: Said,
+) {
+    let rec = record_in(alloc, bytes).expect(rt, "a record");
+    let entry = staged(alloc, rec, choice, drawing);
+    expect(rt, &entry.answer, said);
+}
+
+/// Both, with either drawing.
+fn check(rt: &impl Abort, alloc: Global, bytes: &[u8], choice: Choice, said: Said) {
+    check_whole(rt, alloc, bytes, choice, said);
+    check_staged(rt, alloc, bytes, choice, DrawingKind::Quick, said);
+    check_staged(rt, alloc, bytes, choice, DrawingKind::Short, said);
 }
 
 /// What a stage makes of a record.
@@ -158,26 +176,32 @@ fn names_all_causes(rt: HostRuntime) {
     }
 }
 
+/// The answer is that to a triangle, or want of memory. It says whether it is the one to a triangle.
+fn is_of_a_triangle(rt: &impl Abort, answer: &Answer) -> bool {
+    if let Answer::NoMemory = answer {
+        return false;
+    }
+    expect(rt, answer, Said::Drawn(3, 3, 2, 1));
+    true
+}
+
+/// The same of the entry of a triangle. Where memory is wanting for its record, nothing is answered, and it says yes.
+fn answers_a_triangle(rt: &impl Abort, alloc: Global) -> bool {
+    match record_in(alloc, &TRIANGLE) {
+        Some(rec) => {
+            let entry = answer(alloc, 1, 2, rec, Choice::Best);
+            same(rt, (entry.file(), entry.ordinal()), (1, 2));
+            is_of_a_triangle(rt, &entry.answer)
+        }
+        None => true,
+    }
+}
+
 /// `checks/refuse-allocations` refuses each allocation of this test in turn: the answer is then the right one
-/// or the want of memory, and a second call answers as without the refusal. Where a refusal comes before
-/// the call, the test ends.
+/// or the want of memory, and a second call answers as without the refusal.
 #[test]
 fn refused_allocations(rt: HostRuntime) {
-    let alloc = rt.alloc();
-    let Some(rec) = record_in(alloc, &TRIANGLE) else {
-        return;
-    };
-    let entry = answer(alloc, 1, 2, rec, Choice::Best);
-    same(&rt, (entry.file(), entry.ordinal()), (1, 2));
-    let right = Said::Drawn(3, 3, 2, 1);
-    let Entry {
-        rec,
-        answer: first,
-        ..
-    } = entry;
-    if let Answer::NoMemory = first {
-        expect(&rt, &answer(alloc, 1, 2, rec, Choice::Best).answer, right);
-    } else {
-        expect(&rt, &first, right);
+    if !answers_a_triangle(&rt, rt.alloc()) {
+        same(&rt, answers_a_triangle(&rt, rt.alloc()), true);
     }
 }
