@@ -10,9 +10,9 @@ use collector::{
 };
 use std::alloc::{AllocError, Global};
 use std::fmt::Write;
+use std::process::Abort;
 use std::sync::Wait;
 use std::sync::atomic::{AtomicBool, AtomicU32, Ordering};
-use std::test::Fail;
 use std::thread;
 use std::thread::Threads;
 
@@ -138,49 +138,57 @@ fn run<R: AllocGlobal + Threads + Wait + Sync, G: Gate>(
 }
 
 /// The report of so many files.
-fn report(alloc: Global, files: u32) -> Result<String, Fail> {
+fn report(alloc: Global, files: u32) -> Result<String, AllocError> {
     let mut report = String::new(alloc);
     for file in 0..files {
         let records = if file == 0 { FIRST } else { LATER };
-        let number = file.saturating_add(1);
-        writeln!(&mut report, "file {number}")?;
-        for graph in 1..=records {
-            writeln!(
-                &mut report,
-                "graph {graph} ok n=2 m=1 f=1 bends=0 drawn=yes"
-            )?;
-        }
-        writeln!(&mut report, "end complete graphs={records}")?;
+        tell_file(&mut report, file.saturating_add(1), records)?;
     }
     Ok(report)
 }
 
+/// What it says of one file.
+fn tell_file(report: &mut String, file: u32, records: u32) -> Result<(), AllocError> {
+    writeln!(report, "file {file}")?;
+    for graph in 1..=records {
+        writeln!(report, "graph {graph} ok n=2 m=1 f=1 bends=0 drawn=yes")?;
+    }
+    writeln!(report, "end complete graphs={records}")
+}
+
+/// The text of a run is this one, and no source waited too long.
+fn check<R: AllocGlobal + Threads + Wait + Sync + Abort, G: Gate>(
+    rt: &R,
+    counts: (u32, u32, u32),
+    most: usize,
+    gate: &G,
+    report: &str,
+) {
+    let (ended, text, ran_out) = run(rt, counts, most, gate);
+    same(rt, (ended, ran_out), (Ok(0), false));
+    same(rt, text.as_slice(), report.as_bytes());
+}
+
 /// The text is that of all files, however little may wait, and no source waited too long.
 #[test]
-fn pauses_change_no_text(rt: HostRuntime) -> Result<(), Fail> {
+fn pauses_change_no_text(rt: HostRuntime) {
     for files in [1, 9] {
-        let report = report(rt.alloc(), files)?;
+        let report = report(rt.alloc(), files).expect(&rt, "memory");
         for lanes in [1, 3, MAX_LANES] {
             for most in [1, 40_000] {
-                let (ended, text, ran_out) = run(&rt, (files, lanes, 0), most, &OpenGate);
-                same(&rt, (ended, ran_out), (Ok(0), false));
-                same(&rt, text.as_slice(), report.as_bytes());
+                check(&rt, (files, lanes, 0), most, &OpenGate, report.as_str());
             }
         }
     }
-    Ok(())
 }
 
 /// The last file comes first: its lane has read three records when the others begin, and then pauses or not.
 #[test]
-fn the_last_file_may_come_first(rt: HostRuntime) -> Result<(), Fail> {
-    let report = report(rt.alloc(), 4)?;
+fn the_last_file_may_come_first(rt: HostRuntime) {
+    let report = report(rt.alloc(), 4).expect(&rt, "memory");
     for most in [0, usize::MAX] {
-        let (ended, text, ran_out) = run(&rt, (4, 4, 30), most, &OpenGate);
-        same(&rt, (ended, ran_out), (Ok(0), false));
-        same(&rt, text.as_slice(), report.as_bytes());
+        check(&rt, (4, 4, 30), most, &OpenGate, report.as_str());
     }
-    Ok(())
 }
 
 /// Counts the calls of first stages, and holds that of the record at place 300, which only the first file has, for so
@@ -245,30 +253,44 @@ impl Gate for HoldsFirst {
 
 /// While the first file is held, the lanes of all others pause once a line waits, and go on afterwards.
 #[test]
-fn gate_holds_the_first_until_others_pause(rt: HostRuntime) -> Result<(), Fail> {
-    let report = report(rt.alloc(), 8)?;
+fn gate_holds_the_first_until_others_pause(rt: HostRuntime) {
+    let report = report(rt.alloc(), 8).expect(&rt, "memory");
     for lanes in [2, 4, MAX_LANES] {
         let gate = HoldsFirst::until(0);
-        let (ended, text, ran_out) = run(&rt, (8, lanes, 0), 1, &gate);
-        same(&rt, (ended, ran_out), (Ok(0), false));
-        same(&rt, text.as_slice(), report.as_bytes());
+        check(&rt, (8, lanes, 0), 1, &gate, report.as_str());
         let most = AHEAD.saturating_mul(lanes).saturating_add(301);
         same(&rt, gate.seen.load(Ordering::SeqCst) <= most, true);
     }
-    Ok(())
 }
 
 /// Where the first file has ended there is room again: the lanes of both later files read at once, though each of them
 /// waits in one piece of 16,384 bytes, and no more than two pieces may wait.
 #[test]
-fn room_comes_where_a_file_ends(rt: HostRuntime) -> Result<(), Fail> {
-    let report = report(rt.alloc(), 3)?;
+fn room_comes_where_a_file_ends(rt: HostRuntime) {
+    let report = report(rt.alloc(), 3).expect(&rt, "memory");
     let gate = HoldsFirst::until(3);
-    let (ended, text, ran_out) = run(&rt, (3, 3, 0), 32_768, &gate);
-    same(&rt, (ended, ran_out), (Ok(0), false));
-    same(&rt, text.as_slice(), report.as_bytes());
+    check(&rt, (3, 3, 0), 32_768, &gate, report.as_str());
     same(&rt, gate.ran_out.load(Ordering::SeqCst), false);
-    Ok(())
+}
+
+/// How a run over eight files and so many lanes ended whose sink takes a hundred bytes.
+fn ended_in_a_narrow_sink<R: AllocGlobal + Threads + Wait + Sync>(
+    rt: &R,
+    lanes: u32,
+) -> Result<u8, TextFault> {
+    let (reads_of_last, ran_out) = (AtomicU32::new(0), AtomicBool::new(false));
+    let opener = Edges {
+        files: 8,
+        awaited: 0,
+        reads_of_last: &reads_of_last,
+        ran_out: &ran_out,
+    };
+    let gate = HoldsFirst::until(0);
+    let mut sink = IoSink::new(Narrow::new(100, 100, true));
+    let (alloc, choice) = (rt.alloc(), Choice::First);
+    write_batch(
+        rt, alloc, &opener, 8, lanes, 1, 1, choice, QUICK, &gate, &mut sink,
+    )
 }
 
 /// A sink that fails while lanes pause ends the run. It is asked for more than it takes once the lines of some four hundred
@@ -276,19 +298,10 @@ fn room_comes_where_a_file_ends(rt: HostRuntime) -> Result<(), Fail> {
 #[test]
 fn a_sink_may_fail_while_lanes_pause(rt: HostRuntime) {
     for lanes in [2, 4, MAX_LANES] {
-        let (reads_of_last, ran_out) = (AtomicU32::new(0), AtomicBool::new(false));
-        let opener = Edges {
-            files: 8,
-            awaited: 0,
-            reads_of_last: &reads_of_last,
-            ran_out: &ran_out,
-        };
-        let gate = HoldsFirst::until(0);
-        let mut sink = IoSink::new(Narrow::new(100, 100, true));
-        let (alloc, choice) = (rt.alloc(), Choice::First);
-        let ended = write_batch(
-            &rt, alloc, &opener, 8, lanes, 1, 1, choice, QUICK, &gate, &mut sink,
+        same(
+            &rt,
+            ended_in_a_narrow_sink(&rt, lanes),
+            Err(TextFault::Write),
         );
-        same(&rt, ended, Err(TextFault::Write));
     }
 }
