@@ -7,12 +7,12 @@ ghost use Rattle.lane_runs.specs.Lanes.{TellsSeat, StartsLane, LeavesLane, EndsL
 ghost use Rattle.lane_runs.specs.Taking.{TakesFiles};
 
 use crate::fault::LaneFault;
-use crate::lane_kind::LaneKind;
+use crate::lane_kind::{LaneKind, LaneScratch};
 use crate::links::{Links, new_links, settle_lane};
 use crate::read_stage::Reading;
 use crate::running::LaneEnd;
 use crate::shared::Shared;
-use lanes::{Gate, Message, Numbered, Opener, run_last_stage};
+use lanes::{Gate, Message, Numbered, Opener, StageWork, run_last_stage};
 use ruled_lanes::{LaneGiver, Seat};
 use std::sync::Wait;
 use std::thread;
@@ -80,6 +80,9 @@ impl<'s, R: Threads + Wait + Sync, O: Opener, G: Gate> Shared<'s, R, O, G> {
         let Ok(buffer) = piece_buffer(run.alloc) else {
             return Err(LaneFault::Memory);
         };
+        let Ok(LaneScratch { embed, shape, draw }) = L::scratch(run.alloc, run.capacity) else {
+            return Err(LaneFault::Memory);
+        };
         let Links {
             framed: (framed_giver, framed_taker),
             embedded: (embedded_giver, embedded_taker),
@@ -87,8 +90,16 @@ impl<'s, R: Threads + Wait + Sync, O: Opener, G: Gate> Shared<'s, R, O, G> {
         } = links;
         let lane = giver.lane();
         // The first stage comes last: a lane that could not be started has drawn no file.
-        let embed = self.start_stage(scope, lane, framed_taker, embedded_giver)?;
-        let shape = self.start_stage(scope, lane, embedded_taker, shaped_giver)?;
+        let embed = StageWork {
+            lane,
+            scratch: embed,
+        };
+        let embed = self.start_stage(scope, embed, framed_taker, embedded_giver)?;
+        let shape = StageWork {
+            lane,
+            scratch: shape,
+        };
+        let shape = self.start_stage(scope, shape, embedded_taker, shaped_giver)?;
         let reading = Reading {
             lane,
             seat,
@@ -96,7 +107,7 @@ impl<'s, R: Threads + Wait + Sync, O: Opener, G: Gate> Shared<'s, R, O, G> {
             giver: framed_giver,
         };
         let read = self.start_read::<_, L>(scope, reading)?;
-        let draw = run_last_stage(run.rt, run.alloc, run.gate, shaped_taker, giver);
+        let draw = run_last_stage(run.rt, run.alloc, run.gate, draw, shaped_taker, giver);
         let read = read.join(run.rt);
         let embed = embed.join(run.rt);
         let shape = shape.join(run.rt);

@@ -1,11 +1,27 @@
 //! What travels through a lane.
-ghost use Rattle.std.specs.Prelude.{◌≡◌, ℕ, List};
+ghost use Rattle.std.specs.Prelude.{◌≡◌, ◌≤◌, ℕ, List};
 ghost use Rattle.streams.specs.declared.frames.Mark.{Mark};
 
 use choices::Choice;
 use lanes::{Numbered, Staged};
 use planar_code::Record;
+use std::alloc::{AllocError, Global};
 use streams::SourceEnd;
+
+/// The scratch of each stage of a lane that has one.
+#[derive(Drop)]
+pub struct LaneScratch<E: Drop, S: Drop, D: Drop> {
+    pub embed: E,
+    pub shape: S,
+    pub draw: D,
+}
+
+/// The scratch of each stage of a lane of this kind.
+pub type ScratchOf<L> = LaneScratch<
+    <<L as LaneKind>::Framed as Staged>::Scratch,
+    <<L as LaneKind>::Embedded as Staged>::Scratch,
+    <<L as LaneKind>::Shaped as Staged>::Scratch,
+>;
 
 /// What is known of a record at each of the four stages of a lane, where each stage makes the next from it, and
 /// of the end of a file.
@@ -39,4 +55,13 @@ pub trait LaneKind: Sync {
     /// What is known of this end of this file.
     fn end(file: u32, end: SourceEnd) -> Self::End
         requires { ends file end.count end.mark };
+
+    /// The scratch of each stage of a lane whose links have room for `capacity` messages. Lists that one stage is done
+    /// with may go back through it to the stage that fills them.
+    ///
+    /// # Errors
+    ///
+    /// `AllocError` where there is no memory for the ways back.
+    fn scratch(alloc: Global, capacity: u32) -> Result<ScratchOf<Self>, AllocError>
+        requires { 1 ≤ capacity };
 }

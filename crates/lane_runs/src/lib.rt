@@ -18,5 +18,5 @@ mod starting;
 
 pub use all_lanes::run_lanes;
 pub use fault::RunFault;
-pub use lane_kind::LaneKind;
+pub use lane_kind::{LaneKind, LaneScratch, ScratchOf};
 pub use run::Run;

@@ -10,7 +10,7 @@ use crate::lane_kind::LaneKind;
 use crate::read_stage::Reading;
 use crate::shared::Shared;
 use choices::Choice;
-use lanes::{Gate, Message, Numbered, Opener, Staged, run_stage};
+use lanes::{Gate, Message, Numbered, Opener, StageWork, Staged, run_stage};
 use ruled_lanes::{Giver, Seat, Taker, Tickets};
 use std::snapshot::Snapshot;
 use std::sync::Wait;
@@ -92,7 +92,7 @@ impl<'s, R: Threads + Wait + Sync, O: Opener, G: Gate> Shared<'s, R, O, G> {
     pub fn start_stage<E, A: Staged + 's, M: Drop + Send + 's>(
         &'s self,
         scope: &'s Scope<'s, E>,
-        lane: u32,
+        work: StageWork<A>,
         taker: Taker<Message<A, M>>,
         giver: Giver<Message<A::Next, M>>,
     ) -> Result<Started<A, M>, LaneFault>
@@ -110,7 +110,7 @@ impl<'s, R: Threads + Wait + Sync, O: Opener, G: Gate> Shared<'s, R, O, G> {
             promise,
             move || -> Option<(Taker<Message<A, M>>, Giver<Message<A::Next, M>>)>
                 requires { (taken taker ≡ []) × (given giver ≡ []) }
-            { run_stage(run.rt, run.alloc, run.gate, lane, taker, giver) },
+            { run_stage(run.rt, run.alloc, run.gate, work, taker, giver) },
         ) {
             Ok(started) => Ok(started),
             Err(_) => Err(LaneFault::Thread),

@@ -15,12 +15,14 @@ use std::sync::Wait;
 
 /// Takes the messages of the stage before, up to the stop, and gives one at its lane for each before the
 /// stop, in order: a record with the work of this stage done, or an end as it is. The stop is the
-/// caller's to give. Before it works on a record it passes the gate; all records are lent one scratch. It
-/// gives the end of its link back, or none where the other end or the gatherer was gone.
+/// caller's to give. Before it works on a record it passes the gate and exchanges lists with other stages; all
+/// records are lent one scratch. It gives the end of its link back, or none where the other end or the gatherer was
+/// gone.
 pub fn run_last_stage<A: Staged, M: Drop, R: Wait, G: Gate>(
     rt: &R,
     alloc: Global,
     gate: &G,
+    mut scratch: A::Scratch,
     mut taker: Taker<Message<A, M>>,
     giver: &mut LaneGiver<Message<A::Next, M>>,
 ) -> Option<Taker<Message<A, M>>>
@@ -32,11 +34,11 @@ pub fn run_last_stage<A: Staged, M: Drop, R: Wait, G: Gate>(
     ensures passed { IfSome result (λ took. IsPassedOn A.about A.Next.about (taken took) (given_at giver.new ++ Stop ∷ [])) }
 {
     let lane = giver.lane();
-    let mut scratch = A::scratch(alloc);
     for _ in rt.forever() {
         match taker.take(rt) {
             Ok(Message::Item(item)) => {
                 gate.pass(lane, A::STAGE, item.ordinal());
+                A::exchange(rt, &mut scratch);
                 match giver.give(rt, Message::Item(item.next(alloc, &mut scratch))) {
                     Ok(()) => {}
                     Err(_) => return None,

@@ -28,4 +28,4 @@ pub use message::Message;
 pub use numbered::{Numbered, Staged};
 pub use opener::{OpenFault, Opener};
 pub use reading::read_file;
-pub use stage::run_stage;
+pub use stage::{StageWork, run_stage};

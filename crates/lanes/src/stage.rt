@@ -10,15 +10,22 @@ use ruled_lanes::{Giver, Taker};
 use std::alloc::Global;
 use std::sync::Wait;
 
+/// What a stage works with: the number of its lane, and the scratch that is lent to each record.
+#[derive(Drop)]
+pub struct StageWork<A: Staged> {
+    pub lane: u32,
+    pub scratch: A::Scratch,
+}
+
 /// Takes the messages of the stage before, up to the stop, and gives one for each, in order: a record
 /// with the work of this stage done, an end or the stop as it is. Before it works on a record it
-/// passes the gate; all records are lent one scratch. It gives both ends back, or none where the other end
+/// passes the gate and exchanges lists with other stages. It gives both ends back, or none where the other end
 /// of a link was gone.
 pub fn run_stage<A: Staged, M: Drop, R: Wait, G: Gate>(
     rt: &R,
     alloc: Global,
     gate: &G,
-    lane: u32,
+    work: StageWork<A>,
     mut taker: Taker<Message<A, M>>,
     mut giver: Giver<Message<A::Next, M>>,
 ) -> Option<(Taker<Message<A, M>>, Giver<Message<A::Next, M>>)>
@@ -26,11 +33,12 @@ pub fn run_stage<A: Staged, M: Drop, R: Wait, G: Gate>(
     requires none_given { given giver ≡ [] }
     ensures { IfSome result (λ ends. PassedAll A.about A.Next.about taker giver ends.0 ends.1) }
 {
-    let mut scratch = A::scratch(alloc);
+    let StageWork { lane, mut scratch } = work;
     for _ in rt.forever() {
         match taker.take(rt) {
             Ok(Message::Item(item)) => {
                 gate.pass(lane, A::STAGE, item.ordinal());
+                A::exchange(rt, &mut scratch);
                 match giver.give(rt, Message::Item(item.next(alloc, &mut scratch))) {
                     Ok(()) => {}
                     Err(_) => return None,
