@@ -8,12 +8,15 @@ ghost use Rattle.drawing_check.specs.Draws.{Draws};
 ghost use Rattle.entries.specs.Drawn.{HasPoints, IsDrawn};
 
 use crate::drawing_kind::DrawingKind;
-use compact::{BoxesScratch, CompactFault, compact_in, dissect_along};
+use crate::spent::{SpentShape, Ways};
+use compact::{BoxesScratch, CompactFault, compact_in, dissect_along, give_back};
 use drawing_check::{CheckFault, Drawing, check_in};
-use entries::Cause;
+use entries::{Answer, Cause, Entry};
 use faces::Plane;
 use ortho_rep::{Points, Shape};
 use std::alloc::{AllocError, Global};
+use std::mem;
+use std::sync::Wait;
 use visibility::compact_by_visibility_in;
 
 /// What drawing takes memory for and does not keep. It is lent to one shape after another.
@@ -23,16 +26,60 @@ pub struct DrawScratch {
     points: compact::Scratch,
     rows: visibility::Scratch,
     check: drawing_check::Scratch,
+    // the directions of the darts of the shape that was drawn last
+    headings: Vec<u8>,
+    // what is done with and not sent back yet
+    spent: Option<(Plane, SpentShape)>,
+    pub(crate) ways: Ways,
 }
 
 impl DrawScratch {
-    /// No memory yet.
+    /// No memory yet, and nothing goes back.
     pub fn empty(alloc: Global) -> DrawScratch {
         DrawScratch {
             boxes: BoxesScratch::empty(alloc),
             points: compact::Scratch::empty(alloc),
             rows: visibility::Scratch::empty(alloc),
             check: drawing_check::Scratch::empty(alloc),
+            headings: Vec::new(alloc),
+            spent: None,
+            ways: Ways::none(),
+        }
+    }
+
+    /// Keeps the directions of the darts of a shape that was drawn.
+    pub(crate) fn keep_headings(&mut self, headings: Vec<u8>) {
+        self.headings = headings;
+    }
+
+    /// Takes the lists of an entry that nobody reads any more, so that they are filled anew. Those of its drawing stay
+    /// here, those of its plane and its shape go back to the stages that fill them.
+    pub fn take_back(&mut self, alloc: Global, entry: Entry) {
+        if let Answer::Laid {
+            plane,
+            shape,
+            prices,
+            drawing,
+        } = entry.answer
+        {
+            if let Ok(drawing) = drawing {
+                give_back(drawing.into_points(), &mut self.points);
+            }
+            let headings = mem::replace(&mut self.headings, Vec::new(alloc));
+            let shape = SpentShape {
+                shape,
+                prices,
+                headings,
+            };
+            self.spent = Some((plane, shape));
+        }
+    }
+
+    /// Sends what is done with back.
+    pub(crate) fn send_back<R: Wait>(&mut self, rt: &R) {
+        if let Some((plane, shape)) = self.spent.take() {
+            self.ways.planes.send(rt, plane);
+            self.ways.shapes.send(rt, shape);
         }
     }
 }

@@ -12,6 +12,7 @@ use faces::Plane;
 use lanes::{Numbered, Stage, Staged};
 use planar_code::Record;
 use std::alloc::Global;
+use std::sync::Wait;
 
 /// A record of a file, and its plane or why there is none.
 #[derive(Drop)]
@@ -50,6 +51,10 @@ impl Staged for Embedded {
 
     fn scratch(alloc: Global) -> LayScratch {
         LayScratch::empty(alloc)
+    }
+
+    fn exchange<R: Wait>(rt: &R, scratch: &mut LayScratch) {
+        scratch.restock(rt);
     }
 
     fn next(self, alloc: Global, scratch: &mut LayScratch) -> Shaped {

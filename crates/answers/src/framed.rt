@@ -2,11 +2,13 @@
 
 use crate::drawing_kind::DrawingKind;
 use crate::embedded::Embedded;
+use crate::scratch::EmbedScratch;
 use crate::stages::embed;
 use choices::Choice;
 use lanes::{Numbered, Stage, Staged};
 use planar_code::Record;
 use std::alloc::Global;
+use std::sync::Wait;
 
 /// A record of a file, of which nothing more is known.
 #[derive(Drop)]
@@ -37,14 +39,20 @@ impl Numbered for Framed {
 impl Staged for Framed {
     type Next = Embedded;
 
-    type Scratch = ();
+    type Scratch = EmbedScratch;
 
     const STAGE: Stage = Stage::Embed;
 
-    fn scratch(_alloc: Global) {}
+    fn scratch(alloc: Global) -> EmbedScratch {
+        EmbedScratch::empty(alloc)
+    }
 
-    fn next(self, alloc: Global, _scratch: &mut ()) -> Embedded {
-        let plane = embed(alloc, &self.rec);
+    fn exchange<R: Wait>(rt: &R, scratch: &mut EmbedScratch) {
+        scratch.restock(rt);
+    }
+
+    fn next(self, alloc: Global, scratch: &mut EmbedScratch) -> Embedded {
+        let plane = embed(alloc, &mut scratch.planes, &self.rec);
         Embedded {
             file: self.file,
             ordinal: self.ordinal,

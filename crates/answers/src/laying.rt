@@ -8,12 +8,14 @@ ghost use Rattle.answers.specs.Steps.{IsTracedPlane, IsPlaneOf};
 
 use crate::drawing_kind::DrawingKind;
 use crate::layout::Layout;
+use crate::spent::{SpentShape, WayBack};
 use choices::Choice;
 use compact::{Search, headings_in};
 use faces::Plane;
 use ortho_rep::{Prices, Shape, best_shape, least_shape_in};
 use std::alloc::{AllocError, Global};
 use std::mem;
+use std::sync::Wait;
 use straightening::straighten_in;
 
 /// What laying out takes memory for and does not keep. It is lent to one plane after another.
@@ -22,15 +24,34 @@ pub struct LayScratch {
     shapes: ortho_rep::Scratch,
     straight: straightening::Scratch,
     search: Search,
+    // directions that are done with
+    headings: Vec<u8>,
+    pub(crate) spent: WayBack<SpentShape>,
 }
 
 impl LayScratch {
-    /// No memory yet.
+    /// No memory yet, and nothing comes back.
     pub fn empty(alloc: Global) -> LayScratch {
         LayScratch {
             shapes: ortho_rep::Scratch::empty(alloc),
             straight: straightening::Scratch::new(),
             search: Search::empty(alloc),
+            headings: Vec::new(alloc),
+            spent: WayBack::none(),
+        }
+    }
+
+    /// Takes in the lists of a shape that is done with, where one has come back.
+    pub(crate) fn restock<R: Wait>(&mut self, rt: &R) {
+        if let Some(spent) = self.spent.receive(rt) {
+            let SpentShape {
+                shape,
+                prices,
+                headings,
+            } = spent;
+            shape.give_back(&mut self.shapes);
+            prices.give_back(&mut self.shapes);
+            self.headings = headings;
         }
     }
 }
@@ -62,7 +83,8 @@ pub(crate) fn lay(
         &prices,
         drawing,
     )?;
-    let headings = headings_of(alloc, &mut scratch.search, &plane, &shape)?;
+    let spare = mem::replace(&mut scratch.headings, Vec::new(alloc));
+    let headings = headings_of(alloc, &mut scratch.search, spare, &plane, &shape)?;
     Ok(Layout {
         plane,
         shape,
@@ -116,10 +138,11 @@ fn shape_for(
     }
 }
 
-/// The directions of the darts of a plane that is drawn by the shape.
+/// The directions of the darts of a plane that is drawn by the shape. The next search has this spare list for its own.
 fn headings_of(
     alloc: Global,
     scratch: &mut Search,
+    spare: Vec<u8>,
     plane: &Plane,
     shape: &Shape,
 ) -> Result<Vec<u8>, AllocError>
@@ -127,8 +150,8 @@ fn headings_of(
     ensures { IfOk result (λ headings. AreHeadingsOf plane.now shape.now headings.items) }
 {
     let lent = mem::replace(scratch, Search::empty(alloc));
-    let search = headings_in(plane, shape, lent)?;
-    let headings = search.headings.to_vec(alloc)?;
+    let mut search = headings_in(plane, shape, lent)?;
+    let headings = mem::replace(&mut search.headings, spare);
     *scratch = search;
     Ok(headings)
 }

@@ -10,7 +10,9 @@ mod fault;
 mod framed;
 mod laying;
 mod layout;
+mod scratch;
 mod shaped;
+mod spent;
 mod stages;
 
 pub use drawing::DrawScratch;
@@ -21,5 +23,6 @@ pub use fault::LayoutFault;
 pub use framed::Framed;
 pub use laying::LayScratch;
 pub use layout::Layout;
+pub use scratch::{EmbedScratch, StageScratch};
 pub use shaped::Shaped;
 pub use stages::answer;

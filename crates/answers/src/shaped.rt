@@ -12,6 +12,7 @@ use entries::Entry;
 use lanes::{Numbered, Stage, Staged};
 use planar_code::Record;
 use std::alloc::Global;
+use std::sync::Wait;
 
 /// A record of a file, and a layout of its plane or why there is none.
 #[derive(Drop)]
@@ -50,6 +51,10 @@ impl Staged for Shaped {
 
     fn scratch(alloc: Global) -> DrawScratch {
         DrawScratch::empty(alloc)
+    }
+
+    fn exchange<R: Wait>(rt: &R, scratch: &mut DrawScratch) {
+        scratch.send_back(rt);
     }
 
     fn next(self, alloc: Global, scratch: &mut DrawScratch) -> Entry {

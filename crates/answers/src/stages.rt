@@ -18,18 +18,25 @@ use faces::{Plane, TraceFault};
 use planar_code::Record;
 use std::alloc::{AllocError, Global};
 
-/// The plane of a record, or why there is none.
-pub(crate) fn embed(alloc: Global, rec: &Record) -> Result<Plane, LayoutFault>
+/// The plane of a record, or why there is none, in memory that is lent.
+pub(crate) fn embed(
+    alloc: Global,
+    scratch: &mut faces::Scratch,
+    rec: &Record,
+) -> Result<Plane, LayoutFault>
     ensures { IsEmbedded rec.now result }
 {
-    let graph = match Graph::read(alloc, rec) {
+    let graph = match Graph::read_in(alloc, &mut scratch.graph, rec) {
         Ok(graph) => graph,
         Err(ReadFault::Rule(rule)) => return Err(LayoutFault::Rule(rule)),
         Err(ReadFault::Memory) => return Err(LayoutFault::Memory),
     };
-    match Plane::trace(alloc, graph) {
+    match Plane::trace_in(alloc, scratch, graph) {
         Ok(plane) => Ok(plane),
-        Err(TraceFault::Genus(_)) => Err(LayoutFault::Rule(Rule::Genus)),
+        Err(TraceFault::Genus(graph)) => {
+            graph.give_back(&mut scratch.graph);
+            Err(LayoutFault::Rule(Rule::Genus))
+        }
         Err(TraceFault::Memory(_)) => Err(LayoutFault::Memory),
     }
 }
@@ -69,7 +76,9 @@ pub(crate) fn answer_with(
         Err(LayoutFault::Rule(rule)) => return Answer::Refused(rule),
         Err(LayoutFault::Memory) => return Answer::NoMemory,
     };
-    match draw(alloc, scratch, &plane, &shape, &headings, drawing) {
+    let drawn = draw(alloc, scratch, &plane, &shape, &headings, drawing);
+    scratch.keep_headings(headings);
+    match drawn {
         Ok(drawing) => Answer::Laid {
             plane,
             shape,
@@ -92,7 +101,8 @@ pub fn answer(alloc: Global, file: u32, ordinal: u32, rec: Record, choice: Choic
     ensures answered { Answers choice rec result.answer }
     ensures drawn { IsDrawnIfLaid result.answer }
 {
-    let plane = embed(alloc, &rec);
+    let mut planes = faces::Scratch::empty(alloc);
+    let plane = embed(alloc, &mut planes, &rec);
     let mut lay_scratch = LayScratch::empty(alloc);
     let mut draw_scratch = DrawScratch::empty(alloc);
     let drawing = DrawingKind::Quick;

@@ -1,11 +1,12 @@
 //! What a run's lanes do.
 ghost use Rattle.std.specs.Prelude.{⊤};
 
-use answers::{DrawingKind, Embedded, Framed, Shaped};
+use answers::{DrawScratch, DrawingKind, EmbedScratch, Embedded, Framed, LayScratch, Shaped};
 use choices::Choice;
 use entries::Entry;
-use lane_runs::LaneKind;
+use lane_runs::{LaneKind, LaneScratch};
 use planar_code::Record;
+use std::alloc::{AllocError, Global};
 use streams::SourceEnd;
 
 /// Lanes that answer records by quick drawings: what is known of a record between their stages.
@@ -38,4 +39,16 @@ impl LaneKind for Answering {
     }
 
     fn end(_file: u32, _end: SourceEnd) {}
+
+    // Entries are kept whole, so nothing goes back.
+    fn scratch(
+        alloc: Global,
+        _capacity: u32,
+    ) -> Result<LaneScratch<EmbedScratch, LayScratch, DrawScratch>, AllocError> {
+        Ok(LaneScratch {
+            embed: EmbedScratch::empty(alloc),
+            shape: LayScratch::empty(alloc),
+            draw: DrawScratch::empty(alloc),
+        })
+    }
 }

@@ -1,16 +1,19 @@
 //! Lanes whose last stage prints lines.
-ghost use Rattle.std.specs.Prelude.{◌≡◌};
+ghost use Rattle.std.specs.Prelude.{◌≡◌, ◌≤◌};
 ghost use Rattle.lanes.specs.Opening.{IsPlacedAt, IsEndAt};
 
 use crate::printed::Printed;
 use crate::told::{KnownEnd, Told, known_end};
 use crate::worded::Worded;
-use answers::{DrawingKind, Embedded, Framed, Shaped};
+use answers::{
+    DrawScratch, DrawingKind, EmbedScratch, Embedded, Framed, LayScratch, Shaped, StageScratch,
+};
 use choices::Choice;
-use lane_runs::LaneKind;
+use lane_runs::{LaneKind, LaneScratch};
 use lanes::Numbered;
 use planar_code::Record;
 use reports::Form;
+use std::alloc::{AllocError, Global};
 use std::marker::PhantomData;
 use streams::SourceEnd;
 
@@ -66,6 +69,10 @@ impl<J: Told + Send + Sync, D: Draws + Sync> LaneKind for ReportLines<J, D> {
     fn end(file: u32, end: SourceEnd) -> KnownEnd<J> {
         known_end(file, end)
     }
+
+    fn scratch(alloc: Global, capacity: u32) -> Result<LineScratch, AllocError> {
+        line_scratch(alloc, capacity)
+    }
 }
 
 /// Lanes that answer records and print JSON lines.
@@ -101,6 +108,19 @@ impl<J: Told + Send + Sync, D: Draws + Sync> LaneKind for JsonLines<J, D> {
     fn end(file: u32, end: SourceEnd) -> KnownEnd<J> {
         known_end(file, end)
     }
+
+    fn scratch(alloc: Global, capacity: u32) -> Result<LineScratch, AllocError> {
+        line_scratch(alloc, capacity)
+    }
+}
+
+/// The scratch of each stage of a lane that prints lines.
+type LineScratch = LaneScratch<EmbedScratch, LayScratch, DrawScratch>;
+
+/// The scratch of each stage: what an entry is made of goes back once its line is printed.
+fn line_scratch(alloc: Global, capacity: u32) -> Result<LineScratch, AllocError> {
+    let StageScratch { embed, shape, draw } = StageScratch::new(alloc, capacity)?;
+    Ok(LaneScratch { embed, shape, draw })
 }
 
 /// The record that has this place in this file, with this choice of the outer face, this form and this drawing.

@@ -8,6 +8,7 @@ ghost use Rattle.printing.specs.Spelt.{IsSpelt};
 
 use crate::lines::entry_text;
 use crate::told::Told;
+use answers::DrawScratch;
 use choices::Choice;
 use entries::{Answer, Entry};
 use lanes::Numbered;
@@ -55,24 +56,30 @@ impl<J: Told + Send + Sync> Numbered for Printed<J> {
 }
 
 /// The record of an entry with its line in this form. There is none where the entry has no answer for want
-/// of memory, or where `entry_text` fails. The entry is dropped.
-pub fn print<J: Told>(alloc: Global, form: Form, entry: Entry) -> Printed<J>
+/// of memory, or where `entry_text` fails. The scratch takes the lists of the entry back.
+pub fn print<J: Told>(
+    alloc: Global,
+    scratch: &mut DrawScratch,
+    form: Form,
+    entry: Entry,
+) -> Printed<J>
     requires { ∥ IsPlacedAt (J.meaning entry.file) entry.ordinal entry.rec ∥₁ }
     ensures form { result.form ≡ form }
     ensures same { result.entry.value ≡ entry }
 {
     spelt(&entry.rec);
     let line = answered_line(alloc, form, &entry);
-    let kept = Snapshot::of(&entry);
-    Printed {
+    let printed = Printed {
         file: entry.file,
         ordinal: entry.ordinal,
         choice: entry.choice,
         form,
         line,
-        entry: kept,
+        entry: Snapshot::of(&entry),
         told: PhantomData,
-    }
+    };
+    scratch.take_back(alloc, entry);
+    printed
 }
 
 /// The lists of a record spell it. This does nothing.

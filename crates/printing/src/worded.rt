@@ -11,6 +11,7 @@ use lanes::{Numbered, Stage, Staged};
 use reports::Form;
 use std::alloc::Global;
 use std::marker::PhantomData;
+use std::sync::Wait;
 
 /// What is known of a record, and the form in which its line is wanted. Its type keeps that the record has its place
 /// in what its file means.
@@ -43,6 +44,10 @@ impl<J: Told + Send + Sync> Staged for Worded<J, Framed> {
 
     fn scratch(alloc: Global) -> <Framed as Staged>::Scratch {
         <Framed as Staged>::scratch(alloc)
+    }
+
+    fn exchange<R: Wait>(rt: &R, scratch: &mut <Framed as Staged>::Scratch) {
+        <Framed as Staged>::exchange(rt, scratch);
     }
 
     fn next(self, alloc: Global, scratch: &mut <Framed as Staged>::Scratch) -> Worded<J, Embedded>
@@ -80,6 +85,10 @@ impl<J: Told + Send + Sync> Staged for Worded<J, Embedded> {
         <Embedded as Staged>::scratch(alloc)
     }
 
+    fn exchange<R: Wait>(rt: &R, scratch: &mut <Embedded as Staged>::Scratch) {
+        <Embedded as Staged>::exchange(rt, scratch);
+    }
+
     fn next(self, alloc: Global, scratch: &mut <Embedded as Staged>::Scratch) -> Worded<J, Shaped>
         ensures about { ⟦<Shaped as Numbered>⟧.about result.item ≡ ⟦<Embedded as Numbered>⟧.about self.item }
         ensures form { result.form ≡ self.form }
@@ -115,10 +124,15 @@ impl<J: Told + Send + Sync> Staged for Worded<J, Shaped> {
         <Shaped as Staged>::scratch(alloc)
     }
 
+    fn exchange<R: Wait>(rt: &R, scratch: &mut <Shaped as Staged>::Scratch) {
+        <Shaped as Staged>::exchange(rt, scratch);
+    }
+
     fn next(self, alloc: Global, scratch: &mut <Shaped as Staged>::Scratch) -> Printed<J>
         ensures about { about_of result.entry.value ≡ ⟦<Shaped as Numbered>⟧.about self.item }
         ensures form { result.form ≡ self.form }
     {
-        print(alloc, self.form, self.item.next(alloc, scratch))
+        let entry = self.item.next(alloc, scratch);
+        print(alloc, scratch, self.form, entry)
     }
 }

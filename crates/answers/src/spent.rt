@@ -1,0 +1,77 @@
+//! Lists on their way back from the last stage of a lane to the stages that fill them.
+ghost use Rattle.std.specs.Prelude.{◌<◌};
+
+use crossbeam_queue::ArrayQueue;
+use faces::Plane;
+use ortho_rep::{Prices, Shape};
+use std::alloc::{AllocError, Global};
+use std::sync::{Arc, Wait};
+
+/// A shape that is done with, the prices that prove it least, and the directions of its darts.
+#[derive(Drop)]
+pub(crate) struct SpentShape {
+    pub(crate) shape: Shape,
+    pub(crate) prices: Prices,
+    pub(crate) headings: Vec<u8>,
+}
+
+/// One end of a way on which things go back from a thread to another one, or of none. What stands on the way says
+/// nothing about results: it is only memory to be filled anew.
+#[derive(Drop)]
+pub(crate) struct WayBack<T: Drop> {
+    queue: Option<Arc<ArrayQueue<T>>>,
+}
+
+impl<T: Drop + Send> WayBack<T> {
+    /// No way: what is sent is dropped, and nothing comes.
+    pub(crate) fn none() -> WayBack<T> {
+        WayBack { queue: None }
+    }
+
+    /// Both ends of a way with room for so many things.
+    pub(crate) fn new(alloc: Global, room: usize) -> Result<(WayBack<T>, WayBack<T>), AllocError>
+        requires { 0 < room }
+    {
+        let queue = Arc::new(alloc, ArrayQueue::new(alloc, room)?)?;
+        let other = Arc::try_clone(&queue)?;
+        Ok((
+            WayBack { queue: Some(queue) },
+            WayBack { queue: Some(other) },
+        ))
+    }
+
+    /// Sends a thing back. Where the way is full, or there is none, it is dropped.
+    pub(crate) fn send<R: Wait>(&self, rt: &R, thing: T) {
+        if let Some(queue) = &self.queue {
+            match queue.push(rt, thing) {
+                Ok(()) => {}
+                Err(_) => {}
+            }
+        }
+    }
+
+    /// What has come back first, where there is any.
+    pub(crate) fn receive<R: Wait>(&self, rt: &R) -> Option<T> {
+        match &self.queue {
+            Some(queue) => queue.pop(rt),
+            None => None,
+        }
+    }
+}
+
+/// The planes and the shapes that are done with, each at the end of its way back.
+#[derive(Drop)]
+pub(crate) struct Ways {
+    pub(crate) planes: WayBack<Plane>,
+    pub(crate) shapes: WayBack<SpentShape>,
+}
+
+impl Ways {
+    /// No ways.
+    pub(crate) fn none() -> Ways {
+        Ways {
+            planes: WayBack::none(),
+            shapes: WayBack::none(),
+        }
+    }
+}
