@@ -11,10 +11,12 @@ ghost use Rattle.planar_code.specs.Stream.{lists_of};
 use crate::breaks::first_broken;
 use crate::faults::ReadFault;
 use crate::lists::Lists;
+use crate::scratch::Scratch;
 use crate::tables::{afters_in, heads_in, reverses_in, starts_in};
 use planar_code::Record;
 use std::alloc::{AllocError, Global};
 use std::marker::Model;
+use std::mem;
 
 /// How many darts a graph has at most: four for each of 255 vertices.
 pub const MAX_DARTS: usize = 1020;
@@ -62,28 +64,56 @@ impl Graph {
         ensures rules { OnOk result (KeepsBefore (lists_of rec.now) 8) }
         ensures fault { IfErr result (IsReadFault (lists_of rec.now)) }
     {
+        let mut scratch = Scratch::empty(alloc);
+        Graph::read_in(alloc, &mut scratch, rec)
+    }
+
+    /// The same as [`Graph::read`], in memory that is lent. The graph takes its lists with it; they can be given
+    /// back by [`Graph::give_back`].
+    ///
+    /// # Errors
+    ///
+    /// As [`Graph::read`]. Where a rule is broken, all lists stay in the scratch; where there was no memory, lists
+    /// that were lent may be gone, and the scratch can be lent again.
+    pub fn read_in(alloc: Global, scratch: &mut Scratch, rec: &Record) -> Result<Graph, ReadFault>
+        ensures lists { IfOk result (λ graph. graph ≡ lists_of rec.now) }
+        ensures rules { OnOk result (KeepsBefore (lists_of rec.now) 8) }
+        ensures fault { IfErr result (IsReadFault (lists_of rec.now)) }
+    {
         let lists = Lists::of(rec);
         if let Some(rule) = first_broken(&lists) {
             return Err(ReadFault::Rule(rule));
         }
-        match Graph::of(alloc, &lists) {
+        match Graph::of(alloc, scratch, &lists) {
             Ok(graph) => Ok(graph),
             Err(_) => Err(ReadFault::Memory),
         }
     }
 
     /// The graph of lists that keep rules 1 to 7.
-    fn of(alloc: Global, lists: &Lists<'_>) -> Result<Graph, AllocError>
+    fn of(alloc: Global, scratch: &mut Scratch, lists: &Lists<'_>) -> Result<Graph, AllocError>
         requires rules { KeepsBefore lists.now 8 }
         requires few { length lists.now < 256 }
         ensures { IfOk result (λ graph. graph ≡ lists.now) }
     {
+        let starts = starts_in(mem::replace(&mut scratch.starts, Vec::new(alloc)), lists)?;
+        let heads = heads_in(mem::replace(&mut scratch.heads, Vec::new(alloc)), lists)?;
+        let reverses = reverses_in(mem::replace(&mut scratch.reverses, Vec::new(alloc)), lists)?;
+        let afters = afters_in(mem::replace(&mut scratch.afters, Vec::new(alloc)), lists)?;
         Ok(Graph {
-            starts: starts_in(alloc, lists)?,
-            heads: heads_in(alloc, lists)?,
-            reverses: reverses_in(alloc, lists)?,
-            afters: afters_in(alloc, lists)?,
+            starts,
+            heads,
+            reverses,
+            afters,
         })
+    }
+
+    /// Gives the lists of this graph back to be used again. It takes no memory.
+    pub fn give_back(self, scratch: &mut Scratch) {
+        scratch.starts = self.starts;
+        scratch.heads = self.heads;
+        scratch.reverses = self.reverses;
+        scratch.afters = self.afters;
     }
 
     /// How many vertices there are, 1 to 255.

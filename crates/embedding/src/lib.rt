@@ -13,9 +13,11 @@ mod pairs;
 mod reach;
 mod rows;
 mod rules;
+mod scratch;
 mod tables;
 
 pub use faults::ReadFault;
 pub use graphs::{Graph, MAX_DARTS, MAX_EDGES};
 pub use lesser_darts::LesserDarts;
 pub use rules::Rule;
+pub use scratch::Scratch;

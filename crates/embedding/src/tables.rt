@@ -1,4 +1,5 @@
-//! What a graph keeps, made from lists that keep rules 1 to 7.
+//! What a graph keeps, made from lists that keep rules 1 to 7. Each list stands in the memory of an old one where
+//! that is enough.
 
 ghost use Rattle.std.specs.Prelude.{◌≡◌, ℕ, ◌+◌, ◌<◌, ◌≤◌, length, slice_index, IfOk, Contains};
 ghost use Rattle.embedding.specs.Lists.{list_of};
@@ -8,14 +9,15 @@ ghost use Rattle.embedding.specs.Tables.{IsTable};
 
 use crate::lists::Lists;
 use crate::rows::four_of;
-use std::alloc::{AllocError, Global};
+use reuse::emptied;
+use std::alloc::AllocError;
 
 /// Where each list begins among the heads of all darts, and at the end how many darts there are.
-pub(crate) fn starts_in(alloc: Global, lists: &Lists<'_>) -> Result<Vec<u16>, AllocError>
+pub(crate) fn starts_in(old: Vec<u16>, lists: &Lists<'_>) -> Result<Vec<u16>, AllocError>
     ensures { IfOk result (λ starts.
         IsTable (length lists.now + 1) (first_dart lists.now) starts.items) }
 {
-    let mut starts = Vec::with_capacity(alloc, usize::from(lists.count()) + 1)?;
+    let mut starts = emptied(old, usize::from(lists.count()) + 1)?;
     for place in 0..lists.count() {
         starts.push(lists.first_dart(place))?;
     }
@@ -24,10 +26,10 @@ pub(crate) fn starts_in(alloc: Global, lists: &Lists<'_>) -> Result<Vec<u16>, Al
 }
 
 /// The heads of all darts.
-pub(crate) fn heads_in(alloc: Global, lists: &Lists<'_>) -> Result<Vec<u8>, AllocError>
+pub(crate) fn heads_in(old: Vec<u8>, lists: &Lists<'_>) -> Result<Vec<u8>, AllocError>
     ensures { IfOk result (λ found. found.items ≡ heads lists.now) }
 {
-    let mut heads = Vec::with_capacity(alloc, lists.darts())?;
+    let mut heads = emptied(old, lists.darts())?;
     for place in 0..lists.count() {
         heads.extend_from_slice(lists.at(place))?;
     }
@@ -76,12 +78,12 @@ fn add_reverses(reverses: &mut Vec<u16>, lists: &Lists<'_>, place: u8) -> Result
 
 /// The reverses of all darts. Each list has at most four entries, so to search one takes constant
 /// time.
-pub(crate) fn reverses_in(alloc: Global, lists: &Lists<'_>) -> Result<Vec<u16>, AllocError>
+pub(crate) fn reverses_in(old: Vec<u16>, lists: &Lists<'_>) -> Result<Vec<u16>, AllocError>
     requires { KeepsBefore lists.now 8 }
     ensures { IfOk result (λ reverses.
         IsTable (dart_count lists.now) (reverse_of lists.now) reverses.items) }
 {
-    let mut reverses = Vec::with_capacity(alloc, lists.darts())?;
+    let mut reverses = emptied(old, lists.darts())?;
     for place in 0..lists.count() {
         add_reverses(&mut reverses, lists, place)?;
     }
@@ -89,11 +91,11 @@ pub(crate) fn reverses_in(alloc: Global, lists: &Lists<'_>) -> Result<Vec<u16>, 
 }
 
 /// The darts after all darts: the next one of each, but of the last dart of a list its first one.
-pub(crate) fn afters_in(alloc: Global, lists: &Lists<'_>) -> Result<Vec<u16>, AllocError>
+pub(crate) fn afters_in(old: Vec<u16>, lists: &Lists<'_>) -> Result<Vec<u16>, AllocError>
     ensures { IfOk result (λ afters.
         IsTable (dart_count lists.now) (after_of lists.now) afters.items) }
 {
-    let mut afters = Vec::with_capacity(alloc, lists.darts())?;
+    let mut afters = emptied(old, lists.darts())?;
     for dart in 0..lists.darts() as u16 {
         afters.push(dart + 1)?;
     }

@@ -6,18 +6,18 @@ use Rattle.embedding.proofs.graphs.Graph.of.Goals as goal
 
 pub invariant_of-result : goal.invariant_of-result
 invariant_of-result c =
-    let whole = cut_whole c.args.lists.now _ _ c.in_ok-starts_in.ensures c.in_ok-heads_in.ensures in
-    let kept : IsKept c.args.lists.now c.in_ok-starts_in.field-0.items c.in_ok-heads_in.field-0.items c.in_ok-reverses_in.field-0.items c.in_ok-afters_in.field-0.items =
+    let whole = cut_whole c.args.lists.now _ _ c.in_ok-starts.ensures c.in_ok-heads.ensures in
+    let kept : IsKept c.args.lists.now c.in_ok-starts.starts.items c.in_ok-heads.heads.items c.in_ok-reverses.reverses.items c.in_ok-afters.afters.items =
     record {
       rules = c.requires.rules;
       order = c.requires.few;
-      starts_are = c.in_ok-starts_in.ensures;
-      heads_are = c.in_ok-heads_in.ensures;
-      reverses_are = c.in_ok-reverses_in.ensures;
-      afters_are = c.in_ok-afters_in.ensures;
+      starts_are = c.in_ok-starts.ensures;
+      heads_are = c.in_ok-heads.ensures;
+      reverses_are = c.in_ok-reverses.ensures;
+      afters_are = c.in_ok-afters.ensures;
     } in
     kept_as _ _ (sym whole) kept
 
 pub returns : goal.returns
 returns c =
-    cut_whole c.args.lists.now _ _ c.in_ok-starts_in.ensures c.in_ok-heads_in.ensures
+    cut_whole c.args.lists.now _ _ c.in_ok-starts.ensures c.in_ok-heads.ensures

@@ -1,6 +1,6 @@
 use Rattle.std.proofs.Common.{◌<◌, List, ℕ, subst}
 use Rattle.embedding.specs.Rules.{FirstBroken, KeepsBefore, rule_number}
-use Rattle.embedding.proofs.graphs.Graph.read.Goals as goal
+use Rattle.embedding.proofs.graphs.Graph.read_in.Goals as goal
 
 pub returns-in-Some-clause-fault : goal.returns-in-Some-clause-fault
 returns-in-Some-clause-fault c =
