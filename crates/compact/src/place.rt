@@ -6,18 +6,19 @@ ghost use Rattle.ortho_rep.specs.Storage.{cut, IsCut};
 ghost use Rattle.compact.specs.Ordered.{AreLaidOut, AreCorners, IsCompactFault, point_at};
 
 use crate::axis::least_numbers;
-use crate::corners::{point_of, push_corners};
+use crate::corners::{count_corners, point_of, push_corners};
 use crate::fault::CompactFault;
 use crate::scratch::Scratch;
 use crate::steps::steps_of;
 use dissect::Boxes;
 use ortho_rep::{Point, Points};
+use reuse::emptied;
 use std::alloc::{AllocError, Global};
 use std::mem;
 
-/// The points of the plane's vertices.
+/// The points of the plane's vertices, in the memory of a list that is lent.
 fn vertex_points(
-    alloc: Global,
+    lent: Vec<Point>,
     boxes: &Boxes,
     x: &[u16],
     y: &[u16],
@@ -27,37 +28,41 @@ fn vertex_points(
     ensures { IfOk result (λ points. points.items
         ≡ map (point_at (λ v. slice_index x.now v) (λ v. slice_index y.now v)) (range_with_len 0 boxes.now.old)) }
 {
-    let mut points = Vec::with_capacity(alloc, usize::from(boxes.old_vertices()))?;
+    let mut points = emptied(lent, usize::from(boxes.old_vertices()))?;
     for vertex in 0..u32::from(boxes.old_vertices()) {
         points.push(point_of(x, y, vertex))?;
     }
     Ok(points)
 }
 
-/// Writes the corner points of all edges over this list, one edge after another, and says where those of each
-/// edge start; one place more, where the last ones end.
+/// The corner points of all edges in one list, one edge after another, and the places where those of each edge
+/// start; one place more, where the last ones end. Both lists stand in the memory of those that are lent.
 fn list_corners(
-    alloc: Global,
-    corners: &mut Vec<Point>,
+    mut corners: Vec<Point>,
+    starts: Vec<usize>,
     boxes: &Boxes,
     x: &[u16],
     y: &[u16],
-) -> Result<Vec<usize>, AllocError>
+) -> Result<(Vec<Point>, Vec<usize>), AllocError>
     requires x_in { length x.now ≡ boxes.now.vertices }
     requires y_in { length y.now ≡ boxes.now.vertices }
-    ensures places { IfOk result (λ starts. IsCut starts.items corners.new.items) }
-    ensures count { IfOk result (λ starts. length (cut starts.items corners.new.items) ≡ length boxes.now.edges) }
-    ensures corners { IfOk result (λ starts. AreCorners boxes.now (λ v. slice_index x.now v) (λ v. slice_index y.now v)
-        (length boxes.now.edges) (cut starts.items corners.new.items)) }
+    ensures places { IfOk result (λ found. IsCut found.1.items found.0.items) }
+    ensures count { IfOk result (λ found. length (cut found.1.items found.0.items) ≡ length boxes.now.edges) }
+    ensures corners { IfOk result (λ found. AreCorners boxes.now (λ v. slice_index x.now v) (λ v. slice_index y.now v)
+        (length boxes.now.edges) (cut found.1.items found.0.items)) }
 {
+    // A list without memory takes just what it will hold; another one grows where it has to.
+    if corners.capacity() == 0 {
+        corners.reserve_exact(count_corners(boxes))?;
+    }
     corners.clear();
-    let mut starts = Vec::with_capacity(alloc, usize::from(boxes.edges()) + 1)?;
+    let mut starts = emptied(starts, usize::from(boxes.edges()) + 1)?;
     starts.push(0)?;
     for edge in 0..boxes.edges() {
-        push_corners(corners, boxes, x, y, boxes.path(edge))?;
+        push_corners(&mut corners, boxes, x, y, boxes.path(edge))?;
         starts.push(corners.len())?;
     }
-    Ok(starts)
+    Ok((corners, starts))
 }
 
 /// Points for a plane that was cut into boxes: whole numbers from 0 to 65,535 in the order of the darts,
@@ -82,7 +87,8 @@ pub fn compact(alloc: Global, boxes: &Boxes) -> Result<Points, CompactFault>
     compact_in(alloc, &mut scratch, boxes)
 }
 
-/// The same in memory that is lent: only the points take new memory, and what the lent memory lacks.
+/// The same in memory that is lent: only what it lacks is taken. The points take their lists with them;
+/// [`Scratch::take_back`] takes them back.
 ///
 /// # Errors
 ///
@@ -101,7 +107,9 @@ pub fn compact_in(
         y,
         mut queues,
         mut constraints,
-        mut corners,
+        vertices,
+        corners,
+        starts,
     } = mem::replace(scratch, Scratch::empty(alloc));
     let Ok(around) = steps_of(boxes, around) else {
         return Err(CompactFault::Memory);
@@ -110,22 +118,16 @@ pub fn compact_in(
         Ok(found) => found,
         Err(fault) => return Err(fault),
     };
-    let Ok(vertices) = vertex_points(alloc, boxes, &x, &y) else {
+    let Ok(vertices) = vertex_points(vertices, boxes, &x, &y) else {
         return Err(CompactFault::Memory);
     };
-    let Ok(starts) = list_corners(alloc, &mut corners, boxes, &x, &y) else {
+    let Ok(found) = list_corners(corners, starts, boxes, &x, &y) else {
         return Err(CompactFault::Memory);
     };
-    let Ok(found) = corners.to_vec(alloc) else {
-        return Err(CompactFault::Memory);
-    };
-    *scratch = Scratch {
-        around,
-        x,
-        y,
-        queues,
-        constraints,
-        corners,
-    };
-    Ok(Points::joined(vertices, found, starts))
+    scratch.around = around;
+    scratch.x = x;
+    scratch.y = y;
+    scratch.queues = queues;
+    scratch.constraints = constraints;
+    Ok(Points::joined(vertices, found.0, found.1))
 }

@@ -37,6 +37,13 @@ impl Drawing {
     {
         &self.points
     }
+
+    /// The points themselves. It takes no memory.
+    pub fn into_points(self) -> Points
+        ensures { result ≡ self }
+    {
+        self.points
+    }
 }
 
 /// The points as a drawing, where they draw the shape; if not, the first condition that fails, and the points as

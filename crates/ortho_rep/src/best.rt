@@ -10,6 +10,7 @@ ghost use Rattle.ortho_rep.specs.Tries.{IsMoving, IsLead, IsAhead, IsNoBetter, A
 
 use crate::least::shape_in;
 use crate::prices::Prices;
+use crate::scratch::ShapeLists;
 use crate::shape::Shape;
 use embedding::MAX_DARTS;
 use faces::{MAX_FACES, Plane};
@@ -77,7 +78,8 @@ fn best_found(alloc: Global, plane: &mut Plane) -> Result<(Shape, Prices), Alloc
     let moving = turned(moving, plane, lead.face);
     plane.turn_out(lead.face);
     let solved = moving.standing.solved(alloc)?;
-    shape_in(alloc, plane, &moving.net, &solved)
+    let mut lists = ShapeLists::empty(alloc);
+    shape_in(alloc, &mut lists, plane, &moving.net, &solved)
 }
 
 /// A flow of least cost in the network of a plane, which goes on from one outer face to another.

@@ -10,14 +10,16 @@ ghost use Rattle.ortho_rep.specs.Representation.{IsShape, IsLeast};
 ghost use Rattle.ortho_rep.specs.Prices.{IsProof};
 
 use crate::prices::Prices;
-use crate::scratch::Scratch;
+use crate::scratch::{Scratch, ShapeLists};
 use crate::shape::Shape;
 use crate::strings::Strings;
 use crate::turn::Turn;
 use faces::Plane;
 use flow_network::FaceNet;
 use min_cost_flow::{Network, SolveFault, Solved, solve_in};
+use reuse::emptied;
 use std::alloc::{AllocError, Global};
+use std::mem;
 
 /// An orthogonal representation of the plane with the fewest bends, and prices that prove it least.
 ///
@@ -36,7 +38,8 @@ pub fn least_shape(alloc: Global, plane: &Plane) -> Result<(Shape, Prices), Allo
     least_shape_in(alloc, &mut scratch, plane)
 }
 
-/// The same as [`least_shape`], in memory that is lent.
+/// The same as [`least_shape`], in memory that is lent. The shape and the prices take their lists with them; they can
+/// be given back by [`Shape::give_back`] and [`Prices::give_back`].
 ///
 /// # Errors
 ///
@@ -52,15 +55,16 @@ pub fn least_shape_in(
 {
     let net = FaceNet::build_in(alloc, &mut scratch.net, plane)?;
     let solved = least_flow(alloc, &mut scratch.solver, net.network())?;
-    let made = shape_in(alloc, plane, &net, &solved)?;
+    let made = shape_in(alloc, &mut scratch.lists, plane, &net, &solved)?;
     solved.give_back(&mut scratch.solver);
     net.give_back(&mut scratch.net);
     Ok(made)
 }
 
-/// The representation that a flow of least cost is, and its prices.
+/// The representation that a flow of least cost is, and its prices, in the memory of these lists.
 pub(crate) fn shape_in(
     alloc: Global,
+    lists: &mut ShapeLists,
     plane: &Plane,
     net: &FaceNet,
     solved: &Solved,
@@ -72,9 +76,13 @@ pub(crate) fn shape_in(
     ensures proof { IfOk result (λ found. IsProof plane.now found.0 found.1) }
 {
     let vertices = plane.graph().vertices();
-    let angles = angles_in(alloc, plane, net, solved)?;
-    let strings = strings_in(alloc, plane, net, solved)?;
-    let prices = prices_in(alloc, plane, net, solved)?;
+    let lent = mem::replace(&mut lists.angles, Vec::new(alloc));
+    let angles = angles_in(lent, plane, net, solved)?;
+    let turns = mem::replace(&mut lists.turns, Vec::new(alloc));
+    let starts = mem::replace(&mut lists.starts, Vec::new(alloc));
+    let strings = strings_in(alloc, turns, starts, plane, net, solved)?;
+    let lent = mem::replace(&mut lists.prices, Vec::new(alloc));
+    let prices = prices_in(lent, plane, net, solved)?;
     Ok((
         Shape::of_strings(angles, strings),
         Prices::joined(prices, usize::from(vertices)),
@@ -109,9 +117,9 @@ fn crossing_flow(plane: &Plane, net: &FaceNet, solved: &Solved, dart: u16) -> u3
     solved.flow(net.crossing_arc(dart))
 }
 
-/// The angles of a flow.
+/// The angles of a flow, in the memory of a list that is lent.
 fn angles_in(
-    alloc: Global,
+    lent: Vec<u8>,
     plane: &Plane,
     net: &FaceNet,
     solved: &Solved,
@@ -125,7 +133,7 @@ fn angles_in(
     // Only the proof needs this: `outer` says that there is a face.
     let _outer = plane.outer();
     let darts = plane.graph().darts();
-    let mut angles = Vec::with_capacity(alloc, usize::from(darts))?;
+    let mut angles = emptied(lent, usize::from(darts))?;
     for dart in 0..darts {
         let corner = solved.flow(net.corner_arc(dart)) as u8;
         angles.push(corner + 1)?;
@@ -133,12 +141,15 @@ fn angles_in(
     Ok(angles)
 }
 
-/// The strings of a flow, in one list of turns. Along each dart the left turns come first.
+/// The strings of a flow, in one list of turns, in the memory of these lists. Along each dart the left turns come
+/// first.
 ///
 /// Their places take two bytes each, so that the list of them is short for a small plane. No least shape was seen
 /// with too many turns for that.
 fn strings_in(
     alloc: Global,
+    turns: Vec<Turn>,
+    starts: Vec<u16>,
     plane: &Plane,
     net: &FaceNet,
     solved: &Solved,
@@ -150,8 +161,8 @@ fn strings_in(
         → slice_index_or strings d [] ≡ strings_of plane.now (amounts solved.now.flow) d) }
 {
     let graph = plane.graph();
-    let mut turns = Vec::with_capacity(alloc, 2 * count_bends(plane, net, solved))?;
-    let mut starts = Vec::with_capacity(alloc, usize::from(graph.darts()) + 1)?;
+    let mut turns = emptied(turns, 2 * count_bends(plane, net, solved))?;
+    let mut starts = emptied(starts, usize::from(graph.darts()) + 1)?;
     starts.push(0)?;
     for dart in 0..graph.darts() {
         push_string(&mut turns, plane, net, solved, dart)?;
@@ -163,7 +174,7 @@ fn strings_in(
     Ok(Strings::narrow(turns, starts))
 }
 
-/// The same, however many turns there are.
+/// The same in lists of its own, however many turns there are.
 fn wide_strings(
     alloc: Global,
     plane: &Plane,
@@ -225,9 +236,9 @@ fn count_bends(plane: &Plane, net: &FaceNet, solved: &Solved) -> usize
     bends
 }
 
-/// The potentials of the vertices and behind them those of the faces, in one list.
+/// The potentials of the vertices and behind them those of the faces, in the memory of one list that is lent.
 fn prices_in(
-    alloc: Global,
+    lent: Vec<i32>,
     plane: &Plane,
     net: &FaceNet,
     solved: &Solved,
@@ -239,7 +250,7 @@ fn prices_in(
 {
     let vertices = plane.graph().vertices();
     let faces = plane.face_count();
-    let mut prices = Vec::with_capacity(alloc, usize::from(vertices) + usize::from(faces))?;
+    let mut prices = emptied(lent, usize::from(vertices) + usize::from(faces))?;
     for place in 0..vertices {
         prices.push(solved.potential(net.vertex_node(place + 1)))?;
     }

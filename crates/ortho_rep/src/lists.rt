@@ -199,6 +199,30 @@ impl<T> Lists<T> {
         }
     }
 
+    /// The one list of items and the places, where each place is told in two bytes.
+    pub(crate) fn into_narrow(self) -> Option<(Vec<T>, Vec<u16>)>
+    where
+        T: Drop,
+        ensures { IfSome result (λ parts. self ≡ cut parts.1.items parts.0.items) }
+    {
+        match self.store {
+            Store::Narrow(lists) => Some((lists.items, lists.starts)),
+            Store::Apart(_) | Store::Joined(_) => None,
+        }
+    }
+
+    /// The lists where they stand in one, with places of eight bytes.
+    pub(crate) fn into_joined(self) -> Option<JoinedLists<T>>
+    where
+        T: Drop,
+        ensures { IfSome result (λ joined. joined ≡ self) }
+    {
+        match self.store {
+            Store::Joined(lists) => Some(lists),
+            Store::Apart(_) | Store::Narrow(_) => None,
+        }
+    }
+
     /// How many items all lists have, where that is known in constant time.
     pub(crate) fn known_count(&self) -> Option<u16>
         ensures { IfSome result (λ count. count ≡ sum_below (length self.now) (λ i. length (slice_index_or self.now i []))) }

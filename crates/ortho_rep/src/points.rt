@@ -1,10 +1,10 @@
 //! Points of the grid, and those of a plane's vertices and corners.
 
-ghost use Rattle.std.specs.Prelude.{◌≡◌, ◌<◌, ◌≤◌, length};
+ghost use Rattle.std.specs.Prelude.{◌≡◌, ◌<◌, ◌≤◌, length, IfSome};
 ghost use Rattle.ortho_rep.specs.Points.{vertex_point, corners_at};
 ghost use Rattle.ortho_rep.specs.Storage.{lists_in, cut, IsCut};
 
-use crate::lists::Lists;
+use crate::lists::{JoinedLists, Lists};
 use std::marker::Model;
 
 /// The greatest coordinate of the grid; the least is 0.
@@ -58,6 +58,15 @@ impl Points {
             vertices,
             corners: Lists::joined(corners, starts),
         }
+    }
+
+    /// The list of the vertices' points, and the lists of corners where they stand in one: their memory can be used
+    /// again. It takes none.
+    pub fn into_lists(self) -> (Vec<Point>, Option<JoinedLists<Point>>)
+        ensures vertices { result.0.items ≡ self.vertices }
+        ensures corners { IfSome result.1 (λ corners. corners ≡ self.corners) }
+    {
+        (self.vertices, self.corners.into_joined())
     }
 
     /// How many vertices have a point.

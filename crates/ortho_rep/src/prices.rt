@@ -3,6 +3,7 @@
 ghost use Rattle.std.specs.Prelude.{◌≡◌, ◌<◌, ◌≤◌, length, take, drop};
 ghost use Rattle.ortho_rep.specs.Prices.{vertex_price, face_price};
 
+use crate::scratch::Scratch;
 use std::marker::Model;
 
 /// A whole number for each vertex and each face of a plane. In contracts it is the two lists.
@@ -50,6 +51,21 @@ impl Prices {
     {
         Prices {
             store: PriceStore::Joined { prices, vertices },
+        }
+    }
+
+    /// Gives the list of these prices back to be used again; lists of prices that do not stand in one, as
+    /// [`least_shape_in`](crate::least_shape_in) makes them, it drops. It takes no memory.
+    pub fn give_back(self, scratch: &mut Scratch) {
+        match self.store {
+            PriceStore::Joined {
+                prices,
+                vertices: _,
+            } => scratch.lists.prices = prices,
+            PriceStore::Apart {
+                vertices: _,
+                faces: _,
+            } => {}
         }
     }
 

@@ -1,16 +1,19 @@
 //! Memory that one call after another is lent.
 
+use crate::turn::Turn;
 use std::alloc::Global;
 
-/// What finding a least shape takes memory for and does not keep, to be used again. What it holds between two
-/// calls is of no use.
+/// What finding a least shape takes memory for, to be used again. What it holds between two calls is of no use.
 ///
-/// A call takes no more memory for it where a plane before had as many vertices, faces and darts or more. A call
-/// that found too little memory may lose what it was lent; the next one then takes it anew.
+/// A shape and its prices take their lists with them. Where both are given back before the next call, none takes
+/// memory for a plane with no more vertices, faces, darts and bends than one before it had; where one is not, the
+/// next call takes memory for its lists alone, and for just what they hold. A call that found too little memory may
+/// lose what it was lent; the next one then takes it anew.
 #[derive(Drop)]
 pub struct Scratch {
     pub(crate) net: flow_network::Scratch,
     pub(crate) solver: min_cost_flow::Scratch,
+    pub(crate) lists: ShapeLists,
 }
 
 impl Scratch {
@@ -19,6 +22,28 @@ impl Scratch {
         Scratch {
             net: flow_network::Scratch::empty(alloc),
             solver: min_cost_flow::Scratch::empty(alloc),
+            lists: ShapeLists::empty(alloc),
+        }
+    }
+}
+
+/// The lists of a shape and of its prices, to be filled anew.
+#[derive(Drop)]
+pub(crate) struct ShapeLists {
+    pub(crate) angles: Vec<u8>,
+    pub(crate) turns: Vec<Turn>,
+    pub(crate) starts: Vec<u16>,
+    pub(crate) prices: Vec<i32>,
+}
+
+impl ShapeLists {
+    /// Lists without memory.
+    pub(crate) fn empty(alloc: Global) -> ShapeLists {
+        ShapeLists {
+            angles: Vec::new(alloc),
+            turns: Vec::new(alloc),
+            starts: Vec::new(alloc),
+            prices: Vec::new(alloc),
         }
     }
 }

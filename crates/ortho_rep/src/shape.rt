@@ -8,6 +8,7 @@ ghost use Rattle.ortho_rep.specs.Storage.{lists_in};
 ghost use Rattle.ortho_rep.specs.Shapes.{angle_at, turns_at};
 ghost use Rattle.ortho_rep.specs.Representation.{bends_of};
 
+use crate::scratch::Scratch;
 use crate::strings::{MAX_TURNS, Strings};
 use crate::turn::Turn;
 use embedding::MAX_DARTS;
@@ -59,6 +60,16 @@ impl Shape {
         ensures { result ≡ record { angles = angles.items; strings = strings } }
     {
         Shape { angles, strings }
+    }
+
+    /// Gives the lists of this shape back to be used again; of strings that are not in narrow lists, as
+    /// [`least_shape_in`](crate::least_shape_in) makes them, it drops the lists. It takes no memory.
+    pub fn give_back(self, scratch: &mut Scratch) {
+        scratch.lists.angles = self.angles;
+        if let Some((turns, starts)) = self.strings.into_narrow() {
+            scratch.lists.turns = turns;
+            scratch.lists.starts = starts;
+        }
     }
 
     /// How many angles there are.

@@ -66,6 +66,11 @@ impl Strings {
         }
     }
 
+    /// The one list of turns and the places, where each place is told in two bytes.
+    pub(crate) fn into_narrow(self) -> Option<(Vec<Turn>, Vec<u16>)> {
+        self.lists.into_narrow()
+    }
+
     /// How many strings there are.
     pub(crate) fn len(&self) -> usize
         ensures count { result ≡ length self.now }

@@ -25,7 +25,7 @@ pub fn filled<T: Copy + Drop>(
 }
 
 /// The list with nothing of what it held, and room for so many items. It takes memory only where it has
-/// not enough.
+/// not enough, and then for just so many.
 ///
 /// # Errors
 ///
@@ -36,6 +36,6 @@ pub fn emptied<T: Drop>(mut list: Vec<T>, room: usize) -> Result<Vec<T>, AllocEr
     ensures room { IfOk result (λ v. room ≤ vec_capacity v) }
 {
     list.clear();
-    list.reserve(room)?;
+    list.reserve_exact(room)?;
     Ok(list)
 }
