@@ -8,6 +8,8 @@
 pub mod laws;
 mod numbering;
 mod plane;
+mod scratch;
 
 pub use choices::Choice;
 pub use plane::{MAX_FACES, Plane, TraceFault};
+pub use scratch::Scratch;

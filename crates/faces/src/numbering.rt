@@ -8,7 +8,8 @@ ghost use Rattle.faces.specs.Faces.{degree_in};
 ghost use Rattle.faces.specs.Walk.{IsTracedIn, at};
 
 use embedding::Graph;
-use std::alloc::{AllocError, Global};
+use reuse::filled;
+use std::alloc::AllocError;
 
 /// Stands for the face of a dart that no walk has come to.
 pub const UNSET: u16 = u16::MAX;
@@ -63,15 +64,16 @@ pub fn number_faces(graph: &Graph, faces: &mut [u16]) -> u16
     count
 }
 
-/// How many darts each of `count` faces has.
-pub fn count_degrees(alloc: Global, faces: &[u16], count: u16) -> Result<Vec<u16>, AllocError>
+/// How many darts each of `count` faces has. The numbers stand in the memory of an old list where that is
+/// enough.
+pub fn count_degrees(old: Vec<u16>, faces: &[u16], count: u16) -> Result<Vec<u16>, AllocError>
     requires few { length faces.now ≤ MAX_DARTS }
     requires named { (d : ℕ) → d < length faces.now → slice_index faces.now d < count }
     ensures size { IfOk result (λ v. vec_len v ≡ count) }
     ensures degrees { IfOk result (λ v. (k : ℕ) → k < count
         → slice_index v.items k ≡ degree_in (length faces.now) (at faces.now) k) }
 {
-    let mut degrees = vec![in alloc; 0; usize::from(count)]?;
+    let mut degrees = filled(old, usize::from(count), 0)?;
     for face in faces {
         degrees[usize::from(*face)] += 1;
     }

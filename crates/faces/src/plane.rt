@@ -8,9 +8,12 @@ ghost use Rattle.faces.specs.Faces.{degree_in};
 ghost use Rattle.faces.specs.Walk.{at};
 
 use crate::numbering::{UNSET, count_degrees, next_dart, number_faces, widest_face};
+use crate::scratch::Scratch;
 use embedding::{Graph, MAX_DARTS};
+use reuse::emptied;
 use std::alloc::{AllocError, Global};
 use std::marker::Model;
+use std::mem;
 use thiserror::Error;
 
 /// How many faces a plane has at most: 510 edges less 255 vertices, and two more.
@@ -59,8 +62,14 @@ struct FaceTable {
     degrees: Vec<u16>,
 }
 
-/// Copies the faces of all darts, of which there are `count`, and adds their degrees.
-fn face_table(alloc: Global, faces: &[u16], count: u16) -> Result<FaceTable, AllocError>
+/// Copies the faces of all darts, of which there are `count`, and adds their degrees. They stand in the memory
+/// that is lent where that is enough.
+fn face_table(
+    alloc: Global,
+    scratch: &mut Scratch,
+    faces: &[u16],
+    count: u16,
+) -> Result<FaceTable, AllocError>
     requires few { length faces.now ≤ MAX_DARTS }
     requires named { (d : ℕ) → d < length faces.now → slice_index faces.now d < count }
     ensures faces { IfOk result (λ t. t.faces.items ≡ faces.now) }
@@ -68,9 +77,13 @@ fn face_table(alloc: Global, faces: &[u16], count: u16) -> Result<FaceTable, All
     ensures degrees { IfOk result (λ t. (k : ℕ) → k < count
         → slice_index t.degrees.items k ≡ degree_in (length faces.now) (at faces.now) k) }
 {
+    let old_faces = mem::replace(&mut scratch.faces, Vec::new(alloc));
+    let old_degrees = mem::replace(&mut scratch.degrees, Vec::new(alloc));
+    let mut copied = emptied(old_faces, faces.len())?;
+    copied.extend_from_slice(faces)?;
     Ok(FaceTable {
-        faces: faces.to_vec(alloc)?,
-        degrees: count_degrees(alloc, faces, count)?,
+        faces: copied,
+        degrees: count_degrees(old_degrees, faces, count)?,
     })
 }
 
@@ -93,13 +106,31 @@ impl Plane {
         ensures err { IfErr result (IsTraceFault graph) }
         ensures memory { result ≡ Err (TraceFault.Memory graph) → KeepsBefore graph 9 }
     {
+        let mut scratch = Scratch::empty(alloc);
+        Plane::trace_in(alloc, &mut scratch, graph)
+    }
+
+    /// The same as [`Plane::trace`], in memory that is lent. The plane takes its lists with it; they can be given
+    /// back by [`Plane::give_back`].
+    ///
+    /// # Errors
+    ///
+    /// As [`Plane::trace`]. By `Genus` all lists stay in the scratch; by `Memory` lists that were lent may be gone,
+    /// and the scratch can be lent again.
+    pub fn trace_in(alloc: Global, scratch: &mut Scratch, graph: Graph) -> Result<Plane, TraceFault>
+        ensures graph { IfOk result (λ p. p.lists ≡ graph) }
+        ensures plane { IfOk result IsPlane }
+        ensures outer { IfOk result IsWidest }
+        ensures err { IfErr result (IsTraceFault graph) }
+        ensures memory { result ≡ Err (TraceFault.Memory graph) → KeepsBefore graph 9 }
+    {
         let mut marks = [UNSET; MAX_DARTS];
         let faces = &mut marks[..usize::from(graph.darts())];
         let count = number_faces(&graph, faces);
         if u16::from(graph.vertices()) + count != graph.edges() + 2 {
             return Err(TraceFault::Genus(graph));
         }
-        let Ok(table) = face_table(alloc, faces, count) else {
+        let Ok(table) = face_table(alloc, scratch, faces, count) else {
             return Err(TraceFault::Memory(graph));
         };
         let FaceTable { faces, degrees } = table;
@@ -110,6 +141,14 @@ impl Plane {
             degrees,
             outer,
         })
+    }
+
+    /// Gives the lists of this plane back to be used again, and those of its graph to `scratch.graph`. It takes no
+    /// memory.
+    pub fn give_back(self, scratch: &mut Scratch) {
+        self.graph.give_back(&mut scratch.graph);
+        scratch.faces = self.faces;
+        scratch.degrees = self.degrees;
     }
 
     /// The graph whose faces these are.

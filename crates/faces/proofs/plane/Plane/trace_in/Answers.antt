@@ -2,7 +2,7 @@ use Rattle.std.proofs.Common.{ℕ, List, length, slice_index, ap, ◌∙◌, ari
 use Rattle.embedding.specs.declared.graphs.TheConstants.{MAX_DARTS}
 use Rattle.faces.specs.declared.numbering.TheConstants.{UNSET}
 use Rattle.faces.proofs.Outer.{part_of_one, all_rules, plane_from, outer_from, kept_faces, kept_degrees}
-use Rattle.faces.proofs.plane.Plane.trace.Goals as goal
+use Rattle.faces.proofs.plane.Plane.trace_in.Goals as goal
 
 pub number_faces-count-requires-clause-unset : goal.number_faces-count-requires-clause-unset
 number_faces-count-requires-clause-unset c = λ d lt. part_of_one MAX_DARTS c.from.result d UNSET lt
