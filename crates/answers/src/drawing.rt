@@ -9,7 +9,7 @@ ghost use Rattle.entries.specs.Drawn.{HasPoints, IsDrawn};
 
 use crate::drawing_kind::DrawingKind;
 use crate::spent::{SpentShape, Ways};
-use compact::{BoxesScratch, CompactFault, compact_in, dissect_along, give_back};
+use compact::{BoxesScratch, CompactFault, compact_in, dissect_along};
 use drawing_check::{CheckFault, Drawing, check_in};
 use entries::{Answer, Cause, Entry};
 use faces::Plane;
@@ -63,7 +63,7 @@ impl DrawScratch {
         } = entry.answer
         {
             if let Ok(drawing) = drawing {
-                give_back(drawing.into_points(), &mut self.points);
+                self.points.take_back(drawing.into_points());
             }
             let headings = mem::replace(&mut self.headings, Vec::new(alloc));
             let shape = SpentShape {
