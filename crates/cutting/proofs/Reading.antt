@@ -8,10 +8,10 @@ use Rattle.cutting.specs.Turning.{Rising, Reduced, IsHighest}
 use Rattle.cutting.specs.Webs.{Web, IsSound, Grows, same, further}
 use Rattle.std.proofs.lemmas.List.Sums.{sum_by-cons}
 use Rattle.cutting.specs.Faces.{Below, AreWaiting, cut_up}
-use Rattle.cutting.specs.Scan.{down, tops, IsScan, HasRoom, IsTop}
+use Rattle.cutting.specs.Scan.{down, tops, IsScan, HasRoom, IsReading}
 use Rattle.cutting.proofs.Listing.{below_append, below_left, below_right}
 use Rattle.cutting.proofs.Scanning.{scan_reads}
-use Rattle.cutting.proofs.Stacks.{tops_put, tops_set}
+use Rattle.cutting.proofs.Stacks.{IsTop, tops_put, tops_set}
 use Rattle.cutting.proofs.Finishing.{scan_done, turned_waiting, length-map_angle}
 use Rattle.cutting.proofs.Rotating.{rising_turned}
 
@@ -40,16 +40,6 @@ scan_here w0 w face st rest scan = record {
   rising = scan.rising;
 }
 
--- the corners below `read` were read, and the stack is reduced
-pub record IsReading (w0 : Web) (face : List ℕ) (room : ℕ) (w : Web) (xs : List ℕ) (h read now : ℕ) : Type 0 where
-  pub scan : IsScan w0 face w (tops xs h) (drop read xs)
-  pub low : h ≤ read
-  pub inside : read ≤ length xs
-  pub reduced : Reduced 0 (map w.angle (tops xs h))
-  pub space : HasRoom w room
-  pub kept : now ≡ room
-  pub darts : All (λ a. a < now) xs
-
 -- one corner is put on the stack
 pub reading_put : (w0 : Web) (face : List ℕ) (room : ℕ) (w : Web) (xs : List ℕ) (h read now : ℕ) → read < length xs →
     IsReading w0 face room w xs h read now →
@@ -65,50 +55,46 @@ reading_put w0 face room w xs h read now more reading =
     (subst (λ (zs : List ℕ). IsScan w0 face w (tops xs h) zs) apart reading.scan)))
 
 pub reading_top : (w0 : Web) (face : List ℕ) (room : ℕ) (w : Web) (xs : List ℕ) (h read now : ℕ) → read < length xs →
-    IsReading w0 face room w xs h read now →
-    let ys = set xs h (get_or xs read 0) in
-    IsTop w now (down (tops ys (h + 1)) (drop (read + 1) ys)) w ys (h + 1) (read + 1)
+    IsReading w0 face room w xs h read now → IsTop w0 room face w (set xs h (get_or xs read 0)) (h + 1) (read + 1)
 reading_top w0 face room w xs h read now more reading =
     let c : ℕ = get_or xs read 0 in
-    let ys : List ℕ = set xs h c in
-    let put = reading_put w0 face room w xs h read now more reading in
     let one_back : h + 1 - 1 ≡ h = omega arith in
-    let below : tops ys (h + 1 - 1) ≡ tops xs h = ap (tops ys) one_back ∙ tops_set xs h c h (omega arith) in
+    let below : tops (set xs h c) (h + 1 - 1) ≡ tops xs h = ap (tops (set xs h c)) one_back ∙ tops_set xs h c h (omega arith) in
     record {
-      scan = scan_here w0 w face (tops ys (h + 1)) (drop (read + 1) ys) put;
+      scan = reading_put w0 face room w xs h read now more reading;
       low = omega (arith, reading.low);
       some = omega arith;
       inside = omega (arith, more, length-set xs h c);
       tail = subst (λ (st : List ℕ). Reduced 0 (map w.angle st)) (sym below) reading.reduced;
-      space = subst (HasRoom w) (sym reading.kept) reading.space;
+      space = reading.space;
     }
 
-pub reading_waits : (w0 : Web) (face : List ℕ) (room : ℕ) (w : Web) (xs : List ℕ) (h read now : ℕ) → read < length xs →
-    IsReading w0 face room w xs h read now → (o : ℕ) (rs : List (List ℕ)) → AreWaiting w0 o (face ∷ rs) →
-    let ys = set xs h (get_or xs read 0) in
-    AreWaiting w o (down (tops ys (h + 1)) (drop (read + 1) ys) ∷ rs)
-reading_waits w0 face room w xs h read now more reading o rs wait =
-    (reading_put w0 face room w xs h read now more reading).waiting o rs wait
+-- the same reading, seen from where it stands
+pub reading_here : (w0 : Web) (face : List ℕ) (room : ℕ) (w : Web) (xs : List ℕ) (h read now : ℕ) → IsReading w0 face room w xs h read now →
+    IsReading w (down (tops xs h) (drop read xs)) now w xs h read now
+reading_here w0 face room w xs h read now reading = record {
+  scan = scan_here w0 w face (tops xs h) (drop read xs) reading.scan;
+  low = reading.low;
+  inside = reading.inside;
+  reduced = reading.reduced;
+  space = subst (HasRoom w) (sym reading.kept) reading.space;
+  kept = refl;
+  darts = reading.darts;
+}
 
--- and the cuts at it are made
-pub reading_more : (w0 : Web) (face : List ℕ) (room : ℕ) (w new : Web) (xs zs : List ℕ) (h read now now' h' : ℕ) → read < length xs →
-    IsReading w0 face room w xs h read now →
-    (let ys = set xs h (get_or xs read 0) in
-    IsTop w now (down (tops ys (h + 1)) (drop (read + 1) ys)) new zs h' (read + 1)) →
-    Reduced 0 (map new.angle (tops zs h')) → now' ≡ now → All (λ a. a < now') zs →
-    IsReading w0 face room new zs h' (read + 1) now'
-reading_more w0 face room w new xs zs h read now now' h' more reading top reduced kept darts =
-    let ys : List ℕ = set xs h (get_or xs read 0) in
-    record {
-      scan = scan_on w0 w new face (tops ys (h + 1)) (drop (read + 1) ys) (tops zs h') (drop (read + 1) zs)
-          (reading_put w0 face room w xs h read now more reading) top.scan;
-      low = top.low;
-      inside = top.inside;
-      reduced = reduced;
-      space = subst (HasRoom new) reading.kept top.space;
-      kept = kept ∙ reading.kept;
-      darts = darts;
-    }
+-- a reading goes on where another stopped
+pub reading_on : (w0 : Web) (face : List ℕ) (room : ℕ) (w new : Web) (xs zs : List ℕ) (h read now h' read' now' : ℕ) →
+    IsReading w0 face room w xs h read now → IsReading w (down (tops xs h) (drop read xs)) now new zs h' read' now' →
+    IsReading w0 face room new zs h' read' now'
+reading_on w0 face room w new xs zs h read now h' read' now' first second = record {
+  scan = scan_on w0 w new face (tops xs h) (drop read xs) (tops zs h') (drop read' zs) first.scan second.scan;
+  low = second.low;
+  inside = second.inside;
+  reduced = second.reduced;
+  space = subst (HasRoom new) first.kept second.space;
+  kept = second.kept ∙ first.kept;
+  darts = second.darts;
+}
 
 -- the beginning, from the place on where the walk has turned left most
 pub reading_begins : (w0 : Web) (face : List ℕ) (room m : ℕ) (xs : List ℕ) → IsSound w0 → (o : ℕ) (rs : List (List ℕ)) →

@@ -7,11 +7,20 @@ use Rattle.std.proofs.Math.ListN.{length-set}
 use Rattle.cutting.specs.Turning.{Reduced, AreTurns}
 use Rattle.cutting.specs.Webs.{Web, IsCut}
 use Rattle.cutting.specs.Faces.{IsCorner, In, joined, AreWaiting}
-use Rattle.cutting.specs.Scan.{down, tops, IsScan, CanCut, IsHookOn, IsTop}
+use Rattle.cutting.specs.Scan.{down, tops, IsScan, CanCut, HasRoom, IsHookOn}
 use Rattle.cutting.proofs.Counting.{reduced_left, reduced_right, left_or_right}
 use Rattle.cutting.proofs.Listing.{in_below, below_left}
 use Rattle.cutting.proofs.Scanning.{scan_can, scan_bites, scan_kept, scan_cut_straight, scan_cut_turning, cut_room, in_down}
 use Rattle.cutting.proofs.Finishing.{turns_of, ring_corners}
+
+-- the scan where only the uppermost corner may stand on a left on a right
+pub record IsTop (w0 : Web) (room : ℕ) (face : List ℕ) (w : Web) (xs : List ℕ) (h read : ℕ) : Type 0 where
+  pub scan : IsScan w0 face w (tops xs h) (drop read xs)
+  pub low : h ≤ read
+  pub some : 1 ≤ h
+  pub inside : read ≤ length xs
+  pub tail : Reduced 0 (map w.angle (tops xs (h - 1)))
+  pub space : HasRoom w room
 
 pub tops_more : (xs : List ℕ) (h : ℕ) → tops xs (h + 1) ≡ get_or xs h 0 ∷ tops xs h
 tops_more xs h = let e : h + 1 ≡ suc h = omega arith in ap (tops xs) e

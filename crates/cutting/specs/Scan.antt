@@ -1,5 +1,5 @@
 -- One face under the scan that cuts it: corners that were read stand on a stack, top first, and the others wait.
-use Rattle.std.specs.Prelude.{◌≡◌, ℕ, zero, suc, ◌+◌, ◌-◌, ◌*◌, ◌%◌, ◌<◌, ◌≤◌, List, [], ◌∷◌, length, map, slice_index, drop}
+use Rattle.std.specs.Prelude.{◌≡◌, ℕ, zero, suc, ◌+◌, ◌*◌, ◌%◌, ◌<◌, ◌≤◌, List, [], ◌∷◌, length, map, slice_index, drop, All}
 use Rattle.cutting.specs.Webs.{Web, IsSound, Grows, excess}
 use Rattle.cutting.specs.Faces.{AreWaiting}
 use Rattle.cutting.specs.Turning.{total, Rising, Hopeful, Reduced}
@@ -41,12 +41,13 @@ IsHookOn w (c ∷ []) = ⊥
 IsHookOn w (c ∷ c1 ∷ []) = ⊥
 IsHookOn w (c ∷ c1 ∷ d ∷ st) = (w.angle c ≡ 1) × (w.angle c1 ≡ 1) × (2 < w.angle d)
 
--- the scan of a face whose corners stand in a list of places: those below h are the stack, those from `read` on
--- the rest; only the uppermost corner may stand on a left on a right
-pub record IsTop (w0 : Web) (room : ℕ) (face : List ℕ) (w : Web) (xs : List ℕ) (h read : ℕ) : Type 0 where
+-- the scan of a face whose corners stand in a list of places: those below h are the stack, which is reduced, and
+-- those from `read` on the rest; there is room for `room` darts, and for `now` of them by now
+pub record IsReading (w0 : Web) (face : List ℕ) (room : ℕ) (w : Web) (xs : List ℕ) (h read now : ℕ) : Type 0 where
   pub scan : IsScan w0 face w (tops xs h) (drop read xs)
   pub low : h ≤ read
-  pub some : 1 ≤ h
   pub inside : read ≤ length xs
-  pub tail : Reduced 0 (map w.angle (tops xs (h - 1)))
+  pub reduced : Reduced 0 (map w.angle (tops xs h))
   pub space : HasRoom w room
+  pub kept : now ≡ room
+  pub darts : All (λ a. a < now) xs

@@ -5,7 +5,7 @@ ghost use Rattle.cutting.specs.Webs.{IsSound, IsCut, Grows};
 ghost use Rattle.cutting.specs.Tables.{web_of, room};
 ghost use Rattle.cutting.specs.Faces.{AreWaiting, cut_up};
 ghost use Rattle.cutting.specs.Turning.{AreTurns, Reduced, IsHighest};
-ghost use Rattle.cutting.specs.Scan.{CanCut, HasRoom, IsHookOn, IsTop, down, tops};
+ghost use Rattle.cutting.specs.Scan.{CanCut, HasRoom, IsHookOn, IsReading, down, tops};
 
 use crate::table::DartTable;
 
@@ -48,21 +48,18 @@ fn has_hook(table: &DartTable, ring: &[u32], height: usize) -> bool
     right > below + top
 }
 
-/// Cuts at the uppermost corners of the stack as long as they are two left turns on a right turn, and
-/// gives back the stack's height then.
-fn cut_top(table: &mut DartTable, ring: &mut [u32], height: usize, read: usize) -> usize
-    requires top { let face = down (tops ring.old height) (drop read ring.old) in
-        IsTop (web_of table.old) (room table.old) face (web_of table.old) ring.old height read }
+/// Reads the corner at `read`: puts it on the stack, which are the first `height` corners, and cuts at the uppermost
+/// ones as long as they are two left turns on a right turn. Gives back the stack's height then.
+fn read_corner(table: &mut DartTable, ring: &mut [u32], height: usize, read: usize) -> usize
+    requires more { read < length ring.old }
+    requires reading { let face = down (tops ring.old height) (drop read ring.old) in
+        IsReading (web_of table.old) face (room table.old) (web_of table.old) ring.old height read (room table.old) }
     requires waiting { (o : ℕ) × (rs : List (List ℕ)) × AreWaiting (web_of table.old) o (down (tops ring.old height) (drop read ring.old) ∷ rs) }
-    requires inside { All (λ a. a < room table.old) ring.old }
-    ensures top { let face = down (tops ring.old height) (drop read ring.old) in
-        IsTop (web_of table.old) (room table.old) face (web_of table.new) ring.new result read }
-    ensures rest { drop read ring.new ≡ drop read ring.old }
-    ensures reduced { Reduced 0 (map (web_of table.new).angle (tops ring.new result)) }
-    ensures room { room table.new ≡ room table.old }
-    ensures inside { All (λ a. a < room table.new) ring.new }
+    ensures { let face = down (tops ring.old height) (drop read ring.old) in
+        IsReading (web_of table.old) face (room table.old) (web_of table.new) ring.new result (read + 1) (room table.new) }
 {
-    let mut height = height;
+    ring[height] = ring[read];
+    let mut height = height + 1;
     'cuts: while has_hook(table, ring, height) {
         let right = ring[height - 3];
         let left = ring[height - 1];
@@ -119,8 +116,7 @@ pub fn cut_face(table: &mut DartTable, ring: &mut [u32])
     ring.rotate_left(start);
     let mut height = 0;
     'corners: for read in 0..ring.len() {
-        ring[height] = ring[read];
-        height = cut_top(table, ring, height + 1, read + 1);
+        height = read_corner(table, ring, height, read);
     }
 }
 

@@ -1,12 +1,11 @@
-use Rattle.std.proofs.Common.{◌<◌, ◌≤◌, ◌++◌, ℕ, List, length, map, get_or, drop, take, All, arith, sym, subst, refl}
+use Rattle.std.proofs.Common.{◌<◌, ◌≤◌, ◌+◌, ◌++◌, ℕ, List, map, length, get_or, drop, take, All, arith, sym, subst}
 use Rattle.cutting.specs.Webs.{same}
 use Rattle.cutting.specs.Tables.{web_of, room}
 use Rattle.cutting.specs.Turning.{IsHighest}
 use Rattle.cutting.specs.Faces.{Below, joined}
 use Rattle.cutting.proofs.Listing.{below_left}
 use Rattle.cutting.proofs.Finishing.{four_corners_done}
-use Rattle.cutting.proofs.Stacks.{inside_put}
-use Rattle.cutting.proofs.Reading.{reading_begins, reading_top, reading_waits, reading_more, reading_done, all_below, all_small, below_turned}
+use Rattle.cutting.proofs.Reading.{reading_begins, reading_here, reading_on, reading_done, all_below, all_small, below_turned}
 use Rattle.cutting.proofs.scan.cut_face.Goals as goal
 
 pub returns-then-ring-eq-BOX_CORNERS-clause-grows : goal.returns-then-ring-eq-BOX_CORNERS-clause-grows
@@ -43,34 +42,22 @@ corners-init c =
     (subst (λ (xs : List ℕ). All (λ a. a < room t) xs) (sym c.rotate_left.ensures.after)
     (all_below t.darts (room t) (drop m face ++ take m face) (omega arith) turned))
 
-pub cut_top-height-requires-clause-top : goal.cut_top-height-requires-clause-top
-cut_top-height-requires-clause-top c =
-    let more : c.corners.read < length c.corners.ring = omega (arith, c.corners.auto.ring, c.corners-test.true) in
-    reading_top _ _ _ (web_of c.corners.table) c.corners.ring c.corners.height c.corners.read (room c.corners.table) more
-    c.corners.invariant
+pub read_corner-height-requires-clause-reading : goal.read_corner-height-requires-clause-reading
+read_corner-height-requires-clause-reading c =
+    reading_here _ _ _ (web_of c.corners.table) c.corners.ring c.corners.height c.corners.read (room c.corners.table) c.corners.invariant
 
-pub cut_top-height-requires-clause-waiting : goal.cut_top-height-requires-clause-waiting
-cut_top-height-requires-clause-waiting c =
-    let more : c.corners.read < length c.corners.ring = omega (arith, c.corners.auto.ring, c.corners-test.true) in (
-      c.requires.waiting.0,
-      c.requires.waiting.1,
-      reading_waits _ _ _ (web_of c.corners.table) c.corners.ring c.corners.height c.corners.read (room c.corners.table) more
-          c.corners.invariant c.requires.waiting.0 c.requires.waiting.1 c.requires.waiting.2,
-    )
-
-pub cut_top-height-requires-clause-inside : goal.cut_top-height-requires-clause-inside
-cut_top-height-requires-clause-inside c =
-    let more : c.corners.read < length c.corners.ring = omega (arith, c.corners.auto.ring, c.corners-test.true) in
-    inside_put c.corners.ring c.corners.height (get_or c.corners.ring c.corners.read 0) (room c.corners.table) (room c.corners.table)
-    c.corners.invariant.darts refl (c.corners.invariant.darts c.corners.read 0 more)
+pub read_corner-height-requires-clause-waiting : goal.read_corner-height-requires-clause-waiting
+read_corner-height-requires-clause-waiting c = (
+  c.requires.waiting.0,
+  c.requires.waiting.1,
+  c.corners.invariant.scan.waiting c.requires.waiting.0 c.requires.waiting.1 c.requires.waiting.2,
+)
 
 pub corners-preserved : goal.corners-preserved
 corners-preserved c =
-    let more : c.corners.read < length c.corners.ring = omega (arith, c.corners.auto.ring, c.corners-test.true) in
-    reading_more _ _ _ (web_of c.corners.table) (web_of c.cut_top-height.new.table) c.corners.ring c.cut_top-height.new.ring
-    c.corners.height c.corners.read (room c.corners.table) (room c.cut_top-height.new.table) c.cut_top-height.result more
-    c.corners.invariant c.cut_top-height.ensures.top c.cut_top-height.ensures.reduced c.cut_top-height.ensures.room
-    c.cut_top-height.ensures.inside
+    reading_on _ _ _ (web_of c.corners.table) (web_of c.read_corner-height.new.table) c.corners.ring c.read_corner-height.new.ring
+    c.corners.height c.corners.read (room c.corners.table) c.read_corner-height.result (c.corners.read + 1) (room c.read_corner-height.new.table)
+    c.corners.invariant c.read_corner-height.ensures
 
 pub returns-clause-waiting : goal.returns-clause-waiting
 returns-clause-waiting c =

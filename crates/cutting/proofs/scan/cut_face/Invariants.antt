@@ -1,5 +1,5 @@
 use Rattle.cutting.specs.Tables.{web_of, room}
-use Rattle.cutting.proofs.Reading.{IsReading}
+use Rattle.cutting.specs.Scan.{IsReading}
 use Rattle.cutting.proofs.scan.cut_face.Given as goal
 
 abbrev pub invariant-corners : goal.invariant-corners

@@ -1,13 +1,24 @@
-use Rattle.std.proofs.Common.{◌≤◌, ◌+◌, ◌-◌, get_or, arith, sym, ◌∙◌}
-use Rattle.std.proofs.lemmas.List.{get_or_read, drop-set-lt}
+use Rattle.std.proofs.Common.{◌≤◌, ◌+◌, ◌-◌, get_or, arith, sym, refl, ◌∙◌}
+use Rattle.std.proofs.lemmas.List.{get_or_read}
 use Rattle.cutting.specs.Tables.{web_of, room}
 use Rattle.cutting.proofs.Scanning.{right_room}
 use Rattle.cutting.proofs.Stacks.{hook_three, can_at, straight_at, turning_at, turns_at, unhooked_at, inside_put}
-use Rattle.cutting.proofs.scan.cut_top.Goals as goal
+use Rattle.cutting.proofs.Reading.{reading_top}
+use Rattle.cutting.proofs.scan.read_corner.Goals as goal
+
+pub cuts-init : goal.cuts-init
+cuts-init c =
+    let reading = c.requires.reading in
+    record {
+      top = reading_top _ _ _ (web_of c.args.table.now) c.args.ring.now c.args.height c.args.read (room c.args.table.now) c.requires.more reading;
+      same = refl;
+      inside = inside_put c.args.ring.now c.args.height (get_or c.args.ring.now c.args.read 0) (room c.args.table.now) (room c.args.table.now)
+          reading.darts refl (reading.darts c.args.read 0 c.requires.more);
+    }
 
 pub has_hook-requires-clause-turns : goal.has_hook-requires-clause-turns
 has_hook-requires-clause-turns c =
-    turns_at _ _ _ (web_of c.cuts.table) c.cuts.ring c.cuts.height c.args.read c.requires.waiting.0 c.requires.waiting.1 c.cuts.invariant.top
+    turns_at _ _ _ (web_of c.cuts.table) c.cuts.ring c.cuts.height (c.args.read + 1) c.requires.waiting.0 c.requires.waiting.1 c.cuts.invariant.top
     c.requires.waiting.2
 
 pub overflow_sub-right : goal.overflow_sub-right
@@ -15,12 +26,12 @@ overflow_sub-right c = hook_three (web_of c.cuts.table) c.cuts.ring c.cuts.heigh
 
 pub cut_across-requires-clause-can : goal.cut_across-requires-clause-can
 cut_across-requires-clause-can c =
-    can_at _ _ _ (web_of c.cuts.table) c.cuts.ring c.cuts.height c.args.read c.requires.waiting.0 c.requires.waiting.1 c.cuts.invariant.top c.requires.waiting.2
+    can_at _ _ _ (web_of c.cuts.table) c.cuts.ring c.cuts.height (c.args.read + 1) c.requires.waiting.0 c.requires.waiting.1 c.cuts.invariant.top c.requires.waiting.2
     (c.has_hook.ensures.0 c.cuts-test.true)
 
 pub cut_across-requires-clause-space : goal.cut_across-requires-clause-space
 cut_across-requires-clause-space c =
-    let can = can_at _ _ _ (web_of c.cuts.table) c.cuts.ring c.cuts.height c.args.read c.requires.waiting.0 c.requires.waiting.1 c.cuts.invariant.top
+    let can = can_at _ _ _ (web_of c.cuts.table) c.cuts.ring c.cuts.height (c.args.read + 1) c.requires.waiting.0 c.requires.waiting.1 c.cuts.invariant.top
     c.requires.waiting.2 (c.has_hook.ensures.0 c.cuts-test.true) in
     omega (
       arith,
@@ -31,7 +42,7 @@ cut_across-requires-clause-space c =
 
 pub overflow_add-chord : goal.overflow_add-chord
 overflow_add-chord c =
-    let can = can_at _ _ _ (web_of c.cuts.table) c.cuts.ring c.cuts.height c.args.read c.requires.waiting.0 c.requires.waiting.1 c.cuts.invariant.top
+    let can = can_at _ _ _ (web_of c.cuts.table) c.cuts.ring c.cuts.height (c.args.read + 1) c.requires.waiting.0 c.requires.waiting.1 c.cuts.invariant.top
     c.requires.waiting.2 (c.has_hook.ensures.0 c.cuts-test.true) in
     omega (
       arith,
@@ -44,7 +55,7 @@ pub cuts-preserved : goal.cuts-preserved
 cuts-preserved c =
     let hook = c.has_hook.ensures.0 c.cuts-test.true in
     let three = hook_three (web_of c.cuts.table) c.cuts.ring c.cuts.height hook in
-    let can = can_at _ _ _ (web_of c.cuts.table) c.cuts.ring c.cuts.height c.args.read c.requires.waiting.0 c.requires.waiting.1 c.cuts.invariant.top
+    let can = can_at _ _ _ (web_of c.cuts.table) c.cuts.ring c.cuts.height (c.args.read + 1) c.requires.waiting.0 c.requires.waiting.1 c.cuts.invariant.top
     c.requires.waiting.2 hook in
     let room_left : c.cuts.table.darts + 4 ≤ room c.cuts.table =
     omega (
@@ -57,10 +68,8 @@ cuts-preserved c =
     let read = get_or_read c.cut_across.new.table.angle.items (get_or c.cuts.ring (c.cuts.height - 3) 0) c.index.result.now
     (omega (arith, inside, c.cut_across.ensures.room)) c.index.ensures 0 in
     record {
-      top = turning_at _ _ _ (web_of c.cuts.table) c.cuts.ring c.cuts.height c.args.read c.cut_across.ensures.cut.0 c.requires.waiting.0 c.requires.waiting.1
+      top = turning_at _ _ _ (web_of c.cuts.table) c.cuts.ring c.cuts.height (c.args.read + 1) c.cut_across.ensures.cut.0 c.requires.waiting.0 c.requires.waiting.1
           (web_of c.cut_across.new.table) c.cuts.invariant.top c.requires.waiting.2 hook c.cut_across.ensures.cut.1 (λ h. c.if-index-eq2.false (read ∙ h));
-      rest = drop-set-lt c.args.read c.cuts.ring (c.cuts.height - 2) (c.cuts.table.darts + 2) (omega (arith, c.cuts.invariant.top.low, three))
-          ∙ c.cuts.invariant.rest;
       same = c.cut_across.ensures.room ∙ c.cuts.invariant.same;
       inside = inside_put c.cuts.ring (c.cuts.height - 2) (c.cuts.table.darts + 2) (room c.cuts.table) (room c.cut_across.new.table)
           c.cuts.invariant.inside c.cut_across.ensures.room (omega (arith, room_left));
@@ -70,7 +79,7 @@ pub cuts-preserved-then-index-eq2 : goal.cuts-preserved-then-index-eq2
 cuts-preserved-then-index-eq2 c =
     let hook = c.has_hook.ensures.0 c.cuts-test.true in
     let three = hook_three (web_of c.cuts.table) c.cuts.ring c.cuts.height hook in
-    let can = can_at _ _ _ (web_of c.cuts.table) c.cuts.ring c.cuts.height c.args.read c.requires.waiting.0 c.requires.waiting.1 c.cuts.invariant.top
+    let can = can_at _ _ _ (web_of c.cuts.table) c.cuts.ring c.cuts.height (c.args.read + 1) c.requires.waiting.0 c.requires.waiting.1 c.cuts.invariant.top
     c.requires.waiting.2 hook in
     let room_left : c.cuts.table.darts + 4 ≤ room c.cuts.table =
     omega (
@@ -83,10 +92,8 @@ cuts-preserved-then-index-eq2 c =
     let read = get_or_read c.cut_across.new.table.angle.items (get_or c.cuts.ring (c.cuts.height - 3) 0) c.index.result.now
     (omega (arith, inside, c.cut_across.ensures.room)) c.index.ensures 0 in
     record {
-      top = straight_at _ _ _ (web_of c.cuts.table) c.cuts.ring c.cuts.height c.args.read c.cut_across.ensures.cut.0 c.requires.waiting.0 c.requires.waiting.1
+      top = straight_at _ _ _ (web_of c.cuts.table) c.cuts.ring c.cuts.height (c.args.read + 1) c.cut_across.ensures.cut.0 c.requires.waiting.0 c.requires.waiting.1
           (web_of c.cut_across.new.table) c.cuts.invariant.top c.requires.waiting.2 hook c.cut_across.ensures.cut.1 (sym read ∙ c.if-index-eq2.true);
-      rest = drop-set-lt c.args.read c.cuts.ring (c.cuts.height - 3) (c.cuts.table.darts + 2) (omega (arith, c.cuts.invariant.top.low, three))
-          ∙ c.cuts.invariant.rest;
       same = c.cut_across.ensures.room ∙ c.cuts.invariant.same;
       inside = inside_put c.cuts.ring (c.cuts.height - 3) (c.cuts.table.darts + 2) (room c.cuts.table) (room c.cut_across.new.table)
           c.cuts.invariant.inside c.cut_across.ensures.room (omega (arith, room_left));
@@ -96,7 +103,16 @@ pub overflow_sub-ring-else-index-eq2 : goal.overflow_sub-ring-else-index-eq2
 overflow_sub-ring-else-index-eq2 c =
     omega (arith, hook_three (web_of c.cuts.table) c.cuts.ring c.cuts.height (c.has_hook.ensures.0 c.cuts-test.true))
 
-pub returns-clause-reduced : goal.returns-clause-reduced
-returns-clause-reduced c =
-    unhooked_at _ _ _ (web_of c.cuts.table) c.cuts.ring c.cuts.height c.args.read c.requires.waiting.0 c.requires.waiting.1 c.cuts.invariant.top c.requires.waiting.2
-    (λ hook. let t = c.has_hook.ensures.1 hook in let f = c.cuts-test.false in absurd (cc))
+pub returns : goal.returns
+returns c =
+    let top = c.cuts.invariant.top in
+    record {
+      scan = top.scan;
+      low = top.low;
+      inside = top.inside;
+      reduced = unhooked_at _ _ _ (web_of c.cuts.table) c.cuts.ring c.cuts.height (c.args.read + 1) c.requires.waiting.0 c.requires.waiting.1 top c.requires.waiting.2
+          (λ hook. let t = c.has_hook.ensures.1 hook in let f = c.cuts-test.false in absurd (cc));
+      space = top.space;
+      kept = c.cuts.invariant.same;
+      darts = c.cuts.invariant.inside;
+    }
