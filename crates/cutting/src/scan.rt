@@ -48,7 +48,7 @@ fn has_hook(table: &DartTable, ring: &[u32], height: usize) -> bool
     right > below + top
 }
 
-/// Reads the corner at `read`: puts it on the stack, which are the first `height` corners, and cuts at the uppermost
+/// Reads the corner at `read`: puts it on the stack, the first `height` corners, and cuts at the uppermost
 /// ones as long as they are two left turns on a right turn. Gives back the stack's height then.
 fn read_corner(table: &mut DartTable, ring: &mut [u32], height: usize, read: usize) -> usize
     requires more { read < length ring.old }

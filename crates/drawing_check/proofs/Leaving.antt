@@ -1,5 +1,5 @@
 -- The directions in which darts leave their tails.
-use Rattle.std.proofs.Common.{◌≡◌, ℕ, ◌+◌, ◌-◌, ◌<◌, ◌≤◌, true, false, List, [], ◌∷◌, ◌++◌, length, length-append, get_or, reverse, sym, ap, ◌∙◌, subst, ⊎_elim, arith, ltb, suc}
+use Rattle.std.proofs.Common.{◌≡◌, ℕ, ◌+◌, ◌-◌, ◌<◌, ◌≤◌, ◌↔◌, Bool, IsTrue, All, true, false, List, [], ◌∷◌, ◌++◌, length, length-append, get_or, reverse, sym, ap, ◌∙◌, subst, ⊎_elim, arith, ltb, suc}
 use Rattle.std.proofs.Math.ListN.{set}
 use Rattle.std.proofs.Math.Seq.{get_or-append_right}
 use Rattle.std.proofs.lemmas.Bool.{both_ways, cases_eq, cases_lt, ltb-true, le-ltb, lt-ltb, cond-true, cond-false}
@@ -7,15 +7,17 @@ use Rattle.std.proofs.lemmas.List.{get_or-set_same, get_or-set_other, length-set
 use Rattle.embedding.specs.declared.graphs.TheConstants.{MAX_DARTS}
 use Rattle.directions.specs.declared.Direction.{Direction}
 use Rattle.directions.specs.declared.Direction.TheVariants.{East}
-use Rattle.faces.specs.Planes.{PlaneModel, HasEnds, darts, reverse_dart}
+use Rattle.directions.specs.Directions.{lefts}
+use Rattle.faces.specs.Planes.{PlaneModel, HasEnds, darts, reverse_dart, next}
 use Rattle.ortho_rep.specs.declared.points.Point.{Point}
+use Rattle.ortho_rep.specs.Shapes.{ShapeModel, angle_at, turns_at}
 use Rattle.ortho_rep.specs.Points.{PointsModel, origin}
-use Rattle.ortho_rep.specs.Edges.{is_lesser, edge_number}
+use Rattle.ortho_rep.specs.Edges.{is_lesser, edge_number, lesser_darts}
 use Rattle.ortho_rep.proofs.EdgeNumbers.{edge_number-more}
 use Rattle.drawing_check.specs.declared.route.Route.{Route}
 use Rattle.drawing_check.specs.Paths.{path_along, point_of}
-use Rattle.drawing_check.specs.Draws.{direction_between, direction_of, leaving}
-use Rattle.drawing_check.specs.Routes.{path_of, direction_at}
+use Rattle.drawing_check.specs.Draws.{direction_between, direction_of, leaving, IsTurning, TurnAsSaid}
+use Rattle.drawing_check.specs.Routes.{path_of, direction_at, HeadsTurn}
 
 -- two entries written with what a function gives there: what others hold stays
 pub both_written : (old new : List Direction) (gives : ℕ → Direction) (d r : ℕ) (v w : Direction) → d < length old → r < length old → new ≡ set (set old d v) r w → v ≡ gives d → w ≡ gives r → (k : ℕ) → ((k ≡ d → ⊥) → (k ≡ r → ⊥) → direction_at old k ≡ gives k) → direction_at new k ≡ gives k
@@ -140,3 +142,23 @@ all_leave p points directions n ends is all d inside =
   where
     lesser_back : (a b c : ℕ) → b ≤ a → (b ≡ a → ⊥) → c ≡ a → ltb b c ≡ true
     lesser_back a b c ge ne same = lt-ltb b c (omega arith)
+
+-- what is said of the list of directions is said of the darts
+pub turns_as_said : (p : PlaneModel) (shape : ShapeModel) (points : PointsModel) (said turning : Bool) (out : List Direction) → HasEnds p →
+    (IsTrue turning ↔ All (λ d. IsTurning (path_along p points d) (turns_at shape d)) (lesser_darts p)) →
+    ((d : ℕ) → d < darts p → direction_at out d ≡ leaving p points d) →
+    (IsTrue said ↔ (IsTrue turning × HeadsTurn p shape out)) → IsTrue said ↔ TurnAsSaid p shape points
+turns_as_said p shape points said turning out ends edges is both = (
+  λ h. record {
+    edges = edges.0 (both.0 h).0;
+    heads = λ d inside.
+        sym (is (reverse_dart p d) (ends.reverse_dart_inside d inside)) ∙ (both.0 h).1 d inside
+        ∙ ap (lefts (angle_at shape d)) (is (next p d) (ends.next_one.inside d inside));
+  },
+  λ turns. both.1 (
+    edges.1 turns.edges,
+    λ d inside.
+        is (reverse_dart p d) (ends.reverse_dart_inside d inside) ∙ turns.heads d inside
+        ∙ sym (ap (lefts (angle_at shape d)) (is (next p d) (ends.next_one.inside d inside))),
+  ),
+)

@@ -1,7 +1,10 @@
 -- The paths of edges as the check sees them in place. Only private contracts speak of them.
-use Rattle.std.specs.Prelude.{ℕ, List, [], ◌∷◌, ◌++◌, slice_index_or}
+use Rattle.std.specs.Prelude.{◌≡◌, ℕ, ◌<◌, List, [], ◌∷◌, ◌++◌, slice_index_or}
 use Rattle.directions.specs.declared.Direction.{Direction}
 use Rattle.directions.specs.declared.Direction.TheVariants.{East}
+use Rattle.directions.specs.Directions.{lefts}
+use Rattle.faces.specs.Planes.{PlaneModel, darts, reverse_dart, next}
+use Rattle.ortho_rep.specs.Shapes.{ShapeModel, angle_at}
 use Rattle.ortho_rep.specs.declared.points.Point.{Point}
 use Rattle.drawing_check.specs.declared.route.Route.{Route}
 
@@ -11,3 +14,9 @@ path_of route = route.start ∷ (route.corners.now ++ route.end ∷ [])
 -- entry d of a list of directions
 abbrev pub direction_at : List Direction → ℕ → Direction
 direction_at directions d = slice_index_or directions d East
+
+-- the angle at the head of each dart is that of the shape, where the darts leave their tails in these directions
+abbrev pub HeadsTurn : PlaneModel → ShapeModel → List Direction → Type 0
+HeadsTurn p shape directions =
+    (d : ℕ) → d < darts p
+    → direction_at directions (reverse_dart p d) ≡ lefts (angle_at shape d) (direction_at directions (next p d))

@@ -127,6 +127,8 @@ fn first_fault(
     ensures memory { result ≡ Some CheckFault.Memory
         → KeepsFirstThree plane.now shape.now points.now }
 {
+    // Only the proof needs this: `graph` says where darts end.
+    let _graph = plane.graph();
     let seen = walk_edges(plane, shape, points, &mut scratch.rectangles);
     if !seen.in_grid {
         return Some(CheckFault::OutOfGrid);
@@ -134,7 +136,7 @@ fn first_fault(
     if !seen.on_axes {
         return Some(CheckFault::NotAxis);
     }
-    if !turn_as_said(plane, shape, points, &seen) {
+    if !turn_as_said(plane, shape, &seen) {
         return Some(CheckFault::WrongTurn);
     }
     if !seen.listed {

@@ -1,36 +1,25 @@
 //! Whether the turns at corners and the angles at vertices are those of a shape.
 
-ghost use Rattle.std.specs.Prelude.{◌≡◌, ℕ, ◌+◌, ◌*◌, ◌<◌, ◌≤◌, ◌↔◌, length, IsTrue, All};
+ghost use Rattle.std.specs.Prelude.{◌≡◌, ◌↔◌, length, IsTrue};
 ghost use Rattle.embedding.specs.declared.graphs.TheConstants.{MAX_DARTS};
-ghost use Rattle.directions.specs.Directions.{lefts};
-ghost use Rattle.faces.specs.Planes.{darts, vertices, reverse_dart, next};
-ghost use Rattle.ortho_rep.specs.Shapes.{angle_at, turns_at};
 ghost use Rattle.ortho_rep.specs.Representation.{HasDarts};
-ghost use Rattle.ortho_rep.specs.Edges.{lesser_darts};
-ghost use Rattle.drawing_check.specs.Paths.{path_along, point_of};
-ghost use Rattle.drawing_check.specs.Draws.{direction_between, turned, IsTurning, leaving, TurnAsSaid};
-ghost use Rattle.drawing_check.specs.Routes.{path_of, direction_at};
+ghost use Rattle.drawing_check.specs.Draws.{direction_between, turned, IsTurning};
+ghost use Rattle.drawing_check.specs.Routes.{path_of, HeadsTurn};
 
 use crate::edges::EdgesSeen;
 use crate::route::Route;
 use directions::Direction;
 use faces::Plane;
-use ortho_rep::{Point, Points, Shape, Turn};
+use ortho_rep::{Point, Shape, Turn};
 
-/// Whether each corner and each angle is that of the shape, as far as a walk over the edges has not told.
-pub(crate) fn turn_as_said(plane: &Plane, shape: &Shape, points: &Points, seen: &EdgesSeen) -> bool
+/// Whether each corner is the shape's, as a walk over the edges has told, and each angle.
+pub(crate) fn turn_as_said(plane: &Plane, shape: &Shape, seen: &EdgesSeen) -> bool
     requires lengths { HasDarts plane.now shape.now }
-    requires vertices { length points.now.vertices ≡ vertices plane.now }
-    requires corners { 2 * length points.now.corners ≡ darts plane.now }
-    requires turning { IsTrue seen.now.turning
-        ↔ All (λ d. IsTurning (path_along plane.now points.now d) (turns_at shape.now d))
-        (lesser_darts plane.now) }
     requires size { length seen.now.leaving ≡ MAX_DARTS }
-    requires leaving { (d : ℕ) → d < darts plane.now
-        → direction_at seen.now.leaving d ≡ leaving plane.now points.now d }
-    ensures { IsTrue result ↔ TurnAsSaid plane.now shape.now points.now }
+    ensures { IsTrue result
+        ↔ (IsTrue seen.now.turning × HeadsTurn plane.now shape.now seen.now.leaving) }
 {
-    seen.turning && heads_turn(plane, shape, points, &seen.leaving)
+    seen.turning && heads_turn(plane, shape, &seen.leaving)
 }
 
 /// Whether a path has as many corners as there are turns, and each corner is its turn.
@@ -53,17 +42,10 @@ pub(crate) fn is_turning(route: &Route<'_>, turns: &[Turn]) -> bool
 
 /// Whether the angle at the head of each dart is that of the shape, where the darts leave their tails in these
 /// directions.
-fn heads_turn(plane: &Plane, shape: &Shape, points: &Points, directions: &[Direction]) -> bool
+fn heads_turn(plane: &Plane, shape: &Shape, directions: &[Direction]) -> bool
     requires lengths { HasDarts plane.now shape.now }
-    requires vertices { length points.now.vertices ≡ vertices plane.now }
-    requires corners { 2 * length points.now.corners ≡ darts plane.now }
     requires size { length directions.now ≡ MAX_DARTS }
-    requires leaving { (d : ℕ) → d < darts plane.now
-        → direction_at directions.now d ≡ leaving plane.now points.now d }
-    ensures { IsTrue result
-        ↔ ((d : ℕ) → d < darts plane.now
-        → leaving plane.now points.now (reverse_dart plane.now d)
-        ≡ lefts (angle_at shape.now d) (leaving plane.now points.now (next plane.now d))) }
+    ensures { IsTrue result ↔ HeadsTurn plane.now shape.now directions.now }
 {
     let graph = plane.graph();
     for dart in 0..graph.darts() {

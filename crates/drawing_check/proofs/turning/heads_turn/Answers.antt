@@ -5,7 +5,6 @@ use Rattle.directions.specs.contracts.Direction.{the_type}
 use Rattle.directions.specs.Directions.{lefts}
 use Rattle.faces.specs.Planes.{darts, reverse_dart, next}
 use Rattle.ortho_rep.specs.Shapes.{angle_at}
-use Rattle.drawing_check.specs.Draws.{leaving}
 use Rattle.drawing_check.specs.Routes.{direction_at}
 use Rattle.drawing_check.proofs.turning.heads_turn.Goals as goal
 
@@ -17,13 +16,12 @@ loop-dart-preserved c =
     let count : c.darts-dart-end.result ≡ darts p = rw c.graph-graph.ensures.value at c.darts-dart-end.ensures.count in
     let inside : dart < darts p = omega (arith, count) in
     let reverse_dart_is : c.reverse.result ≡ reverse_dart p dart = rw c.graph-graph.ensures.value at c.reverse.ensures.value in
-    let back : direction_at directions c.from.result ≡ leaving p c.args.points.now (reverse_dart p dart) =
-    ap (direction_at directions) (c.from.ensures ∙ reverse_dart_is) ∙ c.requires.leaving (reverse_dart p dart) (c.graph-graph.ensures.ends.reverse_dart_inside dart inside) in
-    let onward : c.lefts.result ≡ lefts (angle_at c.args.shape.now dart) (leaving p c.args.points.now (next p dart)) =
+    let back : direction_at directions c.from.result ≡ direction_at directions (reverse_dart p dart) =
+    ap (direction_at directions) (c.from.ensures ∙ reverse_dart_is) in
+    let onward : c.lefts.result ≡ lefts (angle_at c.args.shape.now dart) (direction_at directions (next p dart)) =
     c.lefts.ensures
     ∙ ap (λ (a : ℕ). lefts a (direction_at directions c.from-in-loop-dart.result)) c.angle.ensures
-    ∙ ap (λ (n : ℕ). lefts (angle_at c.args.shape.now dart) (direction_at directions n)) (c.from-in-loop-dart.ensures ∙ c.next.ensures.value)
-    ∙ ap (lefts (angle_at c.args.shape.now dart)) (c.requires.leaving (next p dart) (c.graph-graph.ensures.ends.next_one.inside dart inside)) in
+    ∙ ap (λ (n : ℕ). lefts (angle_at c.args.shape.now dart) (direction_at directions n)) (c.from-in-loop-dart.ensures ∙ c.next.ensures.value) in
     let same = differs_false the_type tt (direction_at directions c.from.result) c.lefts.result (sym c.if-ne.ensures) in
     below_more _ _ c.loop-dart.invariant (sym back ∙ same ∙ onward)
 
@@ -35,13 +33,12 @@ returns-then-ne c =
     let count : c.darts-dart-end.result ≡ darts p = rw c.graph-graph.ensures.value at c.darts-dart-end.ensures.count in
     let inside : dart < darts p = omega (arith, count) in
     let reverse_dart_is : c.reverse.result ≡ reverse_dart p dart = rw c.graph-graph.ensures.value at c.reverse.ensures.value in
-    let back : direction_at directions c.from.result ≡ leaving p c.args.points.now (reverse_dart p dart) =
-    ap (direction_at directions) (c.from.ensures ∙ reverse_dart_is) ∙ c.requires.leaving (reverse_dart p dart) (c.graph-graph.ensures.ends.reverse_dart_inside dart inside) in
-    let onward : c.lefts.result ≡ lefts (angle_at c.args.shape.now dart) (leaving p c.args.points.now (next p dart)) =
+    let back : direction_at directions c.from.result ≡ direction_at directions (reverse_dart p dart) =
+    ap (direction_at directions) (c.from.ensures ∙ reverse_dart_is) in
+    let onward : c.lefts.result ≡ lefts (angle_at c.args.shape.now dart) (direction_at directions (next p dart)) =
     c.lefts.ensures
     ∙ ap (λ (a : ℕ). lefts a (direction_at directions c.from-in-loop-dart.result)) c.angle.ensures
-    ∙ ap (λ (n : ℕ). lefts (angle_at c.args.shape.now dart) (direction_at directions n)) (c.from-in-loop-dart.ensures ∙ c.next.ensures.value)
-    ∙ ap (lefts (angle_at c.args.shape.now dart)) (c.requires.leaving (next p dart) (c.graph-graph.ensures.ends.next_one.inside dart inside)) in (
+    ∙ ap (λ (n : ℕ). lefts (angle_at c.args.shape.now dart) (direction_at directions n)) (c.from-in-loop-dart.ensures ∙ c.next.ensures.value) in (
       λ e. absurd (false≢true e),
       λ h. absurd (differs_true the_type (direction_at directions c.from.result) c.lefts.result (sym c.if-ne.ensures) (back ∙ h dart inside ∙ sym onward)),
     )
