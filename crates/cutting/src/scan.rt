@@ -1,6 +1,6 @@
 //! Cuts, and the scan of a face that cuts it into boxes.
 
-ghost use Rattle.std.specs.Prelude.{◌≡◌, ◌≢◌, ℕ, ◌+◌, ◌-◌, ◌*◌, ◌^◌, ◌<◌, ◌≤◌, ◌↔◌, List, [], ◌∷◌, length, map, drop, sum, slice_index, true, All};
+ghost use Rattle.std.specs.Prelude.{◌≡◌, ◌≢◌, ℕ, ◌+◌, ◌-◌, ◌*◌, ◌^◌, ◌<◌, ◌≤◌, ◌↔◌, List, [], ◌∷◌, length, map, drop, take, ◌++◌, sum, slice_index, true, All};
 ghost use Rattle.cutting.specs.Webs.{IsSound, IsCut, Grows};
 ghost use Rattle.cutting.specs.Tables.{web_of, room};
 ghost use Rattle.cutting.specs.Faces.{AreWaiting, cut_up};
@@ -97,6 +97,16 @@ fn highest(angle: &[u8], ring: &[u32]) -> usize
     best
 }
 
+/// Turns a ring so that it starts at another place. (`rotate_left` clears 4 KB at each call.)
+fn start_at(ring: &mut [u32], start: usize)
+    requires { start ≤ length ring.old }
+    ensures after { ring.new ≡ drop start ring.old ++ take start ring.old }
+{
+    ring[..start].reverse();
+    ring[start..].reverse();
+    ring.reverse();
+}
+
 /// Cuts the face with the corners `ring` into boxes. Linear in its corners.
 pub fn cut_face(table: &mut DartTable, ring: &mut [u32])
     requires sound { IsSound (web_of table.old) }
@@ -113,7 +123,7 @@ pub fn cut_face(table: &mut DartTable, ring: &mut [u32])
         return;
     }
     let start = highest(table.angle.as_slice(), ring);
-    ring.rotate_left(start);
+    start_at(ring, start);
     let mut height = 0;
     'corners: for read in 0..ring.len() {
         height = read_corner(table, ring, height, read);

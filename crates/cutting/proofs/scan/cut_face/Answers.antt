@@ -35,11 +35,11 @@ corners-init c =
     let m = c.highest-start.result in
     let below : Below t.darts face = below_left t.darts face (joined c.requires.waiting.1) c.requires.waiting.2.below in
     let turned : Below t.darts (drop m face ++ take m face) = below_turned t.darts m face below in
-    reading_begins (web_of t) face (room t) m c.rotate_left.new.self c.requires.sound c.requires.waiting.0 c.requires.waiting.1 c.requires.waiting.2
+    reading_begins (web_of t) face (room t) m c.start_at.new.ring c.requires.sound c.requires.waiting.0 c.requires.waiting.1 c.requires.waiting.2
     c.requires.space
     (subst (λ (A : List ℕ). IsHighest (map (λ (a : ℕ). get_or A a 0) face) m) c.as_slice.ensures.value c.highest-start.ensures)
-    c.rotate_left.ensures.after
-    (subst (λ (xs : List ℕ). All (λ a. a < room t) xs) (sym c.rotate_left.ensures.after)
+    c.start_at.ensures.after
+    (subst (λ (xs : List ℕ). All (λ a. a < room t) xs) (sym c.start_at.ensures.after)
     (all_below t.darts (room t) (drop m face ++ take m face) (omega arith) turned))
 
 pub read_corner-height-requires-clause-reading : goal.read_corner-height-requires-clause-reading
