@@ -55,6 +55,14 @@ impl<T> Vec<T> {
         Ok(())
     }
     #[inline]
+    pub fn push_reserved(&mut self, t: T) {
+        unsafe {
+            let n = self.0.len();
+            self.0.as_mut_ptr().add(n).write(t);
+            self.0.set_len(n + 1);
+        }
+    }
+    #[inline]
     pub fn pop(&mut self) -> Option<T> {
         self.0.pop()
     }

@@ -1,7 +1,8 @@
 -- Tables that grow list by list and dart by dart.
 use Rattle.std.proofs.Common.{◌≡◌, ℕ, zero, suc, ◌+◌, ◌<◌, ◌≤◌, List, [], ◌∷◌, ◌++◌, length, get_or, take, refl, sym, ap, ◌∙◌, inl, inr, arith}
-use Rattle.std.proofs.lemmas.List.{append_assoc, append-nil, length-append, get_or_append_left, get_or_at, take_all}
-use Rattle.std.proofs.lemmas.Bool.{cases_eq}
+use Rattle.std.proofs.lemmas.List.{length-append, get_or_append_left, get_or_at, take_all}
+use Rattle.std.proofs.lemmas.Bool.{cases_eq, cases_lt}
+use Rattle.std.proofs.lemmas.Grind.{same_number_lists}
 use Rattle.embedding.specs.Darts.{heads, dart_count, first_dart, head_of, tail_of, reverse_of, after_of}
 use Rattle.embedding.specs.Rules.{KeepsBefore}
 use Rattle.embedding.specs.Tables.{IsTable}
@@ -41,13 +42,6 @@ first_dart-more (l ∷ ls) (suc k) below =
 pub first_dart-all : (g : List (List ℕ)) (n : ℕ) → length g ≤ n → first_dart g n ≡ dart_count g
 first_dart-all g n past = ap dart_count (take_all n g past)
 
-pub heads-more : (g : List (List ℕ)) (k : ℕ) → k < length g → heads (take (k + 1) g) ≡ heads (take k g) ++ get_or g k []
-heads-more [] k below = absurd (omega arith)
-heads-more (l ∷ ls) zero below = append-nil l
-heads-more (l ∷ ls) (suc k) below =
-    let one : suc k + 1 ≡ suc (k + 1) = omega arith in
-    rw one (ap (λ (x : List ℕ). l ++ x) (heads-more ls k (omega arith)) ∙ sym (append_assoc l (heads (take k ls)) (get_or ls k [])))
-
 -- ---- darts
 
 -- the dart from `head` to `tail` is the reverse of the one from `tail` to `head`
@@ -67,3 +61,17 @@ after_is g k i list inside =
       | inl w ↦ (λ _. omega (arith, t.number, w.1), λ last. absurd (omega (arith, w.0)))
       | inr w ↦ (λ more. absurd (omega (arith, w.0)), λ _. omega (arith, t.number, w.1))
     ]
+
+-- `next` counts on from the dart at place i of list k, which ends before `end`, and the last dart turns back to the first
+pub after_found : (g : List (List ℕ)) (k i next first end found : ℕ) → k < length g → i < length (get_or g k []) → next ≡ first_dart g k + i → first ≡ first_dart g k → end ≡ first + length (get_or g k []) → (next + 1 < end → found ≡ next + 1) → (end ≤ next + 1 → found ≡ first) → found ≡ after_of g (first_dart g k + i)
+after_found g k i next first end found list inside at begins ends within last =
+    let is = after_is g k i list inside in
+    elim (cases_lt (i + 1) (length (get_or g k []))) [
+      | inl more ↦ omega (arith, within (omega arith), is.0 more)
+      | inr done ↦ omega (arith, last (omega arith), is.1 done)
+    ]
+
+-- a table of all heads is their list
+pub heads_found : (g : List (List ℕ)) (n : ℕ) (table : List ℕ) → n ≡ dart_count g → IsTable n (head_of g) table → table ≡ heads g
+heads_found g n table all t =
+    same_number_lists table (heads g) (t.size ∙ all) (λ k below. t.each k (omega (arith, t.size)))

@@ -14,6 +14,5 @@ pub mod Marking
 pub mod Symmetry
 pub mod Reached
 pub mod Building
-pub mod Turning
 pub mod Parts
 pub mod Lesser

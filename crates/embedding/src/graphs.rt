@@ -12,7 +12,7 @@ use crate::breaks::first_broken;
 use crate::faults::ReadFault;
 use crate::lists::Lists;
 use crate::scratch::Scratch;
-use crate::tables::{afters_in, heads_in, reverses_in, starts_in};
+use crate::tables::{DartTables, darts_in, starts_in};
 use planar_code::Record;
 use std::alloc::{AllocError, Global};
 use std::marker::Model;
@@ -97,14 +97,17 @@ impl Graph {
         ensures { IfOk result (λ graph. graph ≡ lists.now) }
     {
         let starts = starts_in(mem::replace(&mut scratch.starts, Vec::new(alloc)), lists)?;
-        let heads = heads_in(mem::replace(&mut scratch.heads, Vec::new(alloc)), lists)?;
-        let reverses = reverses_in(mem::replace(&mut scratch.reverses, Vec::new(alloc)), lists)?;
-        let afters = afters_in(mem::replace(&mut scratch.afters, Vec::new(alloc)), lists)?;
+        let old = DartTables {
+            heads: mem::replace(&mut scratch.heads, Vec::new(alloc)),
+            reverses: mem::replace(&mut scratch.reverses, Vec::new(alloc)),
+            afters: mem::replace(&mut scratch.afters, Vec::new(alloc)),
+        };
+        let tables = darts_in(old, lists)?;
         Ok(Graph {
             starts,
-            heads,
-            reverses,
-            afters,
+            heads: tables.heads,
+            reverses: tables.reverses,
+            afters: tables.afters,
         })
     }
 

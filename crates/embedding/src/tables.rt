@@ -1,7 +1,7 @@
 //! What a graph keeps, made from lists that keep rules 1 to 7. Each list stands in the memory of an old one where
 //! that is enough.
 
-ghost use Rattle.std.specs.Prelude.{◌≡◌, ℕ, ◌+◌, ◌<◌, ◌≤◌, length, slice_index, IfOk, Contains};
+ghost use Rattle.std.specs.Prelude.{◌≡◌, ℕ, ◌+◌, ◌<◌, ◌≤◌, length, slice_index, vec_capacity, IfOk, Contains};
 ghost use Rattle.embedding.specs.Lists.{list_of};
 ghost use Rattle.embedding.specs.Darts.{heads, dart_count, first_dart, head_of, tail_of, reverse_of, after_of};
 ghost use Rattle.embedding.specs.Rules.{KeepsBefore};
@@ -23,17 +23,6 @@ pub(crate) fn starts_in(old: Vec<u16>, lists: &Lists<'_>) -> Result<Vec<u16>, Al
     }
     starts.push(lists.darts() as u16)?;
     Ok(starts)
-}
-
-/// The heads of all darts.
-pub(crate) fn heads_in(old: Vec<u8>, lists: &Lists<'_>) -> Result<Vec<u8>, AllocError>
-    ensures { IfOk result (λ found. found.items ≡ heads lists.now) }
-{
-    let mut heads = emptied(old, lists.darts())?;
-    for place in 0..lists.count() {
-        heads.extend_from_slice(lists.at(place))?;
-    }
-    Ok(heads)
 }
 
 /// Where a vertex stands in a short list that holds it. No branch hangs on which place it is.
@@ -58,53 +47,82 @@ fn reverse_between(lists: &Lists<'_>, tail: u8, head: u8) -> u16
         → tail_of lists.now d ≡ tail → head_of lists.now d ≡ head
         → result ≡ reverse_of lists.now d }
 {
-    let place = place_of(lists.of_vertex(head), tail);
+    let place = place_of(lists.at(head - 1), tail);
     lists.first_dart(head - 1) + place as u16
 }
 
-/// Adds the reverse of each dart of the list at a place.
-fn add_reverses(reverses: &mut Vec<u16>, lists: &Lists<'_>, place: u8) -> Result<(), AllocError>
+/// The dart after one that `next` follows by number, in a list whose first dart is `first` and whose darts end
+/// before `end`.
+fn after_in(next: u16, first: u16, end: u16) -> u16
+    ensures inside { next < end → result ≡ next }
+    ensures last { end ≤ next → result ≡ first }
+{
+    if next < end { next } else { first }
+}
+
+/// Adds the darts of the list at a place. Each list has at most four entries, so to search one for a reverse takes
+/// constant time.
+fn add_darts(
+    heads: &mut Vec<u8>,
+    reverses: &mut Vec<u16>,
+    afters: &mut Vec<u16>,
+    lists: &Lists<'_>,
+    place: u8,
+)
     requires rules { KeepsBefore lists.now 8 }
     requires within { place < length lists.now }
-    requires so_far { IsTable (first_dart lists.now place) (reverse_of lists.now) reverses.old.items }
-    ensures { IfOk result (λ _.
-        IsTable (first_dart lists.now (place + 1)) (reverse_of lists.now) reverses.new.items) }
+    requires heads { IsTable (first_dart lists.now place) (head_of lists.now) heads.old.items }
+    requires reverses { IsTable (first_dart lists.now place) (reverse_of lists.now) reverses.old.items }
+    requires afters { IsTable (first_dart lists.now place) (after_of lists.now) afters.old.items }
+    requires head_room { dart_count lists.now ≤ vec_capacity heads.old }
+    requires reverse_room { dart_count lists.now ≤ vec_capacity reverses.old }
+    requires after_room { dart_count lists.now ≤ vec_capacity afters.old }
+    ensures heads { IsTable (first_dart lists.now (place + 1)) (head_of lists.now) heads.new.items }
+    ensures reverses { IsTable (first_dart lists.now (place + 1)) (reverse_of lists.now) reverses.new.items }
+    ensures afters { IsTable (first_dart lists.now (place + 1)) (after_of lists.now) afters.new.items }
+    ensures head_room { dart_count lists.now ≤ vec_capacity heads.new }
+    ensures reverse_room { dart_count lists.now ≤ vec_capacity reverses.new }
+    ensures after_room { dart_count lists.now ≤ vec_capacity afters.new }
 {
-    for head in lists.at(place) {
-        reverses.push(reverse_between(lists, place + 1, *head))?;
+    let list = lists.at(place);
+    let first = lists.first_dart(place);
+    let end = first + list.len() as u16;
+    let mut next = first;
+    'darts: for head in list {
+        next += 1;
+        heads.push_reserved(*head);
+        reverses.push_reserved(reverse_between(lists, place + 1, *head));
+        afters.push_reserved(after_in(next, first, end));
     }
-    Ok(())
 }
 
-/// The reverses of all darts. Each list has at most four entries, so to search one takes constant
-/// time.
-pub(crate) fn reverses_in(old: Vec<u16>, lists: &Lists<'_>) -> Result<Vec<u16>, AllocError>
+/// What is kept of each dart.
+#[derive(Drop)]
+pub(crate) struct DartTables {
+    pub(crate) heads: Vec<u8>,
+    pub(crate) reverses: Vec<u16>,
+    pub(crate) afters: Vec<u16>,
+}
+
+/// The heads of all darts, their reverses, and the darts after them: the next one of each, but of the last dart
+/// of a list its first one. Memory is asked for before the first dart.
+pub(crate) fn darts_in(old: DartTables, lists: &Lists<'_>) -> Result<DartTables, AllocError>
     requires { KeepsBefore lists.now 8 }
-    ensures { IfOk result (λ reverses.
-        IsTable (dart_count lists.now) (reverse_of lists.now) reverses.items) }
+    ensures heads { IfOk result (λ t. t.heads.items ≡ heads lists.now) }
+    ensures reverses { IfOk result (λ t.
+        IsTable (dart_count lists.now) (reverse_of lists.now) t.reverses.items) }
+    ensures afters { IfOk result (λ t.
+        IsTable (dart_count lists.now) (after_of lists.now) t.afters.items) }
 {
-    let mut reverses = emptied(old, lists.darts())?;
+    let mut heads = emptied(old.heads, lists.darts())?;
+    let mut reverses = emptied(old.reverses, lists.darts())?;
+    let mut afters = emptied(old.afters, lists.darts())?;
     for place in 0..lists.count() {
-        add_reverses(&mut reverses, lists, place)?;
+        add_darts(&mut heads, &mut reverses, &mut afters, lists, place);
     }
-    Ok(reverses)
-}
-
-/// The darts after all darts: the next one of each, but of the last dart of a list its first one.
-pub(crate) fn afters_in(old: Vec<u16>, lists: &Lists<'_>) -> Result<Vec<u16>, AllocError>
-    ensures { IfOk result (λ afters.
-        IsTable (dart_count lists.now) (after_of lists.now) afters.items) }
-{
-    let mut afters = emptied(old, lists.darts())?;
-    for dart in 0..lists.darts() as u16 {
-        afters.push(dart + 1)?;
-    }
-    for place in 0..lists.count() {
-        let first = lists.first_dart(place);
-        let end = first + lists.at(place).len() as u16;
-        if first < end {
-            afters[usize::from(end) - 1] = first;
-        }
-    }
-    Ok(afters)
+    Ok(DartTables {
+        heads,
+        reverses,
+        afters,
+    })
 }
