@@ -18,7 +18,7 @@ use Rattle.networks.specs.Residuals.{IsResidualNetwork, IsSetTo}
 use Rattle.min_cost_flow.specs.Path.{IsTight, HasPath, way, IsOnWay}
 use Rattle.min_cost_flow.specs.Round.{IsLess, carrying}
 use Rattle.min_cost_flow.specs.declared.state.Solver.{Solver}
-use Rattle.min_cost_flow.specs.Stand.{potential_at, CanAugment, IsPushedAlong}
+use Rattle.min_cost_flow.specs.Stand.{potential_at, CanAugment, HasUnitCost, IsPaired, IsPushedAlong}
 use Rattle.networks.proofs.Ends.{start_in, end_in, unit_cost_most}
 use Rattle.min_cost_flow.proofs.Changes.{SameBut, moved_carries, carried_leaves, potentials_stay}
 use Rattle.min_cost_flow.proofs.Rounds.{IsSent, left_falls}
@@ -97,25 +97,14 @@ unfolding opposite
 both_fit net reverse forward arcs room i false f b = f.fits i b
 both_fit net reverse forward arcs room i true f b = omega (arith, f.fits i b)
 
--- the cost of a residual arc is that of a unit, from -1 to 1
-abbrev pub HasUnitCost : Residual → ℕ → Type 0
-HasUnitCost r k = (z : ℤ) × (negsuc 0 ≤ℤ z) × (z ≤ℤ pos 1) × IsCosted r.arcs.items r.room.items k z
-
 cost_in : (net : NetworkModel) (r : Residual) (i : ℕ) (back : Bool) → IsNetwork net → IsResidualNetwork net r → i < arc_count net → HasUnitCost r (place_of r.reverse.items r.forward.items i back)
 cost_in net r i back n s b = (unit_cost net i back, unit_cost_least net i back n.costs b, unit_cost_most net i back n.costs b, s.filled.cost i back b)
 
--- number k is that of a node's residual arc
-pub record IsNumber (net : NetworkModel) (r : Residual) (k : ℕ) : Type 0 where
-  pub here : k < arc_count net + arc_count net
-  pub back : numbers r.reverse.items k < arc_count net + arc_count net
-  pub apart : k ≢ numbers r.reverse.items k
-  pub cost : HasUnitCost r k
-  pub back_cost : HasUnitCost r (numbers r.reverse.items k)
-  pub room : numbers r.room.items k + numbers r.room.items (numbers r.reverse.items k) < 4294967296
-
-pub is_number : (net : NetworkModel) (r : Residual) (v k : ℕ) → IsNetwork net → IsResidualNetwork net r → v < node_count net → StartsAt r.first.items v k → IsNumber net r k
-is_number net r v k n s b st =
+-- a node's residual arc has a reverse
+pub is_paired : (net : NetworkModel) (r : Residual) (v k : ℕ) → IsNetwork net → IsResidualNetwork net r → v < node_count net → StartsAt r.first.items v k → IsPaired r k
+is_paired net r v k n s b st =
     let l = s.laid_out in
+    let f = s.filled in
     let first = r.first.items in
     let reverse = r.reverse.items in
     let forward = r.forward.items in
@@ -123,13 +112,16 @@ is_number net r v k n s b st =
     let e : numbers reverse k ≡ place_of reverse forward o.arc (opposite o.back) = reverse_place net first reverse forward k o.arc o.back l o.inside o.place in
     let there : numbers r.room.items (numbers reverse k) ≡ numbers r.room.items (place_of reverse forward o.arc (opposite o.back)) = ap (numbers r.room.items) e in
     let here : numbers r.room.items (place_of reverse forward o.arc o.back) ≡ numbers r.room.items k = ap (numbers r.room.items) o.place in
+    let low : k < arc_count net + arc_count net = number_below net first reverse forward v k l b st in
+    let back : numbers reverse k < arc_count net + arc_count net = reverse_below net first reverse forward v k n l b st in
     record {
-      here = number_below net first reverse forward v k l b st;
-      back = reverse_below net first reverse forward v k n l b st;
+      reverse = omega (arith, l.reverses);
+      here = (omega (arith, f.arc_size), omega (arith, f.room_size));
+      there = (omega (arith, f.arc_size), omega (arith, f.room_size));
       apart = not_reverse net first reverse forward v k l b st;
       cost = subst (λ (t : ℕ). HasUnitCost r t) o.place (cost_in net r o.arc o.back n s o.inside);
       back_cost = subst (λ (t : ℕ). HasUnitCost r t) (sym e) (cost_in net r o.arc (opposite o.back) n s o.inside);
-      room = omega (arith, both_fit net reverse forward r.arcs.items r.room.items o.arc o.back s.filled o.inside, s.limits o.arc o.inside);
+      room = omega (arith, both_fit net reverse forward r.arcs.items r.room.items o.arc o.back f o.inside, s.limits o.arc o.inside);
     }
 
 -- what fits along one residual arc changes no other cost
@@ -171,43 +163,43 @@ pushed_fits net first reverse forward arcs arcs' room room' i j b k amount l f i
     ]
 
 -- less fits along residual arc k, and as much more along its reverse
-pub pushed_along : (net : NetworkModel) (r r' r'' : Residual) (v k amount less more : ℕ) → IsNetwork net → IsResidualNetwork net r → v < node_count net → StartsAt r.first.items v k → IsSetTo r r' k less → IsSetTo r' r'' (numbers r.reverse.items k) more → less + amount ≡ numbers r.room.items k → more ≡ numbers r'.room.items (numbers r.reverse.items k) + amount → IsPushedAlong net r r'' k amount
-pushed_along net r r' r'' v k amount less more n s b st one two le me =
-    let l = s.laid_out in
-    let f = s.filled in
+pub pushed_along : (r r' r'' : Residual) (k amount less more : ℕ) → k ≢ numbers r.reverse.items k → IsSetTo r r' k less → IsSetTo r' r'' (numbers r.reverse.items k) more → less + amount ≡ numbers r.room.items k → more ≡ numbers r'.room.items (numbers r.reverse.items k) + amount → IsPushedAlong r r'' k amount
+pushed_along r r' r'' k amount less more ne one two le me =
     let back = numbers r.reverse.items k in
-    let ne : k ≢ back = not_reverse net r.first.items r.reverse.items r.forward.items v k l b st in
-    let o = l.cover v k b st in
-    let pushed : IsPushed r.reverse.items r.arcs.items r''.arcs.items r.room.items r''.room.items k amount = record {
-      ends = λ j. two.end j ∙ one.end j;
-      less = ap (λ (t : ℕ). t + amount) (two.others k ne ∙ one.here) ∙ le;
-      more = two.here ∙ me ∙ ap (λ (t : ℕ). t + amount) (one.others back (λ h. ne (sym h)));
-      others = λ j x y. two.others j y ∙ one.others j x;
-    } in
-    let filled : IsFilled net r.reverse.items r.forward.items r''.arcs.items r''.room.items = record {
-      arc_size = two.arc_size ∙ one.arc_size ∙ f.arc_size;
-      room_size = two.room_size ∙ one.room_size ∙ f.room_size;
-      end = λ j c h. two.end (place_of r.reverse.items r.forward.items j c) ∙ one.end (place_of r.reverse.items r.forward.items j c) ∙ f.end j c h;
-      cost = λ j c h. still_costs r' r'' back more (place_of r.reverse.items r.forward.items j c) (unit_cost net j c) two (still_costs r r' k less (place_of r.reverse.items r.forward.items j c) (unit_cost net j c) one (f.cost j c h));
-      fits = λ j h. pushed_fits net r.first.items r.reverse.items r.forward.items r.arcs.items r''.arcs.items r.room.items r''.room.items o.arc j o.back k amount l f o.inside o.place pushed h;
-    } in
     record {
-      residual = record {
-        laid_out = rw (two.first, one.first, two.reverse, one.reverse, two.forward, one.forward) l;
-        filled = rw (two.reverse, one.reverse, two.forward, one.forward) filled;
-        limits = s.limits;
-      };
       first = two.first ∙ one.first;
       reverse = two.reverse ∙ one.reverse;
       forward = two.forward ∙ one.forward;
-      ends = pushed.ends;
-      less = pushed.less;
-      more = pushed.more;
-      others = pushed.others;
+      arc_size = two.arc_size ∙ one.arc_size;
+      room_size = two.room_size ∙ one.room_size;
+      ends = λ j. two.end j ∙ one.end j;
+      costs = λ j z h. still_costs r' r'' back more j z two (still_costs r r' k less j z one h);
+      less = ap (λ (t : ℕ). t + amount) (two.others k ne ∙ one.here) ∙ le;
+      more = two.here ∙ me ∙ ap (λ (t : ℕ). t + amount) (one.others back (λ h. ne (sym h)));
+      others = λ j x y. two.others j y ∙ one.others j x;
     }
 
-pub was_pushed : (net : NetworkModel) (r r' : Residual) (k amount : ℕ) → IsPushedAlong net r r' k amount → IsPushed r.reverse.items r.arcs.items r'.arcs.items r.room.items r'.room.items k amount
-was_pushed net r r' k amount s = record { ends = s.ends; less = s.less; more = s.more; others = s.others }
+pub was_pushed : (r r' : Residual) (k amount : ℕ) → IsPushedAlong r r' k amount → IsPushed r.reverse.items r.arcs.items r'.arcs.items r.room.items r'.room.items k amount
+was_pushed r r' k amount s = record { ends = s.ends; less = s.less; more = s.more; others = s.others }
+
+-- the residual arcs are still those of the network
+pub pushed_network : (net : NetworkModel) (r r' : Residual) (v k amount : ℕ) → IsResidualNetwork net r → v < node_count net → StartsAt r.first.items v k → IsPushedAlong r r' k amount → IsResidualNetwork net r'
+pushed_network net r r' v k amount s b st p =
+    let l = s.laid_out in
+    let f = s.filled in
+    let o = l.cover v k b st in
+    let filled : IsFilled net r.reverse.items r.forward.items r'.arcs.items r'.room.items = record {
+      arc_size = p.arc_size ∙ f.arc_size;
+      room_size = p.room_size ∙ f.room_size;
+      end = λ j c h. p.ends (place_of r.reverse.items r.forward.items j c) ∙ f.end j c h;
+      cost = λ j c h. p.costs (place_of r.reverse.items r.forward.items j c) (unit_cost net j c) (f.cost j c h);
+      fits = λ j h. pushed_fits net r.first.items r.reverse.items r.forward.items r.arcs.items r'.arcs.items r.room.items r'.room.items o.arc j o.back k amount l f o.inside o.place (was_pushed r r' k amount p) h;
+    } in
+    record {
+      laid_out = rw (p.first, p.reverse, p.forward) l;
+      filled = rw (p.reverse, p.forward) filled;
+      limits = s.limits;
+    }
 
 -- ---- what a push does to the amounts that the arcs carry
 
@@ -573,6 +565,12 @@ own_last net s source h =
 
 pub own_end : (net : NetworkModel) (s : Solver) (source : ℕ) → CanAugment net s source → end_at s.residual.arcs.items s.search.found < node_count net
 own_end net s source h = link_end net s.residual.reverse.items s.residual.forward.items s.residual.room.items (potential_at s) (end_at s.residual.arcs.items (numbers s.residual.reverse.items s.search.found)) s.search.found (end_at s.residual.arcs.items s.search.found) h.ready.network (own_last net s source h).link
+
+pub last_pair : (net : NetworkModel) (s : Solver) (source : ℕ) → CanAugment net s source → IsPaired s.residual s.search.found
+last_pair net s source h = let l = own_last net s source h in is_paired net s.residual (end_at s.residual.arcs.items (numbers s.residual.reverse.items s.search.found)) s.search.found h.ready.network h.ready.residual l.node l.leaves
+
+pub step_pair : (net : NetworkModel) (s : Solver) (source v : ℕ) → (h : CanAugment net s source) → h.path.on v ≡ true → 0 < numbers s.search.place.items v → IsPaired s.residual (numbers s.search.enter.items v)
+step_pair net s source v h on some = let l = own_step net s source h v on some in is_paired net s.residual (end_at s.residual.arcs.items (numbers s.residual.reverse.items (numbers s.search.enter.items v))) (numbers s.search.enter.items v) h.ready.network h.ready.residual l.node l.leaves
 
 -- ---- the least of what fits
 

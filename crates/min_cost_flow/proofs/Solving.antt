@@ -16,8 +16,11 @@ use Rattle.networks.specs.declared.residual.ResidualArc.{ResidualArc}
 use Rattle.networks.specs.Networks.{NetworkModel, node_count, arc_count, arc_at, HasUnitCosts, IsNetwork}
 use Rattle.networks.specs.Flow.{HasRoom, IsResidual, HasPotentials, HasNoFlow, start_of, end_of, unit_cost, reduced_cost}
 use Rattle.min_cost_flow.specs.Round.{IsRound}
+use Rattle.shortest_paths.specs.declared.state.Search.{Search}
+use Rattle.min_cost_flow.specs.declared.state.Solver.{Solver}
+use Rattle.min_cost_flow.specs.Stand.{excess_at, potential_at, IsReady, CanAugment, IsCleared}
 use Rattle.networks.specs.ResidualArcs.{numbers, end_at, cost_at, StartsAt, place_of, limit_of, HasResidualArcs, IsFilled, carried}
-use Rattle.shortest_paths.specs.Search.{far, IsArcCost, IsOpen, IsGraph, IsPriced, IsNear, IsReached, IsHit, IsNearest, IsServed, IsLeft, IsPut, IsWithinFar, degree, looked}
+use Rattle.shortest_paths.specs.Search.{far, IsArcCost, IsOpen, IsGraph, IsPriced, IsNear, IsReached, IsHit, IsNearest, IsServed, IsLeft, IsPut, IsWithinFar, degree, looked, labels, enters, orders, places}
 use Rattle.min_cost_flow.specs.Path.{HasPath}
 use Rattle.min_cost_flow.proofs.Cut.{no_flow_out}
 use Rattle.networks.proofs.Ends.{start_in, end_in}
@@ -436,6 +439,54 @@ all_cleared n first arcs p e s q q' enter order place head ordered reached level
       | inl l ↦ let (a, back) = r.listed v b l in subst (λ (t : ℕ). q' t ≡ far) back (cleared (place v) a)
       | inr f ↦ others v (both_far (q v) (r.most v b) f)
     ]
+
+-- the potentials have moved and the labels are taken away, so units can be sent along the path
+pub can_augment : (net : NetworkModel) (s s' : Solver) (source : ℕ) (t : Search) → IsReady net s → source < node_count net → pos 0 <ℤ excess_at s source
+    → length t.label.items ≡ length s.nodes.potential.items
+    → IsGraph (length s.nodes.potential.items) s.residual.first.items s.residual.arcs.items
+    → IsReached (length s.nodes.potential.items) s.residual.first.items s.residual.arcs.items (potential_at s) (excess_at s) source (labels t) (enters t) (orders t) (places t) t.head t.ordered t.reached t.level
+    → IsNearest (length s.nodes.potential.items) s.residual.first.items s.residual.arcs.items (potential_at s) (excess_at s) source (labels t) (places t) t.head t.level t.cut t.found
+    → IsServed (length s.nodes.potential.items) s.residual.first.items s.residual.arcs.items (potential_at s) (labels t) (places t) t.cut t.head
+    → IsLeft (length s.nodes.potential.items) (potential_at s) (labels t) (places t) t.head t.cut
+    → t.cut <ℤ far
+    → ((j : ℕ) → j < t.head → potential_at s' (orders t j) ≡ labels t (orders t j) -ℤ t.cut)
+    → ((v : ℕ) → ((j : ℕ) → j < t.head → orders t j ≢ v) → potential_at s' v ≡ potential_at s v)
+    → (s'.nodes.excess ≡ s.nodes.excess) × (s'.nodes.score ≡ s.nodes.score) × (length s'.nodes.potential.items ≡ length s.nodes.potential.items)
+    → s'.residual ≡ s.residual → IsCleared t s'.search
+    → CanAugment net s' source
+can_augment net s s' source t r b over size g h near sv left hit moved others same res q =
+    let n = r.potentials in
+    let first = s.residual.first.items in
+    let arcs = s.residual.arcs.items in
+    let p = potential_at s in
+    let p' = potential_at s' in
+    let x = excess_at s in
+    let m = moved_to _ _ _ _ p' _ _ _ _ _ _ _ _ _ _ t.cut h moved others in
+    let re = subst (λ (k : ℕ). IsReached k first arcs p x source (labels t) (enters t) (orders t) (places t) t.head t.ordered t.reached t.level) n h in
+    let nt = subst (λ (k : ℕ). IsNearest k first arcs p x source (labels t) (places t) t.head t.level t.cut t.found) n near in
+    let sn = subst (λ (k : ℕ). IsServed k first arcs p (labels t) (places t) t.cut t.head) n sv in
+    let ln = subst (λ (k : ℕ). IsLeft k p (labels t) (places t) t.head t.cut) n left in
+    let mn = subst (λ (k : ℕ). IsMovedTo k p p' (labels t) (places t) t.head t.cut) n m in
+    let path = has_path _ _ _ _ p' _ _ _ _ _ _ _ _ _ _ _ t.found g h near hit m in
+    let way = subst (λ (k : ℕ). HasPath k first arcs p' (enters t) (places t) source t.found) n path in
+    let round = moved_round net first s.residual.reverse.items s.residual.forward.items arcs s.residual.room.items p p' x source (labels t) (enters t) (orders t) (places t) t.head t.ordered t.reached t.level t.cut t.found r.network r.residual.laid_out r.residual.filled r.round re nt sn ln hit mn in
+    record {
+      ready = record {
+        network = r.network;
+        residual = rw res r.residual;
+        potentials = same.2 ∙ n;
+        excesses = rw same.0 r.excesses;
+        scores = rw same.1 r.scores;
+        labels = q.size ∙ size ∙ n;
+        even = q.even;
+        round = rw (res, same.0) round;
+        blank = λ v c. all_cleared _ _ _ _ _ _ _ (labels s'.search) _ _ _ _ _ _ _ h q.cleared q.others v (omega arith);
+      };
+      path = rw (res, q.enter, q.place, q.found) way;
+      source = b;
+      left = rw same.0 over;
+      wanting = rw (res, same.0, q.found) (near.hit hit).wanting;
+    }
 
 -- the label that was read less the cut, as it is written
 pub put_label : (p p' q : ℕ → ℤ) (v w : ℕ) (z cut : ℤ) → SFits w32 z → SFits w32 cut → v ≡ w → z ≡ q v → IsPut p p' v (to_z w32 (of_z w32 z) -ℤ to_z w32 (of_z w32 cut)) → IsPut p p' w (q w -ℤ cut)

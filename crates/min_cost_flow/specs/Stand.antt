@@ -1,11 +1,11 @@
 -- What holds of the solver from one step to the next, and of a flow that stands while supplies move.
-use Rattle.std.specs.Prelude.{ℕ, ◌+◌, ◌*◌, ◌<◌, ◌≤◌, ◌≡◌, ◌≢◌, ℤ, pos, ◌+ℤ◌, ◌≤ℤ◌, ◌<ℤ◌, Bool, true, false, List, length}
+use Rattle.std.specs.Prelude.{ℕ, ◌+◌, ◌^◌, ◌<◌, ◌≤◌, ◌≡◌, ◌≢◌, ℤ, pos, negsuc, ◌+ℤ◌, ◌≤ℤ◌, ◌<ℤ◌, Bool, true, false, List, length}
 use Rattle.networks.specs.declared.network.TheConstants.{MAX_ARCS, MAX_NODES}
 use Rattle.networks.specs.declared.residual.TheConstants.{MAX_RESIDUAL_ARCS}
 use Rattle.networks.specs.declared.residual.Residual.{Residual}
-use Rattle.networks.specs.Networks.{NetworkModel, node_count, arc_count, IsNetwork}
+use Rattle.networks.specs.Networks.{NetworkModel, node_count, IsNetwork}
 use Rattle.networks.specs.Flow.{Flow, HasPotentials, IsLeastCost, HasNoFlow, at_nodes, cost_of}
-use Rattle.networks.specs.ResidualArcs.{numbers, end_at}
+use Rattle.networks.specs.ResidualArcs.{numbers, end_at, IsCosted}
 use Rattle.networks.specs.Residuals.{HasSizes, IsResidualNetwork, flow_of}
 use Rattle.shortest_paths.specs.declared.state.Nodes.{Nodes}
 use Rattle.shortest_paths.specs.declared.state.Search.{Search}
@@ -61,18 +61,20 @@ pub record IsAnswer (net : NetworkModel) (s : Solver) (sent : Bool) : Type 0 whe
 abbrev pub HasWorked : NetworkModel → Solver → Type 0
 HasWorked net s = IsWork net (flow_in s) (excess_at s) s.searches s.looks
 
--- units went along a path
+-- a solve goes on: it is between two searches, and the work that was done keeps its bounds
+pub record IsUnderWay (net : NetworkModel) (s : Solver) : Type 0 where
+  pub ready : IsReady net s
+  pub work : HasWorked net s
+
+-- units went along a path that a search found, and no more arcs than it looked at carry units anew
 pub record IsAugmented (net : NetworkModel) (s s' : Solver) : Type 0 where
   pub ready : IsReady net s'
   pub less : IsLess net (excess_at s) (excess_at s')
   pub carrying : carrying net (flow_in s') + s.looks ≤ carrying net (flow_in s) + s'.looks
-  pub looks : s'.looks ≤ s.looks + 2 * arc_count net
-  pub searches : s'.searches ≡ s.searches
 
 -- nothing is left over at a node any more, nor anew at any other
 pub record HasSentFrom (net : NetworkModel) (s s' : Solver) (source : ℕ) : Type 0 where
-  pub ready : IsReady net s'
-  pub work : HasWorked net s'
+  pub under_way : IsUnderWay net s'
   pub here : excess_at s' source ≤ℤ pos 0
   pub done : (v : ℕ) → v < node_count net → excess_at s v ≤ℤ pos 0 → excess_at s' v ≤ℤ pos 0
 
@@ -90,21 +92,50 @@ pub record CanAugment (net : NetworkModel) (s : Solver) (from : ℕ) : Type 0 wh
   pub left : pos 0 <ℤ excess_at s from
   pub wanting : excess_at s (end_at s.residual.arcs.items s.search.found) <ℤ pos 0
 
--- so many units can go along the path
-pub record IsBottleneck (s : Solver) (source amount : ℕ) : Type 0 where
-  pub some : 0 < amount
+-- units went along that path, and no more arcs than it has carry units anew
+pub record IsSentAlong (net : NetworkModel) (s s' : Solver) : Type 0 where
+  pub ready : IsReady net s'
+  pub less : IsLess net (excess_at s) (excess_at s')
+  pub carrying : carrying net (flow_in s') ≤ carrying net (flow_in s) + places s.search (last_node s) + 1
+
+-- so many units fit along the path, are left over where it starts, and are wanting where it ends
+pub record IsFitting (s : Solver) (source amount : ℕ) : Type 0 where
   pub found : amount ≤ numbers s.residual.room.items s.search.found
   pub left : pos amount ≤ℤ excess_at s source
   pub short : (excess_at s (end_at s.residual.arcs.items s.search.found) +ℤ pos amount) ≤ℤ pos 0
   pub fits : (v : ℕ) → IsOnWay (next_of s.residual.reverse.items s.residual.arcs.items s.search.enter.items) (places s.search) (last_node s) v → 0 < places s.search v → amount ≤ room_into s.residual.room.items s.search.enter.items v
 
--- so many units went along residual arc k
-pub record IsPushedAlong (net : NetworkModel) (r r' : Residual) (k amount : ℕ) : Type 0 where
-  pub residual : IsResidualNetwork net r'
+-- so many units can go along the path, and no more
+pub record IsBottleneck (s : Solver) (source amount : ℕ) : Type 0 where
+  pub some : 0 < amount
+  pub fitting : IsFitting s source amount
+  pub most : (k : ℕ) → IsFitting s source k → k ≤ amount
+
+-- ---- one residual arc
+
+-- a unit along residual arc k costs from -1 to 1
+abbrev pub HasUnitCost : Residual → ℕ → Type 0
+HasUnitCost r k = (z : ℤ) × (negsuc 0 ≤ℤ z) × (z ≤ℤ pos 1) × IsCosted r.arcs.items r.room.items k z
+
+-- residual arc k has a reverse, which is another one, and what fits along both together is a number of 32 bits
+pub record IsPaired (r : Residual) (k : ℕ) : Type 0 where
+  pub reverse : k < length r.reverse.items
+  pub here : (k < length r.arcs.items) × (k < length r.room.items)
+  pub there : (numbers r.reverse.items k < length r.arcs.items) × (numbers r.reverse.items k < length r.room.items)
+  pub apart : k ≢ numbers r.reverse.items k
+  pub cost : HasUnitCost r k
+  pub back_cost : HasUnitCost r (numbers r.reverse.items k)
+  pub room : numbers r.room.items k + numbers r.room.items (numbers r.reverse.items k) < 2 ^ 32
+
+-- so many units went along residual arc k: less fits along it, and as much more along its reverse
+pub record IsPushedAlong (r r' : Residual) (k amount : ℕ) : Type 0 where
   pub first : r'.first ≡ r.first
   pub reverse : r'.reverse ≡ r.reverse
   pub forward : r'.forward ≡ r.forward
+  pub arc_size : length r'.arcs.items ≡ length r.arcs.items
+  pub room_size : length r'.room.items ≡ length r.room.items
   pub ends : (j : ℕ) → end_at r'.arcs.items j ≡ end_at r.arcs.items j
+  pub costs : (j : ℕ) (z : ℤ) → IsCosted r.arcs.items r.room.items j z → IsCosted r'.arcs.items r'.room.items j z
   pub less : numbers r'.room.items k + amount ≡ numbers r.room.items k
   pub more : numbers r'.room.items (numbers r.reverse.items k) ≡ numbers r.room.items (numbers r.reverse.items k) + amount
   pub others : (j : ℕ) → j ≢ k → j ≢ numbers r.reverse.items k → numbers r'.room.items j ≡ numbers r.room.items j

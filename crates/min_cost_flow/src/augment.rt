@@ -1,41 +1,40 @@
-//! Augmenting along the path that a search found.
-ghost use Rattle.std.specs.Prelude.{◌≡◌, ◌<◌, ◌≤◌, ◌+◌, ℕ, length, pos, ◌≤ℤ◌, ◌<ℤ◌, ◌+ℤ◌};
-ghost use Rattle.networks.specs.Networks.{node_count, IsNetwork};
+//! Augmenting along the path that a search found (Ahuja, Magnanti and Orlin, Network Flows, 1993, section 9.7): as
+//! many units as fit, are left over where the path starts and are wanting where it ends.
+//!
+//! It goes over the residual arcs of the path twice, and takes no memory. Potentials stay: along the path reduced
+//! costs are 0, so the arcs back, which it opens, have reduced costs of 0 too. Amounts are at most 2,048 units.
+ghost use Rattle.std.specs.Prelude.{◌≡◌, ◌<◌, ◌≤◌, ℕ, length, pos, ◌≤ℤ◌, ◌<ℤ◌, ◌+ℤ◌};
+ghost use Rattle.networks.specs.Networks.{NetworkModel};
 ghost use Rattle.networks.specs.Flow.{at_nodes};
-ghost use Rattle.networks.specs.ResidualArcs.{numbers, end_at, StartsAt};
-ghost use Rattle.networks.specs.Residuals.{IsResidualNetwork};
-ghost use Rattle.shortest_paths.specs.Search.{places};
-ghost use Rattle.min_cost_flow.specs.Round.{IsLess, carrying};
-ghost use Rattle.min_cost_flow.specs.Stand.{excess_at, flow_in, last_node, IsReady, CanAugment, IsBottleneck, IsPushedAlong};
+ghost use Rattle.networks.specs.ResidualArcs.{numbers};
+ghost use Rattle.min_cost_flow.specs.Stand.{CanAugment, IsSentAlong, IsBottleneck, IsPaired, IsPushedAlong};
 
 use crate::state::Solver;
-use networks::{Network, Residual, move_units};
+use networks::{Residual, move_units};
 
 impl Solver {
     /// Augment: sends along the path as much as can go, at least one unit.
-    pub(crate) fn augment(&mut self, network: &Network, source: usize)
-        requires { CanAugment network.now self.old source }
-        ensures ready { IsReady network.now self.new }
-        ensures less { IsLess network.now (excess_at self.old) (excess_at self.new) }
+    pub(crate) fn augment(&mut self, source: usize)
+        requires { (net : NetworkModel) × CanAugment net self.old source }
+        ensures sent { (net : NetworkModel) → CanAugment net self.old source → IsSentAlong net self.old self.new }
         ensures work { (self.new.searches ≡ self.old.searches) × (self.new.looks ≡ self.old.looks) }
-        ensures carrying { carrying network.now (flow_in self.new) ≤ carrying network.now (flow_in self.old) + places self.old.search (last_node self.old) + 1 }
     {
-        let amount = self.bottleneck(network, source);
+        let amount = self.bottleneck(source);
         let found = self.search.found;
         let target = u32::from(self.residual.arcs[found].end);
         let mut node = self.residual.start(found);
         move_units(&mut self.nodes.excess, target, source as u32, amount);
-        push(&mut self.residual, network, found, amount);
+        push(&mut self.residual, found, amount);
         'along: while self.search.place[node] > 0 {
             let number = self.search.enter[node] as usize;
-            push(&mut self.residual, network, number, amount);
+            push(&mut self.residual, number, amount);
             node = self.residual.start(number);
         }
     }
 
     /// How much can go along the path: as much as fits, is left over at the source and is wanting at the end.
-    fn bottleneck(&self, network: &Network, source: usize) -> u32
-        requires { CanAugment network.now self.now source }
+    fn bottleneck(&self, source: usize) -> u32
+        requires { (net : NetworkModel) × CanAugment net self.now source }
         ensures { IsBottleneck self.now source result }
     {
         let found = self.search.found;
@@ -52,8 +51,7 @@ impl Solver {
     }
 }
 
-/// How much can go from one node to another: as much as is left over at the one and wanting at the
-/// other.
+/// How much can go from one node to another: as much as is left over at the one and wanting at the other.
 fn most_between(excess: &[i32], source: usize, target: usize) -> u32
     requires source { source < length excess.now }
     requires target { target < length excess.now }
@@ -62,6 +60,7 @@ fn most_between(excess: &[i32], source: usize, target: usize) -> u32
     ensures some { 0 < result }
     ensures left { pos result ≤ℤ at_nodes excess.now source }
     ensures wanting { (at_nodes excess.now target +ℤ pos result) ≤ℤ pos 0 }
+    ensures most { (k : ℕ) → pos k ≤ℤ at_nodes excess.now source → (at_nodes excess.now target +ℤ pos k) ≤ℤ pos 0 → k ≤ result }
 {
     excess[source]
         .unsigned_abs()
@@ -69,12 +68,10 @@ fn most_between(excess: &[i32], source: usize, target: usize) -> u32
 }
 
 /// Sends along a residual arc, and so makes room for as much along its reverse.
-fn push(residual: &mut Residual, network: &Network, number: usize, amount: u32)
-    requires network { IsNetwork network.now }
-    requires residual { IsResidualNetwork network.now residual.old }
-    requires number { (v : ℕ) × (v < node_count network.now) × StartsAt residual.old.first.items v number }
+fn push(residual: &mut Residual, number: usize, amount: u32)
+    requires pair { IsPaired residual.old number }
     requires fits { amount ≤ numbers residual.old.room.items number }
-    ensures { IsPushedAlong network.now residual.old residual.new number amount }
+    ensures { IsPushedAlong residual.old residual.new number amount }
 {
     let back = residual.reverse[number] as usize;
     let less = residual.room[number] - amount;

@@ -1,9 +1,13 @@
-//! Going on from the flow that is there after supplies have moved.
+//! Going on from the flow that is there after supplies have moved: successive shortest paths (Ahuja, Magnanti and
+//! Orlin, Network Flows, 1993, section 9.7) from the node that supplies more, under the potentials that stand.
+//!
+//! A move is of at most 2,048 units. It takes as many searches as units at most, each of which looks at each residual
+//! arc once at most, and no memory; where it solves from nothing, it takes as long as that.
 ghost use Rattle.std.specs.Prelude.{◌≡◌, ◌≢◌, ◌<◌, ◌≤◌, ◌+◌, ◌*◌, ℕ, length, pos, ◌≤ℤ◌, ◌+ℤ◌, ◌-ℤ◌, true};
 ghost use Rattle.networks.specs.declared.fault.TheConstants.{MAX_SUPPLY};
 ghost use Rattle.networks.specs.declared.network.TheConstants.{MAX_NODES};
 ghost use Rattle.min_cost_flow.specs.declared.resume.TheConstants.{MAX_CARRIED};
-ghost use Rattle.networks.specs.Networks.{node_count, HasFairSupplies, shifted};
+ghost use Rattle.networks.specs.Networks.{NetworkModel, node_count, HasFairSupplies, shifted};
 ghost use Rattle.networks.specs.Flow.{at_nodes};
 ghost use Rattle.networks.specs.ResidualArcs.{carried};
 ghost use Rattle.min_cost_flow.specs.Stand.{excess_at, IsReady, IsSettled, IsAnswer, CanRead};
@@ -37,19 +41,19 @@ impl Solver {
             return self.solve(network);
         }
         move_units(&mut self.nodes.excess, from, to, amount);
-        self.resend(network, from as usize)
+        self.resend(from as usize)
     }
 
     /// Sends all that is left over at the one node where there is something.
-    fn resend(&mut self, network: &Network, source: usize) -> bool
-        requires ready { IsReady network.now self.old }
-        requires source { source < node_count network.now }
-        requires others { (v : ℕ) → v < node_count network.now → v ≢ source → excess_at self.old v ≤ℤ pos 0 }
-        ensures { IsAnswer network.now self.new result }
+    fn resend(&mut self, source: usize) -> bool
+        requires ready { (net : NetworkModel) × IsReady net self.old }
+        requires source { source < length self.old.nodes.excess.items }
+        requires others { (v : ℕ) → v < length self.old.nodes.excess.items → v ≢ source → excess_at self.old v ≤ℤ pos 0 }
+        ensures { (net : NetworkModel) → IsReady net self.old → IsAnswer net self.new result }
     {
         'units: while self.nodes.excess[source] > 0 {
             self.looks = 0;
-            if !self.augment_once(network, source) {
+            if !self.augment_once(source) {
                 return false;
             }
         }

@@ -3,17 +3,17 @@
 //! potentials, and augment along the path.
 //!
 //! Networks have at most 1,024 nodes and 4,096 arcs of cost 0 or 1, and nodes supply or want at most 2,048
-//! units. Each search looks at each residual arc once at most and sends at least one unit, so all is done in as
-//! many searches as units are supplied. A search also goes over the nodes that wait, for each distance.
-ghost use Rattle.std.specs.Prelude.{◌≡◌, ◌≢◌, ◌<◌, ◌≤◌, ◌*◌, ◌^◌, ℕ, length, pos, ◌≤ℤ◌, ◌<ℤ◌, ◌-ℤ◌, IfOk, IfErr, true, false};
+//! units. Each search looks at each residual arc once at most and sends at least one unit, so all is done in at most
+//! as many searches as units are supplied. A search also goes over the nodes that wait, for each distance.
+ghost use Rattle.std.specs.Prelude.{◌≡◌, ◌≢◌, ◌<◌, ◌≤◌, ◌+◌, ◌*◌, ◌^◌, ℕ, length, pos, ◌≤ℤ◌, ◌<ℤ◌, ◌-ℤ◌, IfOk, IfErr, true, false};
 ghost use Rattle.networks.specs.declared.network.TheConstants.{MAX_NODES};
 ghost use Rattle.min_cost_flow.specs.declared.solver.SolveFault.TheVariants.{Memory};
-ghost use Rattle.networks.specs.Networks.{arc_count, node_count, IsNetwork};
+ghost use Rattle.networks.specs.Networks.{NetworkModel, arc_count, node_count, IsNetwork};
 ghost use Rattle.networks.specs.Flow.{amounts, at_nodes, HasNoFlow, Solves};
 ghost use Rattle.networks.specs.ResidualArcs.{carried};
 ghost use Rattle.shortest_paths.specs.Search.{labels, orders, IsPut, IsWithinFar};
 ghost use Rattle.min_cost_flow.specs.Round.{carrying, supply_sum, IsRoundDone, HasSupply, IsWithinReach};
-ghost use Rattle.min_cost_flow.specs.Stand.{excess_at, potential_at, flow_in, IsSized, IsReady, IsAnswer, HasWorked, HasSentFrom, IsAugmented, CanUpdate, HasOrder, CanRead, IsCleared};
+ghost use Rattle.min_cost_flow.specs.Stand.{excess_at, potential_at, flow_in, IsSized, IsReady, IsUnderWay, IsAnswer, HasSentFrom, IsAugmented, CanUpdate, HasOrder, CanRead, IsCleared};
 
 use crate::scratch::Scratch;
 use crate::solved::Solved;
@@ -105,7 +105,7 @@ impl Solver {
     {
         self.initialise(network);
         for source in 0..self.nodes.excess.len() {
-            if !self.send_all_from(network, source) {
+            if !self.send_all_from(source) {
                 return false;
             }
         }
@@ -116,8 +116,7 @@ impl Solver {
     /// was done.
     fn initialise(&mut self, network: &Network)
         requires { IsSized network.now self.old }
-        ensures ready { IsReady network.now self.new }
-        ensures work { HasWorked network.now self.new }
+        ensures { IsUnderWay network.now self.new }
     {
         write_all(&mut self.nodes.potential, 0);
         write_all(&mut self.search.label, FAR);
@@ -129,15 +128,14 @@ impl Solver {
     }
 
     /// Sends all that is left over at a node to where it is wanting; whether that can be done.
-    fn send_all_from(&mut self, network: &Network, source: usize) -> bool
-        requires ready { IsReady network.now self.old }
-        requires source { source < node_count network.now }
-        requires work { HasWorked network.now self.old }
-        ensures sent { result ≡ true → HasSentFrom network.now self.old self.new source }
-        ensures no_flow { result ≡ false → HasNoFlow network.now }
+    fn send_all_from(&mut self, source: usize) -> bool
+        requires under_way { (net : NetworkModel) × IsUnderWay net self.old }
+        requires source { source < length self.old.nodes.excess.items }
+        ensures sent { result ≡ true → (net : NetworkModel) → IsUnderWay net self.old → HasSentFrom net self.old self.new source }
+        ensures no_flow { result ≡ false → (net : NetworkModel) → IsUnderWay net self.old → HasNoFlow net }
     {
         'units: while self.nodes.excess[source] > 0 {
-            if !self.augment_once(network, source) {
+            if !self.augment_once(source) {
                 return false;
             }
             self.searches += 1;
@@ -147,13 +145,15 @@ impl Solver {
 
     /// Searches for a shortest path from a node where units are left over to one where units are wanting, updates
     /// the potentials and augments along it; whether there is one.
-    pub(crate) fn augment_once(&mut self, network: &Network, source: usize) -> bool
-        requires ready { IsReady network.now self.old }
-        requires source { source < node_count network.now }
+    pub(crate) fn augment_once(&mut self, source: usize) -> bool
+        requires ready { (net : NetworkModel) × IsReady net self.old }
+        requires source { source < length self.old.nodes.excess.items }
         requires left { pos 0 <ℤ excess_at self.old source }
         requires few { self.old.looks < 2 ^ 61 }
-        ensures augmented { result ≡ true → IsAugmented network.now self.old self.new }
-        ensures no_flow { result ≡ false → HasNoFlow network.now }
+        ensures augmented { result ≡ true → (net : NetworkModel) → IsReady net self.old → IsAugmented net self.old self.new }
+        ensures no_flow { result ≡ false → (net : NetworkModel) → IsReady net self.old → HasNoFlow net }
+        ensures looks { self.new.looks ≤ self.old.looks + length self.old.residual.arcs.items }
+        ensures searches { self.new.searches ≡ self.old.searches }
     {
         let ground = Ground {
             residual: &self.residual,
@@ -166,7 +166,7 @@ impl Solver {
         }
         update_potentials(&mut self.nodes, &self.search);
         clear(&mut self.search);
-        self.augment(network, source);
+        self.augment(source);
         true
     }
 }

@@ -78,7 +78,8 @@ impl Standing {
     /// # Errors
     /// `AllocError` where there is no memory for them.
     pub fn solved(&self, alloc: Global) -> Result<Solved, AllocError>
-        ensures { IfOk result (λ solved. Solves self.now solved) }
+        ensures solves { IfOk result (λ solved. Solves self.now solved) }
+        ensures work { IfOk result (λ solved. (solved.searches ≡ 0) × (solved.looks ≡ 0)) }
     {
         // Only the proof needs this: `node_count` says that the network is one.
         let _nodes = self.network.node_count();

@@ -1,6 +1,5 @@
 //! What the solver keeps of a network.
-ghost use Rattle.std.specs.Prelude.{◌≡◌, OnOk};
-ghost use Rattle.std.proofs.Math.ListN.{replicate};
+ghost use Rattle.std.specs.Prelude.{OnOk};
 ghost use Rattle.min_cost_flow.specs.Stand.{IsSized};
 
 use networks::{Network, Residual, ResidualArc};
@@ -8,7 +7,8 @@ use shortest_paths::{FAR, Nodes, Search};
 use std::alloc::{AllocError, Global};
 
 /// The residual network, what is known of each node, the last search, and how much work was done since the
-/// solver began: searches, and looks at residual arcs in them.
+/// solver began: searches, and looks at residual arcs in them. Where it goes on after a move, no searches are
+/// counted, and the looks of the last one alone.
 #[derive(Drop)]
 pub struct Solver {
     pub residual: Residual,
@@ -16,14 +16,6 @@ pub struct Solver {
     pub search: Search,
     pub searches: u32,
     pub looks: u64,
-}
-
-/// Makes a list so many copies of an item.
-fn refill<T: Copy + Drop>(list: &mut Vec<T>, item: T, count: usize) -> Result<(), AllocError>
-    ensures items { OnOk result (list.new.items ≡ replicate count item) }
-{
-    list.clear();
-    list.resize(count, item)
 }
 
 impl Solver {
@@ -60,24 +52,25 @@ impl Solver {
         }
     }
 
-    /// Gives each list the length that a network needs. Where memory is refused, some have it not.
+    /// Gives each list the length that a network needs. Where memory is refused, some have it not. What they hold
+    /// is of no use: a solve writes it anew.
     pub(crate) fn prepare(&mut self, network: &Network) -> Result<(), AllocError>
         ensures { OnOk result (IsSized network.now self.new) }
     {
         let nodes = network.node_count();
         let arcs = network.arc_count();
         let blank = ResidualArc { end: 0, cost: 0 };
-        refill(&mut self.residual.first, 0, nodes + 1)?;
-        refill(&mut self.residual.reverse, 0, 2 * arcs)?;
-        refill(&mut self.residual.forward, 0, arcs)?;
-        refill(&mut self.residual.arcs, blank, 2 * arcs)?;
-        refill(&mut self.residual.room, 0, 2 * arcs)?;
-        refill(&mut self.nodes.potential, 0, nodes)?;
-        refill(&mut self.nodes.excess, 0, nodes)?;
-        refill(&mut self.nodes.score, 0, nodes)?;
-        refill(&mut self.search.label, FAR, nodes)?;
-        refill(&mut self.search.enter, 0, nodes)?;
-        refill(&mut self.search.order, 0, nodes)?;
-        refill(&mut self.search.place, 0, nodes)
+        self.residual.first.resize(nodes + 1, 0)?;
+        self.residual.reverse.resize(2 * arcs, 0)?;
+        self.residual.forward.resize(arcs, 0)?;
+        self.residual.arcs.resize(2 * arcs, blank)?;
+        self.residual.room.resize(2 * arcs, 0)?;
+        self.nodes.potential.resize(nodes, 0)?;
+        self.nodes.excess.resize(nodes, 0)?;
+        self.nodes.score.resize(nodes, 0)?;
+        self.search.label.resize(nodes, FAR)?;
+        self.search.enter.resize(nodes, 0)?;
+        self.search.order.resize(nodes, 0)?;
+        self.search.place.resize(nodes, 0)
     }
 }

@@ -202,7 +202,8 @@ pub record IsNextLevel (g : Ground) (s : Search) (level : ℤ) : Type 0 where
   pub least : (j : ℕ) → s.ordered ≤ j → j < s.reached → level ≤ℤ (labels s (orders s j) -ℤ potential_of g (orders s j))
   pub some : (j : ℕ) × (s.ordered ≤ j) × (j < s.reached) × (level ≡ labels s (orders s j) -ℤ potential_of g (orders s j))
 
--- only the order of nodes has changed, and those that were scanned stay
+-- labels, the cut and what was scanned and reached are as they were; the order of the nodes that wait, how many of
+-- them are ordered and the level may have changed
 pub record IsOrdered (g : Ground) (s s' : Search) : Type 0 where
   pub search : IsSearch g s'
   pub kept : Keeps g s.head s s'

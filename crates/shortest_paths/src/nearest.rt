@@ -1,4 +1,8 @@
-//! The search for the nearest node where units are wanting.
+//! The search for the nearest node where units are wanting: Dijkstra's algorithm (1959) by reduced costs, which are
+//! at least 0 (Ahuja, Magnanti and Orlin, Network Flows, 1993, section 9.7), from one source, level by level.
+//!
+//! Networks have at most 1,024 nodes and 8,192 residual arcs of cost -1 to 1, so distances are small whole numbers.
+//! Each residual arc is looked at once at most. Beside that the nodes that wait are gone over at each level.
 ghost use Rattle.std.specs.Prelude.{◌≡◌, ◌⊎◌, ◌<◌, ◌≤◌, ◌+◌, ◌^◌, ℕ, length, pos, ◌≤ℤ◌, ◌<ℤ◌, ◌+ℤ◌, ◌-ℤ◌, true, false};
 ghost use Rattle.networks.specs.ResidualArcs.{StartsAt};
 ghost use Rattle.shortest_paths.specs.Search.{far, nodes_of, first_of, arcs_of, potential_of, excess_of, labels, orders, degree, looked, IsGround, IsSearch, IsBlank, Keeps, HasServed, HasLeft, Serves, IsNextLevel, IsOrdered, IsWaiting, IsScanning, IsRelaxed, IsWithinFar};

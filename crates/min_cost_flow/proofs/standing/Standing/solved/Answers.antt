@@ -13,8 +13,8 @@ read_flow-requires c =
     let forward : c.deref_mut.result.now ≡ s.solver.residual.forward.items = c.deref_mut.ensures.value ∙ same in
     rw (forward, c.deref-2.ensures.value, c.deref-3.ensures.value) (can_read s.network s.solver c.self.invariant.ready)
 
-pub returns : goal.returns
-returns c =
+pub returns-clause-solves : goal.returns-clause-solves
+returns-clause-solves c =
     let s = c.self.inside in
     let net = s.network in
     let st = c.self.invariant in
@@ -33,3 +33,6 @@ returns c =
     (ap (length {A = ℤ}) potential_is ∙ st.ready.potentials)
     carries
     (λ v. ap (λ (ps : List ℤ). at_nodes ps v) potential_is))
+
+pub returns-clause-work : goal.returns-clause-work
+returns-clause-work c = (ap (λ (a : SolvedModel). a.searches) c.new.ensures, ap (λ (a : SolvedModel). a.looks) c.new.ensures)

@@ -1,4 +1,4 @@
-use Rattle.std.proofs.Common.{◌≡◌, ◌≢◌, ◌<◌, ◌≤◌, ◌+◌, ℕ, true, List, length, pos, ◌+ℤ◌, refl, sym, ◌∙◌, ap, subst, arith}
+use Rattle.std.proofs.Common.{◌≡◌, ◌≢◌, ◌<◌, ◌≤◌, ◌+◌, ℕ, List, length, pos, ◌+ℤ◌, refl, sym, ◌∙◌, ap, subst, arith}
 use Rattle.std.specs.Prelude.{ℤ, ◌-ℤ◌}
 use Rattle.std.proofs.lemmas.List.{get_or_read, get_or-set_same, get_or-set_other, length-set, with_items_is}
 use Rattle.networks.specs.declared.residual.ResidualArc.{ResidualArc}
@@ -15,18 +15,12 @@ use Rattle.min_cost_flow.specs.Round.{carrying}
 use Rattle.min_cost_flow.specs.Stand.{excess_at, potential_at, flow_in, last_node, CanAugment, IsBottleneck}
 use Rattle.min_cost_flow.proofs.Changes.{taken_carries}
 use Rattle.min_cost_flow.proofs.Rounds.{IsSent, sent_round}
-use Rattle.min_cost_flow.proofs.Augmenting.{IsNumber, IsPushed, IsSending, is_number, was_pushed, own_step, own_last, own_end, way_first, way_more, still_fits, sending_first, sending_more, filled_caps, few_left, sent_all, sent_less}
+use Rattle.min_cost_flow.proofs.Augmenting.{IsPushed, IsSending, is_paired, was_pushed, pushed_network, own_step, own_last, own_end, last_pair, step_pair, way_first, way_more, still_fits, sending_first, sending_more, filled_caps, few_left, sent_all, sent_less}
 use Rattle.min_cost_flow.proofs.state.Solver.augment.Goals as goal
 
 -- where the path ends
 abbrev end_of_path : Solver → ℕ
 end_of_path s = end_at s.residual.arcs.items s.search.found
-
-last_number : (net : NetworkModel) (s : Solver) (source : ℕ) → CanAugment net s source → IsNumber net s.residual s.search.found
-last_number net s source h = let l = own_last net s source h in is_number net s.residual (last_node s) s.search.found h.ready.network h.ready.residual l.node l.leaves
-
-step_number : (net : NetworkModel) (s : Solver) (source v : ℕ) → (h : CanAugment net s source) → h.path.on v ≡ true → 0 < places s.search v → IsNumber net s.residual (numbers s.search.enter.items v)
-step_number net s source v h on some = let l = own_step net s source h v on some in is_number net s.residual (next_of s.residual.reverse.items s.residual.arcs.items s.search.enter.items v) (numbers s.search.enter.items v) h.ready.network h.ready.residual l.node l.leaves
 
 raised_here : (es : List ℤ) (v k : ℕ) → v < length es → at_nodes (raised es v k) v ≡ at_nodes es v +ℤ pos k
 raised_here es v k b = get_or-set_same es v (at_nodes es v +ℤ pos k) (pos 0) b
@@ -43,7 +37,7 @@ own_sent net s source k arcs room h b filled carries grown =
     let tb : to < length es = omega (arith, h.ready.excesses, own_end net s source h) in
     let long : length es' ≡ length es = length-set es to (at_nodes es to +ℤ pos k) in
     let sb : source < length es' = omega (arith, h.ready.excesses, h.source) in
-    sent_all net (flow_in s) (carried s.residual.reverse.items s.residual.forward.items room) (excess_at s) (at_nodes es') (at_nodes (moved es to source k)) source to k h.source h.left h.wanting b.left b.short
+    sent_all net (flow_in s) (carried s.residual.reverse.items s.residual.forward.items room) (excess_at s) (at_nodes es') (at_nodes (moved es to source k)) source to k h.source h.left h.wanting b.fitting.left b.fitting.short
     (filled_caps net s.residual.reverse.items s.residual.forward.items arcs room filled) carries
     (raised_here es to k tb) (raised_others es to k)
     (get_or-set_same es' source (at_nodes es' source -ℤ pos k) (pos 0) sb)
@@ -51,50 +45,41 @@ own_sent net s source k arcs room h b filled carries grown =
     grown
 
 pub index-requires : goal.index-requires
-index-requires c = omega (arith, (last_number c.args.network.now c.args.self.now c.args.source c.requires).here, c.requires.ready.residual.filled.arc_size)
+index-requires c = omega (arith, (last_pair c.requires.0 c.args.self.now c.args.source c.requires.1).here)
 
 pub start-node-requires : goal.start-node-requires
 start-node-requires c =
-    let n : IsNumber c.args.network.now c.args.self.now.residual c.args.self.now.search.found = last_number c.args.network.now c.args.self.now c.args.source c.requires in
-    record {
-      number = omega (arith, n.here, c.requires.ready.residual.laid_out.reverses);
-      reverse = omega (arith, n.back, c.requires.ready.residual.filled.arc_size);
-    }
+    let n = last_pair c.requires.0 c.args.self.now c.args.source c.requires.1 in
+    record { number = n.reverse; reverse = n.there.0 }
 
 pub move_units-requires : goal.move_units-requires
 move_units-requires c =
-    let net = c.args.network.now in
+    let net = c.requires.0 in
     let s = c.args.self.now in
-    let h = c.requires in
+    let h = c.requires.1 in
     let r = h.ready in
     let b = c.bottleneck-amount.ensures in
     let m = c.deref_mut.ensures.value in
-    let n : IsNumber net s.residual s.search.found = last_number net s c.args.source h in
-    let target : c.from-target.result ≡ end_of_path s = c.from-target.ensures ∙ ap (λ (a : ResidualArc). a.end) (get_or_read s.residual.arcs.items s.search.found c.index.result.now (omega (arith, n.here, r.residual.filled.arc_size)) c.index.ensures no_residual_arc) in
+    let n = last_pair net s c.args.source h in
+    let target : c.from-target.result ≡ end_of_path s = c.from-target.ensures ∙ ap (λ (a : ResidualArc). a.end) (get_or_read s.residual.arcs.items s.search.found c.index.result.now n.here.0 c.index.ensures no_residual_arc) in
     record {
       from = rw (m, target) (omega (arith, r.excesses, own_end net s c.args.source h));
       to = rw m (omega (arith, r.excesses, h.source));
-      few = few_left (excess_at s c.args.source) c.bottleneck-amount.result b.left (r.round.fair c.args.source h.source).1;
+      few = few_left (excess_at s c.args.source) c.bottleneck-amount.result b.fitting.left (r.round.fair c.args.source h.source).1;
       low = rw m (λ v d. (r.round.fair v (omega (arith, r.excesses))).0);
       high = rw m (λ v d. (r.round.fair v (omega (arith, r.excesses))).1);
     }
 
 pub push-requires : goal.push-requires
 push-requires c =
-    let l = own_last c.args.network.now c.args.self.now c.args.source c.requires in
     record {
-      network = c.requires.ready.network;
-      residual = c.requires.ready.residual;
-      number = (last_node c.args.self.now, l.node, l.leaves);
-      fits = c.bottleneck-amount.ensures.found;
+      pair = last_pair c.requires.0 c.args.self.now c.args.source c.requires.1;
+      fits = c.bottleneck-amount.ensures.fitting.found;
     }
 
 pub along-init : goal.along-init
 along-init c =
-    let net = c.args.network.now in
     let s = c.args.self.now in
-    let h = c.requires in
-    let r = h.ready in
     let k = c.bottleneck-amount.result in
     let q = c.push.ensures in
     let first = s.residual.first.items in
@@ -109,13 +94,10 @@ along-init c =
     let to = end_of_path s in
     let e = at_nodes (raised es to k) in
     let at : c.start-node.result ≡ from = c.start-node.ensures in
-    let l = own_last net s c.args.source h in
-    let tb : to < length es = omega (arith, r.excesses, own_end net s c.args.source h) in
-    let taken : Carries net (flow_in s) e to k = taken_carries net (flow_in s) (excess_at s) e to k r.round.leaves (raised_here es to k tb) (raised_others es to k) in
-    let pushed : IsPushed reverse arcs c.push.new.residual.arcs.items room c.push.new.residual.room.items s.search.found k = was_pushed net s.residual c.push.new.residual s.search.found k q in
+    let pushed : IsPushed reverse arcs c.push.new.residual.arcs.items room c.push.new.residual.room.items s.search.found k = was_pushed s.residual c.push.new.residual s.search.found k q in
     record {
-      node = subst (λ (t : ℕ). t < node_count net) (sym at) l.node;
-      residual = q.residual;
+      node = λ net h. subst (λ (t : ℕ). t < node_count net) (sym at) (own_last net s c.args.source h).node;
+      residual = λ net h. let l = own_last net s c.args.source h in pushed_network net s.residual c.push.new.residual from s.search.found k h.ready.residual l.node l.leaves q;
       first = q.first;
       reverse = q.reverse;
       forward = q.forward;
@@ -124,27 +106,33 @@ along-init c =
       search = refl;
       searches = refl;
       looks = refl;
-      on = λ g. ap g.path.on at ∙ (own_last net s c.args.source g).member;
+      on = λ net h. ap h.path.on at ∙ (own_last net s c.args.source h).member;
       way = subst (λ (t : ℕ). IsOnWay next place from t) (sym at) (way_first next place from);
-      sending = λ g. rw (q.reverse, q.forward) (subst (λ (t : ℕ). IsSending net (potential_at s) e g.path.on place (flow_in s) (carried reverse forward c.push.new.residual.room.items) t k (carrying net (flow_in s) + place from + 1)) (sym at)
-          (sending_first net first reverse forward arcs c.push.new.residual.arcs.items room c.push.new.residual.room.items (potential_at s) e g.path.on place from s.search.found to k r.residual.laid_out (own_last net s c.args.source g).link g.path.off taken r.round.priced pushed));
+      sending = λ net h.
+          let r = h.ready in
+          let tb : to < length es = omega (arith, r.excesses, own_end net s c.args.source h) in
+          let taken : Carries net (flow_in s) e to k = taken_carries net (flow_in s) (excess_at s) e to k r.round.leaves (raised_here es to k tb) (raised_others es to k) in
+          rw (q.reverse, q.forward) (subst (λ (t : ℕ). IsSending net (potential_at s) e h.path.on place (flow_in s) (carried reverse forward c.push.new.residual.room.items) t k (carrying net (flow_in s) + place from + 1)) (sym at)
+          (sending_first net first reverse forward arcs c.push.new.residual.arcs.items room c.push.new.residual.room.items (potential_at s) e h.path.on place from s.search.found to k r.residual.laid_out (own_last net s c.args.source h).link h.path.off taken r.round.priced pushed));
     }
 
 pub index-requires-in-along : goal.index-requires-in-along
 index-requires-in-along c =
     let i = c.along.invariant in
-    rw i.search (omega (arith, i.node, c.requires.ready.labels, c.requires.ready.even.places))
+    let h = c.requires.1 in
+    rw i.search (omega (arith, i.node c.requires.0 h, h.ready.labels, h.ready.even.places))
 
 pub index-requires-in-along-2 : goal.index-requires-in-along-2
 index-requires-in-along-2 c =
     let i = c.along.invariant in
-    rw i.search (omega (arith, i.node, c.requires.ready.labels, c.requires.ready.even.enters))
+    let h = c.requires.1 in
+    rw i.search (omega (arith, i.node c.requires.0 h, h.ready.labels, h.ready.even.enters))
 
 pub push-requires-in-along : goal.push-requires-in-along
 push-requires-in-along c =
-    let net = c.args.network.now in
+    let net = c.requires.0 in
     let s = c.args.self.now in
-    let h = c.requires in
+    let h = c.requires.1 in
     let r = h.ready in
     let i = c.along.invariant in
     let v = c.along.node in
@@ -154,10 +142,10 @@ push-requires-in-along c =
     let enter = numbers s.search.enter.items in
     let size : length s.search.place.items ≡ node_count net = r.even.places ∙ r.labels in
     let wide : length s.search.enter.items ≡ node_count net = r.even.enters ∙ r.labels in
-    let pl : c.index-in-along.result.now ≡ place v = rw i.search at (get_or_read t.search.place.items v c.index-in-along.result.now (rw i.search (omega (arith, i.node))) c.index-in-along.ensures 0) in
+    let pl : c.index-in-along.result.now ≡ place v = rw i.search at (get_or_read t.search.place.items v c.index-in-along.result.now (rw i.search (omega (arith, i.node net h))) c.index-in-along.ensures 0) in
     let some : 0 < place v = omega (arith, c.along-test.true) in
-    let en : c.index-in-along-2.result.now ≡ enter v = rw i.search at (get_or_read t.search.enter.items v c.index-in-along-2.result.now (rw i.search (omega (arith, i.node))) c.index-in-along-2.ensures 0) in
-    let st = own_step net s c.args.source h v (i.on h) some in
+    let en : c.index-in-along-2.result.now ≡ enter v = rw i.search at (get_or_read t.search.enter.items v c.index-in-along-2.result.now (rw i.search (omega (arith, i.node net h))) c.index-in-along-2.ensures 0) in
+    let st = own_step net s c.args.source h v (i.on net h) some in
     let first = s.residual.first.items in
     let reverse = s.residual.reverse.items in
     let forward = s.residual.forward.items in
@@ -167,19 +155,17 @@ push-requires-in-along c =
     let to = end_of_path s in
     let e = at_nodes (raised s.nodes.excess.items to k) in
     let most = carrying net (flow_in s) + place from + 1 in
-    let fits : k ≤ numbers t.residual.room.items (enter v) = still_fits net reverse forward arcs t.residual.arcs.items room t.residual.room.items (potential_at s) e h.path.on place (next_of reverse arcs s.search.enter.items v) (enter v) v k most r.residual.filled (rw (i.reverse, i.forward) at i.residual.filled) st.link st.member (i.on h) st.before (rw (i.reverse, i.forward) at (i.sending h)) (c.bottleneck-amount.ensures.fits v i.way some) in
+    let fits : k ≤ numbers t.residual.room.items (enter v) = still_fits net reverse forward arcs t.residual.arcs.items room t.residual.room.items (potential_at s) e h.path.on place (next_of reverse arcs s.search.enter.items v) (enter v) v k most r.residual.filled (rw (i.reverse, i.forward) at (i.residual net h).filled) st.link st.member (i.on net h) st.before (rw (i.reverse, i.forward) at (i.sending net h)) (c.bottleneck-amount.ensures.fitting.fits v i.way some) in
     rw en (record {
-      network = r.network;
-      residual = i.residual;
-      number = (next_of reverse arcs s.search.enter.items v, st.node, rw i.first st.leaves);
+      pair = is_paired net t.residual (next_of reverse arcs s.search.enter.items v) (enter v) r.network (i.residual net h) st.node (rw i.first st.leaves);
       fits = fits;
     })
 
 pub start-node-requires-in-along : goal.start-node-requires-in-along
 start-node-requires-in-along c =
-    let net = c.args.network.now in
+    let net = c.requires.0 in
     let s = c.args.self.now in
-    let h = c.requires in
+    let h = c.requires.1 in
     let r = h.ready in
     let i = c.along.invariant in
     let v = c.along.node in
@@ -189,22 +175,22 @@ start-node-requires-in-along c =
     let enter = numbers s.search.enter.items in
     let size : length s.search.place.items ≡ node_count net = r.even.places ∙ r.labels in
     let wide : length s.search.enter.items ≡ node_count net = r.even.enters ∙ r.labels in
-    let pl : c.index-in-along.result.now ≡ place v = rw i.search at (get_or_read t.search.place.items v c.index-in-along.result.now (rw i.search (omega (arith, i.node))) c.index-in-along.ensures 0) in
+    let pl : c.index-in-along.result.now ≡ place v = rw i.search at (get_or_read t.search.place.items v c.index-in-along.result.now (rw i.search (omega (arith, i.node net h))) c.index-in-along.ensures 0) in
     let some : 0 < place v = omega (arith, c.along-test.true) in
-    let en : c.index-in-along-2.result.now ≡ enter v = rw i.search at (get_or_read t.search.enter.items v c.index-in-along-2.result.now (rw i.search (omega (arith, i.node))) c.index-in-along-2.ensures 0) in
-    let st = own_step net s c.args.source h v (i.on h) some in
+    let en : c.index-in-along-2.result.now ≡ enter v = rw i.search at (get_or_read t.search.enter.items v c.index-in-along-2.result.now (rw i.search (omega (arith, i.node net h))) c.index-in-along-2.ensures 0) in
+    let st = own_step net s c.args.source h v (i.on net h) some in
     let q = c.push-in-along.ensures in
-    let n : IsNumber net s.residual (enter v) = step_number net s c.args.source v h (i.on h) some in
+    let n = step_pair net s c.args.source v h (i.on net h) some in
     rw (en, q.reverse, i.reverse) (record {
-      number = omega (arith, n.here, r.residual.laid_out.reverses);
-      reverse = omega (arith, n.back, q.residual.filled.arc_size);
+      number = n.reverse;
+      reverse = omega (arith, n.there, r.residual.filled.arc_size, q.arc_size, (i.residual net h).filled.arc_size);
     })
 
 pub along-smaller : goal.along-smaller
 along-smaller c =
-    let net = c.args.network.now in
+    let net = c.requires.0 in
     let s = c.args.self.now in
-    let h = c.requires in
+    let h = c.requires.1 in
     let r = h.ready in
     let i = c.along.invariant in
     let v = c.along.node in
@@ -214,10 +200,10 @@ along-smaller c =
     let enter = numbers s.search.enter.items in
     let size : length s.search.place.items ≡ node_count net = r.even.places ∙ r.labels in
     let wide : length s.search.enter.items ≡ node_count net = r.even.enters ∙ r.labels in
-    let pl : c.index-in-along.result.now ≡ place v = rw i.search at (get_or_read t.search.place.items v c.index-in-along.result.now (rw i.search (omega (arith, i.node))) c.index-in-along.ensures 0) in
+    let pl : c.index-in-along.result.now ≡ place v = rw i.search at (get_or_read t.search.place.items v c.index-in-along.result.now (rw i.search (omega (arith, i.node net h))) c.index-in-along.ensures 0) in
     let some : 0 < place v = omega (arith, c.along-test.true) in
-    let en : c.index-in-along-2.result.now ≡ enter v = rw i.search at (get_or_read t.search.enter.items v c.index-in-along-2.result.now (rw i.search (omega (arith, i.node))) c.index-in-along-2.ensures 0) in
-    let st = own_step net s c.args.source h v (i.on h) some in
+    let en : c.index-in-along-2.result.now ≡ enter v = rw i.search at (get_or_read t.search.enter.items v c.index-in-along-2.result.now (rw i.search (omega (arith, i.node net h))) c.index-in-along-2.ensures 0) in
+    let st = own_step net s c.args.source h v (i.on net h) some in
     let q = c.push-in-along.ensures in
     let j = numbers s.residual.reverse.items (enter v) in
     let at : c.start-node-in-along.result ≡ end_at s.residual.arcs.items j = rw (en, q.reverse, i.reverse) at c.start-node-in-along.ensures ∙ q.ends j ∙ i.ends j in
@@ -225,9 +211,9 @@ along-smaller c =
 
 pub along-preserved : goal.along-preserved
 along-preserved c =
-    let net = c.args.network.now in
+    let net = c.requires.0 in
     let s = c.args.self.now in
-    let h = c.requires in
+    let h = c.requires.1 in
     let r = h.ready in
     let i = c.along.invariant in
     let v = c.along.node in
@@ -237,10 +223,10 @@ along-preserved c =
     let enter = numbers s.search.enter.items in
     let size : length s.search.place.items ≡ node_count net = r.even.places ∙ r.labels in
     let wide : length s.search.enter.items ≡ node_count net = r.even.enters ∙ r.labels in
-    let pl : c.index-in-along.result.now ≡ place v = rw i.search at (get_or_read t.search.place.items v c.index-in-along.result.now (rw i.search (omega (arith, i.node))) c.index-in-along.ensures 0) in
+    let pl : c.index-in-along.result.now ≡ place v = rw i.search at (get_or_read t.search.place.items v c.index-in-along.result.now (rw i.search (omega (arith, i.node net h))) c.index-in-along.ensures 0) in
     let some : 0 < place v = omega (arith, c.along-test.true) in
-    let en : c.index-in-along-2.result.now ≡ enter v = rw i.search at (get_or_read t.search.enter.items v c.index-in-along-2.result.now (rw i.search (omega (arith, i.node))) c.index-in-along-2.ensures 0) in
-    let st = own_step net s c.args.source h v (i.on h) some in
+    let en : c.index-in-along-2.result.now ≡ enter v = rw i.search at (get_or_read t.search.enter.items v c.index-in-along-2.result.now (rw i.search (omega (arith, i.node net h))) c.index-in-along-2.ensures 0) in
+    let st = own_step net s c.args.source h v (i.on net h) some in
     let first = s.residual.first.items in
     let reverse = s.residual.reverse.items in
     let forward = s.residual.forward.items in
@@ -255,10 +241,10 @@ along-preserved c =
     let next = next_of reverse arcs s.search.enter.items in
     let j = numbers reverse (enter v) in
     let at : c.start-node-in-along.result ≡ end_at arcs j = rw (en, q.reverse, i.reverse) at c.start-node-in-along.ensures ∙ q.ends j ∙ i.ends j in
-    let pushed : IsPushed reverse t.residual.arcs.items new.arcs.items t.residual.room.items new.room.items (enter v) k = rw (en, i.reverse) at (was_pushed net t.residual new c.index-in-along-2.result.now k q) in
+    let pushed : IsPushed reverse t.residual.arcs.items new.arcs.items t.residual.room.items new.room.items (enter v) k = rw (en, i.reverse) at (was_pushed t.residual new c.index-in-along-2.result.now k q) in
     record {
-      node = subst (λ (u : ℕ). u < node_count net) (sym at) st.node;
-      residual = q.residual;
+      node = λ net' g. subst (λ (u : ℕ). u < node_count net') (sym at) (own_step net' s c.args.source g v (i.on net' g) some).node;
+      residual = λ net' g. let l = own_step net' s c.args.source g v (i.on net' g) some in pushed_network net' t.residual new (next v) (enter v) k (i.residual net' g) l.node (rw i.first l.leaves) (rw en at q);
       first = q.first ∙ i.first;
       reverse = q.reverse ∙ i.reverse;
       forward = q.forward ∙ i.forward;
@@ -267,18 +253,18 @@ along-preserved c =
       search = i.search;
       searches = i.searches;
       looks = i.looks;
-      on = λ g. ap g.path.on at ∙ (own_step net s c.args.source g v (i.on g) some).member;
+      on = λ net' g. ap g.path.on at ∙ (own_step net' s c.args.source g v (i.on net' g) some).member;
       way = subst (λ (u : ℕ). IsOnWay next place from u) (sym at) (way_more next place from v i.way some);
-      sending = λ g. let l = own_step net s c.args.source g v (i.on g) some in
-          rw (q.reverse, i.reverse, q.forward, i.forward) (subst (λ (u : ℕ). IsSending net (potential_at s) e g.path.on place (flow_in s) (carried reverse forward new.room.items) u k most) (sym at)
-          (sending_more net first reverse forward room t.residual.arcs.items new.arcs.items t.residual.room.items new.room.items (potential_at s) e g.path.on place (end_at arcs j) (enter v) v k most r.residual.laid_out l.link l.member (i.on g) l.before (rw (i.reverse, i.forward) at (i.sending g)) pushed));
+      sending = λ net' g.
+          let l = own_step net' s c.args.source g v (i.on net' g) some in
+          let most' = carrying net' (flow_in s) + place from + 1 in
+          rw (q.reverse, i.reverse, q.forward, i.forward) (subst (λ (u : ℕ). IsSending net' (potential_at s) e g.path.on place (flow_in s) (carried reverse forward new.room.items) u k most') (sym at)
+          (sending_more net' first reverse forward room t.residual.arcs.items new.arcs.items t.residual.room.items new.room.items (potential_at s) e g.path.on place (end_at arcs j) (enter v) v k most' g.ready.residual.laid_out l.link l.member (i.on net' g) l.before (rw (i.reverse, i.forward) at (i.sending net' g)) pushed));
     }
 
-pub returns-clause-ready : goal.returns-clause-ready
-returns-clause-ready c =
-    let net = c.args.network.now in
+pub returns-clause-sent : goal.returns-clause-sent
+returns-clause-sent c net h =
     let s = c.args.self.now in
-    let h = c.requires in
     let r = h.ready in
     let i = c.along.invariant in
     let v = c.along.node in
@@ -288,7 +274,7 @@ returns-clause-ready c =
     let enter = numbers s.search.enter.items in
     let size : length s.search.place.items ≡ node_count net = r.even.places ∙ r.labels in
     let wide : length s.search.enter.items ≡ node_count net = r.even.enters ∙ r.labels in
-    let pl : c.index-in-along.result.now ≡ place v = rw i.search at (get_or_read t.search.place.items v c.index-in-along.result.now (rw i.search (omega (arith, i.node))) c.index-in-along.ensures 0) in
+    let pl : c.index-in-along.result.now ≡ place v = rw i.search at (get_or_read t.search.place.items v c.index-in-along.result.now (rw i.search (omega (arith, i.node net h))) c.index-in-along.ensures 0) in
     let first = s.residual.first.items in
     let reverse = s.residual.reverse.items in
     let forward = s.residual.forward.items in
@@ -299,74 +285,33 @@ returns-clause-ready c =
     let e = at_nodes (raised s.nodes.excess.items to k) in
     let most = carrying net (flow_in s) + place from + 1 in
     let none : place v ≡ 0 = omega (arith, c.along-test.false) in
-    let at : v ≡ c.args.source = h.path.root v (i.on h) none in
-    let sd = rw (i.reverse, i.forward) at (i.sending h) in
+    let at : v ≡ c.args.source = h.path.root v (i.on net h) none in
+    let sd = rw (i.reverse, i.forward) at (i.sending net h) in
     let y = carried reverse forward t.residual.room.items in
     let carries : Carries net y e c.args.source k = subst (λ (u : ℕ). Carries net y e u k) at sd.carries in
-    let sent : IsSent net (flow_in s) y (excess_at s) (at_nodes (moved s.nodes.excess.items to c.args.source k)) c.args.source k = own_sent net s c.args.source k t.residual.arcs.items t.residual.room.items h c.bottleneck-amount.ensures (rw (i.reverse, i.forward) at i.residual.filled) carries sd.grown in
-    let n : IsNumber net s.residual s.search.found = last_number net s c.args.source h in
-    let target : c.from-target.result ≡ to = c.from-target.ensures ∙ ap (λ (a : ResidualArc). a.end) (get_or_read arcs s.search.found c.index.result.now (omega (arith, n.here, r.residual.filled.arc_size)) c.index.ensures no_residual_arc) in
+    let sent : IsSent net (flow_in s) y (excess_at s) (at_nodes (moved s.nodes.excess.items to c.args.source k)) c.args.source k = own_sent net s c.args.source k t.residual.arcs.items t.residual.room.items h c.bottleneck-amount.ensures (rw (i.reverse, i.forward) at (i.residual net h).filled) carries sd.grown in
+    let n = last_pair net s c.args.source h in
+    let target : c.from-target.result ≡ to = c.from-target.ensures ∙ ap (λ (a : ResidualArc). a.end) (get_or_read arcs s.search.found c.index.result.now n.here.0 c.index.ensures no_residual_arc) in
     let units = c.move_units.new.units in
     let value : units ≡ moved s.nodes.excess.items to c.args.source k = rw (c.deref_mut.ensures.value, target) at c.move_units.ensures in
     let excess_is : t.nodes.excess.items ≡ moved s.nodes.excess.items to c.args.source k = ap (λ (m : Nodes). m.excess.items) i.nodes ∙ with_items_is s.nodes.excess units (omega arith) ∙ value in
     let potential_is : t.nodes.potential ≡ s.nodes.potential = ap (λ (m : Nodes). m.potential) i.nodes in
     let score_is : t.nodes.score ≡ s.nodes.score = ap (λ (m : Nodes). m.score) i.nodes in
     record {
-      network = r.network;
-      residual = i.residual;
-      potentials = rw potential_is r.potentials;
-      excesses = rw excess_is (length-moved s.nodes.excess.items to c.args.source k ∙ r.excesses);
-      scores = rw score_is r.scores;
-      labels = rw i.search r.labels;
-      even = rw i.search r.even;
-      round = rw (i.reverse, i.forward, potential_is, excess_is) (sent_round net (flow_in s) y (potential_at s) (excess_at s) (at_nodes (moved s.nodes.excess.items to c.args.source k)) c.args.source k sent sd.priced r.round);
-      blank = rw i.search r.blank;
+      ready = record {
+        network = r.network;
+        residual = i.residual net h;
+        potentials = rw potential_is r.potentials;
+        excesses = rw excess_is (length-moved s.nodes.excess.items to c.args.source k ∙ r.excesses);
+        scores = rw score_is r.scores;
+        labels = rw i.search r.labels;
+        even = rw i.search r.even;
+        round = rw (i.reverse, i.forward, potential_is, excess_is) (sent_round net (flow_in s) y (potential_at s) (excess_at s) (at_nodes (moved s.nodes.excess.items to c.args.source k)) c.args.source k sent sd.priced r.round);
+        blank = rw i.search r.blank;
+      };
+      less = rw excess_is (sent_less net (flow_in s) y (excess_at s) (at_nodes (moved s.nodes.excess.items to c.args.source k)) c.args.source k sent c.bottleneck-amount.ensures.some);
+      carrying = rw (i.reverse, i.forward) (omega (arith, sd.few));
     }
-
-pub returns-clause-less : goal.returns-clause-less
-returns-clause-less c =
-    let net = c.args.network.now in
-    let s = c.args.self.now in
-    let h = c.requires in
-    let r = h.ready in
-    let i = c.along.invariant in
-    let v = c.along.node in
-    let t = c.along.self in
-    let k = c.bottleneck-amount.result in
-    let place = places s.search in
-    let enter = numbers s.search.enter.items in
-    let size : length s.search.place.items ≡ node_count net = r.even.places ∙ r.labels in
-    let wide : length s.search.enter.items ≡ node_count net = r.even.enters ∙ r.labels in
-    let pl : c.index-in-along.result.now ≡ place v = rw i.search at (get_or_read t.search.place.items v c.index-in-along.result.now (rw i.search (omega (arith, i.node))) c.index-in-along.ensures 0) in
-    let first = s.residual.first.items in
-    let reverse = s.residual.reverse.items in
-    let forward = s.residual.forward.items in
-    let arcs = s.residual.arcs.items in
-    let room = s.residual.room.items in
-    let from = last_node s in
-    let to = end_of_path s in
-    let e = at_nodes (raised s.nodes.excess.items to k) in
-    let most = carrying net (flow_in s) + place from + 1 in
-    let none : place v ≡ 0 = omega (arith, c.along-test.false) in
-    let at : v ≡ c.args.source = h.path.root v (i.on h) none in
-    let sd = rw (i.reverse, i.forward) at (i.sending h) in
-    let y = carried reverse forward t.residual.room.items in
-    let carries : Carries net y e c.args.source k = subst (λ (u : ℕ). Carries net y e u k) at sd.carries in
-    let sent : IsSent net (flow_in s) y (excess_at s) (at_nodes (moved s.nodes.excess.items to c.args.source k)) c.args.source k = own_sent net s c.args.source k t.residual.arcs.items t.residual.room.items h c.bottleneck-amount.ensures (rw (i.reverse, i.forward) at i.residual.filled) carries sd.grown in
-    let n : IsNumber net s.residual s.search.found = last_number net s c.args.source h in
-    let target : c.from-target.result ≡ to = c.from-target.ensures ∙ ap (λ (a : ResidualArc). a.end) (get_or_read arcs s.search.found c.index.result.now (omega (arith, n.here, r.residual.filled.arc_size)) c.index.ensures no_residual_arc) in
-    let units = c.move_units.new.units in
-    let value : units ≡ moved s.nodes.excess.items to c.args.source k = rw (c.deref_mut.ensures.value, target) at c.move_units.ensures in
-    let excess_is : t.nodes.excess.items ≡ moved s.nodes.excess.items to c.args.source k = ap (λ (m : Nodes). m.excess.items) i.nodes ∙ with_items_is s.nodes.excess units (omega arith) ∙ value in
-    let potential_is : t.nodes.potential ≡ s.nodes.potential = ap (λ (m : Nodes). m.potential) i.nodes in
-    let score_is : t.nodes.score ≡ s.nodes.score = ap (λ (m : Nodes). m.score) i.nodes in
-    rw excess_is (sent_less net (flow_in s) y (excess_at s) (at_nodes (moved s.nodes.excess.items to c.args.source k)) c.args.source k sent c.bottleneck-amount.ensures.some)
 
 pub returns-clause-work : goal.returns-clause-work
 returns-clause-work c = (c.along.invariant.searches, c.along.invariant.looks)
-
-pub returns-clause-carrying : goal.returns-clause-carrying
-returns-clause-carrying c =
-    let i = c.along.invariant in
-    let sd = rw (i.reverse, i.forward) at (i.sending c.requires) in
-    rw (i.reverse, i.forward) (omega (arith, sd.few))

@@ -1,21 +1,20 @@
-use Rattle.std.proofs.Common.{rules, ◌≡◌, ◌≤◌, ℕ, length, arith, sym, ◌∙◌, ap, subst}
+use Rattle.std.proofs.Common.{rules, refl, ◌≡◌, ◌≤◌, ◌<◌, ℕ, length, arith, sym, ◌∙◌, ap, subst}
 use Rattle.std.specs.Prelude.{◌<ℤ◌}
 use mir.Syntax.{w32}
 use mir.Val.{SFits, of_z}
 use Rattle.networks.specs.Networks.{node_count}
 use Rattle.networks.specs.Flow.{at_nodes}
 use Rattle.shortest_paths.specs.Search.{far, labels, enters, orders, places, IsGraph, IsPriced, IsReached, IsNearest, IsServed, IsLeft}
-use Rattle.min_cost_flow.specs.Path.{HasPath}
 use Rattle.shortest_paths.proofs.Signs.{same_from_bits}
 use Rattle.shortest_paths.proofs.Reaching.{strictly, reached_fits}
-use Rattle.min_cost_flow.proofs.Solving.{is_graph, is_priced, IsMovedTo, moved_to, moved_round, has_path, nothing_found, path_looks, label_bounds, all_cleared}
+use Rattle.min_cost_flow.proofs.Solving.{is_graph, is_priced, can_augment, nothing_found, path_looks, label_bounds}
 use Rattle.min_cost_flow.proofs.state.Solver.augment_once.Goals as goal
 
 pub run-requires-clause-blank : goal.run-requires-clause-blank
 run-requires-clause-blank c =
-    let r = c.requires.ready in
+    let net = c.requires.ready.0 in
+    let r = c.requires.ready.1 in
     let l = c.args.self.now in
-    let net = c.args.network.now in
     let n : length l.nodes.potential.items ≡ node_count net = r.potentials in
     let first = l.residual.first.items in
     let arcs = l.residual.arcs.items in
@@ -29,7 +28,7 @@ run-requires-clause-blank c =
         scores = r.scores ∙ sym n;
         graph = subst (λ (t : ℕ). IsGraph t first arcs) (sym n) g;
         priced = subst (λ (t : ℕ). IsPriced t first arcs p e) (sym n) pr;
-        source = omega (arith, c.requires.source);
+        source = omega (arith, c.requires.source, r.excesses, n);
       };
       even = r.even;
       size = r.labels ∙ sym n;
@@ -38,8 +37,7 @@ run-requires-clause-blank c =
     }
 
 pub returns-then-self-eq-FAR-clause-no_flow : goal.returns-then-self-eq-FAR-clause-no_flow
-returns-then-self-eq-FAR-clause-no_flow c _ =
-    let r = c.requires.ready in
+returns-then-self-eq-FAR-clause-no_flow c _ net r =
     let l = c.args.self.now in
     let n = r.potentials in
     let f = c.run.ensures in
@@ -57,12 +55,13 @@ returns-then-self-eq-FAR-clause-no_flow c _ =
 
 pub update_potentials-requires : goal.update_potentials-requires
 update_potentials-requires c =
-    let r = c.requires.ready in
+    let net = c.requires.ready.0 in
+    let r = c.requires.ready.1 in
     let h = c.run.ensures.search in
     let t = c.run.new.self in
     let hit : t.cut <ℤ far = strictly _ _ h.nearest.most (λ q. c.if-self-eq-FAR.false (ap (of_z w32) q)) in
-    let low = r.round.low c.args.source c.requires.source in
-    let le : t.head ≤ node_count c.args.network.now = omega (arith, h.reached.counts, r.potentials) in
+    let b : c.args.source < node_count net = omega (arith, c.requires.source, r.excesses) in
+    let le : t.head ≤ node_count net = omega (arith, h.reached.counts, r.potentials) in
     record {
       even = h.even;
       order = omega (arith, h.reached.counts, h.size);
@@ -70,7 +69,7 @@ update_potentials-requires c =
       scanned = λ j b. h.reached.node j (omega (arith, h.reached.counts));
       sizes = h.size;
       labels = λ j b. reached_fits _ _ _ _ _ _ _ _ _ _ _ _ _ _ (orders t j) h.ground.graph h.ground.priced h.reached (h.reached.node j (omega (arith, h.reached.counts))) (h.reached.marked j (omega (arith, h.reached.counts)));
-      cut = label_bounds _ t.head (at_nodes c.args.self.now.nodes.potential.items c.args.source) t.cut r.network.small.0 le (h.nearest.hit hit).near low;
+      cut = label_bounds _ t.head (at_nodes c.args.self.now.nodes.potential.items c.args.source) t.cut r.network.small.0 le (h.nearest.hit hit).near (r.round.low c.args.source b);
     }
 
 pub clear-requires : goal.clear-requires
@@ -85,51 +84,18 @@ clear-requires c =
 
 pub augment-requires : goal.augment-requires
 augment-requires c =
-    let r = c.requires.ready in
-    let l = c.args.self.now in
-    let net = c.args.network.now in
-    let n = r.potentials in
+    let net = c.requires.ready.0 in
+    let r = c.requires.ready.1 in
     let f = c.run.ensures in
     let h = f.search in
     let t = c.run.new.self in
-    let q = c.clear.ensures in
     let up = c.update_potentials.ensures in
-    let first = l.residual.first.items in
-    let arcs = l.residual.arcs.items in
-    let p = at_nodes l.nodes.potential.items in
-    let p' = at_nodes c.update_potentials.new.nodes.potential.items in
-    let x = at_nodes l.nodes.excess.items in
     let hit : t.cut <ℤ far = strictly _ _ h.nearest.most (λ e. c.if-self-eq-FAR.false (ap (of_z w32) e)) in
-    let m = moved_to _ _ _ _ p' _ _ _ _ _ _ _ _ _ _ t.cut h.reached up.moved up.others in
-    let re = subst (λ (k : ℕ). IsReached k first arcs p x c.args.source (labels t) (enters t) (orders t) (places t) t.head t.ordered t.reached t.level) n h.reached in
-    let near = subst (λ (k : ℕ). IsNearest k first arcs p x c.args.source (labels t) (places t) t.head t.level t.cut t.found) n h.nearest in
-    let sv = subst (λ (k : ℕ). IsServed k first arcs p (labels t) (places t) t.cut t.head) n f.served in
-    let left = subst (λ (k : ℕ). IsLeft k p (labels t) (places t) t.head t.cut) n f.left in
-    let mn = subst (λ (k : ℕ). IsMovedTo k p p' (labels t) (places t) t.head t.cut) n m in
-    let path = has_path _ _ _ _ _ _ _ _ _ _ _ _ _ _ _ _ t.found h.ground.graph h.reached h.nearest hit m in
-    let way = subst (λ (k : ℕ). HasPath k first arcs p' (enters t) (places t) c.args.source t.found) n path in
-    let round = moved_round _ _ _ _ _ _ _ _ _ _ _ _ _ _ _ _ _ _ _ _ r.network r.residual.laid_out r.residual.filled r.round re near sv left hit mn in
-    record {
-      ready = record {
-        network = r.network;
-        residual = r.residual;
-        potentials = up.same.2 ∙ n;
-        excesses = rw up.same.0 r.excesses;
-        scores = rw up.same.1 r.scores;
-        labels = q.size ∙ h.size ∙ n;
-        even = q.even;
-        round = rw up.same.0 round;
-        blank = λ v b. all_cleared _ _ _ _ _ _ _ (labels c.clear.new.search) _ _ _ _ _ _ _ h.reached q.cleared q.others v (omega arith);
-      };
-      path = rw (q.enter, q.place, q.found) way;
-      source = c.requires.source;
-      left = rw up.same.0 c.requires.left;
-      wanting = rw (up.same.0, q.found) (h.nearest.hit hit).wanting;
-    }
+    let b : c.args.source < node_count net = omega (arith, c.requires.source, r.excesses) in
+    (net, can_augment net c.args.self.now _ c.args.source t r b c.requires.left h.size h.ground.graph h.reached h.nearest f.served f.left hit up.moved up.others up.same refl c.clear.ensures)
 
 pub returns-clause-augmented : goal.returns-clause-augmented
-returns-clause-augmented c _ =
-    let r = c.requires.ready in
+returns-clause-augmented c _ net r =
     let l = c.args.self.now in
     let n = r.potentials in
     let f = c.run.ensures in
@@ -137,12 +103,13 @@ returns-clause-augmented c _ =
     let t = c.run.new.self in
     let q = c.clear.ensures in
     let up = c.update_potentials.ensures in
-    let a = c.augment.ensures in
     let first = l.residual.first.items in
     let arcs = l.residual.arcs.items in
     let p = at_nodes l.nodes.potential.items in
     let x = at_nodes l.nodes.excess.items in
     let hit : t.cut <ℤ far = strictly _ _ h.nearest.most (λ e. c.if-self-eq-FAR.false (ap (of_z w32) e)) in
+    let b : c.args.source < node_count net = omega (arith, c.requires.source, r.excesses) in
+    let a = c.augment.ensures.sent net (can_augment net l _ c.args.source t r b c.requires.left h.size h.ground.graph h.reached h.nearest f.served f.left hit up.moved up.others up.same refl q) in
     let re = subst (λ (k : ℕ). IsReached k first arcs p x c.args.source (labels t) (enters t) (orders t) (places t) t.head t.ordered t.reached t.level) n h.reached in
     let near = subst (λ (k : ℕ). IsNearest k first arcs p x c.args.source (labels t) (places t) t.head t.level t.cut t.found) n h.nearest in
     let short = path_looks _ _ _ _ _ l.residual.room.items _ _ _ _ _ _ _ _ _ _ _ _ _ r.residual.laid_out r.residual.filled re (near.hit hit) in
@@ -150,7 +117,11 @@ returns-clause-augmented c _ =
     record {
       ready = a.ready;
       less = rw up.same.0 at a.less;
-      carrying = omega (arith, more, a.work, f.looks, short);
-      looks = omega (arith, f.once, a.work, r.residual.filled.arc_size);
-      searches = a.work.0;
+      carrying = omega (arith, more, c.augment.ensures.work, f.looks, short);
     }
+
+pub returns-clause-looks : goal.returns-clause-looks
+returns-clause-looks c = omega (arith, c.run.ensures.once, c.augment.ensures.work)
+
+pub returns-clause-searches : goal.returns-clause-searches
+returns-clause-searches c = c.augment.ensures.work.0

@@ -1,32 +1,25 @@
-use Rattle.std.proofs.Common.{◌≡◌, ◌<◌, ◌≤◌, ℕ, true, min, sym, ◌∙◌, ap, subst, arith}
+use Rattle.std.proofs.Common.{◌≡◌, ◌<◌, ◌≤◌, ℕ, min, sym, ◌∙◌, ap, subst, arith}
 use Rattle.std.proofs.lemmas.List.{get_or_read}
 use Rattle.networks.specs.declared.residual.ResidualArc.{ResidualArc}
-use Rattle.networks.specs.Networks.{NetworkModel, node_count}
+use Rattle.networks.specs.Networks.{node_count}
 use Rattle.networks.specs.ResidualArcs.{numbers, end_at, no_residual_arc}
 use Rattle.shortest_paths.specs.Search.{places}
-use Rattle.min_cost_flow.specs.declared.state.Solver.{Solver}
 use Rattle.min_cost_flow.specs.Path.{next_of, room_into}
-use Rattle.min_cost_flow.specs.Stand.{excess_at, last_node, CanAugment}
-use Rattle.min_cost_flow.proofs.Augmenting.{IsNumber, IsNarrowed, is_number, narrowed_first, narrowed_more, narrowed_all, own_step, own_last, own_end, lesser_some, lesser_left, lesser_short}
+use Rattle.min_cost_flow.specs.Stand.{excess_at, last_node}
+use Rattle.min_cost_flow.proofs.Augmenting.{IsNarrowed, narrowed_first, narrowed_more, narrowed_all, own_step, own_last, own_end, last_pair, step_pair, lesser_some, lesser_left, lesser_short}
 use Rattle.min_cost_flow.proofs.state.Solver.bottleneck.Goals as goal
 
-last_number : (net : NetworkModel) (s : Solver) (source : ℕ) → CanAugment net s source → IsNumber net s.residual s.search.found
-last_number net s source h = let l = own_last net s source h in is_number net s.residual (last_node s) s.search.found h.ready.network h.ready.residual l.node l.leaves
-
-step_number : (net : NetworkModel) (s : Solver) (source v : ℕ) → (h : CanAugment net s source) → h.path.on v ≡ true → 0 < places s.search v → IsNumber net s.residual (numbers s.search.enter.items v)
-step_number net s source v h on some = let l = own_step net s source h v on some in is_number net s.residual (next_of s.residual.reverse.items s.residual.arcs.items s.search.enter.items v) (numbers s.search.enter.items v) h.ready.network h.ready.residual l.node l.leaves
-
 pub index-requires : goal.index-requires
-index-requires c = omega (arith, (last_number c.args.network.now c.args.self.now c.args.source c.requires).here, c.requires.ready.residual.filled.arc_size)
+index-requires c = omega (arith, (last_pair c.requires.0 c.args.self.now c.args.source c.requires.1).here)
 
 pub most_between-most-requires : goal.most_between-most-requires
 most_between-most-requires c =
-    let net = c.args.network.now in
+    let net = c.requires.0 in
     let s = c.args.self.now in
-    let h = c.requires in
+    let h = c.requires.1 in
     let d = c.deref.ensures.value in
-    let n : IsNumber net s.residual s.search.found = last_number net s c.args.source h in
-    let target : c.from-target.result ≡ end_at s.residual.arcs.items s.search.found = c.from-target.ensures ∙ ap (λ (a : ResidualArc). a.end) (get_or_read s.residual.arcs.items s.search.found c.index.result.now (omega (arith, n.here, h.ready.residual.filled.arc_size)) c.index.ensures no_residual_arc) in
+    let n = last_pair net s c.args.source h in
+    let target : c.from-target.result ≡ end_at s.residual.arcs.items s.search.found = c.from-target.ensures ∙ ap (λ (a : ResidualArc). a.end) (get_or_read s.residual.arcs.items s.search.found c.index.result.now n.here.0 c.index.ensures no_residual_arc) in
     record {
       source = rw d (omega (arith, h.ready.excesses, h.source));
       target = rw (d, target) (omega (arith, h.ready.excesses, own_end net s c.args.source h));
@@ -35,123 +28,131 @@ most_between-most-requires c =
     }
 
 pub index-requires-2 : goal.index-requires-2
-index-requires-2 c = omega (arith, (last_number c.args.network.now c.args.self.now c.args.source c.requires).here, c.requires.ready.residual.filled.room_size)
+index-requires-2 c = omega (arith, (last_pair c.requires.0 c.args.self.now c.args.source c.requires.1).here)
 
 pub start-node-requires : goal.start-node-requires
 start-node-requires c =
-    let n : IsNumber c.args.network.now c.args.self.now.residual c.args.self.now.search.found = last_number c.args.network.now c.args.self.now c.args.source c.requires in
-    record {
-      number = omega (arith, n.here, c.requires.ready.residual.laid_out.reverses);
-      reverse = omega (arith, n.back, c.requires.ready.residual.filled.arc_size);
-    }
+    let n = last_pair c.requires.0 c.args.self.now c.args.source c.requires.1 in
+    record { number = n.reverse; reverse = n.there.0 }
 
 pub narrow-init : goal.narrow-init
 narrow-init c =
-    let net = c.args.network.now in
+    let net = c.requires.0 in
     let s = c.args.self.now in
-    let h = c.requires in
+    let h = c.requires.1 in
     let d = c.deref.ensures.value in
     let room = s.residual.room.items in
-    let n : IsNumber net s.residual s.search.found = last_number net s c.args.source h in
+    let n = last_pair net s c.args.source h in
     let l = own_last net s c.args.source h in
     let at : c.start-node.result ≡ last_node s = c.start-node.ensures in
-    let target : c.from-target.result ≡ end_at s.residual.arcs.items s.search.found = c.from-target.ensures ∙ ap (λ (a : ResidualArc). a.end) (get_or_read s.residual.arcs.items s.search.found c.index.result.now (omega (arith, n.here, h.ready.residual.filled.arc_size)) c.index.ensures no_residual_arc) in
-    let fits : c.index-2.result.now ≡ numbers room s.search.found = get_or_read room s.search.found c.index-2.result.now (omega (arith, n.here, h.ready.residual.filled.room_size)) c.index-2.ensures 0 in
+    let target : c.from-target.result ≡ end_at s.residual.arcs.items s.search.found = c.from-target.ensures ∙ ap (λ (a : ResidualArc). a.end) (get_or_read s.residual.arcs.items s.search.found c.index.result.now n.here.0 c.index.ensures no_residual_arc) in
+    let fits : c.index-2.result.now ≡ numbers room s.search.found = get_or_read room s.search.found c.index-2.result.now n.here.1 c.index-2.ensures 0 in
     let least : c.min-amount.result ≡ min c.most_between-most.result c.index-2.result.now = c.min-amount.ensures in
     let m = c.most_between-most.ensures in
     let next = next_of s.residual.reverse.items s.residual.arcs.items s.search.enter.items in
     let rooms = room_into room s.search.enter.items in
     record {
-      node = subst (λ (t : ℕ). t < node_count net) (sym at) l.node;
+      node = λ net' g. subst (λ (t : ℕ). t < node_count net') (sym at) (own_last net' s c.args.source g).node;
       narrowed = subst (λ (t : ℕ). IsNarrowed next (places s.search) rooms (last_node s) t c.min-amount.result) (sym at) (narrowed_first next (places s.search) rooms (last_node s) c.min-amount.result);
       some = lesser_some c.most_between-most.result c.index-2.result.now c.min-amount.result least m.some (omega (arith, l.link.some));
       found = omega (arith, least);
       left = lesser_left c.most_between-most.result c.min-amount.result (excess_at s c.args.source) (omega (arith, least)) (rw d at m.left);
       short = lesser_short c.most_between-most.result c.min-amount.result (excess_at s (end_at s.residual.arcs.items s.search.found)) (omega (arith, least)) (rw (d, target) at m.wanting);
-      on = λ g. ap g.path.on at ∙ (own_last net s c.args.source g).member;
+      on = λ net' g. ap g.path.on at ∙ (own_last net' s c.args.source g).member;
+      most = λ k f. let under : k ≤ c.most_between-most.result = m.most k (rw d f.left) (rw (d, target) f.short) in omega (arith, least, under, f.found);
     }
 
 pub narrow-smaller : goal.narrow-smaller
 narrow-smaller c =
-    let net = c.args.network.now in
+    let net = c.requires.0 in
     let s = c.args.self.now in
-    let h = c.requires in
+    let h = c.requires.1 in
     let i = c.narrow.invariant in
     let v = c.narrow.node in
-    let pl : c.index-in-narrow.result.now ≡ places s.search v = get_or_read s.search.place.items v c.index-in-narrow.result.now (omega (arith, i.node, h.ready.labels, h.ready.even.places)) c.index-in-narrow.ensures 0 in
+    let pl : c.index-in-narrow.result.now ≡ places s.search v = get_or_read s.search.place.items v c.index-in-narrow.result.now (omega (arith, i.node net h, h.ready.labels, h.ready.even.places)) c.index-in-narrow.ensures 0 in
     let some : 0 < places s.search v = omega (arith, c.narrow-test.true) in
-    let en : c.index-in-narrow-2.result.now ≡ numbers s.search.enter.items v = get_or_read s.search.enter.items v c.index-in-narrow-2.result.now (omega (arith, i.node, h.ready.labels, h.ready.even.enters)) c.index-in-narrow-2.ensures 0 in
+    let en : c.index-in-narrow-2.result.now ≡ numbers s.search.enter.items v = get_or_read s.search.enter.items v c.index-in-narrow-2.result.now (omega (arith, i.node net h, h.ready.labels, h.ready.even.enters)) c.index-in-narrow-2.ensures 0 in
     let at : c.start-node-in-narrow.result ≡ next_of s.residual.reverse.items s.residual.arcs.items s.search.enter.items v = c.start-node-in-narrow.ensures ∙ ap (λ (t : ℕ). end_at s.residual.arcs.items (numbers s.residual.reverse.items t)) en in
-    subst (λ (t : ℕ). places s.search t < places s.search v) (sym at) (own_step net s c.args.source h v (i.on h) some).before
+    subst (λ (t : ℕ). places s.search t < places s.search v) (sym at) (own_step net s c.args.source h v (i.on net h) some).before
+
+pub index-requires-in-narrow : goal.index-requires-in-narrow
+index-requires-in-narrow c = let h = c.requires.1 in omega (arith, c.narrow.invariant.node c.requires.0 h, h.ready.labels, h.ready.even.places)
+
+pub index-requires-in-narrow-2 : goal.index-requires-in-narrow-2
+index-requires-in-narrow-2 c = let h = c.requires.1 in omega (arith, c.narrow.invariant.node c.requires.0 h, h.ready.labels, h.ready.even.enters)
 
 pub index-requires-in-narrow-3 : goal.index-requires-in-narrow-3
 index-requires-in-narrow-3 c =
     let s = c.args.self.now in
-    let h = c.requires in
+    let net = c.requires.0 in
+    let h = c.requires.1 in
     let i = c.narrow.invariant in
     let v = c.narrow.node in
-    let pl : c.index-in-narrow.result.now ≡ places s.search v = get_or_read s.search.place.items v c.index-in-narrow.result.now (omega (arith, i.node, h.ready.labels, h.ready.even.places)) c.index-in-narrow.ensures 0 in
+    let pl : c.index-in-narrow.result.now ≡ places s.search v = get_or_read s.search.place.items v c.index-in-narrow.result.now (omega (arith, i.node net h, h.ready.labels, h.ready.even.places)) c.index-in-narrow.ensures 0 in
     let some : 0 < places s.search v = omega (arith, c.narrow-test.true) in
-    let en : c.index-in-narrow-2.result.now ≡ numbers s.search.enter.items v = get_or_read s.search.enter.items v c.index-in-narrow-2.result.now (omega (arith, i.node, h.ready.labels, h.ready.even.enters)) c.index-in-narrow-2.ensures 0 in
-    omega (arith, (step_number c.args.network.now s c.args.source v h (i.on h) some).here, h.ready.residual.filled.room_size)
+    let en : c.index-in-narrow-2.result.now ≡ numbers s.search.enter.items v = get_or_read s.search.enter.items v c.index-in-narrow-2.result.now (omega (arith, i.node net h, h.ready.labels, h.ready.even.enters)) c.index-in-narrow-2.ensures 0 in
+    omega (arith, (step_pair net s c.args.source v h (i.on net h) some).here)
 
 pub start-node-requires-in-narrow : goal.start-node-requires-in-narrow
 start-node-requires-in-narrow c =
     let s = c.args.self.now in
-    let h = c.requires in
+    let net = c.requires.0 in
+    let h = c.requires.1 in
     let i = c.narrow.invariant in
     let v = c.narrow.node in
-    let pl : c.index-in-narrow.result.now ≡ places s.search v = get_or_read s.search.place.items v c.index-in-narrow.result.now (omega (arith, i.node, h.ready.labels, h.ready.even.places)) c.index-in-narrow.ensures 0 in
+    let pl : c.index-in-narrow.result.now ≡ places s.search v = get_or_read s.search.place.items v c.index-in-narrow.result.now (omega (arith, i.node net h, h.ready.labels, h.ready.even.places)) c.index-in-narrow.ensures 0 in
     let some : 0 < places s.search v = omega (arith, c.narrow-test.true) in
-    let en : c.index-in-narrow-2.result.now ≡ numbers s.search.enter.items v = get_or_read s.search.enter.items v c.index-in-narrow-2.result.now (omega (arith, i.node, h.ready.labels, h.ready.even.enters)) c.index-in-narrow-2.ensures 0 in
-    let n : IsNumber c.args.network.now s.residual (numbers s.search.enter.items v) = step_number c.args.network.now s c.args.source v h (i.on h) some in
-    rw en (record {
-      number = omega (arith, n.here, h.ready.residual.laid_out.reverses);
-      reverse = omega (arith, n.back, h.ready.residual.filled.arc_size);
-    })
+    let en : c.index-in-narrow-2.result.now ≡ numbers s.search.enter.items v = get_or_read s.search.enter.items v c.index-in-narrow-2.result.now (omega (arith, i.node net h, h.ready.labels, h.ready.even.enters)) c.index-in-narrow-2.ensures 0 in
+    let n = step_pair net s c.args.source v h (i.on net h) some in
+    rw en (record { number = n.reverse; reverse = n.there.0 })
 
 pub narrow-preserved : goal.narrow-preserved
 narrow-preserved c =
-    let net = c.args.network.now in
+    let net = c.requires.0 in
     let s = c.args.self.now in
-    let h = c.requires in
+    let h = c.requires.1 in
     let i = c.narrow.invariant in
     let v = c.narrow.node in
     let room = s.residual.room.items in
-    let pl : c.index-in-narrow.result.now ≡ places s.search v = get_or_read s.search.place.items v c.index-in-narrow.result.now (omega (arith, i.node, h.ready.labels, h.ready.even.places)) c.index-in-narrow.ensures 0 in
+    let pl : c.index-in-narrow.result.now ≡ places s.search v = get_or_read s.search.place.items v c.index-in-narrow.result.now (omega (arith, i.node net h, h.ready.labels, h.ready.even.places)) c.index-in-narrow.ensures 0 in
     let some : 0 < places s.search v = omega (arith, c.narrow-test.true) in
-    let en : c.index-in-narrow-2.result.now ≡ numbers s.search.enter.items v = get_or_read s.search.enter.items v c.index-in-narrow-2.result.now (omega (arith, i.node, h.ready.labels, h.ready.even.enters)) c.index-in-narrow-2.ensures 0 in
-    let n : IsNumber net s.residual (numbers s.search.enter.items v) = step_number net s c.args.source v h (i.on h) some in
-    let rm : c.index-in-narrow-3.result.now ≡ numbers room (numbers s.search.enter.items v) = get_or_read room c.index-in-narrow-2.result.now c.index-in-narrow-3.result.now (omega (arith, n.here, h.ready.residual.filled.room_size)) c.index-in-narrow-3.ensures 0 ∙ ap (numbers room) en in
+    let en : c.index-in-narrow-2.result.now ≡ numbers s.search.enter.items v = get_or_read s.search.enter.items v c.index-in-narrow-2.result.now (omega (arith, i.node net h, h.ready.labels, h.ready.even.enters)) c.index-in-narrow-2.ensures 0 in
+    let n = step_pair net s c.args.source v h (i.on net h) some in
+    let rm : c.index-in-narrow-3.result.now ≡ numbers room (numbers s.search.enter.items v) = get_or_read room c.index-in-narrow-2.result.now c.index-in-narrow-3.result.now (omega (arith, n.here)) c.index-in-narrow-3.ensures 0 ∙ ap (numbers room) en in
     let at : c.start-node-in-narrow.result ≡ next_of s.residual.reverse.items s.residual.arcs.items s.search.enter.items v = c.start-node-in-narrow.ensures ∙ ap (λ (t : ℕ). end_at s.residual.arcs.items (numbers s.residual.reverse.items t)) en in
-    let st = own_step net s c.args.source h v (i.on h) some in
+    let st = own_step net s c.args.source h v (i.on net h) some in
     let k' = c.min-amount-in-narrow.result in
     let least : k' ≡ min c.narrow.amount c.index-in-narrow-3.result.now = c.min-amount-in-narrow.ensures in
     let less : k' ≤ c.narrow.amount = omega (arith, least) in
     let next = next_of s.residual.reverse.items s.residual.arcs.items s.search.enter.items in
     let rooms = room_into room s.search.enter.items in
     record {
-      node = subst (λ (t : ℕ). t < node_count net) (sym at) st.node;
+      node = λ net' g. subst (λ (t : ℕ). t < node_count net') (sym at) (own_step net' s c.args.source g v (i.on net' g) some).node;
       narrowed = subst (λ (t : ℕ). IsNarrowed next (places s.search) rooms (last_node s) t k') (sym at) (narrowed_more next (places s.search) rooms (last_node s) v c.narrow.amount k' i.narrowed some less (omega (arith, least)));
       some = lesser_some c.narrow.amount c.index-in-narrow-3.result.now k' least i.some (omega (arith, st.link.some));
       found = omega (arith, less, i.found);
       left = lesser_left c.narrow.amount k' (excess_at s c.args.source) less i.left;
       short = lesser_short c.narrow.amount k' (excess_at s (end_at s.residual.arcs.items s.search.found)) less i.short;
-      on = λ g. ap g.path.on at ∙ (own_step net s c.args.source g v (i.on g) some).member;
+      on = λ net' g. ap g.path.on at ∙ (own_step net' s c.args.source g v (i.on net' g) some).member;
+      most = λ k f. omega (arith, least, rm, i.most k f, f.fits v i.narrowed.on some);
     }
 
 pub returns : goal.returns
 returns c =
     let s = c.args.self.now in
-    let h = c.requires in
+    let net = c.requires.0 in
+    let h = c.requires.1 in
     let i = c.narrow.invariant in
     let v = c.narrow.node in
-    let pl : c.index-in-narrow.result.now ≡ places s.search v = get_or_read s.search.place.items v c.index-in-narrow.result.now (omega (arith, i.node, h.ready.labels, h.ready.even.places)) c.index-in-narrow.ensures 0 in
+    let pl : c.index-in-narrow.result.now ≡ places s.search v = get_or_read s.search.place.items v c.index-in-narrow.result.now (omega (arith, i.node net h, h.ready.labels, h.ready.even.places)) c.index-in-narrow.ensures 0 in
     let none : places s.search v ≡ 0 = omega (arith, c.narrow-test.false) in
     record {
       some = i.some;
-      found = i.found;
-      left = i.left;
-      short = i.short;
-      fits = λ u on some. narrowed_all (next_of s.residual.reverse.items s.residual.arcs.items s.search.enter.items) (places s.search) (room_into s.residual.room.items s.search.enter.items) (last_node s) v c.narrow.amount i.narrowed none u on some;
+      most = i.most;
+      fitting = record {
+        found = i.found;
+        left = i.left;
+        short = i.short;
+        fits = λ u on some. narrowed_all (next_of s.residual.reverse.items s.residual.arcs.items s.search.enter.items) (places s.search) (room_into s.residual.room.items s.search.enter.items) (last_node s) v c.narrow.amount i.narrowed none u on some;
+      };
     }

@@ -3,6 +3,7 @@ use Rattle.std.specs.Prelude.{pos}
 use Rattle.std.specs.Vec.{with_items}
 use Rattle.std.proofs.lemmas.Bool.{cases_lt}
 use Rattle.std.proofs.lemmas.List.{with_items_is, get_or_past}
+use Rattle.networks.specs.Networks.{supply_at}
 use Rattle.networks.specs.Flow.{at_nodes}
 use Rattle.min_cost_flow.proofs.Rounds.{first_round, first_work}
 use Rattle.min_cost_flow.proofs.state.Solver.initialise.Goals as goal
@@ -10,8 +11,8 @@ use Rattle.min_cost_flow.proofs.state.Solver.initialise.Goals as goal
 flat_all : (ps : List ℤ) → ((v : ℕ) → v < length ps → at_nodes ps v ≡ pos 0) → (v : ℕ) → at_nodes ps v ≡ pos 0
 flat_all ps h v = elim (cases_lt v (length ps)) [ inl b ↦ h v b | inr o ↦ get_or_past ps v (pos 0) o ]
 
-pub returns-clause-ready : goal.returns-clause-ready
-returns-clause-ready c =
+pub returns : goal.returns
+returns c =
     let net = c.args.network.now in
     let l = c.args.self.now in
     let z = c.requires in
@@ -22,20 +23,18 @@ returns-clause-ready c =
     let label_is : (with_items l.search.label qs).items ≡ qs = with_items_is l.search.label qs (omega arith) in
     let ss = c.score_nodes.new.score in
     let score_is : (with_items l.nodes.score ss).items ≡ ss = with_items_is l.nodes.score ss (omega arith) in
+    let full : (v : ℕ) → at_nodes es.items v ≡ supply_at net v = λ v. ap (λ (xs : List ℤ). at_nodes xs v) (c.copy_from_slice.ensures.items ∙ c.supplies.ensures.supplies) in
     record {
-      network = z.network;
-      residual = c.lay_out.ensures.laid_out;
-      potentials = rw pot_is (omega (arith, z.potentials));
-      excesses = ap (length {A = ℤ}) (c.copy_from_slice.ensures.items ∙ c.supplies.ensures.supplies);
-      scores = rw score_is (omega (arith, z.scores));
-      labels = rw label_is (omega (arith, z.labels));
-      even = record { enters = rw label_is (omega (arith, z.even.enters)); orders = rw label_is (omega (arith, z.even.orders)); places = rw label_is (omega (arith, z.even.places)) };
-      round = rw pot_is (first_round _ _ _ _ z.network c.lay_out.ensures.none (flat_all ps c.write_all.ensures) (λ v. ap (λ (xs : List ℤ). at_nodes xs v) (c.copy_from_slice.ensures.items ∙ c.supplies.ensures.supplies)));
-      blank = λ v b. rw label_is (c.write_all-2.ensures v (omega (arith, z.labels)));
+      ready = record {
+        network = z.network;
+        residual = c.lay_out.ensures.laid_out;
+        potentials = rw pot_is (omega (arith, z.potentials));
+        excesses = ap (length {A = ℤ}) (c.copy_from_slice.ensures.items ∙ c.supplies.ensures.supplies);
+        scores = rw score_is (omega (arith, z.scores));
+        labels = rw label_is (omega (arith, z.labels));
+        even = record { enters = rw label_is (omega (arith, z.even.enters)); orders = rw label_is (omega (arith, z.even.orders)); places = rw label_is (omega (arith, z.even.places)) };
+        round = rw pot_is (first_round _ _ _ _ z.network c.lay_out.ensures.none (flat_all ps c.write_all.ensures) full);
+        blank = λ v b. rw label_is (c.write_all-2.ensures v (omega (arith, z.labels)));
+      };
+      work = first_work _ _ _ c.lay_out.ensures.none full;
     }
-
-pub returns-clause-work : goal.returns-clause-work
-returns-clause-work c =
-    let l = c.args.self.now in
-    let es = c.copy_from_slice.new.self in
-    (first_work _ _ _ c.lay_out.ensures.none (λ v. ap (λ (xs : List ℤ). at_nodes xs v) (c.copy_from_slice.ensures.items ∙ c.supplies.ensures.supplies)))

@@ -2,7 +2,7 @@ use Rattle.std.proofs.Common.{◌≡◌, ◌*◌, ℕ, ℤ, List, length, ap, re
 use Rattle.std.specs.Prelude.{pos, ◌+ℤ◌, ◌≤ℤ◌}
 use Rattle.std.specs.Vec.{with_items}
 use Rattle.std.proofs.lemmas.List.{with_items_is}
-use Rattle.networks.specs.Networks.{node_count, moved}
+use Rattle.networks.specs.Networks.{node_count, moved, shifted}
 use Rattle.networks.proofs.Moving.{length-moved}
 use Rattle.networks.specs.Flow.{at_nodes}
 use Rattle.min_cost_flow.proofs.Moved.{others_none, can_read, sized_moved, ready_moved, low_bounds}
@@ -55,12 +55,42 @@ resend-requires c =
     let base = rw d at c.rebase.ensures.moved in
     let low = c.rebase.ensures.low c.if-not-rebase.false in
     let little = rw (c.deref.ensures.value, c.deref-2.ensures.value, c.deref-3.ensures.value) at (c.carries_little.ensures c.if-not-carries_little.false) in
+    let wide : length (with_items l.nodes.excess es).items ≡ node_count net = ap (length {A = ℤ}) (excess_is ∙ value) ∙ length-moved l.nodes.excess.items c.args.from c.args.to c.args.amount ∙ r.excesses in
     record {
-      ready = rw c.shift.ensures (ready_moved net l _ c.args.from c.args.to c.args.amount st c.requires.fair c.requires.from c.requires.to c.requires.few
+      ready = (
+        shifted net c.args.from c.args.to c.args.amount,
+        ready_moved net l _ c.args.from c.args.to c.args.amount st c.requires.fair c.requires.from c.requires.to c.requires.few
+            (λ v b. rw pot_is (base v (omega (arith, size))))
+            (λ v b. rw pot_is (subst (λ (m : ℕ). (pos 0 ≤ℤ (at_nodes p' v +ℤ pos (2 * m))) × (at_nodes p' v ≤ℤ pos (2 * m))) size (low v (omega (arith, size)))))
+            (λ i b. little i (omega (arith, r.residual.laid_out.forwards)))
+            refl refl refl (rw pot_is (omega (arith, size, r.potentials))) (excess_is ∙ value),
+      );
+      source = omega (arith, wide, c.requires.from);
+      others = λ v b ne. rw (excess_is, value) (others_none l.nodes.excess.items (node_count net) c.args.from c.args.to c.args.amount v r.excesses st.sent c.requires.from c.requires.to (omega (arith, wide)) ne);
+    }
+
+pub returns : goal.returns
+returns c =
+    let net = c.args.network.now in
+    let l = c.args.self.now in
+    let st = c.requires.settled in
+    let r = st.ready in
+    let p' = c.rebase.new.potential in
+    let es = c.move_units.new.units in
+    let long : length (moved net.supplies c.args.from c.args.to c.args.amount) ≡ node_count net = length-moved net.supplies c.args.from c.args.to c.args.amount in
+    let d = c.deref_mut.ensures.value in
+    let size : length c.deref_mut.result.now ≡ node_count net = ap (length {A = ℤ}) d ∙ r.potentials in
+    let pot_is : (with_items l.nodes.potential p').items ≡ p' = with_items_is l.nodes.potential p' (omega arith) in
+    let excess_is : (with_items l.nodes.excess es).items ≡ es = with_items_is l.nodes.excess es (omega arith) in
+    let value : es ≡ moved l.nodes.excess.items c.args.from c.args.to c.args.amount = c.move_units.ensures ∙ ap (λ (xs : List ℤ). moved xs c.args.from c.args.to c.args.amount) c.deref_mut-2.ensures.value in
+    let base = rw d at c.rebase.ensures.moved in
+    let low = c.rebase.ensures.low c.if-not-rebase.false in
+    let little = rw (c.deref.ensures.value, c.deref-2.ensures.value, c.deref-3.ensures.value) at (c.carries_little.ensures c.if-not-carries_little.false) in
+    record {
+      network = c.shift.ensures;
+      answer = rw c.shift.ensures (c.resend.ensures (shifted net c.args.from c.args.to c.args.amount) (ready_moved net l _ c.args.from c.args.to c.args.amount st c.requires.fair c.requires.from c.requires.to c.requires.few
           (λ v b. rw pot_is (base v (omega (arith, size))))
           (λ v b. rw pot_is (subst (λ (m : ℕ). (pos 0 ≤ℤ (at_nodes p' v +ℤ pos (2 * m))) × (at_nodes p' v ≤ℤ pos (2 * m))) size (low v (omega (arith, size)))))
           (λ i b. little i (omega (arith, r.residual.laid_out.forwards)))
-          refl refl refl (rw pot_is (omega (arith, size, r.potentials))) (excess_is ∙ value));
-      source = rw c.shift.ensures (omega (arith, c.requires.from));
-      others = rw c.shift.ensures (λ v b ne. rw (excess_is, value) (others_none l.nodes.excess.items (node_count net) c.args.from c.args.to c.args.amount v r.excesses st.sent c.requires.from c.requires.to (omega arith) ne));
+          refl refl refl (rw pot_is (omega (arith, size, r.potentials))) (excess_is ∙ value)));
     }

@@ -1,4 +1,4 @@
-use Rattle.std.proofs.Common.{rules, ◌≡◌, refl, arith, subst}
+use Rattle.std.proofs.Common.{rules, ◌≡◌, ◌<◌, refl, arith, subst, length}
 use Rattle.std.specs.Prelude.{ℤ, pos, ◌≤ℤ◌, ◌<ℤ◌}
 use Rattle.std.proofs.lemmas.List.{get_or_read}
 use mir.Syntax.{w32}
@@ -10,56 +10,72 @@ use Rattle.min_cost_flow.proofs.Rounds.{looks_most, work_more}
 use Rattle.min_cost_flow.proofs.state.Solver.send_all_from.Goals as goal
 
 pub units-init : goal.units-init
-units-init c = record { ready = c.requires.ready; work = c.requires.work; done = λ v b h. h }
+units-init c = record { size = refl; under_way = λ net u. u; done = λ net u v b h. h }
 
 pub augment_once-requires : goal.augment_once-requires
 augment_once-requires c =
     let f : SFits w32 c.index.result.now = search rules in
     let i = c.units.invariant in
-    let most = looks_most _ _ _ _ _ i.ready.network i.work in
-    let at : c.index.result.now ≡ excess_at c.units.self c.args.source = get_or_read c.units.self.nodes.excess.items c.args.source c.index.result.now (omega (arith, i.ready.excesses, c.requires.source)) c.index.ensures (pos 0) in
+    let net = c.requires.under_way.0 in
+    let u = i.under_way net c.requires.under_way.1 in
+    let most = looks_most _ _ _ _ _ u.ready.network u.work in
+    let b : c.args.source < length c.units.self.nodes.excess.items = omega (arith, i.size, c.requires.source) in
+    let at : c.index.result.now ≡ excess_at c.units.self c.args.source = get_or_read c.units.self.nodes.excess.items c.args.source c.index.result.now b c.index.ensures (pos 0) in
     record {
-      ready = i.ready;
-      source = c.requires.source;
+      ready = (net, u.ready);
+      source = b;
       left = subst (λ (z : ℤ). pos 0 <ℤ z) at (is_more _ _ f c.units-test.true);
       few = omega (arith, most.1);
     }
 
 pub overflow_add-self : goal.overflow_add-self
 overflow_add-self c =
-    let a = c.augment_once.ensures.augmented c.if-not-augment_once.false in
-    omega (arith, (looks_most _ _ _ _ _ c.units.invariant.ready.network c.units.invariant.work).0, a.searches)
+    let u = c.units.invariant.under_way c.requires.under_way.0 c.requires.under_way.1 in
+    omega (arith, (looks_most _ _ _ _ _ u.ready.network u.work).0, c.augment_once.ensures.searches)
 
 pub units-smaller : goal.units-smaller
-units-smaller c = (c.augment_once.ensures.augmented c.if-not-augment_once.false).less.less
+units-smaller c =
+    let net = c.requires.under_way.0 in
+    let r = (c.units.invariant.under_way net c.requires.under_way.1).ready in
+    let a = c.augment_once.ensures.augmented c.if-not-augment_once.false net r in
+    rw (a.ready.excesses, r.excesses) a.less.less
 
 pub units-preserved : goal.units-preserved
 units-preserved c =
     let i = c.units.invariant in
-    let a = c.augment_once.ensures.augmented c.if-not-augment_once.false in
+    let yes = c.if-not-augment_once.false in
+    let e = c.augment_once.ensures in
+    let net = c.requires.under_way.0 in
+    let r = (i.under_way net c.requires.under_way.1).ready in
+    let a = e.augmented yes net r in
     record {
-      ready = ready_still _ _ _ a.ready refl refl refl;
-      work = rw a.searches (work_more _ _ _ _ _ _ _ _ i.work a.less a.carrying a.looks);
-      done = λ v b h. a.less.done v b (i.done v b h);
+      size = omega (arith, i.size, r.excesses, a.ready.excesses);
+      under_way = λ net' h.
+          let u = i.under_way net' h in
+          let b = e.augmented yes net' u.ready in
+          record {
+            ready = ready_still _ _ _ b.ready refl refl refl;
+            work = rw e.searches (work_more _ _ _ _ _ _ _ _ u.work b.less b.carrying (omega (arith, e.looks, u.ready.residual.filled.arc_size)));
+          };
+      done = λ net' h v b over. (e.augmented yes net' (i.under_way net' h).ready).less.done v b (i.done net' h v b over);
     }
 
 pub returns-then-not-augment_once : goal.returns-then-not-augment_once
 returns-then-not-augment_once c = record {
   sent = λ h. cc;
-  no_flow = λ _. c.augment_once.ensures.no_flow c.if-not-augment_once.true;
+  no_flow = λ _ net u. c.augment_once.ensures.no_flow c.if-not-augment_once.true net (c.units.invariant.under_way net u).ready;
 }
 
 pub returns : goal.returns
 returns c =
     let f : SFits w32 c.index.result.now = search rules in
     let i = c.units.invariant in
-    let at : c.index.result.now ≡ excess_at c.units.self c.args.source = get_or_read c.units.self.nodes.excess.items c.args.source c.index.result.now (omega (arith, i.ready.excesses, c.requires.source)) c.index.ensures (pos 0) in
+    let at : c.index.result.now ≡ excess_at c.units.self c.args.source = get_or_read c.units.self.nodes.excess.items c.args.source c.index.result.now (omega (arith, i.size, c.requires.source)) c.index.ensures (pos 0) in
     record {
-      sent = λ _. record {
-        ready = i.ready;
-        work = i.work;
+      sent = λ _ net u. record {
+        under_way = i.under_way net u;
         here = subst (λ (z : ℤ). z ≤ℤ pos 0) at (is_no_more _ _ f c.units-test.false);
-        done = i.done;
+        done = i.done net u;
       };
       no_flow = λ h. cc;
     }

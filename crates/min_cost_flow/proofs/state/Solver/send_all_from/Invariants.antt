@@ -1,16 +1,18 @@
-use Rattle.std.proofs.Common.{◌<◌, ℕ}
+use Rattle.std.proofs.Common.{◌≡◌, ◌<◌, ℕ, length}
 use Rattle.std.specs.Prelude.{pos, ◌≤ℤ◌}
-use Rattle.networks.specs.Networks.{node_count}
-use Rattle.min_cost_flow.specs.Round.{left_over}
-use Rattle.min_cost_flow.specs.Stand.{IsReady, HasWorked, excess_at}
+use borrow.Author.Differences.{up}
+use Rattle.sums.specs.Sums.{sum_below}
+use Rattle.networks.specs.Networks.{NetworkModel, node_count}
+use Rattle.min_cost_flow.specs.Stand.{IsUnderWay, excess_at}
 use Rattle.min_cost_flow.proofs.state.Solver.send_all_from.Given as goal
 
 abbrev pub invariant-units : goal.invariant-units
 invariant-units l = record {
-  ready : IsReady l.network l.self;
-  work : HasWorked l.network l.self;
-  done : (v : ℕ) → v < node_count l.network → excess_at l.initial.self v ≤ℤ pos 0 → excess_at l.self v ≤ℤ pos 0;
+  size : length l.self.nodes.excess.items ≡ length l.fn.self.nodes.excess.items;
+  under_way : (net : NetworkModel) → IsUnderWay net l.fn.self → IsUnderWay net l.self;
+  done : (net : NetworkModel) → IsUnderWay net l.fn.self → (v : ℕ) → v < node_count net → excess_at l.fn.self v ≤ℤ pos 0 → excess_at l.self v ≤ℤ pos 0;
 }
 
+-- what is left to send
 abbrev pub decreases-units : goal.decreases-units
-decreases-units l = left_over l.network (excess_at l.self)
+decreases-units l = sum_below (length l.self.nodes.excess.items) (λ v. up (excess_at l.self v))

@@ -1,11 +1,10 @@
 use Rattle.std.proofs.Common.{◌<◌, ℕ}
 use Rattle.std.specs.Prelude.{pos, ◌≤ℤ◌}
-use Rattle.min_cost_flow.specs.Stand.{IsReady, HasWorked, excess_at}
+use Rattle.min_cost_flow.specs.Stand.{IsUnderWay, excess_at}
 use Rattle.min_cost_flow.proofs.state.Solver.solve.Given as goal
 
 abbrev pub invariant-loop-source : goal.invariant-loop-source
 invariant-loop-source l = record {
-  ready : IsReady l.network l.self;
-  work : HasWorked l.network l.self;
+  under_way : IsUnderWay l.network l.self;
   done : (v : ℕ) → v < l.source → excess_at l.self v ≤ℤ pos 0;
 }
