@@ -55,12 +55,19 @@ impl DrawScratch {
     /// Takes the lists of an entry that nobody reads any more, so that they are filled anew. Those of its drawing stay
     /// here, those of its plane and its shape go back to the stages that fill them.
     pub fn take_back(&mut self, alloc: Global, entry: Entry) {
+        let Entry {
+            file: _,
+            ordinal: _,
+            rec: _,
+            choice: _,
+            answer,
+        } = entry;
         if let Answer::Laid {
             plane,
             shape,
             prices,
             drawing,
-        } = entry.answer
+        } = answer
         {
             if let Ok(drawing) = drawing {
                 self.points.take_back(drawing.into_points());
