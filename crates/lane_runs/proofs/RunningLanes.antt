@@ -1,5 +1,6 @@
 -- Lanes that are started, that run, and that have run.
-use Rattle.std.proofs.Common.{◌≡◌, ℕ, suc, ◌+◌, List, [], ◌∷◌, ◌++◌, length, All, Some, slice_get, refl, sym, subst, ◌∙◌, arith}
+use Rattle.std.proofs.Common.{◌≡◌, ℕ, suc, ◌+◌, List, [], ◌∷◌, ◌++◌, length, map, append_assoc, All, Some, slice_get, refl, sym, ap, subst, ◌∙◌, arith}
+use Rattle.std.proofs.lemmas.List.{append-nil, map-append}
 use Rattle.std.proofs.lemmas.List.Elements.{All-nil, All-cons, All-head, All-tail, All-append}
 use Rattle.crossbeam_channel.specs.Ends.{sends_on, receives_on}
 use Rattle.choices.specs.declared.Choice.{Choice}
@@ -15,12 +16,6 @@ use Rattle.lane_runs.specs.Lanes.{TellsSeat}
 use Rattle.lane_runs.specs.Running.{AreNumbered, GivesAt, IsIdle, IsRunning, HasRun, HaveRun}
 
 module _ {X : Type 0} where
-  -- one element more
-  pub numbered_more : (fits : ℕ → X → Type 0) (first : ℕ) (xs : List X) (x : X) → AreNumbered fits first xs → fits (first + length xs) x → AreNumbered fits first (xs ++ x ∷ [])
-  numbered_more fits first [] x are is = (let e : first + 0 ≡ first = omega arith in subst (λ k. fits k x) e is, tt)
-  numbered_more fits first (z ∷ zs) x (was, are) is =
-      (was, numbered_more fits (first + 1) zs x are (let e : first + length (z ∷ zs) ≡ first + 1 + length zs = omega arith in subst (λ k. fits k x) e is))
-
   pub numbered_weaker : (fits suits : ℕ → X → Type 0) → ((k : ℕ) (x : X) → fits k x → suits k x) → (first : ℕ) (xs : List X) → AreNumbered fits first xs → AreNumbered suits first xs
   numbered_weaker fits suits weaker first [] are = tt
   numbered_weaker fits suits weaker first (x ∷ xs) (is, are) = (weaker first x is, numbered_weaker fits suits weaker (first + 1) xs are)
@@ -105,13 +100,52 @@ module _ {X : Type 0} where
   numbered_as fits n m xs ys e same are = subst (AreNumbered fits m) same (subst (λ k. AreNumbered fits k xs) e are)
 
 module _ {E : Type 0} where
-  -- an idle giver that was moved into the thread of its lane
-  pub started : {O : Type 0} (fan : Gatherer E) (choice : Choice) (opener : O) (tickets : Tickets) (n lane : ℕ) (promised_choice : Choice) (promised : O) (promised_tickets : Tickets) (g moved : LaneGiver E)
-      → IsIdle fan n g → n ≡ lane → moved ≡ g → promised_choice ≡ choice → promised ≡ opener → promised_tickets ≡ tickets
-      → IsRunning fan choice opener tickets lane promised_choice promised promised_tickets moved
-  started fan choice opener tickets n lane promised_choice promised promised_tickets g moved idle same move chosen opens deals = record {
-    gives_at = subst (GivesAt fan lane) (sym move) (subst (λ k. GivesAt fan k g) same idle.gives_at);
-    same_choice = chosen;
-    same_opener = opens;
-    same_tickets = deals;
-  }
+  -- none of them has given anything
+  pub idle_unused : (fan : Gatherer E) (first : ℕ) (givers : List (LaneGiver E)) → AreNumbered (IsIdle fan) first givers → All (λ g. given_at g ≡ []) givers
+  idle_unused fan first [] are = All-nil (λ (g : LaneGiver E). given_at g ≡ [])
+  idle_unused fan first (g ∷ givers) (is, are) =
+      All-cons (λ (h : LaneGiver E). given_at h ≡ []) g givers is.none_given (idle_unused fan (first + 1) givers are)
+
+module _ {E X : Type 0} (giver_of : X → LaneGiver E) where
+  -- lanes run whose givers were idle
+  pub all_started : {O : Type 0} (choice_of : X → Choice) (opener_of : X → O) (tickets_of : X → Tickets) (fan : Gatherer E) (choice : Choice) (opener : O) (tickets : Tickets) (first : ℕ) (rs : List X) (idle : List (LaneGiver E))
+      → AreNumbered (IsIdle fan) first (map giver_of rs ++ idle) → All (λ r. choice_of r ≡ choice) rs → All (λ r. opener_of r ≡ opener) rs → All (λ r. tickets_of r ≡ tickets) rs
+      → AreNumbered (λ lane r. IsRunning fan choice opener tickets lane (choice_of r) (opener_of r) (tickets_of r) (giver_of r)) first rs
+  all_started choice_of opener_of tickets_of fan choice opener tickets first [] idle are chosen opens deals = tt
+  all_started choice_of opener_of tickets_of fan choice opener tickets first (r ∷ rs) idle (is, are) chosen opens deals = (
+    record {
+      gives_at = is.gives_at;
+      same_choice = All-head (λ z. choice_of z ≡ choice) r rs chosen;
+      same_opener = All-head (λ z. opener_of z ≡ opener) r rs opens;
+      same_tickets = All-head (λ z. tickets_of z ≡ tickets) r rs deals;
+    },
+    all_started choice_of opener_of tickets_of fan choice opener tickets (first + 1) rs idle are (All-tail (λ z. choice_of z ≡ choice) r rs chosen)
+        (All-tail (λ z. opener_of z ≡ opener) r rs opens) (All-tail (λ z. tickets_of z ≡ tickets) r rs deals),
+  )
+
+  -- the others stay so
+  pub rest_idle : (fan : Gatherer E) (first : ℕ) (rs : List X) (idle : List (LaneGiver E)) → AreNumbered (IsIdle fan) first (map giver_of rs ++ idle) → AreNumbered (IsIdle fan) (first + length rs) idle
+  rest_idle fan first [] idle are = let e : first ≡ first + 0 = omega arith in subst (λ k. AreNumbered (IsIdle fan) k idle) e are
+  rest_idle fan first (r ∷ rs) idle (is, are) =
+      let e : first + 1 + length rs ≡ first + length (r ∷ rs) = omega arith in subst (λ k. AreNumbered (IsIdle fan) k idle) e (rest_idle fan (first + 1) rs idle are)
+
+module _ {X G : Type 0} where
+  -- the next giver is that of one lane more
+  pub one_started : (giver_of : X → G) (rs more : List X) (r : X) (idle rest rest' all : List G) (giver : G) → length idle ≡ 0 → more ≡ rs ++ r ∷ []
+      → rest ≡ giver ∷ rest' → giver_of r ≡ giver → (map giver_of rs ++ idle) ++ rest ≡ all → (map giver_of more ++ idle) ++ rest' ≡ all
+  one_started giver_of rs more r [] rest rest' all giver none pushed next is same =
+      let now : map giver_of more ≡ map giver_of rs ++ giver ∷ [] =
+      ap (map giver_of) pushed ∙ map-append giver_of rs (r ∷ []) ∙ ap (λ (g : G). map giver_of rs ++ g ∷ []) is in
+      let before : map giver_of rs ++ rest ≡ all = simp append-nil at same in
+      let apart : ((map giver_of rs ++ giver ∷ []) ++ []) ++ rest' ≡ map giver_of rs ++ (giver ∷ rest') = simp (append-nil, append_assoc) in
+      ap (λ (zs : List G). (zs ++ []) ++ rest') now ∙ apart ∙ ap (λ (zs : List G). map giver_of rs ++ zs) (sym next) ∙ before
+  one_started giver_of rs more r (x ∷ idle) rest rest' all giver none pushed next is same = absurd (omega (arith, none))
+
+module _ {G : Type 0} where
+  -- the next giver is idle
+  pub one_idle : (running idle idle' rest rest' all : List G) (giver : G) → idle' ≡ idle ++ giver ∷ [] → rest ≡ giver ∷ rest'
+      → (running ++ idle) ++ rest ≡ all → (running ++ idle') ++ rest' ≡ all
+  one_idle running idle idle' rest rest' all giver pushed next same =
+      let apart : (running ++ (idle ++ giver ∷ [])) ++ rest' ≡ running ++ (idle ++ (giver ∷ rest')) = simp append_assoc in
+      ap (λ (zs : List G). (running ++ zs) ++ rest') pushed ∙ apart
+      ∙ ap (λ (zs : List G). running ++ (idle ++ zs)) (sym next) ∙ sym (append_assoc running idle rest) ∙ same

@@ -1,11 +1,12 @@
 //! All lanes of a run.
-ghost use Rattle.std.specs.Prelude.{◌≡◌, ◌≤◌, ◌+◌, ◌∷◌, ◌++◌, List, [], All, IfOk, OnOk, IfErr, vec_len};
+ghost use Rattle.std.specs.Prelude.{◌≡◌, ◌≤◌, ◌+◌, ◌∷◌, ◌++◌, List, [], All, IfOk, OnOk, IfErr, map, vec_len};
 ghost use Rattle.ruled_lanes.specs.declared.limits.TheConstants.{LANES};
+ghost use Rattle.ruled_lanes.specs.FanEnds.{given_at};
 ghost use Rattle.ruled_lanes.specs.TicketSeats.{IsSeatOf, IsUnused};
 ghost use Rattle.lanes.specs.Notes.{Note};
 ghost use Rattle.lanes.specs.Files.{AreToldWhole};
 ghost use Rattle.lane_runs.specs.Lanes.{StartsLane};
-ghost use Rattle.lane_runs.specs.Running.{AreNumbered, IsIdle, IsRunning, StartsRun, LeavesRun};
+ghost use Rattle.lane_runs.specs.Running.{StartsRun, LeavesRun};
 ghost use Rattle.lane_runs.specs.Faults.{EndsRun};
 ghost use Rattle.lane_runs.specs.Taking.{TakesFiles};
 
@@ -107,19 +108,18 @@ impl<'s, R: Threads + Wait + Sync, O: Opener, G: Gate> Shared<'s, R, O, G> {
             × TakesFiles L.takes L.ends (O.meaning self.now.run.now.opener.now) }
         ensures { LeavesRun C.holds C.gave_up C.stays self.now.run.now.choice (O.meaning self.now.run.now.opener.now) self.now.tickets.now (vec_len seats) consumer.old consumer.new result }
     {
-        match self.start_lanes::<_, L>(scope, seats, givers, &gatherer) {
+        match self.start_lanes::<_, L>(scope, seats, givers) {
             Ok((running, idle)) => self.finish_lanes(gatherer, running, idle, consumer),
             Err(fault) => Err(RunFault::from(fault)),
         }
     }
 
-    /// Starts a lane for each seat, which gives to this fan. The givers of the other lanes are given back.
+    /// Starts a lane for each seat, with the first of the givers, in order. The other givers are given back.
     fn start_lanes<E, L: LaneKind + 's>(
         &'s self,
         scope: &'s Scope<'s, E>,
         mut seats: Vec<Seat>,
         givers: Vec<LaneGiver<Message<L::Entry, L::End>>>,
-        gatherer: &Gatherer<Message<L::Entry, L::End>>,
     ) -> Result<
         (
             Vec<Running<L::Entry, L::End, O>>,
@@ -131,13 +131,14 @@ impl<'s, R: Threads + Wait + Sync, O: Opener, G: Gate> Shared<'s, R, O, G> {
         requires seats { All (IsSeatOf self.now.tickets.now) seats.items }
         requires unused { All IsUnused seats.items }
         requires lanes { vec_len givers ≡ LANES }
-        requires idle { AreNumbered (IsIdle gatherer.now) 0 givers.items }
+        requires none_given { All (λ giver. given_at giver ≡ []) givers.items }
         requires takes { TakesFiles L.takes L.ends (O.meaning self.now.run.now.opener.now) }
         ensures count { IfOk result (λ started. vec_len started.0 ≡ vec_len seats) }
         ensures lanes { IfOk result (λ started. vec_len started.0 + vec_len started.1 ≡ LANES) }
-        ensures running { IfOk result (λ started. AreNumbered (λ lane r. IsRunning gatherer.now self.now.run.now.choice self.now.run.now.opener.now self.now.tickets.now lane
-            r.promise.choice r.promise.opener.value r.promise.tickets.value r.promise.giver.value) 0 started.0.items) }
-        ensures idle { IfOk result (λ started. AreNumbered (IsIdle gatherer.now) (vec_len seats) started.1.items) }
+        ensures givers { IfOk result (λ started. map (λ r. r.promise.giver.value) started.0.items ++ started.1.items ≡ givers.items) }
+        ensures choice { IfOk result (λ started. All (λ r. r.promise.choice ≡ self.now.run.now.choice) started.0.items) }
+        ensures opener { IfOk result (λ started. All (λ r. r.promise.opener.value ≡ self.now.run.now.opener.now) started.0.items) }
+        ensures tickets { IfOk result (λ started. All (λ r. r.promise.tickets.value ≡ self.now.tickets.now) started.0.items) }
     {
         let Ok(mut running) = Vec::with_capacity(self.run.alloc, seats.len()) else {
             return Err(LaneFault::Memory);

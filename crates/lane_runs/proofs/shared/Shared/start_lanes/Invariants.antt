@@ -1,7 +1,7 @@
-use Rattle.std.proofs.Common.{◌≡◌, ◌+◌, ◌<◌, All, length, vec_len}
+use Rattle.std.proofs.Common.{◌≡◌, ◌+◌, ◌<◌, ◌++◌, [], All, map, length, vec_len}
 use Rattle.ruled_lanes.specs.declared.limits.TheConstants.{LANES}
+use Rattle.ruled_lanes.specs.FanEnds.{given_at}
 use Rattle.ruled_lanes.specs.TicketSeats.{IsSeatOf, IsUnused}
-use Rattle.lane_runs.specs.Running.{AreNumbered, IsIdle, IsRunning}
 use Rattle.lane_runs.proofs.shared.Shared.start_lanes.Given as goal
 
 abbrev pub invariant-loop-giver : goal.invariant-loop-giver
@@ -9,9 +9,11 @@ invariant-loop-giver g l = record {
   lanes : vec_len l.running + vec_len l.idle + length l.giver-iterator.rest.items ≡ LANES;
   count : vec_len l.running + vec_len l.seats ≡ vec_len l.fn.seats;
   waits : 0 < vec_len l.seats → vec_len l.idle ≡ 0;
-  rest : AreNumbered (IsIdle l.gatherer) (vec_len l.running + vec_len l.idle) l.giver-iterator.rest.items;
-  running : AreNumbered (λ lane r. IsRunning l.gatherer l.self.run.now.choice l.self.run.now.opener.now l.self.tickets.now lane r.promise.choice r.promise.opener.value r.promise.tickets.value r.promise.giver.value) 0 l.running.items;
-  still : AreNumbered (IsIdle l.gatherer) (vec_len l.fn.seats) l.idle.items;
+  none_given : All (λ giver. given_at giver ≡ []) l.giver-iterator.rest.items;
+  givers : (map (λ r. r.promise.giver.value) l.running.items ++ l.idle.items) ++ l.giver-iterator.rest.items ≡ l.fn.givers.items;
+  choice : All (λ r. r.promise.choice ≡ l.self.run.now.choice) l.running.items;
+  opener : All (λ r. r.promise.opener.value ≡ l.self.run.now.opener.now) l.running.items;
+  tickets : All (λ r. r.promise.tickets.value ≡ l.self.tickets.now) l.running.items;
   sits : All (IsSeatOf l.self.tickets.now) l.seats.items;
   unused : All IsUnused l.seats.items;
 }
