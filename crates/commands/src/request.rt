@@ -1,5 +1,5 @@
 //! The command line.
-ghost use Rattle.std.specs.Prelude.{◌≡◌, ◌≤◌, ◌↔◌, IfOk, IfSome, map, true};
+ghost use Rattle.std.specs.Prelude.{◌≡◌, ◌≢◌, ◌≤◌, ◌↔◌, ◌∷◌, [], IfOk, IfNone, IfSome, length, map, true};
 ghost use Rattle.choices.specs.declared.Choice.{Choice};
 ghost use Rattle.reports.specs.declared.form.Form.{Form};
 ghost use Rattle.commands.specs.declared.reading.Wish.{Wish};
@@ -74,7 +74,8 @@ fn request_of<'a>(
     ensures { IfSome result (IsAskedBy words.now) }
 {
     if asks(Wish::Frames, words) {
-        return frames_request(words, files.as_slice());
+        let name = only_file(files.as_slice())?;
+        return Some(Request::Frames { name });
     }
     if files.is_empty() || !asks(Wish::Layout, words) {
         return None;
@@ -92,14 +93,13 @@ fn request_of<'a>(
     }))
 }
 
-/// The file whose records are asked for.
-fn frames_request<'a>(words: &[String], files: &[&'a str]) -> Option<Request<'a>>
-    requires command { asks_in Wish.Frames words.now ≡ true }
-    requires files { map (λ file. file.now) files.now ≡ files_in words.now }
-    ensures { IfSome result (IsAskedBy words.now) }
+/// The only one of these files; none where there is another number of them.
+fn only_file<'a>(files: &[&'a str]) -> Option<&'a str>
+    ensures one { IfSome result (λ name. map (λ file. file.now) files.now ≡ name.now ∷ []) }
+    ensures none { IfNone result (length files.now ≢ 1) }
 {
     match files {
-        [name] => Some(Request::Frames { name: *name }),
+        [name] => Some(*name),
         _ => None,
     }
 }
