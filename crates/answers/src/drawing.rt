@@ -8,10 +8,7 @@ ghost use Rattle.drawing_check.specs.Draws.{Draws};
 ghost use Rattle.entries.specs.Drawn.{HasPoints, IsDrawn};
 
 use crate::drawing_kind::DrawingKind;
-use crate::fault::LayoutFault;
-use crate::held::{Held, Shell};
-use crate::layout::{Layout, SpentLayout};
-use crate::spent::WayBack;
+use crate::spent::{SpentShape, Ways};
 use compact::{BoxesScratch, CompactFault, compact_in, dissect_along};
 use drawing_check::{CheckFault, Drawing, check_in};
 use entries::{Answer, Cause, Entry};
@@ -31,9 +28,9 @@ pub struct DrawScratch {
     check: drawing_check::Scratch,
     // the directions of the darts of the shape that was drawn last
     headings: Vec<u8>,
-    // the box of its layout
-    shell: Option<Shell<Layout, SpentLayout>>,
-    pub(crate) back: WayBack<Shell<Layout, SpentLayout>>,
+    // what is done with and not sent back yet
+    spent: Option<(Plane, SpentShape)>,
+    pub(crate) ways: Ways,
 }
 
 impl DrawScratch {
@@ -45,8 +42,8 @@ impl DrawScratch {
             rows: visibility::Scratch::empty(alloc),
             check: drawing_check::Scratch::empty(alloc),
             headings: Vec::new(alloc),
-            shell: None,
-            back: WayBack::none(),
+            spent: None,
+            ways: Ways::none(),
         }
     }
 
@@ -56,7 +53,7 @@ impl DrawScratch {
     }
 
     /// Takes the lists of an entry that nobody reads any more, so that they are filled anew. Those of its drawing stay
-    /// here, those of its plane and its shape go back in the box of its layout.
+    /// here, those of its plane and its shape go back to the stages that fill them.
     pub fn take_back(&mut self, alloc: Global, entry: Entry) {
         let Entry {
             file: _,
@@ -76,34 +73,21 @@ impl DrawScratch {
                 self.points.take_back(drawing.into_points());
             }
             let headings = mem::replace(&mut self.headings, Vec::new(alloc));
-            if let Some(shell) = &mut self.shell {
-                shell.load(SpentLayout {
-                    plane,
-                    shape,
-                    prices,
-                    headings,
-                });
-            }
+            let shape = SpentShape {
+                shape,
+                prices,
+                headings,
+            };
+            self.spent = Some((plane, shape));
         }
     }
 
-    /// Sends the box of the layout that was taken last back.
+    /// Sends what is done with back.
     pub(crate) fn send_back<R: Wait>(&mut self, rt: &R) {
-        if let Some(shell) = self.shell.take() {
-            self.back.send(rt, shell);
+        if let Some((plane, shape)) = self.spent.take() {
+            self.ways.planes.send(rt, plane);
+            self.ways.shapes.send(rt, shape);
         }
-    }
-
-    /// The layout out of its box, which goes back.
-    pub(crate) fn open(
-        &mut self,
-        layout: Result<Held<Layout, SpentLayout>, LayoutFault>,
-    ) -> Result<Layout, LayoutFault>
-        ensures { result ≡ layout }
-    {
-        let (layout, shell) = layout?.take();
-        self.shell = Some(shell);
-        Ok(layout)
     }
 }
 

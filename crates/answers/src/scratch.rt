@@ -1,13 +1,8 @@
 //! What the stages of a lane take memory for and do not keep.
-ghost use Rattle.std.specs.Prelude.{ℕ, List};
-ghost use Rattle.answers.specs.Steps.{IsEmbedded};
 
 use crate::drawing::DrawScratch;
-use crate::fault::LayoutFault;
-use crate::held::{Held, Shell};
-use crate::laying::{LayScratch, Ways};
-use crate::spent::WayBack;
-use faces::Plane;
+use crate::laying::LayScratch;
+use crate::spent::{WayBack, Ways};
 use std::alloc::{AllocError, Global};
 use std::sync::Wait;
 
@@ -15,9 +10,7 @@ use std::sync::Wait;
 #[derive(Drop)]
 pub struct EmbedScratch {
     pub(crate) planes: faces::Scratch,
-    // the box of the next plane
-    shell: Option<Shell<Plane, Plane>>,
-    spent: WayBack<Shell<Plane, Plane>>,
+    pub(crate) spent: WayBack<faces::Plane>,
 }
 
 impl EmbedScratch {
@@ -25,41 +18,20 @@ impl EmbedScratch {
     pub fn empty(alloc: Global) -> EmbedScratch {
         EmbedScratch {
             planes: faces::Scratch::empty(alloc),
-            shell: None,
             spent: WayBack::none(),
         }
     }
 
-    /// Takes in the box of a plane, and the lists of one that is done with, where they have come back.
+    /// Takes in the lists of a plane that is done with, where one has come back.
     pub(crate) fn restock<R: Wait>(&mut self, rt: &R) {
-        if let Some(mut shell) = self.spent.receive(rt) {
-            if let Some(plane) = shell.unload() {
-                plane.give_back(&mut self.planes);
-            }
-            self.shell = Some(shell);
-        }
-    }
-
-    /// The plane in a box, where there is memory for one.
-    pub(crate) fn hold(
-        &mut self,
-        alloc: Global,
-        plane: Result<Plane, LayoutFault>,
-    ) -> Result<Held<Plane, Plane>, LayoutFault>
-        ensures { (bytes : List ℕ) → IsEmbedded bytes plane → IsEmbedded bytes result }
-    {
-        let plane = plane?;
-        match self.shell.take() {
-            Some(shell) => Ok(shell.fill(plane)),
-            None => match Shell::new(alloc) {
-                Ok(shell) => Ok(shell.fill(plane)),
-                Err(AllocError) => Err(LayoutFault::Memory),
-            },
+        if let Some(plane) = self.spent.receive(rt) {
+            plane.give_back(&mut self.planes);
         }
     }
 }
 
-/// The scratch of each stage of a lane, through which boxes and lists go back from each stage to the one before.
+/// The scratch of each stage of a lane, through which planes and shapes go back from the last one to those that
+/// make them.
 #[derive(Drop)]
 pub struct StageScratch {
     pub embed: EmbedScratch,
@@ -68,25 +40,22 @@ pub struct StageScratch {
 }
 
 impl StageScratch {
-    /// For a lane whose links have room for `capacity` messages. A box is on its way in one link, in the hands of a
-    /// stage, or on the way back.
+    /// For a lane whose links have room for `capacity` messages. So many planes are on their way at most as stand in
+    /// two links and in the hands of three stages.
     ///
     /// # Errors
     ///
     /// `AllocError` where there is no memory for the ways back.
     pub fn new(alloc: Global, capacity: u32) -> Result<StageScratch, AllocError> {
-        let room = capacity as usize + 3;
+        let room = 2 * capacity as usize + 3;
         let (planes, spent_planes) = WayBack::new(alloc, room)?;
-        let (layouts, spent_layouts) = WayBack::new(alloc, room)?;
+        let (shapes, spent_shapes) = WayBack::new(alloc, room)?;
         let mut embed = EmbedScratch::empty(alloc);
         embed.spent = spent_planes;
         let mut shape = LayScratch::empty(alloc);
-        shape.ways = Ways {
-            planes,
-            layouts: spent_layouts,
-        };
+        shape.spent = spent_shapes;
         let mut draw = DrawScratch::empty(alloc);
-        draw.back = layouts;
+        draw.ways = Ways { planes, shapes };
         Ok(StageScratch { embed, shape, draw })
     }
 }

@@ -5,8 +5,7 @@ ghost use Rattle.answers.specs.Steps.{IsShaped};
 use crate::drawing::DrawScratch;
 use crate::drawing_kind::DrawingKind;
 use crate::fault::LayoutFault;
-use crate::held::Held;
-use crate::layout::{Layout, SpentLayout};
+use crate::layout::Layout;
 use crate::stages::answer_with;
 use choices::Choice;
 use entries::Entry;
@@ -27,7 +26,7 @@ pub struct Shaped {
     pub choice: Choice,
     /// Which drawing is made of it.
     pub drawing: DrawingKind,
-    pub layout: Result<Held<Layout, SpentLayout>, LayoutFault>,
+    pub layout: Result<Layout, LayoutFault>,
     pub ghost shaped: { ∥ IsShaped choice rec layout ∥₁ },
 }
 
@@ -59,13 +58,12 @@ impl Staged for Shaped {
     }
 
     fn next(self, alloc: Global, scratch: &mut DrawScratch) -> Entry {
-        let layout = scratch.open(self.layout);
         Entry {
             file: self.file,
             ordinal: self.ordinal,
             rec: self.rec,
             choice: self.choice,
-            answer: answer_with(alloc, scratch, layout, self.drawing),
+            answer: answer_with(alloc, scratch, self.layout, self.drawing),
         }
     }
 }
