@@ -6,7 +6,9 @@ ghost use Rattle.ruled_lanes.specs.FanEnds.{given_at, gathered};
 
 use crate::known::same;
 use answers::{Embedded, Entry, Framed, Shaped};
-use lanes::{Drafts, GatherFault, Message, OpenGate, gather, run_last_stage, run_stage};
+use lanes::{
+    Drafts, GatherFault, Message, OpenGate, StageWork, Staged, gather, run_last_stage, run_stage,
+};
 use ruled_lanes::{Gatherer, LANES, LaneGiver, Memory, Taker, fan_in, link};
 use std::alloc::{AllocError, Global};
 use std::process::Abort;
@@ -37,11 +39,20 @@ fn end_of<T: Drop>(answer: Result<T, GatherFault<AllocError>>) -> Ended {
     }
 }
 
+/// What the second stage of lane 0 works with.
+fn work_of_embedding(alloc: Global) -> StageWork<Framed> {
+    StageWork {
+        lane: 0,
+        scratch: Framed::scratch(alloc),
+    }
+}
+
 #[test]
 fn a_stage_ends_where_the_one_before_is_gone(rt: HostRuntime) {
     let taker = left_alone::<Message<Framed, ()>>(rt.alloc()).expect(&rt, "memory");
     let (giver, mut next) = link::<Message<Embedded, ()>>(rt.alloc(), 1).expect(&rt, "memory");
-    let ends = run_stage(&rt, rt.alloc(), &OpenGate, 0, taker, giver);
+    let work = work_of_embedding(rt.alloc());
+    let ends = run_stage(&rt, rt.alloc(), &OpenGate, work, taker, giver);
     assert!(rt; ends.is_none());
     assert!(rt; next.take(&rt).is_err());
 }
@@ -51,7 +62,8 @@ fn a_stage_ends_where_the_next_one_is_gone(rt: HostRuntime) {
     let (mut before, taker) = link::<Message<Framed, ()>>(rt.alloc(), 2).expect(&rt, "memory");
     let (giver, _) = link::<Message<Embedded, ()>>(rt.alloc(), 1).expect(&rt, "memory");
     assert!(rt; before.give(&rt, Message::End(0, Mark::Io, ())).is_ok());
-    let ends = run_stage(&rt, rt.alloc(), &OpenGate, 0, taker, giver);
+    let work = work_of_embedding(rt.alloc());
+    let ends = run_stage(&rt, rt.alloc(), &OpenGate, work, taker, giver);
     assert!(rt; ends.is_none());
     assert!(rt; before.give(&rt, Message::Stop).is_err());
 }
@@ -77,7 +89,8 @@ fn lose_the_stage_before<R: AllocGlobal + Wait + Abort>(
     requires { given_at giver.old ≡ [] }
 {
     let taker = left_alone::<Message<Shaped, ()>>(rt.alloc()).expect(rt, "memory");
-    let end = run_last_stage(rt, rt.alloc(), &OpenGate, taker, giver);
+    let scratch = Shaped::scratch(rt.alloc());
+    let end = run_last_stage(rt, rt.alloc(), &OpenGate, scratch, taker, giver);
     assert!(rt; end.is_none());
     assert!(rt; giver.give(rt, Message::Stop).is_ok());
 }
