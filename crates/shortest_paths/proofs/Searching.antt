@@ -1,15 +1,25 @@
 -- What a search knows of the nodes that it reached, in the words of its structs.
 use Rattle.std.proofs.Common.{◌≡◌, ◌≤◌, ◌<◌, ◌+◌, ◌⊎◌, ℕ, refl, sym, ◌∙◌, ap, subst, inl, inr, arith}
-use Rattle.std.specs.Prelude.{ℤ, pos, ◌+ℤ◌, ◌-ℤ◌, ◌≤ℤ◌, ◌<ℤ◌, length}
+use Rattle.std.specs.Prelude.{ℤ, pos, ◌+ℤ◌, ◌-ℤ◌, ◌≤ℤ◌, ◌<ℤ◌, length, slice_index_or}
+use Rattle.std.proofs.Math.Path.{fun_ext}
+use Rattle.std.proofs.lemmas.List.{get_or_read}
 use mir.Syntax.{w32}
 use mir.Val.{SFits, of_z, to_z}
 use Rattle.shortest_paths.specs.declared.state.Ground.{Ground}
 use Rattle.shortest_paths.specs.declared.state.Search.{Search}
 use Rattle.shortest_paths.specs.declared.state.Step.{Step}
+use Rattle.shortest_paths.specs.declared.state.Visit.{Visit}
 use Rattle.networks.specs.ResidualArcs.{StartsAt, end_at, cost_at}
-use Rattle.shortest_paths.specs.Search.{far, nodes_of, first_of, arcs_of, IsScanning, potential_of, excess_of, labels, orders, places, Reaches, Keeps, IsSearch, IsOffered, IsMarked, IsRelaxed, IsKept, IsSwapped, IsOrdered, HasServed, Serves, IsServed, looked, degree, SameBesideCut, SameBesideOrder, IsWithinFar}
+use Rattle.shortest_paths.specs.Search.{no_visit, far, nodes_of, first_of, arcs_of, IsScanning, potential_of, excess_of, labels, orders, places, Reaches, Keeps, IsSearch, IsOffered, IsMarked, IsRelaxed, IsKept, IsSwapped, IsOrdered, HasServed, Serves, IsServed, looked, degree, SameBesideCut, SameBesideOrder, IsWithinFar}
 use Rattle.shortest_paths.proofs.Signs.{passed_within, difference_is}
 use Rattle.shortest_paths.proofs.Reaching.{below_or_not, behind, swapped, nearest_kept, nearest_offered, kept_then, kept_same, at_level, offer_below, offer_fits, offer_made, next_node, next_kept, next_only, serves_kept, served_kept, served_more, kept_less, same_le, order_kept, looked_most, looked_same, looked_more, same_z, relabelled, enlisted, order_room, reached_fits, potential_fits_at, offer_end}
+
+-- what is read of a visit
+pub label_read : (s : Search) (v : ℕ) (x : Visit) → v < length s.visits.items → x ≡ slice_index_or s.visits.items v x → x.label ≡ labels s v
+label_read s v x b e = ap (λ (y : Visit). y.label) (get_or_read s.visits.items v x b e no_visit)
+
+pub order_read : (s : Search) (j : ℕ) (x : Visit) → j < length s.visits.items → x ≡ slice_index_or s.visits.items j x → x.at_place ≡ orders s j
+order_read s j x b e = ap (λ (y : Visit). y.at_place) (get_or_read s.visits.items j x b e no_visit)
 
 -- w is the node at place j of the order
 pub record IsMember (g : Ground) (s : Search) (j w : ℕ) : Type 0 where
@@ -36,7 +46,7 @@ potential_within g s w z h b e f = passed_within _ _ z f (subst (λ (t : ℤ). I
 pub away_is : (r z y q p : ℤ) → SFits w32 z → SFits w32 y → r ≡ to_z w32 (of_z w32 z) -ℤ to_z w32 (of_z w32 y) → z ≡ q → y ≡ p → r ≡ q -ℤ p
 away_is r z y q p f g e a b = difference_is r z y f g e ∙ ap (λ (t : ℤ). t -ℤ y) a ∙ ap (λ (t : ℤ). q -ℤ t) b
 
-pub room_left : (g : Ground) (s : Search) (v : ℕ) → IsSearch g s → v < nodes_of g → far ≤ℤ labels s v → s.reached < length s.label.items
+pub room_left : (g : Ground) (s : Search) (v : ℕ) → IsSearch g s → v < nodes_of g → far ≤ℤ labels s v → s.reached < length s.visits.items
 room_left g s v h b l = omega (arith, h.size, order_room _ _ _ _ _ _ _ _ _ _ _ _ _ _ v h.reached b l)
 
 -- what a new label leaves
@@ -55,9 +65,9 @@ taken g s s' step o plain m =
           let e = m.again l in
           let all = relabelled _ _ _ _ _ _ _ _ _ _ _ _ _ _ _ _ _ _ _ h.reached o.offer b l plain m.label m.enter in
           record {
-            reached = rw (e.order, e.place, q.head, q.ordered, e.reached, q.level) all.0;
-            kept = rw e.place all.1;
-            place = rw e.place (behind _ _ _ _ _ _ _ _ _ _ _ _ _ _ step.end step.label h.reached b o.offer.beyond o.offer.less l);
+            reached = rw (fun_ext e.order, fun_ext e.place, q.head, q.ordered, e.reached, q.level) all.0;
+            kept = rw (fun_ext e.place) all.1;
+            place = rw (fun_ext e.place) (behind _ _ _ _ _ _ _ _ _ _ _ _ _ _ step.end step.label h.reached b o.offer.beyond o.offer.less l);
           }
       | inr l ↦
           let e = m.anew l in
@@ -88,12 +98,11 @@ offered g s s' step away o wants at a cut either =
     record {
       search = record {
         ground = h.ground;
-        even = record { enters = rw (a.label, a.enter) h.even.enters; orders = rw (a.label, a.order) h.even.orders; places = rw (a.label, a.place) h.even.places };
-        size = rw a.label h.size;
-        reached = rw (a.label, a.enter, a.order, a.place, a.head, a.ordered, a.reached, a.level) h.reached;
-        nearest = rw (a.label, a.place, a.head, a.level) (nearest_offered _ _ _ _ _ _ _ _ _ _ _ _ _ _ _ v _ h.nearest o.offer (h.reached.most v b) wants (h.ground.priced.zero v b wants) given);
+        size = rw a.visits h.size;
+        reached = rw (a.visits, a.head, a.ordered, a.reached, a.level) h.reached;
+        nearest = rw (a.visits, a.head, a.level) (nearest_offered _ _ _ _ _ _ _ _ _ _ _ _ _ _ _ v _ h.nearest o.offer (h.reached.most v b) wants (h.ground.priced.zero v b wants) given);
       };
-      kept = rw (a.label, a.place) (kept_same _ _ _ _);
+      kept = rw a.visits (kept_same _ _ _ _);
       head = a.head;
       level = a.level;
       cut = cut;
@@ -108,7 +117,6 @@ settled_behind g s t step o plain m =
     record {
       search = record {
         ground = h.ground;
-        even = p.even;
         size = p.size ∙ h.size;
         reached = k.reached;
         nearest = rw (p.head, p.level, p.cut, p.found) (nearest_kept _ _ _ _ _ _ _ _ _ _ _ _ _ _ _ h.nearest h.nearest.above k.kept);
@@ -126,7 +134,7 @@ pub record IsListed (g : Ground) (t : Search) (v : ℕ) : Type 0 where
   pub back : orders t (places t v) ≡ v
   pub ordered : t.ordered ≤ places t v
   pub few : t.reached ≤ nodes_of g
-  pub size : length t.label.items ≡ nodes_of g
+  pub size : length t.visits.items ≡ nodes_of g
   pub other : orders t t.ordered < nodes_of g
   pub at : places t (orders t t.ordered) ≡ t.ordered
 
@@ -167,12 +175,11 @@ settled g s t u step away o plain m at same swap z up =
     record {
       search = record {
         ground = h.ground;
-        even = z.even;
-        size = rw z.label w.size;
-        reached = rw (z.label, z.enter, z.head, up, z.reached, z.level) moved;
-        nearest = rw (z.label, z.head, p.head, z.level, p.level, z.cut, p.cut, z.found, p.found) (nearest_kept _ _ _ _ _ _ _ _ _ _ _ _ _ _ _ h.nearest h.nearest.above both);
+        size = z.size ∙ w.size;
+        reached = rw (fun_ext z.label, fun_ext z.enter, z.head, up, z.reached, z.level) moved;
+        nearest = rw (fun_ext z.label, z.head, p.head, z.level, p.level, z.cut, p.cut, z.found, p.found) (nearest_kept _ _ _ _ _ _ _ _ _ _ _ _ _ _ _ h.nearest h.nearest.above both);
       };
-      kept = rw z.label both;
+      kept = rw (fun_ext z.label) both;
       head = z.head ∙ p.head;
       level = z.level ∙ p.level;
       cut = subst (λ (q : ℤ). q ≤ℤ s.cut) (sym (z.cut ∙ p.cut)) (same_z s.cut);

@@ -1,6 +1,6 @@
 -- The search for the nearest node where units are wanting: labels, the order of nodes by their
 -- distance, and what holds of them.
-use Rattle.std.specs.Prelude.{ℕ, ◌+◌, ◌-◌, ◌*◌, ◌<◌, ◌≤◌, ◌≡◌, ◌≢◌, ℤ, pos, negsuc, ◌+ℤ◌, ◌-ℤ◌, ◌≤ℤ◌, ◌<ℤ◌, ◌⊎◌, List, length}
+use Rattle.std.specs.Prelude.{ℕ, ◌+◌, ◌-◌, ◌*◌, ◌<◌, ◌≤◌, ◌≡◌, ◌≢◌, ℤ, pos, negsuc, ◌+ℤ◌, ◌-ℤ◌, ◌≤ℤ◌, ◌<ℤ◌, ◌⊎◌, List, length, slice_index_or}
 use Rattle.networks.specs.declared.network.TheConstants.{MAX_NODES}
 use Rattle.networks.specs.declared.residual.TheConstants.{MAX_RESIDUAL_ARCS, SHUT}
 use Rattle.shortest_paths.specs.declared.state.TheConstants.{FAR}
@@ -9,6 +9,7 @@ use Rattle.networks.specs.declared.residual.ResidualArc.{ResidualArc}
 use Rattle.shortest_paths.specs.declared.state.Ground.{Ground}
 use Rattle.shortest_paths.specs.declared.state.Search.{Search}
 use Rattle.shortest_paths.specs.declared.state.Step.{Step}
+use Rattle.shortest_paths.specs.declared.state.Visit.{Visit}
 use Rattle.networks.specs.Flow.{at_nodes}
 use Rattle.networks.specs.ResidualArcs.{numbers, end_at, cost_at, StartsAt}
 
@@ -137,37 +138,36 @@ potential_of g = at_nodes g.nodes.now.potential.items
 abbrev pub excess_of : Ground → ℕ → ℤ
 excess_of g = at_nodes g.nodes.now.excess.items
 
+-- stands for visits past the last
+abbrev pub no_visit : Visit
+no_visit = record { label = pos 0; enter = 0; place = 0; score = pos 0; at_place = 0 }
+
+abbrev pub visit_at : Search → ℕ → Visit
+visit_at s v = slice_index_or s.visits.items v no_visit
+
 abbrev pub labels : Search → ℕ → ℤ
-labels s = at_nodes s.label.items
+labels s v = (visit_at s v).label
 
 abbrev pub enters : Search → ℕ → ℕ
-enters s = numbers s.enter.items
+enters s v = (visit_at s v).enter
 
 abbrev pub orders : Search → ℕ → ℕ
-orders s = numbers s.order.items
+orders s j = (visit_at s j).at_place
 
 abbrev pub places : Search → ℕ → ℕ
-places s = numbers s.place.items
+places s v = (visit_at s v).place
 
 -- what a search reads is sound
 pub record IsGround (g : Ground) : Type 0 where
   pub excesses : length g.nodes.now.excess.items ≡ nodes_of g
-  pub scores : length g.nodes.now.score.items ≡ nodes_of g
   pub graph : IsGraph (nodes_of g) (first_of g) (arcs_of g)
   pub priced : IsPriced (nodes_of g) (first_of g) (arcs_of g) (potential_of g) (excess_of g)
   pub source : g.source < nodes_of g
 
--- a search's lists are all as long as that of its labels
-pub record IsEven (s : Search) : Type 0 where
-  pub enters : length s.enter.items ≡ length s.label.items
-  pub orders : length s.order.items ≡ length s.label.items
-  pub places : length s.place.items ≡ length s.label.items
-
 -- a search can begin: units are left over at the source, and no node has a label
 pub record IsBlank (g : Ground) (s : Search) : Type 0 where
   pub ground : IsGround g
-  pub even : IsEven s
-  pub size : length s.label.items ≡ nodes_of g
+  pub size : length s.visits.items ≡ nodes_of g
   pub blank : (v : ℕ) → v < nodes_of g → labels s v ≡ far
   pub source : pos 0 <ℤ excess_of g g.source
 
@@ -180,8 +180,7 @@ FindsNearest g s = IsNearest (nodes_of g) (first_of g) (arcs_of g) (potential_of
 -- what holds all through a search
 pub record IsSearch (g : Ground) (s : Search) : Type 0 where
   pub ground : IsGround g
-  pub even : IsEven s
-  pub size : length s.label.items ≡ nodes_of g
+  pub size : length s.visits.items ≡ nodes_of g
   pub reached : Reaches g s
   pub nearest : FindsNearest g s
 
@@ -207,7 +206,7 @@ pub record IsNextLevel (g : Ground) (s : Search) (level : ℤ) : Type 0 where
 pub record IsOrdered (g : Ground) (s s' : Search) : Type 0 where
   pub search : IsSearch g s'
   pub kept : Keeps g s.head s s'
-  pub label : s'.label ≡ s.label
+  pub label : (v : ℕ) → labels s' v ≡ labels s v
   pub head : s'.head ≡ s.head
   pub reached : s'.reached ≡ s.reached
   pub cut : s'.cut ≡ s.cut
@@ -237,10 +236,7 @@ pub record IsRelaxed (g : Ground) (s s' : Search) : Type 0 where
 
 -- all stays but the cut and what was found
 pub record SameBesideCut (s s' : Search) : Type 0 where
-  pub label : s'.label ≡ s.label
-  pub enter : s'.enter ≡ s.enter
-  pub order : s'.order ≡ s.order
-  pub place : s'.place ≡ s.place
+  pub visits : s'.visits ≡ s.visits
   pub head : s'.head ≡ s.head
   pub ordered : s'.ordered ≡ s.ordered
   pub reached : s'.reached ≡ s.reached
@@ -248,9 +244,9 @@ pub record SameBesideCut (s s' : Search) : Type 0 where
 
 -- all stays but the order
 pub record SameBesideOrder (s s' : Search) : Type 0 where
-  pub even : IsEven s'
-  pub label : s'.label ≡ s.label
-  pub enter : s'.enter ≡ s.enter
+  pub size : length s'.visits.items ≡ length s.visits.items
+  pub label : (v : ℕ) → labels s' v ≡ labels s v
+  pub enter : (v : ℕ) → enters s' v ≡ enters s v
   pub head : s'.head ≡ s.head
   pub reached : s'.reached ≡ s.reached
   pub level : s'.level ≡ s.level
@@ -259,8 +255,7 @@ pub record SameBesideOrder (s s' : Search) : Type 0 where
 
 -- a new label changes none of these
 pub record SameProgress (s s' : Search) : Type 0 where
-  pub even : IsEven s'
-  pub size : length s'.label.items ≡ length s.label.items
+  pub size : length s'.visits.items ≡ length s.visits.items
   pub head : s'.head ≡ s.head
   pub ordered : s'.ordered ≡ s.ordered
   pub level : s'.level ≡ s.level
@@ -269,8 +264,8 @@ pub record SameProgress (s s' : Search) : Type 0 where
 
 -- nor these, where the node was reached before
 pub record SameOrder (s s' : Search) : Type 0 where
-  pub order : s'.order ≡ s.order
-  pub place : s'.place ≡ s.place
+  pub order : (j : ℕ) → orders s' j ≡ orders s j
+  pub place : (v : ℕ) → places s' v ≡ places s v
   pub reached : s'.reached ≡ s.reached
   pub progress : SameProgress s s'
 
@@ -295,21 +290,25 @@ pub record IsOffered (g : Ground) (s : Search) (step : Step) : Type 0 where
 
 -- the step ends at a node of the search
 pub record HasEnd (s : Search) (step : Step) : Type 0 where
-  pub even : IsEven s
-  pub few : length s.label.items ≤ MAX_NODES
-  pub node : step.end < length s.label.items
+  pub few : length s.visits.items ≤ MAX_NODES
+  pub node : step.end < length s.visits.items
   pub number : step.number < MAX_RESIDUAL_ARCS
 
 -- a node stands in the order behind those that are ordered, and can change places with the first behind them
 pub record CanAdvance (s : Search) (v : ℕ) : Type 0 where
-  pub even : IsEven s
-  pub few : length s.label.items ≤ MAX_NODES
-  pub node : v < length s.label.items
-  pub from : places s v < length s.label.items
+  pub few : length s.visits.items ≤ MAX_NODES
+  pub node : v < length s.visits.items
+  pub from : places s v < length s.visits.items
   pub order : s.ordered ≤ places s v
-  pub other : orders s s.ordered < length s.label.items
+  pub other : orders s s.ordered < length s.visits.items
   pub at : places s (orders s s.ordered) ≡ s.ordered
   pub listed : orders s (places s v) ≡ v
+
+-- the order has such a place, and there is such a node
+pub record CanPut (s : Search) (place node : ℕ) : Type 0 where
+  pub few : length s.visits.items ≤ MAX_NODES
+  pub at : place < length s.visits.items
+  pub stands : node < length s.visits.items
 
 -- an entry was written
 pub record IsPut {A : Type 0} (f f' : ℕ → A) (i : ℕ) (a : A) : Type 0 where

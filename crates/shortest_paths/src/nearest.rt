@@ -52,8 +52,7 @@ impl Search {
             end: ground.source,
             label: ground.nodes.potential[ground.source],
         });
-        self.order[0] = ground.source as u32;
-        self.place[ground.source] = 0;
+        self.put(0, ground.source);
         self.head = 0;
         self.ordered = 1;
         self.reached = 1;
@@ -95,10 +94,10 @@ impl Search {
     {
         let mut least = self.cut;
         for j in self.ordered..self.reached {
-            let node = self.order[j] as usize;
+            let node = self.visits[j].at_place as usize;
             least = lesser(
                 least,
-                distance(self.label[node], ground.nodes.potential[node]),
+                distance(self.visits[node].label, ground.nodes.potential[node]),
             );
         }
         least
@@ -126,8 +125,8 @@ impl Search {
         ensures behind { (i : ℕ) → j < i → orders self.new i ≡ orders self.old i }
         ensures more { labels self.old (orders self.old j) -ℤ potential_of ground.entry (orders self.old j) ≡ self.old.level → self.new.ordered ≡ self.old.ordered + 1 }
     {
-        let node = self.order[j] as usize;
-        if distance(self.label[node], ground.nodes.potential[node]) == self.level {
+        let node = self.visits[j].at_place as usize;
+        if distance(self.visits[node].label, ground.nodes.potential[node]) == self.level {
             self.advance(node);
         }
     }
@@ -144,7 +143,7 @@ impl Search {
         ensures head { self.new.head ≡ self.old.head + 1 }
         ensures looks { looks.new ≡ looks.old + degree (first_of ground.entry) (orders self.old self.old.head) }
     {
-        let node = self.order[self.head] as usize;
+        let node = self.visits[self.head].at_place as usize;
         self.head += 1;
         let start = ground.residual.first[node] as usize;
         let end = ground.residual.first[node + 1] as usize;
@@ -164,8 +163,8 @@ impl Search {
     {
         let arc = ground.residual.look(number, looks);
         let end = usize::from(arc.end);
-        let offered = offered_label(self.label[node], arc.cost);
-        if offered < self.label[end] {
+        let offered = offered_label(self.visits[node].label, arc.cost);
+        if offered < self.visits[end].label {
             let step = Step {
                 number,
                 end,

@@ -3,9 +3,9 @@
 //!
 //! Labels are within 8,000 of 0. Each step takes constant time, and no memory.
 ghost use Rattle.std.specs.Prelude.{◌≡◌, ◌⊎◌, ◌<◌, ◌+◌, length, pos, ◌≤ℤ◌, ◌<ℤ◌, ◌-ℤ◌};
-ghost use Rattle.shortest_paths.specs.Search.{far, potential_of, excess_of, labels, enters, orders, places, HasEnd, CanAdvance, IsOffered, IsRelaxed, IsMarked, SameBesideCut, SameBesideOrder, SameOrder, SameProgress, IsPut, IsSwapped, IsWithinFar};
+ghost use Rattle.shortest_paths.specs.Search.{far, potential_of, excess_of, labels, enters, orders, places, HasEnd, CanAdvance, CanPut, IsOffered, IsRelaxed, IsMarked, SameBesideCut, SameBesideOrder, SameOrder, SameProgress, IsPut, IsSwapped, IsWithinFar};
 
-use crate::state::{FAR, Ground, Search, Step};
+use crate::state::{FAR, Ground, Search, Step, Visit};
 
 impl Search {
     /// Takes up what a residual arc offers to its end: where units are wanting there, it may be the nearest such
@@ -17,7 +17,8 @@ impl Search {
     {
         let away = distance(step.label, ground.nodes.potential[step.end]);
         if ground.nodes.excess[step.end] < 0 {
-            self.offer(step.number, away, ground.nodes.score[step.end]);
+            let score = self.visits[step.end].score;
+            self.offer(step.number, away, score);
         } else if away < self.cut {
             self.settle(ground, step);
         }
@@ -55,10 +56,10 @@ impl Search {
     /// Gives a node a label, and a place behind all that were reached if it has none.
     fn mark(&mut self, step: Step)
         requires end { HasEnd self.old step }
-        requires room { far ≤ℤ labels self.old step.end → self.old.reached < length self.old.label.items }
+        requires room { far ≤ℤ labels self.old step.end → self.old.reached < length self.old.visits.items }
         ensures marked { IsMarked self.old self.new step }
     {
-        if self.label[step.end] < FAR {
+        if self.visits[step.end].label < FAR {
             self.relabel(step);
         } else {
             self.enlist(step);
@@ -68,7 +69,7 @@ impl Search {
     /// Gives a node that was not reached before a label, and a place behind all others.
     fn enlist(&mut self, step: Step)
         requires end { HasEnd self.old step }
-        requires room { self.old.reached < length self.old.label.items }
+        requires room { self.old.reached < length self.old.visits.items }
         ensures label { IsPut (labels self.old) (labels self.new) step.end step.label }
         ensures enter { IsPut (enters self.old) (enters self.new) step.end step.number }
         ensures order { IsPut (orders self.old) (orders self.new) self.old.reached step.end }
@@ -76,8 +77,7 @@ impl Search {
         ensures same { SameProgress self.old self.new }
         ensures reached { self.new.reached ≡ self.old.reached + 1 }
     {
-        self.order[self.reached] = step.end as u32;
-        self.place[step.end] = self.reached as u32;
+        self.put(self.reached, step.end);
         self.reached += 1;
         self.relabel(step);
     }
@@ -89,8 +89,11 @@ impl Search {
         ensures enter { IsPut (enters self.old) (enters self.new) step.end step.number }
         ensures order { SameOrder self.old self.new }
     {
-        self.label[step.end] = step.label;
-        self.enter[step.end] = step.number as u32;
+        self.visits[step.end] = Visit {
+            label: step.label,
+            enter: step.number as u32,
+            ..self.visits[step.end]
+        };
     }
 
     /// Puts a node behind those that are ordered, in exchange for the node that is there.
@@ -100,13 +103,29 @@ impl Search {
         ensures same { SameBesideOrder self.old self.new }
         ensures ordered { self.new.ordered ≡ self.old.ordered + 1 }
     {
-        let from = self.place[node];
-        let other = self.order[self.ordered];
-        self.order[from as usize] = other;
-        self.place[other as usize] = from;
-        self.order[self.ordered] = node as u32;
-        self.place[node] = self.ordered as u32;
+        let from = self.visits[node].place as usize;
+        let other = self.visits[self.ordered].at_place as usize;
+        self.put(from, other);
+        self.put(self.ordered, node);
         self.ordered += 1;
+    }
+
+    /// Puts a node at a place of the order.
+    pub(crate) fn put(&mut self, place: usize, node: usize)
+        requires { CanPut self.old place node }
+        ensures order { IsPut (orders self.old) (orders self.new) place node }
+        ensures place { IsPut (places self.old) (places self.new) node place }
+        ensures same { SameBesideOrder self.old self.new }
+        ensures ordered { self.new.ordered ≡ self.old.ordered }
+    {
+        self.visits[place] = Visit {
+            at_place: node as u32,
+            ..self.visits[place]
+        };
+        self.visits[node] = Visit {
+            place: place as u32,
+            ..self.visits[node]
+        };
     }
 }
 

@@ -11,8 +11,6 @@ pub struct Nodes {
     pub potential: Vec<i32>,
     /// How many units are left over at a node, or, below 0, are wanting there.
     pub excess: Vec<i32>,
-    /// Of nodes that are found at the same distance the one with the least score is taken.
-    pub score: Vec<i32>,
 }
 
 /// What a search reads: a residual network, its nodes, and the node where the search begins.
@@ -23,17 +21,27 @@ pub struct Ground<'a> {
     pub source: usize,
 }
 
-/// What a search has found so far. Its lists have an entry for each node.
+/// What a search knows of a node; and what stands at the place of the same number in the order of the nodes that
+/// were reached: first those that were scanned, then those at the level, then those further off.
+#[derive(Clone, Copy)]
+pub struct Visit {
+    /// The source's potential and the costs of the residual arcs on the way to the node, or `FAR`.
+    pub label: i32,
+    /// The residual arc on which the node was entered.
+    pub enter: u32,
+    /// The place of the node in the order.
+    pub place: u32,
+    /// Of nodes that are found at the same distance the one with the least score is taken.
+    pub score: i32,
+    /// The node at this place of the order.
+    pub at_place: u32,
+}
+
+/// What a search has found so far.
 #[derive(Drop)]
 pub struct Search {
-    /// The source's potential and the costs of the residual arcs on the way to a node, or `FAR`.
-    pub label: Vec<i32>,
-    /// The residual arc on which a node was entered.
-    pub enter: Vec<u32>,
-    /// The nodes that were reached: first those that were scanned, then those at the level, then those further off.
-    pub order: Vec<u32>,
-    /// The place of a node in that order.
-    pub place: Vec<u32>,
+    /// One for each node.
+    pub visits: Vec<Visit>,
     /// How many nodes were scanned: the first ones of the order.
     pub head: usize,
     /// How many nodes stand first in the order, sorted by their distance; the scanned ones are among them.

@@ -1,6 +1,7 @@
 use Rattle.std.proofs.Common.{rules, ◌≡◌, ◌≤◌, ◌+◌, ℕ, arith, refl, inl, inr, ap, subst, sym, ◌∙◌}
 use Rattle.std.proofs.lemmas.Bool.{cases_eq}
 use Rattle.std.proofs.lemmas.Int.{to_z-of_z}
+use Rattle.std.proofs.Math.Path.{fun_ext}
 use Rattle.std.specs.Prelude.{◌-ℤ◌}
 use mir.Syntax.{w32}
 use mir.Val.{SFits}
@@ -17,13 +18,12 @@ loop-j-init c =
       ordered = record {
         search = record {
           ground = h.ground;
-          even = record { enters = h.even.enters; orders = h.even.orders; places = h.even.places };
           size = h.size;
           reached = climbed _ _ _ _ _ _ _ _ _ _ _ _ _ _ c.args.level h.reached n.done n.rises n.least;
           nearest = nearest_kept _ _ _ _ _ _ _ _ _ _ _ _ c.args.level _ _ h.nearest n.cut (kept_same _ _ _ _);
         };
         kept = kept_same _ _ _ _;
-        label = refl;
+        label = λ v. refl;
         head = refl;
         reached = refl;
         cut = refl;
@@ -59,7 +59,7 @@ loop-j-preserved c =
       ordered = record {
         search = k.search;
         kept = kept_then _ _ _ _ _ _ _ _ o.kept step;
-        label = k.label ∙ o.label;
+        label = λ v. k.label v ∙ o.label v;
         head = k.head ∙ o.head;
         reached = k.reached ∙ o.reached;
         cut = k.cut ∙ o.cut;
@@ -72,7 +72,7 @@ loop-j-preserved c =
         | inr w ↦ let (m, a, b, d) = w in elim (cases_eq m c.loop-j.j) [
           | inl q ↦
               let here : orders t c.loop-j.j ≡ orders s m = i.behind c.loop-j.j (omega arith) ∙ ap (orders s) (sym q) in
-              let at : labels t (orders t c.loop-j.j) -ℤ potential_of c.args.ground (orders t c.loop-j.j) ≡ t.level = rw o.label (ap (λ (v : ℕ). labels s v -ℤ potential_of c.args.ground v) here ∙ sym d) in
+              let at : labels t (orders t c.loop-j.j) -ℤ potential_of c.args.ground (orders t c.loop-j.j) ≡ t.level = rw (fun_ext o.label) (ap (λ (v : ℕ). labels s v -ℤ potential_of c.args.ground v) here ∙ sym d) in
               let up : new.ordered ≡ t.ordered + 1 = e.more at in
               inl (omega arith)
           | inr ne ↦ inr (m, omega arith, omega arith, e.level ∙ d)

@@ -44,13 +44,13 @@ returns-then-index-lt0 c =
     let either : ((c.offer.new.self.cut ≡ c.args.self.now.cut) × (c.offer.new.self.found ≡ c.args.self.now.found)) ⊎ ((c.offer.new.self.cut ≡ c.distance-away.result) × (c.offer.new.self.found ≡ c.args.step.number)) = elim a.either [ inl h ↦ inl h | inr h ↦ inr (passed_is _ _ fd h.0, h.1) ] in
     record {
       relaxed = offered c.args.ground c.args.self.now c.offer.new.self c.args.step c.distance-away.result o wants away a.same a.cut either;
-      served = λ h. rw a.same.label (offered_least _ _ _ _ _ o.offer.less away (passed_under _ _ fd a.least) h);
+      served = λ h. rw a.same.visits (offered_least _ _ _ _ _ o.offer.less away (passed_under _ _ fd a.least) h);
     }
 
 pub index-requires-then-index-lt0 : goal.index-requires-then-index-lt0
 index-requires-then-index-lt0 c =
     let b : c.args.step.end < nodes_of c.args.ground = end_in c.args.ground c.args.self.now c.args.step c.requires.offer in
-    omega (arith, c.requires.offer.search.ground.scores)
+    omega (arith, c.requires.offer.search.size)
 
 pub returns-else-away-self-clause-served : goal.returns-else-away-self-clause-served
 returns-else-away-self-clause-served c h =

@@ -5,25 +5,42 @@ use Rattle.std.specs.Prelude.{length}
 use Rattle.networks.specs.ResidualArcs.{numbers}
 use Rattle.shortest_paths.specs.Search.{nodes_of, first_of, arcs_of, potential_of, labels, orders, places, IsKept, IsScanning, Serves, degree}
 use Rattle.shortest_paths.proofs.Reaching.{headed, headed_nearest, kept_same, kept_then, same_z, under_level}
-use Rattle.shortest_paths.proofs.Searching.{scanning, next_in, still_serves, scanned}
+use Rattle.shortest_paths.proofs.Searching.{scanning, next_in, still_serves, scanned, order_read}
 use Rattle.shortest_paths.proofs.state.Search.scan.Goals as goal
 
 pub overflow_add-self : goal.overflow_add-self
 overflow_add-self c = omega (arith, c.requires.search.reached.counts, c.requires.search.ground.graph.nodes)
 
+pub index-requires-2 : goal.index-requires-2
+index-requires-2 c =
+    let s = c.args.self.now in
+    let h = c.requires.search in
+    let u : ℕ = c.index.result.now.at_place in
+    let e : u ≡ orders s s.head = order_read s s.head c.index.result.now (omega (arith, h.reached.counts, c.requires.more, h.size)) c.index.ensures in
+    let b : u < nodes_of c.args.ground = next_in c.args.ground s u h c.requires.more e in
+    omega (arith, h.ground.graph.starts)
+
+pub index-requires-3 : goal.index-requires-3
+index-requires-3 c =
+    let s = c.args.self.now in
+    let h = c.requires.search in
+    let u : ℕ = c.index.result.now.at_place in
+    let e : u ≡ orders s s.head = order_read s s.head c.index.result.now (omega (arith, h.reached.counts, c.requires.more, h.size)) c.index.ensures in
+    let b : u < nodes_of c.args.ground = next_in c.args.ground s u h c.requires.more e in
+    omega (arith, h.ground.graph.starts)
+
 pub loop-number-init : goal.loop-number-init
 loop-number-init c =
     let h = c.requires.search in
     let s = c.args.self.now in
-    let u : ℕ = c.index.result.now in
-    let e : u ≡ orders s s.head = get_or_read s.order.items s.head u (omega (arith, h.reached.counts, c.requires.more, h.size, h.even.orders)) c.index.ensures 0 in
+    let u : ℕ = c.index.result.now.at_place in
+    let e : u ≡ orders s s.head = order_read s s.head c.index.result.now (omega (arith, h.reached.counts, c.requires.more, h.size)) c.index.ensures in
     let b : u < nodes_of c.args.ground = next_in c.args.ground s u h c.requires.more e in
     let start : c.index-2.result.now ≡ numbers (first_of c.args.ground) u = get_or_read (first_of c.args.ground) u c.index-2.result.now (omega (arith, h.ground.graph.starts)) c.index-2.ensures 0 in
     record {
       relaxed = record {
         search = record {
           ground = h.ground;
-          even = record { enters = h.even.enters; orders = h.even.orders; places = h.even.places };
           size = h.size;
           reached = headed _ _ _ _ _ _ _ _ _ _ _ _ _ _ h.reached c.requires.more;
           nearest = headed_nearest _ _ _ _ _ _ _ _ _ _ _ _ h.nearest;
@@ -44,8 +61,8 @@ consider-requires c =
     let r = i.relaxed in
     let s = c.args.self.now in
     let g = c.args.ground in
-    let u : ℕ = c.index.result.now in
-    let e : u ≡ orders s s.head = get_or_read s.order.items s.head u (omega (arith, h.reached.counts, c.requires.more, h.size, h.even.orders)) c.index.ensures 0 in
+    let u : ℕ = c.index.result.now.at_place in
+    let e : u ≡ orders s s.head = order_read s s.head c.index.result.now (omega (arith, h.reached.counts, c.requires.more, h.size)) c.index.ensures in
     let b : u < nodes_of g = next_in g s u h c.requires.more e in
     let start : c.index-2.result.now ≡ numbers (first_of g) u = get_or_read (first_of g) u c.index-2.result.now (omega (arith, h.ground.graph.starts)) c.index-2.ensures 0 in
     let end : c.index-3.result.now ≡ numbers (first_of g) (u + 1) = get_or_read (first_of g) (u + 1) c.index-3.result.now (omega (arith, h.ground.graph.starts)) c.index-3.ensures 0 in
@@ -69,8 +86,8 @@ loop-number-preserved c =
     let g = c.args.ground in
     let t = c.loop-number.self in
     let new = c.consider.new.self in
-    let u : ℕ = c.index.result.now in
-    let e : u ≡ orders s s.head = get_or_read s.order.items s.head u (omega (arith, h.reached.counts, c.requires.more, h.size, h.even.orders)) c.index.ensures 0 in
+    let u : ℕ = c.index.result.now.at_place in
+    let e : u ≡ orders s s.head = order_read s s.head c.index.result.now (omega (arith, h.reached.counts, c.requires.more, h.size)) c.index.ensures in
     let b : u < nodes_of g = next_in g s u h c.requires.more e in
     let end : c.index-3.result.now ≡ numbers (first_of g) (u + 1) = get_or_read (first_of g) (u + 1) c.index-3.result.now (omega (arith, h.ground.graph.starts)) c.index-3.ensures 0 in
     let n : IsScanning g t u = scanning g s t u h c.requires.more e r.search r.kept r.head r.level in
@@ -97,8 +114,8 @@ returns c =
     let r = i.relaxed in
     let s = c.args.self.now in
     let g = c.args.ground in
-    let u : ℕ = c.index.result.now in
-    let e : u ≡ orders s s.head = get_or_read s.order.items s.head u (omega (arith, h.reached.counts, c.requires.more, h.size, h.even.orders)) c.index.ensures 0 in
+    let u : ℕ = c.index.result.now.at_place in
+    let e : u ≡ orders s s.head = order_read s s.head c.index.result.now (omega (arith, h.reached.counts, c.requires.more, h.size)) c.index.ensures in
     let b : u < nodes_of g = next_in g s u h c.requires.more e in
     let start : c.index-2.result.now ≡ numbers (first_of g) u = get_or_read (first_of g) u c.index-2.result.now (omega (arith, h.ground.graph.starts)) c.index-2.ensures 0 in
     let end : c.index-3.result.now ≡ numbers (first_of g) (u + 1) = get_or_read (first_of g) (u + 1) c.index-3.result.now (omega (arith, h.ground.graph.starts)) c.index-3.ensures 0 in

@@ -15,7 +15,7 @@ mark-requires c =
     let h = o.search in
     let b : c.args.step.end < nodes_of c.args.ground = end_in c.args.ground c.args.self.now c.args.step o in
     record {
-      end = record { even = h.even; few = omega (arith, h.size, h.ground.graph.nodes); node = omega (arith, h.size); number = offer_number _ _ _ _ _ _ _ _ _ _ _ _ h.ground.graph o.offer };
+      end = record { few = omega (arith, h.size, h.ground.graph.nodes); node = omega (arith, h.size); number = offer_number _ _ _ _ _ _ _ _ _ _ _ _ h.ground.graph o.offer };
       room = room_left c.args.ground c.args.self.now c.args.step.end h b;
     }
 
@@ -37,7 +37,6 @@ advance-requires c =
     let b : c.args.step.end < nodes_of c.args.ground = end_in c.args.ground c.args.self.now c.args.step o in
     let w : IsListed c.args.ground c.mark.new.self c.args.step.end = listed c.args.ground c.args.self.now c.mark.new.self c.args.step o c.requires.plain c.mark.ensures.marked in
     record {
-      even = c.mark.ensures.marked.progress.even;
       few = omega (arith, w.size, o.search.ground.graph.nodes);
       node = omega (arith, w.size);
       from = omega (arith, w.size, w.inside, w.few);
@@ -60,7 +59,7 @@ returns-then-distance-self-clause-relaxed c =
     settled c.args.ground c.args.self.now c.mark.new.self c.advance.new.self c.args.step c.distance.result o c.requires.plain c.mark.ensures.marked away same a.swapped a.same a.ordered
 
 pub returns-then-distance-self-clause-label : goal.returns-then-distance-self-clause-label
-returns-then-distance-self-clause-label c = rw c.advance.ensures.same.label c.mark.ensures.marked.label.here
+returns-then-distance-self-clause-label c = rw (c.advance.ensures.same.label c.args.step.end) c.mark.ensures.marked.label.here
 
 pub returns-else-distance-self-clause-relaxed : goal.returns-else-distance-self-clause-relaxed
 returns-else-distance-self-clause-relaxed c = settled_behind c.args.ground c.args.self.now c.mark.new.self c.args.step c.requires.offer c.requires.plain c.mark.ensures.marked
