@@ -12,7 +12,7 @@ numbers xs i = slice_index xs i
 
 -- stands for residual arcs past the last
 abbrev pub no_residual_arc : ResidualArc
-no_residual_arc = record { end = 0; cost = pos 0 }
+no_residual_arc = record { end = 0; cost = pos 0; reverse = 0; room = 0 }
 
 abbrev pub end_at : List ResidualArc → ℕ → ℕ
 end_at arcs k = (slice_index_or arcs k no_residual_arc).end
@@ -20,18 +20,26 @@ end_at arcs k = (slice_index_or arcs k no_residual_arc).end
 abbrev pub cost_at : List ResidualArc → ℕ → ℤ
 cost_at arcs k = (slice_index_or arcs k no_residual_arc).cost
 
+-- the number of the residual arc the other way
+abbrev pub reverse_at : List ResidualArc → ℕ → ℕ
+reverse_at arcs k = (slice_index_or arcs k no_residual_arc).reverse
+
+-- how many more units fit
+abbrev pub room_at : List ResidualArc → ℕ → ℕ
+room_at arcs k = (slice_index_or arcs k no_residual_arc).room
+
 -- number k is one of the residual arcs that start at node v
 pub record StartsAt (first : List ℕ) (v k : ℕ) : Type 0 where
   pub from : numbers first v ≤ k
   pub below : k < numbers first (v + 1)
 
 -- the number of residual arc (i, back)
-abbrev pub place_of : List ℕ → List ℕ → ℕ → Bool → ℕ
+abbrev pub place_of : (ℕ → ℕ) → List ℕ → ℕ → Bool → ℕ
 place_of reverse forward i false = numbers forward i
-place_of reverse forward i true = numbers reverse (numbers forward i)
+place_of reverse forward i true = reverse (numbers forward i)
 
 -- number k is that of a residual arc that starts at node v
-pub record HasOrigin (net : NetworkModel) (reverse forward : List ℕ) (v k : ℕ) : Type 0 where
+pub record HasOrigin (net : NetworkModel) (reverse : ℕ → ℕ) (forward : List ℕ) (v k : ℕ) : Type 0 where
   pub arc : ℕ
   pub back : Bool
   pub inside : arc < arc_count net
@@ -39,16 +47,15 @@ pub record HasOrigin (net : NetworkModel) (reverse forward : List ℕ) (v k : �
   pub start : start_of net arc back ≡ v
 
 -- each residual arc has a number of its own, and those that start at a node are side by side
-pub record HasResidualArcs (net : NetworkModel) (first reverse forward : List ℕ) : Type 0 where
+pub record HasResidualArcs (net : NetworkModel) (first : List ℕ) (reverse : ℕ → ℕ) (forward : List ℕ) : Type 0 where
   pub starts : length first ≡ node_count net + 1
-  pub reverses : length reverse ≡ arc_count net + arc_count net
   pub forwards : length forward ≡ arc_count net
   pub rising : (v : ℕ) → v < node_count net → numbers first v ≤ numbers first (v + 1)
   pub inside : (v : ℕ) → v < node_count net → numbers first (v + 1) ≤ arc_count net + arc_count net
   pub block : (i : ℕ) (back : Bool) → i < arc_count net → StartsAt first (start_of net i back) (place_of reverse forward i back)
   pub cover : (v k : ℕ) → v < node_count net → StartsAt first v k → HasOrigin net reverse forward v k
   pub alone : (i j : ℕ) (b c : Bool) → i < arc_count net → j < arc_count net → place_of reverse forward i b ≡ place_of reverse forward j c → (i ≡ j) × (b ≡ c)
-  pub turned : (i : ℕ) → i < arc_count net → numbers reverse (numbers reverse (numbers forward i)) ≡ numbers forward i
+  pub turned : (i : ℕ) → i < arc_count net → reverse (reverse (numbers forward i)) ≡ numbers forward i
 
 -- how many units a capacity stands for; where there is no limit it never runs out
 abbrev pub limit_of : Cap → ℕ
@@ -60,17 +67,16 @@ abbrev pub IsRated : ℤ → ℕ → ℤ → Type 0
 IsRated c room z = c ≡ (if room == 0 then z +ℤ SHUT else z)
 
 -- a unit costs z along residual arc k
-abbrev pub IsCosted : List ResidualArc → List ℕ → ℕ → ℤ → Type 0
-IsCosted arcs room k z = IsRated (cost_at arcs k) (numbers room k) z
+abbrev pub IsCosted : List ResidualArc → ℕ → ℤ → Type 0
+IsCosted arcs k z = IsRated (cost_at arcs k) (room_at arcs k) z
 
 -- what fits along each residual arc, its end, and what a unit along it costs
-pub record IsFilled (net : NetworkModel) (reverse forward : List ℕ) (arcs : List ResidualArc) (room : List ℕ) : Type 0 where
+pub record IsFilled (net : NetworkModel) (reverse : ℕ → ℕ) (forward : List ℕ) (arcs : List ResidualArc) : Type 0 where
   pub arc_size : length arcs ≡ arc_count net + arc_count net
-  pub room_size : length room ≡ arc_count net + arc_count net
   pub end : (i : ℕ) (back : Bool) → i < arc_count net → end_at arcs (place_of reverse forward i back) ≡ end_of net i back
-  pub cost : (i : ℕ) (back : Bool) → i < arc_count net → IsCosted arcs room (place_of reverse forward i back) (unit_cost net i back)
-  pub fits : (i : ℕ) → i < arc_count net → numbers room (place_of reverse forward i false) + numbers room (place_of reverse forward i true) ≡ limit_of (arc_at net i).cap
+  pub cost : (i : ℕ) (back : Bool) → i < arc_count net → IsCosted arcs (place_of reverse forward i back) (unit_cost net i back)
+  pub fits : (i : ℕ) → i < arc_count net → room_at arcs (place_of reverse forward i false) + room_at arcs (place_of reverse forward i true) ≡ limit_of (arc_at net i).cap
 
 -- what an arc carries is what fits back along it
-abbrev pub carried : List ℕ → List ℕ → List ℕ → ℕ → ℕ
-carried reverse forward room i = numbers room (place_of reverse forward i true)
+abbrev pub carried : (ℕ → ℕ) → List ℕ → (ℕ → ℕ) → ℕ → ℕ
+carried reverse forward room i = room (place_of reverse forward i true)

@@ -2,35 +2,32 @@
 use Rattle.std.specs.Prelude.{ℕ, ℤ, ◌+◌, ◌<◌, ◌≡◌, ◌≢◌, ◌^◌, length}
 use Rattle.networks.specs.declared.residual.Residual.{Residual}
 use Rattle.networks.specs.Networks.{NetworkModel, node_count, arc_count, arc_at}
-use Rattle.networks.specs.ResidualArcs.{numbers, end_at, cost_at, HasResidualArcs, IsCosted, IsFilled, carried, limit_of}
+use Rattle.networks.specs.ResidualArcs.{end_at, cost_at, reverse_at, room_at, HasResidualArcs, IsCosted, IsFilled, carried, limit_of}
 
 -- the lists have their sizes
 pub record HasSizes (net : NetworkModel) (r : Residual) : Type 0 where
   pub starts : length r.first.items ≡ node_count net + 1
-  pub reverses : length r.reverse.items ≡ arc_count net + arc_count net
   pub forwards : length r.forward.items ≡ arc_count net
   pub arc_size : length r.arcs.items ≡ arc_count net + arc_count net
-  pub rooms : length r.room.items ≡ arc_count net + arc_count net
 
 -- the residual arcs are those of the network, and what fits along them is within its capacities
 pub record IsResidualNetwork (net : NetworkModel) (r : Residual) : Type 0 where
-  pub laid_out : HasResidualArcs net r.first.items r.reverse.items r.forward.items
-  pub filled : IsFilled net r.reverse.items r.forward.items r.arcs.items r.room.items
+  pub laid_out : HasResidualArcs net r.first.items (reverse_at r.arcs.items) r.forward.items
+  pub filled : IsFilled net (reverse_at r.arcs.items) r.forward.items r.arcs.items
   pub limits : (i : ℕ) → i < arc_count net → limit_of (arc_at net i).cap < 2 ^ 32
 
 -- what each arc carries
 abbrev pub flow_of : Residual → ℕ → ℕ
-flow_of r = carried r.reverse.items r.forward.items r.room.items
+flow_of r = carried (reverse_at r.arcs.items) r.forward.items (room_at r.arcs.items)
 
 -- so many units fit along residual arc k now, and all else stays
 pub record IsSetTo (r r' : Residual) (k units : ℕ) : Type 0 where
   pub first : r'.first ≡ r.first
-  pub reverse : r'.reverse ≡ r.reverse
   pub forward : r'.forward ≡ r.forward
   pub arc_size : length r'.arcs.items ≡ length r.arcs.items
-  pub room_size : length r'.room.items ≡ length r.room.items
   pub end : (j : ℕ) → end_at r'.arcs.items j ≡ end_at r.arcs.items j
-  pub here : numbers r'.room.items k ≡ units
-  pub others : (j : ℕ) → j ≢ k → numbers r'.room.items j ≡ numbers r.room.items j
-  pub cost : (z : ℤ) → IsCosted r.arcs.items r.room.items k z → IsCosted r'.arcs.items r'.room.items k z
+  pub reverse : (j : ℕ) → reverse_at r'.arcs.items j ≡ reverse_at r.arcs.items j
+  pub here : room_at r'.arcs.items k ≡ units
+  pub others : (j : ℕ) → j ≢ k → room_at r'.arcs.items j ≡ room_at r.arcs.items j
+  pub cost : (z : ℤ) → IsCosted r.arcs.items k z → IsCosted r'.arcs.items k z
   pub costs : (j : ℕ) → j ≢ k → cost_at r'.arcs.items j ≡ cost_at r.arcs.items j

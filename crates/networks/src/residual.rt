@@ -1,6 +1,6 @@
 //! Residual arcs, those that start at a node side by side.
 ghost use Rattle.std.specs.Prelude.{◌≡◌, ◌<◌, ◌+◌, ◌^◌, length, ℤ, pos, negsuc, ◌≤ℤ◌};
-ghost use Rattle.networks.specs.ResidualArcs.{numbers, end_at, cost_at, IsRated, IsCosted};
+ghost use Rattle.networks.specs.ResidualArcs.{end_at, cost_at, reverse_at, IsRated, IsCosted};
 ghost use Rattle.networks.specs.Residuals.{IsSetTo};
 
 use crate::network::MAX_ARCS;
@@ -11,33 +11,39 @@ pub const MAX_RESIDUAL_ARCS: usize = 2 * MAX_ARCS;
 /// What the cost of a residual arc is raised by while nothing fits.
 pub const SHUT: i16 = 16_000;
 
-/// A residual arc as a search reads it: the node where it ends, and what a unit along it costs, with
-/// `SHUT` more while nothing fits.
+/// A residual arc: the node where it ends, what a unit along it costs, with `SHUT` more while nothing fits, the
+/// number of the residual arc the other way, and its residual capacity: how many more units fit along it.
 #[derive(Clone, Copy, Debug, PartialEq, Eq)]
 pub struct ResidualArc {
     pub end: u16,
     pub cost: i16,
+    pub reverse: u16,
+    pub room: u32,
 }
 
 impl ResidualArc {
-    /// One to a node along which so many units fit, where a unit costs so much.
-    pub(crate) fn new(end: u16, cost: i16, room: u32) -> ResidualArc
+    /// One to a node along which so many units fit, where a unit costs so much, with the number of its reverse.
+    pub(crate) fn new(end: u16, cost: i16, reverse: u16, room: u32) -> ResidualArc
         requires { cost ≤ℤ pos 1 }
         ensures end { result.end ≡ end }
         ensures cost { IsRated result.cost room cost }
+        ensures reverse { result.reverse ≡ reverse }
+        ensures room { result.room ≡ room }
     {
         ResidualArc {
             end,
             cost: if room == 0 { cost + SHUT } else { cost },
+            reverse,
+            room,
         }
     }
 
-    /// What a unit costs along it, where so many units fit.
-    fn unit_cost(self, room: u32) -> i16
-        requires { (z : ℤ) × (negsuc 0 ≤ℤ z) × IsRated self.cost room z }
-        ensures { (z : ℤ) → IsRated self.cost room z → result ≡ z }
+    /// What a unit costs along it.
+    fn unit_cost(self) -> i16
+        requires { (z : ℤ) × (negsuc 0 ≤ℤ z) × IsRated self.cost self.room z }
+        ensures { (z : ℤ) → IsRated self.cost self.room z → result ≡ z }
     {
-        if room == 0 {
+        if self.room == 0 {
             self.cost - SHUT
         } else {
             self.cost
@@ -50,13 +56,9 @@ impl ResidualArc {
 pub struct Residual {
     /// The residual arcs that start at node v have the numbers from `first[v]` up to `first[v + 1]`.
     pub first: Vec<u32>,
-    /// For each residual arc the one the other way.
-    pub reverse: Vec<u32>,
     /// For each arc the residual arc along it.
     pub forward: Vec<u32>,
     pub arcs: Vec<ResidualArc>,
-    /// For each residual arc its residual capacity: how many more units fit along it.
-    pub room: Vec<u32>,
 }
 
 impl Residual {
@@ -74,23 +76,21 @@ impl Residual {
 
     /// The node where a residual arc starts.
     pub fn start(&self, number: usize) -> usize
-        requires number { number < length self.now.reverse.items }
-        requires reverse { numbers self.now.reverse.items number < length self.now.arcs.items }
-        ensures { result ≡ end_at self.now.arcs.items (numbers self.now.reverse.items number) }
+        requires number { number < length self.now.arcs.items }
+        requires reverse { reverse_at self.now.arcs.items number < length self.now.arcs.items }
+        ensures { result ≡ end_at self.now.arcs.items (reverse_at self.now.arcs.items number) }
     {
-        usize::from(self.arcs[self.reverse[number] as usize].end)
+        usize::from(self.arcs[usize::from(self.arcs[number].reverse)].end)
     }
 
     /// Writes how many units fit along a residual arc, and opens or shuts it.
     pub fn set_room(&mut self, number: usize, units: u32)
         requires arc { number < length self.old.arcs.items }
-        requires room { number < length self.old.room.items }
-        requires cost { (z : ℤ) × (negsuc 0 ≤ℤ z) × (z ≤ℤ pos 1) × IsCosted self.old.arcs.items self.old.room.items number z }
+        requires cost { (z : ℤ) × (negsuc 0 ≤ℤ z) × (z ≤ℤ pos 1) × IsCosted self.old.arcs.items number z }
         ensures { IsSetTo self.old self.new number units }
     {
         let arc = self.arcs[number];
-        let cost = arc.unit_cost(self.room[number]);
-        self.arcs[number] = ResidualArc::new(arc.end, cost, units);
-        self.room[number] = units;
+        let cost = arc.unit_cost();
+        self.arcs[number] = ResidualArc::new(arc.end, cost, arc.reverse, units);
     }
 }
