@@ -121,12 +121,11 @@ moved_round net x p p' es f t k nw r size none fb tb few base low room =
 
 -- ---- the residual arcs stay where they are
 
-pub laid_still : (net : NetworkModel) (first reverse forward : List ℕ) (f t k : ℕ) → HasResidualArcs net first reverse forward → HasResidualArcs (shifted net f t k) first reverse forward
+pub laid_still : (net : NetworkModel) (first : List ℕ) (reverse : ℕ → ℕ) (forward : List ℕ) (f t k : ℕ) → HasResidualArcs net first reverse forward → HasResidualArcs (shifted net f t k) first reverse forward
 laid_still net first reverse forward f t k l =
     let long : length (moved net.supplies f t k) ≡ node_count net = length-moved net.supplies f t k in
     record {
       starts = omega (arith, l.starts);
-      reverses = l.reverses;
       forwards = l.forwards;
       rising = λ v b. l.rising v (omega arith);
       inside = λ v b. l.inside v (omega arith);
@@ -145,22 +144,22 @@ over_none es n s others here v b =
     ]
 
 -- where the residual arc along each arc stands, and the one back
-pub forward_in : (net : NetworkModel) (first reverse forward : List ℕ) (i : ℕ) → IsNetwork net → HasResidualArcs net first reverse forward → i < arc_count net → numbers forward i < arc_count net + arc_count net
+pub forward_in : (net : NetworkModel) (first : List ℕ) (reverse : ℕ → ℕ) (forward : List ℕ) (i : ℕ) → IsNetwork net → HasResidualArcs net first reverse forward → i < arc_count net → numbers forward i < arc_count net + arc_count net
 forward_in net first reverse forward i n l b = omega (arith, (l.block i false b).below, l.inside (arc_at net i).from (n.ends i b).0)
 
-pub reverse_in : (net : NetworkModel) (first reverse forward : List ℕ) (i : ℕ) → IsNetwork net → HasResidualArcs net first reverse forward → i < arc_count net → numbers reverse (numbers forward i) < arc_count net + arc_count net
+pub reverse_in : (net : NetworkModel) (first : List ℕ) (reverse : ℕ → ℕ) (forward : List ℕ) (i : ℕ) → IsNetwork net → HasResidualArcs net first reverse forward → i < arc_count net → reverse (numbers forward i) < arc_count net + arc_count net
 reverse_in net first reverse forward i n l b = omega (arith, (l.block i true b).below, l.inside (arc_at net i).to (n.ends i b).1)
 
 -- what each arc carries can be read
-pub can_read : (net : NetworkModel) (s : Solver) → IsReady net s → CanRead s.residual.reverse.items s.residual.forward.items s.residual.room.items
+pub can_read : (net : NetworkModel) (s : Solver) → IsReady net s → CanRead s.residual.arcs.items s.residual.forward.items
 can_read net s r =
     let l = r.residual.laid_out in
     let f = r.residual.filled in
     record {
-      reverses = λ i b. omega (arith, forward_in net _ _ _ i r.network l (omega (arith, l.forwards)), l.reverses);
-      rooms = λ i b. omega (arith, reverse_in net _ _ _ i r.network l (omega (arith, l.forwards)), f.room_size);
+      forwards = λ i b. omega (arith, forward_in net _ _ _ i r.network l (omega (arith, l.forwards)), f.arc_size);
+      reverses = λ i b. omega (arith, reverse_in net _ _ _ i r.network l (omega (arith, l.forwards)), f.arc_size);
       small = omega (arith, l.forwards, r.network.small);
-      sizes = (omega (arith, l.reverses, r.network.small), omega (arith, f.room_size, r.network.small));
+      size = omega (arith, f.arc_size, r.network.small);
     }
 
 -- ---- where nothing is left over or wanting, the flow is one of least cost
@@ -224,10 +223,8 @@ sized_moved net l l' f t k r fair re pe ee se he =
       network = still_network net f t k r.network fair;
       room = record {
         starts = rw re (omega (arith, w.starts));
-        reverses = rw re w.reverses;
         forwards = rw re w.forwards;
         arc_size = rw re r.residual.filled.arc_size;
-        rooms = rw re r.residual.filled.room_size;
       };
       potentials = omega (arith, r.potentials);
       excesses = rw ee (omega (arith, r.excesses));
@@ -255,7 +252,7 @@ ready_moved net l l' f t k st fair fb tb few base low room re he se pe ee =
     let laid = laid_still net _ _ _ f t k r.residual.laid_out in
     let here : IsResidualNetwork (shifted net f t k) l.residual = record {
       laid_out = laid;
-      filled = record { arc_size = w.arc_size; room_size = w.room_size; end = λ i b c. w.end i b c; cost = λ i b c. w.cost i b c; fits = λ i b. w.fits i b };
+      filled = record { arc_size = w.arc_size; end = λ i b c. w.end i b c; cost = λ i b c. w.cost i b c; fits = λ i b. w.fits i b };
       limits = λ i b. r.residual.limits i b;
     } in
     record {

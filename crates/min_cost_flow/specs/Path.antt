@@ -2,7 +2,7 @@
 -- units are wanting.
 use Rattle.std.specs.Prelude.{ℕ, zero, suc, ◌<◌, ◌≡◌, ℤ, pos, ◌+ℤ◌, ◌-ℤ◌, Bool, true, false, List}
 use Rattle.networks.specs.declared.residual.ResidualArc.{ResidualArc}
-use Rattle.networks.specs.ResidualArcs.{numbers, end_at, cost_at, StartsAt}
+use Rattle.networks.specs.ResidualArcs.{numbers, end_at, cost_at, reverse_at, room_at, StartsAt}
 use Rattle.shortest_paths.specs.Search.{IsOpen}
 
 -- residual arc k leads from node u to node v, is open, and its reduced cost is 0
@@ -45,8 +45,8 @@ pub record IsOnWay (next place : ℕ → ℕ) (v w : ℕ) : Type 0 where
   pub high : (i : ℕ) → i < steps → 0 < place (way next v i)
 
 -- the start of the residual arc by which a node was entered, and what fits along it
-abbrev pub next_of : List ℕ → List ResidualArc → List ℕ → ℕ → ℕ
-next_of reverse arcs enter w = end_at arcs (numbers reverse (numbers enter w))
+abbrev pub next_of : List ResidualArc → List ℕ → ℕ → ℕ
+next_of arcs enter w = end_at arcs (reverse_at arcs (numbers enter w))
 
-abbrev pub room_into : List ℕ → List ℕ → ℕ → ℕ
-room_into room enter w = numbers room (numbers enter w)
+abbrev pub room_into : List ResidualArc → List ℕ → ℕ → ℕ
+room_into arcs enter w = room_at arcs (numbers enter w)

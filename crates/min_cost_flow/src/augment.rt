@@ -6,7 +6,7 @@
 ghost use Rattle.std.specs.Prelude.{◌≡◌, ◌<◌, ◌≤◌, ℕ, length, pos, ◌≤ℤ◌, ◌<ℤ◌, ◌+ℤ◌};
 ghost use Rattle.networks.specs.Networks.{NetworkModel};
 ghost use Rattle.networks.specs.Flow.{at_nodes};
-ghost use Rattle.networks.specs.ResidualArcs.{numbers};
+ghost use Rattle.networks.specs.ResidualArcs.{room_at};
 ghost use Rattle.min_cost_flow.specs.Stand.{CanAugment, IsSentAlong, IsBottleneck, IsPaired, IsPushedAlong};
 
 use crate::state::Solver;
@@ -40,11 +40,11 @@ impl Solver {
         let found = self.search.found;
         let target = usize::from(self.residual.arcs[found].end);
         let most = most_between(&self.nodes.excess, source, target);
-        let mut amount = most.min(self.residual.room[found]);
+        let mut amount = most.min(self.residual.arcs[found].room);
         let mut node = self.residual.start(found);
         'narrow: while self.search.place[node] > 0 {
             let number = self.search.enter[node] as usize;
-            amount = amount.min(self.residual.room[number]);
+            amount = amount.min(self.residual.arcs[number].room);
             node = self.residual.start(number);
         }
         amount
@@ -70,12 +70,12 @@ fn most_between(excess: &[i32], source: usize, target: usize) -> u32
 /// Sends along a residual arc, and so makes room for as much along its reverse.
 fn push(residual: &mut Residual, number: usize, amount: u32)
     requires pair { IsPaired residual.old number }
-    requires fits { amount ≤ numbers residual.old.room.items number }
+    requires fits { amount ≤ room_at residual.old.arcs.items number }
     ensures { IsPushedAlong residual.old residual.new number amount }
 {
-    let back = residual.reverse[number] as usize;
-    let less = residual.room[number] - amount;
+    let back = usize::from(residual.arcs[number].reverse);
+    let less = residual.arcs[number].room - amount;
     residual.set_room(number, less);
-    let more = residual.room[back] + amount;
+    let more = residual.arcs[back].room + amount;
     residual.set_room(back, more);
 }

@@ -9,12 +9,12 @@ ghost use Rattle.networks.specs.declared.network.TheConstants.{MAX_NODES};
 ghost use Rattle.min_cost_flow.specs.declared.resume.TheConstants.{MAX_CARRIED};
 ghost use Rattle.networks.specs.Networks.{NetworkModel, node_count, HasFairSupplies, shifted};
 ghost use Rattle.networks.specs.Flow.{at_nodes};
-ghost use Rattle.networks.specs.ResidualArcs.{carried};
+ghost use Rattle.networks.specs.ResidualArcs.{reverse_at, room_at, carried};
 ghost use Rattle.min_cost_flow.specs.Stand.{excess_at, IsReady, IsSettled, IsAnswer, CanRead};
 
-use crate::solver::has_deficit;
+use crate::solver::{carried_along, has_deficit};
 use crate::state::Solver;
-use networks::{Network, move_units};
+use networks::{Network, ResidualArc, move_units};
 
 /// How many units an arc carries at most: as many as all nodes of a network can supply.
 pub(crate) const MAX_CARRIED: u32 = 2_097_152;
@@ -34,7 +34,7 @@ impl Solver {
     {
         network.shift(from, to, amount);
         let residual = &self.residual;
-        if !carries_little(&residual.reverse, &residual.forward, &residual.room, amount) {
+        if !carries_little(&residual.arcs, &residual.forward, amount) {
             return self.solve(network);
         }
         if !rebase(&mut self.nodes.potential, to as usize) {
@@ -62,14 +62,14 @@ impl Solver {
 }
 
 /// Whether each arc can carry so many units more, at most [`MAX_CARRIED`] in all.
-fn carries_little(reverse: &[u32], forward: &[u32], room: &[u32], amount: u32) -> bool
-    requires read { CanRead reverse.now forward.now room.now }
+fn carries_little(arcs: &[ResidualArc], forward: &[u32], amount: u32) -> bool
+    requires read { CanRead arcs.now forward.now }
     requires few { amount ≤ MAX_SUPPLY }
-    ensures { result ≡ true → (i : ℕ) → i < length forward.now → carried reverse.now forward.now room.now i + amount ≤ MAX_CARRIED }
+    ensures { result ≡ true → (i : ℕ) → i < length forward.now → carried (reverse_at arcs.now) forward.now (room_at arcs.now) i + amount ≤ MAX_CARRIED }
 {
     let most = MAX_CARRIED - amount;
     for along in forward.iter() {
-        if room[reverse[*along as usize] as usize] > most {
+        if carried_along(arcs, *along) > most {
             return false;
         }
     }

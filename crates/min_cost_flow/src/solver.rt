@@ -10,7 +10,7 @@ ghost use Rattle.networks.specs.declared.network.TheConstants.{MAX_NODES};
 ghost use Rattle.min_cost_flow.specs.declared.solver.SolveFault.TheVariants.{Memory};
 ghost use Rattle.networks.specs.Networks.{NetworkModel, arc_count, node_count, IsNetwork};
 ghost use Rattle.networks.specs.Flow.{amounts, at_nodes, HasNoFlow, Solves};
-ghost use Rattle.networks.specs.ResidualArcs.{carried};
+ghost use Rattle.networks.specs.ResidualArcs.{reverse_at, room_at, carried};
 ghost use Rattle.shortest_paths.specs.Search.{labels, orders, IsPut, IsWithinFar};
 ghost use Rattle.min_cost_flow.specs.Round.{carrying, supply_sum, IsRoundDone, HasSupply, IsWithinReach};
 ghost use Rattle.min_cost_flow.specs.Stand.{excess_at, potential_at, flow_in, IsSized, IsReady, IsUnderWay, IsAnswer, HasSentFrom, IsAugmented, CanUpdate, HasOrder, CanRead, IsCleared};
@@ -18,7 +18,7 @@ ghost use Rattle.min_cost_flow.specs.Stand.{excess_at, potential_at, flow_in, Is
 use crate::scratch::Scratch;
 use crate::solved::Solved;
 use crate::state::Solver;
-use networks::Network;
+use networks::{Network, ResidualArc};
 use shortest_paths::{FAR, Ground, Nodes, Search};
 use std::alloc::{AllocError, Global};
 use std::mem;
@@ -86,11 +86,7 @@ pub fn solve_in(
     if !solver.solve(network) {
         return Err(SolveFault::Infeasible);
     }
-    read_flow(
-        &solver.residual.reverse,
-        &solver.residual.room,
-        &mut solver.residual.forward,
-    );
+    read_flow(&solver.residual.arcs, &mut solver.residual.forward);
     let flow = mem::replace(&mut solver.residual.forward, Vec::new(alloc));
     let potential = mem::replace(&mut solver.nodes.potential, Vec::new(alloc));
     Ok(Solved::new(flow, potential, solver.searches, solver.looks))
@@ -232,13 +228,22 @@ pub(crate) fn score_nodes(network: &Network, score: &mut [i32])
 }
 
 /// Writes what each arc carries where the number of the residual arc along it stood.
-pub(crate) fn read_flow(reverse: &[u32], room: &[u32], flow: &mut [u32])
-    requires { CanRead reverse.now flow.old room.now }
-    ensures { (i : ℕ) → i < length flow.new → amounts flow.new i ≡ carried reverse.now flow.old room.now i }
+pub(crate) fn read_flow(arcs: &[ResidualArc], flow: &mut [u32])
+    requires { CanRead arcs.now flow.old }
+    ensures { (i : ℕ) → i < length flow.new → amounts flow.new i ≡ carried (reverse_at arcs.now) flow.old (room_at arcs.now) i }
 {
     for along in flow.iter_mut() {
-        *along = room[reverse[*along as usize] as usize];
+        *along = carried_along(arcs, *along);
     }
+}
+
+/// What an arc carries, by the number of the residual arc along it: what fits back along it.
+pub(crate) fn carried_along(arcs: &[ResidualArc], along: u32) -> u32
+    requires along { along < length arcs.now }
+    requires reverse { reverse_at arcs.now along < length arcs.now }
+    ensures { result ≡ room_at arcs.now (reverse_at arcs.now along) }
+{
+    arcs[usize::from(arcs[along as usize].reverse)].room
 }
 
 /// Writes a number at each node.

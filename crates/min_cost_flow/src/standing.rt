@@ -3,13 +3,13 @@ ghost use Rattle.std.specs.Prelude.{◌≡◌, ◌<◌, ◌≤◌, ◌^◌, IfOk
 ghost use Rattle.networks.specs.declared.fault.TheConstants.{MAX_SUPPLY};
 ghost use Rattle.networks.specs.Networks.{NetworkModel, node_count, arc_count, shifted, HasFairSupplies, IsNetwork};
 ghost use Rattle.networks.specs.Flow.{HasNoFlow, Solves, at_nodes, cost_of};
-ghost use Rattle.networks.specs.ResidualArcs.{numbers, carried};
+ghost use Rattle.networks.specs.ResidualArcs.{numbers, reverse_at, room_at, carried};
 ghost use Rattle.min_cost_flow.specs.Stand.{IsSettled, IsShown};
 
 use crate::solved::Solved;
-use crate::solver::{SolveFault, read_flow};
+use crate::solver::{SolveFault, carried_along, read_flow};
 use crate::state::Solver;
-use networks::Network;
+use networks::{Network, ResidualArc};
 use std::alloc::{AllocError, Global};
 use std::marker::Model;
 
@@ -84,11 +84,7 @@ impl Standing {
         // Only the proof needs this: `node_count` says that the network is one.
         let _nodes = self.network.node_count();
         let mut flow = Vec::from_slice(alloc, &self.solver.residual.forward)?;
-        read_flow(
-            &self.solver.residual.reverse,
-            &self.solver.residual.room,
-            &mut flow,
-        );
+        read_flow(&self.solver.residual.arcs, &mut flow);
         let potential = Vec::from_slice(alloc, &self.solver.nodes.potential)?;
         Ok(Solved::new(flow, potential, 0, 0))
     }
@@ -101,29 +97,23 @@ impl Standing {
         // Only the proof needs this: `node_count` says that the network is one.
         let _nodes = self.network.node_count();
         let residual = &self.solver.residual;
-        let cost = flow_cost(
-            &self.network,
-            &residual.reverse,
-            &residual.forward,
-            &residual.room,
-        );
+        let cost = flow_cost(&self.network, &residual.arcs, &residual.forward);
         (cost, &self.solver.nodes.potential)
     }
 }
 
 /// How much the arcs of cost 1 carry.
-fn flow_cost(network: &Network, reverse: &[u32], forward: &[u32], room: &[u32]) -> u64
+fn flow_cost(network: &Network, arcs: &[ResidualArc], forward: &[u32]) -> u64
     requires forwards { length forward.now ≡ arc_count network.now }
-    requires reverses { (i : ℕ) → i < arc_count network.now → numbers forward.now i < length reverse.now }
-    requires rooms { (i : ℕ) → i < arc_count network.now → numbers reverse.now (numbers forward.now i) < length room.now }
-    ensures cost { result ≡ cost_of network.now (carried reverse.now forward.now room.now) }
+    requires inside { (i : ℕ) → i < arc_count network.now → numbers forward.now i < length arcs.now }
+    requires reverses { (i : ℕ) → i < arc_count network.now → reverse_at arcs.now (numbers forward.now i) < length arcs.now }
+    ensures cost { result ≡ cost_of network.now (carried (reverse_at arcs.now) forward.now (room_at arcs.now)) }
     ensures few { result < 2 ^ 48 }
 {
     let mut cost = 0;
     for i in 0..network.arc_count() {
         if network.arc(i as u32).cost == 1 {
-            let along = forward[i] as usize;
-            cost += u64::from(room[reverse[along] as usize]);
+            cost += u64::from(carried_along(arcs, forward[i]));
         }
     }
     cost

@@ -24,10 +24,8 @@ impl Solver {
         Solver {
             residual: Residual {
                 first: Vec::new(alloc),
-                reverse: Vec::new(alloc),
                 forward: Vec::new(alloc),
                 arcs: Vec::new(alloc),
-                room: Vec::new(alloc),
             },
             nodes: Nodes {
                 potential: Vec::new(alloc),
@@ -59,12 +57,15 @@ impl Solver {
     {
         let nodes = network.node_count();
         let arcs = network.arc_count();
-        let blank = ResidualArc { end: 0, cost: 0 };
+        let blank = ResidualArc {
+            end: 0,
+            cost: 0,
+            reverse: 0,
+            room: 0,
+        };
         self.residual.first.resize(nodes + 1, 0)?;
-        self.residual.reverse.resize(2 * arcs, 0)?;
         self.residual.forward.resize(arcs, 0)?;
         self.residual.arcs.resize(2 * arcs, blank)?;
-        self.residual.room.resize(2 * arcs, 0)?;
         self.nodes.potential.resize(nodes, 0)?;
         self.nodes.excess.resize(nodes, 0)?;
         self.nodes.score.resize(nodes, 0)?;

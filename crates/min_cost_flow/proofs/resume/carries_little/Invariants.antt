@@ -1,7 +1,7 @@
 use Rattle.std.proofs.Common.{◌<◌, ◌≤◌, ◌+◌, ℕ}
 use Rattle.min_cost_flow.specs.declared.resume.TheConstants.{MAX_CARRIED}
-use Rattle.networks.specs.ResidualArcs.{carried}
+use Rattle.networks.specs.ResidualArcs.{reverse_at, room_at, carried}
 use Rattle.min_cost_flow.proofs.resume.carries_little.Given as goal
 
 abbrev pub invariant-loop-along : goal.invariant-loop-along
-invariant-loop-along l = (i : ℕ) → i < l.along-index → carried l.reverse l.forward l.room i + l.amount ≤ MAX_CARRIED
+invariant-loop-along l = (i : ℕ) → i < l.along-index → carried (reverse_at l.arcs) l.forward (room_at l.arcs) i + l.amount ≤ MAX_CARRIED

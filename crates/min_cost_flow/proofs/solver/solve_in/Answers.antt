@@ -13,7 +13,7 @@ pub read_flow-requires : goal.read_flow-requires
 read_flow-requires c =
     let net = c.args.network.now in
     let r = (c.solve.ensures.answer.settled c.if-not-solve.false).ready in
-    rw (c.deref.ensures.value, c.deref-2.ensures.value, c.deref_mut.ensures.value) (can_read net c.solve.new.self r)
+    rw (c.deref.ensures.value, c.deref_mut.ensures.value) (can_read net c.solve.new.self r)
 
 pub returns : goal.returns
 returns c =
@@ -26,7 +26,7 @@ returns c =
     let potential_is : solved.potential ≡ l.nodes.potential.items = ap (λ (a : SolvedModel). a.potential) c.new-3.ensures ∙ ap (λ (v : Vec ℤ Global). v.items) c.replace-potential.ensures.value in
     let searches_is : solved.searches ≡ l.searches = ap (λ (a : SolvedModel). a.searches) c.new-3.ensures in
     let looks_is : solved.looks ≡ l.looks = ap (λ (a : SolvedModel). a.looks) c.new-3.ensures in
-    let read = rw (c.deref.ensures.value, c.deref-2.ensures.value, c.deref_mut.ensures.value) at c.read_flow.ensures in
+    let read = rw (c.deref.ensures.value, c.deref_mut.ensures.value) at c.read_flow.ensures in
     let long : length c.read_flow.new.flow ≡ arc_count net = omega (arith, r.residual.laid_out.forwards, ap (length {A = ℕ}) c.deref_mut.ensures.value) in
     let done : IsRoundDone net (amounts c.read_flow.new.flow) (at_nodes l.nodes.potential.items) l.searches l.looks = done_same net (flow_of l.residual) (amounts c.read_flow.new.flow) (at_nodes l.nodes.potential.items) l.searches l.looks (λ i b. read i (omega (arith, long))) (c.solve.ensures.done yes) in
     let at : IsRoundDone net (amounts solved.flow) (at_nodes solved.potential) solved.searches solved.looks = rw (flow_is, potential_is, searches_is, looks_is) done in

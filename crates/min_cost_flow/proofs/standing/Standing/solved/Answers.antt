@@ -2,7 +2,7 @@ use Rattle.std.proofs.Common.{◌≡◌, ◌<◌, ℕ, ℤ, List, length, refl, 
 use Rattle.std.proofs.lemmas.List.{with_items_is}
 use Rattle.networks.specs.Networks.{NetworkModel, arc_count}
 use Rattle.networks.specs.Flow.{SolvedModel, Solves, amounts, at_nodes}
-use Rattle.networks.specs.ResidualArcs.{carried}
+use Rattle.networks.specs.ResidualArcs.{reverse_at, room_at, carried}
 use Rattle.min_cost_flow.proofs.Moved.{can_read, solves_at}
 use Rattle.min_cost_flow.proofs.standing.Standing.solved.Goals as goal
 
@@ -11,7 +11,7 @@ read_flow-requires c =
     let s = c.self.inside in
     let same : c.in_ok-flow.flow.items ≡ s.solver.residual.forward.items = c.in_ok-flow.ensures.items ∙ c.deref.ensures.value in
     let forward : c.deref_mut.result.now ≡ s.solver.residual.forward.items = c.deref_mut.ensures.value ∙ same in
-    rw (forward, c.deref-2.ensures.value, c.deref-3.ensures.value) (can_read s.network s.solver c.self.invariant.ready)
+    rw (forward, c.deref-2.ensures.value) (can_read s.network s.solver c.self.invariant.ready)
 
 pub returns-clause-solves : goal.returns-clause-solves
 returns-clause-solves c =
@@ -23,12 +23,12 @@ returns-clause-solves c =
     let forward : c.deref_mut.result.now ≡ s.solver.residual.forward.items = c.deref_mut.ensures.value ∙ same in
     let long : length c.deref_mut.result.now ≡ length s.solver.residual.forward.items = ap (length {A = ℕ}) forward in
     let flow_is : solved.flow ≡ c.read_flow.new.flow = ap (λ (a : SolvedModel). a.flow) c.new.ensures ∙ with_items_is c.in_ok-flow.flow c.read_flow.new.flow (omega arith) in
-    let cloned : c.in_ok-potential.potential.items ≡ s.solver.nodes.potential.items = c.in_ok-potential.ensures.items ∙ c.deref-4.ensures.value in
+    let cloned : c.in_ok-potential.potential.items ≡ s.solver.nodes.potential.items = c.in_ok-potential.ensures.items ∙ c.deref-3.ensures.value in
     let potential_is : solved.potential ≡ s.solver.nodes.potential.items = ap (λ (a : SolvedModel). a.potential) c.new.ensures ∙ cloned in
-    let carries : (i : ℕ) → i < arc_count net → amounts solved.flow i ≡ carried s.solver.residual.reverse.items s.solver.residual.forward.items s.solver.residual.room.items i = λ i b.
-    rw flow_is (c.read_flow.ensures i (omega (arith, st.ready.residual.laid_out.forwards)) ∙ rw (forward, c.deref-2.ensures.value, c.deref-3.ensures.value) refl) in
+    let carries : (i : ℕ) → i < arc_count net → amounts solved.flow i ≡ carried (reverse_at s.solver.residual.arcs.items) s.solver.residual.forward.items (room_at s.solver.residual.arcs.items) i = λ i b.
+    rw flow_is (c.read_flow.ensures i (omega (arith, st.ready.residual.laid_out.forwards)) ∙ rw (forward, c.deref-2.ensures.value) refl) in
     subst (λ (n : NetworkModel). Solves n solved) c.self.view_is
-    (solves_at net (carried s.solver.residual.reverse.items s.solver.residual.forward.items s.solver.residual.room.items) (at_nodes s.solver.nodes.potential.items) (at_nodes s.solver.nodes.excess.items) solved c.node_count-nodes.ensures.kept st.ready.round st.sent
+    (solves_at net (carried (reverse_at s.solver.residual.arcs.items) s.solver.residual.forward.items (room_at s.solver.residual.arcs.items)) (at_nodes s.solver.nodes.potential.items) (at_nodes s.solver.nodes.excess.items) solved c.node_count-nodes.ensures.kept st.ready.round st.sent
     (ap (length {A = ℕ}) flow_is ∙ omega (arith, st.ready.residual.laid_out.forwards))
     (ap (length {A = ℤ}) potential_is ∙ st.ready.potentials)
     carries

@@ -1,21 +1,22 @@
 use Rattle.std.proofs.Common.{◌≡◌, ◌≢◌, ◌<◌, ◌≤◌, ◌+◌, ℕ, List, length, pos, ◌+ℤ◌, refl, sym, ◌∙◌, ap, subst, arith}
 use Rattle.std.specs.Prelude.{ℤ, ◌-ℤ◌}
+use mathlib.Core.Path.{fun_ext}
 use Rattle.std.proofs.lemmas.List.{get_or_read, get_or-set_same, get_or-set_other, length-set, with_items_is}
 use Rattle.networks.specs.declared.residual.ResidualArc.{ResidualArc}
 use Rattle.networks.specs.Networks.{NetworkModel, node_count, raised, moved}
 use Rattle.networks.proofs.Moving.{length-moved}
 use Rattle.networks.specs.Flow.{at_nodes}
-use Rattle.networks.specs.ResidualArcs.{numbers, end_at, no_residual_arc, IsFilled, carried}
+use Rattle.networks.specs.ResidualArcs.{numbers, end_at, reverse_at, room_at, no_residual_arc, IsFilled, carried}
 use Rattle.shortest_paths.specs.declared.state.Nodes.{Nodes}
 use Rattle.shortest_paths.specs.Search.{places}
 use Rattle.min_cost_flow.specs.declared.state.Solver.{Solver}
 use Rattle.min_cost_flow.specs.Excess.{Carries}
 use Rattle.min_cost_flow.specs.Path.{IsOnWay, next_of}
-use Rattle.min_cost_flow.specs.Round.{carrying}
+use Rattle.min_cost_flow.specs.Round.{IsRound, carrying}
 use Rattle.min_cost_flow.specs.Stand.{excess_at, potential_at, flow_in, last_node, CanAugment, IsBottleneck}
 use Rattle.min_cost_flow.proofs.Changes.{taken_carries}
 use Rattle.min_cost_flow.proofs.Rounds.{IsSent, sent_round}
-use Rattle.min_cost_flow.proofs.Augmenting.{IsPushed, IsSending, is_paired, was_pushed, pushed_network, own_step, own_last, own_end, last_pair, step_pair, way_first, way_more, still_fits, sending_first, sending_more, filled_caps, few_left, sent_all, sent_less}
+use Rattle.min_cost_flow.proofs.Augmenting.{IsPushed, IsSending, is_paired, was_pushed, pushed_network, same_flow, same_filled, own_step, own_last, own_end, last_pair, step_pair, way_first, way_more, still_fits, sending_first, sending_more, filled_caps, few_left, sent_all, sent_less}
 use Rattle.min_cost_flow.proofs.state.Solver.augment.Goals as goal
 
 -- where the path ends
@@ -29,16 +30,16 @@ raised_others : (es : List ℤ) (v k w : ℕ) → w ≢ v → at_nodes (raised e
 raised_others es v k w ne = get_or-set_other es v w (at_nodes es v +ℤ pos k) (pos 0) ne
 
 -- so much has been sent from the source to the end of the path
-own_sent : (net : NetworkModel) (s : Solver) (source k : ℕ) (arcs : List ResidualArc) (room : List ℕ) → (h : CanAugment net s source) → IsBottleneck s source k → IsFilled net s.residual.reverse.items s.residual.forward.items arcs room → Carries net (carried s.residual.reverse.items s.residual.forward.items room) (at_nodes (raised s.nodes.excess.items (end_of_path s) k)) source k → ((i : ℕ) → i < length net.arcs → carried s.residual.reverse.items s.residual.forward.items room i ≤ flow_in s i + k) → IsSent net (flow_in s) (carried s.residual.reverse.items s.residual.forward.items room) (excess_at s) (at_nodes (moved s.nodes.excess.items (end_of_path s) source k)) source k
-own_sent net s source k arcs room h b filled carries grown =
+own_sent : (net : NetworkModel) (s : Solver) (source k : ℕ) (arcs : List ResidualArc) → (h : CanAugment net s source) → IsBottleneck s source k → IsFilled net (reverse_at s.residual.arcs.items) s.residual.forward.items arcs → Carries net (carried (reverse_at s.residual.arcs.items) s.residual.forward.items (room_at arcs)) (at_nodes (raised s.nodes.excess.items (end_of_path s) k)) source k → ((i : ℕ) → i < length net.arcs → carried (reverse_at s.residual.arcs.items) s.residual.forward.items (room_at arcs) i ≤ flow_in s i + k) → IsSent net (flow_in s) (carried (reverse_at s.residual.arcs.items) s.residual.forward.items (room_at arcs)) (excess_at s) (at_nodes (moved s.nodes.excess.items (end_of_path s) source k)) source k
+own_sent net s source k arcs h b filled carries grown =
     let es = s.nodes.excess.items in
     let to = end_of_path s in
     let es' = raised es to k in
     let tb : to < length es = omega (arith, h.ready.excesses, own_end net s source h) in
     let long : length es' ≡ length es = length-set es to (at_nodes es to +ℤ pos k) in
     let sb : source < length es' = omega (arith, h.ready.excesses, h.source) in
-    sent_all net (flow_in s) (carried s.residual.reverse.items s.residual.forward.items room) (excess_at s) (at_nodes es') (at_nodes (moved es to source k)) source to k h.source h.left h.wanting b.fitting.left b.fitting.short
-    (filled_caps net s.residual.reverse.items s.residual.forward.items arcs room filled) carries
+    sent_all net (flow_in s) (carried (reverse_at s.residual.arcs.items) s.residual.forward.items (room_at arcs)) (excess_at s) (at_nodes es') (at_nodes (moved es to source k)) source to k h.source h.left h.wanting b.fitting.left b.fitting.short
+    (filled_caps net (reverse_at s.residual.arcs.items) s.residual.forward.items arcs filled) carries
     (raised_here es to k tb) (raised_others es to k)
     (get_or-set_same es' source (at_nodes es' source -ℤ pos k) (pos 0) sb)
     (λ w ne. get_or-set_other es' source w (at_nodes es' source -ℤ pos k) (pos 0) ne)
@@ -50,7 +51,7 @@ index-requires c = omega (arith, (last_pair c.requires.0 c.args.self.now c.args.
 pub start-node-requires : goal.start-node-requires
 start-node-requires c =
     let n = last_pair c.requires.0 c.args.self.now c.args.source c.requires.1 in
-    record { number = n.reverse; reverse = n.there.0 }
+    record { number = n.here; reverse = n.there }
 
 pub move_units-requires : goal.move_units-requires
 move_units-requires c =
@@ -61,7 +62,7 @@ move_units-requires c =
     let b = c.bottleneck-amount.ensures in
     let m = c.deref_mut.ensures.value in
     let n = last_pair net s c.args.source h in
-    let target : c.from-target.result ≡ end_of_path s = c.from-target.ensures ∙ ap (λ (a : ResidualArc). a.end) (get_or_read s.residual.arcs.items s.search.found c.index.result.now n.here.0 c.index.ensures no_residual_arc) in
+    let target : c.from-target.result ≡ end_of_path s = c.from-target.ensures ∙ ap (λ (a : ResidualArc). a.end) (get_or_read s.residual.arcs.items s.search.found c.index.result.now n.here c.index.ensures no_residual_arc) in
     record {
       from = rw (m, target) (omega (arith, r.excesses, own_end net s c.args.source h));
       to = rw m (omega (arith, r.excesses, h.source));
@@ -83,25 +84,24 @@ along-init c =
     let k = c.bottleneck-amount.result in
     let q = c.push.ensures in
     let first = s.residual.first.items in
-    let reverse = s.residual.reverse.items in
     let forward = s.residual.forward.items in
     let arcs = s.residual.arcs.items in
-    let room = s.residual.room.items in
+    let reverse = reverse_at arcs in
     let es = s.nodes.excess.items in
     let place = places s.search in
-    let next = next_of reverse arcs s.search.enter.items in
+    let next = next_of arcs s.search.enter.items in
     let from = last_node s in
     let to = end_of_path s in
     let e = at_nodes (raised es to k) in
     let at : c.start-node.result ≡ from = c.start-node.ensures in
-    let pushed : IsPushed reverse arcs c.push.new.residual.arcs.items room c.push.new.residual.room.items s.search.found k = was_pushed s.residual c.push.new.residual s.search.found k q in
+    let pushed : IsPushed reverse arcs c.push.new.residual.arcs.items s.search.found k = was_pushed s.residual c.push.new.residual s.search.found k q in
     record {
       node = λ net h. subst (λ (t : ℕ). t < node_count net) (sym at) (own_last net s c.args.source h).node;
       residual = λ net h. let l = own_last net s c.args.source h in pushed_network net s.residual c.push.new.residual from s.search.found k h.ready.residual l.node l.leaves q;
       first = q.first;
-      reverse = q.reverse;
       forward = q.forward;
       ends = q.ends;
+      reverse = q.reverse;
       nodes = refl;
       search = refl;
       searches = refl;
@@ -112,8 +112,10 @@ along-init c =
           let r = h.ready in
           let tb : to < length es = omega (arith, r.excesses, own_end net s c.args.source h) in
           let taken : Carries net (flow_in s) e to k = taken_carries net (flow_in s) (excess_at s) e to k r.round.leaves (raised_here es to k tb) (raised_others es to k) in
-          rw (q.reverse, q.forward) (subst (λ (t : ℕ). IsSending net (potential_at s) e h.path.on place (flow_in s) (carried reverse forward c.push.new.residual.room.items) t k (carrying net (flow_in s) + place from + 1)) (sym at)
-          (sending_first net first reverse forward arcs c.push.new.residual.arcs.items room c.push.new.residual.room.items (potential_at s) e h.path.on place from s.search.found to k r.residual.laid_out (own_last net s c.args.source h).link h.path.off taken r.round.priced pushed));
+          let most = carrying net (flow_in s) + place from + 1 in
+          subst (λ (y : ℕ → ℕ). IsSending net (potential_at s) e h.path.on place (flow_in s) y c.start-node.result k most) (sym (same_flow s.residual c.push.new.residual q.reverse q.forward))
+          (subst (λ (t : ℕ). IsSending net (potential_at s) e h.path.on place (flow_in s) (carried reverse forward (room_at c.push.new.residual.arcs.items)) t k most) (sym at)
+          (sending_first net first reverse forward arcs c.push.new.residual.arcs.items (potential_at s) e h.path.on place from s.search.found to k r.residual.laid_out (own_last net s c.args.source h).link h.path.off taken r.round.priced pushed));
     }
 
 pub index-requires-in-along : goal.index-requires-in-along
@@ -147,17 +149,17 @@ push-requires-in-along c =
     let en : c.index-in-along-2.result.now ≡ enter v = rw i.search at (get_or_read t.search.enter.items v c.index-in-along-2.result.now (rw i.search (omega (arith, i.node net h))) c.index-in-along-2.ensures 0) in
     let st = own_step net s c.args.source h v (i.on net h) some in
     let first = s.residual.first.items in
-    let reverse = s.residual.reverse.items in
     let forward = s.residual.forward.items in
     let arcs = s.residual.arcs.items in
-    let room = s.residual.room.items in
+    let reverse = reverse_at arcs in
     let from = last_node s in
     let to = end_of_path s in
     let e = at_nodes (raised s.nodes.excess.items to k) in
     let most = carrying net (flow_in s) + place from + 1 in
-    let fits : k ≤ numbers t.residual.room.items (enter v) = still_fits net reverse forward arcs t.residual.arcs.items room t.residual.room.items (potential_at s) e h.path.on place (next_of reverse arcs s.search.enter.items v) (enter v) v k most r.residual.filled (rw (i.reverse, i.forward) at (i.residual net h).filled) st.link st.member (i.on net h) st.before (rw (i.reverse, i.forward) at (i.sending net h)) (c.bottleneck-amount.ensures.fitting.fits v i.way some) in
+    let sd = subst (λ (y : ℕ → ℕ). IsSending net (potential_at s) e h.path.on place (flow_in s) y v k most) (same_flow s.residual t.residual i.reverse i.forward) (i.sending net h) in
+    let fits : k ≤ room_at t.residual.arcs.items (enter v) = still_fits net reverse forward arcs t.residual.arcs.items (potential_at s) e h.path.on place (next_of arcs s.search.enter.items v) (enter v) v k most r.residual.filled (same_filled net s.residual t.residual i.reverse i.forward (i.residual net h)) st.link st.member (i.on net h) st.before sd (c.bottleneck-amount.ensures.fitting.fits v i.way some) in
     rw en (record {
-      pair = is_paired net t.residual (next_of reverse arcs s.search.enter.items v) (enter v) r.network (i.residual net h) st.node (rw i.first st.leaves);
+      pair = is_paired net t.residual (next_of arcs s.search.enter.items v) (enter v) r.network (i.residual net h) st.node (rw i.first st.leaves);
       fits = fits;
     })
 
@@ -181,9 +183,10 @@ start-node-requires-in-along c =
     let st = own_step net s c.args.source h v (i.on net h) some in
     let q = c.push-in-along.ensures in
     let n = step_pair net s c.args.source v h (i.on net h) some in
-    rw (en, q.reverse, i.reverse) (record {
-      number = n.reverse;
-      reverse = omega (arith, n.there, r.residual.filled.arc_size, q.arc_size, (i.residual net h).filled.arc_size);
+    let long : length c.push-in-along.new.residual.arcs.items ≡ length s.residual.arcs.items = omega (arith, r.residual.filled.arc_size, q.arc_size, (i.residual net h).filled.arc_size) in
+    rw en (record {
+      number = omega (arith, n.here, long);
+      reverse = omega (arith, n.there, long, q.reverse (enter v) ∙ i.reverse (enter v));
     })
 
 pub along-smaller : goal.along-smaller
@@ -205,8 +208,9 @@ along-smaller c =
     let en : c.index-in-along-2.result.now ≡ enter v = rw i.search at (get_or_read t.search.enter.items v c.index-in-along-2.result.now (rw i.search (omega (arith, i.node net h))) c.index-in-along-2.ensures 0) in
     let st = own_step net s c.args.source h v (i.on net h) some in
     let q = c.push-in-along.ensures in
-    let j = numbers s.residual.reverse.items (enter v) in
-    let at : c.start-node-in-along.result ≡ end_at s.residual.arcs.items j = rw (en, q.reverse, i.reverse) at c.start-node-in-along.ensures ∙ q.ends j ∙ i.ends j in
+    let j = reverse_at s.residual.arcs.items (enter v) in
+    let start = rw en at c.start-node-in-along.ensures in
+    let at : c.start-node-in-along.result ≡ end_at s.residual.arcs.items j = start ∙ ap (end_at c.push-in-along.new.residual.arcs.items) (q.reverse (enter v) ∙ i.reverse (enter v)) ∙ q.ends j ∙ i.ends j in
     subst (λ (u : ℕ). place u < place v) (sym at) st.before
 
 pub along-preserved : goal.along-preserved
@@ -228,27 +232,28 @@ along-preserved c =
     let en : c.index-in-along-2.result.now ≡ enter v = rw i.search at (get_or_read t.search.enter.items v c.index-in-along-2.result.now (rw i.search (omega (arith, i.node net h))) c.index-in-along-2.ensures 0) in
     let st = own_step net s c.args.source h v (i.on net h) some in
     let first = s.residual.first.items in
-    let reverse = s.residual.reverse.items in
     let forward = s.residual.forward.items in
     let arcs = s.residual.arcs.items in
-    let room = s.residual.room.items in
+    let reverse = reverse_at arcs in
     let from = last_node s in
     let to = end_of_path s in
     let e = at_nodes (raised s.nodes.excess.items to k) in
     let most = carrying net (flow_in s) + place from + 1 in
     let q = c.push-in-along.ensures in
     let new = c.push-in-along.new.residual in
-    let next = next_of reverse arcs s.search.enter.items in
-    let j = numbers reverse (enter v) in
-    let at : c.start-node-in-along.result ≡ end_at arcs j = rw (en, q.reverse, i.reverse) at c.start-node-in-along.ensures ∙ q.ends j ∙ i.ends j in
-    let pushed : IsPushed reverse t.residual.arcs.items new.arcs.items t.residual.room.items new.room.items (enter v) k = rw (en, i.reverse) at (was_pushed t.residual new c.index-in-along-2.result.now k q) in
+    let next = next_of arcs s.search.enter.items in
+    let j = reverse_at arcs (enter v) in
+    let turned : (m : ℕ) → reverse_at new.arcs.items m ≡ reverse_at arcs m = λ m. q.reverse m ∙ i.reverse m in
+    let start = rw en at c.start-node-in-along.ensures in
+    let at : c.start-node-in-along.result ≡ end_at arcs j = start ∙ ap (end_at new.arcs.items) (turned (enter v)) ∙ q.ends j ∙ i.ends j in
+    let pushed : IsPushed reverse t.residual.arcs.items new.arcs.items (enter v) k = subst (λ (turn : ℕ → ℕ). IsPushed turn t.residual.arcs.items new.arcs.items (enter v) k) (fun_ext i.reverse) (rw en at (was_pushed t.residual new c.index-in-along-2.result.now k q)) in
     record {
       node = λ net' g. subst (λ (u : ℕ). u < node_count net') (sym at) (own_step net' s c.args.source g v (i.on net' g) some).node;
       residual = λ net' g. let l = own_step net' s c.args.source g v (i.on net' g) some in pushed_network net' t.residual new (next v) (enter v) k (i.residual net' g) l.node (rw i.first l.leaves) (rw en at q);
       first = q.first ∙ i.first;
-      reverse = q.reverse ∙ i.reverse;
       forward = q.forward ∙ i.forward;
       ends = λ m. q.ends m ∙ i.ends m;
+      reverse = turned;
       nodes = i.nodes;
       search = i.search;
       searches = i.searches;
@@ -258,8 +263,10 @@ along-preserved c =
       sending = λ net' g.
           let l = own_step net' s c.args.source g v (i.on net' g) some in
           let most' = carrying net' (flow_in s) + place from + 1 in
-          rw (q.reverse, i.reverse, q.forward, i.forward) (subst (λ (u : ℕ). IsSending net' (potential_at s) e g.path.on place (flow_in s) (carried reverse forward new.room.items) u k most') (sym at)
-          (sending_more net' first reverse forward room t.residual.arcs.items new.arcs.items t.residual.room.items new.room.items (potential_at s) e g.path.on place (end_at arcs j) (enter v) v k most' g.ready.residual.laid_out l.link l.member (i.on net' g) l.before (rw (i.reverse, i.forward) at (i.sending net' g)) pushed));
+          let sd = subst (λ (y : ℕ → ℕ). IsSending net' (potential_at s) e g.path.on place (flow_in s) y v k most') (same_flow s.residual t.residual i.reverse i.forward) (i.sending net' g) in
+          subst (λ (y : ℕ → ℕ). IsSending net' (potential_at s) e g.path.on place (flow_in s) y c.start-node-in-along.result k most') (sym (same_flow s.residual new turned (q.forward ∙ i.forward)))
+          (subst (λ (u : ℕ). IsSending net' (potential_at s) e g.path.on place (flow_in s) (carried reverse forward (room_at new.arcs.items)) u k most') (sym at)
+          (sending_more net' first reverse forward arcs t.residual.arcs.items new.arcs.items (potential_at s) e g.path.on place (end_at arcs j) (enter v) v k most' g.ready.residual.laid_out l.link l.member (i.on net' g) l.before sd pushed));
     }
 
 pub returns-clause-sent : goal.returns-clause-sent
@@ -276,22 +283,22 @@ returns-clause-sent c net h =
     let wide : length s.search.enter.items ≡ node_count net = r.even.enters ∙ r.labels in
     let pl : c.index-in-along.result.now ≡ place v = rw i.search at (get_or_read t.search.place.items v c.index-in-along.result.now (rw i.search (omega (arith, i.node net h))) c.index-in-along.ensures 0) in
     let first = s.residual.first.items in
-    let reverse = s.residual.reverse.items in
     let forward = s.residual.forward.items in
     let arcs = s.residual.arcs.items in
-    let room = s.residual.room.items in
+    let reverse = reverse_at arcs in
     let from = last_node s in
     let to = end_of_path s in
     let e = at_nodes (raised s.nodes.excess.items to k) in
     let most = carrying net (flow_in s) + place from + 1 in
     let none : place v ≡ 0 = omega (arith, c.along-test.false) in
     let at : v ≡ c.args.source = h.path.root v (i.on net h) none in
-    let sd = rw (i.reverse, i.forward) at (i.sending net h) in
-    let y = carried reverse forward t.residual.room.items in
+    let y = carried reverse forward (room_at t.residual.arcs.items) in
+    let flow_is : flow_in t ≡ y = same_flow s.residual t.residual i.reverse i.forward in
+    let sd = subst (λ (x : ℕ → ℕ). IsSending net (potential_at s) e h.path.on place (flow_in s) x v k most) flow_is (i.sending net h) in
     let carries : Carries net y e c.args.source k = subst (λ (u : ℕ). Carries net y e u k) at sd.carries in
-    let sent : IsSent net (flow_in s) y (excess_at s) (at_nodes (moved s.nodes.excess.items to c.args.source k)) c.args.source k = own_sent net s c.args.source k t.residual.arcs.items t.residual.room.items h c.bottleneck-amount.ensures (rw (i.reverse, i.forward) at (i.residual net h).filled) carries sd.grown in
+    let sent : IsSent net (flow_in s) y (excess_at s) (at_nodes (moved s.nodes.excess.items to c.args.source k)) c.args.source k = own_sent net s c.args.source k t.residual.arcs.items h c.bottleneck-amount.ensures (same_filled net s.residual t.residual i.reverse i.forward (i.residual net h)) carries sd.grown in
     let n = last_pair net s c.args.source h in
-    let target : c.from-target.result ≡ to = c.from-target.ensures ∙ ap (λ (a : ResidualArc). a.end) (get_or_read arcs s.search.found c.index.result.now n.here.0 c.index.ensures no_residual_arc) in
+    let target : c.from-target.result ≡ to = c.from-target.ensures ∙ ap (λ (a : ResidualArc). a.end) (get_or_read arcs s.search.found c.index.result.now n.here c.index.ensures no_residual_arc) in
     let units = c.move_units.new.units in
     let value : units ≡ moved s.nodes.excess.items to c.args.source k = rw (c.deref_mut.ensures.value, target) at c.move_units.ensures in
     let excess_is : t.nodes.excess.items ≡ moved s.nodes.excess.items to c.args.source k = ap (λ (m : Nodes). m.excess.items) i.nodes ∙ with_items_is s.nodes.excess units (omega arith) ∙ value in
@@ -306,11 +313,11 @@ returns-clause-sent c net h =
         scores = rw score_is r.scores;
         labels = rw i.search r.labels;
         even = rw i.search r.even;
-        round = rw (i.reverse, i.forward, potential_is, excess_is) (sent_round net (flow_in s) y (potential_at s) (excess_at s) (at_nodes (moved s.nodes.excess.items to c.args.source k)) c.args.source k sent sd.priced r.round);
+        round = subst (λ (x : ℕ → ℕ). IsRound net x (potential_at t) (excess_at t)) (sym flow_is) (rw (potential_is, excess_is) (sent_round net (flow_in s) y (potential_at s) (excess_at s) (at_nodes (moved s.nodes.excess.items to c.args.source k)) c.args.source k sent sd.priced r.round));
         blank = rw i.search r.blank;
       };
       less = rw excess_is (sent_less net (flow_in s) y (excess_at s) (at_nodes (moved s.nodes.excess.items to c.args.source k)) c.args.source k sent c.bottleneck-amount.ensures.some);
-      carrying = rw (i.reverse, i.forward) (omega (arith, sd.few));
+      carrying = subst (λ (x : ℕ → ℕ). carrying net x ≤ most) (sym flow_is) (omega (arith, sd.few));
     }
 
 pub returns-clause-work : goal.returns-clause-work

@@ -1,7 +1,7 @@
 use Rattle.std.proofs.Common.{◌≡◌, ◌<◌, ◌+◌, ℕ, true}
 use Rattle.networks.specs.Networks.{NetworkModel, node_count, raised}
 use Rattle.networks.specs.Flow.{at_nodes}
-use Rattle.networks.specs.ResidualArcs.{end_at}
+use Rattle.networks.specs.ResidualArcs.{end_at, reverse_at}
 use Rattle.networks.specs.Residuals.{IsResidualNetwork}
 use Rattle.shortest_paths.specs.Search.{places}
 use Rattle.min_cost_flow.specs.Path.{IsOnWay, next_of}
@@ -15,15 +15,15 @@ invariant-along l = record {
   node : (net : NetworkModel) → CanAugment net l.fn.self l.source → l.node < node_count net;
   residual : (net : NetworkModel) → CanAugment net l.fn.self l.source → IsResidualNetwork net l.self.residual;
   first : l.self.residual.first ≡ l.fn.self.residual.first;
-  reverse : l.self.residual.reverse ≡ l.fn.self.residual.reverse;
   forward : l.self.residual.forward ≡ l.fn.self.residual.forward;
   ends : (k : ℕ) → end_at l.self.residual.arcs.items k ≡ end_at l.fn.self.residual.arcs.items k;
+  reverse : (k : ℕ) → reverse_at l.self.residual.arcs.items k ≡ reverse_at l.fn.self.residual.arcs.items k;
   nodes : l.self.nodes ≡ l.initial.self.nodes;
   search : l.self.search ≡ l.fn.self.search;
   searches : l.self.searches ≡ l.fn.self.searches;
   looks : l.self.looks ≡ l.fn.self.looks;
   on : (net : NetworkModel) (h : CanAugment net l.fn.self l.source) → h.path.on l.node ≡ true;
-  way : IsOnWay (next_of l.fn.self.residual.reverse.items l.fn.self.residual.arcs.items l.fn.self.search.enter.items) (places l.fn.self.search) (last_node l.fn.self) l.node;
+  way : IsOnWay (next_of l.fn.self.residual.arcs.items l.fn.self.search.enter.items) (places l.fn.self.search) (last_node l.fn.self) l.node;
   sending : (net : NetworkModel) (h : CanAugment net l.fn.self l.source) →
       IsSending net (potential_at l.fn.self) (at_nodes (raised l.fn.self.nodes.excess.items (end_at l.fn.self.residual.arcs.items l.fn.self.search.found) l.amount)) h.path.on (places l.fn.self.search) (flow_in l.fn.self) (flow_in l.self) l.node l.amount (carrying net (flow_in l.fn.self) + places l.fn.self.search (last_node l.fn.self) + 1);
 }

@@ -20,8 +20,8 @@ run-requires-clause-blank c =
     let arcs = l.residual.arcs.items in
     let p = at_nodes l.nodes.potential.items in
     let e = at_nodes l.nodes.excess.items in
-    let g : IsGraph (node_count net) first arcs = is_graph _ _ _ _ _ _ r.network r.residual.laid_out r.residual.filled in
-    let pr : IsPriced (node_count net) first arcs p e = is_priced _ _ _ _ _ _ _ _ r.network r.residual.laid_out r.residual.filled r.round in
+    let g : IsGraph (node_count net) first arcs = is_graph _ _ _ _ _ r.network r.residual.laid_out r.residual.filled in
+    let pr : IsPriced (node_count net) first arcs p e = is_priced _ _ _ _ _ _ _ r.network r.residual.laid_out r.residual.filled r.round in
     record {
       ground = record {
         excesses = r.excesses ∙ sym n;
@@ -51,7 +51,7 @@ returns-then-self-eq-FAR-clause-no_flow c _ net r =
     let re = subst (λ (k : ℕ). IsReached k first arcs p (at_nodes l.nodes.excess.items) c.args.source (labels t) (enters t) (orders t) (places t) t.head t.ordered t.reached t.level) n f.search.reached in
     let sv = subst (λ (k : ℕ). IsServed k first arcs p (labels t) (places t) t.cut t.head) n f.served in
     let left = subst (λ (k : ℕ). IsLeft k p (labels t) (places t) t.head t.cut) n f.left in
-    nothing_found _ _ _ _ _ _ _ _ _ _ _ _ _ _ _ _ _ _ r.network r.residual.laid_out r.residual.filled r.round re sv left cut c.requires.left
+    nothing_found _ _ _ _ _ _ _ _ _ _ _ _ _ _ _ _ _ r.network r.residual.laid_out r.residual.filled r.round re sv left cut c.requires.left
 
 pub update_potentials-requires : goal.update_potentials-requires
 update_potentials-requires c =
@@ -112,7 +112,7 @@ returns-clause-augmented c _ net r =
     let a = c.augment.ensures.sent net (can_augment net l _ c.args.source t r b c.requires.left h.size h.ground.graph h.reached h.nearest f.served f.left hit up.moved up.others up.same refl q) in
     let re = subst (λ (k : ℕ). IsReached k first arcs p x c.args.source (labels t) (enters t) (orders t) (places t) t.head t.ordered t.reached t.level) n h.reached in
     let near = subst (λ (k : ℕ). IsNearest k first arcs p x c.args.source (labels t) (places t) t.head t.level t.cut t.found) n h.nearest in
-    let short = path_looks _ _ _ _ _ l.residual.room.items _ _ _ _ _ _ _ _ _ _ _ _ _ r.residual.laid_out r.residual.filled re (near.hit hit) in
+    let short = path_looks _ _ _ _ _ _ _ _ _ _ _ _ _ _ _ _ _ _ r.residual.laid_out r.residual.filled re (near.hit hit) in
     let more = rw (q.place, q.found) at a.carrying in
     record {
       ready = a.ready;

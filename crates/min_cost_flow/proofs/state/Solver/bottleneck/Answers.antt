@@ -2,7 +2,7 @@ use Rattle.std.proofs.Common.{◌≡◌, ◌<◌, ◌≤◌, ℕ, min, sym, ◌�
 use Rattle.std.proofs.lemmas.List.{get_or_read}
 use Rattle.networks.specs.declared.residual.ResidualArc.{ResidualArc}
 use Rattle.networks.specs.Networks.{node_count}
-use Rattle.networks.specs.ResidualArcs.{numbers, end_at, no_residual_arc}
+use Rattle.networks.specs.ResidualArcs.{numbers, end_at, reverse_at, room_at, no_residual_arc}
 use Rattle.shortest_paths.specs.Search.{places}
 use Rattle.min_cost_flow.specs.Path.{next_of, room_into}
 use Rattle.min_cost_flow.specs.Stand.{excess_at, last_node}
@@ -19,7 +19,7 @@ most_between-most-requires c =
     let h = c.requires.1 in
     let d = c.deref.ensures.value in
     let n = last_pair net s c.args.source h in
-    let target : c.from-target.result ≡ end_at s.residual.arcs.items s.search.found = c.from-target.ensures ∙ ap (λ (a : ResidualArc). a.end) (get_or_read s.residual.arcs.items s.search.found c.index.result.now n.here.0 c.index.ensures no_residual_arc) in
+    let target : c.from-target.result ≡ end_at s.residual.arcs.items s.search.found = c.from-target.ensures ∙ ap (λ (a : ResidualArc). a.end) (get_or_read s.residual.arcs.items s.search.found c.index.result.now n.here c.index.ensures no_residual_arc) in
     record {
       source = rw d (omega (arith, h.ready.excesses, h.source));
       target = rw (d, target) (omega (arith, h.ready.excesses, own_end net s c.args.source h));
@@ -33,7 +33,7 @@ index-requires-2 c = omega (arith, (last_pair c.requires.0 c.args.self.now c.arg
 pub start-node-requires : goal.start-node-requires
 start-node-requires c =
     let n = last_pair c.requires.0 c.args.self.now c.args.source c.requires.1 in
-    record { number = n.reverse; reverse = n.there.0 }
+    record { number = n.here; reverse = n.there }
 
 pub narrow-init : goal.narrow-init
 narrow-init c =
@@ -41,20 +41,19 @@ narrow-init c =
     let s = c.args.self.now in
     let h = c.requires.1 in
     let d = c.deref.ensures.value in
-    let room = s.residual.room.items in
     let n = last_pair net s c.args.source h in
     let l = own_last net s c.args.source h in
     let at : c.start-node.result ≡ last_node s = c.start-node.ensures in
-    let target : c.from-target.result ≡ end_at s.residual.arcs.items s.search.found = c.from-target.ensures ∙ ap (λ (a : ResidualArc). a.end) (get_or_read s.residual.arcs.items s.search.found c.index.result.now n.here.0 c.index.ensures no_residual_arc) in
-    let fits : c.index-2.result.now ≡ numbers room s.search.found = get_or_read room s.search.found c.index-2.result.now n.here.1 c.index-2.ensures 0 in
-    let least : c.min-amount.result ≡ min c.most_between-most.result c.index-2.result.now = c.min-amount.ensures in
+    let target : c.from-target.result ≡ end_at s.residual.arcs.items s.search.found = c.from-target.ensures ∙ ap (λ (a : ResidualArc). a.end) (get_or_read s.residual.arcs.items s.search.found c.index.result.now n.here c.index.ensures no_residual_arc) in
+    let fits : c.index-2.result.now.room ≡ room_at s.residual.arcs.items s.search.found = ap (λ (a : ResidualArc). a.room) (get_or_read s.residual.arcs.items s.search.found c.index-2.result.now n.here c.index-2.ensures no_residual_arc) in
+    let least : c.min-amount.result ≡ min c.most_between-most.result c.index-2.result.now.room = c.min-amount.ensures in
     let m = c.most_between-most.ensures in
-    let next = next_of s.residual.reverse.items s.residual.arcs.items s.search.enter.items in
-    let rooms = room_into room s.search.enter.items in
+    let next = next_of s.residual.arcs.items s.search.enter.items in
+    let rooms = room_into s.residual.arcs.items s.search.enter.items in
     record {
       node = λ net' g. subst (λ (t : ℕ). t < node_count net') (sym at) (own_last net' s c.args.source g).node;
       narrowed = subst (λ (t : ℕ). IsNarrowed next (places s.search) rooms (last_node s) t c.min-amount.result) (sym at) (narrowed_first next (places s.search) rooms (last_node s) c.min-amount.result);
-      some = lesser_some c.most_between-most.result c.index-2.result.now c.min-amount.result least m.some (omega (arith, l.link.some));
+      some = lesser_some c.most_between-most.result c.index-2.result.now.room c.min-amount.result least m.some (omega (arith, l.link.some));
       found = omega (arith, least);
       left = lesser_left c.most_between-most.result c.min-amount.result (excess_at s c.args.source) (omega (arith, least)) (rw d at m.left);
       short = lesser_short c.most_between-most.result c.min-amount.result (excess_at s (end_at s.residual.arcs.items s.search.found)) (omega (arith, least)) (rw (d, target) at m.wanting);
@@ -72,7 +71,7 @@ narrow-smaller c =
     let pl : c.index-in-narrow.result.now ≡ places s.search v = get_or_read s.search.place.items v c.index-in-narrow.result.now (omega (arith, i.node net h, h.ready.labels, h.ready.even.places)) c.index-in-narrow.ensures 0 in
     let some : 0 < places s.search v = omega (arith, c.narrow-test.true) in
     let en : c.index-in-narrow-2.result.now ≡ numbers s.search.enter.items v = get_or_read s.search.enter.items v c.index-in-narrow-2.result.now (omega (arith, i.node net h, h.ready.labels, h.ready.even.enters)) c.index-in-narrow-2.ensures 0 in
-    let at : c.start-node-in-narrow.result ≡ next_of s.residual.reverse.items s.residual.arcs.items s.search.enter.items v = c.start-node-in-narrow.ensures ∙ ap (λ (t : ℕ). end_at s.residual.arcs.items (numbers s.residual.reverse.items t)) en in
+    let at : c.start-node-in-narrow.result ≡ next_of s.residual.arcs.items s.search.enter.items v = c.start-node-in-narrow.ensures ∙ ap (λ (t : ℕ). end_at s.residual.arcs.items (reverse_at s.residual.arcs.items t)) en in
     subst (λ (t : ℕ). places s.search t < places s.search v) (sym at) (own_step net s c.args.source h v (i.on net h) some).before
 
 pub index-requires-in-narrow : goal.index-requires-in-narrow
@@ -104,7 +103,7 @@ start-node-requires-in-narrow c =
     let some : 0 < places s.search v = omega (arith, c.narrow-test.true) in
     let en : c.index-in-narrow-2.result.now ≡ numbers s.search.enter.items v = get_or_read s.search.enter.items v c.index-in-narrow-2.result.now (omega (arith, i.node net h, h.ready.labels, h.ready.even.enters)) c.index-in-narrow-2.ensures 0 in
     let n = step_pair net s c.args.source v h (i.on net h) some in
-    rw en (record { number = n.reverse; reverse = n.there.0 })
+    rw en (record { number = n.here; reverse = n.there })
 
 pub narrow-preserved : goal.narrow-preserved
 narrow-preserved c =
@@ -113,23 +112,22 @@ narrow-preserved c =
     let h = c.requires.1 in
     let i = c.narrow.invariant in
     let v = c.narrow.node in
-    let room = s.residual.room.items in
     let pl : c.index-in-narrow.result.now ≡ places s.search v = get_or_read s.search.place.items v c.index-in-narrow.result.now (omega (arith, i.node net h, h.ready.labels, h.ready.even.places)) c.index-in-narrow.ensures 0 in
     let some : 0 < places s.search v = omega (arith, c.narrow-test.true) in
     let en : c.index-in-narrow-2.result.now ≡ numbers s.search.enter.items v = get_or_read s.search.enter.items v c.index-in-narrow-2.result.now (omega (arith, i.node net h, h.ready.labels, h.ready.even.enters)) c.index-in-narrow-2.ensures 0 in
     let n = step_pair net s c.args.source v h (i.on net h) some in
-    let rm : c.index-in-narrow-3.result.now ≡ numbers room (numbers s.search.enter.items v) = get_or_read room c.index-in-narrow-2.result.now c.index-in-narrow-3.result.now (omega (arith, n.here)) c.index-in-narrow-3.ensures 0 ∙ ap (numbers room) en in
-    let at : c.start-node-in-narrow.result ≡ next_of s.residual.reverse.items s.residual.arcs.items s.search.enter.items v = c.start-node-in-narrow.ensures ∙ ap (λ (t : ℕ). end_at s.residual.arcs.items (numbers s.residual.reverse.items t)) en in
+    let rm : c.index-in-narrow-3.result.now.room ≡ room_at s.residual.arcs.items (numbers s.search.enter.items v) = ap (λ (a : ResidualArc). a.room) (get_or_read s.residual.arcs.items c.index-in-narrow-2.result.now c.index-in-narrow-3.result.now (omega (arith, n.here)) c.index-in-narrow-3.ensures no_residual_arc) ∙ ap (room_at s.residual.arcs.items) en in
+    let at : c.start-node-in-narrow.result ≡ next_of s.residual.arcs.items s.search.enter.items v = c.start-node-in-narrow.ensures ∙ ap (λ (t : ℕ). end_at s.residual.arcs.items (reverse_at s.residual.arcs.items t)) en in
     let st = own_step net s c.args.source h v (i.on net h) some in
     let k' = c.min-amount-in-narrow.result in
-    let least : k' ≡ min c.narrow.amount c.index-in-narrow-3.result.now = c.min-amount-in-narrow.ensures in
+    let least : k' ≡ min c.narrow.amount c.index-in-narrow-3.result.now.room = c.min-amount-in-narrow.ensures in
     let less : k' ≤ c.narrow.amount = omega (arith, least) in
-    let next = next_of s.residual.reverse.items s.residual.arcs.items s.search.enter.items in
-    let rooms = room_into room s.search.enter.items in
+    let next = next_of s.residual.arcs.items s.search.enter.items in
+    let rooms = room_into s.residual.arcs.items s.search.enter.items in
     record {
       node = λ net' g. subst (λ (t : ℕ). t < node_count net') (sym at) (own_step net' s c.args.source g v (i.on net' g) some).node;
       narrowed = subst (λ (t : ℕ). IsNarrowed next (places s.search) rooms (last_node s) t k') (sym at) (narrowed_more next (places s.search) rooms (last_node s) v c.narrow.amount k' i.narrowed some less (omega (arith, least)));
-      some = lesser_some c.narrow.amount c.index-in-narrow-3.result.now k' least i.some (omega (arith, st.link.some));
+      some = lesser_some c.narrow.amount c.index-in-narrow-3.result.now.room k' least i.some (omega (arith, st.link.some));
       found = omega (arith, less, i.found);
       left = lesser_left c.narrow.amount k' (excess_at s c.args.source) less i.left;
       short = lesser_short c.narrow.amount k' (excess_at s (end_at s.residual.arcs.items s.search.found)) less i.short;
@@ -153,6 +151,6 @@ returns c =
         found = i.found;
         left = i.left;
         short = i.short;
-        fits = λ u on some. narrowed_all (next_of s.residual.reverse.items s.residual.arcs.items s.search.enter.items) (places s.search) (room_into s.residual.room.items s.search.enter.items) (last_node s) v c.narrow.amount i.narrowed none u on some;
+        fits = λ u on some. narrowed_all (next_of s.residual.arcs.items s.search.enter.items) (places s.search) (room_into s.residual.arcs.items s.search.enter.items) (last_node s) v c.narrow.amount i.narrowed none u on some;
       };
     }

@@ -1,6 +1,6 @@
 use Rattle.std.proofs.Common.{ℕ, ◌≡◌, ◌<◌, ◌≤◌, pos, ◌≤ℤ◌, ◌+ℤ◌, true}
 use Rattle.networks.specs.Networks.{NetworkModel, node_count}
-use Rattle.networks.specs.ResidualArcs.{numbers, end_at}
+use Rattle.networks.specs.ResidualArcs.{end_at, room_at}
 use Rattle.shortest_paths.specs.Search.{places}
 use Rattle.min_cost_flow.specs.Path.{next_of, room_into}
 use Rattle.min_cost_flow.specs.Stand.{excess_at, last_node, CanAugment, IsFitting}
@@ -10,9 +10,9 @@ use Rattle.min_cost_flow.proofs.state.Solver.bottleneck.Given as goal
 abbrev pub invariant-narrow : goal.invariant-narrow
 invariant-narrow l = record {
   node : (net : NetworkModel) → CanAugment net l.self l.source → l.node < node_count net;
-  narrowed : IsNarrowed (next_of l.self.residual.reverse.items l.self.residual.arcs.items l.self.search.enter.items) (places l.self.search) (room_into l.self.residual.room.items l.self.search.enter.items) (last_node l.self) l.node l.amount;
+  narrowed : IsNarrowed (next_of l.self.residual.arcs.items l.self.search.enter.items) (places l.self.search) (room_into l.self.residual.arcs.items l.self.search.enter.items) (last_node l.self) l.node l.amount;
   some : 0 < l.amount;
-  found : l.amount ≤ numbers l.self.residual.room.items l.self.search.found;
+  found : l.amount ≤ room_at l.self.residual.arcs.items l.self.search.found;
   left : pos l.amount ≤ℤ excess_at l.self l.source;
   short : (excess_at l.self (end_at l.self.residual.arcs.items l.self.search.found) +ℤ pos l.amount) ≤ℤ pos 0;
   on : (net : NetworkModel) (h : CanAugment net l.self l.source) → h.path.on l.node ≡ true;

@@ -10,7 +10,7 @@ use Rattle.min_cost_flow.proofs.state.Solver.resume.Goals as goal
 
 pub carries_little-requires-clause-read : goal.carries_little-requires-clause-read
 carries_little-requires-clause-read c =
-    rw (c.deref.ensures.value, c.deref-2.ensures.value, c.deref-3.ensures.value) (can_read c.args.network.now c.args.self.now c.requires.settled.ready)
+    rw (c.deref.ensures.value, c.deref-2.ensures.value) (can_read c.args.network.now c.args.self.now c.requires.settled.ready)
 
 pub solve-requires : goal.solve-requires
 solve-requires c =
@@ -54,7 +54,7 @@ resend-requires c =
     let value : es ≡ moved l.nodes.excess.items c.args.from c.args.to c.args.amount = c.move_units.ensures ∙ ap (λ (xs : List ℤ). moved xs c.args.from c.args.to c.args.amount) c.deref_mut-2.ensures.value in
     let base = rw d at c.rebase.ensures.moved in
     let low = c.rebase.ensures.low c.if-not-rebase.false in
-    let little = rw (c.deref.ensures.value, c.deref-2.ensures.value, c.deref-3.ensures.value) at (c.carries_little.ensures c.if-not-carries_little.false) in
+    let little = rw (c.deref.ensures.value, c.deref-2.ensures.value) at (c.carries_little.ensures c.if-not-carries_little.false) in
     let wide : length (with_items l.nodes.excess es).items ≡ node_count net = ap (length {A = ℤ}) (excess_is ∙ value) ∙ length-moved l.nodes.excess.items c.args.from c.args.to c.args.amount ∙ r.excesses in
     record {
       ready = (
@@ -85,7 +85,7 @@ returns c =
     let value : es ≡ moved l.nodes.excess.items c.args.from c.args.to c.args.amount = c.move_units.ensures ∙ ap (λ (xs : List ℤ). moved xs c.args.from c.args.to c.args.amount) c.deref_mut-2.ensures.value in
     let base = rw d at c.rebase.ensures.moved in
     let low = c.rebase.ensures.low c.if-not-rebase.false in
-    let little = rw (c.deref.ensures.value, c.deref-2.ensures.value, c.deref-3.ensures.value) at (c.carries_little.ensures c.if-not-carries_little.false) in
+    let little = rw (c.deref.ensures.value, c.deref-2.ensures.value) at (c.carries_little.ensures c.if-not-carries_little.false) in
     record {
       network = c.shift.ensures;
       answer = rw c.shift.ensures (c.resend.ensures (shifted net c.args.from c.args.to c.args.amount) (ready_moved net l _ c.args.from c.args.to c.args.amount st c.requires.fair c.requires.from c.requires.to c.requires.few
