@@ -11,6 +11,7 @@ use Rattle.networks.specs.declared.arc.Cap.TheVariants.{AtMost, Any}
 use Rattle.networks.specs.declared.residual.ResidualArc.{ResidualArc}
 use Rattle.networks.specs.Networks.{NetworkModel, node_count, arc_count, arc_at, HasUnitCosts, IsNetwork}
 use Rattle.networks.specs.Flow.{leaves, enters, IsWithin, HasRoom, IsResidual, HasPotentials, start_of, end_of, unit_cost, reduced_cost}
+use Rattle.shortest_paths.specs.Search.{enters as entries, places}
 use Rattle.min_cost_flow.specs.Excess.{KeepsCaps, Carries}
 use Rattle.min_cost_flow.specs.Residual.{IsMoved}
 use Rattle.networks.specs.declared.residual.Residual.{Residual}
@@ -560,13 +561,13 @@ pub link_end : (net : NetworkModel) (reverse : ℕ → ℕ) (forward : List ℕ)
 link_end net reverse forward room p u k v n t = subst (λ (q : ℕ). q < node_count net) t.end (end_in net t.arc t.back n.ends t.inside)
 
 -- the same of the solver's own lists
-pub own_step : (net : NetworkModel) (s : Solver) (source : ℕ) → (h : CanAugment net s source) → (v : ℕ) → h.path.on v ≡ true → 0 < numbers s.search.place.items v → IsStep net s.residual.first.items (reverse_at s.residual.arcs.items) s.residual.forward.items s.residual.arcs.items (potential_at s) h.path.on (numbers s.search.place.items) v (numbers s.search.enter.items v)
+pub own_step : (net : NetworkModel) (s : Solver) (source : ℕ) → (h : CanAugment net s source) → (v : ℕ) → h.path.on v ≡ true → 0 < places s.search v → IsStep net s.residual.first.items (reverse_at s.residual.arcs.items) s.residual.forward.items s.residual.arcs.items (potential_at s) h.path.on (places s.search) v (entries s.search v)
 own_step net s source h v on some =
-    path_step net s.residual.first.items (reverse_at s.residual.arcs.items) s.residual.forward.items s.residual.arcs.items (potential_at s) (numbers s.search.enter.items) (numbers s.search.place.items) source s.search.found h.ready.network h.ready.residual.laid_out h.ready.residual.filled h.path v on some
+    path_step net s.residual.first.items (reverse_at s.residual.arcs.items) s.residual.forward.items s.residual.arcs.items (potential_at s) (entries s.search) (places s.search) source s.search.found h.ready.network h.ready.residual.laid_out h.ready.residual.filled h.path v on some
 
 pub own_last : (net : NetworkModel) (s : Solver) (source : ℕ) → (h : CanAugment net s source) → IsLast net s.residual.first.items (reverse_at s.residual.arcs.items) s.residual.forward.items s.residual.arcs.items (potential_at s) h.path.on s.search.found
 own_last net s source h =
-    path_last net s.residual.first.items (reverse_at s.residual.arcs.items) s.residual.forward.items s.residual.arcs.items (potential_at s) (numbers s.search.enter.items) (numbers s.search.place.items) source s.search.found h.ready.network h.ready.residual.laid_out h.ready.residual.filled h.path
+    path_last net s.residual.first.items (reverse_at s.residual.arcs.items) s.residual.forward.items s.residual.arcs.items (potential_at s) (entries s.search) (places s.search) source s.search.found h.ready.network h.ready.residual.laid_out h.ready.residual.filled h.path
 
 pub own_end : (net : NetworkModel) (s : Solver) (source : ℕ) → CanAugment net s source → end_at s.residual.arcs.items s.search.found < node_count net
 own_end net s source h = link_end net (reverse_at s.residual.arcs.items) s.residual.forward.items (room_at s.residual.arcs.items) (potential_at s) (end_at s.residual.arcs.items (reverse_at s.residual.arcs.items s.search.found)) s.search.found (end_at s.residual.arcs.items s.search.found) h.ready.network (own_last net s source h).link
@@ -574,8 +575,8 @@ own_end net s source h = link_end net (reverse_at s.residual.arcs.items) s.resid
 pub last_pair : (net : NetworkModel) (s : Solver) (source : ℕ) → CanAugment net s source → IsPaired s.residual s.search.found
 last_pair net s source h = let l = own_last net s source h in is_paired net s.residual (end_at s.residual.arcs.items (reverse_at s.residual.arcs.items s.search.found)) s.search.found h.ready.network h.ready.residual l.node l.leaves
 
-pub step_pair : (net : NetworkModel) (s : Solver) (source v : ℕ) → (h : CanAugment net s source) → h.path.on v ≡ true → 0 < numbers s.search.place.items v → IsPaired s.residual (numbers s.search.enter.items v)
-step_pair net s source v h on some = let l = own_step net s source h v on some in is_paired net s.residual (end_at s.residual.arcs.items (reverse_at s.residual.arcs.items (numbers s.search.enter.items v))) (numbers s.search.enter.items v) h.ready.network h.ready.residual l.node l.leaves
+pub step_pair : (net : NetworkModel) (s : Solver) (source v : ℕ) → (h : CanAugment net s source) → h.path.on v ≡ true → 0 < places s.search v → IsPaired s.residual (entries s.search v)
+step_pair net s source v h on some = let l = own_step net s source h v on some in is_paired net s.residual (end_at s.residual.arcs.items (reverse_at s.residual.arcs.items (entries s.search v))) (entries s.search v) h.ready.network h.ready.residual l.node l.leaves
 
 -- ---- the least of what fits
 

@@ -207,16 +207,14 @@ ready_still net s s' r re ne se = record {
   residual = rw re r.residual;
   potentials = rw ne r.potentials;
   excesses = rw ne r.excesses;
-  scores = rw ne r.scores;
   labels = rw se r.labels;
-  even = rw se r.even;
   round = rw (re, ne) r.round;
   blank = rw se r.blank;
 }
 
 -- the lists of a flow have the sizes that its network needs after supplies have moved
-pub sized_moved : (net : NetworkModel) (l l' : Solver) (f t k : ℕ) → IsReady net l → HasFairSupplies (shifted net f t k) → l'.residual ≡ l.residual → length l'.nodes.potential.items ≡ length l.nodes.potential.items → l'.nodes.excess ≡ l.nodes.excess → l'.nodes.score ≡ l.nodes.score → l'.search ≡ l.search → IsSized (shifted net f t k) l'
-sized_moved net l l' f t k r fair re pe ee se he =
+pub sized_moved : (net : NetworkModel) (l l' : Solver) (f t k : ℕ) → IsReady net l → HasFairSupplies (shifted net f t k) → l'.residual ≡ l.residual → length l'.nodes.potential.items ≡ length l.nodes.potential.items → l'.nodes.excess ≡ l.nodes.excess → l'.search ≡ l.search → IsSized (shifted net f t k) l'
+sized_moved net l l' f t k r fair re pe ee he =
     let long : length (moved net.supplies f t k) ≡ node_count net = length-moved net.supplies f t k in
     let w = r.residual.laid_out in
     record {
@@ -228,9 +226,7 @@ sized_moved net l l' f t k r fair re pe ee se he =
       };
       potentials = omega (arith, r.potentials);
       excesses = rw ee (omega (arith, r.excesses));
-      scores = rw se (omega (arith, r.scores));
       labels = rw he (omega (arith, r.labels));
-      even = rw he r.even;
     }
 
 -- potentials in reach can be lowered by one of them
@@ -242,9 +238,9 @@ pub ready_moved : (net : NetworkModel) (l l' : Solver) (f t k : ℕ) → IsSettl
     → ((v : ℕ) → v < node_count net → at_nodes l'.nodes.potential.items v ≡ at_nodes l.nodes.potential.items v -ℤ at_nodes l.nodes.potential.items t)
     → ((v : ℕ) → v < node_count net → (pos 0 ≤ℤ (at_nodes l'.nodes.potential.items v +ℤ pos (2 * node_count net))) × (at_nodes l'.nodes.potential.items v ≤ℤ pos (2 * node_count net)))
     → ((i : ℕ) → i < arc_count net → flow_of l.residual i + k ≤ 2097152)
-    → l'.residual ≡ l.residual → l'.search ≡ l.search → l'.nodes.score ≡ l.nodes.score → length l'.nodes.potential.items ≡ length l.nodes.potential.items → l'.nodes.excess.items ≡ moved l.nodes.excess.items f t k
+    → l'.residual ≡ l.residual → l'.search ≡ l.search → length l'.nodes.potential.items ≡ length l.nodes.potential.items → l'.nodes.excess.items ≡ moved l.nodes.excess.items f t k
     → IsReady (shifted net f t k) l'
-ready_moved net l l' f t k st fair fb tb few base low room re he se pe ee =
+ready_moved net l l' f t k st fair fb tb few base low room re he pe ee =
     let r = st.ready in
     let w = r.residual.filled in
     let long : length (moved net.supplies f t k) ≡ node_count net = length-moved net.supplies f t k in
@@ -260,9 +256,7 @@ ready_moved net l l' f t k st fair fb tb few base low room re he se pe ee =
       residual = rw re here;
       potentials = omega (arith, r.potentials);
       excesses = rw ee (omega (arith, r.excesses));
-      scores = rw se (omega (arith, r.scores));
       labels = rw he (omega (arith, r.labels));
-      even = rw he r.even;
       round = rw (re, ee) (moved_round net (flow_of l.residual) (at_nodes l.nodes.potential.items) (at_nodes l'.nodes.potential.items) l.nodes.excess.items f t k r.network r.round r.excesses st.sent fb tb few base low room);
       blank = rw he (λ v b. r.blank v (omega arith));
     }

@@ -1,5 +1,6 @@
 -- From the residual arcs of a flow to a search, and from a search to new potentials and a path.
 use Rattle.std.proofs.Common.{length, zero, suc, ◌≡◌, ◌≢◌, ◌≤◌, ◌<◌, ◌⊎◌, ℕ, ◌+◌, ◌*◌, Bool, true, false, ◌&&◌, cond, eqb, ltb, refl, sym, ◌∙◌, ap, subst, inl, inr, arith, List}
+use Rattle.std.proofs.Math.Path.{fun_ext}
 use Rattle.std.specs.Prelude.{ℤ, pos, negsuc, ◌+ℤ◌, ◌-ℤ◌, ◌≤ℤ◌, ◌<ℤ◌}
 use Rattle.std.proofs.lemmas.Bool.{cases_eq, cases_lt, cases_Bool, eq-eqb, ne_eqb, eqb-true, lt-ltb, ltb-true, cond-false, and_parts, and_from}
 use Rattle.std.proofs.lemmas.Int.{ints, to_z-of_z}
@@ -442,7 +443,7 @@ all_cleared n first arcs p e s q q' enter order place head ordered reached level
 
 -- the potentials have moved and the labels are taken away, so units can be sent along the path
 pub can_augment : (net : NetworkModel) (s s' : Solver) (source : ℕ) (t : Search) → IsReady net s → source < node_count net → pos 0 <ℤ excess_at s source
-    → length t.label.items ≡ length s.nodes.potential.items
+    → length t.visits.items ≡ length s.nodes.potential.items
     → IsGraph (length s.nodes.potential.items) s.residual.first.items s.residual.arcs.items
     → IsReached (length s.nodes.potential.items) s.residual.first.items s.residual.arcs.items (potential_at s) (excess_at s) source (labels t) (enters t) (orders t) (places t) t.head t.ordered t.reached t.level
     → IsNearest (length s.nodes.potential.items) s.residual.first.items s.residual.arcs.items (potential_at s) (excess_at s) source (labels t) (places t) t.head t.level t.cut t.found
@@ -451,7 +452,7 @@ pub can_augment : (net : NetworkModel) (s s' : Solver) (source : ℕ) (t : Searc
     → t.cut <ℤ far
     → ((j : ℕ) → j < t.head → potential_at s' (orders t j) ≡ labels t (orders t j) -ℤ t.cut)
     → ((v : ℕ) → ((j : ℕ) → j < t.head → orders t j ≢ v) → potential_at s' v ≡ potential_at s v)
-    → (s'.nodes.excess ≡ s.nodes.excess) × (s'.nodes.score ≡ s.nodes.score) × (length s'.nodes.potential.items ≡ length s.nodes.potential.items)
+    → (s'.nodes.excess ≡ s.nodes.excess) × (length s'.nodes.potential.items ≡ length s.nodes.potential.items)
     → s'.residual ≡ s.residual → IsCleared t s'.search
     → CanAugment net s' source
 can_augment net s s' source t r b over size g h near sv left hit moved others same res q =
@@ -474,15 +475,13 @@ can_augment net s s' source t r b over size g h near sv left hit moved others sa
       ready = record {
         network = r.network;
         residual = rw res r.residual;
-        potentials = same.2 ∙ n;
+        potentials = same.1 ∙ n;
         excesses = rw same.0 r.excesses;
-        scores = rw same.1 r.scores;
         labels = q.size ∙ size ∙ n;
-        even = q.even;
         round = rw (res, same.0) round;
         blank = λ v c. all_cleared _ _ _ _ _ _ _ (labels s'.search) _ _ _ _ _ _ _ h q.cleared q.others v (omega arith);
       };
-      path = rw (res, q.enter, q.place, q.found) way;
+      path = rw (res, fun_ext q.enter, fun_ext q.place, q.found) way;
       source = b;
       left = rw same.0 over;
       wanting = rw (res, same.0, q.found) (near.hit hit).wanting;

@@ -45,8 +45,8 @@ pub record IsOnWay (next place : ℕ → ℕ) (v w : ℕ) : Type 0 where
   pub high : (i : ℕ) → i < steps → 0 < place (way next v i)
 
 -- the start of the residual arc by which a node was entered, and what fits along it
-abbrev pub next_of : List ResidualArc → List ℕ → ℕ → ℕ
-next_of arcs enter w = end_at arcs (reverse_at arcs (numbers enter w))
+abbrev pub next_of : List ResidualArc → (ℕ → ℕ) → ℕ → ℕ
+next_of arcs enter w = end_at arcs (reverse_at arcs (enter w))
 
-abbrev pub room_into : List ResidualArc → List ℕ → ℕ → ℕ
-room_into arcs enter w = room_at arcs (numbers enter w)
+abbrev pub room_into : List ResidualArc → (ℕ → ℕ) → ℕ → ℕ
+room_into arcs enter w = room_at arcs (enter w)

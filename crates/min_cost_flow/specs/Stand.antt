@@ -10,7 +10,7 @@ use Rattle.networks.specs.ResidualArcs.{numbers, end_at, reverse_at, room_at, Is
 use Rattle.networks.specs.Residuals.{HasSizes, IsResidualNetwork, flow_of}
 use Rattle.shortest_paths.specs.declared.state.Nodes.{Nodes}
 use Rattle.shortest_paths.specs.declared.state.Search.{Search}
-use Rattle.shortest_paths.specs.Search.{far, labels, enters, orders, places, IsEven, IsWithinFar}
+use Rattle.shortest_paths.specs.Search.{far, label_at, labels, enters, orders, places, IsWithinFar}
 use Rattle.min_cost_flow.specs.declared.state.Solver.{Solver}
 use Rattle.min_cost_flow.specs.Path.{HasPath, IsOnWay, next_of, room_into}
 use Rattle.min_cost_flow.specs.Round.{IsRound, IsLess, IsWork, carrying}
@@ -32,9 +32,7 @@ pub record IsSized (net : NetworkModel) (s : Solver) : Type 0 where
   pub room : HasSizes net s.residual
   pub potentials : length s.nodes.potential.items ≡ node_count net
   pub excesses : length s.nodes.excess.items ≡ node_count net
-  pub scores : length s.nodes.score.items ≡ node_count net
-  pub labels : length s.search.label.items ≡ node_count net
-  pub even : IsEven s.search
+  pub labels : length s.search.visits.items ≡ node_count net
 
 -- what holds between two searches
 pub record IsReady (net : NetworkModel) (s : Solver) : Type 0 where
@@ -42,11 +40,9 @@ pub record IsReady (net : NetworkModel) (s : Solver) : Type 0 where
   pub residual : IsResidualNetwork net s.residual
   pub potentials : length s.nodes.potential.items ≡ node_count net
   pub excesses : length s.nodes.excess.items ≡ node_count net
-  pub scores : length s.nodes.score.items ≡ node_count net
-  pub labels : length s.search.label.items ≡ node_count net
-  pub even : IsEven s.search
+  pub labels : length s.search.visits.items ≡ node_count net
   pub round : IsRound net (flow_in s) (potential_at s) (excess_at s)
-  pub blank : (v : ℕ) → v < node_count net → at_nodes s.search.label.items v ≡ far
+  pub blank : (v : ℕ) → v < node_count net → label_at s.search.visits.items v ≡ far
 
 -- the same when all units have been sent
 pub record IsSettled (net : NetworkModel) (s : Solver) : Type 0 where
@@ -104,7 +100,7 @@ pub record IsFitting (s : Solver) (source amount : ℕ) : Type 0 where
   pub found : amount ≤ room_at s.residual.arcs.items s.search.found
   pub left : pos amount ≤ℤ excess_at s source
   pub short : (excess_at s (end_at s.residual.arcs.items s.search.found) +ℤ pos amount) ≤ℤ pos 0
-  pub fits : (v : ℕ) → IsOnWay (next_of s.residual.arcs.items s.search.enter.items) (places s.search) (last_node s) v → 0 < places s.search v → amount ≤ room_into s.residual.arcs.items s.search.enter.items v
+  pub fits : (v : ℕ) → IsOnWay (next_of s.residual.arcs.items (enters s.search)) (places s.search) (last_node s) v → 0 < places s.search v → amount ≤ room_into s.residual.arcs.items (enters s.search) v
 
 -- so many units can go along the path, and no more
 pub record IsBottleneck (s : Solver) (source amount : ℕ) : Type 0 where
@@ -143,31 +139,28 @@ pub record IsPushedAlong (r r' : Residual) (k amount : ℕ) : Type 0 where
 
 -- the scanned nodes are in the order, and their labels and the cut are in range
 pub record CanUpdate (nodes : Nodes) (s : Search) : Type 0 where
-  pub even : IsEven s
-  pub order : s.head ≤ length s.label.items
+  pub order : s.head ≤ length s.visits.items
   pub small : length nodes.potential.items ≤ MAX_NODES
   pub scanned : (j : ℕ) → j < s.head → orders s j < length nodes.potential.items
-  pub sizes : length s.label.items ≡ length nodes.potential.items
+  pub sizes : length s.visits.items ≡ length nodes.potential.items
   pub labels : (j : ℕ) → j < s.head → IsWithinFar (labels s (orders s j))
   pub cut : IsWithinFar s.cut
 
 -- the nodes that were reached are in the order
 pub record HasOrder (s : Search) : Type 0 where
-  pub even : IsEven s
-  pub order : s.reached ≤ length s.label.items
-  pub small : length s.label.items ≤ MAX_NODES
-  pub nodes : (j : ℕ) → j < s.reached → orders s j < length s.label.items
+  pub order : s.reached ≤ length s.visits.items
+  pub small : length s.visits.items ≤ MAX_NODES
+  pub nodes : (j : ℕ) → j < s.reached → orders s j < length s.visits.items
 
 -- the labels of the nodes that were reached are taken away, and their order stays
 pub record IsCleared (s s' : Search) : Type 0 where
-  pub even : IsEven s'
   pub cleared : (j : ℕ) → j < s.reached → labels s' (orders s j) ≡ far
   pub others : (v : ℕ) → labels s v ≡ far → labels s' v ≡ far
-  pub enter : s'.enter ≡ s.enter
-  pub order : s'.order ≡ s.order
-  pub place : s'.place ≡ s.place
+  pub enter : (v : ℕ) → enters s' v ≡ enters s v
+  pub order : (j : ℕ) → orders s' j ≡ orders s j
+  pub place : (v : ℕ) → places s' v ≡ places s v
   pub found : s'.found ≡ s.found
-  pub size : length s'.label.items ≡ length s.label.items
+  pub size : length s'.visits.items ≡ length s.visits.items
 
 -- what each arc carries can be read: the number of the residual arc along it is that of one that has a reverse
 pub record CanRead (arcs : List ResidualArc) (forward : List ℕ) : Type 0 where

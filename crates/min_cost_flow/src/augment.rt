@@ -25,8 +25,8 @@ impl Solver {
         let mut node = self.residual.start(found);
         move_units(&mut self.nodes.excess, target, source as u32, amount);
         push(&mut self.residual, found, amount);
-        'along: while self.search.place[node] > 0 {
-            let number = self.search.enter[node] as usize;
+        'along: while self.search.visits[node].place > 0 {
+            let number = self.search.visits[node].enter as usize;
             push(&mut self.residual, number, amount);
             node = self.residual.start(number);
         }
@@ -42,8 +42,8 @@ impl Solver {
         let most = most_between(&self.nodes.excess, source, target);
         let mut amount = most.min(self.residual.arcs[found].room);
         let mut node = self.residual.start(found);
-        'narrow: while self.search.place[node] > 0 {
-            let number = self.search.enter[node] as usize;
+        'narrow: while self.search.visits[node].place > 0 {
+            let number = self.search.visits[node].enter as usize;
             amount = amount.min(self.residual.arcs[number].room);
             node = self.residual.start(number);
         }

@@ -11,7 +11,7 @@ ghost use Rattle.min_cost_flow.specs.declared.solver.SolveFault.TheVariants.{Mem
 ghost use Rattle.networks.specs.Networks.{NetworkModel, arc_count, node_count, IsNetwork};
 ghost use Rattle.networks.specs.Flow.{amounts, at_nodes, HasNoFlow, Solves};
 ghost use Rattle.networks.specs.ResidualArcs.{reverse_at, room_at, carried};
-ghost use Rattle.shortest_paths.specs.Search.{labels, orders, IsPut, IsWithinFar};
+ghost use Rattle.shortest_paths.specs.Search.{far, labels, orders, label_at, IsPut, IsWithinFar};
 ghost use Rattle.min_cost_flow.specs.Round.{carrying, supply_sum, IsRoundDone, HasSupply, IsWithinReach};
 ghost use Rattle.min_cost_flow.specs.Stand.{excess_at, potential_at, flow_in, IsSized, IsReady, IsUnderWay, IsAnswer, HasSentFrom, IsAugmented, CanUpdate, HasOrder, CanRead, IsCleared};
 
@@ -19,7 +19,7 @@ use crate::scratch::Scratch;
 use crate::solved::Solved;
 use crate::state::Solver;
 use networks::{Network, ResidualArc};
-use shortest_paths::{FAR, Ground, Nodes, Search};
+use shortest_paths::{FAR, Ground, Nodes, Search, Visit};
 use std::alloc::{AllocError, Global};
 use std::mem;
 use thiserror::Error;
@@ -115,10 +115,10 @@ impl Solver {
         ensures { IsUnderWay network.now self.new }
     {
         write_all(&mut self.nodes.potential, 0);
-        write_all(&mut self.search.label, FAR);
         self.nodes.excess.copy_from_slice(network.supplies());
         self.residual.lay_out(network);
-        score_nodes(network, &mut self.nodes.score);
+        score_nodes(network, &mut self.search.visits);
+        take_labels(&mut self.search.visits);
         self.searches = 0;
         self.looks = 0;
     }
@@ -172,11 +172,16 @@ fn update_potentials(nodes: &mut Nodes, search: &Search)
     requires { CanUpdate nodes.old search.now }
     ensures moved { (j : ℕ) → j < search.now.head → at_nodes nodes.new.potential.items (orders search.now j) ≡ labels search.now (orders search.now j) -ℤ search.now.cut }
     ensures others { (v : ℕ) → ((j : ℕ) → j < search.now.head → orders search.now j ≢ v) → at_nodes nodes.new.potential.items v ≡ at_nodes nodes.old.potential.items v }
-    ensures same { (nodes.new.excess ≡ nodes.old.excess) × (nodes.new.score ≡ nodes.old.score) × (length nodes.new.potential.items ≡ length nodes.old.potential.items) }
+    ensures same { (nodes.new.excess ≡ nodes.old.excess) × (length nodes.new.potential.items ≡ length nodes.old.potential.items) }
 {
     for j in 0..search.head {
-        let node = search.order[j] as usize;
-        write_potential(&mut nodes.potential, node, search.label[node], search.cut);
+        let node = search.visits[j].at_place as usize;
+        write_potential(
+            &mut nodes.potential,
+            node,
+            search.visits[node].label,
+            search.cut,
+        );
     }
 }
 
@@ -197,8 +202,11 @@ fn clear(search: &mut Search)
     ensures { IsCleared search.old search.new }
 {
     for j in 0..search.reached {
-        let node = search.order[j] as usize;
-        search.label[node] = FAR;
+        let node = search.visits[j].at_place as usize;
+        search.visits[node] = Visit {
+            label: FAR,
+            ..search.visits[node]
+        };
     }
 }
 
@@ -213,16 +221,20 @@ pub(crate) fn has_deficit(excess: &[i32]) -> bool
 /// Scores each node for ties among those that are as near: its supply, and what is supplied where arcs of
 /// cost 0 to it start. The least score comes first. No clause rests on it, but it tells which of
 /// several flows of least cost is found.
-pub(crate) fn score_nodes(network: &Network, score: &mut [i32])
+pub(crate) fn score_nodes(network: &Network, visits: &mut [Visit])
     requires network { IsNetwork network.now }
-    requires size { length score.old ≡ node_count network.now }
+    requires size { length visits.old ≡ node_count network.now }
 {
-    score.copy_from_slice(network.supplies());
+    for v in 0..visits.len() {
+        visits[v].score = network.supply(v as u32);
+    }
     for i in 0..network.arc_count() {
         let arc = network.arc(i as u32);
         if arc.cost == 0 {
-            let end = arc.to as usize;
-            score[end] = score[end].saturating_add(network.supply(arc.from).max(0));
+            let visit = &mut visits[arc.to as usize];
+            visit.score = visit
+                .score
+                .saturating_add(network.supply(arc.from).max(0));
         }
     }
 }
@@ -244,6 +256,15 @@ pub(crate) fn carried_along(arcs: &[ResidualArc], along: u32) -> u32
     ensures { result ≡ room_at arcs.now (reverse_at arcs.now along) }
 {
     arcs[usize::from(arcs[along as usize].reverse)].room
+}
+
+/// Takes the labels of all nodes away.
+fn take_labels(visits: &mut [Visit])
+    ensures { (v : ℕ) → v < length visits.new → label_at visits.new v ≡ far }
+{
+    for visit in visits.iter_mut() {
+        visit.label = FAR;
+    }
 }
 
 /// Writes a number at each node.

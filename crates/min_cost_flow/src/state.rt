@@ -3,7 +3,7 @@ ghost use Rattle.std.specs.Prelude.{OnOk};
 ghost use Rattle.min_cost_flow.specs.Stand.{IsSized};
 
 use networks::{Network, Residual, ResidualArc};
-use shortest_paths::{FAR, Nodes, Search};
+use shortest_paths::{FAR, Nodes, Search, Visit};
 use std::alloc::{AllocError, Global};
 
 /// The residual network, what is known of each node, the last search, and how much work was done since the
@@ -30,13 +30,9 @@ impl Solver {
             nodes: Nodes {
                 potential: Vec::new(alloc),
                 excess: Vec::new(alloc),
-                score: Vec::new(alloc),
             },
             search: Search {
-                label: Vec::new(alloc),
-                enter: Vec::new(alloc),
-                order: Vec::new(alloc),
-                place: Vec::new(alloc),
+                visits: Vec::new(alloc),
                 head: 0,
                 ordered: 0,
                 reached: 0,
@@ -63,15 +59,18 @@ impl Solver {
             reverse: 0,
             room: 0,
         };
+        let unvisited = Visit {
+            label: FAR,
+            enter: 0,
+            place: 0,
+            score: 0,
+            at_place: 0,
+        };
         self.residual.first.resize(nodes + 1, 0)?;
         self.residual.forward.resize(arcs, 0)?;
         self.residual.arcs.resize(2 * arcs, blank)?;
         self.nodes.potential.resize(nodes, 0)?;
         self.nodes.excess.resize(nodes, 0)?;
-        self.nodes.score.resize(nodes, 0)?;
-        self.search.label.resize(nodes, FAR)?;
-        self.search.enter.resize(nodes, 0)?;
-        self.search.order.resize(nodes, 0)?;
-        self.search.place.resize(nodes, 0)
+        self.search.visits.resize(nodes, unvisited)
     }
 }

@@ -10,7 +10,7 @@ use Rattle.shortest_paths.specs.declared.state.Search.{Search}
 use Rattle.shortest_paths.specs.declared.state.Step.{Step}
 use Rattle.shortest_paths.specs.declared.state.Visit.{Visit}
 use Rattle.networks.specs.ResidualArcs.{StartsAt, end_at, cost_at}
-use Rattle.shortest_paths.specs.Search.{no_visit, far, nodes_of, first_of, arcs_of, IsScanning, potential_of, excess_of, labels, orders, places, Reaches, Keeps, IsSearch, IsOffered, IsMarked, IsRelaxed, IsKept, IsSwapped, IsOrdered, HasServed, Serves, IsServed, looked, degree, SameBesideCut, SameBesideOrder, IsWithinFar}
+use Rattle.shortest_paths.specs.Search.{no_visit, far, nodes_of, first_of, arcs_of, IsScanning, potential_of, excess_of, labels, enters, orders, places, Reaches, Keeps, IsSearch, IsOffered, IsMarked, IsRelaxed, IsKept, IsSwapped, IsOrdered, HasServed, Serves, IsServed, looked, degree, SameBesideCut, SameBesideOrder, IsWithinFar}
 use Rattle.shortest_paths.proofs.Signs.{passed_within, difference_is}
 use Rattle.shortest_paths.proofs.Reaching.{below_or_not, behind, swapped, nearest_kept, nearest_offered, kept_then, kept_same, at_level, offer_below, offer_fits, offer_made, next_node, next_kept, next_only, serves_kept, served_kept, served_more, kept_less, same_le, order_kept, looked_most, looked_same, looked_more, same_z, relabelled, enlisted, order_room, reached_fits, potential_fits_at, offer_end}
 
@@ -20,6 +20,12 @@ label_read s v x b e = ap (λ (y : Visit). y.label) (get_or_read s.visits.items 
 
 pub order_read : (s : Search) (j : ℕ) (x : Visit) → j < length s.visits.items → x ≡ slice_index_or s.visits.items j x → x.at_place ≡ orders s j
 order_read s j x b e = ap (λ (y : Visit). y.at_place) (get_or_read s.visits.items j x b e no_visit)
+
+pub place_read : (s : Search) (v : ℕ) (x : Visit) → v < length s.visits.items → x ≡ slice_index_or s.visits.items v x → x.place ≡ places s v
+place_read s v x b e = ap (λ (y : Visit). y.place) (get_or_read s.visits.items v x b e no_visit)
+
+pub enter_read : (s : Search) (v : ℕ) (x : Visit) → v < length s.visits.items → x ≡ slice_index_or s.visits.items v x → x.enter ≡ enters s v
+enter_read s v x b e = ap (λ (y : Visit). y.enter) (get_or_read s.visits.items v x b e no_visit)
 
 -- w is the node at place j of the order
 pub record IsMember (g : Ground) (s : Search) (j w : ℕ) : Type 0 where

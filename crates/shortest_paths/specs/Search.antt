@@ -142,20 +142,23 @@ excess_of g = at_nodes g.nodes.now.excess.items
 abbrev pub no_visit : Visit
 no_visit = record { label = pos 0; enter = 0; place = 0; score = pos 0; at_place = 0 }
 
-abbrev pub visit_at : Search → ℕ → Visit
-visit_at s v = slice_index_or s.visits.items v no_visit
+abbrev pub visit_at : List Visit → ℕ → Visit
+visit_at visits v = slice_index_or visits v no_visit
+
+abbrev pub label_at : List Visit → ℕ → ℤ
+label_at visits v = (visit_at visits v).label
 
 abbrev pub labels : Search → ℕ → ℤ
-labels s v = (visit_at s v).label
+labels s v = label_at s.visits.items v
 
 abbrev pub enters : Search → ℕ → ℕ
-enters s v = (visit_at s v).enter
+enters s v = (visit_at s.visits.items v).enter
 
 abbrev pub orders : Search → ℕ → ℕ
-orders s j = (visit_at s j).at_place
+orders s j = (visit_at s.visits.items j).at_place
 
 abbrev pub places : Search → ℕ → ℕ
-places s v = (visit_at s v).place
+places s v = (visit_at s.visits.items v).place
 
 -- what a search reads is sound
 pub record IsGround (g : Ground) : Type 0 where

@@ -9,6 +9,5 @@ invariant-loop-j l = record {
   moved : (j : ℕ) → j < l.j → at_nodes l.nodes.potential.items (orders l.search j) ≡ labels l.search (orders l.search j) -ℤ l.search.cut;
   others : (v : ℕ) → ((j : ℕ) → j < l.j → orders l.search j ≢ v) → at_nodes l.nodes.potential.items v ≡ at_nodes l.initial.nodes.potential.items v;
   excess : l.nodes.excess ≡ l.initial.nodes.excess;
-  score : l.nodes.score ≡ l.initial.nodes.score;
   size : length l.nodes.potential.items ≡ length l.initial.nodes.potential.items;
 }

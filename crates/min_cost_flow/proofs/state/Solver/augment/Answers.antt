@@ -8,7 +8,8 @@ use Rattle.networks.proofs.Moving.{length-moved}
 use Rattle.networks.specs.Flow.{at_nodes}
 use Rattle.networks.specs.ResidualArcs.{numbers, end_at, reverse_at, room_at, no_residual_arc, IsFilled, carried}
 use Rattle.shortest_paths.specs.declared.state.Nodes.{Nodes}
-use Rattle.shortest_paths.specs.Search.{places}
+use Rattle.shortest_paths.specs.Search.{places, enters}
+use Rattle.shortest_paths.proofs.Searching.{place_read, enter_read}
 use Rattle.min_cost_flow.specs.declared.state.Solver.{Solver}
 use Rattle.min_cost_flow.specs.Excess.{Carries}
 use Rattle.min_cost_flow.specs.Path.{IsOnWay, next_of}
@@ -89,7 +90,7 @@ along-init c =
     let reverse = reverse_at arcs in
     let es = s.nodes.excess.items in
     let place = places s.search in
-    let next = next_of arcs s.search.enter.items in
+    let next = next_of arcs (enters s.search) in
     let from = last_node s in
     let to = end_of_path s in
     let e = at_nodes (raised es to k) in
@@ -122,13 +123,13 @@ pub index-requires-in-along : goal.index-requires-in-along
 index-requires-in-along c =
     let i = c.along.invariant in
     let h = c.requires.1 in
-    rw i.search (omega (arith, i.node c.requires.0 h, h.ready.labels, h.ready.even.places))
+    rw i.search (omega (arith, i.node c.requires.0 h, h.ready.labels))
 
 pub index-requires-in-along-2 : goal.index-requires-in-along-2
 index-requires-in-along-2 c =
     let i = c.along.invariant in
     let h = c.requires.1 in
-    rw i.search (omega (arith, i.node c.requires.0 h, h.ready.labels, h.ready.even.enters))
+    rw i.search (omega (arith, i.node c.requires.0 h, h.ready.labels))
 
 pub push-requires-in-along : goal.push-requires-in-along
 push-requires-in-along c =
@@ -141,12 +142,12 @@ push-requires-in-along c =
     let t = c.along.self in
     let k = c.bottleneck-amount.result in
     let place = places s.search in
-    let enter = numbers s.search.enter.items in
-    let size : length s.search.place.items ≡ node_count net = r.even.places ∙ r.labels in
-    let wide : length s.search.enter.items ≡ node_count net = r.even.enters ∙ r.labels in
-    let pl : c.index-in-along.result.now ≡ place v = rw i.search at (get_or_read t.search.place.items v c.index-in-along.result.now (rw i.search (omega (arith, i.node net h))) c.index-in-along.ensures 0) in
+    let enter = enters s.search in
+    let size : length s.search.visits.items ≡ node_count net = r.labels in
+    let wide : length s.search.visits.items ≡ node_count net = r.labels in
+    let pl : c.index-in-along.result.now.place ≡ place v = rw i.search at (place_read t.search v c.index-in-along.result.now (rw i.search (omega (arith, i.node net h))) c.index-in-along.ensures) in
     let some : 0 < place v = omega (arith, c.along-test.true) in
-    let en : c.index-in-along-2.result.now ≡ enter v = rw i.search at (get_or_read t.search.enter.items v c.index-in-along-2.result.now (rw i.search (omega (arith, i.node net h))) c.index-in-along-2.ensures 0) in
+    let en : c.index-in-along-2.result.now.enter ≡ enter v = rw i.search at (enter_read t.search v c.index-in-along-2.result.now (rw i.search (omega (arith, i.node net h))) c.index-in-along-2.ensures) in
     let st = own_step net s c.args.source h v (i.on net h) some in
     let first = s.residual.first.items in
     let forward = s.residual.forward.items in
@@ -157,9 +158,9 @@ push-requires-in-along c =
     let e = at_nodes (raised s.nodes.excess.items to k) in
     let most = carrying net (flow_in s) + place from + 1 in
     let sd = subst (λ (y : ℕ → ℕ). IsSending net (potential_at s) e h.path.on place (flow_in s) y v k most) (same_flow s.residual t.residual i.reverse i.forward) (i.sending net h) in
-    let fits : k ≤ room_at t.residual.arcs.items (enter v) = still_fits net reverse forward arcs t.residual.arcs.items (potential_at s) e h.path.on place (next_of arcs s.search.enter.items v) (enter v) v k most r.residual.filled (same_filled net s.residual t.residual i.reverse i.forward (i.residual net h)) st.link st.member (i.on net h) st.before sd (c.bottleneck-amount.ensures.fitting.fits v i.way some) in
+    let fits : k ≤ room_at t.residual.arcs.items (enter v) = still_fits net reverse forward arcs t.residual.arcs.items (potential_at s) e h.path.on place (next_of arcs (enters s.search) v) (enter v) v k most r.residual.filled (same_filled net s.residual t.residual i.reverse i.forward (i.residual net h)) st.link st.member (i.on net h) st.before sd (c.bottleneck-amount.ensures.fitting.fits v i.way some) in
     rw en (record {
-      pair = is_paired net t.residual (next_of arcs s.search.enter.items v) (enter v) r.network (i.residual net h) st.node (rw i.first st.leaves);
+      pair = is_paired net t.residual (next_of arcs (enters s.search) v) (enter v) r.network (i.residual net h) st.node (rw i.first st.leaves);
       fits = fits;
     })
 
@@ -174,12 +175,12 @@ start-node-requires-in-along c =
     let t = c.along.self in
     let k = c.bottleneck-amount.result in
     let place = places s.search in
-    let enter = numbers s.search.enter.items in
-    let size : length s.search.place.items ≡ node_count net = r.even.places ∙ r.labels in
-    let wide : length s.search.enter.items ≡ node_count net = r.even.enters ∙ r.labels in
-    let pl : c.index-in-along.result.now ≡ place v = rw i.search at (get_or_read t.search.place.items v c.index-in-along.result.now (rw i.search (omega (arith, i.node net h))) c.index-in-along.ensures 0) in
+    let enter = enters s.search in
+    let size : length s.search.visits.items ≡ node_count net = r.labels in
+    let wide : length s.search.visits.items ≡ node_count net = r.labels in
+    let pl : c.index-in-along.result.now.place ≡ place v = rw i.search at (place_read t.search v c.index-in-along.result.now (rw i.search (omega (arith, i.node net h))) c.index-in-along.ensures) in
     let some : 0 < place v = omega (arith, c.along-test.true) in
-    let en : c.index-in-along-2.result.now ≡ enter v = rw i.search at (get_or_read t.search.enter.items v c.index-in-along-2.result.now (rw i.search (omega (arith, i.node net h))) c.index-in-along-2.ensures 0) in
+    let en : c.index-in-along-2.result.now.enter ≡ enter v = rw i.search at (enter_read t.search v c.index-in-along-2.result.now (rw i.search (omega (arith, i.node net h))) c.index-in-along-2.ensures) in
     let st = own_step net s c.args.source h v (i.on net h) some in
     let q = c.push-in-along.ensures in
     let n = step_pair net s c.args.source v h (i.on net h) some in
@@ -200,12 +201,12 @@ along-smaller c =
     let t = c.along.self in
     let k = c.bottleneck-amount.result in
     let place = places s.search in
-    let enter = numbers s.search.enter.items in
-    let size : length s.search.place.items ≡ node_count net = r.even.places ∙ r.labels in
-    let wide : length s.search.enter.items ≡ node_count net = r.even.enters ∙ r.labels in
-    let pl : c.index-in-along.result.now ≡ place v = rw i.search at (get_or_read t.search.place.items v c.index-in-along.result.now (rw i.search (omega (arith, i.node net h))) c.index-in-along.ensures 0) in
+    let enter = enters s.search in
+    let size : length s.search.visits.items ≡ node_count net = r.labels in
+    let wide : length s.search.visits.items ≡ node_count net = r.labels in
+    let pl : c.index-in-along.result.now.place ≡ place v = rw i.search at (place_read t.search v c.index-in-along.result.now (rw i.search (omega (arith, i.node net h))) c.index-in-along.ensures) in
     let some : 0 < place v = omega (arith, c.along-test.true) in
-    let en : c.index-in-along-2.result.now ≡ enter v = rw i.search at (get_or_read t.search.enter.items v c.index-in-along-2.result.now (rw i.search (omega (arith, i.node net h))) c.index-in-along-2.ensures 0) in
+    let en : c.index-in-along-2.result.now.enter ≡ enter v = rw i.search at (enter_read t.search v c.index-in-along-2.result.now (rw i.search (omega (arith, i.node net h))) c.index-in-along-2.ensures) in
     let st = own_step net s c.args.source h v (i.on net h) some in
     let q = c.push-in-along.ensures in
     let j = reverse_at s.residual.arcs.items (enter v) in
@@ -224,12 +225,12 @@ along-preserved c =
     let t = c.along.self in
     let k = c.bottleneck-amount.result in
     let place = places s.search in
-    let enter = numbers s.search.enter.items in
-    let size : length s.search.place.items ≡ node_count net = r.even.places ∙ r.labels in
-    let wide : length s.search.enter.items ≡ node_count net = r.even.enters ∙ r.labels in
-    let pl : c.index-in-along.result.now ≡ place v = rw i.search at (get_or_read t.search.place.items v c.index-in-along.result.now (rw i.search (omega (arith, i.node net h))) c.index-in-along.ensures 0) in
+    let enter = enters s.search in
+    let size : length s.search.visits.items ≡ node_count net = r.labels in
+    let wide : length s.search.visits.items ≡ node_count net = r.labels in
+    let pl : c.index-in-along.result.now.place ≡ place v = rw i.search at (place_read t.search v c.index-in-along.result.now (rw i.search (omega (arith, i.node net h))) c.index-in-along.ensures) in
     let some : 0 < place v = omega (arith, c.along-test.true) in
-    let en : c.index-in-along-2.result.now ≡ enter v = rw i.search at (get_or_read t.search.enter.items v c.index-in-along-2.result.now (rw i.search (omega (arith, i.node net h))) c.index-in-along-2.ensures 0) in
+    let en : c.index-in-along-2.result.now.enter ≡ enter v = rw i.search at (enter_read t.search v c.index-in-along-2.result.now (rw i.search (omega (arith, i.node net h))) c.index-in-along-2.ensures) in
     let st = own_step net s c.args.source h v (i.on net h) some in
     let first = s.residual.first.items in
     let forward = s.residual.forward.items in
@@ -241,12 +242,12 @@ along-preserved c =
     let most = carrying net (flow_in s) + place from + 1 in
     let q = c.push-in-along.ensures in
     let new = c.push-in-along.new.residual in
-    let next = next_of arcs s.search.enter.items in
+    let next = next_of arcs (enters s.search) in
     let j = reverse_at arcs (enter v) in
     let turned : (m : ℕ) → reverse_at new.arcs.items m ≡ reverse_at arcs m = λ m. q.reverse m ∙ i.reverse m in
     let start = rw en at c.start-node-in-along.ensures in
     let at : c.start-node-in-along.result ≡ end_at arcs j = start ∙ ap (end_at new.arcs.items) (turned (enter v)) ∙ q.ends j ∙ i.ends j in
-    let pushed : IsPushed reverse t.residual.arcs.items new.arcs.items (enter v) k = subst (λ (turn : ℕ → ℕ). IsPushed turn t.residual.arcs.items new.arcs.items (enter v) k) (fun_ext i.reverse) (rw en at (was_pushed t.residual new c.index-in-along-2.result.now k q)) in
+    let pushed : IsPushed reverse t.residual.arcs.items new.arcs.items (enter v) k = subst (λ (turn : ℕ → ℕ). IsPushed turn t.residual.arcs.items new.arcs.items (enter v) k) (fun_ext i.reverse) (rw en at (was_pushed t.residual new c.index-in-along-2.result.now.enter k q)) in
     record {
       node = λ net' g. subst (λ (u : ℕ). u < node_count net') (sym at) (own_step net' s c.args.source g v (i.on net' g) some).node;
       residual = λ net' g. let l = own_step net' s c.args.source g v (i.on net' g) some in pushed_network net' t.residual new (next v) (enter v) k (i.residual net' g) l.node (rw i.first l.leaves) (rw en at q);
@@ -278,10 +279,10 @@ returns-clause-sent c net h =
     let t = c.along.self in
     let k = c.bottleneck-amount.result in
     let place = places s.search in
-    let enter = numbers s.search.enter.items in
-    let size : length s.search.place.items ≡ node_count net = r.even.places ∙ r.labels in
-    let wide : length s.search.enter.items ≡ node_count net = r.even.enters ∙ r.labels in
-    let pl : c.index-in-along.result.now ≡ place v = rw i.search at (get_or_read t.search.place.items v c.index-in-along.result.now (rw i.search (omega (arith, i.node net h))) c.index-in-along.ensures 0) in
+    let enter = enters s.search in
+    let size : length s.search.visits.items ≡ node_count net = r.labels in
+    let wide : length s.search.visits.items ≡ node_count net = r.labels in
+    let pl : c.index-in-along.result.now.place ≡ place v = rw i.search at (place_read t.search v c.index-in-along.result.now (rw i.search (omega (arith, i.node net h))) c.index-in-along.ensures) in
     let first = s.residual.first.items in
     let forward = s.residual.forward.items in
     let arcs = s.residual.arcs.items in
@@ -303,16 +304,13 @@ returns-clause-sent c net h =
     let value : units ≡ moved s.nodes.excess.items to c.args.source k = rw (c.deref_mut.ensures.value, target) at c.move_units.ensures in
     let excess_is : t.nodes.excess.items ≡ moved s.nodes.excess.items to c.args.source k = ap (λ (m : Nodes). m.excess.items) i.nodes ∙ with_items_is s.nodes.excess units (omega arith) ∙ value in
     let potential_is : t.nodes.potential ≡ s.nodes.potential = ap (λ (m : Nodes). m.potential) i.nodes in
-    let score_is : t.nodes.score ≡ s.nodes.score = ap (λ (m : Nodes). m.score) i.nodes in
     record {
       ready = record {
         network = r.network;
         residual = i.residual net h;
         potentials = rw potential_is r.potentials;
         excesses = rw excess_is (length-moved s.nodes.excess.items to c.args.source k ∙ r.excesses);
-        scores = rw score_is r.scores;
         labels = rw i.search r.labels;
-        even = rw i.search r.even;
         round = subst (λ (x : ℕ → ℕ). IsRound net x (potential_at t) (excess_at t)) (sym flow_is) (rw (potential_is, excess_is) (sent_round net (flow_in s) y (potential_at s) (excess_at s) (at_nodes (moved s.nodes.excess.items to c.args.source k)) c.args.source k sent sd.priced r.round));
         blank = rw i.search r.blank;
       };

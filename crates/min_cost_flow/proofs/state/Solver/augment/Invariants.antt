@@ -3,7 +3,7 @@ use Rattle.networks.specs.Networks.{NetworkModel, node_count, raised}
 use Rattle.networks.specs.Flow.{at_nodes}
 use Rattle.networks.specs.ResidualArcs.{end_at, reverse_at}
 use Rattle.networks.specs.Residuals.{IsResidualNetwork}
-use Rattle.shortest_paths.specs.Search.{places}
+use Rattle.shortest_paths.specs.Search.{places, enters}
 use Rattle.min_cost_flow.specs.Path.{IsOnWay, next_of}
 use Rattle.min_cost_flow.specs.Round.{carrying}
 use Rattle.min_cost_flow.specs.Stand.{flow_in, potential_at, last_node, CanAugment}
@@ -23,7 +23,7 @@ invariant-along l = record {
   searches : l.self.searches ≡ l.fn.self.searches;
   looks : l.self.looks ≡ l.fn.self.looks;
   on : (net : NetworkModel) (h : CanAugment net l.fn.self l.source) → h.path.on l.node ≡ true;
-  way : IsOnWay (next_of l.fn.self.residual.arcs.items l.fn.self.search.enter.items) (places l.fn.self.search) (last_node l.fn.self) l.node;
+  way : IsOnWay (next_of l.fn.self.residual.arcs.items (enters l.fn.self.search)) (places l.fn.self.search) (last_node l.fn.self) l.node;
   sending : (net : NetworkModel) (h : CanAugment net l.fn.self l.source) →
       IsSending net (potential_at l.fn.self) (at_nodes (raised l.fn.self.nodes.excess.items (end_at l.fn.self.residual.arcs.items l.fn.self.search.found) l.amount)) h.path.on (places l.fn.self.search) (flow_in l.fn.self) (flow_in l.self) l.node l.amount (carrying net (flow_in l.fn.self) + places l.fn.self.search (last_node l.fn.self) + 1);
 }

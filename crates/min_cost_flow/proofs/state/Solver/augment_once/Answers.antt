@@ -4,6 +4,7 @@ use mir.Syntax.{w32}
 use mir.Val.{SFits, of_z}
 use Rattle.networks.specs.Networks.{node_count}
 use Rattle.networks.specs.Flow.{at_nodes}
+use Rattle.networks.specs.ResidualArcs.{end_at, reverse_at}
 use Rattle.shortest_paths.specs.Search.{far, labels, enters, orders, places, IsGraph, IsPriced, IsReached, IsNearest, IsServed, IsLeft}
 use Rattle.shortest_paths.proofs.Signs.{same_from_bits}
 use Rattle.shortest_paths.proofs.Reaching.{strictly, reached_fits}
@@ -25,12 +26,10 @@ run-requires-clause-blank c =
     record {
       ground = record {
         excesses = r.excesses ∙ sym n;
-        scores = r.scores ∙ sym n;
         graph = subst (λ (t : ℕ). IsGraph t first arcs) (sym n) g;
         priced = subst (λ (t : ℕ). IsPriced t first arcs p e) (sym n) pr;
         source = omega (arith, c.requires.source, r.excesses, n);
       };
-      even = r.even;
       size = r.labels ∙ sym n;
       blank = λ v b. r.blank v (omega arith);
       source = c.requires.left;
@@ -63,7 +62,6 @@ update_potentials-requires c =
     let b : c.args.source < node_count net = omega (arith, c.requires.source, r.excesses) in
     let le : t.head ≤ node_count net = omega (arith, h.reached.counts, r.potentials) in
     record {
-      even = h.even;
       order = omega (arith, h.reached.counts, h.size);
       small = omega (arith, r.potentials, r.network.small);
       scanned = λ j b. h.reached.node j (omega (arith, h.reached.counts));
@@ -76,7 +74,6 @@ pub clear-requires : goal.clear-requires
 clear-requires c =
     let h = c.run.ensures.search in
     record {
-      even = h.even;
       order = omega (arith, h.reached.counts, h.size);
       small = omega (arith, h.size, h.ground.graph.nodes);
       nodes = λ j b. omega (arith, h.reached.node j b, h.size);
@@ -113,7 +110,7 @@ returns-clause-augmented c _ net r =
     let re = subst (λ (k : ℕ). IsReached k first arcs p x c.args.source (labels t) (enters t) (orders t) (places t) t.head t.ordered t.reached t.level) n h.reached in
     let near = subst (λ (k : ℕ). IsNearest k first arcs p x c.args.source (labels t) (places t) t.head t.level t.cut t.found) n h.nearest in
     let short = path_looks _ _ _ _ _ _ _ _ _ _ _ _ _ _ _ _ _ _ r.residual.laid_out r.residual.filled re (near.hit hit) in
-    let more = rw (q.place, q.found) at a.carrying in
+    let more = rw (q.found, q.place (end_at arcs (reverse_at arcs t.found))) at a.carrying in
     record {
       ready = a.ready;
       less = rw up.same.0 at a.less;

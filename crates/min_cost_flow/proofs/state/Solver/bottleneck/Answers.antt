@@ -3,7 +3,8 @@ use Rattle.std.proofs.lemmas.List.{get_or_read}
 use Rattle.networks.specs.declared.residual.ResidualArc.{ResidualArc}
 use Rattle.networks.specs.Networks.{node_count}
 use Rattle.networks.specs.ResidualArcs.{numbers, end_at, reverse_at, room_at, no_residual_arc}
-use Rattle.shortest_paths.specs.Search.{places}
+use Rattle.shortest_paths.specs.Search.{places, enters}
+use Rattle.shortest_paths.proofs.Searching.{place_read, enter_read}
 use Rattle.min_cost_flow.specs.Path.{next_of, room_into}
 use Rattle.min_cost_flow.specs.Stand.{excess_at, last_node}
 use Rattle.min_cost_flow.proofs.Augmenting.{IsNarrowed, narrowed_first, narrowed_more, narrowed_all, own_step, own_last, own_end, last_pair, step_pair, lesser_some, lesser_left, lesser_short}
@@ -48,8 +49,8 @@ narrow-init c =
     let fits : c.index-2.result.now.room ≡ room_at s.residual.arcs.items s.search.found = ap (λ (a : ResidualArc). a.room) (get_or_read s.residual.arcs.items s.search.found c.index-2.result.now n.here c.index-2.ensures no_residual_arc) in
     let least : c.min-amount.result ≡ min c.most_between-most.result c.index-2.result.now.room = c.min-amount.ensures in
     let m = c.most_between-most.ensures in
-    let next = next_of s.residual.arcs.items s.search.enter.items in
-    let rooms = room_into s.residual.arcs.items s.search.enter.items in
+    let next = next_of s.residual.arcs.items (enters s.search) in
+    let rooms = room_into s.residual.arcs.items (enters s.search) in
     record {
       node = λ net' g. subst (λ (t : ℕ). t < node_count net') (sym at) (own_last net' s c.args.source g).node;
       narrowed = subst (λ (t : ℕ). IsNarrowed next (places s.search) rooms (last_node s) t c.min-amount.result) (sym at) (narrowed_first next (places s.search) rooms (last_node s) c.min-amount.result);
@@ -68,17 +69,17 @@ narrow-smaller c =
     let h = c.requires.1 in
     let i = c.narrow.invariant in
     let v = c.narrow.node in
-    let pl : c.index-in-narrow.result.now ≡ places s.search v = get_or_read s.search.place.items v c.index-in-narrow.result.now (omega (arith, i.node net h, h.ready.labels, h.ready.even.places)) c.index-in-narrow.ensures 0 in
+    let pl : c.index-in-narrow.result.now.place ≡ places s.search v = place_read s.search v c.index-in-narrow.result.now (omega (arith, i.node net h, h.ready.labels)) c.index-in-narrow.ensures in
     let some : 0 < places s.search v = omega (arith, c.narrow-test.true) in
-    let en : c.index-in-narrow-2.result.now ≡ numbers s.search.enter.items v = get_or_read s.search.enter.items v c.index-in-narrow-2.result.now (omega (arith, i.node net h, h.ready.labels, h.ready.even.enters)) c.index-in-narrow-2.ensures 0 in
-    let at : c.start-node-in-narrow.result ≡ next_of s.residual.arcs.items s.search.enter.items v = c.start-node-in-narrow.ensures ∙ ap (λ (t : ℕ). end_at s.residual.arcs.items (reverse_at s.residual.arcs.items t)) en in
+    let en : c.index-in-narrow-2.result.now.enter ≡ enters s.search v = enter_read s.search v c.index-in-narrow-2.result.now (omega (arith, i.node net h, h.ready.labels)) c.index-in-narrow-2.ensures in
+    let at : c.start-node-in-narrow.result ≡ next_of s.residual.arcs.items (enters s.search) v = c.start-node-in-narrow.ensures ∙ ap (λ (t : ℕ). end_at s.residual.arcs.items (reverse_at s.residual.arcs.items t)) en in
     subst (λ (t : ℕ). places s.search t < places s.search v) (sym at) (own_step net s c.args.source h v (i.on net h) some).before
 
 pub index-requires-in-narrow : goal.index-requires-in-narrow
-index-requires-in-narrow c = let h = c.requires.1 in omega (arith, c.narrow.invariant.node c.requires.0 h, h.ready.labels, h.ready.even.places)
+index-requires-in-narrow c = let h = c.requires.1 in omega (arith, c.narrow.invariant.node c.requires.0 h, h.ready.labels)
 
 pub index-requires-in-narrow-2 : goal.index-requires-in-narrow-2
-index-requires-in-narrow-2 c = let h = c.requires.1 in omega (arith, c.narrow.invariant.node c.requires.0 h, h.ready.labels, h.ready.even.enters)
+index-requires-in-narrow-2 c = let h = c.requires.1 in omega (arith, c.narrow.invariant.node c.requires.0 h, h.ready.labels)
 
 pub index-requires-in-narrow-3 : goal.index-requires-in-narrow-3
 index-requires-in-narrow-3 c =
@@ -87,9 +88,9 @@ index-requires-in-narrow-3 c =
     let h = c.requires.1 in
     let i = c.narrow.invariant in
     let v = c.narrow.node in
-    let pl : c.index-in-narrow.result.now ≡ places s.search v = get_or_read s.search.place.items v c.index-in-narrow.result.now (omega (arith, i.node net h, h.ready.labels, h.ready.even.places)) c.index-in-narrow.ensures 0 in
+    let pl : c.index-in-narrow.result.now.place ≡ places s.search v = place_read s.search v c.index-in-narrow.result.now (omega (arith, i.node net h, h.ready.labels)) c.index-in-narrow.ensures in
     let some : 0 < places s.search v = omega (arith, c.narrow-test.true) in
-    let en : c.index-in-narrow-2.result.now ≡ numbers s.search.enter.items v = get_or_read s.search.enter.items v c.index-in-narrow-2.result.now (omega (arith, i.node net h, h.ready.labels, h.ready.even.enters)) c.index-in-narrow-2.ensures 0 in
+    let en : c.index-in-narrow-2.result.now.enter ≡ enters s.search v = enter_read s.search v c.index-in-narrow-2.result.now (omega (arith, i.node net h, h.ready.labels)) c.index-in-narrow-2.ensures in
     omega (arith, (step_pair net s c.args.source v h (i.on net h) some).here)
 
 pub start-node-requires-in-narrow : goal.start-node-requires-in-narrow
@@ -99,9 +100,9 @@ start-node-requires-in-narrow c =
     let h = c.requires.1 in
     let i = c.narrow.invariant in
     let v = c.narrow.node in
-    let pl : c.index-in-narrow.result.now ≡ places s.search v = get_or_read s.search.place.items v c.index-in-narrow.result.now (omega (arith, i.node net h, h.ready.labels, h.ready.even.places)) c.index-in-narrow.ensures 0 in
+    let pl : c.index-in-narrow.result.now.place ≡ places s.search v = place_read s.search v c.index-in-narrow.result.now (omega (arith, i.node net h, h.ready.labels)) c.index-in-narrow.ensures in
     let some : 0 < places s.search v = omega (arith, c.narrow-test.true) in
-    let en : c.index-in-narrow-2.result.now ≡ numbers s.search.enter.items v = get_or_read s.search.enter.items v c.index-in-narrow-2.result.now (omega (arith, i.node net h, h.ready.labels, h.ready.even.enters)) c.index-in-narrow-2.ensures 0 in
+    let en : c.index-in-narrow-2.result.now.enter ≡ enters s.search v = enter_read s.search v c.index-in-narrow-2.result.now (omega (arith, i.node net h, h.ready.labels)) c.index-in-narrow-2.ensures in
     let n = step_pair net s c.args.source v h (i.on net h) some in
     rw en (record { number = n.here; reverse = n.there })
 
@@ -112,18 +113,18 @@ narrow-preserved c =
     let h = c.requires.1 in
     let i = c.narrow.invariant in
     let v = c.narrow.node in
-    let pl : c.index-in-narrow.result.now ≡ places s.search v = get_or_read s.search.place.items v c.index-in-narrow.result.now (omega (arith, i.node net h, h.ready.labels, h.ready.even.places)) c.index-in-narrow.ensures 0 in
+    let pl : c.index-in-narrow.result.now.place ≡ places s.search v = place_read s.search v c.index-in-narrow.result.now (omega (arith, i.node net h, h.ready.labels)) c.index-in-narrow.ensures in
     let some : 0 < places s.search v = omega (arith, c.narrow-test.true) in
-    let en : c.index-in-narrow-2.result.now ≡ numbers s.search.enter.items v = get_or_read s.search.enter.items v c.index-in-narrow-2.result.now (omega (arith, i.node net h, h.ready.labels, h.ready.even.enters)) c.index-in-narrow-2.ensures 0 in
+    let en : c.index-in-narrow-2.result.now.enter ≡ enters s.search v = enter_read s.search v c.index-in-narrow-2.result.now (omega (arith, i.node net h, h.ready.labels)) c.index-in-narrow-2.ensures in
     let n = step_pair net s c.args.source v h (i.on net h) some in
-    let rm : c.index-in-narrow-3.result.now.room ≡ room_at s.residual.arcs.items (numbers s.search.enter.items v) = ap (λ (a : ResidualArc). a.room) (get_or_read s.residual.arcs.items c.index-in-narrow-2.result.now c.index-in-narrow-3.result.now (omega (arith, n.here)) c.index-in-narrow-3.ensures no_residual_arc) ∙ ap (room_at s.residual.arcs.items) en in
-    let at : c.start-node-in-narrow.result ≡ next_of s.residual.arcs.items s.search.enter.items v = c.start-node-in-narrow.ensures ∙ ap (λ (t : ℕ). end_at s.residual.arcs.items (reverse_at s.residual.arcs.items t)) en in
+    let rm : c.index-in-narrow-3.result.now.room ≡ room_at s.residual.arcs.items (enters s.search v) = ap (λ (a : ResidualArc). a.room) (get_or_read s.residual.arcs.items c.index-in-narrow-2.result.now.enter c.index-in-narrow-3.result.now (omega (arith, n.here)) c.index-in-narrow-3.ensures no_residual_arc) ∙ ap (room_at s.residual.arcs.items) en in
+    let at : c.start-node-in-narrow.result ≡ next_of s.residual.arcs.items (enters s.search) v = c.start-node-in-narrow.ensures ∙ ap (λ (t : ℕ). end_at s.residual.arcs.items (reverse_at s.residual.arcs.items t)) en in
     let st = own_step net s c.args.source h v (i.on net h) some in
     let k' = c.min-amount-in-narrow.result in
     let least : k' ≡ min c.narrow.amount c.index-in-narrow-3.result.now.room = c.min-amount-in-narrow.ensures in
     let less : k' ≤ c.narrow.amount = omega (arith, least) in
-    let next = next_of s.residual.arcs.items s.search.enter.items in
-    let rooms = room_into s.residual.arcs.items s.search.enter.items in
+    let next = next_of s.residual.arcs.items (enters s.search) in
+    let rooms = room_into s.residual.arcs.items (enters s.search) in
     record {
       node = λ net' g. subst (λ (t : ℕ). t < node_count net') (sym at) (own_step net' s c.args.source g v (i.on net' g) some).node;
       narrowed = subst (λ (t : ℕ). IsNarrowed next (places s.search) rooms (last_node s) t k') (sym at) (narrowed_more next (places s.search) rooms (last_node s) v c.narrow.amount k' i.narrowed some less (omega (arith, least)));
@@ -142,7 +143,7 @@ returns c =
     let h = c.requires.1 in
     let i = c.narrow.invariant in
     let v = c.narrow.node in
-    let pl : c.index-in-narrow.result.now ≡ places s.search v = get_or_read s.search.place.items v c.index-in-narrow.result.now (omega (arith, i.node net h, h.ready.labels, h.ready.even.places)) c.index-in-narrow.ensures 0 in
+    let pl : c.index-in-narrow.result.now.place ≡ places s.search v = place_read s.search v c.index-in-narrow.result.now (omega (arith, i.node net h, h.ready.labels)) c.index-in-narrow.ensures in
     let none : places s.search v ≡ 0 = omega (arith, c.narrow-test.false) in
     record {
       some = i.some;
@@ -151,6 +152,6 @@ returns c =
         found = i.found;
         left = i.left;
         short = i.short;
-        fits = λ u on some. narrowed_all (next_of s.residual.arcs.items s.search.enter.items) (places s.search) (room_into s.residual.arcs.items s.search.enter.items) (last_node s) v c.narrow.amount i.narrowed none u on some;
+        fits = λ u on some. narrowed_all (next_of s.residual.arcs.items (enters s.search)) (places s.search) (room_into s.residual.arcs.items (enters s.search)) (last_node s) v c.narrow.amount i.narrowed none u on some;
       };
     }

@@ -1,7 +1,7 @@
 use Rattle.std.proofs.Common.{ℕ, ◌≡◌, ◌<◌, ◌≤◌, pos, ◌≤ℤ◌, ◌+ℤ◌, true}
 use Rattle.networks.specs.Networks.{NetworkModel, node_count}
 use Rattle.networks.specs.ResidualArcs.{end_at, room_at}
-use Rattle.shortest_paths.specs.Search.{places}
+use Rattle.shortest_paths.specs.Search.{places, enters}
 use Rattle.min_cost_flow.specs.Path.{next_of, room_into}
 use Rattle.min_cost_flow.specs.Stand.{excess_at, last_node, CanAugment, IsFitting}
 use Rattle.min_cost_flow.proofs.Augmenting.{IsNarrowed}
@@ -10,7 +10,7 @@ use Rattle.min_cost_flow.proofs.state.Solver.bottleneck.Given as goal
 abbrev pub invariant-narrow : goal.invariant-narrow
 invariant-narrow l = record {
   node : (net : NetworkModel) → CanAugment net l.self l.source → l.node < node_count net;
-  narrowed : IsNarrowed (next_of l.self.residual.arcs.items l.self.search.enter.items) (places l.self.search) (room_into l.self.residual.arcs.items l.self.search.enter.items) (last_node l.self) l.node l.amount;
+  narrowed : IsNarrowed (next_of l.self.residual.arcs.items (enters l.self.search)) (places l.self.search) (room_into l.self.residual.arcs.items (enters l.self.search)) (last_node l.self) l.node l.amount;
   some : 0 < l.amount;
   found : l.amount ≤ room_at l.self.residual.arcs.items l.self.search.found;
   left : pos l.amount ≤ℤ excess_at l.self l.source;

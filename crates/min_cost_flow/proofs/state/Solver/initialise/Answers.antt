@@ -17,12 +17,11 @@ returns c =
     let l = c.args.self.now in
     let z = c.requires in
     let ps = c.write_all.new.numbers in
-    let qs = c.write_all-2.new.numbers in
+    let ss = c.score_nodes.new.visits in
+    let qs = c.take_labels.new.visits in
     let es = c.copy_from_slice.new.self in
     let pot_is : (with_items l.nodes.potential ps).items ≡ ps = with_items_is l.nodes.potential ps (omega arith) in
-    let label_is : (with_items l.search.label qs).items ≡ qs = with_items_is l.search.label qs (omega arith) in
-    let ss = c.score_nodes.new.score in
-    let score_is : (with_items l.nodes.score ss).items ≡ ss = with_items_is l.nodes.score ss (omega arith) in
+    let label_is : (with_items (with_items l.search.visits ss) qs).items ≡ qs = with_items_is (with_items l.search.visits ss) qs (omega arith) in
     let full : (v : ℕ) → at_nodes es.items v ≡ supply_at net v = λ v. ap (λ (xs : List ℤ). at_nodes xs v) (c.copy_from_slice.ensures.items ∙ c.supplies.ensures.supplies) in
     record {
       ready = record {
@@ -30,11 +29,9 @@ returns c =
         residual = c.lay_out.ensures.laid_out;
         potentials = rw pot_is (omega (arith, z.potentials));
         excesses = ap (length {A = ℤ}) (c.copy_from_slice.ensures.items ∙ c.supplies.ensures.supplies);
-        scores = rw score_is (omega (arith, z.scores));
         labels = rw label_is (omega (arith, z.labels));
-        even = record { enters = rw label_is (omega (arith, z.even.enters)); orders = rw label_is (omega (arith, z.even.orders)); places = rw label_is (omega (arith, z.even.places)) };
         round = rw pot_is (first_round _ _ _ _ z.network c.lay_out.ensures.none (flat_all ps c.write_all.ensures) full);
-        blank = λ v b. rw label_is (c.write_all-2.ensures v (omega (arith, z.labels)));
+        blank = λ v b. rw label_is (c.take_labels.ensures v (omega (arith, z.labels)));
       };
       work = first_work _ _ _ c.lay_out.ensures.none full;
     }

@@ -14,7 +14,7 @@ carries_little-requires-clause-read c =
 
 pub solve-requires : goal.solve-requires
 solve-requires c =
-    rw c.shift.ensures (sized_moved c.args.network.now c.args.self.now c.args.self.now c.args.from c.args.to c.args.amount c.requires.settled.ready c.requires.fair refl refl refl refl refl)
+    rw c.shift.ensures (sized_moved c.args.network.now c.args.self.now c.args.self.now c.args.from c.args.to c.args.amount c.requires.settled.ready c.requires.fair refl refl refl refl)
 
 pub rebase-requires : goal.rebase-requires
 rebase-requires c =
@@ -63,7 +63,7 @@ resend-requires c =
             (λ v b. rw pot_is (base v (omega (arith, size))))
             (λ v b. rw pot_is (subst (λ (m : ℕ). (pos 0 ≤ℤ (at_nodes p' v +ℤ pos (2 * m))) × (at_nodes p' v ≤ℤ pos (2 * m))) size (low v (omega (arith, size)))))
             (λ i b. little i (omega (arith, r.residual.laid_out.forwards)))
-            refl refl refl (rw pot_is (omega (arith, size, r.potentials))) (excess_is ∙ value),
+            refl refl (rw pot_is (omega (arith, size, r.potentials))) (excess_is ∙ value),
       );
       source = omega (arith, wide, c.requires.from);
       others = λ v b ne. rw (excess_is, value) (others_none l.nodes.excess.items (node_count net) c.args.from c.args.to c.args.amount v r.excesses st.sent c.requires.from c.requires.to (omega (arith, wide)) ne);
@@ -92,5 +92,5 @@ returns c =
           (λ v b. rw pot_is (base v (omega (arith, size))))
           (λ v b. rw pot_is (subst (λ (m : ℕ). (pos 0 ≤ℤ (at_nodes p' v +ℤ pos (2 * m))) × (at_nodes p' v ≤ℤ pos (2 * m))) size (low v (omega (arith, size)))))
           (λ i b. little i (omega (arith, r.residual.laid_out.forwards)))
-          refl refl refl (rw pot_is (omega (arith, size, r.potentials))) (excess_is ∙ value)));
+          refl refl (rw pot_is (omega (arith, size, r.potentials))) (excess_is ∙ value)));
     }
