@@ -120,8 +120,6 @@ impl FaceNet {
     pub fn corner_arc(&self, dart: u16) -> u32
         ensures { result ≡ dart }
     {
-        // Only the proof needs this field.
-        let _ = &self.network;
         u32::from(dart)
     }
 
@@ -137,8 +135,6 @@ impl FaceNet {
         requires { 1 ≤ vertex }
         ensures { result ≡ vertex - 1 }
     {
-        // Only the proof needs this field.
-        let _ = &self.network;
         u32::from(vertex) - 1
     }
 

@@ -106,14 +106,10 @@ fn least_flow(
 }
 
 /// What the crossing of a dart carries.
-fn crossing_flow(plane: &Plane, net: &FaceNet, solved: &Solved, dart: u16) -> u32
-    requires net { IsNetOf plane.now net.now }
-    requires solves { Solves net.now.network solved.now }
-    requires within { dart < darts plane.now }
-    ensures { result ≡ amounts solved.now.flow (darts plane.now + dart) }
+fn crossing_flow(net: &FaceNet, solved: &Solved, dart: u16) -> u32
+    requires { net.now.darts + dart < length solved.now.flow }
+    ensures { result ≡ amounts solved.now.flow (net.now.darts + dart) }
 {
-    // Only the proof needs this: `outer` says that there is a face.
-    let _outer = plane.outer();
     solved.flow(net.crossing_arc(dart))
 }
 
@@ -213,8 +209,8 @@ fn push_string(
         ≡ turns.old.items ++ strings_of plane.now (amounts solved.now.flow) dart) }
 {
     let reverse = plane.graph().reverse(dart);
-    let lefts = crossing_flow(plane, net, solved, dart) as usize;
-    let rights = crossing_flow(plane, net, solved, reverse) as usize;
+    let lefts = crossing_flow(net, solved, dart) as usize;
+    let rights = crossing_flow(net, solved, reverse) as usize;
     // Most edges have no bend.
     if lefts + rights > 0 {
         turns.resize(turns.len() + lefts, Turn::Left)?;
@@ -231,7 +227,7 @@ fn count_bends(plane: &Plane, net: &FaceNet, solved: &Solved) -> usize
 {
     let mut bends = 0;
     for dart in 0..plane.graph().darts() {
-        bends += crossing_flow(plane, net, solved, dart) as usize;
+        bends += crossing_flow(net, solved, dart) as usize;
     }
     bends
 }

@@ -45,22 +45,18 @@ impl Flow {
     }
 
     /// The angle of a dart.
-    pub(crate) fn angle(&self, plane: &Plane, dart: u16) -> u8
-        requires { dart < darts plane.now }
+    pub(crate) fn angle(&self, dart: u16) -> u8
+        requires { dart < MAX_DARTS }
         ensures { result ≡ angle_in self.now.angles dart }
     {
-        // Only the proof needs this: `graph` says that there are few darts.
-        let _graph = plane.graph();
         self.angles[usize::from(dart)]
     }
 
     /// How often a dart turns to the left.
-    pub(crate) fn left_turns(&self, plane: &Plane, dart: u16) -> u16
-        requires { dart < darts plane.now }
+    pub(crate) fn left_turns(&self, dart: u16) -> u16
+        requires { dart < MAX_DARTS }
         ensures { result ≡ slice_index self.now.lefts dart }
     {
-        // Only the proof needs this: `graph` says that there are few darts.
-        let _graph = plane.graph();
         self.lefts[usize::from(dart)]
     }
 
@@ -106,8 +102,8 @@ impl Flow {
         let angles = copy_of(alloc, &self.angles[..usize::from(darts)])?;
         let mut strings = Vec::with_capacity(alloc, usize::from(darts))?;
         for dart in 0..darts {
-            let lefts = self.left_turns(plane, dart);
-            let rights = self.left_turns(plane, graph.reverse(dart));
+            let lefts = self.left_turns(dart);
+            let rights = self.left_turns(graph.reverse(dart));
             strings.push(string(alloc, lefts, rights)?)?;
         }
         Ok(Shape::new(angles, strings))

@@ -116,7 +116,7 @@ impl Search {
     {
         let reverse = plane.graph().reverse(step.dart);
         let across = prices.face(plane.face_of(reverse));
-        if flow.left_turns(plane, reverse) > 0 || i64::from(step.price) + 1 == i64::from(across) {
+        if flow.left_turns(reverse) > 0 || i64::from(step.price) + 1 == i64::from(across) {
             self.reach(plane, step, reverse);
         }
     }
@@ -127,9 +127,10 @@ impl Search {
         requires prices { HasPrices plane.now prices.now }
         requires dart { step.dart < darts plane.now }
     {
+        let graph = plane.graph();
         // An angle of 4 is that of a leaf, and one of 1 has nothing to give.
-        let angle = flow.angle(plane, step.dart);
-        if angle != 2 && angle != 3 || prices.vertex(plane.graph().head(step.dart)) != step.price {
+        let angle = flow.angle(step.dart);
+        if angle != 2 && angle != 3 || prices.vertex(graph.head(step.dart)) != step.price {
             return;
         }
         let second = clockwise(plane, step.dart);

@@ -124,12 +124,15 @@ fn straighten_from(
 {
     let mut moved = false;
     for dart in first..plane.graph().darts() {
+        if flow.angle(dart) != WIDE || !is_movable(plane, prices, dart) {
+            continue;
+        }
         moved |= straighten_one(flow, search, plane, prices, dart);
     }
     moved
 }
 
-/// Makes the head of a dart straight where its angle is wide and it can, and answers whether it did.
+/// Makes the vertex with this wide corner straight where a way leads back, and answers whether it did.
 fn straighten_one(
     flow: &mut Flow,
     search: &mut Search,
@@ -142,9 +145,6 @@ fn straighten_one(
     requires fit { AreFit plane.now flow.old.angles flow.old.lefts prices.now }
     ensures { AreFit plane.now flow.new.angles flow.new.lefts prices.now }
 {
-    if flow.angle(plane, wide) != WIDE || !is_movable(plane, prices, wide) {
-        return false;
-    }
     let narrow = clockwise(plane, wide);
     if plane.face_of(wide) != plane.face_of(narrow) {
         let back = Way {

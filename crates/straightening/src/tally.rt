@@ -52,7 +52,7 @@ fn add_angles(plane: &Plane, flow: &Flow, sums: &mut [u32]) -> bool
 {
     let graph = plane.graph();
     for dart in 0..graph.darts() {
-        let angle = flow.angle(plane, dart);
+        let angle = flow.angle(dart);
         if angle < 1 || angle > 4 {
             return false;
         }
@@ -103,9 +103,9 @@ fn add_turns(plane: &Plane, flow: &Flow, gains: &mut [u32], losses: &mut [u32])
 {
     for dart in 0..plane.graph().darts() {
         let face = usize::from(plane.face_of(dart));
-        let lefts = flow.left_turns(plane, dart);
-        let rights = flow.left_turns(plane, plane.graph().reverse(dart));
+        let lefts = flow.left_turns(dart);
+        let rights = flow.left_turns(plane.graph().reverse(dart));
         gains[face] += 2 + u32::from(lefts);
-        losses[face] += u32::from(flow.angle(plane, dart)) + u32::from(rights);
+        losses[face] += u32::from(flow.angle(dart)) + u32::from(rights);
     }
 }
