@@ -1,5 +1,6 @@
 -- One turn of an edge, and one edge of a plane, as the loops take them.
-use Rattle.std.proofs.Common.{◌≡◌, ℕ, zero, suc, ◌+◌, ◌-◌, ◌*◌, ◌<◌, ◌≤◌, List, [], ◌∷◌, length, get_or, drop, ◌∙◌, arith, subst, sym, ap, refl, inl, inr}
+use Rattle.std.proofs.Common.{◌≡◌, ℕ, zero, suc, ◌+◌, ◌-◌, ◌*◌, ◌<◌, ◌≤◌, List, [], ◌∷◌, length, get_or, drop, filter, ◌∙◌, arith, subst, sym, ap, refl, inl, inr}
+use Rattle.std.specs.List.{range_with_len}
 use Rattle.std.proofs.lemmas.Bool.{cases_lt}
 use Rattle.std.proofs.Math.Seq.{drop-cons}
 use Rattle.std.proofs.Math.Numerals.{add-one}
@@ -7,6 +8,7 @@ use Rattle.embedding.specs.Lesser.{lesser_darts_from}
 use Rattle.embedding.proofs.Lesser.{lesser_past, lesser_away, lesser_next}
 use Rattle.faces.specs.Planes.{PlaneModel, darts, reverse_dart}
 use Rattle.ortho_rep.specs.declared.turn.Turn.{Turn}
+use Rattle.ortho_rep.specs.Edges.{is_lesser, lesser_darts}
 use Rattle.cutting.specs.Webs.{Web, IsLinked, IsMeeting, IsSplit}
 use Rattle.cutting.proofs.Splitting.{split_linked, split_meeting}
 use Rattle.sums.specs.Sums.{sum_below}
@@ -74,6 +76,18 @@ pub record AreLeft (p : PlaneModel) (s : ℕ → List Turn) (start t : DartTable
   pub within : place ≤ darts p
   pub are : left ≡ lesser_darts_from p.lists place
   pub done : AreDone p s start t place
+
+-- before the first of them
+pub none_done : (p : PlaneModel) (s : ℕ → List Turn) (start : DartTable) (edges : List ℕ) → IsLinked (web_of start) → IsMeeting (web_of start) →
+    edges ≡ lesser_darts p → AreLeft p s start start edges
+none_done p s start edges linked meeting are =
+    let all : darts p ≡ darts p - 0 = omega arith in
+    record {
+      place = 0;
+      within = omega arith;
+      are = are ∙ ap (λ (n : ℕ). filter (is_lesser p) (range_with_len 0 n)) all;
+      done = record { linked = linked; meeting = meeting; count = omega arith; same = refl; steps = λ end rest. rest };
+    }
 
 -- the first of the lesser darts that are left
 pub record IsNext (p : PlaneModel) (s : ℕ → List Turn) (start t : DartTable) (d : ℕ) (rest : List ℕ) : Type 0 where

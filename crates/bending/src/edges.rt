@@ -1,17 +1,14 @@
 //! The bends of edges.
 
 ghost use Rattle.std.specs.Prelude.{◌≡◌, ◌+◌, ◌*◌, ◌<◌, ◌≤◌, IfOk, length};
-ghost use Rattle.faces.specs.Planes.{darts};
 ghost use Rattle.ortho_rep.specs.Edges.{lesser_darts};
-ghost use Rattle.ortho_rep.specs.Shapes.{turns_at};
-ghost use Rattle.ortho_rep.specs.Representation.{IsShape, bends_of};
 ghost use Rattle.cutting.specs.Webs.{IsLinked, IsMeeting};
 ghost use Rattle.cutting.specs.Tables.{web_of, room};
-ghost use Rattle.bending.specs.Steps.{AreBent, IsBent, angle_of};
+ghost use Rattle.bending.specs.Steps.{IsBent, angle_of};
 
 use cutting::DartTable;
 use faces::Plane;
-use ortho_rep::{Shape, Turn};
+use ortho_rep::Turn;
 use reuse::emptied;
 use std::alloc::AllocError;
 
@@ -26,7 +23,7 @@ fn angle_of(turn: Turn) -> u8
 }
 
 /// Splits the edge of the dart `e` at each of these turns, in walking order. Constant time for a turn.
-fn bend_edge(table: &mut DartTable, e: u32, turns: &[Turn])
+pub fn bend_edge(table: &mut DartTable, e: u32, turns: &[Turn])
     requires linked { IsLinked (web_of table.old) }
     requires meeting { IsMeeting (web_of table.old) }
     requires inside { e < table.old.darts }
@@ -54,23 +51,4 @@ pub fn lesser_darts_of(plane: &Plane, edges: Vec<u16>) -> Result<Vec<u16>, Alloc
         edges.push(dart)?;
     }
     Ok(edges)
-}
-
-/// Gives each edge of the plane the turns of its lesser dart, of which `edges` is the list. Linear in the edges and
-/// the turns.
-pub fn bend_edges(table: &mut DartTable, plane: &Plane, shape: &Shape, edges: &[u16])
-    requires linked { IsLinked (web_of table.old) }
-    requires meeting { IsMeeting (web_of table.old) }
-    requires shape { IsShape plane.now shape.now }
-    requires edges { edges.now ≡ lesser_darts plane.now }
-    requires inside { darts plane.now ≤ table.old.darts }
-    requires space { table.old.darts + 2 * bends_of (darts plane.now) (turns_at shape.now) ≤ room table.old }
-    ensures bent { AreBent plane.now (turns_at shape.now) 0 (web_of table.old) (web_of table.new) }
-    ensures room { room table.new ≡ room table.old }
-{
-    // Only the proof needs this: `graph` says that the plane is one.
-    let _graph = plane.graph();
-    'edges: for dart in edges {
-        bend_edge(table, u32::from(*dart), shape.turns(*dart));
-    }
 }

@@ -15,7 +15,7 @@ ghost use Rattle.bending.specs.Bends.{CountsBends, KeepsDarts, KeepsFaces};
 ghost use Rattle.bending.specs.Steps.{angle_of};
 
 use crate::bare::{bare_table, room_for};
-use crate::edges::{bend_edges, lesser_darts_of};
+use crate::edges::{bend_edge, lesser_darts_of};
 use cutting::DartTable;
 use faces::Plane;
 use ortho_rep::Shape;
@@ -91,6 +91,8 @@ pub fn bend_into(
     let _graph = plane.graph();
     let room = room_for(plane, shape);
     let mut table = bare_table(table, plane, shape, directions, room)?;
-    bend_edges(&mut table, plane, shape, edges);
+    'edges: for dart in edges {
+        bend_edge(&mut table, u32::from(*dart), shape.turns(*dart));
+    }
     Ok(table)
 }
