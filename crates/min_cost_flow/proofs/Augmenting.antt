@@ -15,7 +15,7 @@ use Rattle.shortest_paths.specs.Search.{enters as entries, places}
 use Rattle.min_cost_flow.specs.Excess.{KeepsCaps, Carries}
 use Rattle.min_cost_flow.specs.Residual.{IsMoved}
 use Rattle.networks.specs.declared.residual.Residual.{Residual}
-use Rattle.networks.specs.ResidualArcs.{numbers, end_at, cost_at, reverse_at, room_at, StartsAt, place_of, HasResidualArcs, limit_of, IsCosted, IsFilled, carried}
+use Rattle.networks.specs.ResidualArcs.{end_at, cost_at, reverse_at, room_at, StartsAt, place_of, HasResidualArcs, limit_of, IsCosted, IsFilled, carried}
 use Rattle.networks.specs.Residuals.{IsResidualNetwork, IsSetTo, flow_of}
 use Rattle.min_cost_flow.specs.Path.{IsTight, HasPath, way, IsOnWay}
 use Rattle.min_cost_flow.specs.Round.{IsLess, carrying}

@@ -2,7 +2,7 @@
 -- units are wanting.
 use Rattle.std.specs.Prelude.{ℕ, zero, suc, ◌<◌, ◌≡◌, ℤ, pos, ◌+ℤ◌, ◌-ℤ◌, Bool, true, false, List}
 use Rattle.networks.specs.declared.residual.ResidualArc.{ResidualArc}
-use Rattle.networks.specs.ResidualArcs.{numbers, end_at, cost_at, reverse_at, room_at, StartsAt}
+use Rattle.networks.specs.ResidualArcs.{end_at, cost_at, reverse_at, room_at, StartsAt}
 use Rattle.shortest_paths.specs.Search.{IsOpen}
 
 -- residual arc k leads from node u to node v, is open, and its reduced cost is 0

@@ -232,9 +232,7 @@ pub(crate) fn score_nodes(network: &Network, visits: &mut [Visit])
         let arc = network.arc(i as u32);
         if arc.cost == 0 {
             let visit = &mut visits[arc.to as usize];
-            visit.score = visit
-                .score
-                .saturating_add(network.supply(arc.from).max(0));
+            visit.score = visit.score.saturating_add(network.supply(arc.from).max(0));
         }
     }
 }

@@ -1,7 +1,7 @@
 use Rattle.std.proofs.Common.{rules, ◌≡◌, ◌<◌, ℕ, arith, sym, subst, ◌∙◌}
 use Rattle.std.specs.Vec.{with_items}
-use Rattle.std.proofs.lemmas.List.{with_items_is, get_or_read}
-use Rattle.std.specs.Prelude.{ℤ, pos, ◌-ℤ◌, length}
+use Rattle.std.proofs.lemmas.List.{with_items_is}
+use Rattle.std.specs.Prelude.{ℤ, ◌-ℤ◌, length}
 use mir.Syntax.{w32}
 use mir.Val.{SFits}
 use Rattle.networks.specs.Flow.{at_nodes}

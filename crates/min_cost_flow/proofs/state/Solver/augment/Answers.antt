@@ -6,7 +6,7 @@ use Rattle.networks.specs.declared.residual.ResidualArc.{ResidualArc}
 use Rattle.networks.specs.Networks.{NetworkModel, node_count, raised, moved}
 use Rattle.networks.proofs.Moving.{length-moved}
 use Rattle.networks.specs.Flow.{at_nodes}
-use Rattle.networks.specs.ResidualArcs.{numbers, end_at, reverse_at, room_at, no_residual_arc, IsFilled, carried}
+use Rattle.networks.specs.ResidualArcs.{end_at, reverse_at, room_at, no_residual_arc, IsFilled, carried}
 use Rattle.shortest_paths.specs.declared.state.Nodes.{Nodes}
 use Rattle.shortest_paths.specs.Search.{places, enters}
 use Rattle.shortest_paths.proofs.Searching.{place_read, enter_read}

@@ -2,7 +2,7 @@ use Rattle.std.proofs.Common.{◌≡◌, ◌<◌, ◌≤◌, ℕ, min, sym, ◌�
 use Rattle.std.proofs.lemmas.List.{get_or_read}
 use Rattle.networks.specs.declared.residual.ResidualArc.{ResidualArc}
 use Rattle.networks.specs.Networks.{node_count}
-use Rattle.networks.specs.ResidualArcs.{numbers, end_at, reverse_at, room_at, no_residual_arc}
+use Rattle.networks.specs.ResidualArcs.{end_at, reverse_at, room_at, no_residual_arc}
 use Rattle.shortest_paths.specs.Search.{places, enters}
 use Rattle.shortest_paths.proofs.Searching.{place_read, enter_read}
 use Rattle.min_cost_flow.specs.Path.{next_of, room_into}
