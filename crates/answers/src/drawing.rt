@@ -8,7 +8,10 @@ ghost use Rattle.drawing_check.specs.Draws.{Draws};
 ghost use Rattle.entries.specs.Drawn.{HasPoints, IsDrawn};
 
 use crate::drawing_kind::DrawingKind;
-use crate::spent::{SpentShape, Ways};
+use crate::fault::LayoutFault;
+use crate::held::{Held, Shell};
+use crate::layout::{Layout, SpentLayout};
+use crate::spent::WayBack;
 use compact::{BoxesScratch, CompactFault, compact_in, dissect_along};
 use drawing_check::{CheckFault, Drawing, check_in};
 use entries::{Answer, Cause, Entry};
@@ -28,9 +31,9 @@ pub struct DrawScratch {
     check: drawing_check::Scratch,
     // the directions of the darts of the shape that was drawn last
     headings: Vec<u8>,
-    // what is done with and not sent back yet
-    spent: Option<(Plane, SpentShape)>,
-    pub(crate) ways: Ways,
+    // the box of its layout
+    shell: Option<Shell<Layout, SpentLayout>>,
+    pub(crate) back: WayBack<Shell<Layout, SpentLayout>>,
 }
 
 impl DrawScratch {
@@ -42,8 +45,8 @@ impl DrawScratch {
             rows: visibility::Scratch::empty(alloc),
             check: drawing_check::Scratch::empty(alloc),
             headings: Vec::new(alloc),
-            spent: None,
-            ways: Ways::none(),
+            shell: None,
+            back: WayBack::none(),
         }
     }
 
@@ -53,7 +56,7 @@ impl DrawScratch {
     }
 
     /// Takes the lists of an entry that nobody reads any more, so that they are filled anew. Those of its drawing stay
-    /// here, those of its plane and its shape go back to the stages that fill them.
+    /// here, those of its plane and its shape go back in the box of its layout.
     pub fn take_back(&mut self, alloc: Global, entry: Entry) {
         let Entry {
             file: _,
@@ -73,21 +76,34 @@ impl DrawScratch {
                 self.points.take_back(drawing.into_points());
             }
             let headings = mem::replace(&mut self.headings, Vec::new(alloc));
-            let shape = SpentShape {
-                shape,
-                prices,
-                headings,
-            };
-            self.spent = Some((plane, shape));
+            if let Some(shell) = &mut self.shell {
+                shell.load(SpentLayout {
+                    plane,
+                    shape,
+                    prices,
+                    headings,
+                });
+            }
         }
     }
 
-    /// Sends what is done with back.
+    /// Sends the box of the layout that was taken last back.
     pub(crate) fn send_back<R: Wait>(&mut self, rt: &R) {
-        if let Some((plane, shape)) = self.spent.take() {
-            self.ways.planes.send(rt, plane);
-            self.ways.shapes.send(rt, shape);
+        if let Some(shell) = self.shell.take() {
+            self.back.send(rt, shell);
         }
+    }
+
+    /// The layout out of its box, which goes back.
+    pub(crate) fn open(
+        &mut self,
+        layout: Result<Held<Layout, SpentLayout>, LayoutFault>,
+    ) -> Result<Layout, LayoutFault>
+        ensures { result ≡ layout }
+    {
+        let (layout, shell) = layout?.take();
+        self.shell = Some(shell);
+        Ok(layout)
     }
 }
 

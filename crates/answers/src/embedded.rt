@@ -4,6 +4,7 @@ ghost use Rattle.answers.specs.Steps.{IsEmbedded};
 
 use crate::drawing_kind::DrawingKind;
 use crate::fault::LayoutFault;
+use crate::held::Held;
 use crate::laying::LayScratch;
 use crate::shaped::Shaped;
 use crate::stages::shape;
@@ -26,7 +27,7 @@ pub struct Embedded {
     pub choice: Choice,
     /// Which drawing is made of it.
     pub drawing: DrawingKind,
-    pub plane: Result<Plane, LayoutFault>,
+    pub plane: Result<Held<Plane, Plane>, LayoutFault>,
     pub ghost embedded: { ∥ IsEmbedded rec plane ∥₁ },
 }
 
@@ -55,16 +56,19 @@ impl Staged for Embedded {
 
     fn exchange<R: Wait>(rt: &R, scratch: &mut LayScratch) {
         scratch.restock(rt);
+        scratch.send_back(rt);
     }
 
     fn next(self, alloc: Global, scratch: &mut LayScratch) -> Shaped {
+        let plane = scratch.open(self.plane);
+        let layout = shape(alloc, scratch, plane, self.choice, self.drawing);
         Shaped {
             file: self.file,
             ordinal: self.ordinal,
             rec: self.rec,
             choice: self.choice,
             drawing: self.drawing,
-            layout: shape(alloc, scratch, self.plane, self.choice, self.drawing),
+            layout: scratch.hold(alloc, layout),
         }
     }
 }

@@ -53,6 +53,7 @@ impl Staged for Framed {
 
     fn next(self, alloc: Global, scratch: &mut EmbedScratch) -> Embedded {
         let plane = embed(alloc, &mut scratch.planes, &self.rec);
+        let plane = scratch.hold(alloc, plane);
         Embedded {
             file: self.file,
             ordinal: self.ordinal,

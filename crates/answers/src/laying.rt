@@ -1,14 +1,17 @@
 //! How a plane is laid out.
 
-ghost use Rattle.std.specs.Prelude.{ℕ, List, IfOk, OnOk};
+ghost use Rattle.std.specs.Prelude.{◌≡◌, ℕ, List, IfOk, OnOk};
 ghost use Rattle.ortho_rep.specs.Representation.{IsShape, IsLeast};
 ghost use Rattle.ortho_rep.specs.Prices.{IsProof};
 ghost use Rattle.compact.specs.Ordered.{AreHeadingsOf};
-ghost use Rattle.answers.specs.Steps.{IsTracedPlane, IsPlaneOf};
+ghost use Rattle.answers.specs.Steps.{IsTracedPlane, IsPlaneOf, IsShaped};
+ghost use Rattle.choices.specs.declared.Choice.{Choice};
 
 use crate::drawing_kind::DrawingKind;
-use crate::layout::Layout;
-use crate::spent::{SpentShape, WayBack};
+use crate::fault::LayoutFault;
+use crate::held::{Held, Shell};
+use crate::layout::{Layout, SpentLayout};
+use crate::spent::WayBack;
 use choices::Choice;
 use compact::{Search, headings_in};
 use faces::Plane;
@@ -26,7 +29,19 @@ pub struct LayScratch {
     search: Search,
     // directions that are done with
     headings: Vec<u8>,
-    pub(crate) spent: WayBack<SpentShape>,
+    // a plane that is done with, the box of the plane that was taken last, and the box of the next layout
+    plane: Option<Plane>,
+    plane_shell: Option<Shell<Plane, Plane>>,
+    shell: Option<Shell<Layout, SpentLayout>>,
+    pub(crate) ways: Ways,
+}
+
+/// The ways back of the stage that finds shapes: boxes of planes are sent to the stage before, and boxes of layouts
+/// come from the next one.
+#[derive(Drop)]
+pub(crate) struct Ways {
+    pub(crate) planes: WayBack<Shell<Plane, Plane>>,
+    pub(crate) layouts: WayBack<Shell<Layout, SpentLayout>>,
 }
 
 impl LayScratch {
@@ -37,21 +52,72 @@ impl LayScratch {
             straight: straightening::Scratch::new(),
             search: Search::empty(alloc),
             headings: Vec::new(alloc),
-            spent: WayBack::none(),
+            plane: None,
+            plane_shell: None,
+            shell: None,
+            ways: Ways {
+                planes: WayBack::none(),
+                layouts: WayBack::none(),
+            },
         }
     }
 
-    /// Takes in the lists of a shape that is done with, where one has come back.
+    /// Takes in the box of a layout that is done with and its lists, where they have come back.
     pub(crate) fn restock<R: Wait>(&mut self, rt: &R) {
-        if let Some(spent) = self.spent.receive(rt) {
-            let SpentShape {
-                shape,
-                prices,
-                headings,
-            } = spent;
-            shape.give_back(&mut self.shapes);
-            prices.give_back(&mut self.shapes);
-            self.headings = headings;
+        if let Some(mut shell) = self.ways.layouts.receive(rt) {
+            if let Some(spent) = shell.unload() {
+                let SpentLayout {
+                    plane,
+                    shape,
+                    prices,
+                    headings,
+                } = spent;
+                shape.give_back(&mut self.shapes);
+                prices.give_back(&mut self.shapes);
+                self.headings = headings;
+                self.plane = Some(plane);
+            }
+            self.shell = Some(shell);
+        }
+    }
+
+    /// Sends the box of the plane that was taken last back, with a plane that is done with, where there is one.
+    pub(crate) fn send_back<R: Wait>(&mut self, rt: &R) {
+        if let Some(mut shell) = self.plane_shell.take() {
+            if let Some(plane) = self.plane.take() {
+                shell.load(plane);
+            }
+            self.ways.planes.send(rt, shell);
+        }
+    }
+
+    /// The plane out of its box, which goes back.
+    pub(crate) fn open(
+        &mut self,
+        plane: Result<Held<Plane, Plane>, LayoutFault>,
+    ) -> Result<Plane, LayoutFault>
+        ensures { result ≡ plane }
+    {
+        let (plane, shell) = plane?.take();
+        self.plane_shell = Some(shell);
+        Ok(plane)
+    }
+
+    /// The layout in a box, where there is memory for one.
+    pub(crate) fn hold(
+        &mut self,
+        alloc: Global,
+        layout: Result<Layout, LayoutFault>,
+    ) -> Result<Held<Layout, SpentLayout>, LayoutFault>
+        ensures { (choice : Choice) (bytes : List ℕ) → IsShaped choice bytes layout → IsShaped choice bytes result }
+    {
+        let layout = layout?;
+        match self.shell.take() {
+            Some(shell) => Ok(shell.fill(layout)),
+            None => match Shell::new(alloc) {
+                Ok(shell) => Ok(shell.fill(layout)),
+                Err(AllocError) => Err(LayoutFault::Memory),
+            },
         }
     }
 }

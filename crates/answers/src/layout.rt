@@ -21,3 +21,12 @@ pub struct Layout {
     pub ghost proof: { IsProof plane shape prices } by { Prim.hlevel props },
     pub ghost headed: { AreHeadingsOf plane shape headings.items } by { Prim.hlevel props },
 }
+
+/// A layout that is done with: its lists are filled anew.
+#[derive(Drop)]
+pub struct SpentLayout {
+    pub plane: Plane,
+    pub shape: Shape,
+    pub prices: Prices,
+    pub headings: Vec<u8>,
+}

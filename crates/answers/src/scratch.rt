@@ -1,8 +1,13 @@
 //! What the stages of a lane take memory for and do not keep.
+ghost use Rattle.std.specs.Prelude.{ℕ, List};
+ghost use Rattle.answers.specs.Steps.{IsEmbedded};
 
 use crate::drawing::DrawScratch;
-use crate::laying::LayScratch;
-use crate::spent::{WayBack, Ways};
+use crate::fault::LayoutFault;
+use crate::held::{Held, Shell};
+use crate::laying::{LayScratch, Ways};
+use crate::spent::WayBack;
+use faces::Plane;
 use std::alloc::{AllocError, Global};
 use std::sync::Wait;
 
@@ -10,7 +15,9 @@ use std::sync::Wait;
 #[derive(Drop)]
 pub struct EmbedScratch {
     pub(crate) planes: faces::Scratch,
-    pub(crate) spent: WayBack<faces::Plane>,
+    // the box of the next plane
+    shell: Option<Shell<Plane, Plane>>,
+    spent: WayBack<Shell<Plane, Plane>>,
 }
 
 impl EmbedScratch {
@@ -18,20 +25,41 @@ impl EmbedScratch {
     pub fn empty(alloc: Global) -> EmbedScratch {
         EmbedScratch {
             planes: faces::Scratch::empty(alloc),
+            shell: None,
             spent: WayBack::none(),
         }
     }
 
-    /// Takes in the lists of a plane that is done with, where one has come back.
+    /// Takes in the box of a plane, and the lists of one that is done with, where they have come back.
     pub(crate) fn restock<R: Wait>(&mut self, rt: &R) {
-        if let Some(plane) = self.spent.receive(rt) {
-            plane.give_back(&mut self.planes);
+        if let Some(mut shell) = self.spent.receive(rt) {
+            if let Some(plane) = shell.unload() {
+                plane.give_back(&mut self.planes);
+            }
+            self.shell = Some(shell);
+        }
+    }
+
+    /// The plane in a box, where there is memory for one.
+    pub(crate) fn hold(
+        &mut self,
+        alloc: Global,
+        plane: Result<Plane, LayoutFault>,
+    ) -> Result<Held<Plane, Plane>, LayoutFault>
+        ensures { (bytes : List ℕ) → IsEmbedded bytes plane → IsEmbedded bytes result }
+    {
+        let plane = plane?;
+        match self.shell.take() {
+            Some(shell) => Ok(shell.fill(plane)),
+            None => match Shell::new(alloc) {
+                Ok(shell) => Ok(shell.fill(plane)),
+                Err(AllocError) => Err(LayoutFault::Memory),
+            },
         }
     }
 }
 
-/// The scratch of each stage of a lane, through which planes and shapes go back from the last one to those that
-/// make them.
+/// The scratch of each stage of a lane, through which boxes and lists go back from each stage to the one before.
 #[derive(Drop)]
 pub struct StageScratch {
     pub embed: EmbedScratch,
@@ -40,22 +68,25 @@ pub struct StageScratch {
 }
 
 impl StageScratch {
-    /// For a lane whose links have room for `capacity` messages. So many planes are on their way at most as stand in
-    /// two links and in the hands of three stages.
+    /// For a lane whose links have room for `capacity` messages. A box is on its way in one link, in the hands of a
+    /// stage, or on the way back.
     ///
     /// # Errors
     ///
     /// `AllocError` where there is no memory for the ways back.
     pub fn new(alloc: Global, capacity: u32) -> Result<StageScratch, AllocError> {
-        let room = 2 * capacity as usize + 3;
+        let room = capacity as usize + 3;
         let (planes, spent_planes) = WayBack::new(alloc, room)?;
-        let (shapes, spent_shapes) = WayBack::new(alloc, room)?;
+        let (layouts, spent_layouts) = WayBack::new(alloc, room)?;
         let mut embed = EmbedScratch::empty(alloc);
         embed.spent = spent_planes;
         let mut shape = LayScratch::empty(alloc);
-        shape.spent = spent_shapes;
+        shape.ways = Ways {
+            planes,
+            layouts: spent_layouts,
+        };
         let mut draw = DrawScratch::empty(alloc);
-        draw.ways = Ways { planes, shapes };
+        draw.back = layouts;
         Ok(StageScratch { embed, shape, draw })
     }
 }

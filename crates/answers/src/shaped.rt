@@ -5,7 +5,8 @@ ghost use Rattle.answers.specs.Steps.{IsShaped};
 use crate::drawing::DrawScratch;
 use crate::drawing_kind::DrawingKind;
 use crate::fault::LayoutFault;
-use crate::layout::Layout;
+use crate::held::Held;
+use crate::layout::{Layout, SpentLayout};
 use crate::stages::answer_with;
 use choices::Choice;
 use entries::Entry;
@@ -26,7 +27,7 @@ pub struct Shaped {
     pub choice: Choice,
     /// Which drawing is made of it.
     pub drawing: DrawingKind,
-    pub layout: Result<Layout, LayoutFault>,
+    pub layout: Result<Held<Layout, SpentLayout>, LayoutFault>,
     pub ghost shaped: { ∥ IsShaped choice rec layout ∥₁ },
 }
 
@@ -58,12 +59,13 @@ impl Staged for Shaped {
     }
 
     fn next(self, alloc: Global, scratch: &mut DrawScratch) -> Entry {
+        let layout = scratch.open(self.layout);
         Entry {
             file: self.file,
             ordinal: self.ordinal,
             rec: self.rec,
             choice: self.choice,
-            answer: answer_with(alloc, scratch, self.layout, self.drawing),
+            answer: answer_with(alloc, scratch, layout, self.drawing),
         }
     }
 }

@@ -1,19 +1,9 @@
-//! Lists on their way back from the last stage of a lane to the stages that fill them.
+//! What goes back from a stage of a lane to the one that fills it anew.
 ghost use Rattle.std.specs.Prelude.{◌<◌};
 
 use crossbeam_queue::ArrayQueue;
-use faces::Plane;
-use ortho_rep::{Prices, Shape};
 use std::alloc::{AllocError, Global};
 use std::sync::{Arc, Wait};
-
-/// A shape that is done with, the prices that prove it least, and the directions of its darts.
-#[derive(Drop)]
-pub(crate) struct SpentShape {
-    pub(crate) shape: Shape,
-    pub(crate) prices: Prices,
-    pub(crate) headings: Vec<u8>,
-}
 
 /// One end of a way on which things go back from a thread to another one, or of none. What stands on the way says
 /// nothing about results: it is only memory to be filled anew.
@@ -55,23 +45,6 @@ impl<T: Drop + Send> WayBack<T> {
         match &self.queue {
             Some(queue) => queue.pop(rt),
             None => None,
-        }
-    }
-}
-
-/// The planes and the shapes that are done with, each at the end of its way back.
-#[derive(Drop)]
-pub(crate) struct Ways {
-    pub(crate) planes: WayBack<Plane>,
-    pub(crate) shapes: WayBack<SpentShape>,
-}
-
-impl Ways {
-    /// No ways.
-    pub(crate) fn none() -> Ways {
-        Ways {
-            planes: WayBack::none(),
-            shapes: WayBack::none(),
         }
     }
 }

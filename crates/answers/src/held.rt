@@ -1,0 +1,84 @@
+//! Values in boxes that go round: once the value is taken out, the box goes back and has another one.
+ghost use Rattle.std.specs.Prelude.{◌≡◌, true};
+ghost use Rattle.answers.specs.Boxes.{is_full};
+
+use std::alloc::{AllocError, Global};
+use std::boxed::Box;
+use std::marker::Model;
+use std::mem;
+
+/// What a box holds.
+#[derive(Drop)]
+enum Slot<T: Drop, S: Drop> {
+    /// Nothing.
+    Empty,
+    /// What goes on to the next stage.
+    Full(T),
+    /// What is done with and goes back.
+    Spent(S),
+}
+
+/// A box without a value. What is done with may go back in it.
+#[derive(Drop)]
+pub struct Shell<T: Drop, S: Drop> {
+    slot: Box<Slot<T, S>>,
+}
+
+/// A value in a box. In contracts it is the value.
+#[derive(Drop)]
+pub struct Held<T: Drop, S: Drop> {
+    slot: Box<Slot<T, S>>,
+    ghost full: { is_full slot.value ≡ true },
+}
+
+impl<T: Drop, S: Drop> Model for Held<T, S> {
+    ghost use Rattle.answers.specs.Boxes.{value_in};
+
+    ghost Value = { T };
+
+    ghost view = { λ held. value_in held.slot.value held.full };
+}
+
+impl<T: Drop, S: Drop> Shell<T, S> {
+    /// A new one.
+    pub(crate) fn new(alloc: Global) -> Result<Shell<T, S>, AllocError> {
+        Ok(Shell {
+            slot: Box::new(alloc, Slot::Empty)?,
+        })
+    }
+
+    /// The value in this box.
+    pub(crate) fn fill(self, value: T) -> Held<T, S>
+        ensures { result ≡ value }
+    {
+        let Shell { mut slot } = self;
+        *slot = Slot::Full(value);
+        Held { slot }
+    }
+
+    /// Puts what is done with in the box.
+    pub(crate) fn load(&mut self, spent: S) {
+        *self.slot = Slot::Spent(spent);
+    }
+
+    /// Takes what is done with out of the box, where there is any.
+    pub(crate) fn unload(&mut self) -> Option<S> {
+        match mem::replace(&mut *self.slot, Slot::Empty) {
+            Slot::Spent(spent) => Some(spent),
+            Slot::Empty | Slot::Full(_) => None,
+        }
+    }
+}
+
+impl<T: Drop, S: Drop> Held<T, S> {
+    /// The value, and the box without it.
+    pub(crate) fn take(self) -> (T, Shell<T, S>)
+        ensures { result.0 ≡ self }
+    {
+        let Held { mut slot } = self;
+        match mem::replace(&mut *slot, Slot::Empty) {
+            Slot::Full(value) => (value, Shell { slot }),
+            Slot::Empty | Slot::Spent(_) => unreachable!(),
+        }
+    }
+}
