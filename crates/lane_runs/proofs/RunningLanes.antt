@@ -1,6 +1,6 @@
 -- Lanes that are started, that run, and that have run.
-use Rattle.std.proofs.Common.{◌≡◌, ℕ, suc, ◌+◌, List, [], ◌∷◌, ◌++◌, length, map, append_assoc, All, Some, slice_get, refl, sym, ap, subst, ◌∙◌, arith}
-use Rattle.std.proofs.lemmas.List.{append-nil, map-append}
+use Rattle.std.proofs.Common.{◌≡◌, ℕ, zero, suc, ◌+◌, List, take, drop, [], ◌∷◌, ◌++◌, length, map, append_assoc, All, Some, slice_get, refl, sym, ap, subst, ◌∙◌, arith}
+use Rattle.std.proofs.lemmas.List.{map-append}
 use Rattle.std.proofs.lemmas.List.Elements.{All-nil, All-cons, All-head, All-tail, All-append}
 use Rattle.crossbeam_channel.specs.Ends.{sends_on, receives_on}
 use Rattle.choices.specs.declared.Choice.{Choice}
@@ -19,6 +19,17 @@ module _ {X : Type 0} where
   pub numbered_weaker : (fits suits : ℕ → X → Type 0) → ((k : ℕ) (x : X) → fits k x → suits k x) → (first : ℕ) (xs : List X) → AreNumbered fits first xs → AreNumbered suits first xs
   numbered_weaker fits suits weaker first [] are = tt
   numbered_weaker fits suits weaker first (x ∷ xs) (is, are) = (weaker first x is, numbered_weaker fits suits weaker (first + 1) xs are)
+
+  pub numbered_front : (fits : ℕ → X → Type 0) (first n : ℕ) (xs : List X) → AreNumbered fits first xs → AreNumbered fits first (take n xs)
+  numbered_front fits first zero xs are = tt
+  numbered_front fits first (suc n) [] are = tt
+  numbered_front fits first (suc n) (x ∷ xs) (is, are) = (is, numbered_front fits (first + 1) n xs are)
+
+  pub numbered_back : (fits : ℕ → X → Type 0) (first n : ℕ) (xs : List X) → AreNumbered fits first xs → AreNumbered fits (first + n) (drop n xs)
+  numbered_back fits first zero xs are = let e : first ≡ first + 0 = omega arith in subst (λ k. AreNumbered fits k xs) e are
+  numbered_back fits first (suc n) [] are = tt
+  numbered_back fits first (suc n) (x ∷ xs) (is, are) =
+      let e : first + 1 + n ≡ first + suc n = omega arith in subst (λ k. AreNumbered fits k (drop n xs)) e (numbered_back fits (first + 1) n xs are)
 
 module _ {E : Type 0} where
   -- the fan after some takes is the same
@@ -108,44 +119,26 @@ module _ {E : Type 0} where
 
 module _ {E X : Type 0} (giver_of : X → LaneGiver E) where
   -- lanes run whose givers were idle
-  pub all_started : {O : Type 0} (choice_of : X → Choice) (opener_of : X → O) (tickets_of : X → Tickets) (fan : Gatherer E) (choice : Choice) (opener : O) (tickets : Tickets) (first : ℕ) (rs : List X) (idle : List (LaneGiver E))
-      → AreNumbered (IsIdle fan) first (map giver_of rs ++ idle) → All (λ r. choice_of r ≡ choice) rs → All (λ r. opener_of r ≡ opener) rs → All (λ r. tickets_of r ≡ tickets) rs
+  pub all_started : {O : Type 0} (choice_of : X → Choice) (opener_of : X → O) (tickets_of : X → Tickets) (fan : Gatherer E) (choice : Choice) (opener : O) (tickets : Tickets) (first : ℕ) (rs : List X)
+      → AreNumbered (IsIdle fan) first (map giver_of rs) → All (λ r. choice_of r ≡ choice) rs → All (λ r. opener_of r ≡ opener) rs → All (λ r. tickets_of r ≡ tickets) rs
       → AreNumbered (λ lane r. IsRunning fan choice opener tickets lane (choice_of r) (opener_of r) (tickets_of r) (giver_of r)) first rs
-  all_started choice_of opener_of tickets_of fan choice opener tickets first [] idle are chosen opens deals = tt
-  all_started choice_of opener_of tickets_of fan choice opener tickets first (r ∷ rs) idle (is, are) chosen opens deals = (
+  all_started choice_of opener_of tickets_of fan choice opener tickets first [] are chosen opens deals = tt
+  all_started choice_of opener_of tickets_of fan choice opener tickets first (r ∷ rs) (is, are) chosen opens deals = (
     record {
       gives_at = is.gives_at;
       same_choice = All-head (λ z. choice_of z ≡ choice) r rs chosen;
       same_opener = All-head (λ z. opener_of z ≡ opener) r rs opens;
       same_tickets = All-head (λ z. tickets_of z ≡ tickets) r rs deals;
     },
-    all_started choice_of opener_of tickets_of fan choice opener tickets (first + 1) rs idle are (All-tail (λ z. choice_of z ≡ choice) r rs chosen)
+    all_started choice_of opener_of tickets_of fan choice opener tickets (first + 1) rs are (All-tail (λ z. choice_of z ≡ choice) r rs chosen)
         (All-tail (λ z. opener_of z ≡ opener) r rs opens) (All-tail (λ z. tickets_of z ≡ tickets) r rs deals),
   )
 
-  -- the others stay so
-  pub rest_idle : (fan : Gatherer E) (first : ℕ) (rs : List X) (idle : List (LaneGiver E)) → AreNumbered (IsIdle fan) first (map giver_of rs ++ idle) → AreNumbered (IsIdle fan) (first + length rs) idle
-  rest_idle fan first [] idle are = let e : first ≡ first + 0 = omega arith in subst (λ k. AreNumbered (IsIdle fan) k idle) e are
-  rest_idle fan first (r ∷ rs) idle (is, are) =
-      let e : first + 1 + length rs ≡ first + length (r ∷ rs) = omega arith in subst (λ k. AreNumbered (IsIdle fan) k idle) e (rest_idle fan (first + 1) rs idle are)
-
 module _ {X G : Type 0} where
   -- the next giver is that of one lane more
-  pub one_started : (giver_of : X → G) (rs more : List X) (r : X) (idle rest rest' all : List G) (giver : G) → length idle ≡ 0 → more ≡ rs ++ r ∷ []
-      → rest ≡ giver ∷ rest' → giver_of r ≡ giver → (map giver_of rs ++ idle) ++ rest ≡ all → (map giver_of more ++ idle) ++ rest' ≡ all
-  one_started giver_of rs more r [] rest rest' all giver none pushed next is same =
-      let now : map giver_of more ≡ map giver_of rs ++ giver ∷ [] =
-      ap (map giver_of) pushed ∙ map-append giver_of rs (r ∷ []) ∙ ap (λ (g : G). map giver_of rs ++ g ∷ []) is in
-      let before : map giver_of rs ++ rest ≡ all = simp append-nil at same in
-      let apart : ((map giver_of rs ++ giver ∷ []) ++ []) ++ rest' ≡ map giver_of rs ++ (giver ∷ rest') = simp (append-nil, append_assoc) in
-      ap (λ (zs : List G). (zs ++ []) ++ rest') now ∙ apart ∙ ap (λ (zs : List G). map giver_of rs ++ zs) (sym next) ∙ before
-  one_started giver_of rs more r (x ∷ idle) rest rest' all giver none pushed next is same = absurd (omega (arith, none))
-
-module _ {G : Type 0} where
-  -- the next giver is idle
-  pub one_idle : (running idle idle' rest rest' all : List G) (giver : G) → idle' ≡ idle ++ giver ∷ [] → rest ≡ giver ∷ rest'
-      → (running ++ idle) ++ rest ≡ all → (running ++ idle') ++ rest' ≡ all
-  one_idle running idle idle' rest rest' all giver pushed next same =
-      let apart : (running ++ (idle ++ giver ∷ [])) ++ rest' ≡ running ++ (idle ++ (giver ∷ rest')) = simp append_assoc in
-      ap (λ (zs : List G). (running ++ zs) ++ rest') pushed ∙ apart
-      ∙ ap (λ (zs : List G). running ++ (idle ++ zs)) (sym next) ∙ sym (append_assoc running idle rest) ∙ same
+  pub one_started : (giver_of : X → G) (rs more : List X) (r : X) (rest rest' all : List G) (giver : G) → more ≡ rs ++ r ∷ []
+      → rest ≡ giver ∷ rest' → giver_of r ≡ giver → map giver_of rs ++ rest ≡ all → map giver_of more ++ rest' ≡ all
+  one_started giver_of rs more r rest rest' all giver pushed next is same =
+      ap (λ (zs : List X). map giver_of zs ++ rest') pushed ∙ ap (λ (zs : List G). zs ++ rest') (map-append giver_of rs (r ∷ []))
+      ∙ append_assoc (map giver_of rs) (giver_of r ∷ []) rest' ∙ ap (λ (g : G). map giver_of rs ++ g ∷ rest') is
+      ∙ ap (λ (zs : List G). map giver_of rs ++ zs) (sym next) ∙ same

@@ -7,10 +7,9 @@ use Rattle.streams.specs.declared.frames.Mark.{Mark}
 use Rattle.choices.specs.declared.Choice.{Choice}
 use Rattle.lanes.specs.Notes.{About, Note, is_of, of_file, file_notes, numbered, GoOn, IsStopped, Item, End, Stop}
 use Rattle.lanes.specs.Opening.{Meaning}
-use Rattle.lanes.specs.Keeping.{KeepsFile}
 use Rattle.ruled_lanes.specs.TicketRule.{times}
 use Rattle.lanes.specs.Files.{HasFile, HasDrawn}
-use Rattle.lane_runs.specs.Lanes.{HasTold}
+use Rattle.lane_runs.specs.Lanes.{HasTold, TellsFile}
 
 -- all notes of a file are of it, and none of another
 of_mine : (choice : Choice) (file ordinal : ℕ) (records : List (List ℕ)) (mark : Mark)
@@ -91,16 +90,17 @@ told_file choice meaning file drawn ns records mark told has =
     }
 
 -- one file more was drawn and told
-pub told_more : (choice : Choice) (meaning : ℕ → Meaning) (file : ℕ) (drawn drawn' : List ℕ) (ns kept after : List Note) (count : ℕ) (mark : Mark) → HasTold choice meaning drawn ns
-    → drawn' ≡ drawn ++ file ∷ [] → KeepsFile choice (meaning file) file ns kept count mark → after ≡ kept ++ End file mark ∷ [] → HasTold choice meaning drawn' after
-told_more choice meaning file drawn drawn' ns kept after count mark told drew keeps more =
-    let fs : List Note = file_notes choice file keeps.records mark in
+pub told_more : (choice : Choice) (meaning : ℕ → Meaning) (file : ℕ) (drawn drawn' : List ℕ) (ns after : List Note) → HasTold choice meaning drawn ns
+    → drawn' ≡ drawn ++ file ∷ [] → TellsFile choice (meaning file) file ns after → HasTold choice meaning drawn' after
+told_more choice meaning file drawn drawn' ns after told drew tells =
+    let keeps = tells.keeps in
+    let fs : List Note = file_notes choice file keeps.records tells.mark in
     let whole : ns ++ fs ≡ after =
-    sym (append_assoc ns (map Item (numbered choice file 0 keeps.records)) (End file mark ∷ [])) ∙ ap (λ l. l ++ End file mark ∷ []) (sym keeps.kept) ∙ sym more in
+    sym (append_assoc ns (map Item (numbered choice file 0 keeps.records)) (End file tells.mark ∷ [])) ∙ ap (λ l. l ++ End file tells.mark ∷ []) (sym keeps.kept) ∙ sym tells.ended in
     subst (λ d. HasTold choice meaning d after) (sym drew)
     (subst (HasTold choice meaning (drawn ++ file ∷ [])) whole
-    (told_file choice meaning file drawn ns keeps.records mark told
-    (record { records = keeps.records; mark = mark; told = of_mine choice file 0 keeps.records mark; found = keeps.found })))
+    (told_file choice meaning file drawn ns keeps.records tells.mark told
+    (record { records = keeps.records; mark = tells.mark; told = of_mine choice file 0 keeps.records tells.mark; found = keeps.found })))
 
 -- the stop
 pub told_all : (choice : Choice) (meaning : ℕ → Meaning) (drawn drawn' : List ℕ) (ns after : List Note) → HasTold choice meaning drawn ns → drawn' ≡ drawn → after ≡ ns ++ Stop ∷ []

@@ -11,11 +11,13 @@ use Rattle.ruled_lanes.specs.HandedBack.{handed_back}
 use Rattle.ruled_lanes.specs.LinkEnds.{given, taken, room_of, AreEnds, GivesToSame}
 use Rattle.ruled_lanes.specs.FanEnds.{given_at, GivesToSameLane}
 use Rattle.ruled_lanes.specs.TicketSeats.{drawn, has_ended, IsSeatOf, IsUnused}
+use Rattle.streams.specs.declared.frames.Mark.{Mark}
 use Rattle.streams.specs.declared.reading.TheConstants.{PIECE}
 use Rattle.lanes.specs.declared.message.Message.{Message}
 use Rattle.lanes.specs.declared.message.Message.TheVariants.{Stop}
-use Rattle.lanes.specs.Notes.{About, Note, notes, GoOn, IsStopped}
+use Rattle.lanes.specs.Notes.{About, Note, End, notes, GoOn, IsStopped}
 use Rattle.lanes.specs.Opening.{Meaning}
+use Rattle.lanes.specs.Keeping.{KeepsFile}
 use Rattle.lanes.specs.Files.{HasDrawn, TellsDrawn}
 use Rattle.lane_runs.specs.declared.fault.LaneFault.{LaneFault}
 
@@ -73,3 +75,11 @@ module _ {A M : Type 0} where
 pub record HasTold (choice : Choice) (meaning : ℕ → Meaning) (drawn : List ℕ) (ns : List Note) : Type 0 where
   pub going : GoOn ns
   pub told : HasDrawn choice meaning drawn ns
+
+-- all that a file with this meaning has was told after what was told before: its records and one end
+pub record TellsFile (choice : Choice) (meaning : Meaning) (file : ℕ) (before after : List Note) : Type 0 where
+  pub count : ℕ
+  pub mark : Mark
+  pub kept : List Note
+  pub keeps : KeepsFile choice meaning file before kept count mark
+  pub ended : after ≡ kept ++ End file mark ∷ []

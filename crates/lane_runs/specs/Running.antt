@@ -66,15 +66,16 @@ HasEnded holds gave_up choice meaning tickets count consumer (Ok seats) =
     × ((file : ℕ) → times file (all_drawn seats.items) ≡ 1 → HasFile choice (meaning file) file ns))
 HasEnded holds gave_up choice meaning tickets count consumer (Err fault) = EndsRun (gave_up consumer) (holds consumer) fault
 
--- what a run starts with: seats of these tickets that have drawn nothing, the ends of a fan that nothing has passed, and a
--- consumer that holds nothing
-pub record StartsRun {C E : Type 0} (holds : C → List Note → Type 0) (tickets : Tickets) (seats : Vec Seat Global) (givers : Vec (LaneGiver E) Global) (fan : Gatherer E) (consumer : C) : Type 0 where
+-- what a run starts with: seats of these tickets that have drawn nothing, the ends of a fan that nothing has passed, a giver for
+-- each seat and the others, and a consumer that holds nothing
+pub record StartsRun {C E : Type 0} (holds : C → List Note → Type 0) (tickets : Tickets) (seats : Vec Seat Global) (givers idle : Vec (LaneGiver E) Global) (fan : Gatherer E) (consumer : C) : Type 0 where
   pub some : 1 ≤ vec_len seats
-  pub few : vec_len seats ≤ LANES
+  pub each : vec_len givers ≡ vec_len seats
   pub seats_of : All (IsSeatOf tickets) seats.items
   pub unused : All IsUnused seats.items
-  pub lanes : vec_len givers ≡ LANES
-  pub idle : AreNumbered (IsIdle fan) 0 givers.items
+  pub lanes : vec_len givers + vec_len idle ≡ LANES
+  pub ready : AreNumbered (IsIdle fan) 0 givers.items
+  pub rest : AreNumbered (IsIdle fan) (vec_len givers) idle.items
   pub none_gathered : gathered fan ≡ []
   pub empty : holds consumer []
 

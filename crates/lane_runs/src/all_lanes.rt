@@ -1,6 +1,5 @@
 //! All lanes of a run.
-ghost use Rattle.std.specs.Prelude.{◌≡◌, ◌≤◌, ◌+◌, ◌∷◌, ◌++◌, List, [], All, IfOk, OnOk, IfErr, map, vec_len};
-ghost use Rattle.ruled_lanes.specs.declared.limits.TheConstants.{LANES};
+ghost use Rattle.std.specs.Prelude.{◌≡◌, List, [], All, IfOk, IfErr, map, vec_len};
 ghost use Rattle.ruled_lanes.specs.FanEnds.{given_at};
 ghost use Rattle.ruled_lanes.specs.TicketSeats.{IsSeatOf, IsUnused};
 ghost use Rattle.lanes.specs.Notes.{Note};
@@ -13,12 +12,12 @@ ghost use Rattle.lane_runs.specs.Taking.{TakesFiles};
 use crate::fault::{LaneFault, RunFault};
 use crate::lane::Lane;
 use crate::lane_kind::LaneKind;
-use crate::new_fan::new_fan;
+use crate::new_fan::{Fan, new_fan};
 use crate::run::Run;
 use crate::running::{LaneEnd, LanePromise, Running};
 use crate::shared::Shared;
 use lanes::{Consumer, Gate, Message, Opener};
-use ruled_lanes::{Gatherer, LaneGiver, Seat, Tickets};
+use ruled_lanes::{LaneGiver, Seat, Tickets};
 use std::snapshot::Snapshot;
 use std::sync::Wait;
 use std::thread;
@@ -49,14 +48,14 @@ pub fn run_lanes<
     let Ok((tickets, seats)) = Tickets::new(run.alloc, run.files, run.lanes) else {
         return (consumer, Err(RunFault::Memory));
     };
-    let Ok((givers, gatherer)) = new_fan::<L::Entry, L::End>(run.alloc, run.capacity) else {
+    let Ok(fan) = new_fan::<L::Entry, L::End>(run.alloc, run.capacity, run.lanes) else {
         return (consumer, Err(RunFault::Memory));
     };
     let shared = Shared {
         run,
         tickets: &tickets,
     };
-    let (consumer, ran) = shared.run_seats::<L, _>(seats, givers, gatherer, consumer);
+    let (consumer, ran) = shared.run_seats::<L, _>(seats, fan, consumer);
     match ran {
         Ok(seats) => {
             tickets.close(seats);
@@ -72,11 +71,10 @@ impl<'s, R: Threads + Wait + Sync, O: Opener, G: Gate> Shared<'s, R, O, G> {
     fn run_seats<L: LaneKind, C: Consumer<L::Entry, L::End>>(
         &self,
         seats: Vec<Seat>,
-        givers: Vec<LaneGiver<Message<L::Entry, L::End>>>,
-        gatherer: Gatherer<Message<L::Entry, L::End>>,
+        fan: Fan<L::Entry, L::End>,
         consumer: C,
     ) -> (C, Result<Vec<Seat>, RunFault<C::Refusal>>)
-        requires { StartsRun C.holds self.now.tickets.now seats givers gatherer consumer
+        requires { StartsRun C.holds self.now.tickets.now seats fan.givers fan.idle fan.gatherer consumer
             × TakesFiles L.takes L.ends (O.meaning self.now.run.now.opener.now) }
         ensures { LeavesRun C.holds C.gave_up C.stays self.now.run.now.choice (O.meaning self.now.run.now.opener.now) self.now.tickets.now (vec_len seats) consumer result.0 result.1 }
     {
@@ -84,12 +82,12 @@ impl<'s, R: Threads + Wait + Sync, O: Opener, G: Gate> Shared<'s, R, O, G> {
             thread::scope_env(),
             self.run.rt,
             move |scope| -> (C, Result<Vec<Seat>, RunFault<C::Refusal>>)
-                requires { StartsRun C.holds self.now.tickets.now seats givers gatherer consumer
+                requires { StartsRun C.holds self.now.tickets.now seats fan.givers fan.idle fan.gatherer consumer
                     × TakesFiles L.takes L.ends (O.meaning self.now.run.now.opener.now) }
                 ensures { LeavesRun C.holds C.gave_up C.stays self.entry.now.run.now.choice (O.meaning self.entry.now.run.now.opener.now) self.entry.now.tickets.now (vec_len seats) consumer result.0 result.1 }
             {
                 let mut consumer = consumer;
-                let ran = self.run_in::<_, L, _>(scope, seats, givers, gatherer, &mut consumer);
+                let ran = self.run_in::<_, L, _>(scope, seats, fan, &mut consumer);
                 (consumer, ran)
             },
         )
@@ -100,60 +98,55 @@ impl<'s, R: Threads + Wait + Sync, O: Opener, G: Gate> Shared<'s, R, O, G> {
         &'s self,
         scope: &'s Scope<'s, E>,
         seats: Vec<Seat>,
-        givers: Vec<LaneGiver<Message<L::Entry, L::End>>>,
-        gatherer: Gatherer<Message<L::Entry, L::End>>,
+        fan: Fan<L::Entry, L::End>,
         consumer: &mut C,
     ) -> Result<Vec<Seat>, RunFault<C::Refusal>>
-        requires { StartsRun C.holds self.now.tickets.now seats givers gatherer consumer.old
+        requires { StartsRun C.holds self.now.tickets.now seats fan.givers fan.idle fan.gatherer consumer.old
             × TakesFiles L.takes L.ends (O.meaning self.now.run.now.opener.now) }
         ensures { LeavesRun C.holds C.gave_up C.stays self.now.run.now.choice (O.meaning self.now.run.now.opener.now) self.now.tickets.now (vec_len seats) consumer.old consumer.new result }
     {
+        let Fan {
+            givers,
+            idle,
+            gatherer,
+        } = fan;
         match self.start_lanes::<_, L>(scope, seats, givers) {
-            Ok((running, idle)) => self.finish_lanes(gatherer, running, idle, consumer),
+            Ok(running) => self.finish_lanes(gatherer, running, idle, consumer),
             Err(fault) => Err(RunFault::from(fault)),
         }
     }
 
-    /// Starts a lane for each seat, with the first of the givers, in order. The other givers are given back.
+    /// Starts a lane for each seat, with the givers in order.
     fn start_lanes<E, L: LaneKind + 's>(
         &'s self,
         scope: &'s Scope<'s, E>,
         mut seats: Vec<Seat>,
         givers: Vec<LaneGiver<Message<L::Entry, L::End>>>,
-    ) -> Result<
-        (
-            Vec<Running<L::Entry, L::End, O>>,
-            Vec<LaneGiver<Message<L::Entry, L::End>>>,
-        ),
-        LaneFault,
-    >
-        requires few { vec_len seats ≤ LANES }
+    ) -> Result<Vec<Running<L::Entry, L::End, O>>, LaneFault>
+        requires each { vec_len givers ≡ vec_len seats }
         requires seats { All (IsSeatOf self.now.tickets.now) seats.items }
         requires unused { All IsUnused seats.items }
-        requires lanes { vec_len givers ≡ LANES }
         requires none_given { All (λ giver. given_at giver ≡ []) givers.items }
         requires takes { TakesFiles L.takes L.ends (O.meaning self.now.run.now.opener.now) }
-        ensures count { IfOk result (λ started. vec_len started.0 ≡ vec_len seats) }
-        ensures lanes { IfOk result (λ started. vec_len started.0 + vec_len started.1 ≡ LANES) }
-        ensures givers { IfOk result (λ started. map (λ r. r.promise.giver.value) started.0.items ++ started.1.items ≡ givers.items) }
-        ensures choice { IfOk result (λ started. All (λ r. r.promise.choice ≡ self.now.run.now.choice) started.0.items) }
-        ensures opener { IfOk result (λ started. All (λ r. r.promise.opener.value ≡ self.now.run.now.opener.now) started.0.items) }
-        ensures tickets { IfOk result (λ started. All (λ r. r.promise.tickets.value ≡ self.now.tickets.now) started.0.items) }
+        ensures count { IfOk result (λ running. vec_len running ≡ vec_len seats) }
+        ensures givers { IfOk result (λ running. map (λ r. r.promise.giver.value) running.items ≡ givers.items) }
+        ensures choice { IfOk result (λ running. All (λ r. r.promise.choice ≡ self.now.run.now.choice) running.items) }
+        ensures opener { IfOk result (λ running. All (λ r. r.promise.opener.value ≡ self.now.run.now.opener.now) running.items) }
+        ensures tickets { IfOk result (λ running. All (λ r. r.promise.tickets.value ≡ self.now.tickets.now) running.items) }
     {
         let Ok(mut running) = Vec::with_capacity(self.run.alloc, seats.len()) else {
             return Err(LaneFault::Memory);
         };
-        let mut idle = Vec::new(self.run.alloc);
         for giver in givers {
-            match seats.pop() {
-                Some(seat) => {
-                    let started = self.start_lane::<_, L>(scope, Lane { seat, giver })?;
-                    push(&mut running, started)?;
-                }
-                None => push(&mut idle, giver)?,
+            let Some(seat) = seats.pop() else {
+                unreachable!()
+            };
+            match self.start_lane::<_, L>(scope, Lane { seat, giver }) {
+                Ok(started) => running.push_reserved(started),
+                Err(fault) => return Err(fault),
             }
         }
-        Ok((running, idle))
+        Ok(running)
     }
 
     /// Starts a lane in a thread of its own.
@@ -185,16 +178,5 @@ impl<'s, R: Threads + Wait + Sync, O: Opener, G: Gate> Shared<'s, R, O, G> {
             Ok(handle) => Ok(handle),
             Err(_) => Err(LaneFault::Thread),
         }
-    }
-}
-
-/// Puts an item at the end of a list.
-fn push<T: Drop>(list: &mut Vec<T>, item: T) -> Result<(), LaneFault>
-    ensures items { OnOk result (list.new.items ≡ list.old.items ++ item ∷ []) }
-    ensures len { OnOk result (vec_len list.new ≡ vec_len list.old + 1) }
-{
-    match list.push(item) {
-        Ok(()) => Ok(()),
-        Err(_) => Err(LaneFault::Memory),
     }
 }

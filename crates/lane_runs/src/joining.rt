@@ -1,16 +1,18 @@
 //! What the calling thread makes of the lanes that run.
 ghost use Rattle.std.specs.Prelude.{◌≡◌, ◌≤◌, ◌+◌, ℕ, List, [], All, IfOk, IfErr, true, vec_len};
 ghost use Rattle.ruled_lanes.specs.declared.limits.TheConstants.{LANES};
-ghost use Rattle.ruled_lanes.specs.FanEnds.{gathered};
+ghost use Rattle.ruled_lanes.specs.FanEnds.{given_at, gathered, GivesToSameLane};
 ghost use Rattle.ruled_lanes.specs.TicketRule.{times};
 ghost use Rattle.ruled_lanes.specs.TicketSeats.{all_drawn, has_ended, IsSeatOf};
 ghost use Rattle.lanes.specs.Notes.{Note, notes};
 ghost use Rattle.lanes.specs.Files.{HasFile};
 ghost use Rattle.lanes.specs.Fans.{untagged, HaveStopped};
+ghost use Rattle.lane_runs.specs.Lanes.{TellsSeat};
 ghost use Rattle.lane_runs.specs.Running.{AreNumbered, IsIdle, IsRunning};
 ghost use Rattle.lane_runs.specs.Faults.{EndsRun};
 
 use crate::fault::{LaneFault, RunFault};
+use crate::lane::Lane;
 use crate::running::{LaneEnd, Running};
 use crate::shared::Shared;
 use lanes::{Consumer, Gate, GatherFault, Message, Numbered, Opener, gather};
@@ -19,6 +21,26 @@ use std::sync::Wait;
 use std::thread::Threads;
 
 impl<R: Threads + Wait + Sync, O: Opener, G: Gate> Shared<'_, R, O, G> {
+    /// Joins the thread of a lane. Its seat and its end of the fan are given back, where it gave its stop and lost nothing.
+    fn join_lane<E: Numbered, M: Drop + Send>(
+        &self,
+        handle: Running<E, M, O>,
+    ) -> Result<Lane<E, M>, LaneFault>
+        ensures to_same { IfOk result (λ lane. GivesToSameLane handle.promise.giver.value lane.giver) }
+        ensures tells { IfOk result (λ lane. TellsSeat E.about handle.promise.choice (O.meaning handle.promise.opener.value) handle.promise.tickets.value
+            lane.seat (given_at lane.giver)) }
+    {
+        let LaneEnd { giver, stop, seat } = handle.join(self.run.rt);
+        match stop {
+            Ok(()) => {}
+            Err(_) => return Err(LaneFault::LaneLost),
+        }
+        match seat {
+            Ok(seat) => Ok(Lane { seat, giver }),
+            Err(fault) => Err(fault),
+        }
+    }
+
     /// Joins the threads of the lanes and settles the fan with the givers of all lanes, also of those that do
     /// not run. So what was taken of each lane is all that it told, and a file that one seat drew was told
     /// whole. The seats are given back.
@@ -42,20 +64,17 @@ impl<R: Threads + Wait + Sync, O: Opener, G: Gate> Shared<'_, R, O, G> {
         let Ok(mut seats) = Vec::with_capacity(self.run.alloc, running.len()) else {
             return Err(LaneFault::Memory);
         };
+        let Ok(()) = givers.reserve(running.len()) else {
+            return Err(LaneFault::Memory);
+        };
         for handle in running {
-            let LaneEnd { giver, stop, seat } = handle.join(self.run.rt);
-            match stop {
-                Ok(()) => {}
-                Err(_) => return Err(LaneFault::LaneLost),
-            }
-            let seat = seat?;
-            match seats.push(seat) {
-                Ok(()) => {}
-                Err(_) => return Err(LaneFault::Memory),
-            }
-            match givers.push(giver) {
-                Ok(()) => {}
-                Err(_) => return Err(LaneFault::Memory),
+            match self.join_lane(handle) {
+                Ok(lane) => {
+                    let Lane { seat, giver } = lane;
+                    seats.push_reserved(seat);
+                    givers.push_reserved(giver);
+                }
+                Err(fault) => return Err(fault),
             }
         }
         gatherer.settle(self.run.rt, givers);

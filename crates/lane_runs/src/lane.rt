@@ -7,19 +7,18 @@ ghost use Rattle.lane_runs.specs.Lanes.{TellsSeat, StartsLane, LeavesLane, EndsL
 ghost use Rattle.lane_runs.specs.Taking.{TakesFiles};
 
 use crate::fault::LaneFault;
-use crate::lane_kind::{LaneKind, LaneScratch};
-use crate::links::{Links, new_links, settle_lane};
-use crate::read_stage::Reading;
+use crate::lane_kind::LaneKind;
 use crate::running::LaneEnd;
 use crate::shared::Shared;
-use lanes::{Gate, Message, Numbered, Opener, StageWork, run_last_stage};
+use crate::stages::{LastStage, Stages, new_stages};
+use lanes::{Gate, Message, Numbered, Opener, run_last_stage};
 use ruled_lanes::{LaneGiver, Seat};
 use std::sync::Wait;
 use std::thread;
 use std::thread::{Scope, Threads};
 use streams::piece_buffer;
 
-/// A lane that does not run yet: the seat by which it draws files, and the end of the fan at which it gives.
+/// A lane that does not run: the seat by which it draws files, and the end of the fan at which it gives.
 #[derive(Drop)]
 pub struct Lane<E: Numbered, M: Drop + Send> {
     pub seat: Seat,
@@ -58,7 +57,7 @@ impl<'s, R: Threads + Wait + Sync, O: Opener, G: Gate> Shared<'s, R, O, G> {
         LaneEnd { giver, stop, seat }
     }
 
-    /// Makes the links of a lane, starts its first stages and runs the last one. The stop is the caller's to
+    /// Makes the stages of a lane, starts the first three and runs the last one. The stop is the caller's to
     /// give. It gives the lane's seat back.
     fn run_stages<E, L: LaneKind + 's>(
         &'s self,
@@ -74,49 +73,22 @@ impl<'s, R: Threads + Wait + Sync, O: Opener, G: Gate> Shared<'s, R, O, G> {
             (given_at giver.new ++ Stop ∷ [])) }
     {
         let run = self.run;
-        let Ok(links) = new_links::<L>(run.alloc, run.capacity) else {
-            return Err(LaneFault::Memory);
-        };
-        let Ok(buffer) = piece_buffer(run.alloc) else {
-            return Err(LaneFault::Memory);
-        };
-        let Ok(LaneScratch { embed, shape, draw }) = L::scratch(run.alloc, run.capacity) else {
-            return Err(LaneFault::Memory);
-        };
-        let Links {
-            framed: (framed_giver, framed_taker),
-            embedded: (embedded_giver, embedded_taker),
-            shaped: (shaped_giver, shaped_taker),
-        } = links;
         let lane = giver.lane();
-        // The first stage comes last: a lane that could not be started has drawn no file.
-        let embed = StageWork {
-            lane,
-            scratch: embed,
+        let Ok(stages) = new_stages::<L>(run.alloc, run.capacity, lane, seat) else {
+            return Err(LaneFault::Memory);
         };
-        let embed = self.start_stage(scope, embed, framed_taker, embedded_giver)?;
-        let shape = StageWork {
-            lane,
-            scratch: shape,
+        let Stages {
+            read,
+            embed,
+            shape,
+            draw,
+        } = stages;
+        let started = match self.start_stages::<_, L>(scope, read, embed, shape) {
+            Ok(started) => started,
+            Err(fault) => return Err(fault),
         };
-        let shape = self.start_stage(scope, shape, embedded_taker, shaped_giver)?;
-        let reading = Reading {
-            lane,
-            seat,
-            buffer,
-            giver: framed_giver,
-        };
-        let read = self.start_read::<_, L>(scope, reading)?;
-        let draw = run_last_stage(run.rt, run.alloc, run.gate, draw, shaped_taker, giver);
-        let read = read.join(run.rt);
-        let embed = embed.join(run.rt);
-        let shape = shape.join(run.rt);
-        match (read, embed, shape, draw) {
-            (Some((read, seat)), Some(embed), Some(shape), Some(draw)) => {
-                settle_lane::<L, _>(run.rt, read, embed, shape, draw);
-                Ok(seat)
-            }
-            _ => Err(LaneFault::LaneLost),
-        }
+        let LastStage { scratch, taker } = draw;
+        let drew = run_last_stage(run.rt, run.alloc, run.gate, scratch, taker, giver);
+        self.join_stages::<L>(started, drew)
     }
 }

@@ -4,6 +4,7 @@
 
 mod all_lanes;
 mod fault;
+mod first_stages;
 mod joining;
 mod lane;
 mod lane_kind;
@@ -14,6 +15,7 @@ mod record_giver;
 mod run;
 mod running;
 mod shared;
+mod stages;
 mod starting;
 
 pub use all_lanes::run_lanes;

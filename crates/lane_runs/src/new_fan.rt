@@ -1,5 +1,5 @@
 //! A new fan, to which all lanes of a run give.
-ghost use Rattle.std.specs.Prelude.{◌≡◌, ◌≤◌, [], All, IfOk, vec_len};
+ghost use Rattle.std.specs.Prelude.{◌≡◌, ◌≤◌, ◌+◌, [], IfOk, vec_len};
 ghost use Rattle.ruled_lanes.specs.declared.limits.TheConstants.{LANES, MAX_CAPACITY};
 ghost use Rattle.ruled_lanes.specs.FanEnds.{gathered, room_of_fan};
 ghost use Rattle.lane_runs.specs.Running.{AreNumbered, IsIdle};
@@ -8,20 +8,40 @@ use lanes::{Message, Numbered};
 use ruled_lanes::{Gatherer, LaneGiver, fan_in};
 use std::alloc::{AllocError, Global};
 
-/// A new fan with room for `capacity` messages: the givers in the order of their lanes.
+/// The ends of a fan: the givers of the lanes that run, those of the other lanes, and the gatherer.
+#[derive(Drop)]
+pub struct Fan<E: Numbered, M: Drop + Send> {
+    pub givers: Vec<LaneGiver<Message<E, M>>>,
+    pub idle: Vec<LaneGiver<Message<E, M>>>,
+    pub gatherer: Gatherer<Message<E, M>>,
+}
+
+/// A new fan with room for `capacity` messages, of which the first `lanes` lanes run. The givers stand in the order
+/// of their lanes.
 pub fn new_fan<E: Numbered, M: Drop + Send>(
     alloc: Global,
     capacity: u32,
-) -> Result<(Vec<LaneGiver<Message<E, M>>>, Gatherer<Message<E, M>>), AllocError>
+    lanes: u32,
+) -> Result<Fan<E, M>, AllocError>
     requires least { 1 ≤ capacity }
     requires most { capacity ≤ MAX_CAPACITY }
-    ensures room { IfOk result (λ r. room_of_fan r.1 ≡ capacity) }
-    ensures count { IfOk result (λ r. vec_len r.0 ≡ LANES) }
-    ensures idle { IfOk result (λ r. AreNumbered (IsIdle r.1) 0 r.0.items) }
-    ensures none_gathered { IfOk result (λ r. gathered r.1 ≡ []) }
+    requires few { lanes ≤ LANES }
+    ensures room { IfOk result (λ fan. room_of_fan fan.gatherer ≡ capacity) }
+    ensures count { IfOk result (λ fan. vec_len fan.givers ≡ lanes) }
+    ensures lanes { IfOk result (λ fan. vec_len fan.givers + vec_len fan.idle ≡ LANES) }
+    ensures givers { IfOk result (λ fan. AreNumbered (IsIdle fan.gatherer) 0 fan.givers.items) }
+    ensures idle { IfOk result (λ fan. AreNumbered (IsIdle fan.gatherer) (vec_len fan.givers) fan.idle.items) }
+    ensures none_gathered { IfOk result (λ fan. gathered fan.gatherer ≡ []) }
 {
-    match fan_in(alloc, capacity) {
-        Ok(made) => Ok(made),
-        Err(_) => Err(AllocError),
-    }
+    let Ok((mut givers, gatherer)) = fan_in(alloc, capacity) else {
+        return Err(AllocError);
+    };
+    let Ok(idle) = givers.split_off(lanes as usize) else {
+        return Err(AllocError);
+    };
+    Ok(Fan {
+        givers,
+        idle,
+        gatherer,
+    })
 }

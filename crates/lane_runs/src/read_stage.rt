@@ -1,10 +1,12 @@
 //! The first stage of a lane.
-ghost use Rattle.std.specs.Prelude.{IfSome, vec_len};
-ghost use Rattle.lane_runs.specs.Lanes.{ReadsSeat, StartsToRead};
+ghost use Rattle.std.specs.Prelude.{◌<◌, IfSome, OnOk, length, vec_len};
+ghost use Rattle.ruled_lanes.specs.LinkEnds.{given, GivesToSame};
+ghost use Rattle.lanes.specs.Notes.{notes};
+ghost use Rattle.lane_runs.specs.Lanes.{ReadsSeat, StartsToRead, TellsFile};
 ghost use Rattle.lane_runs.specs.Taking.{TakesFiles};
 
 use crate::lane_kind::LaneKind;
-use crate::record_giver::RecordGiver;
+use crate::record_giver::{Gone, RecordGiver};
 use crate::shared::Shared;
 use lanes::{Gate, Message, Numbered, Opener, read_file};
 use ruled_lanes::{Giver, Seat};
@@ -51,26 +53,37 @@ impl<R: Wait, O: Opener, G: Gate> Shared<'_, R, O, G> {
                     Err(_) => None,
                 };
             };
-            let end = match read_file(
-                self.run.opener,
-                self.run.alloc,
-                file,
-                self.run.choice,
-                buffer.as_mut_slice(),
-                &mut gives,
-            ) {
-                Ok(end) => end,
-                Err(_) => return None,
-            };
-            let known = L::end(file, end);
-            match gives
-                .giver
-                .give(self.run.rt, Message::End(file, end.mark, known))
-            {
+            match self.read_drawn(file, buffer.as_mut_slice(), &mut gives) {
                 Ok(()) => {}
                 Err(_) => return None,
             }
         }
         unreachable!()
+    }
+
+    /// Reads a file that was drawn, and gives its records and one end.
+    fn read_drawn<L: LaneKind>(
+        &self,
+        file: u32,
+        buffer: &mut [u8],
+        gives: &mut RecordGiver<'_, '_, R, G, L>,
+    ) -> Result<(), Gone>
+        requires room { 0 < length buffer.old }
+        requires takes { TakesFiles L.takes L.ends (O.meaning self.now.run.now.opener.now) }
+        ensures told { OnOk result (TellsFile self.now.run.now.choice (O.meaning self.now.run.now.opener.now file) file
+            (notes L.Framed.about (given gives.old.giver)) (notes L.Framed.about (given gives.new.giver))) }
+        ensures same { GivesToSame gives.old.giver gives.new.giver }
+    {
+        let run = self.run;
+        let end = match read_file(run.opener, run.alloc, file, run.choice, buffer, gives) {
+            Ok(end) => end,
+            Err(gone) => return Err(gone),
+        };
+        let mark = end.mark;
+        let known = L::end(file, end);
+        let Ok(()) = gives.giver.give(run.rt, Message::End(file, mark, known)) else {
+            return Err(Gone);
+        };
+        Ok(())
     }
 }

@@ -1,8 +1,7 @@
-use Rattle.std.proofs.Common.{rules, ◌≡◌, ◌+◌, ◌++◌, ◌∷◌, [], All, length, true, vec_len, IfOk, OnOk, arith, refl, ap, sym, subst, ◌∙◌, append-nil, append_assoc, length-append}
+use Rattle.std.proofs.Common.{rules, ◌≡◌, ◌+◌, ◌++◌, ◌∷◌, [], All, length, true, vec_len, arith, refl, ap, sym, subst, ◌∙◌, append-nil, append_assoc, length-append}
 use Rattle.std.proofs.lemmas.List.Elements.{All-nil, All-push}
-use Rattle.ruled_lanes.specs.FanEnds.{given_at, gathered}
+use Rattle.ruled_lanes.specs.FanEnds.{gathered}
 use Rattle.ruled_lanes.specs.TicketSeats.{has_ended, IsSeatOf}
-use Rattle.lane_runs.specs.Lanes.{TellsSeat}
 use Rattle.lane_runs.specs.Running.{HasRun, HaveRun}
 use Rattle.lane_runs.proofs.RunningLanes.{all_givers, run_more, has_run, many_ran, numbered_as}
 use Rattle.lane_runs.proofs.Merging.{settled_whole}
@@ -11,9 +10,11 @@ use Rattle.lane_runs.proofs.shared.Shared.join_lanes.Goals as goal
 pub loop-handle-init : goal.loop-handle-init
 loop-handle-init g c = record {
   ran = [];
-  all = sym (append-nil _);
+  all = c.reserve.ensures.items ∙ sym (append-nil _);
   run = subst (HaveRun g.E.Numbered.about c.args.self.now.run.now.choice (g.O.Opener.meaning c.args.self.now.run.now.opener.now) c.args.self.now.tickets.now c.args.gatherer 0 []) (sym c.in-Ok.ensures.items) tt;
   rest = numbered_as _ 0 _ _ _ (omega (arith, c.in-Ok.ensures.len)) (sym c.into_iter-handle-iterator.ensures.into_iter_gives.0) c.requires.running;
+  room = omega (arith, c.in-Ok.ensures.capacity);
+  room_of_givers = omega (arith, c.in-Ok-reserve.ensures.ok, ap length c.into_iter-handle-iterator.ensures.into_iter_gives.0);
   count = omega (arith, c.in-Ok.ensures.len, ap length c.into_iter-handle-iterator.ensures.into_iter_gives.0);
   seats = subst (All (λ s. IsSeatOf c.args.self.now.tickets.now s × (has_ended s ≡ true))) (sym c.in-Ok.ensures.items) (All-nil (λ s. IsSeatOf c.args.self.now.tickets.now s × (has_ended s ≡ true)));
 }
@@ -23,26 +24,36 @@ loop-handle-preserved g c =
     let about = g.E.Numbered.about in
     let meaning = g.O.Opener.meaning in
     let promise = c.in-Some.handle.promise in
-    let seat = c.in_ok-seat.seat in
-    let giver = c.join-giver.result.giver in
+    let lane = c.in-Ok-join_lane.ensures in
+    let seat = c.in-Ok-join_lane.lane.seat in
+    let giver = c.in-Ok-join_lane.lane.giver in
+    let seats = c.push_reserved.ensures in
+    let givers = c.push_reserved-in-Ok-join_lane.ensures in
     let inv = c.loop-handle.invariant in
     let before = c.loop-handle.seats.items in
     let rest = numbered_as _ (vec_len c.loop-handle.seats) (0 + length before) _ _ (omega arith) c.in-Some.ensures.steps.0 inv.rest in
-    let tells : TellsSeat about promise.choice (meaning promise.opener.value) promise.tickets.value seat (given_at giver) =
-    subst (λ r. IfOk r (λ s. TellsSeat about promise.choice (meaning promise.opener.value) promise.tickets.value s (given_at giver))) c.in_ok-seat.was
-    (subst (λ r. OnOk r (IfOk c.join-giver.result.seat (λ s. TellsSeat about promise.choice (meaning promise.opener.value) promise.tickets.value s (given_at giver)))) c.in-Ok-stop.is c.join-giver.ensures.tells) in
     let has : HasRun about c.args.self.now.run.now.choice (meaning c.args.self.now.run.now.opener.now) c.args.self.now.tickets.now c.args.gatherer (0 + length before) giver seat =
-    has_run about meaning _ _ _ _ _ _ _ _ promise.giver.value giver seat rest.0 c.join-giver.ensures.to_same tells in
+    has_run about meaning _ _ _ _ _ _ _ _ promise.giver.value giver seat rest.0 lane.to_same lane.tells in
     record {
       ran = inv.ran ++ giver ∷ [];
-      all = c.in-Ok-push-2.ensures.items ∙ ap (λ l. l ++ giver ∷ []) inv.all ∙ append_assoc c.args.givers.items inv.ran (giver ∷ []);
-      run = subst (HaveRun about c.args.self.now.run.now.choice (meaning c.args.self.now.run.now.opener.now) c.args.self.now.tickets.now c.args.gatherer 0 (inv.ran ++ giver ∷ [])) (sym c.in-Ok-push.ensures.items)
+      all = givers.items ∙ ap (λ l. l ++ giver ∷ []) inv.all ∙ append_assoc c.args.givers.items inv.ran (giver ∷ []);
+      run = subst (HaveRun about c.args.self.now.run.now.choice (meaning c.args.self.now.run.now.opener.now) c.args.self.now.tickets.now c.args.gatherer 0 (inv.ran ++ giver ∷ [])) (sym seats.items)
           (run_more about c.args.self.now.run.now.choice (meaning c.args.self.now.run.now.opener.now) c.args.self.now.tickets.now c.args.gatherer 0 inv.ran before giver seat inv.run has);
-      rest = numbered_as _ (0 + length before + 1) _ _ _ (omega (arith, c.in-Ok-push.ensures.len)) refl rest.1;
-      count = omega (arith, inv.count, ap length c.in-Some.ensures.steps.0, c.in-Ok-push.ensures.len);
-      seats = subst (All (λ s. IsSeatOf c.args.self.now.tickets.now s × (has_ended s ≡ true))) (sym c.in-Ok-push.ensures.items)
+      rest = numbered_as _ (0 + length before + 1) _ _ _ (omega (arith, seats.len)) refl rest.1;
+      room = omega (arith, inv.room, seats.capacity);
+      room_of_givers = omega (arith, inv.room_of_givers, ap length c.in-Some.ensures.steps.0, givers.len, givers.capacity);
+      count = omega (arith, inv.count, ap length c.in-Some.ensures.steps.0, seats.len);
+      seats = subst (All (λ s. IsSeatOf c.args.self.now.tickets.now s × (has_ended s ≡ true))) (sym seats.items)
           (All-push (λ s. IsSeatOf c.args.self.now.tickets.now s × (has_ended s ≡ true)) before seat inv.seats (has.tells.seat_of, has.tells.ended));
     }
+
+pub push_reserved-requires : goal.push_reserved-requires
+push_reserved-requires g c =
+    let inv = c.loop-handle.invariant in omega (arith, inv.count, inv.room, ap length c.in-Some.ensures.steps.0)
+
+pub push_reserved-requires-in-Ok-join_lane : goal.push_reserved-requires-in-Ok-join_lane
+push_reserved-requires-in-Ok-join_lane g c =
+    let inv = c.loop-handle.invariant in omega (arith, inv.room_of_givers, ap length c.in-Some.ensures.steps.0)
 
 pub settle-requires-clause-some : goal.settle-requires-clause-some
 settle-requires-clause-some g c =

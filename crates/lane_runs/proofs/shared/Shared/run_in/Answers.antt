@@ -1,23 +1,20 @@
-use Rattle.std.proofs.Common.{◌≡◌, ◌+◌, [], length, vec_len, sym, subst, arith}
+use Rattle.std.proofs.Common.{[], ◌∙◌, vec_len, sym, subst}
 use Rattle.lane_runs.specs.Running.{AreNumbered, IsIdle}
-use Rattle.lane_runs.proofs.RunningLanes.{all_started, rest_idle, idle_unused}
+use Rattle.lane_runs.proofs.RunningLanes.{all_started, idle_unused}
 use Rattle.lane_runs.proofs.Ending.{ended_so, all_ended}
 use Rattle.lane_runs.proofs.shared.Shared.run_in.Goals as goal
 
 pub start_lanes-requires-clause-none_given : goal.start_lanes-requires-clause-none_given
-start_lanes-requires-clause-none_given g c κs within = idle_unused c.args.gatherer 0 c.args.givers.items c.requires.0.idle
+start_lanes-requires-clause-none_given g c κs within = idle_unused c.args.fan.gatherer 0 c.args.fan.givers.items c.requires.0.ready
 
 pub finish_lanes-requires-clause-running : goal.finish_lanes-requires-clause-running
 finish_lanes-requires-clause-running g c κs within =
-    all_started (λ r. r.promise.giver.value) (λ r. r.promise.choice) (λ r. r.promise.opener.value) (λ r. r.promise.tickets.value) c.args.gatherer _ _ _ 0 c.in-Ok.running.items c.in-Ok.idle.items
-    (subst (AreNumbered (IsIdle c.args.gatherer) 0) (sym c.in-Ok.ensures.givers) c.requires.0.idle) c.in-Ok.ensures.choice c.in-Ok.ensures.opener c.in-Ok.ensures.tickets
+    all_started (λ r. r.promise.giver.value) (λ r. r.promise.choice) (λ r. r.promise.opener.value) (λ r. r.promise.tickets.value) c.args.fan.gatherer _ _ _ 0 c.in-Ok.running.items
+    (subst (AreNumbered (IsIdle c.args.fan.gatherer) 0) (sym c.in-Ok.ensures.givers) c.requires.0.ready) c.in-Ok.ensures.choice c.in-Ok.ensures.opener c.in-Ok.ensures.tickets
 
 pub finish_lanes-requires-clause-idle : goal.finish_lanes-requires-clause-idle
 finish_lanes-requires-clause-idle g c κs within =
-    let count : 0 + length c.in-Ok.running.items ≡ vec_len c.in-Ok.running = omega arith in
-    subst (λ n. AreNumbered (IsIdle c.args.gatherer) n c.in-Ok.idle.items) count
-    (rest_idle (λ r. r.promise.giver.value) c.args.gatherer 0 c.in-Ok.running.items c.in-Ok.idle.items
-    (subst (AreNumbered (IsIdle c.args.gatherer) 0) (sym c.in-Ok.ensures.givers) c.requires.0.idle))
+    subst (λ n. AreNumbered (IsIdle c.args.fan.gatherer) n c.args.fan.idle.items) (c.requires.0.each ∙ sym c.in-Ok.ensures.count) c.requires.0.rest
 
 pub returns-in-Ok : goal.returns-in-Ok
 returns-in-Ok g c = record {

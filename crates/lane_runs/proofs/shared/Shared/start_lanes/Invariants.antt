@@ -1,16 +1,15 @@
-use Rattle.std.proofs.Common.{◌≡◌, ◌+◌, ◌<◌, ◌++◌, [], All, map, length, vec_len}
-use Rattle.ruled_lanes.specs.declared.limits.TheConstants.{LANES}
+use Rattle.std.proofs.Common.{◌≡◌, ◌+◌, ◌≤◌, ◌++◌, [], All, map, length, vec_len, vec_capacity}
 use Rattle.ruled_lanes.specs.FanEnds.{given_at}
 use Rattle.ruled_lanes.specs.TicketSeats.{IsSeatOf, IsUnused}
 use Rattle.lane_runs.proofs.shared.Shared.start_lanes.Given as goal
 
 abbrev pub invariant-loop-giver : goal.invariant-loop-giver
 invariant-loop-giver g l = record {
-  lanes : vec_len l.running + vec_len l.idle + length l.giver-iterator.rest.items ≡ LANES;
+  each : vec_len l.seats ≡ length l.giver-iterator.rest.items;
   count : vec_len l.running + vec_len l.seats ≡ vec_len l.fn.seats;
-  waits : 0 < vec_len l.seats → vec_len l.idle ≡ 0;
+  room : vec_len l.fn.seats ≤ vec_capacity l.running;
   none_given : All (λ giver. given_at giver ≡ []) l.giver-iterator.rest.items;
-  givers : (map (λ r. r.promise.giver.value) l.running.items ++ l.idle.items) ++ l.giver-iterator.rest.items ≡ l.fn.givers.items;
+  givers : map (λ r. r.promise.giver.value) l.running.items ++ l.giver-iterator.rest.items ≡ l.fn.givers.items;
   choice : All (λ r. r.promise.choice ≡ l.self.run.now.choice) l.running.items;
   opener : All (λ r. r.promise.opener.value ≡ l.self.run.now.opener.now) l.running.items;
   tickets : All (λ r. r.promise.tickets.value ≡ l.self.tickets.now) l.running.items;

@@ -1,0 +1,20 @@
+use Rattle.lanes.specs.declared.message.Message.TheVariants.{End}
+use Rattle.lanes.proofs.Passing.{notes-after}
+use Rattle.lane_runs.proofs.shared.Shared.read_drawn.Goals as goal
+
+pub read_file-requires-clause-accepted : goal.read_file-requires-clause-accepted
+read_file-requires-clause-accepted g c κs within = λ place bytes placed. c.requires.takes.records c.args.file place bytes placed
+
+pub end-known-requires : goal.end-known-requires
+end-known-requires g c =
+    let keeps = c.in-Ok.ensures.kept in
+    c.requires.takes.marks c.args.file _ _ (record { records = keeps.records; counted = keeps.counted; found = keeps.found })
+
+pub returns-clause-told : goal.returns-clause-told
+returns-clause-told g c = record {
+  count = c.in-Ok.end.count;
+  mark = c.in-Ok.end.mark;
+  kept = _;
+  keeps = c.in-Ok.ensures.kept;
+  ended = notes-after g.L.Framed.Numbered.about _ _ (End c.args.file c.in-Ok.end.mark c.end-known.result) c.in-Ok-give.ensures.ok;
+}
