@@ -1,5 +1,5 @@
 #!/usr/bin/env python3
-"""The least costs that crates/flow_tests/src/tests.rt compares with.
+"""The least costs that crates/base_tests/src/flows.rt compares with.
 
 It makes the same thousand small networks as that test, by the same generator from the same seed,
 has networkx's network simplex solve each, and prints the costs in order, `-` where there is no

@@ -1,7 +1,7 @@
 // The least total lengths of a thousand random drawings along one axis, each hundred of them added up, a line each; by
 // LEMON's network simplex. Rows keep their order on each level that two of them share, one unit apart at least: the dual
 // of that linear program sends units from rows where more edges begin to those where more end, over each such pair, and
-// as many as can be. Drawings are made as crates/length_tests/src/random.rt makes them.
+// as many as can be. Drawings are made as crates/base_tests/src/random.rt makes them.
 #include <algorithm>
 #include <cstdint>
 #include <iostream>

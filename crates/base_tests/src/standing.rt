@@ -2,7 +2,8 @@
 ghost use Rattle.std.specs.Prelude.{◌≡◌, ◌<◌, ◌≤◌, ◌≤ℤ◌, pos, negsuc, true, IfSome};
 ghost use Rattle.networks.specs.Networks.{node_count};
 
-use crate::tests::{FREE_WAY, cost_of, network, same};
+use crate::compared::same;
+use crate::flows::{FREE_WAY, cost_of, network};
 use min_cost_flow::{Network, Standing};
 
 /// Whether one supply may grow by 40 and another may fall by as much.

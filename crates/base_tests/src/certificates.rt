@@ -1,7 +1,6 @@
 //! Certificates by hand, and lists that are none.
-use crate::made::{Drawn, is_certified, same};
-use std::process::Abort;
-use std::test::Fail;
+use crate::compared::same;
+use crate::made::{Drawn, is_certified};
 
 /// Three vertices on a line, drawn far apart.
 const LINE: Drawn<'static> = Drawn {
@@ -80,43 +79,27 @@ const OF_BOX: [(&[u16], &[(u16, u16, u32)], bool); 13] = [
 ];
 
 #[test]
-fn rows_on_a_line_close_up(rt: HostRuntime) -> Result<(), Fail> {
+fn rows_on_a_line_close_up(rt: HostRuntime) {
     let weights = [(0, 1, 1), (1, 2, 1)];
     for (numbers, wanted) in [([0, 1, 2], true), ([0, 5, 9], false), ([0, 1, 3], false)] {
-        same(
-            &rt,
-            is_certified(rt.alloc(), LINE, &numbers, &weights)?,
-            wanted,
-        );
+        let found = is_certified(rt.alloc(), LINE, &numbers, &weights);
+        same(&rt, found, Ok(wanted));
     }
-    Ok(())
 }
 
 #[test]
-fn a_box_is_held_apart_by_one_side(rt: HostRuntime) -> Result<(), Fail> {
+fn a_box_is_held_apart_by_one_side(rt: HostRuntime) {
     for (numbers, weights, wanted) in OF_BOX {
-        same(
-            &rt,
-            is_certified(rt.alloc(), BOX, numbers, weights)?,
-            wanted,
-        );
+        let found = is_certified(rt.alloc(), BOX, numbers, weights);
+        same(&rt, found, Ok(wanted));
     }
-    Ok(())
 }
 
 #[test]
-fn weights_are_of_one_drawing(rt: HostRuntime) -> Result<(), Fail> {
-    let numbers = [0, 1, 2, 2, 3];
-    same(
-        &rt,
-        is_certified(rt.alloc(), OPEN_BOX, &numbers, BOX_WEIGHTS)?,
-        false,
-    );
+fn weights_are_of_one_drawing(rt: HostRuntime) {
     let lighter = [(0, 1, 1), (1, 2, 1), (2, 4, 1), (3, 4, 1)];
-    same(
-        &rt,
-        is_certified(rt.alloc(), OPEN_BOX, &numbers, &lighter)?,
-        true,
-    );
-    Ok(())
+    for (weights, wanted) in [(BOX_WEIGHTS, false), (lighter.as_slice(), true)] {
+        let found = is_certified(rt.alloc(), OPEN_BOX, &[0, 1, 2, 2, 3], weights);
+        same(&rt, found, Ok(wanted));
+    }
 }

@@ -3,16 +3,11 @@
 ghost use Rattle.std.specs.Prelude.{◌<◌};
 ghost use Rattle.networks.specs.Flow.{Solves};
 
+use crate::compared::same;
 use crate::plain;
 use min_cost_flow::{Arc, Cap, NetFault, Network, SolveFault, Solved, solve};
 use std::alloc::Global;
-use std::fmt::Debug;
 use std::process::Abort;
-
-/// Sees that two values are the same. (An `assert_eq!` in each place would make the tests' proofs several times as long.)
-pub(crate) fn same<T: PartialEq + Debug + Drop>(rt: &impl Abort, got: T, want: T) {
-    assert_eq!(rt; got, want);
-}
 
 /// The network of supplies and arcs given as `(from, to, cap, cost)`.
 pub(crate) fn network(

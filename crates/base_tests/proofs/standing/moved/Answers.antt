@@ -3,8 +3,8 @@ use Rattle.std.proofs.lemmas.Int.{to_z-of_z}
 use mir.Val.{SFits}
 use Rattle.std.specs.Prelude.{ℤ, pos, negsuc, ◌≤ℤ◌}
 use Rattle.networks.specs.Networks.{NetworkModel, shifted, HasFairSupplies}
-use Rattle.flow_tests.proofs.FairSupplies.{still_fair}
-use Rattle.flow_tests.proofs.standing.moved.Goals as goal
+use Rattle.base_tests.proofs.FairSupplies.{still_fair}
+use Rattle.base_tests.proofs.standing.moved.Goals as goal
 
 pub shift-requires-clause-fair : goal.shift-requires-clause-fair
 shift-requires-clause-fair c =

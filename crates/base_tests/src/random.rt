@@ -1,10 +1,8 @@
 //! A thousand random drawings, whose least lengths LEMON found by its network simplex (`checks/least-lengths`).
+use crate::compared::same;
 use crate::least::length_of;
-use crate::made::same;
 use least_length::{Edge, Row, Scratch, find_least};
 use std::alloc::{AllocError, Global};
-use std::process::Abort;
-use std::test::Fail;
 
 /// The least lengths of each hundred of drawings, added up.
 const LEAST: [u32; 10] = [
@@ -110,12 +108,12 @@ fn hundred(lent: &mut Lent, first: u64) -> Result<u32, AllocError> {
 }
 
 #[test]
-fn random_drawings_are_as_short_as_by_lemon(rt: HostRuntime) -> Result<(), Fail> {
+fn random_drawings_are_as_short_as_by_lemon(rt: HostRuntime) {
     let mut lent = Lent::empty(rt.alloc());
     let mut first: u64 = 0;
     for wanted in LEAST {
-        same(&rt, hundred(&mut lent, first)?, wanted);
+        let length = hundred(&mut lent, first).expect(&rt, "memory");
+        same(&rt, length, wanted);
         first = first.wrapping_add(100);
     }
-    Ok(())
 }

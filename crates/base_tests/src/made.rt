@@ -3,13 +3,6 @@ ghost use Rattle.std.specs.Prelude.{◌≡◌, ◌≤◌, length, IfOk};
 
 use least_length::{Edge, MAX_EDGES, MAX_SIGHTS, Row, Scratch, Sight, certify_lengths};
 use std::alloc::{AllocError, Global};
-use std::fmt::Debug;
-use std::process::Abort;
-
-/// Sees that two values are the same.
-pub(crate) fn same<T: PartialEq + Debug + Drop>(rt: &impl Abort, got: T, want: T) {
-    assert_eq!(rt; got, want);
-}
 
 /// A drawing along one axis: of each row its number and its levels, and of each edge its rows.
 #[derive(Clone, Copy)]
