@@ -1,6 +1,5 @@
 -- The text of a run in each form, a line at a time.
-use Rattle.std.specs.Prelude.{◌≡◌, ◌≢◌, ℕ, ◌+◌, List, [], ◌∷◌, ◌++◌, length, codes, decimal, Option, Vec, IfSome}
-use Rattle.std.specs.declared.alloc.Global.{Global}
+use Rattle.std.specs.Prelude.{◌≡◌, ◌≢◌, ℕ, ◌+◌, List, [], ◌∷◌, ◌++◌, length, codes, decimal, Option, IfSome}
 use Rattle.streams.specs.declared.frames.Mark.{Mark}
 use Rattle.entries.specs.declared.answer.Answer.{Answer}
 use Rattle.entries.specs.declared.entry.Entry.{Entry}
@@ -30,8 +29,8 @@ end_in Report number mark count = end_line mark count
 end_in Json number mark count = end_json number mark count
 
 -- a line that is there is the entry's, and the entry has an answer
-abbrev pub IsLineOf : Form → Entry → Option (Vec ℕ Global) → Type 0
-IsLineOf form entry line = IfSome line (λ text. (entry.answer ≢ Answer.NoMemory) × (text.items ≡ line_in form entry))
+abbrev pub IsLineOf : Form → Entry → Option (List ℕ) → Type 0
+IsLineOf form entry line = IfSome line (λ text. (entry.answer ≢ Answer.NoMemory) × (text ≡ line_in form entry))
 
 -- the lines of these entries, one after another
 abbrev pub lines_in : Form → List Entry → List ℕ

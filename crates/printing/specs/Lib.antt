@@ -1,2 +1,3 @@
 pub mod FormLines
 pub mod Spelt
+pub mod Texts

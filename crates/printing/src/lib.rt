@@ -3,6 +3,7 @@
 #![tactic(auto)]
 
 mod lane_kinds;
+mod line;
 mod lines;
 mod printed;
 mod report;
@@ -11,6 +12,7 @@ mod told;
 mod worded;
 
 pub use lane_kinds::{Draws, JsonLines, Quick, ReportLines, Short};
+pub use line::Line;
 pub use lines::{end_text, entry_text, head_text, lacking_text};
 pub use printed::{Printed, print};
 pub use style::Style;

@@ -4,6 +4,7 @@ ghost use Rattle.entries.specs.declared.answer.Answer.{Answer};
 ghost use Rattle.entries.specs.declared.entry.Entry.{Entry};
 ghost use Rattle.printing.specs.FormLines.{line_in, head_in, end_in};
 
+use crate::line::Line;
 use crate::report;
 use entries::{Answer, Entry};
 use reports::Form;
@@ -19,10 +20,20 @@ use streams::{Mark, mark_word};
 pub fn entry_text(alloc: Global, form: Form, entry: &Entry) -> Result<Vec<u8>, AllocError>
     ensures { IfOk result (λ text. text.items ≡ line_in form entry.now) }
 {
+    entry_line(alloc, form, entry)?.into_list()
+}
+
+/// The same as a line on its way. That of a report takes no memory where it is short.
+pub(crate) fn entry_line(alloc: Global, form: Form, entry: &Entry) -> Result<Line, AllocError>
+    ensures { IfOk result (λ line. line ≡ line_in form entry.now) }
+{
     let graph = u64::from(entry.ordinal) + 1;
     match form {
         Form::Report => report::graph_line(alloc, graph, &entry.answer),
-        Form::Json => reports::entry_line(alloc, number_of(entry.file)?, graph, entry),
+        Form::Json => {
+            let text = reports::entry_line(alloc, number_of(entry.file)?, graph, entry)?;
+            Ok(Line::of(alloc, text))
+        }
     }
 }
 
@@ -44,7 +55,7 @@ pub fn lacking_text(
 {
     let graph = u64::from(ordinal) + 1;
     match form {
-        Form::Report => report::graph_line(alloc, graph, &Answer::NoMemory),
+        Form::Report => report::graph_line(alloc, graph, &Answer::NoMemory)?.into_list(),
         Form::Json => reports::lacking_line(alloc, number_of(file)?, graph),
     }
 }

@@ -6,7 +6,8 @@ ghost use Rattle.lanes.specs.Opening.{IsPlacedAt};
 ghost use Rattle.printing.specs.FormLines.{IsLineOf};
 ghost use Rattle.printing.specs.Spelt.{IsSpelt};
 
-use crate::lines::entry_text;
+use crate::line::Line;
+use crate::lines::entry_line;
 use crate::told::Told;
 use answers::DrawScratch;
 use choices::Choice;
@@ -31,7 +32,7 @@ pub struct Printed<J: Told> {
     /// The form of the line.
     pub form: Form,
     /// The line, or none where memory was wanting for an answer or for its line.
-    pub line: Option<Vec<u8>>,
+    pub line: Option<Line>,
     /// The entry whose line it is. Only proofs see it.
     pub entry: Snapshot<Entry>,
     pub told: PhantomData<J>,
@@ -56,7 +57,7 @@ impl<J: Told + Send + Sync> Numbered for Printed<J> {
 }
 
 /// The record of an entry with its line in this form. There is none where the entry has no answer for want
-/// of memory, or where `entry_text` fails. The scratch takes the lists of the entry back.
+/// of memory, or where `entry_line` fails. The scratch takes the lists of the entry back.
 pub fn print<J: Told>(
     alloc: Global,
     scratch: &mut DrawScratch,
@@ -91,12 +92,12 @@ fn spelt(rec: &Record)
 }
 
 /// The line of an entry that has an answer, where there is memory for it.
-fn answered_line(alloc: Global, form: Form, entry: &Entry) -> Option<Vec<u8>>
+fn answered_line(alloc: Global, form: Form, entry: &Entry) -> Option<Line>
     ensures { IsLineOf form entry.now result }
 {
     match &entry.answer {
         Answer::NoMemory => None,
-        Answer::Laid { .. } | Answer::Refused(_) => match entry_text(alloc, form, entry) {
+        Answer::Laid { .. } | Answer::Refused(_) => match entry_line(alloc, form, entry) {
             Ok(line) => Some(line),
             Err(AllocError) => None,
         },

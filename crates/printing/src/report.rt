@@ -3,6 +3,7 @@ ghost use Rattle.std.specs.Prelude.{◌≡◌, ◌++◌, IfOk, OnOk, decimal};
 ghost use Rattle.reports.specs.Report.{file_line, end_line, answer_text, sizes_text, drawn_text};
 ghost use Rattle.printing.specs.FormLines.{graph_line};
 
+use crate::line::Line;
 use drawing_check::Drawing;
 use entries::{Answer, Cause};
 use faces::Plane;
@@ -11,28 +12,26 @@ use ortho_rep::Shape;
 use std::alloc::{AllocError, Global};
 use streams::{Mark, mark_word};
 
-/// As many bytes as the line of a graph has room for at first: few have more.
-const LINE_ROOM: usize = 64;
-
 /// The first line of the file with this number.
 pub(crate) fn file_line(alloc: Global, number: u64) -> Result<Vec<u8>, AllocError>
     ensures { IfOk result (λ line. line.items ≡ file_line number) }
 {
-    let mut line = Vec::from_slice(alloc, b"file ")?;
+    let mut line = Line::new(alloc);
+    line.add(b"file ")?;
     push_number(&mut line, number)?;
-    line.push(b'\n')?;
-    Ok(line)
+    line.add(b"\n")?;
+    line.into_list()
 }
 
 /// The line of the graph with this number, of which this is the answer.
-pub(crate) fn graph_line(alloc: Global, number: u64, answer: &Answer) -> Result<Vec<u8>, AllocError>
-    ensures { IfOk result (λ line. line.items ≡ graph_line number answer.now) }
+pub(crate) fn graph_line(alloc: Global, number: u64, answer: &Answer) -> Result<Line, AllocError>
+    ensures { IfOk result (λ line. line ≡ graph_line number answer.now) }
 {
-    let mut line = Vec::with_capacity(alloc, LINE_ROOM)?;
-    line.extend_from_slice(b"graph ")?;
+    let mut line = Line::new(alloc);
+    line.add(b"graph ")?;
     push_number(&mut line, number)?;
     push_answer(&mut line, answer)?;
-    line.push(b'\n')?;
+    line.add(b"\n")?;
     Ok(line)
 }
 
@@ -40,16 +39,17 @@ pub(crate) fn graph_line(alloc: Global, number: u64, answer: &Answer) -> Result<
 pub(crate) fn end_line(alloc: Global, mark: Mark, count: u64) -> Result<Vec<u8>, AllocError>
     ensures { IfOk result (λ line. line.items ≡ end_line mark count) }
 {
-    let mut line = Vec::from_slice(alloc, b"end ")?;
-    line.extend_from_slice(mark_word(mark).as_bytes())?;
+    let mut line = Line::new(alloc);
+    line.add(b"end ")?;
+    line.add(mark_word(mark).as_bytes())?;
     push_count(&mut line, b" graphs=", count)?;
-    line.push(b'\n')?;
-    Ok(line)
+    line.add(b"\n")?;
+    line.into_list()
 }
 
 /// Adds what an answer is.
-fn push_answer(line: &mut Vec<u8>, answer: &Answer) -> Result<(), AllocError>
-    ensures { OnOk result (line.new.items ≡ line.old.items ++ answer_text answer.now) }
+fn push_answer(line: &mut Line, answer: &Answer) -> Result<(), AllocError>
+    ensures { OnOk result (line.new ≡ line.old ++ answer_text answer.now) }
 {
     match answer {
         Answer::Laid {
@@ -58,18 +58,18 @@ fn push_answer(line: &mut Vec<u8>, answer: &Answer) -> Result<(), AllocError>
             drawing,
             prices: _,
         } => {
-            line.extend_from_slice(b" ok")?;
+            line.add(b" ok")?;
             push_sizes(line, plane, shape)?;
             push_drawn(line, drawing)
         }
         Answer::Refused(rule) => push_words(line, b" refused ", rule.word().as_bytes()),
-        Answer::NoMemory => line.extend_from_slice(b" memory"),
+        Answer::NoMemory => line.add(b" memory"),
     }
 }
 
 /// Adds how many vertices, edges, faces and bends there are.
-fn push_sizes(line: &mut Vec<u8>, plane: &Plane, shape: &Shape) -> Result<(), AllocError>
-    ensures { OnOk result (line.new.items ≡ line.old.items ++ sizes_text plane.now shape.now) }
+fn push_sizes(line: &mut Line, plane: &Plane, shape: &Shape) -> Result<(), AllocError>
+    ensures { OnOk result (line.new ≡ line.old ++ sizes_text plane.now shape.now) }
 {
     push_count(line, b" n=", u64::from(plane.graph().vertices()))?;
     push_count(line, b" m=", u64::from(plane.graph().edges()))?;
@@ -78,35 +78,35 @@ fn push_sizes(line: &mut Vec<u8>, plane: &Plane, shape: &Shape) -> Result<(), Al
 }
 
 /// Adds whether there is a drawing, or why there is none.
-fn push_drawn(line: &mut Vec<u8>, drawing: &Result<Drawing, Cause>) -> Result<(), AllocError>
-    ensures { OnOk result (line.new.items ≡ line.old.items ++ drawn_text drawing.now) }
+fn push_drawn(line: &mut Line, drawing: &Result<Drawing, Cause>) -> Result<(), AllocError>
+    ensures { OnOk result (line.new ≡ line.old ++ drawn_text drawing.now) }
 {
     match drawing {
-        Ok(_) => line.extend_from_slice(b" drawn=yes"),
+        Ok(_) => line.add(b" drawn=yes"),
         Err(cause) => push_words(line, b" drawn=no cause=", cause.word().as_bytes()),
     }
 }
 
 /// Adds two words.
-fn push_words(line: &mut Vec<u8>, first: &[u8], second: &[u8]) -> Result<(), AllocError>
-    ensures { OnOk result (line.new.items ≡ line.old.items ++ (first.now ++ second.now)) }
+fn push_words(line: &mut Line, first: &[u8], second: &[u8]) -> Result<(), AllocError>
+    ensures { OnOk result (line.new ≡ line.old ++ (first.now ++ second.now)) }
 {
-    line.extend_from_slice(first)?;
-    line.extend_from_slice(second)
+    line.add(first)?;
+    line.add(second)
 }
 
 /// Adds a word and a number.
-fn push_count(line: &mut Vec<u8>, word: &[u8], number: u64) -> Result<(), AllocError>
-    ensures { OnOk result (line.new.items ≡ line.old.items ++ (word.now ++ decimal number)) }
+fn push_count(line: &mut Line, word: &[u8], number: u64) -> Result<(), AllocError>
+    ensures { OnOk result (line.new ≡ line.old ++ (word.now ++ decimal number)) }
 {
-    line.extend_from_slice(word)?;
+    line.add(word)?;
     push_number(line, number)
 }
 
 /// Adds a number in decimal.
-fn push_number(line: &mut Vec<u8>, number: u64) -> Result<(), AllocError>
-    ensures { OnOk result (line.new.items ≡ line.old.items ++ decimal number) }
+fn push_number(line: &mut Line, number: u64) -> Result<(), AllocError>
+    ensures { OnOk result (line.new ≡ line.old ++ decimal number) }
 {
     let mut buffer = Buffer::new();
-    line.extend_from_slice(buffer.format(number).as_bytes())
+    line.add(buffer.format(number).as_bytes())
 }
