@@ -5,3 +5,4 @@ pub mod Sets
 pub mod Ends
 pub mod Joined
 pub mod Outer
+pub mod Tables

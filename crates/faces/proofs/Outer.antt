@@ -1,14 +1,14 @@
 -- What is known once the faces are numbered: they make a plane, and the first widest face is the outer one.
-use Rattle.std.proofs.Common.{◌≡◌, ℕ, ◌+◌, ◌*◌, ◌<◌, ◌≤◌, List, length, slice_index, take, replicate, refl, inl, inr, sym, ap, ◌∙◌, subst, arith}
+use Rattle.std.proofs.Common.{◌≡◌, ℕ, ◌+◌, ◌*◌, ◌<◌, ◌≤◌, List, length, slice_index, take, replicate, refl, inl, inr, ◌∙◌, arith}
 use Rattle.std.proofs.lemmas.Bool.{cases_order}
 use Rattle.std.proofs.lemmas.List.Elements.{All-take, All-replicate}
 use Rattle.embedding.specs.declared.rules.Rule.TheVariants.{Range, Loop, Multi, Asymmetric, Edgeless, Degree, Disconnected, Genus}
 use Rattle.embedding.specs.Darts.{dart_count, next_of}
 use Rattle.embedding.specs.Faces.{HasFaces}
 use Rattle.embedding.specs.Rules.{Breaks, KeepsBefore}
-use Rattle.faces.specs.Faces.{IsOuter, degree_in}
+use Rattle.faces.specs.Faces.{IsOuter}
 use Rattle.faces.specs.Planes.{PlaneModel, IsPlane, vertices, darts, next, face_at}
-use Rattle.faces.specs.Walk.{at}
+use Rattle.faces.specs.Tables.{IsFirstWidest}
 use Rattle.faces.proofs.Unique.{one_count}
 
 -- a part of a list of one value has that value everywhere
@@ -46,35 +46,13 @@ plane_from p rules order size faces euler outer = record {
 }
 
 -- the first face of the greatest degree is the outer one
-pub outer_from : (n : ℕ) (next face : ℕ → ℕ) (f o : ℕ) (degrees : List ℕ) → HasFaces n next face f
-    → ((k : ℕ) → k < f → slice_index degrees k ≡ degree_in n face k)
-    → o < f
-    → ((k : ℕ) → k < f → slice_index degrees k ≤ slice_index degrees o)
-    → ((k : ℕ) → k < o → slice_index degrees k < slice_index degrees o)
-    → IsOuter n face f o
-outer_from n next face f o degrees faces are named most first = record {
-  named = named;
-  most = λ k h. omega (arith, most k h, are k h, are o named);
+pub outer_from : (n : ℕ) (next face : ℕ → ℕ) (f o : ℕ) → HasFaces n next face f → IsFirstWidest n face f o → IsOuter n face f o
+outer_from n next face f o faces widest = record {
+  named = widest.named;
+  most = widest.most;
   first = λ k d same h here. elim (cases_order k o) [
     | inl equal ↦ (d, omega arith, here ∙ equal)
-    | inr (inl less) ↦
-        let in-k : k < f = omega (arith, faces.named d h, here) in
-        absurd (omega (arith, first k less, are k in-k, are o named, same))
+    | inr (inl less) ↦ absurd (omega (arith, widest.first k less, same))
     | inr (inr more) ↦ let (e, before, is) = faces.ordered d o h (omega (arith, here)) in (e, omega arith, is)
   ];
 }
-
--- a copy of the numbers has the same faces
-pub kept_faces : (g : List (List ℕ)) (old new : List ℕ) (f h : ℕ) → HasFaces (dart_count g) (next_of g) (at old) f → new ≡ old → h ≡ f → HasFaces (dart_count g) (next_of g) (at new) h
-kept_faces g old new f h faces same count =
-    subst (λ (xs : List ℕ). HasFaces (dart_count g) (next_of g) (at xs) h) (sym same)
-    (subst (λ (m : ℕ). HasFaces (dart_count g) (next_of g) (at old) m) (sym count) faces)
-
--- and the same degrees
-pub kept_degrees : (g : List (List ℕ)) (old new degrees : List ℕ) (f h : ℕ) → length old ≡ dart_count g → new ≡ old → h ≡ f
-    → ((k : ℕ) → k < f → slice_index degrees k ≡ degree_in (length old) (at old) k)
-    → (k : ℕ) → k < h → slice_index degrees k ≡ degree_in (dart_count g) (at new) k
-kept_degrees g old new degrees f h size same count are k lt =
-    are k (omega arith)
-    ∙ ap (λ (n : ℕ). degree_in n (at old) k) size
-    ∙ ap (λ (xs : List ℕ). degree_in (dart_count g) (at xs) k) (sym same)

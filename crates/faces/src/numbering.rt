@@ -1,6 +1,6 @@
 //! The faces of a graph's darts, numbered in the order of their least darts, and what is told by them.
 
-ghost use Rattle.std.specs.Prelude.{◌≡◌, ◌+◌, ◌<◌, ◌≤◌, ℕ, IfOk, length, slice_index, vec_len};
+ghost use Rattle.std.specs.Prelude.{◌≡◌, ◌+◌, ◌<◌, ◌≤◌, ℕ, length, slice_index};
 ghost use Rattle.embedding.specs.declared.graphs.TheConstants.{MAX_DARTS};
 ghost use Rattle.embedding.specs.Darts.{IsOneToOne, dart_count, next_of};
 ghost use Rattle.embedding.specs.Faces.{HasFaces};
@@ -8,8 +8,6 @@ ghost use Rattle.faces.specs.Faces.{degree_in};
 ghost use Rattle.faces.specs.Walk.{IsTracedIn, at};
 
 use embedding::Graph;
-use reuse::filled;
-use std::alloc::AllocError;
 
 /// Stands for the face of a dart that no walk has come to.
 pub const UNSET: u16 = u16::MAX;
@@ -64,20 +62,18 @@ pub fn number_faces(graph: &Graph, faces: &mut [u16]) -> u16
     count
 }
 
-/// How many darts each of `count` faces has. The numbers stand in the memory of an old list where that is
-/// enough.
-pub fn count_degrees(old: Vec<u16>, faces: &[u16], count: u16) -> Result<Vec<u16>, AllocError>
+/// Counts how many darts each face has.
+pub fn count_degrees(faces: &[u16], degrees: &mut [u16])
     requires few { length faces.now ≤ MAX_DARTS }
-    requires named { (d : ℕ) → d < length faces.now → slice_index faces.now d < count }
-    ensures size { IfOk result (λ v. vec_len v ≡ count) }
-    ensures degrees { IfOk result (λ v. (k : ℕ) → k < count
-        → slice_index v.items k ≡ degree_in (length faces.now) (at faces.now) k) }
+    requires named { (d : ℕ) → d < length faces.now → slice_index faces.now d < length degrees.old }
+    requires none { (k : ℕ) → k < length degrees.old → slice_index degrees.old k ≡ 0 }
+    ensures size { length degrees.new ≡ length degrees.old }
+    ensures degrees { (k : ℕ) → k < length degrees.old
+        → slice_index degrees.new k ≡ degree_in (length faces.now) (at faces.now) k }
 {
-    let mut degrees = filled(old, usize::from(count), 0)?;
     for face in faces {
         degrees[usize::from(*face)] += 1;
     }
-    Ok(degrees)
 }
 
 /// The face with the most darts, among equals the first.

@@ -1,10 +1,10 @@
 //! Planes: connected graphs with their faces, one of which is the outer one.
 
-ghost use Rattle.std.specs.Prelude.{◌≡◌, ◌≢◌, ◌<◌, ◌≤◌, ℕ, IfOk, IfErr, Err, length, slice_index, vec_len};
+ghost use Rattle.std.specs.Prelude.{◌≡◌, ◌≢◌, ◌<◌, ◌≤◌, ◌++◌, ℕ, IfOk, IfErr, Err, length, slice_index};
 ghost use Rattle.embedding.specs.declared.graphs.TheConstants.{MAX_DARTS};
 ghost use Rattle.embedding.specs.Rules.{KeepsBefore};
 ghost use Rattle.faces.specs.declared.plane.TheConstants.{MAX_FACES};
-ghost use Rattle.faces.specs.Faces.{degree_in};
+ghost use Rattle.faces.specs.Tables.{IsFaceTable, IsFirstWidest};
 ghost use Rattle.faces.specs.Walk.{at};
 
 use crate::numbering::{UNSET, count_degrees, next_dart, number_faces, widest_face};
@@ -27,21 +27,23 @@ pub const MAX_FACES: usize = 257;
 #[derive(Debug, Drop)]
 pub struct Plane {
     graph: Graph,
-    faces: Vec<u16>,
-    degrees: Vec<u16>,
+    /// The face of each dart, and behind them the degree of each face.
+    table: Vec<u16>,
+    faces: u16,
     outer: u16,
 }
 
 impl Model for Plane {
-    ghost use Rattle.std.specs.Prelude.{vec_len};
+    ghost use Rattle.std.specs.Prelude.{take};
+    ghost use Rattle.embedding.specs.Darts.{dart_count};
     ghost use Rattle.faces.specs.Planes.{PlaneModel, IsKept, model_of};
 
     ghost Value = { PlaneModel };
 
-    ghost view = { λ p. model_of p.graph p.faces.items (vec_len p.degrees) p.outer };
+    ghost view = { λ p. model_of p.graph (take (dart_count p.graph) p.table.items) p.faces p.outer };
 
     ghost invariant = { λ p.
-        IsKept (model_of p.graph p.faces.items (vec_len p.degrees) p.outer) p.degrees.items };
+        IsKept (model_of p.graph (take (dart_count p.graph) p.table.items) p.faces p.outer) p.table.items };
 }
 
 /// Why a graph gives no plane. It hands the graph back as it was.
@@ -55,15 +57,26 @@ pub enum TraceFault {
     Memory(Graph),
 }
 
-/// The face of each dart, and the degree of each face.
-#[derive(Drop)]
-struct FaceTable {
-    faces: Vec<u16>,
-    degrees: Vec<u16>,
+/// The faces of all darts, and behind them the degrees of all faces, in the memory of an old list where that is
+/// enough.
+fn table_of(old: Vec<u16>, faces: &[u16], degrees: &[u16]) -> Result<Vec<u16>, AllocError>
+    ensures { IfOk result (λ table. table.items ≡ faces.now ++ degrees.now) }
+{
+    let mut table = emptied(old, faces.len() + degrees.len())?;
+    table.extend_from_slice(faces)?;
+    table.extend_from_slice(degrees)?;
+    Ok(table)
 }
 
-/// Copies the faces of all darts, of which there are `count`, and adds their degrees. They stand in the memory
-/// that is lent where that is enough.
+/// The face of each dart, behind them the degree of each face, and the first of the widest faces.
+#[derive(Drop)]
+struct FaceTable {
+    table: Vec<u16>,
+    widest: u16,
+}
+
+/// The table for these faces of all darts, of which there are `count`, in the memory that is lent where that is
+/// enough.
 fn face_table(
     alloc: Global,
     scratch: &mut Scratch,
@@ -72,19 +85,18 @@ fn face_table(
 ) -> Result<FaceTable, AllocError>
     requires few { length faces.now ≤ MAX_DARTS }
     requires named { (d : ℕ) → d < length faces.now → slice_index faces.now d < count }
-    ensures faces { IfOk result (λ t. t.faces.items ≡ faces.now) }
-    ensures size { IfOk result (λ t. vec_len t.degrees ≡ count) }
-    ensures degrees { IfOk result (λ t. (k : ℕ) → k < count
-        → slice_index t.degrees.items k ≡ degree_in (length faces.now) (at faces.now) k) }
+    requires some { 0 < count }
+    requires few_faces { count ≤ MAX_FACES }
+    ensures table { IfOk result (λ t. IsFaceTable faces.now count t.table.items) }
+    ensures widest { IfOk result (λ t. IsFirstWidest (length faces.now) (at faces.now) count t.widest) }
 {
-    let old_faces = mem::replace(&mut scratch.faces, Vec::new(alloc));
-    let old_degrees = mem::replace(&mut scratch.degrees, Vec::new(alloc));
-    let mut copied = emptied(old_faces, faces.len())?;
-    copied.extend_from_slice(faces)?;
-    Ok(FaceTable {
-        faces: copied,
-        degrees: count_degrees(old_degrees, faces, count)?,
-    })
+    let mut zeros = [0; MAX_FACES];
+    let degrees = &mut zeros[..usize::from(count)];
+    count_degrees(faces, degrees);
+    let widest = widest_face(degrees);
+    let old = mem::replace(&mut scratch.table, Vec::new(alloc));
+    let table = table_of(old, faces, degrees)?;
+    Ok(FaceTable { table, widest })
 }
 
 impl Plane {
@@ -130,16 +142,14 @@ impl Plane {
         if u16::from(graph.vertices()) + count != graph.edges() + 2 {
             return Err(TraceFault::Genus(graph));
         }
-        let Ok(table) = face_table(alloc, scratch, faces, count) else {
+        let Ok(found) = face_table(alloc, scratch, faces, count) else {
             return Err(TraceFault::Memory(graph));
         };
-        let FaceTable { faces, degrees } = table;
-        let outer = widest_face(&degrees);
         Ok(Plane {
             graph,
-            faces,
-            degrees,
-            outer,
+            table: found.table,
+            faces: count,
+            outer: found.widest,
         })
     }
 
@@ -147,8 +157,7 @@ impl Plane {
     /// memory.
     pub fn give_back(self, scratch: &mut Scratch) {
         self.graph.give_back(&mut scratch.graph);
-        scratch.faces = self.faces;
-        scratch.degrees = self.degrees;
+        scratch.table = self.table;
     }
 
     /// The graph whose faces these are.
@@ -176,7 +185,7 @@ impl Plane {
         ensures value { result ≡ face_at self.now dart }
         ensures named { result < self.now.faces }
     {
-        self.faces[usize::from(dart)]
+        self.table[usize::from(dart)]
     }
 
     /// The least dart of a face. It looks at each dart up to it.
@@ -202,7 +211,7 @@ impl Plane {
         ensures plane { IsPlane self.now }
         ensures ends { HasEnds self.now }
     {
-        self.degrees.len() as u16
+        self.faces
     }
 
     /// How many darts a face has.
@@ -210,7 +219,7 @@ impl Plane {
         requires { face < self.now.faces }
         ensures value { result ≡ degree self.now face }
     {
-        self.degrees[usize::from(face)]
+        self.table[usize::from(self.graph.darts() + face)]
     }
 
     /// The outer face.

@@ -1,10 +1,10 @@
-use Rattle.std.proofs.Common.{◌≡◌, ℕ, ◌<◌, slice_index, vec_len}
+use Rattle.std.proofs.Common.{◌≡◌, ℕ, ◌<◌, length, slice_index}
 use Rattle.faces.specs.Faces.{degree_in}
 use Rattle.faces.specs.Walk.{at}
 use Rattle.faces.proofs.numbering.count_degrees.Given as goal
 
 abbrev pub invariant-loop-face : goal.invariant-loop-face
 invariant-loop-face l = record {
-  size : vec_len l.degrees ≡ l.count;
-  degrees : (k : ℕ) → k < l.count → slice_index l.degrees.items k ≡ degree_in l.face-index (at l.faces) k;
+  size : length l.degrees ≡ length l.initial.degrees;
+  degrees : (k : ℕ) → k < length l.degrees → slice_index l.degrees k ≡ degree_in l.face-index (at l.faces) k;
 }

@@ -3,15 +3,10 @@ use Rattle.faces.specs.Planes.{PlaneModel, IsPlane}
 use Rattle.faces.proofs.Ends.{plane_ends}
 use Rattle.faces.proofs.plane.Plane.face_count.Goals as goal
 
-pub overflow_cast-result : goal.overflow_cast-result
-overflow_cast-result c =
-    let ends = plane_ends c.args.self.now (subst IsPlane c.self.view_is c.self.invariant.plane) in
-    omega (arith, ends.few_faces, ap (λ (m : PlaneModel). m.faces) c.self.view_is, c.len.ensures)
-
 pub returns-clause-few : goal.returns-clause-few
 returns-clause-few c =
     let ends = plane_ends c.args.self.now (subst IsPlane c.self.view_is c.self.invariant.plane) in
-    omega (arith, ends.few_faces, ap (λ (m : PlaneModel). m.faces) c.self.view_is, c.len.ensures)
+    omega (arith, ends.few_faces, ap (λ (m : PlaneModel). m.faces) c.self.view_is)
 
 pub returns-clause-ends : goal.returns-clause-ends
 returns-clause-ends c = plane_ends c.args.self.now (subst IsPlane c.self.view_is c.self.invariant.plane)
