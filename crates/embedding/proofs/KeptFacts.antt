@@ -11,9 +11,9 @@ use Rattle.embedding.specs.Tables.{IsTable, IsKept}
 use Rattle.embedding.proofs.Rotation.{darts_even, darts_few, darts_some}
 
 -- the fields' facts, of the lists by another name
-pub kept_as : (lists g : List (List ℕ)) {starts ends reverses afters : List ℕ} → lists ≡ g → IsKept lists starts ends reverses afters → IsKept g starts ends reverses afters
-kept_as lists g {starts} {ends} {reverses} {afters} same kept =
-    subst (λ (l : List (List ℕ)). IsKept l starts ends reverses afters) same kept
+pub kept_as : (lists g : List (List ℕ)) {ends table : List ℕ} → lists ≡ g → IsKept lists ends table → IsKept g ends table
+kept_as lists g {ends} {table} same kept =
+    subst (λ (l : List (List ℕ)). IsKept l ends table) same kept
 
 -- the numbers of darts, edges and vertices
 pub record HasSizes (g : List (List ℕ)) : Type 0 where
@@ -41,6 +41,10 @@ pub table_read : (n : ℕ) (f : ℕ → ℕ) (table : List ℕ) → IsTable n f 
 table_read n f table is d i x below at read =
     let inside : i < length table = omega (arith, is.size) in
     get_or_read table i x inside read 0 ∙ ap (λ (k : ℕ). get_or table k 0) at ∙ is.each d below
+
+-- what is read from a link
+pub link_read : (table : List ℕ) (i x value : ℕ) → i < length table → get_or table i 0 ≡ value → x ≡ get_or table i x → x ≡ value
+link_read table i x value inside is read = get_or_read table i x inside read 0 ∙ is
 
 -- and from a list of darts' ends
 pub end_read : (ends all : List ℕ) → ends ≡ all → (d i x : ℕ) → d < length all → i ≡ d → x ≡ get_or ends i x → x ≡ get_or all d 0

@@ -1,13 +1,13 @@
 -- Lists that stand one after another, and their parts between the places where they start.
-use Rattle.std.proofs.Common.{◌≡◌, ℕ, zero, suc, ◌+◌, ◌-◌, ◌<◌, ◌≤◌, List, [], ◌∷◌, ◌++◌, length, get_or, take, drop, refl, sym, ap, ◌∙◌, arith}
+use Rattle.std.proofs.Common.{◌≡◌, ℕ, zero, suc, ◌+◌, ◌-◌, ◌*◌, ◌<◌, ◌≤◌, List, [], ◌∷◌, ◌++◌, length, get_or, take, drop, refl, sym, ap, ◌∙◌, subst, arith}
 use Rattle.std.specs.List.{slice_range}
-use Rattle.std.proofs.lemmas.List.{length-append, take_at, drop_at, drop-drop, ext_get_or}
+use Rattle.std.proofs.lemmas.List.{length-append, take_at, drop_at, drop-drop, ext_get_or, get_or_append_left, get_or_read, get_or-drop}
 use Rattle.std.proofs.lemmas.List.FromFn.{get_or-map-range_with_len, length-map-range_with_len}
 use Rattle.embedding.specs.Lists.{list_of}
-use Rattle.embedding.specs.Darts.{heads, first_dart}
-use Rattle.embedding.specs.Tables.{cut_at, IsTable, IsKept}
+use Rattle.embedding.specs.Darts.{heads, dart_count, first_dart}
+use Rattle.embedding.specs.Rules.{KeepsBefore}
+use Rattle.embedding.specs.Tables.{cut_at, IsTable, AreLinks, IsKept}
 use Rattle.embedding.proofs.EachList.{list_of-add}
-use Rattle.embedding.proofs.KeptFacts.{table_read}
 use Rattle.embedding.proofs.Building.{first_dart-more}
 
 -- a list is the part of all heads from its first dart up to that of the next list
@@ -53,11 +53,20 @@ part_between g ends k from to same below is-from is-to =
           ∙ part_of-heads g k below;
     }
 
+-- a start, read behind the links
+start_read : (g : List (List ℕ)) {ends table : List ℕ} → IsKept g ends table → (k j x : ℕ) → k ≤ length g → j ≡ 2 * length ends + k → x ≡ get_or table j x → x ≡ first_dart g k
+start_read g {ends} {table} kept k j x within at read =
+    let inside : j < length table = omega (arith, kept.size, ap length kept.heads_are) in
+    get_or_read table j x inside read 0
+    ∙ ap (λ (i : ℕ). get_or table i 0) at
+    ∙ sym (get_or-drop (2 * length ends) table k 0)
+    ∙ kept.starts_are.each k (omega arith)
+
 -- the list of a vertex, between what is read from the table of starts
-pub vertex_part : (g : List (List ℕ)) {starts ends reverses afters : List ℕ} → IsKept g starts ends reverses afters → (v i from to : ℕ) → i + 1 ≡ v → v ≤ length g → from ≡ get_or starts i from → to ≡ get_or starts (i + 1) to → IsPart ends (list_of g v) from to
-vertex_part g {starts} {ends} kept v i from to at within read-from read-to =
+pub vertex_part : (g : List (List ℕ)) {ends table : List ℕ} → IsKept g ends table → (v i j from to : ℕ) → j ≡ 2 * length ends + i → i + 1 ≡ v → v ≤ length g → from ≡ get_or table j from → to ≡ get_or table (j + 1) to → IsPart ends (list_of g v) from to
+vertex_part g {ends} kept v i j from to place at within read-from read-to =
     let here : list_of g v ≡ get_or g i [] = ap (list_of g) (sym at) ∙ list_of-add g i in
-    rw here (part_between g ends i from to kept.heads_are (omega arith) (table_read _ _ starts kept.starts_are i i from (omega arith) refl read-from) (table_read _ _ starts kept.starts_are (i + 1) (i + 1) to (omega arith) refl read-to))
+    rw here (part_between g ends i from to kept.heads_are (omega arith) (start_read g kept i j from (omega arith) place read-from) (start_read g kept (i + 1) (j + 1) to (omega arith) (omega arith) read-to))
 
 -- cut where they start, the heads are the lists
 pub cut_whole : (g : List (List ℕ)) (starts ends : List ℕ) → IsTable (length g + 1) (first_dart g) starts → ends ≡ heads g → cut_at starts ends ≡ g
@@ -70,3 +79,24 @@ cut_whole g starts ends table same =
     let inside : k < n = omega (arith, long) in
     get_or-map-range_with_len part 0 n k k [] inside (omega arith)
     ∙ (part_between g ends k (get_or starts k 0) (get_or starts (k + 1) 0) same (omega (arith, count)) (table.each k (omega (arith, count))) (table.each (k + 1) (omega (arith, count)))).part)
+
+-- the table in which links stand before the starts
+pub kept_whole : (g : List (List ℕ)) (ends links starts table : List ℕ) → KeepsBefore g 8 → length g < 256 → ends ≡ heads g
+    → AreLinks g (dart_count g) links → IsTable (length g + 1) (first_dart g) starts → table ≡ links ++ starts
+    → (drop (2 * length ends) table ≡ starts) × IsKept g ends table
+kept_whole g ends links starts table rules order same l s is =
+    let size : length links ≡ 2 * length ends = omega (arith, l.size, ap length same) in
+    let behind : drop (2 * length ends) table ≡ starts = ap (drop (2 * length ends)) is ∙ drop_at links starts (2 * length ends) size in
+    let read : (i : ℕ) → i < length links → get_or table i 0 ≡ get_or links i 0 =
+    λ i below. ap (λ (t : List ℕ). get_or t i 0) is ∙ get_or_append_left links starts 0 i below in (
+      behind,
+      record {
+        rules = rules;
+        order = order;
+        heads_are = same;
+        size = omega (arith, ap length is, length-append links starts, l.size, s.size);
+        starts_are = subst (IsTable (length g + 1) (first_dart g)) (sym behind) s;
+        reverses_are = λ d below. read (2 * d) (omega (arith, l.size)) ∙ l.reverses d below;
+        afters_are = λ d below. read (2 * d + 1) (omega (arith, l.size)) ∙ l.afters d below;
+      },
+    )

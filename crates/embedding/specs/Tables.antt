@@ -1,5 +1,5 @@
 -- What a graph keeps: where its lists start, the darts' ends and where they lead.
-use Rattle.std.specs.Prelude.{◌≡◌, ℕ, ◌+◌, ◌-◌, ◌<◌, List, length, map, slice_index, slice_range}
+use Rattle.std.specs.Prelude.{◌≡◌, ℕ, ◌+◌, ◌-◌, ◌*◌, ◌<◌, List, length, map, drop, slice_index, slice_range}
 use Rattle.std.specs.List.{range_with_len}
 use Rattle.embedding.specs.Darts.{heads, dart_count, first_dart, reverse_of, after_of}
 use Rattle.embedding.specs.Rules.{KeepsBefore}
@@ -14,11 +14,18 @@ pub record IsTable (n : ℕ) (f : ℕ → ℕ) (table : List ℕ) : Type 0 where
   pub size : length table ≡ n
   pub each : (d : ℕ) → d < n → slice_index table d ≡ f d
 
--- the lists g of a graph keep the first seven rules, and the tables are theirs
-pub record IsKept (g : List (List ℕ)) (starts ends reverses afters : List ℕ) : Type 0 where
+-- the links of the first n darts: of each its reverse and the dart after it
+pub record AreLinks (g : List (List ℕ)) (n : ℕ) (links : List ℕ) : Type 0 where
+  pub size : length links ≡ 2 * n
+  pub reverses : (d : ℕ) → d < n → slice_index links (2 * d) ≡ reverse_of g d
+  pub afters : (d : ℕ) → d < n → slice_index links (2 * d + 1) ≡ after_of g d
+
+-- the lists g of a graph keep the first seven rules, and the tables are theirs: in one the links stand before the starts
+pub record IsKept (g : List (List ℕ)) (ends table : List ℕ) : Type 0 where
   pub rules : KeepsBefore g 8
   pub order : length g < 256
-  pub starts_are : IsTable (length g + 1) (first_dart g) starts
   pub heads_are : ends ≡ heads g
-  pub reverses_are : IsTable (dart_count g) (reverse_of g) reverses
-  pub afters_are : IsTable (dart_count g) (after_of g) afters
+  pub size : length table ≡ 2 * dart_count g + (length g + 1)
+  pub starts_are : IsTable (length g + 1) (first_dart g) (drop (2 * length ends) table)
+  pub reverses_are : (d : ℕ) → d < dart_count g → slice_index table (2 * d) ≡ reverse_of g d
+  pub afters_are : (d : ℕ) → d < dart_count g → slice_index table (2 * d + 1) ≡ after_of g d

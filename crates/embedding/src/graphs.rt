@@ -32,24 +32,22 @@ pub const MAX_EDGES: usize = 510;
 /// memory, and each takes constant time.
 #[derive(Debug, Drop)]
 pub struct Graph {
-    /// Where the list of each vertex begins in `heads`, and at the end the number of darts.
-    starts: Vec<u16>,
     heads: Vec<u8>,
-    reverses: Vec<u16>,
-    afters: Vec<u16>,
+    /// Of each dart its reverse and the dart after it; behind all darts where the list of each vertex begins in
+    /// `heads`, and at the end the number of darts.
+    table: Vec<u16>,
 }
 
 impl Model for Graph {
-    ghost use Rattle.std.specs.Prelude.{ℕ, List};
+    ghost use Rattle.std.specs.Prelude.{ℕ, List, ◌*◌, length, drop};
     ghost use Rattle.embedding.specs.Tables.{cut_at, IsKept};
 
     ghost Value = { List (List ℕ) };
 
-    ghost view = { λ g. cut_at g.starts.items g.heads.items };
+    ghost view = { λ g. cut_at (drop (2 * length g.heads.items) g.table.items) g.heads.items };
 
     ghost invariant = { λ g.
-        IsKept (cut_at g.starts.items g.heads.items) g.starts.items g.heads.items
-        g.reverses.items g.afters.items };
+        IsKept (cut_at (drop (2 * length g.heads.items) g.table.items) g.heads.items) g.heads.items g.table.items };
 }
 
 impl Graph {
@@ -99,24 +97,22 @@ impl Graph {
         let starts = starts_in(mem::replace(&mut scratch.starts, Vec::new(alloc)), lists)?;
         let old = DartTables {
             heads: mem::replace(&mut scratch.heads, Vec::new(alloc)),
-            reverses: mem::replace(&mut scratch.reverses, Vec::new(alloc)),
-            afters: mem::replace(&mut scratch.afters, Vec::new(alloc)),
+            links: mem::replace(&mut scratch.links, Vec::new(alloc)),
         };
         let tables = darts_in(old, lists)?;
+        let mut table = tables.links;
+        table.extend_from_slice(&starts)?;
+        scratch.starts = starts;
         Ok(Graph {
-            starts,
             heads: tables.heads,
-            reverses: tables.reverses,
-            afters: tables.afters,
+            table,
         })
     }
 
     /// Gives the lists of this graph back to be used again. It takes no memory.
     pub fn give_back(self, scratch: &mut Scratch) {
-        scratch.starts = self.starts;
         scratch.heads = self.heads;
-        scratch.reverses = self.reverses;
-        scratch.afters = self.afters;
+        scratch.links = self.table;
     }
 
     /// How many vertices there are, 1 to 255.
@@ -125,7 +121,7 @@ impl Graph {
         ensures some { 0 < result }
         ensures rules { KeepsBefore self.now 8 }
     {
-        (self.starts.len() - 1) as u8
+        (self.table.len() - 2 * self.heads.len() - 1) as u8
     }
 
     /// How many edges there are, 1 to 510: half as many as darts.
@@ -160,8 +156,9 @@ impl Graph {
         ensures few { length result.now ≤ 4 }
     {
         let place = usize::from(vertex) - 1;
-        let from = usize::from(self.starts[place]);
-        let to = usize::from(self.starts[place + 1]);
+        let start = 2 * self.heads.len() + place;
+        let from = usize::from(self.table[start]);
+        let to = usize::from(self.table[start + 1]);
         &self.heads[from..to]
     }
 
@@ -194,7 +191,7 @@ impl Graph {
         ensures tail { tail_of self.now result ≡ head_of self.now dart }
         ensures head { head_of self.now result ≡ tail_of self.now dart }
     {
-        self.reverses[usize::from(dart)]
+        self.table[2 * usize::from(dart)]
     }
 
     /// The next dart clockwise round the vertex that a dart comes from.
@@ -204,6 +201,6 @@ impl Graph {
         ensures inside { result < dart_count self.now }
         ensures tail { tail_of self.now result ≡ tail_of self.now dart }
     {
-        self.afters[usize::from(dart)]
+        self.table[2 * usize::from(dart) + 1]
     }
 }

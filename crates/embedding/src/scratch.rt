@@ -4,15 +4,14 @@ use std::alloc::Global;
 
 /// The lists of a graph, to be used again. What they hold between two graphs is of no use.
 ///
-/// A graph takes all four lists with it. Where each graph is given back before the next one is read, none takes
+/// A graph takes its two lists with it. Where each graph is given back before the next one is read, none takes
 /// memory for a record with no more vertices and no more darts than one before it had; where one is not, the
-/// next graph takes memory for all four.
+/// next graph takes memory for both.
 #[derive(Drop)]
 pub struct Scratch {
     pub(crate) starts: Vec<u16>,
     pub(crate) heads: Vec<u8>,
-    pub(crate) reverses: Vec<u16>,
-    pub(crate) afters: Vec<u16>,
+    pub(crate) links: Vec<u16>,
 }
 
 impl Scratch {
@@ -21,8 +20,7 @@ impl Scratch {
         Scratch {
             starts: Vec::new(alloc),
             heads: Vec::new(alloc),
-            reverses: Vec::new(alloc),
-            afters: Vec::new(alloc),
+            links: Vec::new(alloc),
         }
     }
 }

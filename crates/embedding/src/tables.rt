@@ -1,11 +1,11 @@
 //! What a graph keeps, made from lists that keep rules 1 to 7. Each list stands in the memory of an old one where
 //! that is enough.
 
-ghost use Rattle.std.specs.Prelude.{◌≡◌, ℕ, ◌+◌, ◌<◌, ◌≤◌, length, slice_index, vec_capacity, IfOk, Contains};
+ghost use Rattle.std.specs.Prelude.{◌≡◌, ℕ, ◌+◌, ◌*◌, ◌<◌, ◌≤◌, length, slice_index, vec_capacity, IfOk, Contains};
 ghost use Rattle.embedding.specs.Lists.{list_of};
 ghost use Rattle.embedding.specs.Darts.{heads, dart_count, first_dart, head_of, tail_of, reverse_of, after_of};
 ghost use Rattle.embedding.specs.Rules.{KeepsBefore};
-ghost use Rattle.embedding.specs.Tables.{IsTable};
+ghost use Rattle.embedding.specs.Tables.{IsTable, AreLinks};
 
 use crate::lists::Lists;
 use crate::rows::four_of;
@@ -62,27 +62,17 @@ fn after_in(next: u16, first: u16, end: u16) -> u16
 
 /// Adds the darts of the list at a place. Each list has at most four entries, so to search one for a reverse takes
 /// constant time.
-fn add_darts(
-    heads: &mut Vec<u8>,
-    reverses: &mut Vec<u16>,
-    afters: &mut Vec<u16>,
-    lists: &Lists<'_>,
-    place: u8,
-)
+fn add_darts(heads: &mut Vec<u8>, links: &mut Vec<u16>, lists: &Lists<'_>, place: u8)
     requires rules { KeepsBefore lists.now 8 }
     requires within { place < length lists.now }
     requires heads { IsTable (first_dart lists.now place) (head_of lists.now) heads.old.items }
-    requires reverses { IsTable (first_dart lists.now place) (reverse_of lists.now) reverses.old.items }
-    requires afters { IsTable (first_dart lists.now place) (after_of lists.now) afters.old.items }
+    requires links { AreLinks lists.now (first_dart lists.now place) links.old.items }
     requires head_room { dart_count lists.now ≤ vec_capacity heads.old }
-    requires reverse_room { dart_count lists.now ≤ vec_capacity reverses.old }
-    requires after_room { dart_count lists.now ≤ vec_capacity afters.old }
+    requires link_room { 2 * dart_count lists.now ≤ vec_capacity links.old }
     ensures heads { IsTable (first_dart lists.now (place + 1)) (head_of lists.now) heads.new.items }
-    ensures reverses { IsTable (first_dart lists.now (place + 1)) (reverse_of lists.now) reverses.new.items }
-    ensures afters { IsTable (first_dart lists.now (place + 1)) (after_of lists.now) afters.new.items }
+    ensures links { AreLinks lists.now (first_dart lists.now (place + 1)) links.new.items }
     ensures head_room { dart_count lists.now ≤ vec_capacity heads.new }
-    ensures reverse_room { dart_count lists.now ≤ vec_capacity reverses.new }
-    ensures after_room { dart_count lists.now ≤ vec_capacity afters.new }
+    ensures link_room { 2 * dart_count lists.now ≤ vec_capacity links.new }
 {
     let list = lists.at(place);
     let first = lists.first_dart(place);
@@ -91,38 +81,32 @@ fn add_darts(
     'darts: for head in list {
         next += 1;
         heads.push_reserved(*head);
-        reverses.push_reserved(reverse_between(lists, place + 1, *head));
-        afters.push_reserved(after_in(next, first, end));
+        links.push_reserved(reverse_between(lists, place + 1, *head));
+        links.push_reserved(after_in(next, first, end));
     }
 }
 
-/// What is kept of each dart.
+/// What is kept of each dart: its head, and behind one another its reverse and the dart after it.
 #[derive(Drop)]
 pub(crate) struct DartTables {
     pub(crate) heads: Vec<u8>,
-    pub(crate) reverses: Vec<u16>,
-    pub(crate) afters: Vec<u16>,
+    pub(crate) links: Vec<u16>,
 }
 
-/// The heads of all darts, their reverses, and the darts after them: the next one of each, but of the last dart
-/// of a list its first one. Memory is asked for before the first dart.
+/// The heads of all darts, and their links: of each its reverse, and the dart after it, which is the next one, but of
+/// the last dart of a list its first one. Memory is asked for before the first dart, behind the links for the starts.
 pub(crate) fn darts_in(old: DartTables, lists: &Lists<'_>) -> Result<DartTables, AllocError>
     requires { KeepsBefore lists.now 8 }
     ensures heads { IfOk result (λ t. t.heads.items ≡ heads lists.now) }
-    ensures reverses { IfOk result (λ t.
-        IsTable (dart_count lists.now) (reverse_of lists.now) t.reverses.items) }
-    ensures afters { IfOk result (λ t.
-        IsTable (dart_count lists.now) (after_of lists.now) t.afters.items) }
+    ensures links { IfOk result (λ t. AreLinks lists.now (dart_count lists.now) t.links.items) }
 {
     let mut heads = emptied(old.heads, lists.darts())?;
-    let mut reverses = emptied(old.reverses, lists.darts())?;
-    let mut afters = emptied(old.afters, lists.darts())?;
+    let mut links = emptied(
+        old.links,
+        2 * lists.darts() + usize::from(lists.count()) + 1,
+    )?;
     for place in 0..lists.count() {
-        add_darts(&mut heads, &mut reverses, &mut afters, lists, place);
+        add_darts(&mut heads, &mut links, lists, place);
     }
-    Ok(DartTables {
-        heads,
-        reverses,
-        afters,
-    })
+    Ok(DartTables { heads, links })
 }

@@ -1,14 +1,12 @@
-use Rattle.std.proofs.Common.{◌≤◌, vec_capacity}
-use Rattle.embedding.specs.Darts.{dart_count, first_dart, head_of, reverse_of, after_of}
-use Rattle.embedding.specs.Tables.{IsTable}
+use Rattle.std.proofs.Common.{◌*◌, ◌≤◌, vec_capacity}
+use Rattle.embedding.specs.Darts.{dart_count, first_dart, head_of}
+use Rattle.embedding.specs.Tables.{IsTable, AreLinks}
 use Rattle.embedding.proofs.tables.darts_in.Given as goal
 
 abbrev pub invariant-loop-place : goal.invariant-loop-place
 invariant-loop-place l = record {
   heads : IsTable (first_dart l.lists l.place) (head_of l.lists) l.heads.items;
-  reverses : IsTable (first_dart l.lists l.place) (reverse_of l.lists) l.reverses.items;
-  afters : IsTable (first_dart l.lists l.place) (after_of l.lists) l.afters.items;
+  links : AreLinks l.lists (first_dart l.lists l.place) l.links.items;
   head_room : dart_count l.lists ≤ vec_capacity l.heads;
-  reverse_room : dart_count l.lists ≤ vec_capacity l.reverses;
-  after_room : dart_count l.lists ≤ vec_capacity l.afters;
+  link_room : 2 * dart_count l.lists ≤ vec_capacity l.links;
 }
