@@ -51,13 +51,6 @@ module _ {A M : Type 0} where
     pub unused : IsUnused seat
     pub none_given : given_at giver ≡ []
 
-  -- what the stages of a lane leave: the end of its own lane, where no stop has come yet, and its seat where nothing was lost;
-  -- with a stop all is told
-  pub record LeavesLane (about : A → About) (choice : Choice) (meaning : ℕ → Meaning) (tickets : Tickets) (giver after : LaneGiver (Message A M)) (seat : Result Seat LaneFault) : Type 0 where
-    pub to_same : GivesToSameLane giver after
-    pub goes_on : GoOn (notes about (given_at after))
-    pub tells : IfOk seat (λ s. TellsSeat about choice meaning tickets s (given_at after ++ Stop ∷ []))
-
   -- the end and the seat that the first stage gives back: the end is that of the same link
   pub record ReadsSeat (about : A → About) (choice : Choice) (meaning : ℕ → Meaning) (tickets : Tickets) (giver after : Giver (Message A M)) (seat : Seat) : Type 0 where
     pub to_same : GivesToSame giver after

@@ -7,7 +7,7 @@ ghost use Rattle.lanes.specs.Files.{AreToldWhole};
 ghost use Rattle.lane_runs.specs.Lanes.{StartsLane};
 ghost use Rattle.lane_runs.specs.Running.{StartsRun, LeavesRun};
 ghost use Rattle.lane_runs.specs.Faults.{EndsRun};
-ghost use Rattle.lane_runs.specs.Taking.{TakesFiles};
+ghost use Rattle.lane_runs.specs.Taking.{TakesFiles, TakesAll};
 
 use crate::fault::{LaneFault, RunFault};
 use crate::lane::Lane;
@@ -74,8 +74,8 @@ impl<'s, R: Threads + Wait + Sync, O: Opener, G: Gate> Shared<'s, R, O, G> {
         fan: Fan<L::Entry, L::End>,
         consumer: C,
     ) -> (C, Result<Vec<Seat>, RunFault<C::Refusal>>)
-        requires { StartsRun C.holds self.now.tickets.now seats fan.givers fan.idle fan.gatherer consumer
-            × TakesFiles L.takes L.ends (O.meaning self.now.run.now.opener.now) }
+        requires starts { StartsRun C.holds self.now.tickets.now seats fan.givers fan.idle fan.gatherer consumer }
+        requires takes { TakesAll L.takes L.ends (O.meaning self.now.run.now.opener.now) }
         ensures { LeavesRun C.holds C.gave_up C.stays self.now.run.now.choice (O.meaning self.now.run.now.opener.now) self.now.tickets.now (vec_len seats) consumer result.0 result.1 }
     {
         thread::scope(
@@ -83,26 +83,26 @@ impl<'s, R: Threads + Wait + Sync, O: Opener, G: Gate> Shared<'s, R, O, G> {
             self.run.rt,
             move |scope| -> (C, Result<Vec<Seat>, RunFault<C::Refusal>>)
                 requires { StartsRun C.holds self.now.tickets.now seats fan.givers fan.idle fan.gatherer consumer
-                    × TakesFiles L.takes L.ends (O.meaning self.now.run.now.opener.now) }
+                    × TakesAll L.takes L.ends (O.meaning self.now.run.now.opener.now) }
                 ensures { LeavesRun C.holds C.gave_up C.stays self.entry.now.run.now.choice (O.meaning self.entry.now.run.now.opener.now) self.entry.now.tickets.now (vec_len seats) consumer result.0 result.1 }
             {
                 let mut consumer = consumer;
-                let ran = self.run_in::<_, L, _>(scope, seats, fan, &mut consumer);
+                let ran = self.run_in::<L, _>(scope, seats, fan, &mut consumer);
                 (consumer, ran)
             },
         )
     }
 
     /// Starts a lane for each seat and gathers what they give.
-    fn run_in<E, L: LaneKind + 's, C: Consumer<L::Entry, L::End>>(
+    fn run_in<'e, L: LaneKind + 's, C: Consumer<L::Entry, L::End>>(
         &'s self,
-        scope: &'s Scope<'s, E>,
+        scope: &'s Scope<'s, &'e ()>,
         seats: Vec<Seat>,
         fan: Fan<L::Entry, L::End>,
         consumer: &mut C,
     ) -> Result<Vec<Seat>, RunFault<C::Refusal>>
         requires { StartsRun C.holds self.now.tickets.now seats fan.givers fan.idle fan.gatherer consumer.old
-            × TakesFiles L.takes L.ends (O.meaning self.now.run.now.opener.now) }
+            × TakesAll L.takes L.ends (O.meaning self.now.run.now.opener.now) }
         ensures { LeavesRun C.holds C.gave_up C.stays self.now.run.now.choice (O.meaning self.now.run.now.opener.now) self.now.tickets.now (vec_len seats) consumer.old consumer.new result }
     {
         let Fan {
@@ -110,16 +110,16 @@ impl<'s, R: Threads + Wait + Sync, O: Opener, G: Gate> Shared<'s, R, O, G> {
             idle,
             gatherer,
         } = fan;
-        match self.start_lanes::<_, L>(scope, seats, givers) {
+        match self.start_lanes::<L>(scope, seats, givers) {
             Ok(running) => self.finish_lanes(gatherer, running, idle, consumer),
             Err(fault) => Err(RunFault::from(fault)),
         }
     }
 
     /// Starts a lane for each seat, with the givers in order.
-    fn start_lanes<E, L: LaneKind + 's>(
+    fn start_lanes<'e, L: LaneKind + 's>(
         &'s self,
-        scope: &'s Scope<'s, E>,
+        scope: &'s Scope<'s, &'e ()>,
         mut seats: Vec<Seat>,
         givers: Vec<LaneGiver<Message<L::Entry, L::End>>>,
     ) -> Result<Vec<Running<L::Entry, L::End, O>>, LaneFault>
@@ -127,7 +127,7 @@ impl<'s, R: Threads + Wait + Sync, O: Opener, G: Gate> Shared<'s, R, O, G> {
         requires seats { All (IsSeatOf self.now.tickets.now) seats.items }
         requires unused { All IsUnused seats.items }
         requires none_given { All (λ giver. given_at giver ≡ []) givers.items }
-        requires takes { TakesFiles L.takes L.ends (O.meaning self.now.run.now.opener.now) }
+        requires takes { TakesAll L.takes L.ends (O.meaning self.now.run.now.opener.now) }
         ensures count { IfOk result (λ running. vec_len running ≡ vec_len seats) }
         ensures givers { IfOk result (λ running. map (λ r. r.promise.giver.value) running.items ≡ givers.items) }
         ensures choice { IfOk result (λ running. All (λ r. r.promise.choice ≡ self.now.run.now.choice) running.items) }
@@ -141,7 +141,7 @@ impl<'s, R: Threads + Wait + Sync, O: Opener, G: Gate> Shared<'s, R, O, G> {
             let Some(seat) = seats.pop() else {
                 unreachable!()
             };
-            match self.start_lane::<_, L>(scope, Lane { seat, giver }) {
+            match self.start_lane::<L>(scope, Lane { seat, giver }) {
                 Ok(started) => running.push_reserved(started),
                 Err(fault) => return Err(fault),
             }
@@ -150,13 +150,13 @@ impl<'s, R: Threads + Wait + Sync, O: Opener, G: Gate> Shared<'s, R, O, G> {
     }
 
     /// Starts a lane in a thread of its own.
-    fn start_lane<E, L: LaneKind + 's>(
+    fn start_lane<'e, L: LaneKind + 's>(
         &'s self,
-        scope: &'s Scope<'s, E>,
+        scope: &'s Scope<'s, &'e ()>,
         lane: Lane<L::Entry, L::End>,
     ) -> Result<Running<L::Entry, L::End, O>, LaneFault>
         requires ready { StartsLane self.now.tickets.now lane.seat lane.giver }
-        requires takes { TakesFiles L.takes L.ends (O.meaning self.now.run.now.opener.now) }
+        requires takes { TakesAll L.takes L.ends (O.meaning self.now.run.now.opener.now) }
         ensures choice { IfOk result (λ r. r.promise.choice ≡ self.now.run.now.choice) }
         ensures opener { IfOk result (λ r. r.promise.opener.value ≡ self.now.run.now.opener.now) }
         ensures tickets { IfOk result (λ r. r.promise.tickets.value ≡ self.now.tickets.now) }
@@ -172,8 +172,8 @@ impl<'s, R: Threads + Wait + Sync, O: Opener, G: Gate> Shared<'s, R, O, G> {
             promise,
             move || -> LaneEnd<L::Entry, L::End>
                 requires { StartsLane self.now.tickets.now lane.seat lane.giver
-                    × TakesFiles L.takes L.ends (O.meaning self.now.run.now.opener.now) }
-            { self.run_lane::<L>(lane) },
+                    × TakesAll L.takes L.ends (O.meaning self.now.run.now.opener.now) }
+            { self.run_lane::<L>(scope, lane) },
         ) {
             Ok(handle) => Ok(handle),
             Err(_) => Err(LaneFault::Thread),

@@ -20,27 +20,27 @@ use ruled_lanes::{Gatherer, LaneGiver, Seat};
 use std::sync::Wait;
 use std::thread::Threads;
 
-impl<R: Threads + Wait + Sync, O: Opener, G: Gate> Shared<'_, R, O, G> {
-    /// Joins the thread of a lane. Its seat and its end of the fan are given back, where it gave its stop and lost nothing.
-    fn join_lane<E: Numbered, M: Drop + Send>(
-        &self,
-        handle: Running<E, M, O>,
-    ) -> Result<Lane<E, M>, LaneFault>
-        ensures to_same { IfOk result (λ lane. GivesToSameLane handle.promise.giver.value lane.giver) }
-        ensures tells { IfOk result (λ lane. TellsSeat E.about handle.promise.choice (O.meaning handle.promise.opener.value) handle.promise.tickets.value
-            lane.seat (given_at lane.giver)) }
-    {
-        let LaneEnd { giver, stop, seat } = handle.join(self.run.rt);
-        match stop {
-            Ok(()) => {}
-            Err(_) => return Err(LaneFault::LaneLost),
-        }
-        match seat {
-            Ok(seat) => Ok(Lane { seat, giver }),
-            Err(fault) => Err(fault),
-        }
+/// Joins the thread of a lane. Its seat and its end of the fan are given back, where it gave its stop and lost nothing.
+fn join_lane<E: Numbered, M: Drop + Send, R: Threads, O: Opener>(
+    rt: &R,
+    handle: Running<E, M, O>,
+) -> Result<Lane<E, M>, LaneFault>
+    ensures to_same { IfOk result (λ lane. GivesToSameLane handle.promise.giver.value lane.giver) }
+    ensures tells { IfOk result (λ lane. TellsSeat E.about handle.promise.choice (O.meaning handle.promise.opener.value) handle.promise.tickets.value
+        lane.seat (given_at lane.giver)) }
+{
+    let LaneEnd { giver, stop, seat } = handle.join(rt);
+    match stop {
+        Ok(()) => {}
+        Err(_) => return Err(LaneFault::LaneLost),
     }
+    match seat {
+        Ok(seat) => Ok(Lane { seat, giver }),
+        Err(fault) => Err(fault),
+    }
+}
 
+impl<R: Threads + Wait + Sync, O: Opener, G: Gate> Shared<'_, R, O, G> {
     /// Joins the threads of the lanes and settles the fan with the givers of all lanes, also of those that do
     /// not run. So what was taken of each lane is all that it told, and a file that one seat drew was told
     /// whole. The seats are given back.
@@ -68,7 +68,7 @@ impl<R: Threads + Wait + Sync, O: Opener, G: Gate> Shared<'_, R, O, G> {
             return Err(LaneFault::Memory);
         };
         for handle in running {
-            match self.join_lane(handle) {
+            match join_lane(self.run.rt, handle) {
                 Ok(lane) => {
                     let Lane { seat, giver } = lane;
                     seats.push_reserved(seat);

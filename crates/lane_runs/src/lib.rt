@@ -4,12 +4,12 @@
 
 mod all_lanes;
 mod fault;
-mod first_stages;
 mod joining;
 mod lane;
 mod lane_kind;
 mod links;
 mod new_fan;
+mod read_kind;
 mod read_stage;
 mod record_giver;
 mod run;

@@ -3,15 +3,17 @@ ghost use Rattle.std.specs.Prelude.{◌≡◌, [], IfOk, IfSome, vec_len};
 ghost use Rattle.ruled_lanes.specs.LinkEnds.{given, taken};
 ghost use Rattle.lanes.specs.Stages.{PassedAll};
 ghost use Rattle.lane_runs.specs.Lanes.{ReadsSeat, StartsToRead};
-ghost use Rattle.lane_runs.specs.Taking.{TakesFiles};
+ghost use Rattle.lane_runs.specs.Taking.{TakesAll};
 
 use crate::fault::LaneFault;
-use crate::lane_kind::LaneKind;
+use crate::read_kind::ReadKind;
 use crate::read_stage::Reading;
 use crate::shared::Shared;
+use crate::stages::MiddleStage;
 use choices::Choice;
 use lanes::{Gate, Message, Numbered, Opener, StageWork, Staged, run_stage};
 use ruled_lanes::{Giver, Seat, Taker, Tickets};
+use std::alloc::Global;
 use std::snapshot::Snapshot;
 use std::sync::Wait;
 use std::thread::{Promise, PromisedHandle, Scope, Threads};
@@ -58,13 +60,13 @@ pub type Started<A, M> = PromisedHandle<
 
 impl<'s, R: Threads + Wait + Sync, O: Opener, G: Gate> Shared<'s, R, O, G> {
     /// Starts the first stage of a lane in a thread of its own.
-    pub fn start_read<E, L: LaneKind + 's>(
+    pub fn start_read<'e, K: ReadKind + 's>(
         &'s self,
-        scope: &'s Scope<'s, E>,
-        reading: Reading<L::Framed, L::End>,
-    ) -> Result<StartedRead<L::Framed, L::End, O>, LaneFault>
+        scope: &'s Scope<'s, &'e ()>,
+        reading: Reading<K::Framed, K::End>,
+    ) -> Result<StartedRead<K::Framed, K::End, O>, LaneFault>
         requires { StartsToRead self.now.tickets.now reading.seat (vec_len reading.buffer) reading.giver
-            × TakesFiles L.takes L.ends (O.meaning self.now.run.now.opener.now) }
+            × TakesAll K.takes K.ends (O.meaning self.now.run.now.opener.now) }
         ensures choice { IfOk result (λ started. started.promise.choice ≡ self.now.run.now.choice) }
         ensures opener { IfOk result (λ started. started.promise.opener.value ≡ self.now.run.now.opener.now) }
         ensures tickets { IfOk result (λ started. started.promise.tickets.value ≡ self.now.tickets.now) }
@@ -78,42 +80,48 @@ impl<'s, R: Threads + Wait + Sync, O: Opener, G: Gate> Shared<'s, R, O, G> {
         };
         match scope.spawn_with(
             promise,
-            move || -> Option<(Giver<Message<L::Framed, L::End>>, Seat)>
+            move || -> Option<(Giver<Message<K::Framed, K::End>>, Seat)>
                 requires { StartsToRead self.now.tickets.now reading.seat (vec_len reading.buffer) reading.giver
-                    × TakesFiles L.takes L.ends (O.meaning self.now.run.now.opener.now) }
-            { self.read_stage::<L>(reading) },
+                    × TakesAll K.takes K.ends (O.meaning self.now.run.now.opener.now) }
+            { self.read_stage::<K>(reading) },
         ) {
             Ok(started) => Ok(started),
             Err(_) => Err(LaneFault::Thread),
         }
     }
+}
 
-    /// Starts a stage in a thread of its own.
-    pub fn start_stage<E, A: Staged + 's, M: Drop + Send + 's>(
-        &'s self,
-        scope: &'s Scope<'s, E>,
-        work: StageWork<A>,
-        taker: Taker<Message<A, M>>,
-        giver: Giver<Message<A::Next, M>>,
-    ) -> Result<Started<A, M>, LaneFault>
-        requires none_taken { taken taker ≡ [] }
-        requires none_given { given giver ≡ [] }
-        ensures taker { IfOk result (λ started. started.promise.taker.value ≡ taker) }
-        ensures giver { IfOk result (λ started. started.promise.giver.value ≡ giver) }
-    {
-        let promise = StagePromise {
-            taker: Snapshot::of(&taker),
-            giver: Snapshot::of(&giver),
-        };
-        let run = self.run;
-        match scope.spawn_with(
-            promise,
-            move || -> Option<(Taker<Message<A, M>>, Giver<Message<A::Next, M>>)>
-                requires { (taken taker ≡ []) × (given giver ≡ []) }
-            { run_stage(run.rt, run.alloc, run.gate, work, taker, giver) },
-        ) {
-            Ok(started) => Ok(started),
-            Err(_) => Err(LaneFault::Thread),
-        }
+/// Starts a stage of this lane in a thread of its own.
+pub fn start_stage<'s, 'e, R: Wait + Sync, G: Gate, A: Staged + 's, M: Drop + Send + 's>(
+    scope: &'s Scope<'s, &'e ()>,
+    rt: &'s R,
+    alloc: Global,
+    gate: &'s G,
+    lane: u32,
+    stage: MiddleStage<A, M>,
+) -> Result<Started<A, M>, LaneFault>
+    requires none_taken { taken stage.taker ≡ [] }
+    requires none_given { given stage.giver ≡ [] }
+    ensures taker { IfOk result (λ started. started.promise.taker.value ≡ stage.taker) }
+    ensures giver { IfOk result (λ started. started.promise.giver.value ≡ stage.giver) }
+{
+    let MiddleStage {
+        scratch,
+        taker,
+        giver,
+    } = stage;
+    let promise = StagePromise {
+        taker: Snapshot::of(&taker),
+        giver: Snapshot::of(&giver),
+    };
+    let work = StageWork { lane, scratch };
+    match scope.spawn_with(
+        promise,
+        move || -> Option<(Taker<Message<A, M>>, Giver<Message<A::Next, M>>)>
+            requires { (taken taker ≡ []) × (given giver ≡ []) }
+        { run_stage(rt, alloc, gate, work, taker, giver) },
+    ) {
+        Ok(started) => Ok(started),
+        Err(_) => Err(LaneFault::Thread),
     }
 }

@@ -1,11 +1,14 @@
 use Rattle.lanes.specs.declared.message.Message.TheVariants.{End}
+use Rattle.lane_runs.specs.Taking.{TakesAll}
 use Rattle.lanes.proofs.Passing.{notes-after}
 use Rattle.lane_runs.proofs.shared.Shared.read_drawn.Goals as goal
 
 pub read_file-requires-clause-accepted : goal.read_file-requires-clause-accepted
+unfolding TakesAll
 read_file-requires-clause-accepted g c κs within = λ place bytes placed. c.requires.takes.records c.args.file place bytes placed
 
 pub end-known-requires : goal.end-known-requires
+unfolding TakesAll
 end-known-requires g c =
     let keeps = c.in-Ok.ensures.kept in
     c.requires.takes.marks c.args.file _ _ (record { records = keeps.records; counted = keeps.counted; found = keeps.found })
@@ -16,5 +19,5 @@ returns-clause-told g c = record {
   mark = c.in-Ok.end.mark;
   kept = _;
   keeps = c.in-Ok.ensures.kept;
-  ended = notes-after g.L.Framed.Numbered.about _ _ (End c.args.file c.in-Ok.end.mark c.end-known.result) c.in-Ok-give.ensures.ok;
+  ended = notes-after g.K.Framed.Numbered.about _ _ (End c.args.file c.in-Ok.end.mark c.end-known.result) c.in-Ok-give.ensures.ok;
 }
