@@ -1,6 +1,6 @@
 //! Sources that fail, files that do not open, and writers that take little: what came before stays.
 
-use crate::reported::{Files, Narrow, QUICK, REPORT, THREE, same, written};
+use crate::reported::{EDGES, Files, Narrow, QUICK, REPORT, THREE, same, written};
 use collector::{
     Batch, BatchFault, Choice, IoSink, OpenFault, OpenGate, WriteFault, run_batch, run_plain,
     write_report,
@@ -37,8 +37,6 @@ fn check<R: AllocGlobal + Threads + Wait + Sync + Abort>(
     let (_, text) = written(rt, opener, files, 2, QUICK, &OpenGate, room);
     same(rt, text.text(), report);
 }
-
-const EDGES: &[u8] = b">>planar_code<<\x02\x02\x00\x01\x00\x02\x02\x00\x01\x00";
 
 /// The reports of these two edges after a read that failed: none came before it, or one, or both.
 const OF_EDGES: [&[u8]; 3] = [

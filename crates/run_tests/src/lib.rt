@@ -1,4 +1,5 @@
-//! Tests of runs whose stages are held up, and of runs and reports whose sources, openers and writers fail.
+//! Tests of runs and of their parts: files that are opened and kept, records that are answered, ends that are lost, stages
+//! that are held up, and runs and reports whose sources, openers and writers fail.
 #![tactic(auto)]
 
 #[cfg(test)]
@@ -6,7 +7,15 @@ mod as_made;
 #[cfg(test)]
 mod broken;
 #[cfg(test)]
+mod files;
+#[cfg(test)]
 mod held;
+#[cfg(test)]
+mod kinds;
+#[cfg(test)]
+mod lost;
+#[cfg(test)]
+mod records;
 #[cfg(test)]
 mod reported;
 #[cfg(test)]

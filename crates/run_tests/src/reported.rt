@@ -7,6 +7,7 @@ use collector::{
     Choice, DrawingKind, Form, Gate, IoSink, OpenFault, Opener, Style, Tap, TapFault, TextFault,
     write_batch,
 };
+use planar_code::Record;
 use std::alloc::Global;
 use std::fmt::Debug;
 use std::io;
@@ -34,13 +35,14 @@ impl Tap for Failing {
     ghost fails = { λ _. false };
 
     fn read(&mut self, buf: &mut [u8]) -> Result<usize, TapFault> {
-        if self.at >= self.reads {
+        let at = self.at;
+        if at >= self.reads {
             return Err(TapFault);
         }
-        match (buf.first_mut(), self.bytes.get(self.at)) {
+        self.at = at.saturating_add(1);
+        match (buf.first_mut(), self.bytes.get(at)) {
             (Some(place), Some(byte)) => {
                 *place = *byte;
-                self.at += 1;
                 Ok(1)
             }
             _ => Ok(0),
@@ -73,6 +75,16 @@ impl Opener for Files {
         }
     }
 }
+
+pub(crate) const TRIANGLE: [u8; 10] = [3, 2, 3, 0, 3, 1, 0, 1, 2, 0];
+
+/// The record of these bytes, if they are one and there is memory.
+pub(crate) fn record_of(alloc: Global, bytes: &[u8]) -> Option<Record> {
+    Record::parse(alloc, bytes).ok()
+}
+
+/// A file of two edges.
+pub(crate) const EDGES: &[u8] = b">>planar_code<<\x02\x02\x00\x01\x00\x02\x02\x00\x01\x00";
 
 /// Two triangles; an edge and a record that is cut; no record.
 pub(crate) const THREE: Files = Files {

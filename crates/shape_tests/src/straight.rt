@@ -4,7 +4,7 @@ ghost use Rattle.ortho_rep.specs.Representation.{HasDarts, IsShape, IsLeast};
 ghost use Rattle.ortho_rep.specs.Prices.{IsProof};
 
 use crate::compared::same;
-use crate::tests::{Case, EDGE, PATH, TRIANGLE, answers, plane_of, prices_in, shape_in};
+use crate::tests::{Case, EDGE, L, PATH, R, TRIANGLE, answers, plane_of, prices_in, shape_in};
 use faces::Plane;
 use ortho_rep::{Prices, Shape, certify, is_shape, least_shape};
 use std::alloc::{AllocError, Global};
@@ -91,7 +91,20 @@ fn fewest_turning(rt: HostRuntime) {
 const BENT: Case<'static> = Case {
     record: &[5, 4, 5, 0, 5, 4, 0, 4, 5, 0, 2, 3, 1, 0, 1, 3, 2, 0],
     angles: &[2, 1, 2, 1, 1, 1, 3, 1, 1, 3, 3, 1],
-    texts: &["", "LL", "", "", "", "", "", "", "", "RR", "", ""],
+    strings: &[
+        &[],
+        &[L, L],
+        &[],
+        &[],
+        &[],
+        &[],
+        &[],
+        &[],
+        &[],
+        &[R, R],
+        &[],
+        &[],
+    ],
     vertices: &[1, 1, 0, 1, 1],
     faces: &[1, 0, 0],
 };
@@ -133,7 +146,7 @@ const HEXAGON: [u8; 19] = [6, 2, 6, 0, 3, 1, 0, 4, 2, 0, 5, 3, 0, 6, 4, 0, 1, 5,
 const RECTANGLE: Case<'static> = Case {
     record: &HEXAGON,
     angles: &[3, 2, 2, 1, 3, 1, 3, 2, 2, 1, 3, 1],
-    texts: &["", "", "", "", "", "", "", "", "", "", "", ""],
+    strings: &[&[], &[], &[], &[], &[], &[], &[], &[], &[], &[], &[], &[]],
     vertices: &[0, 0, 0, 0, 0, 0],
     faces: &[0, 0],
 };

@@ -11,12 +11,16 @@ use planar_code::{Framer, HEADER, Record};
 use std::alloc::{AllocError, Global};
 use std::process::Abort;
 
+pub(crate) const L: Turn = Turn::Left;
+
+pub(crate) const R: Turn = Turn::Right;
+
 /// A record, the angles and strings of a shape, and prices.
 #[derive(Clone, Copy)]
 pub(crate) struct Case<'a> {
     pub(crate) record: &'a [u8],
     pub(crate) angles: &'a [u8],
-    pub(crate) texts: &'a [&'a str],
+    pub(crate) strings: &'a [&'a [Turn]],
     pub(crate) vertices: &'a [i32],
     pub(crate) faces: &'a [i32],
 }
@@ -48,26 +52,13 @@ pub(crate) fn plane_of(rt: &impl Abort, alloc: Global, bytes: &[u8]) -> Plane {
     plane_in(alloc, bytes).expect(rt, "a plane")
 }
 
-/// A string of turns, from a text of `L` and `R`.
-fn string_of(alloc: Global, text: &str) -> Result<Vec<Turn>, AllocError> {
-    let mut turns = Vec::new(alloc);
-    for letter in text.bytes() {
-        turns.push(if letter == b'L' {
-            Turn::Left
-        } else {
-            Turn::Right
-        })?;
+/// These strings, each in memory of its own.
+fn strings_of(alloc: Global, strings: &[&[Turn]]) -> Result<Vec<Vec<Turn>>, AllocError> {
+    let mut lists = Vec::new(alloc);
+    for turns in strings {
+        lists.push(turns.to_vec(alloc)?)?;
     }
-    Ok(turns)
-}
-
-/// The strings of these texts.
-fn strings_of(alloc: Global, texts: &[&str]) -> Result<Vec<Vec<Turn>>, AllocError> {
-    let mut strings = Vec::new(alloc);
-    for text in texts {
-        strings.push(string_of(alloc, text)?)?;
-    }
-    Ok(strings)
+    Ok(lists)
 }
 
 /// The shape of these angles and strings, which are short.
@@ -78,7 +69,7 @@ fn shape_of(rt: &impl Abort, angles: Vec<u8>, strings: Vec<Vec<Turn>>) -> Shape 
 
 /// The shape of a case, where memory suffices.
 pub(crate) fn shape_in(rt: &impl Abort, alloc: Global, case: &Case<'_>) -> Shape {
-    let strings = strings_of(alloc, case.texts).expect(rt, "memory");
+    let strings = strings_of(alloc, case.strings).expect(rt, "memory");
     let angles = case.angles.to_vec(alloc).expect(rt, "memory");
     shape_of(rt, angles, strings)
 }
@@ -113,10 +104,10 @@ fn expect(rt: &impl Abort, alloc: Global, rows: &[Row]) {
 }
 
 // The edge from 1 to 3 bends once.
-const ONE_BEND: Case<'static> = Case {
+pub(crate) const ONE_BEND: Case<'static> = Case {
     record: &TRIANGLE,
     angles: &[3, 1, 3, 1, 3, 1],
-    texts: &["", "L", "", "", "R", ""],
+    strings: &[&[], &[L], &[], &[], &[R], &[]],
     vertices: &[1, 1, 1],
     faces: &[1, 0],
 };
@@ -125,7 +116,7 @@ const ONE_BEND: Case<'static> = Case {
 const THREE_BENDS: Case<'static> = Case {
     record: &TRIANGLE,
     angles: &[2, 2, 2, 1, 3, 2],
-    texts: &["R", "L", "R", "L", "R", "L"],
+    strings: &[&[R], &[L], &[R], &[L], &[R], &[L]],
     vertices: &[1, 1, 1],
     faces: &[1, 0],
 };
@@ -134,7 +125,7 @@ const THREE_BENDS: Case<'static> = Case {
 const ROLLED: Case<'static> = Case {
     record: &PATH,
     angles: &[1, 4, 1, 3, 1, 3, 4, 3],
-    texts: &["", "", "", "", "", "", "", ""],
+    strings: &[&[], &[], &[], &[], &[], &[], &[], &[]],
     vertices: &[0, 0, 0, 0, 0],
     faces: &[0],
 };
@@ -143,7 +134,7 @@ const ROLLED: Case<'static> = Case {
 const STAIR: Case<'static> = Case {
     record: &EDGE,
     angles: &[4, 4],
-    texts: &["LLRL", "RLRR"],
+    strings: &[&[L, L, R, L], &[R, L, R, R]],
     vertices: &[0, 0],
     faces: &[0],
 };
@@ -164,32 +155,32 @@ const WIDE_ANGLE: Case<'static> = Case {
 };
 
 const LACKS_A_STRING: Case<'static> = Case {
-    texts: &["", "L", "", "", "R"],
+    strings: &[&[], &[L], &[], &[], &[R]],
     ..ONE_BEND
 };
 
 const STRAIGHT: Case<'static> = Case {
-    texts: &["", ""],
+    strings: &[&[], &[]],
     ..STAIR
 };
 
 const NOT_BACKWARDS: Case<'static> = Case {
-    texts: &["LLRL", "RRLR"],
+    strings: &[&[L, L, R, L], &[R, R, L, R]],
     ..STAIR
 };
 
 const ONE_SIDE_ONLY: Case<'static> = Case {
-    texts: &["LLR", ""],
+    strings: &[&[L, L, R], &[]],
     ..STAIR
 };
 
 const NARROW_ANGLE: Case<'static> = Case {
     angles: &[3, 4],
-    texts: &["", ""],
+    strings: &[&[], &[]],
     ..STAIR
 };
 
-const ROWS: [Row; 12] = [
+const ROWS: &[Row] = &[
     (ONE_BEND, (true, true), 1),
     (LOW_VERTEX, (true, false), 1),
     (LACKS_A_PRICE, (true, false), 1),
@@ -206,7 +197,7 @@ const ROWS: [Row; 12] = [
 
 #[test]
 fn triangles_paths_and_edges(rt: HostRuntime) {
-    expect(&rt, rt.alloc(), &ROWS);
+    expect(&rt, rt.alloc(), ROWS);
 }
 
 /// The strings of a single edge that turns to the left so many times.
@@ -349,8 +340,8 @@ fn plainly_certifies(plane: &Plane, shape: &Shape, prices: &Prices) -> bool {
 fn spoil_angle(random: &mut Random, angles: &mut [u8]) {
     let place = random.below(24) as usize;
     let angle = random.below(6) as u8;
-    if place < angles.len() {
-        angles[place] = angle;
+    if let Some(old) = angles.get_mut(place) {
+        *old = angle;
     }
 }
 
@@ -403,9 +394,9 @@ fn random_angles(alloc: Global, random: &mut Random, angles: &[u8]) -> Result<Ve
 fn random_strings(
     alloc: Global,
     random: &mut Random,
-    texts: &[&str],
+    strings: &[&[Turn]],
 ) -> Result<Vec<Vec<Turn>>, AllocError> {
-    let mut strings = strings_of(alloc, texts)?;
+    let mut strings = strings_of(alloc, strings)?;
     spoil_string(random, &mut strings)?;
     spoil_length(random, &mut strings);
     Ok(strings)
@@ -414,7 +405,7 @@ fn random_strings(
 /// A shape like that of a case.
 fn random_shape(rt: &impl Abort, alloc: Global, random: &mut Random, case: &Case<'_>) -> Shape {
     let angles = random_angles(alloc, random, case.angles).expect(rt, "memory");
-    let strings = random_strings(alloc, random, case.texts).expect(rt, "memory");
+    let strings = random_strings(alloc, random, case.strings).expect(rt, "memory");
     shape_of(rt, angles, strings)
 }
 

@@ -4,7 +4,7 @@ ghost use Rattle.ruled_lanes.specs.declared.limits.TheConstants.{LANES};
 ghost use Rattle.ruled_lanes.specs.LinkEnds.{taken};
 ghost use Rattle.ruled_lanes.specs.FanEnds.{given_at, gathered};
 
-use crate::known::same;
+use crate::reported::same;
 use answers::{Embedded, Entry, Framed, Shaped};
 use lanes::{
     Drafts, GatherFault, Message, OpenGate, StageWork, Staged, gather, run_last_stage, run_stage,

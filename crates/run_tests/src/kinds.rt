@@ -1,7 +1,7 @@
 //! The two kinds of drawings, stage by stage, of trees, whose drawings have no bends.
 
-use crate::known::{record_in, same};
 use crate::records::staged;
+use crate::reported::{record_of, same};
 use answers::{Answer, DrawingKind};
 use choices::Choice;
 use faces::Plane;
@@ -53,7 +53,7 @@ fn figures_of(
     bytes: &[u8],
     drawing: DrawingKind,
 ) -> Option<(u32, u32)> {
-    let rec = record_in(alloc, bytes).expect(rt, "a record");
+    let rec = record_of(alloc, bytes).expect(rt, "a record");
     let entry = staged(alloc, rec, Choice::First, drawing);
     figures(&entry.answer)
 }
@@ -104,7 +104,7 @@ fn is_path_of_four(rt: &impl Abort, answer: &Answer) -> bool {
 
 /// The same of the answer to that path. Where memory is wanting for its record, nothing is answered, and it says yes.
 fn answers_path_of_four(rt: &impl Abort, alloc: Global) -> bool {
-    match record_in(alloc, &[4, 2, 0, 1, 3, 0, 2, 4, 0, 3, 0]) {
+    match record_of(alloc, &[4, 2, 0, 1, 3, 0, 2, 4, 0, 3, 0]) {
         Some(rec) => {
             let entry = staged(alloc, rec, Choice::First, DrawingKind::Short);
             is_path_of_four(rt, &entry.answer)

@@ -3,7 +3,7 @@ ghost use Rattle.std.specs.Prelude.{map, false, None, ⊤};
 ghost use Rattle.lanes.specs.Opening.{Silent};
 ghost use Rattle.lanes.specs.Notes.{Item};
 
-use crate::known::same;
+use crate::reported::{EDGES, same};
 use choices::Choice;
 use lanes::{Keep, MemOpener, OpenFault, Opener, read_file};
 use planar_code::{Ending, Record};
@@ -11,8 +11,6 @@ use std::alloc::{AllocError, Global};
 use std::process::Abort;
 use std::sync::atomic::{AtomicU32, Ordering};
 use streams::{Mark, SourceEnd, Tap, TapFault, piece_buffer};
-
-const EDGES: &[u8] = b">>planar_code<<\x02\x02\x00\x01\x00\x02\x02\x00\x01\x00";
 
 const CUT: &[u8] = b">>planar_code<<\x02\x02\x00\x01\x00\x02\x02\x00\x01";
 

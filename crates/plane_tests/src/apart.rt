@@ -3,7 +3,7 @@
 ghost use Rattle.std.specs.Prelude.{◌↔◌, IsTrue, All};
 ghost use Rattle.rectangles.specs.Rectangles.{IsFilled};
 
-use crate::drawings::same;
+use crate::known::same;
 use rectangles::{Rectangle, all_apart};
 use std::alloc::{AllocError, Global};
 use std::process::Abort;

@@ -1,6 +1,6 @@
 //! Known graphs and refused records, answered as a whole and stage by stage.
 
-use crate::known::{TRIANGLE, record_in, same};
+use crate::reported::{TRIANGLE, record_of, same};
 use answers::{Answer, Cause, DrawingKind, Entry, Framed, answer};
 use choices::Choice;
 use embedding::Rule;
@@ -81,32 +81,19 @@ fn expect(rt: &impl Abort, answer: &Answer, said: Said) {
     }
 }
 
-/// The answer to a record under a choice says so, as a whole.
-fn check_whole(rt: &impl Abort, alloc: Global, bytes: &[u8], choice: Choice, said: Said) {
-    let rec = record_in(alloc, bytes).expect(rt, "a record");
-    let entry = answer(alloc, 63, 999_999, rec, choice);
-    expect(rt, &entry.answer, said);
-}
-
-/// The same stage by stage, with this drawing.
-fn check_staged(
-    rt: &impl Abort,
-    alloc: Global,
-    bytes: &[u8],
-    choice: Choice,
-    drawing: DrawingKind,
-    said: Said,
-) {
-    let rec = record_in(alloc, bytes).expect(rt, "a record");
-    let entry = staged(alloc, rec, choice, drawing);
-    expect(rt, &entry.answer, said);
-}
-
-/// Both, with either drawing.
+/// The answer to a record under a choice says so, as a whole, and stage by stage with either drawing.
 fn check(rt: &impl Abort, alloc: Global, bytes: &[u8], choice: Choice, said: Said) {
-    check_whole(rt, alloc, bytes, choice, said);
-    check_staged(rt, alloc, bytes, choice, DrawingKind::Quick, said);
-    check_staged(rt, alloc, bytes, choice, DrawingKind::Short, said);
+    let rec = record_of(alloc, bytes).expect(rt, "a record");
+    expect_entry(rt, answer(alloc, 63, 999_999, rec, choice), said);
+    for drawing in [DrawingKind::Quick, DrawingKind::Short] {
+        let rec = record_of(alloc, bytes).expect(rt, "a record");
+        expect_entry(rt, staged(alloc, rec, choice, drawing), said);
+    }
+}
+
+/// The answer of an entry says so.
+fn expect_entry(rt: &impl Abort, entry: Entry, said: Said) {
+    expect(rt, &entry.answer, said);
 }
 
 /// What a stage makes of a record.
@@ -136,14 +123,14 @@ fn answers_known_records(rt: HostRuntime) {
 }
 
 /// A cube with a ninth vertex that is joined to all corners of one face.
-pub(crate) const CAPPED_CUBE: [u8; 42] = [
+const CAPPED_CUBE: [u8; 42] = [
     9, 5, 4, 2, 0, 3, 6, 1, 0, 4, 7, 2, 0, 1, 8, 3, 0, 1, 6, 9, 8, 0, 2, 7, 9, 5, 0, 3, 8, 9, 6, 0,
     4, 5, 9, 7, 0, 5, 6, 7, 8, 0,
 ];
 
 /// The same with a vertex on the edge from 1 to 5, so that the face with fewest bends is not among those
 /// with most darts.
-pub(crate) const LONGER_CUBE: [u8; 45] = [
+const LONGER_CUBE: [u8; 45] = [
     10, 10, 4, 2, 0, 3, 6, 1, 0, 4, 7, 2, 0, 1, 8, 3, 0, 10, 6, 9, 8, 0, 2, 7, 9, 5, 0, 3, 8, 9, 6,
     0, 4, 5, 9, 7, 0, 5, 6, 7, 8, 0, 1, 5, 0,
 ];
@@ -187,7 +174,7 @@ fn is_of_a_triangle(rt: &impl Abort, answer: &Answer) -> bool {
 
 /// The same of the entry of a triangle. Where memory is wanting for its record, nothing is answered, and it says yes.
 fn answers_a_triangle(rt: &impl Abort, alloc: Global) -> bool {
-    match record_in(alloc, &TRIANGLE) {
+    match record_of(alloc, &TRIANGLE) {
         Some(rec) => {
             let entry = answer(alloc, 1, 2, rec, Choice::Best);
             same(rt, (entry.file(), entry.ordinal()), (1, 2));

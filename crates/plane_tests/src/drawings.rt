@@ -1,18 +1,12 @@
 //! Drawings by hand, each with the first condition that it breaks, and refused allocations.
 
+use crate::known;
+use crate::known::{plane_in, same};
 use drawing_check::{CheckFault, Drawing, check};
-use embedding::Graph;
 use faces::Plane;
 use ortho_rep::{Point, Points, Shape, Turn, is_shape};
-use planar_code::Record;
 use std::alloc::{AllocError, Global};
-use std::fmt::Debug;
 use std::process::Abort;
-
-/// Sees that two values are the same. (An `assert_eq!` in each place would make the tests' proofs several times as long.)
-pub(crate) fn same<T: PartialEq + Debug + Drop>(rt: &impl Abort, got: T, want: T) {
-    assert_eq!(rt; got, want);
-}
 
 pub(crate) type Place = (u32, u32);
 
@@ -31,28 +25,28 @@ const RIGHT: Turn = Turn::Right;
 const STRAIGHT: [&[Turn]; 8] = [&[]; 8];
 
 const EDGE: Figure = Figure {
-    record: &[2, 2, 0, 1, 0],
+    record: &known::EDGE,
     angles: &[4, 4],
     strings: &[&[], &[]],
 };
 
 /// The edge that turns to the left three times.
 pub(crate) const BENT_EDGE: Figure = Figure {
-    record: &[2, 2, 0, 1, 0],
+    record: &known::EDGE,
     angles: &[4, 4],
     strings: &[&[LEFT, LEFT, LEFT], &[RIGHT, RIGHT, RIGHT]],
 };
 
 /// The triangle with one bend, on the edge from 1 to 3.
 const TRIANGLE: Figure = Figure {
-    record: &[3, 2, 3, 0, 3, 1, 0, 1, 2, 0],
+    record: &known::TRIANGLE,
     angles: &[3, 1, 3, 1, 3, 1],
     strings: &[&[], &[LEFT], &[], &[], &[RIGHT], &[]],
 };
 
 /// The path 1, 2, 3, 4, 5, which turns to the left at each vertex.
 pub(crate) const PATH: Figure = Figure {
-    record: &[5, 2, 0, 1, 3, 0, 2, 4, 0, 3, 5, 0, 4, 0],
+    record: &known::PATH,
     angles: &[1, 4, 1, 3, 1, 3, 4, 3],
     strings: &STRAIGHT,
 };
@@ -64,20 +58,13 @@ const SQUARE: Figure = Figure {
 };
 
 const STAR: Figure = Figure {
-    record: &[5, 2, 3, 4, 5, 0, 1, 0, 1, 0, 1, 0, 1, 0],
+    record: &known::STAR,
     angles: &[4, 4, 4, 4, 1, 1, 1, 1],
     strings: &STRAIGHT,
 };
 
 /// The corners of four edges without bends.
 pub(crate) const FOUR: [&[Place]; 4] = [&[]; 4];
-
-/// The plane of these bytes, or nothing where memory is refused.
-fn plane_in(alloc: Global, bytes: &[u8]) -> Option<Plane> {
-    let record = Record::parse(alloc, bytes).ok()?;
-    let graph = Graph::read(alloc, &record).ok()?;
-    Plane::trace(alloc, graph).ok()
-}
 
 fn strings_in(alloc: Global, strings: &[&[Turn]]) -> Result<Vec<Vec<Turn>>, AllocError> {
     let mut lists = Vec::new(alloc);

@@ -1,13 +1,13 @@
 //! The triangle's line by hand, with a shape, prices and points that were worked out on paper, and the line
 //! of an end. Prices that prove a shape still do when the same is taken from all of them.
 
-use crate::known::{TRIANGLE, record_in, same};
-use answers::Cause;
+use crate::compared::same;
+use crate::tests::{Case, ONE_BEND, plane_of, prices_in, shape_in};
 use drawing_check::{Drawing, check};
-use embedding::Graph;
+use entries::Cause;
 use faces::Plane;
 use json_lines::{LaidGraph, end_line, laid_line};
-use ortho_rep::{Point, Points, Prices, Shape, Turn, certify, is_shape};
+use ortho_rep::{Point, Points, Shape, certify, is_shape};
 use std::alloc::{AllocError, Global};
 use std::process::Abort;
 
@@ -22,35 +22,12 @@ const FROM_THE_CAUSE: &[u8] = b"\",\"f\":2,\"file\":3,\"graph\":7,\"m\":3,\"n\":
     \"points\":null,\
     \"prices\":{\"faces\":[-2,-3],\"vertices\":[-2,-2,-2]},\"status\":\"ok\",\"turns\":[\"\",\"L\",\"\",\"\",\"R\",\"\"]}\n";
 
-/// The triangle has the lists 2 3, 3 1 and 1 2.
-fn triangle(alloc: Global) -> Option<Plane> {
-    let graph = Graph::read(alloc, &record_in(alloc, &TRIANGLE)?).ok()?;
-    Plane::trace(alloc, graph).ok()
-}
-
-/// The turns of the darts: 1 and 4 are the two ways along the edge from 1 to 3, which has the one bend.
-fn strings(alloc: Global) -> Result<Vec<Vec<Turn>>, AllocError> {
-    let mut strings = Vec::new(alloc);
-    for turns in [&[][..], &[Turn::Left], &[], &[], &[Turn::Right], &[]] {
-        strings.push(turns.to_vec(alloc)?)?;
-    }
-    Ok(strings)
-}
-
-fn bent(alloc: Global) -> Option<Shape> {
-    let angles = [3, 1, 3, 1, 3, 1].to_vec(alloc).ok()?;
-    let strings = strings(alloc).ok()?;
-    if Shape::are_short(&strings) {
-        Some(Shape::new(angles, strings))
-    } else {
-        None
-    }
-}
-
-fn prices(alloc: Global) -> Result<Prices, AllocError> {
-    let vertices = [-2, -2, -2].to_vec(alloc)?;
-    Ok(Prices::new(vertices, [-2, -3].to_vec(alloc)?))
-}
+/// The triangle whose edge from 1 to 3 bends, at these prices.
+const PRICED: Case<'static> = Case {
+    vertices: &[-2, -2, -2],
+    faces: &[-2, -3],
+    ..ONE_BEND
+};
 
 fn points(alloc: Global) -> Result<Points, AllocError> {
     let vertices = [
@@ -83,7 +60,7 @@ fn triangle_line(
     shape: &Shape,
     drawing: &Result<Drawing, Cause>,
 ) -> Option<Vec<u8>> {
-    let prices = prices(alloc).ok()?;
+    let prices = prices_in(alloc, &PRICED).ok()?;
     if !is_shape(plane, shape) || !certify(plane, shape, &prices) {
         return None;
     }
@@ -127,8 +104,8 @@ const CAUSES: [(Cause, &str); 5] = [
 
 #[test]
 fn shows_a_triangle(rt: HostRuntime) {
-    let plane = triangle(rt.alloc()).expect(&rt, "a plane");
-    let shape = bent(rt.alloc()).expect(&rt, "a shape");
+    let plane = plane_of(&rt, rt.alloc(), PRICED.record);
+    let shape = shape_in(&rt, rt.alloc(), &PRICED);
     for (cause, word) in CAUSES {
         check_cause(&rt, &plane, &shape, cause, word);
     }

@@ -1,6 +1,7 @@
 //! Ten thousand lines through five places, against a plain reading of the conditions.
 
-use crate::drawings::{BENT_EDGE, FOUR, PATH, Place, faults_at, same};
+use crate::drawings::{BENT_EDGE, FOUR, PATH, Place, faults_at};
+use crate::known::same;
 use drawing_check::CheckFault;
 use std::alloc::Global;
 use std::process::Abort;

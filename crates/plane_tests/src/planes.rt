@@ -1,7 +1,8 @@
 //! Records whose planes were worked out by hand, and refused allocations.
 
 use crate::known::{
-    CUBE, EDGE, OCTAHEDRON, PATH, STAR, TETRAHEDRON, TETRAHEDRON_ON_A_TORUS, TRIANGLE, read, same,
+    CUBE, EDGE, OCTAHEDRON, PATH, STAR, TETRAHEDRON, TETRAHEDRON_ON_A_TORUS, TRIANGLE, plane_in,
+    read, same,
 };
 use embedding::Graph;
 use faces::{Plane, TraceFault};
@@ -21,8 +22,7 @@ fn counts(plane: &Plane) -> (u8, u16, u16, u16, u16) {
 
 /// The same for a record, where there is memory and it is one of a plane.
 fn counts_of(alloc: Global, bytes: &[u8]) -> Option<(u8, u16, u16, u16, u16)> {
-    let graph = read(alloc, bytes).ok()?;
-    let plane = Plane::trace(alloc, graph).ok()?;
+    let plane = plane_in(alloc, bytes)?;
     Some(counts(&plane))
 }
 

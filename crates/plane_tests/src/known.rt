@@ -1,6 +1,7 @@
 //! Records that are known, and what is made of them.
 
 use embedding::{Graph, ReadFault};
+use faces::Plane;
 use planar_code::Record;
 use std::alloc::Global;
 use std::fmt::Debug;
@@ -46,4 +47,10 @@ pub(crate) fn record_of(alloc: Global, bytes: &[u8]) -> Option<Record> {
 pub(crate) fn read(alloc: Global, bytes: &[u8]) -> Result<Graph, ReadFault> {
     let record = record_of(alloc, bytes).ok_or(ReadFault::Memory)?;
     Graph::read(alloc, &record)
+}
+
+/// The plane of a record, where there is memory and it is one of a plane.
+pub(crate) fn plane_in(alloc: Global, bytes: &[u8]) -> Option<Plane> {
+    let graph = read(alloc, bytes).ok()?;
+    Plane::trace(alloc, graph).ok()
 }
