@@ -2,8 +2,8 @@
 //! the format and of the report.
 
 use crate::shared::{
-    Case, EDGE, HEADER, Ran, Row, TRIANGLE, check_failed_write, check_rows, check_said,
-    check_wants, expect_report, holds, make_file, run, same, words_for,
+    Case, EDGE, HEADER, NoConsole, Ran, Row, TRIANGLE, check_failed_write, check_rows, check_said,
+    check_wants, expect_report, holds, make_file, no_input, run, run_into, same, words_for,
 };
 use std::alloc::{AllocError, Global};
 use std::fs;
@@ -21,12 +21,6 @@ const TWICE: &str = "file 1\n\
     graph 1 ok n=2 m=1 f=1 bends=0 drawn=yes\n\
     graph 2 ok n=3 m=3 f=2 bends=1 drawn=yes\n\
     end complete graphs=2\n";
-
-#[test]
-fn reports_each_file(rt: HostRuntime) {
-    make_file(&rt, "two.pc", &[HEADER, EDGE, TRIANGLE]);
-    check_rows(&rt, &[("layout two.pc two.pc", TWICE, 0)]);
-}
 
 /// `layout` under either choice of the outer face, which changes nothing in most reports.
 const BY_CHOICE: [&str; 2] = ["layout --outer first body", "layout --outer best body"];
@@ -151,20 +145,6 @@ const BEST: &str = "file 1\n\
     graph 2 ok n=10 m=17 f=9 bends=8 drawn=yes\n\
     end complete graphs=2\n";
 
-const CUBES: [Row; 4] = [
-    ("layout cubes.pc", FIRST, 0),
-    ("layout --outer first cubes.pc", FIRST, 0),
-    ("layout --outer best cubes.pc", BEST, 0),
-    ("layout cubes.pc --lanes=2 --outer=best", BEST, 0),
-];
-
-/// Graphs that need fewer bends with another outer face than the widest one.
-#[test]
-fn chooses_the_outer_face(rt: HostRuntime) {
-    make_file(&rt, "cubes.pc", &[HEADER, CAPPED_CUBE, LONGER_CUBE]);
-    check_rows(&rt, &CUBES);
-}
-
 /// A record that goes on for more bytes than a list may have, and its beginning.
 #[test]
 fn marks_lists_that_are_too_long(rt: HostRuntime) {
@@ -215,43 +195,6 @@ const MISSING_FIRST: &str = "file 1\n\
     graph 2 ok n=3 m=3 f=2 bends=1 drawn=yes\n\
     end complete graphs=2\n";
 
-const WITHOUT_ONE: [Row; 5] = [
-    ("layout --lanes 1 pair.pc missing.pc", MISSING_LAST, 3),
-    ("layout --lanes 2 pair.pc missing.pc", MISSING_LAST, 3),
-    ("layout --lanes 1 missing.pc pair.pc", MISSING_FIRST, 3),
-    ("layout --lanes 2 missing.pc pair.pc", MISSING_FIRST, 3),
-    (
-        "layout missing.pc header.pc",
-        "file 1\nend io graphs=0\nfile 2\nend complete graphs=0\n",
-        3,
-    ),
-];
-
-/// Of two files, one of which is missing, the other one is laid out, or has its end if it is the header alone.
-#[test]
-fn a_missing_file_leaves_the_other(rt: HostRuntime) {
-    make_file(&rt, "pair.pc", &[HEADER, EDGE, TRIANGLE]);
-    make_file(&rt, "header.pc", &[HEADER]);
-    check_rows(&rt, &WITHOUT_ONE);
-}
-
-/// An empty file, the header without its last byte, and the header: each has the same report under either choice of the
-/// outer face.
-const FRONTS: [(&[u8], &str, u8); 3] = [
-    (b"", "file 1\nend header graphs=0\n", 3),
-    (b">>planar_code<", "file 1\nend header graphs=0\n", 3),
-    (HEADER, "file 1\nend complete graphs=0\n", 0),
-];
-
-#[test]
-fn files_without_records_end_by_their_header(rt: HostRuntime) {
-    for (bytes, report, status) in FRONTS {
-        make_file(&rt, "front.pc", &[bytes]);
-        check_rows(&rt, &[("layout --outer=first front.pc", report, status)]);
-        check_rows(&rt, &[("layout --outer=best front.pc", report, status)]);
-    }
-}
-
 const APART: &str = "file 1\n\
     graph 1 ok n=3 m=3 f=2 bends=1 drawn=yes\n\
     graph 2 ok n=3 m=3 f=2 bends=1 drawn=yes\n\
@@ -262,23 +205,6 @@ const APART: &str = "file 1\n\
     file 3\n\
     end complete graphs=0\n";
 
-const OVER_LANES: [Row; 5] = [
-    ("layout --lanes 1 triangles.pc cut.pc none.pc", APART, 3),
-    ("layout --lanes 2 triangles.pc cut.pc none.pc", APART, 3),
-    ("layout --lanes 3 triangles.pc cut.pc none.pc", APART, 3),
-    ("layout --lanes 4 triangles.pc cut.pc none.pc", APART, 3),
-    ("layout --lanes 8 triangles.pc cut.pc none.pc", APART, 3),
-];
-
-/// Files that differ are reported in the order in which they are named, however many lanes there are.
-#[test]
-fn keeps_files_apart(rt: HostRuntime) {
-    make_file(&rt, "triangles.pc", &[HEADER, TRIANGLE, TRIANGLE]);
-    make_file(&rt, "cut.pc", &[HEADER, EDGE, &[2, 2, 0, 1]]);
-    make_file(&rt, "none.pc", &[HEADER]);
-    check_rows(&rt, &OVER_LANES);
-}
-
 pub const EDGELESS: &str = "{\"file\":1,\"graph\":1,\"rule\":\"edgeless\",\"status\":\"refused\"}\n\
     {\"end\":\"complete\",\"file\":1,\"graphs\":1}\n";
 
@@ -287,20 +213,70 @@ const TORUS: &str = "{\"file\":1,\"graph\":1,\"rule\":\"genus\",\"status\":\"ref
 
 const EMPTY: &str = "{\"end\":\"header\",\"file\":1,\"graphs\":0}\n";
 
-const JSON: [Row; 3] = [
-    ("layout --json json_empty.pc", EMPTY, 3),
-    ("layout --json json_edgeless.pc", EDGELESS, 0),
-    ("layout json_torus.pc --json", TORUS, 0),
+/// What is said of a file that ends in its header, or behind it.
+const NO_HEADER: &str = "file 1\nend header graphs=0\n";
+
+const NO_RECORD: &str = "file 1\nend complete graphs=0\n";
+
+/// The record of a graph that is not plane.
+const ON_A_TORUS: &[u8] = &[4, 3, 4, 2, 0, 1, 4, 3, 0, 2, 4, 1, 0, 1, 2, 3, 0];
+
+/// Files and their parts.
+const FILES: [(&str, &[&[u8]]); 9] = [
+    ("two.pc", &[HEADER, EDGE, TRIANGLE]),
+    ("cubes.pc", &[HEADER, CAPPED_CUBE, LONGER_CUBE]),
+    ("triangles.pc", &[HEADER, TRIANGLE, TRIANGLE]),
+    ("cut.pc", &[HEADER, EDGE, &[2, 2, 0, 1]]),
+    ("empty.pc", &[]),
+    ("front.pc", &[b">>planar_code<"]),
+    ("header.pc", &[HEADER]),
+    ("edgeless.pc", &[HEADER, &[1, 0]]),
+    ("torus.pc", &[HEADER, ON_A_TORUS]),
 ];
 
-/// The JSON lines of files in which no graph is laid out.
+const REPORTS: [Row; 24] = [
+    ("layout two.pc two.pc", TWICE, 0),
+    // Graphs that need fewer bends with another outer face than the widest one.
+    ("layout cubes.pc", FIRST, 0),
+    ("layout --outer first cubes.pc", FIRST, 0),
+    ("layout --outer best cubes.pc", BEST, 0),
+    ("layout cubes.pc --lanes=2 --outer=best", BEST, 0),
+    // Of two files, one of which is missing, the other one is laid out, or has its end if it is the header alone.
+    ("layout --lanes 1 two.pc missing.pc", MISSING_LAST, 3),
+    ("layout --lanes 2 two.pc missing.pc", MISSING_LAST, 3),
+    ("layout --lanes 1 missing.pc two.pc", MISSING_FIRST, 3),
+    ("layout --lanes 2 missing.pc two.pc", MISSING_FIRST, 3),
+    (
+        "layout missing.pc header.pc",
+        "file 1\nend io graphs=0\nfile 2\nend complete graphs=0\n",
+        3,
+    ),
+    // Files without records end by their header, under either choice of the outer face.
+    ("layout --outer=first empty.pc", NO_HEADER, 3),
+    ("layout --outer=best empty.pc", NO_HEADER, 3),
+    ("layout --outer=first front.pc", NO_HEADER, 3),
+    ("layout --outer=best front.pc", NO_HEADER, 3),
+    ("layout --outer=first header.pc", NO_RECORD, 0),
+    ("layout --outer=best header.pc", NO_RECORD, 0),
+    // Files that differ are reported in the order in which they are named, however many lanes there are.
+    ("layout --lanes 1 triangles.pc cut.pc header.pc", APART, 3),
+    ("layout --lanes 2 triangles.pc cut.pc header.pc", APART, 3),
+    ("layout --lanes 3 triangles.pc cut.pc header.pc", APART, 3),
+    ("layout --lanes 4 triangles.pc cut.pc header.pc", APART, 3),
+    ("layout --lanes 8 triangles.pc cut.pc header.pc", APART, 3),
+    // The JSON lines of files in which no graph is laid out.
+    ("layout --json empty.pc", EMPTY, 3),
+    ("layout --json edgeless.pc", EDGELESS, 0),
+    ("layout torus.pc --json", TORUS, 0),
+];
+
+/// Each file by itself, several, and files that are missing.
 #[test]
-fn shows_json_lines(rt: HostRuntime) {
-    make_file(&rt, "json_empty.pc", &[]);
-    make_file(&rt, "json_edgeless.pc", &[HEADER, &[1, 0]]);
-    let torus = [4, 3, 4, 2, 0, 1, 4, 3, 0, 2, 4, 1, 0, 1, 2, 3, 0];
-    make_file(&rt, "json_torus.pc", &[HEADER, &torus]);
-    check_rows(&rt, &JSON);
+fn reports_files(rt: HostRuntime) {
+    for (name, parts) in FILES {
+        make_file(&rt, name, parts);
+    }
+    check_rows(&rt, &REPORTS);
 }
 
 /// The line of a single edge, but for its points and prices.
@@ -425,6 +401,17 @@ const ONE_EDGE: Case = Case {
     ],
     may_begin: false,
 };
+
+/// An output that refuses each write, as a file does that was opened to be read: the run ends by status 1.
+#[test]
+fn ends_where_the_output_refuses(rt: HostRuntime) {
+    let words = words_for(&rt, &ONE_EDGE).expect(&rt, "a file");
+    let out = fs::open(&rt, "case.pc").expect(&rt, "a file");
+    let err = fs::open(&rt, "case.pc").expect(&rt, "a file");
+    let input = no_input(rt.alloc());
+    let ran = run_into(&rt, words.as_slice(), &input, &NoConsole, out, err);
+    same(&rt, ran.status, 1);
+}
 
 #[test]
 fn names_a_failed_write(rt: HostRuntime) {

@@ -50,7 +50,7 @@ impl Console for NoConsole {
 }
 
 /// Runs the command with these words, on this standard input, with this console and these writers.
-fn run_into<R: Files + AllocGlobal + Threads + Wait + Sync, C: Console + Sync, W: Write>(
+pub fn run_into<R: Files + AllocGlobal + Threads + Wait + Sync, C: Console + Sync, W: Write>(
     rt: &R,
     words: &[String],
     input: &MemOpener,
