@@ -64,7 +64,7 @@ fn report_of_runs<R: Files + AllocGlobal + Threads + Wait + Sync>(
     let report = plain_report(rt.alloc(), &opener, count, choice)?;
     for lanes in 1..=MAX_LANES {
         let same = is_same_over(rt, &opener, count, lanes, choice, report.as_slice())?;
-        ensure!(same, "{names:?}: another report over {lanes} lanes");
+        ensure!(same, "another report over lanes");
     }
     Ok(report)
 }

@@ -5,7 +5,7 @@
 //! All words after `batches` are files; those behind the word `best` are laid out with the best outer face.
 //! The report of each is printed, and compared with that of runs over lanes, as is the report of all files at
 //! once; the JSON lines of each are read back and tested. Both texts of all files at once, as they are made over lanes,
-//! must be those of books.
+//! must be those of books. An error comes behind what was printed of the files before.
 #![tactic(auto)]
 
 mod batches;

@@ -3,7 +3,7 @@
 ghost use Rattle.ortho_rep.specs.Representation.{IsShape};
 
 use crate::shapes::test_shape;
-use anyhow::{Context, Result, bail, ensure};
+use anyhow::{Context, Result, ensure};
 use collector::{Answer, Batch, Entry, IoSink, write_json};
 use drawing_check::check;
 use faces::Plane;
@@ -43,10 +43,10 @@ fn test_entry(alloc: Global, entry: &Entry, line: &[u8]) -> Result<()> {
 
 /// Tests what a line's value says of a plane.
 fn test_value(alloc: Global, plane: &Plane, value: &Value) -> Result<()> {
-    let shape = shape_of(alloc, value)?;
-    let prices = prices_of(alloc, member(value, "prices")?)?;
+    let shape = shape_of(alloc, value).context("a line without a shape")?;
+    let prices = prices_of(alloc, value).context("a line without prices")?;
     test_shape(plane, &shape, &prices)?;
-    let points = points_of(alloc, member(value, "points")?)?;
+    let points = points_of(alloc, value).context("a line without points")?;
     test_points(alloc, plane, &shape, points)
 }
 
@@ -64,44 +64,47 @@ fn test_points(alloc: Global, plane: &Plane, shape: &Shape, points: Points) -> R
     Ok(())
 }
 
-/// The shape that a line gives.
-fn shape_of(alloc: Global, value: &Value) -> Result<Shape> {
-    let angles = angles_of(alloc, member(value, "angles")?)?;
-    let strings = strings_of(alloc, member(value, "turns")?)?;
-    ensure!(Shape::are_short(&strings), "too many turns");
-    Ok(Shape::new(angles, strings))
+/// The shape that a line gives, if any; likewise below.
+fn shape_of(alloc: Global, value: &Value) -> Option<Shape> {
+    let angles = angles_of(alloc, value.get("angles")?)?;
+    let strings = strings_of(alloc, value.get("turns")?)?;
+    if Shape::are_short(&strings) {
+        Some(Shape::new(angles, strings))
+    } else {
+        None
+    }
 }
 
-fn angles_of(alloc: Global, value: &Value) -> Result<Vec<u8>> {
+fn angles_of(alloc: Global, value: &Value) -> Option<Vec<u8>> {
     let mut angles = Vec::new(alloc);
-    for angle in list(value)? {
-        angles.push(u8::try_from(angle.as_u64().context("no angle")?)?)?;
+    for angle in value.as_array()? {
+        angles.push(u8::try_from(angle.as_u64()?).ok()?).ok()?;
     }
-    Ok(angles)
+    Some(angles)
 }
 
-fn strings_of(alloc: Global, value: &Value) -> Result<Vec<Vec<Turn>>> {
+fn strings_of(alloc: Global, value: &Value) -> Option<Vec<Vec<Turn>>> {
     let mut strings = Vec::new(alloc);
-    for turns in list(value)? {
-        strings.push(turns_of(alloc, turns.as_str().context("no turns")?)?)?;
+    for turns in value.as_array()? {
+        strings.push(turns_of(alloc, turns.as_str()?)?).ok()?;
     }
-    Ok(strings)
+    Some(strings)
 }
 
 /// The prices that a line gives.
-fn prices_of(alloc: Global, value: &Value) -> Result<Prices> {
-    let vertices = numbers(alloc, member(value, "vertices")?)?;
-    let faces = numbers(alloc, member(value, "faces")?)?;
-    Ok(Prices::new(vertices, faces))
+fn prices_of(alloc: Global, value: &Value) -> Option<Prices> {
+    let prices = value.get("prices")?;
+    let vertices = numbers(alloc, prices.get("vertices")?)?;
+    Some(Prices::new(vertices, numbers(alloc, prices.get("faces")?)?))
 }
 
 /// The turns that a text of L and R gives.
-fn turns_of(alloc: Global, text: &str) -> Result<Vec<Turn>> {
+fn turns_of(alloc: Global, text: &str) -> Option<Vec<Turn>> {
     let mut turns = Vec::new(alloc);
     for letter in text.as_bytes() {
-        turns.push(turn_of(*letter).context("a letter that is no turn")?)?;
+        turns.push(turn_of(*letter)?).ok()?;
     }
-    Ok(turns)
+    Some(turns)
 }
 
 fn turn_of(letter: u8) -> Option<Turn> {
@@ -113,50 +116,43 @@ fn turn_of(letter: u8) -> Option<Turn> {
 }
 
 /// The points that a line gives.
-fn points_of(alloc: Global, value: &Value) -> Result<Points> {
+fn points_of(alloc: Global, value: &Value) -> Option<Points> {
+    let points = value.get("points")?;
     let mut corners = Vec::new(alloc);
-    for edge in list(member(value, "corners")?)? {
-        corners.push(point_list(alloc, edge)?)?;
+    for edge in points.get("corners")?.as_array()? {
+        corners.push(point_list(alloc, edge)?).ok()?;
     }
-    Ok(Points::new(point_list(alloc, member(value, "vertices")?)?, corners))
+    Some(Points::new(point_list(alloc, points.get("vertices")?)?, corners))
 }
 
 /// A list of points, each of two numbers.
-fn point_list(alloc: Global, value: &Value) -> Result<Vec<Point>> {
+fn point_list(alloc: Global, value: &Value) -> Option<Vec<Point>> {
     let mut points = Vec::new(alloc);
-    for pair in list(value)? {
-        points.push(point_of(pair)?)?;
+    for pair in value.as_array()? {
+        points.push(point_of(pair)?).ok()?;
     }
-    Ok(points)
+    Some(points)
 }
 
-fn point_of(pair: &Value) -> Result<Point> {
-    let [x, y] = list(pair)?.as_slice() else {
-        bail!("a point that is no pair");
-    };
-    Ok(Point {
-        x: coordinate(x)?,
-        y: coordinate(y)?,
-    })
+fn point_of(pair: &Value) -> Option<Point> {
+    match pair.as_array()?.as_slice() {
+        [x, y] => Some(Point {
+            x: coordinate(x)?,
+            y: coordinate(y)?,
+        }),
+        _ => None,
+    }
 }
 
-fn coordinate(value: &Value) -> Result<u32> {
-    Ok(u32::try_from(value.as_u64().context("no coordinate")?)?)
+fn coordinate(value: &Value) -> Option<u32> {
+    u32::try_from(value.as_u64()?).ok()
 }
 
 /// A list of whole numbers.
-fn numbers(alloc: Global, value: &Value) -> Result<Vec<i32>> {
+fn numbers(alloc: Global, value: &Value) -> Option<Vec<i32>> {
     let mut numbers = Vec::new(alloc);
-    for number in list(value)? {
-        numbers.push(i32::try_from(number.as_i64().context("no number")?)?)?;
+    for number in value.as_array()? {
+        numbers.push(i32::try_from(number.as_i64()?).ok()?).ok()?;
     }
-    Ok(numbers)
-}
-
-fn list(value: &Value) -> Result<&Vec<Value>> {
-    value.as_array().context("no list")
-}
-
-fn member<'a>(value: &'a Value, key: &str) -> Result<&'a Value> {
-    value.get(key).context("a key is missing")
+    Some(numbers)
 }

@@ -1,7 +1,7 @@
 //! Texts of runs over lanes, as they are made: they must be those of the books of one thread.
 
 use crate::files::read_files;
-use anyhow::{Result, bail, ensure};
+use anyhow::{Result, ensure};
 use collector::{
     Batch, Choice, DrawingKind, Form, IoSink, MemOpener, OpenGate, Style, run_plain, write_batch,
 };
@@ -31,7 +31,7 @@ pub fn compare_texts<R: Files + AllocGlobal + Threads + Wait + Sync>(
     for form in [Form::Report, Form::Json] {
         let due = text_of(rt.alloc(), &batch, form)?;
         let text = text_over(rt, &opener, count, choice, form)?;
-        ensure!(text == due, "{names:?}: another text over lanes");
+        ensure!(text == due, "another text over lanes");
     }
     Ok(())
 }
@@ -57,8 +57,6 @@ fn text_over<R: AllocGlobal + Threads + Wait + Sync>(
     let ended = write_batch(
         rt, alloc, opener, files, LANES, CAPACITY, WAITING, choice, style, &OpenGate, &mut sink,
     );
-    match ended {
-        Ok(_) => Ok(sink.into_writer()),
-        Err(fault) => bail!("no text over lanes: {fault:?}"),
-    }
+    ensure!(ended.is_ok(), "no text over lanes");
+    Ok(sink.into_writer())
 }
