@@ -62,18 +62,6 @@ pub struct Residual {
 }
 
 impl Residual {
-    /// The residual arc of a number; the look at it is counted. A search reads residual arcs here alone.
-    pub fn look(&self, number: usize, looks: &mut u64) -> ResidualArc
-        requires number { number < length self.now.arcs.items }
-        requires few { looks.old < 2 ^ 63 }
-        ensures end { result.end ≡ end_at self.now.arcs.items number }
-        ensures cost { result.cost ≡ cost_at self.now.arcs.items number }
-        ensures tick { looks.new ≡ looks.old + 1 }
-    {
-        *looks += 1;
-        self.arcs[number]
-    }
-
     /// The node where a residual arc starts.
     pub fn start(&self, number: usize) -> usize
         requires number { number < length self.now.arcs.items }

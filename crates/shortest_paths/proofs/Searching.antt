@@ -1,18 +1,26 @@
 -- What a search knows of the nodes that it reached, in the words of its structs.
-use Rattle.std.proofs.Common.{◌≡◌, ◌≤◌, ◌<◌, ◌+◌, ◌⊎◌, ℕ, refl, sym, ◌∙◌, ap, subst, inl, inr, arith}
+use Rattle.std.proofs.Common.{◌≡◌, ◌≤◌, ◌<◌, ◌+◌, ◌⊎◌, ℕ, List, refl, sym, ◌∙◌, ap, subst, inl, inr, arith}
 use Rattle.std.specs.Prelude.{ℤ, pos, ◌+ℤ◌, ◌-ℤ◌, ◌≤ℤ◌, ◌<ℤ◌, length, slice_index_or}
 use Rattle.std.proofs.Math.Path.{fun_ext}
 use Rattle.std.proofs.lemmas.List.{get_or_read}
 use mir.Syntax.{w32}
 use mir.Val.{SFits, of_z, to_z}
+use Rattle.networks.specs.declared.residual.ResidualArc.{ResidualArc}
 use Rattle.shortest_paths.specs.declared.state.Ground.{Ground}
 use Rattle.shortest_paths.specs.declared.state.Search.{Search}
 use Rattle.shortest_paths.specs.declared.state.Step.{Step}
 use Rattle.shortest_paths.specs.declared.state.Visit.{Visit}
-use Rattle.networks.specs.ResidualArcs.{StartsAt, end_at, cost_at}
+use Rattle.networks.specs.ResidualArcs.{StartsAt, end_at, cost_at, no_residual_arc}
 use Rattle.shortest_paths.specs.Search.{no_visit, far, nodes_of, first_of, arcs_of, IsScanning, potential_of, excess_of, labels, enters, orders, places, Reaches, Keeps, IsSearch, IsOffered, IsMarked, IsRelaxed, IsKept, IsSwapped, IsOrdered, HasServed, Serves, IsServed, looked, degree, SameBesideCut, SameBesideOrder, IsWithinFar}
 use Rattle.shortest_paths.proofs.Signs.{passed_within, difference_is}
 use Rattle.shortest_paths.proofs.Reaching.{below_or_not, behind, swapped, nearest_kept, nearest_offered, kept_then, kept_same, at_level, offer_below, offer_fits, offer_made, next_node, next_kept, next_only, serves_kept, served_kept, served_more, kept_less, same_le, order_kept, looked_most, looked_same, looked_more, same_z, relabelled, enlisted, order_room, reached_fits, potential_fits_at, offer_end}
+
+-- what is read of a residual arc
+pub end_read : (arcs : List ResidualArc) (k : ℕ) (x : ResidualArc) → k < length arcs → x ≡ slice_index_or arcs k x → x.end ≡ end_at arcs k
+end_read arcs k x b e = ap (λ (y : ResidualArc). y.end) (get_or_read arcs k x b e no_residual_arc)
+
+pub cost_read : (arcs : List ResidualArc) (k : ℕ) (x : ResidualArc) → k < length arcs → x ≡ slice_index_or arcs k x → x.cost ≡ cost_at arcs k
+cost_read arcs k x b e = ap (λ (y : ResidualArc). y.cost) (get_or_read arcs k x b e no_residual_arc)
 
 -- what is read of a visit
 pub label_read : (s : Search) (v : ℕ) (x : Visit) → v < length s.visits.items → x ≡ slice_index_or s.visits.items v x → x.label ≡ labels s v
