@@ -1,39 +1,18 @@
 -- What a search knows of the nodes that it reached, in the words of its structs.
 use Rattle.std.proofs.Common.{◌≡◌, ◌≤◌, ◌<◌, ◌+◌, ◌⊎◌, ℕ, List, refl, sym, ◌∙◌, ap, subst, inl, inr, arith}
-use Rattle.std.specs.Prelude.{ℤ, pos, ◌+ℤ◌, ◌-ℤ◌, ◌≤ℤ◌, ◌<ℤ◌, length, slice_index_or}
+use Rattle.std.specs.Prelude.{ℤ, pos, ◌+ℤ◌, ◌-ℤ◌, ◌≤ℤ◌, ◌<ℤ◌, length}
 use Rattle.std.proofs.Math.Path.{fun_ext}
-use Rattle.std.proofs.lemmas.List.{get_or_read}
+use Rattle.std.specs.Borrow.{MutBor}
 use mir.Syntax.{w32}
-use mir.Val.{SFits, of_z, to_z}
-use Rattle.networks.specs.declared.residual.ResidualArc.{ResidualArc}
+use mir.Val.{of_z, to_z}
 use Rattle.shortest_paths.specs.declared.state.Ground.{Ground}
 use Rattle.shortest_paths.specs.declared.state.Search.{Search}
 use Rattle.shortest_paths.specs.declared.state.Step.{Step}
 use Rattle.shortest_paths.specs.declared.state.Visit.{Visit}
-use Rattle.networks.specs.ResidualArcs.{StartsAt, end_at, cost_at, no_residual_arc}
-use Rattle.shortest_paths.specs.Search.{no_visit, far, nodes_of, first_of, arcs_of, IsScanning, potential_of, excess_of, labels, enters, orders, places, Reaches, Keeps, IsSearch, IsOffered, IsMarked, IsRelaxed, IsKept, IsSwapped, IsOrdered, HasServed, Serves, IsServed, looked, degree, SameBesideCut, SameBesideOrder, IsWithinFar}
-use Rattle.shortest_paths.proofs.Signs.{passed_within, difference_is}
+use Rattle.networks.specs.ResidualArcs.{StartsAt, end_at, cost_at}
+use Rattle.shortest_paths.specs.Search.{far, nodes_of, first_of, arcs_of, IsScanning, potential_of, excess_of, labels, orders, places, Reaches, Keeps, IsSearch, IsOffered, IsMarked, IsRelaxed, IsKept, IsSwapped, IsOrdered, HasServed, IsGround, Serves, IsServed, looked, degree, SameBesideCut, SameBesideOrder, IsWithinFar}
+use Rattle.shortest_paths.proofs.Signs.{fits_within, passed_within, difference_is}
 use Rattle.shortest_paths.proofs.Reaching.{below_or_not, behind, swapped, nearest_kept, nearest_offered, kept_then, kept_same, at_level, offer_below, offer_fits, offer_made, next_node, next_kept, next_only, serves_kept, served_kept, served_more, kept_less, same_le, order_kept, looked_most, looked_same, looked_more, same_z, relabelled, enlisted, order_room, reached_fits, potential_fits_at, offer_end}
-
--- what is read of a residual arc
-pub end_read : (arcs : List ResidualArc) (k : ℕ) (x : ResidualArc) → k < length arcs → x ≡ slice_index_or arcs k x → x.end ≡ end_at arcs k
-end_read arcs k x b e = ap (λ (y : ResidualArc). y.end) (get_or_read arcs k x b e no_residual_arc)
-
-pub cost_read : (arcs : List ResidualArc) (k : ℕ) (x : ResidualArc) → k < length arcs → x ≡ slice_index_or arcs k x → x.cost ≡ cost_at arcs k
-cost_read arcs k x b e = ap (λ (y : ResidualArc). y.cost) (get_or_read arcs k x b e no_residual_arc)
-
--- what is read of a visit
-pub label_read : (s : Search) (v : ℕ) (x : Visit) → v < length s.visits.items → x ≡ slice_index_or s.visits.items v x → x.label ≡ labels s v
-label_read s v x b e = ap (λ (y : Visit). y.label) (get_or_read s.visits.items v x b e no_visit)
-
-pub order_read : (s : Search) (j : ℕ) (x : Visit) → j < length s.visits.items → x ≡ slice_index_or s.visits.items j x → x.at_place ≡ orders s j
-order_read s j x b e = ap (λ (y : Visit). y.at_place) (get_or_read s.visits.items j x b e no_visit)
-
-pub place_read : (s : Search) (v : ℕ) (x : Visit) → v < length s.visits.items → x ≡ slice_index_or s.visits.items v x → x.place ≡ places s v
-place_read s v x b e = ap (λ (y : Visit). y.place) (get_or_read s.visits.items v x b e no_visit)
-
-pub enter_read : (s : Search) (v : ℕ) (x : Visit) → v < length s.visits.items → x ≡ slice_index_or s.visits.items v x → x.enter ≡ enters s v
-enter_read s v x b e = ap (λ (y : Visit). y.enter) (get_or_read s.visits.items v x b e no_visit)
 
 -- w is the node at place j of the order
 pub record IsMember (g : Ground) (s : Search) (j w : ℕ) : Type 0 where
@@ -50,17 +29,23 @@ member g s j w h b e = record {
   number = sym e;
 }
 
-pub label_within : (g : Ground) (s : Search) (w : ℕ) (z : ℤ) → IsSearch g s → w < nodes_of g → labels s w <ℤ far → z ≡ labels s w → SFits w32 z → IsWithinFar (to_z w32 (of_z w32 z))
-label_within g s w z h b l e f = passed_within _ _ z f (subst (λ (t : ℤ). IsWithinFar t) (sym e) (reached_fits _ _ _ _ _ _ _ _ _ _ _ _ _ _ w h.ground.graph h.ground.priced h.reached b l))
+pub label_fits_at : (g : Ground) (s : Search) (w : ℕ) → IsSearch g s → w < nodes_of g → labels s w <ℤ far → IsWithinFar (labels s w)
+label_fits_at g s w h b l = reached_fits _ _ _ _ _ _ _ _ _ _ _ _ _ _ w h.ground.graph h.ground.priced h.reached b l
 
-pub potential_within : (g : Ground) (s : Search) (w : ℕ) (z : ℤ) → IsSearch g s → w < nodes_of g → z ≡ potential_of g w → SFits w32 z → IsWithinFar (to_z w32 (of_z w32 z))
-potential_within g s w z h b e f = passed_within _ _ z f (subst (λ (t : ℤ). IsWithinFar t) (sym e) (potential_fits_at _ _ _ _ _ w h.ground.graph h.ground.priced b))
+pub label_within : (g : Ground) (s : Search) (w : ℕ) → IsSearch g s → w < nodes_of g → labels s w <ℤ far → IsWithinFar (to_z w32 (of_z w32 (labels s w)))
+label_within g s w h b l = let f = label_fits_at g s w h b l in passed_within _ _ (labels s w) (fits_within _ f) f
+
+pub potential_near : (g : Ground) (w : ℕ) → IsGround g → w < nodes_of g → IsWithinFar (potential_of g w)
+potential_near g w h b = potential_fits_at _ _ _ _ _ w h.graph h.priced b
+
+pub potential_within : (g : Ground) (w : ℕ) → IsGround g → w < nodes_of g → IsWithinFar (to_z w32 (of_z w32 (potential_of g w)))
+potential_within g w h b = let f = potential_near g w h b in passed_within _ _ (potential_of g w) (fits_within _ f) f
 
 -- a distance, as it is computed
-pub away_is : (r z y q p : ℤ) → SFits w32 z → SFits w32 y → r ≡ to_z w32 (of_z w32 z) -ℤ to_z w32 (of_z w32 y) → z ≡ q → y ≡ p → r ≡ q -ℤ p
-away_is r z y q p f g e a b = difference_is r z y f g e ∙ ap (λ (t : ℤ). t -ℤ y) a ∙ ap (λ (t : ℤ). q -ℤ t) b
+pub away_is : (r q p : ℤ) → IsWithinFar q → IsWithinFar p → r ≡ to_z w32 (of_z w32 q) -ℤ to_z w32 (of_z w32 p) → r ≡ q -ℤ p
+away_is r q p a b e = difference_is r q p (fits_within _ a) (fits_within _ b) e
 
-pub room_left : (g : Ground) (s : Search) (v : ℕ) → IsSearch g s → v < nodes_of g → far ≤ℤ labels s v → s.reached < length s.visits.items
+pub room_left : (g : Ground) (s : Search) (v : ℕ) → IsSearch g s → v < nodes_of g → far ≤ℤ labels s v → s.reached < length s.visits.now
 room_left g s v h b l = omega (arith, h.size, order_room _ _ _ _ _ _ _ _ _ _ _ _ _ _ v h.reached b l)
 
 -- what a new label leaves
@@ -116,6 +101,7 @@ offered g s s' step away o wants at a cut either =
         reached = rw (a.visits, a.head, a.ordered, a.reached, a.level) h.reached;
         nearest = rw (a.visits, a.head, a.level) (nearest_offered _ _ _ _ _ _ _ _ _ _ _ _ _ _ _ v _ h.nearest o.offer (h.reached.most v b) wants (h.ground.priced.zero v b wants) given);
       };
+      list = ap (λ (v : MutBor (List Visit)). v.ghost_name) a.visits;
       kept = rw a.visits (kept_same _ _ _ _);
       head = a.head;
       level = a.level;
@@ -135,6 +121,7 @@ settled_behind g s t step o plain m =
         reached = k.reached;
         nearest = rw (p.head, p.level, p.cut, p.found) (nearest_kept _ _ _ _ _ _ _ _ _ _ _ _ _ _ _ h.nearest h.nearest.above k.kept);
       };
+      list = p.list;
       kept = k.kept;
       head = p.head;
       level = p.level;
@@ -148,7 +135,7 @@ pub record IsListed (g : Ground) (t : Search) (v : ℕ) : Type 0 where
   pub back : orders t (places t v) ≡ v
   pub ordered : t.ordered ≤ places t v
   pub few : t.reached ≤ nodes_of g
-  pub size : length t.visits.items ≡ nodes_of g
+  pub size : length t.visits.now ≡ nodes_of g
   pub other : orders t t.ordered < nodes_of g
   pub at : places t (orders t t.ordered) ≡ t.ordered
 
@@ -193,6 +180,7 @@ settled g s t u step away o plain m at same swap z up =
         reached = rw (fun_ext z.label, fun_ext z.enter, z.head, up, z.reached, z.level) moved;
         nearest = rw (fun_ext z.label, z.head, p.head, z.level, p.level, z.cut, p.cut, z.found, p.found) (nearest_kept _ _ _ _ _ _ _ _ _ _ _ _ _ _ _ h.nearest h.nearest.above both);
       };
+      list = z.list ∙ p.list;
       kept = rw (fun_ext z.label) both;
       head = z.head ∙ p.head;
       level = z.level ∙ p.level;

@@ -124,19 +124,19 @@ pub record IsKept (n h : ℕ) (q : ℕ → ℤ) (place : ℕ → ℕ) (q' : ℕ 
 -- ---- the same, of the structs that the code keeps
 
 abbrev pub nodes_of : Ground → ℕ
-nodes_of g = length g.nodes.now.potential.items
+nodes_of g = length g.potential.now
 
 abbrev pub first_of : Ground → List ℕ
-first_of g = g.residual.now.first.items
+first_of g = g.first.now
 
 abbrev pub arcs_of : Ground → List ResidualArc
-arcs_of g = g.residual.now.arcs.items
+arcs_of g = g.arcs.now
 
 abbrev pub potential_of : Ground → ℕ → ℤ
-potential_of g = at_nodes g.nodes.now.potential.items
+potential_of g = at_nodes g.potential.now
 
 abbrev pub excess_of : Ground → ℕ → ℤ
-excess_of g = at_nodes g.nodes.now.excess.items
+excess_of g = at_nodes g.excess.now
 
 -- stands for visits past the last
 abbrev pub no_visit : Visit
@@ -148,30 +148,43 @@ visit_at visits v = slice_index_or visits v no_visit
 abbrev pub label_at : List Visit → ℕ → ℤ
 label_at visits v = (visit_at visits v).label
 
+abbrev pub enter_at : List Visit → ℕ → ℕ
+enter_at visits v = (visit_at visits v).enter
+
+abbrev pub order_at : List Visit → ℕ → ℕ
+order_at visits j = (visit_at visits j).at_place
+
+abbrev pub place_at : List Visit → ℕ → ℕ
+place_at visits v = (visit_at visits v).place
+
 abbrev pub labels : Search → ℕ → ℤ
-labels s v = label_at s.visits.items v
+labels s v = label_at s.visits.now v
 
 abbrev pub enters : Search → ℕ → ℕ
-enters s v = (visit_at s.visits.items v).enter
+enters s v = enter_at s.visits.now v
 
 abbrev pub orders : Search → ℕ → ℕ
-orders s j = (visit_at s.visits.items j).at_place
+orders s j = order_at s.visits.now j
 
 abbrev pub places : Search → ℕ → ℕ
-places s v = (visit_at s.visits.items v).place
+places s v = place_at s.visits.now v
+
+-- a search keeps the list that it was lent
+abbrev pub HasSameList : Search → Search → Type 0
+HasSameList s s' = s'.visits.ghost_name ≡ s.visits.ghost_name
 
 -- what a search reads is sound
 pub record IsGround (g : Ground) : Type 0 where
-  pub excesses : length g.nodes.now.excess.items ≡ nodes_of g
+  pub excesses : length g.excess.now ≡ nodes_of g
   pub graph : IsGraph (nodes_of g) (first_of g) (arcs_of g)
   pub priced : IsPriced (nodes_of g) (first_of g) (arcs_of g) (potential_of g) (excess_of g)
   pub source : g.source < nodes_of g
 
 -- a search can begin: units are left over at the source, and no node has a label
-pub record IsBlank (g : Ground) (s : Search) : Type 0 where
+pub record IsBlank (g : Ground) (visits : List Visit) : Type 0 where
   pub ground : IsGround g
-  pub size : length s.visits.items ≡ nodes_of g
-  pub blank : (v : ℕ) → v < nodes_of g → labels s v ≡ far
+  pub size : length visits ≡ nodes_of g
+  pub blank : (v : ℕ) → v < nodes_of g → label_at visits v ≡ far
   pub source : pos 0 <ℤ excess_of g g.source
 
 abbrev pub Reaches : Ground → Search → Type 0
@@ -183,7 +196,7 @@ FindsNearest g s = IsNearest (nodes_of g) (first_of g) (arcs_of g) (potential_of
 -- what holds all through a search
 pub record IsSearch (g : Ground) (s : Search) : Type 0 where
   pub ground : IsGround g
-  pub size : length s.visits.items ≡ nodes_of g
+  pub size : length s.visits.now ≡ nodes_of g
   pub reached : Reaches g s
   pub nearest : FindsNearest g s
 
@@ -208,6 +221,7 @@ pub record IsNextLevel (g : Ground) (s : Search) (level : ℤ) : Type 0 where
 -- them are ordered and the level may have changed
 pub record IsOrdered (g : Ground) (s s' : Search) : Type 0 where
   pub search : IsSearch g s'
+  pub list : HasSameList s s'
   pub kept : Keeps g s.head s s'
   pub label : (v : ℕ) → labels s' v ≡ labels s v
   pub head : s'.head ≡ s.head
@@ -232,6 +246,7 @@ pub record IsScanning (g : Ground) (s : Search) (u : ℕ) : Type 0 where
 -- a residual arc of the scanned node was taken up: labels and the cut may have fallen
 pub record IsRelaxed (g : Ground) (s s' : Search) : Type 0 where
   pub search : IsSearch g s'
+  pub list : HasSameList s s'
   pub kept : Keeps g s.head s s'
   pub head : s'.head ≡ s.head
   pub level : s'.level ≡ s.level
@@ -247,7 +262,8 @@ pub record SameBesideCut (s s' : Search) : Type 0 where
 
 -- all stays but the order
 pub record SameBesideOrder (s s' : Search) : Type 0 where
-  pub size : length s'.visits.items ≡ length s.visits.items
+  pub list : HasSameList s s'
+  pub size : length s'.visits.now ≡ length s.visits.now
   pub label : (v : ℕ) → labels s' v ≡ labels s v
   pub enter : (v : ℕ) → enters s' v ≡ enters s v
   pub head : s'.head ≡ s.head
@@ -258,7 +274,8 @@ pub record SameBesideOrder (s s' : Search) : Type 0 where
 
 -- a new label changes none of these
 pub record SameProgress (s s' : Search) : Type 0 where
-  pub size : length s'.visits.items ≡ length s.visits.items
+  pub list : HasSameList s s'
+  pub size : length s'.visits.now ≡ length s.visits.now
   pub head : s'.head ≡ s.head
   pub ordered : s'.ordered ≡ s.ordered
   pub level : s'.level ≡ s.level
@@ -293,25 +310,25 @@ pub record IsOffered (g : Ground) (s : Search) (step : Step) : Type 0 where
 
 -- the step ends at a node of the search
 pub record HasEnd (s : Search) (step : Step) : Type 0 where
-  pub few : length s.visits.items ≤ MAX_NODES
-  pub node : step.end < length s.visits.items
+  pub few : length s.visits.now ≤ MAX_NODES
+  pub node : step.end < length s.visits.now
   pub number : step.number < MAX_RESIDUAL_ARCS
 
 -- a node stands in the order behind those that are ordered, and can change places with the first behind them
 pub record CanAdvance (s : Search) (v : ℕ) : Type 0 where
-  pub few : length s.visits.items ≤ MAX_NODES
-  pub node : v < length s.visits.items
-  pub from : places s v < length s.visits.items
+  pub few : length s.visits.now ≤ MAX_NODES
+  pub node : v < length s.visits.now
+  pub from : places s v < length s.visits.now
   pub order : s.ordered ≤ places s v
-  pub other : orders s s.ordered < length s.visits.items
+  pub other : orders s s.ordered < length s.visits.now
   pub at : places s (orders s s.ordered) ≡ s.ordered
   pub listed : orders s (places s v) ≡ v
 
 -- the order has such a place, and there is such a node
 pub record CanPut (s : Search) (place node : ℕ) : Type 0 where
-  pub few : length s.visits.items ≤ MAX_NODES
-  pub at : place < length s.visits.items
-  pub stands : node < length s.visits.items
+  pub few : length s.visits.now ≤ MAX_NODES
+  pub at : place < length s.visits.now
+  pub stands : node < length s.visits.now
 
 -- an entry was written
 pub record IsPut {A : Type 0} (f f' : ℕ → A) (i : ℕ) (a : A) : Type 0 where

@@ -11,4 +11,4 @@ mod nearest;
 mod reach;
 mod state;
 
-pub use state::{FAR, Ground, Nodes, Search, Visit};
+pub use state::{FAR, Ground, Search, Visit};

@@ -5,12 +5,12 @@
 //! Each residual arc is looked at once at most. Beside that the nodes that wait are gone over at each level.
 ghost use Rattle.std.specs.Prelude.{◌≡◌, ◌⊎◌, ◌<◌, ◌≤◌, ◌+◌, ◌^◌, ℕ, length, pos, ◌≤ℤ◌, ◌<ℤ◌, ◌+ℤ◌, ◌-ℤ◌, true, false, IfSome, IfNone};
 ghost use Rattle.networks.specs.ResidualArcs.{numbers, end_at, cost_at};
-ghost use Rattle.shortest_paths.specs.Search.{far, nodes_of, first_of, arcs_of, potential_of, excess_of, labels, orders, degree, looked, IsGround, IsSearch, IsBlank, Keeps, HasServed, HasLeft, Serves, IsNextLevel, IsOrdered, IsWaiting, IsOffered, IsScanning, IsRelaxed, IsWithinFar};
+ghost use Rattle.shortest_paths.specs.Search.{far, nodes_of, first_of, arcs_of, potential_of, excess_of, labels, orders, degree, looked, IsGround, IsSearch, IsBlank, Keeps, HasServed, HasLeft, Serves, IsNextLevel, IsOrdered, IsWaiting, IsOffered, IsScanning, IsRelaxed, IsWithinFar, HasSameList};
 
 use crate::reach::distance;
-use crate::state::{FAR, Ground, Search, Step};
+use crate::state::{FAR, Ground, Search, Step, Visit};
 
-impl Search {
+impl<'a> Search<'a> {
     /// Labels the nodes round a source, in order of their distance by reduced costs, up to the nearest one
     /// where units are wanting.
     ///
@@ -23,43 +23,47 @@ impl Search {
     ///
     /// It looks at each residual arc once at most, and takes no memory. Beside that it goes over the nodes
     /// that were reached and wait, for each distance that it comes to.
-    pub fn run(&mut self, ground: Ground<'_>, looks: &mut u64)
-        requires blank { IsBlank ground self.old }
+    pub fn run(ground: Ground<'_>, visits: &'a mut [Visit], looks: &mut u64) -> Search<'a>
+        requires blank { IsBlank ground visits.old }
         requires few { looks.old < 2 ^ 61 }
-        ensures search { IsSearch ground.entry self.new }
-        ensures served { HasServed ground.entry self.new }
-        ensures left { HasLeft ground.entry self.new }
-        ensures looks { looks.new ≡ looks.old + looked (first_of ground.entry) (orders self.new) self.new.head }
+        ensures search { IsSearch ground.entry result }
+        ensures list { result.visits.ghost_name ≡ visits.entry.ghost_name }
+        ensures served { HasServed ground.entry result }
+        ensures left { HasLeft ground.entry result }
+        ensures looks { looks.new ≡ looks.old + looked (first_of ground.entry) (orders result) result.head }
         ensures once { looks.new ≤ looks.old + length (arcs_of ground.entry) }
     {
-        self.begin(ground);
-        'nodes: loop {
-            if !self.goes_on(ground) {
-                return;
-            }
-            self.scan(ground, looks);
+        let mut search = Search::begin(ground, visits);
+        'nodes: while search.goes_on(ground) {
+            search.scan(ground, looks);
         }
+        search
     }
 
-    /// Labels the source alone.
-    fn begin(&mut self, ground: Ground<'_>)
-        requires blank { IsBlank ground self.old }
-        ensures search { IsSearch ground.entry self.new }
-        ensures head { self.new.head ≡ 0 }
+    /// One that has labelled the source alone.
+    fn begin(ground: Ground<'_>, visits: &'a mut [Visit]) -> Search<'a>
+        requires blank { IsBlank ground visits.old }
+        ensures search { IsSearch ground.entry result }
+        ensures list { result.visits.ghost_name ≡ visits.entry.ghost_name }
+        ensures head { result.head ≡ 0 }
     {
-        self.relabel(Step {
+        let mut search = Search {
+            visits,
+            head: 0,
+            ordered: 1,
+            reached: 1,
+            level: 0,
+            cut: FAR,
+            found_score: 0,
+            found: 0,
+        };
+        search.relabel(Step {
             number: 0,
             end: ground.source,
-            label: ground.nodes.potential[ground.source],
+            label: ground.potential[ground.source],
         });
-        self.put(0, ground.source);
-        self.head = 0;
-        self.ordered = 1;
-        self.reached = 1;
-        self.level = 0;
-        self.cut = FAR;
-        self.found_score = 0;
-        self.found = 0;
+        search.put(0, ground.source);
+        search
     }
 
     /// Whether a node is to be scanned next: one at the level, or else the nearest one further off, to
@@ -97,7 +101,7 @@ impl Search {
             let node = self.visits[j].at_place as usize;
             least = lesser(
                 least,
-                distance(self.visits[node].label, ground.nodes.potential[node]),
+                distance(self.visits[node].label, ground.potential[node]),
             );
         }
         least
@@ -126,7 +130,7 @@ impl Search {
         ensures more { labels self.old (orders self.old j) -ℤ potential_of ground.entry (orders self.old j) ≡ self.old.level → self.new.ordered ≡ self.old.ordered + 1 }
     {
         let node = self.visits[j].at_place as usize;
-        if distance(self.visits[node].label, ground.nodes.potential[node]) == self.level {
+        if distance(self.visits[node].label, ground.potential[node]) == self.level {
             self.advance(node);
         }
     }
@@ -138,6 +142,7 @@ impl Search {
         requires more { self.old.head < self.old.ordered }
         requires few { looks.old < 2 ^ 61 + 2 ^ 60 }
         ensures search { IsSearch ground.entry self.new }
+        ensures list { HasSameList self.old self.new }
         ensures served { HasServed ground.entry self.new }
         ensures kept { Keeps ground.entry (self.old.head + 1) self.old self.new }
         ensures head { self.new.head ≡ self.old.head + 1 }
@@ -145,8 +150,8 @@ impl Search {
     {
         let node = self.visits[self.head].at_place as usize;
         self.head += 1;
-        let start = ground.residual.first[node] as usize;
-        let end = ground.residual.first[node + 1] as usize;
+        let start = ground.first[node] as usize;
+        let end = ground.first[node + 1] as usize;
         *looks += (end - start) as u64;
         let mut number = start;
         'offers: while let Some(step) = self.next_offer(ground, node, number, end) {
@@ -168,7 +173,7 @@ impl Search {
     {
         let from = self.visits[node].label;
         for number in start..end {
-            let arc = ground.residual.arcs[number];
+            let arc = ground.arcs[number];
             let end = usize::from(arc.end);
             let label = offered_label(from, arc.cost);
             if label < self.visits[end].label {

@@ -5,9 +5,9 @@
 ghost use Rattle.std.specs.Prelude.{◌≡◌, ◌⊎◌, ◌<◌, ◌+◌, length, pos, ◌≤ℤ◌, ◌<ℤ◌, ◌-ℤ◌};
 ghost use Rattle.shortest_paths.specs.Search.{far, potential_of, excess_of, labels, enters, orders, places, HasEnd, CanAdvance, CanPut, IsOffered, IsRelaxed, IsMarked, SameBesideCut, SameBesideOrder, SameOrder, SameProgress, IsPut, IsSwapped, IsWithinFar};
 
-use crate::state::{FAR, Ground, Search, Step, Visit};
+use crate::state::{FAR, Ground, Search, Step};
 
-impl Search {
+impl Search<'_> {
     /// Takes up what a residual arc offers to its end: where units are wanting there, it may be the nearest such
     /// node now, and else it gets the label if that is nearer than the cut.
     pub(crate) fn reach(&mut self, ground: Ground<'_>, step: Step)
@@ -15,8 +15,8 @@ impl Search {
         ensures relaxed { IsRelaxed ground.entry self.old self.new }
         ensures served { (step.label -ℤ potential_of ground.entry step.end) <ℤ self.new.cut → labels self.new step.end ≤ℤ step.label }
     {
-        let away = distance(step.label, ground.nodes.potential[step.end]);
-        if ground.nodes.excess[step.end] < 0 {
+        let away = distance(step.label, ground.potential[step.end]);
+        if ground.excess[step.end] < 0 {
             let score = self.visits[step.end].score;
             self.offer(step.number, away, score);
         } else if away < self.cut {
@@ -33,7 +33,7 @@ impl Search {
         ensures label { labels self.new step.end ≡ step.label }
     {
         self.mark(step);
-        if distance(step.label, ground.nodes.potential[step.end]) == self.level {
+        if distance(step.label, ground.potential[step.end]) == self.level {
             self.advance(step.end);
         }
     }
@@ -56,7 +56,7 @@ impl Search {
     /// Gives a node a label, and a place behind all that were reached if it has none.
     fn mark(&mut self, step: Step)
         requires end { HasEnd self.old step }
-        requires room { far ≤ℤ labels self.old step.end → self.old.reached < length self.old.visits.items }
+        requires room { far ≤ℤ labels self.old step.end → self.old.reached < length self.old.visits.now }
         ensures marked { IsMarked self.old self.new step }
     {
         if self.visits[step.end].label < FAR {
@@ -69,7 +69,7 @@ impl Search {
     /// Gives a node that was not reached before a label, and a place behind all others.
     fn enlist(&mut self, step: Step)
         requires end { HasEnd self.old step }
-        requires room { self.old.reached < length self.old.visits.items }
+        requires room { self.old.reached < length self.old.visits.now }
         ensures label { IsPut (labels self.old) (labels self.new) step.end step.label }
         ensures enter { IsPut (enters self.old) (enters self.new) step.end step.number }
         ensures order { IsPut (orders self.old) (orders self.new) self.old.reached step.end }
@@ -89,11 +89,9 @@ impl Search {
         ensures enter { IsPut (enters self.old) (enters self.new) step.end step.number }
         ensures order { SameOrder self.old self.new }
     {
-        self.visits[step.end] = Visit {
-            label: step.label,
-            enter: step.number as u32,
-            ..self.visits[step.end]
-        };
+        let visit = &mut self.visits[step.end];
+        visit.label = step.label;
+        visit.enter = step.number as u32;
     }
 
     /// Puts a node behind those that are ordered, in exchange for the node that is there.
@@ -118,14 +116,8 @@ impl Search {
         ensures same { SameBesideOrder self.old self.new }
         ensures ordered { self.new.ordered ≡ self.old.ordered }
     {
-        self.visits[place] = Visit {
-            at_place: node as u32,
-            ..self.visits[place]
-        };
-        self.visits[node] = Visit {
-            place: place as u32,
-            ..self.visits[node]
-        };
+        self.visits[place].at_place = node as u32;
+        self.visits[node].place = place as u32;
     }
 }
 

@@ -1,23 +1,19 @@
 //! What a search reads, and what it keeps.
-use networks::Residual;
+use networks::ResidualArc;
 
 /// The label of a node that was not reached, above that of each node that was.
 pub const FAR: i32 = 8_000;
 
-/// What is known of each node of a network.
-#[derive(Drop)]
-pub struct Nodes {
-    /// Under these no open residual arc has a reduced cost below 0, and where units are wanting they are 0.
-    pub potential: Vec<i32>,
-    /// How many units are left over at a node, or, below 0, are wanting there.
-    pub excess: Vec<i32>,
-}
-
-/// What a search reads: a residual network, its nodes, and the node where the search begins.
+/// What a search reads: residual arcs, what is known of each node, and the node where the search begins.
 #[derive(Clone, Copy)]
 pub struct Ground<'a> {
-    pub residual: &'a Residual,
-    pub nodes: &'a Nodes,
+    /// The residual arcs that start at node v have the numbers from `first[v]` up to `first[v + 1]`.
+    pub first: &'a [u32],
+    pub arcs: &'a [ResidualArc],
+    /// Under these no open residual arc has a reduced cost below 0, and where units are wanting they are 0.
+    pub potential: &'a [i32],
+    /// How many units are left over at a node, or, below 0, are wanting there.
+    pub excess: &'a [i32],
     pub source: usize,
 }
 
@@ -38,10 +34,9 @@ pub struct Visit {
 }
 
 /// What a search has found so far.
-#[derive(Drop)]
-pub struct Search {
+pub struct Search<'a> {
     /// One for each node.
-    pub visits: Vec<Visit>,
+    pub visits: &'a mut [Visit],
     /// How many nodes were scanned: the first ones of the order.
     pub head: usize,
     /// How many nodes stand first in the order, sorted by their distance; the scanned ones are among them.

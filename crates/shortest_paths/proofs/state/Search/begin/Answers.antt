@@ -1,34 +1,28 @@
-use Rattle.std.proofs.Common.{rules, ◌≡◌, arith, ◌∙◌}
-use Rattle.std.specs.Prelude.{pos}
+use Rattle.std.proofs.Common.{rules, ◌∙◌}
 use Rattle.std.proofs.Math.Path.{fun_ext}
 use Rattle.std.proofs.lemmas.Int.{to_z-of_z}
-use Rattle.std.proofs.lemmas.List.{get_or_read}
 use mir.Syntax.{w32}
 use mir.Val.{SFits}
-use Rattle.shortest_paths.specs.Search.{IsPut, labels, enters, potential_of}
+use Rattle.shortest_paths.specs.Search.{labels, enters, potential_of, IsPut, label_at}
+use Rattle.shortest_paths.proofs.Signs.{fits_within}
 use Rattle.shortest_paths.proofs.Reaching.{source_reached}
+use Rattle.shortest_paths.proofs.Searching.{potential_near}
 use Rattle.shortest_paths.proofs.state.Search.begin.Goals as goal
 
 pub returns-clause-search : goal.returns-clause-search
 returns-clause-search c =
-    let z = c.index.result.now in
-    let f : SFits w32 z = search rules in
     let b = c.requires.blank in
-    let v = c.args.ground.source in
-    let n = c.relabel.new.self in
+    let g = c.args.ground in
+    let v = g.source in
     let p = c.put.new.self in
     let q = c.put.ensures in
-    let e : z ≡ potential_of c.args.ground v = get_or_read c.args.ground.nodes.now.potential.items v z b.ground.source c.index.ensures (pos 0) in
-    let first : IsPut (labels c.args.self.now) (labels n) v (potential_of c.args.ground v) = rw (← e) (rw (to_z-of_z w32 z f) at c.relabel.ensures.label) in
-    let put : IsPut (labels c.args.self.now) (labels p) v (potential_of c.args.ground v) = rw (fun_ext q.same.label) first in
+    let o = c.relabel.ensures.order in
+    let f : SFits w32 (potential_of g v) = fits_within _ (potential_near g v b.ground b.ground.source) in
+    let first : IsPut (label_at c.args.visits.now) (labels c.relabel.new.self) v (potential_of g v) = rw (to_z-of_z w32 (potential_of g v) f) at c.relabel.ensures.label in
+    let put : IsPut (label_at c.args.visits.now) (labels p) v (potential_of g v) = rw (fun_ext q.same.label) first in
     record {
       ground = b.ground;
       size = q.same.size ∙ c.relabel.ensures.order.progress.size ∙ b.size;
-      reached = source_reached _ _ _ _ _ _ (labels c.args.self.now) _ (enters p) _ _ b.ground.graph.nodes b.ground.source (b.ground.priced.low v b.ground.source).1 b.source b.blank put q.order.here q.place.here;
-      nearest = search rules;
+      reached = rw (q.same.head ∙ o.progress.head, q.ordered ∙ o.progress.ordered, q.same.reached ∙ o.reached, q.same.level ∙ o.progress.level) (source_reached _ _ _ _ _ _ (label_at c.args.visits.now) _ (enters p) _ _ b.ground.graph.nodes b.ground.source (b.ground.priced.low v b.ground.source).1 b.source b.blank put q.order.here q.place.here);
+      nearest = rw (q.same.head ∙ o.progress.head, q.same.level ∙ o.progress.level, q.same.cut ∙ o.progress.cut, q.same.found ∙ o.progress.found) (search rules);
     }
-
-pub relabel-requires : goal.relabel-requires
-relabel-requires c =
-    let b = c.requires.blank in
-    record { few = omega (arith, b.size, b.ground.graph.nodes); node = omega (arith, b.size, b.ground.source); number = omega arith }

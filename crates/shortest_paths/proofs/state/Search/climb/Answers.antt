@@ -22,6 +22,7 @@ loop-j-init c =
           reached = climbed _ _ _ _ _ _ _ _ _ _ _ _ _ _ c.args.level h.reached n.done n.rises n.least;
           nearest = nearest_kept _ _ _ _ _ _ _ _ _ _ _ _ c.args.level _ _ h.nearest n.cut (kept_same _ _ _ _);
         };
+        list = refl;
         kept = kept_same _ _ _ _;
         label = λ v. refl;
         head = refl;
@@ -58,6 +59,7 @@ loop-j-preserved c =
     record {
       ordered = record {
         search = k.search;
+        list = k.list ∙ o.list;
         kept = kept_then _ _ _ _ _ _ _ _ o.kept step;
         label = λ v. k.label v ∙ o.label v;
         head = k.head ∙ o.head;

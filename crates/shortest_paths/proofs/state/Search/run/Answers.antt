@@ -1,4 +1,4 @@
-use Rattle.std.proofs.Common.{◌≡◌, ◌≤◌, ◌+◌, arith}
+use Rattle.std.proofs.Common.{◌≡◌, ◌≤◌, ◌+◌, arith, refl, ◌∙◌}
 use Rattle.std.specs.Prelude.{length}
 use Rattle.shortest_paths.specs.Search.{first_of, arcs_of, orders, looked, degree}
 use Rattle.shortest_paths.proofs.Searching.{served_still, looked_ordered, looked_scanned, looked_few}
@@ -6,26 +6,26 @@ use Rattle.shortest_paths.proofs.state.Search.run.Goals as goal
 
 pub nodes-init : goal.nodes-init
 nodes-init c =
-    let e = c.begin.ensures in
+    let e = c.begin-search.ensures in
     record {
       search = e.search;
+      list = refl;
       served = record { served = λ u k b l d st. absurd (omega (arith, e.head)) };
       looks = rw e.head (omega arith);
     }
 
-pub scan-requires : goal.scan-requires
-scan-requires c =
+pub scan-requires-clause-served : goal.scan-requires-clause-served
+scan-requires-clause-served c =
     let i = c.nodes.invariant in
-    let o = c.goes_on.ensures.ordered in
+    served_still c.args.ground c.nodes.search c.goes_on.new.self i.search c.goes_on.ensures.ordered i.served
+
+pub scan-requires-clause-few : goal.scan-requires-clause-few
+scan-requires-clause-few c =
+    let i = c.nodes.invariant in
     let g = c.args.ground in
-    let most : looked (first_of g) (orders c.nodes.self) c.nodes.self.head ≤ length (arcs_of g) = looked_few g c.nodes.self i.search in
+    let most : looked (first_of g) (orders c.nodes.search) c.nodes.search.head ≤ length (arcs_of g) = looked_few g c.nodes.search i.search in
     let few : length (arcs_of g) ≤ 8192 = i.search.ground.graph.few in
-    record {
-      search = o.search;
-      served = served_still g c.nodes.self c.goes_on.new.self i.search o i.served;
-      more = c.goes_on.ensures.more c.if-not-goes_on.false;
-      few = omega (arith, i.looks, c.requires.few);
-    }
+    omega (arith, i.looks, c.requires.few)
 
 pub nodes-smaller : goal.nodes-smaller
 nodes-smaller c = omega (arith, c.goes_on.ensures.ordered.head, c.scan.ensures.head, c.scan.ensures.search.reached.counts)
@@ -36,30 +36,39 @@ nodes-preserved c =
     let o = c.goes_on.ensures.ordered in
     let f = c.scan.ensures in
     let g = c.args.ground in
-    let s = c.nodes.self in
+    let s = c.nodes.search in
     let t = c.goes_on.new.self in
     let u = c.scan.new.self in
     let one : looked (first_of g) (orders t) t.head ≡ looked (first_of g) (orders s) s.head = looked_ordered g s t i.search o in
-    let two : looked (first_of g) (orders u) u.head ≡ looked (first_of g) (orders t) t.head + degree (first_of g) (orders t t.head) = looked_scanned g t u o.search (c.goes_on.ensures.more c.if-not-goes_on.false) f.search f.kept f.head in
+    let two : looked (first_of g) (orders u) u.head ≡ looked (first_of g) (orders t) t.head + degree (first_of g) (orders t t.head) = looked_scanned g t u o.search (c.goes_on.ensures.more c.nodes-test.true) f.search f.kept f.head in
     record {
       search = f.search;
+      list = f.list ∙ o.list ∙ i.list;
       served = f.served;
       looks = omega (arith, i.looks, f.looks);
     }
 
-pub returns-then-not-goes_on : goal.returns-then-not-goes_on
-returns-then-not-goes_on c =
+pub returns-clause-list : goal.returns-clause-list
+returns-clause-list c = c.goes_on.ensures.ordered.list ∙ c.nodes.invariant.list ∙ c.begin-search.ensures.list
+
+pub returns-clause-served : goal.returns-clause-served
+returns-clause-served c =
     let i = c.nodes.invariant in
-    let o = c.goes_on.ensures.ordered in
+    served_still c.args.ground c.nodes.search c.goes_on.new.self i.search c.goes_on.ensures.ordered i.served
+
+pub returns-clause-left : goal.returns-clause-left
+returns-clause-left c = c.goes_on.ensures.left c.nodes-test.false
+
+pub returns-clause-looks : goal.returns-clause-looks
+returns-clause-looks c =
+    let i = c.nodes.invariant in
     let g = c.args.ground in
-    let s = c.nodes.self in
-    let t = c.goes_on.new.self in
-    let one : looked (first_of g) (orders t) t.head ≡ looked (first_of g) (orders s) s.head = looked_ordered g s t i.search o in
-    let most : looked (first_of g) (orders s) s.head ≤ length (arcs_of g) = looked_few g s i.search in
-    record {
-      search = o.search;
-      served = served_still g s t i.search o i.served;
-      left = c.goes_on.ensures.left c.if-not-goes_on.true;
-      looks = omega (arith, i.looks);
-      once = omega (arith, i.looks);
-    }
+    let one : looked (first_of g) (orders c.goes_on.new.self) c.goes_on.new.self.head ≡ looked (first_of g) (orders c.nodes.search) c.nodes.search.head = looked_ordered g c.nodes.search c.goes_on.new.self i.search c.goes_on.ensures.ordered in
+    omega (arith, i.looks)
+
+pub returns-clause-once : goal.returns-clause-once
+returns-clause-once c =
+    let i = c.nodes.invariant in
+    let g = c.args.ground in
+    let most : looked (first_of g) (orders c.nodes.search) c.nodes.search.head ≤ length (arcs_of g) = looked_few g c.nodes.search i.search in
+    omega (arith, i.looks)

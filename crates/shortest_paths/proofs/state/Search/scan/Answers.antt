@@ -1,51 +1,26 @@
-use Rattle.std.proofs.Common.{◌≡◌, ◌<◌, ◌+◌, ◌-◌, ℕ, arith, refl, inl, inr, subst, sym, ◌∙◌}
+use Rattle.std.proofs.Common.{◌≡◌, ◌<◌, ◌+◌, ℕ, arith, refl, inl, inr, subst, sym, ◌∙◌}
 use Rattle.std.proofs.lemmas.Bool.{cases_lt}
-use Rattle.std.proofs.lemmas.List.{get_or_read}
-use Rattle.networks.specs.ResidualArcs.{numbers}
-use Rattle.shortest_paths.specs.Search.{nodes_of, first_of, arcs_of, potential_of, labels, orders, places, IsKept, IsScanning, Serves, degree}
+use Rattle.shortest_paths.specs.Search.{nodes_of, arcs_of, potential_of, labels, orders, places, IsKept, IsScanning, Serves}
 use Rattle.shortest_paths.proofs.Reaching.{headed, headed_nearest, kept_same, kept_then, same_z, served_after, under_level}
-use Rattle.shortest_paths.proofs.Searching.{scanning, next_in, still_serves, scanned, order_read}
+use Rattle.shortest_paths.proofs.Searching.{scanning, next_in, still_serves, scanned}
 use Rattle.shortest_paths.proofs.state.Search.scan.Goals as goal
-
-pub index-requires-2 : goal.index-requires-2
-index-requires-2 c =
-    let s = c.args.self.now in
-    let h = c.requires.search in
-    let u : ℕ = c.index.result.now.at_place in
-    let e : u ≡ orders s s.head = order_read s s.head c.index.result.now (omega (arith, h.reached.counts, c.requires.more, h.size)) c.index.ensures in
-    let b : u < nodes_of c.args.ground = next_in c.args.ground s u h c.requires.more e in
-    omega (arith, h.ground.graph.starts)
-
-pub index-requires-3 : goal.index-requires-3
-index-requires-3 c =
-    let s = c.args.self.now in
-    let h = c.requires.search in
-    let u : ℕ = c.index.result.now.at_place in
-    let e : u ≡ orders s s.head = order_read s s.head c.index.result.now (omega (arith, h.reached.counts, c.requires.more, h.size)) c.index.ensures in
-    let b : u < nodes_of c.args.ground = next_in c.args.ground s u h c.requires.more e in
-    omega (arith, h.ground.graph.starts)
 
 pub overflow_sub-looks : goal.overflow_sub-looks
 overflow_sub-looks c =
     let h = c.requires.search in
     let s = c.args.self.now in
     let g = c.args.ground in
-    let u : ℕ = c.index.result.now.at_place in
-    let e : u ≡ orders s s.head = order_read s s.head c.index.result.now (omega (arith, h.reached.counts, c.requires.more, h.size)) c.index.ensures in
-    let b : u < nodes_of g = next_in g s u h c.requires.more e in
-    let start : c.index-2.result.now ≡ numbers (first_of g) u = get_or_read (first_of g) u c.index-2.result.now (omega (arith, h.ground.graph.starts)) c.index-2.ensures 0 in
-    let end : c.index-3.result.now ≡ numbers (first_of g) (u + 1) = get_or_read (first_of g) (u + 1) c.index-3.result.now (omega (arith, h.ground.graph.starts)) c.index-3.ensures 0 in
-    omega (arith, start, end, h.ground.graph.rising u b)
+    let u : ℕ = orders s s.head in
+    let b : u < nodes_of g = next_in g s u h c.requires.more refl in
+    h.ground.graph.rising u b
 
 pub offers-init : goal.offers-init
 offers-init c =
     let h = c.requires.search in
     let s = c.args.self.now in
     let g = c.args.ground in
-    let u : ℕ = c.index.result.now.at_place in
-    let e : u ≡ orders s s.head = order_read s s.head c.index.result.now (omega (arith, h.reached.counts, c.requires.more, h.size)) c.index.ensures in
-    let b : u < nodes_of g = next_in g s u h c.requires.more e in
-    let start : c.index-2.result.now ≡ numbers (first_of g) u = get_or_read (first_of g) u c.index-2.result.now (omega (arith, h.ground.graph.starts)) c.index-2.ensures 0 in
+    let u : ℕ = orders s s.head in
+    let b : u < nodes_of g = next_in g s u h c.requires.more refl in
     record {
       relaxed = record {
         search = record {
@@ -54,13 +29,14 @@ offers-init c =
           reached = headed _ _ _ _ _ _ _ _ _ _ _ _ _ _ h.reached c.requires.more;
           nearest = headed_nearest _ _ _ _ _ _ _ _ _ _ _ _ h.nearest;
         };
+        list = refl;
         kept = kept_same _ _ _ _;
         head = refl;
         level = refl;
         cut = same_z s.cut;
       };
-      from = omega (arith, start);
-      serves = λ k x y. absurd (omega (arith, start));
+      from = omega arith;
+      serves = λ k x y. absurd (omega arith);
     }
 
 pub next_offer-requires-clause-scanning : goal.next_offer-requires-clause-scanning
@@ -68,34 +44,20 @@ next_offer-requires-clause-scanning c =
     let h = c.requires.search in
     let s = c.args.self.now in
     let g = c.args.ground in
-    let u : ℕ = c.index.result.now.at_place in
-    let e : u ≡ orders s s.head = order_read s s.head c.index.result.now (omega (arith, h.reached.counts, c.requires.more, h.size)) c.index.ensures in
-    let b : u < nodes_of g = next_in g s u h c.requires.more e in
+    let u : ℕ = orders s s.head in
+    let b : u < nodes_of g = next_in g s u h c.requires.more refl in
     let r = c.offers.invariant.relaxed in
-    scanning g s c.offers.self u h c.requires.more e r.search r.kept r.head r.level
-
-pub next_offer-requires-clause-end : goal.next_offer-requires-clause-end
-next_offer-requires-clause-end c =
-    let h = c.requires.search in
-    let s = c.args.self.now in
-    let g = c.args.ground in
-    let u : ℕ = c.index.result.now.at_place in
-    let e : u ≡ orders s s.head = order_read s s.head c.index.result.now (omega (arith, h.reached.counts, c.requires.more, h.size)) c.index.ensures in
-    let b : u < nodes_of g = next_in g s u h c.requires.more e in
-    get_or_read (first_of g) (u + 1) c.index-3.result.now (omega (arith, h.ground.graph.starts)) c.index-3.ensures 0
+    scanning g s c.offers.self u h c.requires.more refl r.search r.kept r.head r.level
 
 pub offers-preserved : goal.offers-preserved
 offers-preserved c =
     let h = c.requires.search in
     let s = c.args.self.now in
     let g = c.args.ground in
-    let u : ℕ = c.index.result.now.at_place in
-    let e : u ≡ orders s s.head = order_read s s.head c.index.result.now (omega (arith, h.reached.counts, c.requires.more, h.size)) c.index.ensures in
-    let b : u < nodes_of g = next_in g s u h c.requires.more e in
-    let start : c.index-2.result.now ≡ numbers (first_of g) u = get_or_read (first_of g) u c.index-2.result.now (omega (arith, h.ground.graph.starts)) c.index-2.ensures 0 in
-    let end : c.index-3.result.now ≡ numbers (first_of g) (u + 1) = get_or_read (first_of g) (u + 1) c.index-3.result.now (omega (arith, h.ground.graph.starts)) c.index-3.ensures 0 in
+    let u : ℕ = orders s s.head in
+    let b : u < nodes_of g = next_in g s u h c.requires.more refl in
     let r = c.offers.invariant.relaxed in
-    let n : IsScanning g c.offers.self u = scanning g s c.offers.self u h c.requires.more e r.search r.kept r.head r.level in
+    let n : IsScanning g c.offers.self u = scanning g s c.offers.self u h c.requires.more refl r.search r.kept r.head r.level in
     let i = c.offers.invariant in
     let t = c.offers.self in
     let new = c.reach.new.self in
@@ -111,6 +73,7 @@ offers-preserved c =
     record {
       relaxed = record {
         search = k.search;
+        list = k.list ∙ r.list;
         kept = kept_then _ _ _ _ _ _ _ _ r.kept step;
         head = k.head ∙ r.head;
         level = k.level ∙ r.level;
@@ -119,8 +82,8 @@ offers-preserved c =
       from = omega (arith, i.from, within);
       serves = λ j a d. elim (cases_lt j number) [
         | inl l ↦ elim (cases_lt j c.offers.number) [
-          | inl m ↦ still_serves g t new u j n k (record { from = a; below = omega (arith, end, within, l) }) (i.serves j a m)
-          | inr m ↦ still_serves g t new u j n k (record { from = a; below = omega (arith, end, within, l) }) (c.in-Some.ensures.before j (omega (arith, m)) l)
+          | inl m ↦ still_serves g t new u j n k (record { from = a; below = omega (arith, within, l) }) (i.serves j a m)
+          | inr m ↦ still_serves g t new u j n k (record { from = a; below = omega (arith, within, l) }) (c.in-Some.ensures.before j (omega (arith, m)) l)
         ]
         | inr l ↦ let q : j ≡ number = omega arith in subst (λ (m : ℕ). Serves (arcs_of g) (potential_of g) (labels new) new.cut u m) (sym q) here
       ];
@@ -131,26 +94,11 @@ returns-clause-served c =
     let h = c.requires.search in
     let s = c.args.self.now in
     let g = c.args.ground in
-    let u : ℕ = c.index.result.now.at_place in
-    let e : u ≡ orders s s.head = order_read s s.head c.index.result.now (omega (arith, h.reached.counts, c.requires.more, h.size)) c.index.ensures in
-    let b : u < nodes_of g = next_in g s u h c.requires.more e in
-    let start : c.index-2.result.now ≡ numbers (first_of g) u = get_or_read (first_of g) u c.index-2.result.now (omega (arith, h.ground.graph.starts)) c.index-2.ensures 0 in
-    let end : c.index-3.result.now ≡ numbers (first_of g) (u + 1) = get_or_read (first_of g) (u + 1) c.index-3.result.now (omega (arith, h.ground.graph.starts)) c.index-3.ensures 0 in
+    let u : ℕ = orders s s.head in
+    let b : u < nodes_of g = next_in g s u h c.requires.more refl in
     let i = c.offers.invariant in
     let r = i.relaxed in
-    scanned g s c.offers.self u h c.requires.more e c.requires.served r.search r.kept r.head r.cut (λ k st. elim (cases_lt k c.offers.number) [
+    scanned g s c.offers.self u h c.requires.more refl c.requires.served r.search r.kept r.head r.cut (λ k st. elim (cases_lt k c.offers.number) [
       | inl m ↦ i.serves k st.from m
-      | inr m ↦ c.in_default.ensures.served k (omega (arith, m)) (omega (arith, st.below, end))
+      | inr m ↦ c.in_default.ensures.served k (omega (arith, m)) (omega (arith, st.below))
     ])
-
-pub returns-clause-looks : goal.returns-clause-looks
-returns-clause-looks c =
-    let h = c.requires.search in
-    let s = c.args.self.now in
-    let g = c.args.ground in
-    let u : ℕ = c.index.result.now.at_place in
-    let e : u ≡ orders s s.head = order_read s s.head c.index.result.now (omega (arith, h.reached.counts, c.requires.more, h.size)) c.index.ensures in
-    let b : u < nodes_of g = next_in g s u h c.requires.more e in
-    let start : c.index-2.result.now ≡ numbers (first_of g) u = get_or_read (first_of g) u c.index-2.result.now (omega (arith, h.ground.graph.starts)) c.index-2.ensures 0 in
-    let end : c.index-3.result.now ≡ numbers (first_of g) (u + 1) = get_or_read (first_of g) (u + 1) c.index-3.result.now (omega (arith, h.ground.graph.starts)) c.index-3.ensures 0 in
-    subst (λ (v : ℕ). c.args.looks.now + (c.index-3.result.now - c.index-2.result.now) ≡ c.args.looks.now + degree (first_of g) v) e (omega (arith, start, end))

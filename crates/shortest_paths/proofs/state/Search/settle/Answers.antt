@@ -1,23 +1,14 @@
-use Rattle.std.proofs.Common.{rules, ◌≡◌, ◌<◌, refl, arith}
-use Rattle.std.specs.Prelude.{pos, ◌-ℤ◌}
-use Rattle.std.proofs.lemmas.List.{get_or_read}
+use Rattle.std.proofs.Common.{rules, ◌≡◌, ◌<◌, arith}
+use Rattle.std.specs.Prelude.{◌-ℤ◌}
 use mir.Syntax.{w32}
 use mir.Val.{SFits}
 use Rattle.shortest_paths.specs.Search.{nodes_of, potential_of}
-use Rattle.shortest_paths.proofs.Signs.{fits_within, passed_within, same_from_bits}
-use Rattle.shortest_paths.proofs.Reaching.{offer_number}
-use Rattle.shortest_paths.proofs.Searching.{IsListed, offer_within, end_in, room_left, potential_within, away_is, settled, settled_behind, listed}
+use Rattle.shortest_paths.proofs.Signs.{same_from_bits, fits_within, passed_within}
+use Rattle.shortest_paths.proofs.Searching.{IsListed, potential_near, potential_within, away_is, offer_within, end_in, room_left, settled, settled_behind, listed}
 use Rattle.shortest_paths.proofs.state.Search.settle.Goals as goal
 
-pub mark-requires : goal.mark-requires
-mark-requires c =
-    let o = c.requires.offer in
-    let h = o.search in
-    let b : c.args.step.end < nodes_of c.args.ground = end_in c.args.ground c.args.self.now c.args.step o in
-    record {
-      end = record { few = omega (arith, h.size, h.ground.graph.nodes); node = omega (arith, h.size); number = offer_number _ _ _ _ _ _ _ _ _ _ _ _ h.ground.graph o.offer };
-      room = room_left c.args.ground c.args.self.now c.args.step.end h b;
-    }
+pub mark-requires-clause-room : goal.mark-requires-clause-room
+mark-requires-clause-room c = room_left c.args.ground c.args.self.now c.args.step.end c.requires.offer.search (end_in c.args.ground c.args.self.now c.args.step c.requires.offer)
 
 pub distance-requires-clause-label : goal.distance-requires-clause-label
 distance-requires-clause-label c =
@@ -25,20 +16,15 @@ distance-requires-clause-label c =
     passed_within _ _ c.args.step.label (fits_within _ w) w
 
 pub distance-requires-clause-potential : goal.distance-requires-clause-potential
-distance-requires-clause-potential c =
-    let f : SFits w32 c.index.result.now = search rules in
-    let o = c.requires.offer in
-    let b : c.args.step.end < nodes_of c.args.ground = end_in c.args.ground c.args.self.now c.args.step o in
-    potential_within c.args.ground c.args.self.now c.args.step.end c.index.result.now o.search b (get_or_read c.args.ground.nodes.now.potential.items c.args.step.end c.index.result.now b c.index.ensures (pos 0)) f
+distance-requires-clause-potential c = potential_within c.args.ground c.args.step.end c.requires.offer.search.ground (end_in c.args.ground c.args.self.now c.args.step c.requires.offer)
 
 pub advance-requires : goal.advance-requires
 advance-requires c =
     let o = c.requires.offer in
-    let b : c.args.step.end < nodes_of c.args.ground = end_in c.args.ground c.args.self.now c.args.step o in
     let w : IsListed c.args.ground c.mark.new.self c.args.step.end = listed c.args.ground c.args.self.now c.mark.new.self c.args.step o c.requires.plain c.mark.ensures.marked in
     record {
       few = omega (arith, w.size, o.search.ground.graph.nodes);
-      node = omega (arith, w.size);
+      node = omega (arith, w.size, end_in c.args.ground c.args.self.now c.args.step o);
       from = omega (arith, w.size, w.inside, w.few);
       order = w.ordered;
       other = omega (arith, w.size, w.other);
@@ -48,21 +34,18 @@ advance-requires c =
 
 pub returns-then-distance-self-clause-relaxed : goal.returns-then-distance-self-clause-relaxed
 returns-then-distance-self-clause-relaxed c =
-    let f : SFits w32 c.index.result.now = search rules in
     let fd : SFits w32 c.distance.result = search rules in
     let fl : SFits w32 c.mark.new.self.level = search rules in
     let o = c.requires.offer in
-    let b : c.args.step.end < nodes_of c.args.ground = end_in c.args.ground c.args.self.now c.args.step o in
-    let away : c.distance.result ≡ c.args.step.label -ℤ potential_of c.args.ground c.args.step.end = away_is _ _ _ _ _ (fits_within _ (offer_within c.args.ground c.args.self.now c.args.step o)) f c.distance.ensures refl (get_or_read c.args.ground.nodes.now.potential.items c.args.step.end c.index.result.now b c.index.ensures (pos 0)) in
+    let g = c.args.ground in
+    let b : c.args.step.end < nodes_of g = end_in g c.args.self.now c.args.step o in
+    let away : c.distance.result ≡ c.args.step.label -ℤ potential_of g c.args.step.end = away_is _ _ _ (offer_within g c.args.self.now c.args.step o) (potential_near g c.args.step.end o.search.ground b) c.distance.ensures in
     let same : c.distance.result ≡ c.mark.new.self.level = same_from_bits _ _ fd fl c.if-distance-self.true in
     let a = c.advance.ensures in
-    settled c.args.ground c.args.self.now c.mark.new.self c.advance.new.self c.args.step c.distance.result o c.requires.plain c.mark.ensures.marked away same a.swapped a.same a.ordered
+    settled g c.args.self.now c.mark.new.self c.advance.new.self c.args.step c.distance.result o c.requires.plain c.mark.ensures.marked away same a.swapped a.same a.ordered
 
 pub returns-then-distance-self-clause-label : goal.returns-then-distance-self-clause-label
 returns-then-distance-self-clause-label c = rw (c.advance.ensures.same.label c.args.step.end) c.mark.ensures.marked.label.here
 
 pub returns-else-distance-self-clause-relaxed : goal.returns-else-distance-self-clause-relaxed
 returns-else-distance-self-clause-relaxed c = settled_behind c.args.ground c.args.self.now c.mark.new.self c.args.step c.requires.offer c.requires.plain c.mark.ensures.marked
-
-pub returns-else-distance-self-clause-label : goal.returns-else-distance-self-clause-label
-returns-else-distance-self-clause-label c = c.mark.ensures.marked.label.here
