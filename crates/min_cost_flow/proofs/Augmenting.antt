@@ -11,7 +11,10 @@ use Rattle.networks.specs.declared.arc.Cap.TheVariants.{AtMost, Any}
 use Rattle.networks.specs.declared.residual.ResidualArc.{ResidualArc}
 use Rattle.networks.specs.Networks.{NetworkModel, node_count, arc_count, arc_at, HasUnitCosts, IsNetwork}
 use Rattle.networks.specs.Flow.{leaves, enters, IsWithin, HasRoom, IsResidual, HasPotentials, start_of, end_of, unit_cost, reduced_cost}
-use Rattle.shortest_paths.specs.Search.{enters as entries, places}
+use Rattle.shortest_paths.specs.declared.state.Visit.{Visit}
+use Rattle.shortest_paths.specs.Search.{enter_at, place_at, no_visit}
+use Rattle.std.proofs.lemmas.List.{get_or_read}
+use Rattle.std.specs.Prelude.{length, slice_index_or}
 use Rattle.min_cost_flow.specs.Excess.{KeepsCaps, Carries}
 use Rattle.min_cost_flow.specs.Residual.{IsMoved}
 use Rattle.networks.specs.declared.residual.Residual.{Residual}
@@ -20,11 +23,19 @@ use Rattle.networks.specs.Residuals.{IsResidualNetwork, IsSetTo, flow_of}
 use Rattle.min_cost_flow.specs.Path.{IsTight, HasPath, way, IsOnWay}
 use Rattle.min_cost_flow.specs.Round.{IsLess, carrying}
 use Rattle.min_cost_flow.specs.declared.state.Solver.{Solver}
-use Rattle.min_cost_flow.specs.Stand.{potential_at, CanAugment, HasUnitCost, IsPaired, IsPushedAlong}
+use Rattle.min_cost_flow.specs.Stand.{potential_at, enters_in, places_in, CanAugment, HasUnitCost, IsPaired, IsPushedAlong}
 use Rattle.networks.proofs.Ends.{start_in, end_in, unit_cost_most}
 use Rattle.min_cost_flow.proofs.Changes.{SameBut, moved_carries, carried_leaves, potentials_stay}
 use Rattle.min_cost_flow.proofs.Rounds.{IsSent, left_falls}
 use Rattle.min_cost_flow.proofs.Reverses.{start_is}
+
+-- ---- what is read of a visit
+
+pub place_read : (visits : List Visit) (v : ℕ) (x : Visit) → v < length visits → x ≡ slice_index_or visits v x → x.place ≡ place_at visits v
+place_read visits v x b e = ap (λ (y : Visit). y.place) (get_or_read visits v x b e no_visit)
+
+pub enter_read : (visits : List Visit) (v : ℕ) (x : Visit) → v < length visits → x ≡ slice_index_or visits v x → x.enter ≡ enter_at visits v
+enter_read visits v x b e = ap (λ (y : Visit). y.enter) (get_or_read visits v x b e no_visit)
 
 -- ---- one push
 
@@ -561,22 +572,22 @@ pub link_end : (net : NetworkModel) (reverse : ℕ → ℕ) (forward : List ℕ)
 link_end net reverse forward room p u k v n t = subst (λ (q : ℕ). q < node_count net) t.end (end_in net t.arc t.back n.ends t.inside)
 
 -- the same of the solver's own lists
-pub own_step : (net : NetworkModel) (s : Solver) (source : ℕ) → (h : CanAugment net s source) → (v : ℕ) → h.path.on v ≡ true → 0 < places s.search v → IsStep net s.residual.first.items (reverse_at s.residual.arcs.items) s.residual.forward.items s.residual.arcs.items (potential_at s) h.path.on (places s.search) v (entries s.search v)
+pub own_step : (net : NetworkModel) (s : Solver) (source : ℕ) → (h : CanAugment net s source) → (v : ℕ) → h.path.on v ≡ true → 0 < places_in s v → IsStep net s.residual.first.items (reverse_at s.residual.arcs.items) s.residual.forward.items s.residual.arcs.items (potential_at s) h.path.on (places_in s) v (enters_in s v)
 own_step net s source h v on some =
-    path_step net s.residual.first.items (reverse_at s.residual.arcs.items) s.residual.forward.items s.residual.arcs.items (potential_at s) (entries s.search) (places s.search) source s.search.found h.ready.network h.ready.residual.laid_out h.ready.residual.filled h.path v on some
+    path_step net s.residual.first.items (reverse_at s.residual.arcs.items) s.residual.forward.items s.residual.arcs.items (potential_at s) (enters_in s) (places_in s) source s.found h.ready.network h.ready.residual.laid_out h.ready.residual.filled h.path v on some
 
-pub own_last : (net : NetworkModel) (s : Solver) (source : ℕ) → (h : CanAugment net s source) → IsLast net s.residual.first.items (reverse_at s.residual.arcs.items) s.residual.forward.items s.residual.arcs.items (potential_at s) h.path.on s.search.found
+pub own_last : (net : NetworkModel) (s : Solver) (source : ℕ) → (h : CanAugment net s source) → IsLast net s.residual.first.items (reverse_at s.residual.arcs.items) s.residual.forward.items s.residual.arcs.items (potential_at s) h.path.on s.found
 own_last net s source h =
-    path_last net s.residual.first.items (reverse_at s.residual.arcs.items) s.residual.forward.items s.residual.arcs.items (potential_at s) (entries s.search) (places s.search) source s.search.found h.ready.network h.ready.residual.laid_out h.ready.residual.filled h.path
+    path_last net s.residual.first.items (reverse_at s.residual.arcs.items) s.residual.forward.items s.residual.arcs.items (potential_at s) (enters_in s) (places_in s) source s.found h.ready.network h.ready.residual.laid_out h.ready.residual.filled h.path
 
-pub own_end : (net : NetworkModel) (s : Solver) (source : ℕ) → CanAugment net s source → end_at s.residual.arcs.items s.search.found < node_count net
-own_end net s source h = link_end net (reverse_at s.residual.arcs.items) s.residual.forward.items (room_at s.residual.arcs.items) (potential_at s) (end_at s.residual.arcs.items (reverse_at s.residual.arcs.items s.search.found)) s.search.found (end_at s.residual.arcs.items s.search.found) h.ready.network (own_last net s source h).link
+pub own_end : (net : NetworkModel) (s : Solver) (source : ℕ) → CanAugment net s source → end_at s.residual.arcs.items s.found < node_count net
+own_end net s source h = link_end net (reverse_at s.residual.arcs.items) s.residual.forward.items (room_at s.residual.arcs.items) (potential_at s) (end_at s.residual.arcs.items (reverse_at s.residual.arcs.items s.found)) s.found (end_at s.residual.arcs.items s.found) h.ready.network (own_last net s source h).link
 
-pub last_pair : (net : NetworkModel) (s : Solver) (source : ℕ) → CanAugment net s source → IsPaired s.residual s.search.found
-last_pair net s source h = let l = own_last net s source h in is_paired net s.residual (end_at s.residual.arcs.items (reverse_at s.residual.arcs.items s.search.found)) s.search.found h.ready.network h.ready.residual l.node l.leaves
+pub last_pair : (net : NetworkModel) (s : Solver) (source : ℕ) → CanAugment net s source → IsPaired s.residual s.found
+last_pair net s source h = let l = own_last net s source h in is_paired net s.residual (end_at s.residual.arcs.items (reverse_at s.residual.arcs.items s.found)) s.found h.ready.network h.ready.residual l.node l.leaves
 
-pub step_pair : (net : NetworkModel) (s : Solver) (source v : ℕ) → (h : CanAugment net s source) → h.path.on v ≡ true → 0 < places s.search v → IsPaired s.residual (entries s.search v)
-step_pair net s source v h on some = let l = own_step net s source h v on some in is_paired net s.residual (end_at s.residual.arcs.items (reverse_at s.residual.arcs.items (entries s.search v))) (entries s.search v) h.ready.network h.ready.residual l.node l.leaves
+pub step_pair : (net : NetworkModel) (s : Solver) (source v : ℕ) → (h : CanAugment net s source) → h.path.on v ≡ true → 0 < places_in s v → IsPaired s.residual (enters_in s v)
+step_pair net s source v h on some = let l = own_step net s source h v on some in is_paired net s.residual (end_at s.residual.arcs.items (reverse_at s.residual.arcs.items (enters_in s v))) (enters_in s v) h.ready.network h.ready.residual l.node l.leaves
 
 -- ---- the least of what fits
 

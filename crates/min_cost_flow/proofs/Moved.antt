@@ -201,7 +201,7 @@ shown_at net x ps e cost n r sent size is =
     }
 
 -- the work that is counted has no part in it
-pub ready_still : (net : NetworkModel) (s s' : Solver) → IsReady net s → s'.residual ≡ s.residual → s'.nodes ≡ s.nodes → s'.search ≡ s.search → IsReady net s'
+pub ready_still : (net : NetworkModel) (s s' : Solver) → IsReady net s → s'.residual ≡ s.residual → s'.nodes ≡ s.nodes → s'.visits ≡ s.visits → IsReady net s'
 ready_still net s s' r re ne se = record {
   network = r.network;
   residual = rw re r.residual;
@@ -213,7 +213,7 @@ ready_still net s s' r re ne se = record {
 }
 
 -- the lists of a flow have the sizes that its network needs after supplies have moved
-pub sized_moved : (net : NetworkModel) (l l' : Solver) (f t k : ℕ) → IsReady net l → HasFairSupplies (shifted net f t k) → l'.residual ≡ l.residual → length l'.nodes.potential.items ≡ length l.nodes.potential.items → l'.nodes.excess ≡ l.nodes.excess → l'.search ≡ l.search → IsSized (shifted net f t k) l'
+pub sized_moved : (net : NetworkModel) (l l' : Solver) (f t k : ℕ) → IsReady net l → HasFairSupplies (shifted net f t k) → l'.residual ≡ l.residual → length l'.nodes.potential.items ≡ length l.nodes.potential.items → l'.nodes.excess ≡ l.nodes.excess → l'.visits ≡ l.visits → IsSized (shifted net f t k) l'
 sized_moved net l l' f t k r fair re pe ee he =
     let long : length (moved net.supplies f t k) ≡ node_count net = length-moved net.supplies f t k in
     let w = r.residual.laid_out in
@@ -238,7 +238,7 @@ pub ready_moved : (net : NetworkModel) (l l' : Solver) (f t k : ℕ) → IsSettl
     → ((v : ℕ) → v < node_count net → at_nodes l'.nodes.potential.items v ≡ at_nodes l.nodes.potential.items v -ℤ at_nodes l.nodes.potential.items t)
     → ((v : ℕ) → v < node_count net → (pos 0 ≤ℤ (at_nodes l'.nodes.potential.items v +ℤ pos (2 * node_count net))) × (at_nodes l'.nodes.potential.items v ≤ℤ pos (2 * node_count net)))
     → ((i : ℕ) → i < arc_count net → flow_of l.residual i + k ≤ 2097152)
-    → l'.residual ≡ l.residual → l'.search ≡ l.search → length l'.nodes.potential.items ≡ length l.nodes.potential.items → l'.nodes.excess.items ≡ moved l.nodes.excess.items f t k
+    → l'.residual ≡ l.residual → l'.visits ≡ l.visits → length l'.nodes.potential.items ≡ length l.nodes.potential.items → l'.nodes.excess.items ≡ moved l.nodes.excess.items f t k
     → IsReady (shifted net f t k) l'
 ready_moved net l l' f t k st fair fb tb few base low room re he pe ee =
     let r = st.ready in

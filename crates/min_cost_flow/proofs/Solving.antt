@@ -17,16 +17,19 @@ use Rattle.networks.specs.declared.residual.ResidualArc.{ResidualArc}
 use Rattle.networks.specs.Networks.{NetworkModel, node_count, arc_count, arc_at, HasUnitCosts, IsNetwork}
 use Rattle.networks.specs.Flow.{HasRoom, IsResidual, HasPotentials, HasNoFlow, start_of, end_of, unit_cost, reduced_cost}
 use Rattle.min_cost_flow.specs.Round.{IsRound}
+use Rattle.networks.specs.declared.residual.Residual.{Residual}
+use Rattle.networks.specs.Flow.{at_nodes}
 use Rattle.shortest_paths.specs.declared.state.Search.{Search}
+use Rattle.shortest_paths.specs.declared.state.Visit.{Visit}
 use Rattle.min_cost_flow.specs.declared.state.Solver.{Solver}
-use Rattle.min_cost_flow.specs.Stand.{excess_at, potential_at, IsReady, CanAugment, IsCleared}
+use Rattle.min_cost_flow.specs.Stand.{IsReadyIn, CanAugmentIn, IsCleared}
 use Rattle.networks.specs.ResidualArcs.{end_at, cost_at, reverse_at, room_at, StartsAt, place_of, limit_of, HasResidualArcs, IsFilled, carried}
-use Rattle.shortest_paths.specs.Search.{far, IsArcCost, IsOpen, IsGraph, IsPriced, IsNear, IsReached, IsHit, IsNearest, IsServed, IsLeft, IsPut, IsWithinFar, degree, looked, labels, enters, orders, places}
+use Rattle.shortest_paths.specs.Search.{far, IsArcCost, IsOpen, IsGraph, IsPriced, IsNear, IsReached, IsHit, IsNearest, IsServed, IsLeft, IsPut, IsWithinFar, degree, looked, label_at, enter_at, place_at, labels, enters, orders, places}
 use Rattle.min_cost_flow.specs.Path.{HasPath}
 use Rattle.min_cost_flow.proofs.Cut.{no_flow_out}
 use Rattle.networks.proofs.Ends.{start_in, end_in}
 use Rattle.min_cost_flow.proofs.Reverses.{turned_back, start_is}
-use Rattle.shortest_paths.proofs.Signs.{plain_lt}
+use Rattle.shortest_paths.proofs.Signs.{plain_lt, fits_within}
 use Rattle.min_cost_flow.proofs.Comparisons.{lt_true}
 use Rattle.shortest_paths.proofs.Reaching.{below_or_not, not_less}
 
@@ -442,26 +445,26 @@ all_cleared n first arcs p e s q q' enter order place head ordered reached level
     ]
 
 -- the potentials have moved and the labels are taken away, so units can be sent along the path
-pub can_augment : (net : NetworkModel) (s s' : Solver) (source : ℕ) (t : Search) → IsReady net s → source < node_count net → pos 0 <ℤ excess_at s source
-    → length t.visits.items ≡ length s.nodes.potential.items
-    → IsGraph (length s.nodes.potential.items) s.residual.first.items s.residual.arcs.items
-    → IsReached (length s.nodes.potential.items) s.residual.first.items s.residual.arcs.items (potential_at s) (excess_at s) source (labels t) (enters t) (orders t) (places t) t.head t.ordered t.reached t.level
-    → IsNearest (length s.nodes.potential.items) s.residual.first.items s.residual.arcs.items (potential_at s) (excess_at s) source (labels t) (places t) t.head t.level t.cut t.found
-    → IsServed (length s.nodes.potential.items) s.residual.first.items s.residual.arcs.items (potential_at s) (labels t) (places t) t.cut t.head
-    → IsLeft (length s.nodes.potential.items) (potential_at s) (labels t) (places t) t.head t.cut
+pub can_augment : (net : NetworkModel) (r : Residual) (potential excess potential' : List ℤ) (visits visits' : List Visit) (source : ℕ) (t t' : Search) → IsReadyIn net r potential excess visits → source < node_count net → pos 0 <ℤ at_nodes excess source
+    → length t.visits.now ≡ length potential
+    → IsGraph (length potential) r.first.items r.arcs.items
+    → IsReached (length potential) r.first.items r.arcs.items (at_nodes potential) (at_nodes excess) source (labels t) (enters t) (orders t) (places t) t.head t.ordered t.reached t.level
+    → IsNearest (length potential) r.first.items r.arcs.items (at_nodes potential) (at_nodes excess) source (labels t) (places t) t.head t.level t.cut t.found
+    → IsServed (length potential) r.first.items r.arcs.items (at_nodes potential) (labels t) (places t) t.cut t.head
+    → IsLeft (length potential) (at_nodes potential) (labels t) (places t) t.head t.cut
     → t.cut <ℤ far
-    → ((j : ℕ) → j < t.head → potential_at s' (orders t j) ≡ labels t (orders t j) -ℤ t.cut)
-    → ((v : ℕ) → ((j : ℕ) → j < t.head → orders t j ≢ v) → potential_at s' v ≡ potential_at s v)
-    → (s'.nodes.excess ≡ s.nodes.excess) × (length s'.nodes.potential.items ≡ length s.nodes.potential.items)
-    → s'.residual ≡ s.residual → IsCleared t s'.search
-    → CanAugment net s' source
-can_augment net s s' source t r b over size g h near sv left hit moved others same res q =
+    → ((j : ℕ) → j < t.head → at_nodes potential' (orders t j) ≡ labels t (orders t j) -ℤ t.cut)
+    → ((v : ℕ) → ((j : ℕ) → j < t.head → orders t j ≢ v) → at_nodes potential' v ≡ at_nodes potential v)
+    → length potential' ≡ length potential
+    → IsCleared t t' → visits' ≡ t'.visits.now
+    → CanAugmentIn net r potential' excess visits' t'.found source
+can_augment net res potential excess potential' visits visits' source t t' r b over size g h near sv left hit moved others same q list =
     let n = r.potentials in
-    let first = s.residual.first.items in
-    let arcs = s.residual.arcs.items in
-    let p = potential_at s in
-    let p' = potential_at s' in
-    let x = excess_at s in
+    let first = res.first.items in
+    let arcs = res.arcs.items in
+    let p = at_nodes potential in
+    let p' = at_nodes potential' in
+    let x = at_nodes excess in
     let m = moved_to _ _ _ _ p' _ _ _ _ _ _ _ _ _ _ t.cut h moved others in
     let re = subst (λ (k : ℕ). IsReached k first arcs p x source (labels t) (enters t) (orders t) (places t) t.head t.ordered t.reached t.level) n h in
     let nt = subst (λ (k : ℕ). IsNearest k first arcs p x source (labels t) (places t) t.head t.level t.cut t.found) n near in
@@ -470,26 +473,30 @@ can_augment net s s' source t r b over size g h near sv left hit moved others sa
     let mn = subst (λ (k : ℕ). IsMovedTo k p p' (labels t) (places t) t.head t.cut) n m in
     let path = has_path _ _ _ _ p' _ _ _ _ _ _ _ _ _ _ _ t.found g h near hit m in
     let way = subst (λ (k : ℕ). HasPath k first arcs p' (enters t) (places t) source t.found) n path in
-    let round = moved_round net first (reverse_at s.residual.arcs.items) s.residual.forward.items arcs p p' x source (labels t) (enters t) (orders t) (places t) t.head t.ordered t.reached t.level t.cut t.found r.network r.residual.laid_out r.residual.filled r.round re nt sn ln hit mn in
+    let round = moved_round net first (reverse_at arcs) res.forward.items arcs p p' x source (labels t) (enters t) (orders t) (places t) t.head t.ordered t.reached t.level t.cut t.found r.network r.residual.laid_out r.residual.filled r.round re nt sn ln hit mn in
     record {
       ready = record {
         network = r.network;
-        residual = rw res r.residual;
-        potentials = same.1 ∙ n;
-        excesses = rw same.0 r.excesses;
-        labels = q.size ∙ size ∙ n;
-        round = rw (res, same.0) round;
-        blank = λ v c. all_cleared _ _ _ _ _ _ _ (labels s'.search) _ _ _ _ _ _ _ h q.cleared q.others v (omega arith);
+        residual = r.residual;
+        potentials = same ∙ n;
+        excesses = r.excesses;
+        labels = ap length list ∙ q.size ∙ size ∙ n;
+        round = round;
+        blank = λ v c. rw list (all_cleared _ _ _ _ _ _ _ (labels t') _ _ _ _ _ _ _ h q.cleared q.others v (omega arith));
       };
-      path = rw (res, fun_ext q.enter, fun_ext q.place, q.found) way;
+      path = rw (list, fun_ext q.enter, fun_ext q.place, q.found) way;
       source = b;
-      left = rw same.0 over;
-      wanting = rw (res, same.0, q.found) (near.hit hit).wanting;
+      left = over;
+      wanting = rw q.found (near.hit hit).wanting;
     }
 
+-- the path that was found has no more residual arcs than the search looked at
+pub short_path : (visits : List Visit) (t t' : Search) (arcs : List ResidualArc) (first : List ℕ) (looks looks' : ℕ) → IsCleared t t' → visits ≡ t'.visits.now
+    → places t (end_at arcs (reverse_at arcs t.found)) + 1 ≤ looked first (orders t) t.head → looks' ≡ looks + looked first (orders t) t.head
+    → looks + place_at visits (end_at arcs (reverse_at arcs t'.found)) + 1 ≤ looks'
+short_path visits t t' arcs first looks looks' q list short e =
+    rw (list, q.found, q.place (end_at arcs (reverse_at arcs t.found))) (omega (arith, short, e))
+
 -- the label that was read less the cut, as it is written
-pub put_label : (p p' q : ℕ → ℤ) (v w : ℕ) (z cut : ℤ) → SFits w32 z → SFits w32 cut → v ≡ w → z ≡ q v → IsPut p p' v (to_z w32 (of_z w32 z) -ℤ to_z w32 (of_z w32 cut)) → IsPut p p' w (q w -ℤ cut)
-put_label p p' q v w z cut f g e at put =
-    let a : IsPut p p' v (z -ℤ cut) = rw (to_z-of_z w32 z f, to_z-of_z w32 cut g) at put in
-    let b : IsPut p p' v (q v -ℤ cut) = subst (λ (t : ℤ). IsPut p p' v (t -ℤ cut)) at a in
-    subst (λ (k : ℕ). IsPut p p' k (q k -ℤ cut)) e b
+pub put_label : (p p' : ℕ → ℤ) (v : ℕ) (z cut : ℤ) → IsWithinFar z → IsWithinFar cut → IsPut p p' v (to_z w32 (of_z w32 z) -ℤ to_z w32 (of_z w32 cut)) → IsPut p p' v (z -ℤ cut)
+put_label p p' v z cut a b put = rw (to_z-of_z w32 z (fits_within z a), to_z-of_z w32 cut (fits_within cut b)) at put

@@ -8,9 +8,10 @@ use Rattle.networks.specs.Networks.{NetworkModel, node_count, IsNetwork}
 use Rattle.networks.specs.Flow.{Flow, HasPotentials, IsLeastCost, HasNoFlow, at_nodes, cost_of}
 use Rattle.networks.specs.ResidualArcs.{numbers, end_at, reverse_at, room_at, IsCosted}
 use Rattle.networks.specs.Residuals.{HasSizes, IsResidualNetwork, flow_of}
-use Rattle.shortest_paths.specs.declared.state.Nodes.{Nodes}
+use Rattle.min_cost_flow.specs.declared.state.Nodes.{Nodes}
 use Rattle.shortest_paths.specs.declared.state.Search.{Search}
-use Rattle.shortest_paths.specs.Search.{far, label_at, labels, enters, orders, places, IsWithinFar}
+use Rattle.shortest_paths.specs.declared.state.Visit.{Visit}
+use Rattle.shortest_paths.specs.Search.{far, label_at, enter_at, place_at, labels, enters, orders, places, IsWithinFar}
 use Rattle.min_cost_flow.specs.declared.state.Solver.{Solver}
 use Rattle.min_cost_flow.specs.Path.{HasPath, IsOnWay, next_of, room_into}
 use Rattle.min_cost_flow.specs.Round.{IsRound, IsLess, IsWork, carrying}
@@ -26,23 +27,33 @@ potential_at s = at_nodes s.nodes.potential.items
 abbrev pub flow_in : Solver → ℕ → ℕ
 flow_in s = flow_of s.residual
 
+-- the arc on which the last search entered a node, and the place of the node in its order
+abbrev pub enters_in : Solver → ℕ → ℕ
+enters_in s = enter_at s.visits.items
+
+abbrev pub places_in : Solver → ℕ → ℕ
+places_in s = place_at s.visits.items
+
 -- the lists have the sizes that the network needs
 pub record IsSized (net : NetworkModel) (s : Solver) : Type 0 where
   pub network : IsNetwork net
   pub room : HasSizes net s.residual
   pub potentials : length s.nodes.potential.items ≡ node_count net
   pub excesses : length s.nodes.excess.items ≡ node_count net
-  pub labels : length s.search.visits.items ≡ node_count net
+  pub labels : length s.visits.items ≡ node_count net
 
--- what holds between two searches
-pub record IsReady (net : NetworkModel) (s : Solver) : Type 0 where
+-- what holds between two searches, of the residual network, the potentials, what is left over at nodes and the visits
+pub record IsReadyIn (net : NetworkModel) (r : Residual) (potential excess : List ℤ) (visits : List Visit) : Type 0 where
   pub network : IsNetwork net
-  pub residual : IsResidualNetwork net s.residual
-  pub potentials : length s.nodes.potential.items ≡ node_count net
-  pub excesses : length s.nodes.excess.items ≡ node_count net
-  pub labels : length s.search.visits.items ≡ node_count net
-  pub round : IsRound net (flow_in s) (potential_at s) (excess_at s)
-  pub blank : (v : ℕ) → v < node_count net → label_at s.search.visits.items v ≡ far
+  pub residual : IsResidualNetwork net r
+  pub potentials : length potential ≡ node_count net
+  pub excesses : length excess ≡ node_count net
+  pub labels : length visits ≡ node_count net
+  pub round : IsRound net (flow_of r) (at_nodes potential) (at_nodes excess)
+  pub blank : (v : ℕ) → v < node_count net → label_at visits v ≡ far
+
+abbrev pub IsReady : NetworkModel → Solver → Type 0
+IsReady net s = IsReadyIn net s.residual s.nodes.potential.items s.nodes.excess.items s.visits.items
 
 -- the same when all units have been sent
 pub record IsSettled (net : NetworkModel) (s : Solver) : Type 0 where
@@ -79,28 +90,32 @@ pub record HasSentFrom (net : NetworkModel) (s s' : Solver) (source : ℕ) : Typ
 
 -- the node where the last residual arc of the path starts
 abbrev pub last_node : Solver → ℕ
-last_node s = end_at s.residual.arcs.items (reverse_at s.residual.arcs.items s.search.found)
+last_node s = end_at s.residual.arcs.items (reverse_at s.residual.arcs.items s.found)
 
--- a search has found a path from a node where units are left over to one where units are wanting
-pub record CanAugment (net : NetworkModel) (s : Solver) (from : ℕ) : Type 0 where
-  pub ready : IsReady net s
-  pub path : HasPath (node_count net) s.residual.first.items s.residual.arcs.items (potential_at s) (enters s.search) (places s.search) from s.search.found
+-- a search has found a path from a node where units are left over to one where units are wanting, whose last residual
+-- arc is `found`
+pub record CanAugmentIn (net : NetworkModel) (r : Residual) (potential excess : List ℤ) (visits : List Visit) (found from : ℕ) : Type 0 where
+  pub ready : IsReadyIn net r potential excess visits
+  pub path : HasPath (node_count net) r.first.items r.arcs.items (at_nodes potential) (enter_at visits) (place_at visits) from found
   pub source : from < node_count net
-  pub left : pos 0 <ℤ excess_at s from
-  pub wanting : excess_at s (end_at s.residual.arcs.items s.search.found) <ℤ pos 0
+  pub left : pos 0 <ℤ at_nodes excess from
+  pub wanting : at_nodes excess (end_at r.arcs.items found) <ℤ pos 0
+
+abbrev pub CanAugment : NetworkModel → Solver → ℕ → Type 0
+CanAugment net s from = CanAugmentIn net s.residual s.nodes.potential.items s.nodes.excess.items s.visits.items s.found from
 
 -- units went along that path, and no more arcs than it has carry units anew
 pub record IsSentAlong (net : NetworkModel) (s s' : Solver) : Type 0 where
   pub ready : IsReady net s'
   pub less : IsLess net (excess_at s) (excess_at s')
-  pub carrying : carrying net (flow_in s') ≤ carrying net (flow_in s) + places s.search (last_node s) + 1
+  pub carrying : carrying net (flow_in s') ≤ carrying net (flow_in s) + places_in s (last_node s) + 1
 
 -- so many units fit along the path, are left over where it starts, and are wanting where it ends
 pub record IsFitting (s : Solver) (source amount : ℕ) : Type 0 where
-  pub found : amount ≤ room_at s.residual.arcs.items s.search.found
+  pub found : amount ≤ room_at s.residual.arcs.items s.found
   pub left : pos amount ≤ℤ excess_at s source
-  pub short : (excess_at s (end_at s.residual.arcs.items s.search.found) +ℤ pos amount) ≤ℤ pos 0
-  pub fits : (v : ℕ) → IsOnWay (next_of s.residual.arcs.items (enters s.search)) (places s.search) (last_node s) v → 0 < places s.search v → amount ≤ room_into s.residual.arcs.items (enters s.search) v
+  pub short : (excess_at s (end_at s.residual.arcs.items s.found) +ℤ pos amount) ≤ℤ pos 0
+  pub fits : (v : ℕ) → IsOnWay (next_of s.residual.arcs.items (enters_in s)) (places_in s) (last_node s) v → 0 < places_in s v → amount ≤ room_into s.residual.arcs.items (enters_in s) v
 
 -- so many units can go along the path, and no more
 pub record IsBottleneck (s : Solver) (source amount : ℕ) : Type 0 where
@@ -138,19 +153,19 @@ pub record IsPushedAlong (r r' : Residual) (k amount : ℕ) : Type 0 where
 -- ---- what is read and written after a search
 
 -- the scanned nodes are in the order, and their labels and the cut are in range
-pub record CanUpdate (nodes : Nodes) (s : Search) : Type 0 where
-  pub order : s.head ≤ length s.visits.items
-  pub small : length nodes.potential.items ≤ MAX_NODES
-  pub scanned : (j : ℕ) → j < s.head → orders s j < length nodes.potential.items
-  pub sizes : length s.visits.items ≡ length nodes.potential.items
+pub record CanUpdate (potential : List ℤ) (s : Search) : Type 0 where
+  pub order : s.head ≤ length s.visits.now
+  pub small : length potential ≤ MAX_NODES
+  pub scanned : (j : ℕ) → j < s.head → orders s j < length potential
+  pub sizes : length s.visits.now ≡ length potential
   pub labels : (j : ℕ) → j < s.head → IsWithinFar (labels s (orders s j))
   pub cut : IsWithinFar s.cut
 
 -- the nodes that were reached are in the order
 pub record HasOrder (s : Search) : Type 0 where
-  pub order : s.reached ≤ length s.visits.items
-  pub small : length s.visits.items ≤ MAX_NODES
-  pub nodes : (j : ℕ) → j < s.reached → orders s j < length s.visits.items
+  pub order : s.reached ≤ length s.visits.now
+  pub small : length s.visits.now ≤ MAX_NODES
+  pub nodes : (j : ℕ) → j < s.reached → orders s j < length s.visits.now
 
 -- the labels of the nodes that were reached are taken away, and their order stays
 pub record IsCleared (s s' : Search) : Type 0 where
@@ -160,7 +175,7 @@ pub record IsCleared (s s' : Search) : Type 0 where
   pub order : (j : ℕ) → orders s' j ≡ orders s j
   pub place : (v : ℕ) → places s' v ≡ places s v
   pub found : s'.found ≡ s.found
-  pub size : length s'.visits.items ≡ length s.visits.items
+  pub size : length s'.visits.now ≡ length s.visits.now
 
 -- what each arc carries can be read: the number of the residual arc along it is that of one that has a reverse
 pub record CanRead (arcs : List ResidualArc) (forward : List ℕ) : Type 0 where

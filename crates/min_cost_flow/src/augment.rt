@@ -20,13 +20,13 @@ impl Solver {
         ensures work { (self.new.searches ≡ self.old.searches) × (self.new.looks ≡ self.old.looks) }
     {
         let amount = self.bottleneck(source);
-        let found = self.search.found;
+        let found = self.found;
         let target = u32::from(self.residual.arcs[found].end);
         let mut node = self.residual.start(found);
         move_units(&mut self.nodes.excess, target, source as u32, amount);
         push(&mut self.residual, found, amount);
-        'along: while self.search.visits[node].place > 0 {
-            let number = self.search.visits[node].enter as usize;
+        'along: while self.visits[node].place > 0 {
+            let number = self.visits[node].enter as usize;
             push(&mut self.residual, number, amount);
             node = self.residual.start(number);
         }
@@ -37,13 +37,13 @@ impl Solver {
         requires { (net : NetworkModel) × CanAugment net self.now source }
         ensures { IsBottleneck self.now source result }
     {
-        let found = self.search.found;
+        let found = self.found;
         let target = usize::from(self.residual.arcs[found].end);
         let most = most_between(&self.nodes.excess, source, target);
         let mut amount = most.min(self.residual.arcs[found].room);
         let mut node = self.residual.start(found);
-        'narrow: while self.search.visits[node].place > 0 {
-            let number = self.search.visits[node].enter as usize;
+        'narrow: while self.visits[node].place > 0 {
+            let number = self.visits[node].enter as usize;
             amount = amount.min(self.residual.arcs[number].room);
             node = self.residual.start(number);
         }

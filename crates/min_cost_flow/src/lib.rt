@@ -6,6 +6,7 @@
 #![tactic(auto)]
 
 mod augment;
+mod path;
 mod resume;
 mod scratch;
 mod solved;

@@ -15,11 +15,12 @@ ghost use Rattle.shortest_paths.specs.Search.{far, labels, orders, label_at, IsP
 ghost use Rattle.min_cost_flow.specs.Round.{carrying, supply_sum, IsRoundDone, HasSupply, IsWithinReach};
 ghost use Rattle.min_cost_flow.specs.Stand.{excess_at, potential_at, flow_in, IsSized, IsReady, IsUnderWay, IsAnswer, HasSentFrom, IsAugmented, CanUpdate, HasOrder, CanRead, IsCleared};
 
+use crate::path::find_path;
 use crate::scratch::Scratch;
 use crate::solved::Solved;
 use crate::state::Solver;
 use networks::{Network, ResidualArc};
-use shortest_paths::{FAR, Ground, Nodes, Search, Visit};
+use shortest_paths::{FAR, Visit};
 use std::alloc::{AllocError, Global};
 use std::mem;
 use thiserror::Error;
@@ -117,8 +118,8 @@ impl Solver {
         write_all(&mut self.nodes.potential, 0);
         self.nodes.excess.copy_from_slice(network.supplies());
         self.residual.lay_out(network);
-        score_nodes(network, &mut self.search.visits);
-        take_labels(&mut self.search.visits);
+        score_nodes(network, &mut self.visits);
+        take_labels(&mut self.visits);
         self.searches = 0;
         self.looks = 0;
     }
@@ -151,62 +152,18 @@ impl Solver {
         ensures looks { self.new.looks ≤ self.old.looks + length self.old.residual.arcs.items }
         ensures searches { self.new.searches ≡ self.old.searches }
     {
-        let ground = Ground {
-            residual: &self.residual,
-            nodes: &self.nodes,
+        let Some(found) = find_path(
+            &self.residual,
+            &mut self.nodes,
+            &mut self.visits,
             source,
-        };
-        self.search.run(ground, &mut self.looks);
-        if self.search.cut == FAR {
+            &mut self.looks,
+        ) else {
             return false;
-        }
-        update_potentials(&mut self.nodes, &self.search);
-        clear(&mut self.search);
+        };
+        self.found = found;
         self.augment(source);
         true
-    }
-}
-
-/// Update potentials: lowers those of the nodes that were scanned by as much as the nodes are nearer than the cut.
-fn update_potentials(nodes: &mut Nodes, search: &Search)
-    requires { CanUpdate nodes.old search.now }
-    ensures moved { (j : ℕ) → j < search.now.head → at_nodes nodes.new.potential.items (orders search.now j) ≡ labels search.now (orders search.now j) -ℤ search.now.cut }
-    ensures others { (v : ℕ) → ((j : ℕ) → j < search.now.head → orders search.now j ≢ v) → at_nodes nodes.new.potential.items v ≡ at_nodes nodes.old.potential.items v }
-    ensures same { (nodes.new.excess ≡ nodes.old.excess) × (length nodes.new.potential.items ≡ length nodes.old.potential.items) }
-{
-    for j in 0..search.head {
-        let node = search.visits[j].at_place as usize;
-        write_potential(
-            &mut nodes.potential,
-            node,
-            search.visits[node].label,
-            search.cut,
-        );
-    }
-}
-
-/// Gives a node its label less the cut for a potential.
-fn write_potential(potential: &mut [i32], node: usize, label: i32, cut: i32)
-    requires node { node < length potential.old }
-    requires small { node < MAX_NODES }
-    requires label { IsWithinFar label }
-    requires cut { IsWithinFar cut }
-    ensures { IsPut (at_nodes potential.old) (at_nodes potential.new) node (label -ℤ cut) }
-{
-    potential[node] = label - cut;
-}
-
-/// Takes the labels of the nodes that were reached away.
-fn clear(search: &mut Search)
-    requires { HasOrder search.old }
-    ensures { IsCleared search.old search.new }
-{
-    for j in 0..search.reached {
-        let node = search.visits[j].at_place as usize;
-        search.visits[node] = Visit {
-            label: FAR,
-            ..search.visits[node]
-        };
     }
 }
 

@@ -3,17 +3,27 @@ ghost use Rattle.std.specs.Prelude.{OnOk};
 ghost use Rattle.min_cost_flow.specs.Stand.{IsSized};
 
 use networks::{Network, Residual, ResidualArc};
-use shortest_paths::{FAR, Nodes, Search, Visit};
+use shortest_paths::{FAR, Visit};
 use std::alloc::{AllocError, Global};
 
-/// The residual network, what is known of each node, the last search, and how much work was done since the
-/// solver began: searches, and looks at residual arcs in them. Where it goes on after a move, no searches are
-/// counted, and the looks of the last one alone.
+/// What is known of each node of a network.
+#[derive(Drop)]
+pub struct Nodes {
+    /// Under these no open residual arc has a reduced cost below 0, and where units are wanting they are 0.
+    pub potential: Vec<i32>,
+    /// How many units are left over at a node, or, below 0, are wanting there.
+    pub excess: Vec<i32>,
+}
+
+/// The residual network, what is known of each node, what the last search left of it and the residual arc that it
+/// found, and how much work was done since the solver began: searches, and looks at residual arcs in them. Where it
+/// goes on after a move, no searches are counted, and the looks of the last one alone.
 #[derive(Drop)]
 pub struct Solver {
     pub residual: Residual,
     pub nodes: Nodes,
-    pub search: Search,
+    pub visits: Vec<Visit>,
+    pub found: usize,
     pub searches: u32,
     pub looks: u64,
 }
@@ -31,16 +41,8 @@ impl Solver {
                 potential: Vec::new(alloc),
                 excess: Vec::new(alloc),
             },
-            search: Search {
-                visits: Vec::new(alloc),
-                head: 0,
-                ordered: 0,
-                reached: 0,
-                level: 0,
-                cut: FAR,
-                found_score: 0,
-                found: 0,
-            },
+            visits: Vec::new(alloc),
+            found: 0,
             searches: 0,
             looks: 0,
         }
@@ -71,6 +73,6 @@ impl Solver {
         self.residual.arcs.resize(2 * arcs, blank)?;
         self.nodes.potential.resize(nodes, 0)?;
         self.nodes.excess.resize(nodes, 0)?;
-        self.search.visits.resize(nodes, unvisited)
+        self.visits.resize(nodes, unvisited)
     }
 }

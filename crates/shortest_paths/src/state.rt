@@ -34,6 +34,7 @@ pub struct Visit {
 }
 
 /// What a search has found so far.
+#[derive(Drop)]
 pub struct Search<'a> {
     /// One for each node.
     pub visits: &'a mut [Visit],

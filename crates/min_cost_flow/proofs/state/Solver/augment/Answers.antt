@@ -7,14 +7,13 @@ use Rattle.networks.specs.Networks.{NetworkModel, node_count, raised, moved}
 use Rattle.networks.proofs.Moving.{length-moved}
 use Rattle.networks.specs.Flow.{at_nodes}
 use Rattle.networks.specs.ResidualArcs.{end_at, reverse_at, room_at, no_residual_arc, IsFilled, carried}
-use Rattle.shortest_paths.specs.declared.state.Nodes.{Nodes}
-use Rattle.shortest_paths.specs.Search.{places, enters}
-use Rattle.shortest_paths.proofs.Searching.{place_read, enter_read}
+use Rattle.min_cost_flow.specs.declared.state.Nodes.{Nodes}
+use Rattle.min_cost_flow.proofs.Augmenting.{place_read, enter_read}
 use Rattle.min_cost_flow.specs.declared.state.Solver.{Solver}
 use Rattle.min_cost_flow.specs.Excess.{Carries}
 use Rattle.min_cost_flow.specs.Path.{IsOnWay, next_of}
 use Rattle.min_cost_flow.specs.Round.{IsRound, carrying}
-use Rattle.min_cost_flow.specs.Stand.{excess_at, potential_at, flow_in, last_node, CanAugment, IsBottleneck}
+use Rattle.min_cost_flow.specs.Stand.{excess_at, potential_at, flow_in, last_node, CanAugment, IsBottleneck, enters_in, places_in}
 use Rattle.min_cost_flow.proofs.Changes.{taken_carries}
 use Rattle.min_cost_flow.proofs.Rounds.{IsSent, sent_round}
 use Rattle.min_cost_flow.proofs.Augmenting.{IsPushed, IsSending, is_paired, was_pushed, pushed_network, same_flow, same_filled, own_step, own_last, own_end, last_pair, step_pair, way_first, way_more, still_fits, sending_first, sending_more, filled_caps, few_left, sent_all, sent_less}
@@ -22,7 +21,7 @@ use Rattle.min_cost_flow.proofs.state.Solver.augment.Goals as goal
 
 -- where the path ends
 abbrev end_of_path : Solver → ℕ
-end_of_path s = end_at s.residual.arcs.items s.search.found
+end_of_path s = end_at s.residual.arcs.items s.found
 
 raised_here : (es : List ℤ) (v k : ℕ) → v < length es → at_nodes (raised es v k) v ≡ at_nodes es v +ℤ pos k
 raised_here es v k b = get_or-set_same es v (at_nodes es v +ℤ pos k) (pos 0) b
@@ -63,7 +62,7 @@ move_units-requires c =
     let b = c.bottleneck-amount.ensures in
     let m = c.deref_mut.ensures.value in
     let n = last_pair net s c.args.source h in
-    let target : c.from-target.result ≡ end_of_path s = c.from-target.ensures ∙ ap (λ (a : ResidualArc). a.end) (get_or_read s.residual.arcs.items s.search.found c.index.result.now n.here c.index.ensures no_residual_arc) in
+    let target : c.from-target.result ≡ end_of_path s = c.from-target.ensures ∙ ap (λ (a : ResidualArc). a.end) (get_or_read s.residual.arcs.items s.found c.index.result.now n.here c.index.ensures no_residual_arc) in
     record {
       from = rw (m, target) (omega (arith, r.excesses, own_end net s c.args.source h));
       to = rw m (omega (arith, r.excesses, h.source));
@@ -89,22 +88,23 @@ along-init c =
     let arcs = s.residual.arcs.items in
     let reverse = reverse_at arcs in
     let es = s.nodes.excess.items in
-    let place = places s.search in
-    let next = next_of arcs (enters s.search) in
+    let place = places_in s in
+    let next = next_of arcs (enters_in s) in
     let from = last_node s in
     let to = end_of_path s in
     let e = at_nodes (raised es to k) in
     let at : c.start-node.result ≡ from = c.start-node.ensures in
-    let pushed : IsPushed reverse arcs c.push.new.residual.arcs.items s.search.found k = was_pushed s.residual c.push.new.residual s.search.found k q in
+    let pushed : IsPushed reverse arcs c.push.new.residual.arcs.items s.found k = was_pushed s.residual c.push.new.residual s.found k q in
     record {
       node = λ net h. subst (λ (t : ℕ). t < node_count net) (sym at) (own_last net s c.args.source h).node;
-      residual = λ net h. let l = own_last net s c.args.source h in pushed_network net s.residual c.push.new.residual from s.search.found k h.ready.residual l.node l.leaves q;
+      residual = λ net h. let l = own_last net s c.args.source h in pushed_network net s.residual c.push.new.residual from s.found k h.ready.residual l.node l.leaves q;
       first = q.first;
       forward = q.forward;
       ends = q.ends;
       reverse = q.reverse;
       nodes = refl;
-      search = refl;
+      visits = refl;
+      found = refl;
       searches = refl;
       looks = refl;
       on = λ net h. ap h.path.on at ∙ (own_last net s c.args.source h).member;
@@ -116,20 +116,20 @@ along-init c =
           let most = carrying net (flow_in s) + place from + 1 in
           subst (λ (y : ℕ → ℕ). IsSending net (potential_at s) e h.path.on place (flow_in s) y c.start-node.result k most) (sym (same_flow s.residual c.push.new.residual q.reverse q.forward))
           (subst (λ (t : ℕ). IsSending net (potential_at s) e h.path.on place (flow_in s) (carried reverse forward (room_at c.push.new.residual.arcs.items)) t k most) (sym at)
-          (sending_first net first reverse forward arcs c.push.new.residual.arcs.items (potential_at s) e h.path.on place from s.search.found to k r.residual.laid_out (own_last net s c.args.source h).link h.path.off taken r.round.priced pushed));
+          (sending_first net first reverse forward arcs c.push.new.residual.arcs.items (potential_at s) e h.path.on place from s.found to k r.residual.laid_out (own_last net s c.args.source h).link h.path.off taken r.round.priced pushed));
     }
 
 pub index-requires-in-along : goal.index-requires-in-along
 index-requires-in-along c =
     let i = c.along.invariant in
     let h = c.requires.1 in
-    rw i.search (omega (arith, i.node c.requires.0 h, h.ready.labels))
+    rw i.visits (omega (arith, i.node c.requires.0 h, h.ready.labels))
 
 pub index-requires-in-along-2 : goal.index-requires-in-along-2
 index-requires-in-along-2 c =
     let i = c.along.invariant in
     let h = c.requires.1 in
-    rw i.search (omega (arith, i.node c.requires.0 h, h.ready.labels))
+    rw i.visits (omega (arith, i.node c.requires.0 h, h.ready.labels))
 
 pub push-requires-in-along : goal.push-requires-in-along
 push-requires-in-along c =
@@ -141,13 +141,13 @@ push-requires-in-along c =
     let v = c.along.node in
     let t = c.along.self in
     let k = c.bottleneck-amount.result in
-    let place = places s.search in
-    let enter = enters s.search in
-    let size : length s.search.visits.items ≡ node_count net = r.labels in
-    let wide : length s.search.visits.items ≡ node_count net = r.labels in
-    let pl : c.index-in-along.result.now.place ≡ place v = rw i.search at (place_read t.search v c.index-in-along.result.now (rw i.search (omega (arith, i.node net h))) c.index-in-along.ensures) in
+    let place = places_in s in
+    let enter = enters_in s in
+    let size : length s.visits.items ≡ node_count net = r.labels in
+    let wide : length s.visits.items ≡ node_count net = r.labels in
+    let pl : c.index-in-along.result.now.place ≡ place v = rw i.visits at (place_read t.visits.items v c.index-in-along.result.now (rw i.visits (omega (arith, i.node net h))) c.index-in-along.ensures) in
     let some : 0 < place v = omega (arith, c.along-test.true) in
-    let en : c.index-in-along-2.result.now.enter ≡ enter v = rw i.search at (enter_read t.search v c.index-in-along-2.result.now (rw i.search (omega (arith, i.node net h))) c.index-in-along-2.ensures) in
+    let en : c.index-in-along-2.result.now.enter ≡ enter v = rw i.visits at (enter_read t.visits.items v c.index-in-along-2.result.now (rw i.visits (omega (arith, i.node net h))) c.index-in-along-2.ensures) in
     let st = own_step net s c.args.source h v (i.on net h) some in
     let first = s.residual.first.items in
     let forward = s.residual.forward.items in
@@ -158,9 +158,9 @@ push-requires-in-along c =
     let e = at_nodes (raised s.nodes.excess.items to k) in
     let most = carrying net (flow_in s) + place from + 1 in
     let sd = subst (λ (y : ℕ → ℕ). IsSending net (potential_at s) e h.path.on place (flow_in s) y v k most) (same_flow s.residual t.residual i.reverse i.forward) (i.sending net h) in
-    let fits : k ≤ room_at t.residual.arcs.items (enter v) = still_fits net reverse forward arcs t.residual.arcs.items (potential_at s) e h.path.on place (next_of arcs (enters s.search) v) (enter v) v k most r.residual.filled (same_filled net s.residual t.residual i.reverse i.forward (i.residual net h)) st.link st.member (i.on net h) st.before sd (c.bottleneck-amount.ensures.fitting.fits v i.way some) in
+    let fits : k ≤ room_at t.residual.arcs.items (enter v) = still_fits net reverse forward arcs t.residual.arcs.items (potential_at s) e h.path.on place (next_of arcs (enters_in s) v) (enter v) v k most r.residual.filled (same_filled net s.residual t.residual i.reverse i.forward (i.residual net h)) st.link st.member (i.on net h) st.before sd (c.bottleneck-amount.ensures.fitting.fits v i.way some) in
     rw en (record {
-      pair = is_paired net t.residual (next_of arcs (enters s.search) v) (enter v) r.network (i.residual net h) st.node (rw i.first st.leaves);
+      pair = is_paired net t.residual (next_of arcs (enters_in s) v) (enter v) r.network (i.residual net h) st.node (rw i.first st.leaves);
       fits = fits;
     })
 
@@ -174,13 +174,13 @@ start-node-requires-in-along c =
     let v = c.along.node in
     let t = c.along.self in
     let k = c.bottleneck-amount.result in
-    let place = places s.search in
-    let enter = enters s.search in
-    let size : length s.search.visits.items ≡ node_count net = r.labels in
-    let wide : length s.search.visits.items ≡ node_count net = r.labels in
-    let pl : c.index-in-along.result.now.place ≡ place v = rw i.search at (place_read t.search v c.index-in-along.result.now (rw i.search (omega (arith, i.node net h))) c.index-in-along.ensures) in
+    let place = places_in s in
+    let enter = enters_in s in
+    let size : length s.visits.items ≡ node_count net = r.labels in
+    let wide : length s.visits.items ≡ node_count net = r.labels in
+    let pl : c.index-in-along.result.now.place ≡ place v = rw i.visits at (place_read t.visits.items v c.index-in-along.result.now (rw i.visits (omega (arith, i.node net h))) c.index-in-along.ensures) in
     let some : 0 < place v = omega (arith, c.along-test.true) in
-    let en : c.index-in-along-2.result.now.enter ≡ enter v = rw i.search at (enter_read t.search v c.index-in-along-2.result.now (rw i.search (omega (arith, i.node net h))) c.index-in-along-2.ensures) in
+    let en : c.index-in-along-2.result.now.enter ≡ enter v = rw i.visits at (enter_read t.visits.items v c.index-in-along-2.result.now (rw i.visits (omega (arith, i.node net h))) c.index-in-along-2.ensures) in
     let st = own_step net s c.args.source h v (i.on net h) some in
     let q = c.push-in-along.ensures in
     let n = step_pair net s c.args.source v h (i.on net h) some in
@@ -200,13 +200,13 @@ along-smaller c =
     let v = c.along.node in
     let t = c.along.self in
     let k = c.bottleneck-amount.result in
-    let place = places s.search in
-    let enter = enters s.search in
-    let size : length s.search.visits.items ≡ node_count net = r.labels in
-    let wide : length s.search.visits.items ≡ node_count net = r.labels in
-    let pl : c.index-in-along.result.now.place ≡ place v = rw i.search at (place_read t.search v c.index-in-along.result.now (rw i.search (omega (arith, i.node net h))) c.index-in-along.ensures) in
+    let place = places_in s in
+    let enter = enters_in s in
+    let size : length s.visits.items ≡ node_count net = r.labels in
+    let wide : length s.visits.items ≡ node_count net = r.labels in
+    let pl : c.index-in-along.result.now.place ≡ place v = rw i.visits at (place_read t.visits.items v c.index-in-along.result.now (rw i.visits (omega (arith, i.node net h))) c.index-in-along.ensures) in
     let some : 0 < place v = omega (arith, c.along-test.true) in
-    let en : c.index-in-along-2.result.now.enter ≡ enter v = rw i.search at (enter_read t.search v c.index-in-along-2.result.now (rw i.search (omega (arith, i.node net h))) c.index-in-along-2.ensures) in
+    let en : c.index-in-along-2.result.now.enter ≡ enter v = rw i.visits at (enter_read t.visits.items v c.index-in-along-2.result.now (rw i.visits (omega (arith, i.node net h))) c.index-in-along-2.ensures) in
     let st = own_step net s c.args.source h v (i.on net h) some in
     let q = c.push-in-along.ensures in
     let j = reverse_at s.residual.arcs.items (enter v) in
@@ -224,13 +224,13 @@ along-preserved c =
     let v = c.along.node in
     let t = c.along.self in
     let k = c.bottleneck-amount.result in
-    let place = places s.search in
-    let enter = enters s.search in
-    let size : length s.search.visits.items ≡ node_count net = r.labels in
-    let wide : length s.search.visits.items ≡ node_count net = r.labels in
-    let pl : c.index-in-along.result.now.place ≡ place v = rw i.search at (place_read t.search v c.index-in-along.result.now (rw i.search (omega (arith, i.node net h))) c.index-in-along.ensures) in
+    let place = places_in s in
+    let enter = enters_in s in
+    let size : length s.visits.items ≡ node_count net = r.labels in
+    let wide : length s.visits.items ≡ node_count net = r.labels in
+    let pl : c.index-in-along.result.now.place ≡ place v = rw i.visits at (place_read t.visits.items v c.index-in-along.result.now (rw i.visits (omega (arith, i.node net h))) c.index-in-along.ensures) in
     let some : 0 < place v = omega (arith, c.along-test.true) in
-    let en : c.index-in-along-2.result.now.enter ≡ enter v = rw i.search at (enter_read t.search v c.index-in-along-2.result.now (rw i.search (omega (arith, i.node net h))) c.index-in-along-2.ensures) in
+    let en : c.index-in-along-2.result.now.enter ≡ enter v = rw i.visits at (enter_read t.visits.items v c.index-in-along-2.result.now (rw i.visits (omega (arith, i.node net h))) c.index-in-along-2.ensures) in
     let st = own_step net s c.args.source h v (i.on net h) some in
     let first = s.residual.first.items in
     let forward = s.residual.forward.items in
@@ -242,7 +242,7 @@ along-preserved c =
     let most = carrying net (flow_in s) + place from + 1 in
     let q = c.push-in-along.ensures in
     let new = c.push-in-along.new.residual in
-    let next = next_of arcs (enters s.search) in
+    let next = next_of arcs (enters_in s) in
     let j = reverse_at arcs (enter v) in
     let turned : (m : ℕ) → reverse_at new.arcs.items m ≡ reverse_at arcs m = λ m. q.reverse m ∙ i.reverse m in
     let start = rw en at c.start-node-in-along.ensures in
@@ -256,7 +256,8 @@ along-preserved c =
       ends = λ m. q.ends m ∙ i.ends m;
       reverse = turned;
       nodes = i.nodes;
-      search = i.search;
+      visits = i.visits;
+      found = i.found;
       searches = i.searches;
       looks = i.looks;
       on = λ net' g. ap g.path.on at ∙ (own_step net' s c.args.source g v (i.on net' g) some).member;
@@ -278,11 +279,11 @@ returns-clause-sent c net h =
     let v = c.along.node in
     let t = c.along.self in
     let k = c.bottleneck-amount.result in
-    let place = places s.search in
-    let enter = enters s.search in
-    let size : length s.search.visits.items ≡ node_count net = r.labels in
-    let wide : length s.search.visits.items ≡ node_count net = r.labels in
-    let pl : c.index-in-along.result.now.place ≡ place v = rw i.search at (place_read t.search v c.index-in-along.result.now (rw i.search (omega (arith, i.node net h))) c.index-in-along.ensures) in
+    let place = places_in s in
+    let enter = enters_in s in
+    let size : length s.visits.items ≡ node_count net = r.labels in
+    let wide : length s.visits.items ≡ node_count net = r.labels in
+    let pl : c.index-in-along.result.now.place ≡ place v = rw i.visits at (place_read t.visits.items v c.index-in-along.result.now (rw i.visits (omega (arith, i.node net h))) c.index-in-along.ensures) in
     let first = s.residual.first.items in
     let forward = s.residual.forward.items in
     let arcs = s.residual.arcs.items in
@@ -299,7 +300,7 @@ returns-clause-sent c net h =
     let carries : Carries net y e c.args.source k = subst (λ (u : ℕ). Carries net y e u k) at sd.carries in
     let sent : IsSent net (flow_in s) y (excess_at s) (at_nodes (moved s.nodes.excess.items to c.args.source k)) c.args.source k = own_sent net s c.args.source k t.residual.arcs.items h c.bottleneck-amount.ensures (same_filled net s.residual t.residual i.reverse i.forward (i.residual net h)) carries sd.grown in
     let n = last_pair net s c.args.source h in
-    let target : c.from-target.result ≡ to = c.from-target.ensures ∙ ap (λ (a : ResidualArc). a.end) (get_or_read arcs s.search.found c.index.result.now n.here c.index.ensures no_residual_arc) in
+    let target : c.from-target.result ≡ to = c.from-target.ensures ∙ ap (λ (a : ResidualArc). a.end) (get_or_read arcs s.found c.index.result.now n.here c.index.ensures no_residual_arc) in
     let units = c.move_units.new.units in
     let value : units ≡ moved s.nodes.excess.items to c.args.source k = rw (c.deref_mut.ensures.value, target) at c.move_units.ensures in
     let excess_is : t.nodes.excess.items ≡ moved s.nodes.excess.items to c.args.source k = ap (λ (m : Nodes). m.excess.items) i.nodes ∙ with_items_is s.nodes.excess units (omega arith) ∙ value in
@@ -310,9 +311,9 @@ returns-clause-sent c net h =
         residual = i.residual net h;
         potentials = rw potential_is r.potentials;
         excesses = rw excess_is (length-moved s.nodes.excess.items to c.args.source k ∙ r.excesses);
-        labels = rw i.search r.labels;
+        labels = rw i.visits r.labels;
         round = subst (λ (x : ℕ → ℕ). IsRound net x (potential_at t) (excess_at t)) (sym flow_is) (rw (potential_is, excess_is) (sent_round net (flow_in s) y (potential_at s) (excess_at s) (at_nodes (moved s.nodes.excess.items to c.args.source k)) c.args.source k sent sd.priced r.round));
-        blank = rw i.search r.blank;
+        blank = rw i.visits r.blank;
       };
       less = rw excess_is (sent_less net (flow_in s) y (excess_at s) (at_nodes (moved s.nodes.excess.items to c.args.source k)) c.args.source k sent c.bottleneck-amount.ensures.some);
       carrying = subst (λ (x : ℕ → ℕ). carrying net x ≤ most) (sym flow_is) (omega (arith, sd.few));

@@ -3,10 +3,9 @@ use Rattle.networks.specs.Networks.{NetworkModel, node_count, raised}
 use Rattle.networks.specs.Flow.{at_nodes}
 use Rattle.networks.specs.ResidualArcs.{end_at, reverse_at}
 use Rattle.networks.specs.Residuals.{IsResidualNetwork}
-use Rattle.shortest_paths.specs.Search.{places, enters}
 use Rattle.min_cost_flow.specs.Path.{IsOnWay, next_of}
 use Rattle.min_cost_flow.specs.Round.{carrying}
-use Rattle.min_cost_flow.specs.Stand.{flow_in, potential_at, last_node, CanAugment}
+use Rattle.min_cost_flow.specs.Stand.{flow_in, potential_at, last_node, CanAugment, enters_in, places_in}
 use Rattle.min_cost_flow.proofs.Augmenting.{IsSending}
 use Rattle.min_cost_flow.proofs.state.Solver.augment.Given as goal
 
@@ -19,14 +18,15 @@ invariant-along l = record {
   ends : (k : ℕ) → end_at l.self.residual.arcs.items k ≡ end_at l.fn.self.residual.arcs.items k;
   reverse : (k : ℕ) → reverse_at l.self.residual.arcs.items k ≡ reverse_at l.fn.self.residual.arcs.items k;
   nodes : l.self.nodes ≡ l.initial.self.nodes;
-  search : l.self.search ≡ l.fn.self.search;
+  visits : l.self.visits ≡ l.fn.self.visits;
+  found : l.self.found ≡ l.fn.self.found;
   searches : l.self.searches ≡ l.fn.self.searches;
   looks : l.self.looks ≡ l.fn.self.looks;
   on : (net : NetworkModel) (h : CanAugment net l.fn.self l.source) → h.path.on l.node ≡ true;
-  way : IsOnWay (next_of l.fn.self.residual.arcs.items (enters l.fn.self.search)) (places l.fn.self.search) (last_node l.fn.self) l.node;
+  way : IsOnWay (next_of l.fn.self.residual.arcs.items (enters_in l.fn.self)) (places_in l.fn.self) (last_node l.fn.self) l.node;
   sending : (net : NetworkModel) (h : CanAugment net l.fn.self l.source) →
-      IsSending net (potential_at l.fn.self) (at_nodes (raised l.fn.self.nodes.excess.items (end_at l.fn.self.residual.arcs.items l.fn.self.search.found) l.amount)) h.path.on (places l.fn.self.search) (flow_in l.fn.self) (flow_in l.self) l.node l.amount (carrying net (flow_in l.fn.self) + places l.fn.self.search (last_node l.fn.self) + 1);
+      IsSending net (potential_at l.fn.self) (at_nodes (raised l.fn.self.nodes.excess.items (end_at l.fn.self.residual.arcs.items l.fn.self.found) l.amount)) h.path.on (places_in l.fn.self) (flow_in l.fn.self) (flow_in l.self) l.node l.amount (carrying net (flow_in l.fn.self) + places_in l.fn.self (last_node l.fn.self) + 1);
 }
 
 abbrev pub decreases-along : goal.decreases-along
-decreases-along l = places l.fn.self.search l.node
+decreases-along l = places_in l.fn.self l.node

@@ -3,10 +3,9 @@ use Rattle.std.proofs.lemmas.List.{get_or_read}
 use Rattle.networks.specs.declared.residual.ResidualArc.{ResidualArc}
 use Rattle.networks.specs.Networks.{node_count}
 use Rattle.networks.specs.ResidualArcs.{end_at, reverse_at, room_at, no_residual_arc}
-use Rattle.shortest_paths.specs.Search.{places, enters}
-use Rattle.shortest_paths.proofs.Searching.{place_read, enter_read}
+use Rattle.min_cost_flow.proofs.Augmenting.{place_read, enter_read}
 use Rattle.min_cost_flow.specs.Path.{next_of, room_into}
-use Rattle.min_cost_flow.specs.Stand.{excess_at, last_node}
+use Rattle.min_cost_flow.specs.Stand.{excess_at, last_node, enters_in, places_in}
 use Rattle.min_cost_flow.proofs.Augmenting.{IsNarrowed, narrowed_first, narrowed_more, narrowed_all, own_step, own_last, own_end, last_pair, step_pair, lesser_some, lesser_left, lesser_short}
 use Rattle.min_cost_flow.proofs.state.Solver.bottleneck.Goals as goal
 
@@ -20,7 +19,7 @@ most_between-most-requires c =
     let h = c.requires.1 in
     let d = c.deref.ensures.value in
     let n = last_pair net s c.args.source h in
-    let target : c.from-target.result ≡ end_at s.residual.arcs.items s.search.found = c.from-target.ensures ∙ ap (λ (a : ResidualArc). a.end) (get_or_read s.residual.arcs.items s.search.found c.index.result.now n.here c.index.ensures no_residual_arc) in
+    let target : c.from-target.result ≡ end_at s.residual.arcs.items s.found = c.from-target.ensures ∙ ap (λ (a : ResidualArc). a.end) (get_or_read s.residual.arcs.items s.found c.index.result.now n.here c.index.ensures no_residual_arc) in
     record {
       source = rw d (omega (arith, h.ready.excesses, h.source));
       target = rw (d, target) (omega (arith, h.ready.excesses, own_end net s c.args.source h));
@@ -45,19 +44,19 @@ narrow-init c =
     let n = last_pair net s c.args.source h in
     let l = own_last net s c.args.source h in
     let at : c.start-node.result ≡ last_node s = c.start-node.ensures in
-    let target : c.from-target.result ≡ end_at s.residual.arcs.items s.search.found = c.from-target.ensures ∙ ap (λ (a : ResidualArc). a.end) (get_or_read s.residual.arcs.items s.search.found c.index.result.now n.here c.index.ensures no_residual_arc) in
-    let fits : c.index-2.result.now.room ≡ room_at s.residual.arcs.items s.search.found = ap (λ (a : ResidualArc). a.room) (get_or_read s.residual.arcs.items s.search.found c.index-2.result.now n.here c.index-2.ensures no_residual_arc) in
+    let target : c.from-target.result ≡ end_at s.residual.arcs.items s.found = c.from-target.ensures ∙ ap (λ (a : ResidualArc). a.end) (get_or_read s.residual.arcs.items s.found c.index.result.now n.here c.index.ensures no_residual_arc) in
+    let fits : c.index-2.result.now.room ≡ room_at s.residual.arcs.items s.found = ap (λ (a : ResidualArc). a.room) (get_or_read s.residual.arcs.items s.found c.index-2.result.now n.here c.index-2.ensures no_residual_arc) in
     let least : c.min-amount.result ≡ min c.most_between-most.result c.index-2.result.now.room = c.min-amount.ensures in
     let m = c.most_between-most.ensures in
-    let next = next_of s.residual.arcs.items (enters s.search) in
-    let rooms = room_into s.residual.arcs.items (enters s.search) in
+    let next = next_of s.residual.arcs.items (enters_in s) in
+    let rooms = room_into s.residual.arcs.items (enters_in s) in
     record {
       node = λ net' g. subst (λ (t : ℕ). t < node_count net') (sym at) (own_last net' s c.args.source g).node;
-      narrowed = subst (λ (t : ℕ). IsNarrowed next (places s.search) rooms (last_node s) t c.min-amount.result) (sym at) (narrowed_first next (places s.search) rooms (last_node s) c.min-amount.result);
+      narrowed = subst (λ (t : ℕ). IsNarrowed next (places_in s) rooms (last_node s) t c.min-amount.result) (sym at) (narrowed_first next (places_in s) rooms (last_node s) c.min-amount.result);
       some = lesser_some c.most_between-most.result c.index-2.result.now.room c.min-amount.result least m.some (omega (arith, l.link.some));
       found = omega (arith, least);
       left = lesser_left c.most_between-most.result c.min-amount.result (excess_at s c.args.source) (omega (arith, least)) (rw d at m.left);
-      short = lesser_short c.most_between-most.result c.min-amount.result (excess_at s (end_at s.residual.arcs.items s.search.found)) (omega (arith, least)) (rw (d, target) at m.wanting);
+      short = lesser_short c.most_between-most.result c.min-amount.result (excess_at s (end_at s.residual.arcs.items s.found)) (omega (arith, least)) (rw (d, target) at m.wanting);
       on = λ net' g. ap g.path.on at ∙ (own_last net' s c.args.source g).member;
       most = λ k f. let under : k ≤ c.most_between-most.result = m.most k (rw d f.left) (rw (d, target) f.short) in omega (arith, least, under, f.found);
     }
@@ -69,11 +68,11 @@ narrow-smaller c =
     let h = c.requires.1 in
     let i = c.narrow.invariant in
     let v = c.narrow.node in
-    let pl : c.index-in-narrow.result.now.place ≡ places s.search v = place_read s.search v c.index-in-narrow.result.now (omega (arith, i.node net h, h.ready.labels)) c.index-in-narrow.ensures in
-    let some : 0 < places s.search v = omega (arith, c.narrow-test.true) in
-    let en : c.index-in-narrow-2.result.now.enter ≡ enters s.search v = enter_read s.search v c.index-in-narrow-2.result.now (omega (arith, i.node net h, h.ready.labels)) c.index-in-narrow-2.ensures in
-    let at : c.start-node-in-narrow.result ≡ next_of s.residual.arcs.items (enters s.search) v = c.start-node-in-narrow.ensures ∙ ap (λ (t : ℕ). end_at s.residual.arcs.items (reverse_at s.residual.arcs.items t)) en in
-    subst (λ (t : ℕ). places s.search t < places s.search v) (sym at) (own_step net s c.args.source h v (i.on net h) some).before
+    let pl : c.index-in-narrow.result.now.place ≡ places_in s v = place_read s.visits.items v c.index-in-narrow.result.now (omega (arith, i.node net h, h.ready.labels)) c.index-in-narrow.ensures in
+    let some : 0 < places_in s v = omega (arith, c.narrow-test.true) in
+    let en : c.index-in-narrow-2.result.now.enter ≡ enters_in s v = enter_read s.visits.items v c.index-in-narrow-2.result.now (omega (arith, i.node net h, h.ready.labels)) c.index-in-narrow-2.ensures in
+    let at : c.start-node-in-narrow.result ≡ next_of s.residual.arcs.items (enters_in s) v = c.start-node-in-narrow.ensures ∙ ap (λ (t : ℕ). end_at s.residual.arcs.items (reverse_at s.residual.arcs.items t)) en in
+    subst (λ (t : ℕ). places_in s t < places_in s v) (sym at) (own_step net s c.args.source h v (i.on net h) some).before
 
 pub index-requires-in-narrow : goal.index-requires-in-narrow
 index-requires-in-narrow c = let h = c.requires.1 in omega (arith, c.narrow.invariant.node c.requires.0 h, h.ready.labels)
@@ -88,9 +87,9 @@ index-requires-in-narrow-3 c =
     let h = c.requires.1 in
     let i = c.narrow.invariant in
     let v = c.narrow.node in
-    let pl : c.index-in-narrow.result.now.place ≡ places s.search v = place_read s.search v c.index-in-narrow.result.now (omega (arith, i.node net h, h.ready.labels)) c.index-in-narrow.ensures in
-    let some : 0 < places s.search v = omega (arith, c.narrow-test.true) in
-    let en : c.index-in-narrow-2.result.now.enter ≡ enters s.search v = enter_read s.search v c.index-in-narrow-2.result.now (omega (arith, i.node net h, h.ready.labels)) c.index-in-narrow-2.ensures in
+    let pl : c.index-in-narrow.result.now.place ≡ places_in s v = place_read s.visits.items v c.index-in-narrow.result.now (omega (arith, i.node net h, h.ready.labels)) c.index-in-narrow.ensures in
+    let some : 0 < places_in s v = omega (arith, c.narrow-test.true) in
+    let en : c.index-in-narrow-2.result.now.enter ≡ enters_in s v = enter_read s.visits.items v c.index-in-narrow-2.result.now (omega (arith, i.node net h, h.ready.labels)) c.index-in-narrow-2.ensures in
     omega (arith, (step_pair net s c.args.source v h (i.on net h) some).here)
 
 pub start-node-requires-in-narrow : goal.start-node-requires-in-narrow
@@ -100,9 +99,9 @@ start-node-requires-in-narrow c =
     let h = c.requires.1 in
     let i = c.narrow.invariant in
     let v = c.narrow.node in
-    let pl : c.index-in-narrow.result.now.place ≡ places s.search v = place_read s.search v c.index-in-narrow.result.now (omega (arith, i.node net h, h.ready.labels)) c.index-in-narrow.ensures in
-    let some : 0 < places s.search v = omega (arith, c.narrow-test.true) in
-    let en : c.index-in-narrow-2.result.now.enter ≡ enters s.search v = enter_read s.search v c.index-in-narrow-2.result.now (omega (arith, i.node net h, h.ready.labels)) c.index-in-narrow-2.ensures in
+    let pl : c.index-in-narrow.result.now.place ≡ places_in s v = place_read s.visits.items v c.index-in-narrow.result.now (omega (arith, i.node net h, h.ready.labels)) c.index-in-narrow.ensures in
+    let some : 0 < places_in s v = omega (arith, c.narrow-test.true) in
+    let en : c.index-in-narrow-2.result.now.enter ≡ enters_in s v = enter_read s.visits.items v c.index-in-narrow-2.result.now (omega (arith, i.node net h, h.ready.labels)) c.index-in-narrow-2.ensures in
     let n = step_pair net s c.args.source v h (i.on net h) some in
     rw en (record { number = n.here; reverse = n.there })
 
@@ -113,25 +112,25 @@ narrow-preserved c =
     let h = c.requires.1 in
     let i = c.narrow.invariant in
     let v = c.narrow.node in
-    let pl : c.index-in-narrow.result.now.place ≡ places s.search v = place_read s.search v c.index-in-narrow.result.now (omega (arith, i.node net h, h.ready.labels)) c.index-in-narrow.ensures in
-    let some : 0 < places s.search v = omega (arith, c.narrow-test.true) in
-    let en : c.index-in-narrow-2.result.now.enter ≡ enters s.search v = enter_read s.search v c.index-in-narrow-2.result.now (omega (arith, i.node net h, h.ready.labels)) c.index-in-narrow-2.ensures in
+    let pl : c.index-in-narrow.result.now.place ≡ places_in s v = place_read s.visits.items v c.index-in-narrow.result.now (omega (arith, i.node net h, h.ready.labels)) c.index-in-narrow.ensures in
+    let some : 0 < places_in s v = omega (arith, c.narrow-test.true) in
+    let en : c.index-in-narrow-2.result.now.enter ≡ enters_in s v = enter_read s.visits.items v c.index-in-narrow-2.result.now (omega (arith, i.node net h, h.ready.labels)) c.index-in-narrow-2.ensures in
     let n = step_pair net s c.args.source v h (i.on net h) some in
-    let rm : c.index-in-narrow-3.result.now.room ≡ room_at s.residual.arcs.items (enters s.search v) = ap (λ (a : ResidualArc). a.room) (get_or_read s.residual.arcs.items c.index-in-narrow-2.result.now.enter c.index-in-narrow-3.result.now (omega (arith, n.here)) c.index-in-narrow-3.ensures no_residual_arc) ∙ ap (room_at s.residual.arcs.items) en in
-    let at : c.start-node-in-narrow.result ≡ next_of s.residual.arcs.items (enters s.search) v = c.start-node-in-narrow.ensures ∙ ap (λ (t : ℕ). end_at s.residual.arcs.items (reverse_at s.residual.arcs.items t)) en in
+    let rm : c.index-in-narrow-3.result.now.room ≡ room_at s.residual.arcs.items (enters_in s v) = ap (λ (a : ResidualArc). a.room) (get_or_read s.residual.arcs.items c.index-in-narrow-2.result.now.enter c.index-in-narrow-3.result.now (omega (arith, n.here)) c.index-in-narrow-3.ensures no_residual_arc) ∙ ap (room_at s.residual.arcs.items) en in
+    let at : c.start-node-in-narrow.result ≡ next_of s.residual.arcs.items (enters_in s) v = c.start-node-in-narrow.ensures ∙ ap (λ (t : ℕ). end_at s.residual.arcs.items (reverse_at s.residual.arcs.items t)) en in
     let st = own_step net s c.args.source h v (i.on net h) some in
     let k' = c.min-amount-in-narrow.result in
     let least : k' ≡ min c.narrow.amount c.index-in-narrow-3.result.now.room = c.min-amount-in-narrow.ensures in
     let less : k' ≤ c.narrow.amount = omega (arith, least) in
-    let next = next_of s.residual.arcs.items (enters s.search) in
-    let rooms = room_into s.residual.arcs.items (enters s.search) in
+    let next = next_of s.residual.arcs.items (enters_in s) in
+    let rooms = room_into s.residual.arcs.items (enters_in s) in
     record {
       node = λ net' g. subst (λ (t : ℕ). t < node_count net') (sym at) (own_step net' s c.args.source g v (i.on net' g) some).node;
-      narrowed = subst (λ (t : ℕ). IsNarrowed next (places s.search) rooms (last_node s) t k') (sym at) (narrowed_more next (places s.search) rooms (last_node s) v c.narrow.amount k' i.narrowed some less (omega (arith, least)));
+      narrowed = subst (λ (t : ℕ). IsNarrowed next (places_in s) rooms (last_node s) t k') (sym at) (narrowed_more next (places_in s) rooms (last_node s) v c.narrow.amount k' i.narrowed some less (omega (arith, least)));
       some = lesser_some c.narrow.amount c.index-in-narrow-3.result.now.room k' least i.some (omega (arith, st.link.some));
       found = omega (arith, less, i.found);
       left = lesser_left c.narrow.amount k' (excess_at s c.args.source) less i.left;
-      short = lesser_short c.narrow.amount k' (excess_at s (end_at s.residual.arcs.items s.search.found)) less i.short;
+      short = lesser_short c.narrow.amount k' (excess_at s (end_at s.residual.arcs.items s.found)) less i.short;
       on = λ net' g. ap g.path.on at ∙ (own_step net' s c.args.source g v (i.on net' g) some).member;
       most = λ k f. omega (arith, least, rm, i.most k f, f.fits v i.narrowed.on some);
     }
@@ -143,8 +142,8 @@ returns c =
     let h = c.requires.1 in
     let i = c.narrow.invariant in
     let v = c.narrow.node in
-    let pl : c.index-in-narrow.result.now.place ≡ places s.search v = place_read s.search v c.index-in-narrow.result.now (omega (arith, i.node net h, h.ready.labels)) c.index-in-narrow.ensures in
-    let none : places s.search v ≡ 0 = omega (arith, c.narrow-test.false) in
+    let pl : c.index-in-narrow.result.now.place ≡ places_in s v = place_read s.visits.items v c.index-in-narrow.result.now (omega (arith, i.node net h, h.ready.labels)) c.index-in-narrow.ensures in
+    let none : places_in s v ≡ 0 = omega (arith, c.narrow-test.false) in
     record {
       some = i.some;
       most = i.most;
@@ -152,6 +151,6 @@ returns c =
         found = i.found;
         left = i.left;
         short = i.short;
-        fits = λ u on some. narrowed_all (next_of s.residual.arcs.items (enters s.search)) (places s.search) (room_into s.residual.arcs.items (enters s.search)) (last_node s) v c.narrow.amount i.narrowed none u on some;
+        fits = λ u on some. narrowed_all (next_of s.residual.arcs.items (enters_in s)) (places_in s) (room_into s.residual.arcs.items (enters_in s)) (last_node s) v c.narrow.amount i.narrowed none u on some;
       };
     }

@@ -1,23 +1,22 @@
 use Rattle.std.proofs.Common.{ℕ, ◌≡◌, ◌<◌, ◌≤◌, pos, ◌≤ℤ◌, ◌+ℤ◌, true}
 use Rattle.networks.specs.Networks.{NetworkModel, node_count}
 use Rattle.networks.specs.ResidualArcs.{end_at, room_at}
-use Rattle.shortest_paths.specs.Search.{places, enters}
 use Rattle.min_cost_flow.specs.Path.{next_of, room_into}
-use Rattle.min_cost_flow.specs.Stand.{excess_at, last_node, CanAugment, IsFitting}
+use Rattle.min_cost_flow.specs.Stand.{excess_at, last_node, CanAugment, IsFitting, enters_in, places_in}
 use Rattle.min_cost_flow.proofs.Augmenting.{IsNarrowed}
 use Rattle.min_cost_flow.proofs.state.Solver.bottleneck.Given as goal
 
 abbrev pub invariant-narrow : goal.invariant-narrow
 invariant-narrow l = record {
   node : (net : NetworkModel) → CanAugment net l.self l.source → l.node < node_count net;
-  narrowed : IsNarrowed (next_of l.self.residual.arcs.items (enters l.self.search)) (places l.self.search) (room_into l.self.residual.arcs.items (enters l.self.search)) (last_node l.self) l.node l.amount;
+  narrowed : IsNarrowed (next_of l.self.residual.arcs.items (enters_in l.self)) (places_in l.self) (room_into l.self.residual.arcs.items (enters_in l.self)) (last_node l.self) l.node l.amount;
   some : 0 < l.amount;
-  found : l.amount ≤ room_at l.self.residual.arcs.items l.self.search.found;
+  found : l.amount ≤ room_at l.self.residual.arcs.items l.self.found;
   left : pos l.amount ≤ℤ excess_at l.self l.source;
-  short : (excess_at l.self (end_at l.self.residual.arcs.items l.self.search.found) +ℤ pos l.amount) ≤ℤ pos 0;
+  short : (excess_at l.self (end_at l.self.residual.arcs.items l.self.found) +ℤ pos l.amount) ≤ℤ pos 0;
   on : (net : NetworkModel) (h : CanAugment net l.self l.source) → h.path.on l.node ≡ true;
   most : (k : ℕ) → IsFitting l.self l.source k → k ≤ l.amount;
 }
 
 abbrev pub decreases-narrow : goal.decreases-narrow
-decreases-narrow l = places l.self.search l.node
+decreases-narrow l = places_in l.self l.node

@@ -21,7 +21,7 @@ returns c =
     let qs = c.take_labels.new.visits in
     let es = c.copy_from_slice.new.self in
     let pot_is : (with_items l.nodes.potential ps).items ≡ ps = with_items_is l.nodes.potential ps (omega arith) in
-    let label_is : (with_items (with_items l.search.visits ss) qs).items ≡ qs = with_items_is (with_items l.search.visits ss) qs (omega arith) in
+    let label_is : (with_items (with_items l.visits ss) qs).items ≡ qs = with_items_is (with_items l.visits ss) qs (omega arith) in
     let full : (v : ℕ) → at_nodes es.items v ≡ supply_at net v = λ v. ap (λ (xs : List ℤ). at_nodes xs v) (c.copy_from_slice.ensures.items ∙ c.supplies.ensures.supplies) in
     record {
       ready = record {

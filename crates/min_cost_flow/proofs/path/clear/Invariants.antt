@@ -1,7 +1,7 @@
 use Rattle.std.proofs.Common.{◌≡◌, ◌<◌, ℕ}
 use Rattle.std.specs.Prelude.{length}
 use Rattle.shortest_paths.specs.Search.{far, labels, enters, orders, places}
-use Rattle.min_cost_flow.proofs.solver.clear.Given as goal
+use Rattle.min_cost_flow.proofs.path.clear.Given as goal
 
 abbrev pub invariant-loop-j : goal.invariant-loop-j
 invariant-loop-j l = record {
@@ -11,5 +11,6 @@ invariant-loop-j l = record {
   order : (j : ℕ) → orders l.search j ≡ orders l.initial.search j;
   place : (v : ℕ) → places l.search v ≡ places l.initial.search v;
   found : l.search.found ≡ l.initial.search.found;
-  size : length l.search.visits.items ≡ length l.initial.search.visits.items;
+  list : l.search.visits.ghost_name ≡ l.initial.search.visits.ghost_name;
+  size : length l.search.visits.now ≡ length l.initial.search.visits.now;
 }

@@ -1,0 +1,33 @@
+use Rattle.std.proofs.Common.{arith, sym, ◌∙◌}
+use Rattle.std.specs.Prelude.{◌-ℤ◌}
+use Rattle.networks.specs.Flow.{at_nodes}
+use Rattle.shortest_paths.specs.Search.{IsPut, IsWithinFar, labels, orders}
+use Rattle.shortest_paths.proofs.Signs.{fits_within, passed_within}
+use Rattle.min_cost_flow.proofs.Solving.{put_label, moved_more}
+use Rattle.min_cost_flow.proofs.path.update_potentials.Goals as goal
+
+pub write_potential-requires : goal.write_potential-requires
+write_potential-requires c =
+    let s = c.args.search.now in
+    let r = c.requires in
+    let within : IsWithinFar (labels s (orders s c.loop-j.j)) = r.labels c.loop-j.j (omega arith) in
+    record {
+      node = omega (arith, c.loop-j.invariant.size, r.scanned c.loop-j.j (omega arith));
+      small = omega (arith, r.small, r.scanned c.loop-j.j (omega arith));
+      label = passed_within _ _ _ (fits_within _ within) within;
+      cut = passed_within _ _ s.cut (fits_within _ r.cut) r.cut;
+    }
+
+pub loop-j-preserved : goal.loop-j-preserved
+loop-j-preserved c =
+    let i = c.loop-j.invariant in
+    let s = c.args.search.now in
+    let j = c.loop-j.j in
+    let old = c.loop-j.potential in
+    let new = c.write_potential.new.potential in
+    let put : IsPut (at_nodes old) (at_nodes new) (orders s j) (labels s (orders s j) -ℤ s.cut) = put_label (at_nodes old) (at_nodes new) (orders s j) (labels s (orders s j)) s.cut (c.requires.labels j (omega arith)) c.requires.cut c.write_potential.ensures in
+    record {
+      moved = moved_more (at_nodes old) (at_nodes old) (at_nodes new) (labels s) (orders s) j s.cut put i.moved;
+      others = λ w h. put.others w (λ t. h j (omega arith) (sym t)) ∙ i.others w (λ k d. h k (omega arith));
+      size = omega (arith, i.size);
+    }
