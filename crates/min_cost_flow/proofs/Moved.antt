@@ -15,7 +15,7 @@ use Rattle.networks.specs.Networks.{HasFairSupplies}
 use Rattle.networks.specs.Residuals.{IsResidualNetwork, flow_of}
 use Rattle.networks.proofs.Moving.{still_network}
 use Rattle.min_cost_flow.specs.declared.state.Solver.{Solver}
-use Rattle.min_cost_flow.specs.Stand.{IsShown, IsSized, IsReady, IsSettled, CanRead}
+use Rattle.min_cost_flow.specs.Stand.{IsShown, IsSized, IsReady, IsSettled, CanRead, IsReadyIn}
 use Rattle.networks.proofs.Ends.{start_in, end_in}
 use Rattle.min_cost_flow.proofs.Duality.{least_by_potentials}
 use Rattle.min_cost_flow.proofs.Rounds.{flow_at, flow_same, potentials_same}
@@ -200,18 +200,6 @@ shown_at net x ps e cost n r sent size is =
       costs = sym is;
     }
 
--- the work that is counted has no part in it
-pub ready_still : (net : NetworkModel) (s s' : Solver) → IsReady net s → s'.residual ≡ s.residual → s'.nodes ≡ s.nodes → s'.visits ≡ s.visits → IsReady net s'
-ready_still net s s' r re ne se = record {
-  network = r.network;
-  residual = rw re r.residual;
-  potentials = rw ne r.potentials;
-  excesses = rw ne r.excesses;
-  labels = rw se r.labels;
-  round = rw (re, ne) r.round;
-  blank = rw se r.blank;
-}
-
 -- the lists of a flow have the sizes that its network needs after supplies have moved
 pub sized_moved : (net : NetworkModel) (l l' : Solver) (f t k : ℕ) → IsReady net l → HasFairSupplies (shifted net f t k) → l'.residual ≡ l.residual → length l'.nodes.potential.items ≡ length l.nodes.potential.items → l'.nodes.excess ≡ l.nodes.excess → l'.visits ≡ l.visits → IsSized (shifted net f t k) l'
 sized_moved net l l' f t k r fair re pe ee he =
@@ -234,13 +222,13 @@ pub low_bounds : (n : ℕ) (z : ℤ) → n ≤ 1024 → (pos 0 ≤ℤ (z +ℤ po
 low_bounds n z s (a, b) = (grind (arith, ints), grind (arith, ints))
 
 -- a flow that stands, after supplies have moved and potentials were lowered by one of them
-pub ready_moved : (net : NetworkModel) (l l' : Solver) (f t k : ℕ) → IsSettled net l → HasFairSupplies (shifted net f t k) → f < node_count net → t < node_count net → k ≤ 2048
-    → ((v : ℕ) → v < node_count net → at_nodes l'.nodes.potential.items v ≡ at_nodes l.nodes.potential.items v -ℤ at_nodes l.nodes.potential.items t)
-    → ((v : ℕ) → v < node_count net → (pos 0 ≤ℤ (at_nodes l'.nodes.potential.items v +ℤ pos (2 * node_count net))) × (at_nodes l'.nodes.potential.items v ≤ℤ pos (2 * node_count net)))
+pub ready_moved : (net : NetworkModel) (l : Solver) (potential excess : List ℤ) (f t k : ℕ) → IsSettled net l → HasFairSupplies (shifted net f t k) → f < node_count net → t < node_count net → k ≤ 2048
+    → ((v : ℕ) → v < node_count net → at_nodes potential v ≡ at_nodes l.nodes.potential.items v -ℤ at_nodes l.nodes.potential.items t)
+    → ((v : ℕ) → v < node_count net → (pos 0 ≤ℤ (at_nodes potential v +ℤ pos (2 * node_count net))) × (at_nodes potential v ≤ℤ pos (2 * node_count net)))
     → ((i : ℕ) → i < arc_count net → flow_of l.residual i + k ≤ 2097152)
-    → l'.residual ≡ l.residual → l'.visits ≡ l.visits → length l'.nodes.potential.items ≡ length l.nodes.potential.items → l'.nodes.excess.items ≡ moved l.nodes.excess.items f t k
-    → IsReady (shifted net f t k) l'
-ready_moved net l l' f t k st fair fb tb few base low room re he pe ee =
+    → length potential ≡ length l.nodes.potential.items → excess ≡ moved l.nodes.excess.items f t k
+    → IsReadyIn (shifted net f t k) l.residual potential excess l.visits.items
+ready_moved net l potential excess f t k st fair fb tb few base low room pe ee =
     let r = st.ready in
     let w = r.residual.filled in
     let long : length (moved net.supplies f t k) ≡ node_count net = length-moved net.supplies f t k in
@@ -253,10 +241,10 @@ ready_moved net l l' f t k st fair fb tb few base low room re he pe ee =
     } in
     record {
       network = still_network net f t k r.network fair;
-      residual = rw re here;
+      residual = here;
       potentials = omega (arith, r.potentials);
       excesses = rw ee (omega (arith, r.excesses));
-      labels = rw he (omega (arith, r.labels));
-      round = rw (re, ee) (moved_round net (flow_of l.residual) (at_nodes l.nodes.potential.items) (at_nodes l'.nodes.potential.items) l.nodes.excess.items f t k r.network r.round r.excesses st.sent fb tb few base low room);
-      blank = rw he (λ v b. r.blank v (omega arith));
+      labels = omega (arith, r.labels);
+      round = rw ee (moved_round net (flow_of l.residual) (at_nodes l.nodes.potential.items) (at_nodes potential) l.nodes.excess.items f t k r.network r.round r.excesses st.sent fb tb few base low room);
+      blank = λ v b. r.blank v (omega arith);
     }

@@ -5,7 +5,7 @@ use Rattle.std.specs.Prelude.{ℤ, pos, negsuc, ◌+ℤ◌, ◌-ℤ◌, ◌≤�
 use Rattle.std.proofs.lemmas.Bool.{cases_eq, cases_lt, cases_Bool, eq-eqb, ne_eqb, eqb-true, lt-ltb, ltb-true, cond-false, and_parts, and_from}
 use Rattle.std.proofs.lemmas.Int.{ints, to_z-of_z}
 use mir.Syntax.{w32}
-use mir.Val.{SFits, of_z, to_z}
+use mir.Val.{of_z, to_z}
 use Rattle.networks.specs.declared.network.TheConstants.{MAX_NODES}
 use Rattle.networks.specs.declared.residual.TheConstants.{SHUT}
 use lib.Signed.{lt_z}
@@ -21,10 +21,9 @@ use Rattle.networks.specs.declared.residual.Residual.{Residual}
 use Rattle.networks.specs.Flow.{at_nodes}
 use Rattle.shortest_paths.specs.declared.state.Search.{Search}
 use Rattle.shortest_paths.specs.declared.state.Visit.{Visit}
-use Rattle.min_cost_flow.specs.declared.state.Solver.{Solver}
 use Rattle.min_cost_flow.specs.Stand.{IsReadyIn, CanAugmentIn, IsCleared}
 use Rattle.networks.specs.ResidualArcs.{end_at, cost_at, reverse_at, room_at, StartsAt, place_of, limit_of, HasResidualArcs, IsFilled, carried}
-use Rattle.shortest_paths.specs.Search.{far, IsArcCost, IsOpen, IsGraph, IsPriced, IsNear, IsReached, IsHit, IsNearest, IsServed, IsLeft, IsPut, IsWithinFar, degree, looked, label_at, enter_at, place_at, labels, enters, orders, places}
+use Rattle.shortest_paths.specs.Search.{far, IsArcCost, IsOpen, IsGraph, IsPriced, IsNear, IsReached, IsHit, IsNearest, IsServed, IsLeft, IsPut, IsWithinFar, degree, looked, place_at, labels, enters, orders, places}
 use Rattle.min_cost_flow.specs.Path.{HasPath}
 use Rattle.min_cost_flow.proofs.Cut.{no_flow_out}
 use Rattle.networks.proofs.Ends.{start_in, end_in}

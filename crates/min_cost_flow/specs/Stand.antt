@@ -8,7 +8,6 @@ use Rattle.networks.specs.Networks.{NetworkModel, node_count, IsNetwork}
 use Rattle.networks.specs.Flow.{Flow, HasPotentials, IsLeastCost, HasNoFlow, at_nodes, cost_of}
 use Rattle.networks.specs.ResidualArcs.{numbers, end_at, reverse_at, room_at, IsCosted}
 use Rattle.networks.specs.Residuals.{HasSizes, IsResidualNetwork, flow_of}
-use Rattle.min_cost_flow.specs.declared.state.Nodes.{Nodes}
 use Rattle.shortest_paths.specs.declared.state.Search.{Search}
 use Rattle.shortest_paths.specs.declared.state.Visit.{Visit}
 use Rattle.shortest_paths.specs.Search.{far, label_at, enter_at, place_at, labels, enters, orders, places, IsWithinFar}

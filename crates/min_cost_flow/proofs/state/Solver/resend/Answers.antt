@@ -7,7 +7,7 @@ use Rattle.networks.specs.Networks.{node_count}
 use Rattle.min_cost_flow.specs.Stand.{excess_at}
 use Rattle.min_cost_flow.proofs.Comparisons.{is_more, is_no_more, not_true, not_false}
 use Rattle.min_cost_flow.proofs.Rounds.{no_flow_wanting, nothing_left}
-use Rattle.min_cost_flow.proofs.Moved.{over_none, ready_still}
+use Rattle.min_cost_flow.proofs.Moved.{over_none}
 use Rattle.min_cost_flow.proofs.state.Solver.resend.Goals as goal
 
 pub units-init : goal.units-init
@@ -22,7 +22,7 @@ augment_once-requires c =
     let b : c.args.source < length es = omega (arith, i.size, c.requires.source) in
     let at : c.index.result.now ≡ excess_at c.units.self c.args.source = get_or_read es c.args.source c.index.result.now b c.index.ensures (pos 0) in
     record {
-      ready = (net, ready_still _ _ _ (i.ready net c.requires.ready.1) refl refl refl);
+      ready = (net, (i.ready net c.requires.ready.1));
       source = b;
       left = subst (λ (z : ℤ). pos 0 <ℤ z) at (is_more _ _ f c.units-test.true);
       few = omega arith;
@@ -32,7 +32,7 @@ pub units-smaller : goal.units-smaller
 units-smaller c =
     let net = c.requires.ready.0 in
     let r = c.units.invariant.ready net c.requires.ready.1 in
-    let a = c.augment_once.ensures.augmented c.if-not-augment_once.false net (ready_still _ _ _ r refl refl refl) in
+    let a = c.augment_once.ensures.augmented c.if-not-augment_once.false net (r) in
     rw (a.ready.excesses, r.excesses) a.less.less
 
 pub units-preserved : goal.units-preserved
@@ -41,15 +41,15 @@ units-preserved c =
     let yes = c.if-not-augment_once.false in
     let net = c.requires.ready.0 in
     let r = i.ready net c.requires.ready.1 in
-    let a = c.augment_once.ensures.augmented yes net (ready_still _ _ _ r refl refl refl) in
+    let a = c.augment_once.ensures.augmented yes net (r) in
     record {
       size = omega (arith, i.size, r.excesses, a.ready.excesses);
-      ready = λ net' h. (c.augment_once.ensures.augmented yes net' (ready_still _ _ _ (i.ready net' h) refl refl refl)).ready;
+      ready = λ net' h. (c.augment_once.ensures.augmented yes net' ((i.ready net' h))).ready;
       others = λ v b ne. a.less.done v (omega (arith, a.ready.excesses)) (i.others v (omega (arith, a.ready.excesses, r.excesses)) ne);
     }
 
 pub returns-then-not-augment_once : goal.returns-then-not-augment_once
-returns-then-not-augment_once c net h = record { settled = λ e. cc; no_flow = λ _. c.augment_once.ensures.no_flow c.if-not-augment_once.true net (ready_still _ _ _ (c.units.invariant.ready net h) refl refl refl) }
+returns-then-not-augment_once c net h = record { settled = λ e. cc; no_flow = λ _. c.augment_once.ensures.no_flow c.if-not-augment_once.true net ((c.units.invariant.ready net h)) }
 
 pub returns : goal.returns
 returns c net h =

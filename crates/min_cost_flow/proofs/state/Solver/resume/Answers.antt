@@ -59,11 +59,11 @@ resend-requires c =
     record {
       ready = (
         shifted net c.args.from c.args.to c.args.amount,
-        ready_moved net l _ c.args.from c.args.to c.args.amount st c.requires.fair c.requires.from c.requires.to c.requires.few
+        ready_moved net l _ _ c.args.from c.args.to c.args.amount st c.requires.fair c.requires.from c.requires.to c.requires.few
             (λ v b. rw pot_is (base v (omega (arith, size))))
             (λ v b. rw pot_is (subst (λ (m : ℕ). (pos 0 ≤ℤ (at_nodes p' v +ℤ pos (2 * m))) × (at_nodes p' v ≤ℤ pos (2 * m))) size (low v (omega (arith, size)))))
             (λ i b. little i (omega (arith, r.residual.laid_out.forwards)))
-            refl refl (rw pot_is (omega (arith, size, r.potentials))) (excess_is ∙ value),
+            (rw pot_is (omega (arith, size, r.potentials))) (excess_is ∙ value),
       );
       source = omega (arith, wide, c.requires.from);
       others = λ v b ne. rw (excess_is, value) (others_none l.nodes.excess.items (node_count net) c.args.from c.args.to c.args.amount v r.excesses st.sent c.requires.from c.requires.to (omega (arith, wide)) ne);
@@ -88,9 +88,9 @@ returns c =
     let little = rw (c.deref.ensures.value, c.deref-2.ensures.value) at (c.carries_little.ensures c.if-not-carries_little.false) in
     record {
       network = c.shift.ensures;
-      answer = rw c.shift.ensures (c.resend.ensures (shifted net c.args.from c.args.to c.args.amount) (ready_moved net l _ c.args.from c.args.to c.args.amount st c.requires.fair c.requires.from c.requires.to c.requires.few
+      answer = rw c.shift.ensures (c.resend.ensures (shifted net c.args.from c.args.to c.args.amount) (ready_moved net l _ _ c.args.from c.args.to c.args.amount st c.requires.fair c.requires.from c.requires.to c.requires.few
           (λ v b. rw pot_is (base v (omega (arith, size))))
           (λ v b. rw pot_is (subst (λ (m : ℕ). (pos 0 ≤ℤ (at_nodes p' v +ℤ pos (2 * m))) × (at_nodes p' v ≤ℤ pos (2 * m))) size (low v (omega (arith, size)))))
           (λ i b. little i (omega (arith, r.residual.laid_out.forwards)))
-          refl refl (rw pot_is (omega (arith, size, r.potentials))) (excess_is ∙ value)));
+          (rw pot_is (omega (arith, size, r.potentials))) (excess_is ∙ value)));
     }

@@ -5,7 +5,6 @@ use mir.Syntax.{w32}
 use mir.Val.{SFits}
 use Rattle.min_cost_flow.specs.Stand.{excess_at}
 use Rattle.min_cost_flow.proofs.Comparisons.{is_more, is_no_more}
-use Rattle.min_cost_flow.proofs.Moved.{ready_still}
 use Rattle.min_cost_flow.proofs.Rounds.{looks_most, work_more}
 use Rattle.min_cost_flow.proofs.state.Solver.send_all_from.Goals as goal
 
@@ -54,7 +53,7 @@ units-preserved c =
           let u = i.under_way net' h in
           let b = e.augmented yes net' u.ready in
           record {
-            ready = ready_still _ _ _ b.ready refl refl refl;
+            ready = b.ready;
             work = rw e.searches (work_more _ _ _ _ _ _ _ _ u.work b.less b.carrying (omega (arith, e.looks, u.ready.residual.filled.arc_size)));
           };
       done = λ net' h v b over. (e.augmented yes net' (i.under_way net' h).ready).less.done v b (i.done net' h v b over);
