@@ -91,7 +91,7 @@ impl Search<'_> {
     {
         let visit = &mut self.visits[step.end];
         visit.label = step.label;
-        visit.enter = step.number as u32;
+        visit.enter = step.number as u16;
     }
 
     /// Puts a node behind those that are ordered, in exchange for the node that is there.
@@ -116,8 +116,8 @@ impl Search<'_> {
         ensures same { SameBesideOrder self.old self.new }
         ensures ordered { self.new.ordered ≡ self.old.ordered }
     {
-        self.visits[place].at_place = node as u32;
-        self.visits[node].place = place as u32;
+        self.visits[place].at_place = node as u16;
+        self.visits[node].place = place as u16;
     }
 }
 

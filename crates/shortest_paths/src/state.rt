@@ -24,13 +24,13 @@ pub struct Visit {
     /// The source's potential and the costs of the residual arcs on the way to the node, or `FAR`.
     pub label: i32,
     /// The residual arc on which the node was entered.
-    pub enter: u32,
+    pub enter: u16,
     /// The place of the node in the order.
-    pub place: u32,
+    pub place: u16,
     /// Of nodes that are found at the same distance the one with the least score is taken.
     pub score: i32,
     /// The node at this place of the order.
-    pub at_place: u32,
+    pub at_place: u16,
 }
 
 /// What a search has found so far.
