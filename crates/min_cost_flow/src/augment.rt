@@ -70,12 +70,11 @@ fn most_between(excess: &[i32], source: usize, target: usize) -> u32
 /// Sends along a residual arc, and so makes room for as much along its reverse.
 fn push(residual: &mut Residual, number: usize, amount: u32)
     requires pair { IsPaired residual.old number }
+    requires some { 0 < amount }
     requires fits { amount ≤ room_at residual.old.arcs.items number }
     ensures { IsPushedAlong residual.old residual.new number amount }
 {
     let back = usize::from(residual.arcs[number].reverse);
-    let less = residual.arcs[number].room - amount;
-    residual.set_room(number, less);
-    let more = residual.arcs[back].room + amount;
-    residual.set_room(back, more);
+    residual.take_room(number, amount);
+    residual.give_room(back, amount);
 }

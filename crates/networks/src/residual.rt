@@ -1,6 +1,6 @@
 //! Residual arcs, those that start at a node side by side.
-ghost use Rattle.std.specs.Prelude.{◌≡◌, ◌<◌, ◌+◌, ◌^◌, length, ℤ, pos, negsuc, ◌≤ℤ◌};
-ghost use Rattle.networks.specs.ResidualArcs.{end_at, cost_at, reverse_at, IsRated, IsCosted};
+ghost use Rattle.std.specs.Prelude.{◌≡◌, ◌<◌, ◌≤◌, ◌+◌, ◌-◌, ◌^◌, length, ℤ, pos, negsuc, ◌≤ℤ◌};
+ghost use Rattle.networks.specs.ResidualArcs.{end_at, reverse_at, room_at, IsRated, IsCosted};
 ghost use Rattle.networks.specs.Residuals.{IsSetTo};
 
 use crate::network::MAX_ARCS;
@@ -37,18 +37,6 @@ impl ResidualArc {
             room,
         }
     }
-
-    /// What a unit costs along it.
-    fn unit_cost(self) -> i16
-        requires { (z : ℤ) × (negsuc 0 ≤ℤ z) × IsRated self.cost self.room z }
-        ensures { (z : ℤ) → IsRated self.cost self.room z → result ≡ z }
-    {
-        if self.room == 0 {
-            self.cost - SHUT
-        } else {
-            self.cost
-        }
-    }
 }
 
 /// The residual arcs of a network under a flow. Those that start at a node stand side by side.
@@ -71,14 +59,33 @@ impl Residual {
         usize::from(self.arcs[usize::from(self.arcs[number].reverse)].end)
     }
 
-    /// Writes how many units fit along a residual arc, and opens or shuts it.
-    pub fn set_room(&mut self, number: usize, units: u32)
+    /// Takes room for so many units, at least one, from a residual arc, and shuts it where nothing fits any more.
+    pub fn take_room(&mut self, number: usize, units: u32)
         requires arc { number < length self.old.arcs.items }
         requires cost { (z : ℤ) × (negsuc 0 ≤ℤ z) × (z ≤ℤ pos 1) × IsCosted self.old.arcs.items number z }
-        ensures { IsSetTo self.old self.new number units }
+        requires some { 0 < units }
+        requires fits { units ≤ room_at self.old.arcs.items number }
+        ensures { IsSetTo self.old self.new number (room_at self.old.arcs.items number - units) }
     {
-        let arc = self.arcs[number];
-        let cost = arc.unit_cost();
-        self.arcs[number] = ResidualArc::new(arc.end, cost, arc.reverse, units);
+        let arc = &mut self.arcs[number];
+        arc.room -= units;
+        if arc.room == 0 {
+            arc.cost += SHUT;
+        }
+    }
+
+    /// Makes room for so many units more, at least one, along a residual arc, and opens it where nothing fitted.
+    pub fn give_room(&mut self, number: usize, units: u32)
+        requires arc { number < length self.old.arcs.items }
+        requires cost { (z : ℤ) × (negsuc 0 ≤ℤ z) × (z ≤ℤ pos 1) × IsCosted self.old.arcs.items number z }
+        requires some { 0 < units }
+        requires few { room_at self.old.arcs.items number + units < 2 ^ 32 }
+        ensures { IsSetTo self.old self.new number (room_at self.old.arcs.items number + units) }
+    {
+        let arc = &mut self.arcs[number];
+        if arc.room == 0 {
+            arc.cost -= SHUT;
+        }
+        arc.room += units;
     }
 }

@@ -75,6 +75,7 @@ pub push-requires : goal.push-requires
 push-requires c =
     record {
       pair = last_pair c.requires.0 c.args.self.now c.args.source c.requires.1;
+      some = c.bottleneck-amount.ensures.some;
       fits = c.bottleneck-amount.ensures.fitting.found;
     }
 
@@ -161,6 +162,7 @@ push-requires-in-along c =
     let fits : k ≤ room_at t.residual.arcs.items (enter v) = still_fits net reverse forward arcs t.residual.arcs.items (potential_at s) e h.path.on place (next_of arcs (enters_in s) v) (enter v) v k most r.residual.filled (same_filled net s.residual t.residual i.reverse i.forward (i.residual net h)) st.link st.member (i.on net h) st.before sd (c.bottleneck-amount.ensures.fitting.fits v i.way some) in
     rw en (record {
       pair = is_paired net t.residual (next_of arcs (enters_in s) v) (enter v) r.network (i.residual net h) st.node (rw i.first st.leaves);
+      some = c.bottleneck-amount.ensures.some;
       fits = fits;
     })
 
