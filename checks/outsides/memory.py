@@ -1,0 +1,143 @@
+"""Limits on address space, in steps from too little to enough."""
+from __future__ import annotations
+
+import ctypes
+import os
+import signal
+import subprocess
+from collections.abc import Iterable
+from typing import Any, NamedTuple
+
+from answers import Ran, are_same, is_beginning, is_whole, lacks_memory
+from expected import COMMANDS, LOST, MEMORY, THREAD, TRIANGLE, TWO, Command, File, Wrong, expected_events, split
+from machine import Machine
+from planar_code import HEADER
+from reading import events_of
+from system import limits
+
+MOST_TO_LOAD = 65_536  # kB of address space, with which any program loads
+TRACEME, CONTINUE = 0, 7  # of ptrace
+LIBC = ctypes.CDLL(None)
+
+
+class Climb(NamedTuple):
+    """A run over a file that is tried at each step, in kB of address space."""
+    command: Command
+    name: str
+    path: str
+    file: File
+    steps: Iterable[int]
+    environment: dict[str, str]
+
+    def words(self) -> list[str]:
+        return [*self.command.words, self.path]
+
+
+def check_memory(machine: Machine) -> None:
+    """Steps for two graphs; for many, where memory ends in the middle of the work; and for many with one heap for all
+    threads, which the C library else gives 64 MB each."""
+    least = loaded_from(machine)
+    steps = [*range(least, least + 1024, 64), *range(least + 1024, least + 12_288, 512),
+             *range(least + 12_288, 150_000, 2048), *(step << 10 for step in (192, 256, 384, 512, 768, 4096, 8192))]
+    few, many = File([TRIANGLE] * 1000, "complete"), File([TRIANGLE] * 4000, "complete")
+    thousand, thousands = (machine.file(HEADER + b"".join(file.records)) for file in (few, many))
+    for command in COMMANDS:
+        stacks = least + 8192 * (1 if command.frames else 4 * command.lanes)
+        above = [stacks + step for step in (0, 512, 1024, 2048, 4096, 8192, 16_384, 65_536, 262_144, 4 << 20)]
+        climb(machine, Climb(command, "2 graphs", machine.two, split(TWO), steps, {}))
+        climb(machine, Climb(command, "1000 graphs", thousand, few, above, {}))
+        climb(machine, Climb(command, "4000 graphs, one heap", thousands, many,
+                             range(stacks - 4096, stacks + 24_576, 1024), {"MALLOC_ARENA_MAX": "1"}))
+
+
+def loaded_from(machine: Machine) -> int:
+    """The least address space, in kB, with which the system's loader brings the program to its start."""
+    low, high = 0, MOST_TO_LOAD
+    while high - low > 4:
+        middle = (low + high) // 2
+        traced = {"LD_TRACE_LOADED_OBJECTS": "1"}  # the loader ends where the program would start
+        ran = machine.run([], environment=traced, preexec_fn=limits(AS=middle << 10))
+        low, high = (low, middle) if ran.status == 0 else (middle, high)
+    return high
+
+
+def climb(machine: Machine, runs: Climb) -> None:
+    """Runs with more address space from step to step: each ends with a named answer, the last with the whole report,
+    and a fault says what was wanting. Tells from where on all were served."""
+    answers: dict[int, Ran] = {}
+    with machine.case(runs.command, f"ulimit -v, {runs.name}"):
+        each_ends_by_name(machine, runs, answers)
+        is_whole(runs.command, answers[max(answers)], [runs.file])
+    with machine.case(runs.command, f"ulimit -v, {runs.name}: the fault says what was wanting"):
+        if lost := [step for step, ran in answers.items() if ran.err == LOST]:
+            raise Wrong(f"at {len(lost)} of {len(answers)} steps, from {lost[0]} to {lost[-1]} kB, {LOST!r}, not "
+                        f"{THREAD!r} or {MEMORY!r}")
+    served = [step for step, ran in answers.items() if ran.status == 0]
+    refused = max((step for step, ran in answers.items() if ran.status != 0), default=0)
+    print(f"{runs.command}, {runs.name}: {min(served, default=None)} kB of address space served, and each step from "
+          f"{min((step for step in served if step > refused), default=None)} kB on", flush=True)
+
+
+def each_ends_by_name(machine: Machine, runs: Climb, answers: dict[int, Ran]) -> None:
+    """Fills in how the run ends at each step. Where the system refuses the stack a page there is no answer."""
+    wrong: list[str] = []
+    for step in runs.steps:
+        ran = machine.run(runs.words(), environment=runs.environment, preexec_fn=limits(AS=step << 10))
+        answers[step] = ran
+        if ran.status == -signal.SIGSEGV and lacks_stack(machine, runs, step):
+            print(f"{runs.command}, {runs.name}: {step} kB of address space: the stack may not grow", flush=True)
+            continue
+        try:
+            wants_memory(runs.command, ran, [runs.file])
+        except Wrong as reason:
+            wrong.append(f"{step} kB: {reason}")
+    if wrong:
+        raise Wrong(f"{len(wrong)} of {len(answers)} steps, first {wrong[0]}")
+
+
+def wants_memory(command: Command, ran: Ran, files: list[File]) -> None:
+    """A whole report, or one in which graphs or ends of files are `memory`; or a fault of memory, threads or lanes with
+    a beginning of such a report."""
+    if ran.status == 1 and ran.err in (MEMORY, THREAD, LOST):
+        is_beginning(command, ran.out, files, scarce=True)
+        return
+    events, rest = events_of(command, ran.out)
+    told = list(files)
+    for kind, number, *more in events:
+        if kind == "end" and more[0] == "memory" and number <= len(files):
+            told[number - 1] = File(files[number - 1].records[:more[1]], "memory")
+    expected = expected_events(command, told)
+    lacking = any(lacks_memory(event) for event in events)
+    status = 3 if lacking or any(file.mark != "complete" for file in told) else 0
+    if ran.status != status or rest or not are_same(events, expected, scarce=True) or ran.err:
+        raise Wrong(f"status {ran.status}, {ran.err[:200]!r}, end of output {ran.out[-60:]!r}")
+
+
+def lacks_stack(machine: Machine, runs: Climb, step: int) -> bool:
+    """Whether a run with so many kB of address space ends since the system lets the stack of its first thread not
+    grow: by SIGSEGV with the stack pointer below what is mapped of the stack, which is less than 1 MB. No program can
+    answer there."""
+    def prepare() -> None:
+        LIBC.ptrace(TRACEME, 0, None, None)
+        limits(AS=step << 10)()
+    quiet: dict[str, Any] = {"stdout": subprocess.DEVNULL, "stderr": subprocess.DEVNULL, "preexec_fn": prepare}
+    with machine.started(runs.words(), environment=runs.environment, **quiet) as child:
+        status = os.waitpid(child.pid, 0)[1]
+        while os.WIFSTOPPED(status) and os.WSTOPSIG(status) != signal.SIGSEGV:
+            LIBC.ptrace(CONTINUE, child.pid, None, None)
+            status = os.waitpid(child.pid, 0)[1]
+        if not os.WIFSTOPPED(status):
+            return False
+        low, high = stack_of(child.pid)
+        with open(f"/proc/{child.pid}/syscall", encoding="ascii") as line:
+            pointer = int(line.read().split()[1], 16)
+        os.kill(child.pid, signal.SIGKILL)
+        os.waitpid(child.pid, 0)
+    return pointer < low and high - low < 1 << 20
+
+
+def stack_of(process: int) -> tuple[int, int]:
+    """Where what is mapped of a process's stack begins and ends."""
+    with open(f"/proc/{process}/maps", encoding="ascii") as lines:
+        low, high = next(line for line in lines if line.endswith("[stack]\n")).split()[0].split("-")
+    return int(low, 16), int(high, 16)

@@ -1,0 +1,56 @@
+"""Words of the command line: those that are refused, help, and the version."""
+from __future__ import annotations
+
+import os
+import re
+import shutil
+import subprocess
+from typing import Any
+
+from answers import Ran, is_fault
+from expected import Wrong
+from machine import Machine
+
+ROOT = os.path.dirname(os.path.dirname(os.path.dirname(os.path.abspath(__file__))))
+
+
+def check_words(machine: Machine) -> None:
+    """Command lines that are refused, and help."""
+    for name, words, text in refused(machine.two):
+        with machine.case("command line", name):
+            is_fault(machine.run(words), 2, text)
+    with machine.case("--help", "is asked for"):
+        ran = machine.run(["--help"])
+        if ran.status != 0 or ran.err or not ran.out:
+            raise Wrong(f"status {ran.status}, {len(ran.out)} bytes of output, {ran.err!r}")
+    with machine.case("--version", "names the version and the toolchain"):
+        if (ran := machine.run(["--version"])) != Ran(0, version_text(), ""):
+            raise Wrong(f"{ran}")
+
+
+def refused(path: str) -> list[tuple[str, list[Any], str | None]]:
+    """Command lines that are refused, each with its name and the text of the fault, or None for any text."""
+    return [
+        ("no words", [], None), ("no such command", ["draw", path], None),
+        ("frames of no file", ["frames"], None),
+        ("frames of two files", ["frames", path, path], None), ("layout of no file", ["layout"], None),
+        ("no such option", ["layout", "--fast", path], None),
+        ("lanes that are no number", ["layout", "--lanes", "x", path], None),
+        ("no such choice", ["layout", "--outer", "widest", path], None),
+        ("a choice that is not said", ["layout", path, "--outer"], None),
+        ("no such drawing", ["layout", "--drawing", "x", path], None),
+        ("no lanes", ["layout", "--lanes", "0", path], "planarbend: lanes must be 1 to 8\n"),
+        ("9 lanes", ["layout", "--lanes", "9", path], "planarbend: lanes must be 1 to 8\n")]
+
+
+def version_text() -> bytes:
+    """The newest number of CHANGELOG.md, and what `rt version` says where there is an `rt`, or else README.md."""
+    with open(os.path.join(ROOT, "CHANGELOG.md"), encoding="utf-8") as changes:
+        number = re.search(r"^## ([0-9.]+), ", changes.read(), re.MULTILINE)
+    if shutil.which("rt"):
+        toolchain = subprocess.run(["rt", "version"], stdout=subprocess.PIPE, text=True, check=True).stdout.strip()
+    else:
+        with open(os.path.join(ROOT, "README.md"), encoding="utf-8") as readme:
+            named = re.search(r"`rt version`: (\S+), (logic \w+)", readme.read())
+        toolchain = f"{named[1]} {named[2]}" if named else ""
+    return f"planarbend {number[1] if number else ''}\nproved with {toolchain}\n".encode()
