@@ -1,6 +1,7 @@
 //! Numbers of least total length.
 
-ghost use Rattle.std.specs.Prelude.{◌≡◌, length, true, IfOk, IfSome};
+ghost use Rattle.std.specs.Prelude.{◌≡◌, ◌≤◌, length, true, IfOk, IfSome};
+ghost use Rattle.least_length.specs.declared.rows.TheConstants.{MAX_EDGES};
 ghost use Rattle.least_length.specs.Lengths.{numbers_in, IsLeast};
 
 use crate::certificate::certify;
@@ -63,6 +64,39 @@ pub fn find_least(
     if edges.len() > MAX_EDGES || !scratch.pulling.balance(rows, edges)? {
         return Ok(false);
     }
+    write_certified(scratch, rows, edges, numbers)
+}
+
+/// The same, but there are none where those that the rows have are such numbers.
+pub fn find_shorter(
+    scratch: &mut Scratch,
+    rows: &[Row],
+    edges: &[Edge],
+    numbers: &mut Vec<u16>,
+) -> Result<bool, AllocError>
+    ensures least { IfOk result (λ found. found ≡ true → IsLeast rows.now edges.now (numbers_in numbers.new.items)) }
+    ensures count { IfOk result (λ found. found ≡ true → length numbers.new.items ≡ length rows.now) }
+{
+    if edges.len() > MAX_EDGES || !scratch.pulling.balance(rows, edges)? {
+        return Ok(false);
+    }
+    if !scratch.pulling.has_moved() {
+        return Ok(false);
+    }
+    write_certified(scratch, rows, edges, numbers)
+}
+
+/// Lists the numbers to which rows were pulled; whether the weights of pairs prove them least.
+fn write_certified(
+    scratch: &mut Scratch,
+    rows: &[Row],
+    edges: &[Edge],
+    numbers: &mut Vec<u16>,
+) -> Result<bool, AllocError>
+    requires { length edges.now ≤ MAX_EDGES }
+    ensures least { IfOk result (λ found. found ≡ true → IsLeast rows.now edges.now (numbers_in numbers.new.items)) }
+    ensures count { IfOk result (λ found. found ≡ true → length numbers.new.items ≡ length rows.now) }
+{
     scratch.pulling.write(numbers)?;
     let balance = &mut scratch.balance;
     let sights = scratch.pulling.neighbours.sights.as_slice();

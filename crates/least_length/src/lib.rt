@@ -18,6 +18,6 @@ mod sweep;
 
 pub use certificate::certify_lengths;
 pub use laws::weights_bound_lengths;
-pub use least::{find_least, least_numbers, least_numbers_in};
+pub use least::{find_least, find_shorter, least_numbers, least_numbers_in};
 pub use rows::{Edge, MAX_EDGES, MAX_SIGHTS, Row, Sight};
 pub use scratch::Scratch;

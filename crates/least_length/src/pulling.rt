@@ -29,6 +29,8 @@ pub(crate) struct Pulling {
     reached: Vec<u16>,
     /// Those of them at which it has not looked yet.
     open: Vec<u16>,
+    /// Whether some rows have moved, and others have not.
+    moved: bool,
 }
 
 impl Pulling {
@@ -43,7 +45,13 @@ impl Pulling {
             from: Vec::new(alloc),
             reached: Vec::new(alloc),
             open: Vec::new(alloc),
+            moved: false,
         }
+    }
+
+    /// Whether the numbers found are others than those that the rows had, and not all by the same amount.
+    pub(crate) fn has_moved(&self) -> bool {
+        self.moved
     }
 
     /// Gives pairs of neighbours weights that are in balance, and rows numbers with which those with a weight are next to
@@ -77,6 +85,7 @@ impl Pulling {
     /// Takes the numbers of the rows, and a unit up where each edge begins, and down where it ends, less the weights of pairs
     /// that are next to each other. No other pair has a weight then.
     fn begin(&mut self, rows: &[Row], edges: &[Edge]) -> Result<(), AllocError> {
+        self.moved = false;
         self.numbers.clear();
         self.excess.clear();
         for row in rows {
@@ -183,6 +192,7 @@ impl Pulling {
         if room == u32::MAX {
             return false;
         }
+        self.moved = true;
         let numbers = self.numbers.as_mut_slice();
         for row in self.reached.as_slice() {
             if let Some(number) = numbers.get_mut(usize::from(*row)) {

@@ -146,7 +146,7 @@ fn turn(
     let place = left.of.len().min(usize::from(u16::MAX)) as u16;
     let next = match end {
         Some(vertex) => entered.of_vertex(vertex),
-        None => entered.add(number, place, place)?,
+        None => entered.add_at(number, place)?,
     };
     left.of.push(row)?;
     entered.of.push(next)?;

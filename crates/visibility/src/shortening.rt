@@ -4,7 +4,7 @@ ghost use Rattle.std.specs.Prelude.{◌≡◌, []};
 
 use crate::rows::{Row, Rows, number_of};
 use crate::sweep::Sweep;
-use least_length::{Edge, find_least};
+use least_length::{Edge, find_shorter};
 use std::alloc::{AllocError, Global};
 
 /// What shortening works in.
@@ -42,11 +42,14 @@ impl Shortening {
         crossing: &Rows,
         sweep: &mut Sweep,
     ) -> Result<bool, AllocError> {
+        if crossing.are_short(along) {
+            return Ok(false);
+        }
         self.list_rows(along, crossing.rows.as_slice())?;
         self.list_edges(crossing.rows.as_slice())?;
         let rows = self.rows.as_slice();
         let edges = self.edges.as_slice();
-        if !find_least(&mut self.search, rows, edges, &mut self.numbers)? {
+        if !find_shorter(&mut self.search, rows, edges, &mut self.numbers)? {
             return Ok(false);
         }
         let gain = self.gain(along.rows.as_slice());
