@@ -203,6 +203,21 @@ pub corner_few : (p : PlaneModel) (net : NetworkModel) (x : ℕ → ℕ) (d : �
 corner_few p net x d is flow b =
     subst (λ (arc : Arc). IsWithin arc.cap (x d)) (is.corner d b) (flow.within d (omega (arith, is.arcs)))
 
+-- a least-cost flow crosses no edge both ways: each crossing that is used gains what the bend costs
+pub one_sided_of_flow : (p : PlaneModel) (net : NetworkModel) (x : ℕ → ℕ) (q : ℕ → ℤ) → HasEnds p → IsFaceNet p net → HasPotentials net x q → (d : ℕ) → d < darts p → 0 < x (darts p + d) → x (darts p + reverse_dart p d) ≡ 0
+one_sided_of_flow p net x q ends is fit d b left =
+    elim (cases_eq (x (darts p + reverse_dart p d)) 0) [
+      | inl none ↦ none
+      | inr some ↦ absurd (
+          let r = reverse_dart p d in
+          let prices = prove_of_potentials p net x q ends is fit in
+          let back : reverse_dart p r ≡ d = ends.reverse_dart_back d b in
+          let here = (prices d b).tight (omega (arith, lefts-of-run (x (darts p + d)) (x (darts p + r)))) in
+          let there = (prices r (ends.reverse_dart_inside d b)).tight (omega (arith, lefts-of-run (x (darts p + r)) (x (darts p + reverse_dart p r)))) in
+          omega (arith, ints, here, there, ap (λ e. q (vertices p + face_at p e)) back)
+          )
+    ]
+
 -- the strings of a least-cost flow are short
 pub short_of_flow : (p : PlaneModel) (net : NetworkModel) (x : ℕ → ℕ) (q : ℕ → ℤ) → HasEnds p → vertices p ≤ 255 → IsFaceNet p net → Flow net x → HasPotentials net x q → (d : ℕ) → d < darts p → x (darts p + d) + x (darts p + reverse_dart p d) ≤ 6144
 short_of_flow p net x q ends order is flow fit d b =

@@ -1,4 +1,5 @@
 mod SmallPlanes
+pub mod OneSided
 pub mod TurnCounts
 pub mod WeakDuality
 pub mod Pieces

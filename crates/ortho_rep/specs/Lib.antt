@@ -2,6 +2,8 @@ pub mod Turns
 pub mod Storage
 pub mod Stores
 pub mod Shapes
+pub mod Runs
+pub mod ShapeStores
 pub mod Representation
 pub mod OfFlow
 pub mod Prices

@@ -1,5 +1,5 @@
 -- How lists of items are kept: each by itself, or all items in one list with the places where those of each list start.
-use Rattle.std.specs.Prelude.{ℕ, ◌+◌, ◌<◌, ◌≤◌, List, [], ◌∷◌, map, length, slice_index, slice_range, All, Vec}
+use Rattle.std.specs.Prelude.{ℕ, ◌+◌, ◌<◌, ◌≤◌, List, [], ◌∷◌, map, length, slice_index, slice_range, All, Vec, vec_len}
 use Rattle.std.specs.declared.alloc.Global.{Global}
 use Rattle.embedding.specs.declared.graphs.TheConstants.{MAX_DARTS}
 use Rattle.ortho_rep.specs.declared.strings.TheConstants.{MAX_TURNS}
@@ -26,6 +26,6 @@ pub record IsCut {A : Type 0} (starts : List ℕ) (items : List A) : Type 0 wher
   pub inside : (k : ℕ) → k < length starts → slice_index starts k ≤ length items
 
 -- a string for each of at most 1,020 darts, of at most 1,000,000 turns
-pub record IsShort (strings : List (List Turn)) : Type 0 where
+pub record IsShort (strings : List (Vec Turn Global)) : Type 0 where
   pub few : length strings ≤ MAX_DARTS
-  pub short : All (λ string. length string ≤ MAX_TURNS) strings
+  pub short : All (λ string. vec_len string ≤ MAX_TURNS) strings

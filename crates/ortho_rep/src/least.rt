@@ -5,14 +5,16 @@ ghost use Rattle.std.specs.List.{range_with_len};
 ghost use Rattle.faces.specs.Planes.{darts, vertices};
 ghost use Rattle.networks.specs.Flow.{Flow, Solves, amounts, at_nodes};
 ghost use Rattle.flow_network.specs.FaceNet.{IsNetOf};
-ghost use Rattle.ortho_rep.specs.OfFlow.{angles_of, strings_of};
+ghost use Rattle.ortho_rep.specs.declared.turn.TheConstants.{MAX_RUN};
+ghost use Rattle.ortho_rep.specs.OfFlow.{angles_of, strings_of, AreOfFlow};
+ghost use Rattle.ortho_rep.specs.Runs.{turns_in, AreRuns};
 ghost use Rattle.ortho_rep.specs.Representation.{IsShape, IsLeast};
 ghost use Rattle.ortho_rep.specs.Prices.{IsProof};
 
 use crate::prices::Prices;
+use crate::runs::DartShape;
 use crate::scratch::{Scratch, ShapeLists};
 use crate::shape::Shape;
-use crate::strings::Strings;
 use crate::turn::Turn;
 use faces::Plane;
 use flow_network::FaceNet;
@@ -76,15 +78,12 @@ pub(crate) fn shape_in(
     ensures proof { IfOk result (λ found. IsProof plane.now found.0 found.1) }
 {
     let vertices = plane.graph().vertices();
-    let lent = mem::replace(&mut lists.angles, Vec::new(alloc));
-    let angles = angles_in(lent, plane, net, solved)?;
-    let turns = mem::replace(&mut lists.turns, Vec::new(alloc));
-    let starts = mem::replace(&mut lists.starts, Vec::new(alloc));
-    let strings = strings_in(alloc, turns, starts, plane, net, solved)?;
+    let lent = mem::replace(&mut lists.darts, Vec::new(alloc));
+    let darts = darts_in(lent, plane, net, solved)?;
     let lent = mem::replace(&mut lists.prices, Vec::new(alloc));
     let prices = prices_in(lent, plane, net, solved)?;
     Ok((
-        Shape::of_strings(angles, strings),
+        Shape::of_darts(darts),
         Prices::joined(prices, usize::from(vertices)),
     ))
 }
@@ -113,123 +112,55 @@ fn crossing_flow(net: &FaceNet, solved: &Solved, dart: u16) -> u32
     solved.flow(net.crossing_arc(dart))
 }
 
-/// The angles of a flow, in the memory of a list that is lent.
-fn angles_in(
-    lent: Vec<u8>,
+/// The angles and the turns of a flow, in the memory of a list that is lent.
+fn darts_in(
+    lent: Vec<DartShape>,
     plane: &Plane,
     net: &FaceNet,
     solved: &Solved,
-) -> Result<Vec<u8>, AllocError>
+) -> Result<Vec<DartShape>, AllocError>
     requires net { IsNetOf plane.now net.now }
     requires solves { Solves net.now.network solved.now }
-    ensures count { IfOk result (λ angles. vec_len angles ≡ darts plane.now) }
-    ensures each { IfOk result (λ angles. (d : ℕ) → d < darts plane.now
-        → slice_index angles.items d ≡ angles_of (amounts solved.now.flow) d) }
+    ensures runs { IfOk result (λ found. AreRuns found.items) }
+    ensures flow { IfOk result (λ found. AreOfFlow plane.now (amounts solved.now.flow) (darts plane.now) found.items) }
 {
-    // Only the proof needs this: `outer` says that there is a face.
-    let _outer = plane.outer();
     let darts = plane.graph().darts();
-    let mut angles = emptied(lent, usize::from(darts))?;
+    let mut found = emptied(lent, usize::from(darts))?;
     for dart in 0..darts {
-        let corner = solved.flow(net.corner_arc(dart)) as u8;
-        angles.push(corner + 1)?;
+        found.push(dart_shape(plane, net, solved, dart))?;
     }
-    Ok(angles)
+    Ok(found)
 }
 
-/// The strings of a flow, in one list of turns, in the memory of these lists. Along each dart the left turns come
-/// first.
-///
-/// Their places take two bytes each, so that the list of them is short for a small plane. No least shape was seen
-/// with too many turns for that.
-fn strings_in(
-    alloc: Global,
-    turns: Vec<Turn>,
-    starts: Vec<u16>,
-    plane: &Plane,
-    net: &FaceNet,
-    solved: &Solved,
-) -> Result<Strings, AllocError>
-    requires net { IsNetOf plane.now net.now }
-    requires solves { Solves net.now.network solved.now }
-    ensures count { IfOk result (λ strings. length strings ≡ darts plane.now) }
-    ensures each { IfOk result (λ strings. (d : ℕ) → d < darts plane.now
-        → slice_index_or strings d [] ≡ strings_of plane.now (amounts solved.now.flow) d) }
-{
-    let graph = plane.graph();
-    let mut turns = emptied(turns, 2 * count_bends(plane, net, solved))?;
-    let mut starts = emptied(starts, usize::from(graph.darts()) + 1)?;
-    starts.push(0)?;
-    for dart in 0..graph.darts() {
-        push_string(&mut turns, plane, net, solved, dart)?;
-        let Ok(start) = u16::try_from(turns.len()) else {
-            return wide_strings(alloc, plane, net, solved);
-        };
-        starts.push(start)?;
-    }
-    Ok(Strings::narrow(turns, starts))
-}
-
-/// The same in lists of its own, however many turns there are.
-fn wide_strings(
-    alloc: Global,
-    plane: &Plane,
-    net: &FaceNet,
-    solved: &Solved,
-) -> Result<Strings, AllocError>
-    requires net { IsNetOf plane.now net.now }
-    requires solves { Solves net.now.network solved.now }
-    ensures count { IfOk result (λ strings. length strings ≡ darts plane.now) }
-    ensures each { IfOk result (λ strings. (d : ℕ) → d < darts plane.now
-        → slice_index_or strings d [] ≡ strings_of plane.now (amounts solved.now.flow) d) }
-{
-    let graph = plane.graph();
-    let mut turns = Vec::with_capacity(alloc, 2 * count_bends(plane, net, solved))?;
-    let mut starts = Vec::with_capacity(alloc, usize::from(graph.darts()) + 1)?;
-    starts.push(0)?;
-    for dart in 0..graph.darts() {
-        push_string(&mut turns, plane, net, solved, dart)?;
-        starts.push(turns.len())?;
-    }
-    Ok(Strings::joined(turns, starts))
-}
-
-/// Puts the string of a dart behind a list: the left turns, then the right ones.
-fn push_string(
-    turns: &mut Vec<Turn>,
-    plane: &Plane,
-    net: &FaceNet,
-    solved: &Solved,
-    dart: u16,
-) -> Result<(), AllocError>
+/// The angle and the turns of a dart in a flow. No least flow crosses an edge both ways, so they are all left turns or
+/// all right turns.
+fn dart_shape(plane: &Plane, net: &FaceNet, solved: &Solved, dart: u16) -> DartShape
     requires net { IsNetOf plane.now net.now }
     requires solves { Solves net.now.network solved.now }
     requires within { dart < darts plane.now }
-    ensures { OnOk result (turns.new.items
-        ≡ turns.old.items ++ strings_of plane.now (amounts solved.now.flow) dart) }
+    ensures angle { result.angle ≡ angles_of (amounts solved.now.flow) dart }
+    ensures turns { turns_in result ≡ strings_of plane.now (amounts solved.now.flow) dart }
+    ensures short { result.count ≤ MAX_RUN }
 {
+    // Only the proof needs this: `outer` says that there is a face.
+    let _outer = plane.outer();
     let reverse = plane.graph().reverse(dart);
-    let lefts = crossing_flow(net, solved, dart) as usize;
-    let rights = crossing_flow(net, solved, reverse) as usize;
-    // Most edges have no bend.
-    if lefts + rights > 0 {
-        turns.resize(turns.len() + lefts, Turn::Left)?;
-        turns.resize(turns.len() + rights, Turn::Right)?;
+    let angle = solved.flow(net.corner_arc(dart)) as u8 + 1;
+    let lefts = crossing_flow(net, solved, dart);
+    let rights = crossing_flow(net, solved, reverse);
+    if lefts > 0 {
+        DartShape {
+            angle,
+            turn: Turn::Left,
+            count: lefts as u16,
+        }
+    } else {
+        DartShape {
+            angle,
+            turn: Turn::Right,
+            count: rights as u16,
+        }
     }
-    Ok(())
-}
-
-/// How much all crossings carry.
-fn count_bends(plane: &Plane, net: &FaceNet, solved: &Solved) -> usize
-    requires net { IsNetOf plane.now net.now }
-    requires solves { Solves net.now.network solved.now }
-    ensures few { result < 2 ^ 48 }
-{
-    let mut bends = 0;
-    for dart in 0..plane.graph().darts() {
-        bends += crossing_flow(net, solved, dart) as usize;
-    }
-    bends
 }
 
 /// The potentials of the vertices and behind them those of the faces, in the memory of one list that is lent.

@@ -1,7 +1,6 @@
-//! Lists of items, in one of three forms.
+//! Lists of items, in one of two forms.
 
 ghost use Rattle.std.specs.Prelude.{◌≡◌, ◌+◌, ◌<◌, [], length, slice_index_or, IfSome};
-ghost use Rattle.sums.specs.Sums.{sum_below};
 ghost use Rattle.ortho_rep.specs.Storage.{lists_in, cut, IsCut};
 
 use std::marker::Model;
@@ -68,61 +67,6 @@ fn piece<'a, T>(items: &'a [T], starts: &[usize], i: usize) -> &'a [T]
     &items[start..end]
 }
 
-/// Lists of items that stand in one list, where each place is told in two bytes. In contracts it is the list of
-/// these lists.
-#[derive(Debug, Drop)]
-pub(crate) struct NarrowLists<T> {
-    items: Vec<T>,
-    starts: Vec<u16>,
-}
-
-impl<T> Model for NarrowLists<T> {
-    ghost use Rattle.std.specs.Prelude.{List};
-    ghost use Rattle.ortho_rep.specs.Storage.{cut, IsCut};
-
-    ghost Value = { List (List T) };
-
-    ghost view = { λ a. cut a.starts.items a.items.items };
-
-    ghost invariant = { λ a. IsCut a.starts.items a.items.items };
-}
-
-impl<T> NarrowLists<T> {
-    /// How many lists there are.
-    pub(crate) fn len(&self) -> usize
-        ensures { result ≡ length self.now }
-    {
-        self.starts.len() - 1
-    }
-
-    /// List i.
-    pub(crate) fn get(&self, i: usize) -> &[T]
-        requires { i < length self.now }
-        ensures { result.now ≡ slice_index_or self.now i [] }
-    {
-        narrow_piece(&self.items, &self.starts, i)
-    }
-
-    /// How many items all lists have, in constant time.
-    pub(crate) fn item_count(&self) -> u16
-        ensures { result ≡ sum_below (length self.now) (λ i. length (slice_index_or self.now i [])) }
-    {
-        let starts = self.starts.as_slice();
-        starts[starts.len() - 1] - starts[0]
-    }
-}
-
-/// Piece i of a list that is cut at the given places.
-fn narrow_piece<'a, T>(items: &'a [T], starts: &[u16], i: usize) -> &'a [T]
-    requires places { IsCut starts.now items.now }
-    requires within { i + 1 < length starts.now }
-    ensures { result.now ≡ slice_index_or (cut starts.now items.now) i [] }
-{
-    let start = usize::from(starts[i]);
-    let end = usize::from(starts[i + 1]);
-    &items[start..end]
-}
-
 /// Lists of items. In contracts it is the list of these lists.
 #[derive(Debug, Drop)]
 pub(crate) struct Lists<T> {
@@ -133,7 +77,6 @@ pub(crate) struct Lists<T> {
 enum Store<T> {
     Apart(Vec<Vec<T>>),
     Joined(JoinedLists<T>),
-    Narrow(NarrowLists<T>),
 }
 
 impl<T> Model for Lists<T> {
@@ -166,16 +109,6 @@ impl<T> Lists<T> {
         }
     }
 
-    /// The same, where each place is told in two bytes.
-    pub(crate) fn narrow(items: Vec<T>, starts: Vec<u16>) -> Lists<T>
-        requires { IsCut starts.items items.items }
-        ensures { result ≡ cut starts.items items.items }
-    {
-        Lists {
-            store: Store::Narrow(NarrowLists { items, starts }),
-        }
-    }
-
     /// How many lists there are.
     pub(crate) fn len(&self) -> usize
         ensures { result ≡ length self.now }
@@ -183,7 +116,6 @@ impl<T> Lists<T> {
         match &self.store {
             Store::Apart(lists) => lists.len(),
             Store::Joined(lists) => lists.len(),
-            Store::Narrow(lists) => lists.len(),
         }
     }
 
@@ -195,23 +127,10 @@ impl<T> Lists<T> {
         match &self.store {
             Store::Apart(lists) => lists[i].as_slice(),
             Store::Joined(lists) => lists.get(i),
-            Store::Narrow(lists) => lists.get(i),
         }
     }
 
-    /// The one list of items and the places, where each place is told in two bytes.
-    pub(crate) fn into_narrow(self) -> Option<(Vec<T>, Vec<u16>)>
-    where
-        T: Drop,
-        ensures { IfSome result (λ parts. self ≡ cut parts.1.items parts.0.items) }
-    {
-        match self.store {
-            Store::Narrow(lists) => Some((lists.items, lists.starts)),
-            Store::Apart(_) | Store::Joined(_) => None,
-        }
-    }
-
-    /// The lists where they stand in one, with places of eight bytes.
+    /// The lists where they stand in one.
     pub(crate) fn into_joined(self) -> Option<JoinedLists<T>>
     where
         T: Drop,
@@ -219,17 +138,7 @@ impl<T> Lists<T> {
     {
         match self.store {
             Store::Joined(lists) => Some(lists),
-            Store::Apart(_) | Store::Narrow(_) => None,
-        }
-    }
-
-    /// How many items all lists have, where that is known in constant time.
-    pub(crate) fn known_count(&self) -> Option<u16>
-        ensures { IfSome result (λ count. count ≡ sum_below (length self.now) (λ i. length (slice_index_or self.now i []))) }
-    {
-        match &self.store {
-            Store::Narrow(lists) => Some(lists.item_count()),
-            Store::Apart(_) | Store::Joined(_) => None,
+            Store::Apart(_) => None,
         }
     }
 }

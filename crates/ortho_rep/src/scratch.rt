@@ -1,12 +1,12 @@
 //! Memory that one call after another is lent.
 
-use crate::turn::Turn;
+use crate::runs::DartShape;
 use std::alloc::Global;
 
 /// What finding a least shape takes memory for, to be used again. What it holds between two calls is of no use.
 ///
 /// A shape and its prices take their lists with them. Where both are given back before the next call, none takes
-/// memory for a plane with no more vertices, faces, darts and bends than one before it had; where one is not, the
+/// memory for a plane with no more vertices, faces and darts than one before it had; where one is not, the
 /// next call takes memory for its lists alone, and for just what they hold. A call that found too little memory may
 /// lose what it was lent; the next one then takes it anew.
 #[derive(Drop)]
@@ -30,9 +30,7 @@ impl Scratch {
 /// The lists of a shape and of its prices, to be filled anew.
 #[derive(Drop)]
 pub(crate) struct ShapeLists {
-    pub(crate) angles: Vec<u8>,
-    pub(crate) turns: Vec<Turn>,
-    pub(crate) starts: Vec<u16>,
+    pub(crate) darts: Vec<DartShape>,
     pub(crate) prices: Vec<i32>,
 }
 
@@ -40,9 +38,7 @@ impl ShapeLists {
     /// Lists without memory.
     pub(crate) fn empty(alloc: Global) -> ShapeLists {
         ShapeLists {
-            angles: Vec::new(alloc),
-            turns: Vec::new(alloc),
-            starts: Vec::new(alloc),
+            darts: Vec::new(alloc),
             prices: Vec::new(alloc),
         }
     }

@@ -4,10 +4,13 @@ ghost use Rattle.std.specs.Prelude.{◌≡◌, ◌*◌, ◌<◌, ◌≤◌, ◌�
 ghost use Rattle.sums.specs.Sums.{sum_below};
 ghost use Rattle.embedding.specs.declared.graphs.TheConstants.{MAX_DARTS};
 ghost use Rattle.ortho_rep.specs.declared.strings.TheConstants.{MAX_TURNS};
+ghost use Rattle.ortho_rep.specs.declared.turn.TheConstants.{MAX_RUN};
 ghost use Rattle.ortho_rep.specs.Storage.{lists_in};
 ghost use Rattle.ortho_rep.specs.Shapes.{angle_at, turns_at};
+ghost use Rattle.ortho_rep.specs.Runs.{shape_in};
 ghost use Rattle.ortho_rep.specs.Representation.{bends_of};
 
+use crate::runs::{DartShape, Runs};
 use crate::scratch::Scratch;
 use crate::strings::{MAX_TURNS, Strings};
 use crate::turn::Turn;
@@ -21,8 +24,14 @@ use std::marker::Model;
 /// right angles. Its string holds its quarter turns in walking order. No reader takes memory.
 #[derive(Debug, Drop)]
 pub struct Shape {
-    angles: Vec<u8>,
-    strings: Strings,
+    store: ShapeStore,
+}
+
+#[derive(Debug, Drop)]
+enum ShapeStore {
+    // no dart turns to both sides
+    OneSided(Runs),
+    Lists { angles: Vec<u8>, strings: Strings },
 }
 
 impl Model for Shape {
@@ -30,7 +39,9 @@ impl Model for Shape {
 
     ghost Value = { ShapeModel };
 
-    ghost view = { λ a. record { angles = a.angles.items; strings = a.strings } };
+    ghost use Rattle.ortho_rep.specs.ShapeStores.{shape_of};
+
+    ghost view = { λ a. shape_of a.store };
 }
 
 impl Shape {
@@ -50,25 +61,33 @@ impl Shape {
         ensures { result ≡ record { angles = angles.items; strings = lists_in strings.items } }
     {
         Shape {
-            angles,
-            strings: Strings::from_lists(strings),
+            store: ShapeStore::Lists {
+                angles,
+                strings: Strings::from_lists(strings),
+            },
         }
     }
 
-    /// The shape with these angles and strings.
-    pub(crate) fn of_strings(angles: Vec<u8>, strings: Strings) -> Shape
-        ensures { result ≡ record { angles = angles.items; strings = strings } }
+    /// The shape of darts that turn to one side only, each at the place of its number. It takes no memory.
+    pub fn of_darts(darts: Vec<DartShape>) -> Shape
+        requires few { vec_len darts ≤ MAX_DARTS }
+        requires short { All (λ dart. dart.count ≤ MAX_RUN) darts.items }
+        ensures { result ≡ shape_in darts.items }
     {
-        Shape { angles, strings }
+        Shape {
+            store: ShapeStore::OneSided(Runs::new(darts)),
+        }
     }
 
-    /// Gives the lists of this shape back to be used again; of strings that are not in narrow lists, as
-    /// [`least_shape_in`](crate::least_shape_in) makes them, it drops the lists. It takes no memory.
+    /// Gives the list of this shape back to be used again; lists that are not of darts, as
+    /// [`least_shape_in`](crate::least_shape_in) makes it, it drops. It takes no memory.
     pub fn give_back(self, scratch: &mut Scratch) {
-        scratch.lists.angles = self.angles;
-        if let Some((turns, starts)) = self.strings.into_narrow() {
-            scratch.lists.turns = turns;
-            scratch.lists.starts = starts;
+        match self.store {
+            ShapeStore::OneSided(runs) => scratch.lists.darts = runs.into_darts(),
+            ShapeStore::Lists {
+                angles: _,
+                strings: _,
+            } => {}
         }
     }
 
@@ -76,7 +95,10 @@ impl Shape {
     pub fn angle_count(&self) -> usize
         ensures { result ≡ length self.now.angles }
     {
-        self.angles.len()
+        match &self.store {
+            ShapeStore::OneSided(runs) => runs.len(),
+            ShapeStore::Lists { angles, .. } => angles.len(),
+        }
     }
 
     /// How many strings there are, at most 1,020.
@@ -84,7 +106,10 @@ impl Shape {
         ensures count { result ≡ length self.now.strings }
         ensures few { result ≤ MAX_DARTS }
     {
-        self.strings.len()
+        match &self.store {
+            ShapeStore::OneSided(runs) => runs.len(),
+            ShapeStore::Lists { strings, .. } => strings.len(),
+        }
     }
 
     /// The angle of a dart, in right angles.
@@ -92,7 +117,10 @@ impl Shape {
         requires { dart < length self.now.angles }
         ensures { result ≡ angle_at self.now dart }
     {
-        self.angles[usize::from(dart)]
+        match &self.store {
+            ShapeStore::OneSided(runs) => runs.angle(dart),
+            ShapeStore::Lists { angles, .. } => angles[usize::from(dart)],
+        }
     }
 
     /// The turns of a dart, at most 1,000,000, in walking order.
@@ -101,16 +129,21 @@ impl Shape {
         ensures value { result.now ≡ turns_at self.now dart }
         ensures short { length result.now ≤ MAX_TURNS }
     {
-        self.strings.get(usize::from(dart))
+        match &self.store {
+            ShapeStore::OneSided(runs) => runs.turns(dart),
+            ShapeStore::Lists { strings, .. } => strings.get(usize::from(dart)),
+        }
     }
 
-    /// How many turns all strings have: at once in a shape from [`least_shape`](crate::least_shape), else in a
-    /// step for each string.
+    /// How many turns all strings have. A step for each string.
     pub fn turn_count(&self) -> u32
         ensures count { result ≡ sum_below (length self.now.strings) (λ d. length (turns_at self.now d)) }
         ensures few { result ≤ length self.now.strings * MAX_TURNS }
     {
-        self.strings.turn_count()
+        match &self.store {
+            ShapeStore::OneSided(runs) => runs.turn_count(),
+            ShapeStore::Lists { strings, .. } => strings.turn_count(),
+        }
     }
 
     /// The number of bends: half the sum of the lengths of all strings, rounded down. It takes at most a step

@@ -4,9 +4,8 @@ ghost use Rattle.std.specs.Prelude.{◌≡◌, ◌*◌, ◌<◌, ◌≤◌, [], 
 ghost use Rattle.sums.specs.Sums.{sum_below};
 ghost use Rattle.embedding.specs.declared.graphs.TheConstants.{MAX_DARTS};
 ghost use Rattle.ortho_rep.specs.declared.strings.TheConstants.{MAX_TURNS};
-ghost use Rattle.ortho_rep.specs.Storage.{lists_in, cut, IsCut, IsShort};
+ghost use Rattle.ortho_rep.specs.Storage.{lists_in, IsShort};
 
-use crate::lists::Lists;
 use crate::turn::Turn;
 use std::marker::Model;
 
@@ -17,19 +16,19 @@ pub const MAX_TURNS: usize = 1_000_000;
 /// is the list of the strings.
 #[derive(Debug, Drop)]
 pub(crate) struct Strings {
-    lists: Lists<Turn>,
+    lists: Vec<Vec<Turn>>,
 }
 
 impl Model for Strings {
     ghost use Rattle.std.specs.Prelude.{List};
     ghost use Rattle.ortho_rep.specs.declared.turn.Turn.{Turn};
-    ghost use Rattle.ortho_rep.specs.Storage.{IsShort};
+    ghost use Rattle.ortho_rep.specs.Storage.{lists_in, IsShort};
 
     ghost Value = { List (List Turn) };
 
-    ghost view = { λ a. a.lists };
+    ghost view = { λ a. lists_in a.lists.items };
 
-    ghost invariant = { λ a. IsShort a.lists };
+    ghost invariant = { λ a. IsShort a.lists.items };
 }
 
 impl Strings {
@@ -39,36 +38,7 @@ impl Strings {
         requires short { All (λ string. vec_len string ≤ MAX_TURNS) lists.items }
         ensures { result ≡ lists_in lists.items }
     {
-        Strings {
-            lists: Lists::apart(lists),
-        }
-    }
-
-    /// The pieces between places that follow one another in one list of turns.
-    pub(crate) fn joined(turns: Vec<Turn>, starts: Vec<usize>) -> Strings
-        requires places { IsCut starts.items turns.items }
-        requires short { IsShort (cut starts.items turns.items) }
-        ensures { result ≡ cut starts.items turns.items }
-    {
-        Strings {
-            lists: Lists::joined(turns, starts),
-        }
-    }
-
-    /// The same, where each place is told in two bytes.
-    pub(crate) fn narrow(turns: Vec<Turn>, starts: Vec<u16>) -> Strings
-        requires places { IsCut starts.items turns.items }
-        requires short { IsShort (cut starts.items turns.items) }
-        ensures { result ≡ cut starts.items turns.items }
-    {
-        Strings {
-            lists: Lists::narrow(turns, starts),
-        }
-    }
-
-    /// The one list of turns and the places, where each place is told in two bytes.
-    pub(crate) fn into_narrow(self) -> Option<(Vec<Turn>, Vec<u16>)> {
-        self.lists.into_narrow()
+        Strings { lists }
     }
 
     /// How many strings there are.
@@ -85,17 +55,14 @@ impl Strings {
         ensures value { result.now ≡ slice_index_or self.now i [] }
         ensures short { length result.now ≤ MAX_TURNS }
     {
-        self.lists.get(i)
+        self.lists[i].as_slice()
     }
 
-    /// How many turns all strings have: in constant time where they are narrow, else with a step for each string.
+    /// How many turns all strings have: a step for each string.
     pub(crate) fn turn_count(&self) -> u32
         ensures count { result ≡ sum_below (length self.now) (λ i. length (slice_index_or self.now i [])) }
         ensures few { result ≤ length self.now * MAX_TURNS }
     {
-        if let Some(count) = self.lists.known_count() {
-            return u32::from(count);
-        }
         let mut turns = 0;
         for i in 0..self.len() {
             turns += self.get(i).len() as u32;

@@ -1,6 +1,7 @@
 //! Quarter turns, and strings of them.
 
-ghost use Rattle.std.specs.Prelude.{◌≡◌, ◌≤◌, ◌↔◌, IsTrue, length};
+ghost use Rattle.std.specs.Prelude.{◌≡◌, ◌≤◌, ◌↔◌, IsTrue, length, replicate};
+ghost use Rattle.ortho_rep.specs.declared.turn.TheConstants.{MAX_RUN};
 ghost use Rattle.ortho_rep.specs.Turns.{lefts, mirrored};
 
 /// A quarter turn of an edge, met in walking along a dart.
@@ -12,6 +13,24 @@ pub enum Turn {
 
 // A turn takes one byte.
 const _: () = prove!(size_of::<Turn>() == 1);
+
+/// How many turns of one kind stand ready. No string of a least shape has more.
+pub const MAX_RUN: usize = 6_144;
+
+static LEFTS: [Turn; MAX_RUN] = [Turn::Left; MAX_RUN];
+
+static RIGHTS: [Turn; MAX_RUN] = [Turn::Right; MAX_RUN];
+
+/// So many turns of one kind.
+pub(crate) fn run(turn: Turn, count: u16) -> &'static [Turn]
+    requires { count ≤ MAX_RUN }
+    ensures { result.now ≡ replicate count turn }
+{
+    match turn {
+        Turn::Left => &LEFTS[..usize::from(count)],
+        Turn::Right => &RIGHTS[..usize::from(count)],
+    }
+}
 
 /// How many of these turns are left turns. A step for each.
 pub fn count_lefts(turns: &[Turn]) -> usize

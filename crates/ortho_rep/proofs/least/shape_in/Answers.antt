@@ -1,6 +1,8 @@
 use Rattle.std.proofs.Common.{◌≡◌, ◌+◌, ◌∙◌, length, ap, arith}
+use Rattle.std.proofs.lemmas.List.{length-map}
 use Rattle.faces.specs.Planes.{vertices}
 use Rattle.networks.specs.Flow.{Solves, amounts, at_nodes}
+use Rattle.ortho_rep.specs.Runs.{turns_in}
 use Rattle.ortho_rep.proofs.FromFlow.{IsOfFlow, shape_of_flow, least_of_flow, proof_of_flow}
 use Rattle.ortho_rep.proofs.JoinedPrices.{length-first, vertex_count, face_count, vertex_value, face_value}
 use Rattle.ortho_rep.proofs.least.shape_in.Goals as goal
@@ -22,18 +24,18 @@ returns c =
     let ends = c.graph.ensures.ends in
     let solves : Solves net c.args.solved.now = c.requires.solves in
     let cut : c.from.result ≡ n = c.from.ensures ∙ (c.vertices-vertices.ensures.count ∙ ap length c.graph.ensures.value) in
-    let found : IsOfFlow plane x q c.of_strings.result c.joined.result = rw (c.of_strings.ensures, c.joined.ensures, cut, c.in_ok-prices.ensures) (record {
-      angle_count = omega (arith, c.in_ok-angles.angles.ok, c.in_ok-angles.ensures.count);
-      string_count = c.in_ok-strings.ensures.count;
+    let found : IsOfFlow plane x q c.of_darts.result c.joined.result = rw (c.of_darts.ensures, c.joined.ensures, cut, c.in_ok-prices.ensures) (record {
+      angle_count = length-map c.in_ok-darts.darts.items (λ dart. dart.angle) ∙ c.in_ok-darts.ensures.flow.count;
+      string_count = length-map c.in_ok-darts.darts.items turns_in ∙ c.in_ok-darts.ensures.flow.count;
       vertex_count = vertex_count q n plane.faces;
       face_count = face_count q n plane.faces;
-      angle = c.in_ok-angles.ensures.each;
-      string = c.in_ok-strings.ensures.each;
+      angle = c.in_ok-darts.ensures.flow.angle;
+      string = c.in_ok-darts.ensures.flow.turns;
       vertex = vertex_value q n plane.faces;
       face = face_value q n plane.faces;
     }) in
     record {
-      shape = shape_of_flow plane net x q c.of_strings.result c.joined.result ends is solves.flow found;
-      least = least_of_flow plane net x q c.of_strings.result c.joined.result ends is solves.flow solves.potentials found;
-      proof = proof_of_flow plane net x q c.of_strings.result c.joined.result ends is solves.potentials found;
+      shape = shape_of_flow plane net x q c.of_darts.result c.joined.result ends is solves.flow found;
+      least = least_of_flow plane net x q c.of_darts.result c.joined.result ends is solves.flow solves.potentials found;
+      proof = proof_of_flow plane net x q c.of_darts.result c.joined.result ends is solves.potentials found;
     }

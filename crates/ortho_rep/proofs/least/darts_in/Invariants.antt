@@ -1,0 +1,12 @@
+use Rattle.std.proofs.Common.{◌≤◌}
+use Rattle.std.specs.Prelude.{All}
+use Rattle.networks.specs.Flow.{amounts}
+use Rattle.ortho_rep.specs.declared.turn.TheConstants.{MAX_RUN}
+use Rattle.ortho_rep.specs.declared.runs.DartShape.{DartShape}
+use Rattle.ortho_rep.specs.OfFlow.{AreOfFlow}
+use Rattle.ortho_rep.proofs.least.darts_in.Given as goal
+
+abbrev pub invariant-loop-dart : goal.invariant-loop-dart
+invariant-loop-dart l =
+    AreOfFlow l.plane (amounts l.solved.flow) l.dart l.found.items
+    × All (λ (dart : DartShape). dart.count ≤ MAX_RUN) l.found.items

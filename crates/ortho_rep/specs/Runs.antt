@@ -1,0 +1,20 @@
+-- Darts that turn to one side only: what is kept of each, and what shape they have.
+use Rattle.std.specs.Prelude.{◌≤◌, List, map, length, replicate, All}
+use Rattle.embedding.specs.declared.graphs.TheConstants.{MAX_DARTS}
+use Rattle.ortho_rep.specs.declared.turn.Turn.{Turn}
+use Rattle.ortho_rep.specs.declared.turn.TheConstants.{MAX_RUN}
+use Rattle.ortho_rep.specs.declared.runs.DartShape.{DartShape}
+use Rattle.ortho_rep.specs.Shapes.{ShapeModel}
+
+-- the turns of a dart
+abbrev pub turns_in : DartShape → List Turn
+turns_in dart = replicate dart.count dart.turn
+
+-- the shape of these darts
+abbrev pub shape_in : List DartShape → ShapeModel
+shape_in darts = record { angles = map (λ dart. dart.angle) darts; strings = map turns_in darts }
+
+-- at most 1,020 darts, each with at most 6,144 turns
+pub record AreRuns (darts : List DartShape) : Type 0 where
+  pub few : length darts ≤ MAX_DARTS
+  pub short : All (λ dart. dart.count ≤ MAX_RUN) darts

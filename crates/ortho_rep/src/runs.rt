@@ -1,0 +1,96 @@
+//! Darts that turn to one side only.
+
+ghost use Rattle.std.specs.Prelude.{◌≡◌, ◌*◌, ◌<◌, ◌≤◌, length};
+ghost use Rattle.sums.specs.Sums.{sum_below};
+ghost use Rattle.embedding.specs.declared.graphs.TheConstants.{MAX_DARTS};
+ghost use Rattle.ortho_rep.specs.declared.strings.TheConstants.{MAX_TURNS};
+ghost use Rattle.ortho_rep.specs.Shapes.{angle_at, turns_at};
+ghost use Rattle.ortho_rep.specs.Runs.{AreRuns, shape_in};
+
+use crate::turn::{Turn, run};
+use std::marker::Model;
+
+/// The angle of a dart, in right angles, and how many turns it has, where they are all of one kind.
+#[derive(Clone, Copy, Debug)]
+pub struct DartShape {
+    pub angle: u8,
+    pub turn: Turn,
+    pub count: u16,
+}
+
+// It takes four bytes.
+const _: () = prove!(size_of::<DartShape>() == 4);
+
+/// The shapes of at most 1,020 darts, in one list. In contracts it is the list of the angles and the list of the
+/// strings.
+#[derive(Debug, Drop)]
+pub(crate) struct Runs {
+    darts: Vec<DartShape>,
+}
+
+impl Model for Runs {
+    ghost use Rattle.ortho_rep.specs.Shapes.{ShapeModel};
+    ghost use Rattle.ortho_rep.specs.Runs.{AreRuns, shape_in};
+
+    ghost Value = { ShapeModel };
+
+    ghost view = { λ a. shape_in a.darts.items };
+
+    ghost invariant = { λ a. AreRuns a.darts.items };
+}
+
+impl Runs {
+    /// The shapes of these darts, as they are.
+    pub(crate) fn new(darts: Vec<DartShape>) -> Runs
+        requires { AreRuns darts.items }
+        ensures { result ≡ shape_in darts.items }
+    {
+        Runs { darts }
+    }
+
+    /// The list, whose memory can be used again.
+    pub(crate) fn into_darts(self) -> Vec<DartShape>
+        ensures { self ≡ shape_in result.items }
+    {
+        self.darts
+    }
+
+    /// How many darts there are.
+    pub(crate) fn len(&self) -> usize
+        ensures angles { result ≡ length self.now.angles }
+        ensures strings { result ≡ length self.now.strings }
+        ensures few { result ≤ MAX_DARTS }
+    {
+        self.darts.len()
+    }
+
+    /// The angle of a dart.
+    pub(crate) fn angle(&self, dart: u16) -> u8
+        requires { dart < length self.now.angles }
+        ensures { result ≡ angle_at self.now dart }
+    {
+        self.darts[usize::from(dart)].angle
+    }
+
+    /// The turns of a dart.
+    pub(crate) fn turns(&self, dart: u16) -> &'static [Turn]
+        requires { dart < length self.now.strings }
+        ensures value { result.now ≡ turns_at self.now dart }
+        ensures short { length result.now ≤ MAX_TURNS }
+    {
+        let dart = self.darts[usize::from(dart)];
+        run(dart.turn, dart.count)
+    }
+
+    /// How many turns all darts have. A step for each dart.
+    pub(crate) fn turn_count(&self) -> u32
+        ensures count { result ≡ sum_below (length self.now.strings) (λ d. length (turns_at self.now d)) }
+        ensures few { result ≤ length self.now.strings * MAX_TURNS }
+    {
+        let mut turns = 0;
+        for i in 0..self.darts.len() {
+            turns += u32::from(self.darts[i].count);
+        }
+        turns
+    }
+}
