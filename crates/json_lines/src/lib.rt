@@ -5,5 +5,6 @@ mod arrays;
 mod lines;
 mod objects;
 mod put;
+mod text;
 
 pub use lines::{LaidGraph, end_line, entry_line, lacking_line, laid_line};

@@ -73,7 +73,7 @@ pub fn lacking_line(alloc: Global, file: u32, graph: u64) -> Result<Vec<u8>, All
 {
     let mut out = Writer::new(Vec::with_capacity(alloc, SHORT_ROOM)?);
     put::begin_object(&mut out)?;
-    put_place(&mut out, file, graph)?;
+    put::place(&mut out, file, graph)?;
     put::text_at(&mut out, "status", "memory")?;
     put::end_object(&mut out)?;
     ended(out)
@@ -85,7 +85,7 @@ fn refused_line(alloc: Global, file: u32, graph: u64, rule: Rule) -> Result<Vec<
 {
     let mut out = Writer::new(Vec::with_capacity(alloc, SHORT_ROOM)?);
     put::begin_object(&mut out)?;
-    put_place(&mut out, file, graph)?;
+    put::place(&mut out, file, graph)?;
     put::text_at(&mut out, "rule", rule.word())?;
     put::text_at(&mut out, "status", "refused")?;
     put::end_object(&mut out)?;
@@ -126,15 +126,15 @@ pub fn laid_line(
         drawing,
     } = laid;
     let room = LAID_ROOM + DART_ROOM * usize::from(plane.graph().darts());
-    let mut out = Writer::new(Vec::with_capacity(alloc, room)?);
-    put::begin_object(&mut out)?;
+    let mut out = Vec::with_capacity(alloc, room)?;
     put_shape(&mut out, plane, shape, drawing)?;
     put_place(&mut out, file, graph)?;
     put_sizes(&mut out, plane)?;
     put_drawing(&mut out, plane.graph().edges(), drawing)?;
     put_prices(&mut out, plane, prices)?;
-    put_end(alloc, &mut out, shape)?;
-    ended(out)
+    put_end(&mut out, shape)?;
+    out.push(b'\n')?;
+    Ok(out)
 }
 
 /// The line of the end of the file of this number: the word of its mark, and how many graphs it has,

@@ -1,8 +1,8 @@
 //! Parts of a value, put behind what was written.
-ghost use Rattle.std.specs.Prelude.{◌∷◌, [], OnOk};
-ghost use Rattle.json.specs.Token.{begin_array, begin_object, end_array, end_object, key};
-ghost use Rattle.serde_json.specs.Data.{null, string};
-ghost use Rattle.json_lines.specs.LineData.{natural, whole};
+ghost use Rattle.std.specs.Prelude.{◌∷◌, ◌++◌, [], OnOk, codes};
+ghost use Rattle.json.specs.Token.{begin_object, end_object, key};
+ghost use Rattle.serde_json.specs.Data.{string};
+ghost use Rattle.json_lines.specs.LineData.{natural};
 ghost use Rattle.json_lines.specs.Adding.{Adds, tokens_of};
 
 use json::Writer;
@@ -22,20 +22,6 @@ pub(crate) fn end_object(out: &mut Writer) -> Result<(), AllocError>
     out.end_object()
 }
 
-/// Puts the beginning of an array.
-pub(crate) fn begin_array(out: &mut Writer) -> Result<(), AllocError>
-    ensures { OnOk result (Adds out.old out.new (begin_array ∷ [])) }
-{
-    out.begin_array()
-}
-
-/// Puts the end of an array.
-pub(crate) fn end_array(out: &mut Writer) -> Result<(), AllocError>
-    ensures { OnOk result (Adds out.old out.new (end_array ∷ [])) }
-{
-    out.end_array()
-}
-
 /// Puts the key of a member.
 pub(crate) fn key(out: &mut Writer, name: &str) -> Result<(), AllocError>
     ensures { OnOk result (Adds out.old out.new (key name.now ∷ [])) }
@@ -48,20 +34,6 @@ pub(crate) fn natural(out: &mut Writer, number: u64) -> Result<(), AllocError>
     ensures { OnOk result (Adds out.old out.new (tokens_of (natural number))) }
 {
     out.u64(number)
-}
-
-/// Puts a number.
-pub(crate) fn whole(out: &mut Writer, number: i32) -> Result<(), AllocError>
-    ensures { OnOk result (Adds out.old out.new (tokens_of (whole number))) }
-{
-    out.i64(i64::from(number))
-}
-
-/// Puts null.
-pub(crate) fn null(out: &mut Writer) -> Result<(), AllocError>
-    ensures { OnOk result (Adds out.old out.new (tokens_of null)) }
-{
-    out.null()
 }
 
 /// Puts a text.
@@ -85,4 +57,13 @@ pub(crate) fn text_at(out: &mut Writer, name: &str, value: &str) -> Result<(), A
 {
     key(out, name)?;
     text(out, value)
+}
+
+/// Puts which graph of which file it is.
+pub(crate) fn place(out: &mut Writer, file: u32, graph: u64) -> Result<(), AllocError>
+    ensures { OnOk result (Adds out.old out.new (key (codes "file")
+        ∷ (tokens_of (natural file) ++ key (codes "graph") ∷ tokens_of (natural graph)))) }
+{
+    natural_at(out, "file", u64::from(file))?;
+    natural_at(out, "graph", graph)
 }

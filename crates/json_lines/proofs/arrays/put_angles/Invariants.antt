@@ -4,4 +4,4 @@ use Rattle.json_lines.proofs.Steps.{Lists}
 use Rattle.json_lines.proofs.arrays.put_angles.Given as goal
 
 abbrev pub invariant-loop-dart : goal.invariant-loop-dart
-invariant-loop-dart l = Lists l.initial.out l.out (map natural (take l.dart l.shape.angles))
+invariant-loop-dart l = Lists l.initial.out.items l.out.items (map natural (take l.dart l.shape.angles))

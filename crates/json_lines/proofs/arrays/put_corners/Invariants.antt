@@ -5,4 +5,4 @@ use Rattle.json_lines.proofs.Steps.{Lists}
 use Rattle.json_lines.proofs.arrays.put_corners.Given as goal
 
 abbrev pub invariant-loop-edge : goal.invariant-loop-edge
-invariant-loop-edge l = Lists l.initial.out l.out (map (corners_data l.points) (range_with_len 0 l.edge))
+invariant-loop-edge l = Lists l.initial.out.items l.out.items (map (corners_data l.points) (range_with_len 0 l.edge))

@@ -4,4 +4,4 @@ use Rattle.json_lines.proofs.Steps.{Lists}
 use Rattle.json_lines.proofs.arrays.put_face_prices.Given as goal
 
 abbrev pub invariant-loop-face : goal.invariant-loop-face
-invariant-loop-face l = Lists l.initial.out l.out (map whole (take l.face l.prices.faces))
+invariant-loop-face l = Lists l.initial.out.items l.out.items (map whole (take l.face l.prices.faces))

@@ -1,41 +1,58 @@
-use Rattle.std.proofs.Common.{◌≡◌, ◌*◌, ◌/◌, ◌∷◌, ◌++◌, [], List, ◌∙◌, ap, arith, codes, length}
-use Rattle.json.specs.Token.{Token, begin_object, end_object, key}
+use Rattle.std.proofs.Common.{rules, ◌≡◌, ◌*◌, ◌/◌, ◌∷◌, ◌++◌, [], ℕ, List, ◌∙◌, ap, append_assoc, arith, codes, length}
+use Rattle.json.specs.Print.{escape_byte}
 use Rattle.serde_json.specs.Data.{string}
 use Rattle.embedding.specs.Darts.{dart_count}
 use Rattle.faces.specs.Planes.{vertices, darts}
 use Rattle.ortho_rep.specs.Shapes.{turns_at}
 use Rattle.ortho_rep.specs.Representation.{bends_of}
-use Rattle.json_lines.specs.LineData.{natural, array_of, turns_data, prices_data, points_data, drawn_data, laid_data}
-use Rattle.json_lines.specs.Adding.{Adds, tokens_of}
-use Rattle.json_lines.proofs.Steps.{then, shape_first}
+use Rattle.json_lines.specs.LineData.{natural, array_of, turns_data, prices_data, points_data, drawn_data}
+use Rattle.json_lines.specs.Adding.{member_text}
+use Rattle.json_lines.proofs.Steps.{then}
 use Rattle.json_lines.proofs.lines.laid_line.Goals as goal
 
+-- the members one after another, with the byte that ends the line
+joined : (a b c d e f g h i j k l : List ℕ)
+    → (123 ∷ (a ++ 44 ∷ (b ++ 44 ∷ (c ++ 44 ∷ d)))) ++ ((44 ∷ (e ++ 44 ∷ f)) ++ ((44 ∷ (g ++ 44 ∷ h)) ++ ((44 ∷ i) ++ ((44 ∷ j) ++ ((44 ∷ (k ++ 44 ∷ (l ++ 125 ∷ []))) ++ 10 ∷ [])))))
+    ≡ (123 ∷ (a ++ 44 ∷ (b ++ 44 ∷ (c ++ 44 ∷ (d ++ 44 ∷ (e ++ 44 ∷ (f ++ 44 ∷ (g ++ 44 ∷ (h ++ 44 ∷ (i ++ 44 ∷ (j ++ 44 ∷ (k ++ 44 ∷ (l ++ 125 ∷ []))))))))))))) ++ 10 ∷ []
+joined a b c d e f g h i j k l = simp append_assoc
+
 pub returns : goal.returns
+unfolding escape_byte
 returns c =
     let plane = c.args.laid.plane.now in
     let shape = c.args.laid.shape.now in
-    let angles : List Token = tokens_of (array_of natural shape.angles) in
-    let bends : List Token = key (codes "bends") ∷ (tokens_of (natural (bends_of (length shape.strings) (turns_at shape))) ++ key (codes "drawn") ∷ []) in
-    let drawn : List Token = tokens_of (drawn_data c.args.laid.drawing.now) in
-    let faces : List Token = key (codes "f") ∷ tokens_of (natural plane.faces) in
-    let shape_tokens : List Token = key (codes "angles") ∷ (angles ++ (bends ++ (drawn ++ faces))) in
-    let place : List Token = key (codes "file") ∷ (tokens_of (natural c.args.file) ++ key (codes "graph") ∷ tokens_of (natural c.args.graph)) in
-    let sizes : List Token = key (codes "m") ∷ (tokens_of (natural (darts plane / 2)) ++ key (codes "n") ∷ tokens_of (natural (vertices plane))) in
-    let points : List Token = key (codes "points") ∷ tokens_of (points_data (darts plane / 2) c.args.laid.drawing.now) in
-    let prices : List Token = key (codes "prices") ∷ tokens_of (prices_data c.args.laid.prices.now) in
-    let end : List Token = key (codes "status") ∷ (tokens_of (string (codes "ok")) ++ key (codes "turns") ∷ (tokens_of (array_of turns_data shape.strings) ++ end_object ∷ [])) in
-    let darts_too : 2 * c.edges.result ≡ darts plane = c.edges.ensures.count ∙ ap dart_count c.graph-2.ensures.value in
-    let edges : c.edges.result ≡ darts plane / 2 = omega arith in
-    let drawing : Adds c.put_sizes.new.out c.put_drawing.new.out points = rw edges at c.in_ok-put_drawing.ensures in
-    let last = c.put_end.new.out in
-    let rest : List Token = place ++ (sizes ++ (points ++ (prices ++ end))) in
-    let behind : Adds c.put_shape.new.out last rest =
-    then c.put_shape.new.out c.put_place.new.out last place (sizes ++ (points ++ (prices ++ end))) c.in_ok-put_place.ensures
-    (then c.put_place.new.out c.put_sizes.new.out last sizes (points ++ (prices ++ end)) c.in_ok-put_sizes.ensures
-    (then c.put_sizes.new.out c.put_drawing.new.out last points (prices ++ end) drawing
-    (then c.put_drawing.new.out c.put_prices.new.out last prices end c.in_ok-put_prices.ensures c.in_ok-put_end.ensures))) in
-    let whole = then c.new-out.result c.begin_object.new.out last (begin_object ∷ []) (shape_tokens ++ rest) c.in_ok-begin_object.ensures
-    (then c.begin_object.new.out c.put_shape.new.out last shape_tokens rest c.in_ok-put_shape.ensures behind) in
-    c.ended.ensures (laid_data c.args.file c.args.graph plane shape c.args.laid.prices.now c.args.laid.drawing.now) (
-    whole.1 ∙ ap (λ (ts : List Token). ts ++ begin_object ∷ (shape_tokens ++ rest)) c.new-out.ensures.tokens
-    ∙ ap (λ (ts : List Token). begin_object ∷ key (codes "angles") ∷ ts) (shape_first angles bends drawn faces rest))
+    let angles = array_of natural shape.angles in
+    let bends = natural (bends_of (length shape.strings) (turns_at shape)) in
+    let drawn = drawn_data c.args.laid.drawing.now in
+    let faces = natural plane.faces in
+    let file = natural c.args.file in
+    let graph = natural c.args.graph in
+    let edges = natural (darts plane / 2) in
+    let count = natural (vertices plane) in
+    let points = points_data (darts plane / 2) c.args.laid.drawing.now in
+    let prices = prices_data c.args.laid.prices.now in
+    let turns = array_of turns_data shape.strings in
+    let shape_text : List ℕ = 123 ∷ (member_text (codes "angles") angles ++ 44 ∷ (member_text (codes "bends") bends ++ 44 ∷ (member_text (codes "drawn") drawn ++ 44 ∷ member_text (codes "f") faces))) in
+    let place : List ℕ = 44 ∷ (member_text (codes "file") file ++ 44 ∷ member_text (codes "graph") graph) in
+    let sizes : List ℕ = 44 ∷ (member_text (codes "m") edges ++ 44 ∷ member_text (codes "n") count) in
+    let drawing : List ℕ = 44 ∷ member_text (codes "points") points in
+    let proof : List ℕ = 44 ∷ member_text (codes "prices") prices in
+    let last : List ℕ = 44 ∷ (member_text (codes "status") (string (codes "ok")) ++ 44 ∷ (member_text (codes "turns") turns ++ 125 ∷ [])) in
+    let twice : 2 * c.edges.result ≡ darts plane = c.edges.ensures.count ∙ ap dart_count c.graph-2.ensures.value in
+    let half : c.edges.result ≡ darts plane / 2 = omega arith in
+    let drawing_put : c.put_drawing.new.out.items ≡ c.put_sizes.new.out.items ++ drawing = rw half at c.in_ok-put_drawing.ensures in
+    let end = c.push.new.self.items in
+    let pushed : end ≡ c.put_end.new.out.items ++ 10 ∷ [] = search rules in
+    let start = c.in_ok-out.out.items in
+    let none : start ≡ [] = search rules in
+    let whole : end ≡ start ++ (shape_text ++ (place ++ (sizes ++ (drawing ++ (proof ++ (last ++ 10 ∷ [])))))) =
+    then start c.put_shape.new.out.items end shape_text (place ++ (sizes ++ (drawing ++ (proof ++ (last ++ 10 ∷ []))))) c.in_ok-put_shape.ensures
+    (then c.put_shape.new.out.items c.put_place.new.out.items end place (sizes ++ (drawing ++ (proof ++ (last ++ 10 ∷ [])))) c.in_ok-put_place.ensures
+    (then c.put_place.new.out.items c.put_sizes.new.out.items end sizes (drawing ++ (proof ++ (last ++ 10 ∷ []))) c.in_ok-put_sizes.ensures
+    (then c.put_sizes.new.out.items c.put_drawing.new.out.items end drawing (proof ++ (last ++ 10 ∷ [])) drawing_put
+    (then c.put_drawing.new.out.items c.put_prices.new.out.items end proof (last ++ 10 ∷ []) c.in_ok-put_prices.ensures
+    (then c.put_prices.new.out.items c.put_end.new.out.items end last (10 ∷ []) c.in_ok-put_end.ensures pushed))))) in
+    whole ∙ ap (λ (text : List ℕ). text ++ (shape_text ++ (place ++ (sizes ++ (drawing ++ (proof ++ (last ++ 10 ∷ []))))))) none
+    ∙ joined (member_text (codes "angles") angles) (member_text (codes "bends") bends) (member_text (codes "drawn") drawn) (member_text (codes "f") faces)
+    (member_text (codes "file") file) (member_text (codes "graph") graph) (member_text (codes "m") edges) (member_text (codes "n") count)
+    (member_text (codes "points") points) (member_text (codes "prices") prices) (member_text (codes "status") (string (codes "ok"))) (member_text (codes "turns") turns)

@@ -1,20 +1,23 @@
-use Rattle.std.proofs.Common.{◌∷◌, [], codes}
-use Rattle.std.specs.List.{range_with_len}
+use Rattle.std.proofs.Common.{◌≡◌, ◌++◌, ◌∷◌, [], ℕ, List, codes}
 use Rattle.std.proofs.lemmas.Result.{on_ok_weaker}
-use Rattle.json.specs.Token.{begin_object, end_object, key}
+use Rattle.std.specs.List.{range_with_len}
+use Rattle.json.specs.Print.{escape_byte}
+use Rattle.serde_json.specs.Written.{compact_text}
 use Rattle.json_lines.specs.LineData.{array_of, corners_data, point_data}
-use Rattle.json_lines.specs.Adding.{Adds, tokens_of}
 use Rattle.json_lines.proofs.Steps.{then}
 use Rattle.json_lines.proofs.objects.put_drawn_points.Goals as goal
 
 pub returns : goal.returns
+unfolding escape_byte
 returns c =
     let points = c.args.points.now in
-    let last = c.end_object.new.out in
-    let vertices : Adds c.key-2.new.out c.put_points.new.out (tokens_of (array_of point_data points.vertices)) = rw c.vertices.ensures at c.in_ok-put_points.ensures in
-    on_ok_weaker c.end_object.result (λ ends.
-    then c.args.out.now c.begin_object.new.out last (begin_object ∷ []) _ c.in_ok-begin_object.ensures
-    (then c.begin_object.new.out c.key.new.out last (key (codes "corners") ∷ []) _ c.in_ok-key.ensures
-    (then c.key.new.out c.put_corners.new.out last (tokens_of (array_of (corners_data points) (range_with_len 0 c.args.edges))) _ c.in_ok-put_corners.ensures
-    (then c.put_corners.new.out c.key-2.new.out last (key (codes "vertices") ∷ []) _ c.in_ok-key-2.ensures
-    (then c.key-2.new.out c.put_points.new.out last (tokens_of (array_of point_data points.vertices)) (end_object ∷ []) vertices ends))))) c.end_object.ensures
+    let end = c.bytes-3.new.out.items in
+    let corners : List ℕ = compact_text (array_of (corners_data points) (range_with_len 0 c.args.edges)) in
+    let vertices : List ℕ = compact_text (array_of point_data points.vertices) in
+    let key : List ℕ = 44 ∷ 34 ∷ (codes "vertices" ++ 34 ∷ 58 ∷ []) in
+    on_ok_weaker c.bytes-3.result (λ last.
+    let seen : c.put_points.new.out.items ≡ c.bytes-2.new.out.items ++ vertices = rw c.vertices.ensures at c.in_ok-put_points.ensures in
+    then c.args.out.now.items c.bytes.new.out.items end _ (corners ++ (key ++ (vertices ++ 125 ∷ []))) c.in_ok-bytes.ensures
+    (then c.bytes.new.out.items c.put_corners.new.out.items end corners (key ++ (vertices ++ 125 ∷ [])) c.in_ok-put_corners.ensures
+    (then c.put_corners.new.out.items c.bytes-2.new.out.items end key (vertices ++ 125 ∷ []) c.in_ok-bytes-2.ensures
+    (then c.bytes-2.new.out.items c.put_points.new.out.items end vertices (125 ∷ []) seen last)))) c.bytes-3.ensures
