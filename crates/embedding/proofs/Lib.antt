@@ -8,6 +8,7 @@ pub mod Places
 pub mod ListStarts
 pub mod PairLemmas
 pub mod RowBits
+pub mod RowWords
 pub mod EachList
 pub mod SmallGraphs
 pub mod Marking

@@ -83,13 +83,13 @@ cut_whole g starts ends table same =
 -- the table in which links stand before the starts
 pub kept_whole : (g : List (List ℕ)) (ends links starts table : List ℕ) → KeepsBefore g 8 → length g < 256 → ends ≡ heads g
     → AreLinks g (dart_count g) links → IsTable (length g + 1) (first_dart g) starts → table ≡ links ++ starts
-    → (drop (2 * length ends) table ≡ starts) × IsKept g ends table
+    → (cut_at (drop (2 * length ends) table) ends ≡ g) × IsKept g ends table
 kept_whole g ends links starts table rules order same l s is =
     let size : length links ≡ 2 * length ends = omega (arith, l.size, ap length same) in
     let behind : drop (2 * length ends) table ≡ starts = ap (drop (2 * length ends)) is ∙ drop_at links starts (2 * length ends) size in
     let read : (i : ℕ) → i < length links → get_or table i 0 ≡ get_or links i 0 =
     λ i below. ap (λ (t : List ℕ). get_or t i 0) is ∙ get_or_append_left links starts 0 i below in (
-      behind,
+      ap (λ (t : List ℕ). cut_at t ends) behind ∙ cut_whole g starts ends s same,
       record {
         rules = rules;
         order = order;

@@ -1,12 +1,12 @@
 -- What a record's split says of the list at one place.
-use Rattle.std.proofs.Common.{◌≡◌, ℕ, ◌+◌, ◌-◌, ◌*◌, ◌<◌, ◌≤◌, List, [], length, get_or, take, drop, sym, ap, ◌∙◌, subst, arith}
+use Rattle.std.proofs.Common.{◌≡◌, ℕ, zero, suc, ◌+◌, ◌-◌, ◌*◌, ◌<◌, ◌≤◌, List, [], ◌∷◌, length, get_or, take, drop, sym, ap, ◌∙◌, subst, arith}
 use Rattle.std.specs.List.{flat_map}
 use Rattle.planar_code.specs.declared.TheConstants.{MAX_LIST}
 use Rattle.planar_code.specs.Stream.{ended, lists_in}
 use Rattle.embedding.specs.Darts.{dart_count, first_dart}
 use Rattle.embedding.specs.Split.{IsSplit, start_of}
 use Rattle.embedding.proofs.WrittenLists.{start_of-more, start_of-all, list_within, part_is, first_dart-start, spelt_short}
-use Rattle.std.proofs.lemmas.List.{take_all}
+use Rattle.std.proofs.lemmas.List.{take_all, get_or-take, get_or-drop}
 
 -- list k of g stands in the bytes from `from` up to the 0 before `to`
 pub record IsPlace (bytes : List ℕ) (g : List (List ℕ)) (k from to : ℕ) : Type 0 where
@@ -47,3 +47,29 @@ bytes_are bytes starts count split g same =
     let bound = ap (λ (h : List (List ℕ)). length (flat_map ended h)) same in
     let sizes = ap length same in
     (omega arith, omega arith)
+
+-- an entry of the list stands in the bytes behind where the list begins
+entry_is : (bytes : List ℕ) (g : List (List ℕ)) (k from to i : ℕ) → IsPlace bytes g k from to → i < length (get_or g k []) → get_or bytes (from + i) 0 ≡ get_or (get_or g k []) i 0
+entry_is bytes g k from to i p inside =
+    let below : i < to - 1 - from = omega (arith, p.ends) in
+    sym (get_or-drop from bytes i 0) ∙ sym (get_or-take (to - 1 - from) (drop from bytes) i 0 below) ∙ ap (λ (l : List ℕ). get_or l i 0) p.part
+
+-- behind the first byte of a list that is not empty stands another one
+pub three_entries-some : (bytes : List ℕ) (g : List (List ℕ)) (k place from to : ℕ) → IsPlace bytes g k from to → k ≡ place → 0 < length (get_or g place []) → from + 1 < length bytes
+three_entries-some bytes g k place from to p same some =
+    omega (arith, some, ap (λ (j : ℕ). length (get_or g j [])) same, p.ends, p.within)
+
+-- the three bytes from where the list begins are its entries, as far as it goes
+pub three_entries : (bytes : List ℕ) (g : List (List ℕ)) (k place from to third : ℕ) → IsPlace bytes g k from to → k ≡ place → (from + 2 < length bytes → third ≡ from + 2)
+    → (i : ℕ) → i < 3 → i < length (get_or g place []) → get_or (get_or bytes from 0 ∷ get_or bytes (from + 1) 0 ∷ get_or bytes third 0 ∷ []) i 0 ≡ get_or (get_or g place []) i 0
+three_entries bytes g k place from to third p same far i three inside =
+    subst (λ (j : ℕ). i < length (get_or g j []) → get_or (get_or bytes from 0 ∷ get_or bytes (from + 1) 0 ∷ get_or bytes third 0 ∷ []) i 0 ≡ get_or (get_or g j []) i 0) same (here i three) inside
+  where
+    here : (i : ℕ) → i < 3 → i < length (get_or g k []) → get_or (get_or bytes from 0 ∷ get_or bytes (from + 1) 0 ∷ get_or bytes third 0 ∷ []) i 0 ≡ get_or (get_or g k []) i 0
+    here zero three inside =
+        let at : from ≡ from + 0 = omega arith in ap (λ (j : ℕ). get_or bytes j 0) at ∙ entry_is bytes g k from to 0 p inside
+    here (suc zero) three inside = entry_is bytes g k from to 1 p inside
+    here (suc (suc zero)) three inside =
+        let at : third ≡ from + 2 = far (omega (arith, inside, p.ends, p.within)) in
+        ap (λ (j : ℕ). get_or bytes j 0) at ∙ entry_is bytes g k from to 2 p inside
+    here (suc (suc (suc i))) three inside = absurd (omega (arith, three))

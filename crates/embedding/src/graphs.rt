@@ -12,7 +12,7 @@ use crate::breaks::first_broken;
 use crate::faults::ReadFault;
 use crate::lists::Lists;
 use crate::scratch::Scratch;
-use crate::tables::{DartTables, darts_in, starts_in};
+use crate::tables::{DartTables, darts_in};
 use planar_code::Record;
 use std::alloc::{AllocError, Global};
 use std::marker::Model;
@@ -94,25 +94,21 @@ impl Graph {
         requires few { length lists.now < 256 }
         ensures { IfOk result (λ graph. graph ≡ lists.now) }
     {
-        let starts = starts_in(mem::replace(&mut scratch.starts, Vec::new(alloc)), lists)?;
         let old = DartTables {
             heads: mem::replace(&mut scratch.heads, Vec::new(alloc)),
-            links: mem::replace(&mut scratch.links, Vec::new(alloc)),
+            table: mem::replace(&mut scratch.table, Vec::new(alloc)),
         };
         let tables = darts_in(old, lists)?;
-        let mut table = tables.links;
-        table.extend_from_slice(&starts)?;
-        scratch.starts = starts;
         Ok(Graph {
             heads: tables.heads,
-            table,
+            table: tables.table,
         })
     }
 
     /// Gives the lists of this graph back to be used again. It takes no memory.
     pub fn give_back(self, scratch: &mut Scratch) {
         scratch.heads = self.heads;
-        scratch.links = self.table;
+        scratch.table = self.table;
     }
 
     /// How many vertices there are, 1 to 255.

@@ -1,6 +1,6 @@
 //! The neighbour lists of a record, borrowed from its bytes.
 
-ghost use Rattle.std.specs.Prelude.{◌≡◌, ℕ, ◌<◌, ◌≤◌, ◌∷◌, List, length, All, slice_index, slice_index_or, []};
+ghost use Rattle.std.specs.Prelude.{◌≡◌, ℕ, ◌<◌, ◌≤◌, ◌∷◌, List, length, All, slice_index, slice_index_or, [], Contains};
 ghost use Rattle.std.specs.List.{flat_map};
 ghost use Rattle.planar_code.specs.declared.TheConstants.{MAX_LIST};
 ghost use Rattle.planar_code.specs.Stream.{IsList, ended, lists_in, lists_of};
@@ -93,6 +93,34 @@ impl<'a> Lists<'a> {
         let from = usize::from(self.starts[place]);
         let to = usize::from(self.starts[place + 1]);
         &self.bytes[from..to - 1]
+    }
+
+    /// The first three bytes from where the list at a place begins. One behind the last byte is that byte again.
+    fn three_at(&self, place: u8) -> [u8; 3]
+        requires within { place < length self.now }
+        requires some { 0 < length (slice_index_or self.now place []) }
+        ensures { (i : ℕ) → i < 3 → i < length (slice_index_or self.now place [])
+            → slice_index result i ≡ slice_index (slice_index_or self.now place []) i }
+    {
+        let first = usize::from(self.starts[usize::from(place)]);
+        let third = (first + 2).min(self.bytes.len() - 1);
+        [self.bytes[first], self.bytes[first + 1], self.bytes[third]]
+    }
+
+    /// Where a vertex stands in the short list at a place, which holds it. No branch hangs on where that is, and no look
+    /// at the list's end is needed: what stands behind it comes after the vertex.
+    pub(crate) fn place_in(&self, place: u8, vertex: u8) -> u16
+        requires within { place < length self.now }
+        requires held { Contains (slice_index_or self.now place []) vertex }
+        requires short { length (slice_index_or self.now place []) ≤ 4 }
+        ensures within { result < length (slice_index_or self.now place []) }
+        ensures here { slice_index (slice_index_or self.now place []) result ≡ vertex }
+    {
+        let [first, second, third] = self.three_at(place);
+        let past_first = first != vertex;
+        let past_second = past_first & (second != vertex);
+        let past_third = past_second & (third != vertex);
+        u16::from(past_first) + u16::from(past_second) + u16::from(past_third)
     }
 
     /// The list of a vertex, empty where no vertex has that number.

@@ -9,18 +9,16 @@ use std::alloc::Global;
 /// next graph takes memory for both.
 #[derive(Drop)]
 pub struct Scratch {
-    pub(crate) starts: Vec<u16>,
     pub(crate) heads: Vec<u8>,
-    pub(crate) links: Vec<u16>,
+    pub(crate) table: Vec<u16>,
 }
 
 impl Scratch {
     /// An empty one, for which no memory is taken.
     pub fn empty(alloc: Global) -> Scratch {
         Scratch {
-            starts: Vec::new(alloc),
             heads: Vec::new(alloc),
-            links: Vec::new(alloc),
+            table: Vec::new(alloc),
         }
     }
 }

@@ -1,43 +1,15 @@
 //! What a graph keeps, made from lists that keep rules 1 to 7. Each list stands in the memory of an old one where
 //! that is enough.
 
-ghost use Rattle.std.specs.Prelude.{◌≡◌, ℕ, ◌+◌, ◌*◌, ◌<◌, ◌≤◌, length, slice_index, vec_capacity, IfOk, Contains};
+ghost use Rattle.std.specs.Prelude.{◌≡◌, ℕ, ◌+◌, ◌*◌, ◌<◌, ◌≤◌, ◌++◌, List, drop, length, vec_capacity, IfOk, Contains};
 ghost use Rattle.embedding.specs.Lists.{list_of};
-ghost use Rattle.embedding.specs.Darts.{heads, dart_count, first_dart, head_of, tail_of, reverse_of, after_of};
+ghost use Rattle.embedding.specs.Darts.{dart_count, first_dart, head_of, tail_of, reverse_of, after_of};
 ghost use Rattle.embedding.specs.Rules.{KeepsBefore};
-ghost use Rattle.embedding.specs.Tables.{IsTable, AreLinks};
+ghost use Rattle.embedding.specs.Tables.{cut_at, IsTable, AreLinks, IsKept};
 
 use crate::lists::Lists;
-use crate::rows::four_of;
 use reuse::emptied;
 use std::alloc::AllocError;
-
-/// Where each list begins among the heads of all darts, and at the end how many darts there are.
-pub(crate) fn starts_in(old: Vec<u16>, lists: &Lists<'_>) -> Result<Vec<u16>, AllocError>
-    ensures { IfOk result (λ starts.
-        IsTable (length lists.now + 1) (first_dart lists.now) starts.items) }
-{
-    let mut starts = emptied(old, usize::from(lists.count()) + 1)?;
-    for place in 0..lists.count() {
-        starts.push(lists.first_dart(place))?;
-    }
-    starts.push(lists.darts() as u16)?;
-    Ok(starts)
-}
-
-/// Where a vertex stands in a short list that holds it. No branch hangs on which place it is.
-fn place_of(list: &[u8], vertex: u8) -> usize
-    requires held { Contains list.now vertex }
-    requires short { length list.now ≤ 4 }
-    ensures within { result < length list.now }
-    ensures here { slice_index list.now result ≡ vertex }
-{
-    let [first, second, third, _] = four_of(list);
-    let past_first = first != vertex;
-    let past_second = past_first & (second != vertex);
-    let past_third = past_second & (third != vertex);
-    usize::from(past_first) + usize::from(past_second) + usize::from(past_third)
-}
 
 /// The reverse of the dart from `tail` to `head`, which stands in the list of `tail`.
 fn reverse_between(lists: &Lists<'_>, tail: u8, head: u8) -> u16
@@ -47,8 +19,7 @@ fn reverse_between(lists: &Lists<'_>, tail: u8, head: u8) -> u16
         → tail_of lists.now d ≡ tail → head_of lists.now d ≡ head
         → result ≡ reverse_of lists.now d }
 {
-    let place = place_of(lists.at(head - 1), tail);
-    lists.first_dart(head - 1) + place as u16
+    lists.first_dart(head - 1) + lists.place_in(head - 1, tail)
 }
 
 /// The dart after one that `next` follows by number, in a list whose first dart is `first` and whose darts end
@@ -72,7 +43,7 @@ fn add_darts(heads: &mut Vec<u8>, links: &mut Vec<u16>, lists: &Lists<'_>, place
     ensures heads { IsTable (first_dart lists.now (place + 1)) (head_of lists.now) heads.new.items }
     ensures links { AreLinks lists.now (first_dart lists.now (place + 1)) links.new.items }
     ensures head_room { dart_count lists.now ≤ vec_capacity heads.new }
-    ensures link_room { 2 * dart_count lists.now ≤ vec_capacity links.new }
+    ensures link_room { vec_capacity links.new ≡ vec_capacity links.old }
 {
     let list = lists.at(place);
     let first = lists.first_dart(place);
@@ -86,27 +57,42 @@ fn add_darts(heads: &mut Vec<u8>, links: &mut Vec<u16>, lists: &Lists<'_>, place
     }
 }
 
-/// What is kept of each dart: its head, and behind one another its reverse and the dart after it.
+/// Adds where each vertex's list begins among the heads of all darts, and at the end how many darts there are.
+fn add_starts(table: &mut Vec<u16>, lists: &Lists<'_>)
+    requires { length table.old.items + length lists.now + 1 ≤ vec_capacity table.old }
+    ensures { (starts : List ℕ) × IsTable (length lists.now + 1) (first_dart lists.now) starts
+        × (table.new.items ≡ table.old.items ++ starts) }
+{
+    for place in 0..lists.count() {
+        table.push_reserved(lists.first_dart(place));
+    }
+    table.push_reserved(lists.darts() as u16);
+}
+
+/// What a graph keeps: the heads of all darts, and a table of their links and of where each list begins.
 #[derive(Drop)]
 pub(crate) struct DartTables {
     pub(crate) heads: Vec<u8>,
-    pub(crate) links: Vec<u16>,
+    pub(crate) table: Vec<u16>,
 }
 
-/// The heads of all darts, and their links: of each its reverse, and the dart after it, which is the next one, but of
-/// the last dart of a list its first one. Memory is asked for before the first dart, behind the links for the starts.
+/// The heads of all darts, and in the table their links: of each dart its reverse, and the dart after it, which is the
+/// next one, but of the last dart of a list its first one. Behind them stand the starts. Memory is asked for before the
+/// first dart.
 pub(crate) fn darts_in(old: DartTables, lists: &Lists<'_>) -> Result<DartTables, AllocError>
-    requires { KeepsBefore lists.now 8 }
-    ensures heads { IfOk result (λ t. t.heads.items ≡ heads lists.now) }
-    ensures links { IfOk result (λ t. AreLinks lists.now (dart_count lists.now) t.links.items) }
+    requires rules { KeepsBefore lists.now 8 }
+    requires few { length lists.now < 256 }
+    ensures kept { IfOk result (λ t. IsKept lists.now t.heads.items t.table.items) }
+    ensures lists { IfOk result (λ t. cut_at (drop (2 * length t.heads.items) t.table.items) t.heads.items ≡ lists.now) }
 {
     let mut heads = emptied(old.heads, lists.darts())?;
-    let mut links = emptied(
-        old.links,
+    let mut table = emptied(
+        old.table,
         2 * lists.darts() + usize::from(lists.count()) + 1,
     )?;
     for place in 0..lists.count() {
-        add_darts(&mut heads, &mut links, lists, place);
+        add_darts(&mut heads, &mut table, lists, place);
     }
-    Ok(DartTables { heads, links })
+    add_starts(&mut table, lists);
+    Ok(DartTables { heads, table })
 }

@@ -31,7 +31,7 @@ push_reserved-requires-in-darts c =
     let g = c.args.lists.now in
     let i = c.darts.head-index in
     let inside : i < length (get_or g c.args.place []) = omega (arith, c.darts-test.true, ap length c.at-list.ensures.value) in
-    omega (arith, c.darts.links.ok.0, c.darts.invariant.links.size, c.darts.invariant.link_room, stands_below g c.args.place i c.requires.within inside)
+    omega (arith, c.darts.links.ok.0, c.darts.invariant.links.size, c.darts.invariant.link_room, c.requires.link_room, stands_below g c.args.place i c.requires.within inside)
 
 pub push_reserved-requires-in-darts-2 : goal.push_reserved-requires-in-darts-2
 push_reserved-requires-in-darts-2 c =
@@ -39,7 +39,7 @@ push_reserved-requires-in-darts-2 c =
     let i = c.darts.head-index in
     let inside : i < length (get_or g c.args.place []) = omega (arith, c.darts-test.true, ap length c.at-list.ensures.value) in
     let pushed = c.push_reserved-in-darts.ensures in
-    omega (arith, pushed.len, pushed.capacity, c.darts.links.ok.0, c.darts.invariant.links.size, c.darts.invariant.link_room, stands_below g c.args.place i c.requires.within inside)
+    omega (arith, pushed.len, pushed.capacity, c.darts.links.ok.0, c.darts.invariant.links.size, c.darts.invariant.link_room, c.requires.link_room, stands_below g c.args.place i c.requires.within inside)
 
 pub darts-preserved : goal.darts-preserved
 darts-preserved c =

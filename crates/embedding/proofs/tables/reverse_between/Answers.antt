@@ -35,46 +35,40 @@ overflow_sub-head c =
     let l = listed c.args.lists.now c.requires.rules c.args.tail c.args.head c.requires.listed in
     omega (arith, l.vertex)
 
-pub at-requires : goal.at-requires
-at-requires c =
-    let l = listed c.args.lists.now c.requires.rules c.args.tail c.args.head c.requires.listed in
-    l.list
-
-pub place_of-place-requires-clause-held : goal.place_of-place-requires-clause-held
-place_of-place-requires-clause-held c =
-    let l = listed c.args.lists.now c.requires.rules c.args.tail c.args.head c.requires.listed in
-    subst (λ (x : List ℕ). Contains x c.args.tail) (sym c.at.ensures.value) l.back
-
-pub place_of-place-requires-clause-short : goal.place_of-place-requires-clause-short
-place_of-place-requires-clause-short c =
-    let l = listed c.args.lists.now c.requires.rules c.args.tail c.args.head c.requires.listed in
-    omega (arith, ap length c.at.ensures.value, l.short)
-
 pub overflow_sub-head-2 : goal.overflow_sub-head-2
 overflow_sub-head-2 c =
     let l = listed c.args.lists.now c.requires.rules c.args.tail c.args.head c.requires.listed in
     omega (arith, l.vertex)
 
-pub overflow_cast-result : goal.overflow_cast-result
-overflow_cast-result c =
+pub first_dart-requires : goal.first_dart-requires
+first_dart-requires c =
     let l = listed c.args.lists.now c.requires.rules c.args.tail c.args.head c.requires.listed in
-    omega (arith, l.short, c.place_of-place.ensures.within, ap length c.at.ensures.value)
+    l.list
+
+pub place_in-requires-clause-within : goal.place_in-requires-clause-within
+place_in-requires-clause-within c =
+    let l = listed c.args.lists.now c.requires.rules c.args.tail c.args.head c.requires.listed in
+    l.list
+
+pub place_in-requires-clause-held : goal.place_in-requires-clause-held
+place_in-requires-clause-held c =
+    let l = listed c.args.lists.now c.requires.rules c.args.tail c.args.head c.requires.listed in
+    l.back
+
+pub place_in-requires-clause-short : goal.place_in-requires-clause-short
+place_in-requires-clause-short c =
+    let l = listed c.args.lists.now c.requires.rules c.args.tail c.args.head c.requires.listed in
+    l.short
 
 pub overflow_add-result : goal.overflow_add-result
 overflow_add-result c =
-    let g = c.args.lists.now in
-    let l = listed g c.requires.rules c.args.tail c.args.head c.requires.listed in
-    let i = c.place_of-place.result in
-    let inside : i < length (get_or g (c.args.head - 1) []) = omega (arith, c.place_of-place.ensures.within, ap length c.at.ensures.value) in
-    omega (arith, c.first_dart.ensures.value, stands_below g (c.args.head - 1) i l.list inside, c.first_dart.ensures.few)
+    let l = listed c.args.lists.now c.requires.rules c.args.tail c.args.head c.requires.listed in
+    omega (arith, c.first_dart.ensures.value, stands_below c.args.lists.now (c.args.head - 1) c.place_in.result l.list c.place_in.ensures.within, c.first_dart.ensures.few)
 
 pub returns : goal.returns
 returns c =
     let g = c.args.lists.now in
     let l = listed g c.requires.rules c.args.tail c.args.head c.requires.listed in
-    let i = c.place_of-place.result in
-    let inside : i < length (get_or g (c.args.head - 1) []) = omega (arith, c.place_of-place.ensures.within, ap length c.at.ensures.value) in
-    let entry : get_or (get_or g (c.args.head - 1) []) i 0 ≡ c.args.tail =
-    ap (λ (x : List ℕ). get_or x i 0) (sym c.at.ensures.value) ∙ c.place_of-place.ensures.here in
+    let i = c.place_in.result in
     let number : c.first_dart.result + i ≡ first_dart g (c.args.head - 1) + i = omega (arith, c.first_dart.ensures.value) in
-    reverse_found g c.requires.rules c.args.tail c.args.head (c.args.head - 1) i (c.first_dart.result + i) l.vertex l.list inside entry number
+    reverse_found g c.requires.rules c.args.tail c.args.head (c.args.head - 1) i (c.first_dart.result + i) l.vertex l.list c.place_in.ensures.within c.place_in.ensures.here number
