@@ -1,7 +1,5 @@
 -- The table of faces and degrees, and the plane that keeps it.
-use Rattle.std.proofs.Common.{◌≡◌, ℕ, ◌+◌, ◌*◌, ◌<◌, ◌≤◌, List, ◌++◌, length, slice_index, take, sym, ap, ◌∙◌, subst}
-use Rattle.std.proofs.Math.Seq.{take-append_seam}
-use Rattle.std.proofs.lemmas.List.{length-append, get_or-append-add}
+use Rattle.std.proofs.Common.{◌≡◌, ℕ, ◌+◌, ◌*◌, ◌<◌, ◌≤◌, List, length, slice_index, take, sym, ap, ◌∙◌, subst}
 use Rattle.embedding.specs.Darts.{dart_count, next_of}
 use Rattle.embedding.specs.Faces.{HasFaces}
 use Rattle.embedding.specs.Rules.{KeepsBefore}
@@ -10,21 +8,6 @@ use Rattle.faces.specs.Planes.{IsKept, IsWidest, model_of}
 use Rattle.faces.specs.Walk.{at}
 use Rattle.faces.specs.Tables.{IsFaceTable, IsFirstWidest}
 use Rattle.faces.proofs.Outer.{plane_from, outer_from}
-
-joined : (faces degrees : List ℕ) (count : ℕ) → length degrees ≡ count
-    → ((k : ℕ) → k < count → slice_index degrees k ≡ degree_in (length faces) (at faces) k)
-    → IsFaceTable faces count (faces ++ degrees)
-joined faces degrees count size are = record {
-  size = length-append faces degrees ∙ ap (λ (n : ℕ). length faces + n) size;
-  faces_are = take-append_seam faces degrees;
-  degrees_are = λ k lt. get_or-append-add faces degrees k 0 ∙ are k lt;
-}
-
--- faces with their degrees behind them
-pub face_table : (faces degrees table : List ℕ) (count : ℕ) → table ≡ faces ++ degrees → length degrees ≡ count
-    → ((k : ℕ) → k < count → slice_index degrees k ≡ degree_in (length faces) (at faces) k)
-    → IsFaceTable faces count table
-face_table faces degrees table count is size are = subst (IsFaceTable faces count) (sym is) (joined faces degrees count size are)
 
 -- the table begins with the faces
 begins : (g : List (List ℕ)) (faces table : List ℕ) (count : ℕ) → length faces ≡ dart_count g → IsFaceTable faces count table

@@ -1,7 +1,8 @@
 //! Planes: connected graphs with their faces, one of which is the outer one.
 
-ghost use Rattle.std.specs.Prelude.{◌≡◌, ◌≢◌, ◌<◌, ◌≤◌, ◌++◌, ℕ, IfOk, IfErr, Err, length, slice_index};
+ghost use Rattle.std.specs.Prelude.{◌≡◌, ◌≢◌, ◌<◌, ◌≤◌, ℕ, IfOk, IfErr, Err, length, slice_index};
 ghost use Rattle.embedding.specs.declared.graphs.TheConstants.{MAX_DARTS};
+ghost use Rattle.embedding.specs.Darts.{dart_count};
 ghost use Rattle.embedding.specs.Rules.{KeepsBefore};
 ghost use Rattle.faces.specs.declared.plane.TheConstants.{MAX_FACES};
 ghost use Rattle.faces.specs.Tables.{IsFaceTable, IsFirstWidest};
@@ -18,6 +19,9 @@ use thiserror::Error;
 
 /// How many faces a plane has at most: 510 edges less 255 vertices, and two more.
 pub const MAX_FACES: usize = 257;
+
+/// Graphs with no more darts are numbered in less room, since all of it is set before.
+const FEW_DARTS: usize = 128;
 
 /// A connected graph of maximum degree at most 4 that is drawn on the sphere without crossings: its
 /// faces, and which of them is the outer one. In contracts it is a `PlaneModel`.
@@ -57,17 +61,6 @@ pub enum TraceFault {
     Memory(Graph),
 }
 
-/// The faces of all darts, and behind them the degrees of all faces, in the memory of an old list where that is
-/// enough.
-fn table_of(old: Vec<u16>, faces: &[u16], degrees: &[u16]) -> Result<Vec<u16>, AllocError>
-    ensures { IfOk result (λ table. table.items ≡ faces.now ++ degrees.now) }
-{
-    let mut table = emptied(old, faces.len() + degrees.len())?;
-    table.extend_from_slice(faces)?;
-    table.extend_from_slice(degrees)?;
-    Ok(table)
-}
-
 /// The face of each dart, behind them the degree of each face, and the first of the widest faces.
 #[derive(Drop)]
 struct FaceTable {
@@ -90,12 +83,14 @@ fn face_table(
     ensures table { IfOk result (λ t. IsFaceTable faces.now count t.table.items) }
     ensures widest { IfOk result (λ t. IsFirstWidest (length faces.now) (at faces.now) count t.widest) }
 {
-    let mut zeros = [0; MAX_FACES];
-    let degrees = &mut zeros[..usize::from(count)];
+    let all = faces.len() + usize::from(count);
+    let old = mem::replace(&mut scratch.table, Vec::new(alloc));
+    let mut table = emptied(old, all)?;
+    table.extend_from_slice(faces)?;
+    table.resize(all, 0)?;
+    let degrees = &mut table[faces.len()..];
     count_degrees(faces, degrees);
     let widest = widest_face(degrees);
-    let old = mem::replace(&mut scratch.table, Vec::new(alloc));
-    let table = table_of(old, faces, degrees)?;
     Ok(FaceTable { table, widest })
 }
 
@@ -136,8 +131,33 @@ impl Plane {
         ensures err { IfErr result (IsTraceFault graph) }
         ensures memory { result ≡ Err (TraceFault.Memory graph) → KeepsBefore graph 9 }
     {
-        let mut marks = [UNSET; MAX_DARTS];
-        let faces = &mut marks[..usize::from(graph.darts())];
+        let darts = usize::from(graph.darts());
+        if darts > FEW_DARTS {
+            let mut marks = [UNSET; MAX_DARTS];
+            let faces = &mut marks[..darts];
+            return Plane::trace_on(alloc, scratch, graph, faces);
+        }
+        let mut marks = [UNSET; FEW_DARTS];
+        let faces = &mut marks[..darts];
+        Plane::trace_on(alloc, scratch, graph, faces)
+    }
+
+    /// The plane of a graph whose faces are numbered on these marks.
+    fn trace_on(
+        alloc: Global,
+        scratch: &mut Scratch,
+        graph: Graph,
+        faces: &mut [u16],
+    ) -> Result<Plane, TraceFault>
+        requires size { length faces.old ≡ dart_count graph }
+        requires few { length faces.old ≤ MAX_DARTS }
+        requires unset { (d : ℕ) → d < length faces.old → slice_index faces.old d ≡ UNSET }
+        ensures graph { IfOk result (λ p. p.lists ≡ graph) }
+        ensures plane { IfOk result IsPlane }
+        ensures outer { IfOk result IsWidest }
+        ensures err { IfErr result (IsTraceFault graph) }
+        ensures memory { result ≡ Err (TraceFault.Memory graph) → KeepsBefore graph 9 }
+    {
         let count = number_faces(&graph, faces);
         if u16::from(graph.vertices()) + count != graph.edges() + 2 {
             return Err(TraceFault::Genus(graph));

@@ -1,42 +1,11 @@
-use Rattle.std.proofs.Common.{arith}
 use Rattle.embedding.specs.declared.graphs.TheConstants.{MAX_DARTS}
+use Rattle.faces.specs.declared.plane.TheConstants.{FEW_DARTS}
 use Rattle.faces.specs.declared.numbering.TheConstants.{UNSET}
-use Rattle.faces.specs.Planes.{model_of}
-use Rattle.faces.proofs.Ends.{plane_ends}
-use Rattle.faces.proofs.Outer.{part_of_one, all_rules, plane_from}
-use Rattle.faces.proofs.Tables.{kept, kept_widest}
+use Rattle.faces.proofs.Outer.{part_of_one}
 use Rattle.faces.proofs.plane.Plane.trace_in.Goals as goal
 
-pub number_faces-count-requires-clause-unset : goal.number_faces-count-requires-clause-unset
-number_faces-count-requires-clause-unset c = λ d lt. part_of_one MAX_DARTS c.from.result d UNSET lt
+pub trace_on-requires-clause-unset : goal.trace_on-requires-clause-unset
+trace_on-requires-clause-unset c = λ d lt. part_of_one MAX_DARTS c.from-darts.result d UNSET lt
 
-pub face_table-requires-clause-some : goal.face_table-requires-clause-some
-face_table-requires-clause-some c = omega (arith, c.number_faces-count.ensures.numbered.named 0 (omega arith))
-
-pub face_table-requires-clause-few_faces : goal.face_table-requires-clause-few_faces
-face_table-requires-clause-few_faces c =
-    let n = c.number_faces-count.ensures in
-    let some = n.numbered.named 0 (omega arith) in
-    (plane_ends (model_of c.args.graph c.number_faces-count.new.faces c.number_faces-count.result 0)
-    (plane_from _ c.vertices.ensures.rules (omega arith) n.size n.numbered (omega arith) (omega arith))).few_faces
-
-pub returns-in_default-clause-memory : goal.returns-in_default-clause-memory
-returns-in_default-clause-memory c = λ _. all_rules _ _ _ c.vertices.ensures.rules c.number_faces-count.ensures.numbered (omega arith)
-
-pub returns-clause-plane : goal.returns-clause-plane
-returns-clause-plane c =
-    let n = c.number_faces-count.ensures in
-    let t = c.in-Ok.ensures in
-    (kept c.args.graph _ _ _ _ c.vertices.ensures.rules (omega arith) n.size n.numbered (omega arith) t.widest.named t.table).plane
-
-pub invariant_of-result : goal.invariant_of-result
-invariant_of-result c =
-    let n = c.number_faces-count.ensures in
-    let t = c.in-Ok.ensures in
-    kept c.args.graph _ _ _ _ c.vertices.ensures.rules (omega arith) n.size n.numbered (omega arith) t.widest.named t.table
-
-pub returns-clause-outer : goal.returns-clause-outer
-returns-clause-outer c =
-    let n = c.number_faces-count.ensures in
-    let t = c.in-Ok.ensures in
-    kept_widest c.args.graph _ _ _ _ n.size n.numbered t.widest t.table
+pub trace_on-requires-2-clause-unset : goal.trace_on-requires-2-clause-unset
+trace_on-requires-2-clause-unset c = λ d lt. part_of_one FEW_DARTS c.from-darts.result d UNSET lt
