@@ -31,18 +31,18 @@ pub fn scan_lists(
         → Scans before text.now result }
 {
     for i in from..text.len() {
-        if text[i] == 0 {
-            left -= 1;
-            entries = 0;
-        } else {
+        if text[i] != 0 {
+            if usize::from(entries) == MAX_LIST {
+                return Err(FeedFault::Oversize);
+            }
             entries += 1;
+            continue;
         }
+        left -= 1;
         if left == 0 {
             return Ok(Scan::Whole(i + 1));
         }
-        if usize::from(entries) > MAX_LIST {
-            return Err(FeedFault::Oversize);
-        }
+        entries = 0;
     }
     Ok(Scan::Open { left, entries })
 }
