@@ -53,25 +53,3 @@ pub fn push_corners(
     }
     Ok(())
 }
-
-/// At how many places the walk along these darts turns.
-fn turns_along(boxes: &Boxes, path: &[u32]) -> usize
-    requires { All (λ dart. dart < boxes.now.darts) path.now }
-{
-    let mut turns: usize = 0;
-    for k in 1..path.len() {
-        if is_turn(boxes, path[k - 1], path[k]) {
-            turns += 1;
-        }
-    }
-    turns
-}
-
-/// How many corners all edges have. A step for each dart that the edges are made of.
-pub fn count_corners(boxes: &Boxes) -> usize {
-    let mut corners: usize = 0;
-    for edge in 0..boxes.edges() {
-        corners = corners.saturating_add(turns_along(boxes, boxes.path(edge)));
-    }
-    corners
-}

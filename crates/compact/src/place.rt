@@ -6,7 +6,7 @@ ghost use Rattle.ortho_rep.specs.Storage.{cut, IsCut};
 ghost use Rattle.compact.specs.Ordered.{AreLaidOut, AreCorners, IsCompactFault, point_at};
 
 use crate::axis::least_numbers;
-use crate::corners::{count_corners, point_of, push_corners};
+use crate::corners::{point_of, push_corners};
 use crate::fault::CompactFault;
 use crate::scratch::Scratch;
 use crate::steps::steps_of;
@@ -16,9 +16,10 @@ use reuse::emptied;
 use std::alloc::{AllocError, Global};
 use std::mem;
 
-/// The points of the plane's vertices, in the memory of a list that is lent.
+/// The points of the plane's vertices, in the memory of a list that is lent, with room for so many points.
 fn vertex_points(
     lent: Vec<Point>,
+    room: usize,
     boxes: &Boxes,
     x: &[u16],
     y: &[u16],
@@ -28,7 +29,7 @@ fn vertex_points(
     ensures { IfOk result (λ points. points.items
         ≡ map (point_at (λ v. slice_index x.now v) (λ v. slice_index y.now v)) (range_with_len 0 boxes.now.old)) }
 {
-    let mut points = emptied(lent, usize::from(boxes.old_vertices()))?;
+    let mut points = emptied(lent, room)?;
     for vertex in 0..u32::from(boxes.old_vertices()) {
         points.push(point_of(x, y, vertex))?;
     }
@@ -51,10 +52,6 @@ fn list_corners(
     ensures corners { IfOk result (λ found. AreCorners boxes.now (λ v. slice_index x.now v) (λ v. slice_index y.now v)
         (length boxes.now.edges) (cut found.1.items found.0.items)) }
 {
-    // A list without memory takes just what it will hold; another one grows where it has to.
-    if corners.capacity() == 0 {
-        corners.reserve_exact(count_corners(boxes))?;
-    }
     corners.clear();
     let mut starts = emptied(starts, usize::from(boxes.edges()) + 1)?;
     starts.push(0)?;
@@ -72,8 +69,7 @@ fn list_corners(
 /// The numbers are the lengths of longest paths in the two constraint graphs of the dissection
 /// (Tamassia 1987). They are found row by row, a row being the vertices that darts across the axis join: a few steps
 /// for each dart. Where that does not keep all constraints, as in a drawing too wide for the grid, the
-/// end of each constraint that is not kept is raised, in rounds. The points take three allocations,
-/// however many edges there are.
+/// end of each constraint that is not kept is raised, in rounds. The points stand in one list.
 ///
 /// # Errors
 ///
@@ -87,8 +83,8 @@ pub fn compact(alloc: Global, boxes: &Boxes) -> Result<Points, CompactFault>
     compact_in(alloc, &mut scratch, boxes)
 }
 
-/// The same in memory that is lent: only what it lacks is taken. The points take their lists with them;
-/// [`Scratch::take_back`] takes them back.
+/// The same in memory that is lent: only what it lacks is taken. The points take their list with them;
+/// [`Scratch::take_back`] takes it back.
 ///
 /// # Errors
 ///
@@ -107,7 +103,7 @@ pub fn compact_in(
         y,
         mut queues,
         mut constraints,
-        vertices,
+        points,
         corners,
         starts,
     } = mem::replace(scratch, Scratch::empty(alloc));
@@ -118,10 +114,14 @@ pub fn compact_in(
         Ok(found) => found,
         Err(fault) => return Err(fault),
     };
-    let Ok(vertices) = vertex_points(vertices, boxes, &x, &y) else {
+    let Ok((corners, starts)) = list_corners(corners, starts, boxes, &x, &y) else {
         return Err(CompactFault::Memory);
     };
-    let Ok(found) = list_corners(corners, starts, boxes, &x, &y) else {
+    let room = usize::from(boxes.old_vertices()) + corners.len() + usize::from(boxes.edges());
+    let Ok(vertices) = vertex_points(points, room, boxes, &x, &y) else {
+        return Err(CompactFault::Memory);
+    };
+    let Ok(points) = Points::joined(vertices, &corners, &starts) else {
         return Err(CompactFault::Memory);
     };
     scratch.around = around;
@@ -129,5 +129,7 @@ pub fn compact_in(
     scratch.y = y;
     scratch.queues = queues;
     scratch.constraints = constraints;
-    Ok(Points::joined(vertices, found.0, found.1))
+    scratch.corners = corners;
+    scratch.starts = starts;
+    Ok(points)
 }

@@ -10,9 +10,8 @@ use std::alloc::Global;
 /// Memory in which points are found for one dissection after another. What it holds between two of
 /// them is of no use.
 ///
-/// The points take their lists with them. Where those are given back before the next ones are found, these take no
-/// memory for their lists unless they have more vertices, edges or corners; where they are not, the three lists take
-/// memory for just what they hold.
+/// The points take their list with them. Where it is given back before the next ones are found, these take no memory
+/// for it unless they have more vertices, edges or corners; where it is not, it takes memory for just what it holds.
 #[derive(Drop)]
 pub struct Scratch {
     pub(crate) around: Vec<u32>,
@@ -20,7 +19,7 @@ pub struct Scratch {
     pub(crate) y: Vec<u16>,
     pub(crate) queues: RowQueues,
     pub(crate) constraints: Vec<Constraint>,
-    pub(crate) vertices: Vec<Point>,
+    pub(crate) points: Vec<Point>,
     pub(crate) corners: Vec<Point>,
     pub(crate) starts: Vec<usize>,
 }
@@ -36,21 +35,14 @@ impl Scratch {
             y: Vec::new(alloc),
             queues: RowQueues::empty(alloc),
             constraints: Vec::new(alloc),
-            vertices: Vec::new(alloc),
+            points: Vec::new(alloc),
             corners: Vec::new(alloc),
             starts: Vec::new(alloc),
         }
     }
 
-    /// Takes the lists of points back to be used again; corners that do not stand in one list, as those of
-    /// [`compact_in`](crate::compact_in) do, are dropped. It takes no memory.
+    /// Takes the list of points back to be used again. It takes no memory.
     pub fn take_back(&mut self, points: Points) {
-        let (vertices, corners) = points.into_lists();
-        self.vertices = vertices;
-        if let Some(corners) = corners {
-            let (corners, starts) = corners.into_parts();
-            self.corners = corners;
-            self.starts = starts;
-        }
+        self.points = points.into_list();
     }
 }

@@ -3,6 +3,7 @@ pub mod OneSided
 pub mod TurnCounts
 pub mod WeakDuality
 pub mod Pieces
+pub mod Spans
 pub mod EdgeNumbers
 pub mod Mirrors
 pub mod Priced

@@ -16,7 +16,7 @@ pub record IsJoined {A : Type 0} (starts : List ℕ) (items : List A) (n : ℕ) 
       slice_range items (get_or starts k 0) (get_or starts (k + 1) 0) ≡ piece
 
 -- a piece stays where more is put behind it
-slice_range-append : {A : Type 0} (xs ys : List A) (a b : ℕ) → a ≤ b → b ≤ length xs → slice_range (xs ++ ys) a b ≡ slice_range xs a b
+pub slice_range-append : {A : Type 0} (xs ys : List A) (a b : ℕ) → a ≤ b → b ≤ length xs → slice_range (xs ++ ys) a b ≡ slice_range xs a b
 slice_range-append xs ys a b h k =
     ap (take (b - a)) (drop-append-le a xs ys (omega arith)) ∙ take-append-le (b - a) (drop a xs) ys (omega (arith, length-drop a xs))
 

@@ -1,6 +1,5 @@
 pub mod Turns
 pub mod Storage
-pub mod Stores
 pub mod Shapes
 pub mod Runs
 pub mod ShapeStores
@@ -9,6 +8,8 @@ pub mod OfFlow
 pub mod Prices
 pub mod PriceStores
 pub mod Points
+pub mod JoinedPoints
+pub mod PointStores
 pub mod Edges
 pub mod Best
 pub mod Tries

@@ -4,6 +4,7 @@
 
 mod best;
 mod certificate;
+mod joined_points;
 mod least;
 mod lists;
 mod points;

@@ -1,7 +1,7 @@
-//! Lists of items, in one of two forms.
+//! Lists of items that stand in one.
 
-ghost use Rattle.std.specs.Prelude.{◌≡◌, ◌+◌, ◌<◌, [], length, slice_index_or, IfSome};
-ghost use Rattle.ortho_rep.specs.Storage.{lists_in, cut, IsCut};
+ghost use Rattle.std.specs.Prelude.{◌≡◌, ◌+◌, ◌<◌, [], length, slice_index_or};
+ghost use Rattle.ortho_rep.specs.Storage.{cut, IsCut};
 
 use std::marker::Model;
 
@@ -65,80 +65,4 @@ fn piece<'a, T>(items: &'a [T], starts: &[usize], i: usize) -> &'a [T]
     let start = starts[i];
     let end = starts[i + 1];
     &items[start..end]
-}
-
-/// Lists of items. In contracts it is the list of these lists.
-#[derive(Debug, Drop)]
-pub(crate) struct Lists<T> {
-    store: Store<T>,
-}
-
-#[derive(Debug, Drop)]
-enum Store<T> {
-    Apart(Vec<Vec<T>>),
-    Joined(JoinedLists<T>),
-}
-
-impl<T> Model for Lists<T> {
-    ghost use Rattle.std.specs.Prelude.{List};
-
-    ghost Value = { List (List T) };
-
-    ghost use Rattle.ortho_rep.specs.Stores.{lists_of};
-
-    ghost view = { λ a. lists_of a.store };
-}
-
-impl<T> Lists<T> {
-    /// These lists, each by itself.
-    pub(crate) fn apart(lists: Vec<Vec<T>>) -> Lists<T>
-        ensures { result ≡ lists_in lists.items }
-    {
-        Lists {
-            store: Store::Apart(lists),
-        }
-    }
-
-    /// The pieces between places that follow one another in one list of items.
-    pub(crate) fn joined(items: Vec<T>, starts: Vec<usize>) -> Lists<T>
-        requires { IsCut starts.items items.items }
-        ensures { result ≡ cut starts.items items.items }
-    {
-        Lists {
-            store: Store::Joined(JoinedLists::new(items, starts)),
-        }
-    }
-
-    /// How many lists there are.
-    pub(crate) fn len(&self) -> usize
-        ensures { result ≡ length self.now }
-    {
-        match &self.store {
-            Store::Apart(lists) => lists.len(),
-            Store::Joined(lists) => lists.len(),
-        }
-    }
-
-    /// List i.
-    pub(crate) fn get(&self, i: usize) -> &[T]
-        requires { i < length self.now }
-        ensures { result.now ≡ slice_index_or self.now i [] }
-    {
-        match &self.store {
-            Store::Apart(lists) => lists[i].as_slice(),
-            Store::Joined(lists) => lists.get(i),
-        }
-    }
-
-    /// The lists where they stand in one.
-    pub(crate) fn into_joined(self) -> Option<JoinedLists<T>>
-    where
-        T: Drop,
-        ensures { IfSome result (λ joined. joined ≡ self) }
-    {
-        match self.store {
-            Store::Joined(lists) => Some(lists),
-            Store::Apart(_) => None,
-        }
-    }
 }

@@ -1,10 +1,11 @@
 //! Points of the grid, and those of a plane's vertices and corners.
 
-ghost use Rattle.std.specs.Prelude.{◌≡◌, ◌<◌, ◌≤◌, length, IfSome};
+ghost use Rattle.std.specs.Prelude.{◌≡◌, ◌<◌, ◌≤◌, length, IfOk};
 ghost use Rattle.ortho_rep.specs.Points.{vertex_point, corners_at};
 ghost use Rattle.ortho_rep.specs.Storage.{lists_in, cut, IsCut};
 
-use crate::lists::{JoinedLists, Lists};
+use crate::joined_points::JoinedPoints;
+use std::alloc::AllocError;
 use std::marker::Model;
 
 /// The greatest coordinate of the grid; the least is 0.
@@ -24,8 +25,16 @@ pub struct Point {
 /// that is for the check of a drawing to say. No reader takes memory, and each takes constant time.
 #[derive(Debug, Drop)]
 pub struct Points {
-    vertices: Vec<Point>,
-    corners: Lists<Point>,
+    store: PointStore,
+}
+
+#[derive(Debug, Drop)]
+enum PointStore {
+    Apart {
+        vertices: Vec<Point>,
+        corners: Vec<Vec<Point>>,
+    },
+    Joined(JoinedPoints),
 }
 
 impl Model for Points {
@@ -33,7 +42,9 @@ impl Model for Points {
 
     ghost Value = { PointsModel };
 
-    ghost view = { λ a. record { vertices = a.vertices.items; corners = a.corners } };
+    ghost use Rattle.ortho_rep.specs.PointStores.{points_of};
+
+    ghost view = { λ a. points_of a.store };
 }
 
 impl Points {
@@ -43,51 +54,68 @@ impl Points {
         ensures { result ≡ record { vertices = vertices.items; corners = lists_in corners.items } }
     {
         Points {
-            vertices,
-            corners: Lists::apart(corners),
+            store: PointStore::Apart { vertices, corners },
         }
     }
 
     /// These points: that of vertex v at place v - 1 of the first list, and of the second the corners of
-    /// edge e from place `starts[e]` to place `starts[e + 1]`. It takes no memory.
-    pub fn joined(vertices: Vec<Point>, corners: Vec<Point>, starts: Vec<usize>) -> Points
-        requires { IsCut starts.items corners.items }
-        ensures { result ≡ record { vertices = vertices.items; corners = cut starts.items corners.items } }
+    /// edge e from place `starts[e]` to place `starts[e + 1]`. All stand in the first list then, which takes more memory
+    /// only where it has no room for the corners and for a point more for each edge.
+    ///
+    /// # Errors
+    ///
+    /// `AllocError` where there is no memory for them, or there are more than 4,294,967,295 corners.
+    pub fn joined(
+        vertices: Vec<Point>,
+        corners: &[Point],
+        starts: &[usize],
+    ) -> Result<Points, AllocError>
+        requires { IsCut starts.now corners.now }
+        ensures { IfOk result (λ points. points ≡ record { vertices = vertices.items; corners = cut starts.now corners.now }) }
     {
-        Points {
-            vertices,
-            corners: Lists::joined(corners, starts),
-        }
+        let points = JoinedPoints::new(vertices, corners, starts)?;
+        Ok(Points {
+            store: PointStore::Joined(points),
+        })
     }
 
-    /// The list of the vertices' points, and the lists of corners where they stand in one: their memory can be used
-    /// again. It takes none.
-    pub fn into_lists(self) -> (Vec<Point>, Option<JoinedLists<Point>>)
-        ensures vertices { result.0.items ≡ self.vertices }
-        ensures corners { IfSome result.1 (λ corners. corners ≡ self.corners) }
-    {
-        (self.vertices, self.corners.into_joined())
+    /// The list in which these points stand, whose memory can be used again; of points that are not in one list, that
+    /// of the vertices. It takes none.
+    pub fn into_list(self) -> Vec<Point> {
+        match self.store {
+            PointStore::Apart {
+                vertices,
+                corners: _,
+            } => vertices,
+            PointStore::Joined(points) => points.into_list(),
+        }
     }
 
     /// How many vertices have a point.
     pub fn vertex_count(&self) -> usize
         ensures { result ≡ length self.now.vertices }
     {
-        self.vertices.len()
+        self.vertices().len()
     }
 
     /// How many edges have a list of corners.
     pub fn edge_count(&self) -> usize
         ensures { result ≡ length self.now.corners }
     {
-        self.corners.len()
+        match &self.store {
+            PointStore::Apart { corners, .. } => corners.len(),
+            PointStore::Joined(points) => points.edge_count(),
+        }
     }
 
     /// The points of all vertices, in order.
     pub fn vertices(&self) -> &[Point]
         ensures { result.now ≡ self.now.vertices }
     {
-        &self.vertices
+        match &self.store {
+            PointStore::Apart { vertices, .. } => vertices.as_slice(),
+            PointStore::Joined(points) => points.vertices(),
+        }
     }
 
     /// The point of a vertex, numbered from 1.
@@ -96,7 +124,7 @@ impl Points {
         requires within { vertex ≤ length self.now.vertices }
         ensures { result ≡ vertex_point self.now vertex }
     {
-        self.vertices[usize::from(vertex) - 1]
+        self.vertices()[usize::from(vertex) - 1]
     }
 
     /// The corners of an edge, along its lesser dart.
@@ -104,6 +132,9 @@ impl Points {
         requires { edge < length self.now.corners }
         ensures { result.now ≡ corners_at self.now edge }
     {
-        self.corners.get(usize::from(edge))
+        match &self.store {
+            PointStore::Apart { corners, .. } => corners[usize::from(edge)].as_slice(),
+            PointStore::Joined(points) => points.corners(edge),
+        }
     }
 }

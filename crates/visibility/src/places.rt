@@ -20,16 +20,23 @@ pub(crate) fn points_on(
     ensures vertices { IfOk result (λ points. length points.vertices ≡ length old.now.vertices) }
     ensures corners { IfOk result (λ points. length points.corners ≡ edges) }
 {
-    let vertices = vertex_points(alloc, old.vertex_count(), x, y)?;
     let (corners, starts) = corner_points(alloc, old, edges, x, y)?;
-    Ok(Points::joined(vertices, corners, starts))
+    let behind = corners.len() + usize::from(edges);
+    let vertices = vertex_points(alloc, old.vertex_count(), behind, x, y)?;
+    Points::joined(vertices, &corners, &starts)
 }
 
-/// The points of so many vertices.
-fn vertex_points(alloc: Global, count: usize, x: &Rows, y: &Rows) -> Result<Vec<Point>, AllocError>
+/// The points of so many vertices, with room for so many points behind them.
+fn vertex_points(
+    alloc: Global,
+    count: usize,
+    behind: usize,
+    x: &Rows,
+    y: &Rows,
+) -> Result<Vec<Point>, AllocError>
     ensures { IfOk result (λ points. length points.items ≡ count) }
 {
-    let mut points = Vec::with_capacity(alloc, count)?;
+    let mut points = Vec::with_capacity(alloc, count.saturating_add(behind))?;
     for place in 0..count {
         points.push(point_at(x, y, place))?;
     }
