@@ -1,4 +1,4 @@
--- The network of a plane is one: it has no fault.
+-- The network of a plane is one.
 use Rattle.std.proofs.Common.{◌≡◌, ◌⊎◌, ℕ, ◌+◌, ◌-◌, ◌<◌, ◌≤◌, ◌==◌, if◌then◌else◌, Bool, true, false, arith, subst, ap, inl, inr}
 use Rattle.std.specs.Prelude.{ℤ, pos, negsuc, ◌-ℤ◌, ◌<ℤ◌}
 use Rattle.std.proofs.lemmas.Bool.{cases_lt}
@@ -8,10 +8,7 @@ use Rattle.faces.specs.Planes.{PlaneModel, IsPlane, darts, vertices, reverse_dar
 use Rattle.faces.proofs.Ends.{plane_ends}
 use Rattle.faces.proofs.Degrees.{degree_few}
 use Rattle.networks.specs.declared.arc.Arc.{Arc}
-use Rattle.networks.specs.Networks.{NetworkModel, node_count, arc_count, arc_at, supply_at}
-use Rattle.networks.specs.Fault.{HasFault}
-use Rattle.networks.specs.declared.fault.NetFault.{NetFault}
-use Rattle.networks.specs.declared.fault.NetFault.TheVariants.{TooLarge, BadEnd, BadSupply, BadCost}
+use Rattle.networks.specs.Networks.{NetworkModel, node_count, arc_count, arc_at, supply_at, IsFair, IsNetwork}
 use Rattle.flow_network.specs.FaceNet.{IsFaceNet, arrivals}
 use Rattle.flow_network.proofs.VertexDegrees.{arrivals_most}
 
@@ -41,48 +38,38 @@ arc_ends p net plane is =
       omega (arith, ap (λ (a : Arc). a.to) (is.crossing d l), is.nodes, ends.face_named (reverse_dart p d) (ends.reverse_dart_inside d l)),
     ))
 
-pub supply_fair : (p : PlaneModel) (net : NetworkModel) → IsPlane p → IsFaceNet p net → (k : ℕ) → k < node_count net →
-    (supply_at net k <ℤ negsuc 2047) ⊎ (pos 2048 <ℤ supply_at net k) → ⊥
-supply_fair p net plane is k l unfair =
+pub supply_fair : (p : PlaneModel) (net : NetworkModel) → IsPlane p → IsFaceNet p net → (k : ℕ) → k < node_count net → IsFair (supply_at net k)
+supply_fair p net plane is k l =
     let ends = plane_ends p plane in
     elim (cases_lt k (vertices p)) [
       | inl vertex ↦
           let back : k + 1 - 1 ≡ k = omega arith in
           at_vertex (supply_at net k) (arrivals p (k + 1))
           (subst (λ (j : ℕ). supply_at net j ≡ pos 4 -ℤ pos (arrivals p (k + 1))) back (is.at_vertex (k + 1) (omega arith) (omega arith)))
-          (arrivals_most p plane (k + 1)) unfair
+          (arrivals_most p plane (k + 1))
       | inr face ↦
           let f : ℕ = k - vertices p in
           let at : vertices p + f ≡ k = omega arith in
           at_face (f == p.outer) (supply_at net k) (degree p f)
           (subst (λ (j : ℕ). supply_at net j ≡ (if f == p.outer then negsuc 3 else pos 4) -ℤ pos (degree p f)) at (is.at_face f (omega (arith, is.nodes))))
-          (omega (arith, degree_few (darts p) (face_at p) f, ends.few_darts)) unfair
+          (omega (arith, degree_few (darts p) (face_at p) f, ends.few_darts))
     ]
   where
-    at_vertex : (z : ℤ) (k : ℕ) → z ≡ pos 4 -ℤ pos k → k ≤ 4 → (z <ℤ negsuc 2047) ⊎ (pos 2048 <ℤ z) → ⊥
-    at_vertex z k is few (inl low) = omega (arith, ints)
-    at_vertex z k is few (inr high) = omega (arith, ints)
+    at_vertex : (z : ℤ) (k : ℕ) → z ≡ pos 4 -ℤ pos k → k ≤ 4 → IsFair z
+    at_vertex z k is few = (omega (arith, ints), omega (arith, ints))
 
-    at_face : (b : Bool) (z : ℤ) (k : ℕ) → z ≡ (if b then negsuc 3 else pos 4) -ℤ pos k → k ≤ MAX_DARTS → (z <ℤ negsuc 2047) ⊎ (pos 2048 <ℤ z) → ⊥
-    at_face true z k is few (inl low) = omega (arith, ints)
-    at_face true z k is few (inr high) = omega (arith, ints)
-    at_face false z k is few (inl low) = omega (arith, ints)
-    at_face false z k is few (inr high) = omega (arith, ints)
+    at_face : (b : Bool) (z : ℤ) (k : ℕ) → z ≡ (if b then negsuc 3 else pos 4) -ℤ pos k → k ≤ MAX_DARTS → IsFair z
+    at_face true z k is few = (omega (arith, ints), omega (arith, ints))
+    at_face false z k is few = (omega (arith, ints), omega (arith, ints))
 
-pub no_fault : (p : PlaneModel) (net : NetworkModel) (fault : NetFault) → IsPlane p → IsFaceNet p net → HasFault net fault → ⊥
-no_fault p net TooLarge plane is fault =
+pub net_sound : (p : PlaneModel) (net : NetworkModel) → IsPlane p → IsFaceNet p net → IsNetwork net
+net_sound p net plane is =
     let ends = plane_ends p plane in
-    elim fault [
-      | inl nodes ↦ omega (arith, nodes, is.nodes, plane.order, ends.few_faces)
-      | inr arcs ↦ omega (arith, arcs, is.arcs, ends.few_darts)
-    ]
-no_fault p net BadEnd plane is fault =
-    let ends = arc_ends p net plane is fault.0 fault.1 in
-    elim fault.2 [ inl from ↦ omega (arith, from, ends.0) | inr to ↦ omega (arith, to, ends.1) ]
-no_fault p net BadSupply plane is fault = supply_fair p net plane is fault.0 fault.1 fault.2
-no_fault p net BadCost plane is fault =
-    let cheap : (arc_at net fault.0).cost ≤ 1 =
-    each_arc p net is (λ a. a.cost ≤ 1)
-    (λ d l. omega (arith, ap (λ (a : Arc). a.cost) (is.corner d l)))
-    (λ d l. omega (arith, ap (λ (a : Arc). a.cost) (is.crossing d l))) fault.0 fault.1 in
-    omega (arith, cheap, fault.2)
+    record {
+      small = (omega (arith, is.nodes, plane.order, ends.few_faces), omega (arith, is.arcs, ends.few_darts));
+      ends = arc_ends p net plane is;
+      supplies = supply_fair p net plane is;
+      costs = each_arc p net is (λ a. a.cost ≤ 1)
+          (λ d l. omega (arith, ap (λ (a : Arc). a.cost) (is.corner d l)))
+          (λ d l. omega (arith, ap (λ (a : Arc). a.cost) (is.crossing d l)));
+    }

@@ -76,14 +76,11 @@ impl FaceNet {
         let arcs = arcs_of(mem::replace(&mut scratch.arcs, Vec::new(alloc)), plane)?;
         let vertices = u32::from(plane.graph().vertices());
         let darts = u32::from(plane.graph().darts());
-        match Network::new(supplies, arcs) {
-            Ok(network) => Ok(FaceNet {
-                network,
-                vertices,
-                darts,
-            }),
-            Err(_) => unreachable!(),
-        }
+        Ok(FaceNet {
+            network: Network::of_lists(supplies, arcs),
+            vertices,
+            darts,
+        })
     }
 
     /// The network itself.

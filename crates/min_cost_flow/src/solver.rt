@@ -182,14 +182,16 @@ pub(crate) fn score_nodes(network: &Network, visits: &mut [Visit])
     requires network { IsNetwork network.now }
     requires size { length visits.old ≡ node_count network.now }
 {
+    let supplies = network.supplies();
     for v in 0..visits.len() {
-        visits[v].score = network.supply(v as u32);
+        visits[v].score = supplies[v];
     }
-    for i in 0..network.arc_count() {
-        let arc = network.arc(i as u32);
+    let arcs = network.arcs();
+    for i in 0..arcs.len() {
+        let arc = arcs[i];
         if arc.cost == 0 {
             let visit = &mut visits[arc.to as usize];
-            visit.score = visit.score.saturating_add(network.supply(arc.from).max(0));
+            visit.score = visit.score.wrapping_add(supplies[arc.from as usize].max(0));
         }
     }
 }

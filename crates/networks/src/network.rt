@@ -56,6 +56,14 @@ impl Network {
         Ok(Network { supplies, arcs })
     }
 
+    /// The network of supplies and arcs that are known to be those of one: it looks at none of them, and takes no memory.
+    pub fn of_lists(supplies: Vec<i32>, arcs: Vec<Arc>) -> Network
+        requires { IsNetwork (net_of supplies.items arcs.items) }
+        ensures { result ≡ net_of supplies.items arcs.items }
+    {
+        Network { supplies, arcs }
+    }
+
     /// How many nodes there are.
     pub fn node_count(&self) -> usize
         ensures count { result ≡ node_count self.now }
@@ -70,6 +78,14 @@ impl Network {
         ensures kept { IsNetwork self.now }
     {
         self.arcs.len()
+    }
+
+    /// The arcs, by number.
+    pub fn arcs(&self) -> &[Arc]
+        ensures arcs { result.now ≡ self.now.arcs }
+        ensures kept { IsNetwork self.now }
+    {
+        &self.arcs
     }
 
     /// The arc of a number.

@@ -9,21 +9,21 @@ use crate::network::MAX_ARCS;
 pub const MAX_RESIDUAL_ARCS: usize = 2 * MAX_ARCS;
 
 /// What the cost of a residual arc is raised by while nothing fits.
-pub const SHUT: i16 = 16_000;
+pub const SHUT: i32 = 16_000;
 
 /// A residual arc: the node where it ends, what a unit along it costs, with `SHUT` more while nothing fits, the
 /// number of the residual arc the other way, and its residual capacity: how many more units fit along it.
 #[derive(Clone, Copy, Debug, PartialEq, Eq)]
 pub struct ResidualArc {
     pub end: u16,
-    pub cost: i16,
     pub reverse: u16,
+    pub cost: i32,
     pub room: u32,
 }
 
 impl ResidualArc {
     /// One to a node along which so many units fit, where a unit costs so much, with the number of its reverse.
-    pub(crate) fn new(end: u16, cost: i16, reverse: u16, room: u32) -> ResidualArc
+    pub(crate) fn new(end: u16, cost: i32, reverse: u16, room: u32) -> ResidualArc
         requires { cost ≤ℤ pos 1 }
         ensures end { result.end ≡ end }
         ensures cost { IsRated result.cost room cost }
@@ -32,8 +32,8 @@ impl ResidualArc {
     {
         ResidualArc {
             end,
-            cost: if room == 0 { cost + SHUT } else { cost },
             reverse,
+            cost: if room == 0 { cost + SHUT } else { cost },
             room,
         }
     }

@@ -3,7 +3,7 @@ use Rattle.std.proofs.Common.{◌≡◌, true, false, sym, ◌∙◌, ap, subst,
 use Rattle.std.specs.Prelude.{ℤ, ◌+ℤ◌, ◌-ℤ◌, ◌≤ℤ◌, ◌<ℤ◌}
 use Rattle.std.proofs.lemmas.Int.{ints, to_z-of_z}
 use lib.Signed.{lt_z}
-use mir.Syntax.{w16, w32}
+use mir.Syntax.{w32}
 use mir.Val.{SFits, of_z, to_z}
 use Rattle.shortest_paths.specs.Search.{IsWithinFar}
 
@@ -46,5 +46,5 @@ pub passed_under : (a z : ℤ) → SFits w32 z → a ≤ℤ to_z w32 (of_z w32 z
 passed_under a z f h = subst (λ (t : ℤ). a ≤ℤ t) (to_z-of_z w32 z f) h
 
 -- a label, and the cost of a residual arc added to it
-pub sum_is : (r a b c : ℤ) → SFits w32 a → SFits w16 b → r ≡ to_z w32 (of_z w32 a) +ℤ to_z w16 (of_z w16 b) → b ≡ c → r ≡ a +ℤ c
-sum_is r a b c f g h e = (rw (to_z-of_z w32 a f, to_z-of_z w16 b g) at h) ∙ ap (λ (t : ℤ). a +ℤ t) e
+pub sum_is : (r a b c : ℤ) → SFits w32 a → SFits w32 b → r ≡ to_z w32 (of_z w32 a) +ℤ to_z w32 (of_z w32 b) → b ≡ c → r ≡ a +ℤ c
+sum_is r a b c f g h e = (rw (to_z-of_z w32 a f, to_z-of_z w32 b g) at h) ∙ ap (λ (t : ℤ). a +ℤ t) e

@@ -5,7 +5,7 @@
 //! Each residual arc is looked at once at most. Beside that the nodes that wait are gone over at each level.
 ghost use Rattle.std.specs.Prelude.{◌≡◌, ◌⊎◌, ◌<◌, ◌≤◌, ◌+◌, ◌^◌, ℕ, length, pos, ◌≤ℤ◌, ◌<ℤ◌, ◌+ℤ◌, ◌-ℤ◌, true, false, IfSome, IfNone};
 ghost use Rattle.networks.specs.ResidualArcs.{numbers, end_at, cost_at};
-ghost use Rattle.shortest_paths.specs.Search.{far, nodes_of, first_of, arcs_of, potential_of, excess_of, labels, orders, degree, looked, IsGround, IsSearch, IsBlank, Keeps, HasServed, HasLeft, Serves, IsNextLevel, IsOrdered, IsWaiting, IsOffered, IsScanning, IsRelaxed, IsWithinFar, HasSameList};
+ghost use Rattle.shortest_paths.specs.Search.{far, nodes_of, first_of, arcs_of, potential_of, excess_of, labels, orders, degree, looked, IsGround, IsSearch, IsBlank, Keeps, HasServed, HasLeft, Serves, IsNextLevel, IsOrdered, IsWaiting, IsOffered, IsScanning, IsRelaxed, IsWithinFar, IsArcCost, HasSameList};
 
 use crate::reach::distance;
 use crate::state::{FAR, Ground, Search, Step, Visit};
@@ -194,9 +194,10 @@ fn lesser(a: i32, b: i32) -> i32
 }
 
 /// What a residual arc offers to its end.
-fn offered_label(label: i32, cost: i16) -> i32
+fn offered_label(label: i32, cost: i32) -> i32
     requires label { IsWithinFar label }
+    requires cost { IsArcCost cost }
     ensures { result ≡ label +ℤ cost }
 {
-    label + i32::from(cost)
+    label + cost
 }

@@ -3,22 +3,18 @@ use Rattle.networks.specs.Networks.{NetworkModel}
 use Rattle.networks.specs.Flow.{Flow}
 use Rattle.flow_network.specs.FaceNet.{IsFaceNet}
 use Rattle.flow_network.proofs.Flowing.{net_flows}
-use Rattle.flow_network.proofs.Faultless.{no_fault, arc_ends}
+use Rattle.flow_network.proofs.Faultless.{net_sound, arc_ends}
 use Rattle.flow_network.proofs.face_net.FaceNet.build_in.Goals as goal
 
-pub unreachable-requires : goal.unreachable-requires
-unreachable-requires c =
-    let p = c.args.plane.now in
-    let net : NetworkModel = record { supplies = c.in_ok-supplies.supplies.items; arcs = c.in_ok-arcs.arcs.items } in
-    let is : IsFaceNet p net = record {
+pub of_lists-requires : goal.of_lists-requires
+of_lists-requires c = net_sound c.args.plane.now _ c.graph.ensures.plane (record {
       nodes = c.in_ok-supplies.ensures.nodes;
       arcs = c.in_ok-arcs.ensures.arcs;
       corner = c.in_ok-arcs.ensures.corner;
       crossing = c.in_ok-arcs.ensures.crossing;
       at_vertex = c.in_ok-supplies.ensures.at_vertex;
       at_face = c.in_ok-supplies.ensures.at_face;
-    } in
-    no_fault p net _ c.graph.ensures.plane is c.in-Err.ensures.err.here
+    })
 
 pub returns-clause-flow : goal.returns-clause-flow
 returns-clause-flow c =
@@ -32,4 +28,4 @@ returns-clause-flow c =
       at_vertex = c.in_ok-supplies.ensures.at_vertex;
       at_face = c.in_ok-supplies.ensures.at_face;
     } in
-    subst (λ (n : NetworkModel). (y : ℕ → ℕ) × Flow n y) (sym c.in-Ok.ensures.ok.0) (net_flows p net c.graph.ensures.plane is (arc_ends p net c.graph.ensures.plane is))
+    subst (λ (n : NetworkModel). (y : ℕ → ℕ) × Flow n y) (sym c.of_lists.ensures) (net_flows p net c.graph.ensures.plane is (arc_ends p net c.graph.ensures.plane is))
