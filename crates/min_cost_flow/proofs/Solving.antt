@@ -4,7 +4,7 @@ use Rattle.std.proofs.Math.Path.{fun_ext}
 use Rattle.std.specs.Prelude.{ℤ, pos, negsuc, ◌+ℤ◌, ◌-ℤ◌, ◌≤ℤ◌, ◌<ℤ◌}
 use Rattle.std.proofs.lemmas.Bool.{cases_eq, cases_lt, cases_Bool, eq-eqb, ne_eqb, eqb-true, lt-ltb, ltb-true, cond-false, and_parts, and_from}
 use Rattle.std.proofs.lemmas.Int.{ints, to_z-of_z}
-use mir.Syntax.{w32}
+use mir.Syntax.{w16, w32}
 use mir.Val.{of_z, to_z}
 use Rattle.networks.specs.declared.network.TheConstants.{MAX_NODES}
 use Rattle.networks.specs.declared.residual.TheConstants.{SHUT}
@@ -28,7 +28,7 @@ use Rattle.min_cost_flow.specs.Path.{HasPath}
 use Rattle.min_cost_flow.proofs.Cut.{no_flow_out}
 use Rattle.networks.proofs.Ends.{start_in, end_in}
 use Rattle.min_cost_flow.proofs.Reverses.{turned_back, start_is}
-use Rattle.shortest_paths.proofs.Signs.{plain_lt, fits_within}
+use Rattle.shortest_paths.proofs.Signs.{plain_lt, fits_within, label_fits}
 use Rattle.min_cost_flow.proofs.Comparisons.{lt_true}
 use Rattle.shortest_paths.proofs.Reaching.{below_or_not, not_less}
 
@@ -497,5 +497,5 @@ short_path visits t t' arcs first looks looks' q list short e =
     rw (list, q.found, q.place (end_at arcs (reverse_at arcs t.found))) (omega (arith, short, e))
 
 -- the label that was read less the cut, as it is written
-pub put_label : (p p' : ℕ → ℤ) (v : ℕ) (z cut : ℤ) → IsWithinFar z → IsWithinFar cut → IsPut p p' v (to_z w32 (of_z w32 z) -ℤ to_z w32 (of_z w32 cut)) → IsPut p p' v (z -ℤ cut)
-put_label p p' v z cut a b put = rw (to_z-of_z w32 z (fits_within z a), to_z-of_z w32 cut (fits_within cut b)) at put
+pub put_label : (p p' : ℕ → ℤ) (v : ℕ) (z cut : ℤ) → IsWithinFar z → IsWithinFar cut → IsPut p p' v (to_z w16 (of_z w16 z) -ℤ to_z w32 (of_z w32 cut)) → IsPut p p' v (z -ℤ cut)
+put_label p p' v z cut a b put = rw (to_z-of_z w16 z (label_fits z a), to_z-of_z w32 cut (fits_within cut b)) at put

@@ -74,7 +74,7 @@ fn push(residual: &mut Residual, number: usize, amount: u32)
     requires fits { amount ≤ room_at residual.old.arcs.items number }
     ensures { IsPushedAlong residual.old residual.new number amount }
 {
-    let back = usize::from(residual.arcs[number].reverse);
+    let back = residual.arcs[number].reverse as usize;
     residual.take_room(number, amount);
     residual.give_room(back, amount);
 }

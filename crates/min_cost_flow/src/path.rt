@@ -39,10 +39,11 @@ pub(crate) fn find_path(
         arcs: &residual.arcs,
         potential: &nodes.potential,
         excess: &nodes.excess,
+        score: &nodes.score,
         source,
     };
     let mut search = Search::run(ground, visits, looks);
-    if search.cut == FAR {
+    if search.cut == FAR as i32 {
         return None;
     }
     update_potentials(&mut nodes.potential, &search);
@@ -64,14 +65,14 @@ fn update_potentials(potential: &mut [i32], search: &Search<'_>)
 }
 
 /// Gives a node its label less the cut for a potential.
-fn write_potential(potential: &mut [i32], node: usize, label: i32, cut: i32)
+fn write_potential(potential: &mut [i32], node: usize, label: i16, cut: i32)
     requires node { node < length potential.old }
     requires small { node < MAX_NODES }
     requires label { IsWithinFar label }
     requires cut { IsWithinFar cut }
     ensures { IsPut (at_nodes potential.old) (at_nodes potential.new) node (label -ℤ cut) }
 {
-    potential[node] = label - cut;
+    potential[node] = i32::from(label) - cut;
 }
 
 /// Takes the labels of the nodes that were reached away.

@@ -118,7 +118,7 @@ impl Solver {
         write_all(&mut self.nodes.potential, 0);
         self.nodes.excess.copy_from_slice(network.supplies());
         self.residual.lay_out(network);
-        score_nodes(network, &mut self.visits);
+        score_nodes(network, &mut self.nodes.score);
         take_labels(&mut self.visits);
         self.searches = 0;
         self.looks = 0;
@@ -178,20 +178,20 @@ pub(crate) fn has_deficit(excess: &[i32]) -> bool
 /// Scores each node for ties among those that are as near: its supply, and what is supplied where arcs of
 /// cost 0 to it start. The least score comes first. No clause rests on it, but it tells which of
 /// several flows of least cost is found.
-pub(crate) fn score_nodes(network: &Network, visits: &mut [Visit])
-    requires network { IsNetwork network.now }
-    requires size { length visits.old ≡ node_count network.now }
+fn score_nodes(network: &Network, scores: &mut [i32])
+    requires { IsNetwork network.now }
 {
     let supplies = network.supplies();
-    for v in 0..visits.len() {
-        visits[v].score = supplies[v];
+    for (score, supply) in scores.iter_mut().zip(supplies) {
+        *score = *supply;
     }
     let arcs = network.arcs();
     for i in 0..arcs.len() {
         let arc = arcs[i];
         if arc.cost == 0 {
-            let visit = &mut visits[arc.to as usize];
-            visit.score = visit.score.wrapping_add(supplies[arc.from as usize].max(0));
+            if let Some(score) = scores.get_mut(arc.to as usize) {
+                *score = score.wrapping_add(supplies[arc.from as usize].max(0));
+            }
         }
     }
 }
@@ -212,7 +212,7 @@ pub(crate) fn carried_along(arcs: &[ResidualArc], along: u32) -> u32
     requires reverse { reverse_at arcs.now along < length arcs.now }
     ensures { result ≡ room_at arcs.now (reverse_at arcs.now along) }
 {
-    arcs[usize::from(arcs[along as usize].reverse)].room
+    arcs[arcs[along as usize].reverse as usize].room
 }
 
 /// Takes the labels of all nodes away.

@@ -13,6 +13,8 @@ pub struct Nodes {
     pub potential: Vec<i32>,
     /// How many units are left over at a node, or, below 0, are wanting there.
     pub excess: Vec<i32>,
+    /// Of nodes that are as near the one with the least score is taken.
+    pub score: Vec<i32>,
 }
 
 /// The residual network, what is known of each node, what the last search left of it and the residual arc that it
@@ -40,6 +42,7 @@ impl Solver {
             nodes: Nodes {
                 potential: Vec::new(alloc),
                 excess: Vec::new(alloc),
+                score: Vec::new(alloc),
             },
             visits: Vec::new(alloc),
             found: 0,
@@ -65,7 +68,6 @@ impl Solver {
             label: FAR,
             enter: 0,
             place: 0,
-            score: 0,
             at_place: 0,
         };
         self.residual.first.resize(nodes + 1, 0)?;
@@ -73,6 +75,7 @@ impl Solver {
         self.residual.arcs.resize(2 * arcs, blank)?;
         self.nodes.potential.resize(nodes, 0)?;
         self.nodes.excess.resize(nodes, 0)?;
+        self.nodes.score.resize(nodes, 0)?;
         self.visits.resize(nodes, unvisited)
     }
 }

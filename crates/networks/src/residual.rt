@@ -9,21 +9,21 @@ use crate::network::MAX_ARCS;
 pub const MAX_RESIDUAL_ARCS: usize = 2 * MAX_ARCS;
 
 /// What the cost of a residual arc is raised by while nothing fits.
-pub const SHUT: i32 = 16_000;
+pub const SHUT: i16 = 16_000;
 
 /// A residual arc: the node where it ends, what a unit along it costs, with `SHUT` more while nothing fits, the
 /// number of the residual arc the other way, and its residual capacity: how many more units fit along it.
 #[derive(Clone, Copy, Debug, PartialEq, Eq)]
 pub struct ResidualArc {
     pub end: u16,
-    pub reverse: u16,
-    pub cost: i32,
+    pub cost: i16,
+    pub reverse: u32,
     pub room: u32,
 }
 
 impl ResidualArc {
     /// One to a node along which so many units fit, where a unit costs so much, with the number of its reverse.
-    pub(crate) fn new(end: u16, cost: i32, reverse: u16, room: u32) -> ResidualArc
+    pub(crate) fn new(end: u16, cost: i16, reverse: u32, room: u32) -> ResidualArc
         requires { cost ≤ℤ pos 1 }
         ensures end { result.end ≡ end }
         ensures cost { IsRated result.cost room cost }
@@ -32,8 +32,8 @@ impl ResidualArc {
     {
         ResidualArc {
             end,
-            reverse,
             cost: if room == 0 { cost + SHUT } else { cost },
+            reverse,
             room,
         }
     }
@@ -56,7 +56,7 @@ impl Residual {
         requires reverse { reverse_at self.now.arcs.items number < length self.now.arcs.items }
         ensures { result ≡ end_at self.now.arcs.items (reverse_at self.now.arcs.items number) }
     {
-        usize::from(self.arcs[usize::from(self.arcs[number].reverse)].end)
+        self.arcs[self.arcs[number].reverse as usize].end as usize
     }
 
     /// Takes room for so many units, at least one, from a residual arc, and shuts it where nothing fits any more.

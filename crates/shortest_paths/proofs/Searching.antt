@@ -3,7 +3,7 @@ use Rattle.std.proofs.Common.{◌≡◌, ◌≤◌, ◌<◌, ◌+◌, ◌⊎◌,
 use Rattle.std.specs.Prelude.{ℤ, pos, ◌+ℤ◌, ◌-ℤ◌, ◌≤ℤ◌, ◌<ℤ◌, length}
 use Rattle.std.proofs.Math.Path.{fun_ext}
 use Rattle.std.specs.Borrow.{MutBor}
-use mir.Syntax.{w32}
+use mir.Syntax.{w16, w32}
 use mir.Val.{of_z, to_z}
 use Rattle.shortest_paths.specs.declared.state.Ground.{Ground}
 use Rattle.shortest_paths.specs.declared.state.Search.{Search}
@@ -11,7 +11,7 @@ use Rattle.shortest_paths.specs.declared.state.Step.{Step}
 use Rattle.shortest_paths.specs.declared.state.Visit.{Visit}
 use Rattle.networks.specs.ResidualArcs.{StartsAt, end_at, cost_at}
 use Rattle.shortest_paths.specs.Search.{far, nodes_of, first_of, arcs_of, IsScanning, potential_of, excess_of, labels, orders, places, Reaches, Keeps, IsSearch, IsOffered, IsMarked, IsRelaxed, IsKept, IsSwapped, IsOrdered, HasServed, IsGround, Serves, IsServed, looked, degree, SameBesideCut, SameBesideOrder, IsWithinFar}
-use Rattle.shortest_paths.proofs.Signs.{fits_within, passed_within, difference_is}
+use Rattle.shortest_paths.proofs.Signs.{fits_within, label_fits, label_passed, passed_within, difference_is}
 use Rattle.shortest_paths.proofs.Reaching.{below_or_not, behind, swapped, nearest_kept, nearest_offered, kept_then, kept_same, at_level, offer_below, offer_fits, offer_made, next_node, next_kept, next_only, serves_kept, served_kept, served_more, kept_less, same_le, order_kept, looked_most, looked_same, looked_more, same_z, relabelled, enlisted, order_room, reached_fits, potential_fits_at, offer_end}
 
 -- w is the node at place j of the order
@@ -32,8 +32,8 @@ member g s j w h b e = record {
 pub label_fits_at : (g : Ground) (s : Search) (w : ℕ) → IsSearch g s → w < nodes_of g → labels s w <ℤ far → IsWithinFar (labels s w)
 label_fits_at g s w h b l = reached_fits _ _ _ _ _ _ _ _ _ _ _ _ _ _ w h.ground.graph h.ground.priced h.reached b l
 
-pub label_within : (g : Ground) (s : Search) (w : ℕ) → IsSearch g s → w < nodes_of g → labels s w <ℤ far → IsWithinFar (to_z w32 (of_z w32 (labels s w)))
-label_within g s w h b l = let f = label_fits_at g s w h b l in passed_within _ _ (labels s w) (fits_within _ f) f
+pub label_within : (g : Ground) (s : Search) (w : ℕ) → IsSearch g s → w < nodes_of g → labels s w <ℤ far → IsWithinFar (to_z w16 (of_z w16 (labels s w)))
+label_within g s w h b l = let f = label_fits_at g s w h b l in label_passed _ _ (labels s w) (label_fits _ f) f
 
 pub potential_near : (g : Ground) (w : ℕ) → IsGround g → w < nodes_of g → IsWithinFar (potential_of g w)
 potential_near g w h b = potential_fits_at _ _ _ _ _ w h.graph h.priced b
@@ -42,8 +42,8 @@ pub potential_within : (g : Ground) (w : ℕ) → IsGround g → w < nodes_of g 
 potential_within g w h b = let f = potential_near g w h b in passed_within _ _ (potential_of g w) (fits_within _ f) f
 
 -- a distance, as it is computed
-pub away_is : (r q p : ℤ) → IsWithinFar q → IsWithinFar p → r ≡ to_z w32 (of_z w32 q) -ℤ to_z w32 (of_z w32 p) → r ≡ q -ℤ p
-away_is r q p a b e = difference_is r q p (fits_within _ a) (fits_within _ b) e
+pub away_is : (r q p : ℤ) → IsWithinFar q → IsWithinFar p → r ≡ to_z w16 (of_z w16 q) -ℤ to_z w32 (of_z w32 p) → r ≡ q -ℤ p
+away_is r q p a b e = difference_is r q p (label_fits _ a) (fits_within _ b) e
 
 pub room_left : (g : Ground) (s : Search) (v : ℕ) → IsSearch g s → v < nodes_of g → far ≤ℤ labels s v → s.reached < length s.visits.now
 room_left g s v h b l = omega (arith, h.size, order_room _ _ _ _ _ _ _ _ _ _ _ _ _ _ v h.reached b l)

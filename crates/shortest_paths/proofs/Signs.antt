@@ -3,7 +3,7 @@ use Rattle.std.proofs.Common.{◌≡◌, true, false, sym, ◌∙◌, ap, subst,
 use Rattle.std.specs.Prelude.{ℤ, ◌+ℤ◌, ◌-ℤ◌, ◌≤ℤ◌, ◌<ℤ◌}
 use Rattle.std.proofs.lemmas.Int.{ints, to_z-of_z}
 use lib.Signed.{lt_z}
-use mir.Syntax.{w32}
+use mir.Syntax.{w16, w32}
 use mir.Val.{SFits, of_z, to_z}
 use Rattle.shortest_paths.specs.Search.{IsWithinFar}
 
@@ -17,6 +17,9 @@ plain_ge a b h = grind (arith, ints)
 pub fits_within : (z : ℤ) → IsWithinFar z → SFits w32 z
 fits_within z (a, b) = grind (arith, ints)
 
+pub label_fits : (z : ℤ) → IsWithinFar z → SFits w16 z
+label_fits z (a, b) = grind (arith, ints)
+
 pub is_less : (z k : ℤ) → SFits w32 z → lt_z (to_z w32 (of_z w32 z)) k ≡ true → z <ℤ k
 is_less z k f h = plain_lt z k (subst (λ (t : ℤ). lt_z t k ≡ true) (to_z-of_z w32 z f) h)
 
@@ -29,12 +32,22 @@ both_less z k f g h = is_less z k f (subst (λ (t : ℤ). lt_z (to_z w32 (of_z w
 pub both_no_less : (z k : ℤ) → SFits w32 z → SFits w32 k → lt_z (to_z w32 (of_z w32 z)) (to_z w32 (of_z w32 k)) ≡ false → k ≤ℤ z
 both_no_less z k f g h = is_no_less z k f (subst (λ (t : ℤ). lt_z (to_z w32 (of_z w32 z)) t ≡ false) (to_z-of_z w32 k g) h)
 
+-- the same of labels
+pub label_less : (z k : ℤ) → SFits w16 z → SFits w16 k → lt_z (to_z w16 (of_z w16 z)) (to_z w16 (of_z w16 k)) ≡ true → z <ℤ k
+label_less z k f g h = plain_lt z k (rw (to_z-of_z w16 z f, to_z-of_z w16 k g) at h)
+
+pub label_no_less : (z k : ℤ) → SFits w16 z → SFits w16 k → lt_z (to_z w16 (of_z w16 z)) (to_z w16 (of_z w16 k)) ≡ false → k ≤ℤ z
+label_no_less z k f g h = plain_ge z k (rw (to_z-of_z w16 z f, to_z-of_z w16 k g) at h)
+
+pub label_passed : (a b z : ℤ) → SFits w16 z → (a ≤ℤ z) × (z ≤ℤ b) → (a ≤ℤ to_z w16 (of_z w16 z)) × (to_z w16 (of_z w16 z) ≤ℤ b)
+label_passed a b z f h = subst (λ (t : ℤ). (a ≤ℤ t) × (t ≤ℤ b)) (sym (to_z-of_z w16 z f)) h
+
 -- a number passed is the number
 pub passed_within : (a b z : ℤ) → SFits w32 z → (a ≤ℤ z) × (z ≤ℤ b) → (a ≤ℤ to_z w32 (of_z w32 z)) × (to_z w32 (of_z w32 z) ≤ℤ b)
 passed_within a b z f h = subst (λ (t : ℤ). (a ≤ℤ t) × (t ≤ℤ b)) (sym (to_z-of_z w32 z f)) h
 
-pub difference_is : (r a b : ℤ) → SFits w32 a → SFits w32 b → r ≡ to_z w32 (of_z w32 a) -ℤ to_z w32 (of_z w32 b) → r ≡ a -ℤ b
-difference_is r a b f g h = rw (to_z-of_z w32 a f, to_z-of_z w32 b g) at h
+pub difference_is : (r a b : ℤ) → SFits w16 a → SFits w32 b → r ≡ to_z w16 (of_z w16 a) -ℤ to_z w32 (of_z w32 b) → r ≡ a -ℤ b
+difference_is r a b f g h = rw (to_z-of_z w16 a f, to_z-of_z w32 b g) at h
 
 pub same_from_bits : (a b : ℤ) → SFits w32 a → SFits w32 b → of_z w32 a ≡ of_z w32 b → a ≡ b
 same_from_bits a b f g h = sym (to_z-of_z w32 a f) ∙ ap (to_z w32) h ∙ to_z-of_z w32 b g
@@ -46,5 +59,5 @@ pub passed_under : (a z : ℤ) → SFits w32 z → a ≤ℤ to_z w32 (of_z w32 z
 passed_under a z f h = subst (λ (t : ℤ). a ≤ℤ t) (to_z-of_z w32 z f) h
 
 -- a label, and the cost of a residual arc added to it
-pub sum_is : (r a b c : ℤ) → SFits w32 a → SFits w32 b → r ≡ to_z w32 (of_z w32 a) +ℤ to_z w32 (of_z w32 b) → b ≡ c → r ≡ a +ℤ c
-sum_is r a b c f g h e = (rw (to_z-of_z w32 a f, to_z-of_z w32 b g) at h) ∙ ap (λ (t : ℤ). a +ℤ t) e
+pub sum_is : (r a b c : ℤ) → SFits w16 a → SFits w16 b → r ≡ to_z w16 (of_z w16 a) +ℤ to_z w16 (of_z w16 b) → b ≡ c → r ≡ a +ℤ c
+sum_is r a b c f g h e = (rw (to_z-of_z w16 a f, to_z-of_z w16 b g) at h) ∙ ap (λ (t : ℤ). a +ℤ t) e

@@ -140,7 +140,7 @@ excess_of g = at_nodes g.excess.now
 
 -- stands for visits past the last
 abbrev pub no_visit : Visit
-no_visit = record { label = pos 0; enter = 0; place = 0; score = pos 0; at_place = 0 }
+no_visit = record { label = pos 0; enter = 0; place = 0; at_place = 0 }
 
 abbrev pub visit_at : List Visit → ℕ → Visit
 visit_at visits v = slice_index_or visits v no_visit

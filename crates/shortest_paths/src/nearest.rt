@@ -53,14 +53,14 @@ impl<'a> Search<'a> {
             ordered: 1,
             reached: 1,
             level: 0,
-            cut: FAR,
+            cut: FAR as i32,
             found_score: 0,
             found: 0,
         };
         search.relabel(Step {
             number: 0,
             end: ground.source,
-            label: ground.potential[ground.source],
+            label: ground.potential[ground.source] as i16,
         });
         search.put(0, ground.source);
         search
@@ -174,7 +174,7 @@ impl<'a> Search<'a> {
         let from = self.visits[node].label;
         for number in start..end {
             let arc = ground.arcs[number];
-            let end = usize::from(arc.end);
+            let end = arc.end as usize;
             let label = offered_label(from, arc.cost);
             if label < self.visits[end].label {
                 return Some(Step { number, end, label });
@@ -194,7 +194,7 @@ fn lesser(a: i32, b: i32) -> i32
 }
 
 /// What a residual arc offers to its end.
-fn offered_label(label: i32, cost: i32) -> i32
+fn offered_label(label: i16, cost: i16) -> i16
     requires label { IsWithinFar label }
     requires cost { IsArcCost cost }
     ensures { result ≡ label +ℤ cost }

@@ -17,7 +17,7 @@ impl Search<'_> {
     {
         let away = distance(step.label, ground.potential[step.end]);
         if ground.excess[step.end] < 0 {
-            let score = self.visits[step.end].score;
+            let score = ground.score.get(step.end).copied().unwrap_or(0);
             self.offer(step.number, away, score);
         } else if away < self.cut {
             self.settle(ground, step);
@@ -122,10 +122,10 @@ impl Search<'_> {
 }
 
 /// How far a node is from the source by reduced costs.
-pub(crate) fn distance(label: i32, potential: i32) -> i32
+pub(crate) fn distance(label: i16, potential: i32) -> i32
     requires label { IsWithinFar label }
     requires potential { IsWithinFar potential }
     ensures { result ≡ label -ℤ potential }
 {
-    label - potential
+    i32::from(label) - potential
 }

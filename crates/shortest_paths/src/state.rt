@@ -2,7 +2,7 @@
 use networks::ResidualArc;
 
 /// The label of a node that was not reached, above that of each node that was.
-pub const FAR: i32 = 8_000;
+pub const FAR: i16 = 8_000;
 
 /// What a search reads: residual arcs, what is known of each node, and the node where the search begins.
 #[derive(Clone, Copy)]
@@ -14,6 +14,8 @@ pub struct Ground<'a> {
     pub potential: &'a [i32],
     /// How many units are left over at a node, or, below 0, are wanting there.
     pub excess: &'a [i32],
+    /// Of nodes that are found at the same distance the one with the least score is taken.
+    pub score: &'a [i32],
     pub source: usize,
 }
 
@@ -22,13 +24,11 @@ pub struct Ground<'a> {
 #[derive(Clone, Copy)]
 pub struct Visit {
     /// The source's potential and the costs of the residual arcs on the way to the node, or `FAR`.
-    pub label: i32,
+    pub label: i16,
     /// The residual arc on which the node was entered.
     pub enter: u16,
     /// The place of the node in the order.
     pub place: u16,
-    /// Of nodes that are found at the same distance the one with the least score is taken.
-    pub score: i32,
     /// The node at this place of the order.
     pub at_place: u16,
 }
@@ -59,5 +59,5 @@ pub struct Search<'a> {
 pub(crate) struct Step {
     pub number: usize,
     pub end: usize,
-    pub label: i32,
+    pub label: i16,
 }

@@ -34,8 +34,8 @@ run-search-requires-clause-blank c =
       source = c.requires.left;
     })
 
-pub returns-then-search-eq-FAR-clause-no_flow : goal.returns-then-search-eq-FAR-clause-no_flow
-returns-then-search-eq-FAR-clause-no_flow c net r =
+pub returns-then-search-clause-no_flow : goal.returns-then-search-clause-no_flow
+returns-then-search-clause-no_flow c net r =
     let f = c.run-search.ensures in
     let h = f.search in
     let t = c.run-search.result in
@@ -52,7 +52,7 @@ returns-then-search-eq-FAR-clause-no_flow c net r =
     let n = r.potentials in
     let fc : SFits w32 t.cut = search rules in
     let ff : SFits w32 far = search rules in
-    let cut : t.cut ≡ far = same_from_bits _ _ fc ff c.if-search-eq-FAR.true in
+    let cut : t.cut ≡ far = same_from_bits _ _ fc ff c.if-search.true in
     let re = subst (λ (k : ℕ). IsReached k first arcs p x c.args.source (labels t) (enters t) (orders t) (places t) t.head t.ordered t.reached t.level) n re0 in
     let sv = subst (λ (k : ℕ). IsServed k first arcs p (labels t) (places t) t.cut t.head) n sv0 in
     let left = subst (λ (k : ℕ). IsLeft k p (labels t) (places t) t.head t.cut) n left0 in
@@ -75,7 +75,7 @@ update_potentials-requires c =
     let re0 : IsReached (length pot) first arcs p x c.args.source (labels t) (enters t) (orders t) (places t) t.head t.ordered t.reached t.level = rw (c.deref.ensures.value, c.deref-2.ensures.value, c.deref-3.ensures.value, c.deref-4.ensures.value) at h.reached in
     let near0 : IsNearest (length pot) first arcs p x c.args.source (labels t) (places t) t.head t.level t.cut t.found = rw (c.deref.ensures.value, c.deref-2.ensures.value, c.deref-3.ensures.value, c.deref-4.ensures.value) at h.nearest in
     let g0 : IsGraph (length pot) first arcs = rw (c.deref.ensures.value, c.deref-2.ensures.value, c.deref-3.ensures.value) at h.ground.graph in
-    let hit : t.cut <ℤ far = strictly _ _ near0.most (λ q. c.if-search-eq-FAR.false (ap (of_z w32) q)) in
+    let hit : t.cut <ℤ far = strictly _ _ near0.most (λ q. c.if-search.false (ap (of_z w32) q)) in
     let pr0 = rw (c.deref.ensures.value, c.deref-2.ensures.value, c.deref-3.ensures.value, c.deref-4.ensures.value) at h.ground.priced in
     let b : c.args.source < node_count net = omega (arith, c.requires.source, r.excesses) in
     let size : length t.visits.now ≡ length pot = rw c.deref-3.ensures.value at h.size in
@@ -88,6 +88,15 @@ update_potentials-requires c =
       labels = λ j b. reached_fits _ _ _ _ _ _ _ _ _ _ _ _ _ _ (orders t j) g0 pr0 re0 (re0.node j (omega (arith, re0.counts))) (re0.marked j (omega (arith, re0.counts)));
       cut = label_bounds _ t.head (p c.args.source) t.cut r.network.small.0 le (near0.hit hit).near (r.round.low c.args.source b);
     })
+
+pub clear-requires : goal.clear-requires
+clear-requires c =
+    let h = c.run-search.ensures.search in
+    record {
+      order = omega (arith, h.size, h.reached.counts.2);
+      small = omega (arith, h.size, h.ground.graph.nodes);
+      nodes = λ j b. omega (arith, h.size, h.reached.node j b);
+    }
 
 pub returns-clause-found : goal.returns-clause-found
 returns-clause-found c net r =
@@ -106,7 +115,7 @@ returns-clause-found c net r =
     let g0 : IsGraph (length pot) first arcs = rw (c.deref.ensures.value, c.deref-2.ensures.value, c.deref-3.ensures.value) at h.ground.graph in
     let sv0 : IsServed (length pot) first arcs p (labels t) (places t) t.cut t.head = rw (c.deref.ensures.value, c.deref-2.ensures.value, c.deref-3.ensures.value) at f.served in
     let left0 : IsLeft (length pot) p (labels t) (places t) t.head t.cut = rw c.deref-3.ensures.value at f.left in
-    let hit : t.cut <ℤ far = strictly _ _ near0.most (λ q. c.if-search-eq-FAR.false (ap (of_z w32) q)) in
+    let hit : t.cut <ℤ far = strictly _ _ near0.most (λ q. c.if-search.false (ap (of_z w32) q)) in
     let up = c.update_potentials.ensures in
     let old = c.args.nodes.now.potential in
     let new = c.update_potentials.new.potential in
@@ -133,7 +142,7 @@ returns-clause-short c =
     let x = at_nodes exc in
     let re0 : IsReached (length pot) first arcs p x c.args.source (labels t) (enters t) (orders t) (places t) t.head t.ordered t.reached t.level = rw (c.deref.ensures.value, c.deref-2.ensures.value, c.deref-3.ensures.value, c.deref-4.ensures.value) at h.reached in
     let near0 : IsNearest (length pot) first arcs p x c.args.source (labels t) (places t) t.head t.level t.cut t.found = rw (c.deref.ensures.value, c.deref-2.ensures.value, c.deref-3.ensures.value, c.deref-4.ensures.value) at h.nearest in
-    let hit : t.cut <ℤ far = strictly _ _ near0.most (λ q. c.if-search-eq-FAR.false (ap (of_z w32) q)) in
+    let hit : t.cut <ℤ far = strictly _ _ near0.most (λ q. c.if-search.false (ap (of_z w32) q)) in
     let n = r.potentials in
     let q = c.clear.ensures.cleared in
     let re = subst (λ (k : ℕ). IsReached k first arcs p x c.args.source (labels t) (enters t) (orders t) (places t) t.head t.ordered t.reached t.level) n re0 in

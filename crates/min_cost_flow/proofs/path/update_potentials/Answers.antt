@@ -2,7 +2,7 @@ use Rattle.std.proofs.Common.{arith, sym, ◌∙◌}
 use Rattle.std.specs.Prelude.{◌-ℤ◌}
 use Rattle.networks.specs.Flow.{at_nodes}
 use Rattle.shortest_paths.specs.Search.{IsPut, IsWithinFar, labels, orders}
-use Rattle.shortest_paths.proofs.Signs.{fits_within, passed_within}
+use Rattle.shortest_paths.proofs.Signs.{fits_within, label_fits, label_passed, passed_within}
 use Rattle.min_cost_flow.proofs.Solving.{put_label, moved_more}
 use Rattle.min_cost_flow.proofs.path.update_potentials.Goals as goal
 
@@ -14,7 +14,7 @@ write_potential-requires c =
     record {
       node = omega (arith, c.loop-j.invariant.size, r.scanned c.loop-j.j (omega arith));
       small = omega (arith, r.small, r.scanned c.loop-j.j (omega arith));
-      label = passed_within _ _ _ (fits_within _ within) within;
+      label = label_passed _ _ _ (label_fits _ within) within;
       cut = passed_within _ _ s.cut (fits_within _ r.cut) r.cut;
     }
 

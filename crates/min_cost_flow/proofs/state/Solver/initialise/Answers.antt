@@ -17,11 +17,10 @@ returns c =
     let l = c.args.self.now in
     let z = c.requires in
     let ps = c.write_all.new.numbers in
-    let ss = c.score_nodes.new.visits in
     let qs = c.take_labels.new.visits in
     let es = c.copy_from_slice.new.self in
     let pot_is : (with_items l.nodes.potential ps).items ≡ ps = with_items_is l.nodes.potential ps (omega arith) in
-    let label_is : (with_items (with_items l.visits ss) qs).items ≡ qs = with_items_is (with_items l.visits ss) qs (omega arith) in
+    let label_is : (with_items l.visits qs).items ≡ qs = with_items_is l.visits qs (omega arith) in
     let full : (v : ℕ) → at_nodes es.items v ≡ supply_at net v = λ v. ap (λ (xs : List ℤ). at_nodes xs v) (c.copy_from_slice.ensures.items ∙ c.supplies.ensures.supplies) in
     record {
       ready = record {

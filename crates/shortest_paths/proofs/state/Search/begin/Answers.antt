@@ -1,10 +1,10 @@
 use Rattle.std.proofs.Common.{rules, ◌∙◌}
 use Rattle.std.proofs.Math.Path.{fun_ext}
 use Rattle.std.proofs.lemmas.Int.{to_z-of_z}
-use mir.Syntax.{w32}
+use mir.Syntax.{w16, w32}
 use mir.Val.{SFits}
 use Rattle.shortest_paths.specs.Search.{labels, enters, potential_of, IsPut, label_at}
-use Rattle.shortest_paths.proofs.Signs.{fits_within}
+use Rattle.shortest_paths.proofs.Signs.{fits_within, label_fits}
 use Rattle.shortest_paths.proofs.Reaching.{source_reached}
 use Rattle.shortest_paths.proofs.Searching.{potential_near}
 use Rattle.shortest_paths.proofs.state.Search.begin.Goals as goal
@@ -17,8 +17,10 @@ returns-clause-search c =
     let p = c.put.new.self in
     let q = c.put.ensures in
     let o = c.relabel.ensures.order in
-    let f : SFits w32 (potential_of g v) = fits_within _ (potential_near g v b.ground b.ground.source) in
-    let first : IsPut (label_at c.args.visits.now) (labels c.relabel.new.self) v (potential_of g v) = rw (to_z-of_z w32 (potential_of g v) f) at c.relabel.ensures.label in
+    let near = potential_near g v b.ground b.ground.source in
+    let f : SFits w16 (potential_of g v) = label_fits _ near in
+    let f' : SFits w32 (potential_of g v) = fits_within _ near in
+    let first : IsPut (label_at c.args.visits.now) (labels c.relabel.new.self) v (potential_of g v) = rw (to_z-of_z w32 (potential_of g v) f', to_z-of_z w16 (potential_of g v) f) at c.relabel.ensures.label in
     let put : IsPut (label_at c.args.visits.now) (labels p) v (potential_of g v) = rw (fun_ext q.same.label) first in
     record {
       ground = b.ground;

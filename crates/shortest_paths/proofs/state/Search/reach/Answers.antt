@@ -3,27 +3,17 @@ use Rattle.std.specs.Prelude.{pos, ◌-ℤ◌, ◌<ℤ◌}
 use mir.Syntax.{w32}
 use mir.Val.{SFits}
 use Rattle.shortest_paths.specs.Search.{nodes_of, potential_of, excess_of}
-use Rattle.shortest_paths.proofs.Signs.{is_less, fits_within, passed_within, passed_is}
+use Rattle.shortest_paths.proofs.Signs.{is_less, label_fits, label_passed, passed_is}
 use Rattle.shortest_paths.proofs.Searching.{potential_near, potential_within, away_is, offer_within, end_in, offered}
 use Rattle.shortest_paths.proofs.state.Search.reach.Goals as goal
 
 pub distance-away-requires-clause-label : goal.distance-away-requires-clause-label
 distance-away-requires-clause-label c =
     let w = offer_within c.args.ground c.args.self.now c.args.step c.requires.offer in
-    passed_within _ _ c.args.step.label (fits_within _ w) w
+    label_passed _ _ c.args.step.label (label_fits _ w) w
 
 pub distance-away-requires-clause-potential : goal.distance-away-requires-clause-potential
 distance-away-requires-clause-potential c = potential_within c.args.ground c.args.step.end c.requires.offer.search.ground (end_in c.args.ground c.args.self.now c.args.step c.requires.offer)
-
-pub offset_bounds-self-step : goal.offset_bounds-self-step
-offset_bounds-self-step c =
-    let o = c.requires.offer in
-    let b : c.args.step.end < nodes_of c.args.ground = end_in c.args.ground c.args.self.now c.args.step o in
-    let few : nodes_of c.args.ground ≤ 1024 = o.search.ground.graph.nodes in
-    search (rules, b, few)
-
-pub bounds-self-step : goal.bounds-self-step
-bounds-self-step c = omega (arith, c.requires.offer.search.size, end_in c.args.ground c.args.self.now c.args.step c.requires.offer)
 
 pub returns-then-ground-step-lt0-clause-relaxed : goal.returns-then-ground-step-lt0-clause-relaxed
 returns-then-ground-step-lt0-clause-relaxed c =

@@ -3,7 +3,7 @@ use Rattle.std.specs.Prelude.{◌-ℤ◌}
 use mir.Syntax.{w32}
 use mir.Val.{SFits}
 use Rattle.shortest_paths.specs.Search.{nodes_of, potential_of}
-use Rattle.shortest_paths.proofs.Signs.{same_from_bits, fits_within, passed_within}
+use Rattle.shortest_paths.proofs.Signs.{same_from_bits, label_fits, label_passed}
 use Rattle.shortest_paths.proofs.Searching.{IsListed, potential_near, potential_within, away_is, offer_within, end_in, room_left, settled, settled_behind, listed}
 use Rattle.shortest_paths.proofs.state.Search.settle.Goals as goal
 
@@ -13,7 +13,7 @@ mark-requires-clause-room c = room_left c.args.ground c.args.self.now c.args.ste
 pub distance-requires-clause-label : goal.distance-requires-clause-label
 distance-requires-clause-label c =
     let w = offer_within c.args.ground c.args.self.now c.args.step c.requires.offer in
-    passed_within _ _ c.args.step.label (fits_within _ w) w
+    label_passed _ _ c.args.step.label (label_fits _ w) w
 
 pub distance-requires-clause-potential : goal.distance-requires-clause-potential
 distance-requires-clause-potential c = potential_within c.args.ground c.args.step.end c.requires.offer.search.ground (end_in c.args.ground c.args.self.now c.args.step c.requires.offer)
