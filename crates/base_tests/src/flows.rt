@@ -45,7 +45,7 @@ pub(crate) fn cost_of(network: &Network, solved: &Solved) -> u64
     let mut total = 0u64;
     for i in 0..network.arc_count() {
         let units = u64::from(solved.flow(i as u32));
-        if network.arc(i as u32).cost == 1 {
+        if network.arcs()[i].cost == 1 {
             total = total.saturating_add(units);
         }
     }

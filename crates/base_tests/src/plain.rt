@@ -62,7 +62,7 @@ fn send_from(rt: &impl Abort, alloc: Global, sending: &mut Sending, source: usiz
 fn begin(rt: &impl Abort, alloc: Global, network: &Network) -> Sending {
     let mut arcs = Vec::new(alloc);
     for i in 0..network.arc_count() {
-        arcs.push(network.arc(i as u32)).expect(rt, "memory");
+        arcs.push(network.arcs()[i]).expect(rt, "memory");
     }
     Sending {
         arcs,

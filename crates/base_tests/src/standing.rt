@@ -31,8 +31,8 @@ fn moved(
 {
     // Only the proof needs this: `node_count` says that the network is one.
     let _nodes = twin.node_count();
-    let more = twin.supply(from);
-    let less = twin.supply(to);
+    let more = twin.supplies()[from as usize];
+    let less = twin.supplies()[to as usize];
     if !is_within(more, less) {
         return Some(standing);
     }

@@ -215,6 +215,7 @@ sized_moved net l l' f t k r fair re pe ee he =
       potentials = omega (arith, r.potentials);
       excesses = rw ee (omega (arith, r.excesses));
       labels = rw he (omega (arith, r.labels));
+      blank = λ v b. rw he (r.blank v (omega (arith, long, b)));
     }
 
 -- potentials in reach can be lowered by one of them

@@ -33,13 +33,14 @@ enters_in s = enter_at s.visits.items
 abbrev pub places_in : Solver → ℕ → ℕ
 places_in s = place_at s.visits.items
 
--- the lists have the sizes that the network needs
+-- the lists have the sizes that the network needs, and no node has a label
 pub record IsSized (net : NetworkModel) (s : Solver) : Type 0 where
   pub network : IsNetwork net
   pub room : HasSizes net s.residual
   pub potentials : length s.nodes.potential.items ≡ node_count net
   pub excesses : length s.nodes.excess.items ≡ node_count net
   pub labels : length s.visits.items ≡ node_count net
+  pub blank : (v : ℕ) → v < node_count net → label_at s.visits.items v ≡ far
 
 -- what holds between two searches, of the residual network, the potentials, what is left over at nodes and the visits
 pub record IsReadyIn (net : NetworkModel) (r : Residual) (potential excess : List ℤ) (visits : List Visit) : Type 0 where

@@ -6,7 +6,6 @@
 #![tactic(auto)]
 
 mod augment;
-mod path;
 mod resume;
 mod scratch;
 mod solved;

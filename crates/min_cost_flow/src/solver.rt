@@ -5,22 +5,21 @@
 //! Networks have at most 1,024 nodes and 4,096 arcs of cost 0 or 1, and nodes supply or want at most 2,048
 //! units. Each search looks at each residual arc once at most and sends at least one unit, so all is done in at most
 //! as many searches as units are supplied. A search also goes over the nodes that wait, for each distance.
-ghost use Rattle.std.specs.Prelude.{◌≡◌, ◌≢◌, ◌<◌, ◌≤◌, ◌+◌, ◌*◌, ◌^◌, ℕ, length, pos, ◌≤ℤ◌, ◌<ℤ◌, ◌-ℤ◌, IfOk, IfErr, true, false};
+ghost use Rattle.std.specs.Prelude.{◌≡◌, ◌≢◌, ◌<◌, ◌≤◌, ◌+◌, ◌*◌, ◌^◌, ℕ, length, pos, ◌≤ℤ◌, ◌<ℤ◌, ◌-ℤ◌, IfOk, IfErr, true, false, IfSome, IfNone};
 ghost use Rattle.networks.specs.declared.network.TheConstants.{MAX_NODES};
 ghost use Rattle.min_cost_flow.specs.declared.solver.SolveFault.TheVariants.{Memory};
 ghost use Rattle.networks.specs.Networks.{NetworkModel, arc_count, node_count, IsNetwork};
 ghost use Rattle.networks.specs.Flow.{amounts, at_nodes, HasNoFlow, Solves};
-ghost use Rattle.networks.specs.ResidualArcs.{reverse_at, room_at, carried};
-ghost use Rattle.shortest_paths.specs.Search.{far, labels, orders, label_at, IsPut, IsWithinFar};
+ghost use Rattle.networks.specs.ResidualArcs.{reverse_at, room_at, carried, end_at};
+ghost use Rattle.shortest_paths.specs.Search.{far, labels, orders, label_at, IsPut, IsWithinFar, place_at};
 ghost use Rattle.min_cost_flow.specs.Round.{carrying, supply_sum, IsRoundDone, HasSupply, IsWithinReach};
-ghost use Rattle.min_cost_flow.specs.Stand.{excess_at, potential_at, flow_in, IsSized, IsReady, IsUnderWay, IsAnswer, HasSentFrom, IsAugmented, CanUpdate, HasOrder, CanRead, IsCleared};
+ghost use Rattle.min_cost_flow.specs.Stand.{excess_at, potential_at, flow_in, IsSized, IsReady, IsUnderWay, IsAnswer, HasSentFrom, IsAugmented, CanUpdate, HasOrder, CanRead, IsCleared, IsReadyIn, CanAugmentIn};
 
-use crate::path::find_path;
 use crate::scratch::Scratch;
 use crate::solved::Solved;
-use crate::state::Solver;
-use networks::{Network, ResidualArc};
-use shortest_paths::{FAR, Visit};
+use crate::state::{Nodes, Solver};
+use networks::{Network, Residual, ResidualArc};
+use shortest_paths::{FAR, Ground, Search, Visit};
 use std::alloc::{AllocError, Global};
 use std::mem;
 use thiserror::Error;
@@ -119,7 +118,6 @@ impl Solver {
         self.nodes.excess.copy_from_slice(network.supplies());
         self.residual.lay_out(network);
         score_nodes(network, &mut self.nodes.score);
-        take_labels(&mut self.visits);
         self.searches = 0;
         self.looks = 0;
     }
@@ -167,6 +165,79 @@ impl Solver {
     }
 }
 
+/// Searches for a shortest path from a node where units are left over to the nearest one where units are wanting, and
+/// updates the potentials. It gives back the last residual arc of the path; each node before has the one on which it
+/// was entered. `None` where there is no such path.
+pub(crate) fn find_path(
+    residual: &Residual,
+    nodes: &mut Nodes,
+    visits: &mut [Visit],
+    source: usize,
+    looks: &mut u64,
+) -> Option<usize>
+    requires ready { (net : NetworkModel) × IsReadyIn net residual.now nodes.old.potential.items nodes.old.excess.items visits.old }
+    requires source { source < length nodes.old.excess.items }
+    requires left { pos 0 <ℤ at_nodes nodes.old.excess.items source }
+    requires few { looks.old < 2 ^ 61 }
+    ensures found { IfSome result (λ found. (net : NetworkModel) → IsReadyIn net residual.now nodes.old.potential.items nodes.old.excess.items visits.old → CanAugmentIn net residual.now nodes.new.potential.items nodes.new.excess.items visits.new found source) }
+    ensures short { IfSome result (λ found. looks.old + place_at visits.new (end_at residual.now.arcs.items (reverse_at residual.now.arcs.items found)) + 1 ≤ looks.new) }
+    ensures no_flow { IfNone result ((net : NetworkModel) → IsReadyIn net residual.now nodes.old.potential.items nodes.old.excess.items visits.old → HasNoFlow net) }
+    ensures excess { nodes.new.excess ≡ nodes.old.excess }
+    ensures looks { looks.new ≤ looks.old + length residual.now.arcs.items }
+{
+    let ground = Ground {
+        first: &residual.first,
+        arcs: &residual.arcs,
+        potential: &nodes.potential,
+        excess: &nodes.excess,
+        score: &nodes.score,
+        source,
+    };
+    let mut search = Search::run(ground, visits, looks);
+    if search.cut == FAR as i32 {
+        return None;
+    }
+    update_potentials(&mut nodes.potential, &search);
+    clear(&mut search);
+    Some(search.found)
+}
+
+/// Update potentials: lowers those of the nodes that were scanned by as much as the nodes are nearer than the cut.
+fn update_potentials(potential: &mut [i32], search: &Search<'_>)
+    requires { CanUpdate potential.old search.now }
+    ensures moved { (j : ℕ) → j < search.now.head → at_nodes potential.new (orders search.now j) ≡ labels search.now (orders search.now j) -ℤ search.now.cut }
+    ensures others { (v : ℕ) → ((j : ℕ) → j < search.now.head → orders search.now j ≢ v) → at_nodes potential.new v ≡ at_nodes potential.old v }
+    ensures size { length potential.new ≡ length potential.old }
+{
+    for j in 0..search.head {
+        let node = search.visits[j].at_place as usize;
+        write_potential(potential, node, search.visits[node].label, search.cut);
+    }
+}
+
+/// Gives a node its label less the cut for a potential.
+fn write_potential(potential: &mut [i32], node: usize, label: i16, cut: i32)
+    requires node { node < length potential.old }
+    requires small { node < MAX_NODES }
+    requires label { IsWithinFar label }
+    requires cut { IsWithinFar cut }
+    ensures { IsPut (at_nodes potential.old) (at_nodes potential.new) node (label -ℤ cut) }
+{
+    potential[node] = i32::from(label) - cut;
+}
+
+/// Takes the labels of the nodes that were reached away.
+fn clear(search: &mut Search<'_>)
+    requires { HasOrder search.old }
+    ensures cleared { IsCleared search.old search.new }
+    ensures list { search.new.visits.ghost_name ≡ search.old.visits.ghost_name }
+{
+    for j in 0..search.reached {
+        let node = search.visits[j].at_place as usize;
+        search.visits[node].label = FAR;
+    }
+}
+
 /// Whether units are wanting at a node.
 pub(crate) fn has_deficit(excess: &[i32]) -> bool
     ensures some { result ≡ true → (v : ℕ) × (v < length excess.now) × (at_nodes excess.now v <ℤ pos 0) }
@@ -185,9 +256,7 @@ fn score_nodes(network: &Network, scores: &mut [i32])
     for (score, supply) in scores.iter_mut().zip(supplies) {
         *score = *supply;
     }
-    let arcs = network.arcs();
-    for i in 0..arcs.len() {
-        let arc = arcs[i];
+    for arc in network.arcs() {
         if arc.cost == 0 {
             if let Some(score) = scores.get_mut(arc.to as usize) {
                 *score = score.wrapping_add(supplies[arc.from as usize].max(0));
@@ -213,15 +282,6 @@ pub(crate) fn carried_along(arcs: &[ResidualArc], along: u32) -> u32
     ensures { result ≡ room_at arcs.now (reverse_at arcs.now along) }
 {
     arcs[arcs[along as usize].reverse as usize].room
-}
-
-/// Takes the labels of all nodes away.
-fn take_labels(visits: &mut [Visit])
-    ensures { (v : ℕ) → v < length visits.new → label_at visits.new v ≡ far }
-{
-    for visit in visits.iter_mut() {
-        visit.label = FAR;
-    }
 }
 
 /// Writes a number at each node.

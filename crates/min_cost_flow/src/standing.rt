@@ -58,8 +58,7 @@ impl Standing {
         ensures no_flow { IfNone result (HasNoFlow (shifted self from to amount)) }
     {
         let Standing { network, solver } = self;
-        let mut network = network;
-        let mut solver = solver;
+        let (mut network, mut solver) = (network, solver);
         if !solver.resume(&mut network, from, to, amount) {
             return None;
         }
@@ -111,8 +110,9 @@ fn flow_cost(network: &Network, arcs: &[ResidualArc], forward: &[u32]) -> u64
     ensures few { result < 2 ^ 48 }
 {
     let mut cost = 0;
-    for i in 0..network.arc_count() {
-        if network.arc(i as u32).cost == 1 {
+    let given = network.arcs();
+    for i in 0..given.len() {
+        if given[i].cost == 1 {
             cost += u64::from(carried_along(arcs, forward[i]));
         }
     }

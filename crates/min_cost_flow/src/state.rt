@@ -51,8 +51,8 @@ impl Solver {
         }
     }
 
-    /// Gives each list the length that a network needs. Where memory is refused, some have it not. What they hold
-    /// is of no use: a solve writes it anew.
+    /// Gives each list the length that a network needs, and takes the labels of all nodes away. Where memory is
+    /// refused, some have it not. What else they hold is of no use: a solve writes it anew.
     pub(crate) fn prepare(&mut self, network: &Network) -> Result<(), AllocError>
         ensures { OnOk result (IsSized network.now self.new) }
     {
@@ -76,6 +76,7 @@ impl Solver {
         self.nodes.potential.resize(nodes, 0)?;
         self.nodes.excess.resize(nodes, 0)?;
         self.nodes.score.resize(nodes, 0)?;
+        self.visits.clear();
         self.visits.resize(nodes, unvisited)
     }
 }

@@ -83,19 +83,9 @@ impl Network {
     /// The arcs, by number.
     pub fn arcs(&self) -> &[Arc]
         ensures arcs { result.now ≡ self.now.arcs }
-        ensures kept { IsNetwork self.now }
+        ensures kept { IsNetwork (net_of self.now.supplies result.now) }
     {
         &self.arcs
-    }
-
-    /// The arc of a number.
-    pub fn arc(&self, i: u32) -> Arc
-        requires { i < arc_count self.now }
-        ensures arc { result ≡ arc_at self.now i }
-        ensures ends { (result.from < node_count self.now) × (result.to < node_count self.now) }
-        ensures cost { result.cost ≤ 1 }
-    {
-        self.arcs[i as usize]
     }
 
     /// The supplies, by node.
@@ -104,14 +94,6 @@ impl Network {
         ensures kept { IsNetwork self.now }
     {
         &self.supplies
-    }
-
-    /// The supply of a node.
-    pub fn supply(&self, node: u32) -> i32
-        requires { node < node_count self.now }
-        ensures { result ≡ supply_at self.now node }
-    {
-        self.supplies[node as usize]
     }
 
     /// Lets node `from` supply so many units more, and node `to` so many less. It takes no memory.
@@ -140,8 +122,6 @@ impl Network {
     pub fn copy(&self) -> Result<Network, AllocError>
         ensures { IfOk result (λ net. net ≡ self.now) }
     {
-        let supplies = self.supplies.clone()?;
-        let arcs = self.arcs.clone()?;
-        Ok(Network { arcs, supplies })
+        Ok(Network::of_lists(self.supplies.clone()?, self.arcs.clone()?))
     }
 }

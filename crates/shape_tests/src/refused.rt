@@ -77,7 +77,7 @@ fn one_arc(rt: &impl Abort, alloc: Global) -> Option<Network> {
 fn expect_one_arc(rt: &impl Abort, network: &Network) {
     assert_eq!(rt; (network.node_count(), network.arc_count()), (2, 1));
     same(rt, network.supplies(), [3, -3].as_slice());
-    same(rt, (network.supply(1), network.arc(0)), (-3, ARC));
+    same(rt, network.arcs(), [ARC].as_slice());
 }
 
 /// The solution of that network, by the second call where the first finds no memory.

@@ -150,10 +150,9 @@ impl<'a> Search<'a> {
     {
         let node = self.visits[self.head].at_place as usize;
         self.head += 1;
-        let start = ground.first[node] as usize;
+        let mut number = ground.first[node] as usize;
         let end = ground.first[node + 1] as usize;
-        *looks += (end - start) as u64;
-        let mut number = start;
+        *looks += (end - number) as u64;
         'offers: while let Some(step) = self.next_offer(ground, node, number, end) {
             number = step.number + 1;
             self.reach(ground, step);

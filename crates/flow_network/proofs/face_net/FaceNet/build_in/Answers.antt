@@ -8,13 +8,13 @@ use Rattle.flow_network.proofs.face_net.FaceNet.build_in.Goals as goal
 
 pub of_lists-requires : goal.of_lists-requires
 of_lists-requires c = net_sound c.args.plane.now _ c.graph.ensures.plane (record {
-      nodes = c.in_ok-supplies.ensures.nodes;
-      arcs = c.in_ok-arcs.ensures.arcs;
-      corner = c.in_ok-arcs.ensures.corner;
-      crossing = c.in_ok-arcs.ensures.crossing;
-      at_vertex = c.in_ok-supplies.ensures.at_vertex;
-      at_face = c.in_ok-supplies.ensures.at_face;
-    })
+  nodes = c.in_ok-supplies.ensures.nodes;
+  arcs = c.in_ok-arcs.ensures.arcs;
+  corner = c.in_ok-arcs.ensures.corner;
+  crossing = c.in_ok-arcs.ensures.crossing;
+  at_vertex = c.in_ok-supplies.ensures.at_vertex;
+  at_face = c.in_ok-supplies.ensures.at_face;
+})
 
 pub returns-clause-flow : goal.returns-clause-flow
 returns-clause-flow c =

@@ -17,10 +17,8 @@ returns c =
     let l = c.args.self.now in
     let z = c.requires in
     let ps = c.write_all.new.numbers in
-    let qs = c.take_labels.new.visits in
     let es = c.copy_from_slice.new.self in
     let pot_is : (with_items l.nodes.potential ps).items ≡ ps = with_items_is l.nodes.potential ps (omega arith) in
-    let label_is : (with_items l.visits qs).items ≡ qs = with_items_is l.visits qs (omega arith) in
     let full : (v : ℕ) → at_nodes es.items v ≡ supply_at net v = λ v. ap (λ (xs : List ℤ). at_nodes xs v) (c.copy_from_slice.ensures.items ∙ c.supplies.ensures.supplies) in
     record {
       ready = record {
@@ -28,9 +26,9 @@ returns c =
         residual = c.lay_out.ensures.laid_out;
         potentials = rw pot_is (omega (arith, z.potentials));
         excesses = ap (length {A = ℤ}) (c.copy_from_slice.ensures.items ∙ c.supplies.ensures.supplies);
-        labels = rw label_is (omega (arith, z.labels));
+        labels = z.labels;
         round = rw pot_is (first_round _ _ _ _ z.network c.lay_out.ensures.none (flat_all ps c.write_all.ensures) full);
-        blank = λ v b. rw label_is (c.take_labels.ensures v (omega (arith, z.labels)));
+        blank = z.blank;
       };
       work = first_work _ _ _ c.lay_out.ensures.none full;
     }

@@ -1,4 +1,4 @@
-use Rattle.std.proofs.Common.{rules, ◌≡◌, ◌<◌, ◌≤◌, ◌⊎◌, arith, inl, inr}
+use Rattle.std.proofs.Common.{rules, ◌≡◌, ◌<◌, ◌⊎◌, inl, inr}
 use Rattle.std.specs.Prelude.{pos, ◌-ℤ◌, ◌<ℤ◌}
 use mir.Syntax.{w32}
 use mir.Val.{SFits}

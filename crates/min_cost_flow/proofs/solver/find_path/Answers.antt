@@ -9,7 +9,7 @@ use Rattle.shortest_paths.specs.Search.{far, labels, enters, orders, places, IsG
 use Rattle.shortest_paths.proofs.Signs.{same_from_bits}
 use Rattle.shortest_paths.proofs.Reaching.{strictly, reached_fits}
 use Rattle.min_cost_flow.proofs.Solving.{is_graph, is_priced, can_augment, nothing_found, path_looks, short_path, label_bounds}
-use Rattle.min_cost_flow.proofs.path.find_path.Goals as goal
+use Rattle.min_cost_flow.proofs.solver.find_path.Goals as goal
 
 pub run-search-requires-clause-blank : goal.run-search-requires-clause-blank
 run-search-requires-clause-blank c =

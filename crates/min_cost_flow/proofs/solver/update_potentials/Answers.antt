@@ -4,7 +4,7 @@ use Rattle.networks.specs.Flow.{at_nodes}
 use Rattle.shortest_paths.specs.Search.{IsPut, IsWithinFar, labels, orders}
 use Rattle.shortest_paths.proofs.Signs.{fits_within, label_fits, label_passed, passed_within}
 use Rattle.min_cost_flow.proofs.Solving.{put_label, moved_more}
-use Rattle.min_cost_flow.proofs.path.update_potentials.Goals as goal
+use Rattle.min_cost_flow.proofs.solver.update_potentials.Goals as goal
 
 pub write_potential-requires : goal.write_potential-requires
 write_potential-requires c =

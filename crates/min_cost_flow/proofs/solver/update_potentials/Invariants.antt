@@ -2,7 +2,7 @@ use Rattle.std.proofs.Common.{◌≡◌, ◌≢◌, ◌<◌, ℕ}
 use Rattle.std.specs.Prelude.{◌-ℤ◌, length}
 use Rattle.networks.specs.Flow.{at_nodes}
 use Rattle.shortest_paths.specs.Search.{labels, orders}
-use Rattle.min_cost_flow.proofs.path.update_potentials.Given as goal
+use Rattle.min_cost_flow.proofs.solver.update_potentials.Given as goal
 
 abbrev pub invariant-loop-j : goal.invariant-loop-j
 invariant-loop-j l = record {

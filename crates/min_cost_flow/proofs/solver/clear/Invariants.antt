@@ -1,7 +1,7 @@
 use Rattle.std.proofs.Common.{◌≡◌, ◌<◌, ℕ}
 use Rattle.std.specs.Prelude.{length}
 use Rattle.shortest_paths.specs.Search.{far, labels, enters, orders, places}
-use Rattle.min_cost_flow.proofs.path.clear.Given as goal
+use Rattle.min_cost_flow.proofs.solver.clear.Given as goal
 
 abbrev pub invariant-loop-j : goal.invariant-loop-j
 invariant-loop-j l = record {
