@@ -14,7 +14,7 @@ use crate::layout::{Layout, SpentLayout};
 use crate::spent::WayBack;
 use compact::{BoxesScratch, CompactFault, compact_in, dissect_along};
 use drawing_check::{CheckFault, Drawing, check_in};
-use entries::{Answer, Cause, Entry};
+use entries::{Answer, Cause};
 use faces::Plane;
 use ortho_rep::{Points, Shape};
 use std::alloc::{AllocError, Global};
@@ -55,16 +55,9 @@ impl DrawScratch {
         self.headings = headings;
     }
 
-    /// Takes the lists of an entry that nobody reads any more, so that they are filled anew. Those of its drawing stay
+    /// Takes the lists of an answer that nobody reads any more, so that they are filled anew. Those of its drawing stay
     /// here, those of its plane and its shape go back in the box of its layout.
-    pub fn take_back(&mut self, alloc: Global, entry: Entry) {
-        let Entry {
-            file: _,
-            ordinal: _,
-            rec: _,
-            choice: _,
-            answer,
-        } = entry;
+    pub fn take_back(&mut self, alloc: Global, answer: Answer) {
         if let Answer::Laid {
             plane,
             shape,

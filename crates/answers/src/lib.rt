@@ -3,19 +3,25 @@
 //! what it gives that it is the record's.
 #![tactic(auto)]
 
+mod carried;
 mod drawing;
 mod drawing_kind;
 mod embedded;
 mod fault;
 mod framed;
 mod held;
+mod item;
 mod laying;
 mod layout;
+mod purpose;
 mod scratch;
 mod shaped;
 mod spent;
 mod stages;
+mod state;
+mod task;
 
+pub use carried::Carried;
 pub use drawing::DrawScratch;
 pub use drawing_kind::DrawingKind;
 pub use embedded::Embedded;
@@ -23,8 +29,12 @@ pub use entries::{Answer, Cause, Entry};
 pub use fault::LayoutFault;
 pub use framed::Framed;
 pub use held::{Held, Shell};
+pub use item::Item;
 pub use laying::LayScratch;
 pub use layout::{Layout, SpentLayout};
+pub use purpose::{Keeping, Purpose};
 pub use scratch::{EmbedScratch, StageScratch};
 pub use shaped::Shaped;
 pub use stages::answer;
+pub use state::{LaidOut, State, Traced};
+pub use task::Task;

@@ -1,7 +1,9 @@
 //! What a run's lanes do.
 ghost use Rattle.std.specs.Prelude.{⊤};
 
-use answers::{DrawScratch, DrawingKind, EmbedScratch, Embedded, Framed, LayScratch, Shaped};
+use answers::{
+    DrawScratch, DrawingKind, EmbedScratch, Embedded, Framed, Keeping, LayScratch, Shaped, Task,
+};
 use choices::Choice;
 use entries::Entry;
 use lane_runs::{LaneKind, LaneScratch};
@@ -30,11 +32,15 @@ impl LaneKind for Answering {
 
     fn framed(file: u32, ordinal: u32, rec: Record, choice: Choice) -> Framed {
         Framed {
-            file,
-            ordinal,
+            task: Task {
+                file,
+                ordinal,
+                choice,
+                drawing: DrawingKind::Quick,
+            },
+            purpose: Keeping,
             rec,
-            choice,
-            drawing: DrawingKind::Quick,
+            state: (),
         }
     }
 

@@ -1,2 +1,3 @@
 pub mod Adding
+pub mod Answered
 pub mod LineData

@@ -7,4 +7,4 @@ mod objects;
 mod put;
 mod text;
 
-pub use lines::{LaidGraph, end_line, entry_line, lacking_line, laid_line};
+pub use lines::{LaidGraph, answer_line, end_line, entry_line, lacking_line, laid_line};

@@ -6,6 +6,7 @@ ghost use Rattle.ortho_rep.specs.Prices.{HasPrices};
 ghost use Rattle.entries.specs.declared.answer.Answer.TheVariants.{NoMemory, Refused};
 ghost use Rattle.json_lines.specs.LineData.{answer_data, end_data, laid_data, line_of};
 ghost use Rattle.json_lines.specs.Adding.{tokens_of};
+ghost use Rattle.json_lines.specs.Answered.{IsAnswer};
 
 use crate::objects::{put_drawing, put_end, put_place, put_prices, put_shape, put_sizes};
 use crate::put;
@@ -40,7 +41,24 @@ pub fn entry_line(
 ) -> Result<Vec<u8>, AllocError>
     ensures { IfOk result (λ line. line.items ≡ line_of (answer_data file graph entry.now.answer)) }
 {
-    match &entry.answer {
+    answer_line(alloc, file, graph, &entry.answer)
+}
+
+/// The same of an answer to some record.
+///
+/// # Errors
+///
+/// `AllocError` where there is no memory for the line.
+pub fn answer_line(
+    alloc: Global,
+    file: u32,
+    graph: u64,
+    answer: &Answer,
+) -> Result<Vec<u8>, AllocError>
+    requires { IsAnswer answer.now }
+    ensures { IfOk result (λ line. line.items ≡ line_of (answer_data file graph answer.now)) }
+{
+    match answer {
         Answer::Laid {
             plane,
             shape,

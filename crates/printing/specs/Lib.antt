@@ -1,3 +1,4 @@
+pub mod Answered
 pub mod FormLines
 pub mod Spelt
 pub mod Texts

@@ -1,12 +1,14 @@
 //! Lanes whose last stage prints lines.
 ghost use Rattle.std.specs.Prelude.{◌≡◌, ◌≤◌};
 ghost use Rattle.lanes.specs.Opening.{IsPlacedAt, IsEndAt};
+ghost use Rattle.printing.specs.Spelt.{IsSpelt};
 
 use crate::printed::Printed;
 use crate::told::{KnownEnd, Told, known_end};
 use crate::worded::Worded;
 use answers::{
     DrawScratch, DrawingKind, EmbedScratch, Embedded, Framed, LayScratch, Shaped, StageScratch,
+    Task,
 };
 use choices::Choice;
 use lane_runs::{LaneKind, LaneScratch};
@@ -43,11 +45,11 @@ pub struct ReportLines<J: Told, D: Draws> {
 }
 
 impl<J: Told + Send + Sync, D: Draws + Sync> LaneKind for ReportLines<J, D> {
-    type Framed = Worded<J, Framed>;
+    type Framed = Framed<Worded<J>>;
 
-    type Embedded = Worded<J, Embedded>;
+    type Embedded = Embedded<Worded<J>>;
 
-    type Shaped = Worded<J, Shaped>;
+    type Shaped = Shaped<Worded<J>>;
 
     type Entry = Printed<J>;
 
@@ -57,13 +59,19 @@ impl<J: Told + Send + Sync, D: Draws + Sync> LaneKind for ReportLines<J, D> {
 
     ghost ends = { λ file count mark. IsEndAt (J.meaning file) count mark };
 
-    fn framed(file: u32, ordinal: u32, rec: Record, choice: Choice) -> Worded<J, Framed>
+    fn framed(file: u32, ordinal: u32, rec: Record, choice: Choice) -> Framed<Worded<J>>
         requires { IsPlacedAt (J.meaning file) ordinal rec }
-        ensures about { ⟦<Framed as Numbered>⟧.about result.item
+        ensures about { ⟦<Framed<Worded<J>> as Numbered>⟧.about result
             ≡ record { file = file; ordinal = ordinal; bytes = rec; choice = choice } }
-        ensures form { result.form ≡ Form.Report }
+        ensures form { result.purpose.form ≡ Form.Report }
     {
-        worded(file, ordinal, rec, choice, Form::Report, D::DRAWING)
+        spelt(&rec);
+        Framed {
+            task: task::<D>(file, ordinal, choice),
+            purpose: Worded::new(Form::Report),
+            rec,
+            state: (),
+        }
     }
 
     fn end(file: u32, end: SourceEnd) -> KnownEnd<J> {
@@ -82,11 +90,11 @@ pub struct JsonLines<J: Told, D: Draws> {
 }
 
 impl<J: Told + Send + Sync, D: Draws + Sync> LaneKind for JsonLines<J, D> {
-    type Framed = Worded<J, Framed>;
+    type Framed = Framed<Worded<J>>;
 
-    type Embedded = Worded<J, Embedded>;
+    type Embedded = Embedded<Worded<J>>;
 
-    type Shaped = Worded<J, Shaped>;
+    type Shaped = Shaped<Worded<J>>;
 
     type Entry = Printed<J>;
 
@@ -96,13 +104,19 @@ impl<J: Told + Send + Sync, D: Draws + Sync> LaneKind for JsonLines<J, D> {
 
     ghost ends = { λ file count mark. IsEndAt (J.meaning file) count mark };
 
-    fn framed(file: u32, ordinal: u32, rec: Record, choice: Choice) -> Worded<J, Framed>
+    fn framed(file: u32, ordinal: u32, rec: Record, choice: Choice) -> Framed<Worded<J>>
         requires { IsPlacedAt (J.meaning file) ordinal rec }
-        ensures about { ⟦<Framed as Numbered>⟧.about result.item
+        ensures about { ⟦<Framed<Worded<J>> as Numbered>⟧.about result
             ≡ record { file = file; ordinal = ordinal; bytes = rec; choice = choice } }
-        ensures form { result.form ≡ Form.Json }
+        ensures form { result.purpose.form ≡ Form.Json }
     {
-        worded(file, ordinal, rec, choice, Form::Json, D::DRAWING)
+        spelt(&rec);
+        Framed {
+            task: task::<D>(file, ordinal, choice),
+            purpose: Worded::new(Form::Json),
+            rec,
+            state: (),
+        }
     }
 
     fn end(file: u32, end: SourceEnd) -> KnownEnd<J> {
@@ -123,30 +137,24 @@ fn line_scratch(alloc: Global, capacity: u32) -> Result<LineScratch, AllocError>
     Ok(LaneScratch { embed, shape, draw })
 }
 
-/// The record that has this place in this file, with this choice of the outer face, this form and this drawing.
-fn worded<J: Told>(
-    file: u32,
-    ordinal: u32,
-    rec: Record,
-    choice: Choice,
-    form: Form,
-    drawing: DrawingKind,
-) -> Worded<J, Framed>
-    requires { IsPlacedAt (J.meaning file) ordinal rec }
-    ensures about { ⟦<Framed as Numbered>⟧.about result.item
-        ≡ record { file = file; ordinal = ordinal; bytes = rec; choice = choice } }
-    ensures form { result.form ≡ form }
-    ensures drawing { result.item.drawing ≡ drawing }
+/// The task of the record at this place of this file, with this choice of the outer face.
+fn task<D: Draws>(file: u32, ordinal: u32, choice: Choice) -> Task
+    ensures file { result.file ≡ file }
+    ensures ordinal { result.ordinal ≡ ordinal }
+    ensures choice { result.choice ≡ choice }
 {
-    Worded {
-        item: Framed {
-            file,
-            ordinal,
-            rec,
-            choice,
-            drawing,
-        },
-        form,
-        told: PhantomData,
+    Task {
+        file,
+        ordinal,
+        choice,
+        drawing: D::DRAWING,
     }
+}
+
+/// The lists of a record spell it. This does nothing.
+fn spelt(rec: &Record)
+    ensures { IsSpelt rec.now }
+{
+    rec.bytes();
+    rec.order();
 }

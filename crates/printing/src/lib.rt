@@ -14,7 +14,7 @@ mod worded;
 pub use lane_kinds::{Draws, JsonLines, Quick, ReportLines, Short};
 pub use line::Line;
 pub use lines::{end_text, entry_text, head_text, lacking_text};
-pub use printed::{Printed, print};
+pub use printed::Printed;
 pub use style::Style;
 pub use told::{KnownEnd, Told};
 pub use worded::Worded;

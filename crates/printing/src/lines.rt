@@ -2,6 +2,7 @@
 ghost use Rattle.std.specs.Prelude.{◌≡◌, ◌+◌, ◌^◌, ◌≤◌, IfOk, OnErr};
 ghost use Rattle.entries.specs.declared.answer.Answer.{Answer};
 ghost use Rattle.entries.specs.declared.entry.Entry.{Entry};
+ghost use Rattle.json_lines.specs.Answered.{IsAnswer};
 ghost use Rattle.printing.specs.FormLines.{line_in, head_in, end_in};
 
 use crate::line::Line;
@@ -20,18 +21,27 @@ use streams::{Mark, mark_word};
 pub fn entry_text(alloc: Global, form: Form, entry: &Entry) -> Result<Vec<u8>, AllocError>
     ensures { IfOk result (λ text. text.items ≡ line_in form entry.now) }
 {
-    entry_line(alloc, form, entry)?.into_list()
+    answer_line(alloc, form, entry.file, entry.ordinal, &entry.answer)?.into_list()
 }
 
-/// The same as a line on its way. That of a report takes no memory where it is short.
-pub(crate) fn entry_line(alloc: Global, form: Form, entry: &Entry) -> Result<Line, AllocError>
-    ensures { IfOk result (λ line. line ≡ line_in form entry.now) }
+/// The same of the answer to the record at this place of this file, as a line on its way. That of a report takes no
+/// memory where it is short.
+pub(crate) fn answer_line(
+    alloc: Global,
+    form: Form,
+    file: u32,
+    ordinal: u32,
+    answer: &Answer,
+) -> Result<Line, AllocError>
+    requires { IsAnswer answer.now }
+    ensures { IfOk result (λ line. (entry : Entry) → entry.file ≡ file → entry.ordinal ≡ ordinal
+        → entry.answer ≡ answer.now → line ≡ line_in form entry) }
 {
-    let graph = u64::from(entry.ordinal) + 1;
+    let graph = u64::from(ordinal) + 1;
     match form {
-        Form::Report => report::graph_line(alloc, graph, &entry.answer),
+        Form::Report => report::graph_line(alloc, graph, answer),
         Form::Json => {
-            let text = reports::entry_line(alloc, number_of(entry.file)?, graph, entry)?;
+            let text = reports::answer_line(alloc, number_of(file)?, graph, answer)?;
             Ok(Line::of(alloc, text))
         }
     }

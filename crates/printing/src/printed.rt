@@ -1,17 +1,20 @@
 //! Records whose line is printed.
 ghost use Rattle.std.specs.Prelude.{◌≡◌};
 ghost use Rattle.std.proofs.Props.{props};
-ghost use Rattle.entries.specs.Abouts.{about_of};
+ghost use Rattle.entries.specs.Answers.{Answers};
+ghost use Rattle.entries.specs.declared.entry.Entry.{Entry};
 ghost use Rattle.lanes.specs.Opening.{IsPlacedAt};
+ghost use Rattle.json_lines.specs.Answered.{IsAnswer};
+ghost use Rattle.printing.specs.Answered.{entry_of};
 ghost use Rattle.printing.specs.FormLines.{IsLineOf};
 ghost use Rattle.printing.specs.Spelt.{IsSpelt};
 
 use crate::line::Line;
-use crate::lines::entry_line;
+use crate::lines::answer_line;
 use crate::told::Told;
-use answers::DrawScratch;
+use answers::Task;
 use choices::Choice;
-use entries::{Answer, Entry};
+use entries::Answer;
 use lanes::Numbered;
 use planar_code::Record;
 use reports::Form;
@@ -33,19 +36,19 @@ pub struct Printed<J: Told> {
     pub form: Form,
     /// The line, or none where memory was wanting for an answer or for its line.
     pub line: Option<Line>,
-    /// The entry whose line it is. Only proofs see it.
-    pub entry: Snapshot<Entry>,
+    /// The record. Only proofs see it.
+    pub rec: Snapshot<Record>,
+    /// What is answered to it. Only proofs see it.
+    pub answer: Snapshot<Answer>,
     pub told: PhantomData<J>,
-    pub ghost file_is: { entry.value.file ≡ file },
-    pub ghost ordinal_is: { entry.value.ordinal ≡ ordinal },
-    pub ghost choice_is: { entry.value.choice ≡ choice } by { Prim.hlevel props },
-    pub ghost rec_is: { IsSpelt entry.value.rec } by { Prim.hlevel props },
-    pub ghost line_is: { IsLineOf form entry.value line } by { Prim.hlevel props },
-    pub ghost placed: { ∥ IsPlacedAt (J.meaning file) ordinal entry.value.rec ∥₁ } by { Prim.hlevel props },
+    pub ghost answers: { ∥ Answers choice rec.value answer.value ∥₁ },
+    pub ghost rec_is: { IsSpelt rec.value } by { Prim.hlevel props },
+    pub ghost line_is: { IsLineOf form (entry_of file ordinal rec.value choice answer.value answers) line } by { Prim.hlevel props },
+    pub ghost placed: { ∥ IsPlacedAt (J.meaning file) ordinal rec.value ∥₁ } by { Prim.hlevel props },
 }
 
 impl<J: Told + Send + Sync> Numbered for Printed<J> {
-    ghost about = { λ p. about_of p.entry.value };
+    ghost about = { λ p. record { file = p.file; ordinal = p.ordinal; bytes = p.rec.value; choice = p.choice } };
 
     fn file(&self) -> u32 {
         self.file
@@ -56,48 +59,22 @@ impl<J: Told + Send + Sync> Numbered for Printed<J> {
     }
 }
 
-/// The record of an entry with its line in this form. There is none where the entry has no answer for want
-/// of memory, or where `entry_line` fails. The scratch takes the lists of the entry back.
-pub fn print<J: Told>(
-    alloc: Global,
-    scratch: &mut DrawScratch,
-    form: Form,
-    entry: Entry,
-) -> Printed<J>
-    requires { ∥ IsPlacedAt (J.meaning entry.file) entry.ordinal entry.rec ∥₁ }
-    ensures form { result.form ≡ form }
-    ensures same { result.entry.value ≡ entry }
+/// The line in this form of the task's record, which has this answer. There is none where there is no answer for want
+/// of memory, or no memory for the line.
+pub(crate) fn answered_line(alloc: Global, form: Form, task: Task, answer: &Answer) -> Option<Line>
+    requires { IsAnswer answer.now }
+    ensures { (entry : Entry) → entry.file ≡ task.file → entry.ordinal ≡ task.ordinal → entry.answer ≡ answer.now
+        → IsLineOf form entry result }
 {
-    spelt(&entry.rec);
-    let line = answered_line(alloc, form, &entry);
-    let printed = Printed {
-        file: entry.file,
-        ordinal: entry.ordinal,
-        choice: entry.choice,
-        form,
-        line,
-        entry: Snapshot::of(&entry),
-        told: PhantomData,
-    };
-    scratch.take_back(alloc, entry);
-    printed
-}
-
-/// The lists of a record spell it. This does nothing.
-fn spelt(rec: &Record)
-    ensures { IsSpelt rec.now }
-{
-    rec.bytes();
-    rec.order();
-}
-
-/// The line of an entry that has an answer, where there is memory for it.
-fn answered_line(alloc: Global, form: Form, entry: &Entry) -> Option<Line>
-    ensures { IsLineOf form entry.now result }
-{
-    match &entry.answer {
+    match answer {
         Answer::NoMemory => None,
-        Answer::Laid { .. } | Answer::Refused(_) => match entry_line(alloc, form, entry) {
+        Answer::Laid { .. } | Answer::Refused(_) => match answer_line(
+            alloc,
+            form,
+            task.file,
+            task.ordinal,
+            answer,
+        ) {
             Ok(line) => Some(line),
             Err(AllocError) => None,
         },

@@ -1,138 +1,75 @@
-//! Records on their way to their lines.
+//! Lanes that print the lines of what is answered.
 ghost use Rattle.std.specs.Prelude.{◌≡◌};
-ghost use Rattle.std.proofs.Props.{props};
-ghost use Rattle.entries.specs.Abouts.{about_of};
 ghost use Rattle.lanes.specs.Opening.{IsPlacedAt};
+ghost use Rattle.entries.specs.Answers.{Answers};
+ghost use Rattle.answers.specs.Tasks.{about_in};
+ghost use Rattle.printing.specs.Spelt.{IsSpelt};
 
-use crate::printed::{Printed, print};
+use crate::printed::{Printed, answered_line};
 use crate::told::Told;
-use answers::{Embedded, Framed, Shaped};
-use lanes::{Numbered, Stage, Staged};
+use answers::{DrawScratch, Purpose, Task};
+use entries::Answer;
+use lanes::Numbered;
+use planar_code::Record;
 use reports::Form;
 use std::alloc::Global;
 use std::marker::PhantomData;
-use std::sync::Wait;
+use std::snapshot::Snapshot;
 
-/// What is known of a record, and the form in which its line is wanted. Its type keeps that the record has its place
-/// in what its file means.
+/// The form in which lines are wanted. Records are known to have their places in what their files mean, and nothing is
+/// carried of them once their graphs are read.
 #[derive(Drop)]
-pub struct Worded<J: Told, A: Numbered> {
-    pub item: A,
+pub struct Worded<J: Told> {
     pub form: Form,
     pub told: PhantomData<J>,
-    pub ghost placed: { ∥ IsPlacedAt (J.meaning (A.about item).file) (A.about item).ordinal (A.about item).bytes ∥₁ } by { Prim.hlevel props },
 }
 
-impl<J: Told + Send + Sync> Numbered for Worded<J, Framed> {
-    ghost about = { λ w. ⟦<Framed as Numbered>⟧.about w.item };
-
-    fn file(&self) -> u32 {
-        self.item.file()
-    }
-
-    fn ordinal(&self) -> u32 {
-        self.item.ordinal()
-    }
-}
-
-impl<J: Told + Send + Sync> Staged for Worded<J, Framed> {
-    type Next = Worded<J, Embedded>;
-
-    type Scratch = <Framed as Staged>::Scratch;
-
-    const STAGE: Stage = Stage::Embed;
-
-    fn scratch(alloc: Global) -> <Framed as Staged>::Scratch {
-        <Framed as Staged>::scratch(alloc)
-    }
-
-    fn exchange<R: Wait>(rt: &R, scratch: &mut <Framed as Staged>::Scratch) {
-        <Framed as Staged>::exchange(rt, scratch);
-    }
-
-    fn next(self, alloc: Global, scratch: &mut <Framed as Staged>::Scratch) -> Worded<J, Embedded>
-        ensures about { ⟦<Embedded as Numbered>⟧.about result.item ≡ ⟦<Framed as Numbered>⟧.about self.item }
-        ensures form { result.form ≡ self.form }
+impl<J: Told> Worded<J> {
+    /// Lines in this form.
+    pub(crate) fn new(form: Form) -> Worded<J>
+        ensures { result.form ≡ form }
     {
         Worded {
-            item: self.item.next(alloc, scratch),
-            form: self.form,
+            form,
             told: PhantomData,
         }
     }
 }
 
-impl<J: Told + Send + Sync> Numbered for Worded<J, Embedded> {
-    ghost about = { λ w. ⟦<Embedded as Numbered>⟧.about w.item };
+impl<J: Told + Send + Sync> Purpose for Worded<J> {
+    type Carried = Snapshot<Record>;
 
-    fn file(&self) -> u32 {
-        self.item.file()
-    }
+    type Entry = Printed<J>;
 
-    fn ordinal(&self) -> u32 {
-        self.item.ordinal()
-    }
-}
+    ghost knows = { λ about. IsPlacedAt (J.meaning about.file) about.ordinal about.bytes × IsSpelt about.bytes };
 
-impl<J: Told + Send + Sync> Staged for Worded<J, Embedded> {
-    type Next = Worded<J, Shaped>;
-
-    type Scratch = <Embedded as Staged>::Scratch;
-
-    const STAGE: Stage = Stage::Shape;
-
-    fn scratch(alloc: Global) -> <Embedded as Staged>::Scratch {
-        <Embedded as Staged>::scratch(alloc)
-    }
-
-    fn exchange<R: Wait>(rt: &R, scratch: &mut <Embedded as Staged>::Scratch) {
-        <Embedded as Staged>::exchange(rt, scratch);
-    }
-
-    fn next(self, alloc: Global, scratch: &mut <Embedded as Staged>::Scratch) -> Worded<J, Shaped>
-        ensures about { ⟦<Shaped as Numbered>⟧.about result.item ≡ ⟦<Embedded as Numbered>⟧.about self.item }
+    // The lists of the answer go back once its line is printed.
+    fn finish(
+        self,
+        alloc: Global,
+        scratch: &mut DrawScratch,
+        task: Task,
+        rec: Snapshot<Record>,
+        answer: Answer,
+    ) -> Printed<J>
+        requires known { ∥ IsPlacedAt (J.meaning task.file) task.ordinal rec.value × IsSpelt rec.value ∥₁ }
+        requires answers { ∥ Answers task.choice rec.value answer ∥₁ }
+        ensures about { ⟦<Printed<J> as Numbered>⟧.about result ≡ about_in task rec.value }
+        ensures answer { result.answer.value ≡ answer }
         ensures form { result.form ≡ self.form }
     {
-        Worded {
-            item: self.item.next(alloc, scratch),
+        let line = answered_line(alloc, self.form, task, &answer);
+        let printed = Printed {
+            file: task.file,
+            ordinal: task.ordinal,
+            choice: task.choice,
             form: self.form,
+            line,
+            rec,
+            answer: Snapshot::of(&answer),
             told: PhantomData,
-        }
-    }
-}
-
-impl<J: Told + Send + Sync> Numbered for Worded<J, Shaped> {
-    ghost about = { λ w. ⟦<Shaped as Numbered>⟧.about w.item };
-
-    fn file(&self) -> u32 {
-        self.item.file()
-    }
-
-    fn ordinal(&self) -> u32 {
-        self.item.ordinal()
-    }
-}
-
-impl<J: Told + Send + Sync> Staged for Worded<J, Shaped> {
-    type Next = Printed<J>;
-
-    type Scratch = <Shaped as Staged>::Scratch;
-
-    const STAGE: Stage = Stage::Draw;
-
-    fn scratch(alloc: Global) -> <Shaped as Staged>::Scratch {
-        <Shaped as Staged>::scratch(alloc)
-    }
-
-    fn exchange<R: Wait>(rt: &R, scratch: &mut <Shaped as Staged>::Scratch) {
-        <Shaped as Staged>::exchange(rt, scratch);
-    }
-
-    fn next(self, alloc: Global, scratch: &mut <Shaped as Staged>::Scratch) -> Printed<J>
-        ensures about { about_of result.entry.value ≡ ⟦<Shaped as Numbered>⟧.about self.item }
-        ensures form { result.form ≡ self.form }
-    {
-        let entry = self.item.next(alloc, scratch);
-        print(alloc, scratch, self.form, entry)
+        };
+        scratch.take_back(alloc, answer);
+        printed
     }
 }

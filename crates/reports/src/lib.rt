@@ -8,6 +8,6 @@ mod statuses;
 
 pub use form::Form;
 pub use json::{push_line, write_json};
-pub use json_lines::{end_line, entry_line, lacking_line};
+pub use json_lines::{answer_line, end_line, entry_line, lacking_line};
 pub use report::{push_cause, write_report};
 pub use statuses::{status_of, status_of_batch};

@@ -43,7 +43,7 @@ fn end_of<T: Drop>(answer: Result<T, GatherFault<AllocError>>) -> Ended {
 fn work_of_embedding(alloc: Global) -> StageWork<Framed> {
     StageWork {
         lane: 0,
-        scratch: Framed::scratch(alloc),
+        scratch: <Framed as Staged>::scratch(alloc),
     }
 }
 
@@ -89,7 +89,7 @@ fn lose_the_stage_before<R: AllocGlobal + Wait + Abort>(
     requires { given_at giver.old ≡ [] }
 {
     let taker = left_alone::<Message<Shaped, ()>>(rt.alloc()).expect(rt, "memory");
-    let scratch = Shaped::scratch(rt.alloc());
+    let scratch = <Shaped as Staged>::scratch(rt.alloc());
     let end = run_last_stage(rt, rt.alloc(), &OpenGate, scratch, taker, giver);
     assert!(rt; end.is_none());
     assert!(rt; giver.give(rt, Message::Stop).is_ok());

@@ -1,7 +1,7 @@
 //! Known graphs and refused records, answered as a whole and stage by stage.
 
 use crate::reported::{TRIANGLE, record_of, same};
-use answers::{Answer, Cause, DrawingKind, Entry, Framed, answer};
+use answers::{Answer, Cause, DrawingKind, Entry, Framed, Keeping, Task, answer};
 use choices::Choice;
 use embedding::Rule;
 use lanes::{Numbered, Staged};
@@ -105,11 +105,15 @@ fn pass<S: Staged>(alloc: Global, staged: S) -> S::Next {
 /// The entry of a record with this drawing, stage by stage.
 pub(crate) fn staged(alloc: Global, rec: Record, choice: Choice, drawing: DrawingKind) -> Entry {
     let framed = Framed {
-        file: 7,
-        ordinal: 2,
+        task: Task {
+            file: 7,
+            ordinal: 2,
+            choice,
+            drawing,
+        },
+        purpose: Keeping,
         rec,
-        choice,
-        drawing,
+        state: (),
     };
     pass(alloc, pass(alloc, pass(alloc, framed)))
 }

@@ -6,7 +6,6 @@ ghost use Rattle.lanes.specs.Notes.{Note, Item, End};
 ghost use Rattle.lanes.specs.Opening.{Meaning};
 ghost use Rattle.entries.specs.declared.entry.Entry.{Entry};
 ghost use Rattle.entries.specs.declared.answer.Answer.{Answer};
-ghost use Rattle.entries.specs.Abouts.{about_of};
 ghost use Rattle.printing.specs.FormLines.{line_in};
 ghost use Rattle.texts.specs.declared.waiting.Waiting.{Waiting};
 ghost use Rattle.texts.specs.Came.{Came, HasEntryMore};
@@ -108,9 +107,9 @@ impl Lines {
     ) -> Result<(), Refusal>
         requires { S.failed sink.old ≡ false }
         ensures held { OnOk result ((start : Option (List ℕ)) (ns : List Note) → LinesHold J.meaning start (S.taken sink.old) self.old ns
-            → LinesHold J.meaning start (S.taken sink.new) self.new (ns ++ Item (about_of printed.entry.value) ∷ [])) }
+            → LinesHold J.meaning start (S.taken sink.new) self.new (ns ++ Item (record { file = printed.file; ordinal = printed.ordinal; bytes = printed.rec.value; choice = printed.choice }) ∷ [])) }
         ensures broken { OnErr result ((start : Option (List ℕ)) (ns : List Note) → LinesHold J.meaning start (S.taken sink.old) self.old ns
-            → LinesLeaveOffAt J.meaning start (S.taken sink.new) self.new ns (Item (about_of printed.entry.value))) }
+            → LinesLeaveOffAt J.meaning start (S.taken sink.new) self.new ns (Item (record { file = printed.file; ordinal = printed.ordinal; bytes = printed.rec.value; choice = printed.choice }))) }
         ensures stands { OnOk result (S.failed sink.new ≡ false) }
         ensures gave_up { IfErr result (λ refusal. GivesUp (S.failed sink.new) refusal) }
         ensures same { AreLinesOf self.old self.new }
@@ -121,7 +120,8 @@ impl Lines {
             choice,
             form,
             line,
-            entry: _,
+            rec: _,
+            answer: _,
             told: _,
         } = printed;
         if form != self.form || choice != self.choice || !self.is_next(file, ordinal) {

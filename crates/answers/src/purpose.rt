@@ -1,0 +1,67 @@
+//! What lanes are for.
+ghost use Rattle.std.specs.Prelude.{◌≡◌, ⊤};
+ghost use Rattle.lanes.specs.Notes.{About};
+ghost use Rattle.entries.specs.Answers.{Answers};
+ghost use Rattle.answers.specs.Tasks.{about_in};
+
+use crate::carried::Carried;
+use crate::drawing::DrawScratch;
+use crate::task::Task;
+use entries::{Answer, Entry};
+use lanes::Numbered;
+use planar_code::Record;
+use std::alloc::Global;
+
+/// What a lane answers records for: what it carries of each, and what it gives for each.
+pub trait Purpose: Drop + Send {
+    /// What is carried of a record once its graph is read.
+    type Carried: Carried;
+
+    /// What the lane gives for an answered record.
+    type Entry: Numbered;
+
+    /// What is known of each record from the start.
+    ghost knows: { About → Type 0 };
+
+    /// What the lane gives for a record with this answer. The scratch may take back lists that it does not keep.
+    fn finish(
+        self,
+        alloc: Global,
+        scratch: &mut DrawScratch,
+        task: Task,
+        rec: Self::Carried,
+        answer: Answer,
+    ) -> Self::Entry
+        requires known { ∥ knows (about_in task (Self.Carried.bytes rec)) ∥₁ }
+        requires answers { ∥ Answers task.choice (Self.Carried.bytes rec) answer ∥₁ }
+        ensures { Self.Entry.about result ≡ about_in task (Self.Carried.bytes rec) };
+}
+
+/// Lanes whose entries are kept, with their records.
+#[derive(Clone, Copy, Debug)]
+pub struct Keeping;
+
+impl Purpose for Keeping {
+    type Carried = Record;
+
+    type Entry = Entry;
+
+    ghost knows = { λ _. ⊤ };
+
+    fn finish(
+        self,
+        _alloc: Global,
+        _scratch: &mut DrawScratch,
+        task: Task,
+        rec: Record,
+        answer: Answer,
+    ) -> Entry {
+        Entry {
+            file: task.file,
+            ordinal: task.ordinal,
+            rec,
+            choice: task.choice,
+            answer,
+        }
+    }
+}

@@ -1,0 +1,17 @@
+//! What is to be done with one record of a run.
+
+use crate::drawing_kind::DrawingKind;
+use choices::Choice;
+
+/// Which record of a run it is, and how it is answered.
+#[derive(Clone, Copy, Debug)]
+pub struct Task {
+    /// The file, from 0.
+    pub file: u32,
+    /// The record's place in its file, from 0.
+    pub ordinal: u32,
+    /// How the outer face of its plane is chosen.
+    pub choice: Choice,
+    /// Which drawing is made of it.
+    pub drawing: DrawingKind,
+}
