@@ -15,7 +15,7 @@ pub(crate) const TRIES: u32 = 13;
 const SPINS: u32 = 8;
 
 /// How many pauses of the processor follow each of the first tries. Each takes 10 to 40 ns.
-const PAUSES: u32 = 16;
+const PAUSES: u32 = 2;
 
 /// How long the first nap takes, in microseconds. Each takes twice as long as the one before, so the five
 /// take 30 to 480.
