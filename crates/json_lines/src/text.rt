@@ -25,18 +25,27 @@ pub(crate) fn comma(out: &mut Vec<u8>, later: bool) -> Result<(), AllocError>
 }
 
 /// Puts a number that is not below 0, behind a comma where something stands before.
+#[inline]
 pub(crate) fn natural(out: &mut Vec<u8>, later: bool, number: u64) -> Result<(), AllocError>
     ensures { OnOk result (out.new.items ≡ out.old.items ++ (comma_if later ++ decimal number)) }
 {
     if number < 10 {
         return digit(out, later, number as u8);
     }
+    digits(out, later, number)
+}
+
+/// The same of a number of any length.
+fn digits(out: &mut Vec<u8>, later: bool, number: u64) -> Result<(), AllocError>
+    ensures { OnOk result (out.new.items ≡ out.old.items ++ (comma_if later ++ decimal number)) }
+{
     comma(out, later)?;
     let mut buffer = Buffer::new();
     out.extend_from_slice(buffer.format(number).as_bytes())
 }
 
 /// The same of a number of one digit.
+#[inline]
 #[tactic(auto, using(std::proofs::lemmas::Fmt::decimal_digit))]
 fn digit(out: &mut Vec<u8>, later: bool, number: u8) -> Result<(), AllocError>
     requires { number < 10 }
@@ -57,9 +66,28 @@ pub(crate) fn whole(out: &mut Vec<u8>, later: bool, number: i32) -> Result<(), A
     if number >= 0 {
         return natural(out, later, number as u64);
     }
+    minus(out, later, number.unsigned_abs())
+}
+
+/// Puts a number of this size that is below 0, behind a comma where something stands before.
+fn minus(out: &mut Vec<u8>, later: bool, size: u32) -> Result<(), AllocError>
+    ensures { OnOk result (out.new.items ≡ out.old.items ++ (comma_if later ++ 45 ∷ decimal size)) }
+{
+    if later && size < 10 {
+        return minus_digit(out, size as u8);
+    }
     comma(out, later)?;
-    let mut buffer = Buffer::new();
-    out.extend_from_slice(buffer.format(i64::from(number)).as_bytes())
+    bytes(out, b"-")?;
+    natural(out, false, u64::from(size))
+}
+
+/// The same of a number of one digit, behind a comma.
+#[tactic(auto, using(std::proofs::lemmas::Fmt::decimal_digit))]
+fn minus_digit(out: &mut Vec<u8>, size: u8) -> Result<(), AllocError>
+    requires { size < 10 }
+    ensures { OnOk result (out.new.items ≡ out.old.items ++ 44 ∷ 45 ∷ decimal size) }
+{
+    out.extend_from_slice(&[b',', b'-', b'0' + size])
 }
 
 /// Puts a point, behind a comma where something stands before.
