@@ -1,16 +1,15 @@
--- Shapes of darts, read from a flow one after another.
+-- Shapes of darts, put into a list one after another.
 use Rattle.std.proofs.Common.{◌≡◌, ◌≤◌, ◌<◌, ℕ, zero, suc, ◌+◌, List, [], ◌∷◌, ◌++◌, length, get_or, map, ap, ◌∙◌, arith}
 use Rattle.std.specs.Prelude.{All}
 use Rattle.std.proofs.Math.ListN.{get_or-append}
 use Rattle.std.proofs.lemmas.List.{map-append, length-map, get_or_push, length-append}
 use Rattle.std.proofs.lemmas.List.Elements.{All-append}
 use borrow.Author.Count.{below_more}
-use Rattle.faces.specs.Planes.{PlaneModel}
+use Rattle.ortho_rep.specs.declared.turn.Turn.{Turn}
 use Rattle.ortho_rep.specs.declared.turn.Turn.TheVariants.{Left}
 use Rattle.ortho_rep.specs.declared.turn.TheConstants.{MAX_RUN}
 use Rattle.ortho_rep.specs.declared.runs.DartShape.{DartShape}
-use Rattle.ortho_rep.specs.OfFlow.{angles_of, strings_of, AreOfFlow}
-use Rattle.ortho_rep.specs.Runs.{turns_in}
+use Rattle.ortho_rep.specs.Runs.{turns_in, HaveShapes}
 
 -- what stands for a dart past the end of a list
 abbrev pub straight : DartShape
@@ -28,12 +27,12 @@ mapped-more f items one n none values count old new =
     (ap (λ l. get_or l n none) more ∙ (get_or_push (map f items) (f one) none n size ∙ new))
 
 -- one dart more
-pub of_flow-more : (p : PlaneModel) (x : ℕ → ℕ) (n : ℕ) (found : List DartShape) (one : DartShape) → AreOfFlow p x n found →
-    one.angle ≡ angles_of x n → turns_in one ≡ strings_of p x n → AreOfFlow p x (n + 1) (found ++ one ∷ [])
-of_flow-more p x n found one is angle turns = record {
+pub shapes-more : (a : ℕ → ℕ) (s : ℕ → List Turn) (n : ℕ) (found : List DartShape) (one : DartShape) → HaveShapes a s n found →
+    one.angle ≡ a n → turns_in one ≡ s n → HaveShapes a s (n + 1) (found ++ one ∷ [])
+shapes-more a s n found one is angle turns = record {
   count = omega (arith, length-append found (one ∷ []), is.count);
-  angle = mapped-more (λ dart. dart.angle) found one n 0 (angles_of x) is.count is.angle angle;
-  turns = mapped-more turns_in found one n [] (strings_of p x) is.count is.turns turns;
+  angle = mapped-more (λ dart. dart.angle) found one n 0 a is.count is.angle angle;
+  turns = mapped-more turns_in found one n [] s is.count is.turns turns;
 }
 
 -- with few turns each, as a loop finds them

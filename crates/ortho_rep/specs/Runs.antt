@@ -1,10 +1,10 @@
 -- Darts that turn to one side only: what is kept of each, and what shape they have.
-use Rattle.std.specs.Prelude.{◌≤◌, List, map, length, replicate, All}
+use Rattle.std.specs.Prelude.{◌≡◌, ℕ, ◌<◌, ◌≤◌, List, map, length, replicate, All}
 use Rattle.embedding.specs.declared.graphs.TheConstants.{MAX_DARTS}
 use Rattle.ortho_rep.specs.declared.turn.Turn.{Turn}
 use Rattle.ortho_rep.specs.declared.turn.TheConstants.{MAX_RUN}
 use Rattle.ortho_rep.specs.declared.runs.DartShape.{DartShape}
-use Rattle.ortho_rep.specs.Shapes.{ShapeModel}
+use Rattle.ortho_rep.specs.Shapes.{ShapeModel, angle_at, turns_at}
 
 -- the turns of a dart
 abbrev pub turns_in : DartShape → List Turn
@@ -18,3 +18,9 @@ shape_in darts = record { angles = map (λ dart. dart.angle) darts; strings = ma
 pub record AreRuns (darts : List DartShape) : Type 0 where
   pub few : length darts ≤ MAX_DARTS
   pub short : All (λ dart. dart.count ≤ MAX_RUN) darts
+
+-- so many darts have the angles a and the strings s
+pub record HaveShapes (a : ℕ → ℕ) (s : ℕ → List Turn) (n : ℕ) (found : List DartShape) : Type 0 where
+  pub count : length found ≡ n
+  pub angle : (d : ℕ) → d < n → angle_at (shape_in found) d ≡ a d
+  pub turns : (d : ℕ) → d < n → turns_at (shape_in found) d ≡ s d

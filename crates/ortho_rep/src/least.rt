@@ -6,8 +6,8 @@ ghost use Rattle.faces.specs.Planes.{darts, vertices};
 ghost use Rattle.networks.specs.Flow.{Flow, Solves, amounts, at_nodes};
 ghost use Rattle.flow_network.specs.FaceNet.{IsNetOf};
 ghost use Rattle.ortho_rep.specs.declared.turn.TheConstants.{MAX_RUN};
-ghost use Rattle.ortho_rep.specs.OfFlow.{angles_of, strings_of, AreOfFlow};
-ghost use Rattle.ortho_rep.specs.Runs.{turns_in, AreRuns};
+ghost use Rattle.ortho_rep.specs.OfFlow.{angles_of, strings_of};
+ghost use Rattle.ortho_rep.specs.Runs.{turns_in, AreRuns, HaveShapes};
 ghost use Rattle.ortho_rep.specs.Representation.{IsShape, IsLeast};
 ghost use Rattle.ortho_rep.specs.Prices.{IsProof};
 
@@ -122,7 +122,8 @@ fn darts_in(
     requires net { IsNetOf plane.now net.now }
     requires solves { Solves net.now.network solved.now }
     ensures runs { IfOk result (λ found. AreRuns found.items) }
-    ensures flow { IfOk result (λ found. AreOfFlow plane.now (amounts solved.now.flow) (darts plane.now) found.items) }
+    ensures flow { IfOk result (λ found. HaveShapes (angles_of (amounts solved.now.flow))
+        (strings_of plane.now (amounts solved.now.flow)) (darts plane.now) found.items) }
 {
     let darts = plane.graph().darts();
     let mut found = emptied(lent, usize::from(darts))?;

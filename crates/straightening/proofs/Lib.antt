@@ -1,1 +1,2 @@
 mod Fitting
+mod OneWay

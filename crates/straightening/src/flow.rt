@@ -2,8 +2,8 @@
 
 ghost use Rattle.std.specs.Prelude.{◌≡◌, ◌<◌, ◌≤◌, ℕ, pos, ◌+ℤ◌, ◌-ℤ◌, vec_len, slice_index, IfOk, IsTrue};
 ghost use Rattle.faces.specs.Planes.{darts, head, reverse_dart, face_at};
-ghost use Rattle.ortho_rep.specs.declared.strings.TheConstants.{MAX_TURNS};
-ghost use Rattle.ortho_rep.specs.OfFlow.{lefts_then_rights};
+ghost use Rattle.ortho_rep.specs.declared.turn.TheConstants.{MAX_RUN};
+ghost use Rattle.ortho_rep.specs.Runs.{turns_in};
 ghost use Rattle.ortho_rep.specs.Turns.{lefts};
 ghost use Rattle.ortho_rep.specs.Shapes.{angle_at, turns_at};
 ghost use Rattle.ortho_rep.specs.Representation.{Rep, HasDarts, IsShape, IsLeast};
@@ -12,7 +12,7 @@ ghost use Rattle.straightening.specs.Flows.{AreFit, angle_in, string_in};
 
 use embedding::MAX_DARTS;
 use faces::Plane;
-use ortho_rep::{Prices, Shape, Turn, count_lefts};
+use ortho_rep::{DartShape, Prices, Shape, Turn, count_lefts};
 use std::alloc::{AllocError, Global};
 
 /// The angle of each dart, and how often it turns to the left: a corner carries its angle less one, and a unit across
@@ -84,29 +84,53 @@ impl Flow {
         }
     }
 
-    /// The shape that this is, with the left turns of each dart before the right ones.
+    /// The shape that this is, in one list.
     ///
     /// # Errors
     ///
     /// `AllocError` where there is no memory for it.
     pub(crate) fn shape(&self, alloc: Global, plane: &Plane) -> Result<Shape, AllocError>
-        ensures shape { IfOk result (λ made. Rep plane.now (angle_in self.now.angles) (string_in plane.now self.now.lefts)
-            → IsShape plane.now made) }
+        requires rep { Rep plane.now (angle_in self.now.angles) (string_in plane.now self.now.lefts) }
+        requires fit { (t : PricesModel) × AreFit plane.now self.now.angles self.now.lefts t }
+        ensures shape { IfOk result (λ made. IsShape plane.now made) }
         ensures proof { IfOk result (λ made. (t : PricesModel) → HasPrices plane.now t
             → AreFit plane.now self.now.angles self.now.lefts t → IsProof plane.now made t) }
-        ensures least { IfOk result (λ made. (t : PricesModel) → IsShape plane.now made
-            → IsProof plane.now made t → IsLeast plane.now made) }
+        ensures least { IfOk result (λ made. (t : PricesModel) → IsProof plane.now made t → IsLeast plane.now made) }
     {
-        let graph = plane.graph();
-        let darts = graph.darts();
-        let angles = copy_of(alloc, &self.angles[..usize::from(darts)])?;
-        let mut strings = Vec::with_capacity(alloc, usize::from(darts))?;
+        let darts = plane.graph().darts();
+        let mut found = Vec::with_capacity(alloc, usize::from(darts))?;
         for dart in 0..darts {
-            let lefts = self.left_turns(dart);
-            let rights = self.left_turns(graph.reverse(dart));
-            strings.push(string(alloc, lefts, rights)?)?;
+            found.push(self.dart_shape(plane, dart))?;
         }
-        Ok(Shape::new(angles, strings))
+        Ok(Shape::of_darts(found))
+    }
+
+    /// The angle and the turns of a dart. No dart turns to both sides where the prices are a proof.
+    fn dart_shape(&self, plane: &Plane, dart: u16) -> DartShape
+        requires within { dart < darts plane.now }
+        requires rep { Rep plane.now (angle_in self.now.angles) (string_in plane.now self.now.lefts) }
+        requires fit { (t : PricesModel) × AreFit plane.now self.now.angles self.now.lefts t }
+        ensures angle { result.angle ≡ angle_in self.now.angles dart }
+        ensures turns { turns_in result ≡ string_in plane.now self.now.lefts dart }
+        ensures short { result.count ≤ MAX_RUN }
+    {
+        let reverse = plane.graph().reverse(dart);
+        let angle = self.angle(dart);
+        let lefts = self.left_turns(dart);
+        let rights = self.left_turns(reverse);
+        if lefts > 0 {
+            DartShape {
+                angle,
+                turn: Turn::Left,
+                count: lefts,
+            }
+        } else {
+            DartShape {
+                angle,
+                turn: Turn::Right,
+                count: rights,
+            }
+        }
     }
 }
 
@@ -153,33 +177,9 @@ fn slack(face: i32, across: i32) -> i64
     1 + i64::from(face) - i64::from(across)
 }
 
-/// A copy of these angles.
-fn copy_of(alloc: Global, angles: &[u8]) -> Result<Vec<u8>, AllocError>
-    ensures { IfOk result (λ copy. copy.items ≡ angles.now) }
-{
-    angles.to_vec(alloc)
-}
-
 /// How many of these turns are left turns, or 65,535 where there are more.
 fn left_turns(turns: &[Turn]) -> u16
     ensures { result ≤ lefts turns.now }
 {
     count_lefts(turns).min(usize::from(u16::MAX)) as u16
-}
-
-/// So many left turns and then so many right turns.
-fn string(alloc: Global, lefts: u16, rights: u16) -> Result<Vec<Turn>, AllocError>
-    ensures short { IfOk result (λ turns. vec_len turns ≤ MAX_TURNS) }
-    ensures value { IfOk result (λ turns. turns.items ≡ lefts_then_rights lefts rights) }
-{
-    let mut turns = Vec::new(alloc);
-    let lefts = usize::from(lefts);
-    let count = lefts + usize::from(rights);
-    // Most edges have no bend.
-    if count > 0 {
-        turns.reserve(count)?;
-        turns.resize(lefts, Turn::Left)?;
-        turns.resize(count, Turn::Right)?;
-    }
-    Ok(turns)
 }

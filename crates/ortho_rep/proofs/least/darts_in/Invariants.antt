@@ -3,10 +3,11 @@ use Rattle.std.specs.Prelude.{All}
 use Rattle.networks.specs.Flow.{amounts}
 use Rattle.ortho_rep.specs.declared.turn.TheConstants.{MAX_RUN}
 use Rattle.ortho_rep.specs.declared.runs.DartShape.{DartShape}
-use Rattle.ortho_rep.specs.OfFlow.{AreOfFlow}
+use Rattle.ortho_rep.specs.OfFlow.{angles_of, strings_of}
+use Rattle.ortho_rep.specs.Runs.{HaveShapes}
 use Rattle.ortho_rep.proofs.least.darts_in.Given as goal
 
 abbrev pub invariant-loop-dart : goal.invariant-loop-dart
 invariant-loop-dart l =
-    AreOfFlow l.plane (amounts l.solved.flow) l.dart l.found.items
+    HaveShapes (angles_of (amounts l.solved.flow)) (strings_of l.plane (amounts l.solved.flow)) l.dart l.found.items
     × All (λ (dart : DartShape). dart.count ≤ MAX_RUN) l.found.items
