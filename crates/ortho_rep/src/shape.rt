@@ -124,6 +124,7 @@ impl Shape {
     }
 
     /// The turns of a dart, at most 1,000,000, in walking order.
+    #[inline]
     pub fn turns(&self, dart: u16) -> &[Turn]
         requires { dart < length self.now.strings }
         ensures value { result.now ≡ turns_at self.now dart }
