@@ -1,6 +1,6 @@
 //! A flow that stands while supplies move.
 ghost use Rattle.std.specs.Prelude.{◌≡◌, ◌<◌, ◌≤◌, ◌≤ℤ◌, pos, negsuc, true, IfSome};
-ghost use Rattle.networks.specs.Networks.{node_count};
+ghost use Rattle.networks.specs.Networks.{node_count, supply_at};
 
 use crate::compared::same;
 use crate::flows::{FREE_WAY, cost_of, network};
@@ -12,6 +12,14 @@ fn is_within(more: i32, less: i32) -> bool
     ensures less { result ≡ true → negsuc 1999 ≤ℤ less }
 {
     more <= 2000 && less >= -2000
+}
+
+/// What a node supplies.
+fn supply(network: &Network, node: u32) -> i32
+    requires { node < node_count network.now }
+    ensures { result ≡ supply_at network.now node }
+{
+    network.supplies()[node as usize]
 }
 
 /// Lets one node supply more and another less in a standing flow and in a network that is the same, unless
@@ -31,8 +39,8 @@ fn moved(
 {
     // Only the proof needs this: `node_count` says that the network is one.
     let _nodes = twin.node_count();
-    let more = twin.supplies()[from as usize];
-    let less = twin.supplies()[to as usize];
+    let more = supply(twin, from);
+    let less = supply(twin, to);
     if !is_within(more, less) {
         return Some(standing);
     }
