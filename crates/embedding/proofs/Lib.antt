@@ -17,3 +17,7 @@ pub mod Reached
 pub mod Building
 pub mod Parts
 pub mod Lesser
+pub mod Tracing
+pub mod Unique
+pub mod Degrees
+pub mod Faced

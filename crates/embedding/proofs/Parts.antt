@@ -4,7 +4,9 @@ use Rattle.std.specs.List.{slice_range}
 use Rattle.std.proofs.lemmas.List.{length-append, take_at, drop_at, drop-drop, ext_get_or, get_or_append_left, get_or_read, get_or-drop}
 use Rattle.std.proofs.lemmas.List.FromFn.{get_or-map-range_with_len, length-map-range_with_len}
 use Rattle.embedding.specs.Lists.{list_of}
-use Rattle.embedding.specs.Darts.{heads, dart_count, first_dart}
+use Rattle.embedding.specs.Darts.{heads, dart_count, first_dart, next_of}
+use Rattle.embedding.specs.Walk.{IsFaced, next_in}
+use Rattle.embedding.proofs.Faced.{linked, next_is, same_faces, same_degree}
 use Rattle.embedding.specs.Rules.{KeepsBefore}
 use Rattle.embedding.specs.Tables.{cut_at, IsTable, AreLinks, IsKept}
 use Rattle.embedding.proofs.EachList.{list_of-add}
@@ -54,16 +56,16 @@ part_between g ends k from to same below is-from is-to =
     }
 
 -- a start, read behind the links
-start_read : (g : List (List ℕ)) {ends table : List ℕ} → IsKept g ends table → (k j x : ℕ) → k ≤ length g → j ≡ 2 * length ends + k → x ≡ get_or table j x → x ≡ first_dart g k
-start_read g {ends} {table} kept k j x within at read =
+start_read : (g : List (List ℕ)) {ends table : List ℕ} {count : ℕ} → IsKept g ends count table → (k j x : ℕ) → k ≤ length g → j ≡ 3 * length ends + count + k → x ≡ get_or table j x → x ≡ first_dart g k
+start_read g {ends} {table} {count} kept k j x within at read =
     let inside : j < length table = omega (arith, kept.size, ap length kept.heads_are) in
     get_or_read table j x inside read 0
     ∙ ap (λ (i : ℕ). get_or table i 0) at
-    ∙ sym (get_or-drop (2 * length ends) table k 0)
+    ∙ sym (get_or-drop (3 * length ends + count) table k 0)
     ∙ kept.starts_are.each k (omega arith)
 
 -- the list of a vertex, between what is read from the table of starts
-pub vertex_part : (g : List (List ℕ)) {ends table : List ℕ} → IsKept g ends table → (v i j from to : ℕ) → j ≡ 2 * length ends + i → i + 1 ≡ v → v ≤ length g → from ≡ get_or table j from → to ≡ get_or table (j + 1) to → IsPart ends (list_of g v) from to
+pub vertex_part : (g : List (List ℕ)) {ends table : List ℕ} {count : ℕ} → IsKept g ends count table → (v i j from to : ℕ) → j ≡ 3 * length ends + count + i → i + 1 ≡ v → v ≤ length g → from ≡ get_or table j from → to ≡ get_or table (j + 1) to → IsPart ends (list_of g v) from to
 vertex_part g {ends} kept v i j from to place at within read-from read-to =
     let here : list_of g v ≡ get_or g i [] = ap (list_of g) (sym at) ∙ list_of-add g i in
     rw here (part_between g ends i from to kept.heads_are (omega arith) (start_read g kept i j from (omega arith) place read-from) (start_read g kept (i + 1) (j + 1) to (omega arith) (omega arith) read-to))
@@ -80,23 +82,29 @@ cut_whole g starts ends table same =
     get_or-map-range_with_len part 0 n k k [] inside (omega arith)
     ∙ (part_between g ends k (get_or starts k 0) (get_or starts (k + 1) 0) same (omega (arith, count)) (table.each k (omega (arith, count))) (table.each (k + 1) (omega (arith, count)))).part)
 
--- the table in which links stand before the starts
-pub kept_whole : (g : List (List ℕ)) (ends links starts table : List ℕ) → KeepsBefore g 8 → length g < 256 → ends ≡ heads g
-    → AreLinks g (dart_count g) links → IsTable (length g + 1) (first_dart g) starts → table ≡ links ++ starts
-    → (cut_at (drop (2 * length ends) table) ends ≡ g) × IsKept g ends table
-kept_whole g ends links starts table rules order same l s is =
-    let size : length links ≡ 2 * length ends = omega (arith, l.size, ap length same) in
-    let behind : drop (2 * length ends) table ≡ starts = ap (drop (2 * length ends)) is ∙ drop_at links starts (2 * length ends) size in
-    let read : (i : ℕ) → i < length links → get_or table i 0 ≡ get_or links i 0 =
-    λ i below. ap (λ (t : List ℕ). get_or t i 0) is ∙ get_or_append_left links starts 0 i below in (
+-- the table in which links, faces and degrees stand before the starts
+pub kept_whole : (g : List (List ℕ)) (ends links front starts table : List ℕ) (count : ℕ) → KeepsBefore g 8 → length g < 256 → ends ≡ heads g
+    → AreLinks g (dart_count g) links → IsFaced (dart_count g) links count front → IsTable (length g + 1) (first_dart g) starts → table ≡ front ++ starts
+    → (cut_at (drop (3 * length ends + count) table) ends ≡ g) × IsKept g ends count table
+kept_whole g ends links front starts table count rules order same l f s is =
+    let n = dart_count g in
+    let size : length front ≡ 3 * length ends + count = omega (arith, f.size, ap length same) in
+    let behind : drop (3 * length ends + count) table ≡ starts =
+    ap (drop (3 * length ends + count)) is ∙ drop_at front starts (3 * length ends + count) size in
+    let read : (i : ℕ) → i < 3 * n + count → get_or table i 0 ≡ get_or front i 0 =
+    λ i below. ap (λ (t : List ℕ). get_or t i 0) is ∙ get_or_append_left front starts 0 i (omega (arith, f.size, below)) in
+    let face_is : (d : ℕ) → d < n → get_or table (2 * n + d) 0 ≡ get_or front (2 * n + d) 0 = λ d b. read (2 * n + d) (omega (arith, b)) in
+    let walk = linked g rules links l in (
       ap (λ (t : List ℕ). cut_at t ends) behind ∙ cut_whole g starts ends s same,
       record {
         rules = rules;
         order = order;
         heads_are = same;
-        size = omega (arith, ap length is, length-append links starts, l.size, s.size);
+        size = omega (arith, ap length is, length-append front starts, f.size, s.size);
         starts_are = subst (IsTable (length g + 1) (first_dart g)) (sym behind) s;
-        reverses_are = λ d below. read (2 * d) (omega (arith, l.size)) ∙ l.reverses d below;
-        afters_are = λ d below. read (2 * d + 1) (omega (arith, l.size)) ∙ l.afters d below;
+        reverses_are = λ d below. read (2 * d) (omega (arith, below)) ∙ f.links_are (2 * d) (omega (arith, below)) ∙ l.reverses d below;
+        afters_are = λ d below. read (2 * d + 1) (omega (arith, below)) ∙ f.links_are (2 * d + 1) (omega (arith, below)) ∙ l.afters d below;
+        faces_are = same_faces n (next_in links) (next_of g) (λ d. get_or front (2 * n + d) 0) (λ d. get_or table (2 * n + d) 0) count walk.walked.inside (λ d b. sym (next_is g rules links l d b)) face_is f.faces_are;
+        degrees_are = λ k b. read (3 * n + k) (omega (arith, b)) ∙ f.degrees_are k b ∙ sym (same_degree n (λ d. get_or front (2 * n + d) 0) (λ d. get_or table (2 * n + d) 0) k face_is);
       },
     )

@@ -1,6 +1,7 @@
 pub mod Lists
 pub mod Darts
 pub mod Faces
+pub mod Walk
 pub mod Rules
 pub mod Words
 pub mod Tables

@@ -1,7 +1,8 @@
 -- What a graph keeps: where its lists start, the darts' ends and where they lead.
 use Rattle.std.specs.Prelude.{◌≡◌, ℕ, ◌+◌, ◌-◌, ◌*◌, ◌<◌, List, length, map, drop, slice_index, slice_range}
 use Rattle.std.specs.List.{range_with_len}
-use Rattle.embedding.specs.Darts.{heads, dart_count, first_dart, reverse_of, after_of}
+use Rattle.embedding.specs.Darts.{heads, dart_count, first_dart, reverse_of, after_of, next_of}
+use Rattle.embedding.specs.Faces.{HasFaces, degree_in}
 use Rattle.embedding.specs.Rules.{KeepsBefore}
 
 -- the parts into which the starts cut a list: part k goes from start k up to start k + 1
@@ -20,12 +21,15 @@ pub record AreLinks (g : List (List ℕ)) (n : ℕ) (links : List ℕ) : Type 0 
   pub reverses : (d : ℕ) → d < n → slice_index links (2 * d) ≡ reverse_of g d
   pub afters : (d : ℕ) → d < n → slice_index links (2 * d + 1) ≡ after_of g d
 
--- the lists g of a graph keep the first seven rules, and the tables are theirs: in one the links stand before the starts
-pub record IsKept (g : List (List ℕ)) (ends table : List ℕ) : Type 0 where
+-- the lists g of a graph keep the first seven rules, and the tables are theirs: in one stand the links, the faces of all
+-- darts, the degrees of so many faces and the starts
+pub record IsKept (g : List (List ℕ)) (ends : List ℕ) (count : ℕ) (table : List ℕ) : Type 0 where
   pub rules : KeepsBefore g 8
   pub order : length g < 256
   pub heads_are : ends ≡ heads g
-  pub size : length table ≡ 2 * dart_count g + (length g + 1)
-  pub starts_are : IsTable (length g + 1) (first_dart g) (drop (2 * length ends) table)
+  pub size : length table ≡ 3 * dart_count g + count + (length g + 1)
+  pub starts_are : IsTable (length g + 1) (first_dart g) (drop (3 * length ends + count) table)
   pub reverses_are : (d : ℕ) → d < dart_count g → slice_index table (2 * d) ≡ reverse_of g d
   pub afters_are : (d : ℕ) → d < dart_count g → slice_index table (2 * d + 1) ≡ after_of g d
+  pub faces_are : HasFaces (dart_count g) (next_of g) (λ d. slice_index table (2 * dart_count g + d)) count
+  pub degrees_are : (k : ℕ) → k < count → slice_index table (3 * dart_count g + k) ≡ degree_in (dart_count g) (λ d. slice_index table (2 * dart_count g + d)) k

@@ -1,9 +1,11 @@
 //! A graph that keeps rules 1 to 7, with its darts.
 
-ghost use Rattle.std.specs.Prelude.{◌≡◌, ℕ, ◌*◌, ◌<◌, ◌≤◌, length, IfOk, IfErr, OnOk};
+ghost use Rattle.std.specs.Prelude.{◌≡◌, ℕ, ◌*◌, ◌<◌, ◌≤◌, List, length, IfOk, IfErr, OnOk};
 ghost use Rattle.embedding.specs.declared.graphs.TheConstants.{MAX_DARTS, MAX_EDGES};
 ghost use Rattle.embedding.specs.Lists.{list_of};
 ghost use Rattle.embedding.specs.Darts.{dart_count, head_of, tail_of, reverse_of, after_of, next_of, IsInvolution, IsOneToOne};
+ghost use Rattle.embedding.specs.Faces.{HasFaces, degree_in};
+ghost use Rattle.embedding.specs.Walk.{at};
 ghost use Rattle.embedding.specs.Rules.{KeepsBefore};
 ghost use Rattle.embedding.specs.Faults.{IsReadFault};
 ghost use Rattle.planar_code.specs.Stream.{lists_of};
@@ -12,7 +14,7 @@ use crate::breaks::first_broken;
 use crate::faults::ReadFault;
 use crate::lists::Lists;
 use crate::scratch::Scratch;
-use crate::tables::{DartTables, darts_in};
+use crate::tables::darts_in;
 use planar_code::Record;
 use std::alloc::{AllocError, Global};
 use std::marker::Model;
@@ -33,21 +35,23 @@ pub const MAX_EDGES: usize = 510;
 #[derive(Debug, Drop)]
 pub struct Graph {
     heads: Vec<u8>,
-    /// Of each dart its reverse and the dart after it; behind all darts where the list of each vertex begins in
-    /// `heads`, and at the end the number of darts.
+    /// Of each dart its reverse and the dart after it; then the face of each dart, the degree of each face, and where
+    /// the list of each vertex begins in `heads`, at the end the number of darts.
     table: Vec<u16>,
+    faces: u16,
 }
 
 impl Model for Graph {
-    ghost use Rattle.std.specs.Prelude.{ℕ, List, ◌*◌, length, drop};
+    ghost use Rattle.std.specs.Prelude.{ℕ, List, ◌+◌, ◌*◌, length, drop};
     ghost use Rattle.embedding.specs.Tables.{cut_at, IsKept};
 
     ghost Value = { List (List ℕ) };
 
-    ghost view = { λ g. cut_at (drop (2 * length g.heads.items) g.table.items) g.heads.items };
+    ghost view = { λ g. cut_at (drop (3 * length g.heads.items + g.faces) g.table.items) g.heads.items };
 
     ghost invariant = { λ g.
-        IsKept (cut_at (drop (2 * length g.heads.items) g.table.items) g.heads.items) g.heads.items g.table.items };
+        IsKept (cut_at (drop (3 * length g.heads.items + g.faces) g.table.items) g.heads.items) g.heads.items g.faces
+        g.table.items };
 }
 
 impl Graph {
@@ -94,14 +98,13 @@ impl Graph {
         requires few { length lists.now < 256 }
         ensures { IfOk result (λ graph. graph ≡ lists.now) }
     {
-        let old = DartTables {
-            heads: mem::replace(&mut scratch.heads, Vec::new(alloc)),
-            table: mem::replace(&mut scratch.table, Vec::new(alloc)),
-        };
-        let tables = darts_in(old, lists)?;
+        let heads = mem::replace(&mut scratch.heads, Vec::new(alloc));
+        let table = mem::replace(&mut scratch.table, Vec::new(alloc));
+        let tables = darts_in(heads, table, lists)?;
         Ok(Graph {
             heads: tables.heads,
             table: tables.table,
+            faces: tables.faces,
         })
     }
 
@@ -117,7 +120,7 @@ impl Graph {
         ensures some { 0 < result }
         ensures rules { KeepsBefore self.now 8 }
     {
-        (self.table.len() - 2 * self.heads.len() - 1) as u8
+        (self.table.len() - 3 * self.heads.len() - usize::from(self.faces) - 1) as u8
     }
 
     /// How many edges there are, 1 to 510: half as many as darts.
@@ -152,7 +155,7 @@ impl Graph {
         ensures few { length result.now ≤ 4 }
     {
         let place = usize::from(vertex) - 1;
-        let start = 2 * self.heads.len() + place;
+        let start = 3 * self.heads.len() + usize::from(self.faces) + place;
         let from = usize::from(self.table[start]);
         let to = usize::from(self.table[start + 1]);
         &self.heads[from..to]
@@ -198,5 +201,34 @@ impl Graph {
         ensures tail { tail_of self.now result ≡ tail_of self.now dart }
     {
         self.table[2 * usize::from(dart) + 1]
+    }
+
+    /// The face on the left of a dart. Faces are walked by the darts' next ones, and are numbered from 0 in the order of
+    /// their least darts.
+    pub fn face_of(&self, dart: u16) -> u16
+        requires { dart < dart_count self.now }
+        ensures { (face : ℕ → ℕ) (f : ℕ) → HasFaces (dart_count self.now) (next_of self.now) face f
+            → result ≡ face dart }
+    {
+        self.table[2 * self.heads.len() + usize::from(dart)]
+    }
+
+    /// How many faces there are.
+    pub fn face_count(&self) -> u16
+        ensures value { (face : ℕ → ℕ) (f : ℕ) → HasFaces (dart_count self.now) (next_of self.now) face f
+            → result ≡ f }
+        ensures numbered { (faces : List ℕ) × (length faces ≡ dart_count self.now)
+            × HasFaces (dart_count self.now) (next_of self.now) (at faces) result }
+    {
+        self.faces
+    }
+
+    /// How many darts a face has.
+    pub fn degree_of(&self, face: u16) -> u16
+        requires { (other : ℕ → ℕ) (f : ℕ) → HasFaces (dart_count self.now) (next_of self.now) other f → face < f }
+        ensures { (other : ℕ → ℕ) (f : ℕ) → HasFaces (dart_count self.now) (next_of self.now) other f
+            → result ≡ degree_in (dart_count self.now) other face }
+    {
+        self.table[3 * self.heads.len() + usize::from(face)]
     }
 }

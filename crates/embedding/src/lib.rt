@@ -9,6 +9,7 @@ mod faults;
 mod graphs;
 mod lesser_darts;
 mod lists;
+mod numbering;
 mod pairs;
 mod reach;
 mod rows;

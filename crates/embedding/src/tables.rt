@@ -1,13 +1,14 @@
 //! What a graph keeps, made from lists that keep rules 1 to 7. Each list stands in the memory of an old one where
 //! that is enough.
 
-ghost use Rattle.std.specs.Prelude.{◌≡◌, ℕ, ◌+◌, ◌*◌, ◌<◌, ◌≤◌, ◌++◌, List, drop, length, vec_capacity, IfOk, Contains};
+ghost use Rattle.std.specs.Prelude.{◌≡◌, ℕ, ◌+◌, ◌*◌, ◌<◌, ◌≤◌, ◌++◌, List, drop, length, vec_capacity, IfOk, OnOk, Contains};
 ghost use Rattle.embedding.specs.Lists.{list_of};
 ghost use Rattle.embedding.specs.Darts.{dart_count, first_dart, head_of, tail_of, reverse_of, after_of};
 ghost use Rattle.embedding.specs.Rules.{KeepsBefore};
 ghost use Rattle.embedding.specs.Tables.{cut_at, IsTable, AreLinks, IsKept};
 
 use crate::lists::Lists;
+use crate::numbering::add_faces;
 use reuse::emptied;
 use std::alloc::AllocError;
 
@@ -58,41 +59,51 @@ fn add_darts(heads: &mut Vec<u8>, links: &mut Vec<u16>, lists: &Lists<'_>, place
 }
 
 /// Adds where each vertex's list begins among the heads of all darts, and at the end how many darts there are.
-fn add_starts(table: &mut Vec<u16>, lists: &Lists<'_>)
-    requires { length table.old.items + length lists.now + 1 ≤ vec_capacity table.old }
-    ensures { (starts : List ℕ) × IsTable (length lists.now + 1) (first_dart lists.now) starts
-        × (table.new.items ≡ table.old.items ++ starts) }
+fn add_starts(table: &mut Vec<u16>, lists: &Lists<'_>) -> Result<(), AllocError>
+    ensures { OnOk result ((starts : List ℕ) × IsTable (length lists.now + 1) (first_dart lists.now) starts
+        × (table.new.items ≡ table.old.items ++ starts)) }
 {
     for place in 0..lists.count() {
-        table.push_reserved(lists.first_dart(place));
+        table.push(lists.first_dart(place))?;
     }
-    table.push_reserved(lists.darts() as u16);
+    table.push(lists.darts() as u16)?;
+    Ok(())
 }
 
-/// What a graph keeps: the heads of all darts, and a table of their links and of where each list begins.
+/// What a graph keeps: the heads of all darts, a table, and how many faces there are. In the table stand the links of
+/// all darts, their faces, the degrees of the faces, and where each list begins.
 #[derive(Drop)]
 pub(crate) struct DartTables {
     pub(crate) heads: Vec<u8>,
     pub(crate) table: Vec<u16>,
+    pub(crate) faces: u16,
 }
 
-/// The heads of all darts, and in the table their links: of each dart its reverse, and the dart after it, which is the
-/// next one, but of the last dart of a list its first one. Behind them stand the starts. Memory is asked for before the
-/// first dart.
-pub(crate) fn darts_in(old: DartTables, lists: &Lists<'_>) -> Result<DartTables, AllocError>
+/// What the graph of these lists keeps, in the memory of old lists where that is enough. In the links stand of each dart
+/// its reverse, and the dart after it, which is the next one, but of the last dart of a list its first one. The room is
+/// just what a plane needs.
+pub(crate) fn darts_in(
+    old_heads: Vec<u8>,
+    old_table: Vec<u16>,
+    lists: &Lists<'_>,
+) -> Result<DartTables, AllocError>
     requires rules { KeepsBefore lists.now 8 }
     requires few { length lists.now < 256 }
-    ensures kept { IfOk result (λ t. IsKept lists.now t.heads.items t.table.items) }
-    ensures lists { IfOk result (λ t. cut_at (drop (2 * length t.heads.items) t.table.items) t.heads.items ≡ lists.now) }
+    ensures kept { IfOk result (λ t. IsKept lists.now t.heads.items t.faces t.table.items) }
+    ensures lists { IfOk result (λ t.
+        cut_at (drop (3 * length t.heads.items + t.faces) t.table.items) t.heads.items ≡ lists.now) }
 {
-    let mut heads = emptied(old.heads, lists.darts())?;
-    let mut table = emptied(
-        old.table,
-        2 * lists.darts() + usize::from(lists.count()) + 1,
-    )?;
+    let darts = lists.darts();
+    let mut heads = emptied(old_heads, darts)?;
+    let mut table = emptied(old_table, 3 * darts + darts / 2 + 3)?;
     for place in 0..lists.count() {
         add_darts(&mut heads, &mut table, lists, place);
     }
-    add_starts(&mut table, lists);
-    Ok(DartTables { heads, table })
+    let faces = add_faces(&mut table, darts)?;
+    add_starts(&mut table, lists)?;
+    Ok(DartTables {
+        heads,
+        table,
+        faces,
+    })
 }

@@ -1,8 +1,8 @@
-pub mod Tracing
 pub mod Unique
 pub mod Degrees
 pub mod Sets
 pub mod Ends
 pub mod Joined
 pub mod Outer
-pub mod Tables
+pub mod Widest
+pub mod Kept

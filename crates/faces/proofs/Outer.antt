@@ -1,19 +1,14 @@
 -- What is known once the faces are numbered: they make a plane, and the first widest face is the outer one.
-use Rattle.std.proofs.Common.{◌≡◌, ℕ, ◌+◌, ◌*◌, ◌<◌, ◌≤◌, List, length, slice_index, take, replicate, refl, inl, inr, ◌∙◌, arith}
+use Rattle.std.proofs.Common.{◌≡◌, ℕ, ◌+◌, ◌*◌, ◌<◌, ◌≤◌, List, length, inl, inr, ◌∙◌, arith}
 use Rattle.std.proofs.lemmas.Bool.{cases_order}
-use Rattle.std.proofs.lemmas.List.Elements.{All-take, All-replicate}
 use Rattle.embedding.specs.declared.rules.Rule.TheVariants.{Range, Loop, Multi, Asymmetric, Edgeless, Degree, Disconnected, Genus}
 use Rattle.embedding.specs.Darts.{dart_count, next_of}
 use Rattle.embedding.specs.Faces.{HasFaces}
 use Rattle.embedding.specs.Rules.{Breaks, KeepsBefore}
 use Rattle.faces.specs.Faces.{IsOuter}
 use Rattle.faces.specs.Planes.{PlaneModel, IsPlane, vertices, darts, next, face_at}
-use Rattle.faces.specs.Tables.{IsFirstWidest}
+use Rattle.faces.specs.Widest.{IsFirstWidest}
 use Rattle.faces.proofs.Unique.{one_count}
-
--- a part of a list of one value has that value everywhere
-pub part_of_one : (m n d v : ℕ) → d < length (take n (replicate m v)) → slice_index (take n (replicate m v)) d ≡ v
-part_of_one m n d v lt = All-take (λ (x : ℕ). x ≡ v) n (replicate m v) (All-replicate (λ (x : ℕ). x ≡ v) m v refl) d 0 lt
 
 -- the last rule is kept where vertices and faces are the edges and two more
 keeps_genus : (g : List (List ℕ)) (face : ℕ → ℕ) (f : ℕ) → HasFaces (dart_count g) (next_of g) face f → 2 * (length g + f) ≡ dart_count g + 4 → Breaks g Genus → ⊥

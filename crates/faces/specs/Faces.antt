@@ -1,11 +1,7 @@
 -- Faces as sets of darts, how large a face is, and which one is the outer one.
-use Rattle.std.specs.Prelude.{◌≡◌, ℕ, ◌<◌, ◌≤◌, ◌==◌, Bool, true, if◌then◌else◌}
+use Rattle.std.specs.Prelude.{◌≡◌, ℕ, ◌<◌, ◌≤◌, Bool, true}
 use Prim.Native.Nat.{suc, zero}
-use Rattle.sums.specs.Sums.{sum_below}
-
--- how many of n darts have the face k: its degree
-abbrev pub degree_in : ℕ → (ℕ → ℕ) → ℕ → ℕ
-degree_in n face k = sum_below n (λ d. if face d == k then 1 else 0)
+pub use Rattle.embedding.specs.Faces.{degree_in, IsClosedUnder}
 
 -- the outer face o among f faces of n darts: it has the most darts, and among equals it holds the least dart
 pub record IsOuter (n : ℕ) (face : ℕ → ℕ) (f o : ℕ) : Type 0 where
@@ -19,10 +15,6 @@ pub record IsOuter (n : ℕ) (face : ℕ → ℕ) (f o : ℕ) : Type 0 where
 abbrev pub steps : (ℕ → ℕ) → ℕ → ℕ → ℕ
 steps next zero d = d
 steps next (suc k) d = next (steps next k d)
-
--- the set s of darts holds with each dart its next
-abbrev pub IsClosedUnder : ℕ → (ℕ → ℕ) → (ℕ → Bool) → Type 0
-IsClosedUnder n next s = (d : ℕ) → d < n → s d ≡ true → s (next d) ≡ true
 
 -- the set s is a face: it holds some dart and is closed under "next", and each such set within it is all of it
 pub record IsFace (n : ℕ) (next : ℕ → ℕ) (s : ℕ → Bool) : Type 0 where

@@ -1,5 +1,5 @@
 pub mod Planes
 pub mod Faces
-pub mod Walk
 pub mod Faults
-pub mod Tables
+pub mod Widest
+pub mod Numbering

@@ -88,9 +88,3 @@ pub record HasEnds (p : PlaneModel) : Type 0 where
   pub next_one : IsOneToOne (darts p) (next p)
   pub next_tail : (d : ℕ) → d < darts p → tail p (next p d) ≡ head p d
   pub face_named : (d : ℕ) → d < darts p → face_at p d < p.faces
-
--- what a plane keeps: it is one, and in a table the degrees of its faces stand behind the faces of its darts
-pub record IsKept (p : PlaneModel) (table : List ℕ) : Type 0 where
-  pub plane : IsPlane p
-  pub size : length table ≡ darts p + p.faces
-  pub degrees_are : (k : ℕ) → k < p.faces → slice_index table (darts p + k) ≡ degree p k

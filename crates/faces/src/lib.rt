@@ -6,7 +6,6 @@
 #![tactic(auto)]
 
 pub mod laws;
-mod numbering;
 mod plane;
 mod scratch;
 

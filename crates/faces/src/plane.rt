@@ -1,27 +1,21 @@
 //! Planes: connected graphs with their faces, one of which is the outer one.
 
-ghost use Rattle.std.specs.Prelude.{◌≡◌, ◌≢◌, ◌<◌, ◌≤◌, ℕ, IfOk, IfErr, Err, length, slice_index};
-ghost use Rattle.embedding.specs.declared.graphs.TheConstants.{MAX_DARTS};
-ghost use Rattle.embedding.specs.Darts.{dart_count};
+ghost use Rattle.std.specs.Prelude.{◌≡◌, ◌≢◌, ◌<◌, ◌≤◌, ℕ, IfOk, IfErr, Err};
+ghost use Rattle.embedding.specs.Darts.{dart_count, next_of};
+ghost use Rattle.embedding.specs.Faces.{HasFaces};
 ghost use Rattle.embedding.specs.Rules.{KeepsBefore};
 ghost use Rattle.faces.specs.declared.plane.TheConstants.{MAX_FACES};
-ghost use Rattle.faces.specs.Tables.{IsFaceTable, IsFirstWidest};
-ghost use Rattle.faces.specs.Walk.{at};
+ghost use Rattle.faces.specs.Numbering.{Numbering, Numbering-prop};
+ghost use Rattle.faces.specs.Widest.{IsFirstWidest};
 
-use crate::numbering::{UNSET, count_degrees, next_dart, number_faces, widest_face};
 use crate::scratch::Scratch;
-use embedding::{Graph, MAX_DARTS};
-use reuse::emptied;
-use std::alloc::{AllocError, Global};
+use embedding::Graph;
+use std::alloc::Global;
 use std::marker::Model;
-use std::mem;
 use thiserror::Error;
 
 /// How many faces a plane has at most: 510 edges less 255 vertices, and two more.
 pub const MAX_FACES: usize = 257;
-
-/// Graphs with no more darts are numbered in less room, since all of it is set before.
-const FEW_DARTS: usize = 128;
 
 /// A connected graph of maximum degree at most 4 that is drawn on the sphere without crossings: its
 /// faces, and which of them is the outer one. In contracts it is a `PlaneModel`.
@@ -31,23 +25,18 @@ const FEW_DARTS: usize = 128;
 #[derive(Debug, Drop)]
 pub struct Plane {
     graph: Graph,
-    /// The face of each dart, and behind them the degree of each face.
-    table: Vec<u16>,
-    faces: u16,
     outer: u16,
+    ghost numbering: { Numbering graph } by { Numbering-prop graph },
 }
 
 impl Model for Plane {
-    ghost use Rattle.std.specs.Prelude.{take};
-    ghost use Rattle.embedding.specs.Darts.{dart_count};
-    ghost use Rattle.faces.specs.Planes.{PlaneModel, IsKept, model_of};
+    ghost use Rattle.faces.specs.Planes.{PlaneModel, IsPlane, model_of};
 
     ghost Value = { PlaneModel };
 
-    ghost view = { λ p. model_of p.graph (take (dart_count p.graph) p.table.items) p.faces p.outer };
+    ghost view = { λ p. model_of p.graph p.numbering.0.0 p.numbering.0.1 p.outer };
 
-    ghost invariant = { λ p.
-        IsKept (model_of p.graph (take (dart_count p.graph) p.table.items) p.faces p.outer) p.table.items };
+    ghost invariant = { λ p. IsPlane (model_of p.graph p.numbering.0.0 p.numbering.0.1 p.outer) };
 }
 
 /// Why a graph gives no plane. It hands the graph back as it was.
@@ -56,56 +45,40 @@ pub enum TraceFault {
     /// Vertices less edges plus faces are not two.
     #[error("vertices less edges plus faces are not two")]
     Genus(Graph),
-    /// Memory ran out.
+    /// Memory ran out. Since a graph keeps its faces, no call tells it.
     #[error("out of memory")]
     Memory(Graph),
 }
 
-/// The face of each dart, behind them the degree of each face, and the first of the widest faces.
-#[derive(Drop)]
-struct FaceTable {
-    table: Vec<u16>,
-    widest: u16,
-}
-
-/// The table for these faces of all darts, of which there are `count`, in the memory that is lent where that is
-/// enough.
-fn face_table(
-    alloc: Global,
-    scratch: &mut Scratch,
-    faces: &[u16],
-    count: u16,
-) -> Result<FaceTable, AllocError>
-    requires few { length faces.now ≤ MAX_DARTS }
-    requires named { (d : ℕ) → d < length faces.now → slice_index faces.now d < count }
-    requires some { 0 < count }
-    requires few_faces { count ≤ MAX_FACES }
-    ensures table { IfOk result (λ t. IsFaceTable faces.now count t.table.items) }
-    ensures widest { IfOk result (λ t. IsFirstWidest (length faces.now) (at faces.now) count t.widest) }
+/// The face with the most darts, among equals the first.
+fn widest_face(graph: &Graph) -> u16
+    requires { KeepsBefore graph.now 8 }
+    ensures { (face : ℕ → ℕ) (f : ℕ) → HasFaces (dart_count graph.now) (next_of graph.now) face f
+        → IsFirstWidest (dart_count graph.now) face f result }
 {
-    let all = faces.len() + usize::from(count);
-    let old = mem::replace(&mut scratch.table, Vec::new(alloc));
-    let mut table = emptied(old, all)?;
-    table.extend_from_slice(faces)?;
-    table.resize(all, 0)?;
-    let degrees = &mut table[faces.len()..];
-    count_degrees(faces, degrees);
-    let widest = widest_face(degrees);
-    Ok(FaceTable { table, widest })
+    let mut best = 0;
+    let mut most = graph.degree_of(0);
+    for face in 1..graph.face_count() {
+        let degree = graph.degree_of(face);
+        if degree > most {
+            best = face;
+            most = degree;
+        }
+    }
+    best
 }
 
 impl Plane {
     ghost use Rattle.faces.specs.Planes.{PlaneModel, IsPlane, IsWidest, HasEnds, darts, next, face_at, degree, with_outer};
     ghost use Rattle.faces.specs.Faults.{IsTraceFault};
 
-    /// Walks the faces of a graph, and takes the one with the most darts as the outer face, among equals
-    /// the one that holds the least dart. Each dart is walked over once, and the faces are counted before
-    /// memory is asked for.
+    /// Takes the face of a graph with the most darts as the outer one, among equals the one that holds the
+    /// least dart. It looks once at each face and takes no memory, since a graph keeps its faces.
     ///
     /// # Errors
     ///
     /// The graph is handed back by `Genus` exactly where its vertices less its edges plus its faces are
-    /// not two, and by `Memory` where they are, but there is no memory for the faces.
+    /// not two. `Memory` never comes.
     pub fn trace(alloc: Global, graph: Graph) -> Result<Plane, TraceFault>
         ensures graph { IfOk result (λ p. p.lists ≡ graph) }
         ensures plane { IfOk result IsPlane }
@@ -117,13 +90,12 @@ impl Plane {
         Plane::trace_in(alloc, &mut scratch, graph)
     }
 
-    /// The same as [`Plane::trace`], in memory that is lent. The plane takes its lists with it; they can be given
-    /// back by [`Plane::give_back`].
+    /// The same as [`Plane::trace`]. Nothing is taken from the scratch; the plane's lists, which are its graph's, can
+    /// be given back by [`Plane::give_back`].
     ///
     /// # Errors
     ///
-    /// As [`Plane::trace`]. By `Genus` all lists stay in the scratch; by `Memory` lists that were lent may be gone,
-    /// and the scratch can be lent again.
+    /// As [`Plane::trace`].
     pub fn trace_in(alloc: Global, scratch: &mut Scratch, graph: Graph) -> Result<Plane, TraceFault>
         ensures graph { IfOk result (λ p. p.lists ≡ graph) }
         ensures plane { IfOk result IsPlane }
@@ -131,53 +103,16 @@ impl Plane {
         ensures err { IfErr result (IsTraceFault graph) }
         ensures memory { result ≡ Err (TraceFault.Memory graph) → KeepsBefore graph 9 }
     {
-        let darts = usize::from(graph.darts());
-        if darts > FEW_DARTS {
-            let mut marks = [UNSET; MAX_DARTS];
-            let faces = &mut marks[..darts];
-            return Plane::trace_on(alloc, scratch, graph, faces);
-        }
-        let mut marks = [UNSET; FEW_DARTS];
-        let faces = &mut marks[..darts];
-        Plane::trace_on(alloc, scratch, graph, faces)
-    }
-
-    /// The plane of a graph whose faces are numbered on these marks.
-    fn trace_on(
-        alloc: Global,
-        scratch: &mut Scratch,
-        graph: Graph,
-        faces: &mut [u16],
-    ) -> Result<Plane, TraceFault>
-        requires size { length faces.old ≡ dart_count graph }
-        requires few { length faces.old ≤ MAX_DARTS }
-        requires unset { (d : ℕ) → d < length faces.old → slice_index faces.old d ≡ UNSET }
-        ensures graph { IfOk result (λ p. p.lists ≡ graph) }
-        ensures plane { IfOk result IsPlane }
-        ensures outer { IfOk result IsWidest }
-        ensures err { IfErr result (IsTraceFault graph) }
-        ensures memory { result ≡ Err (TraceFault.Memory graph) → KeepsBefore graph 9 }
-    {
-        let count = number_faces(&graph, faces);
-        if u16::from(graph.vertices()) + count != graph.edges() + 2 {
+        if u16::from(graph.vertices()) + graph.face_count() != graph.edges() + 2 {
             return Err(TraceFault::Genus(graph));
         }
-        let Ok(found) = face_table(alloc, scratch, faces, count) else {
-            return Err(TraceFault::Memory(graph));
-        };
-        Ok(Plane {
-            graph,
-            table: found.table,
-            faces: count,
-            outer: found.widest,
-        })
+        let outer = widest_face(&graph);
+        Ok(Plane { graph, outer })
     }
 
-    /// Gives the lists of this plane back to be used again, and those of its graph to `scratch.graph`. It takes no
-    /// memory.
+    /// Gives the lists of this plane's graph to `scratch.graph`, to be used again. It takes no memory.
     pub fn give_back(self, scratch: &mut Scratch) {
         self.graph.give_back(&mut scratch.graph);
-        scratch.table = self.table;
     }
 
     /// The graph whose faces these are.
@@ -196,7 +131,7 @@ impl Plane {
         ensures inside { result < darts self.now }
         ensures stays { face_at self.now result ≡ face_at self.now dart }
     {
-        next_dart(&self.graph, dart)
+        self.graph.after(self.graph.reverse(dart))
     }
 
     /// The face on the left of a dart.
@@ -205,7 +140,7 @@ impl Plane {
         ensures value { result ≡ face_at self.now dart }
         ensures named { result < self.now.faces }
     {
-        self.table[usize::from(dart)]
+        self.graph.face_of(dart)
     }
 
     /// The least dart of a face. It looks at each dart up to it.
@@ -231,7 +166,7 @@ impl Plane {
         ensures plane { IsPlane self.now }
         ensures ends { HasEnds self.now }
     {
-        self.faces
+        self.graph.face_count()
     }
 
     /// How many darts a face has.
@@ -239,7 +174,7 @@ impl Plane {
         requires { face < self.now.faces }
         ensures value { result ≡ degree self.now face }
     {
-        self.table[usize::from(self.graph.darts() + face)]
+        self.graph.degree_of(face)
     }
 
     /// The outer face.

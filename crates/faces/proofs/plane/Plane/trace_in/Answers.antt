@@ -1,11 +1,28 @@
-use Rattle.embedding.specs.declared.graphs.TheConstants.{MAX_DARTS}
-use Rattle.faces.specs.declared.plane.TheConstants.{FEW_DARTS}
-use Rattle.faces.specs.declared.numbering.TheConstants.{UNSET}
-use Rattle.faces.proofs.Outer.{part_of_one}
+use Rattle.std.proofs.Common.{arith}
+use Rattle.embedding.proofs.Rotation.{darts_few}
+use Rattle.faces.proofs.Kept.{plane_by, widest_by, faces_few}
 use Rattle.faces.proofs.plane.Plane.trace_in.Goals as goal
 
-pub trace_on-requires-clause-unset : goal.trace_on-requires-clause-unset
-trace_on-requires-clause-unset c = λ d lt. part_of_one MAX_DARTS c.from-darts.result d UNSET lt
+pub overflow_add-from : goal.overflow_add-from
+overflow_add-from c =
+    let (faces, size, has) = c.face_count.ensures.numbered in
+    omega (arith, faces_few _ _ _ _ has, darts_few c.args.graph c.vertices.ensures.rules, c.vertices.ensures.count, c.from.ensures)
 
-pub trace_on-requires-2-clause-unset : goal.trace_on-requires-2-clause-unset
-trace_on-requires-2-clause-unset c = λ d lt. part_of_one FEW_DARTS c.from-darts.result d UNSET lt
+pub invariant_of-result : goal.invariant_of-result
+invariant_of-result c =
+    let (faces, size, has) = c.face_count.ensures.numbered in (((faces, c.face_count.result), ∣ (size, has) ∣₁), tt)
+
+pub invariant_of-result-2 : goal.invariant_of-result-2
+invariant_of-result-2 c =
+    let (faces, size, has) = c.face_count.ensures.numbered in
+    plane_by c.args.graph faces c.face_count.result _ c.vertices.ensures.rules (omega arith) size has (omega arith) (c.widest_face-outer.ensures _ _ has).named c.result-1.given.0
+
+pub returns-clause-plane : goal.returns-clause-plane
+returns-clause-plane c =
+    let (faces, size, has) = c.face_count.ensures.numbered in
+    plane_by c.args.graph faces c.face_count.result _ c.vertices.ensures.rules (omega arith) size has (omega arith) (c.widest_face-outer.ensures _ _ has).named c.result-1.given.0
+
+pub returns-clause-outer : goal.returns-clause-outer
+returns-clause-outer c =
+    let (faces, size, has) = c.face_count.ensures.numbered in
+    widest_by c.args.graph faces c.face_count.result _ size has (c.widest_face-outer.ensures _ _ has) c.result-1.given.0

@@ -1,0 +1,77 @@
+-- A table of links, faces and degrees, and what it says of a graph.
+use Rattle.std.proofs.Common.{◌≡◌, ℕ, ◌+◌, ◌*◌, ◌<◌, ◌≤◌, ◌==◌, cond, true, List, ◌++◌, length, get_or, replicate, take, drop, refl, sym, ap, ◌∙◌, subst, arith}
+use Rattle.std.proofs.lemmas.List.{length-append, get_or-append-add, get_or_append_left, get_or-take, get_or-drop, length-take, length-drop}
+use Rattle.std.proofs.lemmas.List.Elements.{All-take, All-replicate}
+use Rattle.sums.proofs.Sums.{sum_below-same}
+use Rattle.embedding.specs.Darts.{dart_count, next_of, reverse_of}
+use Rattle.embedding.specs.Rules.{KeepsBefore}
+use Rattle.embedding.specs.Faces.{HasFaces, degree_in}
+use Rattle.embedding.specs.Tables.{AreLinks}
+use Rattle.embedding.specs.Walk.{AreLinked, HasDegrees, IsFaced, at, next_in}
+use Rattle.embedding.proofs.Rotation.{reverse_is, next_one}
+
+-- a part of a list of one value has that value everywhere
+pub part_of_one : (m n d v : ℕ) → d < length (take n (replicate m v)) → get_or (take n (replicate m v)) d 0 ≡ v
+part_of_one m n d v lt = All-take (λ (x : ℕ). x ≡ v) n (replicate m v) (All-replicate (λ (x : ℕ). x ≡ v) m v refl) d 0 lt
+
+-- faces by other functions that say the same of all darts
+pub same_faces : (n : ℕ) (next other_next face other : ℕ → ℕ) (f : ℕ) → ((d : ℕ) → d < n → next d < n) → ((d : ℕ) → d < n → other_next d ≡ next d) → ((d : ℕ) → d < n → other d ≡ face d) → HasFaces n next face f → HasFaces n other_next other f
+same_faces n next other_next face other f inside steps is h =
+    record {
+      named = λ d b. subst (λ (x : ℕ). x < f) (sym (is d b)) (h.named d b);
+      used = λ k b. let (d, below, at) = h.used k b in (d, below, is d below ∙ at);
+      closed = λ d b. ap other (steps d b) ∙ is (next d) (inside d b) ∙ h.closed d b ∙ sym (is d b);
+      least = λ s shut d e bd be same here. h.least s (λ x bx hx. subst (λ (y : ℕ). s y ≡ true) (steps x bx) (shut x bx hx)) d e bd be (sym (is d bd) ∙ same ∙ is e be) here;
+      ordered = λ d k b less.
+          let (e, before, at) = h.ordered d k b (subst (λ (x : ℕ). k < x) (is d b) less) in (e, before, is e (omega (arith, before, b)) ∙ at);
+    }
+
+pub same_degree : (n : ℕ) (face other : ℕ → ℕ) (k : ℕ) → ((d : ℕ) → d < n → other d ≡ face d) → degree_in n other k ≡ degree_in n face k
+same_degree n face other k is = sum_below-same n (λ d. cond (other d == k) 1 0) (λ d. cond (face d == k) 1 0) (λ d b. ap (λ (x : ℕ). cond (x == k) 1 0) (is d b))
+
+-- faces and degrees stand behind the links
+pub faced : (links faces table : List ℕ) (n count : ℕ) → AreLinked n links → length faces ≡ n → HasDegrees (links ++ faces) (length faces) (at faces) count table → HasFaces n (next_in links) (at faces) count → IsFaced n links count table
+faced links faces table n count linked all behind numbered =
+    let front = links ++ faces in
+    let long = linked.size in
+    let size : length front ≡ 3 * n = length-append links faces ∙ omega (arith, long, all) in
+    let read : (i : ℕ) → i < 3 * n → get_or table i 0 ≡ get_or front i 0 =
+    λ i b. sym (get_or-take (length front) table i 0 (omega (arith, size, b))) ∙ ap (λ (t : List ℕ). get_or t i 0) behind.front_is in
+    let face_is : (d : ℕ) → d < n → get_or table (2 * n + d) 0 ≡ get_or faces d 0 =
+    λ d b. read (2 * n + d) (omega (arith, b)) ∙ ap (λ (m : ℕ). get_or front (m + d) 0) (sym long) ∙ get_or-append-add links faces d 0 in
+    record {
+      size = behind.size ∙ omega (arith, size);
+      links_are = λ i b. read i (omega (arith, b)) ∙ get_or_append_left links faces 0 i (omega (arith, long, b));
+      faces_are = same_faces n (next_in links) (next_in links) (at faces) (λ d. get_or table (2 * n + d) 0) count linked.walked.inside (λ d b. refl) face_is numbered;
+      degrees_are = λ k b.
+          ap (λ (m : ℕ). get_or table (m + k) 0) (sym size) ∙ behind.degrees_are k b ∙ ap (λ (m : ℕ). degree_in m (at faces) k) all
+          ∙ sym (same_degree n (at faces) (λ d. get_or table (2 * n + d) 0) k face_is);
+    }
+
+-- what the links lead to is what the graph's darts lead to
+pub next_is : (g : List (List ℕ)) → KeepsBefore g 8 → (links : List ℕ) → AreLinks g (dart_count g) links → (d : ℕ) → d < dart_count g → next_in links d ≡ next_of g d
+next_is g rules links l d below =
+    let inside = (reverse_is g rules d below).inside in
+    ap (λ (e : ℕ). get_or links (2 * e + 1) 0) (l.reverses d below) ∙ l.afters (reverse_of g d) inside
+
+pub linked : (g : List (List ℕ)) → KeepsBefore g 8 → (links : List ℕ) → AreLinks g (dart_count g) links → AreLinked (dart_count g) links
+linked g rules links l =
+    let is = next_is g rules links l in
+    let one = next_one g rules in
+    record {
+      size = l.size;
+      back = λ d b. subst (λ (x : ℕ). x < dart_count g) (sym (l.reverses d b)) (reverse_is g rules d b).inside;
+      walked = record {
+        inside = λ d b. subst (λ (x : ℕ). x < dart_count g) (sym (is d b)) (one.inside d b);
+        one = λ d e bd be same. one.one d e bd be (sym (is d bd) ∙ same ∙ is e be);
+      };
+    }
+
+-- the faces as a list of their own
+pub faces_list : (n : ℕ) (next : ℕ → ℕ) (table : List ℕ) (count : ℕ) → 3 * n ≤ length table → ((d : ℕ) → d < n → next d < n) → HasFaces n next (λ d. get_or table (2 * n + d) 0) count → (faces : List ℕ) × (length faces ≡ n) × HasFaces n next (at faces) count
+faces_list n next table count long inside h =
+    let faces = take n (drop (2 * n) table) in (
+      faces,
+      length-take n (drop (2 * n) table) ∙ omega (arith, length-drop (2 * n) table, long),
+      same_faces n next next (λ d. get_or table (2 * n + d) 0) (at faces) count inside (λ d b. refl) (λ d b. get_or-take n (drop (2 * n) table) d 0 b ∙ get_or-drop (2 * n) table d 0) h,
+    )

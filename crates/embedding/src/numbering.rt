@@ -1,0 +1,111 @@
+//! The faces of all darts, numbered in the order of their least darts, and how many darts each has.
+
+ghost use Rattle.std.specs.Prelude.{◌≡◌, ◌+◌, ◌*◌, ◌<◌, ◌≤◌, ◌++◌, ℕ, length, slice_index, IfOk, OnOk};
+ghost use Rattle.embedding.specs.declared.graphs.TheConstants.{MAX_DARTS};
+ghost use Rattle.embedding.specs.Faces.{HasFaces, degree_in};
+ghost use Rattle.embedding.specs.Walk.{IsTraced, AreLinked, HasDegrees, IsFaced, at, next_in};
+
+use crate::graphs::MAX_DARTS;
+use std::alloc::AllocError;
+
+/// Stands for the face of a dart that no walk has come to.
+pub(crate) const UNSET: u16 = u16::MAX;
+
+/// Graphs with no more darts are numbered in less room, since all of it is set before.
+pub(crate) const FEW_DARTS: usize = 128;
+
+/// Walks the face of `start` once round, and gives its darts the number `face`.
+fn walk_face(links: &[u16], faces: &mut [u16], start: u16, face: u16)
+    requires linked { AreLinked (length faces.old) links.now }
+    requires few { length faces.old ≤ MAX_DARTS }
+    requires inside { start < length faces.old }
+    requires unset { slice_index faces.old start ≡ UNSET }
+    requires traced { IsTraced (length faces.old) (next_in links.now) (at faces.old) face start }
+    ensures { IsTraced (length faces.old) (next_in links.now) (at faces.new) (face + 1) (start + 1) }
+{
+    let mut dart = start;
+    loop {
+        faces[usize::from(dart)] = face;
+        let back = links[2 * usize::from(dart)];
+        dart = links[2 * usize::from(back) + 1];
+        if dart == start {
+            return;
+        }
+    }
+}
+
+/// Numbers the faces from 0 in the order of their least darts, gives each dart its face, and says how
+/// many faces there are. Each dart is walked over once.
+fn number_faces(links: &[u16], faces: &mut [u16]) -> u16
+    requires linked { AreLinked (length faces.old) links.now }
+    requires few { length faces.old ≤ MAX_DARTS }
+    requires unset { (d : ℕ) → d < length faces.old → slice_index faces.old d ≡ UNSET }
+    ensures numbered { HasFaces (length faces.old) (next_in links.now) (at faces.new) result }
+    ensures few { result ≤ length faces.old }
+{
+    let mut count = 0;
+    for dart in 0..faces.len() as u16 {
+        if faces[usize::from(dart)] == UNSET {
+            walk_face(links, faces, dart, count);
+            count += 1;
+        }
+    }
+    count
+}
+
+/// Counts how many darts each face has.
+fn count_degrees(faces: &[u16], degrees: &mut [u16])
+    requires few { length faces.now ≤ MAX_DARTS }
+    requires named { (d : ℕ) → d < length faces.now → slice_index faces.now d < length degrees.old }
+    requires none { (k : ℕ) → k < length degrees.old → slice_index degrees.old k ≡ 0 }
+    ensures size { length degrees.new ≡ length degrees.old }
+    ensures degrees { (k : ℕ) → k < length degrees.old
+        → slice_index degrees.new k ≡ degree_in (length faces.now) (at faces.now) k }
+{
+    for face in faces {
+        degrees[usize::from(*face)] += 1;
+    }
+}
+
+/// Puts the face of each dart, and behind them the degree of each face, at the end of the table.
+fn add_table(table: &mut Vec<u16>, faces: &[u16], count: u16) -> Result<(), AllocError>
+    requires few { length faces.now ≤ MAX_DARTS }
+    requires named { (d : ℕ) → d < length faces.now → slice_index faces.now d < count }
+    ensures { OnOk result (HasDegrees (table.old.items ++ faces.now) (length faces.now) (at faces.now) count table.new.items) }
+{
+    table.extend_from_slice(faces)?;
+    let behind = table.len();
+    table.resize(behind + usize::from(count), 0)?;
+    let degrees = &mut table[behind..];
+    count_degrees(faces, degrees);
+    Ok(())
+}
+
+/// Puts the face of each dart and the degree of each face behind the links, and says how many faces there are. They are
+/// numbered on these marks.
+fn add_on(table: &mut Vec<u16>, faces: &mut [u16]) -> Result<u16, AllocError>
+    requires linked { AreLinked (length faces.old) table.old.items }
+    requires few { length faces.old ≤ MAX_DARTS }
+    requires unset { (d : ℕ) → d < length faces.old → slice_index faces.old d ≡ UNSET }
+    ensures { IfOk result (λ count. IsFaced (length faces.old) table.old.items count table.new.items) }
+{
+    let count = number_faces(table, faces);
+    add_table(table, faces, count)?;
+    Ok(count)
+}
+
+/// The same for so many darts.
+pub(crate) fn add_faces(table: &mut Vec<u16>, darts: usize) -> Result<u16, AllocError>
+    requires linked { AreLinked darts table.old.items }
+    requires few { darts ≤ MAX_DARTS }
+    ensures { IfOk result (λ count. IsFaced darts table.old.items count table.new.items) }
+{
+    if darts > FEW_DARTS {
+        let mut marks = [UNSET; MAX_DARTS];
+        let faces = &mut marks[..darts];
+        return add_on(table, faces);
+    }
+    let mut marks = [UNSET; FEW_DARTS];
+    let faces = &mut marks[..darts];
+    add_on(table, faces)
+}
