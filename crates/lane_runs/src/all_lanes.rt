@@ -24,7 +24,7 @@ use std::thread;
 use std::thread::{Scope, Threads};
 
 /// Runs the lanes of a run, in threads of their own, which draw its files as they become free, and hands what
-/// they give from one fan to the consumer, on this thread. The consumer is given back; where the run ends well, it
+/// they give from one fan to the consumer, on this thread. What they do is said by the kind. The consumer is given back; where the run ends well, it
 /// holds all of each file under the run's choice of the outer face.
 ///
 /// # Errors
@@ -37,7 +37,7 @@ pub fn run_lanes<
     R: Threads + Wait + Sync,
     O: Opener,
     G: Gate,
->(run: &Run<'_, R, O, G>, consumer: C) -> (C, Result<(), RunFault<C::Refusal>>)
+>(run: &Run<'_, R, O, G>, kind: &L, consumer: C) -> (C, Result<(), RunFault<C::Refusal>>)
     requires empty { C.holds consumer [] }
     requires takes { TakesFiles L.takes L.ends (O.meaning run.now.opener.now) }
     ensures told { IfOk result.1 (λ _. (ns : List Note) × C.holds result.0 ns
@@ -54,8 +54,9 @@ pub fn run_lanes<
     let shared = Shared {
         run,
         tickets: &tickets,
+        kind,
     };
-    let (consumer, ran) = shared.run_seats::<L, _>(seats, fan, consumer);
+    let (consumer, ran) = shared.run_seats(seats, fan, consumer);
     match ran {
         Ok(seats) => {
             tickets.close(seats);
@@ -65,10 +66,10 @@ pub fn run_lanes<
     }
 }
 
-impl<'s, R: Threads + Wait + Sync, O: Opener, G: Gate> Shared<'s, R, O, G> {
+impl<'s, R: Threads + Wait + Sync, O: Opener, G: Gate, L: LaneKind + 's> Shared<'s, R, O, G, L> {
     /// Runs a lane for each seat, gathers what they give, and joins their threads. The consumer is given back,
     /// and the seats.
-    fn run_seats<L: LaneKind, C: Consumer<L::Entry, L::End>>(
+    fn run_seats<C: Consumer<L::Entry, L::End>>(
         &self,
         seats: Vec<Seat>,
         fan: Fan<L::Entry, L::End>,
@@ -87,14 +88,14 @@ impl<'s, R: Threads + Wait + Sync, O: Opener, G: Gate> Shared<'s, R, O, G> {
                 ensures { LeavesRun C.holds C.gave_up C.stays self.entry.now.run.now.choice (O.meaning self.entry.now.run.now.opener.now) self.entry.now.tickets.now (vec_len seats) consumer result.0 result.1 }
             {
                 let mut consumer = consumer;
-                let ran = self.run_in::<L, _>(scope, seats, fan, &mut consumer);
+                let ran = self.run_in(scope, seats, fan, &mut consumer);
                 (consumer, ran)
             },
         )
     }
 
     /// Starts a lane for each seat and gathers what they give.
-    fn run_in<'e, L: LaneKind + 's, C: Consumer<L::Entry, L::End>>(
+    fn run_in<'e, C: Consumer<L::Entry, L::End>>(
         &'s self,
         scope: &'s Scope<'s, &'e ()>,
         seats: Vec<Seat>,
@@ -110,14 +111,14 @@ impl<'s, R: Threads + Wait + Sync, O: Opener, G: Gate> Shared<'s, R, O, G> {
             idle,
             gatherer,
         } = fan;
-        match self.start_lanes::<L>(scope, seats, givers) {
+        match self.start_lanes(scope, seats, givers) {
             Ok(running) => self.finish_lanes(gatherer, running, idle, consumer),
             Err(fault) => Err(RunFault::from(fault)),
         }
     }
 
     /// Starts a lane for each seat, with the givers in order.
-    fn start_lanes<'e, L: LaneKind + 's>(
+    fn start_lanes<'e>(
         &'s self,
         scope: &'s Scope<'s, &'e ()>,
         mut seats: Vec<Seat>,
@@ -141,7 +142,7 @@ impl<'s, R: Threads + Wait + Sync, O: Opener, G: Gate> Shared<'s, R, O, G> {
             let Some(seat) = seats.pop() else {
                 unreachable!()
             };
-            match self.start_lane::<L>(scope, Lane { seat, giver }) {
+            match self.start_lane(scope, Lane { seat, giver }) {
                 Ok(started) => running.push_reserved(started),
                 Err(fault) => return Err(fault),
             }
@@ -150,7 +151,7 @@ impl<'s, R: Threads + Wait + Sync, O: Opener, G: Gate> Shared<'s, R, O, G> {
     }
 
     /// Starts a lane in a thread of its own.
-    fn start_lane<'e, L: LaneKind + 's>(
+    fn start_lane<'e>(
         &'s self,
         scope: &'s Scope<'s, &'e ()>,
         lane: Lane<L::Entry, L::End>,
@@ -173,7 +174,7 @@ impl<'s, R: Threads + Wait + Sync, O: Opener, G: Gate> Shared<'s, R, O, G> {
             move || -> LaneEnd<L::Entry, L::End>
                 requires { StartsLane self.now.tickets.now lane.seat lane.giver
                     × TakesAll L.takes L.ends (O.meaning self.now.run.now.opener.now) }
-            { self.run_lane::<L>(scope, lane) },
+            { self.run_lane(scope, lane) },
         ) {
             Ok(handle) => Ok(handle),
             Err(_) => Err(LaneFault::Thread),

@@ -40,7 +40,7 @@ fn join_lane<E: Numbered, M: Drop + Send, R: Threads, O: Opener>(
     }
 }
 
-impl<R: Threads + Wait + Sync, O: Opener, G: Gate> Shared<'_, R, O, G> {
+impl<R: Threads + Wait + Sync, O: Opener, G: Gate, L> Shared<'_, R, O, G, L> {
     /// Joins the threads of the lanes and settles the fan with the givers of all lanes, also of those that do
     /// not run. So what was taken of each lane is all that it told, and a file that one seat drew was told
     /// whole. The seats are given back.

@@ -9,7 +9,6 @@ ghost use Rattle.lane_runs.specs.Taking.{TakesAll};
 use crate::fault::LaneFault;
 use crate::lane_kind::LaneKind;
 use crate::links::settle_lane;
-use crate::read_kind::ReadOf;
 use crate::running::LaneEnd;
 use crate::shared::Shared;
 use crate::stages::{LastStage, new_stages};
@@ -26,11 +25,11 @@ pub struct Lane<E: Numbered, M: Drop + Send> {
     pub giver: LaneGiver<Message<E, M>>,
 }
 
-impl<'s, R: Threads + Wait + Sync, O: Opener, G: Gate> Shared<'s, R, O, G> {
+impl<'s, R: Threads + Wait + Sync, O: Opener, G: Gate, L: LaneKind + 's> Shared<'s, R, O, G, L> {
     /// Runs a lane: its last stage on the caller's thread, the others in a thread each. What the last stage
     /// makes of each record, and the end of each file, go to the giver, and after them, whatever the lane met,
     /// one stop; what the give of it answered is given back, with the giver.
-    pub fn run_lane<'e, L: LaneKind + 's>(
+    pub fn run_lane<'e>(
         &'s self,
         scope: &'s Scope<'s, &'e ()>,
         lane: Lane<L::Entry, L::End>,
@@ -41,14 +40,14 @@ impl<'s, R: Threads + Wait + Sync, O: Opener, G: Gate> Shared<'s, R, O, G> {
             lane.giver result.giver result.stop result.seat }
     {
         let Lane { seat, mut giver } = lane;
-        let seat = self.run_stages::<L>(scope, seat, &mut giver);
+        let seat = self.run_stages(scope, seat, &mut giver);
         let stop = giver.give(self.run.rt, Message::Stop);
         LaneEnd { giver, stop, seat }
     }
 
     /// Makes the stages of a lane, starts the first three and runs the last one. The stop is the caller's to
     /// give. It gives the lane's seat back.
-    fn run_stages<'e, L: LaneKind + 's>(
+    fn run_stages<'e>(
         &'s self,
         scope: &'s Scope<'s, &'e ()>,
         seat: Seat,
@@ -63,7 +62,7 @@ impl<'s, R: Threads + Wait + Sync, O: Opener, G: Gate> Shared<'s, R, O, G> {
     {
         let run = self.run;
         let lane = giver.lane();
-        let Ok(stages) = new_stages::<L>(run.alloc, run.capacity, lane, seat) else {
+        let Ok(stages) = new_stages(self.kind, run.alloc, run.capacity, lane, seat) else {
             return Err(LaneFault::Memory);
         };
         // The first stage comes last: a lane that could not be started has drawn no file.
@@ -73,7 +72,7 @@ impl<'s, R: Threads + Wait + Sync, O: Opener, G: Gate> Shared<'s, R, O, G> {
         let Ok(shape) = start_stage(scope, run.rt, run.alloc, run.gate, lane, stages.shape) else {
             return Err(LaneFault::Thread);
         };
-        let Ok(read) = self.start_read::<ReadOf<L>>(scope, stages.read) else {
+        let Ok(read) = self.start_read(scope, stages.read) else {
             return Err(LaneFault::Thread);
         };
         let LastStage { scratch, taker } = stages.draw;

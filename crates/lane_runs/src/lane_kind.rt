@@ -23,8 +23,8 @@ pub type ScratchOf<L> = LaneScratch<
     <<L as LaneKind>::Shaped as Staged>::Scratch,
 >;
 
-/// What is known of a record at each of the four stages of a lane, where each stage makes the next from it, and
-/// of the end of a file.
+/// What the lanes of a run do: what is known of a record at each of the four stages, where each stage makes the next
+/// from it, and of the end of a file. All lanes are lent one value of it.
 pub trait LaneKind: Sync {
     /// A record that was cut out of its file.
     type Framed: Staged<Next = Self::Embedded>;
@@ -48,12 +48,12 @@ pub trait LaneKind: Sync {
     ghost ends: { ℕ → ℕ → Mark → Type 0 };
 
     /// The record that has this place in this file, with this choice of the outer face.
-    fn framed(file: u32, ordinal: u32, rec: Record, choice: Choice) -> Self::Framed
+    fn framed(&self, file: u32, ordinal: u32, rec: Record, choice: Choice) -> Self::Framed
         requires { takes file ordinal rec }
         ensures { Self.Framed.about result ≡ record { file = file; ordinal = ordinal; bytes = rec; choice = choice } };
 
     /// What is known of this end of this file.
-    fn end(file: u32, end: SourceEnd) -> Self::End
+    fn end(&self, file: u32, end: SourceEnd) -> Self::End
         requires { ends file end.count end.mark };
 
     /// The scratch of each stage of a lane whose links have room for `capacity` messages. Lists that one stage is done
@@ -62,6 +62,6 @@ pub trait LaneKind: Sync {
     /// # Errors
     ///
     /// `AllocError` where there is no memory for the ways back.
-    fn scratch(alloc: Global, capacity: u32) -> Result<ScratchOf<Self>, AllocError>
+    fn scratch(&self, alloc: Global, capacity: u32) -> Result<ScratchOf<Self>, AllocError>
         requires { 1 ≤ capacity };
 }

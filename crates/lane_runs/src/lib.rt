@@ -1,5 +1,5 @@
 //! Lanes that run: each draws files until none is left and works on their records in four threads, and
-//! the calling thread hands what they give from one fan to a consumer. What the stages do is said by the `LaneKind`.
+//! the calling thread hands what they give from one fan to a consumer. What the stages do is said by a `LaneKind`.
 #![tactic(auto)]
 
 mod all_lanes;
@@ -9,7 +9,6 @@ mod lane;
 mod lane_kind;
 mod links;
 mod new_fan;
-mod read_kind;
 mod read_stage;
 mod record_giver;
 mod run;

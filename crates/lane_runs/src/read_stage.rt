@@ -5,7 +5,7 @@ ghost use Rattle.lanes.specs.Notes.{notes};
 ghost use Rattle.lane_runs.specs.Lanes.{ReadsSeat, StartsToRead, TellsFile};
 ghost use Rattle.lane_runs.specs.Taking.{TakesAll};
 
-use crate::read_kind::ReadKind;
+use crate::lane_kind::LaneKind;
 use crate::record_giver::{Gone, RecordGiver};
 use crate::shared::Shared;
 use lanes::{Gate, Message, Numbered, Opener, read_file};
@@ -22,17 +22,17 @@ pub struct Reading<A: Numbered, M: Drop + Send> {
     pub giver: Giver<Message<A, M>>,
 }
 
-impl<R: Wait, O: Opener, G: Gate> Shared<'_, R, O, G> {
+impl<R: Wait, O: Opener, G: Gate, L: LaneKind> Shared<'_, R, O, G, L> {
     /// Draws files until none is left, and reads each. Of each it gives its records and one end, and after
     /// the last file one stop. It gives the end of its link and its seat back, or none where the other end was gone.
-    pub fn read_stage<K: ReadKind>(
+    pub fn read_stage(
         &self,
-        reading: Reading<K::Framed, K::End>,
-    ) -> Option<(Giver<Message<K::Framed, K::End>>, Seat)>
+        reading: Reading<L::Framed, L::End>,
+    ) -> Option<(Giver<Message<L::Framed, L::End>>, Seat)>
         requires { StartsToRead self.now.tickets.now reading.seat (vec_len reading.buffer) reading.giver
-            × TakesAll K.takes K.ends (O.meaning self.now.run.now.opener.now) }
+            × TakesAll L.takes L.ends (O.meaning self.now.run.now.opener.now) }
         ensures { IfSome result (λ ends.
-            ReadsSeat K.Framed.about self.now.run.now.choice (O.meaning self.now.run.now.opener.now) self.now.tickets.now reading.giver ends.0 ends.1) }
+            ReadsSeat L.Framed.about self.now.run.now.choice (O.meaning self.now.run.now.opener.now) self.now.tickets.now reading.giver ends.0 ends.1) }
     {
         let Reading {
             lane,
@@ -40,9 +40,10 @@ impl<R: Wait, O: Opener, G: Gate> Shared<'_, R, O, G> {
             mut buffer,
             giver,
         } = reading;
-        let mut gives = RecordGiver::<R, G, K> {
+        let mut gives = RecordGiver::<R, G, L> {
             rt: self.run.rt,
             gate: self.run.gate,
+            kind: self.kind,
             lane,
             giver,
         };
@@ -62,16 +63,16 @@ impl<R: Wait, O: Opener, G: Gate> Shared<'_, R, O, G> {
     }
 
     /// Reads a file that was drawn, and gives its records and one end.
-    fn read_drawn<K: ReadKind>(
+    fn read_drawn(
         &self,
         file: u32,
         buffer: &mut [u8],
-        gives: &mut RecordGiver<'_, '_, R, G, K>,
+        gives: &mut RecordGiver<'_, R, G, L>,
     ) -> Result<(), Gone>
         requires room { 0 < length buffer.old }
-        requires takes { TakesAll K.takes K.ends (O.meaning self.now.run.now.opener.now) }
+        requires takes { TakesAll L.takes L.ends (O.meaning self.now.run.now.opener.now) }
         ensures told { OnOk result (TellsFile self.now.run.now.choice (O.meaning self.now.run.now.opener.now file) file
-            (notes K.Framed.about (given gives.old.giver)) (notes K.Framed.about (given gives.new.giver))) }
+            (notes L.Framed.about (given gives.old.giver)) (notes L.Framed.about (given gives.new.giver))) }
         ensures same { GivesToSame gives.old.giver gives.new.giver }
     {
         let run = self.run;
@@ -80,7 +81,7 @@ impl<R: Wait, O: Opener, G: Gate> Shared<'_, R, O, G> {
             Err(gone) => return Err(gone),
         };
         let mark = end.mark;
-        let known = K::end(file, end);
+        let known = self.kind.end(file, end);
         let Ok(()) = gives.giver.give(run.rt, Message::End(file, mark, known)) else {
             return Err(Gone);
         };

@@ -3,7 +3,7 @@ ghost use Rattle.std.proofs.Common.{refl, ◌∙◌};
 ghost use Rattle.ruled_lanes.specs.LinkEnds.{given, GivesToSame};
 ghost use Rattle.lanes.specs.Notes.{notes};
 
-use crate::read_kind::ReadKind;
+use crate::lane_kind::LaneKind;
 use choices::Choice;
 use lanes::{Gate, Keep, Message, Stage};
 use planar_code::Record;
@@ -17,21 +17,22 @@ pub struct Gone;
 
 /// Passes the gate and gives a message for each record.
 #[derive(Drop)]
-pub struct RecordGiver<'r, 'g, R, G, K: ReadKind> {
-    pub rt: &'r R,
-    pub gate: &'g G,
+pub struct RecordGiver<'s, R, G, L: LaneKind> {
+    pub rt: &'s R,
+    pub gate: &'s G,
+    pub kind: &'s L,
     pub lane: u32,
-    pub giver: Giver<Message<K::Framed, K::End>>,
+    pub giver: Giver<Message<L::Framed, L::End>>,
 }
 
-impl<R: Wait, G: Gate, K: ReadKind> Keep for RecordGiver<'_, '_, R, G, K> {
+impl<R: Wait, G: Gate, L: LaneKind> Keep for RecordGiver<'_, R, G, L> {
     type Refusal = Gone;
 
-    ghost kept = { λ g. notes K.Framed.about (given g.giver) };
+    ghost kept = { λ g. notes L.Framed.about (given g.giver) };
 
     ghost stays = { λ a b. GivesToSame a.giver b.giver };
 
-    ghost accepts = { λ _ file ordinal bytes. K.takes file ordinal bytes };
+    ghost accepts = { λ _ file ordinal bytes. L.takes file ordinal bytes };
 
     fn keep(
         &mut self,
@@ -42,7 +43,7 @@ impl<R: Wait, G: Gate, K: ReadKind> Keep for RecordGiver<'_, '_, R, G, K> {
         choice: Choice,
     ) -> Result<(), Gone> {
         self.gate.pass(self.lane, Stage::Read, ordinal);
-        let item = Message::Item(K::framed(file, ordinal, rec, choice));
+        let item = Message::Item(self.kind.framed(file, ordinal, rec, choice));
         match self.giver.give(self.rt, item) {
             Ok(()) => Ok(()),
             Err(_) => Err(Gone),

@@ -38,6 +38,7 @@ pub struct Stages<L: LaneKind> {
 
 /// The stages of the lane of this number, which draws files by this seat. Each link has room for `capacity` messages.
 pub fn new_stages<L: LaneKind>(
+    kind: &L,
     alloc: Global,
     capacity: u32,
     lane: u32,
@@ -54,7 +55,7 @@ pub fn new_stages<L: LaneKind>(
     let Ok(buffer) = piece_buffer(alloc) else {
         return Err(AllocError);
     };
-    let Ok(LaneScratch { embed, shape, draw }) = L::scratch(alloc, capacity) else {
+    let Ok(LaneScratch { embed, shape, draw }) = kind.scratch(alloc, capacity) else {
         return Err(AllocError);
     };
     let Ok(links) = new_links::<L>(alloc, capacity) else {

@@ -6,7 +6,7 @@ ghost use Rattle.lane_runs.specs.Lanes.{ReadsSeat, StartsToRead};
 ghost use Rattle.lane_runs.specs.Taking.{TakesAll};
 
 use crate::fault::LaneFault;
-use crate::read_kind::ReadKind;
+use crate::lane_kind::LaneKind;
 use crate::read_stage::Reading;
 use crate::shared::Shared;
 use crate::stages::MiddleStage;
@@ -58,15 +58,15 @@ pub type Started<A, M> = PromisedHandle<
     StagePromise<A, M>,
 >;
 
-impl<'s, R: Threads + Wait + Sync, O: Opener, G: Gate> Shared<'s, R, O, G> {
+impl<'s, R: Threads + Wait + Sync, O: Opener, G: Gate, L: LaneKind + 's> Shared<'s, R, O, G, L> {
     /// Starts the first stage of a lane in a thread of its own.
-    pub fn start_read<'e, K: ReadKind + 's>(
+    pub fn start_read<'e>(
         &'s self,
         scope: &'s Scope<'s, &'e ()>,
-        reading: Reading<K::Framed, K::End>,
-    ) -> Result<StartedRead<K::Framed, K::End, O>, LaneFault>
+        reading: Reading<L::Framed, L::End>,
+    ) -> Result<StartedRead<L::Framed, L::End, O>, LaneFault>
         requires { StartsToRead self.now.tickets.now reading.seat (vec_len reading.buffer) reading.giver
-            × TakesAll K.takes K.ends (O.meaning self.now.run.now.opener.now) }
+            × TakesAll L.takes L.ends (O.meaning self.now.run.now.opener.now) }
         ensures choice { IfOk result (λ started. started.promise.choice ≡ self.now.run.now.choice) }
         ensures opener { IfOk result (λ started. started.promise.opener.value ≡ self.now.run.now.opener.now) }
         ensures tickets { IfOk result (λ started. started.promise.tickets.value ≡ self.now.tickets.now) }
@@ -80,10 +80,10 @@ impl<'s, R: Threads + Wait + Sync, O: Opener, G: Gate> Shared<'s, R, O, G> {
         };
         match scope.spawn_with(
             promise,
-            move || -> Option<(Giver<Message<K::Framed, K::End>>, Seat)>
+            move || -> Option<(Giver<Message<L::Framed, L::End>>, Seat)>
                 requires { StartsToRead self.now.tickets.now reading.seat (vec_len reading.buffer) reading.giver
-                    × TakesAll K.takes K.ends (O.meaning self.now.run.now.opener.now) }
-            { self.read_stage::<K>(reading) },
+                    × TakesAll L.takes L.ends (O.meaning self.now.run.now.opener.now) }
+            { self.read_stage(reading) },
         ) {
             Ok(started) => Ok(started),
             Err(_) => Err(LaneFault::Thread),

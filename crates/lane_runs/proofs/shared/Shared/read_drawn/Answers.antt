@@ -19,5 +19,5 @@ returns-clause-told g c = record {
   mark = c.in-Ok.end.mark;
   kept = _;
   keeps = c.in-Ok.ensures.kept;
-  ended = notes-after g.K.Framed.Numbered.about _ _ (End c.args.file c.in-Ok.end.mark c.end-known.result) c.in-Ok-give.ensures.ok;
+  ended = notes-after g.L.Framed.Numbered.about _ _ (End c.args.file c.in-Ok.end.mark c.end-known.result) c.in-Ok-give.ensures.ok;
 }

@@ -10,12 +10,12 @@ loop-init g c = record {
   room = c.requires.0.room_for;
   seat = c.requires.0.seat_of;
   to_same = refl;
-  told = told_none _ _ _ _ c.requires.0.unused.0 (ap (notes g.K.Framed.Numbered.about) c.requires.0.none_given);
+  told = told_none _ _ _ _ c.requires.0.unused.0 (ap (notes g.L.Framed.Numbered.about) c.requires.0.none_given);
 }
 
 pub returns-in-Ok : goal.returns-in-Ok
 returns-in-Ok g c =
-    let about = g.K.Framed.Numbered.about in
+    let about = g.L.Framed.Numbered.about in
     let all = told_all c.args.self.now.run.now.choice (g.O.Opener.meaning c.args.self.now.run.now.opener.now) _ _ _ _ c.loop.invariant.told c.in_default.ensures.none.0
     (notes-after about _ _ Stop c.in-Ok.ensures.ok) in
     record {

@@ -11,5 +11,5 @@ invariant-loop g l = record {
   room : vec_len l.buffer ≡ PIECE;
   seat : IsSeatOf l.self.tickets.now l.seat;
   to_same : GivesToSame l.fn.reading.giver l.gives.giver;
-  told : HasTold l.self.run.now.choice (g.O.Opener.meaning l.self.run.now.opener.now) (drawn l.seat) (notes g.K.Framed.Numbered.about (given l.gives.giver));
+  told : HasTold l.self.run.now.choice (g.O.Opener.meaning l.self.run.now.opener.now) (drawn l.seat) (notes g.L.Framed.Numbered.about (given l.gives.giver));
 }
