@@ -11,7 +11,7 @@ use planar_code::Record;
 use std::alloc::{AllocError, Global};
 use streams::SourceEnd;
 
-/// Lanes that answer records by quick drawings: what is known of a record between their stages.
+/// Lanes that answer records by quick drawings, and keep the entries.
 #[derive(Clone, Copy, Debug)]
 pub struct Answering;
 
@@ -30,7 +30,7 @@ impl LaneKind for Answering {
 
     ghost ends = { λ _ _ _. ⊤ };
 
-    fn framed(file: u32, ordinal: u32, rec: Record, choice: Choice) -> Framed {
+    fn framed(&self, file: u32, ordinal: u32, rec: Record, choice: Choice) -> Framed {
         Framed {
             task: Task {
                 file,
@@ -44,10 +44,11 @@ impl LaneKind for Answering {
         }
     }
 
-    fn end(_file: u32, _end: SourceEnd) {}
+    fn end(&self, _file: u32, _end: SourceEnd) {}
 
     // Entries are kept whole, so nothing goes back.
     fn scratch(
+        &self,
         alloc: Global,
         _capacity: u32,
     ) -> Result<LaneScratch<EmbedScratch, LayScratch, DrawScratch>, AllocError> {

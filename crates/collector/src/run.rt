@@ -77,7 +77,7 @@ pub fn run_batch<R: Threads + Wait + Sync, O: Opener, G: Gate>(
         capacity,
         choice,
     };
-    let (drafts, ran) = run_lanes::<Answering, _, _, _, _>(&run, drafts);
+    let (drafts, ran) = run_lanes(&run, &Answering, drafts);
     match ran {
         Ok(()) => {}
         Err(RunFault::Memory) => return Err(BatchFault::Memory),

@@ -11,21 +11,17 @@ ghost use Rattle.drawn_reports.specs.Telling.{AddsNoneUndrawn};
 ghost use Rattle.collector.specs.TextRuns.{IsRefusedRun};
 
 use crate::run::MAX_LANES;
-use answers::DrawingKind;
 use books::MAX_FILES;
 use choices::Choice;
-use lane_runs::{LaneKind, Run, RunFault, run_lanes};
-use lanes::{Consumer, Gate, Opener};
+use lane_runs::{Run, RunFault, run_lanes};
+use lanes::{Gate, Opener};
 use pausing::{Pauses, PausingOpener};
 use std::alloc::Global;
 use std::marker::Brand;
 use std::sync::Wait;
 use std::thread::Threads;
 use streams::{BatchFault, Sink, WriteFault};
-use texts::{
-    Form, JsonLines, KnownEnd, Lines, Pace, Printed, Quick, Refusal, ReportLines, Short, Style,
-    Texts, Told,
-};
+use texts::{LineLanes, Lines, Pace, Refusal, Style, Texts, Told};
 
 /// Why a text was not written whole. What was written is then a beginning of one.
 #[derive(Clone, Copy, Debug, PartialEq, Eq)]
@@ -130,8 +126,8 @@ fn write_files<J: Told + Send + Sync, R: Threads + Wait + Sync, O: Opener, G: Ga
         return Err(TextFault::Run(BatchFault::Memory));
     };
     let texts = Texts::new(run.alloc, sink, lines, pace);
-    let mut ran = Ok(());
-    let texts = run_form::<J, _, _, _, _>(run, style, texts, &mut ran);
+    let lanes = LineLanes::<J>::new(style);
+    let (texts, ran) = run_lanes(run, &lanes, texts);
     match ran {
         Ok(()) => match texts.finish() {
             Ok(status) => Ok(status),
@@ -164,54 +160,4 @@ fn fault_of(fault: RunFault<Refusal>) -> TextFault
         RunFault::Thread => TextFault::Run(BatchFault::Thread),
         RunFault::Refused(Refusal::Write) => TextFault::Write,
     }
-}
-
-/// Runs the lanes that print lines in this style.
-fn run_form<
-    J: Told + Send + Sync,
-    C: Consumer<Printed<J>, KnownEnd<J>>,
-    R: Threads + Wait + Sync,
-    O: Opener,
-    G: Gate,
->(
-    run: &Run<'_, R, O, G>,
-    style: Style,
-    consumer: C,
-    ran: &mut Result<(), RunFault<C::Refusal>>,
-) -> C
-    requires empty { C.holds consumer [] }
-    requires told { J.meaning ≡ O.meaning run.now.opener.now }
-    ensures told { OnOk ran.new ((ns : List Note) × C.holds result ns × AreToldWhole run.now.choice (O.meaning run.now.opener.now) run.now.files ns) }
-    ensures ended { IfErr ran.new (EndsRun (C.gave_up result) (C.holds result)) }
-    ensures stays { C.stays consumer result }
-{
-    match (style.form, style.drawing) {
-        // A report shows no points, so it is the same of either drawing.
-        (Form::Report, _) => run_into::<ReportLines<J, Quick>, _, _, _, _>(run, consumer, ran),
-        (Form::Json, DrawingKind::Quick) => {
-            run_into::<JsonLines<J, Quick>, _, _, _, _>(run, consumer, ran)
-        }
-        (Form::Json, DrawingKind::Short) => {
-            run_into::<JsonLines<J, Short>, _, _, _, _>(run, consumer, ran)
-        }
-    }
-}
-
-/// Runs lanes of one kind, and puts what came of them into `ran`.
-fn run_into<
-    L: LaneKind,
-    C: Consumer<L::Entry, L::End>,
-    R: Threads + Wait + Sync,
-    O: Opener,
-    G: Gate,
->(run: &Run<'_, R, O, G>, consumer: C, ran: &mut Result<(), RunFault<C::Refusal>>) -> C
-    requires empty { C.holds consumer [] }
-    requires takes { TakesFiles L.takes L.ends (O.meaning run.now.opener.now) }
-    ensures told { OnOk ran.new ((ns : List Note) × C.holds result ns × AreToldWhole run.now.choice (O.meaning run.now.opener.now) run.now.files ns) }
-    ensures ended { IfErr ran.new (EndsRun (C.gave_up result) (C.holds result)) }
-    ensures stays { C.stays consumer result }
-{
-    let (consumer, end) = run_lanes::<L, _, _, _, _>(run, consumer);
-    *ran = end;
-    consumer
 }

@@ -2,8 +2,8 @@
 //! is laid out is dropped where it was made.
 #![tactic(auto)]
 
-mod lane_kinds;
 mod line;
+mod line_lanes;
 mod lines;
 mod printed;
 mod report;
@@ -11,8 +11,8 @@ mod style;
 mod told;
 mod worded;
 
-pub use lane_kinds::{Draws, JsonLines, Quick, ReportLines, Short};
 pub use line::Line;
+pub use line_lanes::LineLanes;
 pub use lines::{end_text, entry_text, head_text, lacking_text};
 pub use printed::Printed;
 pub use style::Style;

@@ -13,7 +13,7 @@ mod writing;
 pub use lines::Lines;
 pub use pace::Pace;
 pub use pieces::Pieces;
-pub use printing::{Draws, JsonLines, KnownEnd, Printed, Quick, ReportLines, Short, Style, Told};
+pub use printing::{KnownEnd, LineLanes, Printed, Style, Told};
 pub use refusal::Refusal;
 pub use reports::{Form, push_cause, write_json, write_report};
 pub use texts::Texts;
