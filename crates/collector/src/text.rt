@@ -13,8 +13,8 @@ ghost use Rattle.collector.specs.TextRuns.{IsRefusedRun};
 use crate::run::MAX_LANES;
 use books::MAX_FILES;
 use choices::Choice;
-use lane_runs::{Run, RunFault, run_lanes};
-use lanes::{Gate, Opener};
+use lane_runs::{LaneKind, Run, RunFault, run_lanes};
+use lanes::{Consumer, Gate, Opener};
 use pausing::{Pauses, PausingOpener};
 use std::alloc::Global;
 use std::marker::Brand;
@@ -127,7 +127,8 @@ fn write_files<J: Told + Send + Sync, R: Threads + Wait + Sync, O: Opener, G: Ga
     };
     let texts = Texts::new(run.alloc, sink, lines, pace);
     let lanes = LineLanes::<J>::new(style);
-    let (texts, ran) = run_lanes(run, &lanes, texts);
+    let mut ran = Ok(());
+    let texts = run_into(run, &lanes, texts, &mut ran);
     match ran {
         Ok(()) => match texts.finish() {
             Ok(status) => Ok(status),
@@ -160,4 +161,24 @@ fn fault_of(fault: RunFault<Refusal>) -> TextFault
         RunFault::Thread => TextFault::Run(BatchFault::Thread),
         RunFault::Refused(Refusal::Write) => TextFault::Write,
     }
+}
+
+/// Runs lanes of this kind, and puts what came of them into `ran`: beside it in a pair, what becomes of the sink that the
+/// consumer holds would not be known.
+fn run_into<
+    L: LaneKind,
+    C: Consumer<L::Entry, L::End>,
+    R: Threads + Wait + Sync,
+    O: Opener,
+    G: Gate,
+>(run: &Run<'_, R, O, G>, kind: &L, consumer: C, ran: &mut Result<(), RunFault<C::Refusal>>) -> C
+    requires empty { C.holds consumer [] }
+    requires takes { TakesFiles L.takes L.ends (O.meaning run.now.opener.now) }
+    ensures told { OnOk ran.new ((ns : List Note) × C.holds result ns × AreToldWhole run.now.choice (O.meaning run.now.opener.now) run.now.files ns) }
+    ensures ended { IfErr ran.new (EndsRun (C.gave_up result) (C.holds result)) }
+    ensures stays { C.stays consumer result }
+{
+    let (consumer, end) = run_lanes(run, kind, consumer);
+    *ran = end;
+    consumer
 }

@@ -1,4 +1,4 @@
-use Rattle.std.proofs.Common.{rules, ◌≡◌, ◌∙◌, List, IfOk, IfErr, false, arith, ap, subst, sym}
+use Rattle.std.proofs.Common.{rules, ◌≡◌, ◌∙◌, List, OnOk, IfErr, false, arith, ap, subst, sym}
 use Rattle.lanes.specs.Notes.{Note}
 use Rattle.lanes.specs.Files.{AreToldWhole}
 use Rattle.lane_runs.specs.Faults.{EndsRun}
@@ -16,11 +16,11 @@ pub returns-in-Ok-finish-clause-written : goal.returns-in-Ok-finish-clause-writt
 returns-in-Ok-finish-clause-written g c =
     let taken = g.S.Sink.taken in
     let meaning = g.O.Opener.meaning c.args.run.now.opener.now in
-    let texts = c.run_lanes-texts.result.0 in
-    let stays = c.run_lanes-texts.ensures.stays in
-    let told = subst (λ r. IfOk r (λ _. (ns : List Note)
+    let texts = c.run_into-texts.result in
+    let stays = c.run_into-texts.ensures.stays in
+    let told = subst (λ r. OnOk r ((ns : List Note)
     × ((g.S.Sink.failed texts.sink.now ≡ false) × LinesHold g.J.Told.meaning (taken texts.start.value) (taken texts.sink.now) texts.lines ns)
-    × AreToldWhole c.args.run.now.choice meaning c.args.run.now.files ns)) c.in-Ok-ran.is c.run_lanes-texts.ensures.told in
+    × AreToldWhole c.args.run.now.choice meaning c.args.run.now.files ns)) c.in-Ok-ran.is c.run_into-texts.ensures.told in
     let form : form_of texts.lines ≡ c.args.style.form = stays.2.form ∙ ap form_of c.new-texts.ensures.lines ∙ c.in-Ok.ensures.form in
     let files : files_of texts.lines ≡ c.args.run.now.files = stays.2.files ∙ ap files_of c.new-texts.ensures.lines ∙ c.in-Ok.ensures.files in
     let start : texts.start.value ≡ c.args.sink.now = sym stays.1 ∙ c.new-texts.ensures.start in
@@ -37,11 +37,11 @@ pub returns-in-Err-finish-clause-begun : goal.returns-in-Err-finish-clause-begun
 returns-in-Err-finish-clause-begun g c =
     let taken = g.S.Sink.taken in
     let meaning = g.O.Opener.meaning c.args.run.now.opener.now in
-    let texts = c.run_lanes-texts.result.0 in
-    let stays = c.run_lanes-texts.ensures.stays in
-    let told = subst (λ r. IfOk r (λ _. (ns : List Note)
+    let texts = c.run_into-texts.result in
+    let stays = c.run_into-texts.ensures.stays in
+    let told = subst (λ r. OnOk r ((ns : List Note)
     × ((g.S.Sink.failed texts.sink.now ≡ false) × LinesHold g.J.Told.meaning (taken texts.start.value) (taken texts.sink.now) texts.lines ns)
-    × AreToldWhole c.args.run.now.choice meaning c.args.run.now.files ns)) c.in-Ok-ran.is c.run_lanes-texts.ensures.told in
+    × AreToldWhole c.args.run.now.choice meaning c.args.run.now.files ns)) c.in-Ok-ran.is c.run_into-texts.ensures.told in
     let choice : choice_of texts.lines ≡ c.args.run.now.choice = stays.2.choice ∙ ap choice_of c.new-texts.ensures.lines ∙ c.in-Ok.ensures.choice in
     let form : form_of texts.lines ≡ c.args.style.form = stays.2.form ∙ ap form_of c.new-texts.ensures.lines ∙ c.in-Ok.ensures.form in
     let files : files_of texts.lines ≡ c.args.run.now.files = stays.2.files ∙ ap files_of c.new-texts.ensures.lines ∙ c.in-Ok.ensures.files in
@@ -55,12 +55,12 @@ returns-in-Err-finish-clause-begun g c =
 pub returns-in-Err-clause-begun : goal.returns-in-Err-clause-begun
 returns-in-Err-clause-begun g c =
     let taken = g.S.Sink.taken in
-    let texts = c.run_lanes-texts.result.0 in
-    let stays = c.run_lanes-texts.ensures.stays in
+    let texts = c.run_into-texts.result in
+    let stays = c.run_into-texts.ensures.stays in
     let Left : Type 0 = (ns : List Note) × LinesLeaveOff g.J.Told.meaning (taken texts.start.value) (taken texts.sink.now) texts.lines ns in
     let gave_up : Refusal → Type 0 = λ refusal. GivesUp (g.S.Sink.failed texts.sink.now) refusal × Left in
     let holds : List Note → Type 0 = λ ns. (g.S.Sink.failed texts.sink.now ≡ false) × LinesHold g.J.Told.meaning (taken texts.start.value) (taken texts.sink.now) texts.lines ns in
-    let ended = subst (λ r. IfErr r (EndsRun gave_up holds)) c.in-Err.is c.run_lanes-texts.ensures.ended in
+    let ended = subst (λ r. IfErr r (EndsRun gave_up holds)) c.in-Err.is c.run_into-texts.ensures.ended in
     let choice : choice_of texts.lines ≡ c.args.run.now.choice = stays.2.choice ∙ ap choice_of c.new-texts.ensures.lines ∙ c.in-Ok.ensures.choice in
     let form : form_of texts.lines ≡ c.args.style.form = stays.2.form ∙ ap form_of c.new-texts.ensures.lines ∙ c.in-Ok.ensures.form in
     let files : files_of texts.lines ≡ c.args.run.now.files = stays.2.files ∙ ap files_of c.new-texts.ensures.lines ∙ c.in-Ok.ensures.files in
@@ -73,5 +73,5 @@ returns-in-Err-clause-begun g c =
     (subst (λ m. ∥ IsBegun c.args.run.now.choice m c.args.style.form c.args.run.now.files (taken texts.start.value) (taken texts.sink.now) ∥₁) c.requires.told
     (begun_lines c.args.run.now.choice g.J.Told.meaning c.args.style.form c.args.run.now.files (taken texts.start.value) (taken texts.sink.now) texts.lines choice form files left.0 left.1))))
 
-pub run_lanes-texts-requires-clause-takes : goal.run_lanes-texts-requires-clause-takes
-run_lanes-texts-requires-clause-takes g c κs within = takes_known _ _ c.requires.told
+pub run_into-texts-requires-clause-takes : goal.run_into-texts-requires-clause-takes
+run_into-texts-requires-clause-takes g c κs within = takes_known _ _ c.requires.told
