@@ -6,13 +6,12 @@ use crate::shared::{
     HEADER, OF_THREE, THREE_FILES, check_report, check_three, opener_of, plain_batch, same,
 };
 use collector::{
-    BatchFault, Cause, Choice, IoSink, MemOpener, WriteFault, push_cause, run_plain, write_report,
+    BatchFault, Cause, Choice, IoSink, MemOpener, ReportLine, WriteFault, run_plain, write_report,
 };
 use std::alloc::{AllocError, Global};
 use std::io;
 use std::io::{ErrorKind, Write};
 use std::process::Abort;
-use streams::TextBuffer;
 
 const EDGE: &[u8] = b"\x02\x02\x00\x01\x00";
 
@@ -232,13 +231,10 @@ fn marks_a_file_that_does_not_open(rt: HostRuntime) {
 }
 
 /// A cause is written so.
-fn check_cause<R: AllocGlobal + Abort>(rt: &R, cause: Cause, text: &str) {
-    let mut lines = TextBuffer::new();
-    push_cause(&mut lines, cause);
-    let mut sink = IoSink::new(Vec::new(rt.alloc()));
-    same(rt, lines.flush(&mut sink), Ok(()));
-    let written = sink.into_writer();
-    same(rt, written.as_slice(), text.as_bytes());
+fn check_cause<R: Abort>(rt: &R, cause: Cause, text: &str) {
+    let mut line = ReportLine::new();
+    line.push_cause(cause);
+    same(rt, line.as_slice(), text.as_bytes());
 }
 
 #[test]

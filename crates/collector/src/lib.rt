@@ -20,4 +20,4 @@ pub use streams::{
     run_frames, write_frames,
 };
 pub use text::{TextFault, write_batch};
-pub use texts::{Form, Style, push_cause, write_json, write_report};
+pub use texts::{Form, ReportLine, Style, write_json, write_report};

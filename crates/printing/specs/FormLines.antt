@@ -6,12 +6,8 @@ use Rattle.entries.specs.declared.entry.Entry.{Entry}
 use Rattle.books.specs.Books.{BookModel}
 use Rattle.reports.specs.declared.form.Form.{Form}
 use Rattle.reports.specs.declared.form.Form.TheVariants.{Report, Json}
-use Rattle.reports.specs.Report.{file_line, entry_line, answer_text, end_line}
+use Rattle.reports.specs.Report.{file_line, entry_line, end_line}
 use Rattle.reports.specs.Json.{entry_json, end_json}
-
--- the report's line of the graph with this number, of which this is the answer
-abbrev pub graph_line : ℕ → Answer → List ℕ
-graph_line number answer = codes "graph " ++ decimal number ++ answer_text answer ++ codes "\n"
 
 -- the line of an entry; files and entries are numbered from 1
 abbrev pub line_in : Form → Entry → List ℕ

@@ -6,7 +6,6 @@ mod line;
 mod line_lanes;
 mod lines;
 mod printed;
-mod report;
 mod style;
 mod told;
 mod worded;

@@ -1,5 +1,5 @@
 //! The text of a line on its way.
-ghost use Rattle.std.specs.Prelude.{◌≡◌, [], ◌++◌, IfOk, OnOk};
+ghost use Rattle.std.specs.Prelude.{◌≡◌, IfOk};
 
 use std::alloc::{AllocError, Global};
 use std::marker::Model;
@@ -29,18 +29,6 @@ impl Model for Line {
 }
 
 impl Line {
-    /// No text yet.
-    pub(crate) fn new(alloc: Global) -> Line
-        ensures { result ≡ [] }
-    {
-        Line {
-            alloc,
-            near: [0; NEAR],
-            length: 0,
-            far: None,
-        }
-    }
-
     /// A text that stands in memory.
     pub(crate) fn of(alloc: Global, text: Vec<u8>) -> Line
         ensures { result ≡ text.items }
@@ -63,24 +51,21 @@ impl Line {
         }
     }
 
-    /// Adds to the text. It takes memory only where the text is then no short one.
-    pub(crate) fn add(&mut self, more: &[u8]) -> Result<(), AllocError>
-        ensures { OnOk result (self.new ≡ self.old ++ more.now) }
+    /// A copy of a text. It takes memory only where the text is no short one.
+    pub(crate) fn copied(alloc: Global, text: &[u8]) -> Result<Line, AllocError>
+        ensures { IfOk result (λ line. line ≡ text.now) }
     {
-        if let Some(far) = &mut self.far {
-            return far.extend_from_slice(more);
+        if text.len() > NEAR {
+            return Ok(Line::of(alloc, Vec::from_slice(alloc, text)?));
         }
-        if more.len() <= NEAR - self.length {
-            let end = self.length + more.len();
-            self.near[self.length..end].copy_from_slice(more);
-            self.length = end;
-            return Ok(());
-        }
-        let mut far = Vec::with_capacity(self.alloc, 2 * NEAR)?;
-        far.extend_from_slice(&self.near[..self.length])?;
-        far.extend_from_slice(more)?;
-        self.far = Some(far);
-        Ok(())
+        let mut near = [0; NEAR];
+        near[..text.len()].copy_from_slice(text);
+        Ok(Line {
+            alloc,
+            near,
+            length: text.len(),
+            far: None,
+        })
     }
 
     /// The text in memory.

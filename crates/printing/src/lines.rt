@@ -6,9 +6,8 @@ ghost use Rattle.json_lines.specs.Answered.{IsAnswer};
 ghost use Rattle.printing.specs.FormLines.{line_in, head_in, end_in};
 
 use crate::line::Line;
-use crate::report;
 use entries::{Answer, Entry};
-use reports::Form;
+use reports::{Form, ReportLine};
 use std::alloc::{AllocError, Global};
 use streams::{Mark, mark_word};
 
@@ -39,7 +38,7 @@ pub(crate) fn answer_line(
 {
     let graph = u64::from(ordinal) + 1;
     match form {
-        Form::Report => report::graph_line(alloc, graph, answer),
+        Form::Report => Line::copied(alloc, ReportLine::of_graph(graph, answer).as_slice()),
         Form::Json => {
             let text = reports::answer_line(alloc, number_of(file)?, graph, answer)?;
             Ok(Line::of(alloc, text))
@@ -65,7 +64,10 @@ pub fn lacking_text(
 {
     let graph = u64::from(ordinal) + 1;
     match form {
-        Form::Report => report::graph_line(alloc, graph, &Answer::NoMemory)?.into_list(),
+        Form::Report => {
+            let line = ReportLine::of_graph(graph, &Answer::NoMemory);
+            Vec::from_slice(alloc, line.as_slice())
+        }
         Form::Json => reports::lacking_line(alloc, number_of(file)?, graph),
     }
 }
@@ -80,7 +82,7 @@ pub fn head_text(alloc: Global, form: Form, file: u32) -> Result<Vec<u8>, AllocE
     ensures { IfOk result (λ text. text.items ≡ head_in form (file + 1)) }
 {
     match form {
-        Form::Report => report::file_line(alloc, u64::from(file) + 1),
+        Form::Report => Vec::from_slice(alloc, ReportLine::of_file(u64::from(file) + 1).as_slice()),
         Form::Json => Ok(Vec::new(alloc)),
     }
 }
@@ -103,7 +105,7 @@ pub fn end_text(
 {
     let graphs = u64::from(count);
     match form {
-        Form::Report => report::end_line(alloc, mark, graphs),
+        Form::Report => Vec::from_slice(alloc, ReportLine::of_end(mark, graphs).as_slice()),
         Form::Json => reports::end_line(alloc, number_of(file)?, mark_word(mark), graphs),
     }
 }

@@ -40,9 +40,13 @@ answer_text (Laid plane shape prices drawing) = codes " ok" ++ sizes_text plane 
 answer_text (Refused rule) = codes " refused " ++ rules.word_of rule
 answer_text NoMemory = codes " memory"
 
+-- the line of the graph with this number, of which this is the answer
+abbrev pub graph_line : ℕ → Answer → List ℕ
+graph_line number answer = codes "graph " ++ decimal number ++ answer_text answer ++ codes "\n"
+
 -- the line of the entry with this number
 abbrev pub entry_line : ℕ → Entry → List ℕ
-entry_line number entry = codes "graph " ++ decimal number ++ answer_text entry.answer ++ codes "\n"
+entry_line number entry = graph_line number entry.answer
 
 -- the first line of the file with this number
 abbrev pub file_line : ℕ → List ℕ

@@ -3,11 +3,14 @@
 
 mod form;
 mod json;
+mod line;
 mod report;
 mod statuses;
+mod words;
 
 pub use form::Form;
 pub use json::{push_line, write_json};
 pub use json_lines::{answer_line, end_line, entry_line, lacking_line};
-pub use report::{push_cause, write_report};
+pub use line::ReportLine;
+pub use report::write_report;
 pub use statuses::{status_of, status_of_batch};

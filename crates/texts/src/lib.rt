@@ -15,6 +15,6 @@ pub use pace::Pace;
 pub use pieces::Pieces;
 pub use printing::{KnownEnd, LineLanes, Printed, Style, Told};
 pub use refusal::Refusal;
-pub use reports::{Form, push_cause, write_json, write_report};
+pub use reports::{Form, ReportLine, write_json, write_report};
 pub use texts::Texts;
 pub use waiting::Waiting;

@@ -1,0 +1,122 @@
+//! What the lines of a report say.
+ghost use Rattle.std.specs.Prelude.{◌≡◌, ◌+◌, ◌≤◌, ◌++◌, length};
+ghost use Rattle.reports.specs.Report.{file_line, end_line, graph_line, answer_text, sizes_text, drawn_text, cause_text};
+ghost use Rattle.reports.specs.declared.line.TheConstants.{LONGEST};
+ghost use Rattle.reports.specs.declared.words.TheConstants.{ANSWER, SIZES, DRAWN};
+
+use crate::line::ReportLine;
+use drawing_check::Drawing;
+use entries::{Answer, Cause};
+use faces::Plane;
+use ortho_rep::Shape;
+use streams::{Mark, mark_word};
+
+/// As many bytes as an answer adds at most.
+const ANSWER: usize = 300;
+
+/// As many bytes as the sizes of a graph add at most.
+const SIZES: usize = 200;
+
+/// As many bytes as the end of a graph's line adds at most: whether there is a drawing, or why there is none.
+const DRAWN: usize = 40;
+
+impl ReportLine {
+    /// The first line of the file with this number.
+    pub fn of_file(number: u64) -> ReportLine
+        ensures { result ≡ file_line number }
+    {
+        let mut line = ReportLine::new();
+        line.push(b"file ");
+        line.push_number(number);
+        line.push(b"\n");
+        line
+    }
+
+    /// The line of the graph with this number, of which this is the answer.
+    pub fn of_graph(number: u64, answer: &Answer) -> ReportLine
+        ensures { result ≡ graph_line number answer.now }
+    {
+        let mut line = ReportLine::new();
+        line.push(b"graph ");
+        line.push_number(number);
+        line.push_answer(answer);
+        line.push(b"\n");
+        line
+    }
+
+    /// The last line of a file: its mark, and how many entries there are.
+    pub fn of_end(mark: Mark, count: u64) -> ReportLine
+        ensures { result ≡ end_line mark count }
+    {
+        let mut line = ReportLine::new();
+        line.push(b"end ");
+        line.push(mark_word(mark).as_bytes());
+        line.push(b" graphs=");
+        line.push_number(count);
+        line.push(b"\n");
+        line
+    }
+
+    /// Adds what an answer is.
+    fn push_answer(&mut self, answer: &Answer)
+        requires { length self.old + ANSWER ≤ LONGEST }
+        ensures text { self.new ≡ self.old ++ answer_text answer.now }
+        ensures short { length self.new ≤ length self.old + ANSWER }
+    {
+        match answer {
+            Answer::Laid {
+                plane,
+                shape,
+                drawing,
+                prices: _,
+            } => {
+                self.push(b" ok");
+                self.push_sizes(plane, shape);
+                self.push_drawn(drawing);
+            }
+            Answer::Refused(rule) => {
+                self.push(b" refused ");
+                self.push(rule.word().as_bytes());
+            }
+            Answer::NoMemory => self.push(b" memory"),
+        }
+    }
+
+    /// Adds how many vertices, edges, faces and bends there are.
+    fn push_sizes(&mut self, plane: &Plane, shape: &Shape)
+        requires { length self.old + SIZES ≤ LONGEST }
+        ensures text { self.new ≡ self.old ++ sizes_text plane.now shape.now }
+        ensures short { length self.new ≤ length self.old + SIZES }
+    {
+        self.push(b" n=");
+        self.push_number(u64::from(plane.graph().vertices()));
+        self.push(b" m=");
+        self.push_number(u64::from(plane.graph().edges()));
+        self.push(b" f=");
+        self.push_number(u64::from(plane.face_count()));
+        self.push(b" bends=");
+        self.push_number(u64::from(shape.bends()));
+    }
+
+    /// Adds whether there is a drawing.
+    fn push_drawn(&mut self, drawing: &Result<Drawing, Cause>)
+        requires { length self.old + DRAWN ≤ LONGEST }
+        ensures text { self.new ≡ self.old ++ drawn_text drawing.now }
+        ensures short { length self.new ≤ length self.old + DRAWN }
+    {
+        match drawing {
+            Ok(_) => self.push(b" drawn=yes"),
+            Err(cause) => self.push_cause(*cause),
+        }
+    }
+
+    /// Adds the end of the line of a graph that has no drawing.
+    pub fn push_cause(&mut self, cause: Cause)
+        requires { length self.old + DRAWN ≤ LONGEST }
+        ensures text { self.new ≡ self.old ++ cause_text cause }
+        ensures short { length self.new ≤ length self.old + DRAWN }
+    {
+        self.push(b" drawn=no cause=");
+        self.push(cause.word().as_bytes());
+    }
+}
