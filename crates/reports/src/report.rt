@@ -54,7 +54,11 @@ fn write_entries<S: Sink>(
         (S.failed sink.new) (numbered_texts entry_line 1 entries.now) result }
 {
     for (index, entry) in entries.iter().enumerate() {
-        write_line(lines, sink, &ReportLine::of_graph(index as u64 + 1, &entry.answer))?;
+        write_line(
+            lines,
+            sink,
+            &ReportLine::of_graph(index as u64 + 1, &entry.answer),
+        )?;
     }
     Ok(())
 }
