@@ -4,7 +4,6 @@ use Rattle.std.proofs.Math.ListN.{set}
 use Rattle.std.proofs.Math.Seq.{get_or-append_right}
 use Rattle.std.proofs.lemmas.Bool.{both_ways, cases_eq, cases_lt, ltb-true, le-ltb, lt-ltb, cond-true, cond-false}
 use Rattle.std.proofs.lemmas.List.{get_or-set_same, get_or-set_other, length-set, get_or-reverse}
-use Rattle.embedding.specs.declared.graphs.TheConstants.{MAX_DARTS}
 use Rattle.directions.specs.declared.Direction.{Direction}
 use Rattle.directions.specs.declared.Direction.TheVariants.{East}
 use Rattle.directions.specs.Directions.{lefts}
@@ -96,14 +95,13 @@ number_of_greater p d greater = edge_number-more p d ∙ ap (λ (n : ℕ). edge_
 
 -- the darts below n that are lesser, and their reverses, have their directions
 pub record IsLeaving (p : PlaneModel) (points : PointsModel) (directions : List Direction) (n : ℕ) : Type 0 where
-  pub size : length directions ≡ MAX_DARTS
+  pub room : darts p ≤ length directions
   pub out : (d : ℕ) → d < n → is_lesser p d ≡ true → direction_at directions d ≡ leaving p points d
   pub back : (d : ℕ) → d < n → is_lesser p d ≡ true → direction_at directions (reverse_dart p d) ≡ leaving p points (reverse_dart p d)
 
 pub leaving_more : (p : PlaneModel) (points : PointsModel) (old new : List Direction) (n i j : ℕ) (v w : Direction) → HasEnds p → IsLeaving p points old n → n < darts p → i ≡ n → j ≡ reverse_dart p n → new ≡ set (set old i v) j w → v ≡ leaving p points n → w ≡ leaving p points (reverse_dart p n) → IsLeaving p points new (n + 1)
 leaving_more p points old new n i j v w ends is inside is_i is_j is_new is_v is_w =
-    let few = ends.few_darts in
-    let size = is.size in
+    let room = is.room in
     let reverse_dart_in : reverse_dart p n < darts p = ends.reverse_dart_inside n inside in
     let i_in : i < length old = omega arith in
     let j_in : j < length old = omega arith in
@@ -111,7 +109,7 @@ leaving_more p points old new n i j v w ends is inside is_i is_j is_new is_v is_
     let w_is : w ≡ leaving p points j = is_w ∙ ap (leaving p points) (sym is_j) in
     let written = both_written old new (leaving p points) i j v w i_in j_in is_new v_is w_is in
     record {
-      size = ap length is_new ∙ length-set (set old i v) j w ∙ length-set old i v ∙ size;
+      room = let size = ap length is_new ∙ length-set (set old i v) j w ∙ length-set old i v in omega arith;
       out = λ d below lesser. written d (λ not_i not_j. is.out d (omega arith) lesser);
       back = λ d below lesser. written (reverse_dart p d) (λ not_i not_j.
           ⊎_elim (λ same. absurd (not_j (ap (reverse_dart p) same ∙ sym is_j))) (λ ne. is.back d (omega arith) lesser) (cases_eq d n));
@@ -121,7 +119,7 @@ leaving_more p points old new n i j v w ends is inside is_i is_j is_new is_v is_
 pub leaving_kept : (p : PlaneModel) (points : PointsModel) (directions : List Direction) (n : ℕ) → IsLeaving p points directions n → is_lesser p n ≡ false → IsLeaving p points directions (n + 1)
 leaving_kept p points directions n is greater =
     record {
-      size = is.size;
+      room = is.room;
       out = λ d below lesser. is.out d (earlier d below lesser) lesser;
       back = λ d below lesser. is.back d (earlier d below lesser) lesser;
     }

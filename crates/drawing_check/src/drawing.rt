@@ -1,6 +1,6 @@
 //! The check of a drawing, and what it makes.
 
-ghost use Rattle.std.specs.Prelude.{◌≡◌, ◌*◌, length, IfOk, IfErr, IfNone, IfSome, Some};
+ghost use Rattle.std.specs.Prelude.{◌≡◌, ◌*◌, ◌≤◌, length, IfOk, IfErr, IfNone, IfSome, Some};
 ghost use Rattle.faces.specs.Planes.{darts, vertices};
 ghost use Rattle.ortho_rep.specs.Representation.{HasDarts, IsShape};
 ghost use Rattle.drawing_check.specs.Draws.{Draws};
@@ -10,11 +10,16 @@ use crate::edges::walk_edges;
 use crate::fault::CheckFault;
 use crate::scratch::Scratch;
 use crate::turning::turn_as_said;
+use directions::Direction;
+use embedding::MAX_DARTS;
 use faces::Plane;
 use ortho_rep::{Points, Shape};
 use rectangles::all_apart_in;
 use std::alloc::Global;
 use std::marker::Model;
+
+/// How many darts are few: a list of so many directions is quickly made.
+const FEW_DARTS: usize = 128;
 
 /// Points that draw a shape of a plane, as `check` has found. In contracts it is the points.
 #[derive(Debug, Drop)]
@@ -105,14 +110,14 @@ pub fn check_in(
     ensures memory { IfErr result (λ refused.
         refused.0 ≡ CheckFault.Memory → KeepsFirstThree plane.now shape.now points) }
 {
-    match first_fault(alloc, scratch, plane, shape, &points) {
+    match find_fault(alloc, scratch, plane, shape, &points) {
         None => Ok(Drawing { points }),
         Some(fault) => Err((fault, points)),
     }
 }
 
-/// The first condition that fails, or want of memory.
-fn first_fault(
+/// The first condition that fails, or want of memory. The directions of darts stand in a short list where that is enough.
+fn find_fault(
     alloc: Global,
     scratch: &mut Scratch,
     plane: &Plane,
@@ -127,16 +132,42 @@ fn first_fault(
     ensures memory { result ≡ Some CheckFault.Memory
         → KeepsFirstThree plane.now shape.now points.now }
 {
+    if usize::from(plane.graph().darts()) > FEW_DARTS {
+        let mut directions = [Direction::East; MAX_DARTS];
+        return first_fault(alloc, scratch, plane, shape, points, &mut directions);
+    }
+    let mut directions = [Direction::East; FEW_DARTS];
+    first_fault(alloc, scratch, plane, shape, points, &mut directions)
+}
+
+/// The same, where the directions of the darts are written over a list that is lent.
+fn first_fault(
+    alloc: Global,
+    scratch: &mut Scratch,
+    plane: &Plane,
+    shape: &Shape,
+    points: &Points,
+    directions: &mut [Direction],
+) -> Option<CheckFault>
+    requires lengths { HasDarts plane.now shape.now }
+    requires vertices { length points.now.vertices ≡ vertices plane.now }
+    requires corners { 2 * length points.now.corners ≡ darts plane.now }
+    requires room { darts plane.now ≤ length directions.old }
+    ensures draws { IfNone result (Draws plane.now shape.now points.now) }
+    ensures fault { IfSome result (IsFirstFault plane.now shape.now points.now) }
+    ensures memory { result ≡ Some CheckFault.Memory
+        → KeepsFirstThree plane.now shape.now points.now }
+{
     // Only the proof needs this: `graph` says where darts end.
     let _graph = plane.graph();
-    let seen = walk_edges(plane, shape, points, &mut scratch.rectangles);
+    let seen = walk_edges(plane, shape, points, &mut scratch.rectangles, directions);
     if !seen.in_grid {
         return Some(CheckFault::OutOfGrid);
     }
     if !seen.on_axes {
         return Some(CheckFault::NotAxis);
     }
-    if !turn_as_said(plane, shape, &seen) {
+    if !turn_as_said(plane, shape, &seen, directions) {
         return Some(CheckFault::WrongTurn);
     }
     if !seen.listed {

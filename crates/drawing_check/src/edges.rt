@@ -1,8 +1,7 @@
 //! What one walk over all edges tells of their paths.
 
-ghost use Rattle.std.specs.Prelude.{◌≡◌, ℕ, ◌*◌, ◌<◌, ◌↔◌, ◌++◌, length, map, IsTrue, All};
+ghost use Rattle.std.specs.Prelude.{◌≡◌, ℕ, ◌*◌, ◌<◌, ◌≤◌, ◌↔◌, ◌++◌, length, map, IsTrue, All};
 ghost use Rattle.std.specs.List.{flat_map};
-ghost use Rattle.embedding.specs.declared.graphs.TheConstants.{MAX_DARTS};
 ghost use Rattle.faces.specs.Planes.{darts, vertices};
 ghost use Rattle.ortho_rep.specs.Shapes.{turns_at};
 ghost use Rattle.ortho_rep.specs.Representation.{HasDarts};
@@ -17,7 +16,6 @@ use crate::meeting::list_vertices;
 use crate::path::{both, see_route};
 use crate::route::route_of;
 use directions::Direction;
-use embedding::MAX_DARTS;
 use faces::Plane;
 use ortho_rep::{Points, Shape};
 use rectangles::Rectangle;
@@ -33,21 +31,22 @@ pub(crate) struct EdgesSeen {
     pub(crate) turning: bool,
     /// Whether there was memory for the rectangles of all vertices and all paths.
     pub(crate) listed: bool,
-    /// The direction in which each dart leaves its tail.
-    pub(crate) leaving: [Direction; MAX_DARTS],
 }
 
 /// Walks over all edges once. All three tests are made of each edge, so that it is known which fails first; and the
-/// rectangles of all vertices and all paths are listed, as far as there is memory.
+/// rectangles of all vertices and all paths are listed, as far as there is memory. The direction in which each dart leaves
+/// its tail is written over the list that is lent.
 pub(crate) fn walk_edges(
     plane: &Plane,
     shape: &Shape,
     points: &Points,
     rectangles: &mut Vec<Rectangle>,
+    directions: &mut [Direction],
 ) -> EdgesSeen
     requires lengths { HasDarts plane.now shape.now }
     requires vertices { length points.now.vertices ≡ vertices plane.now }
     requires corners { 2 * length points.now.corners ≡ darts plane.now }
+    requires room { darts plane.now ≤ length directions.old }
     ensures in_grid { IsTrue result.in_grid ↔ AreInGrid points.now }
     ensures on_axes { IsTrue result.on_axes ↔ AreOnAxes (paths plane.now points.now) }
     ensures turning { IsTrue result.turning
@@ -56,16 +55,15 @@ pub(crate) fn walk_edges(
     ensures listed { IsTrue result.listed
         → rectangles.new.items ≡ map (λ q. span_of q q) points.now.vertices
         ++ flat_map strips (paths plane.now points.now) }
-    ensures size { length result.leaving ≡ MAX_DARTS }
+    ensures room { darts plane.now ≤ length directions.new }
     ensures leaving { (d : ℕ) → d < darts plane.now
-        → direction_at result.leaving d ≡ leaving plane.now points.now d }
+        → direction_at directions.new d ≡ leaving plane.now points.now d }
 {
     let graph = plane.graph();
     let mut listed = list_vertices(rectangles, points, graph.edges()).is_ok();
     let mut in_grid = all_in_grid(points.vertices());
     let mut on_axes = true;
     let mut turning = true;
-    let mut directions = [Direction::East; MAX_DARTS];
     let mut edge = 0;
     for dart in 0..graph.darts() {
         let reverse = graph.reverse(dart);
@@ -86,6 +84,5 @@ pub(crate) fn walk_edges(
         on_axes,
         turning,
         listed,
-        leaving: directions,
     }
 }

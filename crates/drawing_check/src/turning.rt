@@ -1,7 +1,7 @@
 //! Whether the turns at corners and the angles at vertices are those of a shape.
 
-ghost use Rattle.std.specs.Prelude.{◌≡◌, ◌↔◌, length, IsTrue};
-ghost use Rattle.embedding.specs.declared.graphs.TheConstants.{MAX_DARTS};
+ghost use Rattle.std.specs.Prelude.{◌≡◌, ◌≤◌, ◌↔◌, length, IsTrue};
+ghost use Rattle.faces.specs.Planes.{darts};
 ghost use Rattle.ortho_rep.specs.Representation.{HasDarts};
 ghost use Rattle.drawing_check.specs.Draws.{direction_between, turned, IsTurning};
 ghost use Rattle.drawing_check.specs.Routes.{path_of, HeadsTurn};
@@ -12,14 +12,20 @@ use directions::Direction;
 use faces::Plane;
 use ortho_rep::{Point, Shape, Turn};
 
-/// Whether each corner is the shape's, as a walk over the edges has told, and each angle.
-pub(crate) fn turn_as_said(plane: &Plane, shape: &Shape, seen: &EdgesSeen) -> bool
+/// Whether each corner is the shape's, as a walk over the edges has told, and each angle, where the darts leave their tails
+/// in these directions.
+pub(crate) fn turn_as_said(
+    plane: &Plane,
+    shape: &Shape,
+    seen: &EdgesSeen,
+    directions: &[Direction],
+) -> bool
     requires lengths { HasDarts plane.now shape.now }
-    requires size { length seen.now.leaving ≡ MAX_DARTS }
+    requires size { darts plane.now ≤ length directions.now }
     ensures { IsTrue result
-        ↔ (IsTrue seen.now.turning × HeadsTurn plane.now shape.now seen.now.leaving) }
+        ↔ (IsTrue seen.now.turning × HeadsTurn plane.now shape.now directions.now) }
 {
-    seen.turning && heads_turn(plane, shape, &seen.leaving)
+    seen.turning && heads_turn(plane, shape, directions)
 }
 
 /// Whether a path has as many corners as there are turns, and each corner is its turn.
@@ -44,7 +50,7 @@ pub(crate) fn is_turning(route: &Route<'_>, turns: &[Turn]) -> bool
 /// directions.
 fn heads_turn(plane: &Plane, shape: &Shape, directions: &[Direction]) -> bool
     requires lengths { HasDarts plane.now shape.now }
-    requires size { length directions.now ≡ MAX_DARTS }
+    requires size { darts plane.now ≤ length directions.now }
     ensures { IsTrue result ↔ HeadsTurn plane.now shape.now directions.now }
 {
     let graph = plane.graph();

@@ -9,7 +9,7 @@ returns-then-not-turn_as_said-clause-fault c = (
   c.walk_edges-seen.ensures.in_grid.0 c.if-not-seen.false,
   c.walk_edges-seen.ensures.on_axes.0 c.if-not-seen-2.false,
   λ turns. both_ways c.turn_as_said.result c.if-not-turn_as_said.true (
-      (turns_as_said c.args.plane.now c.args.shape.now c.args.points.now c.turn_as_said.result c.walk_edges-seen.result.turning c.walk_edges-seen.result.leaving
+      (turns_as_said c.args.plane.now c.args.shape.now c.args.points.now c.turn_as_said.result c.walk_edges-seen.result.turning c.walk_edges-seen.new.directions
       c.graph-graph.ensures.ends c.walk_edges-seen.ensures.turning c.walk_edges-seen.ensures.leaving c.turn_as_said.ensures).1 turns),
 )
 
@@ -26,7 +26,7 @@ returns-in-Ok-true-clause-draws c =
     record {
       grid = c.walk_edges-seen.ensures.in_grid.0 c.if-not-seen.false;
       axes = axes;
-      turns = (turns_as_said c.args.plane.now c.args.shape.now c.args.points.now c.turn_as_said.result c.walk_edges-seen.result.turning c.walk_edges-seen.result.leaving
+      turns = (turns_as_said c.args.plane.now c.args.shape.now c.args.points.now c.turn_as_said.result c.walk_edges-seen.result.turning c.walk_edges-seen.new.directions
           c.graph-graph.ensures.ends c.walk_edges-seen.ensures.turning c.walk_edges-seen.ensures.leaving c.turn_as_said.ensures).0 c.if-not-turn_as_said.false;
       apart = same.0 (c.in-Ok-true.ensures.0 c.in-Ok-true.field-0-test);
     }
@@ -38,7 +38,7 @@ returns-in-Ok-false-clause-fault c =
     let same = apart_is_no_repeat points.vertices (paths c.args.plane.now points) c.walk_edges-seen.new.rectangles.items axes (c.walk_edges-seen.ensures.listed c.if-not-seen-3.false) in (
       c.walk_edges-seen.ensures.in_grid.0 c.if-not-seen.false,
       axes,
-      (turns_as_said c.args.plane.now c.args.shape.now c.args.points.now c.turn_as_said.result c.walk_edges-seen.result.turning c.walk_edges-seen.result.leaving
+      (turns_as_said c.args.plane.now c.args.shape.now c.args.points.now c.turn_as_said.result c.walk_edges-seen.result.turning c.walk_edges-seen.new.directions
           c.graph-graph.ensures.ends c.walk_edges-seen.ensures.turning c.walk_edges-seen.ensures.leaving c.turn_as_said.ensures).0 c.if-not-turn_as_said.false,
       λ apart. both_ways c.in-Ok-false.field-0 c.in-Ok-false.field-0-test (c.in-Ok-false.ensures.1 (same.1 apart)),
     )
@@ -48,7 +48,7 @@ returns-then-not-seen-3-clause-memory c =
     λ _. record {
       grid = c.walk_edges-seen.ensures.in_grid.0 c.if-not-seen.false;
       axes = c.walk_edges-seen.ensures.on_axes.0 c.if-not-seen-2.false;
-      turns = (turns_as_said c.args.plane.now c.args.shape.now c.args.points.now c.turn_as_said.result c.walk_edges-seen.result.turning c.walk_edges-seen.result.leaving
+      turns = (turns_as_said c.args.plane.now c.args.shape.now c.args.points.now c.turn_as_said.result c.walk_edges-seen.result.turning c.walk_edges-seen.new.directions
           c.graph-graph.ensures.ends c.walk_edges-seen.ensures.turning c.walk_edges-seen.ensures.leaving c.turn_as_said.ensures).0 c.if-not-turn_as_said.false;
     }
 
@@ -57,6 +57,6 @@ returns-in-Err-clause-memory c =
     λ _. record {
       grid = c.walk_edges-seen.ensures.in_grid.0 c.if-not-seen.false;
       axes = c.walk_edges-seen.ensures.on_axes.0 c.if-not-seen-2.false;
-      turns = (turns_as_said c.args.plane.now c.args.shape.now c.args.points.now c.turn_as_said.result c.walk_edges-seen.result.turning c.walk_edges-seen.result.leaving
+      turns = (turns_as_said c.args.plane.now c.args.shape.now c.args.points.now c.turn_as_said.result c.walk_edges-seen.result.turning c.walk_edges-seen.new.directions
           c.graph-graph.ensures.ends c.walk_edges-seen.ensures.turning c.walk_edges-seen.ensures.leaving c.turn_as_said.ensures).0 c.if-not-turn_as_said.false;
     }

@@ -98,6 +98,6 @@ returns c =
         λ all. done.turning.1 (λ d lt less. (each_lesser turning p).0 all d (omega (arith, count, c.loop-dart.auto.dart-end)) less),
       );
       listed = λ t. done.listed t ∙ ap (λ (n : ℕ). base ++ flat_map strips (paths_below p points n)) whole;
-      size = done.leaving.size;
+      room = done.leaving.room;
       leaving = all_leave p points c.loop-dart.directions c.loop-dart.dart c.graph-graph.ensures.ends done.leaving (omega (arith, count));
     }
