@@ -49,11 +49,10 @@ opposite_is net first reverse forward i false l b = refl
 opposite_is net first reverse forward i true l b = l.turned i b
 
 -- what a push along residual arc k changes
-pub record IsPushed (reverse : ℕ → ℕ) (arcs arcs' : List ResidualArc) (k amount : ℕ) : Type 0 where
-  pub ends : (j : ℕ) → end_at arcs' j ≡ end_at arcs j
-  pub less : room_at arcs' k + amount ≡ room_at arcs k
-  pub more : room_at arcs' (reverse k) ≡ room_at arcs (reverse k) + amount
-  pub others : (j : ℕ) → j ≢ k → j ≢ reverse k → room_at arcs' j ≡ room_at arcs j
+pub record IsPushed (reverse room room' : ℕ → ℕ) (k amount : ℕ) : Type 0 where
+  pub less : room' k + amount ≡ room k
+  pub more : room' (reverse k) ≡ room (reverse k) + amount
+  pub others : (j : ℕ) → j ≢ k → j ≢ reverse k → room' j ≡ room j
 
 pub number_below : (net : NetworkModel) (first : List ℕ) (reverse : ℕ → ℕ) (forward : List ℕ) (v k : ℕ) → HasResidualArcs net first reverse forward → v < node_count net → StartsAt first v k → k < arc_count net + arc_count net
 number_below net first reverse forward v k l b s = omega (arith, s.below, l.inside v b)
@@ -100,17 +99,17 @@ coded_some : (z : ℤ) (r : ℕ) → 0 < r → coded z r ≡ z
 unfolding coded
 coded_some z r h = cond-false {A = ℤ} (eqb r 0) (z +ℤ SHUT) z (ne_eqb r 0 (λ e. omega arith))
 
-code_is : (net : NetworkModel) (reverse : ℕ → ℕ) (forward : List ℕ) (arcs : List ResidualArc) (i : ℕ) (back : Bool) → IsFilled net reverse forward arcs → i < arc_count net → cost_at arcs (place_of reverse forward i back) ≡ coded (unit_cost net i back) (room_at arcs (place_of reverse forward i back))
+code_is : (net : NetworkModel) (reverse : ℕ → ℕ) (forward : List ℕ) (room : ℕ → ℕ) (arcs : List ResidualArc) (i : ℕ) (back : Bool) → IsFilled net reverse forward room arcs → i < arc_count net → cost_at arcs (place_of reverse forward i back) ≡ coded (unit_cost net i back) (room (place_of reverse forward i back))
 unfolding coded
-code_is net reverse forward arcs i back f b = f.cost i back b
+code_is net reverse forward room arcs i back f b = f.cost i back b
 
 -- what fits along a residual arc and its reverse
-both_fit : (net : NetworkModel) (reverse : ℕ → ℕ) (forward : List ℕ) (arcs : List ResidualArc) (i : ℕ) (back : Bool) → IsFilled net reverse forward arcs → i < arc_count net → room_at arcs (place_of reverse forward i back) + room_at arcs (place_of reverse forward i (opposite back)) ≡ limit_of (arc_at net i).cap
+both_fit : (net : NetworkModel) (reverse : ℕ → ℕ) (forward : List ℕ) (room : ℕ → ℕ) (arcs : List ResidualArc) (i : ℕ) (back : Bool) → IsFilled net reverse forward room arcs → i < arc_count net → room (place_of reverse forward i back) + room (place_of reverse forward i (opposite back)) ≡ limit_of (arc_at net i).cap
 unfolding opposite
-both_fit net reverse forward arcs i false f b = f.fits i b
-both_fit net reverse forward arcs i true f b = omega (arith, f.fits i b)
+both_fit net reverse forward room arcs i false f b = f.fits i b
+both_fit net reverse forward room arcs i true f b = omega (arith, f.fits i b)
 
-cost_in : (net : NetworkModel) (r : Residual) (i : ℕ) (back : Bool) → IsNetwork net → IsResidualNetwork net r → i < arc_count net → HasUnitCost r (place_of (reverse_at r.arcs.items) r.forward.items i back)
+cost_in : (net : NetworkModel) (r : Residual) (i : ℕ) (back : Bool) → IsNetwork net → IsResidualNetwork net r → i < arc_count net → HasUnitCost r (place_of (reverse_at r.rooms.items) r.forward.items i back)
 cost_in net r i back n s b = (unit_cost net i back, unit_cost_least net i back n.costs b, unit_cost_most net i back n.costs b, s.filled.cost i back b)
 
 -- a node's residual arc has a reverse
@@ -119,28 +118,29 @@ is_paired net r v k n s b st =
     let l = s.laid_out in
     let f = s.filled in
     let first = r.first.items in
-    let reverse = reverse_at r.arcs.items in
+    let reverse = reverse_at r.rooms.items in
     let forward = r.forward.items in
     let o = l.cover v k b st in
     let e : reverse k ≡ place_of reverse forward o.arc (opposite o.back) = reverse_place net first reverse forward k o.arc o.back l o.inside o.place in
-    let there : room_at r.arcs.items (reverse k) ≡ room_at r.arcs.items (place_of reverse forward o.arc (opposite o.back)) = ap (room_at r.arcs.items) e in
-    let here : room_at r.arcs.items (place_of reverse forward o.arc o.back) ≡ room_at r.arcs.items k = ap (room_at r.arcs.items) o.place in
+    let there : room_at r.rooms.items (reverse k) ≡ room_at r.rooms.items (place_of reverse forward o.arc (opposite o.back)) = ap (room_at r.rooms.items) e in
+    let here : room_at r.rooms.items (place_of reverse forward o.arc o.back) ≡ room_at r.rooms.items k = ap (room_at r.rooms.items) o.place in
     let low : k < arc_count net + arc_count net = number_below net first reverse forward v k l b st in
     let back : reverse k < arc_count net + arc_count net = reverse_below net first reverse forward v k n l b st in
     record {
+      sizes = s.room_size ∙ sym f.arc_size;
       here = omega (arith, f.arc_size);
       there = omega (arith, f.arc_size);
       apart = not_reverse net first reverse forward v k l b st;
       cost = subst (λ (t : ℕ). HasUnitCost r t) o.place (cost_in net r o.arc o.back n s o.inside);
       back_cost = subst (λ (t : ℕ). HasUnitCost r t) (sym e) (cost_in net r o.arc (opposite o.back) n s o.inside);
-      room = omega (arith, both_fit net reverse forward r.arcs.items o.arc o.back f o.inside, s.limits o.arc o.inside);
+      room = omega (arith, both_fit net reverse forward (room_at r.rooms.items) r.arcs.items o.arc o.back f o.inside, s.limits o.arc o.inside);
     }
 
 -- what fits along one residual arc changes no other cost
-pub still_costs : (r r' : Residual) (k units j : ℕ) (z : ℤ) → IsSetTo r r' k units → IsCosted r.arcs.items j z → IsCosted r'.arcs.items j z
+pub still_costs : (r r' : Residual) (k units j : ℕ) (z : ℤ) → IsSetTo r r' k units → IsCosted r.arcs.items r.rooms.items j z → IsCosted r'.arcs.items r'.rooms.items j z
 still_costs r r' k units j z s h =
     elim (cases_eq j k) [
-      | inl q ↦ subst (λ (t : ℕ). IsCosted r'.arcs.items t z) (sym q) (s.cost z (subst (λ (t : ℕ). IsCosted r.arcs.items t z) q h))
+      | inl q ↦ subst (λ (t : ℕ). IsCosted r'.arcs.items r'.rooms.items t z) (sym q) (s.cost z (subst (λ (t : ℕ). IsCosted r.arcs.items r.rooms.items t z) q h))
       | inr ne ↦ s.costs j ne ∙ h ∙ ap (λ (t : ℕ). cond (eqb t 0) (z +ℤ SHUT) z) (sym (s.others j ne))
     ]
 
@@ -158,30 +158,31 @@ unfolding opposite
 either_order reverse forward room i k false h = h
 either_order reverse forward room i k true h = omega arith
 
-pushed_fits : (net : NetworkModel) (first : List ℕ) (reverse : ℕ → ℕ) (forward : List ℕ) (arcs arcs' : List ResidualArc) (i j : ℕ) (b : Bool) (k amount : ℕ) → HasResidualArcs net first reverse forward → IsFilled net reverse forward arcs → i < arc_count net → place_of reverse forward i b ≡ k → IsPushed reverse arcs arcs' k amount → j < arc_count net → room_at arcs' (place_of reverse forward j false) + room_at arcs' (place_of reverse forward j true) ≡ limit_of (arc_at net j).cap
-pushed_fits net first reverse forward arcs arcs' i j b k amount l f inside e s inside' =
+pushed_fits : (net : NetworkModel) (first : List ℕ) (reverse : ℕ → ℕ) (forward : List ℕ) (room room' : ℕ → ℕ) (arcs : List ResidualArc) (i j : ℕ) (b : Bool) (k amount : ℕ) → HasResidualArcs net first reverse forward → IsFilled net reverse forward room arcs → i < arc_count net → place_of reverse forward i b ≡ k → IsPushed reverse room room' k amount → j < arc_count net → room' (place_of reverse forward j false) + room' (place_of reverse forward j true) ≡ limit_of (arc_at net j).cap
+pushed_fits net first reverse forward room room' arcs i j b k amount l f inside e s inside' =
     let back = reverse_place net first reverse forward k i b l inside e in
     elim (cases_eq j i) [
       | inl q ↦
-          subst (λ (t : ℕ). room_at arcs' (place_of reverse forward t false) + room_at arcs' (place_of reverse forward t true) ≡ limit_of (arc_at net t).cap) (sym q)
-          (either_order reverse forward (room_at arcs') i (limit_of (arc_at net i).cap) b
-          (moved_fits (room_at arcs (place_of reverse forward i b)) (room_at arcs (place_of reverse forward i (opposite b))) (room_at arcs' (place_of reverse forward i b)) (room_at arcs' (place_of reverse forward i (opposite b))) amount (limit_of (arc_at net i).cap) (both_fit net reverse forward arcs i b f inside)
-          (subst (λ (t : ℕ). room_at arcs' t + amount ≡ room_at arcs t) (sym e) s.less)
-          (subst (λ (t : ℕ). room_at arcs' t ≡ room_at arcs t + amount) back s.more)))
+          subst (λ (t : ℕ). room' (place_of reverse forward t false) + room' (place_of reverse forward t true) ≡ limit_of (arc_at net t).cap) (sym q)
+          (either_order reverse forward room' i (limit_of (arc_at net i).cap) b
+          (moved_fits (room (place_of reverse forward i b)) (room (place_of reverse forward i (opposite b))) (room' (place_of reverse forward i b)) (room' (place_of reverse forward i (opposite b))) amount (limit_of (arc_at net i).cap) (both_fit net reverse forward room arcs i b f inside)
+          (subst (λ (t : ℕ). room' t + amount ≡ room t) (sym e) s.less)
+          (subst (λ (t : ℕ). room' t ≡ room t + amount) back s.more)))
       | inr ne ↦
-          let same : (c : Bool) → room_at arcs' (place_of reverse forward j c) ≡ room_at arcs (place_of reverse forward j c) =
+          let same : (c : Bool) → room' (place_of reverse forward j c) ≡ room (place_of reverse forward j c) =
           λ c. s.others (place_of reverse forward j c) (λ h. ne (l.alone j i c b inside' inside (h ∙ sym e)).0) (λ h. ne (l.alone j i c (opposite b) inside' inside (h ∙ back)).0) in
           omega (arith, same false, same true, f.fits j inside')
     ]
 
 -- less fits along residual arc k, and as much more along its reverse
-pub pushed_along : (r r' r'' : Residual) (k amount less more : ℕ) → k ≢ reverse_at r.arcs.items k → IsSetTo r r' k less → IsSetTo r' r'' (reverse_at r.arcs.items k) more → less + amount ≡ room_at r.arcs.items k → more ≡ room_at r'.arcs.items (reverse_at r.arcs.items k) + amount → IsPushedAlong r r'' k amount
+pub pushed_along : (r r' r'' : Residual) (k amount less more : ℕ) → k ≢ reverse_at r.rooms.items k → IsSetTo r r' k less → IsSetTo r' r'' (reverse_at r.rooms.items k) more → less + amount ≡ room_at r.rooms.items k → more ≡ room_at r'.rooms.items (reverse_at r.rooms.items k) + amount → IsPushedAlong r r'' k amount
 pushed_along r r' r'' k amount less more ne one two le me =
-    let back = reverse_at r.arcs.items k in
+    let back = reverse_at r.rooms.items k in
     record {
       first = two.first ∙ one.first;
       forward = two.forward ∙ one.forward;
       arc_size = two.arc_size ∙ one.arc_size;
+      room_size = two.room_size ∙ one.room_size;
       ends = λ j. two.end j ∙ one.end j;
       reverse = λ j. two.reverse j ∙ one.reverse j;
       costs = λ j z h. still_costs r' r'' back more j z two (still_costs r r' k less j z one h);
@@ -190,8 +191,8 @@ pushed_along r r' r'' k amount less more ne one two le me =
       others = λ j x y. two.others j y ∙ one.others j x;
     }
 
-pub was_pushed : (r r' : Residual) (k amount : ℕ) → IsPushedAlong r r' k amount → IsPushed (reverse_at r.arcs.items) r.arcs.items r'.arcs.items k amount
-was_pushed r r' k amount s = record { ends = s.ends; less = s.less; more = s.more; others = s.others }
+pub was_pushed : (r r' : Residual) (k amount : ℕ) → IsPushedAlong r r' k amount → IsPushed (reverse_at r.rooms.items) (room_at r.rooms.items) (room_at r'.rooms.items) k amount
+was_pushed r r' k amount s = record { less = s.less; more = s.more; others = s.others }
 
 -- the residual arcs are still those of the network
 pub pushed_network : (net : NetworkModel) (r r' : Residual) (v k amount : ℕ) → IsResidualNetwork net r → v < node_count net → StartsAt r.first.items v k → IsPushedAlong r r' k amount → IsResidualNetwork net r'
@@ -199,24 +200,25 @@ pushed_network net r r' v k amount s b st p =
     let l = s.laid_out in
     let f = s.filled in
     let o = l.cover v k b st in
-    let filled : IsFilled net (reverse_at r.arcs.items) r.forward.items r'.arcs.items = record {
+    let filled : IsFilled net (reverse_at r.rooms.items) r.forward.items (room_at r'.rooms.items) r'.arcs.items = record {
       arc_size = p.arc_size ∙ f.arc_size;
-      end = λ j c h. p.ends (place_of (reverse_at r.arcs.items) r.forward.items j c) ∙ f.end j c h;
-      cost = λ j c h. p.costs (place_of (reverse_at r.arcs.items) r.forward.items j c) (unit_cost net j c) (f.cost j c h);
-      fits = λ j h. pushed_fits net r.first.items (reverse_at r.arcs.items) r.forward.items r.arcs.items r'.arcs.items o.arc j o.back k amount l f o.inside o.place (was_pushed r r' k amount p) h;
+      end = λ j c h. p.ends (place_of (reverse_at r.rooms.items) r.forward.items j c) ∙ f.end j c h;
+      cost = λ j c h. p.costs (place_of (reverse_at r.rooms.items) r.forward.items j c) (unit_cost net j c) (f.cost j c h);
+      fits = λ j h. pushed_fits net r.first.items (reverse_at r.rooms.items) r.forward.items (room_at r.rooms.items) (room_at r'.rooms.items) r.arcs.items o.arc j o.back k amount l f o.inside o.place (was_pushed r r' k amount p) h;
     } in
     record {
       laid_out = rw (p.first, p.forward) (subst (λ (turn : ℕ → ℕ). HasResidualArcs net r.first.items turn r.forward.items) (sym (fun_ext p.reverse)) l);
-      filled = rw p.forward (subst (λ (turn : ℕ → ℕ). IsFilled net turn r.forward.items r'.arcs.items) (sym (fun_ext p.reverse)) filled);
+      filled = rw p.forward (subst (λ (turn : ℕ → ℕ). IsFilled net turn r.forward.items (room_at r'.rooms.items) r'.arcs.items) (sym (fun_ext p.reverse)) filled);
+      room_size = p.room_size ∙ s.room_size;
       limits = s.limits;
     }
 
 -- where reverses and arcs stand where they stood, what each arc carries is read as before
-pub same_flow : (r r' : Residual) → ((k : ℕ) → reverse_at r'.arcs.items k ≡ reverse_at r.arcs.items k) → r'.forward ≡ r.forward → flow_of r' ≡ carried (reverse_at r.arcs.items) r.forward.items (room_at r'.arcs.items)
-same_flow r r' turned f = rw f (ap (λ (turn : ℕ → ℕ). carried turn r.forward.items (room_at r'.arcs.items)) (fun_ext turned))
+pub same_flow : (r r' : Residual) → ((k : ℕ) → reverse_at r'.rooms.items k ≡ reverse_at r.rooms.items k) → r'.forward ≡ r.forward → flow_of r' ≡ carried (reverse_at r.rooms.items) r.forward.items (room_at r'.rooms.items)
+same_flow r r' turned f = rw f (ap (λ (turn : ℕ → ℕ). carried turn r.forward.items (room_at r'.rooms.items)) (fun_ext turned))
 
-pub same_filled : (net : NetworkModel) (r r' : Residual) → ((k : ℕ) → reverse_at r'.arcs.items k ≡ reverse_at r.arcs.items k) → r'.forward ≡ r.forward → IsResidualNetwork net r' → IsFilled net (reverse_at r.arcs.items) r.forward.items r'.arcs.items
-same_filled net r r' turned f h = subst (λ (turn : ℕ → ℕ). IsFilled net turn r.forward.items r'.arcs.items) (fun_ext turned) (rw f at h.filled)
+pub same_filled : (net : NetworkModel) (r r' : Residual) → ((k : ℕ) → reverse_at r'.rooms.items k ≡ reverse_at r.rooms.items k) → r'.forward ≡ r.forward → IsResidualNetwork net r' → IsFilled net (reverse_at r.rooms.items) r.forward.items (room_at r'.rooms.items) r'.arcs.items
+same_filled net r r' turned f h = subst (λ (turn : ℕ → ℕ). IsFilled net turn r.forward.items (room_at r'.rooms.items) r'.arcs.items) (fun_ext turned) (rw f at h.filled)
 
 -- ---- what a push does to the amounts that the arcs carry
 
@@ -340,12 +342,12 @@ some_coded z c r least e h =
 free_cost : (c z a b a' b' : ℤ) → c +ℤ a -ℤ b ≡ pos 0 → c ≡ z → a' ≡ a → b' ≡ b → z +ℤ a' -ℤ b' ≡ pos 0
 free_cost c z a b a' b' h e f g = omega (arith, ints)
 
-pub tight_link : (net : NetworkModel) (first : List ℕ) (reverse : ℕ → ℕ) (forward : List ℕ) (arcs : List ResidualArc) (p : ℕ → ℤ) (u k v : ℕ) → IsNetwork net → HasResidualArcs net first reverse forward → IsFilled net reverse forward arcs → u < node_count net → IsTight first arcs p u k v → IsLink net reverse forward (room_at arcs) p u k v
-tight_link net first reverse forward arcs p u k v n l f b t =
+pub tight_link : (net : NetworkModel) (first : List ℕ) (reverse : ℕ → ℕ) (forward : List ℕ) (room : ℕ → ℕ) (arcs : List ResidualArc) (p : ℕ → ℤ) (u k v : ℕ) → IsNetwork net → HasResidualArcs net first reverse forward → IsFilled net reverse forward room arcs → u < node_count net → IsTight first arcs p u k v → IsLink net reverse forward room p u k v
+tight_link net first reverse forward room arcs p u k v n l f b t =
     let o = l.cover u k b t.leaves in
     let z = unit_cost net o.arc o.back in
-    let cost : cost_at arcs k ≡ coded z (room_at arcs k) = subst (λ (q : ℕ). cost_at arcs q ≡ coded z (room_at arcs q)) o.place (code_is net reverse forward arcs o.arc o.back f o.inside) in
-    let some : 0 < room_at arcs k = some_coded z (cost_at arcs k) (room_at arcs k) (unit_cost_least net o.arc o.back n.costs o.inside) cost t.unblocked in
+    let cost : cost_at arcs k ≡ coded z (room k) = subst (λ (q : ℕ). cost_at arcs q ≡ coded z (room q)) o.place (code_is net reverse forward room arcs o.arc o.back f o.inside) in
+    let some : 0 < room k = some_coded z (cost_at arcs k) (room k) (unit_cost_least net o.arc o.back n.costs o.inside) cost t.unblocked in
     let finish : end_of net o.arc o.back ≡ v = sym (f.end o.arc o.back o.inside) ∙ ap (end_at arcs) o.place ∙ t.arrives in
     record {
       arc = o.arc;
@@ -355,25 +357,25 @@ tight_link net first reverse forward arcs p u k v n l f b t =
       start = o.start;
       end = finish;
       some = some;
-      free = free_cost (cost_at arcs k) z (p u) (p v) (p (start_of net o.arc o.back)) (p (end_of net o.arc o.back)) t.free (cost ∙ coded_some z (room_at arcs k) some) (ap p o.start) (ap p finish);
+      free = free_cost (cost_at arcs k) z (p u) (p v) (p (start_of net o.arc o.back)) (p (end_of net o.arc o.back)) t.free (cost ∙ coded_some z (room k) some) (ap p o.start) (ap p finish);
     }
 
 -- what a push does to the amount of its own arc, and to the others
-moved_by : (net : NetworkModel) (first : List ℕ) (reverse : ℕ → ℕ) (forward : List ℕ) (arcs arcs' : List ResidualArc) (i : ℕ) (b : Bool) (k amount : ℕ) → HasResidualArcs net first reverse forward → i < arc_count net → place_of reverse forward i b ≡ k → IsPushed reverse arcs arcs' k amount → IsMoved b (carried reverse forward (room_at arcs) i) amount (carried reverse forward (room_at arcs') i)
+moved_by : (net : NetworkModel) (first : List ℕ) (reverse : ℕ → ℕ) (forward : List ℕ) (room room' : ℕ → ℕ) (i : ℕ) (b : Bool) (k amount : ℕ) → HasResidualArcs net first reverse forward → i < arc_count net → place_of reverse forward i b ≡ k → IsPushed reverse room room' k amount → IsMoved b (carried reverse forward room i) amount (carried reverse forward room' i)
 unfolding opposite
-moved_by net first reverse forward arcs arcs' i false k amount l b e s = subst (λ (t : ℕ). room_at arcs' t ≡ room_at arcs t + amount) (reverse_place net first reverse forward k i false l b e) s.more
-moved_by net first reverse forward arcs arcs' i true k amount l b e s = sym (subst (λ (t : ℕ). room_at arcs' t + amount ≡ room_at arcs t) (sym e) s.less)
+moved_by net first reverse forward room room' i false k amount l b e s = subst (λ (t : ℕ). room' t ≡ room t + amount) (reverse_place net first reverse forward k i false l b e) s.more
+moved_by net first reverse forward room room' i true k amount l b e s = sym (subst (λ (t : ℕ). room' t + amount ≡ room t) (sym e) s.less)
 
-kept_by : (net : NetworkModel) (first : List ℕ) (reverse : ℕ → ℕ) (forward : List ℕ) (arcs arcs' : List ResidualArc) (i : ℕ) (b : Bool) (k amount : ℕ) → HasResidualArcs net first reverse forward → i < arc_count net → place_of reverse forward i b ≡ k → IsPushed reverse arcs arcs' k amount → SameOthers net i (carried reverse forward (room_at arcs)) (carried reverse forward (room_at arcs'))
-kept_by net first reverse forward arcs arcs' i b k amount l inside e s j c ne =
+kept_by : (net : NetworkModel) (first : List ℕ) (reverse : ℕ → ℕ) (forward : List ℕ) (room room' : ℕ → ℕ) (i : ℕ) (b : Bool) (k amount : ℕ) → HasResidualArcs net first reverse forward → i < arc_count net → place_of reverse forward i b ≡ k → IsPushed reverse room room' k amount → SameOthers net i (carried reverse forward room) (carried reverse forward room')
+kept_by net first reverse forward room room' i b k amount l inside e s j c ne =
     s.others (place_of reverse forward j true)
     (λ h. ne (l.alone j i true b c inside (h ∙ sym e)).0)
     (λ h. ne (l.alone j i true (opposite b) c inside (h ∙ reverse_place net first reverse forward k i b l inside e)).0)
 
 -- where an arc carries what it carried, the same fits along it
-same_room : (net : NetworkModel) (reverse : ℕ → ℕ) (forward : List ℕ) (arcs arcs' : List ResidualArc) (i : ℕ) (back : Bool) → IsFilled net reverse forward arcs → IsFilled net reverse forward arcs' → i < arc_count net → carried reverse forward (room_at arcs') i ≡ carried reverse forward (room_at arcs) i → room_at arcs' (place_of reverse forward i back) ≡ room_at arcs (place_of reverse forward i back)
-same_room net reverse forward arcs arcs' i true f f' b h = h
-same_room net reverse forward arcs arcs' i false f f' b h = omega (arith, f.fits i b, f'.fits i b)
+same_room : (net : NetworkModel) (reverse : ℕ → ℕ) (forward : List ℕ) (room room' : ℕ → ℕ) (arcs arcs' : List ResidualArc) (i : ℕ) (back : Bool) → IsFilled net reverse forward room arcs → IsFilled net reverse forward room' arcs' → i < arc_count net → carried reverse forward room' i ≡ carried reverse forward room i → room' (place_of reverse forward i back) ≡ room (place_of reverse forward i back)
+same_room net reverse forward room room' arcs arcs' i true f f' b h = h
+same_room net reverse forward room room' arcs arcs' i false f f' b h = omega (arith, f.fits i b, f'.fits i b)
 
 both_ends : (net : NetworkModel) (on : ℕ → Bool) (place : ℕ → ℕ) (x y : ℕ → ℕ) (i : ℕ) (back : Bool) (u v : ℕ) → start_of net i back ≡ u → end_of net i back ≡ v → on u ≡ true → on v ≡ true → place u < place v → (on (arc_at net i).from ≡ true → on (arc_at net i).to ≡ true → place (arc_at net i).from ≤ place v → place (arc_at net i).to ≤ place v → y i ≡ x i) → y i ≡ x i
 both_ends net on place x y i false u v s e a b less kept =
@@ -390,29 +392,29 @@ link_kept net reverse forward room p e on place x y u k v amount most t a b less
     both_ends net on place x y t.arc t.back u v t.start t.end a b less (s.kept t.arc t.inside)
 
 -- what fitted along the next residual arc still does
-pub still_fits : (net : NetworkModel) (reverse : ℕ → ℕ) (forward : List ℕ) (arcs arcs' : List ResidualArc) (p e : ℕ → ℤ) (on : ℕ → Bool) (place : ℕ → ℕ) (u k v amount most : ℕ) → IsFilled net reverse forward arcs → IsFilled net reverse forward arcs' → IsLink net reverse forward (room_at arcs) p u k v → on u ≡ true → on v ≡ true → place u < place v → IsSending net p e on place (carried reverse forward (room_at arcs)) (carried reverse forward (room_at arcs')) v amount most → amount ≤ room_at arcs k → amount ≤ room_at arcs' k
-still_fits net reverse forward arcs arcs' p e on place u k v amount most f f' t a b less s fits =
-    let own = link_kept net reverse forward (room_at arcs) p e on place (carried reverse forward (room_at arcs)) (carried reverse forward (room_at arcs')) u k v amount most t a b less s in
-    let same : room_at arcs' k ≡ room_at arcs k = subst (λ (q : ℕ). room_at arcs' q ≡ room_at arcs q) t.place (same_room net reverse forward arcs arcs' t.arc t.back f f' t.inside own) in
+pub still_fits : (net : NetworkModel) (reverse : ℕ → ℕ) (forward : List ℕ) (room room' : ℕ → ℕ) (arcs arcs' : List ResidualArc) (p e : ℕ → ℤ) (on : ℕ → Bool) (place : ℕ → ℕ) (u k v amount most : ℕ) → IsFilled net reverse forward room arcs → IsFilled net reverse forward room' arcs' → IsLink net reverse forward room p u k v → on u ≡ true → on v ≡ true → place u < place v → IsSending net p e on place (carried reverse forward room) (carried reverse forward room') v amount most → amount ≤ room k → amount ≤ room' k
+still_fits net reverse forward room room' arcs arcs' p e on place u k v amount most f f' t a b less s fits =
+    let own = link_kept net reverse forward room p e on place (carried reverse forward room) (carried reverse forward room') u k v amount most t a b less s in
+    let same : room' k ≡ room k = subst (λ (q : ℕ). room' q ≡ room q) t.place (same_room net reverse forward room room' arcs arcs' t.arc t.back f f' t.inside own) in
     omega arith
 
 -- a push along the next residual arc
-pub sending_more : (net : NetworkModel) (first : List ℕ) (reverse : ℕ → ℕ) (forward : List ℕ) (arcs arcs' arcs'' : List ResidualArc) (p e : ℕ → ℤ) (on : ℕ → Bool) (place : ℕ → ℕ) (u k v amount most : ℕ) → HasResidualArcs net first reverse forward → IsLink net reverse forward (room_at arcs) p u k v → on u ≡ true → on v ≡ true → place u < place v → IsSending net p e on place (carried reverse forward (room_at arcs)) (carried reverse forward (room_at arcs')) v amount most → IsPushed reverse arcs' arcs'' k amount → IsSending net p e on place (carried reverse forward (room_at arcs)) (carried reverse forward (room_at arcs'')) u amount most
-sending_more net first reverse forward arcs arcs' arcs'' p e on place u k v amount most l t a b less s pushed =
-    sent_on net p e on place (carried reverse forward (room_at arcs)) (carried reverse forward (room_at arcs')) (carried reverse forward (room_at arcs'')) t.arc t.back u v amount most t.inside
-    (moved_by net first reverse forward arcs' arcs'' t.arc t.back k amount l t.inside t.place pushed)
-    (kept_by net first reverse forward arcs' arcs'' t.arc t.back k amount l t.inside t.place pushed)
+pub sending_more : (net : NetworkModel) (first : List ℕ) (reverse : ℕ → ℕ) (forward : List ℕ) (room room' room'' : ℕ → ℕ) (p e : ℕ → ℤ) (on : ℕ → Bool) (place : ℕ → ℕ) (u k v amount most : ℕ) → HasResidualArcs net first reverse forward → IsLink net reverse forward room p u k v → on u ≡ true → on v ≡ true → place u < place v → IsSending net p e on place (carried reverse forward room) (carried reverse forward room') v amount most → IsPushed reverse room' room'' k amount → IsSending net p e on place (carried reverse forward room) (carried reverse forward room'') u amount most
+sending_more net first reverse forward room room' room'' p e on place u k v amount most l t a b less s pushed =
+    sent_on net p e on place (carried reverse forward room) (carried reverse forward room') (carried reverse forward room'') t.arc t.back u v amount most t.inside
+    (moved_by net first reverse forward room' room'' t.arc t.back k amount l t.inside t.place pushed)
+    (kept_by net first reverse forward room' room'' t.arc t.back k amount l t.inside t.place pushed)
     t.free t.start t.end
-    (link_kept net reverse forward (room_at arcs) p e on place (carried reverse forward (room_at arcs)) (carried reverse forward (room_at arcs')) u k v amount most t a b less s)
+    (link_kept net reverse forward room p e on place (carried reverse forward room) (carried reverse forward room') u k v amount most t a b less s)
     (λ _. less) (λ j c f g d h. s.kept j c f g (omega arith) (omega arith)) s.carries s.priced s.grown (omega (arith, s.few))
 
 -- the push along the last residual arc
-pub sending_first : (net : NetworkModel) (first : List ℕ) (reverse : ℕ → ℕ) (forward : List ℕ) (arcs arcs' : List ResidualArc) (p e : ℕ → ℤ) (on : ℕ → Bool) (place : ℕ → ℕ) (u k v amount : ℕ) → HasResidualArcs net first reverse forward → IsLink net reverse forward (room_at arcs) p u k v → on v ≡ false → Carries net (carried reverse forward (room_at arcs)) e v amount → HasPotentials net (carried reverse forward (room_at arcs)) p → IsPushed reverse arcs arcs' k amount → IsSending net p e on place (carried reverse forward (room_at arcs)) (carried reverse forward (room_at arcs')) u amount (carrying net (carried reverse forward (room_at arcs)) + place u + 1)
-sending_first net first reverse forward arcs arcs' p e on place u k v amount l t off carries priced pushed =
-    let x = carried reverse forward (room_at arcs) in
-    sent_on net p e on place x x (carried reverse forward (room_at arcs')) t.arc t.back u v amount (carrying net x + place u + 1) t.inside
-    (moved_by net first reverse forward arcs arcs' t.arc t.back k amount l t.inside t.place pushed)
-    (kept_by net first reverse forward arcs arcs' t.arc t.back k amount l t.inside t.place pushed)
+pub sending_first : (net : NetworkModel) (first : List ℕ) (reverse : ℕ → ℕ) (forward : List ℕ) (room room' : ℕ → ℕ) (p e : ℕ → ℤ) (on : ℕ → Bool) (place : ℕ → ℕ) (u k v amount : ℕ) → HasResidualArcs net first reverse forward → IsLink net reverse forward room p u k v → on v ≡ false → Carries net (carried reverse forward room) e v amount → HasPotentials net (carried reverse forward room) p → IsPushed reverse room room' k amount → IsSending net p e on place (carried reverse forward room) (carried reverse forward room') u amount (carrying net (carried reverse forward room) + place u + 1)
+sending_first net first reverse forward room room' p e on place u k v amount l t off carries priced pushed =
+    let x = carried reverse forward room in
+    sent_on net p e on place x x (carried reverse forward room') t.arc t.back u v amount (carrying net x + place u + 1) t.inside
+    (moved_by net first reverse forward room room' t.arc t.back k amount l t.inside t.place pushed)
+    (kept_by net first reverse forward room room' t.arc t.back k amount l t.inside t.place pushed)
     t.free t.start t.end refl
     (λ h. absurd (both_ways (on v) off h)) (λ j c f g d h. refl) carries priced (λ j c. omega arith) (omega arith)
 
@@ -479,8 +481,8 @@ within_limit : (c : Cap) (a b : ℕ) → a + b ≡ limit_of c → IsWithin c b
 within_limit (AtMost k) a b h = omega arith
 within_limit Any a b h = tt
 
-pub filled_caps : (net : NetworkModel) (reverse : ℕ → ℕ) (forward : List ℕ) (arcs : List ResidualArc) → IsFilled net reverse forward arcs → KeepsCaps net (carried reverse forward (room_at arcs))
-filled_caps net reverse forward arcs f i b = within_limit (arc_at net i).cap (room_at arcs (place_of reverse forward i false)) (room_at arcs (place_of reverse forward i true)) (f.fits i b)
+pub filled_caps : (net : NetworkModel) (reverse : ℕ → ℕ) (forward : List ℕ) (room : ℕ → ℕ) (arcs : List ResidualArc) → IsFilled net reverse forward room arcs → KeepsCaps net (carried reverse forward room)
+filled_caps net reverse forward room arcs f i b = within_limit (arc_at net i).cap (room (place_of reverse forward i false)) (room (place_of reverse forward i true)) (f.fits i b)
 
 apart : (e : ℕ → ℤ) (u v : ℕ) → pos 0 <ℤ e u → e v ≤ℤ pos 0 → v ≢ u
 apart e u v a b h = let same : e v ≡ e u = ap e h in omega (arith, ints)
@@ -530,64 +532,64 @@ sent_less net x y e e' u k s some = record {
 -- ---- the residual arcs of the path
 
 -- residual arc k, by which node v of the path was entered, leads there from a node of a lesser place
-pub record IsStep (net : NetworkModel) (first : List ℕ) (reverse : ℕ → ℕ) (forward : List ℕ) (arcs : List ResidualArc) (p : ℕ → ℤ) (on : ℕ → Bool) (place : ℕ → ℕ) (v k : ℕ) : Type 0 where
+pub record IsStep (net : NetworkModel) (first : List ℕ) (reverse : ℕ → ℕ) (forward : List ℕ) (room : ℕ → ℕ) (arcs : List ResidualArc) (p : ℕ → ℤ) (on : ℕ → Bool) (place : ℕ → ℕ) (v k : ℕ) : Type 0 where
   pub node : end_at arcs (reverse k) < node_count net
   pub member : on (end_at arcs (reverse k)) ≡ true
   pub before : place (end_at arcs (reverse k)) < place v
   pub leaves : StartsAt first (end_at arcs (reverse k)) k
-  pub link : IsLink net reverse forward (room_at arcs) p (end_at arcs (reverse k)) k v
+  pub link : IsLink net reverse forward room p (end_at arcs (reverse k)) k v
 
-pub path_step : (net : NetworkModel) (first : List ℕ) (reverse : ℕ → ℕ) (forward : List ℕ) (arcs : List ResidualArc) (p : ℕ → ℤ) (enter place : ℕ → ℕ) (source found : ℕ) → IsNetwork net → HasResidualArcs net first reverse forward → IsFilled net reverse forward arcs → (h : HasPath (node_count net) first arcs p enter place source found) → (v : ℕ) → h.on v ≡ true → 0 < place v → IsStep net first reverse forward arcs p h.on place v (enter v)
-path_step net first reverse forward arcs p enter place source found n l f h v on some =
+pub path_step : (net : NetworkModel) (first : List ℕ) (reverse : ℕ → ℕ) (forward : List ℕ) (room : ℕ → ℕ) (arcs : List ResidualArc) (p : ℕ → ℤ) (enter place : ℕ → ℕ) (source found : ℕ) → IsNetwork net → HasResidualArcs net first reverse forward → IsFilled net reverse forward room arcs → (h : HasPath (node_count net) first arcs p enter place source found) → (v : ℕ) → h.on v ≡ true → 0 < place v → IsStep net first reverse forward room arcs p h.on place v (enter v)
+path_step net first reverse forward room arcs p enter place source found n l f h v on some =
     let a = h.after v on some in
     let b : a.start < node_count net = h.node a.start a.member in
-    let s : end_at arcs (reverse (enter v)) ≡ a.start = start_is net first reverse forward arcs a.start (enter v) l f b a.step.leaves in
+    let s : end_at arcs (reverse (enter v)) ≡ a.start = start_is net first reverse forward room arcs a.start (enter v) l f b a.step.leaves in
     record {
       node = subst (λ (t : ℕ). t < node_count net) (sym s) b;
       member = ap h.on s ∙ a.member;
       before = subst (λ (t : ℕ). place t < place v) (sym s) a.before;
       leaves = subst (λ (t : ℕ). StartsAt first t (enter v)) (sym s) a.step.leaves;
-      link = subst (λ (t : ℕ). IsLink net reverse forward (room_at arcs) p t (enter v) v) (sym s) (tight_link net first reverse forward arcs p a.start (enter v) v n l f b a.step);
+      link = subst (λ (t : ℕ). IsLink net reverse forward room p t (enter v) v) (sym s) (tight_link net first reverse forward room arcs p a.start (enter v) v n l f b a.step);
     }
 
 -- the last residual arc of the path leads off it
-pub record IsLast (net : NetworkModel) (first : List ℕ) (reverse : ℕ → ℕ) (forward : List ℕ) (arcs : List ResidualArc) (p : ℕ → ℤ) (on : ℕ → Bool) (k : ℕ) : Type 0 where
+pub record IsLast (net : NetworkModel) (first : List ℕ) (reverse : ℕ → ℕ) (forward : List ℕ) (room : ℕ → ℕ) (arcs : List ResidualArc) (p : ℕ → ℤ) (on : ℕ → Bool) (k : ℕ) : Type 0 where
   pub node : end_at arcs (reverse k) < node_count net
   pub member : on (end_at arcs (reverse k)) ≡ true
   pub leaves : StartsAt first (end_at arcs (reverse k)) k
-  pub link : IsLink net reverse forward (room_at arcs) p (end_at arcs (reverse k)) k (end_at arcs k)
+  pub link : IsLink net reverse forward room p (end_at arcs (reverse k)) k (end_at arcs k)
 
-pub path_last : (net : NetworkModel) (first : List ℕ) (reverse : ℕ → ℕ) (forward : List ℕ) (arcs : List ResidualArc) (p : ℕ → ℤ) (enter place : ℕ → ℕ) (source found : ℕ) → IsNetwork net → HasResidualArcs net first reverse forward → IsFilled net reverse forward arcs → (h : HasPath (node_count net) first arcs p enter place source found) → IsLast net first reverse forward arcs p h.on found
-path_last net first reverse forward arcs p enter place source found n l f h =
+pub path_last : (net : NetworkModel) (first : List ℕ) (reverse : ℕ → ℕ) (forward : List ℕ) (room : ℕ → ℕ) (arcs : List ResidualArc) (p : ℕ → ℤ) (enter place : ℕ → ℕ) (source found : ℕ) → IsNetwork net → HasResidualArcs net first reverse forward → IsFilled net reverse forward room arcs → (h : HasPath (node_count net) first arcs p enter place source found) → IsLast net first reverse forward room arcs p h.on found
+path_last net first reverse forward room arcs p enter place source found n l f h =
     let b : h.last < node_count net = h.node h.last h.member in
-    let s : end_at arcs (reverse found) ≡ h.last = start_is net first reverse forward arcs h.last found l f b h.step.leaves in
+    let s : end_at arcs (reverse found) ≡ h.last = start_is net first reverse forward room arcs h.last found l f b h.step.leaves in
     record {
       node = subst (λ (t : ℕ). t < node_count net) (sym s) b;
       member = ap h.on s ∙ h.member;
       leaves = subst (λ (t : ℕ). StartsAt first t found) (sym s) h.step.leaves;
-      link = subst (λ (t : ℕ). IsLink net reverse forward (room_at arcs) p t found (end_at arcs found)) (sym s) (tight_link net first reverse forward arcs p h.last found (end_at arcs found) n l f b h.step);
+      link = subst (λ (t : ℕ). IsLink net reverse forward room p t found (end_at arcs found)) (sym s) (tight_link net first reverse forward room arcs p h.last found (end_at arcs found) n l f b h.step);
     }
 
 pub link_end : (net : NetworkModel) (reverse : ℕ → ℕ) (forward : List ℕ) (room : ℕ → ℕ) (p : ℕ → ℤ) (u k v : ℕ) → IsNetwork net → IsLink net reverse forward room p u k v → v < node_count net
 link_end net reverse forward room p u k v n t = subst (λ (q : ℕ). q < node_count net) t.end (end_in net t.arc t.back n.ends t.inside)
 
 -- the same of the solver's own lists
-pub own_step : (net : NetworkModel) (s : Solver) (source : ℕ) → (h : CanAugment net s source) → (v : ℕ) → h.path.on v ≡ true → 0 < places_in s v → IsStep net s.residual.first.items (reverse_at s.residual.arcs.items) s.residual.forward.items s.residual.arcs.items (potential_at s) h.path.on (places_in s) v (enters_in s v)
+pub own_step : (net : NetworkModel) (s : Solver) (source : ℕ) → (h : CanAugment net s source) → (v : ℕ) → h.path.on v ≡ true → 0 < places_in s v → IsStep net s.residual.first.items (reverse_at s.residual.rooms.items) s.residual.forward.items (room_at s.residual.rooms.items) s.residual.arcs.items (potential_at s) h.path.on (places_in s) v (enters_in s v)
 own_step net s source h v on some =
-    path_step net s.residual.first.items (reverse_at s.residual.arcs.items) s.residual.forward.items s.residual.arcs.items (potential_at s) (enters_in s) (places_in s) source s.found h.ready.network h.ready.residual.laid_out h.ready.residual.filled h.path v on some
+    path_step net s.residual.first.items (reverse_at s.residual.rooms.items) s.residual.forward.items (room_at s.residual.rooms.items) s.residual.arcs.items (potential_at s) (enters_in s) (places_in s) source s.found h.ready.network h.ready.residual.laid_out h.ready.residual.filled h.path v on some
 
-pub own_last : (net : NetworkModel) (s : Solver) (source : ℕ) → (h : CanAugment net s source) → IsLast net s.residual.first.items (reverse_at s.residual.arcs.items) s.residual.forward.items s.residual.arcs.items (potential_at s) h.path.on s.found
+pub own_last : (net : NetworkModel) (s : Solver) (source : ℕ) → (h : CanAugment net s source) → IsLast net s.residual.first.items (reverse_at s.residual.rooms.items) s.residual.forward.items (room_at s.residual.rooms.items) s.residual.arcs.items (potential_at s) h.path.on s.found
 own_last net s source h =
-    path_last net s.residual.first.items (reverse_at s.residual.arcs.items) s.residual.forward.items s.residual.arcs.items (potential_at s) (enters_in s) (places_in s) source s.found h.ready.network h.ready.residual.laid_out h.ready.residual.filled h.path
+    path_last net s.residual.first.items (reverse_at s.residual.rooms.items) s.residual.forward.items (room_at s.residual.rooms.items) s.residual.arcs.items (potential_at s) (enters_in s) (places_in s) source s.found h.ready.network h.ready.residual.laid_out h.ready.residual.filled h.path
 
 pub own_end : (net : NetworkModel) (s : Solver) (source : ℕ) → CanAugment net s source → end_at s.residual.arcs.items s.found < node_count net
-own_end net s source h = link_end net (reverse_at s.residual.arcs.items) s.residual.forward.items (room_at s.residual.arcs.items) (potential_at s) (end_at s.residual.arcs.items (reverse_at s.residual.arcs.items s.found)) s.found (end_at s.residual.arcs.items s.found) h.ready.network (own_last net s source h).link
+own_end net s source h = link_end net (reverse_at s.residual.rooms.items) s.residual.forward.items (room_at s.residual.rooms.items) (potential_at s) (end_at s.residual.arcs.items (reverse_at s.residual.rooms.items s.found)) s.found (end_at s.residual.arcs.items s.found) h.ready.network (own_last net s source h).link
 
 pub last_pair : (net : NetworkModel) (s : Solver) (source : ℕ) → CanAugment net s source → IsPaired s.residual s.found
-last_pair net s source h = let l = own_last net s source h in is_paired net s.residual (end_at s.residual.arcs.items (reverse_at s.residual.arcs.items s.found)) s.found h.ready.network h.ready.residual l.node l.leaves
+last_pair net s source h = let l = own_last net s source h in is_paired net s.residual (end_at s.residual.arcs.items (reverse_at s.residual.rooms.items s.found)) s.found h.ready.network h.ready.residual l.node l.leaves
 
 pub step_pair : (net : NetworkModel) (s : Solver) (source v : ℕ) → (h : CanAugment net s source) → h.path.on v ≡ true → 0 < places_in s v → IsPaired s.residual (enters_in s v)
-step_pair net s source v h on some = let l = own_step net s source h v on some in is_paired net s.residual (end_at s.residual.arcs.items (reverse_at s.residual.arcs.items (enters_in s v))) (enters_in s v) h.ready.network h.ready.residual l.node l.leaves
+step_pair net s source v h on some = let l = own_step net s source h v on some in is_paired net s.residual (end_at s.residual.arcs.items (reverse_at s.residual.rooms.items (enters_in s v))) (enters_in s v) h.ready.network h.ready.residual l.node l.leaves
 
 -- ---- the least of what fits
 

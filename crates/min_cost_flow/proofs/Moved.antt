@@ -151,15 +151,14 @@ pub reverse_in : (net : NetworkModel) (first : List ℕ) (reverse : ℕ → ℕ)
 reverse_in net first reverse forward i n l b = omega (arith, (l.block i true b).below, l.inside (arc_at net i).to (n.ends i b).1)
 
 -- what each arc carries can be read
-pub can_read : (net : NetworkModel) (s : Solver) → IsReady net s → CanRead s.residual.arcs.items s.residual.forward.items
+pub can_read : (net : NetworkModel) (s : Solver) → IsReady net s → CanRead s.residual.rooms.items s.residual.forward.items
 can_read net s r =
     let l = r.residual.laid_out in
-    let f = r.residual.filled in
     record {
-      forwards = λ i b. omega (arith, forward_in net _ _ _ i r.network l (omega (arith, l.forwards)), f.arc_size);
-      reverses = λ i b. omega (arith, reverse_in net _ _ _ i r.network l (omega (arith, l.forwards)), f.arc_size);
+      forwards = λ i b. omega (arith, forward_in net _ _ _ i r.network l (omega (arith, l.forwards)), r.residual.room_size);
+      reverses = λ i b. omega (arith, reverse_in net _ _ _ i r.network l (omega (arith, l.forwards)), r.residual.room_size);
       small = omega (arith, l.forwards, r.network.small);
-      size = omega (arith, f.arc_size, r.network.small);
+      size = omega (arith, r.residual.room_size, r.network.small);
     }
 
 -- ---- where nothing is left over or wanting, the flow is one of least cost
@@ -211,6 +210,7 @@ sized_moved net l l' f t k r fair re pe ee he =
         starts = rw re (omega (arith, w.starts));
         forwards = rw re w.forwards;
         arc_size = rw re r.residual.filled.arc_size;
+        room_size = rw re r.residual.room_size;
       };
       potentials = omega (arith, r.potentials);
       excesses = rw ee (omega (arith, r.excesses));
@@ -238,6 +238,7 @@ ready_moved net l potential excess f t k st fair fb tb few base low room pe ee =
     let here : IsResidualNetwork (shifted net f t k) l.residual = record {
       laid_out = laid;
       filled = record { arc_size = w.arc_size; end = λ i b c. w.end i b c; cost = λ i b c. w.cost i b c; fits = λ i b. w.fits i b };
+      room_size = r.residual.room_size;
       limits = λ i b. r.residual.limits i b;
     } in
     record {

@@ -20,8 +20,8 @@ unfolding turned_back
 turned_end net i false = refl
 turned_end net i true = refl
 
-pub start_is : (net : NetworkModel) (first : List ℕ) (reverse : ℕ → ℕ) (forward : List ℕ) (arcs : List ResidualArc) (v k : ℕ) → HasResidualArcs net first reverse forward → IsFilled net reverse forward arcs → v < node_count net → StartsAt first v k → end_at arcs (reverse k) ≡ v
-start_is net first reverse forward arcs v k l f b st =
+pub start_is : (net : NetworkModel) (first : List ℕ) (reverse : ℕ → ℕ) (forward : List ℕ) (room : ℕ → ℕ) (arcs : List ResidualArc) (v k : ℕ) → HasResidualArcs net first reverse forward → IsFilled net reverse forward room arcs → v < node_count net → StartsAt first v k → end_at arcs (reverse k) ≡ v
+start_is net first reverse forward room arcs v k l f b st =
     let o = l.cover v k b st in
     let r : reverse k ≡ place_of reverse forward o.arc (turned_back o.back) = ap reverse (sym o.place) ∙ reverse_is net first reverse forward o.arc o.back l o.inside in
     ap (end_at arcs) r ∙ f.end o.arc (turned_back o.back) o.inside ∙ turned_end net o.arc o.back ∙ o.start

@@ -49,8 +49,8 @@ not_open : (c z : ℤ) → z ≡ c +ℤ SHUT → (negsuc 0 ≤ℤ c) × (c ≤�
 not_open c z h (a, b) o = omega (arith, ints)
 
 -- the cost of residual arc (i, back): what a unit costs where something fits, and more where nothing does
-pub code_cases : (net : NetworkModel) (reverse : ℕ → ℕ) (forward : List ℕ) (arcs : List ResidualArc) (i : ℕ) (back : Bool) → IsNetwork net → IsFilled net reverse forward arcs → i < arc_count net → ((room_at arcs (place_of reverse forward i back) ≡ 0) × (cost_at arcs (place_of reverse forward i back) ≡ unit_cost net i back +ℤ SHUT)) ⊎ ((0 < room_at arcs (place_of reverse forward i back)) × (cost_at arcs (place_of reverse forward i back) ≡ unit_cost net i back))
-code_cases net reverse forward arcs i back k f b = code_when (room_at arcs (place_of reverse forward i back)) (unit_cost net i back) (cost_at arcs (place_of reverse forward i back)) (f.cost i back b) (unit_cost_low net i back k.costs b)
+pub code_cases : (net : NetworkModel) (reverse : ℕ → ℕ) (forward : List ℕ) (room : ℕ → ℕ) (arcs : List ResidualArc) (i : ℕ) (back : Bool) → IsNetwork net → IsFilled net reverse forward room arcs → i < arc_count net → ((room (place_of reverse forward i back) ≡ 0) × (cost_at arcs (place_of reverse forward i back) ≡ unit_cost net i back +ℤ SHUT)) ⊎ ((0 < room (place_of reverse forward i back)) × (cost_at arcs (place_of reverse forward i back) ≡ unit_cost net i back))
+code_cases net reverse forward room arcs i back k f b = code_when (room (place_of reverse forward i back)) (unit_cost net i back) (cost_at arcs (place_of reverse forward i back)) (f.cost i back b) (unit_cost_low net i back k.costs b)
 
 room_open : (c : Cap) (r x : ℕ) → r + x ≡ limit_of c → x ≤ 2097152 → HasRoom c x → 0 < r
 room_open (AtMost k) r x h l o = omega arith
@@ -60,32 +60,32 @@ open_room : (c : Cap) (r x : ℕ) → r + x ≡ limit_of c → 0 < r → HasRoom
 open_room (AtMost k) r x h o = omega arith
 open_room Any r x h o = tt
 
-pub residual_open : (net : NetworkModel) (reverse : ℕ → ℕ) (forward : List ℕ) (arcs : List ResidualArc) (i : ℕ) (back : Bool) → IsFilled net reverse forward arcs → i < arc_count net → carried reverse forward (room_at arcs) i ≤ 2097152 → IsResidual net (carried reverse forward (room_at arcs)) i back → 0 < room_at arcs (place_of reverse forward i back)
-residual_open net reverse forward arcs i false f b l r = room_open (arc_at net i).cap (room_at arcs (place_of reverse forward i false)) (carried reverse forward (room_at arcs) i) (f.fits i b) l r
-residual_open net reverse forward arcs i true f b l r = r
+pub residual_open : (net : NetworkModel) (reverse : ℕ → ℕ) (forward : List ℕ) (room : ℕ → ℕ) (arcs : List ResidualArc) (i : ℕ) (back : Bool) → IsFilled net reverse forward room arcs → i < arc_count net → carried reverse forward room i ≤ 2097152 → IsResidual net (carried reverse forward room) i back → 0 < room (place_of reverse forward i back)
+residual_open net reverse forward room arcs i false f b l r = room_open (arc_at net i).cap (room (place_of reverse forward i false)) (carried reverse forward room i) (f.fits i b) l r
+residual_open net reverse forward room arcs i true f b l r = r
 
-pub open_residual : (net : NetworkModel) (reverse : ℕ → ℕ) (forward : List ℕ) (arcs : List ResidualArc) (i : ℕ) (back : Bool) → IsFilled net reverse forward arcs → i < arc_count net → 0 < room_at arcs (place_of reverse forward i back) → IsResidual net (carried reverse forward (room_at arcs)) i back
-open_residual net reverse forward arcs i false f b o = open_room (arc_at net i).cap (room_at arcs (place_of reverse forward i false)) (carried reverse forward (room_at arcs) i) (f.fits i b) o
-open_residual net reverse forward arcs i true f b o = o
+pub open_residual : (net : NetworkModel) (reverse : ℕ → ℕ) (forward : List ℕ) (room : ℕ → ℕ) (arcs : List ResidualArc) (i : ℕ) (back : Bool) → IsFilled net reverse forward room arcs → i < arc_count net → 0 < room (place_of reverse forward i back) → IsResidual net (carried reverse forward room) i back
+open_residual net reverse forward room arcs i false f b o = open_room (arc_at net i).cap (room (place_of reverse forward i false)) (carried reverse forward room i) (f.fits i b) o
+open_residual net reverse forward room arcs i true f b o = o
 
 -- a residual arc along which something fits is open, and its cost is what a unit costs
-pub unit_cost_open : (net : NetworkModel) (reverse : ℕ → ℕ) (forward : List ℕ) (arcs : List ResidualArc) (i : ℕ) (back : Bool) → IsNetwork net → IsFilled net reverse forward arcs → i < arc_count net → 0 < room_at arcs (place_of reverse forward i back) → (cost_at arcs (place_of reverse forward i back) ≡ unit_cost net i back) × IsOpen arcs (place_of reverse forward i back)
-unit_cost_open net reverse forward arcs i back k f b o =
-    elim (code_cases net reverse forward arcs i back k f b) [
+pub unit_cost_open : (net : NetworkModel) (reverse : ℕ → ℕ) (forward : List ℕ) (room : ℕ → ℕ) (arcs : List ResidualArc) (i : ℕ) (back : Bool) → IsNetwork net → IsFilled net reverse forward room arcs → i < arc_count net → 0 < room (place_of reverse forward i back) → (cost_at arcs (place_of reverse forward i back) ≡ unit_cost net i back) × IsOpen arcs (place_of reverse forward i back)
+unit_cost_open net reverse forward room arcs i back k f b o =
+    elim (code_cases net reverse forward room arcs i back k f b) [
       | inl h ↦ absurd (omega (arith, h.0))
       | inr h ↦ (h.1, subst (λ (z : ℤ). z ≤ℤ pos 1) (sym h.1) (unit_cost_low net i back k.costs b).1)
     ]
 
 -- and an open one fits
-pub open_unit_cost : (net : NetworkModel) (reverse : ℕ → ℕ) (forward : List ℕ) (arcs : List ResidualArc) (i : ℕ) (back : Bool) → IsNetwork net → IsFilled net reverse forward arcs → i < arc_count net → IsOpen arcs (place_of reverse forward i back) → (0 < room_at arcs (place_of reverse forward i back)) × (cost_at arcs (place_of reverse forward i back) ≡ unit_cost net i back)
-open_unit_cost net reverse forward arcs i back k f b o =
-    elim (code_cases net reverse forward arcs i back k f b) [
+pub open_unit_cost : (net : NetworkModel) (reverse : ℕ → ℕ) (forward : List ℕ) (room : ℕ → ℕ) (arcs : List ResidualArc) (i : ℕ) (back : Bool) → IsNetwork net → IsFilled net reverse forward room arcs → i < arc_count net → IsOpen arcs (place_of reverse forward i back) → (0 < room (place_of reverse forward i back)) × (cost_at arcs (place_of reverse forward i back) ≡ unit_cost net i back)
+open_unit_cost net reverse forward room arcs i back k f b o =
+    elim (code_cases net reverse forward room arcs i back k f b) [
       | inl h ↦ absurd (not_open (unit_cost net i back) (cost_at arcs (place_of reverse forward i back)) h.1 (unit_cost_low net i back k.costs b) o)
       | inr h ↦ h
     ]
 
-pub is_graph : (net : NetworkModel) (first : List ℕ) (reverse : ℕ → ℕ) (forward : List ℕ) (arcs : List ResidualArc) → IsNetwork net → HasResidualArcs net first reverse forward → IsFilled net reverse forward arcs → IsGraph (node_count net) first arcs
-is_graph net first reverse forward arcs k l f =
+pub is_graph : (net : NetworkModel) (first : List ℕ) (reverse : ℕ → ℕ) (forward : List ℕ) (room : ℕ → ℕ) (arcs : List ResidualArc) → IsNetwork net → HasResidualArcs net first reverse forward → IsFilled net reverse forward room arcs → IsGraph (node_count net) first arcs
+is_graph net first reverse forward room arcs k l f =
     let size : length arcs ≡ arc_count net + arc_count net = f.arc_size in
     record {
       nodes = k.small.0;
@@ -96,37 +96,37 @@ is_graph net first reverse forward arcs k l f =
       end = λ v j b st. let o = l.cover v j b st in subst (λ (t : ℕ). end_at arcs t < node_count net) o.place (subst (λ (t : ℕ). t < node_count net) (sym (f.end o.arc o.back o.inside)) (end_in net o.arc o.back k.ends o.inside));
       cost = λ v j b st.
           let o = l.cover v j b st in
-          subst (λ (t : ℕ). IsArcCost (cost_at arcs t)) o.place (elim (code_cases net reverse forward arcs o.arc o.back k f o.inside) [
+          subst (λ (t : ℕ). IsArcCost (cost_at arcs t)) o.place (elim (code_cases net reverse forward room arcs o.arc o.back k f o.inside) [
             | inl h ↦ inr (shut_cost (unit_cost net o.arc o.back) (cost_at arcs (place_of reverse forward o.arc o.back)) h.1 (unit_cost_low net o.arc o.back k.costs o.inside))
             | inr h ↦ inl (subst (λ (z : ℤ). (negsuc 0 ≤ℤ z) × (z ≤ℤ pos 1)) (sym h.1) (unit_cost_low net o.arc o.back k.costs o.inside))
           ]);
     }
 
 -- reduced costs by number, and by arc
-pub reduced_by_number : (net : NetworkModel) (first : List ℕ) (reverse : ℕ → ℕ) (forward : List ℕ) (arcs : List ResidualArc) (p : ℕ → ℤ) → IsNetwork net → HasResidualArcs net first reverse forward → IsFilled net reverse forward arcs → HasPotentials net (carried reverse forward (room_at arcs)) p → (v k : ℕ) → v < node_count net → StartsAt first v k → IsOpen arcs k → pos 0 ≤ℤ (cost_at arcs k +ℤ p v -ℤ p (end_at arcs k))
-reduced_by_number net first reverse forward arcs p n l f h v k b st op =
+pub reduced_by_number : (net : NetworkModel) (first : List ℕ) (reverse : ℕ → ℕ) (forward : List ℕ) (room : ℕ → ℕ) (arcs : List ResidualArc) (p : ℕ → ℤ) → IsNetwork net → HasResidualArcs net first reverse forward → IsFilled net reverse forward room arcs → HasPotentials net (carried reverse forward room) p → (v k : ℕ) → v < node_count net → StartsAt first v k → IsOpen arcs k → pos 0 ≤ℤ (cost_at arcs k +ℤ p v -ℤ p (end_at arcs k))
+reduced_by_number net first reverse forward room arcs p n l f h v k b st op =
     let o = l.cover v k b st in
     let i = o.arc in
     let back = o.back in
     let here : IsOpen arcs (place_of reverse forward i back) = subst (λ (t : ℕ). IsOpen arcs t) (sym o.place) op in
-    let (fits, unit_is) = open_unit_cost net reverse forward arcs i back n f o.inside here in
-    let red : pos 0 ≤ℤ reduced_cost net p i back = h.residual i back o.inside (open_residual net reverse forward arcs i back f o.inside fits) in
+    let (fits, unit_is) = open_unit_cost net reverse forward room arcs i back n f o.inside here in
+    let red : pos 0 ≤ℤ reduced_cost net p i back = h.residual i back o.inside (open_residual net reverse forward room arcs i back f o.inside fits) in
     let two : pos 0 ≤ℤ (cost_at arcs (place_of reverse forward i back) +ℤ p (start_of net i back) -ℤ p (end_at arcs (place_of reverse forward i back))) = rw (unit_is, f.end i back o.inside) red in
     let one : pos 0 ≤ℤ (cost_at arcs (place_of reverse forward i back) +ℤ p v -ℤ p (end_at arcs (place_of reverse forward i back))) = subst (λ (t : ℕ). pos 0 ≤ℤ (cost_at arcs (place_of reverse forward i back) +ℤ p t -ℤ p (end_at arcs (place_of reverse forward i back)))) o.start two in
     subst (λ (t : ℕ). pos 0 ≤ℤ (cost_at arcs t +ℤ p v -ℤ p (end_at arcs t))) o.place one
 
-pub potentials_by_arc : (net : NetworkModel) (first : List ℕ) (reverse : ℕ → ℕ) (forward : List ℕ) (arcs : List ResidualArc) (p : ℕ → ℤ) → IsNetwork net → HasResidualArcs net first reverse forward → IsFilled net reverse forward arcs → ((i : ℕ) → i < arc_count net → carried reverse forward (room_at arcs) i ≤ 2097152) → ((v k : ℕ) → v < node_count net → StartsAt first v k → IsOpen arcs k → pos 0 ≤ℤ (cost_at arcs k +ℤ p v -ℤ p (end_at arcs k))) → HasPotentials net (carried reverse forward (room_at arcs)) p
-potentials_by_arc net first reverse forward arcs p n l f few h = record {
+pub potentials_by_arc : (net : NetworkModel) (first : List ℕ) (reverse : ℕ → ℕ) (forward : List ℕ) (room : ℕ → ℕ) (arcs : List ResidualArc) (p : ℕ → ℤ) → IsNetwork net → HasResidualArcs net first reverse forward → IsFilled net reverse forward room arcs → ((i : ℕ) → i < arc_count net → carried reverse forward room i ≤ 2097152) → ((v k : ℕ) → v < node_count net → StartsAt first v k → IsOpen arcs k → pos 0 ≤ℤ (cost_at arcs k +ℤ p v -ℤ p (end_at arcs k))) → HasPotentials net (carried reverse forward room) p
+potentials_by_arc net first reverse forward room arcs p n l f few h = record {
   residual = λ i back b r.
-      let fits : 0 < room_at arcs (place_of reverse forward i back) = residual_open net reverse forward arcs i back f b (few i b) r in
-      let (unit_is, op) = unit_cost_open net reverse forward arcs i back n f b fits in
+      let fits : 0 < room (place_of reverse forward i back) = residual_open net reverse forward room arcs i back f b (few i b) r in
+      let (unit_is, op) = unit_cost_open net reverse forward room arcs i back n f b fits in
       let red : pos 0 ≤ℤ (cost_at arcs (place_of reverse forward i back) +ℤ p (start_of net i back) -ℤ p (end_at arcs (place_of reverse forward i back))) = h (start_of net i back) (place_of reverse forward i back) (start_in net i back n.ends b) (l.block i back b) op in
       rw (unit_is, f.end i back b) at red;
 }
 
-pub is_priced : (net : NetworkModel) (first : List ℕ) (reverse : ℕ → ℕ) (forward : List ℕ) (arcs : List ResidualArc) (p e : ℕ → ℤ) → IsNetwork net → HasResidualArcs net first reverse forward → IsFilled net reverse forward arcs → IsRound net (carried reverse forward (room_at arcs)) p e → IsPriced (node_count net) first arcs p e
-is_priced net first reverse forward arcs p e n l f r = record {
-  reduced = reduced_by_number net first reverse forward arcs p n l f r.priced;
+pub is_priced : (net : NetworkModel) (first : List ℕ) (reverse : ℕ → ℕ) (forward : List ℕ) (room : ℕ → ℕ) (arcs : List ResidualArc) (p e : ℕ → ℤ) → IsNetwork net → HasResidualArcs net first reverse forward → IsFilled net reverse forward room arcs → IsRound net (carried reverse forward room) p e → IsPriced (node_count net) first arcs p e
+is_priced net first reverse forward room arcs p e n l f r = record {
+  reduced = reduced_by_number net first reverse forward room arcs p n l f r.priced;
   low = r.low;
   zero = r.zero;
 }
@@ -237,15 +237,15 @@ wanting_far n first arcs p e s q enter order place head ordered reached level v 
 
 -- ---- the round after the potentials have moved
 
-pub moved_round : (net : NetworkModel) (first : List ℕ) (reverse : ℕ → ℕ) (forward : List ℕ) (arcs : List ResidualArc) (p p' e : ℕ → ℤ) (s : ℕ) (q : ℕ → ℤ) (enter order place : ℕ → ℕ) (head ordered reached : ℕ) (level cut : ℤ) (f : ℕ) → IsNetwork net → HasResidualArcs net first reverse forward → IsFilled net reverse forward arcs → IsRound net (carried reverse forward (room_at arcs)) p e → IsReached (node_count net) first arcs p e s q enter order place head ordered reached level → IsNearest (node_count net) first arcs p e s q place head level cut f → IsServed (node_count net) first arcs p q place cut head → IsLeft (node_count net) p q place head cut → cut <ℤ far → IsMovedTo (node_count net) p p' q place head cut → IsRound net (carried reverse forward (room_at arcs)) p' e
-moved_round net first reverse forward arcs p p' e s q enter order place head ordered reached level cut f k l fl rd r near sv left hit m =
+pub moved_round : (net : NetworkModel) (first : List ℕ) (reverse : ℕ → ℕ) (forward : List ℕ) (room : ℕ → ℕ) (arcs : List ResidualArc) (p p' e : ℕ → ℤ) (s : ℕ) (q : ℕ → ℤ) (enter order place : ℕ → ℕ) (head ordered reached : ℕ) (level cut : ℤ) (f : ℕ) → IsNetwork net → HasResidualArcs net first reverse forward → IsFilled net reverse forward room arcs → IsRound net (carried reverse forward room) p e → IsReached (node_count net) first arcs p e s q enter order place head ordered reached level → IsNearest (node_count net) first arcs p e s q place head level cut f → IsServed (node_count net) first arcs p q place cut head → IsLeft (node_count net) p q place head cut → cut <ℤ far → IsMovedTo (node_count net) p p' q place head cut → IsRound net (carried reverse forward room) p' e
+moved_round net first reverse forward room arcs p p' e s q enter order place head ordered reached level cut f k l fl rd r near sv left hit m =
     let n = node_count net in
-    let g : IsGraph n first arcs = is_graph net first reverse forward arcs k l fl in
-    let pr : IsPriced n first arcs p e = is_priced net first reverse forward arcs p e k l fl rd in
+    let g : IsGraph n first arcs = is_graph net first reverse forward room arcs k l fl in
+    let pr : IsPriced n first arcs p e = is_priced net first reverse forward room arcs p e k l fl rd in
     record {
       leaves = rd.leaves;
       caps = rd.caps;
-      priced = potentials_by_arc net first reverse forward arcs p' k l fl (λ i b. omega (arith, rd.room i b)) (moved_priced n first arcs p p' e s q enter order place head ordered reached level cut f g pr r near sv left m);
+      priced = potentials_by_arc net first reverse forward room arcs p' k l fl (λ i b. omega (arith, rd.room i b)) (moved_priced n first arcs p p' e s q enter order place head ordered reached level cut f g pr r near sv left m);
       low = moved_low n first arcs p p' e s q enter order place head ordered reached level cut f pr r near hit m;
       zero = λ v b w. m.unlabelled v b (wanting_far n first arcs p e s q enter order place head ordered reached level v r b w) ∙ rd.zero v b w;
       fair = rd.fair;
@@ -319,8 +319,8 @@ in_reach ps q pv n h small le low (a, b) d = omega (arith, ints)
 in_reach_step : (ps q pe c : ℤ) (n h : ℕ) → n ≤ MAX_NODES → h ≤ n → ps ≤ℤ pos (2 * n) → IsNear ps h q → pos 0 ≤ℤ (pe +ℤ pos (2 * n)) → c ≤ℤ pos 1 → (q +ℤ c -ℤ pe) <ℤ far
 in_reach_step ps q pe c n h small le low (a, b) d o = omega (arith, ints)
 
-pub nothing_found : (net : NetworkModel) (first : List ℕ) (reverse : ℕ → ℕ) (forward : List ℕ) (arcs : List ResidualArc) (p e : ℕ → ℤ) (s : ℕ) (q : ℕ → ℤ) (enter order place : ℕ → ℕ) (head ordered reached : ℕ) (level cut : ℤ) → IsNetwork net → HasResidualArcs net first reverse forward → IsFilled net reverse forward arcs → IsRound net (carried reverse forward (room_at arcs)) p e → IsReached (node_count net) first arcs p e s q enter order place head ordered reached level → IsServed (node_count net) first arcs p q place cut head → IsLeft (node_count net) p q place head cut → cut ≡ far → pos 0 <ℤ e s → HasNoFlow net
-nothing_found net first reverse forward arcs p e s q enter order place head ordered reached level cut k l fl rd r sv left none over =
+pub nothing_found : (net : NetworkModel) (first : List ℕ) (reverse : ℕ → ℕ) (forward : List ℕ) (room : ℕ → ℕ) (arcs : List ResidualArc) (p e : ℕ → ℤ) (s : ℕ) (q : ℕ → ℤ) (enter order place : ℕ → ℕ) (head ordered reached : ℕ) (level cut : ℤ) → IsNetwork net → HasResidualArcs net first reverse forward → IsFilled net reverse forward room arcs → IsRound net (carried reverse forward room) p e → IsReached (node_count net) first arcs p e s q enter order place head ordered reached level → IsServed (node_count net) first arcs p q place cut head → IsLeft (node_count net) p q place head cut → cut ≡ far → pos 0 <ℤ e s → HasNoFlow net
+nothing_found net first reverse forward room arcs p e s q enter order place head ordered reached level cut k l fl rd r sv left none over =
     let n = node_count net in
     let le : head ≤ n = omega (arith, r.counts) in
     let low : p s ≤ℤ pos (2 * n) = (rd.low s r.source.0).1 in
@@ -329,15 +329,15 @@ nothing_found net first reverse forward arcs p e s q enter order place head orde
       | inl h ↦ h
       | inr h ↦ absurd (not_less (q v -ℤ p v) far (in_reach (p s) (q v) (p v) n head k.small.0 le low (r.near v b m) (rd.low v b).0) (subst (λ (z : ℤ). z ≤ℤ (q v -ℤ p v)) none (left v b m h)))
     ] in
-    no_flow_out net (carried reverse forward (room_at arcs)) e in_set s k.ends rd.leaves
+    no_flow_out net (carried reverse forward room) e in_set s k.ends rd.leaves
     (record {
       stays = λ i back b res so.
           let u = start_of net i back in
           let j = place_of reverse forward i back in
           let ub : u < n = start_in net i back k.ends b in
           let m : q u <ℤ far = plain_lt (q u) far so in
-          let fits : 0 < room_at arcs j = residual_open net reverse forward arcs i back fl b (omega (arith, rd.room i b)) res in
-          let op : IsOpen arcs j = (unit_cost_open net reverse forward arcs i back k fl b fits).1 in
+          let fits : 0 < room j = residual_open net reverse forward room arcs i back fl b (omega (arith, rd.room i b)) res in
+          let op : IsOpen arcs j = (unit_cost_open net reverse forward room arcs i back k fl b fits).1 in
           let st : StartsAt first u j = l.block i back b in
           let ends : end_at arcs j ≡ end_of net i back = fl.end i back b in
           let eb : end_at arcs j < n = subst (λ (t : ℕ). t < n) (sym ends) (end_in net i back k.ends b) in
@@ -356,8 +356,8 @@ turned_start net i false = refl
 turned_start net i true = refl
 
 -- the end of a residual arc has one of its own
-has_own : (net : NetworkModel) (first : List ℕ) (reverse : ℕ → ℕ) (forward : List ℕ) (arcs : List ResidualArc) (u k : ℕ) → HasResidualArcs net first reverse forward → IsFilled net reverse forward arcs → u < node_count net → StartsAt first u k → 0 < degree first (end_at arcs k)
-has_own net first reverse forward arcs u k l f b st =
+has_own : (net : NetworkModel) (first : List ℕ) (reverse : ℕ → ℕ) (forward : List ℕ) (room : ℕ → ℕ) (arcs : List ResidualArc) (u k : ℕ) → HasResidualArcs net first reverse forward → IsFilled net reverse forward room arcs → u < node_count net → StartsAt first u k → 0 < degree first (end_at arcs k)
+has_own net first reverse forward room arcs u k l f b st =
     let o = l.cover u k b st in
     let ends : end_at arcs k ≡ end_of net o.arc o.back = ap (end_at arcs) (sym o.place) ∙ f.end o.arc o.back o.inside in
     let own : StartsAt first (start_of net o.arc (turned_back o.back)) (place_of reverse forward o.arc (turned_back o.back)) = l.block o.arc (turned_back o.back) o.inside in
@@ -377,8 +377,8 @@ source_degree n first arcs p e s q enter order place head ordered reached level 
       | inr d ↦ source_degree n first arcs p e s q enter order place head ordered reached level b x.start r (omega arith) x.node x.labelled d
     ]
 
-one_each : (net : NetworkModel) (first : List ℕ) (reverse : ℕ → ℕ) (forward : List ℕ) (arcs : List ResidualArc) (p e : ℕ → ℤ) (s : ℕ) (q : ℕ → ℤ) (enter order place : ℕ → ℕ) (head ordered reached : ℕ) (level cut : ℤ) (f : ℕ) → HasResidualArcs net first reverse forward → IsFilled net reverse forward arcs → IsReached (node_count net) first arcs p e s q enter order place head ordered reached level → IsHit (node_count net) first arcs p e s q place head cut f → (v : ℕ) → v < node_count net → q v <ℤ far → 0 < degree first v
-one_each net first reverse forward arcs p e s q enter order place head ordered reached level cut f l fl r h v b m =
+one_each : (net : NetworkModel) (first : List ℕ) (reverse : ℕ → ℕ) (forward : List ℕ) (room : ℕ → ℕ) (arcs : List ResidualArc) (p e : ℕ → ℤ) (s : ℕ) (q : ℕ → ℤ) (enter order place : ℕ → ℕ) (head ordered reached : ℕ) (level cut : ℤ) (f : ℕ) → HasResidualArcs net first reverse forward → IsFilled net reverse forward room arcs → IsReached (node_count net) first arcs p e s q enter order place head ordered reached level → IsHit (node_count net) first arcs p e s q place head cut f → (v : ℕ) → v < node_count net → q v <ℤ far → 0 < degree first v
+one_each net first reverse forward room arcs p e s q enter order place head ordered reached level cut f l fl r h v b m =
     elim (cases_eq v s) [
       | inl t ↦ subst (λ (i : ℕ). 0 < degree first i) (sym t) (elim (cases_eq h.start s) [
         | inl d ↦ own_degree first s f (subst (λ (i : ℕ). StartsAt first i f) d h.leaves)
@@ -386,22 +386,22 @@ one_each net first reverse forward arcs p e s q enter order place head ordered r
       ])
       | inr ne ↦
           let x = r.entered v b m ne in
-          subst (λ (i : ℕ). 0 < degree first i) x.arrives (has_own net first reverse forward arcs x.start (enter v) l fl x.node x.leaves)
+          subst (λ (i : ℕ). 0 < degree first i) x.arrives (has_own net first reverse forward room arcs x.start (enter v) l fl x.node x.leaves)
     ]
 
 -- so a search that finds something looks at no fewer residual arcs than it scans nodes
-pub many_looks : (net : NetworkModel) (first : List ℕ) (reverse : ℕ → ℕ) (forward : List ℕ) (arcs : List ResidualArc) (p e : ℕ → ℤ) (s : ℕ) (q : ℕ → ℤ) (enter order place : ℕ → ℕ) (head ordered reached : ℕ) (level cut : ℤ) (f : ℕ) → HasResidualArcs net first reverse forward → IsFilled net reverse forward arcs → IsReached (node_count net) first arcs p e s q enter order place head ordered reached level → IsHit (node_count net) first arcs p e s q place head cut f → head ≤ looked first order head
-many_looks net first reverse forward arcs p e s q enter order place head ordered reached level cut f l fl r h =
+pub many_looks : (net : NetworkModel) (first : List ℕ) (reverse : ℕ → ℕ) (forward : List ℕ) (room : ℕ → ℕ) (arcs : List ResidualArc) (p e : ℕ → ℤ) (s : ℕ) (q : ℕ → ℤ) (enter order place : ℕ → ℕ) (head ordered reached : ℕ) (level cut : ℤ) (f : ℕ) → HasResidualArcs net first reverse forward → IsFilled net reverse forward room arcs → IsReached (node_count net) first arcs p e s q enter order place head ordered reached level → IsHit (node_count net) first arcs p e s q place head cut f → head ≤ looked first order head
+many_looks net first reverse forward room arcs p e s q enter order place head ordered reached level cut f l fl r h =
     let le : head ≤ reached = omega (arith, r.counts) in
-    let more : sum_below head (λ _. 1) ≤ looked first order head = sum_below-le head (λ _. 1) (λ j. degree first (order j)) (λ j b. one_each net first reverse forward arcs p e s q enter order place head ordered reached level cut f l fl r h (order j) (r.node j (omega arith)) (r.marked j (omega arith))) in
+    let more : sum_below head (λ _. 1) ≤ looked first order head = sum_below-le head (λ _. 1) (λ j. degree first (order j)) (λ j b. one_each net first reverse forward room arcs p e s q enter order place head ordered reached level cut f l fl r h (order j) (r.node j (omega arith)) (r.marked j (omega arith))) in
     omega (arith, sum_below-constant head 1)
 
 -- the path has no more residual arcs than that
-pub path_looks : (net : NetworkModel) (first : List ℕ) (reverse : ℕ → ℕ) (forward : List ℕ) (arcs : List ResidualArc) (p e : ℕ → ℤ) (s : ℕ) (q : ℕ → ℤ) (enter order place : ℕ → ℕ) (head ordered reached : ℕ) (level cut : ℤ) (f : ℕ) → HasResidualArcs net first reverse forward → IsFilled net reverse forward arcs → IsReached (node_count net) first arcs p e s q enter order place head ordered reached level → IsHit (node_count net) first arcs p e s q place head cut f → place (end_at arcs (reverse f)) + 1 ≤ looked first order head
-path_looks net first reverse forward arcs p e s q enter order place head ordered reached level cut f l fl r h =
-    let last : place (end_at arcs (reverse f)) ≡ place h.start = ap place (start_is net first reverse forward arcs h.start f l fl h.node h.leaves) in
+pub path_looks : (net : NetworkModel) (first : List ℕ) (reverse : ℕ → ℕ) (forward : List ℕ) (room : ℕ → ℕ) (arcs : List ResidualArc) (p e : ℕ → ℤ) (s : ℕ) (q : ℕ → ℤ) (enter order place : ℕ → ℕ) (head ordered reached : ℕ) (level cut : ℤ) (f : ℕ) → HasResidualArcs net first reverse forward → IsFilled net reverse forward room arcs → IsReached (node_count net) first arcs p e s q enter order place head ordered reached level → IsHit (node_count net) first arcs p e s q place head cut f → place (end_at arcs (reverse f)) + 1 ≤ looked first order head
+path_looks net first reverse forward room arcs p e s q enter order place head ordered reached level cut f l fl r h =
+    let last : place (end_at arcs (reverse f)) ≡ place h.start = ap place (start_is net first reverse forward room arcs h.start f l fl h.node h.leaves) in
     let scan : place h.start < head = h.scanned in
-    omega (arith, many_looks net first reverse forward arcs p e s q enter order place head ordered reached level cut f l fl r h)
+    omega (arith, many_looks net first reverse forward room arcs p e s q enter order place head ordered reached level cut f l fl r h)
 
 -- labels and the cut fit
 pub label_bounds : (n h : ℕ) (ps z : ℤ) → n ≤ MAX_NODES → h ≤ n → IsNear ps h z → (pos 0 ≤ℤ (ps +ℤ pos (2 * n))) × (ps ≤ℤ pos (2 * n)) → IsWithinFar z
@@ -461,6 +461,7 @@ can_augment net res potential excess potential' visits visits' source t t' r b o
     let n = r.potentials in
     let first = res.first.items in
     let arcs = res.arcs.items in
+    let rooms = res.rooms.items in
     let p = at_nodes potential in
     let p' = at_nodes potential' in
     let x = at_nodes excess in
@@ -472,7 +473,7 @@ can_augment net res potential excess potential' visits visits' source t t' r b o
     let mn = subst (λ (k : ℕ). IsMovedTo k p p' (labels t) (places t) t.head t.cut) n m in
     let path = has_path _ _ _ _ p' _ _ _ _ _ _ _ _ _ _ _ t.found g h near hit m in
     let way = subst (λ (k : ℕ). HasPath k first arcs p' (enters t) (places t) source t.found) n path in
-    let round = moved_round net first (reverse_at arcs) res.forward.items arcs p p' x source (labels t) (enters t) (orders t) (places t) t.head t.ordered t.reached t.level t.cut t.found r.network r.residual.laid_out r.residual.filled r.round re nt sn ln hit mn in
+    let round = moved_round net first (reverse_at rooms) res.forward.items (room_at rooms) arcs p p' x source (labels t) (enters t) (orders t) (places t) t.head t.ordered t.reached t.level t.cut t.found r.network r.residual.laid_out r.residual.filled r.round re nt sn ln hit mn in
     record {
       ready = record {
         network = r.network;
@@ -490,11 +491,11 @@ can_augment net res potential excess potential' visits visits' source t t' r b o
     }
 
 -- the path that was found has no more residual arcs than the search looked at
-pub short_path : (visits : List Visit) (t t' : Search) (arcs : List ResidualArc) (first : List ℕ) (looks looks' : ℕ) → IsCleared t t' → visits ≡ t'.visits.now
-    → places t (end_at arcs (reverse_at arcs t.found)) + 1 ≤ looked first (orders t) t.head → looks' ≡ looks + looked first (orders t) t.head
-    → looks + place_at visits (end_at arcs (reverse_at arcs t'.found)) + 1 ≤ looks'
-short_path visits t t' arcs first looks looks' q list short e =
-    rw (list, q.found, q.place (end_at arcs (reverse_at arcs t.found))) (omega (arith, short, e))
+pub short_path : (visits : List Visit) (t t' : Search) (arcs : List ResidualArc) (reverse : ℕ → ℕ) (first : List ℕ) (looks looks' : ℕ) → IsCleared t t' → visits ≡ t'.visits.now
+    → places t (end_at arcs (reverse t.found)) + 1 ≤ looked first (orders t) t.head → looks' ≡ looks + looked first (orders t) t.head
+    → looks + place_at visits (end_at arcs (reverse t'.found)) + 1 ≤ looks'
+short_path visits t t' arcs reverse first looks looks' q list short e =
+    rw (list, q.found, q.place (end_at arcs (reverse t.found))) (omega (arith, short, e))
 
 -- the label that was read less the cut, as it is written
 pub put_label : (p p' : ℕ → ℤ) (v : ℕ) (z cut : ℤ) → IsWithinFar z → IsWithinFar cut → IsPut p p' v (to_z w16 (of_z w16 z) -ℤ to_z w32 (of_z w32 cut)) → IsPut p p' v (z -ℤ cut)

@@ -3,7 +3,7 @@ use Rattle.std.specs.Prelude.{ℕ, ◌+◌, ◌^◌, ◌<◌, ◌≤◌, ◌≡�
 use Rattle.networks.specs.declared.network.TheConstants.{MAX_ARCS, MAX_NODES}
 use Rattle.networks.specs.declared.residual.TheConstants.{MAX_RESIDUAL_ARCS}
 use Rattle.networks.specs.declared.residual.Residual.{Residual}
-use Rattle.networks.specs.declared.residual.ResidualArc.{ResidualArc}
+use Rattle.networks.specs.declared.residual.ResidualRoom.{ResidualRoom}
 use Rattle.networks.specs.Networks.{NetworkModel, node_count, IsNetwork}
 use Rattle.networks.specs.Flow.{Flow, HasPotentials, IsLeastCost, HasNoFlow, at_nodes, cost_of}
 use Rattle.networks.specs.ResidualArcs.{numbers, end_at, reverse_at, room_at, IsCosted}
@@ -90,7 +90,7 @@ pub record HasSentFrom (net : NetworkModel) (s s' : Solver) (source : ℕ) : Typ
 
 -- the node where the last residual arc of the path starts
 abbrev pub last_node : Solver → ℕ
-last_node s = end_at s.residual.arcs.items (reverse_at s.residual.arcs.items s.found)
+last_node s = end_at s.residual.arcs.items (reverse_at s.residual.rooms.items s.found)
 
 -- a search has found a path from a node where units are left over to one where units are wanting, whose last residual
 -- arc is `found`
@@ -112,10 +112,10 @@ pub record IsSentAlong (net : NetworkModel) (s s' : Solver) : Type 0 where
 
 -- so many units fit along the path, are left over where it starts, and are wanting where it ends
 pub record IsFitting (s : Solver) (source amount : ℕ) : Type 0 where
-  pub found : amount ≤ room_at s.residual.arcs.items s.found
+  pub found : amount ≤ room_at s.residual.rooms.items s.found
   pub left : pos amount ≤ℤ excess_at s source
   pub short : (excess_at s (end_at s.residual.arcs.items s.found) +ℤ pos amount) ≤ℤ pos 0
-  pub fits : (v : ℕ) → IsOnWay (next_of s.residual.arcs.items (enters_in s)) (places_in s) (last_node s) v → 0 < places_in s v → amount ≤ room_into s.residual.arcs.items (enters_in s) v
+  pub fits : (v : ℕ) → IsOnWay (next_of s.residual.arcs.items s.residual.rooms.items (enters_in s)) (places_in s) (last_node s) v → 0 < places_in s v → amount ≤ room_into s.residual.rooms.items (enters_in s) v
 
 -- so many units can go along the path, and no more
 pub record IsBottleneck (s : Solver) (source amount : ℕ) : Type 0 where
@@ -127,28 +127,30 @@ pub record IsBottleneck (s : Solver) (source amount : ℕ) : Type 0 where
 
 -- a unit along residual arc k costs from -1 to 1
 abbrev pub HasUnitCost : Residual → ℕ → Type 0
-HasUnitCost r k = (z : ℤ) × (negsuc 0 ≤ℤ z) × (z ≤ℤ pos 1) × IsCosted r.arcs.items k z
+HasUnitCost r k = (z : ℤ) × (negsuc 0 ≤ℤ z) × (z ≤ℤ pos 1) × IsCosted r.arcs.items r.rooms.items k z
 
 -- residual arc k has a reverse, which is another one, and what fits along both together is a number of 32 bits
 pub record IsPaired (r : Residual) (k : ℕ) : Type 0 where
+  pub sizes : length r.rooms.items ≡ length r.arcs.items
   pub here : k < length r.arcs.items
-  pub there : reverse_at r.arcs.items k < length r.arcs.items
-  pub apart : k ≢ reverse_at r.arcs.items k
+  pub there : reverse_at r.rooms.items k < length r.arcs.items
+  pub apart : k ≢ reverse_at r.rooms.items k
   pub cost : HasUnitCost r k
-  pub back_cost : HasUnitCost r (reverse_at r.arcs.items k)
-  pub room : room_at r.arcs.items k + room_at r.arcs.items (reverse_at r.arcs.items k) < 2 ^ 32
+  pub back_cost : HasUnitCost r (reverse_at r.rooms.items k)
+  pub room : room_at r.rooms.items k + room_at r.rooms.items (reverse_at r.rooms.items k) < 2 ^ 32
 
 -- so many units went along residual arc k: less fits along it, and as much more along its reverse
 pub record IsPushedAlong (r r' : Residual) (k amount : ℕ) : Type 0 where
   pub first : r'.first ≡ r.first
   pub forward : r'.forward ≡ r.forward
   pub arc_size : length r'.arcs.items ≡ length r.arcs.items
+  pub room_size : length r'.rooms.items ≡ length r.rooms.items
   pub ends : (j : ℕ) → end_at r'.arcs.items j ≡ end_at r.arcs.items j
-  pub reverse : (j : ℕ) → reverse_at r'.arcs.items j ≡ reverse_at r.arcs.items j
-  pub costs : (j : ℕ) (z : ℤ) → IsCosted r.arcs.items j z → IsCosted r'.arcs.items j z
-  pub less : room_at r'.arcs.items k + amount ≡ room_at r.arcs.items k
-  pub more : room_at r'.arcs.items (reverse_at r.arcs.items k) ≡ room_at r.arcs.items (reverse_at r.arcs.items k) + amount
-  pub others : (j : ℕ) → j ≢ k → j ≢ reverse_at r.arcs.items k → room_at r'.arcs.items j ≡ room_at r.arcs.items j
+  pub reverse : (j : ℕ) → reverse_at r'.rooms.items j ≡ reverse_at r.rooms.items j
+  pub costs : (j : ℕ) (z : ℤ) → IsCosted r.arcs.items r.rooms.items j z → IsCosted r'.arcs.items r'.rooms.items j z
+  pub less : room_at r'.rooms.items k + amount ≡ room_at r.rooms.items k
+  pub more : room_at r'.rooms.items (reverse_at r.rooms.items k) ≡ room_at r.rooms.items (reverse_at r.rooms.items k) + amount
+  pub others : (j : ℕ) → j ≢ k → j ≢ reverse_at r.rooms.items k → room_at r'.rooms.items j ≡ room_at r.rooms.items j
 
 -- ---- what is read and written after a search
 
@@ -178,11 +180,11 @@ pub record IsCleared (s s' : Search) : Type 0 where
   pub size : length s'.visits.now ≡ length s.visits.now
 
 -- what each arc carries can be read: the number of the residual arc along it is that of one that has a reverse
-pub record CanRead (arcs : List ResidualArc) (forward : List ℕ) : Type 0 where
-  pub forwards : (i : ℕ) → i < length forward → numbers forward i < length arcs
-  pub reverses : (i : ℕ) → i < length forward → reverse_at arcs (numbers forward i) < length arcs
+pub record CanRead (rooms : List ResidualRoom) (forward : List ℕ) : Type 0 where
+  pub forwards : (i : ℕ) → i < length forward → numbers forward i < length rooms
+  pub reverses : (i : ℕ) → i < length forward → reverse_at rooms (numbers forward i) < length rooms
   pub small : length forward ≤ MAX_ARCS
-  pub size : length arcs ≤ MAX_RESIDUAL_ARCS
+  pub size : length rooms ≤ MAX_RESIDUAL_ARCS
 
 -- what a flow costs, and potentials that show that none costs less
 pub record IsShown (net : NetworkModel) (cost : ℕ) (potential : List ℤ) : Type 0 where

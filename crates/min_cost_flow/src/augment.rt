@@ -40,11 +40,11 @@ impl Solver {
         let found = self.found;
         let target = usize::from(self.residual.arcs[found].end);
         let most = most_between(&self.nodes.excess, source, target);
-        let mut amount = most.min(self.residual.arcs[found].room);
+        let mut amount = most.min(self.residual.rooms[found].room);
         let mut node = self.residual.start(found);
         'narrow: while self.visits[node].place > 0 {
             let number = self.visits[node].enter as usize;
-            amount = amount.min(self.residual.arcs[number].room);
+            amount = amount.min(self.residual.rooms[number].room);
             node = self.residual.start(number);
         }
         amount
@@ -71,10 +71,10 @@ fn most_between(excess: &[i32], source: usize, target: usize) -> u32
 fn push(residual: &mut Residual, number: usize, amount: u32)
     requires pair { IsPaired residual.old number }
     requires some { 0 < amount }
-    requires fits { amount ≤ room_at residual.old.arcs.items number }
+    requires fits { amount ≤ room_at residual.old.rooms.items number }
     ensures { IsPushedAlong residual.old residual.new number amount }
 {
-    let back = residual.arcs[number].reverse as usize;
+    let back = residual.rooms[number].reverse as usize;
     residual.take_room(number, amount);
     residual.give_room(back, amount);
 }

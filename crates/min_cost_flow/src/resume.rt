@@ -14,7 +14,7 @@ ghost use Rattle.min_cost_flow.specs.Stand.{excess_at, IsReady, IsSettled, IsAns
 
 use crate::solver::{carried_along, has_deficit};
 use crate::state::Solver;
-use networks::{Network, ResidualArc, move_units};
+use networks::{Network, ResidualRoom, move_units};
 
 /// How many units an arc carries at most: as many as all nodes of a network can supply.
 pub(crate) const MAX_CARRIED: u32 = 2_097_152;
@@ -34,7 +34,7 @@ impl Solver {
     {
         network.shift(from, to, amount);
         let residual = &self.residual;
-        if !carries_little(&residual.arcs, &residual.forward, amount) {
+        if !carries_little(&residual.rooms, &residual.forward, amount) {
             return self.solve(network);
         }
         if !rebase(&mut self.nodes.potential, to as usize) {
@@ -62,14 +62,14 @@ impl Solver {
 }
 
 /// Whether each arc can carry so many units more, at most [`MAX_CARRIED`] in all.
-fn carries_little(arcs: &[ResidualArc], forward: &[u32], amount: u32) -> bool
-    requires read { CanRead arcs.now forward.now }
+fn carries_little(rooms: &[ResidualRoom], forward: &[u32], amount: u32) -> bool
+    requires read { CanRead rooms.now forward.now }
     requires few { amount ≤ MAX_SUPPLY }
-    ensures { result ≡ true → (i : ℕ) → i < length forward.now → carried (reverse_at arcs.now) forward.now (room_at arcs.now) i + amount ≤ MAX_CARRIED }
+    ensures { result ≡ true → (i : ℕ) → i < length forward.now → carried (reverse_at rooms.now) forward.now (room_at rooms.now) i + amount ≤ MAX_CARRIED }
 {
     let most = MAX_CARRIED - amount;
     for along in forward.iter() {
-        if carried_along(arcs, *along) > most {
+        if carried_along(rooms, *along) > most {
             return false;
         }
     }

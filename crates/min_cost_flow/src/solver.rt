@@ -18,7 +18,7 @@ ghost use Rattle.min_cost_flow.specs.Stand.{excess_at, potential_at, flow_in, Is
 use crate::scratch::Scratch;
 use crate::solved::Solved;
 use crate::state::{Nodes, Solver};
-use networks::{Network, Residual, ResidualArc};
+use networks::{Network, Residual, ResidualRoom};
 use shortest_paths::{FAR, Ground, Search, Visit};
 use std::alloc::{AllocError, Global};
 use std::mem;
@@ -86,7 +86,7 @@ pub fn solve_in(
     if !solver.solve(network) {
         return Err(SolveFault::Infeasible);
     }
-    read_flow(&solver.residual.arcs, &mut solver.residual.forward);
+    read_flow(&solver.residual.rooms, &mut solver.residual.forward);
     let flow = mem::replace(&mut solver.residual.forward, Vec::new(alloc));
     let potential = mem::replace(&mut solver.nodes.potential, Vec::new(alloc));
     Ok(Solved::new(flow, potential, solver.searches, solver.looks))
@@ -180,7 +180,7 @@ pub(crate) fn find_path(
     requires left { pos 0 <ℤ at_nodes nodes.old.excess.items source }
     requires few { looks.old < 2 ^ 61 }
     ensures found { IfSome result (λ found. (net : NetworkModel) → IsReadyIn net residual.now nodes.old.potential.items nodes.old.excess.items visits.old → CanAugmentIn net residual.now nodes.new.potential.items nodes.new.excess.items visits.new found source) }
-    ensures short { IfSome result (λ found. looks.old + place_at visits.new (end_at residual.now.arcs.items (reverse_at residual.now.arcs.items found)) + 1 ≤ looks.new) }
+    ensures short { IfSome result (λ found. looks.old + place_at visits.new (end_at residual.now.arcs.items (reverse_at residual.now.rooms.items found)) + 1 ≤ looks.new) }
     ensures no_flow { IfNone result ((net : NetworkModel) → IsReadyIn net residual.now nodes.old.potential.items nodes.old.excess.items visits.old → HasNoFlow net) }
     ensures excess { nodes.new.excess ≡ nodes.old.excess }
     ensures looks { looks.new ≤ looks.old + length residual.now.arcs.items }
@@ -266,22 +266,22 @@ fn score_nodes(network: &Network, scores: &mut [i32])
 }
 
 /// Writes what each arc carries where the number of the residual arc along it stood.
-pub(crate) fn read_flow(arcs: &[ResidualArc], flow: &mut [u32])
-    requires { CanRead arcs.now flow.old }
-    ensures { (i : ℕ) → i < length flow.new → amounts flow.new i ≡ carried (reverse_at arcs.now) flow.old (room_at arcs.now) i }
+pub(crate) fn read_flow(rooms: &[ResidualRoom], flow: &mut [u32])
+    requires { CanRead rooms.now flow.old }
+    ensures { (i : ℕ) → i < length flow.new → amounts flow.new i ≡ carried (reverse_at rooms.now) flow.old (room_at rooms.now) i }
 {
     for along in flow.iter_mut() {
-        *along = carried_along(arcs, *along);
+        *along = carried_along(rooms, *along);
     }
 }
 
 /// What an arc carries, by the number of the residual arc along it: what fits back along it.
-pub(crate) fn carried_along(arcs: &[ResidualArc], along: u32) -> u32
-    requires along { along < length arcs.now }
-    requires reverse { reverse_at arcs.now along < length arcs.now }
-    ensures { result ≡ room_at arcs.now (reverse_at arcs.now along) }
+pub(crate) fn carried_along(rooms: &[ResidualRoom], along: u32) -> u32
+    requires along { along < length rooms.now }
+    requires reverse { reverse_at rooms.now along < length rooms.now }
+    ensures { result ≡ room_at rooms.now (reverse_at rooms.now along) }
 {
-    arcs[arcs[along as usize].reverse as usize].room
+    rooms[rooms[along as usize].reverse as usize].room
 }
 
 /// Writes a number at each node.

@@ -2,7 +2,7 @@
 ghost use Rattle.std.specs.Prelude.{OnOk};
 ghost use Rattle.min_cost_flow.specs.Stand.{IsSized};
 
-use networks::{Network, Residual, ResidualArc};
+use networks::{Network, Residual, ResidualArc, ResidualRoom};
 use shortest_paths::{FAR, Visit};
 use std::alloc::{AllocError, Global};
 
@@ -38,6 +38,7 @@ impl Solver {
                 first: Vec::new(alloc),
                 forward: Vec::new(alloc),
                 arcs: Vec::new(alloc),
+                rooms: Vec::new(alloc),
             },
             nodes: Nodes {
                 potential: Vec::new(alloc),
@@ -58,12 +59,6 @@ impl Solver {
     {
         let nodes = network.node_count();
         let arcs = network.arc_count();
-        let blank = ResidualArc {
-            end: 0,
-            cost: 0,
-            reverse: 0,
-            room: 0,
-        };
         let unvisited = Visit {
             label: FAR,
             enter: 0,
@@ -72,7 +67,10 @@ impl Solver {
         };
         self.residual.first.resize(nodes + 1, 0)?;
         self.residual.forward.resize(arcs, 0)?;
-        self.residual.arcs.resize(2 * arcs, blank)?;
+        self.residual.arcs.resize(2 * arcs, ResidualArc::default())?;
+        self.residual
+            .rooms
+            .resize(2 * arcs, ResidualRoom::default())?;
         self.nodes.potential.resize(nodes, 0)?;
         self.nodes.excess.resize(nodes, 0)?;
         self.nodes.score.resize(nodes, 0)?;

@@ -4,6 +4,7 @@ use Rattle.networks.specs.declared.residual.TheConstants.{SHUT}
 use Rattle.networks.specs.declared.arc.Cap.{Cap}
 use Rattle.networks.specs.declared.arc.Cap.TheVariants.{AtMost, Any}
 use Rattle.networks.specs.declared.residual.ResidualArc.{ResidualArc}
+use Rattle.networks.specs.declared.residual.ResidualRoom.{ResidualRoom}
 use Rattle.networks.specs.Networks.{NetworkModel, node_count, arc_count, arc_at}
 use Rattle.networks.specs.Flow.{start_of, end_of, unit_cost}
 
@@ -12,7 +13,10 @@ numbers xs i = slice_index xs i
 
 -- stands for residual arcs past the last
 abbrev pub no_residual_arc : ResidualArc
-no_residual_arc = record { end = 0; cost = pos 0; reverse = 0; room = 0 }
+no_residual_arc = record { end = 0; cost = pos 0 }
+
+abbrev pub no_residual_room : ResidualRoom
+no_residual_room = record { reverse = 0; room = 0 }
 
 abbrev pub end_at : List ResidualArc → ℕ → ℕ
 end_at arcs k = (slice_index_or arcs k no_residual_arc).end
@@ -21,12 +25,12 @@ abbrev pub cost_at : List ResidualArc → ℕ → ℤ
 cost_at arcs k = (slice_index_or arcs k no_residual_arc).cost
 
 -- the number of the residual arc the other way
-abbrev pub reverse_at : List ResidualArc → ℕ → ℕ
-reverse_at arcs k = (slice_index_or arcs k no_residual_arc).reverse
+abbrev pub reverse_at : List ResidualRoom → ℕ → ℕ
+reverse_at rooms k = (slice_index_or rooms k no_residual_room).reverse
 
 -- how many more units fit
-abbrev pub room_at : List ResidualArc → ℕ → ℕ
-room_at arcs k = (slice_index_or arcs k no_residual_arc).room
+abbrev pub room_at : List ResidualRoom → ℕ → ℕ
+room_at rooms k = (slice_index_or rooms k no_residual_room).room
 
 -- number k is one of the residual arcs that start at node v
 pub record StartsAt (first : List ℕ) (v k : ℕ) : Type 0 where
@@ -67,15 +71,15 @@ abbrev pub IsRated : ℤ → ℕ → ℤ → Type 0
 IsRated c room z = c ≡ (if room == 0 then z +ℤ SHUT else z)
 
 -- a unit costs z along residual arc k
-abbrev pub IsCosted : List ResidualArc → ℕ → ℤ → Type 0
-IsCosted arcs k z = IsRated (cost_at arcs k) (room_at arcs k) z
+abbrev pub IsCosted : List ResidualArc → List ResidualRoom → ℕ → ℤ → Type 0
+IsCosted arcs rooms k z = IsRated (cost_at arcs k) (room_at rooms k) z
 
 -- what fits along each residual arc, its end, and what a unit along it costs
-pub record IsFilled (net : NetworkModel) (reverse : ℕ → ℕ) (forward : List ℕ) (arcs : List ResidualArc) : Type 0 where
+pub record IsFilled (net : NetworkModel) (reverse : ℕ → ℕ) (forward : List ℕ) (room : ℕ → ℕ) (arcs : List ResidualArc) : Type 0 where
   pub arc_size : length arcs ≡ arc_count net + arc_count net
   pub end : (i : ℕ) (back : Bool) → i < arc_count net → end_at arcs (place_of reverse forward i back) ≡ end_of net i back
-  pub cost : (i : ℕ) (back : Bool) → i < arc_count net → IsCosted arcs (place_of reverse forward i back) (unit_cost net i back)
-  pub fits : (i : ℕ) → i < arc_count net → room_at arcs (place_of reverse forward i false) + room_at arcs (place_of reverse forward i true) ≡ limit_of (arc_at net i).cap
+  pub cost : (i : ℕ) (back : Bool) → i < arc_count net → IsRated (cost_at arcs (place_of reverse forward i back)) (room (place_of reverse forward i back)) (unit_cost net i back)
+  pub fits : (i : ℕ) → i < arc_count net → room (place_of reverse forward i false) + room (place_of reverse forward i true) ≡ limit_of (arc_at net i).cap
 
 -- what an arc carries is what fits back along it
 abbrev pub carried : (ℕ → ℕ) → List ℕ → (ℕ → ℕ) → ℕ → ℕ

@@ -12,5 +12,5 @@ mod units;
 pub use arc::{Arc, Cap};
 pub use fault::NetFault;
 pub use network::Network;
-pub use residual::{Residual, ResidualArc, SHUT};
+pub use residual::{Residual, ResidualArc, ResidualRoom, SHUT};
 pub use units::move_units;

@@ -1,7 +1,7 @@
 //! Residual arcs, those that start at a node side by side.
 ghost use Rattle.std.specs.Prelude.{◌≡◌, ◌<◌, ◌≤◌, ◌+◌, ◌-◌, ◌^◌, length, ℤ, pos, negsuc, ◌≤ℤ◌};
 ghost use Rattle.networks.specs.ResidualArcs.{end_at, reverse_at, room_at, IsRated, IsCosted};
-ghost use Rattle.networks.specs.Residuals.{IsSetTo};
+ghost use Rattle.networks.specs.Residuals.{HasNumber, IsSetTo};
 
 use crate::network::MAX_ARCS;
 
@@ -11,30 +11,32 @@ pub const MAX_RESIDUAL_ARCS: usize = 2 * MAX_ARCS;
 /// What the cost of a residual arc is raised by while nothing fits.
 pub const SHUT: i16 = 16_000;
 
-/// A residual arc: the node where it ends, what a unit along it costs, with `SHUT` more while nothing fits, the
-/// number of the residual arc the other way, and its residual capacity: how many more units fit along it.
-#[derive(Clone, Copy, Debug, PartialEq, Eq)]
+/// A residual arc as a search reads it: the node where it ends, and what a unit along it costs, with `SHUT` more
+/// while nothing fits.
+#[derive(Clone, Copy, Debug, Default, PartialEq, Eq)]
 pub struct ResidualArc {
     pub end: u16,
     pub cost: i16,
+}
+
+/// What sending along a residual arc reads: the number of the residual arc the other way, and the residual capacity:
+/// how many more units fit along it.
+#[derive(Clone, Copy, Debug, Default, PartialEq, Eq)]
+pub struct ResidualRoom {
     pub reverse: u32,
     pub room: u32,
 }
 
 impl ResidualArc {
-    /// One to a node along which so many units fit, where a unit costs so much, with the number of its reverse.
-    pub(crate) fn new(end: u16, cost: i16, reverse: u32, room: u32) -> ResidualArc
+    /// One to a node along which so many units fit, where a unit costs so much.
+    pub(crate) fn new(end: u16, cost: i16, room: u32) -> ResidualArc
         requires { cost ≤ℤ pos 1 }
         ensures end { result.end ≡ end }
         ensures cost { IsRated result.cost room cost }
-        ensures reverse { result.reverse ≡ reverse }
-        ensures room { result.room ≡ room }
     {
         ResidualArc {
             end,
             cost: if room == 0 { cost + SHUT } else { cost },
-            reverse,
-            room,
         }
     }
 }
@@ -47,45 +49,48 @@ pub struct Residual {
     /// For each arc the residual arc along it.
     pub forward: Vec<u32>,
     pub arcs: Vec<ResidualArc>,
+    /// One for each residual arc.
+    pub rooms: Vec<ResidualRoom>,
 }
 
 impl Residual {
     /// The node where a residual arc starts.
     pub fn start(&self, number: usize) -> usize
-        requires number { number < length self.now.arcs.items }
-        requires reverse { reverse_at self.now.arcs.items number < length self.now.arcs.items }
-        ensures { result ≡ end_at self.now.arcs.items (reverse_at self.now.arcs.items number) }
+        requires number { number < length self.now.rooms.items }
+        requires reverse { reverse_at self.now.rooms.items number < length self.now.arcs.items }
+        ensures { result ≡ end_at self.now.arcs.items (reverse_at self.now.rooms.items number) }
     {
-        self.arcs[self.arcs[number].reverse as usize].end as usize
+        self.arcs[self.rooms[number].reverse as usize].end as usize
     }
 
     /// Takes room for so many units, at least one, from a residual arc, and shuts it where nothing fits any more.
     pub fn take_room(&mut self, number: usize, units: u32)
-        requires arc { number < length self.old.arcs.items }
-        requires cost { (z : ℤ) × (negsuc 0 ≤ℤ z) × (z ≤ℤ pos 1) × IsCosted self.old.arcs.items number z }
+        requires arc { HasNumber self.old number }
+        requires cost { (z : ℤ) × (negsuc 0 ≤ℤ z) × (z ≤ℤ pos 1) × IsCosted self.old.arcs.items self.old.rooms.items number z }
         requires some { 0 < units }
-        requires fits { units ≤ room_at self.old.arcs.items number }
-        ensures { IsSetTo self.old self.new number (room_at self.old.arcs.items number - units) }
+        requires fits { units ≤ room_at self.old.rooms.items number }
+        ensures { IsSetTo self.old self.new number (room_at self.old.rooms.items number - units) }
     {
-        let arc = &mut self.arcs[number];
-        arc.room -= units;
-        if arc.room == 0 {
-            arc.cost += SHUT;
+        let along = &mut self.rooms[number];
+        along.room -= units;
+        if along.room == 0 {
+            self.arcs[number].cost += SHUT;
         }
     }
 
     /// Makes room for so many units more, at least one, along a residual arc, and opens it where nothing fitted.
     pub fn give_room(&mut self, number: usize, units: u32)
-        requires arc { number < length self.old.arcs.items }
-        requires cost { (z : ℤ) × (negsuc 0 ≤ℤ z) × (z ≤ℤ pos 1) × IsCosted self.old.arcs.items number z }
+        requires arc { HasNumber self.old number }
+        requires cost { (z : ℤ) × (negsuc 0 ≤ℤ z) × (z ≤ℤ pos 1) × IsCosted self.old.arcs.items self.old.rooms.items number z }
         requires some { 0 < units }
-        requires few { room_at self.old.arcs.items number + units < 2 ^ 32 }
-        ensures { IsSetTo self.old self.new number (room_at self.old.arcs.items number + units) }
+        requires few { room_at self.old.rooms.items number + units < 2 ^ 32 }
+        ensures { IsSetTo self.old self.new number (room_at self.old.rooms.items number + units) }
     {
-        let arc = &mut self.arcs[number];
-        if arc.room == 0 {
-            arc.cost -= SHUT;
+        let along = &mut self.rooms[number];
+        let was_shut = along.room == 0;
+        along.room += units;
+        if was_shut {
+            self.arcs[number].cost -= SHUT;
         }
-        arc.room += units;
     }
 }

@@ -5,6 +5,7 @@ use mir.Syntax.{w32}
 use mir.Val.{SFits, of_z}
 use Rattle.networks.specs.Networks.{node_count}
 use Rattle.networks.specs.Flow.{at_nodes}
+use Rattle.networks.specs.ResidualArcs.{reverse_at}
 use Rattle.shortest_paths.specs.Search.{far, labels, enters, orders, places, IsGraph, IsPriced, IsReached, IsNearest, IsServed, IsLeft}
 use Rattle.shortest_paths.proofs.Signs.{same_from_bits}
 use Rattle.shortest_paths.proofs.Reaching.{strictly, reached_fits}
@@ -20,8 +21,8 @@ run-search-requires-clause-blank c =
     let arcs = c.args.residual.now.arcs.items in
     let p = at_nodes c.args.nodes.now.potential.items in
     let e = at_nodes c.args.nodes.now.excess.items in
-    let g : IsGraph (node_count net) first arcs = is_graph _ _ _ _ _ r.network r.residual.laid_out r.residual.filled in
-    let pr : IsPriced (node_count net) first arcs p e = is_priced _ _ _ _ _ _ _ r.network r.residual.laid_out r.residual.filled r.round in
+    let g : IsGraph (node_count net) first arcs = is_graph _ _ _ _ _ _ r.network r.residual.laid_out r.residual.filled in
+    let pr : IsPriced (node_count net) first arcs p e = is_priced _ _ _ _ _ _ _ _ r.network r.residual.laid_out r.residual.filled r.round in
     rw (c.deref.ensures.value, c.deref-2.ensures.value, c.deref-3.ensures.value, c.deref-4.ensures.value) (record {
       ground = record {
         excesses = r.excesses ∙ sym n;
@@ -56,7 +57,7 @@ returns-then-search-clause-no_flow c net r =
     let re = subst (λ (k : ℕ). IsReached k first arcs p x c.args.source (labels t) (enters t) (orders t) (places t) t.head t.ordered t.reached t.level) n re0 in
     let sv = subst (λ (k : ℕ). IsServed k first arcs p (labels t) (places t) t.cut t.head) n sv0 in
     let left = subst (λ (k : ℕ). IsLeft k p (labels t) (places t) t.head t.cut) n left0 in
-    nothing_found _ _ _ _ _ _ _ _ _ _ _ _ _ _ _ _ _ r.network r.residual.laid_out r.residual.filled r.round re sv left cut c.requires.left
+    nothing_found _ _ _ _ _ _ _ _ _ _ _ _ _ _ _ _ _ _ r.network r.residual.laid_out r.residual.filled r.round re sv left cut c.requires.left
 
 pub update_potentials-requires : goal.update_potentials-requires
 update_potentials-requires c =
@@ -147,6 +148,6 @@ returns-clause-short c =
     let q = c.clear.ensures.cleared in
     let re = subst (λ (k : ℕ). IsReached k first arcs p x c.args.source (labels t) (enters t) (orders t) (places t) t.head t.ordered t.reached t.level) n re0 in
     let near = subst (λ (k : ℕ). IsNearest k first arcs p x c.args.source (labels t) (places t) t.head t.level t.cut t.found) n near0 in
-    let short = path_looks _ _ _ _ _ _ _ _ _ _ _ _ _ _ _ _ _ _ r.residual.laid_out r.residual.filled re (near.hit hit) in
+    let short = path_looks _ _ _ _ _ _ _ _ _ _ _ _ _ _ _ _ _ _ _ r.residual.laid_out r.residual.filled re (near.hit hit) in
     let looks = rw c.deref.ensures.value at f.looks in
-    short_path _ t c.clear.new.search arcs first c.args.looks.now c.run-search.new.looks q (search (rules, f.list, c.clear.ensures.list)) short looks
+    short_path _ t c.clear.new.search arcs (reverse_at res.rooms.items) first c.args.looks.now c.run-search.new.looks q (search (rules, f.list, c.clear.ensures.list)) short looks

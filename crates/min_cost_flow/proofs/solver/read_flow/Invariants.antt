@@ -5,6 +5,6 @@ use Rattle.min_cost_flow.proofs.solver.read_flow.Given as goal
 
 abbrev pub invariant-loop-along : goal.invariant-loop-along
 invariant-loop-along l = record {
-  done : (i : ℕ) → i < l.along-index → amounts l.flow i ≡ carried (reverse_at l.arcs) l.initial.flow (room_at l.arcs) i;
+  done : (i : ℕ) → i < l.along-index → amounts l.flow i ≡ carried (reverse_at l.rooms) l.initial.flow (room_at l.rooms) i;
   rest : (i : ℕ) → l.along-index ≤ i → numbers l.flow i ≡ numbers l.initial.flow i;
 }

@@ -6,6 +6,6 @@ use Rattle.min_cost_flow.proofs.standing.flow_cost.Given as goal
 
 abbrev pub invariant-loop-i : goal.invariant-loop-i
 invariant-loop-i l = record {
-  sum : l.cost ≡ sum_below l.i (λ i. (arc_at l.network i).cost * carried (reverse_at l.arcs) l.forward (room_at l.arcs) i);
+  sum : l.cost ≡ sum_below l.i (λ i. (arc_at l.network i).cost * carried (reverse_at l.rooms) l.forward (room_at l.rooms) i);
   few : l.cost ≤ l.i * 4294967296;
 }

@@ -23,5 +23,5 @@ returns-clause-shown c =
     let lists = s.solver in
     let cost_is = rw (c.deref.ensures.value, c.deref-2.ensures.value) at c.flow_cost-cost.ensures.cost in
     let shown : IsShown s.network c.flow_cost-cost.result lists.nodes.potential.items =
-    shown_at s.network (carried (reverse_at lists.residual.arcs.items) lists.residual.forward.items (room_at lists.residual.arcs.items)) lists.nodes.potential.items (at_nodes lists.nodes.excess.items) c.flow_cost-cost.result c.node_count-nodes.ensures.kept st.ready.round st.sent st.ready.potentials cost_is in
+    shown_at s.network (carried (reverse_at lists.residual.rooms.items) lists.residual.forward.items (room_at lists.residual.rooms.items)) lists.nodes.potential.items (at_nodes lists.nodes.excess.items) c.flow_cost-cost.result c.node_count-nodes.ensures.kept st.ready.round st.sent st.ready.potentials cost_is in
     rw c.deref-3.ensures.value (subst (λ (n : NetworkModel). IsShown n c.flow_cost-cost.result lists.nodes.potential.items) c.self.view_is shown)
