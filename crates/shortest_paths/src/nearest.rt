@@ -3,9 +3,9 @@
 //!
 //! Networks have at most 1,024 nodes and 8,192 residual arcs of cost -1 to 1, so distances are small whole numbers.
 //! Each residual arc is looked at once at most. Beside that the nodes that wait are gone over at each level.
-ghost use Rattle.std.specs.Prelude.{◌≡◌, ◌⊎◌, ◌<◌, ◌≤◌, ◌+◌, ◌^◌, ℕ, length, pos, ◌≤ℤ◌, ◌<ℤ◌, ◌+ℤ◌, ◌-ℤ◌, true, false, IfSome, IfNone};
-ghost use Rattle.networks.specs.ResidualArcs.{numbers, end_at, cost_at};
-ghost use Rattle.shortest_paths.specs.Search.{far, nodes_of, first_of, arcs_of, potential_of, excess_of, labels, orders, degree, looked, IsGround, IsSearch, IsBlank, Keeps, HasServed, HasLeft, Serves, IsNextLevel, IsOrdered, IsWaiting, IsOffered, IsScanning, IsRelaxed, IsWithinFar, IsArcCost, HasSameList};
+ghost use Rattle.std.specs.Prelude.{◌≡◌, ◌⊎◌, ◌<◌, ◌≤◌, ◌+◌, ◌^◌, ℕ, length, pos, ◌≤ℤ◌, ◌<ℤ◌, ◌+ℤ◌, ◌-ℤ◌, true, false};
+ghost use Rattle.networks.specs.ResidualArcs.{StartsAt};
+ghost use Rattle.shortest_paths.specs.Search.{far, nodes_of, first_of, arcs_of, potential_of, excess_of, labels, orders, degree, looked, IsGround, IsSearch, IsBlank, Keeps, HasServed, HasLeft, Serves, IsNextLevel, IsOrdered, IsWaiting, IsScanning, IsRelaxed, IsWithinFar, IsArcCost, HasSameList};
 
 use crate::reach::distance;
 use crate::state::{FAR, Ground, Search, Step, Visit};
@@ -54,7 +54,6 @@ impl<'a> Search<'a> {
             reached: 1,
             level: 0,
             cut: FAR as i32,
-            found_score: 0,
             found: 0,
         };
         search.relabel(Step {
@@ -99,10 +98,8 @@ impl<'a> Search<'a> {
         let mut least = self.cut;
         for j in self.ordered..self.reached {
             let node = self.visits[j].at_place as usize;
-            least = lesser(
-                least,
-                distance(self.visits[node].label, ground.potential[node]),
-            );
+            let away = distance(self.visits[node].label, ground.potential[node]);
+            least = least.min(away);
         }
         least
     }
@@ -150,53 +147,27 @@ impl<'a> Search<'a> {
     {
         let node = self.visits[self.head].at_place as usize;
         self.head += 1;
-        let mut number = ground.first[node] as usize;
+        let start = ground.first[node] as usize;
         let end = ground.first[node + 1] as usize;
-        *looks += (end - number) as u64;
-        'offers: while let Some(step) = self.next_offer(ground, node, number, end) {
-            number = step.number + 1;
-            self.reach(ground, step);
-        }
-    }
-
-    /// The first of some residual arcs of the node that is scanned that offers its end a lesser label, if one does.
-    fn next_offer(&self, ground: Ground<'_>, node: usize, start: usize, end: usize) -> Option<Step>
-        requires scanning { IsScanning ground self.now node }
-        requires start { numbers (first_of ground) node ≤ start }
-        requires end { end ≡ numbers (first_of ground) (node + 1) }
-        ensures offered { IfSome result (λ step. IsOffered ground.entry self.now step) }
-        ensures within { IfSome result (λ step. (start ≤ step.number) × (step.number < end)) }
-        ensures number { IfSome result (λ step. (step.end ≡ end_at (arcs_of ground.entry) step.number) × (step.label ≡ labels self.now node +ℤ cost_at (arcs_of ground.entry) step.number)) }
-        ensures before { IfSome result (λ step. (k : ℕ) → start ≤ k → k < step.number → Serves (arcs_of ground.entry) (potential_of ground.entry) (labels self.now) self.now.cut node k) }
-        ensures served { IfNone result ((k : ℕ) → start ≤ k → k < end → Serves (arcs_of ground.entry) (potential_of ground.entry) (labels self.now) self.now.cut node k) }
-    {
-        let from = self.visits[node].label;
+        *looks += (end - start) as u64;
         for number in start..end {
-            let arc = ground.arcs[number];
-            let end = arc.end as usize;
-            let label = offered_label(from, arc.cost);
-            if label < self.visits[end].label {
-                return Some(Step { number, end, label });
-            }
+            self.look(ground, node, number);
         }
-        None
     }
-}
 
-/// The lesser of two numbers.
-fn lesser(a: i32, b: i32) -> i32
-    ensures first { result ≤ℤ a }
-    ensures second { result ≤ℤ b }
-    ensures either { (result ≡ a) ⊎ (result ≡ b) }
-{
-    if b < a { b } else { a }
-}
-
-/// What a residual arc offers to its end.
-fn offered_label(label: i16, cost: i16) -> i16
-    requires label { IsWithinFar label }
-    requires cost { IsArcCost cost }
-    ensures { result ≡ label +ℤ cost }
-{
-    label + cost
+    /// Looks at a residual arc of the node that is scanned, and takes up what it offers to its end, if that is a
+    /// lesser label.
+    fn look(&mut self, ground: Ground<'_>, node: usize, number: usize)
+        requires scanning { IsScanning ground self.old node }
+        requires number { StartsAt (first_of ground) node number }
+        ensures relaxed { IsRelaxed ground.entry self.old self.new }
+        ensures serves { Serves (arcs_of ground.entry) (potential_of ground.entry) (labels self.new) self.new.cut node number }
+    {
+        let arc = ground.arcs[number];
+        let end = arc.end as usize;
+        let label = self.visits[node].label + arc.cost;
+        if label < self.visits[end].label {
+            self.reach(ground, Step { number, end, label });
+        }
+    }
 }

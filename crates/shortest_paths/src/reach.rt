@@ -16,9 +16,11 @@ impl Search<'_> {
         ensures served { (step.label -ℤ potential_of ground.entry step.end) <ℤ self.new.cut → labels self.new step.end ≤ℤ step.label }
     {
         let away = distance(step.label, ground.potential[step.end]);
+        if away > self.cut {
+            return;
+        }
         if ground.excess[step.end] < 0 {
-            let score = ground.score.get(step.end).copied().unwrap_or(0);
-            self.offer(step.number, away, score);
+            self.offer(ground, step.number, away);
         } else if away < self.cut {
             self.settle(ground, step);
         }
@@ -40,16 +42,17 @@ impl Search<'_> {
 
     /// Takes a node where units are wanting for the nearest one, if it is, or if it is as near and has a
     /// lesser score.
-    fn offer(&mut self, number: usize, distance: i32, score: i32)
+    fn offer(&mut self, ground: Ground<'_>, number: usize, distance: i32)
         ensures same { SameBesideCut self.old self.new }
         ensures cut { self.new.cut ≤ℤ self.old.cut }
         ensures least { self.new.cut ≤ℤ distance }
         ensures either { ((self.new.cut ≡ self.old.cut) × (self.new.found ≡ self.old.found)) ⊎ ((self.new.cut ≡ distance) × (self.new.found ≡ number)) }
     {
-        if distance < self.cut || (distance == self.cut && score < self.found_score) {
+        if distance < self.cut
+            || (distance == self.cut && score_of(ground, number) < score_of(ground, self.found))
+        {
             self.cut = distance;
             self.found = number;
-            self.found_score = score;
         }
     }
 
@@ -119,6 +122,12 @@ impl Search<'_> {
         self.visits[place].at_place = node as u16;
         self.visits[node].place = place as u16;
     }
+}
+
+/// The score of the node where a residual arc ends.
+fn score_of(ground: Ground<'_>, number: usize) -> i32 {
+    let end = ground.arcs.get(number).map_or(0, |arc| arc.end as usize);
+    ground.score.get(end).copied().unwrap_or(0)
 }
 
 /// How far a node is from the source by reduced costs.

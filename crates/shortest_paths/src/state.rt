@@ -48,8 +48,6 @@ pub struct Search<'a> {
     pub level: i32,
     /// The distance of the nearest node found where units are wanting, or `FAR` where none was found.
     pub cut: i32,
-    /// The score of that node.
-    pub found_score: i32,
     /// The residual arc that leads to that node.
     pub found: usize,
 }

@@ -1,4 +1,4 @@
-use Rattle.std.proofs.Common.{rules, ◌≡◌, ◌<◌, ◌⊎◌, inl, inr}
+use Rattle.std.proofs.Common.{rules, ◌≡◌, ◌<◌, ◌⊎◌, inl, inr, arith}
 use Rattle.std.specs.Prelude.{pos, ◌-ℤ◌, ◌<ℤ◌}
 use mir.Syntax.{w32}
 use mir.Val.{SFits}
@@ -28,3 +28,11 @@ returns-then-ground-step-lt0-clause-relaxed c =
     let a = c.offer.ensures in
     let either : ((c.offer.new.self.cut ≡ c.args.self.now.cut) × (c.offer.new.self.found ≡ c.args.self.now.found)) ⊎ ((c.offer.new.self.cut ≡ c.distance-away.result) × (c.offer.new.self.found ≡ c.args.step.number)) = elim a.either [ inl h ↦ inl h | inr h ↦ inr (passed_is _ _ fd h.0, h.1) ] in
     offered g c.args.self.now c.offer.new.self c.args.step c.distance-away.result o wants away a.same a.cut either
+
+pub offset_bounds-ground-step-2 : goal.offset_bounds-ground-step-2
+offset_bounds-ground-step-2 c =
+    let small = c.requires.offer.search.ground.graph.nodes in
+    let b = end_in c.args.ground c.args.self.now c.args.step c.requires.offer in omega arith
+
+pub bounds-ground-step-2 : goal.bounds-ground-step-2
+bounds-ground-step-2 c = omega (arith, end_in c.args.ground c.args.self.now c.args.step c.requires.offer, c.requires.offer.search.ground.excesses)
