@@ -27,7 +27,7 @@ use visibility::compact_by_visibility_in;
 pub struct DrawScratch {
     boxes: BoxesScratch,
     points: compact::Scratch,
-    rows: visibility::Scratch,
+    compaction: visibility::Scratch,
     check: drawing_check::Scratch,
     // the directions of the darts of the shape that was drawn last
     headings: Vec<u8>,
@@ -42,7 +42,7 @@ impl DrawScratch {
         DrawScratch {
             boxes: BoxesScratch::empty(alloc),
             points: compact::Scratch::empty(alloc),
-            rows: visibility::Scratch::empty(alloc),
+            compaction: visibility::Scratch::empty(alloc),
             check: drawing_check::Scratch::empty(alloc),
             headings: Vec::new(alloc),
             shell: None,
@@ -157,7 +157,8 @@ fn shorter_drawing(
     if drawing == DrawingKind::Quick {
         return Ok(None);
     }
-    let Some(shorter) = compact_by_visibility_in(alloc, &mut scratch.rows, plane, points)? else {
+    let Some(shorter) = compact_by_visibility_in(alloc, &mut scratch.compaction, plane, points)?
+    else {
         return Ok(None);
     };
     match check_in(alloc, &mut scratch.check, plane, shape, shorter) {

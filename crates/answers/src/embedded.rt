@@ -29,7 +29,7 @@ impl<P: Purpose> Staged for Item<P, <P as Purpose>::Carried, Traced> {
         scratch.send_back(rt);
     }
 
-    fn next(self, alloc: Global, scratch: &mut LayScratch) -> Shaped<P> {
+    fn work(self, alloc: Global, scratch: &mut LayScratch) -> Shaped<P> {
         let task = self.task;
         let plane = scratch.open(self.state);
         let layout = shape(alloc, scratch, plane, task.choice, task.drawing);

@@ -29,7 +29,7 @@ impl<P: Purpose> Staged for Item<P, Record, ()> {
         scratch.restock(rt);
     }
 
-    fn next(self, alloc: Global, scratch: &mut EmbedScratch) -> Embedded<P> {
+    fn work(self, alloc: Global, scratch: &mut EmbedScratch) -> Embedded<P> {
         let plane = embed(alloc, &mut scratch.planes, &self.rec);
         Item {
             task: self.task,

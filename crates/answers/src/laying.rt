@@ -5,14 +5,14 @@ ghost use Rattle.ortho_rep.specs.Representation.{IsShape, IsLeast};
 ghost use Rattle.ortho_rep.specs.Prices.{IsProof};
 ghost use Rattle.compact.specs.Ordered.{AreHeadingsOf};
 ghost use Rattle.answers.specs.Steps.{IsTracedPlane, IsPlaneOf, IsShaped};
-ghost use Rattle.choices.specs.declared.Choice.{Choice};
+ghost use Rattle.common.specs.declared.choice.Choice.{Choice};
 
 use crate::drawing_kind::DrawingKind;
 use crate::fault::LayoutFault;
 use crate::held::{Held, Shell};
 use crate::layout::{Layout, SpentLayout};
 use crate::spent::WayBack;
-use choices::Choice;
+use common::Choice;
 use compact::{Search, headings_in};
 use faces::Plane;
 use ortho_rep::{Prices, Shape, best_shape, least_shape_in};

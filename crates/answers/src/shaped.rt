@@ -27,7 +27,7 @@ impl<P: Purpose> Staged for Item<P, <P as Purpose>::Carried, LaidOut> {
         scratch.send_back(rt);
     }
 
-    fn next(self, alloc: Global, scratch: &mut DrawScratch) -> P::Entry {
+    fn work(self, alloc: Global, scratch: &mut DrawScratch) -> P::Entry {
         let task = self.task;
         let layout = scratch.open(self.state);
         let answer = answer_with(alloc, scratch, layout, task.drawing);

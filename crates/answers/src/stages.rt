@@ -2,16 +2,16 @@
 
 ghost use Rattle.std.specs.Prelude.{◌≡◌, ℕ, List};
 ghost use Rattle.answers.specs.Steps.{IsEmbedded, IsShaped};
-ghost use Rattle.choices.specs.declared.Choice.{Choice};
+ghost use Rattle.common.specs.declared.choice.Choice.{Choice};
 ghost use Rattle.entries.specs.Answers.{Answers};
-ghost use Rattle.drawn_laws.specs.Drawings.{IsDrawnIfLaid};
+ghost use Rattle.drawing_laws.specs.Drawings.{IsDrawnIfLaid};
 
 use crate::drawing::{DrawScratch, draw};
 use crate::drawing_kind::DrawingKind;
 use crate::fault::LayoutFault;
 use crate::laying::{LayScratch, lay};
 use crate::layout::Layout;
-use choices::Choice;
+use common::Choice;
 use embedding::{Graph, ReadFault, Rule};
 use entries::{Answer, Entry};
 use faces::{Plane, TraceFault};

@@ -1,7 +1,7 @@
 //! What is to be done with one record of a run.
 
 use crate::drawing_kind::DrawingKind;
-use choices::Choice;
+use common::Choice;
 
 /// Which record of a run it is, and how it is answered.
 #[derive(Clone, Copy, Debug)]

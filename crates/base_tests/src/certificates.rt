@@ -4,7 +4,7 @@ use crate::made::{Drawn, is_certified};
 
 /// Three vertices on a line, drawn far apart.
 const LINE: Drawn<'static> = Drawn {
-    rows: &[(0, 3, 3), (5, 3, 3), (9, 3, 3)],
+    segments: &[(0, 3, 3), (5, 3, 3), (9, 3, 3)],
     edges: &[(0, 1), (1, 2)],
 };
 
@@ -20,13 +20,13 @@ const LINE: Drawn<'static> = Drawn {
 ///
 /// Below a width of 3 the vertices of the lower side do not keep their order, so its least length is 3 + 1 + 3.
 const BOX: Drawn<'static> = Drawn {
-    rows: &[(0, 0, 4), (1, 0, 0), (3, 0, 0), (1, 2, 2), (4, 0, 4)],
+    segments: &[(0, 0, 4), (1, 0, 0), (3, 0, 0), (1, 2, 2), (4, 0, 4)],
     edges: &[(0, 1), (1, 2), (2, 4), (3, 4), (0, 4)],
 };
 
 /// The box without its upper side.
 const OPEN_BOX: Drawn<'static> = Drawn {
-    rows: &[(0, 0, 4), (1, 0, 0), (3, 0, 0), (1, 2, 2), (4, 0, 4)],
+    segments: &[(0, 0, 4), (1, 0, 0), (3, 0, 0), (1, 2, 2), (4, 0, 4)],
     edges: &[(0, 1), (1, 2), (2, 4), (3, 4)],
 };
 
@@ -58,7 +58,7 @@ const OF_BOX: [(&[u16], &[(u16, u16, u32)], bool); 13] = [
         &[(0, 1, 3), (1, 2, 2), (2, 4, 1), (3, 4, 1)],
         false,
     ),
-    // a pair the wrong way, one on no level, and one without a row
+    // a pair the wrong way, one on no level, and one without a segment
     (
         &[0, 1, 2, 2, 3],
         &[(0, 1, 2), (1, 2, 2), (2, 4, 2), (3, 4, 1), (4, 3, 0)],

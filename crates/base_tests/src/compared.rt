@@ -1,4 +1,5 @@
-//! Comparisons that the tests share. (An `assert_eq!` in each place would make the tests' proofs several times as long.)
+//! Comparisons that the tests share. (An `assert_eq!` in each place would make the tests' proofs several times
+//! as long.)
 
 use ruled_lanes::Closed;
 use std::fmt::Debug;

@@ -10,7 +10,7 @@ use std::test::*;
 use std::thread;
 use std::thread::{JoinHandle, Threads};
 
-/// A refused allocation is told, and a second call makes the fan. Items come in order with their lanes, and then no
+/// A refused allocation is a fault, and a second call makes the fan. Items come in order with their lanes, and then no
 /// more come once all givers are gone.
 #[test]
 fn refused_memory_is_told(rt: HostRuntime) {

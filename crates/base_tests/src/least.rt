@@ -1,22 +1,22 @@
 //! Rows whose least length is known by hand.
 use crate::compared::same;
-use crate::made::{Drawn, edges_of, rows_of};
+use crate::made::{Drawn, edges_of, segments_of};
 use least_length::{Edge, least_numbers};
 use std::alloc::{AllocError, Global};
 
-/// Drawings, rows in the order of their numbers, and the least length of each.
+/// Drawings, segments in the order of their numbers, and the least length of each.
 const DRAWINGS: [(Drawn<'static>, Option<u32>); 10] = [
-    // nothing, and a row alone
+    // nothing, and a segment alone
     (
         Drawn {
-            rows: &[],
+            segments: &[],
             edges: &[],
         },
         Some(0),
     ),
     (
         Drawn {
-            rows: &[(7, 0, 3)],
+            segments: &[(7, 0, 3)],
             edges: &[],
         },
         Some(0),
@@ -24,7 +24,7 @@ const DRAWINGS: [(Drawn<'static>, Option<u32>); 10] = [
     // three on a line
     (
         Drawn {
-            rows: &[(0, 3, 3), (5, 3, 3), (9, 3, 3)],
+            segments: &[(0, 3, 3), (5, 3, 3), (9, 3, 3)],
             edges: &[(0, 1), (1, 2)],
         },
         Some(2),
@@ -32,14 +32,14 @@ const DRAWINGS: [(Drawn<'static>, Option<u32>); 10] = [
     // leaves of a line, ahead of it and behind it, on levels of their own
     (
         Drawn {
-            rows: &[(0, 0, 4), (5, 0, 0), (7, 2, 2), (9, 4, 4)],
+            segments: &[(0, 0, 4), (5, 0, 0), (7, 2, 2), (9, 4, 4)],
             edges: &[(0, 1), (0, 2), (0, 3)],
         },
         Some(3),
     ),
     (
         Drawn {
-            rows: &[(0, 0, 0), (1, 2, 2), (2, 4, 4), (9, 0, 4)],
+            segments: &[(0, 0, 0), (1, 2, 2), (2, 4, 4), (9, 0, 4)],
             edges: &[(0, 3), (1, 3), (2, 3)],
         },
         Some(3),
@@ -47,7 +47,7 @@ const DRAWINGS: [(Drawn<'static>, Option<u32>); 10] = [
     // a box of width 3 by its lower side, and a leaf of its right side: 3 + 1 + 3
     (
         Drawn {
-            rows: &[(0, 0, 4), (1, 0, 0), (1, 2, 2), (3, 0, 0), (4, 0, 4)],
+            segments: &[(0, 0, 4), (1, 0, 0), (1, 2, 2), (3, 0, 0), (4, 0, 4)],
             edges: &[(0, 1), (1, 3), (3, 4), (2, 4), (0, 4)],
         },
         Some(7),
@@ -55,7 +55,7 @@ const DRAWINGS: [(Drawn<'static>, Option<u32>); 10] = [
     // the same with a leaf of each side: 3 + 1 + 1 + 3
     (
         Drawn {
-            rows: &[
+            segments: &[
                 (0, 0, 6),
                 (1, 0, 0),
                 (1, 4, 4),
@@ -70,7 +70,7 @@ const DRAWINGS: [(Drawn<'static>, Option<u32>); 10] = [
     // a box of width 5, and in it a line with two edges to its left and one to its right: 5 + 1 + 1 + 4
     (
         Drawn {
-            rows: &[
+            segments: &[
                 (0, 0, 4),
                 (1, 0, 0),
                 (2, 0, 0),
@@ -95,7 +95,7 @@ const DRAWINGS: [(Drawn<'static>, Option<u32>); 10] = [
     // one edge to its left and two to its right: 5 + 4 + 1 + 1
     (
         Drawn {
-            rows: &[
+            segments: &[
                 (0, 0, 4),
                 (1, 0, 0),
                 (1, 2, 4),
@@ -120,7 +120,7 @@ const DRAWINGS: [(Drawn<'static>, Option<u32>); 10] = [
     // not in the order of their numbers
     (
         Drawn {
-            rows: &[(5, 3, 3), (0, 3, 3)],
+            segments: &[(5, 3, 3), (0, 3, 3)],
             edges: &[(1, 0)],
         },
         None,
@@ -129,9 +129,9 @@ const DRAWINGS: [(Drawn<'static>, Option<u32>); 10] = [
 
 /// The total length of the edges with the numbers found, or none where none are found.
 fn least_length_of(alloc: Global, drawn: Drawn<'_>) -> Result<Option<u32>, AllocError> {
-    let rows = rows_of(alloc, drawn.rows)?;
-    let edges = edges_of(alloc, &rows, drawn.edges)?;
-    let Some(numbers) = least_numbers(alloc, &rows, &edges)? else {
+    let segments = segments_of(alloc, drawn.segments)?;
+    let edges = edges_of(alloc, &segments, drawn.edges)?;
+    let Some(numbers) = least_numbers(alloc, &segments, &edges)? else {
         return Ok(None);
     };
     Ok(Some(length_of(&edges, &numbers)))

@@ -1,6 +1,6 @@
-//! Tests of what knows no graph. Flows of least cost: networks whose least cost is known, by hand, from other solvers, and
-//! by a slow solver beside them. Least lengths: rows whose least length is known, and what is no certificate of theirs.
-//! Links, fans and tickets, on one thread and between threads.
+//! Tests of what knows no graph. Flows of least cost: networks whose least cost is known, by hand, from other
+//! solvers, and by a slow solver beside them. Least lengths: segments whose least length is known, and what is
+//! no certificate of theirs. Links, fans and tickets, on one thread and between threads.
 #![tactic(auto)]
 
 #[cfg(test)]

@@ -72,7 +72,7 @@ fn a_thousand_in_order(rt: HostRuntime) {
     }
 }
 
-/// A refused allocation is told, and a second call makes the link.
+/// A refused allocation is a fault, and a second call makes the link.
 #[test]
 fn refused_memory_is_told(rt: HostRuntime) {
     let (mut giver, mut taker) = match link(rt.alloc(), 2) {

@@ -1,7 +1,7 @@
 //! A thousand random drawings, whose least lengths LEMON found by its network simplex (`checks/least-lengths`).
 use crate::compared::same;
 use crate::least::length_of;
-use least_length::{Edge, Row, Scratch, find_least};
+use least_length::{Edge, Scratch, Segment, find_least};
 use std::alloc::{AllocError, Global};
 
 /// The least lengths of each hundred of drawings, added up.
@@ -27,11 +27,11 @@ impl Random {
     }
 }
 
-/// Memory that is lent to each drawing, with its rows, its edges and the numbers found.
+/// Memory that is lent to each drawing, with its segments, its edges and the numbers found.
 #[derive(Drop)]
 struct Lent {
     scratch: Scratch,
-    rows: Vec<Row>,
+    segments: Vec<Segment>,
     edges: Vec<Edge>,
     numbers: Vec<u16>,
 }
@@ -41,25 +41,26 @@ impl Lent {
     fn empty(alloc: Global) -> Lent {
         Lent {
             scratch: Scratch::empty(alloc),
-            rows: Vec::new(alloc),
+            segments: Vec::new(alloc),
             edges: Vec::new(alloc),
             numbers: Vec::new(alloc),
         }
     }
 
-    /// Makes the drawing with this number: up to 31 rows on up to 12 levels, and edges between rows that share one.
+    /// Makes the drawing with this number: up to 31 segments on up to 12 levels, and edges between segments
+    /// that share one.
     fn make(&mut self, drawing: u64) -> Result<(), AllocError> {
         let mut random = Random { state: drawing };
         let count = random.below(30).saturating_add(2);
         let levels = random.below(12).saturating_add(1);
-        self.rows.clear();
+        self.segments.clear();
         let mut number: u16 = 0;
         for _ in 0..count {
             number = number.saturating_add(random.below(3)).saturating_add(1);
             let low = random.below(levels);
             let high = low.saturating_add(random.below(levels));
             let high = high.min(levels.saturating_sub(1));
-            self.rows.push(Row { number, low, high })?;
+            self.segments.push(Segment { number, low, high })?;
         }
         self.edges.clear();
         for _ in 0..count.saturating_mul(2) {
@@ -70,10 +71,10 @@ impl Lent {
         Ok(())
     }
 
-    /// Adds an edge between two rows, if there are two that share a level.
+    /// Adds an edge between two segments, if there are two that share a level.
     fn join(&mut self, from: u16, to: u16) -> Result<(), AllocError> {
-        let first = self.rows.get(usize::from(from)).copied();
-        let second = self.rows.get(usize::from(to)).copied();
+        let first = self.segments.get(usize::from(from)).copied();
+        let second = self.segments.get(usize::from(to)).copied();
         let (Some(first), Some(second)) = (first, second) else {
             return Ok(());
         };
@@ -87,9 +88,9 @@ impl Lent {
     /// The length of the edges of a drawing with the numbers found, and 0 where there are none.
     fn least_length(&mut self, drawing: u64) -> Result<u32, AllocError> {
         self.make(drawing)?;
-        let rows = self.rows.as_slice();
+        let segments = self.segments.as_slice();
         let edges = self.edges.as_slice();
-        if find_least(&mut self.scratch, rows, edges, &mut self.numbers)? {
+        if find_least(&mut self.scratch, segments, edges, &mut self.numbers)? {
             Ok(length_of(edges, self.numbers.as_slice()))
         } else {
             Ok(0)

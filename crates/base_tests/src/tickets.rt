@@ -25,7 +25,7 @@ fn draws(
     same(rt, tickets.draw(&mut seats[number]), answer);
 }
 
-/// A refused allocation is told, and a second call makes the tickets. Two seats draw on one thread.
+/// A refused allocation is a fault, and a second call makes the tickets. Two seats draw on one thread.
 #[test]
 fn refused_memory_is_told(rt: HostRuntime) {
     let (tickets, mut seats) = match Tickets::new(rt.alloc(), 3, 2) {

@@ -514,7 +514,7 @@ fn counted_run<R: AllocGlobal + Threads + Wait + Sync, G: Gate>(
 }
 
 /// With each allocation refused in turn, one answer or one mark says so and all else is as ever, or a fault does. Where
-/// it was to start a thread, the fault names that instead; a lane's own fault arrives, so none is told as a lost lane.
+/// it was to start a thread, the fault names that instead; a lane's own fault arrives, so none is named a lost lane.
 /// Each record that is booked has passed the gate once at each stage, whether or not memory was wanting for it.
 #[test]
 fn names_want_of_memory(rt: HostRuntime) {

@@ -1,16 +1,16 @@
 -- What was written where a run came to nothing.
 use Rattle.std.proofs.Common.{◌≡◌, ℕ, List, Option, subst}
-use Rattle.choices.specs.declared.Choice.{Choice}
+use Rattle.common.specs.declared.choice.Choice.{Choice}
 use Rattle.lanes.specs.Notes.{Note}
 use Rattle.lanes.specs.Opening.{Meaning}
 use Rattle.lane_runs.specs.declared.fault.RunFault.{RunFault}
 use Rattle.lane_runs.specs.declared.fault.RunFault.TheVariants.{Memory, LaneLost, Thread, Refused}
 use Rattle.lane_runs.specs.Faults.{EndsRun}
 use Rattle.reports.specs.declared.form.Form.{Form}
-use Rattle.texts.specs.declared.lines.Lines.{Lines}
-use Rattle.texts.specs.Holding.{form_of, choice_of, files_of, LeavesOff, LinesLeaveOff}
-use Rattle.texts.specs.Whole.{IsBegun}
-use Rattle.texts.proofs.Ordering.{begun_left_off, begun_none}
+use Rattle.printing.specs.declared.run_lines.Lines.{Lines}
+use Rattle.printing.specs.Holding.{form_of, choice_of, files_of, LeavesOff, LinesLeaveOff}
+use Rattle.printing.specs.Whole.{IsBegun}
+use Rattle.printing.proofs.Ordering.{begun_left_off, begun_none}
 
 -- where it holds of what a consumer holds and of one that gave up
 pub ended_with : {F Q : Type 0} (gave_up : F → Type 0) (holds : List Note → Type 0) (fault : RunFault F) → ((refusal : F) → gave_up refusal → Q) → ((ns : List Note) → holds ns → Q)

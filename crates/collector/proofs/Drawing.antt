@@ -1,19 +1,19 @@
 -- Runs hand out and write only graphs that are drawn.
 use Rattle.std.proofs.Common.{◌≡◌, ℕ, ◌+◌, List, ◌++◌, length, Option, Result, Ok, Err, IfOk, OnErr, inl, inr}
-use Rattle.choices.specs.declared.Choice.{Choice}
+use Rattle.common.specs.declared.choice.Choice.{Choice}
 use Rattle.lanes.specs.Opening.{Meaning}
-use Rattle.books.specs.Books.{BookModel}
-use Rattle.books.specs.AllBooks.{AreAllBooks}
+use Rattle.entries.specs.Books.{BookModel}
+use Rattle.entries.specs.AllBooks.{AreAllBooks}
 use Rattle.reports.specs.declared.form.Form.{Form}
 use Rattle.reports.specs.Forms.{text_in}
 use Rattle.printing.specs.FormLines.{head_in, lines_in}
-use Rattle.texts.specs.Whole.{IsAllWritten, IsBegun}
-use Rattle.drawn_reports.specs.Telling.{AddsNoneUndrawn}
-use Rattle.drawn_reports.specs.DrawnBooks.{AreDrawnBooks}
-use Rattle.drawn_reports.proofs.Apart.{joined}
-use Rattle.drawn_reports.proofs.Texts.{text_apart, head_apart, lines_apart}
-use Rattle.drawn_reports.proofs.Books.{drawn_book, drawn_books}
-use Rattle.drawn_reports.proofs.Added.{text_added, front_added, from_some}
+use Rattle.printing.specs.Whole.{IsAllWritten, IsBegun}
+use Rattle.printing.specs.Telling.{AddsNoneUndrawn}
+use Rattle.printing.specs.DrawnBooks.{AreDrawnBooks}
+use Rattle.printing.proofs.Apart.{joined}
+use Rattle.printing.proofs.TextBytes.{text_apart, head_apart, lines_apart}
+use Rattle.printing.proofs.Books.{drawn_book, drawn_books}
+use Rattle.printing.proofs.Added.{text_added, front_added, from_some}
 
 pub all_drawn : (choice : Choice) (meaning : ℕ → Meaning) (files : ℕ) (books : List BookModel) → AreAllBooks choice meaning files books → AreDrawnBooks books
 all_drawn choice meaning files books are = drawn_books choice meaning 0 books are.each

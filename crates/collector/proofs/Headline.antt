@@ -8,7 +8,7 @@ use Rattle.planar_code.specs.Split.{IsSplit}
 use Rattle.streams.specs.declared.frames.Mark.{Mark}
 use Rattle.streams.specs.declared.frames.Mark.TheVariants.{Ended, Io}
 use Rattle.streams.specs.Marks.{IsMarked}
-use Rattle.choices.specs.declared.Choice.{Choice}
+use Rattle.common.specs.declared.choice.Choice.{Choice}
 use Rattle.lanes.specs.Notes.{numbered}
 use Rattle.lanes.specs.Opening.{Meaning, Opened}
 use Rattle.entries.specs.declared.answer.Answer.{Answer}
@@ -16,9 +16,9 @@ use Rattle.entries.specs.declared.answer.Answer.TheVariants.{Laid, Refused, NoMe
 use Rattle.entries.specs.declared.entry.Entry.{Entry}
 use Rattle.entries.specs.Answers.{Answers}
 use Rattle.entries.specs.Abouts.{about_of}
-use Rattle.books.specs.Books.{BookModel, IsBook, AreBooks}
-use Rattle.books.specs.AllBooks.{AreAllBooks}
-use Rattle.drawn_laws.proofs.Drawings.{answer_drawn}
+use Rattle.entries.specs.Books.{BookModel, IsBook, AreBooks}
+use Rattle.entries.specs.AllBooks.{AreAllBooks}
+use Rattle.drawing_laws.proofs.Drawings.{answer_drawn}
 use Rattle.collector.specs.Headline.{IsDecided, IsEntryFor, AreOneForEach, IsWholeRun, HasMemory}
 
 decided : (choice : Choice) (bytes : List ℕ) (answer : Answer) → answer ≢ NoMemory → Answers choice bytes answer → IsDecided choice bytes answer

@@ -5,13 +5,13 @@ use Rattle.planar_code.specs.Stream.{lists_of}
 use Rattle.planar_code.specs.Split.{IsSplit}
 use Rattle.streams.specs.declared.frames.Mark.{Mark}
 use Rattle.embedding.specs.Rules.{FirstBroken}
-use Rattle.choices.specs.declared.Choice.{Choice}
+use Rattle.common.specs.declared.choice.Choice.{Choice}
 use Rattle.entries.specs.declared.answer.Answer.{Answer}
 use Rattle.entries.specs.declared.answer.Answer.TheVariants.{Laid, Refused, NoMemory}
 use Rattle.entries.specs.declared.entry.Entry.{Entry}
 use Rattle.entries.specs.Answers.{IsLaid}
-use Rattle.drawn_laws.specs.Drawings.{IsDrawnIfLaid}
-use Rattle.books.specs.Books.{BookModel}
+use Rattle.drawing_laws.specs.Drawings.{IsDrawnIfLaid}
+use Rattle.entries.specs.Books.{BookModel}
 
 -- The answer names the first rule that a record of these bytes breaks, or gives a plane with the record's lists, an
 -- orthogonal representation of it and its chosen outer face with the fewest bends.

@@ -1,7 +1,7 @@
 -- Which runs that write a text are refused at once, beside `IsBegun` of `texts`.
 use Rattle.std.specs.Prelude.{⊤}
 use Rattle.streams.specs.declared.faults.BatchFault.TheVariants.{TooManyFiles, BadLanes}
-pub use Rattle.texts.specs.Whole.{IsBegun}
+pub use Rattle.printing.specs.Whole.{IsBegun}
 use Rattle.collector.specs.declared.text.TextFault.{TextFault}
 use Rattle.collector.specs.declared.text.TextFault.TheVariants.{Run, Write}
 

@@ -4,7 +4,7 @@ ghost use Rattle.std.specs.Prelude.{⊤};
 use answers::{
     DrawScratch, DrawingKind, EmbedScratch, Embedded, Framed, Keeping, LayScratch, Shaped, Task,
 };
-use choices::Choice;
+use common::Choice;
 use entries::Entry;
 use lane_runs::{LaneKind, LaneScratch};
 use planar_code::Record;

@@ -4,7 +4,7 @@ ghost use Rattle.lanes.specs.Notes.{Item};
 ghost use Rattle.entries.specs.Abouts.{about_of};
 
 use answers::{Entry, answer};
-use choices::Choice;
+use common::Choice;
 use lanes::Keep;
 use planar_code::Record;
 use std::alloc::{AllocError, Global};

@@ -1,9 +1,9 @@
 //! The promise of a run in short, as the contract of a function that does nothing.
 ghost use Rattle.std.specs.Prelude.{◌≡◌, ℕ, ◌<◌, List, false, slice_index_or};
-ghost use Rattle.choices.specs.declared.Choice.{Choice};
+ghost use Rattle.common.specs.declared.choice.Choice.{Choice};
 ghost use Rattle.lanes.specs.Opening.{Meaning, Opened};
-ghost use Rattle.books.specs.Books.{BookModel};
-ghost use Rattle.books.specs.AllBooks.{AreAllBooks};
+ghost use Rattle.entries.specs.Books.{BookModel};
+ghost use Rattle.entries.specs.AllBooks.{AreAllBooks};
 ghost use Rattle.collector.specs.Headline.{IsWholeRun, HasMemory};
 
 /// Where `run_plain` or `run_batch` hands out books, the book of each file that opens and gives all

@@ -1,13 +1,13 @@
 //! A run on the caller's thread.
 ghost use Rattle.std.specs.Prelude.{◌≡◌, ◌<◌, ◌≤◌, ◌⊎◌, ◌↔◌, Err, IfOk, IfErr, length, vec_len};
-ghost use Rattle.books.specs.declared.limits.TheConstants.{MAX_FILES};
-ghost use Rattle.books.specs.Books.{IsBook};
-ghost use Rattle.books.specs.AllBooks.{AreAllBooks};
-ghost use Rattle.drawn_reports.specs.DrawnBooks.{AreDrawnBooks};
+ghost use Rattle.entries.specs.declared.limits.TheConstants.{MAX_FILES};
+ghost use Rattle.entries.specs.Books.{IsBook};
+ghost use Rattle.entries.specs.AllBooks.{AreAllBooks};
+ghost use Rattle.printing.specs.DrawnBooks.{AreDrawnBooks};
 
 use crate::kept::Entries;
-use books::{Batch, Book, MAX_FILES};
-use choices::Choice;
+use common::Choice;
+use entries::{Batch, Book, MAX_FILES};
 use lanes::{Opener, read_file};
 use std::alloc::{AllocError, Global};
 use streams::{BatchFault, piece_buffer};

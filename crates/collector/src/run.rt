@@ -1,14 +1,13 @@
 //! A run over lanes.
 ghost use Rattle.std.specs.Prelude.{◌≡◌, ◌≤◌, ◌<◌, ◌⊎◌, ◌↔◌, Err, IfOk};
 ghost use Rattle.ruled_lanes.specs.declared.limits.TheConstants.{LANES, MAX_CAPACITY};
-ghost use Rattle.books.specs.declared.limits.TheConstants.{MAX_FILES};
-ghost use Rattle.books.specs.AllBooks.{AreAllBooks};
-ghost use Rattle.drawn_reports.specs.DrawnBooks.{AreDrawnBooks};
+ghost use Rattle.entries.specs.declared.limits.TheConstants.{MAX_FILES};
+ghost use Rattle.entries.specs.AllBooks.{AreAllBooks};
+ghost use Rattle.printing.specs.DrawnBooks.{AreDrawnBooks};
 
 use crate::answering::Answering;
-use books::{Batch, MAX_FILES, bind};
-use choices::Choice;
-use entries::Entry;
+use common::Choice;
+use entries::{Batch, Entry, MAX_FILES, bind};
 use lane_runs::{Run, RunFault, run_lanes};
 use lanes::{Drafts, Gate, Opener};
 use ruled_lanes::LANES;

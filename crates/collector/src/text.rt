@@ -1,27 +1,26 @@
 //! A run whose text leaves as it is made.
 ghost use Rattle.std.specs.Prelude.{◌≡◌, ◌≤◌, ◌<◌, ◌⊎◌, ◌↔◌, List, [], Err, false, true, IfOk, IfErr, OnOk, OnErr};
 ghost use Rattle.ruled_lanes.specs.declared.limits.TheConstants.{LANES, MAX_CAPACITY};
-ghost use Rattle.books.specs.declared.limits.TheConstants.{MAX_FILES};
+ghost use Rattle.entries.specs.declared.limits.TheConstants.{MAX_FILES};
 ghost use Rattle.lanes.specs.Notes.{Note};
 ghost use Rattle.lanes.specs.Files.{AreToldWhole};
 ghost use Rattle.lane_runs.specs.Faults.{EndsRun};
 ghost use Rattle.lane_runs.specs.Taking.{TakesFiles};
-ghost use Rattle.texts.specs.Whole.{IsAllWritten, IsBegun};
-ghost use Rattle.drawn_reports.specs.Telling.{AddsNoneUndrawn};
+ghost use Rattle.printing.specs.Whole.{IsAllWritten, IsBegun};
+ghost use Rattle.printing.specs.Telling.{AddsNoneUndrawn};
 ghost use Rattle.collector.specs.TextRuns.{IsRefusedRun};
 
 use crate::run::MAX_LANES;
-use books::MAX_FILES;
-use choices::Choice;
+use common::Choice;
+use entries::MAX_FILES;
 use lane_runs::{LaneKind, Run, RunFault, run_lanes};
-use lanes::{Consumer, Gate, Opener};
-use pausing::{Pauses, PausingOpener};
+use lanes::{Consumer, Gate, Opener, Pauses, PausingOpener};
+use printing::{LineLanes, Lines, Pace, Refusal, Style, Texts, Told};
 use std::alloc::Global;
 use std::marker::Brand;
 use std::sync::Wait;
 use std::thread::Threads;
 use streams::{BatchFault, Sink, WriteFault};
-use texts::{LineLanes, Lines, Pace, Refusal, Style, Texts, Told};
 
 /// Why a text was not written whole. What was written is then a beginning of one.
 #[derive(Clone, Copy, Debug, PartialEq, Eq)]
@@ -148,7 +147,7 @@ fn let_go<S: Sink>(texts: Texts<'_, S, Lines>)
     let Texts { .. } = texts;
 }
 
-/// Why a run came to nothing, as its caller is told.
+/// Why a run came to nothing, as it is returned.
 fn fault_of(fault: RunFault<Refusal>) -> TextFault
     ensures write { (result ≡ TextFault.Write) ↔ (fault ≡ RunFault.Refused Refusal.Write) }
     ensures begun { ¬ IsRefusedRun result }

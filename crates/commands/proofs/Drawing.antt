@@ -10,15 +10,15 @@ use Rattle.streams.specs.declared.faults.WriteFault.TheVariants.{Write, Memory}
 use Rattle.streams.specs.Sink.{AppendsFront, Writes}
 use Rattle.streams.specs.Text as marks
 use Rattle.streams.specs.Text.{record_line, record_lines, frames_end_line, frames_text}
-use Rattle.choices.specs.declared.Choice.{Choice}
+use Rattle.common.specs.declared.choice.Choice.{Choice}
 use Rattle.lanes.specs.Opening.{Meaning}
 use Rattle.reports.specs.declared.form.Form.{Form}
 use Rattle.reports.specs.Forms.{text_in}
 use Rattle.reports.proofs.FirstBytes.{first}
-use Rattle.drawn_reports.specs.Telling.{AddsNoneUndrawn}
-use Rattle.drawn_reports.proofs.Apart.{IsApart, joined, counted}
-use Rattle.drawn_reports.proofs.Texts.{text_apart}
-use Rattle.drawn_reports.proofs.Added.{text_added, front_added, none_added, from_some}
+use Rattle.printing.specs.Telling.{AddsNoneUndrawn}
+use Rattle.printing.proofs.Apart.{IsApart, joined, counted}
+use Rattle.printing.proofs.TextBytes.{text_apart}
+use Rattle.printing.proofs.Added.{text_added, front_added, none_added, from_some}
 use Rattle.collector.proofs.Drawing.{all_drawn, begun_drawn}
 use Rattle.commands.specs.declared.request.Request.{Request}
 use Rattle.commands.specs.declared.request.Request.TheVariants.{Frames, Layout}

@@ -1,6 +1,6 @@
 -- A layout of the files that a request names, whole or begun.
 use Rattle.std.proofs.Common.{◌≡◌, ℕ, Bool, List, Option, Bor, subst}
-use Rattle.choices.specs.declared.Choice.{Choice}
+use Rattle.common.specs.declared.choice.Choice.{Choice}
 use Rattle.lanes.specs.Opening.{Meaning}
 use Rattle.reports.specs.declared.form.Form.{Form}
 use Rattle.collector.specs.TextRuns.{IsBegun}

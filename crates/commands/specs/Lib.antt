@@ -1,2 +1,6 @@
+pub mod Naming
+pub mod Readers
+pub mod Refusals
+pub mod Sources
 pub mod Statuses
 pub mod Requests

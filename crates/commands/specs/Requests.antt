@@ -3,12 +3,12 @@ use Rattle.std.specs.Prelude.{◌≡◌, ◌<◌, ◌≤◌, ◌↔◌, ◌&&◌
 use Rattle.std.specs.List.{count_by}
 use Rattle.std.specs.Borrow.{Bor}
 use Rattle.std.specs.declared.alloc.Global.{Global}
-use Rattle.choices.specs.declared.Choice.{Choice}
+use Rattle.common.specs.declared.choice.Choice.{Choice}
 use Rattle.reports.specs.declared.form.Form.{Form}
 use Rattle.answers.specs.declared.drawing_kind.DrawingKind.{DrawingKind}
 use Rattle.answers.specs.declared.drawing_kind.DrawingKind.TheVariants.{Quick, Short}
 use Rattle.printing.specs.declared.style.Style.{Style}
-use Rattle.program_io.specs.Naming.{is_input}
+use Rattle.commands.specs.Naming.{is_input}
 use Rattle.commands.specs.declared.reading.Role.{Role}
 use Rattle.commands.specs.declared.reading.Role.TheVariants.{Command, Any, Lanes, Waiting, Outer, Drawing, File}
 use Rattle.commands.specs.declared.reading.Wish.{Wish}
@@ -25,16 +25,16 @@ abbrev pub is_help : List ℕ → Bool
 is_help word = bytes_eq word (codes "--help") || has_front 45 104 word
 
 -- the role of the word behind this one, which has this role
-abbrev pub after : Role → List ℕ → Role
-after Any word =
+abbrev pub role_after : Role → List ℕ → Role
+role_after Any word =
     if bytes_eq word (codes "--") then File
     else if bytes_eq word (codes "--lanes") then Lanes
     else if bytes_eq word (codes "--waiting") then Waiting
     else if bytes_eq word (codes "--outer") then Outer
     else if bytes_eq word (codes "--drawing") then Drawing
     else Any
-after File word = File
-after _ word = Any
+role_after File word = File
+role_after _ word = Any
 
 -- the word is a file: it begins with no '--' where an option may stand
 abbrev pub is_file : Role → List ℕ → Bool
@@ -63,14 +63,14 @@ asks _ _ word = false
 abbrev pub asks_from : Wish → Role → List (String Global) → Bool
 asks_from w role [] = false
 asks_from w role (word ∷ words) =
-    if asks w role (string_bytes word) then true else asks_from w (after role (string_bytes word)) words
+    if asks w role (string_bytes word) then true else asks_from w (role_after role (string_bytes word)) words
 
 -- the files among these words, in their order, the first of which has this role
 abbrev pub files_from : Role → List (String Global) → List (List ℕ)
 files_from role [] = []
 files_from role (word ∷ words) =
-    if is_file role (string_bytes word) then string_bytes word ∷ files_from (after role (string_bytes word)) words
-    else files_from (after role (string_bytes word)) words
+    if is_file role (string_bytes word) then string_bytes word ∷ files_from (role_after role (string_bytes word)) words
+    else files_from (role_after role (string_bytes word)) words
 
 -- one of the words of a command line asks for this
 abbrev pub asks_in : Wish → List (String Global) → Bool

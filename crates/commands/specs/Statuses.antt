@@ -7,15 +7,15 @@ use Rattle.streams.specs.FramesModel.{FramesModel}
 use Rattle.streams.specs.Marks.{IsMarked}
 use Rattle.streams.specs.Sink.{AppendsFront}
 use Rattle.streams.specs.Text.{frames_text}
-use Rattle.choices.specs.declared.Choice.{Choice}
+use Rattle.common.specs.declared.choice.Choice.{Choice}
 use Rattle.lanes.specs.Opening.{Meaning, told_of, fails_of}
-use Rattle.books.specs.Books.{BookModel}
-use Rattle.books.specs.AllBooks.{AreAllBooks}
+use Rattle.entries.specs.Books.{BookModel}
+use Rattle.entries.specs.AllBooks.{AreAllBooks}
 use Rattle.reports.specs.declared.form.Form.{Form}
 use Rattle.reports.specs.Forms.{text_in}
 use Rattle.reports.specs.Wholes.{IsWholeBook}
 use Rattle.collector.specs.TextRuns.{IsBegun}
-use Rattle.program_io.specs.Naming.{meaning_of, meanings}
+use Rattle.commands.specs.Naming.{meaning_of, meanings}
 use Rattle.commands.specs.declared.request.Request.{Request}
 use Rattle.commands.specs.declared.request.Request.TheVariants.{Frames, Layout}
 
@@ -24,7 +24,7 @@ abbrev pub version_text : List ℕ
 version_text = codes "planarbend 0.3.0\nproved with rattle-kit-13f logic dac8208d650f15bf\n"
 
 -- The text begins with a capital letter, and is no beginning of a report: neither of the text of some books, in any form, nor
--- of the lines of some records. (Books have right entries alone, so what only looks like a report is told by its first byte.)
+-- of the lines of some records. (Books have right entries alone, so what only looks like a report is known by its first byte.)
 pub record IsNoReport (text : List ℕ) : Type 0 where
   pub capital : (65 ≤ slice_index text 0) × (slice_index text 0 ≤ 90)
   pub no_books : (form : Form) (books : List BookModel) (rest : List ℕ) → text_in form books ≡ text ++ rest → ⊥

@@ -2,12 +2,14 @@
 ghost use Rattle.std.specs.Prelude.{◌≡◌, ◌≤◌, ◌⊎◌, ℕ, List, true, false};
 ghost use Rattle.std.specs.Io.KnownBytes.{Appends};
 ghost use Rattle.std.specs.Process.{exit_status};
-ghost use Rattle.drawn_reports.specs.Telling.{AddsNoneUndrawn};
+ghost use Rattle.printing.specs.Telling.{AddsNoneUndrawn};
 ghost use Rattle.commands.specs.Statuses.{IsNoReport};
 
+use crate::fault_line::write_fault;
+use crate::faults::{Fault, arguments_fault};
 use crate::program::command;
+use crate::progress::Console;
 use lanes::Opener;
-use program_io::{Console, Fault, arguments_fault, write_fault};
 use std::env;
 use std::process::ExitCode;
 use std::rt::Files;

@@ -1,10 +1,10 @@
 //! What the words of a command line ask for, one after another.
 ghost use Rattle.std.specs.Prelude.{◌≡◌, ◌<◌, IfOk, map};
 ghost use Rattle.std.specs.List.{count_by};
-ghost use Rattle.program_io.specs.Naming as naming;
-ghost use Rattle.commands.specs.Requests.{after, asks, asks_in, files_in, has_front, is_file, is_help};
+ghost use Rattle.commands.specs.Naming as naming;
+ghost use Rattle.commands.specs.Requests.{role_after, asks, asks_in, files_in, has_front, is_file, is_help};
 
-use program_io::is_input;
+use crate::standard_input::is_input;
 use std::alloc::{AllocError, Global};
 
 /// What a word may be, by the words before it.
@@ -41,8 +41,8 @@ pub enum Wish {
 
 impl Role {
     /// What the next word may be, behind this one in this role.
-    fn after(self, word: &str) -> Role
-        ensures { result ≡ after self word.now }
+    fn role_after(self, word: &str) -> Role
+        ensures { result ≡ role_after self word.now }
     {
         match self {
             Role::Any if word == "--" => Role::File,
@@ -116,7 +116,7 @@ pub fn asks(wish: Wish, words: &[String]) -> bool
         if role.asks(wish, text) {
             return true;
         }
-        role = role.after(text);
+        role = role.role_after(text);
     }
     false
 }
@@ -136,7 +136,7 @@ pub fn files_of<'a>(alloc: Global, words: &'a [String]) -> Result<Vec<&'a str>, 
         if role.is_file(text) {
             files.push(text)?;
         }
-        role = role.after(text);
+        role = role.role_after(text);
     }
     Ok(files)
 }

@@ -1,16 +1,16 @@
 //! The command line.
 ghost use Rattle.std.specs.Prelude.{◌≡◌, ◌≢◌, ◌≤◌, ◌↔◌, ◌∷◌, [], IfOk, IfNone, IfSome, length, map, true};
-ghost use Rattle.choices.specs.declared.Choice.{Choice};
+ghost use Rattle.common.specs.declared.choice.Choice.{Choice};
 ghost use Rattle.reports.specs.declared.form.Form.{Form};
 ghost use Rattle.commands.specs.declared.reading.Wish.{Wish};
 ghost use Rattle.commands.specs.Requests.{IsAskedBy, asks_in, drawing_in, files_in, inputs_in};
 
+use crate::progress::Progress;
 use crate::reading::{Wish, asks, files_of, inputs_among};
-use choices::Choice;
 use clap::error::ErrorKind;
 use clap::{Arg, ArgAction, ArgMatches, Command, Error, value_parser};
 use collector::{DrawingKind, Style};
-use program_io::Progress;
+use common::Choice;
 use reports::Form;
 use std::alloc::{AllocError, Global};
 
@@ -36,7 +36,7 @@ pub struct LayoutRequest<'a> {
     pub choice: Choice,
     /// The form of the text, and which drawings it is of.
     pub style: Style,
-    /// Whether and where it is told how far the run is.
+    /// Whether and where it is written how far the run is.
     pub progress: Progress,
 }
 
@@ -120,7 +120,7 @@ fn waiting_of(matches: &ArgMatches) -> u32 {
     }
 }
 
-/// Where it is told how far a run is, by what clap found.
+/// Where it is written how far a run is, by what clap found.
 fn progress_of(matches: &ArgMatches) -> Progress {
     match matches.subcommand_matches("layout") {
         Some(layout) => Progress::of_count(layout.get_count("progress")),

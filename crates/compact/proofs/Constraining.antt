@@ -3,13 +3,13 @@ use Rattle.std.proofs.Common.{◌≡◌, ◌≢◌, ℕ, ◌+◌, ◌<◌, ◌�
 use Rattle.std.proofs.lemmas.Bool.{cases_eq}
 use Rattle.std.proofs.lemmas.Option.{none-some, same_Some}
 use Rattle.std.proofs.lemmas.List.Elements.{All-append, All-cons, All-nil, All-pop}
-use Rattle.cutting.specs.Webs.{Web, IsSound}
-use Rattle.compact.specs.declared.constraints.Constraint.{Constraint}
+use Rattle.dissect.specs.DartMaps.{DartMap, IsSound}
+use Rattle.compact.specs.declared.constraint_graph.Constraint.{Constraint}
 use Rattle.compact.specs.Constraints.{Keeps}
 use Rattle.compact.specs.Ordered.{tail, IsAlong, AreAlong}
 
 -- a dart forward or across adds its constraint
-pub one_more : (w : Web) (k d : ℕ) (constraints : List Constraint) (least : ℕ) → IsSound w → d < w.darts →
+pub one_more : (w : DartMap) (k d : ℕ) (constraints : List Constraint) (least : ℕ) → IsSound w → d < w.darts →
     ((w.direction d ≡ k) × (least ≡ 1)) ⊎ ((w.direction d ≢ k) × (w.direction d ≢ k + 2) × (least ≡ 0)) →
     AreAlong w k d constraints → AreAlong w k (d + 1) (constraints ++ (record { from = tail w d; to = w.head d; least = least } ∷ []))
 one_more w k d constraints least sound d_in kind along =
@@ -51,7 +51,7 @@ one_more w k d constraints least sound d_in kind along =
     }
 
 -- a dart against the axis adds none
-pub none_more : (w : Web) (k d : ℕ) (constraints : List Constraint) → w.direction d ≡ k + 2 → AreAlong w k d constraints → AreAlong w k (d + 1) constraints
+pub none_more : (w : DartMap) (k d : ℕ) (constraints : List Constraint) → w.direction d ≡ k + 2 → AreAlong w k d constraints → AreAlong w k (d + 1) constraints
 none_more w k d constraints back along = record {
   inside = along.inside;
   forward = λ x keeps a below way. elim (cases_eq a d) [
@@ -68,14 +68,14 @@ none_more w k d constraints back along = record {
 }
 
 -- with all darts the constraints say what the axis asks
-pub all_along : (w : Web) (k : ℕ) (constraints : List Constraint) (x : ℕ → ℕ) → AreAlong w k w.darts constraints → Keeps constraints x → IsAlong w k x
+pub all_along : (w : DartMap) (k : ℕ) (constraints : List Constraint) (x : ℕ → ℕ) → AreAlong w k w.darts constraints → Keeps constraints x → IsAlong w k x
 all_along w k constraints x along keeps = record {
   forward = along.forward x keeps;
   across = along.across x keeps;
 }
 
 -- before the first dart there are no constraints
-pub none_along : (w : Web) (k : ℕ) → AreAlong w k 0 []
+pub none_along : (w : DartMap) (k : ℕ) → AreAlong w k 0 []
 none_along w k = record {
   inside = All-nil (λ g. (g.from < w.vertices) × (g.to < w.vertices) × (g.least ≤ 1));
   forward = λ x keeps a below. absurd (omega (arith, below));
@@ -110,8 +110,8 @@ no_constraint_found direction k found forward across is =
           ]
     ]
 
--- the same, of a constraint whose parts are told one by one
-pub one_pushed : (w : Web) (k d : ℕ) (constraints items : List Constraint) (constraint : Constraint) → IsSound w → d < w.darts → constraint.from ≡ tail w d → constraint.to ≡ w.head d →
+-- the same, of a constraint whose parts are given one by one
+pub one_pushed : (w : DartMap) (k d : ℕ) (constraints items : List Constraint) (constraint : Constraint) → IsSound w → d < w.darts → constraint.from ≡ tail w d → constraint.to ≡ w.head d →
     ((w.direction d ≡ k) × (constraint.least ≡ 1)) ⊎ ((w.direction d ≢ k) × (w.direction d ≢ k + 2) × (constraint.least ≡ 0)) →
     items ≡ constraints ++ (constraint ∷ []) → AreAlong w k d constraints → AreAlong w k (d + 1) items
 one_pushed w k d constraints items constraint sound d_in from to kind pushed along =

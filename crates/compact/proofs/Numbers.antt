@@ -1,8 +1,8 @@
 -- Directions and their numbers.
 use Rattle.std.proofs.Common.{◌≡◌, refl, arith}
-use Rattle.directions.specs.declared.Direction.{Direction}
-use Rattle.directions.specs.declared.Direction.TheVariants.{East, North, West, South}
-use Rattle.directions.specs.Directions.{quarters}
+use Rattle.geometry.specs.declared.direction.Direction.{Direction}
+use Rattle.geometry.specs.declared.direction.Direction.TheVariants.{East, North, West, South}
+use Rattle.geometry.specs.Directions.{quarters}
 
 -- a number belongs to one direction
 pub one_number : (a b : Direction) → quarters a ≡ quarters b → a ≡ b

@@ -1,11 +1,11 @@
 -- Two darts that leave one vertex leave it in different directions, as the angles there go once round.
 use Rattle.std.proofs.Common.{◌≡◌, ℕ, zero, suc, ◌+◌, ◌%◌, ◌<◌, ◌≤◌, ◌∙◌, List, [], ◌∷◌, map, cond, eqb, arith, sym, ap, refl, inl, inr}
 use Rattle.std.proofs.lemmas.Bool.{cases_eq, eq-eqb, ne_eqb, cond-true, cond-false}
-use Rattle.sums.specs.Sums.{sum_below}
-use Rattle.sums.proofs.Sums.{sum_below-changed}
-use Rattle.cutting.specs.Webs.{Web, IsSound}
-use Rattle.cutting.specs.Faces.{In, Distinct, Below}
-use Rattle.cutting.specs.Turning.{total}
+use Rattle.common.specs.Sums.{sum_below}
+use Rattle.common.proofs.Sums.{sum_below-changed}
+use Rattle.dissect.specs.DartMaps.{DartMap, IsSound}
+use Rattle.dissect.specs.Faces.{In, Distinct, Below}
+use Rattle.dissect.specs.Turning.{total}
 use Rattle.compact.specs.Ordered.{tail}
 
 -- the summands at some places, none of them twice, come to no more than the sum
@@ -24,21 +24,21 @@ some_summands n f (x ∷ xs) distinct below =
         omega (arith, cond-false (eqb y x) 0 (f y) (ne_eqb y x (λ e. out (inl (sym e)))), elsewhere f x ys (λ here. out (inr here)))
 
 -- the angle of a dart that arrives at the vertex u, and 0 for others
-abbrev angle_at : Web → ℕ → ℕ → ℕ
+abbrev angle_at : DartMap → ℕ → ℕ → ℕ
 angle_at w u a = cond (eqb (w.head a) u) (w.angle a) 0
 
-angle_there : (w : Web) (u a : ℕ) → w.head a ≡ u → angle_at w u a ≡ w.angle a
+angle_there : (w : DartMap) (u a : ℕ) → w.head a ≡ u → angle_at w u a ≡ w.angle a
 angle_there w u a there = cond-true (eqb (w.head a) u) (w.angle a) 0 (eq-eqb (w.head a) u there)
 
 -- the dart x was passed on the way clockwise to c, at most so many right angles ago
-record IsPassed (w : Web) (c most x : ℕ) : Type 0 where
+record IsPassed (w : DartMap) (c most x : ℕ) : Type 0 where
   ago : ℕ
   some : 1 ≤ ago
   few : ago ≤ most
   turned : (w.direction c + ago) % 4 ≡ w.direction x
 
 -- clockwise round the head of b: the darts of the list were passed, b and others with these angles, and c comes next
-record IsSweep (w : Web) (b c angles : ℕ) (xs : List ℕ) : Type 0 where
+record IsSweep (w : DartMap) (b c angles : ℕ) (xs : List ℕ) : Type 0 where
   inside : c < w.darts
   there : w.head c ≡ w.head b
   below : Below w.darts xs
@@ -47,14 +47,14 @@ record IsSweep (w : Web) (b c angles : ℕ) (xs : List ℕ) : Type 0 where
   passed : (x : ℕ) → In x xs → IsPassed w c angles x
 
 -- the dart that arrives next clockwise
-abbrev clockwise : Web → ℕ → ℕ
+abbrev clockwise : DartMap → ℕ → ℕ
 clockwise w a = w.reverse_dart (w.next a)
 
-clockwise_in : (w : Web) (a : ℕ) → IsSound w → a < w.darts → clockwise w a < w.darts
+clockwise_in : (w : DartMap) (a : ℕ) → IsSound w → a < w.darts → clockwise w a < w.darts
 clockwise_in w a sound a_in = sound.linked.reverse_dart_in (w.next a) (sound.linked.next_in a a_in)
 
 -- one dart further
-sweep_on : (w : Web) (b c angles : ℕ) (xs : List ℕ) → IsSound w → angles < 4 → IsSweep w b c angles xs →
+sweep_on : (w : DartMap) (b c angles : ℕ) (xs : List ℕ) → IsSound w → angles < 4 → IsSweep w b c angles xs →
     IsSweep w b (clockwise w c) (angles + w.angle c) (c ∷ xs)
 sweep_on w b c angles xs sound less sweep =
     let is = sound.meeting in
@@ -80,14 +80,14 @@ sweep_on w b c angles xs sound less sweep =
     }
 
 -- the angles at a vertex are four right angles together, and b has one of them
-sweep_less : (w : Web) (b c angles : ℕ) (xs : List ℕ) → IsSound w → b < w.darts → IsSweep w b c angles xs → angles < 4
+sweep_less : (w : DartMap) (b c angles : ℕ) (xs : List ℕ) → IsSound w → b < w.darts → IsSweep w b c angles xs → angles < 4
 sweep_less w b c angles xs sound b_in sweep =
     let is = sound.meeting in
     let most = some_summands w.darts (angle_at w (w.head b)) xs sweep.distinct sweep.below in
     omega (arith, most, sweep.sum, is.whole (w.head b) (is.head_in b b_in), is.some b b_in)
 
 -- so there is no sweep, since it could go on
-no_sweep : (w : Web) (room b c angles : ℕ) (xs : List ℕ) → IsSound w → b < w.darts → 4 ≤ room + angles → IsSweep w b c angles xs → ⊥
+no_sweep : (w : DartMap) (room b c angles : ℕ) (xs : List ℕ) → IsSound w → b < w.darts → 4 ≤ room + angles → IsSweep w b c angles xs → ⊥
 no_sweep w zero b c angles xs sound b_in enough sweep = omega (arith, enough, sweep_less w b c angles xs sound b_in sweep)
 no_sweep w (suc room) b c angles xs sound b_in enough sweep =
     no_sweep w room b (clockwise w c) (angles + w.angle c) (c ∷ xs) sound b_in
@@ -95,7 +95,7 @@ no_sweep w (suc room) b c angles xs sound b_in enough sweep =
     (sweep_on w b c angles xs sound (sweep_less w b c angles xs sound b_in sweep) sweep)
 
 -- darts that arrive at one vertex in one direction are one
-one_arrives : (w : Web) (a b : ℕ) → IsSound w → a < w.darts → b < w.darts → w.head a ≡ w.head b → w.direction a ≡ w.direction b → a ≡ b
+one_arrives : (w : DartMap) (a b : ℕ) → IsSound w → a < w.darts → b < w.darts → w.head a ≡ w.head b → w.direction a ≡ w.direction b → a ≡ b
 one_arrives w a b sound a_in b_in there way =
     elim (cases_eq a b) [
       | inl same ↦ same
@@ -123,7 +123,7 @@ one_arrives w a b sound a_in b_in there way =
     ]
 
 -- and so are darts that leave it in one direction, as their reverses arrive in one
-pub one_leaves : (w : Web) (a b : ℕ) → IsSound w → a < w.darts → b < w.darts → tail w a ≡ tail w b → w.direction a ≡ w.direction b → a ≡ b
+pub one_leaves : (w : DartMap) (a b : ℕ) → IsSound w → a < w.darts → b < w.darts → tail w a ≡ tail w b → w.direction a ≡ w.direction b → a ≡ b
 one_leaves w a b sound a_in b_in from way =
     let linked = sound.linked in
     let same : w.reverse_dart a ≡ w.reverse_dart b =

@@ -3,10 +3,10 @@ use Rattle.std.proofs.Common.{◌≡◌, ℕ, ◌+◌, ◌%◌, ◌<◌, ◌≤�
 use Rattle.std.proofs.lemmas.Bool.{cases_eq}
 use Rattle.std.proofs.lemmas.List.{length-map}
 use Rattle.std.proofs.lemmas.List.FromFn.{length-range_with_len}
-use Rattle.cutting.specs.Webs.{Web, IsSound, no_dart}
-use Rattle.cutting.specs.Paths.{turning_places}
+use Rattle.dissect.specs.DartMaps.{DartMap, IsSound, no_dart}
+use Rattle.dissect.specs.Paths.{turning_places}
 use Rattle.ortho_rep.specs.declared.points.Point.{Point}
-use Rattle.dissect.specs.Boxes.{BoxesModel, HasEdge, web}
+use Rattle.dissect.specs.Boxes.{BoxesModel, HasEdge, dart_map}
 use Rattle.compact.specs.Ordered.{tail, point_at, IsOrdered, IsAlong, AreCorners, AreCornersOf, IsAxisFault, IsCompactFault, AreLaidOut, AreLeast, AreWithin}
 use Rattle.std.specs.List.{range_with_len}
 use Rattle.ortho_rep.specs.declared.points.TheConstants.{MAX_COORDINATE}
@@ -16,11 +16,11 @@ use Rattle.compact.specs.declared.fault.CompactFault.{CompactFault}
 use Rattle.compact.specs.declared.fault.CompactFault.TheVariants.{Wide, Memory}
 
 -- a dart and its reverse change places of head and tail
-pub turned_round : (w : Web) (a : ℕ) → IsSound w → a < w.darts → tail w (w.reverse_dart a) ≡ w.head a
+pub turned_round : (w : DartMap) (a : ℕ) → IsSound w → a < w.darts → tail w (w.reverse_dart a) ≡ w.head a
 turned_round w a sound a_in = ap w.head (sound.linked.reverse_dart_back a a_in)
 
 -- numbers that keep both axes are in order
-pub in_order : (w : Web) (x y : ℕ → ℕ) → IsSound w → IsAlong w 0 x → IsAlong w 1 y → IsOrdered w x y
+pub in_order : (w : DartMap) (x y : ℕ → ℕ) → IsSound w → IsAlong w 0 x → IsAlong w 1 y → IsOrdered w x y
 in_order w x y sound along_x along_y = record {
   east = λ a a_in way.
       let back : w.direction (w.reverse_dart a) ≡ 2 = sound.straight a a_in ∙ ap (λ (d : ℕ). (d + 2) % 4) way in
@@ -39,7 +39,7 @@ in_order w x y sound along_x along_y = record {
 }
 
 -- numbers in order keep the axis x
-pub keep_x : (w : Web) (x y : ℕ → ℕ) → IsSound w → IsOrdered w x y → IsAlong w 0 x
+pub keep_x : (w : DartMap) (x y : ℕ → ℕ) → IsSound w → IsOrdered w x y → IsAlong w 0 x
 keep_x w x y sound ordered = record {
   forward = λ a a_in way. omega (arith, (ordered.east a a_in way).0);
   across = λ a a_in one two. elim (cases_eq (w.direction a) 1) [
@@ -53,7 +53,7 @@ keep_x w x y sound ordered = record {
 }
 
 -- and the axis y
-pub keep_y : (w : Web) (x y : ℕ → ℕ) → IsSound w → IsOrdered w x y → IsAlong w 1 y
+pub keep_y : (w : DartMap) (x y : ℕ → ℕ) → IsSound w → IsOrdered w x y → IsAlong w 1 y
 keep_y w x y sound ordered = record {
   forward = λ a a_in way. omega (arith, (ordered.north a a_in way).0);
   across = λ a a_in one two. elim (cases_eq (w.direction a) 0) [
@@ -68,33 +68,33 @@ keep_y w x y sound ordered = record {
 
 -- all paths of an edge turn at the same places
 pub one_corners : (b : BoxesModel) (x y : ℕ → ℕ) (e : ℕ) (points : List Point) (one : HasEdge b e) → b.darts ≤ no_dart →
-    points ≡ map (point_at x y) (turning_places (web b) one.first one.rest) → AreCornersOf b x y e points
+    points ≡ map (point_at x y) (turning_places (dart_map b) one.first one.rest) → AreCornersOf b x y e points
 one_corners b x y e points one few is edge =
-    is ∙ ap (map (point_at x y)) (one_turning (web b) (slice_index b.edges e) one.first edge.first one.rest edge.rest few one.path edge.path)
+    is ∙ ap (map (point_at x y)) (one_turning (dart_map b) (slice_index b.edges e) one.first edge.first one.rest edge.rest few one.path edge.path)
 
 -- the points are those of the places where a path of the edge e turns
 pub record IsCornersOf (b : BoxesModel) (x y : ℕ → ℕ) (e : ℕ) (points : List Point) : Type 0 where
   pub edge : HasEdge b e
-  pub is : points ≡ map (point_at x y) (turning_places (web b) edge.first edge.rest)
+  pub is : points ≡ map (point_at x y) (turning_places (dart_map b) edge.first edge.rest)
 
 -- what a fault of one axis says of both
 pub x_fault : (b : BoxesModel) (fault : CompactFault) → IsAxisFault b 0 fault → IsCompactFault b fault
 x_fault b Wide wide = λ x y ordered.
-    let (v, v_in, far) = wide.1 x (keep_x (web b) x y wide.0 ordered) in
+    let (v, v_in, far) = wide.1 x (keep_x (dart_map b) x y wide.0 ordered) in
     (v, v_in, inl far)
 x_fault b Memory fault = tt
 
 pub y_fault : (b : BoxesModel) (fault : CompactFault) → IsAxisFault b 1 fault → IsCompactFault b fault
 y_fault b Wide wide = λ x y ordered.
-    let (v, v_in, far) = wide.1 y (keep_y (web b) x y wide.0 ordered) in
+    let (v, v_in, far) = wide.1 y (keep_y (dart_map b) x y wide.0 ordered) in
     (v, v_in, inr far)
 y_fault b Memory fault = tt
 
 -- points that are taken from numbers in order
 pub laid_out : (b : BoxesModel) (x y x1 y1 x2 y2 : List ℕ) (vertices : List Point) (corners : List (List Point)) →
-    x1 ≡ x → y1 ≡ y → x2 ≡ x → y2 ≡ y → IsSound (web b) → IsAlong (web b) 0 (λ v. slice_index x v) → IsAlong (web b) 1 (λ v. slice_index y v) →
-    ((z : ℕ → ℕ) → IsAlong (web b) 0 z → (v : ℕ) → v < b.vertices → slice_index x v ≤ z v) →
-    ((z : ℕ → ℕ) → IsAlong (web b) 1 z → (v : ℕ) → v < b.vertices → slice_index y v ≤ z v) →
+    x1 ≡ x → y1 ≡ y → x2 ≡ x → y2 ≡ y → IsSound (dart_map b) → IsAlong (dart_map b) 0 (λ v. slice_index x v) → IsAlong (dart_map b) 1 (λ v. slice_index y v) →
+    ((z : ℕ → ℕ) → IsAlong (dart_map b) 0 z → (v : ℕ) → v < b.vertices → slice_index x v ≤ z v) →
+    ((z : ℕ → ℕ) → IsAlong (dart_map b) 1 z → (v : ℕ) → v < b.vertices → slice_index y v ≤ z v) →
     AreWithin b.vertices (λ v. slice_index x v) → AreWithin b.vertices (λ v. slice_index y v) →
     vertices ≡ map (point_at (λ v. slice_index x1 v) (λ v. slice_index y1 v)) (range_with_len 0 b.old) → length corners ≡ length b.edges →
     AreCorners b (λ v. slice_index x2 v) (λ v. slice_index y2 v) (length b.edges) corners →
@@ -103,9 +103,9 @@ laid_out b x y x1 y1 x2 y2 vertices corners sx1 sy1 sx2 sy2 sound along_x along_
     record {
       x = λ v. slice_index x v;
       y = λ v. slice_index y v;
-      ordered = in_order (web b) (λ v. slice_index x v) (λ v. slice_index y v) sound along_x along_y;
-      x_least = λ x1 y1 ordered. least_x x1 (keep_x (web b) x1 y1 sound ordered);
-      y_least = λ x1 y1 ordered. least_y y1 (keep_y (web b) x1 y1 sound ordered);
+      ordered = in_order (dart_map b) (λ v. slice_index x v) (λ v. slice_index y v) sound along_x along_y;
+      x_least = λ x1 y1 ordered. least_x x1 (keep_x (dart_map b) x1 y1 sound ordered);
+      y_least = λ x1 y1 ordered. least_y y1 (keep_y (dart_map b) x1 y1 sound ordered);
       x_within = within_x;
       y_within = within_y;
       taken = record {
@@ -120,11 +120,11 @@ laid_out b x y x1 y1 x2 y2 vertices corners sx1 sy1 sx2 sy2 sound along_x along_
     }
 
 -- numbers in the order of the darts along an axis that are nowhere above any such are the least, in a list or in a slice of it
-pub least_of : (b : BoxesModel) (k : ℕ) (xs zs : List ℕ) → zs ≡ xs → IsAlong (web b) k (λ v. slice_index zs v) →
-    ((y : ℕ → ℕ) → IsAlong (web b) k y → AreUnder b.vertices xs y) → ((v : ℕ) → v < length zs → slice_index zs v ≤ MAX_COORDINATE) →
+pub least_of : (b : BoxesModel) (k : ℕ) (xs zs : List ℕ) → zs ≡ xs → IsAlong (dart_map b) k (λ v. slice_index zs v) →
+    ((y : ℕ → ℕ) → IsAlong (dart_map b) k y → AreUnder b.vertices xs y) → ((v : ℕ) → v < length zs → slice_index zs v ≤ MAX_COORDINATE) →
     length xs ≡ b.vertices → AreLeast b k xs
 least_of b k xs zs same along under small count = record {
-  along = subst (λ (list : List ℕ). IsAlong (web b) k (λ v. slice_index list v)) same along;
+  along = subst (λ (list : List ℕ). IsAlong (dart_map b) k (λ v. slice_index list v)) same along;
   least = under;
   within = λ v v_in. subst (λ (list : List ℕ). slice_index list v ≤ MAX_COORDINATE) same (small v (omega (arith, v_in, count, ap (λ (list : List ℕ). length list) same)));
   count = count;

@@ -4,11 +4,11 @@ use Rattle.std.proofs.lemmas.Bool.{cases_eq}
 use Rattle.std.proofs.lemmas.List.{length-set, take_all}
 use Rattle.std.proofs.lemmas.List.Elements.{All-more}
 use Rattle.ortho_rep.specs.declared.points.TheConstants.{MAX_COORDINATE}
-use Rattle.sums.specs.Sums.{sum_below}
-use Rattle.sums.proofs.Sums.{sum_below-lt}
-use Rattle.compact.specs.declared.constraints.Constraint.{Constraint}
-use Rattle.compact.specs.declared.constraints.Relaxation.{Relaxation}
-use Rattle.compact.specs.declared.constraints.Relaxation.TheVariants.{Kept, Raised, Wide}
+use Rattle.common.specs.Sums.{sum_below}
+use Rattle.common.proofs.Sums.{sum_below-lt}
+use Rattle.compact.specs.declared.constraint_graph.Constraint.{Constraint}
+use Rattle.compact.specs.declared.constraint_graph.Relaxation.{Relaxation}
+use Rattle.compact.specs.declared.constraint_graph.Relaxation.TheVariants.{Kept, Raised, Wide}
 use Rattle.compact.specs.Constraints.{Keeps, AreInside, IsLow, AreWide, IsRelaxed, AreRelaxed, slack}
 
 abbrev pub at : List ℕ → ℕ → ℕ

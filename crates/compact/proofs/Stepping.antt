@@ -3,11 +3,11 @@ use Rattle.std.proofs.Common.{◌≡◌, ◌≢◌, ℕ, ◌+◌, ◌*◌, ◌%�
 use Rattle.std.proofs.lemmas.Bool.{cases_eq}
 use Rattle.std.proofs.lemmas.List.{length-set}
 use Rattle.std.proofs.lemmas.List.Elements.{All-replicate}
-use Rattle.cutting.specs.Webs.{Web, IsSound}
+use Rattle.dissect.specs.DartMaps.{DartMap, IsSound}
 use Rattle.compact.specs.declared.axis.Axis.{Axis}
 use Rattle.compact.specs.declared.axis.Axis.TheVariants.{X, Y}
 use Rattle.compact.specs.Ordered.{tail, growth, across, IsAcross, IsAlong}
-use Rattle.compact.specs.Steps.{step, AreSteps, HasSteps, Grow, StayLevel, AreVertices, AreLevelIn, AreRows, IsOnRow, AreUnder, StayUnder}
+use Rattle.compact.specs.Steps.{step, AreSteps, HasSteps, Grow, StayLevel, AreVertices, AreLevelIn, AreSegments, IsOnSegment, AreUnder, StayUnder}
 use Rattle.compact.proofs.OneWay.{one_leaves}
 
 -- a number raised to one that is not above y stays under y
@@ -24,83 +24,83 @@ raised_under xs new n to need y to_in made enough under v v_in =
     ]
 
 -- the same for another name of the length
-pub under_at : (next : ℕ → ℕ) (n m : ℕ) (rows old new : List ℕ) → m ≡ n → StayUnder next m rows old new → StayUnder next n rows old new
-under_at next n m rows old new same stay = subst (λ (k : ℕ). StayUnder next k rows old new) same stay
+pub under_at : (next : ℕ → ℕ) (n m : ℕ) (segments old new : List ℕ) → m ≡ n → StayUnder next m segments old new → StayUnder next n segments old new
+under_at next n m segments old new same stay = subst (λ (k : ℕ). StayUnder next k segments old new) same stay
 
 -- a list with a vertex for each vertex has one still where a vertex is written
-pub vertices_set : (n : ℕ) (rows new : List ℕ) (v first : ℕ) → v < n → first < n → new ≡ set rows v first → AreVertices n rows → AreVertices n new
-vertices_set n rows new v first v_in first_in made are = (
-  ap length made ∙ length-set rows v first ∙ are.0,
+pub vertices_set : (n : ℕ) (segments new : List ℕ) (v first : ℕ) → v < n → first < n → new ≡ set segments v first → AreVertices n segments → AreVertices n new
+vertices_set n segments new v first v_in first_in made are = (
+  ap length made ∙ length-set segments v first ∙ are.0,
   λ u u_in. elim (cases_eq v u) [
     | inl same ↦
-        let here : slice_index new u ≡ first = ap (λ (zs : List ℕ). slice_index zs u) made ∙ subst (λ (k : ℕ). slice_index (set rows v first) k ≡ first) same (get_or-set_same rows v first 0 (omega (arith, v_in, are.0))) in
+        let here : slice_index new u ≡ first = ap (λ (zs : List ℕ). slice_index zs u) made ∙ subst (λ (k : ℕ). slice_index (set segments v first) k ≡ first) same (get_or-set_same segments v first 0 (omega (arith, v_in, are.0))) in
         omega (arith, here, first_in)
     | inr other ↦
-        let here : slice_index new u ≡ slice_index rows u = ap (λ (zs : List ℕ). slice_index zs u) made ∙ get_or-set_other rows v u first 0 (λ e. other (sym e)) in
+        let here : slice_index new u ≡ slice_index segments u = ap (λ (zs : List ℕ). slice_index zs u) made ∙ get_or-set_other segments v u first 0 (λ e. other (sym e)) in
         omega (arith, here, are.1 u u_in)
   ],
 )
 
--- and one number in each row stays one where a vertex gets a first one with its number
-pub level_set : (n : ℕ) (rows new : List ℕ) (v first : ℕ) (y : ℕ → ℕ) → v < length rows → y first ≡ y v → new ≡ set rows v first → AreLevelIn rows n y → AreLevelIn new n y
-level_set n rows new v first y v_in same_number made level u u_in =
+-- and one number in each segment stays one where a vertex gets a first one with its number
+pub level_set : (n : ℕ) (segments new : List ℕ) (v first : ℕ) (y : ℕ → ℕ) → v < length segments → y first ≡ y v → new ≡ set segments v first → AreLevelIn segments n y → AreLevelIn new n y
+level_set n segments new v first y v_in same_number made level u u_in =
     elim (cases_eq v u) [
       | inl same ↦
-          let here : slice_index new u ≡ first = ap (λ (zs : List ℕ). slice_index zs u) made ∙ subst (λ (k : ℕ). slice_index (set rows v first) k ≡ first) same (get_or-set_same rows v first 0 v_in) in
+          let here : slice_index new u ≡ first = ap (λ (zs : List ℕ). slice_index zs u) made ∙ subst (λ (k : ℕ). slice_index (set segments v first) k ≡ first) same (get_or-set_same segments v first 0 v_in) in
           ap y here ∙ same_number ∙ ap y same
       | inr other ↦
-          let here : slice_index new u ≡ slice_index rows u = ap (λ (zs : List ℕ). slice_index zs u) made ∙ get_or-set_other rows v u first 0 (λ e. other (sym e)) in
+          let here : slice_index new u ≡ slice_index segments u = ap (λ (zs : List ℕ). slice_index zs u) made ∙ get_or-set_other segments v u first 0 (λ e. other (sym e)) in
           ap y here ∙ level u u_in
     ]
 
--- a vertex of a row may be written where all numbers that stay the same along the steps are there as at its first one
-pub rows_set : (next : ℕ → ℕ) (n : ℕ) (rows new : List ℕ) (v first : ℕ) → v < n → first < n → ((y : ℕ → ℕ) → StayLevel next n y → y first ≡ y v) →
-    new ≡ set rows v first → AreRows next n rows → AreRows next n new
-rows_set next n rows new v first v_in first_in joined made are = record {
-  inside = vertices_set n rows new v first v_in first_in made are.inside;
-  level = λ y level. level_set n rows new v first y (omega (arith, v_in, are.inside.0)) (joined y level) made (are.level y level);
+-- a vertex of a segment may be written where all numbers that stay the same along the steps are there as at its first one
+pub segments_set : (next : ℕ → ℕ) (n : ℕ) (segments new : List ℕ) (v first : ℕ) → v < n → first < n → ((y : ℕ → ℕ) → StayLevel next n y → y first ≡ y v) →
+    new ≡ set segments v first → AreSegments next n segments → AreSegments next n new
+segments_set next n segments new v first v_in first_in joined made are = record {
+  inside = vertices_set n segments new v first v_in first_in made are.inside;
+  level = λ y level. level_set n segments new v first y (omega (arith, v_in, are.inside.0)) (joined y level) made (are.level y level);
 }
 
--- rows stay rows under other names of the steps and of the number of vertices
-pub rows_at : (around other : List ℕ) (d e n m : ℕ) (rows : List ℕ) → around ≡ other → d ≡ e → n ≡ m → AreRows (step around d) n rows → AreRows (step other e) m rows
-rows_at around other d e n m rows same way size are =
-    subst (λ (k : ℕ). AreRows (step other e) k rows) size (subst (λ (k : ℕ). AreRows (step other k) n rows) way (subst (λ (list : List ℕ). AreRows (step list d) n rows) same are))
+-- segments stay segments under other names of the steps and of the number of vertices
+pub segments_at : (around other : List ℕ) (d e n m : ℕ) (segments : List ℕ) → around ≡ other → d ≡ e → n ≡ m → AreSegments (step around d) n segments → AreSegments (step other e) m segments
+segments_at around other d e n m segments same way size are =
+    subst (λ (k : ℕ). AreSegments (step other e) k segments) size (subst (λ (k : ℕ). AreSegments (step other k) n segments) way (subst (λ (list : List ℕ). AreSegments (step list d) n segments) same are))
 
--- and a vertex stays on its row
-pub on_row_at : (around other : List ℕ) (d e n m first vertex : ℕ) → around ≡ other → d ≡ e → n ≡ m → IsOnRow (step around d) n first vertex → IsOnRow (step other e) m first vertex
-on_row_at around other d e n m first vertex same way size is =
-    subst (λ (k : ℕ). IsOnRow (step other e) k first vertex) size (subst (λ (k : ℕ). IsOnRow (step other k) n first vertex) way (subst (λ (list : List ℕ). IsOnRow (step list d) n first vertex) same is))
+-- and a vertex stays on its segment
+pub on_segment_at : (around other : List ℕ) (d e n m first vertex : ℕ) → around ≡ other → d ≡ e → n ≡ m → IsOnSegment (step around d) n first vertex → IsOnSegment (step other e) m first vertex
+on_segment_at around other d e n m first vertex same way size is =
+    subst (λ (k : ℕ). IsOnSegment (step other e) k first vertex) size (subst (λ (k : ℕ). IsOnSegment (step other k) n first vertex) way (subst (λ (list : List ℕ). IsOnSegment (step list d) n first vertex) same is))
 
--- a first vertex is on its own row
-pub on_own_row : (next : ℕ → ℕ) (n : ℕ) (firsts : List ℕ) (first vertex : ℕ) → 0 < n → AreVertices n firsts → first ≡ slice_index firsts 0 → vertex ≡ slice_index firsts 0 → IsOnRow next n first vertex
-on_own_row next n firsts first vertex some are first_is vertex_is = record {
+-- a first vertex is on its own segment
+pub on_own_segment : (next : ℕ → ℕ) (n : ℕ) (segment_heads : List ℕ) (first vertex : ℕ) → 0 < n → AreVertices n segment_heads → first ≡ slice_index segment_heads 0 → vertex ≡ slice_index segment_heads 0 → IsOnSegment next n first vertex
+on_own_segment next n segment_heads first vertex some are first_is vertex_is = record {
   first_in = omega (arith, first_is, are.1 0 some);
   vertex_in = omega (arith, vertex_is, are.1 0 some);
   joined = λ y level. ap y (first_is ∙ sym vertex_is);
 }
 
--- a number is raised to one more than that of a row which has a step to its row
-pub raised_row : (ahead : ℕ → ℕ) (n : ℕ) (rows xs new : List ℕ) (v need : ℕ) → v < n → ahead v < n → length xs ≡ n → AreVertices n rows →
-    need ≤ slice_index xs (slice_index rows v) + 1 ⊎ need ≤ slice_index xs (slice_index rows (ahead v)) →
-    new ≡ set xs (slice_index rows (ahead v)) need → StayUnder ahead n rows xs new
-raised_row ahead n rows xs new v need v_in to_in size are enough made y grow level under =
-    let from = slice_index rows v in
-    let to = slice_index rows (ahead v) in
-    let to_row : to < n = are.1 (ahead v) to_in in
+-- a number is raised to one more than that of a segment which has a step to its segment
+pub raised_segment : (ahead : ℕ → ℕ) (n : ℕ) (segments xs new : List ℕ) (v need : ℕ) → v < n → ahead v < n → length xs ≡ n → AreVertices n segments →
+    need ≤ slice_index xs (slice_index segments v) + 1 ⊎ need ≤ slice_index xs (slice_index segments (ahead v)) →
+    new ≡ set xs (slice_index segments (ahead v)) need → StayUnder ahead n segments xs new
+raised_segment ahead n segments xs new v need v_in to_in size are enough made y grow level under =
+    let from = slice_index segments v in
+    let to = slice_index segments (ahead v) in
+    let to_segment : to < n = are.1 (ahead v) to_in in
     let small : need ≤ y to = elim enough [
       | inl more ↦ omega (arith, more, under from (are.1 v v_in), level v v_in, level (ahead v) to_in, grow v v_in to_in)
-      | inr kept ↦ omega (arith, kept, under to to_row)
+      | inr kept ↦ omega (arith, kept, under to to_segment)
     ] in
-    raised_under xs new n to need y (omega (arith, to_row, size)) made small under
+    raised_under xs new n to need y (omega (arith, to_segment, size)) made small under
 
--- each vertex gets the number of its row
-pub spread_one : (n : ℕ) (rows xs new : List ℕ) (v x : ℕ) → v < n → length xs ≡ n → AreVertices n rows → x ≡ slice_index xs (slice_index rows v) → new ≡ set xs v x →
-    (y : ℕ → ℕ) → AreLevelIn rows n y → AreUnder n xs y → AreUnder n new y
-spread_one n rows xs new v x v_in size are is made y level under =
-    raised_under xs new n v x y (omega (arith, v_in, size)) made (omega (arith, is, under (slice_index rows v) (are.1 v v_in), level v v_in)) under
+-- each vertex gets the number of its segment
+pub spread_one : (n : ℕ) (segments xs new : List ℕ) (v x : ℕ) → v < n → length xs ≡ n → AreVertices n segments → x ≡ slice_index xs (slice_index segments v) → new ≡ set xs v x →
+    (y : ℕ → ℕ) → AreLevelIn segments n y → AreUnder n xs y → AreUnder n new y
+spread_one n segments xs new v x v_in size are is made y level under =
+    raised_under xs new n v x y (omega (arith, v_in, size)) made (omega (arith, is, under (slice_index segments v) (are.1 v v_in), level v v_in)) under
 
 -- each dart writes its step
-pub step_written : (w : Web) (a : ℕ) (around new : List ℕ) (n place to : ℕ) → a < w.darts → w.direction a < 4 → place ≡ 4 * tail w a + w.direction a →
+pub step_written : (w : DartMap) (a : ℕ) (around new : List ℕ) (n place to : ℕ) → a < w.darts → w.direction a < 4 → place ≡ 4 * tail w a + w.direction a →
     place < length around → to ≡ w.head a → new ≡ set around place to → AreSteps w around n → AreSteps w new n
 step_written w a around new n place to a_in few here there is made are v d v_in d_in real =
     elim (cases_eq place (4 * v + d)) [
@@ -114,7 +114,7 @@ step_written w a around new n place to a_in few here there is made are v d v_in 
     ]
 
 -- and writes over no other one's, as no other dart leaves its vertex in its direction
-pub step_kept : (w : Web) (a : ℕ) (around new : List ℕ) (place to : ℕ) → IsSound w → a < w.darts → place ≡ 4 * tail w a + w.direction a →
+pub step_kept : (w : DartMap) (a : ℕ) (around new : List ℕ) (place to : ℕ) → IsSound w → a < w.darts → place ≡ 4 * tail w a + w.direction a →
     place < length around → to ≡ w.head a → new ≡ set around place to → HasSteps w around a → HasSteps w new (a + 1)
 step_kept w a around new place to sound a_in here there is made has b below =
     let at : ℕ = 4 * tail w b + w.direction b in
@@ -132,13 +132,13 @@ step_kept w a around new place to sound a_in here there is made has b below =
     ]
 
 -- numbers in the order of the darts along an axis grow by 1 along its direction
-pub grow_ahead : (w : Web) (k : ℕ) (around : List ℕ) (n : ℕ) (y : ℕ → ℕ) → k < 4 → AreSteps w around n → IsAlong w k y → Grow (step around k) n y
+pub grow_ahead : (w : DartMap) (k : ℕ) (around : List ℕ) (n : ℕ) (y : ℕ → ℕ) → k < 4 → AreSteps w around n → IsAlong w k y → Grow (step around k) n y
 grow_ahead w k around n y k_in are along v v_in real =
     let (a, a_in, way, from, to) = are v k v_in k_in real in
     omega (arith, along.forward a a_in way, ap y from, ap y to)
 
 -- and stay the same across it, as the two darts of each edge say
-pub level_across : (w : Web) (k d : ℕ) (around : List ℕ) (n : ℕ) (y : ℕ → ℕ) → IsSound w → k < 2 → d < 4 → d ≢ k → d ≢ k + 2 → AreSteps w around n → IsAlong w k y → StayLevel (step around d) n y
+pub level_across : (w : DartMap) (k d : ℕ) (around : List ℕ) (n : ℕ) (y : ℕ → ℕ) → IsSound w → k < 2 → d < 4 → d ≢ k → d ≢ k + 2 → AreSteps w around n → IsAlong w k y → StayLevel (step around d) n y
 level_across w k d around n y sound k_in d_in one two are along v v_in real =
     let (a, a_in, way, from, to) = are v d v_in d_in real in
     let b = w.reverse_dart a in
@@ -160,7 +160,7 @@ across_far Y = (λ e. omega (arith, e), λ e. omega (arith, e))
 
 -- numbers that grow along the steps in one direction of an axis, and stay the same along those across it, are in
 -- the order of all darts: the other darts go back along these steps
-pub along_steps : (w : Web) (k d : ℕ) (around : List ℕ) (x : ℕ → ℕ) → IsSound w → k < 2 → k + d ≡ 1 →
+pub along_steps : (w : DartMap) (k d : ℕ) (around : List ℕ) (x : ℕ → ℕ) → IsSound w → k < 2 → k + d ≡ 1 →
     HasSteps w around w.darts → Grow (step around k) w.vertices x → StayLevel (step around d) w.vertices x → IsAlong w k x
 along_steps w k d around x sound k_in other has grow level =
     let head_in = sound.meeting.head_in in
@@ -209,7 +209,7 @@ kept_next around d v to along across is grows level so_far =
     }
 
 -- with all of them, the numbers are in the order of the darts
-pub kept_along : (w : Web) (k d : ℕ) (around x y : List ℕ) → IsSound w → length x ≡ w.vertices → length y ≡ w.vertices → k < 2 → k + d ≡ 1 →
+pub kept_along : (w : DartMap) (k d : ℕ) (around x y : List ℕ) → IsSound w → length x ≡ w.vertices → length y ≡ w.vertices → k < 2 → k + d ≡ 1 →
     HasSteps w around w.darts → AreKeptTo around k w.vertices x y → AreKeptTo around d w.vertices y x → IsAlong w k (λ v. slice_index x v)
 kept_along w k d around x y sound x_all y_all k_in other has ahead beside =
     along_steps w k d around (λ v. slice_index x v) sound k_in other has

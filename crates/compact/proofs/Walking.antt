@@ -2,19 +2,19 @@
 use Rattle.std.proofs.Common.{◌≡◌, ◌≢◌, ℕ, zero, suc, ◌+◌, ◌-◌, ◌<◌, ◌≤◌, ◌∙◌, ◌==◌, Bool, true, false, List, [], ◌∷◌, ◌++◌, length, take, get_or, reverse, eqb, if◌then◌else◌, All, arith, sym, ap, refl, inl, inr, append_assoc, append-nil, ◌↔◌}
 use Rattle.std.proofs.lemmas.Grind.{reverse_onto}
 use Rattle.std.proofs.lemmas.Bool.{cases_eq, ne_eqb, eq-eqb, cond-true, cond-false}
-use Rattle.cutting.specs.Webs.{Web, no_dart, IsSound}
-use Rattle.cutting.specs.Faces.{last_of}
-use Rattle.cutting.specs.Paths.{IsPath, turn_to, turning_places}
-use Rattle.cutting.proofs.Reading.{all_below}
+use Rattle.dissect.specs.DartMaps.{DartMap, no_dart, IsSound}
+use Rattle.dissect.specs.Faces.{last_of}
+use Rattle.dissect.specs.Paths.{IsPath, turn_to, turning_places}
+use Rattle.dissect.proofs.Reading.{all_below}
 use Rattle.dissect.proofs.DartsInFront.{behind, one_back, path_back}
 use Rattle.compact.specs.Ordered.{places_along}
 
 -- the places where the walk turns in front of d, the nearest first
-abbrev pub places_back : Web → ℕ → List ℕ → List ℕ
+abbrev pub places_back : DartMap → ℕ → List ℕ → List ℕ
 places_back w d [] = []
 places_back w d (f ∷ fs) = if turn_to w f d == 0 then places_back w f fs else w.head f ∷ places_back w f fs
 
-pub places_of : (w : Web) (a : ℕ) (fs bs : List ℕ) → reverse (places_back w (last_of a bs) (behind a fs bs)) ≡ reverse (places_back w a fs) ++ turning_places w a bs
+pub places_of : (w : DartMap) (a : ℕ) (fs bs : List ℕ) → reverse (places_back w (last_of a bs) (behind a fs bs)) ≡ reverse (places_back w a fs) ++ turning_places w a bs
 places_of w a fs [] = sym (append-nil (reverse (places_back w a fs)))
 places_of w a fs (b ∷ bs) =
     elim (cases_eq (turn_to w a b) 0) [
@@ -34,11 +34,11 @@ places_of w a fs (b ∷ bs) =
     ]
 
 -- the turning places of a path are those met in walking back, in reverse
-pub path_places : (w : Web) (first : ℕ) (rest : List ℕ) → reverse (places_back w (last_of first rest) (behind first [] rest)) ≡ turning_places w first rest
+pub path_places : (w : DartMap) (first : ℕ) (rest : List ℕ) → reverse (places_back w (last_of first rest) (behind first [] rest)) ≡ turning_places w first rest
 path_places w first rest = places_of w first [] rest
 
 -- so all paths to one dart turn at the same places
-pub one_turning : (w : Web) (end first other : ℕ) (rest others : List ℕ) → w.darts ≤ no_dart → IsPath w end first rest → IsPath w end other others →
+pub one_turning : (w : DartMap) (end first other : ℕ) (rest others : List ℕ) → w.darts ≤ no_dart → IsPath w end first rest → IsPath w end other others →
     turning_places w first rest ≡ turning_places w other others
 one_turning w end first other rest others few one two =
     let same : behind first [] rest ≡ behind other [] others =
@@ -47,13 +47,13 @@ one_turning w end first other rest others few one two =
     ∙ ap (λ (fs : List ℕ). reverse (places_back w (last_of other others) fs)) same ∙ path_places w other others
 
 -- the place between two darts, where the walk turns there
-abbrev pub place_between : Web → ℕ → ℕ → List ℕ
+abbrev pub place_between : DartMap → ℕ → ℕ → List ℕ
 place_between w a b = if turn_to w a b == 0 then [] else w.head a ∷ []
 
-pub between_straight : (w : Web) (a b : ℕ) → turn_to w a b ≡ 0 → place_between w a b ≡ []
+pub between_straight : (w : DartMap) (a b : ℕ) → turn_to w a b ≡ 0 → place_between w a b ≡ []
 between_straight w a b straight = cond-true (eqb (turn_to w a b) 0) [] (w.head a ∷ []) (eq-eqb (turn_to w a b) 0 straight)
 
-pub between_turn : (w : Web) (a b : ℕ) → turn_to w a b ≢ 0 → place_between w a b ≡ w.head a ∷ []
+pub between_turn : (w : DartMap) (a b : ℕ) → turn_to w a b ≢ 0 → place_between w a b ≡ w.head a ∷ []
 between_turn w a b turns = cond-false (eqb (turn_to w a b) 0) [] (w.head a ∷ []) (ne_eqb (turn_to w a b) 0 turns)
 
 either_push : (c : Bool) (h : ℕ) (xs more : List ℕ) → (if c then (xs ++ more) else h ∷ (xs ++ more)) ≡ (if c then xs else h ∷ xs) ++ more
@@ -61,7 +61,7 @@ either_push true h xs more = refl
 either_push false h xs more = refl
 
 -- one dart further along a walk
-turning_more : (w : Web) (a : ℕ) (bs : List ℕ) (k : ℕ) → k < length bs →
+turning_more : (w : DartMap) (a : ℕ) (bs : List ℕ) (k : ℕ) → k < length bs →
     turning_places w a (take (suc k) bs) ≡ turning_places w a (take k bs) ++ place_between w (get_or (a ∷ bs) k 0) (get_or bs k 0)
 turning_more w a [] k within = absurd (omega (arith, within))
 turning_more w a (b ∷ bs) zero within = refl
@@ -70,7 +70,7 @@ turning_more w a (b ∷ bs) (suc k) within =
     let far : turning_places w b (take (suc k) bs) ≡ turning_places w b (take k bs) ++ more = turning_more w b bs k (omega (arith, within)) in
     ap (λ (xs : List ℕ). if turn_to w a b == 0 then xs else w.head a ∷ xs) far ∙ either_push (eqb (turn_to w a b) 0) (w.head a) (turning_places w b (take k bs)) more
 
-pub places_more : (w : Web) (ds : List ℕ) (k : ℕ) → 1 ≤ k → k < length ds →
+pub places_more : (w : DartMap) (ds : List ℕ) (k : ℕ) → 1 ≤ k → k < length ds →
     places_along w (take (k + 1) ds) ≡ places_along w (take k ds) ++ place_between w (get_or ds (k - 1) 0) (get_or ds k 0)
 places_more w [] k some within = absurd (omega (arith, within))
 places_more w (a ∷ bs) zero some within = absurd (omega (arith, some))
@@ -81,16 +81,16 @@ places_more w (a ∷ bs) (suc k) some within =
     ∙ ap (λ (n : ℕ). turning_places w a (take k bs) ++ place_between w (get_or (a ∷ bs) n 0) (get_or bs k 0)) (sym back)
 
 -- the first dart alone turns nowhere
-pub places_one : (w : Web) (ds : List ℕ) → places_along w (take 1 ds) ≡ []
+pub places_one : (w : DartMap) (ds : List ℕ) → places_along w (take 1 ds) ≡ []
 places_one w [] = refl
 places_one w (a ∷ bs) = refl
 
--- the darts of a path are all of the web
-pub path_below : (w : Web) (end first : ℕ) (rest : List ℕ) → IsPath w end first rest → All (λ d. d < w.darts) (first ∷ rest)
+-- the darts of a path are all of the map
+pub path_below : (w : DartMap) (end first : ℕ) (rest : List ℕ) → IsPath w end first rest → All (λ d. d < w.darts) (first ∷ rest)
 path_below w end first rest path = all_below w.darts w.darts (first ∷ rest) (omega arith) (path.first_in, path.rest_in)
 
 -- directions are the same exactly where the walk does not turn
-pub same_way : (w : Web) (a b : ℕ) → IsSound w → a < w.darts → b < w.darts → (turn_to w a b ≡ 0) ↔ (w.direction a ≡ w.direction b)
+pub same_way : (w : DartMap) (a b : ℕ) → IsSound w → a < w.darts → b < w.darts → (turn_to w a b ≡ 0) ↔ (w.direction a ≡ w.direction b)
 same_way w a b sound a_in b_in =
     let back = sound.straight b b_in in
     let one = sound.meeting.quarter a a_in in

@@ -1,10 +1,10 @@
 -- Constraints on numbers: the lengths of longest paths are the least numbers that keep them.
 use Rattle.std.specs.Prelude.{◌≡◌, ℕ, ◌+◌, ◌-◌, ◌<◌, ◌≤◌, List, All, length, slice_index, slice_set}
 use Rattle.ortho_rep.specs.declared.points.TheConstants.{MAX_COORDINATE}
-use Rattle.sums.specs.Sums.{sum_below}
-use Rattle.compact.specs.declared.constraints.Constraint.{Constraint}
-use Rattle.compact.specs.declared.constraints.Relaxation.{Relaxation}
-use Rattle.compact.specs.declared.constraints.Relaxation.TheVariants.{Kept, Raised, Wide}
+use Rattle.common.specs.Sums.{sum_below}
+use Rattle.compact.specs.declared.constraint_graph.Constraint.{Constraint}
+use Rattle.compact.specs.declared.constraint_graph.Relaxation.{Relaxation}
+use Rattle.compact.specs.declared.constraint_graph.Relaxation.TheVariants.{Kept, Raised, Wide}
 
 -- the numbers x keep each constraint: the number at its end is that at its start and `least` more, or greater
 abbrev pub Keeps : List Constraint → (ℕ → ℕ) → Type 0

@@ -1,15 +1,15 @@
 -- Numbers in the order of the darts, along each axis, and what the faults say.
 use Rattle.std.specs.Prelude.{◌≡◌, ◌≢◌, ℕ, ◌+◌, ◌<◌, ◌≤◌, List, [], ◌∷◌, length, map, slice_index, slice_index_or}
 use Rattle.ortho_rep.specs.declared.points.TheConstants.{MAX_COORDINATE}
-use Rattle.cutting.specs.Webs.{Web, IsSound}
-use Rattle.cutting.specs.Paths.{turning_places}
+use Rattle.dissect.specs.DartMaps.{DartMap, IsSound}
+use Rattle.dissect.specs.Paths.{turning_places}
 use Rattle.ortho_rep.specs.declared.points.Point.{Point}
-use Rattle.dissect.specs.Boxes.{BoxesModel, HasEdge, web}
+use Rattle.dissect.specs.Boxes.{BoxesModel, HasEdge, dart_map}
 pub use Rattle.dissect.specs.Headed.{AreHeadingsOf}
 pub use Rattle.dissect.specs.Ordered.{tail, IsOrdered, AreWithin, point_at, AreTaken, AreLaidOut, HasNoPlace}
 use Rattle.compact.specs.declared.axis.Axis.{Axis}
 use Rattle.compact.specs.declared.axis.Axis.TheVariants.{X, Y}
-use Rattle.compact.specs.declared.constraints.Constraint.{Constraint}
+use Rattle.compact.specs.declared.constraint_graph.Constraint.{Constraint}
 use Rattle.compact.specs.Constraints.{Keeps, AreInside}
 use Rattle.compact.specs.declared.fault.CompactFault.{CompactFault}
 use Rattle.compact.specs.declared.fault.CompactFault.TheVariants.{Wide, Memory}
@@ -25,12 +25,12 @@ IsAcross k d = (d ≢ k) × (d ≢ k + 2)
 
 -- along one axis, whose direction of growth has the number k: a dart that way has a constraint of 1 or more, and the ends of a
 -- dart across have one number
-pub record IsAlong (w : Web) (k : ℕ) (x : ℕ → ℕ) : Type 0 where
+pub record IsAlong (w : DartMap) (k : ℕ) (x : ℕ → ℕ) : Type 0 where
   pub forward : (a : ℕ) → a < w.darts → w.direction a ≡ k → x (tail w a) + 1 ≤ x (w.head a)
   pub across : (a : ℕ) → a < w.darts → w.direction a ≢ k → w.direction a ≢ k + 2 → x (tail w a) ≤ x (w.head a)
 
 -- the constraints say the same of the first darts
-pub record AreAlong (w : Web) (k : ℕ) (darts : ℕ) (constraints : List Constraint) : Type 0 where
+pub record AreAlong (w : DartMap) (k : ℕ) (darts : ℕ) (constraints : List Constraint) : Type 0 where
   pub inside : AreInside w.vertices constraints
   pub forward : (x : ℕ → ℕ) → Keeps constraints x → (a : ℕ) → a < darts → w.direction a ≡ k → x (tail w a) + 1 ≤ x (w.head a)
   pub across : (x : ℕ → ℕ) → Keeps constraints x → (a : ℕ) → a < darts → w.direction a ≢ k → w.direction a ≢ k + 2
@@ -49,24 +49,24 @@ across Y = 2
 
 -- the least numbers of the vertices in the order of the darts along an axis, within the grid
 pub record AreLeast (b : BoxesModel) (k : ℕ) (numbers : List ℕ) : Type 0 where
-  pub along : IsAlong (web b) k (λ v. slice_index numbers v)
-  pub least : (y : ℕ → ℕ) → IsAlong (web b) k y → (v : ℕ) → v < b.vertices → slice_index numbers v ≤ y v
+  pub along : IsAlong (dart_map b) k (λ v. slice_index numbers v)
+  pub least : (y : ℕ → ℕ) → IsAlong (dart_map b) k y → (v : ℕ) → v < b.vertices → slice_index numbers v ≤ y v
   pub within : AreWithin b.vertices (λ v. slice_index numbers v)
   pub count : length numbers ≡ b.vertices
 
 -- what a fault says of one axis
 abbrev pub IsAxisFault : BoxesModel → ℕ → CompactFault → Type 0
-IsAxisFault b k Wide = IsSound (web b) × ((x : ℕ → ℕ) → IsAlong (web b) k x → (v : ℕ) × (v < b.vertices) × (MAX_COORDINATE < x v))
+IsAxisFault b k Wide = IsSound (dart_map b) × ((x : ℕ → ℕ) → IsAlong (dart_map b) k x → (v : ℕ) × (v < b.vertices) × (MAX_COORDINATE < x v))
 IsAxisFault b k Memory = Unit {0}
 
 -- the vertices at which the walk along these darts turns, in order
-abbrev pub places_along : Web → List ℕ → List ℕ
+abbrev pub places_along : DartMap → List ℕ → List ℕ
 places_along w [] = []
 places_along w (a ∷ bs) = turning_places w a bs
 
 -- the points are the corners of the edge e, in order
 abbrev pub AreCornersOf : BoxesModel → (ℕ → ℕ) → (ℕ → ℕ) → ℕ → List Point → Type 0
-AreCornersOf b x y e points = (edge : HasEdge b e) → points ≡ map (point_at x y) (turning_places (web b) edge.first edge.rest)
+AreCornersOf b x y e points = (edge : HasEdge b e) → points ≡ map (point_at x y) (turning_places (dart_map b) edge.first edge.rest)
 
 -- the lists have the corners of the first n edges, in order
 abbrev pub AreCorners : BoxesModel → (ℕ → ℕ) → (ℕ → ℕ) → ℕ → List (List Point) → Type 0

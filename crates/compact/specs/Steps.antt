@@ -1,6 +1,6 @@
 -- Steps from vertex to vertex along one direction, and numbers that are raised along them.
 use Rattle.std.specs.Prelude.{◌≡◌, ℕ, ◌+◌, ◌*◌, ◌<◌, ◌≤◌, List, length, slice_index}
-use Rattle.cutting.specs.Webs.{Web}
+use Rattle.dissect.specs.DartMaps.{DartMap}
 use Rattle.compact.specs.Ordered.{tail}
 
 -- where the steps in direction d lead, in a list with four entries for each vertex
@@ -8,12 +8,12 @@ abbrev pub step : List ℕ → ℕ → ℕ → ℕ
 step around d v = slice_index around (4 * v + d)
 
 -- each entry below n is the vertex that a dart of its direction comes to from its vertex
-abbrev pub AreSteps : Web → List ℕ → ℕ → Type 0
+abbrev pub AreSteps : DartMap → List ℕ → ℕ → Type 0
 AreSteps w around n = (v d : ℕ) → v < n → d < 4 → step around d v < n
     → (a : ℕ) × (a < w.darts) × (w.direction a ≡ d) × (tail w a ≡ v) × (w.head a ≡ step around d v)
 
 -- each of the first darts is a step: in its direction, from the vertex that it leaves to the one that it comes to
-abbrev pub HasSteps : Web → List ℕ → ℕ → Type 0
+abbrev pub HasSteps : DartMap → List ℕ → ℕ → Type 0
 HasSteps w around darts = (a : ℕ) → a < darts → step around (w.direction a) (tail w a) ≡ w.head a
 
 -- the numbers y grow by 1 or more along each of the steps
@@ -26,23 +26,23 @@ StayLevel next n y = (v : ℕ) → v < n → next v < n → y (next v) ≡ y v
 
 -- for each vertex below n the list has a vertex below n
 abbrev pub AreVertices : ℕ → List ℕ → Type 0
-AreVertices n rows = (length rows ≡ n) × ((v : ℕ) → v < n → slice_index rows v < n)
+AreVertices n segments = (length segments ≡ n) × ((v : ℕ) → v < n → slice_index segments v < n)
 
--- y has one number in each row
+-- y has one number in each segment
 abbrev pub AreLevelIn : List ℕ → ℕ → (ℕ → ℕ) → Type 0
-AreLevelIn rows n y = (v : ℕ) → v < n → y (slice_index rows v) ≡ y v
+AreLevelIn segments n y = (v : ℕ) → v < n → y (slice_index segments v) ≡ y v
 
--- all numbers that stay the same along the steps have one number in each row
-pub record AreRows (next : ℕ → ℕ) (n : ℕ) (rows : List ℕ) : Type 0 where
-  pub inside : AreVertices n rows
-  pub level : (y : ℕ → ℕ) → StayLevel next n y → AreLevelIn rows n y
+-- all numbers that stay the same along the steps have one number in each segment
+pub record AreSegments (next : ℕ → ℕ) (n : ℕ) (segments : List ℕ) : Type 0 where
+  pub inside : AreVertices n segments
+  pub level : (y : ℕ → ℕ) → StayLevel next n y → AreLevelIn segments n y
 
 -- each vertex below n stands at its own place
 abbrev pub AreOwn : ℕ → List ℕ → Type 0
-AreOwn n rows = (length rows ≡ n) × ((v : ℕ) → v < n → slice_index rows v ≡ v)
+AreOwn n segments = (length segments ≡ n) × ((v : ℕ) → v < n → slice_index segments v ≡ v)
 
--- a vertex below n is on a row with this first vertex: all numbers that stay the same along the steps are the same at both
-pub record IsOnRow (next : ℕ → ℕ) (n first vertex : ℕ) : Type 0 where
+-- a vertex below n is on a segment with this first vertex: all numbers that stay the same along the steps are the same at both
+pub record IsOnSegment (next : ℕ → ℕ) (n first vertex : ℕ) : Type 0 where
   pub first_in : first < n
   pub vertex_in : vertex < n
   pub joined : (y : ℕ → ℕ) → StayLevel next n y → y first ≡ y vertex
@@ -51,10 +51,10 @@ pub record IsOnRow (next : ℕ → ℕ) (n first vertex : ℕ) : Type 0 where
 abbrev pub AreUnder : ℕ → List ℕ → (ℕ → ℕ) → Type 0
 AreUnder n xs y = (v : ℕ) → v < n → slice_index xs v ≤ y v
 
--- numbers nowhere above any numbers that grow along the steps and have one number in each row stay so
+-- numbers nowhere above any numbers that grow along the steps and have one number in each segment stay so
 abbrev pub StayUnder : (ℕ → ℕ) → ℕ → List ℕ → List ℕ → List ℕ → Type 0
-StayUnder ahead n rows old new =
-    (y : ℕ → ℕ) → Grow ahead n y → AreLevelIn rows n y → AreUnder n old y → AreUnder n new y
+StayUnder ahead n segments old new =
+    (y : ℕ → ℕ) → Grow ahead n y → AreLevelIn segments n y → AreUnder n old y → AreUnder n new y
 
 -- numbers nowhere above any that grow along the steps ahead, and stay the same along those to the left, stay so
 abbrev pub StayUnderAll : ℕ → (ℕ → ℕ) → (ℕ → ℕ) → List ℕ → List ℕ → Type 0

@@ -3,17 +3,19 @@
 ghost use Rattle.std.specs.Prelude.{◌≡◌, ◌≢◌, ◌+◌, ◌*◌, length, slice_index, Some, None, IsTrue, IfOk, IfErr, OnOk, ℕ, ◌<◌, ◌≤◌};
 ghost use Rattle.ortho_rep.specs.declared.points.TheConstants.{MAX_COORDINATE};
 ghost use Rattle.compact.specs.Ordered.{IsAlong, AreAlong, AreLeast, IsAxisFault, IsCompactFault, growth, across};
-ghost use Rattle.compact.specs.Steps.{step, AreSteps, HasSteps, AreRows, AreUnder};
-ghost use Rattle.cutting.specs.Webs.{IsSound};
-ghost use Rattle.directions.specs.Directions.{quarters};
-ghost use Rattle.dissect.specs.Boxes.{web};
+ghost use Rattle.compact.specs.Steps.{step, AreSteps, HasSteps, AreSegments, AreUnder};
+ghost use Rattle.dissect.specs.DartMaps.{IsSound};
+ghost use Rattle.geometry.specs.Directions.{quarters};
+ghost use Rattle.dissect.specs.Boxes.{dart_map};
 
-use crate::constraints::{Constraint, settle};
+use crate::constraint_graph::{Constraint, relax_in_rounds};
 use crate::fault::CompactFault;
-use crate::rows::{RowQueue, RowQueues, Steps, find_rows, raise_rows};
-use directions::Direction;
+use crate::longest_paths::{
+    AxisSegments, SegmentsByAxis, Steps, find_segments, raise_to_longest_paths,
+};
+use common::filled;
 use dissect::Boxes;
-use reuse::filled;
+use geometry::Direction;
 use std::alloc::AllocError;
 
 /// An axis, by the direction in which its numbers grow.
@@ -46,7 +48,7 @@ fn constraints_along(
     axis: Axis,
     constraints: &mut Vec<Constraint>,
 ) -> Result<(), AllocError>
-    ensures { OnOk result (AreAlong (web boxes.now) (growth axis) boxes.now.darts constraints.new.items) }
+    ensures { OnOk result (AreAlong (dart_map boxes.now) (growth axis) boxes.now.darts constraints.new.items) }
 {
     constraints.clear();
     constraints.reserve(boxes.darts() as usize)?;
@@ -81,12 +83,12 @@ fn is_step_kept(along: &[u16], across: &[u16], vertex: usize, to: u32) -> bool
 /// Whether numbers are in the order of the darts along both axes. `around` has the steps from each vertex:
 /// those to the east and to the north say it of all darts, since the others go back along them.
 fn are_along(boxes: &Boxes, around: &[u32], x: &[u16], y: &[u16]) -> bool
-    requires all_steps { HasSteps (web boxes.now) around.now boxes.now.darts }
+    requires all_steps { HasSteps (dart_map boxes.now) around.now boxes.now.darts }
     requires around { length around.now ≡ 4 * boxes.now.vertices }
     requires x_count { length x.now ≡ boxes.now.vertices }
     requires y_count { length y.now ≡ boxes.now.vertices }
-    ensures x_along { IsTrue result → IsAlong (web boxes.now) 0 (λ v. slice_index x.now v) }
-    ensures y_along { IsTrue result → IsAlong (web boxes.now) 1 (λ v. slice_index y.now v) }
+    ensures x_along { IsTrue result → IsAlong (dart_map boxes.now) 0 (λ v. slice_index x.now v) }
+    ensures y_along { IsTrue result → IsAlong (dart_map boxes.now) 1 (λ v. slice_index y.now v) }
     ensures x_small { (v : ℕ) → v < length x.now → slice_index x.now v ≤ MAX_COORDINATE }
     ensures y_small { (v : ℕ) → v < length y.now → slice_index y.now v ≤ MAX_COORDINATE }
 {
@@ -113,46 +115,46 @@ fn steps_along(around: &[u32], axis: Axis) -> Steps<'_>
 }
 
 /// Numbers that are nowhere above any in the order of the darts along an axis: the lengths of longest
-/// paths, found row by row, in the memory of the list that is lent. `around` has the steps from each
+/// paths, found segment by segment, in the memory of the list that is lent. `around` has the steps from each
 /// vertex. Linear in the darts.
 fn low_along(
     boxes: &Boxes,
     around: &[u32],
     axis: Axis,
     numbers: Vec<u16>,
-    queue: &mut RowQueue,
+    axis_segments: &mut AxisSegments,
 ) -> Result<Vec<u16>, AllocError>
-    requires steps { AreSteps (web boxes.now) around.now boxes.now.vertices }
+    requires steps { AreSteps (dart_map boxes.now) around.now boxes.now.vertices }
     requires around { length around.now ≡ 4 * boxes.now.vertices }
-    requires rows { AreRows (step around.now (across axis)) boxes.now.vertices queue.old.rows.items }
-    ensures sound { IfOk result (λ _. IsSound (web boxes.now)) }
+    requires segments { AreSegments (step around.now (across axis)) boxes.now.vertices axis_segments.old.segments.items }
+    ensures sound { IfOk result (λ _. IsSound (dart_map boxes.now)) }
     ensures count { IfOk result (λ numbers. length numbers.items ≡ boxes.now.vertices) }
-    ensures under { IfOk result (λ numbers. (y : ℕ → ℕ) → IsAlong (web boxes.now) (growth axis) y → AreUnder boxes.now.vertices numbers.items y) }
+    ensures under { IfOk result (λ numbers. (y : ℕ → ℕ) → IsAlong (dart_map boxes.now) (growth axis) y → AreUnder boxes.now.vertices numbers.items y) }
 {
     let mut numbers = filled(numbers, boxes.vertices() as usize, 0)?;
-    raise_rows(queue, steps_along(around, axis), &mut numbers);
+    raise_to_longest_paths(axis_segments, steps_along(around, axis), &mut numbers);
     Ok(numbers)
 }
 
 /// Raises numbers that are nowhere above any in the order of the darts along an axis, until they are in that
 /// order: then they are the least.
-fn settled_along(
+fn relaxed_along(
     boxes: &Boxes,
     axis: Axis,
     mut numbers: Vec<u16>,
     constraints: &mut Vec<Constraint>,
 ) -> Result<Vec<u16>, CompactFault>
-    requires sound { IsSound (web boxes.now) }
+    requires sound { IsSound (dart_map boxes.now) }
     requires count { length numbers.items ≡ boxes.now.vertices }
-    requires under { (y : ℕ → ℕ) → IsAlong (web boxes.now) (growth axis) y → AreUnder boxes.now.vertices numbers.items y }
+    requires under { (y : ℕ → ℕ) → IsAlong (dart_map boxes.now) (growth axis) y → AreUnder boxes.now.vertices numbers.items y }
     ensures along { IfOk result (λ numbers. AreLeast boxes.now (growth axis) numbers.items) }
     ensures fault { IfErr result (IsAxisFault boxes.now (growth axis)) }
 {
     let Ok(()) = constraints_along(boxes, axis, constraints) else {
         return Err(CompactFault::Memory);
     };
-    let settled = settle(constraints, &mut numbers);
-    if !settled {
+    let all_kept = relax_in_rounds(constraints, &mut numbers);
+    if !all_kept {
         return Err(CompactFault::Wide);
     }
     Ok(numbers)
@@ -165,34 +167,34 @@ pub fn least_numbers(
     around: &[u32],
     x: Vec<u16>,
     y: Vec<u16>,
-    queues: &mut RowQueues,
+    by_axis: &mut SegmentsByAxis,
     constraints: &mut Vec<Constraint>,
 ) -> Result<(Vec<u16>, Vec<u16>), CompactFault>
-    requires steps { AreSteps (web boxes.now) around.now boxes.now.vertices }
-    requires all_steps { HasSteps (web boxes.now) around.now boxes.now.darts }
+    requires steps { AreSteps (dart_map boxes.now) around.now boxes.now.vertices }
+    requires all_steps { HasSteps (dart_map boxes.now) around.now boxes.now.darts }
     requires around { length around.now ≡ 4 * boxes.now.vertices }
-    ensures sound { IfOk result (λ _. IsSound (web boxes.now)) }
+    ensures sound { IfOk result (λ _. IsSound (dart_map boxes.now)) }
     ensures x { IfOk result (λ found. AreLeast boxes.now 0 found.0.items) }
     ensures y { IfOk result (λ found. AreLeast boxes.now 1 found.1.items) }
     ensures fault { IfErr result (IsCompactFault boxes.now) }
 {
-    let Ok(()) = find_rows(around, boxes.vertices(), queues) else {
+    let Ok(()) = find_segments(around, boxes.vertices(), by_axis) else {
         return Err(CompactFault::Memory);
     };
-    let Ok(x) = low_along(boxes, around, Axis::X, x, &mut queues.x) else {
+    let Ok(x) = low_along(boxes, around, Axis::X, x, &mut by_axis.x) else {
         return Err(CompactFault::Memory);
     };
-    let Ok(y) = low_along(boxes, around, Axis::Y, y, &mut queues.y) else {
+    let Ok(y) = low_along(boxes, around, Axis::Y, y, &mut by_axis.y) else {
         return Err(CompactFault::Memory);
     };
     if are_along(boxes, around, &x, &y) {
         return Ok((x, y));
     }
-    let x = match settled_along(boxes, Axis::X, x, constraints) {
+    let x = match relaxed_along(boxes, Axis::X, x, constraints) {
         Ok(x) => x,
         Err(fault) => return Err(fault),
     };
-    match settled_along(boxes, Axis::Y, y, constraints) {
+    match relaxed_along(boxes, Axis::Y, y, constraints) {
         Ok(y) => Ok((x, y)),
         Err(fault) => Err(fault),
     }

@@ -1,8 +1,8 @@
 //! The corner points of the edges of a plane.
 
 ghost use Rattle.std.specs.Prelude.{◌≡◌, ◌≢◌, ◌<◌, ◌↔◌, ◌++◌, IsTrue, All, length, map, slice_index, OnOk};
-ghost use Rattle.cutting.specs.Paths.{turn_to};
-ghost use Rattle.dissect.specs.Boxes.{web};
+ghost use Rattle.dissect.specs.Paths.{turn_to};
+ghost use Rattle.dissect.specs.Boxes.{dart_map};
 ghost use Rattle.compact.specs.Ordered.{point_at, places_along};
 
 use dissect::Boxes;
@@ -25,7 +25,7 @@ pub fn point_of(x: &[u16], y: &[u16], vertex: u32) -> Point
 fn is_turn(boxes: &Boxes, front: u32, dart: u32) -> bool
     requires front { front < boxes.now.darts }
     requires dart { dart < boxes.now.darts }
-    ensures { IsTrue result ↔ (turn_to (web boxes.now) front dart ≢ 0) }
+    ensures { IsTrue result ↔ (turn_to (dart_map boxes.now) front dart ≢ 0) }
 {
     boxes.direction(front) != boxes.direction(dart)
 }
@@ -43,7 +43,7 @@ pub fn push_corners(
     requires y_in { length y.now ≡ boxes.now.vertices }
     requires inside { All (λ dart. dart < boxes.now.darts) path.now }
     ensures { OnOk result (corners.new.items
-        ≡ corners.old.items ++ map (point_at (λ v. slice_index x.now v) (λ v. slice_index y.now v)) (places_along (web boxes.now) path.now)) }
+        ≡ corners.old.items ++ map (point_at (λ v. slice_index x.now v) (λ v. slice_index y.now v)) (places_along (dart_map boxes.now) path.now)) }
 {
     for k in 1..path.len() {
         let front = path[k - 1];

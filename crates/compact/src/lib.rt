@@ -2,11 +2,11 @@
 #![tactic(auto)]
 
 mod axis;
-mod constraints;
+mod constraint_graph;
 mod corners;
 mod fault;
+mod longest_paths;
 mod place;
-mod rows;
 mod scratch;
 mod steps;
 

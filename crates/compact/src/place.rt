@@ -2,7 +2,7 @@
 
 ghost use Rattle.std.specs.Prelude.{◌≡◌, length, map, slice_index, IfOk, IfErr};
 ghost use Rattle.std.specs.List.{range_with_len};
-ghost use Rattle.ortho_rep.specs.Storage.{cut, IsCut};
+ghost use Rattle.ortho_rep.specs.Storage.{cut, AreStarts};
 ghost use Rattle.compact.specs.Ordered.{AreLaidOut, AreCorners, IsCompactFault, point_at};
 
 use crate::axis::least_numbers;
@@ -10,9 +10,9 @@ use crate::corners::{point_of, push_corners};
 use crate::fault::CompactFault;
 use crate::scratch::Scratch;
 use crate::steps::steps_of;
+use common::emptied;
 use dissect::Boxes;
 use ortho_rep::{Point, Points};
-use reuse::emptied;
 use std::alloc::{AllocError, Global};
 use std::mem;
 
@@ -47,7 +47,7 @@ fn list_corners(
 ) -> Result<(Vec<Point>, Vec<usize>), AllocError>
     requires x_in { length x.now ≡ boxes.now.vertices }
     requires y_in { length y.now ≡ boxes.now.vertices }
-    ensures places { IfOk result (λ found. IsCut found.1.items found.0.items) }
+    ensures places { IfOk result (λ found. AreStarts found.1.items found.0.items) }
     ensures count { IfOk result (λ found. length (cut found.1.items found.0.items) ≡ length boxes.now.edges) }
     ensures corners { IfOk result (λ found. AreCorners boxes.now (λ v. slice_index x.now v) (λ v. slice_index y.now v)
         (length boxes.now.edges) (cut found.1.items found.0.items)) }
@@ -66,15 +66,15 @@ fn list_corners(
 /// x growing to the east and y to the north, the least there are. Edges run along the axes between their
 /// ends and corners.
 ///
-/// The numbers are the lengths of longest paths in the two constraint graphs of the dissection
-/// (Tamassia 1987). They are found row by row, a row being the vertices that darts across the axis join: a few steps
-/// for each dart. Where that does not keep all constraints, as in a drawing too wide for the grid, the
-/// end of each constraint that is not kept is raised, in rounds. The points stand in one list.
+/// The numbers are the lengths of longest paths in the two constraint graphs of the dissection (Tamassia 1987).
+/// They are found segment by segment, a segment being the vertices that darts across the axis join: a few steps
+/// for each dart. Where that does not keep all constraints, as in a drawing too wide for the grid, the end of
+/// each constraint that is not kept is raised, in rounds. The points stand in one list.
 ///
 /// # Errors
 ///
 /// `Wide` where no numbers in the order of the darts are all at most 65,535; `Memory` where there is
-/// none for the steps, the numbers, the rows, the constraints or the points.
+/// none for the steps, the numbers, the segments, the constraints or the points.
 pub fn compact(alloc: Global, boxes: &Boxes) -> Result<Points, CompactFault>
     ensures laid { IfOk result (AreLaidOut boxes.now) }
     ensures fault { IfErr result (IsCompactFault boxes.now) }
@@ -101,7 +101,7 @@ pub fn compact_in(
         around,
         x,
         y,
-        mut queues,
+        mut by_axis,
         mut constraints,
         points,
         corners,
@@ -110,7 +110,7 @@ pub fn compact_in(
     let Ok(around) = steps_of(boxes, around) else {
         return Err(CompactFault::Memory);
     };
-    let (x, y) = match least_numbers(boxes, &around, x, y, &mut queues, &mut constraints) {
+    let (x, y) = match least_numbers(boxes, &around, x, y, &mut by_axis, &mut constraints) {
         Ok(found) => found,
         Err(fault) => return Err(fault),
     };
@@ -127,7 +127,7 @@ pub fn compact_in(
     scratch.around = around;
     scratch.x = x;
     scratch.y = y;
-    scratch.queues = queues;
+    scratch.by_axis = by_axis;
     scratch.constraints = constraints;
     scratch.corners = corners;
     scratch.starts = starts;

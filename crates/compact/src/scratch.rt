@@ -2,8 +2,8 @@
 
 ghost use Rattle.std.specs.Prelude.{◌≡◌, []};
 
-use crate::constraints::Constraint;
-use crate::rows::RowQueues;
+use crate::constraint_graph::Constraint;
+use crate::longest_paths::SegmentsByAxis;
 use ortho_rep::{Point, Points};
 use std::alloc::Global;
 
@@ -17,7 +17,7 @@ pub struct Scratch {
     pub(crate) around: Vec<u32>,
     pub(crate) x: Vec<u16>,
     pub(crate) y: Vec<u16>,
-    pub(crate) queues: RowQueues,
+    pub(crate) by_axis: SegmentsByAxis,
     pub(crate) constraints: Vec<Constraint>,
     pub(crate) points: Vec<Point>,
     pub(crate) corners: Vec<Point>,
@@ -33,7 +33,7 @@ impl Scratch {
             around: Vec::new(alloc),
             x: Vec::new(alloc),
             y: Vec::new(alloc),
-            queues: RowQueues::empty(alloc),
+            by_axis: SegmentsByAxis::empty(alloc),
             constraints: Vec::new(alloc),
             points: Vec::new(alloc),
             corners: Vec::new(alloc),

@@ -2,10 +2,10 @@
 
 ghost use Rattle.std.specs.Prelude.{◌≡◌, ℕ, ◌*◌, ◌<◌, length, IfOk};
 ghost use Rattle.compact.specs.Steps.{AreSteps, HasSteps};
-ghost use Rattle.dissect.specs.Boxes.{web};
+ghost use Rattle.dissect.specs.Boxes.{dart_map};
 
+use common::filled;
 use dissect::Boxes;
-use reuse::filled;
 use std::alloc::AllocError;
 
 /// Stands where there is no vertex: more than any number of one.
@@ -15,8 +15,8 @@ pub const NO_VERTEX: u32 = u32::MAX;
 /// south. `NO_VERTEX` stands where there is no such dart. They stand in the memory of the list that is
 /// lent. Linear in the darts.
 pub fn steps_of(boxes: &Boxes, around: Vec<u32>) -> Result<Vec<u32>, AllocError>
-    ensures steps { IfOk result (λ around. AreSteps (web boxes.now) around.items boxes.now.vertices) }
-    ensures all_steps { IfOk result (λ around. HasSteps (web boxes.now) around.items boxes.now.darts) }
+    ensures steps { IfOk result (λ around. AreSteps (dart_map boxes.now) around.items boxes.now.vertices) }
+    ensures all_steps { IfOk result (λ around. HasSteps (dart_map boxes.now) around.items boxes.now.darts) }
     ensures count { IfOk result (λ around. length around.items ≡ 4 * boxes.now.vertices) }
 {
     let mut around = filled(around, 4 * boxes.vertices() as usize, NO_VERTEX)?;

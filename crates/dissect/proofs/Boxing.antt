@@ -9,18 +9,18 @@ use Rattle.faces.proofs.Ends.{plane_ends, seven_rules}
 use Rattle.ortho_rep.specs.Shapes.{ShapeModel, angle_at, turns_at}
 use Rattle.ortho_rep.specs.Edges.{is_lesser, lesser_darts}
 use Rattle.ortho_rep.proofs.EdgeNumbers.{edge_total, length-lesser}
-use Rattle.cutting.specs.declared.table.DartTable.{DartTable}
-use Rattle.cutting.specs.Webs.{Web, IsSound, excess, no_dart}
-use Rattle.cutting.specs.Tables.{web_of}
-use Rattle.cutting.specs.Faces.{AreWaiting, ReachesCorners}
-use Rattle.cutting.specs.Paths.{HasPaths, IsJoined, IsPath}
-use Rattle.cutting.specs.Frames.{IsEnclosed}
-use Rattle.bending.specs.Bends.{AreHeadings, CountsBends, KeepsDarts, KeepsFaces}
-use Rattle.bending.specs.Steps.{angle_of}
-use Rattle.edge_paths.specs.Rows.{AreRows}
-use Rattle.edge_paths.proofs.Framing.{enclosed_paths, enclosed_joined}
-use Rattle.edge_paths.proofs.Rows.{HasRows, enclosed_rows}
-use Rattle.edge_paths.proofs.Apart.{AreEdges, paths_back, paths_once, paths_apart}
+use Rattle.dissect.specs.declared.table.DartTable.{DartTable}
+use Rattle.dissect.specs.DartMaps.{DartMap, IsSound, reflex_turns, no_dart}
+use Rattle.dissect.specs.Tables.{dart_map_of}
+use Rattle.dissect.specs.Faces.{AreWaiting, ReachesCorners}
+use Rattle.dissect.specs.Paths.{HasPaths, IsConnected, IsPath}
+use Rattle.dissect.specs.Frames.{IsEnclosed}
+use Rattle.dissect.specs.Bends.{AreHeadings, CountsBends, KeepsDarts, KeepsFaces}
+use Rattle.dissect.specs.Steps.{angle_of}
+use Rattle.dissect.specs.Chains.{AreChains}
+use Rattle.dissect.proofs.FramedPaths.{enclosed_paths, enclosed_joined}
+use Rattle.dissect.proofs.Chains.{HasChains, enclosed_chains}
+use Rattle.dissect.proofs.Apart.{AreEdges, paths_back, paths_once, paths_apart}
 use Rattle.dissect.specs.Boxes.{AreBoxes, HasEdge, parts_of}
 use Rattle.dissect.specs.Boxed.{IsBoxed, IsEnclosedDrawing, ArePathsApart}
 use Rattle.dissect.proofs.Keeping.{Keeps, enclosed_keeps}
@@ -28,7 +28,7 @@ use Rattle.dissect.proofs.Rectangles.{rectangle, join}
 use Rattle.dissect.proofs.Through.{through}
 
 -- what is known of the drawing w and of the table t that was made of it
-pub record IsMade (p : PlaneModel) (shape : ShapeModel) (w : Web) (outside : ℕ) (t : DartTable) : Type 0 where
+pub record IsMade (p : PlaneModel) (shape : ShapeModel) (w : DartMap) (outside : ℕ) (t : DartTable) : Type 0 where
   pub plane : IsPlane p
   pub sound : IsSound w
   pub kept : KeepsDarts p (angle_at shape) w
@@ -36,15 +36,15 @@ pub record IsMade (p : PlaneModel) (shape : ShapeModel) (w : Web) (outside : ℕ
   pub headings : AreHeadings p (angle_at shape) (turns_at shape) w.direction
   pub counts : CountsBends p (turns_at shape) w
   pub paths : HasPaths w (darts p) (reverse_dart p) (λ d. map angle_of (turns_at shape d))
-  pub rows : AreRows (vertices p) w
-  pub joined : IsJoined w
+  pub chains : AreChains (vertices p) w
+  pub joined : IsConnected w
   pub outside_in : outside < darts p
   pub outer : face_at p outside ≡ p.outer
-  pub enclosed : IsEnclosed w outside (web_of t)
-  pub cut_sound : IsSound (web_of t)
-  pub done : (k : ℕ) → k < 4 → AreWaiting (web_of t) (w.darts + 4 + k) []
-  pub reaches : ReachesCorners (web_of t)
-  pub few : t.vertices ≤ w.vertices + excess w + 4
+  pub enclosed : IsEnclosed w outside (dart_map_of t)
+  pub cut_sound : IsSound (dart_map_of t)
+  pub done : (k : ℕ) → k < 4 → AreWaiting (dart_map_of t) (w.darts + 4 + k) []
+  pub reaches : ReachesCorners (dart_map_of t)
+  pub few : t.vertices ≤ w.vertices + reflex_turns w + 4
   pub small : t.darts ≤ no_dart
 
 -- the lesser darts are darts
@@ -55,28 +55,28 @@ lesser_inside p =
     (λ i i_in. let below : i < darts p = omega (arith, i_in, length-range_with_len 0 (darts p)) in
     omega (arith, get_or-range_with_len 0 (darts p) i 0 below, below)))
 
-pub kept_paths : (p : PlaneModel) (shape : ShapeModel) (w : Web) (outside : ℕ) (t : DartTable) → IsMade p shape w outside t →
-    HasPaths (web_of t) (darts p) (reverse_dart p) (λ d. map angle_of (turns_at shape d))
+pub kept_paths : (p : PlaneModel) (shape : ShapeModel) (w : DartMap) (outside : ℕ) (t : DartTable) → IsMade p shape w outside t →
+    HasPaths (dart_map_of t) (darts p) (reverse_dart p) (λ d. map angle_of (turns_at shape d))
 kept_paths p shape w outside t made =
-    enclosed_paths w outside (web_of t) (darts p) (reverse_dart p) (λ d. map angle_of (turns_at shape d)) made.sound.linked
+    enclosed_paths w outside (dart_map_of t) (darts p) (reverse_dart p) (λ d. map angle_of (turns_at shape d)) made.sound.linked
     made.sound.meeting.quarter made.enclosed made.paths
 
--- the web is that of the plane's edges
-pub are_edges : (p : PlaneModel) (shape : ShapeModel) (w : Web) (outside : ℕ) (t : DartTable) → IsMade p shape w outside t →
-    AreEdges (vertices p) (web_of t) (darts p) (reverse_dart p) (λ d. map angle_of (turns_at shape d))
+-- the map is that of the plane's edges
+pub are_edges : (p : PlaneModel) (shape : ShapeModel) (w : DartMap) (outside : ℕ) (t : DartTable) → IsMade p shape w outside t →
+    AreEdges (vertices p) (dart_map_of t) (darts p) (reverse_dart p) (λ d. map angle_of (turns_at shape d))
 are_edges p shape w outside t made =
-    let keeps : Keeps w (web_of t) = enclosed_keeps w outside (web_of t) made.enclosed in
+    let keeps : Keeps w (dart_map_of t) = enclosed_keeps w outside (dart_map_of t) made.enclosed in
     let ends = plane_ends p made.plane in
-    let head_is : (d : ℕ) → d < darts p → (web_of t).head d ≡ head p d - 1 = λ d l.
+    let head_is : (d : ℕ) → d < darts p → (dart_map_of t).head d ≡ head p d - 1 = λ d l.
     keeps.head d (omega (arith, l, made.kept.few)) ∙ made.kept.heads d l in
-    let rows : HasRows (vertices p) w = record {
+    let chains : HasChains (vertices p) w = record {
       linked = made.sound.linked;
       heads = made.sound.meeting.head_in;
       few = omega (arith, made.counts.vertex_count);
-      rows = made.rows;
+      chains = made.chains;
     } in
     record {
-      rows = enclosed_rows (vertices p) w outside (web_of t) rows made.enclosed;
+      chains = enclosed_chains (vertices p) w outside (dart_map_of t) chains made.enclosed;
       narrow = made.small;
       paths = kept_paths p shape w outside t made;
       reverse_dart_in = ends.reverse_dart_inside;
@@ -92,21 +92,21 @@ are_edges p shape w outside t made =
           (ends.reverse_dart_tail d l ∙ sym heads ∙ ends.reverse_dart_head d l) heads);
     }
 
-pub paths_lie_apart : (p : PlaneModel) (shape : ShapeModel) (w : Web) (outside : ℕ) (t : DartTable) → IsMade p shape w outside t →
-    ArePathsApart p (web_of t)
+pub paths_lie_apart : (p : PlaneModel) (shape : ShapeModel) (w : DartMap) (outside : ℕ) (t : DartTable) → IsMade p shape w outside t →
+    ArePathsApart p (dart_map_of t)
 paths_lie_apart p shape w outside t made =
     let q : ℕ → List ℕ = λ d. map angle_of (turns_at shape d) in
     let are = are_edges p shape w outside t made in
     record {
-      back = paths_back (vertices p) (web_of t) (darts p) (reverse_dart p) q are;
-      once = paths_once (vertices p) (web_of t) (darts p) (reverse_dart p) q are;
-      apart = paths_apart (vertices p) (web_of t) (darts p) (reverse_dart p) q are;
+      back = paths_back (vertices p) (dart_map_of t) (darts p) (reverse_dart p) q are;
+      once = paths_once (vertices p) (dart_map_of t) (darts p) (reverse_dart p) q are;
+      apart = paths_apart (vertices p) (dart_map_of t) (darts p) (reverse_dart p) q are;
     }
 
-pub drawing_stands : (p : PlaneModel) (shape : ShapeModel) (w : Web) (outside : ℕ) (t : DartTable) (old : ℕ) (edges : List ℕ)
+pub drawing_stands : (p : PlaneModel) (shape : ShapeModel) (w : DartMap) (outside : ℕ) (t : DartTable) (old : ℕ) (edges : List ℕ)
     (paths : List (List ℕ)) → IsMade p shape w outside t → IsEnclosedDrawing p shape (parts_of t old edges paths)
 drawing_stands p shape w outside t old edges paths made =
-    let keeps : Keeps w (web_of t) = enclosed_keeps w outside (web_of t) made.enclosed in
+    let keeps : Keeps w (dart_map_of t) = enclosed_keeps w outside (dart_map_of t) made.enclosed in
     let e = made.enclosed in
     record {
       drawing = w;
@@ -121,19 +121,19 @@ drawing_stands p shape w outside t old edges paths made =
       heads = keeps.head;
       directions = keeps.direction;
       through = λ d first first' rest rest' _.
-          through w outside (web_of t) made.sound.linked made.sound.meeting.quarter e made.small d first first' rest rest';
-      rectangle = rectangle w outside (web_of t) made.sound.linked made.sound.meeting.quarter e made.done;
+          through w outside (dart_map_of t) made.sound.linked made.sound.meeting.quarter e made.small d first first' rest rest';
+      rectangle = rectangle w outside (dart_map_of t) made.sound.linked made.sound.meeting.quarter e made.done;
       right = e.right;
       right_in = e.right_in;
       turns_right = omega (arith, e.join.right, e.frame.angle_old e.right e.right_in);
       outer = e.same_face made.faces.label made.faces.turns.labels ∙ made.faces.faces outside made.outside_in ∙ made.outer;
-      join = join w outside (web_of t) made.sound.linked made.sound.meeting.quarter e;
+      join = join w outside (dart_map_of t) made.sound.linked made.sound.meeting.quarter e;
     }
 
 -- each edge has its path
-pub edge_path : (p : PlaneModel) (shape : ShapeModel) (w : Web) (outside : ℕ) (t : DartTable) (edges : List ℕ) → IsMade p shape w outside t →
+pub edge_path : (p : PlaneModel) (shape : ShapeModel) (w : DartMap) (outside : ℕ) (t : DartTable) (edges : List ℕ) → IsMade p shape w outside t →
     edges ≡ lesser_darts p → (e : ℕ) → e < length edges →
-    (first : ℕ) × (rest : List ℕ) × IsPath (web_of t) (slice_index edges e) first rest
+    (first : ℕ) × (rest : List ℕ) × IsPath (dart_map_of t) (slice_index edges e) first rest
 edge_path p shape w outside t edges made lesser e e_in =
     let at : e < length (lesser_darts p) = omega (arith, e_in, ap length lesser) in
     let inside : get_or (lesser_darts p) e 0 < darts p = All-get_or (λ d. d < darts p) (lesser_darts p) e 0 at (lesser_inside p) in
@@ -141,13 +141,13 @@ edge_path p shape w outside t edges made lesser e e_in =
     let path = (kept_paths p shape w outside t made).paths (slice_index edges e) here in
     (path.first, path.rest, path.path)
 
-pub are_boxes : (p : PlaneModel) (shape : ShapeModel) (w : Web) (outside : ℕ) (t : DartTable) (old : ℕ) (edges : List ℕ)
+pub are_boxes : (p : PlaneModel) (shape : ShapeModel) (w : DartMap) (outside : ℕ) (t : DartTable) (old : ℕ) (edges : List ℕ)
     (paths : List (List ℕ)) → IsMade p shape w outside t → old ≡ vertices p → edges ≡ lesser_darts p →
     length paths ≡ length edges →
-    ((e : ℕ) → e < length edges → (first : ℕ) (rest : List ℕ) → IsPath (web_of t) (slice_index edges e) first rest →
+    ((e : ℕ) → e < length edges → (first : ℕ) (rest : List ℕ) → IsPath (dart_map_of t) (slice_index edges e) first rest →
     slice_index_or paths e [] ≡ first ∷ rest) → AreBoxes (parts_of t old edges paths)
 are_boxes p shape w outside t old edges paths made all lesser count listed =
-    let keeps : Keeps w (web_of t) = enclosed_keeps w outside (web_of t) made.enclosed in
+    let keeps : Keeps w (dart_map_of t) = enclosed_keeps w outside (dart_map_of t) made.enclosed in
     let done = made.done 0 (omega arith) in
     let ends = plane_ends p made.plane in
     let edge : (e : ℕ) → e < length edges → HasEdge (parts_of t old edges paths) e = λ e e_in.
@@ -155,7 +155,7 @@ are_boxes p shape w outside t old edges paths made all lesser count listed =
     record { first = path.0; rest = path.1; path = path.2 } in
     record {
       sound = made.cut_sound;
-      joined = enclosed_joined w outside (web_of t) made.sound.linked made.joined made.enclosed;
+      joined = enclosed_joined w outside (dart_map_of t) made.sound.linked made.joined made.enclosed;
       faces = record {
         reaches = made.reaches;
         outside = w.darts + 4 + 0;
@@ -178,13 +178,13 @@ are_boxes p shape w outside t old edges paths made all lesser count listed =
       };
     }
 
-pub is_boxed : (p : PlaneModel) (shape : ShapeModel) (w : Web) (outside : ℕ) (t : DartTable) (old : ℕ) (edges : List ℕ)
+pub is_boxed : (p : PlaneModel) (shape : ShapeModel) (w : DartMap) (outside : ℕ) (t : DartTable) (old : ℕ) (edges : List ℕ)
     (paths : List (List ℕ)) → IsMade p shape w outside t → old ≡ vertices p → edges ≡ lesser_darts p →
     length paths ≡ length edges →
-    ((e : ℕ) → e < length edges → (first : ℕ) (rest : List ℕ) → IsPath (web_of t) (slice_index edges e) first rest →
+    ((e : ℕ) → e < length edges → (first : ℕ) (rest : List ℕ) → IsPath (dart_map_of t) (slice_index edges e) first rest →
     slice_index_or paths e [] ≡ first ∷ rest) → IsBoxed p shape (parts_of t old edges paths)
 is_boxed p shape w outside t old edges paths made all lesser count listed =
-    let keeps : Keeps w (web_of t) = enclosed_keeps w outside (web_of t) made.enclosed in
+    let keeps : Keeps w (dart_map_of t) = enclosed_keeps w outside (dart_map_of t) made.enclosed in
     let ends = plane_ends p made.plane in
     record {
       boxes = are_boxes p shape w outside t old edges paths made all lesser count listed;
@@ -195,12 +195,12 @@ is_boxed p shape w outside t old edges paths made all lesser count listed =
       heads = λ d d_in. keeps.head d (omega (arith, d_in, made.kept.few)) ∙ made.kept.heads d d_in;
       paths = kept_paths p shape w outside t made;
       apart = paths_lie_apart p shape w outside t made;
-      rows = (are_edges p shape w outside t made).rows.rows;
+      chains = (are_edges p shape w outside t made).chains.chains;
       enclosed = drawing_stands p shape w outside t old edges paths made;
       angles = λ d d_in.
           let m : ℕ = reverse_dart p (next p d) in
           let m_in : m < darts p = ends.reverse_dart_inside (next p d) (ends.next_one.inside d d_in) in
-          let there : (web_of t).direction m ≡ w.direction m = keeps.direction m (omega (arith, m_in, made.kept.few)) in
-          let here : (web_of t).direction d ≡ w.direction d = keeps.direction d (omega (arith, d_in, made.kept.few)) in
+          let there : (dart_map_of t).direction m ≡ w.direction m = keeps.direction m (omega (arith, m_in, made.kept.few)) in
+          let here : (dart_map_of t).direction d ≡ w.direction d = keeps.direction d (omega (arith, d_in, made.kept.few)) in
           ap (λ (k : ℕ). (k + angle_at shape d) % 4) there ∙ made.headings.angles d d_in ∙ sym here;
     }

@@ -1,16 +1,16 @@
 -- What a rectangle and cuts keep of the darts that were there before.
 use Rattle.std.proofs.Common.{◌≡◌, ℕ, ◌+◌, ◌<◌, ◌≤◌, ◌∙◌, refl, arith}
-use Rattle.cutting.specs.Webs.{Web, IsCut, Grows, same, further}
-use Rattle.cutting.specs.Frames.{IsFramed, IsEnclosed}
+use Rattle.dissect.specs.DartMaps.{DartMap, IsCut, Grows, same, further}
+use Rattle.dissect.specs.Frames.{IsFramed, IsEnclosed}
 
 -- a dart that was there keeps its head and its direction
-pub record Keeps (w new : Web) : Type 0 where
+pub record Keeps (w new : DartMap) : Type 0 where
   pub more : w.darts ≤ new.darts
   pub more_vertices : w.vertices ≤ new.vertices
   pub head : (a : ℕ) → a < w.darts → new.head a ≡ w.head a
   pub direction : (a : ℕ) → a < w.darts → new.direction a ≡ w.direction a
 
-pub cut_keeps : (w : Web) (d e way : ℕ) (new : Web) → IsCut w d e way new → Keeps w new
+pub cut_keeps : (w : DartMap) (d e way : ℕ) (new : DartMap) → IsCut w d e way new → Keeps w new
 cut_keeps w d e way new cut = record {
   more = omega (arith, cut.split.darts, cut.chord.darts);
   more_vertices = omega (arith, cut.split.vertices, cut.chord.vertices);
@@ -18,7 +18,7 @@ cut_keeps w d e way new cut = record {
   direction = λ a a_in. cut.chord.direction_old a (omega (arith, a_in, cut.split.darts)) ∙ cut.split.direction_old a a_in;
 }
 
-pub keeps_on : (w mid new : Web) → Keeps w mid → Keeps mid new → Keeps w new
+pub keeps_on : (w mid new : DartMap) → Keeps w mid → Keeps mid new → Keeps w new
 keeps_on w mid new one two = record {
   more = omega (arith, one.more, two.more);
   more_vertices = omega (arith, one.more_vertices, two.more_vertices);
@@ -26,7 +26,7 @@ keeps_on w mid new one two = record {
   direction = λ a a_in. two.direction a (omega (arith, a_in, one.more)) ∙ one.direction a a_in;
 }
 
-pub grows_keeps : (w new : Web) → Grows w new → Keeps w new
+pub grows_keeps : (w new : DartMap) → Grows w new → Keeps w new
 grows_keeps w _ same = record {
   more = omega (arith);
   more_vertices = omega (arith);
@@ -35,7 +35,7 @@ grows_keeps w _ same = record {
 }
 grows_keeps w new (further mid _ d e way grows cut) = keeps_on w mid new (grows_keeps w mid grows) (cut_keeps mid d e way new cut)
 
-pub frame_keeps : (w new : Web) → IsFramed w new → Keeps w new
+pub frame_keeps : (w new : DartMap) → IsFramed w new → Keeps w new
 frame_keeps w new frame = record {
   more = omega (arith, frame.darts);
   more_vertices = omega (arith, frame.vertices);
@@ -43,7 +43,7 @@ frame_keeps w new frame = record {
   direction = frame.direction_old;
 }
 
-pub enclosed_keeps : (w : Web) (outside : ℕ) (new : Web) → IsEnclosed w outside new → Keeps w new
+pub enclosed_keeps : (w : DartMap) (outside : ℕ) (new : DartMap) → IsEnclosed w outside new → Keeps w new
 enclosed_keeps w outside new e =
     keeps_on w e.joined new
     (keeps_on w e.framed e.joined (frame_keeps w e.framed e.frame) (cut_keeps e.framed e.right (w.darts + e.side) e.way e.joined e.join))

@@ -1,20 +1,20 @@
--- A drawing in its rectangle: the sides and the join stay straight rows of darts, whatever is cut.
+-- A drawing in its rectangle: the sides and the join stay straight chains of darts, whatever is cut.
 use Rattle.std.proofs.Common.{◌≡◌, ℕ, ◌+◌, ◌<◌, ◌∙◌, [], ◌∷◌, arith, subst, sym, ap, refl, inl, inr}
-use Rattle.cutting.specs.Webs.{Web, IsLinked}
-use Rattle.cutting.specs.Faces.{In, AreWaiting}
-use Rattle.cutting.specs.Paths.{HasPath}
-use Rattle.cutting.specs.Frames.{IsEnclosed}
-use Rattle.cutting.proofs.Splitting.{split_linked}
-use Rattle.edge_paths.proofs.Lengthening.{path_doubled, longer_end}
-use Rattle.edge_paths.proofs.Splits.{split_doubled}
-use Rattle.edge_paths.proofs.Joining.{cut_linked}
-use Rattle.edge_paths.proofs.Cuts.{AreQuarters, cut_quarters, chord_beside}
-use Rattle.edge_paths.proofs.Framing.{framed_linked, framed_quarters}
-use Rattle.edge_paths.proofs.Sides.{HasRow, beside_row, cut_row, grows_row}
+use Rattle.dissect.specs.DartMaps.{DartMap, IsLinked}
+use Rattle.dissect.specs.Faces.{In, AreWaiting}
+use Rattle.dissect.specs.Paths.{HasPath}
+use Rattle.dissect.specs.Frames.{IsEnclosed}
+use Rattle.dissect.proofs.Splitting.{split_linked}
+use Rattle.dissect.proofs.Lengthening.{path_doubled, longer_end}
+use Rattle.dissect.proofs.Splits.{split_doubled}
+use Rattle.dissect.proofs.StayingJoined.{cut_linked}
+use Rattle.dissect.proofs.Cuts.{AreQuarters, cut_quarters, chord_beside}
+use Rattle.dissect.proofs.FramedPaths.{framed_linked, framed_quarters}
+use Rattle.dissect.proofs.Sides.{HasRow, beside_row, cut_chain, grows_chain}
 use Rattle.dissect.specs.Rectangle.{HasRectangle, IsJoinedAt}
 use Rattle.dissect.proofs.Keeping.{Keeps, cut_keeps, grows_keeps, keeps_on}
 
-module _ (w : Web) (outside : ℕ) (new : Web) (linked : IsLinked w) (four : AreQuarters w) (e : IsEnclosed w outside new) where
+module _ (w : DartMap) (outside : ℕ) (new : DartMap) (linked : IsLinked w) (four : AreQuarters w) (e : IsEnclosed w outside new) where
   abbrev n : ℕ
   n = w.darts
 
@@ -33,15 +33,15 @@ module _ (w : Web) (outside : ℕ) (new : Web) (linked : IsLinked w) (four : Are
   four_joined : AreQuarters e.joined
   four_joined = cut_quarters e.framed e.right side_dart e.way e.joined four_framed e.join
 
-  -- a row of the framed web is one of the last
-  framed_row : (end reverse_dart held : ℕ) → HasRow e.framed end reverse_dart held [] → HasRow new end reverse_dart held []
-  framed_row end reverse_dart held row =
-      grows_row e.joined new end reverse_dart held [] linked_joined four_joined e.grows
-      (cut_row e.framed e.right side_dart e.way e.joined end reverse_dart held [] linked_framed (four_framed side_dart e.join.e_in) e.join row)
+  -- a chain of the framed map is one of the last
+  framed_chain : (end reverse_dart held : ℕ) → HasRow e.framed end reverse_dart held [] → HasRow new end reverse_dart held []
+  framed_chain end reverse_dart held chain =
+      grows_chain e.joined new end reverse_dart held [] linked_joined four_joined e.grows
+      (cut_chain e.framed e.right side_dart e.way e.joined end reverse_dart held [] linked_framed (four_framed side_dart e.join.e_in) e.join chain)
 
-  -- and so is a row of the joined web
-  joined_row : (end reverse_dart held : ℕ) → HasRow e.joined end reverse_dart held [] → HasRow new end reverse_dart held []
-  joined_row end reverse_dart held row = grows_row e.joined new end reverse_dart held [] linked_joined four_joined e.grows row
+  -- and so is a chain of the joined map
+  joined_chain : (end reverse_dart held : ℕ) → HasRow e.joined end reverse_dart held [] → HasRow new end reverse_dart held []
+  joined_chain end reverse_dart held chain = grows_chain e.joined new end reverse_dart held [] linked_joined four_joined e.grows chain
 
   keeps_joined : Keeps e.joined new
   keeps_joined = grows_keeps e.joined new e.grows
@@ -57,7 +57,7 @@ module _ (w : Web) (outside : ℕ) (new : Web) (linked : IsLinked w) (four : Are
 
   inner_row : (k : ℕ) → k < 4 → HasPath new (n + k) (n + 4 + k) []
   inner_row k l =
-      (framed_row (n + k) (n + 4 + k) (n + k) (record {
+      (framed_chain (n + k) (n + 4 + k) (n + k) (record {
         path = record {
           first = n + k;
           rest = [];
@@ -76,7 +76,7 @@ module _ (w : Web) (outside : ℕ) (new : Web) (linked : IsLinked w) (four : Are
 
   outer_row : (k : ℕ) → k < 4 → HasPath new (n + 4 + k) (n + k) []
   outer_row k l =
-      (framed_row (n + 4 + k) (n + k) (n + 4 + k) (record {
+      (framed_chain (n + 4 + k) (n + k) (n + 4 + k) (record {
         path = record {
           first = n + 4 + k;
           rest = [];
@@ -153,7 +153,7 @@ module _ (w : Web) (outside : ℕ) (new : Web) (linked : IsLinked w) (four : Are
   -- the side that was cut goes through the end of the join
   side_row : HasRow new side_dart (n + 4 + e.side) e.framed.darts []
   side_row =
-      joined_row side_dart (n + 4 + e.side) e.framed.darts
+      joined_chain side_dart (n + 4 + e.side) e.framed.darts
       (beside_row e.join.middle e.joined side_dart (n + 4 + e.side) e.framed.darts []
       (chord_beside e.join.middle e.right e.framed.darts e.way e.joined
       (split_linked e.framed side_dart (e.framed.direction side_dart) 2 e.join.middle linked_framed e.join.e_in e.join.split) e.join.chord)
@@ -194,9 +194,9 @@ module _ (w : Web) (outside : ℕ) (new : Web) (linked : IsLinked w) (four : Are
       let right_head : new.head e.right ≡ e.join.middle.head e.right =
       keeps_framed.head e.right right_framed ∙ sym (e.join.split.head_old e.right right_framed) in
       record {
-        row = record {
-          there = (joined_row (n + 10) (n + 11) (n + 10) (record { path = join_row; holds = inl refl })).path;
-          again = (joined_row (n + 11) (n + 10) (n + 11) (record { path = join_row_back; holds = inl refl })).path;
+        chain = record {
+          there = (joined_chain (n + 10) (n + 11) (n + 10) (record { path = join_row; holds = inl refl })).path;
+          again = (joined_chain (n + 11) (n + 10) (n + 11) (record { path = join_row_back; holds = inl refl })).path;
         };
         from = keeps_joined.head (n + 11) back_in ∙ ap e.joined.head (sym second) ∙ e.join.chord.head_back ∙ sym right_head;
         leaves = omega (arith, way, right_way, middle_way, middle_angle, e.join.fits.from_d);

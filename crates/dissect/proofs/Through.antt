@@ -1,17 +1,17 @@
 -- The path of an edge goes through the darts that it was made of, in their order, whatever is cut.
 use Rattle.std.proofs.Common.{◌≡◌, ℕ, ◌+◌, ◌<◌, ◌≤◌, ◌⊎◌, ◌∙◌, List, [], ◌∷◌, arith, subst, sym, refl, inl, inr}
 use Rattle.std.proofs.lemmas.Bool.{cases_eq}
-use Rattle.cutting.specs.Webs.{Web, no_dart, IsLinked, IsSplit, IsCut, Grows, same, further}
-use Rattle.cutting.specs.Faces.{last_of, Below}
-use Rattle.cutting.specs.Paths.{Follows, IsPath}
-use Rattle.cutting.specs.Frames.{IsEnclosed}
-use Rattle.cutting.proofs.Splitting.{split_linked}
-use Rattle.edge_paths.proofs.Backwards.{path_unique}
-use Rattle.edge_paths.proofs.Lengthening.{KeepsHeads, IsKept, IsDoubled}
-use Rattle.edge_paths.proofs.Splits.{split_keeps, split_kept, split_doubled, split_doubled_back}
-use Rattle.edge_paths.proofs.Joining.{grows_linked, cut_linked}
-use Rattle.edge_paths.proofs.Cuts.{IsBeside, chord_beside, AreQuarters, cut_quarters, grows_quarters}
-use Rattle.edge_paths.proofs.Framing.{framed_linked, framed_quarters, framed_beside}
+use Rattle.dissect.specs.DartMaps.{DartMap, no_dart, IsLinked, IsSubdivided, IsCut, Grows, same, further}
+use Rattle.dissect.specs.Faces.{last_of, Below}
+use Rattle.dissect.specs.Paths.{Follows, IsPath}
+use Rattle.dissect.specs.Frames.{IsEnclosed}
+use Rattle.dissect.proofs.Splitting.{split_linked}
+use Rattle.dissect.proofs.Backwards.{path_unique}
+use Rattle.dissect.proofs.Lengthening.{KeepsHeads, IsKept, IsDoubled}
+use Rattle.dissect.proofs.Splits.{split_keeps, split_kept, split_doubled, split_doubled_back}
+use Rattle.dissect.proofs.StayingJoined.{grows_linked, cut_linked}
+use Rattle.dissect.proofs.Cuts.{IsBeside, chord_beside, AreQuarters, cut_quarters, grows_quarters}
+use Rattle.dissect.proofs.FramedPaths.{framed_linked, framed_quarters, framed_beside}
 use Rattle.dissect.specs.Boxed.{StandOn}
 
 pub stands_itself : (xs : List ℕ) → StandOn xs xs
@@ -27,23 +27,23 @@ stands_further (x ∷ xs) (y ∷ ys) (z ∷ zs) (inr later) (inl (met, rest)) = 
 stands_further (x ∷ xs) (y ∷ ys) (z ∷ zs) one (inr later) = inr (stands_further (x ∷ xs) (y ∷ ys) zs one later)
 
 -- the dart b has before it what it had, or one new dart, before which stands what stood before b
-abbrev pub StaysBehind : Web → Web → ℕ → Type 0
+abbrev pub StaysBehind : DartMap → DartMap → ℕ → Type 0
 StaysBehind w new b = IsKept w new b ⊎ ((front : ℕ) × IsDoubled w new b front 0)
 
--- a web with more darts, where each old dart stays behind what it was behind
-pub record IsStep (w new : Web) : Type 0 where
+-- a map with more darts, where each old dart stays behind what it was behind
+pub record IsStep (w new : DartMap) : Type 0 where
   pub keeps : KeepsHeads w new
   pub stays : (b : ℕ) → b < w.darts → StaysBehind w new b
 
--- what follows the dart a in the new web goes through the list
-pub record IsSpread (w new : Web) (a : ℕ) (rest : List ℕ) : Type 0 where
+-- what follows the dart a in the new map goes through the list
+pub record IsSpread (w new : DartMap) (a : ℕ) (rest : List ℕ) : Type 0 where
   pub list : List ℕ
   pub inside : Below new.darts list
   pub follows : Follows new a list
   pub last : last_of a list ≡ last_of a rest
   pub holds : StandOn rest list
 
-spread : (w new : Web) → IsStep w new → (a : ℕ) (rest : List ℕ) → a < w.darts → Below w.darts rest → Follows w a rest →
+spread : (w new : DartMap) → IsStep w new → (a : ℕ) (rest : List ℕ) → a < w.darts → Below w.darts rest → Follows w a rest →
     IsSpread w new a rest
 spread w new step a [] a_in below follows = record { list = []; inside = tt; follows = tt; last = refl; holds = tt }
 spread w new step a (b ∷ bs) a_in below follows =
@@ -67,13 +67,13 @@ spread w new step a (b ∷ bs) a_in below follows =
     ]
 
 -- the path that ends with the dart `end` goes through the darts of the list
-pub record GoesThrough (w : Web) (end : ℕ) (held : List ℕ) : Type 0 where
+pub record GoesThrough (w : DartMap) (end : ℕ) (held : List ℕ) : Type 0 where
   pub first : ℕ
   pub rest : List ℕ
   pub path : IsPath w end first rest
   pub holds : StandOn held (first ∷ rest)
 
-step_through : (w new : Web) (end : ℕ) (held : List ℕ) → IsStep w new → GoesThrough w end held → GoesThrough new end held
+step_through : (w new : DartMap) (end : ℕ) (held : List ℕ) → IsStep w new → GoesThrough w end held → GoesThrough new end held
 step_through w new end held step old =
     let f : ℕ = old.first in
     let path = old.path in
@@ -105,10 +105,10 @@ step_through w new end held step old =
       }
     ]
 
-beside_step : (w new : Web) → IsBeside w new → IsStep w new
+beside_step : (w new : DartMap) → IsBeside w new → IsStep w new
 beside_step w new beside = record { keeps = beside.keeps; stays = λ b l. inl (beside.kept b l) }
 
-split_step : (w : Web) (e way : ℕ) (new : Web) → IsLinked w → e < w.darts → way < 4 → IsSplit w e way 2 new → IsStep w new
+split_step : (w : DartMap) (e way : ℕ) (new : DartMap) → IsLinked w → e < w.darts → way < 4 → IsSubdivided w e way 2 new → IsStep w new
 split_step w e way new linked e_in quarter split = record {
   keeps = split_keeps w e way 2 new split;
   stays = λ b l. elim (cases_eq b e) [
@@ -122,21 +122,21 @@ split_step w e way new linked e_in quarter split = record {
   ];
 }
 
-cut_through : (w : Web) (d e way : ℕ) (new : Web) (end : ℕ) (held : List ℕ) → IsLinked w → w.direction e < 4 → IsCut w d e way new →
+cut_through : (w : DartMap) (d e way : ℕ) (new : DartMap) (end : ℕ) (held : List ℕ) → IsLinked w → w.direction e < 4 → IsCut w d e way new →
     GoesThrough w end held → GoesThrough new end held
 cut_through w d e way new end held linked quarter cut old =
     let linked_middle = split_linked w e (w.direction e) 2 cut.middle linked cut.e_in cut.split in
     step_through cut.middle new end held (beside_step cut.middle new (chord_beside cut.middle d w.darts way new linked_middle cut.chord))
     (step_through w cut.middle end held (split_step w e (w.direction e) cut.middle linked cut.e_in quarter cut.split) old)
 
-grows_through : (w new : Web) (end : ℕ) (held : List ℕ) → IsLinked w → AreQuarters w → Grows w new → GoesThrough w end held →
+grows_through : (w new : DartMap) (end : ℕ) (held : List ℕ) → IsLinked w → AreQuarters w → Grows w new → GoesThrough w end held →
     GoesThrough new end held
 grows_through w new end held linked four same old = old
 grows_through w new end held linked four (further mid last d e way grows cut) old =
     cut_through mid d e way last end held (grows_linked w mid linked grows) (grows_quarters w mid four grows e cut.e_in) cut
     (grows_through w mid end held linked four grows old)
 
-enclosed_through : (w : Web) (outside : ℕ) (new : Web) (end : ℕ) (held : List ℕ) → IsLinked w → AreQuarters w →
+enclosed_through : (w : DartMap) (outside : ℕ) (new : DartMap) (end : ℕ) (held : List ℕ) → IsLinked w → AreQuarters w →
     IsEnclosed w outside new → GoesThrough w end held → GoesThrough new end held
 enclosed_through w outside new end held linked four e old =
     let side : ℕ = w.darts + e.side in
@@ -148,8 +148,8 @@ enclosed_through w outside new end held linked four e old =
     (cut_through e.framed e.right side e.way e.joined end held linked_framed (four_framed side e.join.e_in) e.join
     (step_through w e.framed end held (beside_step w e.framed (framed_beside w e.framed linked e.frame)) old))
 
--- what was a path of the web stands on the path with the same end in what it grew to
-pub through : (w : Web) (outside : ℕ) (new : Web) → IsLinked w → AreQuarters w → IsEnclosed w outside new → new.darts ≤ no_dart →
+-- what was a path of the map stands on the path with the same end in what it grew to
+pub through : (w : DartMap) (outside : ℕ) (new : DartMap) → IsLinked w → AreQuarters w → IsEnclosed w outside new → new.darts ≤ no_dart →
     (end first first' : ℕ) (rest rest' : List ℕ) → IsPath w end first rest → IsPath new end first' rest' →
     StandOn (first ∷ rest) (first' ∷ rest')
 through w outside new linked four e narrow end first first' rest rest' path path' =

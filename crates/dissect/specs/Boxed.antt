@@ -4,18 +4,18 @@ use Rattle.faces.specs.Planes.{PlaneModel, darts, vertices, head, reverse_dart, 
 use Rattle.ortho_rep.specs.Shapes.{ShapeModel, angle_at, turns_at}
 use Rattle.ortho_rep.specs.Edges.{lesser_darts}
 use Rattle.ortho_rep.specs.Representation.{bends_of}
-use Rattle.cutting.specs.Webs.{Web, IsSound}
-use Rattle.cutting.specs.Faces.{In, Distinct}
-use Rattle.cutting.specs.Paths.{HasPaths, IsPath}
-use Rattle.bending.specs.Bends.{AreHeadings, CountsBends, KeepsDarts, KeepsFaces}
-use Rattle.bending.specs.Steps.{angle_of}
-use Rattle.edge_paths.specs.Rows.{AreRows}
-use Rattle.dissect.specs.Boxes.{BoxesModel, AreBoxes, web}
+use Rattle.dissect.specs.DartMaps.{DartMap, IsSound}
+use Rattle.dissect.specs.Faces.{In, Distinct}
+use Rattle.dissect.specs.Paths.{HasPaths, IsPath}
+use Rattle.dissect.specs.Bends.{AreHeadings, CountsBends, KeepsDarts, KeepsFaces}
+use Rattle.dissect.specs.Steps.{angle_of}
+use Rattle.dissect.specs.Chains.{AreChains}
+use Rattle.dissect.specs.Boxes.{BoxesModel, AreBoxes, dart_map}
 use Rattle.dissect.specs.Rectangle.{HasRectangle, IsJoinedAt}
 
 -- the drawing of the shape, with straight edges, before anything is put round it: it has the plane's vertices and darts, a
 -- vertex at each bend, and the plane's faces
-pub record IsDrawing (p : PlaneModel) (shape : ShapeModel) (w : Web) : Type 0 where
+pub record IsDrawing (p : PlaneModel) (shape : ShapeModel) (w : DartMap) : Type 0 where
   pub sound : IsSound w
   pub kept : KeepsDarts p (angle_at shape) w
   pub directions : AreHeadings p (angle_at shape) (turns_at shape) w.direction
@@ -31,23 +31,23 @@ StandOn (a ∷ rest) (b ∷ others) = ((a ≡ b) × StandOn rest others) ⊎ Sta
 
 -- the drawing of the shape stands in the boxes, in a rectangle to which it is joined at a right turn of its outer face
 pub record IsEnclosedDrawing (p : PlaneModel) (shape : ShapeModel) (b : BoxesModel) : Type 0 where
-  pub drawing : Web
+  pub drawing : DartMap
   pub drawn : IsDrawing p shape drawing
   -- its darts arrive where and as they did
-  pub heads : (a : ℕ) → a < drawing.darts → (web b).head a ≡ drawing.head a
-  pub directions : (a : ℕ) → a < drawing.darts → (web b).direction a ≡ drawing.direction a
+  pub heads : (a : ℕ) → a < drawing.darts → (dart_map b).head a ≡ drawing.head a
+  pub directions : (a : ℕ) → a < drawing.darts → (dart_map b).direction a ≡ drawing.direction a
   -- a dart of the plane has all darts of its path in the drawing on its path in the boxes, in their order
   pub through : (d first first' : ℕ) (rest rest' : List ℕ) → d < darts p → IsPath drawing d first rest →
-      IsPath (web b) d first' rest' → StandOn (first ∷ rest) (first' ∷ rest')
-  pub rectangle : HasRectangle drawing (web b)
+      IsPath (dart_map b) d first' rest' → StandOn (first ∷ rest) (first' ∷ rest')
+  pub rectangle : HasRectangle drawing (dart_map b)
   pub right : ℕ
   pub right_in : right < drawing.darts
   pub turns_right : 2 < drawing.angle right
   pub outer : drawn.faces.label right ≡ p.outer
-  pub join : IsJoinedAt drawing right (web b)
+  pub join : IsJoinedAt drawing right (dart_map b)
 
 -- the paths of the plane's darts lie apart
-pub record ArePathsApart (p : PlaneModel) (w : Web) : Type 0 where
+pub record ArePathsApart (p : PlaneModel) (w : DartMap) : Type 0 where
   -- the path of a dart's reverse has the reverses of its own darts, last first
   pub back : (d first first' : ℕ) (rest rest' : List ℕ) → d < darts p → IsPath w d first rest → IsPath w (reverse_dart p d) first' rest' →
       first' ∷ rest' ≡ map w.reverse_dart (reverse (first ∷ rest))
@@ -62,21 +62,21 @@ pub record ArePathsApart (p : PlaneModel) (w : Web) : Type 0 where
 pub record IsBoxed (p : PlaneModel) (shape : ShapeModel) (b : BoxesModel) : Type 0 where
   -- they run straight in four directions round vertices, are joined, and each face of them is a box but the outside
   pub boxes : AreBoxes b
-  -- the plane's vertices are the first ones, and its edges are told by their lesser darts
+  -- the plane's vertices are the first ones, and its edges are named by their lesser darts
   pub old : b.old ≡ vertices p
   pub edges : b.edges ≡ lesser_darts p
   pub halves : 2 * length b.edges ≡ darts p
   -- there are at most three vertices for one of the plane, two for a bend, and five
   pub few : b.vertices ≤ 3 * vertices p + 2 * bends_of (darts p) (turns_at shape) + 5
   -- each dart of the plane is the last piece of a path that sets out where its reverse arrives, and turns as its string says
-  pub heads : (d : ℕ) → d < darts p → (web b).head d ≡ head p d - 1
-  pub paths : HasPaths (web b) (darts p) (reverse_dart p) (λ d. map angle_of (turns_at shape d))
+  pub heads : (d : ℕ) → d < darts p → (dart_map b).head d ≡ head p d - 1
+  pub paths : HasPaths (dart_map b) (darts p) (reverse_dart p) (λ d. map angle_of (turns_at shape d))
   -- it comes to no vertex twice, its reverse takes it the other way, and no other dart shares a piece of it
-  pub apart : ArePathsApart p (web b)
+  pub apart : ArePathsApart p (dart_map b)
   -- paths meet nowhere but at their ends, which are vertices of the plane: between the darts of a path, of a side of the rectangle and
   -- of the join lie vertices that are on no other, and are none of the plane's
-  pub rows : AreRows (vertices p) (web b)
+  pub chains : AreChains (vertices p) (dart_map b)
   -- at its head it makes its angle with the next dart: the reverse of the next dart arrives so many quarters to the right
-  pub angles : (d : ℕ) → d < darts p → ((web b).direction (reverse_dart p (next p d)) + angle_at shape d) % 4 ≡ (web b).direction d
+  pub angles : (d : ℕ) → d < darts p → ((dart_map b).direction (reverse_dart p (next p d)) + angle_at shape d) % 4 ≡ (dart_map b).direction d
   -- round the whole stands a rectangle, joined to it at a right turn of the plane's outer face
   pub enclosed : IsEnclosedDrawing p shape b

@@ -1,10 +1,10 @@
 -- What callers see of `Boxes`: a drawing in four directions, and which of its parts are those of a plane.
 use Rattle.std.specs.Prelude.{◌≡◌, ℕ, ◌<◌, ◌≤◌, ◌⊎◌, List, [], ◌∷◌, length, slice_index, slice_index_or}
 use Rattle.embedding.specs.declared.graphs.TheConstants.{MAX_EDGES}
-use Rattle.cutting.specs.declared.table.DartTable.{DartTable}
-use Rattle.cutting.specs.Webs.{Web, IsSound, no_dart}
-use Rattle.cutting.specs.Faces.{IsCorner, IsRectangle, IsOutside, ReachesCorners}
-use Rattle.cutting.specs.Paths.{IsPath, IsJoined}
+use Rattle.dissect.specs.declared.table.DartTable.{DartTable}
+use Rattle.dissect.specs.DartMaps.{DartMap, IsSound, no_dart}
+use Rattle.dissect.specs.Faces.{IsCorner, IsRectangle, IsOutside, ReachesCorners}
+use Rattle.dissect.specs.Paths.{IsPath, IsConnected}
 
 pub record BoxesModel : Type 0 where
   -- how many darts and vertices there are
@@ -18,16 +18,16 @@ pub record BoxesModel : Type 0 where
   pub direction : List ℕ
   pub angle : List ℕ
   pub before : List ℕ
-  -- vertex v of the plane is the vertex v - 1 of the web, so many of them there are
+  -- vertex v of the plane is the vertex v - 1 of the map, so many of them there are
   pub old : ℕ
-  -- the lesser darts of the plane's edges, each of which is a dart of the web too: the last one on its edge
+  -- the lesser darts of the plane's edges, each of which is a dart of the map too: the last one on its edge
   pub edges : List ℕ
   -- the darts that each of these edges is made of, in walking order
   pub paths : List (List ℕ)
 
 -- the drawing that the parts are
-abbrev pub web : BoxesModel → Web
-web b = record {
+abbrev pub dart_map : BoxesModel → DartMap
+dart_map b = record {
   darts = b.darts;
   vertices = b.vertices;
   next = λ a. slice_index b.next a;
@@ -56,11 +56,11 @@ parts_of t old edges paths = record {
   paths = paths;
 }
 
--- the edge e of the plane is a path of the web
+-- the edge e of the plane is a path of the map
 pub record HasEdge (b : BoxesModel) (e : ℕ) : Type 0 where
   pub first : ℕ
   pub rest : List ℕ
-  pub path : IsPath (web b) (slice_index b.edges e) first rest
+  pub path : IsPath (dart_map b) (slice_index b.edges e) first rest
 
 -- these are the darts of the path that the edge e of the plane is, in walking order
 pub record IsEdgePath (b : BoxesModel) (e : ℕ) (darts : List ℕ) : Type 0 where
@@ -68,7 +68,7 @@ pub record IsEdgePath (b : BoxesModel) (e : ℕ) (darts : List ℕ) : Type 0 whe
   pub listed : darts ≡ edge.first ∷ edge.rest
 
 -- each face is a box, with four left turns, but for the outside of the whole, which has four right turns
-pub record IsCutUp (w : Web) : Type 0 where
+pub record IsCutUp (w : DartMap) : Type 0 where
   pub reaches : ReachesCorners w
   -- a dart of the outside
   pub outside : ℕ
@@ -78,9 +78,9 @@ pub record IsCutUp (w : Web) : Type 0 where
 
 -- what is kept of all boxes: edges run straight in four directions and meet at vertices; the parts of the plane are there
 pub record AreBoxes (b : BoxesModel) : Type 0 where
-  pub sound : IsSound (web b)
-  pub joined : IsJoined (web b)
-  pub faces : IsCutUp (web b)
+  pub sound : IsSound (dart_map b)
+  pub joined : IsConnected (dart_map b)
+  pub faces : IsCutUp (dart_map b)
   pub few_darts : b.darts ≤ no_dart
   pub old_in : b.old ≤ b.vertices
   pub old_few : b.old ≤ 255

@@ -2,7 +2,7 @@
 use Rattle.std.specs.Prelude.{◌≡◌, ℕ, List, length, slice_index}
 use Rattle.faces.specs.Planes.{PlaneModel, darts}
 use Rattle.ortho_rep.specs.Shapes.{ShapeModel, angle_at, turns_at}
-use Rattle.bending.specs.Bends.{AreHeadings}
+use Rattle.dissect.specs.Bends.{AreHeadings}
 
 -- the list has for each dart of the plane a direction in which it arrives, as the angles and strings of the shape ask
 pub record AreHeadingsOf (p : PlaneModel) (shape : ShapeModel) (headings : List ℕ) : Type 0 where

@@ -2,19 +2,19 @@
 use Rattle.std.specs.Prelude.{◌≡◌, ℕ, ◌<◌, ◌≤◌, ◌⊎◌, map, length}
 use Rattle.std.specs.List.{range_with_len}
 use Rattle.ortho_rep.specs.declared.points.TheConstants.{MAX_COORDINATE}
-use Rattle.cutting.specs.Webs.{Web}
-use Rattle.cutting.specs.Paths.{turning_places}
+use Rattle.dissect.specs.DartMaps.{DartMap}
+use Rattle.dissect.specs.Paths.{turning_places}
 use Rattle.ortho_rep.specs.declared.points.Point.{Point}
 use Rattle.ortho_rep.specs.Points.{PointsModel, corners_at}
-use Rattle.dissect.specs.Boxes.{BoxesModel, HasEdge, web}
+use Rattle.dissect.specs.Boxes.{BoxesModel, HasEdge, dart_map}
 
 -- the vertex that a dart comes from
-abbrev pub tail : Web → ℕ → ℕ
+abbrev pub tail : DartMap → ℕ → ℕ
 tail w a = w.head (w.reverse_dart a)
 
 -- along a dart to the east x grows and y stays, along a dart to the north y grows and x stays; so the other way
 -- round to the west and south
-pub record IsOrdered (w : Web) (x y : ℕ → ℕ) : Type 0 where
+pub record IsOrdered (w : DartMap) (x y : ℕ → ℕ) : Type 0 where
   pub east : (a : ℕ) → a < w.darts → w.direction a ≡ 0 → (x (tail w a) < x (w.head a)) × (y (tail w a) ≡ y (w.head a))
   pub north : (a : ℕ) → a < w.darts → w.direction a ≡ 1 → (y (tail w a) < y (w.head a)) × (x (tail w a) ≡ x (w.head a))
 
@@ -32,21 +32,21 @@ pub record AreTaken (b : BoxesModel) (x y : ℕ → ℕ) (points : PointsModel) 
   pub vertex_count : length points.vertices ≡ b.old
   pub count : length points.corners ≡ length b.edges
   pub corners : (e : ℕ) → e < length b.edges → (edge : HasEdge b e)
-      → corners_at points e ≡ map (point_at x y) (turning_places (web b) edge.first edge.rest)
+      → corners_at points e ≡ map (point_at x y) (turning_places (dart_map b) edge.first edge.rest)
 
 -- the points are taken from some numbers in order, within the grid
 pub record AreLaidOut (b : BoxesModel) (points : PointsModel) : Type 0 where
   pub x : ℕ → ℕ
   pub y : ℕ → ℕ
-  pub ordered : IsOrdered (web b) x y
+  pub ordered : IsOrdered (dart_map b) x y
   -- the least there are: the lengths of longest paths
-  pub x_least : (x1 y1 : ℕ → ℕ) → IsOrdered (web b) x1 y1 → (v : ℕ) → v < b.vertices → x v ≤ x1 v
-  pub y_least : (x1 y1 : ℕ → ℕ) → IsOrdered (web b) x1 y1 → (v : ℕ) → v < b.vertices → y v ≤ y1 v
+  pub x_least : (x1 y1 : ℕ → ℕ) → IsOrdered (dart_map b) x1 y1 → (v : ℕ) → v < b.vertices → x v ≤ x1 v
+  pub y_least : (x1 y1 : ℕ → ℕ) → IsOrdered (dart_map b) x1 y1 → (v : ℕ) → v < b.vertices → y v ≤ y1 v
   pub x_within : AreWithin b.vertices x
   pub y_within : AreWithin b.vertices y
   pub taken : AreTaken b x y points
 
 -- no numbers in order are all within the grid
 abbrev pub HasNoPlace : BoxesModel → Type 0
-HasNoPlace b = (x y : ℕ → ℕ) → IsOrdered (web b) x y
+HasNoPlace b = (x y : ℕ → ℕ) → IsOrdered (dart_map b) x y
     → (v : ℕ) × (v < b.vertices) × ((MAX_COORDINATE < x v) ⊎ (MAX_COORDINATE < y v))

@@ -1,18 +1,18 @@
 //! A drawing in four directions whose faces are boxes, but for the outside.
 
 ghost use Rattle.std.specs.Prelude.{◌≡◌, ◌≢◌, ◌-◌, ◌<◌, ◌≤◌, ◌^◌, length, slice_index, IfSome, IfNone};
-ghost use Rattle.cutting.specs.Webs.{no_dart};
-ghost use Rattle.directions.specs.Directions.{quarters};
-ghost use Rattle.dissect.specs.Boxes.{AreBoxes, IsEdgePath, parts_of, web};
+ghost use Rattle.dissect.specs.DartMaps.{no_dart};
+ghost use Rattle.geometry.specs.Directions.{quarters};
+ghost use Rattle.dissect.specs.Boxes.{AreBoxes, IsEdgePath, parts_of, dart_map};
 
 use crate::scratch::Scratch;
-use cutting::{DartTable, NO_DART};
-use directions::Direction;
-use ortho_rep::JoinedLists;
+use crate::table::{DartTable, NO_DART};
+use geometry::Direction;
+use ortho_rep::FlatLists;
 use std::marker::Model;
 
 /// A dissection: the drawing of a plane in four directions, enclosed in a rectangle and cut until each
-/// face but the outside is a box. Its edges have no bends. In contracts it is a `BoxesModel`: a web of
+/// face but the outside is a box. Its edges have no bends. In contracts it is a `BoxesModel`: a map of
 /// darts, how many vertices of it are the plane's, the lesser darts of the plane's edges, and their paths.
 ///
 /// Vertices and darts are numbered from 0. The plane's vertex v is vertex v - 1; a dart of the plane
@@ -24,7 +24,7 @@ pub struct Boxes {
     table: DartTable,
     old: u8,
     edges: Vec<u16>,
-    paths: JoinedLists<u32>,
+    paths: FlatLists<u32>,
 }
 
 impl Model for Boxes {
@@ -39,7 +39,7 @@ impl Model for Boxes {
 
 impl Boxes {
     /// The boxes that a table holds, for a plane of so many vertices, these lesser darts and their paths.
-    pub(crate) fn of(table: DartTable, old: u8, edges: Vec<u16>, paths: JoinedLists<u32>) -> Boxes
+    pub(crate) fn of(table: DartTable, old: u8, edges: Vec<u16>, paths: FlatLists<u32>) -> Boxes
         requires { AreBoxes (parts_of table old edges.items paths) }
         ensures { result ≡ parts_of table old edges.items paths }
     {
@@ -79,7 +79,7 @@ impl Boxes {
     /// The vertex that a dart comes from.
     pub fn tail(&self, dart: u32) -> u32
         requires { dart < self.now.darts }
-        ensures value { result ≡ (web self.now).head ((web self.now).reverse_dart dart) }
+        ensures value { result ≡ (dart_map self.now).head ((dart_map self.now).reverse_dart dart) }
         ensures inside { result < self.now.vertices }
     {
         self.table.head[self.table.reverse_dart[dart as usize] as usize]
@@ -88,7 +88,7 @@ impl Boxes {
     /// The vertex that a dart goes to.
     pub fn head(&self, dart: u32) -> u32
         requires { dart < self.now.darts }
-        ensures value { result ≡ (web self.now).head dart }
+        ensures value { result ≡ (dart_map self.now).head dart }
         ensures inside { result < self.now.vertices }
     {
         self.table.head[dart as usize]
@@ -97,7 +97,7 @@ impl Boxes {
     /// The dart along the same edge the other way.
     pub fn reverse(&self, dart: u32) -> u32
         requires { dart < self.now.darts }
-        ensures value { result ≡ (web self.now).reverse_dart dart }
+        ensures value { result ≡ (dart_map self.now).reverse_dart dart }
         ensures inside { result < self.now.darts }
     {
         self.table.reverse_dart[dart as usize]
@@ -106,7 +106,7 @@ impl Boxes {
     /// The next dart of the face on the left.
     pub fn next(&self, dart: u32) -> u32
         requires { dart < self.now.darts }
-        ensures value { result ≡ (web self.now).next dart }
+        ensures value { result ≡ (dart_map self.now).next dart }
         ensures inside { result < self.now.darts }
     {
         self.table.next[dart as usize]
@@ -115,19 +115,19 @@ impl Boxes {
     /// The direction in which a dart runs.
     pub fn direction(&self, dart: u32) -> Direction
         requires { dart < self.now.darts }
-        ensures value { quarters result ≡ (web self.now).direction dart }
+        ensures value { quarters result ≡ (dart_map self.now).direction dart }
         ensures boxes { AreBoxes self.now }
     {
         Direction::from_quarters(self.table.direction[dart as usize])
     }
 
-    /// The dart in front of a dart on the same row, which is an edge of the plane, a side of the rectangle,
+    /// The dart in front of a dart on the same chain, which is an edge of the plane, a side of the rectangle,
     /// its join or a cut; none where it is the first one.
     pub fn before(&self, dart: u32) -> Option<u32>
         requires { dart < self.now.darts }
-        ensures some { IfSome result (λ front. front ≡ (web self.now).before dart) }
+        ensures some { IfSome result (λ front. front ≡ (dart_map self.now).before dart) }
         ensures real { IfSome result (λ front. front ≢ no_dart) }
-        ensures none { IfNone result ((web self.now).before dart ≡ no_dart) }
+        ensures none { IfNone result ((dart_map self.now).before dart ≡ no_dart) }
         ensures boxes { AreBoxes self.now }
     {
         let front = self.table.before[dart as usize];

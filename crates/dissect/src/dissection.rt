@@ -6,10 +6,12 @@ ghost use Rattle.dissect.specs.Boxed.{IsBoxed};
 ghost use Rattle.dissect.specs.Headed.{AreHeadingsOf};
 
 use crate::boxes::Boxes;
+use crate::edges::lesser_darts_of;
+use crate::heading_search::{Search, headings_in};
+use crate::normalization::normalize_into;
 use crate::parts::paths_of;
+use crate::refinement::refine_in;
 use crate::scratch::Scratch;
-use bending::{Search, bend_into, headings_in, lesser_darts_of};
-use enclosing::enclose_in;
 use faces::Plane;
 use ortho_rep::Shape;
 use std::alloc::{AllocError, Global};
@@ -80,9 +82,9 @@ pub fn dissect_along(
         starts,
     } = mem::replace(scratch, Scratch::empty(alloc));
     let edges = lesser_darts_of(plane, edges)?;
-    let mut table = bend_into(table, plane, shape, headings, &edges)?;
+    let mut table = normalize_into(table, plane, shape, headings, &edges)?;
     let outside = plane.least_dart(plane.outer());
-    let faces = enclose_in(&mut table, u32::from(outside), faces)?;
+    let faces = refine_in(&mut table, u32::from(outside), faces)?;
     let old = plane.graph().vertices();
     let paths = paths_of(&table, &edges, darts, starts)?;
     scratch.search = search;

@@ -1,12 +1,36 @@
 //! Dissections: an orthogonal representation of a plane, cut into boxes.
+//!
+//! Each dart gets a direction, each bend a vertex, and the whole a rectangle round it; then every face is cut into
+//! boxes, which turn left four times and are else straight.
 #![tactic(auto)]
 
+mod bare;
 mod boxes;
+mod cut_laws;
+pub mod direction_laws;
 mod dissection;
+mod edges;
+mod face_list;
+mod heading_search;
+mod links;
+mod normalization;
 mod parts;
+pub mod path_laws;
+mod rectangle;
+mod refinement;
+mod scan;
 mod scratch;
+mod table;
+mod walks;
 
-pub use bending::{Search, headings_in};
 pub use boxes::Boxes;
+pub use cut_laws::{cuts_reach_corners, cuts_stay_sound, cuts_use_right_turns};
 pub use dissection::{dissect, dissect_along, dissect_in};
+pub use edges::lesser_darts_of;
+pub use face_list::Faces;
+pub use heading_search::{Search, headings_in};
+pub use normalization::normalize_into;
+pub use refinement::refine_in;
+pub use scan::{cut_face, cut_faces};
 pub use scratch::Scratch;
+pub use table::{DartTable, NO_DART};

@@ -1,19 +1,19 @@
 //! What of a plane its boxes keep.
 
 ghost use Rattle.std.specs.Prelude.{◌≡◌, ◌<◌, ℕ, List, [], ◌∷◌, ◌++◌, IfOk, OnOk, length, slice_index, slice_index_or};
-ghost use Rattle.cutting.specs.Paths.{IsPath};
-ghost use Rattle.cutting.specs.Tables.{web_of};
+ghost use Rattle.dissect.specs.Paths.{IsPath};
+ghost use Rattle.dissect.specs.Tables.{dart_map_of};
 
-use cutting::{DartTable, NO_DART};
-use ortho_rep::JoinedLists;
-use reuse::emptied;
+use crate::table::{DartTable, NO_DART};
+use common::emptied;
+use ortho_rep::FlatLists;
 use std::alloc::AllocError;
 
 /// Puts the darts of the path that ends with a dart behind a list, in walking order. A step for each of
 /// them.
 fn push_path(darts: &mut Vec<u32>, table: &DartTable, last: u32) -> Result<(), AllocError>
-    requires path { (first : ℕ) × (rest : List ℕ) × IsPath (web_of table.now) last first rest }
-    ensures { OnOk result ((first : ℕ) (rest : List ℕ) → IsPath (web_of table.now) last first rest
+    requires path { (first : ℕ) × (rest : List ℕ) × IsPath (dart_map_of table.now) last first rest }
+    ensures { OnOk result ((first : ℕ) (rest : List ℕ) → IsPath (dart_map_of table.now) last first rest
         → darts.new.items ≡ darts.old.items ++ (first ∷ rest)) }
 {
     let start = darts.len();
@@ -27,19 +27,19 @@ fn push_path(darts: &mut Vec<u32>, table: &DartTable, last: u32) -> Result<(), A
     Ok(())
 }
 
-/// The darts that each of these edges is made of, which are told by their last darts, in the memory of
+/// The darts that each of these edges is made of, which are named by their last darts, in the memory of
 /// these lists. A step for each dart of theirs.
 pub fn paths_of(
     table: &DartTable,
     edges: &[u16],
     darts: Vec<u32>,
     starts: Vec<usize>,
-) -> Result<JoinedLists<u32>, AllocError>
+) -> Result<FlatLists<u32>, AllocError>
     requires paths { (e : ℕ) → e < length edges.now
-        → (first : ℕ) × (rest : List ℕ) × IsPath (web_of table.now) (slice_index edges.now e) first rest }
+        → (first : ℕ) × (rest : List ℕ) × IsPath (dart_map_of table.now) (slice_index edges.now e) first rest }
     ensures count { IfOk result (λ paths. length paths ≡ length edges.now) }
     ensures paths { IfOk result (λ paths. (e : ℕ) → e < length edges.now → (first : ℕ) (rest : List ℕ)
-        → IsPath (web_of table.now) (slice_index edges.now e) first rest → slice_index_or paths e [] ≡ first ∷ rest) }
+        → IsPath (dart_map_of table.now) (slice_index edges.now e) first rest → slice_index_or paths e [] ≡ first ∷ rest) }
 {
     // No two paths share a dart, and none has its reverse: half of all darts are room enough.
     let mut darts = emptied(darts, table.darts as usize / 2)?;
@@ -49,5 +49,5 @@ pub fn paths_of(
         push_path(&mut darts, table, u32::from(*last))?;
         starts.push(darts.len())?;
     }
-    Ok(JoinedLists::new(darts, starts))
+    Ok(FlatLists::new(darts, starts))
 }

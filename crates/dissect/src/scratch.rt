@@ -1,11 +1,11 @@
 //! Memory for dissections, which is used again.
 
 ghost use Rattle.std.specs.Prelude.{◌≡◌};
-ghost use Rattle.cutting.specs.Tables.{room};
+ghost use Rattle.dissect.specs.Tables.{room};
 
-use bending::Search;
-use cutting::DartTable;
-use enclosing::Faces;
+use crate::face_list::Faces;
+use crate::heading_search::Search;
+use crate::table::DartTable;
 use std::alloc::Global;
 
 /// Memory that one dissection after another works in. What it holds between two of them is of no use.

@@ -5,8 +5,8 @@ use Rattle.std.proofs.Math.Seq.{get_or-append_right}
 use Rattle.std.proofs.lemmas.List.Elements.{Contains-append_cases, Contains-append_left, Contains-append_right, Contains-get_or}
 use Rattle.std.proofs.lemmas.List.Kept.{AllPairs-cons}
 use Rattle.std.proofs.lemmas.Bool.{cases_lt}
-use Rattle.rectangles.specs.declared.Rectangle.{Rectangle}
-use Rattle.rectangles.specs.Rectangles.{Covers, AreApart}
+use Rattle.geometry.specs.declared.rectangles.Rectangle.{Rectangle}
+use Rattle.geometry.specs.Rectangles.{Covers, AreApart}
 use Rattle.ortho_rep.specs.declared.points.Point.{Point}
 use Rattle.drawing_check.specs.Walks.{HasNoRepeat}
 use Rattle.drawing_check.specs.Shown.{Lists, Shows}

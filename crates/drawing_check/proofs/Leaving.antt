@@ -4,9 +4,9 @@ use Rattle.std.proofs.Math.ListN.{set}
 use Rattle.std.proofs.Math.Seq.{get_or-append_right}
 use Rattle.std.proofs.lemmas.Bool.{both_ways, cases_eq, cases_lt, ltb-true, le-ltb, lt-ltb, cond-true, cond-false}
 use Rattle.std.proofs.lemmas.List.{get_or-set_same, get_or-set_other, length-set, get_or-reverse}
-use Rattle.directions.specs.declared.Direction.{Direction}
-use Rattle.directions.specs.declared.Direction.TheVariants.{East}
-use Rattle.directions.specs.Directions.{lefts}
+use Rattle.geometry.specs.declared.direction.Direction.{Direction}
+use Rattle.geometry.specs.declared.direction.Direction.TheVariants.{East}
+use Rattle.geometry.specs.Directions.{lefts}
 use Rattle.faces.specs.Planes.{PlaneModel, HasEnds, darts, reverse_dart, next}
 use Rattle.ortho_rep.specs.declared.points.Point.{Point}
 use Rattle.ortho_rep.specs.Shapes.{ShapeModel, angle_at, turns_at}

@@ -3,10 +3,10 @@ use Rattle.std.proofs.Common.{◌≡◌, ℕ, ◌+◌, ◌-◌, ◌<◌, ◌≤�
 use Rattle.std.specs.List.{range_with_len}
 use Rattle.std.proofs.lemmas.Bool.{cases_lt, lt-ltb, le-ltb}
 use Rattle.std.proofs.lemmas.List.FromFn.{length-map-range_with_len, get_or-map-range_with_len}
-use Rattle.rectangles.specs.declared.Rectangle.{Rectangle}
-use Rattle.rectangles.specs.Rectangles.{Covers}
+use Rattle.geometry.specs.declared.rectangles.Rectangle.{Rectangle}
+use Rattle.geometry.specs.Rectangles.{Covers}
 use Rattle.ortho_rep.specs.declared.points.Point.{Point}
-use Rattle.drawing_check.specs.Walks.{toward, step_from, steps, walk}
+use Rattle.drawing_check.specs.Walks.{toward, step_from, distance, walk}
 use Rattle.drawing_check.specs.Draws.{IsAxis}
 use Rattle.drawing_check.specs.Shown.{span_of, Lists}
 use Rattle.drawing_check.proofs.Coverings.{point_is}
@@ -75,7 +75,7 @@ line_south x y a c n some room is_x is_y =
     (λ i j low lt high same. omega (arith, is_y i, is_y j, ap (λ (p : Point). p.y) same))
 
 -- the first n points behind a on the way to b list a rectangle
-pub segment_lists : (a b : Point) (n : ℕ) → IsAxis a b → 1 ≤ n → n ≤ steps a b → Lists (span_of (step_from a b 1) (step_from a b n)) (walk a b n)
+pub segment_lists : (a b : Point) (n : ℕ) → IsAxis a b → 1 ≤ n → n ≤ distance a b → Lists (span_of (step_from a b 1) (step_from a b n)) (walk a b n)
 segment_lists a b n axis some within =
     ⊎_elim
     (λ upright.

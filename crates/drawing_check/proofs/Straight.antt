@@ -2,8 +2,8 @@
 use Rattle.std.proofs.Common.{◌≡◌, ℕ, zero, suc, ◌+◌, ◌<◌, ◌↔◌, Bool, true, List, [], ◌∷◌, ◌++◌, length, sym, ap, ◌∙◌, arith, subst, All, eqb}
 use Rattle.std.proofs.lemmas.Bool.{eqb-true, eq-eqb}
 use Rattle.std.proofs.lemmas.List.{nil_from_length}
-use Rattle.rectangles.specs.declared.Rectangle.{Rectangle}
-use Rattle.directions.specs.declared.Direction.{Direction}
+use Rattle.geometry.specs.declared.rectangles.Rectangle.{Rectangle}
+use Rattle.geometry.specs.declared.direction.Direction.{Direction}
 use Rattle.ortho_rep.specs.declared.points.Point.{Point}
 use Rattle.ortho_rep.specs.declared.turn.Turn.{Turn}
 use Rattle.drawing_check.specs.declared.route.Route.{Route}

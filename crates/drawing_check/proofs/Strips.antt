@@ -5,10 +5,10 @@ use Rattle.std.proofs.lemmas.Bool.{cases_lt, cases_Bool, eqb-true, eq-eqb, and_p
 use Rattle.std.proofs.lemmas.List.{append-nil}
 use Rattle.std.proofs.lemmas.List.Concat.{flat_map-append}
 use Rattle.std.proofs.lemmas.List.Elements.{All-append, All-cons, All-tail, All-head, All-nil}
-use Rattle.rectangles.specs.declared.Rectangle.{Rectangle}
-use Rattle.rectangles.specs.Rectangles.{Covers, IsFilled, AreApart}
+use Rattle.geometry.specs.declared.rectangles.Rectangle.{Rectangle}
+use Rattle.geometry.specs.Rectangles.{Covers, IsFilled, AreApart}
 use Rattle.ortho_rep.specs.declared.points.Point.{Point}
-use Rattle.drawing_check.specs.Walks.{step_from, steps, walk, inner, HasNoRepeat}
+use Rattle.drawing_check.specs.Walks.{step_from, distance, walk, inner, HasNoRepeat}
 use Rattle.drawing_check.specs.Paths.{point_of}
 use Rattle.drawing_check.specs.Draws.{IsAxis, IsOnAxes, AreOnAxes}
 use Rattle.drawing_check.specs.Shown.{span_of, same_point, strips, Lists, Shows}
@@ -23,13 +23,13 @@ ways a b axis =
     (λ level. inr (⊎_elim (λ up. inl (level.1, up)) (λ ge. inr (level.1, omega (arith, level.0))) (cases_lt a.x b.x)))
     axis
 
-steps_some : (a b : Point) → IsAxis a b → 1 ≤ steps a b
+steps_some : (a b : Point) → IsAxis a b → 1 ≤ distance a b
 steps_some a b axis = ⊎_elim (λ h. omega (arith, h.1)) (λ h. omega (arith, h.0)) axis
 
 -- all steps lead to the end
-all_steps : (a b : Point) → IsAxis a b → step_from a b (steps a b) ≡ b
+all_steps : (a b : Point) → IsAxis a b → step_from a b (distance a b) ≡ b
 all_steps a b axis =
-    let s = steps a b in
+    let s = distance a b in
     ⊎_elim
     (λ h. ⊎_elim
     (λ w. point_is (step_from a b s) b (toward_same a.x b.x s w.0 ∙ w.0) (toward_up a.y b.y s w.1 ∙ omega (arith, w.0, w.1)))
@@ -42,9 +42,9 @@ all_steps a b axis =
     (ways a b axis)
 
 -- all steps but one lead to one step before the end
-step_back : (a b : Point) → IsAxis a b → step_from a b (steps a b - 1) ≡ step_from b a 1
+step_back : (a b : Point) → IsAxis a b → step_from a b (distance a b - 1) ≡ step_from b a 1
 step_back a b axis =
-    let s = steps a b - 1 in
+    let s = distance a b - 1 in
     ⊎_elim
     (λ h. ⊎_elim
     (λ w. point_is (step_from a b s) (step_from b a 1) (toward_same a.x b.x s w.0 ∙ w.0 ∙ sym (toward_same b.x a.x 1 (sym w.0))) (toward_up a.y b.y s w.1 ∙ (omega (arith, w.0, w.1)) ∙ sym (toward_down b.y a.y 1 w.1)))
@@ -66,7 +66,7 @@ same_point-from p q e =
     and_from (eqb p.x q.x) (eqb p.y q.y) (eq-eqb p.x q.x (ap (λ (r : Point). r.x) e)) (eq-eqb p.y q.y (ap (λ (r : Point). r.y) e))
 
 -- one step is the whole way where the first step is the end
-one_step : (a b : Point) → IsAxis a b → step_from a b 1 ≡ b → steps a b ≡ 1
+one_step : (a b : Point) → IsAxis a b → step_from a b 1 ≡ b → distance a b ≡ 1
 one_step a b axis e =
     let ex = ap (λ (r : Point). r.x) e in
     let ey = ap (λ (r : Point). r.y) e in
@@ -81,13 +81,13 @@ one_step a b axis e =
     h)
     (ways a b axis)
 
-more_steps : (a b : Point) → IsAxis a b → same_point (step_from a b 1) b ≡ false → 1 ≤ steps a b - 1
+more_steps : (a b : Point) → IsAxis a b → same_point (step_from a b 1) b ≡ false → 1 ≤ distance a b - 1
 more_steps a b axis no_end =
     ⊎_elim
     (λ few. absurd (both_ways (same_point (step_from a b 1) b) no_end
-    (same_point-from (step_from a b 1) b (let one : steps a b ≡ 1 = let some = steps_some a b axis in omega arith in subst (λ (n : ℕ). step_from a b n ≡ b) one (all_steps a b axis)))))
+    (same_point-from (step_from a b 1) b (let one : distance a b ≡ 1 = let some = steps_some a b axis in omega arith in subst (λ (n : ℕ). step_from a b n ≡ b) one (all_steps a b axis)))))
     (λ many. omega arith)
-    (cases_lt (steps a b) 2)
+    (cases_lt (distance a b) 2)
 
 -- ---- a path
 
@@ -108,18 +108,18 @@ shows_strips (a ∷ b ∷ []) h = last (h 0 (omega arith)) (cases_Bool (same_poi
         rw end (rw one refl)
     last axis (inr more) =
         rw more (
-          walk a b (steps a b - 1),
+          walk a b (distance a b - 1),
           [],
-          sym (append-nil (walk a b (steps a b - 1))),
-          subst (λ (p : Point). Lists (span_of (step_from a b 1) p) (walk a b (steps a b - 1))) (step_back a b axis) (segment_lists a b (steps a b - 1) axis (more_steps a b axis more) (omega arith)),
+          sym (append-nil (walk a b (distance a b - 1))),
+          subst (λ (p : Point). Lists (span_of (step_from a b 1) p) (walk a b (distance a b - 1))) (step_back a b axis) (segment_lists a b (distance a b - 1) axis (more_steps a b axis more) (omega arith)),
           refl,
         )
 shows_strips (a ∷ b ∷ c ∷ rest) h =
     let axis = h 0 (omega arith) in (
-      walk a b (steps a b),
+      walk a b (distance a b),
       inner (b ∷ c ∷ rest),
       refl,
-      subst (λ (p : Point). Lists (span_of (step_from a b 1) p) (walk a b (steps a b))) (all_steps a b axis) (segment_lists a b (steps a b) axis (steps_some a b axis) (omega arith)),
+      subst (λ (p : Point). Lists (span_of (step_from a b 1) p) (walk a b (distance a b))) (all_steps a b axis) (segment_lists a b (distance a b) axis (steps_some a b axis) (omega arith)),
       shows_strips (b ∷ c ∷ rest) (axes_rest a (b ∷ c ∷ rest) h),
     )
 

@@ -2,9 +2,9 @@
 use Rattle.std.specs.Prelude.{◌≡◌, ◌≢◌, ℕ, ◌+◌, ◌<◌, ◌≤◌, ◌⊎◌, List, ◌++◌, length, nat_lt, slice_index_or, if◌then◌else◌, All}
 use Rattle.std.specs.List.{flat_map}
 use Rattle.ortho_rep.specs.declared.points.TheConstants.{MAX_COORDINATE}
-use Rattle.directions.specs.declared.Direction.{Direction}
-use Rattle.directions.specs.declared.Direction.TheVariants.{East, North, West, South}
-use Rattle.directions.specs.Directions.{left_of, right_of, lefts}
+use Rattle.geometry.specs.declared.direction.Direction.{Direction}
+use Rattle.geometry.specs.declared.direction.Direction.TheVariants.{East, North, West, South}
+use Rattle.geometry.specs.Directions.{left_of, right_of, lefts}
 use Rattle.faces.specs.Planes.{PlaneModel, darts, reverse_dart, next}
 use Rattle.ortho_rep.specs.declared.turn.Turn.{Turn}
 use Rattle.ortho_rep.specs.declared.turn.Turn.TheVariants.{Left, Right}

@@ -1,8 +1,8 @@
 -- The paths of edges as the check sees them in place. Only private contracts speak of them.
 use Rattle.std.specs.Prelude.{◌≡◌, ℕ, ◌<◌, List, [], ◌∷◌, ◌++◌, slice_index_or}
-use Rattle.directions.specs.declared.Direction.{Direction}
-use Rattle.directions.specs.declared.Direction.TheVariants.{East}
-use Rattle.directions.specs.Directions.{lefts}
+use Rattle.geometry.specs.declared.direction.Direction.{Direction}
+use Rattle.geometry.specs.declared.direction.Direction.TheVariants.{East}
+use Rattle.geometry.specs.Directions.{lefts}
 use Rattle.faces.specs.Planes.{PlaneModel, darts, reverse_dart, next}
 use Rattle.ortho_rep.specs.Shapes.{ShapeModel, angle_at}
 use Rattle.ortho_rep.specs.declared.points.Point.{Point}

@@ -12,8 +12,8 @@ abbrev pub step_from : Point → Point → ℕ → Point
 step_from a b k = record { x = toward a.x b.x k; y = toward a.y b.y k }
 
 -- how many steps lead from a to b
-abbrev pub steps : Point → Point → ℕ
-steps a b = (a.x - b.x) + (b.x - a.x) + (a.y - b.y) + (b.y - a.y)
+abbrev pub distance : Point → Point → ℕ
+distance a b = (a.x - b.x) + (b.x - a.x) + (a.y - b.y) + (b.y - a.y)
 
 -- the first n points behind a on the way to b
 abbrev pub walk : Point → Point → ℕ → List Point
@@ -23,8 +23,8 @@ walk a b n = map (step_from a b) (range_with_len 1 n)
 abbrev pub inner : List Point → List Point
 inner [] = []
 inner (a ∷ []) = []
-inner (a ∷ b ∷ []) = walk a b (steps a b - 1)
-inner (a ∷ b ∷ c ∷ rest) = walk a b (steps a b) ++ inner (b ∷ c ∷ rest)
+inner (a ∷ b ∷ []) = walk a b (distance a b - 1)
+inner (a ∷ b ∷ c ∷ rest) = walk a b (distance a b) ++ inner (b ∷ c ∷ rest)
 
 -- no point stands at two places of the list
 abbrev pub HasNoRepeat : List Point → Type 0

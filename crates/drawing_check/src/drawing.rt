@@ -10,11 +10,10 @@ use crate::edges::walk_edges;
 use crate::fault::CheckFault;
 use crate::scratch::Scratch;
 use crate::turning::turn_as_said;
-use directions::Direction;
 use embedding::MAX_DARTS;
 use faces::Plane;
+use geometry::{Direction, all_apart_in};
 use ortho_rep::{Points, Shape};
-use rectangles::all_apart_in;
 use std::alloc::Global;
 use std::marker::Model;
 

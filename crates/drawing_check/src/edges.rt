@@ -13,12 +13,11 @@ ghost use Rattle.drawing_check.specs.Shown.{span_of, strips};
 
 use crate::grid::all_in_grid;
 use crate::meeting::list_vertices;
-use crate::path::{both, see_route};
+use crate::path::{both, examine_route};
 use crate::route::route_of;
-use directions::Direction;
 use faces::Plane;
+use geometry::{Direction, Rectangle};
 use ortho_rep::{Points, Shape};
-use rectangles::Rectangle;
 
 /// What was seen of all edges.
 #[derive(Drop)]
@@ -69,7 +68,7 @@ pub(crate) fn walk_edges(
         let reverse = graph.reverse(dart);
         if dart < reverse {
             let route = route_of(plane, points, dart, reverse, edge);
-            let path = see_route(&route, shape.turns(dart), rectangles, listed);
+            let path = examine_route(&route, shape.turns(dart), rectangles, listed);
             in_grid = both(in_grid, path.in_grid);
             on_axes = both(on_axes, path.on_axes);
             turning = both(turning, path.turning);

@@ -6,8 +6,8 @@ ghost use Rattle.drawing_check.specs.Routes.{path_of};
 ghost use Rattle.drawing_check.specs.Shown.{span_of, strips};
 
 use crate::route::Route;
+use geometry::Rectangle;
 use ortho_rep::{Point, Points};
-use rectangles::Rectangle;
 use std::alloc::AllocError;
 
 /// Lists what the vertices cover, in place of what the list held: each a rectangle of one point. There is room

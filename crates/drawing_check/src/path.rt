@@ -11,9 +11,8 @@ use crate::grid::all_in_grid;
 use crate::meeting::{add_last, add_route};
 use crate::route::Route;
 use crate::turning::{direction_from, is_turning};
-use directions::Direction;
+use geometry::{Direction, Rectangle};
 use ortho_rep::{Point, Turn};
-use rectangles::Rectangle;
 
 /// What was seen of a path.
 #[derive(Drop)]
@@ -58,7 +57,7 @@ fn list_segment(rectangles: &mut Vec<Rectangle>, listed: bool, start: Point, end
 
 /// Looks at a path, and adds its rectangles, if those of all before it are listed. Most paths have no corner, and need
 /// no walk.
-pub(crate) fn see_route(
+pub(crate) fn examine_route(
     route: &Route<'_>,
     turns: &[Turn],
     rectangles: &mut Vec<Rectangle>,
@@ -75,7 +74,7 @@ pub(crate) fn see_route(
         ≡ direction_between route.now.end (point_of (path_of route.now) (length route.now.corners.now)) }
 {
     if route.corners.is_empty() {
-        return see_segment(route, turns, rectangles, listed);
+        return examine_segment(route, turns, rectangles, listed);
     }
     let corners = route.corners.len();
     PathSeen {
@@ -89,7 +88,7 @@ pub(crate) fn see_route(
 }
 
 /// The same of a path without corners.
-fn see_segment(
+fn examine_segment(
     route: &Route<'_>,
     turns: &[Turn],
     rectangles: &mut Vec<Rectangle>,

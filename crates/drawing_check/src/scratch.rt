@@ -2,7 +2,7 @@
 
 ghost use Rattle.std.specs.Prelude.{◌≡◌, []};
 
-use rectangles::Rectangle;
+use geometry::Rectangle;
 use std::alloc::Global;
 
 /// Memory in which one drawing after another is checked. What it holds between two of them is of no use.

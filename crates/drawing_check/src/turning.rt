@@ -8,8 +8,8 @@ ghost use Rattle.drawing_check.specs.Routes.{path_of, HeadsTurn};
 
 use crate::edges::EdgesSeen;
 use crate::route::Route;
-use directions::Direction;
 use faces::Plane;
+use geometry::Direction;
 use ortho_rep::{Point, Shape, Turn};
 
 /// Whether each corner is the shape's, as a walk over the edges has told, and each angle, where the darts leave their tails

@@ -1,9 +1,9 @@
--- A web of one straight edge, as the tests make it.
+-- A map of one straight edge, as the tests make it.
 use Rattle.std.proofs.Common.{◌≡◌, ◌≢◌, ℕ, ◌+◌, ◌%◌, ◌<◌, ◌≤◌, ◌∙◌, true, List, get_or, arith, subst, sym, ap, refl, inl, inr}
 use Rattle.std.proofs.lemmas.Bool.{cases_eq}
-use Rattle.cutting.specs.Webs.{Web, IsLinked, IsMeeting, IsSound, around, excess}
-use Rattle.cutting.specs.Labels.{HasTurns}
-use Rattle.cutting.proofs.Making.{web_from}
+use Rattle.dissect.specs.DartMaps.{DartMap, IsLinked, IsMeeting, IsSound, around, reflex_turns}
+use Rattle.dissect.specs.FaceNumbers.{HasTurns}
+use Rattle.dissect.proofs.Making.{dart_map_from}
 
 -- what holds of 0 and 1 holds of each number below 2
 by_two : (P : ℕ → Type 0) → P 0 → P 1 → (k : ℕ) → k < 2 → P k
@@ -28,9 +28,9 @@ pub record IsEdge (N P T H D A : List ℕ) : Type 0 where
   pub angle_0 : get_or A 0 0 ≡ 4
   pub angle_1 : get_or A 1 0 ≡ 4
 
-pub edge_sound : (N P T H D A B : List ℕ) → IsEdge N P T H D A → IsSound (web_from 2 2 N P T H D A B)
+pub edge_sound : (N P T H D A B : List ℕ) → IsEdge N P T H D A → IsSound (dart_map_from 2 2 N P T H D A B)
 edge_sound N P T H D A B e =
-    let w : Web = web_from 2 2 N P T H D A B in
+    let w : DartMap = dart_map_from 2 2 N P T H D A B in
     let clockwise_0 : w.reverse_dart (w.next 0) ≡ 0 = ap w.reverse_dart e.next_0 ∙ e.reverse_dart_1 in
     let clockwise_1 : w.reverse_dart (w.next 1) ≡ 1 = ap w.reverse_dart e.next_1 ∙ e.reverse_dart_0 in
     let linked : IsLinked w = record {
@@ -61,9 +61,9 @@ edge_sound N P T H D A B e =
           (omega (arith, ap w.direction e.reverse_dart_1, e.direction_0, e.direction_1));
     }
 
-pub edge_turns : (N P T H D A B : List ℕ) → IsEdge N P T H D A → HasTurns (web_from 2 2 N P T H D A B) (λ _. 0) 0
+pub edge_turns : (N P T H D A B : List ℕ) → IsEdge N P T H D A → HasTurns (dart_map_from 2 2 N P T H D A B) (λ _. 0) 0
 edge_turns N P T H D A B e =
-    let w : Web = web_from 2 2 N P T H D A B in
+    let w : DartMap = dart_map_from 2 2 N P T H D A B in
     record {
       labels = record {
         stays = λ a l. refl;
@@ -82,5 +82,5 @@ edge_turns N P T H D A B e =
     reach a b la lb apart =
         by_two (λ a. b < 2 → a ≢ b → get_or N a 0 ≡ b) (λ lb ne. omega (arith, e.next_0, ne, lb)) (λ lb ne. omega (arith, e.next_1, ne, lb)) a la lb apart
 
-pub edge_excess : (N P T H D A B : List ℕ) → IsEdge N P T H D A → excess (web_from 2 2 N P T H D A B) ≡ 4
-edge_excess N P T H D A B e = omega (arith, e.angle_0, e.angle_1)
+pub edge_reflex_turns : (N P T H D A B : List ℕ) → IsEdge N P T H D A → reflex_turns (dart_map_from 2 2 N P T H D A B) ≡ 4
+edge_reflex_turns N P T H D A B e = omega (arith, e.angle_0, e.angle_1)

@@ -1,10 +1,8 @@
 //! A drawing worked out by hand, and refused allocations.
 
 use crate::planes::{EDGE, TRIANGLE, bent_triangle_in, plane_in, plane_of, same, spiral_in};
-use bending::bend;
-use cutting::{DartTable, NO_DART};
+use dissect::{DartTable, NO_DART, Search, headings_in, lesser_darts_of, normalize_into};
 use faces::Plane;
-use headings::headings;
 use ortho_rep::{Shape, is_shape};
 use std::alloc::{AllocError, Global};
 use std::fmt::Debug;
@@ -18,8 +16,15 @@ fn bend_of(
     shape: &Shape,
 ) -> Result<DartTable, AllocError> {
     assert!(rt; is_shape(plane, shape));
-    let directions = headings(alloc, plane, shape)?;
-    bend(alloc, plane, shape, &directions)
+    let found = headings_in(plane, shape, Search::empty(alloc))?;
+    let edges = lesser_darts_of(plane, Vec::new(alloc))?;
+    normalize_into(
+        DartTable::empty(alloc),
+        plane,
+        shape,
+        &found.headings,
+        &edges,
+    )
 }
 
 /// Sees that a list begins so.

@@ -1,8 +1,8 @@
 //! Directions worked out by hand, and refused allocations.
 
 use crate::planes::{EDGE, TRIANGLE, bent_triangle_in, plane_in, same, shape_in};
+use dissect::{Search, headings_in};
 use faces::Plane;
-use headings::headings;
 use ortho_rep::{Shape, Turn, is_shape};
 use std::alloc::{AllocError, Global};
 use std::process::Abort;
@@ -10,10 +10,11 @@ use std::process::Abort;
 /// The directions of a shape, by the second call where the first finds no memory.
 fn headings_at_last(rt: &impl Abort, alloc: Global, plane: &Plane, shape: &Shape) -> Vec<u8> {
     assert!(rt; is_shape(plane, shape));
-    match headings(alloc, plane, shape) {
+    let found = match headings_in(plane, shape, Search::empty(alloc)) {
         Ok(found) => found,
-        Err(AllocError) => headings(alloc, plane, shape).expect(rt, "memory"),
-    }
+        Err(AllocError) => headings_in(plane, shape, Search::empty(alloc)).expect(rt, "memory"),
+    };
+    found.headings
 }
 
 /// Whether a shape of the plane of these bytes has these directions; nothing where memory is wanting before.

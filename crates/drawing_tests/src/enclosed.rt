@@ -1,13 +1,12 @@
 //! One straight edge in its rectangle.
 
 ghost use Rattle.std.specs.Prelude.{◌≡◌, ◌+◌, ◌*◌, ◌≤◌, IfOk, slice_index, vec_len};
-ghost use Rattle.cutting.specs.Labels.{HasTurns};
-ghost use Rattle.cutting.specs.Tables.{room, web_of};
-ghost use Rattle.cutting.specs.Webs.{IsSound, excess};
+ghost use Rattle.dissect.specs.FaceNumbers.{HasTurns};
+ghost use Rattle.dissect.specs.Tables.{room, dart_map_of};
+ghost use Rattle.dissect.specs.DartMaps.{IsSound, reflex_turns};
 
 use crate::planes::same;
-use cutting::{DartTable, NO_DART};
-use enclosing::enclose;
+use dissect::{DartTable, Faces, NO_DART, refine_in};
 use std::alloc::{AllocError, Global};
 use std::process::Abort;
 
@@ -37,10 +36,10 @@ fn small_numbers(alloc: Global, first: u8, others: u8) -> Result<Vec<u8>, AllocE
 
 /// An edge to the east, from the vertex 0 to the vertex 1, and its reverse.
 fn edge(alloc: Global) -> Result<DartTable, AllocError>
-    ensures sound { IfOk result (λ t. IsSound (web_of t)) }
-    ensures turns { IfOk result (λ t. HasTurns (web_of t) (λ _. 0) 0) }
+    ensures sound { IfOk result (λ t. IsSound (dart_map_of t)) }
+    ensures turns { IfOk result (λ t. HasTurns (dart_map_of t) (λ _. 0) 0) }
     ensures darts { IfOk result (λ t. t.darts ≡ 2) }
-    ensures space { IfOk result (λ t. t.darts + 4 * excess (web_of t) + 24 ≤ room t) }
+    ensures space { IfOk result (λ t. t.darts + 4 * reflex_turns (dart_map_of t) + 24 ≤ room t) }
 {
     let next = numbers(alloc, 1, 0)?;
     let prev = numbers(alloc, 1, 0)?;
@@ -82,9 +81,9 @@ fn refused_memory_leaves_the_edge(rt: HostRuntime) {
     let Ok(mut table) = edge(alloc) else {
         return;
     };
-    if let Err(AllocError) = enclose(alloc, &mut table, 0) {
+    if refine_in(&mut table, 0, Faces::empty(alloc)).is_err() {
         same(&rt, (table.darts, table.vertices), (2, 2));
-        same(&rt, enclose(alloc, &mut table, 0), Ok(()));
+        assert!(rt; refine_in(&mut table, 0, Faces::empty(alloc)).is_ok());
     }
     expect_boxes(&rt, &table);
 }

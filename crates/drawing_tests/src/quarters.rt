@@ -1,7 +1,7 @@
 //! Quarter turns between the four directions, and their numbers.
 
 use crate::planes::same;
-use directions::Direction;
+use geometry::Direction;
 
 #[test]
 fn turns_by_quarters(rt: HostRuntime) {

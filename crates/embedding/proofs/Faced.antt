@@ -2,7 +2,7 @@
 use Rattle.std.proofs.Common.{◌≡◌, ℕ, ◌+◌, ◌*◌, ◌<◌, ◌≤◌, ◌==◌, cond, true, List, ◌++◌, length, get_or, replicate, take, drop, refl, sym, ap, ◌∙◌, subst, arith}
 use Rattle.std.proofs.lemmas.List.{length-append, get_or-append-add, get_or_append_left, get_or-take, get_or-drop, length-take, length-drop}
 use Rattle.std.proofs.lemmas.List.Elements.{All-take, All-replicate}
-use Rattle.sums.proofs.Sums.{sum_below-same}
+use Rattle.common.proofs.Sums.{sum_below-same}
 use Rattle.embedding.specs.Darts.{dart_count, next_of, reverse_of}
 use Rattle.embedding.specs.Rules.{KeepsBefore}
 use Rattle.embedding.specs.Faces.{HasFaces, degree_in}

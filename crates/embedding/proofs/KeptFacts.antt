@@ -7,13 +7,13 @@ use Rattle.embedding.specs.declared.rules.Rule.TheVariants.{Degree}
 use Rattle.embedding.specs.Lists.{list_of}
 use Rattle.embedding.specs.Darts.{dart_count}
 use Rattle.embedding.specs.Rules.{KeepsBefore}
-use Rattle.embedding.specs.Tables.{IsTable, IsKept}
+use Rattle.embedding.specs.Tables.{IsTable, AreTables}
 use Rattle.embedding.proofs.Rotation.{darts_even, darts_few, darts_some}
 
 -- the fields' facts, of the lists by another name
-pub kept_as : (lists g : List (List ℕ)) {ends table : List ℕ} {count : ℕ} → lists ≡ g → IsKept lists ends count table → IsKept g ends count table
+pub kept_as : (lists g : List (List ℕ)) {ends table : List ℕ} {count : ℕ} → lists ≡ g → AreTables lists ends count table → AreTables g ends count table
 kept_as lists g {ends} {table} {count} same kept =
-    subst (λ (l : List (List ℕ)). IsKept l ends count table) same kept
+    subst (λ (l : List (List ℕ)). AreTables l ends count table) same kept
 
 -- the numbers of darts, edges and vertices
 pub record HasSizes (g : List (List ℕ)) : Type 0 where

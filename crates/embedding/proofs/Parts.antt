@@ -8,7 +8,7 @@ use Rattle.embedding.specs.Darts.{heads, dart_count, first_dart, next_of}
 use Rattle.embedding.specs.Walk.{IsFaced, next_in}
 use Rattle.embedding.proofs.Faced.{linked, next_is, same_faces, same_degree}
 use Rattle.embedding.specs.Rules.{KeepsBefore}
-use Rattle.embedding.specs.Tables.{cut_at, IsTable, AreLinks, IsKept}
+use Rattle.embedding.specs.Tables.{cut_at, IsTable, AreLinks, AreTables}
 use Rattle.embedding.proofs.EachList.{list_of-add}
 use Rattle.embedding.proofs.Building.{first_dart-more}
 
@@ -56,7 +56,7 @@ part_between g ends k from to same below is-from is-to =
     }
 
 -- a start, read behind the links
-start_read : (g : List (List ℕ)) {ends table : List ℕ} {count : ℕ} → IsKept g ends count table → (k j x : ℕ) → k ≤ length g → j ≡ 3 * length ends + count + k → x ≡ get_or table j x → x ≡ first_dart g k
+start_read : (g : List (List ℕ)) {ends table : List ℕ} {count : ℕ} → AreTables g ends count table → (k j x : ℕ) → k ≤ length g → j ≡ 3 * length ends + count + k → x ≡ get_or table j x → x ≡ first_dart g k
 start_read g {ends} {table} {count} kept k j x within at read =
     let inside : j < length table = omega (arith, kept.size, ap length kept.heads_are) in
     get_or_read table j x inside read 0
@@ -65,7 +65,7 @@ start_read g {ends} {table} {count} kept k j x within at read =
     ∙ kept.starts_are.each k (omega arith)
 
 -- the list of a vertex, between what is read from the table of starts
-pub vertex_part : (g : List (List ℕ)) {ends table : List ℕ} {count : ℕ} → IsKept g ends count table → (v i j from to : ℕ) → j ≡ 3 * length ends + count + i → i + 1 ≡ v → v ≤ length g → from ≡ get_or table j from → to ≡ get_or table (j + 1) to → IsPart ends (list_of g v) from to
+pub vertex_part : (g : List (List ℕ)) {ends table : List ℕ} {count : ℕ} → AreTables g ends count table → (v i j from to : ℕ) → j ≡ 3 * length ends + count + i → i + 1 ≡ v → v ≤ length g → from ≡ get_or table j from → to ≡ get_or table (j + 1) to → IsPart ends (list_of g v) from to
 vertex_part g {ends} kept v i j from to place at within read-from read-to =
     let here : list_of g v ≡ get_or g i [] = ap (list_of g) (sym at) ∙ list_of-add g i in
     rw here (part_between g ends i from to kept.heads_are (omega arith) (start_read g kept i j from (omega arith) place read-from) (start_read g kept (i + 1) (j + 1) to (omega arith) (omega arith) read-to))
@@ -85,7 +85,7 @@ cut_whole g starts ends table same =
 -- the table in which links, faces and degrees stand before the starts
 pub kept_whole : (g : List (List ℕ)) (ends links front starts table : List ℕ) (count : ℕ) → KeepsBefore g 8 → length g < 256 → ends ≡ heads g
     → AreLinks g (dart_count g) links → IsFaced (dart_count g) links count front → IsTable (length g + 1) (first_dart g) starts → table ≡ front ++ starts
-    → (cut_at (drop (3 * length ends + count) table) ends ≡ g) × IsKept g ends count table
+    → (cut_at (drop (3 * length ends + count) table) ends ≡ g) × AreTables g ends count table
 kept_whole g ends links front starts table count rules order same l f s is =
     let n = dart_count g in
     let size : length front ≡ 3 * length ends + count = omega (arith, f.size, ap length same) in

@@ -4,7 +4,7 @@ use Rattle.std.specs.List.{flat_map}
 use Rattle.planar_code.specs.declared.TheConstants.{MAX_LIST}
 use Rattle.planar_code.specs.Stream.{ended, lists_in}
 use Rattle.embedding.specs.Darts.{dart_count, first_dart}
-use Rattle.embedding.specs.Split.{IsSplit, start_of}
+use Rattle.embedding.specs.Split.{HoldsLists, start_of}
 use Rattle.embedding.proofs.WrittenLists.{start_of-more, start_of-all, list_within, part_is, first_dart-start, spelt_short}
 use Rattle.std.proofs.lemmas.List.{take_all, get_or-take, get_or-drop}
 
@@ -16,11 +16,11 @@ pub record IsPlace (bytes : List ℕ) (g : List (List ℕ)) (k from to : ℕ) : 
   pub short : length (get_or g k []) ≤ MAX_LIST
   pub first : from ≡ first_dart g k + k
 
-pub place_is : (bytes starts : List ℕ) (count : ℕ) → IsSplit bytes starts count → (g : List (List ℕ)) → lists_in bytes ≡ g → (k from to : ℕ) → k < length g → from ≡ get_or starts k 0 → to ≡ get_or starts (k + 1) 0 → IsPlace bytes g k from to
+pub place_is : (bytes starts : List ℕ) (count : ℕ) → HoldsLists bytes starts count → (g : List (List ℕ)) → lists_in bytes ≡ g → (k from to : ℕ) → k < length g → from ≡ get_or starts k 0 → to ≡ get_or starts (k + 1) 0 → IsPlace bytes g k from to
 place_is bytes starts count split g same k from to below reads-from reads-to =
     subst (λ (h : List (List ℕ)). IsPlace bytes h k from to) same (here bytes starts count split k from to (omega (arith, ap length same)) reads-from reads-to)
   where
-    here : (bytes starts : List ℕ) (count : ℕ) → IsSplit bytes starts count → (k from to : ℕ) → k < length (lists_in bytes) → from ≡ get_or starts k 0 → to ≡ get_or starts (k + 1) 0 → IsPlace bytes (lists_in bytes) k from to
+    here : (bytes starts : List ℕ) (count : ℕ) → HoldsLists bytes starts count → (k from to : ℕ) → k < length (lists_in bytes) → from ≡ get_or starts k 0 → to ≡ get_or starts (k + 1) 0 → IsPlace bytes (lists_in bytes) k from to
     here bytes starts count split k from to below reads-from reads-to =
         let g = lists_in bytes in
         let from-is : from ≡ start_of g k = reads-from ∙ split.starts_are k (omega (arith, split.size)) in
@@ -36,7 +36,7 @@ place_is bytes starts count split g same k from to below reads-from reads-to =
         }
 
 -- how many bytes the lists take
-pub bytes_are : (bytes starts : List ℕ) (count : ℕ) → IsSplit bytes starts count → (g : List (List ℕ)) → lists_in bytes ≡ g → (length bytes ≡ dart_count g + count) × (dart_count g ≤ 254 * count)
+pub bytes_are : (bytes starts : List ℕ) (count : ℕ) → HoldsLists bytes starts count → (g : List (List ℕ)) → lists_in bytes ≡ g → (length bytes ≡ dart_count g + count) × (dart_count g ≤ 254 * count)
 bytes_are bytes starts count split g same =
     let size : length g ≡ count = sym (ap length same) ∙ split.size in
     let spelt : length bytes ≡ length (flat_map ended g) = ap length split.spelt ∙ ap (λ (h : List (List ℕ)). length (flat_map ended h)) same in

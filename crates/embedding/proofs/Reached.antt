@@ -3,7 +3,7 @@ use Rattle.std.proofs.Common.{◌≡◌, ◌⊎◌, ℕ, zero, suc, ◌+◌, ◌
 use Rattle.std.specs.List.{All, Contains}
 use Rattle.std.proofs.lemmas.List.{get_or-set_same, get_or-set_other, get_or_default, length-set}
 use Rattle.std.proofs.lemmas.Bool.{cases_eq, true≢false}
-use Rattle.sums.proofs.Sums.{sum_below-none, sum_below-le, sum_below-lt, sum_below-changed, sum_below-constant}
+use Rattle.common.proofs.Sums.{sum_below-none, sum_below-le, sum_below-lt, sum_below-changed, sum_below-constant}
 use Rattle.embedding.specs.Lists.{list_of}
 use Rattle.embedding.specs.declared.rules.Rule.TheVariants.{Disconnected}
 use Rattle.embedding.specs.Rules.{Breaks, IsClosed}

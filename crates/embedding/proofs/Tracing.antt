@@ -7,8 +7,8 @@ use Rattle.embedding.specs.declared.numbering.TheConstants.{UNSET}
 use Rattle.embedding.specs.Faces.{HasFaces}
 use Rattle.embedding.specs.Darts.{IsOneToOne}
 use Rattle.embedding.specs.Faces.{IsClosedUnder}
-use Rattle.sums.specs.Sums.{sum_below}
-use Rattle.sums.proofs.Sums.{sum_below-lt}
+use Rattle.common.specs.Sums.{sum_below}
+use Rattle.common.proofs.Sums.{sum_below-lt}
 use Rattle.embedding.specs.Walk.{IsTraced, at}
 
 -- the walk of face c, which begins at d, is at t: the darts from d to the one before t have the number c

@@ -1,7 +1,7 @@
 -- Faces are the least nonempty sets of darts that are closed under "next", numbered from 0 in the order of
 -- their least darts.
 use Rattle.std.specs.Prelude.{◌≡◌, ℕ, ◌<◌, ◌==◌, Bool, true, if◌then◌else◌}
-use Rattle.sums.specs.Sums.{sum_below}
+use Rattle.common.specs.Sums.{sum_below}
 
 -- n darts have f faces, and dart d has the face `face d`
 pub record HasFaces (n : ℕ) (next face : ℕ → ℕ) (f : ℕ) : Type 0 where

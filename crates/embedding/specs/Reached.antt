@@ -1,6 +1,6 @@
 -- The vertices that are reached from vertex 1, as marks and as a queue.
 use Rattle.std.specs.Prelude.{◌≡◌, ℕ, ◌<◌, Bool, true, false, List, length, slice_index, slice_index_or, if◌then◌else◌}
-use Rattle.sums.specs.Sums.{sum_below}
+use Rattle.common.specs.Sums.{sum_below}
 use Rattle.embedding.specs.Rules.{IsClosed}
 
 -- the mark of v is set

@@ -8,7 +8,7 @@ abbrev pub start_of : List (List ℕ) → ℕ → ℕ
 start_of lists k = length (flat_map ended (take k lists))
 
 -- the bytes are the lists that they hold, and the starts say where each begins
-pub record IsSplit (bytes starts : List ℕ) (count : ℕ) : Type 0 where
+pub record HoldsLists (bytes starts : List ℕ) (count : ℕ) : Type 0 where
   pub spelt : bytes ≡ flat_map ended (lists_in bytes)
   pub each : All IsList (lists_in bytes)
   pub size : length (lists_in bytes) ≡ count

@@ -23,7 +23,7 @@ pub record AreLinks (g : List (List ℕ)) (n : ℕ) (links : List ℕ) : Type 0 
 
 -- the lists g of a graph keep the first seven rules, and the tables are theirs: in one stand the links, the faces of all
 -- darts, the degrees of so many faces and the starts
-pub record IsKept (g : List (List ℕ)) (ends : List ℕ) (count : ℕ) (table : List ℕ) : Type 0 where
+pub record AreTables (g : List (List ℕ)) (ends : List ℕ) (count : ℕ) (table : List ℕ) : Type 0 where
   pub rules : KeepsBefore g 8
   pub order : length g < 256
   pub heads_are : ends ≡ heads g

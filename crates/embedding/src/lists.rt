@@ -6,7 +6,7 @@ ghost use Rattle.planar_code.specs.declared.TheConstants.{MAX_LIST};
 ghost use Rattle.planar_code.specs.Stream.{IsList, ended, lists_in, lists_of};
 ghost use Rattle.embedding.specs.Lists.{list_of};
 ghost use Rattle.embedding.specs.Darts.{dart_count, first_dart};
-ghost use Rattle.embedding.specs.Split.{IsSplit, start_of};
+ghost use Rattle.embedding.specs.Split.{HoldsLists, start_of};
 
 use planar_code::Record;
 use std::marker::Model;
@@ -22,13 +22,13 @@ pub(crate) struct Lists<'a> {
 impl<'a> Model for Lists<'a> {
     ghost use Rattle.std.specs.Prelude.{ℕ, List};
     ghost use Rattle.planar_code.specs.Stream.{lists_in};
-    ghost use Rattle.embedding.specs.Split.{IsSplit};
+    ghost use Rattle.embedding.specs.Split.{HoldsLists};
 
     ghost Value = { List (List ℕ) };
 
     ghost view = { λ l. lists_in l.bytes.now };
 
-    ghost invariant = { λ l. IsSplit l.bytes.now l.starts l.count };
+    ghost invariant = { λ l. HoldsLists l.bytes.now l.starts l.count };
 }
 
 /// Where each of the lists begins, in one pass over their bytes. Each byte might be the last of its

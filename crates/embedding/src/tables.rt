@@ -5,11 +5,11 @@ ghost use Rattle.std.specs.Prelude.{◌≡◌, ℕ, ◌+◌, ◌*◌, ◌<◌, �
 ghost use Rattle.embedding.specs.Lists.{list_of};
 ghost use Rattle.embedding.specs.Darts.{dart_count, first_dart, head_of, tail_of, reverse_of, after_of};
 ghost use Rattle.embedding.specs.Rules.{KeepsBefore};
-ghost use Rattle.embedding.specs.Tables.{cut_at, IsTable, AreLinks, IsKept};
+ghost use Rattle.embedding.specs.Tables.{cut_at, IsTable, AreLinks, AreTables};
 
 use crate::lists::Lists;
 use crate::numbering::add_faces;
-use reuse::emptied;
+use common::emptied;
 use std::alloc::AllocError;
 
 /// The reverse of the dart from `tail` to `head`, which stands in the list of `tail`.
@@ -89,7 +89,7 @@ pub(crate) fn darts_in(
 ) -> Result<DartTables, AllocError>
     requires rules { KeepsBefore lists.now 8 }
     requires few { length lists.now < 256 }
-    ensures kept { IfOk result (λ t. IsKept lists.now t.heads.items t.faces t.table.items) }
+    ensures kept { IfOk result (λ t. AreTables lists.now t.heads.items t.faces t.table.items) }
     ensures lists { IfOk result (λ t.
         cut_at (drop (3 * length t.heads.items + t.faces) t.table.items) t.heads.items ≡ lists.now) }
 {

@@ -1,0 +1,2 @@
+pub mod KeptBooks
+pub mod Ready

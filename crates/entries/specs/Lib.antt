@@ -2,3 +2,5 @@ pub mod CauseWords
 pub mod Drawn
 pub mod Answers
 pub mod Abouts
+pub mod Books
+pub mod AllBooks

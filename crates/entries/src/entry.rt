@@ -3,7 +3,7 @@
 ghost use Rattle.entries.specs.Answers.{Answers};
 
 use crate::answer::Answer;
-use choices::Choice;
+use common::Choice;
 use lanes::Numbered;
 use planar_code::Record;
 

@@ -1,7 +1,7 @@
 -- The degrees of all faces sum to the number of darts, and each is at most that.
 use Rattle.std.proofs.Common.{◌≡◌, ℕ, ◌<◌, ◌≤◌, ◌==◌, Bool, true, false, cond, arith}
-use Rattle.sums.specs.Sums.{sum_below}
-use Rattle.sums.proofs.Sums.{exchanged-ones, sum_below-le, sum_below-constant}
+use Rattle.common.specs.Sums.{sum_below}
+use Rattle.common.proofs.Sums.{exchanged-ones, sum_below-le, sum_below-constant}
 use Rattle.faces.specs.Faces.{degree_in}
 
 pub degrees_sum : (n f : ℕ) (face : ℕ → ℕ) → ((d : ℕ) → d < n → face d < f) → sum_below f (λ k. degree_in n face k) ≡ n

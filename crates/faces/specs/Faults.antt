@@ -1,4 +1,4 @@
--- What is told by a graph that gives no plane.
+-- What follows from a graph that gives no plane.
 use Rattle.std.specs.Prelude.{◌≡◌, ℕ, List}
 use Rattle.embedding.specs.declared.rules.Rule.TheVariants.{Genus as genus_rule}
 use Rattle.embedding.specs.Rules.{FirstBroken}

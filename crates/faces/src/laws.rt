@@ -1,7 +1,7 @@
 //! Laws of the definitions, each as the contract of a function that does nothing.
 
 ghost use Rattle.std.specs.Prelude.{◌≡◌, ◌==◌, ◌<◌, ◌↔◌, ℕ, Bool, List, true};
-ghost use Rattle.sums.specs.Sums.{sum_below};
+ghost use Rattle.common.specs.Sums.{sum_below};
 ghost use Rattle.embedding.specs.Darts.{dart_count, next_of, reverse_of};
 ghost use Rattle.embedding.specs.Faces.{HasFaces};
 ghost use Rattle.embedding.specs.Rules.{KeepsBefore};

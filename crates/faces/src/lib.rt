@@ -9,6 +9,6 @@ pub mod laws;
 mod plane;
 mod scratch;
 
-pub use choices::Choice;
+pub use common::Choice;
 pub use plane::{MAX_FACES, Plane, TraceFault};
 pub use scratch::Scratch;

@@ -4,8 +4,8 @@ use Rattle.std.proofs.Common.{◌≡◌, ◌≢◌, ℕ, zero, suc, ◌+◌, ◌
 use Rattle.std.specs.Prelude.{nat_lt, ℤ, pos, negsuc, ◌+ℤ◌, ◌-ℤ◌, ◌<ℤ◌}
 use Rattle.std.proofs.lemmas.Bool.{cases_eq, cases_lt, cases_Bool, eq-eqb, eqb-true, ne_eqb, cond-true, cond-false, lt-ltb, le-ltb}
 use Rattle.std.proofs.lemmas.Int.{ints}
-use Rattle.sums.specs.Sums.{sum_below, total_below}
-use Rattle.sums.proofs.Sums.{sum_below-same, sum_below-none, sum_below-one, sum_below-split, sum_below-add, sum_below-constant, sum_below-member, exchanged-ones, total_below-split, total_below-parts}
+use Rattle.common.specs.Sums.{sum_below, total_below}
+use Rattle.common.proofs.Sums.{sum_below-same, sum_below-none, sum_below-one, sum_below-split, sum_below-add, sum_below-constant, sum_below-member, exchanged-ones, total_below-split, total_below-parts}
 use Rattle.faces.specs.Planes.{PlaneModel, IsPlane, HasEnds, darts, vertices, head, reverse_dart, face_at, degree}
 use Rattle.faces.proofs.Ends.{plane_ends}
 use Rattle.faces.proofs.Joined.{faces_joined}
@@ -14,7 +14,7 @@ use Rattle.networks.specs.declared.arc.Arc.{Arc}
 use Rattle.networks.specs.Networks.{NetworkModel, node_count, arc_count, arc_at, supply_at}
 use Rattle.networks.specs.Flow.{Flow, IsWithin, leaves, enters, balance}
 use Rattle.min_cost_flow.specs.Excess.{KeepsCaps}
-use Rattle.min_cost_flow.specs.Existence.{IsJoined, IsBalanced}
+use Rattle.min_cost_flow.specs.Existence.{HasUnlimitedPaths, IsBalanced}
 use Rattle.min_cost_flow.proofs.Existence.{flow_where_joined, excess_leaves}
 use Rattle.flow_network.specs.FaceNet.{IsFaceNet, arrivals}
 use Rattle.flow_network.proofs.VertexDegrees.{vertex_has_dart, arrivals_most}
@@ -169,7 +169,7 @@ vertex_even p net plane is k below =
     even s out into many supply left nothing few = omega (arith, ints)
 
 -- what is over at one face can cross to each other face
-pub start_joined : (p : PlaneModel) (net : NetworkModel) → IsPlane p → IsFaceNet p net → IsJoined net (λ v. supply_at net v -ℤ balance net (start p) v)
+pub start_joined : (p : PlaneModel) (net : NetworkModel) → IsPlane p → IsFaceNet p net → HasUnlimitedPaths net (λ v. supply_at net v -ℤ balance net (start p) v)
 start_joined p net plane is = record {
   meets = λ s closed u v u_in v_in here over wants.
       let n : ℕ = vertices p in

@@ -2,8 +2,8 @@
 use Rattle.std.proofs.Common.{◌≡◌, ℕ, zero, suc, ◌+◌, ◌<◌, ◌≤◌, ◌==◌, if◌then◌else◌, ◌∙◌, Bool, true, false, List, [], ◌∷◌, ◌++◌, length, get_or, set, arith, sym, ap, refl, inl, inr, eqb, get_or-set_same, get_or-set_other}
 use Rattle.std.proofs.lemmas.Bool.{cases_eq, eq-eqb, ne_eqb, cond-true, cond-false}
 use Rattle.std.proofs.lemmas.List.{get_or_append_left, length-append}
-use Rattle.sums.specs.Sums.{sum_below}
-use Rattle.sums.proofs.Sums.{sum_below-more, sum_below-le, sum_below-constant}
+use Rattle.common.specs.Sums.{sum_below}
+use Rattle.common.proofs.Sums.{sum_below-more, sum_below-le, sum_below-constant}
 use Rattle.networks.specs.declared.arc.Arc.{Arc}
 use Rattle.networks.specs.declared.arc.Cap.{Cap}
 

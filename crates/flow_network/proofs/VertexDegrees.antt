@@ -1,9 +1,9 @@
 -- How many darts arrive at a vertex: at least one, and at most four.
 use Rattle.std.proofs.Common.{◌≡◌, ◌≢◌, ◌⊎◌, ℕ, zero, suc, ◌+◌, ◌-◌, ◌<◌, ◌≤◌, ◌==◌, if◌then◌else◌, ◌∙◌, min, Bool, true, false, not, List, [], length, get_or, arith, subst, sym, ap, refl, inl, inr, eqb}
-use Rattle.std.proofs.lemmas.Bool.{cases_eq, cases_Bool, eq-eqb, eqb-true, eqb-false, ne_eqb, cond-false, not_from_false, not_from_true}
+use Rattle.std.proofs.lemmas.Bool.{cases_eq, cases_Bool, eq-eqb, eqb-true, eqb-false, ne_eqb, cond-true, cond-false, cases_lt, not_from_false, not_from_true}
 use Rattle.std.proofs.lemmas.List.{get_or_default}
-use Rattle.sums.specs.Sums.{sum_below}
-use Rattle.sums.proofs.Sums.{sum_below-same, sum_below-none, sum_below-turned}
+use Rattle.common.specs.Sums.{sum_below}
+use Rattle.common.proofs.Sums.{sum_below-same, sum_below-none, sum_below-turned}
 use Rattle.embedding.specs.Lists.{list_of}
 use Rattle.embedding.specs.Darts.{dart_count, tail_of, head_of, first_dart}
 use Rattle.embedding.specs.Rules.{IsClosed}
@@ -98,6 +98,58 @@ arrivals-leaving p ends v =
 cases_one : (b : Bool) → (if b then 1 else 0) ≤ 1
 cases_one true = omega arith
 cases_one false = omega arith
+
+-- what is 1 at so many places behind one another, and else 0, sums to as many of them as lie below n
+counted : (n first len : ℕ) (f : ℕ → ℕ) → ((d : ℕ) → d < n → first ≤ d → d < first + len → f d ≡ 1) →
+    ((d : ℕ) → d < n → (d < first) ⊎ (first + len ≤ d) → f d ≡ 0) → sum_below n f ≡ min (n - first) len
+counted zero first len f ones zeros = omega arith
+counted (suc n) first len f ones zeros =
+    let before : sum_below n f ≡ min (n - first) len = counted n first len f (λ d l. ones d (omega arith)) (λ d l. zeros d (omega arith)) in
+    elim (cases_lt n first) [
+      | inl low ↦ omega (arith, before, zeros n (omega arith) (inl low), low)
+      | inr high ↦
+          elim (cases_lt n (first + len)) [
+            | inl within ↦ omega (arith, before, ones n (omega arith) (omega (arith, high)) within, high, within)
+            | inr beyond ↦ omega (arith, before, zeros n (omega arith) (inr (omega (arith, beyond))), high, beyond)
+          ]
+    ]
+
+-- as many darts arrive at a vertex as its list has entries
+pub arrivals-degree : (p : PlaneModel) → IsPlane p → (v : ℕ) → 0 < v → v ≤ vertices p → arrivals p v ≡ length (list_of p.lists v)
+arrivals-degree p plane zero some within = absurd (omega (arith, some))
+arrivals-degree p plane (suc k) some within =
+    let first : ℕ = first_dart p.lists k in
+    let len : ℕ = length (get_or p.lists k []) in
+    let place : k < length p.lists = omega (arith, within) in
+    let below : (i : ℕ) → i < len → first + i < darts p = λ i l. dart_below p.lists (first + i) k i (stands_at 1 p.lists (first + i) k i place l refl) in
+    let all : min (darts p - first) len ≡ len =
+    elim (cases_lt 0 len) [
+      | inl long ↦ omega (arith, below (len - 1) (omega (arith, long)), long)
+      | inr none ↦ omega (arith, none)
+    ] in
+    arrivals-leaving p (plane_ends p plane) (suc k) ∙ counted (darts p) first len (leaving p (suc k)) (here p k place) (elsewhere p k) ∙ all
+  where
+    here : (p : PlaneModel) (k : ℕ) → k < length p.lists → (d : ℕ) → d < darts p → first_dart p.lists k ≤ d →
+        d < first_dart p.lists k + length (get_or p.lists k []) → leaving p (suc k) d ≡ 1
+    here p k place d l from to =
+        let stands = stands_at 1 p.lists d k (d - first_dart p.lists k) place (omega (arith, from, to)) (omega (arith, from)) in
+        cond-true {A = ℕ} (eqb (tail p d) (suc k)) 1 0 (eq-eqb (tail p d) (suc k) (tail_at p.lists d k (d - first_dart p.lists k) stands))
+
+    elsewhere : (p : PlaneModel) (k : ℕ) → (d : ℕ) → d < darts p →
+        (d < first_dart p.lists k) ⊎ (first_dart p.lists k + length (get_or p.lists k []) ≤ d) → leaving p (suc k) d ≡ 0
+    elsewhere p k d l away =
+        elim (cases_eq (tail p d) (suc k)) [
+          | inr other ↦ cond-false {A = ℕ} (eqb (tail p d) (suc k)) 1 0 (ne_eqb (tail p d) (suc k) other)
+          | inl same ↦
+              let (j, i, at) = dart_stands 1 p.lists d l in
+              let list : j ≡ k = omega (arith, tail_at p.lists d j i at, same) in
+              let place : i < length (get_or p.lists k []) = subst (λ (m : ℕ). i < length (get_or p.lists m [])) list at.place in
+              let number : d ≡ first_dart p.lists k + i = subst (λ (m : ℕ). d ≡ first_dart p.lists m + i) list at.number in
+              elim away [
+                | inl low ↦ absurd (omega (arith, number, low))
+                | inr high ↦ absurd (omega (arith, number, place, high))
+              ]
+        ]
 
 -- what is at most 1, and 0 but at four places behind one another, sums to at most 4
 near_few : (n first : ℕ) (f : ℕ → ℕ) → ((d : ℕ) → f d ≤ 1) →

@@ -2,7 +2,7 @@
 -- to its face, and a crossing arc, from its face to the one across. A unit is a right angle, or a turn that goes
 -- over to the other face. Faces lie on the left of their darts.
 use Rattle.std.specs.Prelude.{◌≡◌, ℕ, ◌+◌, ◌-◌, ◌<◌, ◌≤◌, ◌==◌, if◌then◌else◌, pos, negsuc, ◌-ℤ◌}
-use Rattle.sums.specs.Sums.{sum_below}
+use Rattle.common.specs.Sums.{sum_below}
 use Rattle.faces.specs.Planes.{PlaneModel, darts, vertices, head, reverse_dart, face_at, degree}
 use Rattle.networks.specs.declared.arc.Cap.TheVariants.{AtMost, Any}
 use Rattle.networks.specs.Networks.{NetworkModel, node_count, arc_count, arc_at, supply_at}

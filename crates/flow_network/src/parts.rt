@@ -4,21 +4,18 @@ ghost use Rattle.networks.specs.declared.arc.Cap.TheVariants.{AtMost, Any};
 ghost use Rattle.networks.specs.Networks.{no_arc};
 ghost use Rattle.flow_network.specs.FaceNet.{arrivals};
 
+use common::emptied;
 use faces::Plane;
 use min_cost_flow::{Arc, Cap};
-use reuse::emptied;
 use std::alloc::AllocError;
 
-/// How many darts arrive at each vertex.
-fn count_arrivals(plane: &Plane) -> [u16; 256]
-    ensures { (v : ℕ) → v < 256 → slice_index result v ≡ arrivals plane.now v }
+/// How many darts arrive at a vertex, which counts from 1: its degree.
+fn degree_of(plane: &Plane, vertex: u8) -> u8
+    requires some { 0 < vertex }
+    requires within { vertex ≤ vertices plane.now }
+    ensures { result ≡ arrivals plane.now vertex }
 {
-    let graph = plane.graph();
-    let mut counts = [0u16; 256];
-    'darts: for dart in 0..graph.darts() {
-        counts[usize::from(graph.head(dart))] += 1;
-    }
-    counts
+    plane.graph().neighbours(vertex).len() as u8
 }
 
 /// What a face supplies: the right angles by which it turns to the left, less its degree.
@@ -41,12 +38,11 @@ pub fn supplies_of(old: Vec<i32>, plane: &Plane) -> Result<Vec<i32>, AllocError>
         → slice_index_or s.items (vertices plane.now + f) (pos 0)
         ≡ (if f == plane.now.outer then negsuc 3 else pos 4) -ℤ pos (degree plane.now f)) }
 {
-    let counts = count_arrivals(plane);
     let vertices = plane.graph().vertices();
     let nodes = usize::from(vertices) + usize::from(plane.face_count());
     let mut supplies = emptied(old, nodes)?;
     'vertices: for place in 0..vertices {
-        supplies.push(4 - i32::from(counts[usize::from(place) + 1]))?;
+        supplies.push(4 - i32::from(degree_of(plane, place + 1)))?;
     }
     'faces: for face in 0..plane.face_count() {
         supplies.push(face_supply(plane, face))?;

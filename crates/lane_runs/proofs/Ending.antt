@@ -1,7 +1,7 @@
 -- How a run ends: beside its consumer, which holds what it held, or with its seats.
 use Rattle.std.proofs.Common.{◌≡◌, ℕ, List, All, true, Result, Ok, Err, Vec, vec_len, IfOk, IfErr, ◌∙◌}
 use Rattle.std.specs.declared.alloc.Global.{Global}
-use Rattle.choices.specs.declared.Choice.{Choice}
+use Rattle.common.specs.declared.choice.Choice.{Choice}
 use Rattle.ruled_lanes.specs.declared.dealing.Tickets.{Tickets}
 use Rattle.ruled_lanes.specs.declared.dealing.Seat.{Seat}
 use Rattle.ruled_lanes.specs.TicketRule.{times}

@@ -1,6 +1,6 @@
 -- What the threads of a lane give back.
 use Rattle.std.specs.Prelude.{◌≡◌, ◌++◌, ◌∷◌, ℕ, List, [], true, Result, IfOk, IfErr, OnOk}
-use Rattle.choices.specs.declared.Choice.{Choice}
+use Rattle.common.specs.declared.choice.Choice.{Choice}
 use Rattle.ruled_lanes.specs.declared.link_ends.Giver.{Giver}
 use Rattle.ruled_lanes.specs.declared.link_ends.Taker.{Taker}
 use Rattle.ruled_lanes.specs.declared.fan_ends.LaneGiver.{LaneGiver}

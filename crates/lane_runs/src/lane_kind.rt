@@ -2,7 +2,7 @@
 ghost use Rattle.std.specs.Prelude.{◌≡◌, ◌≤◌, ℕ, List};
 ghost use Rattle.streams.specs.declared.frames.Mark.{Mark};
 
-use choices::Choice;
+use common::Choice;
 use lanes::{Numbered, Staged};
 use planar_code::Record;
 use std::alloc::{AllocError, Global};

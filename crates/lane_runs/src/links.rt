@@ -2,7 +2,7 @@
 ghost use Rattle.std.specs.Prelude.{◌≡◌, ◌≤◌, ℕ, List, IfOk};
 ghost use Rattle.ruled_lanes.specs.declared.limits.TheConstants.{MAX_CAPACITY};
 ghost use Rattle.ruled_lanes.specs.LinkEnds.{given, taken, AreEnds};
-ghost use Rattle.choices.specs.declared.Choice.{Choice};
+ghost use Rattle.common.specs.declared.choice.Choice.{Choice};
 ghost use Rattle.lanes.specs.declared.message.Message.{Message as AnyMessage};
 ghost use Rattle.lanes.specs.Opening.{Meaning};
 ghost use Rattle.lanes.specs.Stages.{IsPassedOn};

@@ -4,7 +4,7 @@ ghost use Rattle.ruled_lanes.specs.LinkEnds.{given, GivesToSame};
 ghost use Rattle.lanes.specs.Notes.{notes};
 
 use crate::lane_kind::LaneKind;
-use choices::Choice;
+use common::Choice;
 use lanes::{Gate, Keep, Message, Stage};
 use planar_code::Record;
 use ruled_lanes::Giver;

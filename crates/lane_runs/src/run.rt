@@ -2,7 +2,7 @@
 ghost use Rattle.std.specs.Prelude.{◌≤◌, ◌<◌};
 ghost use Rattle.ruled_lanes.specs.declared.limits.TheConstants.{LANES, MAX_CAPACITY, MAX_TICKETS};
 
-use choices::Choice;
+use common::Choice;
 use std::alloc::Global;
 
 /// A run of lanes over the first files of an opener, with all that it works with beside its consumer.

@@ -3,7 +3,7 @@ ghost use Rattle.ruled_lanes.specs.FanEnds.{given_at};
 ghost use Rattle.lane_runs.specs.Lanes.{EndsLane};
 
 use crate::fault::LaneFault;
-use choices::Choice;
+use common::Choice;
 use lanes::{Message, Numbered, Opener};
 use ruled_lanes::{Closed, LaneGiver, Seat, Tickets};
 use std::snapshot::Snapshot;

@@ -10,7 +10,7 @@ use crate::lane_kind::LaneKind;
 use crate::read_stage::Reading;
 use crate::shared::Shared;
 use crate::stages::MiddleStage;
-use choices::Choice;
+use common::Choice;
 use lanes::{Gate, Message, Numbered, Opener, StageWork, Staged, run_stage};
 use ruled_lanes::{Giver, Seat, Taker, Tickets};
 use std::alloc::Global;

@@ -2,7 +2,7 @@
 use Rattle.std.proofs.Common.{◌≡◌, ℕ, ◌+◌, ◌<◌, List, [], ◌∷◌, ◌++◌, map, length, Option, None, Some, refl, sym, ap, subst, ◌∙◌, arith, append-nil, append_assoc, length-append}
 use Rattle.ruled_lanes.specs.LinkEnds.{Settles}
 use Rattle.streams.specs.declared.frames.Mark.{Mark}
-use Rattle.choices.specs.declared.Choice.{Choice}
+use Rattle.common.specs.declared.choice.Choice.{Choice}
 use Rattle.lanes.specs.declared.message.Message.{Message}
 use Rattle.lanes.specs.declared.drafts.Draft.{Draft}
 use Rattle.lanes.specs.Notes.{About, Note, note, notes, numbered, GoOn, IsStopped, Item, End, Stop}

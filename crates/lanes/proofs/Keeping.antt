@@ -7,7 +7,7 @@ use Rattle.streams.specs.declared.frames.Mark.TheVariants.{Ended}
 use Rattle.streams.specs.declared.frames.Mark.TheVariants as mark
 use Rattle.streams.specs.Reading.{IsFoundIn}
 use Rattle.streams.proofs.Pieces.{nothing_read, found_failed, found_nothing}
-use Rattle.choices.specs.declared.Choice.{Choice}
+use Rattle.common.specs.declared.choice.Choice.{Choice}
 use Rattle.lanes.specs.declared.opener.OpenFault.{OpenFault}
 use Rattle.lanes.specs.declared.opener.OpenFault.TheVariants.{Io}
 use Rattle.lanes.specs.Notes.{Note}

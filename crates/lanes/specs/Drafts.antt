@@ -1,7 +1,7 @@
 -- What has come of the files so far.
 use Rattle.std.specs.Prelude.{◌≡◌, ℕ, ◌+◌, List, [], ◌∷◌, map, Option, None, Some, ⊤}
 use Rattle.streams.specs.declared.frames.Mark.{Mark}
-use Rattle.choices.specs.declared.Choice.{Choice}
+use Rattle.common.specs.declared.choice.Choice.{Choice}
 use Rattle.lanes.specs.declared.drafts.Draft.{Draft}
 use Rattle.lanes.specs.Notes.{About, Note, of_file, numbered, Item, End}
 use Rattle.lanes.specs.Opening.{Meaning, IsFoundAt}

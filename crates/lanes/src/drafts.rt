@@ -1,7 +1,7 @@
 //! Drafts of files: all that was told of each so far.
 ghost use Rattle.std.specs.Prelude.{◌≡◌, ◌++◌, ◌∷◌, [], ℕ, List, IfOk, OnOk, ⊤, vec_len};
 ghost use Rattle.std.proofs.Common.{refl, ◌∙◌};
-ghost use Rattle.choices.specs.declared.Choice.{Choice};
+ghost use Rattle.common.specs.declared.choice.Choice.{Choice};
 ghost use Rattle.lanes.specs.Notes.{Note, Item, End};
 ghost use Rattle.lanes.specs.Opening.{Meaning};
 ghost use Rattle.lanes.specs.Drafts.{AreDrafts};

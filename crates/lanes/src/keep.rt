@@ -2,7 +2,7 @@
 ghost use Rattle.std.specs.Prelude.{◌≡◌, ℕ, List, [], ◌∷◌, ◌++◌, OnOk};
 ghost use Rattle.lanes.specs.Notes.{Note, Item};
 
-use choices::Choice;
+use common::Choice;
 use planar_code::Record;
 use std::alloc::Global;
 

@@ -40,6 +40,6 @@ pub trait Staged: Numbered {
     fn exchange<R: Wait>(rt: &R, scratch: &mut Self::Scratch);
 
     /// Does the work. The record and the choice stay the same.
-    fn next(self, alloc: Global, scratch: &mut Self::Scratch) -> Self::Next
+    fn work(self, alloc: Global, scratch: &mut Self::Scratch) -> Self::Next
         ensures { Self.Next.about result ≡ Self.about self };
 }

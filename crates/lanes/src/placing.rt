@@ -5,7 +5,7 @@ ghost use Rattle.lanes.specs.Numbering.{KeepsRecords, keeps_none, keeps_on, AreO
 ghost use Rattle.streams.specs.Placing.{EachAt};
 
 use crate::keep::Keep;
-use choices::Choice;
+use common::Choice;
 use planar_code::Record;
 use std::alloc::Global;
 use streams::Receiver;

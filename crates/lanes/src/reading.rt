@@ -7,7 +7,7 @@ ghost use Rattle.lanes.specs.Keeping.{KeepsFile, KeepsSource};
 use crate::keep::Keep;
 use crate::opener::{OpenFault, Opener};
 use crate::placing::Places;
-use choices::Choice;
+use common::Choice;
 use planar_code::Ending;
 use std::alloc::Global;
 use streams::{Mark, SourceEnd, Tap, read_source};

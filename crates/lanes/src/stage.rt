@@ -39,7 +39,7 @@ pub fn run_stage<A: Staged, M: Drop, R: Wait, G: Gate>(
             Ok(Message::Item(item)) => {
                 gate.pass(lane, A::STAGE, item.ordinal());
                 A::exchange(rt, &mut scratch);
-                match giver.give(rt, Message::Item(item.next(alloc, &mut scratch))) {
+                match giver.give(rt, Message::Item(item.work(alloc, &mut scratch))) {
                     Ok(()) => {}
                     Err(_) => return None,
                 }

@@ -2,22 +2,22 @@
 use Rattle.std.proofs.Common.{◌≡◌, ◌≤◌, ◌<◌, ℕ, ◌+◌, ◌*◌, List, length, refl, sym, ap, ◌∙◌, arith}
 use Rattle.std.specs.Prelude.{◌==◌, ◌↔◌, if◌then◌else◌, Bool, true}
 use Rattle.std.proofs.Math.Nat.{mul-le-mul_left, mul-add}
-use Rattle.sums.specs.Sums.{sum_below}
-use Rattle.sums.proofs.Sums.{sum_below-same, sum_below-le, sum_below-add, exchanged}
-use Rattle.least_length.specs.declared.rows.Edge.{Edge}
-use Rattle.least_length.specs.declared.rows.Row.{Row}
-use Rattle.least_length.specs.declared.rows.Sight.{Sight}
+use Rattle.common.specs.Sums.{sum_below}
+use Rattle.common.proofs.Sums.{sum_below-same, sum_below-le, sum_below-add, exchanged}
+use Rattle.least_length.specs.declared.segments.Edge.{Edge}
+use Rattle.least_length.specs.declared.segments.Segment.{Segment}
+use Rattle.least_length.specs.declared.segments.Sight.{Sight}
 use Rattle.least_length.specs.Lengths.{edge_at, distance, total_length, IsLeast, KeepsOrder}
 use Rattle.least_length.specs.Weights.{sight_at, total_weight, up_at, down_at, AreWeights, HasEnds, IsCertificate, IsSight}
 
--- the numbers of the rows where edges start, and where they end
+-- the numbers of the segments where edges start, and where they end
 abbrev pub at_starts : List Edge → (ℕ → ℕ) → ℕ
 at_starts edges x = sum_below (length edges) (λ i. x (edge_at edges i).from * 1)
 
 abbrev pub at_ends : List Edge → (ℕ → ℕ) → ℕ
 at_ends edges x = sum_below (length edges) (λ i. x (edge_at edges i).to * 1)
 
--- the numbers of the rows that are before in pairs, and of those that are behind, each times the weight
+-- the numbers of the segments that are before in pairs, and of those that are behind, each times the weight
 abbrev pub before_weighed : List Sight → (ℕ → ℕ) → ℕ
 before_weighed sights x = sum_below (length sights) (λ i. x (sight_at sights i).before * (sight_at sights i).weight)
 
@@ -38,9 +38,9 @@ both_exchanged n m k at to w x ha ht ups e =
     omega arith
 
 -- weights in balance move the numbers as edges do
-pub in_balance : (rows : List Row) (edges : List Edge) (sights : List Sight) (x : ℕ → ℕ) → AreWeights rows edges sights → at_starts edges x + behind_weighed sights x ≡ at_ends edges x + before_weighed sights x
-in_balance rows edges sights x w =
-    let n = length rows in
+pub in_balance : (segments : List Segment) (edges : List Edge) (sights : List Sight) (x : ℕ → ℕ) → AreWeights segments edges sights → at_starts edges x + behind_weighed sights x ≡ at_ends edges x + before_weighed sights x
+in_balance segments edges sights x w =
+    let n = length segments in
     let m = length edges in
     let k = length sights in
     let up : sum_below n (λ r. x r * up_at edges sights r) ≡ at_starts edges x + behind_weighed sights x =
@@ -65,8 +65,8 @@ one_edge : (a b : ℕ) → b * 1 ≤ a * 1 + distance a b
 one_edge a b = omega arith
 
 -- weights in balance bound the length of all numbers that keep the order
-pub weights_bound : (rows : List Row) (edges : List Edge) (sights : List Sight) (x : ℕ → ℕ) → AreWeights rows edges sights → KeepsOrder rows x → total_weight sights ≤ total_length edges x
-weights_bound rows edges sights x w keeps =
+pub weights_bound : (segments : List Segment) (edges : List Edge) (sights : List Sight) (x : ℕ → ℕ) → AreWeights segments edges sights → KeepsOrder segments x → total_weight sights ≤ total_length edges x
+weights_bound segments edges sights x w keeps =
     let m = length edges in
     let k = length sights in
     let before : ℕ → ℕ = λ i. x (sight_at sights i).before * (sight_at sights i).weight in
@@ -81,17 +81,17 @@ weights_bound rows edges sights x w keeps =
     let reach : sum_below m ends ≤ sum_below m (λ i. starts i + lengths i) =
     sum_below-le m ends (λ i. starts i + lengths i) (λ i h. one_edge (x (edge_at edges i).from) (x (edge_at edges i).to)) in
     let reached : sum_below m (λ i. starts i + lengths i) ≡ at_starts edges x + total_length edges x = sum_below-add m starts lengths in
-    let balance : at_starts edges x + behind_weighed sights x ≡ at_ends edges x + before_weighed sights x = in_balance rows edges sights x w in
+    let balance : at_starts edges x + behind_weighed sights x ≡ at_ends edges x + before_weighed sights x = in_balance segments edges sights x w in
     omega arith
 
 -- a certificate shows that numbers give edges of least total length
-pub certified : (rows : List Row) (edges : List Edge) (x : ℕ → ℕ) (sights : List Sight) → IsCertificate rows edges x sights → IsLeast rows edges x
-certified rows edges x sights c = record {
+pub certified : (segments : List Segment) (edges : List Edge) (x : ℕ → ℕ) (sights : List Sight) → IsCertificate segments edges x sights → IsLeast segments edges x
+certified segments edges x sights c = record {
   keeps = c.keeps;
-  least = λ others keeps. let bound : total_weight sights ≤ total_length edges others = weights_bound rows edges sights others c.weights keeps in omega (arith, c.total);
+  least = λ others keeps. let bound : total_weight sights ≤ total_length edges others = weights_bound segments edges sights others c.weights keeps in omega (arith, c.total);
 }
 
 -- with all else a certificate, a test of balance tests the certificate
-pub certificate_parts : (rows : List Row) (edges : List Edge) (x : ℕ → ℕ) (sights : List Sight) (found : Bool) → KeepsOrder rows x → ((i : ℕ) → i < length edges → HasEnds rows (edge_at edges i)) → ((i : ℕ) → i < length sights → IsSight rows (sight_at sights i)) → total_weight sights ≡ total_length edges x → ((found ≡ true) ↔ ((r : ℕ) → r < length rows → up_at edges sights r ≡ down_at edges sights r)) → (found ≡ true) ↔ IsCertificate rows edges x sights
-certificate_parts rows edges x sights found keeps ends pairs total even =
+pub certificate_parts : (segments : List Segment) (edges : List Edge) (x : ℕ → ℕ) (sights : List Sight) (found : Bool) → KeepsOrder segments x → ((i : ℕ) → i < length edges → HasEnds segments (edge_at edges i)) → ((i : ℕ) → i < length sights → IsSight segments (sight_at sights i)) → total_weight sights ≡ total_length edges x → ((found ≡ true) ↔ ((r : ℕ) → r < length segments → up_at edges sights r ≡ down_at edges sights r)) → (found ≡ true) ↔ IsCertificate segments edges x sights
+certificate_parts segments edges x sights found keeps ends pairs total even =
     (λ h. record { keeps = keeps; weights = record { ends = ends; pairs = pairs; balance = even.0 h }; total = total }, λ c. even.1 c.weights.balance)

@@ -1,21 +1,21 @@
-//! Sums of what moves each row up and down.
+//! Sums of what moves each segment up and down.
 
 ghost use Rattle.std.specs.Prelude.{◌≡◌, ◌<◌, ◌≤◌, ◌↔◌, ◌+◌, ◌==◌, if◌then◌else◌, ℕ, [], length, true, IfOk, slice_index};
-ghost use Rattle.sums.specs.Sums.{sum_below};
-ghost use Rattle.least_length.specs.declared.rows.TheConstants.{MAX_EDGES, MAX_SIGHTS};
+ghost use Rattle.common.specs.Sums.{sum_below};
+ghost use Rattle.least_length.specs.declared.segments.TheConstants.{MAX_EDGES, MAX_SIGHTS};
 ghost use Rattle.least_length.specs.Lengths.{edge_at};
 ghost use Rattle.least_length.specs.Weights.{down_at, sight_at, up_at};
 
-use crate::rows::{Edge, Sight};
+use crate::segments::{Edge, Sight};
 use crate::sweep::Sweep;
 use std::alloc::{AllocError, Global};
 
-/// Memory for a test: what moves each row up and down, and a sweep.
+/// Memory for a test: what moves each segment up and down, and a sweep.
 #[derive(Drop)]
 pub(crate) struct Balance {
-    /// For each row what moves it up.
+    /// For each segment what moves it up.
     up: Vec<u64>,
-    /// For each row what moves it down.
+    /// For each segment what moves it down.
     down: Vec<u64>,
     pub(crate) sweep: Sweep,
 }
@@ -32,23 +32,23 @@ impl Balance {
         }
     }
 
-    /// Whether at each row edges and weights are in balance.
+    /// Whether at each segment edges and weights are in balance.
     pub(crate) fn is_even(
         &mut self,
-        rows: usize,
+        segments: usize,
         edges: &[Edge],
         sights: &[Sight],
     ) -> Result<bool, AllocError>
         requires edges { length edges.now ≤ MAX_EDGES }
         requires sights { length sights.now ≤ MAX_SIGHTS }
-        requires ends { (i : ℕ) → i < length edges.now → ((edge_at edges.now i).from < rows) × ((edge_at edges.now i).to < rows) }
-        requires pairs { (i : ℕ) → i < length sights.now → ((sight_at sights.now i).before < rows) × ((sight_at sights.now i).behind < rows) }
-        ensures { IfOk result (λ even. (even ≡ true) ↔ ((r : ℕ) → r < rows → up_at edges.now sights.now r ≡ down_at edges.now sights.now r)) }
+        requires ends { (i : ℕ) → i < length edges.now → ((edge_at edges.now i).from < segments) × ((edge_at edges.now i).to < segments) }
+        requires pairs { (i : ℕ) → i < length sights.now → ((sight_at sights.now i).before < segments) × ((sight_at sights.now i).behind < segments) }
+        ensures { IfOk result (λ even. (even ≡ true) ↔ ((r : ℕ) → r < segments → up_at edges.now sights.now r ≡ down_at edges.now sights.now r)) }
     {
         self.up.clear();
-        self.up.resize(rows, 0)?;
+        self.up.resize(segments, 0)?;
         self.down.clear();
-        self.down.resize(rows, 0)?;
+        self.down.resize(segments, 0)?;
         let even = is_even_in(
             edges,
             sights,
@@ -59,7 +59,7 @@ impl Balance {
     }
 }
 
-/// Whether at each row edges and weights are in balance, by adding them up in two lists of zeros.
+/// Whether at each segment edges and weights are in balance, by adding them up in two lists of zeros.
 fn is_even_in(edges: &[Edge], sights: &[Sight], up: &mut [u64], down: &mut [u64]) -> bool
     requires edges { length edges.now ≤ MAX_EDGES }
     requires sights { length sights.now ≤ MAX_SIGHTS }
@@ -93,7 +93,7 @@ fn add_edges(edges: &[Edge], up: &mut [u64], down: &mut [u64])
     }
 }
 
-/// Adds the weight of each pair up at the row behind, and down at the row before.
+/// Adds the weight of each pair up at the segment behind, and down at the segment before.
 fn add_sights(sights: &[Sight], up: &mut [u64], down: &mut [u64])
     requires few { length sights.now ≤ MAX_SIGHTS }
     requires behind { (i : ℕ) → i < length sights.now → (sight_at sights.now i).behind < length up.old }

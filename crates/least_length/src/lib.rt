@@ -1,9 +1,10 @@
-//! Numbers of rows along one axis with which edges are shortest in all, and their proof.
+//! Numbers of segments along one axis with which edges are shortest in all, and their proof.
 //!
-//! A *row* is a longest line of vertices and corners that edges join along the other axis; along this one it has one
-//! number. The rows on a level keep their order, and nothing else is kept. Least total length is then a linear program
-//! over the rows; its dual gives each pair of rows that stand on one level a weight, and weights that are in balance
-//! at each row bound the length of all numbers from below (Tamassia 1987, by a flow; strong duality).
+//! A *segment* is a longest line of vertices and corners that edges join along the other axis; along this one
+//! it has one number. The segments on a level keep their order, and nothing else is kept. Least total length is
+//! then a linear program over the segments; its dual gives each pair of segments that stand on one level a
+//! weight, and weights that are in balance at each segment bound the length of all numbers from below (Tamassia
+//! 1987, by a flow; strong duality).
 #![tactic(auto)]
 
 mod balance;
@@ -12,12 +13,12 @@ mod laws;
 mod least;
 mod neighbours;
 mod pulling;
-mod rows;
 mod scratch;
+mod segments;
 mod sweep;
 
 pub use certificate::certify_lengths;
 pub use laws::weights_bound_lengths;
 pub use least::{find_least, find_shorter, least_numbers, least_numbers_in};
-pub use rows::{Edge, MAX_EDGES, MAX_SIGHTS, Row, Sight};
 pub use scratch::Scratch;
+pub use segments::{Edge, MAX_EDGES, MAX_SIGHTS, Segment, Sight};

@@ -1,35 +1,35 @@
-//! Rows that their edges pull, until all pulls are in balance.
+//! Segments that their edges pull, until all pulls are in balance.
 
 ghost use Rattle.std.specs.Prelude.{◌≡◌, []};
 
 use crate::neighbours::Neighbours;
-use crate::rows::{Edge, MAX_SIGHTS, Row, Sight};
+use crate::segments::{Edge, MAX_SIGHTS, Segment, Sight};
 use std::alloc::{AllocError, Global};
 
-/// How many times a row is pulled on at most.
+/// How many times a segment is pulled on at most.
 const MAX_PULLS: usize = 65_536;
 
-/// Stands for the pair by which the search came to a row that it has not reached.
+/// Stands for the pair by which the search came to a segment that it has not reached.
 const UNREACHED: u16 = u16::MAX;
 
-/// Stands for that of the row where the search began.
+/// Stands for that of the segment where the search began.
 const SOURCE: u16 = u16::MAX - 1;
 
 /// What the search for least numbers works in.
 #[derive(Drop)]
 pub(crate) struct Pulling {
     pub(crate) neighbours: Neighbours,
-    /// For each row how many more units pull it up than down.
+    /// For each segment how many more units pull it up than down.
     excess: Vec<i32>,
-    /// The numbers of the rows so far.
+    /// The numbers of the segments so far.
     numbers: Vec<u32>,
-    /// For each row the pair by which the search came to it.
+    /// For each segment the pair by which the search came to it.
     from: Vec<u16>,
-    /// The rows that the search has reached.
+    /// The segments that the search has reached.
     reached: Vec<u16>,
     /// Those of them at which it has not looked yet.
     open: Vec<u16>,
-    /// Whether some rows have moved, and others have not.
+    /// Whether some segments have moved, and others have not.
     moved: bool,
 }
 
@@ -49,27 +49,31 @@ impl Pulling {
         }
     }
 
-    /// Whether the numbers found are others than those that the rows had, and not all by the same amount.
+    /// Whether the numbers found are others than those that the segments had, and not all by the same amount.
     pub(crate) fn has_moved(&self) -> bool {
         self.moved
     }
 
-    /// Gives pairs of neighbours weights that are in balance, and rows numbers with which those with a weight are next to
-    /// each other; whether that was done. The rows are in the order of their numbers.
-    pub(crate) fn balance(&mut self, rows: &[Row], edges: &[Edge]) -> Result<bool, AllocError> {
-        self.neighbours.list(rows, edges)?;
-        if self.neighbours.sights.len() > MAX_SIGHTS || rows.len() >= usize::from(SOURCE) {
+    /// Gives pairs of neighbours weights that are in balance, and segments numbers with which those with a
+    /// weight are next to each other; whether that was done. The segments are in the order of their numbers.
+    pub(crate) fn balance(
+        &mut self,
+        segments: &[Segment],
+        edges: &[Edge],
+    ) -> Result<bool, AllocError> {
+        self.neighbours.list(segments, edges)?;
+        if self.neighbours.sights.len() > MAX_SIGHTS || segments.len() >= usize::from(SOURCE) {
             return Ok(false);
         }
-        self.begin(rows, edges)?;
+        self.begin(segments, edges)?;
         if self.excess.iter().all(|units| *units == 0) {
             return Ok(true);
         }
-        self.neighbours.list_pairs(rows.len())?;
+        self.neighbours.list_pairs(segments.len())?;
         self.from.clear();
-        self.from.resize(rows.len(), UNREACHED)?;
+        self.from.resize(segments.len(), UNREACHED)?;
         self.reached.clear();
-        for source in 0..rows.len() as u16 {
+        for source in 0..segments.len() as u16 {
             for _ in 0..MAX_PULLS {
                 if self.excess_at(source) <= 0 {
                     break;
@@ -82,16 +86,16 @@ impl Pulling {
         Ok(true)
     }
 
-    /// Takes the numbers of the rows, and a unit up where each edge begins, and down where it ends, less the weights of pairs
-    /// that are next to each other. No other pair has a weight then.
-    fn begin(&mut self, rows: &[Row], edges: &[Edge]) -> Result<(), AllocError> {
+    /// Takes the numbers of the segments, and a unit up where each edge begins, and down where it ends, less
+    /// the weights of pairs that are next to each other. No other pair has a weight then.
+    fn begin(&mut self, segments: &[Segment], edges: &[Edge]) -> Result<(), AllocError> {
         self.moved = false;
         self.numbers.clear();
         self.excess.clear();
-        for row in rows {
-            self.numbers.push(u32::from(row.number))?;
+        for segment in segments {
+            self.numbers.push(u32::from(segment.number))?;
         }
-        self.excess.resize(rows.len(), 0)?;
+        self.excess.resize(segments.len(), 0)?;
         let numbers = self.numbers.as_slice();
         let excess = self.excess.as_mut_slice();
         for edge in edges {
@@ -110,12 +114,12 @@ impl Pulling {
         Ok(())
     }
 
-    /// Sends units that pull a row up along pairs to one that is pulled down; whether there is one. Where no pair leads
-    /// on, all rows reached move up together until one does.
+    /// Sends units that pull a segment up along pairs to one that is pulled down; whether there is one. Where
+    /// no pair leads on, all segments reached move up together until one does.
     fn send(&mut self, source: u16) -> Result<bool, AllocError> {
         let from = self.from.as_mut_slice();
-        for row in self.reached.as_slice() {
-            set(from, *row, UNREACHED);
+        for segment in self.reached.as_slice() {
+            set(from, *segment, UNREACHED);
         }
         set(from, source, SOURCE);
         self.reached.clear();
@@ -132,28 +136,28 @@ impl Pulling {
         Ok(false)
     }
 
-    /// Reaches all rows to which pairs lead, up to the first one that is pulled down. From the last row reached it goes on
-    /// first, which finds one after fewer rows than in their order.
+    /// Reaches all segments to which pairs lead, up to the first one that is pulled down. From the last segment
+    /// reached it goes on first, which finds one after fewer segments than in their order.
     fn spread(&mut self) -> Result<Option<u16>, AllocError> {
         self.open.clear();
         self.open.extend_from_slice(self.reached.as_slice())?;
         for _ in 0..self.from.len() {
-            let Some(row) = self.open.pop() else {
+            let Some(segment) = self.open.pop() else {
                 break;
             };
-            if let Some(target) = self.visit(row)? {
+            if let Some(target) = self.visit(segment)? {
                 return Ok(Some(target));
             }
         }
         Ok(None)
     }
 
-    /// Reaches the rows to which the pairs of one row lead, up to the first one that is pulled down.
-    fn visit(&mut self, row: u16) -> Result<Option<u16>, AllocError> {
-        let (from, to) = self.neighbours.span(row);
+    /// Reaches the segments to which the pairs of one segment lead, up to the first one that is pulled down.
+    fn visit(&mut self, segment: u16) -> Result<Option<u16>, AllocError> {
+        let (from, to) = self.neighbours.span(segment);
         for place in from..to {
             let pair = self.neighbours.pair_at(place);
-            if let Some(next) = self.next(pair, row) {
+            if let Some(next) = self.next(pair, segment) {
                 set(self.from.as_mut_slice(), next, pair);
                 self.reached.push(next)?;
                 self.open.push(next)?;
@@ -165,11 +169,11 @@ impl Pulling {
         Ok(None)
     }
 
-    /// The row to which a pair leads from this one, where that is not reached: the one behind, where it is next to this
-    /// one, or the one before, where the pair has a weight to take back.
-    fn next(&self, pair: u16, row: u16) -> Option<u16> {
+    /// The segment to which a pair leads from this one, where that is not reached: the one behind, where it is
+    /// next to this one, or the one before, where the pair has a weight to take back.
+    fn next(&self, pair: u16, segment: u16) -> Option<u16> {
         let sight = self.neighbours.sight(pair)?;
-        let next = if sight.before == row {
+        let next = if sight.before == segment {
             if self.room(sight) != 0 {
                 return None;
             }
@@ -186,7 +190,7 @@ impl Pulling {
         Some(next)
     }
 
-    /// Moves all rows reached up until one of them is next to one that is not reached; whether there is one.
+    /// Moves all segments reached up until one of them is next to one that is not reached; whether there is one.
     fn move_up(&mut self) -> bool {
         let room = self.room_above();
         if room == u32::MAX {
@@ -194,30 +198,30 @@ impl Pulling {
         }
         self.moved = true;
         let numbers = self.numbers.as_mut_slice();
-        for row in self.reached.as_slice() {
-            if let Some(number) = numbers.get_mut(usize::from(*row)) {
+        for segment in self.reached.as_slice() {
+            if let Some(number) = numbers.get_mut(usize::from(*segment)) {
                 *number = number.saturating_add(room);
             }
         }
         true
     }
 
-    /// How far all rows reached can move up together, and the greatest number where none is in their way.
+    /// How far all segments reached can move up together, and the greatest number where none is in their way.
     fn room_above(&self) -> u32 {
         let mut least = u32::MAX;
-        for row in self.reached.as_slice() {
-            least = least.min(self.room_of(*row));
+        for segment in self.reached.as_slice() {
+            least = least.min(self.room_of(*segment));
         }
         least
     }
 
-    /// How far this row can move up to those that are not reached.
-    fn room_of(&self, row: u16) -> u32 {
-        let (from, to) = self.neighbours.span(row);
+    /// How far this segment can move up to those that are not reached.
+    fn room_of(&self, segment: u16) -> u32 {
+        let (from, to) = self.neighbours.span(segment);
         let mut least = u32::MAX;
         for place in from..to {
             if let Some(sight) = self.neighbours.sight(self.neighbours.pair_at(place)) {
-                if sight.before == row && !self.is_reached(sight.behind) {
+                if sight.before == segment && !self.is_reached(sight.behind) {
                     least = least.min(self.room(sight));
                 }
             }
@@ -225,21 +229,21 @@ impl Pulling {
         least
     }
 
-    /// Carries as many units as can be from where the search began to this row.
+    /// Carries as many units as can be from where the search began to this segment.
     fn carry(&mut self, target: u16) {
         let (source, units) = self.measure(target);
-        let mut row = target;
+        let mut segment = target;
         for _ in 0..self.from.len() {
-            let pair = self.from_at(row);
+            let pair = self.from_at(segment);
             let Some(sight) = self.neighbours.sights.get_mut(usize::from(pair)) else {
                 break;
             };
-            if sight.behind == row {
+            if sight.behind == segment {
                 sight.weight = sight.weight.saturating_add(units);
-                row = sight.before;
+                segment = sight.before;
             } else {
                 sight.weight = sight.weight.saturating_sub(units);
-                row = sight.behind;
+                segment = sight.behind;
             }
         }
         let amount = units.min(MAX_PULLS as u32) as i32;
@@ -247,42 +251,45 @@ impl Pulling {
         add(self.excess.as_mut_slice(), target, amount);
     }
 
-    /// Where the way to this row begins, and how many units it carries.
+    /// Where the way to this segment begins, and how many units it carries.
     fn measure(&self, target: u16) -> (u16, u32) {
         let mut units = self.excess_at(target).unsigned_abs();
-        let mut row = target;
+        let mut segment = target;
         for _ in 0..self.from.len() {
-            let Some(sight) = self.neighbours.sight(self.from_at(row)) else {
+            let Some(sight) = self.neighbours.sight(self.from_at(segment)) else {
                 break;
             };
-            if sight.behind == row {
-                row = sight.before;
+            if sight.behind == segment {
+                segment = sight.before;
             } else {
                 units = units.min(sight.weight);
-                row = sight.behind;
+                segment = sight.behind;
             }
         }
-        (row, units.min(self.excess_at(row).unsigned_abs()))
+        (segment, units.min(self.excess_at(segment).unsigned_abs()))
     }
 
-    /// How far the rows of a pair can come nearer to each other.
+    /// How far the segments of a pair can come nearer to each other.
     fn room(&self, sight: Sight) -> u32 {
         room_between(self.numbers.as_slice(), sight)
     }
 
-    fn is_reached(&self, row: u16) -> bool {
-        self.from_at(row) != UNREACHED
+    fn is_reached(&self, segment: u16) -> bool {
+        self.from_at(segment) != UNREACHED
     }
 
-    fn from_at(&self, row: u16) -> u16 {
-        self.from.get(usize::from(row)).copied().unwrap_or(SOURCE)
+    fn from_at(&self, segment: u16) -> u16 {
+        self.from
+            .get(usize::from(segment))
+            .copied()
+            .unwrap_or(SOURCE)
     }
 
-    fn excess_at(&self, row: u16) -> i32 {
-        self.excess.get(usize::from(row)).copied().unwrap_or(0)
+    fn excess_at(&self, segment: u16) -> i32 {
+        self.excess.get(usize::from(segment)).copied().unwrap_or(0)
     }
 
-    /// Lists the numbers of all rows, the least of them as 0.
+    /// Lists the numbers of all segments, the least of them as 0.
     pub(crate) fn write(&self, numbers: &mut Vec<u16>) -> Result<(), AllocError> {
         let mut least = u32::MAX;
         for number in self.numbers.as_slice() {
@@ -297,27 +304,27 @@ impl Pulling {
     }
 }
 
-/// Writes what belongs to a row.
-fn set(list: &mut [u16], row: u16, value: u16) {
-    if let Some(entry) = list.get_mut(usize::from(row)) {
+/// Writes what belongs to a segment.
+fn set(list: &mut [u16], segment: u16, value: u16) {
+    if let Some(entry) = list.get_mut(usize::from(segment)) {
         *entry = value;
     }
 }
 
-/// Adds to what belongs to a row.
-fn add(list: &mut [i32], row: u16, amount: i32) {
-    if let Some(entry) = list.get_mut(usize::from(row)) {
+/// Adds to what belongs to a segment.
+fn add(list: &mut [i32], segment: u16, amount: i32) {
+    if let Some(entry) = list.get_mut(usize::from(segment)) {
         *entry = entry.saturating_add(amount);
     }
 }
 
-/// How far the rows of a pair can come nearer to each other with these numbers.
+/// How far the segments of a pair can come nearer to each other with these numbers.
 fn room_between(numbers: &[u32], sight: Sight) -> u32 {
     let before = number_of(numbers, sight.before).saturating_add(1);
     number_of(numbers, sight.behind).saturating_sub(before)
 }
 
-/// The number of a row.
-fn number_of(numbers: &[u32], row: u16) -> u32 {
-    numbers.get(usize::from(row)).copied().unwrap_or(0)
+/// The number of a segment.
+fn number_of(numbers: &[u32], segment: u16) -> u32 {
+    numbers.get(usize::from(segment)).copied().unwrap_or(0)
 }

@@ -1,10 +1,10 @@
-//! A sweep along the axis that sees whether rows keep their order.
+//! A sweep along the axis that sees whether segments keep their order.
 
 ghost use Rattle.std.specs.Prelude.{◌≡◌, ◌<◌, ◌≤◌, ◌+◌, ◌^◌, ◌↔◌, ℕ, [], length, true, IfOk, slice_index};
 ghost use Rattle.least_length.specs.Lengths.{numbers_in, Crosses, KeepsOrder};
 
 use crate::certificate::keep_order;
-use crate::rows::Row;
+use crate::segments::Segment;
 use std::alloc::{AllocError, Global};
 
 /// Memory for the sweep.
@@ -24,58 +24,62 @@ impl Sweep {
         }
     }
 
-    /// Whether rows keep their order with these numbers. Where they are listed in the order of the numbers that they have, the
-    /// time is linear in their levels, else quadratic in the rows.
-    pub(crate) fn keep_order(&mut self, rows: &[Row], numbers: &[u16]) -> Result<bool, AllocError>
-        requires { length numbers.now ≡ length rows.now }
-        ensures { IfOk result (λ kept. (kept ≡ true) ↔ KeepsOrder rows.now (numbers_in numbers.now)) }
+    /// Whether segments keep their order with these numbers. Where they are listed in the order of the numbers
+    /// that they have, the time is linear in their levels, else quadratic in the segments.
+    pub(crate) fn keep_order(
+        &mut self,
+        segments: &[Segment],
+        numbers: &[u16],
+    ) -> Result<bool, AllocError>
+        requires { length numbers.now ≡ length segments.now }
+        ensures { IfOk result (λ kept. (kept ≡ true) ↔ KeepsOrder segments.now (numbers_in numbers.now)) }
     {
         self.front.clear();
-        self.front.resize(usize::from(highest(rows)) + 1, 0)?;
-        Ok(keep_order_in(self.front.as_mut_slice(), rows, numbers))
+        self.front.resize(usize::from(highest(segments)) + 1, 0)?;
+        Ok(keep_order_in(self.front.as_mut_slice(), segments, numbers))
     }
 }
 
-/// Whether rows keep their order, by a sweep or row by row.
-fn keep_order_in(front: &mut [u32], rows: &[Row], numbers: &[u16]) -> bool
-    requires { length numbers.now ≡ length rows.now }
-    ensures { (result ≡ true) ↔ KeepsOrder rows.now (numbers_in numbers.now) }
+/// Whether segments keep their order, by a sweep or segment by segment.
+fn keep_order_in(front: &mut [u32], segments: &[Segment], numbers: &[u16]) -> bool
+    requires { length numbers.now ≡ length segments.now }
+    ensures { (result ≡ true) ↔ KeepsOrder segments.now (numbers_in numbers.now) }
 {
-    if is_swept(front, rows, numbers) {
+    if is_swept(front, segments, numbers) {
         return true;
     }
-    keep_order(rows, numbers)
+    keep_order(segments, numbers)
 }
 
-/// Whether each row, in the order in which they are listed, has a number above those of all rows before it on its
-/// levels; and whether that is the order of the numbers that they have.
-fn is_swept(front: &mut [u32], rows: &[Row], numbers: &[u16]) -> bool
-    requires { length numbers.now ≡ length rows.now }
-    ensures { result ≡ true → KeepsOrder rows.now (numbers_in numbers.now) }
+/// Whether each segment, in the order in which they are listed, has a number above those of all segments before
+/// it on its levels; and whether that is the order of the numbers that they have.
+fn is_swept(front: &mut [u32], segments: &[Segment], numbers: &[u16]) -> bool
+    requires { length numbers.now ≡ length segments.now }
+    ensures { result ≡ true → KeepsOrder segments.now (numbers_in numbers.now) }
 {
     let mut last = 0;
-    for place in 0..rows.len() {
-        let row = rows[place];
-        if row.number < last || usize::from(row.high) >= front.len() {
+    for place in 0..segments.len() {
+        let segment = segments[place];
+        if segment.number < last || usize::from(segment.high) >= front.len() {
             return false;
         }
-        last = row.number;
-        if !pass(front, row, u32::from(numbers[place])) {
+        last = segment.number;
+        if !pass(front, segment, u32::from(numbers[place])) {
             return false;
         }
     }
     true
 }
 
-/// Whether no level of a row has met a number as great as this one; it is met there now.
-fn pass(front: &mut [u32], row: Row, number: u32) -> bool
-    requires levels { row.high < length front.old }
+/// Whether no level of a segment has met a number as great as this one; it is met there now.
+fn pass(front: &mut [u32], segment: Segment, number: u32) -> bool
+    requires levels { segment.high < length front.old }
     requires number { number < 2 ^ 16 }
-    ensures passed { result ≡ true → (level : ℕ) → Crosses row level → slice_index front.old level ≤ number }
-    ensures met { result ≡ true → (level : ℕ) → Crosses row level → slice_index front.new level ≡ number + 1 }
+    ensures passed { result ≡ true → (level : ℕ) → Crosses segment level → slice_index front.old level ≤ number }
+    ensures met { result ≡ true → (level : ℕ) → Crosses segment level → slice_index front.new level ≡ number + 1 }
     ensures risen { result ≡ true → (level : ℕ) → slice_index front.old level ≤ slice_index front.new level }
 {
-    for level in usize::from(row.low)..usize::from(row.high) + 1 {
+    for level in usize::from(segment.low)..usize::from(segment.high) + 1 {
         if front[level] > number {
             return false;
         }
@@ -84,11 +88,11 @@ fn pass(front: &mut [u32], row: Row, number: u32) -> bool
     true
 }
 
-/// The highest level that a row crosses, and 0 where there are no rows.
-pub(crate) fn highest(rows: &[Row]) -> u16 {
+/// The highest level that a segment crosses, and 0 where there are no segments.
+pub(crate) fn highest(segments: &[Segment]) -> u16 {
     let mut most = 0;
-    for row in rows {
-        most = most.max(row.high);
+    for segment in segments {
+        most = most.max(segment.high);
     }
     most
 }

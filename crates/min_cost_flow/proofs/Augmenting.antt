@@ -4,21 +4,21 @@ use Rattle.std.specs.Prelude.{ℤ, pos, negsuc, ◌+ℤ◌, ◌-ℤ◌, ◌≤�
 use Rattle.std.proofs.lemmas.Bool.{both_ways, cases_eq, cases_lt, eq-eqb, ne_eqb, cond-true, cond-false}
 use Rattle.std.proofs.lemmas.Int.{ints}
 use mathlib.Core.Path.{fun_ext}
-use Rattle.networks.specs.declared.residual.TheConstants.{SHUT}
-use Rattle.sums.proofs.Sums.{sum_below-same, sum_below-changed}
+use Rattle.networks.specs.declared.residual.TheConstants.{CLOSED}
+use Rattle.common.proofs.Sums.{sum_below-same, sum_below-changed}
 use Rattle.networks.specs.declared.arc.Cap.{Cap}
 use Rattle.networks.specs.declared.arc.Cap.TheVariants.{AtMost, Any}
 use Rattle.networks.specs.declared.residual.ResidualArc.{ResidualArc}
 use Rattle.networks.specs.Networks.{NetworkModel, node_count, arc_count, arc_at, HasUnitCosts, IsNetwork}
-use Rattle.networks.specs.Flow.{leaves, enters, IsWithin, HasRoom, IsResidual, HasPotentials, start_of, end_of, unit_cost, reduced_cost}
-use Rattle.shortest_paths.specs.declared.state.Visit.{Visit}
-use Rattle.shortest_paths.specs.Search.{enter_at, place_at, no_visit}
+use Rattle.networks.specs.Flow.{leaves, enters, IsWithin, IsUnsaturated, IsResidual, HasPotentials, start_of, end_of, unit_cost, reduced_cost}
+use Rattle.networks.specs.declared.state.Visit.{Visit}
+use Rattle.networks.specs.Search.{enter_at, place_at, no_visit}
 use Rattle.std.proofs.lemmas.List.{get_or_read}
 use Rattle.std.specs.Prelude.{length, slice_index_or}
 use Rattle.min_cost_flow.specs.Excess.{KeepsCaps, Carries}
 use Rattle.min_cost_flow.specs.Residual.{IsMoved}
 use Rattle.networks.specs.declared.residual.Residual.{Residual}
-use Rattle.networks.specs.ResidualArcs.{end_at, cost_at, reverse_at, room_at, StartsAt, place_of, HasResidualArcs, limit_of, IsCosted, IsFilled, carried}
+use Rattle.networks.specs.ResidualArcs.{end_at, cost_at, reverse_at, capacity_at, StartsAt, number_of, HasResidualArcs, units_of, IsCosted, AreResidualArcs, carried}
 use Rattle.networks.specs.Residuals.{IsResidualNetwork, IsSetTo, flow_of}
 use Rattle.min_cost_flow.specs.Path.{IsTight, HasPath, way, IsOnWay}
 use Rattle.min_cost_flow.specs.Round.{IsLess, carrying}
@@ -43,32 +43,32 @@ opposite : Bool → Bool
 opposite false = true
 opposite true = false
 
-opposite_is : (net : NetworkModel) (first : List ℕ) (reverse : ℕ → ℕ) (forward : List ℕ) (i : ℕ) (b : Bool) → HasResidualArcs net first reverse forward → i < arc_count net → reverse (place_of reverse forward i b) ≡ place_of reverse forward i (opposite b)
+opposite_is : (net : NetworkModel) (first : List ℕ) (reverse : ℕ → ℕ) (forward : List ℕ) (i : ℕ) (b : Bool) → HasResidualArcs net first reverse forward → i < arc_count net → reverse (number_of reverse forward i b) ≡ number_of reverse forward i (opposite b)
 unfolding opposite
 opposite_is net first reverse forward i false l b = refl
 opposite_is net first reverse forward i true l b = l.turned i b
 
 -- what a push along residual arc k changes
-pub record IsPushed (reverse room room' : ℕ → ℕ) (k amount : ℕ) : Type 0 where
-  pub less : room' k + amount ≡ room k
-  pub more : room' (reverse k) ≡ room (reverse k) + amount
-  pub others : (j : ℕ) → j ≢ k → j ≢ reverse k → room' j ≡ room j
+pub record IsPushed (reverse capacity room' : ℕ → ℕ) (k amount : ℕ) : Type 0 where
+  pub less : room' k + amount ≡ capacity k
+  pub more : room' (reverse k) ≡ capacity (reverse k) + amount
+  pub others : (j : ℕ) → j ≢ k → j ≢ reverse k → room' j ≡ capacity j
 
 pub number_below : (net : NetworkModel) (first : List ℕ) (reverse : ℕ → ℕ) (forward : List ℕ) (v k : ℕ) → HasResidualArcs net first reverse forward → v < node_count net → StartsAt first v k → k < arc_count net + arc_count net
 number_below net first reverse forward v k l b s = omega (arith, s.below, l.inside v b)
 
-pub place_below : (net : NetworkModel) (first : List ℕ) (reverse : ℕ → ℕ) (forward : List ℕ) (i : ℕ) (back : Bool) → IsNetwork net → HasResidualArcs net first reverse forward → i < arc_count net → place_of reverse forward i back < arc_count net + arc_count net
+pub place_below : (net : NetworkModel) (first : List ℕ) (reverse : ℕ → ℕ) (forward : List ℕ) (i : ℕ) (back : Bool) → IsNetwork net → HasResidualArcs net first reverse forward → i < arc_count net → number_of reverse forward i back < arc_count net + arc_count net
 place_below net first reverse forward i back n l b =
-    number_below net first reverse forward (start_of net i back) (place_of reverse forward i back) l (start_in net i back n.ends b) (l.block i back b)
+    number_below net first reverse forward (start_of net i back) (number_of reverse forward i back) l (start_in net i back n.ends b) (l.block i back b)
 
-reverse_place : (net : NetworkModel) (first : List ℕ) (reverse : ℕ → ℕ) (forward : List ℕ) (k : ℕ) (i : ℕ) (back : Bool) → HasResidualArcs net first reverse forward → i < arc_count net → place_of reverse forward i back ≡ k → reverse k ≡ place_of reverse forward i (opposite back)
+reverse_place : (net : NetworkModel) (first : List ℕ) (reverse : ℕ → ℕ) (forward : List ℕ) (k : ℕ) (i : ℕ) (back : Bool) → HasResidualArcs net first reverse forward → i < arc_count net → number_of reverse forward i back ≡ k → reverse k ≡ number_of reverse forward i (opposite back)
 reverse_place net first reverse forward k i back l b e = ap reverse (sym e) ∙ opposite_is net first reverse forward i back l b
 
 -- the reverse of one of a node's residual arcs has a number too
 pub reverse_below : (net : NetworkModel) (first : List ℕ) (reverse : ℕ → ℕ) (forward : List ℕ) (v k : ℕ) → IsNetwork net → HasResidualArcs net first reverse forward → v < node_count net → StartsAt first v k → reverse k < arc_count net + arc_count net
 reverse_below net first reverse forward v k n l b s =
     let o = l.cover v k b s in
-    let e : reverse k ≡ place_of reverse forward o.arc (opposite o.back) = reverse_place net first reverse forward k o.arc o.back l o.inside o.place in
+    let e : reverse k ≡ number_of reverse forward o.arc (opposite o.back) = reverse_place net first reverse forward k o.arc o.back l o.inside o.place in
     omega (arith, e, place_below net first reverse forward o.arc (opposite o.back) n l o.inside)
 
 not_turned : (b : Bool) → b ≡ opposite b → ⊥
@@ -80,7 +80,7 @@ not_turned false h = cc
 pub not_reverse : (net : NetworkModel) (first : List ℕ) (reverse : ℕ → ℕ) (forward : List ℕ) (v k : ℕ) → HasResidualArcs net first reverse forward → v < node_count net → StartsAt first v k → k ≢ reverse k
 not_reverse net first reverse forward v k l b s h =
     let o = l.cover v k b s in
-    let e : reverse k ≡ place_of reverse forward o.arc (opposite o.back) = reverse_place net first reverse forward k o.arc o.back l o.inside o.place in
+    let e : reverse k ≡ number_of reverse forward o.arc (opposite o.back) = reverse_place net first reverse forward k o.arc o.back l o.inside o.place in
     not_turned o.back (l.alone o.arc o.arc o.back (opposite o.back) o.inside o.inside (o.place ∙ h ∙ e)).1
 
 unit_cost_least : (net : NetworkModel) (i : ℕ) (back : Bool) → HasUnitCosts net → i < arc_count net → negsuc 0 ≤ℤ unit_cost net i back
@@ -89,41 +89,41 @@ unit_cost_least net i true costs b = omega (arith, ints, costs i b)
 
 -- the cost of a residual arc along which r fits, where a unit costs z
 coded : ℤ → ℕ → ℤ
-coded z r = cond (eqb r 0) (z +ℤ SHUT) z
+coded z r = cond (eqb r 0) (z +ℤ CLOSED) z
 
-coded_none : (z : ℤ) (r : ℕ) → r ≡ 0 → coded z r ≡ z +ℤ SHUT
+coded_none : (z : ℤ) (r : ℕ) → r ≡ 0 → coded z r ≡ z +ℤ CLOSED
 unfolding coded
-coded_none z r h = cond-true {A = ℤ} (eqb r 0) (z +ℤ SHUT) z (eq-eqb r 0 h)
+coded_none z r h = cond-true {A = ℤ} (eqb r 0) (z +ℤ CLOSED) z (eq-eqb r 0 h)
 
 coded_some : (z : ℤ) (r : ℕ) → 0 < r → coded z r ≡ z
 unfolding coded
-coded_some z r h = cond-false {A = ℤ} (eqb r 0) (z +ℤ SHUT) z (ne_eqb r 0 (λ e. omega arith))
+coded_some z r h = cond-false {A = ℤ} (eqb r 0) (z +ℤ CLOSED) z (ne_eqb r 0 (λ e. omega arith))
 
-code_is : (net : NetworkModel) (reverse : ℕ → ℕ) (forward : List ℕ) (room : ℕ → ℕ) (arcs : List ResidualArc) (i : ℕ) (back : Bool) → IsFilled net reverse forward room arcs → i < arc_count net → cost_at arcs (place_of reverse forward i back) ≡ coded (unit_cost net i back) (room (place_of reverse forward i back))
+code_is : (net : NetworkModel) (reverse : ℕ → ℕ) (forward : List ℕ) (capacity : ℕ → ℕ) (arcs : List ResidualArc) (i : ℕ) (back : Bool) → AreResidualArcs net reverse forward capacity arcs → i < arc_count net → cost_at arcs (number_of reverse forward i back) ≡ coded (unit_cost net i back) (capacity (number_of reverse forward i back))
 unfolding coded
-code_is net reverse forward room arcs i back f b = f.cost i back b
+code_is net reverse forward capacity arcs i back f b = f.cost i back b
 
 -- what fits along a residual arc and its reverse
-both_fit : (net : NetworkModel) (reverse : ℕ → ℕ) (forward : List ℕ) (room : ℕ → ℕ) (arcs : List ResidualArc) (i : ℕ) (back : Bool) → IsFilled net reverse forward room arcs → i < arc_count net → room (place_of reverse forward i back) + room (place_of reverse forward i (opposite back)) ≡ limit_of (arc_at net i).cap
+both_fit : (net : NetworkModel) (reverse : ℕ → ℕ) (forward : List ℕ) (capacity : ℕ → ℕ) (arcs : List ResidualArc) (i : ℕ) (back : Bool) → AreResidualArcs net reverse forward capacity arcs → i < arc_count net → capacity (number_of reverse forward i back) + capacity (number_of reverse forward i (opposite back)) ≡ units_of (arc_at net i).cap
 unfolding opposite
-both_fit net reverse forward room arcs i false f b = f.fits i b
-both_fit net reverse forward room arcs i true f b = omega (arith, f.fits i b)
+both_fit net reverse forward capacity arcs i false f b = f.fits i b
+both_fit net reverse forward capacity arcs i true f b = omega (arith, f.fits i b)
 
-cost_in : (net : NetworkModel) (r : Residual) (i : ℕ) (back : Bool) → IsNetwork net → IsResidualNetwork net r → i < arc_count net → HasUnitCost r (place_of (reverse_at r.rooms.items) r.forward.items i back)
+cost_in : (net : NetworkModel) (r : Residual) (i : ℕ) (back : Bool) → IsNetwork net → IsResidualNetwork net r → i < arc_count net → HasUnitCost r (number_of (reverse_at r.capacities.items) r.forward.items i back)
 cost_in net r i back n s b = (unit_cost net i back, unit_cost_least net i back n.costs b, unit_cost_most net i back n.costs b, s.filled.cost i back b)
 
 -- a node's residual arc has a reverse
 pub is_paired : (net : NetworkModel) (r : Residual) (v k : ℕ) → IsNetwork net → IsResidualNetwork net r → v < node_count net → StartsAt r.first.items v k → IsPaired r k
 is_paired net r v k n s b st =
-    let l = s.laid_out in
+    let l = s.arcs_built in
     let f = s.filled in
     let first = r.first.items in
-    let reverse = reverse_at r.rooms.items in
+    let reverse = reverse_at r.capacities.items in
     let forward = r.forward.items in
     let o = l.cover v k b st in
-    let e : reverse k ≡ place_of reverse forward o.arc (opposite o.back) = reverse_place net first reverse forward k o.arc o.back l o.inside o.place in
-    let there : room_at r.rooms.items (reverse k) ≡ room_at r.rooms.items (place_of reverse forward o.arc (opposite o.back)) = ap (room_at r.rooms.items) e in
-    let here : room_at r.rooms.items (place_of reverse forward o.arc o.back) ≡ room_at r.rooms.items k = ap (room_at r.rooms.items) o.place in
+    let e : reverse k ≡ number_of reverse forward o.arc (opposite o.back) = reverse_place net first reverse forward k o.arc o.back l o.inside o.place in
+    let there : capacity_at r.capacities.items (reverse k) ≡ capacity_at r.capacities.items (number_of reverse forward o.arc (opposite o.back)) = ap (capacity_at r.capacities.items) e in
+    let here : capacity_at r.capacities.items (number_of reverse forward o.arc o.back) ≡ capacity_at r.capacities.items k = ap (capacity_at r.capacities.items) o.place in
     let low : k < arc_count net + arc_count net = number_below net first reverse forward v k l b st in
     let back : reverse k < arc_count net + arc_count net = reverse_below net first reverse forward v k n l b st in
     record {
@@ -133,15 +133,15 @@ is_paired net r v k n s b st =
       apart = not_reverse net first reverse forward v k l b st;
       cost = subst (λ (t : ℕ). HasUnitCost r t) o.place (cost_in net r o.arc o.back n s o.inside);
       back_cost = subst (λ (t : ℕ). HasUnitCost r t) (sym e) (cost_in net r o.arc (opposite o.back) n s o.inside);
-      room = omega (arith, both_fit net reverse forward (room_at r.rooms.items) r.arcs.items o.arc o.back f o.inside, s.limits o.arc o.inside);
+      capacity = omega (arith, both_fit net reverse forward (capacity_at r.capacities.items) r.arcs.items o.arc o.back f o.inside, s.limits o.arc o.inside);
     }
 
 -- what fits along one residual arc changes no other cost
-pub still_costs : (r r' : Residual) (k units j : ℕ) (z : ℤ) → IsSetTo r r' k units → IsCosted r.arcs.items r.rooms.items j z → IsCosted r'.arcs.items r'.rooms.items j z
+pub still_costs : (r r' : Residual) (k units j : ℕ) (z : ℤ) → IsSetTo r r' k units → IsCosted r.arcs.items r.capacities.items j z → IsCosted r'.arcs.items r'.capacities.items j z
 still_costs r r' k units j z s h =
     elim (cases_eq j k) [
-      | inl q ↦ subst (λ (t : ℕ). IsCosted r'.arcs.items r'.rooms.items t z) (sym q) (s.cost z (subst (λ (t : ℕ). IsCosted r.arcs.items r.rooms.items t z) q h))
-      | inr ne ↦ s.costs j ne ∙ h ∙ ap (λ (t : ℕ). cond (eqb t 0) (z +ℤ SHUT) z) (sym (s.others j ne))
+      | inl q ↦ subst (λ (t : ℕ). IsCosted r'.arcs.items r'.capacities.items t z) (sym q) (s.cost z (subst (λ (t : ℕ). IsCosted r.arcs.items r.capacities.items t z) q h))
+      | inr ne ↦ s.costs j ne ∙ h ∙ ap (λ (t : ℕ). cond (eqb t 0) (z +ℤ CLOSED) z) (sym (s.others j ne))
     ]
 
 pub still_unit_cost : (r r' : Residual) (k units j : ℕ) → IsSetTo r r' k units → HasUnitCost r j → HasUnitCost r' j
@@ -153,31 +153,31 @@ moved_fits : (a b a' b' m k : ℕ) → a + b ≡ k → a' + m ≡ a → b' ≡ b
 moved_fits a b a' b' m k h x y = omega arith
 
 -- the rooms along and against an arc, in either order
-either_order : (reverse : ℕ → ℕ) (forward : List ℕ) (room : ℕ → ℕ) (i k : ℕ) (b : Bool) → room (place_of reverse forward i b) + room (place_of reverse forward i (opposite b)) ≡ k → room (place_of reverse forward i false) + room (place_of reverse forward i true) ≡ k
+either_order : (reverse : ℕ → ℕ) (forward : List ℕ) (capacity : ℕ → ℕ) (i k : ℕ) (b : Bool) → capacity (number_of reverse forward i b) + capacity (number_of reverse forward i (opposite b)) ≡ k → capacity (number_of reverse forward i false) + capacity (number_of reverse forward i true) ≡ k
 unfolding opposite
-either_order reverse forward room i k false h = h
-either_order reverse forward room i k true h = omega arith
+either_order reverse forward capacity i k false h = h
+either_order reverse forward capacity i k true h = omega arith
 
-pushed_fits : (net : NetworkModel) (first : List ℕ) (reverse : ℕ → ℕ) (forward : List ℕ) (room room' : ℕ → ℕ) (arcs : List ResidualArc) (i j : ℕ) (b : Bool) (k amount : ℕ) → HasResidualArcs net first reverse forward → IsFilled net reverse forward room arcs → i < arc_count net → place_of reverse forward i b ≡ k → IsPushed reverse room room' k amount → j < arc_count net → room' (place_of reverse forward j false) + room' (place_of reverse forward j true) ≡ limit_of (arc_at net j).cap
-pushed_fits net first reverse forward room room' arcs i j b k amount l f inside e s inside' =
+pushed_fits : (net : NetworkModel) (first : List ℕ) (reverse : ℕ → ℕ) (forward : List ℕ) (capacity room' : ℕ → ℕ) (arcs : List ResidualArc) (i j : ℕ) (b : Bool) (k amount : ℕ) → HasResidualArcs net first reverse forward → AreResidualArcs net reverse forward capacity arcs → i < arc_count net → number_of reverse forward i b ≡ k → IsPushed reverse capacity room' k amount → j < arc_count net → room' (number_of reverse forward j false) + room' (number_of reverse forward j true) ≡ units_of (arc_at net j).cap
+pushed_fits net first reverse forward capacity room' arcs i j b k amount l f inside e s inside' =
     let back = reverse_place net first reverse forward k i b l inside e in
     elim (cases_eq j i) [
       | inl q ↦
-          subst (λ (t : ℕ). room' (place_of reverse forward t false) + room' (place_of reverse forward t true) ≡ limit_of (arc_at net t).cap) (sym q)
-          (either_order reverse forward room' i (limit_of (arc_at net i).cap) b
-          (moved_fits (room (place_of reverse forward i b)) (room (place_of reverse forward i (opposite b))) (room' (place_of reverse forward i b)) (room' (place_of reverse forward i (opposite b))) amount (limit_of (arc_at net i).cap) (both_fit net reverse forward room arcs i b f inside)
-          (subst (λ (t : ℕ). room' t + amount ≡ room t) (sym e) s.less)
-          (subst (λ (t : ℕ). room' t ≡ room t + amount) back s.more)))
+          subst (λ (t : ℕ). room' (number_of reverse forward t false) + room' (number_of reverse forward t true) ≡ units_of (arc_at net t).cap) (sym q)
+          (either_order reverse forward room' i (units_of (arc_at net i).cap) b
+          (moved_fits (capacity (number_of reverse forward i b)) (capacity (number_of reverse forward i (opposite b))) (room' (number_of reverse forward i b)) (room' (number_of reverse forward i (opposite b))) amount (units_of (arc_at net i).cap) (both_fit net reverse forward capacity arcs i b f inside)
+          (subst (λ (t : ℕ). room' t + amount ≡ capacity t) (sym e) s.less)
+          (subst (λ (t : ℕ). room' t ≡ capacity t + amount) back s.more)))
       | inr ne ↦
-          let same : (c : Bool) → room' (place_of reverse forward j c) ≡ room (place_of reverse forward j c) =
-          λ c. s.others (place_of reverse forward j c) (λ h. ne (l.alone j i c b inside' inside (h ∙ sym e)).0) (λ h. ne (l.alone j i c (opposite b) inside' inside (h ∙ back)).0) in
+          let same : (c : Bool) → room' (number_of reverse forward j c) ≡ capacity (number_of reverse forward j c) =
+          λ c. s.others (number_of reverse forward j c) (λ h. ne (l.alone j i c b inside' inside (h ∙ sym e)).0) (λ h. ne (l.alone j i c (opposite b) inside' inside (h ∙ back)).0) in
           omega (arith, same false, same true, f.fits j inside')
     ]
 
 -- less fits along residual arc k, and as much more along its reverse
-pub pushed_along : (r r' r'' : Residual) (k amount less more : ℕ) → k ≢ reverse_at r.rooms.items k → IsSetTo r r' k less → IsSetTo r' r'' (reverse_at r.rooms.items k) more → less + amount ≡ room_at r.rooms.items k → more ≡ room_at r'.rooms.items (reverse_at r.rooms.items k) + amount → IsPushedAlong r r'' k amount
+pub pushed_along : (r r' r'' : Residual) (k amount less more : ℕ) → k ≢ reverse_at r.capacities.items k → IsSetTo r r' k less → IsSetTo r' r'' (reverse_at r.capacities.items k) more → less + amount ≡ capacity_at r.capacities.items k → more ≡ capacity_at r'.capacities.items (reverse_at r.capacities.items k) + amount → IsPushedAlong r r'' k amount
 pushed_along r r' r'' k amount less more ne one two le me =
-    let back = reverse_at r.rooms.items k in
+    let back = reverse_at r.capacities.items k in
     record {
       first = two.first ∙ one.first;
       forward = two.forward ∙ one.forward;
@@ -191,34 +191,34 @@ pushed_along r r' r'' k amount less more ne one two le me =
       others = λ j x y. two.others j y ∙ one.others j x;
     }
 
-pub was_pushed : (r r' : Residual) (k amount : ℕ) → IsPushedAlong r r' k amount → IsPushed (reverse_at r.rooms.items) (room_at r.rooms.items) (room_at r'.rooms.items) k amount
+pub was_pushed : (r r' : Residual) (k amount : ℕ) → IsPushedAlong r r' k amount → IsPushed (reverse_at r.capacities.items) (capacity_at r.capacities.items) (capacity_at r'.capacities.items) k amount
 was_pushed r r' k amount s = record { less = s.less; more = s.more; others = s.others }
 
 -- the residual arcs are still those of the network
 pub pushed_network : (net : NetworkModel) (r r' : Residual) (v k amount : ℕ) → IsResidualNetwork net r → v < node_count net → StartsAt r.first.items v k → IsPushedAlong r r' k amount → IsResidualNetwork net r'
 pushed_network net r r' v k amount s b st p =
-    let l = s.laid_out in
+    let l = s.arcs_built in
     let f = s.filled in
     let o = l.cover v k b st in
-    let filled : IsFilled net (reverse_at r.rooms.items) r.forward.items (room_at r'.rooms.items) r'.arcs.items = record {
+    let filled : AreResidualArcs net (reverse_at r.capacities.items) r.forward.items (capacity_at r'.capacities.items) r'.arcs.items = record {
       arc_size = p.arc_size ∙ f.arc_size;
-      end = λ j c h. p.ends (place_of (reverse_at r.rooms.items) r.forward.items j c) ∙ f.end j c h;
-      cost = λ j c h. p.costs (place_of (reverse_at r.rooms.items) r.forward.items j c) (unit_cost net j c) (f.cost j c h);
-      fits = λ j h. pushed_fits net r.first.items (reverse_at r.rooms.items) r.forward.items (room_at r.rooms.items) (room_at r'.rooms.items) r.arcs.items o.arc j o.back k amount l f o.inside o.place (was_pushed r r' k amount p) h;
+      end = λ j c h. p.ends (number_of (reverse_at r.capacities.items) r.forward.items j c) ∙ f.end j c h;
+      cost = λ j c h. p.costs (number_of (reverse_at r.capacities.items) r.forward.items j c) (unit_cost net j c) (f.cost j c h);
+      fits = λ j h. pushed_fits net r.first.items (reverse_at r.capacities.items) r.forward.items (capacity_at r.capacities.items) (capacity_at r'.capacities.items) r.arcs.items o.arc j o.back k amount l f o.inside o.place (was_pushed r r' k amount p) h;
     } in
     record {
-      laid_out = rw (p.first, p.forward) (subst (λ (turn : ℕ → ℕ). HasResidualArcs net r.first.items turn r.forward.items) (sym (fun_ext p.reverse)) l);
-      filled = rw p.forward (subst (λ (turn : ℕ → ℕ). IsFilled net turn r.forward.items (room_at r'.rooms.items) r'.arcs.items) (sym (fun_ext p.reverse)) filled);
+      arcs_built = rw (p.first, p.forward) (subst (λ (turn : ℕ → ℕ). HasResidualArcs net r.first.items turn r.forward.items) (sym (fun_ext p.reverse)) l);
+      filled = rw p.forward (subst (λ (turn : ℕ → ℕ). AreResidualArcs net turn r.forward.items (capacity_at r'.capacities.items) r'.arcs.items) (sym (fun_ext p.reverse)) filled);
       room_size = p.room_size ∙ s.room_size;
       limits = s.limits;
     }
 
 -- where reverses and arcs stand where they stood, what each arc carries is read as before
-pub same_flow : (r r' : Residual) → ((k : ℕ) → reverse_at r'.rooms.items k ≡ reverse_at r.rooms.items k) → r'.forward ≡ r.forward → flow_of r' ≡ carried (reverse_at r.rooms.items) r.forward.items (room_at r'.rooms.items)
-same_flow r r' turned f = rw f (ap (λ (turn : ℕ → ℕ). carried turn r.forward.items (room_at r'.rooms.items)) (fun_ext turned))
+pub same_flow : (r r' : Residual) → ((k : ℕ) → reverse_at r'.capacities.items k ≡ reverse_at r.capacities.items k) → r'.forward ≡ r.forward → flow_of r' ≡ carried (reverse_at r.capacities.items) r.forward.items (capacity_at r'.capacities.items)
+same_flow r r' turned f = rw f (ap (λ (turn : ℕ → ℕ). carried turn r.forward.items (capacity_at r'.capacities.items)) (fun_ext turned))
 
-pub same_filled : (net : NetworkModel) (r r' : Residual) → ((k : ℕ) → reverse_at r'.rooms.items k ≡ reverse_at r.rooms.items k) → r'.forward ≡ r.forward → IsResidualNetwork net r' → IsFilled net (reverse_at r.rooms.items) r.forward.items (room_at r'.rooms.items) r'.arcs.items
-same_filled net r r' turned f h = subst (λ (turn : ℕ → ℕ). IsFilled net turn r.forward.items (room_at r'.rooms.items) r'.arcs.items) (fun_ext turned) (rw f at h.filled)
+pub same_filled : (net : NetworkModel) (r r' : Residual) → ((k : ℕ) → reverse_at r'.capacities.items k ≡ reverse_at r.capacities.items k) → r'.forward ≡ r.forward → IsResidualNetwork net r' → AreResidualArcs net (reverse_at r.capacities.items) r.forward.items (capacity_at r'.capacities.items) r'.arcs.items
+same_filled net r r' turned f h = subst (λ (turn : ℕ → ℕ). AreResidualArcs net turn r.forward.items (capacity_at r'.capacities.items) r'.arcs.items) (fun_ext turned) (rw f at h.filled)
 
 -- ---- what a push does to the amounts that the arcs carry
 
@@ -236,7 +236,7 @@ carries_same net x y e v k same c = record {
 }
 
 residual_too : (net : NetworkModel) (x y : ℕ → ℕ) (j : ℕ) (back : Bool) → y j ≡ x j → IsResidual net y j back → IsResidual net x j back
-residual_too net x y j false e h = let P : ℕ → Type 0 = λ t. HasRoom (arc_at net j).cap t in subst P e h
+residual_too net x y j false e h = let P : ℕ → Type 0 = λ t. IsUnsaturated (arc_at net j).cap t in subst P e h
 residual_too net x y j true e h = omega arith
 
 -- x with another amount at i
@@ -322,32 +322,32 @@ sent_on net p e on place x y z i back u v amount most b moved others free start 
 -- ---- one residual arc of the path
 
 -- residual arc k leads from u to v, something fits along it, and it costs nothing
-pub record IsLink (net : NetworkModel) (reverse : ℕ → ℕ) (forward : List ℕ) (room : ℕ → ℕ) (p : ℕ → ℤ) (u k v : ℕ) : Type 0 where
+pub record IsLink (net : NetworkModel) (reverse : ℕ → ℕ) (forward : List ℕ) (capacity : ℕ → ℕ) (p : ℕ → ℤ) (u k v : ℕ) : Type 0 where
   pub arc : ℕ
   pub back : Bool
   pub inside : arc < arc_count net
-  pub place : place_of reverse forward arc back ≡ k
+  pub place : number_of reverse forward arc back ≡ k
   pub start : start_of net arc back ≡ u
   pub end : end_of net arc back ≡ v
-  pub some : 0 < room k
+  pub some : 0 < capacity k
   pub free : reduced_cost net p arc back ≡ pos 0
 
 some_coded : (z c : ℤ) (r : ℕ) → negsuc 0 ≤ℤ z → c ≡ coded z r → c ≤ℤ pos 1 → 0 < r
 some_coded z c r least e h =
     elim (cases_eq r 0) [
-      | inl q ↦ let t : coded z r ≡ z +ℤ SHUT = coded_none z r q in absurd (omega (arith, ints))
+      | inl q ↦ let t : coded z r ≡ z +ℤ CLOSED = coded_none z r q in absurd (omega (arith, ints))
       | inr ne ↦ omega arith
     ]
 
 free_cost : (c z a b a' b' : ℤ) → c +ℤ a -ℤ b ≡ pos 0 → c ≡ z → a' ≡ a → b' ≡ b → z +ℤ a' -ℤ b' ≡ pos 0
 free_cost c z a b a' b' h e f g = omega (arith, ints)
 
-pub tight_link : (net : NetworkModel) (first : List ℕ) (reverse : ℕ → ℕ) (forward : List ℕ) (room : ℕ → ℕ) (arcs : List ResidualArc) (p : ℕ → ℤ) (u k v : ℕ) → IsNetwork net → HasResidualArcs net first reverse forward → IsFilled net reverse forward room arcs → u < node_count net → IsTight first arcs p u k v → IsLink net reverse forward room p u k v
-tight_link net first reverse forward room arcs p u k v n l f b t =
+pub tight_link : (net : NetworkModel) (first : List ℕ) (reverse : ℕ → ℕ) (forward : List ℕ) (capacity : ℕ → ℕ) (arcs : List ResidualArc) (p : ℕ → ℤ) (u k v : ℕ) → IsNetwork net → HasResidualArcs net first reverse forward → AreResidualArcs net reverse forward capacity arcs → u < node_count net → IsTight first arcs p u k v → IsLink net reverse forward capacity p u k v
+tight_link net first reverse forward capacity arcs p u k v n l f b t =
     let o = l.cover u k b t.leaves in
     let z = unit_cost net o.arc o.back in
-    let cost : cost_at arcs k ≡ coded z (room k) = subst (λ (q : ℕ). cost_at arcs q ≡ coded z (room q)) o.place (code_is net reverse forward room arcs o.arc o.back f o.inside) in
-    let some : 0 < room k = some_coded z (cost_at arcs k) (room k) (unit_cost_least net o.arc o.back n.costs o.inside) cost t.unblocked in
+    let cost : cost_at arcs k ≡ coded z (capacity k) = subst (λ (q : ℕ). cost_at arcs q ≡ coded z (capacity q)) o.place (code_is net reverse forward capacity arcs o.arc o.back f o.inside) in
+    let some : 0 < capacity k = some_coded z (cost_at arcs k) (capacity k) (unit_cost_least net o.arc o.back n.costs o.inside) cost t.unblocked in
     let finish : end_of net o.arc o.back ≡ v = sym (f.end o.arc o.back o.inside) ∙ ap (end_at arcs) o.place ∙ t.arrives in
     record {
       arc = o.arc;
@@ -357,25 +357,25 @@ tight_link net first reverse forward room arcs p u k v n l f b t =
       start = o.start;
       end = finish;
       some = some;
-      free = free_cost (cost_at arcs k) z (p u) (p v) (p (start_of net o.arc o.back)) (p (end_of net o.arc o.back)) t.free (cost ∙ coded_some z (room k) some) (ap p o.start) (ap p finish);
+      free = free_cost (cost_at arcs k) z (p u) (p v) (p (start_of net o.arc o.back)) (p (end_of net o.arc o.back)) t.free (cost ∙ coded_some z (capacity k) some) (ap p o.start) (ap p finish);
     }
 
 -- what a push does to the amount of its own arc, and to the others
-moved_by : (net : NetworkModel) (first : List ℕ) (reverse : ℕ → ℕ) (forward : List ℕ) (room room' : ℕ → ℕ) (i : ℕ) (b : Bool) (k amount : ℕ) → HasResidualArcs net first reverse forward → i < arc_count net → place_of reverse forward i b ≡ k → IsPushed reverse room room' k amount → IsMoved b (carried reverse forward room i) amount (carried reverse forward room' i)
+moved_by : (net : NetworkModel) (first : List ℕ) (reverse : ℕ → ℕ) (forward : List ℕ) (capacity room' : ℕ → ℕ) (i : ℕ) (b : Bool) (k amount : ℕ) → HasResidualArcs net first reverse forward → i < arc_count net → number_of reverse forward i b ≡ k → IsPushed reverse capacity room' k amount → IsMoved b (carried reverse forward capacity i) amount (carried reverse forward room' i)
 unfolding opposite
-moved_by net first reverse forward room room' i false k amount l b e s = subst (λ (t : ℕ). room' t ≡ room t + amount) (reverse_place net first reverse forward k i false l b e) s.more
-moved_by net first reverse forward room room' i true k amount l b e s = sym (subst (λ (t : ℕ). room' t + amount ≡ room t) (sym e) s.less)
+moved_by net first reverse forward capacity room' i false k amount l b e s = subst (λ (t : ℕ). room' t ≡ capacity t + amount) (reverse_place net first reverse forward k i false l b e) s.more
+moved_by net first reverse forward capacity room' i true k amount l b e s = sym (subst (λ (t : ℕ). room' t + amount ≡ capacity t) (sym e) s.less)
 
-kept_by : (net : NetworkModel) (first : List ℕ) (reverse : ℕ → ℕ) (forward : List ℕ) (room room' : ℕ → ℕ) (i : ℕ) (b : Bool) (k amount : ℕ) → HasResidualArcs net first reverse forward → i < arc_count net → place_of reverse forward i b ≡ k → IsPushed reverse room room' k amount → SameOthers net i (carried reverse forward room) (carried reverse forward room')
-kept_by net first reverse forward room room' i b k amount l inside e s j c ne =
-    s.others (place_of reverse forward j true)
+kept_by : (net : NetworkModel) (first : List ℕ) (reverse : ℕ → ℕ) (forward : List ℕ) (capacity room' : ℕ → ℕ) (i : ℕ) (b : Bool) (k amount : ℕ) → HasResidualArcs net first reverse forward → i < arc_count net → number_of reverse forward i b ≡ k → IsPushed reverse capacity room' k amount → SameOthers net i (carried reverse forward capacity) (carried reverse forward room')
+kept_by net first reverse forward capacity room' i b k amount l inside e s j c ne =
+    s.others (number_of reverse forward j true)
     (λ h. ne (l.alone j i true b c inside (h ∙ sym e)).0)
     (λ h. ne (l.alone j i true (opposite b) c inside (h ∙ reverse_place net first reverse forward k i b l inside e)).0)
 
 -- where an arc carries what it carried, the same fits along it
-same_room : (net : NetworkModel) (reverse : ℕ → ℕ) (forward : List ℕ) (room room' : ℕ → ℕ) (arcs arcs' : List ResidualArc) (i : ℕ) (back : Bool) → IsFilled net reverse forward room arcs → IsFilled net reverse forward room' arcs' → i < arc_count net → carried reverse forward room' i ≡ carried reverse forward room i → room' (place_of reverse forward i back) ≡ room (place_of reverse forward i back)
-same_room net reverse forward room room' arcs arcs' i true f f' b h = h
-same_room net reverse forward room room' arcs arcs' i false f f' b h = omega (arith, f.fits i b, f'.fits i b)
+same_capacity : (net : NetworkModel) (reverse : ℕ → ℕ) (forward : List ℕ) (capacity room' : ℕ → ℕ) (arcs arcs' : List ResidualArc) (i : ℕ) (back : Bool) → AreResidualArcs net reverse forward capacity arcs → AreResidualArcs net reverse forward room' arcs' → i < arc_count net → carried reverse forward room' i ≡ carried reverse forward capacity i → room' (number_of reverse forward i back) ≡ capacity (number_of reverse forward i back)
+same_capacity net reverse forward capacity room' arcs arcs' i true f f' b h = h
+same_capacity net reverse forward capacity room' arcs arcs' i false f f' b h = omega (arith, f.fits i b, f'.fits i b)
 
 both_ends : (net : NetworkModel) (on : ℕ → Bool) (place : ℕ → ℕ) (x y : ℕ → ℕ) (i : ℕ) (back : Bool) (u v : ℕ) → start_of net i back ≡ u → end_of net i back ≡ v → on u ≡ true → on v ≡ true → place u < place v → (on (arc_at net i).from ≡ true → on (arc_at net i).to ≡ true → place (arc_at net i).from ≤ place v → place (arc_at net i).to ≤ place v → y i ≡ x i) → y i ≡ x i
 both_ends net on place x y i false u v s e a b less kept =
@@ -387,34 +387,34 @@ both_ends net on place x y i true u v s e a b less kept =
     let f : place (arc_at net i).from ≡ place v = ap place e in
     kept (ap on e ∙ b) (ap on s ∙ a) (omega arith) (omega arith)
 
-link_kept : (net : NetworkModel) (reverse : ℕ → ℕ) (forward : List ℕ) (room : ℕ → ℕ) (p e : ℕ → ℤ) (on : ℕ → Bool) (place : ℕ → ℕ) (x y : ℕ → ℕ) (u k v amount most : ℕ) → (t : IsLink net reverse forward room p u k v) → on u ≡ true → on v ≡ true → place u < place v → IsSending net p e on place x y v amount most → y t.arc ≡ x t.arc
-link_kept net reverse forward room p e on place x y u k v amount most t a b less s =
+link_kept : (net : NetworkModel) (reverse : ℕ → ℕ) (forward : List ℕ) (capacity : ℕ → ℕ) (p e : ℕ → ℤ) (on : ℕ → Bool) (place : ℕ → ℕ) (x y : ℕ → ℕ) (u k v amount most : ℕ) → (t : IsLink net reverse forward capacity p u k v) → on u ≡ true → on v ≡ true → place u < place v → IsSending net p e on place x y v amount most → y t.arc ≡ x t.arc
+link_kept net reverse forward capacity p e on place x y u k v amount most t a b less s =
     both_ends net on place x y t.arc t.back u v t.start t.end a b less (s.kept t.arc t.inside)
 
 -- what fitted along the next residual arc still does
-pub still_fits : (net : NetworkModel) (reverse : ℕ → ℕ) (forward : List ℕ) (room room' : ℕ → ℕ) (arcs arcs' : List ResidualArc) (p e : ℕ → ℤ) (on : ℕ → Bool) (place : ℕ → ℕ) (u k v amount most : ℕ) → IsFilled net reverse forward room arcs → IsFilled net reverse forward room' arcs' → IsLink net reverse forward room p u k v → on u ≡ true → on v ≡ true → place u < place v → IsSending net p e on place (carried reverse forward room) (carried reverse forward room') v amount most → amount ≤ room k → amount ≤ room' k
-still_fits net reverse forward room room' arcs arcs' p e on place u k v amount most f f' t a b less s fits =
-    let own = link_kept net reverse forward room p e on place (carried reverse forward room) (carried reverse forward room') u k v amount most t a b less s in
-    let same : room' k ≡ room k = subst (λ (q : ℕ). room' q ≡ room q) t.place (same_room net reverse forward room room' arcs arcs' t.arc t.back f f' t.inside own) in
+pub still_fits : (net : NetworkModel) (reverse : ℕ → ℕ) (forward : List ℕ) (capacity room' : ℕ → ℕ) (arcs arcs' : List ResidualArc) (p e : ℕ → ℤ) (on : ℕ → Bool) (place : ℕ → ℕ) (u k v amount most : ℕ) → AreResidualArcs net reverse forward capacity arcs → AreResidualArcs net reverse forward room' arcs' → IsLink net reverse forward capacity p u k v → on u ≡ true → on v ≡ true → place u < place v → IsSending net p e on place (carried reverse forward capacity) (carried reverse forward room') v amount most → amount ≤ capacity k → amount ≤ room' k
+still_fits net reverse forward capacity room' arcs arcs' p e on place u k v amount most f f' t a b less s fits =
+    let own = link_kept net reverse forward capacity p e on place (carried reverse forward capacity) (carried reverse forward room') u k v amount most t a b less s in
+    let same : room' k ≡ capacity k = subst (λ (q : ℕ). room' q ≡ capacity q) t.place (same_capacity net reverse forward capacity room' arcs arcs' t.arc t.back f f' t.inside own) in
     omega arith
 
 -- a push along the next residual arc
-pub sending_more : (net : NetworkModel) (first : List ℕ) (reverse : ℕ → ℕ) (forward : List ℕ) (room room' room'' : ℕ → ℕ) (p e : ℕ → ℤ) (on : ℕ → Bool) (place : ℕ → ℕ) (u k v amount most : ℕ) → HasResidualArcs net first reverse forward → IsLink net reverse forward room p u k v → on u ≡ true → on v ≡ true → place u < place v → IsSending net p e on place (carried reverse forward room) (carried reverse forward room') v amount most → IsPushed reverse room' room'' k amount → IsSending net p e on place (carried reverse forward room) (carried reverse forward room'') u amount most
-sending_more net first reverse forward room room' room'' p e on place u k v amount most l t a b less s pushed =
-    sent_on net p e on place (carried reverse forward room) (carried reverse forward room') (carried reverse forward room'') t.arc t.back u v amount most t.inside
+pub sending_more : (net : NetworkModel) (first : List ℕ) (reverse : ℕ → ℕ) (forward : List ℕ) (capacity room' room'' : ℕ → ℕ) (p e : ℕ → ℤ) (on : ℕ → Bool) (place : ℕ → ℕ) (u k v amount most : ℕ) → HasResidualArcs net first reverse forward → IsLink net reverse forward capacity p u k v → on u ≡ true → on v ≡ true → place u < place v → IsSending net p e on place (carried reverse forward capacity) (carried reverse forward room') v amount most → IsPushed reverse room' room'' k amount → IsSending net p e on place (carried reverse forward capacity) (carried reverse forward room'') u amount most
+sending_more net first reverse forward capacity room' room'' p e on place u k v amount most l t a b less s pushed =
+    sent_on net p e on place (carried reverse forward capacity) (carried reverse forward room') (carried reverse forward room'') t.arc t.back u v amount most t.inside
     (moved_by net first reverse forward room' room'' t.arc t.back k amount l t.inside t.place pushed)
     (kept_by net first reverse forward room' room'' t.arc t.back k amount l t.inside t.place pushed)
     t.free t.start t.end
-    (link_kept net reverse forward room p e on place (carried reverse forward room) (carried reverse forward room') u k v amount most t a b less s)
+    (link_kept net reverse forward capacity p e on place (carried reverse forward capacity) (carried reverse forward room') u k v amount most t a b less s)
     (λ _. less) (λ j c f g d h. s.kept j c f g (omega arith) (omega arith)) s.carries s.priced s.grown (omega (arith, s.few))
 
 -- the push along the last residual arc
-pub sending_first : (net : NetworkModel) (first : List ℕ) (reverse : ℕ → ℕ) (forward : List ℕ) (room room' : ℕ → ℕ) (p e : ℕ → ℤ) (on : ℕ → Bool) (place : ℕ → ℕ) (u k v amount : ℕ) → HasResidualArcs net first reverse forward → IsLink net reverse forward room p u k v → on v ≡ false → Carries net (carried reverse forward room) e v amount → HasPotentials net (carried reverse forward room) p → IsPushed reverse room room' k amount → IsSending net p e on place (carried reverse forward room) (carried reverse forward room') u amount (carrying net (carried reverse forward room) + place u + 1)
-sending_first net first reverse forward room room' p e on place u k v amount l t off carries priced pushed =
-    let x = carried reverse forward room in
+pub sending_first : (net : NetworkModel) (first : List ℕ) (reverse : ℕ → ℕ) (forward : List ℕ) (capacity room' : ℕ → ℕ) (p e : ℕ → ℤ) (on : ℕ → Bool) (place : ℕ → ℕ) (u k v amount : ℕ) → HasResidualArcs net first reverse forward → IsLink net reverse forward capacity p u k v → on v ≡ false → Carries net (carried reverse forward capacity) e v amount → HasPotentials net (carried reverse forward capacity) p → IsPushed reverse capacity room' k amount → IsSending net p e on place (carried reverse forward capacity) (carried reverse forward room') u amount (carrying net (carried reverse forward capacity) + place u + 1)
+sending_first net first reverse forward capacity room' p e on place u k v amount l t off carries priced pushed =
+    let x = carried reverse forward capacity in
     sent_on net p e on place x x (carried reverse forward room') t.arc t.back u v amount (carrying net x + place u + 1) t.inside
-    (moved_by net first reverse forward room room' t.arc t.back k amount l t.inside t.place pushed)
-    (kept_by net first reverse forward room room' t.arc t.back k amount l t.inside t.place pushed)
+    (moved_by net first reverse forward capacity room' t.arc t.back k amount l t.inside t.place pushed)
+    (kept_by net first reverse forward capacity room' t.arc t.back k amount l t.inside t.place pushed)
     t.free t.start t.end refl
     (λ h. absurd (both_ways (on v) off h)) (λ j c f g d h. refl) carries priced (λ j c. omega arith) (omega arith)
 
@@ -438,34 +438,34 @@ way_more next place v w h some = record {
 }
 
 -- an amount fits at each node of the way from v as far as w
-pub record IsNarrowed (next place room : ℕ → ℕ) (v w amount : ℕ) : Type 0 where
+pub record IsNarrowed (next place capacity : ℕ → ℕ) (v w amount : ℕ) : Type 0 where
   pub on : IsOnWay next place v w
-  pub fits : (i : ℕ) → i < on.steps → amount ≤ room (way next v i)
+  pub fits : (i : ℕ) → i < on.steps → amount ≤ capacity (way next v i)
 
-pub narrowed_first : (next place room : ℕ → ℕ) (v amount : ℕ) → IsNarrowed next place room v v amount
+pub narrowed_first : (next place capacity : ℕ → ℕ) (v amount : ℕ) → IsNarrowed next place capacity v v amount
 unfolding way_first
-narrowed_first next place room v amount = record { on = way_first next place v; fits = λ i b. absurd (omega arith) }
+narrowed_first next place capacity v amount = record { on = way_first next place v; fits = λ i b. absurd (omega arith) }
 
-fits_more : (next room : ℕ → ℕ) (v k amount amount' : ℕ) → ((i : ℕ) → i < k → amount ≤ room (way next v i)) → amount' ≤ amount → amount' ≤ room (way next v k) → (i : ℕ) → i < suc k → amount' ≤ room (way next v i)
-fits_more next room v k amount amount' fits less here i b =
+fits_more : (next capacity : ℕ → ℕ) (v k amount amount' : ℕ) → ((i : ℕ) → i < k → amount ≤ capacity (way next v i)) → amount' ≤ amount → amount' ≤ capacity (way next v k) → (i : ℕ) → i < suc k → amount' ≤ capacity (way next v i)
+fits_more next capacity v k amount amount' fits less here i b =
     elim (cases_eq i k) [
-      | inl q ↦ subst (λ (t : ℕ). amount' ≤ room (way next v t)) (sym q) here
+      | inl q ↦ subst (λ (t : ℕ). amount' ≤ capacity (way next v t)) (sym q) here
       | inr ne ↦ omega (arith, fits i (omega arith))
     ]
 
-pub narrowed_more : (next place room : ℕ → ℕ) (v w amount amount' : ℕ) → IsNarrowed next place room v w amount → 0 < place w → amount' ≤ amount → amount' ≤ room w → IsNarrowed next place room v (next w) amount'
+pub narrowed_more : (next place capacity : ℕ → ℕ) (v w amount amount' : ℕ) → IsNarrowed next place capacity v w amount → 0 < place w → amount' ≤ amount → amount' ≤ capacity w → IsNarrowed next place capacity v (next w) amount'
 unfolding way_more
-narrowed_more next place room v w amount amount' h some less here = record {
+narrowed_more next place capacity v w amount amount' h some less here = record {
   on = way_more next place v w h.on some;
-  fits = fits_more next room v h.on.steps amount amount' h.fits less (subst (λ (t : ℕ). amount' ≤ room t) h.on.at here);
+  fits = fits_more next capacity v h.on.steps amount amount' h.fits less (subst (λ (t : ℕ). amount' ≤ capacity t) h.on.at here);
 }
 
 -- once the way has come to place 0 the amount fits everywhere on it
-pub narrowed_all : (next place room : ℕ → ℕ) (v w amount : ℕ) → IsNarrowed next place room v w amount → place w ≡ 0 → (u : ℕ) → IsOnWay next place v u → 0 < place u → amount ≤ room u
-narrowed_all next place room v w amount h none u on some =
+pub narrowed_all : (next place capacity : ℕ → ℕ) (v w amount : ℕ) → IsNarrowed next place capacity v w amount → place w ≡ 0 → (u : ℕ) → IsOnWay next place v u → 0 < place u → amount ≤ capacity u
+narrowed_all next place capacity v w amount h none u on some =
     let last : place (way next v h.on.steps) ≡ 0 = subst (λ (t : ℕ). place t ≡ 0) h.on.at none in
     elim (cases_lt on.steps h.on.steps) [
-      | inl less ↦ subst (λ (t : ℕ). amount ≤ room t) (sym on.at) (h.fits on.steps less)
+      | inl less ↦ subst (λ (t : ℕ). amount ≤ capacity t) (sym on.at) (h.fits on.steps less)
       | inr over ↦ elim (cases_eq on.steps h.on.steps) [
         | inl q ↦
             let at : u ≡ way next v h.on.steps = on.at ∙ ap (way next v) q in
@@ -477,12 +477,12 @@ narrowed_all next place room v w amount h none u on some =
 
 -- ---- the end
 
-within_limit : (c : Cap) (a b : ℕ) → a + b ≡ limit_of c → IsWithin c b
+within_limit : (c : Cap) (a b : ℕ) → a + b ≡ units_of c → IsWithin c b
 within_limit (AtMost k) a b h = omega arith
 within_limit Any a b h = tt
 
-pub filled_caps : (net : NetworkModel) (reverse : ℕ → ℕ) (forward : List ℕ) (room : ℕ → ℕ) (arcs : List ResidualArc) → IsFilled net reverse forward room arcs → KeepsCaps net (carried reverse forward room)
-filled_caps net reverse forward room arcs f i b = within_limit (arc_at net i).cap (room (place_of reverse forward i false)) (room (place_of reverse forward i true)) (f.fits i b)
+pub filled_caps : (net : NetworkModel) (reverse : ℕ → ℕ) (forward : List ℕ) (capacity : ℕ → ℕ) (arcs : List ResidualArc) → AreResidualArcs net reverse forward capacity arcs → KeepsCaps net (carried reverse forward capacity)
+filled_caps net reverse forward capacity arcs f i b = within_limit (arc_at net i).cap (capacity (number_of reverse forward i false)) (capacity (number_of reverse forward i true)) (f.fits i b)
 
 apart : (e : ℕ → ℤ) (u v : ℕ) → pos 0 <ℤ e u → e v ≤ℤ pos 0 → v ≢ u
 apart e u v a b h = let same : e v ≡ e u = ap e h in omega (arith, ints)
@@ -532,64 +532,64 @@ sent_less net x y e e' u k s some = record {
 -- ---- the residual arcs of the path
 
 -- residual arc k, by which node v of the path was entered, leads there from a node of a lesser place
-pub record IsStep (net : NetworkModel) (first : List ℕ) (reverse : ℕ → ℕ) (forward : List ℕ) (room : ℕ → ℕ) (arcs : List ResidualArc) (p : ℕ → ℤ) (on : ℕ → Bool) (place : ℕ → ℕ) (v k : ℕ) : Type 0 where
+pub record IsStep (net : NetworkModel) (first : List ℕ) (reverse : ℕ → ℕ) (forward : List ℕ) (capacity : ℕ → ℕ) (arcs : List ResidualArc) (p : ℕ → ℤ) (on : ℕ → Bool) (place : ℕ → ℕ) (v k : ℕ) : Type 0 where
   pub node : end_at arcs (reverse k) < node_count net
   pub member : on (end_at arcs (reverse k)) ≡ true
   pub before : place (end_at arcs (reverse k)) < place v
   pub leaves : StartsAt first (end_at arcs (reverse k)) k
-  pub link : IsLink net reverse forward room p (end_at arcs (reverse k)) k v
+  pub link : IsLink net reverse forward capacity p (end_at arcs (reverse k)) k v
 
-pub path_step : (net : NetworkModel) (first : List ℕ) (reverse : ℕ → ℕ) (forward : List ℕ) (room : ℕ → ℕ) (arcs : List ResidualArc) (p : ℕ → ℤ) (enter place : ℕ → ℕ) (source found : ℕ) → IsNetwork net → HasResidualArcs net first reverse forward → IsFilled net reverse forward room arcs → (h : HasPath (node_count net) first arcs p enter place source found) → (v : ℕ) → h.on v ≡ true → 0 < place v → IsStep net first reverse forward room arcs p h.on place v (enter v)
-path_step net first reverse forward room arcs p enter place source found n l f h v on some =
+pub path_step : (net : NetworkModel) (first : List ℕ) (reverse : ℕ → ℕ) (forward : List ℕ) (capacity : ℕ → ℕ) (arcs : List ResidualArc) (p : ℕ → ℤ) (enter place : ℕ → ℕ) (source found : ℕ) → IsNetwork net → HasResidualArcs net first reverse forward → AreResidualArcs net reverse forward capacity arcs → (h : HasPath (node_count net) first arcs p enter place source found) → (v : ℕ) → h.on v ≡ true → 0 < place v → IsStep net first reverse forward capacity arcs p h.on place v (enter v)
+path_step net first reverse forward capacity arcs p enter place source found n l f h v on some =
     let a = h.after v on some in
     let b : a.start < node_count net = h.node a.start a.member in
-    let s : end_at arcs (reverse (enter v)) ≡ a.start = start_is net first reverse forward room arcs a.start (enter v) l f b a.step.leaves in
+    let s : end_at arcs (reverse (enter v)) ≡ a.start = start_is net first reverse forward capacity arcs a.start (enter v) l f b a.step.leaves in
     record {
       node = subst (λ (t : ℕ). t < node_count net) (sym s) b;
       member = ap h.on s ∙ a.member;
       before = subst (λ (t : ℕ). place t < place v) (sym s) a.before;
       leaves = subst (λ (t : ℕ). StartsAt first t (enter v)) (sym s) a.step.leaves;
-      link = subst (λ (t : ℕ). IsLink net reverse forward room p t (enter v) v) (sym s) (tight_link net first reverse forward room arcs p a.start (enter v) v n l f b a.step);
+      link = subst (λ (t : ℕ). IsLink net reverse forward capacity p t (enter v) v) (sym s) (tight_link net first reverse forward capacity arcs p a.start (enter v) v n l f b a.step);
     }
 
 -- the last residual arc of the path leads off it
-pub record IsLast (net : NetworkModel) (first : List ℕ) (reverse : ℕ → ℕ) (forward : List ℕ) (room : ℕ → ℕ) (arcs : List ResidualArc) (p : ℕ → ℤ) (on : ℕ → Bool) (k : ℕ) : Type 0 where
+pub record IsLast (net : NetworkModel) (first : List ℕ) (reverse : ℕ → ℕ) (forward : List ℕ) (capacity : ℕ → ℕ) (arcs : List ResidualArc) (p : ℕ → ℤ) (on : ℕ → Bool) (k : ℕ) : Type 0 where
   pub node : end_at arcs (reverse k) < node_count net
   pub member : on (end_at arcs (reverse k)) ≡ true
   pub leaves : StartsAt first (end_at arcs (reverse k)) k
-  pub link : IsLink net reverse forward room p (end_at arcs (reverse k)) k (end_at arcs k)
+  pub link : IsLink net reverse forward capacity p (end_at arcs (reverse k)) k (end_at arcs k)
 
-pub path_last : (net : NetworkModel) (first : List ℕ) (reverse : ℕ → ℕ) (forward : List ℕ) (room : ℕ → ℕ) (arcs : List ResidualArc) (p : ℕ → ℤ) (enter place : ℕ → ℕ) (source found : ℕ) → IsNetwork net → HasResidualArcs net first reverse forward → IsFilled net reverse forward room arcs → (h : HasPath (node_count net) first arcs p enter place source found) → IsLast net first reverse forward room arcs p h.on found
-path_last net first reverse forward room arcs p enter place source found n l f h =
+pub path_last : (net : NetworkModel) (first : List ℕ) (reverse : ℕ → ℕ) (forward : List ℕ) (capacity : ℕ → ℕ) (arcs : List ResidualArc) (p : ℕ → ℤ) (enter place : ℕ → ℕ) (source found : ℕ) → IsNetwork net → HasResidualArcs net first reverse forward → AreResidualArcs net reverse forward capacity arcs → (h : HasPath (node_count net) first arcs p enter place source found) → IsLast net first reverse forward capacity arcs p h.on found
+path_last net first reverse forward capacity arcs p enter place source found n l f h =
     let b : h.last < node_count net = h.node h.last h.member in
-    let s : end_at arcs (reverse found) ≡ h.last = start_is net first reverse forward room arcs h.last found l f b h.step.leaves in
+    let s : end_at arcs (reverse found) ≡ h.last = start_is net first reverse forward capacity arcs h.last found l f b h.step.leaves in
     record {
       node = subst (λ (t : ℕ). t < node_count net) (sym s) b;
       member = ap h.on s ∙ h.member;
       leaves = subst (λ (t : ℕ). StartsAt first t found) (sym s) h.step.leaves;
-      link = subst (λ (t : ℕ). IsLink net reverse forward room p t found (end_at arcs found)) (sym s) (tight_link net first reverse forward room arcs p h.last found (end_at arcs found) n l f b h.step);
+      link = subst (λ (t : ℕ). IsLink net reverse forward capacity p t found (end_at arcs found)) (sym s) (tight_link net first reverse forward capacity arcs p h.last found (end_at arcs found) n l f b h.step);
     }
 
-pub link_end : (net : NetworkModel) (reverse : ℕ → ℕ) (forward : List ℕ) (room : ℕ → ℕ) (p : ℕ → ℤ) (u k v : ℕ) → IsNetwork net → IsLink net reverse forward room p u k v → v < node_count net
-link_end net reverse forward room p u k v n t = subst (λ (q : ℕ). q < node_count net) t.end (end_in net t.arc t.back n.ends t.inside)
+pub link_end : (net : NetworkModel) (reverse : ℕ → ℕ) (forward : List ℕ) (capacity : ℕ → ℕ) (p : ℕ → ℤ) (u k v : ℕ) → IsNetwork net → IsLink net reverse forward capacity p u k v → v < node_count net
+link_end net reverse forward capacity p u k v n t = subst (λ (q : ℕ). q < node_count net) t.end (end_in net t.arc t.back n.ends t.inside)
 
 -- the same of the solver's own lists
-pub own_step : (net : NetworkModel) (s : Solver) (source : ℕ) → (h : CanAugment net s source) → (v : ℕ) → h.path.on v ≡ true → 0 < places_in s v → IsStep net s.residual.first.items (reverse_at s.residual.rooms.items) s.residual.forward.items (room_at s.residual.rooms.items) s.residual.arcs.items (potential_at s) h.path.on (places_in s) v (enters_in s v)
+pub own_step : (net : NetworkModel) (s : Solver) (source : ℕ) → (h : CanAugment net s source) → (v : ℕ) → h.path.on v ≡ true → 0 < places_in s v → IsStep net s.residual.first.items (reverse_at s.residual.capacities.items) s.residual.forward.items (capacity_at s.residual.capacities.items) s.residual.arcs.items (potential_at s) h.path.on (places_in s) v (enters_in s v)
 own_step net s source h v on some =
-    path_step net s.residual.first.items (reverse_at s.residual.rooms.items) s.residual.forward.items (room_at s.residual.rooms.items) s.residual.arcs.items (potential_at s) (enters_in s) (places_in s) source s.found h.ready.network h.ready.residual.laid_out h.ready.residual.filled h.path v on some
+    path_step net s.residual.first.items (reverse_at s.residual.capacities.items) s.residual.forward.items (capacity_at s.residual.capacities.items) s.residual.arcs.items (potential_at s) (enters_in s) (places_in s) source s.found h.ready.network h.ready.residual.arcs_built h.ready.residual.filled h.path v on some
 
-pub own_last : (net : NetworkModel) (s : Solver) (source : ℕ) → (h : CanAugment net s source) → IsLast net s.residual.first.items (reverse_at s.residual.rooms.items) s.residual.forward.items (room_at s.residual.rooms.items) s.residual.arcs.items (potential_at s) h.path.on s.found
+pub own_last : (net : NetworkModel) (s : Solver) (source : ℕ) → (h : CanAugment net s source) → IsLast net s.residual.first.items (reverse_at s.residual.capacities.items) s.residual.forward.items (capacity_at s.residual.capacities.items) s.residual.arcs.items (potential_at s) h.path.on s.found
 own_last net s source h =
-    path_last net s.residual.first.items (reverse_at s.residual.rooms.items) s.residual.forward.items (room_at s.residual.rooms.items) s.residual.arcs.items (potential_at s) (enters_in s) (places_in s) source s.found h.ready.network h.ready.residual.laid_out h.ready.residual.filled h.path
+    path_last net s.residual.first.items (reverse_at s.residual.capacities.items) s.residual.forward.items (capacity_at s.residual.capacities.items) s.residual.arcs.items (potential_at s) (enters_in s) (places_in s) source s.found h.ready.network h.ready.residual.arcs_built h.ready.residual.filled h.path
 
 pub own_end : (net : NetworkModel) (s : Solver) (source : ℕ) → CanAugment net s source → end_at s.residual.arcs.items s.found < node_count net
-own_end net s source h = link_end net (reverse_at s.residual.rooms.items) s.residual.forward.items (room_at s.residual.rooms.items) (potential_at s) (end_at s.residual.arcs.items (reverse_at s.residual.rooms.items s.found)) s.found (end_at s.residual.arcs.items s.found) h.ready.network (own_last net s source h).link
+own_end net s source h = link_end net (reverse_at s.residual.capacities.items) s.residual.forward.items (capacity_at s.residual.capacities.items) (potential_at s) (end_at s.residual.arcs.items (reverse_at s.residual.capacities.items s.found)) s.found (end_at s.residual.arcs.items s.found) h.ready.network (own_last net s source h).link
 
 pub last_pair : (net : NetworkModel) (s : Solver) (source : ℕ) → CanAugment net s source → IsPaired s.residual s.found
-last_pair net s source h = let l = own_last net s source h in is_paired net s.residual (end_at s.residual.arcs.items (reverse_at s.residual.rooms.items s.found)) s.found h.ready.network h.ready.residual l.node l.leaves
+last_pair net s source h = let l = own_last net s source h in is_paired net s.residual (end_at s.residual.arcs.items (reverse_at s.residual.capacities.items s.found)) s.found h.ready.network h.ready.residual l.node l.leaves
 
 pub step_pair : (net : NetworkModel) (s : Solver) (source v : ℕ) → (h : CanAugment net s source) → h.path.on v ≡ true → 0 < places_in s v → IsPaired s.residual (enters_in s v)
-step_pair net s source v h on some = let l = own_step net s source h v on some in is_paired net s.residual (end_at s.residual.arcs.items (reverse_at s.residual.rooms.items (enters_in s v))) (enters_in s v) h.ready.network h.ready.residual l.node l.leaves
+step_pair net s source v h on some = let l = own_step net s source h v on some in is_paired net s.residual (end_at s.residual.arcs.items (reverse_at s.residual.capacities.items (enters_in s v))) (enters_in s v) h.ready.network h.ready.residual l.node l.leaves
 
 -- ---- the least of what fits
 

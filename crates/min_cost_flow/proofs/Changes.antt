@@ -3,10 +3,10 @@ use Rattle.std.proofs.Common.{◌≡◌, ◌≢◌, ◌<◌, ℕ, ◌+◌, cond,
 use Rattle.std.specs.Prelude.{ℤ, pos, ◌+ℤ◌, ◌-ℤ◌, ◌≤ℤ◌}
 use Rattle.std.proofs.lemmas.Bool.{cases_eq, eq-eqb, ne_eqb, cond-true, cond-false}
 use Rattle.std.proofs.lemmas.Int.{ints}
-use Rattle.sums.specs.Sums.{sum_below}
-use Rattle.sums.proofs.Sums.{sum_below-changed}
+use Rattle.common.specs.Sums.{sum_below}
+use Rattle.common.proofs.Sums.{sum_below-changed}
 use Rattle.networks.specs.Networks.{NetworkModel, arc_count, arc_at, supply_at}
-use Rattle.networks.specs.Flow.{leaves, enters, balance, HasRoom, IsResidual, HasPotentials, start_of, end_of, reduced_cost}
+use Rattle.networks.specs.Flow.{leaves, enters, balance, IsUnsaturated, IsResidual, HasPotentials, start_of, end_of, reduced_cost}
 use Rattle.min_cost_flow.specs.Excess.{Leaves, Carries}
 use Rattle.min_cost_flow.specs.Residual.{IsMoved}
 
@@ -98,7 +98,7 @@ carried_leaves net x e e' v k c here others = record {
 -- ---- potentials
 
 residual_same : (net : NetworkModel) (x y : ℕ → ℕ) (j : ℕ) (back : Bool) → y j ≡ x j → IsResidual net y j back → IsResidual net x j back
-residual_same net x y j false e h = let P : ℕ → Type 0 = λ t. HasRoom (arc_at net j).cap t in subst P e h
+residual_same net x y j false e h = let P : ℕ → Type 0 = λ t. IsUnsaturated (arc_at net j).cap t in subst P e h
 residual_same net x y j true e h = omega arith
 
 negated : (c s t : ℤ) → c +ℤ s -ℤ t ≡ pos 0 → pos 0 ≤ℤ ((pos 0 -ℤ c) +ℤ t -ℤ s)

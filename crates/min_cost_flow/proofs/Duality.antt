@@ -5,12 +5,12 @@ use Rattle.std.proofs.Math.Nat.{mul-le-mul_left, mul-add}
 use Rattle.std.proofs.lemmas.Bool.{cases_order}
 use Rattle.std.proofs.lemmas.Int.{ints}
 use borrow.Author.Differences.{up, down}
-use Rattle.sums.specs.Sums.{sum_below}
-use Rattle.sums.proofs.Sums.{sum_below-same, sum_below-le, sum_below-add, exchanged}
+use Rattle.common.specs.Sums.{sum_below}
+use Rattle.common.proofs.Sums.{sum_below-same, sum_below-le, sum_below-add, exchanged}
 use Rattle.networks.specs.declared.arc.Cap.{Cap}
 use Rattle.networks.specs.declared.arc.Cap.TheVariants.{AtMost, Any}
 use Rattle.networks.specs.Networks.{NetworkModel, node_count, arc_count, arc_at, supply_at, HasEnds}
-use Rattle.networks.specs.Flow.{leaves, enters, balance, cost_of, IsWithin, HasRoom, Flow, IsLeastCost, HasPotentials}
+use Rattle.networks.specs.Flow.{leaves, enters, balance, cost_of, IsWithin, IsUnsaturated, Flow, IsLeastCost, HasPotentials}
 
 -- amounts weighed by the numbers of the arcs' starts, and of their ends
 abbrev pub at_starts : NetworkModel → (ℕ → ℕ) → (ℕ → ℕ) → ℕ
@@ -68,7 +68,7 @@ arc_part x y a b more less =
     ]
 
 -- a larger amount within the capacity shows room for one unit more
-pub room_below : (c : Cap) (x y : ℕ) → IsWithin c y → x < y → HasRoom c x
+pub room_below : (c : Cap) (x y : ℕ) → IsWithin c y → x < y → IsUnsaturated c x
 room_below (AtMost k) x y h l = omega arith
 room_below Any x y h l = tt
 

@@ -4,14 +4,14 @@ use Rattle.std.specs.Prelude.{ℤ, pos, negsuc, ◌+ℤ◌, ◌-ℤ◌, ◌≤�
 use Rattle.std.proofs.lemmas.Bool.{cases_eq, eq-eqb, ne_eqb, cond-true, cond-false}
 use Rattle.std.proofs.lemmas.Int.{ints}
 use borrow.Author.Differences.{up, down}
-use Rattle.sums.specs.Sums.{sum_below, total_below}
-use Rattle.sums.proofs.Sums.{sum_below-same, sum_below-changed, sum_below-some, sum_below-member, exchanged, total_below-parts}
+use Rattle.common.specs.Sums.{sum_below, total_below}
+use Rattle.common.proofs.Sums.{sum_below-same, sum_below-changed, sum_below-some, sum_below-member, exchanged, total_below-parts}
 use Rattle.networks.specs.declared.arc.Cap.{Cap}
 use Rattle.networks.specs.declared.arc.Cap.TheVariants.{AtMost, Any}
 use Rattle.networks.specs.Networks.{NetworkModel, node_count, arc_count, arc_at, supply_at, HasEnds}
 use Rattle.networks.specs.Flow.{leaves, enters, balance, IsWithin, Flow}
 use Rattle.min_cost_flow.specs.Excess.{KeepsCaps, Leaves, Carries}
-use Rattle.min_cost_flow.specs.Existence.{IsClosedAny, IsJoined, IsBalanced}
+use Rattle.min_cost_flow.specs.Existence.{IsClosedAny, HasUnlimitedPaths, IsBalanced}
 use Rattle.min_cost_flow.proofs.Changes.{SameBut, moved_carries, carried_leaves, taken_carries}
 use Rattle.min_cost_flow.proofs.Rounds.{flow_at}
 use Rattle.min_cost_flow.proofs.Spreading.{Steps, IsClosedUnder, Passes, spread_from}
@@ -99,7 +99,7 @@ any_closed : (net : NetworkModel) (s : ℕ → Bool) → IsClosedUnder (any_step
 unfolding any_steps
 any_closed net s c = record { stays = λ i b any f. c.stays i false b (is_any_at (arc_at net i).cap any) f }
 
-reaches_wanting : (net : NetworkModel) (e : ℕ → ℤ) (u v : ℕ) → HasEnds net → IsJoined net e → u < node_count net → v < node_count net → pos 0 <ℤ e u → e v <ℤ pos 0 → Reaches net u v
+reaches_wanting : (net : NetworkModel) (e : ℕ → ℤ) (u v : ℕ) → HasEnds net → HasUnlimitedPaths net e → u < node_count net → v < node_count net → pos 0 <ℤ e u → e v <ℤ pos 0 → Reaches net u v
 reaches_wanting net e u v ends joined ub vb over under =
     let (t, r, closed) = spread_from (λ w. Reaches net u w) (node_count net) (any_steps net) u (any_pass net u ends) (reaches_itself net u) in
     r.each v (joined.meets t (any_closed net t closed) u v ub vb r.inside over under)
@@ -251,7 +251,7 @@ flat_down (negsuc n) h = absurd (omega arith)
 nothing_under : (n : ℕ) (e : ℕ → ℤ) → sum_below n (λ w. down (e w)) ≡ 0 → (v : ℕ) → v < n → pos 0 ≤ℤ e v
 nothing_under n e h v b = flat_down (e v) (omega (arith, sum_below-member n v (λ w. down (e w)) b))
 
-flow_of_units : (net : NetworkModel) (k : ℕ) (x : ℕ → ℕ) (e : ℕ → ℤ) → HasEnds net → KeepsCaps net x → Leaves net x e → IsJoined net e → sum_below (node_count net) (λ w. up (e w)) ≡ k → sum_below (node_count net) (λ w. down (e w)) ≡ k → (y : ℕ → ℕ) × Flow net y
+flow_of_units : (net : NetworkModel) (k : ℕ) (x : ℕ → ℕ) (e : ℕ → ℤ) → HasEnds net → KeepsCaps net x → Leaves net x e → HasUnlimitedPaths net e → sum_below (node_count net) (λ w. up (e w)) ≡ k → sum_below (node_count net) (λ w. down (e w)) ≡ k → (y : ℕ → ℕ) × Flow net y
 flow_of_units net zero x e ends caps lv joined ups downs =
     (x, flow_at net x e caps lv (nothing_over (node_count net) e ups) (nothing_under (node_count net) e downs))
 flow_of_units net (suc k) x e ends caps lv joined ups downs =
@@ -275,7 +275,7 @@ flow_of_units net (suc k) x e ends caps lv joined ups downs =
     } in
     let sent : Carries net (r.sent x) d u 1 = r.carries x d (taken_carries net x e d v 1 lv (brought_here e v) (brought_other e v)) in
     let now : Leaves net (r.sent x) f = carried_leaves net (r.sent x) d f u 1 sent (given_at d u) (given_other d u) in
-    let still : IsJoined net f = record {
+    let still : HasUnlimitedPaths net f = record {
       meets = λ s closed a b ab bb sa oa wb. joined.meets s closed a b ab bb sa (unit_over net e d f u v a unit oa) (unit_under net e d f u v b unit wb);
     } in
     flow_of_units net k (r.sent x) f ends (r.caps x caps) now still
@@ -325,7 +325,7 @@ as_much net x e ends flat lv =
 
 -- amounts x within the capacities leave the excess e; supplies sum to 0, and no set that no arc of no
 -- limit leaves has something left over and not all that is wanting: then there is a flow
-pub flow_where_joined : (net : NetworkModel) (x : ℕ → ℕ) (e : ℕ → ℤ) → HasEnds net → IsBalanced net → KeepsCaps net x → Leaves net x e → IsJoined net e → (y : ℕ → ℕ) × Flow net y
+pub flow_where_joined : (net : NetworkModel) (x : ℕ → ℕ) (e : ℕ → ℤ) → HasEnds net → IsBalanced net → KeepsCaps net x → Leaves net x e → HasUnlimitedPaths net e → (y : ℕ → ℕ) × Flow net y
 flow_where_joined net x e ends flat caps lv joined =
     flow_of_units net (sum_below (node_count net) (λ w. down (e w))) x e ends caps lv joined (as_much net x e ends flat lv) refl
 

@@ -4,8 +4,8 @@ use Rattle.std.specs.Prelude.{ℤ, pos, negsuc, ◌+ℤ◌, ◌-ℤ◌, ◌≤�
 use Rattle.std.proofs.lemmas.Bool.{cases_eq, ne_eqb, eqb-true, cond-false}
 use Rattle.std.proofs.lemmas.Int.{ints}
 use borrow.Author.Differences.{up}
-use Rattle.sums.specs.Sums.{sum_below}
-use Rattle.sums.proofs.Sums.{sum_below-changed, sum_below-none}
+use Rattle.common.specs.Sums.{sum_below}
+use Rattle.common.proofs.Sums.{sum_below-changed, sum_below-none}
 use Rattle.networks.specs.Networks.{NetworkModel, node_count, arc_count, arc_at, supply_at, moved, shifted, IsNetwork}
 use Rattle.networks.proofs.Moving.{delta, moved_at, length-moved}
 use Rattle.networks.specs.Flow.{SolvedModel, Flow, Solves, amounts, at_nodes, cost_of, balance, start_of, end_of, unit_cost, HasPotentials}
@@ -87,7 +87,7 @@ pub moved_round : (net : NetworkModel) (x : ℕ → ℕ) (p p' : ℕ → ℤ) (e
     → ((v : ℕ) → v < node_count net → (pos 0 ≤ℤ (p' v +ℤ pos (2 * node_count net))) × (p' v ≤ℤ pos (2 * node_count net)))
     → ((i : ℕ) → i < arc_count net → x i + k ≤ 2097152)
     → IsRound (shifted net f t k) x p' (at_nodes (moved es f t k))
-moved_round net x p p' es f t k nw r size none fb tb few base low room =
+moved_round net x p p' es f t k nw r size none fb tb few base low capacity =
     let n = node_count net in
     let long : length (moved net.supplies f t k) ≡ n = length-moved net.supplies f t k in
     let e' = at_nodes (moved es f t k) in
@@ -114,9 +114,9 @@ moved_round net x p p' es f t k nw r size none fb tb few base low room =
           let vb : v < n = omega arith in
           fair_delta (at_nodes es v) (e' v) (cond {A = ℕ} (eqb v f) k 0) (cond {A = ℕ} (eqb v t) k 0) (none v vb) (at v)
           (omega (arith, chosen_few (eqb v f) k)) (omega (arith, chosen_few (eqb v t) k));
-      room = λ i b.
+      capacity = λ i b.
           let over : left_over (shifted net f t k) e' ≤ k = subst (λ (m : ℕ). sum_below m (λ v. up (e' v)) ≤ k) (sym long) (left_few net es f t k size none fb tb) in
-          omega (arith, room i b);
+          omega (arith, capacity i b);
     }
 
 -- ---- the residual arcs stay where they are
@@ -151,9 +151,9 @@ pub reverse_in : (net : NetworkModel) (first : List ℕ) (reverse : ℕ → ℕ)
 reverse_in net first reverse forward i n l b = omega (arith, (l.block i true b).below, l.inside (arc_at net i).to (n.ends i b).1)
 
 -- what each arc carries can be read
-pub can_read : (net : NetworkModel) (s : Solver) → IsReady net s → CanRead s.residual.rooms.items s.residual.forward.items
+pub can_read : (net : NetworkModel) (s : Solver) → IsReady net s → CanRead s.residual.capacities.items s.residual.forward.items
 can_read net s r =
-    let l = r.residual.laid_out in
+    let l = r.residual.arcs_built in
     record {
       forwards = λ i b. omega (arith, forward_in net _ _ _ i r.network l (omega (arith, l.forwards)), r.residual.room_size);
       reverses = λ i b. omega (arith, reverse_in net _ _ _ i r.network l (omega (arith, l.forwards)), r.residual.room_size);
@@ -203,10 +203,10 @@ shown_at net x ps e cost n r sent size is =
 pub sized_moved : (net : NetworkModel) (l l' : Solver) (f t k : ℕ) → IsReady net l → HasFairSupplies (shifted net f t k) → l'.residual ≡ l.residual → length l'.nodes.potential.items ≡ length l.nodes.potential.items → l'.nodes.excess ≡ l.nodes.excess → l'.visits ≡ l.visits → IsSized (shifted net f t k) l'
 sized_moved net l l' f t k r fair re pe ee he =
     let long : length (moved net.supplies f t k) ≡ node_count net = length-moved net.supplies f t k in
-    let w = r.residual.laid_out in
+    let w = r.residual.arcs_built in
     record {
       network = still_network net f t k r.network fair;
-      room = record {
+      capacity = record {
         starts = rw re (omega (arith, w.starts));
         forwards = rw re w.forwards;
         arc_size = rw re r.residual.filled.arc_size;
@@ -229,14 +229,14 @@ pub ready_moved : (net : NetworkModel) (l : Solver) (potential excess : List ℤ
     → ((i : ℕ) → i < arc_count net → flow_of l.residual i + k ≤ 2097152)
     → length potential ≡ length l.nodes.potential.items → excess ≡ moved l.nodes.excess.items f t k
     → IsReadyIn (shifted net f t k) l.residual potential excess l.visits.items
-ready_moved net l potential excess f t k st fair fb tb few base low room pe ee =
+ready_moved net l potential excess f t k st fair fb tb few base low capacity pe ee =
     let r = st.ready in
     let w = r.residual.filled in
     let long : length (moved net.supplies f t k) ≡ node_count net = length-moved net.supplies f t k in
     let wide : length (moved l.nodes.excess.items f t k) ≡ length l.nodes.excess.items = length-moved l.nodes.excess.items f t k in
-    let laid = laid_still net _ _ _ f t k r.residual.laid_out in
+    let laid = laid_still net _ _ _ f t k r.residual.arcs_built in
     let here : IsResidualNetwork (shifted net f t k) l.residual = record {
-      laid_out = laid;
+      arcs_built = laid;
       filled = record { arc_size = w.arc_size; end = λ i b c. w.end i b c; cost = λ i b c. w.cost i b c; fits = λ i b. w.fits i b };
       room_size = r.residual.room_size;
       limits = λ i b. r.residual.limits i b;
@@ -247,6 +247,6 @@ ready_moved net l potential excess f t k st fair fb tb few base low room pe ee =
       potentials = omega (arith, r.potentials);
       excesses = rw ee (omega (arith, r.excesses));
       labels = omega (arith, r.labels);
-      round = rw ee (moved_round net (flow_of l.residual) (at_nodes l.nodes.potential.items) (at_nodes potential) l.nodes.excess.items f t k r.network r.round r.excesses st.sent fb tb few base low room);
+      round = rw ee (moved_round net (flow_of l.residual) (at_nodes l.nodes.potential.items) (at_nodes potential) l.nodes.excess.items f t k r.network r.round r.excesses st.sent fb tb few base low capacity);
       blank = λ v b. r.blank v (omega arith);
     }

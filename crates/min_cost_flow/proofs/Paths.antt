@@ -7,7 +7,7 @@ use borrow.Author.Differences.{up}
 use Rattle.networks.specs.declared.arc.Cap.{Cap}
 use Rattle.networks.specs.declared.arc.Cap.TheVariants.{AtMost, Any}
 use Rattle.networks.specs.Networks.{NetworkModel, node_count, arc_count, arc_at, HasEnds}
-use Rattle.networks.specs.Flow.{HasRoom, IsResidual, start_of, end_of, HasNoFlow}
+use Rattle.networks.specs.Flow.{IsUnsaturated, IsResidual, start_of, end_of, HasNoFlow}
 use Rattle.min_cost_flow.specs.Excess.{Leaves, IsClosedOut, IsResidualPath, IsCutOff}
 use Rattle.min_cost_flow.proofs.Cut.{no_flow_out}
 use Rattle.networks.proofs.Ends.{end_in}
@@ -16,22 +16,22 @@ use Rattle.min_cost_flow.proofs.Spreading.{Steps, IsClosedUnder, Passes, spread_
 
 -- ---- residual arcs by a test
 
-has_room : Cap → ℕ → Bool
-has_room (AtMost k) x = ltb x k
-has_room Any x = true
+is_unsaturated : Cap → ℕ → Bool
+is_unsaturated (AtMost k) x = ltb x k
+is_unsaturated Any x = true
 
-room_is : (c : Cap) (x : ℕ) → has_room c x ≡ true → HasRoom c x
-unfolding has_room
+room_is : (c : Cap) (x : ℕ) → is_unsaturated c x ≡ true → IsUnsaturated c x
+unfolding is_unsaturated
 room_is (AtMost k) x h = ltb-true x k h
 room_is Any x h = tt
 
-is_room : (c : Cap) (x : ℕ) → HasRoom c x → has_room c x ≡ true
-unfolding has_room
+is_room : (c : Cap) (x : ℕ) → IsUnsaturated c x → is_unsaturated c x ≡ true
+unfolding is_unsaturated
 is_room (AtMost k) x h = lt-ltb x k h
 is_room Any x h = refl
 
 is_residual : NetworkModel → (ℕ → ℕ) → ℕ → Bool → Bool
-is_residual net x i back = cond back (ltb 0 (x i)) (has_room (arc_at net i).cap (x i))
+is_residual net x i back = cond back (ltb 0 (x i)) (is_unsaturated (arc_at net i).cap (x i))
 
 residual_is : (net : NetworkModel) (x : ℕ → ℕ) (i : ℕ) (back : Bool) → is_residual net x i back ≡ true → IsResidual net x i back
 unfolding is_residual
@@ -78,16 +78,16 @@ closed_out net x s c = record { stays = λ i back b r h. c.stays i back b (is_re
 
 not_wanting : (net : NetworkModel) (x : ℕ → ℕ) (e : ℕ → ℤ) (u v : ℕ) → IsCutOff net x e → u < node_count net → v < node_count net → pos 0 <ℤ e u → IsReachable net x u v → pos 0 ≤ℤ e v
 unfolding IsReachable
-not_wanting net x e u v cut ub vb over p =
+not_wanting net x e u v bound ub vb over p =
     elim (sign_of (e v)) [
-      | inl w ↦ let (k, path) = p in absurd (cut.apart u v k ub vb over w path)
+      | inl w ↦ let (k, path) = p in absurd (bound.apart u v k ub vb over w path)
       | inr o ↦ o
     ]
 
 no_flow_over : (net : NetworkModel) (x : ℕ → ℕ) (e : ℕ → ℤ) (u : ℕ) → HasEnds net → Leaves net x e → IsCutOff net x e → u < node_count net → pos 0 <ℤ e u → HasNoFlow net
-no_flow_over net x e u ends lv cut ub over =
+no_flow_over net x e u ends lv bound ub over =
     let (t, r, closed) = spread_from (IsReachable net x u) (node_count net) (residual_steps net x) u (paths_pass net x u ends) (path_itself net x u) in
-    no_flow_out net x e t u ends lv (closed_out net x t closed) (λ v b h. not_wanting net x e u v cut ub b over (r.each v h)) ub r.inside over
+    no_flow_out net x e t u ends lv (closed_out net x t closed) (λ v b h. not_wanting net x e u v bound ub b over (r.each v h)) ub r.inside over
 
 is_over : (z : ℤ) → ltb 0 (up z) ≡ true → pos 0 <ℤ z
 is_over (pos n) h = omega (arith, ints, ltb-true 0 n h)
@@ -112,11 +112,11 @@ below_then (negsuc n) l ne = omega (arith, ints)
 -- where something is left over or wanting, and no residual path leads from the one to the other,
 -- there is no flow
 pub no_flow_cut_off : (net : NetworkModel) (x : ℕ → ℕ) (e : ℕ → ℤ) (u : ℕ) → HasEnds net → Leaves net x e → IsCutOff net x e → u < node_count net → e u ≢ pos 0 → HasNoFlow net
-no_flow_cut_off net x e u ends lv cut ub ne =
+no_flow_cut_off net x e u ends lv bound ub ne =
     elim (over_or_not (e u)) [
-      | inl over ↦ no_flow_over net x e u ends lv cut ub over
+      | inl over ↦ no_flow_over net x e u ends lv bound ub over
       | inr l ↦ elim (found_below (node_count net) (λ v. ltb 0 (up (e v)))) [
-        | inl f ↦ let (v, b, h) = f in no_flow_over net x e v ends lv cut b (is_over (e v) h)
+        | inl f ↦ let (v, b, h) = f in no_flow_over net x e v ends lv bound b (is_over (e v) h)
         | inr none ↦ no_flow_wanting net x e u ends lv (λ v b. not_over (e v) (none v b)) ub (below_then (e u) l ne)
       ]
     ]

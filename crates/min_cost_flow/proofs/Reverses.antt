@@ -3,14 +3,14 @@ use Rattle.std.proofs.Common.{◌≡◌, ◌<◌, ℕ, Bool, true, false, refl, 
 use Rattle.networks.specs.declared.residual.ResidualArc.{ResidualArc}
 use Rattle.networks.specs.Networks.{NetworkModel, node_count, arc_count}
 use Rattle.networks.specs.Flow.{start_of, end_of}
-use Rattle.networks.specs.ResidualArcs.{end_at, StartsAt, place_of, HasResidualArcs, IsFilled}
+use Rattle.networks.specs.ResidualArcs.{end_at, StartsAt, number_of, HasResidualArcs, AreResidualArcs}
 
 unfoldable pub turned_back : Bool → Bool
 turned_back false = true
 turned_back true = false
 
 -- the reverse of residual arc (i, back)
-pub reverse_is : (net : NetworkModel) (first : List ℕ) (reverse : ℕ → ℕ) (forward : List ℕ) (i : ℕ) (back : Bool) → HasResidualArcs net first reverse forward → i < arc_count net → reverse (place_of reverse forward i back) ≡ place_of reverse forward i (turned_back back)
+pub reverse_is : (net : NetworkModel) (first : List ℕ) (reverse : ℕ → ℕ) (forward : List ℕ) (i : ℕ) (back : Bool) → HasResidualArcs net first reverse forward → i < arc_count net → reverse (number_of reverse forward i back) ≡ number_of reverse forward i (turned_back back)
 unfolding turned_back
 reverse_is net first reverse forward i false l b = refl
 reverse_is net first reverse forward i true l b = l.turned i b
@@ -20,8 +20,8 @@ unfolding turned_back
 turned_end net i false = refl
 turned_end net i true = refl
 
-pub start_is : (net : NetworkModel) (first : List ℕ) (reverse : ℕ → ℕ) (forward : List ℕ) (room : ℕ → ℕ) (arcs : List ResidualArc) (v k : ℕ) → HasResidualArcs net first reverse forward → IsFilled net reverse forward room arcs → v < node_count net → StartsAt first v k → end_at arcs (reverse k) ≡ v
-start_is net first reverse forward room arcs v k l f b st =
+pub start_is : (net : NetworkModel) (first : List ℕ) (reverse : ℕ → ℕ) (forward : List ℕ) (capacity : ℕ → ℕ) (arcs : List ResidualArc) (v k : ℕ) → HasResidualArcs net first reverse forward → AreResidualArcs net reverse forward capacity arcs → v < node_count net → StartsAt first v k → end_at arcs (reverse k) ≡ v
+start_is net first reverse forward capacity arcs v k l f b st =
     let o = l.cover v k b st in
-    let r : reverse k ≡ place_of reverse forward o.arc (turned_back o.back) = ap reverse (sym o.place) ∙ reverse_is net first reverse forward o.arc o.back l o.inside in
+    let r : reverse k ≡ number_of reverse forward o.arc (turned_back o.back) = ap reverse (sym o.place) ∙ reverse_is net first reverse forward o.arc o.back l o.inside in
     ap (end_at arcs) r ∙ f.end o.arc (turned_back o.back) o.inside ∙ turned_end net o.arc o.back ∙ o.start

@@ -5,12 +5,12 @@ use Rattle.std.proofs.lemmas.Bool.{cases_eq, eq-eqb, cond-true}
 use Rattle.std.proofs.lemmas.Int.{ints}
 use Rattle.networks.specs.declared.network.TheConstants.{MAX_ARCS, MAX_NODES}
 use borrow.Author.Differences.{up}
-use Rattle.sums.specs.Sums.{sum_below}
-use Rattle.sums.proofs.Sums.{sum_below-same, sum_below-le, sum_below-changed, sum_below-constant, sum_below-none}
+use Rattle.common.specs.Sums.{sum_below}
+use Rattle.common.proofs.Sums.{sum_below-same, sum_below-le, sum_below-changed, sum_below-constant, sum_below-none}
 use Rattle.networks.specs.declared.arc.Cap.{Cap}
 use Rattle.networks.specs.declared.arc.Cap.TheVariants.{AtMost, Any}
 use Rattle.networks.specs.Networks.{NetworkModel, node_count, arc_count, arc_at, supply_at, HasEnds, IsNetwork}
-use Rattle.networks.specs.Flow.{leaves, enters, balance, IsWithin, HasRoom, Flow, HasNoFlow, IsResidual, HasPotentials, reduced_cost}
+use Rattle.networks.specs.Flow.{leaves, enters, balance, IsWithin, IsUnsaturated, Flow, HasNoFlow, IsResidual, HasPotentials, reduced_cost}
 use Rattle.min_cost_flow.specs.Excess.{KeepsCaps, Leaves}
 use Rattle.min_cost_flow.specs.Round.{left_over, supply_sum, carrying, IsRound, IsLess, IsWork, IsRoundDone}
 use Rattle.std.proofs.Math.Nat.{add-mul, one-mul}
@@ -133,7 +133,7 @@ sent_round net x y p e e' u k s priced r =
       low = r.low;
       zero = λ v b w. r.zero v b (was_wanting net x y e e' u k v s b w);
       fair = λ v b. still_fair net x y e e' u k v s b (r.fair v b);
-      room = λ i b. omega (arith, s.grown i b, r.room i b);
+      capacity = λ i b. omega (arith, s.grown i b, r.capacity i b);
     }
 
 -- ---- the first round
@@ -183,7 +183,7 @@ first_round net x p e k none flat full =
       low = λ v b. first_low (node_count net) (p v) (flat v);
       zero = λ v b w. flat v;
       fair = fair;
-      room = λ i b. omega (arith, none i b);
+      capacity = λ i b. omega (arith, none i b);
     }
 
 -- ---- the work done
@@ -251,7 +251,7 @@ same_balance : (l l' n n' : ℕ) (s : ℤ) → l' ≡ l → n' ≡ n → pos l -
 same_balance l l' n n' s a b h = omega (arith, ints)
 
 still_residual : (net : NetworkModel) (x y : ℕ → ℕ) (i : ℕ) (back : Bool) → y i ≡ x i → IsResidual net y i back → IsResidual net x i back
-still_residual net x y i false e h = subst (λ (t : ℕ). HasRoom (arc_at net i).cap t) e h
+still_residual net x y i false e h = subst (λ (t : ℕ). IsUnsaturated (arc_at net i).cap t) e h
 still_residual net x y i true e h = omega arith
 
 pub flow_same : (net : NetworkModel) (x y : ℕ → ℕ) → ((i : ℕ) → i < arc_count net → y i ≡ x i) → Flow net x → Flow net y

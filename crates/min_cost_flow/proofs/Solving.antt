@@ -7,30 +7,30 @@ use Rattle.std.proofs.lemmas.Int.{ints, to_z-of_z}
 use mir.Syntax.{w16, w32}
 use mir.Val.{of_z, to_z}
 use Rattle.networks.specs.declared.network.TheConstants.{MAX_NODES}
-use Rattle.networks.specs.declared.residual.TheConstants.{SHUT}
+use Rattle.networks.specs.declared.residual.TheConstants.{CLOSED}
 use lib.Signed.{lt_z}
-use Rattle.sums.specs.Sums.{sum_below}
-use Rattle.sums.proofs.Sums.{sum_below-le, sum_below-constant}
+use Rattle.common.specs.Sums.{sum_below}
+use Rattle.common.proofs.Sums.{sum_below-le, sum_below-constant}
 use Rattle.networks.specs.declared.arc.Cap.{Cap}
 use Rattle.networks.specs.declared.arc.Cap.TheVariants.{AtMost, Any}
 use Rattle.networks.specs.declared.residual.ResidualArc.{ResidualArc}
 use Rattle.networks.specs.Networks.{NetworkModel, node_count, arc_count, arc_at, HasUnitCosts, IsNetwork}
-use Rattle.networks.specs.Flow.{HasRoom, IsResidual, HasPotentials, HasNoFlow, start_of, end_of, unit_cost, reduced_cost}
+use Rattle.networks.specs.Flow.{IsUnsaturated, IsResidual, HasPotentials, HasNoFlow, start_of, end_of, unit_cost, reduced_cost}
 use Rattle.min_cost_flow.specs.Round.{IsRound}
 use Rattle.networks.specs.declared.residual.Residual.{Residual}
 use Rattle.networks.specs.Flow.{at_nodes}
-use Rattle.shortest_paths.specs.declared.state.Search.{Search}
-use Rattle.shortest_paths.specs.declared.state.Visit.{Visit}
+use Rattle.networks.specs.declared.state.Search.{Search}
+use Rattle.networks.specs.declared.state.Visit.{Visit}
 use Rattle.min_cost_flow.specs.Stand.{IsReadyIn, CanAugmentIn, IsCleared}
-use Rattle.networks.specs.ResidualArcs.{end_at, cost_at, reverse_at, room_at, StartsAt, place_of, limit_of, HasResidualArcs, IsFilled, carried}
-use Rattle.shortest_paths.specs.Search.{far, IsArcCost, IsOpen, IsGraph, IsPriced, IsNear, IsReached, IsHit, IsNearest, IsServed, IsLeft, IsPut, IsWithinFar, degree, looked, place_at, labels, enters, orders, places}
+use Rattle.networks.specs.ResidualArcs.{end_at, cost_at, reverse_at, capacity_at, StartsAt, number_of, units_of, HasResidualArcs, AreResidualArcs, carried}
+use Rattle.networks.specs.Search.{far, IsArcCost, IsOpen, IsGraph, AreFeasiblePotentials, IsNear, IsReached, IsHit, IsNearest, IsServed, IsLeft, IsPut, IsWithinFar, degree, looked, place_at, labels, enters, orders, places}
 use Rattle.min_cost_flow.specs.Path.{HasPath}
 use Rattle.min_cost_flow.proofs.Cut.{no_flow_out}
 use Rattle.networks.proofs.Ends.{start_in, end_in}
 use Rattle.min_cost_flow.proofs.Reverses.{turned_back, start_is}
-use Rattle.shortest_paths.proofs.Signs.{plain_lt, fits_within, label_fits}
+use Rattle.networks.proofs.Signs.{plain_lt, fits_within, label_fits}
 use Rattle.min_cost_flow.proofs.Comparisons.{lt_true}
-use Rattle.shortest_paths.proofs.Reaching.{below_or_not, not_less}
+use Rattle.networks.proofs.Reaching.{below_or_not, not_less}
 
 -- ---- costs, rooms and residual arcs
 
@@ -38,54 +38,54 @@ unit_cost_low : (net : NetworkModel) (i : ℕ) (back : Bool) → HasUnitCosts ne
 unit_cost_low net i false costs b = (omega (arith, ints), omega (arith, ints, costs i b))
 unit_cost_low net i true costs b = (omega (arith, ints, costs i b), omega (arith, ints))
 
-code_when : (r : ℕ) (c z : ℤ) → z ≡ cond (eqb r 0) (c +ℤ SHUT) c → (negsuc 0 ≤ℤ c) × (c ≤ℤ pos 1) → ((r ≡ 0) × (z ≡ c +ℤ SHUT)) ⊎ ((0 < r) × (z ≡ c))
+code_when : (r : ℕ) (c z : ℤ) → z ≡ cond (eqb r 0) (c +ℤ CLOSED) c → (negsuc 0 ≤ℤ c) × (c ≤ℤ pos 1) → ((r ≡ 0) × (z ≡ c +ℤ CLOSED)) ⊎ ((0 < r) × (z ≡ c))
 code_when zero c z h b = inl (refl, h)
-code_when (suc r) c z h b = inr (omega arith, h ∙ cond-false {A = ℤ} (eqb (suc r) 0) (c +ℤ SHUT) c (ne_eqb (suc r) 0 (λ t. absurd (omega arith))))
+code_when (suc r) c z h b = inr (omega arith, h ∙ cond-false {A = ℤ} (eqb (suc r) 0) (c +ℤ CLOSED) c (ne_eqb (suc r) 0 (λ t. absurd (omega arith))))
 
-shut_cost : (c z : ℤ) → z ≡ c +ℤ SHUT → (negsuc 0 ≤ℤ c) × (c ≤ℤ pos 1) → (pos 15999 ≤ℤ z) × (z ≤ℤ pos 16001)
-shut_cost c z h (a, b) = (omega (arith, ints), omega (arith, ints))
+closed_cost : (c z : ℤ) → z ≡ c +ℤ CLOSED → (negsuc 0 ≤ℤ c) × (c ≤ℤ pos 1) → (pos 15999 ≤ℤ z) × (z ≤ℤ pos 16001)
+closed_cost c z h (a, b) = (omega (arith, ints), omega (arith, ints))
 
-not_open : (c z : ℤ) → z ≡ c +ℤ SHUT → (negsuc 0 ≤ℤ c) × (c ≤ℤ pos 1) → z ≤ℤ pos 1 → ⊥
+not_open : (c z : ℤ) → z ≡ c +ℤ CLOSED → (negsuc 0 ≤ℤ c) × (c ≤ℤ pos 1) → z ≤ℤ pos 1 → ⊥
 not_open c z h (a, b) o = omega (arith, ints)
 
 -- the cost of residual arc (i, back): what a unit costs where something fits, and more where nothing does
-pub code_cases : (net : NetworkModel) (reverse : ℕ → ℕ) (forward : List ℕ) (room : ℕ → ℕ) (arcs : List ResidualArc) (i : ℕ) (back : Bool) → IsNetwork net → IsFilled net reverse forward room arcs → i < arc_count net → ((room (place_of reverse forward i back) ≡ 0) × (cost_at arcs (place_of reverse forward i back) ≡ unit_cost net i back +ℤ SHUT)) ⊎ ((0 < room (place_of reverse forward i back)) × (cost_at arcs (place_of reverse forward i back) ≡ unit_cost net i back))
-code_cases net reverse forward room arcs i back k f b = code_when (room (place_of reverse forward i back)) (unit_cost net i back) (cost_at arcs (place_of reverse forward i back)) (f.cost i back b) (unit_cost_low net i back k.costs b)
+pub code_cases : (net : NetworkModel) (reverse : ℕ → ℕ) (forward : List ℕ) (capacity : ℕ → ℕ) (arcs : List ResidualArc) (i : ℕ) (back : Bool) → IsNetwork net → AreResidualArcs net reverse forward capacity arcs → i < arc_count net → ((capacity (number_of reverse forward i back) ≡ 0) × (cost_at arcs (number_of reverse forward i back) ≡ unit_cost net i back +ℤ CLOSED)) ⊎ ((0 < capacity (number_of reverse forward i back)) × (cost_at arcs (number_of reverse forward i back) ≡ unit_cost net i back))
+code_cases net reverse forward capacity arcs i back k f b = code_when (capacity (number_of reverse forward i back)) (unit_cost net i back) (cost_at arcs (number_of reverse forward i back)) (f.cost i back b) (unit_cost_low net i back k.costs b)
 
-room_open : (c : Cap) (r x : ℕ) → r + x ≡ limit_of c → x ≤ 2097152 → HasRoom c x → 0 < r
+room_open : (c : Cap) (r x : ℕ) → r + x ≡ units_of c → x ≤ 2097152 → IsUnsaturated c x → 0 < r
 room_open (AtMost k) r x h l o = omega arith
-room_open Any r x h l o = let big : limit_of Any ≡ 1073741824 = refl in omega arith
+room_open Any r x h l o = let big : units_of Any ≡ 1073741824 = refl in omega arith
 
-open_room : (c : Cap) (r x : ℕ) → r + x ≡ limit_of c → 0 < r → HasRoom c x
+open_room : (c : Cap) (r x : ℕ) → r + x ≡ units_of c → 0 < r → IsUnsaturated c x
 open_room (AtMost k) r x h o = omega arith
 open_room Any r x h o = tt
 
-pub residual_open : (net : NetworkModel) (reverse : ℕ → ℕ) (forward : List ℕ) (room : ℕ → ℕ) (arcs : List ResidualArc) (i : ℕ) (back : Bool) → IsFilled net reverse forward room arcs → i < arc_count net → carried reverse forward room i ≤ 2097152 → IsResidual net (carried reverse forward room) i back → 0 < room (place_of reverse forward i back)
-residual_open net reverse forward room arcs i false f b l r = room_open (arc_at net i).cap (room (place_of reverse forward i false)) (carried reverse forward room i) (f.fits i b) l r
-residual_open net reverse forward room arcs i true f b l r = r
+pub residual_open : (net : NetworkModel) (reverse : ℕ → ℕ) (forward : List ℕ) (capacity : ℕ → ℕ) (arcs : List ResidualArc) (i : ℕ) (back : Bool) → AreResidualArcs net reverse forward capacity arcs → i < arc_count net → carried reverse forward capacity i ≤ 2097152 → IsResidual net (carried reverse forward capacity) i back → 0 < capacity (number_of reverse forward i back)
+residual_open net reverse forward capacity arcs i false f b l r = room_open (arc_at net i).cap (capacity (number_of reverse forward i false)) (carried reverse forward capacity i) (f.fits i b) l r
+residual_open net reverse forward capacity arcs i true f b l r = r
 
-pub open_residual : (net : NetworkModel) (reverse : ℕ → ℕ) (forward : List ℕ) (room : ℕ → ℕ) (arcs : List ResidualArc) (i : ℕ) (back : Bool) → IsFilled net reverse forward room arcs → i < arc_count net → 0 < room (place_of reverse forward i back) → IsResidual net (carried reverse forward room) i back
-open_residual net reverse forward room arcs i false f b o = open_room (arc_at net i).cap (room (place_of reverse forward i false)) (carried reverse forward room i) (f.fits i b) o
-open_residual net reverse forward room arcs i true f b o = o
+pub open_residual : (net : NetworkModel) (reverse : ℕ → ℕ) (forward : List ℕ) (capacity : ℕ → ℕ) (arcs : List ResidualArc) (i : ℕ) (back : Bool) → AreResidualArcs net reverse forward capacity arcs → i < arc_count net → 0 < capacity (number_of reverse forward i back) → IsResidual net (carried reverse forward capacity) i back
+open_residual net reverse forward capacity arcs i false f b o = open_room (arc_at net i).cap (capacity (number_of reverse forward i false)) (carried reverse forward capacity i) (f.fits i b) o
+open_residual net reverse forward capacity arcs i true f b o = o
 
 -- a residual arc along which something fits is open, and its cost is what a unit costs
-pub unit_cost_open : (net : NetworkModel) (reverse : ℕ → ℕ) (forward : List ℕ) (room : ℕ → ℕ) (arcs : List ResidualArc) (i : ℕ) (back : Bool) → IsNetwork net → IsFilled net reverse forward room arcs → i < arc_count net → 0 < room (place_of reverse forward i back) → (cost_at arcs (place_of reverse forward i back) ≡ unit_cost net i back) × IsOpen arcs (place_of reverse forward i back)
-unit_cost_open net reverse forward room arcs i back k f b o =
-    elim (code_cases net reverse forward room arcs i back k f b) [
+pub unit_cost_open : (net : NetworkModel) (reverse : ℕ → ℕ) (forward : List ℕ) (capacity : ℕ → ℕ) (arcs : List ResidualArc) (i : ℕ) (back : Bool) → IsNetwork net → AreResidualArcs net reverse forward capacity arcs → i < arc_count net → 0 < capacity (number_of reverse forward i back) → (cost_at arcs (number_of reverse forward i back) ≡ unit_cost net i back) × IsOpen arcs (number_of reverse forward i back)
+unit_cost_open net reverse forward capacity arcs i back k f b o =
+    elim (code_cases net reverse forward capacity arcs i back k f b) [
       | inl h ↦ absurd (omega (arith, h.0))
       | inr h ↦ (h.1, subst (λ (z : ℤ). z ≤ℤ pos 1) (sym h.1) (unit_cost_low net i back k.costs b).1)
     ]
 
 -- and an open one fits
-pub open_unit_cost : (net : NetworkModel) (reverse : ℕ → ℕ) (forward : List ℕ) (room : ℕ → ℕ) (arcs : List ResidualArc) (i : ℕ) (back : Bool) → IsNetwork net → IsFilled net reverse forward room arcs → i < arc_count net → IsOpen arcs (place_of reverse forward i back) → (0 < room (place_of reverse forward i back)) × (cost_at arcs (place_of reverse forward i back) ≡ unit_cost net i back)
-open_unit_cost net reverse forward room arcs i back k f b o =
-    elim (code_cases net reverse forward room arcs i back k f b) [
-      | inl h ↦ absurd (not_open (unit_cost net i back) (cost_at arcs (place_of reverse forward i back)) h.1 (unit_cost_low net i back k.costs b) o)
+pub open_unit_cost : (net : NetworkModel) (reverse : ℕ → ℕ) (forward : List ℕ) (capacity : ℕ → ℕ) (arcs : List ResidualArc) (i : ℕ) (back : Bool) → IsNetwork net → AreResidualArcs net reverse forward capacity arcs → i < arc_count net → IsOpen arcs (number_of reverse forward i back) → (0 < capacity (number_of reverse forward i back)) × (cost_at arcs (number_of reverse forward i back) ≡ unit_cost net i back)
+open_unit_cost net reverse forward capacity arcs i back k f b o =
+    elim (code_cases net reverse forward capacity arcs i back k f b) [
+      | inl h ↦ absurd (not_open (unit_cost net i back) (cost_at arcs (number_of reverse forward i back)) h.1 (unit_cost_low net i back k.costs b) o)
       | inr h ↦ h
     ]
 
-pub is_graph : (net : NetworkModel) (first : List ℕ) (reverse : ℕ → ℕ) (forward : List ℕ) (room : ℕ → ℕ) (arcs : List ResidualArc) → IsNetwork net → HasResidualArcs net first reverse forward → IsFilled net reverse forward room arcs → IsGraph (node_count net) first arcs
-is_graph net first reverse forward room arcs k l f =
+pub is_graph : (net : NetworkModel) (first : List ℕ) (reverse : ℕ → ℕ) (forward : List ℕ) (capacity : ℕ → ℕ) (arcs : List ResidualArc) → IsNetwork net → HasResidualArcs net first reverse forward → AreResidualArcs net reverse forward capacity arcs → IsGraph (node_count net) first arcs
+is_graph net first reverse forward capacity arcs k l f =
     let size : length arcs ≡ arc_count net + arc_count net = f.arc_size in
     record {
       nodes = k.small.0;
@@ -96,130 +96,130 @@ is_graph net first reverse forward room arcs k l f =
       end = λ v j b st. let o = l.cover v j b st in subst (λ (t : ℕ). end_at arcs t < node_count net) o.place (subst (λ (t : ℕ). t < node_count net) (sym (f.end o.arc o.back o.inside)) (end_in net o.arc o.back k.ends o.inside));
       cost = λ v j b st.
           let o = l.cover v j b st in
-          subst (λ (t : ℕ). IsArcCost (cost_at arcs t)) o.place (elim (code_cases net reverse forward room arcs o.arc o.back k f o.inside) [
-            | inl h ↦ inr (shut_cost (unit_cost net o.arc o.back) (cost_at arcs (place_of reverse forward o.arc o.back)) h.1 (unit_cost_low net o.arc o.back k.costs o.inside))
+          subst (λ (t : ℕ). IsArcCost (cost_at arcs t)) o.place (elim (code_cases net reverse forward capacity arcs o.arc o.back k f o.inside) [
+            | inl h ↦ inr (closed_cost (unit_cost net o.arc o.back) (cost_at arcs (number_of reverse forward o.arc o.back)) h.1 (unit_cost_low net o.arc o.back k.costs o.inside))
             | inr h ↦ inl (subst (λ (z : ℤ). (negsuc 0 ≤ℤ z) × (z ≤ℤ pos 1)) (sym h.1) (unit_cost_low net o.arc o.back k.costs o.inside))
           ]);
     }
 
 -- reduced costs by number, and by arc
-pub reduced_by_number : (net : NetworkModel) (first : List ℕ) (reverse : ℕ → ℕ) (forward : List ℕ) (room : ℕ → ℕ) (arcs : List ResidualArc) (p : ℕ → ℤ) → IsNetwork net → HasResidualArcs net first reverse forward → IsFilled net reverse forward room arcs → HasPotentials net (carried reverse forward room) p → (v k : ℕ) → v < node_count net → StartsAt first v k → IsOpen arcs k → pos 0 ≤ℤ (cost_at arcs k +ℤ p v -ℤ p (end_at arcs k))
-reduced_by_number net first reverse forward room arcs p n l f h v k b st op =
+pub reduced_by_number : (net : NetworkModel) (first : List ℕ) (reverse : ℕ → ℕ) (forward : List ℕ) (capacity : ℕ → ℕ) (arcs : List ResidualArc) (p : ℕ → ℤ) → IsNetwork net → HasResidualArcs net first reverse forward → AreResidualArcs net reverse forward capacity arcs → HasPotentials net (carried reverse forward capacity) p → (v k : ℕ) → v < node_count net → StartsAt first v k → IsOpen arcs k → pos 0 ≤ℤ (cost_at arcs k +ℤ p v -ℤ p (end_at arcs k))
+reduced_by_number net first reverse forward capacity arcs p n l f h v k b st op =
     let o = l.cover v k b st in
     let i = o.arc in
     let back = o.back in
-    let here : IsOpen arcs (place_of reverse forward i back) = subst (λ (t : ℕ). IsOpen arcs t) (sym o.place) op in
-    let (fits, unit_is) = open_unit_cost net reverse forward room arcs i back n f o.inside here in
-    let red : pos 0 ≤ℤ reduced_cost net p i back = h.residual i back o.inside (open_residual net reverse forward room arcs i back f o.inside fits) in
-    let two : pos 0 ≤ℤ (cost_at arcs (place_of reverse forward i back) +ℤ p (start_of net i back) -ℤ p (end_at arcs (place_of reverse forward i back))) = rw (unit_is, f.end i back o.inside) red in
-    let one : pos 0 ≤ℤ (cost_at arcs (place_of reverse forward i back) +ℤ p v -ℤ p (end_at arcs (place_of reverse forward i back))) = subst (λ (t : ℕ). pos 0 ≤ℤ (cost_at arcs (place_of reverse forward i back) +ℤ p t -ℤ p (end_at arcs (place_of reverse forward i back)))) o.start two in
+    let here : IsOpen arcs (number_of reverse forward i back) = subst (λ (t : ℕ). IsOpen arcs t) (sym o.place) op in
+    let (fits, unit_is) = open_unit_cost net reverse forward capacity arcs i back n f o.inside here in
+    let red : pos 0 ≤ℤ reduced_cost net p i back = h.residual i back o.inside (open_residual net reverse forward capacity arcs i back f o.inside fits) in
+    let two : pos 0 ≤ℤ (cost_at arcs (number_of reverse forward i back) +ℤ p (start_of net i back) -ℤ p (end_at arcs (number_of reverse forward i back))) = rw (unit_is, f.end i back o.inside) red in
+    let one : pos 0 ≤ℤ (cost_at arcs (number_of reverse forward i back) +ℤ p v -ℤ p (end_at arcs (number_of reverse forward i back))) = subst (λ (t : ℕ). pos 0 ≤ℤ (cost_at arcs (number_of reverse forward i back) +ℤ p t -ℤ p (end_at arcs (number_of reverse forward i back)))) o.start two in
     subst (λ (t : ℕ). pos 0 ≤ℤ (cost_at arcs t +ℤ p v -ℤ p (end_at arcs t))) o.place one
 
-pub potentials_by_arc : (net : NetworkModel) (first : List ℕ) (reverse : ℕ → ℕ) (forward : List ℕ) (room : ℕ → ℕ) (arcs : List ResidualArc) (p : ℕ → ℤ) → IsNetwork net → HasResidualArcs net first reverse forward → IsFilled net reverse forward room arcs → ((i : ℕ) → i < arc_count net → carried reverse forward room i ≤ 2097152) → ((v k : ℕ) → v < node_count net → StartsAt first v k → IsOpen arcs k → pos 0 ≤ℤ (cost_at arcs k +ℤ p v -ℤ p (end_at arcs k))) → HasPotentials net (carried reverse forward room) p
-potentials_by_arc net first reverse forward room arcs p n l f few h = record {
+pub potentials_by_arc : (net : NetworkModel) (first : List ℕ) (reverse : ℕ → ℕ) (forward : List ℕ) (capacity : ℕ → ℕ) (arcs : List ResidualArc) (p : ℕ → ℤ) → IsNetwork net → HasResidualArcs net first reverse forward → AreResidualArcs net reverse forward capacity arcs → ((i : ℕ) → i < arc_count net → carried reverse forward capacity i ≤ 2097152) → ((v k : ℕ) → v < node_count net → StartsAt first v k → IsOpen arcs k → pos 0 ≤ℤ (cost_at arcs k +ℤ p v -ℤ p (end_at arcs k))) → HasPotentials net (carried reverse forward capacity) p
+potentials_by_arc net first reverse forward capacity arcs p n l f few h = record {
   residual = λ i back b r.
-      let fits : 0 < room (place_of reverse forward i back) = residual_open net reverse forward room arcs i back f b (few i b) r in
-      let (unit_is, op) = unit_cost_open net reverse forward room arcs i back n f b fits in
-      let red : pos 0 ≤ℤ (cost_at arcs (place_of reverse forward i back) +ℤ p (start_of net i back) -ℤ p (end_at arcs (place_of reverse forward i back))) = h (start_of net i back) (place_of reverse forward i back) (start_in net i back n.ends b) (l.block i back b) op in
+      let fits : 0 < capacity (number_of reverse forward i back) = residual_open net reverse forward capacity arcs i back f b (few i b) r in
+      let (unit_is, op) = unit_cost_open net reverse forward capacity arcs i back n f b fits in
+      let red : pos 0 ≤ℤ (cost_at arcs (number_of reverse forward i back) +ℤ p (start_of net i back) -ℤ p (end_at arcs (number_of reverse forward i back))) = h (start_of net i back) (number_of reverse forward i back) (start_in net i back n.ends b) (l.block i back b) op in
       rw (unit_is, f.end i back b) at red;
 }
 
-pub is_priced : (net : NetworkModel) (first : List ℕ) (reverse : ℕ → ℕ) (forward : List ℕ) (room : ℕ → ℕ) (arcs : List ResidualArc) (p e : ℕ → ℤ) → IsNetwork net → HasResidualArcs net first reverse forward → IsFilled net reverse forward room arcs → IsRound net (carried reverse forward room) p e → IsPriced (node_count net) first arcs p e
-is_priced net first reverse forward room arcs p e n l f r = record {
-  reduced = reduced_by_number net first reverse forward room arcs p n l f r.priced;
+pub is_priced : (net : NetworkModel) (first : List ℕ) (reverse : ℕ → ℕ) (forward : List ℕ) (capacity : ℕ → ℕ) (arcs : List ResidualArc) (p e : ℕ → ℤ) → IsNetwork net → HasResidualArcs net first reverse forward → AreResidualArcs net reverse forward capacity arcs → IsRound net (carried reverse forward capacity) p e → AreFeasiblePotentials (node_count net) first arcs p e
+is_priced net first reverse forward capacity arcs p e n l f r = record {
+  reduced = reduced_by_number net first reverse forward capacity arcs p n l f r.priced;
   low = r.low;
   zero = r.zero;
 }
 
 -- ---- new potentials
 
--- the potentials p' after a search that found something: labels less the cut where a node was scanned
-pub record IsMovedTo (n : ℕ) (p p' q : ℕ → ℤ) (place : ℕ → ℕ) (head : ℕ) (cut : ℤ) : Type 0 where
-  pub scanned : (v : ℕ) → v < n → q v <ℤ far → place v < head → p' v ≡ q v -ℤ cut
+-- the potentials p' after a search that found something: labels less the bound where a node was scanned
+pub record IsMovedTo (n : ℕ) (p p' q : ℕ → ℤ) (place : ℕ → ℕ) (scanned : ℕ) (bound : ℤ) : Type 0 where
+  pub are_scanned : (v : ℕ) → v < n → q v <ℤ far → place v < scanned → p' v ≡ q v -ℤ bound
   pub unlabelled : (v : ℕ) → v < n → far ≤ℤ q v → p' v ≡ p v
-  pub behind : (v : ℕ) → v < n → q v <ℤ far → head ≤ place v → p' v ≡ p v
+  pub behind : (v : ℕ) → v < n → q v <ℤ far → scanned ≤ place v → p' v ≡ p v
 
-pub moved_to : (n : ℕ) (first : List ℕ) (arcs : List ResidualArc) (p p' e : ℕ → ℤ) (s : ℕ) (q : ℕ → ℤ) (enter order place : ℕ → ℕ) (head ordered reached : ℕ) (level cut : ℤ) → IsReached n first arcs p e s q enter order place head ordered reached level → ((j : ℕ) → j < head → p' (order j) ≡ q (order j) -ℤ cut) → ((v : ℕ) → ((j : ℕ) → j < head → order j ≢ v) → p' v ≡ p v) → IsMovedTo n p p' q place head cut
-moved_to n first arcs p p' e s q enter order place head ordered reached level cut r moved others =
-    let le : head ≤ reached = omega (arith, r.counts) in
+pub moved_to : (n : ℕ) (first : List ℕ) (arcs : List ResidualArc) (p p' e : ℕ → ℤ) (s : ℕ) (q : ℕ → ℤ) (enter order place : ℕ → ℕ) (scanned ordered reached : ℕ) (level bound : ℤ) → IsReached n first arcs p e s q enter order place scanned ordered reached level → ((j : ℕ) → j < scanned → p' (order j) ≡ q (order j) -ℤ bound) → ((v : ℕ) → ((j : ℕ) → j < scanned → order j ≢ v) → p' v ≡ p v) → IsMovedTo n p p' q place scanned bound
+moved_to n first arcs p p' e s q enter order place scanned ordered reached level bound r moved others =
+    let le : scanned ≤ reached = omega (arith, r.counts) in
     record {
-      scanned = λ v b l h. let back : order (place v) ≡ v = (r.listed v b l).1 in subst (λ (t : ℕ). p' t ≡ q t -ℤ cut) back (moved (place v) h);
+      are_scanned = λ v b l h. let back : order (place v) ≡ v = (r.listed v b l).1 in subst (λ (t : ℕ). p' t ≡ q t -ℤ bound) back (moved (place v) h);
       unlabelled = λ v b l. others v (λ j h t. not_less (q v) far (subst (λ (i : ℕ). q i <ℤ far) t (r.marked j (omega arith))) l);
       behind = λ v b l h. others v (λ j d t. let at : place v ≡ j = ap place (sym t) ∙ r.at j (omega arith) in absurd (omega arith));
     }
 
-below_label : (p' p q level cut : ℤ) → p' ≡ q -ℤ cut → (q -ℤ p) ≤ℤ level → level ≤ℤ cut → p' ≤ℤ p
-below_label p' p q level cut h a b = omega (arith, ints)
+below_label : (p' p q level bound : ℤ) → p' ≡ q -ℤ bound → (q -ℤ p) ≤ℤ level → level ≤ℤ bound → p' ≤ℤ p
+below_label p' p q level bound h a b = omega (arith, ints)
 
-left_label : (p' p q cut : ℤ) → p' ≡ p → cut ≤ℤ (q -ℤ p) → p' ≤ℤ (q -ℤ cut)
-left_label p' p q cut h a = omega (arith, ints)
+left_label : (p' p q bound : ℤ) → p' ≡ p → bound ≤ℤ (q -ℤ p) → p' ≤ℤ (q -ℤ bound)
+left_label p' p q bound h a = omega (arith, ints)
 
 same_below : (a b : ℤ) → a ≡ b → a ≤ℤ b
 same_below a b h = omega (arith, ints)
 
-pub potentials_fall : (n : ℕ) (first : List ℕ) (arcs : List ResidualArc) (p p' e : ℕ → ℤ) (s : ℕ) (q : ℕ → ℤ) (enter order place : ℕ → ℕ) (head ordered reached : ℕ) (level cut : ℤ) (k : ℕ) → IsReached n first arcs p e s q enter order place head ordered reached level → IsNearest n first arcs p e s q place head level cut k → IsMovedTo n p p' q place head cut → (v : ℕ) → v < n → p' v ≤ℤ p v
-potentials_fall n first arcs p p' e s q enter order place head ordered reached level cut k r near m v b =
+pub potentials_fall : (n : ℕ) (first : List ℕ) (arcs : List ResidualArc) (p p' e : ℕ → ℤ) (s : ℕ) (q : ℕ → ℤ) (enter order place : ℕ → ℕ) (scanned ordered reached : ℕ) (level bound : ℤ) (k : ℕ) → IsReached n first arcs p e s q enter order place scanned ordered reached level → IsNearest n first arcs p e s q place scanned level bound k → IsMovedTo n p p' q place scanned bound → (v : ℕ) → v < n → p' v ≤ℤ p v
+potentials_fall n first arcs p p' e s q enter order place scanned ordered reached level bound k r near m v b =
     elim (below_or_not (q v) far) [
-      | inl l ↦ elim (cases_lt (place v) head) [
-        | inl h ↦ below_label (p' v) (p v) (q v) level cut (m.scanned v b l h) (r.under v b l (omega (arith, r.counts))) near.above
+      | inl l ↦ elim (cases_lt (place v) scanned) [
+        | inl h ↦ below_label (p' v) (p v) (q v) level bound (m.are_scanned v b l h) (r.under v b l (omega (arith, r.counts))) near.above
         | inr h ↦ same_below (p' v) (p v) (m.behind v b l h)
       ]
       | inr f ↦ same_below (p' v) (p v) (m.unlabelled v b f)
     ]
 
-labels_fall : (n : ℕ) (p p' q : ℕ → ℤ) (place : ℕ → ℕ) (head : ℕ) (cut : ℤ) → IsMovedTo n p p' q place head cut → IsLeft n p q place head cut → (v : ℕ) → v < n → q v <ℤ far → p' v ≤ℤ (q v -ℤ cut)
-labels_fall n p p' q place head cut m left v b l =
-    elim (cases_lt (place v) head) [
-      | inl h ↦ same_below (p' v) (q v -ℤ cut) (m.scanned v b l h)
-      | inr h ↦ left_label (p' v) (p v) (q v) cut (m.behind v b l h) (left v b l h)
+labels_fall : (n : ℕ) (p p' q : ℕ → ℤ) (place : ℕ → ℕ) (scanned : ℕ) (bound : ℤ) → IsMovedTo n p p' q place scanned bound → IsLeft n p q place scanned bound → (v : ℕ) → v < n → q v <ℤ far → p' v ≤ℤ (q v -ℤ bound)
+labels_fall n p p' q place scanned bound m left v b l =
+    elim (cases_lt (place v) scanned) [
+      | inl h ↦ same_below (p' v) (q v -ℤ bound) (m.are_scanned v b l h)
+      | inr h ↦ left_label (p' v) (p v) (q v) bound (m.behind v b l h) (left v b l h)
     ]
 
 both_lower : (c a b b' : ℤ) → pos 0 ≤ℤ (c +ℤ a -ℤ b) → b' ≤ℤ b → pos 0 ≤ℤ (c +ℤ a -ℤ b')
 both_lower c a b b' h k = omega (arith, ints)
 
-far_end : (c a q b b' cut : ℤ) → a ≡ q -ℤ cut → cut ≤ℤ (q +ℤ c -ℤ b) → b' ≤ℤ b → pos 0 ≤ℤ (c +ℤ a -ℤ b')
-far_end c a q b b' cut h k l = omega (arith, ints)
+far_end : (c a q b b' bound : ℤ) → a ≡ q -ℤ bound → bound ≤ℤ (q +ℤ c -ℤ b) → b' ≤ℤ b → pos 0 ≤ℤ (c +ℤ a -ℤ b')
+far_end c a q b b' bound h k l = omega (arith, ints)
 
-near_end : (c a q qe b' cut : ℤ) → a ≡ q -ℤ cut → qe ≤ℤ (q +ℤ c) → b' ≤ℤ (qe -ℤ cut) → pos 0 ≤ℤ (c +ℤ a -ℤ b')
-near_end c a q qe b' cut h k l = omega (arith, ints)
+near_end : (c a q qe b' bound : ℤ) → a ≡ q -ℤ bound → qe ≤ℤ (q +ℤ c) → b' ≤ℤ (qe -ℤ bound) → pos 0 ≤ℤ (c +ℤ a -ℤ b')
+near_end c a q qe b' bound h k l = omega (arith, ints)
 
 label_step : (ps q c qe : ℤ) (n h : ℕ) → n ≤ MAX_NODES → h ≤ n → ps ≤ℤ pos (2 * n) → IsNear ps h q → c ≤ℤ pos 1 → qe ≤ℤ (q +ℤ c) → qe <ℤ far
 label_step ps q c qe n h small le low (a, b) o k = omega (arith, ints)
 
-pub moved_priced : (n : ℕ) (first : List ℕ) (arcs : List ResidualArc) (p p' e : ℕ → ℤ) (s : ℕ) (q : ℕ → ℤ) (enter order place : ℕ → ℕ) (head ordered reached : ℕ) (level cut : ℤ) (f : ℕ) → IsGraph n first arcs → IsPriced n first arcs p e → IsReached n first arcs p e s q enter order place head ordered reached level → IsNearest n first arcs p e s q place head level cut f → IsServed n first arcs p q place cut head → IsLeft n p q place head cut → IsMovedTo n p p' q place head cut → (v k : ℕ) → v < n → StartsAt first v k → IsOpen arcs k → pos 0 ≤ℤ (cost_at arcs k +ℤ p' v -ℤ p' (end_at arcs k))
-moved_priced n first arcs p p' e s q enter order place head ordered reached level cut f g pr r near sv left m v k b st op =
+pub moved_priced : (n : ℕ) (first : List ℕ) (arcs : List ResidualArc) (p p' e : ℕ → ℤ) (s : ℕ) (q : ℕ → ℤ) (enter order place : ℕ → ℕ) (scanned ordered reached : ℕ) (level bound : ℤ) (f : ℕ) → IsGraph n first arcs → AreFeasiblePotentials n first arcs p e → IsReached n first arcs p e s q enter order place scanned ordered reached level → IsNearest n first arcs p e s q place scanned level bound f → IsServed n first arcs p q place bound scanned → IsLeft n p q place scanned bound → IsMovedTo n p p' q place scanned bound → (v k : ℕ) → v < n → StartsAt first v k → IsOpen arcs k → pos 0 ≤ℤ (cost_at arcs k +ℤ p' v -ℤ p' (end_at arcs k))
+moved_priced n first arcs p p' e s q enter order place scanned ordered reached level bound f g pr r near sv left m v k b st op =
     let eb : end_at arcs k < n = g.end v k b st in
-    let fall : p' (end_at arcs k) ≤ℤ p (end_at arcs k) = potentials_fall n first arcs p p' e s q enter order place head ordered reached level cut f r near m (end_at arcs k) eb in
+    let fall : p' (end_at arcs k) ≤ℤ p (end_at arcs k) = potentials_fall n first arcs p p' e s q enter order place scanned ordered reached level bound f r near m (end_at arcs k) eb in
     let old : p' v ≡ p v → pos 0 ≤ℤ (cost_at arcs k +ℤ p' v -ℤ p' (end_at arcs k)) = λ t. subst (λ (z : ℤ). pos 0 ≤ℤ (cost_at arcs k +ℤ z -ℤ p' (end_at arcs k))) (sym t) (both_lower (cost_at arcs k) (p v) (p (end_at arcs k)) (p' (end_at arcs k)) (pr.reduced v k b st op) fall) in
     elim (below_or_not (q v) far) [
-      | inl l ↦ elim (cases_lt (place v) head) [
-        | inl h ↦ elim (below_or_not (q v +ℤ cost_at arcs k -ℤ p (end_at arcs k)) cut) [
+      | inl l ↦ elim (cases_lt (place v) scanned) [
+        | inl h ↦ elim (below_or_not (q v +ℤ cost_at arcs k -ℤ p (end_at arcs k)) bound) [
           | inl near ↦
               let less : q (end_at arcs k) ≤ℤ (q v +ℤ cost_at arcs k) = sv.served v k b l h st op near in
-              let le : head ≤ n = omega (arith, r.counts) in
-              let mark : q (end_at arcs k) <ℤ far = label_step (p s) (q v) (cost_at arcs k) (q (end_at arcs k)) n head g.nodes le (pr.low s r.source.0).1 (r.near v b l) op less in
-              near_end (cost_at arcs k) (p' v) (q v) (q (end_at arcs k)) (p' (end_at arcs k)) cut (m.scanned v b l h) less (labels_fall n p p' q place head cut m left (end_at arcs k) eb mark)
-          | inr away ↦ far_end (cost_at arcs k) (p' v) (q v) (p (end_at arcs k)) (p' (end_at arcs k)) cut (m.scanned v b l h) away fall
+              let le : scanned ≤ n = omega (arith, r.counts) in
+              let mark : q (end_at arcs k) <ℤ far = label_step (p s) (q v) (cost_at arcs k) (q (end_at arcs k)) n scanned g.nodes le (pr.low s r.source.0).1 (r.near v b l) op less in
+              near_end (cost_at arcs k) (p' v) (q v) (q (end_at arcs k)) (p' (end_at arcs k)) bound (m.are_scanned v b l h) less (labels_fall n p p' q place scanned bound m left (end_at arcs k) eb mark)
+          | inr away ↦ far_end (cost_at arcs k) (p' v) (q v) (p (end_at arcs k)) (p' (end_at arcs k)) bound (m.are_scanned v b l h) away fall
         ]
         | inr h ↦ old (m.behind v b l h)
       ]
       | inr u ↦ old (m.unlabelled v b u)
     ]
 
-deep_enough : (ps q cut p' : ℤ) (n h : ℕ) → h ≤ n → IsNear ps h q → IsNear ps h cut → p' ≡ q -ℤ cut → pos 0 ≤ℤ (p' +ℤ pos (2 * n))
-deep_enough ps q cut p' n h le (a, b) (c, d) k = omega (arith, ints)
+deep_enough : (ps q bound p' : ℤ) (n h : ℕ) → h ≤ n → IsNear ps h q → IsNear ps h bound → p' ≡ q -ℤ bound → pos 0 ≤ℤ (p' +ℤ pos (2 * n))
+deep_enough ps q bound p' n h le (a, b) (c, d) k = omega (arith, ints)
 
 low_too : (a b c : ℤ) → a ≤ℤ b → b ≤ℤ c → a ≤ℤ c
 low_too a b c h k = omega (arith, ints)
 
-pub moved_low : (n : ℕ) (first : List ℕ) (arcs : List ResidualArc) (p p' e : ℕ → ℤ) (s : ℕ) (q : ℕ → ℤ) (enter order place : ℕ → ℕ) (head ordered reached : ℕ) (level cut : ℤ) (f : ℕ) → IsPriced n first arcs p e → IsReached n first arcs p e s q enter order place head ordered reached level → IsNearest n first arcs p e s q place head level cut f → cut <ℤ far → IsMovedTo n p p' q place head cut → (v : ℕ) → v < n → (pos 0 ≤ℤ (p' v +ℤ pos (2 * n))) × (p' v ≤ℤ pos (2 * n))
-moved_low n first arcs p p' e s q enter order place head ordered reached level cut f pr r near hit m v b =
-    let low : p' v ≤ℤ pos (2 * n) = low_too (p' v) (p v) (pos (2 * n)) (potentials_fall n first arcs p p' e s q enter order place head ordered reached level cut f r near m v b) (pr.low v b).1 in
-    let le : head ≤ n = omega (arith, r.counts) in
+pub moved_low : (n : ℕ) (first : List ℕ) (arcs : List ResidualArc) (p p' e : ℕ → ℤ) (s : ℕ) (q : ℕ → ℤ) (enter order place : ℕ → ℕ) (scanned ordered reached : ℕ) (level bound : ℤ) (f : ℕ) → AreFeasiblePotentials n first arcs p e → IsReached n first arcs p e s q enter order place scanned ordered reached level → IsNearest n first arcs p e s q place scanned level bound f → bound <ℤ far → IsMovedTo n p p' q place scanned bound → (v : ℕ) → v < n → (pos 0 ≤ℤ (p' v +ℤ pos (2 * n))) × (p' v ≤ℤ pos (2 * n))
+moved_low n first arcs p p' e s q enter order place scanned ordered reached level bound f pr r near hit m v b =
+    let low : p' v ≤ℤ pos (2 * n) = low_too (p' v) (p v) (pos (2 * n)) (potentials_fall n first arcs p p' e s q enter order place scanned ordered reached level bound f r near m v b) (pr.low v b).1 in
+    let le : scanned ≤ n = omega (arith, r.counts) in
     let old : p' v ≡ p v → pos 0 ≤ℤ (p' v +ℤ pos (2 * n)) = λ t. subst (λ (z : ℤ). pos 0 ≤ℤ (z +ℤ pos (2 * n))) (sym t) (pr.low v b).0 in (
       elim (below_or_not (q v) far) [
-        | inl l ↦ elim (cases_lt (place v) head) [
-          | inl h ↦ deep_enough (p s) (q v) cut (p' v) n head le (r.near v b l) (near.hit hit).near (m.scanned v b l h)
+        | inl l ↦ elim (cases_lt (place v) scanned) [
+          | inl h ↦ deep_enough (p s) (q v) bound (p' v) n scanned le (r.near v b l) (near.hit hit).near (m.are_scanned v b l h)
           | inr h ↦ old (m.behind v b l h)
         ]
         | inr u ↦ old (m.unlabelled v b u)
@@ -228,8 +228,8 @@ moved_low n first arcs p p' e s q enter order place head ordered reached level c
     )
 
 -- a node where units are wanting has no label
-pub wanting_far : (n : ℕ) (first : List ℕ) (arcs : List ResidualArc) (p e : ℕ → ℤ) (s : ℕ) (q : ℕ → ℤ) (enter order place : ℕ → ℕ) (head ordered reached : ℕ) (level : ℤ) (v : ℕ) → IsReached n first arcs p e s q enter order place head ordered reached level → v < n → e v <ℤ pos 0 → far ≤ℤ q v
-wanting_far n first arcs p e s q enter order place head ordered reached level v r b w =
+pub wanting_far : (n : ℕ) (first : List ℕ) (arcs : List ResidualArc) (p e : ℕ → ℤ) (s : ℕ) (q : ℕ → ℤ) (enter order place : ℕ → ℕ) (scanned ordered reached : ℕ) (level : ℤ) (v : ℕ) → IsReached n first arcs p e s q enter order place scanned ordered reached level → v < n → e v <ℤ pos 0 → far ≤ℤ q v
+wanting_far n first arcs p e s q enter order place scanned ordered reached level v r b w =
     elim (below_or_not (q v) far) [
       | inl l ↦ absurd (not_less (e v) (pos 0) w (r.plain v b l))
       | inr f ↦ f
@@ -237,69 +237,69 @@ wanting_far n first arcs p e s q enter order place head ordered reached level v 
 
 -- ---- the round after the potentials have moved
 
-pub moved_round : (net : NetworkModel) (first : List ℕ) (reverse : ℕ → ℕ) (forward : List ℕ) (room : ℕ → ℕ) (arcs : List ResidualArc) (p p' e : ℕ → ℤ) (s : ℕ) (q : ℕ → ℤ) (enter order place : ℕ → ℕ) (head ordered reached : ℕ) (level cut : ℤ) (f : ℕ) → IsNetwork net → HasResidualArcs net first reverse forward → IsFilled net reverse forward room arcs → IsRound net (carried reverse forward room) p e → IsReached (node_count net) first arcs p e s q enter order place head ordered reached level → IsNearest (node_count net) first arcs p e s q place head level cut f → IsServed (node_count net) first arcs p q place cut head → IsLeft (node_count net) p q place head cut → cut <ℤ far → IsMovedTo (node_count net) p p' q place head cut → IsRound net (carried reverse forward room) p' e
-moved_round net first reverse forward room arcs p p' e s q enter order place head ordered reached level cut f k l fl rd r near sv left hit m =
+pub moved_round : (net : NetworkModel) (first : List ℕ) (reverse : ℕ → ℕ) (forward : List ℕ) (capacity : ℕ → ℕ) (arcs : List ResidualArc) (p p' e : ℕ → ℤ) (s : ℕ) (q : ℕ → ℤ) (enter order place : ℕ → ℕ) (scanned ordered reached : ℕ) (level bound : ℤ) (f : ℕ) → IsNetwork net → HasResidualArcs net first reverse forward → AreResidualArcs net reverse forward capacity arcs → IsRound net (carried reverse forward capacity) p e → IsReached (node_count net) first arcs p e s q enter order place scanned ordered reached level → IsNearest (node_count net) first arcs p e s q place scanned level bound f → IsServed (node_count net) first arcs p q place bound scanned → IsLeft (node_count net) p q place scanned bound → bound <ℤ far → IsMovedTo (node_count net) p p' q place scanned bound → IsRound net (carried reverse forward capacity) p' e
+moved_round net first reverse forward capacity arcs p p' e s q enter order place scanned ordered reached level bound f k l fl rd r near sv left hit m =
     let n = node_count net in
-    let g : IsGraph n first arcs = is_graph net first reverse forward room arcs k l fl in
-    let pr : IsPriced n first arcs p e = is_priced net first reverse forward room arcs p e k l fl rd in
+    let g : IsGraph n first arcs = is_graph net first reverse forward capacity arcs k l fl in
+    let pr : AreFeasiblePotentials n first arcs p e = is_priced net first reverse forward capacity arcs p e k l fl rd in
     record {
       leaves = rd.leaves;
       caps = rd.caps;
-      priced = potentials_by_arc net first reverse forward room arcs p' k l fl (λ i b. omega (arith, rd.room i b)) (moved_priced n first arcs p p' e s q enter order place head ordered reached level cut f g pr r near sv left m);
-      low = moved_low n first arcs p p' e s q enter order place head ordered reached level cut f pr r near hit m;
-      zero = λ v b w. m.unlabelled v b (wanting_far n first arcs p e s q enter order place head ordered reached level v r b w) ∙ rd.zero v b w;
+      priced = potentials_by_arc net first reverse forward capacity arcs p' k l fl (λ i b. omega (arith, rd.capacity i b)) (moved_priced n first arcs p p' e s q enter order place scanned ordered reached level bound f g pr r near sv left m);
+      low = moved_low n first arcs p p' e s q enter order place scanned ordered reached level bound f pr r near hit m;
+      zero = λ v b w. m.unlabelled v b (wanting_far n first arcs p e s q enter order place scanned ordered reached level v r b w) ∙ rd.zero v b w;
       fair = rd.fair;
-      room = rd.room;
+      capacity = rd.capacity;
     }
 
 -- ---- the path
 
-tight_step : (c a b qa qb cut : ℤ) → a ≡ qa -ℤ cut → b ≡ qb -ℤ cut → qb ≡ qa +ℤ c → c +ℤ a -ℤ b ≡ pos 0
-tight_step c a b qa qb cut h k l = omega (arith, ints)
+tight_step : (c a b qa qb bound : ℤ) → a ≡ qa -ℤ bound → b ≡ qb -ℤ bound → qb ≡ qa +ℤ c → c +ℤ a -ℤ b ≡ pos 0
+tight_step c a b qa qb bound h k l = omega (arith, ints)
 
-tight_end : (c a b qa pb cut : ℤ) → a ≡ qa -ℤ cut → b ≡ pb → cut ≡ qa +ℤ c -ℤ pb → c +ℤ a -ℤ b ≡ pos 0
-tight_end c a b qa pb cut h k l = omega (arith, ints)
+tight_end : (c a b qa pb bound : ℤ) → a ≡ qa -ℤ bound → b ≡ pb → bound ≡ qa +ℤ c -ℤ pb → c +ℤ a -ℤ b ≡ pos 0
+tight_end c a b qa pb bound h k l = omega (arith, ints)
 
 abbrev on_path : (ℕ → ℕ) → (ℕ → ℕ) → ℕ → ℕ → Bool
-on_path order place head v = ltb (place v) head && eqb (order (place v)) v
+on_path order place scanned v = ltb (place v) scanned && eqb (order (place v)) v
 
-is_on : (order place : ℕ → ℕ) (head v : ℕ) → place v < head → order (place v) ≡ v → on_path order place head v ≡ true
-is_on order place head v h back = and_from (ltb (place v) head) (eqb (order (place v)) v) (lt-ltb (place v) head h) (eq-eqb (order (place v)) v back)
+is_on : (order place : ℕ → ℕ) (scanned v : ℕ) → place v < scanned → order (place v) ≡ v → on_path order place scanned v ≡ true
+is_on order place scanned v h back = and_from (ltb (place v) scanned) (eqb (order (place v)) v) (lt-ltb (place v) scanned h) (eq-eqb (order (place v)) v back)
 
-on_is : (order place : ℕ → ℕ) (head v : ℕ) → on_path order place head v ≡ true → (place v < head) × (order (place v) ≡ v)
-on_is order place head v h = let (a, b) = and_parts (ltb (place v) head) (eqb (order (place v)) v) h in (ltb-true (place v) head a, eqb-true (order (place v)) v b)
+on_is : (order place : ℕ → ℕ) (scanned v : ℕ) → on_path order place scanned v ≡ true → (place v < scanned) × (order (place v) ≡ v)
+on_is order place scanned v h = let (a, b) = and_parts (ltb (place v) scanned) (eqb (order (place v)) v) h in (ltb-true (place v) scanned a, eqb-true (order (place v)) v b)
 
-pub has_path : (n : ℕ) (first : List ℕ) (arcs : List ResidualArc) (p p' e : ℕ → ℤ) (s : ℕ) (q : ℕ → ℤ) (enter order place : ℕ → ℕ) (head ordered reached : ℕ) (level cut : ℤ) (f : ℕ) → IsGraph n first arcs → IsReached n first arcs p e s q enter order place head ordered reached level → IsNearest n first arcs p e s q place head level cut f → cut <ℤ far → IsMovedTo n p p' q place head cut → HasPath n first arcs p' enter place s f
-has_path n first arcs p p' e s q enter order place head ordered reached level cut f g r near hit m =
-    let le : head ≤ reached = omega (arith, r.counts) in
+pub has_path : (n : ℕ) (first : List ℕ) (arcs : List ResidualArc) (p p' e : ℕ → ℤ) (s : ℕ) (q : ℕ → ℤ) (enter order place : ℕ → ℕ) (scanned ordered reached : ℕ) (level bound : ℤ) (f : ℕ) → IsGraph n first arcs → IsReached n first arcs p e s q enter order place scanned ordered reached level → IsNearest n first arcs p e s q place scanned level bound f → bound <ℤ far → IsMovedTo n p p' q place scanned bound → HasPath n first arcs p' enter place s f
+has_path n first arcs p p' e s q enter order place scanned ordered reached level bound f g r near hit m =
+    let le : scanned ≤ reached = omega (arith, r.counts) in
     let h = near.hit hit in
     let eb : end_at arcs f < n = g.end h.start f h.node h.leaves in
-    let off : far ≤ℤ q (end_at arcs f) = wanting_far n first arcs p e s q enter order place head ordered reached level (end_at arcs f) r eb h.wanting in
-    let labelled : (v : ℕ) → on_path order place head v ≡ true → (v < n) × (q v <ℤ far) = λ v o. let (a, back) = on_is order place head v o in (subst (λ (t : ℕ). t < n) back (r.node (place v) (omega arith)), subst (λ (t : ℕ). q t <ℤ far) back (r.marked (place v) (omega arith))) in
+    let off : far ≤ℤ q (end_at arcs f) = wanting_far n first arcs p e s q enter order place scanned ordered reached level (end_at arcs f) r eb h.wanting in
+    let labelled : (v : ℕ) → on_path order place scanned v ≡ true → (v < n) × (q v <ℤ far) = λ v o. let (a, back) = on_is order place scanned v o in (subst (λ (t : ℕ). t < n) back (r.node (place v) (omega arith)), subst (λ (t : ℕ). q t <ℤ far) back (r.marked (place v) (omega arith))) in
     let order_s : order 0 ≡ s = ap order (sym r.source.2) ∙ (r.listed s r.source.0 r.source.1).1 in
     record {
-      on = on_path order place head;
+      on = on_path order place scanned;
       node = λ v o. (labelled v o).0;
-      root = λ v o z. sym (on_is order place head v o).1 ∙ ap order z ∙ order_s;
+      root = λ v o z. sym (on_is order place scanned v o).1 ∙ ap order z ∙ order_s;
       after = λ v o some.
           let (vb, vl) = labelled v o in
-          let (vh, back) = on_is order place head v o in
+          let (vh, back) = on_is order place scanned v o in
           let x = r.entered v vb vl (λ t. let z : place v ≡ 0 = ap place t ∙ r.source.2 in absurd (omega arith)) in
-          let xh : place x.start < head = x.scanned in
+          let xh : place x.start < scanned = x.are_scanned in
           record {
             start = x.start;
-            member = is_on order place head x.start xh (r.listed x.start x.node x.labelled).1;
+            member = is_on order place scanned x.start xh (r.listed x.start x.node x.labelled).1;
             before = x.before;
             step = record {
               leaves = x.leaves;
               unblocked = x.unblocked;
               arrives = x.arrives;
-              free = tight_step (cost_at arcs (enter v)) (p' x.start) (p' v) (q x.start) (q v) cut (m.scanned x.start x.node x.labelled xh) (m.scanned v vb vl vh) x.label;
+              free = tight_step (cost_at arcs (enter v)) (p' x.start) (p' v) (q x.start) (q v) bound (m.are_scanned x.start x.node x.labelled xh) (m.are_scanned v vb vl vh) x.label;
             };
           };
       last = h.start;
-      member = is_on order place head h.start h.scanned (r.listed h.start h.node h.labelled).1;
-      off = elim (cases_Bool (on_path order place head (end_at arcs f))) [
+      member = is_on order place scanned h.start h.are_scanned (r.listed h.start h.node h.labelled).1;
+      off = elim (cases_Bool (on_path order place scanned (end_at arcs f))) [
         | inl t ↦ absurd (not_less (q (end_at arcs f)) far (labelled (end_at arcs f) t).1 off)
         | inr t ↦ t
       ];
@@ -307,7 +307,7 @@ has_path n first arcs p p' e s q enter order place head ordered reached level cu
         leaves = h.leaves;
         unblocked = h.unblocked;
         arrives = refl;
-        free = tight_end (cost_at arcs f) (p' h.start) (p' (end_at arcs f)) (q h.start) (p (end_at arcs f)) cut (m.scanned h.start h.node h.labelled h.scanned) (m.unlabelled (end_at arcs f) eb off) h.distance;
+        free = tight_end (cost_at arcs f) (p' h.start) (p' (end_at arcs f)) (q h.start) (p (end_at arcs f)) bound (m.are_scanned h.start h.node h.labelled h.are_scanned) (m.unlabelled (end_at arcs f) eb off) h.distance;
       };
     }
 
@@ -319,31 +319,31 @@ in_reach ps q pv n h small le low (a, b) d = omega (arith, ints)
 in_reach_step : (ps q pe c : ℤ) (n h : ℕ) → n ≤ MAX_NODES → h ≤ n → ps ≤ℤ pos (2 * n) → IsNear ps h q → pos 0 ≤ℤ (pe +ℤ pos (2 * n)) → c ≤ℤ pos 1 → (q +ℤ c -ℤ pe) <ℤ far
 in_reach_step ps q pe c n h small le low (a, b) d o = omega (arith, ints)
 
-pub nothing_found : (net : NetworkModel) (first : List ℕ) (reverse : ℕ → ℕ) (forward : List ℕ) (room : ℕ → ℕ) (arcs : List ResidualArc) (p e : ℕ → ℤ) (s : ℕ) (q : ℕ → ℤ) (enter order place : ℕ → ℕ) (head ordered reached : ℕ) (level cut : ℤ) → IsNetwork net → HasResidualArcs net first reverse forward → IsFilled net reverse forward room arcs → IsRound net (carried reverse forward room) p e → IsReached (node_count net) first arcs p e s q enter order place head ordered reached level → IsServed (node_count net) first arcs p q place cut head → IsLeft (node_count net) p q place head cut → cut ≡ far → pos 0 <ℤ e s → HasNoFlow net
-nothing_found net first reverse forward room arcs p e s q enter order place head ordered reached level cut k l fl rd r sv left none over =
+pub nothing_found : (net : NetworkModel) (first : List ℕ) (reverse : ℕ → ℕ) (forward : List ℕ) (capacity : ℕ → ℕ) (arcs : List ResidualArc) (p e : ℕ → ℤ) (s : ℕ) (q : ℕ → ℤ) (enter order place : ℕ → ℕ) (scanned ordered reached : ℕ) (level bound : ℤ) → IsNetwork net → HasResidualArcs net first reverse forward → AreResidualArcs net reverse forward capacity arcs → IsRound net (carried reverse forward capacity) p e → IsReached (node_count net) first arcs p e s q enter order place scanned ordered reached level → IsServed (node_count net) first arcs p q place bound scanned → IsLeft (node_count net) p q place scanned bound → bound ≡ far → pos 0 <ℤ e s → HasNoFlow net
+nothing_found net first reverse forward capacity arcs p e s q enter order place scanned ordered reached level bound k l fl rd r sv left none over =
     let n = node_count net in
-    let le : head ≤ n = omega (arith, r.counts) in
+    let le : scanned ≤ n = omega (arith, r.counts) in
     let low : p s ≤ℤ pos (2 * n) = (rd.low s r.source.0).1 in
     let in_set : ℕ → Bool = λ v. lt_z (q v) far in
-    let scanned : (v : ℕ) → v < n → q v <ℤ far → place v < head = λ v b m. elim (cases_lt (place v) head) [
+    let are_scanned : (v : ℕ) → v < n → q v <ℤ far → place v < scanned = λ v b m. elim (cases_lt (place v) scanned) [
       | inl h ↦ h
-      | inr h ↦ absurd (not_less (q v -ℤ p v) far (in_reach (p s) (q v) (p v) n head k.small.0 le low (r.near v b m) (rd.low v b).0) (subst (λ (z : ℤ). z ≤ℤ (q v -ℤ p v)) none (left v b m h)))
+      | inr h ↦ absurd (not_less (q v -ℤ p v) far (in_reach (p s) (q v) (p v) n scanned k.small.0 le low (r.near v b m) (rd.low v b).0) (subst (λ (z : ℤ). z ≤ℤ (q v -ℤ p v)) none (left v b m h)))
     ] in
-    no_flow_out net (carried reverse forward room) e in_set s k.ends rd.leaves
+    no_flow_out net (carried reverse forward capacity) e in_set s k.ends rd.leaves
     (record {
       stays = λ i back b res so.
           let u = start_of net i back in
-          let j = place_of reverse forward i back in
+          let j = number_of reverse forward i back in
           let ub : u < n = start_in net i back k.ends b in
           let m : q u <ℤ far = plain_lt (q u) far so in
-          let fits : 0 < room j = residual_open net reverse forward room arcs i back fl b (omega (arith, rd.room i b)) res in
-          let op : IsOpen arcs j = (unit_cost_open net reverse forward room arcs i back k fl b fits).1 in
+          let fits : 0 < capacity j = residual_open net reverse forward capacity arcs i back fl b (omega (arith, rd.capacity i b)) res in
+          let op : IsOpen arcs j = (unit_cost_open net reverse forward capacity arcs i back k fl b fits).1 in
           let st : StartsAt first u j = l.block i back b in
           let ends : end_at arcs j ≡ end_of net i back = fl.end i back b in
           let eb : end_at arcs j < n = subst (λ (t : ℕ). t < n) (sym ends) (end_in net i back k.ends b) in
-          let near : (q u +ℤ cost_at arcs j -ℤ p (end_at arcs j)) <ℤ cut = subst (λ (z : ℤ). (q u +ℤ cost_at arcs j -ℤ p (end_at arcs j)) <ℤ z) (sym none) (in_reach_step (p s) (q u) (p (end_at arcs j)) (cost_at arcs j) n head k.small.0 le low (r.near u ub m) (rd.low (end_at arcs j) eb).0 op) in
-          let less : q (end_at arcs j) ≤ℤ (q u +ℤ cost_at arcs j) = sv.served u j ub m (scanned u ub m) st op near in
-          subst (λ (t : ℕ). lt_z (q t) far ≡ true) ends (lt_true (q (end_at arcs j)) far (label_step (p s) (q u) (cost_at arcs j) (q (end_at arcs j)) n head k.small.0 le low (r.near u ub m) op less));
+          let near : (q u +ℤ cost_at arcs j -ℤ p (end_at arcs j)) <ℤ bound = subst (λ (z : ℤ). (q u +ℤ cost_at arcs j -ℤ p (end_at arcs j)) <ℤ z) (sym none) (in_reach_step (p s) (q u) (p (end_at arcs j)) (cost_at arcs j) n scanned k.small.0 le low (r.near u ub m) (rd.low (end_at arcs j) eb).0 op) in
+          let less : q (end_at arcs j) ≤ℤ (q u +ℤ cost_at arcs j) = sv.served u j ub m (are_scanned u ub m) st op near in
+          subst (λ (t : ℕ). lt_z (q t) far ≡ true) ends (lt_true (q (end_at arcs j)) far (label_step (p s) (q u) (cost_at arcs j) (q (end_at arcs j)) n scanned k.small.0 le low (r.near u ub m) op less));
     })
     (λ v b m. r.plain v b (plain_lt (q v) far m))
     r.source.0 (lt_true (q s) far r.source.1) over
@@ -356,54 +356,54 @@ turned_start net i false = refl
 turned_start net i true = refl
 
 -- the end of a residual arc has one of its own
-has_own : (net : NetworkModel) (first : List ℕ) (reverse : ℕ → ℕ) (forward : List ℕ) (room : ℕ → ℕ) (arcs : List ResidualArc) (u k : ℕ) → HasResidualArcs net first reverse forward → IsFilled net reverse forward room arcs → u < node_count net → StartsAt first u k → 0 < degree first (end_at arcs k)
-has_own net first reverse forward room arcs u k l f b st =
+has_own : (net : NetworkModel) (first : List ℕ) (reverse : ℕ → ℕ) (forward : List ℕ) (capacity : ℕ → ℕ) (arcs : List ResidualArc) (u k : ℕ) → HasResidualArcs net first reverse forward → AreResidualArcs net reverse forward capacity arcs → u < node_count net → StartsAt first u k → 0 < degree first (end_at arcs k)
+has_own net first reverse forward capacity arcs u k l f b st =
     let o = l.cover u k b st in
     let ends : end_at arcs k ≡ end_of net o.arc o.back = ap (end_at arcs) (sym o.place) ∙ f.end o.arc o.back o.inside in
-    let own : StartsAt first (start_of net o.arc (turned_back o.back)) (place_of reverse forward o.arc (turned_back o.back)) = l.block o.arc (turned_back o.back) o.inside in
-    let here : StartsAt first (end_at arcs k) (place_of reverse forward o.arc (turned_back o.back)) = subst (λ (t : ℕ). StartsAt first t (place_of reverse forward o.arc (turned_back o.back))) (turned_start net o.arc o.back ∙ sym ends) own in
+    let own : StartsAt first (start_of net o.arc (turned_back o.back)) (number_of reverse forward o.arc (turned_back o.back)) = l.block o.arc (turned_back o.back) o.inside in
+    let here : StartsAt first (end_at arcs k) (number_of reverse forward o.arc (turned_back o.back)) = subst (λ (t : ℕ). StartsAt first t (number_of reverse forward o.arc (turned_back o.back))) (turned_start net o.arc o.back ∙ sym ends) own in
     omega (arith, here.from, here.below)
 
 own_degree : (first : List ℕ) (v k : ℕ) → StartsAt first v k → 0 < degree first v
 own_degree first v k st = omega (arith, st.from, st.below)
 
-source_degree : (n : ℕ) (first : List ℕ) (arcs : List ResidualArc) (p e : ℕ → ℤ) (s : ℕ) (q : ℕ → ℤ) (enter order place : ℕ → ℕ) (head ordered reached : ℕ) (level : ℤ) (b v : ℕ) → IsReached n first arcs p e s q enter order place head ordered reached level → place v < b → v < n → q v <ℤ far → v ≢ s → 0 < degree first s
-source_degree n first arcs p e s q enter order place head ordered reached level zero v r less vb l ne = absurd (omega arith)
-source_degree n first arcs p e s q enter order place head ordered reached level (suc b) v r less vb l ne =
+source_degree : (n : ℕ) (first : List ℕ) (arcs : List ResidualArc) (p e : ℕ → ℤ) (s : ℕ) (q : ℕ → ℤ) (enter order place : ℕ → ℕ) (scanned ordered reached : ℕ) (level : ℤ) (b v : ℕ) → IsReached n first arcs p e s q enter order place scanned ordered reached level → place v < b → v < n → q v <ℤ far → v ≢ s → 0 < degree first s
+source_degree n first arcs p e s q enter order place scanned ordered reached level zero v r less vb l ne = absurd (omega arith)
+source_degree n first arcs p e s q enter order place scanned ordered reached level (suc b) v r less vb l ne =
     let x = r.entered v vb l ne in
     let before : place x.start < place v = x.before in
     elim (cases_eq x.start s) [
       | inl t ↦ own_degree first s (enter v) (subst (λ (i : ℕ). StartsAt first i (enter v)) t x.leaves)
-      | inr d ↦ source_degree n first arcs p e s q enter order place head ordered reached level b x.start r (omega arith) x.node x.labelled d
+      | inr d ↦ source_degree n first arcs p e s q enter order place scanned ordered reached level b x.start r (omega arith) x.node x.labelled d
     ]
 
-one_each : (net : NetworkModel) (first : List ℕ) (reverse : ℕ → ℕ) (forward : List ℕ) (room : ℕ → ℕ) (arcs : List ResidualArc) (p e : ℕ → ℤ) (s : ℕ) (q : ℕ → ℤ) (enter order place : ℕ → ℕ) (head ordered reached : ℕ) (level cut : ℤ) (f : ℕ) → HasResidualArcs net first reverse forward → IsFilled net reverse forward room arcs → IsReached (node_count net) first arcs p e s q enter order place head ordered reached level → IsHit (node_count net) first arcs p e s q place head cut f → (v : ℕ) → v < node_count net → q v <ℤ far → 0 < degree first v
-one_each net first reverse forward room arcs p e s q enter order place head ordered reached level cut f l fl r h v b m =
+one_each : (net : NetworkModel) (first : List ℕ) (reverse : ℕ → ℕ) (forward : List ℕ) (capacity : ℕ → ℕ) (arcs : List ResidualArc) (p e : ℕ → ℤ) (s : ℕ) (q : ℕ → ℤ) (enter order place : ℕ → ℕ) (scanned ordered reached : ℕ) (level bound : ℤ) (f : ℕ) → HasResidualArcs net first reverse forward → AreResidualArcs net reverse forward capacity arcs → IsReached (node_count net) first arcs p e s q enter order place scanned ordered reached level → IsHit (node_count net) first arcs p e s q place scanned bound f → (v : ℕ) → v < node_count net → q v <ℤ far → 0 < degree first v
+one_each net first reverse forward capacity arcs p e s q enter order place scanned ordered reached level bound f l fl r h v b m =
     elim (cases_eq v s) [
       | inl t ↦ subst (λ (i : ℕ). 0 < degree first i) (sym t) (elim (cases_eq h.start s) [
         | inl d ↦ own_degree first s f (subst (λ (i : ℕ). StartsAt first i f) d h.leaves)
-        | inr d ↦ source_degree (node_count net) first arcs p e s q enter order place head ordered reached level (place h.start + 1) h.start r (omega arith) h.node h.labelled d
+        | inr d ↦ source_degree (node_count net) first arcs p e s q enter order place scanned ordered reached level (place h.start + 1) h.start r (omega arith) h.node h.labelled d
       ])
       | inr ne ↦
           let x = r.entered v b m ne in
-          subst (λ (i : ℕ). 0 < degree first i) x.arrives (has_own net first reverse forward room arcs x.start (enter v) l fl x.node x.leaves)
+          subst (λ (i : ℕ). 0 < degree first i) x.arrives (has_own net first reverse forward capacity arcs x.start (enter v) l fl x.node x.leaves)
     ]
 
 -- so a search that finds something looks at no fewer residual arcs than it scans nodes
-pub many_looks : (net : NetworkModel) (first : List ℕ) (reverse : ℕ → ℕ) (forward : List ℕ) (room : ℕ → ℕ) (arcs : List ResidualArc) (p e : ℕ → ℤ) (s : ℕ) (q : ℕ → ℤ) (enter order place : ℕ → ℕ) (head ordered reached : ℕ) (level cut : ℤ) (f : ℕ) → HasResidualArcs net first reverse forward → IsFilled net reverse forward room arcs → IsReached (node_count net) first arcs p e s q enter order place head ordered reached level → IsHit (node_count net) first arcs p e s q place head cut f → head ≤ looked first order head
-many_looks net first reverse forward room arcs p e s q enter order place head ordered reached level cut f l fl r h =
-    let le : head ≤ reached = omega (arith, r.counts) in
-    let more : sum_below head (λ _. 1) ≤ looked first order head = sum_below-le head (λ _. 1) (λ j. degree first (order j)) (λ j b. one_each net first reverse forward room arcs p e s q enter order place head ordered reached level cut f l fl r h (order j) (r.node j (omega arith)) (r.marked j (omega arith))) in
-    omega (arith, sum_below-constant head 1)
+pub many_looks : (net : NetworkModel) (first : List ℕ) (reverse : ℕ → ℕ) (forward : List ℕ) (capacity : ℕ → ℕ) (arcs : List ResidualArc) (p e : ℕ → ℤ) (s : ℕ) (q : ℕ → ℤ) (enter order place : ℕ → ℕ) (scanned ordered reached : ℕ) (level bound : ℤ) (f : ℕ) → HasResidualArcs net first reverse forward → AreResidualArcs net reverse forward capacity arcs → IsReached (node_count net) first arcs p e s q enter order place scanned ordered reached level → IsHit (node_count net) first arcs p e s q place scanned bound f → scanned ≤ looked first order scanned
+many_looks net first reverse forward capacity arcs p e s q enter order place scanned ordered reached level bound f l fl r h =
+    let le : scanned ≤ reached = omega (arith, r.counts) in
+    let more : sum_below scanned (λ _. 1) ≤ looked first order scanned = sum_below-le scanned (λ _. 1) (λ j. degree first (order j)) (λ j b. one_each net first reverse forward capacity arcs p e s q enter order place scanned ordered reached level bound f l fl r h (order j) (r.node j (omega arith)) (r.marked j (omega arith))) in
+    omega (arith, sum_below-constant scanned 1)
 
 -- the path has no more residual arcs than that
-pub path_looks : (net : NetworkModel) (first : List ℕ) (reverse : ℕ → ℕ) (forward : List ℕ) (room : ℕ → ℕ) (arcs : List ResidualArc) (p e : ℕ → ℤ) (s : ℕ) (q : ℕ → ℤ) (enter order place : ℕ → ℕ) (head ordered reached : ℕ) (level cut : ℤ) (f : ℕ) → HasResidualArcs net first reverse forward → IsFilled net reverse forward room arcs → IsReached (node_count net) first arcs p e s q enter order place head ordered reached level → IsHit (node_count net) first arcs p e s q place head cut f → place (end_at arcs (reverse f)) + 1 ≤ looked first order head
-path_looks net first reverse forward room arcs p e s q enter order place head ordered reached level cut f l fl r h =
-    let last : place (end_at arcs (reverse f)) ≡ place h.start = ap place (start_is net first reverse forward room arcs h.start f l fl h.node h.leaves) in
-    let scan : place h.start < head = h.scanned in
-    omega (arith, many_looks net first reverse forward room arcs p e s q enter order place head ordered reached level cut f l fl r h)
+pub path_looks : (net : NetworkModel) (first : List ℕ) (reverse : ℕ → ℕ) (forward : List ℕ) (capacity : ℕ → ℕ) (arcs : List ResidualArc) (p e : ℕ → ℤ) (s : ℕ) (q : ℕ → ℤ) (enter order place : ℕ → ℕ) (scanned ordered reached : ℕ) (level bound : ℤ) (f : ℕ) → HasResidualArcs net first reverse forward → AreResidualArcs net reverse forward capacity arcs → IsReached (node_count net) first arcs p e s q enter order place scanned ordered reached level → IsHit (node_count net) first arcs p e s q place scanned bound f → place (end_at arcs (reverse f)) + 1 ≤ looked first order scanned
+path_looks net first reverse forward capacity arcs p e s q enter order place scanned ordered reached level bound f l fl r h =
+    let last : place (end_at arcs (reverse f)) ≡ place h.start = ap place (start_is net first reverse forward capacity arcs h.start f l fl h.node h.leaves) in
+    let scan : place h.start < scanned = h.are_scanned in
+    omega (arith, many_looks net first reverse forward capacity arcs p e s q enter order place scanned ordered reached level bound f l fl r h)
 
--- labels and the cut fit
+-- labels and the bound fit
 pub label_bounds : (n h : ℕ) (ps z : ℤ) → n ≤ MAX_NODES → h ≤ n → IsNear ps h z → (pos 0 ≤ℤ (ps +ℤ pos (2 * n))) × (ps ≤ℤ pos (2 * n)) → IsWithinFar z
 label_bounds n h ps z small le (a, b) (c, d) = (omega (arith, ints), omega (arith, ints))
 
@@ -412,10 +412,10 @@ label_bounds n h ps z small le (a, b) (c, d) = (omega (arith, ints), omega (arit
 below_other : (order : ℕ → ℕ) (i j : ℕ) → i < j + 1 → order i ≢ order j → i < j
 below_other order i j b ne = elim (cases_lt i j) [ inl h ↦ h | inr h ↦ absurd (ne (ap order (omega arith))) ]
 
-pub moved_more : (p p₀ p' q : ℕ → ℤ) (order : ℕ → ℕ) (j : ℕ) (cut : ℤ) → IsPut p p' (order j) (q (order j) -ℤ cut) → ((i : ℕ) → i < j → p (order i) ≡ q (order i) -ℤ cut) → ((i : ℕ) → i < j + 1 → p' (order i) ≡ q (order i) -ℤ cut)
-moved_more p p₀ p' q order j cut put done i b =
+pub moved_more : (p p₀ p' q : ℕ → ℤ) (order : ℕ → ℕ) (j : ℕ) (bound : ℤ) → IsPut p p' (order j) (q (order j) -ℤ bound) → ((i : ℕ) → i < j → p (order i) ≡ q (order i) -ℤ bound) → ((i : ℕ) → i < j + 1 → p' (order i) ≡ q (order i) -ℤ bound)
+moved_more p p₀ p' q order j bound put done i b =
     elim (cases_eq (order i) (order j)) [
-      | inl t ↦ subst (λ (v : ℕ). p' v ≡ q v -ℤ cut) (sym t) put.here
+      | inl t ↦ subst (λ (v : ℕ). p' v ≡ q v -ℤ bound) (sym t) put.here
       | inr ne ↦ put.others (order i) ne ∙ done i (below_other order i j b ne)
     ]
 
@@ -436,8 +436,8 @@ cleared_stays p p' u v put h =
 both_far : (a : ℤ) → a ≤ℤ far → far ≤ℤ a → a ≡ far
 both_far a h k = omega (arith, ints)
 
-pub all_cleared : (n : ℕ) (first : List ℕ) (arcs : List ResidualArc) (p e : ℕ → ℤ) (s : ℕ) (q q' : ℕ → ℤ) (enter order place : ℕ → ℕ) (head ordered reached : ℕ) (level : ℤ) → IsReached n first arcs p e s q enter order place head ordered reached level → ((j : ℕ) → j < reached → q' (order j) ≡ far) → ((v : ℕ) → q v ≡ far → q' v ≡ far) → (v : ℕ) → v < n → q' v ≡ far
-all_cleared n first arcs p e s q q' enter order place head ordered reached level r cleared others v b =
+pub all_cleared : (n : ℕ) (first : List ℕ) (arcs : List ResidualArc) (p e : ℕ → ℤ) (s : ℕ) (q q' : ℕ → ℤ) (enter order place : ℕ → ℕ) (scanned ordered reached : ℕ) (level : ℤ) → IsReached n first arcs p e s q enter order place scanned ordered reached level → ((j : ℕ) → j < reached → q' (order j) ≡ far) → ((v : ℕ) → q v ≡ far → q' v ≡ far) → (v : ℕ) → v < n → q' v ≡ far
+all_cleared n first arcs p e s q q' enter order place scanned ordered reached level r cleared others v b =
     elim (below_or_not (q v) far) [
       | inl l ↦ let (a, back) = r.listed v b l in subst (λ (t : ℕ). q' t ≡ far) back (cleared (place v) a)
       | inr f ↦ others v (both_far (q v) (r.most v b) f)
@@ -447,13 +447,13 @@ all_cleared n first arcs p e s q q' enter order place head ordered reached level
 pub can_augment : (net : NetworkModel) (r : Residual) (potential excess potential' : List ℤ) (visits visits' : List Visit) (source : ℕ) (t t' : Search) → IsReadyIn net r potential excess visits → source < node_count net → pos 0 <ℤ at_nodes excess source
     → length t.visits.now ≡ length potential
     → IsGraph (length potential) r.first.items r.arcs.items
-    → IsReached (length potential) r.first.items r.arcs.items (at_nodes potential) (at_nodes excess) source (labels t) (enters t) (orders t) (places t) t.head t.ordered t.reached t.level
-    → IsNearest (length potential) r.first.items r.arcs.items (at_nodes potential) (at_nodes excess) source (labels t) (places t) t.head t.level t.cut t.found
-    → IsServed (length potential) r.first.items r.arcs.items (at_nodes potential) (labels t) (places t) t.cut t.head
-    → IsLeft (length potential) (at_nodes potential) (labels t) (places t) t.head t.cut
-    → t.cut <ℤ far
-    → ((j : ℕ) → j < t.head → at_nodes potential' (orders t j) ≡ labels t (orders t j) -ℤ t.cut)
-    → ((v : ℕ) → ((j : ℕ) → j < t.head → orders t j ≢ v) → at_nodes potential' v ≡ at_nodes potential v)
+    → IsReached (length potential) r.first.items r.arcs.items (at_nodes potential) (at_nodes excess) source (labels t) (enters t) (orders t) (places t) t.scanned t.ordered t.reached t.level
+    → IsNearest (length potential) r.first.items r.arcs.items (at_nodes potential) (at_nodes excess) source (labels t) (places t) t.scanned t.level t.bound t.found
+    → IsServed (length potential) r.first.items r.arcs.items (at_nodes potential) (labels t) (places t) t.bound t.scanned
+    → IsLeft (length potential) (at_nodes potential) (labels t) (places t) t.scanned t.bound
+    → t.bound <ℤ far
+    → ((j : ℕ) → j < t.scanned → at_nodes potential' (orders t j) ≡ labels t (orders t j) -ℤ t.bound)
+    → ((v : ℕ) → ((j : ℕ) → j < t.scanned → orders t j ≢ v) → at_nodes potential' v ≡ at_nodes potential v)
     → length potential' ≡ length potential
     → IsCleared t t' → visits' ≡ t'.visits.now
     → CanAugmentIn net r potential' excess visits' t'.found source
@@ -461,19 +461,19 @@ can_augment net res potential excess potential' visits visits' source t t' r b o
     let n = r.potentials in
     let first = res.first.items in
     let arcs = res.arcs.items in
-    let rooms = res.rooms.items in
+    let capacities = res.capacities.items in
     let p = at_nodes potential in
     let p' = at_nodes potential' in
     let x = at_nodes excess in
-    let m = moved_to _ _ _ _ p' _ _ _ _ _ _ _ _ _ _ t.cut h moved others in
-    let re = subst (λ (k : ℕ). IsReached k first arcs p x source (labels t) (enters t) (orders t) (places t) t.head t.ordered t.reached t.level) n h in
-    let nt = subst (λ (k : ℕ). IsNearest k first arcs p x source (labels t) (places t) t.head t.level t.cut t.found) n near in
-    let sn = subst (λ (k : ℕ). IsServed k first arcs p (labels t) (places t) t.cut t.head) n sv in
-    let ln = subst (λ (k : ℕ). IsLeft k p (labels t) (places t) t.head t.cut) n left in
-    let mn = subst (λ (k : ℕ). IsMovedTo k p p' (labels t) (places t) t.head t.cut) n m in
+    let m = moved_to _ _ _ _ p' _ _ _ _ _ _ _ _ _ _ t.bound h moved others in
+    let re = subst (λ (k : ℕ). IsReached k first arcs p x source (labels t) (enters t) (orders t) (places t) t.scanned t.ordered t.reached t.level) n h in
+    let nt = subst (λ (k : ℕ). IsNearest k first arcs p x source (labels t) (places t) t.scanned t.level t.bound t.found) n near in
+    let sn = subst (λ (k : ℕ). IsServed k first arcs p (labels t) (places t) t.bound t.scanned) n sv in
+    let ln = subst (λ (k : ℕ). IsLeft k p (labels t) (places t) t.scanned t.bound) n left in
+    let mn = subst (λ (k : ℕ). IsMovedTo k p p' (labels t) (places t) t.scanned t.bound) n m in
     let path = has_path _ _ _ _ p' _ _ _ _ _ _ _ _ _ _ _ t.found g h near hit m in
     let way = subst (λ (k : ℕ). HasPath k first arcs p' (enters t) (places t) source t.found) n path in
-    let round = moved_round net first (reverse_at rooms) res.forward.items (room_at rooms) arcs p p' x source (labels t) (enters t) (orders t) (places t) t.head t.ordered t.reached t.level t.cut t.found r.network r.residual.laid_out r.residual.filled r.round re nt sn ln hit mn in
+    let round = moved_round net first (reverse_at capacities) res.forward.items (capacity_at capacities) arcs p p' x source (labels t) (enters t) (orders t) (places t) t.scanned t.ordered t.reached t.level t.bound t.found r.network r.residual.arcs_built r.residual.filled r.round re nt sn ln hit mn in
     record {
       ready = record {
         network = r.network;
@@ -492,11 +492,11 @@ can_augment net res potential excess potential' visits visits' source t t' r b o
 
 -- the path that was found has no more residual arcs than the search looked at
 pub short_path : (visits : List Visit) (t t' : Search) (arcs : List ResidualArc) (reverse : ℕ → ℕ) (first : List ℕ) (looks looks' : ℕ) → IsCleared t t' → visits ≡ t'.visits.now
-    → places t (end_at arcs (reverse t.found)) + 1 ≤ looked first (orders t) t.head → looks' ≡ looks + looked first (orders t) t.head
+    → places t (end_at arcs (reverse t.found)) + 1 ≤ looked first (orders t) t.scanned → looks' ≡ looks + looked first (orders t) t.scanned
     → looks + place_at visits (end_at arcs (reverse t'.found)) + 1 ≤ looks'
 short_path visits t t' arcs reverse first looks looks' q list short e =
     rw (list, q.found, q.place (end_at arcs (reverse t.found))) (omega (arith, short, e))
 
--- the label that was read less the cut, as it is written
-pub put_label : (p p' : ℕ → ℤ) (v : ℕ) (z cut : ℤ) → IsWithinFar z → IsWithinFar cut → IsPut p p' v (to_z w16 (of_z w16 z) -ℤ to_z w32 (of_z w32 cut)) → IsPut p p' v (z -ℤ cut)
-put_label p p' v z cut a b put = rw (to_z-of_z w16 z (label_fits z a), to_z-of_z w32 cut (fits_within cut b)) at put
+-- the label that was read less the bound, as it is written
+pub put_label : (p p' : ℕ → ℤ) (v : ℕ) (z bound : ℤ) → IsWithinFar z → IsWithinFar bound → IsPut p p' v (to_z w16 (of_z w16 z) -ℤ to_z w32 (of_z w32 bound)) → IsPut p p' v (z -ℤ bound)
+put_label p p' v z bound a b put = rw (to_z-of_z w16 z (label_fits z a), to_z-of_z w32 bound (fits_within bound b)) at put

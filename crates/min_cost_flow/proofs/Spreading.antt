@@ -1,8 +1,8 @@
 -- Sets that spread along open steps until none leads out of them.
 use Rattle.std.proofs.Common.{◌≡◌, ◌≢◌, ◌≤◌, ◌<◌, ◌⊎◌, ℕ, zero, suc, ◌+◌, cond, eqb, Bool, true, false, refl, sym, ◌∙◌, ap, subst, inl, inr, arith}
 use Rattle.std.proofs.lemmas.Bool.{cases_eq, cases_Bool, eq-eqb, ne_eqb, cond-true, cond-false, both_ways}
-use Rattle.sums.specs.Sums.{sum_below}
-use Rattle.sums.proofs.Sums.{sum_below-changed, sum_below-member}
+use Rattle.common.specs.Sums.{sum_below}
+use Rattle.common.proofs.Sums.{sum_below-changed, sum_below-member}
 
 -- a number below m that passes, or none does
 pub found_below : (m : ℕ) (t : ℕ → Bool) → ((i : ℕ) × (i < m) × (t i ≡ true)) ⊎ ((i : ℕ) → i < m → t i ≡ false)

@@ -1,7 +1,7 @@
 -- When a network surely has a flow: what is left over can reach what is wanting along arcs that
 -- carry any number of units.
 use Rattle.std.specs.Prelude.{ℕ, ◌<◌, ◌≡◌, ℤ, pos, ◌<ℤ◌, Bool, true}
-use Rattle.sums.specs.Sums.{total_below}
+use Rattle.common.specs.Sums.{total_below}
 use Rattle.networks.specs.declared.arc.Cap.TheVariants.{Any}
 use Rattle.networks.specs.Networks.{NetworkModel, node_count, arc_count, arc_at, supply_at}
 
@@ -11,7 +11,7 @@ pub record IsClosedAny (net : NetworkModel) (s : ℕ → Bool) : Type 0 where
 
 -- each set that no unlimited arc leaves, and that has a node where something is left over, has
 -- every node where something is wanting
-pub record IsJoined (net : NetworkModel) (e : ℕ → ℤ) : Type 0 where
+pub record HasUnlimitedPaths (net : NetworkModel) (e : ℕ → ℤ) : Type 0 where
   pub meets : (s : ℕ → Bool) → IsClosedAny net s → (u v : ℕ) → u < node_count net → v < node_count net → s u ≡ true → pos 0 <ℤ e u → e v <ℤ pos 0 → s v ≡ true
 
 -- as much is supplied as is wanted

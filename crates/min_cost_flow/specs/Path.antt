@@ -2,9 +2,9 @@
 -- units are wanting.
 use Rattle.std.specs.Prelude.{ℕ, zero, suc, ◌<◌, ◌≡◌, ℤ, pos, ◌+ℤ◌, ◌-ℤ◌, Bool, true, false, List}
 use Rattle.networks.specs.declared.residual.ResidualArc.{ResidualArc}
-use Rattle.networks.specs.declared.residual.ResidualRoom.{ResidualRoom}
-use Rattle.networks.specs.ResidualArcs.{end_at, cost_at, reverse_at, room_at, StartsAt}
-use Rattle.shortest_paths.specs.Search.{IsOpen}
+use Rattle.networks.specs.declared.residual.ResidualCapacity.{ResidualCapacity}
+use Rattle.networks.specs.ResidualArcs.{end_at, cost_at, reverse_at, capacity_at, StartsAt}
+use Rattle.networks.specs.Search.{IsOpen}
 
 -- residual arc k leads from node u to node v, is open, and its reduced cost is 0
 pub record IsTight (first : List ℕ) (arcs : List ResidualArc) (p : ℕ → ℤ) (u k v : ℕ) : Type 0 where
@@ -46,8 +46,8 @@ pub record IsOnWay (next place : ℕ → ℕ) (v w : ℕ) : Type 0 where
   pub high : (i : ℕ) → i < steps → 0 < place (way next v i)
 
 -- the start of the residual arc by which a node was entered, and what fits along it
-abbrev pub next_of : List ResidualArc → List ResidualRoom → (ℕ → ℕ) → ℕ → ℕ
-next_of arcs rooms enter w = end_at arcs (reverse_at rooms (enter w))
+abbrev pub previous_of : List ResidualArc → List ResidualCapacity → (ℕ → ℕ) → ℕ → ℕ
+previous_of arcs capacities enter w = end_at arcs (reverse_at capacities (enter w))
 
-abbrev pub room_into : List ResidualRoom → (ℕ → ℕ) → ℕ → ℕ
-room_into rooms enter w = room_at rooms (enter w)
+abbrev pub room_into : List ResidualCapacity → (ℕ → ℕ) → ℕ → ℕ
+room_into capacities enter w = capacity_at capacities (enter w)

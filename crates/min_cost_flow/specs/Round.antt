@@ -1,7 +1,7 @@
 -- What holds of amounts, potentials and excess between two searches.
 use Rattle.std.specs.Prelude.{ℕ, ◌+◌, ◌*◌, ◌<◌, ◌≤◌, ◌≡◌, ◌≢◌, ◌⊎◌, ◌==◌, if◌then◌else◌, ℤ, pos, ◌+ℤ◌, ◌≤ℤ◌, ◌<ℤ◌}
 use borrow.Author.Differences.{up}
-use Rattle.sums.specs.Sums.{sum_below}
+use Rattle.common.specs.Sums.{sum_below}
 use Rattle.networks.specs.Networks.{NetworkModel, node_count, arc_count, supply_at, IsFair}
 use Rattle.min_cost_flow.specs.declared.resume.TheConstants.{MAX_CARRIED}
 use Rattle.networks.specs.Flow.{Flow, HasPotentials}
@@ -20,7 +20,7 @@ pub record IsRound (net : NetworkModel) (x : ℕ → ℕ) (p e : ℕ → ℤ) : 
   pub low : (v : ℕ) → v < node_count net → (pos 0 ≤ℤ (p v +ℤ pos (2 * node_count net))) × (p v ≤ℤ pos (2 * node_count net))
   pub zero : (v : ℕ) → v < node_count net → e v <ℤ pos 0 → p v ≡ pos 0
   pub fair : (v : ℕ) → v < node_count net → IsFair (e v)
-  pub room : (i : ℕ) → i < arc_count net → x i + left_over net e ≤ MAX_CARRIED
+  pub capacity : (i : ℕ) → i < arc_count net → x i + left_over net e ≤ MAX_CARRIED
 
 -- how many arcs carry units
 abbrev pub carrying : NetworkModel → (ℕ → ℕ) → ℕ

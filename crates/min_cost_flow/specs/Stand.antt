@@ -3,16 +3,16 @@ use Rattle.std.specs.Prelude.{ℕ, ◌+◌, ◌^◌, ◌<◌, ◌≤◌, ◌≡�
 use Rattle.networks.specs.declared.network.TheConstants.{MAX_ARCS, MAX_NODES}
 use Rattle.networks.specs.declared.residual.TheConstants.{MAX_RESIDUAL_ARCS}
 use Rattle.networks.specs.declared.residual.Residual.{Residual}
-use Rattle.networks.specs.declared.residual.ResidualRoom.{ResidualRoom}
+use Rattle.networks.specs.declared.residual.ResidualCapacity.{ResidualCapacity}
 use Rattle.networks.specs.Networks.{NetworkModel, node_count, IsNetwork}
 use Rattle.networks.specs.Flow.{Flow, HasPotentials, IsLeastCost, HasNoFlow, at_nodes, cost_of}
-use Rattle.networks.specs.ResidualArcs.{numbers, end_at, reverse_at, room_at, IsCosted}
+use Rattle.networks.specs.ResidualArcs.{numbers, end_at, reverse_at, capacity_at, IsCosted}
 use Rattle.networks.specs.Residuals.{HasSizes, IsResidualNetwork, flow_of}
-use Rattle.shortest_paths.specs.declared.state.Search.{Search}
-use Rattle.shortest_paths.specs.declared.state.Visit.{Visit}
-use Rattle.shortest_paths.specs.Search.{far, label_at, enter_at, place_at, labels, enters, orders, places, IsWithinFar}
+use Rattle.networks.specs.declared.state.Search.{Search}
+use Rattle.networks.specs.declared.state.Visit.{Visit}
+use Rattle.networks.specs.Search.{far, label_at, enter_at, place_at, labels, enters, orders, places, IsWithinFar}
 use Rattle.min_cost_flow.specs.declared.state.Solver.{Solver}
-use Rattle.min_cost_flow.specs.Path.{HasPath, IsOnWay, next_of, room_into}
+use Rattle.min_cost_flow.specs.Path.{HasPath, IsOnWay, previous_of, room_into}
 use Rattle.min_cost_flow.specs.Round.{IsRound, IsLess, IsWork, carrying}
 
 -- what is left over at a node, or below 0 is wanting there
@@ -26,7 +26,7 @@ potential_at s = at_nodes s.nodes.potential.items
 abbrev pub flow_in : Solver → ℕ → ℕ
 flow_in s = flow_of s.residual
 
--- the arc on which the last search entered a node, and the place of the node in its order
+-- the residual arc on which the last search entered a node, and the place of the node in its order
 abbrev pub enters_in : Solver → ℕ → ℕ
 enters_in s = enter_at s.visits.items
 
@@ -36,7 +36,7 @@ places_in s = place_at s.visits.items
 -- the lists have the sizes that the network needs, and no node has a label
 pub record IsSized (net : NetworkModel) (s : Solver) : Type 0 where
   pub network : IsNetwork net
-  pub room : HasSizes net s.residual
+  pub capacity : HasSizes net s.residual
   pub potentials : length s.nodes.potential.items ≡ node_count net
   pub excesses : length s.nodes.excess.items ≡ node_count net
   pub labels : length s.visits.items ≡ node_count net
@@ -90,7 +90,7 @@ pub record HasSentFrom (net : NetworkModel) (s s' : Solver) (source : ℕ) : Typ
 
 -- the node where the last residual arc of the path starts
 abbrev pub last_node : Solver → ℕ
-last_node s = end_at s.residual.arcs.items (reverse_at s.residual.rooms.items s.found)
+last_node s = end_at s.residual.arcs.items (reverse_at s.residual.capacities.items s.found)
 
 -- a search has found a path from a node where units are left over to one where units are wanting, whose last residual
 -- arc is `found`
@@ -112,10 +112,10 @@ pub record IsSentAlong (net : NetworkModel) (s s' : Solver) : Type 0 where
 
 -- so many units fit along the path, are left over where it starts, and are wanting where it ends
 pub record IsFitting (s : Solver) (source amount : ℕ) : Type 0 where
-  pub found : amount ≤ room_at s.residual.rooms.items s.found
+  pub found : amount ≤ capacity_at s.residual.capacities.items s.found
   pub left : pos amount ≤ℤ excess_at s source
   pub short : (excess_at s (end_at s.residual.arcs.items s.found) +ℤ pos amount) ≤ℤ pos 0
-  pub fits : (v : ℕ) → IsOnWay (next_of s.residual.arcs.items s.residual.rooms.items (enters_in s)) (places_in s) (last_node s) v → 0 < places_in s v → amount ≤ room_into s.residual.rooms.items (enters_in s) v
+  pub fits : (v : ℕ) → IsOnWay (previous_of s.residual.arcs.items s.residual.capacities.items (enters_in s)) (places_in s) (last_node s) v → 0 < places_in s v → amount ≤ room_into s.residual.capacities.items (enters_in s) v
 
 -- so many units can go along the path, and no more
 pub record IsBottleneck (s : Solver) (source amount : ℕ) : Type 0 where
@@ -127,41 +127,41 @@ pub record IsBottleneck (s : Solver) (source amount : ℕ) : Type 0 where
 
 -- a unit along residual arc k costs from -1 to 1
 abbrev pub HasUnitCost : Residual → ℕ → Type 0
-HasUnitCost r k = (z : ℤ) × (negsuc 0 ≤ℤ z) × (z ≤ℤ pos 1) × IsCosted r.arcs.items r.rooms.items k z
+HasUnitCost r k = (z : ℤ) × (negsuc 0 ≤ℤ z) × (z ≤ℤ pos 1) × IsCosted r.arcs.items r.capacities.items k z
 
 -- residual arc k has a reverse, which is another one, and what fits along both together is a number of 32 bits
 pub record IsPaired (r : Residual) (k : ℕ) : Type 0 where
-  pub sizes : length r.rooms.items ≡ length r.arcs.items
+  pub sizes : length r.capacities.items ≡ length r.arcs.items
   pub here : k < length r.arcs.items
-  pub there : reverse_at r.rooms.items k < length r.arcs.items
-  pub apart : k ≢ reverse_at r.rooms.items k
+  pub there : reverse_at r.capacities.items k < length r.arcs.items
+  pub apart : k ≢ reverse_at r.capacities.items k
   pub cost : HasUnitCost r k
-  pub back_cost : HasUnitCost r (reverse_at r.rooms.items k)
-  pub room : room_at r.rooms.items k + room_at r.rooms.items (reverse_at r.rooms.items k) < 2 ^ 32
+  pub back_cost : HasUnitCost r (reverse_at r.capacities.items k)
+  pub capacity : capacity_at r.capacities.items k + capacity_at r.capacities.items (reverse_at r.capacities.items k) < 2 ^ 32
 
 -- so many units went along residual arc k: less fits along it, and as much more along its reverse
 pub record IsPushedAlong (r r' : Residual) (k amount : ℕ) : Type 0 where
   pub first : r'.first ≡ r.first
   pub forward : r'.forward ≡ r.forward
   pub arc_size : length r'.arcs.items ≡ length r.arcs.items
-  pub room_size : length r'.rooms.items ≡ length r.rooms.items
+  pub room_size : length r'.capacities.items ≡ length r.capacities.items
   pub ends : (j : ℕ) → end_at r'.arcs.items j ≡ end_at r.arcs.items j
-  pub reverse : (j : ℕ) → reverse_at r'.rooms.items j ≡ reverse_at r.rooms.items j
-  pub costs : (j : ℕ) (z : ℤ) → IsCosted r.arcs.items r.rooms.items j z → IsCosted r'.arcs.items r'.rooms.items j z
-  pub less : room_at r'.rooms.items k + amount ≡ room_at r.rooms.items k
-  pub more : room_at r'.rooms.items (reverse_at r.rooms.items k) ≡ room_at r.rooms.items (reverse_at r.rooms.items k) + amount
-  pub others : (j : ℕ) → j ≢ k → j ≢ reverse_at r.rooms.items k → room_at r'.rooms.items j ≡ room_at r.rooms.items j
+  pub reverse : (j : ℕ) → reverse_at r'.capacities.items j ≡ reverse_at r.capacities.items j
+  pub costs : (j : ℕ) (z : ℤ) → IsCosted r.arcs.items r.capacities.items j z → IsCosted r'.arcs.items r'.capacities.items j z
+  pub less : capacity_at r'.capacities.items k + amount ≡ capacity_at r.capacities.items k
+  pub more : capacity_at r'.capacities.items (reverse_at r.capacities.items k) ≡ capacity_at r.capacities.items (reverse_at r.capacities.items k) + amount
+  pub others : (j : ℕ) → j ≢ k → j ≢ reverse_at r.capacities.items k → capacity_at r'.capacities.items j ≡ capacity_at r.capacities.items j
 
 -- ---- what is read and written after a search
 
--- the scanned nodes are in the order, and their labels and the cut are in range
+-- the scanned nodes are in the order, and their labels and the bound are in range
 pub record CanUpdate (potential : List ℤ) (s : Search) : Type 0 where
-  pub order : s.head ≤ length s.visits.now
+  pub order : s.scanned ≤ length s.visits.now
   pub small : length potential ≤ MAX_NODES
-  pub scanned : (j : ℕ) → j < s.head → orders s j < length potential
+  pub are_scanned : (j : ℕ) → j < s.scanned → orders s j < length potential
   pub sizes : length s.visits.now ≡ length potential
-  pub labels : (j : ℕ) → j < s.head → IsWithinFar (labels s (orders s j))
-  pub cut : IsWithinFar s.cut
+  pub labels : (j : ℕ) → j < s.scanned → IsWithinFar (labels s (orders s j))
+  pub bound : IsWithinFar s.bound
 
 -- the nodes that were reached are in the order
 pub record HasOrder (s : Search) : Type 0 where
@@ -180,11 +180,11 @@ pub record IsCleared (s s' : Search) : Type 0 where
   pub size : length s'.visits.now ≡ length s.visits.now
 
 -- what each arc carries can be read: the number of the residual arc along it is that of one that has a reverse
-pub record CanRead (rooms : List ResidualRoom) (forward : List ℕ) : Type 0 where
-  pub forwards : (i : ℕ) → i < length forward → numbers forward i < length rooms
-  pub reverses : (i : ℕ) → i < length forward → reverse_at rooms (numbers forward i) < length rooms
+pub record CanRead (capacities : List ResidualCapacity) (forward : List ℕ) : Type 0 where
+  pub forwards : (i : ℕ) → i < length forward → numbers forward i < length capacities
+  pub reverses : (i : ℕ) → i < length forward → reverse_at capacities (numbers forward i) < length capacities
   pub small : length forward ≤ MAX_ARCS
-  pub size : length rooms ≤ MAX_RESIDUAL_ARCS
+  pub size : length capacities ≤ MAX_RESIDUAL_ARCS
 
 -- what a flow costs, and potentials that show that none costs less
 pub record IsShown (net : NetworkModel) (cost : ℕ) (potential : List ℤ) : Type 0 where

@@ -1,12 +1,13 @@
 //! Augmenting along the path that a search found (Ahuja, Magnanti and Orlin, Network Flows, 1993, section 9.7): as
-//! many units as fit, are left over where the path starts and are wanting where it ends.
+//! many units as fit along it, but no more than are left over where it starts or are wanting where it ends.
 //!
 //! It goes over the residual arcs of the path twice, and takes no memory. Potentials stay: along the path reduced
-//! costs are 0, so the arcs back, which it opens, have reduced costs of 0 too. Amounts are at most 2,048 units.
+//! costs are 0, so the residual arcs back, which it opens, have reduced costs of 0 too. Amounts are at most 2,048
+//! units.
 ghost use Rattle.std.specs.Prelude.{◌≡◌, ◌<◌, ◌≤◌, ℕ, length, pos, ◌≤ℤ◌, ◌<ℤ◌, ◌+ℤ◌};
 ghost use Rattle.networks.specs.Networks.{NetworkModel};
 ghost use Rattle.networks.specs.Flow.{at_nodes};
-ghost use Rattle.networks.specs.ResidualArcs.{room_at};
+ghost use Rattle.networks.specs.ResidualArcs.{capacity_at};
 ghost use Rattle.min_cost_flow.specs.Stand.{CanAugment, IsSentAlong, IsBottleneck, IsPaired, IsPushedAlong};
 
 use crate::state::Solver;
@@ -40,11 +41,11 @@ impl Solver {
         let found = self.found;
         let target = usize::from(self.residual.arcs[found].end);
         let most = most_between(&self.nodes.excess, source, target);
-        let mut amount = most.min(self.residual.rooms[found].room);
+        let mut amount = most.min(self.residual.capacities[found].capacity);
         let mut node = self.residual.start(found);
         'narrow: while self.visits[node].place > 0 {
             let number = self.visits[node].enter as usize;
-            amount = amount.min(self.residual.rooms[number].room);
+            amount = amount.min(self.residual.capacities[number].capacity);
             node = self.residual.start(number);
         }
         amount
@@ -71,10 +72,10 @@ fn most_between(excess: &[i32], source: usize, target: usize) -> u32
 fn push(residual: &mut Residual, number: usize, amount: u32)
     requires pair { IsPaired residual.old number }
     requires some { 0 < amount }
-    requires fits { amount ≤ room_at residual.old.rooms.items number }
+    requires fits { amount ≤ capacity_at residual.old.capacities.items number }
     ensures { IsPushedAlong residual.old residual.new number amount }
 {
-    let back = residual.rooms[number].reverse as usize;
-    residual.take_room(number, amount);
-    residual.give_room(back, amount);
+    let back = residual.capacities[number].reverse as usize;
+    residual.take_capacity(number, amount);
+    residual.give_capacity(back, amount);
 }

@@ -6,6 +6,7 @@
 #![tactic(auto)]
 
 mod augment;
+mod laws;
 mod resume;
 mod scratch;
 mod solved;
@@ -13,6 +14,7 @@ mod solver;
 mod standing;
 mod state;
 
+pub use laws::{no_path_shows_no_flow, potentials_show_least_cost, unlimited_arcs_give_a_flow};
 pub use networks::{Arc, Cap, NetFault, Network};
 pub use scratch::Scratch;
 pub use solved::Solved;

@@ -10,16 +10,15 @@ ghost use Rattle.networks.specs.declared.network.TheConstants.{MAX_NODES};
 ghost use Rattle.min_cost_flow.specs.declared.solver.SolveFault.TheVariants.{Memory};
 ghost use Rattle.networks.specs.Networks.{NetworkModel, arc_count, node_count, IsNetwork};
 ghost use Rattle.networks.specs.Flow.{amounts, at_nodes, HasNoFlow, Solves};
-ghost use Rattle.networks.specs.ResidualArcs.{reverse_at, room_at, carried, end_at};
-ghost use Rattle.shortest_paths.specs.Search.{far, labels, orders, label_at, IsPut, IsWithinFar, place_at};
+ghost use Rattle.networks.specs.ResidualArcs.{reverse_at, capacity_at, carried, end_at};
+ghost use Rattle.networks.specs.Search.{far, labels, orders, label_at, IsPut, IsWithinFar, place_at};
 ghost use Rattle.min_cost_flow.specs.Round.{carrying, supply_sum, IsRoundDone, HasSupply, IsWithinReach};
 ghost use Rattle.min_cost_flow.specs.Stand.{excess_at, potential_at, flow_in, IsSized, IsReady, IsUnderWay, IsAnswer, HasSentFrom, IsAugmented, CanUpdate, HasOrder, CanRead, IsCleared, IsReadyIn, CanAugmentIn};
 
 use crate::scratch::Scratch;
 use crate::solved::Solved;
 use crate::state::{Nodes, Solver};
-use networks::{Network, Residual, ResidualRoom};
-use shortest_paths::{FAR, Ground, Search, Visit};
+use networks::{FAR, Network, Residual, ResidualCapacity, Search, SearchInput, Visit};
 use std::alloc::{AllocError, Global};
 use std::mem;
 use thiserror::Error;
@@ -66,8 +65,8 @@ pub fn solve(alloc: Global, network: &Network) -> Result<Solved, SolveFault>
 }
 
 /// The same as [`solve`], in memory that is lent. The solution takes its two lists with it; they can be given
-/// back by [`Solved::give_back`]. Where there is no solution, all lists stay in the scratch; where an allocation
-/// was refused too, and the scratch can be lent again.
+/// back by [`Solved::give_back`]. Where there is no solution, or an allocation was refused, all lists stay in the
+/// scratch, which can be lent again.
 pub fn solve_in(
     alloc: Global,
     scratch: &mut Scratch,
@@ -86,7 +85,7 @@ pub fn solve_in(
     if !solver.solve(network) {
         return Err(SolveFault::Infeasible);
     }
-    read_flow(&solver.residual.rooms, &mut solver.residual.forward);
+    read_flow(&solver.residual.capacities, &mut solver.residual.forward);
     let flow = mem::replace(&mut solver.residual.forward, Vec::new(alloc));
     let potential = mem::replace(&mut solver.nodes.potential, Vec::new(alloc));
     Ok(Solved::new(flow, potential, solver.searches, solver.looks))
@@ -116,7 +115,7 @@ impl Solver {
     {
         write_all(&mut self.nodes.potential, 0);
         self.nodes.excess.copy_from_slice(network.supplies());
-        self.residual.lay_out(network);
+        self.residual.build(network);
         score_nodes(network, &mut self.nodes.score);
         self.searches = 0;
         self.looks = 0;
@@ -180,12 +179,12 @@ pub(crate) fn find_path(
     requires left { pos 0 <ℤ at_nodes nodes.old.excess.items source }
     requires few { looks.old < 2 ^ 61 }
     ensures found { IfSome result (λ found. (net : NetworkModel) → IsReadyIn net residual.now nodes.old.potential.items nodes.old.excess.items visits.old → CanAugmentIn net residual.now nodes.new.potential.items nodes.new.excess.items visits.new found source) }
-    ensures short { IfSome result (λ found. looks.old + place_at visits.new (end_at residual.now.arcs.items (reverse_at residual.now.rooms.items found)) + 1 ≤ looks.new) }
+    ensures short { IfSome result (λ found. looks.old + place_at visits.new (end_at residual.now.arcs.items (reverse_at residual.now.capacities.items found)) + 1 ≤ looks.new) }
     ensures no_flow { IfNone result ((net : NetworkModel) → IsReadyIn net residual.now nodes.old.potential.items nodes.old.excess.items visits.old → HasNoFlow net) }
     ensures excess { nodes.new.excess ≡ nodes.old.excess }
     ensures looks { looks.new ≤ looks.old + length residual.now.arcs.items }
 {
-    let ground = Ground {
+    let input = SearchInput {
         first: &residual.first,
         arcs: &residual.arcs,
         potential: &nodes.potential,
@@ -193,8 +192,8 @@ pub(crate) fn find_path(
         score: &nodes.score,
         source,
     };
-    let mut search = Search::run(ground, visits, looks);
-    if search.cut == FAR as i32 {
+    let mut search = Search::run(input, visits, looks);
+    if search.bound == FAR as i32 {
         return None;
     }
     update_potentials(&mut nodes.potential, &search);
@@ -202,28 +201,28 @@ pub(crate) fn find_path(
     Some(search.found)
 }
 
-/// Update potentials: lowers those of the nodes that were scanned by as much as the nodes are nearer than the cut.
+/// Update potentials: lowers those of the nodes that were scanned by as much as the nodes are nearer than the bound.
 fn update_potentials(potential: &mut [i32], search: &Search<'_>)
     requires { CanUpdate potential.old search.now }
-    ensures moved { (j : ℕ) → j < search.now.head → at_nodes potential.new (orders search.now j) ≡ labels search.now (orders search.now j) -ℤ search.now.cut }
-    ensures others { (v : ℕ) → ((j : ℕ) → j < search.now.head → orders search.now j ≢ v) → at_nodes potential.new v ≡ at_nodes potential.old v }
+    ensures moved { (j : ℕ) → j < search.now.scanned → at_nodes potential.new (orders search.now j) ≡ labels search.now (orders search.now j) -ℤ search.now.bound }
+    ensures others { (v : ℕ) → ((j : ℕ) → j < search.now.scanned → orders search.now j ≢ v) → at_nodes potential.new v ≡ at_nodes potential.old v }
     ensures size { length potential.new ≡ length potential.old }
 {
-    for j in 0..search.head {
+    for j in 0..search.scanned {
         let node = search.visits[j].at_place as usize;
-        write_potential(potential, node, search.visits[node].label, search.cut);
+        write_potential(potential, node, search.visits[node].label, search.bound);
     }
 }
 
-/// Gives a node its label less the cut for a potential.
-fn write_potential(potential: &mut [i32], node: usize, label: i16, cut: i32)
+/// Gives a node its label less the bound for a potential.
+fn write_potential(potential: &mut [i32], node: usize, label: i16, bound: i32)
     requires node { node < length potential.old }
     requires small { node < MAX_NODES }
     requires label { IsWithinFar label }
-    requires cut { IsWithinFar cut }
-    ensures { IsPut (at_nodes potential.old) (at_nodes potential.new) node (label -ℤ cut) }
+    requires bound { IsWithinFar bound }
+    ensures { IsPut (at_nodes potential.old) (at_nodes potential.new) node (label -ℤ bound) }
 {
-    potential[node] = i32::from(label) - cut;
+    potential[node] = i32::from(label) - bound;
 }
 
 /// Takes the labels of the nodes that were reached away.
@@ -266,22 +265,22 @@ fn score_nodes(network: &Network, scores: &mut [i32])
 }
 
 /// Writes what each arc carries where the number of the residual arc along it stood.
-pub(crate) fn read_flow(rooms: &[ResidualRoom], flow: &mut [u32])
-    requires { CanRead rooms.now flow.old }
-    ensures { (i : ℕ) → i < length flow.new → amounts flow.new i ≡ carried (reverse_at rooms.now) flow.old (room_at rooms.now) i }
+pub(crate) fn read_flow(capacities: &[ResidualCapacity], flow: &mut [u32])
+    requires { CanRead capacities.now flow.old }
+    ensures { (i : ℕ) → i < length flow.new → amounts flow.new i ≡ carried (reverse_at capacities.now) flow.old (capacity_at capacities.now) i }
 {
     for along in flow.iter_mut() {
-        *along = carried_along(rooms, *along);
+        *along = carried_along(capacities, *along);
     }
 }
 
 /// What an arc carries, by the number of the residual arc along it: what fits back along it.
-pub(crate) fn carried_along(rooms: &[ResidualRoom], along: u32) -> u32
-    requires along { along < length rooms.now }
-    requires reverse { reverse_at rooms.now along < length rooms.now }
-    ensures { result ≡ room_at rooms.now (reverse_at rooms.now along) }
+pub(crate) fn carried_along(capacities: &[ResidualCapacity], along: u32) -> u32
+    requires along { along < length capacities.now }
+    requires reverse { reverse_at capacities.now along < length capacities.now }
+    ensures { result ≡ capacity_at capacities.now (reverse_at capacities.now along) }
 {
-    rooms[rooms[along as usize].reverse as usize].room
+    capacities[capacities[along as usize].reverse as usize].capacity
 }
 
 /// Writes a number at each node.

@@ -3,13 +3,13 @@ ghost use Rattle.std.specs.Prelude.{◌≡◌, ◌<◌, ◌≤◌, ◌^◌, IfOk
 ghost use Rattle.networks.specs.declared.fault.TheConstants.{MAX_SUPPLY};
 ghost use Rattle.networks.specs.Networks.{NetworkModel, node_count, arc_count, shifted, HasFairSupplies, IsNetwork};
 ghost use Rattle.networks.specs.Flow.{HasNoFlow, Solves, at_nodes, cost_of};
-ghost use Rattle.networks.specs.ResidualArcs.{numbers, reverse_at, room_at, carried};
+ghost use Rattle.networks.specs.ResidualArcs.{numbers, reverse_at, capacity_at, carried};
 ghost use Rattle.min_cost_flow.specs.Stand.{IsSettled, IsShown};
 
 use crate::solved::Solved;
 use crate::solver::{SolveFault, carried_along, read_flow};
 use crate::state::Solver;
-use networks::{Network, ResidualRoom};
+use networks::{Network, ResidualCapacity};
 use std::alloc::{AllocError, Global};
 use std::marker::Model;
 
@@ -83,7 +83,7 @@ impl Standing {
         // Only the proof needs this: `node_count` says that the network is one.
         let _nodes = self.network.node_count();
         let mut flow = Vec::from_slice(alloc, &self.solver.residual.forward)?;
-        read_flow(&self.solver.residual.rooms, &mut flow);
+        read_flow(&self.solver.residual.capacities, &mut flow);
         let potential = Vec::from_slice(alloc, &self.solver.nodes.potential)?;
         Ok(Solved::new(flow, potential, 0, 0))
     }
@@ -96,24 +96,24 @@ impl Standing {
         // Only the proof needs this: `node_count` says that the network is one.
         let _nodes = self.network.node_count();
         let residual = &self.solver.residual;
-        let cost = flow_cost(&self.network, &residual.rooms, &residual.forward);
+        let cost = flow_cost(&self.network, &residual.capacities, &residual.forward);
         (cost, &self.solver.nodes.potential)
     }
 }
 
 /// How much the arcs of cost 1 carry.
-fn flow_cost(network: &Network, rooms: &[ResidualRoom], forward: &[u32]) -> u64
+fn flow_cost(network: &Network, capacities: &[ResidualCapacity], forward: &[u32]) -> u64
     requires forwards { length forward.now ≡ arc_count network.now }
-    requires inside { (i : ℕ) → i < arc_count network.now → numbers forward.now i < length rooms.now }
-    requires reverses { (i : ℕ) → i < arc_count network.now → reverse_at rooms.now (numbers forward.now i) < length rooms.now }
-    ensures cost { result ≡ cost_of network.now (carried (reverse_at rooms.now) forward.now (room_at rooms.now)) }
+    requires inside { (i : ℕ) → i < arc_count network.now → numbers forward.now i < length capacities.now }
+    requires reverses { (i : ℕ) → i < arc_count network.now → reverse_at capacities.now (numbers forward.now i) < length capacities.now }
+    ensures cost { result ≡ cost_of network.now (carried (reverse_at capacities.now) forward.now (capacity_at capacities.now)) }
     ensures few { result < 2 ^ 48 }
 {
     let mut cost = 0;
     let given = network.arcs();
     for i in 0..given.len() {
         if given[i].cost == 1 {
-            cost += u64::from(carried_along(rooms, forward[i]));
+            cost += u64::from(carried_along(capacities, forward[i]));
         }
     }
     cost

@@ -2,8 +2,7 @@
 ghost use Rattle.std.specs.Prelude.{OnOk};
 ghost use Rattle.min_cost_flow.specs.Stand.{IsSized};
 
-use networks::{Network, Residual, ResidualArc, ResidualRoom};
-use shortest_paths::{FAR, Visit};
+use networks::{FAR, Network, Residual, ResidualArc, ResidualCapacity, Visit};
 use std::alloc::{AllocError, Global};
 
 /// What is known of each node of a network.
@@ -38,7 +37,7 @@ impl Solver {
                 first: Vec::new(alloc),
                 forward: Vec::new(alloc),
                 arcs: Vec::new(alloc),
-                rooms: Vec::new(alloc),
+                capacities: Vec::new(alloc),
             },
             nodes: Nodes {
                 potential: Vec::new(alloc),
@@ -69,8 +68,8 @@ impl Solver {
         self.residual.forward.resize(arcs, 0)?;
         self.residual.arcs.resize(2 * arcs, ResidualArc::default())?;
         self.residual
-            .rooms
-            .resize(2 * arcs, ResidualRoom::default())?;
+            .capacities
+            .resize(2 * arcs, ResidualCapacity::default())?;
         self.nodes.potential.resize(nodes, 0)?;
         self.nodes.excess.resize(nodes, 0)?;
         self.nodes.score.resize(nodes, 0)?;

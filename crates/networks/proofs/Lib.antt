@@ -1,3 +1,7 @@
 pub mod Moving
 pub mod Ends
 pub mod Building
+pub mod Reaching
+pub mod Distinct
+pub mod Signs
+pub mod Searching

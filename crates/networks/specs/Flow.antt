@@ -1,6 +1,6 @@
 -- Flows in a network, their residual arcs and reduced costs, and what a solution is.
 use Rattle.std.specs.Prelude.{ℕ, ◌*◌, ◌<◌, ◌≤◌, ◌==◌, ◌≡◌, ℤ, pos, ◌+ℤ◌, ◌-ℤ◌, ◌≤ℤ◌, Bool, true, false, if◌then◌else◌, List, length, slice_index, slice_index_or}
-use Rattle.sums.specs.Sums.{sum_below}
+use Rattle.common.specs.Sums.{sum_below}
 use Rattle.networks.specs.declared.arc.Cap.{Cap}
 use Rattle.networks.specs.declared.arc.Cap.TheVariants.{AtMost, Any}
 use Rattle.networks.specs.Networks.{NetworkModel, node_count, arc_count, arc_at, supply_at}
@@ -42,13 +42,13 @@ IsLeastCost net x = (y : ℕ → ℕ) → Flow net y → cost_of net x ≤ cost_
 -- ---- residual arcs: arc i along itself where `back` is false, against itself where it is true
 
 -- one unit more is within the capacity
-abbrev pub HasRoom : Cap → ℕ → Type 0
-HasRoom (AtMost k) amount = amount < k
-HasRoom Any amount = Unit {0}
+abbrev pub IsUnsaturated : Cap → ℕ → Type 0
+IsUnsaturated (AtMost k) amount = amount < k
+IsUnsaturated Any amount = Unit {0}
 
 -- the residual arc is open: one more unit can go along it
 abbrev pub IsResidual : NetworkModel → (ℕ → ℕ) → ℕ → Bool → Type 0
-IsResidual net x i false = HasRoom (arc_at net i).cap (x i)
+IsResidual net x i false = IsUnsaturated (arc_at net i).cap (x i)
 IsResidual net x i true = 0 < x i
 
 abbrev pub start_of : NetworkModel → ℕ → Bool → ℕ

@@ -4,3 +4,4 @@ pub mod Flow
 pub mod ResidualArcs
 pub mod Counting
 pub mod Residuals
+pub mod Search

@@ -1,10 +1,10 @@
 -- Residual arcs by numbers of their own, those that start at a node side by side.
 use Rattle.std.specs.Prelude.{ℕ, ◌+◌, ◌<◌, ◌≤◌, ◌==◌, ◌≡◌, ◌^◌, ℤ, pos, ◌+ℤ◌, Bool, true, false, if◌then◌else◌, List, length, slice_index, slice_index_or}
-use Rattle.networks.specs.declared.residual.TheConstants.{SHUT}
+use Rattle.networks.specs.declared.residual.TheConstants.{CLOSED}
 use Rattle.networks.specs.declared.arc.Cap.{Cap}
 use Rattle.networks.specs.declared.arc.Cap.TheVariants.{AtMost, Any}
 use Rattle.networks.specs.declared.residual.ResidualArc.{ResidualArc}
-use Rattle.networks.specs.declared.residual.ResidualRoom.{ResidualRoom}
+use Rattle.networks.specs.declared.residual.ResidualCapacity.{ResidualCapacity}
 use Rattle.networks.specs.Networks.{NetworkModel, node_count, arc_count, arc_at}
 use Rattle.networks.specs.Flow.{start_of, end_of, unit_cost}
 
@@ -15,8 +15,8 @@ numbers xs i = slice_index xs i
 abbrev pub no_residual_arc : ResidualArc
 no_residual_arc = record { end = 0; cost = pos 0 }
 
-abbrev pub no_residual_room : ResidualRoom
-no_residual_room = record { reverse = 0; room = 0 }
+abbrev pub no_residual_room : ResidualCapacity
+no_residual_room = record { reverse = 0; capacity = 0 }
 
 abbrev pub end_at : List ResidualArc → ℕ → ℕ
 end_at arcs k = (slice_index_or arcs k no_residual_arc).end
@@ -25,12 +25,12 @@ abbrev pub cost_at : List ResidualArc → ℕ → ℤ
 cost_at arcs k = (slice_index_or arcs k no_residual_arc).cost
 
 -- the number of the residual arc the other way
-abbrev pub reverse_at : List ResidualRoom → ℕ → ℕ
-reverse_at rooms k = (slice_index_or rooms k no_residual_room).reverse
+abbrev pub reverse_at : List ResidualCapacity → ℕ → ℕ
+reverse_at capacities k = (slice_index_or capacities k no_residual_room).reverse
 
 -- how many more units fit
-abbrev pub room_at : List ResidualRoom → ℕ → ℕ
-room_at rooms k = (slice_index_or rooms k no_residual_room).room
+abbrev pub capacity_at : List ResidualCapacity → ℕ → ℕ
+capacity_at capacities k = (slice_index_or capacities k no_residual_room).capacity
 
 -- number k is one of the residual arcs that start at node v
 pub record StartsAt (first : List ℕ) (v k : ℕ) : Type 0 where
@@ -38,16 +38,16 @@ pub record StartsAt (first : List ℕ) (v k : ℕ) : Type 0 where
   pub below : k < numbers first (v + 1)
 
 -- the number of residual arc (i, back)
-abbrev pub place_of : (ℕ → ℕ) → List ℕ → ℕ → Bool → ℕ
-place_of reverse forward i false = numbers forward i
-place_of reverse forward i true = reverse (numbers forward i)
+abbrev pub number_of : (ℕ → ℕ) → List ℕ → ℕ → Bool → ℕ
+number_of reverse forward i false = numbers forward i
+number_of reverse forward i true = reverse (numbers forward i)
 
 -- number k is that of a residual arc that starts at node v
 pub record HasOrigin (net : NetworkModel) (reverse : ℕ → ℕ) (forward : List ℕ) (v k : ℕ) : Type 0 where
   pub arc : ℕ
   pub back : Bool
   pub inside : arc < arc_count net
-  pub place : place_of reverse forward arc back ≡ k
+  pub place : number_of reverse forward arc back ≡ k
   pub start : start_of net arc back ≡ v
 
 -- each residual arc has a number of its own, and those that start at a node are side by side
@@ -56,31 +56,31 @@ pub record HasResidualArcs (net : NetworkModel) (first : List ℕ) (reverse : �
   pub forwards : length forward ≡ arc_count net
   pub rising : (v : ℕ) → v < node_count net → numbers first v ≤ numbers first (v + 1)
   pub inside : (v : ℕ) → v < node_count net → numbers first (v + 1) ≤ arc_count net + arc_count net
-  pub block : (i : ℕ) (back : Bool) → i < arc_count net → StartsAt first (start_of net i back) (place_of reverse forward i back)
+  pub block : (i : ℕ) (back : Bool) → i < arc_count net → StartsAt first (start_of net i back) (number_of reverse forward i back)
   pub cover : (v k : ℕ) → v < node_count net → StartsAt first v k → HasOrigin net reverse forward v k
-  pub alone : (i j : ℕ) (b c : Bool) → i < arc_count net → j < arc_count net → place_of reverse forward i b ≡ place_of reverse forward j c → (i ≡ j) × (b ≡ c)
+  pub alone : (i j : ℕ) (b c : Bool) → i < arc_count net → j < arc_count net → number_of reverse forward i b ≡ number_of reverse forward j c → (i ≡ j) × (b ≡ c)
   pub turned : (i : ℕ) → i < arc_count net → reverse (reverse (numbers forward i)) ≡ numbers forward i
 
 -- how many units a capacity stands for; where there is no limit it never runs out
-abbrev pub limit_of : Cap → ℕ
-limit_of (AtMost k) = k
-limit_of Any = 2 ^ 30
+abbrev pub units_of : Cap → ℕ
+units_of (AtMost k) = k
+units_of Any = 2 ^ 30
 
--- a residual arc where a unit costs z has cost c, since so much fits along it
+-- a residual arc where a unit costs z is listed at cost c where so much fits along it: `CLOSED` more where nothing does
 abbrev pub IsRated : ℤ → ℕ → ℤ → Type 0
-IsRated c room z = c ≡ (if room == 0 then z +ℤ SHUT else z)
+IsRated c capacity z = c ≡ (if capacity == 0 then z +ℤ CLOSED else z)
 
 -- a unit costs z along residual arc k
-abbrev pub IsCosted : List ResidualArc → List ResidualRoom → ℕ → ℤ → Type 0
-IsCosted arcs rooms k z = IsRated (cost_at arcs k) (room_at rooms k) z
+abbrev pub IsCosted : List ResidualArc → List ResidualCapacity → ℕ → ℤ → Type 0
+IsCosted arcs capacities k z = IsRated (cost_at arcs k) (capacity_at capacities k) z
 
 -- what fits along each residual arc, its end, and what a unit along it costs
-pub record IsFilled (net : NetworkModel) (reverse : ℕ → ℕ) (forward : List ℕ) (room : ℕ → ℕ) (arcs : List ResidualArc) : Type 0 where
+pub record AreResidualArcs (net : NetworkModel) (reverse : ℕ → ℕ) (forward : List ℕ) (capacity : ℕ → ℕ) (arcs : List ResidualArc) : Type 0 where
   pub arc_size : length arcs ≡ arc_count net + arc_count net
-  pub end : (i : ℕ) (back : Bool) → i < arc_count net → end_at arcs (place_of reverse forward i back) ≡ end_of net i back
-  pub cost : (i : ℕ) (back : Bool) → i < arc_count net → IsRated (cost_at arcs (place_of reverse forward i back)) (room (place_of reverse forward i back)) (unit_cost net i back)
-  pub fits : (i : ℕ) → i < arc_count net → room (place_of reverse forward i false) + room (place_of reverse forward i true) ≡ limit_of (arc_at net i).cap
+  pub end : (i : ℕ) (back : Bool) → i < arc_count net → end_at arcs (number_of reverse forward i back) ≡ end_of net i back
+  pub cost : (i : ℕ) (back : Bool) → i < arc_count net → IsRated (cost_at arcs (number_of reverse forward i back)) (capacity (number_of reverse forward i back)) (unit_cost net i back)
+  pub fits : (i : ℕ) → i < arc_count net → capacity (number_of reverse forward i false) + capacity (number_of reverse forward i true) ≡ units_of (arc_at net i).cap
 
 -- what an arc carries is what fits back along it
 abbrev pub carried : (ℕ → ℕ) → List ℕ → (ℕ → ℕ) → ℕ → ℕ
-carried reverse forward room i = room (place_of reverse forward i true)
+carried reverse forward capacity i = capacity (number_of reverse forward i true)

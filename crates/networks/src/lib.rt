@@ -5,12 +5,16 @@
 mod arc;
 mod build;
 mod fault;
+mod nearest;
 mod network;
+mod reach;
 mod residual;
+mod state;
 mod units;
 
 pub use arc::{Arc, Cap};
 pub use fault::NetFault;
 pub use network::Network;
-pub use residual::{Residual, ResidualArc, ResidualRoom, SHUT};
+pub use residual::{CLOSED, Residual, ResidualArc, ResidualCapacity};
+pub use state::{FAR, Search, SearchInput, Visit};
 pub use units::move_units;

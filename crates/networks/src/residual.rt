@@ -1,6 +1,6 @@
 //! Residual arcs, those that start at a node side by side.
 ghost use Rattle.std.specs.Prelude.{◌≡◌, ◌<◌, ◌≤◌, ◌+◌, ◌-◌, ◌^◌, length, ℤ, pos, negsuc, ◌≤ℤ◌};
-ghost use Rattle.networks.specs.ResidualArcs.{end_at, reverse_at, room_at, IsRated, IsCosted};
+ghost use Rattle.networks.specs.ResidualArcs.{end_at, reverse_at, capacity_at, IsRated, IsCosted};
 ghost use Rattle.networks.specs.Residuals.{HasNumber, IsSetTo};
 
 use crate::network::MAX_ARCS;
@@ -9,9 +9,9 @@ use crate::network::MAX_ARCS;
 pub const MAX_RESIDUAL_ARCS: usize = 2 * MAX_ARCS;
 
 /// What the cost of a residual arc is raised by while nothing fits.
-pub const SHUT: i16 = 16_000;
+pub const CLOSED: i16 = 16_000;
 
-/// A residual arc as a search reads it: the node where it ends, and what a unit along it costs, with `SHUT` more
+/// A residual arc as a search reads it: the node where it ends, and what a unit along it costs, with `CLOSED` more
 /// while nothing fits.
 #[derive(Clone, Copy, Debug, Default, PartialEq, Eq)]
 pub struct ResidualArc {
@@ -20,23 +20,23 @@ pub struct ResidualArc {
 }
 
 /// What sending along a residual arc reads: the number of the residual arc the other way, and the residual capacity:
-/// how many more units fit along it.
+/// how many more units fit along this one.
 #[derive(Clone, Copy, Debug, Default, PartialEq, Eq)]
-pub struct ResidualRoom {
+pub struct ResidualCapacity {
     pub reverse: u32,
-    pub room: u32,
+    pub capacity: u32,
 }
 
 impl ResidualArc {
     /// One to a node along which so many units fit, where a unit costs so much.
-    pub(crate) fn new(end: u16, cost: i16, room: u32) -> ResidualArc
+    pub(crate) fn new(end: u16, cost: i16, capacity: u32) -> ResidualArc
         requires { cost ≤ℤ pos 1 }
         ensures end { result.end ≡ end }
-        ensures cost { IsRated result.cost room cost }
+        ensures cost { IsRated result.cost capacity cost }
     {
         ResidualArc {
             end,
-            cost: if room == 0 { cost + SHUT } else { cost },
+            cost: if capacity == 0 { cost + CLOSED } else { cost },
         }
     }
 }
@@ -50,47 +50,47 @@ pub struct Residual {
     pub forward: Vec<u32>,
     pub arcs: Vec<ResidualArc>,
     /// One for each residual arc.
-    pub rooms: Vec<ResidualRoom>,
+    pub capacities: Vec<ResidualCapacity>,
 }
 
 impl Residual {
     /// The node where a residual arc starts.
     pub fn start(&self, number: usize) -> usize
-        requires number { number < length self.now.rooms.items }
-        requires reverse { reverse_at self.now.rooms.items number < length self.now.arcs.items }
-        ensures { result ≡ end_at self.now.arcs.items (reverse_at self.now.rooms.items number) }
+        requires number { number < length self.now.capacities.items }
+        requires reverse { reverse_at self.now.capacities.items number < length self.now.arcs.items }
+        ensures { result ≡ end_at self.now.arcs.items (reverse_at self.now.capacities.items number) }
     {
-        self.arcs[self.rooms[number].reverse as usize].end as usize
+        self.arcs[self.capacities[number].reverse as usize].end as usize
     }
 
-    /// Takes room for so many units, at least one, from a residual arc, and shuts it where nothing fits any more.
-    pub fn take_room(&mut self, number: usize, units: u32)
+    /// Takes capacity for so many units, at least one, from a residual arc, and closes it where nothing fits any more.
+    pub fn take_capacity(&mut self, number: usize, units: u32)
         requires arc { HasNumber self.old number }
-        requires cost { (z : ℤ) × (negsuc 0 ≤ℤ z) × (z ≤ℤ pos 1) × IsCosted self.old.arcs.items self.old.rooms.items number z }
+        requires cost { (z : ℤ) × (negsuc 0 ≤ℤ z) × (z ≤ℤ pos 1) × IsCosted self.old.arcs.items self.old.capacities.items number z }
         requires some { 0 < units }
-        requires fits { units ≤ room_at self.old.rooms.items number }
-        ensures { IsSetTo self.old self.new number (room_at self.old.rooms.items number - units) }
+        requires fits { units ≤ capacity_at self.old.capacities.items number }
+        ensures { IsSetTo self.old self.new number (capacity_at self.old.capacities.items number - units) }
     {
-        let along = &mut self.rooms[number];
-        along.room -= units;
-        if along.room == 0 {
-            self.arcs[number].cost += SHUT;
+        let along = &mut self.capacities[number];
+        along.capacity -= units;
+        if along.capacity == 0 {
+            self.arcs[number].cost += CLOSED;
         }
     }
 
-    /// Makes room for so many units more, at least one, along a residual arc, and opens it where nothing fitted.
-    pub fn give_room(&mut self, number: usize, units: u32)
+    /// Makes capacity for so many units more, at least one, along a residual arc, and opens it where nothing fitted.
+    pub fn give_capacity(&mut self, number: usize, units: u32)
         requires arc { HasNumber self.old number }
-        requires cost { (z : ℤ) × (negsuc 0 ≤ℤ z) × (z ≤ℤ pos 1) × IsCosted self.old.arcs.items self.old.rooms.items number z }
+        requires cost { (z : ℤ) × (negsuc 0 ≤ℤ z) × (z ≤ℤ pos 1) × IsCosted self.old.arcs.items self.old.capacities.items number z }
         requires some { 0 < units }
-        requires few { room_at self.old.rooms.items number + units < 2 ^ 32 }
-        ensures { IsSetTo self.old self.new number (room_at self.old.rooms.items number + units) }
+        requires few { capacity_at self.old.capacities.items number + units < 2 ^ 32 }
+        ensures { IsSetTo self.old self.new number (capacity_at self.old.capacities.items number + units) }
     {
-        let along = &mut self.rooms[number];
-        let was_shut = along.room == 0;
-        along.room += units;
-        if was_shut {
-            self.arcs[number].cost -= SHUT;
+        let along = &mut self.capacities[number];
+        let was_closed = along.capacity == 0;
+        along.capacity += units;
+        if was_closed {
+            self.arcs[number].cost -= CLOSED;
         }
     }
 }

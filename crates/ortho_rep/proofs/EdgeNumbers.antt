@@ -4,8 +4,8 @@ use Rattle.std.specs.List.{range_with_len}
 use Rattle.std.proofs.lemmas.Bool.{cases_lt, lt-ltb, le-ltb, cond_both}
 use Rattle.std.proofs.lemmas.List.FromFn.{map-range_with_len_more}
 use Rattle.std.proofs.lemmas.List.Elements.{filter-append}
-use Rattle.sums.specs.Sums.{sum_below}
-use Rattle.sums.proofs.Sums.{sum_below-more, sum_below-same, sum_below-constant, sum_below-add, sum_below-split, sum_below-le, sum_below-turned}
+use Rattle.common.specs.Sums.{sum_below}
+use Rattle.common.proofs.Sums.{sum_below-more, sum_below-same, sum_below-constant, sum_below-add, sum_below-split, sum_below-le, sum_below-turned}
 use Rattle.faces.specs.Planes.{PlaneModel, HasEnds, darts, reverse_dart}
 use Rattle.ortho_rep.specs.Edges.{is_lesser, edge_number}
 

@@ -5,8 +5,8 @@ use Rattle.std.specs.Prelude.{ℤ, pos, ◌-ℤ◌, ◌≤ℤ◌, ◌<ℤ◌, ne
 use Rattle.std.proofs.lemmas.Bool.{cases_lt, cases_eq, ne_eqb, cond-true, cond-false}
 use Rattle.std.proofs.lemmas.Int.{ints, by_lt_z}
 use lib.Signed.{lt_z}
-use Rattle.sums.specs.Sums.{sum_below}
-use Rattle.sums.proofs.Sums.{sum_below-same, sum_below-add, sum_below-le, sum_below-constant, exchanged}
+use Rattle.common.specs.Sums.{sum_below}
+use Rattle.common.proofs.Sums.{sum_below-same, sum_below-add, sum_below-le, sum_below-constant, exchanged}
 use Rattle.ortho_rep.specs.declared.turn.Turn.{Turn}
 use Rattle.faces.specs.Planes.{PlaneModel, HasEnds, darts, vertices, head, reverse_dart, face_at}
 use Rattle.ortho_rep.specs.Turns.{lefts, rights}

@@ -4,12 +4,12 @@ use Rattle.std.specs.Prelude.{ℤ, slice_index_or, pos, ◌+ℤ◌, ◌-ℤ◌, 
 use Rattle.std.proofs.lemmas.Bool.{cases_eq, eq-eqb, ne_eqb}
 use Rattle.std.proofs.lemmas.Int.{ints}
 use Rattle.std.proofs.lemmas.List.{map-append, reverse-append, replicate-append-replicate, length-replicate}
-use Rattle.sums.specs.Sums.{sum_below}
-use Rattle.sums.proofs.Sums.{sum_below-same, sum_below-add, sum_below-none, sum_below-split, sum_below-turned}
+use Rattle.common.specs.Sums.{sum_below}
+use Rattle.common.proofs.Sums.{sum_below-same, sum_below-add, sum_below-none, sum_below-split, sum_below-turned}
 use Rattle.faces.specs.Planes.{PlaneModel, HasEnds, darts, vertices, head, reverse_dart, face_at, degree}
 use Rattle.networks.specs.declared.arc.Arc.{Arc}
 use Rattle.networks.specs.Networks.{NetworkModel, arc_count, arc_at}
-use Rattle.networks.specs.Flow.{Flow, HasPotentials, IsWithin, HasRoom, leaves, enters, balance}
+use Rattle.networks.specs.Flow.{Flow, HasPotentials, IsWithin, IsUnsaturated, leaves, enters, balance}
 use Rattle.ortho_rep.specs.declared.turn.Turn.{Turn}
 use Rattle.ortho_rep.specs.declared.turn.Turn.TheVariants.{Left, Right}
 use Rattle.flow_network.specs.FaceNet.{IsFaceNet, arrivals}
@@ -182,7 +182,7 @@ rep_of_flow p net x ends is flow = record {
 -- the potentials fit an arc that carries an amount
 abbrev fits : Arc → (ℕ → ℤ) → ℕ → Type 0
 fits arc q amount =
-    (HasRoom arc.cap amount → pos 0 ≤ℤ (pos arc.cost +ℤ q arc.from -ℤ q arc.to))
+    (IsUnsaturated arc.cap amount → pos 0 ≤ℤ (pos arc.cost +ℤ q arc.from -ℤ q arc.to))
     × (0 < amount → pos 0 ≤ℤ ((pos 0 -ℤ pos arc.cost) +ℤ q arc.to -ℤ q arc.from))
 
 -- potentials are prices that prove it

@@ -7,7 +7,7 @@ pub mod Spans
 pub mod EdgeNumbers
 pub mod Mirrors
 pub mod Priced
-pub mod JoinedPrices
+pub mod FlatPrices
 pub mod Tallied
 pub mod FewTurns
 pub mod FromFlow

@@ -3,7 +3,7 @@ use Rattle.std.proofs.Common.{◌≡◌, ◌≤◌, ◌<◌, ℕ, zero, suc, ◌
 use Rattle.std.specs.Prelude.{slice_range}
 use Rattle.std.proofs.lemmas.Bool.{cases_eq}
 use Rattle.std.proofs.lemmas.List.{get_or_append_left, get_or_at, drop-append-le, drop_at, take-append-le, take_all, length-drop, append_assoc}
-use Rattle.ortho_rep.specs.Storage.{cut, IsCut}
+use Rattle.ortho_rep.specs.Storage.{cut, AreStarts}
 use Rattle.ortho_rep.proofs.Pieces.{length-cut, get_or-cut}
 
 -- n pieces stand in the list, and the next one starts at its end
@@ -99,8 +99,8 @@ joined-runs {A} starts starts' items middle items' one two n m piece_at is this 
     (λ piece h. all ∙ ap (λ (z : List A). items ++ z) (this ∙ sym h)) long longer
 
 -- so the list can be cut there
-pub joined-IsCut : {A : Type 0} (starts : List ℕ) (items : List A) (n : ℕ) (IsPiece : ℕ → List A → Type 0) → IsJoined starts items n IsPiece → IsCut starts items
-joined-IsCut starts items n IsPiece is = record {
+pub joined-AreStarts : {A : Type 0} (starts : List ℕ) (items : List A) (n : ℕ) (IsPiece : ℕ → List A → Type 0) → IsJoined starts items n IsPiece → AreStarts starts items
+joined-AreStarts starts items n IsPiece is = record {
   some = omega (arith, is.count);
   ordered = λ k b. is.ordered k (omega (arith, is.count));
   inside = λ k b. is.inside k (omega (arith, is.count));

@@ -1,7 +1,7 @@
 -- Angles, strings and prices matter only at darts, vertices and faces of the plane.
 use Rattle.std.proofs.Common.{◌≡◌, ◌≤◌, ◌<◌, ℕ, cond, eqb, List, sym, ap, ◌∙◌, arith}
 use Rattle.std.specs.Prelude.{ℤ, pos}
-use Rattle.sums.proofs.Sums.{sum_below-same, total_below-same}
+use Rattle.common.proofs.Sums.{sum_below-same, total_below-same}
 use Rattle.faces.specs.Planes.{PlaneModel, HasEnds, darts, vertices, head, reverse_dart, face_at}
 use Rattle.ortho_rep.specs.declared.turn.Turn.{Turn}
 use Rattle.ortho_rep.specs.Turns.{mirrored}

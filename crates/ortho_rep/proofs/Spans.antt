@@ -6,8 +6,8 @@ use Rattle.std.proofs.lemmas.List.{ext_get_or, get_or-map, length-map, drop_at}
 use Rattle.std.proofs.lemmas.List.FromFn.{get_or-map-range_with_len, length-map-range_with_len}
 use Rattle.ortho_rep.specs.declared.points.Point.{Point}
 use Rattle.ortho_rep.specs.Points.{origin}
-use Rattle.ortho_rep.specs.Storage.{cut, IsCut}
-use Rattle.ortho_rep.specs.JoinedPoints.{span_at, spans_of, spans_in, points_in, AreJoined}
+use Rattle.ortho_rep.specs.Storage.{cut, AreStarts}
+use Rattle.ortho_rep.specs.FlatPoints.{span_at, spans_of, spans_in, points_in, AreJoined}
 use Rattle.ortho_rep.proofs.Pieces.{length-cut, get_or-cut}
 use Rattle.ortho_rep.proofs.PushedLists.{slice_range-append}
 
@@ -24,13 +24,13 @@ spans-last vs cs starts =
     drop_at (vs ++ cs) (spans_of starts) (length all - (length starts - 1)) (omega (arith, length-append (vs ++ cs) (spans_of starts), length-spans starts))
 
 -- the corners of an edge
-piece-is : (cs : List Point) (starts : List ℕ) (e : ℕ) → IsCut starts cs → e < length starts - 1 →
+piece-is : (cs : List Point) (starts : List ℕ) (e : ℕ) → AreStarts starts cs → e < length starts - 1 →
     slice_range (cs ++ spans_of starts) (get_or starts e 0) (get_or starts (e + 1) 0) ≡ get_or (cut starts cs) e []
 piece-is cs starts e places b =
     slice_range-append cs (spans_of starts) (get_or starts e 0) (get_or starts (e + 1) 0) (places.ordered e (omega arith)) (places.inside (e + 1) (omega arith))
     ∙ sym (get_or-cut starts cs e (omega arith))
 
-corners-are : (cs : List Point) (starts : List ℕ) → IsCut starts cs →
+corners-are : (cs : List Point) (starts : List ℕ) → AreStarts starts cs →
     map (λ (span : Point). slice_range (cs ++ spans_of starts) span.x span.y) (spans_of starts) ≡ cut starts cs
 corners-are cs starts places =
     let piece : Point → List Point = λ span. slice_range (cs ++ spans_of starts) span.x span.y in
@@ -41,7 +41,7 @@ corners-are cs starts places =
     ∙ (ap piece (span-is starts e origin (omega (arith, count))) ∙ piece-is cs starts e places (omega (arith, count))))
 
 -- it stands for the points and the corners that were put into it
-pub joined-is : (vs cs : List Point) (starts : List ℕ) → IsCut starts cs →
+pub joined-is : (vs cs : List Point) (starts : List ℕ) → AreStarts starts cs →
     points_in ((vs ++ cs) ++ spans_of starts) (length vs) (length starts - 1) ≡ record { vertices = vs; corners = cut starts cs }
 joined-is vs cs starts places =
     let all = append_assoc vs cs (spans_of starts) in
@@ -50,7 +50,7 @@ joined-is vs cs starts places =
     rw (front, behind, spans-last vs cs starts, corners-are cs starts places) refl
 
 -- and all places are within it
-pub joined-within : (vs cs : List Point) (starts : List ℕ) → IsCut starts cs → AreJoined ((vs ++ cs) ++ spans_of starts) (length vs) (length starts - 1)
+pub joined-within : (vs cs : List Point) (starts : List ℕ) → AreStarts starts cs → AreJoined ((vs ++ cs) ++ spans_of starts) (length vs) (length starts - 1)
 joined-within vs cs starts places =
     let size : length ((vs ++ cs) ++ spans_of starts) ≡ length vs + length cs + (length starts - 1) =
     omega (arith, length-append (vs ++ cs) (spans_of starts), length-append vs cs, length-spans starts) in

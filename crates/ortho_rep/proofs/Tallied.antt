@@ -2,8 +2,8 @@
 use Rattle.std.proofs.Common.{◌≡◌, ◌≤◌, ◌<◌, ℕ, ◌+◌, ◌*◌, cond, eqb, List, length, get_or, set, sym, ap, ◌∙◌, inl, inr, arith}
 use Rattle.std.proofs.lemmas.Bool.{cases_eq, eq-eqb, ne_eqb, cond-true, cond-false}
 use Rattle.std.proofs.lemmas.List.{get_or-set_same, get_or-set_other, length-set}
-use Rattle.sums.specs.Sums.{sum_below}
-use Rattle.sums.proofs.Sums.{sum_below-more}
+use Rattle.common.specs.Sums.{sum_below}
+use Rattle.common.proofs.Sums.{sum_below-more}
 
 -- the entry at each place is the sum of x over the numbers below n that belong there
 pub record IsTally (entries : List ℕ) (n : ℕ) (place x : ℕ → ℕ) : Type 0 where

@@ -5,8 +5,8 @@ use Rattle.std.proofs.lemmas.List.{get_or-replicate}
 use Rattle.std.specs.Prelude.{ℤ, pos, ◌+ℤ◌, ◌-ℤ◌, ◌*ℤ◌}
 use borrow.Author.Differences.{up, down}
 use Rattle.std.proofs.lemmas.Int.{ints}
-use Rattle.sums.specs.Sums.{sum_below}
-use Rattle.sums.proofs.Sums.{sum_below-same, sum_below-none, sum_below-split}
+use Rattle.common.specs.Sums.{sum_below}
+use Rattle.common.proofs.Sums.{sum_below-same, sum_below-none, sum_below-split}
 use Rattle.faces.specs.Planes.{PlaneModel, IsPlane, HasEnds, darts, vertices, reverse_dart, with_outer}
 use Rattle.networks.specs.declared.arc.Arc.{Arc}
 use Rattle.networks.specs.Networks.{NetworkModel, arc_at}

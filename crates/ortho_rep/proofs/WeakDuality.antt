@@ -6,8 +6,8 @@ use Rattle.std.proofs.lemmas.Bool.{cases_order, cases_eq, eq-eqb, ne_eqb, cond-f
 use Rattle.std.proofs.lemmas.Int.{ints}
 use Rattle.std.proofs.Math.Nat.{mul-add, mul-le-mul_left}
 use borrow.Author.Differences.{up, down}
-use Rattle.sums.specs.Sums.{sum_below}
-use Rattle.sums.proofs.Sums.{sum_below-same, sum_below-add, sum_below-le, sum_below-times, sum_below-one, exchanged, total_below-parts}
+use Rattle.common.specs.Sums.{sum_below}
+use Rattle.common.proofs.Sums.{sum_below-same, sum_below-add, sum_below-le, sum_below-times, sum_below-one, exchanged, total_below-parts}
 use Rattle.ortho_rep.specs.declared.turn.Turn.{Turn}
 use Rattle.faces.specs.Planes.{PlaneModel, HasEnds, darts, vertices, head, reverse_dart, face_at, with_outer}
 use Rattle.ortho_rep.specs.Turns.{lefts, rights}

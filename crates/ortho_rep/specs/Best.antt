@@ -1,7 +1,7 @@
 -- The face with which the fewest bends are needed, and the outer face of a choice.
 use Rattle.std.specs.Prelude.{◌≡◌, ℕ, ◌<◌, ◌≤◌, List}
-use Rattle.choices.specs.declared.Choice.{Choice}
-use Rattle.choices.specs.declared.Choice.TheVariants.{First, Best}
+use Rattle.common.specs.declared.choice.Choice.{Choice}
+use Rattle.common.specs.declared.choice.Choice.TheVariants.{First, Best}
 use Rattle.faces.specs.Planes.{PlaneModel, IsWidest, darts, with_outer}
 use Rattle.ortho_rep.specs.declared.turn.Turn.{Turn}
 use Rattle.ortho_rep.specs.Representation.{Rep, bends_of}

@@ -1,7 +1,7 @@
 -- The edges of a plane: each is two darts, the lesser of which stands for it, and they are numbered from 0 in
 -- the order of their lesser darts.
 use Rattle.std.specs.Prelude.{ℕ, Bool, List, if◌then◌else◌}
-use Rattle.sums.specs.Sums.{sum_below}
+use Rattle.common.specs.Sums.{sum_below}
 use Rattle.embedding.specs.Lesser.{is_lesser_of, lesser_darts_of}
 use Rattle.faces.specs.Planes.{PlaneModel}
 

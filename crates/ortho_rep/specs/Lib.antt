@@ -8,7 +8,7 @@ pub mod OfFlow
 pub mod Prices
 pub mod PriceStores
 pub mod Points
-pub mod JoinedPoints
+pub mod FlatPoints
 pub mod PointStores
 pub mod Edges
 pub mod Best

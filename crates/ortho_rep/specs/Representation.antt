@@ -1,7 +1,7 @@
 -- Orthogonal representations of a plane: angles a and strings s of turns, by dart. Strings have any
 -- length. Faces lie on the left of their darts.
 use Rattle.std.specs.Prelude.{◌≡◌, ℕ, ◌<◌, ◌≤◌, ◌/◌, ◌==◌, if◌then◌else◌, ℤ, pos, negsuc, ◌+ℤ◌, ◌-ℤ◌, List, length}
-use Rattle.sums.specs.Sums.{sum_below, total_below}
+use Rattle.common.specs.Sums.{sum_below, total_below}
 use Rattle.faces.specs.Planes.{PlaneModel, darts, vertices, head, reverse_dart, face_at}
 use Rattle.ortho_rep.specs.declared.turn.Turn.{Turn}
 use Rattle.ortho_rep.specs.Turns.{mirrored, lefts, rights}

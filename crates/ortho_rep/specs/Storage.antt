@@ -20,7 +20,7 @@ cut [] items = []
 cut (start ∷ ends) items = cut_from start ends items
 
 -- the places stand in order within the list
-pub record IsCut {A : Type 0} (starts : List ℕ) (items : List A) : Type 0 where
+pub record AreStarts {A : Type 0} (starts : List ℕ) (items : List A) : Type 0 where
   pub some : 0 < length starts
   pub ordered : (k : ℕ) → k + 1 < length starts → slice_index starts k ≤ slice_index starts (k + 1)
   pub inside : (k : ℕ) → k < length starts → slice_index starts k ≤ length items

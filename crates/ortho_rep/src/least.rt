@@ -16,10 +16,10 @@ use crate::runs::DartShape;
 use crate::scratch::{Scratch, ShapeLists};
 use crate::shape::Shape;
 use crate::turn::Turn;
+use common::emptied;
 use faces::Plane;
 use flow_network::FaceNet;
 use min_cost_flow::{Network, SolveFault, Solved, solve_in};
-use reuse::emptied;
 use std::alloc::{AllocError, Global};
 use std::mem;
 

@@ -4,7 +4,7 @@
 
 mod best;
 mod certificate;
-mod joined_points;
+mod flat_points;
 mod least;
 mod lists;
 mod points;
@@ -19,7 +19,7 @@ mod turn;
 pub use best::best_shape;
 pub use certificate::certify;
 pub use least::{least_shape, least_shape_in};
-pub use lists::JoinedLists;
+pub use lists::FlatLists;
 pub use points::{MAX_COORDINATE, Point, Points};
 pub use prices::Prices;
 pub use representation::is_shape;

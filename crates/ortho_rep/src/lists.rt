@@ -1,36 +1,36 @@
 //! Lists of items that stand in one.
 
 ghost use Rattle.std.specs.Prelude.{◌≡◌, ◌+◌, ◌<◌, [], length, slice_index_or};
-ghost use Rattle.ortho_rep.specs.Storage.{cut, IsCut};
+ghost use Rattle.ortho_rep.specs.Storage.{cut, AreStarts};
 
 use std::marker::Model;
 
 /// Lists of items that stand in one list. In contracts it is the list of these lists.
 #[derive(Debug, Drop)]
-pub struct JoinedLists<T> {
+pub struct FlatLists<T> {
     // all items, and where those of each list start; one place more, where the last ones end
     items: Vec<T>,
     starts: Vec<usize>,
 }
 
-impl<T> Model for JoinedLists<T> {
+impl<T> Model for FlatLists<T> {
     ghost use Rattle.std.specs.Prelude.{List};
-    ghost use Rattle.ortho_rep.specs.Storage.{cut, IsCut};
+    ghost use Rattle.ortho_rep.specs.Storage.{cut, AreStarts};
 
     ghost Value = { List (List T) };
 
     ghost view = { λ a. cut a.starts.items a.items.items };
 
-    ghost invariant = { λ a. IsCut a.starts.items a.items.items };
+    ghost invariant = { λ a. AreStarts a.starts.items a.items.items };
 }
 
-impl<T> JoinedLists<T> {
+impl<T> FlatLists<T> {
     /// The pieces between places that follow one another in one list of items. It takes no memory.
-    pub fn new(items: Vec<T>, starts: Vec<usize>) -> JoinedLists<T>
-        requires { IsCut starts.items items.items }
+    pub fn new(items: Vec<T>, starts: Vec<usize>) -> FlatLists<T>
+        requires { AreStarts starts.items items.items }
         ensures { result ≡ cut starts.items items.items }
     {
-        JoinedLists { items, starts }
+        FlatLists { items, starts }
     }
 
     /// The one list and the places, whose memory can be used again.
@@ -58,7 +58,7 @@ impl<T> JoinedLists<T> {
 
 /// Piece i of a list that is cut at the given places.
 fn piece<'a, T>(items: &'a [T], starts: &[usize], i: usize) -> &'a [T]
-    requires places { IsCut starts.now items.now }
+    requires places { AreStarts starts.now items.now }
     requires within { i + 1 < length starts.now }
     ensures { result.now ≡ slice_index_or (cut starts.now items.now) i [] }
 {

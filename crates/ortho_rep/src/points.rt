@@ -2,9 +2,9 @@
 
 ghost use Rattle.std.specs.Prelude.{◌≡◌, ◌<◌, ◌≤◌, length, IfOk};
 ghost use Rattle.ortho_rep.specs.Points.{vertex_point, corners_at};
-ghost use Rattle.ortho_rep.specs.Storage.{lists_in, cut, IsCut};
+ghost use Rattle.ortho_rep.specs.Storage.{lists_in, cut, AreStarts};
 
-use crate::joined_points::JoinedPoints;
+use crate::flat_points::FlatPoints;
 use std::alloc::AllocError;
 use std::marker::Model;
 
@@ -34,7 +34,7 @@ enum PointStore {
         vertices: Vec<Point>,
         corners: Vec<Vec<Point>>,
     },
-    Joined(JoinedPoints),
+    Joined(FlatPoints),
 }
 
 impl Model for Points {
@@ -70,10 +70,10 @@ impl Points {
         corners: &[Point],
         starts: &[usize],
     ) -> Result<Points, AllocError>
-        requires { IsCut starts.now corners.now }
+        requires { AreStarts starts.now corners.now }
         ensures { IfOk result (λ points. points ≡ record { vertices = vertices.items; corners = cut starts.now corners.now }) }
     {
-        let points = JoinedPoints::new(vertices, corners, starts)?;
+        let points = FlatPoints::new(vertices, corners, starts)?;
         Ok(Points {
             store: PointStore::Joined(points),
         })

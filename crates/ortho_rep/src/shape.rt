@@ -1,7 +1,7 @@
 //! Shapes: an angle and a string of turns for each dart.
 
 ghost use Rattle.std.specs.Prelude.{◌≡◌, ◌*◌, ◌<◌, ◌≤◌, ◌↔◌, IsTrue, length, All, vec_len};
-ghost use Rattle.sums.specs.Sums.{sum_below};
+ghost use Rattle.common.specs.Sums.{sum_below};
 ghost use Rattle.embedding.specs.declared.graphs.TheConstants.{MAX_DARTS};
 ghost use Rattle.ortho_rep.specs.declared.strings.TheConstants.{MAX_TURNS};
 ghost use Rattle.ortho_rep.specs.declared.turn.TheConstants.{MAX_RUN};

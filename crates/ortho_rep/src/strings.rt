@@ -1,7 +1,7 @@
 //! The strings of all darts.
 
 ghost use Rattle.std.specs.Prelude.{◌≡◌, ◌*◌, ◌<◌, ◌≤◌, [], length, slice_index_or, All, vec_len};
-ghost use Rattle.sums.specs.Sums.{sum_below};
+ghost use Rattle.common.specs.Sums.{sum_below};
 ghost use Rattle.embedding.specs.declared.graphs.TheConstants.{MAX_DARTS};
 ghost use Rattle.ortho_rep.specs.declared.strings.TheConstants.{MAX_TURNS};
 ghost use Rattle.ortho_rep.specs.Storage.{lists_in, IsShort};

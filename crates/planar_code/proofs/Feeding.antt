@@ -7,7 +7,7 @@ use Rattle.planar_code.specs.declared.ending.Ending.{Ending}
 use Rattle.planar_code.specs.declared.ending.Ending.TheVariants as ending
 use Rattle.planar_code.specs.declared.fault.FeedFault.{FeedFault}
 use Rattle.planar_code.specs.declared.fault.FeedFault.TheVariants as fault
-use Rattle.planar_code.specs.Split.{IsSplit, IsOpen, ending_of}
+use Rattle.planar_code.specs.Split.{IsSplit, MayGoOn, ending_of}
 use Rattle.planar_code.specs.Place.{Place, Early, After, Failed, StandsAt, IsRunning, LosesRecord, Reads, Feeds, HasMore, beyond}
 use Rattle.planar_code.proofs.Records.{nothing_after}
 use Rattle.planar_code.proofs.Cuts.{front_of-cut}
@@ -43,7 +43,7 @@ pub split-failed : (stream : List ℕ) (records : List (List ℕ)) (f : FeedFaul
 split-failed stream records f s = subst (λ z. IsSplit z records (ending_of f)) (append-nil stream) (s [])
 
 -- where a framer runs, its stream is open
-pub open-running : (p : Place) (stream : List ℕ) (records : List (List ℕ)) → IsRunning p → StandsAt stream records p → IsOpen stream
+pub open-running : (p : Place) (stream : List ℕ) (records : List (List ℕ)) → IsRunning p → StandsAt stream records p → MayGoOn stream
 open-running (Early front) stream records running s = inl (s.missing, ap (λ z. z ++ s.missing) s.same ∙ s.whole)
 open-running (After count []) stream records running s = inr (inl (records, split-complete stream records count [] refl s))
 open-running (After count (x ∷ rest)) stream records running s = inr (inr (records, split-truncated stream records count (x ∷ rest) (λ e. (cc)) s))
@@ -69,7 +69,7 @@ truncated≢fault fault.Memory e = cc
 truncated≢fault fault.Many e = cc
 
 -- where it has failed, its stream is not open
-pub failed-closed : (f : FeedFault) (stream : List ℕ) (records : List (List ℕ)) → StandsAt stream records (Failed f) → IsOpen stream → ⊥
+pub failed-closed : (f : FeedFault) (stream : List ℕ) (records : List (List ℕ)) → StandsAt stream records (Failed f) → MayGoOn stream → ⊥
 failed-closed f stream records s (inl front) =
     complete≢fault f (split_same HEADER records [] (ending_of f) ending.Complete (subst (λ z. IsSplit z records (ending_of f)) front.1 (s front.0)) split-header).1
 failed-closed f stream records s (inr (inl h)) =
@@ -126,7 +126,7 @@ module _ (old new : Place) (piece : List ℕ) (before after : List (List ℕ)) w
     stands-failed fault.Many other r = subst (StandsAt (stream ++ piece) (records ++ added)) r.0 (r.1 stream records s)
 
   -- a framer answers Ok exactly where the bytes so far are open
-  pub open-feeds : (result : Result Unit FeedFault) → Feeds old piece before after new result → (stream : List ℕ) (records : List (List ℕ)) → StandsAt stream records old → result ≢ Err fault.Memory → IsOk result ↔ IsOpen (stream ++ piece)
+  pub open-feeds : (result : Result Unit FeedFault) → Feeds old piece before after new result → (stream : List ℕ) (records : List (List ℕ)) → StandsAt stream records old → result ≢ Err fault.Memory → IsOk result ↔ MayGoOn (stream ++ piece)
   open-feeds (Ok u) h stream records s other =
       ((λ ok. open-running new (stream ++ piece) (records ++ h.added) h.reads.0 (h.reads.1 stream records s)), (λ is_open. refl))
   open-feeds (Err f) h stream records s other =

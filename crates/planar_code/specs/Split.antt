@@ -49,8 +49,8 @@ abbrev pub IsSplit : List ℕ → List (List ℕ) → Ending → Type 0
 IsSplit stream records end = IsHeaderless stream records end ⊎ IsSplitAfterHeader stream records end
 
 -- more bytes may come: the bytes are a beginning of the header, or end complete or truncated
-abbrev pub IsOpen : List ℕ → Type 0
-IsOpen bytes =
+abbrev pub MayGoOn : List ℕ → Type 0
+MayGoOn bytes =
     ((more : List ℕ) × (bytes ++ more ≡ HEADER))
     ⊎ (((records : List (List ℕ)) × IsSplit bytes records ending.Complete)
     ⊎ ((records : List (List ℕ)) × IsSplit bytes records ending.Truncated))

@@ -1,6 +1,6 @@
 ghost use Rattle.std.specs.Prelude.{◌≡◌, ◌≢◌, ◌⊎◌, ℕ, ◌+◌, ◌<◌, ◌≤◌, List, [], ◌++◌, length, IfOk, OnOk, OnErr, IsSome, IsOk, Err, ◌↔◌, option_to_list};
 ghost use Rattle.planar_code.specs.declared.TheConstants.{MAX_RECORDS};
-ghost use Rattle.planar_code.specs.Split.{IsSplit, IsOpen, ending_of};
+ghost use Rattle.planar_code.specs.Split.{IsSplit, MayGoOn, ending_of};
 ghost use Rattle.planar_code.specs.Place.{Place, Early, After, Failed, StandsAt, IsRunning, Feeds, HasMore, beyond};
 ghost use Rattle.planar_code.specs.Step.{Steps, Runs};
 ghost use Rattle.planar_code.specs.declared.fault.FeedFault.{FeedFault};
@@ -159,7 +159,7 @@ impl Framer {
         ensures ok_where_open { (stream : List ℕ) (records : List (List ℕ))
             → StandsAt stream records self.old
             → result ≢ Err FeedFault.Memory
-            → (IsOk result ↔ IsOpen (stream ++ piece.now)) }
+            → (IsOk result ↔ MayGoOn (stream ++ piece.now)) }
         ensures fault_of_ending { (stream : List ℕ) (records : List (List ℕ)) (fault : FeedFault)
             → StandsAt stream records self.old
             → result ≡ Err fault

@@ -4,7 +4,7 @@ ghost use Rattle.planar_code.specs.declared.TheConstants.{MAX_RECORDS};
 ghost use Rattle.planar_code.specs.declared.ending.Ending.{Ending};
 ghost use Rattle.planar_code.specs.declared.parse.ParseFault.{ParseFault};
 ghost use Rattle.planar_code.specs.Stream.{IsRecord, HasLongList, lists_of};
-ghost use Rattle.planar_code.specs.Split.{IsSplit, IsOpen};
+ghost use Rattle.planar_code.specs.Split.{IsSplit, MayGoOn};
 ghost use Rattle.planar_code.specs.Place.{Place, StandsAt, IsRunning};
 ghost use Rattle.planar_code.specs.Parse.{IsParseFault};
 
@@ -70,7 +70,7 @@ pub fn running_is_open()
     ensures { (place : Place) (stream : List ℕ) (records : List (List ℕ))
         → IsRunning place
         → StandsAt stream records place
-        → IsOpen stream }
+        → MayGoOn stream }
 {}
 
 /// A stream of bytes that ends oversize has 255 bytes other than 0 in a row.

@@ -78,7 +78,7 @@ fn split_body(alloc: Global, body: &[u8]) -> Result<(Vec<Record>, Ending), Alloc
 
 /// The records and the ending of a whole stream.
 ///
-/// It reads record by record, as the format is told, and shares no step with the framer. Tests hold the
+/// It reads record by record, as the format is described, and shares no step with the framer. Tests hold the
 /// framer against it.
 ///
 /// # Errors

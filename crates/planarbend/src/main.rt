@@ -1,8 +1,7 @@
 //! `planarbend`: draws the graphs of planar_code files with the fewest bends.
 #![tactic(auto)]
 
-use commands::run;
-use program_io::{ErrorConsole, StandardInput};
+use commands::{ErrorConsole, StandardInput, run};
 use std::io;
 use std::process::ExitCode;
 use streams::IoSink;

@@ -1,10 +1,10 @@
 //! Rectangles by hand, and refused allocations.
 
 ghost use Rattle.std.specs.Prelude.{◌↔◌, IsTrue, All};
-ghost use Rattle.rectangles.specs.Rectangles.{IsFilled};
+ghost use Rattle.geometry.specs.Rectangles.{IsFilled};
 
 use crate::known::same;
-use rectangles::{Rectangle, all_apart};
+use geometry::{Rectangle, all_apart_in};
 use std::alloc::{AllocError, Global};
 use std::process::Abort;
 
@@ -40,7 +40,7 @@ fn answer(
         list.push(rectangle(one, by))?;
     }
     assert!(rt; are_filled(&list));
-    all_apart(alloc, list)
+    all_apart_in(alloc, &mut list, &mut Vec::new(alloc))
 }
 
 const FAR: u32 = u32::MAX;

@@ -279,7 +279,7 @@ const FAULTS: [(&[Place], CheckFault); 3] = [
     ),
 ];
 
-// The first three conditions are told by their names, whatever memory there is.
+// The first three conditions are named, whatever memory there is.
 #[test]
 fn three_conditions_need_no_memory(rt: HostRuntime) {
     for (vertices, fault) in FAULTS {

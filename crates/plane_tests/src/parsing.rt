@@ -20,7 +20,7 @@ fn refused_memory_is_told(rt: HostRuntime) {
     }
 }
 
-/// Bytes that are no record are told by their fault, whatever memory there is.
+/// Bytes that are no record are refused by their fault, whatever memory there is.
 #[test]
 fn faults_take_no_memory(rt: HostRuntime) {
     let cases: [(&[u8], ParseFault); 5] = [

@@ -1,6 +1,6 @@
 -- The entry of an answered record.
 use Rattle.std.specs.Prelude.{ℕ, List}
-use Rattle.choices.specs.declared.Choice.{Choice}
+use Rattle.common.specs.declared.choice.Choice.{Choice}
 use Rattle.entries.specs.Answers.{Answers}
 use Rattle.entries.specs.declared.answer.Answer.{Answer}
 use Rattle.entries.specs.declared.entry.Entry.{Entry}

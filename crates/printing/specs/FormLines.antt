@@ -3,7 +3,7 @@ use Rattle.std.specs.Prelude.{◌≡◌, ◌≢◌, ℕ, ◌+◌, List, [], ◌�
 use Rattle.streams.specs.declared.frames.Mark.{Mark}
 use Rattle.entries.specs.declared.answer.Answer.{Answer}
 use Rattle.entries.specs.declared.entry.Entry.{Entry}
-use Rattle.books.specs.Books.{BookModel}
+use Rattle.entries.specs.Books.{BookModel}
 use Rattle.reports.specs.declared.form.Form.{Form}
 use Rattle.reports.specs.declared.form.Form.TheVariants.{Report, Json}
 use Rattle.reports.specs.Report.{file_line, entry_line, end_line}

@@ -2,3 +2,13 @@ pub mod Answered
 pub mod FormLines
 pub mod Spelt
 pub mod Texts
+pub mod Telling
+pub mod DrawnBooks
+pub mod Joined
+pub mod Came
+pub mod Orders
+pub mod Waits
+pub mod Written
+pub mod Holding
+pub mod Whole
+pub mod Stops

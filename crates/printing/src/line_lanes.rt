@@ -12,7 +12,7 @@ use answers::{
     DrawScratch, DrawingKind, EmbedScratch, Embedded, Framed, LayScratch, Shaped, StageScratch,
     Task,
 };
-use choices::Choice;
+use common::Choice;
 use lane_runs::{LaneKind, LaneScratch};
 use lanes::Numbered;
 use planar_code::Record;

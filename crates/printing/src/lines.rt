@@ -2,7 +2,7 @@
 ghost use Rattle.std.specs.Prelude.{◌≡◌, ◌+◌, ◌^◌, ◌≤◌, IfOk, OnErr};
 ghost use Rattle.entries.specs.declared.answer.Answer.{Answer};
 ghost use Rattle.entries.specs.declared.entry.Entry.{Entry};
-ghost use Rattle.json_lines.specs.Answered.{IsAnswer};
+ghost use Rattle.reports.specs.Answered.{IsAnswer};
 ghost use Rattle.printing.specs.FormLines.{line_in, head_in, end_in};
 
 use crate::line::Line;

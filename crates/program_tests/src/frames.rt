@@ -5,7 +5,7 @@ use crate::shared::{
     Case, EDGE, HEADER, Narrow, Ran, Row, TRIANGLE, check_failed_write, check_rows, check_said,
     check_wants, expect_texts, make_file, run, run_narrow, same, words_for,
 };
-use program_io::{Fault, write_fault};
+use commands::{Fault, write_fault};
 use std::alloc::{AllocError, Global};
 use std::fs;
 use std::process::Abort;

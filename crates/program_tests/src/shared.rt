@@ -1,9 +1,8 @@
 //! Runs of the whole command, which the tests share.
 ghost use Rattle.std.specs.Prelude.{◌≤◌};
 
-use commands::command;
+use commands::{Console, command};
 use lanes::MemOpener;
-use program_io::Console;
 use std::alloc::{AllocError, Global};
 use std::fmt::Debug;
 use std::io::{ErrorKind, Write};
@@ -196,7 +195,7 @@ pub fn holds(text: &[u8], part: &[u8]) -> bool {
     text.windows(part.len().max(1)).any(|window| window == part)
 }
 
-/// With room for this beginning of what is to be written, it is written, and the fault is told.
+/// With room for this beginning of what is to be written, it is written, and the fault is returned.
 pub fn check_failed_write<R: Files + AllocGlobal + Threads + Wait + Sync + Abort>(
     rt: &R,
     words: &[String],

@@ -6,8 +6,8 @@ use crate::shared::{
     EDGE, HEADER, NoConsole, Ran, Row, TRIANGLE, check_rows, check_said, expect_report, make_file,
     run_on, same,
 };
+use commands::{Console, Meter, Progress, is_input};
 use lanes::{Gate, MemOpener, Stage};
-use program_io::{Console, Meter, Progress, is_input};
 use std::alloc::{AllocError, Global};
 use std::process::Abort;
 use std::rt::Files;
@@ -213,7 +213,7 @@ const APART: [&str; 2] = [
     "planarbend: 1 of 1 files begun, 5 graphs, 8 a second\n",
 ];
 
-/// A command line, whether there is a terminal, and what is told.
+/// A command line, whether there is a terminal, and what is written.
 const TOLD: [(&str, bool, &[&str]); 5] = [
     ("layout -", true, &[]),
     ("layout - --progress", true, &OVER),
@@ -231,7 +231,7 @@ fn tells_how_far_it_is(rt: HostRuntime) {
     check_said(&rt, &[("frames --progress a", refused)], 2);
 }
 
-/// How many lines are told of so many graphs, between which so many milliseconds pass.
+/// How many lines are written of so many graphs, between which so many milliseconds pass.
 fn lines_of(graphs: u32, step: u64) -> u64 {
     let console = Ticking::new(false, step, &[]);
     let meter = Meter::new(&console, Progress::Everywhere, 1);

@@ -4,8 +4,8 @@ use Rattle.std.proofs.Common.{lit≤}
 use Rattle.streams.specs.declared.frames.Mark.{Mark}
 use Rattle.entries.specs.declared.answer.Answer.TheVariants.{Laid, Refused, NoMemory}
 use Rattle.entries.specs.declared.entry.Entry.{Entry}
-use Rattle.json_lines.specs.LineData.{answer_data, line_of}
-use Rattle.books.specs.Books.{BookModel}
+use Rattle.reports.specs.LineData.{answer_data, line_of}
+use Rattle.entries.specs.Books.{BookModel}
 use Rattle.reports.specs.declared.form.Form.{Form}
 use Rattle.reports.specs.declared.form.Form.TheVariants.{Report, Json}
 use Rattle.reports.specs.Report.{numbered_texts}

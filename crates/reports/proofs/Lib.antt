@@ -1,3 +1,4 @@
+pub mod Steps
 pub mod TextParts
 pub mod Lacks
 pub mod FirstBytes

@@ -6,7 +6,7 @@ use Rattle.streams.specs.declared.faults.WriteFault.TheVariants.{Write, Memory}
 use Rattle.streams.specs.Sink.{IsOnItsWay, AppendsFront, StaysOnItsWay}
 use Rattle.streams.specs.declared.frames.Mark.{Mark}
 use Rattle.entries.specs.declared.entry.Entry.{Entry}
-use Rattle.books.specs.Books.{BookModel}
+use Rattle.entries.specs.Books.{BookModel}
 use Rattle.reports.specs.Report.{numbered_texts, file_line, entry_line, end_line, book_text}
 
 module _ {A : Type 0} (text : ℕ → A → List ℕ) where

@@ -1,6 +1,6 @@
 -- The forms in which a batch is written.
 use Rattle.std.specs.Prelude.{ℕ, List}
-use Rattle.books.specs.Books.{BookModel}
+use Rattle.entries.specs.Books.{BookModel}
 use Rattle.reports.specs.Report.{report_text}
 use Rattle.reports.specs.Json.{json_text}
 use Rattle.reports.specs.declared.form.Form.{Form}

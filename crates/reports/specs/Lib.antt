@@ -1,3 +1,6 @@
+pub mod Adding
+pub mod Answered
+pub mod LineData
 pub mod Report
 pub mod Json
 pub mod Writing

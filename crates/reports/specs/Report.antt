@@ -12,7 +12,7 @@ use Rattle.entries.specs.declared.answer.Answer.{Answer}
 use Rattle.entries.specs.declared.answer.Answer.TheVariants.{Laid, Refused, NoMemory}
 use Rattle.entries.specs.declared.entry.Entry.{Entry}
 use Rattle.entries.specs.CauseWords as causes
-use Rattle.books.specs.Books.{BookModel}
+use Rattle.entries.specs.Books.{BookModel}
 
 -- the texts of several things, one after another, the first of which has this number
 abbrev pub numbered_texts : {A : Type 0} → (ℕ → A → List ℕ) → ℕ → List A → List ℕ

@@ -2,9 +2,9 @@
 ghost use Rattle.std.specs.Prelude.{◌≡◌, false};
 ghost use Rattle.reports.specs.Writing.{WritesOrLacks};
 
-use crate::json::write_json;
+use crate::json_batch::write_json;
 use crate::report::write_report;
-use books::Batch;
+use entries::Batch;
 use std::alloc::Global;
 use streams::{Sink, WriteFault};
 

@@ -4,8 +4,7 @@ ghost use Rattle.streams.specs.Sink.{Writes, StaysOnItsWay};
 ghost use Rattle.reports.specs.Report.{report_text, book_text, entry_line, numbered_texts};
 
 use crate::line::ReportLine;
-use books::{Batch, Book};
-use entries::Entry;
+use entries::{Batch, Book, Entry};
 use streams::{Sink, TextBuffer, WriteFault};
 
 /// Writes for each file a line with its number, a line for each entry and a line for its mark. It takes

@@ -2,8 +2,7 @@
 ghost use Rattle.std.specs.Prelude.{◌≡◌, ◌≢◌, ◌↔◌, All, IsTrue};
 ghost use Rattle.reports.specs.Wholes.{IsWholeBook};
 
-use books::{Batch, Book};
-use entries::{Answer, Entry};
+use entries::{Answer, Batch, Book, Entry};
 use planar_code::Ending;
 use streams::Mark;
 

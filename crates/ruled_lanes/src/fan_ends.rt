@@ -5,9 +5,9 @@ ghost use Rattle.crossbeam_channel.specs.Ends.{sends_on, receives_on};
 ghost use Rattle.ruled_lanes.specs.declared.limits.TheConstants.{LANES};
 ghost use Rattle.ruled_lanes.specs.FanRule.{gatherer, giver, given_in};
 
+use crate::backoff::{TRIES, back_off};
 use crate::errors::Closed;
 use crate::fan_rule::{EachLane, Fanned, Gives, NewLane, Reach, Takes};
-use crate::lingering::{TRIES, linger};
 use crossbeam_channel::{Pass, RuledReceiver, RuledSender, TryRecvError, TrySendError};
 use std::sync::Wait;
 
@@ -108,7 +108,7 @@ impl<T: Drop> LaneGiver<T> {
                 Err(TrySendError::Full((_, back))) => held = back,
                 Err(refused) => return Err(Closed(refused.into_inner().1)),
             }
-            linger(rt, tried);
+            back_off(rt, tried);
         }
         self.wait_and_give(rt, held)
     }
@@ -170,7 +170,7 @@ impl<T: Drop> Gatherer<T> {
         for tried in 0..TRIES {
             match self.try_receive(rt) {
                 Ok(item) => return Ok(item),
-                Err(TryRecvError::Empty) => linger(rt, tried),
+                Err(TryRecvError::Empty) => back_off(rt, tried),
                 Err(TryRecvError::Disconnected) => return Err(Closed(())),
             }
         }

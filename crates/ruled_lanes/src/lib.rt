@@ -4,12 +4,12 @@
 //! lane by itself. Tickets deal numbers to the seats of several lanes, each number once.
 #![tactic(auto)]
 
+mod backoff;
 mod dealing;
 mod errors;
 mod fan_ends;
 mod fan_rule;
 mod limits;
-mod lingering;
 mod link_ends;
 mod link_rule;
 mod new_fan;

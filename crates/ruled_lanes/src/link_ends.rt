@@ -4,8 +4,8 @@ ghost use Rattle.crossbeam_channel.specs.Claims.{view, IsSeatAt};
 ghost use Rattle.crossbeam_channel.specs.Ends.{sends_on, receives_on};
 ghost use Rattle.ruled_lanes.specs.LinkRule.{log};
 
+use crate::backoff::{TRIES, back_off};
 use crate::errors::Closed;
-use crate::lingering::{TRIES, linger};
 use crate::link_rule::{Gives, Linked, Log, Roles, Takes, Total};
 use crossbeam_channel::{Pass, RuledReceiver, RuledSender, TryRecvError, TrySendError};
 use std::sync::Wait;
@@ -86,7 +86,7 @@ impl<T: Drop> Giver<T> {
                 Err(TrySendError::Full(back)) => held = back,
                 Err(refused) => return Err(Closed(refused.into_inner())),
             }
-            linger(rt, tried);
+            back_off(rt, tried);
         }
         self.wait_and_give(rt, held)
     }
@@ -140,7 +140,7 @@ impl<T: Drop> Taker<T> {
         for tried in 0..TRIES {
             match self.try_receive(rt) {
                 Ok(item) => return Ok(item),
-                Err(TryRecvError::Empty) => linger(rt, tried),
+                Err(TryRecvError::Empty) => back_off(rt, tried),
                 Err(TryRecvError::Disconnected) => return Err(Closed(())),
             }
         }

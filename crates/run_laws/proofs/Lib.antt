@@ -1,1 +1,16 @@
-pub mod Whole
+pub mod OuterFaces
+pub mod Meanings
+pub mod Layouts
+pub mod Straight
+pub mod Enclosing
+pub mod ShortFaces
+pub mod Supplying
+pub mod RecordSizes
+pub mod Planes
+pub mod Memory
+pub mod LineSizes
+pub mod Entering
+pub mod Booking
+pub mod Wording
+pub mod WholeReports
+pub mod WholeRuns

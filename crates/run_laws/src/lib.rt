@@ -1,6 +1,25 @@
-//! Laws of whole runs, each as the contract of a function that does nothing.
+//! Laws of layouts, reports and whole runs, each as the contract of a function that does nothing: what a laid answer
+//! says in plain terms, that faces, coordinates and reports leave no choice open, and how large things may be.
 #![tactic(auto)]
 
+mod bends;
+mod laid;
+mod layout;
+mod limits;
+mod outer;
+mod outside;
+mod pieces;
 mod runs;
+mod same_reports;
+mod supplies;
 
+pub use bends::{boxes_are_few, laid_bends};
+pub use laid::laid_means;
+pub use layout::one_layout;
+pub use limits::{network_limits, plane_limits, record_limits};
+pub use outer::{one_best, one_widest};
+pub use outside::outer_face_looks_out;
+pub use pieces::{edges_meet_at_ends, edges_share_no_piece};
 pub use runs::{same_whole_runs, written_is_report};
+pub use same_reports::{one_book_text, one_report};
+pub use supplies::units_supplied;

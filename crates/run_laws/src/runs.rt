@@ -1,14 +1,14 @@
 //! Whole runs, and texts that `write_batch` has written, in the words of reports.
 
 ghost use Rattle.std.specs.Prelude.{◌≡◌, ℕ, List, ◌++◌, Some};
-ghost use Rattle.choices.specs.declared.Choice.{Choice};
+ghost use Rattle.common.specs.declared.choice.Choice.{Choice};
 ghost use Rattle.lanes.specs.Opening.{Meaning};
-ghost use Rattle.books.specs.Books.{BookModel};
+ghost use Rattle.entries.specs.Books.{BookModel};
 ghost use Rattle.reports.specs.Report.{book_text};
 ghost use Rattle.reports.specs.declared.form.Form.{Form};
-ghost use Rattle.texts.specs.Whole.{IsAllWritten};
+ghost use Rattle.printing.specs.Whole.{IsAllWritten};
 ghost use Rattle.collector.specs.Headline.{IsWholeRun};
-ghost use Rattle.report_laws.specs.Reports.{IsReport};
+ghost use Rattle.run_laws.specs.Reports.{IsReport};
 
 /// Two whole runs of the same bytes under the same choice have one text in a report, whichever numbers their files have.
 pub fn same_whole_runs()

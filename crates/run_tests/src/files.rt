@@ -4,7 +4,7 @@ ghost use Rattle.lanes.specs.Opening.{Silent};
 ghost use Rattle.lanes.specs.Notes.{Item};
 
 use crate::reported::{EDGES, same};
-use choices::Choice;
+use common::Choice;
 use lanes::{Keep, MemOpener, OpenFault, Opener, read_file};
 use planar_code::{Ending, Record};
 use std::alloc::{AllocError, Global};

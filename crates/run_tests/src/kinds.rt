@@ -3,7 +3,7 @@
 use crate::records::staged;
 use crate::reported::{record_of, same};
 use answers::{Answer, DrawingKind};
-use choices::Choice;
+use common::Choice;
 use faces::Plane;
 use ortho_rep::Point;
 use std::alloc::{AllocError, Global};

@@ -2,7 +2,7 @@
 
 use crate::reported::{TRIANGLE, record_of, same};
 use answers::{Answer, Cause, DrawingKind, Entry, Framed, Keeping, Task, answer};
-use choices::Choice;
+use common::Choice;
 use embedding::Rule;
 use lanes::{Numbered, Staged};
 use planar_code::Record;
@@ -99,7 +99,7 @@ fn expect_entry(rt: &impl Abort, entry: Entry, said: Said) {
 /// What a stage makes of a record.
 fn pass<S: Staged>(alloc: Global, staged: S) -> S::Next {
     let mut scratch = S::scratch(alloc);
-    staged.next(alloc, &mut scratch)
+    staged.work(alloc, &mut scratch)
 }
 
 /// The entry of a record with this drawing, stage by stage.

@@ -25,7 +25,7 @@ const LATER: u32 = 30;
 /// threads: as many records as the links, the fan and the stages hold, and the one that is read.
 const AHEAD: u32 = 10;
 
-/// A file of edges: its bytes are told one by one. Files before the last one are read only once the last one was read
+/// A file of edges: its bytes are given one by one. Files before the last one are read only once the last one was read
 /// so often.
 #[derive(Clone, Copy)]
 struct Edges<'r> {
@@ -115,7 +115,7 @@ impl<'r> Opener for Edges<'r> {
 }
 
 /// How a run over so many files and lanes ended, where what waits may hold so much, and its text. Files before the last
-/// one are read once the last one was read `awaited` times; whether that took too long is told, too.
+/// one are read once the last one was read `awaited` times; whether that took too long is returned, too.
 fn run<R: AllocGlobal + Threads + Wait + Sync, G: Gate>(
     rt: &R,
     (files, lanes, awaited): (u32, u32, u32),

@@ -6,8 +6,8 @@ use crate::tests::{Case, ONE_BEND, plane_of, prices_in, shape_in};
 use drawing_check::{Drawing, check};
 use entries::Cause;
 use faces::Plane;
-use json_lines::{LaidGraph, end_line, laid_line};
 use ortho_rep::{Point, Points, Shape, certify, is_shape};
+use reports::{LaidGraph, end_line, laid_line};
 use std::alloc::{AllocError, Global};
 use std::process::Abort;
 

@@ -5,7 +5,7 @@ use Rattle.planar_code.specs.declared.ending.Ending.{Ending}
 use Rattle.planar_code.specs.declared.ending.Ending.TheVariants as ending
 use Rattle.planar_code.specs.declared.fault.FeedFault.{FeedFault}
 use Rattle.planar_code.specs.declared.fault.FeedFault.TheVariants as fault
-use Rattle.planar_code.specs.Split.{IsSplit, IsHeaderless, IsOpen, EndsAs, ending_of}
+use Rattle.planar_code.specs.Split.{IsSplit, IsHeaderless, MayGoOn, EndsAs, ending_of}
 use Rattle.planar_code.specs.Place.{Place, Early, After, Failed, StandsAt, StandsEarly, StandsAfter, IsRunning}
 use Rattle.planar_code.proofs.Records.{nothing_after}
 use Rattle.planar_code.proofs.Cuts.{front_of-cut}
@@ -45,7 +45,7 @@ split_stands text records (After count rest) s =
 split_stands text records (Failed f) s = (ending_of f, subst (λ t. IsSplit t records (ending_of f)) (append-nil text) (s []))
 
 -- where the framer has not failed, more bytes may come
-pub open_stands : (text : List ℕ) (records : List (List ℕ)) (place : Place) → StandsAt text records place → IsRunning place → IsOpen text
+pub open_stands : (text : List ℕ) (records : List (List ℕ)) (place : Place) → StandsAt text records place → IsRunning place → MayGoOn text
 open_stands text records (Early front) s running = inl (s.missing, ap (λ l. l ++ s.missing) s.same ∙ s.whole)
 open_stands text records (After count rest) s running =
     elim (after_ends text records count rest s) [ inl h ↦ inr (inl (records, h)) | inr h ↦ inr (inr (records, h)) ]
@@ -83,7 +83,7 @@ not_header records f (inr h) =
     not_empty (length records) f (subst (λ r. EndsAs (length records) r (ending_of f)) rest h.ends)
 
 -- after a fault no more bytes may come
-pub failed_not_open : (text more : List ℕ) (records : List (List ℕ)) (f : FeedFault) → StandsAt text records (Failed f) → IsOpen (text ++ more) → ⊥
+pub failed_not_open : (text more : List ℕ) (records : List (List ℕ)) (f : FeedFault) → StandsAt text records (Failed f) → MayGoOn (text ++ more) → ⊥
 failed_not_open text more records f s (inl (rest, e)) =
     not_header records f (subst (λ t. IsSplit t records (ending_of f)) (sym (append_assoc text more rest) ∙ e) (s (more ++ rest)))
 failed_not_open text more records f s (inr (inl (others, h))) = not_complete f (split_same (text ++ more) records others _ _ (s more) h).1

@@ -2,13 +2,13 @@
 use Rattle.std.specs.Prelude.{◌≡◌, ℕ, Bool, true, List, ◌++◌}
 use Rattle.planar_code.specs.declared.ending.Ending.{Ending}
 use Rattle.planar_code.specs.declared.ending.Ending.TheVariants as ending
-use Rattle.planar_code.specs.Split.{IsSplit, IsOpen}
+use Rattle.planar_code.specs.Split.{IsSplit, MayGoOn}
 use Rattle.streams.specs.declared.frames.Mark.{Mark}
 use Rattle.streams.specs.declared.frames.Mark.TheVariants.{Ended, Io}
 
 -- it fails where more bytes could have come: in the header, after a record, or in one
 abbrev pub IsCutShort : List ℕ → Bool → Type 0
-IsCutShort bytes fails = (fails ≡ true) × IsOpen bytes
+IsCutShort bytes fails = (fails ≡ true) × MayGoOn bytes
 
 -- the records are a beginning of all
 abbrev pub IsBeginningOf : List (List ℕ) → List (List ℕ) → Type 0

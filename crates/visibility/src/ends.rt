@@ -1,23 +1,23 @@
-//! Where rows begin and end.
+//! Where segments begin and end.
 
-use crate::rows::{Rows, list};
+use crate::segments::{Segments, list};
 use std::alloc::AllocError;
 
-/// Finds for each row the rows of the other axis that cross it where it begins and where it ends, counts these in their
-/// pulls, and lists the row by its coordinate.
-pub(crate) fn find_ends(along: &mut Rows, other: &mut Rows) -> Result<(), AllocError> {
+/// Finds for each segment the segments of the other axis that cross it where it begins and where it ends,
+/// counts these in their pulls, and lists the segment by its coordinate.
+pub(crate) fn find_ends(along: &mut Segments, other: &mut Segments) -> Result<(), AllocError> {
     along.open_lists()?;
     let firsts = along.firsts.as_mut_slice();
-    for (place, row) in along.rows.iter_mut().enumerate() {
-        row.low = other.row_of(usize::from(row.low));
-        row.high = other.row_of(usize::from(row.high));
-        if let Some(begun_on) = other.rows.get_mut(usize::from(row.low)) {
+    for (place, segment) in along.segments.iter_mut().enumerate() {
+        segment.low = other.segment_of(usize::from(segment.low));
+        segment.high = other.segment_of(usize::from(segment.high));
+        if let Some(begun_on) = other.segments.get_mut(usize::from(segment.low)) {
             begun_on.pull = begun_on.pull.wrapping_add(1);
         }
-        if let Some(ended_on) = other.rows.get_mut(usize::from(row.high)) {
+        if let Some(ended_on) = other.segments.get_mut(usize::from(segment.high)) {
             ended_on.pull = ended_on.pull.wrapping_sub(1);
         }
-        list(firsts, row, place.min(usize::from(u16::MAX)) as u16);
+        list(firsts, segment, place.min(usize::from(u16::MAX)) as u16);
     }
     Ok(())
 }

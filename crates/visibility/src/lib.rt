@@ -1,17 +1,18 @@
-//! Compaction of a drawing along one axis after the other, by what its rows see of each other: one-dimensional
+//! Compaction of a drawing along one axis after the other, by what its segments see of each other: one-dimensional
 //! compaction with a visibility constraint graph, found by a plane sweep (Lengauer, Combinatorial Algorithms for
 //! Integrated Circuit Layout, 1990).
 //!
-//! A *row* is a longest line of vertices and corners that edges join along one axis; along the other axis it has one
-//! coordinate. At each coordinate that several rows cross they keep their order, and nothing else is kept.
+//! A *segment* is a longest line of vertices and corners that edges join along one axis; along the other axis
+//! it has one coordinate. At each coordinate that several segments cross they keep their order, and nothing
+//! else is kept.
 #![tactic(auto)]
 
 mod compaction;
 mod ends;
 mod listing;
 mod places;
-mod rows;
 mod scratch;
+mod segments;
 mod shortening;
 mod straight;
 mod sweep;

@@ -1,11 +1,11 @@
-//! The rows of a drawing, listed edge by edge.
+//! The segments of a drawing, listed edge by edge.
 
 ghost use Rattle.std.specs.Prelude.{◌≡◌, ◌*◌, length};
 ghost use Rattle.faces.specs.Planes.{darts, vertices};
 
 use crate::ends::find_ends;
-use crate::rows::Rows;
 use crate::scratch::Scratch;
+use crate::segments::Segments;
 use faces::Plane;
 use ortho_rep::{Point, Points};
 use std::alloc::AllocError;
@@ -22,8 +22,8 @@ pub(crate) struct Bent {
     to: Point,
 }
 
-/// Lists the rows of a drawing along both axes, with their ends.
-pub(crate) fn list_rows(
+/// Lists the segments of a drawing along both axes, with their ends.
+pub(crate) fn list_segments(
     scratch: &mut Scratch,
     plane: &Plane,
     points: &Points,
@@ -57,8 +57,8 @@ pub(crate) fn list_rows(
 fn list_edges(
     plane: &Plane,
     points: &Points,
-    x: &mut Rows,
-    y: &mut Rows,
+    x: &mut Segments,
+    y: &mut Segments,
     bent: &mut Vec<Bent>,
 ) -> Result<(), AllocError>
     requires vertices { length points.now.vertices ≡ vertices plane.now }
@@ -94,16 +94,17 @@ fn list_edges(
     Ok(())
 }
 
-/// Adds the corners of an edge to the rows on which they lie, which end there. Between two corners lies a row of its own.
+/// Adds the corners of an edge to the segments on which they lie, which end there. Between two corners lies a
+/// segment of its own.
 fn list_corners(
     corners: &[Point],
     bent: Bent,
-    x: &mut Rows,
-    y: &mut Rows,
+    x: &mut Segments,
+    y: &mut Segments,
 ) -> Result<(), AllocError> {
     let mut from = bent.from;
     let mut upright = corners.first().is_some_and(|corner| corner.x == from.x);
-    let mut row = if upright {
+    let mut segment = if upright {
         x.of_vertex(bent.tail)
     } else {
         y.of_vertex(bent.tail)
@@ -116,30 +117,30 @@ fn list_corners(
         } else {
             None
         };
-        row = if upright {
-            x.reach(row, place, from.y < corner.y);
-            turn(x, row, y, corner.y, end)?
+        segment = if upright {
+            x.reach(segment, place, from.y < corner.y);
+            turn(x, segment, y, corner.y, end)?
         } else {
-            y.reach(row, place, from.x < corner.x);
-            turn(y, row, x, corner.x, end)?
+            y.reach(segment, place, from.x < corner.x);
+            turn(y, segment, x, corner.x, end)?
         };
         upright = !upright;
         from = *corner;
     }
     if upright {
-        x.reach(row, place, bent.to.y < from.y);
+        x.reach(segment, place, bent.to.y < from.y);
     } else {
-        y.reach(row, place, bent.to.x < from.x);
+        y.reach(segment, place, bent.to.x < from.x);
     }
     Ok(())
 }
 
-/// Adds a corner at which an edge leaves a row for one that crosses it, and gives that one back: that of the vertex at
-/// its end, or a new one with this coordinate.
+/// Adds a corner at which an edge leaves a segment for one that crosses it, and gives that one back: that of
+/// the vertex at its end, or a new one with this coordinate.
 fn turn(
-    left: &mut Rows,
-    row: u16,
-    entered: &mut Rows,
+    left: &mut Segments,
+    segment: u16,
+    entered: &mut Segments,
     number: u32,
     end: Option<u8>,
 ) -> Result<u16, AllocError> {
@@ -148,7 +149,7 @@ fn turn(
         Some(vertex) => entered.of_vertex(vertex),
         None => entered.add_at(number, place)?,
     };
-    left.of.push(row)?;
+    left.of.push(segment)?;
     entered.of.push(next)?;
     Ok(next)
 }

@@ -1,20 +1,20 @@
-//! The points of vertices and corners on their rows.
+//! The points of vertices and corners on their segments.
 
 ghost use Rattle.std.specs.Prelude.{◌≡◌, ◌++◌, List, length, IfOk, OnOk};
 ghost use Rattle.ortho_rep.specs.declared.points.Point.{Point};
-ghost use Rattle.ortho_rep.specs.Storage.{cut, IsCut};
+ghost use Rattle.ortho_rep.specs.Storage.{cut, AreStarts};
 
-use crate::rows::Rows;
+use crate::segments::Segments;
 use ortho_rep::{Point, Points};
 use std::alloc::{AllocError, Global};
 
-/// The points of all vertices and corners where their rows are now, for as many corners as each edge has before.
+/// The points of all vertices and corners where their segments are now, for as many corners as each edge has before.
 pub(crate) fn points_on(
     alloc: Global,
     old: &Points,
     edges: u16,
-    x: &Rows,
-    y: &Rows,
+    x: &Segments,
+    y: &Segments,
 ) -> Result<Points, AllocError>
     requires { length old.now.corners ≡ edges }
     ensures vertices { IfOk result (λ points. length points.vertices ≡ length old.now.vertices) }
@@ -31,8 +31,8 @@ fn vertex_points(
     alloc: Global,
     count: usize,
     behind: usize,
-    x: &Rows,
-    y: &Rows,
+    x: &Segments,
+    y: &Segments,
 ) -> Result<Vec<Point>, AllocError>
     ensures { IfOk result (λ points. length points.items ≡ count) }
 {
@@ -49,11 +49,11 @@ fn corner_points(
     alloc: Global,
     old: &Points,
     edges: u16,
-    x: &Rows,
-    y: &Rows,
+    x: &Segments,
+    y: &Segments,
 ) -> Result<(Vec<Point>, Vec<usize>), AllocError>
     requires { length old.now.corners ≡ edges }
-    ensures places { IfOk result (λ found. IsCut found.1.items found.0.items) }
+    ensures places { IfOk result (λ found. AreStarts found.1.items found.0.items) }
     ensures count { IfOk result (λ found. length (cut found.1.items found.0.items) ≡ edges) }
 {
     let mut place = old.vertex_count();
@@ -73,8 +73,8 @@ fn corner_points(
 /// Puts the points of the vertices or corners from one place to another behind a list.
 fn push_points(
     points: &mut Vec<Point>,
-    x: &Rows,
-    y: &Rows,
+    x: &Segments,
+    y: &Segments,
     from: usize,
     to: usize,
 ) -> Result<(), AllocError>
@@ -87,7 +87,7 @@ fn push_points(
 }
 
 /// The point of the vertex or corner at this place.
-fn point_at(x: &Rows, y: &Rows, place: usize) -> Point {
+fn point_at(x: &Segments, y: &Segments, place: usize) -> Point {
     Point {
         x: x.number_at(place),
         y: y.number_at(place),

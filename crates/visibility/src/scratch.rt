@@ -3,7 +3,7 @@
 ghost use Rattle.std.specs.Prelude.{◌≡◌, []};
 
 use crate::listing::Bent;
-use crate::rows::Rows;
+use crate::segments::Segments;
 use crate::shortening::Shortening;
 use crate::sweep::Sweep;
 use std::alloc::Global;
@@ -11,10 +11,10 @@ use std::alloc::Global;
 /// Memory in which one drawing after another is compacted. What it holds between two of them is of no use.
 #[derive(Drop)]
 pub struct Scratch {
-    /// The rows that have one x.
-    pub(crate) x: Rows,
-    /// The rows that have one y.
-    pub(crate) y: Rows,
+    /// The segments that have one x.
+    pub(crate) x: Segments,
+    /// The segments that have one y.
+    pub(crate) y: Segments,
     pub(crate) bent: Vec<Bent>,
     pub(crate) sweep: Sweep,
     pub(crate) shortening: Shortening,
@@ -26,8 +26,8 @@ impl Scratch {
         ensures { result.bent.items ≡ [] }
     {
         Scratch {
-            x: Rows::empty(alloc),
-            y: Rows::empty(alloc),
+            x: Segments::empty(alloc),
+            y: Segments::empty(alloc),
             bent: Vec::new(alloc),
             sweep: Sweep::empty(alloc),
             shortening: Shortening::empty(alloc),

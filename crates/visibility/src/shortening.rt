@@ -1,8 +1,8 @@
-//! Numbers of rows with which the edges across them are shortest in all.
+//! Numbers of segments with which the edges across them are shortest in all.
 
 ghost use Rattle.std.specs.Prelude.{◌≡◌, []};
 
-use crate::rows::{Row, Rows, number_of};
+use crate::segments::{Segment, Segments, number_of};
 use crate::sweep::Sweep;
 use least_length::{Edge, find_shorter};
 use std::alloc::{AllocError, Global};
@@ -10,10 +10,10 @@ use std::alloc::{AllocError, Global};
 /// What shortening works in.
 #[derive(Drop)]
 pub(crate) struct Shortening {
-    /// The rows in the order of their numbers.
-    rows: Vec<least_length::Row>,
+    /// The segments in the order of their numbers.
+    segments: Vec<least_length::Segment>,
     edges: Vec<Edge>,
-    /// For each row its place in that order.
+    /// For each segment its place in that order.
     places: Vec<u16>,
     /// The numbers found, in that order.
     numbers: Vec<u16>,
@@ -26,7 +26,7 @@ impl Shortening {
         ensures { result.edges.items ≡ [] }
     {
         Shortening {
-            rows: Vec::new(alloc),
+            segments: Vec::new(alloc),
             edges: Vec::new(alloc),
             places: Vec::new(alloc),
             numbers: Vec::new(alloc),
@@ -34,25 +34,25 @@ impl Shortening {
         }
     }
 
-    /// Gives rows numbers with which those of the other axis, `crossing`, are shortest in all, while the rows on each
-    /// level keep their order; whether they are shorter then. Else no number changes.
+    /// Gives segments numbers with which those of the other axis, `crossing`, are shortest in all, while the
+    /// segments on each level keep their order; whether they are shorter then. Else no number changes.
     pub(crate) fn shorten(
         &mut self,
-        along: &mut Rows,
-        crossing: &Rows,
+        along: &mut Segments,
+        crossing: &Segments,
         sweep: &mut Sweep,
     ) -> Result<bool, AllocError> {
         if crossing.are_short(along) {
             return Ok(false);
         }
-        self.list_rows(along, crossing.rows.as_slice())?;
-        self.list_edges(crossing.rows.as_slice())?;
-        let rows = self.rows.as_slice();
+        self.list_segments(along, crossing.segments.as_slice())?;
+        self.list_edges(crossing.segments.as_slice())?;
+        let segments = self.segments.as_slice();
         let edges = self.edges.as_slice();
-        if !find_shorter(&mut self.search, rows, edges, &mut self.numbers)? {
+        if !find_shorter(&mut self.search, segments, edges, &mut self.numbers)? {
             return Ok(false);
         }
-        let gain = self.gain(along.rows.as_slice());
+        let gain = self.gain(along.segments.as_slice());
         if gain <= 0 {
             return Ok(false);
         }
@@ -61,61 +61,61 @@ impl Shortening {
         Ok(true)
     }
 
-    /// Lists the rows in the order of their numbers, with the levels that they cross.
-    fn list_rows(&mut self, along: &Rows, crossing: &[Row]) -> Result<(), AllocError> {
-        self.rows.clear();
+    /// Lists the segments in the order of their numbers, with the levels that they cross.
+    fn list_segments(&mut self, along: &Segments, crossing: &[Segment]) -> Result<(), AllocError> {
+        self.segments.clear();
         self.places.clear();
-        self.places.resize(along.rows.len(), 0)?;
+        self.places.resize(along.segments.len(), 0)?;
         let places = self.places.as_mut_slice();
-        let rows = along.rows.as_slice();
+        let segments = along.segments.as_slice();
         for first in along.firsts.as_slice() {
             let mut named = *first;
-            for _ in 0..rows.len() {
-                let Some(row) = rows.get(usize::from(named)) else {
+            for _ in 0..segments.len() {
+                let Some(segment) = segments.get(usize::from(named)) else {
                     break;
                 };
                 if let Some(place) = places.get_mut(usize::from(named)) {
-                    *place = self.rows.len().min(usize::from(u16::MAX)) as u16;
+                    *place = self.segments.len().min(usize::from(u16::MAX)) as u16;
                 }
-                self.rows.push(least_length::Row {
-                    number: row.number,
-                    low: number_of(crossing, row.low),
-                    high: number_of(crossing, row.high),
+                self.segments.push(least_length::Segment {
+                    number: segment.number,
+                    low: number_of(crossing, segment.low),
+                    high: number_of(crossing, segment.high),
                 })?;
-                named = row.next;
+                named = segment.next;
             }
         }
         Ok(())
     }
 
-    /// Lists the rows of the other axis as edges from the row where each begins to that where it ends.
-    fn list_edges(&mut self, crossing: &[Row]) -> Result<(), AllocError> {
+    /// Lists the segments of the other axis as edges from the segment where each begins to that where it ends.
+    fn list_edges(&mut self, crossing: &[Segment]) -> Result<(), AllocError> {
         self.edges.clear();
-        for row in crossing {
-            if row.low != row.high {
-                let from = entry_of(self.places.as_slice(), row.low);
-                let to = entry_of(self.places.as_slice(), row.high);
-                let level = row.number;
+        for segment in crossing {
+            if segment.low != segment.high {
+                let from = entry_of(self.places.as_slice(), segment.low);
+                let to = entry_of(self.places.as_slice(), segment.high);
+                let level = segment.number;
                 self.edges.push(Edge { from, to, level })?;
             }
         }
         Ok(())
     }
 
-    /// By how much shorter the rows of the other axis are with the numbers found.
-    fn gain(&self, rows: &[Row]) -> i64 {
+    /// By how much shorter the segments of the other axis are with the numbers found.
+    fn gain(&self, segments: &[Segment]) -> i64 {
         let mut gain: i64 = 0;
-        for (row, place) in rows.iter().zip(self.places.as_slice()) {
+        for (segment, place) in segments.iter().zip(self.places.as_slice()) {
             let number = entry_of(self.numbers.as_slice(), *place);
-            gain = gain.wrapping_add(row.gain_at(number));
+            gain = gain.wrapping_add(segment.gain_at(number));
         }
         gain
     }
 
-    /// Gives rows the numbers found, and lists them by these.
-    fn place(&self, along: &mut Rows) -> Result<(), AllocError> {
-        for (row, place) in along.rows.iter_mut().zip(self.places.as_slice()) {
-            row.number = entry_of(self.numbers.as_slice(), *place);
+    /// Gives segments the numbers found, and lists them by these.
+    fn place(&self, along: &mut Segments) -> Result<(), AllocError> {
+        for (segment, place) in along.segments.iter_mut().zip(self.places.as_slice()) {
+            segment.number = entry_of(self.numbers.as_slice(), *place);
         }
         along.list_anew()
     }

@@ -1,4 +1,4 @@
-use Rattle.drawn_laws.proofs.Drawings.{answer_drawn}
+use Rattle.drawing_laws.proofs.Drawings.{answer_drawn}
 use Rattle.answers.proofs.stages.answer.Goals as goal
 
 pub invariant_of-result : goal.invariant_of-result

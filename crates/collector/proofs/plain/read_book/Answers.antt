@@ -2,8 +2,8 @@ use Rattle.std.proofs.Common.{map, subst, sym}
 use Rattle.lanes.specs.Notes.{Item}
 use Rattle.lanes.specs.Keeping.{KeepsFile}
 use Rattle.entries.specs.Abouts.{about_of}
-use Rattle.books.specs.Books.{IsBook}
-use Rattle.books.proofs.KeptBooks.{whole_kept, all_answered}
+use Rattle.entries.specs.Books.{IsBook}
+use Rattle.entries.proofs.KeptBooks.{whole_kept, all_answered}
 use Rattle.collector.proofs.plain.read_book.Goals as goal
 
 pub returns-clause-book : goal.returns-clause-book

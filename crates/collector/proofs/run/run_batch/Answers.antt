@@ -3,7 +3,7 @@ use Rattle.lanes.specs.Notes.{Note}
 use Rattle.lanes.specs.Drafts.{AreDrafts}
 use Rattle.lanes.specs.Files.{AreToldWhole}
 use Rattle.entries.specs.Abouts.{about_of}
-use Rattle.drawn_reports.proofs.Books.{drawn_books}
+use Rattle.printing.proofs.Books.{drawn_books}
 use Rattle.collector.proofs.run.run_batch.Goals as goal
 
 pub bind-requires-clause-ready : goal.bind-requires-clause-ready

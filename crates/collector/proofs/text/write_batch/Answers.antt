@@ -1,5 +1,5 @@
-use Rattle.texts.proofs.Ordering.{begun_none}
-use Rattle.drawn_reports.proofs.Added.{none_added}
+use Rattle.printing.proofs.Ordering.{begun_none}
+use Rattle.printing.proofs.Added.{none_added}
 use Rattle.collector.proofs.Drawing.{run_drawn}
 use Rattle.collector.proofs.text.write_batch.Goals as goal
 

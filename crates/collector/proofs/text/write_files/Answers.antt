@@ -2,12 +2,12 @@ use Rattle.std.proofs.Common.{rules, ◌≡◌, ◌∙◌, List, OnOk, IfErr, fa
 use Rattle.lanes.specs.Notes.{Note}
 use Rattle.lanes.specs.Files.{AreToldWhole}
 use Rattle.lane_runs.specs.Faults.{EndsRun}
-use Rattle.texts.specs.declared.refusal.Refusal.{Refusal}
-use Rattle.texts.specs.Written.{GivesUp}
-use Rattle.texts.specs.Holding.{form_of, choice_of, files_of, LinesHold, LinesLeaveOff}
-use Rattle.texts.specs.Whole.{IsAllWritten, IsBegun}
-use Rattle.texts.proofs.Ordering.{begun_none}
-use Rattle.texts.proofs.Held.{left_off_held}
+use Rattle.printing.specs.declared.refusal.Refusal.{Refusal}
+use Rattle.printing.specs.Written.{GivesUp}
+use Rattle.printing.specs.Holding.{form_of, choice_of, files_of, LinesHold, LinesLeaveOff}
+use Rattle.printing.specs.Whole.{IsAllWritten, IsBegun}
+use Rattle.printing.proofs.Ordering.{begun_none}
+use Rattle.printing.proofs.Held.{left_off_held}
 use Rattle.collector.proofs.Begun.{ended_with, begun_lines}
 use Rattle.collector.proofs.Taking.{takes_known}
 use Rattle.collector.proofs.text.write_files.Goals as goal

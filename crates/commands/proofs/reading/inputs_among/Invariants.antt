@@ -1,6 +1,6 @@
 use Rattle.std.proofs.Common.{◌≡◌, ◌≤◌, map, take}
 use Rattle.std.specs.List.{count_by}
-use Rattle.program_io.specs.Naming.{is_input}
+use Rattle.commands.specs.Naming.{is_input}
 use Rattle.commands.proofs.reading.inputs_among.Given as goal
 
 abbrev pub invariant-loop-file : goal.invariant-loop-file

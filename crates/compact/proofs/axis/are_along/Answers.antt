@@ -1,5 +1,5 @@
 use Rattle.std.proofs.Common.{◌≡◌, ◌&&◌, ◌+◌, ◌*◌, ℕ, Bool, true, arith, slice_index, subst, ap, refl}
-use Rattle.dissect.specs.Boxes.{web}
+use Rattle.dissect.specs.Boxes.{dart_map}
 use Rattle.compact.proofs.Stepping.{AreKeptTo, kept_next, kept_along}
 use Rattle.compact.proofs.axis.are_along.Goals as goal
 
@@ -22,7 +22,7 @@ loop-vertex-preserved c =
 
 pub returns-clause-x_along : goal.returns-clause-x_along
 returns-clause-x_along c = λ _.
-    let w = web c.args.boxes.now in
+    let w = dart_map c.args.boxes.now in
     let around = c.args.around.now in
     let x = c.args.x.now in
     let y = c.args.y.now in
@@ -33,7 +33,7 @@ returns-clause-x_along c = λ _.
 
 pub returns-clause-y_along : goal.returns-clause-y_along
 returns-clause-y_along c = λ _.
-    let w = web c.args.boxes.now in
+    let w = dart_map c.args.boxes.now in
     let around = c.args.around.now in
     let x = c.args.x.now in
     let y = c.args.y.now in

@@ -1,15 +1,15 @@
 use Rattle.std.proofs.Common.{◌≡◌, ◌≢◌, ◌+◌, ◌∙◌, ◌⊎◌, ◌<◌, ℕ, Vec, Global, arith, subst, sym, ap}
-use Rattle.compact.specs.declared.constraints.Constraint.{Constraint}
+use Rattle.compact.specs.declared.constraint_graph.Constraint.{Constraint}
 use Rattle.compact.specs.Ordered.{AreAlong, growth}
-use Rattle.directions.specs.Directions.{quarters}
-use Rattle.dissect.specs.Boxes.{web}
+use Rattle.geometry.specs.Directions.{quarters}
+use Rattle.dissect.specs.Boxes.{dart_map}
 use Rattle.compact.proofs.Constraining.{one_pushed, none_more, constraint_found, no_constraint_found}
 use Rattle.compact.proofs.axis.constraints_along.Goals as goal
 use Rattle.compact.proofs.axis.constraints_along.Goals.{in-Some+in_ok-push, in_default}
 
 pub loop-dart-preserved : goal.loop-dart-preserved
 loop-dart-preserved c =
-    let w = web c.args.boxes.now in
+    let w = dart_map c.args.boxes.now in
     let k = growth c.args.axis in
     let d = c.loop-dart.dart in
     let boxes = c.darts.ensures.boxes in
@@ -30,4 +30,4 @@ loop-dart-preserved c =
 pub returns : goal.returns
 returns c =
     let all : c.loop-dart.dart ≡ c.args.boxes.now.darts = omega (arith, c.loop-dart-test.false, c.loop-dart.auto.dart-end, c.darts-dart-end.ensures.value) in
-    subst (λ (n : ℕ). AreAlong (web c.args.boxes.now) (growth c.args.axis) n c.loop-dart.constraints.items) all c.loop-dart.invariant
+    subst (λ (n : ℕ). AreAlong (dart_map c.args.boxes.now) (growth c.args.axis) n c.loop-dart.constraints.items) all c.loop-dart.invariant

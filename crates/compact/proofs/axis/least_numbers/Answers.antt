@@ -4,8 +4,8 @@ use Rattle.compact.proofs.axis.least_numbers.Goals as goal
 pub returns-in-Err-clause-fault : goal.returns-in-Err-clause-fault
 returns-in-Err-clause-fault c = x_fault c.args.boxes.now c.in-Err.fault c.in-Err.ensures.fault
 
-pub returns-in-Err-settled_along-clause-fault : goal.returns-in-Err-settled_along-clause-fault
-returns-in-Err-settled_along-clause-fault c = y_fault c.args.boxes.now c.in-Err-settled_along.fault c.in-Err-settled_along.ensures.fault
+pub returns-in-Err-relaxed_along-clause-fault : goal.returns-in-Err-relaxed_along-clause-fault
+returns-in-Err-relaxed_along-clause-fault c = y_fault c.args.boxes.now c.in-Err-relaxed_along.fault c.in-Err-relaxed_along.ensures.fault
 
 pub returns-then-are_along-clause-x : goal.returns-then-are_along-clause-x
 returns-then-are_along-clause-x c =

@@ -1,16 +1,16 @@
 use Rattle.std.proofs.Common.{◌∙◌, sym, ap, inl, inr}
 use Rattle.std.proofs.lemmas.Bool.{cases_Bool}
 use denote.Enum.Bare.{differs_true, differs_false}
-use Rattle.directions.specs.contracts.Direction.{the_type}
-use Rattle.directions.specs.Directions.{quarters}
-use Rattle.dissect.specs.Boxes.{web}
+use Rattle.geometry.specs.contracts.direction.Direction.{the_type}
+use Rattle.geometry.specs.Directions.{quarters}
+use Rattle.dissect.specs.Boxes.{dart_map}
 use Rattle.compact.proofs.Walking.{same_way}
 use Rattle.compact.proofs.Numbers.{one_number}
 use Rattle.compact.proofs.corners.is_turn.Goals as goal
 
 pub returns : goal.returns
 returns c =
-    let same = same_way (web c.args.boxes.now) c.args.front c.args.dart c.direction.ensures.boxes.sound c.requires.front c.requires.dart in (
+    let same = same_way (dart_map c.args.boxes.now) c.args.front c.args.dart c.direction.ensures.boxes.sound c.requires.front c.requires.dart in (
       λ differs straight.
           let one = one_number c.direction.result c.direction-2.result (c.direction.ensures.value ∙ same.0 straight ∙ sym c.direction-2.ensures.value) in
           differs_true the_type c.direction.result c.direction-2.result (sym c.ne.ensures ∙ differs) one,

@@ -2,8 +2,8 @@ use Rattle.std.proofs.Common.{◌≡◌, ◌+◌, ◌-◌, ◌∙◌, ◌++◌, 
 use Rattle.std.proofs.lemmas.Bool.{cases_eq, both_ways}
 use Rattle.std.proofs.lemmas.List.{map_push, take_all}
 use Rattle.ortho_rep.specs.declared.points.Point.{Point}
-use Rattle.cutting.specs.Paths.{turn_to}
-use Rattle.dissect.specs.Boxes.{web}
+use Rattle.dissect.specs.Paths.{turn_to}
+use Rattle.dissect.specs.Boxes.{dart_map}
 use Rattle.compact.specs.Ordered.{point_at, places_along}
 use Rattle.compact.proofs.Walking.{place_between, between_straight, between_turn, places_more, places_one}
 use Rattle.compact.proofs.corners.push_corners.Goals as goal
@@ -11,14 +11,14 @@ use Rattle.compact.proofs.corners.push_corners.Goals.{then-is_turn+in_ok-push, e
 
 pub loop-k-init : goal.loop-k-init
 loop-k-init c =
-    let w = web c.args.boxes.now in
+    let w = dart_map c.args.boxes.now in
     let point = point_at (λ v. slice_index c.args.x.now v) (λ v. slice_index c.args.y.now v) in
     sym (append-nil c.args.corners.now.items)
     ∙ ap (λ (ds : List ℕ). c.args.corners.now.items ++ map point ds) (sym (places_one w c.args.path.now))
 
 pub loop-k-preserved : goal.loop-k-preserved
 loop-k-preserved c =
-    let w = web c.args.boxes.now in
+    let w = dart_map c.args.boxes.now in
     let ds = c.args.path.now in
     let k = c.loop-k.k in
     let old = c.args.corners.now.items in
@@ -51,4 +51,4 @@ pub returns : goal.returns
 returns c =
     let point = point_at (λ v. slice_index c.args.x.now v) (λ v. slice_index c.args.y.now v) in
     c.loop-k.invariant
-    ∙ ap (λ (ds : List ℕ). c.args.corners.now.items ++ map point (places_along (web c.args.boxes.now) ds)) (take_all c.loop-k.k c.args.path.now c.loop-k-test.false)
+    ∙ ap (λ (ds : List ℕ). c.args.corners.now.items ++ map point (places_along (dart_map c.args.boxes.now) ds)) (take_all c.loop-k.k c.args.path.now c.loop-k-test.false)

@@ -1,8 +1,8 @@
 use Rattle.std.proofs.Common.{◌≡◌, ◌<◌, ◌∙◌, ◌++◌, ℕ, List, [], ◌∷◌, length, All, slice_index, map, subst, sym, ap, refl, arith}
-use Rattle.cutting.specs.Paths.{turning_places}
+use Rattle.dissect.specs.Paths.{turning_places}
 use Rattle.ortho_rep.specs.declared.points.Point.{Point}
-use Rattle.ortho_rep.proofs.PushedLists.{joined-starts, joined-pushed, joined-IsCut, joined-cut}
-use Rattle.dissect.specs.Boxes.{web}
+use Rattle.ortho_rep.proofs.PushedLists.{joined-starts, joined-pushed, joined-AreStarts, joined-cut}
+use Rattle.dissect.specs.Boxes.{dart_map}
 use Rattle.compact.specs.Ordered.{point_at, places_along}
 use Rattle.compact.proofs.Walking.{path_below}
 use Rattle.compact.proofs.Placing.{IsCornersOf, one_corners}
@@ -16,7 +16,7 @@ loop-edge-init c =
 pub push_corners-requires-clause-inside : goal.push_corners-requires-clause-inside
 push_corners-requires-clause-inside c =
     let is = c.path.ensures.path in
-    subst (All (λ d. d < c.args.boxes.now.darts)) (sym is.listed) (path_below (web c.args.boxes.now) _ is.edge.first is.edge.rest is.edge.path)
+    subst (All (λ d. d < c.args.boxes.now.darts)) (sym is.listed) (path_below (dart_map c.args.boxes.now) _ is.edge.first is.edge.rest is.edge.path)
 
 pub loop-edge-preserved : goal.loop-edge-preserved
 loop-edge-preserved c =
@@ -25,10 +25,10 @@ loop-edge-preserved c =
     let y : ℕ → ℕ = λ v. slice_index c.args.y.now v in
     let e = c.loop-edge.edge in
     let is = c.path.ensures.path in
-    let points = map (point_at x y) (turning_places (web b) is.edge.first is.edge.rest) in
+    let points = map (point_at x y) (turning_places (dart_map b) is.edge.first is.edge.rest) in
     let old = c.loop-edge.corners.items in
     let pushed : c.push_corners.new.corners.items ≡ old ++ points =
-    c.in_ok-push_corners.ensures ∙ ap (λ (ds : List ℕ). old ++ map (point_at x y) (places_along (web b) ds)) is.listed in
+    c.in_ok-push_corners.ensures ∙ ap (λ (ds : List ℕ). old ++ map (point_at x y) (places_along (dart_map b) ds)) is.listed in
     joined-pushed c.loop-edge.starts.items _ old c.push_corners.new.corners.items points e c.len.result (IsCornersOf b x y)
     c.loop-edge.invariant pushed
     (λ piece h. pushed ∙ ap (λ (ps : List Point). old ++ ps) (one_corners b x y e points is.edge c.edges.ensures.boxes.few_darts refl h.edge ∙ sym h.is))
@@ -42,8 +42,8 @@ returns c =
     let pieces = joined-cut c.loop-edge.starts.items c.loop-edge.corners.items c.loop-edge.edge (IsCornersOf b x y) c.loop-edge.invariant in
     let all : c.loop-edge.edge ≡ length b.edges = omega (arith, c.loop-edge-test.false, c.loop-edge.auto.edge-end, c.edges-edge-end.ensures.value) in
     record {
-      places = joined-IsCut _ _ _ _ c.loop-edge.invariant;
+      places = joined-AreStarts _ _ _ _ c.loop-edge.invariant;
       count = pieces.0 ∙ all;
       corners = λ e e_in edge.
-          pieces.1 e (omega (arith, e_in, all)) (map (point_at x y) (turning_places (web b) edge.first edge.rest)) (record { edge = edge; is = refl });
+          pieces.1 e (omega (arith, e_in, all)) (map (point_at x y) (turning_places (dart_map b) edge.first edge.rest)) (record { edge = edge; is = refl });
     }

@@ -1,6 +1,6 @@
 use Rattle.std.proofs.Common.{◌∙◌, ◌≡◌, ◌+◌, ◌*◌, ◌<◌, ℕ, length, ap, refl, subst, arith}
 use Rattle.std.proofs.lemmas.List.{length-set}
-use Rattle.dissect.specs.Boxes.{web}
+use Rattle.dissect.specs.Boxes.{dart_map}
 use Rattle.compact.specs.Ordered.{tail}
 use Rattle.compact.specs.Steps.{HasSteps}
 use Rattle.compact.proofs.Stepping.{step_written, step_kept}
@@ -8,7 +8,7 @@ use Rattle.compact.proofs.steps.steps_of.Goals as goal
 
 pub loop-dart-preserved : goal.loop-dart-preserved
 loop-dart-preserved c =
-    let w = web c.args.boxes.now in
+    let w = dart_map c.args.boxes.now in
     let d = c.loop-dart.dart in
     let old = c.loop-dart.around.items in
     let d_in : d < w.darts = omega (arith, c.loop-dart-test.true, c.darts-dart-end.ensures.value) in
@@ -26,4 +26,4 @@ loop-dart-preserved c =
 pub returns-clause-all_steps : goal.returns-clause-all_steps
 returns-clause-all_steps c =
     let all : c.loop-dart.dart ≡ c.args.boxes.now.darts = omega (arith, c.loop-dart-test.false, c.loop-dart.auto.dart-end, c.darts-dart-end.ensures.value) in
-    subst (λ (n : ℕ). HasSteps (web c.args.boxes.now) c.loop-dart.around.items n) all c.loop-dart.invariant.all_steps
+    subst (λ (n : ℕ). HasSteps (dart_map c.args.boxes.now) c.loop-dart.around.items n) all c.loop-dart.invariant.all_steps

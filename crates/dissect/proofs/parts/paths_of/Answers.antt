@@ -1,24 +1,24 @@
 use Rattle.std.proofs.Common.{◌≡◌, ◌∙◌, ◌++◌, ℕ, List, [], ◌∷◌, length, slice_index, slice_index_or, ap, arith, subst, sym, refl}
-use Rattle.cutting.specs.Tables.{web_of}
-use Rattle.cutting.specs.Paths.{IsPath}
+use Rattle.dissect.specs.Tables.{dart_map_of}
+use Rattle.dissect.specs.Paths.{IsPath}
 use Rattle.dissect.proofs.PathsOfEdges.{IsPathOf}
-use Rattle.ortho_rep.proofs.PushedLists.{joined-starts, joined-pushed, joined-IsCut, joined-cut}
+use Rattle.ortho_rep.proofs.PushedLists.{joined-starts, joined-pushed, joined-AreStarts, joined-cut}
 use Rattle.dissect.proofs.parts.paths_of.Goals as goal
 
 pub edges-init : goal.edges-init
 edges-init c =
-    joined-starts c.push.new.self.items c.in_ok-darts.darts.items (IsPathOf (web_of c.args.table.now) c.args.edges.now)
+    joined-starts c.push.new.self.items c.in_ok-darts.darts.items (IsPathOf (dart_map_of c.args.table.now) c.args.edges.now)
     (c.in_ok-push.ensures.items ∙ ap (λ (s : List ℕ). s ++ (0 ∷ [])) c.in_ok-starts.ensures.items) c.in_ok-darts.ensures.items
 
 pub push_path-requires : goal.push_path-requires
 push_path-requires c =
     let e = c.edges.last-index in
     let path = c.requires.paths e c.edges-test.true in
-    record { path = (path.0, path.1, subst (λ (d : ℕ). IsPath (web_of c.args.table.now) d path.0 path.1) (sym c.from.ensures) path.2) }
+    record { path = (path.0, path.1, subst (λ (d : ℕ). IsPath (dart_map_of c.args.table.now) d path.0 path.1) (sym c.from.ensures) path.2) }
 
 pub edges-preserved : goal.edges-preserved
 edges-preserved c =
-    let w = web_of c.args.table.now in
+    let w = dart_map_of c.args.table.now in
     let es = c.args.edges.now in
     let e = c.edges.last-index in
     let path = c.requires.paths e c.edges-test.true in
@@ -31,11 +31,11 @@ edges-preserved c =
     (omega (arith, c.len.ensures, c.push_path.new.darts.ok)) c.in_ok-push-2.ensures.items
 
 pub new-requires : goal.new-requires
-new-requires c = joined-IsCut _ _ _ _ c.edges.invariant
+new-requires c = joined-AreStarts _ _ _ _ c.edges.invariant
 
 pub returns : goal.returns
 returns c =
-    let w = web_of c.args.table.now in
+    let w = dart_map_of c.args.table.now in
     let es = c.args.edges.now in
     let pieces = joined-cut c.edges.starts.items c.edges.darts.items c.edges.last-index (IsPathOf w es) c.edges.invariant in
     let all : c.edges.last-index ≡ length es = omega (arith, c.edges-test.false, c.edges.auto.last-index-end) in

@@ -2,10 +2,10 @@ use Rattle.std.proofs.Common.{◌≡◌, ◌<◌, ◌≤◌, ◌∙◌, ℕ, ◌
 use Rattle.std.proofs.lemmas.List.{get_or_read, take_all, take_at, take-append-le, drop_at, drop-append-le, length-drop, length-reverse}
 use Rattle.std.proofs.lemmas.Slice.{take-put_mid}
 use borrow.Rule.Slice.PartMut.{put_mid, mid_of}
-use Rattle.cutting.specs.Webs.{no_dart}
-use Rattle.cutting.specs.Tables.{web_of}
-use Rattle.cutting.specs.Paths.{IsPath}
-use Rattle.cutting.proofs.Reading.{length-put_mid}
+use Rattle.dissect.specs.DartMaps.{no_dart}
+use Rattle.dissect.specs.Tables.{dart_map_of}
+use Rattle.dissect.specs.Paths.{IsPath}
+use Rattle.dissect.proofs.Reading.{length-put_mid}
 use Rattle.dissect.proofs.DartsInFront.{IsOnWay, depth, path_last_in, way_starts, way_on, way_ends}
 use Rattle.dissect.proofs.parts.push_path.Goals as goal
 
@@ -24,7 +24,7 @@ end_of xs a = take_all (length xs - a) (drop a xs) (omega (arith, length-drop a 
 
 pub back-init : goal.back-init
 back-init c =
-    let w = web_of c.args.table.now in
+    let w = dart_map_of c.args.table.now in
     let (first, rest, path) = c.requires.path in
     let old = c.args.darts.now.items in
     let a = c.len-start.result in
@@ -39,17 +39,17 @@ back-init c =
     }
 
 -- one dart further back
-step_of : (c : goal.In_ok-push-2) → (first : ℕ) (rest : List ℕ) → IsPath (web_of c.args.table.now) c.args.last first rest →
-    IsOnWay (web_of c.args.table.now) (first ∷ rest) c.index-dart.result.now
+step_of : (c : goal.In_ok-push-2) → (first : ℕ) (rest : List ℕ) → IsPath (dart_map_of c.args.table.now) c.args.last first rest →
+    IsOnWay (dart_map_of c.args.table.now) (first ∷ rest) c.index-dart.result.now
     (drop c.len-start.result c.back.darts.items ++ (c.index-dart.result.now ∷ []))
     × (c.index-dart.result.now < c.args.table.now.darts)
-    × (depth (web_of c.args.table.now) c.args.table.now.darts c.index-dart.result.now < depth (web_of c.args.table.now) c.args.table.now.darts c.back.dart)
+    × (depth (dart_map_of c.args.table.now) c.args.table.now.darts c.index-dart.result.now < depth (dart_map_of c.args.table.now) c.args.table.now.darts c.back.dart)
 step_of c first rest path =
     let t = c.args.table.now in
     let there : c.back.dart < length t.before.items = omega (arith, c.back.invariant.inside, t.darts_in, t.before_room, t.before.ok.0) in
     let test = get_or_read t.before.items c.back.dart c.index.result.now there c.index.ensures 0 in
     let read = get_or_read t.before.items c.back.dart c.index-dart.result.now there c.index-dart.ensures 0 in
-    way_on (web_of t) (first ∷ rest) c.back.dart c.index-dart.result.now (drop c.len-start.result c.back.darts.items)
+    way_on (dart_map_of t) (first ∷ rest) c.back.dart c.index-dart.result.now (drop c.len-start.result c.back.darts.items)
     (omega (arith, t.darts_in, t.narrow)) (sym read) (λ none. c.back-test.true (test ∙ sym read ∙ none))
     (c.back.invariant.way first rest path)
 
@@ -72,7 +72,7 @@ back-preserved c =
       long = omega (arith, ap length all, length-append xs (d ∷ []), c.back.invariant.long);
       before = ap (take a) all ∙ take-append-le a xs (d ∷ []) c.back.invariant.long ∙ c.back.invariant.before;
       way = λ first rest path.
-          subst (IsOnWay (web_of c.args.table.now) (first ∷ rest) d) (sym more) (step_of c first rest path).0;
+          subst (IsOnWay (dart_map_of c.args.table.now) (first ∷ rest) d) (sym more) (step_of c first rest path).0;
     }
 
 pub returns : goal.returns
@@ -94,5 +94,5 @@ returns c = λ first rest path.
     ∙ ap (λ (zs : List ℕ). take a zs ++ ys) same
     ∙ ap (λ (zs : List ℕ). zs ++ ys) c.back.invariant.before
     ∙ ap (λ (zs : List ℕ). c.args.darts.now.items ++ zs) (turned
-    ∙ way_ends (web_of t) (first ∷ rest) c.back.dart (drop a xs) (omega (arith, t.darts_in, t.narrow)) none
+    ∙ way_ends (dart_map_of t) (first ∷ rest) c.back.dart (drop a xs) (omega (arith, t.darts_in, t.narrow)) none
     (c.back.invariant.way first rest path))

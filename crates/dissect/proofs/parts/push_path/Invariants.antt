@@ -1,6 +1,6 @@
 use Rattle.std.proofs.Common.{◌≡◌, ◌<◌, ◌≤◌, ℕ, List, ◌∷◌, length, take, drop}
-use Rattle.cutting.specs.Tables.{web_of}
-use Rattle.cutting.specs.Paths.{IsPath}
+use Rattle.dissect.specs.Tables.{dart_map_of}
+use Rattle.dissect.specs.Paths.{IsPath}
 use Rattle.dissect.proofs.DartsInFront.{IsOnWay, depth}
 use Rattle.dissect.proofs.parts.push_path.Given as goal
 
@@ -9,9 +9,9 @@ invariant-back l = record {
   inside : l.dart < l.table.darts;
   long : l.start ≤ length l.darts.items;
   before : take l.start l.darts.items ≡ l.fn.darts.items;
-  way : (first : ℕ) (rest : List ℕ) → IsPath (web_of l.table) l.last first rest →
-      IsOnWay (web_of l.table) (first ∷ rest) l.dart (drop l.start l.darts.items);
+  way : (first : ℕ) (rest : List ℕ) → IsPath (dart_map_of l.table) l.last first rest →
+      IsOnWay (dart_map_of l.table) (first ∷ rest) l.dart (drop l.start l.darts.items);
 }
 
 abbrev pub decreases-back : goal.decreases-back
-decreases-back l = depth (web_of l.table) l.table.darts l.dart
+decreases-back l = depth (dart_map_of l.table) l.table.darts l.dart

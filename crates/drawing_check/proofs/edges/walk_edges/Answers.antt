@@ -1,7 +1,7 @@
 use Rattle.std.proofs.Common.{◌≡◌, ◌↔◌, ◌<◌, ◌++◌, ℕ, List, length, map, true, false, refl, sym, ap, ◌∙◌, subst, arith, All}
 use Rattle.std.specs.List.{flat_map}
 use Rattle.std.proofs.lemmas.Bool.{lt-ltb, le-ltb}
-use Rattle.rectangles.specs.declared.Rectangle.{Rectangle}
+use Rattle.geometry.specs.declared.rectangles.Rectangle.{Rectangle}
 use Rattle.faces.specs.Planes.{darts, reverse_dart}
 use Rattle.ortho_rep.specs.declared.points.Point.{Point}
 use Rattle.ortho_rep.specs.declared.turn.Turn.{Turn}
@@ -40,8 +40,8 @@ loop-dart-preserved c =
       | then-dart-reverse w ↦
           let lesser : is_lesser p dart ≡ true = lt-ltb dart (reverse_dart p dart) (omega (arith, reverse_dart_is, w.if-dart-reverse.true)) in
           let route = w.route_of-route in
-          let seen = w.see_route-path.ensures in
-          let path = w.see_route-path.result in
+          let seen = w.examine_route-path.ensures in
+          let path = w.examine_route-path.result in
           let grid : path.in_grid ≡ true ↔ All IsInGrid (corners_at points c.loop-dart.edge) =
           subst (λ (ps : List Point). path.in_grid ≡ true ↔ All IsInGrid ps) route.ensures.corners seen.in_grid in
           let on_axes : path.on_axes ≡ true ↔ straight dart =
@@ -55,7 +55,7 @@ loop-dart-preserved c =
             on_axes = rw w.on_axes-is (flag_more straight p dart c.loop-dart.on_axes w.both-on_axes.result path.on_axes w.both-on_axes.ensures on_axes lesser so_far.on_axes);
             turning = rw w.turning-is (flag_more turning p dart c.loop-dart.turning w.both-turning.result path.turning w.both-turning.ensures fits lesser so_far.turning);
             listed = rw (w.listed-is, w.rectangles-is) (λ t.
-                paths_step base c.loop-dart.rectangles.items w.see_route-path.new.rectangles.items (paths_below p points dart) (path_along p points dart) (so_far.listed (seen.before t))
+                paths_step base c.loop-dart.rectangles.items w.examine_route-path.new.rectangles.items (paths_below p points dart) (path_along p points dart) (so_far.listed (seen.before t))
                 (seen.added t ∙ ap (λ (ps : List Point). c.loop-dart.rectangles.items ++ strips ps) route.ensures.path)
                 ∙ ap (λ (ps : List (List Point)). base ++ flat_map strips ps) (sym (paths_below-more p points dart lesser)));
             leaving =

@@ -1,8 +1,8 @@
 use Rattle.std.proofs.Common.{◌≡◌, ℕ, ◌<◌, refl, sym, ap, ◌∙◌, below_more, arith}
 use Rattle.std.proofs.lemmas.Bool.{false≢true}
 use denote.Enum.Bare.{differs_true, differs_false}
-use Rattle.directions.specs.contracts.Direction.{the_type}
-use Rattle.directions.specs.Directions.{lefts}
+use Rattle.geometry.specs.contracts.direction.Direction.{the_type}
+use Rattle.geometry.specs.Directions.{lefts}
 use Rattle.faces.specs.Planes.{darts, reverse_dart, next}
 use Rattle.ortho_rep.specs.Shapes.{angle_at}
 use Rattle.drawing_check.specs.Routes.{direction_at}

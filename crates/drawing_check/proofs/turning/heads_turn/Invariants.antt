@@ -1,5 +1,5 @@
 use Rattle.std.proofs.Common.{◌≡◌, ℕ, ◌<◌}
-use Rattle.directions.specs.Directions.{lefts}
+use Rattle.geometry.specs.Directions.{lefts}
 use Rattle.faces.specs.Planes.{reverse_dart, next}
 use Rattle.ortho_rep.specs.Shapes.{angle_at}
 use Rattle.drawing_check.specs.Routes.{direction_at}

@@ -1,8 +1,8 @@
 use Rattle.std.proofs.Common.{◌≡◌, ℕ, ◌+◌, List, get_or, sym, ap, ◌∙◌, below_more, arith}
 use Rattle.std.proofs.lemmas.Bool.{false≢true}
 use denote.Enum.Bare.{differs_true, differs_false}
-use Rattle.directions.specs.declared.Direction.{Direction}
-use Rattle.directions.specs.contracts.Direction.{the_type}
+use Rattle.geometry.specs.declared.direction.Direction.{Direction}
+use Rattle.geometry.specs.contracts.direction.Direction.{the_type}
 use Rattle.ortho_rep.specs.declared.points.Point.{Point}
 use Rattle.ortho_rep.specs.declared.turn.Turn.TheVariants.{Left}
 use Rattle.drawing_check.specs.Routes.{path_of}

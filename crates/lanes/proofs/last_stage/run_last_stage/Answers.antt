@@ -9,9 +9,9 @@ pub loop-preserved-in-Ok : goal.loop-preserved-in-Ok
 loop-preserved-in-Ok g c = record {
   from_same = c.take.ensures.link ∙ c.loop.invariant.from_same;
   to_same = (c.give.ensures.lane.0 ∙ c.loop.invariant.to_same.0, c.give.ensures.lane.1 ∙ c.loop.invariant.to_same.1);
-  same = passed_one _ _ _ _ _ _ c.in-Ok-Item.field-0 (Item c.next-in-Ok-Item.result) c.loop.invariant.same c.in-Ok-Item.ensures.ok c.in-Ok.ensures.ok
-      (ap notes.Item c.next-in-Ok-Item.ensures ∙ ap (note g.A.Numbered.about) (sym c.in-Ok-Item.field-0-is));
-  going = goes_item _ _ _ (Item c.next-in-Ok-Item.result) c.next-in-Ok-Item.result c.loop.invariant.going c.in-Ok.ensures.ok refl;
+  same = passed_one _ _ _ _ _ _ c.in-Ok-Item.field-0 (Item c.work.result) c.loop.invariant.same c.in-Ok-Item.ensures.ok c.in-Ok.ensures.ok
+      (ap notes.Item c.work.ensures ∙ ap (note g.A.Numbered.about) (sym c.in-Ok-Item.field-0-is));
+  going = goes_item _ _ _ (Item c.work.result) c.work.result c.loop.invariant.going c.in-Ok.ensures.ok refl;
   on = goes_item _ _ _ c.in-Ok-Item.field-0 c.in-Ok-Item.item c.loop.invariant.on c.in-Ok-Item.ensures.ok c.in-Ok-Item.field-0-is;
 }
 

@@ -1,6 +1,6 @@
 use Rattle.std.proofs.Common.{◌≡◌, ◌≤◌, ◌<◌, ℕ, length}
 use Rattle.std.specs.Prelude.{◌==◌, if◌then◌else◌, slice_index}
-use Rattle.sums.specs.Sums.{sum_below}
+use Rattle.common.specs.Sums.{sum_below}
 use Rattle.least_length.specs.Lengths.{edge_at}
 use Rattle.least_length.proofs.balance.add_edges.Given as goal
 

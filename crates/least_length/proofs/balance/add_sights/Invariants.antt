@@ -1,7 +1,7 @@
 use Rattle.std.proofs.Common.{◌≡◌, ◌≤◌, ◌<◌, ◌+◌, ◌*◌, ◌^◌, ℕ, length}
 use Rattle.std.specs.Prelude.{◌==◌, if◌then◌else◌, slice_index}
-use Rattle.sums.specs.Sums.{sum_below}
-use Rattle.least_length.specs.declared.rows.TheConstants.{MAX_EDGES}
+use Rattle.common.specs.Sums.{sum_below}
+use Rattle.least_length.specs.declared.segments.TheConstants.{MAX_EDGES}
 use Rattle.least_length.specs.Weights.{sight_at}
 use Rattle.least_length.proofs.balance.add_sights.Given as goal
 

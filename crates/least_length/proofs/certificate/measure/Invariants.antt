@@ -1,5 +1,5 @@
 use Rattle.std.proofs.Common.{◌≡◌, ◌≤◌, ◌*◌, ◌^◌}
-use Rattle.sums.specs.Sums.{sum_below}
+use Rattle.common.specs.Sums.{sum_below}
 use Rattle.least_length.specs.Lengths.{distance, edge_at, numbers_in}
 use Rattle.least_length.proofs.certificate.measure.Given as goal
 

@@ -1,6 +1,6 @@
 use Rattle.std.proofs.Common.{◌≡◌, ◌<◌, ℕ}
 use Rattle.std.specs.Prelude.{length}
-use Rattle.shortest_paths.specs.Search.{far, labels, enters, orders, places}
+use Rattle.networks.specs.Search.{far, labels, enters, orders, places}
 use Rattle.min_cost_flow.proofs.solver.clear.Given as goal
 
 abbrev pub invariant-loop-j : goal.invariant-loop-j

@@ -6,9 +6,9 @@ use mir.Val.{SFits, of_z}
 use Rattle.networks.specs.Networks.{node_count}
 use Rattle.networks.specs.Flow.{at_nodes}
 use Rattle.networks.specs.ResidualArcs.{reverse_at}
-use Rattle.shortest_paths.specs.Search.{far, labels, enters, orders, places, IsGraph, IsPriced, IsReached, IsNearest, IsServed, IsLeft}
-use Rattle.shortest_paths.proofs.Signs.{same_from_bits}
-use Rattle.shortest_paths.proofs.Reaching.{strictly, reached_fits}
+use Rattle.networks.specs.Search.{far, labels, enters, orders, places, IsGraph, AreFeasiblePotentials, IsReached, IsNearest, IsServed, IsLeft}
+use Rattle.networks.proofs.Signs.{same_from_bits}
+use Rattle.networks.proofs.Reaching.{strictly, reached_fits}
 use Rattle.min_cost_flow.proofs.Solving.{is_graph, is_priced, can_augment, nothing_found, path_looks, short_path, label_bounds}
 use Rattle.min_cost_flow.proofs.solver.find_path.Goals as goal
 
@@ -21,13 +21,13 @@ run-search-requires-clause-blank c =
     let arcs = c.args.residual.now.arcs.items in
     let p = at_nodes c.args.nodes.now.potential.items in
     let e = at_nodes c.args.nodes.now.excess.items in
-    let g : IsGraph (node_count net) first arcs = is_graph _ _ _ _ _ _ r.network r.residual.laid_out r.residual.filled in
-    let pr : IsPriced (node_count net) first arcs p e = is_priced _ _ _ _ _ _ _ _ r.network r.residual.laid_out r.residual.filled r.round in
+    let g : IsGraph (node_count net) first arcs = is_graph _ _ _ _ _ _ r.network r.residual.arcs_built r.residual.filled in
+    let pr : AreFeasiblePotentials (node_count net) first arcs p e = is_priced _ _ _ _ _ _ _ _ r.network r.residual.arcs_built r.residual.filled r.round in
     rw (c.deref.ensures.value, c.deref-2.ensures.value, c.deref-3.ensures.value, c.deref-4.ensures.value) (record {
-      ground = record {
+      input = record {
         excesses = r.excesses ∙ sym n;
         graph = subst (λ (t : ℕ). IsGraph t first arcs) (sym n) g;
-        priced = subst (λ (t : ℕ). IsPriced t first arcs p e) (sym n) pr;
+        priced = subst (λ (t : ℕ). AreFeasiblePotentials t first arcs p e) (sym n) pr;
         source = omega (arith, c.requires.source, r.excesses, n);
       };
       size = r.labels ∙ sym n;
@@ -47,17 +47,17 @@ returns-then-search-clause-no_flow c net r =
     let exc = c.args.nodes.now.excess.items in
     let p = at_nodes pot in
     let x = at_nodes exc in
-    let re0 : IsReached (length pot) first arcs p x c.args.source (labels t) (enters t) (orders t) (places t) t.head t.ordered t.reached t.level = rw (c.deref.ensures.value, c.deref-2.ensures.value, c.deref-3.ensures.value, c.deref-4.ensures.value) at h.reached in
-    let sv0 : IsServed (length pot) first arcs p (labels t) (places t) t.cut t.head = rw (c.deref.ensures.value, c.deref-2.ensures.value, c.deref-3.ensures.value) at f.served in
-    let left0 : IsLeft (length pot) p (labels t) (places t) t.head t.cut = rw c.deref-3.ensures.value at f.left in
+    let re0 : IsReached (length pot) first arcs p x c.args.source (labels t) (enters t) (orders t) (places t) t.scanned t.ordered t.reached t.level = rw (c.deref.ensures.value, c.deref-2.ensures.value, c.deref-3.ensures.value, c.deref-4.ensures.value) at h.reached in
+    let sv0 : IsServed (length pot) first arcs p (labels t) (places t) t.bound t.scanned = rw (c.deref.ensures.value, c.deref-2.ensures.value, c.deref-3.ensures.value) at f.served in
+    let left0 : IsLeft (length pot) p (labels t) (places t) t.scanned t.bound = rw c.deref-3.ensures.value at f.left in
     let n = r.potentials in
-    let fc : SFits w32 t.cut = search rules in
+    let fc : SFits w32 t.bound = search rules in
     let ff : SFits w32 far = search rules in
-    let cut : t.cut ≡ far = same_from_bits _ _ fc ff c.if-search.true in
-    let re = subst (λ (k : ℕ). IsReached k first arcs p x c.args.source (labels t) (enters t) (orders t) (places t) t.head t.ordered t.reached t.level) n re0 in
-    let sv = subst (λ (k : ℕ). IsServed k first arcs p (labels t) (places t) t.cut t.head) n sv0 in
-    let left = subst (λ (k : ℕ). IsLeft k p (labels t) (places t) t.head t.cut) n left0 in
-    nothing_found _ _ _ _ _ _ _ _ _ _ _ _ _ _ _ _ _ _ r.network r.residual.laid_out r.residual.filled r.round re sv left cut c.requires.left
+    let bound : t.bound ≡ far = same_from_bits _ _ fc ff c.if-search.true in
+    let re = subst (λ (k : ℕ). IsReached k first arcs p x c.args.source (labels t) (enters t) (orders t) (places t) t.scanned t.ordered t.reached t.level) n re0 in
+    let sv = subst (λ (k : ℕ). IsServed k first arcs p (labels t) (places t) t.bound t.scanned) n sv0 in
+    let left = subst (λ (k : ℕ). IsLeft k p (labels t) (places t) t.scanned t.bound) n left0 in
+    nothing_found _ _ _ _ _ _ _ _ _ _ _ _ _ _ _ _ _ _ r.network r.residual.arcs_built r.residual.filled r.round re sv left bound c.requires.left
 
 pub update_potentials-requires : goal.update_potentials-requires
 update_potentials-requires c =
@@ -73,21 +73,21 @@ update_potentials-requires c =
     let exc = c.args.nodes.now.excess.items in
     let p = at_nodes pot in
     let x = at_nodes exc in
-    let re0 : IsReached (length pot) first arcs p x c.args.source (labels t) (enters t) (orders t) (places t) t.head t.ordered t.reached t.level = rw (c.deref.ensures.value, c.deref-2.ensures.value, c.deref-3.ensures.value, c.deref-4.ensures.value) at h.reached in
-    let near0 : IsNearest (length pot) first arcs p x c.args.source (labels t) (places t) t.head t.level t.cut t.found = rw (c.deref.ensures.value, c.deref-2.ensures.value, c.deref-3.ensures.value, c.deref-4.ensures.value) at h.nearest in
-    let g0 : IsGraph (length pot) first arcs = rw (c.deref.ensures.value, c.deref-2.ensures.value, c.deref-3.ensures.value) at h.ground.graph in
-    let hit : t.cut <ℤ far = strictly _ _ near0.most (λ q. c.if-search.false (ap (of_z w32) q)) in
-    let pr0 = rw (c.deref.ensures.value, c.deref-2.ensures.value, c.deref-3.ensures.value, c.deref-4.ensures.value) at h.ground.priced in
+    let re0 : IsReached (length pot) first arcs p x c.args.source (labels t) (enters t) (orders t) (places t) t.scanned t.ordered t.reached t.level = rw (c.deref.ensures.value, c.deref-2.ensures.value, c.deref-3.ensures.value, c.deref-4.ensures.value) at h.reached in
+    let near0 : IsNearest (length pot) first arcs p x c.args.source (labels t) (places t) t.scanned t.level t.bound t.found = rw (c.deref.ensures.value, c.deref-2.ensures.value, c.deref-3.ensures.value, c.deref-4.ensures.value) at h.nearest in
+    let g0 : IsGraph (length pot) first arcs = rw (c.deref.ensures.value, c.deref-2.ensures.value, c.deref-3.ensures.value) at h.input.graph in
+    let hit : t.bound <ℤ far = strictly _ _ near0.most (λ q. c.if-search.false (ap (of_z w32) q)) in
+    let pr0 = rw (c.deref.ensures.value, c.deref-2.ensures.value, c.deref-3.ensures.value, c.deref-4.ensures.value) at h.input.priced in
     let b : c.args.source < node_count net = omega (arith, c.requires.source, r.excesses) in
     let size : length t.visits.now ≡ length pot = rw c.deref-3.ensures.value at h.size in
-    let le : t.head ≤ node_count net = omega (arith, re0.counts, r.potentials) in
+    let le : t.scanned ≤ node_count net = omega (arith, re0.counts, r.potentials) in
     rw c.deref_mut.ensures.value (record {
       order = omega (arith, re0.counts, size);
       small = omega (arith, r.potentials, r.network.small);
-      scanned = λ j b. re0.node j (omega (arith, re0.counts));
+      are_scanned = λ j b. re0.node j (omega (arith, re0.counts));
       sizes = size;
       labels = λ j b. reached_fits _ _ _ _ _ _ _ _ _ _ _ _ _ _ (orders t j) g0 pr0 re0 (re0.node j (omega (arith, re0.counts))) (re0.marked j (omega (arith, re0.counts)));
-      cut = label_bounds _ t.head (p c.args.source) t.cut r.network.small.0 le (near0.hit hit).near (r.round.low c.args.source b);
+      bound = label_bounds _ t.scanned (p c.args.source) t.bound r.network.small.0 le (near0.hit hit).near (r.round.low c.args.source b);
     })
 
 pub clear-requires : goal.clear-requires
@@ -95,7 +95,7 @@ clear-requires c =
     let h = c.run-search.ensures.search in
     record {
       order = omega (arith, h.size, h.reached.counts.2);
-      small = omega (arith, h.size, h.ground.graph.nodes);
+      small = omega (arith, h.size, h.input.graph.nodes);
       nodes = λ j b. omega (arith, h.size, h.reached.node j b);
     }
 
@@ -111,12 +111,12 @@ returns-clause-found c net r =
     let exc = c.args.nodes.now.excess.items in
     let p = at_nodes pot in
     let x = at_nodes exc in
-    let re0 : IsReached (length pot) first arcs p x c.args.source (labels t) (enters t) (orders t) (places t) t.head t.ordered t.reached t.level = rw (c.deref.ensures.value, c.deref-2.ensures.value, c.deref-3.ensures.value, c.deref-4.ensures.value) at h.reached in
-    let near0 : IsNearest (length pot) first arcs p x c.args.source (labels t) (places t) t.head t.level t.cut t.found = rw (c.deref.ensures.value, c.deref-2.ensures.value, c.deref-3.ensures.value, c.deref-4.ensures.value) at h.nearest in
-    let g0 : IsGraph (length pot) first arcs = rw (c.deref.ensures.value, c.deref-2.ensures.value, c.deref-3.ensures.value) at h.ground.graph in
-    let sv0 : IsServed (length pot) first arcs p (labels t) (places t) t.cut t.head = rw (c.deref.ensures.value, c.deref-2.ensures.value, c.deref-3.ensures.value) at f.served in
-    let left0 : IsLeft (length pot) p (labels t) (places t) t.head t.cut = rw c.deref-3.ensures.value at f.left in
-    let hit : t.cut <ℤ far = strictly _ _ near0.most (λ q. c.if-search.false (ap (of_z w32) q)) in
+    let re0 : IsReached (length pot) first arcs p x c.args.source (labels t) (enters t) (orders t) (places t) t.scanned t.ordered t.reached t.level = rw (c.deref.ensures.value, c.deref-2.ensures.value, c.deref-3.ensures.value, c.deref-4.ensures.value) at h.reached in
+    let near0 : IsNearest (length pot) first arcs p x c.args.source (labels t) (places t) t.scanned t.level t.bound t.found = rw (c.deref.ensures.value, c.deref-2.ensures.value, c.deref-3.ensures.value, c.deref-4.ensures.value) at h.nearest in
+    let g0 : IsGraph (length pot) first arcs = rw (c.deref.ensures.value, c.deref-2.ensures.value, c.deref-3.ensures.value) at h.input.graph in
+    let sv0 : IsServed (length pot) first arcs p (labels t) (places t) t.bound t.scanned = rw (c.deref.ensures.value, c.deref-2.ensures.value, c.deref-3.ensures.value) at f.served in
+    let left0 : IsLeft (length pot) p (labels t) (places t) t.scanned t.bound = rw c.deref-3.ensures.value at f.left in
+    let hit : t.bound <ℤ far = strictly _ _ near0.most (λ q. c.if-search.false (ap (of_z w32) q)) in
     let up = c.update_potentials.ensures in
     let old = c.args.nodes.now.potential in
     let new = c.update_potentials.new.potential in
@@ -141,13 +141,13 @@ returns-clause-short c =
     let exc = c.args.nodes.now.excess.items in
     let p = at_nodes pot in
     let x = at_nodes exc in
-    let re0 : IsReached (length pot) first arcs p x c.args.source (labels t) (enters t) (orders t) (places t) t.head t.ordered t.reached t.level = rw (c.deref.ensures.value, c.deref-2.ensures.value, c.deref-3.ensures.value, c.deref-4.ensures.value) at h.reached in
-    let near0 : IsNearest (length pot) first arcs p x c.args.source (labels t) (places t) t.head t.level t.cut t.found = rw (c.deref.ensures.value, c.deref-2.ensures.value, c.deref-3.ensures.value, c.deref-4.ensures.value) at h.nearest in
-    let hit : t.cut <ℤ far = strictly _ _ near0.most (λ q. c.if-search.false (ap (of_z w32) q)) in
+    let re0 : IsReached (length pot) first arcs p x c.args.source (labels t) (enters t) (orders t) (places t) t.scanned t.ordered t.reached t.level = rw (c.deref.ensures.value, c.deref-2.ensures.value, c.deref-3.ensures.value, c.deref-4.ensures.value) at h.reached in
+    let near0 : IsNearest (length pot) first arcs p x c.args.source (labels t) (places t) t.scanned t.level t.bound t.found = rw (c.deref.ensures.value, c.deref-2.ensures.value, c.deref-3.ensures.value, c.deref-4.ensures.value) at h.nearest in
+    let hit : t.bound <ℤ far = strictly _ _ near0.most (λ q. c.if-search.false (ap (of_z w32) q)) in
     let n = r.potentials in
     let q = c.clear.ensures.cleared in
-    let re = subst (λ (k : ℕ). IsReached k first arcs p x c.args.source (labels t) (enters t) (orders t) (places t) t.head t.ordered t.reached t.level) n re0 in
-    let near = subst (λ (k : ℕ). IsNearest k first arcs p x c.args.source (labels t) (places t) t.head t.level t.cut t.found) n near0 in
-    let short = path_looks _ _ _ _ _ _ _ _ _ _ _ _ _ _ _ _ _ _ _ r.residual.laid_out r.residual.filled re (near.hit hit) in
+    let re = subst (λ (k : ℕ). IsReached k first arcs p x c.args.source (labels t) (enters t) (orders t) (places t) t.scanned t.ordered t.reached t.level) n re0 in
+    let near = subst (λ (k : ℕ). IsNearest k first arcs p x c.args.source (labels t) (places t) t.scanned t.level t.bound t.found) n near0 in
+    let short = path_looks _ _ _ _ _ _ _ _ _ _ _ _ _ _ _ _ _ _ _ r.residual.arcs_built r.residual.filled re (near.hit hit) in
     let looks = rw c.deref.ensures.value at f.looks in
-    short_path _ t c.clear.new.search arcs (reverse_at res.rooms.items) first c.args.looks.now c.run-search.new.looks q (search (rules, f.list, c.clear.ensures.list)) short looks
+    short_path _ t c.clear.new.search arcs (reverse_at res.capacities.items) first c.args.looks.now c.run-search.new.looks q (search (rules, f.list, c.clear.ensures.list)) short looks

@@ -27,7 +27,7 @@ returns c =
     let searches_is : solved.searches ≡ l.searches = ap (λ (a : SolvedModel). a.searches) c.new-3.ensures in
     let looks_is : solved.looks ≡ l.looks = ap (λ (a : SolvedModel). a.looks) c.new-3.ensures in
     let read = rw (c.deref.ensures.value, c.deref_mut.ensures.value) at c.read_flow.ensures in
-    let long : length c.read_flow.new.flow ≡ arc_count net = omega (arith, r.residual.laid_out.forwards, ap (length {A = ℕ}) c.deref_mut.ensures.value) in
+    let long : length c.read_flow.new.flow ≡ arc_count net = omega (arith, r.residual.arcs_built.forwards, ap (length {A = ℕ}) c.deref_mut.ensures.value) in
     let done : IsRoundDone net (amounts c.read_flow.new.flow) (at_nodes l.nodes.potential.items) l.searches l.looks = done_same net (flow_of l.residual) (amounts c.read_flow.new.flow) (at_nodes l.nodes.potential.items) l.searches l.looks (λ i b. read i (omega (arith, long))) (c.solve.ensures.done yes) in
     let at : IsRoundDone net (amounts solved.flow) (at_nodes solved.potential) solved.searches solved.looks = rw (flow_is, potential_is, searches_is, looks_is) done in
     record {

@@ -3,7 +3,7 @@ use Rattle.std.specs.Prelude.{ℤ}
 use Rattle.std.proofs.lemmas.Int.{to_z-of_z}
 use Rattle.faces.specs.Planes.{vertices}
 use Rattle.networks.specs.Flow.{at_nodes}
-use Rattle.ortho_rep.proofs.JoinedPrices.{first-more}
+use Rattle.ortho_rep.proofs.FlatPrices.{first-more}
 use Rattle.ortho_rep.proofs.least.prices_in.Goals as goal
 
 pub loop-place-preserved : goal.loop-place-preserved

@@ -1,7 +1,7 @@
 use Rattle.std.proofs.Common.{◌≡◌, ◌+◌}
 use Rattle.faces.specs.Planes.{vertices}
 use Rattle.networks.specs.Flow.{at_nodes}
-use Rattle.ortho_rep.proofs.JoinedPrices.{first}
+use Rattle.ortho_rep.proofs.FlatPrices.{first}
 use Rattle.ortho_rep.proofs.least.prices_in.Given as goal
 
 abbrev pub invariant-loop-place : goal.invariant-loop-place

@@ -1,5 +1,5 @@
 use Rattle.std.proofs.Common.{◌≡◌, ◌<◌, ℕ, length, slice_index_or}
-use Rattle.books.specs.Books.{BookModel}
+use Rattle.entries.specs.Books.{BookModel}
 use Rattle.reports.specs.Wholes.{IsWholeBook}
 use Rattle.reports.proofs.statuses.status_of_batch.Given as goal
 

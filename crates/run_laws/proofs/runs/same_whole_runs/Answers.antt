@@ -1,4 +1,4 @@
-use Rattle.run_laws.proofs.Whole.{same_runs}
+use Rattle.run_laws.proofs.WholeRuns.{same_runs}
 use Rattle.run_laws.proofs.runs.same_whole_runs.Goals as goal
 
 pub returns : goal.returns

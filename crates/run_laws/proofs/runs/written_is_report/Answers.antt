@@ -1,4 +1,4 @@
-use Rattle.run_laws.proofs.Whole.{as_report}
+use Rattle.run_laws.proofs.WholeRuns.{as_report}
 use Rattle.run_laws.proofs.runs.written_is_report.Goals as goal
 
 pub returns : goal.returns

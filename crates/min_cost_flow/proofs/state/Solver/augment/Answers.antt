@@ -6,12 +6,12 @@ use Rattle.networks.specs.declared.residual.ResidualArc.{ResidualArc}
 use Rattle.networks.specs.Networks.{NetworkModel, node_count, raised, moved}
 use Rattle.networks.proofs.Moving.{length-moved}
 use Rattle.networks.specs.Flow.{at_nodes}
-use Rattle.networks.specs.ResidualArcs.{end_at, reverse_at, room_at, no_residual_arc, IsFilled, carried}
+use Rattle.networks.specs.ResidualArcs.{end_at, reverse_at, capacity_at, no_residual_arc, AreResidualArcs, carried}
 use Rattle.min_cost_flow.specs.declared.state.Nodes.{Nodes}
 use Rattle.min_cost_flow.proofs.Augmenting.{place_read, enter_read}
 use Rattle.min_cost_flow.specs.declared.state.Solver.{Solver}
 use Rattle.min_cost_flow.specs.Excess.{Carries}
-use Rattle.min_cost_flow.specs.Path.{IsOnWay, next_of}
+use Rattle.min_cost_flow.specs.Path.{IsOnWay, previous_of}
 use Rattle.min_cost_flow.specs.Round.{IsRound, carrying}
 use Rattle.min_cost_flow.specs.Stand.{excess_at, potential_at, flow_in, last_node, CanAugment, IsBottleneck, enters_in, places_in}
 use Rattle.min_cost_flow.proofs.Changes.{taken_carries}
@@ -30,16 +30,16 @@ raised_others : (es : List ℤ) (v k w : ℕ) → w ≢ v → at_nodes (raised e
 raised_others es v k w ne = get_or-set_other es v w (at_nodes es v +ℤ pos k) (pos 0) ne
 
 -- so much has been sent from the source to the end of the path
-own_sent : (net : NetworkModel) (s : Solver) (source k : ℕ) (room : ℕ → ℕ) (arcs : List ResidualArc) → (h : CanAugment net s source) → IsBottleneck s source k → IsFilled net (reverse_at s.residual.rooms.items) s.residual.forward.items room arcs → Carries net (carried (reverse_at s.residual.rooms.items) s.residual.forward.items room) (at_nodes (raised s.nodes.excess.items (end_of_path s) k)) source k → ((i : ℕ) → i < length net.arcs → carried (reverse_at s.residual.rooms.items) s.residual.forward.items room i ≤ flow_in s i + k) → IsSent net (flow_in s) (carried (reverse_at s.residual.rooms.items) s.residual.forward.items room) (excess_at s) (at_nodes (moved s.nodes.excess.items (end_of_path s) source k)) source k
-own_sent net s source k room arcs h b filled carries grown =
+own_sent : (net : NetworkModel) (s : Solver) (source k : ℕ) (capacity : ℕ → ℕ) (arcs : List ResidualArc) → (h : CanAugment net s source) → IsBottleneck s source k → AreResidualArcs net (reverse_at s.residual.capacities.items) s.residual.forward.items capacity arcs → Carries net (carried (reverse_at s.residual.capacities.items) s.residual.forward.items capacity) (at_nodes (raised s.nodes.excess.items (end_of_path s) k)) source k → ((i : ℕ) → i < length net.arcs → carried (reverse_at s.residual.capacities.items) s.residual.forward.items capacity i ≤ flow_in s i + k) → IsSent net (flow_in s) (carried (reverse_at s.residual.capacities.items) s.residual.forward.items capacity) (excess_at s) (at_nodes (moved s.nodes.excess.items (end_of_path s) source k)) source k
+own_sent net s source k capacity arcs h b filled carries grown =
     let es = s.nodes.excess.items in
     let to = end_of_path s in
     let es' = raised es to k in
     let tb : to < length es = omega (arith, h.ready.excesses, own_end net s source h) in
     let long : length es' ≡ length es = length-set es to (at_nodes es to +ℤ pos k) in
     let sb : source < length es' = omega (arith, h.ready.excesses, h.source) in
-    sent_all net (flow_in s) (carried (reverse_at s.residual.rooms.items) s.residual.forward.items room) (excess_at s) (at_nodes es') (at_nodes (moved es to source k)) source to k h.source h.left h.wanting b.fitting.left b.fitting.short
-    (filled_caps net (reverse_at s.residual.rooms.items) s.residual.forward.items room arcs filled) carries
+    sent_all net (flow_in s) (carried (reverse_at s.residual.capacities.items) s.residual.forward.items capacity) (excess_at s) (at_nodes es') (at_nodes (moved es to source k)) source to k h.source h.left h.wanting b.fitting.left b.fitting.short
+    (filled_caps net (reverse_at s.residual.capacities.items) s.residual.forward.items capacity arcs filled) carries
     (raised_here es to k tb) (raised_others es to k)
     (get_or-set_same es' source (at_nodes es' source -ℤ pos k) (pos 0) sb)
     (λ w ne. get_or-set_other es' source w (at_nodes es' source -ℤ pos k) (pos 0) ne)
@@ -87,16 +87,16 @@ along-init c =
     let first = s.residual.first.items in
     let forward = s.residual.forward.items in
     let arcs = s.residual.arcs.items in
-    let rooms = s.residual.rooms.items in
-    let reverse = reverse_at rooms in
+    let capacities = s.residual.capacities.items in
+    let reverse = reverse_at capacities in
     let es = s.nodes.excess.items in
     let place = places_in s in
-    let next = next_of arcs rooms (enters_in s) in
+    let next = previous_of arcs capacities (enters_in s) in
     let from = last_node s in
     let to = end_of_path s in
     let e = at_nodes (raised es to k) in
     let at : c.start-node.result ≡ from = c.start-node.ensures in
-    let pushed : IsPushed reverse (room_at rooms) (room_at c.push.new.residual.rooms.items) s.found k = was_pushed s.residual c.push.new.residual s.found k q in
+    let pushed : IsPushed reverse (capacity_at capacities) (capacity_at c.push.new.residual.capacities.items) s.found k = was_pushed s.residual c.push.new.residual s.found k q in
     record {
       node = λ net h. subst (λ (t : ℕ). t < node_count net) (sym at) (own_last net s c.args.source h).node;
       residual = λ net h. let l = own_last net s c.args.source h in pushed_network net s.residual c.push.new.residual from s.found k h.ready.residual l.node l.leaves q;
@@ -117,8 +117,8 @@ along-init c =
           let taken : Carries net (flow_in s) e to k = taken_carries net (flow_in s) (excess_at s) e to k r.round.leaves (raised_here es to k tb) (raised_others es to k) in
           let most = carrying net (flow_in s) + place from + 1 in
           subst (λ (y : ℕ → ℕ). IsSending net (potential_at s) e h.path.on place (flow_in s) y c.start-node.result k most) (sym (same_flow s.residual c.push.new.residual q.reverse q.forward))
-          (subst (λ (t : ℕ). IsSending net (potential_at s) e h.path.on place (flow_in s) (carried reverse forward (room_at c.push.new.residual.rooms.items)) t k most) (sym at)
-          (sending_first net first reverse forward (room_at rooms) (room_at c.push.new.residual.rooms.items) (potential_at s) e h.path.on place from s.found to k r.residual.laid_out (own_last net s c.args.source h).link h.path.off taken r.round.priced pushed));
+          (subst (λ (t : ℕ). IsSending net (potential_at s) e h.path.on place (flow_in s) (carried reverse forward (capacity_at c.push.new.residual.capacities.items)) t k most) (sym at)
+          (sending_first net first reverse forward (capacity_at capacities) (capacity_at c.push.new.residual.capacities.items) (potential_at s) e h.path.on place from s.found to k r.residual.arcs_built (own_last net s c.args.source h).link h.path.off taken r.round.priced pushed));
     }
 
 pub index-requires-in-along : goal.index-requires-in-along
@@ -154,16 +154,16 @@ push-requires-in-along c =
     let first = s.residual.first.items in
     let forward = s.residual.forward.items in
     let arcs = s.residual.arcs.items in
-    let rooms = s.residual.rooms.items in
-    let reverse = reverse_at rooms in
+    let capacities = s.residual.capacities.items in
+    let reverse = reverse_at capacities in
     let from = last_node s in
     let to = end_of_path s in
     let e = at_nodes (raised s.nodes.excess.items to k) in
     let most = carrying net (flow_in s) + place from + 1 in
     let sd = subst (λ (y : ℕ → ℕ). IsSending net (potential_at s) e h.path.on place (flow_in s) y v k most) (same_flow s.residual t.residual i.reverse i.forward) (i.sending net h) in
-    let fits : k ≤ room_at t.residual.rooms.items (enter v) = still_fits net reverse forward (room_at rooms) (room_at t.residual.rooms.items) arcs t.residual.arcs.items (potential_at s) e h.path.on place (next_of arcs rooms (enters_in s) v) (enter v) v k most r.residual.filled (same_filled net s.residual t.residual i.reverse i.forward (i.residual net h)) st.link st.member (i.on net h) st.before sd (c.bottleneck-amount.ensures.fitting.fits v i.way some) in
+    let fits : k ≤ capacity_at t.residual.capacities.items (enter v) = still_fits net reverse forward (capacity_at capacities) (capacity_at t.residual.capacities.items) arcs t.residual.arcs.items (potential_at s) e h.path.on place (previous_of arcs capacities (enters_in s) v) (enter v) v k most r.residual.filled (same_filled net s.residual t.residual i.reverse i.forward (i.residual net h)) st.link st.member (i.on net h) st.before sd (c.bottleneck-amount.ensures.fitting.fits v i.way some) in
     rw en (record {
-      pair = is_paired net t.residual (next_of arcs rooms (enters_in s) v) (enter v) r.network (i.residual net h) st.node (rw i.first st.leaves);
+      pair = is_paired net t.residual (previous_of arcs capacities (enters_in s) v) (enter v) r.network (i.residual net h) st.node (rw i.first st.leaves);
       some = c.bottleneck-amount.ensures.some;
       fits = fits;
     })
@@ -213,7 +213,7 @@ along-smaller c =
     let en : c.index-in-along-2.result.now.enter ≡ enter v = rw i.visits at (enter_read t.visits.items v c.index-in-along-2.result.now (rw i.visits (omega (arith, i.node net h))) c.index-in-along-2.ensures) in
     let st = own_step net s c.args.source h v (i.on net h) some in
     let q = c.push-in-along.ensures in
-    let j = reverse_at s.residual.rooms.items (enter v) in
+    let j = reverse_at s.residual.capacities.items (enter v) in
     let start = rw en at c.start-node-in-along.ensures in
     let at : c.start-node-in-along.result ≡ end_at s.residual.arcs.items j = start ∙ ap (end_at c.push-in-along.new.residual.arcs.items) (q.reverse (enter v) ∙ i.reverse (enter v)) ∙ q.ends j ∙ i.ends j in
     subst (λ (u : ℕ). place u < place v) (sym at) st.before
@@ -239,20 +239,20 @@ along-preserved c =
     let first = s.residual.first.items in
     let forward = s.residual.forward.items in
     let arcs = s.residual.arcs.items in
-    let rooms = s.residual.rooms.items in
-    let reverse = reverse_at rooms in
+    let capacities = s.residual.capacities.items in
+    let reverse = reverse_at capacities in
     let from = last_node s in
     let to = end_of_path s in
     let e = at_nodes (raised s.nodes.excess.items to k) in
     let most = carrying net (flow_in s) + place from + 1 in
     let q = c.push-in-along.ensures in
     let new = c.push-in-along.new.residual in
-    let next = next_of arcs rooms (enters_in s) in
+    let next = previous_of arcs capacities (enters_in s) in
     let j = reverse (enter v) in
-    let turned : (m : ℕ) → reverse_at new.rooms.items m ≡ reverse m = λ m. q.reverse m ∙ i.reverse m in
+    let turned : (m : ℕ) → reverse_at new.capacities.items m ≡ reverse m = λ m. q.reverse m ∙ i.reverse m in
     let start = rw en at c.start-node-in-along.ensures in
     let at : c.start-node-in-along.result ≡ end_at arcs j = start ∙ ap (end_at new.arcs.items) (turned (enter v)) ∙ q.ends j ∙ i.ends j in
-    let pushed : IsPushed reverse (room_at t.residual.rooms.items) (room_at new.rooms.items) (enter v) k = subst (λ (turn : ℕ → ℕ). IsPushed turn (room_at t.residual.rooms.items) (room_at new.rooms.items) (enter v) k) (fun_ext i.reverse) (rw en at (was_pushed t.residual new c.index-in-along-2.result.now.enter k q)) in
+    let pushed : IsPushed reverse (capacity_at t.residual.capacities.items) (capacity_at new.capacities.items) (enter v) k = subst (λ (turn : ℕ → ℕ). IsPushed turn (capacity_at t.residual.capacities.items) (capacity_at new.capacities.items) (enter v) k) (fun_ext i.reverse) (rw en at (was_pushed t.residual new c.index-in-along-2.result.now.enter k q)) in
     record {
       node = λ net' g. subst (λ (u : ℕ). u < node_count net') (sym at) (own_step net' s c.args.source g v (i.on net' g) some).node;
       residual = λ net' g. let l = own_step net' s c.args.source g v (i.on net' g) some in pushed_network net' t.residual new (next v) (enter v) k (i.residual net' g) l.node (rw i.first l.leaves) (rw en at q);
@@ -272,8 +272,8 @@ along-preserved c =
           let most' = carrying net' (flow_in s) + place from + 1 in
           let sd = subst (λ (y : ℕ → ℕ). IsSending net' (potential_at s) e g.path.on place (flow_in s) y v k most') (same_flow s.residual t.residual i.reverse i.forward) (i.sending net' g) in
           subst (λ (y : ℕ → ℕ). IsSending net' (potential_at s) e g.path.on place (flow_in s) y c.start-node-in-along.result k most') (sym (same_flow s.residual new turned (q.forward ∙ i.forward)))
-          (subst (λ (u : ℕ). IsSending net' (potential_at s) e g.path.on place (flow_in s) (carried reverse forward (room_at new.rooms.items)) u k most') (sym at)
-          (sending_more net' first reverse forward (room_at rooms) (room_at t.residual.rooms.items) (room_at new.rooms.items) (potential_at s) e g.path.on place (end_at arcs j) (enter v) v k most' g.ready.residual.laid_out l.link l.member (i.on net' g) l.before sd pushed));
+          (subst (λ (u : ℕ). IsSending net' (potential_at s) e g.path.on place (flow_in s) (carried reverse forward (capacity_at new.capacities.items)) u k most') (sym at)
+          (sending_more net' first reverse forward (capacity_at capacities) (capacity_at t.residual.capacities.items) (capacity_at new.capacities.items) (potential_at s) e g.path.on place (end_at arcs j) (enter v) v k most' g.ready.residual.arcs_built l.link l.member (i.on net' g) l.before sd pushed));
     }
 
 pub returns-clause-sent : goal.returns-clause-sent
@@ -292,19 +292,19 @@ returns-clause-sent c net h =
     let first = s.residual.first.items in
     let forward = s.residual.forward.items in
     let arcs = s.residual.arcs.items in
-    let rooms = s.residual.rooms.items in
-    let reverse = reverse_at rooms in
+    let capacities = s.residual.capacities.items in
+    let reverse = reverse_at capacities in
     let from = last_node s in
     let to = end_of_path s in
     let e = at_nodes (raised s.nodes.excess.items to k) in
     let most = carrying net (flow_in s) + place from + 1 in
     let none : place v ≡ 0 = omega (arith, c.along-test.false) in
     let at : v ≡ c.args.source = h.path.root v (i.on net h) none in
-    let y = carried reverse forward (room_at t.residual.rooms.items) in
+    let y = carried reverse forward (capacity_at t.residual.capacities.items) in
     let flow_is : flow_in t ≡ y = same_flow s.residual t.residual i.reverse i.forward in
     let sd = subst (λ (x : ℕ → ℕ). IsSending net (potential_at s) e h.path.on place (flow_in s) x v k most) flow_is (i.sending net h) in
     let carries : Carries net y e c.args.source k = subst (λ (u : ℕ). Carries net y e u k) at sd.carries in
-    let sent : IsSent net (flow_in s) y (excess_at s) (at_nodes (moved s.nodes.excess.items to c.args.source k)) c.args.source k = own_sent net s c.args.source k (room_at t.residual.rooms.items) t.residual.arcs.items h c.bottleneck-amount.ensures (same_filled net s.residual t.residual i.reverse i.forward (i.residual net h)) carries sd.grown in
+    let sent : IsSent net (flow_in s) y (excess_at s) (at_nodes (moved s.nodes.excess.items to c.args.source k)) c.args.source k = own_sent net s c.args.source k (capacity_at t.residual.capacities.items) t.residual.arcs.items h c.bottleneck-amount.ensures (same_filled net s.residual t.residual i.reverse i.forward (i.residual net h)) carries sd.grown in
     let n = last_pair net s c.args.source h in
     let target : c.from-target.result ≡ to = c.from-target.ensures ∙ ap (λ (a : ResidualArc). a.end) (get_or_read arcs s.found c.index.result.now n.here c.index.ensures no_residual_arc) in
     let units = c.move_units.new.units in

@@ -23,12 +23,12 @@ returns c =
     record {
       ready = record {
         network = z.network;
-        residual = c.lay_out.ensures.laid_out;
+        residual = c.build.ensures.arcs_built;
         potentials = rw pot_is (omega (arith, z.potentials));
         excesses = ap (length {A = ℤ}) (c.copy_from_slice.ensures.items ∙ c.supplies.ensures.supplies);
         labels = z.labels;
-        round = rw pot_is (first_round _ _ _ _ z.network c.lay_out.ensures.none (flat_all ps c.write_all.ensures) full);
+        round = rw pot_is (first_round _ _ _ _ z.network c.build.ensures.none (flat_all ps c.write_all.ensures) full);
         blank = z.blank;
       };
-      work = first_work _ _ _ c.lay_out.ensures.none full;
+      work = first_work _ _ _ c.build.ensures.none full;
     }

@@ -62,7 +62,7 @@ resend-requires c =
         ready_moved net l _ _ c.args.from c.args.to c.args.amount st c.requires.fair c.requires.from c.requires.to c.requires.few
             (λ v b. rw pot_is (base v (omega (arith, size))))
             (λ v b. rw pot_is (subst (λ (m : ℕ). (pos 0 ≤ℤ (at_nodes p' v +ℤ pos (2 * m))) × (at_nodes p' v ≤ℤ pos (2 * m))) size (low v (omega (arith, size)))))
-            (λ i b. little i (omega (arith, r.residual.laid_out.forwards)))
+            (λ i b. little i (omega (arith, r.residual.arcs_built.forwards)))
             (rw pot_is (omega (arith, size, r.potentials))) (excess_is ∙ value),
       );
       source = omega (arith, wide, c.requires.from);
@@ -91,6 +91,6 @@ returns c =
       answer = rw c.shift.ensures (c.resend.ensures (shifted net c.args.from c.args.to c.args.amount) (ready_moved net l _ _ c.args.from c.args.to c.args.amount st c.requires.fair c.requires.from c.requires.to c.requires.few
           (λ v b. rw pot_is (base v (omega (arith, size))))
           (λ v b. rw pot_is (subst (λ (m : ℕ). (pos 0 ≤ℤ (at_nodes p' v +ℤ pos (2 * m))) × (at_nodes p' v ≤ℤ pos (2 * m))) size (low v (omega (arith, size)))))
-          (λ i b. little i (omega (arith, r.residual.laid_out.forwards)))
+          (λ i b. little i (omega (arith, r.residual.arcs_built.forwards)))
           (rw pot_is (omega (arith, size, r.potentials))) (excess_is ∙ value)));
     }

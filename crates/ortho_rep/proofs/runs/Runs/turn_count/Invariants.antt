@@ -1,6 +1,6 @@
 use Rattle.std.proofs.Common.{◌≡◌, ◌≤◌, ◌*◌, length}
 use Rattle.ortho_rep.specs.declared.strings.TheConstants.{MAX_TURNS}
-use Rattle.sums.specs.Sums.{sum_below}
+use Rattle.common.specs.Sums.{sum_below}
 use Rattle.ortho_rep.specs.Shapes.{turns_at}
 use Rattle.ortho_rep.proofs.runs.Runs.turn_count.Given as goal
 

@@ -1,6 +1,6 @@
 use Rattle.std.proofs.Common.{◌≡◌, ◌≤◌, ◌*◌, [], length, slice_index_or}
 use Rattle.ortho_rep.specs.declared.strings.TheConstants.{MAX_TURNS}
-use Rattle.sums.specs.Sums.{sum_below}
+use Rattle.common.specs.Sums.{sum_below}
 use Rattle.ortho_rep.proofs.strings.Strings.turn_count.Given as goal
 
 abbrev pub invariant-loop-i : goal.invariant-loop-i

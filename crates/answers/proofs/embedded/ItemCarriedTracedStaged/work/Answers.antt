@@ -1,0 +1,12 @@
+use Rattle.std.proofs.Common.{sym, subst}
+use Rattle.std.proofs.Math.Logic.{∥∥₁_map}
+use Rattle.answers.specs.Steps.{IsEmbedded}
+use Rattle.answers.proofs.embedded.ItemCarriedTracedStaged.work.Goals as goal
+
+pub invariant_of-result : goal.invariant_of-result
+invariant_of-result g c =
+    record {
+      known = c.args.self.known;
+      made = ∥∥₁_map c.args.self.made
+          (λ made. c.hold.ensures c.args.self.task.choice _ (c.shape-layout.ensures _ (subst (IsEmbedded (g.P.Carried.Carried.bytes c.args.self.rec)) (sym c.open-plane.ensures) made)));
+    }

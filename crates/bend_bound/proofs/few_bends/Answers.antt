@@ -1,5 +1,0 @@
-use Rattle.bend_bound.proofs.FewBends.{few_inner, few_five, few_limit}
-use Rattle.bend_bound.proofs.few_bends.Goals as goal
-
-pub returns : goal.returns
-returns c = record { inner = few_inner; five = few_five; limit = few_limit }

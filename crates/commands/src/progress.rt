@@ -1,0 +1,184 @@
+//! A line that tells how far a run is.
+ghost use Rattle.std.specs.Prelude.{◌≡◌};
+
+use crate::fault_line::ShortLine;
+use lanes::{Gate, Stage};
+use std::fmt::Write;
+use std::io;
+use std::io::IsTerminal;
+use std::rt::Clock;
+use std::sync::atomic::{AtomicU64, Ordering};
+
+/// How many milliseconds lie between two lines at least. The last one waits for none.
+const PAUSE: u64 = 250;
+
+/// Where it is written how far a run is.
+#[derive(Clone, Copy, Debug, PartialEq, Eq)]
+pub enum Progress {
+    /// Nowhere: nothing is written.
+    Nowhere,
+    /// On a terminal, in one line that is written over.
+    OnTerminal,
+    /// On a terminal as `OnTerminal`, elsewhere in lines of their own.
+    Everywhere,
+}
+
+impl Progress {
+    /// What is asked for by an option that is given so often.
+    pub fn of_count(count: u8) -> Progress {
+        match count {
+            0 => Progress::Nowhere,
+            1 => Progress::OnTerminal,
+            _ => Progress::Everywhere,
+        }
+    }
+}
+
+/// Where lines of progress go, from any thread, with a clock.
+pub trait Console {
+    /// Whether a line there can be written over.
+    fn is_terminal(&self) -> bool;
+
+    /// How many milliseconds have passed since some start, or 0 where the clock cannot be read.
+    fn time(&self) -> u64;
+
+    /// Shows a text. That this may fail changes nothing.
+    fn show(&self, text: &[u8]);
+}
+
+/// Standard error with a clock, as a console.
+#[derive(Clone, Copy)]
+pub struct ErrorConsole<R, E> {
+    pub clock: R,
+    pub err: E,
+}
+
+impl<R: Clock, E: io::Write + IsTerminal + Copy> Console for ErrorConsole<R, E> {
+    fn is_terminal(&self) -> bool {
+        self.err.is_terminal()
+    }
+
+    fn time(&self) -> u64 {
+        match self.clock.monotonic() {
+            Ok(time) => u64::try_from(time.as_millis()).unwrap_or(u64::MAX),
+            Err(_) => 0,
+        }
+    }
+
+    fn show(&self, text: &[u8]) {
+        let mut err = self.err;
+        let _ = err.write_all(text);
+    }
+}
+
+/// How lines stand on a console.
+#[derive(Clone, Copy, Debug, PartialEq, Eq)]
+enum Style {
+    Hidden,
+    WrittenOver,
+    Apart,
+}
+
+impl Style {
+    /// How lines stand on this console.
+    fn of<C: Console>(progress: Progress, console: &C) -> Style {
+        match progress {
+            Progress::Nowhere => Style::Hidden,
+            _ if console.is_terminal() => Style::WrittenOver,
+            Progress::OnTerminal => Style::Hidden,
+            Progress::Everywhere => Style::Apart,
+        }
+    }
+}
+
+/// Counts the graphs of a run at the gate before its last stage, and tells how far the run is: at most four times
+/// a second, and once more at its end.
+#[derive(Drop)]
+pub struct Meter<'c, C> {
+    console: &'c C,
+    style: Style,
+    files: usize,
+    /// When the run began, by the console's clock.
+    start: u64,
+    /// How many files were begun.
+    begun: AtomicU64,
+    /// How many graphs came to the last stage.
+    graphs: AtomicU64,
+    /// When the last line was shown, in milliseconds since the start.
+    last_told: AtomicU64,
+}
+
+impl<'c, C: Console> Meter<'c, C> {
+    /// A meter of a run over so many files, which begins now.
+    pub fn new(console: &'c C, progress: Progress, files: usize) -> Meter<'c, C> {
+        Meter {
+            console,
+            style: Style::of(progress, console),
+            files,
+            start: console.time(),
+            begun: AtomicU64::new(0),
+            graphs: AtomicU64::new(0),
+            last_told: AtomicU64::new(0),
+        }
+    }
+
+    /// The count of the files that were begun.
+    pub fn begun(&self) -> &AtomicU64 {
+        &self.begun
+    }
+
+    /// Tells how far the run came, where it began a file, and ends the line.
+    pub fn finish(&self) {
+        if self.style != Style::Hidden && self.begun.load(Ordering::SeqCst) > 0 {
+            self.tell(self.time(), "\n");
+        }
+    }
+
+    /// How many milliseconds the run has taken.
+    fn time(&self) -> u64 {
+        self.console.time().saturating_sub(self.start)
+    }
+
+    /// Writes how far the run is, unless that was written a moment ago, or another thread writes it now.
+    fn tell_in_time(&self) {
+        let last_told = self.last_told.load(Ordering::SeqCst);
+        let time = self.time();
+        if time < last_told.saturating_add(PAUSE) {
+            return;
+        }
+        let turn = self
+            .last_told
+            .compare_exchange(last_told, time, Ordering::SeqCst, Ordering::SeqCst);
+        if turn.is_ok() {
+            self.tell(time, if self.style == Style::Apart { "\n" } else { "" });
+        }
+    }
+
+    /// Shows the line of what was counted in so many milliseconds.
+    fn tell(&self, time: u64, end: &str) {
+        let begun = self.begun.load(Ordering::SeqCst);
+        let graphs = self.graphs.load(Ordering::SeqCst);
+        let rate = graphs.saturating_mul(1000) / time.max(1);
+        // The spaces cover what is left of a longer line.
+        let (front, back) = match self.style {
+            Style::WrittenOver => ("\r", "   "),
+            _ => ("", ""),
+        };
+        let mut line = ShortLine::new();
+        let _ = write!(
+            line,
+            "{front}planarbend: {begun} of {} files begun, {graphs} graphs, {rate} a second{back}{end}",
+            self.files
+        );
+        self.console.show(line.text());
+    }
+}
+
+impl<C: Console + Sync> Gate for Meter<'_, C> {
+    fn pass(&self, _lane: u32, stage: Stage, _ordinal: u32) {
+        if stage == Stage::Draw && self.style != Style::Hidden {
+            self.graphs.fetch_add(1, Ordering::SeqCst);
+            self.tell_in_time();
+        }
+    }
+}

@@ -1,5 +1,0 @@
-use Rattle.compact.proofs.Relaxing.{IsUnderWay}
-use Rattle.compact.proofs.constraints.relax_all.Given as goal
-
-abbrev pub invariant-loop-constraint : goal.invariant-loop-constraint
-invariant-loop-constraint l = IsUnderWay l.constraints l.constraint-index l.fn.numbers l.numbers l.found

@@ -1,0 +1,11 @@
+use Rattle.std.proofs.Common.{◌≡◌, ◌<◌, ◌≤◌, ℕ, length, slice_index}
+use Rattle.compact.specs.Steps.{AreVertices}
+use Rattle.compact.proofs.longest_paths.list_segments.Given as goal
+
+abbrev pub invariant-loop-vertex : goal.invariant-loop-vertex
+invariant-loop-vertex l = record {
+  size : length l.segments ≡ length l.fn.segments;
+  own : (v : ℕ) → v < l.vertex → slice_index l.segments v ≡ v;
+  count : l.count ≤ l.vertex;
+  segment_heads : AreVertices (length l.fn.segments) l.segment_heads;
+}

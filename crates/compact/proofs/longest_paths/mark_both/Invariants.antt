@@ -1,0 +1,17 @@
+use Rattle.std.proofs.Common.{◌≡◌, length}
+use Rattle.compact.specs.Steps.{step, AreSegments, IsOnSegment}
+use Rattle.compact.proofs.longest_paths.mark_both.Given as goal
+
+abbrev pub invariant-loop : goal.invariant-loop
+invariant-loop l = record {
+  x_ways : (l.x_steps.around.now ≡ l.around) × (l.x_steps.left ≡ 1) × (l.x_steps.behind ≡ 2);
+  y_ways : (l.y_steps.around.now ≡ l.around) × (l.y_steps.left ≡ 2) × (l.y_steps.behind ≡ 3);
+  x_count : length l.x_segments ≡ length l.fn.x.segments.items;
+  y_count : length l.y_segments ≡ length l.fn.x.segments.items;
+  x_segments : AreSegments (step l.around 1) (length l.fn.x.segments.items) l.x_segments;
+  y_segments : AreSegments (step l.around 2) (length l.fn.x.segments.items) l.y_segments;
+  x_walk : IsOnSegment (step l.around 1) (length l.fn.x.segments.items) l.x_walk.first l.x_walk.vertex;
+  y_walk : IsOnSegment (step l.around 2) (length l.fn.x.segments.items) l.y_walk.first l.y_walk.vertex;
+  x_in_degrees : length l.x_in_degrees ≡ length l.fn.x.segments.items;
+  y_in_degrees : length l.y_in_degrees ≡ length l.fn.x.segments.items;
+}

@@ -1,0 +1,10 @@
+use Rattle.std.proofs.Common.{◌≡◌, ◌<◌, length}
+use Rattle.compact.specs.Steps.{step, StayUnder}
+use Rattle.compact.proofs.longest_paths.pass_segment.Given as goal
+
+abbrev pub invariant-loop : goal.invariant-loop
+invariant-loop l = record {
+  under : StayUnder (step l.steps.around.now l.steps.ahead) (length l.fn.numbers) l.segments l.fn.numbers l.numbers;
+  count : length l.numbers ≡ length l.fn.numbers;
+  inside : l.vertex < length l.fn.numbers;
+}

@@ -1,0 +1,410 @@
+//! Segments of vertices that darts across an axis join, and the lengths of longest paths over them.
+
+ghost use Rattle.std.specs.Prelude.{◌≡◌, ◌*◌, ◌^◌, ◌<◌, ℕ, length, OnOk};
+ghost use Rattle.compact.specs.Steps.{step, AreVertices, AreLevelIn, AreSegments, AreOwn, IsOnSegment, AreUnder, StayUnder, StayUnderAll};
+
+use crate::steps::NO_VERTEX;
+use ortho_rep::MAX_COORDINATE;
+use std::alloc::{AllocError, Global};
+
+/// The steps from each vertex along an axis and across it, by their directions.
+#[derive(Clone, Copy)]
+pub struct Steps<'a> {
+    /// For each vertex the next one in each of the four directions, out of range where there is none.
+    pub around: &'a [u32],
+    /// The direction along the axis.
+    pub ahead: u8,
+    /// The direction against it.
+    pub behind: u8,
+    /// The direction a quarter turn to the left of `ahead`.
+    pub left: u8,
+    /// The direction a quarter turn to the right of `ahead`.
+    pub right: u8,
+}
+
+impl<'a> Steps<'a> {
+    /// Those along x, which grows to the east. Directions are numbered from east.
+    pub fn east(around: &'a [u32]) -> Steps<'a>
+        ensures around { result.around.now ≡ around.now }
+        ensures ahead { result.ahead ≡ 0 }
+        ensures left { result.left ≡ 1 }
+        ensures behind { result.behind ≡ 2 }
+        ensures right { result.right ≡ 3 }
+    {
+        Steps {
+            around,
+            ahead: 0,
+            left: 1,
+            behind: 2,
+            right: 3,
+        }
+    }
+
+    /// Those along y, which grows to the north.
+    pub fn north(around: &'a [u32]) -> Steps<'a>
+        ensures around { result.around.now ≡ around.now }
+        ensures ahead { result.ahead ≡ 1 }
+        ensures left { result.left ≡ 2 }
+        ensures behind { result.behind ≡ 3 }
+        ensures right { result.right ≡ 0 }
+    {
+        Steps {
+            around,
+            ahead: 1,
+            left: 2,
+            behind: 3,
+            right: 0,
+        }
+    }
+}
+
+/// The segments of all vertices along an axis, and the order in which they come. Its memory is used again for the next
+/// dissection.
+#[derive(Drop)]
+pub struct AxisSegments {
+    /// For each vertex the first one of its segment. A segment has one number, which stands there.
+    segments: Vec<u32>,
+    // Time alone rests on what follows: whatever it holds, numbers are raised along steps alone.
+    /// The first vertices of all segments, and others behind them.
+    segment_heads: Vec<u32>,
+    /// How many segments there are.
+    count: usize,
+    /// How many steps to a segment are still to come, at the place of its first vertex.
+    in_degrees: Vec<u32>,
+    /// The segments in the order in which they come, by their first vertices.
+    queue: Vec<u32>,
+}
+
+impl AxisSegments {
+    /// The segments of no vertices. It takes no memory.
+    pub fn empty(alloc: Global) -> AxisSegments {
+        AxisSegments {
+            segments: Vec::new(alloc),
+            segment_heads: Vec::new(alloc),
+            count: 0,
+            in_degrees: Vec::new(alloc),
+            queue: Vec::new(alloc),
+        }
+    }
+
+    /// Makes a segment of each of so many vertices, and lists the first ones of the segments that are to be
+    /// marked: those with no vertex to their right.
+    fn begin(&mut self, steps: Steps<'_>, vertices: u32) -> Result<(), AllocError>
+        requires right { steps.right < 4 }
+        requires count { length steps.around.now ≡ 4 * vertices }
+        ensures own { OnOk result (AreOwn vertices self.new.segments.items) }
+        ensures segment_heads { OnOk result (AreVertices vertices self.new.segment_heads.items) }
+        ensures in_degrees { OnOk result (length self.new.in_degrees.items ≡ vertices) }
+    {
+        let places = vertices as usize;
+        self.segments.clear();
+        self.segments.resize(places, 0)?;
+        self.segment_heads.clear();
+        self.segment_heads.resize(places, 0)?;
+        self.in_degrees.clear();
+        self.in_degrees.resize(places, 0)?;
+        self.queue.resize(places, 0)?;
+        self.count = list_segments(
+            steps,
+            self.segments.as_mut_slice(),
+            self.segment_heads.as_mut_slice(),
+        );
+        Ok(())
+    }
+}
+
+/// Writes each vertex at its own place, lists those with no vertex to their right, and says how many they are. All are
+/// written and some are counted, so that no branch hangs on which.
+fn list_segments(steps: Steps<'_>, segments: &mut [u32], segment_heads: &mut [u32]) -> usize
+    requires right { steps.right < 4 }
+    requires count { length steps.around.now ≡ 4 * length segments.old }
+    requires few { length segments.old < 2 ^ 32 }
+    requires segment_heads { AreVertices (length segments.old) segment_heads.old }
+    ensures own { AreOwn (length segments.old) segments.new }
+    ensures segment_heads { AreVertices (length segments.old) segment_heads.new }
+{
+    let mut count = 0;
+    for vertex in 0..segments.len() {
+        segments[vertex] = vertex as u32;
+        segment_heads[count] = vertex as u32;
+        let right = steps.around[4 * vertex + usize::from(steps.right)];
+        count += usize::from(right as usize >= segments.len());
+    }
+    count
+}
+
+/// A walk along segments, one after another: where it is.
+#[derive(Clone, Copy, Debug)]
+struct SegmentWalk {
+    /// The segment behind this one, by its place among all.
+    behind: usize,
+    /// The first vertex of the segment.
+    first: u32,
+    vertex: u32,
+}
+
+impl SegmentWalk {
+    /// The walk that begins with the segment of this first vertex, the first segment of all.
+    fn new(first: u32) -> SegmentWalk
+        ensures first { result.first ≡ first }
+        ensures vertex { result.vertex ≡ first }
+    {
+        SegmentWalk {
+            behind: 1,
+            first,
+            vertex: first,
+        }
+    }
+}
+
+/// Writes the first vertex of the segment at the vertex where the walk is, counts the step that leads to it
+/// from behind, and goes on: to the next vertex of the segment, or to the first one of the segment behind it.
+/// No branch hangs on where segments end, which cannot be foreseen.
+fn mark_next(
+    steps: Steps<'_>,
+    segment_heads: &[u32],
+    walk: SegmentWalk,
+    segments: &mut [u32],
+    in_degrees: &mut [u32],
+) -> SegmentWalk
+    requires ways { (steps.left < 4) × (steps.behind < 4) }
+    requires count { length steps.around.now ≡ 4 * length segments.old }
+    requires segment_heads { AreVertices (length segments.old) segment_heads.now }
+    requires in_degrees { length in_degrees.old ≡ length segments.old }
+    requires walk { IsOnSegment (step steps.around.now steps.left) (length segments.old) walk.first walk.vertex }
+    requires segments { AreSegments (step steps.around.now steps.left) (length segments.old) segments.old }
+    ensures walk { IsOnSegment (step steps.entry.around.now steps.entry.left) (length segments.old) result.first result.vertex }
+    ensures segments { AreSegments (step steps.entry.around.now steps.entry.left) (length segments.old) segments.new }
+    ensures in_degrees { length in_degrees.new ≡ length in_degrees.old }
+{
+    let SegmentWalk {
+        behind,
+        first,
+        vertex,
+    } = walk;
+    segments[vertex as usize] = first;
+    let at = 4 * vertex as usize;
+    let is_led_to = (steps.around[at + usize::from(steps.behind)] as usize) < segments.len();
+    in_degrees[first as usize] = in_degrees[first as usize].wrapping_add(u32::from(is_led_to));
+    let next = steps.around[at + usize::from(steps.left)];
+    let ends = next as usize >= segments.len();
+    let after = segment_heads.get(behind).copied().unwrap_or(first);
+    SegmentWalk {
+        behind: behind.wrapping_add(usize::from(ends)),
+        first: if ends { after } else { first },
+        vertex: if ends { after } else { next },
+    }
+}
+
+/// Marks the segments along both axes. The two walks go side by side, since each step of a walk waits for the
+/// one before.
+fn mark_both(around: &[u32], x: &mut AxisSegments, y: &mut AxisSegments)
+    requires count { length around.now ≡ 4 * length x.old.segments.items }
+    requires same { length y.old.segments.items ≡ length x.old.segments.items }
+    requires x_heads { AreVertices (length x.old.segments.items) x.old.segment_heads.items }
+    requires y_heads { AreVertices (length x.old.segments.items) y.old.segment_heads.items }
+    requires x_in_degrees { length x.old.in_degrees.items ≡ length x.old.segments.items }
+    requires y_in_degrees { length y.old.in_degrees.items ≡ length y.old.segments.items }
+    requires x_segments { AreSegments (step around.now 1) (length x.old.segments.items) x.old.segments.items }
+    requires y_segments { AreSegments (step around.now 2) (length y.old.segments.items) y.old.segments.items }
+    ensures x_segments { AreSegments (step around.now 1) (length x.old.segments.items) x.new.segments.items }
+    ensures y_segments { AreSegments (step around.now 2) (length y.old.segments.items) y.new.segments.items }
+{
+    let x_heads = x.segment_heads.as_slice();
+    let x_segments = x.segments.as_mut_slice();
+    let x_in_degrees = x.in_degrees.as_mut_slice();
+    let y_heads = y.segment_heads.as_slice();
+    let y_segments = y.segments.as_mut_slice();
+    let y_in_degrees = y.in_degrees.as_mut_slice();
+    if x_segments.is_empty() {
+        return;
+    }
+    let x_steps = Steps::east(around);
+    let y_steps = Steps::north(around);
+    let mut x_walk = SegmentWalk::new(x_heads[0]);
+    let mut y_walk = SegmentWalk::new(y_heads[0]);
+    for _ in 0..x_segments.len() {
+        x_walk = mark_next(x_steps, x_heads, x_walk, x_segments, x_in_degrees);
+        y_walk = mark_next(y_steps, y_heads, y_walk, y_segments, y_in_degrees);
+    }
+}
+
+/// The segments along both axes.
+#[derive(Drop)]
+pub struct SegmentsByAxis {
+    pub x: AxisSegments,
+    pub y: AxisSegments,
+}
+
+impl SegmentsByAxis {
+    /// The segments of no vertices. It takes no memory.
+    pub fn empty(alloc: Global) -> SegmentsByAxis {
+        SegmentsByAxis {
+            x: AxisSegments::empty(alloc),
+            y: AxisSegments::empty(alloc),
+        }
+    }
+}
+
+/// Finds the segments of so many vertices along x and along y. Linear in the vertices.
+pub fn find_segments(
+    around: &[u32],
+    vertices: u32,
+    by_axis: &mut SegmentsByAxis,
+) -> Result<(), AllocError>
+    requires count { length around.now ≡ 4 * vertices }
+    ensures x { OnOk result (AreSegments (step around.now 1) vertices by_axis.new.x.segments.items) }
+    ensures y { OnOk result (AreSegments (step around.now 2) vertices by_axis.new.y.segments.items) }
+{
+    let SegmentsByAxis { x, y } = by_axis;
+    x.begin(Steps::east(around), vertices)?;
+    y.begin(Steps::north(around), vertices)?;
+    mark_both(around, x, y);
+    Ok(())
+}
+
+/// The segments in the order in which they come, while numbers are raised.
+#[derive(Drop)]
+struct ReadyQueue<'a> {
+    /// How many steps to a segment are still to come, at the place of its first vertex.
+    in_degrees: &'a mut [u32],
+    /// The first vertices of the segments that have come, and others behind them.
+    segment_heads: &'a mut [u32],
+    /// How many have come.
+    count: usize,
+}
+
+impl ReadyQueue<'_> {
+    /// The first vertex of the segment at this place, or out of range where it has not come.
+    fn segment_at(&self, at: usize) -> u32 {
+        match self.segment_heads.get(at) {
+            Some(first) if at < self.count => *first,
+            _ => NO_VERTEX,
+        }
+    }
+
+    /// Puts a segment behind the others, if it is to come now. The place behind them is written in any case:
+    /// which segments come cannot be foreseen, so no branch is to hang on it.
+    fn put_last(&mut self, first: u32, comes: bool) {
+        if self.count < self.segment_heads.len() {
+            self.segment_heads[self.count] = first;
+            self.count += usize::from(comes);
+        }
+    }
+
+    /// Puts the segments to which no step leads, among so many, behind the others.
+    fn begin(&mut self, segment_heads: &[u32], segments: usize) {
+        for first in segment_heads.iter().take(segments) {
+            let comes = self.in_degrees.get(*first as usize).copied() == Some(0);
+            self.put_last(*first, comes);
+        }
+    }
+
+    /// Counts off one step to the segment with this first vertex, which comes with the last one.
+    fn count_off(&mut self, first: u32) {
+        let Some(in_degree) = self.in_degrees.get_mut(first as usize) else {
+            return;
+        };
+        *in_degree = in_degree.wrapping_sub(1);
+        let comes = *in_degree == 0;
+        self.put_last(first, comes);
+    }
+}
+
+/// Raises the number of the segment of the next vertex along the axis, if there is one, to that of the segment of a
+/// vertex and one more, and gives back the first vertex of that segment. No number passes 65,535.
+fn raise(
+    around: &[u32],
+    ahead: u8,
+    segments: &[u32],
+    vertex: u32,
+    numbers: &mut [u16],
+) -> Option<u32>
+    requires ahead { ahead < 4 }
+    requires vertex { vertex < length numbers.old }
+    requires count { length around.now ≡ 4 * length numbers.old }
+    requires segments { AreVertices (length numbers.old) segments.now }
+    ensures under { StayUnder (step around.now ahead) (length numbers.old) segments.now numbers.old numbers.new }
+    ensures count { length numbers.new ≡ length numbers.old }
+{
+    let to = around[4 * vertex as usize + usize::from(ahead)];
+    if to as usize >= numbers.len() {
+        return None;
+    }
+    let from = segments[vertex as usize];
+    let segment = segments[to as usize];
+    let need = (u32::from(numbers[from as usize]) + 1).min(MAX_COORDINATE) as u16;
+    // It is written in any case: whether it is raised cannot be foreseen, so no branch is to hang on it.
+    numbers[segment as usize] = numbers[segment as usize].max(need);
+    Some(segment)
+}
+
+/// Walks along a segment from its first vertex, raises the numbers of the segments that come next along the
+/// axis, and counts off the steps to them.
+fn pass_segment(
+    steps: Steps<'_>,
+    first: u32,
+    segments: &[u32],
+    queue: &mut ReadyQueue<'_>,
+    numbers: &mut [u16],
+)
+    requires ways { (steps.ahead < 4) × (steps.left < 4) }
+    requires first { first < length numbers.old }
+    requires count { length steps.around.now ≡ 4 * length numbers.old }
+    requires segments { AreVertices (length numbers.old) segments.now }
+    ensures under { StayUnder (step steps.entry.around.now steps.entry.ahead) (length numbers.old) segments.now numbers.old numbers.new }
+    ensures count { length numbers.new ≡ length numbers.old }
+{
+    let mut vertex = first;
+    for _ in 0..numbers.len() {
+        if let Some(segment) = raise(steps.around, steps.ahead, segments, vertex, numbers) {
+            queue.count_off(segment);
+        }
+        let next = steps.around[4 * vertex as usize + usize::from(steps.left)];
+        if next as usize >= numbers.len() {
+            return;
+        }
+        vertex = next;
+    }
+}
+
+/// Gives each vertex the number of its segment.
+fn spread(segments: &[u32], numbers: &mut [u16])
+    requires segments { AreVertices (length numbers.old) segments.now }
+    ensures under { (y : ℕ → ℕ) → AreLevelIn segments.now (length numbers.old) y → AreUnder (length numbers.old) numbers.old y → AreUnder (length numbers.old) numbers.new y }
+    ensures count { length numbers.new ≡ length numbers.old }
+{
+    for vertex in 0..numbers.len() {
+        numbers[vertex] = numbers[segments[vertex] as usize];
+    }
+}
+
+/// Raises numbers to those of longest paths, segment by segment: a segment comes when the numbers of all segments that
+/// have a step to it are known. Linear in the vertices.
+pub fn raise_to_longest_paths(
+    axis_segments: &mut AxisSegments,
+    steps: Steps<'_>,
+    numbers: &mut [u16],
+)
+    requires ways { (steps.ahead < 4) × (steps.left < 4) }
+    requires count { length steps.around.now ≡ 4 * length numbers.old }
+    requires segments { AreSegments (step steps.around.now steps.left) (length numbers.old) axis_segments.old.segments.items }
+    ensures under { StayUnderAll (length numbers.old) (step steps.entry.around.now steps.entry.ahead) (step steps.entry.around.now steps.entry.left) numbers.old numbers.new }
+    ensures count { length numbers.new ≡ length numbers.old }
+{
+    let segments = axis_segments.segments.as_slice();
+    let mut queue = ReadyQueue {
+        in_degrees: axis_segments.in_degrees.as_mut_slice(),
+        segment_heads: axis_segments.queue.as_mut_slice(),
+        count: 0,
+    };
+    queue.begin(axis_segments.segment_heads.as_slice(), axis_segments.count);
+    for at in 0..numbers.len() {
+        let first = queue.segment_at(at);
+        if first as usize >= numbers.len() {
+            break;
+        }
+        pass_segment(steps, first, segments, &mut queue, numbers);
+    }
+    spread(segments, numbers);
+}

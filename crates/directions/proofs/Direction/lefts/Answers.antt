@@ -1,9 +1,0 @@
-use Rattle.std.proofs.Common.{arith}
-use Rattle.directions.specs.Directions.{lefts}
-use Rattle.directions.proofs.Quarters.{quarters_of_lefts, same_direction}
-use Rattle.directions.proofs.Direction.lefts.Goals as goal
-
-pub returns : goal.returns
-returns c =
-    same_direction c.from_quarters.result (lefts c.args.quarters c.args.self)
-    (omega (arith, c.from_quarters.ensures, c.quarters.ensures.value, quarters_of_lefts c.args.quarters c.args.self))

@@ -1,0 +1,211 @@
+-- A rectangle beside a map: what it keeps, and what the join and the cuts after it keep.
+use Rattle.std.proofs.Common.{◌≡◌, ◌≢◌, ℕ, ◌+◌, ◌-◌, ◌%◌, ◌<◌, ◌≤◌, ◌∙◌, zero, suc, Bool, true, List, arith, subst, sym, ap, inl, inr}
+use Rattle.std.proofs.lemmas.Bool.{cases_lt}
+use Rattle.dissect.specs.DartMaps.{DartMap, no_dart, IsLinked, IsCut}
+use Rattle.dissect.specs.Paths.{HasPaths, IsConnected}
+use Rattle.dissect.specs.Frames.{IsFramed, IsEnclosed}
+use Rattle.dissect.proofs.Splitting.{split_linked}
+use Rattle.dissect.proofs.StayingJoined.{IsClosedUnder, by_next, by_reverse_dart, extended_joined, chord_extended, cut_linked, cut_extended, grows_extended}
+use Rattle.dissect.proofs.Cuts.{IsBeside, beside_paths, cut_paths, AreQuarters, cut_quarters, grows_paths}
+
+-- a fact at each dart of a framed map: at the old ones, at the four inside the rectangle and at the four outside it
+pub by_side : (n : ℕ) (P : ℕ → Type 0) → ((a : ℕ) → a < n → P a) → ((k : ℕ) → k < 4 → P (n + k)) →
+    ((k : ℕ) → k < 4 → P (n + 4 + k)) → (a : ℕ) → a < n + 8 → P a
+by_side n P old inner outer a l =
+    elim (cases_lt a n) [
+      | inl low ↦ old a low
+      | inr high ↦ elim (cases_lt a (n + 4)) [
+        | inl mid ↦ subst P (rest n a high) (inner (a - n) (omega (arith, high, mid)))
+        | inr far ↦ subst P (rest (n + 4) a far) (outer (a - (n + 4)) (omega (arith, l, far)))
+      ]
+    ]
+  where
+    rest : (n a : ℕ) → n ≤ a → n + (a - n) ≡ a
+    rest n a high = omega arith
+
+pub framed_linked : (w new : DartMap) → IsLinked w → IsFramed w new → IsLinked new
+framed_linked w new linked f =
+    let n : ℕ = w.darts in
+    record {
+      next_in = λ a l. by_side n (λ (a : ℕ). new.next a < new.darts)
+          (λ a l. omega (arith, f.next_old a l, linked.next_in a l, f.darts))
+          (λ k l. omega (arith, f.next_inner k l, f.darts)) (λ k l. omega (arith, f.next_outer k l, f.darts))
+          a (omega (arith, f.darts));
+      prev_in = λ a l. by_side n (λ (a : ℕ). new.prev a < new.darts)
+          (λ a l. omega (arith, f.prev_old a l, linked.prev_in a l, f.darts))
+          (λ k l. omega (arith, f.prev_inner k l, f.darts)) (λ k l. omega (arith, f.prev_outer k l, f.darts))
+          a (omega (arith, f.darts));
+      next_back = λ a l. by_side n (λ (a : ℕ). new.prev (new.next a) ≡ a)
+          (λ a l. ap new.prev (f.next_old a l) ∙ f.prev_old (w.next a) (linked.next_in a l) ∙ linked.next_back a l)
+          (λ k l. ap new.prev (f.next_inner k l) ∙ f.prev_inner ((k + 1) % 4) (omega arith) ∙ omega (arith, l))
+          (λ k l. ap new.prev (f.next_outer k l) ∙ f.prev_outer ((k + 3) % 4) (omega arith) ∙ omega (arith, l))
+          a (omega (arith, f.darts));
+      prev_back = λ a l. by_side n (λ (a : ℕ). new.next (new.prev a) ≡ a)
+          (λ a l. ap new.next (f.prev_old a l) ∙ f.next_old (w.prev a) (linked.prev_in a l) ∙ linked.prev_back a l)
+          (λ k l. ap new.next (f.prev_inner k l) ∙ f.next_inner ((k + 3) % 4) (omega arith) ∙ omega (arith, l))
+          (λ k l. ap new.next (f.prev_outer k l) ∙ f.next_outer ((k + 1) % 4) (omega arith) ∙ omega (arith, l))
+          a (omega (arith, f.darts));
+      reverse_dart_in = λ a l. by_side n (λ (a : ℕ). new.reverse_dart a < new.darts)
+          (λ a l. omega (arith, f.reverse_dart_old a l, linked.reverse_dart_in a l, f.darts))
+          (λ k l. omega (arith, f.reverse_dart_inner k l, f.darts)) (λ k l. omega (arith, f.reverse_dart_outer k l, f.darts))
+          a (omega (arith, f.darts));
+      reverse_dart_back = λ a l. by_side n (λ (a : ℕ). new.reverse_dart (new.reverse_dart a) ≡ a)
+          (λ a l. ap new.reverse_dart (f.reverse_dart_old a l) ∙ f.reverse_dart_old (w.reverse_dart a) (linked.reverse_dart_in a l) ∙ linked.reverse_dart_back a l)
+          (λ k l. ap new.reverse_dart (f.reverse_dart_inner k l) ∙ f.reverse_dart_outer k l)
+          (λ k l. ap new.reverse_dart (f.reverse_dart_outer k l) ∙ f.reverse_dart_inner k l)
+          a (omega (arith, f.darts));
+      reverse_dart_apart = λ a l. by_side n (λ (a : ℕ). new.reverse_dart a ≢ a)
+          (λ a l h. linked.reverse_dart_apart a l (sym (f.reverse_dart_old a l) ∙ h))
+          (λ k l h. omega (arith, f.reverse_dart_inner k l, h))
+          (λ k l h. omega (arith, f.reverse_dart_outer k l, h))
+          a (omega (arith, f.darts));
+    }
+
+pub framed_quarters : (w new : DartMap) → AreQuarters w → IsFramed w new → AreQuarters new
+framed_quarters w new quarters f a l =
+    by_side w.darts (λ (a : ℕ). new.direction a < 4)
+    (λ a l. omega (arith, f.direction_old a l, quarters a l))
+    (λ k l. omega (arith, f.direction_inner k l, l)) (λ k l. omega (arith, f.direction_outer k l))
+    a (omega (arith, f.darts))
+
+pub framed_beside : (w new : DartMap) → IsLinked w → IsFramed w new → IsBeside w new
+framed_beside w new linked f = record {
+  keeps = record { more = omega (arith, f.darts); head = f.head_old; direction = f.direction_old };
+  kept = λ b l. record {
+    inside = omega (arith, f.darts);
+    before = f.before_old b l;
+    reverse_dart = f.reverse_dart_old b l;
+    head = ap new.head (f.reverse_dart_old b l) ∙ f.head_old (w.reverse_dart b) (linked.reverse_dart_in b l);
+    direction = ap new.direction (f.reverse_dart_old b l) ∙ f.direction_old (w.reverse_dart b) (linked.reverse_dart_in b l);
+  };
+  fresh = λ a l late. by_side w.darts (λ (a : ℕ). w.darts ≤ a → new.before a ≡ no_dart)
+      (λ a l late. absurd (omega (arith, l, late))) (λ k l _. f.before_inner k l) (λ k l _. f.before_outer k l)
+      a (omega (arith, f.darts)) late;
+}
+
+-- a rectangle beside the map keeps all paths
+pub frame_paths : (w new : DartMap) (n : ℕ) (reverse_dart : ℕ → ℕ) (quarters : ℕ → List ℕ) → IsLinked w → IsFramed w new →
+    HasPaths w n reverse_dart quarters → HasPaths new n reverse_dart quarters
+frame_paths w new n reverse_dart quarters linked framed = beside_paths w new n reverse_dart quarters (framed_beside w new linked framed)
+
+-- and so do the join and the cuts after it
+pub enclosed_paths : (w : DartMap) (outside : ℕ) (new : DartMap) (n : ℕ) (reverse_dart : ℕ → ℕ) (quarters : ℕ → List ℕ) → IsLinked w → AreQuarters w →
+    IsEnclosed w outside new →
+    HasPaths w n reverse_dart quarters → HasPaths new n reverse_dart quarters
+enclosed_paths w outside new n reverse_dart quarters linked four e has =
+    let linked_framed = framed_linked w e.framed linked e.frame in
+    let four_framed : AreQuarters e.framed = framed_quarters w e.framed four e.frame in
+    let linked_joined = cut_linked e.framed e.right (w.darts + e.side) e.way e.joined linked_framed e.join in
+    let four_joined : AreQuarters e.joined = cut_quarters e.framed e.right (w.darts + e.side) e.way e.joined four_framed e.join in
+    grows_paths e.joined new n reverse_dart quarters linked_joined four_joined e.grows
+    (cut_paths e.framed e.right (w.darts + e.side) e.way e.joined n reverse_dart quarters linked_framed
+    (four_framed (w.darts + e.side) e.join.e_in) e.join
+    (frame_paths w e.framed n reverse_dart quarters linked e.frame has))
+
+-- a closed set of the framed map is one of the map
+pub framed_shut : (w new : DartMap) (s : ℕ → Bool) → IsFramed w new → IsClosedUnder new s → IsClosedUnder w s
+framed_shut w new s f shut = record {
+  next = λ a l h. by_next new s a (w.next a) shut (omega (arith, f.darts)) (f.next_old a l) h;
+  reverse_dart = λ a l h. by_reverse_dart new s a (w.reverse_dart a) shut (omega (arith, f.darts)) (f.reverse_dart_old a l) h;
+}
+
+-- round the inside of the rectangle
+pub ring_turned : (w new : DartMap) (s : ℕ → Bool) (k i : ℕ) → IsFramed w new → IsClosedUnder new s → k < 4 → s (w.darts + k) ≡ true →
+    s (w.darts + (k + i) % 4) ≡ true
+ring_turned w new s k zero f shut l h = subst (λ (j : ℕ). s (w.darts + j) ≡ true) (omega (arith, l)) h
+ring_turned w new s k (suc i) f shut l h =
+    let on : s (w.darts + (k + i) % 4) ≡ true = ring_turned w new s k i f shut l h in
+    let inside : w.darts + (k + i) % 4 < new.darts = omega (arith, f.darts) in
+    let step : new.next (w.darts + (k + i) % 4) ≡ w.darts + (k + suc i) % 4 =
+    f.next_inner ((k + i) % 4) (omega arith) ∙ omega arith in
+    by_next new s (w.darts + (k + i) % 4) (w.darts + (k + suc i) % 4) shut inside step on
+
+-- a closed set that holds one dart of the rectangle holds them all
+pub ring_whole : (w new : DartMap) (s : ℕ → Bool) (k : ℕ) → IsFramed w new → IsClosedUnder new s → k < 4 → s (w.darts + k) ≡ true →
+    (a : ℕ) → a < new.darts → w.darts ≤ a → s a ≡ true
+ring_whole w new s k f shut l h a a_in late =
+    let inner : (j : ℕ) → j < 4 → s (w.darts + j) ≡ true = λ j l_j.
+    subst (λ (i : ℕ). s (w.darts + i) ≡ true) (there k j l l_j) (ring_turned w new s k (j + 4 - k) f shut l h) in
+    by_side w.darts (λ (a : ℕ). w.darts ≤ a → s a ≡ true)
+    (λ a l late. absurd (omega (arith, l, late))) (λ j l_j _. inner j l_j)
+    (λ j l_j _. by_reverse_dart new s (w.darts + j) (w.darts + 4 + j) shut (omega (arith, f.darts, l_j)) (f.reverse_dart_inner j l_j) (inner j l_j))
+    a (omega (arith, f.darts)) late
+  where
+    there : (k j : ℕ) → k < 4 → j < 4 → (k + (j + 4 - k)) % 4 ≡ j
+    there k j l l_j = omega arith
+
+-- a closed set that holds any dart of the rectangle holds one of its inside
+pub ring_some : (w new : DartMap) (s : ℕ → Bool) (a : ℕ) → IsFramed w new → IsClosedUnder new s → a < new.darts → w.darts ≤ a → s a ≡ true →
+    (k : ℕ) × (k < 4) × (s (w.darts + k) ≡ true)
+ring_some w new s a f shut a_in late =
+    by_side w.darts (λ (a : ℕ). w.darts ≤ a → s a ≡ true → (k : ℕ) × (k < 4) × (s (w.darts + k) ≡ true))
+    (λ a l late h. absurd (omega (arith, l, late))) (λ k l _ h. (k, l, h))
+    (λ k l _ h. (k, l, by_reverse_dart new s (w.darts + 4 + k) (w.darts + k) shut (omega (arith, f.darts, l)) (f.reverse_dart_outer k l) h))
+    a (omega (arith, f.darts)) late
+
+-- the join leads from the map to the rectangle
+pub join_there : (framed : DartMap) (right e way : ℕ) (new : DartMap) (s : ℕ → Bool) → IsCut framed right e way new → IsClosedUnder new s →
+    s right ≡ true → s e ≡ true
+join_there framed right e way new s cut shut h =
+    let there : s cut.middle.darts ≡ true =
+    by_next new s right cut.middle.darts shut (omega (arith, cut.chord.darts, cut.fits.d_in)) cut.chord.next_d h in
+    by_next new s cut.middle.darts e shut (omega (arith, cut.chord.darts)) (cut.chord.next_there ∙ cut.split.next_first) there
+
+-- and back
+pub join_back : (framed : DartMap) (right e way : ℕ) (new : DartMap) (s : ℕ → Bool) → IsLinked framed → IsCut framed right e way new →
+    IsClosedUnder new s → right ≢ framed.prev e → right ≢ framed.prev (framed.reverse_dart e) → s (framed.prev e) ≡ true →
+    s (framed.next right) ≡ true
+join_back framed right e way new s linked cut shut not_c not_p h =
+    let linked_middle = split_linked framed e (framed.direction e) 2 cut.middle linked cut.e_in cut.split in
+    let middle : IsClosedUnder cut.middle s =
+    (chord_extended cut.middle right framed.darts way new linked_middle cut.fits cut.chord).shut s shut in
+    let first : s framed.darts ≡ true =
+    by_next cut.middle s (framed.prev e) framed.darts middle (omega (arith, cut.split.darts, linked.prev_in e cut.e_in))
+    cut.split.next_before h in
+    let back : s (cut.middle.darts + 1) ≡ true =
+    by_next new s framed.darts (cut.middle.darts + 1) shut (omega (arith, cut.chord.darts, cut.split.darts)) cut.chord.next_f first in
+    by_next new s (cut.middle.darts + 1) (framed.next right) shut (omega (arith, cut.chord.darts))
+    (cut.chord.next_back ∙ cut.split.next_other right cut.d_in not_c not_p) back
+
+-- a joined map is joined with the rectangle that a cut leads to
+pub join_joined : (w framed : DartMap) (right side way : ℕ) (new : DartMap) → IsLinked w → IsConnected w → IsFramed w framed → right < w.darts →
+    side < 4 → IsCut framed right (w.darts + side) way new → IsConnected new
+join_joined w framed right side way new linked joined f right_in side_in cut s next reverse_dart a b l_a l_b h =
+    let e : ℕ = w.darts + side in
+    let shut : IsClosedUnder new s = record { next = next; reverse_dart = reverse_dart } in
+    let linked_framed = framed_linked w framed linked f in
+    let extended = cut_extended framed right e way new linked_framed cut in
+    let shut_framed : IsClosedUnder framed s = extended.shut s shut in
+    let shut_old : IsClosedUnder w s = framed_shut w framed s f shut_framed in
+    let found = extended.some s shut a l_a h in
+    let prev_e : framed.prev e ≡ w.darts + (side + 3) % 4 = f.prev_inner side side_in in
+    let prev_t : framed.prev (framed.reverse_dart e) ≡ w.darts + 4 + (side + 1) % 4 =
+    ap framed.prev (f.reverse_dart_inner side side_in) ∙ f.prev_outer side side_in in
+    let from_old : (c : ℕ) → c < w.darts → s c ≡ true → (k : ℕ) → k < framed.darts → s k ≡ true = λ c l_c at k l_k.
+    elim (cases_lt k w.darts) [
+      | inl low ↦ joined s shut_old.next shut_old.reverse_dart c k l_c low at
+      | inr high ↦
+          let on : s right ≡ true = joined s shut_old.next shut_old.reverse_dart c right l_c right_in at in
+          ring_whole w framed s side f shut_framed side_in (join_there framed right e way new s cut shut on) k l_k high
+    ] in
+    let from_ring : (k : ℕ) → k < 4 → s (w.darts + k) ≡ true → s (w.next right) ≡ true = λ k l_k at.
+    let before : s (framed.prev e) ≡ true =
+    ring_whole w framed s k f shut_framed l_k at (framed.prev e) (omega (arith, prev_e, f.darts)) (omega (arith, prev_e)) in
+    subst (λ (j : ℕ). s j ≡ true) (f.next_old right right_in)
+    (join_back framed right e way new s linked_framed cut shut
+    (λ same. omega (arith, same, prev_e, right_in)) (λ same. omega (arith, same, prev_t, right_in)) before) in
+    extended.all s shut
+    (elim (cases_lt found.0 w.darts) [
+      | inl low ↦ from_old found.0 low found.2
+      | inr high ↦
+          let ring = ring_some w framed s found.0 f shut_framed found.1 high found.2 in
+          from_old (w.next right) (linked.next_in right right_in) (from_ring ring.0 ring.1 ring.2)
+    ]) b l_b
+
+-- a joined map stays joined in its rectangle
+pub enclosed_joined : (w : DartMap) (outside : ℕ) (new : DartMap) → IsLinked w → IsConnected w → IsEnclosed w outside new → IsConnected new
+enclosed_joined w outside new linked joined e =
+    let linked_framed = framed_linked w e.framed linked e.frame in
+    let linked_joined = cut_linked e.framed e.right (w.darts + e.side) e.way e.joined linked_framed e.join in
+    extended_joined e.joined new (grows_extended e.joined new linked_joined e.grows)
+    (join_joined w e.framed e.right e.side e.way e.joined linked joined e.frame e.right_in e.side_in e.join)

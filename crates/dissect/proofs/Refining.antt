@@ -1,0 +1,224 @@
+-- The whole: the drawing in its rectangle, joined and cut.
+use Rattle.std.proofs.Common.{◌≡◌, ◌≢◌, ℕ, ◌+◌, ◌-◌, ◌*◌, ◌%◌, ◌<◌, ◌≤◌, ◌∙◌, List, [], ◌∷◌, ◌++◌, Bool, true, false, cond, eqb, length, map, sum, take, drop, length-append, arith, subst, sym, ap, refl, inl, inr}
+use Rattle.std.specs.List.{list_any}
+use Rattle.std.proofs.lemmas.List.Sums.{sum_by-cons}
+use Rattle.common.specs.Sums.{sum_below}
+use Rattle.common.proofs.Sums.{sum_below-le}
+use Rattle.dissect.specs.declared.table.TheConstants.{RECTANGLE_ROOM}
+use Rattle.dissect.specs.DartMaps.{DartMap, IsLinked, IsSound, IsCut, Grows, reflex_turns}
+use Rattle.dissect.specs.Frames.{IsFramed, IsEnclosed}
+use Rattle.dissect.specs.FaceNumbers.{AreFaceNumbers, HasTurns}
+use Rattle.dissect.specs.Scan.{CanCut, HasRoom}
+use Rattle.dissect.specs.Turning.{total}
+use Rattle.dissect.specs.Faces.{Runs, IsRectangle, In, Distinct, Below, joined, AreWaiting, ReachesCorners, cut_up}
+use Rattle.dissect.proofs.Running.{run_direct, Runs-inside}
+use Rattle.dissect.proofs.Scanning.{run_direction, cut_sound, cut_reflex_turns}
+use Rattle.dissect.proofs.Reaching.{cut_reaches, grows_sound, grows_reaches, cut_vertices, grows_vertices}
+use Rattle.dissect.specs.Listed.{AreFlat, AreJoined, AreListed, detour}
+use Rattle.dissect.proofs.Orbits.{distinct_few}
+use Rattle.dissect.proofs.Turns.{listed_sum, turns_reach}
+use Rattle.dissect.proofs.Sounding.{by_side, frame_linked, frame_sound, frame_reflex_turns}
+use Rattle.dissect.proofs.JoinedFaces.{frame_run, IsJoining}
+use Rattle.dissect.proofs.Merging.{join_waits}
+
+take_own : (r s : List ℕ) → take (length r) (r ++ s) ≡ r
+take_own [] s = refl
+take_own (x ∷ r) s = ap (λ (xs : List ℕ). x ∷ xs) (take_own r s)
+
+drop_own : (r s : List ℕ) → drop (length r) (r ++ s) ≡ s
+drop_own [] s = refl
+drop_own (x ∷ r) s = drop_own r s
+
+-- flat lists are cut up into the faces that they hold
+pub cut_up_flat : (faces : List (List ℕ)) → cut_up (joined faces) (map (λ (r : List ℕ). length r) faces) ≡ faces
+cut_up_flat [] = refl
+cut_up_flat (r ∷ rs) =
+    let lengths : List ℕ = map (λ (q : List ℕ). length q) rs in
+    ap (λ (xs : List ℕ). xs ∷ cut_up (drop (length r) (r ++ joined rs)) lengths) (take_own r (joined rs))
+    ∙ ap (λ (xs : List ℕ). r ∷ cut_up xs lengths) (drop_own r (joined rs))
+    ∙ ap (λ (qs : List (List ℕ)). r ∷ qs) (cut_up_flat rs)
+
+pub sum_flat : (faces : List (List ℕ)) → sum (map (λ (r : List ℕ). length r) faces) ≡ length (joined faces)
+sum_flat [] = refl
+sum_flat (r ∷ rs) = omega (arith, sum_by-cons (λ (k : ℕ). k) (length r) (map (λ (q : List ℕ). length q) rs), sum_flat rs, length-append r (joined rs))
+
+-- what a table of flat lists says of the faces that wait
+pub record AreReady (w : DartMap) (o : ℕ) (corners counts : List ℕ) : Type 0 where
+  pub waiting : AreWaiting w o (cut_up corners counts)
+  pub all : sum counts ≡ length corners
+  pub few : length corners ≤ w.darts
+
+pub flat_ready : (w : DartMap) (o : ℕ) (corners counts : List ℕ) (faces : List (List ℕ)) → AreFlat corners counts faces → AreWaiting w o faces →
+    AreReady w o corners counts
+flat_ready w o corners counts faces flat waiting =
+    let few : length (joined faces) ≤ w.darts = distinct_few w.darts (joined faces) waiting.distinct waiting.below in
+    let lengths : List ℕ = map (λ (r : List ℕ). length r) faces in
+    let ready : AreReady w o (joined faces) lengths = record {
+      waiting = subst (AreWaiting w o) (sym (cut_up_flat faces)) waiting;
+      all = sum_flat faces;
+      few = few;
+    } in
+    subst (λ (xs : List ℕ). AreReady w o xs counts) (sym flat.flat)
+    (subst (λ (ns : List ℕ). AreReady w o (joined faces) ns) (sym flat.lengths) ready)
+
+-- a face of four rights has four different corners
+four_distinct : (w : DartMap) (o : ℕ) → IsSound w → o < w.darts → (four : IsRectangle w 3 o) →
+    Distinct (o ∷ four.second ∷ four.third ∷ four.fourth ∷ []) × Below w.darts (o ∷ four.second ∷ four.third ∷ four.fourth ∷ [])
+four_distinct w o sound l four =
+    let l2 : four.second < w.darts = Runs-inside w o four.second sound.linked l four.to_second in
+    let l3 : four.third < w.darts = Runs-inside w four.second four.third sound.linked l2 four.to_third in
+    let l4 : four.fourth < w.darts = Runs-inside w four.third four.fourth sound.linked l3 four.to_fourth in
+    let d1 = run_direction w sound four.to_second.places o four.second l four.to_second.run in
+    let d2 = run_direction w sound four.to_third.places four.second four.third l2 four.to_third.run in
+    let d3 = run_direction w sound four.to_fourth.places four.third four.fourth l3 four.to_fourth.run in
+    let q1 = sound.meeting.quarter o l in
+    let q2 = sound.meeting.quarter four.second l2 in
+    let q3 = sound.meeting.quarter four.third l3 in
+    let q4 = sound.meeting.quarter four.fourth l4 in
+    let e2 : w.direction four.second ≡ (w.direction o + 3) % 4 = omega (arith, d1, q1, q2, four.angle_first) in
+    let e3 : w.direction four.third ≡ (w.direction o + 2) % 4 = omega (arith, d2, e2, q1, q3, four.angle_second) in
+    let e4 : w.direction four.fourth ≡ (w.direction o + 1) % 4 = omega (arith, d3, e3, q1, q4, four.angle_third) in
+    let n12 : o ≢ four.second = λ h. omega (arith, ap w.direction h, e2, q1) in
+    let n13 : o ≢ four.third = λ h. omega (arith, ap w.direction h, e3, q1) in
+    let n14 : o ≢ four.fourth = λ h. omega (arith, ap w.direction h, e4, q1) in
+    let n23 : four.second ≢ four.third = λ h. omega (arith, ap w.direction h, e2, e3, q1) in
+    let n24 : four.second ≢ four.fourth = λ h. omega (arith, ap w.direction h, e2, e4, q1) in
+    let n34 : four.third ≢ four.fourth = λ h. omega (arith, ap w.direction h, e3, e4, q1) in (
+      (
+        (λ here. out3 o four.second four.third four.fourth n12 n13 n14 here),
+        ((λ here. out2 four.second four.third four.fourth n23 n24 here), ((λ here. out1 four.third four.fourth n34 here), ((λ here. here), tt))),
+      ),
+      (l, (l2, (l3, (l4, tt)))),
+    )
+  where
+    out1 : (a b : ℕ) → a ≢ b → In a (b ∷ []) → ⊥
+    out1 a b ne here = elim here [ inl e ↦ ne e | inr none ↦ none ]
+
+    out2 : (a b c : ℕ) → a ≢ b → a ≢ c → In a (b ∷ c ∷ []) → ⊥
+    out2 a b c nb nc here = elim here [ inl e ↦ nb e | inr later ↦ out1 a c nc later ]
+
+    out3 : (a b c d : ℕ) → a ≢ b → a ≢ c → a ≢ d → In a (b ∷ c ∷ d ∷ []) → ⊥
+    out3 a b c d nb nc nd here = elim here [ inl e ↦ nb e | inr later ↦ out2 a c d nc nd later ]
+
+pub four_reflex_turns : (w : DartMap) (o : ℕ) → IsSound w → o < w.darts → IsRectangle w 3 o → 4 ≤ reflex_turns w
+four_reflex_turns w o sound l four =
+    let xs : List ℕ = o ∷ four.second ∷ four.third ∷ four.fourth ∷ [] in
+    let f : ℕ → ℕ = λ a. w.angle a - 2 in
+    let apart = four_distinct w o sound l four in
+    let listed : sum_below w.darts (λ x. cond (list_any (eqb x) xs) (f x) 0) ≡ total (map f xs) = listed_sum w.darts f xs apart.0 apart.1 in
+    let less : sum_below w.darts (λ x. cond (list_any (eqb x) xs) (f x) 0) ≤ reflex_turns w =
+    sum_below-le w.darts (λ x. cond (list_any (eqb x) xs) (f x) 0) f (λ x x_in. at_most (list_any (eqb x) xs) (f x)) in
+    omega (arith, listed, less, four.angle_first, four.angle_second, four.angle_third, four.angle_fourth)
+  where
+    at_most : (b : Bool) (k : ℕ) → cond b k 0 ≤ k
+    at_most true k = omega arith
+    at_most false k = omega arith
+
+pub frame_reaches : (w new : DartMap) → IsFramed w new → IsLinked w → ReachesCorners w → ReachesCorners new
+frame_reaches w new s linked reaches = λ a l.
+    by_side w.darts (λ a. (c : ℕ) × Runs new a c)
+    (λ a l. ((reaches a l).0, frame_run w new s linked (reaches a l).1.places a (reaches a l).0 l (reaches a l).1.run))
+    (λ k l. (
+      w.darts + (k + 1) % 4,
+      run_direct new (w.darts + k) (w.darts + (k + 1) % 4) (s.next_inner k l)
+          (λ h. omega (arith, h, s.angle_inner ((k + 1) % 4) (omega arith))),
+    ))
+    (λ k l. (
+      w.darts + 4 + (k + 3) % 4,
+      run_direct new (w.darts + 4 + k) (w.darts + 4 + (k + 3) % 4) (s.next_outer k l)
+          (λ h. omega (arith, h, s.angle_outer ((k + 3) % 4) (omega arith))),
+    ))
+    a (omega (arith, s.darts, l))
+
+-- the side that the right turn faces can be cut
+pub facing_can : (w framed : DartMap) (right side : ℕ) → IsSound w → IsFramed w framed → right < w.darts → 2 < w.angle right → side < 4 →
+    (side + w.angle right) % 4 ≡ w.direction right → CanCut framed right (w.darts + (side + 3) % 4)
+facing_can w framed right side sound s right_in turn side_in faces =
+    let behind : framed.next (w.darts + (side + 3) % 4) ≡ w.darts + side = omega (arith, s.next_inner ((side + 3) % 4) (omega arith)) in
+    record {
+      d_in = omega (arith, s.darts, right_in);
+      c_in = omega (arith, s.darts);
+      right = omega (arith, s.angle_old right right_in, turn);
+      faces = omega (
+        arith,
+        ap framed.direction behind,
+        s.direction_inner side side_in,
+        s.angle_old right right_in,
+        s.direction_old right right_in,
+        faces,
+      );
+    }
+
+-- what the rectangle and the cut make of the map
+pub joining_of : (w framed : DartMap) (right side way : ℕ) (new : DartMap) → IsSound w → IsFramed w framed → right < w.darts → side < 4 →
+    IsCut framed right (framed.next (w.darts + (side + 3) % 4)) way new → IsJoining w framed right side way new
+joining_of w framed right side way new sound s right_in side_in cut =
+    let behind : framed.next (w.darts + (side + 3) % 4) ≡ w.darts + side = omega (arith, s.next_inner ((side + 3) % 4) (omega arith)) in
+    record {
+      linked = sound.linked;
+      frame = s;
+      right_in = right_in;
+      side_in = side_in;
+      join = subst (λ (e : ℕ). IsCut framed right e way new) behind cut;
+    }
+
+pub join_sound : (w framed : DartMap) (right side way : ℕ) (new : DartMap) → IsSound w → IsJoining w framed right side way new → IsSound new
+join_sound w framed right side way new sound j =
+    cut_sound framed right (w.darts + side) way new (frame_sound w framed j.frame sound) j.join
+
+pub join_room : (w framed : DartMap) (right side way room : ℕ) (new : DartMap) → IsJoining w framed right side way new →
+    w.darts + 4 * reflex_turns w + RECTANGLE_ROOM ≤ room → HasRoom new room
+join_room w framed right side way room new j space =
+    omega (
+      arith,
+      cut_reflex_turns framed right (w.darts + side) way new j.join,
+      frame_reflex_turns w framed j.frame,
+      j.join.chord.darts,
+      j.join.split.darts,
+      j.frame.darts,
+      space,
+    )
+
+pub join_ready : (w framed : DartMap) (right side way : ℕ) (new : DartMap) → IsSound w → IsJoining w framed right side way new →
+    (inner : List (List ℕ)) (outer corners counts : List ℕ) → (listed : AreListed w right inner outer) →
+    AreJoined w right side listed.front inner corners counts → (k : ℕ) → k < 4 → AreReady new (w.darts + 4 + k) corners counts
+join_ready w framed right side way new sound j inner outer corners counts listed made k k_in =
+    flat_ready new (w.darts + 4 + k) corners counts (inner ++ ((made.kept ++ detour w.darts side) ∷ [])) made.flat
+    (join_waits w framed right side way new j k k_in inner outer made.kept listed (sound.meeting.most right j.right_in) made.is_kept)
+
+pub enclosed_by : (w : DartMap) (outside : ℕ) (framed : DartMap) (right side way : ℕ) (new last : DartMap) →
+    ((label : ℕ → ℕ) → AreFaceNumbers w label → label right ≡ label outside) → IsJoining w framed right side way new → Grows new last →
+    IsEnclosed w outside last
+enclosed_by w outside framed right side way new last same_face j grows = record {
+  framed = framed;
+  frame = j.frame;
+  joined = new;
+  right = right;
+  side = side;
+  way = way;
+  right_in = j.right_in;
+  same_face = same_face;
+  side_in = j.side_in;
+  join = j.join;
+  grows = grows;
+}
+
+pub enclosed_reaches : (w framed : DartMap) (right side way : ℕ) (new last : DartMap) (label : ℕ → ℕ) (outer : ℕ) → IsSound w → HasTurns w label outer →
+    IsJoining w framed right side way new → Grows new last → ReachesCorners last
+enclosed_reaches w framed right side way new last label outer sound turns j grows =
+    grows_reaches new last (join_sound w framed right side way new sound j) grows
+    (cut_reaches framed right (w.darts + side) way new (frame_linked w framed j.frame sound.linked) j.join
+    (frame_reaches w framed j.frame sound.linked (turns_reach w label outer sound.linked turns)))
+
+pub enclosed_few : (w framed : DartMap) (right side way : ℕ) (new last : DartMap) → IsSound w → IsJoining w framed right side way new → Grows new last →
+    AreWaiting last (w.darts + 4) [] → last.vertices ≤ w.vertices + reflex_turns w + 4
+enclosed_few w framed right side way new last sound j grows done =
+    let last_sound = grows_sound new last (join_sound w framed right side way new sound j) grows in
+    omega (
+      arith,
+      grows_vertices new last grows,
+      cut_vertices framed right (w.darts + side) way new j.join,
+      frame_reflex_turns w framed j.frame,
+      j.frame.vertices,
+      four_reflex_turns last (w.darts + 4) last_sound done.inside done.outside,
+    )

@@ -1,0 +1,244 @@
+-- All faces are walked round, one after another.
+use Rattle.std.proofs.Common.{◌≡◌, ◌≢◌, ◌⊎◌, ℕ, zero, suc, ◌+◌, ◌-◌, ◌<◌, ◌≤◌, ◌∙◌, List, [], ◌∷◌, ◌++◌, Bool, false, length, map, get_or, replicate, length-append, append_assoc, append-nil, arith, subst, sym, ap, refl, inl, inr}
+use Rattle.std.proofs.lemmas.Bool.{cases_eq, both_ways}
+use Rattle.dissect.specs.DartMaps.{DartMap, IsLinked}
+use Rattle.dissect.specs.Faces.{IsCorner, Ring, In, Distinct, Below, joined, TurnsOnce, AreRings}
+use Rattle.dissect.specs.FaceNumbers.{HasTurns}
+use Rattle.dissect.proofs.Listing.{in_append, in_left, in_right, below_append, distinct_append}
+use Rattle.dissect.specs.Walks.{steps, path, turning, IsOrbit, IsMarked, IsWalked}
+use Rattle.dissect.specs.Listed.{AreListed, AreFlat}
+use Rattle.dissect.proofs.Orbits.{steps_in, steps_more, steps_add, path_member, path_holds, path_below, length-path, orbit_distinct, in_turning, turning_in, turning_distinct, turning_below, turning_straight, turning_corner, orbit_ends, orbit_ring}
+use Rattle.dissect.proofs.Turns.{orbit_holds, orbit_once, orbit_outside}
+
+pub joined_more : (rs : List (List ℕ)) (r : List ℕ) → joined (rs ++ (r ∷ [])) ≡ joined rs ++ r
+joined_more [] r = append-nil r
+joined_more (q ∷ rs) r = ap (λ (xs : List ℕ). q ++ xs) (joined_more rs r) ∙ sym (append_assoc q (joined rs) r)
+
+pub lengths_more : (rs : List (List ℕ)) (r : List ℕ) →
+    map (λ (q : List ℕ). length q) (rs ++ (r ∷ [])) ≡ map (λ (q : List ℕ). length q) rs ++ (length r ∷ [])
+lengths_more [] r = refl
+lengths_more (q ∷ rs) r = ap (λ (xs : List ℕ). length q ∷ xs) (lengths_more rs r)
+
+pub rings_more : (w : DartMap) (rs : List (List ℕ)) (r : List ℕ) → AreRings w rs → Ring w r → TurnsOnce w r → AreRings w (rs ++ (r ∷ []))
+rings_more w [] r rings ring once = ((ring, once), tt)
+rings_more w (q ∷ rs) r rings ring once = (rings.0, rings_more w rs r rings.1 ring once)
+
+-- a walk that is back holds what follows each of its darts
+pub path_closed : (w : DartMap) (a p x : ℕ) → IsOrbit w a p → In x (path w a p) → In (w.next x) (path w a p)
+path_closed w a p x orbit here =
+    let m = path_member w x a p here in
+    elim (cases_eq m.0 p) [
+      | inl e ↦
+          let there : w.next x ≡ steps w 1 a = ap w.next (sym m.3 ∙ ap (λ (k : ℕ). steps w k a) e ∙ orbit.back) in
+          subst (λ (z : ℕ). In z (path w a p)) (sym there) (path_holds w a p 1 (omega arith) orbit.some)
+      | inr less ↦
+          let there : w.next x ≡ steps w (suc m.0) a = ap w.next (sym m.3) ∙ sym (steps_more w m.0 a) in
+          subst (λ (z : ℕ). In z (path w a p)) (sym there) (path_holds w a p (suc m.0) (omega arith) (omega (arith, m.2, less)))
+    ]
+
+pub path_self : (w : DartMap) (a p : ℕ) → IsOrbit w a p → In a (path w a p)
+path_self w a p orbit = subst (λ (z : ℕ). In z (path w a p)) orbit.back (path_holds w a p p orbit.some (omega arith))
+
+-- marks that "next" stays within
+abbrev pub AreShut : DartMap → List Bool → Type 0
+AreShut w marks = (a : ℕ) → a < w.darts → IsMarked marks a → IsMarked marks (w.next a)
+
+shut_steps : (w : DartMap) (marks : List Bool) → IsLinked w → AreShut w marks → (k a : ℕ) → a < w.darts → IsMarked marks a → IsMarked marks (steps w k a)
+shut_steps w marks linked shut zero a l m = m
+shut_steps w marks linked shut (suc k) a l m = shut_steps w marks linked shut k (w.next a) (linked.next_in a l) (shut a l m)
+
+-- a walk that passes a marked dart began at one
+pub shut_back : (w : DartMap) (marks : List Bool) (a p x : ℕ) → IsLinked w → AreShut w marks → a < w.darts → IsOrbit w a p →
+    In x (path w a p) → IsMarked marks x → IsMarked marks a
+shut_back w marks a p x linked shut l orbit here m =
+    let j = path_member w x a p here in
+    let e : j.0 + (p - j.0) ≡ p = omega (arith, j.2) in
+    let back : steps w (p - j.0) x ≡ a =
+    ap (steps w (p - j.0)) (sym j.3) ∙ sym (steps_add w j.0 (p - j.0) a) ∙ ap (λ (k : ℕ). steps w k a) e ∙ orbit.back in
+    let inside : x < w.darts = subst (λ (z : ℕ). z < w.darts) j.3 (steps_in w linked j.0 a l) in
+    subst (IsMarked marks) back (shut_steps w marks linked shut (p - j.0) x inside m)
+
+-- the outer face is walked, and the faces of the corners below d
+pub record IsTracing (w : DartMap) (right : ℕ) (marks : List Bool) (corners counts outer : List ℕ) (d : ℕ) : Type 0 where
+  pub inner : List (List ℕ)
+  pub flat : AreFlat corners counts inner
+  pub rings : AreRings w inner
+  pub distinct : Distinct (joined inner)
+  pub below : Below w.darts (joined inner)
+  pub size : w.darts ≤ length marks
+  pub shut : AreShut w marks
+  pub listed : (a : ℕ) → In a (joined inner) → IsMarked marks a
+  pub known : (a : ℕ) → IsMarked marks a → IsCorner w a → In a (joined inner) ⊎ In a outer
+  pub passed : (a : ℕ) → a < d → IsCorner w a → IsMarked marks a
+  pub places : ℕ
+  pub orbit : IsOrbit w right places
+  pub outer_is : outer ≡ turning w (path w right places)
+  pub held : (a : ℕ) → In a (path w right places) → IsMarked marks a
+  pub apart : (a : ℕ) → In a (joined inner) → In a (path w right places) → ⊥
+
+pub trace_begins : (w : DartMap) (right : ℕ) (none marks : List Bool) (outer : List ℕ) → ((a : ℕ) → IsMarked none a → ⊥) → w.darts ≤ length marks →
+    IsWalked w right none marks [] outer → IsTracing w right marks [] [] outer 0
+trace_begins w right none marks outer blank size walked = record {
+  inner = [];
+  flat = record { flat = refl; lengths = refl };
+  rings = tt;
+  distinct = tt;
+  below = tt;
+  size = size;
+  shut = λ a l m. elim (walked.only a m) [
+    | inl old ↦ absurd (blank a old)
+    | inr here ↦ walked.passed (w.next a) (path_closed w right walked.places a walked.orbit here)
+  ];
+  listed = λ a h. absurd h;
+  known = λ a m corner. elim (walked.only a m) [
+    | inl old ↦ absurd (blank a old)
+    | inr here ↦ inr (subst (In a) (sym walked.corners) (turning_in w a (path w right walked.places) here corner))
+  ];
+  passed = λ a l. absurd (omega arith);
+  places = walked.places;
+  orbit = walked.orbit;
+  outer_is = walked.corners;
+  held = walked.passed;
+  apart = λ a h. absurd h;
+}
+
+-- a dart that was seen, or that goes straight on, is passed over
+pub trace_skips : (w : DartMap) (right : ℕ) (marks : List Bool) (corners counts outer : List ℕ) (d : ℕ) →
+    IsTracing w right marks corners counts outer d → IsMarked marks d ⊎ (w.angle d ≡ 2) → IsTracing w right marks corners counts outer (d + 1)
+trace_skips w right marks corners counts outer d trace skip = record {
+  inner = trace.inner;
+  flat = trace.flat;
+  rings = trace.rings;
+  distinct = trace.distinct;
+  below = trace.below;
+  size = trace.size;
+  shut = trace.shut;
+  listed = trace.listed;
+  known = trace.known;
+  passed = λ a l corner. elim (cases_eq a d) [
+    | inl e ↦ elim skip [
+      | inl marked ↦ subst (IsMarked marks) (sym e) marked
+      | inr straight ↦ absurd (corner (ap w.angle e ∙ straight))
+    ]
+    | inr other ↦ trace.passed a (omega arith) corner
+  ];
+  places = trace.places;
+  orbit = trace.orbit;
+  outer_is = trace.outer_is;
+  held = trace.held;
+  apart = trace.apart;
+}
+
+-- a corner that was not seen begins a new face
+pub trace_more : (w : DartMap) (right : ℕ) (label : ℕ → ℕ) (marks after : List Bool) (corners counts outer new : List ℕ) (d count : ℕ) →
+    IsLinked w → right < w.darts → HasTurns w label (label right) → d < w.darts → w.angle d ≢ 2 → (IsMarked marks d → ⊥) →
+    length after ≡ length marks → count ≡ length new - length corners →
+    IsTracing w right marks corners counts outer d → IsWalked w d marks after corners new →
+    IsTracing w right after new (counts ++ (count ∷ [])) outer (d + 1)
+trace_more w right label marks after corners counts outer new d count linked right_in turns d_in corner bare same_size counted trace walked =
+    let p : ℕ = walked.places in
+    let r : List ℕ = turning w (path w d p) in
+    let inner : List (List ℕ) = trace.inner in
+    let fresh : (x : ℕ) → In x (path w d p) → IsMarked marks x → ⊥ =
+    λ x here m. bare (shut_back w marks d p x linked trace.shut d_in walked.orbit here m) in
+    let inside : label d ≢ label right =
+    λ h. bare (trace.held d (orbit_holds w label right trace.places d linked turns.labels right_in trace.orbit d_in h)) in
+    let long : count ≡ length r = omega (arith, counted, ap length walked.corners, length-append corners r) in
+    record {
+      inner = inner ++ (r ∷ []);
+      flat = record {
+        flat = walked.corners ∙ ap (λ (xs : List ℕ). xs ++ r) trace.flat.flat ∙ sym (joined_more inner r);
+        lengths = ap (λ (k : ℕ). counts ++ (k ∷ [])) long ∙ ap (λ (xs : List ℕ). xs ++ (length r ∷ [])) trace.flat.lengths
+            ∙ sym (lengths_more inner r);
+      };
+      rings = rings_more w inner r trace.rings (orbit_ring w d p walked.orbit corner)
+          (orbit_once w label (label right) d p linked turns d_in walked.orbit inside);
+      distinct = subst Distinct (sym (joined_more inner r))
+          (distinct_append (joined inner) r trace.distinct (turning_distinct w (path w d p) (orbit_distinct w d p linked d_in walked.orbit))
+          (λ a left right. fresh a (in_turning w a (path w d p) right).0 (trace.listed a left)));
+      below = subst (Below w.darts) (sym (joined_more inner r))
+          (below_append w.darts (joined inner) r trace.below (turning_below w w.darts (path w d p) (path_below w linked d p d_in)));
+      size = omega (arith, trace.size, same_size);
+      shut = λ a l m. elim (walked.only a m) [
+        | inl old ↦ walked.kept (w.next a) (trace.shut a l old)
+        | inr here ↦ walked.passed (w.next a) (path_closed w d p a walked.orbit here)
+      ];
+      listed = λ a h. elim (in_append a (joined inner) r (subst (In a) (joined_more inner r) h)) [
+        | inl left ↦ walked.kept a (trace.listed a left)
+        | inr right ↦ walked.passed a (in_turning w a (path w d p) right).0
+      ];
+      known = λ a m turn. elim (walked.only a m) [
+        | inl old ↦ elim (trace.known a old turn) [
+          | inl left ↦ inl (subst (In a) (sym (joined_more inner r)) (in_left a (joined inner) r left))
+          | inr outside ↦ inr outside
+        ]
+        | inr here ↦ inl (subst (In a) (sym (joined_more inner r)) (in_right a (joined inner) r (turning_in w a (path w d p) here turn)))
+      ];
+      passed = λ a l turn. elim (cases_eq a d) [
+        | inl e ↦ subst (IsMarked after) (sym e) (walked.passed d (path_self w d p walked.orbit))
+        | inr other ↦ walked.kept a (trace.passed a (omega arith) turn)
+      ];
+      places = trace.places;
+      orbit = trace.orbit;
+      outer_is = trace.outer_is;
+      held = λ a h. walked.kept a (trace.held a h);
+      apart = λ a h outside. elim (in_append a (joined inner) r (subst (In a) (joined_more inner r) h)) [
+        | inl left ↦ trace.apart a left outside
+        | inr right ↦ fresh a (in_turning w a (path w d p) right).0 (trace.held a outside)
+      ];
+    }
+
+pub trace_done : (w : DartMap) (right : ℕ) (label : ℕ → ℕ) (marks : List Bool) (corners counts outer : List ℕ) (d : ℕ) → IsLinked w →
+    right < w.darts → 2 < w.angle right → HasTurns w label (label right) → w.darts ≤ d → IsTracing w right marks corners counts outer d →
+    (inner : List (List ℕ)) × AreFlat corners counts inner × AreListed w right inner outer
+trace_done w right label marks corners counts outer d linked right_in turn turns all trace =
+    let p : ℕ = trace.places in
+    let r : List ℕ = turning w (path w right p) in
+    let corner : IsCorner w right = λ h. omega (arith, h, turn) in
+    let listed : AreListed w right trace.inner r = record {
+      rings = trace.rings;
+      distinct = distinct_append (joined trace.inner) r trace.distinct
+          (turning_distinct w (path w right p) (orbit_distinct w right p linked right_in trace.orbit))
+          (λ a left outside. trace.apart a left (in_turning w a (path w right p) outside).0);
+      below = below_append w.darts (joined trace.inner) r trace.below
+          (turning_below w w.darts (path w right p) (path_below w linked right p right_in));
+      ring = orbit_ring w right p trace.orbit corner;
+      front = turning w (path w right (p - 1));
+      ends = orbit_ends w right p trace.orbit corner;
+      turns_back = orbit_outside w label right p linked turns right_in trace.orbit;
+      all = λ a l turn. elim (trace.known a (trace.passed a (omega (arith, l, all)) turn) turn) [
+        | inl left ↦ in_left a (joined trace.inner) r left
+        | inr outside ↦ in_right a (joined trace.inner) r (subst (In a) trace.outer_is outside)
+      ];
+    } in
+    (trace.inner, trace.flat, subst (AreListed w right trace.inner) (sym trace.outer_is) listed)
+
+turning_few : (w : DartMap) (xs : List ℕ) → length (turning w xs) ≤ length xs
+turning_few w [] = omega arith
+turning_few w (x ∷ xs) =
+    elim (cases_eq (w.angle x) 2) [
+      | inl e ↦ omega (arith, ap length (turning_straight w x xs e), turning_few w xs)
+      | inr e ↦ omega (arith, ap length (turning_corner w x xs e), turning_few w xs)
+    ]
+
+-- a walk lists no more corners than there are darts
+pub walked_few : (w : DartMap) (start : ℕ) (before after : List Bool) (others listed : List ℕ) → IsWalked w start before after others listed →
+    length listed ≤ length others + w.darts
+walked_few w start before after others listed walked =
+    omega (
+      arith,
+      ap length walked.corners,
+      length-append others (turning w (path w start walked.places)),
+      turning_few w (path w start walked.places),
+      length-path w start walked.places,
+      walked.orbit.most,
+    )
+
+-- at first no dart is marked
+pub unmarked : (n a : ℕ) → IsMarked (replicate n false) a → ⊥
+unmarked n a m = both_ways (get_or (replicate n false) a false) (none n a) m
+  where
+    none : (n a : ℕ) → get_or (replicate n false) a false ≡ false
+    none zero a = refl
+    none (suc n) zero = refl
+    none (suc n) (suc a) = none n a

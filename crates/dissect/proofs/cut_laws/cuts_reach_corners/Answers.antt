@@ -1,0 +1,5 @@
+use Rattle.dissect.proofs.Reaching.{grows_reaches}
+use Rattle.dissect.proofs.cut_laws.cuts_reach_corners.Goals as goal
+
+pub returns : goal.returns
+returns c = grows_reaches

@@ -1,0 +1,5 @@
+use Rattle.dissect.proofs.Existence.{directions}
+use Rattle.dissect.proofs.direction_laws.directions_exist.Goals as goal
+
+pub returns : goal.returns
+returns c = directions

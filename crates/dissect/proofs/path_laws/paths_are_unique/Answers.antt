@@ -1,0 +1,11 @@
+use Rattle.dissect.proofs.Backwards.{path_distinct, path_short, path_unique}
+use Rattle.dissect.proofs.path_laws.paths_are_unique.Goals as goal
+
+pub returns : goal.returns
+returns c w end first rest narrow path = (
+  path_distinct w end first rest narrow path,
+  path_short w end first rest narrow path,
+  λ other others path'.
+      let one = path_unique w end first other rest others narrow path path' in
+      (one.first, one.rests),
+)

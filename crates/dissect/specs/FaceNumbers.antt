@@ -1,0 +1,25 @@
+-- Faces given by numbers, and how often each of them turns.
+use Rattle.std.specs.Prelude.{◌≡◌, ◌≢◌, ℕ, ◌+◌, ◌*◌, ◌<◌, ◌==◌, Bool, true, if◌then◌else◌}
+use Rattle.common.specs.Sums.{sum_below}
+use Rattle.dissect.specs.DartMaps.{DartMap}
+
+-- two darts have one number exactly where they are of one face
+pub record AreFaceNumbers (w : DartMap) (label : ℕ → ℕ) : Type 0 where
+  pub stays : (a : ℕ) → a < w.darts → label (w.next a) ≡ label a
+  -- each set closed under "next" that holds one dart of a face holds them all
+  pub least : (s : ℕ → Bool) → ((a : ℕ) → a < w.darts → s a ≡ true → s (w.next a) ≡ true)
+      → (a b : ℕ) → a < w.darts → b < w.darts → label a ≡ label b → s a ≡ true → s b ≡ true
+
+-- how many darts the face f has
+abbrev pub darts_round : DartMap → (ℕ → ℕ) → ℕ → ℕ
+darts_round w label f = sum_below w.darts (λ a. if label a == f then 1 else 0)
+
+-- the sum of their angles
+abbrev pub angles_round : DartMap → (ℕ → ℕ) → ℕ → ℕ
+angles_round w label f = sum_below w.darts (λ a. if label a == f then w.angle a else 0)
+
+-- the walk turns once to the right round the outer face, and once to the left round each other face
+pub record HasTurns (w : DartMap) (label : ℕ → ℕ) (outer : ℕ) : Type 0 where
+  pub labels : AreFaceNumbers w label
+  pub inner : (a : ℕ) → a < w.darts → label a ≢ outer → angles_round w label (label a) + 4 ≡ 2 * darts_round w label (label a)
+  pub outside : angles_round w label outer ≡ 2 * darts_round w label outer + 4

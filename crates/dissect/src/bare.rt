@@ -1,0 +1,147 @@
+//! The table of a plane's darts before the edges have bends.
+
+ghost use Rattle.std.specs.Prelude.{◌≡◌, ◌+◌, ◌-◌, ◌*◌, ◌<◌, ◌≤◌, ℕ, IfOk, length, slice_index, slice_set, vec_len};
+ghost use Rattle.common.specs.Sums.{sum_below};
+ghost use Rattle.faces.specs.Planes.{darts, vertices, head, reverse_dart, next};
+ghost use Rattle.ortho_rep.specs.Shapes.{angle_at, turns_at};
+ghost use Rattle.ortho_rep.specs.Representation.{HasDarts};
+ghost use Rattle.dissect.specs.declared.table.TheConstants.{NO_DART, RECTANGLE_ROOM};
+ghost use Rattle.dissect.specs.Tables.{dart_map_of, room};
+ghost use Rattle.dissect.specs.Bare.{IsBare, IsBlank};
+
+use crate::table::{DartTable, NO_DART, RECTANGLE_ROOM};
+use common::filled;
+use faces::Plane;
+use ortho_rep::Shape;
+use std::alloc::AllocError;
+
+/// How many darts the table of a shape is to have room for: those of the plane, two for each bend, four for
+/// each right turn, of which there are at most two for each vertex and one for each bend, and
+/// `RECTANGLE_ROOM` for a rectangle round it. A bend is two turns here, one of each dart of its edge. At
+/// most a step for each dart.
+pub fn room_for(plane: &Plane, shape: &Shape) -> u32
+    requires { HasDarts plane.now shape.now }
+    ensures { let turns = sum_below (darts plane.now) (λ d. length (turns_at shape.now d)) in
+        result ≡ darts plane.now + 3 * turns + 8 * vertices plane.now + RECTANGLE_ROOM }
+{
+    let graph = plane.graph();
+    let turns = shape.turn_count();
+    u32::from(graph.darts()) + 3 * turns + 8 * u32::from(graph.vertices()) + RECTANGLE_ROOM
+}
+
+/// A table of so many darts and vertices, of which nothing is written yet, with room for `places` darts at least,
+/// in the memory of this one. Only where that is too short are its lists filled anew.
+fn blank_table(
+    table: DartTable,
+    darts: u32,
+    vertices: u32,
+    places: u32,
+) -> Result<DartTable, AllocError>
+    requires space { darts ≤ places }
+    requires few { vertices ≤ darts }
+    ensures { IfOk result (IsBlank darts vertices places) }
+{
+    let places = places as usize;
+    if places <= table.next.len() {
+        return Ok(DartTable {
+            next: table.next,
+            prev: table.prev,
+            reverse_dart: table.reverse_dart,
+            head: table.head,
+            before: table.before,
+            direction: table.direction,
+            angle: table.angle,
+            darts,
+            vertices,
+        });
+    }
+    Ok(DartTable {
+        next: filled(table.next, places, 0)?,
+        prev: filled(table.prev, places, 0)?,
+        reverse_dart: filled(table.reverse_dart, places, 0)?,
+        head: filled(table.head, places, 0)?,
+        before: filled(table.before, places, NO_DART)?,
+        direction: filled(table.direction, places, 0)?,
+        angle: filled(table.angle, places, 0)?,
+        darts,
+        vertices,
+    })
+}
+
+/// Writes the items over the first ones of the list.
+fn put_first(list: &mut Vec<u8>, items: &[u8])
+    requires inside { length items.now ≤ vec_len list.old }
+    ensures here { (k : ℕ) → k < length items.now → slice_index list.new.items k ≡ slice_index items.now k }
+    ensures room { vec_len list.new ≡ vec_len list.old }
+{
+    list[0..items.len()].copy_from_slice(items);
+}
+
+/// Writes the directions of the first darts.
+fn put_directions(table: &mut DartTable, directions: &[u8])
+    requires inside { length directions.now ≤ room table.old }
+    ensures here { (k : ℕ) → k < length directions.now
+        → slice_index table.new.direction.items k ≡ slice_index directions.now k }
+    ensures darts { table.new.darts ≡ table.old.darts }
+    ensures vertices { table.new.vertices ≡ table.old.vertices }
+    ensures room { room table.new ≡ room table.old }
+{
+    put_first(&mut table.direction, directions);
+}
+
+/// Writes what the table holds of a dart beside its direction: its next, its reverse, its head and its angle, and
+/// that none is in front of it; and the dart as the previous one of its next.
+fn write_dart(table: &mut DartTable, plane: &Plane, shape: &Shape, dart: u16)
+    requires within { dart < darts plane.now }
+    requires space { darts plane.now ≤ room table.old }
+    requires shape { HasDarts plane.now shape.now }
+    ensures next { table.new.next.items ≡ slice_set table.old.next.items dart (next plane.now dart) }
+    ensures prev { table.new.prev.items ≡ slice_set table.old.prev.items (next plane.now dart) dart }
+    ensures reverse_dart { table.new.reverse_dart.items ≡ slice_set table.old.reverse_dart.items dart (reverse_dart plane.now dart) }
+    ensures head { table.new.head.items ≡ slice_set table.old.head.items dart (head plane.now dart - 1) }
+    ensures direction { table.new.direction.items ≡ table.old.direction.items }
+    ensures angle { table.new.angle.items
+        ≡ slice_set table.old.angle.items dart (angle_at shape.now dart) }
+    ensures before { table.new.before.items ≡ slice_set table.old.before.items dart NO_DART }
+    ensures darts { table.new.darts ≡ table.old.darts }
+    ensures vertices { table.new.vertices ≡ table.old.vertices }
+    ensures room { room table.new ≡ room table.old }
+{
+    let graph = plane.graph();
+    let place = usize::from(dart);
+    let next = plane.next(dart);
+    table.next[place] = u32::from(next);
+    table.prev[usize::from(next)] = u32::from(dart);
+    table.reverse_dart[place] = u32::from(graph.reverse(dart));
+    table.head[place] = u32::from(graph.head(dart)) - 1;
+    table.before[place] = NO_DART;
+    table.angle[place] = shape.angle(dart);
+}
+
+/// The table of a plane's darts with these directions and the angles of the shape, and with at least so much
+/// room, in the memory of an earlier table. A step for each dart; where the arrays have not enough room, an allocation
+/// for each, and a step for each of their places.
+pub fn bare_table(
+    table: DartTable,
+    plane: &Plane,
+    shape: &Shape,
+    directions: &[u8],
+    places: u32,
+) -> Result<DartTable, AllocError>
+    requires shape { HasDarts plane.now shape.now }
+    requires directions { length directions.now ≡ darts plane.now }
+    requires space { darts plane.now ≤ places }
+    ensures bare { IfOk result (λ t. IsBare plane.now (angle_at shape.now)
+        (slice_index directions.now) (dart_map_of t)) }
+    ensures room { IfOk result (λ t. places ≤ room t) }
+{
+    let graph = plane.graph();
+    let darts = u32::from(graph.darts());
+    let vertices = u32::from(graph.vertices());
+    let mut table = blank_table(table, darts, vertices, places)?;
+    put_directions(&mut table, directions);
+    'darts: for dart in 0..graph.darts() {
+        write_dart(&mut table, plane, shape, dart);
+    }
+    Ok(table)
+}

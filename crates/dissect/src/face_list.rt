@@ -1,0 +1,114 @@
+//! The corners of all faces of a drawing, listed.
+
+ghost use Rattle.std.specs.Prelude.{◌≡◌, ◌<◌, ◌≤◌, ◌+◌, ℕ, [], IfOk, List, OnOk};
+ghost use Rattle.dissect.specs.FaceNumbers.{HasTurns};
+ghost use Rattle.dissect.specs.Tables.{room, dart_map_of};
+ghost use Rattle.dissect.specs.DartMaps.{IsLinked};
+ghost use Rattle.dissect.specs.Listed.{AreFlat, AreJoined, AreListed};
+
+use crate::table::DartTable;
+use crate::walks::walk;
+use common::{emptied, filled};
+use std::alloc::{AllocError, Global};
+
+/// The corners of faces, those of each face in walking order, whose memory can be used again.
+#[derive(Drop)]
+pub struct Faces {
+    /// The corners of the inner faces, one face after another, and behind them those of the joined face
+    /// once it is added.
+    pub(crate) corners: Vec<u32>,
+    /// How many corners each of these faces has.
+    pub(crate) counts: Vec<u32>,
+    /// The corners of the outer face.
+    pub(crate) outer: Vec<u32>,
+    // the darts whose faces are listed
+    seen: Vec<bool>,
+}
+
+impl Faces {
+    /// No faces. It takes no memory.
+    pub fn empty(alloc: Global) -> Faces
+        ensures { result.corners.items ≡ [] }
+    {
+        Faces {
+            corners: Vec::new(alloc),
+            counts: Vec::new(alloc),
+            outer: Vec::new(alloc),
+            seen: Vec::new(alloc),
+        }
+    }
+}
+
+/// How many faces a joined drawing has, by Euler's formula. Only how much room is made for them rests on it.
+fn face_count(table: &DartTable) -> usize {
+    (table.darts / 2 + 2).saturating_sub(table.vertices) as usize
+}
+
+/// Lists the corners of all faces. The outer face is that of the right turn `right`, with which its
+/// corners end. They stand in the memory of earlier faces. Linear in the darts.
+pub fn list_faces(table: &DartTable, right: u32, faces: Faces) -> Result<Faces, AllocError>
+    requires linked { IsLinked (dart_map_of table.now) }
+    requires inside { right < table.now.darts }
+    requires turn { 2 < (dart_map_of table.now).angle right }
+    requires turns { (label : ℕ → ℕ) × HasTurns (dart_map_of table.now) label (label right) }
+    ensures listed { IfOk result (λ f. (inner : List (List ℕ)) × AreFlat f.corners.items f.counts.items inner
+        × AreListed (dart_map_of table.now) right inner f.outer.items) }
+{
+    // No face has more corners than darts, nor have all of them together.
+    let darts = table.darts as usize;
+    let mut seen = filled(faces.seen, darts, false)?;
+    let mut outer = emptied(faces.outer, darts)?;
+    walk(table, right, &mut seen, &mut outer)?;
+    // The joined face has the corners of the outer face, and seven more.
+    let mut corners = emptied(faces.corners, darts + 7)?;
+    let mut counts = emptied(faces.counts, face_count(table))?;
+    'darts: for start in 0..table.darts {
+        if !seen[start as usize] && table.angle[start as usize] != 2 {
+            let before = corners.len();
+            walk(table, start, &mut seen, &mut corners)?;
+            counts.push((corners.len() - before) as u32)?;
+        }
+    }
+    Ok(Faces {
+        corners,
+        counts,
+        outer,
+        seen,
+    })
+}
+
+/// Adds the face that a cut from `right` to the side `side` makes of the outer face and the inside of
+/// the rectangle: behind `right` it goes along the cut, round the inside of the rectangle and back.
+/// `right` stays one of its corners unless the cut leaves it straight.
+pub fn add_joined_face(
+    table: &DartTable,
+    right: u32,
+    side: u32,
+    faces: &mut Faces,
+) -> Result<(), AllocError>
+    requires inside { right < table.now.darts }
+    requires sides { side < 4 }
+    requires space { table.now.darts + 12 ≤ room table.now }
+    requires listed { (inner : List (List ℕ)) × AreListed (dart_map_of table.now) right inner faces.old.outer.items }
+    ensures joined { OnOk result ((inner : List (List ℕ)) → (listed : AreListed (dart_map_of table.now) right inner faces.old.outer.items)
+        → AreFlat faces.old.corners.items faces.old.counts.items inner
+        → AreJoined (dart_map_of table.now) right side listed.front inner faces.new.corners.items faces.new.counts.items) }
+{
+    let n = table.darts;
+    if table.angle[right as usize] == 3 {
+        faces.outer.pop();
+    }
+    let kept = faces.outer.len() as u32;
+    faces.corners.extend_from_slice(faces.outer.as_slice())?;
+    faces.corners.extend_from_slice(&[
+        n + 10,
+        n + side,
+        n + (side + 1) % 4,
+        n + (side + 2) % 4,
+        n + (side + 3) % 4,
+        n + 8,
+        n + 11,
+    ])?;
+    faces.counts.push(kept + 7)?;
+    Ok(())
+}

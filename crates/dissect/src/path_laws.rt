@@ -1,0 +1,76 @@
+//! Laws of the definitions, each as the contract of a function that does nothing.
+
+ghost use Rattle.std.specs.Prelude.{◌≡◌, ◌≢◌, ◌<◌, ◌≤◌, ◌⊎◌, ◌+◌, ◌-◌, ◌%◌, ◌++◌, ℕ, List, [], ◌∷◌, length};
+ghost use Rattle.dissect.specs.DartMaps.{DartMap, IsLinked, IsSound, IsSubdivided, IsCut, Grows, no_dart};
+ghost use Rattle.dissect.specs.Faces.{Distinct};
+ghost use Rattle.dissect.specs.Paths.{HasPaths, IsConnected, IsPath, turn_to};
+ghost use Rattle.dissect.specs.Frames.{IsEnclosed};
+
+/// Where no dart stands before another, each dart is the path of an edge without turns.
+pub fn darts_are_paths()
+    ensures { (w : DartMap) (n : ℕ) (reverse_dart : ℕ → ℕ) → w.darts ≡ n
+        → ((a : ℕ) → a < n → w.before a ≡ no_dart)
+        → ((a : ℕ) → a < n → w.reverse_dart a ≡ reverse_dart a)
+        → HasPaths w n reverse_dart (λ _. []) }
+{}
+
+/// A split that does not turn keeps the turns of each edge.
+pub fn splits_keep_paths()
+    ensures { (w : DartMap) (e way : ℕ) (new : DartMap) (n : ℕ) (reverse_dart : ℕ → ℕ) (quarters : ℕ → List ℕ)
+        → IsLinked w → e < w.darts → way < 4 → IsSubdivided w e way 2 new
+        → HasPaths w n reverse_dart quarters → HasPaths new n reverse_dart quarters }
+{}
+
+/// A split that turns gives the edge of `e` a last turn, the way back the opposite one as its first, and the
+/// other edges none.
+pub fn bends_turn_paths()
+    ensures { (w : DartMap) (e way bend : ℕ) (new : DartMap) (n : ℕ) (reverse_dart : ℕ → ℕ) (quarters turned : ℕ → List ℕ)
+        → IsLinked w → e < n → w.darts ≤ no_dart → way < 4 → (bend ≡ 1) ⊎ (bend ≡ 3) → IsSubdivided w e way bend new
+        → ((d : ℕ) → d < n → reverse_dart d < n) → ((d : ℕ) → d < n → reverse_dart (reverse_dart d) ≡ d) → reverse_dart e ≢ e
+        → turned e ≡ quarters e ++ (bend ∷ [])
+        → turned (reverse_dart e) ≡ (4 - bend) ∷ quarters (reverse_dart e)
+        → ((d : ℕ) → d < n → d ≢ e → d ≢ reverse_dart e → turned d ≡ quarters d)
+        → HasPaths w n reverse_dart quarters → HasPaths new n reverse_dart turned }
+{}
+
+/// Cuts keep the turns of each edge.
+pub fn cuts_keep_paths()
+    ensures { (w new : DartMap) (n : ℕ) (reverse_dart : ℕ → ℕ) (quarters : ℕ → List ℕ) → IsSound w → Grows w new
+        → HasPaths w n reverse_dart quarters → HasPaths new n reverse_dart quarters }
+{}
+
+/// A rectangle round the map, its join and the cuts after it keep the turns of each edge.
+pub fn rectangles_keep_paths()
+    ensures { (w : DartMap) (outside : ℕ) (new : DartMap) (n : ℕ) (reverse_dart : ℕ → ℕ) (quarters : ℕ → List ℕ) → IsSound w
+        → IsEnclosed w outside new
+        → HasPaths w n reverse_dart quarters → HasPaths new n reverse_dart quarters }
+{}
+
+/// A split of an edge leaves a joined map joined.
+pub fn splits_stay_joined()
+    ensures { (w : DartMap) (e way bend : ℕ) (new : DartMap) → IsLinked w → e < w.darts → IsSubdivided w e way bend new
+        → IsConnected w → IsConnected new }
+{}
+
+/// Cuts leave a joined map joined.
+pub fn cuts_stay_joined()
+    ensures { (w new : DartMap) → IsSound w → Grows w new → IsConnected w → IsConnected new }
+{}
+
+/// A joined map in its rectangle is joined.
+pub fn rectangles_are_joined()
+    ensures { (w : DartMap) (outside : ℕ) (new : DartMap) → IsSound w → IsEnclosed w outside new → IsConnected w → IsConnected new }
+{}
+
+/// There is one path to a dart, no dart is on it twice, and it has no more darts than the map.
+pub fn paths_are_unique()
+    ensures { (w : DartMap) (end first : ℕ) (rest : List ℕ) → w.darts ≤ no_dart → IsPath w end first rest
+        → (Distinct (first ∷ rest)) × (length rest < w.darts)
+        × ((other : ℕ) (others : List ℕ) → IsPath w end other others → (first ≡ other) × (rest ≡ others)) }
+{}
+
+/// From one dart of a path to the next one the direction changes by the turn between them.
+pub fn paths_turn()
+    ensures { (w : DartMap) (a b : ℕ) → IsSound w → a < w.darts → b < w.darts
+        → w.direction b ≡ (w.direction a + turn_to w a b) % 4 }
+{}

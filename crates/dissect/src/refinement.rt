@@ -1,0 +1,64 @@
+//! Puts a rectangle round a drawing in four directions, joins the two, and cuts every face into boxes.
+//!
+//! A cut leads from a right turn of the outer face to the side of the rectangle that it faces, so that
+//! the outer face and the inside of the rectangle become one face. Each face but the outside of the
+//! rectangle then turns once to the left, and is cut into boxes.
+
+ghost use Rattle.std.specs.Prelude.{◌≡◌, ◌<◌, ◌≤◌, ◌+◌, ◌*◌, ◌%◌, ℕ, [], OnErr, OnOk};
+ghost use Rattle.dissect.specs.declared.table.TheConstants.{RECTANGLE_ROOM};
+ghost use Rattle.dissect.specs.Faces.{AreWaiting, ReachesCorners};
+ghost use Rattle.dissect.specs.Frames.{IsEnclosed};
+ghost use Rattle.dissect.specs.FaceNumbers.{HasTurns};
+ghost use Rattle.dissect.specs.Tables.{room, dart_map_of};
+ghost use Rattle.dissect.specs.DartMaps.{IsSound, reflex_turns};
+
+use crate::face_list::{Faces, add_joined_face, list_faces};
+use crate::rectangle::frame;
+use crate::scan::{cut_across, cut_faces};
+use crate::table::DartTable;
+use crate::walks::find_right;
+use std::alloc::{AllocError, Global};
+
+/// The side of the rectangle that a cut from the right turn `right` goes to: 0 to 3 for that whose
+/// inside runs to the east, north, west and south.
+fn facing_side(table: &DartTable, right: u32) -> u32
+    requires sound { IsSound (dart_map_of table.now) }
+    requires inside { right < table.now.darts }
+    ensures side { result < 4 }
+    ensures faces { (result + (dart_map_of table.now).angle right) % 4 ≡ (dart_map_of table.now).direction right }
+{
+    u32::from(table.direction[right as usize] + 4 - table.angle[right as usize]) % 4
+}
+
+/// Puts a rectangle round the drawing, joins it to a right turn of the outer face, which is that of
+/// the dart `outside`, and cuts all faces into boxes. The table needs room for four darts for each
+/// right turn, and for `RECTANGLE_ROOM` more. Linear in the darts. Faces are listed in the memory that is
+/// lent, which is given back.
+///
+/// # Errors
+///
+/// `AllocError` where there is no memory for the lists of faces; the table is then as it was, and the memory
+/// that was lent is gone.
+pub fn refine_in(table: &mut DartTable, outside: u32, faces: Faces) -> Result<Faces, AllocError>
+    requires sound { IsSound (dart_map_of table.old) }
+    requires turns { (label : ℕ → ℕ) × HasTurns (dart_map_of table.old) label (label outside) }
+    requires inside { outside < table.old.darts }
+    requires space { table.old.darts + 4 * reflex_turns (dart_map_of table.old) + RECTANGLE_ROOM ≤ room table.old }
+    ensures sound { OnOk result (IsSound (dart_map_of table.new)) }
+    ensures enclosed { OnOk result (IsEnclosed (dart_map_of table.old) outside (dart_map_of table.new)) }
+    ensures done { OnOk result ((k : ℕ) → k < 4 → AreWaiting (dart_map_of table.new) (table.old.darts + 4 + k) []) }
+    ensures reaches { OnOk result (ReachesCorners (dart_map_of table.new)) }
+    ensures few { OnOk result (table.new.vertices ≤ table.old.vertices + reflex_turns (dart_map_of table.old) + 4) }
+    ensures unchanged { OnErr result (dart_map_of table.new ≡ dart_map_of table.old) }
+    ensures room { room table.new ≡ room table.old }
+{
+    let right = find_right(table, outside);
+    let mut faces = list_faces(table, right, faces)?;
+    let side = facing_side(table, right);
+    add_joined_face(table, right, side, &mut faces)?;
+    let corner = table.darts + (side + 3) % 4;
+    frame(table);
+    cut_across(table, right, corner);
+    cut_faces(table, faces.corners.as_mut_slice(), faces.counts.as_slice());
+    Ok(faces)
+}

@@ -1,0 +1,130 @@
+//! The table of a drawing's darts, with splits and chords.
+
+ghost use Rattle.std.specs.Prelude.{◌≡◌, ◌≢◌, ◌+◌, ◌^◌, ◌<◌, ◌≤◌, vec_len};
+
+use crate::links::{link, pair, put_in_front, take_over};
+use std::alloc::Global;
+
+/// Stands where there is no dart.
+pub const NO_DART: u32 = u32::MAX;
+
+/// How many more darts a table needs room for where a rectangle is put round its drawing: 8 for the sides,
+/// and 4 for each of the four right turns at its corners, as for each other right turn.
+pub const RECTANGLE_ROOM: u32 = 24;
+
+/// The darts of a drawing in four directions, in flat arrays with room for more of them. Darts and
+/// vertices are numbered from 0, directions by quarter turns to the left from east, and angles
+/// count right angles.
+#[derive(Drop)]
+pub struct DartTable {
+    /// The next dart of the face on the left.
+    pub next: Vec<u32>,
+    /// The previous dart of that face.
+    pub prev: Vec<u32>,
+    /// The dart along the same edge the other way.
+    pub reverse_dart: Vec<u32>,
+    /// The vertex that the dart goes to.
+    pub head: Vec<u32>,
+    /// The dart in front of it on the same edge of the plane, side of a rectangle or chord, or `NO_DART`
+    /// where it is the first there.
+    pub before: Vec<u32>,
+    /// The direction in which it arrives.
+    pub direction: Vec<u8>,
+    /// The angle at its head, between it and the next dart.
+    pub angle: Vec<u8>,
+    pub darts: u32,
+    pub vertices: u32,
+    ghost prev_room: { vec_len prev ≡ vec_len next },
+    ghost reverse_dart_room: { vec_len reverse_dart ≡ vec_len next },
+    ghost head_room: { vec_len head ≡ vec_len next },
+    ghost before_room: { vec_len before ≡ vec_len next },
+    ghost direction_room: { vec_len direction ≡ vec_len next },
+    ghost angle_room: { vec_len angle ≡ vec_len next },
+    ghost darts_in: { darts ≤ vec_len next },
+    ghost few: { vertices ≤ darts },
+    ghost narrow: { vec_len next < 2 ^ 32 },
+}
+
+impl DartTable {
+    ghost use Rattle.dissect.specs.DartMaps.{IsLinked, IsSubdivided, IsChord, Fits};
+    ghost use Rattle.dissect.specs.Tables.{dart_map_of, room};
+
+    /// A table with no darts and no room. It takes no memory.
+    pub fn empty(alloc: Global) -> DartTable
+        ensures { room result ≡ 0 }
+    {
+        DartTable {
+            next: Vec::new(alloc),
+            prev: Vec::new(alloc),
+            reverse_dart: Vec::new(alloc),
+            head: Vec::new(alloc),
+            before: Vec::new(alloc),
+            direction: Vec::new(alloc),
+            angle: Vec::new(alloc),
+            darts: 0,
+            vertices: 0,
+        }
+    }
+
+    /// Splits the edge of the dart `e` by a new vertex, at which the walk along `e` arrives in the
+    /// direction `way` and has the angle `bend` on its left.
+    pub fn split(&mut self, e: u32, way: u8, bend: u8)
+        requires linked { IsLinked (dart_map_of self.old) }
+        requires e_in { e < self.old.darts }
+        requires space { self.old.darts + 2 ≤ room self.old }
+        requires quarter { way < 4 }
+        requires short { bend ≤ 4 }
+        ensures split { IsSubdivided (dart_map_of self.old) e way bend (dart_map_of self.new) }
+        ensures room { room self.new ≡ room self.old }
+    {
+        let first = self.darts;
+        let second = first + 1;
+        let vertex = self.vertices;
+        let reverse_dart = self.reverse_dart[e as usize];
+        put_in_front(&mut self.next, &mut self.prev, first, e);
+        put_in_front(&mut self.next, &mut self.prev, second, reverse_dart);
+        pair(&mut self.reverse_dart, e, second);
+        pair(&mut self.reverse_dart, reverse_dart, first);
+        take_over(&mut self.before, first, e);
+        take_over(&mut self.before, second, reverse_dart);
+        self.head[first as usize] = vertex;
+        self.head[second as usize] = vertex;
+        self.direction[first as usize] = way;
+        self.direction[second as usize] = (way + 4 - bend) % 4;
+        self.angle[first as usize] = bend;
+        self.angle[second as usize] = 4 - bend;
+        self.darts += 2;
+        self.vertices += 1;
+    }
+
+    /// Joins the corner at the head of the dart `d` with the corner at the head of the dart `f` by an
+    /// edge that leaves in the direction `way`.
+    pub fn chord(&mut self, d: u32, f: u32, way: u8)
+        requires linked { IsLinked (dart_map_of self.old) }
+        requires fits { Fits (dart_map_of self.old) d f way }
+        requires space { self.old.darts + 2 ≤ room self.old }
+        ensures chord { IsChord (dart_map_of self.old) d f way (dart_map_of self.new) }
+        ensures room { room self.new ≡ room self.old }
+    {
+        let there = self.darts;
+        let back = there + 1;
+        let after_d = self.next[d as usize];
+        let after_f = self.next[f as usize];
+        link(&mut self.next, &mut self.prev, d, there);
+        link(&mut self.next, &mut self.prev, there, after_f);
+        link(&mut self.next, &mut self.prev, f, back);
+        link(&mut self.next, &mut self.prev, back, after_d);
+        pair(&mut self.reverse_dart, there, back);
+        self.head[there as usize] = self.head[f as usize];
+        self.head[back as usize] = self.head[d as usize];
+        self.before[there as usize] = NO_DART;
+        self.before[back as usize] = NO_DART;
+        self.direction[there as usize] = way;
+        self.direction[back as usize] = (way + 2) % 4;
+        self.angle[there as usize] = 1;
+        self.angle[back as usize] = 1;
+        self.angle[d as usize] -= 1;
+        self.angle[f as usize] -= 1;
+        self.darts += 2;
+    }
+}

@@ -1,0 +1,67 @@
+//! Walks round the faces of a drawing.
+
+ghost use Rattle.std.specs.Prelude.{◌≡◌, ◌≢◌, ◌⊎◌, ◌<◌, ◌≤◌, ℕ, [], ◌∷◌, ◌++◌, OnOk, vec_len};
+ghost use Rattle.dissect.specs.FaceNumbers.{AreFaceNumbers, HasTurns};
+ghost use Rattle.dissect.specs.Tables.{dart_map_of};
+ghost use Rattle.dissect.specs.DartMaps.{IsLinked};
+ghost use Rattle.dissect.specs.Walks.{IsWalked};
+
+use crate::table::DartTable;
+use std::alloc::AllocError;
+
+/// The first right turn on the walk from `outside` on, round a face whose walk turns to the right.
+/// Linear in the darts of the face.
+pub fn find_right(table: &DartTable, outside: u32) -> u32
+    requires linked { IsLinked (dart_map_of table.now) }
+    requires inside { outside < table.now.darts }
+    requires turns { (label : ℕ → ℕ) × HasTurns (dart_map_of table.now) label (label outside) }
+    ensures inside { result < table.now.darts }
+    ensures right { 2 < (dart_map_of table.now).angle result }
+    ensures same { (label : ℕ → ℕ) → AreFaceNumbers (dart_map_of table.now) label → label result ≡ label outside }
+{
+    let mut dart = outside;
+    'steps: for _ in 0..table.darts {
+        if table.angle[dart as usize] > 2 {
+            return dart;
+        }
+        dart = table.next[dart as usize];
+    }
+    dart
+}
+
+/// Puts a dart behind the corners if it is one, that is, if its angle is not straight. It is put there in any case,
+/// and let go again if it is none: whether it is one could not be foreseen by a branch.
+fn push_corner(corners: &mut Vec<u32>, dart: u32, angle: u8) -> Result<(), AllocError>
+    ensures { OnOk result (((angle ≢ 2) × (corners.new.items ≡ corners.old.items ++ (dart ∷ [])))
+        ⊎ ((angle ≡ 2) × (corners.new.items ≡ corners.old.items))) }
+{
+    corners.push(dart)?;
+    corners.truncate(corners.len() - usize::from(angle == 2));
+    Ok(())
+}
+
+/// Walks from the dart `start` once round its face, marks the darts as seen, and adds the corners
+/// among them to the list, `start` last where it is one.
+pub fn walk(
+    table: &DartTable,
+    start: u32,
+    seen: &mut Vec<bool>,
+    corners: &mut Vec<u32>,
+) -> Result<(), AllocError>
+    requires linked { IsLinked (dart_map_of table.now) }
+    requires inside { start < table.now.darts }
+    requires size { table.now.darts ≤ vec_len seen.old }
+    ensures size { vec_len seen.new ≡ vec_len seen.old }
+    ensures walked { OnOk result (IsWalked (dart_map_of table.now) start seen.old.items seen.new.items corners.old.items corners.new.items) }
+{
+    let mut dart = start;
+    'steps: for _ in 0..table.darts {
+        dart = table.next[dart as usize];
+        seen[dart as usize] = true;
+        push_corner(corners, dart, table.angle[dart as usize])?;
+        if dart == start {
+            return Ok(());
+        }
+    }
+    Ok(())
+}

@@ -1,0 +1,56 @@
+-- Boxes of a least shape show no cause, so a laid answer has a drawing.
+use Rattle.std.proofs.Common.{◌≡◌, ℕ, List, Result, Ok, Err, refl, subst}
+use Rattle.common.specs.declared.choice.Choice.{Choice}
+use Rattle.faces.specs.Planes.{PlaneModel, IsPlane}
+use Rattle.ortho_rep.specs.Shapes.{ShapeModel}
+use Rattle.ortho_rep.specs.Points.{PointsModel}
+use Rattle.ortho_rep.specs.Prices.{PricesModel}
+use Rattle.ortho_rep.specs.Representation.{IsLeast}
+use Rattle.drawing_check.specs.Draws.{Draws}
+use Rattle.dissect.specs.Boxes.{BoxesModel}
+use Rattle.dissect.specs.Boxed.{IsBoxed}
+use Rattle.drawing_laws.proofs.Numbers.{boxes_ordered}
+use Rattle.entries.specs.declared.cause.Cause.{Cause}
+use Rattle.entries.specs.Drawn.{ShowsCause, HasPoints}
+use Rattle.entries.specs.declared.answer.Answer.{Answer}
+use Rattle.entries.specs.declared.answer.Answer.TheVariants.{Laid, Refused, NoMemory}
+use Rattle.entries.specs.Answers.{IsLaid, Answers}
+use Rattle.drawing_laws.specs.Drawings.{HasDrawing, IsDrawnIfLaid}
+use Rattle.drawing_laws.specs.Least.{HasNoOrder}
+use Rattle.drawing_laws.specs.Left.{MayShow}
+use Rattle.drawing_laws.proofs.Left.{left_of_least}
+use Rattle.drawing_laws.proofs.WideOnly.{shown_wide}
+
+-- some numbers are in the order of the boxes
+some_order : (plane : PlaneModel) (shape : ShapeModel) (b : BoxesModel) → IsBoxed plane shape b → ¬ HasNoOrder b
+some_order plane shape b boxed none =
+    let (x, y, ordered) = boxes_ordered b boxed.boxes in
+    none x y ordered
+
+pub none_shown : (plane : PlaneModel) (shape : ShapeModel) (b : BoxesModel) (cause : Cause)
+    → IsPlane plane → IsLeast plane shape → IsBoxed plane shape b → ¬ ShowsCause plane shape b cause
+none_shown plane shape b cause is least boxed shown =
+    some_order plane shape b boxed
+    (subst (MayShow b) (shown_wide plane shape b cause is boxed shown) (left_of_least plane shape b cause is least boxed shown))
+
+pub no_cause : (choice : Choice) (bytes : List ℕ) (plane : PlaneModel) (shape : ShapeModel) (prices : PricesModel) (cause : Cause)
+    → ¬ IsLaid choice bytes plane shape prices (Err cause)
+no_cause choice bytes plane shape prices cause is =
+    let found = is.drawn in
+    none_shown plane shape found.boxes cause is.rules is.least found.boxed found.shown
+
+pub drawn : (choice : Choice) (bytes : List ℕ) (plane : PlaneModel) (shape : ShapeModel) (prices : PricesModel) (drawing : Result PointsModel Cause)
+    → IsLaid choice bytes plane shape prices drawing
+    → (points : PointsModel) × (drawing ≡ Ok points) × HasPoints plane points × Draws plane shape points
+drawn choice bytes plane shape prices (Ok points) is = (points, refl, is.drawn.0, is.drawn.1)
+drawn choice bytes plane shape prices (Err cause) is = absurd (no_cause choice bytes plane shape prices cause is)
+
+laid_drawn : (choice : Choice) (bytes : List ℕ) (plane : PlaneModel) (shape : ShapeModel) (prices : PricesModel) (drawing : Result PointsModel Cause)
+    → IsLaid choice bytes plane shape prices drawing → HasDrawing plane shape drawing
+laid_drawn choice bytes plane shape prices (Ok points) is = is.drawn
+laid_drawn choice bytes plane shape prices (Err cause) is = no_cause choice bytes plane shape prices cause is
+
+pub answer_drawn : (choice : Choice) (bytes : List ℕ) (answer : Answer) → Answers choice bytes answer → IsDrawnIfLaid answer
+answer_drawn choice bytes (Laid plane shape prices drawing) is = laid_drawn choice bytes plane shape prices drawing is
+answer_drawn choice bytes (Refused rule) is = tt
+answer_drawn choice bytes NoMemory is = tt

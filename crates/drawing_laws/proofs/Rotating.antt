@@ -1,0 +1,75 @@
+-- A map whose directions are all turned by so many quarters is one of the same kind.
+use Rattle.std.proofs.Common.{ℕ, zero, suc, ◌+◌, ◌%◌, arith, inl, inr}
+use Rattle.dissect.specs.DartMaps.{DartMap, IsSound}
+use Rattle.dissect.specs.Faces.{RunsIn, Runs, IsRectangle}
+use Rattle.dissect.specs.Boxes.{IsCutUp}
+
+abbrev pub rotated : DartMap → ℕ → DartMap
+rotated w r = record {
+  darts = w.darts;
+  vertices = w.vertices;
+  next = w.next;
+  prev = w.prev;
+  reverse_dart = w.reverse_dart;
+  head = w.head;
+  direction = λ a. (w.direction a + r) % 4;
+  angle = w.angle;
+  before = w.before;
+}
+
+pub rotated_sound : (w : DartMap) (r : ℕ) → IsSound w → IsSound (rotated w r)
+rotated_sound w r sound = record {
+  linked = record {
+    next_in = sound.linked.next_in;
+    prev_in = sound.linked.prev_in;
+    next_back = sound.linked.next_back;
+    prev_back = sound.linked.prev_back;
+    reverse_dart_in = sound.linked.reverse_dart_in;
+    reverse_dart_back = sound.linked.reverse_dart_back;
+    reverse_dart_apart = sound.linked.reverse_dart_apart;
+  };
+  meeting = record {
+    head_in = sound.meeting.head_in;
+    meets = sound.meeting.meets;
+    quarter = λ a l. omega arith;
+    turns = λ a l. omega (arith, sound.meeting.turns a l);
+    some = sound.meeting.some;
+    most = sound.meeting.most;
+    whole = sound.meeting.whole;
+  };
+  straight = λ a l. omega (arith, sound.straight a l);
+}
+
+run : (w : DartMap) (r k a c : ℕ) → RunsIn w k a c → RunsIn (rotated w r) k a c
+run w r zero a c is = is
+run w r (suc k) a c is = (is.0, run w r k (w.next a) c is.1)
+
+pub runs : (w : DartMap) (r a c : ℕ) → Runs w a c → Runs (rotated w r) a c
+runs w r a c is = record { places = is.places; run = run w r is.places a c is.run }
+
+abbrev pub rectangle : (w : DartMap) (r g a : ℕ) → IsRectangle w g a → IsRectangle (rotated w r) g a
+rectangle w r g a is = record {
+  second = is.second;
+  third = is.third;
+  fourth = is.fourth;
+  to_second = runs w r a is.second is.to_second;
+  to_third = runs w r is.second is.third is.to_third;
+  to_fourth = runs w r is.third is.fourth is.to_fourth;
+  back = runs w r is.fourth a is.back;
+  angle_first = is.angle_first;
+  angle_second = is.angle_second;
+  angle_third = is.angle_third;
+  angle_fourth = is.angle_fourth;
+}
+
+abbrev pub rotated_cut : (w : DartMap) (r : ℕ) → IsCutUp w → IsCutUp (rotated w r)
+rotated_cut w r cut = record {
+  reaches = λ a l. let (c, is) = cut.reaches a l in (c, runs w r a c is);
+  outside = cut.outside;
+  outside_in = cut.outside_in;
+  around = rectangle w r 3 cut.outside cut.around;
+  corners = λ a l corner. elim (cut.corners a l corner) [
+    | inl box ↦ inl (rectangle w r 1 a box)
+    | inr out ↦ inr (record { four = rectangle w r 3 a out.four; holds = out.holds })
+  ];
+}

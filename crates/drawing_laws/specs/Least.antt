@@ -1,0 +1,33 @@
+-- The least numbers in the order of boxes.
+use Rattle.std.specs.Prelude.{◌≡◌, ℕ, ◌<◌, ◌≤◌, All}
+use Rattle.ortho_rep.specs.declared.points.Point.{Point}
+use Rattle.ortho_rep.specs.Points.{PointsModel}
+use Rattle.dissect.specs.Boxes.{BoxesModel, dart_map}
+use Rattle.dissect.specs.Ordered.{IsOrdered}
+
+-- numbers in the order of the boxes, and no others in it are lower at any vertex
+pub record AreLeast (b : BoxesModel) (x y : ℕ → ℕ) : Type 0 where
+  pub ordered : IsOrdered (dart_map b) x y
+  pub x_least : (x1 y1 : ℕ → ℕ) → IsOrdered (dart_map b) x1 y1 → (v : ℕ) → v < b.vertices → x v ≤ x1 v
+  pub y_least : (x1 y1 : ℕ → ℕ) → IsOrdered (dart_map b) x1 y1 → (v : ℕ) → v < b.vertices → y v ≤ y1 v
+
+-- there are least numbers in the order of the boxes
+abbrev pub HasLeast : BoxesModel → Type 0
+HasLeast b = (x : ℕ → ℕ) × (y : ℕ → ℕ) × AreLeast b x y
+
+-- the first n numbers have no gap: each number up to one of them is one of them
+abbrev pub HasNoGap : ℕ → (ℕ → ℕ) → Type 0
+HasNoGap n x = (v k : ℕ) → v < n → k ≤ x v → (u : ℕ) × (u < n) × (x u ≡ k)
+
+-- no numbers are in the order of the boxes
+abbrev pub HasNoOrder : BoxesModel → Type 0
+HasNoOrder b = (x y : ℕ → ℕ) → ¬ IsOrdered (dart_map b) x y
+
+-- both coordinates of a point are less than n
+abbrev pub IsBelow : ℕ → Point → Type 0
+IsBelow n point = (point.x < n) × (point.y < n)
+
+-- so are those of all points and corners
+pub record AreBelow (n : ℕ) (points : PointsModel) : Type 0 where
+  pub ends : All (IsBelow n) points.vertices
+  pub bends : All (All (IsBelow n)) points.corners

@@ -1,0 +1,14 @@
+-- What boxes may show in place of a drawing.
+use Rattle.std.specs.Prelude.{⊤}
+use Rattle.dissect.specs.Boxes.{BoxesModel}
+use Rattle.entries.specs.declared.cause.Cause.{Cause}
+use Rattle.entries.specs.declared.cause.Cause.TheVariants.{Wide, OutOfGrid, NotAxis, WrongTurn, Meet}
+use Rattle.drawing_laws.specs.Least.{HasNoOrder}
+
+-- `Wide` only where no numbers at all are in the order of the boxes, and `OutOfGrid` never
+abbrev pub MayShow : BoxesModel → Cause → Type 0
+MayShow boxes Wide = HasNoOrder boxes
+MayShow boxes OutOfGrid = ⊥
+MayShow boxes NotAxis = ⊤
+MayShow boxes WrongTurn = ⊤
+MayShow boxes Meet = ⊤

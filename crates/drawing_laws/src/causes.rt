@@ -1,0 +1,51 @@
+//! What is left of the causes that boxes may show in place of a drawing.
+
+ghost use Rattle.std.specs.Prelude.{◌≡◌, ◌+◌, ◌≤◌, ℕ, List, Err};
+ghost use Rattle.common.specs.declared.choice.Choice.{Choice};
+ghost use Rattle.faces.specs.Planes.{PlaneModel, IsPlane};
+ghost use Rattle.ortho_rep.specs.declared.points.TheConstants.{MAX_COORDINATE};
+ghost use Rattle.ortho_rep.specs.Shapes.{ShapeModel};
+ghost use Rattle.ortho_rep.specs.Points.{PointsModel};
+ghost use Rattle.ortho_rep.specs.Prices.{PricesModel};
+ghost use Rattle.ortho_rep.specs.Representation.{IsLeast};
+ghost use Rattle.drawing_check.specs.Draws.{AreInGrid};
+ghost use Rattle.dissect.specs.Boxes.{BoxesModel, AreBoxes};
+ghost use Rattle.dissect.specs.Boxed.{IsBoxed};
+ghost use Rattle.dissect.specs.Ordered.{AreLaidOut};
+ghost use Rattle.entries.specs.declared.cause.Cause.{Cause};
+ghost use Rattle.entries.specs.Drawn.{ShowsCause};
+ghost use Rattle.entries.specs.Answers.{IsLaid};
+ghost use Rattle.drawing_laws.specs.Least.{HasNoOrder};
+ghost use Rattle.drawing_laws.specs.Left.{MayShow};
+
+/// The points and corners of a layout are within the grid, so no boxes of a shape show `OutOfGrid`.
+pub fn layouts_are_in_grid()
+    ensures points { (b : BoxesModel) (points : PointsModel) → AreBoxes b → AreLaidOut b points → AreInGrid points }
+    ensures cause { (plane : PlaneModel) (shape : ShapeModel) (b : BoxesModel)
+        → IsBoxed plane shape b → ¬ ShowsCause plane shape b Cause.OutOfGrid }
+{}
+
+/// What boxes may show that have at most as many vertices as the grid has columns: `Wide` only where no numbers at all are in
+/// their order. The boxes of a shape with the fewest bends have so few, so the same holds of each cause that stands in place of
+/// points in a laid answer.
+pub fn causes_left()
+    ensures vertices { (plane : PlaneModel) (shape : ShapeModel) (b : BoxesModel) (cause : Cause)
+        → IsBoxed plane shape b → b.vertices ≤ MAX_COORDINATE + 1
+        → ShowsCause plane shape b cause → MayShow b cause }
+    ensures least { (plane : PlaneModel) (shape : ShapeModel) (b : BoxesModel) (cause : Cause)
+        → IsPlane plane → IsLeast plane shape → IsBoxed plane shape b
+        → ShowsCause plane shape b cause → MayShow b cause }
+    ensures laid { (choice : Choice) (bytes : List ℕ) (plane : PlaneModel) (shape : ShapeModel) (prices : PricesModel) (cause : Cause)
+        → IsLaid choice bytes plane shape prices (Err cause)
+        → (boxes : BoxesModel) × IsBoxed plane shape boxes × MayShow boxes cause }
+{}
+
+/// Points that are laid out for boxes of a shape of a plane draw it, so of the causes `Wide` alone can be shown. In place of points a
+/// laid answer has it only where some boxes of its shape have no numbers in their order at all.
+pub fn only_wide()
+    ensures shown { (plane : PlaneModel) (shape : ShapeModel) (b : BoxesModel) (cause : Cause)
+        → IsPlane plane → IsBoxed plane shape b → ShowsCause plane shape b cause → cause ≡ Cause.Wide }
+    ensures laid { (choice : Choice) (bytes : List ℕ) (plane : PlaneModel) (shape : ShapeModel) (prices : PricesModel) (cause : Cause)
+        → IsLaid choice bytes plane shape prices (Err cause)
+        → (boxes : BoxesModel) × IsBoxed plane shape boxes × HasNoOrder boxes × (cause ≡ Cause.Wide) }
+{}

@@ -1,0 +1,38 @@
+//! That no cause stands in place of points.
+
+ghost use Rattle.std.specs.Prelude.{◌≡◌, ℕ, List, Result, Ok, Err};
+ghost use Rattle.common.specs.declared.choice.Choice.{Choice};
+ghost use Rattle.faces.specs.Planes.{PlaneModel, IsPlane};
+ghost use Rattle.ortho_rep.specs.Shapes.{ShapeModel};
+ghost use Rattle.ortho_rep.specs.Points.{PointsModel};
+ghost use Rattle.ortho_rep.specs.Prices.{PricesModel};
+ghost use Rattle.ortho_rep.specs.Representation.{IsLeast};
+ghost use Rattle.drawing_check.specs.Draws.{Draws};
+ghost use Rattle.dissect.specs.Boxes.{BoxesModel};
+ghost use Rattle.dissect.specs.Boxed.{IsBoxed};
+ghost use Rattle.entries.specs.declared.cause.Cause.{Cause};
+ghost use Rattle.entries.specs.declared.answer.Answer.{Answer};
+ghost use Rattle.entries.specs.Drawn.{ShowsCause, HasPoints};
+ghost use Rattle.entries.specs.Answers.{IsLaid, Answers};
+ghost use Rattle.drawing_laws.specs.Drawings.{IsDrawnIfLaid};
+
+/// Boxes that dissect a shape with the fewest bends show no cause: some numbers are in their order, so the least ones are within the
+/// grid, and points that are taken from these draw the shape.
+pub fn no_cause_is_shown()
+    ensures { (plane : PlaneModel) (shape : ShapeModel) (b : BoxesModel) (cause : Cause)
+        → IsPlane plane → IsLeast plane shape → IsBoxed plane shape b → ¬ ShowsCause plane shape b cause }
+{}
+
+/// So a laid answer has no cause in place of points. It has points and corners for the whole plane, and they draw the shape.
+pub fn laid_answers_are_drawn()
+    ensures cause { (choice : Choice) (bytes : List ℕ) (plane : PlaneModel) (shape : ShapeModel) (prices : PricesModel) (cause : Cause)
+        → ¬ IsLaid choice bytes plane shape prices (Err cause) }
+    ensures points { (choice : Choice) (bytes : List ℕ) (plane : PlaneModel) (shape : ShapeModel) (prices : PricesModel) (drawing : Result PointsModel Cause)
+        → IsLaid choice bytes plane shape prices drawing
+        → (points : PointsModel) × (drawing ≡ Ok points) × HasPoints plane points × Draws plane shape points }
+{}
+
+/// So an answer to a record has a drawing where it has a shape.
+pub fn answers_are_drawn()
+    ensures { (choice : Choice) (bytes : List ℕ) (answer : Answer) → Answers choice bytes answer → IsDrawnIfLaid answer }
+{}

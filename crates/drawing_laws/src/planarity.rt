@@ -1,0 +1,41 @@
+//! Boxes that are drawn along numbers in the order of their darts lie apart, and points that are taken from such numbers draw the
+//! shape: laws, each as the contract of a function that does nothing.
+//!
+//! Take one row of cells. A dart to the north that crosses it is on the right side of a box, or on the left side of the outside. In
+//! the first case the box has one dart on its left side there, which is, walked to the north, the next dart to the west:
+//!
+//!     outside |  box  |     box     | box | outside
+//!             a <---- b <---------- c <-- d
+//!
+//! The numbers fall from step to step, so each dart's chain ends at the outside; no two steps lead to one dart, so the darts of the
+//! row are one chain. Hence exactly one box covers each cell of the rectangle round all of them.
+//!
+//! At a point look at the cell to its upper right. A dart sees it that goes past the point to the south, or to the east, or arrives
+//! there with an angle that reaches so far to the right. What sees the cell is of the face that covers it, the outside where no box
+//! does; and of one face one dart alone sees it. But at each vertex some dart sees its cell, and of an edge that a point lies inside
+//! one of the two darts. So two vertices at one point are one, no vertex lies inside an edge, and no two edges cross or overlap.
+
+ghost use Rattle.std.specs.Prelude.{◌≡◌, ℕ};
+ghost use Rattle.faces.specs.Planes.{PlaneModel, IsPlane};
+ghost use Rattle.ortho_rep.specs.Shapes.{ShapeModel};
+ghost use Rattle.ortho_rep.specs.Points.{PointsModel};
+ghost use Rattle.dissect.specs.Boxes.{BoxesModel, dart_map};
+ghost use Rattle.dissect.specs.Boxed.{IsBoxed};
+ghost use Rattle.dissect.specs.Ordered.{IsOrdered, AreWithin, AreTaken, AreLaidOut};
+ghost use Rattle.drawing_check.specs.declared.fault.CheckFault.{CheckFault};
+ghost use Rattle.drawing_check.specs.declared.fault.CheckFault.TheVariants.{Memory};
+ghost use Rattle.drawing_check.specs.Draws.{Draws};
+ghost use Rattle.drawing_check.specs.Faults.{IsFirstFault};
+
+/// Where boxes dissect a shape of a plane, points that are taken from any numbers in the order of their darts, within the grid,
+/// draw the shape.
+pub fn ordered_numbers_draw()
+    ensures { (p : PlaneModel) (shape : ShapeModel) (b : BoxesModel) (x y : ℕ → ℕ) (points : PointsModel) → IsPlane p → IsBoxed p shape b
+        → IsOrdered (dart_map b) x y → AreWithin b.vertices x → AreWithin b.vertices y → AreTaken b x y points → Draws p shape points }
+{}
+
+/// Points that are laid out for boxes of a shape are refused by a check for want of memory alone: each condition of a drawing holds.
+pub fn laid_out_points_pass()
+    ensures { (p : PlaneModel) (shape : ShapeModel) (b : BoxesModel) (points : PointsModel) → IsPlane p → IsBoxed p shape b
+        → AreLaidOut b points → (fault : CheckFault) → IsFirstFault p shape points fault → fault ≡ Memory }
+{}

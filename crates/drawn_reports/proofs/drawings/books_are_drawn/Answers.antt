@@ -1,5 +1,0 @@
-use Rattle.drawn_reports.proofs.Books.{drawn_books}
-use Rattle.drawn_reports.proofs.drawings.books_are_drawn.Goals as goal
-
-pub returns : goal.returns
-returns c = λ choice meaning files books are. drawn_books choice meaning 0 books are.each

@@ -1,4 +1,0 @@
-pub mod Moving
-pub mod Reaching
-pub mod StrongDuality
-pub mod Existence

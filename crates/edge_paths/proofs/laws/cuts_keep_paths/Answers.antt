@@ -1,5 +1,0 @@
-use Rattle.edge_paths.proofs.Cuts.{grows_paths}
-use Rattle.edge_paths.proofs.laws.cuts_keep_paths.Goals as goal
-
-pub returns : goal.returns
-returns c w new n reverse_dart quarters sound = grows_paths w new n reverse_dart quarters sound.linked sound.meeting.quarter

@@ -1,0 +1,89 @@
+//! The four directions along the axes, quarter turns between them, and their numbers.
+
+/// A direction along an axis: x grows to the east, y to the north.
+///
+/// Where a number stands for a direction, as in a table of darts, it counts quarter turns to the left from
+/// east: 0 is east, 1 north, 2 west and 3 south. `quarters` and `from_quarters` alone turn the one into
+/// the other.
+#[derive(Clone, Copy, Debug, PartialEq, Eq)]
+pub enum Direction {
+    East,
+    North,
+    West,
+    South,
+}
+
+impl Direction {
+    ghost use Rattle.std.specs.Prelude.{◌≡◌, ◌<◌};
+    ghost use Rattle.geometry.specs.Directions.{left_of, right_of, opposite_of, quarters, lefts};
+
+    /// The direction a quarter turn to the left: the left of (x, y) is (-y, x).
+    pub fn left(self) -> Direction
+        ensures { result ≡ left_of self }
+    {
+        match self {
+            Direction::East => Direction::North,
+            Direction::North => Direction::West,
+            Direction::West => Direction::South,
+            Direction::South => Direction::East,
+        }
+    }
+
+    /// The direction a quarter turn to the right.
+    pub fn right(self) -> Direction
+        ensures { result ≡ right_of self }
+    {
+        match self {
+            Direction::East => Direction::South,
+            Direction::North => Direction::East,
+            Direction::West => Direction::North,
+            Direction::South => Direction::West,
+        }
+    }
+
+    /// The direction half a turn away.
+    pub fn opposite(self) -> Direction
+        ensures { result ≡ opposite_of self }
+    {
+        match self {
+            Direction::East => Direction::West,
+            Direction::North => Direction::South,
+            Direction::West => Direction::East,
+            Direction::South => Direction::North,
+        }
+    }
+
+    /// The number of the direction: 0 to 3 quarter turns to the left from east.
+    pub fn quarters(self) -> u8
+        ensures value { result ≡ quarters self }
+        ensures few { result < 4 }
+    {
+        match self {
+            Direction::East => 0,
+            Direction::North => 1,
+            Direction::West => 2,
+            Direction::South => 3,
+        }
+    }
+
+    /// The direction with this number: so many quarter turns to the left from east.
+    pub fn from_quarters(number: u8) -> Direction
+        requires { number < 4 }
+        ensures { quarters result ≡ number }
+    {
+        // The remainder tells the compiler that the last arm is direction 3, so no comparison is left.
+        match number % 4 {
+            0 => Direction::East,
+            1 => Direction::North,
+            2 => Direction::West,
+            _ => Direction::South,
+        }
+    }
+
+    /// The direction so many quarter turns to the left. It takes constant time.
+    pub fn lefts(self, quarters: u8) -> Direction
+        ensures { result ≡ lefts quarters self }
+    {
+        Direction::from_quarters((self.quarters() + quarters % 4) % 4)
+    }
+}

@@ -1,0 +1,57 @@
+//! The sweep with its frontier in a table: for each row, the first column right of all rectangles that were
+//! met there. It takes a step for each row of the table and two for each row of each rectangle.
+
+ghost use Rattle.std.specs.Prelude.{◌≡◌, ◌<◌, ◌≤◌, ◌↔◌, IsTrue, IfOk, All, AllPairs, length, slice_index, SomeIndex, EachIndex};
+ghost use Rattle.std.specs.Bool.{OnTrue, OnFalse};
+ghost use Rattle.std.specs.List.Sorted.{IsNonDecreasingBy};
+ghost use Rattle.geometry.specs.Rectangles.{IsFilled, AreApart};
+ghost use Rattle.geometry.specs.Frontier.{Passes, Reaches};
+
+use crate::rectangles::Rectangle;
+use std::alloc::AllocError;
+
+// Whether no two of the rectangles have a point in common. They are sorted by their left columns, and all
+// lie below row `height`. The frontier stands in the memory of the list that is lent.
+pub(crate) fn sweep(
+    rectangles: &[Rectangle],
+    height: usize,
+    frontier: &mut Vec<u64>,
+) -> Result<bool, AllocError>
+    requires filled { All IsFilled rectangles.now }
+    requires ordered { IsNonDecreasingBy (λ r. r.left) rectangles.now }
+    requires low { All (λ r. r.top < height) rectangles.now }
+    ensures { IfOk result (λ apart. IsTrue apart ↔ AllPairs AreApart rectangles.now) }
+{
+    frontier.clear();
+    frontier.resize(height, 0)?;
+    for rectangle in rectangles {
+        if !pass(frontier, *rectangle) {
+            return Ok(false);
+        }
+    }
+    Ok(true)
+}
+
+// Moves the frontier past a new rectangle; false where it is already beyond the left column in one of the
+// rectangle's rows.
+fn pass(frontier: &mut [u64], new: Rectangle) -> bool
+    requires filled { IsFilled new }
+    requires low { new.top < length frontier.old }
+    ensures passes { OnTrue result (Passes frontier.old frontier.new new) }
+    ensures reaches { OnFalse result (Reaches frontier.old new) }
+{
+    let rows = &mut frontier[new.bottom as usize..=new.top as usize];
+    if is_beyond(rows, u64::from(new.left)) {
+        return false;
+    }
+    rows.fill(u64::from(new.right) + 1);
+    true
+}
+
+// Whether the frontier is beyond a column in one of these rows.
+fn is_beyond(rows: &[u64], left: u64) -> bool
+    ensures beyond { OnTrue result (SomeIndex rows.now (λ y. left < slice_index rows.now y)) }
+    ensures within { OnFalse result (EachIndex rows.now (λ y. slice_index rows.now y ≤ left)) }
+{
+    rows.iter().any(|column| left < *column)
+}

@@ -1,0 +1,11 @@
+//! The four directions along the axes, and rectangles of whole points.
+#![tactic(auto)]
+
+mod direction;
+mod frontier;
+mod map;
+mod masks;
+mod rectangles;
+
+pub use direction::Direction;
+pub use rectangles::{Rectangle, all_apart_in};

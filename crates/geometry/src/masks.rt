@@ -1,0 +1,80 @@
+//! Marks on a grid of few columns: for each row a word with a bit for each column. The rectangles need no
+//! order. It takes a step for each row of the table and one for each row of each rectangle.
+
+ghost use Rattle.std.specs.Prelude.{◌≡◌, ◌≢◌, ◌+◌, ◌-◌, ◌^◌, ◌<◌, ◌≤◌, ◌↔◌, ℕ, IsTrue, IfOk, All, AllPairs, length, slice_index, SomeIndex, EachIndex};
+ghost use Rattle.std.specs.Bool.{OnTrue, OnFalse};
+ghost use Rattle.std.specs.Int.Bits.{bit_and, bit_or};
+ghost use Rattle.geometry.specs.declared.masks.TheConstants.{COLUMNS};
+ghost use Rattle.geometry.specs.Rectangles.{IsFilled, AreApart};
+ghost use Rattle.geometry.specs.Masks.{Marks, IsMet};
+
+use crate::rectangles::Rectangle;
+use std::alloc::AllocError;
+
+// How many columns a row has.
+pub(crate) const COLUMNS: u32 = 63;
+
+// Whether no two of the rectangles have a point in common. All lie left of column `COLUMNS` and below row
+// `height`. The marks stand in the memory of the list that is lent.
+pub(crate) fn mark_all(
+    rectangles: &[Rectangle],
+    height: usize,
+    table: &mut Vec<u64>,
+) -> Result<bool, AllocError>
+    requires filled { All IsFilled rectangles.now }
+    requires narrow { All (λ r. r.right < COLUMNS) rectangles.now }
+    requires low { All (λ r. r.top < height) rectangles.now }
+    ensures { IfOk result (λ apart. IsTrue apart ↔ AllPairs AreApart rectangles.now) }
+{
+    if table.len() < height {
+        table.resize(height, 0)?;
+    }
+    let marks = &mut table[..height];
+    marks.fill(0);
+    for rectangle in rectangles {
+        if !mark(marks, *rectangle) {
+            return Ok(false);
+        }
+    }
+    Ok(true)
+}
+
+// Marks the points of a rectangle; false where one of them is marked already.
+fn mark(table: &mut [u64], new: Rectangle) -> bool
+    requires filled { IsFilled new }
+    requires narrow { new.right < COLUMNS }
+    requires low { new.top < length table.old }
+    ensures marks { OnTrue result (Marks table.old table.new new) }
+    ensures met { OnFalse result (IsMet table.old new) }
+{
+    let mask = mask_of(new.left, new.right);
+    let rows = &mut table[new.bottom as usize..=new.top as usize];
+    add_mask(rows, mask)
+}
+
+// The bits of the columns from one to another.
+fn mask_of(left: u32, right: u32) -> u64
+    requires filled { left ≤ right }
+    requires narrow { right < COLUMNS }
+    ensures { result ≡ 2 ^ (right + 1) - 2 ^ left }
+{
+    (1u64 << (right + 1)) - (1u64 << left)
+}
+
+// Adds the bits of the mask to each of these rows; false where one of them has one of these bits already. Both in one
+// walk, since where a walk over few rows ends cannot be foreseen.
+fn add_mask(rows: &mut [u64], mask: u64) -> bool
+    ensures free { OnTrue result (EachIndex rows.old (λ y. bit_and (slice_index rows.old y) mask ≡ 0)) }
+    ensures met { OnFalse result (SomeIndex rows.old (λ y. bit_and (slice_index rows.old y) mask ≢ 0)) }
+    ensures count { length rows.new ≡ length rows.old }
+    ensures each { OnTrue result ((y : ℕ) → y < length rows.old
+        → slice_index rows.new y ≡ bit_or (slice_index rows.old y) mask) }
+{
+    for row in rows.iter_mut() {
+        if *row & mask != 0 {
+            return false;
+        }
+        *row |= mask;
+    }
+    true
+}

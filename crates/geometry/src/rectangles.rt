@@ -1,0 +1,115 @@
+//! Rectangles of whole points, and whether any two of a list have a point in common.
+//!
+//! Where all rectangles lie in few rows and columns, their points are marked by bits. Else the method is
+//! a sweep from left to right (Shamos and Hoey 1976, for axis-parallel rectangles). Where the rectangles
+//! have few rows, the frontier of the sweep stands in a table by rows; else the rectangles that it still
+//! meets stand in a map.
+
+ghost use Rattle.std.specs.Prelude.{◌<◌, ◌≤◌, ◌↔◌, IsTrue, IfOk, IfSome, All, AllPairs};
+ghost use Rattle.std.specs.Bool.{OnTrue};
+ghost use Rattle.std.specs.List.Sorted.{IsNonDecreasingBy};
+ghost use Rattle.geometry.specs.declared.masks.TheConstants.{COLUMNS};
+ghost use Rattle.geometry.specs.Rectangles.{IsFilled, AreApart};
+
+use crate::{frontier, map, masks};
+use std::alloc::{AllocError, Global};
+
+/// The whole points (x, y) with `left <= x <= right` and `bottom <= y <= top`.
+#[derive(Clone, Copy)]
+pub struct Rectangle {
+    pub left: u32,
+    pub right: u32,
+    pub bottom: u32,
+    pub top: u32,
+}
+
+// The most rows of a table, for each rectangle.
+const TABLE_ROWS: usize = 8;
+
+// The most rows of all rectangles together, for each rectangle, where there is a table. The map was seen
+// to be faster from some 350 on.
+const ALL_ROWS: usize = 128;
+
+/// Whether no two of the rectangles have a point in common. It may sort the list of them, and has its table in
+/// the memory of the other list.
+///
+/// Takes O(n log n) time for n rectangles, however many points they hold.
+///
+/// # Errors
+///
+/// `AllocError` where there is no memory for the map, or for the table where the other list has not enough.
+pub fn all_apart_in(
+    alloc: Global,
+    rectangles: &mut Vec<Rectangle>,
+    table: &mut Vec<u64>,
+) -> Result<bool, AllocError>
+    requires { All IsFilled rectangles.old.items }
+    ensures { IfOk result (λ apart. IsTrue apart ↔ AllPairs AreApart rectangles.old.items) }
+{
+    match narrow_height(rectangles) {
+        Some(height) => masks::mark_all(rectangles, height, table),
+        None => {
+            rectangles.sort_unstable_by_key(|r| r.left);
+            sweep(alloc, rectangles, table)
+        }
+    }
+}
+
+// The same of rectangles that are sorted by their left columns.
+fn sweep(alloc: Global, rectangles: &[Rectangle], table: &mut Vec<u64>) -> Result<bool, AllocError>
+    requires filled { All IsFilled rectangles.now }
+    requires ordered { IsNonDecreasingBy (λ r. r.left) rectangles.now }
+    ensures { IfOk result (λ apart. IsTrue apart ↔ AllPairs AreApart rectangles.now) }
+{
+    match table_height(rectangles) {
+        Some(height) => frontier::sweep(rectangles, height, table),
+        None => map::sweep(alloc, rectangles),
+    }
+}
+
+// The number of rows of a table that has each row of the rectangles; none where the table or all
+// rectangles together would have too many.
+fn table_height(rectangles: &[Rectangle]) -> Option<usize>
+    requires { All IsFilled rectangles.now }
+    ensures { IfSome result (λ height. All (λ r. r.top < height) rectangles.now) }
+{
+    let mut spare = rectangles.len().saturating_mul(ALL_ROWS);
+    let mut height = 0;
+    for rectangle in rectangles {
+        spare = spare.checked_sub((rectangle.top - rectangle.bottom) as usize + 1)?;
+        height = height.max(rectangle.top as usize + 1);
+    }
+    if rectangles.len().saturating_mul(TABLE_ROWS) < height {
+        return None;
+    }
+    Some(height)
+}
+
+// A number of rows that has each row of the rectangles, less than twice as many as they need, where all of them lie in
+// the columns that have bits; none where it is too great. Numbers are gathered by `or`, in which no step is a branch.
+// The rows of all rectangles together need no count here: those that are marked are apart, so that at most `COLUMNS` of
+// them have a row in common.
+fn narrow_height(rectangles: &[Rectangle]) -> Option<usize>
+    ensures narrow { IfSome result (λ _. All (λ r. r.right < COLUMNS) rectangles.now) }
+    ensures low { IfSome result (λ height. All (λ r. r.top < height) rectangles.now) }
+{
+    let mut right = 0;
+    let mut top = 0;
+    for rectangle in rectangles {
+        right |= rectangle.right;
+        top |= rectangle.top;
+    }
+    let height = top as usize + 1;
+    if !are_narrow(rectangles, right) || rectangles.len().saturating_mul(TABLE_ROWS) < height {
+        return None;
+    }
+    Some(height)
+}
+
+// Whether all rectangles, none of which goes beyond column `right`, lie in the columns that have bits.
+fn are_narrow(rectangles: &[Rectangle], right: u32) -> bool
+    requires { All (λ r. r.right ≤ right) rectangles.now }
+    ensures { OnTrue result (All (λ r. r.right < COLUMNS) rectangles.now) }
+{
+    right < masks::COLUMNS || rectangles.iter().all(|r| r.right < masks::COLUMNS)
+}

@@ -1,2 +1,0 @@
-pub mod Headings
-pub mod Search

@@ -1,7 +1,0 @@
-use Rattle.std.proofs.Common.{map, take}
-use Rattle.json_lines.specs.LineData.{whole}
-use Rattle.json_lines.proofs.Steps.{Lists}
-use Rattle.json_lines.proofs.arrays.put_face_prices.Given as goal
-
-abbrev pub invariant-loop-face : goal.invariant-loop-face
-invariant-loop-face l = Lists l.initial.out.items l.out.items (map whole (take l.face l.prices.faces))

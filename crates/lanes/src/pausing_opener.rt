@@ -1,0 +1,33 @@
+//! Files whose reading pauses.
+
+use crate::opener::{OpenFault, Opener};
+use crate::pauses::Pauses;
+use crate::pausing_tap::PausingTap;
+use std::alloc::Global;
+use std::sync::Wait;
+
+/// The files of an opener, each of which waits before each read as long as it pauses.
+#[derive(Drop)]
+pub struct PausingOpener<'r, R, O> {
+    pub rt: &'r R,
+    pub opener: &'r O,
+    pub pauses: &'r Pauses,
+}
+
+impl<'r, R: Wait + Sync, O: Opener> Opener for PausingOpener<'r, R, O> {
+    type Source = PausingTap<'r, R, O::Source>;
+
+    ghost meaning = { λ p. O.meaning p.opener.now };
+
+    fn open(&self, alloc: Global, file: u32) -> Result<PausingTap<'r, R, O::Source>, OpenFault> {
+        match self.opener.open(alloc, file) {
+            Ok(tap) => Ok(PausingTap {
+                rt: self.rt,
+                pauses: self.pauses,
+                file,
+                tap,
+            }),
+            Err(fault) => Err(fault),
+        }
+    }
+}

@@ -1,5 +1,0 @@
-use Rattle.layout_laws.proofs.OuterFaces.{widest_once}
-use Rattle.layout_laws.proofs.outer.one_widest.Goals as goal
-
-pub returns : goal.returns
-returns c = widest_once

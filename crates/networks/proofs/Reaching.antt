@@ -1,0 +1,763 @@
+-- What the steps of a search keep: a label, a place, a move of the level.
+use Rattle.std.proofs.Common.{length, zero, suc, ◌≡◌, ◌≢◌, ◌≤◌, ◌<◌, ◌⊎◌, ℕ, ◌+◌, ◌*◌, refl, sym, ◌∙◌, ap, subst, inl, inr, arith, List}
+use Rattle.std.specs.Prelude.{ℤ, pos, negsuc, ◌+ℤ◌, ◌-ℤ◌, ◌≤ℤ◌, ◌<ℤ◌}
+use Rattle.std.proofs.lemmas.Bool.{cases_eq, cases_lt}
+use Rattle.std.proofs.lemmas.Int.{ints}
+use Rattle.networks.specs.declared.network.TheConstants.{MAX_NODES}
+use Rattle.networks.specs.declared.residual.ResidualArc.{ResidualArc}
+use Rattle.networks.proofs.Distinct.{AreDistinct, distinct_sum, room_for}
+use Rattle.networks.specs.ResidualArcs.{numbers, end_at, cost_at, StartsAt}
+use Rattle.networks.specs.Search.{far, IsGraph, AreFeasiblePotentials, IsNear, IsEntered, IsReached, IsNearest, Serves, IsServed, IsLeft, AreLowered, IsOffer, IsPut, IsSwapped, IsWithinFar, degree, looked}
+use Rattle.common.specs.Sums.{sum_below}
+use Rattle.common.proofs.Sums.{sum_below-same, sum_below-more}
+
+-- ---- integers
+
+pub below_or_not : (a b : ℤ) → (a <ℤ b) ⊎ (b ≤ℤ a)
+below_or_not (pos m) (pos n) = elim (cases_lt m n) [ inl h ↦ inl (omega (arith, ints)) | inr h ↦ inr (omega (arith, ints)) ]
+below_or_not (pos m) (negsuc n) = inr (omega (arith, ints))
+below_or_not (negsuc m) (pos n) = inl (omega (arith, ints))
+below_or_not (negsuc m) (negsuc n) = elim (cases_lt n m) [ inl h ↦ inl (omega (arith, ints)) | inr h ↦ inr (omega (arith, ints)) ]
+
+pub not_less : (a b : ℤ) → a <ℤ b → b ≤ℤ a → ⊥
+not_less a b h k = omega (arith, ints)
+
+-- ---- a node that is offered a lesser label is not among those that are ordered
+
+-- a label x below q v that is no nearer than the level
+not_ordered : (x qv pv level : ℤ) → level ≤ℤ (x -ℤ pv) → x <ℤ qv → (qv -ℤ pv) ≤ℤ level → ⊥
+not_ordered x qv pv level a b c = omega (arith, ints)
+
+near_more : (z : ℤ) (k : ℕ) (a : ℤ) → IsNear z k a → IsNear z (k + 1) a
+near_more z k a (b, c) = (omega (arith, ints), omega (arith, ints))
+
+pub behind : (n : ℕ) (first : List ℕ) (arcs : List ResidualArc) (p e : ℕ → ℤ) (s : ℕ) (q : ℕ → ℤ) (enter order place : ℕ → ℕ) (scanned ordered reached : ℕ) (level : ℤ) (v : ℕ) (x : ℤ) → IsReached n first arcs p e s q enter order place scanned ordered reached level → v < n → level ≤ℤ (x -ℤ p v) → x <ℤ q v → q v <ℤ far → ordered ≤ place v
+behind n first arcs p e s q enter order place scanned ordered reached level v x r b beyond less l =
+    elim (cases_lt (place v) ordered) [
+      | inl h ↦ absurd (not_ordered x (q v) (p v) level beyond less (r.under v b l h))
+      | inr h ↦ h
+    ]
+
+-- ---- labels that fall behind those that are ordered
+
+lesser : (a x b : ℤ) → a ≡ x → x <ℤ b → a ≤ℤ b
+lesser a x b h l = omega (arith, ints)
+
+pub same_le : (a b : ℤ) → a ≡ b → a ≤ℤ b
+same_le a b h = omega (arith, ints)
+
+under_far : (a b : ℤ) → a ≤ℤ b → b <ℤ far → a <ℤ far
+under_far a b h k = omega (arith, ints)
+
+under_most : (a b : ℤ) → a ≤ℤ b → b ≤ℤ far → a ≤ℤ far
+under_most a b h k = omega (arith, ints)
+
+not_far : (a b : ℤ) → a <ℤ b → b ≤ℤ far → a <ℤ far
+not_far a b h k = omega (arith, ints)
+
+put_lower : (q q' : ℕ → ℤ) (v w : ℕ) (x : ℤ) → IsPut q q' v x → x <ℤ q v → q' w ≤ℤ q w
+put_lower q q' v w x put less =
+    elim (cases_eq w v) [
+      | inl h ↦ let P : ℕ → Type 0 = λ t. q' t ≤ℤ q t in subst P (sym h) (lesser (q' v) x (q v) put.here less)
+      | inr ne ↦ same_le (q' w) (q w) (put.others w ne)
+    ]
+
+-- a residual arc from a scanned node serves a node, whose place is behind
+pub offered_entered : (n : ℕ) (first : List ℕ) (arcs : List ResidualArc) (p : ℕ → ℤ) (s : ℕ) (q q' : ℕ → ℤ) (place place' : ℕ → ℕ) (scanned : ℕ) (level : ℤ) (k v : ℕ) (x : ℤ) → IsOffer n first arcs p s q place scanned level k v x → q' v ≡ x → AreLowered n scanned q place q' place' → scanned ≤ place' v → IsEntered n first arcs q' place' scanned v k
+offered_entered n first arcs p s q q' place place' scanned level k v x o here kept behind =
+    let same : (q' o.start ≡ q o.start) × (place' o.start ≡ place o.start) = kept.same o.start o.node o.labelled o.are_scanned in
+    record {
+      start = o.start;
+      node = o.node;
+      labelled = rw same.0 o.labelled;
+      are_scanned = omega (arith, same.1, o.are_scanned);
+      before = omega (arith, same.1, o.are_scanned);
+      leaves = o.leaves;
+      unblocked = o.unblocked;
+      arrives = o.arrives;
+      label = rw same.0 (here ∙ o.label);
+    }
+
+-- a node that was entered before still is
+pub kept_entered : (n : ℕ) (first : List ℕ) (arcs : List ResidualArc) (q q' : ℕ → ℤ) (place place' : ℕ → ℕ) (scanned v k : ℕ) → IsEntered n first arcs q place scanned v k → q' v ≡ q v → AreLowered n scanned q place q' place' → (scanned ≤ place' v) ⊎ (place' v ≡ place v) → IsEntered n first arcs q' place' scanned v k
+kept_entered n first arcs q q' place place' scanned v k o here kept behind =
+    let same : (q' o.start ≡ q o.start) × (place' o.start ≡ place o.start) = kept.same o.start o.node o.labelled o.are_scanned in
+    let scan : place o.start < scanned = o.are_scanned in
+    let before : place o.start < place v = o.before in
+    let eq : place' o.start ≡ place o.start = same.1 in
+    record {
+      start = o.start;
+      node = o.node;
+      labelled = rw same.0 o.labelled;
+      are_scanned = omega arith;
+      before = elim behind [ inl h ↦ omega arith | inr h ↦ omega arith ];
+      leaves = o.leaves;
+      unblocked = o.unblocked;
+      arrives = o.arrives;
+      label = rw (here, same.0) o.label;
+    }
+
+-- a scan's own node alone changes no label
+relabelled_kept : (n : ℕ) (first : List ℕ) (arcs : List ResidualArc) (p e : ℕ → ℤ) (s : ℕ) (q q' : ℕ → ℤ) (enter order place : ℕ → ℕ) (scanned ordered reached : ℕ) (level : ℤ) (v : ℕ) (x : ℤ) → IsReached n first arcs p e s q enter order place scanned ordered reached level → ordered ≤ place v → x <ℤ q v → IsPut q q' v x → AreLowered n scanned q place q' place
+relabelled_kept n first arcs p e s q q' enter order place scanned ordered reached level v x r behind less put =
+    let few : scanned ≤ ordered = r.counts.0 in
+    record {
+      lower = λ w b. put_lower q q' v w x put less;
+      same = λ w b l h. (put.others w (λ t. let e : place w ≡ place v = ap place t in absurd (omega arith)), refl);
+      old = λ w b l h. (let e : q' w ≡ q w = put.others w (λ t. let e : place w ≡ place v = ap place t in absurd (omega arith)) in rw (sym e) l, h);
+    }
+
+pub relabelled : (n : ℕ) (first : List ℕ) (arcs : List ResidualArc) (p e : ℕ → ℤ) (s : ℕ) (q q' : ℕ → ℤ) (enter enter' order place : ℕ → ℕ) (scanned ordered reached : ℕ) (level : ℤ) (k v : ℕ) (x : ℤ) → IsReached n first arcs p e s q enter order place scanned ordered reached level → IsOffer n first arcs p s q place scanned level k v x → v < n → q v <ℤ far → pos 0 ≤ℤ e v → IsPut q q' v x → IsPut enter enter' v k → IsReached n first arcs p e s q' enter' order place scanned ordered reached level × AreLowered n scanned q place q' place
+relabelled n first arcs p e s q q' enter enter' order place scanned ordered reached level k v x r o b l fair put entered =
+    let far_place : ordered ≤ place v = behind n first arcs p e s q enter order place scanned ordered reached level v x r b o.beyond o.less l in
+    let few : scanned ≤ ordered = r.counts.0 in
+    let kept : AreLowered n scanned q place q' place = relabelled_kept n first arcs p e s q q' enter order place scanned ordered reached level v x r far_place o.less put in
+    let was : (w : ℕ) → w < n → q' w <ℤ far → q w <ℤ far = λ w c m. elim (cases_eq w v) [
+      | inl h ↦ subst (λ (t : ℕ). q t <ℤ far) (sym h) l
+      | inr ne ↦ let e : q' w ≡ q w = put.others w ne in rw (sym e) m
+    ] in
+    let now : (w : ℕ) → w < n → q w <ℤ far → q' w <ℤ far = λ w c m. under_far (q' w) (q w) (put_lower q q' v w x put o.less) m in (
+      record {
+        counts = r.counts;
+        begun = r.begun;
+        node = r.node;
+        at = r.at;
+        marked = λ j c. now (order j) (r.node j c) (r.marked j c);
+        listed = λ w c m. r.listed w c (was w c m);
+        most = λ w c. under_most (q' w) (q w) (put_lower q q' v w x put o.less) (r.most w c);
+        under = λ w c m h. let t : (q' w ≡ q w) = put.others w (λ t. let e : place w ≡ place v = ap place t in absurd (omega arith)) in rw t (r.under w c (was w c m) h);
+        here = λ w c m h. elim (cases_eq w v) [
+          | inl t ↦ subst (λ (t : ℕ). level ≤ℤ (q' t -ℤ p t)) (sym t) (rw put.here o.beyond)
+          | inr ne ↦ rw (put.others w ne) (r.here w c (was w c m) h)
+        ];
+        near = λ w c m. elim (cases_eq w v) [
+          | inl t ↦ subst (λ (t : ℕ). IsNear (p s) scanned (q' t)) (sym t) (subst (λ (z : ℤ). IsNear (p s) scanned z) (sym put.here) o.near)
+          | inr ne ↦ subst (λ (z : ℤ). IsNear (p s) scanned z) (sym (put.others w ne)) (r.near w c (was w c m))
+        ];
+        source = (r.source.0, now s r.source.0 r.source.1, r.source.2);
+        plain = λ w c m. elim (cases_eq w v) [
+          | inl t ↦ subst (λ (t : ℕ). pos 0 ≤ℤ e t) (sym t) fair
+          | inr ne ↦ r.plain w c (was w c m)
+        ];
+        entered = λ w c m ne. elim (cases_eq w v) [
+          | inl t ↦ subst (λ (t : ℕ). IsEntered n first arcs q' place scanned t (enter' t)) (sym t) (subst (λ (i : ℕ). IsEntered n first arcs q' place scanned v i) (sym entered.here) (offered_entered n first arcs p s q q' place place scanned level k v x o put.here kept (omega arith)))
+          | inr d ↦ subst (λ (i : ℕ). IsEntered n first arcs q' place scanned w i) (sym (entered.others w d)) (kept_entered n first arcs q q' place place scanned w (enter w) (r.entered w c (was w c m) ne) (put.others w d) kept (inr refl))
+        ];
+      },
+      kept,
+    )
+
+-- ---- a label for a node that was not reached before
+
+pub enlisted : (n : ℕ) (first : List ℕ) (arcs : List ResidualArc) (p e : ℕ → ℤ) (s : ℕ) (q q' : ℕ → ℤ) (enter enter' order order' place place' : ℕ → ℕ) (scanned ordered reached : ℕ) (level : ℤ) (k v : ℕ) (x : ℤ) → IsReached n first arcs p e s q enter order place scanned ordered reached level → IsOffer n first arcs p s q place scanned level k v x → v < n → far ≤ℤ q v → pos 0 ≤ℤ e v → reached < n → IsPut q q' v x → IsPut enter enter' v k → IsPut order order' reached v → IsPut place place' v reached → IsReached n first arcs p e s q' enter' order' place' scanned ordered (reached + 1) level × AreLowered n scanned q place q' place'
+enlisted n first arcs p e s q q' enter enter' order order' place place' scanned ordered reached level k v x r o b l fair few put entered listed placed =
+    let ho : scanned ≤ ordered = r.counts.0 in
+    let or : ordered ≤ reached = r.counts.1 in
+    let here : place' v ≡ reached = placed.here in
+    let fresh : (w : ℕ) → q w <ℤ far → w ≢ v = λ w m t. not_less (q v) far (subst (λ (i : ℕ). q i <ℤ far) t m) l in
+    let kept : AreLowered n scanned q place q' place' = record {
+      lower = λ w c. put_lower q q' v w x put o.less;
+      same = λ w c m h. (put.others w (fresh w m), placed.others w (fresh w m));
+      old = λ w c m h. elim (cases_eq w v) [
+        | inl t ↦ let g : place' w ≡ reached = ap place' t ∙ here in absurd (omega arith)
+        | inr ne ↦ (rw (sym (put.others w ne)) m, rw (sym (placed.others w ne)) h)
+      ];
+    } in
+    let was : (w : ℕ) → w ≢ v → q' w <ℤ far → q w <ℤ far = λ w ne m. rw (sym (put.others w ne)) m in
+    let labelled : q' v <ℤ far = subst (λ (z : ℤ). z <ℤ far) (sym put.here) (not_far x (q v) o.less (r.most v b)) in
+    let place_other : (j : ℕ) → j < reached → order' j ≡ order j = λ j c. listed.others j (λ t. omega arith) in
+    let order_fresh : (j : ℕ) → j < reached → order j ≢ v = λ j c. fresh (order j) (r.marked j c) in (
+      record {
+        counts = (ho, omega arith, omega arith);
+        begun = r.begun;
+        node = λ j c. elim (cases_eq j reached) [
+          | inl t ↦ subst (λ (i : ℕ). i < n) (sym (ap order' t ∙ listed.here)) b
+          | inr ne ↦ let d : j < reached = omega arith in subst (λ (i : ℕ). i < n) (sym (place_other j d)) (r.node j d)
+        ];
+        at = λ j c. elim (cases_eq j reached) [
+          | inl t ↦ ap place' (ap order' t ∙ listed.here) ∙ here ∙ sym t
+          | inr ne ↦ let d : j < reached = omega arith in ap place' (place_other j d) ∙ placed.others (order j) (order_fresh j d) ∙ r.at j d
+        ];
+        marked = λ j c. elim (cases_eq j reached) [
+          | inl t ↦ subst (λ (i : ℕ). q' i <ℤ far) (sym (ap order' t ∙ listed.here)) labelled
+          | inr ne ↦ let d : j < reached = omega arith in subst (λ (i : ℕ). q' i <ℤ far) (sym (place_other j d)) (rw (put.others (order j) (order_fresh j d)) (r.marked j d))
+        ];
+        listed = λ w c m. elim (cases_eq w v) [
+          | inl t ↦ let g : place' w ≡ reached = ap place' t ∙ here in (omega arith, ap order' g ∙ listed.here ∙ sym t)
+          | inr ne ↦ let (d, f) = r.listed w c (was w ne m) in let g : place' w ≡ place w = placed.others w ne in (omega arith, ap order' g ∙ place_other (place w) d ∙ f)
+        ];
+        most = λ w c. under_most (q' w) (q w) (put_lower q q' v w x put o.less) (r.most w c);
+        under = λ w c m h. elim (cases_eq w v) [
+          | inl t ↦ let g : place' w ≡ reached = ap place' t ∙ here in absurd (omega arith)
+          | inr ne ↦ rw (put.others w ne) (r.under w c (was w ne m) (rw (sym (placed.others w ne)) h))
+        ];
+        here = λ w c m h. elim (cases_eq w v) [
+          | inl t ↦ subst (λ (t : ℕ). level ≤ℤ (q' t -ℤ p t)) (sym t) (rw put.here o.beyond)
+          | inr ne ↦ rw (put.others w ne) (r.here w c (was w ne m) (rw (sym (placed.others w ne)) h))
+        ];
+        near = λ w c m. elim (cases_eq w v) [
+          | inl t ↦ subst (λ (t : ℕ). IsNear (p s) scanned (q' t)) (sym t) (subst (λ (z : ℤ). IsNear (p s) scanned z) (sym put.here) o.near)
+          | inr ne ↦ subst (λ (z : ℤ). IsNear (p s) scanned z) (sym (put.others w ne)) (r.near w c (was w ne m))
+        ];
+        source = (r.source.0, rw (put.others s (fresh s r.source.1)) r.source.1, placed.others s (fresh s r.source.1) ∙ r.source.2);
+        plain = λ w c m. elim (cases_eq w v) [
+          | inl t ↦ subst (λ (t : ℕ). pos 0 ≤ℤ e t) (sym t) fair
+          | inr ne ↦ r.plain w c (was w ne m)
+        ];
+        entered = λ w c m ne. elim (cases_eq w v) [
+          | inl t ↦ subst (λ (t : ℕ). IsEntered n first arcs q' place' scanned t (enter' t)) (sym t) (subst (λ (i : ℕ). IsEntered n first arcs q' place' scanned v i) (sym entered.here) (offered_entered n first arcs p s q q' place place' scanned level k v x o put.here kept (omega arith)))
+          | inr d ↦ subst (λ (i : ℕ). IsEntered n first arcs q' place' scanned w i) (sym (entered.others w d)) (kept_entered n first arcs q q' place place' scanned w (enter w) (r.entered w c (was w d m) ne) (put.others w d) kept (inr (placed.others w d)))
+        ];
+      },
+      kept,
+    )
+
+-- ---- two nodes change places
+
+pub same_z : (a : ℤ) → a ≤ℤ a
+same_z a = omega (arith, ints)
+
+pub swapped : (n : ℕ) (first : List ℕ) (arcs : List ResidualArc) (p e : ℕ → ℤ) (s : ℕ) (q : ℕ → ℤ) (enter order order' place place' : ℕ → ℕ) (scanned ordered reached : ℕ) (level : ℤ) (v from : ℕ) → IsReached n first arcs p e s q enter order place scanned ordered reached level → v < n → q v <ℤ far → place v ≡ from → ordered ≤ from → (q v -ℤ p v) ≤ℤ level → IsSwapped order place order' place' v from ordered → IsReached n first arcs p e s q enter order' place' scanned (ordered + 1) reached level × AreLowered n scanned q place q place'
+swapped n first arcs p e s q enter order order' place place' scanned ordered reached level v from r b l at behind near sw =
+    let ho : scanned ≤ ordered = r.counts.0 in
+    let rn : reached ≤ n = r.counts.2 in
+    let (in_list, mine) = r.listed v b l in
+    let from_in : from < reached = omega arith in
+    let to_in : ordered < reached = omega arith in
+    let from_is : order from ≡ v = subst (λ (t : ℕ). order t ≡ v) at mine in
+    let o : ℕ = order ordered in
+    let ob : o < n = r.node ordered to_in in
+    let ol : q o <ℤ far = r.marked ordered to_in in
+    let oat : place o ≡ ordered = r.at ordered to_in in
+    let apart : from ≢ ordered → o ≢ v = λ ne t. ne (sym at ∙ ap place (sym t) ∙ oat) in
+    let joint : o ≢ v → from ≢ ordered = λ ne t. ne (ap order (sym t) ∙ from_is) in
+    let rest : (w : ℕ) → w < n → q w <ℤ far → w ≢ v → w ≢ o → (place' w ≡ place w) × (place w ≢ ordered) × (place w ≢ from) = λ w c m nv nw.
+    let back : order (place w) ≡ w = (r.listed w c m).1 in
+    (sw.stay w nv nw, (λ t. nw (sym back ∙ ap order t)), λ t. nv (sym back ∙ ap order t ∙ from_is)) in
+    let other_at : o ≢ v → place' o ≡ from = sw.instead in
+    let kept : AreLowered n scanned q place q place' = record {
+      lower = λ w c. same_z (q w);
+      same = λ w c m h. (refl, sw.stay w (λ t. let e : place w ≡ place v = ap place t in absurd (omega arith)) (λ t. let e : place w ≡ place o = ap place t in absurd (omega arith)));
+      old = λ w c m h. (
+        m,
+        elim (cases_eq w v) [
+          | inl t ↦ let e : place' w ≡ ordered = ap place' t ∙ sw.stands in absurd (omega arith)
+          | inr nv ↦ elim (cases_eq w o) [
+            | inl t ↦ let e : place' w ≡ from = ap place' t ∙ other_at (λ u. nv (t ∙ u)) in absurd (omega arith)
+            | inr nw ↦ let e : place' w ≡ place w = sw.stay w nv nw in omega arith
+          ]
+        ],
+      );
+    } in
+    let begun : 0 < ordered = r.begun in
+    let s_at : place s ≡ 0 = r.source.2 in
+    let s_v : s ≢ v = λ t. let e : place s ≡ place v = ap place t in omega arith in
+    let s_o : s ≢ o = λ t. let e : place s ≡ place o = ap place t in omega arith in (
+      record {
+        counts = (omega arith, omega arith, rn);
+        begun = omega arith;
+        node = λ j c. elim (cases_eq j ordered) [
+          | inl t ↦ subst (λ (i : ℕ). i < n) (sym (ap order' t ∙ sw.moved)) b
+          | inr nt ↦ elim (cases_eq j from) [
+            | inl t ↦ subst (λ (i : ℕ). i < n) (sym (ap order' t ∙ sw.other (λ u. nt (t ∙ u)))) ob
+            | inr nf ↦ subst (λ (i : ℕ). i < n) (sym (sw.rest j nt nf)) (r.node j c)
+          ]
+        ];
+        at = λ j c. elim (cases_eq j ordered) [
+          | inl t ↦ ap place' (ap order' t ∙ sw.moved) ∙ sw.stands ∙ sym t
+          | inr nt ↦ elim (cases_eq j from) [
+            | inl t ↦ let ne : from ≢ ordered = λ u. nt (t ∙ u) in ap place' (ap order' t ∙ sw.other ne) ∙ other_at (apart ne) ∙ sym t
+            | inr nf ↦
+                let back : place (order j) ≡ j = r.at j c in
+                ap place' (sw.rest j nt nf) ∙ sw.stay (order j) (λ t. nf (sym back ∙ ap place t ∙ at)) (λ t. nt (sym back ∙ ap place t ∙ oat)) ∙ back
+          ]
+        ];
+        marked = λ j c. elim (cases_eq j ordered) [
+          | inl t ↦ subst (λ (i : ℕ). q i <ℤ far) (sym (ap order' t ∙ sw.moved)) l
+          | inr nt ↦ elim (cases_eq j from) [
+            | inl t ↦ subst (λ (i : ℕ). q i <ℤ far) (sym (ap order' t ∙ sw.other (λ u. nt (t ∙ u)))) ol
+            | inr nf ↦ subst (λ (i : ℕ). q i <ℤ far) (sym (sw.rest j nt nf)) (r.marked j c)
+          ]
+        ];
+        listed = λ w c m. elim (cases_eq w v) [
+          | inl t ↦ let e : place' w ≡ ordered = ap place' t ∙ sw.stands in (omega arith, ap order' e ∙ sw.moved ∙ sym t)
+          | inr nv ↦ elim (cases_eq w o) [
+            | inl t ↦ let ne : o ≢ v = λ u. nv (t ∙ u) in let e : place' w ≡ from = ap place' t ∙ other_at ne in (omega arith, ap order' e ∙ sw.other (joint ne) ∙ sym t)
+            | inr nw ↦
+                let (stays, nt, nf) = rest w c m nv nw in
+                let (d, back) = r.listed w c m in
+                (omega arith, ap order' stays ∙ sw.rest (place w) nt nf ∙ back)
+          ]
+        ];
+        most = r.most;
+        under = λ w c m h. elim (cases_eq w v) [
+          | inl t ↦ subst (λ (i : ℕ). (q i -ℤ p i) ≤ℤ level) (sym t) near
+          | inr nv ↦ elim (cases_eq w o) [
+            | inl t ↦ let ne : o ≢ v = λ u. nv (t ∙ u) in let e : place' w ≡ from = ap place' t ∙ other_at ne in let d : from ≢ ordered = joint ne in absurd (omega arith)
+            | inr nw ↦ let (stays, nt, nf) = rest w c m nv nw in r.under w c m (omega arith)
+          ]
+        ];
+        here = λ w c m h. elim (cases_eq w v) [
+          | inl t ↦ subst (λ (i : ℕ). level ≤ℤ (q i -ℤ p i)) (sym t) (r.here v b l (omega arith))
+          | inr nv ↦ elim (cases_eq w o) [
+            | inl t ↦ subst (λ (i : ℕ). level ≤ℤ (q i -ℤ p i)) (sym t) (r.here o ob ol (omega arith))
+            | inr nw ↦ let (stays, nt, nf) = rest w c m nv nw in r.here w c m (omega arith)
+          ]
+        ];
+        near = r.near;
+        source = (r.source.0, r.source.1, sw.stay s s_v s_o ∙ s_at);
+        plain = r.plain;
+        entered = λ w c m ne. kept_entered n first arcs q q place place' scanned w (enter w) (r.entered w c m ne) refl kept (
+            elim (cases_eq w v) [
+              | inl t ↦ let e : place' w ≡ ordered = ap place' t ∙ sw.stands in inl (omega arith)
+              | inr nv ↦ elim (cases_eq w o) [
+                | inl t ↦ let nn : o ≢ v = λ u. nv (t ∙ u) in let e : place' w ≡ from = ap place' t ∙ other_at nn in inl (omega arith)
+                | inr nw ↦ inr (sw.stay w nv nw)
+              ]
+            ]);
+      },
+      kept,
+    )
+
+-- ---- the next node is scanned
+
+entered_more : (n : ℕ) (first : List ℕ) (arcs : List ResidualArc) (q : ℕ → ℤ) (place : ℕ → ℕ) (scanned v k : ℕ) → IsEntered n first arcs q place scanned v k → IsEntered n first arcs q place (scanned + 1) v k
+entered_more n first arcs q place scanned v k o = record {
+  start = o.start;
+  node = o.node;
+  labelled = o.labelled;
+  are_scanned = omega (arith, o.are_scanned);
+  before = o.before;
+  leaves = o.leaves;
+  unblocked = o.unblocked;
+  arrives = o.arrives;
+  label = o.label;
+}
+
+pub headed : (n : ℕ) (first : List ℕ) (arcs : List ResidualArc) (p e : ℕ → ℤ) (s : ℕ) (q : ℕ → ℤ) (enter order place : ℕ → ℕ) (scanned ordered reached : ℕ) (level : ℤ) → IsReached n first arcs p e s q enter order place scanned ordered reached level → scanned < ordered → IsReached n first arcs p e s q enter order place (scanned + 1) ordered reached level
+headed n first arcs p e s q enter order place scanned ordered reached level r more = record {
+  counts = (omega arith, r.counts.1, r.counts.2);
+  begun = r.begun;
+  node = r.node;
+  at = r.at;
+  marked = r.marked;
+  listed = r.listed;
+  most = r.most;
+  under = r.under;
+  here = λ w c m h. r.here w c m (omega arith);
+  near = λ w c m. near_more (p s) scanned (q w) (r.near w c m);
+  source = r.source;
+  plain = r.plain;
+  entered = λ w c m ne. entered_more n first arcs q place scanned w (enter w) (r.entered w c m ne);
+}
+
+pub headed_nearest : (n : ℕ) (first : List ℕ) (arcs : List ResidualArc) (p e : ℕ → ℤ) (s : ℕ) (q : ℕ → ℤ) (place : ℕ → ℕ) (scanned : ℕ) (level bound : ℤ) (k : ℕ) → IsNearest n first arcs p e s q place scanned level bound k → IsNearest n first arcs p e s q place (scanned + 1) level bound k
+headed_nearest n first arcs p e s q place scanned level bound k r = record {
+  above = r.above;
+  most = r.most;
+  hit = λ l. let h = r.hit l in record {
+    start = h.start;
+    node = h.node;
+    labelled = h.labelled;
+    are_scanned = omega (arith, h.are_scanned);
+    leaves = h.leaves;
+    unblocked = h.unblocked;
+    wanting = h.wanting;
+    distance = h.distance;
+    near = near_more (p s) scanned bound h.near;
+  };
+}
+
+-- ---- the level moves
+
+pub under_level : (d a b : ℤ) → d ≤ℤ a → a ≤ℤ b → d ≤ℤ b
+under_level d a b h k = omega (arith, ints)
+
+pub climbed : (n : ℕ) (first : List ℕ) (arcs : List ResidualArc) (p e : ℕ → ℤ) (s : ℕ) (q : ℕ → ℤ) (enter order place : ℕ → ℕ) (scanned ordered reached : ℕ) (level to : ℤ) → IsReached n first arcs p e s q enter order place scanned ordered reached level → scanned ≡ ordered → level ≤ℤ to → ((j : ℕ) → ordered ≤ j → j < reached → to ≤ℤ (q (order j) -ℤ p (order j))) → IsReached n first arcs p e s q enter order place scanned ordered reached to
+climbed n first arcs p e s q enter order place scanned ordered reached level to r done rises least = record {
+  counts = r.counts;
+  begun = r.begun;
+  node = r.node;
+  at = r.at;
+  marked = r.marked;
+  listed = r.listed;
+  most = r.most;
+  under = λ w c m h. under_level (q w -ℤ p w) level to (r.under w c m h) rises;
+  here = λ w c m h. let (b, back) = r.listed w c m in subst (λ (i : ℕ). to ≤ℤ (q i -ℤ p i)) back (least (place w) (omega arith) b);
+  near = r.near;
+  source = r.source;
+  plain = r.plain;
+  entered = r.entered;
+}
+
+-- ---- what is kept, in a row
+
+pub kept_same : (n h : ℕ) (q : ℕ → ℤ) (place : ℕ → ℕ) → AreLowered n h q place q place
+kept_same n h q place = record {
+  lower = λ v b. same_z (q v);
+  same = λ v b l c. (refl, refl);
+  old = λ v b l c. (l, c);
+}
+
+pub kept_then : (n h : ℕ) (q q' q'' : ℕ → ℤ) (place place' place'' : ℕ → ℕ) → AreLowered n h q place q' place' → AreLowered n h q' place' q'' place'' → AreLowered n h q place q'' place''
+kept_then n h q q' q'' place place' place'' a c = record {
+  lower = λ v b. under_level (q'' v) (q' v) (q v) (c.lower v b) (a.lower v b);
+  same = λ v b l d.
+      let (e, f) = a.same v b l d in
+      let l' : q' v <ℤ far = subst (λ (z : ℤ). z <ℤ far) (sym e) l in
+      let d' : place' v < h = subst (λ (i : ℕ). i < h) (sym f) d in
+      let (g, k) = c.same v b l' d' in
+      (g ∙ e, k ∙ f);
+  old = λ v b l d. let (l', d') = c.old v b l d in a.old v b l' d';
+}
+
+pub kept_less : (n h k : ℕ) (q q' : ℕ → ℤ) (place place' : ℕ → ℕ) → k ≤ h → AreLowered n h q place q' place' → AreLowered n k q place q' place'
+kept_less n h k q q' place place' le a = record {
+  lower = a.lower;
+  same = λ v b l d. a.same v b l (omega arith);
+  old = λ v b l d.
+      let (l', d') = a.old v b l (omega arith) in
+      let f : place' v ≡ place v = (a.same v b l' d').1 in
+      (l', omega arith);
+}
+
+-- ---- the nearest node found where units are wanting
+
+pub nearest_kept : (n : ℕ) (first : List ℕ) (arcs : List ResidualArc) (p e : ℕ → ℤ) (s : ℕ) (q q' : ℕ → ℤ) (place place' : ℕ → ℕ) (scanned : ℕ) (level level' bound : ℤ) (k : ℕ) → IsNearest n first arcs p e s q place scanned level bound k → level' ≤ℤ bound → AreLowered n scanned q place q' place' → IsNearest n first arcs p e s q' place' scanned level' bound k
+nearest_kept n first arcs p e s q q' place place' scanned level level' bound k r above kept = record {
+  above = above;
+  most = r.most;
+  hit = λ l.
+      let h = r.hit l in
+      let (e, f) = kept.same h.start h.node h.labelled h.are_scanned in
+      record {
+        start = h.start;
+        node = h.node;
+        labelled = subst (λ (z : ℤ). z <ℤ far) (sym e) h.labelled;
+        are_scanned = subst (λ (i : ℕ). i < scanned) (sym f) h.are_scanned;
+        leaves = h.leaves;
+        unblocked = h.unblocked;
+        wanting = h.wanting;
+        distance = rw e h.distance;
+        near = h.near;
+      };
+}
+
+cut_far : (x pv : ℤ) → x <ℤ far → pv ≡ pos 0 → (x -ℤ pv) ≤ℤ far
+cut_far x pv h z = omega (arith, ints)
+
+near_cut : (a : ℤ) (k : ℕ) (x pv : ℤ) → IsNear a k x → pv ≡ pos 0 → IsNear a k (x -ℤ pv)
+near_cut a k x pv (b, c) z = (omega (arith, ints), omega (arith, ints))
+
+pub nearest_offered : (n : ℕ) (first : List ℕ) (arcs : List ResidualArc) (p e : ℕ → ℤ) (s : ℕ) (q : ℕ → ℤ) (place : ℕ → ℕ) (scanned : ℕ) (level bound cut' : ℤ) (k k' j v : ℕ) (x : ℤ) → IsNearest n first arcs p e s q place scanned level bound k → IsOffer n first arcs p s q place scanned level j v x → q v ≤ℤ far → e v <ℤ pos 0 → p v ≡ pos 0 → ((cut' ≡ bound) × (k' ≡ k)) ⊎ ((cut' ≡ x -ℤ p v) × (k' ≡ j)) → IsNearest n first arcs p e s q place scanned level cut' k'
+nearest_offered n first arcs p e s q place scanned level bound cut' k k' j v x r o most wants none (inl (a, b)) =
+    subst (λ (z : ℤ). IsNearest n first arcs p e s q place scanned level z k') (sym a) (subst (λ (i : ℕ). IsNearest n first arcs p e s q place scanned level bound i) (sym b) r)
+nearest_offered n first arcs p e s q place scanned level bound cut' k k' j v x r o most wants none (inr (a, b)) =
+    let here : x <ℤ far = not_far x (q v) o.less most in
+    let one : IsNearest n first arcs p e s q place scanned level (x -ℤ p v) j = record {
+      above = o.beyond;
+      most = cut_far x (p v) here none;
+      hit = λ l. record {
+        start = o.start;
+        node = o.node;
+        labelled = o.labelled;
+        are_scanned = o.are_scanned;
+        leaves = o.leaves;
+        unblocked = o.unblocked;
+        wanting = subst (λ (i : ℕ). e i <ℤ pos 0) (sym o.arrives) wants;
+        distance = rw (o.arrives, o.label) refl;
+        near = near_cut (p s) scanned x (p v) o.near none;
+      };
+    } in
+    subst (λ (z : ℤ). IsNearest n first arcs p e s q place scanned level z k') (sym a) (subst (λ (i : ℕ). IsNearest n first arcs p e s q place scanned level (x -ℤ p v) i) (sym b) one)
+
+-- ---- what is served stays so
+
+nearer : (a a' c e bound cut' : ℤ) → a' ≡ a → (a' +ℤ c -ℤ e) <ℤ cut' → cut' ≤ℤ bound → (a +ℤ c -ℤ e) <ℤ bound
+nearer a a' c e bound cut' h k l = omega (arith, ints)
+
+no_more : (a a' c b b' : ℤ) → a' ≡ a → b' ≤ℤ b → b ≤ℤ (a +ℤ c) → b' ≤ℤ (a' +ℤ c)
+no_more a a' c b b' h k l = omega (arith, ints)
+
+pub serves_kept : (arcs : List ResidualArc) (p q q' : ℕ → ℤ) (bound cut' : ℤ) (u k : ℕ) → q' u ≡ q u → q' (end_at arcs k) ≤ℤ q (end_at arcs k) → cut' ≤ℤ bound → Serves arcs p q bound u k → Serves arcs p q' cut' u k
+serves_kept arcs p q q' bound cut' u k same lower less sv unblocked near =
+    let was : (q u +ℤ cost_at arcs k -ℤ p (end_at arcs k)) <ℤ bound = nearer (q u) (q' u) (cost_at arcs k) (p (end_at arcs k)) bound cut' same near less in
+    no_more (q u) (q' u) (cost_at arcs k) (q (end_at arcs k)) (q' (end_at arcs k)) same lower (sv unblocked was)
+
+pub served_kept : (n : ℕ) (first : List ℕ) (arcs : List ResidualArc) (p q q' : ℕ → ℤ) (place place' : ℕ → ℕ) (bound cut' : ℤ) (h : ℕ) → IsGraph n first arcs → IsServed n first arcs p q place bound h → AreLowered n h q place q' place' → cut' ≤ℤ bound → IsServed n first arcs p q' place' cut' h
+served_kept n first arcs p q q' place place' bound cut' h g sv kept less = record {
+  served = λ u k b l c st.
+      let (l', c') = kept.old u b l c in
+      serves_kept arcs p q q' bound cut' u k (kept.same u b l' c').0 (kept.lower (end_at arcs k) (g.end u k b st)) less (sv.served u k b l' c' st);
+}
+
+-- one node more is served
+pub served_more : (n : ℕ) (first : List ℕ) (arcs : List ResidualArc) (p q : ℕ → ℤ) (place : ℕ → ℕ) (bound : ℤ) (h u : ℕ) → IsServed n first arcs p q place bound h → ((v : ℕ) → v < n → q v <ℤ far → place v ≡ h → v ≡ u) → ((k : ℕ) → StartsAt first u k → Serves arcs p q bound u k) → IsServed n first arcs p q place bound (h + 1)
+served_more n first arcs p q place bound h u sv only mine = record {
+  served = λ v k b l c st. elim (cases_lt (place v) h) [
+    | inl d ↦ sv.served v k b l d st
+    | inr d ↦
+        let e : v ≡ u = only v b l (omega arith) in
+        subst (λ (i : ℕ). Serves arcs p q bound i k) (sym e) (mine k (subst (λ (i : ℕ). StartsAt first i k) e st))
+  ];
+}
+
+-- ---- the order has room
+
+pub order_distinct : (n : ℕ) (first : List ℕ) (arcs : List ResidualArc) (p e : ℕ → ℤ) (s : ℕ) (q : ℕ → ℤ) (enter order place : ℕ → ℕ) (scanned ordered reached : ℕ) (level : ℤ) → IsReached n first arcs p e s q enter order place scanned ordered reached level → AreDistinct reached order
+order_distinct n first arcs p e s q enter order place scanned ordered reached level r i j a b h = sym (r.at i a) ∙ ap place h ∙ r.at j b
+
+pub order_room : (n : ℕ) (first : List ℕ) (arcs : List ResidualArc) (p e : ℕ → ℤ) (s : ℕ) (q : ℕ → ℤ) (enter order place : ℕ → ℕ) (scanned ordered reached : ℕ) (level : ℤ) (v : ℕ) → IsReached n first arcs p e s q enter order place scanned ordered reached level → v < n → far ≤ℤ q v → reached < n
+order_room n first arcs p e s q enter order place scanned ordered reached level v r b l =
+    room_for reached n order v r.node (order_distinct n first arcs p e s q enter order place scanned ordered reached level r) b
+    (λ j c t. not_less (q v) far (subst (λ (i : ℕ). q i <ℤ far) t (r.marked j c)) l)
+
+-- ---- bounds
+
+label_fits : (n scanned : ℕ) (ps x : ℤ) → n ≤ MAX_NODES → scanned ≤ n → IsNear ps scanned x → (pos 0 ≤ℤ (ps +ℤ pos (2 * n))) × (ps ≤ℤ pos (2 * n)) → IsWithinFar x
+label_fits n scanned ps x small le (a, b) (c, d) = (omega (arith, ints), omega (arith, ints))
+
+potential_fits : (n : ℕ) (pv : ℤ) → n ≤ MAX_NODES → (pos 0 ≤ℤ (pv +ℤ pos (2 * n))) × (pv ≤ℤ pos (2 * n)) → IsWithinFar pv
+potential_fits n pv small (c, d) = (omega (arith, ints), omega (arith, ints))
+
+pub offer_fits : (n : ℕ) (first : List ℕ) (arcs : List ResidualArc) (p e : ℕ → ℤ) (s : ℕ) (q : ℕ → ℤ) (enter order place : ℕ → ℕ) (scanned ordered reached : ℕ) (level : ℤ) (k v : ℕ) (x : ℤ) → IsGraph n first arcs → AreFeasiblePotentials n first arcs p e → IsReached n first arcs p e s q enter order place scanned ordered reached level → IsOffer n first arcs p s q place scanned level k v x → IsWithinFar x
+offer_fits n first arcs p e s q enter order place scanned ordered reached level k v x g pr r o =
+    let le : scanned ≤ n = omega (arith, r.counts) in
+    label_fits n scanned (p s) x g.nodes le o.near (pr.low s r.source.0)
+
+pub potential_fits_at : (n : ℕ) (first : List ℕ) (arcs : List ResidualArc) (p e : ℕ → ℤ) (v : ℕ) → IsGraph n first arcs → AreFeasiblePotentials n first arcs p e → v < n → IsWithinFar (p v)
+potential_fits_at n first arcs p e v g pr b = potential_fits n (p v) g.nodes (pr.low v b)
+
+pub reached_fits : (n : ℕ) (first : List ℕ) (arcs : List ResidualArc) (p e : ℕ → ℤ) (s : ℕ) (q : ℕ → ℤ) (enter order place : ℕ → ℕ) (scanned ordered reached : ℕ) (level : ℤ) (v : ℕ) → IsGraph n first arcs → AreFeasiblePotentials n first arcs p e → IsReached n first arcs p e s q enter order place scanned ordered reached level → v < n → q v <ℤ far → IsWithinFar (q v)
+reached_fits n first arcs p e s q enter order place scanned ordered reached level v g pr r b l =
+    let le : scanned ≤ n = omega (arith, r.counts) in
+    label_fits n scanned (p s) (q v) g.nodes le (r.near v b l) (pr.low s r.source.0)
+
+-- where an offer ends is a node, and its number is one of a residual arc
+pub offer_end : (n : ℕ) (first : List ℕ) (arcs : List ResidualArc) (p : ℕ → ℤ) (s : ℕ) (q : ℕ → ℤ) (place : ℕ → ℕ) (scanned : ℕ) (level : ℤ) (k v : ℕ) (x : ℤ) → IsGraph n first arcs → IsOffer n first arcs p s q place scanned level k v x → v < n
+offer_end n first arcs p s q place scanned level k v x g o = subst (λ (i : ℕ). i < n) o.arrives (g.end o.start k o.node o.leaves)
+
+pub offer_number : (n : ℕ) (first : List ℕ) (arcs : List ResidualArc) (p : ℕ → ℤ) (s : ℕ) (q : ℕ → ℤ) (place : ℕ → ℕ) (scanned : ℕ) (level : ℤ) (k v : ℕ) (x : ℤ) → IsGraph n first arcs → IsOffer n first arcs p s q place scanned level k v x → k < 8192
+offer_number n first arcs p s q place scanned level k v x g o = omega (arith, g.inside o.start o.node, o.leaves.below, g.few)
+
+pub at_level : (q p x a level : ℤ) → q ≡ x → a ≡ x -ℤ p → a ≡ level → (q -ℤ p) ≤ℤ level
+at_level q p x a level h k l = omega (arith, ints)
+
+pub offer_below : (n : ℕ) (first : List ℕ) (arcs : List ResidualArc) (p e : ℕ → ℤ) (s : ℕ) (q : ℕ → ℤ) (enter order place : ℕ → ℕ) (scanned ordered reached : ℕ) (level : ℤ) (k v : ℕ) (x : ℤ) → IsReached n first arcs p e s q enter order place scanned ordered reached level → IsOffer n first arcs p s q place scanned level k v x → v < n → x <ℤ far
+offer_below n first arcs p e s q enter order place scanned ordered reached level k v x r o b = not_far x (q v) o.less (r.most v b)
+
+nothing_between : (x pv a bound : ℤ) → a ≡ x -ℤ pv → bound ≤ℤ a → (x -ℤ pv) <ℤ bound → ⊥
+nothing_between x pv a bound h k m = omega (arith, ints)
+
+-- an offer that is no nearer than the bound is served
+pub offered_least : (x pv qv a bound : ℤ) → x <ℤ qv → a ≡ x -ℤ pv → bound ≤ℤ a → (x -ℤ pv) <ℤ bound → qv ≤ℤ x
+offered_least x pv qv a bound l h k m = absurd (nothing_between x pv a bound h k m)
+
+-- ---- what a residual arc of the node that is scanned offers
+
+closed_far : (x qu qe c ps : ℤ) (n h : ℕ) → n ≤ MAX_NODES → h ≤ n → IsNear ps h qu → (pos 0 ≤ℤ (ps +ℤ pos (2 * n))) × (ps ≤ℤ pos (2 * n)) → x ≡ qu +ℤ c → x <ℤ qe → qe ≤ℤ far → pos 15999 ≤ℤ c → ⊥
+closed_far x qu qe c ps n h small le (a, b) (d, e) s l m g = omega (arith, ints)
+
+near_step : (ps qu c x : ℤ) (h : ℕ) → IsNear ps h qu → negsuc 0 ≤ℤ c → c ≤ℤ pos 1 → x ≡ qu +ℤ c → IsNear ps (h + 1) x
+near_step ps qu c x h (a, b) d e s = (omega (arith, ints), omega (arith, ints))
+
+no_nearer : (level qu pu c pe x : ℤ) → level ≤ℤ (qu -ℤ pu) → pos 0 ≤ℤ (c +ℤ pu -ℤ pe) → x ≡ qu +ℤ c → level ≤ℤ (x -ℤ pe)
+no_nearer level qu pu c pe x h r s = omega (arith, ints)
+
+is_open : (n : ℕ) (first : List ℕ) (arcs : List ResidualArc) (p e : ℕ → ℤ) (s : ℕ) (q : ℕ → ℤ) (u k : ℕ) (h : ℕ) (x : ℤ) → IsGraph n first arcs → AreFeasiblePotentials n first arcs p e → s < n → u < n → h ≤ n → IsNear (p s) h (q u) → StartsAt first u k → x ≡ q u +ℤ cost_at arcs k → x <ℤ q (end_at arcs k) → q (end_at arcs k) ≤ℤ far → (negsuc 0 ≤ℤ cost_at arcs k) × (cost_at arcs k ≤ℤ pos 1)
+is_open n first arcs p e s q u k h x g pr sb ub le near st sum less most =
+    elim (g.cost u k ub st) [
+      | inl o ↦ o
+      | inr f ↦ absurd (closed_far x (q u) (q (end_at arcs k)) (cost_at arcs k) (p s) n h g.nodes le near (pr.low s sb) sum less most f.0)
+    ]
+
+pub offer_made : (n : ℕ) (first : List ℕ) (arcs : List ResidualArc) (p e : ℕ → ℤ) (s : ℕ) (q : ℕ → ℤ) (enter order place : ℕ → ℕ) (scanned ordered reached : ℕ) (level : ℤ) (u k v : ℕ) (x : ℤ) → IsGraph n first arcs → AreFeasiblePotentials n first arcs p e → IsReached n first arcs p e s q enter order place scanned ordered reached level → u < n → q u <ℤ far → place u + 1 ≡ scanned → IsNear (p s) (place u) (q u) → level ≤ℤ (q u -ℤ p u) → StartsAt first u k → v ≡ end_at arcs k → x ≡ q u +ℤ cost_at arcs k → x <ℤ q v → IsOffer n first arcs p s q place scanned level k v x
+offer_made n first arcs p e s q enter order place scanned ordered reached level u k v x g pr r ub lu at near high st ends sum less =
+    let le : place u ≤ n = omega (arith, r.counts) in
+    let here : x <ℤ q (end_at arcs k) = subst (λ (i : ℕ). x <ℤ q i) ends less in
+    let o = is_open n first arcs p e s q u k (place u) x g pr r.source.0 ub le near st sum here (r.most (end_at arcs k) (g.end u k ub st)) in
+    let close : IsNear (p s) (place u + 1) x = near_step (p s) (q u) (cost_at arcs k) x (place u) near o.0 o.1 sum in
+    record {
+      start = u;
+      node = ub;
+      labelled = lu;
+      are_scanned = omega arith;
+      leaves = st;
+      unblocked = o.1;
+      arrives = sym ends;
+      label = sum;
+      near = subst (λ (i : ℕ). IsNear (p s) i x) at close;
+      beyond = subst (λ (i : ℕ). level ≤ℤ (x -ℤ p i)) (sym ends) (no_nearer level (q u) (p u) (cost_at arcs k) (p (end_at arcs k)) x high (pr.reduced u k ub st o.1) sum);
+      less = less;
+    }
+
+-- a label that is no more than what is offered is served
+pub served_less : (arcs : List ResidualArc) (p q : ℕ → ℤ) (bound : ℤ) (u k v : ℕ) (x : ℤ) → v ≡ end_at arcs k → x ≡ q u +ℤ cost_at arcs k → q v ≤ℤ x → Serves arcs p q bound u k
+served_less arcs p q bound u k v x ends sum less _ _ = subst (λ (z : ℤ). q (end_at arcs k) ≤ℤ z) sum (subst (λ (i : ℕ). q i ≤ℤ x) ends less)
+
+pub served_after : (arcs : List ResidualArc) (p q q' : ℕ → ℤ) (bound : ℤ) (u k v : ℕ) (x : ℤ) → v ≡ end_at arcs k → x ≡ q u +ℤ cost_at arcs k → q' u ≡ q u → ((x -ℤ p v) <ℤ bound → q' v ≤ℤ x) → Serves arcs p q' bound u k
+served_after arcs p q q' bound u k v x ends sum same sv _ near =
+    let total : x ≡ q' u +ℤ cost_at arcs k = sum ∙ ap (λ (z : ℤ). z +ℤ cost_at arcs k) (sym same) in
+    let close : (x -ℤ p v) <ℤ bound = subst (λ (i : ℕ). (x -ℤ p i) <ℤ bound) (sym ends) (subst (λ (z : ℤ). (z -ℤ p (end_at arcs k)) <ℤ bound) (sym total) near) in
+    subst (λ (z : ℤ). q' (end_at arcs k) ≤ℤ z) total (subst (λ (i : ℕ). q' i ≤ℤ x) ends (sv close))
+
+-- the order of the first h nodes stays
+pub order_kept : (n : ℕ) (first : List ℕ) (arcs : List ResidualArc) (p e : ℕ → ℤ) (s : ℕ) (q q' : ℕ → ℤ) (enter enter' order order' place place' : ℕ → ℕ) (scanned scanned' ordered ordered' reached reached' : ℕ) (level level' : ℤ) (h : ℕ) → IsReached n first arcs p e s q enter order place scanned ordered reached level → IsReached n first arcs p e s q' enter' order' place' scanned' ordered' reached' level' → AreLowered n h q place q' place' → h ≤ reached → (j : ℕ) → j < h → order' j ≡ order j
+order_kept n first arcs p e s q q' enter enter' order order' place place' scanned scanned' ordered ordered' reached reached' level level' h r r' kept le j b =
+    let jb : j < reached = omega arith in
+    let v : ℕ = order j in
+    let vb : v < n = r.node j jb in
+    let l : q v <ℤ far = r.marked j jb in
+    let at : place v ≡ j = r.at j jb in
+    let (same, stays) = kept.same v vb l (omega arith) in
+    let l' : q' v <ℤ far = subst (λ (z : ℤ). z <ℤ far) (sym same) l in
+    ap order' (sym at ∙ sym stays) ∙ (r'.listed v vb l').1
+
+-- ---- how many looks
+
+telescoped : (n k : ℕ) (first : List ℕ) → k ≤ n → ((v : ℕ) → v < n → numbers first v ≤ numbers first (v + 1)) → sum_below k (degree first) + numbers first 0 ≡ numbers first k
+telescoped n zero first le rise = omega arith
+telescoped n (suc k) first le rise =
+    let up : numbers first k ≤ numbers first (k + 1) = rise k (omega arith) in
+    let before : sum_below k (degree first) + numbers first 0 ≡ numbers first k = telescoped n k first (omega arith) rise in
+    let whole : numbers first (suc k) ≡ numbers first (k + 1) = ap (numbers first) (omega arith) in
+    omega arith
+
+all_degrees : (n : ℕ) (first : List ℕ) (arcs : List ResidualArc) → IsGraph n first arcs → sum_below n (degree first) ≤ length arcs
+all_degrees zero first arcs g = omega arith
+all_degrees (suc n) first arcs g =
+    let t : sum_below (suc n) (degree first) + numbers first 0 ≡ numbers first (suc n) = telescoped (suc n) (suc n) first (omega arith) g.rising in
+    let i : numbers first (n + 1) ≤ length arcs = g.inside n (omega arith) in
+    let whole : numbers first (suc n) ≡ numbers first (n + 1) = ap (numbers first) (omega arith) in
+    omega arith
+
+pub looked_most : (n : ℕ) (first : List ℕ) (arcs : List ResidualArc) (p e : ℕ → ℤ) (s : ℕ) (q : ℕ → ℤ) (enter order place : ℕ → ℕ) (scanned ordered reached : ℕ) (level : ℤ) → IsGraph n first arcs → IsReached n first arcs p e s q enter order place scanned ordered reached level → looked first order scanned ≤ length arcs
+looked_most n first arcs p e s q enter order place scanned ordered reached level g r =
+    let le : scanned ≤ reached = omega (arith, r.counts) in
+    let sum : looked first order scanned ≤ sum_below n (degree first) = distinct_sum scanned n order (degree first) (λ j b. r.node j (omega arith)) (λ i j a b h. order_distinct n first arcs p e s q enter order place scanned ordered reached level r i j (omega arith) (omega arith) h) in
+    omega (arith, all_degrees n first arcs g)
+
+pub looked_same : (first : List ℕ) (order order' : ℕ → ℕ) (h : ℕ) → ((j : ℕ) → j < h → order' j ≡ order j) → looked first order' h ≡ looked first order h
+looked_same first order order' h same = sum_below-same h (λ j. degree first (order' j)) (λ j. degree first (order j)) (λ j b. ap (degree first) (same j b))
+
+pub looked_more : (first : List ℕ) (order order' : ℕ → ℕ) (h : ℕ) → ((j : ℕ) → j < h + 1 → order' j ≡ order j) → looked first order' (h + 1) ≡ looked first order h + degree first (order h)
+looked_more first order order' h same =
+    let more : looked first order' (h + 1) ≡ looked first order' h + degree first (order' h) = sum_below-more h (λ j. degree first (order' j)) in
+    let rest : looked first order' h ≡ looked first order h = looked_same first order order' h (λ j b. same j (omega arith)) in
+    let last : degree first (order' h) ≡ degree first (order h) = ap (degree first) (same h (omega arith)) in
+    omega arith
+
+-- ---- the source alone
+
+no_distance : (a p : ℤ) → a ≡ p → ((a -ℤ p) ≤ℤ pos 0) × (pos 0 ≤ℤ (a -ℤ p))
+no_distance a p h = (omega (arith, ints), omega (arith, ints))
+
+near_self : (a p : ℤ) → a ≡ p → IsNear p 0 a
+near_self a p h = (omega (arith, ints), omega (arith, ints))
+
+low_near : (p : ℤ) (n : ℕ) → n ≤ MAX_NODES → p ≤ℤ pos (2 * n) → p <ℤ far
+low_near p n small h = omega (arith, ints)
+
+more_than_none : (e : ℤ) → pos 0 <ℤ e → pos 0 ≤ℤ e
+more_than_none e h = omega (arith, ints)
+
+less_far : (a : ℤ) → a <ℤ far → a ≤ℤ far
+less_far a h = omega (arith, ints)
+
+pub source_reached : (n : ℕ) (first : List ℕ) (arcs : List ResidualArc) (p e : ℕ → ℤ) (s : ℕ) (q q' : ℕ → ℤ) (enter order place : ℕ → ℕ) → n ≤ MAX_NODES → s < n → p s ≤ℤ pos (2 * n) → pos 0 <ℤ e s → ((v : ℕ) → v < n → q v ≡ far) → IsPut q q' s (p s) → order 0 ≡ s → place s ≡ 0 → IsReached n first arcs p e s q' enter order place 0 1 1 (pos 0)
+source_reached n first arcs p e s q q' enter order place small sb low left blank put oat pat =
+    let ls : q' s <ℤ far = subst (λ (z : ℤ). z <ℤ far) (sym put.here) (low_near (p s) n small low) in
+    let only : (w : ℕ) → w < n → q' w <ℤ far → w ≡ s = λ w b l. elim (cases_eq w s) [
+      | inl t ↦ t
+      | inr ne ↦ absurd (not_less (q' w) far l (same_le far (q' w) (sym (put.others w ne ∙ blank w b))))
+    ] in
+    let zeroth : (j : ℕ) → j < 1 → order j ≡ s = λ j b. ap order (omega arith) ∙ oat in
+    record {
+      counts = (omega arith, omega arith, omega arith);
+      begun = omega arith;
+      node = λ j b. subst (λ (i : ℕ). i < n) (sym (zeroth j b)) sb;
+      at = λ j b. ap place (zeroth j b) ∙ pat ∙ omega arith;
+      marked = λ j b. subst (λ (i : ℕ). q' i <ℤ far) (sym (zeroth j b)) ls;
+      listed = λ w b l. let t : w ≡ s = only w b l in let g : place w ≡ 0 = ap place t ∙ pat in (omega arith, ap order g ∙ oat ∙ sym t);
+      most = λ w b. elim (cases_eq w s) [
+        | inl t ↦ subst (λ (i : ℕ). q' i ≤ℤ far) (sym t) (less_far (q' s) ls)
+        | inr ne ↦ same_le (q' w) far (put.others w ne ∙ blank w b)
+      ];
+      under = λ w b l h. subst (λ (i : ℕ). (q' i -ℤ p i) ≤ℤ pos 0) (sym (only w b l)) (no_distance (q' s) (p s) put.here).0;
+      here = λ w b l h. subst (λ (i : ℕ). pos 0 ≤ℤ (q' i -ℤ p i)) (sym (only w b l)) (no_distance (q' s) (p s) put.here).1;
+      near = λ w b l. subst (λ (i : ℕ). IsNear (p s) 0 (q' i)) (sym (only w b l)) (near_self (q' s) (p s) put.here);
+      source = (sb, ls, pat);
+      plain = λ w b l. subst (λ (i : ℕ). pos 0 ≤ℤ e i) (sym (only w b l)) (more_than_none (e s) left);
+      entered = λ w b l ne. absurd (ne (only w b l));
+    }
+
+-- ---- leaving
+
+pub left_at_level : (n : ℕ) (first : List ℕ) (arcs : List ResidualArc) (p e : ℕ → ℤ) (s : ℕ) (q : ℕ → ℤ) (enter order place : ℕ → ℕ) (scanned ordered reached : ℕ) (level bound : ℤ) → IsReached n first arcs p e s q enter order place scanned ordered reached level → level ≡ bound → IsLeft n p q place scanned bound
+left_at_level n first arcs p e s q enter order place scanned ordered reached level bound r same v b l h = subst (λ (z : ℤ). z ≤ℤ (q v -ℤ p v)) same (r.here v b l h)
+
+pub left_behind : (n : ℕ) (first : List ℕ) (arcs : List ResidualArc) (p e : ℕ → ℤ) (s : ℕ) (q : ℕ → ℤ) (enter order place : ℕ → ℕ) (scanned ordered reached : ℕ) (level bound : ℤ) → IsReached n first arcs p e s q enter order place scanned ordered reached level → ordered ≤ scanned → ((j : ℕ) → ordered ≤ j → j < reached → bound ≤ℤ (q (order j) -ℤ p (order j))) → IsLeft n p q place scanned bound
+left_behind n first arcs p e s q enter order place scanned ordered reached level bound r done least v b l h =
+    let (in_list, back) = r.listed v b l in
+    subst (λ (i : ℕ). bound ≤ℤ (q i -ℤ p i)) back (least (place v) (omega arith) in_list)
+
+both_under : (a b : ℤ) → a ≤ℤ b → b ≤ℤ a → a ≡ b
+both_under a b h k = omega (arith, ints)
+
+pub strictly : (a b : ℤ) → a ≤ℤ b → (a ≡ b → ⊥) → a <ℤ b
+strictly a b h ne = elim (below_or_not a b) [ inl l ↦ l | inr g ↦ absurd (ne (both_under a b h g)) ]
+
+pub least_more : (q p : ℕ → ℤ) (order : ℕ → ℕ) (ordered j : ℕ) (bound least a r : ℤ) → a ≡ q (order j) -ℤ p (order j) → r ≤ℤ least → r ≤ℤ a → (r ≡ least) ⊎ (r ≡ a) → ordered ≤ j → ((i : ℕ) → ordered ≤ i → i < j → least ≤ℤ (q (order i) -ℤ p (order i))) → (least <ℤ bound → (i : ℕ) × (ordered ≤ i) × (i < j) × (least ≡ q (order i) -ℤ p (order i))) → ((i : ℕ) → ordered ≤ i → i < j + 1 → r ≤ℤ (q (order i) -ℤ p (order i))) × (r <ℤ bound → (i : ℕ) × (ordered ≤ i) × (i < j + 1) × (r ≡ q (order i) -ℤ p (order i)))
+least_more q p order ordered j bound least a r here first second either le all some = (
+  (λ i b c. elim (cases_lt i j) [
+    | inl d ↦ under_level r least (q (order i) -ℤ p (order i)) first (all i b d)
+    | inr d ↦ let e : i ≡ j = omega arith in subst (λ (t : ℕ). r ≤ℤ (q (order t) -ℤ p (order t))) (sym e) (subst (λ (z : ℤ). r ≤ℤ z) here second)
+  ]),
+  λ h. elim either [
+    | inl e ↦ let (i, b, c, d) = some (subst (λ (z : ℤ). z <ℤ bound) e h) in (i, b, omega arith, e ∙ d)
+    | inr e ↦ (j, le, omega arith, e ∙ here)
+  ],
+)
+
+pub at_place : {scanned ordered j k : ℕ} → scanned ≤ ordered → ordered ≤ j → k ≡ j → scanned ≤ k
+at_place a b h = omega arith
+
+-- ---- the node that is scanned next
+
+pub record IsNext (n : ℕ) (p : ℕ → ℤ) (s : ℕ) (q : ℕ → ℤ) (place : ℕ → ℕ) (scanned : ℕ) (level : ℤ) (u : ℕ) : Type 0 where
+  pub node : u < n
+  pub labelled : q u <ℤ far
+  pub stands : place u ≡ scanned
+  pub near : IsNear (p s) (place u) (q u)
+  pub high : level ≤ℤ (q u -ℤ p u)
+
+pub next_node : (n : ℕ) (first : List ℕ) (arcs : List ResidualArc) (p e : ℕ → ℤ) (s : ℕ) (q : ℕ → ℤ) (enter order place : ℕ → ℕ) (scanned ordered reached : ℕ) (level : ℤ) → IsReached n first arcs p e s q enter order place scanned ordered reached level → scanned < ordered → IsNext n p s q place scanned level (order scanned)
+next_node n first arcs p e s q enter order place scanned ordered reached level r more =
+    let b : scanned < reached = omega (arith, r.counts) in
+    let at : place (order scanned) ≡ scanned = r.at scanned b in
+    let l : q (order scanned) <ℤ far = r.marked scanned b in
+    record {
+      node = r.node scanned b;
+      labelled = l;
+      stands = at;
+      near = subst (λ (i : ℕ). IsNear (p s) i (q (order scanned))) (sym at) (r.near (order scanned) (r.node scanned b) l);
+      high = r.here (order scanned) (r.node scanned b) l (omega arith);
+    }
+
+-- the same after labels that fall behind it
+pub next_kept : (n : ℕ) (p : ℕ → ℤ) (s : ℕ) (q q' : ℕ → ℤ) (place place' : ℕ → ℕ) (scanned : ℕ) (level : ℤ) (u : ℕ) → IsNext n p s q place scanned level u → AreLowered n (scanned + 1) q place q' place' → IsNext n p s q' place' scanned level u
+next_kept n p s q q' place place' scanned level u x kept =
+    let at : place u ≡ scanned = x.stands in
+    let (same, stays) = kept.same u x.node x.labelled (omega arith) in
+    record {
+      node = x.node;
+      labelled = subst (λ (z : ℤ). z <ℤ far) (sym same) x.labelled;
+      stands = stays ∙ x.stands;
+      near = subst (λ (i : ℕ). IsNear (p s) i (q' u)) (sym stays) (subst (λ (z : ℤ). IsNear (p s) (place u) z) (sym same) x.near);
+      high = subst (λ (z : ℤ). level ≤ℤ (z -ℤ p u)) (sym same) x.high;
+    }
+
+-- the only labelled node at its place
+pub next_only : (n : ℕ) (first : List ℕ) (arcs : List ResidualArc) (p e : ℕ → ℤ) (s : ℕ) (q : ℕ → ℤ) (enter order place : ℕ → ℕ) (h scanned ordered reached : ℕ) (level level' : ℤ) (u : ℕ) → IsReached n first arcs p e s q enter order place scanned ordered reached level → IsNext n p s q place h level' u → (v : ℕ) → v < n → q v <ℤ far → place v ≡ h → v ≡ u
+next_only n first arcs p e s q enter order place h scanned ordered reached level level' u r x v b l at =
+    sym (r.listed v b l).1 ∙ ap order (at ∙ sym x.stands) ∙ (r.listed u x.node x.labelled).1

@@ -1,0 +1,14 @@
+use Rattle.std.proofs.Common.{◌≡◌, ◌+◌, ◌-◌}
+use Rattle.networks.specs.Search.{nodes_of, looked, first_of, orders, IsSearch, HasServed, HasSameList}
+use Rattle.networks.proofs.state.Search.run.Given as goal
+
+abbrev pub invariant-nodes : goal.invariant-nodes
+invariant-nodes l = record {
+  search : IsSearch l.input l.search;
+  list : HasSameList l.initial.search l.search;
+  served : HasServed l.input l.search;
+  looks : l.looks ≡ l.initial.looks + looked (first_of l.input) (orders l.search) l.search.scanned;
+}
+
+abbrev pub decreases-nodes : goal.decreases-nodes
+decreases-nodes l = nodes_of l.input - l.search.scanned

@@ -1,0 +1,94 @@
+use Rattle.std.proofs.Common.{◌≡◌, ◌<◌, ◌+◌, ℕ, arith, refl, inl, inr, subst, sym, ◌∙◌}
+use Rattle.std.proofs.lemmas.Bool.{cases_lt}
+use Rattle.networks.specs.Search.{nodes_of, arcs_of, potential_of, labels, orders, places, AreLowered, IsScanning, Serves}
+use Rattle.networks.proofs.Reaching.{headed, headed_nearest, kept_same, kept_then, same_z, under_level}
+use Rattle.networks.proofs.Searching.{scanning, next_in, still_serves, are_scanned}
+use Rattle.networks.proofs.state.Search.scan.Goals as goal
+
+pub overflow_sub-looks : goal.overflow_sub-looks
+overflow_sub-looks c =
+    let h = c.requires.search in
+    let s = c.args.self.now in
+    let g = c.args.input in
+    let u : ℕ = orders s s.scanned in
+    let b : u < nodes_of g = next_in g s u h c.requires.more refl in
+    h.input.graph.rising u b
+
+pub loop-number-init : goal.loop-number-init
+loop-number-init c =
+    let h = c.requires.search in
+    let s = c.args.self.now in
+    let g = c.args.input in
+    let u : ℕ = orders s s.scanned in
+    let b : u < nodes_of g = next_in g s u h c.requires.more refl in
+    record {
+      relaxed = record {
+        search = record {
+          input = h.input;
+          size = h.size;
+          reached = headed _ _ _ _ _ _ _ _ _ _ _ _ _ _ h.reached c.requires.more;
+          nearest = headed_nearest _ _ _ _ _ _ _ _ _ _ _ _ h.nearest;
+        };
+        list = refl;
+        kept = kept_same _ _ _ _;
+        scanned = refl;
+        level = refl;
+        bound = same_z s.bound;
+      };
+      serves = λ k x y. absurd (omega arith);
+    }
+
+pub look-requires : goal.look-requires
+look-requires c =
+    let h = c.requires.search in
+    let s = c.args.self.now in
+    let g = c.args.input in
+    let u : ℕ = orders s s.scanned in
+    let b : u < nodes_of g = next_in g s u h c.requires.more refl in
+    let r = c.loop-number.invariant.relaxed in
+    record {
+      scanning = scanning g s c.loop-number.self u h c.requires.more refl r.search r.kept r.scanned r.level;
+      number = record { from = omega arith; below = omega arith };
+    }
+
+pub loop-number-preserved : goal.loop-number-preserved
+loop-number-preserved c =
+    let h = c.requires.search in
+    let s = c.args.self.now in
+    let g = c.args.input in
+    let u : ℕ = orders s s.scanned in
+    let b : u < nodes_of g = next_in g s u h c.requires.more refl in
+    let i = c.loop-number.invariant in
+    let r = i.relaxed in
+    let t = c.loop-number.self in
+    let n : IsScanning g t u = scanning g s t u h c.requires.more refl r.search r.kept r.scanned r.level in
+    let new = c.look.new.self in
+    let k = c.look.ensures.relaxed in
+    let number : ℕ = c.loop-number.number in
+    let here : Serves (arcs_of g) (potential_of g) (labels new) new.bound u number = c.look.ensures.serves in
+    let step : AreLowered (nodes_of g) (s.scanned + 1) (labels t) (places t) (labels new) (places new) = subst (λ (m : ℕ). AreLowered (nodes_of g) m (labels t) (places t) (labels new) (places new)) r.scanned k.kept in
+    record {
+      relaxed = record {
+        search = k.search;
+        list = k.list ∙ r.list;
+        kept = kept_then _ _ _ _ _ _ _ _ r.kept step;
+        scanned = k.scanned ∙ r.scanned;
+        level = k.level ∙ r.level;
+        bound = under_level _ _ _ k.bound r.bound;
+      };
+      serves = λ j a d. elim (cases_lt j number) [
+        | inl l ↦ still_serves g t new u j n k (record { from = a; below = omega (arith, l) }) (i.serves j a l)
+        | inr l ↦ let q : j ≡ number = omega arith in subst (λ (m : ℕ). Serves (arcs_of g) (potential_of g) (labels new) new.bound u m) (sym q) here
+      ];
+    }
+
+pub returns-clause-served : goal.returns-clause-served
+returns-clause-served c =
+    let h = c.requires.search in
+    let s = c.args.self.now in
+    let g = c.args.input in
+    let u : ℕ = orders s s.scanned in
+    let b : u < nodes_of g = next_in g s u h c.requires.more refl in
+    let i = c.loop-number.invariant in
+    let r = i.relaxed in
+    are_scanned g s c.loop-number.self u h c.requires.more refl c.requires.served r.search r.kept r.scanned r.bound (λ k st. i.serves k st.from (omega (arith, st.below)))

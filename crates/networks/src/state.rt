@@ -1,0 +1,61 @@
+//! What a search reads, and what it keeps.
+use crate::residual::ResidualArc;
+
+/// The label of a node that was not reached, above that of each node that was.
+pub const FAR: i16 = 8_000;
+
+/// What a search reads: residual arcs, what is known of each node, and the node where the search begins.
+#[derive(Clone, Copy)]
+pub struct SearchInput<'a> {
+    /// The residual arcs that start at node v have the numbers from `first[v]` up to `first[v + 1]`.
+    pub first: &'a [u32],
+    pub arcs: &'a [ResidualArc],
+    /// Under these no open residual arc has a reduced cost below 0, and where units are wanting they are 0.
+    pub potential: &'a [i32],
+    /// How many units are left over at a node, or, below 0, are wanting there.
+    pub excess: &'a [i32],
+    /// Of nodes that are found at the same distance the one with the least score is taken.
+    pub score: &'a [i32],
+    pub source: usize,
+}
+
+/// What a search knows of a node; and what stands at the place of the same number in the order of the nodes that
+/// were reached: first those that were scanned, then those at the level, then those further off.
+#[derive(Clone, Copy)]
+pub struct Visit {
+    /// The source's potential and the costs of the residual arcs on the way to the node, or `FAR`.
+    pub label: i16,
+    /// The residual arc on which the node was entered.
+    pub enter: u16,
+    /// The place of the node in the order.
+    pub place: u16,
+    /// The node at this place of the order.
+    pub at_place: u16,
+}
+
+/// What a search has found so far.
+#[derive(Drop)]
+pub struct Search<'a> {
+    /// One for each node.
+    pub visits: &'a mut [Visit],
+    /// How many nodes were scanned: the first ones of the order.
+    pub scanned: usize,
+    /// How many nodes stand first in the order, sorted by their distance; the scanned ones are among them.
+    pub ordered: usize,
+    /// How many nodes were reached: all that stand in the order.
+    pub reached: usize,
+    /// The distance of the nodes that are scanned now.
+    pub level: i32,
+    /// The distance of the nearest node found where units are wanting, or `FAR` where none was found.
+    pub bound: i32,
+    /// The residual arc that leads to that node.
+    pub found: usize,
+}
+
+/// A residual arc that was looked at, and the label that it offers to its end.
+#[derive(Clone, Copy, Debug, PartialEq, Eq)]
+pub(crate) struct Step {
+    pub number: usize,
+    pub end: usize,
+    pub label: i16,
+}

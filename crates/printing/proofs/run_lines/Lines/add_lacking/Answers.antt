@@ -1,0 +1,21 @@
+use Rattle.std.proofs.Common.{sym, ◌∙◌}
+use Rattle.printing.proofs.SucceedsOrFails.{ok_then}
+use Rattle.std.proofs.Common.{inl}
+use Rattle.printing.proofs.Breaking.{breaks_written}
+use Rattle.printing.proofs.SucceedsOrFails.{err_then}
+use Rattle.printing.proofs.run_lines.Lines.add_lacking.Goals as goal
+
+pub returns-in-Ok-clause-added : goal.returns-in-Ok-clause-added
+returns-in-Ok-clause-added g c =
+    ok_then c.add.result c.add.ensures.added (λ added start before after entry of_it at lacks more was.
+    added start before after entry (sym (c.as_slice.ensures.value ∙ c.in-Ok.ensures entry of_it at lacks)) more was)
+
+pub returns-in-Ok-clause-broken : goal.returns-in-Ok-clause-broken
+returns-in-Ok-clause-broken g c =
+    err_then c.add.result c.add.ensures.broken (λ broken start before after entry of_it at lacks more was.
+    broken start before after entry (sym (c.as_slice.ensures.value ∙ c.in-Ok.ensures entry of_it at lacks)) more was)
+
+pub returns-in-Err-clause-broken : goal.returns-in-Err-clause-broken
+returns-in-Err-clause-broken g c = λ start before after entry of_it at lacks more was.
+    let self = c.args.self.now in
+    inl (breaks_written self.form start (g.S.Sink.taken c.args.sink.now) self.buffer self.front self.waiting.items before was)

@@ -1,0 +1,15 @@
+use Rattle.std.proofs.Common.{◌≡◌, ◌-◌, ℕ, List, Option, false, length}
+use Rattle.printing.specs.Came.{Came}
+use Rattle.printing.specs.Holding.{LinesWrite, AreLinesOf}
+use Rattle.printing.proofs.run_lines.Lines.advance.Given as goal
+
+abbrev pub invariant-loop-mark : goal.invariant-loop-mark
+invariant-loop-mark g l = record {
+  stands : g.S.Sink.failed l.sink ≡ false;
+  same : AreLinesOf l.initial.self l.self;
+  whole : l.self.whole ≡ l.initial.self.whole;
+  written : (start : Option (List ℕ)) (came : ℕ → Came) → LinesWrite start (g.S.Sink.taken l.initial.sink) l.initial.self came → LinesWrite start (g.S.Sink.taken l.sink) l.self came;
+}
+
+abbrev pub decreases-loop-mark : goal.decreases-loop-mark
+decreases-loop-mark g l = length l.self.waiting.items - l.self.front

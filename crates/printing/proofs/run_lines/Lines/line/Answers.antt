@@ -1,0 +1,83 @@
+use Rattle.std.proofs.Common.{◌≡◌, ◌<◌, ◌↔◌, true, ap, refl, rules, subst, sym, length, ℕ, ◌≤◌, ◌∙◌, inl}
+use Rattle.printing.specs.Answered.{entry_of}
+use Rattle.printing.specs.FormLines.{IsLineOf, line_in}
+use Rattle.printing.specs.Came.{IsWholeSoFar}
+use Rattle.printing.proofs.Held.{comes_next, held_item, lacking}
+use Rattle.printing.proofs.SucceedsOrFails.{ok_then, ok_both}
+use Rattle.printing.proofs.Wholes.{whole_item, whole_lacking}
+use Rattle.printing.proofs.Held.{left_off_held, left_off_item}
+use Rattle.printing.proofs.SucceedsOrFails.{err_then}
+use Rattle.printing.proofs.run_lines.Lines.line.Goals as goal
+
+pub returns-in-Some-clause-held : goal.returns-in-Some-clause-held
+returns-in-Some-clause-held g c =
+    let entry = entry_of c.args.printed.file c.args.printed.ordinal c.args.printed.rec.value c.args.printed.choice c.args.printed.answer.value c.args.printed.answers in
+    let file = c.args.printed.file in
+    let before = c.args.self.now in
+    let after = c.add.new.self in
+    let below : file < length before.waiting.items = search rules in
+    let form : c.args.printed.form ≡ before.form = search rules in
+    let has = subst (IsLineOf c.args.printed.form entry) c.in-Some.is c.args.printed.line_is in
+    let line : line_in before.form entry ≡ c.as_slice.result.now = ap (λ f. line_in f entry) (sym form) ∙ sym has.1 ∙ sym c.as_slice.ensures.value in
+    let from : before.front ≤ file = search rules in
+    let choice : c.args.printed.choice ≡ before.choice = search rules in
+    let comes = comes_next before.choice c.args.printed.choice (g.J.Told.meaning file) file c.args.printed.ordinal before.waiting.items entry refl refl refl choice
+    c.args.printed.rec_is c.args.printed.placed (c.is_next.ensures.next (search rules)) in
+    ok_then c.add.result c.add.ensures.added (λ added start ns held.
+    held_item g.J.Told.meaning start (g.S.Sink.taken c.args.sink.now) (g.S.Sink.taken c.add.new.sink) before after ns file entry c.add.ensures.same.same c.add.ensures.same.front below from comes
+    (λ came next more was. added start came next entry line more was)
+    (λ came next more was. subst (λ b. (b ≡ true) ↔ ((k : ℕ) → k < length before.waiting.items → IsWholeSoFar (next k))) (sym c.add.ensures.same.whole) (whole_item (length before.waiting.items) file entry came next before.whole below has.0 more was))
+    held)
+
+pub returns-clause-held : goal.returns-clause-held
+returns-clause-held g c =
+    let entry = lacking (entry_of c.args.printed.file c.args.printed.ordinal c.args.printed.rec.value c.args.printed.choice c.args.printed.answer.value c.args.printed.answers) in
+    let file = c.args.printed.file in
+    let before = c.args.self.now in
+    let after = c.add_lacking.new.self in
+    let below : file < length before.waiting.items = search rules in
+    let from : before.front ≤ file = search rules in
+    let choice : c.args.printed.choice ≡ before.choice = search rules in
+    let comes = comes_next before.choice c.args.printed.choice (g.J.Told.meaning file) file c.args.printed.ordinal before.waiting.items entry refl refl refl choice
+    c.args.printed.rec_is c.args.printed.placed (c.is_next.ensures.next (search rules)) in
+    ok_both c.add_lacking.result c.add_lacking.ensures.added c.add_lacking.ensures.lacking (λ added lacks start ns held.
+    held_item g.J.Told.meaning start (g.S.Sink.taken c.args.sink.now) (g.S.Sink.taken c.add_lacking.new.sink) before after ns file entry c.add_lacking.ensures.same c.add_lacking.ensures.front below from comes
+    (λ came next more was. added start came next entry refl refl refl more was)
+    (λ came next more was. subst (λ b. (b ≡ true) ↔ ((k : ℕ) → k < length before.waiting.items → IsWholeSoFar (next k))) (sym lacks) (whole_lacking (length before.waiting.items) file entry came next below refl more))
+    held)
+
+pub returns-in-Some-clause-broken : goal.returns-in-Some-clause-broken
+returns-in-Some-clause-broken g c =
+    let entry = entry_of c.args.printed.file c.args.printed.ordinal c.args.printed.rec.value c.args.printed.choice c.args.printed.answer.value c.args.printed.answers in
+    let file = c.args.printed.file in
+    let before = c.args.self.now in
+    let after = c.add.new.self in
+    let below : file < length before.waiting.items = search rules in
+    let form : c.args.printed.form ≡ before.form = search rules in
+    let has = subst (IsLineOf c.args.printed.form entry) c.in-Some.is c.args.printed.line_is in
+    let line : line_in before.form entry ≡ c.as_slice.result.now = ap (λ f. line_in f entry) (sym form) ∙ sym has.1 ∙ sym c.as_slice.ensures.value in
+    let from : before.front ≤ file = search rules in
+    let choice : c.args.printed.choice ≡ before.choice = search rules in
+    let comes = comes_next before.choice c.args.printed.choice (g.J.Told.meaning file) file c.args.printed.ordinal before.waiting.items entry refl refl refl choice
+    c.args.printed.rec_is c.args.printed.placed (c.is_next.ensures.next (search rules)) in
+    err_then c.add.result c.add.ensures.broken (λ broken start ns held.
+    left_off_item g.J.Told.meaning start (g.S.Sink.taken c.args.sink.now) (g.S.Sink.taken c.add.new.sink) before after ns file entry c.add.ensures.same.same below from comes
+    (λ came next more was. broken start came next entry line more was) held)
+
+pub returns-clause-broken : goal.returns-clause-broken
+returns-clause-broken g c =
+    let entry = lacking (entry_of c.args.printed.file c.args.printed.ordinal c.args.printed.rec.value c.args.printed.choice c.args.printed.answer.value c.args.printed.answers) in
+    let file = c.args.printed.file in
+    let before = c.args.self.now in
+    let after = c.add_lacking.new.self in
+    let below : file < length before.waiting.items = search rules in
+    let from : before.front ≤ file = search rules in
+    let choice : c.args.printed.choice ≡ before.choice = search rules in
+    let comes = comes_next before.choice c.args.printed.choice (g.J.Told.meaning file) file c.args.printed.ordinal before.waiting.items entry refl refl refl choice
+    c.args.printed.rec_is c.args.printed.placed (c.is_next.ensures.next (search rules)) in
+    err_then c.add_lacking.result c.add_lacking.ensures.broken (λ broken start ns held.
+    left_off_item g.J.Told.meaning start (g.S.Sink.taken c.args.sink.now) (g.S.Sink.taken c.add_lacking.new.sink) before after ns file entry c.add_lacking.ensures.same below from comes
+    (λ came next more was. broken start came next entry refl refl refl more was) held)
+
+pub returns-then-ne-clause-broken : goal.returns-then-ne-clause-broken
+returns-then-ne-clause-broken g c = λ start ns held. inl (left_off_held g.J.Told.meaning start (g.S.Sink.taken c.args.sink.now) c.args.self.now ns held)

@@ -1,0 +1,10 @@
+use Rattle.std.proofs.lemmas.Result.{IfOk-weaker}
+use Rattle.printing.proofs.SucceedsOrFails.{err_then}
+use Rattle.printing.proofs.texts.Texts+S+Lines.finish.Goals as goal
+
+pub returns-clause-written : goal.returns-clause-written
+returns-clause-written g c =
+    IfOk-weaker c.finish.result _ _ (λ status f choice known meaning ns. f (g.S.Sink.taken c.args.self.start.value) choice known meaning ns) c.finish.ensures.written
+
+pub returns-clause-broken : goal.returns-clause-broken
+returns-clause-broken g c = err_then c.finish.result c.finish.ensures.broken (λ broken meaning. broken meaning (g.S.Sink.taken c.args.self.start.value))

@@ -1,0 +1,70 @@
+-- What lines hold of the notes of a run.
+use Rattle.std.specs.Prelude.{◌≡◌, ◌↔◌, ◌⊎◌, ℕ, ◌<◌, Bool, true, List, [], ◌∷◌, ◌++◌, Option, None, length}
+use Rattle.common.specs.declared.choice.Choice.{Choice}
+use Rattle.lanes.specs.Notes.{Note}
+use Rattle.lanes.specs.Opening.{Meaning}
+use Rattle.reports.specs.declared.form.Form.{Form}
+use Rattle.printing.specs.declared.waiting.Waiting.{Waiting}
+use Rattle.printing.specs.declared.run_lines.Lines.{Lines}
+use Rattle.printing.specs.Came.{Came, IsToldByNotes, IsWholeSoFar}
+use Rattle.printing.specs.Orders.{IsInOrder}
+use Rattle.printing.specs.Written.{AreWritten, AreLeft, BreaksOff}
+
+-- What the notes tell of each file, which means this, is in order, and is written or waits. The front, the first file that has not ended, has no mark. And it is known whether all is whole so far.
+pub record HoldsNotes (choice : Choice) (meaning : ℕ → Meaning) (form : Form) (start now : Option (List ℕ)) (buffer : List ℕ) (front : ℕ) (waiting : List Waiting) (whole : Bool) (ns : List Note) : Type 0 where
+  pub came : ℕ → Came
+  pub told : (file : ℕ) → file < length waiting → IsToldByNotes file ns (came file)
+  pub ordered : (file : ℕ) → file < length waiting → IsInOrder choice (meaning file) file (came file)
+  pub written : AreWritten form start now buffer front waiting came
+  pub unended : front < length waiting → (came front).mark ≡ None
+  pub all_whole : (whole ≡ true) ↔ ((file : ℕ) → file < length waiting → IsWholeSoFar (came file))
+
+-- What the notes tell of each of so many files, which means this, is in order, and the text of it was left off.
+pub record LeavesOff (choice : Choice) (meaning : ℕ → Meaning) (form : Form) (files : ℕ) (start now : Option (List ℕ)) (ns : List Note) : Type 0 where
+  pub came : ℕ → Came
+  pub told : (file : ℕ) → file < files → IsToldByNotes file ns (came file)
+  pub ordered : (file : ℕ) → file < files → IsInOrder choice (meaning file) file (came file)
+  pub text : BreaksOff form start now files came
+
+-- the form of the text, the choice of outer faces, and how many files the run has
+abbrev pub form_of : Lines → Form
+form_of lines = lines.form
+
+abbrev pub choice_of : Lines → Choice
+choice_of lines = lines.choice
+
+abbrev pub files_of : Lines → ℕ
+files_of lines = length lines.waiting.items
+
+-- what came of the files is written or waits, of a sink that had taken `start` and has now taken `now`
+abbrev pub LinesWrite : Option (List ℕ) → Option (List ℕ) → Lines → (ℕ → Came) → Type 0
+LinesWrite start now lines came = AreWritten lines.form start now lines.buffer lines.front lines.waiting.items came
+
+-- the same before anything of the first file that has not ended was put on its way
+abbrev pub LinesLeave : Option (List ℕ) → Option (List ℕ) → Lines → (ℕ → Came) → Type 0
+LinesLeave start now lines came = AreLeft lines.form start now lines.buffer lines.front lines.waiting.items came
+
+-- what the notes tell of files that mean this is written or waits
+abbrev pub LinesHold : (ℕ → Meaning) → Option (List ℕ) → Option (List ℕ) → Lines → List Note → Type 0
+LinesHold meaning start now lines ns = HoldsNotes lines.choice meaning lines.form start now lines.buffer lines.front lines.waiting.items lines.whole ns
+
+-- the text of what the notes tell was left off
+abbrev pub LinesLeaveOff : (ℕ → Meaning) → Option (List ℕ) → Option (List ℕ) → Lines → List Note → Type 0
+LinesLeaveOff meaning start now lines ns = LeavesOff lines.choice meaning lines.form (length lines.waiting.items) start now ns
+
+-- the same, with or without the note that came last
+abbrev pub LinesLeaveOffAt : (ℕ → Meaning) → Option (List ℕ) → Option (List ℕ) → Lines → List Note → Note → Type 0
+LinesLeaveOffAt meaning start now lines ns note =
+    LinesLeaveOff meaning start now lines ns ⊎ LinesLeaveOff meaning start now lines (ns ++ note ∷ [])
+
+-- the form, the choice and the number of files are those of before
+pub record AreLinesOf (before after : Lines) : Type 0 where
+  pub form : after.form ≡ before.form
+  pub choice : after.choice ≡ before.choice
+  pub files : length after.waiting.items ≡ length before.waiting.items
+
+-- the first file that has not ended, and whether all is whole so far, are those of before, too
+pub record StandAt (before after : Lines) : Type 0 where
+  pub same : AreLinesOf before after
+  pub front : after.front ≡ before.front
+  pub whole : after.whole ≡ before.whole

@@ -1,0 +1,74 @@
+-- What has been written of what has come, and what waits.
+use Rattle.std.specs.Prelude.{◌≡◌, ℕ, zero, suc, ◌+◌, ◌<◌, ◌≤◌, ◌⊎◌, Bool, true, false, List, [], ◌++◌, length, Option, None, Some, slice_index_or}
+use Rattle.streams.specs.declared.frames.Mark.{Mark}
+use Rattle.streams.specs.Sink.{AppendsFront, IsOnItsWay}
+use Rattle.reports.specs.declared.form.Form.{Form}
+use Rattle.printing.specs.FormLines.{head_in, lines_in, end_in}
+use Rattle.printing.specs.declared.refusal.Refusal.{Refusal}
+use Rattle.printing.specs.declared.refusal.Refusal.TheVariants.{Write, Memory, Astray}
+use Rattle.printing.specs.declared.waiting.Waiting.{Waiting}
+use Rattle.printing.specs.Came.{Came, HasMark}
+
+-- the sink has failed exactly where that is why a message was refused
+abbrev pub GivesUp : Bool → Refusal → Type 0
+GivesUp failed Write = failed ≡ true
+GivesUp failed Memory = failed ≡ false
+GivesUp failed Astray = failed ≡ false
+
+-- whatever text was on its way, it is on its way with `more` at its end
+abbrev pub GoesOn : Option (List ℕ) → List ℕ → Option (List ℕ) → List ℕ → List ℕ → Type 0
+GoesOn old waited new waits more = (start : Option (List ℕ)) (text : List ℕ) → IsOnItsWay start old waited text → IsOnItsWay start new waits (text ++ more)
+
+-- whatever text was on its way, a beginning of it with `more` at its end was added
+abbrev pub BreaksIn : Option (List ℕ) → List ℕ → Option (List ℕ) → List ℕ → Type 0
+BreaksIn old waited new more = (start : Option (List ℕ)) (text : List ℕ) → IsOnItsWay start old waited text → AppendsFront start new (text ++ more)
+
+-- what stands before the lines of this file, counted from 0, and its lines so far
+abbrev pub begun : Form → ℕ → Came → List ℕ
+begun form file came = head_in form (file + 1) ++ lines_in form came.entries
+
+-- the last line of a file with this number, once it has a mark
+abbrev pub last_in : Form → ℕ → Option Mark → ℕ → List ℕ
+last_in form number None count = []
+last_in form number (Some mark) count = end_in form number mark count
+
+-- the text of this file, counted from 0
+abbrev pub ended : Form → ℕ → Came → List ℕ
+ended form file came = begun form file came ++ last_in form (file + 1) came.mark (length came.entries)
+
+-- the texts of the first files, one after another
+abbrev pub ended_texts : Form → (ℕ → Came) → ℕ → List ℕ
+ended_texts form came zero = []
+ended_texts form came (suc file) = ended_texts form came file ++ ended form file (came file)
+
+-- Of so many files the first have ended, and a beginning was added of their texts, or of these and what has come of the next file.
+pub record BreaksOff (form : Form) (start now : Option (List ℕ)) (files : ℕ) (came : ℕ → Came) : Type 0 where
+  pub front : ℕ
+  pub within : front ≤ files
+  pub marked : (file : ℕ) → file < front → HasMark (came file)
+  pub text : AppendsFront start now (ended_texts form came front)
+      ⊎ ((front < files) × AppendsFront start now (ended_texts form came front ++ begun form front (came front)))
+
+-- the entries are counted and the mark is kept
+pub record IsCounted (waiting : Waiting) (came : Came) : Type 0 where
+  pub count : waiting.count ≡ length came.entries
+  pub mark : waiting.mark ≡ came.mark
+
+-- The texts of the files before the front are on their way, and then what has come of the front. What has come of the files behind it waits.
+pub record AreWritten (form : Form) (start now : Option (List ℕ)) (buffer : List ℕ) (front : ℕ) (waiting : List Waiting) (came : ℕ → Came) : Type 0 where
+  pub within : front ≤ length waiting
+  pub marked : (file : ℕ) → file < front → HasMark (came file)
+  pub counted : (file : ℕ) (other : Waiting) → front ≤ file → file < length waiting → IsCounted (slice_index_or waiting file other) (came file)
+  pub lines : (file : ℕ) (other : Waiting) → front < file → file < length waiting
+      → (slice_index_or waiting file other).lines ≡ lines_in form (came file).entries
+  pub going : front < length waiting → IsOnItsWay start now buffer (ended_texts form came front ++ begun form front (came front))
+  pub over : length waiting ≤ front → IsOnItsWay start now buffer (ended_texts form came front)
+
+-- The same before anything of the front was put on its way: what has come of it still waits.
+pub record AreLeft (form : Form) (start now : Option (List ℕ)) (buffer : List ℕ) (front : ℕ) (waiting : List Waiting) (came : ℕ → Came) : Type 0 where
+  pub within : front ≤ length waiting
+  pub marked : (file : ℕ) → file < front → HasMark (came file)
+  pub counted : (file : ℕ) (other : Waiting) → front ≤ file → file < length waiting → IsCounted (slice_index_or waiting file other) (came file)
+  pub lines : (file : ℕ) (other : Waiting) → front ≤ file → file < length waiting
+      → (slice_index_or waiting file other).lines ≡ lines_in form (came file).entries
+  pub text : IsOnItsWay start now buffer (ended_texts form came front)

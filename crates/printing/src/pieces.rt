@@ -1,0 +1,105 @@
+//! Text that grows without being moved.
+ghost use Rattle.std.specs.Prelude.{◌≡◌, ◌++◌, [], false, OnOk, OnErr, IfErr};
+ghost use Rattle.printing.specs.Joined.{joined};
+ghost use Rattle.printing.specs.Written.{GoesOn, BreaksIn, GivesUp};
+
+use crate::refusal::Refusal;
+use crate::writing::put;
+use std::alloc::{AllocError, Global};
+use std::marker::Model;
+use std::mem;
+use streams::{Sink, TextBuffer};
+
+/// How many bytes a piece has room for at least.
+const PIECE: usize = 16_384;
+
+/// Text in pieces, which are never moved and mostly of one size: so it holds as much memory as `size` says, and
+/// what one text lets go of serves another.
+#[derive(Drop)]
+pub struct Pieces {
+    /// The pieces before the last.
+    full: Vec<Vec<u8>>,
+    /// The last piece.
+    last: Vec<u8>,
+    /// How many bytes all pieces have room for.
+    size: usize,
+}
+
+impl Model for Pieces {
+    ghost use Rattle.std.specs.Prelude.{◌++◌, ℕ, List};
+    ghost use Rattle.printing.specs.Joined.{joined};
+
+    ghost Value = { List ℕ };
+
+    ghost view = { λ p. joined p.full.items ++ p.last.items };
+}
+
+impl Pieces {
+    /// No text. It takes no memory.
+    pub(crate) fn new(alloc: Global) -> Pieces
+        ensures { result ≡ [] }
+    {
+        Pieces {
+            full: Vec::new(alloc),
+            last: Vec::new(alloc),
+            size: 0,
+        }
+    }
+
+    /// How many bytes of memory the text holds.
+    pub(crate) fn size(&self) -> usize {
+        self.size
+    }
+
+    /// Adds a text, which is not cut, and answers how many bytes of memory that took.
+    ///
+    /// # Errors
+    ///
+    /// `AllocError` where there is no memory for it. Then all stays as it was.
+    pub(crate) fn push(&mut self, alloc: Global, text: &[u8]) -> Result<usize, AllocError>
+        ensures added { OnOk result (self.new ≡ self.old ++ text.now) }
+        ensures stays { OnErr result (self.new ≡ self.old) }
+    {
+        if self.last.len() + text.len() <= self.last.capacity() {
+            self.last.extend_from_slice(text)?;
+            return Ok(0);
+        }
+        let room = text.len().max(PIECE);
+        let mut piece = Vec::with_capacity(alloc, room)?;
+        piece.extend_from_slice(text)?;
+        self.full.reserve(1)?;
+        self.full.push_reserved(mem::replace(&mut self.last, piece));
+        self.size = self.size.saturating_add(room);
+        Ok(room)
+    }
+
+    /// Puts the text on its way.
+    pub(crate) fn put<S: Sink>(&self, buffer: &mut TextBuffer, sink: &mut S) -> Result<(), Refusal>
+        requires { S.failed sink.old ≡ false }
+        ensures put { OnOk result (GoesOn (S.taken sink.old) buffer.old (S.taken sink.new) buffer.new self.now) }
+        ensures broken { OnErr result (BreaksIn (S.taken sink.old) buffer.old (S.taken sink.new) self.now) }
+        ensures stands { OnOk result (S.failed sink.new ≡ false) }
+        ensures gave_up { IfErr result (λ refusal. GivesUp (S.failed sink.new) refusal) }
+    {
+        put_each(self.full.as_slice(), buffer, sink)?;
+        put(buffer, sink, self.last.as_slice())
+    }
+}
+
+/// Puts the text of these pieces on its way.
+fn put_each<S: Sink>(
+    pieces: &[Vec<u8>],
+    buffer: &mut TextBuffer,
+    sink: &mut S,
+) -> Result<(), Refusal>
+    requires { S.failed sink.old ≡ false }
+    ensures put { OnOk result (GoesOn (S.taken sink.old) buffer.old (S.taken sink.new) buffer.new (joined pieces.now)) }
+    ensures broken { OnErr result (BreaksIn (S.taken sink.old) buffer.old (S.taken sink.new) (joined pieces.now)) }
+    ensures stands { OnOk result (S.failed sink.new ≡ false) }
+    ensures gave_up { IfErr result (λ refusal. GivesUp (S.failed sink.new) refusal) }
+{
+    for piece in pieces {
+        put(buffer, sink, piece.as_slice())?;
+    }
+    Ok(())
+}

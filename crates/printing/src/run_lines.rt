@@ -1,0 +1,363 @@
+//! The lines of a run on their way to a sink.
+ghost use Rattle.std.specs.Prelude.{◌≡◌, ◌+◌, ◌<◌, ◌≤◌, ◌≢◌, ◌↔◌, ◌∷◌, ◌++◌, ℕ, List, [], Option, None, Some, Err, true, false, IfOk, OnOk, IfErr, IsTrue, IsSome, slice_index_or, length, OnErr, ◌⊎◌};
+ghost use Rattle.streams.specs.declared.frames.Mark.{Mark};
+ghost use Rattle.common.specs.declared.choice.Choice.{Choice};
+ghost use Rattle.lanes.specs.Notes.{Note, Item, End};
+ghost use Rattle.lanes.specs.Opening.{Meaning};
+ghost use Rattle.entries.specs.declared.entry.Entry.{Entry};
+ghost use Rattle.entries.specs.declared.answer.Answer.{Answer};
+ghost use Rattle.printing.specs.FormLines.{line_in};
+ghost use Rattle.printing.specs.declared.waiting.Waiting.{Waiting};
+ghost use Rattle.printing.specs.Came.{Came, HasEntryMore};
+ghost use Rattle.printing.specs.Orders.{IsNext};
+ghost use Rattle.printing.specs.Written.{BreaksOff, GivesUp};
+ghost use Rattle.printing.specs.Holding.{form_of, choice_of, files_of, LinesWrite, LinesLeave, LinesHold, LinesLeaveOff, LinesLeaveOffAt, AreLinesOf, StandAt};
+ghost use Rattle.printing.specs.Whole.{HaveFiles, IsAllWritten};
+
+use crate::lines::{head_text, lacking_text};
+use crate::printed::Printed;
+use crate::refusal::Refusal;
+use crate::told::{KnownEnd, Told};
+use crate::waiting::{Waiting, count_one, keep_line, keep_mark, none_come, take_lines};
+use crate::writing::{put, put_end, put_head};
+use common::Choice;
+use planar_code::{Ending, MAX_RECORDS};
+use reports::Form;
+use std::alloc::{AllocError, Global};
+use streams::{Mark, Sink, SourceEnd, TextBuffer, WriteFault};
+
+/// The lines of a run on their way to a sink, file after file. A line of the first file that has not ended
+/// is copied once, into a fixed buffer, and takes no memory; the lines of each later file wait until its turn.
+#[derive(Drop)]
+pub struct Lines {
+    form: Form,
+    /// How the outer faces are chosen.
+    choice: Choice,
+    buffer: TextBuffer,
+    /// The first file that has not ended.
+    front: u32,
+    /// What has come of each file.
+    waiting: Vec<Waiting>,
+    /// How many bytes of memory what waits holds.
+    held: usize,
+    /// Whether no entry so far lacks an answer or its line, and each file that has ended is complete.
+    whole: bool,
+}
+
+impl Lines {
+    /// The lines of so many files in this form, of which nothing has come. Their entries are answered under
+    /// this choice of the outer face.
+    ///
+    /// # Errors
+    ///
+    /// `AllocError` where there is no memory to keep so many files, or for the first line.
+    pub fn new(alloc: Global, form: Form, choice: Choice, files: u32) -> Result<Lines, AllocError>
+        ensures held { IfOk result (λ lines. (meaning : ℕ → Meaning) (start : Option (List ℕ))
+            → LinesHold meaning start start lines []) }
+        ensures form { IfOk result (λ lines. form_of lines ≡ form) }
+        ensures choice { IfOk result (λ lines. choice_of lines ≡ choice) }
+        ensures files { IfOk result (λ lines. files_of lines ≡ files) }
+    {
+        let waiting = none_come(alloc, files)?;
+        let mut buffer = TextBuffer::new();
+        if files > 0 {
+            buffer.push(head_text(alloc, form, 0)?.as_slice());
+        }
+        Ok(Lines {
+            form,
+            choice,
+            buffer,
+            front: 0,
+            waiting,
+            held: 0,
+            whole: true,
+        })
+    }
+
+    /// The first file that has not ended.
+    pub(crate) fn front(&self) -> u32 {
+        self.front
+    }
+
+    /// The first file behind the front that has not ended.
+    pub(crate) fn next(&self) -> u32 {
+        for file in self.front.saturating_add(1)..u32::MAX {
+            let place = file as usize;
+            if place >= self.waiting.len() || self.waiting[place].mark.is_none() {
+                return file;
+            }
+        }
+        u32::MAX
+    }
+
+    /// How many bytes of memory what waits of the files behind the front holds.
+    pub(crate) fn waits(&self) -> usize {
+        self.held
+    }
+
+    /// Takes in the line of one more entry.
+    ///
+    /// # Errors
+    ///
+    /// `Write` exactly where the sink has then failed; `Memory` where there was no memory for a line that has to
+    /// wait or that tells of a lack of memory; `Astray` where no lane gives such a message.
+    pub(crate) fn line<S: Sink, J: Told>(
+        &mut self,
+        alloc: Global,
+        sink: &mut S,
+        printed: Printed<J>,
+    ) -> Result<(), Refusal>
+        requires { S.failed sink.old ≡ false }
+        ensures held { OnOk result ((start : Option (List ℕ)) (ns : List Note) → LinesHold J.meaning start (S.taken sink.old) self.old ns
+            → LinesHold J.meaning start (S.taken sink.new) self.new (ns ++ Item (record { file = printed.file; ordinal = printed.ordinal; bytes = printed.rec.value; choice = printed.choice }) ∷ [])) }
+        ensures broken { OnErr result ((start : Option (List ℕ)) (ns : List Note) → LinesHold J.meaning start (S.taken sink.old) self.old ns
+            → LinesLeaveOffAt J.meaning start (S.taken sink.new) self.new ns (Item (record { file = printed.file; ordinal = printed.ordinal; bytes = printed.rec.value; choice = printed.choice }))) }
+        ensures stands { OnOk result (S.failed sink.new ≡ false) }
+        ensures gave_up { IfErr result (λ refusal. GivesUp (S.failed sink.new) refusal) }
+        ensures same { AreLinesOf self.old self.new }
+    {
+        let Printed {
+            file,
+            ordinal,
+            choice,
+            form,
+            line,
+            rec: _,
+            answer: _,
+            told: _,
+        } = printed;
+        if form != self.form || choice != self.choice || !self.is_next(file, ordinal) {
+            return Err(Refusal::Astray);
+        }
+        match line {
+            Some(line) => self.add(alloc, sink, file, line.as_slice()),
+            None => self.add_lacking(alloc, sink, file, ordinal),
+        }
+    }
+
+    /// Takes in that a file has ended.
+    ///
+    /// # Errors
+    ///
+    /// `Write` exactly where the sink has then failed; `Memory` where there was no memory for a line; `Astray`
+    /// where no lane gives such a message.
+    pub(crate) fn end<S: Sink, J: Told>(
+        &mut self,
+        alloc: Global,
+        sink: &mut S,
+        file: u32,
+        mark: Mark,
+        known: KnownEnd<J>,
+    ) -> Result<(), Refusal>
+        requires { S.failed sink.old ≡ false }
+        ensures held { OnOk result ((start : Option (List ℕ)) (ns : List Note) → LinesHold J.meaning start (S.taken sink.old) self.old ns
+            → LinesHold J.meaning start (S.taken sink.new) self.new (ns ++ End file mark ∷ [])) }
+        ensures broken { OnErr result ((start : Option (List ℕ)) (ns : List Note) → LinesHold J.meaning start (S.taken sink.old) self.old ns
+            → LinesLeaveOffAt J.meaning start (S.taken sink.new) self.new ns (End file mark)) }
+        ensures stands { OnOk result (S.failed sink.new ≡ false) }
+        ensures gave_up { IfErr result (λ refusal. GivesUp (S.failed sink.new) refusal) }
+        ensures same { AreLinesOf self.old self.new }
+    {
+        if known.file != file || known.mark != mark {
+            return Err(Refusal::Astray);
+        }
+        if !self.is_open(file) || !keep_mark(&mut self.waiting, file, known.count, mark) {
+            return Err(Refusal::Astray);
+        }
+        self.whole = is_whole_with(self.whole, mark);
+        self.advance(alloc, sink)
+    }
+
+    /// Puts what waits in the buffer into the sink, and answers the status of the run: 0 where each file ended
+    /// complete and no entry lacks an answer or its line, and else 3.
+    ///
+    /// # Errors
+    ///
+    /// `Write` exactly where the sink has then failed. There is no other.
+    pub(crate) fn finish<S: Sink>(mut self, sink: &mut S) -> Result<u8, WriteFault>
+        requires { S.failed sink.old ≡ false }
+        ensures written { IfOk result (λ status. (start : Option (List ℕ)) (choice : Choice) (known meaning : ℕ → Meaning)
+            (ns : List Note) → LinesHold known start (S.taken sink.old) self ns → HaveFiles choice meaning (files_of self) ns
+            → IsAllWritten choice meaning (form_of self) (files_of self) start (S.taken sink.new) status) }
+        ensures broken { OnErr result ((meaning : ℕ → Meaning) (start : Option (List ℕ)) (ns : List Note)
+            → LinesHold meaning start (S.taken sink.old) self ns → LinesLeaveOff meaning start (S.taken sink.new) self ns) }
+        ensures other { IfOk result (λ status. status ≢ 0 → status ≡ 3) }
+        ensures write { (result ≡ Err WriteFault.Write) ↔ (S.failed sink.new ≡ true) }
+        ensures memory { result ≢ Err WriteFault.Memory }
+    {
+        self.buffer.flush(sink)?;
+        Ok(if self.whole { 0 } else { 3 })
+    }
+
+    /// Whether a file is one of the run and its last line is not on its way yet.
+    fn is_open(&self, file: u32) -> bool
+        ensures { IsTrue result ↔ ((self.now.front ≤ file) × (file < length self.now.waiting.items)) }
+    {
+        self.front <= file && (file as usize) < self.waiting.len()
+    }
+
+    /// Whether a file has not ended, and its next entry has this place.
+    fn is_next(&self, file: u32, ordinal: u32) -> bool
+        ensures open { IsTrue result → (self.now.front ≤ file) × (file < length self.now.waiting.items) }
+        ensures next { IsTrue result → (other : Waiting) → IsNext ordinal (slice_index_or self.now.waiting.items file other) }
+        ensures due { self.now.front ≤ file → file < length self.now.waiting.items
+            → ((other : Waiting) → IsNext ordinal (slice_index_or self.now.waiting.items file other)) → IsTrue result }
+    {
+        if !self.is_open(file) {
+            return false;
+        }
+        let here = &self.waiting[file as usize];
+        here.mark.is_none() && here.count == ordinal && ordinal < MAX_RECORDS
+    }
+
+    /// Adds a line of one more entry: that of the front straight on its way, another to what waits.
+    fn add<S: Sink>(
+        &mut self,
+        alloc: Global,
+        sink: &mut S,
+        file: u32,
+        line: &[u8],
+    ) -> Result<(), Refusal>
+        requires stands { S.failed sink.old ≡ false }
+        requires from { self.old.front ≤ file }
+        requires below { file < length self.old.waiting.items }
+        ensures added { OnOk result ((start : Option (List ℕ)) (before after : ℕ → Came) (entry : Entry)
+            → line_in self.old.form entry ≡ line.now → HasEntryMore file entry before after
+            → LinesWrite start (S.taken sink.old) self.old before → LinesWrite start (S.taken sink.new) self.new after) }
+        ensures broken { OnErr result ((start : Option (List ℕ)) (before after : ℕ → Came) (entry : Entry)
+            → line_in self.old.form entry ≡ line.now → HasEntryMore file entry before after → LinesWrite start (S.taken sink.old) self.old before
+            → BreaksOff self.old.form start (S.taken sink.new) (files_of self.old) before ⊎ BreaksOff self.old.form start (S.taken sink.new) (files_of self.old) after) }
+        ensures stands { OnOk result (S.failed sink.new ≡ false) }
+        ensures gave_up { IfErr result (λ refusal. GivesUp (S.failed sink.new) refusal) }
+        ensures same { StandAt self.old self.new }
+    {
+        count_one(&mut self.waiting, file)?;
+        if file == self.front {
+            return put(&mut self.buffer, sink, line);
+        }
+        let more = keep_line(alloc, &mut self.waiting, file, line)?;
+        self.held = self.held.saturating_add(more);
+        Ok(())
+    }
+
+    /// Adds the line of one more entry that has none.
+    fn add_lacking<S: Sink>(
+        &mut self,
+        alloc: Global,
+        sink: &mut S,
+        file: u32,
+        ordinal: u32,
+    ) -> Result<(), Refusal>
+        requires stands { S.failed sink.old ≡ false }
+        requires from { self.old.front ≤ file }
+        requires below { file < length self.old.waiting.items }
+        ensures added { OnOk result ((start : Option (List ℕ)) (before after : ℕ → Came) (entry : Entry)
+            → entry.file ≡ file → entry.ordinal ≡ ordinal → entry.answer ≡ Answer.NoMemory → HasEntryMore file entry before after
+            → LinesWrite start (S.taken sink.old) self.old before → LinesWrite start (S.taken sink.new) self.new after) }
+        ensures broken { OnErr result ((start : Option (List ℕ)) (before after : ℕ → Came) (entry : Entry)
+            → entry.file ≡ file → entry.ordinal ≡ ordinal → entry.answer ≡ Answer.NoMemory → HasEntryMore file entry before after
+            → LinesWrite start (S.taken sink.old) self.old before
+            → BreaksOff self.old.form start (S.taken sink.new) (files_of self.old) before ⊎ BreaksOff self.old.form start (S.taken sink.new) (files_of self.old) after) }
+        ensures stands { OnOk result (S.failed sink.new ≡ false) }
+        ensures gave_up { IfErr result (λ refusal. GivesUp (S.failed sink.new) refusal) }
+        ensures front { self.new.front ≡ self.old.front }
+        ensures lacking { OnOk result (self.new.whole ≡ false) }
+        ensures same { AreLinesOf self.old self.new }
+    {
+        match lacking_text(alloc, self.form, file, ordinal) {
+            Ok(line) => {
+                self.whole = false;
+                self.add(alloc, sink, file, line.as_slice())
+            }
+            Err(_) => Err(Refusal::Memory),
+        }
+    }
+
+    /// Ends the front as long as it has its mark, and moves on.
+    fn advance<S: Sink>(&mut self, alloc: Global, sink: &mut S) -> Result<(), Refusal>
+        requires { S.failed sink.old ≡ false }
+        ensures written { OnOk result ((start : Option (List ℕ)) (came : ℕ → Came)
+            → LinesWrite start (S.taken sink.old) self.old came → LinesWrite start (S.taken sink.new) self.new came) }
+        ensures broken { OnErr result ((start : Option (List ℕ)) (came : ℕ → Came)
+            → LinesWrite start (S.taken sink.old) self.old came → BreaksOff self.old.form start (S.taken sink.new) (files_of self.old) came) }
+        ensures unended { OnOk result ((other : Waiting) → self.new.front < length self.new.waiting.items
+            → (slice_index_or self.new.waiting.items self.new.front other).mark ≡ None) }
+        ensures stands { OnOk result (S.failed sink.new ≡ false) }
+        ensures gave_up { IfErr result (λ refusal. GivesUp (S.failed sink.new) refusal) }
+        ensures whole { self.new.whole ≡ self.old.whole }
+        ensures same { AreLinesOf self.old self.new }
+    {
+        while let Some(mark) = self.front_mark() {
+            self.leave(alloc, sink, mark)?;
+        }
+        Ok(())
+    }
+
+    /// The mark of the front, where it has one.
+    fn front_mark(&self) -> Option<Mark>
+        ensures below { IsSome result → self.now.front < length self.now.waiting.items }
+        ensures same { (other : Waiting) → self.now.front < length self.now.waiting.items
+            → result ≡ (slice_index_or self.now.waiting.items self.now.front other).mark }
+    {
+        let place = self.front as usize;
+        if place < self.waiting.len() {
+            self.waiting[place].mark
+        } else {
+            None
+        }
+    }
+
+    /// Ends the front with its mark and moves on to the next file.
+    fn leave<S: Sink>(&mut self, alloc: Global, sink: &mut S, mark: Mark) -> Result<(), Refusal>
+        requires stands { S.failed sink.old ≡ false }
+        requires below { self.old.front < length self.old.waiting.items }
+        requires mark { (other : Waiting) → (slice_index_or self.old.waiting.items self.old.front other).mark ≡ Some mark }
+        ensures written { OnOk result ((start : Option (List ℕ)) (came : ℕ → Came)
+            → LinesWrite start (S.taken sink.old) self.old came → LinesWrite start (S.taken sink.new) self.new came) }
+        ensures broken { OnErr result ((start : Option (List ℕ)) (came : ℕ → Came)
+            → LinesWrite start (S.taken sink.old) self.old came → BreaksOff self.old.form start (S.taken sink.new) (files_of self.old) came) }
+        ensures stands { OnOk result (S.failed sink.new ≡ false) }
+        ensures gave_up { IfErr result (λ refusal. GivesUp (S.failed sink.new) refusal) }
+        ensures front { OnOk result (self.new.front ≡ self.old.front + 1) }
+        ensures whole { self.new.whole ≡ self.old.whole }
+        ensures same { AreLinesOf self.old self.new }
+    {
+        let Some(next) = self.front.checked_add(1) else {
+            return Err(Refusal::Astray);
+        };
+        let count = self.waiting[self.front as usize].count;
+        let end = SourceEnd { count, mark };
+        put_end(alloc, &mut self.buffer, sink, self.form, self.front, end)?;
+        self.front = next;
+        if (self.front as usize) < self.waiting.len() {
+            self.begin(alloc, sink)
+        } else {
+            Ok(())
+        }
+    }
+
+    /// Puts what has come of the front on its way.
+    fn begin<S: Sink>(&mut self, alloc: Global, sink: &mut S) -> Result<(), Refusal>
+        requires stands { S.failed sink.old ≡ false }
+        requires below { self.old.front < length self.old.waiting.items }
+        ensures begun { OnOk result ((start : Option (List ℕ)) (came : ℕ → Came)
+            → LinesLeave start (S.taken sink.old) self.old came → LinesWrite start (S.taken sink.new) self.new came) }
+        ensures broken { OnErr result ((start : Option (List ℕ)) (came : ℕ → Came)
+            → LinesLeave start (S.taken sink.old) self.old came → BreaksOff self.old.form start (S.taken sink.new) (files_of self.old) came) }
+        ensures stands { OnOk result (S.failed sink.new ≡ false) }
+        ensures gave_up { IfErr result (λ refusal. GivesUp (S.failed sink.new) refusal) }
+        ensures same { StandAt self.old self.new }
+    {
+        put_head(alloc, &mut self.buffer, sink, self.form, self.front)?;
+        let lines = take_lines(alloc, &mut self.waiting, self.front);
+        self.held = self.held.saturating_sub(lines.size());
+        lines.put(&mut self.buffer, sink)
+    }
+}
+
+/// Whether all is whole with one mark more, where it was so before or not.
+fn is_whole_with(whole: bool, mark: Mark) -> bool
+    ensures { IsTrue result ↔ (IsTrue whole × (mark ≡ Mark.Ended Ending.Complete)) }
+{
+    whole && matches!(mark, Mark::Ended(Ending::Complete))
+}

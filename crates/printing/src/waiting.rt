@@ -1,0 +1,97 @@
+//! What waits of files whose turn has not come.
+ghost use Rattle.std.specs.Prelude.{◌≡◌, ◌<◌, IfOk, IfErr, OnOk, All, length, IsTrue, slice_index_or};
+ghost use Rattle.printing.specs.Waits.{ChangesAt, IsNothing, IsCountedOne, GetsLine, GetsMark, IsTaken, IsUnmarked};
+
+use crate::pieces::Pieces;
+use crate::refusal::Refusal;
+use std::alloc::{AllocError, Global};
+use std::mem;
+use streams::Mark;
+
+/// What has come of a file.
+#[derive(Drop)]
+pub struct Waiting {
+    /// The lines of its entries, as long as its turn has not come.
+    pub lines: Pieces,
+    /// How many entries have come of it.
+    pub count: u32,
+    /// Its mark, once it has ended.
+    pub mark: Option<Mark>,
+}
+
+/// For each of so many files, that nothing has come of it.
+pub(crate) fn none_come(alloc: Global, files: u32) -> Result<Vec<Waiting>, AllocError>
+    ensures count { IfOk result (λ waiting. length waiting.items ≡ files) }
+    ensures empty { IfOk result (λ waiting. All IsNothing waiting.items) }
+{
+    let mut waiting = Vec::with_capacity(alloc, files as usize)?;
+    for _ in 0..files {
+        waiting.push(Waiting {
+            lines: Pieces::new(alloc),
+            count: 0,
+            mark: None,
+        })?;
+    }
+    Ok(waiting)
+}
+
+/// Counts one more entry of a file. `Astray` where there are too many to count.
+pub(crate) fn count_one(waiting: &mut Vec<Waiting>, file: u32) -> Result<(), Refusal>
+    requires { file < length waiting.old.items }
+    ensures count { length waiting.new.items ≡ length waiting.old.items }
+    ensures counted { OnOk result (ChangesAt file IsCountedOne waiting.old.items waiting.new.items) }
+    ensures astray { IfErr result (λ refusal. refusal ≡ Refusal.Astray) }
+{
+    let here = &mut waiting[file as usize];
+    match here.count.checked_add(1) {
+        Some(count) => {
+            here.count = count;
+            Ok(())
+        }
+        None => Err(Refusal::Astray),
+    }
+}
+
+/// Keeps a line of a file, and answers how many bytes of memory that took. `Memory` where there is no memory for it.
+pub(crate) fn keep_line(
+    alloc: Global,
+    waiting: &mut Vec<Waiting>,
+    file: u32,
+    line: &[u8],
+) -> Result<usize, Refusal>
+    requires { file < length waiting.old.items }
+    ensures count { length waiting.new.items ≡ length waiting.old.items }
+    ensures kept { OnOk result (ChangesAt file (GetsLine line.now) waiting.old.items waiting.new.items) }
+    ensures memory { IfErr result (λ refusal. refusal ≡ Refusal.Memory) }
+{
+    let here = &mut waiting[file as usize];
+    match here.lines.push(alloc, line) {
+        Ok(more) => Ok(more),
+        Err(_) => Err(Refusal::Memory),
+    }
+}
+
+/// Keeps the mark of a file that has none yet and of which so many entries have come, and says whether it is kept.
+pub(crate) fn keep_mark(waiting: &mut Vec<Waiting>, file: u32, count: u32, mark: Mark) -> bool
+    requires { file < length waiting.old.items }
+    ensures count { length waiting.new.items ≡ length waiting.old.items }
+    ensures kept { IsTrue result → ChangesAt file (GetsMark count mark) waiting.old.items waiting.new.items }
+    ensures due { ((other : Waiting) → IsUnmarked count (slice_index_or waiting.old.items file other)) → IsTrue result }
+{
+    let here = &mut waiting[file as usize];
+    if here.mark.is_some() || here.count != count {
+        return false;
+    }
+    here.mark = Some(mark);
+    true
+}
+
+/// Takes the lines of a file out, so that none of them wait.
+pub(crate) fn take_lines(alloc: Global, waiting: &mut Vec<Waiting>, file: u32) -> Pieces
+    requires { file < length waiting.old.items }
+    ensures count { length waiting.new.items ≡ length waiting.old.items }
+    ensures lines { (other : Waiting) → result ≡ (slice_index_or waiting.old.items file other).lines }
+    ensures taken { ChangesAt file IsTaken waiting.old.items waiting.new.items }
+{
+    mem::replace(&mut waiting[file as usize].lines, Pieces::new(alloc))
+}

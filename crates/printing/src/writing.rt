@@ -1,0 +1,69 @@
+//! Text on its way to a sink.
+ghost use Rattle.std.specs.Prelude.{◌≡◌, ◌+◌, false, OnOk, OnErr, IfErr};
+ghost use Rattle.printing.specs.FormLines.{head_in, end_in};
+ghost use Rattle.printing.specs.Written.{GoesOn, BreaksIn, GivesUp};
+
+use crate::lines::{end_text, head_text};
+use crate::refusal::Refusal;
+use reports::{Form, push_line};
+use std::alloc::Global;
+use streams::{Sink, SourceEnd, TextBuffer};
+
+/// Puts a text on its way.
+pub(crate) fn put<S: Sink>(
+    buffer: &mut TextBuffer,
+    sink: &mut S,
+    text: &[u8],
+) -> Result<(), Refusal>
+    requires { S.failed sink.old ≡ false }
+    ensures put { OnOk result (GoesOn (S.taken sink.old) buffer.old (S.taken sink.new) buffer.new text.now) }
+    ensures broken { OnErr result (BreaksIn (S.taken sink.old) buffer.old (S.taken sink.new) text.now) }
+    ensures stands { OnOk result (S.failed sink.new ≡ false) }
+    ensures gave_up { IfErr result (λ refusal. GivesUp (S.failed sink.new) refusal) }
+{
+    match push_line(buffer, sink, text) {
+        Ok(()) => Ok(()),
+        Err(_) => Err(Refusal::Write),
+    }
+}
+
+/// Puts what stands before the lines of a file on its way.
+pub(crate) fn put_head<S: Sink>(
+    alloc: Global,
+    buffer: &mut TextBuffer,
+    sink: &mut S,
+    form: Form,
+    file: u32,
+) -> Result<(), Refusal>
+    requires { S.failed sink.old ≡ false }
+    ensures put { OnOk result (GoesOn (S.taken sink.old) buffer.old (S.taken sink.new) buffer.new (head_in form (file + 1))) }
+    ensures broken { OnErr result (BreaksIn (S.taken sink.old) buffer.old (S.taken sink.new) (head_in form (file + 1))) }
+    ensures stands { OnOk result (S.failed sink.new ≡ false) }
+    ensures gave_up { IfErr result (λ refusal. GivesUp (S.failed sink.new) refusal) }
+{
+    match head_text(alloc, form, file) {
+        Ok(text) => put(buffer, sink, text.as_slice()),
+        Err(_) => Err(Refusal::Memory),
+    }
+}
+
+/// Puts the last line of a file on its way.
+pub(crate) fn put_end<S: Sink>(
+    alloc: Global,
+    buffer: &mut TextBuffer,
+    sink: &mut S,
+    form: Form,
+    file: u32,
+    end: SourceEnd,
+) -> Result<(), Refusal>
+    requires { S.failed sink.old ≡ false }
+    ensures put { OnOk result (GoesOn (S.taken sink.old) buffer.old (S.taken sink.new) buffer.new (end_in form (file + 1) end.mark end.count)) }
+    ensures broken { OnErr result (BreaksIn (S.taken sink.old) buffer.old (S.taken sink.new) (end_in form (file + 1) end.mark end.count)) }
+    ensures stands { OnOk result (S.failed sink.new ≡ false) }
+    ensures gave_up { IfErr result (λ refusal. GivesUp (S.failed sink.new) refusal) }
+{
+    match end_text(alloc, form, file, end.mark, end.count) {
+        Ok(text) => put(buffer, sink, text.as_slice()),
+        Err(_) => Err(Refusal::Memory),
+    }
+}

@@ -1,4 +1,0 @@
-pub mod Naming
-pub mod Readers
-pub mod Refusals
-pub mod Sources

@@ -1,4 +1,0 @@
-pub mod Fronts
-pub mod Holdings
-pub mod Marking
-pub mod Pairs

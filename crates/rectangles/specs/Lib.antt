@@ -1,4 +1,0 @@
-pub mod Front
-pub mod Map
-pub mod Masks
-pub mod Rectangles

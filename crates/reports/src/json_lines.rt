@@ -1,0 +1,184 @@
+//! Lines of JSON.
+ghost use Rattle.std.specs.Prelude.{◌≡◌, [], IfOk};
+ghost use Rattle.serde_json.specs.Data.{Data};
+ghost use Rattle.ortho_rep.specs.Representation.{HasDarts};
+ghost use Rattle.ortho_rep.specs.Prices.{HasPrices};
+ghost use Rattle.entries.specs.declared.answer.Answer.TheVariants.{NoMemory, Refused};
+ghost use Rattle.reports.specs.LineData.{answer_data, end_data, laid_data, line_of};
+ghost use Rattle.reports.specs.Adding.{tokens_of};
+ghost use Rattle.reports.specs.Answered.{IsAnswer};
+
+use crate::json_objects::{put_drawing, put_end, put_place, put_prices, put_shape, put_sizes};
+use crate::json_put;
+use drawing_check::Drawing;
+use embedding::Rule;
+use entries::{Answer, Cause, Entry};
+use faces::Plane;
+use json::Writer;
+use ortho_rep::{Prices, Shape};
+use std::alloc::{AllocError, Global};
+
+/// As many bytes as a short line has room for at first.
+const SHORT_ROOM: usize = 96;
+
+/// As many bytes as the line of a laid graph has room for at first, beside those for each dart.
+const LAID_ROOM: usize = 256;
+
+/// As many bytes as there is room for at first for each dart: an angle, turns, prices and points.
+const DART_ROOM: usize = 16;
+
+/// The line of an entry, which is the graph of this number in the file of this number, with the byte 0A
+/// at its end. It takes a few allocations.
+///
+/// # Errors
+///
+/// `AllocError` where there is no memory for the line.
+pub fn entry_line(
+    alloc: Global,
+    file: u32,
+    graph: u64,
+    entry: &Entry,
+) -> Result<Vec<u8>, AllocError>
+    ensures { IfOk result (λ line. line.items ≡ line_of (answer_data file graph entry.now.answer)) }
+{
+    answer_line(alloc, file, graph, &entry.answer)
+}
+
+/// The same of an answer to some record.
+///
+/// # Errors
+///
+/// `AllocError` where there is no memory for the line.
+pub fn answer_line(
+    alloc: Global,
+    file: u32,
+    graph: u64,
+    answer: &Answer,
+) -> Result<Vec<u8>, AllocError>
+    requires { IsAnswer answer.now }
+    ensures { IfOk result (λ line. line.items ≡ line_of (answer_data file graph answer.now)) }
+{
+    match answer {
+        Answer::Laid {
+            plane,
+            shape,
+            prices,
+            drawing,
+        } => laid_line(
+            alloc,
+            file,
+            graph,
+            LaidGraph {
+                plane,
+                shape,
+                prices,
+                drawing,
+            },
+        ),
+        Answer::Refused(rule) => refused_line(alloc, file, graph, *rule),
+        Answer::NoMemory => lacking_line(alloc, file, graph),
+    }
+}
+
+/// The line of a graph that has no answer for want of memory, with the byte 0A at its end. It takes a few
+/// allocations.
+///
+/// # Errors
+///
+/// `AllocError` where there is no memory for the line.
+pub fn lacking_line(alloc: Global, file: u32, graph: u64) -> Result<Vec<u8>, AllocError>
+    ensures { IfOk result (λ line. line.items ≡ line_of (answer_data file graph NoMemory)) }
+{
+    let mut out = Writer::new(Vec::with_capacity(alloc, SHORT_ROOM)?);
+    json_put::begin_object(&mut out)?;
+    json_put::place(&mut out, file, graph)?;
+    json_put::text_at(&mut out, "status", "memory")?;
+    json_put::end_object(&mut out)?;
+    ended(out)
+}
+
+/// The line of a graph whose record breaks this rule.
+fn refused_line(alloc: Global, file: u32, graph: u64, rule: Rule) -> Result<Vec<u8>, AllocError>
+    ensures { IfOk result (λ line. line.items ≡ line_of (answer_data file graph (Refused rule))) }
+{
+    let mut out = Writer::new(Vec::with_capacity(alloc, SHORT_ROOM)?);
+    json_put::begin_object(&mut out)?;
+    json_put::place(&mut out, file, graph)?;
+    json_put::text_at(&mut out, "rule", rule.word())?;
+    json_put::text_at(&mut out, "status", "refused")?;
+    json_put::end_object(&mut out)?;
+    ended(out)
+}
+
+/// What a line tells of a graph that breaks no rule.
+#[derive(Clone, Copy)]
+pub struct LaidGraph<'a> {
+    pub plane: &'a Plane,
+    /// A shape of the plane.
+    pub shape: &'a Shape,
+    pub prices: &'a Prices,
+    /// A drawing, or the cause in its place.
+    pub drawing: &'a Result<Drawing, Cause>,
+}
+
+/// The line of a graph that breaks no rule, with the byte 0A at its end. It takes a few allocations.
+///
+/// # Errors
+///
+/// `AllocError` where there is no memory for the line.
+pub fn laid_line(
+    alloc: Global,
+    file: u32,
+    graph: u64,
+    laid: LaidGraph<'_>,
+) -> Result<Vec<u8>, AllocError>
+    requires darts { HasDarts laid.plane.now laid.shape.now }
+    requires prices { HasPrices laid.plane.now laid.prices.now }
+    ensures { IfOk result (λ line.
+        line.items ≡ line_of (laid_data file graph laid.entry.plane.now laid.entry.shape.now laid.entry.prices.now laid.entry.drawing.now)) }
+{
+    let LaidGraph {
+        plane,
+        shape,
+        prices,
+        drawing,
+    } = laid;
+    let room = LAID_ROOM + DART_ROOM * usize::from(plane.graph().darts());
+    let mut out = Vec::with_capacity(alloc, room)?;
+    put_shape(&mut out, plane, shape, drawing)?;
+    put_place(&mut out, file, graph)?;
+    put_sizes(&mut out, plane)?;
+    put_drawing(&mut out, plane.graph().edges(), drawing)?;
+    put_prices(&mut out, plane, prices)?;
+    put_end(&mut out, shape)?;
+    out.push(b'\n')?;
+    Ok(out)
+}
+
+/// The line of the end of the file of this number: the word of its mark, and how many graphs it has,
+/// with the byte 0A at its end. It takes a few allocations.
+///
+/// # Errors
+///
+/// `AllocError` where there is no memory for the line.
+pub fn end_line(alloc: Global, file: u32, word: &str, graphs: u64) -> Result<Vec<u8>, AllocError>
+    ensures { IfOk result (λ line. line.items ≡ line_of (end_data file word.now graphs)) }
+{
+    let mut out = Writer::new(Vec::with_capacity(alloc, SHORT_ROOM)?);
+    json_put::begin_object(&mut out)?;
+    json_put::text_at(&mut out, "end", word)?;
+    json_put::natural_at(&mut out, "file", u64::from(file))?;
+    json_put::natural_at(&mut out, "graphs", graphs)?;
+    json_put::end_object(&mut out)?;
+    ended(out)
+}
+
+/// What was written from nothing, with the byte that ends a line.
+fn ended(out: Writer) -> Result<Vec<u8>, AllocError>
+    requires { out.before ≡ [] }
+    ensures { (d : Data) → out.tokens ≡ tokens_of d → IfOk result (λ line. line.items ≡ line_of d) }
+{
+    let mut text = out.into_inner();
+    text.push(b'\n')?;
+    Ok(text)
+}

@@ -1,0 +1,38 @@
+//! Waiting for a short while before a thread sleeps until it is woken: to wake it costs more.
+ghost use Rattle.std.specs.Prelude.{◌<◌};
+ghost use Rattle.ruled_lanes.specs.declared.backoff.TheConstants.{TRIES};
+
+use std::hint;
+use std::sync::Wait;
+use std::sync::atomic::AtomicU64;
+use std::time::Duration;
+
+/// How often a call tries, while it finds its channel full or empty, before its thread sleeps until it is
+/// woken.
+pub(crate) const TRIES: u32 = 13;
+
+/// After each of the first so many tries the thread pauses, and after each later one it naps.
+const SPINS: u32 = 8;
+
+/// How many pauses of the processor follow each of the first tries. Each takes 10 to 40 ns.
+const PAUSES: u32 = 2;
+
+/// How long the first nap takes, in microseconds. Each takes twice as long as the one before, so the five
+/// take 30 to 480.
+const NAP: u64 = 30;
+
+/// Lets a moment pass after the try of this number, from 0: pauses after each of the first tries, and after
+/// each later one, the last one too, a nap from which the thread wakes by itself, so that the other end need
+/// not wake it. It takes no memory.
+pub(crate) fn back_off<R: Wait>(rt: &R, tried: u32)
+    requires tried { tried < TRIES }
+{
+    if tried < SPINS {
+        for _ in 0..PAUSES {
+            hint::spin_loop();
+        }
+    } else {
+        let nap = Duration::from_micros(NAP << (tried - SPINS));
+        AtomicU64::new(0).park_timeout(rt, 0, nap);
+    }
+}

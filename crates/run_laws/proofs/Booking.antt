@@ -1,0 +1,52 @@
+-- The records and the mark of told bytes are one.
+use Rattle.std.proofs.Common.{◌≡◌, ◌≢◌, ℕ, Bool, List, [], Option, None, Some, unwrap_or, refl, sym, ap, subst, ◌∙◌}
+use Rattle.planar_code.specs.declared.ending.Ending.{Ending}
+use Rattle.planar_code.specs.declared.ending.Ending.TheVariants as ending
+use Rattle.planar_code.specs.Split.{IsSplit}
+use Rattle.planar_code.proofs.Splits.{split_same}
+use Rattle.streams.specs.declared.frames.Mark.{Mark}
+use Rattle.streams.specs.declared.frames.Mark.TheVariants.{Ended, Io}
+use Rattle.streams.specs.Marks.{IsMarked, IsCutShort}
+use Rattle.streams.specs.Reading.{IsToldOf}
+use Rattle.common.specs.declared.choice.Choice.{Choice}
+use Rattle.lanes.specs.Opening.{Meaning, told_of, fails_of}
+use Rattle.entries.specs.Books.{BookModel, IsBook}
+
+-- a mark that is none of want of memory
+split_by : (bytes : List ℕ) (fails : Bool) (records : List (List ℕ)) (end : Ending) → Ended end ≢ Ended ending.Memory
+    → IsMarked bytes fails records (Ended end) → (IsCutShort bytes fails → ⊥) × IsSplit bytes records end
+split_by bytes fails records ending.Complete has is = is
+split_by bytes fails records ending.Truncated has is = is
+split_by bytes fails records ending.Header has is = is
+split_by bytes fails records ending.Large has is = is
+split_by bytes fails records ending.Oversize has is = is
+split_by bytes fails records ending.Many has is = is
+split_by bytes fails records ending.Memory has is = absurd (has refl)
+
+pub same_marked : (bytes : List ℕ) (fails : Bool) (records others : List (List ℕ)) (mark other : Mark)
+    → IsMarked bytes fails records mark → IsMarked bytes fails others other
+    → mark ≢ Ended ending.Memory → other ≢ Ended ending.Memory → (records ≡ others) × (mark ≡ other)
+same_marked bytes fails records others Io Io is is' has has' =
+    let one = is.1 in
+    let two = is'.1 in
+    ((split_same bytes records others one.0 two.0 one.1 two.1).0, refl)
+same_marked bytes fails records others Io (Ended end) is is' has has' = absurd ((split_by bytes fails others end has' is').0 is.0)
+same_marked bytes fails records others (Ended end) Io is is' has has' = absurd ((split_by bytes fails records end has is).0 is'.0)
+same_marked bytes fails records others (Ended end) (Ended end') is is' has has' =
+    let same = split_same bytes records others end end' (split_by bytes fails records end has is).1 (split_by bytes fails others end' has' is').1 in
+    (same.0, ap Ended same.1)
+
+-- what is found in a file that tells these bytes is marked by them
+marked_as_told : (told : Option (List ℕ)) (told_fails : Bool) (all : List ℕ) (records : List (List ℕ)) (mark : Mark) (bytes : List ℕ) (fails : Bool)
+    → told ≡ Some all → IsToldOf told told_fails bytes fails → IsMarked bytes fails records mark → IsMarked all told_fails records mark
+marked_as_told None told_fails all records mark bytes fails e gave marked = absurd (let never : ⊥ = cc e in never)
+marked_as_told (Some told) told_fails all records mark bytes fails e gave marked =
+    let read : bytes ≡ all = sym gave.0 ∙ ap (λ (o : Option (List ℕ)). unwrap_or o []) e in
+    subst (λ (b : List ℕ). IsMarked b told_fails records mark) read
+    (subst (λ (f : Bool). IsMarked bytes f records mark) (sym gave.1) marked)
+
+pub book_marked : (choice : Choice) (meaning : Meaning) (file : ℕ) (book : BookModel) (bytes : List ℕ) → told_of meaning ≡ Some bytes
+    → (is : IsBook choice meaning file book) → IsMarked bytes (fails_of meaning) is.whole.records book.mark
+book_marked choice meaning file book bytes told is =
+    let found = is.whole.found in
+    marked_as_told (told_of meaning) (fails_of meaning) bytes is.whole.records book.mark found.bytes found.fails told found.gave found.marked

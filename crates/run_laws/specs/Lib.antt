@@ -1,0 +1,4 @@
+pub mod Laid
+pub mod Outside
+pub mod Supplies
+pub mod Reports

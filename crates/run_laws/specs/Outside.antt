@@ -1,0 +1,63 @@
+-- The rectangle round a drawing, and how the outer face of the plane looks out at it, in numbers that are in the order of the
+-- boxes' darts.
+use Rattle.std.specs.Prelude.{◌≡◌, ℕ, ◌<◌, ◌⊎◌, Bool, true}
+use Rattle.faces.specs.Planes.{PlaneModel, darts, face_at}
+use Rattle.ortho_rep.specs.Shapes.{ShapeModel}
+use Rattle.dissect.specs.DartMaps.{DartMap}
+use Rattle.dissect.specs.Boxes.{BoxesModel, dart_map}
+use Rattle.dissect.specs.Boxed.{IsDrawing}
+use Rattle.dissect.specs.Ordered.{IsOrdered}
+use Rattle.drawing_laws.specs.Pieces.{IsPiece}
+
+-- four vertices that are the corners of a rectangle along the axes
+pub record Corners : Type 0 where
+  pub south_west : ℕ
+  pub south_east : ℕ
+  pub north_east : ℕ
+  pub north_west : ℕ
+
+pub record AreCorners (x y : ℕ → ℕ) (c : Corners) : Type 0 where
+  pub west : x c.north_west ≡ x c.south_west
+  pub east : x c.north_east ≡ x c.south_east
+  pub south : y c.south_east ≡ y c.south_west
+  pub north : y c.north_west ≡ y c.north_east
+  pub wide : x c.south_west < x c.south_east
+  pub high : y c.south_west < y c.north_west
+
+-- the number of v lies strictly between those of u and t
+abbrev pub Between : (ℕ → ℕ) → ℕ → ℕ → ℕ → Type 0
+Between x u v t = (x u < x v) × (x v < x t)
+
+-- a place on a side of the rectangle, between two corners, lies straight in front of the vertex v: to its south, east, north or west
+abbrev pub LiesBefore : (ℕ → ℕ) → (ℕ → ℕ) → Corners → ℕ → ℕ → Type 0
+LiesBefore x y c place v =
+    (Between x c.south_west place c.south_east × (y place ≡ y c.south_west) × (x place ≡ x v) × (y place < y v))
+    ⊎ ((Between y c.south_east place c.north_east × (x place ≡ x c.south_east) × (y place ≡ y v) × (x v < x place))
+    ⊎ ((Between x c.north_west place c.north_east × (y place ≡ y c.north_east) × (x place ≡ x v) × (y v < y place))
+    ⊎ (Between y c.south_west place c.north_west × (x place ≡ x c.north_west) × (y place ≡ y v) × (x place < x v))))
+
+-- the walk round the face of the dart a comes to each dart of the plane's outer face: each set of darts that is closed under "next" and
+-- holds a holds them
+abbrev pub IsOnOuterFace : PlaneModel → DartMap → ℕ → Type 0
+IsOnOuterFace p w a =
+    (s : ℕ → Bool) → ((c : ℕ) → c < w.darts → s c ≡ true → s (w.next c) ≡ true) → s a ≡ true
+    → (d : ℕ) → d < darts p → face_at p d ≡ p.outer → s d ≡ true
+
+-- the drawing of the shape stands in the boxes, some corners are those of a rectangle, and a right turn of its outer face looks at a side of that
+pub record LooksOut (p : PlaneModel) (shape : ShapeModel) (b : BoxesModel) : Type 0 where
+  pub drawing : DartMap
+  pub drawn : IsDrawing p shape drawing
+  -- each of its darts arrives in the boxes where and as it did, and each piece of an edge is a piece of it there
+  pub heads : (a : ℕ) → a < drawing.darts → (dart_map b).head a ≡ drawing.head a
+  pub directions : (a : ℕ) → a < drawing.darts → (dart_map b).direction a ≡ drawing.direction a
+  pub pieces : (d a : ℕ) → d < darts p → IsPiece drawing d a → IsPiece (dart_map b) d a
+  -- round its outer face the walk turns to the right, or back, at the head of the dart `right`
+  pub right : ℕ
+  pub inside : right < drawing.darts
+  pub turns : 2 < drawing.angle right
+  pub on_outer : IsOnOuterFace p drawing right
+  -- in whatever numbers, the corners are those of a rectangle, and a place on a side of it lies straight in front of that turn
+  pub corners : Corners
+  pub place : ℕ
+  pub rectangle : (x y : ℕ → ℕ) → IsOrdered (dart_map b) x y → AreCorners x y corners
+  pub before : (x y : ℕ → ℕ) → IsOrdered (dart_map b) x y → LiesBefore x y corners place (drawing.head right)

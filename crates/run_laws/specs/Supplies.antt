@@ -1,0 +1,17 @@
+-- What vertices and faces of a plane supply to its flow network.
+use Rattle.std.specs.Prelude.{ℕ, ◌+◌, ◌-◌, ◌==◌, ◌&&◌, not, Bool, if◌then◌else◌}
+use Rattle.common.specs.Sums.{sum_below}
+use Rattle.faces.specs.Planes.{PlaneModel, vertices, degree}
+use Rattle.flow_network.specs.FaceNet.{arrivals}
+
+-- an inner face with three darts
+abbrev pub is_inner_triangle : PlaneModel → ℕ → Bool
+is_inner_triangle p f = (degree p f == 3) && not (f == p.outer)
+
+-- four less the degree, summed over all vertices
+abbrev pub free_quarters : PlaneModel → ℕ
+free_quarters p = sum_below (vertices p) (λ k. 4 - arrivals p (k + 1))
+
+-- how many inner faces have three darts
+abbrev pub inner_triangles : PlaneModel → ℕ
+inner_triangles p = sum_below p.faces (λ f. if is_inner_triangle p f then 1 else 0)

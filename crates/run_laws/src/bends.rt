@@ -1,0 +1,30 @@
+//! How many bends a laid answer has at most, and how many vertices the boxes of a least shape.
+
+ghost use Rattle.std.specs.Prelude.{◌≤◌, ◌*◌, ℕ, List, Result};
+ghost use Rattle.common.specs.declared.choice.Choice.{Choice};
+ghost use Rattle.faces.specs.Planes.{PlaneModel, IsPlane};
+ghost use Rattle.ortho_rep.specs.Shapes.{ShapeModel};
+ghost use Rattle.ortho_rep.specs.Points.{PointsModel};
+ghost use Rattle.ortho_rep.specs.Prices.{PricesModel};
+ghost use Rattle.ortho_rep.specs.Representation.{IsLeast};
+ghost use Rattle.drawing_laws.specs.Bound.{bend_bound, bends, edges};
+ghost use Rattle.dissect.specs.Boxed.{IsBoxed};
+ghost use Rattle.dissect.specs.Boxes.{BoxesModel};
+ghost use Rattle.entries.specs.declared.cause.Cause.{Cause};
+ghost use Rattle.entries.specs.Answers.{IsLaid};
+
+/// The shape of a laid answer has at most one bend for each edge and four for each inner face; so at most five for each
+/// edge, and never more than 1,534.
+pub fn laid_bends()
+    ensures inner { (choice : Choice) (bytes : List ℕ) (plane : PlaneModel) (shape : ShapeModel) (prices : PricesModel) (drawing : Result PointsModel Cause)
+        → IsLaid choice bytes plane shape prices drawing → bends plane shape ≤ bend_bound plane }
+    ensures five { (choice : Choice) (bytes : List ℕ) (plane : PlaneModel) (shape : ShapeModel) (prices : PricesModel) (drawing : Result PointsModel Cause)
+        → IsLaid choice bytes plane shape prices drawing → bends plane shape ≤ 5 * edges plane }
+    ensures limit { (choice : Choice) (bytes : List ℕ) (plane : PlaneModel) (shape : ShapeModel) (prices : PricesModel) (drawing : Result PointsModel Cause)
+        → IsLaid choice bytes plane shape prices drawing → bends plane shape ≤ 1534 }
+{}
+
+/// The boxes that a least shape is cut into have at most 3,838 vertices.
+pub fn boxes_are_few()
+    ensures { (p : PlaneModel) (shape : ShapeModel) (b : BoxesModel) → IsPlane p → IsLeast p shape → IsBoxed p shape b → b.vertices ≤ 3838 }
+{}

@@ -1,0 +1,20 @@
+//! What a laid answer says.
+
+ghost use Rattle.std.specs.Prelude.{ℕ, List, Result};
+ghost use Rattle.common.specs.declared.choice.Choice.{Choice};
+ghost use Rattle.faces.specs.Planes.{PlaneModel};
+ghost use Rattle.ortho_rep.specs.Shapes.{ShapeModel};
+ghost use Rattle.ortho_rep.specs.Points.{PointsModel};
+ghost use Rattle.ortho_rep.specs.Prices.{PricesModel};
+ghost use Rattle.entries.specs.declared.cause.Cause.{Cause};
+ghost use Rattle.entries.specs.Answers.{IsLaid};
+ghost use Rattle.run_laws.specs.Laid.{IsLayout};
+
+/// A laid answer has the neighbour lists of its record, which break no rule, their faces and the chosen outer face; an
+/// orthogonal representation with no more bends than any other, with strings of any length; prices that prove
+/// so; and points, where given, that lie on the grid, follow the axes, turn as the shape says and meet nowhere.
+pub fn laid_means()
+    ensures { (choice : Choice) (bytes : List ℕ) (plane : PlaneModel) (shape : ShapeModel) (prices : PricesModel) (drawing : Result PointsModel Cause)
+        → IsLaid choice bytes plane shape prices drawing
+        → IsLayout choice bytes plane shape prices drawing }
+{}

@@ -1,0 +1,62 @@
+//! The limits, by their numbers.
+
+ghost use Rattle.std.specs.Prelude.{◌≡◌, ◌≤◌, ℕ, List, length, All};
+ghost use Rattle.planar_code.specs.Stream.{IsRecord, lists_of};
+ghost use Rattle.faces.specs.Planes.{PlaneModel, IsPlane, darts, vertices};
+ghost use Rattle.networks.specs.declared.network.TheConstants.{MAX_NODES, MAX_ARCS};
+ghost use Rattle.networks.specs.declared.fault.TheConstants.{MAX_SUPPLY};
+
+use embedding::{MAX_DARTS, MAX_EDGES};
+use entries::MAX_FILES;
+use faces::MAX_FACES;
+use ortho_rep::{MAX_COORDINATE, MAX_TURNS};
+use planar_code::{MAX_LIST, MAX_RECORDS};
+use ruled_lanes::{LANES, MAX_CAPACITY, MAX_TICKETS};
+
+// The entries of a neighbour list, and the records of a file.
+const _: () = prove!(MAX_LIST == 254);
+
+const _: () = prove!(MAX_RECORDS == 1_000_000);
+
+// The edges, darts and faces of a graph that is laid out.
+const _: () = prove!(MAX_EDGES == 510);
+
+const _: () = prove!(MAX_DARTS == 1_020);
+
+const _: () = prove!(MAX_FACES == 257);
+
+// The turns along a dart of a shape that is tested, and the coordinates of a drawing.
+const _: () = prove!(MAX_TURNS == 1_000_000);
+
+const _: () = prove!(MAX_COORDINATE == 65_535);
+
+// The files of a batch and their tickets, the lanes, and the items that wait in a channel.
+const _: () = prove!(MAX_FILES == 256);
+
+const _: () = prove!(MAX_TICKETS == 256);
+
+const _: () = prove!(LANES == 8);
+
+const _: () = prove!(MAX_CAPACITY == 64);
+
+/// A network has at most 1,024 nodes and 4,096 arcs, and no node supplies or wants more than 2,048 units.
+pub fn network_limits()
+    ensures nodes { MAX_NODES ≡ 1024 }
+    ensures arcs { MAX_ARCS ≡ 4096 }
+    ensures supply { MAX_SUPPLY ≡ 2048 }
+{}
+
+/// A record has 1 to 255 lists of at most 254 entries, and at most 65,026 bytes.
+pub fn record_limits()
+    ensures some { (bytes : List ℕ) → IsRecord bytes → 1 ≤ length (lists_of bytes) }
+    ensures vertices { (bytes : List ℕ) → IsRecord bytes → length (lists_of bytes) ≤ 255 }
+    ensures entries { (bytes : List ℕ) → IsRecord bytes → All (λ entries. length entries ≤ 254) (lists_of bytes) }
+    ensures bytes { (bytes : List ℕ) → IsRecord bytes → length bytes ≤ 65026 }
+{}
+
+/// A plane has at most 255 vertices, 1,020 darts and 257 faces.
+pub fn plane_limits()
+    ensures vertices { (p : PlaneModel) → IsPlane p → vertices p ≤ 255 }
+    ensures darts { (p : PlaneModel) → IsPlane p → darts p ≤ 1020 }
+    ensures faces { (p : PlaneModel) → IsPlane p → p.faces ≤ 257 }
+{}

@@ -1,4 +1,0 @@
-pub mod Reaching
-pub mod Distinct
-pub mod Signs
-pub mod Searching

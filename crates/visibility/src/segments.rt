@@ -1,0 +1,276 @@
+//! Segments: longest lines of vertices and corners that edges join along one axis.
+
+ghost use Rattle.std.specs.Prelude.{◌≡◌, []};
+
+use crate::straight::StraightEdges;
+use ortho_rep::MAX_COORDINATE;
+use std::alloc::{AllocError, Global};
+use std::mem;
+
+/// Stands for no segment.
+pub(crate) const NO_SEGMENT: u16 = 65_535;
+
+/// A segment. All that lies on it has one coordinate along the axis that it crosses.
+#[derive(Clone, Copy, Debug)]
+pub(crate) struct Segment {
+    /// That coordinate.
+    pub(crate) number: u16,
+    /// Where it begins: the place of a vertex or corner, and from `find_ends` on the segment of the other axis
+    /// on which that lies.
+    pub(crate) low: u16,
+    /// Where it ends, likewise.
+    pub(crate) high: u16,
+    /// By how much shorter the segments of the other axis become in all, where it moves up by one: how many
+    /// more of them begin on it than end on it.
+    pub(crate) pull: i16,
+    /// The next one of the segments with its coordinate, or `NO_SEGMENT`.
+    pub(crate) next: u16,
+    /// How many pieces of edges join its vertices and corners, one after another.
+    pieces: u16,
+}
+
+impl Segment {
+    /// By how much shorter the segments of the other axis become in all, where it moves to this coordinate.
+    pub(crate) fn gain_at(&self, number: u16) -> i64 {
+        let steps = i64::from(number) - i64::from(self.number);
+        steps.wrapping_mul(i64::from(self.pull))
+    }
+
+    /// Whether it is as short as can be, where it reaches from one of these segments of the other axis to
+    /// another one: no piece of an edge is longer than 1, or steps of 1 lead from the one to the other
+    /// (`leads`).
+    fn is_short(&self, crossing: &[Segment], along: &Segments) -> bool {
+        let segments = along.segments.as_slice();
+        let length = number_of(segments, self.high).saturating_sub(number_of(segments, self.low));
+        if length <= self.pieces {
+            return true;
+        }
+        match (
+            segments.get(usize::from(self.low)),
+            segments.get(usize::from(self.high)),
+        ) {
+            (Some(from), Some(to)) => along.leads(crossing, from, to),
+            (_, _) => false,
+        }
+    }
+
+    /// A bit for each level that it crosses, and none where there is a level from 64 on. `crossing` are the
+    /// segments of the other axis.
+    fn levels(&self, crossing: &[Segment]) -> u64 {
+        let low = u32::from(number_of(crossing, self.low));
+        let high = u32::from(number_of(crossing, self.high));
+        if high > 63 || low > high {
+            return 0;
+        }
+        u64::MAX.wrapping_shr(63 - (high - low)).wrapping_shl(low)
+    }
+}
+
+/// The segments that cross one axis.
+#[derive(Drop)]
+pub(crate) struct Segments {
+    pub(crate) segments: Vec<Segment>,
+    /// On which segment each vertex lies, and behind them each corner, edge after edge.
+    pub(crate) of: Vec<u16>,
+    /// For each coordinate up to the greatest the first one of the segments that have it, or `NO_SEGMENT`.
+    pub(crate) firsts: Vec<u16>,
+    /// The edges without corners along these segments.
+    pub(crate) edges: StraightEdges,
+    greatest: u16,
+}
+
+impl Segments {
+    /// No segments. It takes no memory.
+    pub(crate) fn empty(alloc: Global) -> Segments
+        ensures { result.of.items ≡ [] }
+    {
+        Segments {
+            segments: Vec::new(alloc),
+            of: Vec::new(alloc),
+            firsts: Vec::new(alloc),
+            edges: StraightEdges::none(),
+            greatest: 0,
+        }
+    }
+
+    /// Forgets all segments, and has a place for each of so many vertices.
+    pub(crate) fn begin(&mut self, vertices: usize) -> Result<(), AllocError> {
+        self.segments.clear();
+        self.of.clear();
+        self.of.resize(vertices, 0)?;
+        self.firsts.clear();
+        self.edges.clear();
+        self.greatest = 0;
+        Ok(())
+    }
+
+    /// Adds a segment with this coordinate that begins and ends at the vertex or corner with this place, and
+    /// gives back its own place among all. Places from 65,535 on are all that one.
+    pub(crate) fn add_at(&mut self, number: u32, place: u16) -> Result<u16, AllocError> {
+        self.add(number, place, place, 0)
+    }
+
+    /// Adds a segment with this coordinate that reaches from one vertex or corner to another, by their places,
+    /// over so many pieces of edges.
+    fn add(&mut self, number: u32, low: u16, high: u16, pieces: u16) -> Result<u16, AllocError> {
+        let place = self.segments.len().min(usize::from(u16::MAX)) as u16;
+        let number = number.min(MAX_COORDINATE) as u16;
+        self.greatest = self.greatest.max(number);
+        self.segments.push(Segment {
+            number,
+            low,
+            high,
+            pull: 0,
+            next: NO_SEGMENT,
+            pieces,
+        })?;
+        Ok(place)
+    }
+
+    /// Adds the segment with this coordinate that begins at a vertex, with all to which straight edges lead
+    /// from there; none where such an edge leads to the vertex.
+    pub(crate) fn follow(&mut self, vertex: u8, number: u32) -> Result<(), AllocError> {
+        if self.edges.is_led_to(vertex) {
+            return Ok(());
+        }
+        let segment = self.segments.len().min(usize::from(u16::MAX)) as u16;
+        let first = u16::from(vertex).wrapping_sub(1);
+        let mut last = first;
+        let mut ahead = vertex;
+        let mut vertices: u16 = 0;
+        for _ in 0..255 {
+            if ahead == 0 {
+                break;
+            }
+            last = u16::from(ahead).wrapping_sub(1);
+            if let Some(of) = self.of.get_mut(usize::from(last)) {
+                *of = segment;
+            }
+            vertices = vertices.wrapping_add(1);
+            ahead = self.edges.ahead(ahead);
+        }
+        self.add(number, first, last, vertices.wrapping_sub(1))?;
+        Ok(())
+    }
+
+    /// Lets a segment begin or end at the vertex or corner with this place, to which one piece more leads.
+    pub(crate) fn reach(&mut self, segment: u16, place: u16, is_end: bool) {
+        if let Some(segment) = self.segments.get_mut(usize::from(segment)) {
+            segment.pieces = segment.pieces.wrapping_add(1);
+            if is_end {
+                segment.high = place;
+            } else {
+                segment.low = place;
+            }
+        }
+    }
+
+    /// Whether each segment is as short as can be with these segments of the other axis.
+    pub(crate) fn are_short(&self, along: &Segments) -> bool {
+        let segments = self.segments.as_slice();
+        segments
+            .iter()
+            .all(|segment| segment.is_short(segments, along))
+    }
+
+    /// Whether steps lead from one segment to another, each of 1 and to a segment on a level of the segment
+    /// before: with no numbers with which the segments on each level keep their order are these two nearer to
+    /// each other. No steps are seen where there are 64 levels or more. `crossing` are the segments of the
+    /// other axis.
+    fn leads(&self, crossing: &[Segment], from: &Segment, to: &Segment) -> bool {
+        let mut levels = from.levels(crossing);
+        for number in from.number.saturating_add(1)..to.number {
+            levels = self.levels_behind(crossing, number, levels);
+        }
+        levels & to.levels(crossing) != 0
+    }
+
+    /// The levels of all segments with this coordinate that cross one of these levels.
+    fn levels_behind(&self, crossing: &[Segment], number: u16, levels: u64) -> u64 {
+        let segments = self.segments.as_slice();
+        let mut behind = 0;
+        let mut place = self
+            .firsts
+            .get(usize::from(number))
+            .copied()
+            .unwrap_or(NO_SEGMENT);
+        for _ in 0..segments.len() {
+            let Some(segment) = segments.get(usize::from(place)) else {
+                break;
+            };
+            let own = segment.levels(crossing);
+            if own & levels != 0 {
+                behind |= own;
+            }
+            place = segment.next;
+        }
+        behind
+    }
+
+    /// Has a list for each coordinate up to the greatest, and nothing in them.
+    pub(crate) fn open_lists(&mut self) -> Result<(), AllocError> {
+        self.firsts
+            .resize(usize::from(self.greatest) + 1, NO_SEGMENT)?;
+        Ok(())
+    }
+
+    /// Lists all segments anew, by the coordinates that they have now.
+    pub(crate) fn list_anew(&mut self) -> Result<(), AllocError> {
+        self.greatest = greatest_of(self.segments.as_slice());
+        self.firsts.clear();
+        self.open_lists()?;
+        let firsts = self.firsts.as_mut_slice();
+        for (place, segment) in self.segments.iter_mut().enumerate() {
+            list(firsts, segment, place.min(usize::from(u16::MAX)) as u16);
+        }
+        Ok(())
+    }
+
+    /// The segment on which a vertex lies, and 0 where there is no such vertex.
+    pub(crate) fn of_vertex(&self, vertex: u8) -> u16 {
+        self.segment_of(usize::from(vertex).wrapping_sub(1))
+    }
+
+    /// The segment on which the vertex or corner at this place lies, and 0 where there is none.
+    pub(crate) fn segment_of(&self, place: usize) -> u16 {
+        self.of.get(place).copied().unwrap_or(0)
+    }
+
+    /// The coordinate of the vertex or corner at this place, and 0 where there is none.
+    pub(crate) fn number_at(&self, place: usize) -> u32 {
+        u32::from(number_of(self.segments.as_slice(), self.segment_of(place)))
+    }
+}
+
+/// The coordinate of a segment, and 0 where there is no such segment.
+pub(crate) fn number_of(segments: &[Segment], place: u16) -> u16 {
+    match segments.get(usize::from(place)) {
+        Some(segment) => segment.number,
+        None => 0,
+    }
+}
+
+/// The greatest coordinate of a segment, and 0 where there are no segments.
+fn greatest_of(segments: &[Segment]) -> u16 {
+    let mut greatest = 0;
+    for segment in segments {
+        greatest = segment.number.max(greatest);
+    }
+    greatest
+}
+
+/// The first segment with this coordinate, or `NO_SEGMENT`. It and those behind it are in no list then.
+pub(crate) fn take_first(firsts: &mut [u16], number: usize) -> u16 {
+    match firsts.get_mut(number) {
+        Some(first) => mem::replace(first, NO_SEGMENT),
+        None => NO_SEGMENT,
+    }
+}
+
+/// Puts a segment before the others with its coordinate.
+pub(crate) fn list(firsts: &mut [u16], segment: &mut Segment, place: u16) {
+    if let Some(first) = firsts.get_mut(usize::from(segment.number)) {
+        segment.next = *first;
+        *first = place;
+    }
+}
