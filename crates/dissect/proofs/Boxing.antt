@@ -14,11 +14,11 @@ use Rattle.dissect.specs.DartMaps.{DartMap, IsSound, reflex_turns, no_dart}
 use Rattle.dissect.specs.Tables.{dart_map_of}
 use Rattle.dissect.specs.Faces.{AreWaiting, ReachesCorners}
 use Rattle.dissect.specs.Paths.{HasPaths, IsConnected, IsPath}
-use Rattle.dissect.specs.Frames.{IsEnclosed}
+use Rattle.dissect.specs.Surrounds.{IsEnclosed}
 use Rattle.dissect.specs.Bends.{AreHeadings, CountsBends, KeepsDarts, KeepsFaces}
 use Rattle.dissect.specs.Steps.{angle_of}
 use Rattle.dissect.specs.Chains.{AreChains}
-use Rattle.dissect.proofs.FramedPaths.{enclosed_paths, enclosed_joined}
+use Rattle.dissect.proofs.SurroundedPaths.{enclosed_paths, enclosed_joined}
 use Rattle.dissect.proofs.Chains.{HasChains, enclosed_chains}
 use Rattle.dissect.proofs.Apart.{AreEdges, paths_back, paths_once, paths_apart}
 use Rattle.dissect.specs.Boxes.{AreBoxes, HasEdge, parts_of}
@@ -125,7 +125,7 @@ drawing_stands p shape w outside t old edges paths made =
       rectangle = rectangle w outside (dart_map_of t) made.sound.linked made.sound.meeting.quarter e made.done;
       right = e.right;
       right_in = e.right_in;
-      turns_right = omega (arith, e.join.right, e.frame.angle_old e.right e.right_in);
+      turns_right = omega (arith, e.join.right, e.surround.angle_old e.right e.right_in);
       outer = e.same_face made.faces.label made.faces.turns.labels ∙ made.faces.faces outside made.outside_in ∙ made.outer;
       join = join w outside (dart_map_of t) made.sound.linked made.sound.meeting.quarter e;
     }

@@ -2,12 +2,12 @@
 use Rattle.std.proofs.Common.{◌≡◌, ◌≢◌, ℕ, ◌+◌, ◌<◌, ◌≤◌, ◌==◌, if◌then◌else◌, ◌⊎◌, ◌∙◌, arith, subst, sym, ap, refl, inl, inr, eqb}
 use Rattle.std.proofs.lemmas.Bool.{cases_eq, cases_lt, eq-eqb, ne_eqb, cond-true, cond-false}
 use Rattle.dissect.specs.DartMaps.{DartMap, no_dart, IsLinked, IsSubdivided, IsChord, IsCut, Grows, same, further}
-use Rattle.dissect.specs.Frames.{IsFramed, IsEnclosed}
+use Rattle.dissect.specs.Surrounds.{IsSurrounded, IsEnclosed}
 use Rattle.dissect.proofs.Splitting.{by_age, by_place, split_linked}
 use Rattle.dissect.specs.Chains.{AreChains}
 use Rattle.dissect.proofs.StayingJoined.{cut_linked}
 use Rattle.dissect.proofs.Cuts.{IsBeside, chord_beside}
-use Rattle.dissect.proofs.FramedPaths.{by_side, framed_linked, framed_beside}
+use Rattle.dissect.proofs.SurroundedPaths.{by_side, surrounded_linked, surrounded_beside}
 
 -- a map with chains, whose darts arrive at its vertices
 pub record HasChains (v : ℕ) (w : DartMap) : Type 0 where
@@ -256,9 +256,9 @@ grows_rows v w new has same = has
 grows_rows v w new has (further mid last d e way grows cut) = cut_rows v mid d e way last (grows_rows v w mid has grows) cut
 
 -- a rectangle beside the map keeps the chains
-pub frame_rows : (v : ℕ) (w new : DartMap) → HasChains v w → IsFramed w new → HasChains v new
-frame_rows v w new has f =
-    beside_rows v w new has (framed_beside w new has.linked f) (framed_linked w new has.linked f) (omega (arith, f.vertices))
+pub surround_rows : (v : ℕ) (w new : DartMap) → HasChains v w → IsSurrounded w new → HasChains v new
+surround_rows v w new has f =
+    beside_rows v w new has (surrounded_beside w new has.linked f) (surrounded_linked w new has.linked f) (omega (arith, f.vertices))
     (λ a l. by_side w.darts (λ (a : ℕ). new.head a < new.vertices)
     (λ a l. omega (arith, f.head_old a l, has.heads a l, f.vertices))
     (λ k l. omega (arith, f.head_inner k l, f.vertices)) (λ k l. omega (arith, f.head_outer k l, f.vertices))
@@ -268,7 +268,7 @@ frame_rows v w new has f =
 pub enclosed_chains : (v : ℕ) (w : DartMap) (outside : ℕ) (new : DartMap) → HasChains v w → IsEnclosed w outside new → HasChains v new
 enclosed_chains v w outside new has e =
     grows_rows v e.joined new
-    (cut_rows v e.framed e.right (w.darts + e.side) e.way e.joined (frame_rows v w e.framed has e.frame) e.join) e.grows
+    (cut_rows v e.surrounded e.right (w.darts + e.side) e.way e.joined (surround_rows v w e.surrounded has e.surround) e.join) e.grows
 
 -- where no dart stands before another, there are no chains
 pub plain_chains : (v : ℕ) (w : DartMap) → IsLinked w → ((a : ℕ) → a < w.darts → w.head a < w.vertices) → v ≤ w.vertices →

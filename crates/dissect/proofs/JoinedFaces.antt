@@ -2,7 +2,7 @@
 use Rattle.std.proofs.Common.{◌≡◌, ◌≢◌, ℕ, zero, suc, ◌+◌, ◌%◌, ◌<◌, ◌∙◌, List, [], ◌∷◌, map, arith, subst, sym, ap, refl, inl, inr}
 use Rattle.std.proofs.lemmas.Bool.{cases_eq}
 use Rattle.dissect.specs.DartMaps.{DartMap, IsLinked, IsCut}
-use Rattle.dissect.specs.Frames.{IsFramed}
+use Rattle.dissect.specs.Surrounds.{IsSurrounded}
 use Rattle.dissect.specs.Turning.{total}
 use Rattle.dissect.specs.Faces.{RunsIn, Runs, Trail, last_of, Ring, IsOutside, In, Below, joined, AreRings}
 use Rattle.dissect.proofs.Splitting.{split_linked}
@@ -10,136 +10,136 @@ use Rattle.dissect.proofs.Running.{IsCutting, run_more, run_direct, split_runs, 
 use Rattle.dissect.proofs.Rings.{split_ring, chord_runs, chord_ring}
 use Rattle.dissect.proofs.Waiting.{clear_of, ring_last}
 use Rattle.dissect.proofs.Listing.{in_left, in_right, in_below, below_left, below_right}
-use Rattle.dissect.proofs.Sounding.{frame_linked}
+use Rattle.dissect.proofs.Sounding.{surround_linked}
 
 -- a rectangle keeps the runs of the drawing
-pub frame_run : (w new : DartMap) → IsFramed w new → IsLinked w → (k a c : ℕ) → a < w.darts → RunsIn w k a c → Runs new a c
-frame_run w new s linked zero a c l r =
+pub surround_run : (w new : DartMap) → IsSurrounded w new → IsLinked w → (k a c : ℕ) → a < w.darts → RunsIn w k a c → Runs new a c
+surround_run w new s linked zero a c l r =
     let c_in : c < w.darts = omega (arith, linked.next_in a l, r.0) in
     run_direct new a c (s.next_old a l ∙ r.0) (λ h. r.1 (sym (s.angle_old c c_in) ∙ h))
-frame_run w new s linked (suc k) a c l r =
+surround_run w new s linked (suc k) a c l r =
     run_more new a (w.next a) c (s.next_old a l) (s.angle_old (w.next a) (linked.next_in a l) ∙ r.0)
-    (frame_run w new s linked k (w.next a) c (linked.next_in a l) r.1)
+    (surround_run w new s linked k (w.next a) c (linked.next_in a l) r.1)
 
-pub frame_trail : (w new : DartMap) → IsFramed w new → IsLinked w → (a : ℕ) (cs : List ℕ) → a < w.darts → Trail w a cs → Trail new a cs
-frame_trail w new s linked a [] l trail = tt
-frame_trail w new s linked a (c ∷ cs) l trail = (
-  frame_run w new s linked trail.0.places a c l trail.0.run,
-  frame_trail w new s linked c cs (Runs-inside w a c linked l trail.0) trail.1,
+pub surround_trail : (w new : DartMap) → IsSurrounded w new → IsLinked w → (a : ℕ) (cs : List ℕ) → a < w.darts → Trail w a cs → Trail new a cs
+surround_trail w new s linked a [] l trail = tt
+surround_trail w new s linked a (c ∷ cs) l trail = (
+  surround_run w new s linked trail.0.places a c l trail.0.run,
+  surround_trail w new s linked c cs (Runs-inside w a c linked l trail.0) trail.1,
 )
 
-pub frame_ring : (w new : DartMap) → IsFramed w new → IsLinked w → (cs : List ℕ) → last_of 0 cs < w.darts → Ring w cs → Ring new cs
-frame_ring w new s linked [] l ring = ring
-frame_ring w new s linked (c ∷ cs) l ring = frame_trail w new s linked (last_of c cs) (c ∷ cs) l ring
+pub surround_ring : (w new : DartMap) → IsSurrounded w new → IsLinked w → (cs : List ℕ) → last_of 0 cs < w.darts → Ring w cs → Ring new cs
+surround_ring w new s linked [] l ring = ring
+surround_ring w new s linked (c ∷ cs) l ring = surround_trail w new s linked (last_of c cs) (c ∷ cs) l ring
 
 -- the map w in its rectangle, joined by a cut from `right` to one of the rectangle's sides
-pub record IsJoining (w framed : DartMap) (right side way : ℕ) (new : DartMap) : Type 0 where
+pub record IsJoining (w surrounded : DartMap) (right side way : ℕ) (new : DartMap) : Type 0 where
   pub linked : IsLinked w
-  pub frame : IsFramed w framed
+  pub surround : IsSurrounded w surrounded
   pub right_in : right < w.darts
   pub side_in : side < 4
-  pub join : IsCut framed right (w.darts + side) way new
+  pub join : IsCut surrounded right (w.darts + side) way new
 
 -- the inner dart in front of that side
 abbrev pub corner_of : DartMap → ℕ → ℕ
 corner_of w side = w.darts + (side + 3) % 4
 
-pub middle_of : (w framed : DartMap) (right side way : ℕ) (new : DartMap) → (j : IsJoining w framed right side way new) → IsLinked j.join.middle
-middle_of w framed right side way new j =
-    split_linked framed (w.darts + side) (framed.direction (w.darts + side)) 2 j.join.middle
-    (frame_linked w framed j.frame j.linked) j.join.e_in j.join.split
+pub middle_of : (w surrounded : DartMap) (right side way : ℕ) (new : DartMap) → (j : IsJoining w surrounded right side way new) → IsLinked j.join.middle
+middle_of w surrounded right side way new j =
+    split_linked surrounded (w.darts + side) (surrounded.direction (w.darts + side)) 2 j.join.middle
+    (surround_linked w surrounded j.surround j.linked) j.join.e_in j.join.split
 
-pub cutting_of : (w framed : DartMap) (right side way : ℕ) (new : DartMap) → (j : IsJoining w framed right side way new) →
-    IsCutting j.join.middle right (corner_of w side) framed.darts
-cutting_of w framed right side way new j =
+pub cutting_of : (w surrounded : DartMap) (right side way : ℕ) (new : DartMap) → (j : IsJoining w surrounded right side way new) →
+    IsCutting j.join.middle right (corner_of w side) surrounded.darts
+cutting_of w surrounded right side way new j =
     let s = j.join.split in
-    let c_in : corner_of w side < framed.darts = omega (arith, j.frame.darts) in
+    let c_in : corner_of w side < surrounded.darts = omega (arith, j.surround.darts) in
     record {
       d_in = omega (arith, s.darts, j.join.d_in);
       c_in = omega (arith, s.darts, c_in);
       f_in = omega (arith, s.darts);
       right = omega (arith, s.angle_old right j.join.d_in, j.join.right);
-      left = s.angle_old (corner_of w side) c_in ∙ j.frame.angle_inner ((side + 3) % 4) (omega arith);
+      left = s.angle_old (corner_of w side) c_in ∙ j.surround.angle_inner ((side + 3) % 4) (omega arith);
       straight = s.angle_first;
-      behind = ap j.join.middle.next (sym (j.frame.prev_inner side j.side_in)) ∙ s.next_before;
+      behind = ap j.join.middle.next (sym (j.surround.prev_inner side j.side_in)) ∙ s.next_before;
     }
 
 -- angles after the join
-pub old_angle : (w framed : DartMap) (right side way : ℕ) (new : DartMap) → IsJoining w framed right side way new → (a : ℕ) → a < w.darts →
+pub old_angle : (w surrounded : DartMap) (right side way : ℕ) (new : DartMap) → IsJoining w surrounded right side way new → (a : ℕ) → a < w.darts →
     a ≢ right → new.angle a ≡ w.angle a
-old_angle w framed right side way new j a l ne =
+old_angle w surrounded right side way new j a l ne =
     let s = j.join.split in
-    let a_in : a < framed.darts = omega (arith, j.frame.darts, l) in
-    j.join.chord.angle_other a (omega (arith, s.darts, a_in)) ne (λ h. omega (arith, h, a_in)) ∙ s.angle_old a a_in ∙ j.frame.angle_old a l
+    let a_in : a < surrounded.darts = omega (arith, j.surround.darts, l) in
+    j.join.chord.angle_other a (omega (arith, s.darts, a_in)) ne (λ h. omega (arith, h, a_in)) ∙ s.angle_old a a_in ∙ j.surround.angle_old a l
 
-pub right_angle : (w framed : DartMap) (right side way : ℕ) (new : DartMap) → IsJoining w framed right side way new → new.angle right + 1 ≡ w.angle right
-right_angle w framed right side way new j =
-    j.join.chord.angle_d ∙ j.join.split.angle_old right j.join.d_in ∙ j.frame.angle_old right j.right_in
+pub right_angle : (w surrounded : DartMap) (right side way : ℕ) (new : DartMap) → IsJoining w surrounded right side way new → new.angle right + 1 ≡ w.angle right
+right_angle w surrounded right side way new j =
+    j.join.chord.angle_d ∙ j.join.split.angle_old right j.join.d_in ∙ j.surround.angle_old right j.right_in
 
-pub frame_angle : (w framed : DartMap) (right side way : ℕ) (new : DartMap) → IsJoining w framed right side way new → (i : ℕ) → i < 8 →
-    new.angle (w.darts + i) ≡ framed.angle (w.darts + i)
-frame_angle w framed right side way new j i l =
+pub surround_angle : (w surrounded : DartMap) (right side way : ℕ) (new : DartMap) → IsJoining w surrounded right side way new → (i : ℕ) → i < 8 →
+    new.angle (w.darts + i) ≡ surrounded.angle (w.darts + i)
+surround_angle w surrounded right side way new j i l =
     let s = j.join.split in
-    let a_in : w.darts + i < framed.darts = omega (arith, j.frame.darts, l) in
+    let a_in : w.darts + i < surrounded.darts = omega (arith, j.surround.darts, l) in
     j.join.chord.angle_other (w.darts + i) (omega (arith, s.darts, a_in)) (λ h. omega (arith, h, j.right_in)) (λ h. omega (arith, h, a_in))
     ∙ s.angle_old (w.darts + i) a_in
 
-pub inner_angle : (w framed : DartMap) (right side way : ℕ) (new : DartMap) → IsJoining w framed right side way new → (k : ℕ) → k < 4 →
+pub inner_angle : (w surrounded : DartMap) (right side way : ℕ) (new : DartMap) → IsJoining w surrounded right side way new → (k : ℕ) → k < 4 →
     new.angle (w.darts + k) ≡ 1
-inner_angle w framed right side way new j k l = frame_angle w framed right side way new j k (omega arith) ∙ j.frame.angle_inner k l
+inner_angle w surrounded right side way new j k l = surround_angle w surrounded right side way new j k (omega arith) ∙ j.surround.angle_inner k l
 
-pub outer_angle : (w framed : DartMap) (right side way : ℕ) (new : DartMap) → IsJoining w framed right side way new → (k : ℕ) → k < 4 →
+pub outer_angle : (w surrounded : DartMap) (right side way : ℕ) (new : DartMap) → IsJoining w surrounded right side way new → (k : ℕ) → k < 4 →
     new.angle (w.darts + 4 + k) ≡ 3
-outer_angle w framed right side way new j k l =
+outer_angle w surrounded right side way new j k l =
     let e : w.darts + 4 + k ≡ w.darts + (4 + k) = omega arith in
-    ap new.angle e ∙ frame_angle w framed right side way new j (4 + k) (omega arith) ∙ ap framed.angle (sym e) ∙ j.frame.angle_outer k l
+    ap new.angle e ∙ surround_angle w surrounded right side way new j (4 + k) (omega arith) ∙ ap surrounded.angle (sym e) ∙ j.surround.angle_outer k l
 
-pub new_angles : (w framed : DartMap) (right side way : ℕ) (new : DartMap) → IsJoining w framed right side way new →
+pub new_angles : (w surrounded : DartMap) (right side way : ℕ) (new : DartMap) → IsJoining w surrounded right side way new →
     (new.angle (w.darts + 8) ≡ 1) × (new.angle (w.darts + 9) ≡ 2) × (new.angle (w.darts + 10) ≡ 1) × (new.angle (w.darts + 11) ≡ 1)
-new_angles w framed right side way new j =
+new_angles w surrounded right side way new j =
     let n : ℕ = w.darts in
     let s = j.join.split in
     let t = j.join.chord in
-    let d8 : n + 8 ≡ framed.darts = sym j.frame.darts in
-    let d9 : n + 9 ≡ framed.darts + 1 = omega (arith, d8) in
+    let d8 : n + 8 ≡ surrounded.darts = sym j.surround.darts in
+    let d9 : n + 9 ≡ surrounded.darts + 1 = omega (arith, d8) in
     let d10 : n + 10 ≡ j.join.middle.darts = omega (arith, d8, s.darts) in
     let d11 : n + 11 ≡ j.join.middle.darts + 1 = omega (arith, d10) in (
       omega (arith, ap new.angle d8, t.angle_f, s.angle_first),
       ap new.angle d9
-          ∙ t.angle_other (framed.darts + 1) (omega (arith, s.darts)) (λ h. omega (arith, h, j.join.d_in)) (λ h. omega (arith, h))
+          ∙ t.angle_other (surrounded.darts + 1) (omega (arith, s.darts)) (λ h. omega (arith, h, j.join.d_in)) (λ h. omega (arith, h))
           ∙ s.angle_second,
       ap new.angle d10 ∙ t.angle_there,
       ap new.angle d11 ∙ t.angle_back,
     )
 
 -- a run between two of the rectangle's darts, side by side
-pub inside_run : (w framed : DartMap) (right side way : ℕ) (new : DartMap) → IsJoining w framed right side way new → (i m : ℕ) → i < 8 → m < 8 →
-    framed.next (w.darts + i) ≡ w.darts + m → framed.angle (w.darts + m) ≢ 2 → framed.angle (w.darts + i) ≢ 2 →
+pub inside_run : (w surrounded : DartMap) (right side way : ℕ) (new : DartMap) → IsJoining w surrounded right side way new → (i m : ℕ) → i < 8 → m < 8 →
+    surrounded.next (w.darts + i) ≡ w.darts + m → surrounded.angle (w.darts + m) ≢ 2 → surrounded.angle (w.darts + i) ≢ 2 →
     i ≢ (side + 3) % 4 → Runs new (w.darts + i) (w.darts + m)
-inside_run w framed right side way new j i m il ml to corner here ne =
+inside_run w surrounded right side way new j i m il ml to corner here ne =
     let s = j.join.split in
-    let linked = frame_linked w framed j.frame j.linked in
-    let i_in : w.darts + i < framed.darts = omega (arith, j.frame.darts, il) in
+    let linked = surround_linked w surrounded j.surround j.linked in
+    let i_in : w.darts + i < surrounded.darts = omega (arith, j.surround.darts, il) in
     let runs : Runs j.join.middle (w.darts + i) (w.darts + m) =
-    split_runs framed (w.darts + side) (framed.direction (w.darts + side)) (w.darts + i) (w.darts + m) j.join.middle s linked j.join.e_in
-    i_in (run_direct framed (w.darts + i) (w.darts + m) to corner) in
-    chord_runs j.join.middle right (corner_of w side) framed.darts way (w.darts + i) (w.darts + m) new j.join.chord
-    (middle_of w framed right side way new j) (cutting_of w framed right side way new j) (omega (arith, s.darts, i_in))
+    split_runs surrounded (w.darts + side) (surrounded.direction (w.darts + side)) (w.darts + i) (w.darts + m) j.join.middle s linked j.join.e_in
+    i_in (run_direct surrounded (w.darts + i) (w.darts + m) to corner) in
+    chord_runs j.join.middle right (corner_of w side) surrounded.darts way (w.darts + i) (w.darts + m) new j.join.chord
+    (middle_of w surrounded right side way new j) (cutting_of w surrounded right side way new j) (omega (arith, s.darts, i_in))
     (λ h. here (sym (s.angle_old (w.darts + i) i_in) ∙ h)) (λ h. omega (arith, h, j.right_in)) (λ h. ne (omega (arith, h)))
     (λ h. omega (arith, h, j.right_in)) runs
 
 -- the outside of the rectangle
-pub outside_run : (w framed : DartMap) (right side way : ℕ) (new : DartMap) → IsJoining w framed right side way new → (k m : ℕ) → k < 4 →
+pub outside_run : (w surrounded : DartMap) (right side way : ℕ) (new : DartMap) → IsJoining w surrounded right side way new → (k m : ℕ) → k < 4 →
     m ≡ (k + 3) % 4 → Runs new (w.darts + 4 + k) (w.darts + 4 + m)
-outside_run w framed right side way new j k m l e =
+outside_run w surrounded right side way new j k m l e =
     let a : w.darts + (4 + k) ≡ w.darts + 4 + k = omega arith in
     let b : w.darts + (4 + m) ≡ w.darts + 4 + m = omega arith in
     let c : w.darts + 4 + (k + 3) % 4 ≡ w.darts + (4 + m) = omega (arith, e) in
-    let m_angle : framed.angle (w.darts + (4 + m)) ≡ 3 = ap framed.angle b ∙ j.frame.angle_outer m (omega (arith, e)) in
-    let k_angle : framed.angle (w.darts + (4 + k)) ≡ 3 = ap framed.angle a ∙ j.frame.angle_outer k l in
+    let m_angle : surrounded.angle (w.darts + (4 + m)) ≡ 3 = ap surrounded.angle b ∙ j.surround.angle_outer m (omega (arith, e)) in
+    let k_angle : surrounded.angle (w.darts + (4 + k)) ≡ 3 = ap surrounded.angle a ∙ j.surround.angle_outer k l in
     subst (λ (z : ℕ). Runs new z (w.darts + 4 + m)) a
     (subst (λ (z : ℕ). Runs new (w.darts + (4 + k)) z) b
-    (inside_run w framed right side way new j (4 + k) (4 + m) (omega arith) (omega (arith, e)) (ap framed.next a ∙ j.frame.next_outer k l ∙ c)
+    (inside_run w surrounded right side way new j (4 + k) (4 + m) (omega arith) (omega (arith, e)) (ap surrounded.next a ∙ j.surround.next_outer k l ∙ c)
     (λ h. omega (arith, h, m_angle)) (λ h. omega (arith, h, k_angle)) (λ h. omega (arith, h))))
 
 round_holds : (n o k : ℕ) → o < 4 → k < 4 →
@@ -157,59 +157,59 @@ round_holds n o k o_in l =
     ]
 
 -- each of its corners with each other
-pub outside_four : (w framed : DartMap) (right side way : ℕ) (new : DartMap) → IsJoining w framed right side way new → (o : ℕ) → o < 4 →
+pub outside_four : (w surrounded : DartMap) (right side way : ℕ) (new : DartMap) → IsJoining w surrounded right side way new → (o : ℕ) → o < 4 →
     (k : ℕ) → k < 4 → IsOutside new (w.darts + 4 + o) (w.darts + 4 + k)
-outside_four w framed right side way new j o o_in k l = record {
+outside_four w surrounded right side way new j o o_in k l = record {
   four = record {
     second = w.darts + 4 + (k + 3) % 4;
     third = w.darts + 4 + (k + 2) % 4;
     fourth = w.darts + 4 + (k + 1) % 4;
-    to_second = outside_run w framed right side way new j k ((k + 3) % 4) l refl;
-    to_third = outside_run w framed right side way new j ((k + 3) % 4) ((k + 2) % 4) (omega arith) (omega arith);
-    to_fourth = outside_run w framed right side way new j ((k + 2) % 4) ((k + 1) % 4) (omega arith) (omega arith);
-    back = outside_run w framed right side way new j ((k + 1) % 4) k (omega arith) (omega arith);
-    angle_first = outer_angle w framed right side way new j k l;
-    angle_second = outer_angle w framed right side way new j ((k + 3) % 4) (omega arith);
-    angle_third = outer_angle w framed right side way new j ((k + 2) % 4) (omega arith);
-    angle_fourth = outer_angle w framed right side way new j ((k + 1) % 4) (omega arith);
+    to_second = outside_run w surrounded right side way new j k ((k + 3) % 4) l refl;
+    to_third = outside_run w surrounded right side way new j ((k + 3) % 4) ((k + 2) % 4) (omega arith) (omega arith);
+    to_fourth = outside_run w surrounded right side way new j ((k + 2) % 4) ((k + 1) % 4) (omega arith) (omega arith);
+    back = outside_run w surrounded right side way new j ((k + 1) % 4) k (omega arith) (omega arith);
+    angle_first = outer_angle w surrounded right side way new j k l;
+    angle_second = outer_angle w surrounded right side way new j ((k + 3) % 4) (omega arith);
+    angle_third = outer_angle w surrounded right side way new j ((k + 2) % 4) (omega arith);
+    angle_fourth = outer_angle w surrounded right side way new j ((k + 1) % 4) (omega arith);
   };
   holds = round_holds w.darts o k o_in l;
 }
 
 -- a face that the cut does not touch
-pub other_ring : (w framed : DartMap) (right side way : ℕ) (new : DartMap) → IsJoining w framed right side way new → (r : List ℕ) →
+pub other_ring : (w surrounded : DartMap) (right side way : ℕ) (new : DartMap) → IsJoining w surrounded right side way new → (r : List ℕ) →
     Below w.darts r → (In right r → ⊥) → Ring w r → Ring new r
-other_ring w framed right side way new j r below out ring =
+other_ring w surrounded right side way new j r below out ring =
     let s = j.join.split in
     let n : ℕ = w.darts in
     let end : last_of 0 r < n = ring_last w r ring below in
-    let in_frame : Ring framed r = frame_ring w framed j.frame j.linked r end ring in
-    let in_middle : Ring j.join.middle r = split_ring framed (n + side) (framed.direction (n + side)) j.join.middle s
-    (frame_linked w framed j.frame j.linked) j.join.e_in r (omega (arith, j.frame.darts, end)) in_frame in
-    chord_ring j.join.middle right (corner_of w side) framed.darts way new j.join.chord (middle_of w framed right side way new j)
-    (cutting_of w framed right side way new j) r
-    (clear_of n j.join.middle.darts right (corner_of w side) r (omega (arith, s.darts, j.frame.darts)) below out
+    let in_surround : Ring surrounded r = surround_ring w surrounded j.surround j.linked r end ring in
+    let in_middle : Ring j.join.middle r = split_ring surrounded (n + side) (surrounded.direction (n + side)) j.join.middle s
+    (surround_linked w surrounded j.surround j.linked) j.join.e_in r (omega (arith, j.surround.darts, end)) in_surround in
+    chord_ring j.join.middle right (corner_of w side) surrounded.darts way new j.join.chord (middle_of w surrounded right side way new j)
+    (cutting_of w surrounded right side way new j) r
+    (clear_of n j.join.middle.darts right (corner_of w side) r (omega (arith, s.darts, j.surround.darts)) below out
     (λ h. omega (arith, in_below n (corner_of w side) r below h))) in_middle
 
-pub totals_same : (w framed : DartMap) (right side way : ℕ) (new : DartMap) → IsJoining w framed right side way new → (r : List ℕ) →
+pub totals_same : (w surrounded : DartMap) (right side way : ℕ) (new : DartMap) → IsJoining w surrounded right side way new → (r : List ℕ) →
     Below w.darts r → (In right r → ⊥) → total (map new.angle r) ≡ total (map w.angle r)
-totals_same w framed right side way new j [] below out = refl
-totals_same w framed right side way new j (a ∷ r) below out =
+totals_same w surrounded right side way new j [] below out = refl
+totals_same w surrounded right side way new j (a ∷ r) below out =
     omega (
       arith,
-      old_angle w framed right side way new j a below.0 (λ h. out (inl (sym h))),
-      totals_same w framed right side way new j r below.1 (λ h. out (inr h)),
+      old_angle w surrounded right side way new j a below.0 (λ h. out (inl (sym h))),
+      totals_same w surrounded right side way new j r below.1 (λ h. out (inr h)),
     )
 
-pub other_rings : (w framed : DartMap) (right side way : ℕ) (new : DartMap) → IsJoining w framed right side way new → (rs : List (List ℕ)) →
+pub other_rings : (w surrounded : DartMap) (right side way : ℕ) (new : DartMap) → IsJoining w surrounded right side way new → (rs : List (List ℕ)) →
     Below w.darts (joined rs) → (In right (joined rs) → ⊥) → AreRings w rs → AreRings new rs
-other_rings w framed right side way new j [] below out rings = tt
-other_rings w framed right side way new j (r ∷ rs) below out rings =
+other_rings w surrounded right side way new j [] below out rings = tt
+other_rings w surrounded right side way new j (r ∷ rs) below out rings =
     let below_r : Below w.darts r = below_left w.darts r (joined rs) below in
     let out_r : In right r → ⊥ = λ h. out (in_left right r (joined rs) h) in (
       (
-        other_ring w framed right side way new j r below_r out_r rings.0.0,
-        omega (arith, totals_same w framed right side way new j r below_r out_r, rings.0.1),
+        other_ring w surrounded right side way new j r below_r out_r rings.0.0,
+        omega (arith, totals_same w surrounded right side way new j r below_r out_r, rings.0.1),
       ),
-      other_rings w framed right side way new j rs (below_right w.darts r (joined rs) below) (λ h. out (in_right right r (joined rs) h)) rings.1,
+      other_rings w surrounded right side way new j rs (below_right w.darts r (joined rs) below) (λ h. out (in_right right r (joined rs) h)) rings.1,
     )

@@ -1,7 +1,7 @@
 -- What a rectangle and cuts keep of the darts that were there before.
 use Rattle.std.proofs.Common.{◌≡◌, ℕ, ◌+◌, ◌<◌, ◌≤◌, ◌∙◌, refl, arith}
 use Rattle.dissect.specs.DartMaps.{DartMap, IsCut, Grows, same, further}
-use Rattle.dissect.specs.Frames.{IsFramed, IsEnclosed}
+use Rattle.dissect.specs.Surrounds.{IsSurrounded, IsEnclosed}
 
 -- a dart that was there keeps its head and its direction
 pub record Keeps (w new : DartMap) : Type 0 where
@@ -35,16 +35,16 @@ grows_keeps w _ same = record {
 }
 grows_keeps w new (further mid _ d e way grows cut) = keeps_on w mid new (grows_keeps w mid grows) (cut_keeps mid d e way new cut)
 
-pub frame_keeps : (w new : DartMap) → IsFramed w new → Keeps w new
-frame_keeps w new frame = record {
-  more = omega (arith, frame.darts);
-  more_vertices = omega (arith, frame.vertices);
-  head = frame.head_old;
-  direction = frame.direction_old;
+pub surround_keeps : (w new : DartMap) → IsSurrounded w new → Keeps w new
+surround_keeps w new surround = record {
+  more = omega (arith, surround.darts);
+  more_vertices = omega (arith, surround.vertices);
+  head = surround.head_old;
+  direction = surround.direction_old;
 }
 
 pub enclosed_keeps : (w : DartMap) (outside : ℕ) (new : DartMap) → IsEnclosed w outside new → Keeps w new
 enclosed_keeps w outside new e =
     keeps_on w e.joined new
-    (keeps_on w e.framed e.joined (frame_keeps w e.framed e.frame) (cut_keeps e.framed e.right (w.darts + e.side) e.way e.joined e.join))
+    (keeps_on w e.surrounded e.joined (surround_keeps w e.surrounded e.surround) (cut_keeps e.surrounded e.right (w.darts + e.side) e.way e.joined e.join))
     (grows_keeps e.joined new e.grows)

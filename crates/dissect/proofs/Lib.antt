@@ -28,14 +28,14 @@ pub mod Lengthening
 pub mod Splits
 pub mod Bends
 pub mod Cuts
-pub mod FramedPaths
+pub mod SurroundedPaths
 pub mod StraightPaths
 pub mod Backwards
 pub mod Chains
 pub mod Apart
 pub mod Sides
 pub mod Orbits
-pub mod FrameWriting
+pub mod SurroundWriting
 pub mod Sounding
 pub mod Turns
 pub mod Walking

@@ -9,36 +9,36 @@ use Rattle.dissect.proofs.Rings.{Clear, trail_front, trail_rest, trail_append, l
 use Rattle.dissect.proofs.Waiting.{clear_of, total-append}
 use Rattle.dissect.proofs.Listing.{in_append, in_left, in_right, in_below, below_append, below_left, below_right, below_more, distinct_append, distinct_left, distinct_right, distinct_apart}
 use Rattle.dissect.specs.Listed.{AreListed, AreKeptCorners, detour}
-use Rattle.dissect.proofs.Sounding.{by_side, frame_linked}
+use Rattle.dissect.proofs.Sounding.{by_side, surround_linked}
 use Rattle.dissect.proofs.Tracing.{joined_more, rings_more}
-use Rattle.dissect.proofs.JoinedFaces.{frame_ring, IsJoining, corner_of, middle_of, cutting_of, old_angle, right_angle, inner_angle, new_angles, inside_run, outside_four, other_rings, totals_same}
+use Rattle.dissect.proofs.JoinedFaces.{surround_ring, IsJoining, corner_of, middle_of, cutting_of, old_angle, right_angle, inner_angle, new_angles, inside_run, outside_four, other_rings, totals_same}
 
 -- the way from the right turn along the cut, round the inside of the rectangle, and back
-pub detour_trail : (w framed : DartMap) (right side way : ℕ) (new : DartMap) → IsJoining w framed right side way new →
+pub detour_trail : (w surrounded : DartMap) (right side way : ℕ) (new : DartMap) → IsJoining w surrounded right side way new →
     Trail new right (detour w.darts side)
-detour_trail w framed right side way new j =
+detour_trail w surrounded right side way new j =
     let n : ℕ = w.darts in
     let s = j.join.split in
     let t = j.join.chord in
     let middle = j.join.middle in
     let c : ℕ = corner_of w side in
-    let d8 : framed.darts ≡ n + 8 = j.frame.darts in
+    let d8 : surrounded.darts ≡ n + 8 = j.surround.darts in
     let d10 : middle.darts ≡ n + 10 = omega (arith, d8, s.darts) in
     let d11 : middle.darts + 1 ≡ n + 11 = omega (arith, d10) in
-    let angles = new_angles w framed right side way new j in
-    let inner : (k : ℕ) → k < 4 → new.angle (n + k) ≡ 1 = inner_angle w framed right side way new j in
-    let c_in : c < framed.darts = omega (arith, d8) in
+    let angles = new_angles w surrounded right side way new j in
+    let inner : (k : ℕ) → k < 4 → new.angle (n + k) ≡ 1 = inner_angle w surrounded right side way new j in
+    let c_in : c < surrounded.darts = omega (arith, d8) in
     let c_right : c ≢ right = λ h. omega (arith, h, j.right_in) in
     let e_in : n + side < middle.darts = omega (arith, d10, j.side_in) in
     let e_corner : IsCorner middle (n + side) =
-    λ h. omega (arith, h, s.angle_old (n + side) j.join.e_in, j.frame.angle_inner side j.side_in) in
+    λ h. omega (arith, h, s.angle_old (n + side) j.join.e_in, j.surround.angle_inner side j.side_in) in
     let along : new.next right ≡ n + 10 = t.next_d ∙ d10 in
     let to_side : Runs new middle.darts (n + side) =
-    chord_run_there middle right c framed.darts way new t (middle_of w framed right side way new j) (cutting_of w framed right side way new j)
+    chord_run_there middle right c surrounded.darts way new t (middle_of w surrounded right side way new j) (cutting_of w surrounded right side way new j)
     0 (n + side) (λ h. omega (arith, h, j.right_in)) (s.next_first, e_corner) in
     let to_f : new.next c ≡ n + 8 =
     t.next_other c (omega (arith, s.darts, c_in)) c_right (λ h. omega (arith, h, d8))
-    ∙ (cutting_of w framed right side way new j).behind ∙ d8 in
+    ∙ (cutting_of w surrounded right side way new j).behind ∙ d8 in
     let to_y : new.next (n + 8) ≡ n + 11 = ap new.next (sym d8) ∙ t.next_f ∙ d11 in
     let run0 : Runs new right (n + 10) =
     run_direct new right (n + 10) along (λ h. omega (arith, h, angles.2)) in
@@ -58,8 +58,8 @@ detour_trail w framed right side way new j =
   where
     round : (k m : ℕ) → k < 4 → m ≡ (k + 1) % 4 → k ≢ (side + 3) % 4 → Runs new (w.darts + k) (w.darts + m)
     round k m l e ne =
-        inside_run w framed right side way new j k m (omega arith) (omega (arith, e)) (j.frame.next_inner k l ∙ ap (λ (i : ℕ). w.darts + i) (sym e))
-        (λ h. omega (arith, h, j.frame.angle_inner m (omega (arith, e)))) (λ h. omega (arith, h, j.frame.angle_inner k l)) ne
+        inside_run w surrounded right side way new j k m (omega arith) (omega (arith, e)) (j.surround.next_inner k l ∙ ap (λ (i : ℕ). w.darts + i) (sym e))
+        (λ h. omega (arith, h, j.surround.angle_inner m (omega (arith, e)))) (λ h. omega (arith, h, j.surround.angle_inner k l)) ne
 
 -- what the join makes of the trail round the outer face
 pub record IsRound (w : DartMap) (right : ℕ) (new : DartMap) (b : ℕ) (bs : List ℕ) : Type 0 where
@@ -68,9 +68,9 @@ pub record IsRound (w : DartMap) (right : ℕ) (new : DartMap) (b : ℕ) (bs : L
   pub to_right : IsCorner new right → Runs new (last_of b bs) right
   pub straight_on : new.angle right ≡ 2 → Runs new (last_of b bs) (w.darts + 10)
 
-pub outer_round : (w framed : DartMap) (right side way : ℕ) (new : DartMap) → IsJoining w framed right side way new → (b : ℕ) (bs : List ℕ) →
+pub outer_round : (w surrounded : DartMap) (right side way : ℕ) (new : DartMap) → IsJoining w surrounded right side way new → (b : ℕ) (bs : List ℕ) →
     Ring w (b ∷ (bs ++ (right ∷ []))) → Below w.darts (b ∷ bs) → (In right (b ∷ bs) → ⊥) → IsRound w right new b bs
-outer_round w framed right side way new j b bs ring below out =
+outer_round w surrounded right side way new j b bs ring below out =
     let n : ℕ = w.darts in
     let s = j.join.split in
     let t = j.join.chord in
@@ -79,13 +79,13 @@ outer_round w framed right side way new j b bs ring below out =
     let cs : List ℕ = b ∷ (bs ++ (right ∷ [])) in
     let end_is : last_of b (bs ++ (right ∷ [])) ≡ right = last_of-append b bs (right ∷ []) in
     let end_in : last_of 0 cs < n = subst (λ (z : ℕ). z < n) (sym end_is) j.right_in in
-    let d8 : framed.darts ≡ n + 8 = j.frame.darts in
+    let d8 : surrounded.darts ≡ n + 8 = j.surround.darts in
     let d10 : middle.darts ≡ n + 10 = omega (arith, d8, s.darts) in
     let d11 : middle.darts + 1 ≡ n + 11 = omega (arith, d10) in
-    let in_middle : Ring middle cs = split_ring framed (n + side) (framed.direction (n + side)) middle s
-    (frame_linked w framed j.frame j.linked) j.join.e_in cs (omega (arith, d8, end_in)) (frame_ring w framed j.frame j.linked cs end_in ring) in
-    let linked = middle_of w framed right side way new j in
-    let cutting = cutting_of w framed right side way new j in
+    let in_middle : Ring middle cs = split_ring surrounded (n + side) (surrounded.direction (n + side)) middle s
+    (surround_linked w surrounded j.surround j.linked) j.join.e_in cs (omega (arith, d8, end_in)) (surround_ring w surrounded j.surround j.linked cs end_in ring) in
+    let linked = middle_of w surrounded right side way new j in
+    let cutting = cutting_of w surrounded right side way new j in
     let from_right : Runs middle right b = subst (λ (z : ℕ). Runs middle z b) end_is in_middle.0 in
     let clear : Clear middle.darts right c (b ∷ bs) = clear_of n middle.darts right c (b ∷ bs) (omega (arith, d10)) below out
     (λ h. omega (arith, in_below n c (b ∷ bs) below h)) in
@@ -93,25 +93,25 @@ outer_round w framed right side way new j b bs ring below out =
     let trail : Trail middle b bs = trail_front middle b bs (right ∷ []) in_middle.1 in
     let last : Runs middle (last_of b bs) right = (trail_rest middle b bs (right ∷ []) in_middle.1).0 in
     let end = clear_last middle.darts right c b bs clear.0 clear.1 clear.2 clear.3 in
-    let both = chord_run_to middle right c framed.darts way new t linked cutting last.places (last_of b bs) end.0 end.1 end.2
-    (corner_not_f middle right c framed.darts (last_of b bs) cutting (trail_corner middle b bs b_corner trail)) last.run in
+    let both = chord_run_to middle right c surrounded.darts way new t linked cutting last.places (last_of b bs) end.0 end.1 end.2
+    (corner_not_f middle right c surrounded.darts (last_of b bs) cutting (trail_corner middle b bs b_corner trail)) last.run in
     record {
       back = subst (λ (z : ℕ). Runs new z b) d11
-          (chord_run_back middle right c framed.darts way new t linked cutting from_right.places b clear.1
+          (chord_run_back middle right c surrounded.darts way new t linked cutting from_right.places b clear.1
           (λ h. omega (arith, h, j.right_in)) from_right.run);
-      trail = chord_trail middle right c framed.darts way new t linked cutting b bs clear.0 b_corner clear.1 clear.2 clear.3 trail;
+      trail = chord_trail middle right c surrounded.darts way new t linked cutting b bs clear.0 b_corner clear.1 clear.2 clear.3 trail;
       to_right = both.0;
       straight_on = λ straight. subst (λ (z : ℕ). Runs new (last_of b bs) z) d10 (both.1 straight);
     }
 
 -- the ring of the joined face
-pub joined_ring : (w framed : DartMap) (right side way : ℕ) (new : DartMap) → IsJoining w framed right side way new → (b : ℕ) (bs : List ℕ) →
+pub joined_ring : (w surrounded : DartMap) (right side way : ℕ) (new : DartMap) → IsJoining w surrounded right side way new → (b : ℕ) (bs : List ℕ) →
     IsRound w right new b bs → (kept : List ℕ) → (new.angle right ≡ 2 → kept ≡ b ∷ bs) → (IsCorner new right → kept ≡ (b ∷ bs) ++ (right ∷ [])) →
     Ring new (kept ++ detour w.darts side)
-joined_ring w framed right side way new j b bs round kept straight turning =
+joined_ring w surrounded right side way new j b bs round kept straight turning =
     let n : ℕ = w.darts in
     let tail : List ℕ = detour n side in
-    let go = detour_trail w framed right side way new j in
+    let go = detour_trail w surrounded right side way new j in
     elim (cases_eq (new.angle right) 2) [
       | inl e ↦
           let all : Trail new (n + 11) ((b ∷ bs) ++ tail) =
@@ -127,34 +127,34 @@ joined_ring w framed right side way new j b bs round kept straight turning =
           (subst (Ring new) (sym (append_assoc (b ∷ bs) (right ∷ []) tail)) ring)
     ]
 
-pub detour_total : (w framed : DartMap) (right side way : ℕ) (new : DartMap) → IsJoining w framed right side way new →
+pub detour_total : (w surrounded : DartMap) (right side way : ℕ) (new : DartMap) → IsJoining w surrounded right side way new →
     total (map new.angle (detour w.darts side)) ≡ 7
-detour_total w framed right side way new j =
-    let angles = new_angles w framed right side way new j in
+detour_total w surrounded right side way new j =
+    let angles = new_angles w surrounded right side way new j in
     omega (
       arith,
       angles.0,
       angles.2,
       angles.3,
-      inner_angle w framed right side way new j side j.side_in,
-      inner_angle w framed right side way new j ((side + 1) % 4) (omega arith),
-      inner_angle w framed right side way new j ((side + 2) % 4) (omega arith),
-      inner_angle w framed right side way new j ((side + 3) % 4) (omega arith),
+      inner_angle w surrounded right side way new j side j.side_in,
+      inner_angle w surrounded right side way new j ((side + 1) % 4) (omega arith),
+      inner_angle w surrounded right side way new j ((side + 2) % 4) (omega arith),
+      inner_angle w surrounded right side way new j ((side + 3) % 4) (omega arith),
     )
 
 -- the joined face turns once to the left
-pub joined_once : (w framed : DartMap) (right side way : ℕ) (new : DartMap) → IsJoining w framed right side way new → (front : List ℕ) →
+pub joined_once : (w surrounded : DartMap) (right side way : ℕ) (new : DartMap) → IsJoining w surrounded right side way new → (front : List ℕ) →
     Below w.darts front → (In right front → ⊥) →
     total (map w.angle (front ++ (right ∷ []))) ≡ 2 * length (front ++ (right ∷ [])) + 4 →
     (kept : List ℕ) → (new.angle right ≡ 2 → kept ≡ front) → (IsCorner new right → kept ≡ front ++ (right ∷ [])) →
     TurnsOnce new (kept ++ detour w.darts side)
-joined_once w framed right side way new j front below out back kept straight turning =
+joined_once w surrounded right side way new j front below out back kept straight turning =
     let tail : List ℕ = detour w.darts side in
-    let same = totals_same w framed right side way new j front below out in
-    let less = right_angle w framed right side way new j in
+    let same = totals_same w surrounded right side way new j front below out in
+    let less = right_angle w surrounded right side way new j in
     let old = total-append w.angle front (right ∷ []) in
     let long = length-append front (right ∷ []) in
-    let seven = detour_total w framed right side way new j in
+    let seven = detour_total w surrounded right side way new j in
     elim (cases_eq (new.angle right) 2) [
       | inl e ↦ subst (λ (xs : List ℕ). TurnsOnce new (xs ++ tail)) (sym (straight e))
           (omega (arith, total-append new.angle front tail, length-append front tail, same, less, old, long, seven, back, e))
@@ -241,12 +241,12 @@ below_all n [] all = tt
 below_all n (x ∷ xs) all = (all x (inl refl), below_all n xs (λ a h. all a (inr h)))
 
 -- after the join, each corner is of a face that waits, or on the outside of the rectangle
-pub join_settles : (w framed : DartMap) (right side way : ℕ) (new : DartMap) → IsJoining w framed right side way new → (o : ℕ) → o < 4 →
+pub join_settles : (w surrounded : DartMap) (right side way : ℕ) (new : DartMap) → IsJoining w surrounded right side way new → (o : ℕ) → o < 4 →
     (inner : List (List ℕ)) (outer front kept : List ℕ) → outer ≡ front ++ (right ∷ []) →
     ((a : ℕ) → a < w.darts → IsCorner w a → In a (joined inner ++ outer)) → AreKeptCorners w right front kept →
     (a : ℕ) → a < w.darts + 12 → IsCorner new a →
     In a (joined inner ++ (kept ++ detour w.darts side)) ⊎ (IsRectangle new 1 a ⊎ IsOutside new (w.darts + 4 + o) a)
-join_settles w framed right side way new j o o_in inner outer front kept ends all is a l corner =
+join_settles w surrounded right side way new j o o_in inner outer front kept ends all is a l corner =
     let n : ℕ = w.darts in
     let Settled : ℕ → Type 0 = λ a. IsCorner new a →
     In a (joined inner ++ (kept ++ detour n side)) ⊎ (IsRectangle new 1 a ⊎ IsOutside new (n + 4 + o) a) in
@@ -254,14 +254,14 @@ join_settles w framed right side way new j o o_in inner outer front kept ends al
     λ a h. in_right a (joined inner) (kept ++ detour n side) (in_left a kept (detour n side) h) in
     let in_detour : (a : ℕ) → In a (detour n side) → In a (joined inner ++ (kept ++ detour n side)) =
     λ a h. in_right a (joined inner) (kept ++ detour n side) (in_right a kept (detour n side) h) in
-    let less = right_angle w framed right side way new j in
-    let angles = new_angles w framed right side way new j in
+    let less = right_angle w surrounded right side way new j in
+    let angles = new_angles w surrounded right side way new j in
     let old : (a : ℕ) → a < n → Settled a = λ a l corner.
     elim (cases_eq a right) [
       | inl e ↦
           let turns : w.angle right ≢ 3 = λ h. corner (ap new.angle e ∙ omega (arith, less, h)) in
           inl (in_kept a (subst (In a) (sym (is.turning turns)) (in_right a front (right ∷ []) (inl e))))
-      | inr ne ↦ elim (in_append a (joined inner) outer (all a l (λ h. corner (old_angle w framed right side way new j a l ne ∙ h)))) [
+      | inr ne ↦ elim (in_append a (joined inner) outer (all a l (λ h. corner (old_angle w surrounded right side way new j a l ne ∙ h)))) [
         | inl left ↦ inl (in_left a (joined inner) (kept ++ detour n side) left)
         | inr outside ↦ elim (in_append a front (right ∷ []) (subst (In a) ends outside)) [
           | inl here ↦ inl (in_kept a (kept_front w right a front kept is here))
@@ -269,12 +269,12 @@ join_settles w framed right side way new j o o_in inner outer front kept ends al
         ]
       ]
     ] in
-    let framed_part : (a : ℕ) → a < n + 8 → Settled a =
+    let surrounded_part : (a : ℕ) → a < n + 8 → Settled a =
     by_side n Settled old
     (λ k l corner. inl (in_detour (n + k) (detour_inner n side k j.side_in l)))
-    (λ k l corner. inr (inr (outside_four w framed right side way new j o o_in k l))) in
+    (λ k l corner. inr (inr (outside_four w surrounded right side way new j o o_in k l))) in
     elim (cases_lt a (n + 8)) [
-      | inl less ↦ framed_part a less corner
+      | inl less ↦ surrounded_part a less corner
       | inr more ↦ elim (cases_eq a (n + 8)) [
         | inl e ↦ inl (in_detour a (inr (inr (inr (inr (inr (inl e)))))))
         | inr n8 ↦ elim (cases_eq a (n + 9)) [
@@ -288,25 +288,25 @@ join_settles w framed right side way new j o o_in inner outer front kept ends al
     ]
 
 -- the outer face has another corner before `right`, so the joined face has its ring
-front_ring : (w framed : DartMap) (right side way : ℕ) (new : DartMap) → IsJoining w framed right side way new → (front kept : List ℕ) →
+front_ring : (w surrounded : DartMap) (right side way : ℕ) (new : DartMap) → IsJoining w surrounded right side way new → (front kept : List ℕ) →
     Ring w (front ++ (right ∷ [])) → Below w.darts front → (In right front → ⊥) → w.angle right ≤ 4 →
     total (map w.angle (front ++ (right ∷ []))) ≡ 2 * length (front ++ (right ∷ [])) + 4 →
     (new.angle right ≡ 2 → kept ≡ front) → (IsCorner new right → kept ≡ front ++ (right ∷ [])) →
     Ring new (kept ++ detour w.darts side)
-front_ring w framed right side way new j [] kept ring below out most back straight turning = absurd (omega (arith, most, back))
-front_ring w framed right side way new j (b ∷ bs) kept ring below out most back straight turning =
-    joined_ring w framed right side way new j b bs (outer_round w framed right side way new j b bs ring below out) kept straight turning
+front_ring w surrounded right side way new j [] kept ring below out most back straight turning = absurd (omega (arith, most, back))
+front_ring w surrounded right side way new j (b ∷ bs) kept ring below out most back straight turning =
+    joined_ring w surrounded right side way new j b bs (outer_round w surrounded right side way new j b bs ring below out) kept straight turning
 
 -- all faces wait to be cut
-pub join_waits : (w framed : DartMap) (right side way : ℕ) (new : DartMap) → IsJoining w framed right side way new → (o : ℕ) → o < 4 →
+pub join_waits : (w surrounded : DartMap) (right side way : ℕ) (new : DartMap) → IsJoining w surrounded right side way new → (o : ℕ) → o < 4 →
     (inner : List (List ℕ))
     (outer kept : List ℕ) → (listed : AreListed w right inner outer) → w.angle right ≤ 4 → AreKeptCorners w right listed.front kept →
     AreWaiting new (w.darts + 4 + o) (inner ++ ((kept ++ detour w.darts side) ∷ []))
-join_waits w framed right side way new j o o_in inner outer kept listed most is =
+join_waits w surrounded right side way new j o o_in inner outer kept listed most is =
     let n : ℕ = w.darts in
     let front : List ℕ = listed.front in
     let big : List ℕ = kept ++ detour n side in
-    let count : new.darts ≡ n + 12 = omega (arith, j.join.chord.darts, j.join.split.darts, j.frame.darts) in
+    let count : new.darts ≡ n + 12 = omega (arith, j.join.chord.darts, j.join.split.darts, j.surround.darts) in
     let all_distinct : Distinct (joined inner ++ (front ++ (right ∷ []))) =
     subst (λ (xs : List ℕ). Distinct (joined inner ++ xs)) listed.ends listed.distinct in
     let all_below : Below n (joined inner ++ (front ++ (right ∷ []))) =
@@ -317,7 +317,7 @@ join_waits w framed right side way new j o o_in inner outer kept listed most is 
     let out_inner : In right (joined inner) → ⊥ =
     λ h. distinct_apart right (joined inner) (front ++ (right ∷ [])) all_distinct h (in_right right front (right ∷ []) (inl refl)) in
     let kept_below : Below n kept = below_all n kept (λ a h. in_below n a (front ++ (right ∷ [])) outer_below (kept_sub w right a front kept is h)) in
-    let less = right_angle w framed right side way new j in
+    let less = right_angle w surrounded right side way new j in
     let straight : new.angle right ≡ 2 → kept ≡ front = λ h. is.straight (omega (arith, less, h)) in
     let turning : IsCorner new right → kept ≡ front ++ (right ∷ []) = λ h. is.turning (λ e. h (omega (arith, less, e))) in
     let front_below : Below n front = below_left n front (right ∷ []) outer_below in
@@ -327,9 +327,9 @@ join_waits w framed right side way new j o o_in inner outer kept listed most is 
     let inner_below : Below n (joined inner) = below_left n (joined inner) (front ++ (right ∷ [])) all_below in
     record {
       rings = rings_more new inner big
-          (other_rings w framed right side way new j inner inner_below out_inner listed.rings)
-          (front_ring w framed right side way new j front kept outer_ring front_below out_front most back straight turning)
-          (joined_once w framed right side way new j front front_below out_front back kept straight turning);
+          (other_rings w surrounded right side way new j inner inner_below out_inner listed.rings)
+          (front_ring w surrounded right side way new j front kept outer_ring front_below out_front most back straight turning)
+          (joined_once w surrounded right side way new j front front_below out_front back kept straight turning);
       distinct = subst Distinct (sym (joined_more inner big))
           (distinct_append (joined inner) big (distinct_left (joined inner) (front ++ (right ∷ [])) all_distinct)
           (distinct_append kept (detour n side) (kept_distinct w right front kept is outer_distinct) (detour_distinct n side j.side_in)
@@ -343,8 +343,8 @@ join_waits w framed right side way new j o o_in inner outer kept listed most is 
           (below_append new.darts kept (detour n side) (below_more n new.darts kept (omega (arith, count)) kept_below)
           (below_more (n + 12) new.darts (detour n side) (omega (arith, count)) (detour_below n side j.side_in))));
       inside = omega (arith, count);
-      outside = (outside_four w framed right side way new j o o_in o o_in).four;
+      outside = (outside_four w surrounded right side way new j o o_in o o_in).four;
       settled = λ a l corner.
           subst (λ (xs : List ℕ). In a xs ⊎ (IsRectangle new 1 a ⊎ IsOutside new (n + 4 + o) a)) (sym (joined_more inner big))
-          (join_settles w framed right side way new j o o_in inner outer front kept listed.ends listed.all is a (omega (arith, count, l)) corner);
+          (join_settles w surrounded right side way new j o o_in inner outer front kept listed.ends listed.all is a (omega (arith, count, l)) corner);
     }

@@ -3,13 +3,13 @@ use Rattle.std.proofs.Common.{◌≡◌, ℕ, ◌+◌, ◌<◌, ◌∙◌, [], �
 use Rattle.dissect.specs.DartMaps.{DartMap, IsLinked}
 use Rattle.dissect.specs.Faces.{In, AreWaiting}
 use Rattle.dissect.specs.Paths.{HasPath}
-use Rattle.dissect.specs.Frames.{IsEnclosed}
+use Rattle.dissect.specs.Surrounds.{IsEnclosed}
 use Rattle.dissect.proofs.Splitting.{split_linked}
 use Rattle.dissect.proofs.Lengthening.{path_doubled, longer_end}
 use Rattle.dissect.proofs.Splits.{split_doubled}
 use Rattle.dissect.proofs.StayingJoined.{cut_linked}
 use Rattle.dissect.proofs.Cuts.{AreQuarters, cut_quarters, chord_beside}
-use Rattle.dissect.proofs.FramedPaths.{framed_linked, framed_quarters}
+use Rattle.dissect.proofs.SurroundedPaths.{surrounded_linked, surrounded_quarters}
 use Rattle.dissect.proofs.Sides.{HasRow, beside_row, cut_chain, grows_chain}
 use Rattle.dissect.specs.Rectangle.{HasRectangle, IsJoinedAt}
 use Rattle.dissect.proofs.Keeping.{Keeps, cut_keeps, grows_keeps, keeps_on}
@@ -21,23 +21,23 @@ module _ (w : DartMap) (outside : ℕ) (new : DartMap) (linked : IsLinked w) (fo
   abbrev side_dart : ℕ
   side_dart = w.darts + e.side
 
-  linked_framed : IsLinked e.framed
-  linked_framed = framed_linked w e.framed linked e.frame
+  linked_surrounded : IsLinked e.surrounded
+  linked_surrounded = surrounded_linked w e.surrounded linked e.surround
 
-  four_framed : AreQuarters e.framed
-  four_framed = framed_quarters w e.framed four e.frame
+  four_surrounded : AreQuarters e.surrounded
+  four_surrounded = surrounded_quarters w e.surrounded four e.surround
 
   linked_joined : IsLinked e.joined
-  linked_joined = cut_linked e.framed e.right side_dart e.way e.joined linked_framed e.join
+  linked_joined = cut_linked e.surrounded e.right side_dart e.way e.joined linked_surrounded e.join
 
   four_joined : AreQuarters e.joined
-  four_joined = cut_quarters e.framed e.right side_dart e.way e.joined four_framed e.join
+  four_joined = cut_quarters e.surrounded e.right side_dart e.way e.joined four_surrounded e.join
 
-  -- a chain of the framed map is one of the last
-  framed_chain : (end reverse_dart held : ℕ) → HasRow e.framed end reverse_dart held [] → HasRow new end reverse_dart held []
-  framed_chain end reverse_dart held chain =
+  -- a chain of the surrounded map is one of the last
+  surrounded_chain : (end reverse_dart held : ℕ) → HasRow e.surrounded end reverse_dart held [] → HasRow new end reverse_dart held []
+  surrounded_chain end reverse_dart held chain =
       grows_chain e.joined new end reverse_dart held [] linked_joined four_joined e.grows
-      (cut_chain e.framed e.right side_dart e.way e.joined end reverse_dart held [] linked_framed (four_framed side_dart e.join.e_in) e.join chain)
+      (cut_chain e.surrounded e.right side_dart e.way e.joined end reverse_dart held [] linked_surrounded (four_surrounded side_dart e.join.e_in) e.join chain)
 
   -- and so is a chain of the joined map
   joined_chain : (end reverse_dart held : ℕ) → HasRow e.joined end reverse_dart held [] → HasRow new end reverse_dart held []
@@ -46,29 +46,29 @@ module _ (w : DartMap) (outside : ℕ) (new : DartMap) (linked : IsLinked w) (fo
   keeps_joined : Keeps e.joined new
   keeps_joined = grows_keeps e.joined new e.grows
 
-  keeps_framed : Keeps e.framed new
-  keeps_framed = keeps_on e.framed e.joined new (cut_keeps e.framed e.right side_dart e.way e.joined e.join) keeps_joined
+  keeps_surrounded : Keeps e.surrounded new
+  keeps_surrounded = keeps_on e.surrounded e.joined new (cut_keeps e.surrounded e.right side_dart e.way e.joined e.join) keeps_joined
 
-  count_framed : e.framed.darts ≡ n + 8
-  count_framed = e.frame.darts
+  count_surrounded : e.surrounded.darts ≡ n + 8
+  count_surrounded = e.surround.darts
 
   count_middle : e.join.middle.darts ≡ n + 10
-  count_middle = omega (arith, e.join.split.darts, e.frame.darts)
+  count_middle = omega (arith, e.join.split.darts, e.surround.darts)
 
   inner_row : (k : ℕ) → k < 4 → HasPath new (n + k) (n + 4 + k) []
   inner_row k l =
-      (framed_chain (n + k) (n + 4 + k) (n + k) (record {
+      (surrounded_chain (n + k) (n + 4 + k) (n + k) (record {
         path = record {
           first = n + k;
           rest = [];
           path = record {
-            first_in = omega (arith, e.frame.darts);
+            first_in = omega (arith, e.surround.darts);
             rest_in = tt;
-            start = e.frame.before_inner k l;
+            start = e.surround.before_inner k l;
             follows = tt;
             ends = refl;
           };
-          back = e.frame.reverse_dart_inner k l;
+          back = e.surround.reverse_dart_inner k l;
           turns = refl;
         };
         holds = inl refl;
@@ -76,18 +76,18 @@ module _ (w : DartMap) (outside : ℕ) (new : DartMap) (linked : IsLinked w) (fo
 
   outer_row : (k : ℕ) → k < 4 → HasPath new (n + 4 + k) (n + k) []
   outer_row k l =
-      (framed_chain (n + 4 + k) (n + k) (n + 4 + k) (record {
+      (surrounded_chain (n + 4 + k) (n + k) (n + 4 + k) (record {
         path = record {
           first = n + 4 + k;
           rest = [];
           path = record {
-            first_in = omega (arith, e.frame.darts);
+            first_in = omega (arith, e.surround.darts);
             rest_in = tt;
-            start = e.frame.before_outer k l;
+            start = e.surround.before_outer k l;
             follows = tt;
             ends = refl;
           };
-          back = e.frame.reverse_dart_outer k l;
+          back = e.surround.reverse_dart_outer k l;
           turns = refl;
         };
         holds = inl refl;
@@ -97,9 +97,9 @@ module _ (w : DartMap) (outside : ℕ) (new : DartMap) (linked : IsLinked w) (fo
   pub rectangle : ((k : ℕ) → k < 4 → AreWaiting new (n + 4 + k) []) → HasRectangle w new
   rectangle done = record {
     sides = λ k l. record { there = inner_row k l; again = outer_row k l };
-    directions = λ k l. keeps_framed.direction (n + k) (omega (arith, e.frame.darts)) ∙ e.frame.direction_inner k l;
-    inside = λ k l. keeps_framed.head (n + k) (omega (arith, e.frame.darts)) ∙ e.frame.head_inner k l;
-    corners = λ k l. keeps_framed.head (n + 4 + k) (omega (arith, e.frame.darts)) ∙ e.frame.head_outer k l;
+    directions = λ k l. keeps_surrounded.direction (n + k) (omega (arith, e.surround.darts)) ∙ e.surround.direction_inner k l;
+    inside = λ k l. keeps_surrounded.head (n + k) (omega (arith, e.surround.darts)) ∙ e.surround.head_inner k l;
+    corners = λ k l. keeps_surrounded.head (n + 4 + k) (omega (arith, e.surround.darts)) ∙ e.surround.head_outer k l;
     outside = λ k l.
         let at = done k l in
         let first : AreWaiting new (n + 4) [] =
@@ -151,25 +151,25 @@ module _ (w : DartMap) (outside : ℕ) (new : DartMap) (linked : IsLinked w) (fo
       }
 
   -- the side that was cut goes through the end of the join
-  side_row : HasRow new side_dart (n + 4 + e.side) e.framed.darts []
+  side_row : HasRow new side_dart (n + 4 + e.side) e.surrounded.darts []
   side_row =
-      joined_chain side_dart (n + 4 + e.side) e.framed.darts
-      (beside_row e.join.middle e.joined side_dart (n + 4 + e.side) e.framed.darts []
-      (chord_beside e.join.middle e.right e.framed.darts e.way e.joined
-      (split_linked e.framed side_dart (e.framed.direction side_dart) 2 e.join.middle linked_framed e.join.e_in e.join.split) e.join.chord)
+      joined_chain side_dart (n + 4 + e.side) e.surrounded.darts
+      (beside_row e.join.middle e.joined side_dart (n + 4 + e.side) e.surrounded.darts []
+      (chord_beside e.join.middle e.right e.surrounded.darts e.way e.joined
+      (split_linked e.surrounded side_dart (e.surrounded.direction side_dart) 2 e.join.middle linked_surrounded e.join.e_in e.join.split) e.join.chord)
       (record {
-        path = path_doubled e.framed e.join.middle side_dart (n + 4 + e.side) side_dart e.framed.darts 0 [] []
+        path = path_doubled e.surrounded e.join.middle side_dart (n + 4 + e.side) side_dart e.surrounded.darts 0 [] []
             (record {
               first_in = e.join.e_in;
               rest_in = tt;
-              start = e.frame.before_inner e.side e.side_in;
+              start = e.surround.before_inner e.side e.side_in;
               follows = tt;
               ends = refl;
             })
-            (e.frame.reverse_dart_inner e.side e.side_in)
-            (split_doubled e.framed side_dart (e.framed.direction side_dart) 2 0 e.join.middle linked_framed e.join.e_in
-            (four_framed side_dart e.join.e_in) (omega arith) refl e.join.split)
-            (longer_end e.framed e.join.middle side_dart);
+            (e.surround.reverse_dart_inner e.side e.side_in)
+            (split_doubled e.surrounded side_dart (e.surrounded.direction side_dart) 2 0 e.join.middle linked_surrounded e.join.e_in
+            (four_surrounded side_dart e.join.e_in) (omega arith) refl e.join.split)
+            (longer_end e.surrounded e.join.middle side_dart);
         holds = inl refl;
       }))
 
@@ -182,17 +182,17 @@ module _ (w : DartMap) (outside : ℕ) (new : DartMap) (linked : IsLinked w) (fo
       let there_in : n + 10 < e.joined.darts = omega (arith, e.join.chord.darts, count_middle) in
       let back_in : n + 11 < e.joined.darts = omega (arith, e.join.chord.darts, count_middle) in
       let place_in : n + 8 < e.joined.darts = omega (arith, e.join.chord.darts, count_middle) in
-      let right_framed : e.right < e.framed.darts = omega (arith, e.right_in, e.frame.darts) in
+      let right_surrounded : e.right < e.surrounded.darts = omega (arith, e.right_in, e.surround.darts) in
       let way : new.direction (n + 10) ≡ e.way =
       keeps_joined.direction (n + 10) there_in ∙ ap e.joined.direction (sym first) ∙ e.join.chord.direction_there in
       let right_way : new.direction e.right ≡ w.direction e.right =
-      keeps_framed.direction e.right right_framed ∙ e.frame.direction_old e.right e.right_in in
+      keeps_surrounded.direction e.right right_surrounded ∙ e.surround.direction_old e.right e.right_in in
       let middle_way : e.join.middle.direction e.right ≡ w.direction e.right =
-      e.join.split.direction_old e.right right_framed ∙ e.frame.direction_old e.right e.right_in in
+      e.join.split.direction_old e.right right_surrounded ∙ e.surround.direction_old e.right e.right_in in
       let middle_angle : e.join.middle.angle e.right ≡ w.angle e.right =
-      e.join.split.angle_old e.right right_framed ∙ e.frame.angle_old e.right e.right_in in
+      e.join.split.angle_old e.right right_surrounded ∙ e.surround.angle_old e.right e.right_in in
       let right_head : new.head e.right ≡ e.join.middle.head e.right =
-      keeps_framed.head e.right right_framed ∙ sym (e.join.split.head_old e.right right_framed) in
+      keeps_surrounded.head e.right right_surrounded ∙ sym (e.join.split.head_old e.right right_surrounded) in
       record {
         chain = record {
           there = (joined_chain (n + 10) (n + 11) (n + 10) (record { path = join_row; holds = inl refl })).path;
@@ -209,17 +209,17 @@ module _ (w : DartMap) (outside : ℕ) (new : DartMap) (linked : IsLinked w) (fo
           e.join.fits.to_f,
           e.join.split.angle_first,
           e.join.split.direction_first,
-          e.frame.direction_inner e.side e.side_in,
+          e.surround.direction_inner e.side e.side_in,
         );
         to = keeps_joined.head (n + 10) there_in ∙ ap e.joined.head (sym first) ∙ e.join.chord.head_there
-            ∙ ap e.join.middle.head count_framed
+            ∙ ap e.join.middle.head count_surrounded
             ∙ sym (e.join.chord.head_old (n + 8) (omega (arith, count_middle)))
             ∙ sym (keeps_joined.head (n + 8) place_in);
         on_side = record {
           first = side_row.path.first;
           rest = side_row.path.rest;
           path = side_row.path.path;
-          passes = subst (λ (z : ℕ). In z (side_row.path.first ∷ side_row.path.rest)) count_framed side_row.holds;
+          passes = subst (λ (z : ℕ). In z (side_row.path.first ∷ side_row.path.rest)) count_surrounded side_row.holds;
           before_end = λ same. omega (arith, same, e.side_in);
         };
       }

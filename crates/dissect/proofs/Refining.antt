@@ -6,7 +6,7 @@ use Rattle.common.specs.Sums.{sum_below}
 use Rattle.common.proofs.Sums.{sum_below-le}
 use Rattle.dissect.specs.declared.table.TheConstants.{RECTANGLE_ROOM}
 use Rattle.dissect.specs.DartMaps.{DartMap, IsLinked, IsSound, IsCut, Grows, reflex_turns}
-use Rattle.dissect.specs.Frames.{IsFramed, IsEnclosed}
+use Rattle.dissect.specs.Surrounds.{IsSurrounded, IsEnclosed}
 use Rattle.dissect.specs.FaceNumbers.{AreFaceNumbers, HasTurns}
 use Rattle.dissect.specs.Scan.{CanCut, HasRoom}
 use Rattle.dissect.specs.Turning.{total}
@@ -17,8 +17,8 @@ use Rattle.dissect.proofs.Reaching.{cut_reaches, grows_sound, grows_reaches, cut
 use Rattle.dissect.specs.Listed.{AreFlat, AreJoined, AreListed, detour}
 use Rattle.dissect.proofs.Orbits.{distinct_few}
 use Rattle.dissect.proofs.Turns.{listed_sum, turns_reach}
-use Rattle.dissect.proofs.Sounding.{by_side, frame_linked, frame_sound, frame_reflex_turns}
-use Rattle.dissect.proofs.JoinedFaces.{frame_run, IsJoining}
+use Rattle.dissect.proofs.Sounding.{by_side, surround_linked, surround_sound, surround_reflex_turns}
+use Rattle.dissect.proofs.JoinedFaces.{surround_run, IsJoining}
 use Rattle.dissect.proofs.Merging.{join_waits}
 
 take_own : (r s : List ℕ) → take (length r) (r ++ s) ≡ r
@@ -114,10 +114,10 @@ four_reflex_turns w o sound l four =
     at_most true k = omega arith
     at_most false k = omega arith
 
-pub frame_reaches : (w new : DartMap) → IsFramed w new → IsLinked w → ReachesCorners w → ReachesCorners new
-frame_reaches w new s linked reaches = λ a l.
+pub surround_reaches : (w new : DartMap) → IsSurrounded w new → IsLinked w → ReachesCorners w → ReachesCorners new
+surround_reaches w new s linked reaches = λ a l.
     by_side w.darts (λ a. (c : ℕ) × Runs new a c)
-    (λ a l. ((reaches a l).0, frame_run w new s linked (reaches a l).1.places a (reaches a l).0 l (reaches a l).1.run))
+    (λ a l. ((reaches a l).0, surround_run w new s linked (reaches a l).1.places a (reaches a l).0 l (reaches a l).1.run))
     (λ k l. (
       w.darts + (k + 1) % 4,
       run_direct new (w.darts + k) (w.darts + (k + 1) % 4) (s.next_inner k l)
@@ -131,17 +131,17 @@ frame_reaches w new s linked reaches = λ a l.
     a (omega (arith, s.darts, l))
 
 -- the side that the right turn faces can be cut
-pub facing_can : (w framed : DartMap) (right side : ℕ) → IsSound w → IsFramed w framed → right < w.darts → 2 < w.angle right → side < 4 →
-    (side + w.angle right) % 4 ≡ w.direction right → CanCut framed right (w.darts + (side + 3) % 4)
-facing_can w framed right side sound s right_in turn side_in faces =
-    let behind : framed.next (w.darts + (side + 3) % 4) ≡ w.darts + side = omega (arith, s.next_inner ((side + 3) % 4) (omega arith)) in
+pub facing_can : (w surrounded : DartMap) (right side : ℕ) → IsSound w → IsSurrounded w surrounded → right < w.darts → 2 < w.angle right → side < 4 →
+    (side + w.angle right) % 4 ≡ w.direction right → CanCut surrounded right (w.darts + (side + 3) % 4)
+facing_can w surrounded right side sound s right_in turn side_in faces =
+    let behind : surrounded.next (w.darts + (side + 3) % 4) ≡ w.darts + side = omega (arith, s.next_inner ((side + 3) % 4) (omega arith)) in
     record {
       d_in = omega (arith, s.darts, right_in);
       c_in = omega (arith, s.darts);
       right = omega (arith, s.angle_old right right_in, turn);
       faces = omega (
         arith,
-        ap framed.direction behind,
+        ap surrounded.direction behind,
         s.direction_inner side side_in,
         s.angle_old right right_in,
         s.direction_old right right_in,
@@ -150,48 +150,48 @@ facing_can w framed right side sound s right_in turn side_in faces =
     }
 
 -- what the rectangle and the cut make of the map
-pub joining_of : (w framed : DartMap) (right side way : ℕ) (new : DartMap) → IsSound w → IsFramed w framed → right < w.darts → side < 4 →
-    IsCut framed right (framed.next (w.darts + (side + 3) % 4)) way new → IsJoining w framed right side way new
-joining_of w framed right side way new sound s right_in side_in cut =
-    let behind : framed.next (w.darts + (side + 3) % 4) ≡ w.darts + side = omega (arith, s.next_inner ((side + 3) % 4) (omega arith)) in
+pub joining_of : (w surrounded : DartMap) (right side way : ℕ) (new : DartMap) → IsSound w → IsSurrounded w surrounded → right < w.darts → side < 4 →
+    IsCut surrounded right (surrounded.next (w.darts + (side + 3) % 4)) way new → IsJoining w surrounded right side way new
+joining_of w surrounded right side way new sound s right_in side_in cut =
+    let behind : surrounded.next (w.darts + (side + 3) % 4) ≡ w.darts + side = omega (arith, s.next_inner ((side + 3) % 4) (omega arith)) in
     record {
       linked = sound.linked;
-      frame = s;
+      surround = s;
       right_in = right_in;
       side_in = side_in;
-      join = subst (λ (e : ℕ). IsCut framed right e way new) behind cut;
+      join = subst (λ (e : ℕ). IsCut surrounded right e way new) behind cut;
     }
 
-pub join_sound : (w framed : DartMap) (right side way : ℕ) (new : DartMap) → IsSound w → IsJoining w framed right side way new → IsSound new
-join_sound w framed right side way new sound j =
-    cut_sound framed right (w.darts + side) way new (frame_sound w framed j.frame sound) j.join
+pub join_sound : (w surrounded : DartMap) (right side way : ℕ) (new : DartMap) → IsSound w → IsJoining w surrounded right side way new → IsSound new
+join_sound w surrounded right side way new sound j =
+    cut_sound surrounded right (w.darts + side) way new (surround_sound w surrounded j.surround sound) j.join
 
-pub join_room : (w framed : DartMap) (right side way room : ℕ) (new : DartMap) → IsJoining w framed right side way new →
+pub join_room : (w surrounded : DartMap) (right side way room : ℕ) (new : DartMap) → IsJoining w surrounded right side way new →
     w.darts + 4 * reflex_turns w + RECTANGLE_ROOM ≤ room → HasRoom new room
-join_room w framed right side way room new j space =
+join_room w surrounded right side way room new j space =
     omega (
       arith,
-      cut_reflex_turns framed right (w.darts + side) way new j.join,
-      frame_reflex_turns w framed j.frame,
+      cut_reflex_turns surrounded right (w.darts + side) way new j.join,
+      surround_reflex_turns w surrounded j.surround,
       j.join.chord.darts,
       j.join.split.darts,
-      j.frame.darts,
+      j.surround.darts,
       space,
     )
 
-pub join_ready : (w framed : DartMap) (right side way : ℕ) (new : DartMap) → IsSound w → IsJoining w framed right side way new →
+pub join_ready : (w surrounded : DartMap) (right side way : ℕ) (new : DartMap) → IsSound w → IsJoining w surrounded right side way new →
     (inner : List (List ℕ)) (outer corners counts : List ℕ) → (listed : AreListed w right inner outer) →
     AreJoined w right side listed.front inner corners counts → (k : ℕ) → k < 4 → AreReady new (w.darts + 4 + k) corners counts
-join_ready w framed right side way new sound j inner outer corners counts listed made k k_in =
+join_ready w surrounded right side way new sound j inner outer corners counts listed made k k_in =
     flat_ready new (w.darts + 4 + k) corners counts (inner ++ ((made.kept ++ detour w.darts side) ∷ [])) made.flat
-    (join_waits w framed right side way new j k k_in inner outer made.kept listed (sound.meeting.most right j.right_in) made.is_kept)
+    (join_waits w surrounded right side way new j k k_in inner outer made.kept listed (sound.meeting.most right j.right_in) made.is_kept)
 
-pub enclosed_by : (w : DartMap) (outside : ℕ) (framed : DartMap) (right side way : ℕ) (new last : DartMap) →
-    ((label : ℕ → ℕ) → AreFaceNumbers w label → label right ≡ label outside) → IsJoining w framed right side way new → Grows new last →
+pub enclosed_by : (w : DartMap) (outside : ℕ) (surrounded : DartMap) (right side way : ℕ) (new last : DartMap) →
+    ((label : ℕ → ℕ) → AreFaceNumbers w label → label right ≡ label outside) → IsJoining w surrounded right side way new → Grows new last →
     IsEnclosed w outside last
-enclosed_by w outside framed right side way new last same_face j grows = record {
-  framed = framed;
-  frame = j.frame;
+enclosed_by w outside surrounded right side way new last same_face j grows = record {
+  surrounded = surrounded;
+  surround = j.surround;
   joined = new;
   right = right;
   side = side;
@@ -203,22 +203,22 @@ enclosed_by w outside framed right side way new last same_face j grows = record 
   grows = grows;
 }
 
-pub enclosed_reaches : (w framed : DartMap) (right side way : ℕ) (new last : DartMap) (label : ℕ → ℕ) (outer : ℕ) → IsSound w → HasTurns w label outer →
-    IsJoining w framed right side way new → Grows new last → ReachesCorners last
-enclosed_reaches w framed right side way new last label outer sound turns j grows =
-    grows_reaches new last (join_sound w framed right side way new sound j) grows
-    (cut_reaches framed right (w.darts + side) way new (frame_linked w framed j.frame sound.linked) j.join
-    (frame_reaches w framed j.frame sound.linked (turns_reach w label outer sound.linked turns)))
+pub enclosed_reaches : (w surrounded : DartMap) (right side way : ℕ) (new last : DartMap) (label : ℕ → ℕ) (outer : ℕ) → IsSound w → HasTurns w label outer →
+    IsJoining w surrounded right side way new → Grows new last → ReachesCorners last
+enclosed_reaches w surrounded right side way new last label outer sound turns j grows =
+    grows_reaches new last (join_sound w surrounded right side way new sound j) grows
+    (cut_reaches surrounded right (w.darts + side) way new (surround_linked w surrounded j.surround sound.linked) j.join
+    (surround_reaches w surrounded j.surround sound.linked (turns_reach w label outer sound.linked turns)))
 
-pub enclosed_few : (w framed : DartMap) (right side way : ℕ) (new last : DartMap) → IsSound w → IsJoining w framed right side way new → Grows new last →
+pub enclosed_few : (w surrounded : DartMap) (right side way : ℕ) (new last : DartMap) → IsSound w → IsJoining w surrounded right side way new → Grows new last →
     AreWaiting last (w.darts + 4) [] → last.vertices ≤ w.vertices + reflex_turns w + 4
-enclosed_few w framed right side way new last sound j grows done =
-    let last_sound = grows_sound new last (join_sound w framed right side way new sound j) grows in
+enclosed_few w surrounded right side way new last sound j grows done =
+    let last_sound = grows_sound new last (join_sound w surrounded right side way new sound j) grows in
     omega (
       arith,
       grows_vertices new last grows,
-      cut_vertices framed right (w.darts + side) way new j.join,
-      frame_reflex_turns w framed j.frame,
-      j.frame.vertices,
+      cut_vertices surrounded right (w.darts + side) way new j.join,
+      surround_reflex_turns w surrounded j.surround,
+      j.surround.vertices,
       four_reflex_turns last (w.darts + 4) last_sound done.inside done.outside,
     )

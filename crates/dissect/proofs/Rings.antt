@@ -232,8 +232,8 @@ box_clear w d c1 c f a linked hook l four =
     )
 
 -- the corners of a face of four rights are not the cut's
-pub frame_clear : (w : DartMap) (d c1 c f a : ℕ) → IsHook w d c1 c f → IsRectangle w 3 a → (a ≢ d) × (a ≢ c)
-frame_clear w d c1 c f a hook four = (
+pub surround_clear : (w : DartMap) (d c1 c f a : ℕ) → IsHook w d c1 c f → IsRectangle w 3 a → (a ≢ d) × (a ≢ c)
+surround_clear w d c1 c f a hook four = (
   λ h.
       let from_d : Runs w d four.second = subst (λ (b : ℕ). Runs w b four.second) h four.to_second in
       let is_c1 : four.second ≡ c1 = Runs-one w d four.second c1 from_d hook.to_first in
@@ -298,8 +298,8 @@ cut_outside w o d c1 c f way a new s linked hook l outside =
     let three = four_turned w 3 four.second two in
     let last = four_turned w 3 four.third three in
     chord_outside w o d c f way a new s linked hook.cutting l outside
-    (frame_clear w d c1 c f a hook four) (frame_clear w d c1 c f four.second hook two)
-    (frame_clear w d c1 c f four.third hook three) (frame_clear w d c1 c f four.fourth hook last)
+    (surround_clear w d c1 c f a hook four) (surround_clear w d c1 c f four.second hook two)
+    (surround_clear w d c1 c f four.third hook three) (surround_clear w d c1 c f four.fourth hook last)
 
 -- the four corners of what is cut off
 pub cut_boxes : (w : DartMap) (d c1 c f way : ℕ) (new : DartMap) → IsChord w d f way new → IsLinked w → IsHook w d c1 c f →

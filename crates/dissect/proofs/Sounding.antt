@@ -4,9 +4,9 @@ use Rattle.std.proofs.lemmas.Bool.{cases_eq, cases_lt, eq-eqb, ne_eqb}
 use Rattle.common.specs.Sums.{sum_below}
 use Rattle.common.proofs.Sums.{sum_below-split, sum_below-same, sum_below-none}
 use Rattle.dissect.specs.DartMaps.{DartMap, IsLinked, IsMeeting, IsStraight, IsSound, around, reflex_turns}
-use Rattle.dissect.specs.Frames.{IsFramed}
+use Rattle.dissect.specs.Surrounds.{IsSurrounded}
 use Rattle.dissect.proofs.Splitting.{part, part_here, part_elsewhere, part_same}
-use Rattle.dissect.proofs.FrameWriting.{by_four}
+use Rattle.dissect.proofs.SurroundWriting.{by_four}
 
 -- each dart is an old one, or on the rectangle's inside, or on its outside
 pub by_side : (n : ℕ) (P : ℕ → Type 0) → ((a : ℕ) → a < n → P a) → ((k : ℕ) → k < 4 → P (n + k)) →
@@ -20,8 +20,8 @@ by_side n P old inner outer a l =
       ]
     ]
 
-pub frame_linked : (w new : DartMap) → IsFramed w new → IsLinked w → IsLinked new
-frame_linked w new s linked =
+pub surround_linked : (w new : DartMap) → IsSurrounded w new → IsLinked w → IsLinked new
+surround_linked w new s linked =
     let n : ℕ = w.darts in
     let all : (P : ℕ → Type 0) → ((a : ℕ) → a < n → P a) → ((k : ℕ) → k < 4 → P (n + k)) → ((k : ℕ) → k < 4 → P (n + 4 + k)) →
     (a : ℕ) → a < new.darts → P a =
@@ -62,13 +62,13 @@ frame_linked w new s linked =
     }
 
 -- the angles at a vertex are those of the old darts and of the rectangle's
-frame_around : (w new : DartMap) → IsFramed w new → (u : ℕ) →
+surround_around : (w new : DartMap) → IsSurrounded w new → (u : ℕ) →
     around new u ≡ sum_below w.darts (part new.head new.angle u) + sum_below 8 (λ i. part new.head new.angle u (w.darts + i))
-frame_around w new s u =
+surround_around w new s u =
     ap (λ (k : ℕ). sum_below k (part new.head new.angle u)) s.darts ∙ sum_below-split w.darts 8 (part new.head new.angle u)
 
 -- the rectangle's darts arrive at its own vertices
-corner_sum : (w new : DartMap) → IsFramed w new → (k : ℕ) → k < 4 →
+corner_sum : (w new : DartMap) → IsSurrounded w new → (k : ℕ) → k < 4 →
     sum_below 8 (λ i. part new.head new.angle (w.vertices + k) (w.darts + i)) ≡ 4
 corner_sum w new s k l =
     by_four (λ k. sum_below 8 (λ i. part new.head new.angle (w.vertices + k) (w.darts + i)) ≡ 4)
@@ -99,8 +99,8 @@ corner_sum w new s k l =
               ∙ ap (λ (b : Bool). cond b 3 0) (sym (ne_eqb ((i + 3) % 4) k ne))
         ]
 
-frame_whole : (w new : DartMap) → IsFramed w new → IsMeeting w → (u : ℕ) → u < new.vertices → around new u ≡ 4
-frame_whole w new s m u l =
+surround_whole : (w new : DartMap) → IsSurrounded w new → IsMeeting w → (u : ℕ) → u < new.vertices → around new u ≡ 4
+surround_whole w new s m u l =
     elim (cases_lt u w.vertices) [
       | inl old ↦
           let same : sum_below w.darts (part new.head new.angle u) ≡ around w u =
@@ -108,7 +108,7 @@ frame_whole w new s m u l =
           (λ a l. part_same w.head new.head w.angle new.angle u a (s.head_old a l) (s.angle_old a l)) in
           let none : sum_below 8 (λ i. part new.head new.angle u (w.darts + i)) ≡ 0 =
           sum_below-none 8 (λ i. part new.head new.angle u (w.darts + i)) (λ i l. away w new s u old i l) in
-          omega (arith, frame_around w new s u, same, none, m.whole u old)
+          omega (arith, surround_around w new s u, same, none, m.whole u old)
       | inr added ↦
           let k : ℕ = u - w.vertices in
           let e : w.vertices + k ≡ u = omega arith in
@@ -118,10 +118,10 @@ frame_whole w new s m u l =
           let here : sum_below 8 (λ i. part new.head new.angle u (w.darts + i)) ≡ 4 =
           subst (λ (z : ℕ). sum_below 8 (λ i. part new.head new.angle z (w.darts + i)) ≡ 4) e
           (corner_sum w new s k (omega (arith, s.vertices))) in
-          omega (arith, frame_around w new s u, none, here)
+          omega (arith, surround_around w new s u, none, here)
     ]
   where
-    away : (w new : DartMap) → IsFramed w new → (u : ℕ) → u < w.vertices → (i : ℕ) → i < 8 → part new.head new.angle u (w.darts + i) ≡ 0
+    away : (w new : DartMap) → IsSurrounded w new → (u : ℕ) → u < w.vertices → (i : ℕ) → i < 8 → part new.head new.angle u (w.darts + i) ≡ 0
     away w new s u old i l =
         part_elsewhere new.head new.angle u (w.darts + i)
         (elim (cases_lt i 4) [
@@ -131,8 +131,8 @@ frame_whole w new s m u l =
               λ h. omega (arith, h, ap new.head e, s.head_outer (i - 4) (omega arith))
         ])
 
-pub frame_meeting : (w new : DartMap) → IsFramed w new → IsLinked w → IsMeeting w → IsMeeting new
-frame_meeting w new s linked m =
+pub surround_meeting : (w new : DartMap) → IsSurrounded w new → IsLinked w → IsMeeting w → IsMeeting new
+surround_meeting w new s linked m =
     let n : ℕ = w.darts in
     let all : (P : ℕ → Type 0) → ((a : ℕ) → a < n → P a) → ((k : ℕ) → k < 4 → P (n + k)) → ((k : ℕ) → k < 4 → P (n + 4 + k)) →
     (a : ℕ) → a < new.darts → P a =
@@ -177,11 +177,11 @@ frame_meeting w new s linked m =
           (λ a l. omega (arith, s.angle_old a l, m.most a l))
           (λ k l. omega (arith, s.angle_inner k l))
           (λ k l. omega (arith, s.angle_outer k l));
-      whole = frame_whole w new s m;
+      whole = surround_whole w new s m;
     }
 
-pub frame_straight : (w new : DartMap) → IsFramed w new → IsLinked w → IsStraight w → IsStraight new
-frame_straight w new s linked straight = λ a l.
+pub surround_straight : (w new : DartMap) → IsSurrounded w new → IsLinked w → IsStraight w → IsStraight new
+surround_straight w new s linked straight = λ a l.
     by_side w.darts (λ a. new.direction (new.reverse_dart a) ≡ (new.direction a + 2) % 4)
     (λ a l. omega (
       arith,
@@ -194,16 +194,16 @@ frame_straight w new s linked straight = λ a l.
     (λ k l. omega (arith, ap new.direction (s.reverse_dart_outer k l), s.direction_outer k l, s.direction_inner k l))
     a (omega (arith, s.darts, l))
 
-pub frame_sound : (w new : DartMap) → IsFramed w new → IsSound w → IsSound new
-frame_sound w new s sound = record {
-  linked = frame_linked w new s sound.linked;
-  meeting = frame_meeting w new s sound.linked sound.meeting;
-  straight = frame_straight w new s sound.linked sound.straight;
+pub surround_sound : (w new : DartMap) → IsSurrounded w new → IsSound w → IsSound new
+surround_sound w new s sound = record {
+  linked = surround_linked w new s sound.linked;
+  meeting = surround_meeting w new s sound.linked sound.meeting;
+  straight = surround_straight w new s sound.linked sound.straight;
 }
 
 -- the rectangle brings four right turns, on its outside
-pub frame_reflex_turns : (w new : DartMap) → IsFramed w new → reflex_turns new ≡ reflex_turns w + 4
-frame_reflex_turns w new s =
+pub surround_reflex_turns : (w new : DartMap) → IsSurrounded w new → reflex_turns new ≡ reflex_turns w + 4
+surround_reflex_turns w new s =
     let n : ℕ = w.darts in
     let all = ap (λ (k : ℕ). sum_below k (λ a. new.angle a - 2)) s.darts ∙ sum_below-split n 8 (λ a. new.angle a - 2) in
     let same : sum_below n (λ a. new.angle a - 2) ≡ reflex_turns w =

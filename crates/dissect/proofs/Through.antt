@@ -4,14 +4,14 @@ use Rattle.std.proofs.lemmas.Bool.{cases_eq}
 use Rattle.dissect.specs.DartMaps.{DartMap, no_dart, IsLinked, IsSubdivided, IsCut, Grows, same, further}
 use Rattle.dissect.specs.Faces.{last_of, Below}
 use Rattle.dissect.specs.Paths.{Follows, IsPath}
-use Rattle.dissect.specs.Frames.{IsEnclosed}
+use Rattle.dissect.specs.Surrounds.{IsEnclosed}
 use Rattle.dissect.proofs.Splitting.{split_linked}
 use Rattle.dissect.proofs.Backwards.{path_unique}
 use Rattle.dissect.proofs.Lengthening.{KeepsHeads, IsKept, IsDoubled}
 use Rattle.dissect.proofs.Splits.{split_keeps, split_kept, split_doubled, split_doubled_back}
 use Rattle.dissect.proofs.StayingJoined.{grows_linked, cut_linked}
 use Rattle.dissect.proofs.Cuts.{IsBeside, chord_beside, AreQuarters, cut_quarters, grows_quarters}
-use Rattle.dissect.proofs.FramedPaths.{framed_linked, framed_quarters, framed_beside}
+use Rattle.dissect.proofs.SurroundedPaths.{surrounded_linked, surrounded_quarters, surrounded_beside}
 use Rattle.dissect.specs.Boxed.{StandOn}
 
 pub stands_itself : (xs : List ℕ) → StandOn xs xs
@@ -140,13 +140,13 @@ enclosed_through : (w : DartMap) (outside : ℕ) (new : DartMap) (end : ℕ) (he
     IsEnclosed w outside new → GoesThrough w end held → GoesThrough new end held
 enclosed_through w outside new end held linked four e old =
     let side : ℕ = w.darts + e.side in
-    let linked_framed = framed_linked w e.framed linked e.frame in
-    let four_framed = framed_quarters w e.framed four e.frame in
-    let linked_joined = cut_linked e.framed e.right side e.way e.joined linked_framed e.join in
-    let four_joined = cut_quarters e.framed e.right side e.way e.joined four_framed e.join in
+    let linked_surrounded = surrounded_linked w e.surrounded linked e.surround in
+    let four_surrounded = surrounded_quarters w e.surrounded four e.surround in
+    let linked_joined = cut_linked e.surrounded e.right side e.way e.joined linked_surrounded e.join in
+    let four_joined = cut_quarters e.surrounded e.right side e.way e.joined four_surrounded e.join in
     grows_through e.joined new end held linked_joined four_joined e.grows
-    (cut_through e.framed e.right side e.way e.joined end held linked_framed (four_framed side e.join.e_in) e.join
-    (step_through w e.framed end held (beside_step w e.framed (framed_beside w e.framed linked e.frame)) old))
+    (cut_through e.surrounded e.right side e.way e.joined end held linked_surrounded (four_surrounded side e.join.e_in) e.join
+    (step_through w e.surrounded end held (beside_step w e.surrounded (surrounded_beside w e.surrounded linked e.surround)) old))
 
 -- what was a path of the map stands on the path with the same end in what it grew to
 pub through : (w : DartMap) (outside : ℕ) (new : DartMap) → IsLinked w → AreQuarters w → IsEnclosed w outside new → new.darts ≤ no_dart →

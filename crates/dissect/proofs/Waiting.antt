@@ -150,8 +150,8 @@ bite_settles w o d c1 c e way new before tail list bite settled x_in d_stays bef
                 | inr four ↦ elim four [
                   | inl box ↦ inr (inl (cut_box cut.middle d c1 c w.darts way a new t linked hook l_mid
                       (split_four w e (w.direction e) 1 a cut.middle s bite.linked cut.e_in l box)))
-                  | inr frame ↦ inr (inr (cut_outside cut.middle o d c1 c w.darts way a new t linked hook l_mid
-                      (split_outside w o e (w.direction e) a cut.middle s bite.linked cut.e_in l frame)))
+                  | inr surround ↦ inr (inr (cut_outside cut.middle o d c1 c w.darts way a new t linked hook l_mid
+                      (split_outside w o e (w.direction e) a cut.middle s bite.linked cut.e_in l surround)))
                 ]
               ]
         ]

@@ -7,7 +7,7 @@ pub mod Tables
 pub mod Scan
 pub mod FaceNumbers
 pub mod Paths
-pub mod Frames
+pub mod Surrounds
 pub mod Chains
 pub mod Walks
 pub mod Listed

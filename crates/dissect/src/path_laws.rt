@@ -4,7 +4,7 @@ ghost use Rattle.std.specs.Prelude.{◌≡◌, ◌≢◌, ◌<◌, ◌≤◌, �
 ghost use Rattle.dissect.specs.DartMaps.{DartMap, IsLinked, IsSound, IsSubdivided, IsCut, Grows, no_dart};
 ghost use Rattle.dissect.specs.Faces.{Distinct};
 ghost use Rattle.dissect.specs.Paths.{HasPaths, IsConnected, IsPath, turn_to};
-ghost use Rattle.dissect.specs.Frames.{IsEnclosed};
+ghost use Rattle.dissect.specs.Surrounds.{IsEnclosed};
 
 /// Where no dart stands before another, each dart is the path of an edge without turns.
 pub fn darts_are_paths()

@@ -1,7 +1,7 @@
 //! The rectangle round a drawing.
 
 ghost use Rattle.std.specs.Prelude.{◌≡◌, ◌+◌, ◌<◌, ◌≤◌, ℕ, length, slice_index_or, vec_len};
-ghost use Rattle.dissect.specs.Frames.{IsFramed};
+ghost use Rattle.dissect.specs.Surrounds.{IsSurrounded};
 ghost use Rattle.dissect.specs.Tables.{room, dart_map_of};
 
 use crate::table::{DartTable, NO_DART};
@@ -19,9 +19,9 @@ fn put_at<T: Copy>(list: &mut Vec<T>, start: usize, items: &[T])
 /// Adds a rectangle round the drawing, not yet joined to it: its inside runs along the four new darts from `darts` on, to
 /// the east, north, west and south, and its outside along their reverses, the four after these. The
 /// table needs room for eight darts. Constant time.
-pub fn frame(table: &mut DartTable)
+pub fn surround(table: &mut DartTable)
     requires space { table.old.darts + 8 ≤ room table.old }
-    ensures framed { IsFramed (dart_map_of table.old) (dart_map_of table.new) }
+    ensures surrounded { IsSurrounded (dart_map_of table.old) (dart_map_of table.new) }
     ensures room { room table.new ≡ room table.old }
 {
     let n = table.darts;

@@ -7,13 +7,13 @@
 ghost use Rattle.std.specs.Prelude.{◌≡◌, ◌<◌, ◌≤◌, ◌+◌, ◌*◌, ◌%◌, ℕ, [], OnErr, OnOk};
 ghost use Rattle.dissect.specs.declared.table.TheConstants.{RECTANGLE_ROOM};
 ghost use Rattle.dissect.specs.Faces.{AreWaiting, ReachesCorners};
-ghost use Rattle.dissect.specs.Frames.{IsEnclosed};
+ghost use Rattle.dissect.specs.Surrounds.{IsEnclosed};
 ghost use Rattle.dissect.specs.FaceNumbers.{HasTurns};
 ghost use Rattle.dissect.specs.Tables.{room, dart_map_of};
 ghost use Rattle.dissect.specs.DartMaps.{IsSound, reflex_turns};
 
 use crate::face_list::{Faces, add_joined_face, list_faces};
-use crate::rectangle::frame;
+use crate::rectangle::surround;
 use crate::scan::{cut_across, cut_faces};
 use crate::table::DartTable;
 use crate::walks::find_right;
@@ -57,7 +57,7 @@ pub fn refine_in(table: &mut DartTable, outside: u32, faces: Faces) -> Result<Fa
     let side = facing_side(table, right);
     add_joined_face(table, right, side, &mut faces)?;
     let corner = table.darts + (side + 3) % 4;
-    frame(table);
+    surround(table);
     cut_across(table, right, corner);
     cut_faces(table, faces.corners.as_mut_slice(), faces.counts.as_slice());
     Ok(faces)

@@ -1,4 +1,4 @@
-use Rattle.dissect.proofs.FramedPaths.{enclosed_joined}
+use Rattle.dissect.proofs.SurroundedPaths.{enclosed_joined}
 use Rattle.dissect.proofs.path_laws.rectangles_are_joined.Goals as goal
 
 pub returns : goal.returns

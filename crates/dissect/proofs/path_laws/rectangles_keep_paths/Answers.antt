@@ -1,4 +1,4 @@
-use Rattle.dissect.proofs.FramedPaths.{enclosed_paths}
+use Rattle.dissect.proofs.SurroundedPaths.{enclosed_paths}
 use Rattle.dissect.proofs.path_laws.rectangles_keep_paths.Goals as goal
 
 pub returns : goal.returns

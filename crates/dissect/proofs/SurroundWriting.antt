@@ -2,7 +2,7 @@
 use Rattle.std.proofs.Common.{◌≡◌, ℕ, ◌+◌, ◌%◌, ◌<◌, ◌∙◌, List, [], ◌∷◌, get_or, length, arith, subst, sym, ap, refl, inl, inr}
 use Rattle.std.proofs.lemmas.Bool.{cases_eq}
 use Rattle.dissect.specs.DartMaps.{no_dart}
-use Rattle.dissect.specs.Frames.{IsFramed}
+use Rattle.dissect.specs.Surrounds.{IsSurrounded}
 use Rattle.dissect.proofs.Making.{dart_map_from}
 
 -- what holds of 0, 1, 2 and 3 holds of each number below 4
@@ -58,7 +58,7 @@ ways k l = let P : ℕ → Type 0 = λ k. get_or directions k 0 ≡ k in by_four
 ways_back : (k : ℕ) → k < 4 → get_or directions (4 + k) 0 ≡ (k + 2) % 4
 ways_back k l = let P : ℕ → Type 0 = λ k. get_or directions (4 + k) 0 ≡ (k + 2) % 4 in by_four P refl refl refl refl k l
 
-pub frame_made : (n v : ℕ) (N P T H D A B N2 P2 T2 H2 D2 A2 B2 : List ℕ) →
+pub surround_made : (n v : ℕ) (N P T H D A B N2 P2 T2 H2 D2 A2 B2 : List ℕ) →
     IsWritten n N ((n + 1) ∷ (n + 2) ∷ (n + 3) ∷ n ∷ (n + 7) ∷ (n + 4) ∷ (n + 5) ∷ (n + 6) ∷ []) N2 →
     IsWritten n P ((n + 3) ∷ n ∷ (n + 1) ∷ (n + 2) ∷ (n + 5) ∷ (n + 6) ∷ (n + 7) ∷ (n + 4) ∷ []) P2 →
     IsWritten n T ((n + 4) ∷ (n + 5) ∷ (n + 6) ∷ (n + 7) ∷ n ∷ (n + 1) ∷ (n + 2) ∷ (n + 3) ∷ []) T2 →
@@ -66,8 +66,8 @@ pub frame_made : (n v : ℕ) (N P T H D A B N2 P2 T2 H2 D2 A2 B2 : List ℕ) →
     IsWritten n D (0 ∷ 1 ∷ 2 ∷ 3 ∷ 2 ∷ 3 ∷ 0 ∷ 1 ∷ []) D2 →
     IsWritten n A (1 ∷ 1 ∷ 1 ∷ 1 ∷ 3 ∷ 3 ∷ 3 ∷ 3 ∷ []) A2 →
     IsWritten n B (4294967295 ∷ 4294967295 ∷ 4294967295 ∷ 4294967295 ∷ 4294967295 ∷ 4294967295 ∷ 4294967295 ∷ 4294967295 ∷ []) B2 →
-    IsFramed (dart_map_from n v N P T H D A B) (dart_map_from (n + 8) (v + 4) N2 P2 T2 H2 D2 A2 B2)
-frame_made n v N P T H D A B N2 P2 T2 H2 D2 A2 B2 wn wp wt wh wd wa wb = record {
+    IsSurrounded (dart_map_from n v N P T H D A B) (dart_map_from (n + 8) (v + 4) N2 P2 T2 H2 D2 A2 B2)
+surround_made n v N P T H D A B N2 P2 T2 H2 D2 A2 B2 wn wp wt wh wd wa wb = record {
   darts = refl;
   vertices = refl;
   next_old = λ a l. wn.before a l;

@@ -3,12 +3,12 @@ use Rattle.std.proofs.Common.{◌≡◌, ◌≢◌, ℕ, ◌+◌, ◌-◌, ◌%�
 use Rattle.std.proofs.lemmas.Bool.{cases_lt}
 use Rattle.dissect.specs.DartMaps.{DartMap, no_dart, IsLinked, IsCut}
 use Rattle.dissect.specs.Paths.{HasPaths, IsConnected}
-use Rattle.dissect.specs.Frames.{IsFramed, IsEnclosed}
+use Rattle.dissect.specs.Surrounds.{IsSurrounded, IsEnclosed}
 use Rattle.dissect.proofs.Splitting.{split_linked}
 use Rattle.dissect.proofs.StayingJoined.{IsClosedUnder, by_next, by_reverse_dart, extended_joined, chord_extended, cut_linked, cut_extended, grows_extended}
 use Rattle.dissect.proofs.Cuts.{IsBeside, beside_paths, cut_paths, AreQuarters, cut_quarters, grows_paths}
 
--- a fact at each dart of a framed map: at the old ones, at the four inside the rectangle and at the four outside it
+-- a fact at each dart of a surrounded map: at the old ones, at the four inside the rectangle and at the four outside it
 pub by_side : (n : ℕ) (P : ℕ → Type 0) → ((a : ℕ) → a < n → P a) → ((k : ℕ) → k < 4 → P (n + k)) →
     ((k : ℕ) → k < 4 → P (n + 4 + k)) → (a : ℕ) → a < n + 8 → P a
 by_side n P old inner outer a l =
@@ -23,8 +23,8 @@ by_side n P old inner outer a l =
     rest : (n a : ℕ) → n ≤ a → n + (a - n) ≡ a
     rest n a high = omega arith
 
-pub framed_linked : (w new : DartMap) → IsLinked w → IsFramed w new → IsLinked new
-framed_linked w new linked f =
+pub surrounded_linked : (w new : DartMap) → IsLinked w → IsSurrounded w new → IsLinked new
+surrounded_linked w new linked f =
     let n : ℕ = w.darts in
     record {
       next_in = λ a l. by_side n (λ (a : ℕ). new.next a < new.darts)
@@ -61,15 +61,15 @@ framed_linked w new linked f =
           a (omega (arith, f.darts));
     }
 
-pub framed_quarters : (w new : DartMap) → AreQuarters w → IsFramed w new → AreQuarters new
-framed_quarters w new quarters f a l =
+pub surrounded_quarters : (w new : DartMap) → AreQuarters w → IsSurrounded w new → AreQuarters new
+surrounded_quarters w new quarters f a l =
     by_side w.darts (λ (a : ℕ). new.direction a < 4)
     (λ a l. omega (arith, f.direction_old a l, quarters a l))
     (λ k l. omega (arith, f.direction_inner k l, l)) (λ k l. omega (arith, f.direction_outer k l))
     a (omega (arith, f.darts))
 
-pub framed_beside : (w new : DartMap) → IsLinked w → IsFramed w new → IsBeside w new
-framed_beside w new linked f = record {
+pub surrounded_beside : (w new : DartMap) → IsLinked w → IsSurrounded w new → IsBeside w new
+surrounded_beside w new linked f = record {
   keeps = record { more = omega (arith, f.darts); head = f.head_old; direction = f.direction_old };
   kept = λ b l. record {
     inside = omega (arith, f.darts);
@@ -84,33 +84,33 @@ framed_beside w new linked f = record {
 }
 
 -- a rectangle beside the map keeps all paths
-pub frame_paths : (w new : DartMap) (n : ℕ) (reverse_dart : ℕ → ℕ) (quarters : ℕ → List ℕ) → IsLinked w → IsFramed w new →
+pub surround_paths : (w new : DartMap) (n : ℕ) (reverse_dart : ℕ → ℕ) (quarters : ℕ → List ℕ) → IsLinked w → IsSurrounded w new →
     HasPaths w n reverse_dart quarters → HasPaths new n reverse_dart quarters
-frame_paths w new n reverse_dart quarters linked framed = beside_paths w new n reverse_dart quarters (framed_beside w new linked framed)
+surround_paths w new n reverse_dart quarters linked surrounded = beside_paths w new n reverse_dart quarters (surrounded_beside w new linked surrounded)
 
 -- and so do the join and the cuts after it
 pub enclosed_paths : (w : DartMap) (outside : ℕ) (new : DartMap) (n : ℕ) (reverse_dart : ℕ → ℕ) (quarters : ℕ → List ℕ) → IsLinked w → AreQuarters w →
     IsEnclosed w outside new →
     HasPaths w n reverse_dart quarters → HasPaths new n reverse_dart quarters
 enclosed_paths w outside new n reverse_dart quarters linked four e has =
-    let linked_framed = framed_linked w e.framed linked e.frame in
-    let four_framed : AreQuarters e.framed = framed_quarters w e.framed four e.frame in
-    let linked_joined = cut_linked e.framed e.right (w.darts + e.side) e.way e.joined linked_framed e.join in
-    let four_joined : AreQuarters e.joined = cut_quarters e.framed e.right (w.darts + e.side) e.way e.joined four_framed e.join in
+    let linked_surrounded = surrounded_linked w e.surrounded linked e.surround in
+    let four_surrounded : AreQuarters e.surrounded = surrounded_quarters w e.surrounded four e.surround in
+    let linked_joined = cut_linked e.surrounded e.right (w.darts + e.side) e.way e.joined linked_surrounded e.join in
+    let four_joined : AreQuarters e.joined = cut_quarters e.surrounded e.right (w.darts + e.side) e.way e.joined four_surrounded e.join in
     grows_paths e.joined new n reverse_dart quarters linked_joined four_joined e.grows
-    (cut_paths e.framed e.right (w.darts + e.side) e.way e.joined n reverse_dart quarters linked_framed
-    (four_framed (w.darts + e.side) e.join.e_in) e.join
-    (frame_paths w e.framed n reverse_dart quarters linked e.frame has))
+    (cut_paths e.surrounded e.right (w.darts + e.side) e.way e.joined n reverse_dart quarters linked_surrounded
+    (four_surrounded (w.darts + e.side) e.join.e_in) e.join
+    (surround_paths w e.surrounded n reverse_dart quarters linked e.surround has))
 
--- a closed set of the framed map is one of the map
-pub framed_shut : (w new : DartMap) (s : ℕ → Bool) → IsFramed w new → IsClosedUnder new s → IsClosedUnder w s
-framed_shut w new s f shut = record {
+-- a closed set of the surrounded map is one of the map
+pub surrounded_shut : (w new : DartMap) (s : ℕ → Bool) → IsSurrounded w new → IsClosedUnder new s → IsClosedUnder w s
+surrounded_shut w new s f shut = record {
   next = λ a l h. by_next new s a (w.next a) shut (omega (arith, f.darts)) (f.next_old a l) h;
   reverse_dart = λ a l h. by_reverse_dart new s a (w.reverse_dart a) shut (omega (arith, f.darts)) (f.reverse_dart_old a l) h;
 }
 
 -- round the inside of the rectangle
-pub ring_turned : (w new : DartMap) (s : ℕ → Bool) (k i : ℕ) → IsFramed w new → IsClosedUnder new s → k < 4 → s (w.darts + k) ≡ true →
+pub ring_turned : (w new : DartMap) (s : ℕ → Bool) (k i : ℕ) → IsSurrounded w new → IsClosedUnder new s → k < 4 → s (w.darts + k) ≡ true →
     s (w.darts + (k + i) % 4) ≡ true
 ring_turned w new s k zero f shut l h = subst (λ (j : ℕ). s (w.darts + j) ≡ true) (omega (arith, l)) h
 ring_turned w new s k (suc i) f shut l h =
@@ -121,7 +121,7 @@ ring_turned w new s k (suc i) f shut l h =
     by_next new s (w.darts + (k + i) % 4) (w.darts + (k + suc i) % 4) shut inside step on
 
 -- a closed set that holds one dart of the rectangle holds them all
-pub ring_whole : (w new : DartMap) (s : ℕ → Bool) (k : ℕ) → IsFramed w new → IsClosedUnder new s → k < 4 → s (w.darts + k) ≡ true →
+pub ring_whole : (w new : DartMap) (s : ℕ → Bool) (k : ℕ) → IsSurrounded w new → IsClosedUnder new s → k < 4 → s (w.darts + k) ≡ true →
     (a : ℕ) → a < new.darts → w.darts ≤ a → s a ≡ true
 ring_whole w new s k f shut l h a a_in late =
     let inner : (j : ℕ) → j < 4 → s (w.darts + j) ≡ true = λ j l_j.
@@ -135,7 +135,7 @@ ring_whole w new s k f shut l h a a_in late =
     there k j l l_j = omega arith
 
 -- a closed set that holds any dart of the rectangle holds one of its inside
-pub ring_some : (w new : DartMap) (s : ℕ → Bool) (a : ℕ) → IsFramed w new → IsClosedUnder new s → a < new.darts → w.darts ≤ a → s a ≡ true →
+pub ring_some : (w new : DartMap) (s : ℕ → Bool) (a : ℕ) → IsSurrounded w new → IsClosedUnder new s → a < new.darts → w.darts ≤ a → s a ≡ true →
     (k : ℕ) × (k < 4) × (s (w.darts + k) ≡ true)
 ring_some w new s a f shut a_in late =
     by_side w.darts (λ (a : ℕ). w.darts ≤ a → s a ≡ true → (k : ℕ) × (k < 4) × (s (w.darts + k) ≡ true))
@@ -144,68 +144,68 @@ ring_some w new s a f shut a_in late =
     a (omega (arith, f.darts)) late
 
 -- the join leads from the map to the rectangle
-pub join_there : (framed : DartMap) (right e way : ℕ) (new : DartMap) (s : ℕ → Bool) → IsCut framed right e way new → IsClosedUnder new s →
+pub join_there : (surrounded : DartMap) (right e way : ℕ) (new : DartMap) (s : ℕ → Bool) → IsCut surrounded right e way new → IsClosedUnder new s →
     s right ≡ true → s e ≡ true
-join_there framed right e way new s cut shut h =
+join_there surrounded right e way new s cut shut h =
     let there : s cut.middle.darts ≡ true =
     by_next new s right cut.middle.darts shut (omega (arith, cut.chord.darts, cut.fits.d_in)) cut.chord.next_d h in
     by_next new s cut.middle.darts e shut (omega (arith, cut.chord.darts)) (cut.chord.next_there ∙ cut.split.next_first) there
 
 -- and back
-pub join_back : (framed : DartMap) (right e way : ℕ) (new : DartMap) (s : ℕ → Bool) → IsLinked framed → IsCut framed right e way new →
-    IsClosedUnder new s → right ≢ framed.prev e → right ≢ framed.prev (framed.reverse_dart e) → s (framed.prev e) ≡ true →
-    s (framed.next right) ≡ true
-join_back framed right e way new s linked cut shut not_c not_p h =
-    let linked_middle = split_linked framed e (framed.direction e) 2 cut.middle linked cut.e_in cut.split in
+pub join_back : (surrounded : DartMap) (right e way : ℕ) (new : DartMap) (s : ℕ → Bool) → IsLinked surrounded → IsCut surrounded right e way new →
+    IsClosedUnder new s → right ≢ surrounded.prev e → right ≢ surrounded.prev (surrounded.reverse_dart e) → s (surrounded.prev e) ≡ true →
+    s (surrounded.next right) ≡ true
+join_back surrounded right e way new s linked cut shut not_c not_p h =
+    let linked_middle = split_linked surrounded e (surrounded.direction e) 2 cut.middle linked cut.e_in cut.split in
     let middle : IsClosedUnder cut.middle s =
-    (chord_extended cut.middle right framed.darts way new linked_middle cut.fits cut.chord).shut s shut in
-    let first : s framed.darts ≡ true =
-    by_next cut.middle s (framed.prev e) framed.darts middle (omega (arith, cut.split.darts, linked.prev_in e cut.e_in))
+    (chord_extended cut.middle right surrounded.darts way new linked_middle cut.fits cut.chord).shut s shut in
+    let first : s surrounded.darts ≡ true =
+    by_next cut.middle s (surrounded.prev e) surrounded.darts middle (omega (arith, cut.split.darts, linked.prev_in e cut.e_in))
     cut.split.next_before h in
     let back : s (cut.middle.darts + 1) ≡ true =
-    by_next new s framed.darts (cut.middle.darts + 1) shut (omega (arith, cut.chord.darts, cut.split.darts)) cut.chord.next_f first in
-    by_next new s (cut.middle.darts + 1) (framed.next right) shut (omega (arith, cut.chord.darts))
+    by_next new s surrounded.darts (cut.middle.darts + 1) shut (omega (arith, cut.chord.darts, cut.split.darts)) cut.chord.next_f first in
+    by_next new s (cut.middle.darts + 1) (surrounded.next right) shut (omega (arith, cut.chord.darts))
     (cut.chord.next_back ∙ cut.split.next_other right cut.d_in not_c not_p) back
 
 -- a joined map is joined with the rectangle that a cut leads to
-pub join_joined : (w framed : DartMap) (right side way : ℕ) (new : DartMap) → IsLinked w → IsConnected w → IsFramed w framed → right < w.darts →
-    side < 4 → IsCut framed right (w.darts + side) way new → IsConnected new
-join_joined w framed right side way new linked joined f right_in side_in cut s next reverse_dart a b l_a l_b h =
+pub join_joined : (w surrounded : DartMap) (right side way : ℕ) (new : DartMap) → IsLinked w → IsConnected w → IsSurrounded w surrounded → right < w.darts →
+    side < 4 → IsCut surrounded right (w.darts + side) way new → IsConnected new
+join_joined w surrounded right side way new linked joined f right_in side_in cut s next reverse_dart a b l_a l_b h =
     let e : ℕ = w.darts + side in
     let shut : IsClosedUnder new s = record { next = next; reverse_dart = reverse_dart } in
-    let linked_framed = framed_linked w framed linked f in
-    let extended = cut_extended framed right e way new linked_framed cut in
-    let shut_framed : IsClosedUnder framed s = extended.shut s shut in
-    let shut_old : IsClosedUnder w s = framed_shut w framed s f shut_framed in
+    let linked_surrounded = surrounded_linked w surrounded linked f in
+    let extended = cut_extended surrounded right e way new linked_surrounded cut in
+    let shut_surrounded : IsClosedUnder surrounded s = extended.shut s shut in
+    let shut_old : IsClosedUnder w s = surrounded_shut w surrounded s f shut_surrounded in
     let found = extended.some s shut a l_a h in
-    let prev_e : framed.prev e ≡ w.darts + (side + 3) % 4 = f.prev_inner side side_in in
-    let prev_t : framed.prev (framed.reverse_dart e) ≡ w.darts + 4 + (side + 1) % 4 =
-    ap framed.prev (f.reverse_dart_inner side side_in) ∙ f.prev_outer side side_in in
-    let from_old : (c : ℕ) → c < w.darts → s c ≡ true → (k : ℕ) → k < framed.darts → s k ≡ true = λ c l_c at k l_k.
+    let prev_e : surrounded.prev e ≡ w.darts + (side + 3) % 4 = f.prev_inner side side_in in
+    let prev_t : surrounded.prev (surrounded.reverse_dart e) ≡ w.darts + 4 + (side + 1) % 4 =
+    ap surrounded.prev (f.reverse_dart_inner side side_in) ∙ f.prev_outer side side_in in
+    let from_old : (c : ℕ) → c < w.darts → s c ≡ true → (k : ℕ) → k < surrounded.darts → s k ≡ true = λ c l_c at k l_k.
     elim (cases_lt k w.darts) [
       | inl low ↦ joined s shut_old.next shut_old.reverse_dart c k l_c low at
       | inr high ↦
           let on : s right ≡ true = joined s shut_old.next shut_old.reverse_dart c right l_c right_in at in
-          ring_whole w framed s side f shut_framed side_in (join_there framed right e way new s cut shut on) k l_k high
+          ring_whole w surrounded s side f shut_surrounded side_in (join_there surrounded right e way new s cut shut on) k l_k high
     ] in
     let from_ring : (k : ℕ) → k < 4 → s (w.darts + k) ≡ true → s (w.next right) ≡ true = λ k l_k at.
-    let before : s (framed.prev e) ≡ true =
-    ring_whole w framed s k f shut_framed l_k at (framed.prev e) (omega (arith, prev_e, f.darts)) (omega (arith, prev_e)) in
+    let before : s (surrounded.prev e) ≡ true =
+    ring_whole w surrounded s k f shut_surrounded l_k at (surrounded.prev e) (omega (arith, prev_e, f.darts)) (omega (arith, prev_e)) in
     subst (λ (j : ℕ). s j ≡ true) (f.next_old right right_in)
-    (join_back framed right e way new s linked_framed cut shut
+    (join_back surrounded right e way new s linked_surrounded cut shut
     (λ same. omega (arith, same, prev_e, right_in)) (λ same. omega (arith, same, prev_t, right_in)) before) in
     extended.all s shut
     (elim (cases_lt found.0 w.darts) [
       | inl low ↦ from_old found.0 low found.2
       | inr high ↦
-          let ring = ring_some w framed s found.0 f shut_framed found.1 high found.2 in
+          let ring = ring_some w surrounded s found.0 f shut_surrounded found.1 high found.2 in
           from_old (w.next right) (linked.next_in right right_in) (from_ring ring.0 ring.1 ring.2)
     ]) b l_b
 
 -- a joined map stays joined in its rectangle
 pub enclosed_joined : (w : DartMap) (outside : ℕ) (new : DartMap) → IsLinked w → IsConnected w → IsEnclosed w outside new → IsConnected new
 enclosed_joined w outside new linked joined e =
-    let linked_framed = framed_linked w e.framed linked e.frame in
-    let linked_joined = cut_linked e.framed e.right (w.darts + e.side) e.way e.joined linked_framed e.join in
+    let linked_surrounded = surrounded_linked w e.surrounded linked e.surround in
+    let linked_joined = cut_linked e.surrounded e.right (w.darts + e.side) e.way e.joined linked_surrounded e.join in
     extended_joined e.joined new (grows_extended e.joined new linked_joined e.grows)
-    (join_joined w e.framed e.right e.side e.way e.joined linked joined e.frame e.right_in e.side_in e.join)
+    (join_joined w e.surrounded e.right e.side e.way e.joined linked joined e.surround e.right_in e.side_in e.join)

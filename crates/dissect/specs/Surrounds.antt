@@ -5,7 +5,7 @@ use Rattle.dissect.specs.FaceNumbers.{AreFaceNumbers}
 
 -- A rectangle beside the map: the darts w.darts + 0 .. 3 go round its inside to the east, north, west and south,
 -- and w.darts + 4 .. 7 are their reverses round its outside. The vertex w.vertices + k is where dart k arrives.
-pub record IsFramed (w new : DartMap) : Type 0 where
+pub record IsSurrounded (w new : DartMap) : Type 0 where
   pub darts : new.darts ≡ w.darts + 8
   pub vertices : new.vertices ≡ w.vertices + 4
   pub next_old : (a : ℕ) → a < w.darts → new.next a ≡ w.next a
@@ -33,8 +33,8 @@ pub record IsFramed (w new : DartMap) : Type 0 where
 -- a map in its rectangle, with which it is joined by a cut from a right turn of its own, on the face of the dart
 -- `outside`, to a side of the rectangle, and then cut up further
 pub record IsEnclosed (w : DartMap) (outside : ℕ) (new : DartMap) : Type 0 where
-  pub framed : DartMap
-  pub frame : IsFramed w framed
+  pub surrounded : DartMap
+  pub surround : IsSurrounded w surrounded
   pub joined : DartMap
   pub right : ℕ
   pub side : ℕ
@@ -42,5 +42,5 @@ pub record IsEnclosed (w : DartMap) (outside : ℕ) (new : DartMap) : Type 0 whe
   pub right_in : right < w.darts
   pub same_face : (label : ℕ → ℕ) → AreFaceNumbers w label → label right ≡ label outside
   pub side_in : side < 4
-  pub join : IsCut framed right (w.darts + side) way joined
+  pub join : IsCut surrounded right (w.darts + side) way joined
   pub grows : Grows joined new

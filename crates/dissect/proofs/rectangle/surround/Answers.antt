@@ -1,11 +1,11 @@
 use Rattle.std.proofs.Common.{refl}
-use Rattle.dissect.proofs.FrameWriting.{written, frame_made}
-use Rattle.dissect.proofs.rectangle.frame.Goals as goal
+use Rattle.dissect.proofs.SurroundWriting.{written, surround_made}
+use Rattle.dissect.proofs.rectangle.surround.Goals as goal
 
-pub returns-clause-framed : goal.returns-clause-framed
-returns-clause-framed c =
+pub returns-clause-surrounded : goal.returns-clause-surrounded
+returns-clause-surrounded c =
     let t = c.args.table.now in
-    frame_made t.darts t.vertices t.next.items t.prev.items t.reverse_dart.items t.head.items t.direction.items t.angle.items t.before.items
+    surround_made t.darts t.vertices t.next.items t.prev.items t.reverse_dart.items t.head.items t.direction.items t.angle.items t.before.items
     _ _ _ _ _ _ _
     (written t.darts t.next.items _ _ refl c.put_at.ensures.before c.put_at.ensures.here)
     (written t.darts t.prev.items _ _ refl c.put_at-2.ensures.before c.put_at-2.ensures.here)
