@@ -15,7 +15,7 @@ fn main() {
         points: compact::Scratch::empty(Global),
         check: drawing_check::Scratch::empty(Global),
     };
-    let mut search = Some(dissect::Search::empty(Global));
+    let mut search = Some(dissect::HeadingSearch::empty(Global));
     for record in &records {
         let graph = embedding::Graph::read(Global, record).expect("a graph");
         let mut plane = faces::Plane::trace(Global, graph).ok().expect("a plane");

@@ -39,7 +39,7 @@ fn round(records: &[planar_code::Record]) -> [u64; STAGES + 1] {
     let mut boxes_in = compact::BoxesScratch::empty(Global);
     let mut points_in = compact::Scratch::empty(Global);
     let mut check_in = drawing_check::Scratch::empty(Global);
-    let mut search = Some(dissect::Search::empty(Global));
+    let mut search = Some(dissect::HeadingSearch::empty(Global));
     for chunk in records.chunks(64) {
         lap(REST, &mut taken);
         let planes: Vec<_> = chunk.iter().map(plane_of).collect();

@@ -13,7 +13,7 @@ use crate::held::{Held, Shell};
 use crate::layout::{Layout, SpentLayout};
 use crate::spent::WayBack;
 use common::Choice;
-use compact::{Search, headings_in};
+use compact::{HeadingSearch, headings_in};
 use faces::Plane;
 use ortho_rep::{Prices, Shape, best_shape, least_shape_in};
 use std::alloc::{AllocError, Global};
@@ -26,7 +26,7 @@ use straightening::straighten_in;
 pub struct LayScratch {
     shapes: ortho_rep::Scratch,
     straight: straightening::Scratch,
-    search: Search,
+    search: HeadingSearch,
     // directions that are done with
     headings: Vec<u8>,
     // a plane that is done with, the box of the plane that was taken last, and the box of the next layout
@@ -50,7 +50,7 @@ impl LayScratch {
         LayScratch {
             shapes: ortho_rep::Scratch::empty(alloc),
             straight: straightening::Scratch::new(),
-            search: Search::empty(alloc),
+            search: HeadingSearch::empty(alloc),
             headings: Vec::new(alloc),
             plane: None,
             plane_shell: None,
@@ -207,7 +207,7 @@ fn shape_for(
 /// The directions of the darts of a plane that is drawn by the shape. The next search has this spare list for its own.
 fn headings_of(
     alloc: Global,
-    scratch: &mut Search,
+    scratch: &mut HeadingSearch,
     spare: Vec<u8>,
     plane: &Plane,
     shape: &Shape,
@@ -215,7 +215,7 @@ fn headings_of(
     requires { IsShape plane.now shape.now }
     ensures { IfOk result (λ headings. AreHeadingsOf plane.now shape.now headings.items) }
 {
-    let lent = mem::replace(scratch, Search::empty(alloc));
+    let lent = mem::replace(scratch, HeadingSearch::empty(alloc));
     let mut search = headings_in(plane, shape, lent)?;
     let headings = mem::replace(&mut search.headings, spare);
     *scratch = search;

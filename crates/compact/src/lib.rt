@@ -11,7 +11,7 @@ mod scratch;
 mod steps;
 
 pub use dissect::{
-    Scratch as BoxesScratch, Search, dissect, dissect_along, dissect_in, headings_in,
+    HeadingSearch, Scratch as BoxesScratch, dissect, dissect_along, dissect_in, headings_in,
 };
 pub use fault::CompactFault;
 pub use place::{compact, compact_in};

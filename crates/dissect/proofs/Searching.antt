@@ -16,7 +16,7 @@ use Rattle.ortho_rep.specs.Shapes.{ShapeModel, angle_at, turns_at}
 use Rattle.ortho_rep.specs.Representation.{IsShape}
 use Rattle.dissect.specs.Headings.{AreHeadings}
 use Rattle.dissect.proofs.Existence.{directions}
-use Rattle.dissect.specs.Search.{IsKnown, IsDirected}
+use Rattle.dissect.specs.HeadingSearch.{IsKnown, IsDirected}
 
 -- 1 for a dart without a direction, else 0
 abbrev missing_of : List ℕ → ℕ → ℕ

@@ -1,5 +1,5 @@
 pub mod Headings
-pub mod Search
+pub mod HeadingSearch
 pub mod DartMaps
 pub mod Faces
 pub mod Turning

@@ -7,7 +7,7 @@ ghost use Rattle.dissect.specs.Headed.{AreHeadingsOf};
 
 use crate::boxes::Boxes;
 use crate::edges::lesser_darts_of;
-use crate::heading_search::{Search, headings_in};
+use crate::heading_search::{HeadingSearch, headings_in};
 use crate::normalization::normalize_into;
 use crate::parts::paths_of;
 use crate::refinement::refine_in;
@@ -50,7 +50,7 @@ pub fn dissect_in(
     requires { IsShape plane.now shape.now }
     ensures { IfOk result (IsBoxed plane.now shape.now) }
 {
-    let lent = mem::replace(&mut scratch.search, Search::empty(alloc));
+    let lent = mem::replace(&mut scratch.search, HeadingSearch::empty(alloc));
     let search = headings_in(plane, shape, lent)?;
     let boxes = dissect_along(alloc, scratch, plane, shape, &search.headings)?;
     scratch.search = search;

@@ -8,7 +8,7 @@ ghost use Rattle.ortho_rep.specs.Representation.{IsShape};
 ghost use Rattle.faces.specs.Planes.{darts};
 ghost use Rattle.dissect.specs.Headings.{AreHeadings};
 ghost use Rattle.dissect.specs.declared.heading_search.TheConstants.{NO_DIRECTION};
-ghost use Rattle.dissect.specs.Search.{IsDirected};
+ghost use Rattle.dissect.specs.HeadingSearch.{IsDirected};
 
 use common::{emptied, filled};
 use faces::Plane;
@@ -20,31 +20,31 @@ const NO_DIRECTION: u8 = 4;
 
 /// A search for directions, whose memory the next one can use again.
 #[derive(Drop)]
-pub struct Search {
+pub struct HeadingSearch {
     /// The directions found so far, by dart.
     pub headings: Vec<u8>,
     // the darts with a direction from which to go on
     waiting: Vec<u16>,
 }
 
-impl Search {
+impl HeadingSearch {
     /// A search that has found nothing. It takes no memory.
-    pub fn empty(alloc: Global) -> Search
+    pub fn empty(alloc: Global) -> HeadingSearch
         ensures { result.headings.items ≡ [] }
     {
-        Search {
+        HeadingSearch {
             headings: Vec::new(alloc),
             waiting: Vec::new(alloc),
         }
     }
 
     /// A search in which none of so many darts has a direction, in the memory of this one.
-    fn begun(self, darts: usize) -> Result<Search, AllocError>
+    fn begun(self, darts: usize) -> Result<HeadingSearch, AllocError>
         ensures unset { IfOk result (λ s. s.headings.items ≡ replicate darts NO_DIRECTION) }
         ensures waiting { IfOk result (λ s. s.waiting.items ≡ []) }
     {
-        let Search { headings, waiting } = self;
-        Ok(Search {
+        let HeadingSearch { headings, waiting } = self;
+        Ok(HeadingSearch {
             headings: filled(headings, darts, NO_DIRECTION)?,
             waiting: emptied(waiting, darts)?,
         })
@@ -98,7 +98,11 @@ fn reverse_heading(heading: u8, turns: &[Turn]) -> u8
 ///
 /// `AllocError` where there is no memory for the directions or for the darts that wait in the search;
 /// the memory that was lent is then gone.
-pub fn headings_in(plane: &Plane, shape: &Shape, search: Search) -> Result<Search, AllocError>
+pub fn headings_in(
+    plane: &Plane,
+    shape: &Shape,
+    search: HeadingSearch,
+) -> Result<HeadingSearch, AllocError>
     requires { IsShape plane.now shape.now }
     ensures count { IfOk result (λ s. length s.headings.items ≡ darts plane.now) }
     ensures first { IfOk result (λ s. slice_index s.headings.items 0 ≡ 0) }

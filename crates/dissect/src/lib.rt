@@ -28,7 +28,7 @@ pub use cut_laws::{cuts_reach_corners, cuts_stay_sound, cuts_use_right_turns};
 pub use dissection::{dissect, dissect_along, dissect_in};
 pub use edges::lesser_darts_of;
 pub use face_list::Faces;
-pub use heading_search::{Search, headings_in};
+pub use heading_search::{HeadingSearch, headings_in};
 pub use normalization::normalize_into;
 pub use refinement::refine_in;
 pub use scan::{cut_face, cut_faces};

@@ -31,7 +31,7 @@ struct Step {
 /// A breadth-first search over faces. A step leaves a face by one of its darts, and enters the next one by one of that
 /// face's: by the reverse, across an edge, or by another dart that arrives at the same vertex.
 #[derive(Drop)]
-pub(crate) struct Search {
+pub(crate) struct FaceSearch {
     // by face: where the last search that reached it was to lead, and the two darts of the step by which it did
     goals: [u16; MAX_FACES],
     gives: [u16; MAX_FACES],
@@ -41,10 +41,10 @@ pub(crate) struct Search {
     found: usize,
 }
 
-impl Search {
+impl FaceSearch {
     /// A search that has reached nothing.
-    pub(crate) fn new() -> Search {
-        Search {
+    pub(crate) fn new() -> FaceSearch {
+        FaceSearch {
             goals: [NO_DART; MAX_FACES],
             gives: [NO_DART; MAX_FACES],
             takes: [NO_DART; MAX_FACES],

@@ -9,7 +9,7 @@ ghost use Rattle.straightening.specs.Flows.{AreFit};
 ghost use Rattle.straightening.specs.Wide.{wide_angles};
 
 use crate::flow::{Flow, clockwise, is_free_corner};
-use crate::search::{Search, Way};
+use crate::search::{FaceSearch, Way};
 use crate::tally::is_rep;
 use faces::Plane;
 use ortho_rep::{Prices, Shape};
@@ -20,7 +20,7 @@ use std::alloc::{AllocError, Global};
 #[derive(Drop)]
 pub struct Scratch {
     flow: Flow,
-    search: Search,
+    search: FaceSearch,
 }
 
 impl Scratch {
@@ -28,7 +28,7 @@ impl Scratch {
     pub fn new() -> Scratch {
         Scratch {
             flow: Flow::new(),
-            search: Search::new(),
+            search: FaceSearch::new(),
         }
     }
 }
@@ -113,7 +113,7 @@ fn count_wide(plane: &Plane, shape: &Shape) -> u16
 /// Makes each vertex of degree 2 straight where it can, from the head of a dart on, and answers whether it did anywhere.
 fn straighten_from(
     flow: &mut Flow,
-    search: &mut Search,
+    search: &mut FaceSearch,
     plane: &Plane,
     prices: &Prices,
     first: u16,
@@ -135,7 +135,7 @@ fn straighten_from(
 /// Makes the vertex with this wide corner straight where a way leads back, and answers whether it did.
 fn straighten_one(
     flow: &mut Flow,
-    search: &mut Search,
+    search: &mut FaceSearch,
     plane: &Plane,
     prices: &Prices,
     wide: u16,

@@ -6,7 +6,7 @@ use Rattle.faces.proofs.Ends.{plane_ends}
 use Rattle.ortho_rep.specs.Shapes.{angle_at, turns_at}
 use Rattle.ortho_rep.specs.Turns.{lefts, rights}
 use Rattle.dissect.specs.Headings.{AreHeadings}
-use Rattle.dissect.specs.Search.{IsDirected}
+use Rattle.dissect.specs.HeadingSearch.{IsDirected}
 use Rattle.dissect.proofs.Searching.{IsSearch, IsStep, nobody, read_at, search_first, search_taken, search_step, search_ends, reached_size, shape_headings}
 use Rattle.dissect.proofs.heading_search.headings_in.Goals as goal
 

@@ -2,7 +2,7 @@ use Rattle.std.proofs.Common.{ℕ, ◌-◌}
 use Rattle.faces.specs.Planes.{darts, reverse_dart, next}
 use Rattle.ortho_rep.specs.Shapes.{angle_at, turns_at}
 use Rattle.dissect.specs.Headings.{AreHeadings}
-use Rattle.dissect.specs.Search.{IsKnown}
+use Rattle.dissect.specs.HeadingSearch.{IsKnown}
 use Rattle.dissect.proofs.Searching.{IsSearch, nobody, work_of}
 use Rattle.dissect.proofs.heading_search.headings_in.Given as goal
 

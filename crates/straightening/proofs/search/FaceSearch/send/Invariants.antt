@@ -1,7 +1,7 @@
 use Rattle.std.proofs.Common.{◌<◌}
 use Rattle.faces.specs.Planes.{darts}
 use Rattle.straightening.specs.Flows.{AreFit}
-use Rattle.straightening.proofs.search.Search.send.Given as goal
+use Rattle.straightening.proofs.search.FaceSearch.send.Given as goal
 
 abbrev pub invariant-loop-step : goal.invariant-loop-step
 invariant-loop-step l = record {
