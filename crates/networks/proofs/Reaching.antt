@@ -1,4 +1,4 @@
--- What the steps of a search keep: a label, a place, a move of the level.
+-- What the steps of a search keep: a label, a place, a move of the radius.
 use Rattle.std.proofs.Common.{length, zero, suc, ◌≡◌, ◌≢◌, ◌≤◌, ◌<◌, ◌⊎◌, ℕ, ◌+◌, ◌*◌, refl, sym, ◌∙◌, ap, subst, inl, inr, arith, List}
 use Rattle.std.specs.Prelude.{ℤ, pos, negsuc, ◌+ℤ◌, ◌-ℤ◌, ◌≤ℤ◌, ◌<ℤ◌}
 use Rattle.std.proofs.lemmas.Bool.{cases_eq, cases_lt}
@@ -24,17 +24,17 @@ not_less a b h k = omega (arith, ints)
 
 -- ---- a node that is offered a lesser label is not among those that are ordered
 
--- a label x below q v that is no nearer than the level
-not_ordered : (x qv pv level : ℤ) → level ≤ℤ (x -ℤ pv) → x <ℤ qv → (qv -ℤ pv) ≤ℤ level → ⊥
-not_ordered x qv pv level a b c = omega (arith, ints)
+-- a label x below q v that is no nearer than the radius
+not_ordered : (x qv pv radius : ℤ) → radius ≤ℤ (x -ℤ pv) → x <ℤ qv → (qv -ℤ pv) ≤ℤ radius → ⊥
+not_ordered x qv pv radius a b c = omega (arith, ints)
 
 near_more : (z : ℤ) (k : ℕ) (a : ℤ) → IsNear z k a → IsNear z (k + 1) a
 near_more z k a (b, c) = (omega (arith, ints), omega (arith, ints))
 
-pub behind : (n : ℕ) (first : List ℕ) (arcs : List ResidualArc) (p e : ℕ → ℤ) (s : ℕ) (q : ℕ → ℤ) (enter order place : ℕ → ℕ) (scanned ordered reached : ℕ) (level : ℤ) (v : ℕ) (x : ℤ) → IsReached n first arcs p e s q enter order place scanned ordered reached level → v < n → level ≤ℤ (x -ℤ p v) → x <ℤ q v → q v <ℤ far → ordered ≤ place v
-behind n first arcs p e s q enter order place scanned ordered reached level v x r b beyond less l =
+pub behind : (n : ℕ) (first : List ℕ) (arcs : List ResidualArc) (p e : ℕ → ℤ) (s : ℕ) (q : ℕ → ℤ) (enter order place : ℕ → ℕ) (scanned ordered reached : ℕ) (radius : ℤ) (v : ℕ) (x : ℤ) → IsReached n first arcs p e s q enter order place scanned ordered reached radius → v < n → radius ≤ℤ (x -ℤ p v) → x <ℤ q v → q v <ℤ far → ordered ≤ place v
+behind n first arcs p e s q enter order place scanned ordered reached radius v x r b beyond less l =
     elim (cases_lt (place v) ordered) [
-      | inl h ↦ absurd (not_ordered x (q v) (p v) level beyond less (r.under v b l h))
+      | inl h ↦ absurd (not_ordered x (q v) (p v) radius beyond less (r.under v b l h))
       | inr h ↦ h
     ]
 
@@ -63,8 +63,8 @@ put_lower q q' v w x put less =
     ]
 
 -- a residual arc from a scanned node serves a node, whose place is behind
-pub offered_entered : (n : ℕ) (first : List ℕ) (arcs : List ResidualArc) (p : ℕ → ℤ) (s : ℕ) (q q' : ℕ → ℤ) (place place' : ℕ → ℕ) (scanned : ℕ) (level : ℤ) (k v : ℕ) (x : ℤ) → IsOffer n first arcs p s q place scanned level k v x → q' v ≡ x → AreLowered n scanned q place q' place' → scanned ≤ place' v → IsEntered n first arcs q' place' scanned v k
-offered_entered n first arcs p s q q' place place' scanned level k v x o here kept behind =
+pub offered_entered : (n : ℕ) (first : List ℕ) (arcs : List ResidualArc) (p : ℕ → ℤ) (s : ℕ) (q q' : ℕ → ℤ) (place place' : ℕ → ℕ) (scanned : ℕ) (radius : ℤ) (k v : ℕ) (x : ℤ) → IsOffer n first arcs p s q place scanned radius k v x → q' v ≡ x → AreLowered n scanned q place q' place' → scanned ≤ place' v → IsEntered n first arcs q' place' scanned v k
+offered_entered n first arcs p s q q' place place' scanned radius k v x o here kept behind =
     let same : (q' o.start ≡ q o.start) × (place' o.start ≡ place o.start) = kept.same o.start o.node o.labelled o.are_scanned in
     record {
       start = o.start;
@@ -98,8 +98,8 @@ kept_entered n first arcs q q' place place' scanned v k o here kept behind =
     }
 
 -- a scan's own node alone changes no label
-relabelled_kept : (n : ℕ) (first : List ℕ) (arcs : List ResidualArc) (p e : ℕ → ℤ) (s : ℕ) (q q' : ℕ → ℤ) (enter order place : ℕ → ℕ) (scanned ordered reached : ℕ) (level : ℤ) (v : ℕ) (x : ℤ) → IsReached n first arcs p e s q enter order place scanned ordered reached level → ordered ≤ place v → x <ℤ q v → IsPut q q' v x → AreLowered n scanned q place q' place
-relabelled_kept n first arcs p e s q q' enter order place scanned ordered reached level v x r behind less put =
+relabelled_kept : (n : ℕ) (first : List ℕ) (arcs : List ResidualArc) (p e : ℕ → ℤ) (s : ℕ) (q q' : ℕ → ℤ) (enter order place : ℕ → ℕ) (scanned ordered reached : ℕ) (radius : ℤ) (v : ℕ) (x : ℤ) → IsReached n first arcs p e s q enter order place scanned ordered reached radius → ordered ≤ place v → x <ℤ q v → IsPut q q' v x → AreLowered n scanned q place q' place
+relabelled_kept n first arcs p e s q q' enter order place scanned ordered reached radius v x r behind less put =
     let few : scanned ≤ ordered = r.counts.0 in
     record {
       lower = λ w b. put_lower q q' v w x put less;
@@ -107,11 +107,11 @@ relabelled_kept n first arcs p e s q q' enter order place scanned ordered reache
       old = λ w b l h. (let e : q' w ≡ q w = put.others w (λ t. let e : place w ≡ place v = ap place t in absurd (omega arith)) in rw (sym e) l, h);
     }
 
-pub relabelled : (n : ℕ) (first : List ℕ) (arcs : List ResidualArc) (p e : ℕ → ℤ) (s : ℕ) (q q' : ℕ → ℤ) (enter enter' order place : ℕ → ℕ) (scanned ordered reached : ℕ) (level : ℤ) (k v : ℕ) (x : ℤ) → IsReached n first arcs p e s q enter order place scanned ordered reached level → IsOffer n first arcs p s q place scanned level k v x → v < n → q v <ℤ far → pos 0 ≤ℤ e v → IsPut q q' v x → IsPut enter enter' v k → IsReached n first arcs p e s q' enter' order place scanned ordered reached level × AreLowered n scanned q place q' place
-relabelled n first arcs p e s q q' enter enter' order place scanned ordered reached level k v x r o b l fair put entered =
-    let far_place : ordered ≤ place v = behind n first arcs p e s q enter order place scanned ordered reached level v x r b o.beyond o.less l in
+pub relabelled : (n : ℕ) (first : List ℕ) (arcs : List ResidualArc) (p e : ℕ → ℤ) (s : ℕ) (q q' : ℕ → ℤ) (enter enter' order place : ℕ → ℕ) (scanned ordered reached : ℕ) (radius : ℤ) (k v : ℕ) (x : ℤ) → IsReached n first arcs p e s q enter order place scanned ordered reached radius → IsOffer n first arcs p s q place scanned radius k v x → v < n → q v <ℤ far → pos 0 ≤ℤ e v → IsPut q q' v x → IsPut enter enter' v k → IsReached n first arcs p e s q' enter' order place scanned ordered reached radius × AreLowered n scanned q place q' place
+relabelled n first arcs p e s q q' enter enter' order place scanned ordered reached radius k v x r o b l fair put entered =
+    let far_place : ordered ≤ place v = behind n first arcs p e s q enter order place scanned ordered reached radius v x r b o.beyond o.less l in
     let few : scanned ≤ ordered = r.counts.0 in
-    let kept : AreLowered n scanned q place q' place = relabelled_kept n first arcs p e s q q' enter order place scanned ordered reached level v x r far_place o.less put in
+    let kept : AreLowered n scanned q place q' place = relabelled_kept n first arcs p e s q q' enter order place scanned ordered reached radius v x r far_place o.less put in
     let was : (w : ℕ) → w < n → q' w <ℤ far → q w <ℤ far = λ w c m. elim (cases_eq w v) [
       | inl h ↦ subst (λ (t : ℕ). q t <ℤ far) (sym h) l
       | inr ne ↦ let e : q' w ≡ q w = put.others w ne in rw (sym e) m
@@ -127,7 +127,7 @@ relabelled n first arcs p e s q q' enter enter' order place scanned ordered reac
         most = λ w c. under_most (q' w) (q w) (put_lower q q' v w x put o.less) (r.most w c);
         under = λ w c m h. let t : (q' w ≡ q w) = put.others w (λ t. let e : place w ≡ place v = ap place t in absurd (omega arith)) in rw t (r.under w c (was w c m) h);
         here = λ w c m h. elim (cases_eq w v) [
-          | inl t ↦ subst (λ (t : ℕ). level ≤ℤ (q' t -ℤ p t)) (sym t) (rw put.here o.beyond)
+          | inl t ↦ subst (λ (t : ℕ). radius ≤ℤ (q' t -ℤ p t)) (sym t) (rw put.here o.beyond)
           | inr ne ↦ rw (put.others w ne) (r.here w c (was w c m) h)
         ];
         near = λ w c m. elim (cases_eq w v) [
@@ -140,7 +140,7 @@ relabelled n first arcs p e s q q' enter enter' order place scanned ordered reac
           | inr ne ↦ r.plain w c (was w c m)
         ];
         entered = λ w c m ne. elim (cases_eq w v) [
-          | inl t ↦ subst (λ (t : ℕ). IsEntered n first arcs q' place scanned t (enter' t)) (sym t) (subst (λ (i : ℕ). IsEntered n first arcs q' place scanned v i) (sym entered.here) (offered_entered n first arcs p s q q' place place scanned level k v x o put.here kept (omega arith)))
+          | inl t ↦ subst (λ (t : ℕ). IsEntered n first arcs q' place scanned t (enter' t)) (sym t) (subst (λ (i : ℕ). IsEntered n first arcs q' place scanned v i) (sym entered.here) (offered_entered n first arcs p s q q' place place scanned radius k v x o put.here kept (omega arith)))
           | inr d ↦ subst (λ (i : ℕ). IsEntered n first arcs q' place scanned w i) (sym (entered.others w d)) (kept_entered n first arcs q q' place place scanned w (enter w) (r.entered w c (was w c m) ne) (put.others w d) kept (inr refl))
         ];
       },
@@ -149,8 +149,8 @@ relabelled n first arcs p e s q q' enter enter' order place scanned ordered reac
 
 -- ---- a label for a node that was not reached before
 
-pub enlisted : (n : ℕ) (first : List ℕ) (arcs : List ResidualArc) (p e : ℕ → ℤ) (s : ℕ) (q q' : ℕ → ℤ) (enter enter' order order' place place' : ℕ → ℕ) (scanned ordered reached : ℕ) (level : ℤ) (k v : ℕ) (x : ℤ) → IsReached n first arcs p e s q enter order place scanned ordered reached level → IsOffer n first arcs p s q place scanned level k v x → v < n → far ≤ℤ q v → pos 0 ≤ℤ e v → reached < n → IsPut q q' v x → IsPut enter enter' v k → IsPut order order' reached v → IsPut place place' v reached → IsReached n first arcs p e s q' enter' order' place' scanned ordered (reached + 1) level × AreLowered n scanned q place q' place'
-enlisted n first arcs p e s q q' enter enter' order order' place place' scanned ordered reached level k v x r o b l fair few put entered listed placed =
+pub enlisted : (n : ℕ) (first : List ℕ) (arcs : List ResidualArc) (p e : ℕ → ℤ) (s : ℕ) (q q' : ℕ → ℤ) (enter enter' order order' place place' : ℕ → ℕ) (scanned ordered reached : ℕ) (radius : ℤ) (k v : ℕ) (x : ℤ) → IsReached n first arcs p e s q enter order place scanned ordered reached radius → IsOffer n first arcs p s q place scanned radius k v x → v < n → far ≤ℤ q v → pos 0 ≤ℤ e v → reached < n → IsPut q q' v x → IsPut enter enter' v k → IsPut order order' reached v → IsPut place place' v reached → IsReached n first arcs p e s q' enter' order' place' scanned ordered (reached + 1) radius × AreLowered n scanned q place q' place'
+enlisted n first arcs p e s q q' enter enter' order order' place place' scanned ordered reached radius k v x r o b l fair few put entered listed placed =
     let ho : scanned ≤ ordered = r.counts.0 in
     let or : ordered ≤ reached = r.counts.1 in
     let here : place' v ≡ reached = placed.here in
@@ -192,7 +192,7 @@ enlisted n first arcs p e s q q' enter enter' order order' place place' scanned 
           | inr ne ↦ rw (put.others w ne) (r.under w c (was w ne m) (rw (sym (placed.others w ne)) h))
         ];
         here = λ w c m h. elim (cases_eq w v) [
-          | inl t ↦ subst (λ (t : ℕ). level ≤ℤ (q' t -ℤ p t)) (sym t) (rw put.here o.beyond)
+          | inl t ↦ subst (λ (t : ℕ). radius ≤ℤ (q' t -ℤ p t)) (sym t) (rw put.here o.beyond)
           | inr ne ↦ rw (put.others w ne) (r.here w c (was w ne m) (rw (sym (placed.others w ne)) h))
         ];
         near = λ w c m. elim (cases_eq w v) [
@@ -205,7 +205,7 @@ enlisted n first arcs p e s q q' enter enter' order order' place place' scanned 
           | inr ne ↦ r.plain w c (was w ne m)
         ];
         entered = λ w c m ne. elim (cases_eq w v) [
-          | inl t ↦ subst (λ (t : ℕ). IsEntered n first arcs q' place' scanned t (enter' t)) (sym t) (subst (λ (i : ℕ). IsEntered n first arcs q' place' scanned v i) (sym entered.here) (offered_entered n first arcs p s q q' place place' scanned level k v x o put.here kept (omega arith)))
+          | inl t ↦ subst (λ (t : ℕ). IsEntered n first arcs q' place' scanned t (enter' t)) (sym t) (subst (λ (i : ℕ). IsEntered n first arcs q' place' scanned v i) (sym entered.here) (offered_entered n first arcs p s q q' place place' scanned radius k v x o put.here kept (omega arith)))
           | inr d ↦ subst (λ (i : ℕ). IsEntered n first arcs q' place' scanned w i) (sym (entered.others w d)) (kept_entered n first arcs q q' place place' scanned w (enter w) (r.entered w c (was w d m) ne) (put.others w d) kept (inr (placed.others w d)))
         ];
       },
@@ -217,8 +217,8 @@ enlisted n first arcs p e s q q' enter enter' order order' place place' scanned 
 pub same_z : (a : ℤ) → a ≤ℤ a
 same_z a = omega (arith, ints)
 
-pub swapped : (n : ℕ) (first : List ℕ) (arcs : List ResidualArc) (p e : ℕ → ℤ) (s : ℕ) (q : ℕ → ℤ) (enter order order' place place' : ℕ → ℕ) (scanned ordered reached : ℕ) (level : ℤ) (v from : ℕ) → IsReached n first arcs p e s q enter order place scanned ordered reached level → v < n → q v <ℤ far → place v ≡ from → ordered ≤ from → (q v -ℤ p v) ≤ℤ level → IsSwapped order place order' place' v from ordered → IsReached n first arcs p e s q enter order' place' scanned (ordered + 1) reached level × AreLowered n scanned q place q place'
-swapped n first arcs p e s q enter order order' place place' scanned ordered reached level v from r b l at behind near sw =
+pub swapped : (n : ℕ) (first : List ℕ) (arcs : List ResidualArc) (p e : ℕ → ℤ) (s : ℕ) (q : ℕ → ℤ) (enter order order' place place' : ℕ → ℕ) (scanned ordered reached : ℕ) (radius : ℤ) (v from : ℕ) → IsReached n first arcs p e s q enter order place scanned ordered reached radius → v < n → q v <ℤ far → place v ≡ from → ordered ≤ from → (q v -ℤ p v) ≤ℤ radius → IsSwapped order place order' place' v from ordered → IsReached n first arcs p e s q enter order' place' scanned (ordered + 1) reached radius × AreLowered n scanned q place q place'
+swapped n first arcs p e s q enter order order' place place' scanned ordered reached radius v from r b l at behind near sw =
     let ho : scanned ≤ ordered = r.counts.0 in
     let rn : reached ≤ n = r.counts.2 in
     let (in_list, mine) = r.listed v b l in
@@ -291,16 +291,16 @@ swapped n first arcs p e s q enter order order' place place' scanned ordered rea
         ];
         most = r.most;
         under = λ w c m h. elim (cases_eq w v) [
-          | inl t ↦ subst (λ (i : ℕ). (q i -ℤ p i) ≤ℤ level) (sym t) near
+          | inl t ↦ subst (λ (i : ℕ). (q i -ℤ p i) ≤ℤ radius) (sym t) near
           | inr nv ↦ elim (cases_eq w o) [
             | inl t ↦ let ne : o ≢ v = λ u. nv (t ∙ u) in let e : place' w ≡ from = ap place' t ∙ other_at ne in let d : from ≢ ordered = joint ne in absurd (omega arith)
             | inr nw ↦ let (stays, nt, nf) = rest w c m nv nw in r.under w c m (omega arith)
           ]
         ];
         here = λ w c m h. elim (cases_eq w v) [
-          | inl t ↦ subst (λ (i : ℕ). level ≤ℤ (q i -ℤ p i)) (sym t) (r.here v b l (omega arith))
+          | inl t ↦ subst (λ (i : ℕ). radius ≤ℤ (q i -ℤ p i)) (sym t) (r.here v b l (omega arith))
           | inr nv ↦ elim (cases_eq w o) [
-            | inl t ↦ subst (λ (i : ℕ). level ≤ℤ (q i -ℤ p i)) (sym t) (r.here o ob ol (omega arith))
+            | inl t ↦ subst (λ (i : ℕ). radius ≤ℤ (q i -ℤ p i)) (sym t) (r.here o ob ol (omega arith))
             | inr nw ↦ let (stays, nt, nf) = rest w c m nv nw in r.here w c m (omega arith)
           ]
         ];
@@ -334,8 +334,8 @@ entered_more n first arcs q place scanned v k o = record {
   label = o.label;
 }
 
-pub headed : (n : ℕ) (first : List ℕ) (arcs : List ResidualArc) (p e : ℕ → ℤ) (s : ℕ) (q : ℕ → ℤ) (enter order place : ℕ → ℕ) (scanned ordered reached : ℕ) (level : ℤ) → IsReached n first arcs p e s q enter order place scanned ordered reached level → scanned < ordered → IsReached n first arcs p e s q enter order place (scanned + 1) ordered reached level
-headed n first arcs p e s q enter order place scanned ordered reached level r more = record {
+pub headed : (n : ℕ) (first : List ℕ) (arcs : List ResidualArc) (p e : ℕ → ℤ) (s : ℕ) (q : ℕ → ℤ) (enter order place : ℕ → ℕ) (scanned ordered reached : ℕ) (radius : ℤ) → IsReached n first arcs p e s q enter order place scanned ordered reached radius → scanned < ordered → IsReached n first arcs p e s q enter order place (scanned + 1) ordered reached radius
+headed n first arcs p e s q enter order place scanned ordered reached radius r more = record {
   counts = (omega arith, r.counts.1, r.counts.2);
   begun = r.begun;
   node = r.node;
@@ -351,8 +351,8 @@ headed n first arcs p e s q enter order place scanned ordered reached level r mo
   entered = λ w c m ne. entered_more n first arcs q place scanned w (enter w) (r.entered w c m ne);
 }
 
-pub headed_nearest : (n : ℕ) (first : List ℕ) (arcs : List ResidualArc) (p e : ℕ → ℤ) (s : ℕ) (q : ℕ → ℤ) (place : ℕ → ℕ) (scanned : ℕ) (level bound : ℤ) (k : ℕ) → IsNearest n first arcs p e s q place scanned level bound k → IsNearest n first arcs p e s q place (scanned + 1) level bound k
-headed_nearest n first arcs p e s q place scanned level bound k r = record {
+pub headed_nearest : (n : ℕ) (first : List ℕ) (arcs : List ResidualArc) (p e : ℕ → ℤ) (s : ℕ) (q : ℕ → ℤ) (place : ℕ → ℕ) (scanned : ℕ) (radius bound : ℤ) (k : ℕ) → IsNearest n first arcs p e s q place scanned radius bound k → IsNearest n first arcs p e s q place (scanned + 1) radius bound k
+headed_nearest n first arcs p e s q place scanned radius bound k r = record {
   above = r.above;
   most = r.most;
   hit = λ l. let h = r.hit l in record {
@@ -368,13 +368,13 @@ headed_nearest n first arcs p e s q place scanned level bound k r = record {
   };
 }
 
--- ---- the level moves
+-- ---- the radius moves
 
-pub under_level : (d a b : ℤ) → d ≤ℤ a → a ≤ℤ b → d ≤ℤ b
-under_level d a b h k = omega (arith, ints)
+pub under_radius : (d a b : ℤ) → d ≤ℤ a → a ≤ℤ b → d ≤ℤ b
+under_radius d a b h k = omega (arith, ints)
 
-pub climbed : (n : ℕ) (first : List ℕ) (arcs : List ResidualArc) (p e : ℕ → ℤ) (s : ℕ) (q : ℕ → ℤ) (enter order place : ℕ → ℕ) (scanned ordered reached : ℕ) (level to : ℤ) → IsReached n first arcs p e s q enter order place scanned ordered reached level → scanned ≡ ordered → level ≤ℤ to → ((j : ℕ) → ordered ≤ j → j < reached → to ≤ℤ (q (order j) -ℤ p (order j))) → IsReached n first arcs p e s q enter order place scanned ordered reached to
-climbed n first arcs p e s q enter order place scanned ordered reached level to r done rises least = record {
+pub climbed : (n : ℕ) (first : List ℕ) (arcs : List ResidualArc) (p e : ℕ → ℤ) (s : ℕ) (q : ℕ → ℤ) (enter order place : ℕ → ℕ) (scanned ordered reached : ℕ) (radius to : ℤ) → IsReached n first arcs p e s q enter order place scanned ordered reached radius → scanned ≡ ordered → radius ≤ℤ to → ((j : ℕ) → ordered ≤ j → j < reached → to ≤ℤ (q (order j) -ℤ p (order j))) → IsReached n first arcs p e s q enter order place scanned ordered reached to
+climbed n first arcs p e s q enter order place scanned ordered reached radius to r done rises least = record {
   counts = r.counts;
   begun = r.begun;
   node = r.node;
@@ -382,7 +382,7 @@ climbed n first arcs p e s q enter order place scanned ordered reached level to 
   marked = r.marked;
   listed = r.listed;
   most = r.most;
-  under = λ w c m h. under_level (q w -ℤ p w) level to (r.under w c m h) rises;
+  under = λ w c m h. under_radius (q w -ℤ p w) radius to (r.under w c m h) rises;
   here = λ w c m h. let (b, back) = r.listed w c m in subst (λ (i : ℕ). to ≤ℤ (q i -ℤ p i)) back (least (place w) (omega arith) b);
   near = r.near;
   source = r.source;
@@ -401,7 +401,7 @@ kept_same n h q place = record {
 
 pub kept_then : (n h : ℕ) (q q' q'' : ℕ → ℤ) (place place' place'' : ℕ → ℕ) → AreLowered n h q place q' place' → AreLowered n h q' place' q'' place'' → AreLowered n h q place q'' place''
 kept_then n h q q' q'' place place' place'' a c = record {
-  lower = λ v b. under_level (q'' v) (q' v) (q v) (c.lower v b) (a.lower v b);
+  lower = λ v b. under_radius (q'' v) (q' v) (q v) (c.lower v b) (a.lower v b);
   same = λ v b l d.
       let (e, f) = a.same v b l d in
       let l' : q' v <ℤ far = subst (λ (z : ℤ). z <ℤ far) (sym e) l in
@@ -423,8 +423,8 @@ kept_less n h k q q' place place' le a = record {
 
 -- ---- the nearest node found where units are wanting
 
-pub nearest_kept : (n : ℕ) (first : List ℕ) (arcs : List ResidualArc) (p e : ℕ → ℤ) (s : ℕ) (q q' : ℕ → ℤ) (place place' : ℕ → ℕ) (scanned : ℕ) (level level' bound : ℤ) (k : ℕ) → IsNearest n first arcs p e s q place scanned level bound k → level' ≤ℤ bound → AreLowered n scanned q place q' place' → IsNearest n first arcs p e s q' place' scanned level' bound k
-nearest_kept n first arcs p e s q q' place place' scanned level level' bound k r above kept = record {
+pub nearest_kept : (n : ℕ) (first : List ℕ) (arcs : List ResidualArc) (p e : ℕ → ℤ) (s : ℕ) (q q' : ℕ → ℤ) (place place' : ℕ → ℕ) (scanned : ℕ) (radius radius' bound : ℤ) (k : ℕ) → IsNearest n first arcs p e s q place scanned radius bound k → radius' ≤ℤ bound → AreLowered n scanned q place q' place' → IsNearest n first arcs p e s q' place' scanned radius' bound k
+nearest_kept n first arcs p e s q q' place place' scanned radius radius' bound k r above kept = record {
   above = above;
   most = r.most;
   hit = λ l.
@@ -449,12 +449,12 @@ cut_far x pv h z = omega (arith, ints)
 near_cut : (a : ℤ) (k : ℕ) (x pv : ℤ) → IsNear a k x → pv ≡ pos 0 → IsNear a k (x -ℤ pv)
 near_cut a k x pv (b, c) z = (omega (arith, ints), omega (arith, ints))
 
-pub nearest_offered : (n : ℕ) (first : List ℕ) (arcs : List ResidualArc) (p e : ℕ → ℤ) (s : ℕ) (q : ℕ → ℤ) (place : ℕ → ℕ) (scanned : ℕ) (level bound cut' : ℤ) (k k' j v : ℕ) (x : ℤ) → IsNearest n first arcs p e s q place scanned level bound k → IsOffer n first arcs p s q place scanned level j v x → q v ≤ℤ far → e v <ℤ pos 0 → p v ≡ pos 0 → ((cut' ≡ bound) × (k' ≡ k)) ⊎ ((cut' ≡ x -ℤ p v) × (k' ≡ j)) → IsNearest n first arcs p e s q place scanned level cut' k'
-nearest_offered n first arcs p e s q place scanned level bound cut' k k' j v x r o most wants none (inl (a, b)) =
-    subst (λ (z : ℤ). IsNearest n first arcs p e s q place scanned level z k') (sym a) (subst (λ (i : ℕ). IsNearest n first arcs p e s q place scanned level bound i) (sym b) r)
-nearest_offered n first arcs p e s q place scanned level bound cut' k k' j v x r o most wants none (inr (a, b)) =
+pub nearest_offered : (n : ℕ) (first : List ℕ) (arcs : List ResidualArc) (p e : ℕ → ℤ) (s : ℕ) (q : ℕ → ℤ) (place : ℕ → ℕ) (scanned : ℕ) (radius bound cut' : ℤ) (k k' j v : ℕ) (x : ℤ) → IsNearest n first arcs p e s q place scanned radius bound k → IsOffer n first arcs p s q place scanned radius j v x → q v ≤ℤ far → e v <ℤ pos 0 → p v ≡ pos 0 → ((cut' ≡ bound) × (k' ≡ k)) ⊎ ((cut' ≡ x -ℤ p v) × (k' ≡ j)) → IsNearest n first arcs p e s q place scanned radius cut' k'
+nearest_offered n first arcs p e s q place scanned radius bound cut' k k' j v x r o most wants none (inl (a, b)) =
+    subst (λ (z : ℤ). IsNearest n first arcs p e s q place scanned radius z k') (sym a) (subst (λ (i : ℕ). IsNearest n first arcs p e s q place scanned radius bound i) (sym b) r)
+nearest_offered n first arcs p e s q place scanned radius bound cut' k k' j v x r o most wants none (inr (a, b)) =
     let here : x <ℤ far = not_far x (q v) o.less most in
-    let one : IsNearest n first arcs p e s q place scanned level (x -ℤ p v) j = record {
+    let one : IsNearest n first arcs p e s q place scanned radius (x -ℤ p v) j = record {
       above = o.beyond;
       most = cut_far x (p v) here none;
       hit = λ l. record {
@@ -469,7 +469,7 @@ nearest_offered n first arcs p e s q place scanned level bound cut' k k' j v x r
         near = near_cut (p s) scanned x (p v) o.near none;
       };
     } in
-    subst (λ (z : ℤ). IsNearest n first arcs p e s q place scanned level z k') (sym a) (subst (λ (i : ℕ). IsNearest n first arcs p e s q place scanned level (x -ℤ p v) i) (sym b) one)
+    subst (λ (z : ℤ). IsNearest n first arcs p e s q place scanned radius z k') (sym a) (subst (λ (i : ℕ). IsNearest n first arcs p e s q place scanned radius (x -ℤ p v) i) (sym b) one)
 
 -- ---- what is served stays so
 
@@ -504,12 +504,12 @@ served_more n first arcs p q place bound h u sv only mine = record {
 
 -- ---- the order has room
 
-pub order_distinct : (n : ℕ) (first : List ℕ) (arcs : List ResidualArc) (p e : ℕ → ℤ) (s : ℕ) (q : ℕ → ℤ) (enter order place : ℕ → ℕ) (scanned ordered reached : ℕ) (level : ℤ) → IsReached n first arcs p e s q enter order place scanned ordered reached level → AreDistinct reached order
-order_distinct n first arcs p e s q enter order place scanned ordered reached level r i j a b h = sym (r.at i a) ∙ ap place h ∙ r.at j b
+pub order_distinct : (n : ℕ) (first : List ℕ) (arcs : List ResidualArc) (p e : ℕ → ℤ) (s : ℕ) (q : ℕ → ℤ) (enter order place : ℕ → ℕ) (scanned ordered reached : ℕ) (radius : ℤ) → IsReached n first arcs p e s q enter order place scanned ordered reached radius → AreDistinct reached order
+order_distinct n first arcs p e s q enter order place scanned ordered reached radius r i j a b h = sym (r.at i a) ∙ ap place h ∙ r.at j b
 
-pub order_room : (n : ℕ) (first : List ℕ) (arcs : List ResidualArc) (p e : ℕ → ℤ) (s : ℕ) (q : ℕ → ℤ) (enter order place : ℕ → ℕ) (scanned ordered reached : ℕ) (level : ℤ) (v : ℕ) → IsReached n first arcs p e s q enter order place scanned ordered reached level → v < n → far ≤ℤ q v → reached < n
-order_room n first arcs p e s q enter order place scanned ordered reached level v r b l =
-    room_for reached n order v r.node (order_distinct n first arcs p e s q enter order place scanned ordered reached level r) b
+pub order_room : (n : ℕ) (first : List ℕ) (arcs : List ResidualArc) (p e : ℕ → ℤ) (s : ℕ) (q : ℕ → ℤ) (enter order place : ℕ → ℕ) (scanned ordered reached : ℕ) (radius : ℤ) (v : ℕ) → IsReached n first arcs p e s q enter order place scanned ordered reached radius → v < n → far ≤ℤ q v → reached < n
+order_room n first arcs p e s q enter order place scanned ordered reached radius v r b l =
+    room_for reached n order v r.node (order_distinct n first arcs p e s q enter order place scanned ordered reached radius r) b
     (λ j c t. not_less (q v) far (subst (λ (i : ℕ). q i <ℤ far) t (r.marked j c)) l)
 
 -- ---- bounds
@@ -520,31 +520,31 @@ label_fits n scanned ps x small le (a, b) (c, d) = (omega (arith, ints), omega (
 potential_fits : (n : ℕ) (pv : ℤ) → n ≤ MAX_NODES → (pos 0 ≤ℤ (pv +ℤ pos (2 * n))) × (pv ≤ℤ pos (2 * n)) → IsWithinFar pv
 potential_fits n pv small (c, d) = (omega (arith, ints), omega (arith, ints))
 
-pub offer_fits : (n : ℕ) (first : List ℕ) (arcs : List ResidualArc) (p e : ℕ → ℤ) (s : ℕ) (q : ℕ → ℤ) (enter order place : ℕ → ℕ) (scanned ordered reached : ℕ) (level : ℤ) (k v : ℕ) (x : ℤ) → IsGraph n first arcs → AreFeasiblePotentials n first arcs p e → IsReached n first arcs p e s q enter order place scanned ordered reached level → IsOffer n first arcs p s q place scanned level k v x → IsWithinFar x
-offer_fits n first arcs p e s q enter order place scanned ordered reached level k v x g pr r o =
+pub offer_fits : (n : ℕ) (first : List ℕ) (arcs : List ResidualArc) (p e : ℕ → ℤ) (s : ℕ) (q : ℕ → ℤ) (enter order place : ℕ → ℕ) (scanned ordered reached : ℕ) (radius : ℤ) (k v : ℕ) (x : ℤ) → IsGraph n first arcs → AreFeasiblePotentials n first arcs p e → IsReached n first arcs p e s q enter order place scanned ordered reached radius → IsOffer n first arcs p s q place scanned radius k v x → IsWithinFar x
+offer_fits n first arcs p e s q enter order place scanned ordered reached radius k v x g pr r o =
     let le : scanned ≤ n = omega (arith, r.counts) in
     label_fits n scanned (p s) x g.nodes le o.near (pr.low s r.source.0)
 
 pub potential_fits_at : (n : ℕ) (first : List ℕ) (arcs : List ResidualArc) (p e : ℕ → ℤ) (v : ℕ) → IsGraph n first arcs → AreFeasiblePotentials n first arcs p e → v < n → IsWithinFar (p v)
 potential_fits_at n first arcs p e v g pr b = potential_fits n (p v) g.nodes (pr.low v b)
 
-pub reached_fits : (n : ℕ) (first : List ℕ) (arcs : List ResidualArc) (p e : ℕ → ℤ) (s : ℕ) (q : ℕ → ℤ) (enter order place : ℕ → ℕ) (scanned ordered reached : ℕ) (level : ℤ) (v : ℕ) → IsGraph n first arcs → AreFeasiblePotentials n first arcs p e → IsReached n first arcs p e s q enter order place scanned ordered reached level → v < n → q v <ℤ far → IsWithinFar (q v)
-reached_fits n first arcs p e s q enter order place scanned ordered reached level v g pr r b l =
+pub reached_fits : (n : ℕ) (first : List ℕ) (arcs : List ResidualArc) (p e : ℕ → ℤ) (s : ℕ) (q : ℕ → ℤ) (enter order place : ℕ → ℕ) (scanned ordered reached : ℕ) (radius : ℤ) (v : ℕ) → IsGraph n first arcs → AreFeasiblePotentials n first arcs p e → IsReached n first arcs p e s q enter order place scanned ordered reached radius → v < n → q v <ℤ far → IsWithinFar (q v)
+reached_fits n first arcs p e s q enter order place scanned ordered reached radius v g pr r b l =
     let le : scanned ≤ n = omega (arith, r.counts) in
     label_fits n scanned (p s) (q v) g.nodes le (r.near v b l) (pr.low s r.source.0)
 
 -- where an offer ends is a node, and its number is one of a residual arc
-pub offer_end : (n : ℕ) (first : List ℕ) (arcs : List ResidualArc) (p : ℕ → ℤ) (s : ℕ) (q : ℕ → ℤ) (place : ℕ → ℕ) (scanned : ℕ) (level : ℤ) (k v : ℕ) (x : ℤ) → IsGraph n first arcs → IsOffer n first arcs p s q place scanned level k v x → v < n
-offer_end n first arcs p s q place scanned level k v x g o = subst (λ (i : ℕ). i < n) o.arrives (g.end o.start k o.node o.leaves)
+pub offer_end : (n : ℕ) (first : List ℕ) (arcs : List ResidualArc) (p : ℕ → ℤ) (s : ℕ) (q : ℕ → ℤ) (place : ℕ → ℕ) (scanned : ℕ) (radius : ℤ) (k v : ℕ) (x : ℤ) → IsGraph n first arcs → IsOffer n first arcs p s q place scanned radius k v x → v < n
+offer_end n first arcs p s q place scanned radius k v x g o = subst (λ (i : ℕ). i < n) o.arrives (g.end o.start k o.node o.leaves)
 
-pub offer_number : (n : ℕ) (first : List ℕ) (arcs : List ResidualArc) (p : ℕ → ℤ) (s : ℕ) (q : ℕ → ℤ) (place : ℕ → ℕ) (scanned : ℕ) (level : ℤ) (k v : ℕ) (x : ℤ) → IsGraph n first arcs → IsOffer n first arcs p s q place scanned level k v x → k < 8192
-offer_number n first arcs p s q place scanned level k v x g o = omega (arith, g.inside o.start o.node, o.leaves.below, g.few)
+pub offer_number : (n : ℕ) (first : List ℕ) (arcs : List ResidualArc) (p : ℕ → ℤ) (s : ℕ) (q : ℕ → ℤ) (place : ℕ → ℕ) (scanned : ℕ) (radius : ℤ) (k v : ℕ) (x : ℤ) → IsGraph n first arcs → IsOffer n first arcs p s q place scanned radius k v x → k < 8192
+offer_number n first arcs p s q place scanned radius k v x g o = omega (arith, g.inside o.start o.node, o.leaves.below, g.few)
 
-pub at_level : (q p x a level : ℤ) → q ≡ x → a ≡ x -ℤ p → a ≡ level → (q -ℤ p) ≤ℤ level
-at_level q p x a level h k l = omega (arith, ints)
+pub at_radius : (q p x a radius : ℤ) → q ≡ x → a ≡ x -ℤ p → a ≡ radius → (q -ℤ p) ≤ℤ radius
+at_radius q p x a radius h k l = omega (arith, ints)
 
-pub offer_below : (n : ℕ) (first : List ℕ) (arcs : List ResidualArc) (p e : ℕ → ℤ) (s : ℕ) (q : ℕ → ℤ) (enter order place : ℕ → ℕ) (scanned ordered reached : ℕ) (level : ℤ) (k v : ℕ) (x : ℤ) → IsReached n first arcs p e s q enter order place scanned ordered reached level → IsOffer n first arcs p s q place scanned level k v x → v < n → x <ℤ far
-offer_below n first arcs p e s q enter order place scanned ordered reached level k v x r o b = not_far x (q v) o.less (r.most v b)
+pub offer_below : (n : ℕ) (first : List ℕ) (arcs : List ResidualArc) (p e : ℕ → ℤ) (s : ℕ) (q : ℕ → ℤ) (enter order place : ℕ → ℕ) (scanned ordered reached : ℕ) (radius : ℤ) (k v : ℕ) (x : ℤ) → IsReached n first arcs p e s q enter order place scanned ordered reached radius → IsOffer n first arcs p s q place scanned radius k v x → v < n → x <ℤ far
+offer_below n first arcs p e s q enter order place scanned ordered reached radius k v x r o b = not_far x (q v) o.less (r.most v b)
 
 nothing_between : (x pv a bound : ℤ) → a ≡ x -ℤ pv → bound ≤ℤ a → (x -ℤ pv) <ℤ bound → ⊥
 nothing_between x pv a bound h k m = omega (arith, ints)
@@ -561,8 +561,8 @@ closed_far x qu qe c ps n h small le (a, b) (d, e) s l m g = omega (arith, ints)
 near_step : (ps qu c x : ℤ) (h : ℕ) → IsNear ps h qu → negsuc 0 ≤ℤ c → c ≤ℤ pos 1 → x ≡ qu +ℤ c → IsNear ps (h + 1) x
 near_step ps qu c x h (a, b) d e s = (omega (arith, ints), omega (arith, ints))
 
-no_nearer : (level qu pu c pe x : ℤ) → level ≤ℤ (qu -ℤ pu) → pos 0 ≤ℤ (c +ℤ pu -ℤ pe) → x ≡ qu +ℤ c → level ≤ℤ (x -ℤ pe)
-no_nearer level qu pu c pe x h r s = omega (arith, ints)
+no_nearer : (radius qu pu c pe x : ℤ) → radius ≤ℤ (qu -ℤ pu) → pos 0 ≤ℤ (c +ℤ pu -ℤ pe) → x ≡ qu +ℤ c → radius ≤ℤ (x -ℤ pe)
+no_nearer radius qu pu c pe x h r s = omega (arith, ints)
 
 is_open : (n : ℕ) (first : List ℕ) (arcs : List ResidualArc) (p e : ℕ → ℤ) (s : ℕ) (q : ℕ → ℤ) (u k : ℕ) (h : ℕ) (x : ℤ) → IsGraph n first arcs → AreFeasiblePotentials n first arcs p e → s < n → u < n → h ≤ n → IsNear (p s) h (q u) → StartsAt first u k → x ≡ q u +ℤ cost_at arcs k → x <ℤ q (end_at arcs k) → q (end_at arcs k) ≤ℤ far → (negsuc 0 ≤ℤ cost_at arcs k) × (cost_at arcs k ≤ℤ pos 1)
 is_open n first arcs p e s q u k h x g pr sb ub le near st sum less most =
@@ -571,8 +571,8 @@ is_open n first arcs p e s q u k h x g pr sb ub le near st sum less most =
       | inr f ↦ absurd (closed_far x (q u) (q (end_at arcs k)) (cost_at arcs k) (p s) n h g.nodes le near (pr.low s sb) sum less most f.0)
     ]
 
-pub offer_made : (n : ℕ) (first : List ℕ) (arcs : List ResidualArc) (p e : ℕ → ℤ) (s : ℕ) (q : ℕ → ℤ) (enter order place : ℕ → ℕ) (scanned ordered reached : ℕ) (level : ℤ) (u k v : ℕ) (x : ℤ) → IsGraph n first arcs → AreFeasiblePotentials n first arcs p e → IsReached n first arcs p e s q enter order place scanned ordered reached level → u < n → q u <ℤ far → place u + 1 ≡ scanned → IsNear (p s) (place u) (q u) → level ≤ℤ (q u -ℤ p u) → StartsAt first u k → v ≡ end_at arcs k → x ≡ q u +ℤ cost_at arcs k → x <ℤ q v → IsOffer n first arcs p s q place scanned level k v x
-offer_made n first arcs p e s q enter order place scanned ordered reached level u k v x g pr r ub lu at near high st ends sum less =
+pub offer_made : (n : ℕ) (first : List ℕ) (arcs : List ResidualArc) (p e : ℕ → ℤ) (s : ℕ) (q : ℕ → ℤ) (enter order place : ℕ → ℕ) (scanned ordered reached : ℕ) (radius : ℤ) (u k v : ℕ) (x : ℤ) → IsGraph n first arcs → AreFeasiblePotentials n first arcs p e → IsReached n first arcs p e s q enter order place scanned ordered reached radius → u < n → q u <ℤ far → place u + 1 ≡ scanned → IsNear (p s) (place u) (q u) → radius ≤ℤ (q u -ℤ p u) → StartsAt first u k → v ≡ end_at arcs k → x ≡ q u +ℤ cost_at arcs k → x <ℤ q v → IsOffer n first arcs p s q place scanned radius k v x
+offer_made n first arcs p e s q enter order place scanned ordered reached radius u k v x g pr r ub lu at near high st ends sum less =
     let le : place u ≤ n = omega (arith, r.counts) in
     let here : x <ℤ q (end_at arcs k) = subst (λ (i : ℕ). x <ℤ q i) ends less in
     let o = is_open n first arcs p e s q u k (place u) x g pr r.source.0 ub le near st sum here (r.most (end_at arcs k) (g.end u k ub st)) in
@@ -587,7 +587,7 @@ offer_made n first arcs p e s q enter order place scanned ordered reached level 
       arrives = sym ends;
       label = sum;
       near = subst (λ (i : ℕ). IsNear (p s) i x) at close;
-      beyond = subst (λ (i : ℕ). level ≤ℤ (x -ℤ p i)) (sym ends) (no_nearer level (q u) (p u) (cost_at arcs k) (p (end_at arcs k)) x high (pr.reduced u k ub st o.1) sum);
+      beyond = subst (λ (i : ℕ). radius ≤ℤ (x -ℤ p i)) (sym ends) (no_nearer radius (q u) (p u) (cost_at arcs k) (p (end_at arcs k)) x high (pr.reduced u k ub st o.1) sum);
       less = less;
     }
 
@@ -602,8 +602,8 @@ served_after arcs p q q' bound u k v x ends sum same sv _ near =
     subst (λ (z : ℤ). q' (end_at arcs k) ≤ℤ z) total (subst (λ (i : ℕ). q' i ≤ℤ x) ends (sv close))
 
 -- the order of the first h nodes stays
-pub order_kept : (n : ℕ) (first : List ℕ) (arcs : List ResidualArc) (p e : ℕ → ℤ) (s : ℕ) (q q' : ℕ → ℤ) (enter enter' order order' place place' : ℕ → ℕ) (scanned scanned' ordered ordered' reached reached' : ℕ) (level level' : ℤ) (h : ℕ) → IsReached n first arcs p e s q enter order place scanned ordered reached level → IsReached n first arcs p e s q' enter' order' place' scanned' ordered' reached' level' → AreLowered n h q place q' place' → h ≤ reached → (j : ℕ) → j < h → order' j ≡ order j
-order_kept n first arcs p e s q q' enter enter' order order' place place' scanned scanned' ordered ordered' reached reached' level level' h r r' kept le j b =
+pub order_kept : (n : ℕ) (first : List ℕ) (arcs : List ResidualArc) (p e : ℕ → ℤ) (s : ℕ) (q q' : ℕ → ℤ) (enter enter' order order' place place' : ℕ → ℕ) (scanned scanned' ordered ordered' reached reached' : ℕ) (radius radius' : ℤ) (h : ℕ) → IsReached n first arcs p e s q enter order place scanned ordered reached radius → IsReached n first arcs p e s q' enter' order' place' scanned' ordered' reached' radius' → AreLowered n h q place q' place' → h ≤ reached → (j : ℕ) → j < h → order' j ≡ order j
+order_kept n first arcs p e s q q' enter enter' order order' place place' scanned scanned' ordered ordered' reached reached' radius radius' h r r' kept le j b =
     let jb : j < reached = omega arith in
     let v : ℕ = order j in
     let vb : v < n = r.node j jb in
@@ -631,10 +631,10 @@ all_degrees (suc n) first arcs g =
     let whole : numbers first (suc n) ≡ numbers first (n + 1) = ap (numbers first) (omega arith) in
     omega arith
 
-pub looked_most : (n : ℕ) (first : List ℕ) (arcs : List ResidualArc) (p e : ℕ → ℤ) (s : ℕ) (q : ℕ → ℤ) (enter order place : ℕ → ℕ) (scanned ordered reached : ℕ) (level : ℤ) → IsGraph n first arcs → IsReached n first arcs p e s q enter order place scanned ordered reached level → looked first order scanned ≤ length arcs
-looked_most n first arcs p e s q enter order place scanned ordered reached level g r =
+pub looked_most : (n : ℕ) (first : List ℕ) (arcs : List ResidualArc) (p e : ℕ → ℤ) (s : ℕ) (q : ℕ → ℤ) (enter order place : ℕ → ℕ) (scanned ordered reached : ℕ) (radius : ℤ) → IsGraph n first arcs → IsReached n first arcs p e s q enter order place scanned ordered reached radius → looked first order scanned ≤ length arcs
+looked_most n first arcs p e s q enter order place scanned ordered reached radius g r =
     let le : scanned ≤ reached = omega (arith, r.counts) in
-    let sum : looked first order scanned ≤ sum_below n (degree first) = distinct_sum scanned n order (degree first) (λ j b. r.node j (omega arith)) (λ i j a b h. order_distinct n first arcs p e s q enter order place scanned ordered reached level r i j (omega arith) (omega arith) h) in
+    let sum : looked first order scanned ≤ sum_below n (degree first) = distinct_sum scanned n order (degree first) (λ j b. r.node j (omega arith)) (λ i j a b h. order_distinct n first arcs p e s q enter order place scanned ordered reached radius r i j (omega arith) (omega arith) h) in
     omega (arith, all_degrees n first arcs g)
 
 pub looked_same : (first : List ℕ) (order order' : ℕ → ℕ) (h : ℕ) → ((j : ℕ) → j < h → order' j ≡ order j) → looked first order' h ≡ looked first order h
@@ -693,11 +693,11 @@ source_reached n first arcs p e s q q' enter order place small sb low left blank
 
 -- ---- leaving
 
-pub left_at_level : (n : ℕ) (first : List ℕ) (arcs : List ResidualArc) (p e : ℕ → ℤ) (s : ℕ) (q : ℕ → ℤ) (enter order place : ℕ → ℕ) (scanned ordered reached : ℕ) (level bound : ℤ) → IsReached n first arcs p e s q enter order place scanned ordered reached level → level ≡ bound → IsLeft n p q place scanned bound
-left_at_level n first arcs p e s q enter order place scanned ordered reached level bound r same v b l h = subst (λ (z : ℤ). z ≤ℤ (q v -ℤ p v)) same (r.here v b l h)
+pub left_at_radius : (n : ℕ) (first : List ℕ) (arcs : List ResidualArc) (p e : ℕ → ℤ) (s : ℕ) (q : ℕ → ℤ) (enter order place : ℕ → ℕ) (scanned ordered reached : ℕ) (radius bound : ℤ) → IsReached n first arcs p e s q enter order place scanned ordered reached radius → radius ≡ bound → IsLeft n p q place scanned bound
+left_at_radius n first arcs p e s q enter order place scanned ordered reached radius bound r same v b l h = subst (λ (z : ℤ). z ≤ℤ (q v -ℤ p v)) same (r.here v b l h)
 
-pub left_behind : (n : ℕ) (first : List ℕ) (arcs : List ResidualArc) (p e : ℕ → ℤ) (s : ℕ) (q : ℕ → ℤ) (enter order place : ℕ → ℕ) (scanned ordered reached : ℕ) (level bound : ℤ) → IsReached n first arcs p e s q enter order place scanned ordered reached level → ordered ≤ scanned → ((j : ℕ) → ordered ≤ j → j < reached → bound ≤ℤ (q (order j) -ℤ p (order j))) → IsLeft n p q place scanned bound
-left_behind n first arcs p e s q enter order place scanned ordered reached level bound r done least v b l h =
+pub left_behind : (n : ℕ) (first : List ℕ) (arcs : List ResidualArc) (p e : ℕ → ℤ) (s : ℕ) (q : ℕ → ℤ) (enter order place : ℕ → ℕ) (scanned ordered reached : ℕ) (radius bound : ℤ) → IsReached n first arcs p e s q enter order place scanned ordered reached radius → ordered ≤ scanned → ((j : ℕ) → ordered ≤ j → j < reached → bound ≤ℤ (q (order j) -ℤ p (order j))) → IsLeft n p q place scanned bound
+left_behind n first arcs p e s q enter order place scanned ordered reached radius bound r done least v b l h =
     let (in_list, back) = r.listed v b l in
     subst (λ (i : ℕ). bound ≤ℤ (q i -ℤ p i)) back (least (place v) (omega arith) in_list)
 
@@ -710,7 +710,7 @@ strictly a b h ne = elim (below_or_not a b) [ inl l ↦ l | inr g ↦ absurd (ne
 pub least_more : (q p : ℕ → ℤ) (order : ℕ → ℕ) (ordered j : ℕ) (bound least a r : ℤ) → a ≡ q (order j) -ℤ p (order j) → r ≤ℤ least → r ≤ℤ a → (r ≡ least) ⊎ (r ≡ a) → ordered ≤ j → ((i : ℕ) → ordered ≤ i → i < j → least ≤ℤ (q (order i) -ℤ p (order i))) → (least <ℤ bound → (i : ℕ) × (ordered ≤ i) × (i < j) × (least ≡ q (order i) -ℤ p (order i))) → ((i : ℕ) → ordered ≤ i → i < j + 1 → r ≤ℤ (q (order i) -ℤ p (order i))) × (r <ℤ bound → (i : ℕ) × (ordered ≤ i) × (i < j + 1) × (r ≡ q (order i) -ℤ p (order i)))
 least_more q p order ordered j bound least a r here first second either le all some = (
   (λ i b c. elim (cases_lt i j) [
-    | inl d ↦ under_level r least (q (order i) -ℤ p (order i)) first (all i b d)
+    | inl d ↦ under_radius r least (q (order i) -ℤ p (order i)) first (all i b d)
     | inr d ↦ let e : i ≡ j = omega arith in subst (λ (t : ℕ). r ≤ℤ (q (order t) -ℤ p (order t))) (sym e) (subst (λ (z : ℤ). r ≤ℤ z) here second)
   ]),
   λ h. elim either [
@@ -724,15 +724,15 @@ at_place a b h = omega arith
 
 -- ---- the node that is scanned next
 
-pub record IsNext (n : ℕ) (p : ℕ → ℤ) (s : ℕ) (q : ℕ → ℤ) (place : ℕ → ℕ) (scanned : ℕ) (level : ℤ) (u : ℕ) : Type 0 where
+pub record IsNext (n : ℕ) (p : ℕ → ℤ) (s : ℕ) (q : ℕ → ℤ) (place : ℕ → ℕ) (scanned : ℕ) (radius : ℤ) (u : ℕ) : Type 0 where
   pub node : u < n
   pub labelled : q u <ℤ far
   pub stands : place u ≡ scanned
   pub near : IsNear (p s) (place u) (q u)
-  pub high : level ≤ℤ (q u -ℤ p u)
+  pub high : radius ≤ℤ (q u -ℤ p u)
 
-pub next_node : (n : ℕ) (first : List ℕ) (arcs : List ResidualArc) (p e : ℕ → ℤ) (s : ℕ) (q : ℕ → ℤ) (enter order place : ℕ → ℕ) (scanned ordered reached : ℕ) (level : ℤ) → IsReached n first arcs p e s q enter order place scanned ordered reached level → scanned < ordered → IsNext n p s q place scanned level (order scanned)
-next_node n first arcs p e s q enter order place scanned ordered reached level r more =
+pub next_node : (n : ℕ) (first : List ℕ) (arcs : List ResidualArc) (p e : ℕ → ℤ) (s : ℕ) (q : ℕ → ℤ) (enter order place : ℕ → ℕ) (scanned ordered reached : ℕ) (radius : ℤ) → IsReached n first arcs p e s q enter order place scanned ordered reached radius → scanned < ordered → IsNext n p s q place scanned radius (order scanned)
+next_node n first arcs p e s q enter order place scanned ordered reached radius r more =
     let b : scanned < reached = omega (arith, r.counts) in
     let at : place (order scanned) ≡ scanned = r.at scanned b in
     let l : q (order scanned) <ℤ far = r.marked scanned b in
@@ -745,8 +745,8 @@ next_node n first arcs p e s q enter order place scanned ordered reached level r
     }
 
 -- the same after labels that fall behind it
-pub next_kept : (n : ℕ) (p : ℕ → ℤ) (s : ℕ) (q q' : ℕ → ℤ) (place place' : ℕ → ℕ) (scanned : ℕ) (level : ℤ) (u : ℕ) → IsNext n p s q place scanned level u → AreLowered n (scanned + 1) q place q' place' → IsNext n p s q' place' scanned level u
-next_kept n p s q q' place place' scanned level u x kept =
+pub next_kept : (n : ℕ) (p : ℕ → ℤ) (s : ℕ) (q q' : ℕ → ℤ) (place place' : ℕ → ℕ) (scanned : ℕ) (radius : ℤ) (u : ℕ) → IsNext n p s q place scanned radius u → AreLowered n (scanned + 1) q place q' place' → IsNext n p s q' place' scanned radius u
+next_kept n p s q q' place place' scanned radius u x kept =
     let at : place u ≡ scanned = x.stands in
     let (same, stays) = kept.same u x.node x.labelled (omega arith) in
     record {
@@ -754,10 +754,10 @@ next_kept n p s q q' place place' scanned level u x kept =
       labelled = subst (λ (z : ℤ). z <ℤ far) (sym same) x.labelled;
       stands = stays ∙ x.stands;
       near = subst (λ (i : ℕ). IsNear (p s) i (q' u)) (sym stays) (subst (λ (z : ℤ). IsNear (p s) (place u) z) (sym same) x.near);
-      high = subst (λ (z : ℤ). level ≤ℤ (z -ℤ p u)) (sym same) x.high;
+      high = subst (λ (z : ℤ). radius ≤ℤ (z -ℤ p u)) (sym same) x.high;
     }
 
 -- the only labelled node at its place
-pub next_only : (n : ℕ) (first : List ℕ) (arcs : List ResidualArc) (p e : ℕ → ℤ) (s : ℕ) (q : ℕ → ℤ) (enter order place : ℕ → ℕ) (h scanned ordered reached : ℕ) (level level' : ℤ) (u : ℕ) → IsReached n first arcs p e s q enter order place scanned ordered reached level → IsNext n p s q place h level' u → (v : ℕ) → v < n → q v <ℤ far → place v ≡ h → v ≡ u
-next_only n first arcs p e s q enter order place h scanned ordered reached level level' u r x v b l at =
+pub next_only : (n : ℕ) (first : List ℕ) (arcs : List ResidualArc) (p e : ℕ → ℤ) (s : ℕ) (q : ℕ → ℤ) (enter order place : ℕ → ℕ) (h scanned ordered reached : ℕ) (radius radius' : ℤ) (u : ℕ) → IsReached n first arcs p e s q enter order place scanned ordered reached radius → IsNext n p s q place h radius' u → (v : ℕ) → v < n → q v <ℤ far → place v ≡ h → v ≡ u
+next_only n first arcs p e s q enter order place h scanned ordered reached radius radius' u r x v b l at =
     sym (r.listed v b l).1 ∙ ap order (at ∙ sym x.stands) ∙ (r.listed u x.node x.labelled).1

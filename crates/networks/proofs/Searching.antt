@@ -12,7 +12,7 @@ use Rattle.networks.specs.declared.state.Visit.{Visit}
 use Rattle.networks.specs.ResidualArcs.{StartsAt, end_at, cost_at}
 use Rattle.networks.specs.Search.{far, nodes_of, first_of, arcs_of, IsScanning, potential_of, excess_of, labels, orders, places, Reaches, HasLowered, IsSearch, IsOffered, IsLabelled, IsRelaxed, AreLowered, IsSwapped, IsReordered, HasServed, IsSearchInput, Serves, IsServed, looked, degree, SameBesideBound, SameBesideOrder, IsWithinFar}
 use Rattle.networks.proofs.Signs.{fits_within, label_fits, label_passed, passed_within, difference_is}
-use Rattle.networks.proofs.Reaching.{below_or_not, behind, swapped, nearest_kept, nearest_offered, kept_then, kept_same, at_level, offer_below, offer_fits, offer_made, next_node, next_kept, next_only, serves_kept, served_kept, served_more, kept_less, same_le, order_kept, looked_most, looked_same, looked_more, same_z, relabelled, enlisted, order_room, reached_fits, potential_fits_at, offer_end}
+use Rattle.networks.proofs.Reaching.{below_or_not, behind, swapped, nearest_kept, nearest_offered, kept_then, kept_same, at_radius, offer_below, offer_fits, offer_made, next_node, next_kept, next_only, serves_kept, served_kept, served_more, kept_less, same_le, order_kept, looked_most, looked_same, looked_more, same_z, relabelled, enlisted, order_room, reached_fits, potential_fits_at, offer_end}
 
 -- w is the node at place j of the order
 pub record IsMember (g : SearchInput) (s : Search) (j w : ℕ) : Type 0 where
@@ -64,7 +64,7 @@ taken g s s' step o plain m =
           let e = m.again l in
           let all = relabelled _ _ _ _ _ _ _ _ _ _ _ _ _ _ _ _ _ _ _ h.reached o.offer b l plain m.label m.enter in
           record {
-            reached = rw (fun_ext e.order, fun_ext e.place, q.scanned, q.ordered, e.reached, q.level) all.0;
+            reached = rw (fun_ext e.order, fun_ext e.place, q.scanned, q.ordered, e.reached, q.radius) all.0;
             kept = rw (fun_ext e.place) all.1;
             place = rw (fun_ext e.place) (behind _ _ _ _ _ _ _ _ _ _ _ _ _ _ step.end step.label h.reached b o.offer.beyond o.offer.less l);
           }
@@ -74,7 +74,7 @@ taken g s s' step o plain m =
           let all = enlisted _ _ _ _ _ _ _ _ _ _ _ _ _ _ _ _ _ _ _ _ _ h.reached o.offer b l plain d m.label m.enter e.0 e.1 in
           let at : places s' step.end ≡ s.reached = e.1.here in
           record {
-            reached = rw (q.scanned, q.ordered, e.2, q.level) all.0;
+            reached = rw (q.scanned, q.ordered, e.2, q.radius) all.0;
             kept = all.1;
             place = omega (arith, h.reached.counts);
           }
@@ -98,17 +98,17 @@ offered g s s' step away o wants at a bound either =
       search = record {
         input = h.input;
         size = rw a.visits h.size;
-        reached = rw (a.visits, a.scanned, a.ordered, a.reached, a.level) h.reached;
-        nearest = rw (a.visits, a.scanned, a.level) (nearest_offered _ _ _ _ _ _ _ _ _ _ _ _ _ _ _ v _ h.nearest o.offer (h.reached.most v b) wants (h.input.priced.zero v b wants) given);
+        reached = rw (a.visits, a.scanned, a.ordered, a.reached, a.radius) h.reached;
+        nearest = rw (a.visits, a.scanned, a.radius) (nearest_offered _ _ _ _ _ _ _ _ _ _ _ _ _ _ _ v _ h.nearest o.offer (h.reached.most v b) wants (h.input.priced.zero v b wants) given);
       };
       list = ap (λ (v : MutBor (List Visit)). v.ghost_name) a.visits;
       kept = rw a.visits (kept_same _ _ _ _);
       scanned = a.scanned;
-      level = a.level;
+      radius = a.radius;
       bound = bound;
     }
 
--- the end has got its label, further off than the level
+-- the end has got its label, further off than the radius
 pub settled_behind : (g : SearchInput) (s t : Search) (step : Step) → IsOffered g s step → pos 0 ≤ℤ excess_of g step.end → IsLabelled s t step → IsRelaxed g s t
 settled_behind g s t step o plain m =
     let h = o.search in
@@ -119,12 +119,12 @@ settled_behind g s t step o plain m =
         input = h.input;
         size = p.size ∙ h.size;
         reached = k.reached;
-        nearest = rw (p.scanned, p.level, p.bound, p.found) (nearest_kept _ _ _ _ _ _ _ _ _ _ _ _ _ _ _ h.nearest h.nearest.above k.kept);
+        nearest = rw (p.scanned, p.radius, p.bound, p.found) (nearest_kept _ _ _ _ _ _ _ _ _ _ _ _ _ _ _ h.nearest h.nearest.above k.kept);
       };
       list = p.list;
       kept = k.kept;
       scanned = p.scanned;
-      level = p.level;
+      radius = p.radius;
       bound = subst (λ (z : ℤ). z ≤ℤ s.bound) (sym p.bound) (same_z s.bound);
     }
 
@@ -161,8 +161,8 @@ listed g s t step o plain m =
       at = r.at t.ordered w;
     }
 
--- the same at the level, where it was put behind those that are ordered
-pub settled : (g : SearchInput) (s t u : Search) (step : Step) (away : ℤ) → IsOffered g s step → pos 0 ≤ℤ excess_of g step.end → IsLabelled s t step → away ≡ step.label -ℤ potential_of g step.end → away ≡ t.level → IsSwapped (orders t) (places t) (orders u) (places u) step.end (places t step.end) t.ordered → SameBesideOrder t u → u.ordered ≡ t.ordered + 1 → IsRelaxed g s u
+-- the same at the radius, where it was put behind those that are ordered
+pub settled : (g : SearchInput) (s t u : Search) (step : Step) (away : ℤ) → IsOffered g s step → pos 0 ≤ℤ excess_of g step.end → IsLabelled s t step → away ≡ step.label -ℤ potential_of g step.end → away ≡ t.radius → IsSwapped (orders t) (places t) (orders u) (places u) step.end (places t step.end) t.ordered → SameBesideOrder t u → u.ordered ≡ t.ordered + 1 → IsRelaxed g s u
 settled g s t u step away o plain m at same swap z up =
     let h = o.search in
     let v = step.end in
@@ -170,20 +170,20 @@ settled g s t u step away o plain m at same swap z up =
     let p = m.progress in
     let k = taken g s t step o plain m in
     let w = listed g s t step o plain m in
-    let near : (labels t v -ℤ potential_of g v) ≤ℤ t.level = at_level (labels t v) (potential_of g v) step.label away t.level m.label.here at same in
+    let near : (labels t v -ℤ potential_of g v) ≤ℤ t.radius = at_radius (labels t v) (potential_of g v) step.label away t.radius m.label.here at same in
     let (moved, kept) = swapped _ _ _ _ _ _ _ _ _ _ _ _ _ _ _ _ v (places t v) k.reached b w.labelled refl w.ordered near swap in
     let both = kept_then _ _ _ _ _ _ _ _ k.kept (subst (λ (i : ℕ). AreLowered (nodes_of g) i (labels t) (places t) (labels t) (places u)) p.scanned kept) in
     record {
       search = record {
         input = h.input;
         size = z.size ∙ w.size;
-        reached = rw (fun_ext z.label, fun_ext z.enter, z.scanned, up, z.reached, z.level) moved;
-        nearest = rw (fun_ext z.label, z.scanned, p.scanned, z.level, p.level, z.bound, p.bound, z.found, p.found) (nearest_kept _ _ _ _ _ _ _ _ _ _ _ _ _ _ _ h.nearest h.nearest.above both);
+        reached = rw (fun_ext z.label, fun_ext z.enter, z.scanned, up, z.reached, z.radius) moved;
+        nearest = rw (fun_ext z.label, z.scanned, p.scanned, z.radius, p.radius, z.bound, p.bound, z.found, p.found) (nearest_kept _ _ _ _ _ _ _ _ _ _ _ _ _ _ _ h.nearest h.nearest.above both);
       };
       list = z.list ∙ p.list;
       kept = rw (fun_ext z.label) both;
       scanned = z.scanned ∙ p.scanned;
-      level = z.level ∙ p.level;
+      radius = z.radius ∙ p.radius;
       bound = subst (λ (q : ℤ). q ≤ℤ s.bound) (sym (z.bound ∙ p.bound)) (same_z s.bound);
     }
 
@@ -191,12 +191,12 @@ settled g s t u step away o plain m at same swap z up =
 pub offering : (g : SearchInput) (s : Search) (u : ℕ) (step : Step) → IsScanning g s u → StartsAt (first_of g) u step.number → step.end ≡ end_at (arcs_of g) step.number → step.label ≡ labels s u +ℤ cost_at (arcs_of g) step.number → step.label <ℤ labels s step.end → IsOffered g s step
 offering g s u step n k e x l = record {
   search = n.search;
-  offer = offer_made _ _ _ _ _ _ _ _ _ _ _ _ _ _ u _ _ _ n.search.input.graph n.search.input.priced n.search.reached n.node n.labelled n.place n.near n.level k e x l;
+  offer = offer_made _ _ _ _ _ _ _ _ _ _ _ _ _ _ u _ _ _ n.search.input.graph n.search.input.priced n.search.reached n.node n.labelled n.place n.near n.radius k e x l;
 }
 
 -- node u is the next of the order, and is scanned now
-pub scanning : (g : SearchInput) (s t : Search) (u : ℕ) → IsSearch g s → s.scanned < s.ordered → u ≡ orders s s.scanned → IsSearch g t → HasLowered g (s.scanned + 1) s t → t.scanned ≡ s.scanned + 1 → t.level ≡ s.level → IsScanning g t u
-scanning g s t u h more e k kept heads level =
+pub scanning : (g : SearchInput) (s t : Search) (u : ℕ) → IsSearch g s → s.scanned < s.ordered → u ≡ orders s s.scanned → IsSearch g t → HasLowered g (s.scanned + 1) s t → t.scanned ≡ s.scanned + 1 → t.radius ≡ s.radius → IsScanning g t u
+scanning g s t u h more e k kept heads radius =
     let v : ℕ = orders s s.scanned in
     let x = next_kept _ _ _ _ _ _ _ _ _ _ (next_node _ _ _ _ _ _ _ _ _ _ _ _ _ _ h.reached more) kept in
     let stands : places t v ≡ s.scanned = x.stands in
@@ -206,7 +206,7 @@ scanning g s t u h more e k kept heads level =
       labelled = x.labelled;
       place = omega (arith, heads);
       near = x.near;
-      level = subst (λ (z : ℤ). z ≤ℤ (labels t v -ℤ potential_of g v)) (sym level) x.high;
+      radius = subst (λ (z : ℤ). z ≤ℤ (labels t v -ℤ potential_of g v)) (sym radius) x.high;
     } in
     subst (λ (w : ℕ). IsScanning g t w) (sym e) here
 

@@ -62,8 +62,8 @@ pub record IsEntered (n : ℕ) (first : List ℕ) (arcs : List ResidualArc) (q :
   pub label : q v ≡ q start +ℤ cost_at arcs k
 
 -- the nodes that were reached, in order of their distance q v - p v: those that were scanned, those
--- at the level, and those further off
-pub record IsReached (n : ℕ) (first : List ℕ) (arcs : List ResidualArc) (p e : ℕ → ℤ) (s : ℕ) (q : ℕ → ℤ) (enter order place : ℕ → ℕ) (scanned ordered reached : ℕ) (level : ℤ) : Type 0 where
+-- at the radius, and those further off
+pub record IsReached (n : ℕ) (first : List ℕ) (arcs : List ResidualArc) (p e : ℕ → ℤ) (s : ℕ) (q : ℕ → ℤ) (enter order place : ℕ → ℕ) (scanned ordered reached : ℕ) (radius : ℤ) : Type 0 where
   pub counts : (scanned ≤ ordered) × (ordered ≤ reached) × (reached ≤ n)
   pub begun : 0 < ordered
   pub node : (j : ℕ) → j < reached → order j < n
@@ -71,8 +71,8 @@ pub record IsReached (n : ℕ) (first : List ℕ) (arcs : List ResidualArc) (p e
   pub marked : (j : ℕ) → j < reached → q (order j) <ℤ far
   pub listed : (v : ℕ) → v < n → q v <ℤ far → (place v < reached) × (order (place v) ≡ v)
   pub most : (v : ℕ) → v < n → q v ≤ℤ far
-  pub under : (v : ℕ) → v < n → q v <ℤ far → place v < ordered → (q v -ℤ p v) ≤ℤ level
-  pub here : (v : ℕ) → v < n → q v <ℤ far → scanned ≤ place v → level ≤ℤ (q v -ℤ p v)
+  pub under : (v : ℕ) → v < n → q v <ℤ far → place v < ordered → (q v -ℤ p v) ≤ℤ radius
+  pub here : (v : ℕ) → v < n → q v <ℤ far → scanned ≤ place v → radius ≤ℤ (q v -ℤ p v)
   pub near : (v : ℕ) → v < n → q v <ℤ far → IsNear (p s) scanned (q v)
   pub source : (s < n) × (q s <ℤ far) × (place s ≡ 0)
   pub plain : (v : ℕ) → v < n → q v <ℤ far → pos 0 ≤ℤ e v
@@ -90,9 +90,9 @@ pub record IsHit (n : ℕ) (first : List ℕ) (arcs : List ResidualArc) (p e : �
   pub distance : bound ≡ q start +ℤ cost_at arcs k -ℤ p (end_at arcs k)
   pub near : IsNear (p s) scanned bound
 
--- the nearest node found so far where units are wanting is at distance `bound`, not below the level
-pub record IsNearest (n : ℕ) (first : List ℕ) (arcs : List ResidualArc) (p e : ℕ → ℤ) (s : ℕ) (q : ℕ → ℤ) (place : ℕ → ℕ) (scanned : ℕ) (level bound : ℤ) (k : ℕ) : Type 0 where
-  pub above : level ≤ℤ bound
+-- the nearest node found so far where units are wanting is at distance `bound`, not below the radius
+pub record IsNearest (n : ℕ) (first : List ℕ) (arcs : List ResidualArc) (p e : ℕ → ℤ) (s : ℕ) (q : ℕ → ℤ) (place : ℕ → ℕ) (scanned : ℕ) (radius bound : ℤ) (k : ℕ) : Type 0 where
+  pub above : radius ≤ℤ bound
   pub most : bound ≤ℤ far
   pub hit : bound <ℤ far → IsHit n first arcs p e s q place scanned bound k
 
@@ -188,10 +188,10 @@ pub record IsBlank (g : SearchInput) (visits : List Visit) : Type 0 where
   pub source : pos 0 <ℤ excess_of g g.source
 
 abbrev pub Reaches : SearchInput → Search → Type 0
-Reaches g s = IsReached (nodes_of g) (first_of g) (arcs_of g) (potential_of g) (excess_of g) g.source (labels s) (enters s) (orders s) (places s) s.scanned s.ordered s.reached s.level
+Reaches g s = IsReached (nodes_of g) (first_of g) (arcs_of g) (potential_of g) (excess_of g) g.source (labels s) (enters s) (orders s) (places s) s.scanned s.ordered s.reached s.radius
 
 abbrev pub FindsNearest : SearchInput → Search → Type 0
-FindsNearest g s = IsNearest (nodes_of g) (first_of g) (arcs_of g) (potential_of g) (excess_of g) g.source (labels s) (places s) s.scanned s.level s.bound s.found
+FindsNearest g s = IsNearest (nodes_of g) (first_of g) (arcs_of g) (potential_of g) (excess_of g) g.source (labels s) (places s) s.scanned s.radius s.bound s.found
 
 -- what holds all through a search
 pub record IsSearch (g : SearchInput) (s : Search) : Type 0 where
@@ -209,16 +209,16 @@ HasLeft g s = IsLeft (nodes_of g) (potential_of g) (labels s) (places s) s.scann
 abbrev pub HasLowered : SearchInput → ℕ → Search → Search → Type 0
 HasLowered g h s s' = AreLowered (nodes_of g) h (labels s) (places s) (labels s') (places s')
 
--- all nodes at the level were scanned, and no node that waits is nearer than `level`, at which one is
-pub record IsNextLevel (g : SearchInput) (s : Search) (level : ℤ) : Type 0 where
+-- all nodes at the radius were scanned, and no node that waits is nearer than `radius`, at which one is
+pub record IsNextRadius (g : SearchInput) (s : Search) (radius : ℤ) : Type 0 where
   pub done : s.scanned ≡ s.ordered
-  pub rises : s.level ≤ℤ level
-  pub bound : level ≤ℤ s.bound
-  pub least : (j : ℕ) → s.ordered ≤ j → j < s.reached → level ≤ℤ (labels s (orders s j) -ℤ potential_of g (orders s j))
-  pub some : (j : ℕ) × (s.ordered ≤ j) × (j < s.reached) × (level ≡ labels s (orders s j) -ℤ potential_of g (orders s j))
+  pub rises : s.radius ≤ℤ radius
+  pub bound : radius ≤ℤ s.bound
+  pub least : (j : ℕ) → s.ordered ≤ j → j < s.reached → radius ≤ℤ (labels s (orders s j) -ℤ potential_of g (orders s j))
+  pub some : (j : ℕ) × (s.ordered ≤ j) × (j < s.reached) × (radius ≡ labels s (orders s j) -ℤ potential_of g (orders s j))
 
 -- labels, the bound and what was scanned and reached are as they were; the order of the nodes that wait, how many of
--- them are ordered and the level may have changed
+-- them are ordered and the radius may have changed
 pub record IsReordered (g : SearchInput) (s s' : Search) : Type 0 where
   pub search : IsSearch g s'
   pub list : HasSameList s s'
@@ -241,7 +241,7 @@ pub record IsScanning (g : SearchInput) (s : Search) (u : ℕ) : Type 0 where
   pub labelled : labels s u <ℤ far
   pub place : places s u + 1 ≡ s.scanned
   pub near : IsNear (potential_of g g.source) (places s u) (labels s u)
-  pub level : s.level ≤ℤ (labels s u -ℤ potential_of g u)
+  pub radius : s.radius ≤ℤ (labels s u -ℤ potential_of g u)
 
 -- a residual arc of the scanned node was taken up: labels and the bound may have fallen
 pub record IsRelaxed (g : SearchInput) (s s' : Search) : Type 0 where
@@ -249,7 +249,7 @@ pub record IsRelaxed (g : SearchInput) (s s' : Search) : Type 0 where
   pub list : HasSameList s s'
   pub kept : HasLowered g s.scanned s s'
   pub scanned : s'.scanned ≡ s.scanned
-  pub level : s'.level ≡ s.level
+  pub radius : s'.radius ≡ s.radius
   pub bound : s'.bound ≤ℤ s.bound
 
 -- all stays but the bound and what was found
@@ -258,7 +258,7 @@ pub record SameBesideBound (s s' : Search) : Type 0 where
   pub scanned : s'.scanned ≡ s.scanned
   pub ordered : s'.ordered ≡ s.ordered
   pub reached : s'.reached ≡ s.reached
-  pub level : s'.level ≡ s.level
+  pub radius : s'.radius ≡ s.radius
 
 -- all stays but the order
 pub record SameBesideOrder (s s' : Search) : Type 0 where
@@ -268,7 +268,7 @@ pub record SameBesideOrder (s s' : Search) : Type 0 where
   pub enter : (v : ℕ) → enters s' v ≡ enters s v
   pub scanned : s'.scanned ≡ s.scanned
   pub reached : s'.reached ≡ s.reached
-  pub level : s'.level ≡ s.level
+  pub radius : s'.radius ≡ s.radius
   pub bound : s'.bound ≡ s.bound
   pub found : s'.found ≡ s.found
 
@@ -278,7 +278,7 @@ pub record SameProgress (s s' : Search) : Type 0 where
   pub size : length s'.visits.now ≡ length s.visits.now
   pub scanned : s'.scanned ≡ s.scanned
   pub ordered : s'.ordered ≡ s.ordered
-  pub level : s'.level ≡ s.level
+  pub radius : s'.radius ≡ s.radius
   pub bound : s'.bound ≡ s.bound
   pub found : s'.found ≡ s.found
 
@@ -289,8 +289,8 @@ pub record SameOrder (s s' : Search) : Type 0 where
   pub reached : s'.reached ≡ s.reached
   pub progress : SameProgress s s'
 
--- a scanned node's residual arc offers its end a lesser label, no nearer than the level
-pub record IsOffer (n : ℕ) (first : List ℕ) (arcs : List ResidualArc) (p : ℕ → ℤ) (s : ℕ) (q : ℕ → ℤ) (place : ℕ → ℕ) (scanned : ℕ) (level : ℤ) (k v : ℕ) (x : ℤ) : Type 0 where
+-- a scanned node's residual arc offers its end a lesser label, no nearer than the radius
+pub record IsOffer (n : ℕ) (first : List ℕ) (arcs : List ResidualArc) (p : ℕ → ℤ) (s : ℕ) (q : ℕ → ℤ) (place : ℕ → ℕ) (scanned : ℕ) (radius : ℤ) (k v : ℕ) (x : ℤ) : Type 0 where
   pub start : ℕ
   pub node : start < n
   pub labelled : q start <ℤ far
@@ -300,13 +300,13 @@ pub record IsOffer (n : ℕ) (first : List ℕ) (arcs : List ResidualArc) (p : �
   pub arrives : end_at arcs k ≡ v
   pub label : x ≡ q start +ℤ cost_at arcs k
   pub near : IsNear (p s) scanned x
-  pub beyond : level ≤ℤ (x -ℤ p v)
+  pub beyond : radius ≤ℤ (x -ℤ p v)
   pub less : x <ℤ q v
 
 -- the step is such an offer in a search
 pub record IsOffered (g : SearchInput) (s : Search) (step : Step) : Type 0 where
   pub search : IsSearch g s
-  pub offer : IsOffer (nodes_of g) (first_of g) (arcs_of g) (potential_of g) g.source (labels s) (places s) s.scanned s.level step.number step.end step.label
+  pub offer : IsOffer (nodes_of g) (first_of g) (arcs_of g) (potential_of g) g.source (labels s) (places s) s.scanned s.radius step.number step.end step.label
 
 -- the step ends at a node of the search
 pub record HasEnd (s : Search) (step : Step) : Type 0 where

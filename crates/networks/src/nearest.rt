@@ -1,11 +1,11 @@
 //! The search for the nearest node where units are wanting: Dijkstra's algorithm (1959) by reduced costs, which are
-//! at least 0 (Ahuja, Magnanti and Orlin, Network Flows, 1993, section 9.7), from one source, level by level.
+//! at least 0 (Ahuja, Magnanti and Orlin, Network Flows, 1993, section 9.7), from one source, by growing distance.
 //!
 //! Networks have at most 1,024 nodes and 8,192 residual arcs of cost -1 to 1, so distances are small whole numbers.
-//! Each residual arc is looked at once at most. Beside that the nodes that wait are gone over at each level.
+//! Each residual arc is looked at once at most. Beside that the nodes that wait are gone over at each step of the radius.
 ghost use Rattle.std.specs.Prelude.{◌≡◌, ◌⊎◌, ◌<◌, ◌≤◌, ◌+◌, ◌^◌, ℕ, length, pos, ◌≤ℤ◌, ◌<ℤ◌, ◌+ℤ◌, ◌-ℤ◌, true, false};
 ghost use Rattle.networks.specs.ResidualArcs.{StartsAt};
-ghost use Rattle.networks.specs.Search.{far, nodes_of, first_of, arcs_of, potential_of, excess_of, labels, orders, degree, looked, IsSearchInput, IsSearch, IsBlank, HasLowered, HasServed, HasLeft, Serves, IsNextLevel, IsReordered, IsWaiting, IsScanning, IsRelaxed, IsWithinFar, IsArcCost, HasSameList};
+ghost use Rattle.networks.specs.Search.{far, nodes_of, first_of, arcs_of, potential_of, excess_of, labels, orders, degree, looked, IsSearchInput, IsSearch, IsBlank, HasLowered, HasServed, HasLeft, Serves, IsNextRadius, IsReordered, IsWaiting, IsScanning, IsRelaxed, IsWithinFar, IsArcCost, HasSameList};
 
 use crate::reach::distance;
 use crate::state::{FAR, Search, SearchInput, Step, Visit};
@@ -52,7 +52,7 @@ impl<'a> Search<'a> {
             scanned: 0,
             ordered: 1,
             reached: 1,
-            level: 0,
+            radius: 0,
             bound: FAR as i32,
             found: 0,
         };
@@ -65,15 +65,15 @@ impl<'a> Search<'a> {
         search
     }
 
-    /// Whether a node is to be scanned next: one at the level, or else the nearest one further off, to
-    /// which the level moves.
+    /// Whether a node is to be scanned next: one at the radius, or else the nearest one further off, to
+    /// which the radius moves.
     fn goes_on(&mut self, input: SearchInput<'_>) -> bool
         requires search { IsSearch input self.old }
         ensures ordered { IsReordered input.entry self.old self.new }
         ensures more { result ≡ true → self.new.scanned < self.new.ordered }
         ensures left { result ≡ false → HasLeft input.entry self.new }
     {
-        if self.level == self.bound {
+        if self.radius == self.bound {
             return false;
         }
         if self.scanned < self.ordered {
@@ -91,7 +91,7 @@ impl<'a> Search<'a> {
     fn least_distance(&self, input: SearchInput<'_>) -> i32
         requires search { IsSearch input self.now }
         ensures bound { result ≤ℤ self.now.bound }
-        ensures level { self.now.level ≤ℤ result }
+        ensures radius { self.now.radius ≤ℤ result }
         ensures least { (j : ℕ) → self.now.ordered ≤ j → j < self.now.reached → result ≤ℤ (labels self.now (orders self.now j) -ℤ potential_of input.entry (orders self.now j)) }
         ensures some { result <ℤ self.now.bound → (j : ℕ) × (self.now.ordered ≤ j) × (j < self.now.reached) × (result ≡ labels self.now (orders self.now j) -ℤ potential_of input.entry (orders self.now j)) }
     {
@@ -104,30 +104,30 @@ impl<'a> Search<'a> {
         least
     }
 
-    /// Moves the level, and puts the nodes at that distance behind those that are ordered.
-    fn climb(&mut self, input: SearchInput<'_>, level: i32)
+    /// Moves the radius, and puts the nodes at that distance behind those that are ordered.
+    fn climb(&mut self, input: SearchInput<'_>, radius: i32)
         requires search { IsSearch input self.old }
-        requires level { IsNextLevel input self.old level }
+        requires radius { IsNextRadius input self.old radius }
         ensures ordered { IsReordered input.entry self.old self.new }
         ensures more { self.new.scanned < self.new.ordered }
     {
-        self.level = level;
+        self.radius = radius;
         for j in self.ordered..self.reached {
             self.take_up(input, j);
         }
     }
 
-    /// Puts the node at place j of the order behind those that are ordered, if it is at the level.
+    /// Puts the node at place j of the order behind those that are ordered, if it is at the radius.
     fn take_up(&mut self, input: SearchInput<'_>, j: usize)
         requires waiting { IsWaiting input self.old j }
         ensures ordered { IsReordered input.entry self.old self.new }
-        ensures level { self.new.level ≡ self.old.level }
+        ensures radius { self.new.radius ≡ self.old.radius }
         ensures few { (self.old.ordered ≤ self.new.ordered) × (self.new.ordered ≤ self.old.ordered + 1) }
         ensures behind { (i : ℕ) → j < i → orders self.new i ≡ orders self.old i }
-        ensures more { labels self.old (orders self.old j) -ℤ potential_of input.entry (orders self.old j) ≡ self.old.level → self.new.ordered ≡ self.old.ordered + 1 }
+        ensures more { labels self.old (orders self.old j) -ℤ potential_of input.entry (orders self.old j) ≡ self.old.radius → self.new.ordered ≡ self.old.ordered + 1 }
     {
         let node = self.visits[j].at_place as usize;
-        if distance(self.visits[node].label, input.potential[node]) == self.level {
+        if distance(self.visits[node].label, input.potential[node]) == self.radius {
             self.advance(node);
         }
     }

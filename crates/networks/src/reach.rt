@@ -27,7 +27,7 @@ impl Search<'_> {
     }
 
     /// Gives a node where no units are wanting a label, and puts it behind those that are ordered if it is at
-    /// the level.
+    /// the radius.
     fn label_node(&mut self, input: SearchInput<'_>, step: Step)
         requires offer { IsOffered input self.old step }
         requires plain { pos 0 ≤ℤ excess_of input step.end }
@@ -35,7 +35,7 @@ impl Search<'_> {
         ensures label { labels self.new step.end ≡ step.label }
     {
         self.mark(step);
-        if distance(step.label, input.potential[step.end]) == self.level {
+        if distance(step.label, input.potential[step.end]) == self.radius {
             self.advance(step.end);
         }
     }

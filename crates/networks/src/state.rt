@@ -20,7 +20,7 @@ pub struct SearchInput<'a> {
 }
 
 /// What a search knows of a node; and what stands at the place of the same number in the order of the nodes that
-/// were reached: first those that were scanned, then those at the level, then those further off.
+/// were reached: first those that were scanned, then those at the radius, then those further off.
 #[derive(Clone, Copy)]
 pub struct Visit {
     /// The source's potential and the costs of the residual arcs on the way to the node, or `FAR`.
@@ -45,7 +45,7 @@ pub struct Search<'a> {
     /// How many nodes were reached: all that stand in the order.
     pub reached: usize,
     /// The distance of the nodes that are scanned now.
-    pub level: i32,
+    pub radius: i32,
     /// The distance of the nearest node found where units are wanting, or `FAR` where none was found.
     pub bound: i32,
     /// The residual arc that leads to that node.

@@ -11,16 +11,16 @@ use Rattle.networks.proofs.state.Search.climb.Goals as goal
 
 pub loop-j-init : goal.loop-j-init
 loop-j-init c =
-    let f : SFits w32 c.args.level = search rules in
+    let f : SFits w32 c.args.radius = search rules in
     let h = c.requires.search in
-    let n = c.requires.level in
-    rw (to_z-of_z w32 c.args.level f) (record {
+    let n = c.requires.radius in
+    rw (to_z-of_z w32 c.args.radius f) (record {
       ordered = record {
         search = record {
           input = h.input;
           size = h.size;
-          reached = climbed _ _ _ _ _ _ _ _ _ _ _ _ _ _ c.args.level h.reached n.done n.rises n.least;
-          nearest = nearest_kept _ _ _ _ _ _ _ _ _ _ _ _ c.args.level _ _ h.nearest n.bound (kept_same _ _ _ _);
+          reached = climbed _ _ _ _ _ _ _ _ _ _ _ _ _ _ c.args.radius h.reached n.done n.rises n.least;
+          nearest = nearest_kept _ _ _ _ _ _ _ _ _ _ _ _ c.args.radius _ _ h.nearest n.bound (kept_same _ _ _ _);
         };
         list = refl;
         kept = kept_same _ _ _ _;
@@ -29,7 +29,7 @@ loop-j-init c =
         reached = refl;
         bound = refl;
       };
-      level = refl;
+      radius = refl;
       few = omega arith;
       behind = λ i e. refl;
       more = inr n.some;
@@ -66,7 +66,7 @@ loop-j-preserved c =
         reached = k.reached ∙ o.reached;
         bound = k.bound ∙ o.bound;
       };
-      level = e.level ∙ i.level;
+      radius = e.radius ∙ i.radius;
       few = omega (arith, e.few, i.few);
       behind = λ m d. e.behind m (omega arith) ∙ i.behind m (omega arith);
       more = elim i.more [
@@ -74,10 +74,10 @@ loop-j-preserved c =
         | inr w ↦ let (m, a, b, d) = w in elim (cases_eq m c.loop-j.j) [
           | inl q ↦
               let here : orders t c.loop-j.j ≡ orders s m = i.behind c.loop-j.j (omega arith) ∙ ap (orders s) (sym q) in
-              let at : labels t (orders t c.loop-j.j) -ℤ potential_of c.args.input (orders t c.loop-j.j) ≡ t.level = rw (fun_ext o.label) (ap (λ (v : ℕ). labels s v -ℤ potential_of c.args.input v) here ∙ sym d) in
+              let at : labels t (orders t c.loop-j.j) -ℤ potential_of c.args.input (orders t c.loop-j.j) ≡ t.radius = rw (fun_ext o.label) (ap (λ (v : ℕ). labels s v -ℤ potential_of c.args.input v) here ∙ sym d) in
               let up : new.ordered ≡ t.ordered + 1 = e.more at in
               inl (omega arith)
-          | inr ne ↦ inr (m, omega arith, omega arith, e.level ∙ d)
+          | inr ne ↦ inr (m, omega arith, omega arith, e.radius ∙ d)
         ]
       ];
     }

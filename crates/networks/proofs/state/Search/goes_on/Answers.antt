@@ -5,14 +5,14 @@ use mir.Syntax.{w32}
 use mir.Val.{SFits, of_z}
 use Rattle.networks.specs.Search.{labels, orders, potential_of}
 use Rattle.networks.proofs.Signs.{same_from_bits}
-use Rattle.networks.proofs.Reaching.{left_at_level, left_behind, strictly}
+use Rattle.networks.proofs.Reaching.{left_at_radius, left_behind, strictly}
 use Rattle.networks.proofs.state.Search.goes_on.Goals as goal
 
 pub returns-then-self-clause-left : goal.returns-then-self-clause-left
 returns-then-self-clause-left c _ =
-    let fl : SFits w32 c.args.self.now.level = search rules in
+    let fl : SFits w32 c.args.self.now.radius = search rules in
     let fc : SFits w32 c.args.self.now.bound = search rules in
-    left_at_level _ _ _ _ _ _ _ _ _ _ _ _ _ _ _ c.requires.search.reached (same_from_bits _ _ fl fc c.if-self.true)
+    left_at_radius _ _ _ _ _ _ _ _ _ _ _ _ _ _ _ c.requires.search.reached (same_from_bits _ _ fl fc c.if-self.true)
 
 pub returns-then-nearest-self-clause-left : goal.returns-then-nearest-self-clause-left
 returns-then-nearest-self-clause-left c _ =
@@ -22,14 +22,14 @@ returns-then-nearest-self-clause-left c _ =
     let same : c.least_distance-nearest.result ≡ s.bound = same_from_bits _ _ fn fc c.if-nearest-self.true in
     left_behind _ _ _ _ _ _ _ _ _ _ _ _ _ _ _ c.requires.search.reached c.if-self-2.false (λ j a b. subst (λ (z : ℤ). z ≤ℤ (labels s (orders s j) -ℤ potential_of c.args.input (orders s j))) same (c.least_distance-nearest.ensures.least j a b))
 
-pub climb-requires-clause-level : goal.climb-requires-clause-level
-climb-requires-clause-level c =
+pub climb-requires-clause-radius : goal.climb-requires-clause-radius
+climb-requires-clause-radius c =
     let fn : SFits w32 c.least_distance-nearest.result = search rules in
     let e = c.least_distance-nearest.ensures in
     let less : c.least_distance-nearest.result <ℤ c.args.self.now.bound = strictly _ _ e.bound (λ t. c.if-nearest-self.false (ap (of_z w32) t)) in
     rw (to_z-of_z w32 c.least_distance-nearest.result fn) (record {
       done = omega (arith, c.requires.search.reached.counts, c.if-self-2.false);
-      rises = e.level;
+      rises = e.radius;
       bound = e.bound;
       least = e.least;
       some = e.some less;

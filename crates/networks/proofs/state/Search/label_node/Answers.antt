@@ -35,12 +35,12 @@ advance-requires c =
 pub returns-then-distance-self-clause-relaxed : goal.returns-then-distance-self-clause-relaxed
 returns-then-distance-self-clause-relaxed c =
     let fd : SFits w32 c.distance.result = search rules in
-    let fl : SFits w32 c.mark.new.self.level = search rules in
+    let fl : SFits w32 c.mark.new.self.radius = search rules in
     let o = c.requires.offer in
     let g = c.args.input in
     let b : c.args.step.end < nodes_of g = end_in g c.args.self.now c.args.step o in
     let away : c.distance.result ≡ c.args.step.label -ℤ potential_of g c.args.step.end = away_is _ _ _ (offer_within g c.args.self.now c.args.step o) (potential_near g c.args.step.end o.search.input b) c.distance.ensures in
-    let same : c.distance.result ≡ c.mark.new.self.level = same_from_bits _ _ fd fl c.if-distance-self.true in
+    let same : c.distance.result ≡ c.mark.new.self.radius = same_from_bits _ _ fd fl c.if-distance-self.true in
     let a = c.advance.ensures in
     settled g c.args.self.now c.mark.new.self c.advance.new.self c.args.step c.distance.result o c.requires.plain c.mark.ensures.marked away same a.swapped a.same a.ordered
 

@@ -5,7 +5,7 @@ use mir.Syntax.{w32}
 use mir.Val.{SFits, to_z}
 use Rattle.networks.specs.Search.{labels, orders, potential_of}
 use Rattle.networks.proofs.Signs.{lesser_either, passed_is, passed_under}
-use Rattle.networks.proofs.Reaching.{least_more, at_place, under_level}
+use Rattle.networks.proofs.Reaching.{least_more, at_place, under_radius}
 use Rattle.networks.proofs.Searching.{IsMember, member, label_fits_at, label_within, potential_near, potential_within, away_is}
 use Rattle.networks.proofs.state.Search.least_distance.Goals as goal
 
@@ -45,11 +45,11 @@ loop-j-preserved c =
     let first : c.min-least.result ≤ℤ (to_z w32 c.loop-j.least-bits) = a.self_bound in
     let second : c.min-least.result ≤ℤ c.distance-away.result = passed_under _ _ fd a.other_bound in
     let either : (c.min-least.result ≡ (to_z w32 c.loop-j.least-bits)) ⊎ (c.min-least.result ≡ c.distance-away.result) = elim (lesser_either _ _ _ a.value) [ inl h ↦ inl h | inr h ↦ inr (passed_is _ _ fd h) ] in
-    let high : s.level ≤ℤ c.distance-away.result = subst (λ (z : ℤ). s.level ≤ℤ z) (sym away) (r.here w m.node m.labelled (at_place r.counts.0 ja m.place)) in
+    let high : s.radius ≤ℤ c.distance-away.result = subst (λ (z : ℤ). s.radius ≤ℤ z) (sym away) (r.here w m.node m.labelled (at_place r.counts.0 ja m.place)) in
     let more = least_more (labels s) (potential_of g) (orders s) s.ordered j s.bound (to_z w32 c.loop-j.least-bits) c.distance-away.result c.min-least.result away first second either ja i.least i.some in
     rw (to_z-of_z w32 c.min-least.result fr) (record {
-      bound = under_level _ _ _ first i.bound;
-      level = elim either [ inl h ↦ subst (λ (z : ℤ). s.level ≤ℤ z) (sym h) i.level | inr h ↦ subst (λ (z : ℤ). s.level ≤ℤ z) (sym h) high ];
+      bound = under_radius _ _ _ first i.bound;
+      radius = elim either [ inl h ↦ subst (λ (z : ℤ). s.radius ≤ℤ z) (sym h) i.radius | inr h ↦ subst (λ (z : ℤ). s.radius ≤ℤ z) (sym h) high ];
       least = more.0;
       some = more.1;
     })

@@ -6,7 +6,7 @@ use Rattle.networks.proofs.state.Search.least_distance.Given as goal
 abbrev pub invariant-loop-j : goal.invariant-loop-j
 invariant-loop-j l = record {
   bound : l.least ≤ℤ l.self.bound;
-  level : l.self.level ≤ℤ l.least;
+  radius : l.self.radius ≤ℤ l.least;
   least : (j : ℕ) → l.self.ordered ≤ j → j < l.j → l.least ≤ℤ (labels l.self (orders l.self j) -ℤ potential_of l.input (orders l.self j));
   some : l.least <ℤ l.self.bound → (j : ℕ) × (l.self.ordered ≤ j) × (j < l.j) × (l.least ≡ labels l.self (orders l.self j) -ℤ potential_of l.input (orders l.self j));
 }

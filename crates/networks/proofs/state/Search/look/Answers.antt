@@ -76,6 +76,6 @@ returns-else-label-self c =
     let sum : to_z w16 (of_z w16 (added (labels s u) (cost_at (arcs_of g) k))) ≡ labels s u +ℤ cost_at (arcs_of g) k = added_is _ _ known cost in
     let fe : SFits w16 (labels s v) = search rules in
     record {
-      relaxed = record { search = n.search; list = refl; kept = kept_same _ _ _ _; scanned = refl; level = refl; bound = same_z s.bound };
+      relaxed = record { search = n.search; list = refl; kept = kept_same _ _ _ _; scanned = refl; radius = refl; bound = same_z s.bound };
       serves = served_less (arcs_of g) (potential_of g) (labels s) s.bound u k v (labels s u +ℤ cost_at (arcs_of g) k) refl refl (label_over (added (labels s u) (cost_at (arcs_of g) k)) _ _ sum fe c.if-label-self.false);
     }

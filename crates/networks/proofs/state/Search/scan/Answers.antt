@@ -1,7 +1,7 @@
 use Rattle.std.proofs.Common.{◌≡◌, ◌<◌, ◌+◌, ℕ, arith, refl, inl, inr, subst, sym, ◌∙◌}
 use Rattle.std.proofs.lemmas.Bool.{cases_lt}
 use Rattle.networks.specs.Search.{nodes_of, arcs_of, potential_of, labels, orders, places, AreLowered, IsScanning, Serves}
-use Rattle.networks.proofs.Reaching.{headed, headed_nearest, kept_same, kept_then, same_z, under_level}
+use Rattle.networks.proofs.Reaching.{headed, headed_nearest, kept_same, kept_then, same_z, under_radius}
 use Rattle.networks.proofs.Searching.{scanning, next_in, still_serves, are_scanned}
 use Rattle.networks.proofs.state.Search.scan.Goals as goal
 
@@ -32,7 +32,7 @@ loop-number-init c =
         list = refl;
         kept = kept_same _ _ _ _;
         scanned = refl;
-        level = refl;
+        radius = refl;
         bound = same_z s.bound;
       };
       serves = λ k x y. absurd (omega arith);
@@ -47,7 +47,7 @@ look-requires c =
     let b : u < nodes_of g = next_in g s u h c.requires.more refl in
     let r = c.loop-number.invariant.relaxed in
     record {
-      scanning = scanning g s c.loop-number.self u h c.requires.more refl r.search r.kept r.scanned r.level;
+      scanning = scanning g s c.loop-number.self u h c.requires.more refl r.search r.kept r.scanned r.radius;
       number = record { from = omega arith; below = omega arith };
     }
 
@@ -61,7 +61,7 @@ loop-number-preserved c =
     let i = c.loop-number.invariant in
     let r = i.relaxed in
     let t = c.loop-number.self in
-    let n : IsScanning g t u = scanning g s t u h c.requires.more refl r.search r.kept r.scanned r.level in
+    let n : IsScanning g t u = scanning g s t u h c.requires.more refl r.search r.kept r.scanned r.radius in
     let new = c.look.new.self in
     let k = c.look.ensures.relaxed in
     let number : ℕ = c.loop-number.number in
@@ -73,8 +73,8 @@ loop-number-preserved c =
         list = k.list ∙ r.list;
         kept = kept_then _ _ _ _ _ _ _ _ r.kept step;
         scanned = k.scanned ∙ r.scanned;
-        level = k.level ∙ r.level;
-        bound = under_level _ _ _ k.bound r.bound;
+        radius = k.radius ∙ r.radius;
+        bound = under_radius _ _ _ k.bound r.bound;
       };
       serves = λ j a d. elim (cases_lt j number) [
         | inl l ↦ still_serves g t new u j n k (record { from = a; below = omega (arith, l) }) (i.serves j a l)

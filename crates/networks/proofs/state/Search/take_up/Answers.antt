@@ -5,7 +5,7 @@ use mir.Syntax.{w32}
 use mir.Val.{SFits, of_z}
 use Rattle.networks.specs.Search.{labels, orders, places, potential_of}
 use Rattle.networks.proofs.Signs.{same_from_bits}
-use Rattle.networks.proofs.Reaching.{swapped, nearest_kept, at_level}
+use Rattle.networks.proofs.Reaching.{swapped, nearest_kept, at_radius}
 use Rattle.networks.proofs.Searching.{IsMember, member, label_fits_at, label_within, potential_near, potential_within, away_is}
 use Rattle.networks.proofs.state.Search.take_up.Goals as goal
 
@@ -49,15 +49,15 @@ advance-requires c =
 pub returns-then-distance-self-clause-ordered : goal.returns-then-distance-self-clause-ordered
 returns-then-distance-self-clause-ordered c =
     let fd : SFits w32 c.distance.result = search rules in
-    let fl : SFits w32 c.args.self.now.level = search rules in
+    let fl : SFits w32 c.args.self.now.radius = search rules in
     let s = c.args.self.now in
     let g = c.args.input in
     let w : ℕ = orders s c.args.j in
     let h = c.requires.waiting.search in
     let m : IsMember g s c.args.j w = member g s c.args.j w h c.requires.waiting.inside refl in
     let away : c.distance.result ≡ labels s w -ℤ potential_of g w = away_is _ _ _ (label_fits_at g s w h m.node m.labelled) (potential_near g w h.input m.node) c.distance.ensures in
-    let same : c.distance.result ≡ s.level = same_from_bits _ _ fd fl c.if-distance-self.true in
-    let near : (labels s w -ℤ potential_of g w) ≤ℤ s.level = at_level (labels s w) (potential_of g w) (labels s w) c.distance.result s.level refl away same in
+    let same : c.distance.result ≡ s.radius = same_from_bits _ _ fd fl c.if-distance-self.true in
+    let near : (labels s w -ℤ potential_of g w) ≤ℤ s.radius = at_radius (labels s w) (potential_of g w) (labels s w) c.distance.result s.radius refl away same in
     let a = c.advance.ensures in
     let k = a.same in
     let low : s.ordered ≤ places s w = omega (arith, m.place, c.requires.waiting.behind) in
@@ -66,8 +66,8 @@ returns-then-distance-self-clause-ordered c =
       search = record {
         input = h.input;
         size = k.size ∙ h.size;
-        reached = rw (fun_ext k.label, fun_ext k.enter, k.scanned, a.ordered, k.reached, k.level) moved;
-        nearest = rw (fun_ext k.label, k.scanned, k.level, k.bound, k.found) (nearest_kept _ _ _ _ _ _ _ _ _ _ _ _ _ _ _ h.nearest h.nearest.above kept);
+        reached = rw (fun_ext k.label, fun_ext k.enter, k.scanned, a.ordered, k.reached, k.radius) moved;
+        nearest = rw (fun_ext k.label, k.scanned, k.radius, k.bound, k.found) (nearest_kept _ _ _ _ _ _ _ _ _ _ _ _ _ _ _ h.nearest h.nearest.above kept);
       };
       list = k.list;
       kept = rw (fun_ext k.label) kept;
