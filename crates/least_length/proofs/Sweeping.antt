@@ -9,7 +9,7 @@ use Rattle.least_length.specs.Lengths.{segment_at, Crosses, KeepsOrder}
 pub record IsSwept (segments : List Segment) (numbers met : ℕ → ℕ) (place last : ℕ) : Type 0 where
   pub below : (r : ℕ) → r < place → (segment_at segments r).number ≤ last
   pub sorted : (r s : ℕ) → r ≤ s → s < place → (segment_at segments r).number ≤ (segment_at segments s).number
-  pub front : (r level : ℕ) → r < place → Crosses (segment_at segments r) level → numbers r < met level
+  pub frontier : (r level : ℕ) → r < place → Crosses (segment_at segments r) level → numbers r < met level
   pub kept : (r s level : ℕ) → r < s → s < place → Crosses (segment_at segments r) level → Crosses (segment_at segments s) level → numbers r < numbers s
 
 below_more : (segments : List Segment) (numbers met : ℕ → ℕ) (place last : ℕ) → IsSwept segments numbers met place last → last ≤ (segment_at segments place).number → (r : ℕ) → r < place + 1 → (segment_at segments r).number ≤ (segment_at segments place).number
@@ -29,17 +29,17 @@ swept_more segments numbers met after place last swept next passed now risen = r
         omega arith
     | inr ne ↦ swept.sorted r s le (omega arith)
   ];
-  front = λ r level h crosses. elim (cases_eq r place) [
+  frontier = λ r level h crosses. elim (cases_eq r place) [
     | inl e ↦ let same : numbers r ≡ numbers place = ap numbers e in
         let top : after level ≡ numbers place + 1 = now level (subst (λ (k : ℕ). Crosses (segment_at segments k) level) e crosses) in
         omega arith
-    | inr ne ↦ let old : numbers r < met level = swept.front r level (omega arith) crosses in
+    | inr ne ↦ let old : numbers r < met level = swept.frontier r level (omega arith) crosses in
         let up : met level ≤ after level = risen level in
         omega arith
   ];
   kept = λ r s level less h here there. elim (cases_eq s place) [
     | inl e ↦ let same : numbers s ≡ numbers place = ap numbers e in
-        let old : numbers r < met level = swept.front r level (omega arith) here in
+        let old : numbers r < met level = swept.frontier r level (omega arith) here in
         let top : met level ≤ numbers place = passed level (subst (λ (k : ℕ). Crosses (segment_at segments k) level) e there) in
         omega arith
     | inr ne ↦ swept.kept r s level less (omega arith) here there

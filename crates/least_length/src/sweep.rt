@@ -11,16 +11,16 @@ use std::alloc::{AllocError, Global};
 #[derive(Drop)]
 pub(crate) struct Sweep {
     /// For each level one more than the greatest number met there.
-    front: Vec<u32>,
+    frontier: Vec<u32>,
 }
 
 impl Sweep {
     /// No memory yet.
     pub(crate) fn empty(alloc: Global) -> Sweep
-        ensures { result.front.items ≡ [] }
+        ensures { result.frontier.items ≡ [] }
     {
         Sweep {
-            front: Vec::new(alloc),
+            frontier: Vec::new(alloc),
         }
     }
 
@@ -34,18 +34,18 @@ impl Sweep {
         requires { length numbers.now ≡ length segments.now }
         ensures { IfOk result (λ kept. (kept ≡ true) ↔ KeepsOrder segments.now (numbers_in numbers.now)) }
     {
-        self.front.clear();
-        self.front.resize(usize::from(highest(segments)) + 1, 0)?;
-        Ok(keep_order_in(self.front.as_mut_slice(), segments, numbers))
+        self.frontier.clear();
+        self.frontier.resize(usize::from(highest(segments)) + 1, 0)?;
+        Ok(keep_order_in(self.frontier.as_mut_slice(), segments, numbers))
     }
 }
 
 /// Whether segments keep their order, by a sweep or segment by segment.
-fn keep_order_in(front: &mut [u32], segments: &[Segment], numbers: &[u16]) -> bool
+fn keep_order_in(frontier: &mut [u32], segments: &[Segment], numbers: &[u16]) -> bool
     requires { length numbers.now ≡ length segments.now }
     ensures { (result ≡ true) ↔ KeepsOrder segments.now (numbers_in numbers.now) }
 {
-    if is_swept(front, segments, numbers) {
+    if is_swept(frontier, segments, numbers) {
         return true;
     }
     keep_order(segments, numbers)
@@ -53,18 +53,18 @@ fn keep_order_in(front: &mut [u32], segments: &[Segment], numbers: &[u16]) -> bo
 
 /// Whether each segment, in the order in which they are listed, has a number above those of all segments before
 /// it on its levels; and whether that is the order of the numbers that they have.
-fn is_swept(front: &mut [u32], segments: &[Segment], numbers: &[u16]) -> bool
+fn is_swept(frontier: &mut [u32], segments: &[Segment], numbers: &[u16]) -> bool
     requires { length numbers.now ≡ length segments.now }
     ensures { result ≡ true → KeepsOrder segments.now (numbers_in numbers.now) }
 {
     let mut last = 0;
     for place in 0..segments.len() {
         let segment = segments[place];
-        if segment.number < last || usize::from(segment.high) >= front.len() {
+        if segment.number < last || usize::from(segment.high) >= frontier.len() {
             return false;
         }
         last = segment.number;
-        if !pass(front, segment, u32::from(numbers[place])) {
+        if !pass(frontier, segment, u32::from(numbers[place])) {
             return false;
         }
     }
@@ -72,18 +72,18 @@ fn is_swept(front: &mut [u32], segments: &[Segment], numbers: &[u16]) -> bool
 }
 
 /// Whether no level of a segment has met a number as great as this one; it is met there now.
-fn pass(front: &mut [u32], segment: Segment, number: u32) -> bool
-    requires levels { segment.high < length front.old }
+fn pass(frontier: &mut [u32], segment: Segment, number: u32) -> bool
+    requires levels { segment.high < length frontier.old }
     requires number { number < 2 ^ 16 }
-    ensures passed { result ≡ true → (level : ℕ) → Crosses segment level → slice_index front.old level ≤ number }
-    ensures met { result ≡ true → (level : ℕ) → Crosses segment level → slice_index front.new level ≡ number + 1 }
-    ensures risen { result ≡ true → (level : ℕ) → slice_index front.old level ≤ slice_index front.new level }
+    ensures passed { result ≡ true → (level : ℕ) → Crosses segment level → slice_index frontier.old level ≤ number }
+    ensures met { result ≡ true → (level : ℕ) → Crosses segment level → slice_index frontier.new level ≡ number + 1 }
+    ensures risen { result ≡ true → (level : ℕ) → slice_index frontier.old level ≤ slice_index frontier.new level }
 {
     for level in usize::from(segment.low)..usize::from(segment.high) + 1 {
-        if front[level] > number {
+        if frontier[level] > number {
             return false;
         }
-        front[level] = number + 1;
+        frontier[level] = number + 1;
     }
     true
 }

@@ -4,4 +4,4 @@ use Rattle.least_length.proofs.Sweeping.{IsSwept}
 use Rattle.least_length.proofs.sweep.is_swept.Given as goal
 
 abbrev pub invariant-loop-place : goal.invariant-loop-place
-invariant-loop-place l = IsSwept l.segments (numbers_in l.numbers) (λ level. slice_index l.front level) l.place l.last
+invariant-loop-place l = IsSwept l.segments (numbers_in l.numbers) (λ level. slice_index l.frontier level) l.place l.last
