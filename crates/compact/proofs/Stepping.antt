@@ -72,8 +72,8 @@ on_segment_at around other d e n m first vertex same way size is =
     subst (λ (k : ℕ). IsOnSegment (step other e) k first vertex) size (subst (λ (k : ℕ). IsOnSegment (step other k) n first vertex) way (subst (λ (list : List ℕ). IsOnSegment (step list d) n first vertex) same is))
 
 -- a first vertex is on its own segment
-pub on_own_segment : (next : ℕ → ℕ) (n : ℕ) (segment_heads : List ℕ) (first vertex : ℕ) → 0 < n → AreVertices n segment_heads → first ≡ slice_index segment_heads 0 → vertex ≡ slice_index segment_heads 0 → IsOnSegment next n first vertex
-on_own_segment next n segment_heads first vertex some are first_is vertex_is = record {
+pub on_own_segment : (next : ℕ → ℕ) (n : ℕ) (segment_firsts : List ℕ) (first vertex : ℕ) → 0 < n → AreVertices n segment_firsts → first ≡ slice_index segment_firsts 0 → vertex ≡ slice_index segment_firsts 0 → IsOnSegment next n first vertex
+on_own_segment next n segment_firsts first vertex some are first_is vertex_is = record {
   first_in = omega (arith, first_is, are.1 0 some);
   vertex_in = omega (arith, vertex_is, are.1 0 some);
   joined = λ y level. ap y (first_is ∙ sym vertex_is);

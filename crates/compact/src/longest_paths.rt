@@ -66,7 +66,7 @@ pub struct AxisSegments {
     segments: Vec<u32>,
     // Time alone rests on what follows: whatever it holds, numbers are raised along steps alone.
     /// The first vertices of all segments, and others behind them.
-    segment_heads: Vec<u32>,
+    segment_firsts: Vec<u32>,
     /// How many segments there are.
     count: usize,
     /// How many steps to a segment are still to come, at the place of its first vertex.
@@ -80,7 +80,7 @@ impl AxisSegments {
     pub fn empty(alloc: Global) -> AxisSegments {
         AxisSegments {
             segments: Vec::new(alloc),
-            segment_heads: Vec::new(alloc),
+            segment_firsts: Vec::new(alloc),
             count: 0,
             in_degrees: Vec::new(alloc),
             queue: Vec::new(alloc),
@@ -88,26 +88,26 @@ impl AxisSegments {
     }
 
     /// Makes a segment of each of so many vertices, and lists the first ones of the segments that are to be
-    /// marked: those with no vertex to their right.
+    /// written: those with no vertex to their right.
     fn begin(&mut self, steps: Steps<'_>, vertices: u32) -> Result<(), AllocError>
         requires right { steps.right < 4 }
         requires count { length steps.around.now ≡ 4 * vertices }
         ensures own { OnOk result (AreOwn vertices self.new.segments.items) }
-        ensures segment_heads { OnOk result (AreVertices vertices self.new.segment_heads.items) }
+        ensures segment_firsts { OnOk result (AreVertices vertices self.new.segment_firsts.items) }
         ensures in_degrees { OnOk result (length self.new.in_degrees.items ≡ vertices) }
     {
         let places = vertices as usize;
         self.segments.clear();
         self.segments.resize(places, 0)?;
-        self.segment_heads.clear();
-        self.segment_heads.resize(places, 0)?;
+        self.segment_firsts.clear();
+        self.segment_firsts.resize(places, 0)?;
         self.in_degrees.clear();
         self.in_degrees.resize(places, 0)?;
         self.queue.resize(places, 0)?;
         self.count = list_segments(
             steps,
             self.segments.as_mut_slice(),
-            self.segment_heads.as_mut_slice(),
+            self.segment_firsts.as_mut_slice(),
         );
         Ok(())
     }
@@ -115,18 +115,18 @@ impl AxisSegments {
 
 /// Writes each vertex at its own place, lists those with no vertex to their right, and says how many they are. All are
 /// written and some are counted, so that no branch hangs on which.
-fn list_segments(steps: Steps<'_>, segments: &mut [u32], segment_heads: &mut [u32]) -> usize
+fn list_segments(steps: Steps<'_>, segments: &mut [u32], segment_firsts: &mut [u32]) -> usize
     requires right { steps.right < 4 }
     requires count { length steps.around.now ≡ 4 * length segments.old }
     requires few { length segments.old < 2 ^ 32 }
-    requires segment_heads { AreVertices (length segments.old) segment_heads.old }
+    requires segment_firsts { AreVertices (length segments.old) segment_firsts.old }
     ensures own { AreOwn (length segments.old) segments.new }
-    ensures segment_heads { AreVertices (length segments.old) segment_heads.new }
+    ensures segment_firsts { AreVertices (length segments.old) segment_firsts.new }
 {
     let mut count = 0;
     for vertex in 0..segments.len() {
         segments[vertex] = vertex as u32;
-        segment_heads[count] = vertex as u32;
+        segment_firsts[count] = vertex as u32;
         let right = steps.around[4 * vertex + usize::from(steps.right)];
         count += usize::from(right as usize >= segments.len());
     }
@@ -160,16 +160,16 @@ impl SegmentWalk {
 /// Writes the first vertex of the segment at the vertex where the walk is, counts the step that leads to it
 /// from behind, and goes on: to the next vertex of the segment, or to the first one of the segment behind it.
 /// No branch hangs on where segments end, which cannot be foreseen.
-fn mark_next(
+fn write_next(
     steps: Steps<'_>,
-    segment_heads: &[u32],
+    segment_firsts: &[u32],
     walk: SegmentWalk,
     segments: &mut [u32],
     in_degrees: &mut [u32],
 ) -> SegmentWalk
     requires ways { (steps.left < 4) × (steps.behind < 4) }
     requires count { length steps.around.now ≡ 4 * length segments.old }
-    requires segment_heads { AreVertices (length segments.old) segment_heads.now }
+    requires segment_firsts { AreVertices (length segments.old) segment_firsts.now }
     requires in_degrees { length in_degrees.old ≡ length segments.old }
     requires walk { IsOnSegment (step steps.around.now steps.left) (length segments.old) walk.first walk.vertex }
     requires segments { AreSegments (step steps.around.now steps.left) (length segments.old) segments.old }
@@ -188,7 +188,7 @@ fn mark_next(
     in_degrees[first as usize] = in_degrees[first as usize].wrapping_add(u32::from(is_led_to));
     let next = steps.around[at + usize::from(steps.left)];
     let ends = next as usize >= segments.len();
-    let after = segment_heads.get(behind).copied().unwrap_or(first);
+    let after = segment_firsts.get(behind).copied().unwrap_or(first);
     SegmentWalk {
         behind: behind.wrapping_add(usize::from(ends)),
         first: if ends { after } else { first },
@@ -196,13 +196,13 @@ fn mark_next(
     }
 }
 
-/// Marks the segments along both axes. The two walks go side by side, since each step of a walk waits for the
+/// Writes the segments along both axes. The two walks go side by side, since each step of a walk waits for the
 /// one before.
-fn mark_both(around: &[u32], x: &mut AxisSegments, y: &mut AxisSegments)
+fn write_both(around: &[u32], x: &mut AxisSegments, y: &mut AxisSegments)
     requires count { length around.now ≡ 4 * length x.old.segments.items }
     requires same { length y.old.segments.items ≡ length x.old.segments.items }
-    requires x_heads { AreVertices (length x.old.segments.items) x.old.segment_heads.items }
-    requires y_heads { AreVertices (length x.old.segments.items) y.old.segment_heads.items }
+    requires x_firsts { AreVertices (length x.old.segments.items) x.old.segment_firsts.items }
+    requires y_firsts { AreVertices (length x.old.segments.items) y.old.segment_firsts.items }
     requires x_in_degrees { length x.old.in_degrees.items ≡ length x.old.segments.items }
     requires y_in_degrees { length y.old.in_degrees.items ≡ length y.old.segments.items }
     requires x_segments { AreSegments (step around.now 1) (length x.old.segments.items) x.old.segments.items }
@@ -210,10 +210,10 @@ fn mark_both(around: &[u32], x: &mut AxisSegments, y: &mut AxisSegments)
     ensures x_segments { AreSegments (step around.now 1) (length x.old.segments.items) x.new.segments.items }
     ensures y_segments { AreSegments (step around.now 2) (length y.old.segments.items) y.new.segments.items }
 {
-    let x_heads = x.segment_heads.as_slice();
+    let x_firsts = x.segment_firsts.as_slice();
     let x_segments = x.segments.as_mut_slice();
     let x_in_degrees = x.in_degrees.as_mut_slice();
-    let y_heads = y.segment_heads.as_slice();
+    let y_firsts = y.segment_firsts.as_slice();
     let y_segments = y.segments.as_mut_slice();
     let y_in_degrees = y.in_degrees.as_mut_slice();
     if x_segments.is_empty() {
@@ -221,11 +221,11 @@ fn mark_both(around: &[u32], x: &mut AxisSegments, y: &mut AxisSegments)
     }
     let x_steps = Steps::east(around);
     let y_steps = Steps::north(around);
-    let mut x_walk = SegmentWalk::new(x_heads[0]);
-    let mut y_walk = SegmentWalk::new(y_heads[0]);
+    let mut x_walk = SegmentWalk::new(x_firsts[0]);
+    let mut y_walk = SegmentWalk::new(y_firsts[0]);
     for _ in 0..x_segments.len() {
-        x_walk = mark_next(x_steps, x_heads, x_walk, x_segments, x_in_degrees);
-        y_walk = mark_next(y_steps, y_heads, y_walk, y_segments, y_in_degrees);
+        x_walk = write_next(x_steps, x_firsts, x_walk, x_segments, x_in_degrees);
+        y_walk = write_next(y_steps, y_firsts, y_walk, y_segments, y_in_degrees);
     }
 }
 
@@ -259,7 +259,7 @@ pub fn find_segments(
     let SegmentsByAxis { x, y } = by_axis;
     x.begin(Steps::east(around), vertices)?;
     y.begin(Steps::north(around), vertices)?;
-    mark_both(around, x, y);
+    write_both(around, x, y);
     Ok(())
 }
 
@@ -269,7 +269,7 @@ struct ReadyQueue<'a> {
     /// How many steps to a segment are still to come, at the place of its first vertex.
     in_degrees: &'a mut [u32],
     /// The first vertices of the segments that have come, and others behind them.
-    segment_heads: &'a mut [u32],
+    segment_firsts: &'a mut [u32],
     /// How many have come.
     count: usize,
 }
@@ -277,7 +277,7 @@ struct ReadyQueue<'a> {
 impl ReadyQueue<'_> {
     /// The first vertex of the segment at this place, or out of range where it has not come.
     fn segment_at(&self, at: usize) -> u32 {
-        match self.segment_heads.get(at) {
+        match self.segment_firsts.get(at) {
             Some(first) if at < self.count => *first,
             _ => NO_VERTEX,
         }
@@ -286,15 +286,15 @@ impl ReadyQueue<'_> {
     /// Puts a segment behind the others, if it is to come now. The place behind them is written in any case:
     /// which segments come cannot be foreseen, so no branch is to hang on it.
     fn put_last(&mut self, first: u32, comes: bool) {
-        if self.count < self.segment_heads.len() {
-            self.segment_heads[self.count] = first;
+        if self.count < self.segment_firsts.len() {
+            self.segment_firsts[self.count] = first;
             self.count += usize::from(comes);
         }
     }
 
     /// Puts the segments to which no step leads, among so many, behind the others.
-    fn begin(&mut self, segment_heads: &[u32], segments: usize) {
-        for first in segment_heads.iter().take(segments) {
+    fn begin(&mut self, segment_firsts: &[u32], segments: usize) {
+        for first in segment_firsts.iter().take(segments) {
             let comes = self.in_degrees.get(*first as usize).copied() == Some(0);
             self.put_last(*first, comes);
         }
@@ -395,10 +395,10 @@ pub fn raise_to_longest_paths(
     let segments = axis_segments.segments.as_slice();
     let mut queue = ReadyQueue {
         in_degrees: axis_segments.in_degrees.as_mut_slice(),
-        segment_heads: axis_segments.queue.as_mut_slice(),
+        segment_firsts: axis_segments.queue.as_mut_slice(),
         count: 0,
     };
-    queue.begin(axis_segments.segment_heads.as_slice(), axis_segments.count);
+    queue.begin(axis_segments.segment_firsts.as_slice(), axis_segments.count);
     for at in 0..numbers.len() {
         let first = queue.segment_at(at);
         if first as usize >= numbers.len() {

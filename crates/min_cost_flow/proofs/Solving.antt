@@ -144,7 +144,7 @@ moved_to n first arcs p p' e s q enter order place scanned ordered reached radiu
     let le : scanned ≤ reached = omega (arith, r.counts) in
     record {
       are_scanned = λ v b l h. let back : order (place v) ≡ v = (r.listed v b l).1 in subst (λ (t : ℕ). p' t ≡ q t -ℤ bound) back (moved (place v) h);
-      unlabelled = λ v b l. others v (λ j h t. not_less (q v) far (subst (λ (i : ℕ). q i <ℤ far) t (r.marked j (omega arith))) l);
+      unlabelled = λ v b l. others v (λ j h t. not_less (q v) far (subst (λ (i : ℕ). q i <ℤ far) t (r.has_label j (omega arith))) l);
       behind = λ v b l h. others v (λ j d t. let at : place v ≡ j = ap place (sym t) ∙ r.at j (omega arith) in absurd (omega arith));
     }
 
@@ -197,8 +197,8 @@ moved_priced n first arcs p p' e s q enter order place scanned ordered reached r
           | inl near ↦
               let less : q (end_at arcs k) ≤ℤ (q v +ℤ cost_at arcs k) = sv.served v k b l h st op near in
               let le : scanned ≤ n = omega (arith, r.counts) in
-              let mark : q (end_at arcs k) <ℤ far = label_step (p s) (q v) (cost_at arcs k) (q (end_at arcs k)) n scanned g.nodes le (pr.low s r.source.0).1 (r.near v b l) op less in
-              near_end (cost_at arcs k) (p' v) (q v) (q (end_at arcs k)) (p' (end_at arcs k)) bound (m.are_scanned v b l h) less (labels_fall n p p' q place scanned bound m left (end_at arcs k) eb mark)
+              let given_label : q (end_at arcs k) <ℤ far = label_step (p s) (q v) (cost_at arcs k) (q (end_at arcs k)) n scanned g.nodes le (pr.low s r.source.0).1 (r.near v b l) op less in
+              near_end (cost_at arcs k) (p' v) (q v) (q (end_at arcs k)) (p' (end_at arcs k)) bound (m.are_scanned v b l h) less (labels_fall n p p' q place scanned bound m left (end_at arcs k) eb given_label)
           | inr away ↦ far_end (cost_at arcs k) (p' v) (q v) (p (end_at arcs k)) (p' (end_at arcs k)) bound (m.are_scanned v b l h) away fall
         ]
         | inr h ↦ old (m.behind v b l h)
@@ -275,7 +275,7 @@ has_path n first arcs p p' e s q enter order place scanned ordered reached radiu
     let h = near.hit hit in
     let eb : end_at arcs f < n = g.end h.start f h.node h.leaves in
     let off : far ≤ℤ q (end_at arcs f) = wanting_far n first arcs p e s q enter order place scanned ordered reached radius (end_at arcs f) r eb h.wanting in
-    let labelled : (v : ℕ) → on_path order place scanned v ≡ true → (v < n) × (q v <ℤ far) = λ v o. let (a, back) = on_is order place scanned v o in (subst (λ (t : ℕ). t < n) back (r.node (place v) (omega arith)), subst (λ (t : ℕ). q t <ℤ far) back (r.marked (place v) (omega arith))) in
+    let labelled : (v : ℕ) → on_path order place scanned v ≡ true → (v < n) × (q v <ℤ far) = λ v o. let (a, back) = on_is order place scanned v o in (subst (λ (t : ℕ). t < n) back (r.node (place v) (omega arith)), subst (λ (t : ℕ). q t <ℤ far) back (r.has_label (place v) (omega arith))) in
     let order_s : order 0 ≡ s = ap order (sym r.source.2) ∙ (r.listed s r.source.0 r.source.1).1 in
     record {
       on = on_path order place scanned;
@@ -393,7 +393,7 @@ one_each net first reverse forward capacity arcs p e s q enter order place scann
 pub many_looks : (net : NetworkModel) (first : List ℕ) (reverse : ℕ → ℕ) (forward : List ℕ) (capacity : ℕ → ℕ) (arcs : List ResidualArc) (p e : ℕ → ℤ) (s : ℕ) (q : ℕ → ℤ) (enter order place : ℕ → ℕ) (scanned ordered reached : ℕ) (radius bound : ℤ) (f : ℕ) → HasResidualArcs net first reverse forward → AreResidualArcs net reverse forward capacity arcs → IsReached (node_count net) first arcs p e s q enter order place scanned ordered reached radius → IsHit (node_count net) first arcs p e s q place scanned bound f → scanned ≤ looked first order scanned
 many_looks net first reverse forward capacity arcs p e s q enter order place scanned ordered reached radius bound f l fl r h =
     let le : scanned ≤ reached = omega (arith, r.counts) in
-    let more : sum_below scanned (λ _. 1) ≤ looked first order scanned = sum_below-le scanned (λ _. 1) (λ j. degree first (order j)) (λ j b. one_each net first reverse forward capacity arcs p e s q enter order place scanned ordered reached radius bound f l fl r h (order j) (r.node j (omega arith)) (r.marked j (omega arith))) in
+    let more : sum_below scanned (λ _. 1) ≤ looked first order scanned = sum_below-le scanned (λ _. 1) (λ j. degree first (order j)) (λ j b. one_each net first reverse forward capacity arcs p e s q enter order place scanned ordered reached radius bound f l fl r h (order j) (r.node j (omega arith)) (r.has_label j (omega arith))) in
     omega (arith, sum_below-constant scanned 1)
 
 -- the path has no more residual arcs than that

@@ -122,7 +122,7 @@ relabelled n first arcs p e s q q' enter enter' order place scanned ordered reac
         begun = r.begun;
         node = r.node;
         at = r.at;
-        marked = λ j c. now (order j) (r.node j c) (r.marked j c);
+        has_label = λ j c. now (order j) (r.node j c) (r.has_label j c);
         listed = λ w c m. r.listed w c (was w c m);
         most = λ w c. under_most (q' w) (q w) (put_lower q q' v w x put o.less) (r.most w c);
         under = λ w c m h. let t : (q' w ≡ q w) = put.others w (λ t. let e : place w ≡ place v = ap place t in absurd (omega arith)) in rw t (r.under w c (was w c m) h);
@@ -166,7 +166,7 @@ enlisted n first arcs p e s q q' enter enter' order order' place place' scanned 
     let was : (w : ℕ) → w ≢ v → q' w <ℤ far → q w <ℤ far = λ w ne m. rw (sym (put.others w ne)) m in
     let labelled : q' v <ℤ far = subst (λ (z : ℤ). z <ℤ far) (sym put.here) (not_far x (q v) o.less (r.most v b)) in
     let place_other : (j : ℕ) → j < reached → order' j ≡ order j = λ j c. listed.others j (λ t. omega arith) in
-    let order_fresh : (j : ℕ) → j < reached → order j ≢ v = λ j c. fresh (order j) (r.marked j c) in (
+    let order_fresh : (j : ℕ) → j < reached → order j ≢ v = λ j c. fresh (order j) (r.has_label j c) in (
       record {
         counts = (ho, omega arith, omega arith);
         begun = r.begun;
@@ -178,9 +178,9 @@ enlisted n first arcs p e s q q' enter enter' order order' place place' scanned 
           | inl t ↦ ap place' (ap order' t ∙ listed.here) ∙ here ∙ sym t
           | inr ne ↦ let d : j < reached = omega arith in ap place' (place_other j d) ∙ placed.others (order j) (order_fresh j d) ∙ r.at j d
         ];
-        marked = λ j c. elim (cases_eq j reached) [
+        has_label = λ j c. elim (cases_eq j reached) [
           | inl t ↦ subst (λ (i : ℕ). q' i <ℤ far) (sym (ap order' t ∙ listed.here)) labelled
-          | inr ne ↦ let d : j < reached = omega arith in subst (λ (i : ℕ). q' i <ℤ far) (sym (place_other j d)) (rw (put.others (order j) (order_fresh j d)) (r.marked j d))
+          | inr ne ↦ let d : j < reached = omega arith in subst (λ (i : ℕ). q' i <ℤ far) (sym (place_other j d)) (rw (put.others (order j) (order_fresh j d)) (r.has_label j d))
         ];
         listed = λ w c m. elim (cases_eq w v) [
           | inl t ↦ let g : place' w ≡ reached = ap place' t ∙ here in (omega arith, ap order' g ∙ listed.here ∙ sym t)
@@ -227,7 +227,7 @@ swapped n first arcs p e s q enter order order' place place' scanned ordered rea
     let from_is : order from ≡ v = subst (λ (t : ℕ). order t ≡ v) at mine in
     let o : ℕ = order ordered in
     let ob : o < n = r.node ordered to_in in
-    let ol : q o <ℤ far = r.marked ordered to_in in
+    let ol : q o <ℤ far = r.has_label ordered to_in in
     let oat : place o ≡ ordered = r.at ordered to_in in
     let apart : from ≢ ordered → o ≢ v = λ ne t. ne (sym at ∙ ap place (sym t) ∙ oat) in
     let joint : o ≢ v → from ≢ ordered = λ ne t. ne (ap order (sym t) ∙ from_is) in
@@ -272,11 +272,11 @@ swapped n first arcs p e s q enter order order' place place' scanned ordered rea
                 ap place' (sw.rest j nt nf) ∙ sw.stay (order j) (λ t. nf (sym back ∙ ap place t ∙ at)) (λ t. nt (sym back ∙ ap place t ∙ oat)) ∙ back
           ]
         ];
-        marked = λ j c. elim (cases_eq j ordered) [
+        has_label = λ j c. elim (cases_eq j ordered) [
           | inl t ↦ subst (λ (i : ℕ). q i <ℤ far) (sym (ap order' t ∙ sw.moved)) l
           | inr nt ↦ elim (cases_eq j from) [
             | inl t ↦ subst (λ (i : ℕ). q i <ℤ far) (sym (ap order' t ∙ sw.other (λ u. nt (t ∙ u)))) ol
-            | inr nf ↦ subst (λ (i : ℕ). q i <ℤ far) (sym (sw.rest j nt nf)) (r.marked j c)
+            | inr nf ↦ subst (λ (i : ℕ). q i <ℤ far) (sym (sw.rest j nt nf)) (r.has_label j c)
           ]
         ];
         listed = λ w c m. elim (cases_eq w v) [
@@ -340,7 +340,7 @@ headed n first arcs p e s q enter order place scanned ordered reached radius r m
   begun = r.begun;
   node = r.node;
   at = r.at;
-  marked = r.marked;
+  has_label = r.has_label;
   listed = r.listed;
   most = r.most;
   under = r.under;
@@ -379,7 +379,7 @@ climbed n first arcs p e s q enter order place scanned ordered reached radius to
   begun = r.begun;
   node = r.node;
   at = r.at;
-  marked = r.marked;
+  has_label = r.has_label;
   listed = r.listed;
   most = r.most;
   under = λ w c m h. under_radius (q w -ℤ p w) radius to (r.under w c m h) rises;
@@ -510,7 +510,7 @@ order_distinct n first arcs p e s q enter order place scanned ordered reached ra
 pub order_room : (n : ℕ) (first : List ℕ) (arcs : List ResidualArc) (p e : ℕ → ℤ) (s : ℕ) (q : ℕ → ℤ) (enter order place : ℕ → ℕ) (scanned ordered reached : ℕ) (radius : ℤ) (v : ℕ) → IsReached n first arcs p e s q enter order place scanned ordered reached radius → v < n → far ≤ℤ q v → reached < n
 order_room n first arcs p e s q enter order place scanned ordered reached radius v r b l =
     room_for reached n order v r.node (order_distinct n first arcs p e s q enter order place scanned ordered reached radius r) b
-    (λ j c t. not_less (q v) far (subst (λ (i : ℕ). q i <ℤ far) t (r.marked j c)) l)
+    (λ j c t. not_less (q v) far (subst (λ (i : ℕ). q i <ℤ far) t (r.has_label j c)) l)
 
 -- ---- bounds
 
@@ -607,7 +607,7 @@ order_kept n first arcs p e s q q' enter enter' order order' place place' scanne
     let jb : j < reached = omega arith in
     let v : ℕ = order j in
     let vb : v < n = r.node j jb in
-    let l : q v <ℤ far = r.marked j jb in
+    let l : q v <ℤ far = r.has_label j jb in
     let at : place v ≡ j = r.at j jb in
     let (same, stays) = kept.same v vb l (omega arith) in
     let l' : q' v <ℤ far = subst (λ (z : ℤ). z <ℤ far) (sym same) l in
@@ -677,7 +677,7 @@ source_reached n first arcs p e s q q' enter order place small sb low left blank
       begun = omega arith;
       node = λ j b. subst (λ (i : ℕ). i < n) (sym (zeroth j b)) sb;
       at = λ j b. ap place (zeroth j b) ∙ pat ∙ omega arith;
-      marked = λ j b. subst (λ (i : ℕ). q' i <ℤ far) (sym (zeroth j b)) ls;
+      has_label = λ j b. subst (λ (i : ℕ). q' i <ℤ far) (sym (zeroth j b)) ls;
       listed = λ w b l. let t : w ≡ s = only w b l in let g : place w ≡ 0 = ap place t ∙ pat in (omega arith, ap order g ∙ oat ∙ sym t);
       most = λ w b. elim (cases_eq w s) [
         | inl t ↦ subst (λ (i : ℕ). q' i ≤ℤ far) (sym t) (less_far (q' s) ls)
@@ -735,7 +735,7 @@ pub next_node : (n : ℕ) (first : List ℕ) (arcs : List ResidualArc) (p e : �
 next_node n first arcs p e s q enter order place scanned ordered reached radius r more =
     let b : scanned < reached = omega (arith, r.counts) in
     let at : place (order scanned) ≡ scanned = r.at scanned b in
-    let l : q (order scanned) <ℤ far = r.marked scanned b in
+    let l : q (order scanned) <ℤ far = r.has_label scanned b in
     record {
       node = r.node scanned b;
       labelled = l;

@@ -24,7 +24,7 @@ pub record IsMember (g : SearchInput) (s : Search) (j w : ℕ) : Type 0 where
 pub member : (g : SearchInput) (s : Search) (j w : ℕ) → IsSearch g s → j < s.reached → w ≡ orders s j → IsMember g s j w
 member g s j w h b e = record {
   node = subst (λ (k : ℕ). k < nodes_of g) (sym e) (h.reached.node j b);
-  labelled = subst (λ (k : ℕ). labels s k <ℤ far) (sym e) (h.reached.marked j b);
+  labelled = subst (λ (k : ℕ). labels s k <ℤ far) (sym e) (h.reached.has_label j b);
   place = subst (λ (k : ℕ). places s k ≡ j) (sym e) (h.reached.at j b);
   number = sym e;
 }

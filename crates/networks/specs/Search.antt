@@ -68,7 +68,7 @@ pub record IsReached (n : ℕ) (first : List ℕ) (arcs : List ResidualArc) (p e
   pub begun : 0 < ordered
   pub node : (j : ℕ) → j < reached → order j < n
   pub at : (j : ℕ) → j < reached → place (order j) ≡ j
-  pub marked : (j : ℕ) → j < reached → q (order j) <ℤ far
+  pub has_label : (j : ℕ) → j < reached → q (order j) <ℤ far
   pub listed : (v : ℕ) → v < n → q v <ℤ far → (place v < reached) × (order (place v) ≡ v)
   pub most : (v : ℕ) → v < n → q v ≤ℤ far
   pub under : (v : ℕ) → v < n → q v <ℤ far → place v < ordered → (q v -ℤ p v) ≤ℤ radius

@@ -34,7 +34,7 @@ impl Search<'_> {
         ensures relaxed { IsRelaxed input.entry self.old self.new }
         ensures label { labels self.new step.end ≡ step.label }
     {
-        self.mark(step);
+        self.set_label(step);
         if distance(step.label, input.potential[step.end]) == self.radius {
             self.advance(step.end);
         }
@@ -57,10 +57,10 @@ impl Search<'_> {
     }
 
     /// Gives a node a label, and a place behind all that were reached if it has none.
-    fn mark(&mut self, step: Step)
+    fn set_label(&mut self, step: Step)
         requires end { HasEnd self.old step }
         requires room { far ≤ℤ labels self.old step.end → self.old.reached < length self.old.visits.now }
-        ensures marked { IsLabelled self.old self.new step }
+        ensures has_label { IsLabelled self.old self.new step }
     {
         if self.visits[step.end].label < FAR {
             self.relabel(step);

@@ -7,5 +7,5 @@ invariant-loop-vertex l = record {
   size : length l.segments ≡ length l.fn.segments;
   own : (v : ℕ) → v < l.vertex → slice_index l.segments v ≡ v;
   count : l.count ≤ l.vertex;
-  segment_heads : AreVertices (length l.fn.segments) l.segment_heads;
+  segment_firsts : AreVertices (length l.fn.segments) l.segment_firsts;
 }

@@ -86,7 +86,7 @@ update_potentials-requires c =
       small = omega (arith, r.potentials, r.network.small);
       are_scanned = λ j b. re0.node j (omega (arith, re0.counts));
       sizes = size;
-      labels = λ j b. reached_fits _ _ _ _ _ _ _ _ _ _ _ _ _ _ (orders t j) g0 pr0 re0 (re0.node j (omega (arith, re0.counts))) (re0.marked j (omega (arith, re0.counts)));
+      labels = λ j b. reached_fits _ _ _ _ _ _ _ _ _ _ _ _ _ _ (orders t j) g0 pr0 re0 (re0.node j (omega (arith, re0.counts))) (re0.has_label j (omega (arith, re0.counts)));
       bound = label_bounds _ t.scanned (p c.args.source) t.bound r.network.small.0 le (near0.hit hit).near (r.round.low c.args.source b);
     })
 

@@ -7,8 +7,8 @@ use Rattle.networks.proofs.Signs.{same_from_bits, label_fits, label_passed}
 use Rattle.networks.proofs.Searching.{IsListed, potential_near, potential_within, away_is, offer_within, end_in, room_left, settled, settled_behind, listed}
 use Rattle.networks.proofs.state.Search.label_node.Goals as goal
 
-pub mark-requires-clause-room : goal.mark-requires-clause-room
-mark-requires-clause-room c = room_left c.args.input c.args.self.now c.args.step.end c.requires.offer.search (end_in c.args.input c.args.self.now c.args.step c.requires.offer)
+pub set_label-requires-clause-room : goal.set_label-requires-clause-room
+set_label-requires-clause-room c = room_left c.args.input c.args.self.now c.args.step.end c.requires.offer.search (end_in c.args.input c.args.self.now c.args.step c.requires.offer)
 
 pub distance-requires-clause-label : goal.distance-requires-clause-label
 distance-requires-clause-label c =
@@ -21,7 +21,7 @@ distance-requires-clause-potential c = potential_within c.args.input c.args.step
 pub advance-requires : goal.advance-requires
 advance-requires c =
     let o = c.requires.offer in
-    let w : IsListed c.args.input c.mark.new.self c.args.step.end = listed c.args.input c.args.self.now c.mark.new.self c.args.step o c.requires.plain c.mark.ensures.marked in
+    let w : IsListed c.args.input c.set_label.new.self c.args.step.end = listed c.args.input c.args.self.now c.set_label.new.self c.args.step o c.requires.plain c.set_label.ensures.has_label in
     record {
       few = omega (arith, w.size, o.search.input.graph.nodes);
       node = omega (arith, w.size, end_in c.args.input c.args.self.now c.args.step o);
@@ -35,17 +35,17 @@ advance-requires c =
 pub returns-then-distance-self-clause-relaxed : goal.returns-then-distance-self-clause-relaxed
 returns-then-distance-self-clause-relaxed c =
     let fd : SFits w32 c.distance.result = search rules in
-    let fl : SFits w32 c.mark.new.self.radius = search rules in
+    let fl : SFits w32 c.set_label.new.self.radius = search rules in
     let o = c.requires.offer in
     let g = c.args.input in
     let b : c.args.step.end < nodes_of g = end_in g c.args.self.now c.args.step o in
     let away : c.distance.result ≡ c.args.step.label -ℤ potential_of g c.args.step.end = away_is _ _ _ (offer_within g c.args.self.now c.args.step o) (potential_near g c.args.step.end o.search.input b) c.distance.ensures in
-    let same : c.distance.result ≡ c.mark.new.self.radius = same_from_bits _ _ fd fl c.if-distance-self.true in
+    let same : c.distance.result ≡ c.set_label.new.self.radius = same_from_bits _ _ fd fl c.if-distance-self.true in
     let a = c.advance.ensures in
-    settled g c.args.self.now c.mark.new.self c.advance.new.self c.args.step c.distance.result o c.requires.plain c.mark.ensures.marked away same a.swapped a.same a.ordered
+    settled g c.args.self.now c.set_label.new.self c.advance.new.self c.args.step c.distance.result o c.requires.plain c.set_label.ensures.has_label away same a.swapped a.same a.ordered
 
 pub returns-then-distance-self-clause-label : goal.returns-then-distance-self-clause-label
-returns-then-distance-self-clause-label c = rw (c.advance.ensures.same.label c.args.step.end) c.mark.ensures.marked.label.here
+returns-then-distance-self-clause-label c = rw (c.advance.ensures.same.label c.args.step.end) c.set_label.ensures.has_label.label.here
 
 pub returns-else-distance-self-clause-relaxed : goal.returns-else-distance-self-clause-relaxed
-returns-else-distance-self-clause-relaxed c = settled_behind c.args.input c.args.self.now c.mark.new.self c.args.step c.requires.offer c.requires.plain c.mark.ensures.marked
+returns-else-distance-self-clause-relaxed c = settled_behind c.args.input c.args.self.now c.set_label.new.self c.args.step c.requires.offer c.requires.plain c.set_label.ensures.has_label

@@ -1,6 +1,6 @@
 use Rattle.std.proofs.Common.{◌≡◌, length}
 use Rattle.compact.specs.Steps.{step, AreSegments, IsOnSegment}
-use Rattle.compact.proofs.longest_paths.mark_both.Given as goal
+use Rattle.compact.proofs.longest_paths.write_both.Given as goal
 
 abbrev pub invariant-loop : goal.invariant-loop
 invariant-loop l = record {

@@ -1,7 +1,7 @@
 use Rattle.std.proofs.Common.{refl}
 use Rattle.compact.specs.Steps.{step}
 use Rattle.compact.proofs.Stepping.{segments_set}
-use Rattle.compact.proofs.longest_paths.mark_next.Goals as goal
+use Rattle.compact.proofs.longest_paths.write_next.Goals as goal
 
 pub returns-then-ends-2-clause-segments : goal.returns-then-ends-2-clause-segments
 returns-then-ends-2-clause-segments c =
