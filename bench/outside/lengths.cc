@@ -1,7 +1,7 @@
 // The least total lengths of a thousand random drawings along one axis, each hundred of them added up, a line each; by
-// LEMON's network simplex. Rows keep their order on each level that two of them share, one unit apart at least: the dual
-// of that linear program sends units from rows where more edges begin to those where more end, over each such pair, and
-// as many as can be. Drawings are made as crates/base_tests/src/random.rt makes them.
+// LEMON's network simplex. Segments keep their order on each level that two of them share, one unit apart at least: the
+// dual of that linear program sends units from segments where more edges begin to those where more end, over each such
+// pair, and as many as can be. Drawings are made as crates/base_tests/src/random.rt makes them.
 #include <algorithm>
 #include <cstdint>
 #include <iostream>
@@ -17,22 +17,22 @@ struct Random {
   }
 };
 
-struct Row {
+struct Segment {
   int low, high;
 };
 
-static bool share_a_level(const Row &one, const Row &other) {
+static bool share_a_level(const Segment &one, const Segment &other) {
   return std::max(one.low, other.low) <= std::min(one.high, other.high);
 }
 
 static long least_length(uint64_t drawing) {
   Random random{drawing};
   const int count = random.below(30) + 2, levels = random.below(12) + 1;
-  std::vector<Row> rows;
+  std::vector<Segment> segments;
   for (int r = 0; r < count; ++r) {
-    random.below(3);  // how far behind the row before it is drawn
+    random.below(3);  // how far behind the segment before it is drawn
     const int low = random.below(levels);
-    rows.push_back({low, std::min(low + random.below(levels), levels - 1)});
+    segments.push_back({low, std::min(low + random.below(levels), levels - 1)});
   }
   lemon::ListDigraph graph;
   std::vector<lemon::ListDigraph::Node> nodes;
@@ -41,13 +41,13 @@ static long least_length(uint64_t drawing) {
   lemon::ListDigraph::ArcMap<long> cost(graph, -1);
   for (int tried = 0; tried < 2 * count; ++tried) {
     const int one = random.below(count), other = random.below(count);
-    if (one == other || !share_a_level(rows[one], rows[other])) continue;
+    if (one == other || !share_a_level(segments[one], segments[other])) continue;
     ++supply[nodes[std::min(one, other)]];
     --supply[nodes[std::max(one, other)]];
   }
   for (int r = 0; r < count; ++r)
     for (int s = r + 1; s < count; ++s)
-      if (share_a_level(rows[r], rows[s])) cost[graph.addArc(nodes[r], nodes[s])] = -1;
+      if (share_a_level(segments[r], segments[s])) cost[graph.addArc(nodes[r], nodes[s])] = -1;
   lemon::NetworkSimplex<lemon::ListDigraph, long, long> simplex(graph);
   simplex.costMap(cost).supplyMap(supply);
   if (simplex.run() != simplex.OPTIMAL) throw std::runtime_error("no least length");

@@ -1,4 +1,4 @@
-//! Rows whose least length is known by hand.
+//! Segments whose least length is known by hand.
 use crate::compared::same;
 use crate::made::{Drawn, edges_of, segments_of};
 use least_length::{Edge, least_numbers};

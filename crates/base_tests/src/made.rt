@@ -1,4 +1,4 @@
-//! Rows, edges and weights made from short lists.
+//! Segments, edges and weights made from short lists.
 ghost use Rattle.std.specs.Prelude.{◌≡◌, ◌≤◌, length, IfOk};
 
 use least_length::{Edge, MAX_EDGES, MAX_SIGHTS, Scratch, Segment, Sight, certify_lengths};

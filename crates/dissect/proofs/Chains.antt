@@ -183,9 +183,9 @@ module _ (v : ℕ) (w : DartMap) (e way bend : ℕ) (new : DartMap) (has : HasCh
   }
 
 -- darts beside a map, before which none stands and which stand before none, keep its chains
-pub beside_rows : (v : ℕ) (w new : DartMap) → HasChains v w → IsBeside w new → IsLinked new → w.vertices ≤ new.vertices →
+pub beside_chains : (v : ℕ) (w new : DartMap) → HasChains v w → IsBeside w new → IsLinked new → w.vertices ≤ new.vertices →
     ((a : ℕ) → a < new.darts → new.head a < new.vertices) → HasChains v new
-beside_rows v w new has beside linked more heads =
+beside_chains v w new has beside linked more heads =
     let late : (a : ℕ) → a < new.darts → new.before a ≢ no_dart → a < w.darts = λ a l some.
     elim (cases_lt a w.darts) [
       | inl old ↦ old
@@ -235,30 +235,30 @@ beside_rows v w new has beside linked more heads =
     }
 
 -- a chord keeps the chains
-pub chord_rows : (v : ℕ) (w : DartMap) (d f way : ℕ) (new : DartMap) → HasChains v w → d < w.darts → f < w.darts → IsLinked new →
+pub chord_chains : (v : ℕ) (w : DartMap) (d f way : ℕ) (new : DartMap) → HasChains v w → d < w.darts → f < w.darts → IsLinked new →
     IsChord w d f way new → HasChains v new
-chord_rows v w d f way new has d_in f_in linked chord =
-    beside_rows v w new has (chord_beside w d f way new has.linked chord) linked (omega (arith, chord.vertices))
+chord_chains v w d f way new has d_in f_in linked chord =
+    beside_chains v w new has (chord_beside w d f way new has.linked chord) linked (omega (arith, chord.vertices))
     (λ a l. by_age w.darts (λ (a : ℕ). new.head a < new.vertices)
     (λ a l. omega (arith, chord.head_old a l, has.heads a l, chord.vertices))
     (omega (arith, chord.head_there, has.heads f f_in, chord.vertices)) (omega (arith, chord.head_back, has.heads d d_in, chord.vertices))
     a (omega (arith, chord.darts)))
 
 -- and so does a cut
-pub cut_rows : (v : ℕ) (w : DartMap) (d e way : ℕ) (new : DartMap) → HasChains v w → IsCut w d e way new → HasChains v new
-cut_rows v w d e way new has cut =
-    chord_rows v cut.middle d w.darts way new
+pub cut_chains : (v : ℕ) (w : DartMap) (d e way : ℕ) (new : DartMap) → HasChains v w → IsCut w d e way new → HasChains v new
+cut_chains v w d e way new has cut =
+    chord_chains v cut.middle d w.darts way new
     (split_chains v w e (w.direction e) 2 cut.middle has cut.e_in cut.split) cut.fits.d_in cut.fits.f_in
     (cut_linked w d e way new has.linked cut) cut.chord
 
-pub grows_rows : (v : ℕ) (w new : DartMap) → HasChains v w → Grows w new → HasChains v new
-grows_rows v w new has same = has
-grows_rows v w new has (further mid last d e way grows cut) = cut_rows v mid d e way last (grows_rows v w mid has grows) cut
+pub grows_chains : (v : ℕ) (w new : DartMap) → HasChains v w → Grows w new → HasChains v new
+grows_chains v w new has same = has
+grows_chains v w new has (further mid last d e way grows cut) = cut_chains v mid d e way last (grows_chains v w mid has grows) cut
 
 -- a rectangle beside the map keeps the chains
-pub surround_rows : (v : ℕ) (w new : DartMap) → HasChains v w → IsSurrounded w new → HasChains v new
-surround_rows v w new has f =
-    beside_rows v w new has (surrounded_beside w new has.linked f) (surrounded_linked w new has.linked f) (omega (arith, f.vertices))
+pub surround_chains : (v : ℕ) (w new : DartMap) → HasChains v w → IsSurrounded w new → HasChains v new
+surround_chains v w new has f =
+    beside_chains v w new has (surrounded_beside w new has.linked f) (surrounded_linked w new has.linked f) (omega (arith, f.vertices))
     (λ a l. by_side w.darts (λ (a : ℕ). new.head a < new.vertices)
     (λ a l. omega (arith, f.head_old a l, has.heads a l, f.vertices))
     (λ k l. omega (arith, f.head_inner k l, f.vertices)) (λ k l. omega (arith, f.head_outer k l, f.vertices))
@@ -267,8 +267,8 @@ surround_rows v w new has f =
 -- and so do its join and the cuts after it
 pub enclosed_chains : (v : ℕ) (w : DartMap) (outside : ℕ) (new : DartMap) → HasChains v w → IsEnclosed w outside new → HasChains v new
 enclosed_chains v w outside new has e =
-    grows_rows v e.joined new
-    (cut_rows v e.surrounded e.right (w.darts + e.side) e.way e.joined (surround_rows v w e.surrounded has e.surround) e.join) e.grows
+    grows_chains v e.joined new
+    (cut_chains v e.surrounded e.right (w.darts + e.side) e.way e.joined (surround_chains v w e.surrounded has e.surround) e.join) e.grows
 
 -- where no dart stands before another, there are no chains
 pub plain_chains : (v : ℕ) (w : DartMap) → IsLinked w → ((a : ℕ) → a < w.darts → w.head a < w.vertices) → v ≤ w.vertices →

@@ -10,7 +10,7 @@ use Rattle.dissect.proofs.Splits.{split_doubled}
 use Rattle.dissect.proofs.StayingJoined.{cut_linked}
 use Rattle.dissect.proofs.Cuts.{AreQuarters, cut_quarters, chord_beside}
 use Rattle.dissect.proofs.SurroundedPaths.{surrounded_linked, surrounded_quarters}
-use Rattle.dissect.proofs.Sides.{HasRow, beside_row, cut_chain, grows_chain}
+use Rattle.dissect.proofs.Sides.{HasChain, beside_chain, cut_chain, grows_chain}
 use Rattle.dissect.specs.Rectangle.{HasRectangle, IsJoinedAt}
 use Rattle.dissect.proofs.Keeping.{Keeps, cut_keeps, grows_keeps, keeps_on}
 
@@ -34,13 +34,13 @@ module _ (w : DartMap) (outside : ℕ) (new : DartMap) (linked : IsLinked w) (fo
   four_joined = cut_quarters e.surrounded e.right side_dart e.way e.joined four_surrounded e.join
 
   -- a chain of the surrounded map is one of the last
-  surrounded_chain : (end reverse_dart held : ℕ) → HasRow e.surrounded end reverse_dart held [] → HasRow new end reverse_dart held []
+  surrounded_chain : (end reverse_dart held : ℕ) → HasChain e.surrounded end reverse_dart held [] → HasChain new end reverse_dart held []
   surrounded_chain end reverse_dart held chain =
       grows_chain e.joined new end reverse_dart held [] linked_joined four_joined e.grows
       (cut_chain e.surrounded e.right side_dart e.way e.joined end reverse_dart held [] linked_surrounded (four_surrounded side_dart e.join.e_in) e.join chain)
 
   -- and so is a chain of the joined map
-  joined_chain : (end reverse_dart held : ℕ) → HasRow e.joined end reverse_dart held [] → HasRow new end reverse_dart held []
+  joined_chain : (end reverse_dart held : ℕ) → HasChain e.joined end reverse_dart held [] → HasChain new end reverse_dart held []
   joined_chain end reverse_dart held chain = grows_chain e.joined new end reverse_dart held [] linked_joined four_joined e.grows chain
 
   keeps_joined : Keeps e.joined new
@@ -55,8 +55,8 @@ module _ (w : DartMap) (outside : ℕ) (new : DartMap) (linked : IsLinked w) (fo
   count_middle : e.join.middle.darts ≡ n + 10
   count_middle = omega (arith, e.join.split.darts, e.surround.darts)
 
-  inner_row : (k : ℕ) → k < 4 → HasPath new (n + k) (n + 4 + k) []
-  inner_row k l =
+  inner_chain : (k : ℕ) → k < 4 → HasPath new (n + k) (n + 4 + k) []
+  inner_chain k l =
       (surrounded_chain (n + k) (n + 4 + k) (n + k) (record {
         path = record {
           first = n + k;
@@ -74,8 +74,8 @@ module _ (w : DartMap) (outside : ℕ) (new : DartMap) (linked : IsLinked w) (fo
         holds = inl refl;
       })).path
 
-  outer_row : (k : ℕ) → k < 4 → HasPath new (n + 4 + k) (n + k) []
-  outer_row k l =
+  outer_chain : (k : ℕ) → k < 4 → HasPath new (n + 4 + k) (n + k) []
+  outer_chain k l =
       (surrounded_chain (n + 4 + k) (n + k) (n + 4 + k) (record {
         path = record {
           first = n + 4 + k;
@@ -96,7 +96,7 @@ module _ (w : DartMap) (outside : ℕ) (new : DartMap) (linked : IsLinked w) (fo
   -- the rectangle stands round the drawing
   pub rectangle : ((k : ℕ) → k < 4 → AreWaiting new (n + 4 + k) []) → HasRectangle w new
   rectangle done = record {
-    sides = λ k l. record { there = inner_row k l; again = outer_row k l };
+    sides = λ k l. record { there = inner_chain k l; again = outer_chain k l };
     directions = λ k l. keeps_surrounded.direction (n + k) (omega (arith, e.surround.darts)) ∙ e.surround.direction_inner k l;
     inside = λ k l. keeps_surrounded.head (n + k) (omega (arith, e.surround.darts)) ∙ e.surround.head_inner k l;
     corners = λ k l. keeps_surrounded.head (n + 4 + k) (omega (arith, e.surround.darts)) ∙ e.surround.head_outer k l;
@@ -114,8 +114,8 @@ module _ (w : DartMap) (outside : ℕ) (new : DartMap) (linked : IsLinked w) (fo
   }
 
   -- the join, before anything else is cut
-  join_row : HasPath e.joined (n + 10) (n + 11) []
-  join_row =
+  join_chain : HasPath e.joined (n + 10) (n + 11) []
+  join_chain =
       let first : e.join.middle.darts ≡ n + 10 = count_middle in
       let second : e.join.middle.darts + 1 ≡ n + 11 = omega (arith, count_middle) in
       record {
@@ -132,8 +132,8 @@ module _ (w : DartMap) (outside : ℕ) (new : DartMap) (linked : IsLinked w) (fo
         turns = refl;
       }
 
-  join_row_back : HasPath e.joined (n + 11) (n + 10) []
-  join_row_back =
+  join_chain_back : HasPath e.joined (n + 11) (n + 10) []
+  join_chain_back =
       let first : e.join.middle.darts ≡ n + 10 = count_middle in
       let second : e.join.middle.darts + 1 ≡ n + 11 = omega (arith, count_middle) in
       record {
@@ -151,10 +151,10 @@ module _ (w : DartMap) (outside : ℕ) (new : DartMap) (linked : IsLinked w) (fo
       }
 
   -- the side that was cut goes through the end of the join
-  side_row : HasRow new side_dart (n + 4 + e.side) e.surrounded.darts []
-  side_row =
+  side_chain : HasChain new side_dart (n + 4 + e.side) e.surrounded.darts []
+  side_chain =
       joined_chain side_dart (n + 4 + e.side) e.surrounded.darts
-      (beside_row e.join.middle e.joined side_dart (n + 4 + e.side) e.surrounded.darts []
+      (beside_chain e.join.middle e.joined side_dart (n + 4 + e.side) e.surrounded.darts []
       (chord_beside e.join.middle e.right e.surrounded.darts e.way e.joined
       (split_linked e.surrounded side_dart (e.surrounded.direction side_dart) 2 e.join.middle linked_surrounded e.join.e_in e.join.split) e.join.chord)
       (record {
@@ -175,7 +175,7 @@ module _ (w : DartMap) (outside : ℕ) (new : DartMap) (linked : IsLinked w) (fo
 
   -- the drawing is joined with the rectangle at the head of the right turn
   pub join : IsJoinedAt w e.right new
-  unfolding join_row join_row_back
+  unfolding join_chain join_chain_back
   join =
       let first : e.join.middle.darts ≡ n + 10 = count_middle in
       let second : e.join.middle.darts + 1 ≡ n + 11 = omega (arith, count_middle) in
@@ -195,8 +195,8 @@ module _ (w : DartMap) (outside : ℕ) (new : DartMap) (linked : IsLinked w) (fo
       keeps_surrounded.head e.right right_surrounded ∙ sym (e.join.split.head_old e.right right_surrounded) in
       record {
         chain = record {
-          there = (joined_chain (n + 10) (n + 11) (n + 10) (record { path = join_row; holds = inl refl })).path;
-          again = (joined_chain (n + 11) (n + 10) (n + 11) (record { path = join_row_back; holds = inl refl })).path;
+          there = (joined_chain (n + 10) (n + 11) (n + 10) (record { path = join_chain; holds = inl refl })).path;
+          again = (joined_chain (n + 11) (n + 10) (n + 11) (record { path = join_chain_back; holds = inl refl })).path;
         };
         from = keeps_joined.head (n + 11) back_in ∙ ap e.joined.head (sym second) ∙ e.join.chord.head_back ∙ sym right_head;
         leaves = omega (arith, way, right_way, middle_way, middle_angle, e.join.fits.from_d);
@@ -216,10 +216,10 @@ module _ (w : DartMap) (outside : ℕ) (new : DartMap) (linked : IsLinked w) (fo
             ∙ sym (e.join.chord.head_old (n + 8) (omega (arith, count_middle)))
             ∙ sym (keeps_joined.head (n + 8) place_in);
         on_side = record {
-          first = side_row.path.first;
-          rest = side_row.path.rest;
-          path = side_row.path.path;
-          passes = subst (λ (z : ℕ). In z (side_row.path.first ∷ side_row.path.rest)) count_surrounded side_row.holds;
+          first = side_chain.path.first;
+          rest = side_chain.path.rest;
+          path = side_chain.path.path;
+          passes = subst (λ (z : ℕ). In z (side_chain.path.first ∷ side_chain.path.rest)) count_surrounded side_chain.holds;
           before_end = λ same. omega (arith, same, e.side_in);
         };
       }

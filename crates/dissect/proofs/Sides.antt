@@ -12,60 +12,60 @@ use Rattle.dissect.proofs.StayingJoined.{grows_linked}
 use Rattle.dissect.proofs.Cuts.{IsBeside, beside_longer, chord_beside, AreQuarters, grows_quarters}
 
 -- the chain that ends with the dart `end` sets out with the reverse of `reverse_dart`, has these turns, and holds the dart `held`
-pub record HasRow (w : DartMap) (end reverse_dart held : ℕ) (turns : List ℕ) : Type 0 where
+pub record HasChain (w : DartMap) (end reverse_dart held : ℕ) (turns : List ℕ) : Type 0 where
   pub path : HasPath w end reverse_dart turns
   pub holds : In held (path.first ∷ path.rest)
 
-row_kept : (w new : DartMap) (end reverse_dart held : ℕ) (turns : List ℕ) → (old : HasRow w end reverse_dart held turns) → IsKept w new old.path.first →
-    IsLonger w new old.path.first old.path.rest turns → HasRow new end reverse_dart held turns
-row_kept w new end reverse_dart held turns old kept longer = record {
+chain_kept : (w new : DartMap) (end reverse_dart held : ℕ) (turns : List ℕ) → (old : HasChain w end reverse_dart held turns) → IsKept w new old.path.first →
+    IsLonger w new old.path.first old.path.rest turns → HasChain new end reverse_dart held turns
+chain_kept w new end reverse_dart held turns old kept longer = record {
   path = path_kept w new end reverse_dart old.path.first old.path.rest turns old.path.path old.path.back kept longer;
   holds = holds_behind held old.path.first old.path.rest longer.list longer.holds old.holds;
 }
 
-row_doubled : (w new : DartMap) (end reverse_dart held front : ℕ) (turns : List ℕ) → (old : HasRow w end reverse_dart held turns) →
-    IsDoubled w new old.path.first front 0 → IsLonger w new old.path.first old.path.rest turns → HasRow new end reverse_dart held turns
-row_doubled w new end reverse_dart held front turns old doubled longer = record {
+chain_doubled : (w new : DartMap) (end reverse_dart held front : ℕ) (turns : List ℕ) → (old : HasChain w end reverse_dart held turns) →
+    IsDoubled w new old.path.first front 0 → IsLonger w new old.path.first old.path.rest turns → HasChain new end reverse_dart held turns
+chain_doubled w new end reverse_dart held front turns old doubled longer = record {
   path = path_doubled w new end reverse_dart old.path.first front 0 old.path.rest turns old.path.path old.path.back doubled longer;
   holds = inr (holds_behind held old.path.first old.path.rest longer.list longer.holds old.holds);
 }
 
-pub split_row : (w : DartMap) (e way : ℕ) (new : DartMap) (end reverse_dart held : ℕ) (turns : List ℕ) → IsLinked w → e < w.darts → way < 4 →
-    IsSubdivided w e way 2 new → HasRow w end reverse_dart held turns → HasRow new end reverse_dart held turns
-split_row w e way new end reverse_dart held turns linked e_in quarter split old =
+pub split_chain : (w : DartMap) (e way : ℕ) (new : DartMap) (end reverse_dart held : ℕ) (turns : List ℕ) → IsLinked w → e < w.darts → way < 4 →
+    IsSubdivided w e way 2 new → HasChain w end reverse_dart held turns → HasChain new end reverse_dart held turns
+split_chain w e way new end reverse_dart held turns linked e_in quarter split old =
     let f : ℕ = old.path.first in
     let rest : List ℕ = old.path.rest in
     let longer = longer_turns w new f rest (bends w f rest) turns old.path.turns
     (split_longer w e way new linked e_in quarter split f rest old.path.path.first_in old.path.path.rest_in old.path.path.follows) in
     elim (cases_eq f e) [
-      | inl at ↦ row_doubled w new end reverse_dart held w.darts turns old
+      | inl at ↦ chain_doubled w new end reverse_dart held w.darts turns old
           (subst (λ (k : ℕ). IsDoubled w new k w.darts 0) (sym at)
           (split_doubled w e way 2 0 new linked e_in quarter (omega arith) refl split)) longer
       | inr not_e ↦ elim (cases_eq f (w.reverse_dart e)) [
-        | inl at ↦ row_doubled w new end reverse_dart held (w.darts + 1) turns old
+        | inl at ↦ chain_doubled w new end reverse_dart held (w.darts + 1) turns old
             (subst (λ (k : ℕ). IsDoubled w new k (w.darts + 1) 0) (sym at)
             (split_doubled_back w e way 2 0 new linked e_in quarter (omega arith) refl split)) longer
-        | inr not_t ↦ row_kept w new end reverse_dart held turns old
+        | inr not_t ↦ chain_kept w new end reverse_dart held turns old
             (split_kept w e way 2 new linked split f old.path.path.first_in not_e not_t) longer
       ]
     ]
 
-pub beside_row : (w new : DartMap) (end reverse_dart held : ℕ) (turns : List ℕ) → IsBeside w new → HasRow w end reverse_dart held turns →
-    HasRow new end reverse_dart held turns
-beside_row w new end reverse_dart held turns beside old =
-    row_kept w new end reverse_dart held turns old (beside.kept old.path.first old.path.path.first_in)
+pub beside_chain : (w new : DartMap) (end reverse_dart held : ℕ) (turns : List ℕ) → IsBeside w new → HasChain w end reverse_dart held turns →
+    HasChain new end reverse_dart held turns
+beside_chain w new end reverse_dart held turns beside old =
+    chain_kept w new end reverse_dart held turns old (beside.kept old.path.first old.path.path.first_in)
     (longer_turns w new old.path.first old.path.rest (bends w old.path.first old.path.rest) turns old.path.turns
     (beside_longer w new beside old.path.first old.path.rest old.path.path.first_in old.path.path.rest_in old.path.path.follows))
 
 pub cut_chain : (w : DartMap) (d e way : ℕ) (new : DartMap) (end reverse_dart held : ℕ) (turns : List ℕ) → IsLinked w → w.direction e < 4 →
-    IsCut w d e way new → HasRow w end reverse_dart held turns → HasRow new end reverse_dart held turns
+    IsCut w d e way new → HasChain w end reverse_dart held turns → HasChain new end reverse_dart held turns
 cut_chain w d e way new end reverse_dart held turns linked quarter cut old =
-    beside_row cut.middle new end reverse_dart held turns
+    beside_chain cut.middle new end reverse_dart held turns
     (chord_beside cut.middle d w.darts way new (split_linked w e (w.direction e) 2 cut.middle linked cut.e_in cut.split) cut.chord)
-    (split_row w e (w.direction e) cut.middle end reverse_dart held turns linked cut.e_in quarter cut.split old)
+    (split_chain w e (w.direction e) cut.middle end reverse_dart held turns linked cut.e_in quarter cut.split old)
 
 pub grows_chain : (w new : DartMap) (end reverse_dart held : ℕ) (turns : List ℕ) → IsLinked w → AreQuarters w → Grows w new →
-    HasRow w end reverse_dart held turns → HasRow new end reverse_dart held turns
+    HasChain w end reverse_dart held turns → HasChain new end reverse_dart held turns
 grows_chain w new end reverse_dart held turns linked four same old = old
 grows_chain w new end reverse_dart held turns linked four (further mid last d e way grows cut) old =
     cut_chain mid d e way last end reverse_dart held turns (grows_linked w mid linked grows) (grows_quarters w mid four grows e cut.e_in) cut

@@ -6,7 +6,7 @@ use Rattle.dissect.specs.Faces.{In, IsOutside}
 use Rattle.dissect.specs.Paths.{HasPath, IsPath}
 
 -- a straight chain of darts ends with the dart `end`, and the chain the other way along it with the dart `back`
-pub record IsStraightRow (w : DartMap) (end back : ℕ) : Type 0 where
+pub record IsStraightChain (w : DartMap) (end back : ℕ) : Type 0 where
   pub there : HasPath w end back []
   pub again : HasPath w back end []
 
@@ -22,7 +22,7 @@ pub record IsPlaceOn (w : DartMap) (end at : ℕ) : Type 0 where
 -- round its inside end with the darts n + 0 .. 3 and run to the east, north, west and south, those round its outside end with the
 -- darts n + 4 .. 7.
 pub record HasRectangle (inner w : DartMap) : Type 0 where
-  pub sides : (k : ℕ) → k < 4 → IsStraightRow w (inner.darts + k) (inner.darts + 4 + k)
+  pub sides : (k : ℕ) → k < 4 → IsStraightChain w (inner.darts + k) (inner.darts + 4 + k)
   pub directions : (k : ℕ) → k < 4 → w.direction (inner.darts + k) ≡ k
   pub inside : (k : ℕ) → k < 4 → w.head (inner.darts + k) ≡ inner.vertices + k
   -- the walk round the outside turns right at each corner, and nowhere else
@@ -32,7 +32,7 @@ pub record HasRectangle (inner w : DartMap) : Type 0 where
 -- A straight chain of darts, which ends with the dart n + 10 and the other way with n + 11, joins the drawing with a side of its
 -- rectangle: it sets out where the dart `right` arrives, and leaves a right angle between itself and the next edge on its left.
 pub record IsJoinedAt (inner : DartMap) (right : ℕ) (w : DartMap) : Type 0 where
-  pub chain : IsStraightRow w (inner.darts + 10) (inner.darts + 11)
+  pub chain : IsStraightChain w (inner.darts + 10) (inner.darts + 11)
   pub from : w.head (inner.darts + 11) ≡ w.head right
   pub leaves : (w.direction (inner.darts + 10) + 1 + inner.angle right) % 4 ≡ w.direction right
   -- it comes to the side at a right angle, between the corners, where the dart n + 8 arrives

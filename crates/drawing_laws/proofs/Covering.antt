@@ -16,7 +16,7 @@ use Rattle.drawing_laws.proofs.Sides.{Goes}
 use Rattle.drawing_laws.proofs.Rounds.{IsRound, AreFaces, are_faces, corners_of, left_round}
 use Rattle.drawing_laws.proofs.Rows.{Covers, box_upright, round_goes, cover_some, cover_one}
 
--- ---- straight rows
+-- ---- straight chains
 
 module _ (w : DartMap) (sound : IsSound w) where
   -- where the walk from a to b does not turn, and goes on without a turn
@@ -31,19 +31,19 @@ module _ (w : DartMap) (sound : IsSound w) where
             absurd (cc first)
       ]
 
-  row_way : (a : ℕ) (rest : List ℕ) → a < w.darts → Below w.darts rest → bends w a rest ≡ [] → w.direction (last_of a rest) ≡ w.direction a
-  row_way a [] a_in below straight = refl
-  row_way a (b ∷ bs) a_in below straight =
+  chain_way : (a : ℕ) (rest : List ℕ) → a < w.darts → Below w.darts rest → bends w a rest ≡ [] → w.direction (last_of a rest) ≡ w.direction a
+  chain_way a [] a_in below straight = refl
+  chain_way a (b ∷ bs) a_in below straight =
       let (none, further) = no_turn a b bs straight in
-      row_way b bs below.0 below.1 further
+      chain_way b bs below.0 below.1 further
       ∙ straight_on w a b sound.straight (sound.meeting.quarter a a_in) (sound.meeting.quarter b below.0) below.0 none
 
-  -- the way back along a straight row has the opposite direction
+  -- the way back along a straight chain has the opposite direction
   back_way : (end back : ℕ) → HasPath w end back [] → w.direction back ≡ (w.direction end + 2) % 4
-  back_way end back row =
-      ap w.direction (sym row.back) ∙ sound.straight row.first row.path.first_in
+  back_way end back chain =
+      ap w.direction (sym chain.back) ∙ sound.straight chain.first chain.path.first_in
       ∙ ap (λ (d : ℕ). (d + 2) % 4)
-      (sym (row_way row.first row.rest row.path.first_in row.path.rest_in row.turns) ∙ ap w.direction row.path.ends)
+      (sym (chain_way chain.first chain.rest chain.path.first_in chain.path.rest_in chain.turns) ∙ ap w.direction chain.path.ends)
 
   -- ---- the rectangle and the outside
 
@@ -63,8 +63,8 @@ module _ (w : DartMap) (sound : IsSound w) where
       where
         outside_in : (k : ℕ) → k < 4 → inner.darts + 4 + k < w.darts
         outside_in k few =
-            let row = (has.sides k few).there in
-            omega (arith, row.back, sound.linked.reverse_dart_in row.first row.path.first_in)
+            let chain = (has.sides k few).there in
+            omega (arith, chain.back, sound.linked.reverse_dart_in chain.first chain.path.first_in)
 
 -- ---- cells
 

@@ -87,7 +87,7 @@ const BY_HAND: [(&[u8], Figure, Figure); 5] = [
         (&[(0, 0), (0, 5), (4, 5)], &[&[], &[]]),
         (&[(0, 0), (0, 1), (1, 1)], &[&[], &[]]),
     ),
-    // Vertex 5 sees no other row to its left, and comes above vertex 2.
+    // Vertex 5 sees no other segment to its left, and comes above vertex 2.
     (
         &PATH_OF_5,
         (&[(0, 0), (0, 3), (2, 3), (2, 5), (1, 5)], &NONE),
@@ -233,7 +233,7 @@ fn vertex_of(points: &Points, vertex: u8) -> Point {
     }
 }
 
-/// First the path from the top becomes shorter, and then the box narrower, by rows that move together.
+/// First the path from the top becomes shorter, and then the box narrower, by segments that move together.
 #[test]
 fn boxes_are_shortened_along_both_axes(rt: HostRuntime) {
     let alloc = rt.alloc();
@@ -350,7 +350,7 @@ fn edge_at_last(rt: &impl Abort, alloc: Global, figure: Figure) -> Option<Option
     Some(compacted_at_last(rt, alloc, &plane, &points))
 }
 
-/// How many corners the stairs have. With them there are enough rows that these fall and are set apart.
+/// How many corners the stairs have. With them there are enough segments that these fall and are set apart.
 const STAIRS: u32 = 40;
 
 /// The corner with this number of an edge that goes up stairs of this size, first to the right.

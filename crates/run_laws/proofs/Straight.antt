@@ -1,4 +1,4 @@
--- Straight rows of darts, in numbers that are in the order of the darts.
+-- Straight chains of darts, in numbers that are in the order of the darts.
 use Rattle.std.proofs.Common.{◌≡◌, ℕ, zero, suc, ◌+◌, ◌%◌, ◌<◌, ◌≤◌, ◌⊎◌, ◌∙◌, List, [], ◌∷◌, arith, subst, sym, ap, refl, inl, inr, eqb}
 use Rattle.std.proofs.lemmas.Bool.{cases_eq, eq-eqb, ne_eqb, cond-true, cond-false}
 use Rattle.dissect.specs.DartMaps.{DartMap, IsSound, no_dart}
@@ -57,34 +57,34 @@ module _ (w : DartMap) (x y : ℕ → ℕ) (sound : IsSound w) (ordered : IsOrde
   on_way k a b a_in b_in none way =
       straight_on w a b sound.straight (sound.meeting.quarter a a_in) (sound.meeting.quarter b b_in) b_in none ∙ way
 
-  -- a row goes in the direction of its first dart, and its last dart has that direction too
-  row_goes : (k a : ℕ) (rest : List ℕ) → a < w.darts → Below w.darts rest → Follows w a rest → bends w a rest ≡ [] → w.direction a ≡ k → k < 4
+  -- a chain goes in the direction of its first dart, and its last dart has that direction too
+  chain_goes : (k a : ℕ) (rest : List ℕ) → a < w.darts → Below w.darts rest → Follows w a rest → bends w a rest ≡ [] → w.direction a ≡ k → k < 4
       → (w.direction (last_of a rest) ≡ k) × Goes k x y (tail w a) (w.head (last_of a rest))
-  row_goes k a [] a_in below follows straight way few = (way, dart_goes k a a_in way few)
-  row_goes k a (b ∷ bs) a_in below follows straight way few =
+  chain_goes k a [] a_in below follows straight way few = (way, dart_goes k a a_in way few)
+  chain_goes k a (b ∷ bs) a_in below follows straight way few =
       let (none, further) = no_turn a b bs straight in
-      let (end, goes) = row_goes k b bs below.0 below.1 follows.2 further (on_way k a b a_in below.0 none way) few in (
+      let (end, goes) = chain_goes k b bs below.0 below.1 follows.2 further (on_way k a b a_in below.0 none way) few in (
         end,
         goes_on k x y (tail w a) (w.head a) (w.head (last_of b bs)) (dart_goes k a a_in way few)
             (subst (λ (v : ℕ). Goes k x y v (w.head (last_of b bs))) follows.1 goes),
       )
 
   -- a place before its end lies between
-  row_passes : (k a z : ℕ) (rest : List ℕ) → a < w.darts → Below w.darts rest → Follows w a rest → bends w a rest ≡ [] → w.direction a ≡ k → k < 4
+  chain_passes : (k a z : ℕ) (rest : List ℕ) → a < w.darts → Below w.darts rest → Follows w a rest → bends w a rest ≡ [] → w.direction a ≡ k → k < 4
       → In z (a ∷ rest) → (z ≡ last_of a rest) ⊎ (Goes k x y (tail w a) (w.head z) × Goes k x y (w.head z) (w.head (last_of a rest)))
-  row_passes k a z [] a_in below follows straight way few here = elim here [ inl at ↦ inl at | inr none ↦ absurd none ]
-  row_passes k a z (b ∷ bs) a_in below follows straight way few (inl at) =
+  chain_passes k a z [] a_in below follows straight way few here = elim here [ inl at ↦ inl at | inr none ↦ absurd none ]
+  chain_passes k a z (b ∷ bs) a_in below follows straight way few (inl at) =
       let (none, further) = no_turn a b bs straight in
       let first = dart_goes k a a_in way few in
-      let goes = (row_goes k b bs below.0 below.1 follows.2 further (on_way k a b a_in below.0 none way) few).1 in
+      let goes = (chain_goes k b bs below.0 below.1 follows.2 further (on_way k a b a_in below.0 none way) few).1 in
       let from : tail w b ≡ w.head z = follows.1 ∙ ap w.head (sym at) in
       inr (
         subst (λ (v : ℕ). Goes k x y (tail w a) v) (ap w.head (sym at)) first,
         subst (λ (v : ℕ). Goes k x y v (w.head (last_of b bs))) from goes,
       )
-  row_passes k a z (b ∷ bs) a_in below follows straight way few (inr there) =
+  chain_passes k a z (b ∷ bs) a_in below follows straight way few (inr there) =
       let (none, further) = no_turn a b bs straight in
-      elim (row_passes k b z bs below.0 below.1 follows.2 further (on_way k a b a_in below.0 none way) few there) [
+      elim (chain_passes k b z bs below.0 below.1 follows.2 further (on_way k a b a_in below.0 none way) few there) [
         | inl last ↦ inl last
         | inr (to, on) ↦ inr (
           goes_on k x y (tail w a) (w.head a) (w.head z) (dart_goes k a a_in way few)
@@ -94,30 +94,30 @@ module _ (w : DartMap) (x y : ℕ → ℕ) (sound : IsSound w) (ordered : IsOrde
       ]
 
   -- the direction of the first dart of a straight path is that of its end
-  first_way : (k end back : ℕ) (row : HasPath w end back []) → w.direction end ≡ k → w.direction row.first ≡ k
-  first_way k end back row way =
-      sym ((row_goes (w.direction row.first) row.first row.rest row.path.first_in row.path.rest_in row.path.follows row.turns refl
-      (sound.meeting.quarter row.first row.path.first_in)).0)
-      ∙ ap w.direction row.path.ends ∙ way
+  first_way : (k end back : ℕ) (chain : HasPath w end back []) → w.direction end ≡ k → w.direction chain.first ≡ k
+  first_way k end back chain way =
+      sym ((chain_goes (w.direction chain.first) chain.first chain.rest chain.path.first_in chain.path.rest_in chain.path.follows chain.turns refl
+      (sound.meeting.quarter chain.first chain.path.first_in)).0)
+      ∙ ap w.direction chain.path.ends ∙ way
 
   -- a straight path goes from where its way back ends to where it ends
   pub path_goes : (k end back : ℕ) → HasPath w end back [] → w.direction end ≡ k → k < 4 → Goes k x y (w.head back) (w.head end)
-  path_goes k end back row way few =
-      subst (λ (v : ℕ). Goes k x y v (w.head end)) (ap w.head row.back)
-      (subst (λ (e : ℕ). Goes k x y (tail w row.first) (w.head e)) row.path.ends
-      (row_goes k row.first row.rest row.path.first_in row.path.rest_in row.path.follows row.turns (first_way k end back row way) few).1)
+  path_goes k end back chain way few =
+      subst (λ (v : ℕ). Goes k x y v (w.head end)) (ap w.head chain.back)
+      (subst (λ (e : ℕ). Goes k x y (tail w chain.first) (w.head e)) chain.path.ends
+      (chain_goes k chain.first chain.rest chain.path.first_in chain.path.rest_in chain.path.follows chain.turns (first_way k end back chain way) few).1)
 
   -- and a place on it lies between them
   pub path_passes : (k end back at : ℕ) → w.darts ≤ no_dart → HasPath w end back [] → w.direction end ≡ k → k < 4 → IsPlaceOn w end at
       → Goes k x y (w.head back) (w.head at) × Goes k x y (w.head at) (w.head end)
-  path_passes k end back at narrow row way few place =
-      let same = path_unique w end place.first row.first place.rest row.rest narrow place.path row.path in
-      let on : In at (row.first ∷ row.rest) =
-      subst (λ (xs : List ℕ). In at (row.first ∷ xs)) same.rests (subst (λ (c : ℕ). In at (c ∷ place.rest)) same.first place.passes) in
-      elim (row_passes k row.first at row.rest row.path.first_in row.path.rest_in row.path.follows row.turns (first_way k end back row way) few on) [
-        | inl last ↦ absurd (place.before_end (last ∙ row.path.ends))
+  path_passes k end back at narrow chain way few place =
+      let same = path_unique w end place.first chain.first place.rest chain.rest narrow place.path chain.path in
+      let on : In at (chain.first ∷ chain.rest) =
+      subst (λ (xs : List ℕ). In at (chain.first ∷ xs)) same.rests (subst (λ (c : ℕ). In at (c ∷ place.rest)) same.first place.passes) in
+      elim (chain_passes k chain.first at chain.rest chain.path.first_in chain.path.rest_in chain.path.follows chain.turns (first_way k end back chain way) few on) [
+        | inl last ↦ absurd (place.before_end (last ∙ chain.path.ends))
         | inr (to, from) ↦ (
-          subst (λ (v : ℕ). Goes k x y v (w.head at)) (ap w.head row.back) to,
-          subst (λ (e : ℕ). Goes k x y (w.head at) (w.head e)) row.path.ends from,
+          subst (λ (v : ℕ). Goes k x y v (w.head at)) (ap w.head chain.back) to,
+          subst (λ (e : ℕ). Goes k x y (w.head at) (w.head e)) chain.path.ends from,
         )
       ]
