@@ -161,7 +161,7 @@ are_boxes p shape w outside t old edges paths made all lesser count listed =
         outside = w.darts + 4 + 0;
         outside_in = done.inside;
         around = done.outside;
-        corners = λ a a_in corner. elim (done.settled a a_in corner) [
+        corners = λ a a_in corner. elim (done.placed a a_in corner) [
           | inl waiting ↦ absurd waiting
           | inr cut ↦ cut
         ];

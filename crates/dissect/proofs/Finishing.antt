@@ -76,8 +76,8 @@ four_done w a b c d o rs left_a left_b left_c left_d waiting =
       below = waiting.below.1.1.1.1;
       inside = waiting.inside;
       outside = waiting.outside;
-      settled = λ k l corner.
-          elim (waiting.settled k l corner) [
+      placed = λ k l corner.
+          elim (waiting.placed k l corner) [
             | inl listed ↦ elim listed [
               | inl e ↦ inr (inl (subst (λ (z : ℕ). IsRectangle w 1 z) (sym e) box1))
               | inr l1 ↦ elim l1 [
@@ -155,8 +155,8 @@ turned_waiting w xs ys o rs waiting = record {
       (below_right w.darts (xs ++ ys) (joined rs) waiting.below);
   inside = waiting.inside;
   outside = waiting.outside;
-  settled = λ a l corner.
-      elim (waiting.settled a l corner) [
+  placed = λ a l corner.
+      elim (waiting.placed a l corner) [
         | inl listed ↦ inl (elim (in_append a (xs ++ ys) (joined rs) listed) [
           | inl here ↦ in_left a (ys ++ xs) (joined rs) (elim (in_append a xs ys here) [
             | inl left ↦ in_right a ys xs left

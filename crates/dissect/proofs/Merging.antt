@@ -241,14 +241,14 @@ below_all n [] all = tt
 below_all n (x ∷ xs) all = (all x (inl refl), below_all n xs (λ a h. all a (inr h)))
 
 -- after the join, each corner is of a face that waits, or on the outside of the rectangle
-pub join_settles : (w surrounded : DartMap) (right side way : ℕ) (new : DartMap) → IsJoining w surrounded right side way new → (o : ℕ) → o < 4 →
+pub join_places : (w surrounded : DartMap) (right side way : ℕ) (new : DartMap) → IsJoining w surrounded right side way new → (o : ℕ) → o < 4 →
     (inner : List (List ℕ)) (outer front kept : List ℕ) → outer ≡ front ++ (right ∷ []) →
     ((a : ℕ) → a < w.darts → IsCorner w a → In a (joined inner ++ outer)) → AreKeptCorners w right front kept →
     (a : ℕ) → a < w.darts + 12 → IsCorner new a →
     In a (joined inner ++ (kept ++ detour w.darts side)) ⊎ (IsRectangle new 1 a ⊎ IsOutside new (w.darts + 4 + o) a)
-join_settles w surrounded right side way new j o o_in inner outer front kept ends all is a l corner =
+join_places w surrounded right side way new j o o_in inner outer front kept ends all is a l corner =
     let n : ℕ = w.darts in
-    let Settled : ℕ → Type 0 = λ a. IsCorner new a →
+    let Placed : ℕ → Type 0 = λ a. IsCorner new a →
     In a (joined inner ++ (kept ++ detour n side)) ⊎ (IsRectangle new 1 a ⊎ IsOutside new (n + 4 + o) a) in
     let in_kept : (a : ℕ) → In a kept → In a (joined inner ++ (kept ++ detour n side)) =
     λ a h. in_right a (joined inner) (kept ++ detour n side) (in_left a kept (detour n side) h) in
@@ -256,7 +256,7 @@ join_settles w surrounded right side way new j o o_in inner outer front kept end
     λ a h. in_right a (joined inner) (kept ++ detour n side) (in_right a kept (detour n side) h) in
     let less = right_angle w surrounded right side way new j in
     let angles = new_angles w surrounded right side way new j in
-    let old : (a : ℕ) → a < n → Settled a = λ a l corner.
+    let old : (a : ℕ) → a < n → Placed a = λ a l corner.
     elim (cases_eq a right) [
       | inl e ↦
           let turns : w.angle right ≢ 3 = λ h. corner (ap new.angle e ∙ omega (arith, less, h)) in
@@ -269,8 +269,8 @@ join_settles w surrounded right side way new j o o_in inner outer front kept end
         ]
       ]
     ] in
-    let surrounded_part : (a : ℕ) → a < n + 8 → Settled a =
-    by_side n Settled old
+    let surrounded_part : (a : ℕ) → a < n + 8 → Placed a =
+    by_side n Placed old
     (λ k l corner. inl (in_detour (n + k) (detour_inner n side k j.side_in l)))
     (λ k l corner. inr (inr (outside_four w surrounded right side way new j o o_in k l))) in
     elim (cases_lt a (n + 8)) [
@@ -344,7 +344,7 @@ join_waits w surrounded right side way new j o o_in inner outer kept listed most
           (below_more (n + 12) new.darts (detour n side) (omega (arith, count)) (detour_below n side j.side_in))));
       inside = omega (arith, count);
       outside = (outside_four w surrounded right side way new j o o_in o o_in).four;
-      settled = λ a l corner.
+      placed = λ a l corner.
           subst (λ (xs : List ℕ). In a xs ⊎ (IsRectangle new 1 a ⊎ IsOutside new (n + 4 + o) a)) (sym (joined_more inner big))
-          (join_settles w surrounded right side way new j o o_in inner outer front kept listed.ends listed.all is a (omega (arith, count, l)) corner);
+          (join_places w surrounded right side way new j o o_in inner outer front kept listed.ends listed.all is a (omega (arith, count, l)) corner);
     }

@@ -104,9 +104,9 @@ module _ (w : DartMap) (outside : ℕ) (new : DartMap) (linked : IsLinked w) (fo
         let at = done k l in
         let first : AreWaiting new (n + 4) [] =
         subst (λ (z : ℕ). AreWaiting new z []) (omega arith) (done 0 (omega arith)) in
-        elim (first.settled (n + 4 + k) at.inside (λ straight. omega (arith, straight, at.outside.angle_first))) [
+        elim (first.placed (n + 4 + k) at.inside (λ straight. omega (arith, straight, at.outside.angle_first))) [
           | inl none ↦ absurd none
-          | inr settled ↦ elim settled [
+          | inr placed ↦ elim placed [
             | inl four ↦ absurd (omega (arith, four.angle_first, at.outside.angle_first))
             | inr out ↦ out
           ]

@@ -55,16 +55,16 @@ owing_on p a h total w e turn turns new label label' owed owed' owing e_in owes 
     }
 
 -- once the edge of e has its turns, no dart of that edge owes any; the other edges are as they were
-pub record IsSettled (w : DartMap) (e : ℕ) (owed : ℕ → List Turn) (new : DartMap) (owed' : ℕ → List Turn) : Type 0 where
+pub record IsPaid (w : DartMap) (e : ℕ) (owed : ℕ → List Turn) (new : DartMap) (owed' : ℕ → List Turn) : Type 0 where
   pub more : w.darts ≤ new.darts
   pub kept_owed : (x : ℕ) → x < w.darts → x ≢ e → x ≢ w.reverse_dart e → owed' x ≡ owed x
   pub kept_reverse_dart : (x : ℕ) → x < w.darts → x ≢ e → x ≢ w.reverse_dart e → new.reverse_dart x ≡ w.reverse_dart x
-  pub settled : (x : ℕ) → x < new.darts → (owed' x ≡ []) ⊎ ((x < w.darts) × (x ≢ e) × (x ≢ w.reverse_dart e))
+  pub paid : (x : ℕ) → x < new.darts → (owed' x ≡ []) ⊎ ((x < w.darts) × (x ≢ e) × (x ≢ w.reverse_dart e))
 
 -- one edge
 pub edge_on : (p : PlaneModel) (a h : ℕ → ℕ) (total e : ℕ) (w : DartMap) (turns : List Turn) (new : DartMap) → IsBent e w turns new →
     (label : ℕ → ℕ) (owed : ℕ → List Turn) → IsOwing p a h total w label owed → e < w.darts → owed e ≡ turns →
-    (label' : ℕ → ℕ) × (owed' : ℕ → List Turn) × IsOwing p a h total new label' owed' × IsSettled w e owed new owed'
+    (label' : ℕ → ℕ) × (owed' : ℕ → List Turn) × IsOwing p a h total new label' owed' × IsPaid w e owed new owed'
 edge_on p a h total e w [] new (straight _) label owed owing e_in owes = (
   label,
   owed,
@@ -73,7 +73,7 @@ edge_on p a h total e w [] new (straight _) label owed owing e_in owes = (
     more = omega arith;
     kept_owed = λ x l not_e not_t. refl;
     kept_reverse_dart = λ x l not_e not_t. refl;
-    settled = λ x l. elim (cases_eq x e) [
+    paid = λ x l. elim (cases_eq x e) [
       | inl at ↦ inl (ap owed at ∙ owes)
       | inr not_e ↦
           elim (cases_eq x (w.reverse_dart e)) [
@@ -91,29 +91,29 @@ edge_on p a h total e w (turn ∷ turns) new (turned _ mid _ _ _ s rest) label o
     let (owed1, next) = owed_next w e turns owed linked e_in in
     let (label1, named) = labelled_next w e label in
     let step = owing_on p a h total w e turn turns mid label label1 owed owed1 owing e_in owes s named next in
-    let (label2, owed2, ends, settled) = edge_on p a h total e mid turns new rest label1 owed1 step (omega (arith, s.darts, e_in)) next.at_e in
+    let (label2, owed2, ends, paid) = edge_on p a h total e mid turns new rest label1 owed1 step (omega (arith, s.darts, e_in)) next.at_e in
     let not_reverse_dart : (x : ℕ) → x < n + 1 → x ≢ mid.reverse_dart e = λ x l h. omega (arith, h ∙ s.reverse_dart_e, l) in (
       label2,
       owed2,
       ends,
       record {
-        more = omega (arith, settled.more, s.darts);
-        kept_owed = λ x l not_e not_t. settled.kept_owed x (omega (arith, l, s.darts)) not_e (not_reverse_dart x (omega (arith, l)))
+        more = omega (arith, paid.more, s.darts);
+        kept_owed = λ x l not_e not_t. paid.kept_owed x (omega (arith, l, s.darts)) not_e (not_reverse_dart x (omega (arith, l)))
             ∙ next.others x l not_e not_t;
-        kept_reverse_dart = λ x l not_e not_t. settled.kept_reverse_dart x (omega (arith, l, s.darts)) not_e (not_reverse_dart x (omega (arith, l)))
+        kept_reverse_dart = λ x l not_e not_t. paid.kept_reverse_dart x (omega (arith, l, s.darts)) not_e (not_reverse_dart x (omega (arith, l)))
             ∙ s.reverse_dart_other x l not_e not_t;
-        settled = λ x l. elim (settled.settled x l) [
+        paid = λ x l. elim (paid.paid x l) [
           | inl none ↦ inl none
           | inr (inside, not_e, not_mid) ↦
               elim (cases_lt x n) [
                 | inl low ↦
                     elim (cases_eq x t) [
-                      | inl at ↦ inl (settled.kept_owed x inside not_e not_mid ∙ ap owed1 at ∙ next.at_reverse_dart)
+                      | inl at ↦ inl (paid.kept_owed x inside not_e not_mid ∙ ap owed1 at ∙ next.at_reverse_dart)
                       | inr not_t ↦ inr (low, not_e, not_t)
                     ]
                 | inr high ↦
                     elim (cases_eq x n) [
-                      | inl at ↦ inl (settled.kept_owed x inside not_e not_mid ∙ ap owed1 at ∙ next.at_first)
+                      | inl at ↦ inl (paid.kept_owed x inside not_e not_mid ∙ ap owed1 at ∙ next.at_first)
                       | inr not_n ↦ absurd (not_mid (second x high not_n inside ∙ sym s.reverse_dart_e))
                     ]
               ]
@@ -155,8 +155,8 @@ passed_on p s k w owed ends greater behind = record {
 
 -- and behind the bends of its edge
 bent_on : (p : PlaneModel) (s : ℕ → List Turn) (k : ℕ) (w mid : DartMap) (owed owed' : ℕ → List Turn) → HasEnds p → darts p ≤ w.darts →
-    k < darts p → k < reverse_dart p k → IsBehind p s k w owed → IsSettled w k owed mid owed' → IsBehind p s (k + 1) mid owed'
-bent_on p s k w mid owed owed' ends few k_in lesser behind settled =
+    k < darts p → k < reverse_dart p k → IsBehind p s k w owed → IsPaid w k owed mid owed' → IsBehind p s (k + 1) mid owed'
+bent_on p s k w mid owed owed' ends few k_in lesser behind paid =
     let reverse_dart_is : w.reverse_dart k ≡ reverse_dart p k = (behind.waits k k_in (omega arith) (omega (arith, lesser))).1 in
     let off_reverse_dart : (x : ℕ) → x < darts p → k + 1 ≤ reverse_dart p x → x ≢ w.reverse_dart k = λ x l low_reverse_dart h.
     omega (arith, low_reverse_dart, ap (reverse_dart p) (h ∙ reverse_dart_is) ∙ ends.reverse_dart_back k k_in) in
@@ -164,14 +164,14 @@ bent_on p s k w mid owed owed' ends few k_in lesser behind settled =
       waits = λ x l low low_reverse_dart.
           let off : x ≢ k = λ h. omega (arith, h, low) in
           let before = behind.waits x l (omega (arith, low)) (omega (arith, low_reverse_dart)) in (
-            settled.kept_owed x (omega (arith, l, few)) off (off_reverse_dart x l low_reverse_dart) ∙ before.0,
-            settled.kept_reverse_dart x (omega (arith, l, few)) off (off_reverse_dart x l low_reverse_dart) ∙ before.1,
+            paid.kept_owed x (omega (arith, l, few)) off (off_reverse_dart x l low_reverse_dart) ∙ before.0,
+            paid.kept_reverse_dart x (omega (arith, l, few)) off (off_reverse_dart x l low_reverse_dart) ∙ before.1,
           );
-      done = λ x l. elim (settled.settled x l) [
+      done = λ x l. elim (paid.paid x l) [
         | inl none ↦ inl none
         | inr (inside, not_k, not_reverse_dart) ↦
             elim (behind.done x inside) [
-              | inl none ↦ inl (settled.kept_owed x inside not_k not_reverse_dart ∙ none)
+              | inl none ↦ inl (paid.kept_owed x inside not_k not_reverse_dart ∙ none)
               | inr (old, low, low_reverse_dart) ↦
                   elim (cases_eq (reverse_dart p x) k) [
                     | inl at ↦ absurd (not_reverse_dart (sym (ends.reverse_dart_back x old) ∙ ap (reverse_dart p) at ∙ sym reverse_dart_is))
@@ -198,6 +198,6 @@ edges_on p a h total s k w new ends (passed _ _ _ greater rest) label owed owing
     edges_on p a h total s (k + 1) w new ends rest label owed owing (passed_on p s k w owed ends greater behind)
 edges_on p a h total s k w new ends (bent _ _ mid _ k_in lesser edge rest) label owed owing behind =
     let owes : owed k ≡ s k = (behind.waits k k_in (omega arith) (omega (arith, lesser))).0 in
-    let (label1, owed1, owing1, settled) = edge_on p a h total k w (s k) mid edge label owed owing (omega (arith, k_in, owing.old)) owes in
+    let (label1, owed1, owing1, paid) = edge_on p a h total k w (s k) mid edge label owed owing (omega (arith, k_in, owing.old)) owes in
     edges_on p a h total s (k + 1) mid new ends rest label1 owed1 owing1
-    (bent_on p s k w mid owed owed1 ends owing.old k_in lesser behind settled)
+    (bent_on p s k w mid owed owed1 ends owing.old k_in lesser behind paid)

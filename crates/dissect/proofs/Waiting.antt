@@ -116,12 +116,12 @@ other_rings w d c1 c e way new bite (r ∷ rs) below out_d out_c rings =
 
 -- each corner after the cut is of a list that has the chord's way there, d if it still turns, and what stays
 -- of the corners before; or it is of a box or of the outside of the rectangle
-pub bite_settles : (w : DartMap) (o d c1 c e way : ℕ) (new : DartMap) (before tail list : List ℕ) → IsBite w d c1 c e way new →
+pub bite_places : (w : DartMap) (o d c1 c e way : ℕ) (new : DartMap) (before tail list : List ℕ) → IsBite w d c1 c e way new →
     ((a : ℕ) → a < w.darts → IsCorner w a → In a (before ++ (d ∷ c1 ∷ c ∷ tail)) ⊎ (IsRectangle w 1 a ⊎ IsOutside w o a)) →
     In (w.darts + 2) list → (IsCorner new d → In d list) → ((a : ℕ) → In a before → In a list) →
     ((a : ℕ) → In a tail → In a list) →
     (a : ℕ) → a < new.darts → IsCorner new a → In a list ⊎ (IsRectangle new 1 a ⊎ IsOutside new o a)
-bite_settles w o d c1 c e way new before tail list bite settled x_in d_stays before_in tail_in a l corner =
+bite_places w o d c1 c e way new before tail list bite placed x_in d_stays before_in tail_in a l corner =
     let cut = bite.cut in
     let s = cut.split in
     let t = cut.chord in
@@ -142,7 +142,7 @@ bite_settles w o d c1 c e way new before tail list bite settled x_in d_stays bef
           | inr nc ↦
               let was : IsCorner w a = λ h. corner (bite_angle w d c1 c e way a new bite l nd ∙ h) in
               let l_mid : a < cut.middle.darts = omega (arith, s.darts, l) in
-              elim (settled a l was) [
+              elim (placed a l was) [
                 | inl listed ↦ elim (still_in a d c1 c before tail nd nc1 nc listed) [
                   | inl left ↦ inl (before_in a left)
                   | inr right ↦ inl (tail_in a right)
@@ -322,9 +322,9 @@ kept_waiting w d c1 c e way new before rest o rs bite corner waiting =
           (kept_below w.darts new.darts d c1 c (w.darts + 2) before (rest ++ joined rs) (omega (arith, t.darts, two)) more below);
       inside = omega (arith, t.darts, two, waiting.inside);
       outside = bite_outside w o d c1 c e way new bite waiting.inside waiting.outside;
-      settled = λ a l turn. subst (λ (zs : List ℕ). In a zs ⊎ (IsRectangle new 1 a ⊎ IsOutside new o a)) (sym new_flat)
-          (bite_settles w o d c1 c e way new before (rest ++ joined rs) (before ++ (d ∷ (w.darts + 2) ∷ (rest ++ joined rs))) bite
-          (λ a l turn. subst (λ (zs : List ℕ). In a zs ⊎ (IsRectangle w 1 a ⊎ IsOutside w o a)) old_flat (waiting.settled a l turn))
+      placed = λ a l turn. subst (λ (zs : List ℕ). In a zs ⊎ (IsRectangle new 1 a ⊎ IsOutside new o a)) (sym new_flat)
+          (bite_places w o d c1 c e way new before (rest ++ joined rs) (before ++ (d ∷ (w.darts + 2) ∷ (rest ++ joined rs))) bite
+          (λ a l turn. subst (λ (zs : List ℕ). In a zs ⊎ (IsRectangle w 1 a ⊎ IsOutside w o a)) old_flat (waiting.placed a l turn))
           (in_right (w.darts + 2) before (d ∷ (w.darts + 2) ∷ (rest ++ joined rs)) (inr (inl refl)))
           (λ _. in_right d before (d ∷ (w.darts + 2) ∷ (rest ++ joined rs)) (inl refl))
           (λ a h. in_left a before (d ∷ (w.darts + 2) ∷ (rest ++ joined rs)) h)
@@ -363,9 +363,9 @@ gone_waiting w d c1 c e way new before rest o rs bite straight waiting =
           (gone_below w.darts new.darts d c1 c (w.darts + 2) before (rest ++ joined rs) (omega (arith, t.darts, two)) more below);
       inside = omega (arith, t.darts, two, waiting.inside);
       outside = bite_outside w o d c1 c e way new bite waiting.inside waiting.outside;
-      settled = λ a l turn. subst (λ (zs : List ℕ). In a zs ⊎ (IsRectangle new 1 a ⊎ IsOutside new o a)) (sym new_flat)
-          (bite_settles w o d c1 c e way new before (rest ++ joined rs) (before ++ ((w.darts + 2) ∷ (rest ++ joined rs))) bite
-          (λ a l turn. subst (λ (zs : List ℕ). In a zs ⊎ (IsRectangle w 1 a ⊎ IsOutside w o a)) old_flat (waiting.settled a l turn))
+      placed = λ a l turn. subst (λ (zs : List ℕ). In a zs ⊎ (IsRectangle new 1 a ⊎ IsOutside new o a)) (sym new_flat)
+          (bite_places w o d c1 c e way new before (rest ++ joined rs) (before ++ ((w.darts + 2) ∷ (rest ++ joined rs))) bite
+          (λ a l turn. subst (λ (zs : List ℕ). In a zs ⊎ (IsRectangle w 1 a ⊎ IsOutside w o a)) old_flat (waiting.placed a l turn))
           (in_right (w.darts + 2) before ((w.darts + 2) ∷ (rest ++ joined rs)) (inl refl))
           (λ turn. absurd (turn straight))
           (λ a h. in_left a before ((w.darts + 2) ∷ (rest ++ joined rs)) h)

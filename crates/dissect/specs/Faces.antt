@@ -92,7 +92,7 @@ pub record AreWaiting (w : DartMap) (o : ℕ) (faces : List (List ℕ)) : Type 0
   pub below : Below w.darts (joined faces)
   pub inside : o < w.darts
   pub outside : IsRectangle w 3 o
-  pub settled : (a : ℕ) → a < w.darts → IsCorner w a → In a (joined faces) ⊎ (IsRectangle w 1 a ⊎ IsOutside w o a)
+  pub placed : (a : ℕ) → a < w.darts → IsCorner w a → In a (joined faces) ⊎ (IsRectangle w 1 a ⊎ IsOutside w o a)
 
 -- the list cut up into pieces of these lengths
 abbrev pub cut_up : List ℕ → List ℕ → List (List ℕ)

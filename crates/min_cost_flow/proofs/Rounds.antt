@@ -34,14 +34,14 @@ pub no_flow_wanting : (net : NetworkModel) (x : ℕ → ℕ) (e : ℕ → ℤ) (
 no_flow_wanting net x e u ends lv none ub w =
     no_flow_into net x e (λ _. true) u ends lv (record { stays = λ i back b r s. refl }) (λ v b _. none v b) ub refl w
 
-settled : (b e s : ℤ) → b +ℤ e ≡ s → e ≤ℤ pos 0 → pos 0 ≤ℤ e → b ≡ s
-settled b e s h l g = omega (arith, ints)
+balanced : (b e s : ℤ) → b +ℤ e ≡ s → e ≤ℤ pos 0 → pos 0 ≤ℤ e → b ≡ s
+balanced b e s h l g = omega (arith, ints)
 
 -- where nothing is left over and nothing wanting, it is a flow
 pub flow_at : (net : NetworkModel) (x : ℕ → ℕ) (e : ℕ → ℤ) → KeepsCaps net x → Leaves net x e → ((v : ℕ) → v < node_count net → e v ≤ℤ pos 0) → ((v : ℕ) → v < node_count net → pos 0 ≤ℤ e v) → Flow net x
 flow_at net x e caps lv none full = record {
   within = caps;
-  meets = λ v b. let at : balance net x v +ℤ e v ≡ supply_at net v = lv.at_node v b in settled (balance net x v) (e v) (supply_at net v) at (none v b) (full v b);
+  meets = λ v b. let at : balance net x v +ℤ e v ≡ supply_at net v = lv.at_node v b in balanced (balance net x v) (e v) (supply_at net v) at (none v b) (full v b);
 }
 
 -- ---- sending

@@ -56,13 +56,13 @@ abbrev pub IsReady : NetworkModel → Solver → Type 0
 IsReady net s = IsReadyIn net s.residual s.nodes.potential.items s.nodes.excess.items s.visits.items
 
 -- the same when all units have been sent
-pub record IsSettled (net : NetworkModel) (s : Solver) : Type 0 where
+pub record IsBalanced (net : NetworkModel) (s : Solver) : Type 0 where
   pub ready : IsReady net s
   pub sent : (v : ℕ) → v < node_count net → excess_at s v ≡ pos 0
 
 -- whether all units could be sent
 pub record IsAnswer (net : NetworkModel) (s : Solver) (sent : Bool) : Type 0 where
-  pub settled : sent ≡ true → IsSettled net s
+  pub balanced : sent ≡ true → IsBalanced net s
   pub no_flow : sent ≡ false → HasNoFlow net
 
 -- the work that was done keeps its bounds

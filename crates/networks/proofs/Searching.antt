@@ -109,8 +109,8 @@ offered g s s' step away o wants at a bound either =
     }
 
 -- the end has got its label, further off than the radius
-pub settled_behind : (g : SearchInput) (s t : Search) (step : Step) → IsOffered g s step → pos 0 ≤ℤ excess_of g step.end → IsLabelled s t step → IsRelaxed g s t
-settled_behind g s t step o plain m =
+pub node_labelled_behind : (g : SearchInput) (s t : Search) (step : Step) → IsOffered g s step → pos 0 ≤ℤ excess_of g step.end → IsLabelled s t step → IsRelaxed g s t
+node_labelled_behind g s t step o plain m =
     let h = o.search in
     let p = m.progress in
     let k = taken g s t step o plain m in
@@ -162,8 +162,8 @@ listed g s t step o plain m =
     }
 
 -- the same at the radius, where it was put behind those that are ordered
-pub settled : (g : SearchInput) (s t u : Search) (step : Step) (away : ℤ) → IsOffered g s step → pos 0 ≤ℤ excess_of g step.end → IsLabelled s t step → away ≡ step.label -ℤ potential_of g step.end → away ≡ t.radius → IsSwapped (orders t) (places t) (orders u) (places u) step.end (places t step.end) t.ordered → SameBesideOrder t u → u.ordered ≡ t.ordered + 1 → IsRelaxed g s u
-settled g s t u step away o plain m at same swap z up =
+pub node_labelled : (g : SearchInput) (s t u : Search) (step : Step) (away : ℤ) → IsOffered g s step → pos 0 ≤ℤ excess_of g step.end → IsLabelled s t step → away ≡ step.label -ℤ potential_of g step.end → away ≡ t.radius → IsSwapped (orders t) (places t) (orders u) (places u) step.end (places t step.end) t.ordered → SameBesideOrder t u → u.ordered ≡ t.ordered + 1 → IsRelaxed g s u
+node_labelled g s t u step away o plain m at same swap z up =
     let h = o.search in
     let v = step.end in
     let b : v < nodes_of g = end_in g s step o in

@@ -36,7 +36,7 @@ loop-source-preserved c =
 pub returns-then-not-send_all_from : goal.returns-then-not-send_all_from
 returns-then-not-send_all_from c = record {
   done = λ h. cc;
-  answer = record { settled = λ h. cc; no_flow = λ _. c.send_all_from.ensures.no_flow c.if-not-send_all_from.true c.args.network.now c.loop-source.invariant.under_way };
+  answer = record { balanced = λ h. cc; no_flow = λ _. c.send_all_from.ensures.no_flow c.if-not-send_all_from.true c.args.network.now c.loop-source.invariant.under_way };
 }
 
 pub returns : goal.returns
@@ -50,7 +50,7 @@ returns c =
     record {
       done = λ e. let over = rw d at (c.has_deficit.ensures.none (not_true _ e)) in done_at net _ _ _ _ _ r.round i.under_way.work all (λ v b. over v (omega (arith, r.excesses)));
       answer = record {
-        settled = λ e. let over = rw d at (c.has_deficit.ensures.none (not_true _ e)) in record { ready = r; sent = λ v b. nothing_left _ (all v b) (over v (omega (arith, r.excesses))) };
+        balanced = λ e. let over = rw d at (c.has_deficit.ensures.none (not_true _ e)) in record { ready = r; sent = λ v b. nothing_left _ (all v b) (over v (omega (arith, r.excesses))) };
         no_flow = λ e. let (u, b, under) = rw d at (c.has_deficit.ensures.some (not_false _ e)) in no_flow_wanting net _ (excess_at c.loop-source.self) u r.network.ends r.round.leaves all (omega (arith, r.excesses)) under;
       };
     }

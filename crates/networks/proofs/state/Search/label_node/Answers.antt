@@ -4,7 +4,7 @@ use mir.Syntax.{w32}
 use mir.Val.{SFits}
 use Rattle.networks.specs.Search.{nodes_of, potential_of}
 use Rattle.networks.proofs.Signs.{same_from_bits, label_fits, label_passed}
-use Rattle.networks.proofs.Searching.{IsListed, potential_near, potential_within, away_is, offer_within, end_in, room_left, settled, settled_behind, listed}
+use Rattle.networks.proofs.Searching.{IsListed, potential_near, potential_within, away_is, offer_within, end_in, room_left, node_labelled, node_labelled_behind, listed}
 use Rattle.networks.proofs.state.Search.label_node.Goals as goal
 
 pub set_label-requires-clause-room : goal.set_label-requires-clause-room
@@ -42,10 +42,10 @@ returns-then-distance-self-clause-relaxed c =
     let away : c.distance.result ≡ c.args.step.label -ℤ potential_of g c.args.step.end = away_is _ _ _ (offer_within g c.args.self.now c.args.step o) (potential_near g c.args.step.end o.search.input b) c.distance.ensures in
     let same : c.distance.result ≡ c.set_label.new.self.radius = same_from_bits _ _ fd fl c.if-distance-self.true in
     let a = c.advance.ensures in
-    settled g c.args.self.now c.set_label.new.self c.advance.new.self c.args.step c.distance.result o c.requires.plain c.set_label.ensures.has_label away same a.swapped a.same a.ordered
+    node_labelled g c.args.self.now c.set_label.new.self c.advance.new.self c.args.step c.distance.result o c.requires.plain c.set_label.ensures.has_label away same a.swapped a.same a.ordered
 
 pub returns-then-distance-self-clause-label : goal.returns-then-distance-self-clause-label
 returns-then-distance-self-clause-label c = rw (c.advance.ensures.same.label c.args.step.end) c.set_label.ensures.has_label.label.here
 
 pub returns-else-distance-self-clause-relaxed : goal.returns-else-distance-self-clause-relaxed
-returns-else-distance-self-clause-relaxed c = settled_behind c.args.input c.args.self.now c.set_label.new.self c.args.step c.requires.offer c.requires.plain c.set_label.ensures.has_label
+returns-else-distance-self-clause-relaxed c = node_labelled_behind c.args.input c.args.self.now c.set_label.new.self c.args.step c.requires.offer c.requires.plain c.set_label.ensures.has_label
