@@ -1,4 +1,4 @@
--- What a box holds.
+-- What a block holds.
 use Rattle.std.specs.Prelude.{◌≡◌, Bool, true, false}
 use mathlib.Core.Bool.{false≢true}
 use Rattle.answers.specs.declared.held.Slot.{Slot}
