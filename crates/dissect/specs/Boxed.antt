@@ -68,10 +68,10 @@ pub record IsBoxed (p : PlaneModel) (shape : ShapeModel) (b : BoxesModel) : Type
   pub halves : 2 * length b.edges ≡ darts p
   -- there are at most three vertices for one of the plane, two for a bend, and five
   pub few : b.vertices ≤ 3 * vertices p + 2 * bends_of (darts p) (turns_at shape) + 5
-  -- each dart of the plane is the last piece of a path that sets out where its reverse arrives, and turns as its string says
+  -- each dart of the plane is the last part of a path that sets out where its reverse arrives, and turns as its string says
   pub heads : (d : ℕ) → d < darts p → (dart_map b).head d ≡ head p d - 1
   pub paths : HasPaths (dart_map b) (darts p) (reverse_dart p) (λ d. map angle_of (turns_at shape d))
-  -- it comes to no vertex twice, its reverse takes it the other way, and no other dart shares a piece of it
+  -- it comes to no vertex twice, its reverse takes it the other way, and no other dart shares a part of it
   pub apart : ArePathsApart p (dart_map b)
   -- paths meet nowhere but at their ends, which are vertices of the plane: between the darts of a path, of a side of the rectangle and
   -- of the join lie vertices that are on no other, and are none of the plane's

@@ -2,7 +2,7 @@
 //!
 //! The darts of the plane are the first darts of a table. Each quarter turn of an orthogonal
 //! representation splits an edge by a new vertex: along the string of the lesser dart of each edge, in
-//! walking order, so that this dart and its reverse stay the last pieces of the two walks along it.
+//! walking order, so that this dart and its reverse stay the last parts of the two walks along it.
 
 ghost use Rattle.std.specs.Prelude.{◌≡◌, ◌+◌, ◌*◌, ◌<◌, ◌≤◌, IfOk, length, map, slice_index};
 ghost use Rattle.faces.specs.Planes.{darts, reverse_dart, vertices};

@@ -32,7 +32,7 @@ use Rattle.drawing_check.proofs.Routing.{axes_each, each_lesser}
 use Rattle.drawing_laws.proofs.Sides.{Goes, dart_goes}
 use Rattle.drawing_laws.proofs.Lines.{line, way_of, line_axes, line_way, line_back, line_turning}
 use Rattle.drawing_laws.proofs.Passing.{PassesAt, IsBefore, line_met, line_once}
-use Rattle.drawing_laws.specs.Pieces.{IsPiece, IsOneEdge}
+use Rattle.drawing_laws.specs.Parts.{IsPart, IsOneEdge}
 use Rattle.drawing_laws.proofs.Meeting.{one_path, two_paths, off_path, vertex_one}
 
 -- ---- lists
@@ -225,8 +225,8 @@ module _ (p : PlaneModel) (shape : ShapeModel) (b : BoxesModel) (plane : IsPlane
 
   -- ---- what is met along an edge
 
-  path_piece : (d : ℕ) (d_in : d < darts p) (z : ℕ) → In z ((path_of d d_in).first ∷ (path_of d d_in).rest) → IsPiece (dart_map b) d z
-  path_piece d d_in z here =
+  path_part : (d : ℕ) (d_in : d < darts p) (z : ℕ) → In z ((path_of d d_in).first ∷ (path_of d d_in).rest) → IsPart (dart_map b) d z
+  path_part d d_in z here =
       let has = path_of d d_in in
       record { first = has.first; rest = has.rest; path = has.path; on = here }
 
@@ -235,9 +235,9 @@ module _ (p : PlaneModel) (shape : ShapeModel) (b : BoxesModel) (plane : IsPlane
       let has = path_of d d_in in
       distinct_from (dart_map b).head (has.first ∷ has.rest) (boxed.apart.once d has.first has.rest d_in has.path).1
 
-  -- each point between the ends of an edge is passed by a piece of it, before its end
+  -- each point between the ends of an edge is passed by a part of it, before its end
   path_met : (d : ℕ) → d < darts p → is_lesser p d ≡ true → (q : Point) → Contains (inner (path_along p points d)) q
-      → (z : ℕ) × IsPiece (dart_map b) d z × PassesAt (dart_map b) x y q.x q.y z × IsBefore (dart_map b) x y q.x q.y z d
+      → (z : ℕ) × IsPart (dart_map b) d z × PassesAt (dart_map b) x y q.x q.y z × IsBefore (dart_map b) x y q.x q.y z d
   path_met d d_in lesser q within =
       let has = path_of d d_in in
       let end = has.path.ends in
@@ -245,9 +245,9 @@ module _ (p : PlaneModel) (shape : ShapeModel) (b : BoxesModel) (plane : IsPlane
       has.path.first_in has.path.rest_in has.path.follows (path_distinct d d_in) (first_goes d d_in)
       (subst (λ (path : List Point). Contains (inner path) q) (line_is d d_in lesser) within)) [
         | inl (passes, before) ↦
-            (has.first, path_piece d d_in has.first (inl refl), passes, λ ex ey e. before ex ey (e ∙ sym end))
+            (has.first, path_part d d_in has.first (inl refl), passes, λ ex ey e. before ex ey (e ∙ sym end))
         | inr (z, inside, passes, before) ↦
-            (z, path_piece d d_in z (inr inside), passes, λ ex ey e. before ex ey (e ∙ sym end))
+            (z, path_part d d_in z (inr inside), passes, λ ex ey e. before ex ey (e ∙ sym end))
       ]
 
   path_once : (d : ℕ) → d < darts p → is_lesser p d ≡ true → HasNoRepeat (inner (path_along p points d))
@@ -255,12 +255,12 @@ module _ (p : PlaneModel) (shape : ShapeModel) (b : BoxesModel) (plane : IsPlane
       let has = path_of d d_in in
       let distinct = path_distinct d d_in in
       subst (λ (path : List Point). HasNoRepeat (inner path)) (sym (line_is d d_in lesser))
-      (line_once (dart_map b) boxed.boxes.sound x y ordered (IsPiece (dart_map b) d)
+      (line_once (dart_map b) boxed.boxes.sound x y ordered (IsPart (dart_map b) d)
       (λ z c px py one two passes passes'. one_path p shape b plane boxed x y ordered d z c px py d_in one two passes passes')
       ((dart_map b).head ((dart_map b).reverse_dart has.first)) has.first has.rest (λ z. z ≡ has.first)
       has.path.first_in has.path.rest_in has.path.follows distinct (first_goes d d_in)
-      (λ z at. path_piece d d_in z (inl at))
-      (λ z inside. path_piece d d_in z (inr inside))
+      (λ z at. path_part d d_in z (inl at))
+      (λ z inside. path_part d d_in z (inr inside))
       (λ z c at inside e. distinct.0 (subst (λ (k : ℕ). In k has.rest) (sym e ∙ at) inside))
       (λ px py passes. (has.first, refl, passes)))
 
@@ -301,10 +301,10 @@ module _ (p : PlaneModel) (shape : ShapeModel) (b : BoxesModel) (plane : IsPlane
       let (e, (k, k_in, at), two) = met_in ds q others in
       let there : IsEdge e = All-contains IsEdge ds e rest (k, k_in, at) in
       let less : d < e = subst (λ (c : ℕ). d < c) at (pairs 0 (suc k) e (omega arith) (omega (arith, k_in))) in
-      let (z, piece, passes, before) = path_met d here.0 here.1 q one in
-      let (c, piece', passes', before') = path_met e there.0 there.1 q two in
+      let (z, part, passes, before) = path_met d here.0 here.1 q one in
+      let (c, part', passes', before') = path_met e there.0 there.1 q two in
       two_edges d e here there less
-      (two_paths p shape b plane boxed x y ordered d e z c q.x q.y here.0 there.0 piece piece' passes before passes'))
+      (two_paths p shape b plane boxed x y ordered d e z c q.x q.y here.0 there.0 part part' passes before passes'))
 
   increasing : AllPairs (λ (d e : ℕ). d < e) (lesser_darts p)
   increasing =
@@ -340,8 +340,8 @@ module _ (p : PlaneModel) (shape : ShapeModel) (b : BoxesModel) (plane : IsPlane
       let is : point_at x y v ≡ q = sym (point_k v q v_in) ∙ at in
       let (e, among, met) = met_in (lesser_darts p) q path in
       let edge : IsEdge e = All-contains IsEdge (lesser_darts p) e all_edges among in
-      let (z, piece, passes, before) = path_met e edge.0 edge.1 (point_at x y v) (subst (λ (r : Point). Contains (inner (path_along p points e)) r) (sym is) met) in
-      off_path p shape b plane boxed x y ordered e z v edge.0 (omega (arith, v_in, boxed.old)) piece passes before)
+      let (z, part, passes, before) = path_met e edge.0 edge.1 (point_at x y v) (subst (λ (r : Point). Contains (inner (path_along p points e)) r) (sym is) met) in
+      off_path p shape b plane boxed x y ordered e z v edge.0 (omega (arith, v_in, boxed.old)) part passes before)
 
   -- ---- the grid
 

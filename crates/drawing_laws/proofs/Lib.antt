@@ -16,7 +16,7 @@ pub mod Apart
 pub mod Covering
 pub mod Lines
 pub mod Passing
-pub mod Pieces
+pub mod Parts
 pub mod Meeting
 pub mod Drawn
 pub mod Growing

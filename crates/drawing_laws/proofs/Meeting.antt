@@ -12,8 +12,8 @@ use Rattle.dissect.specs.Ordered.{IsOrdered, tail}
 use Rattle.drawing_laws.proofs.Rounds.{AreFaces, are_faces}
 use Rattle.drawing_laws.proofs.Apart.{Holds, vertices_apart, vertex_outside, darts_apart}
 use Rattle.drawing_laws.proofs.Passing.{PassesAt, IsBefore, passes_holds}
-use Rattle.drawing_laws.specs.Pieces.{IsPiece, IsOneEdge}
-use Rattle.drawing_laws.proofs.Pieces.{piece_in, piece_back, one_piece, piece_of_one, vertex_once, end_alone, meet_at_ends}
+use Rattle.drawing_laws.specs.Parts.{IsPart, IsOneEdge}
+use Rattle.drawing_laws.proofs.Parts.{part_in, part_back, one_part, part_of_one, vertex_once, end_alone, meet_at_ends}
 
 -- some dart arrives at each vertex
 arrival : (w : DartMap) → IsSound w → (v : ℕ) → v < w.vertices → (a : ℕ) × (a < w.darts) × (w.head a ≡ v)
@@ -60,35 +60,35 @@ module _ (p : PlaneModel) (shape : ShapeModel) (b : BoxesModel) (plane : IsPlane
         ]
       ]
 
-  -- two pieces of one path
-  pub one_path : (d z c px py : ℕ) → d < darts p → IsPiece (dart_map b) d z → IsPiece (dart_map b) d c
+  -- two parts of one path
+  pub one_path : (d z c px py : ℕ) → d < darts p → IsPart (dart_map b) d z → IsPart (dart_map b) d c
       → PassesAt (dart_map b) x y px py z → PassesAt (dart_map b) x y px py c → z ≡ c
   one_path d z c px py d_in one two passes passes' =
-      elim (meet z c px py (piece_in p shape b plane boxed d z one) (piece_in p shape b plane boxed d c two) passes passes') [
+      elim (meet z c px py (part_in p shape b plane boxed d z one) (part_in p shape b plane boxed d c two) passes passes') [
         | inl either ↦ elim either [
           | inl same ↦ same
           | inr back ↦
               let ends = plane_ends p plane in
-              let other : IsPiece (dart_map b) (reverse_dart p d) z =
-              subst (λ (k : ℕ). IsPiece (dart_map b) (reverse_dart p d) k) (sym back) (piece_back p shape b plane boxed d c d_in two) in
+              let other : IsPart (dart_map b) (reverse_dart p d) z =
+              subst (λ (k : ℕ). IsPart (dart_map b) (reverse_dart p d) k) (sym back) (part_back p shape b plane boxed d c d_in two) in
               absurd (ends.reverse_dart_apart d d_in
-              (one_piece p shape b plane boxed (reverse_dart p d) d z (ends.reverse_dart_inside d d_in) d_in other one))
+              (one_part p shape b plane boxed (reverse_dart p d) d z (ends.reverse_dart_inside d d_in) d_in other one))
         ]
         | inr (there, column, row) ↦ vertex_once p shape b plane boxed d z c d_in one two there
       ]
 
-  -- pieces of two paths, before the end of the first
-  pub two_paths : (d e z c px py : ℕ) → d < darts p → e < darts p → IsPiece (dart_map b) d z → IsPiece (dart_map b) e c
+  -- parts of two paths, before the end of the first
+  pub two_paths : (d e z c px py : ℕ) → d < darts p → e < darts p → IsPart (dart_map b) d z → IsPart (dart_map b) e c
       → PassesAt (dart_map b) x y px py z → IsBefore (dart_map b) x y px py z d → PassesAt (dart_map b) x y px py c → IsOneEdge p d e
   two_paths d e z c px py d_in e_in one two passes before passes' =
-      let c_in = piece_in p shape b plane boxed e c two in
-      elim (meet z c px py (piece_in p shape b plane boxed d z one) c_in passes passes') [
+      let c_in = part_in p shape b plane boxed e c two in
+      elim (meet z c px py (part_in p shape b plane boxed d z one) c_in passes passes') [
         | inl either ↦ elim either [
-          | inl same ↦ piece_of_one p shape b plane boxed d e z d_in e_in one (inl (subst (λ (k : ℕ). IsPiece (dart_map b) e k) (sym same) two))
+          | inl same ↦ part_of_one p shape b plane boxed d e z d_in e_in one (inl (subst (λ (k : ℕ). IsPart (dart_map b) e k) (sym same) two))
           | inr back ↦
               let there : c ≡ (dart_map b).reverse_dart z =
               sym (boxed.boxes.sound.linked.reverse_dart_back c c_in) ∙ ap (dart_map b).reverse_dart (sym back) in
-              piece_of_one p shape b plane boxed d e z d_in e_in one (inr (subst (λ (k : ℕ). IsPiece (dart_map b) e k) there two))
+              part_of_one p shape b plane boxed d e z d_in e_in one (inr (subst (λ (k : ℕ). IsPart (dart_map b) e k) there two))
         ]
         | inr (there, column, row) ↦ elim (meet_at_ends p shape b plane boxed d e z c d_in e_in one two there) [
           | inl edge ↦ edge
@@ -97,18 +97,18 @@ module _ (p : PlaneModel) (shape : ShapeModel) (b : BoxesModel) (plane : IsPlane
       ]
 
   -- a vertex of the plane is on no path before its end
-  pub off_path : (d z v : ℕ) → d < darts p → v < vertices p → IsPiece (dart_map b) d z → PassesAt (dart_map b) x y (x v) (y v) z
+  pub off_path : (d z v : ℕ) → d < darts p → v < vertices p → IsPart (dart_map b) d z → PassesAt (dart_map b) x y (x v) (y v) z
       → IsBefore (dart_map b) x y (x v) (y v) z d → ⊥
-  off_path d z v d_in v_in piece passes before =
+  off_path d z v d_in v_in part passes before =
       let old = boxed.boxes.old_in in
-      let z_in = piece_in p shape b plane boxed d z piece in
+      let z_in = part_in p shape b plane boxed d z part in
       let (a, a_in, at) = arrival (dart_map b) boxed.boxes.sound v (omega (arith, old, boxed.old, v_in)) in
       elim (passes_holds ((dart_map b).direction z) x y (x v) (y v) (tail (dart_map b) z) ((dart_map b).head z) passes) [
         | inl holds ↦ inside_alone z a (x v) (y v) z_in a_in holds (ap x (sym at)) (ap y (sym at))
         | inr (column, row) ↦
             let there : (dart_map b).head z ≡ v =
             vertices_apart (dart_map b) boxed.boxes.sound x y ordered faces z a z_in a_in (sym column ∙ ap x (sym at)) (sym row ∙ ap y (sym at)) ∙ at in
-            before column row (end_alone p shape b plane boxed d z d_in piece (omega (arith, there, v_in)))
+            before column row (end_alone p shape b plane boxed d z d_in part (omega (arith, there, v_in)))
       ]
 
   -- and no two vertices of the plane have one point

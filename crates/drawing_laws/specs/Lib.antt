@@ -1,6 +1,6 @@
 pub mod Bound
 pub mod Cells
-pub mod Pieces
+pub mod Parts
 pub mod Orders
 pub mod Least
 pub mod Left

@@ -109,14 +109,14 @@ looks_out p shape b boxed =
       drawn = e.drawn;
       heads = e.heads;
       directions = e.directions;
-      pieces = λ d a d_in piece.
+      parts = λ d a d_in part.
           let there = boxed.paths.paths d d_in in
           record {
             first = there.first;
             rest = there.rest;
             path = there.path;
-            on = in_stands a (piece.first ∷ piece.rest) (there.first ∷ there.rest)
-                (e.through d piece.first there.first piece.rest there.rest d_in piece.path there.path) piece.on;
+            on = in_stands a (part.first ∷ part.rest) (there.first ∷ there.rest)
+                (e.through d part.first there.first part.rest there.rest d_in part.path there.path) part.on;
           };
       right = e.right;
       inside = e.right_in;

@@ -7,7 +7,7 @@ use Rattle.dissect.specs.DartMaps.{DartMap}
 use Rattle.dissect.specs.Boxes.{BoxesModel, dart_map}
 use Rattle.dissect.specs.Boxed.{IsDrawing}
 use Rattle.dissect.specs.Ordered.{IsOrdered}
-use Rattle.drawing_laws.specs.Pieces.{IsPiece}
+use Rattle.drawing_laws.specs.Parts.{IsPart}
 
 -- four vertices that are the corners of a rectangle along the axes
 pub record Corners : Type 0 where
@@ -47,10 +47,10 @@ IsOnOuterFace p w a =
 pub record LooksOut (p : PlaneModel) (shape : ShapeModel) (b : BoxesModel) : Type 0 where
   pub drawing : DartMap
   pub drawn : IsDrawing p shape drawing
-  -- each of its darts arrives in the boxes where and as it did, and each piece of an edge is a piece of it there
+  -- each of its darts arrives in the boxes where and as it did, and each part of an edge is a part of it there
   pub heads : (a : ℕ) → a < drawing.darts → (dart_map b).head a ≡ drawing.head a
   pub directions : (a : ℕ) → a < drawing.darts → (dart_map b).direction a ≡ drawing.direction a
-  pub pieces : (d a : ℕ) → d < darts p → IsPiece drawing d a → IsPiece (dart_map b) d a
+  pub parts : (d a : ℕ) → d < darts p → IsPart drawing d a → IsPart (dart_map b) d a
   -- round its outer face the walk turns to the right, or back, at the head of the dart `right`
   pub right : ℕ
   pub inside : right < drawing.darts

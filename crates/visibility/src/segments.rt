@@ -25,8 +25,8 @@ pub(crate) struct Segment {
     pub(crate) pull: i16,
     /// The next one of the segments with its coordinate, or `NO_SEGMENT`.
     pub(crate) next: u16,
-    /// How many pieces of edges join its vertices and corners, one after another.
-    pieces: u16,
+    /// How many parts of edges join its vertices and corners, one after another.
+    parts: u16,
 }
 
 impl Segment {
@@ -37,12 +37,12 @@ impl Segment {
     }
 
     /// Whether it is as short as can be, where it reaches from one of these segments of the other axis to
-    /// another one: no piece of an edge is longer than 1, or steps of 1 lead from the one to the other
+    /// another one: no part of an edge is longer than 1, or steps of 1 lead from the one to the other
     /// (`leads`).
     fn is_short(&self, crossing: &[Segment], along: &Segments) -> bool {
         let segments = along.segments.as_slice();
         let length = number_of(segments, self.high).saturating_sub(number_of(segments, self.low));
-        if length <= self.pieces {
+        if length <= self.parts {
             return true;
         }
         match (
@@ -111,8 +111,8 @@ impl Segments {
     }
 
     /// Adds a segment with this coordinate that reaches from one vertex or corner to another, by their places,
-    /// over so many pieces of edges.
-    fn add(&mut self, number: u32, low: u16, high: u16, pieces: u16) -> Result<u16, AllocError> {
+    /// over so many parts of edges.
+    fn add(&mut self, number: u32, low: u16, high: u16, parts: u16) -> Result<u16, AllocError> {
         let place = self.segments.len().min(usize::from(u16::MAX)) as u16;
         let number = number.min(MAX_COORDINATE) as u16;
         self.greatest = self.greatest.max(number);
@@ -122,7 +122,7 @@ impl Segments {
             high,
             pull: 0,
             next: NO_SEGMENT,
-            pieces,
+            parts,
         })?;
         Ok(place)
     }
@@ -153,10 +153,10 @@ impl Segments {
         Ok(())
     }
 
-    /// Lets a segment begin or end at the vertex or corner with this place, to which one piece more leads.
+    /// Lets a segment begin or end at the vertex or corner with this place, to which one part more leads.
     pub(crate) fn reach(&mut self, segment: u16, place: u16, is_end: bool) {
         if let Some(segment) = self.segments.get_mut(usize::from(segment)) {
-            segment.pieces = segment.pieces.wrapping_add(1);
+            segment.parts = segment.parts.wrapping_add(1);
             if is_end {
                 segment.high = place;
             } else {

@@ -1,4 +1,4 @@
--- How the pieces of edges run in boxes.
+-- How the parts of edges run in boxes.
 use Rattle.std.proofs.Common.{◌≡◌, ◌≢◌, ℕ, ◌-◌, ◌<◌, ◌⊎◌, ◌∙◌, List, [], ◌∷◌, ◌++◌, map, reverse, arith, subst, sym, ap, refl, inl, inr}
 use Rattle.std.proofs.lemmas.Grind.{reverse_onto}
 use Rattle.faces.specs.Planes.{PlaneModel, IsPlane, darts, vertices, tail, reverse_dart}
@@ -10,7 +10,7 @@ use Rattle.dissect.specs.Paths.{Follows, IsPath}
 use Rattle.dissect.proofs.Backwards.{path_unique}
 use Rattle.dissect.specs.Boxes.{BoxesModel, dart_map}
 use Rattle.dissect.specs.Boxed.{IsBoxed}
-use Rattle.drawing_laws.specs.Pieces.{IsPiece, IsOneEdge}
+use Rattle.drawing_laws.specs.Parts.{IsPart, IsOneEdge}
 
 -- ---- lists
 
@@ -64,100 +64,100 @@ later w b y (c ∷ cs) follows here =
       ]
     ]
 
--- ---- pieces
+-- ---- parts
 
 module _ (p : PlaneModel) (shape : ShapeModel) (b : BoxesModel) (plane : IsPlane p) (boxed : IsBoxed p shape b) where
-  pub piece_in : (d a : ℕ) → IsPiece (dart_map b) d a → a < b.darts
-  piece_in d a piece = in_below b.darts a (piece.first ∷ piece.rest) (piece.path.first_in, piece.path.rest_in) piece.on
+  pub part_in : (d a : ℕ) → IsPart (dart_map b) d a → a < b.darts
+  part_in d a part = in_below b.darts a (part.first ∷ part.rest) (part.path.first_in, part.path.rest_in) part.on
 
-  -- the reverse of a piece is one of the way back
-  pub piece_back : (d a : ℕ) → d < darts p → IsPiece (dart_map b) d a → IsPiece (dart_map b) (reverse_dart p d) ((dart_map b).reverse_dart a)
-  piece_back d a d_in piece =
+  -- the reverse of a part is one of the way back
+  pub part_back : (d a : ℕ) → d < darts p → IsPart (dart_map b) d a → IsPart (dart_map b) (reverse_dart p d) ((dart_map b).reverse_dart a)
+  part_back d a d_in part =
       let back = boxed.paths.paths (reverse_dart p d) ((plane_ends p plane).reverse_dart_inside d d_in) in
-      let all : List ℕ = piece.first ∷ piece.rest in
+      let all : List ℕ = part.first ∷ part.rest in
       record {
         first = back.first;
         rest = back.rest;
         path = back.path;
         on = subst (In ((dart_map b).reverse_dart a))
-            (sym (boxed.apart.back d piece.first back.first piece.rest back.rest d_in piece.path back.path))
-            (in_mapped (dart_map b).reverse_dart a (reverse all) (in_reverse a all piece.on));
+            (sym (boxed.apart.back d part.first back.first part.rest back.rest d_in part.path back.path))
+            (in_mapped (dart_map b).reverse_dart a (reverse all) (in_reverse a all part.on));
       }
 
-  pub one_piece : (d e a : ℕ) → d < darts p → e < darts p → IsPiece (dart_map b) d a → IsPiece (dart_map b) e a → d ≡ e
-  one_piece d e a d_in e_in one two =
+  pub one_part : (d e a : ℕ) → d < darts p → e < darts p → IsPart (dart_map b) d a → IsPart (dart_map b) e a → d ≡ e
+  one_part d e a d_in e_in one two =
       boxed.apart.apart d e a one.first two.first one.rest two.rest d_in e_in one.path two.path one.on two.on
 
-  pub piece_of_one : (d e a : ℕ) → d < darts p → e < darts p → IsPiece (dart_map b) d a
-      → IsPiece (dart_map b) e a ⊎ IsPiece (dart_map b) e ((dart_map b).reverse_dart a) → IsOneEdge p d e
-  piece_of_one d e a d_in e_in one (inl two) = inl (one_piece d e a d_in e_in one two)
-  piece_of_one d e a d_in e_in one (inr two) =
+  pub part_of_one : (d e a : ℕ) → d < darts p → e < darts p → IsPart (dart_map b) d a
+      → IsPart (dart_map b) e a ⊎ IsPart (dart_map b) e ((dart_map b).reverse_dart a) → IsOneEdge p d e
+  part_of_one d e a d_in e_in one (inl two) = inl (one_part d e a d_in e_in one two)
+  part_of_one d e a d_in e_in one (inr two) =
       let e' : ℕ = reverse_dart p e in
-      let there : IsPiece (dart_map b) e' a =
-      subst (λ (k : ℕ). IsPiece (dart_map b) e' k) (boxed.boxes.sound.linked.reverse_dart_back a (piece_in d a one)) (piece_back e ((dart_map b).reverse_dart a) e_in two) in
-      inr (one_piece d e' a d_in ((plane_ends p plane).reverse_dart_inside e e_in) one there)
+      let there : IsPart (dart_map b) e' a =
+      subst (λ (k : ℕ). IsPart (dart_map b) e' k) (boxed.boxes.sound.linked.reverse_dart_back a (part_in d a one)) (part_back e ((dart_map b).reverse_dart a) e_in two) in
+      inr (one_part d e' a d_in ((plane_ends p plane).reverse_dart_inside e e_in) one there)
 
-  -- two pieces of one dart, on one path
-  on_path : (d c first : ℕ) (rest : List ℕ) → IsPath (dart_map b) d first rest → IsPiece (dart_map b) d c → In c (first ∷ rest)
-  on_path d c first rest path piece =
-      let same = path_unique (dart_map b) d piece.first first piece.rest rest boxed.boxes.few_darts piece.path path in
-      subst (λ (xs : List ℕ). In c (first ∷ xs)) same.rests (subst (λ (k : ℕ). In c (k ∷ piece.rest)) same.first piece.on)
+  -- two parts of one dart, on one path
+  on_path : (d c first : ℕ) (rest : List ℕ) → IsPath (dart_map b) d first rest → IsPart (dart_map b) d c → In c (first ∷ rest)
+  on_path d c first rest path part =
+      let same = path_unique (dart_map b) d part.first first part.rest rest boxed.boxes.few_darts part.path path in
+      subst (λ (xs : List ℕ). In c (first ∷ xs)) same.rests (subst (λ (k : ℕ). In c (k ∷ part.rest)) same.first part.on)
 
-  pub vertex_once : (d a c : ℕ) → d < darts p → IsPiece (dart_map b) d a → IsPiece (dart_map b) d c → (dart_map b).head a ≡ (dart_map b).head c → a ≡ c
+  pub vertex_once : (d a c : ℕ) → d < darts p → IsPart (dart_map b) d a → IsPart (dart_map b) d c → (dart_map b).head a ≡ (dart_map b).head c → a ≡ c
   vertex_once d a c d_in one two same =
       one_of (dart_map b).head a c (one.first ∷ one.rest) (boxed.apart.once d one.first one.rest d_in one.path).1 one.on
       (on_path d c one.first one.rest one.path two) same
 
-  pub start_apart : (d a : ℕ) → d < darts p → IsPiece (dart_map b) d a → (dart_map b).head a ≢ tail p d - 1
-  start_apart d a d_in piece same =
+  pub start_apart : (d a : ℕ) → d < darts p → IsPart (dart_map b) d a → (dart_map b).head a ≢ tail p d - 1
+  start_apart d a d_in part same =
       let ends = plane_ends p plane in
       let has = boxed.paths.paths d d_in in
-      let on = on_path d a has.first has.rest has.path piece in
+      let on = on_path d a has.first has.rest has.path part in
       let start : (dart_map b).head ((dart_map b).reverse_dart has.first) ≡ tail p d - 1 =
       ap (dart_map b).head has.back ∙ boxed.heads (reverse_dart p d) (ends.reverse_dart_inside d d_in)
       ∙ ap (λ (k : ℕ). k - 1) (ends.reverse_dart_head d d_in) in
       (boxed.apart.once d has.first has.rest d_in has.path).0
       (subst (λ (k : ℕ). In k (map (dart_map b).head (has.first ∷ has.rest))) (same ∙ sym start) (in_mapped (dart_map b).head a (has.first ∷ has.rest) on))
 
-  -- a piece is the last one, or stands before another piece of its edge
-  before_piece : (d a : ℕ) → IsPiece (dart_map b) d a → (a ≡ d) ⊎ ((c : ℕ) × IsPiece (dart_map b) d c × ((dart_map b).before c ≡ a))
-  before_piece d a piece =
-      elim (later (dart_map b) piece.first a piece.rest piece.path.follows piece.on) [
-        | inl last ↦ inl (last ∙ piece.path.ends)
-        | inr (c, inside, before) ↦ inr (c, record { first = piece.first; rest = piece.rest; path = piece.path; on = inr inside }, before)
+  -- a part is the last one, or stands before another part of its edge
+  before_part : (d a : ℕ) → IsPart (dart_map b) d a → (a ≡ d) ⊎ ((c : ℕ) × IsPart (dart_map b) d c × ((dart_map b).before c ≡ a))
+  before_part d a part =
+      elim (later (dart_map b) part.first a part.rest part.path.follows part.on) [
+        | inl last ↦ inl (last ∙ part.path.ends)
+        | inr (c, inside, before) ↦ inr (c, record { first = part.first; rest = part.rest; path = part.path; on = inr inside }, before)
       ]
 
-  some : (d a c : ℕ) → IsPiece (dart_map b) d a → (dart_map b).before c ≡ a → (dart_map b).before c ≢ no_dart
-  some d a c piece before none = omega (arith, before, none, piece_in d a piece, boxed.boxes.few_darts)
+  some : (d a c : ℕ) → IsPart (dart_map b) d a → (dart_map b).before c ≡ a → (dart_map b).before c ≢ no_dart
+  some d a c part before none = omega (arith, before, none, part_in d a part, boxed.boxes.few_darts)
 
   end_low : (d : ℕ) → d < darts p → (dart_map b).head d < vertices p
   end_low d d_in =
       let ends = plane_ends p plane in
       omega (arith, boxed.heads d d_in, ends.head_from d d_in, ends.head_to d d_in)
 
-  pub end_alone : (d a : ℕ) → d < darts p → IsPiece (dart_map b) d a → (dart_map b).head a < vertices p → a ≡ d
-  end_alone d a d_in piece low =
-      elim (before_piece d a piece) [
+  pub end_alone : (d a : ℕ) → d < darts p → IsPart (dart_map b) d a → (dart_map b).head a < vertices p → a ≡ d
+  end_alone d a d_in part low =
+      elim (before_part d a part) [
         | inl last ↦ last
         | inr (c, next, before) ↦
-            absurd (omega (arith, boxed.chains.fresh c (piece_in d c next) (some d a c piece before), ap (dart_map b).head before, low))
+            absurd (omega (arith, boxed.chains.fresh c (part_in d c next) (some d a c part before), ap (dart_map b).head before, low))
       ]
 
-  pub meet_at_ends : (d e a c : ℕ) → d < darts p → e < darts p → IsPiece (dart_map b) d a → IsPiece (dart_map b) e c → (dart_map b).head a ≡ (dart_map b).head c
+  pub meet_at_ends : (d e a c : ℕ) → d < darts p → e < darts p → IsPart (dart_map b) d a → IsPart (dart_map b) e c → (dart_map b).head a ≡ (dart_map b).head c
       → IsOneEdge p d e ⊎ ((a ≡ d) × (c ≡ e))
   meet_at_ends d e a c d_in e_in one two same =
-      elim (before_piece d a one) [
+      elim (before_part d a one) [
         | inl last ↦ inr (last, end_alone e c e_in two (omega (arith, same, ap (dart_map b).head last, end_low d d_in)))
-        | inr (a', one', before) ↦ elim (before_piece e c two) [
+        | inr (a', one', before) ↦ elim (before_part e c two) [
           | inl last ↦ inr (end_alone d a d_in one (omega (arith, same, ap (dart_map b).head last, end_low e e_in)), last)
           | inr (c', two', before') ↦
-              elim (boxed.chains.own a' c' (piece_in d a' one') (piece_in e c' two') (some d a a' one before) (some e c c' two before')
+              elim (boxed.chains.own a' c' (part_in d a' one') (part_in e c' two') (some d a a' one before) (some e c c' two before')
               (ap (dart_map b).head before ∙ same ∙ sym (ap (dart_map b).head before'))) [
-                | inl at ↦ inl (inl (one_piece d e a' d_in e_in one' (subst (λ (k : ℕ). IsPiece (dart_map b) e k) (sym at) two')))
+                | inl at ↦ inl (inl (one_part d e a' d_in e_in one' (subst (λ (k : ℕ). IsPart (dart_map b) e k) (sym at) two')))
                 | inr other ↦
-                    let back : IsPiece (dart_map b) (reverse_dart p e) a' =
-                    subst (λ (k : ℕ). IsPiece (dart_map b) (reverse_dart p e) k) (ap (dart_map b).reverse_dart (sym before') ∙ sym other) (piece_back e c e_in two) in
-                    inl (inr (one_piece d (reverse_dart p e) a' d_in ((plane_ends p plane).reverse_dart_inside e e_in) one' back))
+                    let back : IsPart (dart_map b) (reverse_dart p e) a' =
+                    subst (λ (k : ℕ). IsPart (dart_map b) (reverse_dart p e) k) (ap (dart_map b).reverse_dart (sym before') ∙ sym other) (part_back e c e_in two) in
+                    inl (inr (one_part d (reverse_dart p e) a' d_in ((plane_ends p plane).reverse_dart_inside e e_in) one' back))
               ]
         ]
       ]

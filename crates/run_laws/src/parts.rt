@@ -1,0 +1,30 @@
+//! How the edges of a plane run in the boxes that dissect a shape of it.
+
+ghost use Rattle.std.specs.Prelude.{◌≡◌, ◌≢◌, ◌-◌, ◌<◌, ◌⊎◌, ℕ};
+ghost use Rattle.faces.specs.Planes.{PlaneModel, IsPlane, darts, vertices, tail};
+ghost use Rattle.ortho_rep.specs.Shapes.{ShapeModel};
+ghost use Rattle.dissect.specs.Boxes.{BoxesModel, dart_map};
+ghost use Rattle.dissect.specs.Boxed.{IsBoxed};
+ghost use Rattle.drawing_laws.specs.Parts.{IsPart, IsOneEdge};
+
+/// Why the paths of a plane's darts lie apart: no part is of two edges, whichever way it is walked, and an edge passes no
+/// vertex twice, nor the one that it sets out from.
+pub fn edges_share_no_part()
+    ensures part { (p : PlaneModel) (shape : ShapeModel) (b : BoxesModel) → IsPlane p → IsBoxed p shape b
+        → (d e a : ℕ) → d < darts p → e < darts p → IsPart (dart_map b) d a
+        → IsPart (dart_map b) e a ⊎ IsPart (dart_map b) e ((dart_map b).reverse_dart a) → IsOneEdge p d e }
+    ensures vertex { (p : PlaneModel) (shape : ShapeModel) (b : BoxesModel) → IsPlane p → IsBoxed p shape b
+        → (d a c : ℕ) → d < darts p → IsPart (dart_map b) d a → IsPart (dart_map b) d c → (dart_map b).head a ≡ (dart_map b).head c → a ≡ c }
+    ensures start { (p : PlaneModel) (shape : ShapeModel) (b : BoxesModel) → IsPlane p → IsBoxed p shape b
+        → (d a : ℕ) → d < darts p → IsPart (dart_map b) d a → (dart_map b).head a ≢ tail p d - 1 }
+{}
+
+/// Why darts stand in chains: edges neither cross nor touch. An edge comes to a vertex of the plane at its end alone, and where parts
+/// of two edges come to one vertex, that is the end of both.
+pub fn edges_meet_at_ends()
+    ensures vertex { (p : PlaneModel) (shape : ShapeModel) (b : BoxesModel) → IsPlane p → IsBoxed p shape b
+        → (d a : ℕ) → d < darts p → IsPart (dart_map b) d a → (dart_map b).head a < vertices p → a ≡ d }
+    ensures meeting { (p : PlaneModel) (shape : ShapeModel) (b : BoxesModel) → IsPlane p → IsBoxed p shape b
+        → (d e a c : ℕ) → d < darts p → e < darts p → IsPart (dart_map b) d a → IsPart (dart_map b) e c
+        → (dart_map b).head a ≡ (dart_map b).head c → IsOneEdge p d e ⊎ ((a ≡ d) × (c ≡ e)) }
+{}
