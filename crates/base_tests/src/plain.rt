@@ -26,10 +26,10 @@ struct Sending {
 pub(crate) fn least_cost(rt: &impl Abort, alloc: Global, network: &Network) -> Option<u64> {
     let mut sending = begin(rt, alloc, network);
     for _ in 0..100_000 {
-        let Some(source) = sending.excess.iter().position(|units| *units > 0) else {
+        let Some(root) = sending.excess.iter().position(|units| *units > 0) else {
             break;
         };
-        if !send_from(rt, alloc, &mut sending, source) {
+        if !send_from(rt, alloc, &mut sending, root) {
             return None;
         }
     }
@@ -49,13 +49,13 @@ fn cost_of(sending: &Sending) -> u64 {
 }
 
 /// Sends one unit from a node to where one is wanting, and says whether there is a path.
-fn send_from(rt: &impl Abort, alloc: Global, sending: &mut Sending, source: usize) -> bool {
-    let labels = labels_from(rt, alloc, sending, source);
+fn send_from(rt: &impl Abort, alloc: Global, sending: &mut Sending, root: usize) -> bool {
+    let labels = labels_from(rt, alloc, sending, root);
     let Some(target) = nearest(sending, &labels) else {
         return false;
     };
-    let path = path_to(rt, alloc, sending, &labels, source, target);
-    send(sending, &path, source, target);
+    let path = path_to(rt, alloc, sending, &labels, root, target);
+    send(sending, &path, root, target);
     true
 }
 
@@ -91,10 +91,10 @@ fn labels_from(
     rt: &impl Abort,
     alloc: Global,
     sending: &Sending,
-    source: usize,
+    root: usize,
 ) -> Vec<(i64, Option<Step>)> {
     let mut labels = vec![in alloc; (FAR, None); sending.excess.len()].expect(rt, "memory");
-    if let Some(label) = labels.get_mut(source) {
+    if let Some(label) = labels.get_mut(root) {
         *label = (0, None);
     }
     for _ in 0..sending.excess.len() {
@@ -142,13 +142,13 @@ fn path_to(
     alloc: Global,
     sending: &Sending,
     labels: &[(i64, Option<Step>)],
-    source: usize,
+    root: usize,
     target: usize,
 ) -> Vec<Step> {
     let mut path = Vec::new(alloc);
     let mut node = target;
     for _ in 0..labels.len() {
-        if node == source {
+        if node == root {
             break;
         }
         let Some((_, Some(step))) = labels.get(node).copied() else {
@@ -164,7 +164,7 @@ fn path_to(
 }
 
 /// Sends one unit along a path.
-fn send(sending: &mut Sending, path: &[Step], source: usize, target: usize) {
+fn send(sending: &mut Sending, path: &[Step], root: usize, target: usize) {
     for step in path {
         if let Some(carried) = sending.carried.get_mut(step.arc) {
             *carried = if step.back {
@@ -174,7 +174,7 @@ fn send(sending: &mut Sending, path: &[Step], source: usize, target: usize) {
             };
         }
     }
-    if let Some(units) = sending.excess.get_mut(source) {
+    if let Some(units) = sending.excess.get_mut(root) {
         *units = units.saturating_sub(1);
     }
     if let Some(units) = sending.excess.get_mut(target) {

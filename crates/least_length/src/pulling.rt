@@ -13,7 +13,7 @@ const MAX_PULLS: usize = 65_536;
 const UNREACHED: u16 = u16::MAX;
 
 /// Stands for that of the segment where the search began.
-const SOURCE: u16 = u16::MAX - 1;
+const ROOT: u16 = u16::MAX - 1;
 
 /// What the search for least numbers works in.
 #[derive(Drop)]
@@ -62,7 +62,7 @@ impl Pulling {
         edges: &[Edge],
     ) -> Result<bool, AllocError> {
         self.neighbours.list(segments, edges)?;
-        if self.neighbours.sights.len() > MAX_SIGHTS || segments.len() >= usize::from(SOURCE) {
+        if self.neighbours.sights.len() > MAX_SIGHTS || segments.len() >= usize::from(ROOT) {
             return Ok(false);
         }
         self.begin(segments, edges)?;
@@ -73,12 +73,12 @@ impl Pulling {
         self.from.clear();
         self.from.resize(segments.len(), UNREACHED)?;
         self.reached.clear();
-        for source in 0..segments.len() as u16 {
+        for root in 0..segments.len() as u16 {
             for _ in 0..MAX_PULLS {
-                if self.excess_at(source) <= 0 {
+                if self.excess_at(root) <= 0 {
                     break;
                 }
-                if !self.send(source)? {
+                if !self.send(root)? {
                     return Ok(false);
                 }
             }
@@ -116,14 +116,14 @@ impl Pulling {
 
     /// Sends units that pull a segment up along pairs to one that is pulled down; whether there is one. Where
     /// no pair leads on, all segments reached move up together until one does.
-    fn send(&mut self, source: u16) -> Result<bool, AllocError> {
+    fn send(&mut self, root: u16) -> Result<bool, AllocError> {
         let from = self.from.as_mut_slice();
         for segment in self.reached.as_slice() {
             set(from, *segment, UNREACHED);
         }
-        set(from, source, SOURCE);
+        set(from, root, ROOT);
         self.reached.clear();
-        self.reached.push(source)?;
+        self.reached.push(root)?;
         for _ in 0..self.from.len() {
             if let Some(target) = self.spread()? {
                 self.carry(target);
@@ -231,7 +231,7 @@ impl Pulling {
 
     /// Carries as many units as can be from where the search began to this segment.
     fn carry(&mut self, target: u16) {
-        let (source, units) = self.measure(target);
+        let (root, units) = self.measure(target);
         let mut segment = target;
         for _ in 0..self.from.len() {
             let pair = self.from_at(segment);
@@ -247,7 +247,7 @@ impl Pulling {
             }
         }
         let amount = units.min(MAX_PULLS as u32) as i32;
-        add(self.excess.as_mut_slice(), source, -amount);
+        add(self.excess.as_mut_slice(), root, -amount);
         add(self.excess.as_mut_slice(), target, amount);
     }
 
@@ -279,10 +279,7 @@ impl Pulling {
     }
 
     fn from_at(&self, segment: u16) -> u16 {
-        self.from
-            .get(usize::from(segment))
-            .copied()
-            .unwrap_or(SOURCE)
+        self.from.get(usize::from(segment)).copied().unwrap_or(ROOT)
     }
 
     fn excess_at(&self, segment: u16) -> i32 {

@@ -510,7 +510,7 @@ sent_all net x y e e' e'' u v k node over want left short caps carries there oth
     let here_all : e'' u ≡ e u -ℤ pos k = here ∙ ap (λ (z : ℤ). z -ℤ pos k) same in
     record {
       node = node;
-      source = over;
+      root = over;
       caps = caps;
       leaves = carried_leaves net y e' e'' u k carries here others';
       here = here_all;
@@ -539,8 +539,8 @@ pub record IsStep (net : NetworkModel) (first : List ℕ) (reverse : ℕ → ℕ
   pub leaves : StartsAt first (end_at arcs (reverse k)) k
   pub link : IsLink net reverse forward capacity p (end_at arcs (reverse k)) k v
 
-pub path_step : (net : NetworkModel) (first : List ℕ) (reverse : ℕ → ℕ) (forward : List ℕ) (capacity : ℕ → ℕ) (arcs : List ResidualArc) (p : ℕ → ℤ) (enter place : ℕ → ℕ) (source found : ℕ) → IsNetwork net → HasResidualArcs net first reverse forward → AreResidualArcs net reverse forward capacity arcs → (h : HasPath (node_count net) first arcs p enter place source found) → (v : ℕ) → h.on v ≡ true → 0 < place v → IsStep net first reverse forward capacity arcs p h.on place v (enter v)
-path_step net first reverse forward capacity arcs p enter place source found n l f h v on some =
+pub path_step : (net : NetworkModel) (first : List ℕ) (reverse : ℕ → ℕ) (forward : List ℕ) (capacity : ℕ → ℕ) (arcs : List ResidualArc) (p : ℕ → ℤ) (enter place : ℕ → ℕ) (root found : ℕ) → IsNetwork net → HasResidualArcs net first reverse forward → AreResidualArcs net reverse forward capacity arcs → (h : HasPath (node_count net) first arcs p enter place root found) → (v : ℕ) → h.on v ≡ true → 0 < place v → IsStep net first reverse forward capacity arcs p h.on place v (enter v)
+path_step net first reverse forward capacity arcs p enter place root found n l f h v on some =
     let a = h.after v on some in
     let b : a.start < node_count net = h.node a.start a.member in
     let s : end_at arcs (reverse (enter v)) ≡ a.start = start_is net first reverse forward capacity arcs a.start (enter v) l f b a.step.leaves in
@@ -559,8 +559,8 @@ pub record IsLast (net : NetworkModel) (first : List ℕ) (reverse : ℕ → ℕ
   pub leaves : StartsAt first (end_at arcs (reverse k)) k
   pub link : IsLink net reverse forward capacity p (end_at arcs (reverse k)) k (end_at arcs k)
 
-pub path_last : (net : NetworkModel) (first : List ℕ) (reverse : ℕ → ℕ) (forward : List ℕ) (capacity : ℕ → ℕ) (arcs : List ResidualArc) (p : ℕ → ℤ) (enter place : ℕ → ℕ) (source found : ℕ) → IsNetwork net → HasResidualArcs net first reverse forward → AreResidualArcs net reverse forward capacity arcs → (h : HasPath (node_count net) first arcs p enter place source found) → IsLast net first reverse forward capacity arcs p h.on found
-path_last net first reverse forward capacity arcs p enter place source found n l f h =
+pub path_last : (net : NetworkModel) (first : List ℕ) (reverse : ℕ → ℕ) (forward : List ℕ) (capacity : ℕ → ℕ) (arcs : List ResidualArc) (p : ℕ → ℤ) (enter place : ℕ → ℕ) (root found : ℕ) → IsNetwork net → HasResidualArcs net first reverse forward → AreResidualArcs net reverse forward capacity arcs → (h : HasPath (node_count net) first arcs p enter place root found) → IsLast net first reverse forward capacity arcs p h.on found
+path_last net first reverse forward capacity arcs p enter place root found n l f h =
     let b : h.last < node_count net = h.node h.last h.member in
     let s : end_at arcs (reverse found) ≡ h.last = start_is net first reverse forward capacity arcs h.last found l f b h.step.leaves in
     record {
@@ -574,22 +574,22 @@ pub link_end : (net : NetworkModel) (reverse : ℕ → ℕ) (forward : List ℕ)
 link_end net reverse forward capacity p u k v n t = subst (λ (q : ℕ). q < node_count net) t.end (end_in net t.arc t.back n.ends t.inside)
 
 -- the same of the solver's own lists
-pub own_step : (net : NetworkModel) (s : Solver) (source : ℕ) → (h : CanAugment net s source) → (v : ℕ) → h.path.on v ≡ true → 0 < places_in s v → IsStep net s.residual.first.items (reverse_at s.residual.capacities.items) s.residual.forward.items (capacity_at s.residual.capacities.items) s.residual.arcs.items (potential_at s) h.path.on (places_in s) v (enters_in s v)
-own_step net s source h v on some =
-    path_step net s.residual.first.items (reverse_at s.residual.capacities.items) s.residual.forward.items (capacity_at s.residual.capacities.items) s.residual.arcs.items (potential_at s) (enters_in s) (places_in s) source s.found h.ready.network h.ready.residual.arcs_built h.ready.residual.filled h.path v on some
+pub own_step : (net : NetworkModel) (s : Solver) (root : ℕ) → (h : CanAugment net s root) → (v : ℕ) → h.path.on v ≡ true → 0 < places_in s v → IsStep net s.residual.first.items (reverse_at s.residual.capacities.items) s.residual.forward.items (capacity_at s.residual.capacities.items) s.residual.arcs.items (potential_at s) h.path.on (places_in s) v (enters_in s v)
+own_step net s root h v on some =
+    path_step net s.residual.first.items (reverse_at s.residual.capacities.items) s.residual.forward.items (capacity_at s.residual.capacities.items) s.residual.arcs.items (potential_at s) (enters_in s) (places_in s) root s.found h.ready.network h.ready.residual.arcs_built h.ready.residual.filled h.path v on some
 
-pub own_last : (net : NetworkModel) (s : Solver) (source : ℕ) → (h : CanAugment net s source) → IsLast net s.residual.first.items (reverse_at s.residual.capacities.items) s.residual.forward.items (capacity_at s.residual.capacities.items) s.residual.arcs.items (potential_at s) h.path.on s.found
-own_last net s source h =
-    path_last net s.residual.first.items (reverse_at s.residual.capacities.items) s.residual.forward.items (capacity_at s.residual.capacities.items) s.residual.arcs.items (potential_at s) (enters_in s) (places_in s) source s.found h.ready.network h.ready.residual.arcs_built h.ready.residual.filled h.path
+pub own_last : (net : NetworkModel) (s : Solver) (root : ℕ) → (h : CanAugment net s root) → IsLast net s.residual.first.items (reverse_at s.residual.capacities.items) s.residual.forward.items (capacity_at s.residual.capacities.items) s.residual.arcs.items (potential_at s) h.path.on s.found
+own_last net s root h =
+    path_last net s.residual.first.items (reverse_at s.residual.capacities.items) s.residual.forward.items (capacity_at s.residual.capacities.items) s.residual.arcs.items (potential_at s) (enters_in s) (places_in s) root s.found h.ready.network h.ready.residual.arcs_built h.ready.residual.filled h.path
 
-pub own_end : (net : NetworkModel) (s : Solver) (source : ℕ) → CanAugment net s source → end_at s.residual.arcs.items s.found < node_count net
-own_end net s source h = link_end net (reverse_at s.residual.capacities.items) s.residual.forward.items (capacity_at s.residual.capacities.items) (potential_at s) (end_at s.residual.arcs.items (reverse_at s.residual.capacities.items s.found)) s.found (end_at s.residual.arcs.items s.found) h.ready.network (own_last net s source h).link
+pub own_end : (net : NetworkModel) (s : Solver) (root : ℕ) → CanAugment net s root → end_at s.residual.arcs.items s.found < node_count net
+own_end net s root h = link_end net (reverse_at s.residual.capacities.items) s.residual.forward.items (capacity_at s.residual.capacities.items) (potential_at s) (end_at s.residual.arcs.items (reverse_at s.residual.capacities.items s.found)) s.found (end_at s.residual.arcs.items s.found) h.ready.network (own_last net s root h).link
 
-pub last_pair : (net : NetworkModel) (s : Solver) (source : ℕ) → CanAugment net s source → IsPaired s.residual s.found
-last_pair net s source h = let l = own_last net s source h in is_paired net s.residual (end_at s.residual.arcs.items (reverse_at s.residual.capacities.items s.found)) s.found h.ready.network h.ready.residual l.node l.leaves
+pub last_pair : (net : NetworkModel) (s : Solver) (root : ℕ) → CanAugment net s root → IsPaired s.residual s.found
+last_pair net s root h = let l = own_last net s root h in is_paired net s.residual (end_at s.residual.arcs.items (reverse_at s.residual.capacities.items s.found)) s.found h.ready.network h.ready.residual l.node l.leaves
 
-pub step_pair : (net : NetworkModel) (s : Solver) (source v : ℕ) → (h : CanAugment net s source) → h.path.on v ≡ true → 0 < places_in s v → IsPaired s.residual (enters_in s v)
-step_pair net s source v h on some = let l = own_step net s source h v on some in is_paired net s.residual (end_at s.residual.arcs.items (reverse_at s.residual.capacities.items (enters_in s v))) (enters_in s v) h.ready.network h.ready.residual l.node l.leaves
+pub step_pair : (net : NetworkModel) (s : Solver) (root v : ℕ) → (h : CanAugment net s root) → h.path.on v ≡ true → 0 < places_in s v → IsPaired s.residual (enters_in s v)
+step_pair net s root v h on some = let l = own_step net s root h v on some in is_paired net s.residual (end_at s.residual.arcs.items (reverse_at s.residual.capacities.items (enters_in s v))) (enters_in s v) h.ready.network h.ready.residual l.node l.leaves
 
 -- ---- the least of what fits
 
@@ -605,5 +605,5 @@ lesser_short a k z h x = omega (arith, ints)
 pub few_left : (z : ℤ) (k : ℕ) → pos k ≤ℤ z → z ≤ℤ pos 2048 → k ≤ 2048
 few_left z k h m = omega (arith, ints)
 
-pub source_apart : (e : ℕ → ℤ) (u v : ℕ) → pos 0 <ℤ e u → e v <ℤ pos 0 → u ≢ v
-source_apart e u v a b h = not_want (e u) (e v) (ap e h) a b
+pub root_apart : (e : ℕ → ℤ) (u v : ℕ) → pos 0 <ℤ e u → e v <ℤ pos 0 → u ≢ v
+root_apart e u v a b h = not_want (e u) (e v) (ap e h) a b

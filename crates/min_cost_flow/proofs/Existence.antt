@@ -156,7 +156,7 @@ still_over z y e h = omega (arith, ints)
 
 -- one unit from u, where something is left over, to v, where something is wanting
 record IsUnit (net : NetworkModel) (e d f : ℕ → ℤ) (u v : ℕ) : Type 0 where
-  source : u < node_count net
+  root : u < node_count net
   sink : v < node_count net
   over : pos 0 <ℤ e u
   under : e v <ℤ pos 0
@@ -176,7 +176,7 @@ sum_ups net e d f u v k =
     let fell : f u ≡ e u -ℤ pos 1 = rw (← same) k.taken in
     let (less, _) = up_less (e u) (f u) k.over fell in
     let sums : sum_below n (λ w. up (f w)) + up (e u) ≡ sum_below n (λ w. up (e w)) + up (f u) =
-    sum_below-changed n u (λ w. up (f w)) (λ w. up (e w)) k.source
+    sum_below-changed n u (λ w. up (f w)) (λ w. up (e w)) k.root
     (λ w b nu. elim (cases_eq w v) [
       | inl q ↦
           let (_, keeps) = down_less (e v) (d v) k.under k.here in
@@ -264,7 +264,7 @@ flow_of_units net (suc k) x e ends caps lv joined ups downs =
     let d = brought e v in
     let f = given d u in
     let unit : IsUnit net e d f u v = record {
-      source = ub;
+      root = ub;
       sink = vb;
       over = over;
       under = under;

@@ -49,7 +49,7 @@ flow_at net x e caps lv none full = record {
 -- k units went from u to where units are wanting: the amounts from x to y, the excess from e to e'
 pub record IsSent (net : NetworkModel) (x y : ℕ → ℕ) (e e' : ℕ → ℤ) (u k : ℕ) : Type 0 where
   pub node : u < node_count net
-  pub source : pos 0 <ℤ e u
+  pub root : pos 0 <ℤ e u
   pub caps : KeepsCaps net y
   pub leaves : Leaves net y e'
   pub here : e' u ≡ e u -ℤ pos k

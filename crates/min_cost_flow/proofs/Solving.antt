@@ -197,7 +197,7 @@ moved_priced n first arcs p p' e s q enter order place scanned ordered reached r
           | inl near ↦
               let less : q (end_at arcs k) ≤ℤ (q v +ℤ cost_at arcs k) = sv.served v k b l h st op near in
               let le : scanned ≤ n = omega (arith, r.counts) in
-              let given_label : q (end_at arcs k) <ℤ far = label_step (p s) (q v) (cost_at arcs k) (q (end_at arcs k)) n scanned g.nodes le (pr.low s r.source.0).1 (r.near v b l) op less in
+              let given_label : q (end_at arcs k) <ℤ far = label_step (p s) (q v) (cost_at arcs k) (q (end_at arcs k)) n scanned g.nodes le (pr.low s r.root.0).1 (r.near v b l) op less in
               near_end (cost_at arcs k) (p' v) (q v) (q (end_at arcs k)) (p' (end_at arcs k)) bound (m.are_scanned v b l h) less (labels_fall n p p' q place scanned bound m left (end_at arcs k) eb given_label)
           | inr away ↦ far_end (cost_at arcs k) (p' v) (q v) (p (end_at arcs k)) (p' (end_at arcs k)) bound (m.are_scanned v b l h) away fall
         ]
@@ -276,15 +276,15 @@ has_path n first arcs p p' e s q enter order place scanned ordered reached radiu
     let eb : end_at arcs f < n = g.end h.start f h.node h.leaves in
     let off : far ≤ℤ q (end_at arcs f) = wanting_far n first arcs p e s q enter order place scanned ordered reached radius (end_at arcs f) r eb h.wanting in
     let labelled : (v : ℕ) → on_path order place scanned v ≡ true → (v < n) × (q v <ℤ far) = λ v o. let (a, back) = on_is order place scanned v o in (subst (λ (t : ℕ). t < n) back (r.node (place v) (omega arith)), subst (λ (t : ℕ). q t <ℤ far) back (r.has_label (place v) (omega arith))) in
-    let order_s : order 0 ≡ s = ap order (sym r.source.2) ∙ (r.listed s r.source.0 r.source.1).1 in
+    let order_s : order 0 ≡ s = ap order (sym r.root.2) ∙ (r.listed s r.root.0 r.root.1).1 in
     record {
       on = on_path order place scanned;
       node = λ v o. (labelled v o).0;
-      root = λ v o z. sym (on_is order place scanned v o).1 ∙ ap order z ∙ order_s;
+      root_is = λ v o z. sym (on_is order place scanned v o).1 ∙ ap order z ∙ order_s;
       after = λ v o some.
           let (vb, vl) = labelled v o in
           let (vh, back) = on_is order place scanned v o in
-          let x = r.entered v vb vl (λ t. let z : place v ≡ 0 = ap place t ∙ r.source.2 in absurd (omega arith)) in
+          let x = r.entered v vb vl (λ t. let z : place v ≡ 0 = ap place t ∙ r.root.2 in absurd (omega arith)) in
           let xh : place x.start < scanned = x.are_scanned in
           record {
             start = x.start;
@@ -323,7 +323,7 @@ pub nothing_found : (net : NetworkModel) (first : List ℕ) (reverse : ℕ → �
 nothing_found net first reverse forward capacity arcs p e s q enter order place scanned ordered reached radius bound k l fl rd r sv left none over =
     let n = node_count net in
     let le : scanned ≤ n = omega (arith, r.counts) in
-    let low : p s ≤ℤ pos (2 * n) = (rd.low s r.source.0).1 in
+    let low : p s ≤ℤ pos (2 * n) = (rd.low s r.root.0).1 in
     let in_set : ℕ → Bool = λ v. lt_z (q v) far in
     let are_scanned : (v : ℕ) → v < n → q v <ℤ far → place v < scanned = λ v b m. elim (cases_lt (place v) scanned) [
       | inl h ↦ h
@@ -346,7 +346,7 @@ nothing_found net first reverse forward capacity arcs p e s q enter order place 
           subst (λ (t : ℕ). lt_z (q t) far ≡ true) ends (lt_true (q (end_at arcs j)) far (label_step (p s) (q u) (cost_at arcs j) (q (end_at arcs j)) n scanned k.small.0 le low (r.near u ub m) op less));
     })
     (λ v b m. r.plain v b (plain_lt (q v) far m))
-    r.source.0 (lt_true (q s) far r.source.1) over
+    r.root.0 (lt_true (q s) far r.root.1) over
 
 -- ---- each scanned node has a residual arc
 
@@ -367,14 +367,14 @@ has_own net first reverse forward capacity arcs u k l f b st =
 own_degree : (first : List ℕ) (v k : ℕ) → StartsAt first v k → 0 < degree first v
 own_degree first v k st = omega (arith, st.from, st.below)
 
-source_degree : (n : ℕ) (first : List ℕ) (arcs : List ResidualArc) (p e : ℕ → ℤ) (s : ℕ) (q : ℕ → ℤ) (enter order place : ℕ → ℕ) (scanned ordered reached : ℕ) (radius : ℤ) (b v : ℕ) → IsReached n first arcs p e s q enter order place scanned ordered reached radius → place v < b → v < n → q v <ℤ far → v ≢ s → 0 < degree first s
-source_degree n first arcs p e s q enter order place scanned ordered reached radius zero v r less vb l ne = absurd (omega arith)
-source_degree n first arcs p e s q enter order place scanned ordered reached radius (suc b) v r less vb l ne =
+root_degree : (n : ℕ) (first : List ℕ) (arcs : List ResidualArc) (p e : ℕ → ℤ) (s : ℕ) (q : ℕ → ℤ) (enter order place : ℕ → ℕ) (scanned ordered reached : ℕ) (radius : ℤ) (b v : ℕ) → IsReached n first arcs p e s q enter order place scanned ordered reached radius → place v < b → v < n → q v <ℤ far → v ≢ s → 0 < degree first s
+root_degree n first arcs p e s q enter order place scanned ordered reached radius zero v r less vb l ne = absurd (omega arith)
+root_degree n first arcs p e s q enter order place scanned ordered reached radius (suc b) v r less vb l ne =
     let x = r.entered v vb l ne in
     let before : place x.start < place v = x.before in
     elim (cases_eq x.start s) [
       | inl t ↦ own_degree first s (enter v) (subst (λ (i : ℕ). StartsAt first i (enter v)) t x.leaves)
-      | inr d ↦ source_degree n first arcs p e s q enter order place scanned ordered reached radius b x.start r (omega arith) x.node x.labelled d
+      | inr d ↦ root_degree n first arcs p e s q enter order place scanned ordered reached radius b x.start r (omega arith) x.node x.labelled d
     ]
 
 one_each : (net : NetworkModel) (first : List ℕ) (reverse : ℕ → ℕ) (forward : List ℕ) (capacity : ℕ → ℕ) (arcs : List ResidualArc) (p e : ℕ → ℤ) (s : ℕ) (q : ℕ → ℤ) (enter order place : ℕ → ℕ) (scanned ordered reached : ℕ) (radius bound : ℤ) (f : ℕ) → HasResidualArcs net first reverse forward → AreResidualArcs net reverse forward capacity arcs → IsReached (node_count net) first arcs p e s q enter order place scanned ordered reached radius → IsHit (node_count net) first arcs p e s q place scanned bound f → (v : ℕ) → v < node_count net → q v <ℤ far → 0 < degree first v
@@ -382,7 +382,7 @@ one_each net first reverse forward capacity arcs p e s q enter order place scann
     elim (cases_eq v s) [
       | inl t ↦ subst (λ (i : ℕ). 0 < degree first i) (sym t) (elim (cases_eq h.start s) [
         | inl d ↦ own_degree first s f (subst (λ (i : ℕ). StartsAt first i f) d h.leaves)
-        | inr d ↦ source_degree (node_count net) first arcs p e s q enter order place scanned ordered reached radius (place h.start + 1) h.start r (omega arith) h.node h.labelled d
+        | inr d ↦ root_degree (node_count net) first arcs p e s q enter order place scanned ordered reached radius (place h.start + 1) h.start r (omega arith) h.node h.labelled d
       ])
       | inr ne ↦
           let x = r.entered v b m ne in
@@ -444,11 +444,11 @@ all_cleared n first arcs p e s q q' enter order place scanned ordered reached ra
     ]
 
 -- the potentials have moved and the labels are taken away, so units can be sent along the path
-pub can_augment : (net : NetworkModel) (r : Residual) (potential excess potential' : List ℤ) (visits visits' : List Visit) (source : ℕ) (t t' : Search) → IsReadyIn net r potential excess visits → source < node_count net → pos 0 <ℤ at_nodes excess source
+pub can_augment : (net : NetworkModel) (r : Residual) (potential excess potential' : List ℤ) (visits visits' : List Visit) (root : ℕ) (t t' : Search) → IsReadyIn net r potential excess visits → root < node_count net → pos 0 <ℤ at_nodes excess root
     → length t.visits.now ≡ length potential
     → IsGraph (length potential) r.first.items r.arcs.items
-    → IsReached (length potential) r.first.items r.arcs.items (at_nodes potential) (at_nodes excess) source (labels t) (enters t) (orders t) (places t) t.scanned t.ordered t.reached t.radius
-    → IsNearest (length potential) r.first.items r.arcs.items (at_nodes potential) (at_nodes excess) source (labels t) (places t) t.scanned t.radius t.bound t.found
+    → IsReached (length potential) r.first.items r.arcs.items (at_nodes potential) (at_nodes excess) root (labels t) (enters t) (orders t) (places t) t.scanned t.ordered t.reached t.radius
+    → IsNearest (length potential) r.first.items r.arcs.items (at_nodes potential) (at_nodes excess) root (labels t) (places t) t.scanned t.radius t.bound t.found
     → IsServed (length potential) r.first.items r.arcs.items (at_nodes potential) (labels t) (places t) t.bound t.scanned
     → IsLeft (length potential) (at_nodes potential) (labels t) (places t) t.scanned t.bound
     → t.bound <ℤ far
@@ -456,8 +456,8 @@ pub can_augment : (net : NetworkModel) (r : Residual) (potential excess potentia
     → ((v : ℕ) → ((j : ℕ) → j < t.scanned → orders t j ≢ v) → at_nodes potential' v ≡ at_nodes potential v)
     → length potential' ≡ length potential
     → IsCleared t t' → visits' ≡ t'.visits.now
-    → CanAugmentIn net r potential' excess visits' t'.found source
-can_augment net res potential excess potential' visits visits' source t t' r b over size g h near sv left hit moved others same q list =
+    → CanAugmentIn net r potential' excess visits' t'.found root
+can_augment net res potential excess potential' visits visits' root t t' r b over size g h near sv left hit moved others same q list =
     let n = r.potentials in
     let first = res.first.items in
     let arcs = res.arcs.items in
@@ -466,14 +466,14 @@ can_augment net res potential excess potential' visits visits' source t t' r b o
     let p' = at_nodes potential' in
     let x = at_nodes excess in
     let m = moved_to _ _ _ _ p' _ _ _ _ _ _ _ _ _ _ t.bound h moved others in
-    let re = subst (λ (k : ℕ). IsReached k first arcs p x source (labels t) (enters t) (orders t) (places t) t.scanned t.ordered t.reached t.radius) n h in
-    let nt = subst (λ (k : ℕ). IsNearest k first arcs p x source (labels t) (places t) t.scanned t.radius t.bound t.found) n near in
+    let re = subst (λ (k : ℕ). IsReached k first arcs p x root (labels t) (enters t) (orders t) (places t) t.scanned t.ordered t.reached t.radius) n h in
+    let nt = subst (λ (k : ℕ). IsNearest k first arcs p x root (labels t) (places t) t.scanned t.radius t.bound t.found) n near in
     let sn = subst (λ (k : ℕ). IsServed k first arcs p (labels t) (places t) t.bound t.scanned) n sv in
     let ln = subst (λ (k : ℕ). IsLeft k p (labels t) (places t) t.scanned t.bound) n left in
     let mn = subst (λ (k : ℕ). IsMovedTo k p p' (labels t) (places t) t.scanned t.bound) n m in
     let path = has_path _ _ _ _ p' _ _ _ _ _ _ _ _ _ _ _ t.found g h near hit m in
-    let way = subst (λ (k : ℕ). HasPath k first arcs p' (enters t) (places t) source t.found) n path in
-    let round = moved_round net first (reverse_at capacities) res.forward.items (capacity_at capacities) arcs p p' x source (labels t) (enters t) (orders t) (places t) t.scanned t.ordered t.reached t.radius t.bound t.found r.network r.residual.arcs_built r.residual.filled r.round re nt sn ln hit mn in
+    let way = subst (λ (k : ℕ). HasPath k first arcs p' (enters t) (places t) root t.found) n path in
+    let round = moved_round net first (reverse_at capacities) res.forward.items (capacity_at capacities) arcs p p' x root (labels t) (enters t) (orders t) (places t) t.scanned t.ordered t.reached t.radius t.bound t.found r.network r.residual.arcs_built r.residual.filled r.round re nt sn ln hit mn in
     record {
       ready = record {
         network = r.network;
@@ -485,7 +485,7 @@ can_augment net res potential excess potential' visits visits' source t t' r b o
         blank = λ v c. rw list (all_cleared _ _ _ _ _ _ _ (labels t') _ _ _ _ _ _ _ h q.cleared q.others v (omega arith));
       };
       path = rw (list, fun_ext q.enter, fun_ext q.place, q.found) way;
-      source = b;
+      root = b;
       left = over;
       wanting = rw q.found (near.hit hit).wanting;
     }

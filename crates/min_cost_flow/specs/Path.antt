@@ -21,11 +21,11 @@ pub record IsAfter (first : List ℕ) (arcs : List ResidualArc) (p : ℕ → ℤ
   pub step : IsTight first arcs p start k v
 
 -- residual arc `found` leads from node `last` to a node off the path, and each node of the path was
--- entered along `enter`, back to the source at place 0
-pub record HasPath (n : ℕ) (first : List ℕ) (arcs : List ResidualArc) (p : ℕ → ℤ) (enter place : ℕ → ℕ) (source found : ℕ) : Type 0 where
+-- entered along `enter`, back to the root at place 0
+pub record HasPath (n : ℕ) (first : List ℕ) (arcs : List ResidualArc) (p : ℕ → ℤ) (enter place : ℕ → ℕ) (root found : ℕ) : Type 0 where
   pub on : ℕ → Bool
   pub node : (v : ℕ) → on v ≡ true → v < n
-  pub root : (v : ℕ) → on v ≡ true → place v ≡ 0 → v ≡ source
+  pub root_is : (v : ℕ) → on v ≡ true → place v ≡ 0 → v ≡ root
   pub after : (v : ℕ) → on v ≡ true → 0 < place v → IsAfter first arcs p on place v (enter v)
   pub last : ℕ
   pub member : on last ≡ true

@@ -81,9 +81,9 @@ pub record IsAugmented (net : NetworkModel) (s s' : Solver) : Type 0 where
   pub carrying : carrying net (flow_in s') + s.looks ≤ carrying net (flow_in s) + s'.looks
 
 -- nothing is left over at a node any more, nor anew at any other
-pub record HasSentFrom (net : NetworkModel) (s s' : Solver) (source : ℕ) : Type 0 where
+pub record HasSentFrom (net : NetworkModel) (s s' : Solver) (root : ℕ) : Type 0 where
   pub under_way : IsUnderWay net s'
-  pub here : excess_at s' source ≤ℤ pos 0
+  pub here : excess_at s' root ≤ℤ pos 0
   pub done : (v : ℕ) → v < node_count net → excess_at s v ≤ℤ pos 0 → excess_at s' v ≤ℤ pos 0
 
 -- ---- one augmentation
@@ -97,7 +97,7 @@ last_node s = end_at s.residual.arcs.items (reverse_at s.residual.capacities.ite
 pub record CanAugmentIn (net : NetworkModel) (r : Residual) (potential excess : List ℤ) (visits : List Visit) (found from : ℕ) : Type 0 where
   pub ready : IsReadyIn net r potential excess visits
   pub path : HasPath (node_count net) r.first.items r.arcs.items (at_nodes potential) (enter_at visits) (place_at visits) from found
-  pub source : from < node_count net
+  pub root : from < node_count net
   pub left : pos 0 <ℤ at_nodes excess from
   pub wanting : at_nodes excess (end_at r.arcs.items found) <ℤ pos 0
 
@@ -111,17 +111,17 @@ pub record IsSentAlong (net : NetworkModel) (s s' : Solver) : Type 0 where
   pub carrying : carrying net (flow_in s') ≤ carrying net (flow_in s) + places_in s (last_node s) + 1
 
 -- so many units fit along the path, are left over where it starts, and are wanting where it ends
-pub record IsFitting (s : Solver) (source amount : ℕ) : Type 0 where
+pub record IsFitting (s : Solver) (root amount : ℕ) : Type 0 where
   pub found : amount ≤ capacity_at s.residual.capacities.items s.found
-  pub left : pos amount ≤ℤ excess_at s source
+  pub left : pos amount ≤ℤ excess_at s root
   pub short : (excess_at s (end_at s.residual.arcs.items s.found) +ℤ pos amount) ≤ℤ pos 0
   pub fits : (v : ℕ) → IsOnWay (previous_of s.residual.arcs.items s.residual.capacities.items (enters_in s)) (places_in s) (last_node s) v → 0 < places_in s v → amount ≤ room_into s.residual.capacities.items (enters_in s) v
 
 -- so many units can go along the path, and no more
-pub record IsBottleneck (s : Solver) (source amount : ℕ) : Type 0 where
+pub record IsBottleneck (s : Solver) (root amount : ℕ) : Type 0 where
   pub some : 0 < amount
-  pub fitting : IsFitting s source amount
-  pub most : (k : ℕ) → IsFitting s source k → k ≤ amount
+  pub fitting : IsFitting s root amount
+  pub most : (k : ℕ) → IsFitting s root k → k ≤ amount
 
 -- ---- one residual arc
 

@@ -15,16 +15,16 @@ use networks::{Residual, move_units};
 
 impl Solver {
     /// Augment: sends along the path as much as can go, at least one unit.
-    pub(crate) fn augment(&mut self, source: usize)
-        requires { (net : NetworkModel) × CanAugment net self.old source }
-        ensures sent { (net : NetworkModel) → CanAugment net self.old source → IsSentAlong net self.old self.new }
+    pub(crate) fn augment(&mut self, root: usize)
+        requires { (net : NetworkModel) × CanAugment net self.old root }
+        ensures sent { (net : NetworkModel) → CanAugment net self.old root → IsSentAlong net self.old self.new }
         ensures work { (self.new.searches ≡ self.old.searches) × (self.new.looks ≡ self.old.looks) }
     {
-        let amount = self.bottleneck(source);
+        let amount = self.bottleneck(root);
         let found = self.found;
         let target = u32::from(self.residual.arcs[found].end);
         let mut node = self.residual.start(found);
-        move_units(&mut self.nodes.excess, target, source as u32, amount);
+        move_units(&mut self.nodes.excess, target, root as u32, amount);
         push(&mut self.residual, found, amount);
         'along: while self.visits[node].place > 0 {
             let number = self.visits[node].enter as usize;
@@ -33,14 +33,14 @@ impl Solver {
         }
     }
 
-    /// How much can go along the path: as much as fits, is left over at the source and is wanting at the end.
-    fn bottleneck(&self, source: usize) -> u32
-        requires { (net : NetworkModel) × CanAugment net self.now source }
-        ensures { IsBottleneck self.now source result }
+    /// How much can go along the path: as much as fits, is left over at the root and is wanting at the end.
+    fn bottleneck(&self, root: usize) -> u32
+        requires { (net : NetworkModel) × CanAugment net self.now root }
+        ensures { IsBottleneck self.now root result }
     {
         let found = self.found;
         let target = usize::from(self.residual.arcs[found].end);
-        let most = most_between(&self.nodes.excess, source, target);
+        let most = most_between(&self.nodes.excess, root, target);
         let mut amount = most.min(self.residual.capacities[found].capacity);
         let mut node = self.residual.start(found);
         'narrow: while self.visits[node].place > 0 {
@@ -53,17 +53,17 @@ impl Solver {
 }
 
 /// How much can go from one node to another: as much as is left over at the one and wanting at the other.
-fn most_between(excess: &[i32], source: usize, target: usize) -> u32
-    requires source { source < length excess.now }
+fn most_between(excess: &[i32], root: usize, target: usize) -> u32
+    requires root { root < length excess.now }
     requires target { target < length excess.now }
-    requires left { pos 0 <ℤ at_nodes excess.now source }
+    requires left { pos 0 <ℤ at_nodes excess.now root }
     requires wanting { at_nodes excess.now target <ℤ pos 0 }
     ensures some { 0 < result }
-    ensures left { pos result ≤ℤ at_nodes excess.now source }
+    ensures left { pos result ≤ℤ at_nodes excess.now root }
     ensures wanting { (at_nodes excess.now target +ℤ pos result) ≤ℤ pos 0 }
-    ensures most { (k : ℕ) → pos k ≤ℤ at_nodes excess.now source → (at_nodes excess.now target +ℤ pos k) ≤ℤ pos 0 → k ≤ result }
+    ensures most { (k : ℕ) → pos k ≤ℤ at_nodes excess.now root → (at_nodes excess.now target +ℤ pos k) ≤ℤ pos 0 → k ≤ result }
 {
-    excess[source]
+    excess[root]
         .unsigned_abs()
         .min(excess[target].unsigned_abs())
 }

@@ -45,15 +45,15 @@ impl Solver {
     }
 
     /// Sends all that is left over at the one node where there is something.
-    fn resend(&mut self, source: usize) -> bool
+    fn resend(&mut self, root: usize) -> bool
         requires ready { (net : NetworkModel) × IsReady net self.old }
-        requires source { source < length self.old.nodes.excess.items }
-        requires others { (v : ℕ) → v < length self.old.nodes.excess.items → v ≢ source → excess_at self.old v ≤ℤ pos 0 }
+        requires root { root < length self.old.nodes.excess.items }
+        requires others { (v : ℕ) → v < length self.old.nodes.excess.items → v ≢ root → excess_at self.old v ≤ℤ pos 0 }
         ensures { (net : NetworkModel) → IsReady net self.old → IsAnswer net self.new result }
     {
-        'units: while self.nodes.excess[source] > 0 {
+        'units: while self.nodes.excess[root] > 0 {
             self.looks = 0;
-            if !self.augment_once(source) {
+            if !self.augment_once(root) {
                 return false;
             }
         }

@@ -99,8 +99,8 @@ impl Solver {
         ensures answer { IsAnswer network.now self.new result }
     {
         self.initialise(network);
-        for source in 0..self.nodes.excess.len() {
-            if !self.send_all_from(source) {
+        for root in 0..self.nodes.excess.len() {
+            if !self.send_all_from(root) {
                 return false;
             }
         }
@@ -122,14 +122,14 @@ impl Solver {
     }
 
     /// Sends all that is left over at a node to where it is wanting; whether that can be done.
-    fn send_all_from(&mut self, source: usize) -> bool
+    fn send_all_from(&mut self, root: usize) -> bool
         requires under_way { (net : NetworkModel) × IsUnderWay net self.old }
-        requires source { source < length self.old.nodes.excess.items }
-        ensures sent { result ≡ true → (net : NetworkModel) → IsUnderWay net self.old → HasSentFrom net self.old self.new source }
+        requires root { root < length self.old.nodes.excess.items }
+        ensures sent { result ≡ true → (net : NetworkModel) → IsUnderWay net self.old → HasSentFrom net self.old self.new root }
         ensures no_flow { result ≡ false → (net : NetworkModel) → IsUnderWay net self.old → HasNoFlow net }
     {
-        'units: while self.nodes.excess[source] > 0 {
-            if !self.augment_once(source) {
+        'units: while self.nodes.excess[root] > 0 {
+            if !self.augment_once(root) {
                 return false;
             }
             self.searches += 1;
@@ -139,10 +139,10 @@ impl Solver {
 
     /// Searches for a shortest path from a node where units are left over to one where units are wanting, updates
     /// the potentials and augments along it; whether there is one.
-    pub(crate) fn augment_once(&mut self, source: usize) -> bool
+    pub(crate) fn augment_once(&mut self, root: usize) -> bool
         requires ready { (net : NetworkModel) × IsReady net self.old }
-        requires source { source < length self.old.nodes.excess.items }
-        requires left { pos 0 <ℤ excess_at self.old source }
+        requires root { root < length self.old.nodes.excess.items }
+        requires left { pos 0 <ℤ excess_at self.old root }
         requires few { self.old.looks < 2 ^ 61 }
         ensures augmented { result ≡ true → (net : NetworkModel) → IsReady net self.old → IsAugmented net self.old self.new }
         ensures no_flow { result ≡ false → (net : NetworkModel) → IsReady net self.old → HasNoFlow net }
@@ -153,13 +153,13 @@ impl Solver {
             &self.residual,
             &mut self.nodes,
             &mut self.visits,
-            source,
+            root,
             &mut self.looks,
         ) else {
             return false;
         };
         self.found = found;
-        self.augment(source);
+        self.augment(root);
         true
     }
 }
@@ -171,14 +171,14 @@ pub(crate) fn find_path(
     residual: &Residual,
     nodes: &mut Nodes,
     visits: &mut [Visit],
-    source: usize,
+    root: usize,
     looks: &mut u64,
 ) -> Option<usize>
     requires ready { (net : NetworkModel) × IsReadyIn net residual.now nodes.old.potential.items nodes.old.excess.items visits.old }
-    requires source { source < length nodes.old.excess.items }
-    requires left { pos 0 <ℤ at_nodes nodes.old.excess.items source }
+    requires root { root < length nodes.old.excess.items }
+    requires left { pos 0 <ℤ at_nodes nodes.old.excess.items root }
     requires few { looks.old < 2 ^ 61 }
-    ensures found { IfSome result (λ found. (net : NetworkModel) → IsReadyIn net residual.now nodes.old.potential.items nodes.old.excess.items visits.old → CanAugmentIn net residual.now nodes.new.potential.items nodes.new.excess.items visits.new found source) }
+    ensures found { IfSome result (λ found. (net : NetworkModel) → IsReadyIn net residual.now nodes.old.potential.items nodes.old.excess.items visits.old → CanAugmentIn net residual.now nodes.new.potential.items nodes.new.excess.items visits.new found root) }
     ensures short { IfSome result (λ found. looks.old + place_at visits.new (end_at residual.now.arcs.items (reverse_at residual.now.capacities.items found)) + 1 ≤ looks.new) }
     ensures no_flow { IfNone result ((net : NetworkModel) → IsReadyIn net residual.now nodes.old.potential.items nodes.old.excess.items visits.old → HasNoFlow net) }
     ensures excess { nodes.new.excess ≡ nodes.old.excess }
@@ -190,7 +190,7 @@ pub(crate) fn find_path(
         potential: &nodes.potential,
         excess: &nodes.excess,
         score: &nodes.score,
-        source,
+        root,
     };
     let mut search = Search::run(input, visits, looks);
     if search.bound == FAR as i32 {

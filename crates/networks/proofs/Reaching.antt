@@ -134,7 +134,7 @@ relabelled n first arcs p e s q q' enter enter' order place scanned ordered reac
           | inl t ↦ subst (λ (t : ℕ). IsNear (p s) scanned (q' t)) (sym t) (subst (λ (z : ℤ). IsNear (p s) scanned z) (sym put.here) o.near)
           | inr ne ↦ subst (λ (z : ℤ). IsNear (p s) scanned z) (sym (put.others w ne)) (r.near w c (was w c m))
         ];
-        source = (r.source.0, now s r.source.0 r.source.1, r.source.2);
+        root = (r.root.0, now s r.root.0 r.root.1, r.root.2);
         plain = λ w c m. elim (cases_eq w v) [
           | inl t ↦ subst (λ (t : ℕ). pos 0 ≤ℤ e t) (sym t) fair
           | inr ne ↦ r.plain w c (was w c m)
@@ -199,7 +199,7 @@ enlisted n first arcs p e s q q' enter enter' order order' place place' scanned 
           | inl t ↦ subst (λ (t : ℕ). IsNear (p s) scanned (q' t)) (sym t) (subst (λ (z : ℤ). IsNear (p s) scanned z) (sym put.here) o.near)
           | inr ne ↦ subst (λ (z : ℤ). IsNear (p s) scanned z) (sym (put.others w ne)) (r.near w c (was w ne m))
         ];
-        source = (r.source.0, rw (put.others s (fresh s r.source.1)) r.source.1, placed.others s (fresh s r.source.1) ∙ r.source.2);
+        root = (r.root.0, rw (put.others s (fresh s r.root.1)) r.root.1, placed.others s (fresh s r.root.1) ∙ r.root.2);
         plain = λ w c m. elim (cases_eq w v) [
           | inl t ↦ subst (λ (t : ℕ). pos 0 ≤ℤ e t) (sym t) fair
           | inr ne ↦ r.plain w c (was w ne m)
@@ -250,7 +250,7 @@ swapped n first arcs p e s q enter order order' place place' scanned ordered rea
       );
     } in
     let begun : 0 < ordered = r.begun in
-    let s_at : place s ≡ 0 = r.source.2 in
+    let s_at : place s ≡ 0 = r.root.2 in
     let s_v : s ≢ v = λ t. let e : place s ≡ place v = ap place t in omega arith in
     let s_o : s ≢ o = λ t. let e : place s ≡ place o = ap place t in omega arith in (
       record {
@@ -305,7 +305,7 @@ swapped n first arcs p e s q enter order order' place place' scanned ordered rea
           ]
         ];
         near = r.near;
-        source = (r.source.0, r.source.1, sw.stay s s_v s_o ∙ s_at);
+        root = (r.root.0, r.root.1, sw.stay s s_v s_o ∙ s_at);
         plain = r.plain;
         entered = λ w c m ne. kept_entered n first arcs q q place place' scanned w (enter w) (r.entered w c m ne) refl kept (
             elim (cases_eq w v) [
@@ -346,7 +346,7 @@ headed n first arcs p e s q enter order place scanned ordered reached radius r m
   under = r.under;
   here = λ w c m h. r.here w c m (omega arith);
   near = λ w c m. near_more (p s) scanned (q w) (r.near w c m);
-  source = r.source;
+  root = r.root;
   plain = r.plain;
   entered = λ w c m ne. entered_more n first arcs q place scanned w (enter w) (r.entered w c m ne);
 }
@@ -385,7 +385,7 @@ climbed n first arcs p e s q enter order place scanned ordered reached radius to
   under = λ w c m h. under_radius (q w -ℤ p w) radius to (r.under w c m h) rises;
   here = λ w c m h. let (b, back) = r.listed w c m in subst (λ (i : ℕ). to ≤ℤ (q i -ℤ p i)) back (least (place w) (omega arith) b);
   near = r.near;
-  source = r.source;
+  root = r.root;
   plain = r.plain;
   entered = r.entered;
 }
@@ -523,7 +523,7 @@ potential_fits n pv small (c, d) = (omega (arith, ints), omega (arith, ints))
 pub offer_fits : (n : ℕ) (first : List ℕ) (arcs : List ResidualArc) (p e : ℕ → ℤ) (s : ℕ) (q : ℕ → ℤ) (enter order place : ℕ → ℕ) (scanned ordered reached : ℕ) (radius : ℤ) (k v : ℕ) (x : ℤ) → IsGraph n first arcs → AreFeasiblePotentials n first arcs p e → IsReached n first arcs p e s q enter order place scanned ordered reached radius → IsOffer n first arcs p s q place scanned radius k v x → IsWithinFar x
 offer_fits n first arcs p e s q enter order place scanned ordered reached radius k v x g pr r o =
     let le : scanned ≤ n = omega (arith, r.counts) in
-    label_fits n scanned (p s) x g.nodes le o.near (pr.low s r.source.0)
+    label_fits n scanned (p s) x g.nodes le o.near (pr.low s r.root.0)
 
 pub potential_fits_at : (n : ℕ) (first : List ℕ) (arcs : List ResidualArc) (p e : ℕ → ℤ) (v : ℕ) → IsGraph n first arcs → AreFeasiblePotentials n first arcs p e → v < n → IsWithinFar (p v)
 potential_fits_at n first arcs p e v g pr b = potential_fits n (p v) g.nodes (pr.low v b)
@@ -531,7 +531,7 @@ potential_fits_at n first arcs p e v g pr b = potential_fits n (p v) g.nodes (pr
 pub reached_fits : (n : ℕ) (first : List ℕ) (arcs : List ResidualArc) (p e : ℕ → ℤ) (s : ℕ) (q : ℕ → ℤ) (enter order place : ℕ → ℕ) (scanned ordered reached : ℕ) (radius : ℤ) (v : ℕ) → IsGraph n first arcs → AreFeasiblePotentials n first arcs p e → IsReached n first arcs p e s q enter order place scanned ordered reached radius → v < n → q v <ℤ far → IsWithinFar (q v)
 reached_fits n first arcs p e s q enter order place scanned ordered reached radius v g pr r b l =
     let le : scanned ≤ n = omega (arith, r.counts) in
-    label_fits n scanned (p s) (q v) g.nodes le (r.near v b l) (pr.low s r.source.0)
+    label_fits n scanned (p s) (q v) g.nodes le (r.near v b l) (pr.low s r.root.0)
 
 -- where an offer ends is a node, and its number is one of a residual arc
 pub offer_end : (n : ℕ) (first : List ℕ) (arcs : List ResidualArc) (p : ℕ → ℤ) (s : ℕ) (q : ℕ → ℤ) (place : ℕ → ℕ) (scanned : ℕ) (radius : ℤ) (k v : ℕ) (x : ℤ) → IsGraph n first arcs → IsOffer n first arcs p s q place scanned radius k v x → v < n
@@ -575,7 +575,7 @@ pub offer_made : (n : ℕ) (first : List ℕ) (arcs : List ResidualArc) (p e : �
 offer_made n first arcs p e s q enter order place scanned ordered reached radius u k v x g pr r ub lu at near high st ends sum less =
     let le : place u ≤ n = omega (arith, r.counts) in
     let here : x <ℤ q (end_at arcs k) = subst (λ (i : ℕ). x <ℤ q i) ends less in
-    let o = is_open n first arcs p e s q u k (place u) x g pr r.source.0 ub le near st sum here (r.most (end_at arcs k) (g.end u k ub st)) in
+    let o = is_open n first arcs p e s q u k (place u) x g pr r.root.0 ub le near st sum here (r.most (end_at arcs k) (g.end u k ub st)) in
     let close : IsNear (p s) (place u + 1) x = near_step (p s) (q u) (cost_at arcs k) x (place u) near o.0 o.1 sum in
     record {
       start = u;
@@ -647,7 +647,7 @@ looked_more first order order' h same =
     let last : degree first (order' h) ≡ degree first (order h) = ap (degree first) (same h (omega arith)) in
     omega arith
 
--- ---- the source alone
+-- ---- the root alone
 
 no_distance : (a p : ℤ) → a ≡ p → ((a -ℤ p) ≤ℤ pos 0) × (pos 0 ≤ℤ (a -ℤ p))
 no_distance a p h = (omega (arith, ints), omega (arith, ints))
@@ -664,8 +664,8 @@ more_than_none e h = omega (arith, ints)
 less_far : (a : ℤ) → a <ℤ far → a ≤ℤ far
 less_far a h = omega (arith, ints)
 
-pub source_reached : (n : ℕ) (first : List ℕ) (arcs : List ResidualArc) (p e : ℕ → ℤ) (s : ℕ) (q q' : ℕ → ℤ) (enter order place : ℕ → ℕ) → n ≤ MAX_NODES → s < n → p s ≤ℤ pos (2 * n) → pos 0 <ℤ e s → ((v : ℕ) → v < n → q v ≡ far) → IsPut q q' s (p s) → order 0 ≡ s → place s ≡ 0 → IsReached n first arcs p e s q' enter order place 0 1 1 (pos 0)
-source_reached n first arcs p e s q q' enter order place small sb low left blank put oat pat =
+pub root_reached : (n : ℕ) (first : List ℕ) (arcs : List ResidualArc) (p e : ℕ → ℤ) (s : ℕ) (q q' : ℕ → ℤ) (enter order place : ℕ → ℕ) → n ≤ MAX_NODES → s < n → p s ≤ℤ pos (2 * n) → pos 0 <ℤ e s → ((v : ℕ) → v < n → q v ≡ far) → IsPut q q' s (p s) → order 0 ≡ s → place s ≡ 0 → IsReached n first arcs p e s q' enter order place 0 1 1 (pos 0)
+root_reached n first arcs p e s q q' enter order place small sb low left blank put oat pat =
     let ls : q' s <ℤ far = subst (λ (z : ℤ). z <ℤ far) (sym put.here) (low_near (p s) n small low) in
     let only : (w : ℕ) → w < n → q' w <ℤ far → w ≡ s = λ w b l. elim (cases_eq w s) [
       | inl t ↦ t
@@ -686,7 +686,7 @@ source_reached n first arcs p e s q q' enter order place small sb low left blank
       under = λ w b l h. subst (λ (i : ℕ). (q' i -ℤ p i) ≤ℤ pos 0) (sym (only w b l)) (no_distance (q' s) (p s) put.here).0;
       here = λ w b l h. subst (λ (i : ℕ). pos 0 ≤ℤ (q' i -ℤ p i)) (sym (only w b l)) (no_distance (q' s) (p s) put.here).1;
       near = λ w b l. subst (λ (i : ℕ). IsNear (p s) 0 (q' i)) (sym (only w b l)) (near_self (q' s) (p s) put.here);
-      source = (sb, ls, pat);
+      root = (sb, ls, pat);
       plain = λ w b l. subst (λ (i : ℕ). pos 0 ≤ℤ e i) (sym (only w b l)) (more_than_none (e s) left);
       entered = λ w b l ne. absurd (ne (only w b l));
     }

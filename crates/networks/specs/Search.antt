@@ -74,7 +74,7 @@ pub record IsReached (n : ℕ) (first : List ℕ) (arcs : List ResidualArc) (p e
   pub under : (v : ℕ) → v < n → q v <ℤ far → place v < ordered → (q v -ℤ p v) ≤ℤ radius
   pub here : (v : ℕ) → v < n → q v <ℤ far → scanned ≤ place v → radius ≤ℤ (q v -ℤ p v)
   pub near : (v : ℕ) → v < n → q v <ℤ far → IsNear (p s) scanned (q v)
-  pub source : (s < n) × (q s <ℤ far) × (place s ≡ 0)
+  pub root : (s < n) × (q s <ℤ far) × (place s ≡ 0)
   pub plain : (v : ℕ) → v < n → q v <ℤ far → pos 0 ≤ℤ e v
   pub entered : (v : ℕ) → v < n → q v <ℤ far → v ≢ s → IsEntered n first arcs q place scanned v (enter v)
 
@@ -178,20 +178,20 @@ pub record IsSearchInput (g : SearchInput) : Type 0 where
   pub excesses : length g.excess.now ≡ nodes_of g
   pub graph : IsGraph (nodes_of g) (first_of g) (arcs_of g)
   pub priced : AreFeasiblePotentials (nodes_of g) (first_of g) (arcs_of g) (potential_of g) (excess_of g)
-  pub source : g.source < nodes_of g
+  pub root : g.root < nodes_of g
 
--- a search can begin: units are left over at the source, and no node has a label
+-- a search can begin: units are left over at the root, and no node has a label
 pub record IsBlank (g : SearchInput) (visits : List Visit) : Type 0 where
   pub input : IsSearchInput g
   pub size : length visits ≡ nodes_of g
   pub blank : (v : ℕ) → v < nodes_of g → label_at visits v ≡ far
-  pub source : pos 0 <ℤ excess_of g g.source
+  pub root : pos 0 <ℤ excess_of g g.root
 
 abbrev pub Reaches : SearchInput → Search → Type 0
-Reaches g s = IsReached (nodes_of g) (first_of g) (arcs_of g) (potential_of g) (excess_of g) g.source (labels s) (enters s) (orders s) (places s) s.scanned s.ordered s.reached s.radius
+Reaches g s = IsReached (nodes_of g) (first_of g) (arcs_of g) (potential_of g) (excess_of g) g.root (labels s) (enters s) (orders s) (places s) s.scanned s.ordered s.reached s.radius
 
 abbrev pub FindsNearest : SearchInput → Search → Type 0
-FindsNearest g s = IsNearest (nodes_of g) (first_of g) (arcs_of g) (potential_of g) (excess_of g) g.source (labels s) (places s) s.scanned s.radius s.bound s.found
+FindsNearest g s = IsNearest (nodes_of g) (first_of g) (arcs_of g) (potential_of g) (excess_of g) g.root (labels s) (places s) s.scanned s.radius s.bound s.found
 
 -- what holds all through a search
 pub record IsSearch (g : SearchInput) (s : Search) : Type 0 where
@@ -240,7 +240,7 @@ pub record IsScanning (g : SearchInput) (s : Search) (u : ℕ) : Type 0 where
   pub node : u < nodes_of g
   pub labelled : labels s u <ℤ far
   pub place : places s u + 1 ≡ s.scanned
-  pub near : IsNear (potential_of g g.source) (places s u) (labels s u)
+  pub near : IsNear (potential_of g g.root) (places s u) (labels s u)
   pub radius : s.radius ≤ℤ (labels s u -ℤ potential_of g u)
 
 -- a residual arc of the scanned node was taken up: labels and the bound may have fallen
@@ -306,7 +306,7 @@ pub record IsOffer (n : ℕ) (first : List ℕ) (arcs : List ResidualArc) (p : �
 -- the step is such an offer in a search
 pub record IsOffered (g : SearchInput) (s : Search) (step : Step) : Type 0 where
   pub search : IsSearch g s
-  pub offer : IsOffer (nodes_of g) (first_of g) (arcs_of g) (potential_of g) g.source (labels s) (places s) s.scanned s.radius step.number step.end step.label
+  pub offer : IsOffer (nodes_of g) (first_of g) (arcs_of g) (potential_of g) g.root (labels s) (places s) s.scanned s.radius step.number step.end step.label
 
 -- the step ends at a node of the search
 pub record HasEnd (s : Search) (step : Step) : Type 0 where

@@ -1,5 +1,5 @@
 //! The search for the nearest node where units are wanting: Dijkstra's algorithm (1959) by reduced costs, which are
-//! at least 0 (Ahuja, Magnanti and Orlin, Network Flows, 1993, section 9.7), from one source, by growing distance.
+//! at least 0 (Ahuja, Magnanti and Orlin, Network Flows, 1993, section 9.7), from one root, by growing distance.
 //!
 //! Networks have at most 1,024 nodes and 8,192 residual arcs of cost -1 to 1, so distances are small whole numbers.
 //! Each residual arc is looked at once at most. Beside that the nodes that wait are gone over at each step of the radius.
@@ -11,14 +11,14 @@ use crate::reach::distance;
 use crate::state::{FAR, Search, SearchInput, Step, Visit};
 
 impl<'a> Search<'a> {
-    /// Labels the nodes round a source, in order of their distance by reduced costs, up to the nearest one
+    /// Labels the nodes round a root, in order of their distance by reduced costs, up to the nearest one
     /// where units are wanting.
     ///
     /// Then `bound` is the distance of that node, and `found` the last residual arc on the way there;
-    /// where open residual arcs lead to no such node, `bound` is `FAR`. A node's label is the source's
+    /// where open residual arcs lead to no such node, `bound` is `FAR`. A node's label is the root's
     /// potential and the costs of the residual arcs on the way; less its own potential it is its distance.
     /// Each node that was reached has the residual arc on which it was entered, and a place in the order,
-    /// the source the first. Those at its first `scanned` places were scanned, and the others that were reached
+    /// the root the first. Those at its first `scanned` places were scanned, and the others that were reached
     /// are no nearer than `bound`.
     ///
     /// It looks at each residual arc once at most, and takes no memory. Beside that it goes over the nodes
@@ -40,7 +40,7 @@ impl<'a> Search<'a> {
         search
     }
 
-    /// One that has labelled the source alone.
+    /// One that has labelled the root alone.
     fn begin(input: SearchInput<'_>, visits: &'a mut [Visit]) -> Search<'a>
         requires blank { IsBlank input visits.old }
         ensures search { IsSearch input.entry result }
@@ -58,10 +58,10 @@ impl<'a> Search<'a> {
         };
         search.relabel(Step {
             number: 0,
-            end: input.source,
-            label: input.potential[input.source] as i16,
+            end: input.root,
+            label: input.potential[input.root] as i16,
         });
-        search.put(0, input.source);
+        search.put(0, input.root);
         search
     }
 

@@ -130,7 +130,7 @@ fn score_of(input: SearchInput<'_>, number: usize) -> i32 {
     input.score.get(end).copied().unwrap_or(0)
 }
 
-/// How far a node is from the source by reduced costs.
+/// How far a node is from the root by reduced costs.
 pub(crate) fn distance(label: i16, potential: i32) -> i32
     requires label { IsWithinFar label }
     requires potential { IsWithinFar potential }

@@ -16,14 +16,14 @@ pub struct SearchInput<'a> {
     pub excess: &'a [i32],
     /// Of nodes that are found at the same distance the one with the least score is taken.
     pub score: &'a [i32],
-    pub source: usize,
+    pub root: usize,
 }
 
 /// What a search knows of a node; and what stands at the place of the same number in the order of the nodes that
 /// were reached: first those that were scanned, then those at the radius, then those further off.
 #[derive(Clone, Copy)]
 pub struct Visit {
-    /// The source's potential and the costs of the residual arcs on the way to the node, or `FAR`.
+    /// The root's potential and the costs of the residual arcs on the way to the node, or `FAR`.
     pub label: i16,
     /// The residual arc on which the node was entered.
     pub enter: u16,

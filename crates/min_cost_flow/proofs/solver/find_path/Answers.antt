@@ -28,11 +28,11 @@ run-search-requires-clause-blank c =
         excesses = r.excesses ∙ sym n;
         graph = subst (λ (t : ℕ). IsGraph t first arcs) (sym n) g;
         priced = subst (λ (t : ℕ). AreFeasiblePotentials t first arcs p e) (sym n) pr;
-        source = omega (arith, c.requires.source, r.excesses, n);
+        root = omega (arith, c.requires.root, r.excesses, n);
       };
       size = r.labels ∙ sym n;
       blank = λ v b. r.blank v (omega arith);
-      source = c.requires.left;
+      root = c.requires.left;
     })
 
 pub returns-then-search-clause-no_flow : goal.returns-then-search-clause-no_flow
@@ -47,14 +47,14 @@ returns-then-search-clause-no_flow c net r =
     let exc = c.args.nodes.now.excess.items in
     let p = at_nodes pot in
     let x = at_nodes exc in
-    let re0 : IsReached (length pot) first arcs p x c.args.source (labels t) (enters t) (orders t) (places t) t.scanned t.ordered t.reached t.radius = rw (c.deref.ensures.value, c.deref-2.ensures.value, c.deref-3.ensures.value, c.deref-4.ensures.value) at h.reached in
+    let re0 : IsReached (length pot) first arcs p x c.args.root (labels t) (enters t) (orders t) (places t) t.scanned t.ordered t.reached t.radius = rw (c.deref.ensures.value, c.deref-2.ensures.value, c.deref-3.ensures.value, c.deref-4.ensures.value) at h.reached in
     let sv0 : IsServed (length pot) first arcs p (labels t) (places t) t.bound t.scanned = rw (c.deref.ensures.value, c.deref-2.ensures.value, c.deref-3.ensures.value) at f.served in
     let left0 : IsLeft (length pot) p (labels t) (places t) t.scanned t.bound = rw c.deref-3.ensures.value at f.left in
     let n = r.potentials in
     let fc : SFits w32 t.bound = search rules in
     let ff : SFits w32 far = search rules in
     let bound : t.bound ≡ far = same_from_bits _ _ fc ff c.if-search.true in
-    let re = subst (λ (k : ℕ). IsReached k first arcs p x c.args.source (labels t) (enters t) (orders t) (places t) t.scanned t.ordered t.reached t.radius) n re0 in
+    let re = subst (λ (k : ℕ). IsReached k first arcs p x c.args.root (labels t) (enters t) (orders t) (places t) t.scanned t.ordered t.reached t.radius) n re0 in
     let sv = subst (λ (k : ℕ). IsServed k first arcs p (labels t) (places t) t.bound t.scanned) n sv0 in
     let left = subst (λ (k : ℕ). IsLeft k p (labels t) (places t) t.scanned t.bound) n left0 in
     nothing_found _ _ _ _ _ _ _ _ _ _ _ _ _ _ _ _ _ _ r.network r.residual.arcs_built r.residual.filled r.round re sv left bound c.requires.left
@@ -73,12 +73,12 @@ update_potentials-requires c =
     let exc = c.args.nodes.now.excess.items in
     let p = at_nodes pot in
     let x = at_nodes exc in
-    let re0 : IsReached (length pot) first arcs p x c.args.source (labels t) (enters t) (orders t) (places t) t.scanned t.ordered t.reached t.radius = rw (c.deref.ensures.value, c.deref-2.ensures.value, c.deref-3.ensures.value, c.deref-4.ensures.value) at h.reached in
-    let near0 : IsNearest (length pot) first arcs p x c.args.source (labels t) (places t) t.scanned t.radius t.bound t.found = rw (c.deref.ensures.value, c.deref-2.ensures.value, c.deref-3.ensures.value, c.deref-4.ensures.value) at h.nearest in
+    let re0 : IsReached (length pot) first arcs p x c.args.root (labels t) (enters t) (orders t) (places t) t.scanned t.ordered t.reached t.radius = rw (c.deref.ensures.value, c.deref-2.ensures.value, c.deref-3.ensures.value, c.deref-4.ensures.value) at h.reached in
+    let near0 : IsNearest (length pot) first arcs p x c.args.root (labels t) (places t) t.scanned t.radius t.bound t.found = rw (c.deref.ensures.value, c.deref-2.ensures.value, c.deref-3.ensures.value, c.deref-4.ensures.value) at h.nearest in
     let g0 : IsGraph (length pot) first arcs = rw (c.deref.ensures.value, c.deref-2.ensures.value, c.deref-3.ensures.value) at h.input.graph in
     let hit : t.bound <ℤ far = strictly _ _ near0.most (λ q. c.if-search.false (ap (of_z w32) q)) in
     let pr0 = rw (c.deref.ensures.value, c.deref-2.ensures.value, c.deref-3.ensures.value, c.deref-4.ensures.value) at h.input.priced in
-    let b : c.args.source < node_count net = omega (arith, c.requires.source, r.excesses) in
+    let b : c.args.root < node_count net = omega (arith, c.requires.root, r.excesses) in
     let size : length t.visits.now ≡ length pot = rw c.deref-3.ensures.value at h.size in
     let le : t.scanned ≤ node_count net = omega (arith, re0.counts, r.potentials) in
     rw c.deref_mut.ensures.value (record {
@@ -87,7 +87,7 @@ update_potentials-requires c =
       are_scanned = λ j b. re0.node j (omega (arith, re0.counts));
       sizes = size;
       labels = λ j b. reached_fits _ _ _ _ _ _ _ _ _ _ _ _ _ _ (orders t j) g0 pr0 re0 (re0.node j (omega (arith, re0.counts))) (re0.has_label j (omega (arith, re0.counts)));
-      bound = label_bounds _ t.scanned (p c.args.source) t.bound r.network.small.0 le (near0.hit hit).near (r.round.low c.args.source b);
+      bound = label_bounds _ t.scanned (p c.args.root) t.bound r.network.small.0 le (near0.hit hit).near (r.round.low c.args.root b);
     })
 
 pub clear-requires : goal.clear-requires
@@ -111,8 +111,8 @@ returns-clause-found c net r =
     let exc = c.args.nodes.now.excess.items in
     let p = at_nodes pot in
     let x = at_nodes exc in
-    let re0 : IsReached (length pot) first arcs p x c.args.source (labels t) (enters t) (orders t) (places t) t.scanned t.ordered t.reached t.radius = rw (c.deref.ensures.value, c.deref-2.ensures.value, c.deref-3.ensures.value, c.deref-4.ensures.value) at h.reached in
-    let near0 : IsNearest (length pot) first arcs p x c.args.source (labels t) (places t) t.scanned t.radius t.bound t.found = rw (c.deref.ensures.value, c.deref-2.ensures.value, c.deref-3.ensures.value, c.deref-4.ensures.value) at h.nearest in
+    let re0 : IsReached (length pot) first arcs p x c.args.root (labels t) (enters t) (orders t) (places t) t.scanned t.ordered t.reached t.radius = rw (c.deref.ensures.value, c.deref-2.ensures.value, c.deref-3.ensures.value, c.deref-4.ensures.value) at h.reached in
+    let near0 : IsNearest (length pot) first arcs p x c.args.root (labels t) (places t) t.scanned t.radius t.bound t.found = rw (c.deref.ensures.value, c.deref-2.ensures.value, c.deref-3.ensures.value, c.deref-4.ensures.value) at h.nearest in
     let g0 : IsGraph (length pot) first arcs = rw (c.deref.ensures.value, c.deref-2.ensures.value, c.deref-3.ensures.value) at h.input.graph in
     let sv0 : IsServed (length pot) first arcs p (labels t) (places t) t.bound t.scanned = rw (c.deref.ensures.value, c.deref-2.ensures.value, c.deref-3.ensures.value) at f.served in
     let left0 : IsLeft (length pot) p (labels t) (places t) t.scanned t.bound = rw c.deref-3.ensures.value at f.left in
@@ -120,12 +120,12 @@ returns-clause-found c net r =
     let up = c.update_potentials.ensures in
     let old = c.args.nodes.now.potential in
     let new = c.update_potentials.new.potential in
-    let b : c.args.source < node_count net = omega (arith, c.requires.source, r.excesses) in
+    let b : c.args.root < node_count net = omega (arith, c.requires.root, r.excesses) in
     let size : length t.visits.now ≡ length pot = rw c.deref-3.ensures.value at h.size in
     let same : length new ≡ length pot = rw c.deref_mut.ensures.value at up.size in
     let is = with_items_is old new (omega (arith, same)) in
     let others = rw c.deref_mut.ensures.value at up.others in
-    rw is (can_augment net res pot exc new c.args.visits.now _ c.args.source t c.clear.new.search r b c.requires.left size g0 re0 near0 sv0 left0 hit up.moved others same c.clear.ensures.cleared (search (rules, f.list, c.clear.ensures.list)))
+    rw is (can_augment net res pot exc new c.args.visits.now _ c.args.root t c.clear.new.search r b c.requires.left size g0 re0 near0 sv0 left0 hit up.moved others same c.clear.ensures.cleared (search (rules, f.list, c.clear.ensures.list)))
 
 pub returns-clause-short : goal.returns-clause-short
 returns-clause-short c =
@@ -141,13 +141,13 @@ returns-clause-short c =
     let exc = c.args.nodes.now.excess.items in
     let p = at_nodes pot in
     let x = at_nodes exc in
-    let re0 : IsReached (length pot) first arcs p x c.args.source (labels t) (enters t) (orders t) (places t) t.scanned t.ordered t.reached t.radius = rw (c.deref.ensures.value, c.deref-2.ensures.value, c.deref-3.ensures.value, c.deref-4.ensures.value) at h.reached in
-    let near0 : IsNearest (length pot) first arcs p x c.args.source (labels t) (places t) t.scanned t.radius t.bound t.found = rw (c.deref.ensures.value, c.deref-2.ensures.value, c.deref-3.ensures.value, c.deref-4.ensures.value) at h.nearest in
+    let re0 : IsReached (length pot) first arcs p x c.args.root (labels t) (enters t) (orders t) (places t) t.scanned t.ordered t.reached t.radius = rw (c.deref.ensures.value, c.deref-2.ensures.value, c.deref-3.ensures.value, c.deref-4.ensures.value) at h.reached in
+    let near0 : IsNearest (length pot) first arcs p x c.args.root (labels t) (places t) t.scanned t.radius t.bound t.found = rw (c.deref.ensures.value, c.deref-2.ensures.value, c.deref-3.ensures.value, c.deref-4.ensures.value) at h.nearest in
     let hit : t.bound <ℤ far = strictly _ _ near0.most (λ q. c.if-search.false (ap (of_z w32) q)) in
     let n = r.potentials in
     let q = c.clear.ensures.cleared in
-    let re = subst (λ (k : ℕ). IsReached k first arcs p x c.args.source (labels t) (enters t) (orders t) (places t) t.scanned t.ordered t.reached t.radius) n re0 in
-    let near = subst (λ (k : ℕ). IsNearest k first arcs p x c.args.source (labels t) (places t) t.scanned t.radius t.bound t.found) n near0 in
+    let re = subst (λ (k : ℕ). IsReached k first arcs p x c.args.root (labels t) (enters t) (orders t) (places t) t.scanned t.ordered t.reached t.radius) n re0 in
+    let near = subst (λ (k : ℕ). IsNearest k first arcs p x c.args.root (labels t) (places t) t.scanned t.radius t.bound t.found) n near0 in
     let short = path_looks _ _ _ _ _ _ _ _ _ _ _ _ _ _ _ _ _ _ _ r.residual.arcs_built r.residual.filled re (near.hit hit) in
     let looks = rw c.deref.ensures.value at f.looks in
     short_path _ t c.clear.new.search arcs (reverse_at res.capacities.items) first c.args.looks.now c.run-search.new.looks q (search (rules, f.list, c.clear.ensures.list)) short looks

@@ -29,28 +29,28 @@ raised_here es v k b = get_or-set_same es v (at_nodes es v +ℤ pos k) (pos 0) b
 raised_others : (es : List ℤ) (v k w : ℕ) → w ≢ v → at_nodes (raised es v k) w ≡ at_nodes es w
 raised_others es v k w ne = get_or-set_other es v w (at_nodes es v +ℤ pos k) (pos 0) ne
 
--- so much has been sent from the source to the end of the path
-own_sent : (net : NetworkModel) (s : Solver) (source k : ℕ) (capacity : ℕ → ℕ) (arcs : List ResidualArc) → (h : CanAugment net s source) → IsBottleneck s source k → AreResidualArcs net (reverse_at s.residual.capacities.items) s.residual.forward.items capacity arcs → Carries net (carried (reverse_at s.residual.capacities.items) s.residual.forward.items capacity) (at_nodes (raised s.nodes.excess.items (end_of_path s) k)) source k → ((i : ℕ) → i < length net.arcs → carried (reverse_at s.residual.capacities.items) s.residual.forward.items capacity i ≤ flow_in s i + k) → IsSent net (flow_in s) (carried (reverse_at s.residual.capacities.items) s.residual.forward.items capacity) (excess_at s) (at_nodes (moved s.nodes.excess.items (end_of_path s) source k)) source k
-own_sent net s source k capacity arcs h b filled carries grown =
+-- so much has been sent from the root to the end of the path
+own_sent : (net : NetworkModel) (s : Solver) (root k : ℕ) (capacity : ℕ → ℕ) (arcs : List ResidualArc) → (h : CanAugment net s root) → IsBottleneck s root k → AreResidualArcs net (reverse_at s.residual.capacities.items) s.residual.forward.items capacity arcs → Carries net (carried (reverse_at s.residual.capacities.items) s.residual.forward.items capacity) (at_nodes (raised s.nodes.excess.items (end_of_path s) k)) root k → ((i : ℕ) → i < length net.arcs → carried (reverse_at s.residual.capacities.items) s.residual.forward.items capacity i ≤ flow_in s i + k) → IsSent net (flow_in s) (carried (reverse_at s.residual.capacities.items) s.residual.forward.items capacity) (excess_at s) (at_nodes (moved s.nodes.excess.items (end_of_path s) root k)) root k
+own_sent net s root k capacity arcs h b filled carries grown =
     let es = s.nodes.excess.items in
     let to = end_of_path s in
     let es' = raised es to k in
-    let tb : to < length es = omega (arith, h.ready.excesses, own_end net s source h) in
+    let tb : to < length es = omega (arith, h.ready.excesses, own_end net s root h) in
     let long : length es' ≡ length es = length-set es to (at_nodes es to +ℤ pos k) in
-    let sb : source < length es' = omega (arith, h.ready.excesses, h.source) in
-    sent_all net (flow_in s) (carried (reverse_at s.residual.capacities.items) s.residual.forward.items capacity) (excess_at s) (at_nodes es') (at_nodes (moved es to source k)) source to k h.source h.left h.wanting b.fitting.left b.fitting.short
+    let sb : root < length es' = omega (arith, h.ready.excesses, h.root) in
+    sent_all net (flow_in s) (carried (reverse_at s.residual.capacities.items) s.residual.forward.items capacity) (excess_at s) (at_nodes es') (at_nodes (moved es to root k)) root to k h.root h.left h.wanting b.fitting.left b.fitting.short
     (filled_caps net (reverse_at s.residual.capacities.items) s.residual.forward.items capacity arcs filled) carries
     (raised_here es to k tb) (raised_others es to k)
-    (get_or-set_same es' source (at_nodes es' source -ℤ pos k) (pos 0) sb)
-    (λ w ne. get_or-set_other es' source w (at_nodes es' source -ℤ pos k) (pos 0) ne)
+    (get_or-set_same es' root (at_nodes es' root -ℤ pos k) (pos 0) sb)
+    (λ w ne. get_or-set_other es' root w (at_nodes es' root -ℤ pos k) (pos 0) ne)
     grown
 
 pub index-requires : goal.index-requires
-index-requires c = omega (arith, (last_pair c.requires.0 c.args.self.now c.args.source c.requires.1).here)
+index-requires c = omega (arith, (last_pair c.requires.0 c.args.self.now c.args.root c.requires.1).here)
 
 pub start-node-requires : goal.start-node-requires
 start-node-requires c =
-    let n = last_pair c.requires.0 c.args.self.now c.args.source c.requires.1 in
+    let n = last_pair c.requires.0 c.args.self.now c.args.root c.requires.1 in
     record { number = omega (arith, n.here, n.sizes); reverse = n.there }
 
 pub move_units-requires : goal.move_units-requires
@@ -61,12 +61,12 @@ move_units-requires c =
     let r = h.ready in
     let b = c.bottleneck-amount.ensures in
     let m = c.deref_mut.ensures.value in
-    let n = last_pair net s c.args.source h in
+    let n = last_pair net s c.args.root h in
     let target : c.from-target.result ≡ end_of_path s = c.from-target.ensures ∙ ap (λ (a : ResidualArc). a.end) (get_or_read s.residual.arcs.items s.found c.index.result.now n.here c.index.ensures no_residual_arc) in
     record {
-      from = rw (m, target) (omega (arith, r.excesses, own_end net s c.args.source h));
-      to = rw m (omega (arith, r.excesses, h.source));
-      few = few_left (excess_at s c.args.source) c.bottleneck-amount.result b.fitting.left (r.round.fair c.args.source h.source).1;
+      from = rw (m, target) (omega (arith, r.excesses, own_end net s c.args.root h));
+      to = rw m (omega (arith, r.excesses, h.root));
+      few = few_left (excess_at s c.args.root) c.bottleneck-amount.result b.fitting.left (r.round.fair c.args.root h.root).1;
       low = rw m (λ v d. (r.round.fair v (omega (arith, r.excesses))).0);
       high = rw m (λ v d. (r.round.fair v (omega (arith, r.excesses))).1);
     }
@@ -74,7 +74,7 @@ move_units-requires c =
 pub push-requires : goal.push-requires
 push-requires c =
     record {
-      pair = last_pair c.requires.0 c.args.self.now c.args.source c.requires.1;
+      pair = last_pair c.requires.0 c.args.self.now c.args.root c.requires.1;
       some = c.bottleneck-amount.ensures.some;
       fits = c.bottleneck-amount.ensures.fitting.found;
     }
@@ -98,8 +98,8 @@ along-init c =
     let at : c.start-node.result ≡ from = c.start-node.ensures in
     let pushed : IsPushed reverse (capacity_at capacities) (capacity_at c.push.new.residual.capacities.items) s.found k = was_pushed s.residual c.push.new.residual s.found k q in
     record {
-      node = λ net h. subst (λ (t : ℕ). t < node_count net) (sym at) (own_last net s c.args.source h).node;
-      residual = λ net h. let l = own_last net s c.args.source h in pushed_network net s.residual c.push.new.residual from s.found k h.ready.residual l.node l.leaves q;
+      node = λ net h. subst (λ (t : ℕ). t < node_count net) (sym at) (own_last net s c.args.root h).node;
+      residual = λ net h. let l = own_last net s c.args.root h in pushed_network net s.residual c.push.new.residual from s.found k h.ready.residual l.node l.leaves q;
       first = q.first;
       forward = q.forward;
       ends = q.ends;
@@ -109,16 +109,16 @@ along-init c =
       found = refl;
       searches = refl;
       looks = refl;
-      on = λ net h. ap h.path.on at ∙ (own_last net s c.args.source h).member;
+      on = λ net h. ap h.path.on at ∙ (own_last net s c.args.root h).member;
       way = subst (λ (t : ℕ). IsOnWay next place from t) (sym at) (way_first next place from);
       sending = λ net h.
           let r = h.ready in
-          let tb : to < length es = omega (arith, r.excesses, own_end net s c.args.source h) in
+          let tb : to < length es = omega (arith, r.excesses, own_end net s c.args.root h) in
           let taken : Carries net (flow_in s) e to k = taken_carries net (flow_in s) (excess_at s) e to k r.round.leaves (raised_here es to k tb) (raised_others es to k) in
           let most = carrying net (flow_in s) + place from + 1 in
           subst (λ (y : ℕ → ℕ). IsSending net (potential_at s) e h.path.on place (flow_in s) y c.start-node.result k most) (sym (same_flow s.residual c.push.new.residual q.reverse q.forward))
           (subst (λ (t : ℕ). IsSending net (potential_at s) e h.path.on place (flow_in s) (carried reverse forward (capacity_at c.push.new.residual.capacities.items)) t k most) (sym at)
-          (sending_first net first reverse forward (capacity_at capacities) (capacity_at c.push.new.residual.capacities.items) (potential_at s) e h.path.on place from s.found to k r.residual.arcs_built (own_last net s c.args.source h).link h.path.off taken r.round.priced pushed));
+          (sending_first net first reverse forward (capacity_at capacities) (capacity_at c.push.new.residual.capacities.items) (potential_at s) e h.path.on place from s.found to k r.residual.arcs_built (own_last net s c.args.root h).link h.path.off taken r.round.priced pushed));
     }
 
 pub index-requires-in-along : goal.index-requires-in-along
@@ -150,7 +150,7 @@ push-requires-in-along c =
     let pl : c.index-in-along.result.now.place ≡ place v = rw i.visits at (place_read t.visits.items v c.index-in-along.result.now (rw i.visits (omega (arith, i.node net h))) c.index-in-along.ensures) in
     let some : 0 < place v = omega (arith, c.along-test.true) in
     let en : c.index-in-along-2.result.now.enter ≡ enter v = rw i.visits at (enter_read t.visits.items v c.index-in-along-2.result.now (rw i.visits (omega (arith, i.node net h))) c.index-in-along-2.ensures) in
-    let st = own_step net s c.args.source h v (i.on net h) some in
+    let st = own_step net s c.args.root h v (i.on net h) some in
     let first = s.residual.first.items in
     let forward = s.residual.forward.items in
     let arcs = s.residual.arcs.items in
@@ -185,9 +185,9 @@ start-node-requires-in-along c =
     let pl : c.index-in-along.result.now.place ≡ place v = rw i.visits at (place_read t.visits.items v c.index-in-along.result.now (rw i.visits (omega (arith, i.node net h))) c.index-in-along.ensures) in
     let some : 0 < place v = omega (arith, c.along-test.true) in
     let en : c.index-in-along-2.result.now.enter ≡ enter v = rw i.visits at (enter_read t.visits.items v c.index-in-along-2.result.now (rw i.visits (omega (arith, i.node net h))) c.index-in-along-2.ensures) in
-    let st = own_step net s c.args.source h v (i.on net h) some in
+    let st = own_step net s c.args.root h v (i.on net h) some in
     let q = c.push-in-along.ensures in
-    let n = step_pair net s c.args.source v h (i.on net h) some in
+    let n = step_pair net s c.args.root v h (i.on net h) some in
     let long : length c.push-in-along.new.residual.arcs.items ≡ length s.residual.arcs.items = omega (arith, r.residual.filled.arc_size, q.arc_size, (i.residual net h).filled.arc_size) in
     rw en (record {
       number = omega (arith, n.here, long, r.residual.room_size, q.room_size, (i.residual net h).room_size, r.residual.filled.arc_size);
@@ -211,7 +211,7 @@ along-smaller c =
     let pl : c.index-in-along.result.now.place ≡ place v = rw i.visits at (place_read t.visits.items v c.index-in-along.result.now (rw i.visits (omega (arith, i.node net h))) c.index-in-along.ensures) in
     let some : 0 < place v = omega (arith, c.along-test.true) in
     let en : c.index-in-along-2.result.now.enter ≡ enter v = rw i.visits at (enter_read t.visits.items v c.index-in-along-2.result.now (rw i.visits (omega (arith, i.node net h))) c.index-in-along-2.ensures) in
-    let st = own_step net s c.args.source h v (i.on net h) some in
+    let st = own_step net s c.args.root h v (i.on net h) some in
     let q = c.push-in-along.ensures in
     let j = reverse_at s.residual.capacities.items (enter v) in
     let start = rw en at c.start-node-in-along.ensures in
@@ -235,7 +235,7 @@ along-preserved c =
     let pl : c.index-in-along.result.now.place ≡ place v = rw i.visits at (place_read t.visits.items v c.index-in-along.result.now (rw i.visits (omega (arith, i.node net h))) c.index-in-along.ensures) in
     let some : 0 < place v = omega (arith, c.along-test.true) in
     let en : c.index-in-along-2.result.now.enter ≡ enter v = rw i.visits at (enter_read t.visits.items v c.index-in-along-2.result.now (rw i.visits (omega (arith, i.node net h))) c.index-in-along-2.ensures) in
-    let st = own_step net s c.args.source h v (i.on net h) some in
+    let st = own_step net s c.args.root h v (i.on net h) some in
     let first = s.residual.first.items in
     let forward = s.residual.forward.items in
     let arcs = s.residual.arcs.items in
@@ -254,8 +254,8 @@ along-preserved c =
     let at : c.start-node-in-along.result ≡ end_at arcs j = start ∙ ap (end_at new.arcs.items) (turned (enter v)) ∙ q.ends j ∙ i.ends j in
     let pushed : IsPushed reverse (capacity_at t.residual.capacities.items) (capacity_at new.capacities.items) (enter v) k = subst (λ (turn : ℕ → ℕ). IsPushed turn (capacity_at t.residual.capacities.items) (capacity_at new.capacities.items) (enter v) k) (fun_ext i.reverse) (rw en at (was_pushed t.residual new c.index-in-along-2.result.now.enter k q)) in
     record {
-      node = λ net' g. subst (λ (u : ℕ). u < node_count net') (sym at) (own_step net' s c.args.source g v (i.on net' g) some).node;
-      residual = λ net' g. let l = own_step net' s c.args.source g v (i.on net' g) some in pushed_network net' t.residual new (next v) (enter v) k (i.residual net' g) l.node (rw i.first l.leaves) (rw en at q);
+      node = λ net' g. subst (λ (u : ℕ). u < node_count net') (sym at) (own_step net' s c.args.root g v (i.on net' g) some).node;
+      residual = λ net' g. let l = own_step net' s c.args.root g v (i.on net' g) some in pushed_network net' t.residual new (next v) (enter v) k (i.residual net' g) l.node (rw i.first l.leaves) (rw en at q);
       first = q.first ∙ i.first;
       forward = q.forward ∙ i.forward;
       ends = λ m. q.ends m ∙ i.ends m;
@@ -265,10 +265,10 @@ along-preserved c =
       found = i.found;
       searches = i.searches;
       looks = i.looks;
-      on = λ net' g. ap g.path.on at ∙ (own_step net' s c.args.source g v (i.on net' g) some).member;
+      on = λ net' g. ap g.path.on at ∙ (own_step net' s c.args.root g v (i.on net' g) some).member;
       way = subst (λ (u : ℕ). IsOnWay next place from u) (sym at) (way_more next place from v i.way some);
       sending = λ net' g.
-          let l = own_step net' s c.args.source g v (i.on net' g) some in
+          let l = own_step net' s c.args.root g v (i.on net' g) some in
           let most' = carrying net' (flow_in s) + place from + 1 in
           let sd = subst (λ (y : ℕ → ℕ). IsSending net' (potential_at s) e g.path.on place (flow_in s) y v k most') (same_flow s.residual t.residual i.reverse i.forward) (i.sending net' g) in
           subst (λ (y : ℕ → ℕ). IsSending net' (potential_at s) e g.path.on place (flow_in s) y c.start-node-in-along.result k most') (sym (same_flow s.residual new turned (q.forward ∙ i.forward)))
@@ -299,29 +299,29 @@ returns-clause-sent c net h =
     let e = at_nodes (raised s.nodes.excess.items to k) in
     let most = carrying net (flow_in s) + place from + 1 in
     let none : place v ≡ 0 = omega (arith, c.along-test.false) in
-    let at : v ≡ c.args.source = h.path.root v (i.on net h) none in
+    let at : v ≡ c.args.root = h.path.root_is v (i.on net h) none in
     let y = carried reverse forward (capacity_at t.residual.capacities.items) in
     let flow_is : flow_in t ≡ y = same_flow s.residual t.residual i.reverse i.forward in
     let sd = subst (λ (x : ℕ → ℕ). IsSending net (potential_at s) e h.path.on place (flow_in s) x v k most) flow_is (i.sending net h) in
-    let carries : Carries net y e c.args.source k = subst (λ (u : ℕ). Carries net y e u k) at sd.carries in
-    let sent : IsSent net (flow_in s) y (excess_at s) (at_nodes (moved s.nodes.excess.items to c.args.source k)) c.args.source k = own_sent net s c.args.source k (capacity_at t.residual.capacities.items) t.residual.arcs.items h c.bottleneck-amount.ensures (same_filled net s.residual t.residual i.reverse i.forward (i.residual net h)) carries sd.grown in
-    let n = last_pair net s c.args.source h in
+    let carries : Carries net y e c.args.root k = subst (λ (u : ℕ). Carries net y e u k) at sd.carries in
+    let sent : IsSent net (flow_in s) y (excess_at s) (at_nodes (moved s.nodes.excess.items to c.args.root k)) c.args.root k = own_sent net s c.args.root k (capacity_at t.residual.capacities.items) t.residual.arcs.items h c.bottleneck-amount.ensures (same_filled net s.residual t.residual i.reverse i.forward (i.residual net h)) carries sd.grown in
+    let n = last_pair net s c.args.root h in
     let target : c.from-target.result ≡ to = c.from-target.ensures ∙ ap (λ (a : ResidualArc). a.end) (get_or_read arcs s.found c.index.result.now n.here c.index.ensures no_residual_arc) in
     let units = c.move_units.new.units in
-    let value : units ≡ moved s.nodes.excess.items to c.args.source k = rw (c.deref_mut.ensures.value, target) at c.move_units.ensures in
-    let excess_is : t.nodes.excess.items ≡ moved s.nodes.excess.items to c.args.source k = ap (λ (m : Nodes). m.excess.items) i.nodes ∙ with_items_is s.nodes.excess units (omega arith) ∙ value in
+    let value : units ≡ moved s.nodes.excess.items to c.args.root k = rw (c.deref_mut.ensures.value, target) at c.move_units.ensures in
+    let excess_is : t.nodes.excess.items ≡ moved s.nodes.excess.items to c.args.root k = ap (λ (m : Nodes). m.excess.items) i.nodes ∙ with_items_is s.nodes.excess units (omega arith) ∙ value in
     let potential_is : t.nodes.potential ≡ s.nodes.potential = ap (λ (m : Nodes). m.potential) i.nodes in
     record {
       ready = record {
         network = r.network;
         residual = i.residual net h;
         potentials = rw potential_is r.potentials;
-        excesses = rw excess_is (length-moved s.nodes.excess.items to c.args.source k ∙ r.excesses);
+        excesses = rw excess_is (length-moved s.nodes.excess.items to c.args.root k ∙ r.excesses);
         labels = rw i.visits r.labels;
-        round = subst (λ (x : ℕ → ℕ). IsRound net x (potential_at t) (excess_at t)) (sym flow_is) (rw (potential_is, excess_is) (sent_round net (flow_in s) y (potential_at s) (excess_at s) (at_nodes (moved s.nodes.excess.items to c.args.source k)) c.args.source k sent sd.priced r.round));
+        round = subst (λ (x : ℕ → ℕ). IsRound net x (potential_at t) (excess_at t)) (sym flow_is) (rw (potential_is, excess_is) (sent_round net (flow_in s) y (potential_at s) (excess_at s) (at_nodes (moved s.nodes.excess.items to c.args.root k)) c.args.root k sent sd.priced r.round));
         blank = rw i.visits r.blank;
       };
-      less = rw excess_is (sent_less net (flow_in s) y (excess_at s) (at_nodes (moved s.nodes.excess.items to c.args.source k)) c.args.source k sent c.bottleneck-amount.ensures.some);
+      less = rw excess_is (sent_less net (flow_in s) y (excess_at s) (at_nodes (moved s.nodes.excess.items to c.args.root k)) c.args.root k sent c.bottleneck-amount.ensures.some);
       carrying = subst (λ (x : ℕ → ℕ). carrying net x ≤ most) (sym flow_is) (omega (arith, sd.few));
     }
 

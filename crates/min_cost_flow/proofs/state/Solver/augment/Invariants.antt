@@ -11,8 +11,8 @@ use Rattle.min_cost_flow.proofs.state.Solver.augment.Given as goal
 
 abbrev pub invariant-along : goal.invariant-along
 invariant-along l = record {
-  node : (net : NetworkModel) → CanAugment net l.fn.self l.source → l.node < node_count net;
-  residual : (net : NetworkModel) → CanAugment net l.fn.self l.source → IsResidualNetwork net l.self.residual;
+  node : (net : NetworkModel) → CanAugment net l.fn.self l.root → l.node < node_count net;
+  residual : (net : NetworkModel) → CanAugment net l.fn.self l.root → IsResidualNetwork net l.self.residual;
   first : l.self.residual.first ≡ l.fn.self.residual.first;
   forward : l.self.residual.forward ≡ l.fn.self.residual.forward;
   ends : (k : ℕ) → end_at l.self.residual.arcs.items k ≡ end_at l.fn.self.residual.arcs.items k;
@@ -22,9 +22,9 @@ invariant-along l = record {
   found : l.self.found ≡ l.fn.self.found;
   searches : l.self.searches ≡ l.fn.self.searches;
   looks : l.self.looks ≡ l.fn.self.looks;
-  on : (net : NetworkModel) (h : CanAugment net l.fn.self l.source) → h.path.on l.node ≡ true;
+  on : (net : NetworkModel) (h : CanAugment net l.fn.self l.root) → h.path.on l.node ≡ true;
   way : IsOnWay (previous_of l.fn.self.residual.arcs.items l.fn.self.residual.capacities.items (enters_in l.fn.self)) (places_in l.fn.self) (last_node l.fn.self) l.node;
-  sending : (net : NetworkModel) (h : CanAugment net l.fn.self l.source) →
+  sending : (net : NetworkModel) (h : CanAugment net l.fn.self l.root) →
       IsSending net (potential_at l.fn.self) (at_nodes (raised l.fn.self.nodes.excess.items (end_at l.fn.self.residual.arcs.items l.fn.self.found) l.amount)) h.path.on (places_in l.fn.self) (flow_in l.fn.self) (flow_in l.self) l.node l.amount (carrying net (flow_in l.fn.self) + places_in l.fn.self (last_node l.fn.self) + 1);
 }
 

@@ -9,7 +9,7 @@ augment-requires c =
     let r = c.requires.ready.1 in
     let new = c.find_path.new in
     let found = rw c.deref_mut.ensures.value at c.in-Some.ensures.found in
-    let can : CanAugmentIn net c.args.self.now.residual new.nodes.potential.items new.nodes.excess.items new.visits c.in-Some.found c.args.source = found net r in
+    let can : CanAugmentIn net c.args.self.now.residual new.nodes.potential.items new.nodes.excess.items new.visits c.in-Some.found c.args.root = found net r in
     let is = with_items_is c.args.self.now.visits new.visits (omega (arith, can.ready.labels, r.labels)) in
     (net, rw is can)
 
@@ -17,7 +17,7 @@ pub returns-clause-augmented : goal.returns-clause-augmented
 returns-clause-augmented c _ net r =
     let new = c.find_path.new in
     let found = rw c.deref_mut.ensures.value at c.in-Some.ensures.found in
-    let can : CanAugmentIn net c.args.self.now.residual new.nodes.potential.items new.nodes.excess.items new.visits c.in-Some.found c.args.source = found net r in
+    let can : CanAugmentIn net c.args.self.now.residual new.nodes.potential.items new.nodes.excess.items new.visits c.in-Some.found c.args.root = found net r in
     let is = with_items_is c.args.self.now.visits new.visits (omega (arith, can.ready.labels, r.labels)) in
     let a = c.augment.ensures.sent net (rw is can) in
     let more = rw is at a.carrying in

@@ -11,7 +11,7 @@ use Rattle.min_cost_flow.proofs.Augmenting.{IsNarrowed, narrowed_first, narrowed
 use Rattle.min_cost_flow.proofs.state.Solver.bottleneck.Goals as goal
 
 pub index-requires : goal.index-requires
-index-requires c = omega (arith, (last_pair c.requires.0 c.args.self.now c.args.source c.requires.1).here)
+index-requires c = omega (arith, (last_pair c.requires.0 c.args.self.now c.args.root c.requires.1).here)
 
 pub most_between-most-requires : goal.most_between-most-requires
 most_between-most-requires c =
@@ -19,22 +19,22 @@ most_between-most-requires c =
     let s = c.args.self.now in
     let h = c.requires.1 in
     let d = c.deref.ensures.value in
-    let n = last_pair net s c.args.source h in
+    let n = last_pair net s c.args.root h in
     let target : c.from-target.result ≡ end_at s.residual.arcs.items s.found = c.from-target.ensures ∙ ap (λ (a : ResidualArc). a.end) (get_or_read s.residual.arcs.items s.found c.index.result.now n.here c.index.ensures no_residual_arc) in
     record {
-      source = rw d (omega (arith, h.ready.excesses, h.source));
-      target = rw (d, target) (omega (arith, h.ready.excesses, own_end net s c.args.source h));
+      root = rw d (omega (arith, h.ready.excesses, h.root));
+      target = rw (d, target) (omega (arith, h.ready.excesses, own_end net s c.args.root h));
       left = rw d h.left;
       wanting = rw (d, target) h.wanting;
     }
 
 pub index-requires-2 : goal.index-requires-2
 index-requires-2 c =
-    let n = last_pair c.requires.0 c.args.self.now c.args.source c.requires.1 in omega (arith, n.here, n.sizes)
+    let n = last_pair c.requires.0 c.args.self.now c.args.root c.requires.1 in omega (arith, n.here, n.sizes)
 
 pub start-node-requires : goal.start-node-requires
 start-node-requires c =
-    let n = last_pair c.requires.0 c.args.self.now c.args.source c.requires.1 in
+    let n = last_pair c.requires.0 c.args.self.now c.args.root c.requires.1 in
     record { number = omega (arith, n.here, n.sizes); reverse = n.there }
 
 pub narrow-init : goal.narrow-init
@@ -43,8 +43,8 @@ narrow-init c =
     let s = c.args.self.now in
     let h = c.requires.1 in
     let d = c.deref.ensures.value in
-    let n = last_pair net s c.args.source h in
-    let l = own_last net s c.args.source h in
+    let n = last_pair net s c.args.root h in
+    let l = own_last net s c.args.root h in
     let at : c.start-node.result ≡ last_node s = c.start-node.ensures in
     let target : c.from-target.result ≡ end_at s.residual.arcs.items s.found = c.from-target.ensures ∙ ap (λ (a : ResidualArc). a.end) (get_or_read s.residual.arcs.items s.found c.index.result.now n.here c.index.ensures no_residual_arc) in
     let fits : c.index-2.result.now.capacity ≡ capacity_at s.residual.capacities.items s.found = ap (λ (a : ResidualCapacity). a.capacity) (get_or_read s.residual.capacities.items s.found c.index-2.result.now (omega (arith, n.here, n.sizes)) c.index-2.ensures no_residual_room) in
@@ -53,13 +53,13 @@ narrow-init c =
     let next = previous_of s.residual.arcs.items s.residual.capacities.items (enters_in s) in
     let capacities = room_into s.residual.capacities.items (enters_in s) in
     record {
-      node = λ net' g. subst (λ (t : ℕ). t < node_count net') (sym at) (own_last net' s c.args.source g).node;
+      node = λ net' g. subst (λ (t : ℕ). t < node_count net') (sym at) (own_last net' s c.args.root g).node;
       narrowed = subst (λ (t : ℕ). IsNarrowed next (places_in s) capacities (last_node s) t c.min-amount.result) (sym at) (narrowed_first next (places_in s) capacities (last_node s) c.min-amount.result);
       some = lesser_some c.most_between-most.result c.index-2.result.now.capacity c.min-amount.result least m.some (omega (arith, l.link.some));
       found = omega (arith, least);
-      left = lesser_left c.most_between-most.result c.min-amount.result (excess_at s c.args.source) (omega (arith, least)) (rw d at m.left);
+      left = lesser_left c.most_between-most.result c.min-amount.result (excess_at s c.args.root) (omega (arith, least)) (rw d at m.left);
       short = lesser_short c.most_between-most.result c.min-amount.result (excess_at s (end_at s.residual.arcs.items s.found)) (omega (arith, least)) (rw (d, target) at m.wanting);
-      on = λ net' g. ap g.path.on at ∙ (own_last net' s c.args.source g).member;
+      on = λ net' g. ap g.path.on at ∙ (own_last net' s c.args.root g).member;
       most = λ k f. let under : k ≤ c.most_between-most.result = m.most k (rw d f.left) (rw (d, target) f.short) in omega (arith, least, under, f.found);
     }
 
@@ -74,7 +74,7 @@ narrow-smaller c =
     let some : 0 < places_in s v = omega (arith, c.narrow-test.true) in
     let en : c.index-in-narrow-2.result.now.enter ≡ enters_in s v = enter_read s.visits.items v c.index-in-narrow-2.result.now (omega (arith, i.node net h, h.ready.labels)) c.index-in-narrow-2.ensures in
     let at : c.start-node-in-narrow.result ≡ previous_of s.residual.arcs.items s.residual.capacities.items (enters_in s) v = c.start-node-in-narrow.ensures ∙ ap (λ (t : ℕ). end_at s.residual.arcs.items (reverse_at s.residual.capacities.items t)) en in
-    subst (λ (t : ℕ). places_in s t < places_in s v) (sym at) (own_step net s c.args.source h v (i.on net h) some).before
+    subst (λ (t : ℕ). places_in s t < places_in s v) (sym at) (own_step net s c.args.root h v (i.on net h) some).before
 
 pub index-requires-in-narrow : goal.index-requires-in-narrow
 index-requires-in-narrow c = let h = c.requires.1 in omega (arith, c.narrow.invariant.node c.requires.0 h, h.ready.labels)
@@ -92,7 +92,7 @@ index-requires-in-narrow-3 c =
     let pl : c.index-in-narrow.result.now.place ≡ places_in s v = place_read s.visits.items v c.index-in-narrow.result.now (omega (arith, i.node net h, h.ready.labels)) c.index-in-narrow.ensures in
     let some : 0 < places_in s v = omega (arith, c.narrow-test.true) in
     let en : c.index-in-narrow-2.result.now.enter ≡ enters_in s v = enter_read s.visits.items v c.index-in-narrow-2.result.now (omega (arith, i.node net h, h.ready.labels)) c.index-in-narrow-2.ensures in
-    let n = step_pair net s c.args.source v h (i.on net h) some in
+    let n = step_pair net s c.args.root v h (i.on net h) some in
     omega (arith, n.here, n.sizes)
 
 pub start-node-requires-in-narrow : goal.start-node-requires-in-narrow
@@ -105,7 +105,7 @@ start-node-requires-in-narrow c =
     let pl : c.index-in-narrow.result.now.place ≡ places_in s v = place_read s.visits.items v c.index-in-narrow.result.now (omega (arith, i.node net h, h.ready.labels)) c.index-in-narrow.ensures in
     let some : 0 < places_in s v = omega (arith, c.narrow-test.true) in
     let en : c.index-in-narrow-2.result.now.enter ≡ enters_in s v = enter_read s.visits.items v c.index-in-narrow-2.result.now (omega (arith, i.node net h, h.ready.labels)) c.index-in-narrow-2.ensures in
-    let n = step_pair net s c.args.source v h (i.on net h) some in
+    let n = step_pair net s c.args.root v h (i.on net h) some in
     rw en (record { number = omega (arith, n.here, n.sizes); reverse = n.there })
 
 pub narrow-preserved : goal.narrow-preserved
@@ -118,23 +118,23 @@ narrow-preserved c =
     let pl : c.index-in-narrow.result.now.place ≡ places_in s v = place_read s.visits.items v c.index-in-narrow.result.now (omega (arith, i.node net h, h.ready.labels)) c.index-in-narrow.ensures in
     let some : 0 < places_in s v = omega (arith, c.narrow-test.true) in
     let en : c.index-in-narrow-2.result.now.enter ≡ enters_in s v = enter_read s.visits.items v c.index-in-narrow-2.result.now (omega (arith, i.node net h, h.ready.labels)) c.index-in-narrow-2.ensures in
-    let n = step_pair net s c.args.source v h (i.on net h) some in
+    let n = step_pair net s c.args.root v h (i.on net h) some in
     let rm : c.index-in-narrow-3.result.now.capacity ≡ capacity_at s.residual.capacities.items (enters_in s v) = ap (λ (a : ResidualCapacity). a.capacity) (get_or_read s.residual.capacities.items c.index-in-narrow-2.result.now.enter c.index-in-narrow-3.result.now (omega (arith, n.here, n.sizes)) c.index-in-narrow-3.ensures no_residual_room) ∙ ap (capacity_at s.residual.capacities.items) en in
     let at : c.start-node-in-narrow.result ≡ previous_of s.residual.arcs.items s.residual.capacities.items (enters_in s) v = c.start-node-in-narrow.ensures ∙ ap (λ (t : ℕ). end_at s.residual.arcs.items (reverse_at s.residual.capacities.items t)) en in
-    let st = own_step net s c.args.source h v (i.on net h) some in
+    let st = own_step net s c.args.root h v (i.on net h) some in
     let k' = c.min-amount-in-narrow.result in
     let least : k' ≡ min c.narrow.amount c.index-in-narrow-3.result.now.capacity = c.min-amount-in-narrow.ensures in
     let less : k' ≤ c.narrow.amount = omega (arith, least) in
     let next = previous_of s.residual.arcs.items s.residual.capacities.items (enters_in s) in
     let capacities = room_into s.residual.capacities.items (enters_in s) in
     record {
-      node = λ net' g. subst (λ (t : ℕ). t < node_count net') (sym at) (own_step net' s c.args.source g v (i.on net' g) some).node;
+      node = λ net' g. subst (λ (t : ℕ). t < node_count net') (sym at) (own_step net' s c.args.root g v (i.on net' g) some).node;
       narrowed = subst (λ (t : ℕ). IsNarrowed next (places_in s) capacities (last_node s) t k') (sym at) (narrowed_more next (places_in s) capacities (last_node s) v c.narrow.amount k' i.narrowed some less (omega (arith, least)));
       some = lesser_some c.narrow.amount c.index-in-narrow-3.result.now.capacity k' least i.some (omega (arith, st.link.some));
       found = omega (arith, less, i.found);
-      left = lesser_left c.narrow.amount k' (excess_at s c.args.source) less i.left;
+      left = lesser_left c.narrow.amount k' (excess_at s c.args.root) less i.left;
       short = lesser_short c.narrow.amount k' (excess_at s (end_at s.residual.arcs.items s.found)) less i.short;
-      on = λ net' g. ap g.path.on at ∙ (own_step net' s c.args.source g v (i.on net' g) some).member;
+      on = λ net' g. ap g.path.on at ∙ (own_step net' s c.args.root g v (i.on net' g) some).member;
       most = λ k f. omega (arith, least, rm, i.most k f, f.fits v i.narrowed.on some);
     }
 

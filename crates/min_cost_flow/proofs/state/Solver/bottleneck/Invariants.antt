@@ -8,14 +8,14 @@ use Rattle.min_cost_flow.proofs.state.Solver.bottleneck.Given as goal
 
 abbrev pub invariant-narrow : goal.invariant-narrow
 invariant-narrow l = record {
-  node : (net : NetworkModel) → CanAugment net l.self l.source → l.node < node_count net;
+  node : (net : NetworkModel) → CanAugment net l.self l.root → l.node < node_count net;
   narrowed : IsNarrowed (previous_of l.self.residual.arcs.items l.self.residual.capacities.items (enters_in l.self)) (places_in l.self) (room_into l.self.residual.capacities.items (enters_in l.self)) (last_node l.self) l.node l.amount;
   some : 0 < l.amount;
   found : l.amount ≤ capacity_at l.self.residual.capacities.items l.self.found;
-  left : pos l.amount ≤ℤ excess_at l.self l.source;
+  left : pos l.amount ≤ℤ excess_at l.self l.root;
   short : (excess_at l.self (end_at l.self.residual.arcs.items l.self.found) +ℤ pos l.amount) ≤ℤ pos 0;
-  on : (net : NetworkModel) (h : CanAugment net l.self l.source) → h.path.on l.node ≡ true;
-  most : (k : ℕ) → IsFitting l.self l.source k → k ≤ l.amount;
+  on : (net : NetworkModel) (h : CanAugment net l.self l.root) → h.path.on l.node ≡ true;
+  most : (k : ℕ) → IsFitting l.self l.root k → k ≤ l.amount;
 }
 
 abbrev pub decreases-narrow : goal.decreases-narrow

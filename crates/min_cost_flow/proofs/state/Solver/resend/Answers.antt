@@ -19,11 +19,11 @@ augment_once-requires c =
     let i = c.units.invariant in
     let es = c.units.self.nodes.excess.items in
     let net = c.requires.ready.0 in
-    let b : c.args.source < length es = omega (arith, i.size, c.requires.source) in
-    let at : c.index.result.now ≡ excess_at c.units.self c.args.source = get_or_read es c.args.source c.index.result.now b c.index.ensures (pos 0) in
+    let b : c.args.root < length es = omega (arith, i.size, c.requires.root) in
+    let at : c.index.result.now ≡ excess_at c.units.self c.args.root = get_or_read es c.args.root c.index.result.now b c.index.ensures (pos 0) in
     record {
       ready = (net, (i.ready net c.requires.ready.1));
-      source = b;
+      root = b;
       left = subst (λ (z : ℤ). pos 0 <ℤ z) at (is_more _ _ f c.units-test.true);
       few = omega arith;
     }
@@ -58,8 +58,8 @@ returns c net h =
     let r = i.ready net h in
     let es = c.units.self.nodes.excess.items in
     let d = c.deref.ensures.value in
-    let at : c.index.result.now ≡ excess_at c.units.self c.args.source = get_or_read es c.args.source c.index.result.now (omega (arith, i.size, c.requires.source)) c.index.ensures (pos 0) in
-    let all : (v : ℕ) → v < node_count net → excess_at c.units.self v ≤ℤ pos 0 = λ v b. over_none es (length es) c.args.source i.others (subst (λ (z : ℤ). z ≤ℤ pos 0) at (is_no_more _ _ f c.units-test.false)) v (omega (arith, r.excesses)) in
+    let at : c.index.result.now ≡ excess_at c.units.self c.args.root = get_or_read es c.args.root c.index.result.now (omega (arith, i.size, c.requires.root)) c.index.ensures (pos 0) in
+    let all : (v : ℕ) → v < node_count net → excess_at c.units.self v ≤ℤ pos 0 = λ v b. over_none es (length es) c.args.root i.others (subst (λ (z : ℤ). z ≤ℤ pos 0) at (is_no_more _ _ f c.units-test.false)) v (omega (arith, r.excesses)) in
     record {
       balanced = λ e. let over = rw d at (c.has_deficit.ensures.none (not_true _ e)) in record { ready = r; sent = λ v b. nothing_left _ (all v b) (over v (omega (arith, r.excesses))) };
       no_flow = λ e. let (u, b, under) = rw d at (c.has_deficit.ensures.some (not_false _ e)) in no_flow_wanting _ _ (excess_at c.units.self) u r.network.ends r.round.leaves all (omega (arith, r.excesses)) under;

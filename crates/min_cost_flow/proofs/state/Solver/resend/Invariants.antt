@@ -10,7 +10,7 @@ abbrev pub invariant-units : goal.invariant-units
 invariant-units l = record {
   size : length l.self.nodes.excess.items ≡ length l.fn.self.nodes.excess.items;
   ready : (net : NetworkModel) → IsReady net l.fn.self → IsReady net l.self;
-  others : (v : ℕ) → v < length l.self.nodes.excess.items → v ≢ l.source → excess_at l.self v ≤ℤ pos 0;
+  others : (v : ℕ) → v < length l.self.nodes.excess.items → v ≢ l.root → excess_at l.self v ≤ℤ pos 0;
 }
 
 -- what is left to send

@@ -65,7 +65,7 @@ resend-requires c =
             (λ i b. little i (omega (arith, r.residual.arcs_built.forwards)))
             (rw pot_is (omega (arith, size, r.potentials))) (excess_is ∙ value),
       );
-      source = omega (arith, wide, c.requires.from);
+      root = omega (arith, wide, c.requires.from);
       others = λ v b ne. rw (excess_is, value) (others_none l.nodes.excess.items (node_count net) c.args.from c.args.to c.args.amount v r.excesses st.sent c.requires.from c.requires.to (omega (arith, wide)) ne);
     }
 

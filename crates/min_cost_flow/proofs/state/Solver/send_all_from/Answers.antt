@@ -18,11 +18,11 @@ augment_once-requires c =
     let net = c.requires.under_way.0 in
     let u = i.under_way net c.requires.under_way.1 in
     let most = looks_most _ _ _ _ _ u.ready.network u.work in
-    let b : c.args.source < length c.units.self.nodes.excess.items = omega (arith, i.size, c.requires.source) in
-    let at : c.index.result.now ≡ excess_at c.units.self c.args.source = get_or_read c.units.self.nodes.excess.items c.args.source c.index.result.now b c.index.ensures (pos 0) in
+    let b : c.args.root < length c.units.self.nodes.excess.items = omega (arith, i.size, c.requires.root) in
+    let at : c.index.result.now ≡ excess_at c.units.self c.args.root = get_or_read c.units.self.nodes.excess.items c.args.root c.index.result.now b c.index.ensures (pos 0) in
     record {
       ready = (net, u.ready);
-      source = b;
+      root = b;
       left = subst (λ (z : ℤ). pos 0 <ℤ z) at (is_more _ _ f c.units-test.true);
       few = omega (arith, most.1);
     }
@@ -69,7 +69,7 @@ pub returns : goal.returns
 returns c =
     let f : SFits w32 c.index.result.now = search rules in
     let i = c.units.invariant in
-    let at : c.index.result.now ≡ excess_at c.units.self c.args.source = get_or_read c.units.self.nodes.excess.items c.args.source c.index.result.now (omega (arith, i.size, c.requires.source)) c.index.ensures (pos 0) in
+    let at : c.index.result.now ≡ excess_at c.units.self c.args.root = get_or_read c.units.self.nodes.excess.items c.args.root c.index.result.now (omega (arith, i.size, c.requires.root)) c.index.ensures (pos 0) in
     record {
       sent = λ _ net u. record {
         under_way = i.under_way net u;

@@ -7,50 +7,50 @@ use Rattle.min_cost_flow.proofs.Comparisons.{not_true, not_false}
 use Rattle.min_cost_flow.proofs.Rounds.{done_at, no_flow_wanting, nothing_left}
 use Rattle.min_cost_flow.proofs.state.Solver.solve.Goals as goal
 
-pub loop-source-init : goal.loop-source-init
-loop-source-init c = record {
+pub loop-root-init : goal.loop-root-init
+loop-root-init c = record {
   under_way = c.initialise.ensures;
   done = λ v b. absurd (omega arith);
 }
 
 pub send_all_from-requires : goal.send_all_from-requires
 send_all_from-requires c =
-    let i = c.loop-source.invariant in
+    let i = c.loop-root.invariant in
     record {
       under_way = (c.args.network.now, i.under_way);
-      source = omega (arith, i.under_way.ready.excesses, c.initialise.ensures.ready.excesses);
+      root = omega (arith, i.under_way.ready.excesses, c.initialise.ensures.ready.excesses);
     }
 
-pub loop-source-preserved : goal.loop-source-preserved
-loop-source-preserved c =
-    let i = c.loop-source.invariant in
+pub loop-root-preserved : goal.loop-root-preserved
+loop-root-preserved c =
+    let i = c.loop-root.invariant in
     let e = c.send_all_from.ensures.sent c.if-not-send_all_from.false c.args.network.now i.under_way in
     record {
       under_way = e.under_way;
-      done = λ v b. elim (cases_lt v c.loop-source.source) [
+      done = λ v b. elim (cases_lt v c.loop-root.root) [
         | inl d ↦ e.done v (omega (arith, c.initialise.ensures.ready.excesses)) (i.done v d)
-        | inr d ↦ let t : v ≡ c.loop-source.source = omega arith in subst (λ (u : ℕ). excess_at c.send_all_from.new.self u ≤ℤ pos 0) (sym t) e.here
+        | inr d ↦ let t : v ≡ c.loop-root.root = omega arith in subst (λ (u : ℕ). excess_at c.send_all_from.new.self u ≤ℤ pos 0) (sym t) e.here
       ];
     }
 
 pub returns-then-not-send_all_from : goal.returns-then-not-send_all_from
 returns-then-not-send_all_from c = record {
   done = λ h. cc;
-  answer = record { balanced = λ h. cc; no_flow = λ _. c.send_all_from.ensures.no_flow c.if-not-send_all_from.true c.args.network.now c.loop-source.invariant.under_way };
+  answer = record { balanced = λ h. cc; no_flow = λ _. c.send_all_from.ensures.no_flow c.if-not-send_all_from.true c.args.network.now c.loop-root.invariant.under_way };
 }
 
 pub returns : goal.returns
 returns c =
-    let i = c.loop-source.invariant in
+    let i = c.loop-root.invariant in
     let r = i.under_way.ready in
     let net = c.args.network.now in
-    let es = c.loop-source.self.nodes.excess.items in
-    let all : (v : ℕ) → v < node_count net → excess_at c.loop-source.self v ≤ℤ pos 0 = λ v b. i.done v (omega (arith, c.initialise.ensures.ready.excesses)) in
+    let es = c.loop-root.self.nodes.excess.items in
+    let all : (v : ℕ) → v < node_count net → excess_at c.loop-root.self v ≤ℤ pos 0 = λ v b. i.done v (omega (arith, c.initialise.ensures.ready.excesses)) in
     let d = c.deref.ensures.value in
     record {
       done = λ e. let over = rw d at (c.has_deficit.ensures.none (not_true _ e)) in done_at net _ _ _ _ _ r.round i.under_way.work all (λ v b. over v (omega (arith, r.excesses)));
       answer = record {
         balanced = λ e. let over = rw d at (c.has_deficit.ensures.none (not_true _ e)) in record { ready = r; sent = λ v b. nothing_left _ (all v b) (over v (omega (arith, r.excesses))) };
-        no_flow = λ e. let (u, b, under) = rw d at (c.has_deficit.ensures.some (not_false _ e)) in no_flow_wanting net _ (excess_at c.loop-source.self) u r.network.ends r.round.leaves all (omega (arith, r.excesses)) under;
+        no_flow = λ e. let (u, b, under) = rw d at (c.has_deficit.ensures.some (not_false _ e)) in no_flow_wanting net _ (excess_at c.loop-root.self) u r.network.ends r.round.leaves all (omega (arith, r.excesses)) under;
       };
     }

@@ -3,8 +3,8 @@ use Rattle.std.specs.Prelude.{pos, ◌≤ℤ◌}
 use Rattle.min_cost_flow.specs.Stand.{IsUnderWay, excess_at}
 use Rattle.min_cost_flow.proofs.state.Solver.solve.Given as goal
 
-abbrev pub invariant-loop-source : goal.invariant-loop-source
-invariant-loop-source l = record {
+abbrev pub invariant-loop-root : goal.invariant-loop-root
+invariant-loop-root l = record {
   under_way : IsUnderWay l.network l.self;
-  done : (v : ℕ) → v < l.source → excess_at l.self v ≤ℤ pos 0;
+  done : (v : ℕ) → v < l.root → excess_at l.self v ≤ℤ pos 0;
 }
