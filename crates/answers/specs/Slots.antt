@@ -1,4 +1,4 @@
--- What a block holds.
+-- What a holder holds.
 use Rattle.std.specs.Prelude.{◌≡◌, Bool, true, false}
 use mathlib.Core.Bool.{false≢true}
 use Rattle.answers.specs.declared.held.Slot.{Slot}

@@ -31,7 +31,7 @@ pub struct DrawScratch {
     check: drawing_check::Scratch,
     // the directions of the darts of the shape that was drawn last
     headings: Vec<u8>,
-    // the block of its layout
+    // the holder of its layout
     shell: Option<Shell<Layout, SpentLayout>>,
     pub(crate) back: WayBack<Shell<Layout, SpentLayout>>,
 }
@@ -56,7 +56,7 @@ impl DrawScratch {
     }
 
     /// Takes the lists of an answer that nobody reads any more, so that they are filled anew. Those of its drawing stay
-    /// here, those of its plane and its shape go back in the block of its layout.
+    /// here, those of its plane and its shape go back in the holder of its layout.
     pub fn take_back(&mut self, alloc: Global, answer: Answer) {
         if let Answer::Laid {
             plane,
@@ -80,14 +80,14 @@ impl DrawScratch {
         }
     }
 
-    /// Sends the block of the layout that was taken last back.
+    /// Sends the holder of the layout that was taken last back.
     pub(crate) fn send_back<R: Wait>(&mut self, rt: &R) {
         if let Some(shell) = self.shell.take() {
             self.back.send(rt, shell);
         }
     }
 
-    /// The layout out of its block, which goes back.
+    /// The layout out of its holder, which goes back.
     pub(crate) fn open(
         &mut self,
         layout: Result<Held<Layout, SpentLayout>, LayoutFault>,

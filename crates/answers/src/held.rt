@@ -1,4 +1,4 @@
-//! Values in blocks of memory that go round: once the value is taken out, the block goes back and has another one.
+//! Values in holders that go round: once the value is taken out, the holder goes back and has another one.
 ghost use Rattle.std.specs.Prelude.{◌≡◌, true};
 ghost use Rattle.answers.specs.Slots.{is_full};
 
@@ -7,7 +7,7 @@ use std::boxed::Box;
 use std::marker::Model;
 use std::mem;
 
-/// What a block holds.
+/// What a holder holds.
 #[derive(Drop)]
 enum Slot<T: Drop, S: Drop> {
     /// Nothing.
@@ -18,13 +18,13 @@ enum Slot<T: Drop, S: Drop> {
     Spent(S),
 }
 
-/// A block without a value. What is done with may go back in it.
+/// A holder without a value. What is done with may go back in it.
 #[derive(Drop)]
 pub struct Shell<T: Drop, S: Drop> {
     slot: Box<Slot<T, S>>,
 }
 
-/// A value in a block. In contracts it is the value.
+/// A value in a holder. In contracts it is the value.
 #[derive(Drop)]
 pub struct Held<T: Drop, S: Drop> {
     slot: Box<Slot<T, S>>,
@@ -47,7 +47,7 @@ impl<T: Drop, S: Drop> Shell<T, S> {
         })
     }
 
-    /// The value in this block.
+    /// The value in this holder.
     pub(crate) fn fill(self, value: T) -> Held<T, S>
         ensures { result ≡ value }
     {
@@ -56,12 +56,12 @@ impl<T: Drop, S: Drop> Shell<T, S> {
         Held { slot }
     }
 
-    /// Puts what is done with in the block.
+    /// Puts what is done with in the holder.
     pub(crate) fn load(&mut self, spent: S) {
         *self.slot = Slot::Spent(spent);
     }
 
-    /// Takes what is done with out of the block, where there is any.
+    /// Takes what is done with out of the holder, where there is any.
     pub(crate) fn unload(&mut self) -> Option<S> {
         match mem::replace(&mut *self.slot, Slot::Empty) {
             Slot::Spent(spent) => Some(spent),
@@ -71,7 +71,7 @@ impl<T: Drop, S: Drop> Shell<T, S> {
 }
 
 impl<T: Drop, S: Drop> Held<T, S> {
-    /// The value, and the block without it.
+    /// The value, and the holder without it.
     pub(crate) fn take(self) -> (T, Shell<T, S>)
         ensures { result.0 ≡ self }
     {

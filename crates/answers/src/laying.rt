@@ -29,14 +29,14 @@ pub struct LayScratch {
     search: HeadingSearch,
     // directions that are done with
     headings: Vec<u8>,
-    // a plane that is done with, the block of the plane that was taken last, and the block of the next layout
+    // a plane that is done with, the holder of the plane that was taken last, and the holder of the next layout
     plane: Option<Plane>,
     plane_shell: Option<Shell<Plane, Plane>>,
     shell: Option<Shell<Layout, SpentLayout>>,
     pub(crate) ways: Ways,
 }
 
-/// The ways back of the stage that finds shapes: blocks of planes are sent to the stage before, and blocks of layouts
+/// The ways back of the stage that finds shapes: holders of planes are sent to the stage before, and holders of layouts
 /// come from the next one.
 #[derive(Drop)]
 pub(crate) struct Ways {
@@ -62,7 +62,7 @@ impl LayScratch {
         }
     }
 
-    /// Takes in the block of a layout that is done with and its lists, where they have come back.
+    /// Takes in the holder of a layout that is done with and its lists, where they have come back.
     pub(crate) fn restock<R: Wait>(&mut self, rt: &R) {
         if let Some(mut shell) = self.ways.layouts.receive(rt) {
             if let Some(spent) = shell.unload() {
@@ -81,7 +81,7 @@ impl LayScratch {
         }
     }
 
-    /// Sends the block of the plane that was taken last back, with a plane that is done with, where there is one.
+    /// Sends the holder of the plane that was taken last back, with a plane that is done with, where there is one.
     pub(crate) fn send_back<R: Wait>(&mut self, rt: &R) {
         if let Some(mut shell) = self.plane_shell.take() {
             if let Some(plane) = self.plane.take() {
@@ -91,7 +91,7 @@ impl LayScratch {
         }
     }
 
-    /// The plane out of its block, which goes back.
+    /// The plane out of its holder, which goes back.
     pub(crate) fn open(
         &mut self,
         plane: Result<Held<Plane, Plane>, LayoutFault>,
@@ -103,7 +103,7 @@ impl LayScratch {
         Ok(plane)
     }
 
-    /// The layout in a block, where there is memory for one.
+    /// The layout in a holder, where there is memory for one.
     pub(crate) fn hold(
         &mut self,
         alloc: Global,

@@ -15,7 +15,7 @@ use std::sync::Wait;
 #[derive(Drop)]
 pub struct EmbedScratch {
     pub(crate) planes: faces::Scratch,
-    // the block of the next plane
+    // the holder of the next plane
     shell: Option<Shell<Plane, Plane>>,
     spent: WayBack<Shell<Plane, Plane>>,
 }
@@ -30,7 +30,7 @@ impl EmbedScratch {
         }
     }
 
-    /// Takes in the block of a plane, and the lists of one that is done with, where they have come back.
+    /// Takes in the holder of a plane, and the lists of one that is done with, where they have come back.
     pub(crate) fn restock<R: Wait>(&mut self, rt: &R) {
         if let Some(mut shell) = self.spent.receive(rt) {
             if let Some(plane) = shell.unload() {
@@ -40,7 +40,7 @@ impl EmbedScratch {
         }
     }
 
-    /// The plane in a block, where there is memory for one.
+    /// The plane in a holder, where there is memory for one.
     pub(crate) fn hold(
         &mut self,
         alloc: Global,
@@ -59,7 +59,7 @@ impl EmbedScratch {
     }
 }
 
-/// The scratch of each stage of a lane, through which blocks and lists go back from each stage to the one before.
+/// The scratch of each stage of a lane, through which holders and lists go back from each stage to the one before.
 #[derive(Drop)]
 pub struct StageScratch {
     pub embed: EmbedScratch,
@@ -68,7 +68,7 @@ pub struct StageScratch {
 }
 
 impl StageScratch {
-    /// For a lane whose links have room for `capacity` messages. A block is on its way in one link, in the hands of a
+    /// For a lane whose links have room for `capacity` messages. A holder is on its way in one link, in the hands of a
     /// stage, or on the way back.
     ///
     /// # Errors
