@@ -28,5 +28,5 @@ IsResidualPath net x u v zero = u ≡ v
 IsResidualPath net x u v (suc k) = (i : ℕ) × (back : Bool) × (i < arc_count net) × IsResidual net x i back × (end_of net i back ≡ v) × IsResidualPath net x u (start_of net i back) k
 
 -- no residual path leads from a node where something is left over to one where something is wanting
-pub record IsCutOff (net : NetworkModel) (x : ℕ → ℕ) (e : ℕ → ℤ) : Type 0 where
+pub record HasNoAugmentingPath (net : NetworkModel) (x : ℕ → ℕ) (e : ℕ → ℤ) : Type 0 where
   pub apart : (u v k : ℕ) → u < node_count net → v < node_count net → pos 0 <ℤ e u → e v <ℤ pos 0 → IsResidualPath net x u v k → ⊥

@@ -443,20 +443,20 @@ nearest_kept n first arcs p e s q q' place place' scanned radius radius' bound k
       };
 }
 
-cut_far : (x pv : ℤ) → x <ℤ far → pv ≡ pos 0 → (x -ℤ pv) ≤ℤ far
-cut_far x pv h z = omega (arith, ints)
+lowered_far : (x pv : ℤ) → x <ℤ far → pv ≡ pos 0 → (x -ℤ pv) ≤ℤ far
+lowered_far x pv h z = omega (arith, ints)
 
-near_cut : (a : ℤ) (k : ℕ) (x pv : ℤ) → IsNear a k x → pv ≡ pos 0 → IsNear a k (x -ℤ pv)
-near_cut a k x pv (b, c) z = (omega (arith, ints), omega (arith, ints))
+near_lowered : (a : ℤ) (k : ℕ) (x pv : ℤ) → IsNear a k x → pv ≡ pos 0 → IsNear a k (x -ℤ pv)
+near_lowered a k x pv (b, c) z = (omega (arith, ints), omega (arith, ints))
 
-pub nearest_offered : (n : ℕ) (first : List ℕ) (arcs : List ResidualArc) (p e : ℕ → ℤ) (s : ℕ) (q : ℕ → ℤ) (place : ℕ → ℕ) (scanned : ℕ) (radius bound cut' : ℤ) (k k' j v : ℕ) (x : ℤ) → IsNearest n first arcs p e s q place scanned radius bound k → IsOffer n first arcs p s q place scanned radius j v x → q v ≤ℤ far → e v <ℤ pos 0 → p v ≡ pos 0 → ((cut' ≡ bound) × (k' ≡ k)) ⊎ ((cut' ≡ x -ℤ p v) × (k' ≡ j)) → IsNearest n first arcs p e s q place scanned radius cut' k'
-nearest_offered n first arcs p e s q place scanned radius bound cut' k k' j v x r o most wants none (inl (a, b)) =
+pub nearest_offered : (n : ℕ) (first : List ℕ) (arcs : List ResidualArc) (p e : ℕ → ℤ) (s : ℕ) (q : ℕ → ℤ) (place : ℕ → ℕ) (scanned : ℕ) (radius bound bound' : ℤ) (k k' j v : ℕ) (x : ℤ) → IsNearest n first arcs p e s q place scanned radius bound k → IsOffer n first arcs p s q place scanned radius j v x → q v ≤ℤ far → e v <ℤ pos 0 → p v ≡ pos 0 → ((bound' ≡ bound) × (k' ≡ k)) ⊎ ((bound' ≡ x -ℤ p v) × (k' ≡ j)) → IsNearest n first arcs p e s q place scanned radius bound' k'
+nearest_offered n first arcs p e s q place scanned radius bound bound' k k' j v x r o most wants none (inl (a, b)) =
     subst (λ (z : ℤ). IsNearest n first arcs p e s q place scanned radius z k') (sym a) (subst (λ (i : ℕ). IsNearest n first arcs p e s q place scanned radius bound i) (sym b) r)
-nearest_offered n first arcs p e s q place scanned radius bound cut' k k' j v x r o most wants none (inr (a, b)) =
+nearest_offered n first arcs p e s q place scanned radius bound bound' k k' j v x r o most wants none (inr (a, b)) =
     let here : x <ℤ far = not_far x (q v) o.less most in
     let one : IsNearest n first arcs p e s q place scanned radius (x -ℤ p v) j = record {
       above = o.beyond;
-      most = cut_far x (p v) here none;
+      most = lowered_far x (p v) here none;
       hit = λ l. record {
         start = o.start;
         node = o.node;
@@ -466,29 +466,29 @@ nearest_offered n first arcs p e s q place scanned radius bound cut' k k' j v x 
         unblocked = o.unblocked;
         wanting = subst (λ (i : ℕ). e i <ℤ pos 0) (sym o.arrives) wants;
         distance = rw (o.arrives, o.label) refl;
-        near = near_cut (p s) scanned x (p v) o.near none;
+        near = near_lowered (p s) scanned x (p v) o.near none;
       };
     } in
     subst (λ (z : ℤ). IsNearest n first arcs p e s q place scanned radius z k') (sym a) (subst (λ (i : ℕ). IsNearest n first arcs p e s q place scanned radius (x -ℤ p v) i) (sym b) one)
 
 -- ---- what is served stays so
 
-nearer : (a a' c e bound cut' : ℤ) → a' ≡ a → (a' +ℤ c -ℤ e) <ℤ cut' → cut' ≤ℤ bound → (a +ℤ c -ℤ e) <ℤ bound
-nearer a a' c e bound cut' h k l = omega (arith, ints)
+nearer : (a a' c e bound bound' : ℤ) → a' ≡ a → (a' +ℤ c -ℤ e) <ℤ bound' → bound' ≤ℤ bound → (a +ℤ c -ℤ e) <ℤ bound
+nearer a a' c e bound bound' h k l = omega (arith, ints)
 
 no_more : (a a' c b b' : ℤ) → a' ≡ a → b' ≤ℤ b → b ≤ℤ (a +ℤ c) → b' ≤ℤ (a' +ℤ c)
 no_more a a' c b b' h k l = omega (arith, ints)
 
-pub serves_kept : (arcs : List ResidualArc) (p q q' : ℕ → ℤ) (bound cut' : ℤ) (u k : ℕ) → q' u ≡ q u → q' (end_at arcs k) ≤ℤ q (end_at arcs k) → cut' ≤ℤ bound → Serves arcs p q bound u k → Serves arcs p q' cut' u k
-serves_kept arcs p q q' bound cut' u k same lower less sv unblocked near =
-    let was : (q u +ℤ cost_at arcs k -ℤ p (end_at arcs k)) <ℤ bound = nearer (q u) (q' u) (cost_at arcs k) (p (end_at arcs k)) bound cut' same near less in
+pub serves_kept : (arcs : List ResidualArc) (p q q' : ℕ → ℤ) (bound bound' : ℤ) (u k : ℕ) → q' u ≡ q u → q' (end_at arcs k) ≤ℤ q (end_at arcs k) → bound' ≤ℤ bound → Serves arcs p q bound u k → Serves arcs p q' bound' u k
+serves_kept arcs p q q' bound bound' u k same lower less sv unblocked near =
+    let was : (q u +ℤ cost_at arcs k -ℤ p (end_at arcs k)) <ℤ bound = nearer (q u) (q' u) (cost_at arcs k) (p (end_at arcs k)) bound bound' same near less in
     no_more (q u) (q' u) (cost_at arcs k) (q (end_at arcs k)) (q' (end_at arcs k)) same lower (sv unblocked was)
 
-pub served_kept : (n : ℕ) (first : List ℕ) (arcs : List ResidualArc) (p q q' : ℕ → ℤ) (place place' : ℕ → ℕ) (bound cut' : ℤ) (h : ℕ) → IsGraph n first arcs → IsServed n first arcs p q place bound h → AreLowered n h q place q' place' → cut' ≤ℤ bound → IsServed n first arcs p q' place' cut' h
-served_kept n first arcs p q q' place place' bound cut' h g sv kept less = record {
+pub served_kept : (n : ℕ) (first : List ℕ) (arcs : List ResidualArc) (p q q' : ℕ → ℤ) (place place' : ℕ → ℕ) (bound bound' : ℤ) (h : ℕ) → IsGraph n first arcs → IsServed n first arcs p q place bound h → AreLowered n h q place q' place' → bound' ≤ℤ bound → IsServed n first arcs p q' place' bound' h
+served_kept n first arcs p q q' place place' bound bound' h g sv kept less = record {
   served = λ u k b l c st.
       let (l', c') = kept.old u b l c in
-      serves_kept arcs p q q' bound cut' u k (kept.same u b l' c').0 (kept.lower (end_at arcs k) (g.end u k b st)) less (sv.served u k b l' c' st);
+      serves_kept arcs p q q' bound bound' u k (kept.same u b l' c').0 (kept.lower (end_at arcs k) (g.end u k b st)) less (sv.served u k b l' c' st);
 }
 
 -- one node more is served

@@ -95,10 +95,10 @@ module _ (key : ℕ × ℕ) (words : List ℕ) (views : List Draws) (id : ℕ) (
         each = each_set (Stands key.0) views id w (omega arith, mine.1, mine.2) (λ j u _ e. h.each j u e);
       }
 
-  -- a seat is cut off
-  cuts : IsDealt key words views → get_elem? views id ≡ some v → v.ends < v.parts → 1 < v.parts
+  -- a seat is taken off
+  divides : IsDealt key words views → get_elem? views id ≡ some v → v.ends < v.parts → 1 < v.parts
       → IsDealt key words (set views id (draws v.limit (v.parts - 1) v.ends v.drawn) ++ draws v.limit 1 0 [] ∷ [])
-  cuts h at free several =
+  divides h at free several =
       let l : Draws = draws v.limit (v.parts - 1) v.ends v.drawn in
       let r : Draws = draws v.limit 1 0 [] in
       let vs : List Draws = set views id l in
@@ -204,7 +204,7 @@ module _ {S : Type 0} where
 
   pub splits : (key : ℕ × ℕ) (id : ℕ) (v : Draws) → v.ends < v.parts → 1 < v.parts
       → Splits (λ (s : State S Draws). IsDealt key s.words s.views) id v (draws v.limit (v.parts - 1) v.ends v.drawn) (draws v.limit 1 0 [])
-  splits key id v free several s h at = cuts key s.words s.views id v h at free several
+  splits key id v free several s h at = divides key s.words s.views id v h at free several
 
   pub joins : (key : ℕ × ℕ) (id : ℕ) (v : Draws) (other : ℕ) (u : Draws) → 0 < v.parts
       → Joins (λ (s : State S Draws). IsDealt key s.words s.views) id v other u (draws v.limit (v.parts + u.parts) (v.ends + u.ends) (u.drawn ++ v.drawn)) (draws 0 0 0 [])

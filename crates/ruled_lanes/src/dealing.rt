@@ -51,8 +51,8 @@ impl Tickets {
     ghost use Rattle.ruled_lanes.specs.TicketRule.{draws, HasOnceBelow};
     ghost use Rattle.ruled_lanes.specs.TicketSeats.{limit_of, lanes_of, drawn, has_ended, all_drawn, state_of, SitsAt, IsSeatOf, IsUnused, IsPool};
 
-    // Cuts a pass that stands for all seats into one for each.
-    fn cut(
+    // Divides a pass that stands for all seats into one for each.
+    fn divide(
         alloc: Global,
         table: &Word,
         mut pass: Pass<(), Draws>,
@@ -109,7 +109,7 @@ impl Tickets {
             Ok(made) => made,
             Err(_) => return Err(Memory),
         };
-        let seats = Tickets::cut(alloc, &table, pass, lanes)?;
+        let seats = Tickets::divide(alloc, &table, pass, lanes)?;
         let tickets = Tickets {
             table,
             limit: limit as u64,

@@ -23,7 +23,7 @@ impl TableRule<(), Draws, (u64, u64)> for Dealt {
     ghost first = { λ key. draws key.0 key.1 0 [] };
 }
 
-// A seat is cut off a pass that stands for several, of which none has drawn yet.
+// A seat is taken off a pass that stands for several, of which none has drawn yet.
 pub struct Parts;
 
 impl Split<Draws> for Parts {

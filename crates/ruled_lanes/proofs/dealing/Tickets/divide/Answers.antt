@@ -1,6 +1,6 @@
 use Rattle.std.proofs.Common.{ap, arith}
 use Rattle.ruled_lanes.proofs.Deals.{splits}
-use Rattle.ruled_lanes.proofs.dealing.Tickets.cut.Goals as goal
+use Rattle.ruled_lanes.proofs.dealing.Tickets.divide.Goals as goal
 
 pub split_seat-requires : goal.split_seat-requires
 split_seat-requires c =

@@ -2,7 +2,7 @@ use Rattle.std.proofs.Common.{◌≡◌, ◌≤◌, ◌+◌, ◌-◌, [], length
 use Rattle.std.specs.Prelude.{vec_capacity}
 use Rattle.ruled_lanes.specs.TicketRule.{draws}
 use Rattle.ruled_lanes.specs.TicketSeats.{SitsAt, IsUnused}
-use Rattle.ruled_lanes.proofs.dealing.Tickets.cut.Given as goal
+use Rattle.ruled_lanes.proofs.dealing.Tickets.divide.Given as goal
 
 abbrev pub invariant-loop-lane : goal.invariant-loop-lane
 invariant-loop-lane l = record {
