@@ -27,8 +27,8 @@ occurs (suc n) f k =
     ]
 
 -- one where the number at a place is k
-mark : (ℕ → ℕ) → ℕ → ℕ → ℕ
-mark f k u = cond (eqb (f u) k) 1 0
+delta : (ℕ → ℕ) → ℕ → ℕ → ℕ
+delta f k u = cond (eqb (f u) k) 1 0
 
 -- a place has one number
 one_number : (m a : ℕ) → sum_below m (λ k. cond (eqb a k) 1 0) ≤ 1
@@ -39,13 +39,13 @@ one_number m a =
     ]
 
 pub no_more : (m n : ℕ) (f : ℕ → ℕ) → ((k : ℕ) → k < m → Occurs n f k) → m ≤ n
-unfolding mark
+unfolding delta
 no_more m n f all =
-    let once : sum_below m (λ _. 1) ≤ sum_below m (λ k. sum_below n (mark f k)) =
-    sum_below-le m (λ _. 1) (λ k. sum_below n (mark f k)) (λ k inside.
+    let once : sum_below m (λ _. 1) ≤ sum_below m (λ k. sum_below n (delta f k)) =
+    sum_below-le m (λ _. 1) (λ k. sum_below n (delta f k)) (λ k inside.
     let o = all k inside in
-    let some : mark f k o.place ≡ 1 = cond-true (eqb (f o.place) k) 1 0 (eq-eqb (f o.place) k o.is) in
-    omega (arith, some, sum_below-member n o.place (mark f k) o.inside)) in
-    let few : sum_below n (λ u. sum_below m (λ k. mark f k u)) ≤ sum_below n (λ _. 1) =
-    sum_below-le n (λ u. sum_below m (λ k. mark f k u)) (λ _. 1) (λ u inside. one_number m (f u)) in
-    omega (arith, once, few, sum_below-swapped m n (mark f), sum_below-constant m 1, sum_below-constant n 1)
+    let some : delta f k o.place ≡ 1 = cond-true (eqb (f o.place) k) 1 0 (eq-eqb (f o.place) k o.is) in
+    omega (arith, some, sum_below-member n o.place (delta f k) o.inside)) in
+    let few : sum_below n (λ u. sum_below m (λ k. delta f k u)) ≤ sum_below n (λ _. 1) =
+    sum_below-le n (λ u. sum_below m (λ k. delta f k u)) (λ _. 1) (λ u inside. one_number m (f u)) in
+    omega (arith, once, few, sum_below-swapped m n (delta f), sum_below-constant m 1, sum_below-constant n 1)

@@ -32,13 +32,13 @@ forward w e = record {
 }
 
 -- one at the dart a
-abbrev mark : ℕ → ℕ → ℕ
-mark a d = cond (eqb a d) 1 0
+abbrev delta : ℕ → ℕ → ℕ
+delta a d = cond (eqb a d) 1 0
 
 module _ (w : DartMap) (sound : IsSound w) (joined : IsConnected w) (cut : IsCutUp w) where
-  mark_at : (a u : ℕ) → a < w.darts → sum_at w.darts w.head u (mark a) ≡ cond (eqb (w.head a) u) 1 0
-  mark_at a u a_in =
-      sum_below-same w.darts (λ d. cond (eqb (w.head d) u) (mark a d) 0) (λ d. cond (eqb a d) (cond (eqb (w.head d) u) 1 0) 0) (λ d d_in. swap (eqb (w.head d) u) (eqb a d))
+  delta_at : (a u : ℕ) → a < w.darts → sum_at w.darts w.head u (delta a) ≡ cond (eqb (w.head a) u) 1 0
+  delta_at a u a_in =
+      sum_below-same w.darts (λ d. cond (eqb (w.head d) u) (delta a d) 0) (λ d. cond (eqb a d) (cond (eqb (w.head d) u) 1 0) 0) (λ d d_in. swap (eqb (w.head d) u) (eqb a d))
       ∙ sum_below-one w.darts a (λ d. cond (eqb (w.head d) u) 1 0) a_in
     where
       swap : (x y : Bool) → cond {A = ℕ} x (cond y 1 0) 0 ≡ cond y (cond x 1 0) 0
@@ -47,11 +47,11 @@ module _ (w : DartMap) (sound : IsSound w) (joined : IsConnected w) (cut : IsCut
       swap false true = refl
       swap false false = refl
 
-  mark_back : (a u : ℕ) → a < w.darts → sum_at w.darts w.head u (λ d. mark a (w.reverse_dart d)) ≡ cond (eqb (w.head (w.reverse_dart a)) u) 1 0
-  mark_back a u a_in =
-      sum_at-same w.darts w.head u (λ d. mark a (w.reverse_dart d)) (mark (w.reverse_dart a))
+  delta_back : (a u : ℕ) → a < w.darts → sum_at w.darts w.head u (λ d. delta a (w.reverse_dart d)) ≡ cond (eqb (w.head (w.reverse_dart a)) u) 1 0
+  delta_back a u a_in =
+      sum_at-same w.darts w.head u (λ d. delta a (w.reverse_dart d)) (delta (w.reverse_dart a))
       (λ d d_in. ap (λ (b : Bool). cond {A = ℕ} b 1 0) (same d d_in))
-      ∙ mark_at (w.reverse_dart a) u (sound.linked.reverse_dart_in a a_in)
+      ∙ delta_at (w.reverse_dart a) u (sound.linked.reverse_dart_in a a_in)
     where
       same : (d : ℕ) → d < w.darts → eqb a (w.reverse_dart d) ≡ eqb (w.reverse_dart a) d
       same d d_in =
@@ -65,7 +65,7 @@ module _ (w : DartMap) (sound : IsSound w) (joined : IsConnected w) (cut : IsCut
 
     -- how often the way to the vertex v takes the dart d
     abbrev taken : ℕ → ℕ → ℕ
-    taken v d = way_sum j g (λ a. mark a d) v
+    taken v d = way_sum j g (λ a. delta a d) v
 
     flows : (v : ℕ) → g.reached v ≡ true → (u : ℕ)
         → sum_at w.darts w.head u (λ d. taken v (w.reverse_dart d)) + cond (eqb v u) 1 0 ≡ sum_at w.darts w.head u (taken v) + cond (eqb (w.head e) u) 1 0
@@ -73,8 +73,8 @@ module _ (w : DartMap) (sound : IsSound w) (joined : IsConnected w) (cut : IsCut
         by_growth j g (λ (v : ℕ). (u : ℕ) → sum_at w.darts w.head u (λ d. taken v (w.reverse_dart d)) + cond (eqb v u) 1 0 ≡ sum_at w.darts w.head u (taken v) + cond (eqb (w.head e) u) 1 0)
         (λ u. omega (
           arith,
-          sum_at-same w.darts w.head u (λ d. taken (w.head e) (w.reverse_dart d)) (λ _. 0) (λ d d_in. way_root j g (λ a. mark a (w.reverse_dart d))),
-          sum_at-same w.darts w.head u (taken (w.head e)) (λ _. 0) (λ d d_in. way_root j g (λ a. mark a d)),
+          sum_at-same w.darts w.head u (λ d. taken (w.head e) (w.reverse_dart d)) (λ _. 0) (λ d d_in. way_root j g (λ a. delta a (w.reverse_dart d))),
+          sum_at-same w.darts w.head u (taken (w.head e)) (λ _. 0) (λ d d_in. way_root j g (λ a. delta a d)),
         ))
         step v r
       where
@@ -86,11 +86,11 @@ module _ (w : DartMap) (sound : IsSound w) (joined : IsConnected w) (cut : IsCut
             let leads = g.grown.leads v r ne in
             let a : ℕ = g.parent v in
             let t : ℕ = w.head (w.reverse_dart a) in
-            let there : sum_at w.darts w.head u (taken v) ≡ sum_at w.darts w.head u (λ d. taken t d + mark a d) =
-            sum_at-same w.darts w.head u (taken v) (λ d. taken t d + mark a d) (λ d d_in. way_step j g (λ x. mark x d) v r ne) in
-            let again : sum_at w.darts w.head u (λ d. taken v (w.reverse_dart d)) ≡ sum_at w.darts w.head u (λ d. taken t (w.reverse_dart d) + mark a (w.reverse_dart d)) =
-            sum_at-same w.darts w.head u (λ d. taken v (w.reverse_dart d)) (λ d. taken t (w.reverse_dart d) + mark a (w.reverse_dart d))
-            (λ d d_in. way_step j g (λ x. mark x (w.reverse_dart d)) v r ne) in
+            let there : sum_at w.darts w.head u (taken v) ≡ sum_at w.darts w.head u (λ d. taken t d + delta a d) =
+            sum_at-same w.darts w.head u (taken v) (λ d. taken t d + delta a d) (λ d d_in. way_step j g (λ x. delta x d) v r ne) in
+            let again : sum_at w.darts w.head u (λ d. taken v (w.reverse_dart d)) ≡ sum_at w.darts w.head u (λ d. taken t (w.reverse_dart d) + delta a (w.reverse_dart d)) =
+            sum_at-same w.darts w.head u (λ d. taken v (w.reverse_dart d)) (λ d. taken t (w.reverse_dart d) + delta a (w.reverse_dart d))
+            (λ d d_in. way_step j g (λ x. delta x (w.reverse_dart d)) v r ne) in
             let ends : cond {A = ℕ} (eqb (w.head a) u) 1 0 ≡ cond (eqb v u) 1 0 = ap (λ (x : ℕ). cond {A = ℕ} (eqb x u) 1 0) leads.to in
             omega (
               arith,
@@ -98,34 +98,34 @@ module _ (w : DartMap) (sound : IsSound w) (joined : IsConnected w) (cut : IsCut
               there,
               again,
               ends,
-              sum_at-add w.darts w.head u (taken t) (mark a),
-              sum_at-add w.darts w.head u (λ d. taken t (w.reverse_dart d)) (λ d. mark a (w.reverse_dart d)),
-              mark_at a u leads.inside,
-              mark_back a u leads.inside,
+              sum_at-add w.darts w.head u (taken t) (delta a),
+              sum_at-add w.darts w.head u (λ d. taken t (w.reverse_dart d)) (λ d. delta a (w.reverse_dart d)),
+              delta_at a u leads.inside,
+              delta_back a u leads.inside,
             )
 
     -- the way takes no dart to the west
     never_west : (d : ℕ) → w.direction d ≡ 2 → (v : ℕ) → g.reached v ≡ true → taken v d ≡ 0
     never_west d way v r =
-        by_growth j g (λ (v : ℕ). taken v d ≡ 0) (way_root j g (λ a. mark a d))
+        by_growth j g (λ (v : ℕ). taken v d ≡ 0) (way_root j g (λ a. delta a d))
         (λ v r ne before.
         let leads = g.grown.leads v r ne in
         let other : g.parent v ≢ d = λ same. both_ways (eqb (w.direction d) 2)
         (not-true (eqb (w.direction d) 2) (subst (λ (x : ℕ). not (eqb (w.direction x) 2) ≡ true) same leads.allowed)) (eq-eqb (w.direction d) 2 way) in
-        omega (arith, way_step j g (λ x. mark x d) v r ne, before, cond-false {A = ℕ} (eqb (g.parent v) d) 1 0 (ne_eqb (g.parent v) d other))) v r
+        omega (arith, way_step j g (λ x. delta x d) v r ne, before, cond-false {A = ℕ} (eqb (g.parent v) d) 1 0 (ne_eqb (g.parent v) d other))) v r
 
     -- from the end of a dart to the east its start is not reached
     pub not_back : g.reached (w.head (w.reverse_dart e)) ≡ true → ⊥
     not_back r =
         let t : ℕ = w.head (w.reverse_dart e) in
-        no_circling w sound joined cut cut.outside (labels w sound cut) (labels w sound cut).out_held (λ d. taken t d + mark e d)
+        no_circling w sound joined cut cut.outside (labels w sound cut) (labels w sound cut).out_held (λ d. taken t d + delta e d)
         (λ u. omega (
           arith,
           flows t r u,
-          sum_at-add w.darts w.head u (taken t) (mark e),
-          sum_at-add w.darts w.head u (λ d. taken t (w.reverse_dart d)) (λ d. mark e (w.reverse_dart d)),
-          mark_at e u e_in,
-          mark_back e u e_in,
+          sum_at-add w.darts w.head u (taken t) (delta e),
+          sum_at-add w.darts w.head u (λ d. taken t (w.reverse_dart d)) (λ d. delta e (w.reverse_dart d)),
+          delta_at e u e_in,
+          delta_back e u e_in,
         ))
         (λ a a_in way.
         let other : e ≢ a = λ same. omega (arith, east, way, ap w.direction same) in

@@ -46,7 +46,7 @@ opposite true = false
 opposite_is : (net : NetworkModel) (first : List ℕ) (reverse : ℕ → ℕ) (forward : List ℕ) (i : ℕ) (b : Bool) → HasResidualArcs net first reverse forward → i < arc_count net → reverse (number_of reverse forward i b) ≡ number_of reverse forward i (opposite b)
 unfolding opposite
 opposite_is net first reverse forward i false l b = refl
-opposite_is net first reverse forward i true l b = l.turned i b
+opposite_is net first reverse forward i true l b = l.undone i b
 
 -- what a push along residual arc k changes
 pub record IsPushed (reverse capacity room' : ℕ → ℕ) (k amount : ℕ) : Type 0 where
@@ -71,17 +71,17 @@ reverse_below net first reverse forward v k n l b s =
     let e : reverse k ≡ number_of reverse forward o.arc (opposite o.back) = reverse_place net first reverse forward k o.arc o.back l o.inside o.place in
     omega (arith, e, place_below net first reverse forward o.arc (opposite o.back) n l o.inside)
 
-not_turned : (b : Bool) → b ≡ opposite b → ⊥
+not_other_way : (b : Bool) → b ≡ opposite b → ⊥
 unfolding opposite
-not_turned true h = cc
-not_turned false h = cc
+not_other_way true h = cc
+not_other_way false h = cc
 
 -- no residual arc is its own reverse
 pub not_reverse : (net : NetworkModel) (first : List ℕ) (reverse : ℕ → ℕ) (forward : List ℕ) (v k : ℕ) → HasResidualArcs net first reverse forward → v < node_count net → StartsAt first v k → k ≢ reverse k
 not_reverse net first reverse forward v k l b s h =
     let o = l.cover v k b s in
     let e : reverse k ≡ number_of reverse forward o.arc (opposite o.back) = reverse_place net first reverse forward k o.arc o.back l o.inside o.place in
-    not_turned o.back (l.alone o.arc o.arc o.back (opposite o.back) o.inside o.inside (o.place ∙ h ∙ e)).1
+    not_other_way o.back (l.alone o.arc o.arc o.back (opposite o.back) o.inside o.inside (o.place ∙ h ∙ e)).1
 
 unit_cost_least : (net : NetworkModel) (i : ℕ) (back : Bool) → HasUnitCosts net → i < arc_count net → negsuc 0 ≤ℤ unit_cost net i back
 unit_cost_least net i false costs b = omega (arith, ints)
@@ -207,18 +207,18 @@ pushed_network net r r' v k amount s b st p =
       fits = λ j h. pushed_fits net r.first.items (reverse_at r.capacities.items) r.forward.items (capacity_at r.capacities.items) (capacity_at r'.capacities.items) r.arcs.items o.arc j o.back k amount l f o.inside o.place (was_pushed r r' k amount p) h;
     } in
     record {
-      arcs_built = rw (p.first, p.forward) (subst (λ (turn : ℕ → ℕ). HasResidualArcs net r.first.items turn r.forward.items) (sym (fun_ext p.reverse)) l);
-      filled = rw p.forward (subst (λ (turn : ℕ → ℕ). AreResidualArcs net turn r.forward.items (capacity_at r'.capacities.items) r'.arcs.items) (sym (fun_ext p.reverse)) filled);
+      arcs_built = rw (p.first, p.forward) (subst (λ (backward : ℕ → ℕ). HasResidualArcs net r.first.items backward r.forward.items) (sym (fun_ext p.reverse)) l);
+      filled = rw p.forward (subst (λ (backward : ℕ → ℕ). AreResidualArcs net backward r.forward.items (capacity_at r'.capacities.items) r'.arcs.items) (sym (fun_ext p.reverse)) filled);
       room_size = p.room_size ∙ s.room_size;
       limits = s.limits;
     }
 
 -- where reverses and arcs stand where they stood, what each arc carries is read as before
 pub same_flow : (r r' : Residual) → ((k : ℕ) → reverse_at r'.capacities.items k ≡ reverse_at r.capacities.items k) → r'.forward ≡ r.forward → flow_of r' ≡ carried (reverse_at r.capacities.items) r.forward.items (capacity_at r'.capacities.items)
-same_flow r r' turned f = rw f (ap (λ (turn : ℕ → ℕ). carried turn r.forward.items (capacity_at r'.capacities.items)) (fun_ext turned))
+same_flow r r' undone f = rw f (ap (λ (backward : ℕ → ℕ). carried backward r.forward.items (capacity_at r'.capacities.items)) (fun_ext undone))
 
 pub same_filled : (net : NetworkModel) (r r' : Residual) → ((k : ℕ) → reverse_at r'.capacities.items k ≡ reverse_at r.capacities.items k) → r'.forward ≡ r.forward → IsResidualNetwork net r' → AreResidualArcs net (reverse_at r.capacities.items) r.forward.items (capacity_at r'.capacities.items) r'.arcs.items
-same_filled net r r' turned f h = subst (λ (turn : ℕ → ℕ). AreResidualArcs net turn r.forward.items (capacity_at r'.capacities.items) r'.arcs.items) (fun_ext turned) (rw f at h.filled)
+same_filled net r r' undone f h = subst (λ (backward : ℕ → ℕ). AreResidualArcs net backward r.forward.items (capacity_at r'.capacities.items) r'.arcs.items) (fun_ext undone) (rw f at h.filled)
 
 -- ---- what a push does to the amounts that the arcs carry
 

@@ -132,7 +132,7 @@ laid_still net first reverse forward f t k l =
       block = λ i back b. l.block i back b;
       cover = λ v j b st. let o = l.cover v j (omega arith) st in record { arc = o.arc; back = o.back; inside = o.inside; place = o.place; start = o.start };
       alone = λ i j b c ib jb e. l.alone i j b c ib jb e;
-      turned = λ i b. l.turned i b;
+      undone = λ i b. l.undone i b;
     }
 
 -- nothing is left over where it is so at the one node and at all others

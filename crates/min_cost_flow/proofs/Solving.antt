@@ -27,7 +27,7 @@ use Rattle.networks.specs.Search.{far, IsArcCost, IsOpen, IsGraph, AreFeasiblePo
 use Rattle.min_cost_flow.specs.Path.{HasPath}
 use Rattle.min_cost_flow.proofs.Cut.{no_flow_out}
 use Rattle.networks.proofs.Ends.{start_in, end_in}
-use Rattle.min_cost_flow.proofs.Reverses.{turned_back, start_is}
+use Rattle.min_cost_flow.proofs.Reverses.{other_way, start_is}
 use Rattle.networks.proofs.Signs.{plain_lt, fits_within, label_fits}
 use Rattle.min_cost_flow.proofs.Comparisons.{lt_true}
 use Rattle.networks.proofs.Reaching.{below_or_not, not_less}
@@ -350,18 +350,18 @@ nothing_found net first reverse forward capacity arcs p e s q enter order place 
 
 -- ---- each scanned node has a residual arc
 
-turned_start : (net : NetworkModel) (i : ℕ) (back : Bool) → start_of net i (turned_back back) ≡ end_of net i back
-unfolding turned_back
-turned_start net i false = refl
-turned_start net i true = refl
+other_way_start : (net : NetworkModel) (i : ℕ) (back : Bool) → start_of net i (other_way back) ≡ end_of net i back
+unfolding other_way
+other_way_start net i false = refl
+other_way_start net i true = refl
 
 -- the end of a residual arc has one of its own
 has_own : (net : NetworkModel) (first : List ℕ) (reverse : ℕ → ℕ) (forward : List ℕ) (capacity : ℕ → ℕ) (arcs : List ResidualArc) (u k : ℕ) → HasResidualArcs net first reverse forward → AreResidualArcs net reverse forward capacity arcs → u < node_count net → StartsAt first u k → 0 < degree first (end_at arcs k)
 has_own net first reverse forward capacity arcs u k l f b st =
     let o = l.cover u k b st in
     let ends : end_at arcs k ≡ end_of net o.arc o.back = ap (end_at arcs) (sym o.place) ∙ f.end o.arc o.back o.inside in
-    let own : StartsAt first (start_of net o.arc (turned_back o.back)) (number_of reverse forward o.arc (turned_back o.back)) = l.block o.arc (turned_back o.back) o.inside in
-    let here : StartsAt first (end_at arcs k) (number_of reverse forward o.arc (turned_back o.back)) = subst (λ (t : ℕ). StartsAt first t (number_of reverse forward o.arc (turned_back o.back))) (turned_start net o.arc o.back ∙ sym ends) own in
+    let own : StartsAt first (start_of net o.arc (other_way o.back)) (number_of reverse forward o.arc (other_way o.back)) = l.block o.arc (other_way o.back) o.inside in
+    let here : StartsAt first (end_at arcs k) (number_of reverse forward o.arc (other_way o.back)) = subst (λ (t : ℕ). StartsAt first t (number_of reverse forward o.arc (other_way o.back))) (other_way_start net o.arc o.back ∙ sym ends) own in
     omega (arith, here.from, here.below)
 
 own_degree : (first : List ℕ) (v k : ℕ) → StartsAt first v k → 0 < degree first v

@@ -59,7 +59,7 @@ pub record HasResidualArcs (net : NetworkModel) (first : List ℕ) (reverse : �
   pub block : (i : ℕ) (back : Bool) → i < arc_count net → StartsAt first (start_of net i back) (number_of reverse forward i back)
   pub cover : (v k : ℕ) → v < node_count net → StartsAt first v k → HasOrigin net reverse forward v k
   pub alone : (i j : ℕ) (b c : Bool) → i < arc_count net → j < arc_count net → number_of reverse forward i b ≡ number_of reverse forward j c → (i ≡ j) × (b ≡ c)
-  pub turned : (i : ℕ) → i < arc_count net → reverse (reverse (numbers forward i)) ≡ numbers forward i
+  pub undone : (i : ℕ) → i < arc_count net → reverse (reverse (numbers forward i)) ≡ numbers forward i
 
 -- how many units a capacity stands for; where there is no limit it never runs out
 abbrev pub units_of : Cap → ℕ

@@ -249,17 +249,17 @@ along-preserved c =
     let new = c.push-in-along.new.residual in
     let next = previous_of arcs capacities (enters_in s) in
     let j = reverse (enter v) in
-    let turned : (m : ℕ) → reverse_at new.capacities.items m ≡ reverse m = λ m. q.reverse m ∙ i.reverse m in
+    let undone : (m : ℕ) → reverse_at new.capacities.items m ≡ reverse m = λ m. q.reverse m ∙ i.reverse m in
     let start = rw en at c.start-node-in-along.ensures in
-    let at : c.start-node-in-along.result ≡ end_at arcs j = start ∙ ap (end_at new.arcs.items) (turned (enter v)) ∙ q.ends j ∙ i.ends j in
-    let pushed : IsPushed reverse (capacity_at t.residual.capacities.items) (capacity_at new.capacities.items) (enter v) k = subst (λ (turn : ℕ → ℕ). IsPushed turn (capacity_at t.residual.capacities.items) (capacity_at new.capacities.items) (enter v) k) (fun_ext i.reverse) (rw en at (was_pushed t.residual new c.index-in-along-2.result.now.enter k q)) in
+    let at : c.start-node-in-along.result ≡ end_at arcs j = start ∙ ap (end_at new.arcs.items) (undone (enter v)) ∙ q.ends j ∙ i.ends j in
+    let pushed : IsPushed reverse (capacity_at t.residual.capacities.items) (capacity_at new.capacities.items) (enter v) k = subst (λ (backward : ℕ → ℕ). IsPushed backward (capacity_at t.residual.capacities.items) (capacity_at new.capacities.items) (enter v) k) (fun_ext i.reverse) (rw en at (was_pushed t.residual new c.index-in-along-2.result.now.enter k q)) in
     record {
       node = λ net' g. subst (λ (u : ℕ). u < node_count net') (sym at) (own_step net' s c.args.root g v (i.on net' g) some).node;
       residual = λ net' g. let l = own_step net' s c.args.root g v (i.on net' g) some in pushed_network net' t.residual new (next v) (enter v) k (i.residual net' g) l.node (rw i.first l.leaves) (rw en at q);
       first = q.first ∙ i.first;
       forward = q.forward ∙ i.forward;
       ends = λ m. q.ends m ∙ i.ends m;
-      reverse = turned;
+      reverse = undone;
       nodes = i.nodes;
       visits = i.visits;
       found = i.found;
@@ -271,7 +271,7 @@ along-preserved c =
           let l = own_step net' s c.args.root g v (i.on net' g) some in
           let most' = carrying net' (flow_in s) + place from + 1 in
           let sd = subst (λ (y : ℕ → ℕ). IsSending net' (potential_at s) e g.path.on place (flow_in s) y v k most') (same_flow s.residual t.residual i.reverse i.forward) (i.sending net' g) in
-          subst (λ (y : ℕ → ℕ). IsSending net' (potential_at s) e g.path.on place (flow_in s) y c.start-node-in-along.result k most') (sym (same_flow s.residual new turned (q.forward ∙ i.forward)))
+          subst (λ (y : ℕ → ℕ). IsSending net' (potential_at s) e g.path.on place (flow_in s) y c.start-node-in-along.result k most') (sym (same_flow s.residual new undone (q.forward ∙ i.forward)))
           (subst (λ (u : ℕ). IsSending net' (potential_at s) e g.path.on place (flow_in s) (carried reverse forward (capacity_at new.capacities.items)) u k most') (sym at)
           (sending_more net' first reverse forward (capacity_at capacities) (capacity_at t.residual.capacities.items) (capacity_at new.capacities.items) (potential_at s) e g.path.on place (end_at arcs j) (enter v) v k most' g.ready.residual.arcs_built l.link l.member (i.on net' g) l.before sd pushed));
     }
