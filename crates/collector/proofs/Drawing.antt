@@ -6,12 +6,12 @@ use Rattle.entries.specs.Books.{BookModel}
 use Rattle.entries.specs.AllBooks.{AreAllBooks}
 use Rattle.reports.specs.declared.form.Form.{Form}
 use Rattle.reports.specs.Forms.{text_in}
-use Rattle.printing.specs.FormLines.{head_in, lines_in}
+use Rattle.printing.specs.FormLines.{preamble_in, lines_in}
 use Rattle.printing.specs.Whole.{IsAllWritten, IsBegun}
 use Rattle.printing.specs.Telling.{AddsNoneUndrawn}
 use Rattle.printing.specs.DrawnBooks.{AreDrawnBooks}
 use Rattle.printing.proofs.Apart.{joined}
-use Rattle.printing.proofs.TextBytes.{text_apart, head_apart, lines_apart}
+use Rattle.printing.proofs.TextBytes.{text_apart, preamble_apart, lines_apart}
 use Rattle.printing.proofs.Books.{drawn_book, drawn_books}
 use Rattle.printing.proofs.Added.{text_added, front_added, from_some}
 
@@ -31,9 +31,9 @@ begun_by choice meaning form files start now is =
       | inr going ↦
           let count = length is.books in
           let entries = going.1.0 in
-          front_added start now (text_in form is.books ++ head_in form (count + 1) ++ lines_in form entries)
-          (joined (text_in form is.books ++ head_in form (count + 1)) (lines_in form entries)
-          (joined (text_in form is.books) (head_in form (count + 1)) books (head_apart form (count + 1)))
+          front_added start now (text_in form is.books ++ preamble_in form (count + 1) ++ lines_in form entries)
+          (joined (text_in form is.books ++ preamble_in form (count + 1)) (lines_in form entries)
+          (joined (text_in form is.books) (preamble_in form (count + 1)) books (preamble_apart form (count + 1)))
           (lines_apart form entries (drawn_book choice (meaning count) count _ going.1.1)))
           going.1.2
     ]

@@ -6,7 +6,7 @@ use Rattle.streams.specs.Sink.{IsOnItsWay}
 use Rattle.streams.proofs.Sinks.{added_none}
 use Rattle.entries.specs.declared.entry.Entry.{Entry}
 use Rattle.reports.specs.declared.form.Form.{Form}
-use Rattle.printing.specs.FormLines.{line_in, head_in, lines_in}
+use Rattle.printing.specs.FormLines.{line_in, preamble_in, lines_in}
 use Rattle.printing.specs.declared.waiting.Waiting.{Waiting}
 use Rattle.printing.specs.Came.{Came, nothing, HasMark, HasEntryMore, HasMarkMore}
 use Rattle.printing.specs.Waits.{ChangesAt, IsNothing, IsCountedOne, GetsLine, GetsMark}
@@ -43,7 +43,7 @@ pub front_more : (form : Form) (front : ℕ) (came next : ℕ → Came) (entry :
     → (ended_texts form came front ++ begun form front (came front)) ++ line ≡ ended_texts form next front ++ begun form front (next front)
 front_more form front came next entry line is more =
     let T = ended_texts form came front in
-    let H = head_in form (front + 1) in
+    let H = preamble_in form (front + 1) in
     let L = lines_in form (came front).entries in
     append_assoc T (H ++ L) line
     ∙ ap (λ l. T ++ l) (append_assoc H L line ∙ ap (λ l. H ++ l) (ap (λ l. L ++ l) (sym is) ∙ sym (lines-more form (came front).entries entry)) ∙ ap (begun form front) (sym more.here))
@@ -111,7 +111,7 @@ pub written_marked : (form : Form) (start now : Option (List ℕ)) (buffer : Lis
 written_marked form start now buffer file front waiting after came next many mark below before more changed was =
     let text : ended_texts form came front ++ begun form front (came front) ≡ ended_texts form next front ++ begun form front (next front) =
     ap (λ t. t ++ begun form front (came front)) (texts_same form came next front (λ k lt. more.others k (λ e. absurd (omega (arith, lt, before, e)))))
-    ∙ ap (λ l. ended_texts form next front ++ (head_in form (front + 1) ++ lines_in form l)) (entries_same file mark came next more front) in
+    ∙ ap (λ l. ended_texts form next front ++ (preamble_in form (front + 1) ++ lines_in form l)) (entries_same file mark came next more front) in
     record {
       within = omega (arith, was.within, changed.count);
       marked = marked_same came next front (λ k lt. more.others k (λ e. absurd (omega (arith, lt, before, e)))) was.marked;
@@ -126,14 +126,14 @@ written_marked form start now buffer file front waiting after came next many mar
       over = λ past. absurd (omega (arith, past, changed.count, below, before));
     }
 
--- nothing has come, and the head of the first file is on its way
+-- nothing has come, and the preamble of the first file is on its way
 pub written_none : (form : Form) (start : Option (List ℕ)) (buffer : List ℕ) (waiting : List Waiting) → All IsNothing waiting
-    → (0 < length waiting → buffer ≡ head_in form (0 + 1)) → (length waiting ≤ 0 → buffer ≡ []) → AreWritten form start start buffer 0 waiting (λ _. nothing)
+    → (0 < length waiting → buffer ≡ preamble_in form (0 + 1)) → (length waiting ≤ 0 → buffer ≡ []) → AreWritten form start start buffer 0 waiting (λ _. nothing)
 written_none form start buffer waiting all some none = record {
   within = omega arith;
   marked = λ k below. absurd (omega (arith, below));
   counted = λ k other from below. record { count = (all k other below).count; mark = (all k other below).mark };
   lines = λ k other from below. (all k other below).lines;
-  going = λ below. record { sent = []; split = append-nil (head_in form (0 + 1)) ∙ sym (some below); added = added_none start };
+  going = λ below. record { sent = []; split = append-nil (preamble_in form (0 + 1)) ∙ sym (some below); added = added_none start };
   over = λ past. record { sent = []; split = sym (none past); added = added_none start };
 }

@@ -7,7 +7,7 @@ use Rattle.streams.specs.declared.faults.WriteFault.{WriteFault}
 use Rattle.streams.specs.declared.faults.WriteFault.TheVariants.{Write, Memory}
 use Rattle.entries.specs.declared.entry.Entry.{Entry}
 use Rattle.reports.specs.declared.form.Form.{Form}
-use Rattle.printing.specs.FormLines.{line_in, head_in, lines_in, end_in}
+use Rattle.printing.specs.FormLines.{line_in, preamble_in, lines_in, end_in}
 use Rattle.streams.specs.declared.frames.Mark.{Mark}
 use Rattle.printing.specs.declared.waiting.Waiting.{Waiting}
 use Rattle.printing.specs.Came.{Came, HasMark, HasEntryMore}
@@ -51,12 +51,12 @@ pub breaks_in : (form : Form) (start now : Option (List ℕ)) (came : ℕ → Ca
 breaks_in form start now came n files below marked added = record { front = n; within = omega (arith, below); marked = marked; text = inr (below, added) }
 
 -- or its first line alone
-pub breaks_head : (form : Form) (start now : Option (List ℕ)) (came : ℕ → Came) (n files : ℕ) → n < files → ((k : ℕ) → k < n → HasMark (came k))
-    → AppendsFront start now (ended_texts form came n ++ head_in form (n + 1)) → BreaksOff form start now files came
-breaks_head form start now came n files below marked added =
+pub breaks_preamble : (form : Form) (start now : Option (List ℕ)) (came : ℕ → Came) (n files : ℕ) → n < files → ((k : ℕ) → k < n → HasMark (came k))
+    → AppendsFront start now (ended_texts form came n ++ preamble_in form (n + 1)) → BreaksOff form start now files came
+breaks_preamble form start now came n files below marked added =
     breaks_in form start now came n files below marked
-    (appends_longer start now (ended_texts form came n ++ begun form n (came n)) (ended_texts form came n ++ head_in form (n + 1))
-    (lines_in form (came n).entries, sym (append_assoc (ended_texts form came n) (head_in form (n + 1)) (lines_in form (came n).entries))) added)
+    (appends_longer start now (ended_texts form came n ++ begun form n (came n)) (ended_texts form came n ++ preamble_in form (n + 1))
+    (lines_in form (came n).entries, sym (append_assoc (ended_texts form came n) (preamble_in form (n + 1)) (lines_in form (came n).entries))) added)
 
 -- where a beginning was added of what was on its way
 breaks_way : (form : Form) (start now new : Option (List ℕ)) (buffer : List ℕ) (front : ℕ) (waiting : List Waiting) (came : ℕ → Came)
@@ -103,21 +103,21 @@ breaks_end form start old new buffer front waiting came mark count below is coun
 
 -- where the first line of the front was, or its lines so far
 pub breaks_first : (form : Form) (start old new : Option (List ℕ)) (buffer : List ℕ) (front : ℕ) (waiting : List Waiting) (came : ℕ → Came)
-    → front < length waiting → BreaksIn old buffer new (head_in form (front + 1))
+    → front < length waiting → BreaksIn old buffer new (preamble_in form (front + 1))
     → AreLeft form start old buffer front waiting came → BreaksOff form start new (length waiting) came
 breaks_first form start old new buffer front waiting came below breaks was =
-    breaks_head form start new came front (length waiting) below was.marked (breaks start _ was.text)
+    breaks_preamble form start new came front (length waiting) below was.marked (breaks start _ was.text)
 
 pub breaks_lines : (form : Form) (start old mid new : Option (List ℕ)) (buffer between : List ℕ) (front : ℕ) (waiting : List Waiting) (came : ℕ → Came) (lines : List ℕ)
-    → front < length waiting → GoesOn old buffer mid between (head_in form (front + 1)) → ((other : Waiting) → lines ≡ (get_or waiting front other).lines)
+    → front < length waiting → GoesOn old buffer mid between (preamble_in form (front + 1)) → ((other : Waiting) → lines ≡ (get_or waiting front other).lines)
     → BreaksIn mid between new lines → AreLeft form start old buffer front waiting came → BreaksOff form start new (length waiting) came
-breaks_lines form start old mid new buffer between front waiting came lines below head are breaks was =
+breaks_lines form start old mid new buffer between front waiting came lines below preamble are breaks was =
     let T = ended_texts form came front in
-    let H = head_in form (front + 1) in
+    let H = preamble_in form (front + 1) in
     let other = some_waiting waiting front below in
     let same : lines ≡ lines_in form (came front).entries = are other ∙ was.lines front other (omega arith) below in
     let text : (T ++ H) ++ lines ≡ T ++ (H ++ lines_in form (came front).entries) = append_assoc T H lines ∙ ap (λ l. T ++ (H ++ l)) same in
-    breaks_in form start new came front (length waiting) below was.marked (subst (AppendsFront start new) text (breaks start (T ++ H) (head start T was.text)))
+    breaks_in form start new came front (length waiting) below was.marked (subst (AppendsFront start new) text (breaks start (T ++ H) (preamble start T was.text)))
 
 -- the same form and as many files
 pub breaks_as : (form now_form : Form) (start now : Option (List ℕ)) (files now_files : ℕ) (came : ℕ → Came) → now_form ≡ form → now_files ≡ files

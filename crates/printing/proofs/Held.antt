@@ -14,7 +14,7 @@ use Rattle.entries.specs.declared.entry.Entry.{Entry}
 use Rattle.entries.specs.Abouts.{about_of}
 use Rattle.reports.specs.declared.form.Form.{Form}
 use Rattle.reports.specs.declared.form.Form.TheVariants.{Report, Json}
-use Rattle.printing.specs.FormLines.{head_in}
+use Rattle.printing.specs.FormLines.{preamble_in}
 use Rattle.printing.specs.declared.waiting.Waiting.{Waiting}
 use Rattle.printing.specs.declared.run_lines.Lines.{Lines}
 use Rattle.printing.specs.Came.{Came, HasEntryMore, HasMarkMore, IsWholeSoFar, nothing}
@@ -146,7 +146,7 @@ held_end meaning start old new before mid after ns file mark went kept below unm
 
 -- nothing is told
 pub held_none : (choice : Choice) (meaning : ℕ → Meaning) (form : Form) (start : Option (List ℕ)) (buffer : List ℕ) (waiting : List Waiting) → All IsNothing waiting
-    → (0 < length waiting → buffer ≡ head_in form (0 + 1)) → (length waiting ≤ 0 → buffer ≡ []) → HoldsNotes choice meaning form start start buffer 0 waiting true []
+    → (0 < length waiting → buffer ≡ preamble_in form (0 + 1)) → (length waiting ≤ 0 → buffer ≡ []) → HoldsNotes choice meaning form start start buffer 0 waiting true []
 held_none choice meaning form start buffer waiting all some none = record {
   came = λ _. nothing;
   told = λ k below. record { entries = refl; mark = refl };
@@ -160,11 +160,11 @@ held_none choice meaning form start buffer waiting all some none = record {
 }
 
 -- the first line of the first file is short
-pub head_short : (form : Form) → length (head_in form (0 + 1)) ≤ 100
-head_short Report =
+pub preamble_short : (form : Form) → length (preamble_in form (0 + 1)) ≤ 100
+preamble_short Report =
     let short : length (decimal 1) ≤ 20 = length-decimal-le 20 1 (omega arith) (lit< tt) (lit< tt) in
     omega (arith, short, length-append (codes "file " ++ decimal 1) (codes "\n"), length-append (codes "file ") (decimal 1))
-head_short Json = omega arith
+preamble_short Json = omega arith
 
 -- what is held is left off as it is
 pub left_off_held : (meaning : ℕ → Meaning) (start now : Option (List ℕ)) (lines : Lines) (ns : List Note) → LinesHold meaning start now lines ns → LinesLeaveOff meaning start now lines ns

@@ -4,7 +4,7 @@ use Rattle.std.proofs.lemmas.Bool.{cases_lt}
 use Rattle.streams.specs.declared.frames.Mark.{Mark}
 use Rattle.streams.specs.Sink.{IsOnItsWay}
 use Rattle.reports.specs.declared.form.Form.{Form}
-use Rattle.printing.specs.FormLines.{head_in, lines_in, end_in}
+use Rattle.printing.specs.FormLines.{preamble_in, lines_in, end_in}
 use Rattle.printing.specs.declared.waiting.Waiting.{Waiting}
 use Rattle.printing.specs.Came.{Came, HasMark}
 use Rattle.printing.specs.Waits.{ChangesAt, IsTaken}
@@ -59,12 +59,12 @@ left_ended form start old new buffer gathers front next waiting came w mark coun
 
 -- what has come of the front went on its way
 pub written_begun : (form : Form) (start old mid new : Option (List ℕ)) (buffer between gathers : List ℕ) (front : ℕ) (waiting after : List Waiting) (came : ℕ → Came) (lines : List ℕ)
-    → front < length waiting → GoesOn old buffer mid between (head_in form (front + 1))
+    → front < length waiting → GoesOn old buffer mid between (preamble_in form (front + 1))
     → ((other : Waiting) → lines ≡ (get_or waiting front other).lines) → ChangesAt front IsTaken waiting after → GoesOn mid between new gathers lines
     → AreLeft form start old buffer front waiting came → AreWritten form start new gathers front after came
-written_begun form start old mid new buffer between gathers front waiting after came lines below head are changed goes was =
+written_begun form start old mid new buffer between gathers front waiting after came lines below preamble are changed goes was =
     let T = ended_texts form came front in
-    let H = head_in form (front + 1) in
+    let H = preamble_in form (front + 1) in
     let other = some_waiting waiting front below in
     let same : lines ≡ lines_in form (came front).entries = are other ∙ was.lines front other (omega arith) below in
     let text : (T ++ H) ++ lines ≡ T ++ (H ++ lines_in form (came front).entries) = append_assoc T H lines ∙ ap (λ l. T ++ (H ++ l)) same in
@@ -75,7 +75,7 @@ written_begun form start old mid new buffer between gathers front waiting after 
           (λ _ w w' c had. record { count = c.count ∙ had.count; mark = c.mark ∙ had.mark }) was.counted;
       lines = after_change (λ w c. w.lines ≡ lines_in form c.entries) (λ k. front < k) front waiting after came came IsTaken changed (λ _ _. refl) below
           (λ lt. absurd (omega (arith, lt))) (λ k o from lt. was.lines k o (omega (arith, from)) lt);
-      going = λ _. subst (IsOnItsWay start new gathers) text (goes start (T ++ H) (head start T was.text));
+      going = λ _. subst (IsOnItsWay start new gathers) text (goes start (T ++ H) (preamble start T was.text));
       over = λ past. absurd (omega (arith, past, changed.count, below));
     }
 

@@ -21,7 +21,7 @@ use Rattle.entries.proofs.KeptBooks.{all_answered, books_more}
 use Rattle.reports.specs.declared.form.Form.{Form}
 use Rattle.reports.specs.Report.{numbered_texts}
 use Rattle.reports.specs.Forms.{text_in}
-use Rattle.printing.specs.FormLines.{head_in, lines_in, book_in}
+use Rattle.printing.specs.FormLines.{preamble_in, lines_in, book_in}
 use Rattle.printing.specs.Spelt.{IsSpelt}
 use Rattle.printing.proofs.BookTexts.{text_by_lines}
 use Rattle.printing.specs.Came.{Came, HasMark, nothing}
@@ -180,8 +180,8 @@ begun_next choice meaning form files start now came front below added first up_t
     let same : front ≡ length up_to.books = sym up_to.count in
     let text : ended_texts form came front ≡ text_in form up_to.books = sym up_to.text ∙ text_by_lines form choice meaning up_to.books up_to.each in
     let entries = (came front).entries in
-    let ended : AppendsFront start now (text_in form up_to.books ++ head_in form (front + 1) ++ lines_in form entries) =
-    subst (AppendsFront start now) (sym (append_assoc (text_in form up_to.books) (head_in form (front + 1)) (lines_in form entries)))
+    let ended : AppendsFront start now (text_in form up_to.books ++ preamble_in form (front + 1) ++ lines_in form entries) =
+    subst (AppendsFront start now) (sym (append_assoc (text_in form up_to.books) (preamble_in form (front + 1)) (lines_in form entries)))
     (subst (λ l. AppendsFront start now (l ++ begun form front (came front))) text added) in
     record {
       books = up_to.books;
@@ -192,7 +192,7 @@ begun_next choice meaning form files start now came front below added first up_t
         (
           entries,
           subst (λ k. AreFirst choice (meaning k) k entries) same first,
-          subst (λ k. AppendsFront start now (text_in form up_to.books ++ head_in form (k + 1) ++ lines_in form entries)) same ended,
+          subst (λ k. AppendsFront start now (text_in form up_to.books ++ preamble_in form (k + 1) ++ lines_in form entries)) same ended,
         ),
       );
     }

@@ -9,7 +9,7 @@ use Rattle.reports.specs.declared.form.Form.TheVariants.{Report, Json}
 use Rattle.reports.specs.Report.{numbered_texts, entry_line, end_line, file_line, book_text}
 use Rattle.reports.specs.Json.{entry_json, end_json, book_json}
 use Rattle.reports.specs.Forms.{text_in}
-use Rattle.printing.specs.FormLines.{line_in, head_in, lines_in}
+use Rattle.printing.specs.FormLines.{line_in, preamble_in, lines_in}
 use Rattle.drawing_laws.specs.Drawings.{IsDrawnIfLaid}
 use Rattle.printing.specs.DrawnBooks.{IsDrawnBook, AreDrawnBooks}
 use Rattle.printing.proofs.Apart.{IsApart, joined}
@@ -56,9 +56,9 @@ text_apart Report books are = books_apart book_text book_apart 1 books are
 text_apart Json books are = books_apart book_json book_json_apart 1 books are
 
 -- and of the first entries of a book that has not ended
-pub head_apart : (form : Form) (number : ℕ) → IsApart (head_in form number)
-head_apart Report number = file_apart number
-head_apart Json number = refl
+pub preamble_apart : (form : Form) (number : ℕ) → IsApart (preamble_in form number)
+preamble_apart Report number = file_apart number
+preamble_apart Json number = refl
 
 line_apart : (form : Form) (entry : Entry) → IsDrawnIfLaid entry.answer → IsApart (line_in form entry)
 line_apart Report entry is = entry_apart (entry.ordinal + 1) entry is

@@ -15,9 +15,9 @@ line_in Report entry = entry_line (entry.ordinal + 1) entry
 line_in Json entry = entry_json (entry.file + 1) (entry.ordinal + 1) entry
 
 -- what stands before the lines of the file with this number
-abbrev pub head_in : Form → ℕ → List ℕ
-head_in Report number = file_line number
-head_in Json number = []
+abbrev pub preamble_in : Form → ℕ → List ℕ
+preamble_in Report number = file_line number
+preamble_in Json number = []
 
 -- the last line of the file with this number: its mark, and how many entries there are
 abbrev pub end_in : Form → ℕ → Mark → ℕ → List ℕ
@@ -35,7 +35,7 @@ lines_in form (entry ∷ entries) = line_in form entry ++ lines_in form entries
 
 -- all lines of the file with this number, of which these are the entries and the mark
 abbrev pub whole_in : Form → ℕ → List Entry → Mark → List ℕ
-whole_in form number entries mark = head_in form number ++ lines_in form entries ++ end_in form number mark (length entries)
+whole_in form number entries mark = preamble_in form number ++ lines_in form entries ++ end_in form number mark (length entries)
 
 -- the same of a book
 abbrev pub book_in : Form → ℕ → BookModel → List ℕ

@@ -14,7 +14,7 @@ use Rattle.entries.specs.AllBooks.{AreAllBooks}
 use Rattle.reports.specs.declared.form.Form.{Form}
 use Rattle.reports.specs.Forms.{text_in}
 use Rattle.reports.specs.Wholes.{IsWholeBook}
-use Rattle.printing.specs.FormLines.{head_in, lines_in}
+use Rattle.printing.specs.FormLines.{preamble_in, lines_in}
 
 -- the notes tell all of each of so many files
 abbrev pub HaveFiles : Choice → (ℕ → Meaning) → ℕ → List Note → Type 0
@@ -39,4 +39,4 @@ pub record IsBegun (choice : Choice) (meaning : ℕ → Meaning) (form : Form) (
   pub few : length books ≤ files
   pub text : AppendsFront start now (text_in form books)
       ⊎ ((length books < files) × ((entries : List Entry) × AreFirst choice (meaning (length books)) (length books) entries
-      × AppendsFront start now (text_in form books ++ head_in form (length books + 1) ++ lines_in form entries)))
+      × AppendsFront start now (text_in form books ++ preamble_in form (length books + 1) ++ lines_in form entries)))

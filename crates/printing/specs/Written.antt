@@ -3,7 +3,7 @@ use Rattle.std.specs.Prelude.{◌≡◌, ℕ, zero, suc, ◌+◌, ◌<◌, ◌�
 use Rattle.streams.specs.declared.frames.Mark.{Mark}
 use Rattle.streams.specs.Sink.{AppendsFront, IsOnItsWay}
 use Rattle.reports.specs.declared.form.Form.{Form}
-use Rattle.printing.specs.FormLines.{head_in, lines_in, end_in}
+use Rattle.printing.specs.FormLines.{preamble_in, lines_in, end_in}
 use Rattle.printing.specs.declared.refusal.Refusal.{Refusal}
 use Rattle.printing.specs.declared.refusal.Refusal.TheVariants.{Write, Memory, Astray}
 use Rattle.printing.specs.declared.waiting.Waiting.{Waiting}
@@ -25,7 +25,7 @@ BreaksIn old waited new more = (start : Option (List ℕ)) (text : List ℕ) →
 
 -- what stands before the lines of this file, counted from 0, and its lines so far
 abbrev pub begun : Form → ℕ → Came → List ℕ
-begun form file came = head_in form (file + 1) ++ lines_in form came.entries
+begun form file came = preamble_in form (file + 1) ++ lines_in form came.entries
 
 -- the last line of a file with this number, once it has a mark
 abbrev pub last_in : Form → ℕ → Option Mark → ℕ → List ℕ

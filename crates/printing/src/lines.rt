@@ -3,7 +3,7 @@ ghost use Rattle.std.specs.Prelude.{◌≡◌, ◌+◌, ◌^◌, ◌≤◌, IfOk
 ghost use Rattle.entries.specs.declared.answer.Answer.{Answer};
 ghost use Rattle.entries.specs.declared.entry.Entry.{Entry};
 ghost use Rattle.reports.specs.Answered.{IsAnswer};
-ghost use Rattle.printing.specs.FormLines.{line_in, head_in, end_in};
+ghost use Rattle.printing.specs.FormLines.{line_in, preamble_in, end_in};
 
 use crate::line::Line;
 use entries::{Answer, Entry};
@@ -78,8 +78,8 @@ pub fn lacking_text(
 /// # Errors
 ///
 /// `AllocError` where there is no memory for the line.
-pub fn head_text(alloc: Global, form: Form, file: u32) -> Result<Vec<u8>, AllocError>
-    ensures { IfOk result (λ text. text.items ≡ head_in form (file + 1)) }
+pub fn preamble_text(alloc: Global, form: Form, file: u32) -> Result<Vec<u8>, AllocError>
+    ensures { IfOk result (λ text. text.items ≡ preamble_in form (file + 1)) }
 {
     match form {
         Form::Report => Vec::from_slice(alloc, ReportLine::of_file(u64::from(file) + 1).as_slice()),

@@ -14,12 +14,12 @@ ghost use Rattle.printing.specs.Written.{BreaksOff, GivesUp};
 ghost use Rattle.printing.specs.Holding.{form_of, choice_of, files_of, LinesWrite, LinesLeave, LinesHold, LinesLeaveOff, LinesLeaveOffAt, AreLinesOf, StandAt};
 ghost use Rattle.printing.specs.Whole.{HaveFiles, IsAllWritten};
 
-use crate::lines::{head_text, lacking_text};
+use crate::lines::{lacking_text, preamble_text};
 use crate::printed::Printed;
 use crate::refusal::Refusal;
 use crate::told::{KnownEnd, Told};
 use crate::waiting::{Waiting, count_one, keep_line, keep_mark, none_come, take_lines};
-use crate::writing::{put, put_end, put_head};
+use crate::writing::{put, put_end, put_preamble};
 use common::Choice;
 use planar_code::{Ending, MAX_RECORDS};
 use reports::Form;
@@ -61,7 +61,7 @@ impl Lines {
         let waiting = none_come(alloc, files)?;
         let mut buffer = TextBuffer::new();
         if files > 0 {
-            buffer.push(head_text(alloc, form, 0)?.as_slice());
+            buffer.push(preamble_text(alloc, form, 0)?.as_slice());
         }
         Ok(Lines {
             form,
@@ -348,7 +348,7 @@ impl Lines {
         ensures gave_up { IfErr result (λ refusal. GivesUp (S.failed sink.new) refusal) }
         ensures same { StandAt self.old self.new }
     {
-        put_head(alloc, &mut self.buffer, sink, self.form, self.front)?;
+        put_preamble(alloc, &mut self.buffer, sink, self.form, self.front)?;
         let lines = take_lines(alloc, &mut self.waiting, self.front);
         self.held = self.held.saturating_sub(lines.size());
         lines.put(&mut self.buffer, sink)

@@ -1,9 +1,9 @@
 //! Text on its way to a sink.
 ghost use Rattle.std.specs.Prelude.{◌≡◌, ◌+◌, false, OnOk, OnErr, IfErr};
-ghost use Rattle.printing.specs.FormLines.{head_in, end_in};
+ghost use Rattle.printing.specs.FormLines.{preamble_in, end_in};
 ghost use Rattle.printing.specs.Written.{GoesOn, BreaksIn, GivesUp};
 
-use crate::lines::{end_text, head_text};
+use crate::lines::{end_text, preamble_text};
 use crate::refusal::Refusal;
 use reports::{Form, push_line};
 use std::alloc::Global;
@@ -28,7 +28,7 @@ pub(crate) fn put<S: Sink>(
 }
 
 /// Puts what stands before the lines of a file on its way.
-pub(crate) fn put_head<S: Sink>(
+pub(crate) fn put_preamble<S: Sink>(
     alloc: Global,
     buffer: &mut TextBuffer,
     sink: &mut S,
@@ -36,12 +36,12 @@ pub(crate) fn put_head<S: Sink>(
     file: u32,
 ) -> Result<(), Refusal>
     requires { S.failed sink.old ≡ false }
-    ensures put { OnOk result (GoesOn (S.taken sink.old) buffer.old (S.taken sink.new) buffer.new (head_in form (file + 1))) }
-    ensures broken { OnErr result (BreaksIn (S.taken sink.old) buffer.old (S.taken sink.new) (head_in form (file + 1))) }
+    ensures put { OnOk result (GoesOn (S.taken sink.old) buffer.old (S.taken sink.new) buffer.new (preamble_in form (file + 1))) }
+    ensures broken { OnErr result (BreaksIn (S.taken sink.old) buffer.old (S.taken sink.new) (preamble_in form (file + 1))) }
     ensures stands { OnOk result (S.failed sink.new ≡ false) }
     ensures gave_up { IfErr result (λ refusal. GivesUp (S.failed sink.new) refusal) }
 {
-    match head_text(alloc, form, file) {
+    match preamble_text(alloc, form, file) {
         Ok(text) => put(buffer, sink, text.as_slice()),
         Err(_) => Err(Refusal::Memory),
     }
