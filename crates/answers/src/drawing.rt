@@ -7,11 +7,11 @@ ghost use Rattle.compact.specs.Ordered.{AreHeadingsOf};
 ghost use Rattle.drawing_check.specs.Draws.{Draws};
 ghost use Rattle.entries.specs.Drawn.{HasPoints, IsDrawn};
 
-use crate::drawing_kind::DrawingKind;
 use crate::fault::LayoutFault;
 use crate::held::{Held, Shell};
 use crate::layout::{Layout, SpentLayout};
 use crate::spent::WayBack;
+use common::DrawingKind;
 use compact::{BoxesScratch, CompactFault, compact_in, dissect_along};
 use drawing_check::{CheckFault, Drawing, check_in};
 use entries::{Answer, Cause};

@@ -7,12 +7,11 @@ ghost use Rattle.compact.specs.Ordered.{AreHeadingsOf};
 ghost use Rattle.answers.specs.Steps.{IsTracedPlane, IsPlaneOf, IsShaped};
 ghost use Rattle.common.specs.declared.choice.Choice.{Choice};
 
-use crate::drawing_kind::DrawingKind;
 use crate::fault::LayoutFault;
 use crate::held::{Held, Shell};
 use crate::layout::{Layout, SpentLayout};
 use crate::spent::WayBack;
-use common::Choice;
+use common::{Choice, DrawingKind};
 use compact::{HeadingSearch, headings_in};
 use faces::Plane;
 use ortho_rep::{Prices, Shape, best_shape, least_shape_in};

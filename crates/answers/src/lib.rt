@@ -5,7 +5,6 @@
 
 mod carried;
 mod drawing;
-mod drawing_kind;
 mod embedded;
 mod fault;
 mod framed;
@@ -23,7 +22,6 @@ mod task;
 
 pub use carried::Carried;
 pub use drawing::DrawScratch;
-pub use drawing_kind::DrawingKind;
 pub use embedded::Embedded;
 pub use entries::{Answer, Cause, Entry};
 pub use fault::LayoutFault;

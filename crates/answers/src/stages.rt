@@ -7,11 +7,10 @@ ghost use Rattle.entries.specs.Answers.{Answers};
 ghost use Rattle.drawing_laws.specs.Drawings.{IsDrawnIfLaid};
 
 use crate::drawing::{DrawScratch, draw};
-use crate::drawing_kind::DrawingKind;
 use crate::fault::LayoutFault;
 use crate::laying::{LayScratch, lay};
 use crate::layout::Layout;
-use common::Choice;
+use common::{Choice, DrawingKind};
 use embedding::{Graph, ReadFault, Rule};
 use entries::{Answer, Entry};
 use faces::{Plane, TraceFault};

@@ -1,7 +1,6 @@
 //! What is to be done with one record of a run.
 
-use crate::drawing_kind::DrawingKind;
-use common::Choice;
+use common::{Choice, DrawingKind};
 
 /// Which record of a run it is, and how it is answered.
 #[derive(Clone, Copy, Debug)]

@@ -1,10 +1,8 @@
 //! What a run's lanes do.
 ghost use Rattle.std.specs.Prelude.{⊤};
 
-use answers::{
-    DrawScratch, DrawingKind, EmbedScratch, Embedded, Framed, Keeping, LayScratch, Shaped, Task,
-};
-use common::Choice;
+use answers::{DrawScratch, EmbedScratch, Embedded, Framed, Keeping, LayScratch, Shaped, Task};
+use common::{Choice, DrawingKind};
 use entries::Entry;
 use lane_runs::{LaneKind, LaneScratch};
 use planar_code::Record;

@@ -5,16 +5,18 @@
 mod answering;
 mod kept;
 pub mod laws;
+mod line_lanes;
 mod plain;
 mod run;
 mod text;
+mod worded;
 
-pub use answers::{Answer, Cause, DrawingKind, Entry, answer};
-pub use common::Choice;
+pub use answers::{Answer, Cause, Entry, answer};
+pub use common::{Choice, DrawingKind};
 pub use entries::{Batch, Book, MAX_FILES};
 pub use lanes::{Gate, MemOpener, OpenFault, OpenGate, Opener, Stage};
 pub use plain::run_plain;
-pub use printing::{Form, ReportLine, Style, write_json, write_report};
+pub use reports::{Form, ReportLine, Style, write_json, write_report};
 pub use run::{MAX_LANES, run_batch};
 pub use streams::{
     BatchFault, Frames, IoSink, Mark, MemTap, Sink, SinkFault, Tap, TapFault, WriteFault,

@@ -10,12 +10,14 @@ ghost use Rattle.printing.specs.Whole.{IsAllWritten, IsBegun};
 ghost use Rattle.printing.specs.Telling.{AddsNoneUndrawn};
 ghost use Rattle.collector.specs.TextRuns.{IsRefusedRun};
 
+use crate::line_lanes::LineLanes;
 use crate::run::MAX_LANES;
 use common::Choice;
 use entries::MAX_FILES;
 use lane_runs::{LaneKind, Run, RunFault, run_lanes};
 use lanes::{Consumer, Gate, Opener, Pauses, PausingOpener};
-use printing::{LineLanes, Lines, Pace, Refusal, Style, Texts, Told};
+use printing::{Lines, Pace, Refusal, Texts, Told};
+use reports::Style;
 use std::alloc::Global;
 use std::marker::Brand;
 use std::sync::Wait;

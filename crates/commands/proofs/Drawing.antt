@@ -20,8 +20,8 @@ use Rattle.printing.proofs.Apart.{IsApart, joined, counted}
 use Rattle.printing.proofs.TextBytes.{text_apart}
 use Rattle.printing.proofs.Added.{text_added, front_added, none_added, from_some}
 use Rattle.collector.proofs.Drawing.{all_drawn, begun_drawn}
-use Rattle.commands.specs.declared.request.Request.{Request}
-use Rattle.commands.specs.declared.request.Request.TheVariants.{Frames, Layout}
+use Rattle.command_line.specs.declared.request.Request.{Request}
+use Rattle.command_line.specs.declared.request.Request.TheVariants.{Frames, Layout}
 use Rattle.commands.specs.Statuses.{IsReported, IsLaidOut, IsBegunToReport, IsBegunToLayOut, IsDone, IsBegunToBeDone, IsNoReport, IsPrinted, version_text}
 use Rattle.commands.proofs.NoReport.{no_report}
 

@@ -1,7 +1,7 @@
 -- The status of what was refused or failed.
 use Rattle.std.proofs.Common.{◌≡◌, ◌⊎◌, ℕ, arith, inl, inr}
-use Rattle.commands.specs.declared.faults.Fault.{Fault}
-use Rattle.commands.specs.Refusals.{IsRefusal}
+use Rattle.command_line.specs.declared.faults.Fault.{Fault}
+use Rattle.command_line.specs.Refusals.{IsRefusal}
 
 not_one : (status : ℕ) → (status ≡ 0) ⊎ (status ≡ 3) → status ≡ 1 → ⊥
 not_one status (inl is) one = omega (arith, is, one)

@@ -1,6 +1,1 @@
-pub mod Naming
-pub mod Readers
-pub mod Refusals
-pub mod Sources
 pub mod Statuses
-pub mod Requests

@@ -15,9 +15,9 @@ use Rattle.reports.specs.declared.form.Form.{Form}
 use Rattle.reports.specs.Forms.{text_in}
 use Rattle.reports.specs.Wholes.{IsWholeBook}
 use Rattle.collector.specs.TextRuns.{IsBegun}
-use Rattle.commands.specs.Naming.{meaning_of, meanings}
-use Rattle.commands.specs.declared.request.Request.{Request}
-use Rattle.commands.specs.declared.request.Request.TheVariants.{Frames, Layout}
+use Rattle.command_line.specs.Naming.{meaning_of, meanings}
+use Rattle.command_line.specs.declared.request.Request.{Request}
+use Rattle.command_line.specs.declared.request.Request.TheVariants.{Frames, Layout}
 
 -- what '--version' prints
 abbrev pub version_text : List ℕ

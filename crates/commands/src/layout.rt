@@ -1,17 +1,13 @@
 //! What `layout` does.
 ghost use Rattle.std.specs.Prelude.{◌≡◌, ◌<◌, ◌≤◌, ◌⊎◌, ◌↔◌, false, Err, IfOk, IfErr, OnErr, vec_len};
-ghost use Rattle.commands.specs.Refusals.{IsRefusal};
+ghost use Rattle.command_line.specs.Refusals.{IsRefusal};
 ghost use Rattle.ruled_lanes.specs.declared.limits.TheConstants.{LANES};
 ghost use Rattle.entries.specs.declared.limits.TheConstants.{MAX_FILES};
-ghost use Rattle.commands.specs.Naming.{meanings};
+ghost use Rattle.command_line.specs.Naming.{meanings};
 ghost use Rattle.commands.specs.Statuses.{IsLaidOut, IsBegunToLayOut};
 
-use crate::faults::Fault;
-use crate::file_opener::FileOpener;
-use crate::named_files::{FilesAndInput, SystemFiles};
-use crate::progress::{Console, Meter};
-use crate::request::LayoutRequest;
 use collector::{TextFault, write_batch};
+use command_line::{Console, Fault, FileOpener, FilesAndInput, LayoutRequest, Meter, SystemFiles};
 use lanes::Opener;
 use std::rt::Files;
 use std::sync::Wait;

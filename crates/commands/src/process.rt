@@ -5,10 +5,8 @@ ghost use Rattle.std.specs.Process.{exit_status};
 ghost use Rattle.printing.specs.Telling.{AddsNoneUndrawn};
 ghost use Rattle.commands.specs.Statuses.{IsNoReport};
 
-use crate::fault_line::write_fault;
-use crate::faults::{Fault, arguments_fault};
 use crate::program::command;
-use crate::progress::Console;
+use command_line::{Console, Fault, arguments_fault, write_fault};
 use lanes::Opener;
 use std::env;
 use std::process::ExitCode;

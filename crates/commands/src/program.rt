@@ -4,27 +4,24 @@ ghost use Rattle.std.specs.Borrow.{Bor};
 ghost use Rattle.std.specs.Io.KnownBytes.{Appends};
 ghost use Rattle.common.specs.declared.choice.Choice.{Choice};
 ghost use Rattle.reports.specs.declared.form.Form.{Form};
-ghost use Rattle.commands.specs.Refusals.{IsRefusal};
-ghost use Rattle.commands.specs.Naming.{meaning_of, meanings};
+ghost use Rattle.command_line.specs.Refusals.{IsRefusal};
+ghost use Rattle.command_line.specs.Naming.{meaning_of, meanings};
 ghost use Rattle.clap.specs.Words.{kind_of};
 ghost use Rattle.clap.specs.declared.error.kind.ErrorKind.{ErrorKind};
-ghost use Rattle.commands.specs.declared.reading.Wish.{Wish};
-ghost use Rattle.commands.specs.declared.request.Request.{Request};
+ghost use Rattle.command_line.specs.declared.reading.Wish.{Wish};
+ghost use Rattle.command_line.specs.declared.request.Request.{Request};
 ghost use Rattle.commands.specs.Statuses.{IsReported, IsLaidOut, IsDone, IsBegunToReport, IsBegunToBeDone, IsNoReport, IsPrinted, version_text};
-ghost use Rattle.commands.specs.Requests.{IsAskedBy, asks_in};
+ghost use Rattle.command_line.specs.Requests.{IsAskedBy, asks_in};
 ghost use Rattle.printing.specs.Telling.{AddsNoneUndrawn};
 
-use crate::fault_line::write_fault;
-use crate::faults::Fault;
 use crate::layout::{CAPACITY, layout};
-use crate::named_files::{FilesAndInput, SystemFiles};
-use crate::progress::{Console, Meter};
-use crate::reading::{Wish, asks};
-use crate::request::{Request, parse};
-use crate::source::open_source;
 use crate::version::VERSION;
 use clap::Error;
 use clap::error::ErrorKind;
+use command_line::{
+    Console, Fault, FilesAndInput, Meter, Request, SystemFiles, Wish, asks, open_source, parse,
+    write_fault,
+};
 use lanes::Opener;
 use reports::status_of;
 use std::alloc::Global;

@@ -1,9 +1,11 @@
-//! What many crates use: sums of numbers below a bound, lists filled anew in their memory, and the choice of the
-//! outer face.
+//! What many crates use: sums of numbers below a bound, lists filled anew in their memory, the choice of the outer
+//! face, and the kinds of drawings.
 #![tactic(auto)]
 
 mod choice;
+mod drawing_kind;
 mod lists;
 
 pub use choice::Choice;
+pub use drawing_kind::DrawingKind;
 pub use lists::{emptied, filled};

@@ -12,7 +12,6 @@ ghost use Rattle.printing.specs.Spelt.{IsSpelt};
 use crate::line::Line;
 use crate::lines::answer_line;
 use crate::told::Told;
-use answers::Task;
 use common::Choice;
 use entries::Answer;
 use lanes::Numbered;
@@ -59,21 +58,23 @@ impl<J: Told + Send + Sync> Numbered for Printed<J> {
     }
 }
 
-/// The line in this form of the task's record, which has this answer. There is none where there is no answer for want
+/// The line in this form of the record at this place of this file, which has this answer. There is none where there is no answer for want
 /// of memory, or no memory for the line.
-pub(crate) fn answered_line(alloc: Global, form: Form, task: Task, answer: &Answer) -> Option<Line>
+pub fn answered_line(
+    alloc: Global,
+    form: Form,
+    file: u32,
+    ordinal: u32,
+    answer: &Answer,
+) -> Option<Line>
     requires { IsAnswer answer.now }
-    ensures { (entry : Entry) → entry.file ≡ task.file → entry.ordinal ≡ task.ordinal → entry.answer ≡ answer.now
+    ensures { (entry : Entry) → entry.file ≡ file → entry.ordinal ≡ ordinal → entry.answer ≡ answer.now
         → IsLineOf form entry result }
 {
     match answer {
         Answer::NoMemory => None,
         Answer::Laid { .. } | Answer::Refused(_) => match answer_line(
-            alloc,
-            form,
-            task.file,
-            task.ordinal,
-            answer,
+            alloc, form, file, ordinal, answer,
         ) {
             Ok(line) => Some(line),
             Err(AllocError) => None,

@@ -31,7 +31,7 @@ pub struct KnownEnd<J: Told> {
 }
 
 /// The end of a file, kept with what `J` tells of it.
-pub(crate) fn known_end<J: Told>(file: u32, end: SourceEnd) -> KnownEnd<J>
+pub fn known_end<J: Told>(file: u32, end: SourceEnd) -> KnownEnd<J>
     requires { IsEndAt (J.meaning file) end.count end.mark }
 {
     KnownEnd {

@@ -12,6 +12,7 @@ mod json_text;
 mod line;
 mod report;
 mod statuses;
+mod style;
 mod words;
 
 pub use form::Form;
@@ -20,3 +21,4 @@ pub use json_lines::{LaidGraph, answer_line, end_line, entry_line, lacking_line,
 pub use line::ReportLine;
 pub use report::write_report;
 pub use statuses::{status_of, status_of_batch};
+pub use style::Style;

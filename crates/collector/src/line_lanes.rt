@@ -1,0 +1,106 @@
+//! Lanes whose last stage prints lines.
+ghost use Rattle.std.specs.Prelude.{◌≡◌, ◌≤◌};
+ghost use Rattle.common.specs.declared.drawing_kind.DrawingKind.TheVariants.{Quick};
+ghost use Rattle.lanes.specs.Opening.{IsPlacedAt, IsEndAt};
+ghost use Rattle.printing.specs.Spelt.{IsSpelt};
+
+use crate::worded::Worded;
+use answers::{
+    DrawScratch, EmbedScratch, Embedded, Framed, LayScratch, Shaped, StageScratch, Task,
+};
+use common::{Choice, DrawingKind};
+use lane_runs::{LaneKind, LaneScratch};
+use lanes::Numbered;
+use planar_code::Record;
+use printing::{KnownEnd, Printed, Told, known_end};
+use reports::{Form, Style};
+use std::alloc::{AllocError, Global};
+use std::marker::PhantomData;
+use streams::SourceEnd;
+
+/// Lanes that answer records and print their lines, in one form and with drawings of one kind.
+#[derive(Drop)]
+pub struct LineLanes<J: Told> {
+    pub form: Form,
+    pub drawing: DrawingKind,
+    pub told: PhantomData<J>,
+}
+
+impl<J: Told> LineLanes<J> {
+    /// Lanes that print lines in this style. A report shows no points, so it is of quick drawings, whatever kind is
+    /// asked for.
+    pub fn new(style: Style) -> LineLanes<J>
+        ensures form { result.form ≡ style.form }
+        ensures report { style.form ≡ Form.Report → result.drawing ≡ Quick }
+        ensures json { style.form ≡ Form.Json → result.drawing ≡ style.drawing }
+    {
+        let drawing = match style.form {
+            Form::Report => DrawingKind::Quick,
+            Form::Json => style.drawing,
+        };
+        LineLanes {
+            form: style.form,
+            drawing,
+            told: PhantomData,
+        }
+    }
+}
+
+impl<J: Told + Send + Sync> LaneKind for LineLanes<J> {
+    type Framed = Framed<Worded<J>>;
+
+    type Embedded = Embedded<Worded<J>>;
+
+    type Shaped = Shaped<Worded<J>>;
+
+    type Entry = Printed<J>;
+
+    type End = KnownEnd<J>;
+
+    ghost takes = { λ file place bytes. IsPlacedAt (J.meaning file) place bytes };
+
+    ghost ends = { λ file count mark. IsEndAt (J.meaning file) count mark };
+
+    fn framed(&self, file: u32, ordinal: u32, rec: Record, choice: Choice) -> Framed<Worded<J>>
+        requires { IsPlacedAt (J.meaning file) ordinal rec }
+        ensures about { ⟦<Framed<Worded<J>> as Numbered>⟧.about result
+            ≡ record { file = file; ordinal = ordinal; bytes = rec; choice = choice } }
+        ensures form { result.purpose.form ≡ self.now.form }
+        ensures drawing { result.task.drawing ≡ self.now.drawing }
+    {
+        spelt(&rec);
+        Framed {
+            task: Task {
+                file,
+                ordinal,
+                choice,
+                drawing: self.drawing,
+            },
+            purpose: Worded::new(self.form),
+            rec,
+            state: (),
+        }
+    }
+
+    fn end(&self, file: u32, end: SourceEnd) -> KnownEnd<J> {
+        known_end(file, end)
+    }
+
+    // What an entry is made of goes back once its line is printed.
+    fn scratch(
+        &self,
+        alloc: Global,
+        capacity: u32,
+    ) -> Result<LaneScratch<EmbedScratch, LayScratch, DrawScratch>, AllocError> {
+        let StageScratch { embed, shape, draw } = StageScratch::new(alloc, capacity)?;
+        Ok(LaneScratch { embed, shape, draw })
+    }
+}
+
+/// The lists of a record spell it. This does nothing.
+fn spelt(rec: &Record)
+    ensures { IsSpelt rec.now }
+{
+    rec.bytes();
+    rec.order();
+}

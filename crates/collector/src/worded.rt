@@ -1,0 +1,74 @@
+//! Lanes that print the lines of what is answered.
+ghost use Rattle.std.specs.Prelude.{◌≡◌};
+ghost use Rattle.lanes.specs.Opening.{IsPlacedAt};
+ghost use Rattle.entries.specs.Answers.{Answers};
+ghost use Rattle.answers.specs.Tasks.{about_in};
+ghost use Rattle.printing.specs.Spelt.{IsSpelt};
+
+use answers::{DrawScratch, Purpose, Task};
+use entries::Answer;
+use lanes::Numbered;
+use planar_code::Record;
+use printing::{Printed, Told, answered_line};
+use reports::Form;
+use std::alloc::Global;
+use std::marker::PhantomData;
+use std::snapshot::Snapshot;
+
+/// The form in which lines are wanted. Records are known to have their places in what their files mean, and nothing is
+/// carried of them once their graphs are read.
+#[derive(Drop)]
+pub struct Worded<J: Told> {
+    pub form: Form,
+    pub told: PhantomData<J>,
+}
+
+impl<J: Told> Worded<J> {
+    /// Lines in this form.
+    pub(crate) fn new(form: Form) -> Worded<J>
+        ensures { result.form ≡ form }
+    {
+        Worded {
+            form,
+            told: PhantomData,
+        }
+    }
+}
+
+impl<J: Told + Send + Sync> Purpose for Worded<J> {
+    type Carried = Snapshot<Record>;
+
+    type Entry = Printed<J>;
+
+    ghost knows = { λ about. IsPlacedAt (J.meaning about.file) about.ordinal about.bytes × IsSpelt about.bytes };
+
+    // The lists of the answer go back once its line is printed.
+    fn finish(
+        self,
+        alloc: Global,
+        scratch: &mut DrawScratch,
+        task: Task,
+        rec: Snapshot<Record>,
+        answer: Answer,
+    ) -> Printed<J>
+        requires known { ∥ IsPlacedAt (J.meaning task.file) task.ordinal rec.value × IsSpelt rec.value ∥₁ }
+        requires answers { ∥ Answers task.choice rec.value answer ∥₁ }
+        ensures about { ⟦<Printed<J> as Numbered>⟧.about result ≡ about_in task rec.value }
+        ensures answer { result.answer.value ≡ answer }
+        ensures form { result.form ≡ self.form }
+    {
+        let line = answered_line(alloc, self.form, task.file, task.ordinal, &answer);
+        let printed = Printed {
+            file: task.file,
+            ordinal: task.ordinal,
+            choice: task.choice,
+            form: self.form,
+            line,
+            rec,
+            answer: Snapshot::of(&answer),
+            told: PhantomData,
+        };
+        scratch.take_back(alloc, answer);
+        printed
+    }
+}

@@ -1,0 +1,5 @@
+pub mod Naming
+pub mod Readers
+pub mod Refusals
+pub mod Sources
+pub mod Requests

@@ -1,0 +1,12 @@
+-- What is left of a reader that is a source.
+use Rattle.std.specs.Prelude.{ℕ, List, Option}
+use Rattle.command_line.specs.declared.read_tap.ReadTap.{ReadTap}
+use Rattle.command_line.specs.declared.standard_input.StandardInput.{StandardInput}
+
+-- the bytes that its reader has left, where those are known
+abbrev pub remaining_in : {R : Type 0} → (R → Option (List ℕ)) → ReadTap R → Option (List ℕ)
+remaining_in remaining tap = remaining tap.reader
+
+-- the bytes that standard input has left, where those are known
+abbrev pub left_in : {I : Type 0} → (I → Option (List ℕ)) → StandardInput I → Option (List ℕ)
+left_in remaining input = remaining input.input

@@ -1,0 +1,8 @@
+-- Which faults refuse what was asked for.
+use Rattle.std.specs.Prelude.{◌≡◌, ◌⊎◌}
+use Rattle.streams.specs.declared.faults.BatchFault.{BatchFault}
+use Rattle.command_line.specs.declared.faults.Fault.{Fault}
+
+-- what was asked for is refused
+abbrev pub IsRefusal : Fault → Type 0
+IsRefusal fault = (fault ≡ Fault.NotText) ⊎ ((fault ≡ Fault.Run BatchFault.TooManyFiles) ⊎ (fault ≡ Fault.Run BatchFault.BadLanes))

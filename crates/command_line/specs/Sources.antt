@@ -1,0 +1,34 @@
+-- What a source of a run tells of itself.
+use Rattle.std.specs.Prelude.{◌≡◌, ℕ, Bool, true, List, [], Option, Some}
+use Rattle.lanes.specs.Opening as opening
+use Rattle.command_line.specs.declared.source.FileSource.{FileSource}
+use Rattle.command_line.specs.declared.source.FileSource.TheVariants.{Open, Refused}
+use Rattle.command_line.specs.declared.source.NamedSource.{NamedSource}
+use Rattle.command_line.specs.declared.source.NamedSource.TheVariants.{File, Input}
+
+module _ {F I : Type 0} where
+  -- the bytes that are to come of the file or of standard input
+  abbrev pub named_to_come : (F → Option (List ℕ)) → (I → Option (List ℕ)) → NamedSource F I → Option (List ℕ)
+  named_to_come of_file of_input (File file) = of_file file
+  named_to_come of_file of_input (Input input) = of_input input
+
+  -- a read past the last of them fails
+  abbrev pub named_fails : (F → Bool) → (I → Bool) → NamedSource F I → Bool
+  named_fails of_file of_input (File file) = of_file file
+  named_fails of_file of_input (Input input) = of_input input
+
+module _ {F : Type 0} where
+  -- the bytes that are to come: of a file that was refused there are none
+  abbrev pub opened_to_come : (F → Option (List ℕ)) → FileSource F → Option (List ℕ)
+  opened_to_come to_come (Open file) = to_come file
+  opened_to_come to_come Refused = Some []
+
+  -- a read past the last of them fails
+  abbrev pub opened_fails : (F → Bool) → FileSource F → Bool
+  opened_fails fails (Open file) = fails file
+  opened_fails fails Refused = true
+
+  -- where a file tells its bytes, this source tells the same
+  abbrev pub Tells : (F → Option (List ℕ)) → (F → Bool) → opening.Meaning → FileSource F → Type 0
+  Tells to_come fails meaning source = (bytes : List ℕ) → opening.told_of meaning ≡ Some bytes
+      → (opened_to_come to_come source ≡ Some bytes) × (opened_fails fails source ≡ opening.fails_of meaning)

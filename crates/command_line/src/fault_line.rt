@@ -1,0 +1,54 @@
+//! Short lines of text. They are made without memory.
+ghost use Rattle.std.specs.Prelude.{◌≡◌, ◌≤◌, false};
+ghost use Rattle.command_line.specs.declared.fault_line.TheConstants.{LINE_ROOM};
+
+use crate::faults::Fault;
+use std::fmt;
+use std::fmt::Write;
+use streams::{Sink, put_all};
+
+/// As many bytes as a line has room for.
+const LINE_ROOM: usize = 128;
+
+/// A short line of text in a fixed buffer; what does not fit is left out.
+#[derive(Drop)]
+pub(crate) struct ShortLine {
+    bytes: [u8; LINE_ROOM],
+    len: usize,
+    ghost in_range: { len ≤ LINE_ROOM },
+}
+
+impl ShortLine {
+    pub(crate) fn new() -> ShortLine {
+        ShortLine {
+            bytes: [0; LINE_ROOM],
+            len: 0,
+        }
+    }
+
+    pub(crate) fn text(&self) -> &[u8] {
+        &self.bytes[..self.len]
+    }
+}
+
+impl fmt::Write for ShortLine {
+    fn write_str(&mut self, text: &str) -> fmt::Result {
+        for byte in text.as_bytes() {
+            if self.len == LINE_ROOM {
+                return Err(fmt::Error);
+            }
+            self.bytes[self.len] = *byte;
+            self.len += 1;
+        }
+        Ok(())
+    }
+}
+
+/// Writes `planarbend: ` and the fault's message. That this may fail changes nothing.
+pub fn write_fault<E: Sink>(fault: Fault, err: &mut E)
+    requires { E.failed err.old ≡ false }
+{
+    let mut line = ShortLine::new();
+    let _ = writeln!(line, "planarbend: {fault}");
+    let _ = put_all(err, line.text());
+}

@@ -1,0 +1,71 @@
+//! What ends the program without a whole report, and its exit status.
+ghost use Rattle.std.specs.Prelude.{◌≡◌, ◌⊎◌, ◌↔◌};
+
+use std::io::ErrorKind;
+use streams::{BatchFault, WriteFault};
+use thiserror::Error;
+
+/// Why there is no whole report. The text of each is what the program prints of it behind its own name.
+#[derive(Clone, Copy, Debug, PartialEq, Eq, Error)]
+pub enum Fault {
+    /// There was no memory for the words after the program's name, for the text that helps with them or refuses
+    /// them, or to open a file.
+    #[error("out of memory")]
+    Memory,
+    /// The words after the program's name are no text.
+    #[error("arguments are not text")]
+    NotText,
+    /// The run gave no result.
+    #[error(transparent)]
+    Run(BatchFault),
+    /// A text was not written whole.
+    #[error(transparent)]
+    Write(WriteFault),
+}
+
+impl Fault {
+    ghost use Rattle.command_line.specs.Refusals.{IsRefusal};
+
+    /// The program's exit status: 2 where what was asked for is refused, and else 1.
+    pub fn status(self) -> u8
+        ensures refused { IsRefusal self → result ≡ 2 }
+        ensures failed { ¬ IsRefusal self → result ≡ 1 }
+    {
+        match self {
+            Fault::NotText | Fault::Run(BatchFault::TooManyFiles | BatchFault::BadLanes) => 2,
+            Fault::Memory | Fault::Run(_) | Fault::Write(_) => 1,
+        }
+    }
+}
+
+impl From<BatchFault> for Fault {
+    ghost use Rattle.command_line.specs.declared.faults.Fault.{Fault};
+
+    ghost from_gives = { λ fault e. e ≡ Fault.Run fault };
+
+    fn from(fault: BatchFault) -> Fault {
+        Fault::Run(fault)
+    }
+}
+
+impl From<WriteFault> for Fault {
+    ghost use Rattle.command_line.specs.declared.faults.Fault.{Fault};
+
+    ghost from_gives = { λ fault e. e ≡ Fault.Write fault };
+
+    fn from(fault: WriteFault) -> Fault {
+        Fault::Write(fault)
+    }
+}
+
+/// Why the words after the program's name could not be had, by the kind of the error: they are no text, or
+/// there is no memory for them.
+pub fn arguments_fault(kind: ErrorKind) -> Fault
+    ensures not_text { (result ≡ Fault.NotText) ↔ (kind ≡ ErrorKind.InvalidData) }
+    ensures other { (result ≡ Fault.NotText) ⊎ (result ≡ Fault.Memory) }
+{
+    match kind {
+        ErrorKind::InvalidData => Fault::NotText,
+        _ => Fault::Memory,
+    }
+}

@@ -1,0 +1,87 @@
+//! Files by their names.
+ghost use Rattle.std.specs.Prelude.{◌≡◌, ℕ, List};
+ghost use Rattle.lanes.specs.Opening.{Meaning, Opens, Silent};
+ghost use Rattle.command_line.specs.Naming.{meaning_in};
+
+use crate::read_tap::ReadTap;
+use crate::source::{NamedSource, open_fault};
+use crate::standard_input::is_input;
+use lanes::{OpenFault, Opener};
+use std::alloc::Global;
+use std::fs;
+use std::io::Read;
+use std::rt::Files;
+use streams::Tap;
+
+/// Opens files by their names, from any thread.
+///
+/// For proofs it may tell of each name whether a file of this name opens, and then which bytes it gives and
+/// whether it fails after the last of them. The files of a system tell nothing.
+pub trait NamedFiles: Sync {
+    /// An open file.
+    type Source: Tap + Send;
+
+    ghost meaning: { Self → List ℕ → Meaning };
+
+    /// Opens the file of this name.
+    ///
+    /// # Errors
+    ///
+    /// `Io` where it could not be opened, `Memory` where there was no memory to.
+    fn open(&self, alloc: Global, name: &str) -> Result<Self::Source, OpenFault>
+        ensures { Opens Self.Source.to_come Self.Source.fails (meaning self.now name.now) result };
+}
+
+/// The files of a system. They tell nothing of their bytes.
+#[derive(Drop)]
+pub struct SystemFiles<'r, R> {
+    pub rt: &'r R,
+}
+
+impl<R: Files + Sync> NamedFiles for SystemFiles<'_, R>
+where
+    R::File: Send,
+    R::Dir: Send,
+{
+    type Source = ReadTap<R::File>;
+
+    ghost meaning = { λ _ _. Silent };
+
+    fn open(&self, _alloc: Global, name: &str) -> Result<ReadTap<R::File>, OpenFault> {
+        match fs::open(self.rt, name) {
+            Ok(file) => Ok(ReadTap::new(file)),
+            Err(error) => Err(open_fault(error.kind())),
+        }
+    }
+}
+
+/// Files by name, with the name `-` for standard input, which is the file 0 of `input`.
+#[derive(Drop)]
+pub struct FilesAndInput<'r, N, I> {
+    pub files: &'r N,
+    pub input: &'r I,
+}
+
+impl<N: NamedFiles, I: Opener> NamedFiles for FilesAndInput<'_, N, I> {
+    type Source = NamedSource<N::Source, I::Source>;
+
+    ghost meaning = { λ f name. meaning_in (I.meaning f.input.now 0) (N.meaning f.files.now) name };
+
+    fn open(
+        &self,
+        alloc: Global,
+        name: &str,
+    ) -> Result<NamedSource<N::Source, I::Source>, OpenFault> {
+        if is_input(name) {
+            match self.input.open(alloc, 0) {
+                Ok(input) => Ok(NamedSource::Input(input)),
+                Err(fault) => Err(fault),
+            }
+        } else {
+            match self.files.open(alloc, name) {
+                Ok(file) => Ok(NamedSource::File(file)),
+                Err(fault) => Err(fault),
+            }
+        }
+    }
+}

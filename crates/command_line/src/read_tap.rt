@@ -1,0 +1,51 @@
+//! Readers as sources of a run.
+ghost use Rattle.std.specs.Prelude.{◌≡◌, ◌<◌, ◌≤◌, length, take, None, false, IfOk, OnOk, OnErr};
+ghost use Rattle.std.specs.Io.KnownBytes.{Consumes, IsAtEnd, Keeps};
+ghost use Rattle.streams.specs.Tap.{IsAtItsEnd, IsAtItsFailure};
+
+use std::io::Read;
+use streams::{Tap, TapFault};
+
+/// A reader as a source. It tells nothing of its bytes beforehand, as any read may fail. What it gives is what the
+/// reader gave, and it ends where the reader does.
+#[derive(Drop)]
+pub struct ReadTap<R> {
+    reader: R,
+}
+
+impl<R: Read> ReadTap<R> {
+    ghost use Rattle.command_line.specs.Readers.{remaining_in};
+
+    pub(crate) fn new(reader: R) -> ReadTap<R>
+        ensures { remaining_in R.remaining result ≡ R.remaining reader }
+    {
+        ReadTap { reader }
+    }
+}
+
+impl<R: Read + Drop> Tap for ReadTap<R> {
+    ghost use Rattle.command_line.specs.Readers.{remaining_in};
+
+    ghost to_come = { λ _. None };
+
+    ghost fails = { λ _. false };
+
+    // What every tap keeps; and what is left of the reader loses the bytes that are given. They are none only at
+    // its end, and where a read fails, none are lost.
+    fn read(&mut self, buf: &mut [u8]) -> Result<usize, TapFault>
+        ensures bound { IfOk result (λ n. n ≤ length buf.new) }
+        ensures given { IfOk result (λ n. Consumes (⟦<ReadTap<R> as Tap>⟧.to_come self.old)
+            (⟦<ReadTap<R> as Tap>⟧.to_come self.new) (take n buf.new)) }
+        ensures ended { IfOk result (λ n. n ≡ 0 → 0 < length buf.new
+            → IsAtItsEnd (⟦<ReadTap<R> as Tap>⟧.to_come self.old) (⟦<ReadTap<R> as Tap>⟧.fails self.old)) }
+        ensures failed { OnErr result
+            (IsAtItsFailure (⟦<ReadTap<R> as Tap>⟧.to_come self.old) (⟦<ReadTap<R> as Tap>⟧.fails self.old)) }
+        ensures stays { OnOk result (⟦<ReadTap<R> as Tap>⟧.fails self.new ≡ ⟦<ReadTap<R> as Tap>⟧.fails self.old) }
+        ensures passes { IfOk result (λ n. Consumes (remaining_in R.remaining self.old) (remaining_in R.remaining self.new)
+            (take n buf.new)) }
+        ensures end_of_reader { IfOk result (λ n. n ≡ 0 → 0 < length buf.new → IsAtEnd (remaining_in R.remaining self.new)) }
+        ensures none_lost { OnErr result (Keeps (remaining_in R.remaining self.old) (remaining_in R.remaining self.new)) }
+    {
+        self.reader.read(buf).map_err(|_| TapFault)
+    }
+}

@@ -1,0 +1,155 @@
+//! What the words of a command line ask for, one after another.
+ghost use Rattle.std.specs.Prelude.{◌≡◌, ◌<◌, IfOk, map};
+ghost use Rattle.std.specs.List.{count_by};
+ghost use Rattle.command_line.specs.Naming as naming;
+ghost use Rattle.command_line.specs.Requests.{role_after, asks, asks_in, files_in, has_front, is_file, is_help};
+
+use crate::standard_input::is_input;
+use std::alloc::{AllocError, Global};
+
+/// What a word may be, by the words before it.
+#[derive(Clone, Copy)]
+pub enum Role {
+    /// The first word: a command, or `--version`.
+    Command,
+    /// An option, a file, or the `--` behind which all are files.
+    Any,
+    /// The value of `--lanes`.
+    Lanes,
+    /// The value of `--waiting`.
+    Waiting,
+    /// The value of `--outer`.
+    Outer,
+    /// The value of `--drawing`.
+    Drawing,
+    /// A file.
+    File,
+}
+
+/// What words can ask for, beside files, numbers and lines of progress.
+#[derive(Clone, Copy)]
+pub enum Wish {
+    Version,
+    Help,
+    Frames,
+    Layout,
+    Json,
+    BestOuter,
+    ShortDrawing,
+    QuickDrawing,
+}
+
+impl Role {
+    /// What the next word may be, behind this one in this role.
+    fn role_after(self, word: &str) -> Role
+        ensures { result ≡ role_after self word.now }
+    {
+        match self {
+            Role::Any if word == "--" => Role::File,
+            Role::Any if word == "--lanes" => Role::Lanes,
+            Role::Any if word == "--waiting" => Role::Waiting,
+            Role::Any if word == "--outer" => Role::Outer,
+            Role::Any if word == "--drawing" => Role::Drawing,
+            Role::File => Role::File,
+            _ => Role::Any,
+        }
+    }
+
+    /// Whether a word in this role is a file.
+    fn is_file(self, word: &str) -> bool
+        ensures { result ≡ is_file self word.now }
+    {
+        match self {
+            Role::Any => !has_front(word, b'-', b'-'),
+            Role::File => true,
+            _ => false,
+        }
+    }
+
+    /// Whether a word in this role asks for this.
+    fn asks(self, wish: Wish, word: &str) -> bool
+        ensures { result ≡ asks wish self word.now }
+    {
+        match (wish, self) {
+            (Wish::Version, Role::Command) => word == "--version",
+            (Wish::Frames, Role::Command) => word == "frames",
+            (Wish::Layout, Role::Command) => word == "layout",
+            (Wish::Json, Role::Any) => word == "--json",
+            (Wish::BestOuter, Role::Any) => word == "--outer=best",
+            (Wish::BestOuter, Role::Outer) => word == "best",
+            (Wish::ShortDrawing, Role::Any) => word == "--drawing=short",
+            (Wish::ShortDrawing, Role::Drawing) => word == "short",
+            (Wish::QuickDrawing, Role::Any) => word == "--drawing=quick",
+            (Wish::QuickDrawing, Role::Drawing) => word == "quick",
+            (Wish::Help, Role::File) => false,
+            (Wish::Help, Role::Command) => word == "help" || is_help(word),
+            (Wish::Help, _) => is_help(word),
+            _ => false,
+        }
+    }
+}
+
+/// Whether a word is an option that shows help.
+fn is_help(word: &str) -> bool
+    ensures { result ≡ is_help word.now }
+{
+    word == "--help" || has_front(word, b'-', b'h')
+}
+
+/// Whether a word begins with these two bytes. The second is not 0, as which the definition reads a byte that is not
+/// there.
+fn has_front(word: &str, first: u8, second: u8) -> bool
+    requires { 0 < second }
+    ensures { result ≡ has_front first second word.now }
+{
+    let bytes = word.as_bytes();
+    bytes.len() > 1 && bytes[0] == first && bytes[1] == second
+}
+
+/// Whether some word asks for this.
+pub fn asks(wish: Wish, words: &[String]) -> bool
+    ensures { result ≡ asks_in wish words.now }
+{
+    let mut role = Role::Command;
+    for word in words {
+        let text = word.as_str();
+        if role.asks(wish, text) {
+            return true;
+        }
+        role = role.role_after(text);
+    }
+    false
+}
+
+/// The files that the words name, in their order.
+///
+/// # Errors
+///
+/// `AllocError` where there is no memory for the list.
+pub fn files_of<'a>(alloc: Global, words: &'a [String]) -> Result<Vec<&'a str>, AllocError>
+    ensures { IfOk result (λ files. map (λ file. file.now) files.items ≡ files_in words.now) }
+{
+    let mut files = Vec::new(alloc);
+    let mut role = Role::Command;
+    for word in words {
+        let text = word.as_str();
+        if role.is_file(text) {
+            files.push(text)?;
+        }
+        role = role.role_after(text);
+    }
+    Ok(files)
+}
+
+/// How many of these files are standard input.
+pub fn inputs_among(files: &[&str]) -> usize
+    ensures { result ≡ count_by naming.is_input (map (λ file. file.now) files.now) }
+{
+    let mut count = 0;
+    for file in files {
+        if is_input(file) {
+            count += 1;
+        }
+    }
+    count
+}

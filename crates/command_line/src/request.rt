@@ -1,0 +1,308 @@
+//! The command line.
+ghost use Rattle.std.specs.Prelude.{◌≡◌, ◌≢◌, ◌≤◌, ◌↔◌, ◌∷◌, [], IfOk, IfNone, IfSome, length, map, true};
+ghost use Rattle.common.specs.declared.choice.Choice.{Choice};
+ghost use Rattle.reports.specs.declared.form.Form.{Form};
+ghost use Rattle.command_line.specs.declared.reading.Wish.{Wish};
+ghost use Rattle.command_line.specs.Requests.{IsAskedBy, asks_in, drawing_in, files_in, inputs_in};
+
+use crate::progress::Progress;
+use crate::reading::{Wish, asks, files_of, inputs_among};
+use clap::error::ErrorKind;
+use clap::{Arg, ArgAction, ArgMatches, Command, Error, value_parser};
+use common::{Choice, DrawingKind};
+use reports::{Form, Style};
+use std::alloc::{AllocError, Global};
+
+/// What the command line asks for.
+#[derive(Drop)]
+pub enum Request<'a> {
+    /// The records of one file.
+    Frames { name: &'a str },
+    /// Answers to the records of files.
+    Layout(LayoutRequest<'a>),
+}
+
+/// Which answers a layout is to have, and how it is to be worked out.
+#[derive(Drop)]
+pub struct LayoutRequest<'a> {
+    /// The files, in order.
+    pub names: Vec<&'a str>,
+    /// How many lanes work on them.
+    pub lanes: u32,
+    /// How many megabytes of text of later files may wait until their reading pauses.
+    pub waiting: u32,
+    /// How the outer face of each plane is chosen.
+    pub choice: Choice,
+    /// The form of the text, and which drawings it is of.
+    pub style: Style,
+    /// Whether and where it is written how far the run is.
+    pub progress: Progress,
+}
+
+/// Reads the words after the program's name, and answers what they ask for. A `layout` has a file at least, and
+/// standard input at most once.
+///
+/// # Errors
+///
+/// The help, where it is asked for; why the words are refused; or want of memory, of the kind `OutOfMemory`.
+pub fn parse<'a>(alloc: Global, words: &'a [String]) -> Result<Request<'a>, Error>
+    ensures { IfOk result (IsAskedBy words.now) }
+{
+    let mut program = describe(alloc)?;
+    let matches = program.try_get_matches_from_mut(words)?;
+    let files = files_of(alloc, words)?;
+    if inputs_among(files.as_slice()) > 1 {
+        return Err(program.error(ErrorKind::ArgumentConflict, INPUT_TWICE)?);
+    }
+    match request_of(words, files, &matches) {
+        Some(request) => Ok(request),
+        // The file is required, so a line that was taken names one.
+        None => Err(program.error(ErrorKind::MissingRequiredArgument, "no file is named")?),
+    }
+}
+
+/// What the words ask for, which clap has taken and which name these files; none where they name no file. Clap's
+/// own reading gives the number of lanes and the progress; the rest is taken from the words, as `command` promises.
+fn request_of<'a>(
+    words: &[String],
+    files: Vec<&'a str>,
+    matches: &ArgMatches<'_>,
+) -> Option<Request<'a>>
+    requires files { map (λ file. file.now) files.items ≡ files_in words.now }
+    requires once { inputs_in words.now ≤ 1 }
+    ensures { IfSome result (IsAskedBy words.now) }
+{
+    if asks(Wish::Frames, words) {
+        let name = only_file(files.as_slice())?;
+        return Some(Request::Frames { name });
+    }
+    if files.is_empty() || !asks(Wish::Layout, words) {
+        return None;
+    }
+    Some(Request::Layout(LayoutRequest {
+        names: files,
+        lanes: lanes_of(matches),
+        waiting: waiting_of(matches),
+        choice: choice_of(words),
+        style: Style {
+            form: form_of(words),
+            drawing: drawing_of(words),
+        },
+        progress: progress_of(matches),
+    }))
+}
+
+/// The only one of these files; none where there is another number of them.
+fn only_file<'a>(files: &[&'a str]) -> Option<&'a str>
+    ensures one { IfSome result (λ name. map (λ file. file.now) files.now ≡ name.now ∷ []) }
+    ensures none { IfNone result (length files.now ≢ 1) }
+{
+    match files {
+        [name] => Some(*name),
+        _ => None,
+    }
+}
+
+/// The number of lanes that clap found.
+fn lanes_of(matches: &ArgMatches) -> u32 {
+    match matches.subcommand_matches("layout") {
+        Some(layout) => layout.get_one("lanes").unwrap_or(1),
+        None => 1,
+    }
+}
+
+/// The number of megabytes that clap found.
+fn waiting_of(matches: &ArgMatches) -> u32 {
+    match matches.subcommand_matches("layout") {
+        Some(layout) => layout.get_one("waiting").unwrap_or(MOST_WAITING),
+        None => MOST_WAITING,
+    }
+}
+
+/// Where it is written how far a run is, by what clap found.
+fn progress_of(matches: &ArgMatches) -> Progress {
+    match matches.subcommand_matches("layout") {
+        Some(layout) => Progress::of_count(layout.get_count("progress")),
+        None => Progress::Nowhere,
+    }
+}
+
+/// The choice of the outer face that the words ask for.
+fn choice_of(words: &[String]) -> Choice
+    ensures { (result ≡ Choice.Best) ↔ (asks_in Wish.BestOuter words.now ≡ true) }
+{
+    if asks(Wish::BestOuter, words) {
+        Choice::Best
+    } else {
+        Choice::First
+    }
+}
+
+/// The form that the words ask for.
+fn form_of(words: &[String]) -> Form
+    ensures { (result ≡ Form.Json) ↔ (asks_in Wish.Json words.now ≡ true) }
+{
+    if asks(Wish::Json, words) {
+        Form::Json
+    } else {
+        Form::Report
+    }
+}
+
+/// The drawing that the words ask for.
+fn drawing_of(words: &[String]) -> DrawingKind
+    ensures { result ≡ drawing_in words.now }
+{
+    if asks(Wish::ShortDrawing, words) {
+        DrawingKind::Short
+    } else if asks(Wish::QuickDrawing, words) {
+        DrawingKind::Quick
+    } else if asks(Wish::Json, words) {
+        DrawingKind::Short
+    } else {
+        DrawingKind::Quick
+    }
+}
+
+/// What the program takes, with the texts of its help.
+fn describe<'a>(alloc: Global) -> Result<Command<'a>, AllocError> {
+    let version = Arg::new(alloc, "version")
+        .long("version")
+        .help("Prints the version, and the toolchain that the program is proved with")
+        .action(ArgAction::SetTrue);
+    Command::new(alloc, "planarbend")
+        .bin_name("planarbend")?
+        .about("Draws embedded planar graphs in planar_code with the fewest bends")
+        .after_help(HELP)
+        .no_binary_name(true)
+        .subcommand_required(true)
+        .arg_required_else_help(true)
+        .arg(version)?
+        .subcommand(describe_layout(alloc)?)?
+        .subcommand(describe_frames(alloc)?)
+}
+
+fn describe_layout<'a>(alloc: Global) -> Result<Command<'a>, AllocError> {
+    let json = Arg::new(alloc, "json")
+        .long("json")
+        .help("Prints JSON lines in place of the report: also shapes, prices and points")
+        .action(ArgAction::SetTrue);
+    let progress = Arg::new(alloc, "progress")
+        .long("progress")
+        .help(
+            "Tells on standard error, where that is a terminal, how far the run is; given twice, also where it is none",
+        )
+        .action(ArgAction::Count);
+    Command::new(alloc, "layout")
+        .about(
+            "Prints for each graph of planar_code files its fewest bends and whether it is drawn",
+        )
+        .after_help(LAYOUT_HELP)
+        .arg(lanes_option(alloc))?
+        .arg(waiting_option(alloc))?
+        .arg(outer_option(alloc))?
+        .arg(drawing_option(alloc))?
+        .arg(json)?
+        .arg(progress)?
+        .arg(layout_files(alloc))
+}
+
+fn lanes_option<'a>(alloc: Global) -> Arg<'a> {
+    Arg::new(alloc, "lanes")
+        .long("lanes")
+        .value_name("N")
+        .help("How many files are worked on at once, 1 to 8")
+        .value_parser(value_parser!(u32))
+        .default_value("1")
+}
+
+fn waiting_option<'a>(alloc: Global) -> Arg<'a> {
+    Arg::new(alloc, "waiting")
+        .long("waiting")
+        .value_name("MB")
+        .help(
+            "How many megabytes of text of later files may wait until their reading pauses, 1 to 65536",
+        )
+        .value_parser(value_parser!(u32).range(1..=65536))
+        .default_value("64")
+}
+
+fn outer_option<'a>(alloc: Global) -> Arg<'a> {
+    Arg::new(alloc, "outer")
+        .long("outer")
+        .value_name("CHOICE")
+        .help(
+            "The outer face: first is the one with the longest boundary, best the one with which the fewest bends are needed",
+        )
+        .value_parser(OUTER)
+        .default_value("first")
+}
+
+fn drawing_option<'a>(alloc: Global) -> Arg<'a> {
+    Arg::new(alloc, "drawing")
+        .long("drawing")
+        .value_name("KIND")
+        .help(
+            "The drawing: short has shorter edges, and is what --json takes; quick is found sooner, and is what the report takes",
+        )
+        .value_parser(DRAWING)
+}
+
+fn layout_files<'a>(alloc: Global) -> Arg<'a> {
+    Arg::new(alloc, "FILE")
+        .help(
+            "Planar_code files, at most 256: the 15 bytes >>planar_code<< and then records; - is standard input",
+        )
+        .required(true)
+        .num_args(1..)
+        .action(ArgAction::Append)
+}
+
+fn describe_frames<'a>(alloc: Global) -> Result<Command<'a>, AllocError> {
+    let file = Arg::new(alloc, "FILE")
+        .help(
+            "A planar_code file: the 15 bytes >>planar_code<< and then records; - is standard input",
+        )
+        .required(true)
+        .action(ArgAction::Set);
+    Command::new(alloc, "frames")
+        .about("Prints a line for each record of a planar_code file, and how the file ends")
+        .after_help(FRAMES_HELP)
+        .arg(file)
+}
+
+/// How many megabytes of text may wait where the words do not say.
+const MOST_WAITING: u32 = 64;
+
+/// Why standard input is not taken twice.
+const INPUT_TWICE: &str = "standard input, the file '-', can be read only once, and is named twice";
+
+/// The words for the choices of the outer face.
+const OUTER: &[&str] = &["first", "best"];
+
+/// The words for the kinds of drawings.
+const DRAWING: &[&str] = &["short", "quick"];
+
+const HELP: &str = "Examples:
+  planarbend layout examples/two.pc
+  planarbend frames examples/two.pc";
+
+const LAYOUT_HELP: &str = "Examples:
+  planarbend layout examples/two.pc
+prints
+  file 1
+  graph 1 ok n=2 m=1 f=1 bends=0 drawn=yes
+  graph 2 ok n=3 m=3 f=2 bends=1 drawn=yes
+  end complete graphs=2
+and from a generator
+  geng -c -D4 8 | planarg -p | planarbend layout -
+With --json there is a line for each graph and each file's end, and each is a JSON object.
+The status is 0 where each file ends complete and no graph wanted for memory, and else 3.";
+
+const FRAMES_HELP: &str = "Example:
+  planarbend frames examples/two.pc
+prints
+  record 1 n=2 bytes=5
+  record 2 n=3 bytes=10
+  end complete records=2
+The status is 0 where the file ends complete, and else 3.";

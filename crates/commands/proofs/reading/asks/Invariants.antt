@@ -1,6 +1,0 @@
-use Rattle.std.proofs.Common.{◌≡◌, drop}
-use Rattle.commands.specs.Requests.{asks_from, asks_in}
-use Rattle.commands.proofs.reading.asks.Given as goal
-
-abbrev pub invariant-loop-word : goal.invariant-loop-word
-invariant-loop-word l = asks_from l.wish l.role (drop l.word-index l.words) ≡ asks_in l.wish l.words
