@@ -42,7 +42,7 @@ pub enum TextFault {
 /// Files go over lanes as in `run_batch`. They leave in their order: the lines of the first file that has not
 /// ended go to the sink as they come, and those of later files wait. What was laid out for a record is let go
 /// once its line is made. Where what waits holds `waiting` bytes of memory or more, the reading of later files
-/// pauses until there is room again or their turn comes; what lanes have read by then still comes and waits too.
+/// pauses until there is room again or they come first; what lanes have read by then still comes and waits too.
 ///
 /// # Errors
 ///

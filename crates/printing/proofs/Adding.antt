@@ -50,10 +50,10 @@ front_more form front came next entry line is more =
     ∙ ap (λ t. t ++ begun form front (next front)) (texts_same form came next front (λ k lt. more.others k (λ e. absurd (omega (arith, lt, e)))))
 
 -- a line of the front went on its way
-pub written_front : (form : Form) (start old new : Option (List ℕ)) (buffer gathers : List ℕ) (front : ℕ) (waiting after : List Waiting) (came next : ℕ → Came) (entry : Entry) (line : List ℕ)
-    → front < length waiting → line_in form entry ≡ line → HasEntryMore front entry came next → ChangesAt front IsCountedOne waiting after → GoesOn old buffer new gathers line
-    → AreWritten form start old buffer front waiting came → AreWritten form start new gathers front after next
-written_front form start old new buffer gathers front waiting after came next entry line below is more changed goes was =
+pub written_front : (form : Form) (start old new : Option (List ℕ)) (buffer buffered : List ℕ) (front : ℕ) (waiting after : List Waiting) (came next : ℕ → Came) (entry : Entry) (line : List ℕ)
+    → front < length waiting → line_in form entry ≡ line → HasEntryMore front entry came next → ChangesAt front IsCountedOne waiting after → GoesOn old buffer new buffered line
+    → AreWritten form start old buffer front waiting came → AreWritten form start new buffered front after next
+written_front form start old new buffer buffered front waiting after came next entry line below is more changed goes was =
     record {
       within = omega (arith, was.within, changed.count);
       marked = marked_same came next front (λ k lt. more.others k (λ e. absurd (omega (arith, lt, e)))) was.marked;
@@ -61,7 +61,7 @@ written_front form start old new buffer gathers front waiting after came next en
           (λ _ w w' c. counted_one front entry came next w w' more c.count c.mark) was.counted;
       lines = after_change (λ w c. w.lines ≡ lines_in form c.entries) (λ k. front < k) front waiting after came next IsCountedOne changed more.others below
           (λ lt. absurd (omega (arith, lt))) was.lines;
-      going = λ _. subst (IsOnItsWay start new gathers) (front_more form front came next entry line is more) (goes start (ended_texts form came front ++ begun form front (came front)) (was.going below));
+      going = λ _. subst (IsOnItsWay start new buffered) (front_more form front came next entry line is more) (goes start (ended_texts form came front ++ begun form front (came front)) (was.going below));
       over = λ past. absurd (omega (arith, past, changed.count, below));
     }
 

@@ -73,7 +73,7 @@ pub breaks_written : (form : Form) (start now : Option (List ℕ)) (buffer : Lis
     → AreWritten form start now buffer front waiting came → BreaksOff form start now (length waiting) came
 breaks_written form start now buffer front waiting came was = breaks_way form start now now buffer front waiting came (way_front start now buffer) was
 
--- where what was gathered was to be put
+-- where what was buffered was to be put
 pub breaks_flushed : (form : Form) (start now new : Option (List ℕ)) (buffer : List ℕ) (front : ℕ) (waiting : List Waiting) (came : ℕ → Came)
     → AppendsFront now new buffer → AreWritten form start now buffer front waiting came → BreaksOff form start new (length waiting) came
 breaks_flushed form start now new buffer front waiting came put was =

@@ -124,7 +124,7 @@ past_last choice held_choice meaning known form start now buffer front waiting w
       | inr past ↦ past
     ]
 
--- what was gathered was put, and with it the text of all books
+-- what was buffered was put, and with it the text of all books
 pub all_written : (choice held_choice : Choice) (meaning known : ℕ → Meaning) (form : Form) (start old new : Option (List ℕ)) (buffer : List ℕ) (front : ℕ) (waiting : List Waiting) (whole : Bool) (ns : List Note) (status : ℕ)
     → HaveFiles choice meaning (length waiting) ns → HoldsNotes held_choice known form start old buffer front waiting whole ns → Appends old new buffer → ((status ≡ 0) ↔ (whole ≡ true))
     → IsAllWritten choice meaning form (length waiting) start new status

@@ -218,7 +218,7 @@ left_off_end meaning start old new before mid after ns file mark went kept below
       text = breaks next (keeps held.came next more held.written);
     }))
 
--- where what was gathered was to be put
+-- where what was buffered was to be put
 pub left_off_finish : (meaning : ℕ → Meaning) (start old new : Option (List ℕ)) (lines : Lines) (ns : List Note) → AppendsFront old new lines.buffer → LinesHold meaning start old lines ns → LinesLeaveOff meaning start new lines ns
 left_off_finish meaning start old new lines ns put held = record {
   came = held.came;

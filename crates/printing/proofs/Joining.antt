@@ -1,4 +1,4 @@
--- Text in pieces.
+-- Text in chunks.
 use Rattle.std.proofs.Common.{◌≡◌, ℕ, ◌+◌, ◌<◌, List, [], ◌∷◌, ◌++◌, length, take, drop, get_or, Vec, Global, Option, sym, ap, subst, ◌∙◌, append_assoc, append-nil}
 use Rattle.std.proofs.lemmas.List.{take_more, take-append-drop}
 use Rattle.std.proofs.lemmas.List.Concat.{flat_map-append}
@@ -7,10 +7,10 @@ use Rattle.printing.specs.Joined.{joined}
 use Rattle.printing.specs.Written.{GoesOn, BreaksIn}
 use Rattle.printing.proofs.Breaking.{appends_longer}
 
--- one piece more
-pub joined_more : (pieces : List (Vec ℕ Global)) (piece : Vec ℕ Global) → joined (pieces ++ piece ∷ []) ≡ joined pieces ++ piece.items
-joined_more pieces piece =
-    flat_map-append (λ (p : Vec ℕ Global). p.items) pieces (piece ∷ []) ∙ ap (λ l. joined pieces ++ l) (append-nil piece.items)
+-- one chunk more
+pub joined_more : (chunks : List (Vec ℕ Global)) (chunk : Vec ℕ Global) → joined (chunks ++ chunk ∷ []) ≡ joined chunks ++ chunk.items
+joined_more chunks chunk =
+    flat_map-append (λ (p : Vec ℕ Global). p.items) chunks (chunk ∷ []) ∙ ap (λ l. joined chunks ++ l) (append-nil chunk.items)
 
 -- no text goes on its way
 pub goes_none : (now : Option (List ℕ)) (waits : List ℕ) → GoesOn now waits now waits []
@@ -33,14 +33,14 @@ pub breaks_more : (old new : Option (List ℕ)) (waited text more : List ℕ) �
 breaks_more old new waited text more breaks start before way =
     appends_longer start new (before ++ (text ++ more)) (before ++ text) (more, sym (append_assoc before text more)) (breaks start before way)
 
--- the pieces up to the next one
-pub joined_next : (pieces : List (Vec ℕ Global)) (i : ℕ) (piece : Vec ℕ Global) (text : List ℕ) → i < length pieces → piece ≡ get_or pieces i piece → text ≡ piece.items
-    → joined (take (i + 1) pieces) ≡ joined (take i pieces) ++ text
-joined_next pieces i piece text below is says =
-    ap joined (take_more pieces i piece below ∙ ap (λ p. take i pieces ++ p ∷ []) (sym is))
-    ∙ joined_more (take i pieces) piece ∙ ap (λ l. joined (take i pieces) ++ l) (sym says)
+-- the chunks up to the next one
+pub joined_next : (chunks : List (Vec ℕ Global)) (i : ℕ) (chunk : Vec ℕ Global) (text : List ℕ) → i < length chunks → chunk ≡ get_or chunks i chunk → text ≡ chunk.items
+    → joined (take (i + 1) chunks) ≡ joined (take i chunks) ++ text
+joined_next chunks i chunk text below is says =
+    ap joined (take_more chunks i chunk below ∙ ap (λ p. take i chunks ++ p ∷ []) (sym is))
+    ∙ joined_more (take i chunks) chunk ∙ ap (λ l. joined (take i chunks) ++ l) (sym says)
 
--- the pieces up to some place, and those behind it
-pub joined_rest : (pieces : List (Vec ℕ Global)) (i : ℕ) → joined (take i pieces) ++ joined (drop i pieces) ≡ joined pieces
-joined_rest pieces i =
-    sym (flat_map-append (λ (p : Vec ℕ Global). p.items) (take i pieces) (drop i pieces)) ∙ ap joined (take-append-drop i pieces)
+-- the chunks up to some place, and those behind it
+pub joined_rest : (chunks : List (Vec ℕ Global)) (i : ℕ) → joined (take i chunks) ++ joined (drop i chunks) ≡ joined chunks
+joined_rest chunks i =
+    sym (flat_map-append (λ (p : Vec ℕ Global). p.items) (take i chunks) (drop i chunks)) ∙ ap joined (take-append-drop i chunks)

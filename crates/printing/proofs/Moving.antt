@@ -43,26 +43,26 @@ ended_more form front next came mark count next_is mark_is counted =
     ∙ sym (texts-next form came front) ∙ ap (ended_texts form came) (sym next_is)
 
 -- the last line of the front went on its way
-pub left_ended : (form : Form) (start old new : Option (List ℕ)) (buffer gathers : List ℕ) (front next : ℕ) (waiting : List Waiting) (came : ℕ → Came) (w : Waiting) (mark : Mark) (count : ℕ)
+pub left_ended : (form : Form) (start old new : Option (List ℕ)) (buffer buffered : List ℕ) (front next : ℕ) (waiting : List Waiting) (came : ℕ → Came) (w : Waiting) (mark : Mark) (count : ℕ)
     → next ≡ front + 1 → front < length waiting → ((other : Waiting) → (get_or waiting front other).mark ≡ Some mark) → w ≡ get_or waiting front w → count ≡ w.count
-    → GoesOn old buffer new gathers (end_in form (front + 1) mark count)
-    → AreWritten form start old buffer front waiting came → AreLeft form start new gathers next waiting came
-left_ended form start old new buffer gathers front next waiting came w mark count next_is below marked at is goes was =
+    → GoesOn old buffer new buffered (end_in form (front + 1) mark count)
+    → AreWritten form start old buffer front waiting came → AreLeft form start new buffered next waiting came
+left_ended form start old new buffer buffered front next waiting came w mark count next_is below marked at is goes was =
     let told = front_told form start old buffer front waiting came w mark count below marked at is was in
     record {
       within = omega (arith, below, next_is);
       marked = marked_next came front next mark next_is told.0 was.marked;
       counted = λ k other from lt. was.counted k other (omega (arith, from, next_is)) lt;
       lines = λ k other from lt. was.lines k other (omega (arith, from, next_is)) lt;
-      text = subst (IsOnItsWay start new gathers) (ended_more form front next came mark count next_is told.0 told.1) (goes start (ended_texts form came front ++ begun form front (came front)) (was.going below));
+      text = subst (IsOnItsWay start new buffered) (ended_more form front next came mark count next_is told.0 told.1) (goes start (ended_texts form came front ++ begun form front (came front)) (was.going below));
     }
 
 -- what has come of the front went on its way
-pub written_begun : (form : Form) (start old mid new : Option (List ℕ)) (buffer between gathers : List ℕ) (front : ℕ) (waiting after : List Waiting) (came : ℕ → Came) (lines : List ℕ)
+pub written_begun : (form : Form) (start old mid new : Option (List ℕ)) (buffer between buffered : List ℕ) (front : ℕ) (waiting after : List Waiting) (came : ℕ → Came) (lines : List ℕ)
     → front < length waiting → GoesOn old buffer mid between (preamble_in form (front + 1))
-    → ((other : Waiting) → lines ≡ (get_or waiting front other).lines) → ChangesAt front IsTaken waiting after → GoesOn mid between new gathers lines
-    → AreLeft form start old buffer front waiting came → AreWritten form start new gathers front after came
-written_begun form start old mid new buffer between gathers front waiting after came lines below preamble are changed goes was =
+    → ((other : Waiting) → lines ≡ (get_or waiting front other).lines) → ChangesAt front IsTaken waiting after → GoesOn mid between new buffered lines
+    → AreLeft form start old buffer front waiting came → AreWritten form start new buffered front after came
+written_begun form start old mid new buffer between buffered front waiting after came lines below preamble are changed goes was =
     let T = ended_texts form came front in
     let H = preamble_in form (front + 1) in
     let other = some_waiting waiting front below in
@@ -75,7 +75,7 @@ written_begun form start old mid new buffer between gathers front waiting after 
           (λ _ w w' c had. record { count = c.count ∙ had.count; mark = c.mark ∙ had.mark }) was.counted;
       lines = after_change (λ w c. w.lines ≡ lines_in form c.entries) (λ k. front < k) front waiting after came came IsTaken changed (λ _ _. refl) below
           (λ lt. absurd (omega (arith, lt))) (λ k o from lt. was.lines k o (omega (arith, from)) lt);
-      going = λ _. subst (IsOnItsWay start new gathers) text (goes start (T ++ H) (preamble start T was.text));
+      going = λ _. subst (IsOnItsWay start new buffered) text (goes start (T ++ H) (preamble start T was.text));
       over = λ past. absurd (omega (arith, past, changed.count, below));
     }
 

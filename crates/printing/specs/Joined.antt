@@ -1,8 +1,8 @@
--- Text in pieces.
+-- Text in chunks.
 use Rattle.std.specs.Prelude.{ℕ, List, Vec}
 use Rattle.std.specs.List.{flat_map}
 use Rattle.std.specs.declared.alloc.Global.{Global}
 
--- the text of these pieces, one after another
+-- the text of these chunks, one after another
 abbrev pub joined : List (Vec ℕ Global) → List ℕ
-joined pieces = flat_map (λ piece. piece.items) pieces
+joined chunks = flat_map (λ chunk. chunk.items) chunks

@@ -2,11 +2,11 @@
 //! order.
 #![tactic(auto)]
 
+mod chunks;
 mod drawn_texts;
 mod line;
 mod lines;
 mod pace;
-mod pieces;
 mod printed;
 mod refusal;
 mod run_lines;
@@ -15,11 +15,11 @@ mod told;
 mod waiting;
 mod writing;
 
+pub use chunks::Chunks;
 pub use drawn_texts::{books_are_drawn, texts_tell_none_undrawn, undrawn_is_told};
 pub use line::Line;
 pub use lines::entry_text;
 pub use pace::Pace;
-pub use pieces::Pieces;
 pub use printed::{Printed, answered_line};
 pub use refusal::Refusal;
 pub use reports::{Form, ReportLine, write_json, write_report};

@@ -7,7 +7,7 @@ use lanes::Pauses;
 /// lanes are at work for most of a run, where a whole bound for all would let one run alone.
 const PART: usize = 4;
 
-/// How much may wait of files whose turn has not come, and where it is written that their reading pauses.
+/// How much may wait of files that are not in front yet, and where it is written that their reading pauses.
 #[derive(Drop)]
 pub struct Pace<'p> {
     pub pauses: &'p Pauses,

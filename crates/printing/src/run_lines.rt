@@ -27,7 +27,7 @@ use std::alloc::{AllocError, Global};
 use streams::{Mark, Sink, SourceEnd, TextBuffer, WriteFault};
 
 /// The lines of a run on their way to a sink, file after file. A line of the first file that has not ended
-/// is copied once, into a fixed buffer, and takes no memory; the lines of each later file wait until its turn.
+/// is copied once, into a fixed buffer, and takes no memory; the lines of each later file wait until it is the first.
 #[derive(Drop)]
 pub struct Lines {
     form: Form,

@@ -1,8 +1,8 @@
-//! What waits of files whose turn has not come.
+//! What waits of files that are not in front yet.
 ghost use Rattle.std.specs.Prelude.{◌≡◌, ◌<◌, IfOk, IfErr, OnOk, All, length, IsTrue, slice_index_or};
 ghost use Rattle.printing.specs.Waits.{ChangesAt, IsNothing, IsCountedOne, GetsLine, GetsMark, IsTaken, IsUnmarked};
 
-use crate::pieces::Pieces;
+use crate::chunks::Chunks;
 use crate::refusal::Refusal;
 use std::alloc::{AllocError, Global};
 use std::mem;
@@ -11,8 +11,8 @@ use streams::Mark;
 /// What has come of a file.
 #[derive(Drop)]
 pub struct Waiting {
-    /// The lines of its entries, as long as its turn has not come.
-    pub lines: Pieces,
+    /// The lines of its entries, as long as it is not in front.
+    pub lines: Chunks,
     /// How many entries have come of it.
     pub count: u32,
     /// Its mark, once it has ended.
@@ -27,7 +27,7 @@ pub(crate) fn none_come(alloc: Global, files: u32) -> Result<Vec<Waiting>, Alloc
     let mut waiting = Vec::with_capacity(alloc, files as usize)?;
     for _ in 0..files {
         waiting.push(Waiting {
-            lines: Pieces::new(alloc),
+            lines: Chunks::new(alloc),
             count: 0,
             mark: None,
         })?;
@@ -87,11 +87,11 @@ pub(crate) fn keep_mark(waiting: &mut Vec<Waiting>, file: u32, count: u32, mark:
 }
 
 /// Takes the lines of a file out, so that none of them wait.
-pub(crate) fn take_lines(alloc: Global, waiting: &mut Vec<Waiting>, file: u32) -> Pieces
+pub(crate) fn take_lines(alloc: Global, waiting: &mut Vec<Waiting>, file: u32) -> Chunks
     requires { file < length waiting.old.items }
     ensures count { length waiting.new.items ≡ length waiting.old.items }
     ensures lines { (other : Waiting) → result ≡ (slice_index_or waiting.old.items file other).lines }
     ensures taken { ChangesAt file IsTaken waiting.old.items waiting.new.items }
 {
-    mem::replace(&mut waiting[file as usize].lines, Pieces::new(alloc))
+    mem::replace(&mut waiting[file as usize].lines, Chunks::new(alloc))
 }

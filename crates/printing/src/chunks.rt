@@ -10,22 +10,22 @@ use std::marker::Model;
 use std::mem;
 use streams::{Sink, TextBuffer};
 
-/// How many bytes a piece has room for at least.
-const PIECE: usize = 16_384;
+/// How many bytes a chunk has room for at least.
+const CHUNK: usize = 16_384;
 
-/// Text in pieces, which are never moved and mostly of one size: so it holds as much memory as `size` says, and
+/// Text in chunks, which are never moved and mostly of one size: so it holds as much memory as `size` says, and
 /// what one text lets go of serves another.
 #[derive(Drop)]
-pub struct Pieces {
-    /// The pieces before the last.
+pub struct Chunks {
+    /// The chunks before the last.
     full: Vec<Vec<u8>>,
-    /// The last piece.
+    /// The last chunk.
     last: Vec<u8>,
-    /// How many bytes all pieces have room for.
+    /// How many bytes all chunks have room for.
     size: usize,
 }
 
-impl Model for Pieces {
+impl Model for Chunks {
     ghost use Rattle.std.specs.Prelude.{◌++◌, ℕ, List};
     ghost use Rattle.printing.specs.Joined.{joined};
 
@@ -34,12 +34,12 @@ impl Model for Pieces {
     ghost view = { λ p. joined p.full.items ++ p.last.items };
 }
 
-impl Pieces {
+impl Chunks {
     /// No text. It takes no memory.
-    pub(crate) fn new(alloc: Global) -> Pieces
+    pub(crate) fn new(alloc: Global) -> Chunks
         ensures { result ≡ [] }
     {
-        Pieces {
+        Chunks {
             full: Vec::new(alloc),
             last: Vec::new(alloc),
             size: 0,
@@ -64,11 +64,11 @@ impl Pieces {
             self.last.extend_from_slice(text)?;
             return Ok(0);
         }
-        let room = text.len().max(PIECE);
-        let mut piece = Vec::with_capacity(alloc, room)?;
-        piece.extend_from_slice(text)?;
+        let room = text.len().max(CHUNK);
+        let mut chunk = Vec::with_capacity(alloc, room)?;
+        chunk.extend_from_slice(text)?;
         self.full.reserve(1)?;
-        self.full.push_reserved(mem::replace(&mut self.last, piece));
+        self.full.push_reserved(mem::replace(&mut self.last, chunk));
         self.size = self.size.saturating_add(room);
         Ok(room)
     }
@@ -86,20 +86,20 @@ impl Pieces {
     }
 }
 
-/// Puts the text of these pieces on its way.
+/// Puts the text of these chunks on its way.
 fn put_each<S: Sink>(
-    pieces: &[Vec<u8>],
+    chunks: &[Vec<u8>],
     buffer: &mut TextBuffer,
     sink: &mut S,
 ) -> Result<(), Refusal>
     requires { S.failed sink.old ≡ false }
-    ensures put { OnOk result (GoesOn (S.taken sink.old) buffer.old (S.taken sink.new) buffer.new (joined pieces.now)) }
-    ensures broken { OnErr result (BreaksIn (S.taken sink.old) buffer.old (S.taken sink.new) (joined pieces.now)) }
+    ensures put { OnOk result (GoesOn (S.taken sink.old) buffer.old (S.taken sink.new) buffer.new (joined chunks.now)) }
+    ensures broken { OnErr result (BreaksIn (S.taken sink.old) buffer.old (S.taken sink.new) (joined chunks.now)) }
     ensures stands { OnOk result (S.failed sink.new ≡ false) }
     ensures gave_up { IfErr result (λ refusal. GivesUp (S.failed sink.new) refusal) }
 {
-    for piece in pieces {
-        put(buffer, sink, piece.as_slice())?;
+    for chunk in chunks {
+        put(buffer, sink, chunk.as_slice())?;
     }
     Ok(())
 }
