@@ -18,7 +18,7 @@ use Rattle.dissect.specs.Surrounds.{IsEnclosed}
 use Rattle.dissect.specs.Bends.{AreHeadings, CountsBends, KeepsDarts, KeepsFaces}
 use Rattle.dissect.specs.Steps.{angle_of}
 use Rattle.dissect.specs.Chains.{AreChains}
-use Rattle.dissect.proofs.SurroundedPaths.{enclosed_paths, enclosed_joined}
+use Rattle.dissect.proofs.SurroundedPaths.{enclosed_paths, enclosed_connected}
 use Rattle.dissect.proofs.Chains.{HasChains, enclosed_chains}
 use Rattle.dissect.proofs.Apart.{AreEdges, paths_back, paths_once, paths_apart}
 use Rattle.dissect.specs.Boxes.{AreBoxes, HasEdge, parts_of}
@@ -37,7 +37,7 @@ pub record IsMade (p : PlaneModel) (shape : ShapeModel) (w : DartMap) (outside :
   pub counts : CountsBends p (turns_at shape) w
   pub paths : HasPaths w (darts p) (reverse_dart p) (λ d. map angle_of (turns_at shape d))
   pub chains : AreChains (vertices p) w
-  pub joined : IsConnected w
+  pub connected : IsConnected w
   pub outside_in : outside < darts p
   pub outer : face_at p outside ≡ p.outer
   pub enclosed : IsEnclosed w outside (dart_map_of t)
@@ -155,7 +155,7 @@ are_boxes p shape w outside t old edges paths made all lesser count listed =
     record { first = path.0; rest = path.1; path = path.2 } in
     record {
       sound = made.cut_sound;
-      joined = enclosed_joined w outside (dart_map_of t) made.sound.linked made.joined made.enclosed;
+      connected = enclosed_connected w outside (dart_map_of t) made.sound.linked made.connected made.enclosed;
       faces = record {
         reaches = made.reaches;
         outside = w.darts + 4 + 0;

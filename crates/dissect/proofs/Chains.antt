@@ -5,7 +5,7 @@ use Rattle.dissect.specs.DartMaps.{DartMap, no_dart, IsLinked, IsSubdivided, IsC
 use Rattle.dissect.specs.Surrounds.{IsSurrounded, IsEnclosed}
 use Rattle.dissect.proofs.Splitting.{by_age, by_place, split_linked}
 use Rattle.dissect.specs.Chains.{AreChains}
-use Rattle.dissect.proofs.StayingJoined.{cut_linked}
+use Rattle.dissect.proofs.StayingConnected.{cut_linked}
 use Rattle.dissect.proofs.Cuts.{IsBeside, chord_beside}
 use Rattle.dissect.proofs.SurroundedPaths.{by_side, surrounded_linked, surrounded_beside}
 

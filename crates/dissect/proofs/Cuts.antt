@@ -7,7 +7,7 @@ use Rattle.dissect.specs.Paths.{Follows, HasPath, HasPaths, bends}
 use Rattle.dissect.proofs.Splitting.{by_age, split_linked}
 use Rattle.dissect.proofs.Lengthening.{KeepsHeads, IsKept, IsLonger, longer_end, longer_kept, path_kept, longer_turns}
 use Rattle.dissect.proofs.Splits.{split_paths}
-use Rattle.dissect.proofs.StayingJoined.{grows_linked}
+use Rattle.dissect.proofs.StayingConnected.{grows_linked}
 
 -- a map to which darts were added that stand before none and have none before them
 pub record IsBeside (w new : DartMap) : Type 0 where

@@ -23,7 +23,7 @@ pub mod Stacks
 pub mod Climbing
 pub mod Reading
 pub mod Reaching
-pub mod StayingJoined
+pub mod StayingConnected
 pub mod Lengthening
 pub mod Splits
 pub mod Bends

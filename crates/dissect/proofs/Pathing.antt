@@ -1,4 +1,4 @@
--- The map that got all bends: each edge of the plane has its path, with the turns of its string, and all darts are joined.
+-- The map that got all bends: each edge of the plane has its path, with the turns of its string, and all darts are connected.
 use Rattle.std.proofs.Common.{◌≡◌, ◌≢◌, ℕ, ◌+◌, ◌-◌, ◌<◌, ◌≤◌, ◌⊎◌, ◌==◌, if◌then◌else◌, eqb, true, List, [], ◌∷◌, ◌++◌, map, reverse, ◌∙◌, arith, subst, sym, ap, refl, inl, inr, append_assoc}
 use Rattle.std.proofs.lemmas.Bool.{cases_eq, eq-eqb, ne_eqb, cond-true, cond-false}
 use Rattle.std.proofs.lemmas.Grind.{reverse_onto}
@@ -12,7 +12,7 @@ use Rattle.ortho_rep.specs.Turns.{opposite, mirrored}
 use Rattle.dissect.specs.DartMaps.{DartMap, IsLinked, no_dart}
 use Rattle.dissect.specs.Paths.{HasPaths, IsConnected}
 use Rattle.dissect.proofs.Splitting.{split_linked}
-use Rattle.dissect.proofs.StayingJoined.{IsExtended, extended_same, extended_on, extended_joined, split_extended}
+use Rattle.dissect.proofs.StayingConnected.{IsExtended, extended_same, extended_on, extended_connected, split_extended}
 use Rattle.dissect.proofs.Lengthening.{path_turns}
 use Rattle.dissect.proofs.Bends.{bend_paths}
 use Rattle.dissect.proofs.StraightPaths.{plain_paths}
@@ -233,8 +233,8 @@ turned_bare p a h s w bare = record {
     none (inl h) = absurd (omega (arith, h))
     none (inr h) = absurd (omega (arith, h))
 
-pub bare_joined : (p : PlaneModel) (a h : ℕ → ℕ) (w : DartMap) → IsPlane p → IsBare p a h w → IsConnected w
-bare_joined p a h w plane bare s next reverse_dart x y l_x l_y at =
+pub bare_connected : (p : PlaneModel) (a h : ℕ → ℕ) (w : DartMap) → IsPlane p → IsBare p a h w → IsConnected w
+bare_connected p a h w plane bare s next reverse_dart x y l_x l_y at =
     all_joined p.lists (seven_rules p.lists plane.rules) s
     (λ d l on. subst (λ (k : ℕ). s k ≡ true) (bare.nexts d l) (next d (omega (arith, l, bare.dart_count)) on))
     (λ d l on. subst (λ (k : ℕ). s k ≡ true) (bare.reverse_darts d l) (reverse_dart d (omega (arith, l, bare.dart_count)) on))
@@ -247,8 +247,8 @@ pub bends_have_paths : (p : PlaneModel) (a h : ℕ → ℕ) (s : ℕ → List Tu
 bends_have_paths p a h s w new plane mirrors bare linked narrow all =
     all_paths p s 0 w new (plane_ends p plane) mirrors linked narrow all (turned_bare p a h s w bare)
 
--- and it is joined
-pub bends_are_joined : (p : PlaneModel) (a h : ℕ → ℕ) (s : ℕ → List Turn) (w new : DartMap) → IsPlane p → IsBare p a h w → IsLinked w →
+-- and it is connected
+pub bends_stay_connected : (p : PlaneModel) (a h : ℕ → ℕ) (s : ℕ → List Turn) (w new : DartMap) → IsPlane p → IsBare p a h w → IsLinked w →
     AreBent p s 0 w new → IsConnected new
-bends_are_joined p a h s w new plane bare linked all =
-    extended_joined w new (all_extended p s 0 w new linked (omega (arith, bare.dart_count)) all) (bare_joined p a h w plane bare)
+bends_stay_connected p a h s w new plane bare linked all =
+    extended_connected w new (all_extended p s 0 w new linked (omega (arith, bare.dart_count)) all) (bare_connected p a h w plane bare)

@@ -7,7 +7,7 @@ use Rattle.dissect.specs.Surrounds.{IsEnclosed}
 use Rattle.dissect.proofs.Splitting.{split_linked}
 use Rattle.dissect.proofs.Lengthening.{path_doubled, longer_end}
 use Rattle.dissect.proofs.Splits.{split_doubled}
-use Rattle.dissect.proofs.StayingJoined.{cut_linked}
+use Rattle.dissect.proofs.StayingConnected.{cut_linked}
 use Rattle.dissect.proofs.Cuts.{AreQuarters, cut_quarters, chord_beside}
 use Rattle.dissect.proofs.SurroundedPaths.{surrounded_linked, surrounded_quarters}
 use Rattle.dissect.proofs.Sides.{HasChain, beside_chain, cut_chain, grows_chain}

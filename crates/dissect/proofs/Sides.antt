@@ -8,7 +8,7 @@ use Rattle.dissect.specs.Paths.{HasPath, bends}
 use Rattle.dissect.proofs.Splitting.{split_linked}
 use Rattle.dissect.proofs.Lengthening.{IsDoubled, IsKept, IsLonger, holds_behind, longer_turns, path_kept, path_doubled}
 use Rattle.dissect.proofs.Splits.{split_kept, split_doubled, split_doubled_back, split_longer}
-use Rattle.dissect.proofs.StayingJoined.{grows_linked}
+use Rattle.dissect.proofs.StayingConnected.{grows_linked}
 use Rattle.dissect.proofs.Cuts.{IsBeside, beside_longer, chord_beside, AreQuarters, grows_quarters}
 
 -- the chain that ends with the dart `end` sets out with the reverse of `reverse_dart`, has these turns, and holds the dart `held`

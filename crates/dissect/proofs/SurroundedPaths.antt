@@ -5,7 +5,7 @@ use Rattle.dissect.specs.DartMaps.{DartMap, no_dart, IsLinked, IsCut}
 use Rattle.dissect.specs.Paths.{HasPaths, IsConnected}
 use Rattle.dissect.specs.Surrounds.{IsSurrounded, IsEnclosed}
 use Rattle.dissect.proofs.Splitting.{split_linked}
-use Rattle.dissect.proofs.StayingJoined.{IsClosedUnder, by_next, by_reverse_dart, extended_joined, chord_extended, cut_linked, cut_extended, grows_extended}
+use Rattle.dissect.proofs.StayingConnected.{IsClosedUnder, by_next, by_reverse_dart, extended_connected, chord_extended, cut_linked, cut_extended, grows_extended}
 use Rattle.dissect.proofs.Cuts.{IsBeside, beside_paths, cut_paths, AreQuarters, cut_quarters, grows_paths}
 
 -- a fact at each dart of a surrounded map: at the old ones, at the four inside the rectangle and at the four outside it
@@ -167,10 +167,10 @@ join_back surrounded right e way new s linked cut shut not_c not_p h =
     by_next new s (cut.middle.darts + 1) (surrounded.next right) shut (omega (arith, cut.chord.darts))
     (cut.chord.next_back ∙ cut.split.next_other right cut.d_in not_c not_p) back
 
--- a joined map is joined with the rectangle that a cut leads to
-pub join_joined : (w surrounded : DartMap) (right side way : ℕ) (new : DartMap) → IsLinked w → IsConnected w → IsSurrounded w surrounded → right < w.darts →
+-- a connected map stays connected with the rectangle that a cut leads to
+pub join_connected : (w surrounded : DartMap) (right side way : ℕ) (new : DartMap) → IsLinked w → IsConnected w → IsSurrounded w surrounded → right < w.darts →
     side < 4 → IsCut surrounded right (w.darts + side) way new → IsConnected new
-join_joined w surrounded right side way new linked joined f right_in side_in cut s next reverse_dart a b l_a l_b h =
+join_connected w surrounded right side way new linked connected f right_in side_in cut s next reverse_dart a b l_a l_b h =
     let e : ℕ = w.darts + side in
     let shut : IsClosedUnder new s = record { next = next; reverse_dart = reverse_dart } in
     let linked_surrounded = surrounded_linked w surrounded linked f in
@@ -183,9 +183,9 @@ join_joined w surrounded right side way new linked joined f right_in side_in cut
     ap surrounded.prev (f.reverse_dart_inner side side_in) ∙ f.prev_outer side side_in in
     let from_old : (c : ℕ) → c < w.darts → s c ≡ true → (k : ℕ) → k < surrounded.darts → s k ≡ true = λ c l_c at k l_k.
     elim (cases_lt k w.darts) [
-      | inl low ↦ joined s shut_old.next shut_old.reverse_dart c k l_c low at
+      | inl low ↦ connected s shut_old.next shut_old.reverse_dart c k l_c low at
       | inr high ↦
-          let on : s right ≡ true = joined s shut_old.next shut_old.reverse_dart c right l_c right_in at in
+          let on : s right ≡ true = connected s shut_old.next shut_old.reverse_dart c right l_c right_in at in
           ring_whole w surrounded s side f shut_surrounded side_in (join_there surrounded right e way new s cut shut on) k l_k high
     ] in
     let from_ring : (k : ℕ) → k < 4 → s (w.darts + k) ≡ true → s (w.next right) ≡ true = λ k l_k at.
@@ -202,10 +202,10 @@ join_joined w surrounded right side way new linked joined f right_in side_in cut
           from_old (w.next right) (linked.next_in right right_in) (from_ring ring.0 ring.1 ring.2)
     ]) b l_b
 
--- a joined map stays joined in its rectangle
-pub enclosed_joined : (w : DartMap) (outside : ℕ) (new : DartMap) → IsLinked w → IsConnected w → IsEnclosed w outside new → IsConnected new
-enclosed_joined w outside new linked joined e =
+-- a connected map stays connected in its rectangle
+pub enclosed_connected : (w : DartMap) (outside : ℕ) (new : DartMap) → IsLinked w → IsConnected w → IsEnclosed w outside new → IsConnected new
+enclosed_connected w outside new linked connected e =
     let linked_surrounded = surrounded_linked w e.surrounded linked e.surround in
     let linked_joined = cut_linked e.surrounded e.right (w.darts + e.side) e.way e.joined linked_surrounded e.join in
-    extended_joined e.joined new (grows_extended e.joined new linked_joined e.grows)
-    (join_joined w e.surrounded e.right e.side e.way e.joined linked joined e.surround e.right_in e.side_in e.join)
+    extended_connected e.joined new (grows_extended e.joined new linked_joined e.grows)
+    (join_connected w e.surrounded e.right e.side e.way e.joined linked connected e.surround e.right_in e.side_in e.join)

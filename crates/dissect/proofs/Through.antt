@@ -9,7 +9,7 @@ use Rattle.dissect.proofs.Splitting.{split_linked}
 use Rattle.dissect.proofs.Backwards.{path_unique}
 use Rattle.dissect.proofs.Lengthening.{KeepsHeads, IsKept, IsDoubled}
 use Rattle.dissect.proofs.Splits.{split_keeps, split_kept, split_doubled, split_doubled_back}
-use Rattle.dissect.proofs.StayingJoined.{grows_linked, cut_linked}
+use Rattle.dissect.proofs.StayingConnected.{grows_linked, cut_linked}
 use Rattle.dissect.proofs.Cuts.{IsBeside, chord_beside, AreQuarters, cut_quarters, grows_quarters}
 use Rattle.dissect.proofs.SurroundedPaths.{surrounded_linked, surrounded_quarters, surrounded_beside}
 use Rattle.dissect.specs.Boxed.{StandOn}

@@ -60,7 +60,7 @@ pub record ArePathsApart (p : PlaneModel) (w : DartMap) : Type 0 where
 
 -- the boxes dissect the shape of the plane p
 pub record IsBoxed (p : PlaneModel) (shape : ShapeModel) (b : BoxesModel) : Type 0 where
-  -- they run straight in four directions round vertices, are joined, and each face of them is a box but the outside
+  -- they run straight in four directions round vertices, are connected, and each face of them is a box but the outside
   pub boxes : AreBoxes b
   -- the plane's vertices are the first ones, and its edges are named by their lesser darts
   pub old : b.old ≡ vertices p

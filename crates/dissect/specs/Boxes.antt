@@ -79,7 +79,7 @@ pub record IsCutUp (w : DartMap) : Type 0 where
 -- what is kept of all boxes: edges run straight in four directions and meet at vertices; the parts of the plane are there
 pub record AreBoxes (b : BoxesModel) : Type 0 where
   pub sound : IsSound (dart_map b)
-  pub joined : IsConnected (dart_map b)
+  pub connected : IsConnected (dart_map b)
   pub faces : IsCutUp (dart_map b)
   pub few_darts : b.darts ≤ no_dart
   pub old_in : b.old ≤ b.vertices

@@ -45,7 +45,7 @@ pub record HasPaths (w : DartMap) (n : ℕ) (reverse_dart : ℕ → ℕ) (quarte
   pub paths : (d : ℕ) → d < n → HasPath w d (reverse_dart d) (quarters d)
   pub ends : (a : ℕ) → a < w.darts → (w.before a ≡ no_dart) ⊎ ((n ≤ w.before a) × (w.before a < w.darts))
 
--- any two darts are joined: a set of darts closed under "next" and "reverse" that holds one dart holds them all
+-- any two darts are connected: a set of darts closed under "next" and "reverse" that holds one dart holds them all
 abbrev pub IsConnected : DartMap → Type 0
 IsConnected w = (s : ℕ → Bool) → ((a : ℕ) → a < w.darts → s a ≡ true → s (w.next a) ≡ true)
     → ((a : ℕ) → a < w.darts → s a ≡ true → s (w.reverse_dart a) ≡ true)

@@ -57,7 +57,7 @@ pub fn normalize_into(
     ensures paths { IfOk result (λ t. HasPaths (dart_map_of t) (darts plane.now) (reverse_dart plane.now)
         (λ d. map angle_of (turns_at shape.now d))) }
     ensures chains { IfOk result (λ t. AreChains (vertices plane.now) (dart_map_of t)) }
-    ensures joined { IfOk result (λ t. IsConnected (dart_map_of t)) }
+    ensures connected { IfOk result (λ t. IsConnected (dart_map_of t)) }
     ensures space { IfOk result (λ t. t.darts + 4 * reflex_turns (dart_map_of t) + RECTANGLE_ROOM ≤ room t) }
 {
     // Only the proof needs this: `graph` says that the plane is one.

@@ -46,19 +46,19 @@ pub fn rectangles_keep_paths()
         → HasPaths w n reverse_dart quarters → HasPaths new n reverse_dart quarters }
 {}
 
-/// A split of an edge leaves a joined map joined.
-pub fn splits_stay_joined()
+/// A split of an edge leaves a connected map connected.
+pub fn splits_stay_connected()
     ensures { (w : DartMap) (e way bend : ℕ) (new : DartMap) → IsLinked w → e < w.darts → IsSubdivided w e way bend new
         → IsConnected w → IsConnected new }
 {}
 
-/// Cuts leave a joined map joined.
-pub fn cuts_stay_joined()
+/// Cuts leave a connected map connected.
+pub fn cuts_stay_connected()
     ensures { (w new : DartMap) → IsSound w → Grows w new → IsConnected w → IsConnected new }
 {}
 
-/// A joined map in its rectangle is joined.
-pub fn rectangles_are_joined()
+/// A connected map stays connected in its rectangle.
+pub fn rectangles_stay_connected()
     ensures { (w : DartMap) (outside : ℕ) (new : DartMap) → IsSound w → IsEnclosed w outside new → IsConnected w → IsConnected new }
 {}
 

@@ -21,7 +21,7 @@ nobody a = false
 abbrev pub rest : (w : DartMap) (o : ℕ) (faces : Labels w o) → Growth (outer_joins w o faces nobody) → ℕ → Bool
 rest w o faces g0 = filled w o faces nobody g0
 
-module _ (w : DartMap) (sound : IsSound w) (joined : IsConnected w) (cut : IsCutUp w) (o : ℕ) (faces : Labels w o)
+module _ (w : DartMap) (sound : IsSound w) (connected : IsConnected w) (cut : IsCutUp w) (o : ℕ) (faces : Labels w o)
     (outer : (s : ℕ → Bool) → OfFaces w s → s cut.outside ≡ s faces.out) where
   abbrev upward0 : (a : ℕ) → a < w.darts → w.direction a ≡ 0 → nobody (w.reverse_dart a) ≡ true → nobody a ≡ true
   upward0 a a_in east on = on
@@ -34,7 +34,7 @@ module _ (w : DartMap) (sound : IsSound w) (joined : IsConnected w) (cut : IsCut
 
   none_left : (g0 : Growth (outer_joins w o faces nobody)) (a : ℕ) → a < w.darts → rest w o faces g0 a ≡ false
   none_left g0 a a_in =
-      ap not (joined (λ d. g0.reached (faces.label d)) (λ d d_in on. ap g0.reached (faces.stays d d_in) ∙ on)
+      ap not (connected (λ d. g0.reached (faces.label d)) (λ d d_in on. ap g0.reached (faces.stays d d_in) ∙ on)
       (λ d d_in on. g0.closed (w.reverse_dart d) (back_in d d_in) refl (ap (λ (e : ℕ). g0.reached (faces.label e)) (back_back d d_in) ∙ on))
       faces.out a faces.out_in a_in (ap g0.reached faces.out_own ∙ g0.grown.root))
 
@@ -64,17 +64,17 @@ module _ (w : DartMap) (sound : IsSound w) (joined : IsConnected w) (cut : IsCut
     root_in = omega (arith, faces.out_in)
 
     next_face : (a : ℕ) → a < w.darts → f (w.next a) ≡ f a
-    next_face = face_next w sound joined o faces nobody (λ a l. refl) upward0 refl g0 faces.out root_in merged faces.out faces.out_in out_node g1
+    next_face = face_next w sound connected o faces nobody (λ a l. refl) upward0 refl g0 faces.out root_in merged faces.out faces.out_in out_node g1
 
     pair1 : IsPaired j1 w.reverse_dart
-    pair1 = paired1 w sound joined o faces nobody (λ a l. refl) upward0 refl g0 faces.out root_in merged faces.out faces.out_in out_node g1
+    pair1 = paired1 w sound connected o faces nobody (λ a l. refl) upward0 refl g0 faces.out root_in merged faces.out faces.out_in out_node g1
 
     pair2 : IsPaired j2 w.reverse_dart
-    pair2 = paired2 w sound joined o faces nobody (λ a l. refl) upward0 refl g0 faces.out root_in merged faces.out faces.out_in out_node g1 g2
+    pair2 = paired2 w sound connected o faces nobody (λ a l. refl) upward0 refl g0 faces.out root_in merged faces.out faces.out_in out_node g1 g2
 
     each_spanned : (d : ℕ) → d < w.darts → (Up j1 g1 d ⊎ Up j1 g1 (w.reverse_dart d)) ⊎ (Up j2 g2 d ⊎ Up j2 g2 (w.reverse_dart d))
     each_spanned d d_in =
-        spanned w sound joined o faces nobody (λ a l. refl) upward0 refl g0 faces.out root_in merged faces.out faces.out_in out_node g1 g2 d d_in
+        spanned w sound connected o faces nobody (λ a l. refl) upward0 refl g0 faces.out root_in merged faces.out faces.out_in out_node g1 g2 d d_in
         (ap (λ (b : Bool). b && s (w.reverse_dart d)) (none_left g0 d d_in))
 
     abbrev plus : ℕ → ℕ
@@ -166,7 +166,7 @@ module _ (w : DartMap) (sound : IsSound w) (joined : IsConnected w) (cut : IsCut
 
     no_rise : (a : ℕ) → a < w.darts → rise a ≡ true → ⊥
     no_rise a a_in on =
-        rise_out (sym (outer rise rise_of) ∙ holds_outside w sound joined cut.outside (labels w sound cut) rise rise_of
+        rise_out (sym (outer rise rise_of) ∙ holds_outside w sound connected cut.outside (labels w sound cut) rise rise_of
         (λ d d_in east there.
         let b : ℕ = w.reverse_dart d in
         let none : m b ≡ 0 = west b (back_in d d_in) (omega (arith, sound.straight d d_in, east)) in
@@ -175,7 +175,7 @@ module _ (w : DartMap) (sound : IsSound w) (joined : IsConnected w) (cut : IsCut
 
     no_fall : (a : ℕ) → a < w.darts → fall a ≡ true → ⊥
     no_fall a a_in on =
-        fall_out (sym (outer fall fall_of) ∙ holds_outside (rotated w 2) (rotated_sound w 2 sound) joined cut.outside
+        fall_out (sym (outer fall fall_of) ∙ holds_outside (rotated w 2) (rotated_sound w 2 sound) connected cut.outside
         (labels (rotated w 2) (rotated_sound w 2 sound) (rotated_cut w 2 cut)) fall fall_of
         (λ d d_in way there.
         let b : ℕ = w.reverse_dart d in

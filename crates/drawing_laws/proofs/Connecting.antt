@@ -68,7 +68,7 @@ filled w o faces s g a = not (g.reached (faces.label a))
 abbrev pub face_node : (w : DartMap) (o : ℕ) → Labels w o → (ℕ → Bool) → ℕ → ℕ
 face_node w o faces s a = cond (s a) w.darts (faces.label a)
 
--- the faces, joined across the edges that touch one off the set
+-- the faces, connected across the edges that touch one off the set
 abbrev pub face_joins : (w : DartMap) (o : ℕ) → Labels w o → (ℕ → Bool) → ℕ → Joins
 face_joins w o faces s root = record {
   darts = w.darts;
@@ -82,7 +82,7 @@ face_joins w o faces s root = record {
 abbrev pub in_tree : (w : DartMap) (j : Joins) → Growth j → ℕ → Bool
 in_tree w j g d = is_up j g d || is_up j g (w.reverse_dart d)
 
--- the vertices, joined along those of these edges that are not of the tree on the faces
+-- the vertices, connected along those of these edges that are not of the tree on the faces
 abbrev pub vertex_joins : (w : DartMap) (o : ℕ) (faces : Labels w o) (s : ℕ → Bool) (root : ℕ) → Growth (face_joins w o faces s root) → Joins
 vertex_joins w o faces s root g = record {
   darts = w.darts;
@@ -93,7 +93,7 @@ vertex_joins w o faces s root g = record {
   root = w.head faces.out;
 }
 
-module _ (w : DartMap) (sound : IsSound w) (joined : IsConnected w) (o : ℕ) (faces : Labels w o)
+module _ (w : DartMap) (sound : IsSound w) (connected : IsConnected w) (o : ℕ) (faces : Labels w o)
     (s0 : ℕ → Bool) (of0 : OfFaces w s0)
     (upward0 : (a : ℕ) → a < w.darts → w.direction a ≡ 0 → s0 (w.reverse_dart a) ≡ true → s0 a ≡ true)
     (free : s0 faces.out ≡ false) (g0 : Growth (outer_joins w o faces s0)) where
@@ -183,7 +183,7 @@ module _ (w : DartMap) (sound : IsSound w) (joined : IsConnected w) (o : ℕ) (f
     -- all faces are reached
     pub all_faces : (a : ℕ) → a < w.darts → g1.reached (face_node w o faces (filled w o faces s0 g0) a) ≡ true
     all_faces a a_in =
-        joined (λ d. g1.reached (f d)) (λ d d_in on. ap g1.reached (face_next d d_in) ∙ on) across start a start_in a_in (ap g1.reached starts ∙ g1.grown.root)
+        connected (λ d. g1.reached (f d)) (λ d d_in on. ap g1.reached (face_next d d_in) ∙ on) across start a start_in a_in (ap g1.reached starts ∙ g1.grown.root)
       where
         across : (d : ℕ) → d < w.darts → g1.reached (f d) ≡ true → g1.reached (f (w.reverse_dart d)) ≡ true
         across d d_in on =
@@ -477,7 +477,7 @@ module _ (w : DartMap) (sound : IsSound w) (joined : IsConnected w) (o : ℕ) (f
 pub holds_outside : (w : DartMap) → IsSound w → IsConnected w → (o : ℕ) (faces : Labels w o) (s : ℕ → Bool) → OfFaces w s
     → ((a : ℕ) → a < w.darts → w.direction a ≡ 0 → s (w.reverse_dart a) ≡ true → s a ≡ true)
     → (a : ℕ) → a < w.darts → s a ≡ true → s o ≡ true
-holds_outside w sound joined o faces s of_s up a a_in on =
+holds_outside w sound connected o faces s of_s up a a_in on =
     faces.out_held s of_s
     ∙ true_from_ne_false (s faces.out) (λ off. closing off (growth (outer_joins w o faces s) faces.inside))
   where
@@ -497,6 +497,6 @@ holds_outside w sound joined o faces s of_s up a a_in on =
 
         first : Growth (face_joins w o faces s' w.darts) → ⊥
         first g1 =
-            set_not_reached w sound joined o faces s of_s up off g0 w.darts (omega arith) in_set a a_in
-            (in_set a a_in (holds_first w sound joined o faces s of_s up off g0 a a_in on)) g1
+            set_not_reached w sound connected o faces s of_s up off g0 w.darts (omega arith) in_set a a_in
+            (in_set a a_in (holds_first w sound connected o faces s of_s up off g0 a a_in on)) g1
             (growth (vertex_joins w o faces s' w.darts g1) sound.meeting.head_in) g1.grown.root

@@ -11,7 +11,7 @@ pub directed : (b : BoxesModel) (k : ℕ) (s : ℕ → Bool) → (boxes : AreBox
 directed b k s boxes few closed a a_in on =
     let r : ℕ = 4 - k in
     let w = dart_map b in
-    holds_outside (rotated w r) (rotated_sound w r boxes.sound) boxes.joined boxes.faces.outside
+    holds_outside (rotated w r) (rotated_sound w r boxes.sound) boxes.connected boxes.faces.outside
     (labels (rotated w r) (rotated_sound w r boxes.sound) (rotated_cut w r boxes.faces)) s closed.whole
     (λ d d_in way. closed.across d d_in (omega (arith, way, few, boxes.sound.meeting.quarter d d_in)))
     a a_in on

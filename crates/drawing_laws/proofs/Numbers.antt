@@ -20,7 +20,7 @@ same_if true false f g = sym (f refl)
 same_if false true f g = g refl
 same_if false false f g = refl
 
--- the vertices, joined by darts that do not go to the west
+-- the vertices, connected by darts that do not go to the west
 abbrev pub forward : DartMap → ℕ → Joins
 forward w e = record {
   darts = w.darts;
@@ -35,7 +35,7 @@ forward w e = record {
 abbrev delta : ℕ → ℕ → ℕ
 delta a d = cond (eqb a d) 1 0
 
-module _ (w : DartMap) (sound : IsSound w) (joined : IsConnected w) (cut : IsCutUp w) where
+module _ (w : DartMap) (sound : IsSound w) (connected : IsConnected w) (cut : IsCutUp w) where
   delta_at : (a u : ℕ) → a < w.darts → sum_at w.darts w.head u (delta a) ≡ cond (eqb (w.head a) u) 1 0
   delta_at a u a_in =
       sum_below-same w.darts (λ d. cond (eqb (w.head d) u) (delta a d) 0) (λ d. cond (eqb a d) (cond (eqb (w.head d) u) 1 0) 0) (λ d d_in. swap (eqb (w.head d) u) (eqb a d))
@@ -118,7 +118,7 @@ module _ (w : DartMap) (sound : IsSound w) (joined : IsConnected w) (cut : IsCut
     pub not_back : g.reached (w.head (w.reverse_dart e)) ≡ true → ⊥
     not_back r =
         let t : ℕ = w.head (w.reverse_dart e) in
-        no_circling w sound joined cut cut.outside (labels w sound cut) (labels w sound cut).out_held (λ d. taken t d + delta e d)
+        no_circling w sound connected cut cut.outside (labels w sound cut) (labels w sound cut).out_held (λ d. taken t d + delta e d)
         (λ u. omega (
           arith,
           flows t r u,
@@ -185,9 +185,9 @@ module _ (w : DartMap) (sound : IsSound w) (joined : IsConnected w) (cut : IsCut
       (number g, grows g, stays g)
 
 pub ordered : (w : DartMap) → IsSound w → IsConnected w → IsCutUp w → (x : ℕ → ℕ) × (y : ℕ → ℕ) × IsOrdered w x y
-ordered w sound joined cut =
-    let (x, x_grows, x_stays) = numbers w sound joined cut in
-    let (y, y_grows, y_stays) = numbers (rotated w 3) (rotated_sound w 3 sound) joined (rotated_cut w 3 cut) in (
+ordered w sound connected cut =
+    let (x, x_grows, x_stays) = numbers w sound connected cut in
+    let (y, y_grows, y_stays) = numbers (rotated w 3) (rotated_sound w 3 sound) connected (rotated_cut w 3 cut) in (
       x,
       y,
       record {
@@ -203,4 +203,4 @@ ordered w sound joined cut =
     )
 
 pub boxes_ordered : (b : BoxesModel) → AreBoxes b → (x : ℕ → ℕ) × (y : ℕ → ℕ) × IsOrdered (dart_map b) x y
-boxes_ordered b boxes = ordered (dart_map b) boxes.sound boxes.joined boxes.faces
+boxes_ordered b boxes = ordered (dart_map b) boxes.sound boxes.connected boxes.faces

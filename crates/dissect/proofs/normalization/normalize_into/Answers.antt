@@ -11,7 +11,7 @@ use Rattle.dissect.proofs.EdgeTurns.{bends_twice, lesser_length-lesser, lesser_f
 use Rattle.dissect.proofs.Normalizing.{AreLeft, AreDone, none_done, next_at, next_done, none_left}
 use Rattle.dissect.proofs.Starting.{linked, meeting}
 use Rattle.dissect.proofs.Ending.{all_bends}
-use Rattle.dissect.proofs.Pathing.{bends_have_paths, bends_are_joined}
+use Rattle.dissect.proofs.Pathing.{bends_have_paths, bends_stay_connected}
 use Rattle.dissect.proofs.Chaining.{bends_have_chains}
 use Rattle.dissect.proofs.normalization.normalize_into.Goals as goal
 
@@ -101,7 +101,7 @@ returns c =
       counts = bends.counts;
       paths = bends_have_paths p a h s w new plane rep.strings bare plain (omega arith) bent;
       chains = bends_have_chains p a h s w new bare plain (meeting p a s h w plane ends rep c.requires.headings bare) bent;
-      joined = bends_are_joined p a h s w new plane bare plain bent;
+      connected = bends_stay_connected p a h s w new plane bare plain bent;
       space = omega (
         arith,
         bends.counts.dart_count,

@@ -1,4 +1,4 @@
--- Splits, chords and cuts leave a joined map joined.
+-- Splits, chords and cuts leave a connected map connected.
 use Rattle.std.proofs.Common.{◌≡◌, ℕ, ◌+◌, ◌<◌, ◌∙◌, Bool, true, arith, subst, sym, ap, inl, inr}
 use Rattle.std.proofs.lemmas.Bool.{cases_eq}
 use Rattle.dissect.specs.DartMaps.{DartMap, IsLinked, IsSubdivided, IsChord, Fits, IsCut, Grows, same, further}
@@ -41,12 +41,12 @@ extended_on w mid new first second = record {
 }
 
 -- a set that holds a dart of the old map, where it then holds all of them, holds all darts of the new map
-pub extended_joined : (w new : DartMap) → IsExtended w new → IsConnected w → IsConnected new
-extended_joined w new extended joined s next reverse_dart a b l_a l_b h =
+pub extended_connected : (w new : DartMap) → IsExtended w new → IsConnected w → IsConnected new
+extended_connected w new extended connected s next reverse_dart a b l_a l_b h =
     let shut : IsClosedUnder new s = record { next = next; reverse_dart = reverse_dart } in
     let old : IsClosedUnder w s = extended.shut s shut in
     let found = extended.some s shut a l_a h in
-    extended.all s shut (λ c l_c. joined s old.next old.reverse_dart found.0 c found.1 l_c found.2) b l_b
+    extended.all s shut (λ c l_c. connected s old.next old.reverse_dart found.0 c found.1 l_c found.2) b l_b
 
 pub split_extended : (w : DartMap) (e way bend : ℕ) (new : DartMap) → IsLinked w → e < w.darts → IsSubdivided w e way bend new → IsExtended w new
 split_extended w e way bend new linked e_in split =
