@@ -1,4 +1,4 @@
--- A drawing with straight edges, in its rectangle and cut up, dissects the shape that it was made of.
+-- A map with straight edges, in its rectangle and cut up, dissects the shape that it was made of.
 use Rattle.std.proofs.Common.{◌≡◌, ℕ, ◌+◌, ◌-◌, ◌%◌, ◌<◌, ◌≤◌, ◌∙◌, List, [], ◌∷◌, All, map, length, get_or, slice_index, slice_index_or, arith, subst, sym, ap, inl, inr}
 use Rattle.std.specs.List.{range_with_len}
 use Rattle.std.proofs.lemmas.List.Elements.{All-filter, All-get_or, All-from_get_or}
@@ -22,12 +22,12 @@ use Rattle.dissect.proofs.SurroundedPaths.{enclosed_paths, enclosed_connected}
 use Rattle.dissect.proofs.Chains.{HasChains, enclosed_chains}
 use Rattle.dissect.proofs.Apart.{AreEdges, paths_back, paths_once, paths_apart}
 use Rattle.dissect.specs.Boxes.{AreBoxes, HasEdge, parts_of}
-use Rattle.dissect.specs.Boxed.{IsBoxed, IsEnclosedDrawing, ArePathsApart}
+use Rattle.dissect.specs.Boxed.{IsBoxed, IsEnclosedMap, ArePathsApart}
 use Rattle.dissect.proofs.Keeping.{Keeps, enclosed_keeps}
 use Rattle.dissect.proofs.Rectangles.{rectangle, join}
 use Rattle.dissect.proofs.Through.{through}
 
--- what is known of the drawing w and of the table t that was made of it
+-- what is known of the map w and of the table t that was made of it
 pub record IsMade (p : PlaneModel) (shape : ShapeModel) (w : DartMap) (outside : ℕ) (t : DartTable) : Type 0 where
   pub plane : IsPlane p
   pub sound : IsSound w
@@ -103,14 +103,14 @@ paths_lie_apart p shape w outside t made =
       apart = paths_apart (vertices p) (dart_map_of t) (darts p) (reverse_dart p) q are;
     }
 
-pub drawing_stands : (p : PlaneModel) (shape : ShapeModel) (w : DartMap) (outside : ℕ) (t : DartTable) (old : ℕ) (edges : List ℕ)
-    (paths : List (List ℕ)) → IsMade p shape w outside t → IsEnclosedDrawing p shape (parts_of t old edges paths)
-drawing_stands p shape w outside t old edges paths made =
+pub map_stands : (p : PlaneModel) (shape : ShapeModel) (w : DartMap) (outside : ℕ) (t : DartTable) (old : ℕ) (edges : List ℕ)
+    (paths : List (List ℕ)) → IsMade p shape w outside t → IsEnclosedMap p shape (parts_of t old edges paths)
+map_stands p shape w outside t old edges paths made =
     let keeps : Keeps w (dart_map_of t) = enclosed_keeps w outside (dart_map_of t) made.enclosed in
     let e = made.enclosed in
     record {
-      drawing = w;
-      drawn = record {
+      enclosed_map = w;
+      of_shape = record {
         sound = made.sound;
         kept = made.kept;
         directions = made.headings;
@@ -196,7 +196,7 @@ is_boxed p shape w outside t old edges paths made all lesser count listed =
       paths = kept_paths p shape w outside t made;
       apart = paths_lie_apart p shape w outside t made;
       chains = (are_edges p shape w outside t made).chains.chains;
-      enclosed = drawing_stands p shape w outside t old edges paths made;
+      enclosed = map_stands p shape w outside t old edges paths made;
       angles = λ d d_in.
           let m : ℕ = reverse_dart p (next p d) in
           let m_in : m < darts p = ends.reverse_dart_inside (next p d) (ends.next_one.inside d d_in) in

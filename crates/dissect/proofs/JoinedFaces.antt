@@ -1,4 +1,4 @@
--- The drawing joined with its rectangle: what becomes of the faces.
+-- The map joined with its rectangle: what becomes of the faces.
 use Rattle.std.proofs.Common.{◌≡◌, ◌≢◌, ℕ, zero, suc, ◌+◌, ◌%◌, ◌<◌, ◌∙◌, List, [], ◌∷◌, map, arith, subst, sym, ap, refl, inl, inr}
 use Rattle.std.proofs.lemmas.Bool.{cases_eq}
 use Rattle.dissect.specs.DartMaps.{DartMap, IsLinked, IsCut}
@@ -12,7 +12,7 @@ use Rattle.dissect.proofs.Waiting.{clear_of, ring_last}
 use Rattle.dissect.proofs.Listing.{in_left, in_right, in_below, below_left, below_right}
 use Rattle.dissect.proofs.Sounding.{surround_linked}
 
--- a rectangle keeps the runs of the drawing
+-- a rectangle keeps the runs of the map
 pub surround_run : (w new : DartMap) → IsSurrounded w new → IsLinked w → (k a c : ℕ) → a < w.darts → RunsIn w k a c → Runs new a c
 surround_run w new s linked zero a c l r =
     let c_in : c < w.darts = omega (arith, linked.next_in a l, r.0) in

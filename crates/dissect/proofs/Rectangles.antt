@@ -1,4 +1,4 @@
--- A drawing in its rectangle: the sides and the join stay straight chains of darts, whatever is cut.
+-- A map in its rectangle: the sides and the join stay straight chains of darts, whatever is cut.
 use Rattle.std.proofs.Common.{◌≡◌, ℕ, ◌+◌, ◌<◌, ◌∙◌, [], ◌∷◌, arith, subst, sym, ap, refl, inl, inr}
 use Rattle.dissect.specs.DartMaps.{DartMap, IsLinked}
 use Rattle.dissect.specs.Faces.{In, AreWaiting}
@@ -93,7 +93,7 @@ module _ (w : DartMap) (outside : ℕ) (new : DartMap) (linked : IsLinked w) (fo
         holds = inl refl;
       })).path
 
-  -- the rectangle stands round the drawing
+  -- the rectangle stands round the map
   pub rectangle : ((k : ℕ) → k < 4 → AreWaiting new (n + 4 + k) []) → HasRectangle w new
   rectangle done = record {
     sides = λ k l. record { there = inner_chain k l; again = outer_chain k l };
@@ -173,7 +173,7 @@ module _ (w : DartMap) (outside : ℕ) (new : DartMap) (linked : IsLinked w) (fo
         holds = inl refl;
       }))
 
-  -- the drawing is joined with the rectangle at the head of the right turn
+  -- the map is joined with the rectangle at the head of the right turn
   pub join : IsJoinedAt w e.right new
   unfolding join_chain join_chain_back
   join =

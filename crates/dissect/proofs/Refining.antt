@@ -1,4 +1,4 @@
--- The whole: the drawing in its rectangle, joined and cut.
+-- The whole: the map in its rectangle, joined and cut.
 use Rattle.std.proofs.Common.{◌≡◌, ◌≢◌, ℕ, ◌+◌, ◌-◌, ◌*◌, ◌%◌, ◌<◌, ◌≤◌, ◌∙◌, List, [], ◌∷◌, ◌++◌, Bool, true, false, cond, eqb, length, map, sum, take, drop, length-append, arith, subst, sym, ap, refl, inl, inr}
 use Rattle.std.specs.List.{list_any}
 use Rattle.std.proofs.lemmas.List.Sums.{sum_by-cons}

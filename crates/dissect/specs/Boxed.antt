@@ -13,9 +13,9 @@ use Rattle.dissect.specs.Chains.{AreChains}
 use Rattle.dissect.specs.Boxes.{BoxesModel, AreBoxes, dart_map}
 use Rattle.dissect.specs.Rectangle.{HasRectangle, IsJoinedAt}
 
--- the drawing of the shape, with straight edges, before anything is put round it: it has the plane's vertices and darts, a
+-- the map of the shape, with straight edges, before anything is put round it: it has the plane's vertices and darts, a
 -- vertex at each bend, and the plane's faces
-pub record IsDrawing (p : PlaneModel) (shape : ShapeModel) (w : DartMap) : Type 0 where
+pub record IsMapOfShape (p : PlaneModel) (shape : ShapeModel) (w : DartMap) : Type 0 where
   pub sound : IsSound w
   pub kept : KeepsDarts p (angle_at shape) w
   pub directions : AreHeadings p (angle_at shape) (turns_at shape) w.direction
@@ -29,22 +29,22 @@ StandOn [] others = Unit {0}
 StandOn (a ∷ rest) [] = ⊥
 StandOn (a ∷ rest) (b ∷ others) = ((a ≡ b) × StandOn rest others) ⊎ StandOn (a ∷ rest) others
 
--- the drawing of the shape stands in the boxes, in a rectangle to which it is joined at a right turn of its outer face
-pub record IsEnclosedDrawing (p : PlaneModel) (shape : ShapeModel) (b : BoxesModel) : Type 0 where
-  pub drawing : DartMap
-  pub drawn : IsDrawing p shape drawing
+-- the map of the shape stands in the boxes, in a rectangle to which it is joined at a right turn of its outer face
+pub record IsEnclosedMap (p : PlaneModel) (shape : ShapeModel) (b : BoxesModel) : Type 0 where
+  pub enclosed_map : DartMap
+  pub of_shape : IsMapOfShape p shape enclosed_map
   -- its darts arrive where and as they did
-  pub heads : (a : ℕ) → a < drawing.darts → (dart_map b).head a ≡ drawing.head a
-  pub directions : (a : ℕ) → a < drawing.darts → (dart_map b).direction a ≡ drawing.direction a
-  -- a dart of the plane has all darts of its path in the drawing on its path in the boxes, in their order
-  pub through : (d first first' : ℕ) (rest rest' : List ℕ) → d < darts p → IsPath drawing d first rest →
+  pub heads : (a : ℕ) → a < enclosed_map.darts → (dart_map b).head a ≡ enclosed_map.head a
+  pub directions : (a : ℕ) → a < enclosed_map.darts → (dart_map b).direction a ≡ enclosed_map.direction a
+  -- a dart of the plane has all darts of its path in the map on its path in the boxes, in their order
+  pub through : (d first first' : ℕ) (rest rest' : List ℕ) → d < darts p → IsPath enclosed_map d first rest →
       IsPath (dart_map b) d first' rest' → StandOn (first ∷ rest) (first' ∷ rest')
-  pub rectangle : HasRectangle drawing (dart_map b)
+  pub rectangle : HasRectangle enclosed_map (dart_map b)
   pub right : ℕ
-  pub right_in : right < drawing.darts
-  pub turns_right : 2 < drawing.angle right
-  pub outer : drawn.faces.label right ≡ p.outer
-  pub join : IsJoinedAt drawing right (dart_map b)
+  pub right_in : right < enclosed_map.darts
+  pub turns_right : 2 < enclosed_map.angle right
+  pub outer : of_shape.faces.label right ≡ p.outer
+  pub join : IsJoinedAt enclosed_map right (dart_map b)
 
 -- the paths of the plane's darts lie apart
 pub record ArePathsApart (p : PlaneModel) (w : DartMap) : Type 0 where
@@ -79,4 +79,4 @@ pub record IsBoxed (p : PlaneModel) (shape : ShapeModel) (b : BoxesModel) : Type
   -- at its head it makes its angle with the next dart: the reverse of the next dart arrives so many quarters to the right
   pub angles : (d : ℕ) → d < darts p → ((dart_map b).direction (reverse_dart p (next p d)) + angle_at shape d) % 4 ≡ (dart_map b).direction d
   -- round the whole stands a rectangle, joined to it at a right turn of the plane's outer face
-  pub enclosed : IsEnclosedDrawing p shape b
+  pub enclosed : IsEnclosedMap p shape b

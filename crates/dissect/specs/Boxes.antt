@@ -1,4 +1,4 @@
--- What callers see of `Boxes`: a drawing in four directions, and which of its parts are those of a plane.
+-- What callers see of `Boxes`: a map in four directions, and which of its parts are those of a plane.
 use Rattle.std.specs.Prelude.{◌≡◌, ℕ, ◌<◌, ◌≤◌, ◌⊎◌, List, [], ◌∷◌, length, slice_index, slice_index_or}
 use Rattle.embedding.specs.declared.graphs.TheConstants.{MAX_EDGES}
 use Rattle.dissect.specs.declared.table.DartTable.{DartTable}
@@ -25,7 +25,7 @@ pub record BoxesModel : Type 0 where
   -- the darts that each of these edges is made of, in walking order
   pub paths : List (List ℕ)
 
--- the drawing that the parts are
+-- the map that the parts are
 abbrev pub dart_map : BoxesModel → DartMap
 dart_map b = record {
   darts = b.darts;

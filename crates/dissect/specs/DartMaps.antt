@@ -1,4 +1,4 @@
--- A map: darts and vertices of a drawing whose edges run in four directions, before it is cut into boxes.
+-- A planar map: darts and vertices, with edges in four directions, before it is cut into boxes.
 -- Darts and vertices are numbered from 0, directions 0 to 3 by quarter turns to the left from east.
 use Rattle.std.specs.Prelude.{◌≡◌, ◌≢◌, ℕ, ◌+◌, ◌-◌, ◌%◌, ◌<◌, ◌≤◌, ◌==◌, if◌then◌else◌}
 use Rattle.common.specs.Sums.{sum_below}

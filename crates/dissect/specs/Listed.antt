@@ -1,4 +1,4 @@
--- The corners of all faces, listed, before the drawing is joined with its rectangle.
+-- The corners of all faces, listed, before the map is joined with its rectangle.
 use Rattle.std.specs.Prelude.{◌≡◌, ◌≢◌, ℕ, ◌+◌, ◌*◌, ◌%◌, ◌<◌, List, [], ◌∷◌, ◌++◌, length, map}
 use Rattle.dissect.specs.DartMaps.{DartMap}
 use Rattle.dissect.specs.Faces.{IsCorner, Ring, In, Distinct, Below, joined, AreRings}
@@ -32,7 +32,7 @@ pub record AreKeptCorners (w : DartMap) (right : ℕ) (front kept : List ℕ) : 
   pub straight : w.angle right ≡ 3 → kept ≡ front
   pub turning : w.angle right ≢ 3 → kept ≡ front ++ (right ∷ [])
 
--- the faces of the drawing joined with its rectangle
+-- the faces of the map joined with its rectangle
 pub record AreJoined (w : DartMap) (right side : ℕ) (front : List ℕ) (inner : List (List ℕ)) (corners counts : List ℕ) : Type 0 where
   pub kept : List ℕ
   pub is_kept : AreKeptCorners w right front kept

@@ -1,4 +1,4 @@
-//! A drawing in four directions whose faces are boxes, but for the outside.
+//! A map in four directions whose faces are boxes, but for the outside.
 
 ghost use Rattle.std.specs.Prelude.{◌≡◌, ◌≢◌, ◌-◌, ◌<◌, ◌≤◌, ◌^◌, length, slice_index, IfSome, IfNone};
 ghost use Rattle.dissect.specs.DartMaps.{no_dart};
@@ -11,7 +11,7 @@ use geometry::Direction;
 use ortho_rep::FlatLists;
 use std::marker::Model;
 
-/// A dissection: the drawing of a plane in four directions, enclosed in a rectangle and cut until each
+/// A dissection: the map of a plane in four directions, enclosed in a rectangle and cut until each
 /// face but the outside is a box. Its edges have no bends. In contracts it is a `BoxesModel`: a map of
 /// darts, how many vertices of it are the plane's, the lesser darts of the plane's edges, and their paths.
 ///

@@ -1,4 +1,4 @@
-//! The corners of all faces of a drawing, listed.
+//! The corners of all faces of a map, listed.
 
 ghost use Rattle.std.specs.Prelude.{◌≡◌, ◌<◌, ◌≤◌, ◌+◌, ℕ, [], IfOk, List, OnOk};
 ghost use Rattle.dissect.specs.FaceNumbers.{HasTurns};
@@ -39,7 +39,7 @@ impl Faces {
     }
 }
 
-/// How many faces a joined drawing has, by Euler's formula. Only how much room is made for them rests on it.
+/// How many faces a joined map has, by Euler's formula. Only how much room is made for them rests on it.
 fn face_count(table: &DartTable) -> usize {
     (table.darts / 2 + 2).saturating_sub(table.vertices) as usize
 }

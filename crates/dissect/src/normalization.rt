@@ -1,4 +1,4 @@
-//! The drawing of a plane in four directions with a vertex at each bend, so that each edge is straight.
+//! The map of a plane in four directions with a vertex at each bend, so that each edge is straight.
 //!
 //! The darts of the plane are the first darts of a table. Each quarter turn of an orthogonal
 //! representation splits an edge by a new vertex: along the string of the lesser dart of each edge, in
@@ -25,7 +25,7 @@ use faces::Plane;
 use ortho_rep::Shape;
 use std::alloc::{AllocError, Global};
 
-/// The drawing of a plane in four directions by an orthogonal representation, with a vertex at each
+/// The map of a plane in four directions by an orthogonal representation, with a vertex at each
 /// bend, so that each edge is straight: its darts and vertices, with room for a rectangle round it and
 /// for cuts at all right turns. The lesser darts of the edges are given.
 ///

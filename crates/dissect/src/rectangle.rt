@@ -1,4 +1,4 @@
-//! The rectangle round a drawing.
+//! The rectangle round a map.
 
 ghost use Rattle.std.specs.Prelude.{◌≡◌, ◌+◌, ◌<◌, ◌≤◌, ℕ, length, slice_index_or, vec_len};
 ghost use Rattle.dissect.specs.Surrounds.{IsSurrounded};
@@ -16,7 +16,7 @@ fn put_at<T: Copy>(list: &mut Vec<T>, start: usize, items: &[T])
     list[start..start + items.len()].copy_from_slice(items);
 }
 
-/// Adds a rectangle round the drawing, not yet joined to it: its inside runs along the four new darts from `darts` on, to
+/// Adds a rectangle round the map, not yet joined to it: its inside runs along the four new darts from `darts` on, to
 /// the east, north, west and south, and its outside along their reverses, the four after these. The
 /// table needs room for eight darts. Constant time.
 pub fn surround(table: &mut DartTable)

@@ -1,7 +1,7 @@
-//! Cuts the faces of a drawing in four directions into boxes, which turn left four times and are else
+//! Cuts the faces of a map in four directions into boxes, which turn left four times and are else
 //! straight: the core of a dissection.
 //!
-//! A drawing is a table of darts whose edges run along the axes. A face is given by its corners, in
+//! A map is a table of darts whose edges run along the axes. A face is given by its corners, in
 //! walking order. Read from the place on where the walk has turned left most, a stack of corners
 //! takes them one by one; wherever a right turn stands below two left turns, a chord from the right
 //! turn to the edge behind the second left turn cuts a box off. Four left turns are left at the end.

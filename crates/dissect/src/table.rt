@@ -1,4 +1,4 @@
-//! The table of a drawing's darts, with splits and chords.
+//! The table of a map's darts, with splits and chords.
 
 ghost use Rattle.std.specs.Prelude.{◌≡◌, ◌≢◌, ◌+◌, ◌^◌, ◌<◌, ◌≤◌, vec_len};
 
@@ -8,11 +8,11 @@ use std::alloc::Global;
 /// Stands where there is no dart.
 pub const NO_DART: u32 = u32::MAX;
 
-/// How many more darts a table needs room for where a rectangle is put round its drawing: 8 for the sides,
+/// How many more darts a table needs room for where a rectangle is put round its map: 8 for the sides,
 /// and 4 for each of the four right turns at its corners, as for each other right turn.
 pub const RECTANGLE_ROOM: u32 = 24;
 
-/// The darts of a drawing in four directions, in flat arrays with room for more of them. Darts and
+/// The darts of a map in four directions, in flat arrays with room for more of them. Darts and
 /// vertices are numbered from 0, directions by quarter turns to the left from east, and angles
 /// count right angles.
 #[derive(Drop)]

@@ -1,4 +1,4 @@
-//! Walks round the faces of a drawing.
+//! Walks round the faces of a map.
 
 ghost use Rattle.std.specs.Prelude.{◌≡◌, ◌≢◌, ◌⊎◌, ◌<◌, ◌≤◌, ℕ, [], ◌∷◌, ◌++◌, OnOk, vec_len};
 ghost use Rattle.dissect.specs.FaceNumbers.{AreFaceNumbers, HasTurns};

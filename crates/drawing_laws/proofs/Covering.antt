@@ -138,7 +138,7 @@ module _ (w : DartMap) (sound : IsSound w) (x y : ℕ → ℕ) (ordered : IsOrde
       }
 
 pub covered_once : (p : PlaneModel) (shape : ShapeModel) (b : BoxesModel) (x y : ℕ → ℕ) → (boxed : IsBoxed p shape b) → IsOrdered (dart_map b) x y
-    → (i j : ℕ) → IsWithin x y (boxed.enclosed.drawing.vertices + 3) (boxed.enclosed.drawing.vertices + 1) i j → IsCoveredOnce (dart_map b) x y i j
+    → (i j : ℕ) → IsWithin x y (boxed.enclosed.enclosed_map.vertices + 3) (boxed.enclosed.enclosed_map.vertices + 1) i j → IsCoveredOnce (dart_map b) x y i j
 covered_once p shape b x y boxed ordered i j within =
     let sound = boxed.boxes.sound in
-    covered_within (dart_map b) sound x y ordered boxed.enclosed.drawing boxed.enclosed.rectangle (are_faces (dart_map b) sound boxed.boxes.faces) i j within
+    covered_within (dart_map b) sound x y ordered boxed.enclosed.enclosed_map boxed.enclosed.rectangle (are_faces (dart_map b) sound boxed.boxes.faces) i j within

@@ -12,6 +12,6 @@ ghost use Rattle.drawing_laws.specs.Cells.{IsWithin, IsCoveredOnce};
 /// order of their darts. The rectangle's corners are the first vertices behind those of the drawing.
 pub fn cells_are_covered_once()
     ensures { (p : PlaneModel) (shape : ShapeModel) (b : BoxesModel) (x y : ℕ → ℕ) → (boxed : IsBoxed p shape b) → IsOrdered (dart_map b) x y
-        → (i j : ℕ) → IsWithin x y (boxed.enclosed.drawing.vertices + 3) (boxed.enclosed.drawing.vertices + 1) i j
+        → (i j : ℕ) → IsWithin x y (boxed.enclosed.enclosed_map.vertices + 3) (boxed.enclosed.enclosed_map.vertices + 1) i j
         → IsCoveredOnce (dart_map b) x y i j }
 {}

@@ -1,4 +1,4 @@
--- The rectangle round a drawing, and the right turn of the outer face that looks out at it.
+-- The rectangle round a map, and the right turn of the outer face that looks out at it.
 use Rattle.std.proofs.Common.{◌≡◌, ℕ, zero, suc, ◌+◌, ◌%◌, ◌<◌, ◌≤◌, ◌∙◌, List, [], ◌∷◌, arith, subst, sym, refl, inl, inr}
 use Rattle.faces.specs.Planes.{PlaneModel}
 use Rattle.ortho_rep.specs.Shapes.{ShapeModel}
@@ -19,7 +19,7 @@ in_stands a (x ∷ xs) (y ∷ ys) (inl on) (inl at) = inl (at ∙ on.0)
 in_stands a (x ∷ xs) (y ∷ ys) (inl on) (inr there) = inr (in_stands a xs ys on.1 there)
 in_stands a (x ∷ xs) (y ∷ ys) (inr on) here = inr (in_stands a (x ∷ xs) ys on here)
 
--- the corners, where the drawing has v vertices
+-- the corners, where the map has v vertices
 abbrev corners_of : ℕ → Corners
 corners_of v = record { south_west = v + 3; south_east = v + 0; north_east = v + 1; north_west = v + 2 }
 
@@ -101,12 +101,12 @@ module _ (inner w : DartMap) (x y : ℕ → ℕ) (sound : IsSound w) (narrow : w
 pub looks_out : (p : PlaneModel) (shape : ShapeModel) (b : BoxesModel) → IsBoxed p shape b → LooksOut p shape b
 looks_out p shape b boxed =
     let e = boxed.enclosed in
-    let n : ℕ = e.drawing.darts in
+    let n : ℕ = e.enclosed_map.darts in
     let sound = boxed.boxes.sound in
     let narrow = boxed.boxes.few_darts in
     record {
-      drawing = e.drawing;
-      drawn = e.drawn;
+      enclosed_map = e.enclosed_map;
+      of_shape = e.of_shape;
       heads = e.heads;
       directions = e.directions;
       parts = λ d a d_in part.
@@ -122,12 +122,12 @@ looks_out p shape b boxed =
       inside = e.right_in;
       turns = e.turns_right;
       on_outer = λ s closed here d d_in outer.
-          e.drawn.faces.turns.labels.least s closed e.right d e.right_in (omega (arith, d_in, e.drawn.kept.few))
-          (e.outer ∙ sym outer ∙ sym (e.drawn.faces.faces d d_in)) here;
-      corners = corners_of e.drawing.vertices;
+          e.of_shape.faces.turns.labels.least s closed e.right d e.right_in (omega (arith, d_in, e.of_shape.kept.few))
+          (e.outer ∙ sym outer ∙ sym (e.of_shape.faces.faces d d_in)) here;
+      corners = corners_of e.enclosed_map.vertices;
       place = (dart_map b).head (n + 8);
-      rectangle = λ x y ordered. are_corners e.drawing (dart_map b) x y sound narrow ordered e.rectangle;
+      rectangle = λ x y ordered. are_corners e.enclosed_map (dart_map b) x y sound narrow ordered e.rectangle;
       before = λ x y ordered.
-          subst (λ (u : ℕ). LiesBefore x y (corners_of e.drawing.vertices) ((dart_map b).head (n + 8)) u) (e.heads e.right e.right_in)
-          (looks e.drawing (dart_map b) x y sound narrow ordered e.rectangle e.right e.join e.join.side refl e.join.side_in);
+          subst (λ (u : ℕ). LiesBefore x y (corners_of e.enclosed_map.vertices) ((dart_map b).head (n + 8)) u) (e.heads e.right e.right_in)
+          (looks e.enclosed_map (dart_map b) x y sound narrow ordered e.rectangle e.right e.join e.join.side refl e.join.side_in);
     }

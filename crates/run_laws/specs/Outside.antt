@@ -1,11 +1,11 @@
--- The rectangle round a drawing, and how the outer face of the plane looks out at it, in numbers that are in the order of the
+-- The rectangle round a map, and how the outer face of the plane looks out at it, in numbers that are in the order of the
 -- boxes' darts.
 use Rattle.std.specs.Prelude.{◌≡◌, ℕ, ◌<◌, ◌⊎◌, Bool, true}
 use Rattle.faces.specs.Planes.{PlaneModel, darts, face_at}
 use Rattle.ortho_rep.specs.Shapes.{ShapeModel}
 use Rattle.dissect.specs.DartMaps.{DartMap}
 use Rattle.dissect.specs.Boxes.{BoxesModel, dart_map}
-use Rattle.dissect.specs.Boxed.{IsDrawing}
+use Rattle.dissect.specs.Boxed.{IsMapOfShape}
 use Rattle.dissect.specs.Ordered.{IsOrdered}
 use Rattle.drawing_laws.specs.Parts.{IsPart}
 
@@ -43,21 +43,21 @@ IsOnOuterFace p w a =
     (s : ℕ → Bool) → ((c : ℕ) → c < w.darts → s c ≡ true → s (w.next c) ≡ true) → s a ≡ true
     → (d : ℕ) → d < darts p → face_at p d ≡ p.outer → s d ≡ true
 
--- the drawing of the shape stands in the boxes, some corners are those of a rectangle, and a right turn of its outer face looks at a side of that
+-- the map of the shape stands in the boxes, some corners are those of a rectangle, and a right turn of its outer face looks at a side of that
 pub record LooksOut (p : PlaneModel) (shape : ShapeModel) (b : BoxesModel) : Type 0 where
-  pub drawing : DartMap
-  pub drawn : IsDrawing p shape drawing
+  pub enclosed_map : DartMap
+  pub of_shape : IsMapOfShape p shape enclosed_map
   -- each of its darts arrives in the boxes where and as it did, and each part of an edge is a part of it there
-  pub heads : (a : ℕ) → a < drawing.darts → (dart_map b).head a ≡ drawing.head a
-  pub directions : (a : ℕ) → a < drawing.darts → (dart_map b).direction a ≡ drawing.direction a
-  pub parts : (d a : ℕ) → d < darts p → IsPart drawing d a → IsPart (dart_map b) d a
+  pub heads : (a : ℕ) → a < enclosed_map.darts → (dart_map b).head a ≡ enclosed_map.head a
+  pub directions : (a : ℕ) → a < enclosed_map.darts → (dart_map b).direction a ≡ enclosed_map.direction a
+  pub parts : (d a : ℕ) → d < darts p → IsPart enclosed_map d a → IsPart (dart_map b) d a
   -- round its outer face the walk turns to the right, or back, at the head of the dart `right`
   pub right : ℕ
-  pub inside : right < drawing.darts
-  pub turns : 2 < drawing.angle right
-  pub on_outer : IsOnOuterFace p drawing right
+  pub inside : right < enclosed_map.darts
+  pub turns : 2 < enclosed_map.angle right
+  pub on_outer : IsOnOuterFace p enclosed_map right
   -- in whatever numbers, the corners are those of a rectangle, and a place on a side of it lies straight in front of that turn
   pub corners : Corners
   pub place : ℕ
   pub rectangle : (x y : ℕ → ℕ) → IsOrdered (dart_map b) x y → AreCorners x y corners
-  pub before : (x y : ℕ → ℕ) → IsOrdered (dart_map b) x y → LiesBefore x y corners place (drawing.head right)
+  pub before : (x y : ℕ → ℕ) → IsOrdered (dart_map b) x y → LiesBefore x y corners place (enclosed_map.head right)
