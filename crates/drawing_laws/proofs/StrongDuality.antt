@@ -18,7 +18,7 @@ use Rattle.ortho_rep.specs.Shapes.{ShapeModel, angle_at, turns_at}
 use Rattle.ortho_rep.specs.Representation.{Rep, Least, IsShape, IsLeast, bends_of}
 use Rattle.ortho_rep.specs.Prices.{PricesModel, Prove, IsProof, vertex_price, face_price}
 use Rattle.ortho_rep.proofs.SameAtDarts.{prove-alike}
-use Rattle.ortho_rep.proofs.FromFlow.{lefts-of-run, rights-of-run, mirrored-run}
+use Rattle.ortho_rep.proofs.FromFlow.{lefts-lefts_then_rights, rights-lefts_then_rights, mirrored-lefts_then_rights}
 use Rattle.ortho_rep.proofs.WeakDuality.{part_at, gains, losses, turning-split, lefts_of, rights_are, lengths-twice, least_by_prices}
 use Rattle.drawing_laws.proofs.Moving.{corner_at, across_at, one_at, gain_at, loss_at, put, put-here, put-other, gain-lefts, loss-lefts, total-lefts, Moved}
 use Rattle.drawing_laws.proofs.Reaching.{IsClosed, reach}
@@ -38,15 +38,15 @@ other_rep p a s b l ends rep sizes around faces = record {
   angles = sizes;
   strings = λ d in_d.
       ap (lefts_then_rights (l (reverse_dart p d))) (ap l (ends.reverse_dart_back d in_d))
-      ∙ sym (mirrored-run (l d) (l (reverse_dart p d)));
+      ∙ sym (mirrored-lefts_then_rights (l d) (l (reverse_dart p d)));
   around = λ v from to. around v from to ∙ rep.around v from to;
   faces = λ f in_f.
       let gain : gains p b (strings p l) f ≡ gain_at p l f =
       sum_below-same (darts p) (λ d. cond (eqb (face_at p d) f) (2 + lefts (strings p l d)) 0) (λ d. cond (eqb (face_at p d) f) (2 + l d) 0)
-      (λ d in_d. ap (λ (x : ℕ). cond (eqb (face_at p d) f) (2 + x) 0) (lefts-of-run (l d) (l (reverse_dart p d)))) in
+      (λ d in_d. ap (λ (x : ℕ). cond (eqb (face_at p d) f) (2 + x) 0) (lefts-lefts_then_rights (l d) (l (reverse_dart p d)))) in
       let loss : losses p b (strings p l) f ≡ loss_at p b l f =
       sum_below-same (darts p) (λ d. cond (eqb (face_at p d) f) (b d + rights (strings p l d)) 0) (λ d. cond (eqb (face_at p d) f) (b d + l (reverse_dart p d)) 0)
-      (λ d in_d. ap (λ (x : ℕ). cond (eqb (face_at p d) f) (b d + x) 0) (rights-of-run (l d) (l (reverse_dart p d)))) in
+      (λ d in_d. ap (λ (x : ℕ). cond (eqb (face_at p d) f) (b d + x) 0) (rights-lefts_then_rights (l d) (l (reverse_dart p d)))) in
       let old : losses p a s f ≡ loss_at p a (lefts_of s) f =
       sum_below-same (darts p) (λ d. cond (eqb (face_at p d) f) (a d + rights (s d)) 0) (λ d. cond (eqb (face_at p d) f) (a d + lefts_of s (reverse_dart p d)) 0)
       (λ d in_d. ap (λ (x : ℕ). cond (eqb (face_at p d) f) (a d + x) 0) (rights_are p a s rep d in_d)) in
@@ -67,7 +67,7 @@ Better p s = (b : ℕ → ℕ) × (t : ℕ → List Turn) × (Rep p b t) × (ben
 better : (p : PlaneModel) (a : ℕ → ℕ) (s : ℕ → List Turn) (b l : ℕ → ℕ) → HasEnds p → Rep p a s → Rep p b (strings p l) → sum_below (darts p) l < sum_below (darts p) (lefts_of s) → Better p s
 better p a s b l ends rep other less =
     let lefts_are : sum_below (darts p) (lefts_of (strings p l)) ≡ sum_below (darts p) l =
-    sum_below-same (darts p) (lefts_of (strings p l)) l (λ d in_d. lefts-of-run (l d) (l (reverse_dart p d))) in
+    sum_below-same (darts p) (lefts_of (strings p l)) l (λ d in_d. lefts-lefts_then_rights (l d) (l (reverse_dart p d))) in
     (b, strings p l, other, omega (arith, less, lengths-twice p a s ends rep, lengths-twice p b (strings p l) ends other, lefts_are))
 
 -- a unit that has come to the face of dart k from the face across, where that is no dearer, saves a bend

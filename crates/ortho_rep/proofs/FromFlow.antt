@@ -23,15 +23,15 @@ use Rattle.ortho_rep.proofs.TurnCounts.{lefts-cons, rights-cons}
 use Rattle.ortho_rep.proofs.WeakDuality.{part_at, gains, losses, turning-split, least_by_prices}
 use Rattle.ortho_rep.proofs.SameAtDarts.{rep-alike, prove-alike}
 
-pub lefts-of-run : (l r : ℕ) → lefts (lefts_then_rights l r) ≡ l
-lefts-of-run zero zero = refl
-lefts-of-run zero (suc r) = omega (arith, lefts-cons Right (lefts_then_rights zero r), lefts-of-run zero r)
-lefts-of-run (suc l) r = omega (arith, lefts-cons Left (lefts_then_rights l r), lefts-of-run l r)
+pub lefts-lefts_then_rights : (l r : ℕ) → lefts (lefts_then_rights l r) ≡ l
+lefts-lefts_then_rights zero zero = refl
+lefts-lefts_then_rights zero (suc r) = omega (arith, lefts-cons Right (lefts_then_rights zero r), lefts-lefts_then_rights zero r)
+lefts-lefts_then_rights (suc l) r = omega (arith, lefts-cons Left (lefts_then_rights l r), lefts-lefts_then_rights l r)
 
-pub rights-of-run : (l r : ℕ) → rights (lefts_then_rights l r) ≡ r
-rights-of-run zero zero = refl
-rights-of-run zero (suc r) = omega (arith, rights-cons Right (lefts_then_rights zero r), rights-of-run zero r)
-rights-of-run (suc l) r = omega (arith, rights-cons Left (lefts_then_rights l r), rights-of-run l r)
+pub rights-lefts_then_rights : (l r : ℕ) → rights (lefts_then_rights l r) ≡ r
+rights-lefts_then_rights zero zero = refl
+rights-lefts_then_rights zero (suc r) = omega (arith, rights-cons Right (lefts_then_rights zero r), rights-lefts_then_rights zero r)
+rights-lefts_then_rights (suc l) r = omega (arith, rights-cons Left (lefts_then_rights l r), rights-lefts_then_rights l r)
 
 same-exchanged : (n : ℕ) (x : Turn) → map opposite (reverse (replicate n x)) ≡ replicate n (opposite x)
 same-exchanged zero x = refl
@@ -41,15 +41,15 @@ same-exchanged (suc n) x =
     ∙ (ap (λ (t : List Turn). t ++ opposite x ∷ []) (same-exchanged n x)
     ∙ (replicate-append-replicate n 1 (opposite x) ∙ ap (λ (k : ℕ). replicate k (opposite x)) (add-one n))))
 
-pub mirrored-run : (l r : ℕ) → mirrored (lefts_then_rights l r) ≡ lefts_then_rights r l
-mirrored-run l r =
+pub mirrored-lefts_then_rights : (l r : ℕ) → mirrored (lefts_then_rights l r) ≡ lefts_then_rights r l
+mirrored-lefts_then_rights l r =
     ap (map opposite) (reverse-append (replicate l Left) (replicate r Right))
     ∙ (map-append opposite (reverse (replicate r Right)) (reverse (replicate l Left))
     ∙ (ap (λ (t : List Turn). t ++ map opposite (reverse (replicate l Left))) (same-exchanged r Right)
     ∙ ap (λ (t : List Turn). replicate r Left ++ t) (same-exchanged l Left)))
 
-pub length-run : (l r : ℕ) → length (lefts_then_rights l r) ≡ l + r
-length-run l r = omega (arith, length-append (replicate l Left) (replicate r Right), length-replicate l Left, length-replicate r Right)
+pub length-lefts_then_rights : (l r : ℕ) → length (lefts_then_rights l r) ≡ l + r
+length-lefts_then_rights l r = omega (arith, length-append (replicate l Left) (replicate r Right), length-replicate l Left, length-replicate r Right)
 
 -- the part at a place, where places are named in another way
 part-alike : (m : ℕ) (at to y : ℕ → ℕ) (j k : ℕ) → ((d : ℕ) → d < m → eqb (at d) j ≡ eqb (to d) k) → part_at m at y j ≡ part_at m to y k
@@ -138,14 +138,14 @@ around_face p net x f ends is flow below =
     let gain : gains p (angles_of x) (strings_of p x) f ≡ part_at n face (λ d. 1) f + part_at n face (λ d. 1) f + part_at n face left f =
     omega (
       arith,
-      part-same n face (λ d. 2 + lefts (strings_of p x d)) (λ d. 1 + 1 + left d) f (λ d. omega (arith, lefts-of-run (left d) (right d))),
+      part-same n face (λ d. 2 + lefts (strings_of p x d)) (λ d. 1 + 1 + left d) f (λ d. omega (arith, lefts-lefts_then_rights (left d) (right d))),
       part-add n face (λ d. 1) (λ d. 1) f,
       part-add n face (λ d. 1 + 1) left f,
     ) in
     let loss : losses p (angles_of x) (strings_of p x) f ≡ part_at n face x f + part_at n face (λ d. 1) f + part_at n face right f =
     omega (
       arith,
-      part-same n face (λ d. angles_of x d + rights (strings_of p x d)) (λ d. x d + 1 + right d) f (λ d. omega (arith, rights-of-run (left d) (right d))),
+      part-same n face (λ d. angles_of x d + rights (strings_of p x d)) (λ d. x d + 1 + right d) f (λ d. omega (arith, rights-lefts_then_rights (left d) (right d))),
       part-add n face x (λ d. 1) f,
       part-add n face (λ d. x d + 1) right f,
     ) in
@@ -169,7 +169,7 @@ around_face p net x f ends is flow below =
 pub rep_of_flow : (p : PlaneModel) (net : NetworkModel) (x : ℕ → ℕ) → HasEnds p → IsFaceNet p net → Flow net x → Rep p (angles_of x) (strings_of p x)
 rep_of_flow p net x ends is flow = record {
   angles = λ d b. (omega arith, angle_within d b);
-  strings = λ d b. ap (λ (e : ℕ). lefts_then_rights (x (darts p + reverse_dart p d)) (x (darts p + e))) (ends.reverse_dart_back d b) ∙ sym (mirrored-run (x (darts p + d)) (x (darts p + reverse_dart p d)));
+  strings = λ d b. ap (λ (e : ℕ). lefts_then_rights (x (darts p + reverse_dart p d)) (x (darts p + e))) (ends.reverse_dart_back d b) ∙ sym (mirrored-lefts_then_rights (x (darts p + d)) (x (darts p + reverse_dart p d)));
   around = λ v from to. around_vertex p net x v ends is flow from to;
   faces = λ f b. around_face p net x f ends is flow b;
 }
@@ -195,7 +195,7 @@ prove_of_potentials p net x q ends is fit = λ d b.
       wider = λ h. omega (arith, ints, corner.0 (omega arith));
       narrower = λ h. omega (arith, ints, corner.1 (omega arith));
       crossed = omega (arith, ints, crossing.0 tt);
-      tight = λ h. omega (arith, ints, crossing.0 tt, crossing.1 (omega (arith, lefts-of-run (x (darts p + d)) (x (darts p + reverse_dart p d)))));
+      tight = λ h. omega (arith, ints, crossing.0 tt, crossing.1 (omega (arith, lefts-lefts_then_rights (x (darts p + d)) (x (darts p + reverse_dart p d)))));
     }
 
 -- a corner carries at most three units
@@ -212,8 +212,8 @@ one_sided_of_flow p net x q ends is fit d b left =
           let r = reverse_dart p d in
           let prices = prove_of_potentials p net x q ends is fit in
           let back : reverse_dart p r ≡ d = ends.reverse_dart_back d b in
-          let here = (prices d b).tight (omega (arith, lefts-of-run (x (darts p + d)) (x (darts p + r)))) in
-          let there = (prices r (ends.reverse_dart_inside d b)).tight (omega (arith, lefts-of-run (x (darts p + r)) (x (darts p + reverse_dart p r)))) in
+          let here = (prices d b).tight (omega (arith, lefts-lefts_then_rights (x (darts p + d)) (x (darts p + r)))) in
+          let there = (prices r (ends.reverse_dart_inside d b)).tight (omega (arith, lefts-lefts_then_rights (x (darts p + r)) (x (darts p + reverse_dart p r)))) in
           omega (arith, ints, here, there, ap (λ e. q (vertices p + face_at p e)) back)
           )
     ]
@@ -224,7 +224,7 @@ short_of_flow p net x q ends order is flow fit d b =
     omega (
       arith,
       few_turns p (angles_of x) (strings_of p x) (λ v. q (v - 1)) (λ f. q (vertices p + f)) ends order (rep_of_flow p net x ends is flow) (prove_of_potentials p net x q ends is fit) d b,
-      length-run (x (darts p + d)) (x (darts p + reverse_dart p d)),
+      length-lefts_then_rights (x (darts p + d)) (x (darts p + reverse_dart p d)),
     )
 
 -- angles, strings and prices of a least-cost flow

@@ -7,9 +7,9 @@ use Rattle.std.proofs.lemmas.List.Elements.{All-append}
 use borrow.Author.Count.{below_more}
 use Rattle.ortho_rep.specs.declared.turn.Turn.{Turn}
 use Rattle.ortho_rep.specs.declared.turn.Turn.TheVariants.{Left}
-use Rattle.ortho_rep.specs.declared.turn.TheConstants.{MAX_RUN}
-use Rattle.ortho_rep.specs.declared.runs.DartShape.{DartShape}
-use Rattle.ortho_rep.specs.Runs.{turns_in, HaveShapes}
+use Rattle.ortho_rep.specs.declared.turn.TheConstants.{MAX_REPEATS}
+use Rattle.ortho_rep.specs.declared.repeats.DartShape.{DartShape}
+use Rattle.ortho_rep.specs.Repeats.{turns_in, HaveShapes}
 
 -- what stands for a dart past the end of a list
 abbrev pub straight : DartShape
@@ -36,9 +36,9 @@ shapes-more a s n found one is angle turns = record {
 }
 
 -- with few turns each, as a loop finds them
-pub runs-more : (found : List DartShape) (one : DartShape) → All (λ (dart : DartShape). dart.count ≤ MAX_RUN) found → one.count ≤ MAX_RUN → All (λ (dart : DartShape). dart.count ≤ MAX_RUN) (found ++ one ∷ [])
-runs-more found one short this = All-append (λ (dart : DartShape). dart.count ≤ MAX_RUN) found (one ∷ []) short single
+pub repeats-more : (found : List DartShape) (one : DartShape) → All (λ (dart : DartShape). dart.count ≤ MAX_REPEATS) found → one.count ≤ MAX_REPEATS → All (λ (dart : DartShape). dart.count ≤ MAX_REPEATS) (found ++ one ∷ [])
+repeats-more found one short this = All-append (λ (dart : DartShape). dart.count ≤ MAX_REPEATS) found (one ∷ []) short single
   where
-    single : All (λ (dart : DartShape). dart.count ≤ MAX_RUN) (one ∷ [])
+    single : All (λ (dart : DartShape). dart.count ≤ MAX_REPEATS) (one ∷ [])
     single zero d within = this
     single (suc k) d within = absurd (omega arith)

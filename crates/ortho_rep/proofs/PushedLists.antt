@@ -89,11 +89,11 @@ pub joined-pushed : {A : Type 0} (starts starts' : List ℕ) (items items' more 
 joined-pushed starts starts' items items' more n m IsPiece is all each long longer =
     rw (longer, long, all) (joined-more starts items more n IsPiece is (λ piece h. one_behind items more piece (sym all ∙ each piece h)))
 
--- one piece more, which comes in two runs
-pub joined-runs : {A : Type 0} (starts starts' : List ℕ) (items middle items' one two : List A) (n m : ℕ) (piece_at : ℕ → List A) →
+-- one piece more, which comes in two parts
+pub joined-two : {A : Type 0} (starts starts' : List ℕ) (items middle items' one two : List A) (n m : ℕ) (piece_at : ℕ → List A) →
     IsJoined starts items n (λ k piece. piece ≡ piece_at k) → one ++ two ≡ piece_at n → middle ≡ items ++ one → items' ≡ middle ++ two → m ≡ length items' →
     starts' ≡ starts ++ m ∷ [] → IsJoined starts' items' (n + 1) (λ k piece. piece ≡ piece_at k)
-joined-runs {A} starts starts' items middle items' one two n m piece_at is this first second long longer =
+joined-two {A} starts starts' items middle items' one two n m piece_at is this first second long longer =
     let all : items' ≡ items ++ (one ++ two) = second ∙ ap (λ (z : List A). z ++ two) first ∙ append_assoc items one two in
     joined-pushed starts starts' items items' (one ++ two) n m (λ k piece. piece ≡ piece_at k) is all
     (λ piece h. all ∙ ap (λ (z : List A). items ++ z) (this ∙ sym h)) long longer

@@ -19,7 +19,7 @@ use Rattle.ortho_rep.specs.OfFlow.{angles_of, strings_of}
 use Rattle.ortho_rep.specs.Best.{HasRep, NeedsBends, IsBest}
 use Rattle.ortho_rep.specs.Tries.{IsLead, IsAhead, IsNoBetter, AreBounds}
 use Rattle.ortho_rep.proofs.WeakDuality.{lefts_of, lengths-twice, least_by_prices, more_by_prices}
-use Rattle.ortho_rep.proofs.FromFlow.{lefts-of-run, rep_of_flow, prove_of_potentials}
+use Rattle.ortho_rep.proofs.FromFlow.{lefts-lefts_then_rights, rep_of_flow, prove_of_potentials}
 
 -- a face that is no better than one is no better than a better one
 pub no_better_still : (p : PlaneModel) (bends face lower other f : ℕ) → lower ≤ bends → (lower ≡ bends → other ≤ face) → IsNoBetter p bends face f → IsNoBetter p lower other f
@@ -110,7 +110,7 @@ bends_are_cost p net x ends is flow =
     let left : ℕ → ℕ = λ d. x (n + d) in
     let twice = lengths-twice p (angles_of x) (strings_of p x) ends (rep_of_flow p net x ends is flow) in
     let lefts_are : sum_below n (lefts_of (strings_of p x)) ≡ sum_below n left =
-    sum_below-same n (lefts_of (strings_of p x)) left (λ d b. lefts-of-run (x (n + d)) (x (n + reverse_dart p d))) in
+    sum_below-same n (lefts_of (strings_of p x)) left (λ d b. lefts-lefts_then_rights (x (n + d)) (x (n + reverse_dart p d))) in
     let split : cost_of net x ≡ sum_below n (λ d. (arc_at net d).cost * x d) + sum_below n (λ d. (arc_at net (n + d)).cost * x (n + d)) =
     ap (λ (m : ℕ). sum_below m (λ i. (arc_at net i).cost * x i)) is.arcs ∙ sum_below-split n n (λ i. (arc_at net i).cost * x i) in
     let none : sum_below n (λ d. (arc_at net d).cost * x d) ≡ 0 =

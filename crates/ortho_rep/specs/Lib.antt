@@ -1,7 +1,7 @@
 pub mod Turns
 pub mod Storage
 pub mod Shapes
-pub mod Runs
+pub mod Repeats
 pub mod ShapeStores
 pub mod Representation
 pub mod OfFlow

@@ -4,5 +4,5 @@ use Rattle.ortho_rep.specs.declared.shape.ShapeStore.TheVariants.{OneSided, List
 use Rattle.ortho_rep.specs.Shapes.{ShapeModel}
 
 abbrev pub shape_of : ShapeStore → ShapeModel
-shape_of (OneSided runs) = runs
+shape_of (OneSided repeats) = repeats
 shape_of (Lists angles strings) = record { angles = angles.items; strings = strings }

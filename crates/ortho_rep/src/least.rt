@@ -5,14 +5,14 @@ ghost use Rattle.std.specs.List.{range_with_len};
 ghost use Rattle.faces.specs.Planes.{darts, vertices};
 ghost use Rattle.networks.specs.Flow.{Flow, Solves, amounts, at_nodes};
 ghost use Rattle.flow_network.specs.FaceNet.{IsNetOf};
-ghost use Rattle.ortho_rep.specs.declared.turn.TheConstants.{MAX_RUN};
+ghost use Rattle.ortho_rep.specs.declared.turn.TheConstants.{MAX_REPEATS};
 ghost use Rattle.ortho_rep.specs.OfFlow.{angles_of, strings_of};
-ghost use Rattle.ortho_rep.specs.Runs.{turns_in, AreRuns, HaveShapes};
+ghost use Rattle.ortho_rep.specs.Repeats.{turns_in, AreRepeats, HaveShapes};
 ghost use Rattle.ortho_rep.specs.Representation.{IsShape, IsLeast};
 ghost use Rattle.ortho_rep.specs.Prices.{IsProof};
 
 use crate::prices::Prices;
-use crate::runs::DartShape;
+use crate::repeats::DartShape;
 use crate::scratch::{Scratch, ShapeLists};
 use crate::shape::Shape;
 use crate::turn::Turn;
@@ -121,7 +121,7 @@ fn darts_in(
 ) -> Result<Vec<DartShape>, AllocError>
     requires net { IsNetOf plane.now net.now }
     requires solves { Solves net.now.network solved.now }
-    ensures runs { IfOk result (λ found. AreRuns found.items) }
+    ensures repeats { IfOk result (λ found. AreRepeats found.items) }
     ensures flow { IfOk result (λ found. HaveShapes (angles_of (amounts solved.now.flow))
         (strings_of plane.now (amounts solved.now.flow)) (darts plane.now) found.items) }
 {
@@ -141,7 +141,7 @@ fn dart_shape(plane: &Plane, net: &FaceNet, solved: &Solved, dart: u16) -> DartS
     requires within { dart < darts plane.now }
     ensures angle { result.angle ≡ angles_of (amounts solved.now.flow) dart }
     ensures turns { turns_in result ≡ strings_of plane.now (amounts solved.now.flow) dart }
-    ensures short { result.count ≤ MAX_RUN }
+    ensures short { result.count ≤ MAX_REPEATS }
 {
     // Only the proof needs this: `outer` says that there is a face.
     let _outer = plane.outer();

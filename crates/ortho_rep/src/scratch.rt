@@ -1,6 +1,6 @@
 //! Memory that one call after another is lent.
 
-use crate::runs::DartShape;
+use crate::repeats::DartShape;
 use std::alloc::Global;
 
 /// What finding a least shape takes memory for, to be used again. What it holds between two calls is of no use.

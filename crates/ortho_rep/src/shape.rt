@@ -4,13 +4,13 @@ ghost use Rattle.std.specs.Prelude.{◌≡◌, ◌*◌, ◌<◌, ◌≤◌, ◌�
 ghost use Rattle.common.specs.Sums.{sum_below};
 ghost use Rattle.embedding.specs.declared.graphs.TheConstants.{MAX_DARTS};
 ghost use Rattle.ortho_rep.specs.declared.strings.TheConstants.{MAX_TURNS};
-ghost use Rattle.ortho_rep.specs.declared.turn.TheConstants.{MAX_RUN};
+ghost use Rattle.ortho_rep.specs.declared.turn.TheConstants.{MAX_REPEATS};
 ghost use Rattle.ortho_rep.specs.Storage.{lists_in};
 ghost use Rattle.ortho_rep.specs.Shapes.{angle_at, turns_at};
-ghost use Rattle.ortho_rep.specs.Runs.{shape_in};
+ghost use Rattle.ortho_rep.specs.Repeats.{shape_in};
 ghost use Rattle.ortho_rep.specs.Representation.{bends_of};
 
-use crate::runs::{DartShape, Runs};
+use crate::repeats::{DartShape, Repeats};
 use crate::scratch::Scratch;
 use crate::strings::{MAX_TURNS, Strings};
 use crate::turn::Turn;
@@ -30,7 +30,7 @@ pub struct Shape {
 #[derive(Debug, Drop)]
 enum ShapeStore {
     // no dart turns to both sides
-    OneSided(Runs),
+    OneSided(Repeats),
     Lists { angles: Vec<u8>, strings: Strings },
 }
 
@@ -71,11 +71,11 @@ impl Shape {
     /// The shape of darts that turn to one side only, each at the place of its number. It takes no memory.
     pub fn of_darts(darts: Vec<DartShape>) -> Shape
         requires few { vec_len darts ≤ MAX_DARTS }
-        requires short { All (λ dart. dart.count ≤ MAX_RUN) darts.items }
+        requires short { All (λ dart. dart.count ≤ MAX_REPEATS) darts.items }
         ensures { result ≡ shape_in darts.items }
     {
         Shape {
-            store: ShapeStore::OneSided(Runs::new(darts)),
+            store: ShapeStore::OneSided(Repeats::new(darts)),
         }
     }
 
@@ -83,7 +83,7 @@ impl Shape {
     /// [`least_shape_in`](crate::least_shape_in) makes it, it drops. It takes no memory.
     pub fn give_back(self, scratch: &mut Scratch) {
         match self.store {
-            ShapeStore::OneSided(runs) => scratch.lists.darts = runs.into_darts(),
+            ShapeStore::OneSided(repeats) => scratch.lists.darts = repeats.into_darts(),
             ShapeStore::Lists {
                 angles: _,
                 strings: _,
@@ -96,7 +96,7 @@ impl Shape {
         ensures { result ≡ length self.now.angles }
     {
         match &self.store {
-            ShapeStore::OneSided(runs) => runs.len(),
+            ShapeStore::OneSided(repeats) => repeats.len(),
             ShapeStore::Lists { angles, .. } => angles.len(),
         }
     }
@@ -107,7 +107,7 @@ impl Shape {
         ensures few { result ≤ MAX_DARTS }
     {
         match &self.store {
-            ShapeStore::OneSided(runs) => runs.len(),
+            ShapeStore::OneSided(repeats) => repeats.len(),
             ShapeStore::Lists { strings, .. } => strings.len(),
         }
     }
@@ -118,7 +118,7 @@ impl Shape {
         ensures { result ≡ angle_at self.now dart }
     {
         match &self.store {
-            ShapeStore::OneSided(runs) => runs.angle(dart),
+            ShapeStore::OneSided(repeats) => repeats.angle(dart),
             ShapeStore::Lists { angles, .. } => angles[usize::from(dart)],
         }
     }
@@ -131,7 +131,7 @@ impl Shape {
         ensures short { length result.now ≤ MAX_TURNS }
     {
         match &self.store {
-            ShapeStore::OneSided(runs) => runs.turns(dart),
+            ShapeStore::OneSided(repeats) => repeats.turns(dart),
             ShapeStore::Lists { strings, .. } => strings.get(usize::from(dart)),
         }
     }
@@ -142,7 +142,7 @@ impl Shape {
         ensures few { result ≤ length self.now.strings * MAX_TURNS }
     {
         match &self.store {
-            ShapeStore::OneSided(runs) => runs.turn_count(),
+            ShapeStore::OneSided(repeats) => repeats.turn_count(),
             ShapeStore::Lists { strings, .. } => strings.turn_count(),
         }
     }

@@ -1,7 +1,7 @@
 //! Quarter turns, and strings of them.
 
 ghost use Rattle.std.specs.Prelude.{◌≡◌, ◌≤◌, ◌↔◌, IsTrue, length, replicate};
-ghost use Rattle.ortho_rep.specs.declared.turn.TheConstants.{MAX_RUN};
+ghost use Rattle.ortho_rep.specs.declared.turn.TheConstants.{MAX_REPEATS};
 ghost use Rattle.ortho_rep.specs.Turns.{lefts, mirrored};
 
 /// A quarter turn of an edge, met in walking along a dart.
@@ -15,15 +15,15 @@ pub enum Turn {
 const _: () = prove!(size_of::<Turn>() == 1);
 
 /// How many turns of one kind stand ready. No string of a least shape has more.
-pub const MAX_RUN: usize = 6_144;
+pub const MAX_REPEATS: usize = 6_144;
 
-static LEFTS: [Turn; MAX_RUN] = [Turn::Left; MAX_RUN];
+static LEFTS: [Turn; MAX_REPEATS] = [Turn::Left; MAX_REPEATS];
 
-static RIGHTS: [Turn; MAX_RUN] = [Turn::Right; MAX_RUN];
+static RIGHTS: [Turn; MAX_REPEATS] = [Turn::Right; MAX_REPEATS];
 
 /// So many turns of one kind.
-pub(crate) fn run(turn: Turn, count: u16) -> &'static [Turn]
-    requires { count ≤ MAX_RUN }
+pub(crate) fn repeat(turn: Turn, count: u16) -> &'static [Turn]
+    requires { count ≤ MAX_REPEATS }
     ensures { result.now ≡ replicate count turn }
 {
     match turn {

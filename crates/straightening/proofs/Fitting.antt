@@ -9,7 +9,7 @@ use Rattle.ortho_rep.specs.declared.turn.Turn.{Turn}
 use Rattle.ortho_rep.specs.Turns.{lefts}
 use Rattle.ortho_rep.specs.Shapes.{ShapeModel, angle_at, turns_at}
 use Rattle.ortho_rep.specs.Prices.{PricesModel, IsPriced, Prove, vertex_price, face_price}
-use Rattle.ortho_rep.proofs.FromFlow.{lefts-of-run}
+use Rattle.ortho_rep.proofs.FromFlow.{lefts-lefts_then_rights}
 use Rattle.straightening.specs.Flows.{AreFit, string_in}
 
 -- of one dart
@@ -35,7 +35,7 @@ moved p a a' l l' t angles turns fit = λ d b.
     priced (slice_index a d) (slice_index a' d) (string_in p l d) (string_in p l' d) (vertex_price t (head p d)) (face_price t (face_at p d)) (face_price t (face_at p (reverse_dart p d)))
     (angles d b)
     (elim (turns d b) [
-      | inl e ↦ inl (omega (arith, e, lefts-of-run (slice_index l d) (slice_index l (reverse_dart p d)), lefts-of-run (slice_index l' d) (slice_index l' (reverse_dart p d))))
+      | inl e ↦ inl (omega (arith, e, lefts-lefts_then_rights (slice_index l d) (slice_index l (reverse_dart p d)), lefts-lefts_then_rights (slice_index l' d) (slice_index l' (reverse_dart p d))))
       | inr e ↦ inr e
     ])
     (fit d b)
@@ -62,5 +62,5 @@ pub loaded : (p : PlaneModel) (shape : ShapeModel) (a l : List ℕ) (t : PricesM
 loaded p shape a l t angles turns fit = λ d b.
     priced (angle_at shape d) (slice_index a d) (turns_at shape d) (string_in p l d) (vertex_price t (head p d)) (face_price t (face_at p d)) (face_price t (face_at p (reverse_dart p d)))
     (inl (angles d b))
-    (inl (omega (arith, turns d b, lefts-of-run (slice_index l d) (slice_index l (reverse_dart p d)))))
+    (inl (omega (arith, turns d b, lefts-lefts_then_rights (slice_index l d) (slice_index l (reverse_dart p d)))))
     (fit d b)

@@ -7,7 +7,7 @@ use Rattle.faces.specs.Planes.{PlaneModel, HasEnds, darts, vertices, reverse_dar
 use Rattle.ortho_rep.specs.Representation.{Rep}
 use Rattle.ortho_rep.specs.Prices.{PricesModel, vertex_price, face_price}
 use Rattle.ortho_rep.proofs.FewTurns.{few_turns}
-use Rattle.ortho_rep.proofs.FromFlow.{lefts-of-run, length-run}
+use Rattle.ortho_rep.proofs.FromFlow.{lefts-lefts_then_rights, length-lefts_then_rights}
 use Rattle.straightening.specs.Flows.{angle_in, string_in, AreFit}
 
 pub one_way : (p : PlaneModel) (angles lefts : List ℕ) (t : PricesModel) → HasEnds p → AreFit p angles lefts t → (d : ℕ) → d < darts p → 0 < slice_index lefts d → slice_index lefts (reverse_dart p d) ≡ 0
@@ -17,8 +17,8 @@ one_way p angles lefts t ends fit d b left =
       | inr some ↦ absurd (
           let r = reverse_dart p d in
           let back = ends.reverse_dart_back d b in
-          let here = (fit d b).tight (omega (arith, lefts-of-run (slice_index lefts d) (slice_index lefts r))) in
-          let there = (fit r (ends.reverse_dart_inside d b)).tight (omega (arith, lefts-of-run (slice_index lefts r) (slice_index lefts (reverse_dart p r)))) in
+          let here = (fit d b).tight (omega (arith, lefts-lefts_then_rights (slice_index lefts d) (slice_index lefts r))) in
+          let there = (fit r (ends.reverse_dart_inside d b)).tight (omega (arith, lefts-lefts_then_rights (slice_index lefts r) (slice_index lefts (reverse_dart p r)))) in
           omega (arith, ints, here, there, ap (λ e. face_price t (face_at p e)) back)
           )
     ]
@@ -28,5 +28,5 @@ few p angles lefts t ends order rep fit d b =
     omega (
       arith,
       few_turns p (angle_in angles) (string_in p lefts) (vertex_price t) (face_price t) ends order rep fit d b,
-      length-run (slice_index lefts d) (slice_index lefts (reverse_dart p d)),
+      length-lefts_then_rights (slice_index lefts d) (slice_index lefts (reverse_dart p d)),
     )

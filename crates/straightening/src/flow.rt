@@ -2,8 +2,8 @@
 
 ghost use Rattle.std.specs.Prelude.{◌≡◌, ◌<◌, ◌≤◌, ℕ, pos, ◌+ℤ◌, ◌-ℤ◌, vec_len, slice_index, IfOk, IsTrue};
 ghost use Rattle.faces.specs.Planes.{darts, head, reverse_dart, face_at};
-ghost use Rattle.ortho_rep.specs.declared.turn.TheConstants.{MAX_RUN};
-ghost use Rattle.ortho_rep.specs.Runs.{turns_in};
+ghost use Rattle.ortho_rep.specs.declared.turn.TheConstants.{MAX_REPEATS};
+ghost use Rattle.ortho_rep.specs.Repeats.{turns_in};
 ghost use Rattle.ortho_rep.specs.Turns.{lefts};
 ghost use Rattle.ortho_rep.specs.Shapes.{angle_at, turns_at};
 ghost use Rattle.ortho_rep.specs.Representation.{Rep, HasDarts, IsShape, IsLeast};
@@ -112,7 +112,7 @@ impl Flow {
         requires fit { (t : PricesModel) × AreFit plane.now self.now.angles self.now.lefts t }
         ensures angle { result.angle ≡ angle_in self.now.angles dart }
         ensures turns { turns_in result ≡ string_in plane.now self.now.lefts dart }
-        ensures short { result.count ≤ MAX_RUN }
+        ensures short { result.count ≤ MAX_REPEATS }
     {
         let reverse = plane.graph().reverse(dart);
         let angle = self.angle(dart);

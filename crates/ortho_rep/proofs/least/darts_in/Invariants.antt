@@ -1,13 +1,13 @@
 use Rattle.std.proofs.Common.{◌≤◌}
 use Rattle.std.specs.Prelude.{All}
 use Rattle.networks.specs.Flow.{amounts}
-use Rattle.ortho_rep.specs.declared.turn.TheConstants.{MAX_RUN}
-use Rattle.ortho_rep.specs.declared.runs.DartShape.{DartShape}
+use Rattle.ortho_rep.specs.declared.turn.TheConstants.{MAX_REPEATS}
+use Rattle.ortho_rep.specs.declared.repeats.DartShape.{DartShape}
 use Rattle.ortho_rep.specs.OfFlow.{angles_of, strings_of}
-use Rattle.ortho_rep.specs.Runs.{HaveShapes}
+use Rattle.ortho_rep.specs.Repeats.{HaveShapes}
 use Rattle.ortho_rep.proofs.least.darts_in.Given as goal
 
 abbrev pub invariant-loop-dart : goal.invariant-loop-dart
 invariant-loop-dart l =
     HaveShapes (angles_of (amounts l.solved.flow)) (strings_of l.plane (amounts l.solved.flow)) l.dart l.found.items
-    × All (λ (dart : DartShape). dart.count ≤ MAX_RUN) l.found.items
+    × All (λ (dart : DartShape). dart.count ≤ MAX_REPEATS) l.found.items

@@ -2,7 +2,7 @@ use Rattle.std.proofs.Common.{◌≡◌, ◌+◌, ◌∙◌, length, ap, arith}
 use Rattle.std.proofs.lemmas.List.{length-map}
 use Rattle.faces.specs.Planes.{vertices}
 use Rattle.networks.specs.Flow.{Solves, amounts, at_nodes}
-use Rattle.ortho_rep.specs.Runs.{turns_in}
+use Rattle.ortho_rep.specs.Repeats.{turns_in}
 use Rattle.ortho_rep.proofs.FromFlow.{IsOfFlow, shape_of_flow, least_of_flow, proof_of_flow}
 use Rattle.ortho_rep.proofs.FlatPrices.{length-first, vertex_count, face_count, vertex_value, face_value}
 use Rattle.ortho_rep.proofs.least.shape_in.Goals as goal

@@ -5,7 +5,7 @@ use Rattle.faces.specs.Planes.{darts, face_at, reverse_dart}
 use Rattle.ortho_rep.specs.Turns.{lefts, rights}
 use Rattle.ortho_rep.proofs.Tallied.{tallied, tallied-bound}
 use Rattle.ortho_rep.proofs.WeakDuality.{part_at, gains, losses, turning-split}
-use Rattle.ortho_rep.proofs.FromFlow.{lefts-of-run, rights-of-run}
+use Rattle.ortho_rep.proofs.FromFlow.{lefts-lefts_then_rights, rights-lefts_then_rights}
 use Rattle.straightening.specs.Flows.{angle_in, string_in}
 use Rattle.straightening.proofs.tally.add_turns.Goals as goal
 
@@ -18,8 +18,8 @@ loop-dart-preserved c =
     let loss_within : c.from-face.result < length c.loop-dart.losses = omega arith in
     let here : c.from-face.result ≡ face_at plane dart = (cc) in
     let back : c.reverse.result ≡ reverse_dart plane dart = c.reverse.ensures.value ∙ ap (λ (g : List (List ℕ)). reverse_of g dart) c.graph-in-loop-dart.ensures.value in
-    let own = lefts-of-run (slice_index turns dart) (slice_index turns (reverse_dart plane dart)) in
-    let other = rights-of-run (slice_index turns dart) (slice_index turns (reverse_dart plane dart)) in
+    let own = lefts-lefts_then_rights (slice_index turns dart) (slice_index turns (reverse_dart plane dart)) in
+    let other = rights-lefts_then_rights (slice_index turns dart) (slice_index turns (reverse_dart plane dart)) in
     let gain : 2 + c.from.result ≡ 2 + lefts (string_in plane turns dart) = omega (arith, own) in
     let loss : c.from-in-loop-dart.result + c.from-in-loop-dart-2.result ≡ angle_in c.args.flow.now.angles dart + rights (string_in plane turns dart) = omega (arith, other, ap (λ (z : ℕ). slice_index turns z) back) in (
       tallied _ dart _ _ _ _ c.loop-dart.invariant.0 gain_within here gain,

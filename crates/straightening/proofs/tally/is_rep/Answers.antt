@@ -2,7 +2,7 @@ use Rattle.std.proofs.Common.{ℕ, ap, sym, ◌∙◌}
 use Rattle.std.specs.Prelude.{slice_index}
 use Rattle.faces.specs.Planes.{reverse_dart}
 use Rattle.ortho_rep.specs.OfFlow.{lefts_then_rights}
-use Rattle.ortho_rep.proofs.FromFlow.{mirrored-run}
+use Rattle.ortho_rep.proofs.FromFlow.{mirrored-lefts_then_rights}
 use Rattle.straightening.proofs.tally.is_rep.Goals as goal
 
 pub returns-then-closes_vertices : goal.returns-then-closes_vertices
@@ -11,7 +11,7 @@ returns-then-closes_vertices c =
     let turns = c.args.flow.now.lefts in
     λ yes. record {
       angles = c.closes_vertices.ensures.angles c.if-closes_vertices.true;
-      strings = λ d b. ap (λ (e : ℕ). lefts_then_rights (slice_index turns (reverse_dart plane d)) (slice_index turns e)) (c.graph-graph.ensures.ends.reverse_dart_back d b) ∙ sym (mirrored-run (slice_index turns d) (slice_index turns (reverse_dart plane d)));
+      strings = λ d b. ap (λ (e : ℕ). lefts_then_rights (slice_index turns (reverse_dart plane d)) (slice_index turns e)) (c.graph-graph.ensures.ends.reverse_dart_back d b) ∙ sym (mirrored-lefts_then_rights (slice_index turns d) (slice_index turns (reverse_dart plane d)));
       around = c.closes_vertices.ensures.around c.if-closes_vertices.true;
       faces = c.turns_faces.ensures yes;
     }

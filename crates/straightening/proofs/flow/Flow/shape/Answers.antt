@@ -3,10 +3,10 @@ use Rattle.std.proofs.lemmas.List.{length-map}
 use Rattle.embedding.specs.Darts.{dart_count}
 use Rattle.faces.specs.Planes.{darts}
 use Rattle.ortho_rep.specs.Shapes.{ShapeModel, angle_at, turns_at}
-use Rattle.ortho_rep.specs.Runs.{turns_in, HaveShapes}
+use Rattle.ortho_rep.specs.Repeats.{turns_in, HaveShapes}
 use Rattle.ortho_rep.specs.Representation.{HasDarts, IsShape}
 use Rattle.ortho_rep.specs.Prices.{vertex_price, face_price}
-use Rattle.ortho_rep.proofs.OneSided.{shapes-more, runs-more}
+use Rattle.ortho_rep.proofs.OneSided.{shapes-more, repeats-more}
 use Rattle.ortho_rep.proofs.SameAtDarts.{rep-alike, prove-alike}
 use Rattle.ortho_rep.proofs.WeakDuality.{least_by_prices}
 use Rattle.straightening.specs.Flows.{angle_in, string_in}
@@ -17,7 +17,7 @@ loop-dart-preserved c =
     let found = c.loop-dart.found.items in
     rw c.in_ok-push.ensures.items (
       shapes-more (angle_in c.args.self.now.angles) (string_in c.args.plane.now c.args.self.now.lefts) c.loop-dart.dart found c.dart_shape.result c.loop-dart.invariant.0 c.dart_shape.ensures.angle c.dart_shape.ensures.turns,
-      runs-more found c.dart_shape.result c.loop-dart.invariant.1 c.dart_shape.ensures.short,
+      repeats-more found c.dart_shape.result c.loop-dart.invariant.1 c.dart_shape.ensures.short,
     )
 
 have : (c : goal.After-of_darts) → HaveShapes (angle_in c.args.self.now.angles) (string_in c.args.plane.now c.args.self.now.lefts) (darts c.args.plane.now) c.loop-dart.found.items

@@ -1,7 +1,7 @@
 use Rattle.std.proofs.Common.{◌∙◌, replicate, ap, sym, arith}
 use Rattle.std.proofs.lemmas.List.{take-replicate}
 use Rattle.ortho_rep.specs.declared.turn.Turn.TheVariants.{Left, Right}
-use Rattle.ortho_rep.proofs.turn.run.Goals as goal
+use Rattle.ortho_rep.proofs.turn.repeat.Goals as goal
 
 pub returns-in-Left : goal.returns-in-Left
 returns-in-Left c =

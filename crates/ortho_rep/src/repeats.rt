@@ -5,9 +5,9 @@ ghost use Rattle.common.specs.Sums.{sum_below};
 ghost use Rattle.embedding.specs.declared.graphs.TheConstants.{MAX_DARTS};
 ghost use Rattle.ortho_rep.specs.declared.strings.TheConstants.{MAX_TURNS};
 ghost use Rattle.ortho_rep.specs.Shapes.{angle_at, turns_at};
-ghost use Rattle.ortho_rep.specs.Runs.{AreRuns, shape_in};
+ghost use Rattle.ortho_rep.specs.Repeats.{AreRepeats, shape_in};
 
-use crate::turn::{Turn, run};
+use crate::turn::{Turn, repeat};
 use std::marker::Model;
 
 /// The angle of a dart, in right angles, and how many turns it has, where they are all of one kind.
@@ -24,28 +24,28 @@ const _: () = prove!(size_of::<DartShape>() == 4);
 /// The shapes of at most 1,020 darts, in one list. In contracts it is the list of the angles and the list of the
 /// strings.
 #[derive(Debug, Drop)]
-pub(crate) struct Runs {
+pub(crate) struct Repeats {
     darts: Vec<DartShape>,
 }
 
-impl Model for Runs {
+impl Model for Repeats {
     ghost use Rattle.ortho_rep.specs.Shapes.{ShapeModel};
-    ghost use Rattle.ortho_rep.specs.Runs.{AreRuns, shape_in};
+    ghost use Rattle.ortho_rep.specs.Repeats.{AreRepeats, shape_in};
 
     ghost Value = { ShapeModel };
 
     ghost view = { λ a. shape_in a.darts.items };
 
-    ghost invariant = { λ a. AreRuns a.darts.items };
+    ghost invariant = { λ a. AreRepeats a.darts.items };
 }
 
-impl Runs {
+impl Repeats {
     /// The shapes of these darts, as they are.
-    pub(crate) fn new(darts: Vec<DartShape>) -> Runs
-        requires { AreRuns darts.items }
+    pub(crate) fn new(darts: Vec<DartShape>) -> Repeats
+        requires { AreRepeats darts.items }
         ensures { result ≡ shape_in darts.items }
     {
-        Runs { darts }
+        Repeats { darts }
     }
 
     /// The list, whose memory can be used again.
@@ -79,7 +79,7 @@ impl Runs {
         ensures short { length result.now ≤ MAX_TURNS }
     {
         let dart = self.darts[usize::from(dart)];
-        run(dart.turn, dart.count)
+        repeat(dart.turn, dart.count)
     }
 
     /// How many turns all darts have. A step for each dart.

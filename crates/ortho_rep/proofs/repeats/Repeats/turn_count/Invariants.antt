@@ -2,7 +2,7 @@ use Rattle.std.proofs.Common.{◌≡◌, ◌≤◌, ◌*◌, length}
 use Rattle.ortho_rep.specs.declared.strings.TheConstants.{MAX_TURNS}
 use Rattle.common.specs.Sums.{sum_below}
 use Rattle.ortho_rep.specs.Shapes.{turns_at}
-use Rattle.ortho_rep.proofs.runs.Runs.turn_count.Given as goal
+use Rattle.ortho_rep.proofs.repeats.Repeats.turn_count.Given as goal
 
 abbrev pub invariant-loop-i : goal.invariant-loop-i
 invariant-loop-i l =

@@ -2,8 +2,8 @@
 use Rattle.std.specs.Prelude.{◌≡◌, ℕ, ◌<◌, ◌≤◌, List, map, length, replicate, All}
 use Rattle.embedding.specs.declared.graphs.TheConstants.{MAX_DARTS}
 use Rattle.ortho_rep.specs.declared.turn.Turn.{Turn}
-use Rattle.ortho_rep.specs.declared.turn.TheConstants.{MAX_RUN}
-use Rattle.ortho_rep.specs.declared.runs.DartShape.{DartShape}
+use Rattle.ortho_rep.specs.declared.turn.TheConstants.{MAX_REPEATS}
+use Rattle.ortho_rep.specs.declared.repeats.DartShape.{DartShape}
 use Rattle.ortho_rep.specs.Shapes.{ShapeModel, angle_at, turns_at}
 
 -- the turns of a dart
@@ -15,9 +15,9 @@ abbrev pub shape_in : List DartShape → ShapeModel
 shape_in darts = record { angles = map (λ dart. dart.angle) darts; strings = map turns_in darts }
 
 -- at most 1,020 darts, each with at most 6,144 turns
-pub record AreRuns (darts : List DartShape) : Type 0 where
+pub record AreRepeats (darts : List DartShape) : Type 0 where
   pub few : length darts ≤ MAX_DARTS
-  pub short : All (λ dart. dart.count ≤ MAX_RUN) darts
+  pub short : All (λ dart. dart.count ≤ MAX_REPEATS) darts
 
 -- so many darts have the angles a and the strings s
 pub record HaveShapes (a : ℕ → ℕ) (s : ℕ → List Turn) (n : ℕ) (found : List DartShape) : Type 0 where
