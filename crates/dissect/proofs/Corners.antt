@@ -8,7 +8,7 @@ use Rattle.embedding.proofs.Entries.{Stands, stands_at, dart_stands, stands_belo
 use Rattle.embedding.proofs.Rotation.{tail_at, after_place}
 use Rattle.faces.specs.Planes.{PlaneModel, HasEnds, darts, vertices, head, tail, reverse_dart, after, next}
 use Rattle.ortho_rep.specs.Representation.{angles_around}
-use Rattle.dissect.proofs.Reordered.{run}
+use Rattle.dissect.proofs.Reordered.{stretch}
 
 -- the angle between dart x and the next one clockwise from the same vertex is that of its reverse; so much it
 -- lacks of four right angles
@@ -19,14 +19,14 @@ lack p a x = 4 - a (reverse_dart p x)
 abbrev pub lacks : PlaneModel → (ℕ → ℕ) → ℕ → ℕ
 lacks p a x = sum_below x (lack p a)
 
--- the darts of the list at place k are a run
+-- the darts of the list at place k are a stretch
 abbrev len : PlaneModel → ℕ → ℕ
 len p k = length (get_or p.lists k [])
 
-run_within : (p : PlaneModel) (k i : ℕ) → k < vertices p → i < len p k → first_dart p.lists k + len p k ≤ darts p
-run_within p k i list place = omega (arith, stands_below p.lists k (len p k - 1) list (omega arith))
+stretch_within : (p : PlaneModel) (k i : ℕ) → k < vertices p → i < len p k → first_dart p.lists k + len p k ≤ darts p
+stretch_within p k i list place = omega (arith, stands_below p.lists k (len p k - 1) list (omega arith))
 
--- the angles at the vertex sum to four right angles along the run
+-- the angles at the vertex sum to four right angles along the stretch
 angles_along : (p : PlaneModel) (a : ℕ → ℕ) → HasEnds p → ((v : ℕ) → 1 ≤ v → v ≤ vertices p → angles_around p a v ≡ 4)
     → (k i : ℕ) → k < vertices p → i < len p k → sum_below (len p k) (λ m. a (reverse_dart p (first_dart p.lists k + m))) ≡ 4
 angles_along p a ends around k i list place =
@@ -39,7 +39,7 @@ angles_along p a ends around k i list place =
     let named : sum_below n (λ d. arriving (reverse_dart p d)) ≡ sum_below n leaving =
     sum_below-same n (λ d. arriving (reverse_dart p d)) leaving (λ d l. ap (λ (v : ℕ). cond (eqb v (suc k)) (a (reverse_dart p d)) 0) (ends.reverse_dart_head d l)) in
     let cut : sum_below n leaving ≡ sum_below (len p k) (λ m. leaving (first + m)) =
-    run n first (len p k) leaving (run_within p k i list place) (λ d l away. none d l away) in
+    stretch n first (len p k) leaving (stretch_within p k i list place) (λ d l away. none d l away) in
     let inner : sum_below (len p k) (λ m. leaving (first + m)) ≡ sum_below (len p k) (λ m. a (reverse_dart p (first + m))) =
     sum_below-same (len p k) (λ m. leaving (first + m)) (λ m. a (reverse_dart p (first + m)))
     (λ m l. cond-true {A = ℕ} (eqb (tail p (first + m)) (suc k)) (a (reverse_dart p (first + m))) 0
@@ -61,7 +61,7 @@ lacks_along p a ends angles around k i list place =
     let first : ℕ = first_dart p.lists k in
     let short : ℕ → ℕ = λ m. lack p a (first + m) in
     let full : ℕ → ℕ = λ m. a (reverse_dart p (first + m)) in
-    let fits = run_within p k i list place in
+    let fits = stretch_within p k i list place in
     let both : sum_below (len p k) (λ m. short m + full m) ≡ sum_below (len p k) (λ _. 4) =
     sum_below-same (len p k) (λ m. short m + full m) (λ _. 4)
     (λ m l. whole (a (reverse_dart p (first + m))) (angles (reverse_dart p (first + m)) (ends.reverse_dart_inside (first + m) (omega arith))).1) in

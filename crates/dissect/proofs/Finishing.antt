@@ -4,7 +4,7 @@ use Rattle.dissect.specs.Turning.{total, Reduced, AreTurns, AreLefts}
 use Rattle.dissect.specs.DartMaps.{DartMap, IsSound}
 use Rattle.dissect.specs.Faces.{IsCorner, Trail, last_of, Ring, IsRectangle, In, joined, AreWaiting}
 use Rattle.dissect.specs.Scan.{down, IsScan}
-use Rattle.dissect.proofs.Running.{Runs-corner}
+use Rattle.dissect.proofs.Stretching.{Stretches-corner}
 use Rattle.dissect.proofs.Rings.{ring_turned, four_turned}
 use Rattle.dissect.proofs.LeftTurns.{all_left, four_lefts}
 use Rattle.dissect.proofs.Listing.{in_left, in_right, in_append, in_below, below_left, below_right, below_append, distinct_turned}
@@ -15,7 +15,7 @@ pub trail_corners : (w : DartMap) (a b : ℕ) (cs : List ℕ) → Trail w a cs �
 trail_corners w a b [] trail here = absurd here
 trail_corners w a b (c ∷ cs) trail here =
     elim here [
-      | inl e ↦ λ h. Runs-corner w a c trail.0 (ap w.angle (sym e) ∙ h)
+      | inl e ↦ λ h. Stretches-corner w a c trail.0 (ap w.angle (sym e) ∙ h)
       | inr later ↦ trail_corners w c b cs trail.1 later
     ]
 

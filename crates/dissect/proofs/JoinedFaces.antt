@@ -4,28 +4,28 @@ use Rattle.std.proofs.lemmas.Bool.{cases_eq}
 use Rattle.dissect.specs.DartMaps.{DartMap, IsLinked, IsCut}
 use Rattle.dissect.specs.Surrounds.{IsSurrounded}
 use Rattle.dissect.specs.Turning.{total}
-use Rattle.dissect.specs.Faces.{RunsIn, Runs, Trail, last_of, Ring, IsOutside, In, Below, joined, AreRings}
+use Rattle.dissect.specs.Faces.{StretchesIn, Stretches, Trail, last_of, Ring, IsOutside, In, Below, joined, AreRings}
 use Rattle.dissect.proofs.Splitting.{split_linked}
-use Rattle.dissect.proofs.Running.{IsCutting, run_more, run_direct, split_runs, Runs-inside}
-use Rattle.dissect.proofs.Rings.{split_ring, chord_runs, chord_ring}
+use Rattle.dissect.proofs.Stretching.{IsCutting, stretch_more, stretch_direct, split_stretches, Stretches-inside}
+use Rattle.dissect.proofs.Rings.{split_ring, chord_stretches, chord_ring}
 use Rattle.dissect.proofs.Waiting.{clear_of, ring_last}
 use Rattle.dissect.proofs.Listing.{in_left, in_right, in_below, below_left, below_right}
 use Rattle.dissect.proofs.Sounding.{surround_linked}
 
--- a rectangle keeps the runs of the map
-pub surround_run : (w new : DartMap) → IsSurrounded w new → IsLinked w → (k a c : ℕ) → a < w.darts → RunsIn w k a c → Runs new a c
-surround_run w new s linked zero a c l r =
+-- a rectangle keeps the stretches of the map
+pub surround_stretch : (w new : DartMap) → IsSurrounded w new → IsLinked w → (k a c : ℕ) → a < w.darts → StretchesIn w k a c → Stretches new a c
+surround_stretch w new s linked zero a c l r =
     let c_in : c < w.darts = omega (arith, linked.next_in a l, r.0) in
-    run_direct new a c (s.next_old a l ∙ r.0) (λ h. r.1 (sym (s.angle_old c c_in) ∙ h))
-surround_run w new s linked (suc k) a c l r =
-    run_more new a (w.next a) c (s.next_old a l) (s.angle_old (w.next a) (linked.next_in a l) ∙ r.0)
-    (surround_run w new s linked k (w.next a) c (linked.next_in a l) r.1)
+    stretch_direct new a c (s.next_old a l ∙ r.0) (λ h. r.1 (sym (s.angle_old c c_in) ∙ h))
+surround_stretch w new s linked (suc k) a c l r =
+    stretch_more new a (w.next a) c (s.next_old a l) (s.angle_old (w.next a) (linked.next_in a l) ∙ r.0)
+    (surround_stretch w new s linked k (w.next a) c (linked.next_in a l) r.1)
 
 pub surround_trail : (w new : DartMap) → IsSurrounded w new → IsLinked w → (a : ℕ) (cs : List ℕ) → a < w.darts → Trail w a cs → Trail new a cs
 surround_trail w new s linked a [] l trail = tt
 surround_trail w new s linked a (c ∷ cs) l trail = (
-  surround_run w new s linked trail.0.places a c l trail.0.run,
-  surround_trail w new s linked c cs (Runs-inside w a c linked l trail.0) trail.1,
+  surround_stretch w new s linked trail.0.places a c l trail.0.stretch,
+  surround_trail w new s linked c cs (Stretches-inside w a c linked l trail.0) trail.1,
 )
 
 pub surround_ring : (w new : DartMap) → IsSurrounded w new → IsLinked w → (cs : List ℕ) → last_of 0 cs < w.darts → Ring w cs → Ring new cs
@@ -112,34 +112,34 @@ new_angles w surrounded right side way new j =
       ap new.angle d11 ∙ t.angle_back,
     )
 
--- a run between two of the rectangle's darts, side by side
-pub inside_run : (w surrounded : DartMap) (right side way : ℕ) (new : DartMap) → IsJoining w surrounded right side way new → (i m : ℕ) → i < 8 → m < 8 →
+-- a stretch between two of the rectangle's darts, side by side
+pub inside_stretch : (w surrounded : DartMap) (right side way : ℕ) (new : DartMap) → IsJoining w surrounded right side way new → (i m : ℕ) → i < 8 → m < 8 →
     surrounded.next (w.darts + i) ≡ w.darts + m → surrounded.angle (w.darts + m) ≢ 2 → surrounded.angle (w.darts + i) ≢ 2 →
-    i ≢ (side + 3) % 4 → Runs new (w.darts + i) (w.darts + m)
-inside_run w surrounded right side way new j i m il ml to corner here ne =
+    i ≢ (side + 3) % 4 → Stretches new (w.darts + i) (w.darts + m)
+inside_stretch w surrounded right side way new j i m il ml to corner here ne =
     let s = j.join.split in
     let linked = surround_linked w surrounded j.surround j.linked in
     let i_in : w.darts + i < surrounded.darts = omega (arith, j.surround.darts, il) in
-    let runs : Runs j.join.middle (w.darts + i) (w.darts + m) =
-    split_runs surrounded (w.darts + side) (surrounded.direction (w.darts + side)) (w.darts + i) (w.darts + m) j.join.middle s linked j.join.e_in
-    i_in (run_direct surrounded (w.darts + i) (w.darts + m) to corner) in
-    chord_runs j.join.middle right (corner_of w side) surrounded.darts way (w.darts + i) (w.darts + m) new j.join.chord
+    let stretches : Stretches j.join.middle (w.darts + i) (w.darts + m) =
+    split_stretches surrounded (w.darts + side) (surrounded.direction (w.darts + side)) (w.darts + i) (w.darts + m) j.join.middle s linked j.join.e_in
+    i_in (stretch_direct surrounded (w.darts + i) (w.darts + m) to corner) in
+    chord_stretches j.join.middle right (corner_of w side) surrounded.darts way (w.darts + i) (w.darts + m) new j.join.chord
     (middle_of w surrounded right side way new j) (cutting_of w surrounded right side way new j) (omega (arith, s.darts, i_in))
     (λ h. here (sym (s.angle_old (w.darts + i) i_in) ∙ h)) (λ h. omega (arith, h, j.right_in)) (λ h. ne (omega (arith, h)))
-    (λ h. omega (arith, h, j.right_in)) runs
+    (λ h. omega (arith, h, j.right_in)) stretches
 
 -- the outside of the rectangle
-pub outside_run : (w surrounded : DartMap) (right side way : ℕ) (new : DartMap) → IsJoining w surrounded right side way new → (k m : ℕ) → k < 4 →
-    m ≡ (k + 3) % 4 → Runs new (w.darts + 4 + k) (w.darts + 4 + m)
-outside_run w surrounded right side way new j k m l e =
+pub outside_stretch : (w surrounded : DartMap) (right side way : ℕ) (new : DartMap) → IsJoining w surrounded right side way new → (k m : ℕ) → k < 4 →
+    m ≡ (k + 3) % 4 → Stretches new (w.darts + 4 + k) (w.darts + 4 + m)
+outside_stretch w surrounded right side way new j k m l e =
     let a : w.darts + (4 + k) ≡ w.darts + 4 + k = omega arith in
     let b : w.darts + (4 + m) ≡ w.darts + 4 + m = omega arith in
     let c : w.darts + 4 + (k + 3) % 4 ≡ w.darts + (4 + m) = omega (arith, e) in
     let m_angle : surrounded.angle (w.darts + (4 + m)) ≡ 3 = ap surrounded.angle b ∙ j.surround.angle_outer m (omega (arith, e)) in
     let k_angle : surrounded.angle (w.darts + (4 + k)) ≡ 3 = ap surrounded.angle a ∙ j.surround.angle_outer k l in
-    subst (λ (z : ℕ). Runs new z (w.darts + 4 + m)) a
-    (subst (λ (z : ℕ). Runs new (w.darts + (4 + k)) z) b
-    (inside_run w surrounded right side way new j (4 + k) (4 + m) (omega arith) (omega (arith, e)) (ap surrounded.next a ∙ j.surround.next_outer k l ∙ c)
+    subst (λ (z : ℕ). Stretches new z (w.darts + 4 + m)) a
+    (subst (λ (z : ℕ). Stretches new (w.darts + (4 + k)) z) b
+    (inside_stretch w surrounded right side way new j (4 + k) (4 + m) (omega arith) (omega (arith, e)) (ap surrounded.next a ∙ j.surround.next_outer k l ∙ c)
     (λ h. omega (arith, h, m_angle)) (λ h. omega (arith, h, k_angle)) (λ h. omega (arith, h))))
 
 round_holds : (n o k : ℕ) → o < 4 → k < 4 →
@@ -164,10 +164,10 @@ outside_four w surrounded right side way new j o o_in k l = record {
     second = w.darts + 4 + (k + 3) % 4;
     third = w.darts + 4 + (k + 2) % 4;
     fourth = w.darts + 4 + (k + 1) % 4;
-    to_second = outside_run w surrounded right side way new j k ((k + 3) % 4) l refl;
-    to_third = outside_run w surrounded right side way new j ((k + 3) % 4) ((k + 2) % 4) (omega arith) (omega arith);
-    to_fourth = outside_run w surrounded right side way new j ((k + 2) % 4) ((k + 1) % 4) (omega arith) (omega arith);
-    back = outside_run w surrounded right side way new j ((k + 1) % 4) k (omega arith) (omega arith);
+    to_second = outside_stretch w surrounded right side way new j k ((k + 3) % 4) l refl;
+    to_third = outside_stretch w surrounded right side way new j ((k + 3) % 4) ((k + 2) % 4) (omega arith) (omega arith);
+    to_fourth = outside_stretch w surrounded right side way new j ((k + 2) % 4) ((k + 1) % 4) (omega arith) (omega arith);
+    back = outside_stretch w surrounded right side way new j ((k + 1) % 4) k (omega arith) (omega arith);
     angle_first = outer_angle w surrounded right side way new j k l;
     angle_second = outer_angle w surrounded right side way new j ((k + 3) % 4) (omega arith);
     angle_third = outer_angle w surrounded right side way new j ((k + 2) % 4) (omega arith);

@@ -10,7 +10,7 @@ pub mod Existence
 pub mod Searching
 pub mod Splitting
 pub mod Chords
-pub mod Running
+pub mod Stretching
 pub mod Rings
 pub mod LeftTurns
 pub mod Listing

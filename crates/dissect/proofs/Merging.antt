@@ -3,15 +3,15 @@ use Rattle.std.proofs.Common.{◌≡◌, ◌≢◌, ◌⊎◌, ℕ, ◌+◌, ◌
 use Rattle.std.proofs.lemmas.Bool.{cases_eq, cases_lt}
 use Rattle.dissect.specs.DartMaps.{DartMap}
 use Rattle.dissect.specs.Turning.{total}
-use Rattle.dissect.specs.Faces.{IsCorner, Runs, Trail, last_of, Ring, IsRectangle, IsOutside, In, Distinct, Below, joined, TurnsOnce, AreWaiting}
-use Rattle.dissect.proofs.Running.{run_direct, chord_run_to, chord_run_there, chord_run_back, Runs-corner}
+use Rattle.dissect.specs.Faces.{IsCorner, Stretches, Trail, last_of, Ring, IsRectangle, IsOutside, In, Distinct, Below, joined, TurnsOnce, AreWaiting}
+use Rattle.dissect.proofs.Stretching.{stretch_direct, chord_stretch_to, chord_stretch_there, chord_stretch_back, Stretches-corner}
 use Rattle.dissect.proofs.Rings.{Clear, trail_front, trail_rest, trail_append, last_of-append, split_ring, chord_trail, clear_last, trail_corner, corner_not_f}
 use Rattle.dissect.proofs.Waiting.{clear_of, total-append}
 use Rattle.dissect.proofs.Listing.{in_append, in_left, in_right, in_below, below_append, below_left, below_right, below_more, distinct_append, distinct_left, distinct_right, distinct_apart}
 use Rattle.dissect.specs.Listed.{AreListed, AreKeptCorners, detour}
 use Rattle.dissect.proofs.Sounding.{by_side, surround_linked}
 use Rattle.dissect.proofs.Tracing.{joined_more, rings_more}
-use Rattle.dissect.proofs.JoinedFaces.{surround_ring, IsJoining, corner_of, middle_of, cutting_of, old_angle, right_angle, inner_angle, new_angles, inside_run, outside_four, other_rings, totals_same}
+use Rattle.dissect.proofs.JoinedFaces.{surround_ring, IsJoining, corner_of, middle_of, cutting_of, old_angle, right_angle, inner_angle, new_angles, inside_stretch, outside_four, other_rings, totals_same}
 
 -- the way from the right turn along the cut, round the inside of the rectangle, and back
 pub detour_trail : (w surrounded : DartMap) (right side way : ℕ) (new : DartMap) → IsJoining w surrounded right side way new →
@@ -33,40 +33,40 @@ detour_trail w surrounded right side way new j =
     let e_corner : IsCorner middle (n + side) =
     λ h. omega (arith, h, s.angle_old (n + side) j.join.e_in, j.surround.angle_inner side j.side_in) in
     let along : new.next right ≡ n + 10 = t.next_d ∙ d10 in
-    let to_side : Runs new middle.darts (n + side) =
-    chord_run_there middle right c surrounded.darts way new t (middle_of w surrounded right side way new j) (cutting_of w surrounded right side way new j)
+    let to_side : Stretches new middle.darts (n + side) =
+    chord_stretch_there middle right c surrounded.darts way new t (middle_of w surrounded right side way new j) (cutting_of w surrounded right side way new j)
     0 (n + side) (λ h. omega (arith, h, j.right_in)) (s.next_first, e_corner) in
     let to_f : new.next c ≡ n + 8 =
     t.next_other c (omega (arith, s.darts, c_in)) c_right (λ h. omega (arith, h, d8))
     ∙ (cutting_of w surrounded right side way new j).behind ∙ d8 in
     let to_y : new.next (n + 8) ≡ n + 11 = ap new.next (sym d8) ∙ t.next_f ∙ d11 in
-    let run0 : Runs new right (n + 10) =
-    run_direct new right (n + 10) along (λ h. omega (arith, h, angles.2)) in
-    let run1 : Runs new (n + 10) (n + side) =
-    subst (λ (z : ℕ). Runs new z (n + side)) d10 to_side in
-    let run2 : Runs new (n + side) (n + (side + 1) % 4) =
+    let stretch0 : Stretches new right (n + 10) =
+    stretch_direct new right (n + 10) along (λ h. omega (arith, h, angles.2)) in
+    let stretch1 : Stretches new (n + 10) (n + side) =
+    subst (λ (z : ℕ). Stretches new z (n + side)) d10 to_side in
+    let stretch2 : Stretches new (n + side) (n + (side + 1) % 4) =
     round side ((side + 1) % 4) j.side_in refl (λ h. omega (arith, h, j.side_in)) in
-    let run3 : Runs new (n + (side + 1) % 4) (n + (side + 2) % 4) =
+    let stretch3 : Stretches new (n + (side + 1) % 4) (n + (side + 2) % 4) =
     round ((side + 1) % 4) ((side + 2) % 4) (omega arith) (omega arith) (λ h. omega (arith, h, j.side_in)) in
-    let run4 : Runs new (n + (side + 2) % 4) c =
+    let stretch4 : Stretches new (n + (side + 2) % 4) c =
     round ((side + 2) % 4) ((side + 3) % 4) (omega arith) (omega arith) (λ h. omega (arith, h, j.side_in)) in
-    let run5 : Runs new c (n + 8) =
-    run_direct new c (n + 8) to_f (λ h. omega (arith, h, angles.0)) in
-    let run6 : Runs new (n + 8) (n + 11) =
-    run_direct new (n + 8) (n + 11) to_y (λ h. omega (arith, h, angles.3)) in
-    (run0, (run1, (run2, (run3, (run4, (run5, (run6, tt)))))))
+    let stretch5 : Stretches new c (n + 8) =
+    stretch_direct new c (n + 8) to_f (λ h. omega (arith, h, angles.0)) in
+    let stretch6 : Stretches new (n + 8) (n + 11) =
+    stretch_direct new (n + 8) (n + 11) to_y (λ h. omega (arith, h, angles.3)) in
+    (stretch0, (stretch1, (stretch2, (stretch3, (stretch4, (stretch5, (stretch6, tt)))))))
   where
-    round : (k m : ℕ) → k < 4 → m ≡ (k + 1) % 4 → k ≢ (side + 3) % 4 → Runs new (w.darts + k) (w.darts + m)
+    round : (k m : ℕ) → k < 4 → m ≡ (k + 1) % 4 → k ≢ (side + 3) % 4 → Stretches new (w.darts + k) (w.darts + m)
     round k m l e ne =
-        inside_run w surrounded right side way new j k m (omega arith) (omega (arith, e)) (j.surround.next_inner k l ∙ ap (λ (i : ℕ). w.darts + i) (sym e))
+        inside_stretch w surrounded right side way new j k m (omega arith) (omega (arith, e)) (j.surround.next_inner k l ∙ ap (λ (i : ℕ). w.darts + i) (sym e))
         (λ h. omega (arith, h, j.surround.angle_inner m (omega (arith, e)))) (λ h. omega (arith, h, j.surround.angle_inner k l)) ne
 
 -- what the join makes of the trail round the outer face
 pub record IsRound (w : DartMap) (right : ℕ) (new : DartMap) (b : ℕ) (bs : List ℕ) : Type 0 where
-  pub back : Runs new (w.darts + 11) b
+  pub back : Stretches new (w.darts + 11) b
   pub trail : Trail new b bs
-  pub to_right : IsCorner new right → Runs new (last_of b bs) right
-  pub straight_on : new.angle right ≡ 2 → Runs new (last_of b bs) (w.darts + 10)
+  pub to_right : IsCorner new right → Stretches new (last_of b bs) right
+  pub straight_on : new.angle right ≡ 2 → Stretches new (last_of b bs) (w.darts + 10)
 
 pub outer_round : (w surrounded : DartMap) (right side way : ℕ) (new : DartMap) → IsJoining w surrounded right side way new → (b : ℕ) (bs : List ℕ) →
     Ring w (b ∷ (bs ++ (right ∷ []))) → Below w.darts (b ∷ bs) → (In right (b ∷ bs) → ⊥) → IsRound w right new b bs
@@ -86,22 +86,22 @@ outer_round w surrounded right side way new j b bs ring below out =
     (surround_linked w surrounded j.surround j.linked) j.join.e_in cs (omega (arith, d8, end_in)) (surround_ring w surrounded j.surround j.linked cs end_in ring) in
     let linked = middle_of w surrounded right side way new j in
     let cutting = cutting_of w surrounded right side way new j in
-    let from_right : Runs middle right b = subst (λ (z : ℕ). Runs middle z b) end_is in_middle.0 in
+    let from_right : Stretches middle right b = subst (λ (z : ℕ). Stretches middle z b) end_is in_middle.0 in
     let clear : Clear middle.darts right c (b ∷ bs) = clear_of n middle.darts right c (b ∷ bs) (omega (arith, d10)) below out
     (λ h. omega (arith, in_below n c (b ∷ bs) below h)) in
-    let b_corner : IsCorner middle b = Runs-corner middle right b from_right in
+    let b_corner : IsCorner middle b = Stretches-corner middle right b from_right in
     let trail : Trail middle b bs = trail_front middle b bs (right ∷ []) in_middle.1 in
-    let last : Runs middle (last_of b bs) right = (trail_rest middle b bs (right ∷ []) in_middle.1).0 in
+    let last : Stretches middle (last_of b bs) right = (trail_rest middle b bs (right ∷ []) in_middle.1).0 in
     let end = clear_last middle.darts right c b bs clear.0 clear.1 clear.2 clear.3 in
-    let both = chord_run_to middle right c surrounded.darts way new t linked cutting last.places (last_of b bs) end.0 end.1 end.2
-    (corner_not_f middle right c surrounded.darts (last_of b bs) cutting (trail_corner middle b bs b_corner trail)) last.run in
+    let both = chord_stretch_to middle right c surrounded.darts way new t linked cutting last.places (last_of b bs) end.0 end.1 end.2
+    (corner_not_f middle right c surrounded.darts (last_of b bs) cutting (trail_corner middle b bs b_corner trail)) last.stretch in
     record {
-      back = subst (λ (z : ℕ). Runs new z b) d11
-          (chord_run_back middle right c surrounded.darts way new t linked cutting from_right.places b clear.1
-          (λ h. omega (arith, h, j.right_in)) from_right.run);
+      back = subst (λ (z : ℕ). Stretches new z b) d11
+          (chord_stretch_back middle right c surrounded.darts way new t linked cutting from_right.places b clear.1
+          (λ h. omega (arith, h, j.right_in)) from_right.stretch);
       trail = chord_trail middle right c surrounded.darts way new t linked cutting b bs clear.0 b_corner clear.1 clear.2 clear.3 trail;
       to_right = both.0;
-      straight_on = λ straight. subst (λ (z : ℕ). Runs new (last_of b bs) z) d10 (both.1 straight);
+      straight_on = λ straight. subst (λ (z : ℕ). Stretches new (last_of b bs) z) d10 (both.1 straight);
     }
 
 -- the ring of the joined face

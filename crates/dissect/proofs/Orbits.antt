@@ -6,7 +6,7 @@ use Rattle.std.proofs.lemmas.Map.Steps.{length-le_from_distinct_below}
 use Rattle.dissect.specs.DartMaps.{DartMap, IsLinked}
 use Rattle.dissect.specs.Faces.{IsCorner, Trail, last_of, Ring, In, Distinct, Below}
 use Rattle.dissect.specs.Turning.{total}
-use Rattle.dissect.proofs.Running.{run_more, run_direct}
+use Rattle.dissect.proofs.Stretching.{stretch_more, stretch_direct}
 use Rattle.dissect.proofs.Rings.{last_of-append}
 use Rattle.dissect.specs.Walks.{steps, path, turning, IsOrbit}
 
@@ -209,7 +209,7 @@ turning_total w (y ∷ ys) =
 
 trail_behind : (w : DartMap) (a b : ℕ) (cs : List ℕ) → w.next a ≡ b → w.angle b ≡ 2 → Trail w b cs → Trail w a cs
 trail_behind w a b [] to straight trail = tt
-trail_behind w a b (c ∷ cs) to straight trail = (run_more w a b c to straight trail.0, trail.1)
+trail_behind w a b (c ∷ cs) to straight trail = (stretch_more w a b c to straight trail.0, trail.1)
 
 -- the corners on a walk are a trail
 pub path_trail : (w : DartMap) (a k : ℕ) → Trail w a (turning w (path w a k))
@@ -220,7 +220,7 @@ path_trail w a (suc k) =
     elim (cases_eq (w.angle b) 2) [
       | inl straight ↦ subst (Trail w a) (sym (turning_straight w b (path w b k) straight))
           (trail_behind w a b (turning w (path w b k)) refl straight rest)
-      | inr corner ↦ subst (Trail w a) (sym (turning_corner w b (path w b k) corner)) (run_direct w a b refl corner, rest)
+      | inr corner ↦ subst (Trail w a) (sym (turning_corner w b (path w b k) corner)) (stretch_direct w a b refl corner, rest)
     ]
 
 trail_ring : (w : DartMap) (a : ℕ) (front cs : List ℕ) → cs ≡ front ++ (a ∷ []) → Trail w a cs → Ring w cs

@@ -2,50 +2,50 @@
 use Rattle.std.proofs.Common.{◌≡◌, ◌≢◌, ℕ, zero, suc, ◌+◌, ◌<◌, ◌∙◌, arith, sym, ap, inl, inr, refl}
 use Rattle.std.proofs.lemmas.Bool.{cases_eq}
 use Rattle.dissect.specs.DartMaps.{DartMap, IsLinked, IsSubdivided, IsChord, IsSound, IsCut, Grows, same, further, reflex_turns}
-use Rattle.dissect.specs.Faces.{RunsIn, Runs, ReachesCorners}
+use Rattle.dissect.specs.Faces.{StretchesIn, Stretches, ReachesCorners}
 use Rattle.dissect.proofs.Splitting.{split_linked, by_age}
-use Rattle.dissect.proofs.Running.{run_more, run_direct, split_runs}
+use Rattle.dissect.proofs.Stretching.{stretch_more, stretch_direct, split_stretches}
 use Rattle.dissect.proofs.Scanning.{cut_sound, cut_reflex_turns}
 
 -- a dart comes to a corner where the next one does
-pub reach_step : (w : DartMap) (a m : ℕ) → w.next a ≡ m → (c : ℕ) × Runs w m c → (c : ℕ) × Runs w a c
+pub reach_step : (w : DartMap) (a m : ℕ) → w.next a ≡ m → (c : ℕ) × Stretches w m c → (c : ℕ) × Stretches w a c
 reach_step w a m to onward =
     elim (cases_eq (w.angle m) 2) [
-      | inl straight ↦ (onward.0, run_more w a m onward.0 to straight onward.1)
-      | inr corner ↦ (m, run_direct w a m to corner)
+      | inl straight ↦ (onward.0, stretch_more w a m onward.0 to straight onward.1)
+      | inr corner ↦ (m, stretch_direct w a m to corner)
     ]
 
 pub split_reaches : (w : DartMap) (e way : ℕ) (new : DartMap) → IsSubdivided w e way 2 new → IsLinked w → e < w.darts →
     ReachesCorners w → ReachesCorners new
 split_reaches w e way new s linked e_in reaches =
-    let old : (a : ℕ) → a < w.darts → (c : ℕ) × Runs new a c =
-    λ a l. ((reaches a l).0, split_runs w e way a (reaches a l).0 new s linked e_in l (reaches a l).1) in
-    λ a l. by_age w.darts (λ a. (c : ℕ) × Runs new a c) old
+    let old : (a : ℕ) → a < w.darts → (c : ℕ) × Stretches new a c =
+    λ a l. ((reaches a l).0, split_stretches w e way a (reaches a l).0 new s linked e_in l (reaches a l).1) in
+    λ a l. by_age w.darts (λ a. (c : ℕ) × Stretches new a c) old
     (reach_step new w.darts e s.next_first (old e e_in))
     (reach_step new (w.darts + 1) (w.reverse_dart e) s.next_second (old (w.reverse_dart e) (linked.reverse_dart_in e e_in)))
     a (omega (arith, s.darts, l))
 
 -- d and f come to a corner at once
 pub chord_from : (w : DartMap) (d f way a : ℕ) (new : DartMap) → IsChord w d f way new →
-    (a ≢ d → a ≢ f → (c : ℕ) × Runs new a c) → (c : ℕ) × Runs new a c
+    (a ≢ d → a ≢ f → (c : ℕ) × Stretches new a c) → (c : ℕ) × Stretches new a c
 chord_from w d f way a new s other =
     elim (cases_eq a d) [
-      | inl is_d ↦ (w.darts, run_direct new a w.darts (ap new.next is_d ∙ s.next_d) (λ h. omega (arith, h, s.angle_there)))
+      | inl is_d ↦ (w.darts, stretch_direct new a w.darts (ap new.next is_d ∙ s.next_d) (λ h. omega (arith, h, s.angle_there)))
       | inr nd ↦ elim (cases_eq a f) [
-        | inl is_f ↦ (w.darts + 1, run_direct new a (w.darts + 1) (ap new.next is_f ∙ s.next_f) (λ h. omega (arith, h, s.angle_back)))
+        | inl is_f ↦ (w.darts + 1, stretch_direct new a (w.darts + 1) (ap new.next is_f ∙ s.next_f) (λ h. omega (arith, h, s.angle_back)))
         | inr nf ↦ other nd nf
       ]
     ]
 
 pub chord_reach : (w : DartMap) (d f way : ℕ) (new : DartMap) → IsLinked w → IsChord w d f way new → (k a c : ℕ) → a < w.darts →
-    RunsIn w k a c → (c : ℕ) × Runs new a c
+    StretchesIn w k a c → (c : ℕ) × Stretches new a c
 chord_reach w d f way new linked s zero a c l r =
     chord_from w d f way a new s (λ nd nf.
     elim (cases_eq (new.angle c) 2) [
       | inl straight ↦ reach_step new a c (s.next_other a l nd nf ∙ r.0)
           (chord_from w d f way c new s (λ cd cf.
           absurd (r.1 (sym (s.angle_other c (omega (arith, linked.next_in a l, r.0)) cd cf) ∙ straight))))
-      | inr corner ↦ (c, run_direct new a c (s.next_other a l nd nf ∙ r.0) corner)
+      | inr corner ↦ (c, stretch_direct new a c (s.next_other a l nd nf ∙ r.0) corner)
     ])
 chord_reach w d f way new linked s (suc k) a c l r =
     chord_from w d f way a new s (λ nd nf.
@@ -55,9 +55,9 @@ chord_reach w d f way new linked s (suc k) a c l r =
 pub chord_reaches : (w : DartMap) (d f way : ℕ) (new : DartMap) → IsLinked w → d < w.darts → f < w.darts → IsChord w d f way new →
     ReachesCorners w → ReachesCorners new
 chord_reaches w d f way new linked d_in f_in s reaches =
-    let old : (a : ℕ) → a < w.darts → (c : ℕ) × Runs new a c =
-    λ a l. chord_reach w d f way new linked s (reaches a l).1.places a (reaches a l).0 l (reaches a l).1.run in
-    λ a l. by_age w.darts (λ a. (c : ℕ) × Runs new a c) old
+    let old : (a : ℕ) → a < w.darts → (c : ℕ) × Stretches new a c =
+    λ a l. chord_reach w d f way new linked s (reaches a l).1.places a (reaches a l).0 l (reaches a l).1.stretch in
+    λ a l. by_age w.darts (λ a. (c : ℕ) × Stretches new a c) old
     (reach_step new w.darts (w.next f) s.next_there (old (w.next f) (linked.next_in f f_in)))
     (reach_step new (w.darts + 1) (w.next d) s.next_back (old (w.next d) (linked.next_in d d_in)))
     a (omega (arith, s.darts, l))

@@ -10,15 +10,15 @@ use Rattle.dissect.specs.Surrounds.{IsSurrounded, IsEnclosed}
 use Rattle.dissect.specs.FaceNumbers.{AreFaceNumbers, HasTurns}
 use Rattle.dissect.specs.Scan.{CanCut, HasRoom}
 use Rattle.dissect.specs.Turning.{total}
-use Rattle.dissect.specs.Faces.{Runs, IsRectangle, In, Distinct, Below, joined, AreWaiting, ReachesCorners, cut_up}
-use Rattle.dissect.proofs.Running.{run_direct, Runs-inside}
-use Rattle.dissect.proofs.Scanning.{run_direction, cut_sound, cut_reflex_turns}
+use Rattle.dissect.specs.Faces.{Stretches, IsRectangle, In, Distinct, Below, joined, AreWaiting, ReachesCorners, cut_up}
+use Rattle.dissect.proofs.Stretching.{stretch_direct, Stretches-inside}
+use Rattle.dissect.proofs.Scanning.{stretch_direction, cut_sound, cut_reflex_turns}
 use Rattle.dissect.proofs.Reaching.{cut_reaches, grows_sound, grows_reaches, cut_vertices, grows_vertices}
 use Rattle.dissect.specs.Listed.{AreFlat, AreJoined, AreListed, detour}
 use Rattle.dissect.proofs.Orbits.{distinct_few}
 use Rattle.dissect.proofs.Turns.{listed_sum, turns_reach}
 use Rattle.dissect.proofs.Sounding.{by_side, surround_linked, surround_sound, surround_reflex_turns}
-use Rattle.dissect.proofs.JoinedFaces.{surround_run, IsJoining}
+use Rattle.dissect.proofs.JoinedFaces.{surround_stretch, IsJoining}
 use Rattle.dissect.proofs.Merging.{join_waits}
 
 take_own : (r s : List ℕ) → take (length r) (r ++ s) ≡ r
@@ -65,12 +65,12 @@ flat_ready w o corners counts faces flat waiting =
 four_distinct : (w : DartMap) (o : ℕ) → IsSound w → o < w.darts → (four : IsRectangle w 3 o) →
     Distinct (o ∷ four.second ∷ four.third ∷ four.fourth ∷ []) × Below w.darts (o ∷ four.second ∷ four.third ∷ four.fourth ∷ [])
 four_distinct w o sound l four =
-    let l2 : four.second < w.darts = Runs-inside w o four.second sound.linked l four.to_second in
-    let l3 : four.third < w.darts = Runs-inside w four.second four.third sound.linked l2 four.to_third in
-    let l4 : four.fourth < w.darts = Runs-inside w four.third four.fourth sound.linked l3 four.to_fourth in
-    let d1 = run_direction w sound four.to_second.places o four.second l four.to_second.run in
-    let d2 = run_direction w sound four.to_third.places four.second four.third l2 four.to_third.run in
-    let d3 = run_direction w sound four.to_fourth.places four.third four.fourth l3 four.to_fourth.run in
+    let l2 : four.second < w.darts = Stretches-inside w o four.second sound.linked l four.to_second in
+    let l3 : four.third < w.darts = Stretches-inside w four.second four.third sound.linked l2 four.to_third in
+    let l4 : four.fourth < w.darts = Stretches-inside w four.third four.fourth sound.linked l3 four.to_fourth in
+    let d1 = stretch_direction w sound four.to_second.places o four.second l four.to_second.stretch in
+    let d2 = stretch_direction w sound four.to_third.places four.second four.third l2 four.to_third.stretch in
+    let d3 = stretch_direction w sound four.to_fourth.places four.third four.fourth l3 four.to_fourth.stretch in
     let q1 = sound.meeting.quarter o l in
     let q2 = sound.meeting.quarter four.second l2 in
     let q3 = sound.meeting.quarter four.third l3 in
@@ -116,16 +116,16 @@ four_reflex_turns w o sound l four =
 
 pub surround_reaches : (w new : DartMap) → IsSurrounded w new → IsLinked w → ReachesCorners w → ReachesCorners new
 surround_reaches w new s linked reaches = λ a l.
-    by_side w.darts (λ a. (c : ℕ) × Runs new a c)
-    (λ a l. ((reaches a l).0, surround_run w new s linked (reaches a l).1.places a (reaches a l).0 l (reaches a l).1.run))
+    by_side w.darts (λ a. (c : ℕ) × Stretches new a c)
+    (λ a l. ((reaches a l).0, surround_stretch w new s linked (reaches a l).1.places a (reaches a l).0 l (reaches a l).1.stretch))
     (λ k l. (
       w.darts + (k + 1) % 4,
-      run_direct new (w.darts + k) (w.darts + (k + 1) % 4) (s.next_inner k l)
+      stretch_direct new (w.darts + k) (w.darts + (k + 1) % 4) (s.next_inner k l)
           (λ h. omega (arith, h, s.angle_inner ((k + 1) % 4) (omega arith))),
     ))
     (λ k l. (
       w.darts + 4 + (k + 3) % 4,
-      run_direct new (w.darts + 4 + k) (w.darts + 4 + (k + 3) % 4) (s.next_outer k l)
+      stretch_direct new (w.darts + 4 + k) (w.darts + 4 + (k + 3) % 4) (s.next_outer k l)
           (λ h. omega (arith, h, s.angle_outer ((k + 3) % 4) (omega arith))),
     ))
     a (omega (arith, s.darts, l))

@@ -91,11 +91,11 @@ pub sum_at-four : (n : ℕ) (at : ℕ → ℕ) (k : ℕ) (f g : ℕ → ℕ) →
 sum_at-four n at k f g same =
     sum-four n (λ i. cond (eqb (at i) k) (f i) 0) (λ i. cond (eqb (at i) k) (g i) 0) (λ i b. choice-four (eqb (at i) k) (f i) (g i) (same i b))
 
--- ---- a run of numbers
+-- ---- a stretch of numbers
 
--- what is 0 but in a run of numbers sums to the run's sum
-pub run : (n first len : ℕ) (f : ℕ → ℕ) → first + len ≤ n → ((d : ℕ) → d < n → (d < first) ⊎ (first + len ≤ d) → f d ≡ 0) → sum_below n f ≡ sum_below len (λ i. f (first + i))
-run n first len f fits none =
+-- what is 0 but in a stretch of numbers sums to the stretch's sum
+pub stretch : (n first len : ℕ) (f : ℕ → ℕ) → first + len ≤ n → ((d : ℕ) → d < n → (d < first) ⊎ (first + len ≤ d) → f d ≡ 0) → sum_below n f ≡ sum_below len (λ i. f (first + i))
+stretch n first len f fits none =
     let rest : ℕ = n - (first + len) in
     let whole : n ≡ first + (len + rest) = omega arith in
     let cut : sum_below n f ≡ sum_below first f + sum_below (len + rest) (λ i. f (first + i)) =

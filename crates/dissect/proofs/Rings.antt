@@ -1,8 +1,8 @@
 -- Faces told by their corners, and what one cut makes of them.
 use Rattle.std.proofs.Common.{◌≡◌, ◌≢◌, ℕ, zero, suc, ◌+◌, ◌<◌, ◌∙◌, List, [], ◌∷◌, ◌++◌, arith, subst, sym, ap, refl}
 use Rattle.dissect.specs.DartMaps.{DartMap, IsLinked, IsSubdivided, IsChord}
-use Rattle.dissect.specs.Faces.{IsCorner, RunsIn, Runs, Trail, last_of, Ring, IsRectangle, IsOutside}
-use Rattle.dissect.proofs.Running.{IsCutting, split_runs, chord_run, chord_run_there, chord_run_to, chord_run_there_to, chord_run_back, run_direct, Runs-one, Runs-from_one, Runs-inside, Runs-corner}
+use Rattle.dissect.specs.Faces.{IsCorner, StretchesIn, Stretches, Trail, last_of, Ring, IsRectangle, IsOutside}
+use Rattle.dissect.proofs.Stretching.{IsCutting, split_stretches, chord_stretch, chord_stretch_there, chord_stretch_to, chord_stretch_there_to, chord_stretch_back, stretch_direct, Stretches-one, Stretches-from_one, Stretches-inside, Stretches-corner}
 
 -- each of the darts is below n, and none is d or c
 abbrev pub Clear : ℕ → ℕ → ℕ → List ℕ → Type 0
@@ -40,8 +40,8 @@ pub split_trail : (w : DartMap) (e way : ℕ) (new : DartMap) → IsSubdivided w
     (a : ℕ) (cs : List ℕ) → a < w.darts → Trail w a cs → Trail new a cs
 split_trail w e way new s linked e_in a [] l trail = tt
 split_trail w e way new s linked e_in a (c ∷ cs) l trail = (
-  split_runs w e way a c new s linked e_in l trail.0,
-  split_trail w e way new s linked e_in c cs (Runs-inside w a c linked l trail.0) trail.1,
+  split_stretches w e way a c new s linked e_in l trail.0,
+  split_trail w e way new s linked e_in c cs (Stretches-inside w a c linked l trail.0) trail.1,
 )
 
 pub split_ring : (w : DartMap) (e way : ℕ) (new : DartMap) → IsSubdivided w e way 2 new → IsLinked w → e < w.darts →
@@ -52,17 +52,17 @@ split_ring w e way new s linked e_in (c ∷ cs) l ring = split_trail w e way new
 pub split_four : (w : DartMap) (e way angle a : ℕ) (new : DartMap) → IsSubdivided w e way 2 new → IsLinked w → e < w.darts →
     a < w.darts → IsRectangle w angle a → IsRectangle new angle a
 split_four w e way angle a new s linked e_in l four =
-    let l2 : four.second < w.darts = Runs-inside w a four.second linked l four.to_second in
-    let l3 : four.third < w.darts = Runs-inside w four.second four.third linked l2 four.to_third in
-    let l4 : four.fourth < w.darts = Runs-inside w four.third four.fourth linked l3 four.to_fourth in
+    let l2 : four.second < w.darts = Stretches-inside w a four.second linked l four.to_second in
+    let l3 : four.third < w.darts = Stretches-inside w four.second four.third linked l2 four.to_third in
+    let l4 : four.fourth < w.darts = Stretches-inside w four.third four.fourth linked l3 four.to_fourth in
     record {
       second = four.second;
       third = four.third;
       fourth = four.fourth;
-      to_second = split_runs w e way a four.second new s linked e_in l four.to_second;
-      to_third = split_runs w e way four.second four.third new s linked e_in l2 four.to_third;
-      to_fourth = split_runs w e way four.third four.fourth new s linked e_in l3 four.to_fourth;
-      back = split_runs w e way four.fourth a new s linked e_in l4 four.back;
+      to_second = split_stretches w e way a four.second new s linked e_in l four.to_second;
+      to_third = split_stretches w e way four.second four.third new s linked e_in l2 four.to_third;
+      to_fourth = split_stretches w e way four.third four.fourth new s linked e_in l3 four.to_fourth;
+      back = split_stretches w e way four.fourth a new s linked e_in l4 four.back;
       angle_first = s.angle_old a l ∙ four.angle_first;
       angle_second = s.angle_old four.second l2 ∙ four.angle_second;
       angle_third = s.angle_old four.third l3 ∙ four.angle_third;
@@ -82,8 +82,8 @@ split_outside w o e way a new s linked e_in l outside = record {
 pub record IsHook (w : DartMap) (d c1 c f : ℕ) : Type 0 where
   pub cutting : IsCutting w d c f
   pub c1_in : c1 < w.darts
-  pub to_first : Runs w d c1
-  pub to_second : Runs w c1 c
+  pub to_first : Stretches w d c1
+  pub to_second : Stretches w c1 c
   pub left : w.angle c1 ≡ 1
   pub apart : c1 ≢ c
 
@@ -91,10 +91,10 @@ pub record IsHook (w : DartMap) (d c1 c f : ℕ) : Type 0 where
 pub corner_not_f : (w : DartMap) (d c f a : ℕ) → IsCutting w d c f → IsCorner w a → a ≢ f
 corner_not_f w d c f a here corner h = corner (ap w.angle h ∙ here.straight)
 
-pub chord_runs : (w : DartMap) (d c f way a b : ℕ) (new : DartMap) → IsChord w d f way new → IsLinked w → IsCutting w d c f →
-    a < w.darts → IsCorner w a → a ≢ d → a ≢ c → b ≢ d → Runs w a b → Runs new a b
-chord_runs w d c f way a b new s linked here l corner nd nc bd r =
-    chord_run w d c f way new s linked here r.places a b l nd nc (corner_not_f w d c f a here corner) bd r.run
+pub chord_stretches : (w : DartMap) (d c f way a b : ℕ) (new : DartMap) → IsChord w d f way new → IsLinked w → IsCutting w d c f →
+    a < w.darts → IsCorner w a → a ≢ d → a ≢ c → b ≢ d → Stretches w a b → Stretches new a b
+chord_stretches w d c f way a b new s linked here l corner nd nc bd r =
+    chord_stretch w d c f way new s linked here r.places a b l nd nc (corner_not_f w d c f a here corner) bd r.stretch
 
 -- a trail through corners that are not the cut's is kept
 pub chord_trail : (w : DartMap) (d c f way : ℕ) (new : DartMap) → IsChord w d f way new → IsLinked w → IsCutting w d c f →
@@ -102,8 +102,8 @@ pub chord_trail : (w : DartMap) (d c f way : ℕ) (new : DartMap) → IsChord w 
     Trail w a cs → Trail new a cs
 chord_trail w d c f way new s linked here a [] l corner nd nc clear trail = tt
 chord_trail w d c f way new s linked here a (b ∷ bs) l corner nd nc clear trail = (
-  chord_runs w d c f way a b new s linked here l corner nd nc clear.1 trail.0,
-  chord_trail w d c f way new s linked here b bs clear.0 (Runs-corner w a b trail.0) clear.1 clear.2 clear.3 trail.1,
+  chord_stretches w d c f way a b new s linked here l corner nd nc clear.1 trail.0,
+  chord_trail w d c f way new s linked here b bs clear.0 (Stretches-corner w a b trail.0) clear.1 clear.2 clear.3 trail.1,
 )
 
 pub clear_last : (n d c a : ℕ) (cs : List ℕ) → a < n → a ≢ d → a ≢ c → Clear n d c cs →
@@ -113,7 +113,7 @@ clear_last n d c a (b ∷ bs) l nd nc clear = clear_last n d c b bs clear.0 clea
 
 pub trail_corner : (w : DartMap) (a : ℕ) (cs : List ℕ) → IsCorner w a → Trail w a cs → IsCorner w (last_of a cs)
 trail_corner w a [] corner trail = corner
-trail_corner w a (b ∷ bs) corner trail = trail_corner w b bs (Runs-corner w a b trail.0) trail.1
+trail_corner w a (b ∷ bs) corner trail = trail_corner w b bs (Stretches-corner w a b trail.0) trail.1
 
 -- a ring through corners that are not the cut's is kept
 pub chord_ring : (w : DartMap) (d c f way : ℕ) (new : DartMap) → IsChord w d f way new → IsLinked w → IsCutting w d c f →
@@ -122,19 +122,19 @@ chord_ring w d c f way new s linked here [] clear ring = ring
 chord_ring w d c f way new s linked here (b ∷ bs) clear ring =
     let end = clear_last w.darts d c b bs clear.0 clear.1 clear.2 clear.3 in
     chord_trail w d c f way new s linked here (last_of b bs) (b ∷ bs) end.0
-    (trail_corner w b bs (Runs-corner w (last_of b bs) b ring.0) ring.1) end.1 end.2 clear ring
+    (trail_corner w b bs (Stretches-corner w (last_of b bs) b ring.0) ring.1) end.1 end.2 clear ring
 
 pub Clear-append : (n d c : ℕ) (xs ys : List ℕ) → Clear n d c xs → Clear n d c ys → Clear n d c (xs ++ ys)
 Clear-append n d c [] ys first second = second
 Clear-append n d c (x ∷ xs) ys first second = (first.0, first.1, first.2, Clear-append n d c xs ys first.3 second)
 
--- a run from c goes through f
-pub from_straight : (w : DartMap) (d c f b : ℕ) → IsCutting w d c f → Runs w c b → (k : ℕ) × RunsIn w k f b
-from_straight w d c f b here r = go w d c f b here r.places r.run
+-- a stretch from c goes through f
+pub from_straight : (w : DartMap) (d c f b : ℕ) → IsCutting w d c f → Stretches w c b → (k : ℕ) × StretchesIn w k f b
+from_straight w d c f b here r = go w d c f b here r.places r.stretch
   where
-    go : (w : DartMap) (d c f b : ℕ) → IsCutting w d c f → (k : ℕ) → RunsIn w k c b → (j : ℕ) × RunsIn w j f b
+    go : (w : DartMap) (d c f b : ℕ) → IsCutting w d c f → (k : ℕ) → StretchesIn w k c b → (j : ℕ) × StretchesIn w j f b
     go w d c f b here zero r = absurd (r.1 (ap w.angle (sym r.0 ∙ here.behind) ∙ here.straight))
-    go w d c f b here (suc k) r = (k, subst (λ (m : ℕ). RunsIn w k m b) here.behind r.1)
+    go w d c f b here (suc k) r = (k, subst (λ (m : ℕ). StretchesIn w k m b) here.behind r.1)
 
 -- a cut at the head of a ring takes c1 and c off it, and puts the chord in their place
 pub cut_ring : (w : DartMap) (d c1 c f way : ℕ) (rs : List ℕ) (new : DartMap) → IsChord w d f way new → IsLinked w →
@@ -142,22 +142,22 @@ pub cut_ring : (w : DartMap) (d c1 c f way : ℕ) (rs : List ℕ) (new : DartMap
     (IsCorner new d → Ring new (d ∷ w.darts ∷ rs)) × (new.angle d ≡ 2 → Ring new (w.darts ∷ rs))
 cut_ring w d c1 c f way [] new s linked hook clear ring =
     let here = hook.cutting in
-    let to_d : (k : ℕ) × RunsIn w k f d = from_straight w d c f d here ring.0 in
-    let both = chord_run_there_to w d c f way new s linked here to_d.0 to_d.1 in
-    let away : Runs new d w.darts = run_direct new d w.darts s.next_d (λ h. omega (arith, s.angle_there, h)) in
+    let to_d : (k : ℕ) × StretchesIn w k f d = from_straight w d c f d here ring.0 in
+    let both = chord_stretch_there_to w d c f way new s linked here to_d.0 to_d.1 in
+    let away : Stretches new d w.darts = stretch_direct new d w.darts s.next_d (λ h. omega (arith, s.angle_there, h)) in
     (λ corner. (both.0 corner, (away, tt)), λ straight. (both.1 straight, tt))
 cut_ring w d c1 c f way (b ∷ bs) new s linked hook clear ring =
     let here = hook.cutting in
-    let to_b : (k : ℕ) × RunsIn w k f b = from_straight w d c f b here ring.1.1.1.0 in
-    let from_x : Runs new w.darts b = chord_run_there w d c f way new s linked here to_b.0 b clear.1 to_b.1 in
-    let b_corner : IsCorner w b = Runs-corner w c b ring.1.1.1.0 in
+    let to_b : (k : ℕ) × StretchesIn w k f b = from_straight w d c f b here ring.1.1.1.0 in
+    let from_x : Stretches new w.darts b = chord_stretch_there w d c f way new s linked here to_b.0 b clear.1 to_b.1 in
+    let b_corner : IsCorner w b = Stretches-corner w c b ring.1.1.1.0 in
     let rest : Trail new b bs = chord_trail w d c f way new s linked here b bs clear.0 b_corner clear.1 clear.2 clear.3 ring.1.1.1.1 in
     let end = clear_last w.darts d c b bs clear.0 clear.1 clear.2 clear.3 in
     let end_corner : IsCorner w (last_of b bs) = trail_corner w b bs b_corner ring.1.1.1.1 in
-    let back : Runs w (last_of b bs) d = ring.0 in
-    let both = chord_run_to w d c f way new s linked here back.places (last_of b bs) end.0 end.1 end.2
-    (corner_not_f w d c f (last_of b bs) here end_corner) back.run in
-    let away : Runs new d w.darts = run_direct new d w.darts s.next_d (λ h. omega (arith, s.angle_there, h)) in
+    let back : Stretches w (last_of b bs) d = ring.0 in
+    let both = chord_stretch_to w d c f way new s linked here back.places (last_of b bs) end.0 end.1 end.2
+    (corner_not_f w d c f (last_of b bs) here end_corner) back.stretch in
+    let away : Stretches new d w.darts = stretch_direct new d w.darts s.next_d (λ h. omega (arith, s.angle_there, h)) in
     (λ corner. (both.0 corner, (away, (from_x, rest))), λ straight. (both.1 straight, (from_x, rest)))
 
 -- the same anywhere on a ring
@@ -188,10 +188,10 @@ cut_four w d c1 c f way new s linked hook dc =
       second = c;
       third = f;
       fourth = w.darts + 1;
-      to_second = chord_run w d c f way new s linked here hook.to_second.places c1 c hook.c1_in c1d hook.apart c1f cd hook.to_second.run;
-      to_third = run_direct new c f (s.next_other c here.c_in cd cf ∙ here.behind) (λ h. omega (arith, f_one, h));
-      to_fourth = run_direct new f (w.darts + 1) s.next_f (λ h. omega (arith, s.angle_back, h));
-      back = chord_run_back w d c f way new s linked here hook.to_first.places c1 c1d dc hook.to_first.run;
+      to_second = chord_stretch w d c f way new s linked here hook.to_second.places c1 c hook.c1_in c1d hook.apart c1f cd hook.to_second.stretch;
+      to_third = stretch_direct new c f (s.next_other c here.c_in cd cf ∙ here.behind) (λ h. omega (arith, f_one, h));
+      to_fourth = stretch_direct new f (w.darts + 1) s.next_f (λ h. omega (arith, s.angle_back, h));
+      back = chord_stretch_back w d c f way new s linked here hook.to_first.places c1 c1d dc hook.to_first.stretch;
       angle_first = s.angle_other c1 hook.c1_in c1d c1f ∙ hook.left;
       angle_second = s.angle_other c here.c_in cd cf ∙ here.left;
       angle_third = f_one;
@@ -217,16 +217,16 @@ four_turned w g a four = record {
 -- the corners of a box are not the cut's
 pub box_clear : (w : DartMap) (d c1 c f a : ℕ) → IsLinked w → IsHook w d c1 c f → a < w.darts → IsRectangle w 1 a → (a ≢ d) × (a ≢ c)
 box_clear w d c1 c f a linked hook l four =
-    let l2 : four.second < w.darts = Runs-inside w a four.second linked l four.to_second in
-    let l3 : four.third < w.darts = Runs-inside w four.second four.third linked l2 four.to_third in
-    let l4 : four.fourth < w.darts = Runs-inside w four.third four.fourth linked l3 four.to_fourth in (
+    let l2 : four.second < w.darts = Stretches-inside w a four.second linked l four.to_second in
+    let l3 : four.third < w.darts = Stretches-inside w four.second four.third linked l2 four.to_third in
+    let l4 : four.fourth < w.darts = Stretches-inside w four.third four.fourth linked l3 four.to_fourth in (
       λ h. omega (arith, ap w.angle h, four.angle_first, hook.cutting.right),
       λ h.
-          let to_c : Runs w four.fourth c = subst (λ (b : ℕ). Runs w four.fourth b) h four.back in
-          let is_c1 : four.fourth ≡ c1 = Runs-from_one w four.fourth c1 c linked l4 hook.c1_in
+          let to_c : Stretches w four.fourth c = subst (λ (b : ℕ). Stretches w four.fourth b) h four.back in
+          let is_c1 : four.fourth ≡ c1 = Stretches-from_one w four.fourth c1 c linked l4 hook.c1_in
           (λ e. omega (arith, four.angle_fourth, e)) (λ e. omega (arith, hook.left, e)) to_c hook.to_second in
-          let to_c1 : Runs w four.third c1 = subst (λ (b : ℕ). Runs w four.third b) is_c1 four.to_fourth in
-          let is_d : four.third ≡ d = Runs-from_one w four.third d c1 linked l3 hook.cutting.d_in
+          let to_c1 : Stretches w four.third c1 = subst (λ (b : ℕ). Stretches w four.third b) is_c1 four.to_fourth in
+          let is_d : four.third ≡ d = Stretches-from_one w four.third d c1 linked l3 hook.cutting.d_in
           (λ e. omega (arith, four.angle_third, e)) (λ e. omega (arith, hook.cutting.right, e)) to_c1 hook.to_first in
           omega (arith, ap w.angle is_d, four.angle_third, hook.cutting.right),
     )
@@ -235,8 +235,8 @@ box_clear w d c1 c f a linked hook l four =
 pub surround_clear : (w : DartMap) (d c1 c f a : ℕ) → IsHook w d c1 c f → IsRectangle w 3 a → (a ≢ d) × (a ≢ c)
 surround_clear w d c1 c f a hook four = (
   λ h.
-      let from_d : Runs w d four.second = subst (λ (b : ℕ). Runs w b four.second) h four.to_second in
-      let is_c1 : four.second ≡ c1 = Runs-one w d four.second c1 from_d hook.to_first in
+      let from_d : Stretches w d four.second = subst (λ (b : ℕ). Stretches w b four.second) h four.to_second in
+      let is_c1 : four.second ≡ c1 = Stretches-one w d four.second c1 from_d hook.to_first in
       omega (arith, ap w.angle is_c1, four.angle_second, hook.left),
   λ h. omega (arith, ap w.angle h, four.angle_first, hook.cutting.left),
 )
@@ -245,9 +245,9 @@ pub chord_four : (w : DartMap) (d c f way g a : ℕ) (new : DartMap) → IsChord
     a < w.darts → g ≢ 2 → (four : IsRectangle w g a) → (a ≢ d) × (a ≢ c) → (four.second ≢ d) × (four.second ≢ c) →
     (four.third ≢ d) × (four.third ≢ c) → (four.fourth ≢ d) × (four.fourth ≢ c) → IsRectangle new g a
 chord_four w d c f way g a new s linked here l turns four clear1 clear2 clear3 clear4 =
-    let l2 : four.second < w.darts = Runs-inside w a four.second linked l four.to_second in
-    let l3 : four.third < w.darts = Runs-inside w four.second four.third linked l2 four.to_third in
-    let l4 : four.fourth < w.darts = Runs-inside w four.third four.fourth linked l3 four.to_fourth in
+    let l2 : four.second < w.darts = Stretches-inside w a four.second linked l four.to_second in
+    let l3 : four.third < w.darts = Stretches-inside w four.second four.third linked l2 four.to_third in
+    let l4 : four.fourth < w.darts = Stretches-inside w four.third four.fourth linked l3 four.to_fourth in
     let c_1 : IsCorner w a = λ h. turns (sym four.angle_first ∙ h) in
     let c_2 : IsCorner w four.second = λ h. turns (sym four.angle_second ∙ h) in
     let c_3 : IsCorner w four.third = λ h. turns (sym four.angle_third ∙ h) in
@@ -256,10 +256,10 @@ chord_four w d c f way g a new s linked here l turns four clear1 clear2 clear3 c
       second = four.second;
       third = four.third;
       fourth = four.fourth;
-      to_second = chord_runs w d c f way a four.second new s linked here l c_1 clear1.0 clear1.1 clear2.0 four.to_second;
-      to_third = chord_runs w d c f way four.second four.third new s linked here l2 c_2 clear2.0 clear2.1 clear3.0 four.to_third;
-      to_fourth = chord_runs w d c f way four.third four.fourth new s linked here l3 c_3 clear3.0 clear3.1 clear4.0 four.to_fourth;
-      back = chord_runs w d c f way four.fourth a new s linked here l4 c_4 clear4.0 clear4.1 clear1.0 four.back;
+      to_second = chord_stretches w d c f way a four.second new s linked here l c_1 clear1.0 clear1.1 clear2.0 four.to_second;
+      to_third = chord_stretches w d c f way four.second four.third new s linked here l2 c_2 clear2.0 clear2.1 clear3.0 four.to_third;
+      to_fourth = chord_stretches w d c f way four.third four.fourth new s linked here l3 c_3 clear3.0 clear3.1 clear4.0 four.to_fourth;
+      back = chord_stretches w d c f way four.fourth a new s linked here l4 c_4 clear4.0 clear4.1 clear1.0 four.back;
       angle_first = s.angle_other a l clear1.0 (corner_not_f w d c f a here c_1) ∙ four.angle_first;
       angle_second = s.angle_other four.second l2 clear2.0 (corner_not_f w d c f four.second here c_2) ∙ four.angle_second;
       angle_third = s.angle_other four.third l3 clear3.0 (corner_not_f w d c f four.third here c_3) ∙ four.angle_third;
@@ -270,9 +270,9 @@ chord_four w d c f way g a new s linked here l turns four clear1 clear2 clear3 c
 pub cut_box : (w : DartMap) (d c1 c f way a : ℕ) (new : DartMap) → IsChord w d f way new → IsLinked w → IsHook w d c1 c f →
     a < w.darts → IsRectangle w 1 a → IsRectangle new 1 a
 cut_box w d c1 c f way a new s linked hook l four =
-    let l2 : four.second < w.darts = Runs-inside w a four.second linked l four.to_second in
-    let l3 : four.third < w.darts = Runs-inside w four.second four.third linked l2 four.to_third in
-    let l4 : four.fourth < w.darts = Runs-inside w four.third four.fourth linked l3 four.to_fourth in
+    let l2 : four.second < w.darts = Stretches-inside w a four.second linked l four.to_second in
+    let l3 : four.third < w.darts = Stretches-inside w four.second four.third linked l2 four.to_third in
+    let l4 : four.fourth < w.darts = Stretches-inside w four.third four.fourth linked l3 four.to_fourth in
     let two = four_turned w 1 a four in
     let three = four_turned w 1 four.second two in
     let last = four_turned w 1 four.third three in

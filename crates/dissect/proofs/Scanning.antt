@@ -5,7 +5,7 @@ use Rattle.common.specs.Sums.{sum_below}
 use Rattle.common.proofs.Sums.{sum_below-more, sum_below-changed, sum_below-member}
 use Rattle.dissect.specs.Turning.{total, Rising, Hopeful}
 use Rattle.dissect.specs.DartMaps.{DartMap, IsLinked, IsSubdivided, IsChord, Fits, IsSound, IsCut, further, reflex_turns}
-use Rattle.dissect.specs.Faces.{IsCorner, RunsIn, Runs, Trail, last_of, Ring, In, Distinct, Below, joined, AreWaiting}
+use Rattle.dissect.specs.Faces.{IsCorner, StretchesIn, Stretches, Trail, last_of, Ring, In, Distinct, Below, joined, AreWaiting}
 use Rattle.dissect.specs.Scan.{down, IsScan, CanCut, HasRoom}
 use Rattle.dissect.proofs.Splitting.{split_linked, split_meeting, split_straight}
 use Rattle.dissect.proofs.Chords.{chord_linked, chord_meeting, chord_straight}
@@ -14,10 +14,10 @@ use Rattle.dissect.proofs.LeftTurns.{hopeful_reads, hopeful_cut_straight, hopefu
 use Rattle.dissect.proofs.Listing.{in_right, in_below, below_left, below_right, distinct_left, distinct_right, distinct_apart}
 use Rattle.dissect.proofs.Waiting.{IsBite, kept_waiting, gone_waiting, bite_angle, bite_angle_d}
 
--- along a run directions stay
-pub run_direction : (w : DartMap) → IsSound w → (k a b : ℕ) → a < w.darts → RunsIn w k a b →
+-- along a stretch directions stay
+pub stretch_direction : (w : DartMap) → IsSound w → (k a b : ℕ) → a < w.darts → StretchesIn w k a b →
     (w.direction b + w.angle a) % 4 ≡ (w.direction a + 2) % 4
-run_direction w sound k a b l r =
+stretch_direction w sound k a b l r =
     let next_in : w.next a < w.darts = sound.linked.next_in a l in
     let across = sound.straight (w.next a) next_in in
     let turns = sound.meeting.turns a l in
@@ -26,7 +26,7 @@ run_direction w sound k a b l r =
     let step : (w.direction (w.next a) + w.angle a) % 4 ≡ (w.direction a + 2) % 4 = omega (arith, across, turns, q1, q2) in
     go w sound k a b l r step
   where
-    go : (w : DartMap) → IsSound w → (k a b : ℕ) → a < w.darts → RunsIn w k a b →
+    go : (w : DartMap) → IsSound w → (k a b : ℕ) → a < w.darts → StretchesIn w k a b →
         (w.direction (w.next a) + w.angle a) % 4 ≡ (w.direction a + 2) % 4 →
         (w.direction b + w.angle a) % 4 ≡ (w.direction a + 2) % 4
     go w sound zero a b l r step = subst (λ (m : ℕ). (w.direction m + w.angle a) % 4 ≡ (w.direction a + 2) % 4) r.0 step
@@ -40,11 +40,11 @@ run_direction w sound k a b l r =
         omega (arith, rest, r.0, step)
 
 -- a right and two lefts behind it lead back along the right's way
-pub hook_faces : (w : DartMap) (d c1 c : ℕ) → IsSound w → d < w.darts → c1 < w.darts → c < w.darts → Runs w d c1 → Runs w c1 c →
+pub hook_faces : (w : DartMap) (d c1 c : ℕ) → IsSound w → d < w.darts → c1 < w.darts → c < w.darts → Stretches w d c1 → Stretches w c1 c →
     w.angle c1 ≡ 1 → w.angle c ≡ 1 → (w.direction (w.next c) + w.angle d) % 4 ≡ w.direction d
 hook_faces w d c1 c sound d_in c1_in c_in to_first to_second left_first left =
-    let one = run_direction w sound to_first.places d c1 d_in to_first.run in
-    let two = run_direction w sound to_second.places c1 c c1_in to_second.run in
+    let one = stretch_direction w sound to_first.places d c1 d_in to_first.stretch in
+    let two = stretch_direction w sound to_second.places c1 c c1_in to_second.stretch in
     let n_in : w.next c < w.darts = sound.linked.next_in c c_in in
     let three : (w.direction (w.next c) + w.angle c) % 4 ≡ (w.direction c + 2) % 4 =
     omega (arith, sound.straight (w.next c) n_in, sound.meeting.turns c c_in, sound.meeting.quarter (w.next c) n_in, sound.meeting.quarter c c_in) in
@@ -148,10 +148,10 @@ scan_reads w0 w face c st rest scan = record {
     length-map_angle w [] = refl
     length-map_angle w (x ∷ xs) = ap suc (length-map_angle w xs)
 
-pub ring_runs : (w : DartMap) (before : List ℕ) (d c1 c : ℕ) (rest : List ℕ) → Ring w (before ++ (d ∷ c1 ∷ c ∷ rest)) →
-    Runs w d c1 × Runs w c1 c
-ring_runs w [] d c1 c rest ring = (ring.1.0, ring.1.1.0)
-ring_runs w (b ∷ bs) d c1 c rest ring =
+pub ring_stretches : (w : DartMap) (before : List ℕ) (d c1 c : ℕ) (rest : List ℕ) → Ring w (before ++ (d ∷ c1 ∷ c ∷ rest)) →
+    Stretches w d c1 × Stretches w c1 c
+ring_stretches w [] d c1 c rest ring = (ring.1.0, ring.1.1.0)
+ring_stretches w (b ∷ bs) d c1 c rest ring =
     let trail : Trail w (last_of (last_of b (bs ++ (d ∷ c1 ∷ c ∷ rest))) (b ∷ bs)) (d ∷ c1 ∷ c ∷ rest) =
     trail_rest w (last_of b (bs ++ (d ∷ c1 ∷ c ∷ rest))) (b ∷ bs) (d ∷ c1 ∷ c ∷ rest) ring in
     (trail.1.0, trail.1.1.0)
@@ -163,7 +163,7 @@ pub scan_bites : (w0 : DartMap) (face : List ℕ) (w : DartMap) (d c1 c way : �
 scan_bites w0 face w d c1 c way st rest o rs new scan wait left_first left cut =
     let waiting = scan.waiting o rs wait in
     let same : down st (d ∷ c1 ∷ c ∷ rest) ≡ down st [] ++ (d ∷ c1 ∷ c ∷ rest) = down_append st (d ∷ c1 ∷ c ∷ rest) in
-    let runs = ring_runs w (down st []) d c1 c rest (subst (Ring w) same waiting.rings.0.0) in
+    let stretches = ring_stretches w (down st []) d c1 c rest (subst (Ring w) same waiting.rings.0.0) in
     let below : Below w.darts (down st [] ++ (d ∷ c1 ∷ c ∷ rest)) =
     subst (Below w.darts) same (below_left w.darts (down st (d ∷ c1 ∷ c ∷ rest)) (joined rs) waiting.below) in
     let distinct : Distinct (down st [] ++ (d ∷ c1 ∷ c ∷ rest)) =
@@ -175,8 +175,8 @@ scan_bites w0 face w d c1 c way st rest o rs new scan wait left_first left cut =
       cut = cut;
       c1_in = tail.1.0;
       c_in = tail.1.1.0;
-      to_first = runs.0;
-      to_second = runs.1;
+      to_first = stretches.0;
+      to_second = stretches.1;
       left_first = left_first;
       left = left;
       apart = λ h. apart.1.0 (inl h);
@@ -190,7 +190,7 @@ pub scan_can : (w0 : DartMap) (face : List ℕ) (w : DartMap) (d c1 c : ℕ) (st
 scan_can w0 face w d c1 c st rest o rs scan wait left_first left right =
     let waiting = scan.waiting o rs wait in
     let same : down st (d ∷ c1 ∷ c ∷ rest) ≡ down st [] ++ (d ∷ c1 ∷ c ∷ rest) = down_append st (d ∷ c1 ∷ c ∷ rest) in
-    let runs = ring_runs w (down st []) d c1 c rest (subst (Ring w) same waiting.rings.0.0) in
+    let stretches = ring_stretches w (down st []) d c1 c rest (subst (Ring w) same waiting.rings.0.0) in
     let below : Below w.darts (down st [] ++ (d ∷ c1 ∷ c ∷ rest)) =
     subst (Below w.darts) same (below_left w.darts (down st (d ∷ c1 ∷ c ∷ rest)) (joined rs) waiting.below) in
     let tail = below_right w.darts (down st []) (d ∷ c1 ∷ c ∷ rest) below in
@@ -198,7 +198,7 @@ scan_can w0 face w d c1 c st rest o rs scan wait left_first left right =
       d_in = tail.0;
       c_in = tail.1.1.0;
       right = right;
-      faces = hook_faces w d c1 c scan.sound tail.0 tail.1.0 tail.1.1.0 runs.0 runs.1 left_first left;
+      faces = hook_faces w d c1 c scan.sound tail.0 tail.1.0 tail.1.1.0 stretches.0 stretches.1 left_first left;
     }
 
 pub map_kept : (w : DartMap) (d c1 c e way : ℕ) (new : DartMap) → IsBite w d c1 c e way new → (xs : List ℕ) → Below w.darts xs →

@@ -5,7 +5,7 @@ use Rattle.std.proofs.lemmas.Bool.{cases_eq, cases_Bool, eq-eqb, ne_eqb}
 use Rattle.common.specs.Sums.{sum_below}
 use Rattle.common.proofs.Sums.{sum_below-same, sum_below-none, sum_below-add, sum_below-one}
 use Rattle.dissect.specs.DartMaps.{DartMap, IsLinked}
-use Rattle.dissect.specs.Faces.{Runs, Trail, In, Distinct, Below, TurnsOnce, ReachesCorners}
+use Rattle.dissect.specs.Faces.{Stretches, Trail, In, Distinct, Below, TurnsOnce, ReachesCorners}
 use Rattle.dissect.specs.Turning.{total}
 use Rattle.dissect.specs.FaceNumbers.{AreFaceNumbers, darts_round, angles_round, HasTurns}
 use Rattle.dissect.specs.Walks.{steps, path, turning, IsOrbit}
@@ -134,7 +134,7 @@ turns_reach w label outer linked turns = λ a l.
     let orbit = orbit_of w linked a l in
     first w a (turning w (path w a orbit.0)) (path_trail w a orbit.0) (some a l orbit.0 orbit.1)
   where
-    first : (w : DartMap) (a : ℕ) (cs : List ℕ) → Trail w a cs → 0 < length cs → (c : ℕ) × Runs w a c
+    first : (w : DartMap) (a : ℕ) (cs : List ℕ) → Trail w a cs → 0 < length cs → (c : ℕ) × Stretches w a c
     first w a [] trail more = absurd (omega arith)
     first w a (c ∷ cs) trail more = (c, trail.0)
 

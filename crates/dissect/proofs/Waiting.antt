@@ -3,9 +3,9 @@ use Rattle.std.proofs.Common.{◌≡◌, ◌≢◌, ◌⊎◌, ℕ, ◌+◌, ◌
 use Rattle.std.proofs.lemmas.Bool.{cases_eq}
 use Rattle.dissect.specs.Turning.{total}
 use Rattle.dissect.specs.DartMaps.{DartMap, IsLinked, IsCut}
-use Rattle.dissect.specs.Faces.{IsCorner, Runs, last_of, Ring, IsRectangle, IsOutside, In, Distinct, Below, joined, TurnsOnce, AreRings, AreWaiting}
+use Rattle.dissect.specs.Faces.{IsCorner, Stretches, last_of, Ring, IsRectangle, IsOutside, In, Distinct, Below, joined, TurnsOnce, AreRings, AreWaiting}
 use Rattle.dissect.proofs.Splitting.{split_linked, by_age}
-use Rattle.dissect.proofs.Running.{split_runs}
+use Rattle.dissect.proofs.Stretching.{split_stretches}
 use Rattle.dissect.proofs.Rings.{Clear, IsHook, split_ring, split_four, chord_ring, cut_ring_within, split_outside, cut_boxes, cut_box, cut_outside}
 use Rattle.dissect.proofs.Listing.{in_left, in_right, in_below, below_left, below_right, distinct_right, distinct_apart, still_in, gone_distinct, kept_distinct, gone_below, kept_below}
 
@@ -15,8 +15,8 @@ pub record IsBite (w : DartMap) (d c1 c e way : ℕ) (new : DartMap) : Type 0 wh
   pub cut : IsCut w d e way new
   pub c1_in : c1 < w.darts
   pub c_in : c < w.darts
-  pub to_first : Runs w d c1
-  pub to_second : Runs w c1 c
+  pub to_first : Stretches w d c1
+  pub to_second : Stretches w c1 c
   pub left_first : w.angle c1 ≡ 1
   pub left : w.angle c ≡ 1
   pub apart : c1 ≢ c
@@ -38,8 +38,8 @@ hook_of w d c1 c e way new bite =
         behind = ap cut.middle.next (sym (bite.linked.next_back c bite.c_in) ∙ ap w.prev bite.behind) ∙ s.next_before;
       };
       c1_in = omega (arith, s.darts, bite.c1_in);
-      to_first = split_runs w e (w.direction e) d c1 cut.middle s bite.linked cut.e_in cut.d_in bite.to_first;
-      to_second = split_runs w e (w.direction e) c1 c cut.middle s bite.linked cut.e_in bite.c1_in bite.to_second;
+      to_first = split_stretches w e (w.direction e) d c1 cut.middle s bite.linked cut.e_in cut.d_in bite.to_first;
+      to_second = split_stretches w e (w.direction e) c1 c cut.middle s bite.linked cut.e_in bite.c1_in bite.to_second;
       left = s.angle_old c1 bite.c1_in ∙ bite.left_first;
       apart = bite.apart;
     }

@@ -8,19 +8,19 @@ abbrev pub IsCorner : DartMap → ℕ → Type 0
 IsCorner w a = w.angle a ≢ 2
 
 -- from the dart a the walk goes straight through k darts, and the one behind them is the corner c
-abbrev pub RunsIn : DartMap → ℕ → ℕ → ℕ → Type 0
-RunsIn w zero a c = (w.next a ≡ c) × IsCorner w c
-RunsIn w (suc k) a c = (w.angle (w.next a) ≡ 2) × RunsIn w k (w.next a) c
+abbrev pub StretchesIn : DartMap → ℕ → ℕ → ℕ → Type 0
+StretchesIn w zero a c = (w.next a ≡ c) × IsCorner w c
+StretchesIn w (suc k) a c = (w.angle (w.next a) ≡ 2) × StretchesIn w k (w.next a) c
 
 -- the next corner behind the dart a is c
-pub record Runs (w : DartMap) (a c : ℕ) : Type 0 where
+pub record Stretches (w : DartMap) (a c : ℕ) : Type 0 where
   pub places : ℕ
-  pub run : RunsIn w places a c
+  pub stretch : StretchesIn w places a c
 
 -- from a the walk turns at each dart of the list, in order, and nowhere else up to the last of them
 abbrev pub Trail : DartMap → ℕ → List ℕ → Type 0
 Trail w a [] = Unit {0}
-Trail w a (c ∷ cs) = Runs w a c × Trail w c cs
+Trail w a (c ∷ cs) = Stretches w a c × Trail w c cs
 
 -- the last of a list, and `a` where it is empty
 abbrev pub last_of : ℕ → List ℕ → ℕ
@@ -42,10 +42,10 @@ pub record IsRectangle (w : DartMap) (angle c : ℕ) : Type 0 where
   pub second : ℕ
   pub third : ℕ
   pub fourth : ℕ
-  pub to_second : Runs w c second
-  pub to_third : Runs w second third
-  pub to_fourth : Runs w third fourth
-  pub back : Runs w fourth c
+  pub to_second : Stretches w c second
+  pub to_third : Stretches w second third
+  pub to_fourth : Stretches w third fourth
+  pub back : Stretches w fourth c
   pub angle_first : w.angle c ≡ angle
   pub angle_second : w.angle second ≡ angle
   pub angle_third : w.angle third ≡ angle
@@ -58,7 +58,7 @@ pub record IsOutside (w : DartMap) (o a : ℕ) : Type 0 where
 
 -- each dart of the map comes to a corner
 abbrev pub ReachesCorners : DartMap → Type 0
-ReachesCorners w = (a : ℕ) → a < w.darts → (c : ℕ) × Runs w a c
+ReachesCorners w = (a : ℕ) → a < w.darts → (c : ℕ) × Stretches w a c
 
 -- no dart is on the list twice
 abbrev pub Distinct : List ℕ → Type 0

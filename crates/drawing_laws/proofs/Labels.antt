@@ -2,7 +2,7 @@
 use Rattle.std.proofs.Common.{◌≡◌, ◌≢◌, ℕ, zero, suc, ◌+◌, ◌%◌, ◌<◌, ◌≤◌, ◌⊎◌, Bool, arith, refl, sym, ap, ◌∙◌, subst, inl, inr}
 use Rattle.std.proofs.lemmas.Bool.{cases_eq}
 use Rattle.dissect.specs.DartMaps.{DartMap, IsSound}
-use Rattle.dissect.specs.Faces.{IsCorner, RunsIn, Runs}
+use Rattle.dissect.specs.Faces.{IsCorner, StretchesIn, Stretches}
 use Rattle.dissect.specs.Boxes.{IsCutUp}
 use Rattle.drawing_laws.proofs.Sides.{Keeps, IsOn, on_itself}
 use Rattle.drawing_laws.proofs.Rounds.{IsRound, AreFaces, are_faces, box_same}
@@ -48,9 +48,9 @@ choose (suc n) P each =
       ],
     )
 
-run_behind : (w : DartMap) (k a c : ℕ) → RunsIn w k a c → Keeps w k (w.next a) c
-run_behind w zero a c run = run.0
-run_behind w (suc k) a c run = (run.0, run_behind w k (w.next a) c run.1)
+stretch_behind : (w : DartMap) (k a c : ℕ) → StretchesIn w k a c → Keeps w k (w.next a) c
+stretch_behind w zero a c stretch = stretch.0
+stretch_behind w (suc k) a c stretch = (stretch.0, stretch_behind w k (w.next a) c stretch.1)
 
 keeps_one : (w : DartMap) (j k a b c : ℕ) → IsCorner w b → IsCorner w c → Keeps w j a b → Keeps w k a c → b ≡ c
 keeps_one w zero zero a b c cb cc one two = sym one ∙ two
@@ -86,10 +86,10 @@ module _ (w : DartMap) (sound : IsSound w) (faces : AreFaces w) where
       let s : ℕ = (side + ahead) % 4 in
       let s_few : s < 4 = omega arith in
       let from : (s + back) % 4 ≡ side = omega (arith, four, few) in
-      let run = round.sides s s_few in
+      let stretch = round.sides s s_few in
       let at : corner ((s + back) % 4) ≡ a = ap corner from ∙ sym keeps in
-      let run' : Runs w a (corner s) = subst (λ (c : ℕ). Runs w c (corner s)) at run in
-      record { round = round; side = s; few = s_few; on = record { places = run'.places; keeps = run_behind w run'.places a (corner s) run'.run } }
+      let stretch' : Stretches w a (corner s) = subst (λ (c : ℕ). Stretches w c (corner s)) at stretch in
+      record { round = round; side = s; few = s_few; on = record { places = stretch'.places; keeps = stretch_behind w stretch'.places a (corner s) stretch'.stretch } }
   next_of back ahead angle corner four round (suc k) a side few keeps =
       record { round = round; side = side; few = few; on = record { places = k; keeps = keeps.1 } }
 
@@ -161,12 +161,12 @@ module _ (w : DartMap) (sound : IsSound w) (faces : AreFaces w) where
     held_keeps zero a c a_in keeps = ap s keeps
     held_keeps (suc k) a c a_in keeps = sym (of a a_in) ∙ held_keeps k (w.next a) c (sound.linked.next_in a a_in) keeps.1
 
-    held_runs : (a c : ℕ) → a < w.darts → Runs w a c → s a ≡ s c
-    held_runs a c a_in run = sym (of a a_in) ∙ held_keeps run.places (w.next a) c (sound.linked.next_in a a_in) (run_behind w run.places a c run.run)
+    held_stretches : (a c : ℕ) → a < w.darts → Stretches w a c → s a ≡ s c
+    held_stretches a c a_in stretch = sym (of a a_in) ∙ held_keeps stretch.places (w.next a) c (sound.linked.next_in a a_in) (stretch_behind w stretch.places a c stretch.stretch)
 
     held_side : (back angle : ℕ) (corner : ℕ → ℕ) → IsRound w back angle corner → (k : ℕ) → k < 4 → s (corner ((k + back) % 4)) ≡ s (corner k)
     held_side back angle corner round k few =
-        held_runs (corner ((k + back) % 4)) (corner k) (round.inside ((k + back) % 4) (omega arith)) (round.sides k few)
+        held_stretches (corner ((k + back) % 4)) (corner k) (round.inside ((k + back) % 4) (omega arith)) (round.sides k few)
 
     held_box : (corner : ℕ → ℕ) → IsRound w 3 1 corner → (k : ℕ) → k < 4 → s (corner k) ≡ s (corner 1)
     held_box corner round zero few = held_side 3 1 corner round 1 (omega arith)

@@ -1,7 +1,7 @@
 -- A map whose directions are all turned by so many quarters is one of the same kind.
 use Rattle.std.proofs.Common.{ℕ, zero, suc, ◌+◌, ◌%◌, arith, inl, inr}
 use Rattle.dissect.specs.DartMaps.{DartMap, IsSound}
-use Rattle.dissect.specs.Faces.{RunsIn, Runs, IsRectangle}
+use Rattle.dissect.specs.Faces.{StretchesIn, Stretches, IsRectangle}
 use Rattle.dissect.specs.Boxes.{IsCutUp}
 
 abbrev pub rotated : DartMap → ℕ → DartMap
@@ -40,22 +40,22 @@ rotated_sound w r sound = record {
   straight = λ a l. omega (arith, sound.straight a l);
 }
 
-run : (w : DartMap) (r k a c : ℕ) → RunsIn w k a c → RunsIn (rotated w r) k a c
-run w r zero a c is = is
-run w r (suc k) a c is = (is.0, run w r k (w.next a) c is.1)
+stretch : (w : DartMap) (r k a c : ℕ) → StretchesIn w k a c → StretchesIn (rotated w r) k a c
+stretch w r zero a c is = is
+stretch w r (suc k) a c is = (is.0, stretch w r k (w.next a) c is.1)
 
-pub runs : (w : DartMap) (r a c : ℕ) → Runs w a c → Runs (rotated w r) a c
-runs w r a c is = record { places = is.places; run = run w r is.places a c is.run }
+pub stretches : (w : DartMap) (r a c : ℕ) → Stretches w a c → Stretches (rotated w r) a c
+stretches w r a c is = record { places = is.places; stretch = stretch w r is.places a c is.stretch }
 
 abbrev pub rectangle : (w : DartMap) (r g a : ℕ) → IsRectangle w g a → IsRectangle (rotated w r) g a
 rectangle w r g a is = record {
   second = is.second;
   third = is.third;
   fourth = is.fourth;
-  to_second = runs w r a is.second is.to_second;
-  to_third = runs w r is.second is.third is.to_third;
-  to_fourth = runs w r is.third is.fourth is.to_fourth;
-  back = runs w r is.fourth a is.back;
+  to_second = stretches w r a is.second is.to_second;
+  to_third = stretches w r is.second is.third is.to_third;
+  to_fourth = stretches w r is.third is.fourth is.to_fourth;
+  back = stretches w r is.fourth a is.back;
   angle_first = is.angle_first;
   angle_second = is.angle_second;
   angle_third = is.angle_third;
@@ -64,7 +64,7 @@ rectangle w r g a is = record {
 
 abbrev pub rotated_cut : (w : DartMap) (r : ℕ) → IsCutUp w → IsCutUp (rotated w r)
 rotated_cut w r cut = record {
-  reaches = λ a l. let (c, is) = cut.reaches a l in (c, runs w r a c is);
+  reaches = λ a l. let (c, is) = cut.reaches a l in (c, stretches w r a c is);
   outside = cut.outside;
   outside_in = cut.outside_in;
   around = rectangle w r 3 cut.outside cut.around;

@@ -2,17 +2,17 @@
 use Rattle.std.proofs.Common.{◌≡◌, ℕ, zero, suc, ◌+◌, ◌%◌, ◌<◌, ◌⊎◌, ◌∙◌, [], ◌∷◌, arith, subst, sym, ap, refl, inl, inr}
 use Rattle.std.proofs.lemmas.Bool.{cases_eq}
 use Rattle.dissect.specs.DartMaps.{DartMap, IsSound}
-use Rattle.dissect.specs.Faces.{In, IsCorner, Runs, IsRectangle, ReachesCorners}
-use Rattle.dissect.proofs.Running.{Runs-one, Runs-inside, Runs-corner}
+use Rattle.dissect.specs.Faces.{In, IsCorner, Stretches, IsRectangle, ReachesCorners}
+use Rattle.dissect.proofs.Stretching.{Stretches-one, Stretches-inside, Stretches-corner}
 use Rattle.dissect.specs.Boxes.{IsCutUp}
-use Rattle.drawing_laws.proofs.Sides.{IsOn, on_itself, run_keeps, run_way}
+use Rattle.drawing_laws.proofs.Sides.{IsOn, on_itself, stretch_keeps, stretch_way}
 
 -- the walk arrives at corner k in the direction k, with this angle; the corner before it is `back` directions further, or 4 less
 pub record IsRound (w : DartMap) (back angle : ℕ) (corner : ℕ → ℕ) : Type 0 where
   pub inside : (k : ℕ) → k < 4 → corner k < w.darts
   pub ways : (k : ℕ) → k < 4 → w.direction (corner k) ≡ k
   pub angles : (k : ℕ) → k < 4 → w.angle (corner k) ≡ angle
-  pub sides : (k : ℕ) → k < 4 → Runs w (corner ((k + back) % 4)) (corner k)
+  pub sides : (k : ℕ) → k < 4 → Stretches w (corner ((k + back) % 4)) (corner k)
 
 -- each face is a box, round which the walk turns left, but for one, round which it turns right
 pub record AreFaces (w : DartMap) : Type 0 where
@@ -71,8 +71,8 @@ HoldsAll w d a r =
 module _ (w : DartMap) (sound : IsSound w) where
   seconds : (g a : ℕ) → a < w.darts → (r : IsRectangle w g a) → (r.second < w.darts) × ((w.direction r.second + 2 + g) % 4 ≡ w.direction a)
   seconds g a a_in r = (
-    Runs-inside w a r.second sound.linked a_in r.to_second,
-    (let way = run_way w sound a r.second a_in r.to_second in omega (arith, way, r.angle_first)),
+    Stretches-inside w a r.second sound.linked a_in r.to_second,
+    (let way = stretch_way w sound a r.second a_in r.to_second in omega (arith, way, r.angle_first)),
   )
 
   -- ---- a box
@@ -93,7 +93,7 @@ module _ (w : DartMap) (sound : IsSound w) where
             (omega (arith, way, two.1, q r.second two.0))
             (omega (arith, way, two.1, three.1, q r.second two.0, q r.third three.0));
         angles = by_four (λ k. w.angle (four_of r.fourth a r.second r.third k) ≡ 1) r.angle_fourth r.angle_first r.angle_second r.angle_third;
-        sides = by_four (λ k. Runs w (four_of r.fourth a r.second r.third ((k + 3) % 4)) (four_of r.fourth a r.second r.third k))
+        sides = by_four (λ k. Stretches w (four_of r.fourth a r.second r.third ((k + 3) % 4)) (four_of r.fourth a r.second r.third k))
             r.to_fourth r.back r.to_second r.to_third;
       }
 
@@ -145,7 +145,7 @@ module _ (w : DartMap) (sound : IsSound w) where
             (omega (arith, way, two.1, three.1, four.1, q r.second two.0, q r.third three.0, q r.fourth four.0))
             (omega (arith, way, two.1, three.1, q r.second two.0, q r.third three.0));
         angles = by_four (λ k. w.angle (four_of r.second a r.fourth r.third k) ≡ 3) r.angle_second r.angle_first r.angle_fourth r.angle_third;
-        sides = by_four (λ k. Runs w (four_of r.second a r.fourth r.third ((k + 1) % 4)) (four_of r.second a r.fourth r.third k))
+        sides = by_four (λ k. Stretches w (four_of r.second a r.fourth r.third ((k + 1) % 4)) (four_of r.second a r.fourth r.third k))
             r.to_second r.back r.to_fourth r.to_third;
       }
 
@@ -199,7 +199,7 @@ round_step : (w : DartMap) (back angle k m : ℕ) (one two : ℕ → ℕ) → Is
     → (m + back) % 4 ≡ k → one k ≡ two k → one m ≡ two m
 round_step w back angle k m one two a b few is same =
     let at : one ((m + back) % 4) ≡ two ((m + back) % 4) = ap one is ∙ same ∙ sym (ap two is) in
-    Runs-one w (two ((m + back) % 4)) (one m) (two m) (subst (λ (c : ℕ). Runs w c (one m)) at (a.sides m few)) (b.sides m few)
+    Stretches-one w (two ((m + back) % 4)) (one m) (two m) (subst (λ (c : ℕ). Stretches w c (one m)) at (a.sides m few)) (b.sides m few)
 
 pub box_same : (w : DartMap) (one two : ℕ → ℕ) → IsRound w 3 1 one → IsRound w 3 1 two → (k m : ℕ) → k < 4 → m < 4 → one k ≡ two k → one m ≡ two m
 box_same w one two a b k m k_few m_few same =
@@ -231,11 +231,11 @@ pub end_of : (w : DartMap) → IsSound w → ReachesCorners w → (a : ℕ) → 
 end_of w sound reaches a a_in =
     elim (cases_eq (w.angle a) 2) [
       | inl straight ↦
-          let (c, run) = reaches a a_in in (
+          let (c, stretch) = reaches a a_in in (
             c,
-            Runs-inside w a c sound.linked a_in run,
-            Runs-corner w a c run,
-            record { places = suc run.places; keeps = run_keeps w run.places a c straight run.run },
+            Stretches-inside w a c sound.linked a_in stretch,
+            Stretches-corner w a c stretch,
+            record { places = suc stretch.places; keeps = stretch_keeps w stretch.places a c straight stretch.stretch },
           )
       | inr turning ↦ (a, a_in, turning, on_itself w a)
     ]

@@ -5,7 +5,7 @@ use Rattle.std.proofs.lemmas.Bool.{cases_lt}
 use Rattle.dissect.specs.DartMaps.{DartMap, IsSound}
 use Rattle.dissect.specs.Faces.{IsCorner}
 use Rattle.dissect.specs.Ordered.{IsOrdered, tail}
-use Rattle.drawing_laws.proofs.Sides.{Goes, Spans, IsOn, on_one, keeps_way, tail_back, dart_goes, run_goes, side_spans, side_wide, side_once, side_leads}
+use Rattle.drawing_laws.proofs.Sides.{Goes, Spans, IsOn, on_one, keeps_way, tail_back, dart_goes, stretch_goes, side_spans, side_wide, side_once, side_leads}
 use Rattle.drawing_laws.proofs.Rounds.{IsRound, AreFaces, box_same}
 
 -- the dart a goes to the north through row j
@@ -53,7 +53,7 @@ module _ (w : DartMap) (sound : IsSound w) (x y : ℕ → ℕ) (ordered : IsOrde
   pub round_goes : (back angle : ℕ) (corner : ℕ → ℕ) → IsRound w back angle corner → (k : ℕ) → k < 4
       → Goes k x y (w.head (corner ((k + back) % 4))) (w.head (corner k))
   round_goes back angle corner round k few =
-      run_goes w sound x y ordered k (corner ((k + back) % 4)) (corner k)
+      stretch_goes w sound x y ordered k (corner ((k + back) % 4)) (corner k)
       (round.inside ((k + back) % 4) (omega arith)) (round.ways k few) (round.sides k few)
 
   pub box_upright : (corner : ℕ → ℕ) → IsRound w 3 1 corner → IsUpright w x y corner

@@ -1,9 +1,9 @@
--- Sides of faces: straight runs of darts from a corner to the next, in numbers that are in the order of the darts.
+-- Sides of faces: straight stretches of darts from a corner to the next, in numbers that are in the order of the darts.
 use Rattle.std.proofs.Common.{◌≡◌, ℕ, zero, suc, ◌+◌, ◌%◌, ◌<◌, ◌≤◌, ◌⊎◌, ◌∙◌, arith, subst, sym, ap, refl, inl, inr}
 use Rattle.std.proofs.lemmas.Bool.{cases_eq, cases_lt, cases_order}
 use Rattle.dissect.specs.DartMaps.{DartMap, IsLinked, IsSound}
-use Rattle.dissect.specs.Faces.{IsCorner, RunsIn, Runs}
-use Rattle.dissect.proofs.Running.{run_back, steps_back}
+use Rattle.dissect.specs.Faces.{IsCorner, StretchesIn, Stretches}
+use Rattle.dissect.proofs.Stretching.{stretch_back, steps_back}
 use Rattle.dissect.specs.Ordered.{IsOrdered, tail}
 
 -- ---- numbers along a direction
@@ -73,7 +73,7 @@ spans_once (suc zero) x y t s u v e one on two = omega (arith, one.1, on.0, two.
 spans_once (suc (suc zero)) x y t s u v e one on two = omega (arith, one.0, on.0, two.1)
 spans_once (suc (suc (suc k))) x y t s u v e one on two = omega (arith, one.0, on.0, two.1)
 
--- ---- runs
+-- ---- stretches
 
 -- from a on the walk goes straight through k darts, a the first of them, and arrives with c
 abbrev pub Keeps : DartMap → ℕ → ℕ → ℕ → Type 0
@@ -85,17 +85,17 @@ pub record IsOn (w : DartMap) (a c : ℕ) : Type 0 where
   pub places : ℕ
   pub keeps : Keeps w places a c
 
-pub run_keeps : (w : DartMap) (k a c : ℕ) → w.angle a ≡ 2 → RunsIn w k a c → Keeps w (suc k) a c
-run_keeps w zero a c straight run = (straight, run.0)
-run_keeps w (suc k) a c straight run = (straight, run_keeps w k (w.next a) c run.0 run.1)
+pub stretch_keeps : (w : DartMap) (k a c : ℕ) → w.angle a ≡ 2 → StretchesIn w k a c → Keeps w (suc k) a c
+stretch_keeps w zero a c straight stretch = (straight, stretch.0)
+stretch_keeps w (suc k) a c straight stretch = (straight, stretch_keeps w k (w.next a) c stretch.0 stretch.1)
 
-keeps_run : (w : DartMap) (k a c : ℕ) → IsCorner w c → Keeps w (suc k) a c → RunsIn w k a c
-keeps_run w zero a c corner keeps = (keeps.1, corner)
-keeps_run w (suc k) a c corner keeps = (keeps.1.0, keeps_run w k (w.next a) c corner keeps.1)
+keeps_stretch : (w : DartMap) (k a c : ℕ) → IsCorner w c → Keeps w (suc k) a c → StretchesIn w k a c
+keeps_stretch w zero a c corner keeps = (keeps.1, corner)
+keeps_stretch w (suc k) a c corner keeps = (keeps.1.0, keeps_stretch w k (w.next a) c corner keeps.1)
 
-run_behind : (w : DartMap) (k a c : ℕ) → RunsIn w k a c → Keeps w k (w.next a) c
-run_behind w zero a c run = run.0
-run_behind w (suc k) a c run = (run.0, run_behind w k (w.next a) c run.1)
+stretch_behind : (w : DartMap) (k a c : ℕ) → StretchesIn w k a c → Keeps w k (w.next a) c
+stretch_behind w zero a c stretch = stretch.0
+stretch_behind w (suc k) a c stretch = (stretch.0, stretch_behind w k (w.next a) c stretch.1)
 
 keeps_one : (w : DartMap) (j k a b c : ℕ) → IsCorner w b → IsCorner w c → Keeps w j a b → Keeps w k a c → b ≡ c
 keeps_one w zero zero a b c cb cc one two = sym one ∙ two
@@ -118,10 +118,10 @@ keeps_between w linked (suc k) a c j a_in keeps less =
     ]
 
 -- what is on a side lies behind the corner from which it sets out
-keeps_short : (w : DartMap) → IsLinked w → (k m p a c : ℕ) → p < w.darts → a < w.darts → IsCorner w p → RunsIn w k p c → Keeps w m a c → m ≤ k
-keeps_short w linked k m p a c p_in a_in corner run keeps =
+keeps_short : (w : DartMap) → IsLinked w → (k m p a c : ℕ) → p < w.darts → a < w.darts → IsCorner w p → StretchesIn w k p c → Keeps w m a c → m ≤ k
+keeps_short w linked k m p a c p_in a_in corner stretch keeps =
     elim (cases_lt k m) [
-      | inl less ↦ absurd (corner (ap w.angle (sym (run_back w linked k p c p_in run)) ∙ keeps_between w linked m a c k a_in keeps less))
+      | inl less ↦ absurd (corner (ap w.angle (sym (stretch_back w linked k p c p_in stretch)) ∙ keeps_between w linked m a c k a_in keeps less))
       | inr few ↦ omega (arith, few)
     ]
 
@@ -154,9 +154,9 @@ module _ (w : DartMap) (sound : IsSound w) where
   keeps_inside (suc k) a c a_in keeps = keeps_inside k (w.next a) c (sound.linked.next_in a a_in) keeps.1
 
   -- the way at the next corner
-  pub run_way : (p c : ℕ) → p < w.darts → Runs w p c → (w.direction c + 2 + w.angle p) % 4 ≡ w.direction p
-  run_way p c p_in run =
-      let same = keeps_way run.places (w.next p) c (sound.linked.next_in p p_in) (run_behind w run.places p c run.run) in
+  pub stretch_way : (p c : ℕ) → p < w.darts → Stretches w p c → (w.direction c + 2 + w.angle p) % 4 ≡ w.direction p
+  stretch_way p c p_in stretch =
+      let same = keeps_way stretch.places (w.next p) c (sound.linked.next_in p p_in) (stretch_behind w stretch.places p c stretch.stretch) in
       omega (arith, next_way p p_in, same)
 
   -- the vertex where a dart arrives is that from which the next sets out
@@ -195,27 +195,27 @@ module _ (w : DartMap) (sound : IsSound w) where
         (goes_on d x y (w.head a) (w.head b) (w.head c) first (keeps_leads d k b c b_in way keeps.1))
 
     -- from where a side sets out to its end
-    pub run_goes : (d p c : ℕ) → p < w.darts → w.direction c ≡ d → Runs w p c → Goes d x y (w.head p) (w.head c)
-    run_goes d p c p_in way run =
+    pub stretch_goes : (d p c : ℕ) → p < w.darts → w.direction c ≡ d → Stretches w p c → Goes d x y (w.head p) (w.head c)
+    stretch_goes d p c p_in way stretch =
         let b : ℕ = w.next p in
         let b_in = sound.linked.next_in p p_in in
-        let keeps = run_behind w run.places p c run.run in
+        let keeps = stretch_behind w stretch.places p c stretch.stretch in
         goes_on d x y (w.head p) (w.head b) (w.head c)
-        (subst (λ (u : ℕ). Goes d x y u (w.head b)) (next_tail p p_in) (dart_goes d b b_in (keeps_way run.places b c b_in keeps ∙ way)))
-        (keeps_leads d run.places b c b_in way keeps)
+        (subst (λ (u : ℕ). Goes d x y u (w.head b)) (next_tail p p_in) (dart_goes d b b_in (keeps_way stretch.places b c b_in keeps ∙ way)))
+        (keeps_leads d stretch.places b c b_in way keeps)
 
     -- from where it sets out to any dart of it
-    run_leads : (d k m p a c : ℕ) → p < w.darts → a < w.darts → w.direction c ≡ d → RunsIn w k p c → Keeps w m a c → m ≤ k
+    stretch_leads : (d k m p a c : ℕ) → p < w.darts → a < w.darts → w.direction c ≡ d → StretchesIn w k p c → Keeps w m a c → m ≤ k
         → Leads d x y (w.head p) (tail w a)
-    run_leads d zero m p a c p_in a_in way run keeps few =
+    stretch_leads d zero m p a c p_in a_in way stretch keeps few =
         let none : m ≡ 0 = omega (arith, few) in
         let at : a ≡ c = subst (λ (n : ℕ). Keeps w n a c) none keeps in
-        let from : tail w a ≡ w.head p = ap (tail w) (at ∙ sym run.0) ∙ next_tail p p_in in
+        let from : tail w a ≡ w.head p = ap (tail w) (at ∙ sym stretch.0) ∙ next_tail p p_in in
         subst (λ (u : ℕ). Leads d x y (w.head p) u) (sym from) (leads_same d x y (w.head p))
-    run_leads d (suc k) m p a c p_in a_in way run keeps few =
+    stretch_leads d (suc k) m p a c p_in a_in way stretch keeps few =
         let b : ℕ = w.next p in
         let b_in = sound.linked.next_in p p_in in
-        let behind : Keeps w (suc k) b c = run_keeps w k b c run.0 run.1 in
+        let behind : Keeps w (suc k) b c = stretch_keeps w k b c stretch.0 stretch.1 in
         elim (cases_eq m (suc k)) [
           | inl all ↦
               let at : a ≡ b =
@@ -227,40 +227,40 @@ module _ (w : DartMap) (sound : IsSound w) where
               subst (λ (u : ℕ). Goes d x y u (w.head b)) (next_tail p p_in) (dart_goes d b b_in (keeps_way (suc k) b c b_in behind ∙ way)) in
               goes_leads d x y (w.head p) (tail w a)
               (goes_on d x y (w.head p) (w.head b) (tail w a) first
-              (run_leads d k m b a c b_in a_in way run.1 keeps (omega (arith, less, few))))
+              (stretch_leads d k m b a c b_in a_in way stretch.1 keeps (omega (arith, less, few))))
         ]
 
     -- a side passes each number between its ends with a dart of it
-    run_spans : (d k p c t : ℕ) → p < w.darts → w.direction c ≡ d → RunsIn w k p c → Spans d x y t (w.head p) (w.head c)
+    stretch_spans : (d k p c t : ℕ) → p < w.darts → w.direction c ≡ d → StretchesIn w k p c → Spans d x y t (w.head p) (w.head c)
         → (a : ℕ) × (a < w.darts) × IsOn w a c × Spans d x y t (tail w a) (w.head a)
-    run_spans d zero p c t p_in way run spans =
-        let c_in : c < w.darts = omega (arith, sound.linked.next_in p p_in, run.0) in
-        let from : w.head p ≡ tail w c = sym (next_tail p p_in) ∙ ap (tail w) run.0 in
+    stretch_spans d zero p c t p_in way stretch spans =
+        let c_in : c < w.darts = omega (arith, sound.linked.next_in p p_in, stretch.0) in
+        let from : w.head p ≡ tail w c = sym (next_tail p p_in) ∙ ap (tail w) stretch.0 in
         (c, c_in, on_itself w c, subst (λ (u : ℕ). Spans d x y t u (w.head c)) from spans)
-    run_spans d (suc k) p c t p_in way run spans =
+    stretch_spans d (suc k) p c t p_in way stretch spans =
         let b : ℕ = w.next p in
         let b_in = sound.linked.next_in p p_in in
         elim (spans_split d x y t (w.head p) (w.head b) (w.head c) spans) [
           | inl first ↦ (
             b,
             b_in,
-            record { places = suc k; keeps = run_keeps w k b c run.0 run.1 },
+            record { places = suc k; keeps = stretch_keeps w k b c stretch.0 stretch.1 },
             subst (λ (u : ℕ). Spans d x y t u (w.head b)) (sym (next_tail p p_in)) first,
           )
-          | inr later ↦ run_spans d k b c t b_in way run.1 later
+          | inr later ↦ stretch_spans d k b c t b_in way stretch.1 later
         ]
 
-    pub side_spans : (d p c t : ℕ) → p < w.darts → w.direction c ≡ d → Runs w p c → Spans d x y t (w.head p) (w.head c)
+    pub side_spans : (d p c t : ℕ) → p < w.darts → w.direction c ≡ d → Stretches w p c → Spans d x y t (w.head p) (w.head c)
         → (a : ℕ) × (a < w.darts) × IsOn w a c × Spans d x y t (tail w a) (w.head a)
-    side_spans d p c t p_in way run spans = run_spans d run.places p c t p_in way run.run spans
+    side_spans d p c t p_in way stretch spans = stretch_spans d stretch.places p c t p_in way stretch.stretch spans
 
     -- what a dart of the side passes, the side passes
-    pub side_wide : (d p a c t : ℕ) → p < w.darts → a < w.darts → IsCorner w p → w.direction c ≡ d → Runs w p c → IsOn w a c
+    pub side_wide : (d p a c t : ℕ) → p < w.darts → a < w.darts → IsCorner w p → w.direction c ≡ d → Stretches w p c → IsOn w a c
         → Spans d x y t (tail w a) (w.head a) → Spans d x y t (w.head p) (w.head c)
-    side_wide d p a c t p_in a_in corner way run on spans =
+    side_wide d p a c t p_in a_in corner way stretch on spans =
         spans_wide d x y t (w.head p) (tail w a) (w.head a) (w.head c)
-        (run_leads d run.places on.places p a c p_in a_in way run.run on.keeps
-        (keeps_short w sound.linked run.places on.places p a c p_in a_in corner run.run on.keeps))
+        (stretch_leads d stretch.places on.places p a c p_in a_in way stretch.stretch on.keeps
+        (keeps_short w sound.linked stretch.places on.places p a c p_in a_in corner stretch.stretch on.keeps))
         (keeps_leads d on.places a c a_in way on.keeps) spans
 
     -- where one dart of a side comes behind another, it passes no number that the other passes
@@ -269,7 +269,7 @@ module _ (w : DartMap) (sound : IsSound w) where
     not_both d m zero a b c t a_in b_in corner way one two less sa sb = omega (arith, less)
     not_both d m (suc n) a b c t a_in b_in corner way one two less sa sb =
         spans_once d x y t (tail w b) (w.head b) (tail w a) (w.head a) sb
-        (run_leads d n m b a c b_in a_in way (keeps_run w n b c corner two) one (omega (arith, less))) sa
+        (stretch_leads d n m b a c b_in a_in way (keeps_stretch w n b c corner two) one (omega (arith, less))) sa
 
     -- so a side passes each number with one dart alone
     pub side_once : (d a b c t : ℕ) → a < w.darts → b < w.darts → IsCorner w c → w.direction c ≡ d → IsOn w a c → IsOn w b c
