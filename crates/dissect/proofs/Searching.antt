@@ -184,7 +184,7 @@ search_whole p is {h} {c} {headings} first s d b =
     holds d k = not_from_false (eqb (get_or headings d 0) 4) (ne_eqb (get_or headings d 0) 4 k)
 
     known : (d : ℕ) → not (eqb (get_or headings d 0) 4) ≡ true → IsKnown headings d
-    known d marked none = true≢false (sym (eq-eqb (get_or headings d 0) 4 none) ∙ not-true (eqb (get_or headings d 0) 4) marked)
+    known d flagged none = true≢false (sym (eq-eqb (get_or headings d 0) 4 none) ∙ not-true (eqb (get_or headings d 0) 4) flagged)
 
     both : (d : ℕ) → d < darts p → IsKnown headings d → IsKnown headings (reverse_dart p (next p d)) × IsKnown headings (reverse_dart p d)
     both d b k = elim (s.gone_on d b k) [
@@ -196,14 +196,14 @@ search_whole p is {h} {c} {headings} first s d b =
     ]
 
     across : IsClosedUnder (darts p) (reverse_dart p) (λ d. not (eqb (get_or headings d 0) 4))
-    across d b marked = holds (reverse_dart p d) (both d b (known d marked)).1
+    across d b flagged = holds (reverse_dart p d) (both d b (known d flagged)).1
 
     onward : IsClosedUnder (darts p) (next p) (λ d. not (eqb (get_or headings d 0) 4))
-    onward d b marked =
+    onward d b flagged =
         let inside = ends.next_one.inside d b in
         let back : reverse_dart p (reverse_dart p (next p d)) ≡ next p d = ends.reverse_dart_back (next p d) inside in
         subst (λ x. not (eqb (get_or headings x 0) 4) ≡ true) back
-        (across (reverse_dart p (next p d)) (ends.reverse_dart_inside (next p d) inside) (holds (reverse_dart p (next p d)) (both d b (known d marked)).0))
+        (across (reverse_dart p (next p d)) (ends.reverse_dart_inside (next p d) inside) (holds (reverse_dart p (next p d)) (both d b (known d flagged)).0))
 
 -- directions with c added to each are directions too
 pub turned_headings : (p : PlaneModel) (a : ℕ → ℕ) (s : ℕ → List Turn) (h : ℕ → ℕ) (c : ℕ) (g : ℕ → ℕ) → ((d : ℕ) → d < darts p → reverse_dart p d < darts p) → ((d : ℕ) → d < darts p → next p d < darts p) → AreHeadings p a s h → ((d : ℕ) → d < darts p → g d ≡ (h d + c) % 4) → AreHeadings p a s g

@@ -5,7 +5,7 @@ use Rattle.dissect.specs.DartMaps.{DartMap, IsLinked}
 use Rattle.dissect.specs.Faces.{IsCorner, Ring, In, Distinct, Below, joined, TurnsOnce, AreRings}
 use Rattle.dissect.specs.FaceNumbers.{HasTurns}
 use Rattle.dissect.proofs.Listing.{in_append, in_left, in_right, below_append, distinct_append}
-use Rattle.dissect.specs.Walks.{steps, path, turning, IsOrbit, IsMarked, IsWalked}
+use Rattle.dissect.specs.Walks.{steps, path, turning, IsOrbit, IsFlagged, IsWalked}
 use Rattle.dissect.specs.Listed.{AreListed, AreFlat}
 use Rattle.dissect.proofs.Orbits.{steps_in, steps_more, steps_add, path_member, path_holds, path_below, length-path, orbit_distinct, in_turning, turning_in, turning_distinct, turning_below, turning_straight, turning_corner, orbit_ends, orbit_ring}
 use Rattle.dissect.proofs.Turns.{orbit_holds, orbit_once, orbit_outside}
@@ -39,46 +39,46 @@ path_closed w a p x orbit here =
 pub path_self : (w : DartMap) (a p : ℕ) → IsOrbit w a p → In a (path w a p)
 path_self w a p orbit = subst (λ (z : ℕ). In z (path w a p)) orbit.back (path_holds w a p p orbit.some (omega arith))
 
--- marks that "next" stays within
+-- flags that "next" stays within
 abbrev pub AreShut : DartMap → List Bool → Type 0
-AreShut w marks = (a : ℕ) → a < w.darts → IsMarked marks a → IsMarked marks (w.next a)
+AreShut w flags = (a : ℕ) → a < w.darts → IsFlagged flags a → IsFlagged flags (w.next a)
 
-shut_steps : (w : DartMap) (marks : List Bool) → IsLinked w → AreShut w marks → (k a : ℕ) → a < w.darts → IsMarked marks a → IsMarked marks (steps w k a)
-shut_steps w marks linked shut zero a l m = m
-shut_steps w marks linked shut (suc k) a l m = shut_steps w marks linked shut k (w.next a) (linked.next_in a l) (shut a l m)
+shut_steps : (w : DartMap) (flags : List Bool) → IsLinked w → AreShut w flags → (k a : ℕ) → a < w.darts → IsFlagged flags a → IsFlagged flags (steps w k a)
+shut_steps w flags linked shut zero a l m = m
+shut_steps w flags linked shut (suc k) a l m = shut_steps w flags linked shut k (w.next a) (linked.next_in a l) (shut a l m)
 
--- a walk that passes a marked dart began at one
-pub shut_back : (w : DartMap) (marks : List Bool) (a p x : ℕ) → IsLinked w → AreShut w marks → a < w.darts → IsOrbit w a p →
-    In x (path w a p) → IsMarked marks x → IsMarked marks a
-shut_back w marks a p x linked shut l orbit here m =
+-- a walk that passes a flagged dart began at one
+pub shut_back : (w : DartMap) (flags : List Bool) (a p x : ℕ) → IsLinked w → AreShut w flags → a < w.darts → IsOrbit w a p →
+    In x (path w a p) → IsFlagged flags x → IsFlagged flags a
+shut_back w flags a p x linked shut l orbit here m =
     let j = path_member w x a p here in
     let e : j.0 + (p - j.0) ≡ p = omega (arith, j.2) in
     let back : steps w (p - j.0) x ≡ a =
     ap (steps w (p - j.0)) (sym j.3) ∙ sym (steps_add w j.0 (p - j.0) a) ∙ ap (λ (k : ℕ). steps w k a) e ∙ orbit.back in
     let inside : x < w.darts = subst (λ (z : ℕ). z < w.darts) j.3 (steps_in w linked j.0 a l) in
-    subst (IsMarked marks) back (shut_steps w marks linked shut (p - j.0) x inside m)
+    subst (IsFlagged flags) back (shut_steps w flags linked shut (p - j.0) x inside m)
 
 -- the outer face is walked, and the faces of the corners below d
-pub record IsTracing (w : DartMap) (right : ℕ) (marks : List Bool) (corners counts outer : List ℕ) (d : ℕ) : Type 0 where
+pub record IsTracing (w : DartMap) (right : ℕ) (flags : List Bool) (corners counts outer : List ℕ) (d : ℕ) : Type 0 where
   pub inner : List (List ℕ)
   pub flat : AreFlat corners counts inner
   pub rings : AreRings w inner
   pub distinct : Distinct (joined inner)
   pub below : Below w.darts (joined inner)
-  pub size : w.darts ≤ length marks
-  pub shut : AreShut w marks
-  pub listed : (a : ℕ) → In a (joined inner) → IsMarked marks a
-  pub known : (a : ℕ) → IsMarked marks a → IsCorner w a → In a (joined inner) ⊎ In a outer
-  pub passed : (a : ℕ) → a < d → IsCorner w a → IsMarked marks a
+  pub size : w.darts ≤ length flags
+  pub shut : AreShut w flags
+  pub listed : (a : ℕ) → In a (joined inner) → IsFlagged flags a
+  pub known : (a : ℕ) → IsFlagged flags a → IsCorner w a → In a (joined inner) ⊎ In a outer
+  pub passed : (a : ℕ) → a < d → IsCorner w a → IsFlagged flags a
   pub places : ℕ
   pub orbit : IsOrbit w right places
   pub outer_is : outer ≡ turning w (path w right places)
-  pub held : (a : ℕ) → In a (path w right places) → IsMarked marks a
+  pub held : (a : ℕ) → In a (path w right places) → IsFlagged flags a
   pub apart : (a : ℕ) → In a (joined inner) → In a (path w right places) → ⊥
 
-pub trace_begins : (w : DartMap) (right : ℕ) (none marks : List Bool) (outer : List ℕ) → ((a : ℕ) → IsMarked none a → ⊥) → w.darts ≤ length marks →
-    IsWalked w right none marks [] outer → IsTracing w right marks [] [] outer 0
-trace_begins w right none marks outer blank size walked = record {
+pub trace_begins : (w : DartMap) (right : ℕ) (none flags : List Bool) (outer : List ℕ) → ((a : ℕ) → IsFlagged none a → ⊥) → w.darts ≤ length flags →
+    IsWalked w right none flags [] outer → IsTracing w right flags [] [] outer 0
+trace_begins w right none flags outer blank size walked = record {
   inner = [];
   flat = record { flat = refl; lengths = refl };
   rings = tt;
@@ -103,9 +103,9 @@ trace_begins w right none marks outer blank size walked = record {
 }
 
 -- a dart that was seen, or that goes straight on, is passed over
-pub trace_skips : (w : DartMap) (right : ℕ) (marks : List Bool) (corners counts outer : List ℕ) (d : ℕ) →
-    IsTracing w right marks corners counts outer d → IsMarked marks d ⊎ (w.angle d ≡ 2) → IsTracing w right marks corners counts outer (d + 1)
-trace_skips w right marks corners counts outer d trace skip = record {
+pub trace_skips : (w : DartMap) (right : ℕ) (flags : List Bool) (corners counts outer : List ℕ) (d : ℕ) →
+    IsTracing w right flags corners counts outer d → IsFlagged flags d ⊎ (w.angle d ≡ 2) → IsTracing w right flags corners counts outer (d + 1)
+trace_skips w right flags corners counts outer d trace skip = record {
   inner = trace.inner;
   flat = trace.flat;
   rings = trace.rings;
@@ -117,7 +117,7 @@ trace_skips w right marks corners counts outer d trace skip = record {
   known = trace.known;
   passed = λ a l corner. elim (cases_eq a d) [
     | inl e ↦ elim skip [
-      | inl marked ↦ subst (IsMarked marks) (sym e) marked
+      | inl flagged ↦ subst (IsFlagged flags) (sym e) flagged
       | inr straight ↦ absurd (corner (ap w.angle e ∙ straight))
     ]
     | inr other ↦ trace.passed a (omega arith) corner
@@ -130,17 +130,17 @@ trace_skips w right marks corners counts outer d trace skip = record {
 }
 
 -- a corner that was not seen begins a new face
-pub trace_more : (w : DartMap) (right : ℕ) (label : ℕ → ℕ) (marks after : List Bool) (corners counts outer new : List ℕ) (d count : ℕ) →
-    IsLinked w → right < w.darts → HasTurns w label (label right) → d < w.darts → w.angle d ≢ 2 → (IsMarked marks d → ⊥) →
-    length after ≡ length marks → count ≡ length new - length corners →
-    IsTracing w right marks corners counts outer d → IsWalked w d marks after corners new →
+pub trace_more : (w : DartMap) (right : ℕ) (label : ℕ → ℕ) (flags after : List Bool) (corners counts outer new : List ℕ) (d count : ℕ) →
+    IsLinked w → right < w.darts → HasTurns w label (label right) → d < w.darts → w.angle d ≢ 2 → (IsFlagged flags d → ⊥) →
+    length after ≡ length flags → count ≡ length new - length corners →
+    IsTracing w right flags corners counts outer d → IsWalked w d flags after corners new →
     IsTracing w right after new (counts ++ (count ∷ [])) outer (d + 1)
-trace_more w right label marks after corners counts outer new d count linked right_in turns d_in corner bare same_size counted trace walked =
+trace_more w right label flags after corners counts outer new d count linked right_in turns d_in corner bare same_size counted trace walked =
     let p : ℕ = walked.places in
     let r : List ℕ = turning w (path w d p) in
     let inner : List (List ℕ) = trace.inner in
-    let fresh : (x : ℕ) → In x (path w d p) → IsMarked marks x → ⊥ =
-    λ x here m. bare (shut_back w marks d p x linked trace.shut d_in walked.orbit here m) in
+    let fresh : (x : ℕ) → In x (path w d p) → IsFlagged flags x → ⊥ =
+    λ x here m. bare (shut_back w flags d p x linked trace.shut d_in walked.orbit here m) in
     let inside : label d ≢ label right =
     λ h. bare (trace.held d (orbit_holds w label right trace.places d linked turns.labels right_in trace.orbit d_in h)) in
     let long : count ≡ length r = omega (arith, counted, ap length walked.corners, length-append corners r) in
@@ -175,7 +175,7 @@ trace_more w right label marks after corners counts outer new d count linked rig
         | inr here ↦ inl (subst (In a) (sym (joined_more inner r)) (in_right a (joined inner) r (turning_in w a (path w d p) here turn)))
       ];
       passed = λ a l turn. elim (cases_eq a d) [
-        | inl e ↦ subst (IsMarked after) (sym e) (walked.passed d (path_self w d p walked.orbit))
+        | inl e ↦ subst (IsFlagged after) (sym e) (walked.passed d (path_self w d p walked.orbit))
         | inr other ↦ walked.kept a (trace.passed a (omega arith) turn)
       ];
       places = trace.places;
@@ -188,10 +188,10 @@ trace_more w right label marks after corners counts outer new d count linked rig
       ];
     }
 
-pub trace_done : (w : DartMap) (right : ℕ) (label : ℕ → ℕ) (marks : List Bool) (corners counts outer : List ℕ) (d : ℕ) → IsLinked w →
-    right < w.darts → 2 < w.angle right → HasTurns w label (label right) → w.darts ≤ d → IsTracing w right marks corners counts outer d →
+pub trace_done : (w : DartMap) (right : ℕ) (label : ℕ → ℕ) (flags : List Bool) (corners counts outer : List ℕ) (d : ℕ) → IsLinked w →
+    right < w.darts → 2 < w.angle right → HasTurns w label (label right) → w.darts ≤ d → IsTracing w right flags corners counts outer d →
     (inner : List (List ℕ)) × AreFlat corners counts inner × AreListed w right inner outer
-trace_done w right label marks corners counts outer d linked right_in turn turns all trace =
+trace_done w right label flags corners counts outer d linked right_in turn turns all trace =
     let p : ℕ = trace.places in
     let r : List ℕ = turning w (path w right p) in
     let corner : IsCorner w right = λ h. omega (arith, h, turn) in
@@ -234,9 +234,9 @@ walked_few w start before after others listed walked =
       walked.orbit.most,
     )
 
--- at first no dart is marked
-pub unmarked : (n a : ℕ) → IsMarked (replicate n false) a → ⊥
-unmarked n a m = both_ways (get_or (replicate n false) a false) (none n a) m
+-- at first no dart is flagged
+pub unflagged : (n a : ℕ) → IsFlagged (replicate n false) a → ⊥
+unflagged n a m = both_ways (get_or (replicate n false) a false) (none n a) m
   where
     none : (n a : ℕ) → get_or (replicate n false) a false ≡ false
     none zero a = refl

@@ -6,7 +6,7 @@ use Rattle.dissect.specs.DartMaps.{DartMap, IsLinked}
 use Rattle.dissect.specs.Faces.{In}
 use Rattle.dissect.specs.FaceNumbers.{AreFaceNumbers, HasTurns}
 use Rattle.dissect.proofs.Listing.{in_append, in_left, in_right}
-use Rattle.dissect.specs.Walks.{steps, path, turning, IsMarked, IsWalked}
+use Rattle.dissect.specs.Walks.{steps, path, turning, IsFlagged, IsWalked}
 use Rattle.dissect.proofs.Orbits.{steps_in, steps_more, path_member, path_more, orbit_of, turning-append, turning_corner, turning_straight}
 use Rattle.dissect.proofs.Turns.{flat_total, label_along, orbit_angles, orbit_darts}
 
@@ -54,13 +54,13 @@ pub record IsWalking (w : DartMap) (start : ℕ) (before after : List Bool) (oth
   pub here : dart ≡ steps w k start
   pub away : (j : ℕ) → 1 ≤ j → j ≤ k → steps w j start ≢ start
   pub corners : listed ≡ others ++ turning w (path w start k)
-  pub kept : (a : ℕ) → IsMarked before a → IsMarked after a
-  pub passed : (a : ℕ) → In a (path w start k) → IsMarked after a
-  pub only : (a : ℕ) → IsMarked after a → IsMarked before a ⊎ In a (path w start k)
+  pub kept : (a : ℕ) → IsFlagged before a → IsFlagged after a
+  pub passed : (a : ℕ) → In a (path w start k) → IsFlagged after a
+  pub only : (a : ℕ) → IsFlagged after a → IsFlagged before a ⊎ In a (path w start k)
   pub size : length after ≡ length before
 
-pub walk_begins : (w : DartMap) (start : ℕ) (marks : List Bool) (others : List ℕ) → IsWalking w start marks marks others others 0 start
-walk_begins w start marks others = record {
+pub walk_begins : (w : DartMap) (start : ℕ) (flags : List Bool) (others : List ℕ) → IsWalking w start flags flags others others 0 start
+walk_begins w start flags others = record {
   here = refl;
   away = λ j some most. absurd (omega arith);
   corners = sym (append-nil others);
@@ -75,9 +75,9 @@ pub record IsStepped (w : DartMap) (start : ℕ) (before after : List Bool) (oth
   pub here : dart ≡ steps w (suc k) start
   pub away : (j : ℕ) → 1 ≤ j → j ≤ k → steps w j start ≢ start
   pub corners : listed ≡ others ++ turning w (path w start (suc k))
-  pub kept : (a : ℕ) → IsMarked before a → IsMarked after a
-  pub passed : (a : ℕ) → In a (path w start (suc k)) → IsMarked after a
-  pub only : (a : ℕ) → IsMarked after a → IsMarked before a ⊎ In a (path w start (suc k))
+  pub kept : (a : ℕ) → IsFlagged before a → IsFlagged after a
+  pub passed : (a : ℕ) → In a (path w start (suc k)) → IsFlagged after a
+  pub only : (a : ℕ) → IsFlagged after a → IsFlagged before a ⊎ In a (path w start (suc k))
   pub size : length after ≡ length before
 
 pub walk_steps : (w : DartMap) (start : ℕ) (before after : List Bool) (others listed new : List ℕ) (k dart next : ℕ) →

@@ -25,15 +25,15 @@ pub record IsOrbit (w : DartMap) (a places : ℕ) : Type 0 where
   pub back : steps w places a ≡ a
   pub first : (j : ℕ) → 1 ≤ j → j < places → steps w j a ≢ a
 
--- the dart is marked
-abbrev pub IsMarked : List Bool → ℕ → Type 0
-IsMarked marks a = slice_index_or marks a false ≡ true
+-- the dart is flagged
+abbrev pub IsFlagged : List Bool → ℕ → Type 0
+IsFlagged flags a = slice_index_or flags a false ≡ true
 
--- the walk from `start` once round its face has marked its darts and listed the corners among them
+-- the walk from `start` once round its face has flagged its darts and listed the corners among them
 pub record IsWalked (w : DartMap) (start : ℕ) (before after : List Bool) (others listed : List ℕ) : Type 0 where
   pub places : ℕ
   pub orbit : IsOrbit w start places
   pub corners : listed ≡ others ++ turning w (path w start places)
-  pub kept : (a : ℕ) → IsMarked before a → IsMarked after a
-  pub passed : (a : ℕ) → In a (path w start places) → IsMarked after a
-  pub only : (a : ℕ) → IsMarked after a → IsMarked before a ⊎ In a (path w start places)
+  pub kept : (a : ℕ) → IsFlagged before a → IsFlagged after a
+  pub passed : (a : ℕ) → In a (path w start places) → IsFlagged after a
+  pub only : (a : ℕ) → IsFlagged after a → IsFlagged before a ⊎ In a (path w start places)

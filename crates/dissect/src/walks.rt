@@ -40,7 +40,7 @@ fn push_corner(corners: &mut Vec<u32>, dart: u32, angle: u8) -> Result<(), Alloc
     Ok(())
 }
 
-/// Walks from the dart `start` once round its face, marks the darts as seen, and adds the corners
+/// Walks from the dart `start` once round its face, flags the darts as seen, and adds the corners
 /// among them to the list, `start` last where it is one.
 pub fn walk(
     table: &DartTable,

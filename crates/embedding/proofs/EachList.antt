@@ -33,7 +33,7 @@ pub none_below : (g : List (List ℕ)) (P : ℕ → List ℕ → Type 0) (n : �
 none_below g P n long none here (u, holds) =
     each_list g (λ u l. P u l → ⊥) none (λ k below h. here k (omega arith) (subst (λ (v : ℕ). P v (get_or g k [])) (omega arith) h)) u holds
 
--- marks that are 0 everywhere
+-- flags that are 0 everywhere
 pub blank_le : (n v : ℕ) → get_or (replicate n 0) v 0 ≤ 0
 blank_le zero v = omega arith
 blank_le (suc n) zero = omega arith

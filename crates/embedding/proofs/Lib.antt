@@ -11,7 +11,7 @@ pub mod RowBits
 pub mod RowWords
 pub mod EachList
 pub mod SmallGraphs
-pub mod Marking
+pub mod Flagging
 pub mod Symmetry
 pub mod Reached
 pub mod Building

@@ -1,4 +1,4 @@
--- The walk that marks what is reached from vertex 1.
+-- The walk that flags what is reached from vertex 1.
 use Rattle.std.proofs.Common.{◌≡◌, ◌⊎◌, ℕ, zero, suc, ◌+◌, ◌<◌, ◌≤◌, Bool, true, false, cond, List, length, get_or, set, replicate, refl, sym, ap, ◌∙◌, subst, inl, inr, arith}
 use Rattle.std.specs.List.{All, Contains}
 use Rattle.std.proofs.lemmas.List.{get_or-set_same, get_or-set_other, get_or_default, length-set}
@@ -9,53 +9,53 @@ use Rattle.embedding.specs.declared.rules.Rule.TheVariants.{Disconnected}
 use Rattle.embedding.specs.Rules.{Breaks, IsClosed}
 use Rattle.embedding.specs.Reached.{Holds, IsQueue, IsReached}
 
--- 1 for a marked number, else 0
-abbrev mark_of : List Bool → ℕ → ℕ
-mark_of reached v = cond (get_or reached v false) 1 0
+-- 1 for a flagged number, else 0
+abbrev flag_of : List Bool → ℕ → ℕ
+flag_of reached v = cond (get_or reached v false) 1 0
 
-mark_small : (b : Bool) → cond b 1 0 ≤ 1
-mark_small true = omega arith
-mark_small false = omega arith
+flag_small : (b : Bool) → cond b 1 0 ≤ 1
+flag_small true = omega arith
+flag_small false = omega arith
 
--- no marks at first
+-- no flags at first
 pub queue_none : (reached : List Bool) (queue : List ℕ) → length reached ≡ 256 → length queue ≡ 256 → ((v : ℕ) → get_or reached v false ≡ false) → IsQueue reached queue 0
-queue_none reached queue marks places blank =
+queue_none reached queue flags places blank =
     record {
-      marks = marks;
+      flags = flags;
       places = places;
-      count = sum_below-none (length reached) (mark_of reached) (λ v _. ap (λ (b : Bool). cond b 1 0) (blank v));
+      count = sum_below-none (length reached) (flag_of reached) (λ v _. ap (λ (b : Bool). cond b 1 0) (blank v));
       queued = λ i below. absurd (omega arith);
       placed = λ v holds. absurd (true≢false (sym holds ∙ blank v));
     }
 
-pub blank_marks : (n v : ℕ) → get_or (replicate n false) v false ≡ false
-blank_marks zero v = refl
-blank_marks (suc n) zero = refl
-blank_marks (suc n) (suc v) = blank_marks n v
+pub blank_flags : (n v : ℕ) → get_or (replicate n false) v false ≡ false
+blank_flags zero v = refl
+blank_flags (suc n) zero = refl
+blank_flags (suc n) (suc v) = blank_flags n v
 
--- where a number is not marked, there is room
+-- where a number is not flagged, there is room
 pub queue_room : (reached : List Bool) (queue : List ℕ) (found v : ℕ) → v < 256 → get_or reached v false ≡ false → IsQueue reached queue found → found < 256
 queue_room reached queue found v small new q =
-    let inside : v < length reached = omega (arith, q.marks) in
-    let less : mark_of reached v < 1 = rw new (omega arith) in
-    omega (arith, q.count, q.marks, sum_below-constant (length reached) 1, sum_below-lt (length reached) v (mark_of reached) (λ _. 1) inside (λ i _. mark_small (get_or reached i false)) less)
+    let inside : v < length reached = omega (arith, q.flags) in
+    let less : flag_of reached v < 1 = rw new (omega arith) in
+    omega (arith, q.count, q.flags, sum_below-constant (length reached) 1, sum_below-lt (length reached) v (flag_of reached) (λ _. 1) inside (λ i _. flag_small (get_or reached i false)) less)
 
--- one more mark
+-- one more flag
 pub queue_more : (reached : List Bool) (queue : List ℕ) (found v : ℕ) → v < 256 → get_or reached v false ≡ false → IsQueue reached queue found → IsQueue (set reached v true) (set queue found v) (found + 1)
 queue_more reached queue found v small new q =
     let room = queue_room reached queue found v small new q in
-    let inside : v < length reached = omega (arith, q.marks) in
+    let inside : v < length reached = omega (arith, q.flags) in
     let place : found < length queue = omega (arith, q.places) in
     let here : get_or (set reached v true) v false ≡ true = get_or-set_same reached v true false inside in
     let last : get_or (set queue found v) found 0 ≡ v = get_or-set_same queue found v 0 place in
     record {
-      marks = length-set reached v true ∙ q.marks;
+      flags = length-set reached v true ∙ q.flags;
       places = length-set queue found v ∙ q.places;
       count =
           let long = length-set reached v true in
-          let changed = sum_below-changed (length reached) v (mark_of reached) (mark_of (set reached v true)) inside (λ i _ other. ap (λ (b : Bool). cond b 1 0) (sym (get_or-set_other reached v i true false other))) in
-          let one : mark_of (set reached v true) v ≡ 1 = ap (λ (b : Bool). cond b 1 0) here in
-          let none : mark_of reached v ≡ 0 = ap (λ (b : Bool). cond b 1 0) new in
+          let changed = sum_below-changed (length reached) v (flag_of reached) (flag_of (set reached v true)) inside (λ i _ other. ap (λ (b : Bool). cond b 1 0) (sym (get_or-set_other reached v i true false other))) in
+          let one : flag_of (set reached v true) v ≡ 1 = ap (λ (b : Bool). cond b 1 0) here in
+          let none : flag_of reached v ≡ 0 = ap (λ (b : Bool). cond b 1 0) new in
           rw long (omega (arith, changed, q.count, one, none));
       queued = λ i below. elim (cases_eq i found) [
         | inl e ↦ rw (e, last) here
@@ -80,16 +80,16 @@ queue_more reached queue found v small new q =
           | inr other ↦ get_or-set_other reached v w true false other ∙ holds
         ]
 
--- what a new mark changes
-pub marks_others : (reached : List Bool) (v w : ℕ) → Holds (set reached v true) w → Holds reached w ⊎ (w ≡ v)
-marks_others reached v w holds =
+-- what a new flag changes
+pub flags_others : (reached : List Bool) (v w : ℕ) → Holds (set reached v true) w → Holds reached w ⊎ (w ≡ v)
+flags_others reached v w holds =
     elim (cases_eq w v) [
       | inl e ↦ inr e
       | inr other ↦ inl (sym (get_or-set_other reached v w true false other) ∙ holds)
     ]
 
-pub marks_kept : (reached : List Bool) (v w : ℕ) → length reached ≡ 256 → v < 256 → Holds reached w → Holds (set reached v true) w
-marks_kept reached v w size small holds =
+pub flags_kept : (reached : List Bool) (v w : ℕ) → length reached ≡ 256 → v < 256 → Holds reached w → Holds (set reached v true) w
+flags_kept reached v w size small holds =
     elim (cases_eq w v) [
       | inl e ↦
           let inside : v < length reached = omega (arith, size) in
@@ -97,7 +97,7 @@ marks_kept reached v w size small holds =
       | inr other ↦ get_or-set_other reached v w true false other ∙ holds
     ]
 
--- from the old marks, the first n entries of the list are marked
+-- from the old flags, the first n entries of the list are flagged
 pub record Reaches (old : List Bool) (line : List ℕ) (had : ℕ) (list : List ℕ) (n : ℕ) (reached : List Bool) (queue : List ℕ) (found : ℕ) : Type 0 where
   pub queue_is : IsQueue reached queue found
   pub listed : (i : ℕ) → i < n → Holds reached (get_or list i 0)
@@ -117,8 +117,8 @@ reaches_none old line had list q =
       longer = omega arith;
     }
 
--- what one call marks
-pub record Marks (old : List Bool) (line : List ℕ) (had v : ℕ) (reached : List Bool) (queue : List ℕ) (found : ℕ) : Type 0 where
+-- what one call flags
+pub record Flags (old : List Bool) (line : List ℕ) (had v : ℕ) (reached : List Bool) (queue : List ℕ) (found : ℕ) : Type 0 where
   pub queue_is : IsQueue reached queue found
   pub here : Holds reached v
   pub others : (w : ℕ) → Holds reached w → Holds old w ⊎ (w ≡ v)
@@ -126,7 +126,7 @@ pub record Marks (old : List Bool) (line : List ℕ) (had v : ℕ) (reached : Li
   pub order : (i : ℕ) → i < had → get_or queue i 0 ≡ get_or line i 0
   pub longer : had ≤ found
 
-pub reaches_more : {old : List Bool} {line : List ℕ} {had : ℕ} {list : List ℕ} {n : ℕ} {reached : List Bool} {queue : List ℕ} {found : ℕ} (v : ℕ) (reached' : List Bool) (queue' : List ℕ) (found' : ℕ) → v ≡ get_or list n 0 → Reaches old line had list n reached queue found → Marks reached queue found v reached' queue' found' → Reaches old line had list (n + 1) reached' queue' found'
+pub reaches_more : {old : List Bool} {line : List ℕ} {had : ℕ} {list : List ℕ} {n : ℕ} {reached : List Bool} {queue : List ℕ} {found : ℕ} (v : ℕ) (reached' : List Bool) (queue' : List ℕ) (found' : ℕ) → v ≡ get_or list n 0 → Reaches old line had list n reached queue found → Flags reached queue found v reached' queue' found' → Reaches old line had list (n + 1) reached' queue' found'
 reaches_more {old} {line} {had} {list} {n} {reached} {queue} {found} v reached' queue' found' at r m =
     record {
       queue_is = m.queue_is;
@@ -162,7 +162,7 @@ reaches_others {old = old} list n all r v h =
           inr (w.0, inside, get_or_default list w.0 v 0 inside ∙ w.2)
     ]
 
--- the lists of the first `done` vertices of the queue are marked, and nothing that need not be
+-- the lists of the first `done` vertices of the queue are flagged, and nothing that need not be
 pub record IsWalking (g : List (List ℕ)) (reached : List Bool) (queue : List ℕ) (found done : ℕ) : Type 0 where
   pub queue_is : IsQueue reached queue found
   pub first : Holds reached 1
@@ -170,7 +170,7 @@ pub record IsWalking (g : List (List ℕ)) (reached : List Bool) (queue : List �
   pub closed : (i : ℕ) → i < done → All (Holds reached) (list_of g (get_or queue i 0))
   pub behind : done ≤ found
 
-pub walking_starts : (g : List (List ℕ)) (old : List Bool) (line : List ℕ) (reached : List Bool) (queue : List ℕ) (found : ℕ) → ((v : ℕ) → get_or old v false ≡ false) → Marks old line 0 1 reached queue found → IsWalking g reached queue found 0
+pub walking_starts : (g : List (List ℕ)) (old : List Bool) (line : List ℕ) (reached : List Bool) (queue : List ℕ) (found : ℕ) → ((v : ℕ) → get_or old v false ≡ false) → Flags old line 0 1 reached queue found → IsWalking g reached queue found 0
 walking_starts g old line reached queue found blank m =
     record {
       queue_is = m.queue_is;
@@ -184,8 +184,8 @@ walking_starts g old line reached queue found blank m =
     only s holds v (inl h) = absurd (true≢false (sym h ∙ blank v))
     only s holds v (inr e) = ap s e ∙ holds
 
--- what one vertex's list marks
-pub record MarksAll (old : List Bool) (line : List ℕ) (had : ℕ) (list : List ℕ) (reached : List Bool) (queue : List ℕ) (found : ℕ) : Type 0 where
+-- what one vertex's list flags
+pub record FlagsAll (old : List Bool) (line : List ℕ) (had : ℕ) (list : List ℕ) (reached : List Bool) (queue : List ℕ) (found : ℕ) : Type 0 where
   pub queue_is : IsQueue reached queue found
   pub listed : All (Holds reached) list
   pub others : (v : ℕ) → Holds reached v → Holds old v ⊎ Contains list v
@@ -193,7 +193,7 @@ pub record MarksAll (old : List Bool) (line : List ℕ) (had : ℕ) (list : List
   pub order : (i : ℕ) → i < had → get_or queue i 0 ≡ get_or line i 0
   pub longer : had ≤ found
 
-pub walking_more : {g : List (List ℕ)} {reached : List Bool} {queue : List ℕ} {found done : ℕ} (list : List ℕ) (reached' : List Bool) (queue' : List ℕ) (found' : ℕ) → done < found → list ≡ list_of g (get_or queue done 0) → IsWalking g reached queue found done → MarksAll reached queue found list reached' queue' found' → IsWalking g reached' queue' found' (done + 1)
+pub walking_more : {g : List (List ℕ)} {reached : List Bool} {queue : List ℕ} {found done : ℕ} (list : List ℕ) (reached' : List Bool) (queue' : List ℕ) (found' : ℕ) → done < found → list ≡ list_of g (get_or queue done 0) → IsWalking g reached queue found done → FlagsAll reached queue found list reached' queue' found' → IsWalking g reached' queue' found' (done + 1)
 walking_more {g} {reached} {queue} {found} {done} list reached' queue' found' below same w m =
     record {
       queue_is = m.queue_is;
@@ -219,7 +219,7 @@ walking_more {g} {reached} {queue} {found} {done} list reached' queue' found' be
 pub walking_ends : {g : List (List ℕ)} {reached : List Bool} {queue : List ℕ} {found done : ℕ} → found ≤ done → IsWalking g reached queue found done → IsReached g reached
 walking_ends {g} {reached} {queue} {found} {done} past w =
     record {
-      marks = w.queue_is.marks;
+      flags = w.queue_is.flags;
       first = w.first;
       closed = λ u h.
           let (i, below, at) = w.queue_is.placed u h in
@@ -239,4 +239,4 @@ reached_keeps g reached r all (s, holds, closed, (u, from, to, missing)) =
 -- the queue is never longer than its places
 pub queue_short : (reached : List Bool) (queue : List ℕ) (found : ℕ) → IsQueue reached queue found → found ≤ 256
 queue_short reached queue found q =
-    omega (arith, q.count, q.marks, sum_below-constant (length reached) 1, sum_below-le (length reached) (mark_of reached) (λ _. 1) (λ i _. mark_small (get_or reached i false)))
+    omega (arith, q.count, q.flags, sum_below-constant (length reached) 1, sum_below-le (length reached) (flag_of reached) (λ _. 1) (λ i _. flag_small (get_or reached i false)))

@@ -18,9 +18,9 @@ pub record IsRead (n u : ℕ) (list : List ℕ) (i row : ℕ) : Type 0 where
   pub apart : (j k : ℕ) → j < k → k < i → get_or list j 0 ≢ get_or list k 0
 
 -- the columns of the first i entries have the bit of vertex u, and no bit is lost
-pub record AreMarked (u : ℕ) (list : List ℕ) (i : ℕ) (old columns : List ℕ) : Type 0 where
+pub record AreFlagged (u : ℕ) (list : List ℕ) (i : ℕ) (old columns : List ℕ) : Type 0 where
   pub size : length columns ≡ length old
-  pub marked : (k : ℕ) → k < i → HasBit (get_or columns (get_or list k 0) 0) u
+  pub flagged : (k : ℕ) → k < i → HasBit (get_or columns (get_or list k 0) 0) u
   pub kept : (w v : ℕ) → HasBit (get_or old w 0) v → HasBit (get_or columns w 0) v
 
 or_left : (a b v : ℕ) → HasBit a v → HasBit (bit_or a b) v
@@ -67,22 +67,22 @@ read_more n u list i row entry small at range other new m =
       ];
     }
 
-pub marked_none : (u : ℕ) (list old : List ℕ) → AreMarked u list 0 old old
-marked_none u list old = record {
+pub flagged_none : (u : ℕ) (list old : List ℕ) → AreFlagged u list 0 old old
+flagged_none u list old = record {
   size = refl;
-  marked = λ k b. absurd (omega arith);
+  flagged = λ k b. absurd (omega arith);
   kept = λ w v has. has;
 }
 
-pub marked_more : (u : ℕ) (list : List ℕ) (i entry : ℕ) (old columns : List ℕ) → u < 64 → entry < length columns → entry ≡ get_or list i 0 → AreMarked u list i old columns → AreMarked u list (i + 1) old (set columns entry (bit_or (get_or columns entry 0) (1 * 2 ^ u % 2 ^ 64)))
-marked_more u list i entry old columns small inside at m =
+pub flagged_more : (u : ℕ) (list : List ℕ) (i entry : ℕ) (old columns : List ℕ) → u < 64 → entry < length columns → entry ≡ get_or list i 0 → AreFlagged u list i old columns → AreFlagged u list (i + 1) old (set columns entry (bit_or (get_or columns entry 0) (1 * 2 ^ u % 2 ^ 64)))
+flagged_more u list i entry old columns small inside at m =
     record {
       size = length-set columns entry _ ∙ m.size;
-      marked = λ k b. elim (cases_eq k i) [
+      flagged = λ k b. elim (cases_eq k i) [
         | inl same ↦
             let is : get_or list k 0 ≡ entry = ap (λ (j : ℕ). get_or list j 0) same ∙ sym at in
             rw (is, get_or-set_same columns entry (bit_or (get_or columns entry 0) (1 * 2 ^ u % 2 ^ 64)) 0 inside) (bit_at_set_same w64 (get_or columns entry 0) u small)
-        | inr before ↦ keeps (get_or list k 0) u (m.marked k (below k i b before))
+        | inr before ↦ keeps (get_or list k 0) u (m.flagged k (below k i b before))
       ];
       kept = λ w v has. keeps w v (m.kept w v has);
     }
@@ -112,18 +112,18 @@ read_listed n u list i row v within m has =
     let inside : k < length list = omega (arith, before, within) in
     (k, inside, sym (get_or_default list k 0 v inside) ∙ is)
 
-pub marked_all : (u : ℕ) (list : List ℕ) (i : ℕ) (old columns : List ℕ) → length list ≤ i → AreMarked u list i old columns → All (λ v. HasBit (get_or columns v 0) u) list
-marked_all u list i old columns past m k d inside =
-    subst (λ (v : ℕ). HasBit (get_or columns v 0) u) (get_or_default list k 0 d inside) (m.marked k (omega (arith, inside, past)))
+pub flagged_all : (u : ℕ) (list : List ℕ) (i : ℕ) (old columns : List ℕ) → length list ≤ i → AreFlagged u list i old columns → All (λ v. HasBit (get_or columns v 0) u) list
+flagged_all u list i old columns past m k d inside =
+    subst (λ (v : ℕ). HasBit (get_or columns v 0) u) (get_or_default list k 0 d inside) (m.flagged k (omega (arith, inside, past)))
 
 -- where rows and columns are the same up to an end, the rows have what the columns have
 pub answered : (rows columns list : List ℕ) (n end u : ℕ) → n < end → take end rows ≡ take end columns → All (λ v. v ≤ n) list → All (λ v. HasBit (get_or columns v 0) u) list → All (λ v. HasBit (get_or rows v 0) u) list
-answered rows columns list n end u past same range marked k d inside =
+answered rows columns list n end u past same range flagged k d inside =
     let v = get_or list k d in
     let low : v < end = omega (arith, range k d inside, past) in
     let is : get_or rows v 0 ≡ get_or columns v 0 =
     sym (get_or-take end rows v 0 low) ∙ ap (λ (l : List ℕ). get_or l v 0) same ∙ get_or-take end columns v 0 low in
-    rw is (marked k d inside)
+    rw is (flagged k d inside)
 
 -- ---- list by list
 
@@ -148,9 +148,9 @@ each_more g n place list size is row old k b =
 
 pub columns_more : (g : List (List ℕ)) (place : ℕ) (list old new : List ℕ) → list ≡ get_or g place [] → All (λ v. HasBit (get_or new v 0) (place + 1)) list → ((w v : ℕ) → HasBit (get_or old w 0) v → HasBit (get_or new w 0) v)
     → ((k : ℕ) → k < place → All (λ v. HasBit (get_or old v 0) (k + 1)) (get_or g k [])) → (k : ℕ) → k < place + 1 → All (λ v. HasBit (get_or new v 0) (k + 1)) (get_or g k [])
-columns_more g place list old new is marked kept before k b =
+columns_more g place list old new is flagged kept before k b =
     elim (cases_eq k place) [
       | inl same ↦
-          subst (λ (j : ℕ). All (λ v. HasBit (get_or new v 0) (j + 1)) (get_or g j [])) (sym same) (subst (λ (l : List ℕ). All (λ v. HasBit (get_or new v 0) (place + 1)) l) is marked)
+          subst (λ (j : ℕ). All (λ v. HasBit (get_or new v 0) (j + 1)) (get_or g j [])) (sym same) (subst (λ (l : List ℕ). All (λ v. HasBit (get_or new v 0) (place + 1)) l) is flagged)
       | inr other ↦ λ j d inside. kept (get_or (get_or g k []) j d) (k + 1) (before k (below k place b other) j d inside)
     ]

@@ -37,7 +37,7 @@ pub nothing_traced : (n : ℕ) (next face : ℕ → ℕ) → ((x : ℕ) → x < 
 nothing_traced n next face bare = record {
   few = omega arith;
   passed = λ x h. absurd (omega arith);
-  marked = λ x h. inr (bare x h);
+  flagged = λ x h. inr (bare x h);
   used = λ k h. absurd (omega arith);
   closed = λ x h m. absurd (omega arith);
   behind = λ x h m. absurd (omega arith);
@@ -49,8 +49,8 @@ nothing_traced n next face bare = record {
 pub pass_over : (n : ℕ) (next face : ℕ → ℕ) (c d : ℕ) → IsTraced n next face c d → d < n → face d ≢ UNSET → IsTraced n next face c (d + 1)
 pass_over n next face c d t inside named = record {
   few = omega arith;
-  passed = λ x h. elim (cases_eq x d) [ inl e ↦ elim (t.marked d inside) [ inl m ↦ subst (λ y. face y < c) (sym e) m | inr m ↦ absurd (named m) ] | inr e ↦ t.passed x (omega arith) ];
-  marked = t.marked;
+  passed = λ x h. elim (cases_eq x d) [ inl e ↦ elim (t.flagged d inside) [ inl m ↦ subst (λ y. face y < c) (sym e) m | inr m ↦ absurd (named m) ] | inr e ↦ t.passed x (omega arith) ];
+  flagged = t.flagged;
   used = λ k h. let u = t.used k h in (u.0, omega arith, u.2);
   closed = t.closed;
   behind = t.behind;
@@ -78,7 +78,7 @@ walk_begins n next face c d t inside few bare = record {
 }
   where
     absent : (x : ℕ) → x < n → face x ≡ c → ⊥
-    absent x h m = elim (t.marked x h) [ inl a ↦ omega arith | inr a ↦ omega arith ]
+    absent x h m = elim (t.flagged x h) [ inl a ↦ omega arith | inr a ↦ omega arith ]
 
 -- no number is given twice
 one_number : (x a b : ℕ) → x ≡ a → x ≡ b → a ≢ b → ⊥
@@ -111,7 +111,7 @@ walk_meets n next old face c d t inj w ne = (apart, bare)
     walked h = let y = w.behind (next t) inside h ne in other y.0 y.2 y.3 y.1
 
     bare : face (next t) ≡ UNSET
-    bare = elim (w.traced.marked (next t) inside) [
+    bare = elim (w.traced.flagged (next t) inside) [
       | inl m ↦ absurd (passed m)
       | inr m ↦ elim (w.fresh (next t) inside m) [ inl a ↦ absurd (walked a) | inr a ↦ a ]
     ]
@@ -194,7 +194,7 @@ pub walk_ends : (n : ℕ) (next old face new : ℕ → ℕ) (c d t : ℕ) → Is
 walk_ends n next old face new c d t inj w p round = record {
   few = let few = w.traced.few in omega arith;
   passed = passed;
-  marked = marked;
+  flagged = flagged;
   used = used;
   closed = closed;
   behind = behind;
@@ -216,7 +216,7 @@ walk_ends n next old face new c d t inj w p round = record {
 
     -- a number is an older one, or that of this face
     numbered : (x : ℕ) → x < n → new x < c + 1 → ((old x < c) × (new x ≡ old x)) ⊎ ((old x ≡ UNSET) × (new x ≡ c))
-    numbered x h m = elim (w.traced.marked x h) [
+    numbered x h m = elim (w.traced.flagged x h) [
       | inl a ↦ inl (a, kept x h a)
       | inr a ↦ elim (put_fresh n next old face new c d t w p x h a) [ inl b ↦ inr (a, b) | inr b ↦ absurd (omega arith) ]
     ]
@@ -227,8 +227,8 @@ walk_ends n next old face new c d t inj w p round = record {
       | inr e ↦ let old_one = w.traced.passed x (omega arith) in omega (arith, kept x (omega arith) old_one, old_one)
     ]
 
-    marked : (x : ℕ) → x < n → (new x < c + 1) ⊎ (new x ≡ UNSET)
-    marked x h = elim (w.traced.marked x h) [
+    flagged : (x : ℕ) → x < n → (new x < c + 1) ⊎ (new x ≡ UNSET)
+    flagged x h = elim (w.traced.flagged x h) [
       | inl a ↦ inl (omega (arith, kept x h a))
       | inr a ↦ elim (put_fresh n next old face new c d t w p x h a) [ inl b ↦ inl (omega arith) | inr b ↦ inr b ]
     ]

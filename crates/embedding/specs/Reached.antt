@@ -1,23 +1,23 @@
--- The vertices that are reached from vertex 1, as marks and as a queue.
+-- The vertices that are reached from vertex 1, as flags and as a queue.
 use Rattle.std.specs.Prelude.{◌≡◌, ℕ, ◌<◌, Bool, true, false, List, length, slice_index, slice_index_or, if◌then◌else◌}
 use Rattle.common.specs.Sums.{sum_below}
 use Rattle.embedding.specs.Rules.{IsClosed}
 
--- the mark of v is set
+-- the flag of v is set
 abbrev pub Holds : List Bool → ℕ → Type 0
-Holds marks v = slice_index_or marks v false ≡ true
+Holds flags v = slice_index_or flags v false ≡ true
 
--- the first `found` places of the queue are the marked numbers, each once
+-- the first `found` places of the queue are the flagged numbers, each once
 pub record IsQueue (reached : List Bool) (queue : List ℕ) (found : ℕ) : Type 0 where
-  pub marks : length reached ≡ 256
+  pub flags : length reached ≡ 256
   pub places : length queue ≡ 256
   pub count : sum_below (length reached) (λ v. if slice_index_or reached v false then 1 else 0) ≡ found
   pub queued : (i : ℕ) → i < found → Holds reached (slice_index queue i)
   pub placed : (v : ℕ) → Holds reached v → (i : ℕ) × (i < found) × (slice_index queue i ≡ v)
 
--- the marked numbers are the least closed set that holds vertex 1
+-- the flagged numbers are the least closed set that holds vertex 1
 pub record IsReached (g : List (List ℕ)) (reached : List Bool) : Type 0 where
-  pub marks : length reached ≡ 256
+  pub flags : length reached ≡ 256
   pub first : Holds reached 1
   pub closed : IsClosed g (λ v. slice_index_or reached v false)
   pub least : (s : ℕ → Bool) → s 1 ≡ true → IsClosed g s → (v : ℕ) → Holds reached v → s v ≡ true

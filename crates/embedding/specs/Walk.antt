@@ -8,7 +8,7 @@ use Rattle.embedding.specs.Faces.{HasFaces, IsClosedUnder, degree_in}
 pub record IsTraced (n : ℕ) (next face : ℕ → ℕ) (c d : ℕ) : Type 0 where
   pub few : c ≤ d
   pub passed : (x : ℕ) → x < d → face x < c
-  pub marked : (x : ℕ) → x < n → (face x < c) ⊎ (face x ≡ UNSET)
+  pub flagged : (x : ℕ) → x < n → (face x < c) ⊎ (face x ≡ UNSET)
   pub used : (k : ℕ) → k < c → (e : ℕ) × (e < d) × (face e ≡ k)
   pub closed : (x : ℕ) → x < n → face x < c → face (next x) ≡ face x
   pub behind : (x : ℕ) → x < n → face x < c → (y : ℕ) × (y < n) × (face y ≡ face x) × (next y ≡ x)

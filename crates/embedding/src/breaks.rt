@@ -30,7 +30,7 @@ fn holds(list: &[u8], vertex: u8) -> bool
 fn names_twice(list: &[u8], vertex: u8, last: &mut [u8; 256]) -> bool
     requires { (v : ℕ) → v < 256 → slice_index last.old v < vertex }
     ensures twice { IsTrue result ↔ NamesTwice list.now }
-    ensures marked { (v : ℕ) → v < 256 → slice_index last.new v ≤ vertex }
+    ensures flagged { (v : ℕ) → v < 256 → slice_index last.new v ≤ vertex }
 {
     for v in list {
         if last[usize::from(*v)] == vertex {

@@ -82,7 +82,7 @@ fn add_table(table: &mut Vec<u16>, faces: &[u16], count: u16) -> Result<(), Allo
 }
 
 /// Puts the face of each dart and the degree of each face behind the links, and says how many faces there are. They are
-/// numbered on these marks.
+/// numbered in this memory.
 fn add_on(table: &mut Vec<u16>, faces: &mut [u16]) -> Result<u16, AllocError>
     requires linked { AreLinked (length faces.old) table.old.items }
     requires few { length faces.old ≤ MAX_DARTS }
@@ -101,11 +101,11 @@ pub(crate) fn add_faces(table: &mut Vec<u16>, darts: usize) -> Result<u16, Alloc
     ensures { IfOk result (λ count. IsFaced darts table.old.items count table.new.items) }
 {
     if darts > FEW_DARTS {
-        let mut marks = [UNSET; MAX_DARTS];
-        let faces = &mut marks[..darts];
+        let mut room = [UNSET; MAX_DARTS];
+        let faces = &mut room[..darts];
         return add_on(table, faces);
     }
-    let mut marks = [UNSET; FEW_DARTS];
-    let faces = &mut marks[..darts];
+    let mut room = [UNSET; FEW_DARTS];
+    let faces = &mut room[..darts];
     add_on(table, faces)
 }

@@ -8,7 +8,7 @@ ghost use Rattle.embedding.specs.Reached.{IsQueue, IsReached, Holds};
 use crate::lists::Lists;
 use crate::rules::Rule;
 
-/// The vertices reached so far, as marks and in the order in which they were reached.
+/// The vertices reached so far, as flags and in the order in which they were reached.
 #[derive(Drop)]
 struct ReachedVertices {
     reached: [bool; 256],
@@ -16,7 +16,7 @@ struct ReachedVertices {
     found: usize,
 }
 
-/// Marks a vertex as reached.
+/// Flags a vertex as reached.
 fn reach(vertices: &mut ReachedVertices, vertex: u8)
     requires { IsQueue vertices.old.reached vertices.old.queue vertices.old.found }
     ensures queue { IsQueue vertices.new.reached vertices.new.queue vertices.new.found }
@@ -35,7 +35,7 @@ fn reach(vertices: &mut ReachedVertices, vertex: u8)
     }
 }
 
-/// Marks each entry of a list as reached.
+/// Flags each entry of a list as reached.
 fn reach_all(vertices: &mut ReachedVertices, list: &[u8])
     requires { IsQueue vertices.old.reached vertices.old.queue vertices.old.found }
     ensures queue { IsQueue vertices.new.reached vertices.new.queue vertices.new.found }

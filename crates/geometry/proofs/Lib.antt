@@ -1,5 +1,5 @@
 pub mod Quarters
 pub mod Frontiers
 pub mod Holdings
-pub mod Marking
+pub mod Flagging
 pub mod Pairs

@@ -1,4 +1,4 @@
-//! Marks on a grid of few columns: for each row a word with a bit for each column. The rectangles need no
+//! Flags on a grid of few columns: for each row a word with a bit for each column. The rectangles need no
 //! order. It takes a step for each row of the table and one for each row of each rectangle.
 
 ghost use Rattle.std.specs.Prelude.{◌≡◌, ◌≢◌, ◌+◌, ◌-◌, ◌^◌, ◌<◌, ◌≤◌, ◌↔◌, ℕ, IsTrue, IfOk, All, AllPairs, length, slice_index, SomeIndex, EachIndex};
@@ -6,7 +6,7 @@ ghost use Rattle.std.specs.Bool.{OnTrue, OnFalse};
 ghost use Rattle.std.specs.Int.Bits.{bit_and, bit_or};
 ghost use Rattle.geometry.specs.declared.masks.TheConstants.{COLUMNS};
 ghost use Rattle.geometry.specs.Rectangles.{IsFilled, AreApart};
-ghost use Rattle.geometry.specs.Masks.{Marks, IsMet};
+ghost use Rattle.geometry.specs.Masks.{Flags, IsMet};
 
 use crate::rectangles::Rectangle;
 use std::alloc::AllocError;
@@ -15,8 +15,8 @@ use std::alloc::AllocError;
 pub(crate) const COLUMNS: u32 = 63;
 
 // Whether no two of the rectangles have a point in common. All lie left of column `COLUMNS` and below row
-// `height`. The marks stand in the memory of the list that is lent.
-pub(crate) fn mark_all(
+// `height`. The flags stand in the memory of the list that is lent.
+pub(crate) fn flag_all(
     rectangles: &[Rectangle],
     height: usize,
     table: &mut Vec<u64>,
@@ -29,22 +29,22 @@ pub(crate) fn mark_all(
     if table.len() < height {
         table.resize(height, 0)?;
     }
-    let marks = &mut table[..height];
-    marks.fill(0);
+    let flags = &mut table[..height];
+    flags.fill(0);
     for rectangle in rectangles {
-        if !mark(marks, *rectangle) {
+        if !flag(flags, *rectangle) {
             return Ok(false);
         }
     }
     Ok(true)
 }
 
-// Marks the points of a rectangle; false where one of them is marked already.
-fn mark(table: &mut [u64], new: Rectangle) -> bool
+// Flags the points of a rectangle; false where one of them is flagged already.
+fn flag(table: &mut [u64], new: Rectangle) -> bool
     requires filled { IsFilled new }
     requires narrow { new.right < COLUMNS }
     requires low { new.top < length table.old }
-    ensures marks { OnTrue result (Marks table.old table.new new) }
+    ensures flags { OnTrue result (Flags table.old table.new new) }
     ensures met { OnFalse result (IsMet table.old new) }
 {
     let mask = mask_of(new.left, new.right);

@@ -1,6 +1,6 @@
 //! Rectangles of whole points, and whether any two of a list have a point in common.
 //!
-//! Where all rectangles lie in few rows and columns, their points are marked by bits. Else the method is
+//! Where all rectangles lie in few rows and columns, their points are flagged by bits. Else the method is
 //! a sweep from left to right (Shamos and Hoey 1976, for axis-parallel rectangles). Where the rectangles
 //! have few rows, the frontier of the sweep stands in a table by rows; else the rectangles that it still
 //! meets stand in a map.
@@ -47,7 +47,7 @@ pub fn all_apart_in(
     ensures { IfOk result (λ apart. IsTrue apart ↔ AllPairs AreApart rectangles.old.items) }
 {
     match narrow_height(rectangles) {
-        Some(height) => masks::mark_all(rectangles, height, table),
+        Some(height) => masks::flag_all(rectangles, height, table),
         None => {
             rectangles.sort_unstable_by_key(|r| r.left);
             sweep(alloc, rectangles, table)
@@ -87,7 +87,7 @@ fn table_height(rectangles: &[Rectangle]) -> Option<usize>
 
 // A number of rows that has each row of the rectangles, less than twice as many as they need, where all of them lie in
 // the columns that have bits; none where it is too great. Numbers are gathered by `or`, in which no step is a branch.
-// The rows of all rectangles together need no count here: those that are marked are apart, so that at most `COLUMNS` of
+// The rows of all rectangles together need no count here: those that are flagged are apart, so that at most `COLUMNS` of
 // them have a row in common.
 fn narrow_height(rectangles: &[Rectangle]) -> Option<usize>
     ensures narrow { IfSome result (λ _. All (λ r. r.right < COLUMNS) rectangles.now) }

@@ -71,7 +71,7 @@ fn count_lacking(rt: &impl Abort, found: Result<bool, AllocError>, apart: bool) 
     }
 }
 
-// Rectangles, all but the last in few rows and columns, which are marked by bits, the same a thousand columns
+// Rectangles, all but the last in few rows and columns, which are flagged by bits, the same a thousand columns
 // to the right, which go into a table, and a thousand rows up, which go into a map. Run with each allocation
 // refused in turn too: then one answer is not given, and the others are right.
 #[test]

@@ -14,7 +14,7 @@ returns-then-names_twice c =
 
 pub loop-place-preserved : goal.loop-place-preserved
 loop-place-preserved c =
-    (c.names_twice.ensures.marked, below_more _ _ c.loop-place.invariant.1 (λ twice. iff_false c.names_twice.ensures.twice c.if-names_twice.false (subst (λ (l : List ℕ). NamesTwice l) (sym c.at.ensures.value) twice)))
+    (c.names_twice.ensures.flagged, below_more _ _ c.loop-place.invariant.1 (λ twice. iff_false c.names_twice.ensures.twice c.if-names_twice.false (subst (λ (l : List ℕ). NamesTwice l) (sym c.at.ensures.value) twice)))
 
 pub returns : goal.returns
 returns c =

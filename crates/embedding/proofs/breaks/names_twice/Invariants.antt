@@ -1,5 +1,5 @@
-use Rattle.embedding.proofs.Marking.{IsMarking}
+use Rattle.embedding.proofs.Flagging.{IsFlagging}
 use Rattle.embedding.proofs.breaks.names_twice.Given as goal
 
 abbrev pub invariant-loop-v : goal.invariant-loop-v
-invariant-loop-v l = IsMarking l.list l.vertex l.last l.v-index
+invariant-loop-v l = IsFlagging l.list l.vertex l.last l.v-index

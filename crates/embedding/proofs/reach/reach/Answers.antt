@@ -1,5 +1,5 @@
 use Rattle.std.proofs.Common.{◌≡◌, ℕ, ◌<◌, get_or, false, sym, ap, ◌∙◌, arith}
-use Rattle.embedding.proofs.Reached.{queue_room, queue_more, marks_others}
+use Rattle.embedding.proofs.Reached.{queue_room, queue_more, flags_others}
 use Rattle.embedding.proofs.reach.reach.Goals as goal
 
 pub bounds-vertices-vertices : goal.bounds-vertices-vertices
@@ -27,4 +27,4 @@ returns-then-not-vertices-from-clause-queue c =
 
 pub returns-then-not-vertices-from-clause-others : goal.returns-then-not-vertices-from-clause-others
 returns-then-not-vertices-from-clause-others c =
-    rw c.from-then-not-vertices-from.ensures (λ v holds. marks_others c.args.vertices.now.reached c.args.vertex v holds)
+    rw c.from-then-not-vertices-from.ensures (λ v holds. flags_others c.args.vertices.now.reached c.args.vertex v holds)

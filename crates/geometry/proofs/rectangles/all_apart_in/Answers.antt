@@ -25,4 +25,4 @@ returns-in-None c =
     (rw c.deref-in-None.ensures.value at c.sweep.ensures)
 
 pub returns-in-Some : goal.returns-in-Some
-returns-in-Some c = rw c.deref-in-Some.ensures.value at c.mark_all.ensures
+returns-in-Some c = rw c.deref-in-Some.ensures.value at c.flag_all.ensures

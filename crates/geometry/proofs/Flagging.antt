@@ -1,4 +1,4 @@
--- Marks on a grid, step by step.
+-- Flags on a grid, step by step.
 use Rattle.std.proofs.Common.{◌≡◌, ◌≢◌, ℕ, zero, suc, ◌+◌, ◌-◌, ◌/◌, ◌%◌, ◌^◌, ◌<◌, ◌≤◌, ◌⊎◌, List, length, get_or, sym, ◌∙◌, ap, subst, inl, inr, ⊎_elim, arith, rules, AllPairs, EachIndex, SomeIndex, drop}
 use Rattle.std.specs.Int.{bit_at}
 use Rattle.std.specs.Int.Bits.{bit_and, bit_or}
@@ -9,7 +9,7 @@ use Rattle.std.proofs.lemmas.List.{get_or_default, get_or-take, get_or-drop, pla
 use borrow.Rule.Slice.PartMut.{put_mid, mid_of}
 use Rattle.geometry.specs.declared.rectangles.Rectangle.{Rectangle}
 use Rattle.geometry.specs.Rectangles.{Covers, IsFilled, AreApart}
-use Rattle.geometry.specs.Masks.{Marks, IsMet}
+use Rattle.geometry.specs.Masks.{Flags, IsMet}
 use Rattle.geometry.proofs.Frontiers.{written, below, above}
 use Rattle.geometry.proofs.Holdings.{none_there, at}
 
@@ -92,9 +92,9 @@ module _ (frontier : List ℕ) (r : Rectangle) (full : IsFilled r) (low : r.top 
       (x, y, (column.0, column.1, omega arith, omega (arith, inside, long, full.1)), ap (λ (w : ℕ). bit_at w x) (sym here) ∙ in_word)
 
   -- no row has one, and each gets those of the columns
-  pub marks_part : (mask : ℕ) (new : List ℕ) → mask ≡ columns r → EachIndex part (λ k. bit_and (get_or part k 0) mask ≡ 0) → length new ≡ length part
-      → ((k : ℕ) → k < length part → get_or new k 0 ≡ bit_or (get_or part k 0) mask) → Marks frontier (put_mid r.bottom rows frontier new) r
-  marks_part mask new is none same each =
+  pub flags_part : (mask : ℕ) (new : List ℕ) → mask ≡ columns r → EachIndex part (λ k. bit_and (get_or part k 0) mask ≡ 0) → length new ≡ length part
+      → ((k : ℕ) → k < length part → get_or new k 0 ≡ bit_or (get_or part k 0) mask) → Flags frontier (put_mid r.bottom rows frontier new) r
+  flags_part mask new is none same each =
       let inside : r.bottom + rows ≤ length frontier = omega (arith, low, full.1) in
       let many : length new ≡ rows = same ∙ long in
       let bit : (x : ℕ) → bit_at mask x ≡ bit_at (columns r) x = λ x. ap (λ (m : ℕ). bit_at m x) is in
@@ -107,7 +107,7 @@ module _ (frontier : List ℕ) (r : Rectangle) (full : IsFilled r) (low : r.top 
             let word = get_or frontier y 0 in
             let empty : bit_and word mask ≡ 0 = ap (λ (w : ℕ). bit_and w mask) (sym (row_is y at_point.2 at_point.3)) ∙ none (y - r.bottom) (omega (arith, at_point.2, at_point.3, long, full.1)) in
             omega (arith, bit_at_and word mask x, ap (λ (n : ℕ). bit_at n x) empty, bit_at-zero x, bit x, in_columns r x at_point.0 at_point.1, bit_at-lt word x);
-        marked = λ x y at_point.
+        flagged = λ x y at_point.
             let word = get_or frontier y 0 in
             omega (arith, ap (λ (n : ℕ). bit_at n x) (after y at_point.2 at_point.3), bit_at_or word mask x, bit x, in_columns r x at_point.0 at_point.1, bit_at-lt word x);
         others = λ x y out.
@@ -126,15 +126,15 @@ module _ (frontier : List ℕ) (r : Rectangle) (full : IsFilled r) (low : r.top 
 
 -- ---- all rectangles so far
 
--- The first i of the list are marked and no other points, and they are apart.
-pub record AreMarked (table : List ℕ) (xs : List Rectangle) (i : ℕ) : Type 0 where
-  pub marked : (m x y : ℕ) → m < i → Covers (at xs m) x y → bit_at (get_or table y 0) x ≡ 1
+-- The first i of the list are flagged and no other points, and they are apart.
+pub record AreFlagged (table : List ℕ) (xs : List Rectangle) (i : ℕ) : Type 0 where
+  pub flagged : (m x y : ℕ) → m < i → Covers (at xs m) x y → bit_at (get_or table y 0) x ≡ 1
   pub behind : (x y : ℕ) → bit_at (get_or table y 0) x ≡ 1 → (m : ℕ) × (m < i) × Covers (at xs m) x y
   pub apart : (m n : ℕ) → m < n → n < i → AreApart (at xs m) (at xs n)
 
-pub none_marked : (table : List ℕ) (xs : List Rectangle) → ((y : ℕ) → get_or table y 0 ≡ 0) → AreMarked table xs 0
-none_marked table xs none = record {
-  marked = λ m x y lt cover. absurd (omega (arith, lt));
+pub none_flagged : (table : List ℕ) (xs : List Rectangle) → ((y : ℕ) → get_or table y 0 ≡ 0) → AreFlagged table xs 0
+none_flagged table xs none = record {
+  flagged = λ m x y lt cover. absurd (omega (arith, lt));
   behind = λ x y one. absurd (omega (arith, one, ap (λ (n : ℕ). bit_at n x) (none y), bit_at-zero x));
   apart = λ m n lt below. absurd (omega (arith, below));
 }
@@ -154,36 +154,36 @@ covers_or_not r x y =
     (cases_lt r.right x))
     (cases_lt x r.left)
 
-pub one_more_marked : (before after : List ℕ) (xs : List Rectangle) (i : ℕ) → AreMarked before xs i → Marks before after (at xs i) → AreMarked after xs (i + 1)
-one_more_marked before after xs i so_far marks = record {
-  marked = λ m x y lt cover.
+pub one_more_flagged : (before after : List ℕ) (xs : List Rectangle) (i : ℕ) → AreFlagged before xs i → Flags before after (at xs i) → AreFlagged after xs (i + 1)
+one_more_flagged before after xs i so_far flags = record {
+  flagged = λ m x y lt cover.
       ⊎_elim
-      (λ here. marks.marked x y here)
+      (λ here. flags.flagged x y here)
       (λ away.
       ⊎_elim
       (λ same. absurd (away (subst (λ (k : ℕ). Covers (at xs k) x y) same cover)))
-      (λ ne. marks.others x y away ∙ so_far.marked m x y (omega (arith, lt, ne)) cover)
+      (λ ne. flags.others x y away ∙ so_far.flagged m x y (omega (arith, lt, ne)) cover)
       (cases_eq m i))
       (covers_or_not (at xs i) x y);
   behind = λ x y one.
       ⊎_elim
       (λ here. (i, omega arith, here))
-      (λ away. let earlier = so_far.behind x y (sym (marks.others x y away) ∙ one) in (earlier.0, omega (arith, earlier.1), earlier.2))
+      (λ away. let earlier = so_far.behind x y (sym (flags.others x y away) ∙ one) in (earlier.0, omega (arith, earlier.1), earlier.2))
       (covers_or_not (at xs i) x y);
   apart = λ m n lt below.
       ⊎_elim
       (λ same. subst (λ (k : ℕ). AreApart (at xs m) (at xs k)) (sym same)
-      (λ x y cover here. omega (arith, so_far.marked m x y (omega (arith, lt, same)) cover, marks.free x y here)))
+      (λ x y cover here. omega (arith, so_far.flagged m x y (omega (arith, lt, same)) cover, flags.free x y here)))
       (λ ne. so_far.apart m n lt (omega (arith, below, ne)))
       (cases_eq n i);
 }
 
 -- where the next one is met, it has a point in common with one before it
-pub met_not_apart : (table : List ℕ) (xs : List Rectangle) (i : ℕ) → AreMarked table xs i → i < length xs → IsMet table (at xs i) → AllPairs AreApart xs → ⊥
+pub met_not_apart : (table : List ℕ) (xs : List Rectangle) (i : ℕ) → AreFlagged table xs i → i < length xs → IsMet table (at xs i) → AllPairs AreApart xs → ⊥
 met_not_apart table xs i so_far within (x, y, cover, one) apart =
     let earlier = so_far.behind x y one in
     apart earlier.0 i none_there earlier.1 within x y earlier.2 cover
 
-pub all_marked : (table : List ℕ) (xs : List Rectangle) (i : ℕ) → AreMarked table xs i → length xs ≤ i → AllPairs AreApart xs
-all_marked table xs i so_far all = λ m n d lt within.
+pub all_flagged : (table : List ℕ) (xs : List Rectangle) (i : ℕ) → AreFlagged table xs i → length xs ≤ i → AllPairs AreApart xs
+all_flagged table xs i so_far all = λ m n d lt within.
     rw (get_or_default xs m d none_there (omega (arith, lt, within)), get_or_default xs n d none_there within) (so_far.apart m n lt (omega (arith, within, all)))

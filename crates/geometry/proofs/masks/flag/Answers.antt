@@ -1,7 +1,7 @@
 use Rattle.std.proofs.Common.{Bool, true, false}
 use Rattle.std.specs.Bool.{OnTrue, OnFalse}
-use Rattle.geometry.proofs.Marking.{met_part, marks_part}
-use Rattle.geometry.proofs.masks.mark.Goals as goal
+use Rattle.geometry.proofs.Flagging.{met_part, flags_part}
+use Rattle.geometry.proofs.masks.flag.Goals as goal
 
 from_false : {A B : Type 0} (free : Bool) → (A → B) → OnFalse free A → OnFalse free B
 from_false true f h = tt
@@ -17,8 +17,8 @@ returns-clause-met c =
     (met_part c.args.table.now c.args.new c.requires.filled c.requires.low c.mask_of-mask.result c.mask_of-mask.ensures)
     c.add_mask.ensures.met
 
-pub returns-clause-marks : goal.returns-clause-marks
-returns-clause-marks c =
+pub returns-clause-flags : goal.returns-clause-flags
+returns-clause-flags c =
     from_true c.add_mask.result
-    (λ free each. marks_part c.args.table.now c.args.new c.requires.filled c.requires.low c.mask_of-mask.result c.add_mask.new.rows c.mask_of-mask.ensures free c.add_mask.ensures.count each)
+    (λ free each. flags_part c.args.table.now c.args.new c.requires.filled c.requires.low c.mask_of-mask.result c.add_mask.new.rows c.mask_of-mask.ensures free c.add_mask.ensures.count each)
     c.add_mask.ensures.free c.add_mask.ensures.each

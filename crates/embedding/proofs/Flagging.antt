@@ -1,37 +1,37 @@
--- Marks that tell which entries of a list came before.
+-- Flags that tell which entries of a list came before.
 use Rattle.std.proofs.Common.{◌≡◌, ◌≢◌, ℕ, ◌+◌, ◌<◌, ◌≤◌, List, length, get_or, set, refl, sym, ap, ◌∙◌, inl, inr, arith}
 use Rattle.std.proofs.lemmas.List.{get_or-set_same, get_or-set_other, length-set}
 use Rattle.std.proofs.lemmas.Bool.{cases_eq}
 use Rattle.embedding.specs.Rules.{NamesTwice}
 
--- the numbers marked with the vertex are the first n entries of the list, which differ
-pub record IsMarking (list : List ℕ) (vertex : ℕ) (last : List ℕ) (n : ℕ) : Type 0 where
+-- the numbers flagged with the vertex are the first n entries of the list, which differ
+pub record IsFlagging (list : List ℕ) (vertex : ℕ) (last : List ℕ) (n : ℕ) : Type 0 where
   pub size : length last ≡ 256
-  pub marked : (v : ℕ) → v < 256 → get_or last v 0 ≤ vertex
+  pub flagged : (v : ℕ) → v < 256 → get_or last v 0 ≤ vertex
   pub seen : (i : ℕ) → i < n → get_or last (get_or list i 0) 0 ≡ vertex
   pub named : (v : ℕ) → v < 256 → get_or last v 0 ≡ vertex → (i : ℕ) × (i < n) × (get_or list i 0 ≡ v)
   pub apart : (i j : ℕ) → i < j → j < n → get_or list i 0 ≢ get_or list j 0
 
-pub marking_none : (list : List ℕ) (vertex : ℕ) (last : List ℕ) → length last ≡ 256 → ((v : ℕ) → v < 256 → get_or last v 0 < vertex) → IsMarking list vertex last 0
-marking_none list vertex last size unseen =
+pub flagging_none : (list : List ℕ) (vertex : ℕ) (last : List ℕ) → length last ≡ 256 → ((v : ℕ) → v < 256 → get_or last v 0 < vertex) → IsFlagging list vertex last 0
+flagging_none list vertex last size unseen =
     record {
       size = size;
-      marked = λ v b. omega (arith, unseen v b);
+      flagged = λ v b. omega (arith, unseen v b);
       seen = λ i b. absurd (omega arith);
       named = λ v b e. absurd (omega (arith, unseen v b));
       apart = λ i j a b. absurd (omega arith);
     }
 
--- an entry that is not marked yet
-pub marking_more : (list : List ℕ) (vertex : ℕ) (last : List ℕ) (n v : ℕ) → v < 256 → v ≡ get_or list n 0 → get_or last v 0 ≢ vertex → IsMarking list vertex last n → IsMarking list vertex (set last v vertex) (n + 1)
-marking_more list vertex last n v small at new m =
+-- an entry that is not flagged yet
+pub flagging_more : (list : List ℕ) (vertex : ℕ) (last : List ℕ) (n v : ℕ) → v < 256 → v ≡ get_or list n 0 → get_or last v 0 ≢ vertex → IsFlagging list vertex last n → IsFlagging list vertex (set last v vertex) (n + 1)
+flagging_more list vertex last n v small at new m =
     let inside : v < length last = omega (arith, m.size) in
     let here : get_or (set last v vertex) v 0 ≡ vertex = get_or-set_same last v vertex 0 inside in
     record {
       size = length-set last v vertex ∙ m.size;
-      marked = λ u b. elim (cases_eq u v) [
+      flagged = λ u b. elim (cases_eq u v) [
         | inl same ↦ rw (same, here) (omega arith)
-        | inr other ↦ rw (get_or-set_other last v u vertex 0 other) (m.marked u b)
+        | inr other ↦ rw (get_or-set_other last v u vertex 0 other) (m.flagged u b)
       ];
       seen = λ i b. elim (cases_eq (get_or list i 0) v) [
         | inl same ↦ rw (same, here) refl
@@ -57,10 +57,10 @@ marking_more list vertex last n v small at new m =
     below : (i n : ℕ) → i < n + 1 → (i ≡ n → ⊥) → i < n
     below i n b other = omega arith
 
--- an entry that is marked names a vertex twice
-pub marking_twice : (list : List ℕ) (vertex : ℕ) (last : List ℕ) (n v : ℕ) → n < length list → v < 256 → v ≡ get_or list n 0 → get_or last v 0 ≡ vertex → IsMarking list vertex last n → NamesTwice list
-marking_twice list vertex last n v inside small at old m =
+-- an entry that is flagged names a vertex twice
+pub flagging_twice : (list : List ℕ) (vertex : ℕ) (last : List ℕ) (n v : ℕ) → n < length list → v < 256 → v ≡ get_or list n 0 → get_or last v 0 ≡ vertex → IsFlagging list vertex last n → NamesTwice list
+flagging_twice list vertex last n v inside small at old m =
     let (i, before, same) = m.named v small old in (i, n, before, inside, same ∙ at)
 
-pub marking_all : (list : List ℕ) (vertex : ℕ) (last : List ℕ) (n : ℕ) → length list ≤ n → IsMarking list vertex last n → NamesTwice list → ⊥
-marking_all list vertex last n past m (i, j, before, inside, same) = m.apart i j before (omega arith) same
+pub flagging_all : (list : List ℕ) (vertex : ℕ) (last : List ℕ) (n : ℕ) → length list ≤ n → IsFlagging list vertex last n → NamesTwice list → ⊥
+flagging_all list vertex last n past m (i, j, before, inside, same) = m.apart i j before (omega arith) same
