@@ -2,8 +2,8 @@
 
 use crate::records::staged;
 use crate::reported::{record_of, same};
-use answers::{Answer, DrawingKind};
-use common::Choice;
+use answers::Answer;
+use common::{Choice, DrawingKind};
 use faces::Plane;
 use ortho_rep::Point;
 use std::alloc::{AllocError, Global};

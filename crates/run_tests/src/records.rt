@@ -1,8 +1,8 @@
 //! Known graphs and refused records, answered as a whole and stage by stage.
 
 use crate::reported::{TRIANGLE, record_of, same};
-use answers::{Answer, Cause, DrawingKind, Entry, Framed, Keeping, Task, answer};
-use common::Choice;
+use answers::{Answer, Cause, Entry, Framed, Keeping, Task, answer};
+use common::{Choice, DrawingKind};
 use embedding::Rule;
 use lanes::{Numbered, Staged};
 use planar_code::Record;
