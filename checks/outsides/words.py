@@ -36,7 +36,7 @@ def refused(path: str) -> list[tuple[str, list[Any], str | None]]:
         ("frames of two files", ["frames", path, path], None), ("layout of no file", ["layout"], None),
         ("no such option", ["layout", "--fast", path], None),
         ("lanes that are no number", ["layout", "--lanes", "x", path], None),
-        ("no such choice", ["layout", "--outer", "widest", path], None),
+        ("no such choice", ["layout", "--outer", "greatest", path], None),
         ("a choice that is not said", ["layout", path, "--outer"], None),
         ("no such drawing", ["layout", "--drawing", "x", path], None),
         ("no lanes", ["layout", "--lanes", "0", path], "planarbend: lanes must be 1 to 8\n"),

@@ -3,7 +3,7 @@ use Rattle.std.specs.Prelude.{◌≡◌, ℕ, List, Result, Ok, Err, ⊤}
 use Rattle.planar_code.specs.Stream.{lists_of}
 use Rattle.embedding.specs.Rules.{FirstBroken}
 use Rattle.common.specs.declared.choice.Choice.{Choice}
-use Rattle.faces.specs.Planes.{PlaneModel, IsPlane, IsWidest}
+use Rattle.faces.specs.Planes.{PlaneModel, IsPlane, HasGreatestOuter}
 use Rattle.ortho_rep.specs.Best.{IsChosen}
 use Rattle.answers.specs.declared.fault.LayoutFault.{LayoutFault}
 use Rattle.answers.specs.declared.fault.LayoutFault.TheVariants.{Rule, Memory}
@@ -16,7 +16,7 @@ pub record IsTracedPlane (bytes : List ℕ) (plane : PlaneModel) : Type 0 where
   -- no rule is broken, and the faces are those of the lists
   pub rules : IsPlane plane
   -- the outer face has the most darts, and among equals it holds the least dart
-  pub widest : IsWidest plane
+  pub greatest : HasGreatestOuter plane
 
 -- the plane of such a record, once its outer face is chosen
 pub record IsPlaneOf (choice : Choice) (bytes : List ℕ) (plane : PlaneModel) : Type 0 where

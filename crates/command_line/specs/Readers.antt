@@ -8,5 +8,5 @@ abbrev pub remaining_in : {R : Type 0} → (R → Option (List ℕ)) → ReadTap
 remaining_in remaining tap = remaining tap.reader
 
 -- the bytes that standard input has left, where those are known
-abbrev pub left_in : {I : Type 0} → (I → Option (List ℕ)) → StandardInput I → Option (List ℕ)
-left_in remaining input = remaining input.input
+abbrev pub input_remaining_in : {I : Type 0} → (I → Option (List ℕ)) → StandardInput I → Option (List ℕ)
+input_remaining_in remaining input = remaining input.input

@@ -39,7 +39,7 @@ impl<I: AsFd + Copy> StandardInput<I> {
 }
 
 impl<I: Read + Copy + Send + Sync> Opener for StandardInput<I> {
-    ghost use Rattle.command_line.specs.Readers.{left_in, remaining_in};
+    ghost use Rattle.command_line.specs.Readers.{input_remaining_in, remaining_in};
 
     type Source = ReadTap<I>;
 
@@ -49,7 +49,7 @@ impl<I: Read + Copy + Send + Sync> Opener for StandardInput<I> {
     fn open(&self, _alloc: Global, file: u32) -> Result<ReadTap<I>, OpenFault>
         ensures opens { Opens ⟦<ReadTap<I> as Tap>⟧.to_come ⟦<ReadTap<I> as Tap>⟧.fails
             (⟦<StandardInput<I> as Opener>⟧.meaning self.now file) result }
-        ensures whole { IfOk result (λ source. remaining_in I.remaining source ≡ left_in I.remaining self.now) }
+        ensures whole { IfOk result (λ source. remaining_in I.remaining source ≡ input_remaining_in I.remaining self.now) }
     {
         if self.is_open {
             Ok(ReadTap::new(self.input))

@@ -40,18 +40,18 @@ joined_made w right side front kept inner corners counts corners' counts' count 
     }
 
 -- the outer face's corners, of which the last went where the angle there was 3
-pub record IsLeft (angle : ℕ) (outer after : List ℕ) : Type 0 where
+pub record IsRemaining (angle : ℕ) (outer after : List ℕ) : Type 0 where
   pub popped : angle ≡ 3 → after ≡ take (length outer - 1) outer
   pub whole : angle ≢ 3 → after ≡ outer
 
-pub left_few : (angle : ℕ) (outer after : List ℕ) → IsLeft angle outer after → length after ≤ length outer
+pub left_few : (angle : ℕ) (outer after : List ℕ) → IsRemaining angle outer after → length after ≤ length outer
 left_few angle outer after left =
     elim (cases_eq angle 3) [
       | inl e ↦ omega (arith, ap length (left.popped e), length-take (length outer - 1) outer)
       | inr ne ↦ omega (arith, ap length (left.whole ne))
     ]
 
-pub left_kept : (w : DartMap) (right : ℕ) (inner : List (List ℕ)) (outer after : List ℕ) (angle : ℕ) → angle ≡ w.angle right → IsLeft angle outer after →
+pub left_kept : (w : DartMap) (right : ℕ) (inner : List (List ℕ)) (outer after : List ℕ) (angle : ℕ) → angle ≡ w.angle right → IsRemaining angle outer after →
     (listed : AreListed w right inner outer) → AreKeptCorners w right listed.front after
 left_kept w right inner outer after angle angle_is left listed = record {
   straight = λ h. kept_popped listed.front outer after right listed.ends (left.popped (angle_is ∙ h));

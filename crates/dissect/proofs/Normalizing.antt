@@ -71,7 +71,7 @@ edge_left p s start t k before greater = record {
 }
 
 -- the lesser darts that are left begin behind the edges that have their bends
-pub record AreLeft (p : PlaneModel) (s : ℕ → List Turn) (start t : DartTable) (left : List ℕ) : Type 0 where
+pub record AreRemaining (p : PlaneModel) (s : ℕ → List Turn) (start t : DartTable) (left : List ℕ) : Type 0 where
   pub place : ℕ
   pub within : place ≤ darts p
   pub are : left ≡ lesser_darts_from p.lists place
@@ -79,7 +79,7 @@ pub record AreLeft (p : PlaneModel) (s : ℕ → List Turn) (start t : DartTable
 
 -- before the first of them
 pub none_done : (p : PlaneModel) (s : ℕ → List Turn) (start : DartTable) (edges : List ℕ) → IsLinked (dart_map_of start) → IsMeeting (dart_map_of start) →
-    edges ≡ lesser_darts p → AreLeft p s start start edges
+    edges ≡ lesser_darts p → AreRemaining p s start start edges
 none_done p s start edges linked meeting are =
     let all : darts p ≡ darts p - 0 = omega arith in
     record {
@@ -114,22 +114,22 @@ next_from p s start t d rest (suc more) k all are done =
           (edge_left p s start t k done greater)
     ]
 
-pub next_left : (p : PlaneModel) (s : ℕ → List Turn) (start t : DartTable) (d : ℕ) (rest : List ℕ) → AreLeft p s start t (d ∷ rest) →
+pub next_left : (p : PlaneModel) (s : ℕ → List Turn) (start t : DartTable) (d : ℕ) (rest : List ℕ) → AreRemaining p s start t (d ∷ rest) →
     IsNext p s start t d rest
 next_left p s start t d rest left =
     next_from p s start t d rest (darts p - left.place) left.place (omega (arith, left.within)) left.are left.done
 
 -- the same at a place of the list
 pub next_at : (p : PlaneModel) (s : ℕ → List Turn) (start t : DartTable) (edges : List ℕ) (i : ℕ) → i < length edges →
-    AreLeft p s start t (drop i edges) → IsNext p s start t (get_or edges i 0) (drop (i + 1) edges)
+    AreRemaining p s start t (drop i edges) → IsNext p s start t (get_or edges i 0) (drop (i + 1) edges)
 next_at p s start t edges i inside left =
     let parts : drop i edges ≡ get_or edges i 0 ∷ drop (i + 1) edges =
     drop-cons edges i 0 inside ∙ ap (λ (k : ℕ). get_or edges i 0 ∷ drop k edges) (sym (add-one i)) in
-    next_left p s start t (get_or edges i 0) (drop (i + 1) edges) (subst (AreLeft p s start t) parts left)
+    next_left p s start t (get_or edges i 0) (drop (i + 1) edges) (subst (AreRemaining p s start t) parts left)
 
 pub next_done : (p : PlaneModel) (s : ℕ → List Turn) (start t new : DartTable) (d : ℕ) (rest : List ℕ) → IsNext p s start t d rest →
     IsBent d (dart_map_of t) (s d) (dart_map_of new) → IsLinked (dart_map_of new) → IsMeeting (dart_map_of new) →
-    new.darts ≡ t.darts + 2 * length (s d) → room new ≡ room t → AreLeft p s start new rest
+    new.darts ≡ t.darts + 2 * length (s d) → room new ≡ room t → AreRemaining p s start new rest
 next_done p s start t new d rest next edge linked meeting count same = record {
   place = d + 1;
   within = omega (arith, next.inside);
@@ -151,5 +151,5 @@ none_from p s start t (suc more) k all are done =
     ]
 
 -- where none is left, all edges have their bends
-pub none_left : (p : PlaneModel) (s : ℕ → List Turn) (start t : DartTable) → AreLeft p s start t [] → AreDone p s start t (darts p)
+pub none_left : (p : PlaneModel) (s : ℕ → List Turn) (start t : DartTable) → AreRemaining p s start t [] → AreDone p s start t (darts p)
 none_left p s start t left = none_from p s start t (darts p - left.place) left.place (omega (arith, left.within)) left.are left.done

@@ -17,8 +17,8 @@ use Rattle.entries.specs.declared.answer.Answer.TheVariants.{Laid, Refused, NoMe
 use Rattle.entries.specs.Answers.{IsLaid, Answers}
 use Rattle.drawing_laws.specs.Drawings.{HasDrawing, IsDrawnIfLaid}
 use Rattle.drawing_laws.specs.Least.{HasNoOrder}
-use Rattle.drawing_laws.specs.Left.{MayShow}
-use Rattle.drawing_laws.proofs.Left.{left_of_least}
+use Rattle.drawing_laws.specs.Remaining.{MayShow}
+use Rattle.drawing_laws.proofs.Remaining.{remaining_of_least}
 use Rattle.drawing_laws.proofs.WideOnly.{shown_wide}
 
 -- some numbers are in the order of the boxes
@@ -31,7 +31,7 @@ pub none_shown : (plane : PlaneModel) (shape : ShapeModel) (b : BoxesModel) (cau
     → IsPlane plane → IsLeast plane shape → IsBoxed plane shape b → ¬ ShowsCause plane shape b cause
 none_shown plane shape b cause is least boxed shown =
     some_order plane shape b boxed
-    (subst (MayShow b) (shown_wide plane shape b cause is boxed shown) (left_of_least plane shape b cause is least boxed shown))
+    (subst (MayShow b) (shown_wide plane shape b cause is boxed shown) (remaining_of_least plane shape b cause is least boxed shown))
 
 pub no_cause : (choice : Choice) (bytes : List ℕ) (plane : PlaneModel) (shape : ShapeModel) (prices : PricesModel) (cause : Cause)
     → ¬ IsLaid choice bytes plane shape prices (Err cause)

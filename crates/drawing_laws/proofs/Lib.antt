@@ -31,6 +31,6 @@ pub mod Raising
 pub mod Gaps
 pub mod Axes
 pub mod Lowest
-pub mod Left
+pub mod Remaining
 pub mod WideOnly
 pub mod Drawings

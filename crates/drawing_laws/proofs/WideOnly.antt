@@ -12,8 +12,8 @@ use Rattle.entries.specs.declared.cause.Cause.TheVariants.{Wide, OutOfGrid, NotA
 use Rattle.entries.specs.Drawn.{ShowsCause}
 use Rattle.entries.specs.Answers.{IsLaid}
 use Rattle.drawing_laws.specs.Least.{HasNoOrder}
-use Rattle.drawing_laws.specs.Left.{MayShow}
-use Rattle.drawing_laws.proofs.Left.{left_of_least}
+use Rattle.drawing_laws.specs.Remaining.{MayShow}
+use Rattle.drawing_laws.proofs.Remaining.{remaining_of_least}
 
 pub shown_wide : (plane : PlaneModel) (shape : ShapeModel) (b : BoxesModel) (cause : Cause) → IsPlane plane → IsBoxed plane shape b
     → ShowsCause plane shape b cause → cause ≡ Wide
@@ -30,6 +30,6 @@ laid_wide choice bytes plane shape prices cause is =
     let wide = shown_wide plane shape found.boxes cause is.rules found.boxed found.shown in (
       found.boxes,
       found.boxed,
-      subst (MayShow found.boxes) wide (left_of_least plane shape found.boxes cause is.rules is.least found.boxed found.shown),
+      subst (MayShow found.boxes) wide (remaining_of_least plane shape found.boxes cause is.rules is.least found.boxed found.shown),
       wide,
     )

@@ -3,5 +3,5 @@ pub mod Cells
 pub mod Parts
 pub mod Orders
 pub mod Least
-pub mod Left
+pub mod Remaining
 pub mod Drawings

@@ -16,7 +16,7 @@ ghost use Rattle.entries.specs.declared.cause.Cause.{Cause};
 ghost use Rattle.entries.specs.Drawn.{ShowsCause};
 ghost use Rattle.entries.specs.Answers.{IsLaid};
 ghost use Rattle.drawing_laws.specs.Least.{HasNoOrder};
-ghost use Rattle.drawing_laws.specs.Left.{MayShow};
+ghost use Rattle.drawing_laws.specs.Remaining.{MayShow};
 
 /// The points and corners of a layout are within the grid, so no boxes of a shape show `OutOfGrid`.
 pub fn layouts_are_in_grid()
@@ -28,7 +28,7 @@ pub fn layouts_are_in_grid()
 /// What boxes may show that have at most as many vertices as the grid has columns: `Wide` only where no numbers at all are in
 /// their order. The boxes of a shape with the fewest bends have so few, so the same holds of each cause that stands in place of
 /// points in a laid answer.
-pub fn causes_left()
+pub fn remaining_causes()
     ensures vertices { (plane : PlaneModel) (shape : ShapeModel) (b : BoxesModel) (cause : Cause)
         → IsBoxed plane shape b → b.vertices ≤ MAX_COORDINATE + 1
         → ShowsCause plane shape b cause → MayShow b cause }

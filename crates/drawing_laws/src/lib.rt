@@ -14,7 +14,7 @@ mod planarity;
 mod prices;
 
 pub use bends::few_bends;
-pub use causes::{causes_left, layouts_are_in_grid, only_wide};
+pub use causes::{layouts_are_in_grid, only_wide, remaining_causes};
 pub use cells::cells_are_covered_once;
 pub use closed_sets::closed_sets_hold_the_outside;
 pub use drawn_answers::{answers_are_drawn, laid_answers_are_drawn, no_cause_is_shown};

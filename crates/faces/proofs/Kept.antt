@@ -6,8 +6,8 @@ use Rattle.embedding.specs.Faces.{HasFaces}
 use Rattle.embedding.specs.Rules.{KeepsBefore}
 use Rattle.embedding.specs.Walk.{at}
 use Rattle.faces.specs.Numbering.{Numbering, Numbering-prop}
-use Rattle.faces.specs.Planes.{IsPlane, IsWidest, model_of}
-use Rattle.faces.specs.Widest.{IsFirstWidest}
+use Rattle.faces.specs.Planes.{IsPlane, HasGreatestOuter, model_of}
+use Rattle.faces.specs.Greatest.{IsFirstGreatest}
 use Rattle.faces.proofs.Outer.{plane_from, outer_from}
 
 abbrev IsPlaneBy : (g : List (List ℕ)) → ℕ → Numbering g → Type 0
@@ -19,14 +19,14 @@ plane_by g faces count outer rules order size numbered euler named y =
     let x : Numbering g = ((faces, count), ∣ (size, numbered) ∣₁) in
     subst (IsPlaneBy g outer) (Numbering-prop g x y) (plane_from (model_of g faces count outer) rules order size numbered euler named)
 
-abbrev IsWidestBy : (g : List (List ℕ)) → ℕ → Numbering g → Type 0
-IsWidestBy g outer x = IsWidest (model_of g x.0.0 x.0.1 outer)
+abbrev IsGreatestBy : (g : List (List ℕ)) → ℕ → Numbering g → Type 0
+IsGreatestBy g outer x = HasGreatestOuter (model_of g x.0.0 x.0.1 outer)
 
-pub widest_by : (g : List (List ℕ)) (faces : List ℕ) (count outer : ℕ) → length faces ≡ dart_count g → HasFaces (dart_count g) (next_of g) (at faces) count
-    → IsFirstWidest (dart_count g) (at faces) count outer → (y : Numbering g) → IsWidest (model_of g y.0.0 y.0.1 outer)
-widest_by g faces count outer size numbered widest y =
+pub greatest_by : (g : List (List ℕ)) (faces : List ℕ) (count outer : ℕ) → length faces ≡ dart_count g → HasFaces (dart_count g) (next_of g) (at faces) count
+    → IsFirstGreatest (dart_count g) (at faces) count outer → (y : Numbering g) → HasGreatestOuter (model_of g y.0.0 y.0.1 outer)
+greatest_by g faces count outer size numbered greatest y =
     let x : Numbering g = ((faces, count), ∣ (size, numbered) ∣₁) in
-    subst (IsWidestBy g outer) (Numbering-prop g x y) (outer_from (dart_count g) (next_of g) (at faces) count outer numbered widest)
+    subst (IsGreatestBy g outer) (Numbering-prop g x y) (outer_from (dart_count g) (next_of g) (at faces) count outer numbered greatest)
 
 -- with another outer face
 pub turned : (g : List (List ℕ)) (x y : Numbering g) (outer face : ℕ) → IsPlane (model_of g x.0.0 x.0.1 outer) → face < x.0.1 → IsPlane (model_of g y.0.0 y.0.1 face)

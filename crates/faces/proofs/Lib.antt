@@ -4,5 +4,5 @@ pub mod Sets
 pub mod Ends
 pub mod Joined
 pub mod Outer
-pub mod Widest
+pub mod Greatest
 pub mod Kept

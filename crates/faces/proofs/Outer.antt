@@ -1,4 +1,4 @@
--- What is known once the faces are numbered: they make a plane, and the first widest face is the outer one.
+-- What is known once the faces are numbered: they make a plane, and the first greatest face is the outer one.
 use Rattle.std.proofs.Common.{◌≡◌, ℕ, ◌+◌, ◌*◌, ◌<◌, ◌≤◌, List, length, inl, inr, ◌∙◌, arith}
 use Rattle.std.proofs.lemmas.Bool.{cases_order}
 use Rattle.embedding.specs.declared.rules.Rule.TheVariants.{Range, Loop, Multi, Asymmetric, Edgeless, Degree, Disconnected, Genus}
@@ -7,7 +7,7 @@ use Rattle.embedding.specs.Faces.{HasFaces}
 use Rattle.embedding.specs.Rules.{Breaks, KeepsBefore}
 use Rattle.faces.specs.Faces.{IsOuter}
 use Rattle.faces.specs.Planes.{PlaneModel, IsPlane, vertices, darts, next, face_at}
-use Rattle.faces.specs.Widest.{IsFirstWidest}
+use Rattle.faces.specs.Greatest.{IsFirstGreatest}
 use Rattle.faces.proofs.Unique.{one_count}
 
 -- the last rule is kept where vertices and faces are the edges and two more
@@ -41,13 +41,13 @@ plane_from p rules order size faces euler outer = record {
 }
 
 -- the first face of the greatest degree is the outer one
-pub outer_from : (n : ℕ) (next face : ℕ → ℕ) (f o : ℕ) → HasFaces n next face f → IsFirstWidest n face f o → IsOuter n face f o
-outer_from n next face f o faces widest = record {
-  named = widest.named;
-  most = widest.most;
+pub outer_from : (n : ℕ) (next face : ℕ → ℕ) (f o : ℕ) → HasFaces n next face f → IsFirstGreatest n face f o → IsOuter n face f o
+outer_from n next face f o faces greatest = record {
+  named = greatest.named;
+  most = greatest.most;
   first = λ k d same h here. elim (cases_order k o) [
     | inl equal ↦ (d, omega arith, here ∙ equal)
-    | inr (inl less) ↦ absurd (omega (arith, widest.first k less, same))
+    | inr (inl less) ↦ absurd (omega (arith, greatest.first k less, same))
     | inr (inr more) ↦ let (e, before, is) = faces.ordered d o h (omega (arith, here)) in (e, omega arith, is)
   ];
 }

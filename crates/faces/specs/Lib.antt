@@ -1,5 +1,5 @@
 pub mod Planes
 pub mod Faces
 pub mod Faults
-pub mod Widest
+pub mod Greatest
 pub mod Numbering

@@ -66,8 +66,8 @@ pub record IsPlane (p : PlaneModel) : Type 0 where
   pub outer : p.outer < p.faces
 
 -- the outer face has the most darts, and among equals it holds the least dart
-abbrev pub IsWidest : PlaneModel → Type 0
-IsWidest p = IsOuter (darts p) (face_at p) p.faces p.outer
+abbrev pub HasGreatestOuter : PlaneModel → Type 0
+HasGreatestOuter p = IsOuter (darts p) (face_at p) p.faces p.outer
 
 -- what each dart of a plane has: its ends, its reverse, its next, its face, all within the plane
 pub record HasEnds (p : PlaneModel) : Type 0 where

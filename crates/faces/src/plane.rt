@@ -6,7 +6,7 @@ ghost use Rattle.embedding.specs.Faces.{HasFaces};
 ghost use Rattle.embedding.specs.Rules.{KeepsBefore};
 ghost use Rattle.faces.specs.declared.plane.TheConstants.{MAX_FACES};
 ghost use Rattle.faces.specs.Numbering.{Numbering, Numbering-prop};
-ghost use Rattle.faces.specs.Widest.{IsFirstWidest};
+ghost use Rattle.faces.specs.Greatest.{IsFirstGreatest};
 
 use crate::scratch::Scratch;
 use embedding::Graph;
@@ -51,10 +51,10 @@ pub enum TraceFault {
 }
 
 /// The face with the most darts, among equals the first.
-fn widest_face(graph: &Graph) -> u16
+fn greatest_face(graph: &Graph) -> u16
     requires { KeepsBefore graph.now 8 }
     ensures { (face : ℕ → ℕ) (f : ℕ) → HasFaces (dart_count graph.now) (next_of graph.now) face f
-        → IsFirstWidest (dart_count graph.now) face f result }
+        → IsFirstGreatest (dart_count graph.now) face f result }
 {
     let mut best = 0;
     let mut most = graph.degree_of(0);
@@ -69,7 +69,7 @@ fn widest_face(graph: &Graph) -> u16
 }
 
 impl Plane {
-    ghost use Rattle.faces.specs.Planes.{PlaneModel, IsPlane, IsWidest, HasEnds, darts, next, face_at, degree, with_outer};
+    ghost use Rattle.faces.specs.Planes.{PlaneModel, IsPlane, HasGreatestOuter, HasEnds, darts, next, face_at, degree, with_outer};
     ghost use Rattle.faces.specs.Faults.{IsTraceFault};
 
     /// Takes the face of a graph with the most darts as the outer one, among equals the one that holds the
@@ -82,7 +82,7 @@ impl Plane {
     pub fn trace(alloc: Global, graph: Graph) -> Result<Plane, TraceFault>
         ensures graph { IfOk result (λ p. p.lists ≡ graph) }
         ensures plane { IfOk result IsPlane }
-        ensures outer { IfOk result IsWidest }
+        ensures outer { IfOk result HasGreatestOuter }
         ensures err { IfErr result (IsTraceFault graph) }
         ensures memory { result ≡ Err (TraceFault.Memory graph) → KeepsBefore graph 9 }
     {
@@ -99,14 +99,14 @@ impl Plane {
     pub fn trace_in(alloc: Global, scratch: &mut Scratch, graph: Graph) -> Result<Plane, TraceFault>
         ensures graph { IfOk result (λ p. p.lists ≡ graph) }
         ensures plane { IfOk result IsPlane }
-        ensures outer { IfOk result IsWidest }
+        ensures outer { IfOk result HasGreatestOuter }
         ensures err { IfErr result (IsTraceFault graph) }
         ensures memory { result ≡ Err (TraceFault.Memory graph) → KeepsBefore graph 9 }
     {
         if u16::from(graph.vertices()) + graph.face_count() != graph.edges() + 2 {
             return Err(TraceFault::Genus(graph));
         }
-        let outer = widest_face(&graph);
+        let outer = greatest_face(&graph);
         Ok(Plane { graph, outer })
     }
 

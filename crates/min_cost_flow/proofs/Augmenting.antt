@@ -26,7 +26,7 @@ use Rattle.min_cost_flow.specs.declared.state.Solver.{Solver}
 use Rattle.min_cost_flow.specs.Stand.{potential_at, enters_in, places_in, CanAugment, HasUnitCost, IsPaired, IsPushedAlong}
 use Rattle.networks.proofs.Ends.{start_in, end_in, unit_cost_most}
 use Rattle.min_cost_flow.proofs.Changes.{SameBut, moved_carries, carried_leaves, potentials_stay}
-use Rattle.min_cost_flow.proofs.Rounds.{IsSent, left_falls}
+use Rattle.min_cost_flow.proofs.Rounds.{IsSent, remaining_falls}
 use Rattle.min_cost_flow.proofs.Reverses.{start_is}
 
 -- ---- what is read of a visit
@@ -499,12 +499,12 @@ raised_both z w k e h = (omega (arith, ints), omega (arith, ints))
 not_want : (z w : ℤ) → z ≡ w → pos 0 <ℤ z → w <ℤ pos 0 → ⊥
 not_want z w e a b = omega (arith, ints)
 
-left_there : (z w : ℤ) (k : ℕ) → w ≡ z -ℤ pos k → pos k ≤ℤ z → pos 0 ≤ℤ w
-left_there z w k e h = omega (arith, ints)
+remaining_there : (z w : ℤ) (k : ℕ) → w ≡ z -ℤ pos k → pos k ≤ℤ z → pos 0 ≤ℤ w
+remaining_there z w k e h = omega (arith, ints)
 
 -- an amount went from u to v: from e, by e' where v has it and u still has, to e''
 pub sent_all : (net : NetworkModel) (x y : ℕ → ℕ) (e e' e'' : ℕ → ℤ) (u v k : ℕ) → u < node_count net → pos 0 <ℤ e u → e v <ℤ pos 0 → pos k ≤ℤ e u → (e v +ℤ pos k) ≤ℤ pos 0 → KeepsCaps net y → Carries net y e' u k → e' v ≡ e v +ℤ pos k → ((w : ℕ) → w ≢ v → e' w ≡ e w) → e'' u ≡ e' u -ℤ pos k → ((w : ℕ) → w ≢ u → e'' w ≡ e' w) → ((i : ℕ) → i < arc_count net → y i ≤ x i + k) → IsSent net x y e e'' u k
-sent_all net x y e e' e'' u v k node over want left short caps carries there others here others' grown =
+sent_all net x y e e' e'' u v k node over want remaining short caps carries there others here others' grown =
     let ne : v ≢ u = apart e u v over (under (e v) (pos 0) want) in
     let same : e' u ≡ e u = others u (λ h. ne (sym h)) in
     let here_all : e'' u ≡ e u -ℤ pos k = here ∙ ap (λ (z : ℤ). z -ℤ pos k) same in
@@ -514,7 +514,7 @@ sent_all net x y e e' e'' u v k node over want left short caps carries there oth
       caps = caps;
       leaves = carried_leaves net y e' e'' u k carries here others';
       here = here_all;
-      left = left_there (e u) (e'' u) k here_all left;
+      remaining = remaining_there (e u) (e'' u) k here_all remaining;
       wanting = λ w b h. elim (cases_eq w v) [
         | inl q ↦ subst (λ (t : ℕ). (e t ≤ℤ e'' t) × (e'' t ≤ℤ pos 0)) (sym q) (raised_both (e v) (e'' v) k (others' v ne ∙ there) short)
         | inr d ↦ same_both (e w) (e'' w) (others' w (apart e u w over h) ∙ others w d) h
@@ -525,7 +525,7 @@ sent_all net x y e e' e'' u v k node over want left short caps carries there oth
 
 pub sent_less : (net : NetworkModel) (x y : ℕ → ℕ) (e e' : ℕ → ℤ) (u k : ℕ) → IsSent net x y e e' u k → 0 < k → IsLess net e e'
 sent_less net x y e e' u k s some = record {
-  less = omega (arith, left_falls net x y e e' u k s);
+  less = omega (arith, remaining_falls net x y e e' u k s);
   done = λ v b h. (s.wanting v b h).1;
 }
 
@@ -596,14 +596,14 @@ step_pair net s root v h on some = let l = own_step net s root h v on some in is
 pub lesser_some : (a b k : ℕ) → k ≡ min a b → 0 < a → 0 < b → 0 < k
 lesser_some a b k h x y = omega arith
 
-pub lesser_left : (a k : ℕ) (z : ℤ) → k ≤ a → pos a ≤ℤ z → pos k ≤ℤ z
-lesser_left a k z h x = omega (arith, ints)
+pub lesser_remaining : (a k : ℕ) (z : ℤ) → k ≤ a → pos a ≤ℤ z → pos k ≤ℤ z
+lesser_remaining a k z h x = omega (arith, ints)
 
 pub lesser_short : (a k : ℕ) (z : ℤ) → k ≤ a → (z +ℤ pos a) ≤ℤ pos 0 → (z +ℤ pos k) ≤ℤ pos 0
 lesser_short a k z h x = omega (arith, ints)
 
-pub few_left : (z : ℤ) (k : ℕ) → pos k ≤ℤ z → z ≤ℤ pos 2048 → k ≤ 2048
-few_left z k h m = omega (arith, ints)
+pub few_remaining : (z : ℤ) (k : ℕ) → pos k ≤ℤ z → z ≤ℤ pos 2048 → k ≤ 2048
+few_remaining z k h m = omega (arith, ints)
 
 pub root_apart : (e : ℕ → ℤ) (u v : ℕ) → pos 0 <ℤ e u → e v <ℤ pos 0 → u ≢ v
 root_apart e u v a b h = not_want (e u) (e v) (ap e h) a b

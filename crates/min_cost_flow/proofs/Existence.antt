@@ -318,7 +318,7 @@ as_much net x e ends flat lv =
     let even : sum_below n (λ v. up (s v)) ≡ sum_below n (λ v. down (s v)) = none_total (sum_below n (λ v. up (s v))) (sum_below n (λ v. down (s v))) (sym total ∙ flat) in
     let nodes : sum_below n (λ v. ls v + up (e v) + down (s v)) ≡ sum_below n (λ v. ns v + down (e v) + up (s v)) =
     sum_below-same n (λ v. ls v + up (e v) + down (s v)) (λ v. ns v + down (e v) + up (s v)) (λ v b. node_parts (ls v) (ns v) (e v) (s v) (lv.at_node v b)) in
-    let left : sum_below n (λ v. ls v + up (e v) + down (s v)) ≡ sum_below n ls + sum_below n (λ v. up (e v)) + sum_below n (λ v. down (s v)) = four n ls (λ v. up (e v)) (λ v. down (s v)) in
+    let remaining : sum_below n (λ v. ls v + up (e v) + down (s v)) ≡ sum_below n ls + sum_below n (λ v. up (e v)) + sum_below n (λ v. down (s v)) = four n ls (λ v. up (e v)) (λ v. down (s v)) in
     let right : sum_below n (λ v. ns v + down (e v) + up (s v)) ≡ sum_below n ns + sum_below n (λ v. down (e v)) + sum_below n (λ v. up (s v)) = four n ns (λ v. down (e v)) (λ v. up (s v)) in
     let cross : sum_below n ls ≡ sum_below n ns = all_leave net x ends in
     omega arith

@@ -10,7 +10,7 @@ use Rattle.networks.specs.Networks.{NetworkModel, node_count, arc_count, arc_at,
 use Rattle.networks.proofs.Moving.{delta, moved_at, length-moved}
 use Rattle.networks.specs.Flow.{SolvedModel, Flow, Solves, amounts, at_nodes, cost_of, balance, start_of, end_of, unit_cost, HasPotentials}
 use Rattle.networks.specs.ResidualArcs.{numbers, HasResidualArcs}
-use Rattle.min_cost_flow.specs.Round.{left_over, IsRound}
+use Rattle.min_cost_flow.specs.Round.{remaining_units, IsRound}
 use Rattle.networks.specs.Networks.{HasFairSupplies}
 use Rattle.networks.specs.Residuals.{IsResidualNetwork, flow_of}
 use Rattle.networks.proofs.Moving.{still_network}
@@ -68,12 +68,12 @@ others_none es n f t k v size none fb tb vb ne =
     (moved_at es f t k v (omega arith) (omega arith))
     (cond-false {A = ℕ} (eqb v f) k 0 (ne_eqb v f ne))
 
-left_few : (net : NetworkModel) (es : List ℤ) (f t k : ℕ) → length es ≡ node_count net → none_at es (node_count net) → f < node_count net → t < node_count net → left_over net (at_nodes (moved es f t k)) ≤ k
-left_few net es f t k size none fb tb =
+remaining_few : (net : NetworkModel) (es : List ℤ) (f t k : ℕ) → length es ≡ node_count net → none_at es (node_count net) → f < node_count net → t < node_count net → remaining_units net (at_nodes (moved es f t k)) ≤ k
+remaining_few net es f t k size none fb tb =
     let n = node_count net in
     let e' = at_nodes (moved es f t k) in
     let here : up (e' f) ≤ k = up_few (at_nodes es f) (e' f) (cond {A = ℕ} (eqb f f) k 0) (cond {A = ℕ} (eqb f t) k 0) k (none f fb) (moved_at es f t k f (omega arith) (omega arith)) (chosen_few (eqb f f) k) in
-    let sums : left_over net e' + 0 ≡ sum_below n (λ _. 0) + up (e' f) =
+    let sums : remaining_units net e' + 0 ≡ sum_below n (λ _. 0) + up (e' f) =
     sum_below-changed n f (λ v. up (e' v)) (λ _. 0) fb
     (λ v b ne. up_none (at_nodes es v) (e' v) (cond {A = ℕ} (eqb v f) k 0) (cond {A = ℕ} (eqb v t) k 0) (none v b) (moved_at es f t k v (omega arith) (omega arith)) (cond-false {A = ℕ} (eqb v f) k 0 (ne_eqb v f ne))) in
     omega (arith, sum_below-none n (λ _. 0) (λ i b. refl))
@@ -115,7 +115,7 @@ moved_round net x p p' es f t k nw r size none fb tb few base low capacity =
           fair_delta (at_nodes es v) (e' v) (cond {A = ℕ} (eqb v f) k 0) (cond {A = ℕ} (eqb v t) k 0) (none v vb) (at v)
           (omega (arith, chosen_few (eqb v f) k)) (omega (arith, chosen_few (eqb v t) k));
       capacity = λ i b.
-          let over : left_over (shifted net f t k) e' ≤ k = subst (λ (m : ℕ). sum_below m (λ v. up (e' v)) ≤ k) (sym long) (left_few net es f t k size none fb tb) in
+          let over : remaining_units (shifted net f t k) e' ≤ k = subst (λ (m : ℕ). sum_below m (λ v. up (e' v)) ≤ k) (sym long) (remaining_few net es f t k size none fb tb) in
           omega (arith, capacity i b);
     }
 

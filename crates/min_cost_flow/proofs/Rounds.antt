@@ -12,7 +12,7 @@ use Rattle.networks.specs.declared.arc.Cap.TheVariants.{AtMost, Any}
 use Rattle.networks.specs.Networks.{NetworkModel, node_count, arc_count, arc_at, supply_at, HasEnds, IsNetwork}
 use Rattle.networks.specs.Flow.{leaves, enters, balance, IsWithin, IsUnsaturated, Flow, HasNoFlow, IsResidual, HasPotentials, reduced_cost}
 use Rattle.min_cost_flow.specs.Excess.{KeepsCaps, Leaves}
-use Rattle.min_cost_flow.specs.Round.{left_over, supply_sum, carrying, IsRound, IsLess, IsWork, IsRoundDone}
+use Rattle.min_cost_flow.specs.Round.{remaining_units, supply_sum, carrying, IsRound, IsLess, IsWork, IsRoundDone}
 use Rattle.std.proofs.Math.Nat.{add-mul, one-mul}
 use Rattle.std.proofs.lemmas.Nat.{mul-le}
 use Rattle.min_cost_flow.proofs.Cut.{no_flow_into}
@@ -53,7 +53,7 @@ pub record IsSent (net : NetworkModel) (x y : ℕ → ℕ) (e e' : ℕ → ℤ) 
   pub caps : KeepsCaps net y
   pub leaves : Leaves net y e'
   pub here : e' u ≡ e u -ℤ pos k
-  pub left : pos 0 ≤ℤ e' u
+  pub remaining : pos 0 ≤ℤ e' u
   pub wanting : (v : ℕ) → v < node_count net → e v ≤ℤ pos 0 → (e v ≤ℤ e' v) × (e' v ≤ℤ pos 0)
   pub others : (v : ℕ) → v < node_count net → v ≢ u → pos 0 <ℤ e v → e' v ≡ e v
   pub grown : (i : ℕ) → i < arc_count net → y i ≤ x i + k
@@ -77,15 +77,15 @@ up_falls (negsuc n) (pos m) k h z = absurd (omega (arith, ints))
 up_falls (negsuc n) (negsuc m) k h z = absurd (omega (arith, ints))
 
 -- what is left falls by what was sent
-pub left_falls : (net : NetworkModel) (x y : ℕ → ℕ) (e e' : ℕ → ℤ) (u k : ℕ) → IsSent net x y e e' u k → left_over net e' + k ≡ left_over net e
-left_falls net x y e e' u k s =
-    let sums : left_over net e' + up (e u) ≡ left_over net e + up (e' u) =
+pub remaining_falls : (net : NetworkModel) (x y : ℕ → ℕ) (e e' : ℕ → ℤ) (u k : ℕ) → IsSent net x y e e' u k → remaining_units net e' + k ≡ remaining_units net e
+remaining_falls net x y e e' u k s =
+    let sums : remaining_units net e' + up (e u) ≡ remaining_units net e + up (e' u) =
     sum_below-changed (node_count net) u (λ v. up (e' v)) (λ v. up (e v)) s.node
     (λ v b ne. elim (over_or_not (e v)) [
       | inl o ↦ ap up (s.others v b ne o)
       | inr o ↦ let (l, h) = s.wanting v b o in no_up (e v) (e' v) o h
     ]) in
-    omega (arith, up_falls (e u) (e' u) k s.here s.left)
+    omega (arith, up_falls (e u) (e' u) k s.here s.remaining)
 
 still_wanting : (e e' : ℤ) → e ≤ℤ e' → e' <ℤ pos 0 → e <ℤ pos 0
 still_wanting e e' h w = omega (arith, ints)
@@ -97,7 +97,7 @@ was_wanting : (net : NetworkModel) (x y : ℕ → ℕ) (e e' : ℕ → ℤ) (u k
 was_wanting net x y e e' u k v s b w =
     elim (over_or_not (e v)) [
       | inl o ↦ elim (cases_eq v u) [
-        | inl q ↦ absurd (not_both (e' v) w (subst (λ (t : ℕ). pos 0 ≤ℤ e' t) (sym q) s.left))
+        | inl q ↦ absurd (not_both (e' v) w (subst (λ (t : ℕ). pos 0 ≤ℤ e' t) (sym q) s.remaining))
         | inr ne ↦ let same : e' v ≡ e v = s.others v b ne o in subst (λ (z : ℤ). z <ℤ pos 0) same w
       ]
       | inr o ↦ let (l, h) = s.wanting v b o in still_wanting (e v) (e' v) l w
@@ -116,7 +116,7 @@ still_fair net x y e e' u k v s b f =
         | inl q ↦
             let P : ℕ → Type 0 = λ t. (negsuc 2047 ≤ℤ e' t) × (e' t ≤ℤ pos 2048) in
             let Q : ℕ → Type 0 = λ t. e t ≤ℤ pos 2048 in
-            subst P (sym q) (fair_less (e u) (e' u) k s.here s.left (subst Q q f.1))
+            subst P (sym q) (fair_less (e u) (e' u) k s.here s.remaining (subst Q q f.1))
         | inr ne ↦ let P : ℤ → Type 0 = λ z. (negsuc 2047 ≤ℤ z) × (z ≤ℤ pos 2048) in subst P (sym (s.others v b ne o)) f
       ]
       | inr o ↦ let (l, h) = s.wanting v b o in fair_more (e v) (e' v) l h f.0
@@ -125,7 +125,7 @@ still_fair net x y e e' u k v s b f =
 -- sending along steps that cost nothing keeps all that holds between searches
 pub sent_round : (net : NetworkModel) (x y : ℕ → ℕ) (p e e' : ℕ → ℤ) (u k : ℕ) → IsSent net x y e e' u k → HasPotentials net y p → IsRound net x p e → IsRound net y p e'
 sent_round net x y p e e' u k s priced r =
-    let fall : left_over net e' + k ≡ left_over net e = left_falls net x y e e' u k s in
+    let fall : remaining_units net e' + k ≡ remaining_units net e = remaining_falls net x y e e' u k s in
     record {
       leaves = s.leaves;
       caps = s.caps;
@@ -155,10 +155,10 @@ up_most : (e : ℤ) → e ≤ℤ pos 2048 → up e ≤ 2048
 up_most (pos n) h = omega (arith, ints)
 up_most (negsuc n) h = omega (arith, ints)
 
-first_left : (net : NetworkModel) (e : ℕ → ℤ) → node_count net ≤ MAX_NODES → ((v : ℕ) → v < node_count net → e v ≤ℤ pos 2048) → left_over net e ≤ 2097152
-first_left net e small fair =
+first_remaining : (net : NetworkModel) (e : ℕ → ℤ) → node_count net ≤ MAX_NODES → ((v : ℕ) → v < node_count net → e v ≤ℤ pos 2048) → remaining_units net e ≤ 2097152
+first_remaining net e small fair =
     let n = node_count net in
-    let le : left_over net e ≤ sum_below n (λ _. 2048) = sum_below-le n (λ v. up (e v)) (λ _. 2048) (λ v b. up_most (e v) (fair v b)) in
+    let le : remaining_units net e ≤ sum_below n (λ _. 2048) = sum_below-le n (λ v. up (e v)) (λ _. 2048) (λ v b. up_most (e v) (fair v b)) in
     omega (arith, sum_below-constant n 2048)
 
 first_priced : (net : NetworkModel) (x : ℕ → ℕ) (p : ℕ → ℤ) (i : ℕ) (back : Bool) → x i ≡ 0 → ((v : ℕ) → p v ≡ pos 0) → IsResidual net x i back → pos 0 ≤ℤ reduced_cost net p i back
@@ -170,7 +170,7 @@ pub first_round : (net : NetworkModel) (x : ℕ → ℕ) (p e : ℕ → ℤ) →
 first_round net x p e k none flat full =
     let m = arc_count net in
     let fair : (v : ℕ) → v < node_count net → (negsuc 2047 ≤ℤ e v) × (e v ≤ℤ pos 2048) = λ v b. let P : ℤ → Type 0 = λ z. (negsuc 2047 ≤ℤ z) × (z ≤ℤ pos 2048) in subst P (sym (full v)) (k.supplies v b) in
-    let few : left_over net e ≤ 2097152 = first_left net e k.small.0 (λ v b. (fair v b).1) in
+    let few : remaining_units net e ≤ 2097152 = first_remaining net e k.small.0 (λ v b. (fair v b).1) in
     record {
       leaves = record {
         at_node = λ v b. at_start (leaves net x v) (enters net x v) (e v) (supply_at net v)
@@ -214,7 +214,7 @@ bounds_looks : (l s k m : ℕ) → l ≤ s * (2 * m) → s ≤ 2097152 → m ≤
 bounds_looks l s k m h a b = omega (arith, mul-le s (2 * m) 2097152 8192 a (omega arith))
 
 pub supply_most : (net : NetworkModel) → IsNetwork net → supply_sum net ≤ 2097152
-supply_most net k = first_left net (λ v. supply_at net v) k.small.0 (λ v b. (k.supplies v b).1)
+supply_most net k = first_remaining net (λ v. supply_at net v) k.small.0 (λ v b. (k.supplies v b).1)
 
 pub looks_most : (net : NetworkModel) (x : ℕ → ℕ) (e : ℕ → ℤ) (s l : ℕ) → IsNetwork net → IsWork net x e s l → (s ≤ 2097152) × (l ≤ 17179869184)
 looks_most net x e s l k w =
@@ -224,8 +224,8 @@ looks_most net x e s l k w =
 no_supply : (e s : ℤ) → e ≡ s → e ≤ℤ pos 0 → pos 0 ≤ℤ e → s ≡ pos 0
 no_supply e s h a b = omega (arith, ints)
 
-pub nothing_left : (e : ℤ) → e ≤ℤ pos 0 → pos 0 ≤ℤ e → e ≡ pos 0
-nothing_left e a b = omega (arith, ints)
+pub nothing_remaining : (e : ℤ) → e ≤ℤ pos 0 → pos 0 ≤ℤ e → e ≡ pos 0
+nothing_remaining e a b = omega (arith, ints)
 
 -- where nothing is left over and nothing wanting, all is done
 pub done_at : (net : NetworkModel) (x : ℕ → ℕ) (p e : ℕ → ℤ) (s l : ℕ) → IsRound net x p e → IsWork net x e s l → ((v : ℕ) → v < node_count net → e v ≤ℤ pos 0) → ((v : ℕ) → v < node_count net → pos 0 ≤ℤ e v) → IsRoundDone net x p s l

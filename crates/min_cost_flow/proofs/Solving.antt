@@ -23,7 +23,7 @@ use Rattle.networks.specs.declared.state.Search.{Search}
 use Rattle.networks.specs.declared.state.Visit.{Visit}
 use Rattle.min_cost_flow.specs.Stand.{IsReadyIn, CanAugmentIn, IsCleared}
 use Rattle.networks.specs.ResidualArcs.{end_at, cost_at, reverse_at, capacity_at, StartsAt, number_of, units_of, HasResidualArcs, AreResidualArcs, carried}
-use Rattle.networks.specs.Search.{far, IsArcCost, IsOpen, IsGraph, AreFeasiblePotentials, IsNear, IsReached, IsHit, IsNearest, IsServed, IsLeft, IsPut, IsWithinFar, degree, looked, place_at, labels, enters, orders, places}
+use Rattle.networks.specs.Search.{far, IsArcCost, IsOpen, IsGraph, AreFeasiblePotentials, IsNear, IsReached, IsHit, IsNearest, IsServed, IsRemaining, IsPut, IsWithinFar, degree, looked, place_at, labels, enters, orders, places}
 use Rattle.min_cost_flow.specs.Path.{HasPath}
 use Rattle.min_cost_flow.proofs.Cut.{no_flow_out}
 use Rattle.networks.proofs.Ends.{start_in, end_in}
@@ -151,8 +151,8 @@ moved_to n first arcs p p' e s q enter order place scanned ordered reached radiu
 below_label : (p' p q radius bound : ℤ) → p' ≡ q -ℤ bound → (q -ℤ p) ≤ℤ radius → radius ≤ℤ bound → p' ≤ℤ p
 below_label p' p q radius bound h a b = omega (arith, ints)
 
-left_label : (p' p q bound : ℤ) → p' ≡ p → bound ≤ℤ (q -ℤ p) → p' ≤ℤ (q -ℤ bound)
-left_label p' p q bound h a = omega (arith, ints)
+remaining_label : (p' p q bound : ℤ) → p' ≡ p → bound ≤ℤ (q -ℤ p) → p' ≤ℤ (q -ℤ bound)
+remaining_label p' p q bound h a = omega (arith, ints)
 
 same_below : (a b : ℤ) → a ≡ b → a ≤ℤ b
 same_below a b h = omega (arith, ints)
@@ -167,11 +167,11 @@ potentials_fall n first arcs p p' e s q enter order place scanned ordered reache
       | inr f ↦ same_below (p' v) (p v) (m.unlabelled v b f)
     ]
 
-labels_fall : (n : ℕ) (p p' q : ℕ → ℤ) (place : ℕ → ℕ) (scanned : ℕ) (bound : ℤ) → IsMovedTo n p p' q place scanned bound → IsLeft n p q place scanned bound → (v : ℕ) → v < n → q v <ℤ far → p' v ≤ℤ (q v -ℤ bound)
-labels_fall n p p' q place scanned bound m left v b l =
+labels_fall : (n : ℕ) (p p' q : ℕ → ℤ) (place : ℕ → ℕ) (scanned : ℕ) (bound : ℤ) → IsMovedTo n p p' q place scanned bound → IsRemaining n p q place scanned bound → (v : ℕ) → v < n → q v <ℤ far → p' v ≤ℤ (q v -ℤ bound)
+labels_fall n p p' q place scanned bound m remaining v b l =
     elim (cases_lt (place v) scanned) [
       | inl h ↦ same_below (p' v) (q v -ℤ bound) (m.are_scanned v b l h)
-      | inr h ↦ left_label (p' v) (p v) (q v) bound (m.behind v b l h) (left v b l h)
+      | inr h ↦ remaining_label (p' v) (p v) (q v) bound (m.behind v b l h) (remaining v b l h)
     ]
 
 both_lower : (c a b b' : ℤ) → pos 0 ≤ℤ (c +ℤ a -ℤ b) → b' ≤ℤ b → pos 0 ≤ℤ (c +ℤ a -ℤ b')
@@ -186,8 +186,8 @@ near_end c a q qe b' bound h k l = omega (arith, ints)
 label_step : (ps q c qe : ℤ) (n h : ℕ) → n ≤ MAX_NODES → h ≤ n → ps ≤ℤ pos (2 * n) → IsNear ps h q → c ≤ℤ pos 1 → qe ≤ℤ (q +ℤ c) → qe <ℤ far
 label_step ps q c qe n h small le low (a, b) o k = omega (arith, ints)
 
-pub moved_priced : (n : ℕ) (first : List ℕ) (arcs : List ResidualArc) (p p' e : ℕ → ℤ) (s : ℕ) (q : ℕ → ℤ) (enter order place : ℕ → ℕ) (scanned ordered reached : ℕ) (radius bound : ℤ) (f : ℕ) → IsGraph n first arcs → AreFeasiblePotentials n first arcs p e → IsReached n first arcs p e s q enter order place scanned ordered reached radius → IsNearest n first arcs p e s q place scanned radius bound f → IsServed n first arcs p q place bound scanned → IsLeft n p q place scanned bound → IsMovedTo n p p' q place scanned bound → (v k : ℕ) → v < n → StartsAt first v k → IsOpen arcs k → pos 0 ≤ℤ (cost_at arcs k +ℤ p' v -ℤ p' (end_at arcs k))
-moved_priced n first arcs p p' e s q enter order place scanned ordered reached radius bound f g pr r near sv left m v k b st op =
+pub moved_priced : (n : ℕ) (first : List ℕ) (arcs : List ResidualArc) (p p' e : ℕ → ℤ) (s : ℕ) (q : ℕ → ℤ) (enter order place : ℕ → ℕ) (scanned ordered reached : ℕ) (radius bound : ℤ) (f : ℕ) → IsGraph n first arcs → AreFeasiblePotentials n first arcs p e → IsReached n first arcs p e s q enter order place scanned ordered reached radius → IsNearest n first arcs p e s q place scanned radius bound f → IsServed n first arcs p q place bound scanned → IsRemaining n p q place scanned bound → IsMovedTo n p p' q place scanned bound → (v k : ℕ) → v < n → StartsAt first v k → IsOpen arcs k → pos 0 ≤ℤ (cost_at arcs k +ℤ p' v -ℤ p' (end_at arcs k))
+moved_priced n first arcs p p' e s q enter order place scanned ordered reached radius bound f g pr r near sv remaining m v k b st op =
     let eb : end_at arcs k < n = g.end v k b st in
     let fall : p' (end_at arcs k) ≤ℤ p (end_at arcs k) = potentials_fall n first arcs p p' e s q enter order place scanned ordered reached radius bound f r near m (end_at arcs k) eb in
     let old : p' v ≡ p v → pos 0 ≤ℤ (cost_at arcs k +ℤ p' v -ℤ p' (end_at arcs k)) = λ t. subst (λ (z : ℤ). pos 0 ≤ℤ (cost_at arcs k +ℤ z -ℤ p' (end_at arcs k))) (sym t) (both_lower (cost_at arcs k) (p v) (p (end_at arcs k)) (p' (end_at arcs k)) (pr.reduced v k b st op) fall) in
@@ -198,7 +198,7 @@ moved_priced n first arcs p p' e s q enter order place scanned ordered reached r
               let less : q (end_at arcs k) ≤ℤ (q v +ℤ cost_at arcs k) = sv.served v k b l h st op near in
               let le : scanned ≤ n = omega (arith, r.counts) in
               let given_label : q (end_at arcs k) <ℤ far = label_step (p s) (q v) (cost_at arcs k) (q (end_at arcs k)) n scanned g.nodes le (pr.low s r.root.0).1 (r.near v b l) op less in
-              near_end (cost_at arcs k) (p' v) (q v) (q (end_at arcs k)) (p' (end_at arcs k)) bound (m.are_scanned v b l h) less (labels_fall n p p' q place scanned bound m left (end_at arcs k) eb given_label)
+              near_end (cost_at arcs k) (p' v) (q v) (q (end_at arcs k)) (p' (end_at arcs k)) bound (m.are_scanned v b l h) less (labels_fall n p p' q place scanned bound m remaining (end_at arcs k) eb given_label)
           | inr away ↦ far_end (cost_at arcs k) (p' v) (q v) (p (end_at arcs k)) (p' (end_at arcs k)) bound (m.are_scanned v b l h) away fall
         ]
         | inr h ↦ old (m.behind v b l h)
@@ -237,15 +237,15 @@ wanting_far n first arcs p e s q enter order place scanned ordered reached radiu
 
 -- ---- the round after the potentials have moved
 
-pub moved_round : (net : NetworkModel) (first : List ℕ) (reverse : ℕ → ℕ) (forward : List ℕ) (capacity : ℕ → ℕ) (arcs : List ResidualArc) (p p' e : ℕ → ℤ) (s : ℕ) (q : ℕ → ℤ) (enter order place : ℕ → ℕ) (scanned ordered reached : ℕ) (radius bound : ℤ) (f : ℕ) → IsNetwork net → HasResidualArcs net first reverse forward → AreResidualArcs net reverse forward capacity arcs → IsRound net (carried reverse forward capacity) p e → IsReached (node_count net) first arcs p e s q enter order place scanned ordered reached radius → IsNearest (node_count net) first arcs p e s q place scanned radius bound f → IsServed (node_count net) first arcs p q place bound scanned → IsLeft (node_count net) p q place scanned bound → bound <ℤ far → IsMovedTo (node_count net) p p' q place scanned bound → IsRound net (carried reverse forward capacity) p' e
-moved_round net first reverse forward capacity arcs p p' e s q enter order place scanned ordered reached radius bound f k l fl rd r near sv left hit m =
+pub moved_round : (net : NetworkModel) (first : List ℕ) (reverse : ℕ → ℕ) (forward : List ℕ) (capacity : ℕ → ℕ) (arcs : List ResidualArc) (p p' e : ℕ → ℤ) (s : ℕ) (q : ℕ → ℤ) (enter order place : ℕ → ℕ) (scanned ordered reached : ℕ) (radius bound : ℤ) (f : ℕ) → IsNetwork net → HasResidualArcs net first reverse forward → AreResidualArcs net reverse forward capacity arcs → IsRound net (carried reverse forward capacity) p e → IsReached (node_count net) first arcs p e s q enter order place scanned ordered reached radius → IsNearest (node_count net) first arcs p e s q place scanned radius bound f → IsServed (node_count net) first arcs p q place bound scanned → IsRemaining (node_count net) p q place scanned bound → bound <ℤ far → IsMovedTo (node_count net) p p' q place scanned bound → IsRound net (carried reverse forward capacity) p' e
+moved_round net first reverse forward capacity arcs p p' e s q enter order place scanned ordered reached radius bound f k l fl rd r near sv remaining hit m =
     let n = node_count net in
     let g : IsGraph n first arcs = is_graph net first reverse forward capacity arcs k l fl in
     let pr : AreFeasiblePotentials n first arcs p e = is_priced net first reverse forward capacity arcs p e k l fl rd in
     record {
       leaves = rd.leaves;
       caps = rd.caps;
-      priced = potentials_by_arc net first reverse forward capacity arcs p' k l fl (λ i b. omega (arith, rd.capacity i b)) (moved_priced n first arcs p p' e s q enter order place scanned ordered reached radius bound f g pr r near sv left m);
+      priced = potentials_by_arc net first reverse forward capacity arcs p' k l fl (λ i b. omega (arith, rd.capacity i b)) (moved_priced n first arcs p p' e s q enter order place scanned ordered reached radius bound f g pr r near sv remaining m);
       low = moved_low n first arcs p p' e s q enter order place scanned ordered reached radius bound f pr r near hit m;
       zero = λ v b w. m.unlabelled v b (wanting_far n first arcs p e s q enter order place scanned ordered reached radius v r b w) ∙ rd.zero v b w;
       fair = rd.fair;
@@ -319,15 +319,15 @@ in_reach ps q pv n h small le low (a, b) d = omega (arith, ints)
 in_reach_step : (ps q pe c : ℤ) (n h : ℕ) → n ≤ MAX_NODES → h ≤ n → ps ≤ℤ pos (2 * n) → IsNear ps h q → pos 0 ≤ℤ (pe +ℤ pos (2 * n)) → c ≤ℤ pos 1 → (q +ℤ c -ℤ pe) <ℤ far
 in_reach_step ps q pe c n h small le low (a, b) d o = omega (arith, ints)
 
-pub nothing_found : (net : NetworkModel) (first : List ℕ) (reverse : ℕ → ℕ) (forward : List ℕ) (capacity : ℕ → ℕ) (arcs : List ResidualArc) (p e : ℕ → ℤ) (s : ℕ) (q : ℕ → ℤ) (enter order place : ℕ → ℕ) (scanned ordered reached : ℕ) (radius bound : ℤ) → IsNetwork net → HasResidualArcs net first reverse forward → AreResidualArcs net reverse forward capacity arcs → IsRound net (carried reverse forward capacity) p e → IsReached (node_count net) first arcs p e s q enter order place scanned ordered reached radius → IsServed (node_count net) first arcs p q place bound scanned → IsLeft (node_count net) p q place scanned bound → bound ≡ far → pos 0 <ℤ e s → HasNoFlow net
-nothing_found net first reverse forward capacity arcs p e s q enter order place scanned ordered reached radius bound k l fl rd r sv left none over =
+pub nothing_found : (net : NetworkModel) (first : List ℕ) (reverse : ℕ → ℕ) (forward : List ℕ) (capacity : ℕ → ℕ) (arcs : List ResidualArc) (p e : ℕ → ℤ) (s : ℕ) (q : ℕ → ℤ) (enter order place : ℕ → ℕ) (scanned ordered reached : ℕ) (radius bound : ℤ) → IsNetwork net → HasResidualArcs net first reverse forward → AreResidualArcs net reverse forward capacity arcs → IsRound net (carried reverse forward capacity) p e → IsReached (node_count net) first arcs p e s q enter order place scanned ordered reached radius → IsServed (node_count net) first arcs p q place bound scanned → IsRemaining (node_count net) p q place scanned bound → bound ≡ far → pos 0 <ℤ e s → HasNoFlow net
+nothing_found net first reverse forward capacity arcs p e s q enter order place scanned ordered reached radius bound k l fl rd r sv remaining none over =
     let n = node_count net in
     let le : scanned ≤ n = omega (arith, r.counts) in
     let low : p s ≤ℤ pos (2 * n) = (rd.low s r.root.0).1 in
     let in_set : ℕ → Bool = λ v. lt_z (q v) far in
     let are_scanned : (v : ℕ) → v < n → q v <ℤ far → place v < scanned = λ v b m. elim (cases_lt (place v) scanned) [
       | inl h ↦ h
-      | inr h ↦ absurd (not_less (q v -ℤ p v) far (in_reach (p s) (q v) (p v) n scanned k.small.0 le low (r.near v b m) (rd.low v b).0) (subst (λ (z : ℤ). z ≤ℤ (q v -ℤ p v)) none (left v b m h)))
+      | inr h ↦ absurd (not_less (q v -ℤ p v) far (in_reach (p s) (q v) (p v) n scanned k.small.0 le low (r.near v b m) (rd.low v b).0) (subst (λ (z : ℤ). z ≤ℤ (q v -ℤ p v)) none (remaining v b m h)))
     ] in
     no_flow_out net (carried reverse forward capacity) e in_set s k.ends rd.leaves
     (record {
@@ -450,14 +450,14 @@ pub can_augment : (net : NetworkModel) (r : Residual) (potential excess potentia
     → IsReached (length potential) r.first.items r.arcs.items (at_nodes potential) (at_nodes excess) root (labels t) (enters t) (orders t) (places t) t.scanned t.ordered t.reached t.radius
     → IsNearest (length potential) r.first.items r.arcs.items (at_nodes potential) (at_nodes excess) root (labels t) (places t) t.scanned t.radius t.bound t.found
     → IsServed (length potential) r.first.items r.arcs.items (at_nodes potential) (labels t) (places t) t.bound t.scanned
-    → IsLeft (length potential) (at_nodes potential) (labels t) (places t) t.scanned t.bound
+    → IsRemaining (length potential) (at_nodes potential) (labels t) (places t) t.scanned t.bound
     → t.bound <ℤ far
     → ((j : ℕ) → j < t.scanned → at_nodes potential' (orders t j) ≡ labels t (orders t j) -ℤ t.bound)
     → ((v : ℕ) → ((j : ℕ) → j < t.scanned → orders t j ≢ v) → at_nodes potential' v ≡ at_nodes potential v)
     → length potential' ≡ length potential
     → IsCleared t t' → visits' ≡ t'.visits.now
     → CanAugmentIn net r potential' excess visits' t'.found root
-can_augment net res potential excess potential' visits visits' root t t' r b over size g h near sv left hit moved others same q list =
+can_augment net res potential excess potential' visits visits' root t t' r b over size g h near sv remaining hit moved others same q list =
     let n = r.potentials in
     let first = res.first.items in
     let arcs = res.arcs.items in
@@ -469,7 +469,7 @@ can_augment net res potential excess potential' visits visits' root t t' r b ove
     let re = subst (λ (k : ℕ). IsReached k first arcs p x root (labels t) (enters t) (orders t) (places t) t.scanned t.ordered t.reached t.radius) n h in
     let nt = subst (λ (k : ℕ). IsNearest k first arcs p x root (labels t) (places t) t.scanned t.radius t.bound t.found) n near in
     let sn = subst (λ (k : ℕ). IsServed k first arcs p (labels t) (places t) t.bound t.scanned) n sv in
-    let ln = subst (λ (k : ℕ). IsLeft k p (labels t) (places t) t.scanned t.bound) n left in
+    let ln = subst (λ (k : ℕ). IsRemaining k p (labels t) (places t) t.scanned t.bound) n remaining in
     let mn = subst (λ (k : ℕ). IsMovedTo k p p' (labels t) (places t) t.scanned t.bound) n m in
     let path = has_path _ _ _ _ p' _ _ _ _ _ _ _ _ _ _ _ t.found g h near hit m in
     let way = subst (λ (k : ℕ). HasPath k first arcs p' (enters t) (places t) root t.found) n path in
@@ -486,7 +486,7 @@ can_augment net res potential excess potential' visits visits' root t t' r b ove
       };
       path = rw (list, fun_ext q.enter, fun_ext q.place, q.found) way;
       root = b;
-      left = over;
+      remaining = over;
       wanting = rw q.found (near.hit hit).wanting;
     }
 

@@ -8,8 +8,8 @@ use Rattle.networks.specs.Flow.{Flow, HasPotentials}
 use Rattle.min_cost_flow.specs.Excess.{KeepsCaps, Leaves}
 
 -- what is left to send
-abbrev pub left_over : NetworkModel → (ℕ → ℤ) → ℕ
-left_over net e = sum_below (node_count net) (λ v. up (e v))
+abbrev pub remaining_units : NetworkModel → (ℕ → ℤ) → ℕ
+remaining_units net e = sum_below (node_count net) (λ v. up (e v))
 
 -- amounts x within the capacities leave the excess e, the potentials p show that they cost least, and all numbers
 -- keep their bounds
@@ -20,7 +20,7 @@ pub record IsRound (net : NetworkModel) (x : ℕ → ℕ) (p e : ℕ → ℤ) : 
   pub low : (v : ℕ) → v < node_count net → (pos 0 ≤ℤ (p v +ℤ pos (2 * node_count net))) × (p v ≤ℤ pos (2 * node_count net))
   pub zero : (v : ℕ) → v < node_count net → e v <ℤ pos 0 → p v ≡ pos 0
   pub fair : (v : ℕ) → v < node_count net → IsFair (e v)
-  pub capacity : (i : ℕ) → i < arc_count net → x i + left_over net e ≤ MAX_CARRIED
+  pub capacity : (i : ℕ) → i < arc_count net → x i + remaining_units net e ≤ MAX_CARRIED
 
 -- how many arcs carry units
 abbrev pub carrying : NetworkModel → (ℕ → ℕ) → ℕ
@@ -28,12 +28,12 @@ carrying net x = sum_below (arc_count net) (λ i. if x i == 0 then 0 else 1)
 
 -- what units that go from one node to another leave: nothing is left over anew, and less in all
 pub record IsLess (net : NetworkModel) (e e' : ℕ → ℤ) : Type 0 where
-  pub less : left_over net e' < left_over net e
+  pub less : remaining_units net e' < remaining_units net e
   pub done : (v : ℕ) → v < node_count net → e v ≤ℤ pos 0 → e' v ≤ℤ pos 0
 
 -- all that is supplied
 abbrev pub supply_sum : NetworkModel → ℕ
-supply_sum net = left_over net (λ v. supply_at net v)
+supply_sum net = remaining_units net (λ v. supply_at net v)
 
 -- some node supplies or wants units
 abbrev pub HasSupply : NetworkModel → Type 0
@@ -45,7 +45,7 @@ IsWithinReach net p = (v : ℕ) → v < node_count net → (pos 0 ≤ℤ (p v +�
 
 -- how much work has been done by the time that amounts x leave the excess e
 pub record IsWork (net : NetworkModel) (x : ℕ → ℕ) (e : ℕ → ℤ) (searches looks : ℕ) : Type 0 where
-  pub few : searches + left_over net e ≤ supply_sum net
+  pub few : searches + remaining_units net e ≤ supply_sum net
   pub bounded : looks ≤ searches * (2 * arc_count net)
   pub carried : carrying net x ≤ looks
   pub begun : (1 ≤ searches) ⊎ ((v : ℕ) → v < node_count net → e v ≡ supply_at net v)

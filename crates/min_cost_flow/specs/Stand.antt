@@ -98,7 +98,7 @@ pub record CanAugmentIn (net : NetworkModel) (r : Residual) (potential excess : 
   pub ready : IsReadyIn net r potential excess visits
   pub path : HasPath (node_count net) r.first.items r.arcs.items (at_nodes potential) (enter_at visits) (place_at visits) from found
   pub root : from < node_count net
-  pub left : pos 0 <ℤ at_nodes excess from
+  pub remaining : pos 0 <ℤ at_nodes excess from
   pub wanting : at_nodes excess (end_at r.arcs.items found) <ℤ pos 0
 
 abbrev pub CanAugment : NetworkModel → Solver → ℕ → Type 0
@@ -113,7 +113,7 @@ pub record IsSentAlong (net : NetworkModel) (s s' : Solver) : Type 0 where
 -- so many units fit along the path, are left over where it starts, and are wanting where it ends
 pub record IsFitting (s : Solver) (root amount : ℕ) : Type 0 where
   pub found : amount ≤ capacity_at s.residual.capacities.items s.found
-  pub left : pos amount ≤ℤ excess_at s root
+  pub remaining : pos amount ≤ℤ excess_at s root
   pub short : (excess_at s (end_at s.residual.arcs.items s.found) +ℤ pos amount) ≤ℤ pos 0
   pub fits : (v : ℕ) → IsOnWay (previous_of s.residual.arcs.items s.residual.capacities.items (enters_in s)) (places_in s) (last_node s) v → 0 < places_in s v → amount ≤ room_into s.residual.capacities.items (enters_in s) v
 

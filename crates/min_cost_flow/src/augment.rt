@@ -56,10 +56,10 @@ impl Solver {
 fn most_between(excess: &[i32], root: usize, target: usize) -> u32
     requires root { root < length excess.now }
     requires target { target < length excess.now }
-    requires left { pos 0 <ℤ at_nodes excess.now root }
+    requires remaining { pos 0 <ℤ at_nodes excess.now root }
     requires wanting { at_nodes excess.now target <ℤ pos 0 }
     ensures some { 0 < result }
-    ensures left { pos result ≤ℤ at_nodes excess.now root }
+    ensures remaining { pos result ≤ℤ at_nodes excess.now root }
     ensures wanting { (at_nodes excess.now target +ℤ pos result) ≤ℤ pos 0 }
     ensures most { (k : ℕ) → pos k ≤ℤ at_nodes excess.now root → (at_nodes excess.now target +ℤ pos k) ≤ℤ pos 0 → k ≤ result }
 {

@@ -142,7 +142,7 @@ impl Solver {
     pub(crate) fn augment_once(&mut self, root: usize) -> bool
         requires ready { (net : NetworkModel) × IsReady net self.old }
         requires root { root < length self.old.nodes.excess.items }
-        requires left { pos 0 <ℤ excess_at self.old root }
+        requires remaining { pos 0 <ℤ excess_at self.old root }
         requires few { self.old.looks < 2 ^ 61 }
         ensures augmented { result ≡ true → (net : NetworkModel) → IsReady net self.old → IsAugmented net self.old self.new }
         ensures no_flow { result ≡ false → (net : NetworkModel) → IsReady net self.old → HasNoFlow net }
@@ -176,7 +176,7 @@ pub(crate) fn find_path(
 ) -> Option<usize>
     requires ready { (net : NetworkModel) × IsReadyIn net residual.now nodes.old.potential.items nodes.old.excess.items visits.old }
     requires root { root < length nodes.old.excess.items }
-    requires left { pos 0 <ℤ at_nodes nodes.old.excess.items root }
+    requires remaining { pos 0 <ℤ at_nodes nodes.old.excess.items root }
     requires few { looks.old < 2 ^ 61 }
     ensures found { IfSome result (λ found. (net : NetworkModel) → IsReadyIn net residual.now nodes.old.potential.items nodes.old.excess.items visits.old → CanAugmentIn net residual.now nodes.new.potential.items nodes.new.excess.items visits.new found root) }
     ensures short { IfSome result (λ found. looks.old + place_at visits.new (end_at residual.now.arcs.items (reverse_at residual.now.capacities.items found)) + 1 ≤ looks.new) }

@@ -7,7 +7,7 @@ use Rattle.networks.specs.declared.network.TheConstants.{MAX_NODES}
 use Rattle.networks.specs.declared.residual.ResidualArc.{ResidualArc}
 use Rattle.networks.proofs.Distinct.{AreDistinct, distinct_sum, room_for}
 use Rattle.networks.specs.ResidualArcs.{numbers, end_at, cost_at, StartsAt}
-use Rattle.networks.specs.Search.{far, IsGraph, AreFeasiblePotentials, IsNear, IsEntered, IsReached, IsNearest, Serves, IsServed, IsLeft, AreLowered, IsOffer, IsPut, IsSwapped, IsWithinFar, degree, looked}
+use Rattle.networks.specs.Search.{far, IsGraph, AreFeasiblePotentials, IsNear, IsEntered, IsReached, IsNearest, Serves, IsServed, IsRemaining, AreLowered, IsOffer, IsPut, IsSwapped, IsWithinFar, degree, looked}
 use Rattle.common.specs.Sums.{sum_below}
 use Rattle.common.proofs.Sums.{sum_below-same, sum_below-more}
 
@@ -665,7 +665,7 @@ less_far : (a : ℤ) → a <ℤ far → a ≤ℤ far
 less_far a h = omega (arith, ints)
 
 pub root_reached : (n : ℕ) (first : List ℕ) (arcs : List ResidualArc) (p e : ℕ → ℤ) (s : ℕ) (q q' : ℕ → ℤ) (enter order place : ℕ → ℕ) → n ≤ MAX_NODES → s < n → p s ≤ℤ pos (2 * n) → pos 0 <ℤ e s → ((v : ℕ) → v < n → q v ≡ far) → IsPut q q' s (p s) → order 0 ≡ s → place s ≡ 0 → IsReached n first arcs p e s q' enter order place 0 1 1 (pos 0)
-root_reached n first arcs p e s q q' enter order place small sb low left blank put oat pat =
+root_reached n first arcs p e s q q' enter order place small sb low remaining blank put oat pat =
     let ls : q' s <ℤ far = subst (λ (z : ℤ). z <ℤ far) (sym put.here) (low_near (p s) n small low) in
     let only : (w : ℕ) → w < n → q' w <ℤ far → w ≡ s = λ w b l. elim (cases_eq w s) [
       | inl t ↦ t
@@ -687,17 +687,17 @@ root_reached n first arcs p e s q q' enter order place small sb low left blank p
       here = λ w b l h. subst (λ (i : ℕ). pos 0 ≤ℤ (q' i -ℤ p i)) (sym (only w b l)) (no_distance (q' s) (p s) put.here).1;
       near = λ w b l. subst (λ (i : ℕ). IsNear (p s) 0 (q' i)) (sym (only w b l)) (near_self (q' s) (p s) put.here);
       root = (sb, ls, pat);
-      plain = λ w b l. subst (λ (i : ℕ). pos 0 ≤ℤ e i) (sym (only w b l)) (more_than_none (e s) left);
+      plain = λ w b l. subst (λ (i : ℕ). pos 0 ≤ℤ e i) (sym (only w b l)) (more_than_none (e s) remaining);
       entered = λ w b l ne. absurd (ne (only w b l));
     }
 
 -- ---- leaving
 
-pub left_at_radius : (n : ℕ) (first : List ℕ) (arcs : List ResidualArc) (p e : ℕ → ℤ) (s : ℕ) (q : ℕ → ℤ) (enter order place : ℕ → ℕ) (scanned ordered reached : ℕ) (radius bound : ℤ) → IsReached n first arcs p e s q enter order place scanned ordered reached radius → radius ≡ bound → IsLeft n p q place scanned bound
-left_at_radius n first arcs p e s q enter order place scanned ordered reached radius bound r same v b l h = subst (λ (z : ℤ). z ≤ℤ (q v -ℤ p v)) same (r.here v b l h)
+pub remaining_at_radius : (n : ℕ) (first : List ℕ) (arcs : List ResidualArc) (p e : ℕ → ℤ) (s : ℕ) (q : ℕ → ℤ) (enter order place : ℕ → ℕ) (scanned ordered reached : ℕ) (radius bound : ℤ) → IsReached n first arcs p e s q enter order place scanned ordered reached radius → radius ≡ bound → IsRemaining n p q place scanned bound
+remaining_at_radius n first arcs p e s q enter order place scanned ordered reached radius bound r same v b l h = subst (λ (z : ℤ). z ≤ℤ (q v -ℤ p v)) same (r.here v b l h)
 
-pub left_behind : (n : ℕ) (first : List ℕ) (arcs : List ResidualArc) (p e : ℕ → ℤ) (s : ℕ) (q : ℕ → ℤ) (enter order place : ℕ → ℕ) (scanned ordered reached : ℕ) (radius bound : ℤ) → IsReached n first arcs p e s q enter order place scanned ordered reached radius → ordered ≤ scanned → ((j : ℕ) → ordered ≤ j → j < reached → bound ≤ℤ (q (order j) -ℤ p (order j))) → IsLeft n p q place scanned bound
-left_behind n first arcs p e s q enter order place scanned ordered reached radius bound r done least v b l h =
+pub remaining_behind : (n : ℕ) (first : List ℕ) (arcs : List ResidualArc) (p e : ℕ → ℤ) (s : ℕ) (q : ℕ → ℤ) (enter order place : ℕ → ℕ) (scanned ordered reached : ℕ) (radius bound : ℤ) → IsReached n first arcs p e s q enter order place scanned ordered reached radius → ordered ≤ scanned → ((j : ℕ) → ordered ≤ j → j < reached → bound ≤ℤ (q (order j) -ℤ p (order j))) → IsRemaining n p q place scanned bound
+remaining_behind n first arcs p e s q enter order place scanned ordered reached radius bound r done least v b l h =
     let (in_list, back) = r.listed v b l in
     subst (λ (i : ℕ). bound ≤ℤ (q i -ℤ p i)) back (least (place v) (omega arith) in_list)
 

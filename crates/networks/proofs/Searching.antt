@@ -45,8 +45,8 @@ potential_within g w h b = let f = potential_near g w h b in passed_within _ _ (
 pub away_is : (r q p : ℤ) → IsWithinFar q → IsWithinFar p → r ≡ to_z w16 (of_z w16 q) -ℤ to_z w32 (of_z w32 p) → r ≡ q -ℤ p
 away_is r q p a b e = difference_is r q p (label_fits _ a) (fits_within _ b) e
 
-pub room_left : (g : SearchInput) (s : Search) (v : ℕ) → IsSearch g s → v < nodes_of g → far ≤ℤ labels s v → s.reached < length s.visits.now
-room_left g s v h b l = omega (arith, h.size, order_room _ _ _ _ _ _ _ _ _ _ _ _ _ _ v h.reached b l)
+pub room_remaining : (g : SearchInput) (s : Search) (v : ℕ) → IsSearch g s → v < nodes_of g → far ≤ℤ labels s v → s.reached < length s.visits.now
+room_remaining g s v h b l = omega (arith, h.size, order_room _ _ _ _ _ _ _ _ _ _ _ _ _ _ v h.reached b l)
 
 -- what a new label leaves
 pub record IsTaken (g : SearchInput) (s s' : Search) (step : Step) : Type 0 where

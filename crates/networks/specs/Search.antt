@@ -105,8 +105,8 @@ pub record IsServed (n : ℕ) (first : List ℕ) (arcs : List ResidualArc) (p q 
   pub served : (u k : ℕ) → u < n → q u <ℤ far → place u < h → StartsAt first u k → Serves arcs p q bound u k
 
 -- nodes that were reached and not scanned are no nearer than `bound`
-abbrev pub IsLeft : ℕ → (ℕ → ℤ) → (ℕ → ℤ) → (ℕ → ℕ) → ℕ → ℤ → Type 0
-IsLeft n p q place scanned bound = (v : ℕ) → v < n → q v <ℤ far → scanned ≤ place v → bound ≤ℤ (q v -ℤ p v)
+abbrev pub IsRemaining : ℕ → (ℕ → ℤ) → (ℕ → ℤ) → (ℕ → ℕ) → ℕ → ℤ → Type 0
+IsRemaining n p q place scanned bound = (v : ℕ) → v < n → q v <ℤ far → scanned ≤ place v → bound ≤ℤ (q v -ℤ p v)
 
 -- how many residual arcs start at a node, and at the first h nodes of the order
 abbrev pub degree : List ℕ → ℕ → ℕ
@@ -203,8 +203,8 @@ pub record IsSearch (g : SearchInput) (s : Search) : Type 0 where
 abbrev pub HasServed : SearchInput → Search → Type 0
 HasServed g s = IsServed (nodes_of g) (first_of g) (arcs_of g) (potential_of g) (labels s) (places s) s.bound s.scanned
 
-abbrev pub HasLeft : SearchInput → Search → Type 0
-HasLeft g s = IsLeft (nodes_of g) (potential_of g) (labels s) (places s) s.scanned s.bound
+abbrev pub HasRemaining : SearchInput → Search → Type 0
+HasRemaining g s = IsRemaining (nodes_of g) (potential_of g) (labels s) (places s) s.scanned s.bound
 
 abbrev pub HasLowered : SearchInput → ℕ → Search → Search → Type 0
 HasLowered g h s s' = AreLowered (nodes_of g) h (labels s) (places s) (labels s') (places s')

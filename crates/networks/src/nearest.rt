@@ -5,7 +5,7 @@
 //! Each residual arc is looked at once at most. Beside that the nodes that wait are gone over at each step of the radius.
 ghost use Rattle.std.specs.Prelude.{◌≡◌, ◌⊎◌, ◌<◌, ◌≤◌, ◌+◌, ◌^◌, ℕ, length, pos, ◌≤ℤ◌, ◌<ℤ◌, ◌+ℤ◌, ◌-ℤ◌, true, false};
 ghost use Rattle.networks.specs.ResidualArcs.{StartsAt};
-ghost use Rattle.networks.specs.Search.{far, nodes_of, first_of, arcs_of, potential_of, excess_of, labels, orders, degree, looked, IsSearchInput, IsSearch, IsBlank, HasLowered, HasServed, HasLeft, Serves, IsNextRadius, IsReordered, IsWaiting, IsScanning, IsRelaxed, IsWithinFar, IsArcCost, HasSameList};
+ghost use Rattle.networks.specs.Search.{far, nodes_of, first_of, arcs_of, potential_of, excess_of, labels, orders, degree, looked, IsSearchInput, IsSearch, IsBlank, HasLowered, HasServed, HasRemaining, Serves, IsNextRadius, IsReordered, IsWaiting, IsScanning, IsRelaxed, IsWithinFar, IsArcCost, HasSameList};
 
 use crate::reach::distance;
 use crate::state::{FAR, Search, SearchInput, Step, Visit};
@@ -29,7 +29,7 @@ impl<'a> Search<'a> {
         ensures search { IsSearch input.entry result }
         ensures list { result.visits.ghost_name ≡ visits.entry.ghost_name }
         ensures served { HasServed input.entry result }
-        ensures left { HasLeft input.entry result }
+        ensures remaining { HasRemaining input.entry result }
         ensures looks { looks.new ≡ looks.old + looked (first_of input.entry) (orders result) result.scanned }
         ensures once { looks.new ≤ looks.old + length (arcs_of input.entry) }
     {
@@ -71,7 +71,7 @@ impl<'a> Search<'a> {
         requires search { IsSearch input self.old }
         ensures ordered { IsReordered input.entry self.old self.new }
         ensures more { result ≡ true → self.new.scanned < self.new.ordered }
-        ensures left { result ≡ false → HasLeft input.entry self.new }
+        ensures remaining { result ≡ false → HasRemaining input.entry self.new }
     {
         if self.radius == self.bound {
             return false;

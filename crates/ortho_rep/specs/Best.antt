@@ -2,7 +2,7 @@
 use Rattle.std.specs.Prelude.{◌≡◌, ℕ, ◌<◌, ◌≤◌, List}
 use Rattle.common.specs.declared.choice.Choice.{Choice}
 use Rattle.common.specs.declared.choice.Choice.TheVariants.{First, Best}
-use Rattle.faces.specs.Planes.{PlaneModel, IsWidest, darts, with_outer}
+use Rattle.faces.specs.Planes.{PlaneModel, HasGreatestOuter, darts, with_outer}
 use Rattle.ortho_rep.specs.declared.turn.Turn.{Turn}
 use Rattle.ortho_rep.specs.Representation.{Rep, bends_of}
 
@@ -25,5 +25,5 @@ pub record IsBest (p : PlaneModel) : Type 0 where
 
 -- the outer face is the one of the choice
 abbrev pub IsChosen : Choice → PlaneModel → Type 0
-IsChosen First p = IsWidest p
+IsChosen First p = HasGreatestOuter p
 IsChosen Best p = IsBest p

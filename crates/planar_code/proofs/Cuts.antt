@@ -18,27 +18,27 @@ abbrev pub IsStuck : ℕ → List ℕ → Type 0
 IsStuck count rest = (count ≡ MAX_RECORDS) ⊎ NoRecordFirst rest
 
 -- other records that begin the same bytes begin those that cannot be continued, i records later
-pub front_from : (i : ℕ) (others records : List (List ℕ)) (left rest : List ℕ) → All IsRecord others → All IsRecord records → concat others ++ left ≡ concat records ++ rest → i + length others ≤ MAX_RECORDS → IsStuck (i + length records) rest → (more : List (List ℕ)) × (records ≡ others ++ more)
-front_from i [] records left rest each_o each_r e few stuck = (records, refl)
-front_from i (o ∷ others) [] left rest each_o each_r e few (inl full) = absurd (omega arith)
-front_from i (o ∷ others) [] left rest each_o each_r e few (inr stops) =
-    absurd (stops o (concat others ++ left) (All-head IsRecord o others each_o) (sym e ∙ append_assoc o (concat others) left))
-front_from i (o ∷ others) (r ∷ records) left rest each_o each_r e few stuck =
-    let parts : o ++ (concat others ++ left) ≡ r ++ (concat records ++ rest)
-    = sym (append_assoc o (concat others) left) ∙ e ∙ append_assoc r (concat records) rest in
-    let same = record_same o r (concat others ++ left) (concat records ++ rest) (All-head IsRecord o others each_o) (All-head IsRecord r records each_r) parts in
-    let later = front_from (i + 1) others records left rest (All-tail IsRecord o others each_o) (All-tail IsRecord r records each_r) same.1 (omega arith) (stuck_at stuck) in
+pub front_from : (i : ℕ) (others records : List (List ℕ)) (remaining rest : List ℕ) → All IsRecord others → All IsRecord records → concat others ++ remaining ≡ concat records ++ rest → i + length others ≤ MAX_RECORDS → IsStuck (i + length records) rest → (more : List (List ℕ)) × (records ≡ others ++ more)
+front_from i [] records remaining rest each_o each_r e few stuck = (records, refl)
+front_from i (o ∷ others) [] remaining rest each_o each_r e few (inl full) = absurd (omega arith)
+front_from i (o ∷ others) [] remaining rest each_o each_r e few (inr stops) =
+    absurd (stops o (concat others ++ remaining) (All-head IsRecord o others each_o) (sym e ∙ append_assoc o (concat others) remaining))
+front_from i (o ∷ others) (r ∷ records) remaining rest each_o each_r e few stuck =
+    let parts : o ++ (concat others ++ remaining) ≡ r ++ (concat records ++ rest)
+    = sym (append_assoc o (concat others) remaining) ∙ e ∙ append_assoc r (concat records) rest in
+    let same = record_same o r (concat others ++ remaining) (concat records ++ rest) (All-head IsRecord o others each_o) (All-head IsRecord r records each_r) parts in
+    let later = front_from (i + 1) others records remaining rest (All-tail IsRecord o others each_o) (All-tail IsRecord r records each_r) same.1 (omega arith) (stuck_at stuck) in
     (later.0, cc)
   where
     stuck_at : IsStuck (i + length (r ∷ records)) rest → IsStuck ((i + 1) + length records) rest
     stuck_at (inl full) = inl (omega arith)
     stuck_at (inr stops) = inr stops
 
-pub front_of-stuck : (others records : List (List ℕ)) (left rest : List ℕ) → All IsRecord others → All IsRecord records → concat others ++ left ≡ concat records ++ rest → length others ≤ MAX_RECORDS → IsStuck (length records) rest → (more : List (List ℕ)) × (records ≡ others ++ more)
-front_of-stuck others records left rest each_o each_r e few (inl full) =
-    front_from 0 others records left rest each_o each_r e (omega arith) (inl (omega arith))
-front_of-stuck others records left rest each_o each_r e few (inr stops) =
-    front_from 0 others records left rest each_o each_r e (omega arith) (inr stops)
+pub front_of-stuck : (others records : List (List ℕ)) (remaining rest : List ℕ) → All IsRecord others → All IsRecord records → concat others ++ remaining ≡ concat records ++ rest → length others ≤ MAX_RECORDS → IsStuck (length records) rest → (more : List (List ℕ)) × (records ≡ others ++ more)
+front_of-stuck others records remaining rest each_o each_r e few (inl full) =
+    front_from 0 others records remaining rest each_o each_r e (omega arith) (inl (omega arith))
+front_of-stuck others records remaining rest each_o each_r e few (inr stops) =
+    front_from 0 others records remaining rest each_o each_r e (omega arith) (inr stops)
 
 -- a beginning is no longer than the whole
 pub length-front : (a b : List (List ℕ)) → ((more : List (List ℕ)) × (b ≡ a ++ more)) → length a ≤ length b
@@ -50,27 +50,27 @@ cut_from body records rest joined each few stuck = record {
   joined = joined;
   each = each;
   few = few;
-  longest = λ others left e each_o few_o.
-      length-front others records (front_of-stuck others records left rest each_o each (sym e ∙ joined) few_o stuck);
+  longest = λ others remaining e each_o few_o.
+      length-front others records (front_of-stuck others records remaining rest each_o each (sym e ∙ joined) few_o stuck);
 }
 
 -- the longest records cannot be continued
 pub stuck-cut : (body : List ℕ) (records : List (List ℕ)) (rest : List ℕ) → IsCut body records rest → IsStuck (length records) rest
 stuck-cut body records rest c = elim (cases_eq (length records) MAX_RECORDS) [
   | inl full ↦ inl full
-  | inr short ↦ inr (λ first left r e.
+  | inr short ↦ inr (λ first remaining r e.
       let others = records ++ first ∷ [] in
       let n = length-append records (first ∷ []) in
-      let joined : body ≡ concat others ++ left
-      = c.joined ∙ ap (λ z. concat records ++ z) e ∙ sym (append_assoc (concat records) first left) ∙ ap (λ z. z ++ left) (sym (concat-push records first)) in
+      let joined : body ≡ concat others ++ remaining
+      = c.joined ∙ ap (λ z. concat records ++ z) e ∙ sym (append_assoc (concat records) first remaining) ∙ ap (λ z. z ++ remaining) (sym (concat-push records first)) in
       let few = c.few in
-      absurd (omega (arith, c.longest others left joined (All-push IsRecord records first c.each r) (omega arith))))
+      absurd (omega (arith, c.longest others remaining joined (All-push IsRecord records first c.each r) (omega arith))))
 ]
 
 -- any whole records that begin the body begin the longest
-pub front_of-cut : (body : List ℕ) (records : List (List ℕ)) (rest : List ℕ) → IsCut body records rest → (others : List (List ℕ)) (left : List ℕ) → body ≡ concat others ++ left → All IsRecord others → length others ≤ MAX_RECORDS → (more : List (List ℕ)) × (records ≡ others ++ more)
-front_of-cut body records rest c others left e each few =
-    front_of-stuck others records left rest each c.each (sym e ∙ c.joined) few (stuck-cut body records rest c)
+pub front_of-cut : (body : List ℕ) (records : List (List ℕ)) (rest : List ℕ) → IsCut body records rest → (others : List (List ℕ)) (remaining : List ℕ) → body ≡ concat others ++ remaining → All IsRecord others → length others ≤ MAX_RECORDS → (more : List (List ℕ)) × (records ≡ others ++ more)
+front_of-cut body records rest c others remaining e each few =
+    front_of-stuck others records remaining rest each c.each (sym e ∙ c.joined) few (stuck-cut body records rest c)
 
 -- the same number of records from the same bytes are the same
 pub records_same : (ra rb : List (List ℕ)) (x y : List ℕ) → All IsRecord ra → All IsRecord rb → length ra ≡ length rb → concat ra ++ x ≡ concat rb ++ y → (ra ≡ rb) × (x ≡ y)

@@ -16,10 +16,10 @@ moved : (before : List ℕ) (x : ℕ) (text : List ℕ) → before ++ (x ∷ tex
 moved before x text = sym (append_assoc before (x ∷ []) text)
 
 -- what comes after the beginning of a record, where it comes to no record
-long_list-started : (text before : List ℕ) (left entries : ℕ) → IsStarted before left entries → All (λ x. x < 256) text → NoRecordFirst (before ++ text) → (IsUnfinished (before ++ text) → ⊥) → HasLongList (before ++ text)
-long_list-started [] before left entries s bytes none cut =
-    absurd (cut (subst IsUnfinished (sym (append-nil before)) (started-unfinished before left entries s)))
-long_list-started (x ∷ text) before left entries s bytes none cut =
+long_list-started : (text before : List ℕ) (remaining entries : ℕ) → IsStarted before remaining entries → All (λ x. x < 256) text → NoRecordFirst (before ++ text) → (IsUnfinished (before ++ text) → ⊥) → HasLongList (before ++ text)
+long_list-started [] before remaining entries s bytes none cut =
+    absurd (cut (subst IsUnfinished (sym (append-nil before)) (started-unfinished before remaining entries s)))
+long_list-started (x ∷ text) before remaining entries s bytes none cut =
     let byte = All-head (λ x. x < 256) x text bytes in
     let later = All-tail (λ x. x < 256) x text bytes in
     let none' = subst NoRecordFirst (moved before x text) none in
@@ -27,23 +27,23 @@ long_list-started (x ∷ text) before left entries s bytes none cut =
     let some = s.some in
     let short = s.short in
     elim (cases_eq x 0) [
-      | inl z ↦ elim (cases_eq left 1) [
-        | inl last ↦ absurd (none' (before ++ x ∷ []) text (subst (λ y. IsRecord (before ++ y ∷ [])) (sym z) (started-whole before left entries s last)) refl)
+      | inl z ↦ elim (cases_eq remaining 1) [
+        | inl last ↦ absurd (none' (before ++ x ∷ []) text (subst (λ y. IsRecord (before ++ y ∷ [])) (sym z) (started-whole before remaining entries s last)) refl)
         | inr more ↦ subst HasLongList (sym (moved before x text))
-            (long_list-started text (before ++ x ∷ []) (left - 1) 0 (subst (λ y. IsStarted (before ++ y ∷ []) (left - 1) 0) (sym z) (started-end before left entries s (omega (arith, more)))) later none' cut')
+            (long_list-started text (before ++ x ∷ []) (remaining - 1) 0 (subst (λ y. IsStarted (before ++ y ∷ []) (remaining - 1) 0) (sym z) (started-end before remaining entries s (omega (arith, more)))) later none' cut')
       ]
       | inr nonzero ↦ elim (cases_eq entries 254) [
         | inl full ↦ record {
-          front = (length s.lists + left) ∷ flat_map ended s.lists;
+          front = (length s.lists + remaining) ∷ flat_map ended s.lists;
           run = s.current ++ x ∷ [];
           back = text;
           parts = ap (λ z. z ++ (x ∷ text)) s.spelt
-              ∙ ap (λ z. (length s.lists + left) ∷ z) (append_assoc (flat_map ended s.lists) s.current (x ∷ text) ∙ ap (λ z. flat_map ended s.lists ++ z) (moved s.current x text));
+              ∙ ap (λ z. (length s.lists + remaining) ∷ z) (append_assoc (flat_map ended s.lists) s.current (x ∷ text) ∙ ap (λ z. flat_map ended s.lists ++ z) (moved s.current x text));
           each = All-push IsEntry s.current x s.current_each (omega (arith, nonzero), byte);
           long = let counted = s.counted in omega (arith, length-append s.current (x ∷ []));
         }
         | inr room ↦ subst HasLongList (sym (moved before x text))
-            (long_list-started text (before ++ x ∷ []) left (entries + 1) (started-entry before left entries x s (omega (arith, nonzero), byte) (omega (arith, room))) later none' cut')
+            (long_list-started text (before ++ x ∷ []) remaining (entries + 1) (started-entry before remaining entries x s (omega (arith, nonzero), byte) (omega (arith, room))) later none' cut')
       ]
     ]
 

@@ -22,15 +22,15 @@ splits-body : (body : List ℕ) (records : List (List ℕ)) (rest : List ℕ) (e
 splits-body body records rest e h stuck ends = record { rest = rest; cut = cut_from body records rest h.joined h.each h.few stuck; ends = ends }
 
 -- some bytes are left
-some-left : (rest : List ℕ) → 0 < length rest → rest ≢ []
-some-left rest some e = omega (arith, ap length e)
+some-remaining : (rest : List ℕ) → 0 < length rest → rest ≢ []
+some-remaining rest some e = omega (arith, ap length e)
 
 module _ (body : List ℕ) (records : List (List ℕ)) (rest : List ℕ) (h : HasSplit body records rest) where
   pub split-complete : rest ≡ [] → SplitsBody body records ending.Complete
   split-complete none = splits-body body records rest ending.Complete h (inr (no_record-unfinished rest (subst IsUnfinished (sym none) unfinished-none))) none
 
   pub split-many : 0 < length rest → length records ≡ MAX_RECORDS → SplitsBody body records ending.Many
-  split-many some full = splits-body body records rest ending.Many h (inl full) (some-left rest some, full)
+  split-many some full = splits-body body records rest ending.Many h (inl full) (some-remaining rest some, full)
 
   pub split-large : 0 < length rest → length records ≢ MAX_RECORDS → get_or rest 0 0 ≡ 0 → SplitsBody body records ending.Large
   split-large some room z =
@@ -38,7 +38,7 @@ module _ (body : List ℕ) (records : List (List ℕ)) (rest : List ℕ) (h : Ha
       splits-body body records rest ending.Large h (inr (no_record-zero rest first)) (first, room)
 
   pub split-truncated : 0 < length rest → length records ≢ MAX_RECORDS → IsUnfinished rest → SplitsBody body records ending.Truncated
-  split-truncated some room u = splits-body body records rest ending.Truncated h (inr (no_record-unfinished rest u)) (u, some-left rest some, room)
+  split-truncated some room u = splits-body body records rest ending.Truncated h (inr (no_record-unfinished rest u)) (u, some-remaining rest some, room)
 
   pub split-oversize : length records ≢ MAX_RECORDS → IsOversize rest → SplitsBody body records ending.Oversize
   split-oversize room o =
@@ -61,11 +61,11 @@ pub has_split-none : (body : List ℕ) → HasSplit body [] body
 has_split-none body = record { joined = refl; each = All-nil IsRecord; few = omega arith }
 
 -- the list after the first bytes of a record ends there
-pub ends-next : (bytes : List ℕ) (at left n : ℕ) → at ≤ length bytes → EndsList (take at bytes) left (take (length bytes - at) (drop at bytes)) (end.After n) → (at + n ≤ length bytes) × (1 < left → IsStarted (take (at + n) bytes) (left - 1) 0) × (left ≡ 1 → IsRecord (take (at + n) bytes))
-ends-next bytes at left n within h =
-    let e = subst (λ z. EndsList (take at bytes) left z (end.After n)) (take_rest bytes at) h in (
+pub ends-next : (bytes : List ℕ) (at remaining n : ℕ) → at ≤ length bytes → EndsList (take at bytes) remaining (take (length bytes - at) (drop at bytes)) (end.After n) → (at + n ≤ length bytes) × (1 < remaining → IsStarted (take (at + n) bytes) (remaining - 1) 0) × (remaining ≡ 1 → IsRecord (take (at + n) bytes))
+ends-next bytes at remaining n within h =
+    let e = subst (λ z. EndsList (take at bytes) remaining z (end.After n)) (take_rest bytes at) h in (
       omega (arith, e.1, length-drop at bytes),
-      (λ more. subst (λ z. IsStarted z (left - 1) 0) (sym (take-add at n bytes)) (e.2 more)),
+      (λ more. subst (λ z. IsStarted z (remaining - 1) 0) (sym (take-add at n bytes)) (e.2 more)),
       (λ last. subst IsRecord (sym (take-add at n bytes)) (e.3 last)),
     )
 
@@ -74,5 +74,5 @@ pub ends-whole : (bytes : List ℕ) (at : ℕ) → take at bytes ++ take (length
 ends-whole bytes at = ap (λ z. take at bytes ++ z) (take_rest bytes at) ∙ take-append-drop at bytes
 
 -- no bytes are left
-pub none-left : (rest : List ℕ) → length rest ≡ 0 → rest ≡ []
-none-left rest e = empty-length rest e
+pub none-remaining : (rest : List ℕ) → length rest ≡ 0 → rest ≡ []
+none-remaining rest e = empty-length rest e

@@ -46,10 +46,10 @@ nothing_after (c ∷ a) b e = absurd (cc)
 
 -- before a record is whole, no record stands first
 pub no_record-unfinished : (rest : List ℕ) → IsUnfinished rest → NoRecordFirst rest
-no_record-unfinished rest u first left r e =
-    let whole : (rest ++ u.missing) ++ [] ≡ first ++ (left ++ u.missing)
-    = append-nil (rest ++ u.missing) ∙ ap (λ z. z ++ u.missing) e ∙ append_assoc first left u.missing in
-    u.more (nothing_after left u.missing (record_same (rest ++ u.missing) first [] (left ++ u.missing) u.whole r whole).1)
+no_record-unfinished rest u first remaining r e =
+    let whole : (rest ++ u.missing) ++ [] ≡ first ++ (remaining ++ u.missing)
+    = append-nil (rest ++ u.missing) ∙ ap (λ z. z ++ u.missing) e ∙ append_assoc first remaining u.missing in
+    u.more (nothing_after remaining u.missing (record_same (rest ++ u.missing) first [] (remaining ++ u.missing) u.whole r whole).1)
 
 -- no record is a beginning of another
 pub no_record-front : (bytes more : List ℕ) → IsRecord bytes → IsRecord (bytes ++ more) → more ≡ []

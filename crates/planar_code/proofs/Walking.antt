@@ -18,7 +18,7 @@ use Rattle.planar_code.proofs.Feeding.{split-early, split-complete, split-trunca
 -- places of which enough is known to go on
 data Known : Place → Type 0 where
   early : (passed : ℕ) → passed < 15 → Known (Early (take passed HEADER))
-  after : (count : ℕ) (rest : List ℕ) (left entries : ℕ) → HasBegun rest left entries → count ≤ MAX_RECORDS → Known (After count rest)
+  after : (count : ℕ) (rest : List ℕ) (remaining entries : ℕ) → HasBegun rest remaining entries → count ≤ MAX_RECORDS → Known (After count rest)
   failed : (f : FeedFault) → Known (Failed f)
 
 -- where some bytes lead
@@ -29,17 +29,17 @@ record Leads (p : Place) (bytes : List ℕ) : Type 0 where
   goes : Goes p bytes added place
 
 -- the record goes on
-leads-more : (count : ℕ) (rest : List ℕ) (x left entries : ℕ) → count ≢ MAX_RECORDS → count ≤ MAX_RECORDS → IsStarted (rest ++ x ∷ []) left entries → Leads (After count rest) (x ∷ [])
-leads-more count rest x left entries room few s = record {
+leads-more : (count : ℕ) (rest : List ℕ) (x remaining entries : ℕ) → count ≢ MAX_RECORDS → count ≤ MAX_RECORDS → IsStarted (rest ++ x ∷ []) remaining entries → Leads (After count rest) (x ∷ [])
+leads-more count rest x remaining entries room few s = record {
   added = [];
   place = After count (rest ++ x ∷ []);
-  known = after count (rest ++ x ∷ []) left entries (inr s) few;
-  goes = goes_more count rest (x ∷ []) room (started-unfinished (rest ++ x ∷ []) left entries s);
+  known = after count (rest ++ x ∷ []) remaining entries (inr s) few;
+  goes = goes_more count rest (x ∷ []) room (started-unfinished (rest ++ x ∷ []) remaining entries s);
 }
 
 -- a byte of a record
-leads-after : (count : ℕ) (rest : List ℕ) (left entries x : ℕ) → HasBegun rest left entries → count ≤ MAX_RECORDS → count ≢ MAX_RECORDS → x < 256 → Leads (After count rest) (x ∷ [])
-leads-after count rest left entries x (inl none) few room byte = elim (cases_eq x 0) [
+leads-after : (count : ℕ) (rest : List ℕ) (remaining entries x : ℕ) → HasBegun rest remaining entries → count ≤ MAX_RECORDS → count ≢ MAX_RECORDS → x < 256 → Leads (After count rest) (x ∷ [])
+leads-after count rest remaining entries x (inl none) few room byte = elim (cases_eq x 0) [
   | inl z ↦ record {
     added = [];
     place = Failed fault.Large;
@@ -48,26 +48,26 @@ leads-after count rest left entries x (inl none) few room byte = elim (cases_eq 
   }
   | inr some ↦ leads-more count rest x x 0 room few (subst (λ r. IsStarted (r ++ x ∷ []) x 0) (sym none) (started-first x (omega (arith, some)) byte))
 ]
-leads-after count rest left entries x (inr s) few room byte = elim (cases_eq x 0) [
-  | inl z ↦ elim (cases_eq left 1) [
+leads-after count rest remaining entries x (inr s) few room byte = elim (cases_eq x 0) [
+  | inl z ↦ elim (cases_eq remaining 1) [
     | inl last ↦ record {
       added = (rest ++ x ∷ []) ∷ [];
       place = After (count + 1) [];
       known = after (count + 1) [] 0 0 (inl refl) (omega (arith, room));
-      goes = goes_whole count rest (x ∷ []) (rest ++ x ∷ []) (omega (arith, room)) refl (subst (λ y. IsRecord (rest ++ y ∷ [])) (sym z) (started-whole rest left entries s last));
+      goes = goes_whole count rest (x ∷ []) (rest ++ x ∷ []) (omega (arith, room)) refl (subst (λ y. IsRecord (rest ++ y ∷ [])) (sym z) (started-whole rest remaining entries s last));
     }
     | inr more ↦ let some = s.some in
-        leads-more count rest x (left - 1) 0 room few (subst (λ y. IsStarted (rest ++ y ∷ []) (left - 1) 0) (sym z) (started-end rest left entries s (omega (arith, more))))
+        leads-more count rest x (remaining - 1) 0 room few (subst (λ y. IsStarted (rest ++ y ∷ []) (remaining - 1) 0) (sym z) (started-end rest remaining entries s (omega (arith, more))))
   ]
   | inr some ↦ elim (cases_eq entries 254) [
     | inl full ↦ record {
       added = [];
       place = Failed fault.Oversize;
       known = failed fault.Oversize;
-      goes = fails_oversize count rest (x ∷ []) room (started-oversize rest left entries x [] s (omega (arith, some), byte) full);
+      goes = fails_oversize count rest (x ∷ []) room (started-oversize rest remaining entries x [] s (omega (arith, some), byte) full);
     }
     | inr short ↦ let m = s.short in
-        leads-more count rest x left (entries + 1) room few (started-entry rest left entries x s (omega (arith, some), byte) (omega (arith, short)))
+        leads-more count rest x remaining (entries + 1) room few (started-entry rest remaining entries x s (omega (arith, some), byte) (omega (arith, short)))
   ]
 ]
 
@@ -80,9 +80,9 @@ leads-byte _ (early passed room) x byte = elim (cases_eq x (get_or HEADER passed
   ]
   | inr other ↦ record { added = []; place = Failed fault.Header; known = failed fault.Header; goes = fails_header passed x [] room other }
 ]
-leads-byte _ (after count rest left entries begun few) x byte = elim (cases_eq count MAX_RECORDS) [
+leads-byte _ (after count rest remaining entries begun few) x byte = elim (cases_eq count MAX_RECORDS) [
   | inl full ↦ record { added = []; place = Failed fault.Many; known = failed fault.Many; goes = fails_many count rest (x ∷ []) full (λ e. (cc)) }
-  | inr room ↦ leads-after count rest left entries x begun few room byte
+  | inr room ↦ leads-after count rest remaining entries x begun few room byte
 ]
 leads-byte _ (failed f) x byte = record { added = []; place = Failed f; known = failed f; goes = goes_failed f (x ∷ []) }
 

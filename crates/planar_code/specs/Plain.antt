@@ -11,9 +11,9 @@ use Rattle.planar_code.specs.Started.{IsStarted, IsOversize}
 
 -- where the next list ends, after bytes of a record that has that many lists left
 abbrev pub EndsList : List ℕ → ℕ → List ℕ → End → Type 0
-EndsList before left bytes (end.After n) = (0 < n) × (n ≤ length bytes) × (1 < left → IsStarted (before ++ take n bytes) (left - 1) 0) × (left ≡ 1 → IsRecord (before ++ take n bytes))
-EndsList before left bytes end.Cut = IsUnfinished (before ++ bytes)
-EndsList before left bytes end.Oversize = IsOversize (before ++ bytes)
+EndsList before remaining bytes (end.After n) = (0 < n) × (n ≤ length bytes) × (1 < remaining → IsStarted (before ++ take n bytes) (remaining - 1) 0) × (remaining ≡ 1 → IsRecord (before ++ take n bytes))
+EndsList before remaining bytes end.Cut = IsUnfinished (before ++ bytes)
+EndsList before remaining bytes end.Oversize = IsOversize (before ++ bytes)
 
 -- where the record ends that the bytes begin with
 abbrev pub EndsRecord : List ℕ → End → Type 0

@@ -11,7 +11,7 @@ use Rattle.planar_code.specs.Started.{IsStarted, IsOversize}
 -- what the bytes of a text make of the bytes before it, the beginning of a record
 abbrev pub Scans : List ℕ → List ℕ → Result Scan FeedFault → Type 0
 Scans before text (Ok (scan.Whole end)) = (0 < end) × (end ≤ length text) × IsRecord (before ++ take end text)
-Scans before text (Ok (scan.Open left entries)) = IsStarted (before ++ text) left entries
+Scans before text (Ok (scan.Open remaining entries)) = IsStarted (before ++ text) remaining entries
 Scans before text (Err fault.Large) = BeginsWithZero (before ++ text)
 Scans before text (Err fault.Oversize) = IsOversize (before ++ text)
 Scans before text (Err _) = ⊥

@@ -14,7 +14,7 @@ pub record IsCut (body : List ℕ) (records : List (List ℕ)) (rest : List ℕ)
   pub joined : body ≡ concat records ++ rest
   pub each : All IsRecord records
   pub few : length records ≤ MAX_RECORDS
-  pub longest : (others : List (List ℕ)) (left : List ℕ) → body ≡ concat others ++ left → All IsRecord others → length others ≤ MAX_RECORDS → length others ≤ length records
+  pub longest : (others : List (List ℕ)) (remaining : List ℕ) → body ≡ concat others ++ remaining → All IsRecord others → length others ≤ MAX_RECORDS → length others ≤ length records
 
 -- the bytes begin with byte 0
 abbrev pub BeginsWithZero : List ℕ → Type 0

@@ -7,16 +7,16 @@ use Rattle.planar_code.specs.Split.{BeginsWithZero}
 
 -- the bytes begin a record: whole lists, and then some entries of the next. That many lists are left,
 -- the open one among them, and the open one has that many entries
-pub record IsStarted (bytes : List ℕ) (left entries : ℕ) : Type 0 where
+pub record IsStarted (bytes : List ℕ) (remaining entries : ℕ) : Type 0 where
   pub lists : List (List ℕ)
   pub current : List ℕ
-  pub spelt : bytes ≡ (length lists + left) ∷ (flat_map ended lists ++ current)
+  pub spelt : bytes ≡ (length lists + remaining) ∷ (flat_map ended lists ++ current)
   pub each : All IsList lists
   pub current_each : All IsEntry current
   pub counted : length current ≡ entries
   pub short : entries ≤ MAX_LIST
-  pub some : 0 < left
-  pub few : length lists + left < 256
+  pub some : 0 < remaining
+  pub few : length lists + remaining < 256
 
 -- the bytes begin with a list of more than 254 entries in a record's place, however they go on
 pub record IsOversize (bytes : List ℕ) : Type 0 where
@@ -26,4 +26,4 @@ pub record IsOversize (bytes : List ℕ) : Type 0 where
 
 -- no byte of a record has come, or it is begun
 abbrev pub HasBegun : List ℕ → ℕ → ℕ → Type 0
-HasBegun bytes left entries = (bytes ≡ []) ⊎ IsStarted bytes left entries
+HasBegun bytes remaining entries = (bytes ≡ []) ⊎ IsStarted bytes remaining entries

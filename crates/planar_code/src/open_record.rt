@@ -14,12 +14,12 @@ pub(crate) const MAX_BYTES: usize = 65_026;
 
 /// The bytes of the record that is open, with room for the longest record.
 ///
-/// Where there are some, `left` lists are not yet ended, the open one among them, which has
+/// Where there are some, `remaining` lists are not yet ended, the open one among them, which has
 /// `entries` entries so far.
 #[derive(Debug, Drop)]
 pub struct OpenRecord {
     bytes: Vec<u8>,
-    left: u8,
+    remaining: u8,
     entries: u8,
 }
 
@@ -32,7 +32,7 @@ impl Model for OpenRecord {
 
     ghost view = { λ r. r.bytes.items };
 
-    ghost invariant = { λ r. HasBegun r.bytes.items r.left r.entries × (MAX_BYTES ≤ vec_capacity r.bytes) };
+    ghost invariant = { λ r. HasBegun r.bytes.items r.remaining r.entries × (MAX_BYTES ≤ vec_capacity r.bytes) };
 }
 
 impl OpenRecord {
@@ -41,7 +41,7 @@ impl OpenRecord {
     {
         Ok(OpenRecord {
             bytes: Vec::with_capacity(alloc, MAX_BYTES)?,
-            left: 0,
+            remaining: 0,
             entries: 0,
         })
     }
@@ -58,7 +58,7 @@ impl OpenRecord {
         ensures { Scans self.now text.now result }
     {
         if !self.bytes.is_empty() {
-            return scan_lists(text, 0, self.left, self.entries);
+            return scan_lists(text, 0, self.remaining, self.entries);
         }
         let order = text[0];
         if order == 0 {
@@ -68,12 +68,12 @@ impl OpenRecord {
     }
 
     /// Takes in `text`, which leaves the record open.
-    fn keep(&mut self, text: &[u8], left: u8, entries: u8)
-        requires { IsStarted (self.old ++ text.now) left entries }
+    fn keep(&mut self, text: &[u8], remaining: u8, entries: u8)
+        requires { IsStarted (self.old ++ text.now) remaining entries }
         ensures { self.new ≡ self.old ++ text.now }
     {
         self.bytes.extend_from_slice(text).unwrap();
-        self.left = left;
+        self.remaining = remaining;
         self.entries = entries;
     }
 
@@ -101,8 +101,8 @@ impl OpenRecord {
         ensures { TakesFrom self.old text.now self.new result }
     {
         match self.scan(text)? {
-            Scan::Open { left, entries } => {
-                self.keep(text, left, entries);
+            Scan::Open { remaining, entries } => {
+                self.keep(text, remaining, entries);
                 Ok(None)
             }
             Scan::Whole(end) => match self.close(alloc, &text[..end]) {

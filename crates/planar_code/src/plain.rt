@@ -20,7 +20,7 @@ pub enum End {
 
 /// Where the list ends that the bytes begin with.
 fn list_end(bytes: &[u8]) -> End
-    ensures { (before : List ℕ) (left : ℕ) → IsStarted before left 0 → EndsList before left bytes.now result }
+    ensures { (before : List ℕ) (remaining : ℕ) → IsStarted before remaining 0 → EndsList before remaining bytes.now result }
 {
     for (i, byte) in bytes.iter().enumerate() {
         if *byte == 0 {

@@ -11,23 +11,23 @@ pub enum Scan {
     /// So many bytes end it.
     Whole(usize),
     /// All of them leave it open, with so many lists to come and so many entries in the open list.
-    Open { left: u8, entries: u8 },
+    Open { remaining: u8, entries: u8 },
 }
 
 /// Reads on, from a place of `text`, in a record that was begun.
 ///
-/// `left` lists are not yet ended, the open one among them, which has `entries` entries so far.
+/// `remaining` lists are not yet ended, the open one among them, which has `entries` entries so far.
 pub fn scan_lists(
     text: &[u8],
     from: usize,
-    mut left: u8,
+    mut remaining: u8,
     mut entries: u8,
 ) -> Result<Scan, FeedFault>
     requires within { from ≤ length text.now }
-    requires some { 0 < left }
+    requires some { 0 < remaining }
     requires short { entries ≤ MAX_LIST }
     ensures { (before : List ℕ)
-        → IsStarted (before ++ take from text.now) left entries
+        → IsStarted (before ++ take from text.now) remaining entries
         → Scans before text.now result }
 {
     for i in from..text.len() {
@@ -38,11 +38,11 @@ pub fn scan_lists(
             entries += 1;
             continue;
         }
-        left -= 1;
-        if left == 0 {
+        remaining -= 1;
+        if remaining == 0 {
             return Ok(Scan::Whole(i + 1));
         }
         entries = 0;
     }
-    Ok(Scan::Open { left, entries })
+    Ok(Scan::Open { remaining, entries })
 }

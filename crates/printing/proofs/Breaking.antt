@@ -11,7 +11,7 @@ use Rattle.printing.specs.FormLines.{line_in, preamble_in, lines_in, end_in}
 use Rattle.streams.specs.declared.frames.Mark.{Mark}
 use Rattle.printing.specs.declared.waiting.Waiting.{Waiting}
 use Rattle.printing.specs.Came.{Came, HasMark, HasEntryMore}
-use Rattle.printing.specs.Written.{GoesOn, begun, ended_texts, AreWritten, AreLeft, BreaksIn, BreaksOff}
+use Rattle.printing.specs.Written.{GoesOn, begun, ended_texts, AreWritten, AreRemaining, BreaksIn, BreaksOff}
 use Rattle.printing.proofs.Waits.{some_waiting}
 use Rattle.printing.proofs.Adding.{front_more}
 use Rattle.printing.proofs.Moving.{marked_next, ended_more}
@@ -81,7 +81,7 @@ breaks_flushed form start now new buffer front waiting came put was =
     (λ text way. (way.sent ++ put.0, put.1, way.split ∙ ap (λ l. way.sent ++ l) put.2 ∙ sym (append_assoc way.sent put.0 put.1), added_both start now new way.sent put.0 way.added put.3)) was
 
 pub breaks_left : (form : Form) (start now : Option (List ℕ)) (buffer : List ℕ) (front : ℕ) (waiting : List Waiting) (came : ℕ → Came)
-    → AreLeft form start now buffer front waiting came → BreaksOff form start now (length waiting) came
+    → AreRemaining form start now buffer front waiting came → BreaksOff form start now (length waiting) came
 breaks_left form start now buffer front waiting came was =
     breaks_at form start now came front (length waiting) was.within was.marked (way_front start now buffer _ was.text)
 
@@ -104,13 +104,13 @@ breaks_end form start old new buffer front waiting came mark count below is coun
 -- where the first line of the front was, or its lines so far
 pub breaks_first : (form : Form) (start old new : Option (List ℕ)) (buffer : List ℕ) (front : ℕ) (waiting : List Waiting) (came : ℕ → Came)
     → front < length waiting → BreaksIn old buffer new (preamble_in form (front + 1))
-    → AreLeft form start old buffer front waiting came → BreaksOff form start new (length waiting) came
+    → AreRemaining form start old buffer front waiting came → BreaksOff form start new (length waiting) came
 breaks_first form start old new buffer front waiting came below breaks was =
     breaks_preamble form start new came front (length waiting) below was.marked (breaks start _ was.text)
 
 pub breaks_lines : (form : Form) (start old mid new : Option (List ℕ)) (buffer between : List ℕ) (front : ℕ) (waiting : List Waiting) (came : ℕ → Came) (lines : List ℕ)
     → front < length waiting → GoesOn old buffer mid between (preamble_in form (front + 1)) → ((other : Waiting) → lines ≡ (get_or waiting front other).lines)
-    → BreaksIn mid between new lines → AreLeft form start old buffer front waiting came → BreaksOff form start new (length waiting) came
+    → BreaksIn mid between new lines → AreRemaining form start old buffer front waiting came → BreaksOff form start new (length waiting) came
 breaks_lines form start old mid new buffer between front waiting came lines below preamble are breaks was =
     let T = ended_texts form came front in
     let H = preamble_in form (front + 1) in

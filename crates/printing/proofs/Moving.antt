@@ -8,7 +8,7 @@ use Rattle.printing.specs.FormLines.{preamble_in, lines_in, end_in}
 use Rattle.printing.specs.declared.waiting.Waiting.{Waiting}
 use Rattle.printing.specs.Came.{Came, HasMark}
 use Rattle.printing.specs.Waits.{ChangesAt, IsTaken}
-use Rattle.printing.specs.Written.{GoesOn, begun, last_in, ended, ended_texts, IsCounted, AreWritten, AreLeft}
+use Rattle.printing.specs.Written.{GoesOn, begun, last_in, ended, ended_texts, IsCounted, AreWritten, AreRemaining}
 use Rattle.printing.proofs.Waits.{after_change, some_waiting}
 
 texts-next : (form : Form) (came : ℕ → Came) (n : ℕ) → ended_texts form came (n + 1) ≡ ended_texts form came n ++ ended form n (came n)
@@ -46,7 +46,7 @@ ended_more form front next came mark count next_is mark_is counted =
 pub left_ended : (form : Form) (start old new : Option (List ℕ)) (buffer buffered : List ℕ) (front next : ℕ) (waiting : List Waiting) (came : ℕ → Came) (w : Waiting) (mark : Mark) (count : ℕ)
     → next ≡ front + 1 → front < length waiting → ((other : Waiting) → (get_or waiting front other).mark ≡ Some mark) → w ≡ get_or waiting front w → count ≡ w.count
     → GoesOn old buffer new buffered (end_in form (front + 1) mark count)
-    → AreWritten form start old buffer front waiting came → AreLeft form start new buffered next waiting came
+    → AreWritten form start old buffer front waiting came → AreRemaining form start new buffered next waiting came
 left_ended form start old new buffer buffered front next waiting came w mark count next_is below marked at is goes was =
     let told = front_told form start old buffer front waiting came w mark count below marked at is was in
     record {
@@ -61,7 +61,7 @@ left_ended form start old new buffer buffered front next waiting came w mark cou
 pub written_begun : (form : Form) (start old mid new : Option (List ℕ)) (buffer between buffered : List ℕ) (front : ℕ) (waiting after : List Waiting) (came : ℕ → Came) (lines : List ℕ)
     → front < length waiting → GoesOn old buffer mid between (preamble_in form (front + 1))
     → ((other : Waiting) → lines ≡ (get_or waiting front other).lines) → ChangesAt front IsTaken waiting after → GoesOn mid between new buffered lines
-    → AreLeft form start old buffer front waiting came → AreWritten form start new buffered front after came
+    → AreRemaining form start old buffer front waiting came → AreWritten form start new buffered front after came
 written_begun form start old mid new buffer between buffered front waiting after came lines below preamble are changed goes was =
     let T = ended_texts form came front in
     let H = preamble_in form (front + 1) in
@@ -81,7 +81,7 @@ written_begun form start old mid new buffer between buffered front waiting after
 
 -- there is no file more
 pub written_over : (form : Form) (start now : Option (List ℕ)) (buffer : List ℕ) (front : ℕ) (waiting : List Waiting) (came : ℕ → Came) → length waiting ≤ front
-    → AreLeft form start now buffer front waiting came → AreWritten form start now buffer front waiting came
+    → AreRemaining form start now buffer front waiting came → AreWritten form start now buffer front waiting came
 written_over form start now buffer front waiting came past was = record {
   within = was.within;
   marked = was.marked;

@@ -8,7 +8,7 @@ use Rattle.printing.specs.declared.waiting.Waiting.{Waiting}
 use Rattle.printing.specs.declared.run_lines.Lines.{Lines}
 use Rattle.printing.specs.Came.{Came, IsToldByNotes, IsWholeSoFar}
 use Rattle.printing.specs.Orders.{IsInOrder}
-use Rattle.printing.specs.Written.{AreWritten, AreLeft, BreaksOff}
+use Rattle.printing.specs.Written.{AreWritten, AreRemaining, BreaksOff}
 
 -- What the notes tell of each file, which means this, is in order, and is written or waits. The front, the first file that has not ended, has no mark. And it is known whether all is whole so far.
 pub record HoldsNotes (choice : Choice) (meaning : ℕ → Meaning) (form : Form) (start now : Option (List ℕ)) (buffer : List ℕ) (front : ℕ) (waiting : List Waiting) (whole : Bool) (ns : List Note) : Type 0 where
@@ -42,7 +42,7 @@ LinesWrite start now lines came = AreWritten lines.form start now lines.buffer l
 
 -- the same before anything of the first file that has not ended was put on its way
 abbrev pub LinesLeave : Option (List ℕ) → Option (List ℕ) → Lines → (ℕ → Came) → Type 0
-LinesLeave start now lines came = AreLeft lines.form start now lines.buffer lines.front lines.waiting.items came
+LinesLeave start now lines came = AreRemaining lines.form start now lines.buffer lines.front lines.waiting.items came
 
 -- what the notes tell of files that mean this is written or waits
 abbrev pub LinesHold : (ℕ → Meaning) → Option (List ℕ) → Option (List ℕ) → Lines → List Note → Type 0

@@ -65,7 +65,7 @@ pub record AreWritten (form : Form) (start now : Option (List ℕ)) (buffer : Li
   pub over : length waiting ≤ front → IsOnItsWay start now buffer (ended_texts form came front)
 
 -- The same before anything of the front was put on its way: what has come of it still waits.
-pub record AreLeft (form : Form) (start now : Option (List ℕ)) (buffer : List ℕ) (front : ℕ) (waiting : List Waiting) (came : ℕ → Came) : Type 0 where
+pub record AreRemaining (form : Form) (start now : Option (List ℕ)) (buffer : List ℕ) (front : ℕ) (waiting : List Waiting) (came : ℕ → Came) : Type 0 where
   pub within : front ≤ length waiting
   pub marked : (file : ℕ) → file < front → HasMark (came file)
   pub counted : (file : ℕ) (other : Waiting) → front ≤ file → file < length waiting → IsCounted (slice_index_or waiting file other) (came file)

@@ -75,9 +75,9 @@ first_best p shape plane best least =
     }
 
 has_outer : (choice : Choice) (p : PlaneModel) (shape : ShapeModel) → IsPlane p → IsChosen choice p → IsLeast p shape → HasOuter choice p shape
-has_outer First p shape plane widest least = record {
-  most = widest.most;
-  first = λ d d_in same. widest.first (face_at p d) d same d_in refl;
+has_outer First p shape plane greatest least = record {
+  most = greatest.most;
+  first = λ d d_in same. greatest.first (face_at p d) d same d_in refl;
 }
 has_outer Best p shape plane best least = first_best p shape plane best least
 

@@ -2,7 +2,7 @@
 use Rattle.std.proofs.Common.{◌≡◌, ℕ, zero, suc, ◌<◌, ◌∙◌, arith, sym, ap, inl, inr}
 use Rattle.std.proofs.lemmas.Bool.{cases_eq}
 use Rattle.faces.specs.Faces.{IsOuter, degree_in}
-use Rattle.faces.specs.Planes.{PlaneModel, IsPlane, IsWidest, darts, face_at, with_outer}
+use Rattle.faces.specs.Planes.{PlaneModel, IsPlane, HasGreatestOuter, darts, face_at, with_outer}
 use Rattle.ortho_rep.specs.Best.{IsBest}
 
 -- where a dart below m is of the one of two such faces, it is of the other too, or a dart before it is of both
@@ -19,8 +19,8 @@ meet_below n face f o k one two same (suc m) d below inside here =
       | inr other ↦ meet_below n face f o k one two same m c (omega (arith, other, before, first)) (omega (arith, before, first)) back
     ]
 
-pub widest_once : (p : PlaneModel) (other : ℕ) → IsPlane p → IsPlane (with_outer p other) → IsWidest p → IsWidest (with_outer p other) → p.outer ≡ other
-widest_once p other plane plane' one two =
+pub greatest_once : (p : PlaneModel) (other : ℕ) → IsPlane p → IsPlane (with_outer p other) → HasGreatestOuter p → HasGreatestOuter (with_outer p other) → p.outer ≡ other
+greatest_once p other plane plane' one two =
     let (d, inside, here) = plane.faces.used p.outer plane.outer in
     let same : degree_in (darts p) (face_at p) other ≡ degree_in (darts p) (face_at p) p.outer =
     omega (arith, one.most other plane'.outer, two.most p.outer plane.outer) in

@@ -12,7 +12,7 @@ use Rattle.faces.proofs.Unique.{one_count, one_numbering}
 use Rattle.ortho_rep.specs.Shapes.{ShapeModel, angle_at, turns_at}
 use Rattle.ortho_rep.specs.Representation.{IsShape, IsLeast, bends_of}
 use Rattle.ortho_rep.specs.Best.{IsChosen}
-use Rattle.run_laws.proofs.OuterFaces.{widest_once, best_once}
+use Rattle.run_laws.proofs.OuterFaces.{greatest_once, best_once}
 
 -- ---- rules
 
@@ -73,7 +73,7 @@ none_broken g rule keeps broken = keeps rule (few_rules rule) broken.0
 one_outer : (choice : Choice) (lists : List (List ℕ)) (face : List ℕ) (faces outer other : ℕ)
     → IsPlane (model_of lists face faces outer) → IsPlane (model_of lists face faces other)
     → IsChosen choice (model_of lists face faces outer) → IsChosen choice (model_of lists face faces other) → outer ≡ other
-one_outer First lists face faces outer other plane plane' one two = widest_once (model_of lists face faces outer) other plane plane' one two
+one_outer First lists face faces outer other plane plane' one two = greatest_once (model_of lists face faces outer) other plane plane' one two
 one_outer Best lists face faces outer other plane plane' one two = best_once (model_of lists face faces outer) other plane plane' one two
 
 -- faces are numbered in one way

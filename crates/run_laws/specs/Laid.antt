@@ -61,7 +61,7 @@ abbrev pub size : PlaneModel → ℕ → ℕ
 size plane f = sum_below (darts plane) (λ d. if face_at plane d == f then 1 else 0)
 
 -- no face has more darts than the outer one, and no dart of a face with as many comes before all darts of the outer one
-pub record IsFirstWidest (plane : PlaneModel) : Type 0 where
+pub record IsFirstGreatest (plane : PlaneModel) : Type 0 where
   pub most : (f : ℕ) → f < plane.faces → size plane f ≤ size plane plane.outer
   pub first : (d : ℕ) → d < darts plane → size plane (face_at plane d) ≡ size plane plane.outer
       → (e : ℕ) × (e ≤ d) × (face_at plane e ≡ plane.outer)
@@ -75,7 +75,7 @@ pub record IsFirstBest (plane : PlaneModel) (shape : ShapeModel) : Type 0 where
 
 -- the outer face is the one of the choice
 abbrev pub HasOuter : Choice → PlaneModel → ShapeModel → Type 0
-HasOuter First plane shape = IsFirstWidest plane
+HasOuter First plane shape = IsFirstGreatest plane
 HasOuter Best plane shape = IsFirstBest plane shape
 
 -- ---- prices

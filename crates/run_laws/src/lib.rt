@@ -17,7 +17,7 @@ pub use bends::{boxes_are_few, laid_bends};
 pub use laid::laid_means;
 pub use layout::one_layout;
 pub use limits::{network_limits, plane_limits, record_limits};
-pub use outer::{one_best, one_widest};
+pub use outer::{one_best, one_greatest};
 pub use outside::outer_face_looks_out;
 pub use parts::{edges_meet_at_ends, edges_share_no_part};
 pub use runs::{same_whole_runs, written_is_report};

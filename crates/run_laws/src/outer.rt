@@ -1,14 +1,14 @@
 //! There is one outer face for each choice.
 
 ghost use Rattle.std.specs.Prelude.{◌≡◌, ℕ};
-ghost use Rattle.faces.specs.Planes.{PlaneModel, IsPlane, IsWidest, with_outer};
+ghost use Rattle.faces.specs.Planes.{PlaneModel, IsPlane, HasGreatestOuter, with_outer};
 ghost use Rattle.ortho_rep.specs.Best.{IsBest};
 
-/// The first widest face leaves no choice open. Where two planes are alike but for the outer face, and that of each has the most
+/// The first greatest face leaves no choice open. Where two planes are alike but for the outer face, and that of each has the most
 /// darts and among equals the least dart, they have the same outer face.
-pub fn one_widest()
+pub fn one_greatest()
     ensures { (p : PlaneModel) (other : ℕ) → IsPlane p → IsPlane (with_outer p other)
-        → IsWidest p → IsWidest (with_outer p other) → p.outer ≡ other }
+        → HasGreatestOuter p → HasGreatestOuter (with_outer p other) → p.outer ≡ other }
 {}
 
 /// Nor does the first best face. Where two planes are alike but for the outer face, and with that of each the fewest bends are

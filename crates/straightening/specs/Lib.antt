@@ -1,2 +1,2 @@
 pub mod Flows
-pub mod Wide
+pub mod Reflex

@@ -6,7 +6,7 @@ ghost use Rattle.ortho_rep.specs.Shapes.{turns_at};
 ghost use Rattle.ortho_rep.specs.Representation.{HasDarts, IsShape, IsLeast, bends_of};
 ghost use Rattle.ortho_rep.specs.Prices.{HasPrices, IsProof};
 ghost use Rattle.straightening.specs.Flows.{AreFit};
-ghost use Rattle.straightening.specs.Wide.{wide_angles};
+ghost use Rattle.straightening.specs.Reflex.{reflex_angles};
 
 use crate::flow::{Flow, clockwise, is_free_corner};
 use crate::search::{FaceSearch, Way};
@@ -34,7 +34,7 @@ impl Scratch {
 }
 
 /// The angle on the outside of a vertex of degree 2 that turns. No other vertex has it.
-const WIDE: u8 = 3;
+const REFLEX: u8 = 3;
 
 /// A shape with as many bends as the given one, in which few vertices of degree 2 turn. The same prices prove it least.
 ///
@@ -63,7 +63,7 @@ pub fn straighten_in(
     ensures shape { IfOk result (λ made. IsShape plane.now made) }
     ensures least { IfOk result (λ made. IsLeast plane.now made) }
     ensures proof { IfOk result (λ made. IsProof plane.now made prices.now) }
-    ensures straighter { IfOk result (λ made. wide_angles made ≤ wide_angles shape) }
+    ensures straighter { IfOk result (λ made. reflex_angles made ≤ reflex_angles shape) }
     ensures bends { IfOk result (λ made. bends_of (length made.strings) (turns_at made) ≡ bends_of (length shape.strings) (turns_at shape)) }
 {
     let Some(first) = first_movable(plane, &shape, prices) else {
@@ -76,7 +76,7 @@ pub fn straighten_in(
         return Ok(shape);
     }
     let made = flow.shape(alloc, plane)?;
-    if count_wide(plane, &made) < count_wide(plane, &shape) {
+    if count_reflex(plane, &made) < count_reflex(plane, &shape) {
         Ok(made)
     } else {
         Ok(shape)
@@ -89,7 +89,7 @@ fn first_movable(plane: &Plane, shape: &Shape, prices: &Prices) -> Option<u16>
     requires prices { HasPrices plane.now prices.now }
 {
     for dart in 0..plane.graph().darts() {
-        if shape.angle(dart) == WIDE && is_movable(plane, prices, dart) {
+        if shape.angle(dart) == REFLEX && is_movable(plane, prices, dart) {
             return Some(dart);
         }
     }
@@ -97,13 +97,13 @@ fn first_movable(plane: &Plane, shape: &Shape, prices: &Prices) -> Option<u16>
 }
 
 /// How many angles of three right angles a shape has.
-fn count_wide(plane: &Plane, shape: &Shape) -> u16
+fn count_reflex(plane: &Plane, shape: &Shape) -> u16
     requires { HasDarts plane.now shape.now }
-    ensures { result ≡ wide_angles shape.now }
+    ensures { result ≡ reflex_angles shape.now }
 {
     let mut count = 0;
     for dart in 0..plane.graph().darts() {
-        if shape.angle(dart) == WIDE {
+        if shape.angle(dart) == REFLEX {
             count += 1;
         }
     }
@@ -124,7 +124,7 @@ fn straighten_from(
 {
     let mut moved = false;
     for dart in first..plane.graph().darts() {
-        if flow.angle(dart) != WIDE || !is_movable(plane, prices, dart) {
+        if flow.angle(dart) != REFLEX || !is_movable(plane, prices, dart) {
             continue;
         }
         moved |= straighten_one(flow, search, plane, prices, dart);

@@ -2,7 +2,7 @@ use Rattle.std.proofs.Common.{◌≡◌, ◌++◌, ◌+◌, ◌-◌, ◌∙◌, 
 use Rattle.std.proofs.lemmas.List.{get_or_read}
 use Rattle.dissect.specs.Tables.{dart_map_of}
 use Rattle.dissect.specs.Listed.{detour}
-use Rattle.dissect.proofs.Adding.{IsLeft, listed_few, left_few, left_kept, joined_made}
+use Rattle.dissect.proofs.Adding.{IsRemaining, listed_few, left_few, left_kept, joined_made}
 use Rattle.dissect.proofs.face_list.add_joined_face.Goals as goal
 use Rattle.dissect.proofs.face_list.add_joined_face.Goals.{then-index-eq3, else-index-eq3}
 
@@ -11,7 +11,7 @@ overflow_cast-kept c =
     let outer = c.args.faces.now.outer in
     let few = listed_few (dart_map_of c.args.table.now) c.args.right c.requires.listed.0 outer.items c.requires.listed.1 in
     let long : vec_len outer ≡ length outer.items = omega (arith, outer.ok.0) in
-    let left : IsLeft c.index.result.now outer.items c.if-index-eq3.faces.outer.items =
+    let left : IsRemaining c.index.result.now outer.items c.if-index-eq3.faces.outer.items =
     elim c.if-index-eq3.branch [
       | then-index-eq3 w ↦ rw w.faces-is (record {
         popped = λ _. w.pop.ensures.rest ∙ ap (λ (k : ℕ). take (k - 1) outer.items) long;
@@ -26,7 +26,7 @@ overflow_add-kept c =
     let outer = c.args.faces.now.outer in
     let few = listed_few (dart_map_of c.args.table.now) c.args.right c.requires.listed.0 outer.items c.requires.listed.1 in
     let long : vec_len outer ≡ length outer.items = omega (arith, outer.ok.0) in
-    let left : IsLeft c.index.result.now outer.items c.if-index-eq3.faces.outer.items =
+    let left : IsRemaining c.index.result.now outer.items c.if-index-eq3.faces.outer.items =
     elim c.if-index-eq3.branch [
       | then-index-eq3 w ↦ rw w.faces-is (record {
         popped = λ _. w.pop.ensures.rest ∙ ap (λ (k : ℕ). take (k - 1) outer.items) long;
@@ -41,7 +41,7 @@ returns c = record {
   joined = λ inner listed flat.
       let outer = c.args.faces.now.outer in
       let long : vec_len outer ≡ length outer.items = omega (arith, outer.ok.0) in
-      let left : IsLeft c.index.result.now outer.items c.if-index-eq3.faces.outer.items =
+      let left : IsRemaining c.index.result.now outer.items c.if-index-eq3.faces.outer.items =
       elim c.if-index-eq3.branch [
         | then-index-eq3 w ↦ rw w.faces-is (record {
           popped = λ _. w.pop.ensures.rest ∙ ap (λ (k : ℕ). take (k - 1) outer.items) long;

@@ -8,7 +8,7 @@ use Rattle.dissect.specs.DartMaps.{IsLinked, IsMeeting}
 use Rattle.dissect.specs.Tables.{dart_map_of}
 use Rattle.dissect.specs.Steps.{IsBent, AreBent, finished}
 use Rattle.dissect.proofs.EdgeTurns.{bends_twice, lesser_length-lesser, lesser_few}
-use Rattle.dissect.proofs.Normalizing.{AreLeft, AreDone, none_done, next_at, next_done, none_left}
+use Rattle.dissect.proofs.Normalizing.{AreRemaining, AreDone, none_done, next_at, next_done, none_left}
 use Rattle.dissect.proofs.Starting.{linked, meeting}
 use Rattle.dissect.proofs.Ending.{all_bends}
 use Rattle.dissect.proofs.Pathing.{bends_have_paths, bends_stay_connected}
@@ -87,7 +87,7 @@ returns c =
     let bare = c.in_ok-table.ensures.bare in
     let done : AreDone p s start c.edges.table (darts p) =
     none_left p s start c.edges.table
-    (subst (AreLeft p s start c.edges.table) (drop_all c.edges.dart-index c.args.edges.now c.edges-test.false) c.edges.invariant) in
+    (subst (AreRemaining p s start c.edges.table) (drop_all c.edges.dart-index c.args.edges.now c.edges-test.false) c.edges.invariant) in
     let w = dart_map_of start in
     let new = dart_map_of c.edges.table in
     let bent : AreBent p s 0 w new = done.steps new (finished (darts p) new (omega arith)) in

@@ -1,4 +1,4 @@
-use Rattle.drawing_laws.proofs.Left.{laid_in_grid, never_out}
+use Rattle.drawing_laws.proofs.Remaining.{laid_in_grid, never_out}
 use Rattle.drawing_laws.proofs.causes.layouts_are_in_grid.Goals as goal
 
 pub returns : goal.returns

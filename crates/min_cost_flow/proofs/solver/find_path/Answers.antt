@@ -6,7 +6,7 @@ use mir.Val.{SFits, of_z}
 use Rattle.networks.specs.Networks.{node_count}
 use Rattle.networks.specs.Flow.{at_nodes}
 use Rattle.networks.specs.ResidualArcs.{reverse_at}
-use Rattle.networks.specs.Search.{far, labels, enters, orders, places, IsGraph, AreFeasiblePotentials, IsReached, IsNearest, IsServed, IsLeft}
+use Rattle.networks.specs.Search.{far, labels, enters, orders, places, IsGraph, AreFeasiblePotentials, IsReached, IsNearest, IsServed, IsRemaining}
 use Rattle.networks.proofs.Signs.{same_from_bits}
 use Rattle.networks.proofs.Reaching.{strictly, reached_fits}
 use Rattle.min_cost_flow.proofs.Solving.{is_graph, is_priced, can_augment, nothing_found, path_looks, short_path, label_bounds}
@@ -32,7 +32,7 @@ run-search-requires-clause-blank c =
       };
       size = r.labels ∙ sym n;
       blank = λ v b. r.blank v (omega arith);
-      root = c.requires.left;
+      root = c.requires.remaining;
     })
 
 pub returns-then-search-clause-no_flow : goal.returns-then-search-clause-no_flow
@@ -49,15 +49,15 @@ returns-then-search-clause-no_flow c net r =
     let x = at_nodes exc in
     let re0 : IsReached (length pot) first arcs p x c.args.root (labels t) (enters t) (orders t) (places t) t.scanned t.ordered t.reached t.radius = rw (c.deref.ensures.value, c.deref-2.ensures.value, c.deref-3.ensures.value, c.deref-4.ensures.value) at h.reached in
     let sv0 : IsServed (length pot) first arcs p (labels t) (places t) t.bound t.scanned = rw (c.deref.ensures.value, c.deref-2.ensures.value, c.deref-3.ensures.value) at f.served in
-    let left0 : IsLeft (length pot) p (labels t) (places t) t.scanned t.bound = rw c.deref-3.ensures.value at f.left in
+    let remaining0 : IsRemaining (length pot) p (labels t) (places t) t.scanned t.bound = rw c.deref-3.ensures.value at f.remaining in
     let n = r.potentials in
     let fc : SFits w32 t.bound = search rules in
     let ff : SFits w32 far = search rules in
     let bound : t.bound ≡ far = same_from_bits _ _ fc ff c.if-search.true in
     let re = subst (λ (k : ℕ). IsReached k first arcs p x c.args.root (labels t) (enters t) (orders t) (places t) t.scanned t.ordered t.reached t.radius) n re0 in
     let sv = subst (λ (k : ℕ). IsServed k first arcs p (labels t) (places t) t.bound t.scanned) n sv0 in
-    let left = subst (λ (k : ℕ). IsLeft k p (labels t) (places t) t.scanned t.bound) n left0 in
-    nothing_found _ _ _ _ _ _ _ _ _ _ _ _ _ _ _ _ _ _ r.network r.residual.arcs_built r.residual.filled r.round re sv left bound c.requires.left
+    let remaining = subst (λ (k : ℕ). IsRemaining k p (labels t) (places t) t.scanned t.bound) n remaining0 in
+    nothing_found _ _ _ _ _ _ _ _ _ _ _ _ _ _ _ _ _ _ r.network r.residual.arcs_built r.residual.filled r.round re sv remaining bound c.requires.remaining
 
 pub update_potentials-requires : goal.update_potentials-requires
 update_potentials-requires c =
@@ -115,7 +115,7 @@ returns-clause-found c net r =
     let near0 : IsNearest (length pot) first arcs p x c.args.root (labels t) (places t) t.scanned t.radius t.bound t.found = rw (c.deref.ensures.value, c.deref-2.ensures.value, c.deref-3.ensures.value, c.deref-4.ensures.value) at h.nearest in
     let g0 : IsGraph (length pot) first arcs = rw (c.deref.ensures.value, c.deref-2.ensures.value, c.deref-3.ensures.value) at h.input.graph in
     let sv0 : IsServed (length pot) first arcs p (labels t) (places t) t.bound t.scanned = rw (c.deref.ensures.value, c.deref-2.ensures.value, c.deref-3.ensures.value) at f.served in
-    let left0 : IsLeft (length pot) p (labels t) (places t) t.scanned t.bound = rw c.deref-3.ensures.value at f.left in
+    let remaining0 : IsRemaining (length pot) p (labels t) (places t) t.scanned t.bound = rw c.deref-3.ensures.value at f.remaining in
     let hit : t.bound <ℤ far = strictly _ _ near0.most (λ q. c.if-search.false (ap (of_z w32) q)) in
     let up = c.update_potentials.ensures in
     let old = c.args.nodes.now.potential in
@@ -125,7 +125,7 @@ returns-clause-found c net r =
     let same : length new ≡ length pot = rw c.deref_mut.ensures.value at up.size in
     let is = with_items_is old new (omega (arith, same)) in
     let others = rw c.deref_mut.ensures.value at up.others in
-    rw is (can_augment net res pot exc new c.args.visits.now _ c.args.root t c.clear.new.search r b c.requires.left size g0 re0 near0 sv0 left0 hit up.moved others same c.clear.ensures.cleared (search (rules, f.list, c.clear.ensures.list)))
+    rw is (can_augment net res pot exc new c.args.visits.now _ c.args.root t c.clear.new.search r b c.requires.remaining size g0 re0 near0 sv0 remaining0 hit up.moved others same c.clear.ensures.cleared (search (rules, f.list, c.clear.ensures.list)))
 
 pub returns-clause-short : goal.returns-clause-short
 returns-clause-short c =

@@ -7,5 +7,5 @@ use Rattle.planar_code.proofs.plain.list_end.Given as goal
 abbrev pub invariant-loop-i : goal.invariant-loop-i
 invariant-loop-i l = record {
   short : l.i ≤ MAX_LIST;
-  started : (before : List ℕ) (left : ℕ) → IsStarted before left 0 → IsStarted (before ++ take l.i l.bytes) left l.i;
+  started : (before : List ℕ) (remaining : ℕ) → IsStarted before remaining 0 → IsStarted (before ++ take l.i l.bytes) remaining l.i;
 }

@@ -3,7 +3,7 @@ use Rattle.std.proofs.lemmas.Bool.{eqb-true, eqb-false}
 use Rattle.std.proofs.lemmas.List.{take_rest}
 use Rattle.planar_code.specs.declared.TheConstants.{MAX_RECORDS}
 use Rattle.planar_code.specs.Plain.{HasSplit}
-use Rattle.planar_code.proofs.Plains.{split-complete, split-large, split-truncated, split-oversize, has_split-more, none-left}
+use Rattle.planar_code.proofs.Plains.{split-complete, split-large, split-truncated, split-oversize, has_split-more, none-remaining}
 use Rattle.planar_code.proofs.plain.split_body.Goals as goal
 
 pub returns-then-rest-eq0 : goal.returns-then-rest-eq0
@@ -34,4 +34,4 @@ returns-in-Oversize c =
 pub returns : goal.returns
 returns c =
     split-complete c.args.body.now c.loop-rest.records.items c.loop-rest.rest.now c.loop-rest.invariant
-    (none-left c.loop-rest.rest.now (eqb-true _ _ (sym c.loop-rest-test.ensures)))
+    (none-remaining c.loop-rest.rest.now (eqb-true _ _ (sym c.loop-rest-test.ensures)))

@@ -1,7 +1,7 @@
 use Rattle.straightening.proofs.straighten.straighten_in.Goals as goal
 
-pub returns-then-count_wide-clause-proof : goal.returns-then-count_wide-clause-proof
-returns-then-count_wide-clause-proof c = c.in_ok-made.ensures.proof c.args.prices.now c.requires.proof.prices c.straighten_from.ensures
+pub returns-then-count_reflex-clause-proof : goal.returns-then-count_reflex-clause-proof
+returns-then-count_reflex-clause-proof c = c.in_ok-made.ensures.proof c.args.prices.now c.requires.proof.prices c.straighten_from.ensures
 
 pub shape-requires-clause-fit : goal.shape-requires-clause-fit
 shape-requires-clause-fit c = (c.args.prices.now, c.straighten_from.ensures)

@@ -1,6 +1,6 @@
 use Rattle.std.proofs.Common.{arith}
 use Rattle.embedding.proofs.Rotation.{darts_few}
-use Rattle.faces.proofs.Kept.{plane_by, widest_by, faces_few}
+use Rattle.faces.proofs.Kept.{plane_by, greatest_by, faces_few}
 use Rattle.faces.proofs.plane.Plane.trace_in.Goals as goal
 
 pub overflow_add-from : goal.overflow_add-from
@@ -15,14 +15,14 @@ invariant_of-result c =
 pub invariant_of-result-2 : goal.invariant_of-result-2
 invariant_of-result-2 c =
     let (faces, size, has) = c.face_count.ensures.numbered in
-    plane_by c.args.graph faces c.face_count.result _ c.vertices.ensures.rules (omega arith) size has (omega arith) (c.widest_face-outer.ensures _ _ has).named c.result-1.given.0
+    plane_by c.args.graph faces c.face_count.result _ c.vertices.ensures.rules (omega arith) size has (omega arith) (c.greatest_face-outer.ensures _ _ has).named c.result-1.given.0
 
 pub returns-clause-plane : goal.returns-clause-plane
 returns-clause-plane c =
     let (faces, size, has) = c.face_count.ensures.numbered in
-    plane_by c.args.graph faces c.face_count.result _ c.vertices.ensures.rules (omega arith) size has (omega arith) (c.widest_face-outer.ensures _ _ has).named c.result-1.given.0
+    plane_by c.args.graph faces c.face_count.result _ c.vertices.ensures.rules (omega arith) size has (omega arith) (c.greatest_face-outer.ensures _ _ has).named c.result-1.given.0
 
 pub returns-clause-outer : goal.returns-clause-outer
 returns-clause-outer c =
     let (faces, size, has) = c.face_count.ensures.numbered in
-    widest_by c.args.graph faces c.face_count.result _ size has (c.widest_face-outer.ensures _ _ has) c.result-1.given.0
+    greatest_by c.args.graph faces c.face_count.result _ size has (c.greatest_face-outer.ensures _ _ has) c.result-1.given.0

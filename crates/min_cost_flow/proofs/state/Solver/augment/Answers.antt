@@ -16,7 +16,7 @@ use Rattle.min_cost_flow.specs.Round.{IsRound, carrying}
 use Rattle.min_cost_flow.specs.Stand.{excess_at, potential_at, flow_in, last_node, CanAugment, IsBottleneck, enters_in, places_in}
 use Rattle.min_cost_flow.proofs.Changes.{taken_carries}
 use Rattle.min_cost_flow.proofs.Rounds.{IsSent, sent_round}
-use Rattle.min_cost_flow.proofs.Augmenting.{IsPushed, IsSending, is_paired, was_pushed, pushed_network, same_flow, same_filled, own_step, own_last, own_end, last_pair, step_pair, way_first, way_more, still_fits, sending_first, sending_more, filled_caps, few_left, sent_all, sent_less}
+use Rattle.min_cost_flow.proofs.Augmenting.{IsPushed, IsSending, is_paired, was_pushed, pushed_network, same_flow, same_filled, own_step, own_last, own_end, last_pair, step_pair, way_first, way_more, still_fits, sending_first, sending_more, filled_caps, few_remaining, sent_all, sent_less}
 use Rattle.min_cost_flow.proofs.state.Solver.augment.Goals as goal
 
 -- where the path ends
@@ -38,7 +38,7 @@ own_sent net s root k capacity arcs h b filled carries grown =
     let tb : to < length es = omega (arith, h.ready.excesses, own_end net s root h) in
     let long : length es' ≡ length es = length-set es to (at_nodes es to +ℤ pos k) in
     let sb : root < length es' = omega (arith, h.ready.excesses, h.root) in
-    sent_all net (flow_in s) (carried (reverse_at s.residual.capacities.items) s.residual.forward.items capacity) (excess_at s) (at_nodes es') (at_nodes (moved es to root k)) root to k h.root h.left h.wanting b.fitting.left b.fitting.short
+    sent_all net (flow_in s) (carried (reverse_at s.residual.capacities.items) s.residual.forward.items capacity) (excess_at s) (at_nodes es') (at_nodes (moved es to root k)) root to k h.root h.remaining h.wanting b.fitting.remaining b.fitting.short
     (filled_caps net (reverse_at s.residual.capacities.items) s.residual.forward.items capacity arcs filled) carries
     (raised_here es to k tb) (raised_others es to k)
     (get_or-set_same es' root (at_nodes es' root -ℤ pos k) (pos 0) sb)
@@ -66,7 +66,7 @@ move_units-requires c =
     record {
       from = rw (m, target) (omega (arith, r.excesses, own_end net s c.args.root h));
       to = rw m (omega (arith, r.excesses, h.root));
-      few = few_left (excess_at s c.args.root) c.bottleneck-amount.result b.fitting.left (r.round.fair c.args.root h.root).1;
+      few = few_remaining (excess_at s c.args.root) c.bottleneck-amount.result b.fitting.remaining (r.round.fair c.args.root h.root).1;
       low = rw m (λ v d. (r.round.fair v (omega (arith, r.excesses))).0);
       high = rw m (λ v d. (r.round.fair v (omega (arith, r.excesses))).1);
     }

@@ -7,7 +7,7 @@ use Rattle.networks.specs.ResidualArcs.{end_at, reverse_at, capacity_at, no_resi
 use Rattle.min_cost_flow.proofs.Augmenting.{place_read, enter_read}
 use Rattle.min_cost_flow.specs.Path.{previous_of, room_into}
 use Rattle.min_cost_flow.specs.Stand.{excess_at, last_node, enters_in, places_in}
-use Rattle.min_cost_flow.proofs.Augmenting.{IsNarrowed, narrowed_first, narrowed_more, narrowed_all, own_step, own_last, own_end, last_pair, step_pair, lesser_some, lesser_left, lesser_short}
+use Rattle.min_cost_flow.proofs.Augmenting.{IsNarrowed, narrowed_first, narrowed_more, narrowed_all, own_step, own_last, own_end, last_pair, step_pair, lesser_some, lesser_remaining, lesser_short}
 use Rattle.min_cost_flow.proofs.state.Solver.bottleneck.Goals as goal
 
 pub index-requires : goal.index-requires
@@ -24,7 +24,7 @@ most_between-most-requires c =
     record {
       root = rw d (omega (arith, h.ready.excesses, h.root));
       target = rw (d, target) (omega (arith, h.ready.excesses, own_end net s c.args.root h));
-      left = rw d h.left;
+      remaining = rw d h.remaining;
       wanting = rw (d, target) h.wanting;
     }
 
@@ -57,10 +57,10 @@ narrow-init c =
       narrowed = subst (λ (t : ℕ). IsNarrowed next (places_in s) capacities (last_node s) t c.min-amount.result) (sym at) (narrowed_first next (places_in s) capacities (last_node s) c.min-amount.result);
       some = lesser_some c.most_between-most.result c.index-2.result.now.capacity c.min-amount.result least m.some (omega (arith, l.link.some));
       found = omega (arith, least);
-      left = lesser_left c.most_between-most.result c.min-amount.result (excess_at s c.args.root) (omega (arith, least)) (rw d at m.left);
+      remaining = lesser_remaining c.most_between-most.result c.min-amount.result (excess_at s c.args.root) (omega (arith, least)) (rw d at m.remaining);
       short = lesser_short c.most_between-most.result c.min-amount.result (excess_at s (end_at s.residual.arcs.items s.found)) (omega (arith, least)) (rw (d, target) at m.wanting);
       on = λ net' g. ap g.path.on at ∙ (own_last net' s c.args.root g).member;
-      most = λ k f. let under : k ≤ c.most_between-most.result = m.most k (rw d f.left) (rw (d, target) f.short) in omega (arith, least, under, f.found);
+      most = λ k f. let under : k ≤ c.most_between-most.result = m.most k (rw d f.remaining) (rw (d, target) f.short) in omega (arith, least, under, f.found);
     }
 
 pub narrow-smaller : goal.narrow-smaller
@@ -132,7 +132,7 @@ narrow-preserved c =
       narrowed = subst (λ (t : ℕ). IsNarrowed next (places_in s) capacities (last_node s) t k') (sym at) (narrowed_more next (places_in s) capacities (last_node s) v c.narrow.amount k' i.narrowed some less (omega (arith, least)));
       some = lesser_some c.narrow.amount c.index-in-narrow-3.result.now.capacity k' least i.some (omega (arith, st.link.some));
       found = omega (arith, less, i.found);
-      left = lesser_left c.narrow.amount k' (excess_at s c.args.root) less i.left;
+      remaining = lesser_remaining c.narrow.amount k' (excess_at s c.args.root) less i.remaining;
       short = lesser_short c.narrow.amount k' (excess_at s (end_at s.residual.arcs.items s.found)) less i.short;
       on = λ net' g. ap g.path.on at ∙ (own_step net' s c.args.root g v (i.on net' g) some).member;
       most = λ k f. omega (arith, least, rm, i.most k f, f.fits v i.narrowed.on some);
@@ -152,7 +152,7 @@ returns c =
       most = i.most;
       fitting = record {
         found = i.found;
-        left = i.left;
+        remaining = i.remaining;
         short = i.short;
         fits = λ u on some. narrowed_all (previous_of s.residual.arcs.items s.residual.capacities.items (enters_in s)) (places_in s) (room_into s.residual.capacities.items (enters_in s)) (last_node s) v c.narrow.amount i.narrowed none u on some;
       };

@@ -12,7 +12,7 @@ invariant-narrow l = record {
   narrowed : IsNarrowed (previous_of l.self.residual.arcs.items l.self.residual.capacities.items (enters_in l.self)) (places_in l.self) (room_into l.self.residual.capacities.items (enters_in l.self)) (last_node l.self) l.node l.amount;
   some : 0 < l.amount;
   found : l.amount ≤ capacity_at l.self.residual.capacities.items l.self.found;
-  left : pos l.amount ≤ℤ excess_at l.self l.root;
+  remaining : pos l.amount ≤ℤ excess_at l.self l.root;
   short : (excess_at l.self (end_at l.self.residual.arcs.items l.self.found) +ℤ pos l.amount) ≤ℤ pos 0;
   on : (net : NetworkModel) (h : CanAugment net l.self l.root) → h.path.on l.node ≡ true;
   most : (k : ℕ) → IsFitting l.self l.root k → k ≤ l.amount;

@@ -6,7 +6,7 @@ use mir.Val.{SFits}
 use Rattle.networks.specs.Networks.{node_count}
 use Rattle.min_cost_flow.specs.Stand.{excess_at}
 use Rattle.min_cost_flow.proofs.Comparisons.{is_more, is_no_more, not_true, not_false}
-use Rattle.min_cost_flow.proofs.Rounds.{no_flow_wanting, nothing_left}
+use Rattle.min_cost_flow.proofs.Rounds.{no_flow_wanting, nothing_remaining}
 use Rattle.min_cost_flow.proofs.Moved.{over_none}
 use Rattle.min_cost_flow.proofs.state.Solver.resend.Goals as goal
 
@@ -24,7 +24,7 @@ augment_once-requires c =
     record {
       ready = (net, (i.ready net c.requires.ready.1));
       root = b;
-      left = subst (λ (z : ℤ). pos 0 <ℤ z) at (is_more _ _ f c.units-test.true);
+      remaining = subst (λ (z : ℤ). pos 0 <ℤ z) at (is_more _ _ f c.units-test.true);
       few = omega arith;
     }
 
@@ -61,6 +61,6 @@ returns c net h =
     let at : c.index.result.now ≡ excess_at c.units.self c.args.root = get_or_read es c.args.root c.index.result.now (omega (arith, i.size, c.requires.root)) c.index.ensures (pos 0) in
     let all : (v : ℕ) → v < node_count net → excess_at c.units.self v ≤ℤ pos 0 = λ v b. over_none es (length es) c.args.root i.others (subst (λ (z : ℤ). z ≤ℤ pos 0) at (is_no_more _ _ f c.units-test.false)) v (omega (arith, r.excesses)) in
     record {
-      balanced = λ e. let over = rw d at (c.has_deficit.ensures.none (not_true _ e)) in record { ready = r; sent = λ v b. nothing_left _ (all v b) (over v (omega (arith, r.excesses))) };
+      balanced = λ e. let over = rw d at (c.has_deficit.ensures.none (not_true _ e)) in record { ready = r; sent = λ v b. nothing_remaining _ (all v b) (over v (omega (arith, r.excesses))) };
       no_flow = λ e. let (u, b, under) = rw d at (c.has_deficit.ensures.some (not_false _ e)) in no_flow_wanting _ _ (excess_at c.units.self) u r.network.ends r.round.leaves all (omega (arith, r.excesses)) under;
     }

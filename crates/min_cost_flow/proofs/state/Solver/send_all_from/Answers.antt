@@ -23,7 +23,7 @@ augment_once-requires c =
     record {
       ready = (net, u.ready);
       root = b;
-      left = subst (λ (z : ℤ). pos 0 <ℤ z) at (is_more _ _ f c.units-test.true);
+      remaining = subst (λ (z : ℤ). pos 0 <ℤ z) at (is_more _ _ f c.units-test.true);
       few = omega (arith, most.1);
     }
 

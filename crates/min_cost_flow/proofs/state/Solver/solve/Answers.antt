@@ -4,7 +4,7 @@ use Rattle.std.proofs.lemmas.Bool.{cases_lt}
 use Rattle.networks.specs.Networks.{node_count}
 use Rattle.min_cost_flow.specs.Stand.{excess_at}
 use Rattle.min_cost_flow.proofs.Comparisons.{not_true, not_false}
-use Rattle.min_cost_flow.proofs.Rounds.{done_at, no_flow_wanting, nothing_left}
+use Rattle.min_cost_flow.proofs.Rounds.{done_at, no_flow_wanting, nothing_remaining}
 use Rattle.min_cost_flow.proofs.state.Solver.solve.Goals as goal
 
 pub loop-root-init : goal.loop-root-init
@@ -50,7 +50,7 @@ returns c =
     record {
       done = λ e. let over = rw d at (c.has_deficit.ensures.none (not_true _ e)) in done_at net _ _ _ _ _ r.round i.under_way.work all (λ v b. over v (omega (arith, r.excesses)));
       answer = record {
-        balanced = λ e. let over = rw d at (c.has_deficit.ensures.none (not_true _ e)) in record { ready = r; sent = λ v b. nothing_left _ (all v b) (over v (omega (arith, r.excesses))) };
+        balanced = λ e. let over = rw d at (c.has_deficit.ensures.none (not_true _ e)) in record { ready = r; sent = λ v b. nothing_remaining _ (all v b) (over v (omega (arith, r.excesses))) };
         no_flow = λ e. let (u, b, under) = rw d at (c.has_deficit.ensures.some (not_false _ e)) in no_flow_wanting net _ (excess_at c.loop-root.self) u r.network.ends r.round.leaves all (omega (arith, r.excesses)) under;
       };
     }

@@ -5,22 +5,22 @@ use mir.Syntax.{w32}
 use mir.Val.{SFits, of_z}
 use Rattle.networks.specs.Search.{labels, orders, potential_of}
 use Rattle.networks.proofs.Signs.{same_from_bits}
-use Rattle.networks.proofs.Reaching.{left_at_radius, left_behind, strictly}
+use Rattle.networks.proofs.Reaching.{remaining_at_radius, remaining_behind, strictly}
 use Rattle.networks.proofs.state.Search.goes_on.Goals as goal
 
-pub returns-then-self-clause-left : goal.returns-then-self-clause-left
-returns-then-self-clause-left c _ =
+pub returns-then-self-clause-remaining : goal.returns-then-self-clause-remaining
+returns-then-self-clause-remaining c _ =
     let fl : SFits w32 c.args.self.now.radius = search rules in
     let fc : SFits w32 c.args.self.now.bound = search rules in
-    left_at_radius _ _ _ _ _ _ _ _ _ _ _ _ _ _ _ c.requires.search.reached (same_from_bits _ _ fl fc c.if-self.true)
+    remaining_at_radius _ _ _ _ _ _ _ _ _ _ _ _ _ _ _ c.requires.search.reached (same_from_bits _ _ fl fc c.if-self.true)
 
-pub returns-then-nearest-self-clause-left : goal.returns-then-nearest-self-clause-left
-returns-then-nearest-self-clause-left c _ =
+pub returns-then-nearest-self-clause-remaining : goal.returns-then-nearest-self-clause-remaining
+returns-then-nearest-self-clause-remaining c _ =
     let fn : SFits w32 c.least_distance-nearest.result = search rules in
     let fc : SFits w32 c.args.self.now.bound = search rules in
     let s = c.args.self.now in
     let same : c.least_distance-nearest.result ≡ s.bound = same_from_bits _ _ fn fc c.if-nearest-self.true in
-    left_behind _ _ _ _ _ _ _ _ _ _ _ _ _ _ _ c.requires.search.reached c.if-self-2.false (λ j a b. subst (λ (z : ℤ). z ≤ℤ (labels s (orders s j) -ℤ potential_of c.args.input (orders s j))) same (c.least_distance-nearest.ensures.least j a b))
+    remaining_behind _ _ _ _ _ _ _ _ _ _ _ _ _ _ _ c.requires.search.reached c.if-self-2.false (λ j a b. subst (λ (z : ℤ). z ≤ℤ (labels s (orders s j) -ℤ potential_of c.args.input (orders s j))) same (c.least_distance-nearest.ensures.least j a b))
 
 pub climb-requires-clause-radius : goal.climb-requires-clause-radius
 climb-requires-clause-radius c =

@@ -4,11 +4,11 @@ use mir.Syntax.{w32}
 use mir.Val.{SFits}
 use Rattle.networks.specs.Search.{nodes_of, potential_of}
 use Rattle.networks.proofs.Signs.{same_from_bits, label_fits, label_passed}
-use Rattle.networks.proofs.Searching.{IsListed, potential_near, potential_within, away_is, offer_within, end_in, room_left, node_labelled, node_labelled_behind, listed}
+use Rattle.networks.proofs.Searching.{IsListed, potential_near, potential_within, away_is, offer_within, end_in, room_remaining, node_labelled, node_labelled_behind, listed}
 use Rattle.networks.proofs.state.Search.label_node.Goals as goal
 
 pub set_label-requires-clause-room : goal.set_label-requires-clause-room
-set_label-requires-clause-room c = room_left c.args.input c.args.self.now c.args.step.end c.requires.offer.search (end_in c.args.input c.args.self.now c.args.step c.requires.offer)
+set_label-requires-clause-room c = room_remaining c.args.input c.args.self.now c.args.step.end c.requires.offer.search (end_in c.args.input c.args.self.now c.args.step c.requires.offer)
 
 pub distance-requires-clause-label : goal.distance-requires-clause-label
 distance-requires-clause-label c =

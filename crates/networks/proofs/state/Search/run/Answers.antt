@@ -56,8 +56,8 @@ returns-clause-served c =
     let i = c.nodes.invariant in
     served_still c.args.input c.nodes.search c.goes_on.new.self i.search c.goes_on.ensures.ordered i.served
 
-pub returns-clause-left : goal.returns-clause-left
-returns-clause-left c = c.goes_on.ensures.left c.nodes-test.false
+pub returns-clause-remaining : goal.returns-clause-remaining
+returns-clause-remaining c = c.goes_on.ensures.remaining c.nodes-test.false
 
 pub returns-clause-looks : goal.returns-clause-looks
 returns-clause-looks c =

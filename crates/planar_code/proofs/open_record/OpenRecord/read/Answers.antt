@@ -8,6 +8,6 @@ use Rattle.planar_code.proofs.open_record.OpenRecord.read.Goals as goal
 
 pub returns-in-Open : goal.returns-in-Open
 returns-in-Open c =
-    let started : IsStarted (c.args.self.now ++ c.args.text.now) c.in-Open.left c.in-Open.entries
-    = subst (λ z. Scans c.args.self.now c.args.text.now (Ok z)) c.in-Open.is c.in_ok-left.ensures in
+    let started : IsStarted (c.args.self.now ++ c.args.text.now) c.in-Open.remaining c.in-Open.entries
+    = subst (λ z. Scans c.args.self.now c.args.text.now (Ok z)) c.in-Open.is c.in_ok-remaining.ensures in
     (subst IsUnfinished (sym c.keep.ensures) (started-unfinished _ _ _ started), c.keep.ensures)

@@ -17,7 +17,7 @@ use Rattle.entries.specs.declared.cause.Cause.TheVariants.{Wide, OutOfGrid, NotA
 use Rattle.entries.specs.Drawn.{ShowsCause}
 use Rattle.entries.specs.Answers.{IsLaid}
 use Rattle.drawing_laws.specs.Least.{HasNoOrder}
-use Rattle.drawing_laws.specs.Left.{MayShow}
+use Rattle.drawing_laws.specs.Remaining.{MayShow}
 use Rattle.drawing_laws.proofs.Lowest.{least_exist, least_are_few, all_ends, all_bends}
 
 pub laid_in_grid : (b : BoxesModel) (points : PointsModel) → AreBoxes b → AreLaidOut b points → AreInGrid points
@@ -37,22 +37,22 @@ no_order b boxes few none x y o =
       | inr beyond ↦ omega (arith, beyond, few, (least_are_few b l.0 l.1 boxes l.2 v inside).1)
     ]
 
-pub left : (plane : PlaneModel) (shape : ShapeModel) (b : BoxesModel) (cause : Cause)
+pub remaining : (plane : PlaneModel) (shape : ShapeModel) (b : BoxesModel) (cause : Cause)
     → IsBoxed plane shape b → b.vertices ≤ MAX_COORDINATE + 1 → ShowsCause plane shape b cause → MayShow b cause
-left plane shape b Wide boxed few shown = no_order b boxed.boxes few shown
-left plane shape b OutOfGrid boxed few shown = never_out plane shape b boxed shown
-left plane shape b NotAxis boxed few shown = tt
-left plane shape b WrongTurn boxed few shown = tt
-left plane shape b Meet boxed few shown = tt
+remaining plane shape b Wide boxed few shown = no_order b boxed.boxes few shown
+remaining plane shape b OutOfGrid boxed few shown = never_out plane shape b boxed shown
+remaining plane shape b NotAxis boxed few shown = tt
+remaining plane shape b WrongTurn boxed few shown = tt
+remaining plane shape b Meet boxed few shown = tt
 
 -- boxes of a least shape have few vertices
-pub left_of_least : (plane : PlaneModel) (shape : ShapeModel) (b : BoxesModel) (cause : Cause)
+pub remaining_of_least : (plane : PlaneModel) (shape : ShapeModel) (b : BoxesModel) (cause : Cause)
     → IsPlane plane → IsLeast plane shape → IsBoxed plane shape b → ShowsCause plane shape b cause → MayShow b cause
-left_of_least plane shape b cause is least boxed shown =
-    left plane shape b cause boxed (omega (arith, few_limit plane shape is least, boxed.few, is.order)) shown
+remaining_of_least plane shape b cause is least boxed shown =
+    remaining plane shape b cause boxed (omega (arith, few_limit plane shape is least, boxed.few, is.order)) shown
 
-pub left_in_laid : (choice : Choice) (bytes : List ℕ) (plane : PlaneModel) (shape : ShapeModel) (prices : PricesModel) (cause : Cause)
+pub remaining_in_laid : (choice : Choice) (bytes : List ℕ) (plane : PlaneModel) (shape : ShapeModel) (prices : PricesModel) (cause : Cause)
     → IsLaid choice bytes plane shape prices (Err cause) → (boxes : BoxesModel) × IsBoxed plane shape boxes × MayShow boxes cause
-left_in_laid choice bytes plane shape prices cause is =
+remaining_in_laid choice bytes plane shape prices cause is =
     let found = is.drawn in
-    (found.boxes, found.boxed, left_of_least plane shape found.boxes cause is.rules is.least found.boxed found.shown)
+    (found.boxes, found.boxed, remaining_of_least plane shape found.boxes cause is.rules is.least found.boxed found.shown)

@@ -1,6 +1,6 @@
 use Rattle.std.proofs.Common.{◌≡◌, ◌≤◌, eqb, take}
 use Rattle.std.specs.Prelude.{count_by}
-use Rattle.straightening.proofs.straighten.count_wide.Given as goal
+use Rattle.straightening.proofs.straighten.count_reflex.Given as goal
 
 abbrev pub invariant-loop-dart : goal.invariant-loop-dart
 invariant-loop-dart l = record {

@@ -1,0 +1,9 @@
+-- Which face is the greatest.
+use Rattle.std.specs.Prelude.{ℕ, ◌<◌, ◌≤◌}
+use Rattle.faces.specs.Faces.{degree_in}
+
+-- of so many faces none has more of the n darts, and none before it as many
+pub record IsFirstGreatest (n : ℕ) (face : ℕ → ℕ) (count greatest : ℕ) : Type 0 where
+  pub named : greatest < count
+  pub most : (k : ℕ) → k < count → degree_in n face k ≤ degree_in n face greatest
+  pub first : (k : ℕ) → k < greatest → degree_in n face k < degree_in n face greatest
