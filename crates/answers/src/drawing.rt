@@ -10,7 +10,7 @@ ghost use Rattle.entries.specs.Drawn.{HasPoints, IsDrawn};
 use crate::fault::LayoutFault;
 use crate::held::{Held, Shell};
 use crate::layout::{Layout, SpentLayout};
-use crate::spent::WayBack;
+use crate::spent::Passage;
 use common::DrawingKind;
 use compact::{BoxesScratch, CompactFault, compact_in, dissect_along};
 use drawing_check::{CheckFault, Drawing, check_in};
@@ -33,7 +33,7 @@ pub struct DrawScratch {
     headings: Vec<u8>,
     // the holder of its layout
     shell: Option<Shell<Layout, SpentLayout>>,
-    pub(crate) back: WayBack<Shell<Layout, SpentLayout>>,
+    pub(crate) back: Passage<Shell<Layout, SpentLayout>>,
 }
 
 impl DrawScratch {
@@ -46,7 +46,7 @@ impl DrawScratch {
             check: drawing_check::Scratch::empty(alloc),
             headings: Vec::new(alloc),
             shell: None,
-            back: WayBack::none(),
+            back: Passage::none(),
         }
     }
 

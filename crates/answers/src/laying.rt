@@ -10,7 +10,7 @@ ghost use Rattle.common.specs.declared.choice.Choice.{Choice};
 use crate::fault::LayoutFault;
 use crate::held::{Held, Shell};
 use crate::layout::{Layout, SpentLayout};
-use crate::spent::WayBack;
+use crate::spent::Passage;
 use common::{Choice, DrawingKind};
 use compact::{HeadingSearch, headings_in};
 use faces::Plane;
@@ -32,15 +32,15 @@ pub struct LayScratch {
     plane: Option<Plane>,
     plane_shell: Option<Shell<Plane, Plane>>,
     shell: Option<Shell<Layout, SpentLayout>>,
-    pub(crate) ways: Ways,
+    pub(crate) passages: Passages,
 }
 
 /// The ways back of the stage that finds shapes: holders of planes are sent to the stage before, and holders of layouts
 /// come from the next one.
 #[derive(Drop)]
-pub(crate) struct Ways {
-    pub(crate) planes: WayBack<Shell<Plane, Plane>>,
-    pub(crate) layouts: WayBack<Shell<Layout, SpentLayout>>,
+pub(crate) struct Passages {
+    pub(crate) planes: Passage<Shell<Plane, Plane>>,
+    pub(crate) layouts: Passage<Shell<Layout, SpentLayout>>,
 }
 
 impl LayScratch {
@@ -54,16 +54,16 @@ impl LayScratch {
             plane: None,
             plane_shell: None,
             shell: None,
-            ways: Ways {
-                planes: WayBack::none(),
-                layouts: WayBack::none(),
+            passages: Passages {
+                planes: Passage::none(),
+                layouts: Passage::none(),
             },
         }
     }
 
     /// Takes in the holder of a layout that is done with and its lists, where they have come back.
     pub(crate) fn restock<R: Wait>(&mut self, rt: &R) {
-        if let Some(mut shell) = self.ways.layouts.receive(rt) {
+        if let Some(mut shell) = self.passages.layouts.receive(rt) {
             if let Some(spent) = shell.unload() {
                 let SpentLayout {
                     plane,
@@ -86,7 +86,7 @@ impl LayScratch {
             if let Some(plane) = self.plane.take() {
                 shell.load(plane);
             }
-            self.ways.planes.send(rt, shell);
+            self.passages.planes.send(rt, shell);
         }
     }
 

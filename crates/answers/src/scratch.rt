@@ -5,8 +5,8 @@ ghost use Rattle.answers.specs.Steps.{IsEmbedded};
 use crate::drawing::DrawScratch;
 use crate::fault::LayoutFault;
 use crate::held::{Held, Shell};
-use crate::laying::{LayScratch, Ways};
-use crate::spent::WayBack;
+use crate::laying::{LayScratch, Passages};
+use crate::spent::Passage;
 use faces::Plane;
 use std::alloc::{AllocError, Global};
 use std::sync::Wait;
@@ -17,7 +17,7 @@ pub struct EmbedScratch {
     pub(crate) planes: faces::Scratch,
     // the holder of the next plane
     shell: Option<Shell<Plane, Plane>>,
-    spent: WayBack<Shell<Plane, Plane>>,
+    spent: Passage<Shell<Plane, Plane>>,
 }
 
 impl EmbedScratch {
@@ -26,7 +26,7 @@ impl EmbedScratch {
         EmbedScratch {
             planes: faces::Scratch::empty(alloc),
             shell: None,
-            spent: WayBack::none(),
+            spent: Passage::none(),
         }
     }
 
@@ -76,12 +76,12 @@ impl StageScratch {
     /// `AllocError` where there is no memory for the ways back.
     pub fn new(alloc: Global, capacity: u32) -> Result<StageScratch, AllocError> {
         let room = capacity as usize + 3;
-        let (planes, spent_planes) = WayBack::new(alloc, room)?;
-        let (layouts, spent_layouts) = WayBack::new(alloc, room)?;
+        let (planes, spent_planes) = Passage::new(alloc, room)?;
+        let (layouts, spent_layouts) = Passage::new(alloc, room)?;
         let mut embed = EmbedScratch::empty(alloc);
         embed.spent = spent_planes;
         let mut shape = LayScratch::empty(alloc);
-        shape.ways = Ways {
+        shape.passages = Passages {
             planes,
             layouts: spent_layouts,
         };

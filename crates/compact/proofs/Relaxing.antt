@@ -20,7 +20,7 @@ Stands constraints old now Kept = (now ≡ old) × Keeps constraints (at now)
 Stands constraints old now Raised = slack now < slack old
 Stands constraints old now Wide = ⊥
 
-pub record IsUnderWay (constraints : List Constraint) (i : ℕ) (old now : List ℕ) (found : Relaxation) : Type 0 where
+pub record IsRelaxedUpTo (constraints : List Constraint) (i : ℕ) (old now : List ℕ) (found : Relaxation) : Type 0 where
   pub size : length now ≡ length old
   pub low : IsLow constraints (length old) (at now)
   pub stands : Stands (take i constraints) old now found
@@ -73,13 +73,13 @@ no_constraint = record { from = 0; to = 0; least = 0 }
 
 -- what comes of the relaxation of one more constraint
 abbrev pub IsWideOr : List Constraint → ℕ → List ℕ → List ℕ → Relaxation → Relaxation → Type 0
-IsWideOr constraints i old new found Kept = IsUnderWay constraints (i + 1) old new found
-IsWideOr constraints i old new found Raised = IsUnderWay constraints (i + 1) old new Raised
+IsWideOr constraints i old new found Kept = IsRelaxedUpTo constraints (i + 1) old new found
+IsWideOr constraints i old new found Raised = IsRelaxedUpTo constraints (i + 1) old new Raised
 IsWideOr constraints i old new found Wide = IsLow constraints (length old) (at new) × AreWide constraints (length old)
 
 -- relaxing the constraint at place i takes the numbers one constraint further
 pub goes_on : (constraints : List Constraint) (i : ℕ) (d : Constraint) (old now new : List ℕ) (found one : Relaxation) → i < length constraints → AreInside (length old) constraints →
-    IsUnderWay constraints i old now found → IsRelaxed (get_or constraints i d) now new one → length new ≡ length now →
+    IsRelaxedUpTo constraints i old now found → IsRelaxed (get_or constraints i d) now new one → length new ≡ length now →
     IsWideOr constraints i old new found one
 goes_on constraints i d old now new found Kept i_in inside under relaxed size =
     record {
@@ -118,7 +118,7 @@ goes_on constraints i d old now new found Wide i_in inside under relaxed size =
     )
 
 -- behind the last constraint
-pub ends_up : (constraints : List Constraint) (i : ℕ) (old now : List ℕ) (found : Relaxation) → length constraints ≤ i → IsUnderWay constraints i old now found → AreRelaxed constraints old now found
+pub ends_up : (constraints : List Constraint) (i : ℕ) (old now : List ℕ) (found : Relaxation) → length constraints ≤ i → IsRelaxedUpTo constraints i old now found → AreRelaxed constraints old now found
 ends_up constraints i old now Kept past under =
     (under.stands.0, subst (λ (gs : List Constraint). Keeps gs (at now)) (take_all i constraints past) under.stands.1)
 ends_up constraints i old now Raised past under = under.stands

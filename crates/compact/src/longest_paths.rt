@@ -167,7 +167,7 @@ fn write_next(
     segments: &mut [u32],
     in_degrees: &mut [u32],
 ) -> SegmentWalk
-    requires ways { (steps.left < 4) × (steps.behind < 4) }
+    requires directions { (steps.left < 4) × (steps.behind < 4) }
     requires count { length steps.around.now ≡ 4 * length segments.old }
     requires segment_firsts { AreVertices (length segments.old) segment_firsts.now }
     requires in_degrees { length in_degrees.old ≡ length segments.old }
@@ -348,7 +348,7 @@ fn pass_segment(
     queue: &mut ReadyQueue<'_>,
     numbers: &mut [u16],
 )
-    requires ways { (steps.ahead < 4) × (steps.left < 4) }
+    requires directions { (steps.ahead < 4) × (steps.left < 4) }
     requires first { first < length numbers.old }
     requires count { length steps.around.now ≡ 4 * length numbers.old }
     requires segments { AreVertices (length numbers.old) segments.now }
@@ -386,7 +386,7 @@ pub fn raise_to_longest_paths(
     steps: Steps<'_>,
     numbers: &mut [u16],
 )
-    requires ways { (steps.ahead < 4) × (steps.left < 4) }
+    requires directions { (steps.ahead < 4) × (steps.left < 4) }
     requires count { length steps.around.now ≡ 4 * length numbers.old }
     requires segments { AreSegments (step steps.around.now steps.left) (length numbers.old) axis_segments.old.segments.items }
     ensures under { StayUnderAll (length numbers.old) (step steps.entry.around.now steps.entry.ahead) (step steps.entry.around.now steps.entry.left) numbers.old numbers.new }

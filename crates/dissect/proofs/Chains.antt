@@ -268,7 +268,7 @@ surround_chains v w new has f =
 pub enclosed_chains : (v : ℕ) (w : DartMap) (outside : ℕ) (new : DartMap) → HasChains v w → IsEnclosed w outside new → HasChains v new
 enclosed_chains v w outside new has e =
     grows_chains v e.joined new
-    (cut_chains v e.surrounded e.right (w.darts + e.side) e.way e.joined (surround_chains v w e.surrounded has e.surround) e.join) e.grows
+    (cut_chains v e.surrounded e.right (w.darts + e.side) e.direction e.joined (surround_chains v w e.surrounded has e.surround) e.join) e.grows
 
 -- where no dart stands before another, there are no chains
 pub plain_chains : (v : ℕ) (w : DartMap) → IsLinked w → ((a : ℕ) → a < w.darts → w.head a < w.vertices) → v ≤ w.vertices →

@@ -153,7 +153,7 @@ chord_meeting w d f way new linked meeting fits s =
           a (omega (arith, s.darts));
       quarter = λ a l. by_age n (λ a. new.direction a < 4)
           (λ a l. omega (arith, s.direction_old a l, meeting.quarter a l))
-          (omega (arith, s.direction_there, fits.way_quarter)) (omega (arith, s.direction_back))
+          (omega (arith, s.direction_there, fits.direction_quarter)) (omega (arith, s.direction_back))
           a (omega (arith, s.darts));
       turns = λ a l. by_place n d f (λ a. (new.direction (new.reverse_dart (new.next a)) + new.angle a) % 4 ≡ new.direction a)
           (omega (arith, ap new.direction arrives_d ∙ s.direction_back, s.angle_d, s.direction_old d d_in, fits.from_d))
@@ -172,7 +172,7 @@ chord_meeting w d f way new linked meeting fits s =
             s.direction_there,
             meeting.turns f f_in,
             fits.to_f,
-            fits.way_quarter,
+            fits.direction_quarter,
             meeting.quarter f f_in,
             meeting.quarter (w.reverse_dart (w.next f)) (inside f f_in),
           ))
@@ -183,7 +183,7 @@ chord_meeting w d f way new linked meeting fits s =
             s.direction_back,
             meeting.turns d d_in,
             fits.from_d,
-            fits.way_quarter,
+            fits.direction_quarter,
             meeting.quarter d d_in,
             meeting.quarter (w.reverse_dart (w.next d)) (inside d d_in),
           ))
@@ -212,5 +212,5 @@ chord_straight w d f way new linked straight fits s a l =
       straight a l,
     ))
     (omega (arith, ap new.direction s.reverse_dart_there ∙ s.direction_back, s.direction_there))
-    (omega (arith, ap new.direction s.reverse_dart_back ∙ s.direction_there, s.direction_back, fits.way_quarter))
+    (omega (arith, ap new.direction s.reverse_dart_back ∙ s.direction_there, s.direction_back, fits.direction_quarter))
     a (omega (arith, s.darts))

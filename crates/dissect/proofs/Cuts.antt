@@ -87,7 +87,7 @@ cut_quarters w d e way new quarters cut a l =
     a (omega (arith, split.darts)) in
     by_age cut.middle.darts (λ (a : ℕ). new.direction a < 4)
     (λ a l. omega (arith, chord.direction_old a l, middle a l))
-    (omega (arith, chord.direction_there, cut.fits.way_quarter)) (omega (arith, chord.direction_back))
+    (omega (arith, chord.direction_there, cut.fits.direction_quarter)) (omega (arith, chord.direction_back))
     a (omega (arith, chord.darts))
 
 pub grows_quarters : (w new : DartMap) → AreQuarters w → Grows w new → AreQuarters new

@@ -96,7 +96,7 @@ pub path_last_in : (w : DartMap) (end first : ℕ) (rest : List ℕ) → IsPath 
 path_last_in w end first rest path = subst (λ (d : ℕ). d < w.darts) path.ends (last_in w.darts first rest path.first_in path.rest_in)
 
 -- where a path is read back: the darts in front of `dart`, and those met so far, the last dart first
-pub record IsOnWay (w : DartMap) (all : List ℕ) (dart : ℕ) (met : List ℕ) : Type 0 where
+pub record IsReadBack (w : DartMap) (all : List ℕ) (dart : ℕ) (met : List ℕ) : Type 0 where
   pub front : List ℕ
   pub in_front : Back w dart front
   pub met_is : all ≡ reverse front ++ reverse met
@@ -113,7 +113,7 @@ behind_all a fs (b ∷ bs) =
     sym (append_assoc (reverse fs) (a ∷ []) (b ∷ bs)) ∙ ap (λ (xs : List ℕ). xs ++ (b ∷ bs)) (sym (reverse_onto fs a []))
     ∙ behind_all b (a ∷ fs) bs
 
-pub way_starts : (w : DartMap) (last first : ℕ) (rest : List ℕ) → IsPath w last first rest → IsOnWay w (first ∷ rest) last (last ∷ [])
+pub way_starts : (w : DartMap) (last first : ℕ) (rest : List ℕ) → IsPath w last first rest → IsReadBack w (first ∷ rest) last (last ∷ [])
 way_starts w last first rest path = record {
   front = behind first [] rest;
   in_front = path_back w last first rest path;
@@ -121,12 +121,12 @@ way_starts w last first rest path = record {
 }
 
 pub way_on : (w : DartMap) (all : List ℕ) (dart front : ℕ) (met : List ℕ) → w.darts ≤ no_dart → w.before dart ≡ front → front ≢ no_dart →
-    IsOnWay w all dart met →
-    IsOnWay w all front (met ++ (front ∷ [])) × (front < w.darts) × (depth w w.darts front < depth w w.darts dart)
+    IsReadBack w all dart met →
+    IsReadBack w all front (met ++ (front ∷ [])) × (front < w.darts) × (depth w w.darts front < depth w w.darts dart)
 way_on w all dart front met few is real way = further way.front way.in_front way.met_is
   where
     further : (ahead : List ℕ) → Back w dart ahead → all ≡ reverse ahead ++ reverse met →
-        IsOnWay w all front (met ++ (front ∷ [])) × (front < w.darts) × (depth w w.darts front < depth w w.darts dart)
+        IsReadBack w all front (met ++ (front ∷ [])) × (front < w.darts) × (depth w w.darts front < depth w w.darts dart)
     further [] back whole = absurd (real (sym is ∙ back))
     further (f ∷ fs) back whole =
         let same : f ≡ front = sym back.0 ∙ is in
@@ -145,6 +145,6 @@ way_on w all dart front met few is real way = further way.front way.in_front way
           omega (arith, deep, less),
         )
 
-pub way_ends : (w : DartMap) (all : List ℕ) (dart : ℕ) (met : List ℕ) → w.darts ≤ no_dart → w.before dart ≡ no_dart → IsOnWay w all dart met →
+pub way_ends : (w : DartMap) (all : List ℕ) (dart : ℕ) (met : List ℕ) → w.darts ≤ no_dart → w.before dart ≡ no_dart → IsReadBack w all dart met →
     reverse met ≡ all
 way_ends w all dart met few none way = sym (way.met_is ∙ ap (λ (fs : List ℕ). reverse fs ++ reverse met) (one_back w dart way.front [] few way.in_front none))

@@ -46,5 +46,5 @@ surround_keeps w new surround = record {
 pub enclosed_keeps : (w : DartMap) (outside : ℕ) (new : DartMap) → IsEnclosed w outside new → Keeps w new
 enclosed_keeps w outside new e =
     keeps_on w e.joined new
-    (keeps_on w e.surrounded e.joined (surround_keeps w e.surrounded e.surround) (cut_keeps e.surrounded e.right (w.darts + e.side) e.way e.joined e.join))
+    (keeps_on w e.surrounded e.joined (surround_keeps w e.surrounded e.surround) (cut_keeps e.surrounded e.right (w.darts + e.side) e.direction e.joined e.join))
     (grows_keeps e.joined new e.grows)

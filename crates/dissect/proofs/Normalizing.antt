@@ -15,7 +15,7 @@ use Rattle.common.specs.Sums.{sum_below}
 use Rattle.common.proofs.Sums.{sum_below-more}
 use Rattle.dissect.specs.declared.table.DartTable.{DartTable}
 use Rattle.dissect.specs.Tables.{dart_map_of, room}
-use Rattle.dissect.specs.Steps.{IsBent, turned, AreBent, passed, bent, angle_of, start_way}
+use Rattle.dissect.specs.Steps.{IsBent, turned, AreBent, passed, bent, angle_of, start_direction}
 use Rattle.dissect.proofs.EdgeTurns.{lesser_length, lesser_length-lesser, lesser_length-greater}
 use Rattle.dissect.proofs.Mirroring.{turn_counts}
 
@@ -26,11 +26,11 @@ pub record IsTurn (w : DartMap) (e : ℕ) (turns : List Turn) (i : ℕ) (new : D
   pub steps : (end : DartMap) → IsBent e new (drop (i + 1) turns) end → IsBent e w (drop i turns) end
 
 pub turn_on : (w : DartMap) (e way bend : ℕ) (turns : List Turn) (i : ℕ) (turn : Turn) (new : DartMap) → IsLinked w → IsMeeting w → e < w.darts →
-    i < length turns → way ≡ start_way w e → bend ≡ angle_of (get_or turns i turn) → IsSubdivided w e way bend new → IsTurn w e turns i new
+    i < length turns → way ≡ start_direction w e → bend ≡ angle_of (get_or turns i turn) → IsSubdivided w e way bend new → IsTurn w e turns i new
 turn_on w e way bend turns i turn new linked meeting e_in inside way_is bend_is s =
     let counts = turn_counts (get_or turns i turn) [] in
-    let at : IsSubdivided w e (start_way w e) (angle_of (get_or turns i turn)) new =
-    subst (λ (b : ℕ). IsSubdivided w e (start_way w e) b new) bend_is (subst (λ (k : ℕ). IsSubdivided w e k bend new) way_is s) in
+    let at : IsSubdivided w e (start_direction w e) (angle_of (get_or turns i turn)) new =
+    subst (λ (b : ℕ). IsSubdivided w e (start_direction w e) b new) bend_is (subst (λ (k : ℕ). IsSubdivided w e k bend new) way_is s) in
     let parts : drop i turns ≡ get_or turns i turn ∷ drop (i + 1) turns =
     drop-cons turns i turn inside ∙ ap (λ (k : ℕ). get_or turns i turn ∷ drop k turns) (sym (add-one i)) in
     record {

@@ -17,7 +17,7 @@ use Rattle.dissect.proofs.Lengthening.{path_turns}
 use Rattle.dissect.proofs.Bends.{bend_paths}
 use Rattle.dissect.proofs.StraightPaths.{plain_paths}
 use Rattle.dissect.specs.Bare.{IsBare}
-use Rattle.dissect.specs.Steps.{angle_of, start_way, IsBent, straight, turned, AreBent, finished, passed, bent}
+use Rattle.dissect.specs.Steps.{angle_of, start_direction, IsBent, straight, turned, AreBent, finished, passed, bent}
 
 -- the quarters of a string's turns
 abbrev pub quarters_of : List Turn → List ℕ
@@ -57,14 +57,14 @@ bent_more e w turns new (turned v mid last turn rest split bends) =
 pub bent_linked : (e : ℕ) (w : DartMap) (turns : List Turn) (new : DartMap) → IsLinked w → e < w.darts → IsBent e w turns new → IsLinked new
 bent_linked e w turns new linked e_in (straight v) = linked
 bent_linked e w turns new linked e_in (turned v mid last turn rest split bends) =
-    bent_linked e mid rest last (split_linked v e (start_way v e) (angle_of turn) mid linked e_in split)
+    bent_linked e mid rest last (split_linked v e (start_direction v e) (angle_of turn) mid linked e_in split)
     (omega (arith, e_in, split.darts)) bends
 
 pub bent_extended : (e : ℕ) (w : DartMap) (turns : List Turn) (new : DartMap) → IsLinked w → e < w.darts → IsBent e w turns new → IsExtended w new
 bent_extended e w turns new linked e_in (straight v) = extended_same w
 bent_extended e w turns new linked e_in (turned v mid last turn rest split bends) =
-    extended_on v mid last (split_extended v e (start_way v e) (angle_of turn) mid linked e_in split)
-    (bent_extended e mid rest last (split_linked v e (start_way v e) (angle_of turn) mid linked e_in split)
+    extended_on v mid last (split_extended v e (start_direction v e) (angle_of turn) mid linked e_in split)
+    (bent_extended e mid rest last (split_linked v e (start_direction v e) (angle_of turn) mid linked e_in split)
     (omega (arith, e_in, split.darts)) bends)
 
 -- the quarters where the edge of e got these, in front on the way back
@@ -110,10 +110,10 @@ bent_paths e w turns new n reverse_dart quarters quarters' linked e_in narrow re
     with_turns-back quarters e t (turn ∷ []) apart ∙ ap (λ (k : ℕ). k ∷ quarters t) (opposite_angle turn) in
     let narrow_now : v.darts ≤ no_dart = omega (arith, narrow, bent_more e mid rest last bends, split.darts) in
     let middle : HasPaths mid n reverse_dart next =
-    bend_paths v e (start_way v e) (angle_of turn) mid n reverse_dart quarters next linked e_in narrow_now (omega arith) (quarter_angle turn) split
+    bend_paths v e (start_direction v e) (angle_of turn) mid n reverse_dart quarters next linked e_in narrow_now (omega arith) (quarter_angle turn) split
     reverse_dart_in reverse_dart_back apart next_e next_t (λ d l not_e not_t. with_turns-other quarters e t (turn ∷ []) d not_e not_t) has in
     bent_paths e mid rest last n reverse_dart next quarters'
-    (split_linked v e (start_way v e) (angle_of turn) mid linked (omega (arith, e_in, has.few)) split)
+    (split_linked v e (start_direction v e) (angle_of turn) mid linked (omega (arith, e_in, has.few)) split)
     e_in narrow reverse_dart_in reverse_dart_back apart
     (at_e ∙ sym (append_assoc (quarters e) (angle_of turn ∷ []) (quarters_of rest))
     ∙ ap (λ (ts : List ℕ). ts ++ quarters_of rest) (sym next_e))

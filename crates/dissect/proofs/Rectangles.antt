@@ -28,16 +28,16 @@ module _ (w : DartMap) (outside : ℕ) (new : DartMap) (linked : IsLinked w) (fo
   four_surrounded = surrounded_quarters w e.surrounded four e.surround
 
   linked_joined : IsLinked e.joined
-  linked_joined = cut_linked e.surrounded e.right side_dart e.way e.joined linked_surrounded e.join
+  linked_joined = cut_linked e.surrounded e.right side_dart e.direction e.joined linked_surrounded e.join
 
   four_joined : AreQuarters e.joined
-  four_joined = cut_quarters e.surrounded e.right side_dart e.way e.joined four_surrounded e.join
+  four_joined = cut_quarters e.surrounded e.right side_dart e.direction e.joined four_surrounded e.join
 
   -- a chain of the surrounded map is one of the last
   surrounded_chain : (end reverse_dart held : ℕ) → HasChain e.surrounded end reverse_dart held [] → HasChain new end reverse_dart held []
   surrounded_chain end reverse_dart held chain =
       grows_chain e.joined new end reverse_dart held [] linked_joined four_joined e.grows
-      (cut_chain e.surrounded e.right side_dart e.way e.joined end reverse_dart held [] linked_surrounded (four_surrounded side_dart e.join.e_in) e.join chain)
+      (cut_chain e.surrounded e.right side_dart e.direction e.joined end reverse_dart held [] linked_surrounded (four_surrounded side_dart e.join.e_in) e.join chain)
 
   -- and so is a chain of the joined map
   joined_chain : (end reverse_dart held : ℕ) → HasChain e.joined end reverse_dart held [] → HasChain new end reverse_dart held []
@@ -47,7 +47,7 @@ module _ (w : DartMap) (outside : ℕ) (new : DartMap) (linked : IsLinked w) (fo
   keeps_joined = grows_keeps e.joined new e.grows
 
   keeps_surrounded : Keeps e.surrounded new
-  keeps_surrounded = keeps_on e.surrounded e.joined new (cut_keeps e.surrounded e.right side_dart e.way e.joined e.join) keeps_joined
+  keeps_surrounded = keeps_on e.surrounded e.joined new (cut_keeps e.surrounded e.right side_dart e.direction e.joined e.join) keeps_joined
 
   count_surrounded : e.surrounded.darts ≡ n + 8
   count_surrounded = e.surround.darts
@@ -155,7 +155,7 @@ module _ (w : DartMap) (outside : ℕ) (new : DartMap) (linked : IsLinked w) (fo
   side_chain =
       joined_chain side_dart (n + 4 + e.side) e.surrounded.darts
       (beside_chain e.join.middle e.joined side_dart (n + 4 + e.side) e.surrounded.darts []
-      (chord_beside e.join.middle e.right e.surrounded.darts e.way e.joined
+      (chord_beside e.join.middle e.right e.surrounded.darts e.direction e.joined
       (split_linked e.surrounded side_dart (e.surrounded.direction side_dart) 2 e.join.middle linked_surrounded e.join.e_in e.join.split) e.join.chord)
       (record {
         path = path_doubled e.surrounded e.join.middle side_dart (n + 4 + e.side) side_dart e.surrounded.darts 0 [] []
@@ -183,7 +183,7 @@ module _ (w : DartMap) (outside : ℕ) (new : DartMap) (linked : IsLinked w) (fo
       let back_in : n + 11 < e.joined.darts = omega (arith, e.join.chord.darts, count_middle) in
       let place_in : n + 8 < e.joined.darts = omega (arith, e.join.chord.darts, count_middle) in
       let right_surrounded : e.right < e.surrounded.darts = omega (arith, e.right_in, e.surround.darts) in
-      let way : new.direction (n + 10) ≡ e.way =
+      let way : new.direction (n + 10) ≡ e.direction =
       keeps_joined.direction (n + 10) there_in ∙ ap e.joined.direction (sym first) ∙ e.join.chord.direction_there in
       let right_way : new.direction e.right ≡ w.direction e.right =
       keeps_surrounded.direction e.right right_surrounded ∙ e.surround.direction_old e.right e.right_in in

@@ -6,7 +6,7 @@ use Rattle.ortho_rep.specs.declared.turn.Turn.{Turn}
 use Rattle.ortho_rep.specs.Turns.{mirrored}
 use Rattle.dissect.specs.DartMaps.{DartMap, IsSubdivided}
 use Rattle.dissect.proofs.Splitting.{by_age, split_linked, split_meeting}
-use Rattle.dissect.specs.Steps.{IsBent, straight, turned, AreBent, finished, passed, bent, angle_of, start_way}
+use Rattle.dissect.specs.Steps.{IsBent, straight, turned, AreBent, finished, passed, bent, angle_of, start_direction}
 use Rattle.dissect.proofs.Mirroring.{turn_counts}
 use Rattle.dissect.proofs.OwedTurns.{IsOwing, IsOwedNext, IsLabelledNext, owed_next, labelled_next, split_labels}
 use Rattle.dissect.proofs.Turning.{owing_less, reflex_turns_more, turned_alike, mirrors_on, ways_on}
@@ -14,11 +14,11 @@ use Rattle.dissect.proofs.Turning.{owing_less, reflex_turns_more, turned_alike, 
 -- one bend
 pub owing_on : (p : PlaneModel) (a h : ℕ → ℕ) (total : ℕ) (w : DartMap) (e : ℕ) (turn : Turn) (turns : List Turn) (new : DartMap)
     (label label' : ℕ → ℕ) (owed owed' : ℕ → List Turn) → IsOwing p a h total w label owed → e < w.darts →
-    owed e ≡ turn ∷ turns → IsSubdivided w e (start_way w e) (angle_of turn) new → IsLabelledNext w e label label' →
+    owed e ≡ turn ∷ turns → IsSubdivided w e (start_direction w e) (angle_of turn) new → IsLabelledNext w e label label' →
     IsOwedNext w e turns owed owed' → IsOwing p a h total new label' owed'
 owing_on p a h total w e turn turns new label label' owed owed' owing e_in owes s named next =
     let linked = owing.linked in
-    let way : ℕ = start_way w e in
+    let way : ℕ = start_direction w e in
     let t_in : w.reverse_dart e < w.darts = linked.reverse_dart_in e e_in in
     let counts = turn_counts turn turns in
     let less = owing_less w e way turn turns new label label' owed owed' linked e_in s owes (owing.mirrors e e_in) named next in

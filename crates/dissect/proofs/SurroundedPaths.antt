@@ -95,10 +95,10 @@ pub enclosed_paths : (w : DartMap) (outside : ℕ) (new : DartMap) (n : ℕ) (re
 enclosed_paths w outside new n reverse_dart quarters linked four e has =
     let linked_surrounded = surrounded_linked w e.surrounded linked e.surround in
     let four_surrounded : AreQuarters e.surrounded = surrounded_quarters w e.surrounded four e.surround in
-    let linked_joined = cut_linked e.surrounded e.right (w.darts + e.side) e.way e.joined linked_surrounded e.join in
-    let four_joined : AreQuarters e.joined = cut_quarters e.surrounded e.right (w.darts + e.side) e.way e.joined four_surrounded e.join in
+    let linked_joined = cut_linked e.surrounded e.right (w.darts + e.side) e.direction e.joined linked_surrounded e.join in
+    let four_joined : AreQuarters e.joined = cut_quarters e.surrounded e.right (w.darts + e.side) e.direction e.joined four_surrounded e.join in
     grows_paths e.joined new n reverse_dart quarters linked_joined four_joined e.grows
-    (cut_paths e.surrounded e.right (w.darts + e.side) e.way e.joined n reverse_dart quarters linked_surrounded
+    (cut_paths e.surrounded e.right (w.darts + e.side) e.direction e.joined n reverse_dart quarters linked_surrounded
     (four_surrounded (w.darts + e.side) e.join.e_in) e.join
     (surround_paths w e.surrounded n reverse_dart quarters linked e.surround has))
 
@@ -206,6 +206,6 @@ join_connected w surrounded right side way new linked connected f right_in side_
 pub enclosed_connected : (w : DartMap) (outside : ℕ) (new : DartMap) → IsLinked w → IsConnected w → IsEnclosed w outside new → IsConnected new
 enclosed_connected w outside new linked connected e =
     let linked_surrounded = surrounded_linked w e.surrounded linked e.surround in
-    let linked_joined = cut_linked e.surrounded e.right (w.darts + e.side) e.way e.joined linked_surrounded e.join in
+    let linked_joined = cut_linked e.surrounded e.right (w.darts + e.side) e.direction e.joined linked_surrounded e.join in
     extended_connected e.joined new (grows_extended e.joined new linked_joined e.grows)
-    (join_connected w e.surrounded e.right e.side e.way e.joined linked connected e.surround e.right_in e.side_in e.join)
+    (join_connected w e.surrounded e.right e.side e.direction e.joined linked connected e.surround e.right_in e.side_in e.join)

@@ -142,10 +142,10 @@ enclosed_through w outside new end held linked four e old =
     let side : ℕ = w.darts + e.side in
     let linked_surrounded = surrounded_linked w e.surrounded linked e.surround in
     let four_surrounded = surrounded_quarters w e.surrounded four e.surround in
-    let linked_joined = cut_linked e.surrounded e.right side e.way e.joined linked_surrounded e.join in
-    let four_joined = cut_quarters e.surrounded e.right side e.way e.joined four_surrounded e.join in
+    let linked_joined = cut_linked e.surrounded e.right side e.direction e.joined linked_surrounded e.join in
+    let four_joined = cut_quarters e.surrounded e.right side e.direction e.joined four_surrounded e.join in
     grows_through e.joined new end held linked_joined four_joined e.grows
-    (cut_through e.surrounded e.right side e.way e.joined end held linked_surrounded (four_surrounded side e.join.e_in) e.join
+    (cut_through e.surrounded e.right side e.direction e.joined end held linked_surrounded (four_surrounded side e.join.e_in) e.join
     (step_through w e.surrounded end held (beside_step w e.surrounded (surrounded_beside w e.surrounded linked e.surround)) old))
 
 -- what was a path of the map stands on the path with the same end in what it grew to

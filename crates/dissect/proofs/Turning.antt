@@ -8,7 +8,7 @@ use Rattle.ortho_rep.proofs.TurnCounts.{lefts-mirrored}
 use Rattle.ortho_rep.proofs.Mirrors.{length-mirrored}
 use Rattle.dissect.specs.DartMaps.{DartMap, IsLinked, IsSubdivided, reflex_turns}
 use Rattle.dissect.proofs.Splitting.{by_place, part, part_here, part_elsewhere, part_same}
-use Rattle.dissect.specs.Steps.{angle_of, start_way}
+use Rattle.dissect.specs.Steps.{angle_of, start_direction}
 use Rattle.dissect.proofs.SumsAndMaps.{sum_below-two_more}
 use Rattle.dissect.proofs.Mirroring.{mirrored-mirrored, rights-mirrored, turn_counts}
 use Rattle.dissect.proofs.OwedTurns.{owing, gained, lost, IsOwedNext, IsLabelledNext}
@@ -212,7 +212,7 @@ module _ (w : DartMap) (e way : ℕ) (turn : Turn) (turns : List Turn) (new : Da
       x (omega (arith, s.darts))
 
   -- the directions of reverses differ as what they owe says
-  pub ways_on : way ≡ start_way w e → ((x : ℕ) → x < w.darts → w.direction x < 4) →
+  pub ways_on : way ≡ start_direction w e → ((x : ℕ) → x < w.darts → w.direction x < 4) →
       ((x : ℕ) → x < w.darts → (w.direction (w.reverse_dart x) + 2 + lefts (owed x)) % 4 ≡ (w.direction x + rights (owed x)) % 4) →
       (x : ℕ) → x < new.darts → (new.direction (new.reverse_dart x) + 2 + lefts (owed' x)) % 4 ≡ (new.direction x + rights (owed' x)) % 4
   ways_on way_is quarter all x l =

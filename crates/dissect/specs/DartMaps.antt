@@ -129,7 +129,7 @@ pub record Fits (w : DartMap) (d f way : ℕ) : Type 0 where
   pub d_in : d < w.darts
   pub f_in : f < w.darts
   pub apart : d ≢ f
-  pub way_quarter : way < 4
+  pub direction_quarter : way < 4
   pub from_d : (way + 1 + w.angle d) % 4 ≡ w.direction d
   pub to_f : (way + w.angle f) % 4 ≡ (w.direction f + 1) % 4
   pub wide_d : 1 < w.angle d

@@ -11,13 +11,13 @@ angle_of Left = 1
 angle_of Right = 3
 
 -- the direction in which the walk along e sets out: opposite to that in which e's reverse arrives
-abbrev pub start_way : DartMap → ℕ → ℕ
-start_way w e = (w.direction (w.reverse_dart e) + 2) % 4
+abbrev pub start_direction : DartMap → ℕ → ℕ
+start_direction w e = (w.direction (w.reverse_dart e) + 2) % 4
 
 -- the edge of the dart e gets these turns, in walking order
 pub data IsBent (e : ℕ) : DartMap → List Turn → DartMap → Type 0 where
   straight : (w : DartMap) → IsBent e w [] w
-  turned : (w mid new : DartMap) (turn : Turn) (turns : List Turn) → IsSubdivided w e (start_way w e) (angle_of turn) mid
+  turned : (w mid new : DartMap) (turn : Turn) (turns : List Turn) → IsSubdivided w e (start_direction w e) (angle_of turn) mid
       → IsBent e mid turns new → IsBent e w (turn ∷ turns) new
 
 -- each edge of the plane p whose lesser dart is k or comes behind k gets the turns of that dart

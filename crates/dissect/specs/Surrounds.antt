@@ -38,9 +38,9 @@ pub record IsEnclosed (w : DartMap) (outside : ℕ) (new : DartMap) : Type 0 whe
   pub joined : DartMap
   pub right : ℕ
   pub side : ℕ
-  pub way : ℕ
+  pub direction : ℕ
   pub right_in : right < w.darts
   pub same_face : (label : ℕ → ℕ) → AreFaceNumbers w label → label right ≡ label outside
   pub side_in : side < 4
-  pub join : IsCut surrounded right (w.darts + side) way joined
+  pub join : IsCut surrounded right (w.darts + side) direction joined
   pub grows : Grows joined new

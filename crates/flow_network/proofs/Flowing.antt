@@ -14,7 +14,7 @@ use Rattle.networks.specs.declared.arc.Arc.{Arc}
 use Rattle.networks.specs.Networks.{NetworkModel, node_count, arc_count, arc_at, supply_at}
 use Rattle.networks.specs.Flow.{Flow, IsWithin, leaves, enters, balance}
 use Rattle.min_cost_flow.specs.Excess.{KeepsCaps}
-use Rattle.min_cost_flow.specs.Existence.{HasUnlimitedPaths, IsBalanced}
+use Rattle.min_cost_flow.specs.Existence.{HasUnlimitedPaths, SuppliesSumToZero}
 use Rattle.min_cost_flow.proofs.Existence.{flow_where_joined, excess_leaves}
 use Rattle.flow_network.specs.FaceNet.{IsFaceNet, arrivals}
 use Rattle.flow_network.proofs.VertexDegrees.{vertex_has_dart, arrivals_most}
@@ -204,8 +204,8 @@ start_joined p net plane is = record {
         elim (cases_lt w (vertices p)) [ inl below ↦ absurd (uneven (vertex_even p net plane is w below)) | inr face ↦ face ]
 
 -- as much is supplied as is wanted, by Euler's formula
-pub balanced : (p : PlaneModel) (net : NetworkModel) → IsPlane p → IsFaceNet p net → IsBalanced net
-balanced p net plane is =
+pub supplies_sum_to_zero : (p : PlaneModel) (net : NetworkModel) → IsPlane p → IsFaceNet p net → SuppliesSumToZero net
+supplies_sum_to_zero p net plane is =
     let n : ℕ = vertices p in
     let m : ℕ = p.faces in
     let ends = plane_ends p plane in
@@ -274,5 +274,5 @@ balanced p net plane is =
 
 pub net_flows : (p : PlaneModel) (net : NetworkModel) → IsPlane p → IsFaceNet p net → ((i : ℕ) → i < arc_count net → ((arc_at net i).from < node_count net) × ((arc_at net i).to < node_count net)) → (y : ℕ → ℕ) × Flow net y
 net_flows p net plane is ends =
-    flow_where_joined net (start p) (λ v. supply_at net v -ℤ balance net (start p) v) ends (balanced p net plane is)
+    flow_where_joined net (start p) (λ v. supply_at net v -ℤ balance net (start p) v) ends (supplies_sum_to_zero p net plane is)
     (start_keeps p net is) (excess_leaves net (start p)) (start_joined p net plane is)

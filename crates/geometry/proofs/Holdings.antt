@@ -7,7 +7,7 @@ use Rattle.std.proofs.lemmas.Bool.{cases_lt, cases_eq, lt-ltb, le-ltb, ne_eqb}
 use Rattle.std.proofs.lemmas.List.{get_or_default}
 use Rattle.geometry.specs.declared.rectangles.Rectangle.{Rectangle}
 use Rattle.geometry.specs.Rectangles.{IsFilled, AreApart}
-use Rattle.geometry.specs.Map.{IsSweepMap, Clears, IsFree, IsMet}
+use Rattle.geometry.specs.Dictionary.{IsSweepDictionary, Clears, IsFree, IsMet}
 
 -- The look-up `after` is `before` with w at the key k.
 pub record IsUpdate (before after : ℕ → Option Rectangle) (k : ℕ) (w : Option Rectangle) : Type 0 where
@@ -27,8 +27,8 @@ taken : (before after : ℕ → Option Rectangle) (k : ℕ) → IsUpdate before 
 taken before after k u q r e =
     ⊎_elim (λ same. let gone : after q ≡ None = subst (λ (n : ℕ). after n ≡ None) same u.here in cc) (λ ne. sym (u.others q ne) ∙ e) (cases_eq k q)
 
-pub IsSweepMap-taken : (before after : ℕ → Option Rectangle) (k : ℕ) → IsUpdate before after k None → IsSweepMap before → IsSweepMap after
-IsSweepMap-taken before after k u s =
+pub IsSweepDictionary-taken : (before after : ℕ → Option Rectangle) (k : ℕ) → IsUpdate before after k None → IsSweepDictionary before → IsSweepDictionary after
+IsSweepDictionary-taken before after k u s =
     record {
       keyed = λ q r e. s.keyed q r (taken before after k u q r e);
       filled = λ q r e. s.filled q r (taken before after k u q r e);
@@ -65,7 +65,7 @@ at xs k = get_or xs k none_there
 -- The sweep has met the first i of the list, which are apart, and holds each of them that a later left
 -- column still reaches.
 pub record IsSwept (held : ℕ → Option Rectangle) (xs : List Rectangle) (i : ℕ) : Type 0 where
-  pub map : IsSweepMap held
+  pub dictionary : IsSweepDictionary held
   pub among : (k : ℕ) (r : Rectangle) → held k ≡ Some r → (m : ℕ) × (m < i) × (at xs m ≡ r)
   pub live : (m j : ℕ) → m < i → i ≤ j → j < length xs → (at xs j).left ≤ (at xs m).right → held (at xs m).bottom ≡ Some (at xs m)
   pub apart : (m n : ℕ) → m < n → n < i → AreApart (at xs m) (at xs n)
@@ -73,7 +73,7 @@ pub record IsSwept (held : ℕ → Option Rectangle) (xs : List Rectangle) (i : 
 pub IsSwept-none : (held : ℕ → Option Rectangle) (xs : List Rectangle) → ((k : ℕ) → held k ≡ None) → IsSwept held xs 0
 IsSwept-none held xs none =
     record {
-      map = record {
+      dictionary = record {
         keyed = λ k r e. absurd (nothing k r e);
         filled = λ k r e. absurd (nothing k r e);
         disjoint = λ j k r s lt e f. absurd (nothing k s f);
@@ -102,8 +102,8 @@ inserted {room} {after} {r} u k t e =
     (λ ne. inr (sym (u.others k ne) ∙ e))
     (cases_eq r.bottom k)
 
-IsSweepMap-insert : (room after : ℕ → Option Rectangle) (r : Rectangle) → IsSweepMap room → IsFilled r → IsFree room r → IsUpdate room after r.bottom (Some r) → IsSweepMap after
-IsSweepMap-insert room after r s full free u =
+IsSweepDictionary-insert : (room after : ℕ → Option Rectangle) (r : Rectangle) → IsSweepDictionary room → IsFilled r → IsFree room r → IsUpdate room after r.bottom (Some r) → IsSweepDictionary after
+IsSweepDictionary-insert room after r s full free u =
     record {
       keyed = λ k t e. ⊎_elim (λ p. ap (λ (q : Rectangle). q.bottom) p.1 ∙ p.0) (λ h. s.keyed k t h) (inserted u k t e);
       filled = λ k t e. ⊎_elim (λ p. subst (λ (q : Rectangle). IsFilled q) (sym p.1) full) (λ h. s.filled k t h) (inserted u k t e);
@@ -131,7 +131,7 @@ IsSweepMap-insert room after r s full free u =
 pub IsSwept-more : (held room after : ℕ → Option Rectangle) (xs : List Rectangle) (i : ℕ) → IsSwept held xs i → i < length xs → IsNonDecreasingBy (λ r. r.left) xs → IsFilled (at xs i) → Clears held room (at xs i) → IsFree room (at xs i) → IsUpdate room after (at xs i).bottom (Some (at xs i)) → IsSwept after xs (i + 1)
 IsSwept-more held room after xs i s within sorted full c free u =
     record {
-      map = IsSweepMap-insert room after (at xs i) kept_map full free u;
+      dictionary = IsSweepDictionary-insert room after (at xs i) kept_dictionary full free u;
       among = λ k r e. ⊎_elim (λ p. (i, omega arith, sym p.1)) (λ h. let m = s.among k r (c.kept k r h) in (m.0, omega arith, m.2)) (inserted u k r e);
       live = λ m j lt ge inside reaches.
           ⊎_elim (λ same. subst (λ (n : ℕ). after (at xs n).bottom ≡ Some (at xs n)) (sym same) u.here) (λ ne. old m j (omega arith) ge inside reaches) (cases_eq m i);
@@ -139,11 +139,11 @@ IsSwept-more held room after xs i s within sorted full c free u =
           ⊎_elim (λ same. subst (λ (k : ℕ). AreApart (at xs m) (at xs k)) (sym same) (apart_new held room xs i s within c free m (omega arith))) (λ ne. s.apart m n lt (omega arith)) (cases_eq n i);
     }
   where
-    kept_map : IsSweepMap room
-    kept_map = record {
-      keyed = λ k r e. s.map.keyed k r (c.kept k r e);
-      filled = λ k r e. s.map.filled k r (c.kept k r e);
-      disjoint = λ j k r t lt e f. s.map.disjoint j k r t lt (c.kept j r e) (c.kept k t f);
+    kept_dictionary : IsSweepDictionary room
+    kept_dictionary = record {
+      keyed = λ k r e. s.dictionary.keyed k r (c.kept k r e);
+      filled = λ k r e. s.dictionary.filled k r (c.kept k r e);
+      disjoint = λ j k r t lt e f. s.dictionary.disjoint j k r t lt (c.kept j r e) (c.kept k t f);
     }
 
     old : (m j : ℕ) → m < i → i + 1 ≤ j → j < length xs → (at xs j).left ≤ (at xs m).right → after (at xs m).bottom ≡ Some (at xs m)
@@ -151,7 +151,7 @@ IsSwept-more held room after xs i s within sorted full c free u =
         let earlier = sorted i j none_there (omega arith) inside in
         let there = c.stays _ _ (s.live m j lt (omega arith) inside reaches) (omega arith) in
         ⊎_elim
-        (λ same. absurd (let clear = free (at xs m).bottom (at xs m) there (omega arith) in let one = s.map.filled (at xs m).bottom (at xs m) (c.kept _ _ there) in omega arith))
+        (λ same. absurd (let clear = free (at xs m).bottom (at xs m) there (omega arith) in let one = s.dictionary.filled (at xs m).bottom (at xs m) (c.kept _ _ there) in omega arith))
         (λ ne. u.others (at xs m).bottom ne ∙ there)
         (cases_eq (at xs i).bottom (at xs m).bottom)
 
@@ -167,8 +167,8 @@ pub met_not_apart : (held : ℕ → Option Rectangle) (xs : List Rectangle) (i :
 met_not_apart held xs i s within sorted full met apart =
     let m = s.among met.0 met.1 met.2 in
     let earlier = sorted m.0 i none_there (omega (arith, m.1)) within in
-    let key = s.map.keyed met.0 met.1 met.2 in
-    let some : IsFilled (at xs m.0) = subst (λ (t : Rectangle). IsFilled t) (sym m.2) (s.map.filled met.0 met.1 met.2) in
+    let key = s.dictionary.keyed met.0 met.1 met.2 in
+    let some : IsFilled (at xs m.0) = subst (λ (t : Rectangle). IsFilled t) (sym m.2) (s.dictionary.filled met.0 met.1 met.2) in
     let right = ap (λ (t : Rectangle). t.right) m.2 in
     let bottom = ap (λ (t : Rectangle). t.bottom) m.2 in
     let top = ap (λ (t : Rectangle). t.top) m.2 in

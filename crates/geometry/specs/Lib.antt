@@ -1,5 +1,5 @@
 pub mod Directions
 pub mod Frontier
-pub mod Map
+pub mod Dictionary
 pub mod Masks
 pub mod Rectangles

@@ -1,9 +1,9 @@
 //! The four directions along the axes, and rectangles of whole points.
 #![tactic(auto)]
 
+mod dictionary;
 mod direction;
 mod frontier;
-mod map;
 mod masks;
 mod rectangles;
 

@@ -3,7 +3,7 @@
 //! Where all rectangles lie in few rows and columns, their points are flagged by bits. Else the method is
 //! a sweep from left to right (Shamos and Hoey 1976, for axis-parallel rectangles). Where the rectangles
 //! have few rows, the frontier of the sweep stands in a table by rows; else the rectangles that it still
-//! meets stand in a map.
+//! meets stand in a dictionary.
 
 ghost use Rattle.std.specs.Prelude.{◌<◌, ◌≤◌, ◌↔◌, IsTrue, IfOk, IfSome, All, AllPairs};
 ghost use Rattle.std.specs.Bool.{OnTrue};
@@ -11,7 +11,7 @@ ghost use Rattle.std.specs.List.Sorted.{IsNonDecreasingBy};
 ghost use Rattle.geometry.specs.declared.masks.TheConstants.{COLUMNS};
 ghost use Rattle.geometry.specs.Rectangles.{IsFilled, AreApart};
 
-use crate::{frontier, map, masks};
+use crate::{dictionary, frontier, masks};
 use std::alloc::{AllocError, Global};
 
 /// The whole points (x, y) with `left <= x <= right` and `bottom <= y <= top`.
@@ -26,7 +26,7 @@ pub struct Rectangle {
 // The most rows of a table, for each rectangle.
 const TABLE_ROWS: usize = 8;
 
-// The most rows of all rectangles together, for each rectangle, where there is a table. The map was seen
+// The most rows of all rectangles together, for each rectangle, where there is a table. The dictionary was seen
 // to be faster from some 350 on.
 const ALL_ROWS: usize = 128;
 
@@ -37,7 +37,7 @@ const ALL_ROWS: usize = 128;
 ///
 /// # Errors
 ///
-/// `AllocError` where there is no memory for the map, or for the table where the other list has not enough.
+/// `AllocError` where there is no memory for the dictionary, or for the table where the other list has not enough.
 pub fn all_apart_in(
     alloc: Global,
     rectangles: &mut Vec<Rectangle>,
@@ -63,7 +63,7 @@ fn sweep(alloc: Global, rectangles: &[Rectangle], table: &mut Vec<u64>) -> Resul
 {
     match table_height(rectangles) {
         Some(height) => frontier::sweep(rectangles, height, table),
-        None => map::sweep(alloc, rectangles),
+        None => dictionary::sweep(alloc, rectangles),
     }
 }
 

@@ -8,9 +8,9 @@ use Rattle.ruled_lanes.specs.declared.fan_ends.LaneGiver.{LaneGiver}
 use Rattle.ruled_lanes.specs.declared.fan_ends.Gatherer.{Gatherer}
 use Rattle.ruled_lanes.specs.declared.dealing.Tickets.{Tickets}
 use Rattle.ruled_lanes.specs.declared.dealing.Seat.{Seat}
-use Rattle.ruled_lanes.specs.FanRule.{of_lane}
+use Rattle.ruled_lanes.specs.FanProtocol.{of_lane}
 use Rattle.ruled_lanes.specs.FanEnds.{lane_of, given_at, SettlesFan}
-use Rattle.ruled_lanes.specs.TicketRule.{times}
+use Rattle.ruled_lanes.specs.TicketProtocol.{times}
 use Rattle.ruled_lanes.specs.TicketSeats.{all_drawn}
 use Rattle.lanes.specs.declared.message.Message.{Message}
 use Rattle.lanes.specs.Notes.{About, Note, note, notes, is_of, of_file}

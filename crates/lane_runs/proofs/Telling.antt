@@ -7,7 +7,7 @@ use Rattle.streams.specs.declared.frames.Mark.{Mark}
 use Rattle.common.specs.declared.choice.Choice.{Choice}
 use Rattle.lanes.specs.Notes.{About, Note, is_of, of_file, file_notes, numbered, GoOn, IsStopped, Item, End, Stop}
 use Rattle.lanes.specs.Opening.{Meaning}
-use Rattle.ruled_lanes.specs.TicketRule.{times}
+use Rattle.ruled_lanes.specs.TicketProtocol.{times}
 use Rattle.lanes.specs.Files.{HasFile, HasDrawn}
 use Rattle.lane_runs.specs.Lanes.{HasTold, TellsFile}
 

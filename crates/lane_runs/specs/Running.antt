@@ -9,7 +9,7 @@ use Rattle.ruled_lanes.specs.declared.dealing.Tickets.{Tickets}
 use Rattle.ruled_lanes.specs.declared.dealing.Seat.{Seat}
 use Rattle.ruled_lanes.specs.declared.limits.TheConstants.{LANES}
 use Rattle.ruled_lanes.specs.FanEnds.{lane_of, given_at, gathered}
-use Rattle.ruled_lanes.specs.TicketRule.{times}
+use Rattle.ruled_lanes.specs.TicketProtocol.{times}
 use Rattle.ruled_lanes.specs.TicketSeats.{all_drawn, has_ended, IsSeatOf, IsUnused}
 use Rattle.lanes.specs.declared.message.Message.{Message}
 use Rattle.lanes.specs.Notes.{About, Note}

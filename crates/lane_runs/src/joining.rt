@@ -2,7 +2,7 @@
 ghost use Rattle.std.specs.Prelude.{◌≡◌, ◌≤◌, ◌+◌, ℕ, List, [], All, IfOk, IfErr, true, vec_len};
 ghost use Rattle.ruled_lanes.specs.declared.limits.TheConstants.{LANES};
 ghost use Rattle.ruled_lanes.specs.FanEnds.{given_at, gathered, GivesToSameLane};
-ghost use Rattle.ruled_lanes.specs.TicketRule.{times};
+ghost use Rattle.ruled_lanes.specs.TicketProtocol.{times};
 ghost use Rattle.ruled_lanes.specs.TicketSeats.{all_drawn, has_ended, IsSeatOf};
 ghost use Rattle.lanes.specs.Notes.{Note, notes};
 ghost use Rattle.lanes.specs.Files.{HasFile};

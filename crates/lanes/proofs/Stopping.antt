@@ -5,7 +5,7 @@ use Rattle.std.specs.List.{AllWithin}
 use Rattle.std.proofs.lemmas.Bool.{eq-eqb, false≢true}
 use Rattle.std.proofs.lemmas.List.{map-append}
 use Rattle.std.proofs.lemmas.List.Elements.{All-from_all_within}
-use Rattle.ruled_lanes.specs.FanRule.{of_lane}
+use Rattle.ruled_lanes.specs.FanProtocol.{of_lane}
 use Rattle.ruled_lanes.proofs.Fans.{of_lane-append}
 use Rattle.lanes.specs.declared.message.Message.{Message}
 use Rattle.lanes.specs.declared.message.Message.TheVariants as message

@@ -1,6 +1,6 @@
 -- What is told of the messages of a fan.
 use Rattle.std.specs.Prelude.{◌≡◌, ℕ, ◌<◌, Bool, true, false, List, ◌∷◌, ◌++◌, map, slice_index_or}
-use Rattle.ruled_lanes.specs.FanRule.{of_lane}
+use Rattle.ruled_lanes.specs.FanProtocol.{of_lane}
 use Rattle.lanes.specs.declared.message.Message.{Message}
 use Rattle.lanes.specs.Notes.{About, Note, notes, Stop}
 

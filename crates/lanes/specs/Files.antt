@@ -1,6 +1,6 @@
 -- What a lane tells of its files.
 use Rattle.std.specs.Prelude.{◌≡◌, ℕ, ◌+◌, ◌<◌, List, [], ◌∷◌, Some, ⊤}
-use Rattle.ruled_lanes.specs.TicketRule.{times}
+use Rattle.ruled_lanes.specs.TicketProtocol.{times}
 use Rattle.streams.specs.declared.frames.Mark.{Mark}
 use Rattle.common.specs.declared.choice.Choice.{Choice}
 use Rattle.lanes.specs.declared.message.Message.{Message}

@@ -4,7 +4,7 @@ use Rattle.std.specs.Prelude.{ℤ, pos, negsuc, ◌+ℤ◌, ◌-ℤ◌, ◌≤�
 use Rattle.std.proofs.lemmas.Bool.{both_ways, cases_eq, cases_lt, eq-eqb, ne_eqb, cond-true, cond-false}
 use Rattle.std.proofs.lemmas.Int.{ints}
 use mathlib.Core.Path.{fun_ext}
-use Rattle.networks.specs.declared.residual.TheConstants.{CLOSED}
+use Rattle.networks.specs.declared.residual.TheConstants.{SATURATED}
 use Rattle.common.proofs.Sums.{sum_below-same, sum_below-changed}
 use Rattle.networks.specs.declared.arc.Cap.{Cap}
 use Rattle.networks.specs.declared.arc.Cap.TheVariants.{AtMost, Any}
@@ -20,7 +20,7 @@ use Rattle.min_cost_flow.specs.Residual.{IsMoved}
 use Rattle.networks.specs.declared.residual.Residual.{Residual}
 use Rattle.networks.specs.ResidualArcs.{end_at, cost_at, reverse_at, capacity_at, StartsAt, number_of, HasResidualArcs, units_of, IsCosted, AreResidualArcs, carried}
 use Rattle.networks.specs.Residuals.{IsResidualNetwork, IsSetTo, flow_of}
-use Rattle.min_cost_flow.specs.Path.{IsTight, HasPath, way, IsOnWay}
+use Rattle.min_cost_flow.specs.Path.{IsTight, HasPath, path_node, IsOnPath}
 use Rattle.min_cost_flow.specs.Round.{IsLess, carrying}
 use Rattle.min_cost_flow.specs.declared.state.Solver.{Solver}
 use Rattle.min_cost_flow.specs.Stand.{potential_at, enters_in, places_in, CanAugment, HasUnitCost, IsPaired, IsPushedAlong}
@@ -89,15 +89,15 @@ unit_cost_least net i true costs b = omega (arith, ints, costs i b)
 
 -- the cost of a residual arc along which r fits, where a unit costs z
 coded : ℤ → ℕ → ℤ
-coded z r = cond (eqb r 0) (z +ℤ CLOSED) z
+coded z r = cond (eqb r 0) (z +ℤ SATURATED) z
 
-coded_none : (z : ℤ) (r : ℕ) → r ≡ 0 → coded z r ≡ z +ℤ CLOSED
+coded_none : (z : ℤ) (r : ℕ) → r ≡ 0 → coded z r ≡ z +ℤ SATURATED
 unfolding coded
-coded_none z r h = cond-true {A = ℤ} (eqb r 0) (z +ℤ CLOSED) z (eq-eqb r 0 h)
+coded_none z r h = cond-true {A = ℤ} (eqb r 0) (z +ℤ SATURATED) z (eq-eqb r 0 h)
 
 coded_some : (z : ℤ) (r : ℕ) → 0 < r → coded z r ≡ z
 unfolding coded
-coded_some z r h = cond-false {A = ℤ} (eqb r 0) (z +ℤ CLOSED) z (ne_eqb r 0 (λ e. omega arith))
+coded_some z r h = cond-false {A = ℤ} (eqb r 0) (z +ℤ SATURATED) z (ne_eqb r 0 (λ e. omega arith))
 
 code_is : (net : NetworkModel) (reverse : ℕ → ℕ) (forward : List ℕ) (capacity : ℕ → ℕ) (arcs : List ResidualArc) (i : ℕ) (back : Bool) → AreResidualArcs net reverse forward capacity arcs → i < arc_count net → cost_at arcs (number_of reverse forward i back) ≡ coded (unit_cost net i back) (capacity (number_of reverse forward i back))
 unfolding coded
@@ -141,7 +141,7 @@ pub still_costs : (r r' : Residual) (k units j : ℕ) (z : ℤ) → IsSetTo r r'
 still_costs r r' k units j z s h =
     elim (cases_eq j k) [
       | inl q ↦ subst (λ (t : ℕ). IsCosted r'.arcs.items r'.capacities.items t z) (sym q) (s.cost z (subst (λ (t : ℕ). IsCosted r.arcs.items r.capacities.items t z) q h))
-      | inr ne ↦ s.costs j ne ∙ h ∙ ap (λ (t : ℕ). cond (eqb t 0) (z +ℤ CLOSED) z) (sym (s.others j ne))
+      | inr ne ↦ s.costs j ne ∙ h ∙ ap (λ (t : ℕ). cond (eqb t 0) (z +ℤ SATURATED) z) (sym (s.others j ne))
     ]
 
 pub still_unit_cost : (r r' : Residual) (k units j : ℕ) → IsSetTo r r' k units → HasUnitCost r j → HasUnitCost r' j
@@ -335,7 +335,7 @@ pub record IsLink (net : NetworkModel) (reverse : ℕ → ℕ) (forward : List �
 some_coded : (z c : ℤ) (r : ℕ) → negsuc 0 ≤ℤ z → c ≡ coded z r → c ≤ℤ pos 1 → 0 < r
 some_coded z c r least e h =
     elim (cases_eq r 0) [
-      | inl q ↦ let t : coded z r ≡ z +ℤ CLOSED = coded_none z r q in absurd (omega (arith, ints))
+      | inl q ↦ let t : coded z r ≡ z +ℤ SATURATED = coded_none z r q in absurd (omega (arith, ints))
       | inr ne ↦ omega arith
     ]
 
@@ -420,18 +420,18 @@ sending_first net first reverse forward capacity room' p e on place u k v amount
 
 -- ---- the way back along the path
 
-pub way_first : (next place : ℕ → ℕ) (v : ℕ) → IsOnWay next place v v
-way_first next place v = record { steps = 0; at = refl; high = λ i b. absurd (omega arith) }
+pub path_first : (next place : ℕ → ℕ) (v : ℕ) → IsOnPath next place v v
+path_first next place v = record { steps = 0; at = refl; high = λ i b. absurd (omega arith) }
 
-high_more : (next place : ℕ → ℕ) (v k : ℕ) → ((i : ℕ) → i < k → 0 < place (way next v i)) → 0 < place (way next v k) → (i : ℕ) → i < suc k → 0 < place (way next v i)
+high_more : (next place : ℕ → ℕ) (v k : ℕ) → ((i : ℕ) → i < k → 0 < place (path_node next v i)) → 0 < place (path_node next v k) → (i : ℕ) → i < suc k → 0 < place (path_node next v i)
 high_more next place v k high here i b =
     elim (cases_eq i k) [
-      | inl q ↦ subst (λ (t : ℕ). 0 < place (way next v t)) (sym q) here
+      | inl q ↦ subst (λ (t : ℕ). 0 < place (path_node next v t)) (sym q) here
       | inr ne ↦ high i (omega arith)
     ]
 
-pub way_more : (next place : ℕ → ℕ) (v w : ℕ) → IsOnWay next place v w → 0 < place w → IsOnWay next place v (next w)
-way_more next place v w h some = record {
+pub path_more : (next place : ℕ → ℕ) (v w : ℕ) → IsOnPath next place v w → 0 < place w → IsOnPath next place v (next w)
+path_more next place v w h some = record {
   steps = suc h.steps;
   at = ap next h.at;
   high = high_more next place v h.steps h.high (subst (λ (t : ℕ). 0 < place t) h.at some);
@@ -439,39 +439,39 @@ way_more next place v w h some = record {
 
 -- an amount fits at each node of the way from v as far as w
 pub record IsNarrowed (next place capacity : ℕ → ℕ) (v w amount : ℕ) : Type 0 where
-  pub on : IsOnWay next place v w
-  pub fits : (i : ℕ) → i < on.steps → amount ≤ capacity (way next v i)
+  pub on : IsOnPath next place v w
+  pub fits : (i : ℕ) → i < on.steps → amount ≤ capacity (path_node next v i)
 
 pub narrowed_first : (next place capacity : ℕ → ℕ) (v amount : ℕ) → IsNarrowed next place capacity v v amount
-unfolding way_first
-narrowed_first next place capacity v amount = record { on = way_first next place v; fits = λ i b. absurd (omega arith) }
+unfolding path_first
+narrowed_first next place capacity v amount = record { on = path_first next place v; fits = λ i b. absurd (omega arith) }
 
-fits_more : (next capacity : ℕ → ℕ) (v k amount amount' : ℕ) → ((i : ℕ) → i < k → amount ≤ capacity (way next v i)) → amount' ≤ amount → amount' ≤ capacity (way next v k) → (i : ℕ) → i < suc k → amount' ≤ capacity (way next v i)
+fits_more : (next capacity : ℕ → ℕ) (v k amount amount' : ℕ) → ((i : ℕ) → i < k → amount ≤ capacity (path_node next v i)) → amount' ≤ amount → amount' ≤ capacity (path_node next v k) → (i : ℕ) → i < suc k → amount' ≤ capacity (path_node next v i)
 fits_more next capacity v k amount amount' fits less here i b =
     elim (cases_eq i k) [
-      | inl q ↦ subst (λ (t : ℕ). amount' ≤ capacity (way next v t)) (sym q) here
+      | inl q ↦ subst (λ (t : ℕ). amount' ≤ capacity (path_node next v t)) (sym q) here
       | inr ne ↦ omega (arith, fits i (omega arith))
     ]
 
 pub narrowed_more : (next place capacity : ℕ → ℕ) (v w amount amount' : ℕ) → IsNarrowed next place capacity v w amount → 0 < place w → amount' ≤ amount → amount' ≤ capacity w → IsNarrowed next place capacity v (next w) amount'
-unfolding way_more
+unfolding path_more
 narrowed_more next place capacity v w amount amount' h some less here = record {
-  on = way_more next place v w h.on some;
+  on = path_more next place v w h.on some;
   fits = fits_more next capacity v h.on.steps amount amount' h.fits less (subst (λ (t : ℕ). amount' ≤ capacity t) h.on.at here);
 }
 
 -- once the way has come to place 0 the amount fits everywhere on it
-pub narrowed_all : (next place capacity : ℕ → ℕ) (v w amount : ℕ) → IsNarrowed next place capacity v w amount → place w ≡ 0 → (u : ℕ) → IsOnWay next place v u → 0 < place u → amount ≤ capacity u
+pub narrowed_all : (next place capacity : ℕ → ℕ) (v w amount : ℕ) → IsNarrowed next place capacity v w amount → place w ≡ 0 → (u : ℕ) → IsOnPath next place v u → 0 < place u → amount ≤ capacity u
 narrowed_all next place capacity v w amount h none u on some =
-    let last : place (way next v h.on.steps) ≡ 0 = subst (λ (t : ℕ). place t ≡ 0) h.on.at none in
+    let last : place (path_node next v h.on.steps) ≡ 0 = subst (λ (t : ℕ). place t ≡ 0) h.on.at none in
     elim (cases_lt on.steps h.on.steps) [
       | inl less ↦ subst (λ (t : ℕ). amount ≤ capacity t) (sym on.at) (h.fits on.steps less)
       | inr over ↦ elim (cases_eq on.steps h.on.steps) [
         | inl q ↦
-            let at : u ≡ way next v h.on.steps = on.at ∙ ap (way next v) q in
-            let here : place u ≡ place (way next v h.on.steps) = ap place at in
+            let at : u ≡ path_node next v h.on.steps = on.at ∙ ap (path_node next v) q in
+            let here : place u ≡ place (path_node next v h.on.steps) = ap place at in
             absurd (omega arith)
-        | inr ne ↦ let high : 0 < place (way next v h.on.steps) = on.high h.on.steps (omega arith) in absurd (omega arith)
+        | inr ne ↦ let high : 0 < place (path_node next v h.on.steps) = on.high h.on.steps (omega arith) in absurd (omega arith)
       ]
     ]
 

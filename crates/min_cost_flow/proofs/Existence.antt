@@ -11,7 +11,7 @@ use Rattle.networks.specs.declared.arc.Cap.TheVariants.{AtMost, Any}
 use Rattle.networks.specs.Networks.{NetworkModel, node_count, arc_count, arc_at, supply_at, HasEnds}
 use Rattle.networks.specs.Flow.{leaves, enters, balance, IsWithin, Flow}
 use Rattle.min_cost_flow.specs.Excess.{KeepsCaps, Leaves, Carries}
-use Rattle.min_cost_flow.specs.Existence.{IsClosedAny, HasUnlimitedPaths, IsBalanced}
+use Rattle.min_cost_flow.specs.Existence.{IsClosedAny, HasUnlimitedPaths, SuppliesSumToZero}
 use Rattle.min_cost_flow.proofs.Changes.{SameBut, moved_carries, carried_leaves, taken_carries}
 use Rattle.min_cost_flow.proofs.Rounds.{flow_at}
 use Rattle.min_cost_flow.proofs.Spreading.{Steps, IsClosedUnder, Passes, spread_from}
@@ -307,7 +307,7 @@ all_leave net x ends =
     let r : sum_below n (λ v. 1 * enters net x v) ≡ sum_below n (λ v. enters net x v) = sum_below-same n (λ v. 1 * enters net x v) (λ v. enters net x v) (λ v b. omega arith) in
     omega arith
 
-as_much : (net : NetworkModel) (x : ℕ → ℕ) (e : ℕ → ℤ) → HasEnds net → IsBalanced net → Leaves net x e → sum_below (node_count net) (λ v. up (e v)) ≡ sum_below (node_count net) (λ v. down (e v))
+as_much : (net : NetworkModel) (x : ℕ → ℕ) (e : ℕ → ℤ) → HasEnds net → SuppliesSumToZero net → Leaves net x e → sum_below (node_count net) (λ v. up (e v)) ≡ sum_below (node_count net) (λ v. down (e v))
 as_much net x e ends flat lv =
     let n = node_count net in
     let s : ℕ → ℤ = λ v. supply_at net v in
@@ -325,7 +325,7 @@ as_much net x e ends flat lv =
 
 -- amounts x within the capacities leave the excess e; supplies sum to 0, and no set that no arc of no
 -- limit leaves has something left over and not all that is wanting: then there is a flow
-pub flow_where_joined : (net : NetworkModel) (x : ℕ → ℕ) (e : ℕ → ℤ) → HasEnds net → IsBalanced net → KeepsCaps net x → Leaves net x e → HasUnlimitedPaths net e → (y : ℕ → ℕ) × Flow net y
+pub flow_where_joined : (net : NetworkModel) (x : ℕ → ℕ) (e : ℕ → ℤ) → HasEnds net → SuppliesSumToZero net → KeepsCaps net x → Leaves net x e → HasUnlimitedPaths net e → (y : ℕ → ℕ) × Flow net y
 flow_where_joined net x e ends flat caps lv joined =
     flow_of_units net (sum_below (node_count net) (λ w. down (e w))) x e ends caps lv joined (as_much net x e ends flat lv) refl
 

@@ -15,7 +15,7 @@ use Rattle.networks.specs.Networks.{HasFairSupplies}
 use Rattle.networks.specs.Residuals.{IsResidualNetwork, flow_of}
 use Rattle.networks.proofs.Moving.{still_network}
 use Rattle.min_cost_flow.specs.declared.state.Solver.{Solver}
-use Rattle.min_cost_flow.specs.Stand.{IsShown, IsSized, IsReady, IsBalanced, CanRead, IsReadyIn}
+use Rattle.min_cost_flow.specs.Stand.{IsShown, IsSized, IsReady, IsAllSent, CanRead, IsReadyIn}
 use Rattle.networks.proofs.Ends.{start_in, end_in}
 use Rattle.min_cost_flow.proofs.Duality.{least_by_potentials}
 use Rattle.min_cost_flow.proofs.Rounds.{flow_at, flow_same, potentials_same}
@@ -223,7 +223,7 @@ pub low_bounds : (n : ℕ) (z : ℤ) → n ≤ 1024 → (pos 0 ≤ℤ (z +ℤ po
 low_bounds n z s (a, b) = (grind (arith, ints), grind (arith, ints))
 
 -- a flow that stands, after supplies have moved and potentials were lowered by one of them
-pub ready_moved : (net : NetworkModel) (l : Solver) (potential excess : List ℤ) (f t k : ℕ) → IsBalanced net l → HasFairSupplies (shifted net f t k) → f < node_count net → t < node_count net → k ≤ 2048
+pub ready_moved : (net : NetworkModel) (l : Solver) (potential excess : List ℤ) (f t k : ℕ) → IsAllSent net l → HasFairSupplies (shifted net f t k) → f < node_count net → t < node_count net → k ≤ 2048
     → ((v : ℕ) → v < node_count net → at_nodes potential v ≡ at_nodes l.nodes.potential.items v -ℤ at_nodes l.nodes.potential.items t)
     → ((v : ℕ) → v < node_count net → (pos 0 ≤ℤ (at_nodes potential v +ℤ pos (2 * node_count net))) × (at_nodes potential v ≤ℤ pos (2 * node_count net)))
     → ((i : ℕ) → i < arc_count net → flow_of l.residual i + k ≤ 2097152)

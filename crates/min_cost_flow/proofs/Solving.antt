@@ -7,7 +7,7 @@ use Rattle.std.proofs.lemmas.Int.{ints, to_z-of_z}
 use mir.Syntax.{w16, w32}
 use mir.Val.{of_z, to_z}
 use Rattle.networks.specs.declared.network.TheConstants.{MAX_NODES}
-use Rattle.networks.specs.declared.residual.TheConstants.{CLOSED}
+use Rattle.networks.specs.declared.residual.TheConstants.{SATURATED}
 use lib.Signed.{lt_z}
 use Rattle.common.specs.Sums.{sum_below}
 use Rattle.common.proofs.Sums.{sum_below-le, sum_below-constant}
@@ -38,18 +38,18 @@ unit_cost_low : (net : NetworkModel) (i : ℕ) (back : Bool) → HasUnitCosts ne
 unit_cost_low net i false costs b = (omega (arith, ints), omega (arith, ints, costs i b))
 unit_cost_low net i true costs b = (omega (arith, ints, costs i b), omega (arith, ints))
 
-code_when : (r : ℕ) (c z : ℤ) → z ≡ cond (eqb r 0) (c +ℤ CLOSED) c → (negsuc 0 ≤ℤ c) × (c ≤ℤ pos 1) → ((r ≡ 0) × (z ≡ c +ℤ CLOSED)) ⊎ ((0 < r) × (z ≡ c))
+code_when : (r : ℕ) (c z : ℤ) → z ≡ cond (eqb r 0) (c +ℤ SATURATED) c → (negsuc 0 ≤ℤ c) × (c ≤ℤ pos 1) → ((r ≡ 0) × (z ≡ c +ℤ SATURATED)) ⊎ ((0 < r) × (z ≡ c))
 code_when zero c z h b = inl (refl, h)
-code_when (suc r) c z h b = inr (omega arith, h ∙ cond-false {A = ℤ} (eqb (suc r) 0) (c +ℤ CLOSED) c (ne_eqb (suc r) 0 (λ t. absurd (omega arith))))
+code_when (suc r) c z h b = inr (omega arith, h ∙ cond-false {A = ℤ} (eqb (suc r) 0) (c +ℤ SATURATED) c (ne_eqb (suc r) 0 (λ t. absurd (omega arith))))
 
-closed_cost : (c z : ℤ) → z ≡ c +ℤ CLOSED → (negsuc 0 ≤ℤ c) × (c ≤ℤ pos 1) → (pos 15999 ≤ℤ z) × (z ≤ℤ pos 16001)
-closed_cost c z h (a, b) = (omega (arith, ints), omega (arith, ints))
+saturated_cost : (c z : ℤ) → z ≡ c +ℤ SATURATED → (negsuc 0 ≤ℤ c) × (c ≤ℤ pos 1) → (pos 15999 ≤ℤ z) × (z ≤ℤ pos 16001)
+saturated_cost c z h (a, b) = (omega (arith, ints), omega (arith, ints))
 
-not_open : (c z : ℤ) → z ≡ c +ℤ CLOSED → (negsuc 0 ≤ℤ c) × (c ≤ℤ pos 1) → z ≤ℤ pos 1 → ⊥
+not_open : (c z : ℤ) → z ≡ c +ℤ SATURATED → (negsuc 0 ≤ℤ c) × (c ≤ℤ pos 1) → z ≤ℤ pos 1 → ⊥
 not_open c z h (a, b) o = omega (arith, ints)
 
 -- the cost of residual arc (i, back): what a unit costs where something fits, and more where nothing does
-pub code_cases : (net : NetworkModel) (reverse : ℕ → ℕ) (forward : List ℕ) (capacity : ℕ → ℕ) (arcs : List ResidualArc) (i : ℕ) (back : Bool) → IsNetwork net → AreResidualArcs net reverse forward capacity arcs → i < arc_count net → ((capacity (number_of reverse forward i back) ≡ 0) × (cost_at arcs (number_of reverse forward i back) ≡ unit_cost net i back +ℤ CLOSED)) ⊎ ((0 < capacity (number_of reverse forward i back)) × (cost_at arcs (number_of reverse forward i back) ≡ unit_cost net i back))
+pub code_cases : (net : NetworkModel) (reverse : ℕ → ℕ) (forward : List ℕ) (capacity : ℕ → ℕ) (arcs : List ResidualArc) (i : ℕ) (back : Bool) → IsNetwork net → AreResidualArcs net reverse forward capacity arcs → i < arc_count net → ((capacity (number_of reverse forward i back) ≡ 0) × (cost_at arcs (number_of reverse forward i back) ≡ unit_cost net i back +ℤ SATURATED)) ⊎ ((0 < capacity (number_of reverse forward i back)) × (cost_at arcs (number_of reverse forward i back) ≡ unit_cost net i back))
 code_cases net reverse forward capacity arcs i back k f b = code_when (capacity (number_of reverse forward i back)) (unit_cost net i back) (cost_at arcs (number_of reverse forward i back)) (f.cost i back b) (unit_cost_low net i back k.costs b)
 
 room_open : (c : Cap) (r x : ℕ) → r + x ≡ units_of c → x ≤ 2097152 → IsUnsaturated c x → 0 < r
@@ -97,7 +97,7 @@ is_graph net first reverse forward capacity arcs k l f =
       cost = λ v j b st.
           let o = l.cover v j b st in
           subst (λ (t : ℕ). IsArcCost (cost_at arcs t)) o.place (elim (code_cases net reverse forward capacity arcs o.arc o.back k f o.inside) [
-            | inl h ↦ inr (closed_cost (unit_cost net o.arc o.back) (cost_at arcs (number_of reverse forward o.arc o.back)) h.1 (unit_cost_low net o.arc o.back k.costs o.inside))
+            | inl h ↦ inr (saturated_cost (unit_cost net o.arc o.back) (cost_at arcs (number_of reverse forward o.arc o.back)) h.1 (unit_cost_low net o.arc o.back k.costs o.inside))
             | inr h ↦ inl (subst (λ (z : ℤ). (negsuc 0 ≤ℤ z) × (z ≤ℤ pos 1)) (sym h.1) (unit_cost_low net o.arc o.back k.costs o.inside))
           ]);
     }

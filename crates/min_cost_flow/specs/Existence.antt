@@ -15,5 +15,5 @@ pub record HasUnlimitedPaths (net : NetworkModel) (e : ℕ → ℤ) : Type 0 whe
   pub meets : (s : ℕ → Bool) → IsClosedAny net s → (u v : ℕ) → u < node_count net → v < node_count net → s u ≡ true → pos 0 <ℤ e u → e v <ℤ pos 0 → s v ≡ true
 
 -- as much is supplied as is wanted
-abbrev pub IsBalanced : NetworkModel → Type 0
-IsBalanced net = total_below (node_count net) (λ v. supply_at net v) ≡ pos 0
+abbrev pub SuppliesSumToZero : NetworkModel → Type 0
+SuppliesSumToZero net = total_below (node_count net) (λ v. supply_at net v) ≡ pos 0

@@ -35,15 +35,15 @@ pub record HasPath (n : ℕ) (first : List ℕ) (arcs : List ResidualArc) (p : �
 -- ---- the way back along the path
 
 -- the node k steps on from v
-abbrev pub way : (ℕ → ℕ) → ℕ → ℕ → ℕ
-way next v zero = v
-way next v (suc k) = next (way next v k)
+abbrev pub path_node : (ℕ → ℕ) → ℕ → ℕ → ℕ
+path_node next v zero = v
+path_node next v (suc k) = next (path_node next v k)
 
 -- node w is on the way from v, and no node before it has place 0
-pub record IsOnWay (next place : ℕ → ℕ) (v w : ℕ) : Type 0 where
+pub record IsOnPath (next place : ℕ → ℕ) (v w : ℕ) : Type 0 where
   pub steps : ℕ
-  pub at : w ≡ way next v steps
-  pub high : (i : ℕ) → i < steps → 0 < place (way next v i)
+  pub at : w ≡ path_node next v steps
+  pub high : (i : ℕ) → i < steps → 0 < place (path_node next v i)
 
 -- the start of the residual arc by which a node was entered, and what fits along it
 abbrev pub previous_of : List ResidualArc → List ResidualCapacity → (ℕ → ℕ) → ℕ → ℕ

@@ -12,7 +12,7 @@ use Rattle.networks.specs.declared.state.Search.{Search}
 use Rattle.networks.specs.declared.state.Visit.{Visit}
 use Rattle.networks.specs.Search.{far, label_at, enter_at, place_at, labels, enters, orders, places, IsWithinFar}
 use Rattle.min_cost_flow.specs.declared.state.Solver.{Solver}
-use Rattle.min_cost_flow.specs.Path.{HasPath, IsOnWay, previous_of, room_into}
+use Rattle.min_cost_flow.specs.Path.{HasPath, IsOnPath, previous_of, room_into}
 use Rattle.min_cost_flow.specs.Round.{IsRound, IsLess, IsWork, carrying}
 
 -- what is left over at a node, or below 0 is wanting there
@@ -56,13 +56,13 @@ abbrev pub IsReady : NetworkModel → Solver → Type 0
 IsReady net s = IsReadyIn net s.residual s.nodes.potential.items s.nodes.excess.items s.visits.items
 
 -- the same when all units have been sent
-pub record IsBalanced (net : NetworkModel) (s : Solver) : Type 0 where
+pub record IsAllSent (net : NetworkModel) (s : Solver) : Type 0 where
   pub ready : IsReady net s
   pub sent : (v : ℕ) → v < node_count net → excess_at s v ≡ pos 0
 
 -- whether all units could be sent
 pub record IsAnswer (net : NetworkModel) (s : Solver) (sent : Bool) : Type 0 where
-  pub balanced : sent ≡ true → IsBalanced net s
+  pub all_sent : sent ≡ true → IsAllSent net s
   pub no_flow : sent ≡ false → HasNoFlow net
 
 -- the work that was done keeps its bounds
@@ -70,7 +70,7 @@ abbrev pub HasWorked : NetworkModel → Solver → Type 0
 HasWorked net s = IsWork net (flow_in s) (excess_at s) s.searches s.looks
 
 -- a solve goes on: it is between two searches, and the work that was done keeps its bounds
-pub record IsUnderWay (net : NetworkModel) (s : Solver) : Type 0 where
+pub record IsBetweenSearches (net : NetworkModel) (s : Solver) : Type 0 where
   pub ready : IsReady net s
   pub work : HasWorked net s
 
@@ -82,7 +82,7 @@ pub record IsAugmented (net : NetworkModel) (s s' : Solver) : Type 0 where
 
 -- nothing is left over at a node any more, nor anew at any other
 pub record HasSentFrom (net : NetworkModel) (s s' : Solver) (root : ℕ) : Type 0 where
-  pub under_way : IsUnderWay net s'
+  pub between_searches : IsBetweenSearches net s'
   pub here : excess_at s' root ≤ℤ pos 0
   pub done : (v : ℕ) → v < node_count net → excess_at s v ≤ℤ pos 0 → excess_at s' v ≤ℤ pos 0
 
@@ -115,7 +115,7 @@ pub record IsFitting (s : Solver) (root amount : ℕ) : Type 0 where
   pub found : amount ≤ capacity_at s.residual.capacities.items s.found
   pub remaining : pos amount ≤ℤ excess_at s root
   pub short : (excess_at s (end_at s.residual.arcs.items s.found) +ℤ pos amount) ≤ℤ pos 0
-  pub fits : (v : ℕ) → IsOnWay (previous_of s.residual.arcs.items s.residual.capacities.items (enters_in s)) (places_in s) (last_node s) v → 0 < places_in s v → amount ≤ room_into s.residual.capacities.items (enters_in s) v
+  pub fits : (v : ℕ) → IsOnPath (previous_of s.residual.arcs.items s.residual.capacities.items (enters_in s)) (places_in s) (last_node s) v → 0 < places_in s v → amount ≤ room_into s.residual.capacities.items (enters_in s) v
 
 -- so many units can go along the path, and no more
 pub record IsBottleneck (s : Solver) (root amount : ℕ) : Type 0 where

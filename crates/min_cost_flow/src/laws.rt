@@ -2,7 +2,7 @@
 
 ghost use Rattle.std.specs.Prelude.{◌≡◌, ◌≢◌, ◌<◌, ℕ, ℤ, pos};
 ghost use Rattle.min_cost_flow.specs.Excess.{KeepsCaps, Leaves, HasNoAugmentingPath};
-ghost use Rattle.min_cost_flow.specs.Existence.{IsBalanced, HasUnlimitedPaths};
+ghost use Rattle.min_cost_flow.specs.Existence.{SuppliesSumToZero, HasUnlimitedPaths};
 ghost use Rattle.networks.specs.Flow.{Flow, HasNoFlow, HasPotentials, IsLeastCost};
 ghost use Rattle.networks.specs.Networks.{HasEnds, NetworkModel, node_count};
 
@@ -21,5 +21,5 @@ pub fn no_path_shows_no_flow()
 /// Where supplies sum to 0, amounts within the capacities leave some excess, and paths of unlimited arcs
 /// lead from all that is left over to all that is wanting, there is a flow.
 pub fn unlimited_arcs_give_a_flow()
-    ensures { (net : NetworkModel) (x : ℕ → ℕ) (e : ℕ → ℤ) → HasEnds net → IsBalanced net → KeepsCaps net x → Leaves net x e → HasUnlimitedPaths net e → (y : ℕ → ℕ) × Flow net y }
+    ensures { (net : NetworkModel) (x : ℕ → ℕ) (e : ℕ → ℤ) → HasEnds net → SuppliesSumToZero net → KeepsCaps net x → Leaves net x e → HasUnlimitedPaths net e → (y : ℕ → ℕ) × Flow net y }
 {}

@@ -10,7 +10,7 @@ ghost use Rattle.min_cost_flow.specs.declared.resume.TheConstants.{MAX_CARRIED};
 ghost use Rattle.networks.specs.Networks.{NetworkModel, node_count, HasFairSupplies, shifted};
 ghost use Rattle.networks.specs.Flow.{at_nodes};
 ghost use Rattle.networks.specs.ResidualArcs.{reverse_at, capacity_at, carried};
-ghost use Rattle.min_cost_flow.specs.Stand.{excess_at, IsReady, IsBalanced, IsAnswer, CanRead};
+ghost use Rattle.min_cost_flow.specs.Stand.{excess_at, IsReady, IsAllSent, IsAnswer, CanRead};
 
 use crate::solver::{carried_along, has_deficit};
 use crate::state::Solver;
@@ -24,7 +24,7 @@ impl Solver {
     /// stands; whether there is a flow still.
     /// Where potentials have drifted too far apart, or an arc carries too much, it solves from nothing.
     pub(crate) fn resume(&mut self, network: &mut Network, from: u32, to: u32, amount: u32) -> bool
-        requires balanced { IsBalanced network.old self.old }
+        requires all_sent { IsAllSent network.old self.old }
         requires from { from < node_count network.old }
         requires to { to < node_count network.old }
         requires few { amount ≤ MAX_SUPPLY }

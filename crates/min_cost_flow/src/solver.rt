@@ -13,7 +13,7 @@ ghost use Rattle.networks.specs.Flow.{amounts, at_nodes, HasNoFlow, Solves};
 ghost use Rattle.networks.specs.ResidualArcs.{reverse_at, capacity_at, carried, end_at};
 ghost use Rattle.networks.specs.Search.{far, labels, orders, label_at, IsPut, IsWithinFar, place_at};
 ghost use Rattle.min_cost_flow.specs.Round.{carrying, supply_sum, IsRoundDone, HasSupply, IsWithinReach};
-ghost use Rattle.min_cost_flow.specs.Stand.{excess_at, potential_at, flow_in, IsSized, IsReady, IsUnderWay, IsAnswer, HasSentFrom, IsAugmented, CanUpdate, HasOrder, CanRead, IsCleared, IsReadyIn, CanAugmentIn};
+ghost use Rattle.min_cost_flow.specs.Stand.{excess_at, potential_at, flow_in, IsSized, IsReady, IsBetweenSearches, IsAnswer, HasSentFrom, IsAugmented, CanUpdate, HasOrder, CanRead, IsCleared, IsReadyIn, CanAugmentIn};
 
 use crate::scratch::Scratch;
 use crate::solved::Solved;
@@ -111,7 +111,7 @@ impl Solver {
     /// was done.
     fn initialise(&mut self, network: &Network)
         requires { IsSized network.now self.old }
-        ensures { IsUnderWay network.now self.new }
+        ensures { IsBetweenSearches network.now self.new }
     {
         write_all(&mut self.nodes.potential, 0);
         self.nodes.excess.copy_from_slice(network.supplies());
@@ -123,10 +123,10 @@ impl Solver {
 
     /// Sends all that is left over at a node to where it is wanting; whether that can be done.
     fn send_all_from(&mut self, root: usize) -> bool
-        requires under_way { (net : NetworkModel) × IsUnderWay net self.old }
+        requires between_searches { (net : NetworkModel) × IsBetweenSearches net self.old }
         requires root { root < length self.old.nodes.excess.items }
-        ensures sent { result ≡ true → (net : NetworkModel) → IsUnderWay net self.old → HasSentFrom net self.old self.new root }
-        ensures no_flow { result ≡ false → (net : NetworkModel) → IsUnderWay net self.old → HasNoFlow net }
+        ensures sent { result ≡ true → (net : NetworkModel) → IsBetweenSearches net self.old → HasSentFrom net self.old self.new root }
+        ensures no_flow { result ≡ false → (net : NetworkModel) → IsBetweenSearches net self.old → HasNoFlow net }
     {
         'units: while self.nodes.excess[root] > 0 {
             if !self.augment_once(root) {

@@ -4,7 +4,7 @@ ghost use Rattle.networks.specs.declared.fault.TheConstants.{MAX_SUPPLY};
 ghost use Rattle.networks.specs.Networks.{NetworkModel, node_count, arc_count, shifted, HasFairSupplies, IsNetwork};
 ghost use Rattle.networks.specs.Flow.{HasNoFlow, Solves, at_nodes, cost_of};
 ghost use Rattle.networks.specs.ResidualArcs.{numbers, reverse_at, capacity_at, carried};
-ghost use Rattle.min_cost_flow.specs.Stand.{IsBalanced, IsShown};
+ghost use Rattle.min_cost_flow.specs.Stand.{IsAllSent, IsShown};
 
 use crate::solved::Solved;
 use crate::solver::{SolveFault, carried_along, read_flow};
@@ -25,7 +25,7 @@ impl Model for Standing {
 
     ghost view = { λ s. s.network };
 
-    ghost invariant = { λ s. IsBalanced s.network s.solver };
+    ghost invariant = { λ s. IsAllSent s.network s.solver };
 }
 
 impl Standing {

@@ -1,6 +1,6 @@
 -- Residual arcs by numbers of their own, those that start at a node side by side.
 use Rattle.std.specs.Prelude.{ℕ, ◌+◌, ◌<◌, ◌≤◌, ◌==◌, ◌≡◌, ◌^◌, ℤ, pos, ◌+ℤ◌, Bool, true, false, if◌then◌else◌, List, length, slice_index, slice_index_or}
-use Rattle.networks.specs.declared.residual.TheConstants.{CLOSED}
+use Rattle.networks.specs.declared.residual.TheConstants.{SATURATED}
 use Rattle.networks.specs.declared.arc.Cap.{Cap}
 use Rattle.networks.specs.declared.arc.Cap.TheVariants.{AtMost, Any}
 use Rattle.networks.specs.declared.residual.ResidualArc.{ResidualArc}
@@ -66,9 +66,9 @@ abbrev pub units_of : Cap → ℕ
 units_of (AtMost k) = k
 units_of Any = 2 ^ 30
 
--- a residual arc where a unit costs z is listed at cost c where so much fits along it: `CLOSED` more where nothing does
+-- a residual arc where a unit costs z is listed at cost c where so much fits along it: `SATURATED` more where nothing does
 abbrev pub IsRated : ℤ → ℕ → ℤ → Type 0
-IsRated c capacity z = c ≡ (if capacity == 0 then z +ℤ CLOSED else z)
+IsRated c capacity z = c ≡ (if capacity == 0 then z +ℤ SATURATED else z)
 
 -- a unit costs z along residual arc k
 abbrev pub IsCosted : List ResidualArc → List ResidualCapacity → ℕ → ℤ → Type 0

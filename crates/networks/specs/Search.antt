@@ -2,7 +2,7 @@
 -- distance, and what holds of them.
 use Rattle.std.specs.Prelude.{ℕ, ◌+◌, ◌-◌, ◌*◌, ◌<◌, ◌≤◌, ◌≡◌, ◌≢◌, ℤ, pos, negsuc, ◌+ℤ◌, ◌-ℤ◌, ◌≤ℤ◌, ◌<ℤ◌, ◌⊎◌, List, length, slice_index_or}
 use Rattle.networks.specs.declared.network.TheConstants.{MAX_NODES}
-use Rattle.networks.specs.declared.residual.TheConstants.{MAX_RESIDUAL_ARCS, CLOSED}
+use Rattle.networks.specs.declared.residual.TheConstants.{MAX_RESIDUAL_ARCS, SATURATED}
 use Rattle.networks.specs.declared.state.TheConstants.{FAR}
 use Rattle.common.specs.Sums.{sum_below}
 use Rattle.networks.specs.declared.residual.ResidualArc.{ResidualArc}
@@ -21,9 +21,9 @@ far = FAR
 abbrev pub IsWithinFar : ℤ → Type 0
 IsWithinFar z = ((pos 0 -ℤ far) ≤ℤ z) × (z ≤ℤ far)
 
--- what a unit along a residual arc costs, with `CLOSED` more while nothing fits
+-- what a unit along a residual arc costs, with `SATURATED` more while nothing fits
 abbrev pub IsArcCost : ℤ → Type 0
-IsArcCost c = ((negsuc 0 ≤ℤ c) × (c ≤ℤ pos 1)) ⊎ (((CLOSED -ℤ pos 1) ≤ℤ c) × (c ≤ℤ (CLOSED +ℤ pos 1)))
+IsArcCost c = ((negsuc 0 ≤ℤ c) × (c ≤ℤ pos 1)) ⊎ (((SATURATED -ℤ pos 1) ≤ℤ c) × (c ≤ℤ (SATURATED +ℤ pos 1)))
 
 -- so many nodes, and the residual arcs of each
 pub record IsGraph (n : ℕ) (first : List ℕ) (arcs : List ResidualArc) : Type 0 where

@@ -9,9 +9,9 @@ use crate::network::MAX_ARCS;
 pub const MAX_RESIDUAL_ARCS: usize = 2 * MAX_ARCS;
 
 /// What the cost of a residual arc is raised by while nothing fits.
-pub const CLOSED: i16 = 16_000;
+pub const SATURATED: i16 = 16_000;
 
-/// A residual arc as a search reads it: the node where it ends, and what a unit along it costs, with `CLOSED` more
+/// A residual arc as a search reads it: the node where it ends, and what a unit along it costs, with `SATURATED` more
 /// while nothing fits.
 #[derive(Clone, Copy, Debug, Default, PartialEq, Eq)]
 pub struct ResidualArc {
@@ -36,7 +36,11 @@ impl ResidualArc {
     {
         ResidualArc {
             end,
-            cost: if capacity == 0 { cost + CLOSED } else { cost },
+            cost: if capacity == 0 {
+                cost + SATURATED
+            } else {
+                cost
+            },
         }
     }
 }
@@ -74,7 +78,7 @@ impl Residual {
         let along = &mut self.capacities[number];
         along.capacity -= units;
         if along.capacity == 0 {
-            self.arcs[number].cost += CLOSED;
+            self.arcs[number].cost += SATURATED;
         }
     }
 
@@ -90,7 +94,7 @@ impl Residual {
         let was_closed = along.capacity == 0;
         along.capacity += units;
         if was_closed {
-            self.arcs[number].cost -= CLOSED;
+            self.arcs[number].cost -= SATURATED;
         }
     }
 }

@@ -20,7 +20,7 @@ pub fn is_shape(plane: &Plane, shape: &Shape) -> bool
     has_darts(plane, shape)
         && has_angles(plane, shape)
         && has_mirrored_strings(plane, shape)
-        && closes_vertices(plane, shape)
+        && angles_sum_to_four(plane, shape)
         && turns_faces(plane, shape)
 }
 
@@ -63,7 +63,7 @@ fn has_mirrored_strings(plane: &Plane, shape: &Shape) -> bool
 }
 
 /// Whether the angles round each vertex sum to 4.
-fn closes_vertices(plane: &Plane, shape: &Shape) -> bool
+fn angles_sum_to_four(plane: &Plane, shape: &Shape) -> bool
     requires { HasDarts plane.now shape.now }
     ensures { IsTrue result ↔ ((v : ℕ) → 1 ≤ v → v ≤ vertices plane.now
         → angles_around plane.now (angle_at shape.now) v ≡ 4) }

@@ -78,7 +78,7 @@ impl OpenRecord {
     }
 
     /// Hands out the record that `text` ends. One that lies whole in `text` is copied once.
-    fn close(&mut self, alloc: Global, text: &[u8]) -> Result<Record, AllocError>
+    fn complete(&mut self, alloc: Global, text: &[u8]) -> Result<Record, AllocError>
         requires { IsRecord (self.old ++ text.now) }
         ensures record { IfOk result (λ r. r ≡ self.old ++ text.now) }
         ensures empty { self.new ≡ [] }
@@ -105,7 +105,7 @@ impl OpenRecord {
                 self.keep(text, remaining, entries);
                 Ok(None)
             }
-            Scan::Whole(end) => match self.close(alloc, &text[..end]) {
+            Scan::Whole(end) => match self.complete(alloc, &text[..end]) {
                 Ok(record) => Ok(Some((record, end))),
                 Err(_) => Err(FeedFault::Memory),
             },

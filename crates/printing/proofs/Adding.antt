@@ -2,7 +2,7 @@
 use Rattle.std.proofs.Common.{◌≡◌, ◌≢◌, ℕ, zero, suc, ◌+◌, ◌<◌, ◌≤◌, List, [], ◌∷◌, ◌++◌, length, Option, All, inl, inr, refl, sym, ap, subst, ◌∙◌, arith, append_assoc, append-nil, length-append}
 use Rattle.std.proofs.lemmas.Bool.{cases_eq}
 use Rattle.streams.specs.declared.frames.Mark.{Mark}
-use Rattle.streams.specs.Sink.{IsOnItsWay}
+use Rattle.streams.specs.Sink.{IsInTransit}
 use Rattle.streams.proofs.Sinks.{added_none}
 use Rattle.entries.specs.declared.entry.Entry.{Entry}
 use Rattle.reports.specs.declared.form.Form.{Form}
@@ -61,7 +61,7 @@ written_front form start old new buffer buffered front waiting after came next e
           (λ _ w w' c. counted_one front entry came next w w' more c.count c.mark) was.counted;
       lines = after_change (λ w c. w.lines ≡ lines_in form c.entries) (λ k. front < k) front waiting after came next IsCountedOne changed more.others below
           (λ lt. absurd (omega (arith, lt))) was.lines;
-      going = λ _. subst (IsOnItsWay start new buffered) (front_more form front came next entry line is more) (goes start (ended_texts form came front ++ begun form front (came front)) (was.going below));
+      going = λ _. subst (IsInTransit start new buffered) (front_more form front came next entry line is more) (goes start (ended_texts form came front ++ begun form front (came front)) (was.going below));
       over = λ past. absurd (omega (arith, past, changed.count, below));
     }
 
@@ -93,7 +93,7 @@ written_behind form start now buffer file front waiting mid after came next entr
       lines = after_change (λ w c. w.lines ≡ lines_in form c.entries) (λ k. front < k) file waiting after came next (HasLineMore line) changed more.others below
           (λ _ w w' c same. c.0 ∙ ap (λ l. l ++ line) same ∙ ap (λ l. lines_in form (came file).entries ++ l) (sym is) ∙ sym (lines-more form (came file).entries entry)
           ∙ ap (λ (c : Came). lines_in form c.entries) (sym more.here)) was.lines;
-      going = λ lt. subst (IsOnItsWay start now buffer) (front_same form file front came next before more.others) (was.going (omega (arith, lt, changed.count)));
+      going = λ lt. subst (IsInTransit start now buffer) (front_same form file front came next before more.others) (was.going (omega (arith, lt, changed.count)));
       over = λ past. absurd (omega (arith, past, changed.count, below, before));
     }
 
@@ -122,7 +122,7 @@ written_marked form start now buffer file front waiting after came next many mar
           }) was.counted;
       lines = after_change (λ w c. w.lines ≡ lines_in form c.entries) (λ k. front < k) file waiting after came next (GetsMark many mark) changed more.others below
           (λ _ w w' c same. c.lines ∙ same ∙ ap (lines_in form) (entries_same file mark came next more file)) was.lines;
-      going = λ lt. subst (IsOnItsWay start now buffer) text (was.going (omega (arith, lt, changed.count)));
+      going = λ lt. subst (IsInTransit start now buffer) text (was.going (omega (arith, lt, changed.count)));
       over = λ past. absurd (omega (arith, past, changed.count, below, before));
     }
 

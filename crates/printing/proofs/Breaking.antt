@@ -1,7 +1,7 @@
 -- What was added to a sink where the text was left off.
 use Rattle.std.proofs.Common.{◌≡◌, ℕ, ◌+◌, ◌<◌, ◌≤◌, List, ◌++◌, length, Option, Some, inl, inr, refl, sym, ap, subst, ◌∙◌, arith, append_assoc, get_or, Bool, Err}
 use Rattle.std.proofs.lemmas.Bool.{cases_lt}
-use Rattle.streams.specs.Sink.{AppendsFront, IsOnItsWay, Writes}
+use Rattle.streams.specs.Sink.{AppendsFront, IsInTransit, Writes}
 use Rattle.streams.proofs.Sinks.{added_both}
 use Rattle.streams.specs.declared.faults.WriteFault.{WriteFault}
 use Rattle.streams.specs.declared.faults.WriteFault.TheVariants.{Write, Memory}
@@ -28,7 +28,7 @@ appends_longer start now whole text longer added =
     (added.0, added.1 ++ longer.0, longer.1 ∙ ap (λ l. l ++ longer.0) added.2 ∙ append_assoc added.0 added.1 longer.0, added.3)
 
 -- what is on its way was added up to what waits
-pub way_front : (start now : Option (List ℕ)) (waiting text : List ℕ) → IsOnItsWay start now waiting text → AppendsFront start now text
+pub way_front : (start now : Option (List ℕ)) (waiting text : List ℕ) → IsInTransit start now waiting text → AppendsFront start now text
 way_front start now waiting text way = (way.sent, waiting, way.split, way.added)
 
 -- whatever more was to go on its way, where nothing was added
@@ -60,7 +60,7 @@ breaks_preamble form start now came n files below marked added =
 
 -- where a beginning was added of what was on its way
 breaks_way : (form : Form) (start now new : Option (List ℕ)) (buffer : List ℕ) (front : ℕ) (waiting : List Waiting) (came : ℕ → Came)
-    → ((text : List ℕ) → IsOnItsWay start now buffer text → AppendsFront start new text)
+    → ((text : List ℕ) → IsInTransit start now buffer text → AppendsFront start new text)
     → AreWritten form start now buffer front waiting came → BreaksOff form start new (length waiting) came
 breaks_way form start now new buffer front waiting came added was =
     elim (cases_lt front (length waiting)) [

@@ -2,7 +2,7 @@
 use Rattle.std.proofs.Common.{◌≡◌, ℕ, ◌+◌, ◌<◌, List, [], ◌∷◌, ◌++◌, length, take, drop, get_or, Vec, Global, Option, sym, ap, subst, ◌∙◌, append_assoc, append-nil}
 use Rattle.std.proofs.lemmas.List.{take_more, take-append-drop}
 use Rattle.std.proofs.lemmas.List.Concat.{flat_map-append}
-use Rattle.streams.specs.Sink.{AppendsFront, IsOnItsWay}
+use Rattle.streams.specs.Sink.{AppendsFront, IsInTransit}
 use Rattle.printing.specs.Joined.{joined}
 use Rattle.printing.specs.Written.{GoesOn, BreaksIn}
 use Rattle.printing.proofs.Breaking.{appends_longer}
@@ -14,13 +14,13 @@ joined_more chunks chunk =
 
 -- no text goes on its way
 pub goes_none : (now : Option (List ℕ)) (waits : List ℕ) → GoesOn now waits now waits []
-goes_none now waits start text way = subst (λ l. IsOnItsWay start now waits l) (sym (append-nil text)) way
+goes_none now waits start text way = subst (λ l. IsInTransit start now waits l) (sym (append-nil text)) way
 
 -- one text and then another
 pub goes_both : (old mid new : Option (List ℕ)) (waited between waits first next : List ℕ)
     → GoesOn old waited mid between first → GoesOn mid between new waits next → GoesOn old waited new waits (first ++ next)
 goes_both old mid new waited between waits first next p q start text way =
-    subst (λ l. IsOnItsWay start new waits l) (append_assoc text first next) (q start (text ++ first) (p start text way))
+    subst (λ l. IsInTransit start new waits l) (append_assoc text first next) (q start (text ++ first) (p start text way))
 
 -- one text, and a beginning of the next
 pub goes_breaks : (old mid new : Option (List ℕ)) (waited between first next : List ℕ)

@@ -2,7 +2,7 @@
 use Rattle.std.proofs.Common.{◌≡◌, ℕ, ◌+◌, ◌<◌, ◌≤◌, List, ◌++◌, length, get_or, Option, Some, inl, inr, refl, sym, ap, subst, ◌∙◌, arith, add-one, append_assoc}
 use Rattle.std.proofs.lemmas.Bool.{cases_lt}
 use Rattle.streams.specs.declared.frames.Mark.{Mark}
-use Rattle.streams.specs.Sink.{IsOnItsWay}
+use Rattle.streams.specs.Sink.{IsInTransit}
 use Rattle.reports.specs.declared.form.Form.{Form}
 use Rattle.printing.specs.FormLines.{preamble_in, lines_in, end_in}
 use Rattle.printing.specs.declared.waiting.Waiting.{Waiting}
@@ -54,7 +54,7 @@ left_ended form start old new buffer buffered front next waiting came w mark cou
       marked = marked_next came front next mark next_is told.0 was.marked;
       counted = λ k other from lt. was.counted k other (omega (arith, from, next_is)) lt;
       lines = λ k other from lt. was.lines k other (omega (arith, from, next_is)) lt;
-      text = subst (IsOnItsWay start new buffered) (ended_more form front next came mark count next_is told.0 told.1) (goes start (ended_texts form came front ++ begun form front (came front)) (was.going below));
+      text = subst (IsInTransit start new buffered) (ended_more form front next came mark count next_is told.0 told.1) (goes start (ended_texts form came front ++ begun form front (came front)) (was.going below));
     }
 
 -- what has come of the front went on its way
@@ -75,7 +75,7 @@ written_begun form start old mid new buffer between buffered front waiting after
           (λ _ w w' c had. record { count = c.count ∙ had.count; mark = c.mark ∙ had.mark }) was.counted;
       lines = after_change (λ w c. w.lines ≡ lines_in form c.entries) (λ k. front < k) front waiting after came came IsTaken changed (λ _ _. refl) below
           (λ lt. absurd (omega (arith, lt))) (λ k o from lt. was.lines k o (omega (arith, from)) lt);
-      going = λ _. subst (IsOnItsWay start new buffered) text (goes start (T ++ H) (preamble start T was.text));
+      going = λ _. subst (IsInTransit start new buffered) text (goes start (T ++ H) (preamble start T was.text));
       over = λ past. absurd (omega (arith, past, changed.count, below));
     }
 

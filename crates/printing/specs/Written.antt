@@ -1,7 +1,7 @@
 -- What has been written of what has come, and what waits.
 use Rattle.std.specs.Prelude.{◌≡◌, ℕ, zero, suc, ◌+◌, ◌<◌, ◌≤◌, ◌⊎◌, Bool, true, false, List, [], ◌++◌, length, Option, None, Some, slice_index_or}
 use Rattle.streams.specs.declared.frames.Mark.{Mark}
-use Rattle.streams.specs.Sink.{AppendsFront, IsOnItsWay}
+use Rattle.streams.specs.Sink.{AppendsFront, IsInTransit}
 use Rattle.reports.specs.declared.form.Form.{Form}
 use Rattle.printing.specs.FormLines.{preamble_in, lines_in, end_in}
 use Rattle.printing.specs.declared.refusal.Refusal.{Refusal}
@@ -17,11 +17,11 @@ GivesUp failed Astray = failed ≡ false
 
 -- whatever text was on its way, it is on its way with `more` at its end
 abbrev pub GoesOn : Option (List ℕ) → List ℕ → Option (List ℕ) → List ℕ → List ℕ → Type 0
-GoesOn old waited new waits more = (start : Option (List ℕ)) (text : List ℕ) → IsOnItsWay start old waited text → IsOnItsWay start new waits (text ++ more)
+GoesOn old waited new waits more = (start : Option (List ℕ)) (text : List ℕ) → IsInTransit start old waited text → IsInTransit start new waits (text ++ more)
 
 -- whatever text was on its way, a beginning of it with `more` at its end was added
 abbrev pub BreaksIn : Option (List ℕ) → List ℕ → Option (List ℕ) → List ℕ → Type 0
-BreaksIn old waited new more = (start : Option (List ℕ)) (text : List ℕ) → IsOnItsWay start old waited text → AppendsFront start new (text ++ more)
+BreaksIn old waited new more = (start : Option (List ℕ)) (text : List ℕ) → IsInTransit start old waited text → AppendsFront start new (text ++ more)
 
 -- what stands before the lines of this file, counted from 0, and its lines so far
 abbrev pub begun : Form → ℕ → Came → List ℕ
@@ -61,8 +61,8 @@ pub record AreWritten (form : Form) (start now : Option (List ℕ)) (buffer : Li
   pub counted : (file : ℕ) (other : Waiting) → front ≤ file → file < length waiting → IsCounted (slice_index_or waiting file other) (came file)
   pub lines : (file : ℕ) (other : Waiting) → front < file → file < length waiting
       → (slice_index_or waiting file other).lines ≡ lines_in form (came file).entries
-  pub going : front < length waiting → IsOnItsWay start now buffer (ended_texts form came front ++ begun form front (came front))
-  pub over : length waiting ≤ front → IsOnItsWay start now buffer (ended_texts form came front)
+  pub going : front < length waiting → IsInTransit start now buffer (ended_texts form came front ++ begun form front (came front))
+  pub over : length waiting ≤ front → IsInTransit start now buffer (ended_texts form came front)
 
 -- The same before anything of the front was put on its way: what has come of it still waits.
 pub record AreRemaining (form : Form) (start now : Option (List ℕ)) (buffer : List ℕ) (front : ℕ) (waiting : List Waiting) (came : ℕ → Came) : Type 0 where
@@ -71,4 +71,4 @@ pub record AreRemaining (form : Form) (start now : Option (List ℕ)) (buffer : 
   pub counted : (file : ℕ) (other : Waiting) → front ≤ file → file < length waiting → IsCounted (slice_index_or waiting file other) (came file)
   pub lines : (file : ℕ) (other : Waiting) → front ≤ file → file < length waiting
       → (slice_index_or waiting file other).lines ≡ lines_in form (came file).entries
-  pub text : IsOnItsWay start now buffer (ended_texts form came front)
+  pub text : IsInTransit start now buffer (ended_texts form came front)

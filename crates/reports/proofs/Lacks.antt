@@ -2,13 +2,13 @@
 use Rattle.std.proofs.Common.{◌≡◌, ℕ, Bool, false, List, ◌++◌, Option, Result, Ok, Err, subst, sym, ◌∙◌, ap, append_assoc}
 use Rattle.streams.specs.declared.faults.WriteFault.{WriteFault}
 use Rattle.streams.specs.declared.faults.WriteFault.TheVariants.{Write, Memory}
-use Rattle.streams.specs.Sink.{Writes, AppendsFront, IsOnItsWay, StaysOnItsWay}
+use Rattle.streams.specs.Sink.{Writes, AppendsFront, IsInTransit, StaysInTransit}
 use Rattle.streams.proofs.Sinks.{flushed_whole}
 use Rattle.reports.specs.Writing.{WritesOrLacks, StaysOrLacks}
 
 -- a call that needs no memory
 pub stays_as_well : {A : Type 0} (old new : Option (List ℕ)) (waited waits : List ℕ) (failed : Bool) (more : List ℕ) (r : Result A WriteFault)
-    → StaysOnItsWay old waited new waits failed more r → StaysOrLacks old waited new waits failed more r
+    → StaysInTransit old waited new waits failed more r → StaysOrLacks old waited new waits failed more r
 stays_as_well old new waited waits failed more (Ok x) stays = stays
 stays_as_well old new waited waits failed more (Err Write) stays = stays
 stays_as_well old new waited waits failed more (Err Memory) stays = absurd stays
@@ -19,7 +19,7 @@ pub lacks_both : (old mid new : Option (List ℕ)) (waited between waits : List 
     → StaysOrLacks old waited new waits failed whole r
 lacks_both old mid new waited between waits was failed more next whole a (Ok b) p q joined = (
   q.0,
-  λ start text way. subst (IsOnItsWay start new waits) (append_assoc text more next ∙ ap (λ l. text ++ l) joined) (q.1 start (text ++ more) (p.1 start text way)),
+  λ start text way. subst (IsInTransit start new waits) (append_assoc text more next ∙ ap (λ l. text ++ l) joined) (q.1 start (text ++ more) (p.1 start text way)),
 )
 lacks_both old mid new waited between waits was failed more next whole a (Err Write) p q joined = (
   q.0,
@@ -47,7 +47,7 @@ lacks_more old new waited waits failed more rest whole Memory r stays split is =
 
 -- what was on its way is a beginning of the whole text
 pub lacks_whole : (start old new : Option (List ℕ)) (waited waits : List ℕ) (failed : Bool) (text more rest whole : List ℕ) (e : WriteFault) (r : Result (Unit {0}) WriteFault)
-    → IsOnItsWay start old waited text → StaysOrLacks {A = Unit {0}} old waited new waits failed more (Err e) → whole ≡ (text ++ more) ++ rest → r ≡ Err e
+    → IsInTransit start old waited text → StaysOrLacks {A = Unit {0}} old waited new waits failed more (Err e) → whole ≡ (text ++ more) ++ rest → r ≡ Err e
     → WritesOrLacks start new failed whole r
 lacks_whole start old new waited waits failed text more rest whole Write r way stays split is =
     let f = stays.1 start text way in
@@ -60,7 +60,7 @@ lacks_whole start old new waited waits failed text more rest whole Memory r way 
 
 -- what waited was put, and with it the whole text
 pub lacks_nothing : (start old new : Option (List ℕ)) (waiting : List ℕ) (failed : Bool) (text : List ℕ) (r : Result (Unit {0}) WriteFault)
-    → IsOnItsWay start old waiting text → Writes old new failed waiting r → WritesOrLacks start new failed text r
+    → IsInTransit start old waiting text → Writes old new failed waiting r → WritesOrLacks start new failed text r
 lacks_nothing start old new waiting failed text (Ok x) way w = flushed_whole start old new waiting failed text (Ok x) way w
 lacks_nothing start old new waiting failed text (Err Write) way w = flushed_whole start old new waiting failed text (Err Write) way w
 lacks_nothing start old new waiting failed text (Err Memory) way w = absurd w
@@ -72,6 +72,6 @@ lacks_now old waited failed more whole =
 
 -- a text that was made was written without more memory
 pub writes_made : (old new : Option (List ℕ)) (waited waits : List ℕ) (failed : Bool) (made more : List ℕ) (r : Result (Unit {0}) WriteFault)
-    → made ≡ more → StaysOnItsWay old waited new waits failed made r → StaysOrLacks old waited new waits failed more r
+    → made ≡ more → StaysInTransit old waited new waits failed made r → StaysOrLacks old waited new waits failed more r
 writes_made old new waited waits failed made more r same stays =
-    stays_as_well old new waited waits failed more r (subst (λ (l : List ℕ). StaysOnItsWay old waited new waits failed l r) same stays)
+    stays_as_well old new waited waits failed more r (subst (λ (l : List ℕ). StaysInTransit old waited new waits failed l r) same stays)

@@ -3,7 +3,7 @@ use Rattle.std.proofs.Common.{◌≡◌, ℕ, ◌+◌, ◌<◌, ◌≤◌, Bool,
 use Rattle.std.proofs.lemmas.List.{take-append-drop, take_more, length-take, take_all}
 use Rattle.streams.specs.declared.faults.WriteFault.{WriteFault}
 use Rattle.streams.specs.declared.faults.WriteFault.TheVariants.{Write, Memory}
-use Rattle.streams.specs.Sink.{IsOnItsWay, AppendsFront, StaysOnItsWay}
+use Rattle.streams.specs.Sink.{IsInTransit, AppendsFront, StaysInTransit}
 use Rattle.streams.specs.declared.frames.Mark.{Mark}
 use Rattle.entries.specs.declared.entry.Entry.{Entry}
 use Rattle.entries.specs.Books.{BookModel}
@@ -44,16 +44,16 @@ module _ {A : Type 0} (text : ℕ → A → List ℕ) where
   texts-all xs i past = ap (numbered_texts text 1) (take_all i xs past)
 
 -- nothing was written
-pub stays_none : (old : Option (List ℕ)) (waited : List ℕ) (failed : Bool) (a : Unit {0}) → failed ≡ false → StaysOnItsWay old waited old waited failed [] (Ok a)
-stays_none old waited failed a whole = (whole, λ start text way. subst (IsOnItsWay start old waited) (sym (append-nil text)) way)
+pub stays_none : (old : Option (List ℕ)) (waited : List ℕ) (failed : Bool) (a : Unit {0}) → failed ≡ false → StaysInTransit old waited old waited failed [] (Ok a)
+stays_none old waited failed a whole = (whole, λ start text way. subst (IsInTransit start old waited) (sym (append-nil text)) way)
 
 -- one text was written whole, and then another
 pub stays_both : (old mid new : Option (List ℕ)) (waited between waits : List ℕ) (was failed : Bool) (more next whole : List ℕ) (a : Unit {0}) (r : Result (Unit {0}) WriteFault)
-    → StaysOnItsWay old waited mid between was more (Ok a) → StaysOnItsWay mid between new waits failed next r → more ++ next ≡ whole
-    → StaysOnItsWay old waited new waits failed whole r
+    → StaysInTransit old waited mid between was more (Ok a) → StaysInTransit mid between new waits failed next r → more ++ next ≡ whole
+    → StaysInTransit old waited new waits failed whole r
 stays_both old mid new waited between waits was failed more next whole a (Ok b) p q joined = (
   q.0,
-  λ start text way. subst (IsOnItsWay start new waits) (append_assoc text more next ∙ ap (λ l. text ++ l) joined) (q.1 start (text ++ more) (p.1 start text way)),
+  λ start text way. subst (IsInTransit start new waits) (append_assoc text more next ∙ ap (λ l. text ++ l) joined) (q.1 start (text ++ more) (p.1 start text way)),
 )
 stays_both old mid new waited between waits was failed more next whole a (Err Write) p q joined = (
   q.0,
@@ -63,9 +63,9 @@ stays_both old mid new waited between waits was failed more next whole a (Err Me
 
 -- a text was not written whole, and so no text that goes on from it
 pub stays_fails : (old new : Option (List ℕ)) (waited waits : List ℕ) (failed : Bool) (more rest whole : List ℕ) (e : WriteFault) (r : Result (Unit {0}) WriteFault)
-    → StaysOnItsWay {A = Unit {0}} old waited new waits failed more (Err e) → whole ≡ more ++ rest → r ≡ Err e → StaysOnItsWay old waited new waits failed whole r
+    → StaysInTransit {A = Unit {0}} old waited new waits failed more (Err e) → whole ≡ more ++ rest → r ≡ Err e → StaysInTransit old waited new waits failed whole r
 stays_fails old new waited waits failed more rest whole Write r stays split is =
-    subst (StaysOnItsWay {A = Unit {0}} old waited new waits failed whole) (sym is) (
+    subst (StaysInTransit {A = Unit {0}} old waited new waits failed whole) (sym is) (
       stays.0,
       λ start text way. let f = stays.1 start text way in
           (f.0, f.1 ++ rest, ap (λ l. text ++ l) split ∙ sym (append_assoc text more rest) ∙ ap (λ l. l ++ rest) f.2 ∙ append_assoc f.0 f.1 rest, f.3),

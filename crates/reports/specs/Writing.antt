@@ -3,7 +3,7 @@ use Rattle.std.specs.Prelude.{◌≡◌, ℕ, Bool, true, false, List, ◌++◌,
 use Rattle.std.specs.Io.KnownBytes.{Appends}
 use Rattle.streams.specs.declared.faults.WriteFault.{WriteFault}
 use Rattle.streams.specs.declared.faults.WriteFault.TheVariants.{Write, Memory}
-use Rattle.streams.specs.Sink.{AppendsFront, IsOnItsWay}
+use Rattle.streams.specs.Sink.{AppendsFront, IsInTransit}
 
 -- Ok: the whole text was added, and the sink has not failed. `Write`: a beginning of it, and the sink has failed.
 -- `Memory`: a beginning of it, and the sink has not failed.
@@ -16,8 +16,8 @@ WritesOrLacks old new failed text (Err Memory) = (failed ≡ false) × AppendsFr
 -- the sink has failed exactly where the error is `Write`.
 abbrev pub StaysOrLacks : {A : Type 0} → Option (List ℕ) → List ℕ → Option (List ℕ) → List ℕ → Bool → List ℕ → Result A WriteFault → Type 0
 StaysOrLacks old waited new waits failed more (Ok _) =
-    (failed ≡ false) × ((start : Option (List ℕ)) (text : List ℕ) → IsOnItsWay start old waited text → IsOnItsWay start new waits (text ++ more))
+    (failed ≡ false) × ((start : Option (List ℕ)) (text : List ℕ) → IsInTransit start old waited text → IsInTransit start new waits (text ++ more))
 StaysOrLacks old waited new waits failed more (Err Write) =
-    (failed ≡ true) × ((start : Option (List ℕ)) (text : List ℕ) → IsOnItsWay start old waited text → AppendsFront start new (text ++ more))
+    (failed ≡ true) × ((start : Option (List ℕ)) (text : List ℕ) → IsInTransit start old waited text → AppendsFront start new (text ++ more))
 StaysOrLacks old waited new waits failed more (Err Memory) =
-    (failed ≡ false) × ((start : Option (List ℕ)) (text : List ℕ) → IsOnItsWay start old waited text → AppendsFront start new (text ++ more))
+    (failed ≡ false) × ((start : Option (List ℕ)) (text : List ℕ) → IsInTransit start old waited text → AppendsFront start new (text ++ more))

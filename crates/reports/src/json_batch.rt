@@ -1,6 +1,6 @@
 //! The text of a batch as JSON lines.
 ghost use Rattle.std.specs.Prelude.{◌≡◌, ◌≤◌, false, length};
-ghost use Rattle.streams.specs.Sink.{StaysOnItsWay};
+ghost use Rattle.streams.specs.Sink.{StaysInTransit};
 ghost use Rattle.reports.specs.Writing.{WritesOrLacks, StaysOrLacks};
 ghost use Rattle.reports.specs.Report.{numbered_texts};
 ghost use Rattle.reports.specs.Json.{json_text, book_json, entry_json, end_json};
@@ -116,7 +116,7 @@ pub fn push_line<S: Sink>(
     line: &[u8],
 ) -> Result<(), WriteFault>
     requires { S.failed sink.old ≡ false }
-    ensures { StaysOnItsWay (S.taken sink.old) lines.old (S.taken sink.new) lines.new
+    ensures { StaysInTransit (S.taken sink.old) lines.old (S.taken sink.new) lines.new
         (S.failed sink.new) line.now result }
 {
     let mut at = 0;

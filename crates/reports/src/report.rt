@@ -1,6 +1,6 @@
 //! The text of a report.
 ghost use Rattle.std.specs.Prelude.{◌≡◌, false};
-ghost use Rattle.streams.specs.Sink.{Writes, StaysOnItsWay};
+ghost use Rattle.streams.specs.Sink.{Writes, StaysInTransit};
 ghost use Rattle.reports.specs.Report.{report_text, book_text, entry_line, numbered_texts};
 
 use crate::line::ReportLine;
@@ -32,7 +32,7 @@ fn write_book<S: Sink>(
     book: &Book,
 ) -> Result<(), WriteFault>
     requires { S.failed sink.old ≡ false }
-    ensures { StaysOnItsWay (S.taken sink.old) lines.old (S.taken sink.new) lines.new
+    ensures { StaysInTransit (S.taken sink.old) lines.old (S.taken sink.new) lines.new
         (S.failed sink.new) (book_text number book.now) result }
 {
     let entries = book.entries();
@@ -49,7 +49,7 @@ fn write_entries<S: Sink>(
     entries: &[Entry],
 ) -> Result<(), WriteFault>
     requires { S.failed sink.old ≡ false }
-    ensures { StaysOnItsWay (S.taken sink.old) lines.old (S.taken sink.new) lines.new
+    ensures { StaysInTransit (S.taken sink.old) lines.old (S.taken sink.new) lines.new
         (S.failed sink.new) (numbered_texts entry_line 1 entries.now) result }
 {
     for (index, entry) in entries.iter().enumerate() {
@@ -69,7 +69,7 @@ fn write_line<S: Sink>(
     line: &ReportLine,
 ) -> Result<(), WriteFault>
     requires { S.failed sink.old ≡ false }
-    ensures { StaysOnItsWay (S.taken sink.old) lines.old (S.taken sink.new) lines.new
+    ensures { StaysInTransit (S.taken sink.old) lines.old (S.taken sink.new) lines.new
         (S.failed sink.new) line.now result }
 {
     let text = line.as_slice();

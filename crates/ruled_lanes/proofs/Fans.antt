@@ -9,8 +9,8 @@ use native.Mathlib.Decide.{dec_le}
 use lib.ListN.{get_elem?}
 use Rattle.crossbeam_channel.specs.Fifo.{Pushes, Pops, Forks, Merges, Learns}
 use Rattle.atomic_table.proofs.Lists.{at_set}
-use Rattle.ruled_lanes.specs.declared.fan_rule.Reach.{Reach}
-use Rattle.ruled_lanes.specs.FanRule.{reach, gatherer, giver, nobody, given_in, of_lane, KnowsLane, KnowsFan, Accounts, IsFanned}
+use Rattle.ruled_lanes.specs.declared.fan_protocol.Reach.{Reach}
+use Rattle.ruled_lanes.specs.FanProtocol.{reach, gatherer, giver, nobody, given_in, of_lane, KnowsLane, KnowsFan, Accounts, IsFanned}
 use Rattle.ruled_lanes.proofs.Views.{Each, each_set, each_more}
 
 off : false ≡ true → ⊥

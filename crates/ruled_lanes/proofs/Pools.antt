@@ -3,10 +3,10 @@ use Rattle.std.proofs.Common.{◌≡◌, ◌+◌, ◌<◌, ◌≤◌, min, subst
 use Rattle.std.proofs.lemmas.List.Elements.{All-head, All-tail}
 use Rattle.std.proofs.lemmas.List.Sums.{sum_by-cons}
 use Rattle.ruled_lanes.specs.declared.dealing.Seat.{Seat}
-use Rattle.ruled_lanes.specs.declared.ticket_rule.Draws.{Draws}
+use Rattle.ruled_lanes.specs.declared.ticket_protocol.Draws.{Draws}
 use mathlib.Core.Option.{some}
 use lib.ListN.{get_elem?}
-use Rattle.ruled_lanes.specs.TicketRule.{draws, HasOnceBelow, IsDealt}
+use Rattle.ruled_lanes.specs.TicketProtocol.{draws, HasOnceBelow, IsDealt}
 use Rattle.ruled_lanes.specs.TicketSeats.{drawn, has_ended, all_drawn, state_of, IsUnused, IsPool}
 use Rattle.ruled_lanes.proofs.Deals.{closes}
 

@@ -4,8 +4,8 @@ use Rattle.std.proofs.lemmas.List.Elements.{All-nil, All-cons, All-head, All-tai
 use Rattle.crossbeam_channel.specs.Claims.{view}
 use Rattle.ruled_lanes.specs.declared.limits.TheConstants.{LANES}
 use Rattle.ruled_lanes.specs.declared.fan_ends.LaneGiver.{LaneGiver}
-use Rattle.ruled_lanes.specs.declared.fan_rule.Reach.{Reach}
-use Rattle.ruled_lanes.specs.FanRule.{reach, of_lane, Accounts}
+use Rattle.ruled_lanes.specs.declared.fan_protocol.Reach.{Reach}
+use Rattle.ruled_lanes.specs.FanProtocol.{reach, of_lane, Accounts}
 use Rattle.ruled_lanes.specs.FanEnds.{lane_of, given_at, SettlesFan}
 use Rattle.ruled_lanes.proofs.Fans.{of_lane-append}
 

@@ -5,7 +5,7 @@ use Rattle.crossbeam_channel.specs.Ends.{sends_on, receives_on, ruled_capacity}
 use Rattle.ruled_lanes.specs.declared.limits.TheConstants.{LANES}
 use Rattle.ruled_lanes.specs.declared.fan_ends.LaneGiver.{LaneGiver}
 use Rattle.ruled_lanes.specs.declared.fan_ends.Gatherer.{Gatherer}
-use Rattle.ruled_lanes.specs.FanRule.{given_in, of_lane}
+use Rattle.ruled_lanes.specs.FanProtocol.{given_in, of_lane}
 
 module _ {T : Type 0} where
   -- the number of its lane

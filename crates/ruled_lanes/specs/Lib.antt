@@ -1,7 +1,7 @@
 pub mod FanEnds
-pub mod FanRule
+pub mod FanProtocol
 pub mod HandedBack
 pub mod LinkEnds
-pub mod LinkRule
-pub mod TicketRule
+pub mod LinkProtocol
+pub mod TicketProtocol
 pub mod TicketSeats

@@ -4,7 +4,7 @@ use Rattle.std.specs.List.{flat_map}
 use Rattle.atomic_table.specs.Seated.{TableId}
 use Rattle.ruled_lanes.specs.declared.dealing.Tickets.{Tickets}
 use Rattle.ruled_lanes.specs.declared.dealing.Seat.{Seat}
-use Rattle.ruled_lanes.specs.declared.ticket_rule.Draws.{Draws}
+use Rattle.ruled_lanes.specs.declared.ticket_protocol.Draws.{Draws}
 
 -- the numbers below it are dealt
 abbrev pub limit_of : Tickets → ℕ

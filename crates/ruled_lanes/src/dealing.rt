@@ -4,7 +4,7 @@ ghost use Rattle.ruled_lanes.specs.declared.limits.TheConstants.{LANES, MAX_TICK
 
 use crate::errors::Memory;
 use crate::limits::{LANES, MAX_TICKETS};
-use crate::ticket_rule::{Dealt, Draw, Draws, Parts};
+use crate::ticket_protocol::{Dealt, Draw, Draws, Parts};
 use atomic_table::{Seat as Pass, Table};
 use std::alloc::Global;
 
@@ -48,7 +48,7 @@ impl Seat {
 
 impl Tickets {
     ghost use Rattle.std.specs.Prelude.{◌∷◌, ◌++◌, ◌+◌, ◌<◌, All, true, false, min, length, count_by, vec_len, Option, None, IfOk, IfSome, IfNone};
-    ghost use Rattle.ruled_lanes.specs.TicketRule.{draws, HasOnceBelow};
+    ghost use Rattle.ruled_lanes.specs.TicketProtocol.{draws, HasOnceBelow};
     ghost use Rattle.ruled_lanes.specs.TicketSeats.{limit_of, lanes_of, drawn, has_ended, all_drawn, state_of, SitsAt, IsSeatOf, IsUnused, IsPool};
 
     // Divides a pass that stands for all seats into one for each.

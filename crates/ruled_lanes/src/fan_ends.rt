@@ -3,11 +3,11 @@ ghost use Rattle.std.specs.Prelude.{◌≡◌, ◌<◌};
 ghost use Rattle.crossbeam_channel.specs.Claims.{view, IsSeatAt};
 ghost use Rattle.crossbeam_channel.specs.Ends.{sends_on, receives_on};
 ghost use Rattle.ruled_lanes.specs.declared.limits.TheConstants.{LANES};
-ghost use Rattle.ruled_lanes.specs.FanRule.{gatherer, giver, given_in};
+ghost use Rattle.ruled_lanes.specs.FanProtocol.{gatherer, giver, given_in};
 
 use crate::backoff::{TRIES, back_off};
 use crate::errors::Closed;
-use crate::fan_rule::{EachLane, Fanned, Gives, NewLane, Reach, Takes};
+use crate::fan_protocol::{EachLane, Fanned, Gives, NewLane, Reach, Takes};
 use crossbeam_channel::{Pass, RuledReceiver, RuledSender, TryRecvError, TrySendError};
 use std::sync::Wait;
 
@@ -116,7 +116,7 @@ impl<T: Drop> LaneGiver<T> {
 
 impl<T: Drop> Gatherer<T> {
     ghost use Rattle.std.specs.Prelude.{◌≤◌, ◌∷◌, ◌++◌, [], ℕ, List, true, IfOk, IfSome, IfNone, OnErr, vec_len};
-    ghost use Rattle.ruled_lanes.specs.FanRule.{Accounts};
+    ghost use Rattle.ruled_lanes.specs.FanProtocol.{Accounts};
     ghost use Rattle.ruled_lanes.specs.FanEnds.{gathered, AreGiversOf, TakesFromSameFan, SettlesFan};
 
     // The end of a channel that receives, with the pass that may.

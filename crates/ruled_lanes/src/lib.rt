@@ -8,13 +8,13 @@ mod backoff;
 mod dealing;
 mod errors;
 mod fan_ends;
-mod fan_rule;
+mod fan_protocol;
 mod limits;
 mod link_ends;
-mod link_rule;
+mod link_protocol;
 mod new_fan;
 mod new_link;
-mod ticket_rule;
+mod ticket_protocol;
 
 pub use dealing::{Seat, Tickets};
 pub use errors::{Closed, Memory};

@@ -2,11 +2,11 @@
 ghost use Rattle.std.specs.Prelude.{◌≡◌, true, false, []};
 ghost use Rattle.crossbeam_channel.specs.Claims.{view, IsSeatAt};
 ghost use Rattle.crossbeam_channel.specs.Ends.{sends_on, receives_on};
-ghost use Rattle.ruled_lanes.specs.LinkRule.{log};
+ghost use Rattle.ruled_lanes.specs.LinkProtocol.{log};
 
 use crate::backoff::{TRIES, back_off};
 use crate::errors::Closed;
-use crate::link_rule::{Gives, Linked, Log, Roles, Takes, Total};
+use crate::link_protocol::{Gives, Linked, Log, Roles, Takes, Total};
 use crossbeam_channel::{Pass, RuledReceiver, RuledSender, TryRecvError, TrySendError};
 use std::sync::Wait;
 

@@ -4,7 +4,7 @@ ghost use Rattle.ruled_lanes.specs.FanEnds.{given_at, gathered, room_of_fan, Are
 
 use crate::errors::Memory;
 use crate::fan_ends::{Gatherer, LaneGiver};
-use crate::fan_rule::{Fanned, NewLane, Reach};
+use crate::fan_protocol::{Fanned, NewLane, Reach};
 use crate::limits::{LANES, MAX_CAPACITY};
 use crossbeam_channel::bounded_with;
 use std::alloc::Global;

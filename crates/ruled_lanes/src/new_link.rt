@@ -5,7 +5,7 @@ ghost use Rattle.ruled_lanes.specs.LinkEnds.{given, taken, room_of, AreEnds};
 use crate::errors::Memory;
 use crate::limits::MAX_CAPACITY;
 use crate::link_ends::{Giver, Taker};
-use crate::link_rule::{Linked, Log, Roles};
+use crate::link_protocol::{Linked, Log, Roles};
 use crossbeam_channel::bounded_with;
 use std::alloc::Global;
 

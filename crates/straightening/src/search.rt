@@ -15,7 +15,7 @@ const NO_DART: u16 = 65_535;
 
 /// A way that is asked for: from the face of one dart to the face of another.
 #[derive(Clone, Copy)]
-pub(crate) struct Way {
+pub(crate) struct PathEnds {
     pub(crate) from: u16,
     pub(crate) to: u16,
 }
@@ -61,7 +61,13 @@ impl FaceSearch {
     }
 
     /// Looks for a way, and answers whether there is one. For each way another dart is its end.
-    pub(crate) fn finds(&mut self, plane: &Plane, prices: &Prices, flow: &Flow, way: Way) -> bool
+    pub(crate) fn finds(
+        &mut self,
+        plane: &Plane,
+        prices: &Prices,
+        flow: &Flow,
+        way: PathEnds,
+    ) -> bool
         requires prices { HasPrices plane.now prices.now }
         requires from { way.from < darts plane.now }
         requires to { way.to < darts plane.now }
@@ -80,7 +86,7 @@ impl FaceSearch {
     }
 
     /// Begins at the first face of a way.
-    fn begin(&mut self, plane: &Plane, way: Way)
+    fn begin(&mut self, plane: &Plane, way: PathEnds)
         requires { way.from < darts plane.now }
     {
         // Only the proof needs this: `graph` says that there are few faces.
@@ -174,7 +180,7 @@ impl FaceSearch {
     }
 
     /// Sends a unit along the way that was found last.
-    pub(crate) fn send(&self, plane: &Plane, prices: &Prices, flow: &mut Flow, way: Way)
+    pub(crate) fn send(&self, plane: &Plane, prices: &Prices, flow: &mut Flow, way: PathEnds)
         requires prices { HasPrices plane.now prices.now }
         requires to { way.to < darts plane.now }
         requires fit { AreFit plane.now flow.old.angles flow.old.lefts prices.now }

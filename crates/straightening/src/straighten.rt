@@ -9,7 +9,7 @@ ghost use Rattle.straightening.specs.Flows.{AreFit};
 ghost use Rattle.straightening.specs.Reflex.{reflex_angles};
 
 use crate::flow::{Flow, clockwise, is_free_corner};
-use crate::search::{FaceSearch, Way};
+use crate::search::{FaceSearch, PathEnds};
 use crate::tally::is_rep;
 use faces::Plane;
 use ortho_rep::{Prices, Shape};
@@ -147,7 +147,7 @@ fn straighten_one(
 {
     let narrow = clockwise(plane, wide);
     if plane.face_of(wide) != plane.face_of(narrow) {
-        let back = Way {
+        let back = PathEnds {
             from: narrow,
             to: wide,
         };

@@ -18,11 +18,11 @@ pub(crate) fn is_rep(plane: &Plane, flow: &Flow) -> bool
 {
     // Only the proof needs this: `graph` says where darts end.
     let _graph = plane.graph();
-    closes_vertices(plane, flow) && turns_faces(plane, flow)
+    angles_sum_to_four(plane, flow) && turns_faces(plane, flow)
 }
 
 /// Whether all angles are 1 to 4, and those round each vertex sum to 4.
-fn closes_vertices(plane: &Plane, flow: &Flow) -> bool
+fn angles_sum_to_four(plane: &Plane, flow: &Flow) -> bool
     ensures angles { IsTrue result → (d : ℕ) → d < darts plane.now
         → (1 ≤ angle_in flow.now.angles d) × (angle_in flow.now.angles d ≤ 4) }
     ensures around { IsTrue result → (v : ℕ) → 1 ≤ v → v ≤ vertices plane.now

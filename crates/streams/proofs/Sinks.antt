@@ -4,7 +4,7 @@ use Rattle.std.proofs.lemmas.List.{drop-take, take-append-drop, take-take}
 use Rattle.std.specs.Io.KnownBytes.{Appends, Keeps}
 use Rattle.streams.specs.declared.faults.WriteFault.{WriteFault}
 use Rattle.streams.specs.declared.faults.WriteFault.TheVariants.{Write, Memory}
-use Rattle.streams.specs.Sink.{Writes, AppendsFront, IsOnItsWay, StaysOnItsWay}
+use Rattle.streams.specs.Sink.{Writes, AppendsFront, IsInTransit, StaysInTransit}
 
 -- nothing added is an addition
 pub added_none : (a : Option (List ℕ)) → Appends a a []
@@ -37,7 +37,7 @@ added_next a b c text at count p q =
     subst (Appends a c) joined (added_both a b c _ _ p q)
 
 -- a beginning of what waits was added: a beginning of the whole text was
-pub sent_front : (start now after : Option (List ℕ)) (waiting text more : List ℕ) → IsOnItsWay start now waiting text
+pub sent_front : (start now after : Option (List ℕ)) (waiting text more : List ℕ) → IsInTransit start now waiting text
     → AppendsFront now after waiting → AppendsFront start after (text ++ more)
 sent_front start now after waiting text more w f =
     let spelt : text ++ more ≡ (w.sent ++ f.0) ++ (f.1 ++ more) =
@@ -46,7 +46,7 @@ sent_front start now after waiting text more w f =
 
 -- all that waits was put
 pub flushed_stays : {A : Type 0} (old new : Option (List ℕ)) (waiting waits : List ℕ) (failed : Bool) (r : Result A WriteFault)
-    → Writes old new failed waiting r → OnOk r (waits ≡ []) → StaysOnItsWay old waiting new waits failed [] r
+    → Writes old new failed waiting r → OnOk r (waits ≡ []) → StaysInTransit old waiting new waits failed [] r
 flushed_stays old new waiting waits failed (Ok x) w e = (
   w.0,
   λ start text way. record {
@@ -60,9 +60,9 @@ flushed_stays old new waiting waits failed (Err Memory) w e = w
 
 -- there was no room for a line
 pub room_fails : (old new : Option (List ℕ)) (waited waits : List ℕ) (failed : Bool) (more : List ℕ) (e : WriteFault) (r : Result (Unit {0}) WriteFault)
-    → StaysOnItsWay {A = Unit {0}} old waited new waits failed [] (Err e) → r ≡ Err e → StaysOnItsWay old waited new waits failed more r
+    → StaysInTransit {A = Unit {0}} old waited new waits failed [] (Err e) → r ≡ Err e → StaysInTransit old waited new waits failed more r
 room_fails old new waited waits failed more Write r stays is =
-    subst (StaysOnItsWay {A = Unit {0}} old waited new waits failed more) (sym is) (
+    subst (StaysInTransit {A = Unit {0}} old waited new waits failed more) (sym is) (
       stays.0,
       λ start text way. let f = stays.1 start text way in
           (f.0, f.1 ++ more, ap (λ l. l ++ more) (sym (append-nil text) ∙ f.2) ∙ append_assoc f.0 f.1 more, f.3),
@@ -71,7 +71,7 @@ room_fails old new waited waits failed more Memory r stays is = absurd stays
 
 -- there was room for a line, which was added to what waits
 pub line_waits : (old new : Option (List ℕ)) (waited mid waits : List ℕ) (failed : Bool) (more : List ℕ) (a b : Unit {0})
-    → StaysOnItsWay old waited new mid failed [] (Ok a) → waits ≡ mid ++ more → StaysOnItsWay old waited new waits failed more (Ok b)
+    → StaysInTransit old waited new mid failed [] (Ok a) → waits ≡ mid ++ more → StaysInTransit old waited new waits failed more (Ok b)
 line_waits old new waited mid waits failed more a b stays e = (
   stays.0,
   λ start text way. let w = stays.1 start text way in record {
@@ -83,7 +83,7 @@ line_waits old new waited mid waits failed more a b stays e = (
 
 -- a line was not added whole: what was added is a beginning of any text that goes on from that line
 pub line_fails : (start old new : Option (List ℕ)) (waited waits : List ℕ) (failed : Bool) (text more rest whole : List ℕ) (e : WriteFault) (r : Result (Unit {0}) WriteFault)
-    → IsOnItsWay start old waited text → StaysOnItsWay {A = Unit {0}} old waited new waits failed more (Err e) → whole ≡ (text ++ more) ++ rest → r ≡ Err e
+    → IsInTransit start old waited text → StaysInTransit {A = Unit {0}} old waited new waits failed more (Err e) → whole ≡ (text ++ more) ++ rest → r ≡ Err e
     → Writes start new failed whole r
 line_fails start old new waited waits failed text more rest whole Write r way stays split is =
     subst (Writes {A = Unit {0}} start new failed whole) (sym is)
@@ -92,7 +92,7 @@ line_fails start old new waited waits failed text more rest whole Memory r way s
 
 -- what waited was put, and with it the whole text
 pub flushed_whole : (start old new : Option (List ℕ)) (waiting : List ℕ) (failed : Bool) (text : List ℕ) (r : Result (Unit {0}) WriteFault)
-    → IsOnItsWay start old waiting text → Writes old new failed waiting r → Writes start new failed text r
+    → IsInTransit start old waiting text → Writes old new failed waiting r → Writes start new failed text r
 flushed_whole start old new waiting failed text (Ok x) way w =
     (w.0, subst (Appends start new) (sym way.split) (added_both start old new way.sent waiting way.added w.1))
 flushed_whole start old new waiting failed text (Err Write) way w =

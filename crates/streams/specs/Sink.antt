@@ -16,15 +16,15 @@ Writes old new failed text (Err Write) = (failed ≡ true) × AppendsFront old n
 Writes old new failed text (Err Memory) = ⊥
 
 -- From `start` on, a beginning of the text was added to the sink, and the rest of it waits.
-pub record IsOnItsWay (start now : Option (List ℕ)) (waiting text : List ℕ) : Type 0 where
+pub record IsInTransit (start now : Option (List ℕ)) (waiting text : List ℕ) : Type 0 where
   pub sent : List ℕ
   pub split : text ≡ sent ++ waiting
   pub added : Appends start now sent
 
 -- Whatever text was on its way, it is on its way with `more` at its end. `Write`: a beginning of it was added, and the sink has failed.
-abbrev pub StaysOnItsWay : {A : Type 0} → Option (List ℕ) → List ℕ → Option (List ℕ) → List ℕ → Bool → List ℕ → Result A WriteFault → Type 0
-StaysOnItsWay old waited new waits failed more (Ok _) =
-    (failed ≡ false) × ((start : Option (List ℕ)) (text : List ℕ) → IsOnItsWay start old waited text → IsOnItsWay start new waits (text ++ more))
-StaysOnItsWay old waited new waits failed more (Err Write) =
-    (failed ≡ true) × ((start : Option (List ℕ)) (text : List ℕ) → IsOnItsWay start old waited text → AppendsFront start new (text ++ more))
-StaysOnItsWay old waited new waits failed more (Err Memory) = ⊥
+abbrev pub StaysInTransit : {A : Type 0} → Option (List ℕ) → List ℕ → Option (List ℕ) → List ℕ → Bool → List ℕ → Result A WriteFault → Type 0
+StaysInTransit old waited new waits failed more (Ok _) =
+    (failed ≡ false) × ((start : Option (List ℕ)) (text : List ℕ) → IsInTransit start old waited text → IsInTransit start new waits (text ++ more))
+StaysInTransit old waited new waits failed more (Err Write) =
+    (failed ≡ true) × ((start : Option (List ℕ)) (text : List ℕ) → IsInTransit start old waited text → AppendsFront start new (text ++ more))
+StaysInTransit old waited new waits failed more (Err Memory) = ⊥

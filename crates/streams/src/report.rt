@@ -1,6 +1,6 @@
 //! The text of what was found.
 ghost use Rattle.std.specs.Prelude.{◌≡◌, ◌+◌, ◌<◌, ◌≤◌, ◌^◌, false, length, ◌++◌};
-ghost use Rattle.streams.specs.Sink.{Writes, StaysOnItsWay};
+ghost use Rattle.streams.specs.Sink.{Writes, StaysInTransit};
 ghost use Rattle.streams.specs.Text.{frames_text, record_line, frames_end_line, word_of};
 ghost use Rattle.streams.specs.declared.text_buffer.TheConstants.{LINE, ROOM};
 
@@ -37,7 +37,7 @@ fn write_record<S: Sink>(
     rec: &Record,
 ) -> Result<(), WriteFault>
     requires { S.failed sink.old ≡ false }
-    ensures { StaysOnItsWay (S.taken sink.old) lines.old (S.taken sink.new) lines.new
+    ensures { StaysInTransit (S.taken sink.old) lines.old (S.taken sink.new) lines.new
         (S.failed sink.new) (record_line number rec.now) result }
 {
     lines.make_room(sink)?;
@@ -67,7 +67,7 @@ fn write_end<S: Sink>(
     count: u64,
 ) -> Result<(), WriteFault>
     requires { S.failed sink.old ≡ false }
-    ensures { StaysOnItsWay (S.taken sink.old) lines.old (S.taken sink.new) lines.new
+    ensures { StaysInTransit (S.taken sink.old) lines.old (S.taken sink.new) lines.new
         (S.failed sink.new) (frames_end_line mark count) result }
 {
     lines.make_room(sink)?;

@@ -1,6 +1,6 @@
 //! A buffer of fixed size before a sink, so that many short lines make few writes.
 ghost use Rattle.std.specs.Prelude.{◌≡◌, ◌+◌, ◌^◌, ◌<◌, ◌≤◌, ℕ, List, [], ◌++◌, Option, false, length, take, decimal, OnOk};
-ghost use Rattle.streams.specs.Sink.{Writes, StaysOnItsWay};
+ghost use Rattle.streams.specs.Sink.{Writes, StaysInTransit};
 ghost use Rattle.streams.specs.declared.text_buffer.TheConstants.{LINE, ROOM};
 
 use super::faults::WriteFault;
@@ -67,7 +67,7 @@ impl TextBuffer {
     /// `Write` exactly where the sink has then failed; a beginning of what waited was then added. There is no other.
     pub fn make_room<S: Sink>(&mut self, sink: &mut S) -> Result<(), WriteFault>
         requires { S.failed sink.old ≡ false }
-        ensures writes { StaysOnItsWay (S.taken sink.old) self.old (S.taken sink.new) self.new
+        ensures writes { StaysInTransit (S.taken sink.old) self.old (S.taken sink.new) self.new
             (S.failed sink.new) [] result }
         ensures room { OnOk result (length self.new + LINE ≤ ROOM) }
     {

@@ -1,7 +1,7 @@
 use Rattle.std.proofs.Common.{◌+◌, sym, subst, arith}
 use Rattle.compact.specs.declared.constraint_graph.Relaxation.{Relaxation}
 use Rattle.compact.specs.declared.constraint_graph.Relaxation.TheVariants.{Kept, Raised, Wide}
-use Rattle.compact.proofs.Relaxing.{IsUnderWay, goes_on, ends_up, no_constraint}
+use Rattle.compact.proofs.Relaxing.{IsRelaxedUpTo, goes_on, ends_up, no_constraint}
 use Rattle.compact.proofs.constraint_graph.relax_all.Goals as goal
 use Rattle.compact.proofs.constraint_graph.relax_all.Goals.{in-Kept, in-Raised}
 
@@ -16,9 +16,9 @@ returns-in-Wide-clause-low c =
 pub loop-constraint-preserved : goal.loop-constraint-preserved
 loop-constraint-preserved c =
     elim c.match-relax.branch [
-      | in-Kept w ↦ subst (λ (found : Relaxation). IsUnderWay c.args.constraints.now (c.loop-constraint.constraint-index + 1) c.args.numbers.now c.relax.new.numbers found) (sym w.found-is)
+      | in-Kept w ↦ subst (λ (found : Relaxation). IsRelaxedUpTo c.args.constraints.now (c.loop-constraint.constraint-index + 1) c.args.numbers.now c.relax.new.numbers found) (sym w.found-is)
           (goes_on c.args.constraints.now c.loop-constraint.constraint-index no_constraint c.args.numbers.now c.loop-constraint.numbers c.relax.new.numbers c.loop-constraint.found Kept c.loop-constraint-test.true c.requires.inside c.loop-constraint.invariant w.in-Kept.ensures.relaxed w.in-Kept.ensures.length)
-      | in-Raised w ↦ subst (λ (found : Relaxation). IsUnderWay c.args.constraints.now (c.loop-constraint.constraint-index + 1) c.args.numbers.now c.relax.new.numbers found) (sym w.found-is)
+      | in-Raised w ↦ subst (λ (found : Relaxation). IsRelaxedUpTo c.args.constraints.now (c.loop-constraint.constraint-index + 1) c.args.numbers.now c.relax.new.numbers found) (sym w.found-is)
           (goes_on c.args.constraints.now c.loop-constraint.constraint-index no_constraint c.args.numbers.now c.loop-constraint.numbers c.relax.new.numbers c.loop-constraint.found Raised c.loop-constraint-test.true c.requires.inside c.loop-constraint.invariant w.in-Raised.ensures.relaxed w.in-Raised.ensures.length)
     ]
 

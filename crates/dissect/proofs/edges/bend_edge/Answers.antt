@@ -2,7 +2,7 @@ use Rattle.std.proofs.Common.{◌≡◌, ◌+◌, ◌%◌, ◌<◌, ◌∙◌, �
 use Rattle.std.proofs.lemmas.List.{get_or_read, drop_all}
 use Rattle.ortho_rep.specs.declared.turn.Turn.{Turn}
 use Rattle.dissect.specs.Tables.{dart_map_of}
-use Rattle.dissect.specs.Steps.{IsBent, straight, start_way}
+use Rattle.dissect.specs.Steps.{IsBent, straight, start_direction}
 use Rattle.dissect.proofs.Normalizing.{turn_on}
 use Rattle.dissect.proofs.edges.bend_edge.Goals as goal
 
@@ -13,7 +13,7 @@ turns-preserved c =
     let reverse_dart_is = get_or_read t.reverse_dart.items c.args.e c.index-reverse_dart.result.now (omega (arith, before.inside)) c.index-reverse_dart.ensures 0 in
     let reverse_dart_in : c.index-reverse_dart.result.now < t.darts = omega (arith, reverse_dart_is, before.linked.reverse_dart_in c.args.e before.inside) in
     let direction_is = get_or_read t.direction.items c.index-reverse_dart.result.now c.index.result.now (omega (arith, reverse_dart_in)) c.index.ensures 0 in
-    let way_is : (c.index.result.now + 2) % 4 ≡ start_way (dart_map_of t) c.args.e =
+    let way_is : (c.index.result.now + 2) % 4 ≡ start_direction (dart_map_of t) c.args.e =
     ap (λ (k : ℕ). (k + 2) % 4) (direction_is ∙ ap (dart_map_of t).direction reverse_dart_is) in
     let step = turn_on (dart_map_of t) c.args.e _ c.angle_of.result c.args.turns.now c.turns.turn-index _ (dart_map_of c.split.new.self)
     before.linked before.meeting before.inside c.turns-test.true way_is c.angle_of.ensures c.split.ensures.split in

@@ -6,7 +6,7 @@ use Rattle.dissect.specs.DartMaps.{no_dart}
 use Rattle.dissect.specs.Tables.{dart_map_of}
 use Rattle.dissect.specs.Paths.{IsPath}
 use Rattle.dissect.proofs.Reading.{length-put_mid}
-use Rattle.dissect.proofs.DartsInFront.{IsOnWay, depth, path_last_in, way_starts, way_on, way_ends}
+use Rattle.dissect.proofs.DartsInFront.{IsReadBack, depth, path_last_in, way_starts, way_on, way_ends}
 use Rattle.dissect.proofs.parts.push_path.Goals as goal
 
 -- a list whose end was written over
@@ -35,12 +35,12 @@ back-init c =
       inside = path_last_in w c.args.last first rest path;
       long = omega (arith, ap length all, length-append old (c.args.last ∷ []), long);
       before = ap (take a) all ∙ take_at old (c.args.last ∷ []) a long;
-      way = λ first rest path. subst (IsOnWay w (first ∷ rest) c.args.last) (sym one) (way_starts w c.args.last first rest path);
+      way = λ first rest path. subst (IsReadBack w (first ∷ rest) c.args.last) (sym one) (way_starts w c.args.last first rest path);
     }
 
 -- one dart further back
 step_of : (c : goal.In_ok-push-2) → (first : ℕ) (rest : List ℕ) → IsPath (dart_map_of c.args.table.now) c.args.last first rest →
-    IsOnWay (dart_map_of c.args.table.now) (first ∷ rest) c.index-dart.result.now
+    IsReadBack (dart_map_of c.args.table.now) (first ∷ rest) c.index-dart.result.now
     (drop c.len-start.result c.back.darts.items ++ (c.index-dart.result.now ∷ []))
     × (c.index-dart.result.now < c.args.table.now.darts)
     × (depth (dart_map_of c.args.table.now) c.args.table.now.darts c.index-dart.result.now < depth (dart_map_of c.args.table.now) c.args.table.now.darts c.back.dart)
@@ -72,7 +72,7 @@ back-preserved c =
       long = omega (arith, ap length all, length-append xs (d ∷ []), c.back.invariant.long);
       before = ap (take a) all ∙ take-append-le a xs (d ∷ []) c.back.invariant.long ∙ c.back.invariant.before;
       way = λ first rest path.
-          subst (IsOnWay (dart_map_of c.args.table.now) (first ∷ rest) d) (sym more) (step_of c first rest path).0;
+          subst (IsReadBack (dart_map_of c.args.table.now) (first ∷ rest) d) (sym more) (step_of c first rest path).0;
     }
 
 pub returns : goal.returns

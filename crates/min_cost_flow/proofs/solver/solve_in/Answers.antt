@@ -12,14 +12,14 @@ use Rattle.min_cost_flow.proofs.solver.solve_in.Goals as goal
 pub read_flow-requires : goal.read_flow-requires
 read_flow-requires c =
     let net = c.args.network.now in
-    let r = (c.solve.ensures.answer.balanced c.if-not-solve.false).ready in
+    let r = (c.solve.ensures.answer.all_sent c.if-not-solve.false).ready in
     rw (c.deref.ensures.value, c.deref_mut.ensures.value) (can_read net c.solve.new.self r)
 
 pub returns : goal.returns
 returns c =
     let net = c.args.network.now in
     let yes = c.if-not-solve.false in
-    let r = (c.solve.ensures.answer.balanced yes).ready in
+    let r = (c.solve.ensures.answer.all_sent yes).ready in
     let l = c.solve.new.self in
     let solved : SolvedModel = c.new-3.result in
     let flow_is : solved.flow ≡ c.read_flow.new.flow = ap (λ (a : SolvedModel). a.flow) c.new-3.ensures ∙ ap (λ (v : Vec ℕ Global). v.items) c.replace-flow.ensures.value ∙ with_items_is l.residual.forward c.read_flow.new.flow (omega arith) in

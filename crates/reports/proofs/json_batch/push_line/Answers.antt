@@ -3,7 +3,7 @@ use Rattle.std.proofs.lemmas.List.{take-append-drop}
 use Rattle.std.proofs.Math.Seq.{take-add}
 use Rattle.std.proofs.lemmas.Result.{err_from_is_err_and}
 use Rattle.streams.specs.declared.faults.WriteFault.{WriteFault}
-use Rattle.streams.specs.Sink.{StaysOnItsWay}
+use Rattle.streams.specs.Sink.{StaysInTransit}
 use Rattle.streams.proofs.Sinks.{line_waits}
 use Rattle.reports.proofs.TextParts.{stays_both, stays_fails}
 use Rattle.reports.proofs.json_batch.push_line.Goals as goal
@@ -18,9 +18,9 @@ returns-in_err-make_room g c =
     let old = g.S.Sink.taken c.args.sink.now in
     let new = g.S.Sink.taken c.make_room.new.sink in
     let failed = g.S.Sink.failed c.make_room.new.sink in
-    let both : StaysOnItsWay {A = Unit {0}} old c.args.lines.now new c.make_room.new.self failed (take at line) (Err e) =
+    let both : StaysInTransit {A = Unit {0}} old c.args.lines.now new c.make_room.new.self failed (take at line) (Err e) =
     stays_both old (g.S.Sink.taken c.loop-at.sink) new c.args.lines.now c.loop-at.lines c.make_room.new.self (g.S.Sink.failed c.loop-at.sink) failed
-    (take at line) [] (take at line) tt (Err e) c.loop-at.invariant.on_its_way c.in_err-make_room.ensures.writes (append-nil (take at line)) in
+    (take at line) [] (take at line) tt (Err e) c.loop-at.invariant.in_transit c.in_err-make_room.ensures.writes (append-nil (take at line)) in
     stays_fails old new c.args.lines.now c.make_room.new.self failed (take at line) (drop at line) line e c.from_residual.result both
     (sym (take-append-drop at line)) is
 
@@ -34,11 +34,11 @@ loop-at-preserved g c =
     let piece = take (end - at) (drop at line) in
     let whole : at + (end - at) ≡ end = omega (arith, before) in
     let joined : take at line ++ piece ≡ take end line = sym (take-add at (end - at) line) ∙ ap (λ n. take n line) whole in
-    let waits : StaysOnItsWay {A = Unit {0}} (g.S.Sink.taken c.loop-at.sink) c.loop-at.lines (g.S.Sink.taken c.make_room.new.sink) c.push.new.self (g.S.Sink.failed c.make_room.new.sink) piece (Ok tt) =
+    let waits : StaysInTransit {A = Unit {0}} (g.S.Sink.taken c.loop-at.sink) c.loop-at.lines (g.S.Sink.taken c.make_room.new.sink) c.push.new.self (g.S.Sink.failed c.make_room.new.sink) piece (Ok tt) =
     line_waits _ _ _ c.make_room.new.self _ _ _ tt tt c.in_ok-make_room.ensures.writes c.push.ensures in
     record {
       within = within;
-      on_its_way = stays_both (g.S.Sink.taken c.args.sink.now) (g.S.Sink.taken c.loop-at.sink) (g.S.Sink.taken c.make_room.new.sink)
+      in_transit = stays_both (g.S.Sink.taken c.args.sink.now) (g.S.Sink.taken c.loop-at.sink) (g.S.Sink.taken c.make_room.new.sink)
           c.args.lines.now c.loop-at.lines c.push.new.self (g.S.Sink.failed c.loop-at.sink) (g.S.Sink.failed c.make_room.new.sink)
-          (take at line) piece (take end line) tt (Ok tt) c.loop-at.invariant.on_its_way waits joined;
+          (take at line) piece (take end line) tt (Ok tt) c.loop-at.invariant.in_transit waits joined;
     }

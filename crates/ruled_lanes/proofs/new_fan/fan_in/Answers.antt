@@ -3,7 +3,7 @@ use Rattle.std.proofs.lemmas.List.Elements.{All-push}
 use Rattle.crossbeam_channel.specs.Claims.{view}
 use Rattle.crossbeam_channel.specs.Ends.{sends_on}
 use Rattle.ruled_lanes.specs.declared.fan_ends.LaneGiver.{LaneGiver}
-use Rattle.ruled_lanes.specs.FanRule.{reach, given_in}
+use Rattle.ruled_lanes.specs.FanProtocol.{reach, given_in}
 use Rattle.ruled_lanes.specs.FanEnds.{lane_of, given_at, StandInOrder}
 use Rattle.ruled_lanes.proofs.Fans.{begins, forks}
 use Rattle.ruled_lanes.proofs.new_fan.fan_in.Goals as goal

@@ -3,7 +3,7 @@ use Rattle.std.specs.Prelude.{vec_capacity}
 use Rattle.crossbeam_channel.specs.Claims.{view, IsSeatAt}
 use Rattle.crossbeam_channel.specs.Ends.{sends_on}
 use Rattle.ruled_lanes.specs.declared.limits.TheConstants.{LANES}
-use Rattle.ruled_lanes.specs.FanRule.{gatherer}
+use Rattle.ruled_lanes.specs.FanProtocol.{gatherer}
 use Rattle.ruled_lanes.specs.FanEnds.{given_at, StandInOrder}
 use Rattle.ruled_lanes.proofs.new_fan.fan_in.Given as goal
 

@@ -4,7 +4,7 @@ use Rattle.min_cost_flow.proofs.standing.Standing.shift.Goals as goal
 
 pub resume-requires : goal.resume-requires
 resume-requires c = record {
-  balanced = c.self.invariant;
+  all_sent = c.self.invariant;
   from = rw c.self.view_is c.requires.from;
   to = rw c.self.view_is c.requires.to;
   few = c.requires.few;
@@ -12,7 +12,7 @@ resume-requires c = record {
 }
 
 pub invariant_of-result : goal.invariant_of-result
-invariant_of-result c = c.resume.ensures.answer.balanced c.if-not-resume.false
+invariant_of-result c = c.resume.ensures.answer.all_sent c.if-not-resume.false
 
 pub returns : goal.returns
 returns c = record {

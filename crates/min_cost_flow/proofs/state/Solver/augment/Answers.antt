@@ -11,12 +11,12 @@ use Rattle.min_cost_flow.specs.declared.state.Nodes.{Nodes}
 use Rattle.min_cost_flow.proofs.Augmenting.{place_read, enter_read}
 use Rattle.min_cost_flow.specs.declared.state.Solver.{Solver}
 use Rattle.min_cost_flow.specs.Excess.{Carries}
-use Rattle.min_cost_flow.specs.Path.{IsOnWay, previous_of}
+use Rattle.min_cost_flow.specs.Path.{IsOnPath, previous_of}
 use Rattle.min_cost_flow.specs.Round.{IsRound, carrying}
 use Rattle.min_cost_flow.specs.Stand.{excess_at, potential_at, flow_in, last_node, CanAugment, IsBottleneck, enters_in, places_in}
 use Rattle.min_cost_flow.proofs.Changes.{taken_carries}
 use Rattle.min_cost_flow.proofs.Rounds.{IsSent, sent_round}
-use Rattle.min_cost_flow.proofs.Augmenting.{IsPushed, IsSending, is_paired, was_pushed, pushed_network, same_flow, same_filled, own_step, own_last, own_end, last_pair, step_pair, way_first, way_more, still_fits, sending_first, sending_more, filled_caps, few_remaining, sent_all, sent_less}
+use Rattle.min_cost_flow.proofs.Augmenting.{IsPushed, IsSending, is_paired, was_pushed, pushed_network, same_flow, same_filled, own_step, own_last, own_end, last_pair, step_pair, path_first, path_more, still_fits, sending_first, sending_more, filled_caps, few_remaining, sent_all, sent_less}
 use Rattle.min_cost_flow.proofs.state.Solver.augment.Goals as goal
 
 -- where the path ends
@@ -110,7 +110,7 @@ along-init c =
       searches = refl;
       looks = refl;
       on = λ net h. ap h.path.on at ∙ (own_last net s c.args.root h).member;
-      way = subst (λ (t : ℕ). IsOnWay next place from t) (sym at) (way_first next place from);
+      on_path = subst (λ (t : ℕ). IsOnPath next place from t) (sym at) (path_first next place from);
       sending = λ net h.
           let r = h.ready in
           let tb : to < length es = omega (arith, r.excesses, own_end net s c.args.root h) in
@@ -161,7 +161,7 @@ push-requires-in-along c =
     let e = at_nodes (raised s.nodes.excess.items to k) in
     let most = carrying net (flow_in s) + place from + 1 in
     let sd = subst (λ (y : ℕ → ℕ). IsSending net (potential_at s) e h.path.on place (flow_in s) y v k most) (same_flow s.residual t.residual i.reverse i.forward) (i.sending net h) in
-    let fits : k ≤ capacity_at t.residual.capacities.items (enter v) = still_fits net reverse forward (capacity_at capacities) (capacity_at t.residual.capacities.items) arcs t.residual.arcs.items (potential_at s) e h.path.on place (previous_of arcs capacities (enters_in s) v) (enter v) v k most r.residual.filled (same_filled net s.residual t.residual i.reverse i.forward (i.residual net h)) st.link st.member (i.on net h) st.before sd (c.bottleneck-amount.ensures.fitting.fits v i.way some) in
+    let fits : k ≤ capacity_at t.residual.capacities.items (enter v) = still_fits net reverse forward (capacity_at capacities) (capacity_at t.residual.capacities.items) arcs t.residual.arcs.items (potential_at s) e h.path.on place (previous_of arcs capacities (enters_in s) v) (enter v) v k most r.residual.filled (same_filled net s.residual t.residual i.reverse i.forward (i.residual net h)) st.link st.member (i.on net h) st.before sd (c.bottleneck-amount.ensures.fitting.fits v i.on_path some) in
     rw en (record {
       pair = is_paired net t.residual (previous_of arcs capacities (enters_in s) v) (enter v) r.network (i.residual net h) st.node (rw i.first st.leaves);
       some = c.bottleneck-amount.ensures.some;
@@ -266,7 +266,7 @@ along-preserved c =
       searches = i.searches;
       looks = i.looks;
       on = λ net' g. ap g.path.on at ∙ (own_step net' s c.args.root g v (i.on net' g) some).member;
-      way = subst (λ (u : ℕ). IsOnWay next place from u) (sym at) (way_more next place from v i.way some);
+      on_path = subst (λ (u : ℕ). IsOnPath next place from u) (sym at) (path_more next place from v i.on_path some);
       sending = λ net' g.
           let l = own_step net' s c.args.root g v (i.on net' g) some in
           let most' = carrying net' (flow_in s) + place from + 1 in

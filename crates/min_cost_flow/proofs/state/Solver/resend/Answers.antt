@@ -49,7 +49,7 @@ units-preserved c =
     }
 
 pub returns-then-not-augment_once : goal.returns-then-not-augment_once
-returns-then-not-augment_once c net h = record { balanced = λ e. cc; no_flow = λ _. c.augment_once.ensures.no_flow c.if-not-augment_once.true net ((c.units.invariant.ready net h)) }
+returns-then-not-augment_once c net h = record { all_sent = λ e. cc; no_flow = λ _. c.augment_once.ensures.no_flow c.if-not-augment_once.true net ((c.units.invariant.ready net h)) }
 
 pub returns : goal.returns
 returns c net h =
@@ -61,6 +61,6 @@ returns c net h =
     let at : c.index.result.now ≡ excess_at c.units.self c.args.root = get_or_read es c.args.root c.index.result.now (omega (arith, i.size, c.requires.root)) c.index.ensures (pos 0) in
     let all : (v : ℕ) → v < node_count net → excess_at c.units.self v ≤ℤ pos 0 = λ v b. over_none es (length es) c.args.root i.others (subst (λ (z : ℤ). z ≤ℤ pos 0) at (is_no_more _ _ f c.units-test.false)) v (omega (arith, r.excesses)) in
     record {
-      balanced = λ e. let over = rw d at (c.has_deficit.ensures.none (not_true _ e)) in record { ready = r; sent = λ v b. nothing_remaining _ (all v b) (over v (omega (arith, r.excesses))) };
+      all_sent = λ e. let over = rw d at (c.has_deficit.ensures.none (not_true _ e)) in record { ready = r; sent = λ v b. nothing_remaining _ (all v b) (over v (omega (arith, r.excesses))) };
       no_flow = λ e. let (u, b, under) = rw d at (c.has_deficit.ensures.some (not_false _ e)) in no_flow_wanting _ _ (excess_at c.units.self) u r.network.ends r.round.leaves all (omega (arith, r.excesses)) under;
     }

@@ -10,15 +10,15 @@ use Rattle.min_cost_flow.proofs.state.Solver.resume.Goals as goal
 
 pub carries_little-requires-clause-read : goal.carries_little-requires-clause-read
 carries_little-requires-clause-read c =
-    rw (c.deref.ensures.value, c.deref-2.ensures.value) (can_read c.args.network.now c.args.self.now c.requires.balanced.ready)
+    rw (c.deref.ensures.value, c.deref-2.ensures.value) (can_read c.args.network.now c.args.self.now c.requires.all_sent.ready)
 
 pub solve-requires : goal.solve-requires
 solve-requires c =
-    rw c.shift.ensures (sized_moved c.args.network.now c.args.self.now c.args.self.now c.args.from c.args.to c.args.amount c.requires.balanced.ready c.requires.fair refl refl refl refl)
+    rw c.shift.ensures (sized_moved c.args.network.now c.args.self.now c.args.self.now c.args.from c.args.to c.args.amount c.requires.all_sent.ready c.requires.fair refl refl refl refl)
 
 pub rebase-requires : goal.rebase-requires
 rebase-requires c =
-    let r = c.requires.balanced.ready in
+    let r = c.requires.all_sent.ready in
     let m = c.deref_mut.ensures.value in
     record {
       node = rw m (omega (arith, r.potentials, c.requires.to));
@@ -28,7 +28,7 @@ rebase-requires c =
 
 pub move_units-requires : goal.move_units-requires
 move_units-requires c =
-    let r = c.requires.balanced.ready in
+    let r = c.requires.all_sent.ready in
     let m = c.deref_mut-2.ensures.value in
     record {
       from = rw m (omega (arith, r.excesses, c.requires.from));
@@ -42,7 +42,7 @@ pub resend-requires : goal.resend-requires
 resend-requires c =
     let net = c.args.network.now in
     let l = c.args.self.now in
-    let st = c.requires.balanced in
+    let st = c.requires.all_sent in
     let r = st.ready in
     let p' = c.rebase.new.potential in
     let es = c.move_units.new.units in
@@ -73,7 +73,7 @@ pub returns : goal.returns
 returns c =
     let net = c.args.network.now in
     let l = c.args.self.now in
-    let st = c.requires.balanced in
+    let st = c.requires.all_sent in
     let r = st.ready in
     let p' = c.rebase.new.potential in
     let es = c.move_units.new.units in

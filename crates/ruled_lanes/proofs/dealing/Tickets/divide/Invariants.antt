@@ -1,6 +1,6 @@
 use Rattle.std.proofs.Common.{◌≡◌, ◌≤◌, ◌+◌, ◌-◌, [], length, All}
 use Rattle.std.specs.Prelude.{vec_capacity}
-use Rattle.ruled_lanes.specs.TicketRule.{draws}
+use Rattle.ruled_lanes.specs.TicketProtocol.{draws}
 use Rattle.ruled_lanes.specs.TicketSeats.{SitsAt, IsUnused}
 use Rattle.ruled_lanes.proofs.dealing.Tickets.divide.Given as goal
 

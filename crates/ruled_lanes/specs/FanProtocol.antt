@@ -3,7 +3,7 @@
 use Rattle.std.specs.Prelude.{◌≡◌, ◌==◌, ℕ, ◌<◌, ◌≤◌, Bool, true, false, List, [], ◌∷◌, ◌++◌, map, filter, All}
 use mathlib.Core.Option.{some}
 use lib.ListN.{get_elem?}
-use Rattle.ruled_lanes.specs.declared.fan_rule.Reach.{Reach}
+use Rattle.ruled_lanes.specs.declared.fan_protocol.Reach.{Reach}
 
 module _ {T : Type 0} where
   abbrev pub reach : Bool → ℕ → List (ℕ × T) → List (ℕ × List T) → Reach T

@@ -1,6 +1,6 @@
 use Rattle.std.proofs.Common.{rules}
 use Rattle.std.proofs.lemmas.Map.Keys.{ge_from_not_lt}
-use Rattle.geometry.proofs.map.highest_up_to.Goals as goal
+use Rattle.geometry.proofs.dictionary.highest_up_to.Goals as goal
 
 pub returns-clause-highest : goal.returns-clause-highest
 returns-clause-highest c = λ k low held.

@@ -1,7 +1,7 @@
 -- There is room for a whole record.
 use Rattle.std.proofs.Common.{◌≡◌, length, length-append, ap, arith}
 use Rattle.planar_code.proofs.Started.{length-record}
-use Rattle.planar_code.proofs.open_record.OpenRecord.close.Goals as goal
+use Rattle.planar_code.proofs.open_record.OpenRecord.complete.Goals as goal
 
 pub unwrap-requires : goal.unwrap-requires
 unwrap-requires c =

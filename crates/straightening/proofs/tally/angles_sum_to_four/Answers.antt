@@ -1,5 +1,5 @@
 use Rattle.std.proofs.Common.{◌≡◌, ◌+◌, ◌-◌, ℕ, List, length, get_or, ap, ◌∙◌, refl, sym, arith}
-use Rattle.straightening.proofs.tally.closes_vertices.Goals as goal
+use Rattle.straightening.proofs.tally.angles_sum_to_four.Goals as goal
 
 pub returns-clause-around : goal.returns-clause-around
 returns-clause-around c =

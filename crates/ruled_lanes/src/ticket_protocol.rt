@@ -16,7 +16,7 @@ pub struct Dealt;
 // The key is the limit and the number of seats.
 impl TableRule<(), Draws, (u64, u64)> for Dealt {
     ghost use Rattle.std.specs.Prelude.{[]};
-    ghost use Rattle.ruled_lanes.specs.TicketRule.{draws, IsDealt};
+    ghost use Rattle.ruled_lanes.specs.TicketProtocol.{draws, IsDealt};
 
     ghost holds = { λ key s. IsDealt key s.words s.views };
 
@@ -28,7 +28,7 @@ pub struct Parts;
 
 impl Split<Draws> for Parts {
     ghost use Rattle.std.specs.Prelude.{◌-◌, []};
-    ghost use Rattle.ruled_lanes.specs.TicketRule.{draws};
+    ghost use Rattle.ruled_lanes.specs.TicketProtocol.{draws};
 
     ghost left = { λ v. draws v.limit (v.parts - 1) v.ends v.drawn };
 
@@ -38,7 +38,7 @@ impl Split<Draws> for Parts {
 // A pass stands for another's seats too.
 impl Join<Draws> for Parts {
     ghost use Rattle.std.specs.Prelude.{◌+◌, ◌++◌, []};
-    ghost use Rattle.ruled_lanes.specs.TicketRule.{draws};
+    ghost use Rattle.ruled_lanes.specs.TicketProtocol.{draws};
 
     ghost both = { λ v w. draws v.limit (v.parts + w.parts) (v.ends + w.ends) (w.drawn ++ v.drawn) };
 
@@ -50,7 +50,7 @@ pub struct Draw;
 
 impl Play<(), Draws> for Draw {
     ghost use Rattle.std.specs.Prelude.{◌≡◌};
-    ghost use Rattle.ruled_lanes.specs.TicketRule.{DrawsNext};
+    ghost use Rattle.ruled_lanes.specs.TicketProtocol.{DrawsNext};
 
     ghost then = { λ s v n w. DrawsNext v.0 n w.0 × (w.1 ≡ v.1) };
 }

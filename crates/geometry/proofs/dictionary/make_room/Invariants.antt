@@ -1,11 +1,11 @@
 use Rattle.std.specs.Ordering.{nat_cmp}
 use Rattle.std.specs.BTreeMap.{get, btree_map_len}
-use Rattle.geometry.specs.Map.{IsSweepMap, Clears}
-use Rattle.geometry.proofs.map.make_room.Given as goal
+use Rattle.geometry.specs.Dictionary.{IsSweepDictionary, Clears}
+use Rattle.geometry.proofs.dictionary.make_room.Given as goal
 
 abbrev pub invariant-loop-bottom : goal.invariant-loop-bottom
 invariant-loop-bottom l =
-    IsSweepMap (get nat_cmp l.active) × Clears (get nat_cmp l.initial.active) (get nat_cmp l.active) l.new
+    IsSweepDictionary (get nat_cmp l.active) × Clears (get nat_cmp l.initial.active) (get nat_cmp l.active) l.new
 
 abbrev pub decreases-loop-bottom : goal.decreases-loop-bottom
 decreases-loop-bottom l = btree_map_len l.active

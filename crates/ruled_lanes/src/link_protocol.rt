@@ -1,6 +1,6 @@
 //! The rule of a link, over what it holds and what its two passes know.
 ghost use Rattle.std.specs.Prelude.{◌≡◌, [], ◌∷◌, ◌++◌, ⊤};
-ghost use Rattle.ruled_lanes.specs.LinkRule.{log};
+ghost use Rattle.ruled_lanes.specs.LinkProtocol.{log};
 
 use crossbeam_channel::protocol::{Join, Lesson, Outcome, Protocol, Split};
 use std::collections::LinkedList;
@@ -17,9 +17,9 @@ pub struct Linked;
 
 impl<T> Protocol<T, Log<T>> for Linked {
     ghost use Rattle.std.specs.Prelude.{true, []};
-    ghost use Rattle.ruled_lanes.specs.LinkRule.{log, Balanced};
+    ghost use Rattle.ruled_lanes.specs.LinkProtocol.{log, Lossless};
 
-    ghost holds = { Balanced };
+    ghost holds = { Lossless };
 
     ghost first = { log true true [] [] };
 }
@@ -29,7 +29,7 @@ pub struct Roles;
 
 impl<T> Split<Log<T>> for Roles {
     ghost use Rattle.std.specs.Prelude.{true, false, []};
-    ghost use Rattle.ruled_lanes.specs.LinkRule.{log};
+    ghost use Rattle.ruled_lanes.specs.LinkProtocol.{log};
 
     ghost left = { λ v. log true false v.given [] };
 
@@ -38,7 +38,7 @@ impl<T> Split<Log<T>> for Roles {
 
 impl<T> Join<Log<T>> for Roles {
     ghost use Rattle.std.specs.Prelude.{true, false, []};
-    ghost use Rattle.ruled_lanes.specs.LinkRule.{log};
+    ghost use Rattle.ruled_lanes.specs.LinkProtocol.{log};
 
     ghost both = { λ v w. log true true v.given w.taken };
 

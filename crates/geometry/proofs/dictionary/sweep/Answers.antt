@@ -3,7 +3,7 @@ use Rattle.std.specs.Ordering.{nat_cmp}
 use Rattle.std.specs.BTreeMap.{get}
 use Rattle.std.proofs.lemmas.Bool.{false≢true}
 use Rattle.geometry.proofs.Holdings.{none_there, is_update, IsSwept-more, met_not_apart, AllPairs-swept}
-use Rattle.geometry.proofs.map.sweep.Goals as goal
+use Rattle.geometry.proofs.dictionary.sweep.Goals as goal
 
 pub returns-then-not-make_room : goal.returns-then-not-make_room
 returns-then-not-make_room c =

@@ -1,6 +1,6 @@
 //! The rule of a fan, over what it holds and what its passes know.
 ghost use Rattle.std.specs.Prelude.{◌≡◌, ◌<◌, [], ◌∷◌, ◌++◌, ⊤};
-ghost use Rattle.ruled_lanes.specs.FanRule.{reach, giver, given_in, Accounts};
+ghost use Rattle.ruled_lanes.specs.FanProtocol.{reach, giver, given_in, Accounts};
 
 use crossbeam_channel::protocol::{Join, Lesson, Outcome, Protocol, Split};
 use std::collections::LinkedList;
@@ -18,7 +18,7 @@ pub struct Fanned;
 
 impl<T> Protocol<(u32, T), Reach<T>> for Fanned {
     ghost use Rattle.std.specs.Prelude.{[]};
-    ghost use Rattle.ruled_lanes.specs.FanRule.{gatherer, IsFanned};
+    ghost use Rattle.ruled_lanes.specs.FanProtocol.{gatherer, IsFanned};
 
     ghost holds = { IsFanned };
 
@@ -30,7 +30,7 @@ pub struct NewLane;
 
 impl<T> Split<Reach<T>> for NewLane {
     ghost use Rattle.std.specs.Prelude.{◌+◌, []};
-    ghost use Rattle.ruled_lanes.specs.FanRule.{reach, giver};
+    ghost use Rattle.ruled_lanes.specs.FanProtocol.{reach, giver};
 
     ghost left = { λ v. reach v.takes (v.made + 1) v.taken v.lanes };
 
@@ -39,7 +39,7 @@ impl<T> Split<Reach<T>> for NewLane {
 
 impl<T> Join<Reach<T>> for NewLane {
     ghost use Rattle.std.specs.Prelude.{◌++◌};
-    ghost use Rattle.ruled_lanes.specs.FanRule.{reach, nobody};
+    ghost use Rattle.ruled_lanes.specs.FanProtocol.{reach, nobody};
 
     ghost both = { λ v w. reach v.takes v.made v.taken (w.lanes ++ v.lanes) };
 

@@ -3,7 +3,7 @@
 use Rattle.std.specs.Prelude.{◌≡◌, ℕ, Bool, true, List, ◌++◌}
 use mathlib.Core.Option.{some}
 use lib.ListN.{get_elem?}
-use Rattle.ruled_lanes.specs.declared.link_rule.Log.{Log}
+use Rattle.ruled_lanes.specs.declared.link_protocol.Log.{Log}
 
 module _ {T : Type 0} where
   abbrev pub log : Bool → Bool → List T → List T → Log T
@@ -14,6 +14,6 @@ module _ {T : Type 0} where
   Knows giver taker given taken pass v =
       (v.gives ≡ true → (pass ≡ giver) × (v.given ≡ given)) × (v.takes ≡ true → (pass ≡ taker) × (v.taken ≡ taken))
 
-  abbrev pub Balanced : List T → List (Log T) → Type 0
-  Balanced items views = (giver : ℕ) × (taker : ℕ) × (given : List T) × (taken : List T) × (taken ++ items ≡ given)
+  abbrev pub Lossless : List T → List (Log T) → Type 0
+  Lossless items views = (giver : ℕ) × (taker : ℕ) × (given : List T) × (taken : List T) × (taken ++ items ≡ given)
       × ((pass : ℕ) (v : Log T) → get_elem? views pass ≡ some v → Knows giver taker given taken pass v)

@@ -1,4 +1,4 @@
-//! The sweep with the rectangles that it still meets in a map by their bottom rows. While no two have a
+//! The sweep with the rectangles that it still meets in a dictionary by their bottom rows. While no two have a
 //! point in common these rows are disjoint, so a new one needs to be held only against its neighbour below
 //! its top row. It takes O(log n) time for each of n rectangles, however many rows they have.
 
@@ -8,7 +8,7 @@ ghost use Rattle.std.specs.Ordering.{nat_cmp};
 ghost use Rattle.std.specs.BTreeMap.{get};
 ghost use Rattle.std.specs.List.Sorted.{IsNonDecreasingBy};
 ghost use Rattle.geometry.specs.Rectangles.{IsFilled, AreApart};
-ghost use Rattle.geometry.specs.Map.{IsSweepMap, Clears, IsFree, IsMet};
+ghost use Rattle.geometry.specs.Dictionary.{IsSweepDictionary, Clears, IsFree, IsMet};
 
 use crate::rectangles::Rectangle;
 use std::alloc::{AllocError, Global};
@@ -33,7 +33,7 @@ pub(crate) fn sweep(alloc: Global, rectangles: &[Rectangle]) -> Result<bool, All
 // Takes out what lies in the way of a new rectangle and ends left of it; false where something that
 // still reaches its left column lies there.
 fn make_room(active: &mut BTreeMap<u32, Rectangle>, new: Rectangle) -> bool
-    requires { IsSweepMap (get nat_cmp active.old) }
+    requires { IsSweepDictionary (get nat_cmp active.old) }
     ensures clears { Clears (get nat_cmp active.old) (get nat_cmp active.new) new }
     ensures free { OnTrue result (IsFree (get nat_cmp active.new) new) }
     ensures met { OnFalse result (IsMet (get nat_cmp active.old) new) }

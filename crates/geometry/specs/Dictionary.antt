@@ -5,7 +5,7 @@ use Rattle.geometry.specs.declared.rectangles.Rectangle.{Rectangle}
 use Rattle.geometry.specs.Rectangles.{IsFilled}
 
 -- each rectangle stands at its bottom row, and the rows of any two are disjoint
-pub record IsSweepMap (held : ℕ → Option Rectangle) : Type 0 where
+pub record IsSweepDictionary (held : ℕ → Option Rectangle) : Type 0 where
   pub keyed : (k : ℕ) (r : Rectangle) → held k ≡ Some r → r.bottom ≡ k
   pub filled : (k : ℕ) (r : Rectangle) → held k ≡ Some r → IsFilled r
   pub disjoint : (j k : ℕ) (r s : Rectangle) → j < k → held j ≡ Some r → held k ≡ Some s → r.top < k
