@@ -121,7 +121,7 @@ pub fn compact_in(
     let Ok(vertices) = vertex_points(points, room, boxes, &x, &y) else {
         return Err(CompactFault::Memory);
     };
-    let Ok(points) = Points::joined(vertices, &corners, &starts) else {
+    let Ok(points) = Points::concatenated(vertices, &corners, &starts) else {
         return Err(CompactFault::Memory);
     };
     scratch.around = around;

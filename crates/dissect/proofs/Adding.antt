@@ -3,15 +3,15 @@ use Rattle.std.proofs.Common.{◌≡◌, ◌≢◌, ℕ, ◌+◌, ◌-◌, ◌�
 use Rattle.std.proofs.lemmas.Bool.{cases_eq}
 use Rattle.std.proofs.lemmas.List.{length-take}
 use Rattle.dissect.specs.DartMaps.{DartMap}
-use Rattle.dissect.specs.Faces.{joined}
+use Rattle.dissect.specs.Faces.{concatenated}
 use Rattle.dissect.proofs.Listing.{distinct_right, below_right}
-use Rattle.dissect.specs.Listed.{AreFlat, AreListed, AreJoined, AreKeptCorners, detour}
+use Rattle.dissect.specs.Listed.{AreFlat, AreListed, AreConnectedFaces, AreKeptCorners, detour}
 use Rattle.dissect.proofs.Orbits.{distinct_few}
-use Rattle.dissect.proofs.Tracing.{joined_more, lengths_more}
+use Rattle.dissect.proofs.Tracing.{concatenated_more, lengths_more}
 
 pub listed_few : (w : DartMap) (right : ℕ) (inner : List (List ℕ)) (outer : List ℕ) → AreListed w right inner outer → length outer ≤ w.darts
 listed_few w right inner outer listed =
-    distinct_few w.darts outer (distinct_right (joined inner) outer listed.distinct) (below_right w.darts (joined inner) outer listed.below)
+    distinct_few w.darts outer (distinct_right (concatenated inner) outer listed.distinct) (below_right w.darts (concatenated inner) outer listed.below)
 
 take_front : (front : List ℕ) (x : ℕ) → take (length front) (front ++ (x ∷ [])) ≡ front
 take_front [] x = refl
@@ -23,17 +23,17 @@ kept_popped front outer kept right ends popped =
     let less : length outer - 1 ≡ length front = omega (arith, ap length ends, length-append front (right ∷ [])) in
     popped ∙ ap (λ (k : ℕ). take k outer) less ∙ ap (take (length front)) ends ∙ take_front front right
 
-pub joined_made : (w : DartMap) (right side : ℕ) (front kept : List ℕ) (inner : List (List ℕ)) (corners counts corners' counts' : List ℕ) (count : ℕ) →
+pub connected_made : (w : DartMap) (right side : ℕ) (front kept : List ℕ) (inner : List (List ℕ)) (corners counts corners' counts' : List ℕ) (count : ℕ) →
     AreKeptCorners w right front kept → AreFlat corners counts inner → corners' ≡ (corners ++ kept) ++ detour w.darts side →
-    counts' ≡ counts ++ (count ∷ []) → count ≡ length kept + 7 → AreJoined w right side front inner corners' counts'
-joined_made w right side front kept inner corners counts corners' counts' count is flat corners_are counts_are count_is =
+    counts' ≡ counts ++ (count ∷ []) → count ≡ length kept + 7 → AreConnectedFaces w right side front inner corners' counts'
+connected_made w right side front kept inner corners counts corners' counts' count is flat corners_are counts_are count_is =
     let big : List ℕ = kept ++ detour w.darts side in
     let long : count ≡ length big = omega (arith, count_is, length-append kept (detour w.darts side)) in
     record {
       kept = kept;
       is_kept = is;
       flat = record {
-        flat = corners_are ∙ append_assoc corners kept (detour w.darts side) ∙ ap (λ (xs : List ℕ). xs ++ big) flat.flat ∙ sym (joined_more inner big);
+        flat = corners_are ∙ append_assoc corners kept (detour w.darts side) ∙ ap (λ (xs : List ℕ). xs ++ big) flat.flat ∙ sym (concatenated_more inner big);
         lengths = counts_are ∙ ap (λ (k : ℕ). counts ++ (k ∷ [])) long ∙ ap (λ (xs : List ℕ). xs ++ (length big ∷ [])) flat.lengths
             ∙ sym (lengths_more inner big);
       };

@@ -4,7 +4,7 @@ use Rattle.std.proofs.lemmas.Bool.{cases_Bool, both_ways, not_from_false, or_par
 use Rattle.embedding.specs.Darts.{IsOneToOne}
 use Rattle.faces.specs.Planes.{PlaneModel, IsPlane, HasEnds, darts, head, reverse_dart, next, face_at}
 use Rattle.faces.proofs.Ends.{plane_ends}
-use Rattle.faces.proofs.Joined.{faces_joined}
+use Rattle.faces.proofs.Connected.{faces_connected}
 use Rattle.dissect.proofs.Reordered.{sum_at, sum_at-add, sum_at-times, sum_at-same, sum_at-four, reordered_at}
 use Rattle.dissect.proofs.Trees.{IsTree, Connects}
 use Rattle.dissect.proofs.Peeling.{IsBalanced, nothing}
@@ -103,7 +103,7 @@ pub faces_connect : (p : PlaneModel) → IsPlane p → (g rank parent base : ℕ
 faces_connect p plane g rank parent base tree s root shut f l =
     let ends = plane_ends p plane in
     let none = nothing (vertex_joins p) (reverse_dart p) g rank parent base (gained p s) (vertices_paired p ends) tree (balanced p plane ends parent s shut) in
-    faces_joined p plane s (λ d h here. across (s (face_at p (reverse_dart p d))) (s (face_at p d)) (none d h) here) 0 f (omega arith) l root
+    faces_connected p plane s (λ d h here. across (s (face_at p (reverse_dart p d))) (s (face_at p d)) (none d h) here) 0 f (omega arith) l root
   where
     across : (a b : Bool) → (cond a 1 0 + 3 * cond b 1 0) % 4 ≡ 0 → b ≡ true → a ≡ true
     across true b e h = refl

@@ -2,7 +2,7 @@
 use Rattle.std.proofs.Common.{◌≡◌, ℕ, suc, ◌+◌, ◌*◌, ◌<◌, ◌∙◌, List, [], ◌∷◌, ◌++◌, length, length-append, map, append-nil, arith, subst, sym, ap, refl, inl, inr}
 use Rattle.dissect.specs.Turning.{total, Reduced, AreTurns, AreLefts}
 use Rattle.dissect.specs.DartMaps.{DartMap, IsSound}
-use Rattle.dissect.specs.Faces.{IsCorner, Trail, last_of, Ring, IsRectangle, In, joined, AreWaiting}
+use Rattle.dissect.specs.Faces.{IsCorner, Trail, last_of, Ring, IsRectangle, In, concatenated, AreWaiting}
 use Rattle.dissect.specs.Scan.{down, IsScan}
 use Rattle.dissect.proofs.Stretching.{Stretches-corner}
 use Rattle.dissect.proofs.Rings.{ring_turned, four_turned}
@@ -102,7 +102,7 @@ scan_done w0 face w st scan reduced o rs wait =
     let waiting = scan.waiting o rs wait in
     let each : (a : ℕ) → In a st → (a < w.darts) × IsCorner w a = λ a h.
     let there : In a (down st []) = in_down_back a st [] h in (
-      in_below w.darts a (down st []) (below_left w.darts (down st []) (joined rs) waiting.below) there,
+      in_below w.darts a (down st []) (below_left w.darts (down st []) (concatenated rs) waiting.below) there,
       ring_corners w a (down st []) waiting.rings.0.0 there,
     ) in
     let lefts : AreLefts (map w.angle st) = all_left 0 (map w.angle st) (turns_of w st scan.sound each) scan.hopeful reduced in
@@ -148,21 +148,21 @@ turned_waiting w xs ys o rs waiting = record {
     ),
     waiting.rings.1,
   );
-  distinct = distinct_turned xs ys (joined rs) waiting.distinct;
-  below = below_append w.darts (ys ++ xs) (joined rs)
-      (below_append w.darts ys xs (below_right w.darts xs ys (below_left w.darts (xs ++ ys) (joined rs) waiting.below))
-      (below_left w.darts xs ys (below_left w.darts (xs ++ ys) (joined rs) waiting.below)))
-      (below_right w.darts (xs ++ ys) (joined rs) waiting.below);
+  distinct = distinct_turned xs ys (concatenated rs) waiting.distinct;
+  below = below_append w.darts (ys ++ xs) (concatenated rs)
+      (below_append w.darts ys xs (below_right w.darts xs ys (below_left w.darts (xs ++ ys) (concatenated rs) waiting.below))
+      (below_left w.darts xs ys (below_left w.darts (xs ++ ys) (concatenated rs) waiting.below)))
+      (below_right w.darts (xs ++ ys) (concatenated rs) waiting.below);
   inside = waiting.inside;
   outside = waiting.outside;
   placed = λ a l corner.
       elim (waiting.placed a l corner) [
-        | inl listed ↦ inl (elim (in_append a (xs ++ ys) (joined rs) listed) [
-          | inl here ↦ in_left a (ys ++ xs) (joined rs) (elim (in_append a xs ys here) [
+        | inl listed ↦ inl (elim (in_append a (xs ++ ys) (concatenated rs) listed) [
+          | inl here ↦ in_left a (ys ++ xs) (concatenated rs) (elim (in_append a xs ys here) [
             | inl left ↦ in_right a ys xs left
             | inr right ↦ in_left a ys xs right
           ])
-          | inr there ↦ in_right a (ys ++ xs) (joined rs) there
+          | inr there ↦ in_right a (ys ++ xs) (concatenated rs) there
         ])
         | inr four ↦ inr four
       ];

@@ -39,7 +39,7 @@ pub mod SurroundWriting
 pub mod Sounding
 pub mod Turns
 pub mod Walking
-pub mod JoinedFaces
+pub mod ConnectedFaces
 pub mod Tracing
 pub mod Merging
 pub mod Refining

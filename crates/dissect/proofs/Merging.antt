@@ -3,18 +3,18 @@ use Rattle.std.proofs.Common.{◌≡◌, ◌≢◌, ◌⊎◌, ℕ, ◌+◌, ◌
 use Rattle.std.proofs.lemmas.Bool.{cases_eq, cases_lt}
 use Rattle.dissect.specs.DartMaps.{DartMap}
 use Rattle.dissect.specs.Turning.{total}
-use Rattle.dissect.specs.Faces.{IsCorner, Stretches, Trail, last_of, Ring, IsRectangle, IsOutside, In, Distinct, Below, joined, TurnsOnce, AreWaiting}
+use Rattle.dissect.specs.Faces.{IsCorner, Stretches, Trail, last_of, Ring, IsRectangle, IsOutside, In, Distinct, Below, concatenated, TurnsOnce, AreWaiting}
 use Rattle.dissect.proofs.Stretching.{stretch_direct, chord_stretch_to, chord_stretch_there, chord_stretch_back, Stretches-corner}
 use Rattle.dissect.proofs.Rings.{Clear, trail_front, trail_rest, trail_append, last_of-append, split_ring, chord_trail, clear_last, trail_corner, corner_not_f}
 use Rattle.dissect.proofs.Waiting.{clear_of, total-append}
 use Rattle.dissect.proofs.Listing.{in_append, in_left, in_right, in_below, below_append, below_left, below_right, below_more, distinct_append, distinct_left, distinct_right, distinct_apart}
 use Rattle.dissect.specs.Listed.{AreListed, AreKeptCorners, detour}
 use Rattle.dissect.proofs.Sounding.{by_side, surround_linked}
-use Rattle.dissect.proofs.Tracing.{joined_more, rings_more}
-use Rattle.dissect.proofs.JoinedFaces.{surround_ring, IsJoining, corner_of, middle_of, cutting_of, old_angle, right_angle, inner_angle, new_angles, inside_stretch, outside_four, other_rings, totals_same}
+use Rattle.dissect.proofs.Tracing.{concatenated_more, rings_more}
+use Rattle.dissect.proofs.ConnectedFaces.{surround_ring, IsConnecting, corner_of, middle_of, cutting_of, old_angle, right_angle, inner_angle, new_angles, inside_stretch, outside_four, other_rings, totals_same}
 
 -- the way from the right turn along the cut, round the inside of the rectangle, and back
-pub detour_trail : (w surrounded : DartMap) (right side way : ℕ) (new : DartMap) → IsJoining w surrounded right side way new →
+pub detour_trail : (w surrounded : DartMap) (right side way : ℕ) (new : DartMap) → IsConnecting w surrounded right side way new →
     Trail new right (detour w.darts side)
 detour_trail w surrounded right side way new j =
     let n : ℕ = w.darts in
@@ -68,7 +68,7 @@ pub record IsRound (w : DartMap) (right : ℕ) (new : DartMap) (b : ℕ) (bs : L
   pub to_right : IsCorner new right → Stretches new (last_of b bs) right
   pub straight_on : new.angle right ≡ 2 → Stretches new (last_of b bs) (w.darts + 10)
 
-pub outer_round : (w surrounded : DartMap) (right side way : ℕ) (new : DartMap) → IsJoining w surrounded right side way new → (b : ℕ) (bs : List ℕ) →
+pub outer_round : (w surrounded : DartMap) (right side way : ℕ) (new : DartMap) → IsConnecting w surrounded right side way new → (b : ℕ) (bs : List ℕ) →
     Ring w (b ∷ (bs ++ (right ∷ []))) → Below w.darts (b ∷ bs) → (In right (b ∷ bs) → ⊥) → IsRound w right new b bs
 outer_round w surrounded right side way new j b bs ring below out =
     let n : ℕ = w.darts in
@@ -105,10 +105,10 @@ outer_round w surrounded right side way new j b bs ring below out =
     }
 
 -- the ring of the joined face
-pub joined_ring : (w surrounded : DartMap) (right side way : ℕ) (new : DartMap) → IsJoining w surrounded right side way new → (b : ℕ) (bs : List ℕ) →
+pub connected_ring : (w surrounded : DartMap) (right side way : ℕ) (new : DartMap) → IsConnecting w surrounded right side way new → (b : ℕ) (bs : List ℕ) →
     IsRound w right new b bs → (kept : List ℕ) → (new.angle right ≡ 2 → kept ≡ b ∷ bs) → (IsCorner new right → kept ≡ (b ∷ bs) ++ (right ∷ [])) →
     Ring new (kept ++ detour w.darts side)
-joined_ring w surrounded right side way new j b bs round kept straight turning =
+connected_ring w surrounded right side way new j b bs round kept straight turning =
     let n : ℕ = w.darts in
     let tail : List ℕ = detour n side in
     let go = detour_trail w surrounded right side way new j in
@@ -127,7 +127,7 @@ joined_ring w surrounded right side way new j b bs round kept straight turning =
           (subst (Ring new) (sym (append_assoc (b ∷ bs) (right ∷ []) tail)) ring)
     ]
 
-pub detour_total : (w surrounded : DartMap) (right side way : ℕ) (new : DartMap) → IsJoining w surrounded right side way new →
+pub detour_total : (w surrounded : DartMap) (right side way : ℕ) (new : DartMap) → IsConnecting w surrounded right side way new →
     total (map new.angle (detour w.darts side)) ≡ 7
 detour_total w surrounded right side way new j =
     let angles = new_angles w surrounded right side way new j in
@@ -143,12 +143,12 @@ detour_total w surrounded right side way new j =
     )
 
 -- the joined face turns once to the left
-pub joined_once : (w surrounded : DartMap) (right side way : ℕ) (new : DartMap) → IsJoining w surrounded right side way new → (front : List ℕ) →
+pub concatenated_once : (w surrounded : DartMap) (right side way : ℕ) (new : DartMap) → IsConnecting w surrounded right side way new → (front : List ℕ) →
     Below w.darts front → (In right front → ⊥) →
     total (map w.angle (front ++ (right ∷ []))) ≡ 2 * length (front ++ (right ∷ [])) + 4 →
     (kept : List ℕ) → (new.angle right ≡ 2 → kept ≡ front) → (IsCorner new right → kept ≡ front ++ (right ∷ [])) →
     TurnsOnce new (kept ++ detour w.darts side)
-joined_once w surrounded right side way new j front below out back kept straight turning =
+concatenated_once w surrounded right side way new j front below out back kept straight turning =
     let tail : List ℕ = detour w.darts side in
     let same = totals_same w surrounded right side way new j front below out in
     let less = right_angle w surrounded right side way new j in
@@ -241,19 +241,19 @@ below_all n [] all = tt
 below_all n (x ∷ xs) all = (all x (inl refl), below_all n xs (λ a h. all a (inr h)))
 
 -- after the join, each corner is of a face that waits, or on the outside of the rectangle
-pub join_places : (w surrounded : DartMap) (right side way : ℕ) (new : DartMap) → IsJoining w surrounded right side way new → (o : ℕ) → o < 4 →
+pub join_places : (w surrounded : DartMap) (right side way : ℕ) (new : DartMap) → IsConnecting w surrounded right side way new → (o : ℕ) → o < 4 →
     (inner : List (List ℕ)) (outer front kept : List ℕ) → outer ≡ front ++ (right ∷ []) →
-    ((a : ℕ) → a < w.darts → IsCorner w a → In a (joined inner ++ outer)) → AreKeptCorners w right front kept →
+    ((a : ℕ) → a < w.darts → IsCorner w a → In a (concatenated inner ++ outer)) → AreKeptCorners w right front kept →
     (a : ℕ) → a < w.darts + 12 → IsCorner new a →
-    In a (joined inner ++ (kept ++ detour w.darts side)) ⊎ (IsRectangle new 1 a ⊎ IsOutside new (w.darts + 4 + o) a)
+    In a (concatenated inner ++ (kept ++ detour w.darts side)) ⊎ (IsRectangle new 1 a ⊎ IsOutside new (w.darts + 4 + o) a)
 join_places w surrounded right side way new j o o_in inner outer front kept ends all is a l corner =
     let n : ℕ = w.darts in
     let Placed : ℕ → Type 0 = λ a. IsCorner new a →
-    In a (joined inner ++ (kept ++ detour n side)) ⊎ (IsRectangle new 1 a ⊎ IsOutside new (n + 4 + o) a) in
-    let in_kept : (a : ℕ) → In a kept → In a (joined inner ++ (kept ++ detour n side)) =
-    λ a h. in_right a (joined inner) (kept ++ detour n side) (in_left a kept (detour n side) h) in
-    let in_detour : (a : ℕ) → In a (detour n side) → In a (joined inner ++ (kept ++ detour n side)) =
-    λ a h. in_right a (joined inner) (kept ++ detour n side) (in_right a kept (detour n side) h) in
+    In a (concatenated inner ++ (kept ++ detour n side)) ⊎ (IsRectangle new 1 a ⊎ IsOutside new (n + 4 + o) a) in
+    let in_kept : (a : ℕ) → In a kept → In a (concatenated inner ++ (kept ++ detour n side)) =
+    λ a h. in_right a (concatenated inner) (kept ++ detour n side) (in_left a kept (detour n side) h) in
+    let in_detour : (a : ℕ) → In a (detour n side) → In a (concatenated inner ++ (kept ++ detour n side)) =
+    λ a h. in_right a (concatenated inner) (kept ++ detour n side) (in_right a kept (detour n side) h) in
     let less = right_angle w surrounded right side way new j in
     let angles = new_angles w surrounded right side way new j in
     let old : (a : ℕ) → a < n → Placed a = λ a l corner.
@@ -261,8 +261,8 @@ join_places w surrounded right side way new j o o_in inner outer front kept ends
       | inl e ↦
           let turns : w.angle right ≢ 3 = λ h. corner (ap new.angle e ∙ omega (arith, less, h)) in
           inl (in_kept a (subst (In a) (sym (is.turning turns)) (in_right a front (right ∷ []) (inl e))))
-      | inr ne ↦ elim (in_append a (joined inner) outer (all a l (λ h. corner (old_angle w surrounded right side way new j a l ne ∙ h)))) [
-        | inl left ↦ inl (in_left a (joined inner) (kept ++ detour n side) left)
+      | inr ne ↦ elim (in_append a (concatenated inner) outer (all a l (λ h. corner (old_angle w surrounded right side way new j a l ne ∙ h)))) [
+        | inl left ↦ inl (in_left a (concatenated inner) (kept ++ detour n side) left)
         | inr outside ↦ elim (in_append a front (right ∷ []) (subst (In a) ends outside)) [
           | inl here ↦ inl (in_kept a (kept_front w right a front kept is here))
           | inr last ↦ absurd (elim last [ inl e ↦ ne e | inr none ↦ none ])
@@ -288,17 +288,17 @@ join_places w surrounded right side way new j o o_in inner outer front kept ends
     ]
 
 -- the outer face has another corner before `right`, so the joined face has its ring
-front_ring : (w surrounded : DartMap) (right side way : ℕ) (new : DartMap) → IsJoining w surrounded right side way new → (front kept : List ℕ) →
+front_ring : (w surrounded : DartMap) (right side way : ℕ) (new : DartMap) → IsConnecting w surrounded right side way new → (front kept : List ℕ) →
     Ring w (front ++ (right ∷ [])) → Below w.darts front → (In right front → ⊥) → w.angle right ≤ 4 →
     total (map w.angle (front ++ (right ∷ []))) ≡ 2 * length (front ++ (right ∷ [])) + 4 →
     (new.angle right ≡ 2 → kept ≡ front) → (IsCorner new right → kept ≡ front ++ (right ∷ [])) →
     Ring new (kept ++ detour w.darts side)
 front_ring w surrounded right side way new j [] kept ring below out most back straight turning = absurd (omega (arith, most, back))
 front_ring w surrounded right side way new j (b ∷ bs) kept ring below out most back straight turning =
-    joined_ring w surrounded right side way new j b bs (outer_round w surrounded right side way new j b bs ring below out) kept straight turning
+    connected_ring w surrounded right side way new j b bs (outer_round w surrounded right side way new j b bs ring below out) kept straight turning
 
 -- all faces wait to be cut
-pub join_waits : (w surrounded : DartMap) (right side way : ℕ) (new : DartMap) → IsJoining w surrounded right side way new → (o : ℕ) → o < 4 →
+pub join_waits : (w surrounded : DartMap) (right side way : ℕ) (new : DartMap) → IsConnecting w surrounded right side way new → (o : ℕ) → o < 4 →
     (inner : List (List ℕ))
     (outer kept : List ℕ) → (listed : AreListed w right inner outer) → w.angle right ≤ 4 → AreKeptCorners w right listed.front kept →
     AreWaiting new (w.darts + 4 + o) (inner ++ ((kept ++ detour w.darts side) ∷ []))
@@ -307,15 +307,15 @@ join_waits w surrounded right side way new j o o_in inner outer kept listed most
     let front : List ℕ = listed.front in
     let big : List ℕ = kept ++ detour n side in
     let count : new.darts ≡ n + 12 = omega (arith, j.join.chord.darts, j.join.split.darts, j.surround.darts) in
-    let all_distinct : Distinct (joined inner ++ (front ++ (right ∷ []))) =
-    subst (λ (xs : List ℕ). Distinct (joined inner ++ xs)) listed.ends listed.distinct in
-    let all_below : Below n (joined inner ++ (front ++ (right ∷ []))) =
-    subst (λ (xs : List ℕ). Below n (joined inner ++ xs)) listed.ends listed.below in
-    let outer_distinct : Distinct (front ++ (right ∷ [])) = distinct_right (joined inner) (front ++ (right ∷ [])) all_distinct in
-    let outer_below : Below n (front ++ (right ∷ [])) = below_right n (joined inner) (front ++ (right ∷ [])) all_below in
+    let all_distinct : Distinct (concatenated inner ++ (front ++ (right ∷ []))) =
+    subst (λ (xs : List ℕ). Distinct (concatenated inner ++ xs)) listed.ends listed.distinct in
+    let all_below : Below n (concatenated inner ++ (front ++ (right ∷ []))) =
+    subst (λ (xs : List ℕ). Below n (concatenated inner ++ xs)) listed.ends listed.below in
+    let outer_distinct : Distinct (front ++ (right ∷ [])) = distinct_right (concatenated inner) (front ++ (right ∷ [])) all_distinct in
+    let outer_below : Below n (front ++ (right ∷ [])) = below_right n (concatenated inner) (front ++ (right ∷ [])) all_below in
     let out_front : In right front → ⊥ = λ h. distinct_apart right front (right ∷ []) outer_distinct h (inl refl) in
-    let out_inner : In right (joined inner) → ⊥ =
-    λ h. distinct_apart right (joined inner) (front ++ (right ∷ [])) all_distinct h (in_right right front (right ∷ []) (inl refl)) in
+    let out_inner : In right (concatenated inner) → ⊥ =
+    λ h. distinct_apart right (concatenated inner) (front ++ (right ∷ [])) all_distinct h (in_right right front (right ∷ []) (inl refl)) in
     let kept_below : Below n kept = below_all n kept (λ a h. in_below n a (front ++ (right ∷ [])) outer_below (kept_sub w right a front kept is h)) in
     let less = right_angle w surrounded right side way new j in
     let straight : new.angle right ≡ 2 → kept ≡ front = λ h. is.straight (omega (arith, less, h)) in
@@ -324,27 +324,27 @@ join_waits w surrounded right side way new j o o_in inner outer kept listed most
     let outer_ring : Ring w (front ++ (right ∷ [])) = subst (Ring w) listed.ends listed.ring in
     let back : total (map w.angle (front ++ (right ∷ []))) ≡ 2 * length (front ++ (right ∷ [])) + 4 =
     subst (λ (xs : List ℕ). total (map w.angle xs) ≡ 2 * length xs + 4) listed.ends listed.turns_back in
-    let inner_below : Below n (joined inner) = below_left n (joined inner) (front ++ (right ∷ [])) all_below in
+    let inner_below : Below n (concatenated inner) = below_left n (concatenated inner) (front ++ (right ∷ [])) all_below in
     record {
       rings = rings_more new inner big
           (other_rings w surrounded right side way new j inner inner_below out_inner listed.rings)
           (front_ring w surrounded right side way new j front kept outer_ring front_below out_front most back straight turning)
-          (joined_once w surrounded right side way new j front front_below out_front back kept straight turning);
-      distinct = subst Distinct (sym (joined_more inner big))
-          (distinct_append (joined inner) big (distinct_left (joined inner) (front ++ (right ∷ [])) all_distinct)
+          (concatenated_once w surrounded right side way new j front front_below out_front back kept straight turning);
+      distinct = subst Distinct (sym (concatenated_more inner big))
+          (distinct_append (concatenated inner) big (distinct_left (concatenated inner) (front ++ (right ∷ [])) all_distinct)
           (distinct_append kept (detour n side) (kept_distinct w right front kept is outer_distinct) (detour_distinct n side j.side_in)
           (λ a here there. omega (arith, in_below n a kept kept_below here, detour_fresh n side a there)))
           (λ a left here. elim (in_append a kept (detour n side) here) [
-            | inl held ↦ distinct_apart a (joined inner) (front ++ (right ∷ [])) all_distinct left (kept_sub w right a front kept is held)
-            | inr there ↦ omega (arith, in_below n a (joined inner) inner_below left, detour_fresh n side a there)
+            | inl held ↦ distinct_apart a (concatenated inner) (front ++ (right ∷ [])) all_distinct left (kept_sub w right a front kept is held)
+            | inr there ↦ omega (arith, in_below n a (concatenated inner) inner_below left, detour_fresh n side a there)
           ]));
-      below = subst (Below new.darts) (sym (joined_more inner big))
-          (below_append new.darts (joined inner) big (below_more n new.darts (joined inner) (omega (arith, count)) inner_below)
+      below = subst (Below new.darts) (sym (concatenated_more inner big))
+          (below_append new.darts (concatenated inner) big (below_more n new.darts (concatenated inner) (omega (arith, count)) inner_below)
           (below_append new.darts kept (detour n side) (below_more n new.darts kept (omega (arith, count)) kept_below)
           (below_more (n + 12) new.darts (detour n side) (omega (arith, count)) (detour_below n side j.side_in))));
       inside = omega (arith, count);
       outside = (outside_four w surrounded right side way new j o o_in o o_in).four;
       placed = λ a l corner.
-          subst (λ (xs : List ℕ). In a xs ⊎ (IsRectangle new 1 a ⊎ IsOutside new (n + 4 + o) a)) (sym (joined_more inner big))
+          subst (λ (xs : List ℕ). In a xs ⊎ (IsRectangle new 1 a ⊎ IsOutside new (n + 4 + o) a)) (sym (concatenated_more inner big))
           (join_places w surrounded right side way new j o o_in inner outer front kept listed.ends listed.all is a (omega (arith, count, l)) corner);
     }

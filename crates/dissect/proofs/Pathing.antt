@@ -5,7 +5,7 @@ use Rattle.std.proofs.lemmas.Grind.{reverse_onto}
 use Rattle.std.proofs.lemmas.List.{map_push, append-nil}
 use Rattle.faces.specs.Planes.{PlaneModel, IsPlane, HasEnds, darts, reverse_dart}
 use Rattle.faces.proofs.Ends.{plane_ends, seven_rules}
-use Rattle.faces.proofs.Joined.{all_joined}
+use Rattle.faces.proofs.Connected.{all_connected}
 use Rattle.ortho_rep.specs.declared.turn.Turn.{Turn}
 use Rattle.ortho_rep.specs.declared.turn.Turn.TheVariants.{Left, Right}
 use Rattle.ortho_rep.specs.Turns.{opposite, mirrored}
@@ -235,7 +235,7 @@ turned_bare p a h s w bare = record {
 
 pub bare_connected : (p : PlaneModel) (a h : ℕ → ℕ) (w : DartMap) → IsPlane p → IsBare p a h w → IsConnected w
 bare_connected p a h w plane bare s next reverse_dart x y l_x l_y at =
-    all_joined p.lists (seven_rules p.lists plane.rules) s
+    all_connected p.lists (seven_rules p.lists plane.rules) s
     (λ d l on. subst (λ (k : ℕ). s k ≡ true) (bare.nexts d l) (next d (omega (arith, l, bare.dart_count)) on))
     (λ d l on. subst (λ (k : ℕ). s k ≡ true) (bare.reverse_darts d l) (reverse_dart d (omega (arith, l, bare.dart_count)) on))
     x y (omega (arith, l_x, bare.dart_count)) (omega (arith, l_y, bare.dart_count)) at

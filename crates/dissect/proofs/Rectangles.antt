@@ -11,7 +11,7 @@ use Rattle.dissect.proofs.StayingConnected.{cut_linked}
 use Rattle.dissect.proofs.Cuts.{AreQuarters, cut_quarters, chord_beside}
 use Rattle.dissect.proofs.SurroundedPaths.{surrounded_linked, surrounded_quarters}
 use Rattle.dissect.proofs.Sides.{HasChain, beside_chain, cut_chain, grows_chain}
-use Rattle.dissect.specs.Rectangle.{HasRectangle, IsJoinedAt}
+use Rattle.dissect.specs.Rectangle.{HasRectangle, IsConnectedAt}
 use Rattle.dissect.proofs.Keeping.{Keeps, cut_keeps, grows_keeps, keeps_on}
 
 module _ (w : DartMap) (outside : ℕ) (new : DartMap) (linked : IsLinked w) (four : AreQuarters w) (e : IsEnclosed w outside new) where
@@ -174,7 +174,7 @@ module _ (w : DartMap) (outside : ℕ) (new : DartMap) (linked : IsLinked w) (fo
       }))
 
   -- the map is joined with the rectangle at the head of the right turn
-  pub join : IsJoinedAt w e.right new
+  pub join : IsConnectedAt w e.right new
   unfolding join_chain join_chain_back
   join =
       let first : e.join.middle.darts ≡ n + 10 = count_middle in

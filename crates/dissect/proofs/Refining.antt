@@ -10,15 +10,15 @@ use Rattle.dissect.specs.Surrounds.{IsSurrounded, IsEnclosed}
 use Rattle.dissect.specs.FaceNumbers.{AreFaceNumbers, HasTurns}
 use Rattle.dissect.specs.Scan.{CanCut, HasRoom}
 use Rattle.dissect.specs.Turning.{total}
-use Rattle.dissect.specs.Faces.{Stretches, IsRectangle, In, Distinct, Below, joined, AreWaiting, ReachesCorners, cut_up}
+use Rattle.dissect.specs.Faces.{Stretches, IsRectangle, In, Distinct, Below, concatenated, AreWaiting, ReachesCorners, cut_up}
 use Rattle.dissect.proofs.Stretching.{stretch_direct, Stretches-inside}
 use Rattle.dissect.proofs.Scanning.{stretch_direction, cut_sound, cut_reflex_turns}
 use Rattle.dissect.proofs.Reaching.{cut_reaches, grows_sound, grows_reaches, cut_vertices, grows_vertices}
-use Rattle.dissect.specs.Listed.{AreFlat, AreJoined, AreListed, detour}
+use Rattle.dissect.specs.Listed.{AreFlat, AreConnectedFaces, AreListed, detour}
 use Rattle.dissect.proofs.Orbits.{distinct_few}
 use Rattle.dissect.proofs.Turns.{listed_sum, turns_reach}
 use Rattle.dissect.proofs.Sounding.{by_side, surround_linked, surround_sound, surround_reflex_turns}
-use Rattle.dissect.proofs.JoinedFaces.{surround_stretch, IsJoining}
+use Rattle.dissect.proofs.ConnectedFaces.{surround_stretch, IsConnecting}
 use Rattle.dissect.proofs.Merging.{join_waits}
 
 take_own : (r s : List ℕ) → take (length r) (r ++ s) ≡ r
@@ -30,17 +30,17 @@ drop_own [] s = refl
 drop_own (x ∷ r) s = drop_own r s
 
 -- flat lists are cut up into the faces that they hold
-pub cut_up_flat : (faces : List (List ℕ)) → cut_up (joined faces) (map (λ (r : List ℕ). length r) faces) ≡ faces
+pub cut_up_flat : (faces : List (List ℕ)) → cut_up (concatenated faces) (map (λ (r : List ℕ). length r) faces) ≡ faces
 cut_up_flat [] = refl
 cut_up_flat (r ∷ rs) =
     let lengths : List ℕ = map (λ (q : List ℕ). length q) rs in
-    ap (λ (xs : List ℕ). xs ∷ cut_up (drop (length r) (r ++ joined rs)) lengths) (take_own r (joined rs))
-    ∙ ap (λ (xs : List ℕ). r ∷ cut_up xs lengths) (drop_own r (joined rs))
+    ap (λ (xs : List ℕ). xs ∷ cut_up (drop (length r) (r ++ concatenated rs)) lengths) (take_own r (concatenated rs))
+    ∙ ap (λ (xs : List ℕ). r ∷ cut_up xs lengths) (drop_own r (concatenated rs))
     ∙ ap (λ (qs : List (List ℕ)). r ∷ qs) (cut_up_flat rs)
 
-pub sum_flat : (faces : List (List ℕ)) → sum (map (λ (r : List ℕ). length r) faces) ≡ length (joined faces)
+pub sum_flat : (faces : List (List ℕ)) → sum (map (λ (r : List ℕ). length r) faces) ≡ length (concatenated faces)
 sum_flat [] = refl
-sum_flat (r ∷ rs) = omega (arith, sum_by-cons (λ (k : ℕ). k) (length r) (map (λ (q : List ℕ). length q) rs), sum_flat rs, length-append r (joined rs))
+sum_flat (r ∷ rs) = omega (arith, sum_by-cons (λ (k : ℕ). k) (length r) (map (λ (q : List ℕ). length q) rs), sum_flat rs, length-append r (concatenated rs))
 
 -- what a table of flat lists says of the faces that wait
 pub record AreReady (w : DartMap) (o : ℕ) (corners counts : List ℕ) : Type 0 where
@@ -51,15 +51,15 @@ pub record AreReady (w : DartMap) (o : ℕ) (corners counts : List ℕ) : Type 0
 pub flat_ready : (w : DartMap) (o : ℕ) (corners counts : List ℕ) (faces : List (List ℕ)) → AreFlat corners counts faces → AreWaiting w o faces →
     AreReady w o corners counts
 flat_ready w o corners counts faces flat waiting =
-    let few : length (joined faces) ≤ w.darts = distinct_few w.darts (joined faces) waiting.distinct waiting.below in
+    let few : length (concatenated faces) ≤ w.darts = distinct_few w.darts (concatenated faces) waiting.distinct waiting.below in
     let lengths : List ℕ = map (λ (r : List ℕ). length r) faces in
-    let ready : AreReady w o (joined faces) lengths = record {
+    let ready : AreReady w o (concatenated faces) lengths = record {
       waiting = subst (AreWaiting w o) (sym (cut_up_flat faces)) waiting;
       all = sum_flat faces;
       few = few;
     } in
     subst (λ (xs : List ℕ). AreReady w o xs counts) (sym flat.flat)
-    (subst (λ (ns : List ℕ). AreReady w o (joined faces) ns) (sym flat.lengths) ready)
+    (subst (λ (ns : List ℕ). AreReady w o (concatenated faces) ns) (sym flat.lengths) ready)
 
 -- a face of four rights has four different corners
 four_distinct : (w : DartMap) (o : ℕ) → IsSound w → o < w.darts → (four : IsRectangle w 3 o) →
@@ -151,7 +151,7 @@ facing_can w surrounded right side sound s right_in turn side_in faces =
 
 -- what the rectangle and the cut make of the map
 pub joining_of : (w surrounded : DartMap) (right side way : ℕ) (new : DartMap) → IsSound w → IsSurrounded w surrounded → right < w.darts → side < 4 →
-    IsCut surrounded right (surrounded.next (w.darts + (side + 3) % 4)) way new → IsJoining w surrounded right side way new
+    IsCut surrounded right (surrounded.next (w.darts + (side + 3) % 4)) way new → IsConnecting w surrounded right side way new
 joining_of w surrounded right side way new sound s right_in side_in cut =
     let behind : surrounded.next (w.darts + (side + 3) % 4) ≡ w.darts + side = omega (arith, s.next_inner ((side + 3) % 4) (omega arith)) in
     record {
@@ -162,11 +162,11 @@ joining_of w surrounded right side way new sound s right_in side_in cut =
       join = subst (λ (e : ℕ). IsCut surrounded right e way new) behind cut;
     }
 
-pub join_sound : (w surrounded : DartMap) (right side way : ℕ) (new : DartMap) → IsSound w → IsJoining w surrounded right side way new → IsSound new
+pub join_sound : (w surrounded : DartMap) (right side way : ℕ) (new : DartMap) → IsSound w → IsConnecting w surrounded right side way new → IsSound new
 join_sound w surrounded right side way new sound j =
     cut_sound surrounded right (w.darts + side) way new (surround_sound w surrounded j.surround sound) j.join
 
-pub join_room : (w surrounded : DartMap) (right side way room : ℕ) (new : DartMap) → IsJoining w surrounded right side way new →
+pub join_room : (w surrounded : DartMap) (right side way room : ℕ) (new : DartMap) → IsConnecting w surrounded right side way new →
     w.darts + 4 * reflex_turns w + RECTANGLE_ROOM ≤ room → HasRoom new room
 join_room w surrounded right side way room new j space =
     omega (
@@ -179,15 +179,15 @@ join_room w surrounded right side way room new j space =
       space,
     )
 
-pub join_ready : (w surrounded : DartMap) (right side way : ℕ) (new : DartMap) → IsSound w → IsJoining w surrounded right side way new →
+pub join_ready : (w surrounded : DartMap) (right side way : ℕ) (new : DartMap) → IsSound w → IsConnecting w surrounded right side way new →
     (inner : List (List ℕ)) (outer corners counts : List ℕ) → (listed : AreListed w right inner outer) →
-    AreJoined w right side listed.front inner corners counts → (k : ℕ) → k < 4 → AreReady new (w.darts + 4 + k) corners counts
+    AreConnectedFaces w right side listed.front inner corners counts → (k : ℕ) → k < 4 → AreReady new (w.darts + 4 + k) corners counts
 join_ready w surrounded right side way new sound j inner outer corners counts listed made k k_in =
     flat_ready new (w.darts + 4 + k) corners counts (inner ++ ((made.kept ++ detour w.darts side) ∷ [])) made.flat
     (join_waits w surrounded right side way new j k k_in inner outer made.kept listed (sound.meeting.most right j.right_in) made.is_kept)
 
 pub enclosed_by : (w : DartMap) (outside : ℕ) (surrounded : DartMap) (right side way : ℕ) (new last : DartMap) →
-    ((label : ℕ → ℕ) → AreFaceNumbers w label → label right ≡ label outside) → IsJoining w surrounded right side way new → Grows new last →
+    ((label : ℕ → ℕ) → AreFaceNumbers w label → label right ≡ label outside) → IsConnecting w surrounded right side way new → Grows new last →
     IsEnclosed w outside last
 enclosed_by w outside surrounded right side way new last same_face j grows = record {
   surrounded = surrounded;
@@ -204,13 +204,13 @@ enclosed_by w outside surrounded right side way new last same_face j grows = rec
 }
 
 pub enclosed_reaches : (w surrounded : DartMap) (right side way : ℕ) (new last : DartMap) (label : ℕ → ℕ) (outer : ℕ) → IsSound w → HasTurns w label outer →
-    IsJoining w surrounded right side way new → Grows new last → ReachesCorners last
+    IsConnecting w surrounded right side way new → Grows new last → ReachesCorners last
 enclosed_reaches w surrounded right side way new last label outer sound turns j grows =
     grows_reaches new last (join_sound w surrounded right side way new sound j) grows
     (cut_reaches surrounded right (w.darts + side) way new (surround_linked w surrounded j.surround sound.linked) j.join
     (surround_reaches w surrounded j.surround sound.linked (turns_reach w label outer sound.linked turns)))
 
-pub enclosed_few : (w surrounded : DartMap) (right side way : ℕ) (new last : DartMap) → IsSound w → IsJoining w surrounded right side way new → Grows new last →
+pub enclosed_few : (w surrounded : DartMap) (right side way : ℕ) (new last : DartMap) → IsSound w → IsConnecting w surrounded right side way new → Grows new last →
     AreWaiting last (w.darts + 4) [] → last.vertices ≤ w.vertices + reflex_turns w + 4
 enclosed_few w surrounded right side way new last sound j grows done =
     let last_sound = grows_sound new last (join_sound w surrounded right side way new sound j) grows in

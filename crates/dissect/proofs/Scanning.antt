@@ -5,7 +5,7 @@ use Rattle.common.specs.Sums.{sum_below}
 use Rattle.common.proofs.Sums.{sum_below-more, sum_below-changed, sum_below-member}
 use Rattle.dissect.specs.Turning.{total, Rising, Hopeful}
 use Rattle.dissect.specs.DartMaps.{DartMap, IsLinked, IsSubdivided, IsChord, Fits, IsSound, IsCut, further, reflex_turns}
-use Rattle.dissect.specs.Faces.{IsCorner, StretchesIn, Stretches, Trail, last_of, Ring, In, Distinct, Below, joined, AreWaiting}
+use Rattle.dissect.specs.Faces.{IsCorner, StretchesIn, Stretches, Trail, last_of, Ring, In, Distinct, Below, concatenated, AreWaiting}
 use Rattle.dissect.specs.Scan.{down, IsScan, CanCut, HasRoom}
 use Rattle.dissect.proofs.Splitting.{split_linked, split_meeting, split_straight}
 use Rattle.dissect.proofs.Chords.{chord_linked, chord_meeting, chord_straight}
@@ -165,9 +165,9 @@ scan_bites w0 face w d c1 c way st rest o rs new scan wait left_first left cut =
     let same : down st (d ∷ c1 ∷ c ∷ rest) ≡ down st [] ++ (d ∷ c1 ∷ c ∷ rest) = down_append st (d ∷ c1 ∷ c ∷ rest) in
     let stretches = ring_stretches w (down st []) d c1 c rest (subst (Ring w) same waiting.rings.0.0) in
     let below : Below w.darts (down st [] ++ (d ∷ c1 ∷ c ∷ rest)) =
-    subst (Below w.darts) same (below_left w.darts (down st (d ∷ c1 ∷ c ∷ rest)) (joined rs) waiting.below) in
+    subst (Below w.darts) same (below_left w.darts (down st (d ∷ c1 ∷ c ∷ rest)) (concatenated rs) waiting.below) in
     let distinct : Distinct (down st [] ++ (d ∷ c1 ∷ c ∷ rest)) =
-    subst Distinct same (distinct_left (down st (d ∷ c1 ∷ c ∷ rest)) (joined rs) waiting.distinct) in
+    subst Distinct same (distinct_left (down st (d ∷ c1 ∷ c ∷ rest)) (concatenated rs) waiting.distinct) in
     let tail = below_right w.darts (down st []) (d ∷ c1 ∷ c ∷ rest) below in
     let apart = distinct_right (down st []) (d ∷ c1 ∷ c ∷ rest) distinct in
     record {
@@ -192,7 +192,7 @@ scan_can w0 face w d c1 c st rest o rs scan wait left_first left right =
     let same : down st (d ∷ c1 ∷ c ∷ rest) ≡ down st [] ++ (d ∷ c1 ∷ c ∷ rest) = down_append st (d ∷ c1 ∷ c ∷ rest) in
     let stretches = ring_stretches w (down st []) d c1 c rest (subst (Ring w) same waiting.rings.0.0) in
     let below : Below w.darts (down st [] ++ (d ∷ c1 ∷ c ∷ rest)) =
-    subst (Below w.darts) same (below_left w.darts (down st (d ∷ c1 ∷ c ∷ rest)) (joined rs) waiting.below) in
+    subst (Below w.darts) same (below_left w.darts (down st (d ∷ c1 ∷ c ∷ rest)) (concatenated rs) waiting.below) in
     let tail = below_right w.darts (down st []) (d ∷ c1 ∷ c ∷ rest) below in
     record {
       d_in = tail.0;
@@ -232,9 +232,9 @@ scan_kept w0 face w d c1 c way st rest o rs new scan wait bite =
     let waiting = scan.waiting o rs wait in
     let same : down st (d ∷ c1 ∷ c ∷ rest) ≡ down st [] ++ (d ∷ c1 ∷ c ∷ rest) = down_append st (d ∷ c1 ∷ c ∷ rest) in
     let below : Below w.darts (down st [] ++ (d ∷ c1 ∷ c ∷ rest)) =
-    subst (Below w.darts) same (below_left w.darts (down st (d ∷ c1 ∷ c ∷ rest)) (joined rs) waiting.below) in
+    subst (Below w.darts) same (below_left w.darts (down st (d ∷ c1 ∷ c ∷ rest)) (concatenated rs) waiting.below) in
     let distinct : Distinct (down st [] ++ (d ∷ c1 ∷ c ∷ rest)) =
-    subst Distinct same (distinct_left (down st (d ∷ c1 ∷ c ∷ rest)) (joined rs) waiting.distinct) in
+    subst Distinct same (distinct_left (down st (d ∷ c1 ∷ c ∷ rest)) (concatenated rs) waiting.distinct) in
     let below_front : Below w.darts (down st []) = below_left w.darts (down st []) (d ∷ c1 ∷ c ∷ rest) below in
     let below_tail = below_right w.darts (down st []) (d ∷ c1 ∷ c ∷ rest) below in
     let after = distinct_right (down st []) (d ∷ c1 ∷ c ∷ rest) distinct in

@@ -9,7 +9,7 @@ use Rattle.common.proofs.Sums.{sum_below-changed}
 use Rattle.faces.specs.Faces.{IsClosedUnder}
 use Rattle.faces.specs.Planes.{PlaneModel, IsPlane, HasEnds, darts, reverse_dart, next}
 use Rattle.faces.proofs.Ends.{plane_ends, seven_rules}
-use Rattle.faces.proofs.Joined.{all_joined}
+use Rattle.faces.proofs.Connected.{all_connected}
 use Rattle.ortho_rep.specs.declared.turn.Turn.{Turn}
 use Rattle.ortho_rep.specs.Turns.{lefts, rights}
 use Rattle.ortho_rep.specs.Shapes.{ShapeModel, angle_at, turns_at}
@@ -172,7 +172,7 @@ search_passed {n} {h} {c} {ahead} {back} {headings} {waiting} d first second s =
 -- where no dart waits, each has its direction
 pub search_whole : (p : PlaneModel) → IsPlane p → {h : ℕ → ℕ} {c : ℕ} {headings : List ℕ} → IsKnown headings 0 → IsSearch (darts p) h c (λ d. reverse_dart p (next p d)) (reverse_dart p) headings [] nobody → (d : ℕ) → d < darts p → get_or headings d 0 ≡ (h d + c) % 4
 search_whole p is {h} {c} {headings} first s d b =
-    s.sound d b (known d (all_joined p.lists (seven_rules p.lists is.rules) held onward across 0 d ends.some_darts b (holds 0 first)))
+    s.sound d b (known d (all_connected p.lists (seven_rules p.lists is.rules) held onward across 0 d ends.some_darts b (holds 0 first)))
   where
     ends : HasEnds p
     ends = plane_ends p is

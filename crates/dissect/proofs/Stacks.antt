@@ -6,7 +6,7 @@ use Rattle.std.proofs.lemmas.List.Elements.{All-set}
 use Rattle.std.proofs.Math.ListN.{length-set}
 use Rattle.dissect.specs.Turning.{Reduced, AreTurns}
 use Rattle.dissect.specs.DartMaps.{DartMap, IsCut}
-use Rattle.dissect.specs.Faces.{IsCorner, In, joined, AreWaiting}
+use Rattle.dissect.specs.Faces.{IsCorner, In, concatenated, AreWaiting}
 use Rattle.dissect.specs.Scan.{down, tops, IsScan, CanCut, HasRoom, IsHookOn}
 use Rattle.dissect.proofs.LeftTurns.{reduced_left, reduced_right, left_or_right}
 use Rattle.dissect.proofs.Listing.{in_below, below_left}
@@ -69,7 +69,7 @@ pub stack_turns : (w0 : DartMap) (face : List ℕ) (w : DartMap) (st rest : List
 stack_turns w0 face w st rest o rs scan wait a here =
     let waiting = scan.waiting o rs wait in
     let there : In a (down st rest) = in_down a st rest here in (
-      in_below w.darts a (down st rest) (below_left w.darts (down st rest) (joined rs) waiting.below) there,
+      in_below w.darts a (down st rest) (below_left w.darts (down st rest) (concatenated rs) waiting.below) there,
       ring_corners w a (down st rest) waiting.rings.0.0 there,
     )
 

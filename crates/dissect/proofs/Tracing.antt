@@ -2,7 +2,7 @@
 use Rattle.std.proofs.Common.{◌≡◌, ◌≢◌, ◌⊎◌, ℕ, zero, suc, ◌+◌, ◌-◌, ◌<◌, ◌≤◌, ◌∙◌, List, [], ◌∷◌, ◌++◌, Bool, false, length, map, get_or, replicate, length-append, append_assoc, append-nil, arith, subst, sym, ap, refl, inl, inr}
 use Rattle.std.proofs.lemmas.Bool.{cases_eq, both_ways}
 use Rattle.dissect.specs.DartMaps.{DartMap, IsLinked}
-use Rattle.dissect.specs.Faces.{IsCorner, Ring, In, Distinct, Below, joined, TurnsOnce, AreRings}
+use Rattle.dissect.specs.Faces.{IsCorner, Ring, In, Distinct, Below, concatenated, TurnsOnce, AreRings}
 use Rattle.dissect.specs.FaceNumbers.{HasTurns}
 use Rattle.dissect.proofs.Listing.{in_append, in_left, in_right, below_append, distinct_append}
 use Rattle.dissect.specs.Walks.{steps, path, turning, IsOrbit, IsFlagged, IsWalked}
@@ -10,9 +10,9 @@ use Rattle.dissect.specs.Listed.{AreListed, AreFlat}
 use Rattle.dissect.proofs.Orbits.{steps_in, steps_more, steps_add, path_member, path_holds, path_below, length-path, orbit_distinct, in_turning, turning_in, turning_distinct, turning_below, turning_straight, turning_corner, orbit_ends, orbit_ring}
 use Rattle.dissect.proofs.Turns.{orbit_holds, orbit_once, orbit_outside}
 
-pub joined_more : (rs : List (List ℕ)) (r : List ℕ) → joined (rs ++ (r ∷ [])) ≡ joined rs ++ r
-joined_more [] r = append-nil r
-joined_more (q ∷ rs) r = ap (λ (xs : List ℕ). q ++ xs) (joined_more rs r) ∙ sym (append_assoc q (joined rs) r)
+pub concatenated_more : (rs : List (List ℕ)) (r : List ℕ) → concatenated (rs ++ (r ∷ [])) ≡ concatenated rs ++ r
+concatenated_more [] r = append-nil r
+concatenated_more (q ∷ rs) r = ap (λ (xs : List ℕ). q ++ xs) (concatenated_more rs r) ∙ sym (append_assoc q (concatenated rs) r)
 
 pub lengths_more : (rs : List (List ℕ)) (r : List ℕ) →
     map (λ (q : List ℕ). length q) (rs ++ (r ∷ [])) ≡ map (λ (q : List ℕ). length q) rs ++ (length r ∷ [])
@@ -63,18 +63,18 @@ pub record IsTracing (w : DartMap) (right : ℕ) (flags : List Bool) (corners co
   pub inner : List (List ℕ)
   pub flat : AreFlat corners counts inner
   pub rings : AreRings w inner
-  pub distinct : Distinct (joined inner)
-  pub below : Below w.darts (joined inner)
+  pub distinct : Distinct (concatenated inner)
+  pub below : Below w.darts (concatenated inner)
   pub size : w.darts ≤ length flags
   pub shut : AreShut w flags
-  pub listed : (a : ℕ) → In a (joined inner) → IsFlagged flags a
-  pub known : (a : ℕ) → IsFlagged flags a → IsCorner w a → In a (joined inner) ⊎ In a outer
+  pub listed : (a : ℕ) → In a (concatenated inner) → IsFlagged flags a
+  pub known : (a : ℕ) → IsFlagged flags a → IsCorner w a → In a (concatenated inner) ⊎ In a outer
   pub passed : (a : ℕ) → a < d → IsCorner w a → IsFlagged flags a
   pub places : ℕ
   pub orbit : IsOrbit w right places
   pub outer_is : outer ≡ turning w (path w right places)
   pub held : (a : ℕ) → In a (path w right places) → IsFlagged flags a
-  pub apart : (a : ℕ) → In a (joined inner) → In a (path w right places) → ⊥
+  pub apart : (a : ℕ) → In a (concatenated inner) → In a (path w right places) → ⊥
 
 pub trace_begins : (w : DartMap) (right : ℕ) (none flags : List Bool) (outer : List ℕ) → ((a : ℕ) → IsFlagged none a → ⊥) → w.darts ≤ length flags →
     IsWalked w right none flags [] outer → IsTracing w right flags [] [] outer 0
@@ -147,32 +147,32 @@ trace_more w right label flags after corners counts outer new d count linked rig
     record {
       inner = inner ++ (r ∷ []);
       flat = record {
-        flat = walked.corners ∙ ap (λ (xs : List ℕ). xs ++ r) trace.flat.flat ∙ sym (joined_more inner r);
+        flat = walked.corners ∙ ap (λ (xs : List ℕ). xs ++ r) trace.flat.flat ∙ sym (concatenated_more inner r);
         lengths = ap (λ (k : ℕ). counts ++ (k ∷ [])) long ∙ ap (λ (xs : List ℕ). xs ++ (length r ∷ [])) trace.flat.lengths
             ∙ sym (lengths_more inner r);
       };
       rings = rings_more w inner r trace.rings (orbit_ring w d p walked.orbit corner)
           (orbit_once w label (label right) d p linked turns d_in walked.orbit inside);
-      distinct = subst Distinct (sym (joined_more inner r))
-          (distinct_append (joined inner) r trace.distinct (turning_distinct w (path w d p) (orbit_distinct w d p linked d_in walked.orbit))
+      distinct = subst Distinct (sym (concatenated_more inner r))
+          (distinct_append (concatenated inner) r trace.distinct (turning_distinct w (path w d p) (orbit_distinct w d p linked d_in walked.orbit))
           (λ a left right. fresh a (in_turning w a (path w d p) right).0 (trace.listed a left)));
-      below = subst (Below w.darts) (sym (joined_more inner r))
-          (below_append w.darts (joined inner) r trace.below (turning_below w w.darts (path w d p) (path_below w linked d p d_in)));
+      below = subst (Below w.darts) (sym (concatenated_more inner r))
+          (below_append w.darts (concatenated inner) r trace.below (turning_below w w.darts (path w d p) (path_below w linked d p d_in)));
       size = omega (arith, trace.size, same_size);
       shut = λ a l m. elim (walked.only a m) [
         | inl old ↦ walked.kept (w.next a) (trace.shut a l old)
         | inr here ↦ walked.passed (w.next a) (path_closed w d p a walked.orbit here)
       ];
-      listed = λ a h. elim (in_append a (joined inner) r (subst (In a) (joined_more inner r) h)) [
+      listed = λ a h. elim (in_append a (concatenated inner) r (subst (In a) (concatenated_more inner r) h)) [
         | inl left ↦ walked.kept a (trace.listed a left)
         | inr right ↦ walked.passed a (in_turning w a (path w d p) right).0
       ];
       known = λ a m turn. elim (walked.only a m) [
         | inl old ↦ elim (trace.known a old turn) [
-          | inl left ↦ inl (subst (In a) (sym (joined_more inner r)) (in_left a (joined inner) r left))
+          | inl left ↦ inl (subst (In a) (sym (concatenated_more inner r)) (in_left a (concatenated inner) r left))
           | inr outside ↦ inr outside
         ]
-        | inr here ↦ inl (subst (In a) (sym (joined_more inner r)) (in_right a (joined inner) r (turning_in w a (path w d p) here turn)))
+        | inr here ↦ inl (subst (In a) (sym (concatenated_more inner r)) (in_right a (concatenated inner) r (turning_in w a (path w d p) here turn)))
       ];
       passed = λ a l turn. elim (cases_eq a d) [
         | inl e ↦ subst (IsFlagged after) (sym e) (walked.passed d (path_self w d p walked.orbit))
@@ -182,7 +182,7 @@ trace_more w right label flags after corners counts outer new d count linked rig
       orbit = trace.orbit;
       outer_is = trace.outer_is;
       held = λ a h. walked.kept a (trace.held a h);
-      apart = λ a h outside. elim (in_append a (joined inner) r (subst (In a) (joined_more inner r) h)) [
+      apart = λ a h outside. elim (in_append a (concatenated inner) r (subst (In a) (concatenated_more inner r) h)) [
         | inl left ↦ trace.apart a left outside
         | inr right ↦ fresh a (in_turning w a (path w d p) right).0 (trace.held a outside)
       ];
@@ -197,18 +197,18 @@ trace_done w right label flags corners counts outer d linked right_in turn turns
     let corner : IsCorner w right = λ h. omega (arith, h, turn) in
     let listed : AreListed w right trace.inner r = record {
       rings = trace.rings;
-      distinct = distinct_append (joined trace.inner) r trace.distinct
+      distinct = distinct_append (concatenated trace.inner) r trace.distinct
           (turning_distinct w (path w right p) (orbit_distinct w right p linked right_in trace.orbit))
           (λ a left outside. trace.apart a left (in_turning w a (path w right p) outside).0);
-      below = below_append w.darts (joined trace.inner) r trace.below
+      below = below_append w.darts (concatenated trace.inner) r trace.below
           (turning_below w w.darts (path w right p) (path_below w linked right p right_in));
       ring = orbit_ring w right p trace.orbit corner;
       front = turning w (path w right (p - 1));
       ends = orbit_ends w right p trace.orbit corner;
       turns_back = orbit_outside w label right p linked turns right_in trace.orbit;
       all = λ a l turn. elim (trace.known a (trace.passed a (omega (arith, l, all)) turn) turn) [
-        | inl left ↦ in_left a (joined trace.inner) r left
-        | inr outside ↦ in_right a (joined trace.inner) r (subst (In a) trace.outer_is outside)
+        | inl left ↦ in_left a (concatenated trace.inner) r left
+        | inr outside ↦ in_right a (concatenated trace.inner) r (subst (In a) trace.outer_is outside)
       ];
     } in
     (trace.inner, trace.flat, subst (AreListed w right trace.inner) (sym trace.outer_is) listed)

@@ -3,7 +3,7 @@ use Rattle.std.proofs.Common.{◌≡◌, ◌≢◌, ◌⊎◌, ℕ, ◌+◌, ◌
 use Rattle.std.proofs.lemmas.Bool.{cases_eq}
 use Rattle.dissect.specs.Turning.{total}
 use Rattle.dissect.specs.DartMaps.{DartMap, IsLinked, IsCut}
-use Rattle.dissect.specs.Faces.{IsCorner, Stretches, last_of, Ring, IsRectangle, IsOutside, In, Distinct, Below, joined, TurnsOnce, AreRings, AreWaiting}
+use Rattle.dissect.specs.Faces.{IsCorner, Stretches, last_of, Ring, IsRectangle, IsOutside, In, Distinct, Below, concatenated, TurnsOnce, AreRings, AreWaiting}
 use Rattle.dissect.proofs.Splitting.{split_linked, by_age}
 use Rattle.dissect.proofs.Stretching.{split_stretches}
 use Rattle.dissect.proofs.Rings.{Clear, IsHook, split_ring, split_four, chord_ring, cut_ring_within, split_outside, cut_boxes, cut_box, cut_outside}
@@ -94,24 +94,24 @@ ring_last w (c ∷ cs) ring below = in_below w.darts (last_of c cs) (c ∷ cs) b
 
 -- faces that the cut does not touch
 pub other_rings : (w : DartMap) (d c1 c e way : ℕ) (new : DartMap) → IsBite w d c1 c e way new → (rs : List (List ℕ)) →
-    Below w.darts (joined rs) → (In d (joined rs) → ⊥) → (In c (joined rs) → ⊥) → AreRings w rs → AreRings new rs
+    Below w.darts (concatenated rs) → (In d (concatenated rs) → ⊥) → (In c (concatenated rs) → ⊥) → AreRings w rs → AreRings new rs
 other_rings w d c1 c e way new bite [] below out_d out_c rings = tt
 other_rings w d c1 c e way new bite (r ∷ rs) below out_d out_c rings =
     let cut = bite.cut in
     let s = cut.split in
     let here = hook_of w d c1 c e way new bite in
     let linked = middle_linked w d c1 c e way new bite in
-    let below_r : Below w.darts r = below_left w.darts r (joined rs) below in
-    let out_d_r : In d r → ⊥ = λ h. out_d (in_left d r (joined rs) h) in
-    let out_c_r : In c r → ⊥ = λ h. out_c (in_left c r (joined rs) h) in
+    let below_r : Below w.darts r = below_left w.darts r (concatenated rs) below in
+    let out_d_r : In d r → ⊥ = λ h. out_d (in_left d r (concatenated rs) h) in
+    let out_c_r : In c r → ⊥ = λ h. out_c (in_left c r (concatenated rs) h) in
     let middle_ring : Ring cut.middle r = split_ring w e (w.direction e) cut.middle s bite.linked cut.e_in r
     (ring_last w r rings.0.0 below_r) rings.0.0 in
     let ring : Ring new r = chord_ring cut.middle d c w.darts way new cut.chord linked here.cutting r
     (clear_of w.darts cut.middle.darts d c r (omega (arith, s.darts)) below_r out_d_r out_c_r) middle_ring in
     let once : TurnsOnce new r = omega (arith, totals_kept w d c1 c e way new bite r below_r out_d_r, rings.0.1) in (
       (ring, once),
-      other_rings w d c1 c e way new bite rs (below_right w.darts r (joined rs) below)
-          (λ h. out_d (in_right d r (joined rs) h)) (λ h. out_c (in_right c r (joined rs) h)) rings.1,
+      other_rings w d c1 c e way new bite rs (below_right w.darts r (concatenated rs) below)
+          (λ h. out_d (in_right d r (concatenated rs) h)) (λ h. out_c (in_right c r (concatenated rs) h)) rings.1,
     )
 
 -- each corner after the cut is of a list that has the chord's way there, d if it still turns, and what stays
@@ -301,34 +301,34 @@ kept_waiting w d c1 c e way new before rest o rs bite corner waiting =
     let t = cut.chord in
     let two : cut.middle.darts ≡ w.darts + 2 = s.darts in
     let more : w.darts + 2 < new.darts = omega (arith, t.darts, two) in
-    let old_flat : (before ++ (d ∷ c1 ∷ c ∷ rest)) ++ joined rs ≡ before ++ (d ∷ c1 ∷ c ∷ (rest ++ joined rs)) =
-    append_assoc before (d ∷ c1 ∷ c ∷ rest) (joined rs) in
-    let new_flat : (before ++ (d ∷ (w.darts + 2) ∷ rest)) ++ joined rs ≡ before ++ (d ∷ (w.darts + 2) ∷ (rest ++ joined rs)) =
-    append_assoc before (d ∷ (w.darts + 2) ∷ rest) (joined rs) in
-    let distinct : Distinct (before ++ (d ∷ c1 ∷ c ∷ (rest ++ joined rs))) = subst Distinct old_flat waiting.distinct in
-    let below : Below w.darts (before ++ (d ∷ c1 ∷ c ∷ (rest ++ joined rs))) = subst (Below w.darts) old_flat waiting.below in
-    let fresh : In (w.darts + 2) (before ++ (d ∷ c1 ∷ c ∷ (rest ++ joined rs))) → ⊥ =
-    λ h. omega (arith, in_below w.darts (w.darts + 2) (before ++ (d ∷ c1 ∷ c ∷ (rest ++ joined rs))) below h) in
-    let parts = apart_parts w.darts d c1 c before rest (joined rs) distinct below in
-    let below_face : Below w.darts (before ++ (d ∷ c1 ∷ c ∷ rest)) = below_left w.darts (before ++ (d ∷ c1 ∷ c ∷ rest)) (joined rs) waiting.below in
-    let ring = bite_ring w d c1 c e way new before rest (joined rs) bite parts waiting.rings.0.0 waiting.rings.0.1 below_face in
+    let old_flat : (before ++ (d ∷ c1 ∷ c ∷ rest)) ++ concatenated rs ≡ before ++ (d ∷ c1 ∷ c ∷ (rest ++ concatenated rs)) =
+    append_assoc before (d ∷ c1 ∷ c ∷ rest) (concatenated rs) in
+    let new_flat : (before ++ (d ∷ (w.darts + 2) ∷ rest)) ++ concatenated rs ≡ before ++ (d ∷ (w.darts + 2) ∷ (rest ++ concatenated rs)) =
+    append_assoc before (d ∷ (w.darts + 2) ∷ rest) (concatenated rs) in
+    let distinct : Distinct (before ++ (d ∷ c1 ∷ c ∷ (rest ++ concatenated rs))) = subst Distinct old_flat waiting.distinct in
+    let below : Below w.darts (before ++ (d ∷ c1 ∷ c ∷ (rest ++ concatenated rs))) = subst (Below w.darts) old_flat waiting.below in
+    let fresh : In (w.darts + 2) (before ++ (d ∷ c1 ∷ c ∷ (rest ++ concatenated rs))) → ⊥ =
+    λ h. omega (arith, in_below w.darts (w.darts + 2) (before ++ (d ∷ c1 ∷ c ∷ (rest ++ concatenated rs))) below h) in
+    let parts = apart_parts w.darts d c1 c before rest (concatenated rs) distinct below in
+    let below_face : Below w.darts (before ++ (d ∷ c1 ∷ c ∷ rest)) = below_left w.darts (before ++ (d ∷ c1 ∷ c ∷ rest)) (concatenated rs) waiting.below in
+    let ring = bite_ring w d c1 c e way new before rest (concatenated rs) bite parts waiting.rings.0.0 waiting.rings.0.1 below_face in
     record {
       rings = (
         ring.0 corner,
         other_rings w d c1 c e way new bite rs parts.below_others parts.d_others parts.c_others waiting.rings.1,
       );
-      distinct = subst Distinct (sym new_flat) (kept_distinct d c1 c (w.darts + 2) before (rest ++ joined rs) distinct fresh);
+      distinct = subst Distinct (sym new_flat) (kept_distinct d c1 c (w.darts + 2) before (rest ++ concatenated rs) distinct fresh);
       below = subst (Below new.darts) (sym new_flat)
-          (kept_below w.darts new.darts d c1 c (w.darts + 2) before (rest ++ joined rs) (omega (arith, t.darts, two)) more below);
+          (kept_below w.darts new.darts d c1 c (w.darts + 2) before (rest ++ concatenated rs) (omega (arith, t.darts, two)) more below);
       inside = omega (arith, t.darts, two, waiting.inside);
       outside = bite_outside w o d c1 c e way new bite waiting.inside waiting.outside;
       placed = λ a l turn. subst (λ (zs : List ℕ). In a zs ⊎ (IsRectangle new 1 a ⊎ IsOutside new o a)) (sym new_flat)
-          (bite_places w o d c1 c e way new before (rest ++ joined rs) (before ++ (d ∷ (w.darts + 2) ∷ (rest ++ joined rs))) bite
+          (bite_places w o d c1 c e way new before (rest ++ concatenated rs) (before ++ (d ∷ (w.darts + 2) ∷ (rest ++ concatenated rs))) bite
           (λ a l turn. subst (λ (zs : List ℕ). In a zs ⊎ (IsRectangle w 1 a ⊎ IsOutside w o a)) old_flat (waiting.placed a l turn))
-          (in_right (w.darts + 2) before (d ∷ (w.darts + 2) ∷ (rest ++ joined rs)) (inr (inl refl)))
-          (λ _. in_right d before (d ∷ (w.darts + 2) ∷ (rest ++ joined rs)) (inl refl))
-          (λ a h. in_left a before (d ∷ (w.darts + 2) ∷ (rest ++ joined rs)) h)
-          (λ a h. in_right a before (d ∷ (w.darts + 2) ∷ (rest ++ joined rs)) (inr (inr h)))
+          (in_right (w.darts + 2) before (d ∷ (w.darts + 2) ∷ (rest ++ concatenated rs)) (inr (inl refl)))
+          (λ _. in_right d before (d ∷ (w.darts + 2) ∷ (rest ++ concatenated rs)) (inl refl))
+          (λ a h. in_left a before (d ∷ (w.darts + 2) ∷ (rest ++ concatenated rs)) h)
+          (λ a h. in_right a before (d ∷ (w.darts + 2) ∷ (rest ++ concatenated rs)) (inr (inr h)))
           a l turn);
     }
 
@@ -342,33 +342,33 @@ gone_waiting w d c1 c e way new before rest o rs bite straight waiting =
     let t = cut.chord in
     let two : cut.middle.darts ≡ w.darts + 2 = s.darts in
     let more : w.darts + 2 < new.darts = omega (arith, t.darts, two) in
-    let old_flat : (before ++ (d ∷ c1 ∷ c ∷ rest)) ++ joined rs ≡ before ++ (d ∷ c1 ∷ c ∷ (rest ++ joined rs)) =
-    append_assoc before (d ∷ c1 ∷ c ∷ rest) (joined rs) in
-    let new_flat : (before ++ ((w.darts + 2) ∷ rest)) ++ joined rs ≡ before ++ ((w.darts + 2) ∷ (rest ++ joined rs)) =
-    append_assoc before ((w.darts + 2) ∷ rest) (joined rs) in
-    let distinct : Distinct (before ++ (d ∷ c1 ∷ c ∷ (rest ++ joined rs))) = subst Distinct old_flat waiting.distinct in
-    let below : Below w.darts (before ++ (d ∷ c1 ∷ c ∷ (rest ++ joined rs))) = subst (Below w.darts) old_flat waiting.below in
-    let fresh : In (w.darts + 2) (before ++ (d ∷ c1 ∷ c ∷ (rest ++ joined rs))) → ⊥ =
-    λ h. omega (arith, in_below w.darts (w.darts + 2) (before ++ (d ∷ c1 ∷ c ∷ (rest ++ joined rs))) below h) in
-    let parts = apart_parts w.darts d c1 c before rest (joined rs) distinct below in
-    let below_face : Below w.darts (before ++ (d ∷ c1 ∷ c ∷ rest)) = below_left w.darts (before ++ (d ∷ c1 ∷ c ∷ rest)) (joined rs) waiting.below in
-    let ring = bite_ring w d c1 c e way new before rest (joined rs) bite parts waiting.rings.0.0 waiting.rings.0.1 below_face in
+    let old_flat : (before ++ (d ∷ c1 ∷ c ∷ rest)) ++ concatenated rs ≡ before ++ (d ∷ c1 ∷ c ∷ (rest ++ concatenated rs)) =
+    append_assoc before (d ∷ c1 ∷ c ∷ rest) (concatenated rs) in
+    let new_flat : (before ++ ((w.darts + 2) ∷ rest)) ++ concatenated rs ≡ before ++ ((w.darts + 2) ∷ (rest ++ concatenated rs)) =
+    append_assoc before ((w.darts + 2) ∷ rest) (concatenated rs) in
+    let distinct : Distinct (before ++ (d ∷ c1 ∷ c ∷ (rest ++ concatenated rs))) = subst Distinct old_flat waiting.distinct in
+    let below : Below w.darts (before ++ (d ∷ c1 ∷ c ∷ (rest ++ concatenated rs))) = subst (Below w.darts) old_flat waiting.below in
+    let fresh : In (w.darts + 2) (before ++ (d ∷ c1 ∷ c ∷ (rest ++ concatenated rs))) → ⊥ =
+    λ h. omega (arith, in_below w.darts (w.darts + 2) (before ++ (d ∷ c1 ∷ c ∷ (rest ++ concatenated rs))) below h) in
+    let parts = apart_parts w.darts d c1 c before rest (concatenated rs) distinct below in
+    let below_face : Below w.darts (before ++ (d ∷ c1 ∷ c ∷ rest)) = below_left w.darts (before ++ (d ∷ c1 ∷ c ∷ rest)) (concatenated rs) waiting.below in
+    let ring = bite_ring w d c1 c e way new before rest (concatenated rs) bite parts waiting.rings.0.0 waiting.rings.0.1 below_face in
     record {
       rings = (
         ring.1 straight,
         other_rings w d c1 c e way new bite rs parts.below_others parts.d_others parts.c_others waiting.rings.1,
       );
-      distinct = subst Distinct (sym new_flat) (gone_distinct d c1 c (w.darts + 2) before (rest ++ joined rs) distinct fresh);
+      distinct = subst Distinct (sym new_flat) (gone_distinct d c1 c (w.darts + 2) before (rest ++ concatenated rs) distinct fresh);
       below = subst (Below new.darts) (sym new_flat)
-          (gone_below w.darts new.darts d c1 c (w.darts + 2) before (rest ++ joined rs) (omega (arith, t.darts, two)) more below);
+          (gone_below w.darts new.darts d c1 c (w.darts + 2) before (rest ++ concatenated rs) (omega (arith, t.darts, two)) more below);
       inside = omega (arith, t.darts, two, waiting.inside);
       outside = bite_outside w o d c1 c e way new bite waiting.inside waiting.outside;
       placed = λ a l turn. subst (λ (zs : List ℕ). In a zs ⊎ (IsRectangle new 1 a ⊎ IsOutside new o a)) (sym new_flat)
-          (bite_places w o d c1 c e way new before (rest ++ joined rs) (before ++ ((w.darts + 2) ∷ (rest ++ joined rs))) bite
+          (bite_places w o d c1 c e way new before (rest ++ concatenated rs) (before ++ ((w.darts + 2) ∷ (rest ++ concatenated rs))) bite
           (λ a l turn. subst (λ (zs : List ℕ). In a zs ⊎ (IsRectangle w 1 a ⊎ IsOutside w o a)) old_flat (waiting.placed a l turn))
-          (in_right (w.darts + 2) before ((w.darts + 2) ∷ (rest ++ joined rs)) (inl refl))
+          (in_right (w.darts + 2) before ((w.darts + 2) ∷ (rest ++ concatenated rs)) (inl refl))
           (λ turn. absurd (turn straight))
-          (λ a h. in_left a before ((w.darts + 2) ∷ (rest ++ joined rs)) h)
-          (λ a h. in_right a before ((w.darts + 2) ∷ (rest ++ joined rs)) (inr h))
+          (λ a h. in_left a before ((w.darts + 2) ∷ (rest ++ concatenated rs)) h)
+          (λ a h. in_right a before ((w.darts + 2) ∷ (rest ++ concatenated rs)) (inr h))
           a l turn);
     }

@@ -11,7 +11,7 @@ use Rattle.dissect.specs.Bends.{AreHeadings, CountsBends, KeepsDarts, KeepsFaces
 use Rattle.dissect.specs.Steps.{angle_of}
 use Rattle.dissect.specs.Chains.{AreChains}
 use Rattle.dissect.specs.Boxes.{BoxesModel, AreBoxes, dart_map}
-use Rattle.dissect.specs.Rectangle.{HasRectangle, IsJoinedAt}
+use Rattle.dissect.specs.Rectangle.{HasRectangle, IsConnectedAt}
 
 -- the map of the shape, with straight edges, before anything is put round it: it has the plane's vertices and darts, a
 -- vertex at each bend, and the plane's faces
@@ -44,7 +44,7 @@ pub record IsEnclosedMap (p : PlaneModel) (shape : ShapeModel) (b : BoxesModel) 
   pub right_in : right < enclosed_map.darts
   pub turns_right : 2 < enclosed_map.angle right
   pub outer : of_shape.faces.label right ≡ p.outer
-  pub join : IsJoinedAt enclosed_map right (dart_map b)
+  pub join : IsConnectedAt enclosed_map right (dart_map b)
 
 -- the paths of the plane's darts lie apart
 pub record ArePathsApart (p : PlaneModel) (w : DartMap) : Type 0 where

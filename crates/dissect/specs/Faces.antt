@@ -71,9 +71,9 @@ Below n [] = Unit {0}
 Below n (b ∷ bs) = (b < n) × Below n bs
 
 -- the lists, one after another
-abbrev pub joined : List (List ℕ) → List ℕ
-joined [] = []
-joined (r ∷ rs) = r ++ joined rs
+abbrev pub concatenated : List (List ℕ) → List ℕ
+concatenated [] = []
+concatenated (r ∷ rs) = r ++ concatenated rs
 
 -- along these corners the walk turns once round to the left
 abbrev pub TurnsOnce : DartMap → List ℕ → Type 0
@@ -88,11 +88,11 @@ AreRings w (r ∷ rs) = (Ring w r × TurnsOnce w r) × AreRings w rs
 -- rectangle, of which o is a corner
 pub record AreWaiting (w : DartMap) (o : ℕ) (faces : List (List ℕ)) : Type 0 where
   pub rings : AreRings w faces
-  pub distinct : Distinct (joined faces)
-  pub below : Below w.darts (joined faces)
+  pub distinct : Distinct (concatenated faces)
+  pub below : Below w.darts (concatenated faces)
   pub inside : o < w.darts
   pub outside : IsRectangle w 3 o
-  pub placed : (a : ℕ) → a < w.darts → IsCorner w a → In a (joined faces) ⊎ (IsRectangle w 1 a ⊎ IsOutside w o a)
+  pub placed : (a : ℕ) → a < w.darts → IsCorner w a → In a (concatenated faces) ⊎ (IsRectangle w 1 a ⊎ IsOutside w o a)
 
 -- the list cut up into pieces of these lengths
 abbrev pub cut_up : List ℕ → List ℕ → List (List ℕ)

@@ -2,7 +2,7 @@ pub mod Unique
 pub mod Degrees
 pub mod Sets
 pub mod Ends
-pub mod Joined
+pub mod Connected
 pub mod Outer
 pub mod Greatest
 pub mod Kept

@@ -38,7 +38,7 @@ pub fn degrees_sum()
 
 /// Any two darts of a connected graph are joined: a set of darts that is closed under "next" and under
 /// "reverse" and holds one dart holds them all.
-pub fn darts_are_joined()
+pub fn darts_are_connected()
     ensures { (g : List (List ℕ)) → KeepsBefore g 8 → (s : ℕ → Bool)
         → IsClosedUnder (dart_count g) (next_of g) s → IsClosedUnder (dart_count g) (reverse_of g) s
         → (d e : ℕ) → d < dart_count g → e < dart_count g → s d ≡ true → s e ≡ true }
@@ -46,7 +46,7 @@ pub fn darts_are_joined()
 
 /// Any two faces of a plane are joined by crossings: a set of faces that holds with the face of each
 /// dart the face across it holds them all, if it holds one.
-pub fn faces_are_joined()
+pub fn faces_are_connected()
     ensures { (p : PlaneModel) → IsPlane p → (t : ℕ → Bool)
         → ((d : ℕ) → d < darts p → t (face_at p d) ≡ true → t (face_at p (reverse_dart p d)) ≡ true)
         → (k j : ℕ) → k < p.faces → j < p.faces → t k ≡ true → t j ≡ true }

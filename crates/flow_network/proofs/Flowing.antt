@@ -8,7 +8,7 @@ use Rattle.common.specs.Sums.{sum_below, total_below}
 use Rattle.common.proofs.Sums.{sum_below-same, sum_below-none, sum_below-one, sum_below-split, sum_below-add, sum_below-constant, sum_below-member, exchanged-ones, total_below-split, total_below-parts}
 use Rattle.faces.specs.Planes.{PlaneModel, IsPlane, HasEnds, darts, vertices, head, reverse_dart, face_at, degree}
 use Rattle.faces.proofs.Ends.{plane_ends}
-use Rattle.faces.proofs.Joined.{faces_joined}
+use Rattle.faces.proofs.Connected.{faces_connected}
 use Rattle.faces.proofs.Degrees.{degrees_sum}
 use Rattle.networks.specs.declared.arc.Arc.{Arc}
 use Rattle.networks.specs.Networks.{NetworkModel, node_count, arc_count, arc_at, supply_at}
@@ -180,7 +180,7 @@ start_joined p net plane is = record {
       let u_is : n + ku ≡ u = omega arith in
       let v_is : n + kv ≡ v = omega arith in
       subst (λ (j : ℕ). s j ≡ true) v_is
-      (faces_joined p plane (λ f. s (n + f))
+      (faces_connected p plane (λ f. s (n + f))
       (λ d l held.
       let arc = is.crossing d l in
       let from : (arc_at net (darts p + d)).from ≡ n + face_at p d = ap (λ (a : Arc). a.from) arc in

@@ -7,7 +7,7 @@ use Rattle.ortho_rep.specs.Storage.{cut, AreStarts}
 use Rattle.ortho_rep.proofs.Pieces.{length-cut, get_or-cut}
 
 -- n pieces stand in the list, and the next one starts at its end
-pub record IsJoined {A : Type 0} (starts : List ℕ) (items : List A) (n : ℕ) (IsPiece : ℕ → List A → Type 0) : Type 0 where
+pub record IsConcatenated {A : Type 0} (starts : List ℕ) (items : List A) (n : ℕ) (IsPiece : ℕ → List A → Type 0) : Type 0 where
   pub count : length starts ≡ n + 1
   pub ordered : (k : ℕ) → k < n → get_or starts k 0 ≤ get_or starts (k + 1) 0
   pub inside : (k : ℕ) → k < n + 1 → get_or starts k 0 ≤ length items
@@ -26,8 +26,8 @@ slice_range-behind xs ys =
     ap (take (length (xs ++ ys) - length xs)) (drop_at xs ys (length xs) refl) ∙ take_all (length (xs ++ ys) - length xs) ys (omega (arith, length-append xs ys))
 
 -- no piece yet
-pub joined-none : {A : Type 0} (IsPiece : ℕ → List A → Type 0) → IsJoined (0 ∷ []) [] 0 IsPiece
-joined-none IsPiece = record {
+pub concatenated-none : {A : Type 0} (IsPiece : ℕ → List A → Type 0) → IsConcatenated (0 ∷ []) [] 0 IsPiece
+concatenated-none IsPiece = record {
   count = refl;
   ordered = λ k b. absurd (omega arith);
   inside = λ k b. omega (arith, nothing k);
@@ -40,14 +40,14 @@ joined-none IsPiece = record {
     nothing (suc k) = refl
 
 -- the same, as a loop finds it
-pub joined-starts : {A : Type 0} (starts : List ℕ) (items : List A) (IsPiece : ℕ → List A → Type 0) → starts ≡ 0 ∷ [] → items ≡ [] → IsJoined starts items 0 IsPiece
-joined-starts starts items IsPiece s i = rw (s, i) (joined-none IsPiece)
+pub concatenated-starts : {A : Type 0} (starts : List ℕ) (items : List A) (IsPiece : ℕ → List A → Type 0) → starts ≡ 0 ∷ [] → items ≡ [] → IsConcatenated starts items 0 IsPiece
+concatenated-starts starts items IsPiece s i = rw (s, i) (concatenated-none IsPiece)
 
 -- one piece more
-joined-more : {A : Type 0} (starts : List ℕ) (items more : List A) (n : ℕ) (IsPiece : ℕ → List A → Type 0) → IsJoined starts items n IsPiece →
+concatenated-more : {A : Type 0} (starts : List ℕ) (items more : List A) (n : ℕ) (IsPiece : ℕ → List A → Type 0) → IsConcatenated starts items n IsPiece →
     ((piece : List A) → IsPiece n piece → more ≡ piece) →
-    IsJoined (starts ++ length (items ++ more) ∷ []) (items ++ more) (n + 1) IsPiece
-joined-more {A} starts items more n IsPiece is this =
+    IsConcatenated (starts ++ length (items ++ more) ∷ []) (items ++ more) (n + 1) IsPiece
+concatenated-more {A} starts items more n IsPiece is this =
     let all : List A = items ++ more in
     let old : (k : ℕ) → k < n + 1 → get_or (starts ++ length all ∷ []) k 0 ≡ get_or starts k 0 = λ k b. get_or_append_left starts (length all ∷ []) 0 k (omega (arith, is.count)) in
     let new : get_or (starts ++ length all ∷ []) (n + 1) 0 ≡ length all = get_or_at starts (length all) [] 0 (n + 1) is.count in
@@ -83,33 +83,33 @@ one_behind items more other same =
     sym (drop_at items more (length items) refl) ∙ ap (drop (length items)) same ∙ drop_at items other (length items) refl
 
 -- one piece more, as a loop finds it
-pub joined-pushed : {A : Type 0} (starts starts' : List ℕ) (items items' more : List A) (n m : ℕ) (IsPiece : ℕ → List A → Type 0) → IsJoined starts items n IsPiece →
+pub concatenated-pushed : {A : Type 0} (starts starts' : List ℕ) (items items' more : List A) (n m : ℕ) (IsPiece : ℕ → List A → Type 0) → IsConcatenated starts items n IsPiece →
     items' ≡ items ++ more → ((piece : List A) → IsPiece n piece → items' ≡ items ++ piece) → m ≡ length items' → starts' ≡ starts ++ m ∷ [] →
-    IsJoined starts' items' (n + 1) IsPiece
-joined-pushed starts starts' items items' more n m IsPiece is all each long longer =
-    rw (longer, long, all) (joined-more starts items more n IsPiece is (λ piece h. one_behind items more piece (sym all ∙ each piece h)))
+    IsConcatenated starts' items' (n + 1) IsPiece
+concatenated-pushed starts starts' items items' more n m IsPiece is all each long longer =
+    rw (longer, long, all) (concatenated-more starts items more n IsPiece is (λ piece h. one_behind items more piece (sym all ∙ each piece h)))
 
 -- one piece more, which comes in two parts
-pub joined-two : {A : Type 0} (starts starts' : List ℕ) (items middle items' one two : List A) (n m : ℕ) (piece_at : ℕ → List A) →
-    IsJoined starts items n (λ k piece. piece ≡ piece_at k) → one ++ two ≡ piece_at n → middle ≡ items ++ one → items' ≡ middle ++ two → m ≡ length items' →
-    starts' ≡ starts ++ m ∷ [] → IsJoined starts' items' (n + 1) (λ k piece. piece ≡ piece_at k)
-joined-two {A} starts starts' items middle items' one two n m piece_at is this first second long longer =
+pub concatenated-two : {A : Type 0} (starts starts' : List ℕ) (items middle items' one two : List A) (n m : ℕ) (piece_at : ℕ → List A) →
+    IsConcatenated starts items n (λ k piece. piece ≡ piece_at k) → one ++ two ≡ piece_at n → middle ≡ items ++ one → items' ≡ middle ++ two → m ≡ length items' →
+    starts' ≡ starts ++ m ∷ [] → IsConcatenated starts' items' (n + 1) (λ k piece. piece ≡ piece_at k)
+concatenated-two {A} starts starts' items middle items' one two n m piece_at is this first second long longer =
     let all : items' ≡ items ++ (one ++ two) = second ∙ ap (λ (z : List A). z ++ two) first ∙ append_assoc items one two in
-    joined-pushed starts starts' items items' (one ++ two) n m (λ k piece. piece ≡ piece_at k) is all
+    concatenated-pushed starts starts' items items' (one ++ two) n m (λ k piece. piece ≡ piece_at k) is all
     (λ piece h. all ∙ ap (λ (z : List A). items ++ z) (this ∙ sym h)) long longer
 
 -- so the list can be cut there
-pub joined-AreStarts : {A : Type 0} (starts : List ℕ) (items : List A) (n : ℕ) (IsPiece : ℕ → List A → Type 0) → IsJoined starts items n IsPiece → AreStarts starts items
-joined-AreStarts starts items n IsPiece is = record {
+pub concatenated-AreStarts : {A : Type 0} (starts : List ℕ) (items : List A) (n : ℕ) (IsPiece : ℕ → List A → Type 0) → IsConcatenated starts items n IsPiece → AreStarts starts items
+concatenated-AreStarts starts items n IsPiece is = record {
   some = omega (arith, is.count);
   ordered = λ k b. is.ordered k (omega (arith, is.count));
   inside = λ k b. is.inside k (omega (arith, is.count));
 }
 
 -- into those pieces
-pub joined-cut : {A : Type 0} (starts : List ℕ) (items : List A) (n : ℕ) (IsPiece : ℕ → List A → Type 0) → IsJoined starts items n IsPiece →
+pub concatenated-cut : {A : Type 0} (starts : List ℕ) (items : List A) (n : ℕ) (IsPiece : ℕ → List A → Type 0) → IsConcatenated starts items n IsPiece →
     (length (cut starts items) ≡ n) × ((k : ℕ) → k < n → (piece : List A) → IsPiece k piece → get_or (cut starts items) k [] ≡ piece)
-joined-cut starts items n IsPiece is = (
+concatenated-cut starts items n IsPiece is = (
   omega (arith, length-cut starts items (omega (arith, is.count)), is.count),
   λ k b piece h. get_or-cut starts items k (omega (arith, is.count)) ∙ is.pieces k b piece h,
 )

@@ -7,7 +7,7 @@ use Rattle.std.proofs.lemmas.List.FromFn.{get_or-map-range_with_len, length-map-
 use Rattle.ortho_rep.specs.declared.points.Point.{Point}
 use Rattle.ortho_rep.specs.Points.{origin}
 use Rattle.ortho_rep.specs.Storage.{cut, AreStarts}
-use Rattle.ortho_rep.specs.FlatPoints.{span_at, spans_of, spans_in, points_in, AreJoined}
+use Rattle.ortho_rep.specs.FlatPoints.{span_at, spans_of, spans_in, points_in, AreConcatenated}
 use Rattle.ortho_rep.proofs.Pieces.{length-cut, get_or-cut}
 use Rattle.ortho_rep.proofs.PushedLists.{slice_range-append}
 
@@ -41,17 +41,17 @@ corners-are cs starts places =
     ∙ (ap piece (span-is starts e origin (omega (arith, count))) ∙ piece-is cs starts e places (omega (arith, count))))
 
 -- it stands for the points and the corners that were put into it
-pub joined-is : (vs cs : List Point) (starts : List ℕ) → AreStarts starts cs →
+pub concatenated-is : (vs cs : List Point) (starts : List ℕ) → AreStarts starts cs →
     points_in ((vs ++ cs) ++ spans_of starts) (length vs) (length starts - 1) ≡ record { vertices = vs; corners = cut starts cs }
-joined-is vs cs starts places =
+concatenated-is vs cs starts places =
     let all = append_assoc vs cs (spans_of starts) in
     let front : take (length vs) ((vs ++ cs) ++ spans_of starts) ≡ vs = ap (take (length vs)) all ∙ take-append_seam vs (cs ++ spans_of starts) in
     let behind : drop (length vs) ((vs ++ cs) ++ spans_of starts) ≡ cs ++ spans_of starts = ap (drop (length vs)) all ∙ drop-append_seam vs (cs ++ spans_of starts) in
     rw (front, behind, spans-last vs cs starts, corners-are cs starts places) refl
 
 -- and all places are within it
-pub joined-within : (vs cs : List Point) (starts : List ℕ) → AreStarts starts cs → AreJoined ((vs ++ cs) ++ spans_of starts) (length vs) (length starts - 1)
-joined-within vs cs starts places =
+pub concatenated-within : (vs cs : List Point) (starts : List ℕ) → AreStarts starts cs → AreConcatenated ((vs ++ cs) ++ spans_of starts) (length vs) (length starts - 1)
+concatenated-within vs cs starts places =
     let size : length ((vs ++ cs) ++ spans_of starts) ≡ length vs + length cs + (length starts - 1) =
     omega (arith, length-append (vs ++ cs) (spans_of starts), length-append vs cs, length-spans starts) in
     record {

@@ -22,7 +22,7 @@ points_in points vertices edges = record {
 }
 
 -- all of them stand in the list
-pub record AreJoined (points : List Point) (vertices edges : ℕ) : Type 0 where
+pub record AreConcatenated (points : List Point) (vertices edges : ℕ) : Type 0 where
   pub front : vertices ≤ length points
   pub last : edges ≤ length points
   pub ordered : All (λ span. span.x ≤ span.y) (spans_in points edges)

@@ -21,13 +21,13 @@ pub(crate) struct FlatPoints {
 
 impl Model for FlatPoints {
     ghost use Rattle.ortho_rep.specs.Points.{PointsModel};
-    ghost use Rattle.ortho_rep.specs.FlatPoints.{points_in, AreJoined};
+    ghost use Rattle.ortho_rep.specs.FlatPoints.{points_in, AreConcatenated};
 
     ghost Value = { PointsModel };
 
     ghost view = { λ a. points_in a.points.items a.vertices a.edges };
 
-    ghost invariant = { λ a. AreJoined a.points.items a.vertices a.edges };
+    ghost invariant = { λ a. AreConcatenated a.points.items a.vertices a.edges };
 }
 
 impl FlatPoints {

@@ -84,7 +84,7 @@ pub(crate) fn shape_in(
     let prices = prices_in(lent, plane, net, solved)?;
     Ok((
         Shape::of_darts(darts),
-        Prices::joined(prices, usize::from(vertices)),
+        Prices::concatenated(prices, usize::from(vertices)),
     ))
 }
 

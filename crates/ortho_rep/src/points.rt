@@ -34,7 +34,7 @@ enum PointStore {
         vertices: Vec<Point>,
         corners: Vec<Vec<Point>>,
     },
-    Joined(FlatPoints),
+    Concatenated(FlatPoints),
 }
 
 impl Model for Points {
@@ -65,7 +65,7 @@ impl Points {
     /// # Errors
     ///
     /// `AllocError` where there is no memory for them, or there are more than 4,294,967,295 corners.
-    pub fn joined(
+    pub fn concatenated(
         vertices: Vec<Point>,
         corners: &[Point],
         starts: &[usize],
@@ -75,7 +75,7 @@ impl Points {
     {
         let points = FlatPoints::new(vertices, corners, starts)?;
         Ok(Points {
-            store: PointStore::Joined(points),
+            store: PointStore::Concatenated(points),
         })
     }
 
@@ -87,7 +87,7 @@ impl Points {
                 vertices,
                 corners: _,
             } => vertices,
-            PointStore::Joined(points) => points.into_list(),
+            PointStore::Concatenated(points) => points.into_list(),
         }
     }
 
@@ -104,7 +104,7 @@ impl Points {
     {
         match &self.store {
             PointStore::Apart { corners, .. } => corners.len(),
-            PointStore::Joined(points) => points.edge_count(),
+            PointStore::Concatenated(points) => points.edge_count(),
         }
     }
 
@@ -114,7 +114,7 @@ impl Points {
     {
         match &self.store {
             PointStore::Apart { vertices, .. } => vertices.as_slice(),
-            PointStore::Joined(points) => points.vertices(),
+            PointStore::Concatenated(points) => points.vertices(),
         }
     }
 
@@ -134,7 +134,7 @@ impl Points {
     {
         match &self.store {
             PointStore::Apart { corners, .. } => corners[usize::from(edge)].as_slice(),
-            PointStore::Joined(points) => points.corners(edge),
+            PointStore::Concatenated(points) => points.corners(edge),
         }
     }
 }

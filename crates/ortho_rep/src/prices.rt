@@ -19,7 +19,7 @@ pub struct Prices {
 enum PriceStore {
     Apart { vertices: Vec<i32>, faces: Vec<i32> },
     // those of so many vertices, and behind them those of the faces
-    Joined { prices: Vec<i32>, vertices: usize },
+    Concatenated { prices: Vec<i32>, vertices: usize },
 }
 
 impl Model for Prices {
@@ -45,12 +45,12 @@ impl Prices {
     }
 
     /// The prices of so many vertices, and behind them those of the faces, in one list.
-    pub(crate) fn joined(prices: Vec<i32>, vertices: usize) -> Prices
+    pub(crate) fn concatenated(prices: Vec<i32>, vertices: usize) -> Prices
         requires { vertices ≤ length prices.items }
         ensures { result ≡ record { vertices = take vertices prices.items; faces = drop vertices prices.items } }
     {
         Prices {
-            store: PriceStore::Joined { prices, vertices },
+            store: PriceStore::Concatenated { prices, vertices },
         }
     }
 
@@ -58,7 +58,7 @@ impl Prices {
     /// [`least_shape_in`](crate::least_shape_in) makes them, it drops. It takes no memory.
     pub fn give_back(self, scratch: &mut Scratch) {
         match self.store {
-            PriceStore::Joined {
+            PriceStore::Concatenated {
                 prices,
                 vertices: _,
             } => scratch.lists.prices = prices,
@@ -75,7 +75,7 @@ impl Prices {
     {
         match &self.store {
             PriceStore::Apart { vertices, .. } => vertices.len(),
-            PriceStore::Joined { vertices, .. } => *vertices,
+            PriceStore::Concatenated { vertices, .. } => *vertices,
         }
     }
 
@@ -85,7 +85,7 @@ impl Prices {
     {
         match &self.store {
             PriceStore::Apart { faces, .. } => faces.len(),
-            PriceStore::Joined { prices, vertices } => prices.len() - *vertices,
+            PriceStore::Concatenated { prices, vertices } => prices.len() - *vertices,
         }
     }
 
@@ -98,7 +98,7 @@ impl Prices {
         let place = usize::from(vertex) - 1;
         match &self.store {
             PriceStore::Apart { vertices, .. } => vertices[place],
-            PriceStore::Joined { prices, .. } => prices[place],
+            PriceStore::Concatenated { prices, .. } => prices[place],
         }
     }
 
@@ -110,7 +110,7 @@ impl Prices {
         let place = usize::from(face);
         match &self.store {
             PriceStore::Apart { faces, .. } => faces[place],
-            PriceStore::Joined { prices, vertices } => prices[*vertices + place],
+            PriceStore::Concatenated { prices, vertices } => prices[*vertices + place],
         }
     }
 }

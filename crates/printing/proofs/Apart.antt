@@ -31,15 +31,15 @@ apart_behind true (byte ∷ bytes) is = is
 apart_behind false (byte ∷ bytes) is = (both (eqb byte 110) (is_apart (ends_key byte) bytes) is).1
 
 -- texts one behind another
-joined_behind : (behind : Bool) (xs ys : List ℕ) → is_apart behind xs ≡ true → IsApart ys → is_apart behind (xs ++ ys) ≡ true
-joined_behind behind [] ys here there = apart_behind behind ys there
-joined_behind true (x ∷ xs) ys here there =
+concatenated_behind : (behind : Bool) (xs ys : List ℕ) → is_apart behind xs ≡ true → IsApart ys → is_apart behind (xs ++ ys) ≡ true
+concatenated_behind behind [] ys here there = apart_behind behind ys there
+concatenated_behind true (x ∷ xs) ys here there =
     let parts = both (eqb x 110) (is_apart (ends_key x) xs) here in
-    of_both (eqb x 110) (is_apart (ends_key x) (xs ++ ys)) parts.0 (joined_behind (ends_key x) xs ys parts.1 there)
-joined_behind false (x ∷ xs) ys here there = joined_behind (ends_key x) xs ys here there
+    of_both (eqb x 110) (is_apart (ends_key x) (xs ++ ys)) parts.0 (concatenated_behind (ends_key x) xs ys parts.1 there)
+concatenated_behind false (x ∷ xs) ys here there = concatenated_behind (ends_key x) xs ys here there
 
-pub joined : (xs ys : List ℕ) → IsApart xs → IsApart ys → IsApart (xs ++ ys)
-joined xs ys here there = joined_behind true xs ys here there
+pub concatenated : (xs ys : List ℕ) → IsApart xs → IsApart ys → IsApart (xs ++ ys)
+concatenated xs ys here there = concatenated_behind true xs ys here there
 
 -- numbers
 glyph_apart : (d : ℕ) → d < 10 → eqb (digit_glyph false d) 110 ≡ false
@@ -66,7 +66,7 @@ decimal_apart n = onto_apart 64 n [] refl
 
 -- a text, and a number behind it
 pub counted : (front : List ℕ) (n : ℕ) → IsApart front → IsApart (front ++ decimal n)
-counted front n is = joined front (decimal n) is (decimal_apart n)
+counted front n is = concatenated front (decimal n) is (decimal_apart n)
 
 -- ---- words with an `n` there do not stand in them
 

@@ -3,14 +3,14 @@ use Rattle.std.proofs.Common.{◌≡◌, ℕ, ◌+◌, ◌<◌, List, [], ◌∷
 use Rattle.std.proofs.lemmas.List.{take_more, take-append-drop}
 use Rattle.std.proofs.lemmas.List.Concat.{flat_map-append}
 use Rattle.streams.specs.Sink.{AppendsFront, IsInTransit}
-use Rattle.printing.specs.Joined.{joined}
+use Rattle.printing.specs.Concatenated.{concatenated}
 use Rattle.printing.specs.Written.{GoesOn, BreaksIn}
 use Rattle.printing.proofs.Breaking.{appends_longer}
 
 -- one chunk more
-pub joined_more : (chunks : List (Vec ℕ Global)) (chunk : Vec ℕ Global) → joined (chunks ++ chunk ∷ []) ≡ joined chunks ++ chunk.items
-joined_more chunks chunk =
-    flat_map-append (λ (p : Vec ℕ Global). p.items) chunks (chunk ∷ []) ∙ ap (λ l. joined chunks ++ l) (append-nil chunk.items)
+pub concatenated_more : (chunks : List (Vec ℕ Global)) (chunk : Vec ℕ Global) → concatenated (chunks ++ chunk ∷ []) ≡ concatenated chunks ++ chunk.items
+concatenated_more chunks chunk =
+    flat_map-append (λ (p : Vec ℕ Global). p.items) chunks (chunk ∷ []) ∙ ap (λ l. concatenated chunks ++ l) (append-nil chunk.items)
 
 -- no text goes on its way
 pub goes_none : (now : Option (List ℕ)) (waits : List ℕ) → GoesOn now waits now waits []
@@ -34,13 +34,13 @@ breaks_more old new waited text more breaks start before way =
     appends_longer start new (before ++ (text ++ more)) (before ++ text) (more, sym (append_assoc before text more)) (breaks start before way)
 
 -- the chunks up to the next one
-pub joined_next : (chunks : List (Vec ℕ Global)) (i : ℕ) (chunk : Vec ℕ Global) (text : List ℕ) → i < length chunks → chunk ≡ get_or chunks i chunk → text ≡ chunk.items
-    → joined (take (i + 1) chunks) ≡ joined (take i chunks) ++ text
-joined_next chunks i chunk text below is says =
-    ap joined (take_more chunks i chunk below ∙ ap (λ p. take i chunks ++ p ∷ []) (sym is))
-    ∙ joined_more (take i chunks) chunk ∙ ap (λ l. joined (take i chunks) ++ l) (sym says)
+pub concatenated_next : (chunks : List (Vec ℕ Global)) (i : ℕ) (chunk : Vec ℕ Global) (text : List ℕ) → i < length chunks → chunk ≡ get_or chunks i chunk → text ≡ chunk.items
+    → concatenated (take (i + 1) chunks) ≡ concatenated (take i chunks) ++ text
+concatenated_next chunks i chunk text below is says =
+    ap concatenated (take_more chunks i chunk below ∙ ap (λ p. take i chunks ++ p ∷ []) (sym is))
+    ∙ concatenated_more (take i chunks) chunk ∙ ap (λ l. concatenated (take i chunks) ++ l) (sym says)
 
 -- the chunks up to some place, and those behind it
-pub joined_rest : (chunks : List (Vec ℕ Global)) (i : ℕ) → joined (take i chunks) ++ joined (drop i chunks) ≡ joined chunks
-joined_rest chunks i =
-    sym (flat_map-append (λ (p : Vec ℕ Global). p.items) (take i chunks) (drop i chunks)) ∙ ap joined (take-append-drop i chunks)
+pub concatenated_rest : (chunks : List (Vec ℕ Global)) (i : ℕ) → concatenated (take i chunks) ++ concatenated (drop i chunks) ≡ concatenated chunks
+concatenated_rest chunks i =
+    sym (flat_map-append (λ (p : Vec ℕ Global). p.items) (take i chunks) (drop i chunks)) ∙ ap concatenated (take-append-drop i chunks)

@@ -26,7 +26,7 @@ use Rattle.entries.specs.declared.entry.Entry.{Entry}
 use Rattle.reports.specs.LineData.{natural, whole, array_of, members_of, object_of, letter_of, turns_data, prices_data, point_data, corners_data, points_data, drawn_data, laid_data, answer_data, end_data, line_of}
 use Rattle.reports.specs.Json.{entry_json, end_json}
 use Rattle.drawing_laws.specs.Drawings.{HasDrawing, IsDrawnIfLaid}
-use Rattle.printing.proofs.Apart.{IsApart, joined}
+use Rattle.printing.proofs.Apart.{IsApart, concatenated}
 use Rattle.printing.proofs.Data.{IsApartValue, member_apart, object_apart, array_apart, natural_apart, whole_apart, quoted_apart}
 
 -- ---- members
@@ -51,8 +51,8 @@ made_apart ms are = object_apart (members_of ms) (members_apart false ms are)
 letters_apart : (turns : List Turn) → IsApart (escape (map letter_of turns))
 unfolding escape_byte
 letters_apart [] = refl
-letters_apart (Left ∷ turns) = joined (76 ∷ []) (escape (map letter_of turns)) refl (letters_apart turns)
-letters_apart (Right ∷ turns) = joined (82 ∷ []) (escape (map letter_of turns)) refl (letters_apart turns)
+letters_apart (Left ∷ turns) = concatenated (76 ∷ []) (escape (map letter_of turns)) refl (letters_apart turns)
+letters_apart (Right ∷ turns) = concatenated (82 ∷ []) (escape (map letter_of turns)) refl (letters_apart turns)
 
 turns_apart : (turns : List Turn) → IsApartValue (turns_data turns)
 turns_apart turns = quoted_apart (map letter_of turns) (letters_apart turns)
@@ -175,7 +175,7 @@ answer_apart file graph NoMemory is =
 -- ---- lines
 
 line_apart : (value : Data) → IsApartValue value → IsApart (line_of value)
-line_apart value is = joined (compact_text value) (codes "\n") is refl
+line_apart value is = concatenated (compact_text value) (codes "\n") is refl
 
 pub entry_json_apart : (file graph : ℕ) (entry : Entry) → IsDrawnIfLaid entry.answer → IsApart (entry_json file graph entry)
 entry_json_apart file graph entry is = line_apart (answer_data file graph entry.answer) (answer_apart file graph entry.answer is)

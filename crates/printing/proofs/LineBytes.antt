@@ -17,7 +17,7 @@ use Rattle.entries.specs.declared.answer.Answer.TheVariants.{Laid, Refused, NoMe
 use Rattle.entries.specs.declared.entry.Entry.{Entry}
 use Rattle.reports.specs.Report.{sizes_text, drawn_text, answer_text, file_line, entry_line, end_line}
 use Rattle.drawing_laws.specs.Drawings.{HasDrawing, IsDrawnIfLaid}
-use Rattle.printing.proofs.Apart.{IsApart, joined, counted, decimal_apart}
+use Rattle.printing.proofs.Apart.{IsApart, concatenated, counted, decimal_apart}
 
 sizes_apart : (plane : PlaneModel) (shape : ShapeModel) → IsApart (sizes_text plane shape)
 sizes_apart plane shape =
@@ -25,9 +25,9 @@ sizes_apart plane shape =
     let m : List ℕ = n ++ codes " m=" ++ decimal (darts plane / 2) in
     let f : List ℕ = m ++ codes " f=" ++ decimal plane.faces in
     let n_is : IsApart n = counted (codes " n=") (vertices plane) refl in
-    let m_is : IsApart m = counted (n ++ codes " m=") (darts plane / 2) (joined n (codes " m=") n_is refl) in
-    let f_is : IsApart f = counted (m ++ codes " f=") plane.faces (joined m (codes " f=") m_is refl) in
-    counted (f ++ codes " bends=") (bends_of (length shape.strings) (turns_at shape)) (joined f (codes " bends=") f_is refl)
+    let m_is : IsApart m = counted (n ++ codes " m=") (darts plane / 2) (concatenated n (codes " m=") n_is refl) in
+    let f_is : IsApart f = counted (m ++ codes " f=") plane.faces (concatenated m (codes " f=") m_is refl) in
+    counted (f ++ codes " bends=") (bends_of (length shape.strings) (turns_at shape)) (concatenated f (codes " bends=") f_is refl)
 
 drawn_apart : (plane : PlaneModel) (shape : ShapeModel) (drawing : Result PointsModel Cause) → HasDrawing plane shape drawing → IsApart (drawn_text drawing)
 drawn_apart plane shape (Ok points) has = refl
@@ -45,18 +45,18 @@ refused_apart Genus = refl
 
 answer_apart : (answer : Answer) → IsDrawnIfLaid answer → IsApart (answer_text answer)
 answer_apart (Laid plane shape prices drawing) is =
-    joined (codes " ok" ++ sizes_text plane shape) (drawn_text drawing)
-    (joined (codes " ok") (sizes_text plane shape) refl (sizes_apart plane shape)) (drawn_apart plane shape drawing is)
+    concatenated (codes " ok" ++ sizes_text plane shape) (drawn_text drawing)
+    (concatenated (codes " ok") (sizes_text plane shape) refl (sizes_apart plane shape)) (drawn_apart plane shape drawing is)
 answer_apart (Refused rule) is = refused_apart rule
 answer_apart NoMemory is = refl
 
 pub entry_apart : (number : ℕ) (entry : Entry) → IsDrawnIfLaid entry.answer → IsApart (entry_line number entry)
 entry_apart number entry is =
-    joined (codes "graph " ++ decimal number ++ answer_text entry.answer) (codes "\n")
-    (joined (codes "graph " ++ decimal number) (answer_text entry.answer) (counted (codes "graph ") number refl) (answer_apart entry.answer is)) refl
+    concatenated (codes "graph " ++ decimal number ++ answer_text entry.answer) (codes "\n")
+    (concatenated (codes "graph " ++ decimal number) (answer_text entry.answer) (counted (codes "graph ") number refl) (answer_apart entry.answer is)) refl
 
 pub file_apart : (number : ℕ) → IsApart (file_line number)
-file_apart number = joined (codes "file " ++ decimal number) (codes "\n") (counted (codes "file ") number refl) refl
+file_apart number = concatenated (codes "file " ++ decimal number) (codes "\n") (counted (codes "file ") number refl) refl
 
 marked_apart : (mark : Mark) → IsApart (codes "end " ++ marks.word_of mark ++ codes " graphs=")
 marked_apart Io = refl
@@ -70,5 +70,5 @@ marked_apart (Ended ending.Memory) = refl
 
 pub end_apart : (mark : Mark) (count : ℕ) → IsApart (end_line mark count)
 end_apart mark count =
-    joined (codes "end " ++ marks.word_of mark ++ codes " graphs=" ++ decimal count) (codes "\n")
+    concatenated (codes "end " ++ marks.word_of mark ++ codes " graphs=" ++ decimal count) (codes "\n")
     (counted (codes "end " ++ marks.word_of mark ++ codes " graphs=") count (marked_apart mark)) refl

@@ -12,7 +12,7 @@ use Rattle.reports.specs.Forms.{text_in}
 use Rattle.printing.specs.FormLines.{line_in, preamble_in, lines_in}
 use Rattle.drawing_laws.specs.Drawings.{IsDrawnIfLaid}
 use Rattle.printing.specs.DrawnBooks.{IsDrawnBook, AreDrawnBooks}
-use Rattle.printing.proofs.Apart.{IsApart, joined}
+use Rattle.printing.proofs.Apart.{IsApart, concatenated}
 use Rattle.printing.proofs.LineBytes.{entry_apart, file_apart, end_apart}
 use Rattle.printing.proofs.JsonLines.{entry_json_apart, end_json_apart}
 
@@ -30,25 +30,25 @@ entries_apart : (text : ℕ → Entry → List ℕ) → ((number : ℕ) (entry :
     → (number : ℕ) (entries : List Entry) → AreDrawn entries → IsApart (numbered_texts text number entries)
 entries_apart text each number [] are = refl
 entries_apart text each number (entry ∷ entries) are =
-    joined (text number entry) (numbered_texts text (number + 1) entries) (one_apart (text number) (each number) entry (are 0 entry (omega arith)))
+    concatenated (text number entry) (numbered_texts text (number + 1) entries) (one_apart (text number) (each number) entry (are 0 entry (omega arith)))
     (entries_apart text each (number + 1) entries (later_drawn entry entries are))
 
 books_apart : (text : ℕ → BookModel → List ℕ) → ((number : ℕ) (book : BookModel) → IsDrawnBook book → IsApart (text number book))
     → (number : ℕ) (books : List BookModel) → AreDrawnBooks books → IsApart (numbered_texts text number books)
 books_apart text each number [] are = refl
 books_apart text each number (book ∷ books) are =
-    joined (text number book) (numbered_texts text (number + 1) books) (each number book (are 0 book (omega arith)))
+    concatenated (text number book) (numbered_texts text (number + 1) books) (each number book (are 0 book (omega arith)))
     (books_apart text each (number + 1) books (λ k d inside. are (suc k) d (omega (arith, inside))))
 
 book_apart : (number : ℕ) (book : BookModel) → IsDrawnBook book → IsApart (book_text number book)
 book_apart number book is =
-    joined (file_line number ++ numbered_texts entry_line 1 book.entries) (end_line book.mark (length book.entries))
-    (joined (file_line number) (numbered_texts entry_line 1 book.entries) (file_apart number) (entries_apart entry_line entry_apart 1 book.entries is))
+    concatenated (file_line number ++ numbered_texts entry_line 1 book.entries) (end_line book.mark (length book.entries))
+    (concatenated (file_line number) (numbered_texts entry_line 1 book.entries) (file_apart number) (entries_apart entry_line entry_apart 1 book.entries is))
     (end_apart book.mark (length book.entries))
 
 book_json_apart : (file : ℕ) (book : BookModel) → IsDrawnBook book → IsApart (book_json file book)
 book_json_apart file book is =
-    joined (numbered_texts (entry_json file) 1 book.entries) (end_json file book.mark (length book.entries))
+    concatenated (numbered_texts (entry_json file) 1 book.entries) (end_json file book.mark (length book.entries))
     (entries_apart (entry_json file) (entry_json_apart file) 1 book.entries is) (end_json_apart file book.mark (length book.entries))
 
 pub text_apart : (form : Form) (books : List BookModel) → AreDrawnBooks books → IsApart (text_in form books)
@@ -67,5 +67,5 @@ line_apart Json entry is = entry_json_apart (entry.file + 1) (entry.ordinal + 1)
 pub lines_apart : (form : Form) (entries : List Entry) → AreDrawn entries → IsApart (lines_in form entries)
 lines_apart form [] are = refl
 lines_apart form (entry ∷ entries) are =
-    joined (line_in form entry) (lines_in form entries) (one_apart (line_in form) (line_apart form) entry (are 0 entry (omega arith)))
+    concatenated (line_in form entry) (lines_in form entries) (one_apart (line_in form) (line_apart form) entry (are 0 entry (omega arith)))
     (lines_apart form entries (later_drawn entry entries are))

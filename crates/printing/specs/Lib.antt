@@ -4,7 +4,7 @@ pub mod Spelt
 pub mod Texts
 pub mod Telling
 pub mod DrawnBooks
-pub mod Joined
+pub mod Concatenated
 pub mod Came
 pub mod Orders
 pub mod Waits

@@ -1,6 +1,6 @@
 //! Text that grows without being moved.
 ghost use Rattle.std.specs.Prelude.{◌≡◌, ◌++◌, [], false, OnOk, OnErr, IfErr};
-ghost use Rattle.printing.specs.Joined.{joined};
+ghost use Rattle.printing.specs.Concatenated.{concatenated};
 ghost use Rattle.printing.specs.Written.{GoesOn, BreaksIn, GivesUp};
 
 use crate::refusal::Refusal;
@@ -27,11 +27,11 @@ pub struct Chunks {
 
 impl Model for Chunks {
     ghost use Rattle.std.specs.Prelude.{◌++◌, ℕ, List};
-    ghost use Rattle.printing.specs.Joined.{joined};
+    ghost use Rattle.printing.specs.Concatenated.{concatenated};
 
     ghost Value = { List ℕ };
 
-    ghost view = { λ p. joined p.full.items ++ p.last.items };
+    ghost view = { λ p. concatenated p.full.items ++ p.last.items };
 }
 
 impl Chunks {
@@ -93,8 +93,8 @@ fn put_each<S: Sink>(
     sink: &mut S,
 ) -> Result<(), Refusal>
     requires { S.failed sink.old ≡ false }
-    ensures put { OnOk result (GoesOn (S.taken sink.old) buffer.old (S.taken sink.new) buffer.new (joined chunks.now)) }
-    ensures broken { OnErr result (BreaksIn (S.taken sink.old) buffer.old (S.taken sink.new) (joined chunks.now)) }
+    ensures put { OnOk result (GoesOn (S.taken sink.old) buffer.old (S.taken sink.new) buffer.new (concatenated chunks.now)) }
+    ensures broken { OnErr result (BreaksIn (S.taken sink.old) buffer.old (S.taken sink.new) (concatenated chunks.now)) }
     ensures stands { OnOk result (S.failed sink.new ≡ false) }
     ensures gave_up { IfErr result (λ refusal. GivesUp (S.failed sink.new) refusal) }
 {

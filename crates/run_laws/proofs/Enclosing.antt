@@ -7,7 +7,7 @@ use Rattle.dissect.specs.Faces.{In, Below, last_of}
 use Rattle.dissect.specs.Boxes.{BoxesModel, dart_map}
 use Rattle.dissect.specs.Boxed.{IsBoxed, StandOn}
 use Rattle.dissect.specs.Ordered.{IsOrdered}
-use Rattle.dissect.specs.Rectangle.{HasRectangle, IsJoinedAt, IsPlaceOn}
+use Rattle.dissect.specs.Rectangle.{HasRectangle, IsConnectedAt, IsPlaceOn}
 use Rattle.run_laws.specs.Outside.{Corners, AreCorners, LiesBefore, LooksOut}
 use Rattle.run_laws.proofs.Straight.{Goes, path_goes, path_passes}
 
@@ -51,7 +51,7 @@ module _ (inner w : DartMap) (x y : ℕ → ℕ) (sound : IsSound w) (narrow : w
   last_in n a [] a_in below = a_in
   last_in n a (c ∷ cs) a_in below = last_in n c cs below.0 below.1
 
-  module _ (right : ℕ) (joined : IsJoinedAt inner right w) where
+  module _ (right : ℕ) (joined : IsConnectedAt inner right w) where
     -- the join goes straight from the turn to its place on the side
     join_goes : (k : ℕ) → k < 4 → w.direction (inner.darts + 10) ≡ k → Goes k x y (w.head right) (w.head (inner.darts + 8))
     join_goes k few way =

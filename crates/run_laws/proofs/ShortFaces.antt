@@ -6,7 +6,7 @@ use Rattle.common.proofs.Sums.{sum_below-le, sum_below-add, sum_below-one}
 use Rattle.embedding.proofs.Rotation.{one_dart}
 use Rattle.faces.specs.Planes.{PlaneModel, IsPlane, HasEnds, darts, tail, head, reverse_dart, next, face_at, degree}
 use Rattle.faces.proofs.Ends.{seven_rules, plane_ends}
-use Rattle.faces.proofs.Joined.{all_joined}
+use Rattle.faces.proofs.Connected.{all_connected}
 
 -- ---- three places of a sum
 
@@ -82,7 +82,7 @@ module _ (p : PlaneModel) (plane : IsPlane p) where
       let at_d : s d ≡ true = ap (λ (t : Bool). t || (d == e)) (eq-eqb d d refl) in
       let at_e : s e ≡ true = or_true (e == d) (e == e) (eq-eqb e e refl) in
       let held : s x ≡ true =
-      all_joined p.lists (seven_rules p.lists plane.rules) s
+      all_connected p.lists (seven_rules p.lists plane.rules) s
       (λ k k_in here. elim (either (k == d) (k == e) here) [
         | inl one ↦ subst (λ (j : ℕ). s j ≡ true) (ap (next p) (sym (eqb-true k d one))) at_e
         | inr two ↦ subst (λ (j : ℕ). s j ≡ true) (sym (ap (next p) (eqb-true k e two) ∙ back)) at_d

@@ -84,9 +84,9 @@ fn list_edges(
                     to,
                 })?;
             } else if from.x == to.x {
-                x.edges.join(tail, from.y, head, to.y);
+                x.edges.connect(tail, from.y, head, to.y);
             } else {
-                y.edges.join(tail, from.x, head, to.x);
+                y.edges.connect(tail, from.x, head, to.x);
             }
             edge = edge.wrapping_add(1);
         }

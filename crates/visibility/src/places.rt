@@ -23,7 +23,7 @@ pub(crate) fn points_on(
     let (corners, starts) = corner_points(alloc, old, edges, x, y)?;
     let behind = corners.len() + usize::from(edges);
     let vertices = vertex_points(alloc, old.vertex_count(), behind, x, y)?;
-    Points::joined(vertices, &corners, &starts)
+    Points::concatenated(vertices, &corners, &starts)
 }
 
 /// The points of so many vertices, with room for so many points behind them.

@@ -27,7 +27,7 @@ impl StraightEdges {
     }
 
     /// Adds the straight edge between two vertices with these coordinates.
-    pub(crate) fn join(&mut self, tail: u8, from: u32, head: u8, to: u32) {
+    pub(crate) fn connect(&mut self, tail: u8, from: u32, head: u8, to: u32) {
         let (low, high) = if from < to {
             (tail, head)
         } else {

@@ -1,7 +1,7 @@
 use Rattle.std.proofs.Common.{◌≡◌, ◌<◌, ◌∙◌, ◌++◌, ℕ, List, [], ◌∷◌, length, All, slice_index, map, subst, sym, ap, refl, arith}
 use Rattle.dissect.specs.Paths.{turning_places}
 use Rattle.ortho_rep.specs.declared.points.Point.{Point}
-use Rattle.ortho_rep.proofs.PushedLists.{joined-starts, joined-pushed, joined-AreStarts, joined-cut}
+use Rattle.ortho_rep.proofs.PushedLists.{concatenated-starts, concatenated-pushed, concatenated-AreStarts, concatenated-cut}
 use Rattle.dissect.specs.Boxes.{dart_map}
 use Rattle.compact.specs.Ordered.{point_at, places_along}
 use Rattle.compact.proofs.Walking.{path_below}
@@ -10,7 +10,7 @@ use Rattle.compact.proofs.place.list_corners.Goals as goal
 
 pub loop-edge-init : goal.loop-edge-init
 loop-edge-init c =
-    joined-starts c.push.new.self.items c.clear.new.self.items (IsCornersOf c.args.boxes.now (λ v. slice_index c.args.x.now v) (λ v. slice_index c.args.y.now v))
+    concatenated-starts c.push.new.self.items c.clear.new.self.items (IsCornersOf c.args.boxes.now (λ v. slice_index c.args.x.now v) (λ v. slice_index c.args.y.now v))
     (c.in_ok-push.ensures.items ∙ ap (λ (s : List ℕ). s ++ (0 ∷ [])) c.in_ok-starts.ensures.items) c.clear.ensures.items
 
 pub push_corners-requires-clause-inside : goal.push_corners-requires-clause-inside
@@ -29,7 +29,7 @@ loop-edge-preserved c =
     let old = c.loop-edge.corners.items in
     let pushed : c.push_corners.new.corners.items ≡ old ++ points =
     c.in_ok-push_corners.ensures ∙ ap (λ (ds : List ℕ). old ++ map (point_at x y) (places_along (dart_map b) ds)) is.listed in
-    joined-pushed c.loop-edge.starts.items _ old c.push_corners.new.corners.items points e c.len.result (IsCornersOf b x y)
+    concatenated-pushed c.loop-edge.starts.items _ old c.push_corners.new.corners.items points e c.len.result (IsCornersOf b x y)
     c.loop-edge.invariant pushed
     (λ piece h. pushed ∙ ap (λ (ps : List Point). old ++ ps) (one_corners b x y e points is.edge c.edges.ensures.boxes.few_darts refl h.edge ∙ sym h.is))
     (omega (arith, c.len.ensures, c.push_corners.new.corners.ok)) c.in_ok-push-2.ensures.items
@@ -39,10 +39,10 @@ returns c =
     let b = c.args.boxes.now in
     let x : ℕ → ℕ = λ v. slice_index c.args.x.now v in
     let y : ℕ → ℕ = λ v. slice_index c.args.y.now v in
-    let pieces = joined-cut c.loop-edge.starts.items c.loop-edge.corners.items c.loop-edge.edge (IsCornersOf b x y) c.loop-edge.invariant in
+    let pieces = concatenated-cut c.loop-edge.starts.items c.loop-edge.corners.items c.loop-edge.edge (IsCornersOf b x y) c.loop-edge.invariant in
     let all : c.loop-edge.edge ≡ length b.edges = omega (arith, c.loop-edge-test.false, c.loop-edge.auto.edge-end, c.edges-edge-end.ensures.value) in
     record {
-      places = joined-AreStarts _ _ _ _ c.loop-edge.invariant;
+      places = concatenated-AreStarts _ _ _ _ c.loop-edge.invariant;
       count = pieces.0 ∙ all;
       corners = λ e e_in edge.
           pieces.1 e (omega (arith, e_in, all)) (map (point_at x y) (turning_places (dart_map b) edge.first edge.rest)) (record { edge = edge; is = refl });

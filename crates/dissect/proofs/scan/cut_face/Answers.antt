@@ -2,7 +2,7 @@ use Rattle.std.proofs.Common.{◌<◌, ◌≤◌, ◌+◌, ◌++◌, ℕ, List, 
 use Rattle.dissect.specs.DartMaps.{same}
 use Rattle.dissect.specs.Tables.{dart_map_of, room}
 use Rattle.dissect.specs.Turning.{IsHighest}
-use Rattle.dissect.specs.Faces.{Below, joined}
+use Rattle.dissect.specs.Faces.{Below, concatenated}
 use Rattle.dissect.proofs.Listing.{below_left}
 use Rattle.dissect.proofs.Finishing.{four_corners_done}
 use Rattle.dissect.proofs.Reading.{reading_begins, reading_here, reading_on, reading_done, all_below, all_small, below_turned}
@@ -18,13 +18,13 @@ returns-then-ring-eq-BOX_CORNERS-clause-waiting c =
 pub highest-start-requires-clause-inside : goal.highest-start-requires-clause-inside
 highest-start-requires-clause-inside c =
     let t = c.args.table.now in
-    let below : Below t.darts c.args.ring.now = below_left t.darts c.args.ring.now (joined c.requires.waiting.1) c.requires.waiting.2.below in
+    let below : Below t.darts c.args.ring.now = below_left t.darts c.args.ring.now (concatenated c.requires.waiting.1) c.requires.waiting.2.below in
     all_below t.darts (length c.as_slice.result.now) c.args.ring.now (omega (arith, c.as_slice.ensures.len)) below
 
 pub highest-start-requires-clause-small : goal.highest-start-requires-clause-small
 highest-start-requires-clause-small c =
     let t = c.args.table.now in
-    let below : Below t.darts c.args.ring.now = below_left t.darts c.args.ring.now (joined c.requires.waiting.1) c.requires.waiting.2.below in
+    let below : Below t.darts c.args.ring.now = below_left t.darts c.args.ring.now (concatenated c.requires.waiting.1) c.requires.waiting.2.below in
     subst (λ (A : List ℕ). All (λ a. get_or A a 0 ≤ 4) c.args.ring.now) (sym c.as_slice.ensures.value)
     (all_small (dart_map_of t) c.args.ring.now c.requires.sound below)
 
@@ -33,7 +33,7 @@ corners-init c =
     let t = c.args.table.now in
     let face = c.args.ring.now in
     let m = c.highest-start.result in
-    let below : Below t.darts face = below_left t.darts face (joined c.requires.waiting.1) c.requires.waiting.2.below in
+    let below : Below t.darts face = below_left t.darts face (concatenated c.requires.waiting.1) c.requires.waiting.2.below in
     let turned : Below t.darts (drop m face ++ take m face) = below_turned t.darts m face below in
     reading_begins (dart_map_of t) face (room t) m c.start_at.new.ring c.requires.sound c.requires.waiting.0 c.requires.waiting.1 c.requires.waiting.2
     c.requires.space

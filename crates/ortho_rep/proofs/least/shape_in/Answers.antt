@@ -7,8 +7,8 @@ use Rattle.ortho_rep.proofs.FromFlow.{IsOfFlow, shape_of_flow, least_of_flow, pr
 use Rattle.ortho_rep.proofs.FlatPrices.{length-first, vertex_count, face_count, vertex_value, face_value}
 use Rattle.ortho_rep.proofs.least.shape_in.Goals as goal
 
-pub joined-requires : goal.joined-requires
-joined-requires c =
+pub concatenated-requires : goal.concatenated-requires
+concatenated-requires c =
     let plane = c.args.plane.now in
     let q = at_nodes c.args.solved.now.potential in
     omega (arith, c.from.ensures, c.vertices-vertices.ensures.count, ap length c.graph.ensures.value, ap length c.in_ok-prices.ensures, length-first q (vertices plane + plane.faces))
@@ -24,7 +24,7 @@ returns c =
     let ends = c.graph.ensures.ends in
     let solves : Solves net c.args.solved.now = c.requires.solves in
     let cut : c.from.result ≡ n = c.from.ensures ∙ (c.vertices-vertices.ensures.count ∙ ap length c.graph.ensures.value) in
-    let found : IsOfFlow plane x q c.of_darts.result c.joined.result = rw (c.of_darts.ensures, c.joined.ensures, cut, c.in_ok-prices.ensures) (record {
+    let found : IsOfFlow plane x q c.of_darts.result c.concatenated.result = rw (c.of_darts.ensures, c.concatenated.ensures, cut, c.in_ok-prices.ensures) (record {
       angle_count = length-map c.in_ok-darts.darts.items (λ dart. dart.angle) ∙ c.in_ok-darts.ensures.flow.count;
       string_count = length-map c.in_ok-darts.darts.items turns_in ∙ c.in_ok-darts.ensures.flow.count;
       vertex_count = vertex_count q n plane.faces;
@@ -35,7 +35,7 @@ returns c =
       face = face_value q n plane.faces;
     }) in
     record {
-      shape = shape_of_flow plane net x q c.of_darts.result c.joined.result ends is solves.flow found;
-      least = least_of_flow plane net x q c.of_darts.result c.joined.result ends is solves.flow solves.potentials found;
-      proof = proof_of_flow plane net x q c.of_darts.result c.joined.result ends is solves.potentials found;
+      shape = shape_of_flow plane net x q c.of_darts.result c.concatenated.result ends is solves.flow found;
+      least = least_of_flow plane net x q c.of_darts.result c.concatenated.result ends is solves.flow solves.potentials found;
+      proof = proof_of_flow plane net x q c.of_darts.result c.concatenated.result ends is solves.potentials found;
     }

@@ -1,8 +1,8 @@
 use Rattle.std.proofs.Common.{◌+◌, drop, subst, sym}
-use Rattle.printing.specs.Joined.{joined}
+use Rattle.printing.specs.Concatenated.{concatenated}
 use Rattle.printing.specs.Written.{GoesOn, BreaksIn}
 use Rattle.printing.proofs.SucceedsOrFails.{err_any}
-use Rattle.printing.proofs.Joining.{joined_next, joined_rest, goes_both, goes_breaks, breaks_more}
+use Rattle.printing.proofs.Joining.{concatenated_next, concatenated_rest, goes_both, goes_breaks, breaks_more}
 use Rattle.printing.proofs.chunks.put_each.Goals as goal
 
 pub loop-chunk-preserved : goal.loop-chunk-preserved
@@ -15,7 +15,7 @@ loop-chunk-preserved g c =
     record {
       stands = c.in_ok-put.ensures.stands;
       goes = subst (GoesOn old c.args.buffer.now new c.put.new.buffer)
-          (sym (joined_next c.args.chunks.now at.chunk-index c.chunk-item.result c.as_slice.result.now c.loop-chunk-test.true c.chunk-item.is c.as_slice.ensures.value))
+          (sym (concatenated_next c.args.chunks.now at.chunk-index c.chunk-item.result c.as_slice.result.now c.loop-chunk-test.true c.chunk-item.is c.as_slice.ensures.value))
           (goes_both old mid new c.args.buffer.now at.buffer c.put.new.buffer _ _ at.invariant.goes c.in_ok-put.ensures.put);
     }
 
@@ -26,8 +26,8 @@ returns-in_err-put-clause-broken g c =
     let old = taken c.args.sink.now in
     let mid = taken at.sink in
     let new = taken c.put.new.sink in
-    let next = joined_next c.args.chunks.now at.chunk-index c.chunk-item.result c.as_slice.result.now c.loop-chunk-test.true c.chunk-item.is c.as_slice.ensures.value in
-    err_any _ (subst (BreaksIn old c.args.buffer.now new) (joined_rest c.args.chunks.now (at.chunk-index + 1))
-    (breaks_more old new c.args.buffer.now _ (joined (drop (at.chunk-index + 1) c.args.chunks.now))
+    let next = concatenated_next c.args.chunks.now at.chunk-index c.chunk-item.result c.as_slice.result.now c.loop-chunk-test.true c.chunk-item.is c.as_slice.ensures.value in
+    err_any _ (subst (BreaksIn old c.args.buffer.now new) (concatenated_rest c.args.chunks.now (at.chunk-index + 1))
+    (breaks_more old new c.args.buffer.now _ (concatenated (drop (at.chunk-index + 1) c.args.chunks.now))
     (subst (BreaksIn old c.args.buffer.now new) (sym next)
     (goes_breaks old mid new c.args.buffer.now at.buffer _ _ at.invariant.goes c.in_err-put.ensures.broken))))

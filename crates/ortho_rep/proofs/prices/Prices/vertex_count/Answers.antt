@@ -4,7 +4,7 @@ use Rattle.ortho_rep.specs.Prices.{PricesModel}
 use Rattle.ortho_rep.specs.PriceStores.{prices_of, HasVertices}
 use Rattle.ortho_rep.proofs.prices.Prices.vertex_count.Goals as goal
 
-pub returns-in-Joined : goal.returns-in-Joined
-returns-in-Joined c =
-    sym (length-take-le c.in-Joined.vertices c.in-Joined.prices.items (subst HasVertices c.in-Joined.is c.self.invariant))
-    ∙ ap (λ (t : PricesModel). length t.vertices) (ap prices_of (sym c.in-Joined.is) ∙ c.self.view_is)
+pub returns-in-Concatenated : goal.returns-in-Concatenated
+returns-in-Concatenated c =
+    sym (length-take-le c.in-Concatenated.vertices c.in-Concatenated.prices.items (subst HasVertices c.in-Concatenated.is c.self.invariant))
+    ∙ ap (λ (t : PricesModel). length t.vertices) (ap prices_of (sym c.in-Concatenated.is) ∙ c.self.view_is)

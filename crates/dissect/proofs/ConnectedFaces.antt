@@ -4,7 +4,7 @@ use Rattle.std.proofs.lemmas.Bool.{cases_eq}
 use Rattle.dissect.specs.DartMaps.{DartMap, IsLinked, IsCut}
 use Rattle.dissect.specs.Surrounds.{IsSurrounded}
 use Rattle.dissect.specs.Turning.{total}
-use Rattle.dissect.specs.Faces.{StretchesIn, Stretches, Trail, last_of, Ring, IsOutside, In, Below, joined, AreRings}
+use Rattle.dissect.specs.Faces.{StretchesIn, Stretches, Trail, last_of, Ring, IsOutside, In, Below, concatenated, AreRings}
 use Rattle.dissect.proofs.Splitting.{split_linked}
 use Rattle.dissect.proofs.Stretching.{IsCutting, stretch_more, stretch_direct, split_stretches, Stretches-inside}
 use Rattle.dissect.proofs.Rings.{split_ring, chord_stretches, chord_ring}
@@ -33,7 +33,7 @@ surround_ring w new s linked [] l ring = ring
 surround_ring w new s linked (c ∷ cs) l ring = surround_trail w new s linked (last_of c cs) (c ∷ cs) l ring
 
 -- the map w in its rectangle, joined by a cut from `right` to one of the rectangle's sides
-pub record IsJoining (w surrounded : DartMap) (right side way : ℕ) (new : DartMap) : Type 0 where
+pub record IsConnecting (w surrounded : DartMap) (right side way : ℕ) (new : DartMap) : Type 0 where
   pub linked : IsLinked w
   pub surround : IsSurrounded w surrounded
   pub right_in : right < w.darts
@@ -44,12 +44,12 @@ pub record IsJoining (w surrounded : DartMap) (right side way : ℕ) (new : Dart
 abbrev pub corner_of : DartMap → ℕ → ℕ
 corner_of w side = w.darts + (side + 3) % 4
 
-pub middle_of : (w surrounded : DartMap) (right side way : ℕ) (new : DartMap) → (j : IsJoining w surrounded right side way new) → IsLinked j.join.middle
+pub middle_of : (w surrounded : DartMap) (right side way : ℕ) (new : DartMap) → (j : IsConnecting w surrounded right side way new) → IsLinked j.join.middle
 middle_of w surrounded right side way new j =
     split_linked surrounded (w.darts + side) (surrounded.direction (w.darts + side)) 2 j.join.middle
     (surround_linked w surrounded j.surround j.linked) j.join.e_in j.join.split
 
-pub cutting_of : (w surrounded : DartMap) (right side way : ℕ) (new : DartMap) → (j : IsJoining w surrounded right side way new) →
+pub cutting_of : (w surrounded : DartMap) (right side way : ℕ) (new : DartMap) → (j : IsConnecting w surrounded right side way new) →
     IsCutting j.join.middle right (corner_of w side) surrounded.darts
 cutting_of w surrounded right side way new j =
     let s = j.join.split in
@@ -65,18 +65,18 @@ cutting_of w surrounded right side way new j =
     }
 
 -- angles after the join
-pub old_angle : (w surrounded : DartMap) (right side way : ℕ) (new : DartMap) → IsJoining w surrounded right side way new → (a : ℕ) → a < w.darts →
+pub old_angle : (w surrounded : DartMap) (right side way : ℕ) (new : DartMap) → IsConnecting w surrounded right side way new → (a : ℕ) → a < w.darts →
     a ≢ right → new.angle a ≡ w.angle a
 old_angle w surrounded right side way new j a l ne =
     let s = j.join.split in
     let a_in : a < surrounded.darts = omega (arith, j.surround.darts, l) in
     j.join.chord.angle_other a (omega (arith, s.darts, a_in)) ne (λ h. omega (arith, h, a_in)) ∙ s.angle_old a a_in ∙ j.surround.angle_old a l
 
-pub right_angle : (w surrounded : DartMap) (right side way : ℕ) (new : DartMap) → IsJoining w surrounded right side way new → new.angle right + 1 ≡ w.angle right
+pub right_angle : (w surrounded : DartMap) (right side way : ℕ) (new : DartMap) → IsConnecting w surrounded right side way new → new.angle right + 1 ≡ w.angle right
 right_angle w surrounded right side way new j =
     j.join.chord.angle_d ∙ j.join.split.angle_old right j.join.d_in ∙ j.surround.angle_old right j.right_in
 
-pub surround_angle : (w surrounded : DartMap) (right side way : ℕ) (new : DartMap) → IsJoining w surrounded right side way new → (i : ℕ) → i < 8 →
+pub surround_angle : (w surrounded : DartMap) (right side way : ℕ) (new : DartMap) → IsConnecting w surrounded right side way new → (i : ℕ) → i < 8 →
     new.angle (w.darts + i) ≡ surrounded.angle (w.darts + i)
 surround_angle w surrounded right side way new j i l =
     let s = j.join.split in
@@ -84,17 +84,17 @@ surround_angle w surrounded right side way new j i l =
     j.join.chord.angle_other (w.darts + i) (omega (arith, s.darts, a_in)) (λ h. omega (arith, h, j.right_in)) (λ h. omega (arith, h, a_in))
     ∙ s.angle_old (w.darts + i) a_in
 
-pub inner_angle : (w surrounded : DartMap) (right side way : ℕ) (new : DartMap) → IsJoining w surrounded right side way new → (k : ℕ) → k < 4 →
+pub inner_angle : (w surrounded : DartMap) (right side way : ℕ) (new : DartMap) → IsConnecting w surrounded right side way new → (k : ℕ) → k < 4 →
     new.angle (w.darts + k) ≡ 1
 inner_angle w surrounded right side way new j k l = surround_angle w surrounded right side way new j k (omega arith) ∙ j.surround.angle_inner k l
 
-pub outer_angle : (w surrounded : DartMap) (right side way : ℕ) (new : DartMap) → IsJoining w surrounded right side way new → (k : ℕ) → k < 4 →
+pub outer_angle : (w surrounded : DartMap) (right side way : ℕ) (new : DartMap) → IsConnecting w surrounded right side way new → (k : ℕ) → k < 4 →
     new.angle (w.darts + 4 + k) ≡ 3
 outer_angle w surrounded right side way new j k l =
     let e : w.darts + 4 + k ≡ w.darts + (4 + k) = omega arith in
     ap new.angle e ∙ surround_angle w surrounded right side way new j (4 + k) (omega arith) ∙ ap surrounded.angle (sym e) ∙ j.surround.angle_outer k l
 
-pub new_angles : (w surrounded : DartMap) (right side way : ℕ) (new : DartMap) → IsJoining w surrounded right side way new →
+pub new_angles : (w surrounded : DartMap) (right side way : ℕ) (new : DartMap) → IsConnecting w surrounded right side way new →
     (new.angle (w.darts + 8) ≡ 1) × (new.angle (w.darts + 9) ≡ 2) × (new.angle (w.darts + 10) ≡ 1) × (new.angle (w.darts + 11) ≡ 1)
 new_angles w surrounded right side way new j =
     let n : ℕ = w.darts in
@@ -113,7 +113,7 @@ new_angles w surrounded right side way new j =
     )
 
 -- a stretch between two of the rectangle's darts, side by side
-pub inside_stretch : (w surrounded : DartMap) (right side way : ℕ) (new : DartMap) → IsJoining w surrounded right side way new → (i m : ℕ) → i < 8 → m < 8 →
+pub inside_stretch : (w surrounded : DartMap) (right side way : ℕ) (new : DartMap) → IsConnecting w surrounded right side way new → (i m : ℕ) → i < 8 → m < 8 →
     surrounded.next (w.darts + i) ≡ w.darts + m → surrounded.angle (w.darts + m) ≢ 2 → surrounded.angle (w.darts + i) ≢ 2 →
     i ≢ (side + 3) % 4 → Stretches new (w.darts + i) (w.darts + m)
 inside_stretch w surrounded right side way new j i m il ml to corner here ne =
@@ -129,7 +129,7 @@ inside_stretch w surrounded right side way new j i m il ml to corner here ne =
     (λ h. omega (arith, h, j.right_in)) stretches
 
 -- the outside of the rectangle
-pub outside_stretch : (w surrounded : DartMap) (right side way : ℕ) (new : DartMap) → IsJoining w surrounded right side way new → (k m : ℕ) → k < 4 →
+pub outside_stretch : (w surrounded : DartMap) (right side way : ℕ) (new : DartMap) → IsConnecting w surrounded right side way new → (k m : ℕ) → k < 4 →
     m ≡ (k + 3) % 4 → Stretches new (w.darts + 4 + k) (w.darts + 4 + m)
 outside_stretch w surrounded right side way new j k m l e =
     let a : w.darts + (4 + k) ≡ w.darts + 4 + k = omega arith in
@@ -157,7 +157,7 @@ round_holds n o k o_in l =
     ]
 
 -- each of its corners with each other
-pub outside_four : (w surrounded : DartMap) (right side way : ℕ) (new : DartMap) → IsJoining w surrounded right side way new → (o : ℕ) → o < 4 →
+pub outside_four : (w surrounded : DartMap) (right side way : ℕ) (new : DartMap) → IsConnecting w surrounded right side way new → (o : ℕ) → o < 4 →
     (k : ℕ) → k < 4 → IsOutside new (w.darts + 4 + o) (w.darts + 4 + k)
 outside_four w surrounded right side way new j o o_in k l = record {
   four = record {
@@ -177,7 +177,7 @@ outside_four w surrounded right side way new j o o_in k l = record {
 }
 
 -- a face that the cut does not touch
-pub other_ring : (w surrounded : DartMap) (right side way : ℕ) (new : DartMap) → IsJoining w surrounded right side way new → (r : List ℕ) →
+pub other_ring : (w surrounded : DartMap) (right side way : ℕ) (new : DartMap) → IsConnecting w surrounded right side way new → (r : List ℕ) →
     Below w.darts r → (In right r → ⊥) → Ring w r → Ring new r
 other_ring w surrounded right side way new j r below out ring =
     let s = j.join.split in
@@ -191,7 +191,7 @@ other_ring w surrounded right side way new j r below out ring =
     (clear_of n j.join.middle.darts right (corner_of w side) r (omega (arith, s.darts, j.surround.darts)) below out
     (λ h. omega (arith, in_below n (corner_of w side) r below h))) in_middle
 
-pub totals_same : (w surrounded : DartMap) (right side way : ℕ) (new : DartMap) → IsJoining w surrounded right side way new → (r : List ℕ) →
+pub totals_same : (w surrounded : DartMap) (right side way : ℕ) (new : DartMap) → IsConnecting w surrounded right side way new → (r : List ℕ) →
     Below w.darts r → (In right r → ⊥) → total (map new.angle r) ≡ total (map w.angle r)
 totals_same w surrounded right side way new j [] below out = refl
 totals_same w surrounded right side way new j (a ∷ r) below out =
@@ -201,15 +201,15 @@ totals_same w surrounded right side way new j (a ∷ r) below out =
       totals_same w surrounded right side way new j r below.1 (λ h. out (inr h)),
     )
 
-pub other_rings : (w surrounded : DartMap) (right side way : ℕ) (new : DartMap) → IsJoining w surrounded right side way new → (rs : List (List ℕ)) →
-    Below w.darts (joined rs) → (In right (joined rs) → ⊥) → AreRings w rs → AreRings new rs
+pub other_rings : (w surrounded : DartMap) (right side way : ℕ) (new : DartMap) → IsConnecting w surrounded right side way new → (rs : List (List ℕ)) →
+    Below w.darts (concatenated rs) → (In right (concatenated rs) → ⊥) → AreRings w rs → AreRings new rs
 other_rings w surrounded right side way new j [] below out rings = tt
 other_rings w surrounded right side way new j (r ∷ rs) below out rings =
-    let below_r : Below w.darts r = below_left w.darts r (joined rs) below in
-    let out_r : In right r → ⊥ = λ h. out (in_left right r (joined rs) h) in (
+    let below_r : Below w.darts r = below_left w.darts r (concatenated rs) below in
+    let out_r : In right r → ⊥ = λ h. out (in_left right r (concatenated rs) h) in (
       (
         other_ring w surrounded right side way new j r below_r out_r rings.0.0,
         omega (arith, totals_same w surrounded right side way new j r below_r out_r, rings.0.1),
       ),
-      other_rings w surrounded right side way new j rs (below_right w.darts r (joined rs) below) (λ h. out (in_right right r (joined rs) h)) rings.1,
+      other_rings w surrounded right side way new j rs (below_right w.darts r (concatenated rs) below) (λ h. out (in_right right r (concatenated rs) h)) rings.1,
     )

@@ -132,9 +132,9 @@ reaches_tails g rules t closed one d h =
     ]
 
 -- a set that is closed under "next" and "reverse" and holds one dart holds them all
-pub all_joined : (g : List (List ℕ)) → KeepsBefore g 8 → (s : ℕ → Bool) → IsClosedUnder (dart_count g) (next_of g) s → IsClosedUnder (dart_count g) (reverse_of g) s
+pub all_connected : (g : List (List ℕ)) → KeepsBefore g 8 → (s : ℕ → Bool) → IsClosedUnder (dart_count g) (next_of g) s → IsClosedUnder (dart_count g) (reverse_of g) s
     → (d e : ℕ) → d < dart_count g → e < dart_count g → s d ≡ true → s e ≡ true
-all_joined g rules s next reverse d e hd he here =
+all_connected g rules s next reverse d e hd he here =
     let shut = shut_after g rules s next reverse in
     elim (cases_Bool (firsts g s 1)) [
       | inl one ↦ held_tail g s shut e he (reaches_tails g rules (firsts g s) (closed_held g rules s shut reverse) one e he)
@@ -145,13 +145,13 @@ all_joined g rules s next reverse d e hd he here =
 
 -- any two faces of a plane are joined: a set of faces that holds with each dart's face the face across holds
 -- them all, if it holds one
-pub faces_joined : (p : PlaneModel) → IsPlane p → (t : ℕ → Bool)
+pub faces_connected : (p : PlaneModel) → IsPlane p → (t : ℕ → Bool)
     → ((d : ℕ) → d < darts p → t (face_at p d) ≡ true → t (face_at p (reverse_dart p d)) ≡ true)
     → (k j : ℕ) → k < p.faces → j < p.faces → t k ≡ true → t j ≡ true
-faces_joined p is t across k j hk hj here =
+faces_connected p is t across k j hk hj here =
     let (d, in-d, face-d) = is.faces.used k hk in
     let (e, in-e, face-e) = is.faces.used j hj in
     subst (λ i. t i ≡ true) face-e
-    (all_joined p.lists (seven_rules p.lists is.rules) (λ x. t (face_at p x))
+    (all_connected p.lists (seven_rules p.lists is.rules) (λ x. t (face_at p x))
     (λ x h m. subst (λ i. t i ≡ true) (sym (is.faces.closed x h)) m) across d e in-d in-e
     (subst (λ i. t i ≡ true) (sym face-d) here))

@@ -4,5 +4,5 @@ use Rattle.std.specs.List.{flat_map}
 use Rattle.std.specs.declared.alloc.Global.{Global}
 
 -- the text of these chunks, one after another
-abbrev pub joined : List (Vec ℕ Global) → List ℕ
-joined chunks = flat_map (λ chunk. chunk.items) chunks
+abbrev pub concatenated : List (Vec ℕ Global) → List ℕ
+concatenated chunks = flat_map (λ chunk. chunk.items) chunks

@@ -2,9 +2,9 @@ use Rattle.std.proofs.Common.{◌≡◌, ◌++◌, ◌+◌, ◌-◌, ◌∙◌, 
 use Rattle.std.proofs.lemmas.List.{get_or_read}
 use Rattle.dissect.specs.Tables.{dart_map_of}
 use Rattle.dissect.specs.Listed.{detour}
-use Rattle.dissect.proofs.Adding.{IsRemaining, listed_few, left_few, left_kept, joined_made}
-use Rattle.dissect.proofs.face_list.add_joined_face.Goals as goal
-use Rattle.dissect.proofs.face_list.add_joined_face.Goals.{then-index-eq3, else-index-eq3}
+use Rattle.dissect.proofs.Adding.{IsRemaining, listed_few, left_few, left_kept, connected_made}
+use Rattle.dissect.proofs.face_list.add_connected_face.Goals as goal
+use Rattle.dissect.proofs.face_list.add_connected_face.Goals.{then-index-eq3, else-index-eq3}
 
 pub overflow_cast-kept : goal.overflow_cast-kept
 overflow_cast-kept c =
@@ -38,7 +38,7 @@ overflow_add-kept c =
 
 pub returns : goal.returns
 returns c = record {
-  joined = λ inner listed flat.
+  connected = λ inner listed flat.
       let outer = c.args.faces.now.outer in
       let long : vec_len outer ≡ length outer.items = omega (arith, outer.ok.0) in
       let left : IsRemaining c.index.result.now outer.items c.if-index-eq3.faces.outer.items =
@@ -58,7 +58,7 @@ returns c = record {
       let first : c.extend_from_slice.new.self.items ≡ c.args.faces.now.corners.items ++ kept =
       c.in_ok-extend_from_slice.ensures.items ∙ ap (λ (xs : List ℕ). xs ++ c.as_slice.result.now) corners
       ∙ ap (λ (xs : List ℕ). c.args.faces.now.corners.items ++ xs) c.as_slice.ensures.value in
-      joined_made (dart_map_of c.args.table.now) c.args.right c.args.side listed.front kept inner c.args.faces.now.corners.items
+      connected_made (dart_map_of c.args.table.now) c.args.right c.args.side listed.front kept inner c.args.faces.now.corners.items
       c.args.faces.now.counts.items c.extend_from_slice-2.new.self.items c.push.new.self.items (c.len-kept.result + 7)
       (left_kept (dart_map_of c.args.table.now) c.args.right inner outer.items kept c.index.result.now angle left listed) flat
       (c.in_ok-extend_from_slice-2.ensures.items ∙ ap (λ (xs : List ℕ). xs ++ detour c.args.table.now.darts c.args.side) first)
