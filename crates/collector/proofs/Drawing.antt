@@ -10,7 +10,7 @@ use Rattle.printing.specs.FormLines.{preamble_in, lines_in}
 use Rattle.printing.specs.Whole.{IsAllWritten, IsBegun}
 use Rattle.printing.specs.Telling.{AddsNoneUndrawn}
 use Rattle.printing.specs.DrawnBooks.{AreDrawnBooks}
-use Rattle.printing.proofs.Apart.{joined}
+use Rattle.printing.proofs.Apart.{concatenated}
 use Rattle.printing.proofs.TextBytes.{text_apart, preamble_apart, lines_apart}
 use Rattle.printing.proofs.Books.{drawn_book, drawn_books}
 use Rattle.printing.proofs.Added.{text_added, front_added, from_some}
@@ -32,8 +32,8 @@ begun_by choice meaning form files start now is =
           let count = length is.books in
           let entries = going.1.0 in
           front_added start now (text_in form is.books ++ preamble_in form (count + 1) ++ lines_in form entries)
-          (joined (text_in form is.books ++ preamble_in form (count + 1)) (lines_in form entries)
-          (joined (text_in form is.books) (preamble_in form (count + 1)) books (preamble_apart form (count + 1)))
+          (concatenated (text_in form is.books ++ preamble_in form (count + 1)) (lines_in form entries)
+          (concatenated (text_in form is.books) (preamble_in form (count + 1)) books (preamble_apart form (count + 1)))
           (lines_apart form entries (drawn_book choice (meaning count) count _ going.1.1)))
           going.1.2
     ]

@@ -16,7 +16,7 @@ use Rattle.reports.specs.declared.form.Form.{Form}
 use Rattle.reports.specs.Forms.{text_in}
 use Rattle.reports.proofs.FirstBytes.{first}
 use Rattle.printing.specs.Telling.{AddsNoneUndrawn}
-use Rattle.printing.proofs.Apart.{IsApart, joined, counted}
+use Rattle.printing.proofs.Apart.{IsApart, concatenated, counted}
 use Rattle.printing.proofs.TextBytes.{text_apart}
 use Rattle.printing.proofs.Added.{text_added, front_added, none_added, from_some}
 use Rattle.collector.proofs.Drawing.{all_drawn, begun_drawn}
@@ -31,13 +31,13 @@ record_apart : (number : ℕ) (bytes : List ℕ) → IsApart (record_line number
 record_apart number bytes =
     let named : List ℕ = codes "record " ++ decimal number in
     let sized : List ℕ = named ++ codes " n=" ++ decimal (slice_index bytes 0) in
-    let sized_is : IsApart sized = counted (named ++ codes " n=") (slice_index bytes 0) (joined named (codes " n=") (counted (codes "record ") number refl) refl) in
-    joined (sized ++ codes " bytes=" ++ decimal (length bytes)) (codes "\n")
-    (counted (sized ++ codes " bytes=") (length bytes) (joined sized (codes " bytes=") sized_is refl)) refl
+    let sized_is : IsApart sized = counted (named ++ codes " n=") (slice_index bytes 0) (concatenated named (codes " n=") (counted (codes "record ") number refl) refl) in
+    concatenated (sized ++ codes " bytes=" ++ decimal (length bytes)) (codes "\n")
+    (counted (sized ++ codes " bytes=") (length bytes) (concatenated sized (codes " bytes=") sized_is refl)) refl
 
 records_apart : (number : ℕ) (records : List (List ℕ)) → IsApart (record_lines number records)
 records_apart number [] = refl
-records_apart number (bytes ∷ records) = joined (record_line number bytes) (record_lines (number + 1) records) (record_apart number bytes) (records_apart (number + 1) records)
+records_apart number (bytes ∷ records) = concatenated (record_line number bytes) (record_lines (number + 1) records) (record_apart number bytes) (records_apart (number + 1) records)
 
 marked_apart : (mark : Mark) → IsApart (codes "end " ++ marks.word_of mark ++ codes " records=")
 marked_apart Io = refl
@@ -52,8 +52,8 @@ marked_apart (Ended ending.Memory) = refl
 frames_apart : (found : FramesModel) → IsApart (frames_text found)
 frames_apart found =
     let count = length found.records in
-    joined (record_lines 1 found.records) (frames_end_line found.mark count) (records_apart 1 found.records)
-    (joined (codes "end " ++ marks.word_of found.mark ++ codes " records=" ++ decimal count) (codes "\n")
+    concatenated (record_lines 1 found.records) (frames_end_line found.mark count) (records_apart 1 found.records)
+    (concatenated (codes "end " ++ marks.word_of found.mark ++ codes " records=" ++ decimal count) (codes "\n")
     (counted (codes "end " ++ marks.word_of found.mark ++ codes " records=") count (marked_apart found.mark)) refl)
 
 -- ---- what requests ask for

@@ -7,7 +7,7 @@ use Rattle.std.proofs.Math.ListN.{length-set}
 use Rattle.dissect.specs.Turning.{Rising, Reduced, IsHighest}
 use Rattle.dissect.specs.DartMaps.{DartMap, IsSound, Grows, same, further}
 use Rattle.std.proofs.lemmas.List.Sums.{sum_by-cons}
-use Rattle.dissect.specs.Faces.{Below, AreWaiting, cut_up}
+use Rattle.dissect.specs.Faces.{Below, AreWaiting, pieces_of}
 use Rattle.dissect.specs.Scan.{down, tops, IsScan, HasRoom, IsReading}
 use Rattle.dissect.proofs.Listing.{below_append, below_left, below_right}
 use Rattle.dissect.proofs.Scanning.{scan_reads}
@@ -160,15 +160,15 @@ below_turned n m xs below =
     below_append n (drop m xs) (take m xs) (below_right n (take m xs) (drop m xs) apart) (below_left n (take m xs) (drop m xs) apart)
 
 -- the first of the pieces, and the others
-pub pieces_apart : (w : DartMap) (xs ns : List ℕ) (start i o : ℕ) → i < length ns → AreWaiting w o (cut_up (drop start xs) (drop i ns)) →
-    AreWaiting w o (take (start + get_or ns i 0 - start) (drop start xs) ∷ cut_up (drop (start + get_or ns i 0) xs) (drop (i + 1) ns))
+pub pieces_apart : (w : DartMap) (xs ns : List ℕ) (start i o : ℕ) → i < length ns → AreWaiting w o (pieces_of (drop start xs) (drop i ns)) →
+    AreWaiting w o (take (start + get_or ns i 0 - start) (drop start xs) ∷ pieces_of (drop (start + get_or ns i 0) xs) (drop (i + 1) ns))
 pieces_apart w xs ns start i o more waiting =
     let n : ℕ = get_or ns i 0 in
-    let first : AreWaiting w o (take n (drop start xs) ∷ cut_up (drop n (drop start xs)) (drop (i + 1) ns)) =
-    subst (λ (zs : List ℕ). AreWaiting w o (cut_up (drop start xs) zs)) (drop_more ns i 0 more) waiting in
+    let first : AreWaiting w o (take n (drop start xs) ∷ pieces_of (drop n (drop start xs)) (drop (i + 1) ns)) =
+    subst (λ (zs : List ℕ). AreWaiting w o (pieces_of (drop start xs) zs)) (drop_more ns i 0 more) waiting in
     let count : n ≡ start + n - start = omega arith in
-    subst (λ (k : ℕ). AreWaiting w o (take k (drop start xs) ∷ cut_up (drop (start + n) xs) (drop (i + 1) ns))) count
-    (subst (λ (zs : List ℕ). AreWaiting w o (take n (drop start xs) ∷ cut_up zs (drop (i + 1) ns))) (drop-drop n start xs) first)
+    subst (λ (k : ℕ). AreWaiting w o (take k (drop start xs) ∷ pieces_of (drop (start + n) xs) (drop (i + 1) ns))) count
+    (subst (λ (zs : List ℕ). AreWaiting w o (take n (drop start xs) ∷ pieces_of zs (drop (i + 1) ns))) (drop-drop n start xs) first)
 
 pub sum_apart : (ns : List ℕ) (i : ℕ) → i < length ns → sum (drop i ns) ≡ get_or ns i 0 + sum (drop (i + 1) ns)
 sum_apart ns i more = ap sum (drop_more ns i 0 more) ∙ sum_by-cons (λ (n : ℕ). n) (get_or ns i 0) (drop (i + 1) ns)

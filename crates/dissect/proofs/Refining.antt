@@ -10,7 +10,7 @@ use Rattle.dissect.specs.Surrounds.{IsSurrounded, IsEnclosed}
 use Rattle.dissect.specs.FaceNumbers.{AreFaceNumbers, HasTurns}
 use Rattle.dissect.specs.Scan.{CanCut, HasRoom}
 use Rattle.dissect.specs.Turning.{total}
-use Rattle.dissect.specs.Faces.{Stretches, IsRectangle, In, Distinct, Below, concatenated, AreWaiting, ReachesCorners, cut_up}
+use Rattle.dissect.specs.Faces.{Stretches, IsRectangle, In, Distinct, Below, concatenated, AreWaiting, ReachesCorners, pieces_of}
 use Rattle.dissect.proofs.Stretching.{stretch_direct, Stretches-inside}
 use Rattle.dissect.proofs.Scanning.{stretch_direction, cut_sound, cut_reflex_turns}
 use Rattle.dissect.proofs.Reaching.{cut_reaches, grows_sound, grows_reaches, cut_vertices, grows_vertices}
@@ -30,13 +30,13 @@ drop_own [] s = refl
 drop_own (x ∷ r) s = drop_own r s
 
 -- flat lists are cut up into the faces that they hold
-pub cut_up_flat : (faces : List (List ℕ)) → cut_up (concatenated faces) (map (λ (r : List ℕ). length r) faces) ≡ faces
-cut_up_flat [] = refl
-cut_up_flat (r ∷ rs) =
+pub pieces_of_flat : (faces : List (List ℕ)) → pieces_of (concatenated faces) (map (λ (r : List ℕ). length r) faces) ≡ faces
+pieces_of_flat [] = refl
+pieces_of_flat (r ∷ rs) =
     let lengths : List ℕ = map (λ (q : List ℕ). length q) rs in
-    ap (λ (xs : List ℕ). xs ∷ cut_up (drop (length r) (r ++ concatenated rs)) lengths) (take_own r (concatenated rs))
-    ∙ ap (λ (xs : List ℕ). r ∷ cut_up xs lengths) (drop_own r (concatenated rs))
-    ∙ ap (λ (qs : List (List ℕ)). r ∷ qs) (cut_up_flat rs)
+    ap (λ (xs : List ℕ). xs ∷ pieces_of (drop (length r) (r ++ concatenated rs)) lengths) (take_own r (concatenated rs))
+    ∙ ap (λ (xs : List ℕ). r ∷ pieces_of xs lengths) (drop_own r (concatenated rs))
+    ∙ ap (λ (qs : List (List ℕ)). r ∷ qs) (pieces_of_flat rs)
 
 pub sum_flat : (faces : List (List ℕ)) → sum (map (λ (r : List ℕ). length r) faces) ≡ length (concatenated faces)
 sum_flat [] = refl
@@ -44,7 +44,7 @@ sum_flat (r ∷ rs) = omega (arith, sum_by-cons (λ (k : ℕ). k) (length r) (ma
 
 -- what a table of flat lists says of the faces that wait
 pub record AreReady (w : DartMap) (o : ℕ) (corners counts : List ℕ) : Type 0 where
-  pub waiting : AreWaiting w o (cut_up corners counts)
+  pub waiting : AreWaiting w o (pieces_of corners counts)
   pub all : sum counts ≡ length corners
   pub few : length corners ≤ w.darts
 
@@ -54,7 +54,7 @@ flat_ready w o corners counts faces flat waiting =
     let few : length (concatenated faces) ≤ w.darts = distinct_few w.darts (concatenated faces) waiting.distinct waiting.below in
     let lengths : List ℕ = map (λ (r : List ℕ). length r) faces in
     let ready : AreReady w o (concatenated faces) lengths = record {
-      waiting = subst (AreWaiting w o) (sym (cut_up_flat faces)) waiting;
+      waiting = subst (AreWaiting w o) (sym (pieces_of_flat faces)) waiting;
       all = sum_flat faces;
       few = few;
     } in

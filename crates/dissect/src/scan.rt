@@ -10,7 +10,7 @@
 ghost use Rattle.std.specs.Prelude.{◌≡◌, ◌≢◌, ℕ, ◌+◌, ◌-◌, ◌*◌, ◌^◌, ◌<◌, ◌≤◌, ◌↔◌, List, [], ◌∷◌, length, map, drop, take, ◌++◌, sum, slice_index, true, All};
 ghost use Rattle.dissect.specs.DartMaps.{IsSound, IsCut, Grows};
 ghost use Rattle.dissect.specs.Tables.{dart_map_of, room};
-ghost use Rattle.dissect.specs.Faces.{AreWaiting, cut_up};
+ghost use Rattle.dissect.specs.Faces.{AreWaiting, pieces_of};
 ghost use Rattle.dissect.specs.Turning.{AreTurns, Reduced, IsHighest};
 ghost use Rattle.dissect.specs.Scan.{CanCut, HasRoom, IsHookOn, IsReading, down, tops};
 
@@ -142,13 +142,13 @@ pub fn cut_face(table: &mut DartTable, ring: &mut [u32])
 /// Linear in the corners.
 pub fn cut_faces(table: &mut DartTable, corners: &mut [u32], counts: &[u32])
     requires sound { IsSound (dart_map_of table.old) }
-    requires waiting { (o : ℕ) × AreWaiting (dart_map_of table.old) o (cut_up corners.old counts.now) }
+    requires waiting { (o : ℕ) × AreWaiting (dart_map_of table.old) o (pieces_of corners.old counts.now) }
     requires space { HasRoom (dart_map_of table.old) (room table.old) }
     requires all { sum counts.now ≡ length corners.old }
     requires few { length corners.old < 2 ^ 32 }
     ensures sound { IsSound (dart_map_of table.new) }
     ensures grows { Grows (dart_map_of table.old) (dart_map_of table.new) }
-    ensures done { (o : ℕ) → AreWaiting (dart_map_of table.old) o (cut_up corners.old counts.now) → AreWaiting (dart_map_of table.new) o [] }
+    ensures done { (o : ℕ) → AreWaiting (dart_map_of table.old) o (pieces_of corners.old counts.now) → AreWaiting (dart_map_of table.new) o [] }
     ensures space { HasRoom (dart_map_of table.new) (room table.new) }
     ensures room { room table.new ≡ room table.old }
 {

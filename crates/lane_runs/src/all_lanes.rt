@@ -14,7 +14,7 @@ use crate::lane::Lane;
 use crate::lane_kind::LaneKind;
 use crate::new_fan::{Fan, new_fan};
 use crate::run::Run;
-use crate::running::{LaneEnd, LanePromise, Running};
+use crate::running::{LanePromise, LaneReturn, Running};
 use crate::shared::Shared;
 use lanes::{Consumer, Gate, Message, Opener};
 use ruled_lanes::{LaneGiver, Seat, Tickets};
@@ -171,7 +171,7 @@ impl<'s, R: Threads + Wait + Sync, O: Opener, G: Gate, L: LaneKind + 's> Shared<
         };
         match scope.spawn_with(
             promise,
-            move || -> LaneEnd<L::Entry, L::End>
+            move || -> LaneReturn<L::Entry, L::End>
                 requires { StartsLane self.now.tickets.now lane.seat lane.giver
                     × TakesAll L.takes L.ends (O.meaning self.now.run.now.opener.now) }
             { self.run_lane(scope, lane) },

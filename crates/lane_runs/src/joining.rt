@@ -13,7 +13,7 @@ ghost use Rattle.lane_runs.specs.Faults.{EndsRun};
 
 use crate::fault::{LaneFault, RunFault};
 use crate::lane::Lane;
-use crate::running::{LaneEnd, Running};
+use crate::running::{LaneReturn, Running};
 use crate::shared::Shared;
 use lanes::{Consumer, Gate, GatherFault, Message, Numbered, Opener, gather};
 use ruled_lanes::{Gatherer, LaneGiver, Seat};
@@ -29,7 +29,7 @@ fn join_lane<E: Numbered, M: Drop + Send, R: Threads, O: Opener>(
     ensures tells { IfOk result (λ lane. TellsSeat E.about handle.promise.choice (O.meaning handle.promise.opener.value) handle.promise.tickets.value
         lane.seat (given_at lane.giver)) }
 {
-    let LaneEnd { giver, stop, seat } = handle.join(rt);
+    let LaneReturn { giver, stop, seat } = handle.join(rt);
     match stop {
         Ok(()) => {}
         Err(_) => return Err(LaneFault::LaneLost),

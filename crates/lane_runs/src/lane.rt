@@ -9,7 +9,7 @@ ghost use Rattle.lane_runs.specs.Taking.{TakesAll};
 use crate::fault::LaneFault;
 use crate::lane_kind::LaneKind;
 use crate::links::settle_lane;
-use crate::running::LaneEnd;
+use crate::running::LaneReturn;
 use crate::shared::Shared;
 use crate::stages::{LastStage, new_stages};
 use crate::starting::start_stage;
@@ -33,7 +33,7 @@ impl<'s, R: Threads + Wait + Sync, O: Opener, G: Gate, L: LaneKind + 's> Shared<
         &'s self,
         scope: &'s Scope<'s, &'e ()>,
         lane: Lane<L::Entry, L::End>,
-    ) -> LaneEnd<L::Entry, L::End>
+    ) -> LaneReturn<L::Entry, L::End>
         requires { StartsLane self.now.tickets.now lane.seat lane.giver
             × TakesAll L.takes L.ends (O.meaning self.now.run.now.opener.now) }
         ensures { EndsLane L.Entry.about self.now.run.now.choice (O.meaning self.now.run.now.opener.now) self.now.tickets.now
@@ -42,7 +42,7 @@ impl<'s, R: Threads + Wait + Sync, O: Opener, G: Gate, L: LaneKind + 's> Shared<
         let Lane { seat, mut giver } = lane;
         let seat = self.run_stages(scope, seat, &mut giver);
         let stop = giver.give(self.run.rt, Message::Stop);
-        LaneEnd { giver, stop, seat }
+        LaneReturn { giver, stop, seat }
     }
 
     /// Makes the stages of a lane, starts the first three and runs the last one. The stop is the caller's to

@@ -12,7 +12,7 @@ use std::thread::{Promise, PromisedHandle};
 /// What the thread of a lane gives back: in any case the end at which it gave, what the give of its stop answered,
 /// and its seat or what it met.
 #[derive(Drop)]
-pub struct LaneEnd<E: Numbered, M: Drop + Send> {
+pub struct LaneReturn<E: Numbered, M: Drop + Send> {
     pub giver: LaneGiver<Message<E, M>>,
     /// Only a give that was refused makes the error, so that no lane can leave its stop untried.
     pub stop: Result<(), Closed<Message<E, M>>>,
@@ -28,9 +28,9 @@ pub struct LanePromise<E: Numbered, M: Drop + Send, O: Opener> {
     pub giver: Snapshot<LaneGiver<Message<E, M>>>,
 }
 
-impl<E: Numbered, M: Drop + Send, O: Opener> Promise<LaneEnd<E, M>> for LanePromise<E, M, O> {
+impl<E: Numbered, M: Drop + Send, O: Opener> Promise<LaneReturn<E, M>> for LanePromise<E, M, O> {
     ghost kept_by = { λ p end. EndsLane E.about p.choice (O.meaning p.opener.value) p.tickets.value p.giver.value end.giver end.stop end.seat };
 }
 
 /// A lane that runs.
-pub type Running<E, M, O> = PromisedHandle<LaneEnd<E, M>, LanePromise<E, M, O>>;
+pub type Running<E, M, O> = PromisedHandle<LaneReturn<E, M>, LanePromise<E, M, O>>;

@@ -28,7 +28,7 @@ pub(crate) struct Pulling {
     /// The segments that the search has reached.
     reached: Vec<u16>,
     /// Those of them at which it has not looked yet.
-    open: Vec<u16>,
+    unlooked: Vec<u16>,
     /// Whether some segments have moved, and others have not.
     moved: bool,
 }
@@ -44,7 +44,7 @@ impl Pulling {
             numbers: Vec::new(alloc),
             from: Vec::new(alloc),
             reached: Vec::new(alloc),
-            open: Vec::new(alloc),
+            unlooked: Vec::new(alloc),
             moved: false,
         }
     }
@@ -139,10 +139,10 @@ impl Pulling {
     /// Reaches all segments to which pairs lead, up to the first one that is pulled down. From the last segment
     /// reached it goes on first, which finds one after fewer segments than in their order.
     fn spread(&mut self) -> Result<Option<u16>, AllocError> {
-        self.open.clear();
-        self.open.extend_from_slice(self.reached.as_slice())?;
+        self.unlooked.clear();
+        self.unlooked.extend_from_slice(self.reached.as_slice())?;
         for _ in 0..self.from.len() {
-            let Some(segment) = self.open.pop() else {
+            let Some(segment) = self.unlooked.pop() else {
                 break;
             };
             if let Some(target) = self.visit(segment)? {
@@ -160,7 +160,7 @@ impl Pulling {
             if let Some(next) = self.next(pair, segment) {
                 set(self.from.as_mut_slice(), next, pair);
                 self.reached.push(next)?;
-                self.open.push(next)?;
+                self.unlooked.push(next)?;
                 if self.excess_at(next) < 0 {
                     return Ok(Some(next));
                 }

@@ -23,7 +23,7 @@ use Rattle.networks.specs.declared.state.Search.{Search}
 use Rattle.networks.specs.declared.state.Visit.{Visit}
 use Rattle.min_cost_flow.specs.Stand.{IsReadyIn, CanAugmentIn, IsCleared}
 use Rattle.networks.specs.ResidualArcs.{end_at, cost_at, reverse_at, capacity_at, StartsAt, number_of, units_of, HasResidualArcs, AreResidualArcs, carried}
-use Rattle.networks.specs.Search.{far, IsArcCost, IsOpen, IsGraph, AreFeasiblePotentials, IsNear, IsReached, IsHit, IsNearest, IsServed, IsRemaining, IsPut, IsWithinFar, degree, looked, place_at, labels, enters, orders, places}
+use Rattle.networks.specs.Search.{far, IsArcCost, HasResidualCapacity, IsGraph, AreFeasiblePotentials, IsNear, IsReached, IsHit, IsNearest, IsServed, IsRemaining, IsPut, IsWithinFar, degree, looked, place_at, labels, enters, orders, places}
 use Rattle.min_cost_flow.specs.Path.{HasPath}
 use Rattle.min_cost_flow.proofs.Cut.{no_flow_out}
 use Rattle.networks.proofs.Ends.{start_in, end_in}
@@ -69,7 +69,7 @@ open_residual net reverse forward capacity arcs i false f b o = open_room (arc_a
 open_residual net reverse forward capacity arcs i true f b o = o
 
 -- a residual arc along which something fits is open, and its cost is what a unit costs
-pub unit_cost_open : (net : NetworkModel) (reverse : ℕ → ℕ) (forward : List ℕ) (capacity : ℕ → ℕ) (arcs : List ResidualArc) (i : ℕ) (back : Bool) → IsNetwork net → AreResidualArcs net reverse forward capacity arcs → i < arc_count net → 0 < capacity (number_of reverse forward i back) → (cost_at arcs (number_of reverse forward i back) ≡ unit_cost net i back) × IsOpen arcs (number_of reverse forward i back)
+pub unit_cost_open : (net : NetworkModel) (reverse : ℕ → ℕ) (forward : List ℕ) (capacity : ℕ → ℕ) (arcs : List ResidualArc) (i : ℕ) (back : Bool) → IsNetwork net → AreResidualArcs net reverse forward capacity arcs → i < arc_count net → 0 < capacity (number_of reverse forward i back) → (cost_at arcs (number_of reverse forward i back) ≡ unit_cost net i back) × HasResidualCapacity arcs (number_of reverse forward i back)
 unit_cost_open net reverse forward capacity arcs i back k f b o =
     elim (code_cases net reverse forward capacity arcs i back k f b) [
       | inl h ↦ absurd (omega (arith, h.0))
@@ -77,7 +77,7 @@ unit_cost_open net reverse forward capacity arcs i back k f b o =
     ]
 
 -- and an open one fits
-pub open_unit_cost : (net : NetworkModel) (reverse : ℕ → ℕ) (forward : List ℕ) (capacity : ℕ → ℕ) (arcs : List ResidualArc) (i : ℕ) (back : Bool) → IsNetwork net → AreResidualArcs net reverse forward capacity arcs → i < arc_count net → IsOpen arcs (number_of reverse forward i back) → (0 < capacity (number_of reverse forward i back)) × (cost_at arcs (number_of reverse forward i back) ≡ unit_cost net i back)
+pub open_unit_cost : (net : NetworkModel) (reverse : ℕ → ℕ) (forward : List ℕ) (capacity : ℕ → ℕ) (arcs : List ResidualArc) (i : ℕ) (back : Bool) → IsNetwork net → AreResidualArcs net reverse forward capacity arcs → i < arc_count net → HasResidualCapacity arcs (number_of reverse forward i back) → (0 < capacity (number_of reverse forward i back)) × (cost_at arcs (number_of reverse forward i back) ≡ unit_cost net i back)
 open_unit_cost net reverse forward capacity arcs i back k f b o =
     elim (code_cases net reverse forward capacity arcs i back k f b) [
       | inl h ↦ absurd (not_open (unit_cost net i back) (cost_at arcs (number_of reverse forward i back)) h.1 (unit_cost_low net i back k.costs b) o)
@@ -103,19 +103,19 @@ is_graph net first reverse forward capacity arcs k l f =
     }
 
 -- reduced costs by number, and by arc
-pub reduced_by_number : (net : NetworkModel) (first : List ℕ) (reverse : ℕ → ℕ) (forward : List ℕ) (capacity : ℕ → ℕ) (arcs : List ResidualArc) (p : ℕ → ℤ) → IsNetwork net → HasResidualArcs net first reverse forward → AreResidualArcs net reverse forward capacity arcs → HasPotentials net (carried reverse forward capacity) p → (v k : ℕ) → v < node_count net → StartsAt first v k → IsOpen arcs k → pos 0 ≤ℤ (cost_at arcs k +ℤ p v -ℤ p (end_at arcs k))
+pub reduced_by_number : (net : NetworkModel) (first : List ℕ) (reverse : ℕ → ℕ) (forward : List ℕ) (capacity : ℕ → ℕ) (arcs : List ResidualArc) (p : ℕ → ℤ) → IsNetwork net → HasResidualArcs net first reverse forward → AreResidualArcs net reverse forward capacity arcs → HasPotentials net (carried reverse forward capacity) p → (v k : ℕ) → v < node_count net → StartsAt first v k → HasResidualCapacity arcs k → pos 0 ≤ℤ (cost_at arcs k +ℤ p v -ℤ p (end_at arcs k))
 reduced_by_number net first reverse forward capacity arcs p n l f h v k b st op =
     let o = l.cover v k b st in
     let i = o.arc in
     let back = o.back in
-    let here : IsOpen arcs (number_of reverse forward i back) = subst (λ (t : ℕ). IsOpen arcs t) (sym o.place) op in
+    let here : HasResidualCapacity arcs (number_of reverse forward i back) = subst (λ (t : ℕ). HasResidualCapacity arcs t) (sym o.place) op in
     let (fits, unit_is) = open_unit_cost net reverse forward capacity arcs i back n f o.inside here in
     let red : pos 0 ≤ℤ reduced_cost net p i back = h.residual i back o.inside (open_residual net reverse forward capacity arcs i back f o.inside fits) in
     let two : pos 0 ≤ℤ (cost_at arcs (number_of reverse forward i back) +ℤ p (start_of net i back) -ℤ p (end_at arcs (number_of reverse forward i back))) = rw (unit_is, f.end i back o.inside) red in
     let one : pos 0 ≤ℤ (cost_at arcs (number_of reverse forward i back) +ℤ p v -ℤ p (end_at arcs (number_of reverse forward i back))) = subst (λ (t : ℕ). pos 0 ≤ℤ (cost_at arcs (number_of reverse forward i back) +ℤ p t -ℤ p (end_at arcs (number_of reverse forward i back)))) o.start two in
     subst (λ (t : ℕ). pos 0 ≤ℤ (cost_at arcs t +ℤ p v -ℤ p (end_at arcs t))) o.place one
 
-pub potentials_by_arc : (net : NetworkModel) (first : List ℕ) (reverse : ℕ → ℕ) (forward : List ℕ) (capacity : ℕ → ℕ) (arcs : List ResidualArc) (p : ℕ → ℤ) → IsNetwork net → HasResidualArcs net first reverse forward → AreResidualArcs net reverse forward capacity arcs → ((i : ℕ) → i < arc_count net → carried reverse forward capacity i ≤ 2097152) → ((v k : ℕ) → v < node_count net → StartsAt first v k → IsOpen arcs k → pos 0 ≤ℤ (cost_at arcs k +ℤ p v -ℤ p (end_at arcs k))) → HasPotentials net (carried reverse forward capacity) p
+pub potentials_by_arc : (net : NetworkModel) (first : List ℕ) (reverse : ℕ → ℕ) (forward : List ℕ) (capacity : ℕ → ℕ) (arcs : List ResidualArc) (p : ℕ → ℤ) → IsNetwork net → HasResidualArcs net first reverse forward → AreResidualArcs net reverse forward capacity arcs → ((i : ℕ) → i < arc_count net → carried reverse forward capacity i ≤ 2097152) → ((v k : ℕ) → v < node_count net → StartsAt first v k → HasResidualCapacity arcs k → pos 0 ≤ℤ (cost_at arcs k +ℤ p v -ℤ p (end_at arcs k))) → HasPotentials net (carried reverse forward capacity) p
 potentials_by_arc net first reverse forward capacity arcs p n l f few h = record {
   residual = λ i back b r.
       let fits : 0 < capacity (number_of reverse forward i back) = residual_open net reverse forward capacity arcs i back f b (few i b) r in
@@ -186,7 +186,7 @@ near_end c a q qe b' bound h k l = omega (arith, ints)
 label_step : (ps q c qe : ℤ) (n h : ℕ) → n ≤ MAX_NODES → h ≤ n → ps ≤ℤ pos (2 * n) → IsNear ps h q → c ≤ℤ pos 1 → qe ≤ℤ (q +ℤ c) → qe <ℤ far
 label_step ps q c qe n h small le low (a, b) o k = omega (arith, ints)
 
-pub moved_priced : (n : ℕ) (first : List ℕ) (arcs : List ResidualArc) (p p' e : ℕ → ℤ) (s : ℕ) (q : ℕ → ℤ) (enter order place : ℕ → ℕ) (scanned ordered reached : ℕ) (radius bound : ℤ) (f : ℕ) → IsGraph n first arcs → AreFeasiblePotentials n first arcs p e → IsReached n first arcs p e s q enter order place scanned ordered reached radius → IsNearest n first arcs p e s q place scanned radius bound f → IsServed n first arcs p q place bound scanned → IsRemaining n p q place scanned bound → IsMovedTo n p p' q place scanned bound → (v k : ℕ) → v < n → StartsAt first v k → IsOpen arcs k → pos 0 ≤ℤ (cost_at arcs k +ℤ p' v -ℤ p' (end_at arcs k))
+pub moved_priced : (n : ℕ) (first : List ℕ) (arcs : List ResidualArc) (p p' e : ℕ → ℤ) (s : ℕ) (q : ℕ → ℤ) (enter order place : ℕ → ℕ) (scanned ordered reached : ℕ) (radius bound : ℤ) (f : ℕ) → IsGraph n first arcs → AreFeasiblePotentials n first arcs p e → IsReached n first arcs p e s q enter order place scanned ordered reached radius → IsNearest n first arcs p e s q place scanned radius bound f → IsServed n first arcs p q place bound scanned → IsRemaining n p q place scanned bound → IsMovedTo n p p' q place scanned bound → (v k : ℕ) → v < n → StartsAt first v k → HasResidualCapacity arcs k → pos 0 ≤ℤ (cost_at arcs k +ℤ p' v -ℤ p' (end_at arcs k))
 moved_priced n first arcs p p' e s q enter order place scanned ordered reached radius bound f g pr r near sv remaining m v k b st op =
     let eb : end_at arcs k < n = g.end v k b st in
     let fall : p' (end_at arcs k) ≤ℤ p (end_at arcs k) = potentials_fall n first arcs p p' e s q enter order place scanned ordered reached radius bound f r near m (end_at arcs k) eb in
@@ -337,7 +337,7 @@ nothing_found net first reverse forward capacity arcs p e s q enter order place 
           let ub : u < n = start_in net i back k.ends b in
           let m : q u <ℤ far = plain_lt (q u) far so in
           let fits : 0 < capacity j = residual_open net reverse forward capacity arcs i back fl b (omega (arith, rd.capacity i b)) res in
-          let op : IsOpen arcs j = (unit_cost_open net reverse forward capacity arcs i back k fl b fits).1 in
+          let op : HasResidualCapacity arcs j = (unit_cost_open net reverse forward capacity arcs i back k fl b fits).1 in
           let st : StartsAt first u j = l.block i back b in
           let ends : end_at arcs j ≡ end_of net i back = fl.end i back b in
           let eb : end_at arcs j < n = subst (λ (t : ℕ). t < n) (sym ends) (end_in net i back k.ends b) in

@@ -4,12 +4,12 @@ use Rattle.std.specs.Prelude.{ℕ, zero, suc, ◌<◌, ◌≡◌, ℤ, pos, ◌+
 use Rattle.networks.specs.declared.residual.ResidualArc.{ResidualArc}
 use Rattle.networks.specs.declared.residual.ResidualCapacity.{ResidualCapacity}
 use Rattle.networks.specs.ResidualArcs.{end_at, cost_at, reverse_at, capacity_at, StartsAt}
-use Rattle.networks.specs.Search.{IsOpen}
+use Rattle.networks.specs.Search.{HasResidualCapacity}
 
 -- residual arc k leads from node u to node v, is open, and its reduced cost is 0
 pub record IsTight (first : List ℕ) (arcs : List ResidualArc) (p : ℕ → ℤ) (u k v : ℕ) : Type 0 where
   pub leaves : StartsAt first u k
-  pub unblocked : IsOpen arcs k
+  pub unblocked : HasResidualCapacity arcs k
   pub arrives : end_at arcs k ≡ v
   pub free : cost_at arcs k +ℤ p u -ℤ p v ≡ pos 0
 

@@ -40,8 +40,8 @@ abbrev pub HasSupply : NetworkModel → Type 0
 HasSupply net = (v : ℕ) × (v < node_count net) × (supply_at net v ≢ pos 0)
 
 -- the potentials are at most twice the number of nodes in absolute value
-abbrev pub IsWithinReach : NetworkModel → (ℕ → ℤ) → Type 0
-IsWithinReach net p = (v : ℕ) → v < node_count net → (pos 0 ≤ℤ (p v +ℤ pos (2 * node_count net))) × (p v ≤ℤ pos (2 * node_count net))
+abbrev pub IsConfined : NetworkModel → (ℕ → ℤ) → Type 0
+IsConfined net p = (v : ℕ) → v < node_count net → (pos 0 ≤ℤ (p v +ℤ pos (2 * node_count net))) × (p v ≤ℤ pos (2 * node_count net))
 
 -- how much work has been done by the time that amounts x leave the excess e
 pub record IsWork (net : NetworkModel) (x : ℕ → ℕ) (e : ℕ → ℤ) (searches looks : ℕ) : Type 0 where
@@ -54,7 +54,7 @@ pub record IsWork (net : NetworkModel) (x : ℕ → ℕ) (e : ℕ → ℤ) (sear
 pub record IsRoundDone (net : NetworkModel) (x : ℕ → ℕ) (p : ℕ → ℤ) (searches looks : ℕ) : Type 0 where
   pub flow : Flow net x
   pub potentials : HasPotentials net x p
-  pub reach : IsWithinReach net p
+  pub reach : IsConfined net p
   pub few : searches ≤ supply_sum net
   pub bounded : looks ≤ searches * (2 * arc_count net)
   pub carried : carrying net x ≤ looks

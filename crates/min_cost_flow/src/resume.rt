@@ -86,7 +86,7 @@ fn rebase(potential: &mut [i32], node: usize) -> bool
 {
     let base = potential[node];
     lower_all(potential, base);
-    is_within_reach(potential)
+    is_confined(potential)
 }
 
 /// Lowers each potential by as much.
@@ -101,7 +101,7 @@ fn lower_all(potential: &mut [i32], base: i32)
 }
 
 /// Whether all potentials are at most twice the number of nodes in absolute value.
-fn is_within_reach(potential: &[i32]) -> bool
+fn is_confined(potential: &[i32]) -> bool
     requires small { length potential.now ≤ MAX_NODES }
     ensures { result ≡ true → (v : ℕ) → v < length potential.now → (pos 0 ≤ℤ (at_nodes potential.now v +ℤ pos (2 * length potential.now))) × (at_nodes potential.now v ≤ℤ pos (2 * length potential.now)) }
 {

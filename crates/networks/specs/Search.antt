@@ -36,12 +36,12 @@ pub record IsGraph (n : ℕ) (first : List ℕ) (arcs : List ResidualArc) : Type
   pub cost : (v k : ℕ) → v < n → StartsAt first v k → IsArcCost (cost_at arcs k)
 
 -- residual arc k is open: a unit more fits along it
-abbrev pub IsOpen : List ResidualArc → ℕ → Type 0
-IsOpen arcs k = cost_at arcs k ≤ℤ pos 1
+abbrev pub HasResidualCapacity : List ResidualArc → ℕ → Type 0
+HasResidualCapacity arcs k = cost_at arcs k ≤ℤ pos 1
 
 -- potentials with which a search can begin: under them no open residual arc has a reduced cost below 0
 pub record AreFeasiblePotentials (n : ℕ) (first : List ℕ) (arcs : List ResidualArc) (p e : ℕ → ℤ) : Type 0 where
-  pub reduced : (v k : ℕ) → v < n → StartsAt first v k → IsOpen arcs k → pos 0 ≤ℤ (cost_at arcs k +ℤ p v -ℤ p (end_at arcs k))
+  pub reduced : (v k : ℕ) → v < n → StartsAt first v k → HasResidualCapacity arcs k → pos 0 ≤ℤ (cost_at arcs k +ℤ p v -ℤ p (end_at arcs k))
   pub low : (v : ℕ) → v < n → (pos 0 ≤ℤ (p v +ℤ pos (2 * n))) × (p v ≤ℤ pos (2 * n))
   pub zero : (v : ℕ) → v < n → e v <ℤ pos 0 → p v ≡ pos 0
 
@@ -57,7 +57,7 @@ pub record IsEntered (n : ℕ) (first : List ℕ) (arcs : List ResidualArc) (q :
   pub are_scanned : place start < scanned
   pub before : place start < place v
   pub leaves : StartsAt first start k
-  pub unblocked : IsOpen arcs k
+  pub unblocked : HasResidualCapacity arcs k
   pub arrives : end_at arcs k ≡ v
   pub label : q v ≡ q start +ℤ cost_at arcs k
 
@@ -85,7 +85,7 @@ pub record IsHit (n : ℕ) (first : List ℕ) (arcs : List ResidualArc) (p e : �
   pub labelled : q start <ℤ far
   pub are_scanned : place start < scanned
   pub leaves : StartsAt first start k
-  pub unblocked : IsOpen arcs k
+  pub unblocked : HasResidualCapacity arcs k
   pub wanting : e (end_at arcs k) <ℤ pos 0
   pub distance : bound ≡ q start +ℤ cost_at arcs k -ℤ p (end_at arcs k)
   pub near : IsNear (p s) scanned bound
@@ -98,7 +98,7 @@ pub record IsNearest (n : ℕ) (first : List ℕ) (arcs : List ResidualArc) (p e
 
 -- residual arc k from node u offers nothing more to its end
 abbrev pub Serves : List ResidualArc → (ℕ → ℤ) → (ℕ → ℤ) → ℤ → ℕ → ℕ → Type 0
-Serves arcs p q bound u k = IsOpen arcs k → (q u +ℤ cost_at arcs k -ℤ p (end_at arcs k)) <ℤ bound → q (end_at arcs k) ≤ℤ (q u +ℤ cost_at arcs k)
+Serves arcs p q bound u k = HasResidualCapacity arcs k → (q u +ℤ cost_at arcs k -ℤ p (end_at arcs k)) <ℤ bound → q (end_at arcs k) ≤ℤ (q u +ℤ cost_at arcs k)
 
 -- the same for all residual arcs of the first h nodes of the order
 pub record IsServed (n : ℕ) (first : List ℕ) (arcs : List ResidualArc) (p q : ℕ → ℤ) (place : ℕ → ℕ) (bound : ℤ) (h : ℕ) : Type 0 where
@@ -296,7 +296,7 @@ pub record IsOffer (n : ℕ) (first : List ℕ) (arcs : List ResidualArc) (p : �
   pub labelled : q start <ℤ far
   pub are_scanned : place start < scanned
   pub leaves : StartsAt first start k
-  pub unblocked : IsOpen arcs k
+  pub unblocked : HasResidualCapacity arcs k
   pub arrives : end_at arcs k ≡ v
   pub label : x ≡ q start +ℤ cost_at arcs k
   pub near : IsNear (p s) scanned x

@@ -66,11 +66,11 @@ fn is_priced_at(plane: &Plane, shape: &Shape, prices: &Prices, dart: u16) -> boo
 fn is_priced(angle: u8, turns: &[Turn], vertex: i32, face: i32, across: i32) -> bool
     ensures { IsTrue result ↔ IsPriced angle turns.now vertex face across }
 {
-    fits_corner(angle, vertex, face) && fits_crossing(turns, face, across)
+    fits_angle(angle, vertex, face) && fits_crossing(turns, face, across)
 }
 
 /// Whether an angle fits the prices at its corner.
-fn fits_corner(angle: u8, vertex: i32, face: i32) -> bool
+fn fits_angle(angle: u8, vertex: i32, face: i32) -> bool
     ensures { IsTrue result ↔ ((angle < 4 → face ≤ℤ vertex) × (1 < angle → vertex ≤ℤ face)) }
 {
     match angle {

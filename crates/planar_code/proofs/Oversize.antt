@@ -35,7 +35,7 @@ long_list-started (x ∷ text) before remaining entries s bytes none cut =
       | inr nonzero ↦ elim (cases_eq entries 254) [
         | inl full ↦ record {
           front = (length s.lists + remaining) ∷ flat_map ended s.lists;
-          run = s.current ++ x ∷ [];
+          entries = s.current ++ x ∷ [];
           back = text;
           parts = ap (λ z. z ++ (x ∷ text)) s.spelt
               ∙ ap (λ z. (length s.lists + remaining) ∷ z) (append_assoc (flat_map ended s.lists) s.current (x ∷ text) ∙ ap (λ z. flat_map ended s.lists ++ z) (moved s.current x text));
@@ -51,9 +51,9 @@ long_list-started (x ∷ text) before remaining entries s bytes none cut =
 long_list-after : (before bytes : List ℕ) → HasLongList bytes → HasLongList (before ++ bytes)
 long_list-after before bytes h = record {
   front = before ++ h.front;
-  run = h.run;
+  entries = h.entries;
   back = h.back;
-  parts = ap (λ z. before ++ z) h.parts ∙ sym (append_assoc before h.front (h.run ++ h.back));
+  parts = ap (λ z. before ++ z) h.parts ∙ sym (append_assoc before h.front (h.entries ++ h.back));
   each = h.each;
   long = h.long;
 }

@@ -12,13 +12,13 @@ use Rattle.planar_code.specs.Started.{IsStarted, IsOversize}
 -- where the next list ends, after bytes of a record that has that many lists left
 abbrev pub EndsList : List ℕ → ℕ → List ℕ → End → Type 0
 EndsList before remaining bytes (end.After n) = (0 < n) × (n ≤ length bytes) × (1 < remaining → IsStarted (before ++ take n bytes) (remaining - 1) 0) × (remaining ≡ 1 → IsRecord (before ++ take n bytes))
-EndsList before remaining bytes end.Cut = IsUnfinished (before ++ bytes)
+EndsList before remaining bytes end.Truncated = IsUnfinished (before ++ bytes)
 EndsList before remaining bytes end.Oversize = IsOversize (before ++ bytes)
 
 -- where the record ends that the bytes begin with
 abbrev pub EndsRecord : List ℕ → End → Type 0
 EndsRecord bytes (end.After n) = (0 < n) × (n ≤ length bytes) × IsRecord (take n bytes)
-EndsRecord bytes end.Cut = IsUnfinished bytes
+EndsRecord bytes end.Truncated = IsUnfinished bytes
 EndsRecord bytes end.Oversize = IsOversize bytes
 
 -- the records after the header, and what they end in

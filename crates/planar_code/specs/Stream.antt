@@ -53,8 +53,8 @@ NoRecordFirst bytes = (first rest : List ℕ) → IsRecord first → bytes ≡ f
 -- somewhere in the bytes stand 255 entries in a row
 pub record HasLongList (bytes : List ℕ) : Type 0 where
   pub front : List ℕ
-  pub run : List ℕ
+  pub entries : List ℕ
   pub back : List ℕ
-  pub parts : bytes ≡ front ++ (run ++ back)
-  pub each : All IsEntry run
-  pub long : length run ≡ 255
+  pub parts : bytes ≡ front ++ (entries ++ back)
+  pub each : All IsEntry entries
+  pub long : length entries ≡ 255

@@ -53,7 +53,7 @@ impl Record {
             return Err(ParseFault::Order);
         }
         match record_end(bytes) {
-            End::Cut => Err(ParseFault::Short),
+            End::Truncated => Err(ParseFault::Short),
             End::Oversize => Err(ParseFault::Oversize),
             End::After(end) if end < bytes.len() => Err(ParseFault::Long),
             End::After(_) => match Record::from_slice(alloc, bytes) {

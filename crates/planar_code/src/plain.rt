@@ -13,7 +13,7 @@ pub enum End {
     /// After so many bytes.
     After(usize),
     /// Not yet: it is cut.
-    Cut,
+    Truncated,
     /// Nowhere: a list has more than 254 entries.
     Oversize,
 }
@@ -30,7 +30,7 @@ fn list_end(bytes: &[u8]) -> End
             return End::Oversize;
         }
     }
-    End::Cut
+    End::Truncated
 }
 
 /// Where the record ends that the bytes begin with.
@@ -44,7 +44,7 @@ pub fn record_end(bytes: &[u8]) -> End
     for done in 0..order {
         match list_end(&bytes[at..]) {
             End::After(end) => at += end,
-            End::Cut => return End::Cut,
+            End::Truncated => return End::Truncated,
             End::Oversize => return End::Oversize,
         }
     }
@@ -69,7 +69,7 @@ fn split_body(alloc: Global, body: &[u8]) -> Result<(Vec<Record>, Ending), Alloc
                 records.push(Record::from_slice(alloc, &rest[..end])?)?;
                 rest = &rest[end..];
             }
-            End::Cut => return Ok((records, Ending::Truncated)),
+            End::Truncated => return Ok((records, Ending::Truncated)),
             End::Oversize => return Ok((records, Ending::Oversize)),
         }
     }

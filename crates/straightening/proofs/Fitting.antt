@@ -21,14 +21,14 @@ priced a a' s s' v f g angle turns old = record {
   tight = λ h. elim turns [ inl e ↦ old.tight (omega (arith, e, h)) | inr e ↦ e ];
 }
 
-abbrev pub IsFreeCorner : PlaneModel → PricesModel → ℕ → Type 0
-IsFreeCorner p t d = vertex_price t (head p d) ≡ face_price t (face_at p d)
+abbrev pub IsTightAngle : PlaneModel → PricesModel → ℕ → Type 0
+IsTightAngle p t d = vertex_price t (head p d) ≡ face_price t (face_at p d)
 
 abbrev pub IsFreeCrossing : PlaneModel → PricesModel → ℕ → Type 0
 IsFreeCrossing p t d = (pos 1 +ℤ face_price t (face_at p d) -ℤ face_price t (face_at p (reverse_dart p d))) ≡ pos 0
 
 pub moved : (p : PlaneModel) (a a' l l' : List ℕ) (t : PricesModel)
-    → ((d : ℕ) → d < darts p → (slice_index a' d ≡ slice_index a d) ⊎ IsFreeCorner p t d)
+    → ((d : ℕ) → d < darts p → (slice_index a' d ≡ slice_index a d) ⊎ IsTightAngle p t d)
     → ((d : ℕ) → d < darts p → (slice_index l' d ≤ slice_index l d) ⊎ IsFreeCrossing p t d)
     → AreFit p a l t → AreFit p a' l' t
 moved p a a' l l' t angles turns fit = λ d b.

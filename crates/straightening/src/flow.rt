@@ -76,8 +76,8 @@ impl Flow {
         } else if across && is_free_crossing(plane, prices, give) {
             self.lefts[from] = self.lefts[from].saturating_add(1);
         } else if !across
-            && is_free_corner(plane, prices, give)
-            && is_free_corner(plane, prices, take)
+            && is_tight_angle(plane, prices, give)
+            && is_tight_angle(plane, prices, take)
         {
             self.angles[from] = self.angles[from].saturating_sub(1);
             self.angles[to] = self.angles[to].saturating_add(1);
@@ -143,7 +143,7 @@ pub(crate) fn clockwise(plane: &Plane, dart: u16) -> u16
 }
 
 /// Whether a unit may leave the corner of a dart, or come to it, while the prices stay a proof.
-pub(crate) fn is_free_corner(plane: &Plane, prices: &Prices, dart: u16) -> bool
+pub(crate) fn is_tight_angle(plane: &Plane, prices: &Prices, dart: u16) -> bool
     requires prices { HasPrices plane.now prices.now }
     requires within { dart < darts plane.now }
     ensures { IsTrue result → vertex_price prices.now (head plane.now dart) ≡ face_price prices.now (face_at plane.now dart) }

@@ -6,7 +6,7 @@ ghost use Rattle.faces.specs.declared.plane.TheConstants.{MAX_FACES};
 ghost use Rattle.ortho_rep.specs.Prices.{HasPrices};
 ghost use Rattle.straightening.specs.Flows.{AreFit};
 
-use crate::flow::{Flow, clockwise, is_free_corner};
+use crate::flow::{Flow, clockwise, is_tight_angle};
 use faces::{MAX_FACES, Plane};
 use ortho_rep::Prices;
 
@@ -153,7 +153,7 @@ impl FaceSearch {
         requires prices { HasPrices plane.now prices.now }
         requires take { take < darts plane.now }
     {
-        if take != step.dart && is_free_corner(plane, prices, take) {
+        if take != step.dart && is_tight_angle(plane, prices, take) {
             self.reach(plane, step, take);
         }
     }

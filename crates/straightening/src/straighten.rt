@@ -8,7 +8,7 @@ ghost use Rattle.ortho_rep.specs.Prices.{HasPrices, IsProof};
 ghost use Rattle.straightening.specs.Flows.{AreFit};
 ghost use Rattle.straightening.specs.Reflex.{reflex_angles};
 
-use crate::flow::{Flow, clockwise, is_free_corner};
+use crate::flow::{Flow, clockwise, is_tight_angle};
 use crate::search::{FaceSearch, PathEnds};
 use crate::tally::is_rep;
 use faces::Plane;
@@ -165,5 +165,5 @@ fn is_movable(plane: &Plane, prices: &Prices, wide: u16) -> bool
     requires prices { HasPrices plane.now prices.now }
     requires within { wide < darts plane.now }
 {
-    is_free_corner(plane, prices, wide) && is_free_corner(plane, prices, clockwise(plane, wide))
+    is_tight_angle(plane, prices, wide) && is_tight_angle(plane, prices, clockwise(plane, wide))
 }

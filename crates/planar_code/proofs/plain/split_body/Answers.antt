@@ -20,11 +20,11 @@ loop-rest-preserved c =
     subst (λ z. HasSplit c.args.body.now c.push.new.self.items z) (sym (take_rest c.loop-rest.rest.now c.in-After.end))
     (has_split-more c.args.body.now c.loop-rest.records.items c.loop-rest.rest.now c.loop-rest.invariant c.in-After.end c.push.new.self.items room c.in-After.ensures.2 pushed)
 
-pub returns-in-Cut : goal.returns-in-Cut
-returns-in-Cut c =
+pub returns-in-Truncated : goal.returns-in-Truncated
+returns-in-Truncated c =
     let some : 0 < length c.loop-rest.rest.now = omega (arith, eqb-false _ _ (sym c.loop-rest-test.ensures)) in
     let room : length c.loop-rest.records.items ≢ MAX_RECORDS = λ e. c.if-len.false (c.len.ensures ∙ c.loop-rest.records.ok.0 ∙ e) in
-    split-truncated c.args.body.now c.loop-rest.records.items c.loop-rest.rest.now c.loop-rest.invariant some room c.in-Cut.ensures
+    split-truncated c.args.body.now c.loop-rest.records.items c.loop-rest.rest.now c.loop-rest.invariant some room c.in-Truncated.ensures
 
 pub returns-in-Oversize : goal.returns-in-Oversize
 returns-in-Oversize c =

@@ -13,9 +13,9 @@ returns-then-is_empty-clause-fault c =
     let none : c.args.bytes.now ≡ [] = empty-length c.args.bytes.now (eqb-true _ _ (sym c.if-is_empty.ensures)) in
     subst IsUnfinished (sym none) unfinished-none
 
-pub returns-in-Cut-clause-ok_where_record : goal.returns-in-Cut-clause-ok_where_record
-returns-in-Cut-clause-ok_where_record c = λ other.
-    ((λ e. absurd (cc)), (λ r. absurd (no_record-first c.args.bytes.now (no_record-unfinished c.args.bytes.now c.in-Cut.ensures) r)))
+pub returns-in-Truncated-clause-ok_where_record : goal.returns-in-Truncated-clause-ok_where_record
+returns-in-Truncated-clause-ok_where_record c = λ other.
+    ((λ e. absurd (cc)), (λ r. absurd (no_record-first c.args.bytes.now (no_record-unfinished c.args.bytes.now c.in-Truncated.ensures) r)))
 
 pub returns-in-Oversize-clause-ok_where_record : goal.returns-in-Oversize-clause-ok_where_record
 returns-in-Oversize-clause-ok_where_record c = λ other.

@@ -1,6 +1,6 @@
 use Rattle.std.proofs.Common.{◌<◌, length, inl, inr, refl, sym, subst, ◌∙◌, arith}
 use Rattle.std.specs.Prelude.{slice_set}
-use Rattle.straightening.proofs.Fitting.{IsFreeCorner, IsFreeCrossing, moved, set-other, set-lower}
+use Rattle.straightening.proofs.Fitting.{IsTightAngle, IsFreeCrossing, moved, set-other, set-lower}
 use Rattle.straightening.proofs.flow.Flow.send.Goals as goal
 
 pub returns-then-self-to-gt0 : goal.returns-then-self-to-gt0
@@ -30,24 +30,24 @@ returns-then-is_free_crossing c =
     ])
     c.requires.fit
 
-pub returns-then-is_free_corner-2 : goal.returns-then-is_free_corner-2
-returns-then-is_free_corner-2 c =
+pub returns-then-is_tight_angle-2 : goal.returns-then-is_tight_angle-2
+returns-then-is_tight_angle-2 c =
     let plane = c.args.plane.now in
     let prices = c.args.prices.now in
     let angles = c.args.self.now.angles in
     let turns = c.args.self.now.lefts in
     let less = c.saturating_sub.result in
-    let more = c.saturating_add-then-is_free_corner-2.result in
-    let gives : IsFreeCorner plane prices c.args.give = c.is_free_corner.ensures c.if-is_free_corner.true in
-    let takes : IsFreeCorner plane prices c.args.take = c.is_free_corner-then-is_free_corner.ensures c.if-is_free_corner-2.true in
+    let more = c.saturating_add-then-is_tight_angle-2.result in
+    let gives : IsTightAngle plane prices c.args.give = c.is_tight_angle.ensures c.if-is_tight_angle.true in
+    let takes : IsTightAngle plane prices c.args.take = c.is_tight_angle-then-is_tight_angle.ensures c.if-is_tight_angle-2.true in
     moved plane angles _ turns turns prices
     (λ d b. elim (set-other (slice_set angles c.from-from.result less) c.from-to.result more d) [
       | inl e ↦
           elim (set-other angles c.from-from.result less d) [
             | inl h ↦ inl (e ∙ h)
-            | inr h ↦ inr (subst (IsFreeCorner plane prices) (sym (h ∙ c.from-from.ensures)) gives)
+            | inr h ↦ inr (subst (IsTightAngle plane prices) (sym (h ∙ c.from-from.ensures)) gives)
           ]
-      | inr e ↦ inr (subst (IsFreeCorner plane prices) (sym (e ∙ c.from-to.ensures)) takes)
+      | inr e ↦ inr (subst (IsTightAngle plane prices) (sym (e ∙ c.from-to.ensures)) takes)
     ])
     (λ d b. inl (omega arith))
     c.requires.fit
